@@ -1,0 +1,246 @@
+#!/usr/bin/env python3
+"""Times the filter syslog_tidy on corpora of its own, beside another filter where one is given.
+
+  bench.py                            builds the proved program, and times it
+  bench.py --program PATH             times that program instead
+  bench.py --peer PATH                times that one too, on the same files, the runs of the two in turn
+  bench.py --check --peer PATH        compares what the two write, and times nothing
+
+Each time is the least of five runs, the start of the process included, with the standard input from a
+file and the standard output to /dev/null. Both programs are called with the year as their one argument.
+"""
+
+import argparse
+import datetime
+import os
+import platform
+import signal
+import subprocess
+import sys
+import tempfile
+import threading
+import time
+
+# The folder keeps no compiled copy of corpora.py.
+sys.dont_write_bytecode = True
+import corpora  # noqa: E402
+
+TOP = os.path.dirname(os.path.dirname(os.path.abspath(__file__)))
+CRATE = os.path.join(TOP, "crates", "syslog_tidy")
+# A hostile line is given often enough that a run takes about so long, but no more often than this.
+HOSTILE_SECONDS = 0.1
+HOSTILE_REPEATS = 1024
+# A run of the peer on a hostile line may take so long.
+PATIENCE = 60
+
+
+class Filter:
+    """A program that reads lines and writes lines."""
+
+    def __init__(self, path, year, by_processor=False):
+        self.words = [os.path.abspath(path), str(year)]
+        self.environment = {**os.environ, "TZ": "UTC"}
+        self.by_processor = by_processor
+
+    def run(self, file, limit=None):
+        """The seconds of one run, or none where it takes longer than the limit."""
+        with open(file, "rb") as given:
+            begun = time.perf_counter()
+            ran = subprocess.Popen(
+                self.words, stdin=given, stdout=subprocess.DEVNULL, stderr=subprocess.DEVNULL, env=self.environment
+            )
+            watch = threading.Timer(limit or 3600, ran.kill)
+            watch.start()
+            _, status, used = os.wait4(ran.pid, 0)
+            taken = time.perf_counter() - begun
+            watch.cancel()
+        ran.returncode = os.waitstatus_to_exitcode(status)
+        if ran.returncode == -signal.SIGKILL and limit:
+            return None
+        self.judge(ran.returncode)
+        return used.ru_utime + used.ru_stime if self.by_processor else taken
+
+    def output(self, lines):
+        given = "".join(line + "\n" for line in lines).encode()
+        ran = subprocess.run(
+            self.words, input=given, stdout=subprocess.PIPE, stderr=subprocess.DEVNULL, env=self.environment
+        )
+        self.judge(ran.returncode)
+        return ran.stdout
+
+    def judge(self, status):
+        # 1 says that some lines were refused.
+        if status not in (0, 1):
+            sys.exit("%s ended with status %d" % (self.words[0], status))
+
+
+def built(year):
+    """Proves and builds the program, and answers its path."""
+    print("building %s" % CRATE, file=sys.stderr)
+    ran = subprocess.run(["rt", "run", "--", str(year)], cwd=CRATE, stdin=subprocess.DEVNULL, stdout=sys.stderr)
+    if ran.returncode:
+        sys.exit("the program was not built")
+    return os.path.join(CRATE, "out", "syslog_tidy")
+
+
+def machine():
+    model = platform.machine()
+    with open("/proc/cpuinfo", encoding="utf-8") as about:
+        for line in about:
+            if line.startswith("model name"):
+                model = line.partition(":")[2].strip()
+                break
+    return "%s, %d cores, %s" % (model, os.cpu_count() or 1, datetime.date.today())
+
+
+def least(filters, file, runs):
+    """The least time of each filter on a file, the filters run in turn."""
+    best = [None] * len(filters)
+    for _ in range(runs):
+        for place, it in enumerate(filters):
+            taken = it.run(file)
+            if best[place] is None or taken < best[place]:
+                best[place] = taken
+    return best
+
+
+def row(*cells):
+    print("| " + " | ".join(str(it) for it in cells) + " |", flush=True)
+
+
+def head(*cells):
+    row(*cells)
+    row(*["---"] + ["---:"] * (len(cells) - 1))
+
+
+def time_corpora(filters, chosen, folder):
+    more = ["peer's lines/s", "times the peer's speed"] * (len(filters) > 1)
+    head("corpus", "lines", "MB", "lines/s", "MB/s", *more)
+    for name, lines in corpora.corpora(chosen.lines):
+        if chosen.only not in name:
+            continue
+        file = os.path.join(folder, name)
+        size = corpora.write_lines(file, lines) / 1e6
+        own, *others = least(filters, file, chosen.runs)
+        more = []
+        for it in others:
+            more += ["{:,.0f}".format(len(lines) / it), "%.2f" % (it / own)]
+        row(name, "{:,}".format(len(lines)), "%.1f" % size, "{:,.0f}".format(len(lines) / own), "%.0f" % (size / own), *more)
+        os.remove(file)
+
+
+def repeats_for(it, line, file):
+    """How often the line is given to a filter, and the seconds of such a run: none where one line takes too long."""
+    repeats = 1
+    while True:
+        corpora.write_lines(file, [line] * repeats)
+        taken = it.run(file, PATIENCE)
+        if taken is None or taken >= HOSTILE_SECONDS or repeats >= HOSTILE_REPEATS:
+            return repeats, taken
+        repeats *= 4
+
+
+def seconds_each(filters, line, folder, runs):
+    """The least seconds that each filter takes for one such line, the filters run in turn."""
+    files = [os.path.join(folder, "hostile_%d" % place) for place in range(len(filters))]
+    nothing = os.path.join(folder, "nothing")
+    corpora.write_lines(nothing, [])
+    found = [repeats_for(it, line, file) for it, file in zip(filters, files)]
+    best, starts = [taken for _, taken in found], [1e9] * len(filters)
+    for _ in range(runs):
+        for place, it in enumerate(filters):
+            starts[place] = min(starts[place], it.run(nothing))
+            # What takes seconds is measured well enough by one run.
+            if best[place] is not None and best[place] < 2:
+                best[place] = min(best[place], it.run(files[place]))
+    each = zip(best, starts, found)
+    return [None if taken is None else max(taken - start, 1e-9) / repeats for taken, start, (repeats, _) in each]
+
+
+def shown(times):
+    """Each time, and its growth over the one before it."""
+    cells, before = [], None
+    for taken in times:
+        if taken is None:
+            cells.append("over %d s" % PATIENCE)
+        else:
+            growth = " (%.2f)" % (taken / before) if before else ""
+            cells.append("%.3f%s" % (taken * 1e3, growth))
+        before = taken
+    return cells
+
+
+def time_hostile(filters, chosen, folder):
+    print("\nMilliseconds for one hostile line of each size, and in brackets the growth at each doubling:\n")
+    head("line", "program", *["%d KB" % size for size in corpora.HOSTILE_SIZES])
+    for name, maker in corpora.HOSTILE:
+        if chosen.only not in "hostile_" + name:
+            continue
+        lines = [maker(size * 1024) for size in corpora.HOSTILE_SIZES]
+        times = [seconds_each(filters, line, folder, chosen.runs) for line in lines]
+        for called, its_times in zip(["ours", "peer"], zip(*times)):
+            row(name, called, *shown(its_times))
+
+
+def differences(filters, lines, most):
+    """The lines on which two filters write different bytes, found by halves, and at most so many."""
+    found, waiting = [], [lines]
+    while waiting and len(found) < most:
+        part = waiting.pop()
+        outputs = [it.output(part) for it in filters]
+        if outputs[0] == outputs[1]:
+            continue
+        if len(part) == 1:
+            found.append((part[0], outputs))
+        else:
+            half = len(part) // 2
+            waiting += [part[half:], part[:half]]
+    return found
+
+
+def check(filters, chosen):
+    """Compares what two filters write, and answers on how many lines they differ."""
+    total = 0
+    for name, lines in corpora.corpora(chosen.lines):
+        if chosen.only not in name:
+            continue
+        found = differences(filters, lines, chosen.most)
+        total += len(found)
+        print("%s: %d lines, %d of them differ%s" % (name, len(lines), len(found), " at least" * (len(found) >= chosen.most)))
+        for line, (own, other) in found[:3]:
+            print("  line  %r\n  ours  %r\n  peer  %r" % (line, own, other))
+    return total
+
+
+def arguments():
+    reader = argparse.ArgumentParser(description=__doc__, formatter_class=argparse.RawDescriptionHelpFormatter)
+    reader.add_argument("--program", help="the program, in place of the one that is built")
+    reader.add_argument("--peer", help="another program with the same argument")
+    reader.add_argument("--check", action="store_true", help="compare the outputs")
+    reader.add_argument("--year", type=int, default=2019)
+    reader.add_argument("--processor", action="store_true", help="count processor time, which other work on the machine disturbs less")
+    reader.add_argument("--lines", type=int, default=200_000, help="lines of each corpus (200,000)")
+    reader.add_argument("--runs", type=int, default=5, help="runs of which the least counts (5)")
+    reader.add_argument("--most", type=int, default=200, help="differing lines after which --check goes on to the next corpus (200)")
+    reader.add_argument("--only", default="", help="only corpora whose names have this in them")
+    chosen = reader.parse_args()
+    if chosen.check and not chosen.peer:
+        reader.error("--check compares with a --peer")
+    return chosen
+
+
+def main():
+    chosen = arguments()
+    paths = [chosen.program or built(chosen.year)] + [chosen.peer] * bool(chosen.peer)
+    filters = [Filter(path, chosen.year, chosen.processor) for path in paths]
+    if chosen.check:
+        sys.exit(1 if check(filters, chosen) else 0)
+    clock = "processor time" if chosen.processor else "time by the clock"
+    print("%s; %s, least of %d runs\n" % (machine(), clock, chosen.runs))
+    with tempfile.TemporaryDirectory(prefix="syslog-bench-") as folder:
+        time_corpora(filters, chosen, folder)
+        time_hostile(filters, chosen, folder)
+
+
+if __name__ == "__main__":
+    main()

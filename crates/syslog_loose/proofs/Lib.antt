@@ -1,0 +1,3 @@
+pub mod PrintedLemmas
+pub mod ReadingLemmas
+pub mod Rfc5424Lemmas

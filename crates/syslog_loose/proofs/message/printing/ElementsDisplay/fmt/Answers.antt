@@ -1,0 +1,28 @@
+use Rattle.std.proofs.Common.{◌<◌, sym, ap, refl, ◌∙◌, [], length, map, arith}
+use Rattle.std.proofs.Output.{has_written_of_eq}
+use Rattle.std.proofs.lemmas.Grind.{put_two}
+use Rattle.std.proofs.lemmas.List.{take_all, length-map}
+use Rattle.std.specs.Str.{encode_utf8_all}
+use Rattle.syslog_pieces.proofs.CharLemmas.{nonempty_is}
+use Rattle.syslog_loose.proofs.PrintedLemmas.{elements_there}
+use Rattle.syslog_pieces.specs.Element.{element_text, element_value}
+use Rattle.syslog_pieces.specs.View.{text_of}
+use Rattle.syslog_pieces.proofs.PrintLemmas.{encodes_step, flat_map-map}
+use Rattle.syslog_loose.proofs.message.printing.ElementsDisplay.fmt.Goals as goal
+
+pub loop-element-preserved : goal.loop-element-preserved
+loop-element-preserved g c = λ plain.
+    let so_far = c.loop-element.invariant plain in
+    put_two _ _ _ _ _ _ _ so_far (c.in_ok-write.ensures.writes so_far.plain refl)
+    (encodes_step (λ e. element_text (element_value (text_of g.S.AsStr.text) e)) [] c.args.self.now.0.now c.loop-element.element-index c.element-item.result _
+    c.loop-element-test.true c.element-item.is refl)
+
+pub returns-clause-writes : goal.returns-clause-writes
+returns-clause-writes g c = λ plain ok.
+    let elements = c.args.self.now.0.now in
+    let value = element_value (text_of g.S.AsStr.text) in
+    let written = c.loop-element.invariant plain in
+    let all = rw (take_all c.loop-element.element-index elements c.loop-element-test.false) at written in
+    let some : 0 < length elements = nonempty_is _ c.if-is_empty.ensures in
+    has_written_of_eq _ _ _ _ _
+    (ap encode_utf8_all (sym (flat_map-map element_text value elements) ∙ sym (elements_there (map value elements) (omega (arith, length-map elements value))))) all

@@ -1,0 +1,22 @@
+use Rattle.std.proofs.Common.{ap, map}
+use Rattle.std.proofs.Output.{has_written_of_eq}
+use Rattle.syslog_pieces.specs.Element.{element_value}
+use Rattle.syslog_pieces.specs.View.{text_of}
+use Rattle.syslog_pieces.proofs.PrintLemmas.{encodes_shown}
+use Rattle.syslog_loose.specs.Message.{message_value}
+use Rattle.syslog_loose.specs.Printed.{printed_3164, priority_of, timestamp_text, name_text, tag_text, spaced_elements}
+use Rattle.syslog_loose.proofs.PrintedLemmas.{written_3164}
+use Rattle.syslog_loose.proofs.message.write_rfc3164.Goals as goal
+
+pub returns : goal.returns
+unfolding printed_3164
+returns g c plain ok =
+    let m = c.args.message.now in
+    let text = text_of g.S.AsStr.text in
+    let value = message_value text m in
+    let msg = encodes_shown c.as_str-msg.result.now (g.S.AsStr.text m.msg) c.as_str-msg.utf8 c.as_str-msg.ensures in
+    let elements = ap (λ es. spaced_elements (map (element_value text) es)) c.deref.ensures.value in
+    has_written_of_eq _ _ _ _ _
+    (written_3164 _ (priority_of value) (timestamp_text value.timestamp) (name_text value.hostname) (tag_text value.appname value.procid)
+    (spaced_elements (map (element_value text) c.deref.result.now)) (spaced_elements value.structured_data) value.msg c.as_str-msg.result.now c.priority-priority.ensures elements msg)
+    (c.write.ensures.writes plain ok)

@@ -1,0 +1,23 @@
+use Rattle.std.proofs.Common.{ap, map, append_assoc}
+use Rattle.std.proofs.Output.{has_written_of_eq}
+use Rattle.syslog_pieces.specs.Element.{element_value}
+use Rattle.syslog_pieces.specs.View.{text_of}
+use Rattle.syslog_pieces.proofs.PrintLemmas.{encodes_shown}
+use Rattle.syslog_loose.specs.Message.{message_value}
+use Rattle.syslog_loose.specs.Printed.{printed_5424, priority_of, timestamp_text, name_text, process_text, elements_text}
+use Rattle.syslog_loose.proofs.PrintedLemmas.{written_5424}
+use Rattle.syslog_loose.proofs.message.write_rfc5424.Goals as goal
+
+pub returns : goal.returns
+unfolding printed_5424
+returns g c plain ok =
+    let m = c.args.message.now in
+    let text = text_of g.S.AsStr.text in
+    let value = message_value text m in
+    let msg = encodes_shown c.as_str-msg.result.now (g.S.AsStr.text m.msg) c.as_str-msg.utf8 c.as_str-msg.ensures in
+    let elements = ap (λ es. elements_text (map (element_value text) es)) c.deref.ensures.value in
+    let written = simp append_assoc at (c.write.ensures.writes plain ok) in
+    has_written_of_eq _ _ _ _ _
+    (written_5424 _ (priority_of value) c.args.version (timestamp_text value.timestamp) (name_text value.hostname) (name_text value.appname) (process_text value.procid) (name_text value.msgid)
+    (elements_text (map (element_value text) c.deref.result.now)) (elements_text value.structured_data) value.msg c.as_str-msg.result.now c.priority-priority.ensures elements msg)
+    written

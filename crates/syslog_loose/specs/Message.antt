@@ -1,0 +1,48 @@
+-- Messages as values over texts: what clauses compare.
+use Rattle.std.specs.Prelude.{List, [], ◌∷◌, ◌++◌, Option, map}
+use Rattle.std.specs.List.{flat_map}
+use Rattle.std.specs.Option.{option_map}
+use Rattle.syslog_pieces.specs.Class.{Text}
+use Rattle.syslog_pieces.specs.Element.{ElementValue, element_value, element_texts}
+use Rattle.syslog_pieces.specs.Parts.{text_list, process_texts}
+use Rattle.syslog_pieces.specs.ProcId.{procid_value}
+use Rattle.syslog_pieces.specs.declared.pri.SyslogFacility.{SyslogFacility}
+use Rattle.syslog_pieces.specs.declared.pri.SyslogSeverity.{SyslogSeverity}
+use Rattle.syslog_pieces.specs.declared.procid.ProcId.{ProcId}
+use Rattle.syslog_pieces.specs.declared.timestamp.OffsetTimestamp.{OffsetTimestamp}
+use Rattle.syslog_loose.specs.declared.message.Message.{Message}
+use Rattle.syslog_loose.specs.declared.message.Protocol.{Protocol}
+
+-- a message, each text of it as a list of characters
+pub record MessageValue : Type 0 where
+  pub protocol : Protocol
+  pub facility : Option SyslogFacility
+  pub severity : Option SyslogSeverity
+  pub timestamp : Option OffsetTimestamp
+  pub hostname : Option Text
+  pub appname : Option Text
+  pub procid : Option (ProcId Text)
+  pub msgid : Option Text
+  pub structured_data : List ElementValue
+  pub msg : Text
+
+-- the message over texts of one over S
+abbrev pub message_value : {S : Type 0} → (S → Text) → Message S → MessageValue
+message_value text m = record {
+  protocol = m.protocol;
+  facility = m.facility;
+  severity = m.severity;
+  timestamp = m.timestamp;
+  hostname = option_map text m.hostname;
+  appname = option_map text m.appname;
+  procid = option_map (procid_value text) m.procid;
+  msgid = option_map text m.msgid;
+  structured_data = map (element_value text) m.structured_data.items;
+  msg = text m.msg;
+}
+
+-- all texts of a message
+abbrev pub message_texts : MessageValue → List Text
+message_texts m =
+    text_list m.hostname ++ (text_list m.appname ++ (process_texts m.procid ++ (text_list m.msgid
+    ++ (flat_map element_texts m.structured_data ++ (m.msg ∷ [])))))

@@ -1,0 +1,69 @@
+-- The printed text of a message, which is the form of RFC 5424 section 6, or of RFC 3164 section 4.
+use Rattle.std.specs.Prelude.{ℕ, ◌+◌, ◌*◌, List, [], ◌∷◌, ◌++◌, Option, None, Some}
+use Rattle.std.specs.Option.{option_map_or}
+use Rattle.std.specs.List.{flat_map}
+use Rattle.std.specs.Fmt.{decimal}
+use Rattle.syslog_pieces.specs.Class.{Text}
+use Rattle.syslog_pieces.specs.Element.{ElementValue, element_text}
+use Rattle.syslog_pieces.specs.Pri.{facility_number, severity_number}
+use Rattle.syslog_pieces.specs.ProcId.{procid_text}
+use Rattle.syslog_pieces.specs.Text.{dash}
+use Rattle.syslog_pieces.specs.Timestamp.Printed.{printed_stamp}
+use Rattle.syslog_pieces.specs.declared.procid.ProcId.{ProcId}
+use Rattle.syslog_pieces.specs.declared.timestamp.OffsetTimestamp.{OffsetTimestamp}
+use Rattle.syslog_loose.specs.declared.message.Protocol.TheVariants.{RFC3164, RFC5424}
+use Rattle.syslog_loose.specs.Message.{MessageValue}
+
+-- a name, or `-` where it is absent
+abbrev pub name_text : Option Text → Text
+name_text None = dash
+name_text (Some t) = t
+
+abbrev pub timestamp_text : Option OffsetTimestamp → Text
+timestamp_text None = dash
+timestamp_text (Some s) = printed_stamp s.instant.nanosecond s.offset.seconds
+
+abbrev pub process_text : Option (ProcId Text) → Text
+process_text None = dash
+process_text (Some p) = procid_text p
+
+-- the elements one after the other
+abbrev pub joined_elements : List ElementValue → Text
+joined_elements es = flat_map element_text es
+
+-- the elements, or `-` where there are none
+abbrev pub elements_text : List ElementValue → Text
+elements_text [] = dash
+elements_text (e ∷ es) = joined_elements (e ∷ es)
+
+-- the elements and a space, or nothing where there are none
+abbrev pub spaced_elements : List ElementValue → Text
+spaced_elements [] = []
+spaced_elements (e ∷ es) = joined_elements (e ∷ es) ++ (32 ∷ [])
+
+-- `app[process]: `, `app: `, or `: ` where there is no app name
+abbrev pub tag_text : Option Text → Option (ProcId Text) → Text
+tag_text None p = 58 ∷ 32 ∷ []
+tag_text (Some a) None = a ++ (58 ∷ 32 ∷ [])
+tag_text (Some a) (Some p) = a ++ (91 ∷ (procid_text p ++ (93 ∷ 58 ∷ 32 ∷ [])))
+
+-- the composed priority; an absent facility counts as 5 (syslog), an absent severity as 7 (debug)
+abbrev pub priority_of : MessageValue → ℕ
+priority_of m = option_map_or facility_number m.facility 5 * 8 + option_map_or severity_number m.severity 7
+
+-- `<priority>version timestamp host app process id elements msg`
+unfoldable pub printed_5424 : ℕ → MessageValue → Text
+printed_5424 version m =
+    60 ∷ (decimal (priority_of m) ++ (62 ∷ (decimal version ++ (32 ∷ (timestamp_text m.timestamp
+    ++ (32 ∷ (name_text m.hostname ++ (32 ∷ (name_text m.appname ++ (32 ∷ (process_text m.procid
+    ++ (32 ∷ (name_text m.msgid ++ (32 ∷ (elements_text m.structured_data ++ (32 ∷ m.msg))))))))))))))))
+
+-- `<priority> timestamp host app[process]: elements msg`, without the message id
+unfoldable pub printed_3164 : MessageValue → Text
+printed_3164 m =
+    60 ∷ (decimal (priority_of m) ++ (62 ∷ 32 ∷ (timestamp_text m.timestamp ++ (32 ∷ (name_text m.hostname
+    ++ (32 ∷ (tag_text m.appname m.procid ++ (spaced_elements m.structured_data ++ m.msg))))))))
+
+-- the printed text of a message
+abbrev pub printed : MessageValue → Text
+printed m = elim m.protocol [ RFC5424 version ↦ printed_5424 version m | RFC3164 ↦ printed_3164 m ]

@@ -1,0 +1,24 @@
+//! Reads a syslog message from a text, by RFC 5424 or the looser RFC 3164, and prints it again: the crate
+//! `syslog_loose` 0.23.0, ported to Rattle.
+//!
+//! A text is read by the one division into pieces that the grammar in `docs/GRAMMAR.md` allows; reading copies no
+//! text, and what takes memory takes `alloc` first and can be refused.
+#![tactic(auto)]
+
+mod fault;
+pub mod laws;
+mod message;
+mod reading;
+mod rfc5424;
+#[cfg(test)]
+mod tests;
+
+pub use fault::ParseFault;
+pub use jiff::tz::TimeZone;
+pub use message::{Message, Protocol};
+pub use reading::{IncompleteDate, Variant, normalise, parse_message_with_year_exact_tz};
+pub use syslog_pieces::as_str::AsStr;
+pub use syslog_pieces::pri::{SyslogFacility, SyslogSeverity, decompose_pri};
+pub use syslog_pieces::procid::ProcId;
+pub use syslog_pieces::structured_data::{ParamsIter, StructuredElement};
+pub use syslog_pieces::timestamp::OffsetTimestamp;

@@ -1,0 +1,121 @@
+//! The message: its fields, and its printed text.
+ghost use Rattle.std.specs.Prelude.{◌≡◌, ◌+◌, ◌*◌, Some, map};
+ghost use Rattle.std.specs.Option.{option_map, option_map_or};
+ghost use Rattle.std.specs.Fmt.{WritesOnOk};
+ghost use Rattle.std.specs.Str.{encode_utf8_all};
+ghost use Rattle.syslog_pieces.specs.Pri.{facility_number, severity_number};
+ghost use Rattle.syslog_pieces.specs.View.{text_of};
+ghost use Rattle.syslog_loose.specs.Message.{message_value};
+ghost use Rattle.syslog_loose.specs.Printed as spec;
+
+mod printing;
+
+use printing::{Elements, Name, Process, SpacedElements, Stamp, Tag};
+use std::fmt;
+use syslog_pieces::as_str::AsStr;
+use syslog_pieces::pri::{SyslogFacility, SyslogSeverity};
+use syslog_pieces::procid::ProcId;
+use syslog_pieces::structured_data::StructuredElement;
+use syslog_pieces::timestamp::OffsetTimestamp;
+
+/// By which protocol a message is written: RFC 3164, or RFC 5424 with its version.
+#[derive(Clone, Copy, Debug, PartialEq, Eq)]
+pub enum Protocol {
+    RFC3164,
+    RFC5424(u32),
+}
+
+/// A syslog message over texts of a type `S`.
+///
+/// It prints as its protocol writes it; the values of parameters are printed as they stand, without escaping, and an
+/// absent facility counts as 5, an absent severity as 7.
+#[derive(Debug, Drop)]
+pub struct Message<S> {
+    /// The protocol that the message was read by, or prints as.
+    pub protocol: Protocol,
+    /// The facility; absent where the text has no priority, or one from 192 on.
+    pub facility: Option<SyslogFacility>,
+    /// The severity; absent where the text has no priority.
+    pub severity: Option<SyslogSeverity>,
+    /// The instant and the offset at which it was written.
+    pub timestamp: Option<OffsetTimestamp>,
+    /// The host that sent the message.
+    pub hostname: Option<S>,
+    /// The program that the message is from.
+    pub appname: Option<S>,
+    /// The process that the message is from.
+    pub procid: Option<ProcId<S>>,
+    /// The kind of the message. RFC 3164 has none, and never prints it.
+    pub msgid: Option<S>,
+    /// The elements of structured data, in order.
+    pub structured_data: Vec<StructuredElement<S>>,
+    /// What is left of the text.
+    pub msg: S,
+}
+
+// The composed priority, with what stands for an absent part.
+fn priority(facility: Option<SyslogFacility>, severity: Option<SyslogSeverity>) -> u32
+    ensures { result ≡ option_map_or facility_number facility 5 * 8 + option_map_or severity_number severity 7 }
+{
+    let facility = match facility {
+        Some(facility) => facility as u32,
+        None => 5,
+    };
+    let severity = match severity {
+        Some(severity) => severity as u32,
+        None => 7,
+    };
+    facility * 8 + severity
+}
+
+impl<S: AsStr> fmt::Display for Message<S> {
+    ghost output = { λ m. Some (encode_utf8_all (spec.printed (message_value (text_of S.text) m))) };
+
+    fn fmt<W: fmt::Write>(&self, f: &mut fmt::Formatter<W>) -> fmt::Result {
+        match self.protocol {
+            Protocol::RFC5424(version) => write_rfc5424(self, version, f),
+            Protocol::RFC3164 => write_rfc3164(self, f),
+        }
+    }
+}
+
+fn write_rfc5424<S: AsStr, W: fmt::Write>(
+    message: &Message<S>,
+    version: u32,
+    f: &mut fmt::Formatter<W>,
+) -> fmt::Result
+    ensures { WritesOnOk W.write_str_gives f.old result
+        (encode_utf8_all (spec.printed_5424 version (message_value (text_of S.text) message.now))) f.new }
+{
+    let priority = priority(message.facility, message.severity);
+    let stamp = Stamp(message.timestamp);
+    let host = Name(&message.hostname);
+    let app = Name(&message.appname);
+    let process = Process(&message.procid);
+    let id = Name(&message.msgid);
+    let elements = Elements(&message.structured_data);
+    let msg = message.msg.as_str();
+    write!(
+        f,
+        "<{priority}>{version} {stamp} {host} {app} {process} {id} {elements} {msg}"
+    )
+}
+
+fn write_rfc3164<S: AsStr, W: fmt::Write>(
+    message: &Message<S>,
+    f: &mut fmt::Formatter<W>,
+) -> fmt::Result
+    ensures { WritesOnOk W.write_str_gives f.old result
+        (encode_utf8_all (spec.printed_3164 (message_value (text_of S.text) message.now))) f.new }
+{
+    let priority = priority(message.facility, message.severity);
+    let stamp = Stamp(message.timestamp);
+    let host = Name(&message.hostname);
+    let tag = Tag {
+        app: &message.appname,
+        process: &message.procid,
+    };
+    let elements = SpacedElements(&message.structured_data);
+    let msg = message.msg.as_str();
+    write!(f, "<{priority}> {stamp} {host} {tag}{elements}{msg}")
+}

@@ -1,0 +1,166 @@
+//! A message as a test writes it down, and the comparison with one that was read.
+use crate::{
+    IncompleteDate, Message, ParseFault, ProcId, Protocol, StructuredElement, SyslogFacility,
+    SyslogSeverity, Variant, parse_message_with_year_exact_tz,
+};
+use jiff::tz::TimeZone;
+use std::alloc::Global;
+use std::process::Abort;
+use std::test::Fail;
+
+/// A process id.
+#[derive(Clone, Copy, Debug, PartialEq, Eq)]
+pub(super) enum Process<'a> {
+    Absent,
+    Number(i32),
+    Name(&'a str),
+}
+
+/// A message of RFC 5424, with its timestamp and itself as they print.
+#[derive(Clone, Copy)]
+pub(super) struct Expected<'a> {
+    pub(super) version: u32,
+    pub(super) facility: Option<SyslogFacility>,
+    pub(super) severity: Option<SyslogSeverity>,
+    pub(super) timestamp: Option<&'a str>,
+    pub(super) hostname: Option<&'a str>,
+    pub(super) appname: Option<&'a str>,
+    pub(super) process: Process<'a>,
+    pub(super) msgid: Option<&'a str>,
+    /// One a line: its id, and the name and the raw value of each parameter, with bars between them.
+    pub(super) elements: &'a str,
+    pub(super) msg: &'a str,
+    pub(super) printed: &'a str,
+}
+
+/// The message of `1 - - - - - -`.
+pub(super) fn empty<'a>() -> Expected<'a> {
+    Expected {
+        version: 1,
+        facility: None,
+        severity: None,
+        timestamp: None,
+        hostname: None,
+        appname: None,
+        process: Process::Absent,
+        msgid: None,
+        elements: "",
+        msg: "",
+        printed: "<47>1 - - - - - - ",
+    }
+}
+
+/// A text and its message.
+pub(super) type Row<'a> = (&'a str, Expected<'a>);
+
+/// The message of the text, with UTC as both zones.
+pub(super) fn read<'a>(
+    alloc: Global,
+    text: &'a str,
+    variant: Variant,
+) -> Result<Message<&'a str>, ParseFault> {
+    let utc = TimeZone::UTC;
+    parse_message_with_year_exact_tz(
+        alloc,
+        text,
+        |_: IncompleteDate| 2019,
+        Some(&utc),
+        variant,
+        &utc,
+    )
+}
+
+fn process_of<'a>(procid: &Option<ProcId<&'a str>>) -> Process<'a> {
+    match procid {
+        None => Process::Absent,
+        Some(ProcId::PID(number)) => Process::Number(*number),
+        Some(ProcId::Name(name)) => Process::Name(*name),
+    }
+}
+
+/// Compares element by element, with lines as in `Expected`, and takes no memory.
+pub(super) fn check_elements(rt: &impl Abort, elements: &[StructuredElement<&str>], want: &str) {
+    let mut lines = want.split('\n');
+    if want.is_empty() {
+        lines.next();
+    }
+    for element in elements {
+        let mut texts = lines.next().unwrap_or("").split('|');
+        assert_eq!(rt; texts.next(), Some(element.id), "{want}");
+        for (name, value) in &element.params {
+            assert_eq!(rt; texts.next(), Some(*name), "{want}");
+            assert_eq!(rt; texts.next(), Some(*value), "{want}");
+        }
+        assert_eq!(rt; texts.next(), None, "{want}");
+    }
+    assert_eq!(rt; lines.next(), None);
+}
+
+fn check_timestamp(
+    rt: &impl Abort,
+    alloc: Global,
+    message: &Message<&str>,
+    want: Option<&str>,
+) -> Result<(), Fail> {
+    match message.timestamp {
+        Some(stamp) => {
+            let stamp = format!(in alloc; "{stamp}")?;
+            assert_eq!(rt; Some(stamp.as_str()), want);
+        }
+        None => assert_eq!(rt; None, want),
+    }
+    Ok(())
+}
+
+/// Compares field by field, and then the printed text.
+pub(super) fn check_message(
+    rt: &impl Abort,
+    alloc: Global,
+    message: &Message<&str>,
+    want: &Expected,
+) -> Result<(), Fail> {
+    assert_eq!(rt; message.protocol, Protocol::RFC5424(want.version));
+    assert_eq!(rt; message.facility, want.facility);
+    assert_eq!(rt; message.severity, want.severity);
+    check_timestamp(rt, alloc, message, want.timestamp)?;
+    assert_eq!(rt; message.hostname, want.hostname);
+    assert_eq!(rt; message.appname, want.appname);
+    assert_eq!(rt; process_of(&message.procid), want.process);
+    assert_eq!(rt; message.msgid, want.msgid);
+    check_elements(rt, &message.structured_data, want.elements);
+    assert_eq!(rt; message.msg, want.msg);
+    let printed = format!(in alloc; "{message}")?;
+    assert_eq!(rt; printed.as_str(), want.printed);
+    Ok(())
+}
+
+/// The text reads as this message, as RFC 5424 and under `Either`.
+pub(super) fn check_text(
+    rt: &impl Abort,
+    alloc: Global,
+    text: &str,
+    want: &Expected,
+) -> Result<(), Fail> {
+    for variant in [Variant::Either, Variant::RFC5424] {
+        check_message(rt, alloc, &read(alloc, text, variant)?, want)?;
+    }
+    Ok(())
+}
+
+/// Each text reads as its message.
+pub(super) fn check_rows(rt: &impl Abort, alloc: Global, rows: &[Row]) -> Result<(), Fail> {
+    for (text, want) in rows {
+        check_text(rt, alloc, text, want)?;
+    }
+    Ok(())
+}
+
+/// No text has a division by the variant.
+pub(super) fn check_invalid(rt: &impl Abort, alloc: Global, variant: Variant, texts: &[&str]) {
+    for text in texts {
+        match read(alloc, text, variant) {
+            Ok(_) => assert!(rt; false, "a message in {text:?}"),
+            Err(fault) => assert_eq!(rt; fault, ParseFault::Invalid, "{text:?}"),
+        }
+    }
+}

@@ -1,0 +1,101 @@
+-- The priority, and its two parts.
+use Rattle.std.proofs.Common.{◌≡◌, ◌≤◌, ◌<◌, ◌/◌, ◌%◌, ◌+◌, ℕ, zero, suc, List, [], ◌∷◌, length, Option, Some, None, MatchOption, refl, sym, ap, ◌∙◌, arith}
+use Rattle.std.specs.Prelude.{slice_get}
+use Rattle.std.proofs.lemmas.Option.{slice_get_past}
+use Rattle.syslog_pieces.specs.Class.{Text, Front, NoFront, IsDeterministic, Row, Values}
+use Rattle.syslog_pieces.specs.Pri.{priority, priority_row, facility_number, severity_number, facilities, severities, facility_of, severity_of, composed}
+use Rattle.syslog_pieces.specs.declared.pri.SyslogFacility.{SyslogFacility}
+use Rattle.syslog_pieces.specs.declared.pri.SyslogFacility.TheVariants.{LOG_KERN, LOG_USER, LOG_MAIL, LOG_DAEMON, LOG_AUTH, LOG_SYSLOG, LOG_LPR, LOG_NEWS, LOG_UUCP, LOG_CRON, LOG_AUTHPRIV, LOG_FTP, LOG_NTP, LOG_AUDIT, LOG_ALERT, LOG_CLOCKD, LOG_LOCAL0, LOG_LOCAL1, LOG_LOCAL2, LOG_LOCAL3, LOG_LOCAL4, LOG_LOCAL5, LOG_LOCAL6, LOG_LOCAL7}
+use Rattle.syslog_pieces.specs.declared.pri.SyslogSeverity.{SyslogSeverity}
+use Rattle.syslog_pieces.specs.declared.pri.SyslogSeverity.TheVariants.{SEV_EMERG, SEV_ALERT, SEV_CRIT, SEV_ERR, SEV_WARNING, SEV_NOTICE, SEV_INFO, SEV_DEBUG}
+use Rattle.syslog_pieces.proofs.ClassLemmas.{AllDeterministic, exactly_det, row_det}
+use Rattle.syslog_pieces.proofs.WordLemmas.{number_det}
+
+priority_row_det : AllDeterministic priority_row
+priority_row_det = (exactly_det (60 ∷ []), (number_det 255, (exactly_det (62 ∷ []), tt)))
+
+pub priority_det : IsDeterministic priority
+priority_det p q p' q' n n' e h h' =
+    let r = row_det priority_row priority_row_det p q p' q' (tt, (n, (tt, tt))) (tt, (n', (tt, tt))) e h h' in
+    let t = r.1 in (r.0, ap (λ (x : Values priority_row). x.1.0) t)
+
+pub as_priority : {text q : Text} {n : ℕ} → Front (Row priority_row) text q (tt, (n, (tt, tt))) → Front priority text q n
+as_priority f = record { piece = f.piece; whole = f.whole; is = f.is }
+
+pub no_priority : {text : Text} → NoFront (Row priority_row) text → NoFront priority text
+no_priority n p q v e h = n p q (tt, (v, (tt, tt))) e h
+
+-- each facility, and each severity, stands at the place of its number
+facility_placed : (f : SyslogFacility) → slice_get facilities (facility_number f) ≡ Some f
+facility_placed LOG_KERN = refl
+facility_placed LOG_USER = refl
+facility_placed LOG_MAIL = refl
+facility_placed LOG_DAEMON = refl
+facility_placed LOG_AUTH = refl
+facility_placed LOG_SYSLOG = refl
+facility_placed LOG_LPR = refl
+facility_placed LOG_NEWS = refl
+facility_placed LOG_UUCP = refl
+facility_placed LOG_CRON = refl
+facility_placed LOG_AUTHPRIV = refl
+facility_placed LOG_FTP = refl
+facility_placed LOG_NTP = refl
+facility_placed LOG_AUDIT = refl
+facility_placed LOG_ALERT = refl
+facility_placed LOG_CLOCKD = refl
+facility_placed LOG_LOCAL0 = refl
+facility_placed LOG_LOCAL1 = refl
+facility_placed LOG_LOCAL2 = refl
+facility_placed LOG_LOCAL3 = refl
+facility_placed LOG_LOCAL4 = refl
+facility_placed LOG_LOCAL5 = refl
+facility_placed LOG_LOCAL6 = refl
+facility_placed LOG_LOCAL7 = refl
+
+severity_placed : (s : SyslogSeverity) → slice_get severities (severity_number s) ≡ Some s
+severity_placed SEV_EMERG = refl
+severity_placed SEV_ALERT = refl
+severity_placed SEV_CRIT = refl
+severity_placed SEV_ERR = refl
+severity_placed SEV_WARNING = refl
+severity_placed SEV_NOTICE = refl
+severity_placed SEV_INFO = refl
+severity_placed SEV_DEBUG = refl
+
+past : (n : ℕ) → 24 ≤ n → slice_get facilities n ≡ None
+past n h = slice_get_past facilities n h
+
+pub facility_told : (n : ℕ) (r : Option SyslogFacility) → MatchOption r (24 ≤ n) (λ f. facility_number f ≡ n) → r ≡ slice_get facilities n
+facility_told n None h = sym (past n h)
+facility_told n (Some f) h = sym (ap (slice_get facilities) (sym h) ∙ facility_placed f)
+
+pub severity_told : (n : ℕ) (s : SyslogSeverity) → severity_number s ≡ n → Some s ≡ slice_get severities n
+severity_told n s h = sym (ap (slice_get severities) (sym h) ∙ severity_placed s)
+
+-- ---- a number below the list's length is that of the value at its place
+module _ {F : Type 0} (number : F → ℕ) where
+  abbrev AreNumbered : ℕ → List F → Type 0
+  AreNumbered first [] = Unit {0}
+  AreNumbered first (f ∷ fs) = (number f ≡ first) × AreNumbered (suc first) fs
+
+  numbered : (fs : List F) (first n : ℕ) → AreNumbered first fs → n < length fs → (f : F) × (slice_get fs n ≡ Some f) × (number f ≡ first + n)
+  numbered [] first n a h = absurd (omega arith)
+  numbered (f ∷ fs) first zero a h = (f, refl, a.0 ∙ omega arith)
+  numbered (f ∷ fs) first (suc n) a h = let (g, there, e) = numbered fs (suc first) n a.1 (omega arith) in (g, there, e ∙ omega arith)
+
+numbered_facility : (n : ℕ) → n < 24 → (f : SyslogFacility) × (slice_get facilities n ≡ Some f) × (facility_number f ≡ n)
+numbered_facility n h =
+    let all : AreNumbered facility_number 0 facilities = ((refl, (refl, (refl, (refl, (refl, (refl, (refl, (refl, (refl, (refl, (refl, (refl, (refl, (refl, (refl, (refl, (refl, (refl, (refl, (refl, (refl, (refl, (refl, (refl, tt))))))))))))))))))))))))) in
+    let (f, there, e) = numbered facility_number facilities 0 n all h in (f, there, e ∙ omega arith)
+
+numbered_severity : (n : ℕ) → n < 8 → (s : SyslogSeverity) × (slice_get severities n ≡ Some s) × (severity_number s ≡ n)
+numbered_severity n h =
+    let all : AreNumbered severity_number 0 severities = ((refl, (refl, (refl, (refl, (refl, (refl, (refl, (refl, tt))))))))) in
+    let (s, there, e) = numbered severity_number severities 0 n all h in (s, there, e ∙ omega arith)
+
+pub priority_composed : (pri : ℕ) → pri < 192 → (f : SyslogFacility) × (s : SyslogSeverity)
+    × (facility_of pri ≡ Some f) × (severity_of pri ≡ Some s) × (composed f s ≡ pri)
+priority_composed pri h =
+    let (f, there, number) = numbered_facility (pri / 8) (omega arith) in
+    let (s, told, left) = numbered_severity (pri % 8) (omega arith) in
+    (f, s, there, told, omega arith)

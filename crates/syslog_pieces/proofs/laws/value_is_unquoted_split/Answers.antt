@@ -1,0 +1,5 @@
+use Rattle.syslog_pieces.proofs.UnitLemmas.{value_split}
+use Rattle.syslog_pieces.proofs.laws.value_is_unquoted_split.Goals as goal
+
+pub returns : goal.returns
+returns c text = value_split text

@@ -1,0 +1,15 @@
+use Rattle.std.proofs.Common.{length, map}
+use denote.Shadow.{shadow}
+use denote.Text.{Utf8}
+use Rattle.std.specs.Str.{chars}
+use Rattle.syslog_pieces.specs.Element.{param_value}
+use Rattle.syslog_pieces.specs.StructuredData.{param}
+use Rattle.syslog_pieces.specs.View.{shown}
+use Rattle.syslog_pieces.proofs.ListLemmas.{Collects}
+use Rattle.syslog_pieces.proofs.structured_data.element.params.Given as goal
+
+abbrev pub invariant-params : goal.invariant-params
+invariant-params l = shadow (Utf8 l.rest) × Collects param 32 93 (chars l.text) (map (param_value (λ s. shown s)) l.params.items) (chars l.rest)
+
+abbrev pub decreases-params : goal.decreases-params
+decreases-params l = length (chars l.rest)

@@ -1,0 +1,13 @@
+use Rattle.std.proofs.Common.{length}
+use denote.Shadow.{shadow}
+use denote.Text.{Utf8}
+use Rattle.std.specs.Str.{chars}
+use Rattle.std.specs.Prelude.{string_bytes}
+use Rattle.syslog_pieces.proofs.UnitLemmas.{Removes}
+use Rattle.syslog_pieces.proofs.structured_data.escapes.unescape.Given as goal
+
+abbrev pub invariant-units : goal.invariant-units
+invariant-units l = shadow (Utf8 l.rest) × Removes (chars l.value) (chars (string_bytes l.out)) (chars l.rest)
+
+abbrev pub decreases-units : goal.decreases-units
+decreases-units l = length (chars l.rest)

@@ -1,0 +1,51 @@
+use Rattle.std.proofs.Common.{rules, ℕ, List, [], ◌∷◌, ◌++◌, map, sym, ap, ◌∙◌}
+use Rattle.std.specs.Borrow.{Bor}
+use Rattle.std.specs.Str.{chars}
+use Rattle.syslog_pieces.specs.Element.{element_value}
+use Rattle.syslog_pieces.specs.StructuredData.{item}
+use Rattle.syslog_pieces.specs.View.{shown}
+use Rattle.syslog_pieces.proofs.ClosingLemmas.{byte_count_slice, dead_whole}
+use Rattle.syslog_pieces.proofs.ElementLemmas.{item_shorter}
+use Rattle.syslog_pieces.proofs.ItemLemmas.{strict_there, collected_strict, collected_broken}
+use Rattle.syslog_pieces.proofs.ListLemmas.{has_read_none, has_read_more, has_read_all}
+use Rattle.syslog_pieces.proofs.structured_data.list.collect_items.Goals as goal
+use Rattle.syslog_pieces.proofs.structured_data.list.collect_items.Goals.{then-item+in_ok-element+in-Some-2+in_ok-push, else-item}
+
+pub items-init : goal.items-init
+items-init c = (
+  search rules,
+  dead_whole (chars c.args.text.now) _ (sym (byte_count_slice c.args.text.now c.utf8.text)),
+  ([], has_read_none item (chars c.args.text.now), ap (map (element_value (λ (s : Bor (List ℕ)). shown s))) c.new-kept.ensures.items),
+)
+
+pub returns-in_default : goal.returns-in_default
+returns-in_default c =
+    let i = c.items.invariant.2 in
+    (i.0, has_read_all item (chars c.args.text.now) (chars c.items.rest.now) i.0 i.1 c.in_default.ensures, i.2)
+
+pub returns-in_default-2 : goal.returns-in_default-2
+returns-in_default-2 c =
+    let found = c.in-Some.ensures.1 in
+    absurd (strict_there (chars c.items.rest.now) (chars c.in-Some.item.rest.now) found.0 (sym c.if-item.true ∙ found.2) found.1 (rw c.in_default-2.is at c.in_ok-element.ensures))
+
+pub items-preserved : goal.items-preserved
+items-preserved c =
+    let i = c.items.invariant.2 in
+    let found = c.in-Some.ensures in
+    let view = element_value (λ (s : Bor (List ℕ)). shown s) in (
+      found.0,
+      found.2,
+      (
+        i.0 ++ (found.1.0 ∷ []),
+        has_read_more item (chars c.args.text.now) (chars c.items.rest.now) (chars c.in-Some.item.rest.now) i.0 found.1.0 i.1 found.1.1,
+        elim c.if-item.branch [
+          | then-item+in_ok-element+in-Some-2+in_ok-push w ↦
+              collected_strict view c.items.kept.items i.0 i.2 (chars c.items.rest.now) (chars c.in-Some.item.rest.now) _ c.if-item.kept.items w.in-Some-2.element found.1.0
+              (sym w.if-item.true ∙ found.1.2) found.1.1 (rw w.in-Some-2.is at w.in_ok-element.ensures) (ap (λ x. x.items) w.kept-is ∙ w.in_ok-push.ensures.items)
+          | else-item w ↦ ap (λ x. map view x.items) w.kept-is ∙ collected_broken view c.items.kept.items i.0 i.2 found.1.0 (sym w.if-item.false ∙ found.1.2)
+        ],
+      ),
+    )
+
+pub items-smaller : goal.items-smaller
+items-smaller c = item_shorter (chars c.items.rest.now) (chars c.in-Some.item.rest.now) c.in-Some.ensures.1.0 c.in-Some.ensures.1.1

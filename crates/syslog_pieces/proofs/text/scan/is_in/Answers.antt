@@ -1,0 +1,27 @@
+-- The table is held against the classes at each of the 256 bytes, by computing.
+use Rattle.std.proofs.Common.{◌≡◌, ℕ, Bool, true, not, nat_eq, get_or, bit_and, refl, ap, ◌∙◌, arith}
+use Rattle.std.proofs.lemmas.Bool.{agree_below, agree_below_at}
+use Rattle.syslog_pieces.specs.declared.text.scan.TheConstants.{CLASSES}
+use Rattle.syslog_pieces.specs.declared.text.CharClass.{CharClass}
+use Rattle.syslog_pieces.specs.declared.text.CharClass.TheVariants.{Digit, Blank, Visible, Id, Name, Plain, Open, Inert, Bare}
+use Rattle.syslog_pieces.specs.Scan.{byte_in, bit_of}
+use Rattle.syslog_pieces.proofs.text.scan.is_in.Goals as goal
+
+abbrev reads : CharClass → ℕ → Bool
+reads class k = not (nat_eq (bit_and (get_or CLASSES k 0) (bit_of class)) 0)
+
+agrees : (class : CharClass) → agree_below (reads class) (byte_in class) 256 ≡ true
+agrees Digit = refl
+agrees Blank = refl
+agrees Visible = refl
+agrees Id = refl
+agrees Name = refl
+agrees Plain = refl
+agrees Open = refl
+agrees Inert = refl
+agrees Bare = refl
+
+pub returns : goal.returns
+returns c =
+    ap (λ (m : ℕ). not (nat_eq (bit_and (get_or CLASSES c.args.b 0) m) 0)) c.bit.ensures
+    ∙ agree_below_at (reads c.args.class) (byte_in c.args.class) 256 c.args.b (agrees c.args.class) (omega arith)

@@ -1,0 +1,23 @@
+use Rattle.std.proofs.Common.{rules}
+use Rattle.std.specs.Str.{chars}
+use Rattle.syslog_pieces.specs.Class.{NoFront}
+use Rattle.syslog_pieces.specs.Timestamp.{header_stamp}
+use Rattle.syslog_pieces.proofs.StampPieceLemmas.{dash_front, stamp_front, no_stamp_front, no_space_front}
+use Rattle.syslog_pieces.proofs.timestamp.header_stamp.Goals as goal
+
+pub returns-in-Some : goal.returns-in-Some
+returns-in-Some c = dash_front c.in-Some.ensures
+
+pub returns-in_err-literal : goal.returns-in_err-literal
+returns-in_err-literal c =
+    let n : NoFront header_stamp (chars c.args.text.now) =
+    no_space_front c.args.text.now c.split_run.result.0.now c.split_run.result.1.now c.split_run.ensures c.in-None.ensures c.in_err-literal.ensures in search rules
+
+pub returns-in_err-stamp : goal.returns-in_err-stamp
+returns-in_err-stamp c =
+    let n : NoFront header_stamp (chars c.args.text.now) =
+    no_stamp_front c.args.text.now c.split_run.result.0.now c.split_run.result.1.now c.split_run.ensures c.in-None.ensures c.in_err-stamp.ensures in search rules
+
+pub returns : goal.returns
+returns c =
+    stamp_front c.args.text.now c.split_run.result.0.now c.split_run.result.1.now c.split_run.ensures c.in_ok-stamp.stamp c.in_ok-stamp.ensures c.in_ok-literal.ensures

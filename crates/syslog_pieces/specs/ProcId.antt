@@ -1,0 +1,48 @@
+-- Process ids: a number of 32 bits, or any other text.
+use Rattle.std.specs.Prelude.{◌≡◌, ◌⊎◌, ℤ, pos, neg_ℤ, ◌<◌, FitsSigned, ◌∷◌, length, Option, Some, None}
+use Rattle.std.specs.Int.{w32}
+use Rattle.std.specs.Char.{is_ascii_digit}
+use Rattle.std.specs.Fmt.{signed_decimal}
+use Rattle.std.specs.Str.Parse.{digits_value}
+use Rattle.syslog_pieces.specs.Class.{Text, Class, Each}
+use Rattle.syslog_pieces.specs.Text.{word}
+use Rattle.syslog_pieces.specs.declared.procid.ProcId.{ProcId}
+use Rattle.syslog_pieces.specs.declared.procid.ProcId.TheVariants.{PID, Name}
+
+-- a process id over texts, of one over S
+abbrev pub procid_value : {S : Type 0} → (S → Text) → ProcId S → ProcId Text
+procid_value text (PID n) = PID n
+procid_value text (Name s) = Name (text s)
+
+-- one or more ASCII digits
+abbrev pub IsDigits : Text → Type 0
+IsDigits t = (0 < length t) × Each is_ascii_digit t
+
+-- digits, behind at most one sign, that write this number
+abbrev pub WritesSigned : Text → ℤ → Type 0
+WritesSigned t n =
+    (IsDigits t × (n ≡ pos (digits_value 10 t)))
+    ⊎ (((d : Text) × (t ≡ 43 ∷ d) × IsDigits d × (n ≡ pos (digits_value 10 d)))
+    ⊎ ((d : Text) × (t ≡ 45 ∷ d) × IsDigits d × (n ≡ neg_ℤ (pos (digits_value 10 d)))))
+
+-- the text of a number from -2147483648 to 2147483647
+abbrev pub IsI32Text : Text → ℤ → Type 0
+IsI32Text t n = WritesSigned t n × FitsSigned w32 n
+
+-- what a text names: the number that it writes, or else itself
+abbrev pub NamesProcess : Text → ProcId Text → Type 0
+NamesProcess t (PID n) = IsI32Text t n
+NamesProcess t (Name name) = ((n : ℤ) → IsI32Text t n → ⊥) × (name ≡ t)
+
+-- the number in decimal, or the text
+abbrev pub procid_text : ProcId Text → Text
+procid_text (PID n) = signed_decimal n
+procid_text (Name t) = t
+
+abbrev pub IsProcessWord : Text → Text → Option (ProcId Text) → Type 0
+IsProcessWord p q None = word.Is p q None
+IsProcessWord p q (Some id) = (t : Text) × word.Is p q (Some t) × NamesProcess t id
+
+-- a word of RFC 5424 as a process id
+abbrev pub process_word : Class
+process_word = record { Value = Option (ProcId Text); Is = IsProcessWord }

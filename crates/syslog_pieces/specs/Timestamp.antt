@@ -1,0 +1,35 @@
+-- Timestamps: the texts that have one, and the text that is printed of one.
+pub mod Fields
+pub mod Printed
+pub mod Reading
+pub mod Rfc3339
+use Rattle.std.specs.Prelude.{◌≡◌, ℕ, List, ◌∷◌, Option, Some, None, MatchOption}
+use Rattle.syslog_pieces.specs.Class.{Text, Class}
+use Rattle.syslog_pieces.specs.Text.{dash}
+use Rattle.syslog_pieces.specs.declared.timestamp.OffsetTimestamp.{OffsetTimestamp}
+use Rattle.syslog_pieces.specs.declared.timestamp.written.Written.{Written}
+use Rattle.syslog_pieces.specs.Timestamp.Rfc3339.{HasStamp, HasWrittenStamp}
+
+-- the whole text is an RFC 3339 text of this timestamp
+abbrev pub IsStampText : List ℕ → OffsetTimestamp → Type 0
+IsStampText text s = HasStamp text s.instant.nanosecond s.offset.seconds
+
+-- the text is one of no timestamp
+abbrev pub HasNoStamp : List ℕ → Type 0
+HasNoStamp text = (s : OffsetTimestamp) → IsStampText text s → ⊥
+
+-- this is the timestamp of the numbers that a text wrote
+abbrev pub IsStampOfWritten : Written → OffsetTimestamp → Type 0
+IsStampOfWritten w s = HasWrittenStamp w s.instant.nanosecond s.offset.seconds
+
+-- the timestamp of which `P` holds, and none only where it holds of no timestamp
+abbrev pub IsAnswer : (OffsetTimestamp → Type 0) → Option OffsetTimestamp → Type 0
+IsAnswer P answer = MatchOption answer ((s : OffsetTimestamp) → P s → ⊥) P
+
+-- a timestamp of a header: `-` where it is absent, or a whole RFC 3339 text before a space
+abbrev pub IsHeaderStamp : Text → Text → Option OffsetTimestamp → Type 0
+IsHeaderStamp p q None = p ≡ dash
+IsHeaderStamp p q (Some s) = IsStampText p s × ((r : Text) × (q ≡ 32 ∷ r))
+
+abbrev pub header_stamp : Class
+header_stamp = record { Value = Option OffsetTimestamp; Is = IsHeaderStamp }

@@ -1,0 +1,94 @@
+-- The text that is printed of a stamp, in characters, all of which are ASCII: 43 is `+`, 45 `-`,
+-- 46 `.`, 58 `:`, 84 `T`.
+use Rattle.std.specs.Prelude.{ℕ, zero, suc, ℤ, pos, negsuc, ◌+◌, ◌-◌, ◌/◌, ◌%◌, ◌==◌, nat_le, if◌then◌else◌, ◌+ℤ◌, ◌-ℤ◌, unsigned_abs, List, [], ◌∷◌, ◌++◌}
+use Rattle.std.specs.Int.{int_div_euclid, int_rem_euclid}
+use Rattle.jiff_core.specs.Calendar.{days_of_months, days_from_civil}
+use Rattle.jiff.specs.Words.{nanos_of_seconds}
+use Rattle.jiff_tz.specs.Year.{year_of_day}
+use Rattle.jiff_fmt.specs.Text.{pad2, pad4}
+use Rattle.syslog_pieces.specs.declared.timestamp.fields.CivilFields.{CivilFields}
+
+-- the most months, at most n, from January on that fit in that many days of the year
+unfoldable pub months_within : ℤ → ℕ → ℕ → ℕ
+months_within year zero days = 0
+months_within year (suc n) days =
+    if nat_le (days_of_months year (suc n)) days then suc n else months_within year n days
+
+-- how many days of the year lie before the day with this number
+abbrev pub place_in_year : ℤ → ℤ → ℕ
+place_in_year year day = unsigned_abs (day -ℤ days_from_civil year 1 1)
+
+-- the fields in a year at a place in it, so many nanoseconds after midnight
+unfoldable pub place_fields : ℤ → ℕ → ℕ → CivilFields
+place_fields year place nanos =
+    let months = months_within year 11 place in
+    record {
+      year = year;
+      month = months + 1;
+      day = place - days_of_months year months + 1;
+      hour = nanos / 3_600_000_000_000;
+      minute = nanos / 60_000_000_000 % 60;
+      second = nanos / 1_000_000_000 % 60;
+      nanosecond = nanos % 1_000_000_000;
+    }
+
+-- the same of a day, by its number from 1970-01-01 on
+abbrev pub day_fields : ℤ → ℕ → CivilFields
+day_fields day nanos = place_fields (year_of_day day) (place_in_year (year_of_day day) day) nanos
+
+-- the civil fields so many nanoseconds after 1970-01-01T00:00:00
+unfoldable pub civil_fields : ℤ → CivilFields
+civil_fields nanos =
+    day_fields (int_div_euclid nanos (pos 86_400_000_000_000))
+    (unsigned_abs (int_rem_euclid nanos (pos 86_400_000_000_000)))
+
+-- a number below 1000, in three digits
+abbrev pub pad3 : ℕ → List ℕ
+pad3 n = (48 + n / 100) ∷ (48 + n / 10 % 10) ∷ (48 + n % 10) ∷ []
+
+-- 0, 3, 6 or 9 decimals, the least that is exact
+unfoldable pub fraction_text : ℕ → List ℕ
+fraction_text n =
+    if n == 0 then []
+    else if n % 1_000_000 == 0 then 46 ∷ pad3 (n / 1_000_000)
+    else if n % 1_000 == 0 then 46 ∷ pad3 (n / 1_000_000) ++ pad3 (n / 1_000 % 1_000)
+    else 46 ∷ pad3 (n / 1_000_000) ++ (pad3 (n / 1_000 % 1_000) ++ pad3 (n % 1_000))
+
+-- the offset's own sign
+abbrev pub offset_sign : ℤ → ℕ
+offset_sign (pos n) = 43
+offset_sign (negsuc n) = 45
+
+-- the absolute value to the nearest minute, 30 seconds going up
+abbrev pub rounded_minutes : ℤ → ℕ
+rounded_minutes seconds = (unsigned_abs seconds + 30) / 60
+
+-- a sign and `HH:MM`
+unfoldable pub offset_text : ℤ → List ℕ
+offset_text seconds =
+    offset_sign seconds ∷ pad2 (rounded_minutes seconds / 60) ++ 58 ∷ pad2 (rounded_minutes seconds % 60)
+
+-- `-` in front of a negative year
+abbrev pub year_sign : ℤ → List ℕ
+year_sign (pos n) = []
+year_sign (negsuc n) = 45 ∷ []
+
+-- `YYYY-MM-DDTHH:MM:SS` in a year that is not negative
+abbrev pub unsigned_date_time : ℕ → ℕ → ℕ → ℕ → ℕ → ℕ → List ℕ
+unsigned_date_time year month day hour minute second =
+    pad4 year ++ (45 ∷ pad2 month ++ (45 ∷ pad2 day
+    ++ (84 ∷ pad2 hour ++ (58 ∷ pad2 minute ++ (58 ∷ pad2 second)))))
+
+-- the same after a sign, if the year has one
+unfoldable pub date_time_text : CivilFields → List ℕ
+date_time_text f =
+    year_sign f.year
+    ++ unsigned_date_time (unsigned_abs f.year) f.month f.day f.hour f.minute f.second
+
+-- date and time, fraction, offset
+abbrev pub fields_text : CivilFields → ℤ → List ℕ
+fields_text f seconds = date_time_text f ++ (fraction_text f.nanosecond ++ offset_text seconds)
+
+-- what a clock at the offset o, in seconds, shows at the instant n, in nanoseconds, and the offset
+unfoldable pub printed_stamp : ℤ → ℤ → List ℕ
+printed_stamp n o = fields_text (civil_fields (n +ℤ nanos_of_seconds o)) o

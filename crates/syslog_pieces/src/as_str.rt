@@ -1,0 +1,46 @@
+//! Texts of any type: the bound under which a message is generic.
+ghost use Rattle.std.specs.Prelude.{◌≡◌, ℕ, List, nat_eq, string_bytes, refl};
+ghost use Rattle.std.specs.Cmp.Lexicographic.{pointwise, slice_cmp};
+ghost use Rattle.std.specs.Ordering.{nat_cmp};
+
+#[cfg(test)]
+mod tests;
+
+/// A type whose values are texts: its equality and its order are those of the texts. The two laws
+/// are what `AsRef<str>` does not say.
+pub trait AsStr: Ord {
+    // The bytes of the text.
+    ghost text: { Self → List ℕ };
+
+    /// The text. Takes no memory.
+    fn as_str(&self) -> &str
+        ensures { result.now ≡ text self.now };
+
+    ghost eq_by_text: { (x y : Self) → Self.eq x y ≡ pointwise nat_eq (text x) (text y) };
+
+    ghost cmp_by_text: { (x y : Self) → Self.cmp x y ≡ slice_cmp nat_cmp (text x) (text y) };
+}
+
+impl AsStr for &str {
+    ghost text = { λ s. s.now };
+
+    ghost eq_by_text = { λ x y. refl };
+
+    ghost cmp_by_text = { λ x y. refl };
+
+    fn as_str(&self) -> &str {
+        *self
+    }
+}
+
+impl AsStr for String {
+    ghost text = { λ s. string_bytes s };
+
+    ghost eq_by_text = { λ x y. refl };
+
+    ghost cmp_by_text = { λ x y. refl };
+
+    fn as_str(&self) -> &str {
+        String::as_str(self)
+    }
+}

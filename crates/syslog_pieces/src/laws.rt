@@ -1,0 +1,69 @@
+//! Laws over the definitions alone: each function does nothing, and its contract is the law.
+ghost use Rattle.std.specs.Prelude.{◌≡◌, ◌↔◌, ℕ, ℤ, ◌<◌, Bool, false, List, Result, Some, String};
+ghost use Rattle.std.specs.Borrow.{Bor};
+ghost use Rattle.std.specs.Global.{Global};
+ghost use Rattle.std.specs.Iterator.{Drains};
+ghost use Rattle.std.specs.List.{AllByRecursion};
+ghost use Rattle.std.specs.declared.alloc.AllocError.{AllocError};
+ghost use Rattle.syslog_pieces.specs.Class.{Text};
+ghost use Rattle.syslog_pieces.specs.Escapes.{TextUnit, SplitsUnits, IsUnescaped, IsUnquoted, escaped};
+ghost use Rattle.syslog_pieces.specs.Params.{NextParam, AreParamItems};
+ghost use Rattle.syslog_pieces.specs.Pri.{facility_of, severity_of, composed};
+ghost use Rattle.syslog_pieces.specs.StructuredData.{IsValue};
+ghost use Rattle.jiff.specs.Words.{IsCivilNanos};
+ghost use Rattle.syslog_pieces.specs.Timestamp.Fields.{AreCivil, nanos_of_fields};
+ghost use Rattle.syslog_pieces.specs.Timestamp.Printed.{civil_fields};
+ghost use Rattle.syslog_pieces.specs.Timestamp.Rfc3339.{HasStamp};
+ghost use Rattle.syslog_pieces.specs.declared.pri.SyslogFacility.{SyslogFacility};
+ghost use Rattle.syslog_pieces.specs.declared.pri.SyslogSeverity.{SyslogSeverity};
+
+use crate::as_str::AsStr;
+
+/// A priority below 192 is composed of its two parts.
+pub fn priority_is_composed()
+    ensures { (pri : ℕ) → pri < 192 → (facility : SyslogFacility) × (severity : SyslogSeverity)
+        × (facility_of pri ≡ Some facility) × (severity_of pri ≡ Some severity) × (composed facility severity ≡ pri) }
+{}
+
+/// A text has at most one stamp.
+pub fn text_has_one_stamp()
+    ensures instant { (text : List ℕ) (n o m p : ℤ) → HasStamp text n o → HasStamp text m p → n ≡ m }
+    ensures at_offset { (text : List ℕ) (n o m p : ℤ) → HasStamp text n o → HasStamp text m p → o ≡ p }
+{}
+
+/// The civil fields of a count of nanoseconds are a date of the calendar and a time of day, and
+/// they lie that many nanoseconds after 1970-01-01T00:00:00.
+pub fn printed_fields_are_civil()
+    ensures exist { (n : ℤ) → IsCivilNanos n → AreCivil (civil_fields n) }
+    ensures count { (n : ℤ) → IsCivilNanos n → nanos_of_fields (civil_fields n) ≡ n }
+{}
+
+/// A text has one split into units.
+pub fn text_has_one_split()
+    ensures there { (text : Text) → (units : List TextUnit) × (lone : Bool) × SplitsUnits text units lone }
+    ensures one { (text : Text) (units others : List TextUnit) (lone last : Bool)
+        → SplitsUnits text units lone → SplitsUnits text others last → (units ≡ others) × (lone ≡ last) }
+{}
+
+/// A value is a text whose split has no lone backslash and no single quote.
+pub fn value_is_unquoted_split()
+    ensures { (text : Text) → IsValue text
+        ↔ ((units : List TextUnit) × SplitsUnits text units false × AllByRecursion IsUnquoted units) }
+{}
+
+/// Removing the escapes from an escaped text gives the text, and nothing else.
+pub fn escapes_are_removed()
+    ensures there { (text : Text) → IsUnescaped (escaped text) text }
+    ensures one { (text other : Text) → IsUnescaped (escaped text) other → other ≡ text }
+{}
+
+/// A text without its escapes is one text.
+pub fn text_is_unescaped_once()
+    ensures { (text unescaped other : Text) → IsUnescaped text unescaped → IsUnescaped text other → unescaped ≡ other }
+{}
+
+/// An iterator over parameters, called until it gives nothing, has given one item in the place of each, in order.
+pub fn params_are_given_in_order<S: AsStr>()
+    ensures { (params : List (S × S)) (items : List (Result (Bor S × String Global) AllocError))
+        → Drains (NextParam S.text) params items → AreParamItems S.text params items }
+{}

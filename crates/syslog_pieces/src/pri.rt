@@ -1,0 +1,137 @@
+//! The priority, and the facility and the severity that it is composed of (RFC 5424 section 6.2.1).
+//!
+//! The priority of a line is optional; `optional_priority` answers it and the text behind it. Nothing here takes
+//! memory.
+ghost use Rattle.std.specs.Prelude.{◌≡◌, ◌<◌, ◌≤◌, MatchOption, Some, slice_get};
+ghost use Rattle.std.specs.Str.{chars};
+ghost use Rattle.syslog_pieces.specs.Class.{Front, optional};
+ghost use Rattle.syslog_pieces.specs.Pri as spec;
+ghost use Rattle.syslog_pieces.specs.View.{shown, Reads};
+
+#[cfg(test)]
+mod tests;
+
+use crate::text::{literal, number};
+
+/// Which part of a system a message comes from. The number is the discriminant.
+#[derive(Clone, Copy, Debug, PartialEq, Eq, PartialOrd, Ord)]
+pub enum SyslogFacility {
+    LOG_KERN = 0,
+    LOG_USER = 1,
+    LOG_MAIL = 2,
+    LOG_DAEMON = 3,
+    LOG_AUTH = 4,
+    LOG_SYSLOG = 5,
+    LOG_LPR = 6,
+    LOG_NEWS = 7,
+    LOG_UUCP = 8,
+    LOG_CRON = 9,
+    LOG_AUTHPRIV = 10,
+    LOG_FTP = 11,
+    LOG_NTP = 12,
+    LOG_AUDIT = 13,
+    LOG_ALERT = 14,
+    LOG_CLOCKD = 15,
+    LOG_LOCAL0 = 16,
+    LOG_LOCAL1 = 17,
+    LOG_LOCAL2 = 18,
+    LOG_LOCAL3 = 19,
+    LOG_LOCAL4 = 20,
+    LOG_LOCAL5 = 21,
+    LOG_LOCAL6 = 22,
+    LOG_LOCAL7 = 23,
+}
+
+/// How severe a message is, 0 being the worst. The number is the discriminant.
+#[derive(Clone, Copy, Debug, PartialEq, Eq, PartialOrd, Ord)]
+pub enum SyslogSeverity {
+    SEV_EMERG = 0,
+    SEV_ALERT = 1,
+    SEV_CRIT = 2,
+    SEV_ERR = 3,
+    SEV_WARNING = 4,
+    SEV_NOTICE = 5,
+    SEV_INFO = 6,
+    SEV_DEBUG = 7,
+}
+
+fn severity_at(number: u8) -> SyslogSeverity
+    requires { number < 8 }
+    ensures { spec.severity_number result ≡ number }
+{
+    match number {
+        0 => SyslogSeverity::SEV_EMERG,
+        1 => SyslogSeverity::SEV_ALERT,
+        2 => SyslogSeverity::SEV_CRIT,
+        3 => SyslogSeverity::SEV_ERR,
+        4 => SyslogSeverity::SEV_WARNING,
+        5 => SyslogSeverity::SEV_NOTICE,
+        6 => SyslogSeverity::SEV_INFO,
+        _ => SyslogSeverity::SEV_DEBUG,
+    }
+}
+
+fn facility_at(number: u8) -> Option<SyslogFacility>
+    ensures { MatchOption result (24 ≤ number) (λ facility. spec.facility_number facility ≡ number) }
+{
+    let facility = match number {
+        0 => SyslogFacility::LOG_KERN,
+        1 => SyslogFacility::LOG_USER,
+        2 => SyslogFacility::LOG_MAIL,
+        3 => SyslogFacility::LOG_DAEMON,
+        4 => SyslogFacility::LOG_AUTH,
+        5 => SyslogFacility::LOG_SYSLOG,
+        6 => SyslogFacility::LOG_LPR,
+        7 => SyslogFacility::LOG_NEWS,
+        8 => SyslogFacility::LOG_UUCP,
+        9 => SyslogFacility::LOG_CRON,
+        10 => SyslogFacility::LOG_AUTHPRIV,
+        11 => SyslogFacility::LOG_FTP,
+        12 => SyslogFacility::LOG_NTP,
+        13 => SyslogFacility::LOG_AUDIT,
+        14 => SyslogFacility::LOG_ALERT,
+        15 => SyslogFacility::LOG_CLOCKD,
+        16 => SyslogFacility::LOG_LOCAL0,
+        17 => SyslogFacility::LOG_LOCAL1,
+        18 => SyslogFacility::LOG_LOCAL2,
+        19 => SyslogFacility::LOG_LOCAL3,
+        20 => SyslogFacility::LOG_LOCAL4,
+        21 => SyslogFacility::LOG_LOCAL5,
+        22 => SyslogFacility::LOG_LOCAL6,
+        23 => SyslogFacility::LOG_LOCAL7,
+        _ => return None,
+    };
+    Some(facility)
+}
+
+/// The facility and the severity of a priority. The facility is an eighth of it, and absent from 192
+/// on; the severity is what is left of it, and always there. (RFC 5424 stops at 191; that 192 to 255
+/// keep their severity is the crate's own rule.)
+pub fn decompose_pri(pri: u8) -> (Option<SyslogFacility>, Option<SyslogSeverity>)
+    ensures facility { result.0 ≡ spec.facility_of pri }
+    ensures severity { result.1 ≡ spec.severity_of pri }
+{
+    (facility_at(pri / 8), Some(severity_at(pri % 8)))
+}
+
+/// The priority at the front, as `<34>`, and the text behind it.
+#[inline(always)]
+pub fn priority(text: &str) -> Option<(u8, &str)>
+    ensures { Reads spec.priority (λ n. n) (chars text.now) result }
+{
+    let rest = literal(text, '<')?;
+    let (value, rest) = number(rest, 255)?;
+    let rest = literal(rest, '>')?;
+    Some((value as u8, rest))
+}
+
+/// The priority where one begins the text, and the text behind it.
+#[inline(always)]
+pub fn optional_priority(text: &str) -> (Option<u8>, &str)
+    ensures { Front (optional spec.priority) (chars text.now) (shown result.1) result.0 }
+{
+    match priority(text) {
+        Some((value, rest)) => (Some(value), rest),
+        None => (None, text),
+    }
+}

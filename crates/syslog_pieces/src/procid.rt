@@ -1,0 +1,62 @@
+//! Process ids: a number of 32 bits, or any other text.
+//!
+//! A text is a number exactly where it is an optional sign and ASCII digits of such a number; that is the crate's rule,
+//! RFC 5424 section 6.2.6 leaves the form open.
+ghost use Rattle.std.specs.Prelude.{◌≡◌, Some};
+ghost use Rattle.std.specs.Option.{option_map};
+ghost use Rattle.std.specs.Str.{chars, encode_utf8_all};
+ghost use Rattle.syslog_pieces.specs.ProcId as spec;
+ghost use Rattle.syslog_pieces.specs.View.{shown, text_of, Reads};
+
+#[cfg(test)]
+mod tests;
+
+use crate::as_str::AsStr;
+use crate::text::word;
+use std::fmt;
+
+/// A process id.
+#[derive(Debug, Drop)]
+pub enum ProcId<S> {
+    /// A number.
+    PID(i32),
+    /// Any other text.
+    Name(S),
+}
+
+impl<S: AsStr> fmt::Display for ProcId<S> {
+    ghost output = { λ p. Some (encode_utf8_all (spec.procid_text (spec.procid_value (text_of S.text) p))) };
+
+    fn fmt<W: fmt::Write>(&self, f: &mut fmt::Formatter<W>) -> fmt::Result {
+        match self {
+            ProcId::PID(number) => write!(f, "{number}"),
+            ProcId::Name(name) => {
+                let name = name.as_str();
+                write!(f, "{name}")
+            }
+        }
+    }
+}
+
+impl<'a> From<&'a str> for ProcId<&'a str> {
+    ghost from_gives = { λ text procid. spec.NamesProcess (chars text.now) (spec.procid_value (λ s. shown s) procid) };
+
+    fn from(text: &'a str) -> ProcId<&'a str> {
+        match text.parse::<i32>() {
+            Ok(number) => ProcId::PID(number),
+            Err(_) => ProcId::Name(text),
+        }
+    }
+}
+
+/// The process id at the front of a header's text, absent for `-`, and the text behind it.
+#[inline(always)]
+pub fn process_word(text: &str) -> Option<(Option<ProcId<&str>>, &str)>
+    ensures { Reads spec.process_word (option_map (spec.procid_value (λ s. shown s))) (chars text.now) result }
+{
+    let (name, rest) = word(text)?;
+    match name {
+        Some(name) => Some((Some(ProcId::from(name)), rest)),
+        None => Some((None, rest)),
+    }
+}

@@ -1,0 +1,59 @@
+//! Structured data: elements with an id and parameters (RFC 5424 section 6.3).
+//!
+//! An element is read as it stands: values stay raw, and `StructuredElement::params` takes the escapes out. Recognising
+//! an element or a list takes no memory, and time in proportion to the text; collecting it takes memory.
+ghost use Rattle.std.specs.Prelude.{◌≡◌, Some};
+ghost use Rattle.std.specs.Str.{encode_utf8_all};
+ghost use Rattle.syslog_pieces.specs.Element.{element_text, element_value};
+ghost use Rattle.syslog_pieces.specs.View.{text_of};
+
+mod element;
+mod escapes;
+mod list;
+mod params;
+#[cfg(test)]
+mod tests;
+mod walk;
+
+use crate::as_str::AsStr;
+pub use element::read_element;
+pub use list::forgiving_list;
+pub use params::ParamsIter;
+use std::alloc::Global;
+use std::fmt;
+pub use walk::after_element;
+
+/// An element: its id, and the names and the raw values of its parameters, in order. It prints as it is written, each
+/// parameter behind one space; a value prints raw, with the escapes that stand in it and no others.
+#[derive(Debug, Drop)]
+pub struct StructuredElement<S> {
+    /// The id.
+    pub id: S,
+    /// The parameters.
+    pub params: Vec<(S, S)>,
+}
+
+impl<S: AsStr> StructuredElement<S> {
+    /// The parameters in order, with the escapes in their values removed. This takes no memory, but each item does; the
+    /// place of an item that is refused it holds an `Err`.
+    pub fn params(&self, alloc: Global) -> ParamsIter<'_, S>
+        ensures { result ≡ self.now.params.items }
+    {
+        ParamsIter::new(alloc, &self.params)
+    }
+}
+
+impl<S: AsStr> fmt::Display for StructuredElement<S> {
+    ghost output = { λ e. Some (encode_utf8_all (element_text (element_value (text_of S.text) e))) };
+
+    fn fmt<W: fmt::Write>(&self, f: &mut fmt::Formatter<W>) -> fmt::Result {
+        let id = self.id.as_str();
+        write!(f, "[{id}")?;
+        for (name, value) in &self.params {
+            let name = name.as_str();
+            let value = value.as_str();
+            write!(f, " {name}=\"{value}\"")?;
+        }
+        write!(f, "]")
+    }
+}

@@ -1,0 +1,55 @@
+//! The removal of escapes from a value.
+ghost use Rattle.std.specs.Prelude.{◌≡◌, ◌++◌, [], ◌∷◌, IfOk, string_bytes};
+ghost use Rattle.std.specs.Str.{chars};
+ghost use Rattle.syslog_pieces.specs.Escapes.{pair_meaning, IsUnescaped};
+
+use crate::text::{CharClass, first, split_run};
+use std::alloc::{AllocError, Global};
+
+fn push_char(out: &mut String, c: char) -> Result<(), AllocError>
+    ensures { IfOk result (λ _. chars (string_bytes out.new) ≡ chars (string_bytes out.old) ++ (c ∷ [])) }
+{
+    out.push(c)
+}
+
+fn push_text(out: &mut String, text: &str) -> Result<(), AllocError>
+    ensures { IfOk result (λ _. chars (string_bytes out.new) ≡ chars (string_bytes out.old) ++ chars text.now) }
+{
+    out.push_str(text)
+}
+
+// What a backslash and this character stand for.
+fn push_pair(out: &mut String, c: char) -> Result<(), AllocError>
+    ensures { IfOk result (λ _. chars (string_bytes out.new) ≡ chars (string_bytes out.old) ++ pair_meaning c) }
+{
+    if c == 'n' {
+        return push_char(out, '\n');
+    }
+    if c == '\\' || (c == '"' || c == ']') {
+        return push_char(out, c);
+    }
+    push_char(out, '\\')?;
+    push_char(out, c)
+}
+
+// The value with its escapes removed: `\n` gives a line feed, `\"`, `\]` and `\\` give their second character, any
+// other pair stays, and a lone last backslash is dropped (RFC 5424 section 6.3.3; the line feed and the lone backslash
+// are the crate's own). An `Err` is only for memory.
+pub(super) fn unescape(alloc: Global, value: &str) -> Result<String, AllocError>
+    ensures { IfOk result (λ unescaped. IsUnescaped (chars value.now) (chars (string_bytes unescaped))) }
+{
+    let mut out = String::new(alloc);
+    let mut rest = value;
+    'units: loop {
+        let (run, after) = split_run(rest, CharClass::Bare);
+        push_text(&mut out, run)?;
+        let Some((_, more)) = first(after) else {
+            return Ok(out);
+        };
+        let Some((c, next)) = first(more) else {
+            return Ok(out);
+        };
+        push_pair(&mut out, c)?;
+        rest = next;
+    }
+}

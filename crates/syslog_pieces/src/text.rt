@@ -1,0 +1,208 @@
+//! White space, blanks, numbers and words.
+//!
+//! One scanner cuts the maximal run of a class of characters from the front of a text; every reader of a word stands on
+//! it. A reader answers what its class in `specs/Text.antt` means and the text behind it, or nothing where no front of
+//! the text is of the class. Nothing here takes memory, and no text is copied.
+ghost use Rattle.std.specs.Prelude.{◌≡◌, ◌++◌, [], ◌∷◌, MatchOption};
+ghost use Rattle.std.specs.Str.{chars, IsUtf8};
+ghost use Rattle.syslog_pieces.specs.CharClass.{has};
+ghost use Rattle.syslog_pieces.specs.Class.{Front, NoFront, exactly, run, some_run};
+ghost use Rattle.syslog_pieces.specs.Scan.{EndsRun, SplitsRun};
+ghost use Rattle.syslog_pieces.specs.Text as spec;
+ghost use Rattle.syslog_pieces.specs.View.{seen, shown, Reads, Skips};
+
+mod lanes;
+mod scan;
+#[cfg(test)]
+mod tests;
+
+use scan::{ascii_run, is_cut};
+
+/// A class of characters.
+#[derive(Clone, Copy)]
+pub enum CharClass {
+    /// ASCII digits.
+    Digit,
+    /// A space or a tab.
+    Blank,
+    /// No white space.
+    Visible,
+    /// No white space, and neither `]` nor `=`: an element's id.
+    Id,
+    /// Neither `]` nor `=`: a parameter's name.
+    Name,
+    /// Neither a backslash nor a quote: what a value is mostly made of.
+    Plain,
+    /// No `]`: what a broken element is made of.
+    Open,
+    /// Neither a backslash nor a quote nor `]`.
+    Inert,
+    /// No backslash.
+    Bare,
+}
+
+impl CharClass {
+    /// Whether the character is of the class.
+    pub fn has(self, c: char) -> bool
+        ensures { result ≡ has self c }
+    {
+        match self {
+            CharClass::Digit => c.is_ascii_digit(),
+            CharClass::Blank => c == ' ' || c == '\t',
+            CharClass::Visible => !c.is_whitespace(),
+            CharClass::Id => !c.is_whitespace() && (c != ']' && c != '='),
+            CharClass::Name => c != ']' && c != '=',
+            CharClass::Plain => c != '\\' && c != '"',
+            CharClass::Open => c != ']',
+            CharClass::Inert => (c != '\\' && c != '"') && c != ']',
+            CharClass::Bare => c != '\\',
+        }
+    }
+}
+
+/// The maximal run of the class at the front, perhaps empty, and the text behind it.
+#[inline(always)]
+pub fn split_run(text: &str, class: CharClass) -> (&str, &str)
+    ensures { SplitsRun (has class) text.now result.0.now result.1.now }
+{
+    text.split_at(run_end(text, class))
+}
+
+/// The place behind that run, in bytes.
+#[inline(always)]
+pub fn run_end(text: &str, class: CharClass) -> usize
+    ensures { EndsRun (has class) text.now result }
+{
+    let bytes = text.as_bytes();
+    let end = ascii_run(bytes, class);
+    if is_cut(bytes, end) {
+        end
+    } else {
+        run_end_by_chars(text, class)
+    }
+}
+
+// The same, character by character: for runs that reach a character past ASCII.
+#[cold]
+#[inline(never)]
+fn run_end_by_chars(text: &str, class: CharClass) -> usize
+    ensures { EndsRun (has class) text.now result }
+{
+    match text.find(|c: char| !class.has(c)) {
+        Some(end) => end,
+        None => text.len(),
+    }
+}
+
+/// The first character, and the text behind it.
+#[inline(always)]
+pub fn first(text: &str) -> Option<(char, &str)>
+    ensures { MatchOption result (chars text.now ≡ []) (λ x. (chars text.now ≡ x.0 ∷ shown x.1) × IsUtf8 x.1.now) }
+{
+    let mut all = text.chars();
+    let c = all.next()?;
+    Some((c, all.as_str()))
+}
+
+/// The text behind this character, where it begins the text.
+#[inline(always)]
+pub fn literal(text: &str, c: char) -> Option<&str>
+    ensures { Skips (exactly (c ∷ [])) tt (chars text.now) result }
+{
+    text.strip_prefix(c)
+}
+
+/// The text behind the blanks at the front, of which there may be none.
+#[inline(always)]
+pub fn blanks(text: &str) -> &str
+    ensures { Front (run spec.is_blank) (chars text.now) (shown result) tt }
+{
+    let (_, rest) = split_run(text, CharClass::Blank);
+    rest
+}
+
+/// The text behind the nonempty run of the class at the front.
+#[inline(always)]
+pub fn skip_some(text: &str, class: CharClass) -> Option<&str>
+    ensures { Skips (some_run (has class)) tt (chars text.now) result }
+{
+    let (front, rest) = split_run(text, class);
+    if front.is_empty() { None } else { Some(rest) }
+}
+
+/// The text behind the blanks at the front, of which there is at least one.
+#[inline(always)]
+pub fn some_blanks(text: &str) -> Option<&str>
+    ensures { Skips (some_run spec.is_blank) tt (chars text.now) result }
+{
+    let (front, rest) = split_run(text, CharClass::Blank);
+    if front.is_empty() { None } else { Some(rest) }
+}
+
+/// The number at the front, up to a limit, and the text behind it. Leading zeros are allowed.
+#[inline(always)]
+pub fn number(text: &str, limit: u32) -> Option<(u32, &str)>
+    ensures { Reads (spec.number limit) (λ n. n) (chars text.now) result }
+{
+    let (digits, rest) = split_run(text, CharClass::Digit);
+    match digits.parse::<u32>() {
+        Ok(value) => {
+            if value > limit {
+                None
+            } else {
+                Some((value, rest))
+            }
+        }
+        Err(_) => None,
+    }
+}
+
+// `-` stands for an absent name.
+#[inline(always)]
+fn named(run: &str) -> Option<&str>
+    ensures { spec.Names (chars run.now) (seen result) }
+{
+    if run == "-" { None } else { Some(run) }
+}
+
+/// The word of RFC 5424 at the front (app name, process id or message id), absent for `-`, and the text behind it.
+#[inline(always)]
+pub fn word(text: &str) -> Option<(Option<&str>, &str)>
+    ensures { Reads spec.word seen (chars text.now) result }
+{
+    let (run, rest) = split_run(text, CharClass::Visible);
+    if run.is_empty() {
+        return None;
+    }
+    if run == ":" {
+        return None;
+    }
+    Some((named(run), rest))
+}
+
+/// The host at the front, absent for `-`, and the text behind it. The last colon of a run is left to that text.
+#[inline(always)]
+pub fn host(text: &str) -> Option<(Option<&str>, &str)>
+    ensures { Reads spec.host seen (chars text.now) result }
+{
+    let (run, rest) = split_run(text, CharClass::Visible);
+    if run.is_empty() {
+        return None;
+    }
+    if !run.ends_with(':') {
+        return Some((named(run), rest));
+    }
+    let (front, after) = text.split_at(run.len() - 1);
+    if front.is_empty() {
+        return None;
+    }
+    Some((Some(front), after))
+}
+
+/// The text without the white space at its two ends.
+#[inline(always)]
+pub fn trimmed(text: &str) -> &str
+    ensures { shown result ≡ spec.trimmed (chars text.now) }
+{
+    text.trim()
+}

@@ -1,0 +1,82 @@
+//! Runs of ASCII bytes of a class: sixteen at a time while they last, then one by one.
+ghost use Rattle.std.specs.Prelude.{◌≡◌, ◌<◌, IsTrue, length, slice_index};
+ghost use Rattle.syslog_pieces.specs.Scan.{IsRun, bit_of, byte_in};
+
+use crate::text::CharClass;
+use crate::text::lanes::{LANES, class_run};
+
+// Of which classes each byte is, one bit a class; none where it is not ASCII.
+static CLASSES: [u16; 256] = [
+    508, 508, 508, 508, 508, 508, 508, 508, 508, 498, 496, 496, 496, 496, 508, 508, 508, 508, 508,
+    508, 508, 508, 508, 508, 508, 508, 508, 508, 508, 508, 508, 508, 498, 508, 348, 508, 508, 508,
+    508, 508, 508, 508, 508, 508, 508, 508, 508, 508, 509, 509, 509, 509, 509, 509, 509, 509, 509,
+    509, 508, 508, 508, 484, 508, 508, 508, 508, 508, 508, 508, 508, 508, 508, 508, 508, 508, 508,
+    508, 508, 508, 508, 508, 508, 508, 508, 508, 508, 508, 508, 508, 508, 508, 508, 92, 292, 508,
+    508, 508, 508, 508, 508, 508, 508, 508, 508, 508, 508, 508, 508, 508, 508, 508, 508, 508, 508,
+    508, 508, 508, 508, 508, 508, 508, 508, 508, 508, 508, 508, 508, 508, 0, 0, 0, 0, 0, 0, 0, 0,
+    0, 0, 0, 0, 0, 0, 0, 0, 0, 0, 0, 0, 0, 0, 0, 0, 0, 0, 0, 0, 0, 0, 0, 0, 0, 0, 0, 0, 0, 0, 0, 0,
+    0, 0, 0, 0, 0, 0, 0, 0, 0, 0, 0, 0, 0, 0, 0, 0, 0, 0, 0, 0, 0, 0, 0, 0, 0, 0, 0, 0, 0, 0, 0, 0,
+    0, 0, 0, 0, 0, 0, 0, 0, 0, 0, 0, 0, 0, 0, 0, 0, 0, 0, 0, 0, 0, 0, 0, 0, 0, 0, 0, 0, 0, 0, 0, 0,
+    0, 0, 0, 0, 0, 0, 0, 0, 0, 0, 0, 0, 0, 0, 0, 0, 0, 0, 0, 0, 0, 0, 0, 0,
+];
+
+#[inline(always)]
+fn bit(class: CharClass) -> u16
+    ensures { result ≡ bit_of class }
+{
+    match class {
+        CharClass::Digit => 1,
+        CharClass::Blank => 2,
+        CharClass::Visible => 4,
+        CharClass::Id => 8,
+        CharClass::Name => 16,
+        CharClass::Plain => 32,
+        CharClass::Open => 64,
+        CharClass::Inert => 128,
+        CharClass::Bare => 256,
+    }
+}
+
+#[inline(always)]
+fn is_in(b: u8, class: CharClass) -> bool
+    ensures { result ≡ byte_in class b }
+{
+    CLASSES[b as usize] & bit(class) != 0
+}
+
+// Runs of digits and blanks are short: a load of sixteen bytes isn't worth it.
+#[inline(always)]
+fn is_long(class: CharClass) -> bool {
+    !matches!(class, CharClass::Digit | CharClass::Blank)
+}
+
+/// How many bytes at the front are ASCII and of the class.
+#[inline(always)]
+pub(crate) fn ascii_run(bytes: &[u8], class: CharClass) -> usize
+    ensures { IsRun (byte_in class) bytes.now result }
+{
+    let mut end = 0;
+    'blocks: while is_long(class) && bytes.len() - end >= LANES {
+        let run = class_run(bytes, end, class);
+        if run < LANES {
+            return end + run;
+        }
+        end += LANES;
+    }
+    'tail: while end < bytes.len() && is_in(bytes[end], class) {
+        end += 1;
+    }
+    end
+}
+
+/// Whether an ASCII byte stands at this place, or nothing does.
+#[inline(always)]
+pub(crate) fn is_cut(bytes: &[u8], at: usize) -> bool
+    ensures { IsTrue result → at < length bytes.now → slice_index bytes.now at < 128 }
+{
+    if at < bytes.len() {
+        bytes[at] < 128
+    } else {
+        true
+    }
+}

@@ -1,0 +1,112 @@
+//! An instant with an offset: read from an RFC 3339 text, compared, and printed.
+//!
+//! **Rule.** The texts are those of RFC 3339 section 5.6, `date-time`. This project's own choices
+//! are: second 60, in any minute, is read as second 59 with its fraction kept; decimals past nine
+//! are cut off; `Z` and a zero offset of either sign are the offset 0; an instant outside the range
+//! of `jiff::Timestamp` is refused; the printed form is the one that [`OffsetTimestamp`] describes.
+//!
+//! **For the floor above.** [`rfc3339`] answers exactly the `IsStampText` of the text's characters,
+//! of which a text has at most one. Display writes `printed_stamp`. Equality and order look at the
+//! instant alone.
+ghost use Rattle.std.proofs.Common.{rules};
+ghost use Rattle.std.specs.Cmp.{partial_order_from_own_ties};
+ghost use Rattle.std.specs.Cmp.Rules.{comparing};
+ghost use Rattle.std.specs.Ordering.{on, int_eq, int_cmp, as_partial_cmp};
+ghost use Rattle.std.specs.Prelude.{MatchOption};
+ghost use Rattle.std.specs.Str.{chars};
+ghost use Rattle.syslog_pieces.specs.Timestamp as spec;
+ghost use Rattle.syslog_pieces.specs.Timestamp.{IsStampText, HasNoStamp};
+ghost use Rattle.syslog_pieces.specs.View.{Reads};
+
+mod digits;
+mod display;
+mod fields;
+#[cfg(test)]
+mod tests;
+mod written;
+
+use crate::text::{CharClass, literal, split_run};
+use jiff::Timestamp;
+use jiff::tz::Offset;
+use std::cmp::Ordering;
+
+/// An instant, and how far the clock that showed it is ahead of UTC.
+///
+/// It prints the civil time at the offset as `YYYY-MM-DDTHH:MM:SS` (a negative year as `-` and four
+/// digits), then a fraction of 0, 3, 6 or 9 decimals, the least that is exact, then the offset as a
+/// sign and `HH:MM`. Zero is `+00:00` and never `Z`. An offset with seconds is rounded to the
+/// nearest minute, 30 seconds going away from zero, and keeps its own sign.
+///
+/// Equality and order look at the instant alone.
+#[derive(Clone, Copy, Debug)]
+pub struct OffsetTimestamp {
+    /// The instant, in nanoseconds.
+    pub instant: Timestamp,
+    /// The offset from UTC, in seconds.
+    pub offset: Offset,
+}
+
+/// The timestamp that the whole text writes, as RFC 3339 section 5.6 has it.
+///
+/// There is none where the text has another form, where the calendar lacks its date or the clock
+/// its time, and where its instant is out of range. It takes no memory.
+pub fn rfc3339(text: &str) -> Option<OffsetTimestamp>
+    ensures { MatchOption result (HasNoStamp (chars text.now)) (IsStampText (chars text.now)) }
+{
+    written::stamp(written::read(text.as_bytes())?)
+}
+
+/// The timestamp at the front of a header's text, absent for `-`, and the text behind it. A text
+/// that begins with `-` is never more than that.
+#[inline(always)]
+pub fn header_stamp(text: &str) -> Option<(Option<OffsetTimestamp>, &str)>
+    ensures { Reads spec.header_stamp (λ s. s) (chars text.now) result }
+{
+    match literal(text, '-') {
+        Some(rest) => return Some((None, rest)),
+        None => {}
+    }
+    let (run, rest) = split_run(text, CharClass::Visible);
+    literal(rest, ' ')?;
+    let stamp = rfc3339(run)?;
+    Some((Some(stamp), rest))
+}
+
+impl PartialEq for OffsetTimestamp {
+    ghost eq = { on (λ s. s.instant.nanosecond) int_eq };
+
+    ghost laws = { Prim.search (comparing, rules) };
+
+    fn eq(&self, other: &OffsetTimestamp) -> bool {
+        self.instant == other.instant
+    }
+}
+
+impl Eq for OffsetTimestamp {
+    ghost laws = { Prim.search (comparing, rules) };
+}
+
+impl Ord for OffsetTimestamp {
+    ghost cmp = { on (λ s. s.instant.nanosecond) int_cmp };
+
+    ghost total = { Prim.search (comparing, rules) };
+
+    ghost matches_partial_cmp = { Prim.search (comparing, rules) };
+
+    ghost matches_eq = { Prim.search (comparing, rules) };
+
+    fn cmp(&self, other: &OffsetTimestamp) -> Ordering {
+        self.instant.cmp(&other.instant)
+    }
+}
+
+impl PartialOrd for OffsetTimestamp {
+    ghost partial_cmp = { as_partial_cmp (on (λ s. s.instant.nanosecond) int_cmp) };
+
+    ghost laws = { partial_order_from_own_ties (Prim.search (comparing, rules))
+        (Prim.search (comparing, rules)) };
+
+    fn partial_cmp(&self, other: &OffsetTimestamp) -> Option<Ordering> {
+        Some(self.cmp(other))
+    }
+}

@@ -1,0 +1,193 @@
+//! Prints a stamp, piece by piece from small arrays of bytes.
+ghost use Rattle.std.specs.Prelude.{◌≡◌, ◌<◌, ◌+◌, Some, unsigned_abs};
+ghost use Rattle.std.specs.Fmt.{WritesOnOk};
+ghost use Rattle.std.specs.List.{AllByRecursion};
+ghost use Rattle.jiff.specs.Words.{IsOffsetSeconds};
+ghost use Rattle.syslog_pieces.specs.Timestamp.Fields.{fields_of};
+ghost use Rattle.syslog_pieces.specs.Timestamp.Printed as spec;
+
+use super::OffsetTimestamp;
+use jiff::civil::DateTime;
+use jiff::tz::Offset;
+use std::{fmt, str};
+
+impl fmt::Display for OffsetTimestamp {
+    ghost output = { λ s. Some (spec.printed_stamp s.instant.nanosecond s.offset.seconds) };
+
+    fn fmt<W: fmt::Write>(&self, f: &mut fmt::Formatter<W>) -> fmt::Result {
+        let dt = self.offset.to_datetime(self.instant);
+        write_stamp(f, dt, self.offset)
+    }
+}
+
+fn write_stamp<W: fmt::Write>(
+    f: &mut fmt::Formatter<W>,
+    dt: DateTime,
+    offset: Offset,
+) -> fmt::Result
+    ensures { WritesOnOk W.write_str_gives f.old result
+        (spec.fields_text (fields_of dt) offset.seconds) f.new }
+{
+    write_date_time(f, dt)?;
+    write_fraction(f, dt.subsec_nanosecond() as u32)?;
+    write_offset(f, offset.seconds())
+}
+
+// `YYYY-MM-DDTHH:MM:SS`, after a `-` where the year is negative.
+#[tactic(auto, unfolding(crate::specs::Timestamp::Printed::date_time_text))]
+#[inline(always)]
+fn write_date_time<W: fmt::Write>(f: &mut fmt::Formatter<W>, dt: DateTime) -> fmt::Result
+    ensures { WritesOnOk W.write_str_gives f.old result (spec.date_time_text (fields_of dt)) f.new }
+{
+    if dt.year() < 0 {
+        f.write_str("-")?;
+    }
+    write_bytes(f, &date_time_bytes(dt))
+}
+
+// Bytes that are ASCII.
+#[inline(always)]
+fn write_bytes<W: fmt::Write>(f: &mut fmt::Formatter<W>, bytes: &[u8]) -> fmt::Result
+    requires { AllByRecursion (λ b. b < 128) bytes.now }
+    ensures { WritesOnOk W.write_str_gives f.old result bytes.now f.new }
+{
+    f.write_str(unsafe { str::from_utf8_unchecked(bytes) })
+}
+
+#[inline(always)]
+fn digit(n: u32) -> u8
+    requires { n < 10 }
+    ensures { result ≡ 48 + n }
+{
+    b'0' + n as u8
+}
+
+// The date and the time of day to the second, without the year's sign.
+#[inline(always)]
+fn date_time_bytes(dt: DateTime) -> [u8; 19]
+    ensures ascii { AllByRecursion (λ b. b < 128) result }
+    ensures text { result ≡ spec.unsigned_date_time (unsigned_abs dt.date.year) dt.date.month
+        dt.date.day dt.time.hour dt.time.minute dt.time.second }
+{
+    bytes_of(
+        u32::from(dt.year().unsigned_abs()),
+        dt.month() as u32,
+        dt.day() as u32,
+        dt.hour() as u32,
+        dt.minute() as u32,
+        dt.second() as u32,
+    )
+}
+
+#[inline(always)]
+fn bytes_of(year: u32, month: u32, day: u32, hour: u32, minute: u32, second: u32) -> [u8; 19]
+    requires year { year < 10_000 }
+    requires month { month < 100 }
+    requires day { day < 100 }
+    requires hour { hour < 100 }
+    requires minute { minute < 100 }
+    requires second { second < 100 }
+    ensures ascii { AllByRecursion (λ b. b < 128) result }
+    ensures text { result ≡ spec.unsigned_date_time year month day hour minute second }
+{
+    let century = year / 100;
+    let year = year % 100;
+    [
+        digit(century / 10),
+        digit(century % 10),
+        digit(year / 10),
+        digit(year % 10),
+        b'-',
+        digit(month / 10),
+        digit(month % 10),
+        b'-',
+        digit(day / 10),
+        digit(day % 10),
+        b'T',
+        digit(hour / 10),
+        digit(hour % 10),
+        b':',
+        digit(minute / 10),
+        digit(minute % 10),
+        b':',
+        digit(second / 10),
+        digit(second % 10),
+    ]
+}
+
+// A dot and the least of 3, 6 or 9 decimals that is exact, or nothing for 0.
+#[tactic(auto, unfolding(crate::specs::Timestamp::Printed::fraction_text))]
+fn write_fraction<W: fmt::Write>(f: &mut fmt::Formatter<W>, nanosecond: u32) -> fmt::Result
+    requires { nanosecond < 1_000_000_000 }
+    ensures { WritesOnOk W.write_str_gives f.old result (spec.fraction_text nanosecond) f.new }
+{
+    if nanosecond == 0 {
+        return Ok(());
+    }
+    let milli = nanosecond / 1_000_000;
+    if nanosecond % 1_000_000 == 0 {
+        return write_bytes(
+            f,
+            &[
+                b'.',
+                digit(milli / 100),
+                digit(milli / 10 % 10),
+                digit(milli % 10),
+            ],
+        );
+    }
+    let micro = nanosecond / 1_000 % 1_000;
+    if nanosecond % 1_000 == 0 {
+        return write_bytes(
+            f,
+            &[
+                b'.',
+                digit(milli / 100),
+                digit(milli / 10 % 10),
+                digit(milli % 10),
+                digit(micro / 100),
+                digit(micro / 10 % 10),
+                digit(micro % 10),
+            ],
+        );
+    }
+    let nano = nanosecond % 1_000;
+    write_bytes(
+        f,
+        &[
+            b'.',
+            digit(milli / 100),
+            digit(milli / 10 % 10),
+            digit(milli % 10),
+            digit(micro / 100),
+            digit(micro / 10 % 10),
+            digit(micro % 10),
+            digit(nano / 100),
+            digit(nano / 10 % 10),
+            digit(nano % 10),
+        ],
+    )
+}
+
+// A sign and `HH:MM`.
+#[tactic(auto, unfolding(crate::specs::Timestamp::Printed::offset_text))]
+fn write_offset<W: fmt::Write>(f: &mut fmt::Formatter<W>, seconds: i32) -> fmt::Result
+    requires { IsOffsetSeconds seconds }
+    ensures { WritesOnOk W.write_str_gives f.old result (spec.offset_text seconds) f.new }
+{
+    let minutes = (seconds.unsigned_abs() + 30) / 60;
+    let hour = minutes / 60;
+    let minute = minutes % 60;
+    let sign = if seconds < 0 { b'-' } else { b'+' };
+    write_bytes(
+        f,
+        &[
+            sign,
+            digit(hour / 10),
+            digit(hour % 10),
+            b':',
+            digit(minute / 10),
+            digit(minute % 10),
+        ],
+    )
+}

@@ -1,0 +1,91 @@
+//! Civil fields as numbers, the datetime that they name, and its instant at an offset.
+ghost use Rattle.std.specs.Prelude.{◌≡◌, ◌<◌, ◌^◌, pos, IsNone, IfSome, SomeIff};
+ghost use Rattle.std.specs.Int.{w16};
+ghost use Rattle.std.specs.Int.RustNames.{FitsSigned};
+ghost use Rattle.jiff.specs.Words.{IsDate, IsYmd, IsTime, IsHms};
+ghost use Rattle.syslog_pieces.specs.Timestamp.{IsAnswer};
+ghost use Rattle.syslog_pieces.specs.Timestamp.Fields.{AreCivil, fields_of, IsStampAt};
+
+use super::OffsetTimestamp;
+use jiff::civil::DateTime;
+use jiff::tz::Offset;
+
+/// A year, month, day, hour, minute, second and nanosecond, of which there may be no such datetime.
+#[derive(Clone, Copy)]
+pub struct CivilFields {
+    pub year: i32,
+    pub month: u32,
+    pub day: u32,
+    pub hour: u32,
+    pub minute: u32,
+    pub second: u32,
+    pub nanosecond: u32,
+}
+
+impl CivilFields {
+    /// The datetime with these fields, if there is one.
+    #[inline(always)]
+    pub fn datetime(self) -> Option<DateTime>
+        ensures value { IfSome result (λ dt. fields_of dt ≡ self) }
+        ensures none { IsNone result → ¬ (AreCivil self) }
+    {
+        let year = year_number(self.year)?;
+        let month = small(self.month)?;
+        let day = small(self.day)?;
+        let hour = small(self.hour)?;
+        let minute = small(self.minute)?;
+        let second = small(self.second)?;
+        let nanosecond = nanosecond_number(self.nanosecond)?;
+        datetime_of(year, month, day, hour, minute, second, nanosecond)
+    }
+}
+
+/// The stamp of the datetime on a clock at this offset, if its instant is in range.
+#[inline(always)]
+pub fn at_offset(dt: DateTime, offset: Offset) -> Option<OffsetTimestamp>
+    ensures { IsAnswer (IsStampAt dt offset) result }
+{
+    match offset.to_timestamp(dt) {
+        Ok(instant) => Some(OffsetTimestamp { instant, offset }),
+        Err(_) => None,
+    }
+}
+
+#[inline(always)]
+fn datetime_of(
+    year: i16,
+    month: i8,
+    day: i8,
+    hour: i8,
+    minute: i8,
+    second: i8,
+    nanosecond: i32,
+) -> Option<DateTime>
+    ensures value { IfSome result
+        (λ dt. IsYmd year month day dt.date × IsHms hour minute second nanosecond dt.time) }
+    ensures none { IsNone result
+        → ¬ (IsDate year month day × IsTime hour minute second nanosecond) }
+{
+    DateTime::new(year, month, day, hour, minute, second, nanosecond).ok()
+}
+
+#[inline(always)]
+fn year_number(n: i32) -> Option<i16>
+    ensures { SomeIff result (FitsSigned w16 n) n }
+{
+    i16::try_from(n).ok()
+}
+
+#[inline(always)]
+fn nanosecond_number(n: u32) -> Option<i32>
+    ensures { SomeIff result (n < 2 ^ 31) (pos n) }
+{
+    i32::try_from(n).ok()
+}
+
+#[inline(always)]
+fn small(n: u32) -> Option<i8>
+    ensures { SomeIff result (n < 128) (pos n) }
+{
+    i8::try_from(n).ok()
+}

@@ -1,0 +1,136 @@
+-- Answers to several lines, one after the other.
+use Rattle.std.proofs.Common.{◌≡◌, ℕ, ℤ, ◌+◌, ◌<◌, cond, List, [], ◌∷◌, ◌++◌, length, length-append, Option, Some, None, Bool, true, false, eqb, Result, Ok, Err, OnOk, OnErr, IfErr, IsErrAnd, refl, sym, ap, ◌∙◌, subst, arith, append_assoc, append-nil, add_assoc, add-zero}
+use Rattle.std.specs.Prelude.{IsUtf8, encode_utf8_all, count_by, is_none}
+use Rattle.std.specs.Str.{chars}
+use Rattle.std.proofs.lemmas.Bool.{eqb-true}
+use Rattle.std.proofs.lemmas.List.{take_all, take_at, nil_from_length}
+use Rattle.std.proofs.lemmas.List.Sums.{sum_by-append}
+use Rattle.std.proofs.lemmas.Slice.Zip.{all_zipped_more}
+use Rattle.std.proofs.lemmas.List.Concat.{flat_map-append}
+use Rattle.syslog_loose.specs.Message.{MessageValue}
+use Rattle.syslog_loose.specs.Printed.{printed}
+use Rattle.syslog_loose.specs.Reading.{IsRead}
+use Rattle.syslog_loose.specs.declared.reading.Variant.TheVariants.{Either}
+use Rattle.syslog_tidy.specs.declared.summary.Summary.{Summary}
+use Rattle.syslog_tidy.specs.Lines.{IsLines, IsFirstLine}
+use Rattle.syslog_tidy.specs.Output.{AddsAnswer, AnswersAll, AnswersFirst, AreAnswers, Counts, IsAnswer, answer_bytes, held_count, output_of}
+use Rattle.syslog_tidy.proofs.LineLemmas.{IsLines-cons, IsLines-nil, some_lines}
+
+-- one line more was counted, and was refused or not
+pub Counts-one : (was is : Summary) (answer : Option (List ℕ)) (refusal : ℕ) → refusal ≡ count_by is_none (answer ∷ []) → is.lines ≡ held_count (was.lines + 1) → is.refused ≡ held_count (was.refused + refusal)
+    → Counts was is (answer ∷ [])
+Counts-one was is answer refusal same more refused = λ lines refusals before. (omega (arith, before.0, more), omega (arith, before.1, refused, same))
+
+Counts-append : (was mid is : Summary) (first second : List (Option (List ℕ))) → Counts was mid first → Counts mid is second → Counts was is (first ++ second)
+Counts-append was mid is first second counted more = λ lines refused before.
+    rw (length-append first second, sum_by-append (λ (answer : Option (List ℕ)). cond (is_none answer) 1 0) first second, ← add_assoc lines (length first) (length second), ← add_assoc refused (count_by is_none first) (count_by is_none second))
+    (more (lines + length first) (refused + count_by is_none first) (counted lines refused before))
+
+-- the text of a line's message was added
+pub AddsAnswer-printed : (year : ℤ) (line old new bytes : List ℕ) (was is : Summary) → IsUtf8 line
+    → (m : MessageValue) × IsRead Either (chars line) m × (bytes ≡ encode_utf8_all (printed m)) → new ≡ old ++ (bytes ++ 10 ∷ []) → is.lines ≡ held_count (was.lines + 1) → is.refused ≡ held_count (was.refused + 0) → AddsAnswer year line old new was is
+AddsAnswer-printed year line old new bytes was is valid read added more refused = record {
+  answer = Some (printed read.0);
+  answered = (valid, (read.0, read.1, refl));
+  added = added ∙ ap (λ (l : List ℕ). old ++ (l ++ 10 ∷ [])) read.2;
+  counted = Counts-one was is (Some (printed read.0)) 0 refl more refused;
+}
+
+-- nothing was added for a line with no text
+pub AddsAnswer-refused : (year : ℤ) (line old : List ℕ) (was is : Summary) → IsAnswer year line None → is.lines ≡ held_count (was.lines + 1) → is.refused ≡ held_count (was.refused + 1)
+    → AddsAnswer year line old old was is
+AddsAnswer-refused year line old was is answered more refused = record {
+  answer = None;
+  answered = answered;
+  added = sym (append-nil old);
+  counted = Counts-one was is None 1 refl more refused;
+}
+
+-- the first lines of some bytes were answered, and the rest holds the other lines
+pub record AnswersSoFar (year : ℤ) (bytes rest old new : List ℕ) (was is : Summary) : Type 0 where
+  pub lines : List (List ℕ)
+  pub answers : List (Option (List ℕ))
+  pub goes_on : (more : List (List ℕ)) → IsLines rest more → IsLines bytes (lines ++ more)
+  pub answered : AreAnswers year lines answers
+  pub added : new ≡ old ++ output_of answers
+  pub counted : Counts was is answers
+
+pub AnswersSoFar-start : (year : ℤ) (bytes old : List ℕ) (was : Summary) → AnswersSoFar year bytes bytes old old was was
+AnswersSoFar-start year bytes old was = record {
+  lines = [];
+  answers = [];
+  goes_on = λ more cut. cut;
+  answered = tt;
+  added = sym (append-nil old);
+  counted = λ lines refused before. rw (add-zero lines, add-zero refused) before;
+}
+
+-- one line more
+pub AnswersSoFar-more : (year : ℤ) (bytes rest line after old mid new : List ℕ) (was then is : Summary) → 0 < length rest → IsFirstLine rest line after
+    → AnswersSoFar year bytes rest old mid was then → AddsAnswer year line mid new then is → AnswersSoFar year bytes after old new was is
+AnswersSoFar-more year bytes rest line after old mid new was then is some first before adds = record {
+  lines = before.lines ++ line ∷ [];
+  answers = before.answers ++ adds.answer ∷ [];
+  goes_on = λ more cut. subst (IsLines bytes) (sym (append_assoc before.lines (line ∷ []) more)) (before.goes_on (line ∷ more) (IsLines-cons rest line after more some first cut));
+  answered = all_zipped_more (IsAnswer year) before.lines before.answers line adds.answer before.answered adds.answered;
+  added = adds.added ∙ ap (λ (l : List ℕ). l ++ answer_bytes adds.answer) before.added ∙ append_assoc old (output_of before.answers) (answer_bytes adds.answer)
+      ∙ ap (λ (l : List ℕ). old ++ l) (sym (flat_map-append answer_bytes before.answers (adds.answer ∷ []) ∙ ap (λ (l : List ℕ). output_of before.answers ++ l) (append-nil (answer_bytes adds.answer))));
+  counted = Counts-append was then is before.answers (adds.answer ∷ []) before.counted adds.counted;
+}
+
+-- no line is left
+pub AnswersAll-end : (year y : ℤ) (bytes rest old new : List ℕ) (was is : Summary) → y ≡ year → length rest ≡ 0 → AnswersSoFar y bytes rest old new was is → AnswersAll year bytes old new was is
+AnswersAll-end year y bytes rest old new was is same none so_far =
+    let before = subst (λ (z : ℤ). AnswersSoFar z bytes rest old new was is) same so_far in record {
+      lines = before.lines;
+      answers = before.answers;
+      cut = subst (IsLines bytes) (append-nil before.lines) (before.goes_on [] (subst (λ (l : List ℕ). IsLines l []) (sym (nil_from_length rest none)) IsLines-nil));
+      answered = before.answered;
+      added = before.added;
+      counted = before.counted;
+    }
+
+-- the lines that are left have no answer, and nothing was added for them
+pub AnswersFirst-end : (year y : ℤ) (bytes rest old mid new : List ℕ) (was is : Summary) → y ≡ year → new ≡ mid → AnswersSoFar y bytes rest old mid was is → AnswersFirst year bytes old new
+AnswersFirst-end year y bytes rest old mid new was is same kept so_far =
+    let before = subst (λ (z : ℤ). AnswersSoFar z bytes rest old mid was is) same so_far in
+    let left = some_lines rest in record {
+      lines = before.lines ++ left.0;
+      count = length before.lines;
+      answers = before.answers;
+      cut = before.goes_on left.0 left.1;
+      answered = subst (λ (l : List (List ℕ)). AreAnswers year l before.answers) (sym (take_at before.lines left.0 (length before.lines) refl)) before.answered;
+      added = kept ∙ before.added;
+    }
+
+pub OnErr-any : {X E : Type 0} (r : Result X E) (P : Type 0) → P → OnErr r P
+OnErr-any (Ok x) P p = tt
+OnErr-any (Err e) P p = p
+
+-- the test that stands before a line
+pub some_left : (rest : List ℕ) (empty : Bool) → empty ≡ eqb (length rest) 0 → empty ≡ false → 0 < length rest
+some_left [] empty is not_empty = cc
+some_left (byte ∷ rest) empty is not_empty = omega arith
+
+pub none_left : (rest : List ℕ) (empty : Bool) → empty ≡ eqb (length rest) 0 → empty ≡ true → length rest ≡ 0
+none_left rest empty is is_empty = eqb-true (length rest) 0 (sym is ∙ is_empty)
+
+-- all answers are also those to the first lines
+pub AnswersFirst-all : (year : ℤ) (bytes old new : List ℕ) (was is : Summary) → AnswersAll year bytes old new was is → AnswersFirst year bytes old new
+AnswersFirst-all year bytes old new was is all = record {
+  lines = all.lines;
+  count = length all.lines;
+  answers = all.answers;
+  cut = all.cut;
+  answered = subst (λ (l : List (List ℕ)). AreAnswers year l all.answers) (sym (take_all (length all.lines) all.lines (omega arith))) all.answered;
+  added = all.added;
+}
+
+pub AnswersFirst-either : {X E : Type 0} (r : Result X E) (year : ℤ) (bytes old new : List ℕ) (was is : Summary) → OnOk r (AnswersAll year bytes old new was is) → OnErr r (AnswersFirst year bytes old new) → AnswersFirst year bytes old new
+AnswersFirst-either (Ok x) year bytes old new was is all first = AnswersFirst-all year bytes old new was is all
+AnswersFirst-either (Err e) year bytes old new was is all first = first
+
+-- an error that was passed on by `?`
+pub IfErr-passed : {X E : Type 0} (r : Result X E) (e : E) (P : E → Type 0) → IsErrAnd r (λ y. y ≡ e) → P e → IfErr r P
+IfErr-passed (Ok x) e P is p = tt
+IfErr-passed (Err y) e P is p = subst P (sym is) p

@@ -1,0 +1,6 @@
+pub mod LaneLemmas
+pub mod LineLemmas
+pub mod AnswerLemmas
+pub mod BlockLemmas
+pub mod WriteLemmas
+pub mod RunLemmas
