@@ -1,5 +1,5 @@
 -- The bytes of printed messages.
-use Rattle.std.proofs.Common.{◌≡◌, ℕ, ◌<◌, List, [], ◌∷◌, ◌++◌, length, refl, sym, ap, ◌∙◌, arith}
+use Rattle.std.proofs.Common.{◌≡◌, ℕ, ◌<◌, List, [], ◌∷◌, ◌++◌, append_assoc, length, refl, sym, ap, ◌∙◌, arith}
 use Rattle.std.proofs.lemmas.Str.{encodes-append}
 use Rattle.std.specs.Char.{encode_utf8}
 use Rattle.std.specs.Fmt.{decimal}
@@ -7,7 +7,7 @@ use Rattle.std.specs.Str.{encode_utf8_all}
 use Rattle.syslog_pieces.specs.Class.{Text}
 use Rattle.syslog_pieces.specs.Element.{ElementValue}
 use Rattle.syslog_pieces.proofs.DecimalLemmas.{encodes-decimal}
-use Rattle.syslog_loose.specs.Printed.{elements_text, joined_elements, spaced_elements}
+use Rattle.syslog_loose.specs.Printed.{joined_elements, spaced_elements}
 
 -- a text, a space and more
 spaced : (t r : Text) (b : List ℕ) → encode_utf8_all r ≡ b → encode_utf8_all (t ++ (32 ∷ r)) ≡ encode_utf8_all t ++ (32 ∷ b)
@@ -30,14 +30,26 @@ encodes_5424 pri version stamp host app process id elements msg m e =
     let versioned = numbered version _ _ (ap (λ (x : List ℕ). 32 ∷ x) fields) in
     ap (λ (x : List ℕ). 60 ∷ x) (numbered pri _ _ (ap (λ (x : List ℕ). 62 ∷ x) versioned))
 
--- what is written is the encoded text
+-- the writes of a message of RFC 5424, joined
+joined_5424 : (pri version stamp host app process id elements msg : List ℕ)
+    → (60 ∷ (pri ++ (62 ∷ version))) ++ (((32 ∷ stamp) ++ (32 ∷ host)) ++ (((32 ∷ app) ++ ((32 ∷ process) ++ (32 ∷ id))) ++ ((32 ∷ elements) ++ (32 ∷ msg))))
+    ≡ 60 ∷ (pri ++ (62 ∷ (version ++ (32 ∷ (stamp ++ (32 ∷ (host ++ (32 ∷ (app ++ (32 ∷ (process ++ (32 ∷ (id ++ (32 ∷ (elements ++ (32 ∷ msg))))))))))))))))
+joined_5424 pri version stamp host app process id elements msg =
+    let rest : List ℕ = (32 ∷ elements) ++ (32 ∷ msg) in
+    let program : List ℕ = (32 ∷ app) ++ ((32 ∷ process) ++ (32 ∷ id)) in
+    let programs = append_assoc (32 ∷ app) ((32 ∷ process) ++ (32 ∷ id)) rest ∙ ap (λ (x : List ℕ). 32 ∷ (app ++ x)) (append_assoc (32 ∷ process) (32 ∷ id) rest) in
+    let origins = append_assoc (32 ∷ stamp) (32 ∷ host) (program ++ rest) ∙ ap (λ (x : List ℕ). 32 ∷ (stamp ++ (32 ∷ (host ++ x)))) programs in
+    append_assoc (60 ∷ pri) (62 ∷ version) (((32 ∷ stamp) ++ (32 ∷ host)) ++ (program ++ rest)) ∙ ap (λ (x : List ℕ). 60 ∷ (pri ++ (62 ∷ (version ++ x)))) origins
+
+-- what is written, field by field, is the encoded text
 pub written_5424 : (pri priority version : ℕ) (stamp host app process id shown elements msg : Text) (m : List ℕ) → pri ≡ priority → shown ≡ elements → encode_utf8_all msg ≡ m
-    → 60 ∷ (decimal pri ++ (62 ∷ (decimal version ++ (32 ∷ (encode_utf8_all stamp ++ (32 ∷ (encode_utf8_all host ++ (32 ∷ (encode_utf8_all app
-    ++ (32 ∷ (encode_utf8_all process ++ (32 ∷ (encode_utf8_all id ++ (32 ∷ (encode_utf8_all shown ++ (32 ∷ m))))))))))))))))
+    → (60 ∷ (decimal pri ++ (62 ∷ decimal version))) ++ (((32 ∷ encode_utf8_all stamp) ++ (32 ∷ encode_utf8_all host))
+    ++ (((32 ∷ encode_utf8_all app) ++ ((32 ∷ encode_utf8_all process) ++ (32 ∷ encode_utf8_all id))) ++ ((32 ∷ encode_utf8_all shown) ++ (32 ∷ m))))
     ≡ encode_utf8_all (60 ∷ (decimal priority ++ (62 ∷ (decimal version ++ (32 ∷ (stamp ++ (32 ∷ (host ++ (32 ∷ (app ++ (32 ∷ (process
     ++ (32 ∷ (id ++ (32 ∷ (elements ++ (32 ∷ msg)))))))))))))))))
 written_5424 pri priority version stamp host app process id shown elements msg m e f h =
-    rw (e, f) (sym (encodes_5424 priority version stamp host app process id elements msg m h))
+    rw (e, f) (joined_5424 (decimal priority) (decimal version) (encode_utf8_all stamp) (encode_utf8_all host) (encode_utf8_all app) (encode_utf8_all process) (encode_utf8_all id)
+    (encode_utf8_all elements) m ∙ sym (encodes_5424 priority version stamp host app process id elements msg m h))
 
 -- `app: `
 pub encodes_tag : (app : Text) (a : List ℕ) → encode_utf8_all app ≡ a → encode_utf8_all (app ++ (58 ∷ 32 ∷ [])) ≡ a ++ (58 ∷ 32 ∷ [])
@@ -62,19 +74,21 @@ encodes_3164 pri stamp host tag elements msg m e =
     let tagged = encodes-append tag (elements ++ msg) ∙ ap (λ (x : List ℕ). encode_utf8_all tag ++ x) (encodes-append elements msg ∙ ap (λ (x : List ℕ). encode_utf8_all elements ++ x) e) in
     ap (λ (x : List ℕ). 60 ∷ x) (numbered pri _ _ (ap (λ (x : List ℕ). 62 ∷ 32 ∷ x) (spaced stamp _ _ (spaced host _ _ tagged))))
 
+-- the writes of a message of RFC 3164, joined
+joined_3164 : (pri stamp host tag elements msg : List ℕ)
+    → (60 ∷ (pri ++ (62 ∷ []))) ++ (((32 ∷ stamp) ++ (32 ∷ host)) ++ ((32 ∷ tag) ++ (elements ++ msg)))
+    ≡ 60 ∷ (pri ++ (62 ∷ 32 ∷ (stamp ++ (32 ∷ (host ++ (32 ∷ (tag ++ (elements ++ msg))))))))
+joined_3164 pri stamp host tag elements msg = simp append_assoc refl
+
 pub written_3164 : (pri priority : ℕ) (stamp host tag shown elements msg : Text) (m : List ℕ) → pri ≡ priority → shown ≡ elements → encode_utf8_all msg ≡ m
-    → 60 ∷ (decimal pri ++ (62 ∷ 32 ∷ (encode_utf8_all stamp ++ (32 ∷ (encode_utf8_all host ++ (32 ∷ (encode_utf8_all tag ++ (encode_utf8_all shown ++ m))))))))
+    → (60 ∷ (decimal pri ++ (62 ∷ []))) ++ (((32 ∷ encode_utf8_all stamp) ++ (32 ∷ encode_utf8_all host)) ++ ((32 ∷ encode_utf8_all tag) ++ (encode_utf8_all shown ++ m)))
     ≡ encode_utf8_all (60 ∷ (decimal priority ++ (62 ∷ 32 ∷ (stamp ++ (32 ∷ (host ++ (32 ∷ (tag ++ (elements ++ msg)))))))))
 written_3164 pri priority stamp host tag shown elements msg m e f h =
-    rw (e, f) (sym (encodes_3164 priority stamp host tag elements msg m h))
+    rw (e, f) (joined_3164 (decimal priority) (encode_utf8_all stamp) (encode_utf8_all host) (encode_utf8_all tag) (encode_utf8_all elements) m
+    ∙ sym (encodes_3164 priority stamp host tag elements msg m h))
 
--- elements that are there
-pub elements_there : (es : List ElementValue) → 0 < length es → elements_text es ≡ joined_elements es
-elements_there [] h = absurd (omega arith)
-elements_there (e ∷ es) h = refl
-
--- and a space behind them
-pub encodes_spaced : (es : List ElementValue) → 0 < length es → encode_utf8_all (spaced_elements es) ≡ encode_utf8_all (elements_text es) ++ (32 ∷ [])
+-- elements that are there, and a space behind them
+pub encodes_spaced : (es : List ElementValue) → 0 < length es → encode_utf8_all (spaced_elements es) ≡ encode_utf8_all (joined_elements es) ++ (32 ∷ [])
 unfolding encode_utf8
 encodes_spaced [] h = absurd (omega arith)
 encodes_spaced (e ∷ es) h = encodes-append (joined_elements (e ∷ es)) (32 ∷ [])

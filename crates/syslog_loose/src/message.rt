@@ -1,16 +1,19 @@
 //! The message: its fields, and its printed text.
-ghost use Rattle.std.specs.Prelude.{◌≡◌, ◌+◌, ◌*◌, Some, map};
+ghost use Rattle.std.specs.Prelude.{◌≡◌, ◌+◌, ◌*◌, ◌++◌, ◌∷◌, Some};
 ghost use Rattle.std.specs.Option.{option_map, option_map_or};
 ghost use Rattle.std.specs.Fmt.{WritesOnOk};
 ghost use Rattle.std.specs.Str.{encode_utf8_all};
 ghost use Rattle.syslog_pieces.specs.Pri.{facility_number, severity_number};
+ghost use Rattle.syslog_pieces.specs.ProcId.{procid_value};
 ghost use Rattle.syslog_pieces.specs.View.{text_of};
 ghost use Rattle.syslog_loose.specs.Message.{message_value};
 ghost use Rattle.syslog_loose.specs.Printed as spec;
 
 mod printing;
 
-use printing::{Elements, Name, Process, SpacedElements, Stamp, Tag};
+use printing::{
+    write_elements, write_elements_before, write_name, write_process, write_tag, write_timestamp,
+};
 use std::fmt;
 use syslog_pieces::as_str::AsStr;
 use syslog_pieces::pri::{SyslogFacility, SyslogSeverity};
@@ -88,17 +91,50 @@ fn write_rfc5424<S: AsStr, W: fmt::Write>(
         (encode_utf8_all (spec.printed_5424 version (message_value (text_of S.text) message.now))) f.new }
 {
     let priority = priority(message.facility, message.severity);
-    let stamp = Stamp(message.timestamp);
-    let host = Name(&message.hostname);
-    let app = Name(&message.appname);
-    let process = Process(&message.procid);
-    let id = Name(&message.msgid);
-    let elements = Elements(&message.structured_data);
     let msg = message.msg.as_str();
-    write!(
-        f,
-        "<{priority}>{version} {stamp} {host} {app} {process} {id} {elements} {msg}"
-    )
+    write!(f, "<{priority}>{version}")?;
+    write_origin(f, message)?;
+    write_program(f, message)?;
+    write_elements(f, &message.structured_data)?;
+    write_spaced(f, msg)
+}
+
+// Writes the timestamp and the host, each behind a space.
+#[inline]
+fn write_origin<S: AsStr, W: fmt::Write>(
+    f: &mut fmt::Formatter<W>,
+    message: &Message<S>,
+) -> fmt::Result
+    ensures { WritesOnOk W.write_str_gives f.old result ((32 ∷ encode_utf8_all (spec.timestamp_text message.now.timestamp))
+        ++ (32 ∷ encode_utf8_all (spec.name_text (option_map (text_of S.text) message.now.hostname)))) f.new }
+{
+    write_timestamp(f, message.timestamp)?;
+    write_name(f, &message.hostname)
+}
+
+// Writes the app name, the process id and the message id, each behind a space.
+#[inline]
+fn write_program<S: AsStr, W: fmt::Write>(
+    f: &mut fmt::Formatter<W>,
+    message: &Message<S>,
+) -> fmt::Result
+    ensures { WritesOnOk W.write_str_gives f.old result
+        ((32 ∷ encode_utf8_all (spec.name_text (option_map (text_of S.text) message.now.appname)))
+        ++ ((32 ∷ encode_utf8_all (spec.process_text (option_map (procid_value (text_of S.text)) message.now.procid)))
+        ++ (32 ∷ encode_utf8_all (spec.name_text (option_map (text_of S.text) message.now.msgid))))) f.new }
+{
+    write_name(f, &message.appname)?;
+    write_process(f, &message.procid)?;
+    write_name(f, &message.msgid)
+}
+
+// Writes a space and a text.
+#[inline]
+fn write_spaced<W: fmt::Write>(f: &mut fmt::Formatter<W>, text: &str) -> fmt::Result
+    ensures { WritesOnOk W.write_str_gives f.old result (32 ∷ text.now) f.new }
+{
+    f.write_str(" ")?;
+    f.write_str(text)
 }
 
 fn write_rfc3164<S: AsStr, W: fmt::Write>(
@@ -109,13 +145,10 @@ fn write_rfc3164<S: AsStr, W: fmt::Write>(
         (encode_utf8_all (spec.printed_3164 (message_value (text_of S.text) message.now))) f.new }
 {
     let priority = priority(message.facility, message.severity);
-    let stamp = Stamp(message.timestamp);
-    let host = Name(&message.hostname);
-    let tag = Tag {
-        app: &message.appname,
-        process: &message.procid,
-    };
-    let elements = SpacedElements(&message.structured_data);
     let msg = message.msg.as_str();
-    write!(f, "<{priority}> {stamp} {host} {tag}{elements}{msg}")
+    write!(f, "<{priority}>")?;
+    write_origin(f, message)?;
+    write_tag(f, &message.appname, &message.procid)?;
+    write_elements_before(f, &message.structured_data)?;
+    f.write_str(msg)
 }

@@ -32,7 +32,7 @@ impl<S: AsStr> fmt::Display for ProcId<S> {
             ProcId::PID(number) => write!(f, "{number}"),
             ProcId::Name(name) => {
                 let name = name.as_str();
-                write!(f, "{name}")
+                f.write_str(name)
             }
         }
     }

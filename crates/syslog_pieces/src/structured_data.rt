@@ -2,7 +2,8 @@
 //!
 //! An element is read as it stands: values stay raw, and `StructuredElement::params` takes the escapes out. Recognising
 //! an element or a list takes no memory, and time in proportion to the text; collecting it takes memory.
-ghost use Rattle.std.specs.Prelude.{◌≡◌, Some};
+ghost use Rattle.std.specs.Prelude.{◌≡◌, ◌++◌, [], ◌∷◌, Some};
+ghost use Rattle.std.specs.Fmt.{WritesOnOk};
 ghost use Rattle.std.specs.Str.{encode_utf8_all};
 ghost use Rattle.syslog_pieces.specs.Element.{element_text, element_value};
 ghost use Rattle.syslog_pieces.specs.View.{text_of};
@@ -48,12 +49,25 @@ impl<S: AsStr> fmt::Display for StructuredElement<S> {
 
     fn fmt<W: fmt::Write>(&self, f: &mut fmt::Formatter<W>) -> fmt::Result {
         let id = self.id.as_str();
-        write!(f, "[{id}")?;
+        f.write_str("[")?;
+        f.write_str(id)?;
         for (name, value) in &self.params {
             let name = name.as_str();
             let value = value.as_str();
-            write!(f, " {name}=\"{value}\"")?;
+            write_param(f, name, value)?;
         }
-        write!(f, "]")
+        f.write_str("]")
     }
+}
+
+// A space, the name, and the value between quotes.
+#[inline]
+fn write_param<W: fmt::Write>(f: &mut fmt::Formatter<W>, name: &str, value: &str) -> fmt::Result
+    ensures { WritesOnOk W.write_str_gives f.old result (32 ∷ (name.now ++ (61 ∷ 34 ∷ (value.now ++ (34 ∷ []))))) f.new }
+{
+    f.write_str(" ")?;
+    f.write_str(name)?;
+    f.write_str("=\"")?;
+    f.write_str(value)?;
+    f.write_str("\"")
 }

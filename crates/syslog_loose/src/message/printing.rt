@@ -1,5 +1,6 @@
-//! The parts of a printed message: each prints a field, or `-` where it is absent.
-ghost use Rattle.std.specs.Prelude.{◌≡◌, Some, map};
+//! The parts of a printed message. Each field is written behind a space, and as `-` where it is absent.
+ghost use Rattle.std.specs.Prelude.{◌∷◌, map};
+ghost use Rattle.std.specs.Fmt.{WritesOnOk};
 ghost use Rattle.std.specs.Option.{option_map};
 ghost use Rattle.std.specs.Str.{encode_utf8_all};
 ghost use Rattle.syslog_pieces.specs.Element.{element_value};
@@ -8,113 +9,127 @@ ghost use Rattle.syslog_pieces.specs.View.{text_of};
 ghost use Rattle.syslog_loose.specs.Printed as spec;
 
 use std::fmt;
+use std::fmt::Display;
 use syslog_pieces::as_str::AsStr;
 use syslog_pieces::procid::ProcId;
 use syslog_pieces::structured_data::StructuredElement;
 use syslog_pieces::timestamp::OffsetTimestamp;
 
-/// A name.
-#[derive(Drop)]
-pub(crate) struct Name<'a, S>(pub(crate) &'a Option<S>);
-
-impl<S: AsStr> fmt::Display for Name<'_, S> {
-    ghost output = { λ it. Some (encode_utf8_all (spec.name_text (option_map (text_of S.text) it.0.now))) };
-
-    fn fmt<W: fmt::Write>(&self, f: &mut fmt::Formatter<W>) -> fmt::Result {
-        match self.0 {
-            Some(name) => {
-                let name = name.as_str();
-                write!(f, "{name}")
-            }
-            None => write!(f, "-"),
+/// Writes a space and a name.
+#[inline]
+pub(crate) fn write_name<S: AsStr, W: fmt::Write>(
+    f: &mut fmt::Formatter<W>,
+    name: &Option<S>,
+) -> fmt::Result
+    ensures { WritesOnOk W.write_str_gives f.old result
+        (32 ∷ encode_utf8_all (spec.name_text (option_map (text_of S.text) name.now))) f.new }
+{
+    match name {
+        Some(name) => {
+            let name = name.as_str();
+            f.write_str(" ")?;
+            f.write_str(name)
         }
+        None => f.write_str(" -"),
     }
 }
 
-/// A timestamp.
-#[derive(Clone, Copy)]
-pub(crate) struct Stamp(pub(crate) Option<OffsetTimestamp>);
-
-impl fmt::Display for Stamp {
-    ghost output = { λ it. Some (encode_utf8_all (spec.timestamp_text it.0)) };
-
-    fn fmt<W: fmt::Write>(&self, f: &mut fmt::Formatter<W>) -> fmt::Result {
-        match self.0 {
-            Some(stamp) => write!(f, "{stamp}"),
-            None => write!(f, "-"),
+/// Writes a space and a timestamp.
+#[inline]
+pub(crate) fn write_timestamp<W: fmt::Write>(
+    f: &mut fmt::Formatter<W>,
+    timestamp: Option<OffsetTimestamp>,
+) -> fmt::Result
+    ensures { WritesOnOk W.write_str_gives f.old result (32 ∷ encode_utf8_all (spec.timestamp_text timestamp)) f.new }
+{
+    match timestamp {
+        Some(stamp) => {
+            f.write_str(" ")?;
+            stamp.fmt(f)
         }
+        None => f.write_str(" -"),
     }
 }
 
-/// A process id.
-#[derive(Drop)]
-pub(crate) struct Process<'a, S>(pub(crate) &'a Option<ProcId<S>>);
-
-impl<S: AsStr> fmt::Display for Process<'_, S> {
-    ghost output = { λ it. Some (encode_utf8_all (spec.process_text (option_map (procid_value (text_of S.text)) it.0.now))) };
-
-    fn fmt<W: fmt::Write>(&self, f: &mut fmt::Formatter<W>) -> fmt::Result {
-        match self.0 {
-            Some(process) => write!(f, "{process}"),
-            None => write!(f, "-"),
+/// Writes a space and a process id.
+#[inline]
+pub(crate) fn write_process<S: AsStr, W: fmt::Write>(
+    f: &mut fmt::Formatter<W>,
+    process: &Option<ProcId<S>>,
+) -> fmt::Result
+    ensures { WritesOnOk W.write_str_gives f.old result
+        (32 ∷ encode_utf8_all (spec.process_text (option_map (procid_value (text_of S.text)) process.now))) f.new }
+{
+    match process {
+        Some(process) => {
+            f.write_str(" ")?;
+            process.fmt(f)
         }
+        None => f.write_str(" -"),
     }
 }
 
-/// The elements one after the other, or `-` where there are none.
-#[derive(Drop)]
-pub(crate) struct Elements<'a, S>(pub(crate) &'a [StructuredElement<S>]);
-
-impl<S: AsStr> fmt::Display for Elements<'_, S> {
-    ghost output = { λ it. Some (encode_utf8_all (spec.elements_text (map (element_value (text_of S.text)) it.0.now))) };
-
-    fn fmt<W: fmt::Write>(&self, f: &mut fmt::Formatter<W>) -> fmt::Result {
-        let elements = self.0;
-        if elements.is_empty() {
-            return write!(f, "-");
-        }
-        for element in elements {
-            write!(f, "{element}")?;
-        }
-        Ok(())
+/// Writes a space and the elements one after the other.
+#[inline]
+pub(crate) fn write_elements<S: AsStr, W: fmt::Write>(
+    f: &mut fmt::Formatter<W>,
+    elements: &[StructuredElement<S>],
+) -> fmt::Result
+    ensures { WritesOnOk W.write_str_gives f.old result
+        (32 ∷ encode_utf8_all (spec.elements_text (map (element_value (text_of S.text)) elements.now))) f.new }
+{
+    if elements.is_empty() {
+        return f.write_str(" -");
     }
+    f.write_str(" ")?;
+    write_joined(f, elements)
 }
 
-/// The elements and a space, or nothing where there are none.
-#[derive(Drop)]
-pub(crate) struct SpacedElements<'a, S>(pub(crate) &'a [StructuredElement<S>]);
-
-impl<S: AsStr> fmt::Display for SpacedElements<'_, S> {
-    ghost output = { λ it. Some (encode_utf8_all (spec.spaced_elements (map (element_value (text_of S.text)) it.0.now))) };
-
-    fn fmt<W: fmt::Write>(&self, f: &mut fmt::Formatter<W>) -> fmt::Result {
-        let elements = self.0;
-        if elements.is_empty() {
-            return Ok(());
-        }
-        let elements = Elements(elements);
-        write!(f, "{elements} ")
+// Writes the elements one after the other.
+#[inline]
+fn write_joined<S: AsStr, W: fmt::Write>(
+    f: &mut fmt::Formatter<W>,
+    elements: &[StructuredElement<S>],
+) -> fmt::Result
+    ensures { WritesOnOk W.write_str_gives f.old result
+        (encode_utf8_all (spec.joined_elements (map (element_value (text_of S.text)) elements.now))) f.new }
+{
+    for element in elements {
+        element.fmt(f)?;
     }
+    Ok(())
 }
 
-/// The app name and the process id of RFC 3164, and what ends them.
-#[derive(Drop)]
-pub(crate) struct Tag<'a, S> {
-    pub(crate) app: &'a Option<S>,
-    pub(crate) process: &'a Option<ProcId<S>>,
+/// Writes the elements and a space behind them, or nothing where there are none.
+pub(crate) fn write_elements_before<S: AsStr, W: fmt::Write>(
+    f: &mut fmt::Formatter<W>,
+    elements: &[StructuredElement<S>],
+) -> fmt::Result
+    ensures { WritesOnOk W.write_str_gives f.old result
+        (encode_utf8_all (spec.spaced_elements (map (element_value (text_of S.text)) elements.now))) f.new }
+{
+    if elements.is_empty() {
+        return Ok(());
+    }
+    write_joined(f, elements)?;
+    f.write_str(" ")
 }
 
-impl<S: AsStr> fmt::Display for Tag<'_, S> {
-    ghost output = { λ it. Some (encode_utf8_all (spec.tag_text (option_map (text_of S.text) it.app.now) (option_map (procid_value (text_of S.text)) it.process.now))) };
-
-    fn fmt<W: fmt::Write>(&self, f: &mut fmt::Formatter<W>) -> fmt::Result {
-        let Some(app) = self.app else {
-            return write!(f, ": ");
-        };
-        let app = app.as_str();
-        match self.process {
-            Some(process) => write!(f, "{app}[{process}]: "),
-            None => write!(f, "{app}: "),
-        }
+/// Writes a space, the app name and the process id as RFC 3164 does, and what ends them.
+pub(crate) fn write_tag<S: AsStr, W: fmt::Write>(
+    f: &mut fmt::Formatter<W>,
+    app: &Option<S>,
+    process: &Option<ProcId<S>>,
+) -> fmt::Result
+    ensures { WritesOnOk W.write_str_gives f.old result
+        (32 ∷ encode_utf8_all (spec.tag_text (option_map (text_of S.text) app.now) (option_map (procid_value (text_of S.text)) process.now))) f.new }
+{
+    let Some(app) = app else {
+        return f.write_str(" : ");
+    };
+    let app = app.as_str();
+    match process {
+        Some(process) => write!(f, " {app}[{process}]: "),
+        None => write!(f, " {app}: "),
     }
 }

@@ -1,5 +1,5 @@
-use Rattle.std.proofs.Common.{ap, map, append_assoc}
-use Rattle.std.proofs.Output.{has_written_of_eq}
+use Rattle.std.proofs.Common.{ap, map, refl}
+use Rattle.std.proofs.lemmas.Grind.{put_five}
 use Rattle.syslog_pieces.specs.Element.{element_value}
 use Rattle.syslog_pieces.specs.View.{text_of}
 use Rattle.syslog_pieces.proofs.PrintLemmas.{encodes_shown}
@@ -16,8 +16,11 @@ returns g c plain ok =
     let value = message_value text m in
     let msg = encodes_shown c.as_str-msg.result.now (g.S.AsStr.text m.msg) c.as_str-msg.utf8 c.as_str-msg.ensures in
     let elements = ap (λ es. elements_text (map (element_value text) es)) c.deref.ensures.value in
-    let written = simp append_assoc at (c.write.ensures.writes plain ok) in
-    has_written_of_eq _ _ _ _ _
+    let front = c.in_ok-write.ensures.writes plain refl in
+    let origin = c.in_ok-write_origin.ensures front.plain refl in
+    let program = c.in_ok-write_program.ensures origin.plain refl in
+    let listed = c.in_ok-write_elements.ensures program.plain refl in
+    let rest = c.write_spaced.ensures listed.plain ok in
+    put_five _ _ _ _ _ _ _ _ _ _ _ _ _ front origin program listed rest
     (written_5424 _ (priority_of value) c.args.version (timestamp_text value.timestamp) (name_text value.hostname) (name_text value.appname) (process_text value.procid) (name_text value.msgid)
     (elements_text (map (element_value text) c.deref.result.now)) (elements_text value.structured_data) value.msg c.as_str-msg.result.now c.priority-priority.ensures elements msg)
-    written

@@ -13,4 +13,4 @@ pub returns-in-Name-clause-writes : goal.returns-in-Name-clause-writes
 returns-in-Name-clause-writes g c plain ok =
     let bytes = c.as_str-name.result.now in
     let same = sym (encodes-chars bytes c.as_str-name.utf8) ∙ ap (λ (x : List ℕ). encode_utf8_all (chars x)) c.as_str-name.ensures in
-    rw c.in-Name.is (has_written_of_eq _ _ _ _ _ same (c.write-in-Name.ensures.writes plain ok))
+    rw c.in-Name.is (has_written_of_eq _ _ _ _ _ same (c.write_str.ensures.writes plain ok))

@@ -1,5 +1,4 @@
 use Rattle.std.proofs.Common.{refl, ◌∙◌, ap, sym, [], ◌∷◌, ◌++◌, append_assoc}
-use Rattle.std.proofs.Output.{has_written_of_eq}
 use Rattle.std.proofs.lemmas.Grind.{put_two}
 use Rattle.std.proofs.lemmas.List.{take_all}
 use Rattle.std.specs.List.{flat_map}
@@ -12,7 +11,8 @@ use Rattle.syslog_pieces.proofs.structured_data.StructuredElementDisplay.fmt.Goa
 pub loop-name-init : goal.loop-name-init
 loop-name-init g c = λ plain.
     let id = encodes_shown c.as_str-id.result.now _ c.as_str-id.utf8 c.as_str-id.ensures in
-    has_written_of_eq _ _ _ _ _ (sym (encodes_opening _ _ id)) (c.in_ok-write.ensures.writes plain refl)
+    let bracket = c.in_ok-write_str.ensures.writes plain refl in
+    put_two _ _ _ _ _ _ _ bracket (c.in_ok-write_str-2.ensures.writes bracket.plain refl) (sym (encodes_opening _ _ id))
 
 pub loop-name-preserved : goal.loop-name-preserved
 loop-name-preserved g c = λ plain.
@@ -20,7 +20,7 @@ loop-name-preserved g c = λ plain.
     let item = c.loop-name-item.result in
     let name = encodes_shown c.as_str-name.result.now (g.S.AsStr.text item.0) c.as_str-name.utf8 c.as_str-name.ensures in
     let value = encodes_shown c.as_str-value.result.now (g.S.AsStr.text item.1) c.as_str-value.utf8 c.as_str-value.ensures in
-    put_two _ _ _ _ _ _ _ so_far (c.in_ok-write-2.ensures.writes so_far.plain refl)
+    put_two _ _ _ _ _ _ _ so_far (c.in_ok-write_param.ensures so_far.plain refl)
     (encodes_step (λ p. param_text (param_value (text_of g.S.AsStr.text) p)) (91 ∷ text_of g.S.AsStr.text c.args.self.now.id) c.deref-name-items.result.now c.loop-name.name-index item _
     c.loop-name-test.true c.loop-name-item.is (encodes_param _ _ _ _ name value))
 
@@ -29,7 +29,7 @@ returns-clause-writes g c = λ plain ok.
     let items = c.args.self.now.params.items in
     let text = text_of g.S.AsStr.text in
     let so_far = rw (take_all c.loop-name.name-index c.deref-name-items.result.now c.loop-name-test.false, c.deref-name-items.ensures.value) at c.loop-name.invariant plain in
-    put_two _ _ _ _ _ _ _ so_far (c.write-2.ensures.writes so_far.plain ok)
+    put_two _ _ _ _ _ _ _ so_far (c.write_str-3.ensures.writes so_far.plain ok)
     (encodes_closed ((91 ∷ text c.args.self.now.id) ++ flat_map (λ p. param_text (param_value text p)) items) _
     (ap (λ (x : Text). 91 ∷ (text c.args.self.now.id ++ (x ++ (93 ∷ [])))) (flat_map-map param_text (param_value text) items)
     ∙ sym (append_assoc (91 ∷ text c.args.self.now.id) (flat_map (λ p. param_text (param_value text p)) items) (93 ∷ []))))

@@ -1,0 +1,23 @@
+use Rattle.std.proofs.Common.{sym, ap, refl, []}
+use Rattle.std.proofs.Output.{has_written_of_eq}
+use Rattle.std.proofs.lemmas.Grind.{put_two}
+use Rattle.std.proofs.lemmas.List.{take_all}
+use Rattle.std.specs.Str.{encode_utf8_all}
+use Rattle.syslog_pieces.specs.Element.{element_text, element_value}
+use Rattle.syslog_pieces.specs.View.{text_of}
+use Rattle.syslog_pieces.proofs.PrintLemmas.{encodes_step, flat_map-map}
+use Rattle.syslog_loose.proofs.message.printing.write_joined.Goals as goal
+
+pub loop-element-preserved : goal.loop-element-preserved
+loop-element-preserved g c = λ plain.
+    let so_far = c.loop-element.invariant plain in
+    put_two _ _ _ _ _ _ _ so_far (c.in_ok-fmt.ensures.writes so_far.plain refl)
+    (encodes_step (λ e. element_text (element_value (text_of g.S.AsStr.text) e)) [] c.args.elements.now c.loop-element.element-index c.element-item.result _
+    c.loop-element-test.true c.element-item.is refl)
+
+pub returns : goal.returns
+returns g c plain ok =
+    let elements = c.args.elements.now in
+    let value = element_value (text_of g.S.AsStr.text) in
+    let all = rw (take_all c.loop-element.element-index elements c.loop-element-test.false) at c.loop-element.invariant plain in
+    has_written_of_eq _ _ _ _ _ (ap encode_utf8_all (sym (flat_map-map element_text value elements))) all
