@@ -9,7 +9,5 @@ pub mod laws;
 pub mod pri;
 pub mod procid;
 pub mod structured_data;
-#[cfg(test)]
-mod tests;
 pub mod text;
 pub mod timestamp;

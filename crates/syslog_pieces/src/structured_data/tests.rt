@@ -1,6 +1,7 @@
 //! Worked rows and vectors: what no clause says of one text.
 use super::{StructuredElement, forgiving_list, read_element};
 use std::alloc::{AllocError, Global};
+use std::process::Abort;
 use std::test::Fail;
 
 // What an element is: its id, and its parameters.
@@ -56,6 +57,22 @@ fn strict_elements(rt: HostRuntime) -> Result<(), Fail> {
     Ok(())
 }
 
+// The text is an element of the id and the parameters, nothing is left, and it prints as it is written.
+fn check_written(
+    rt: &impl Abort,
+    alloc: Global,
+    text: &str,
+    id: &str,
+    params: &[(&str, &str)],
+) -> Result<(), Fail> {
+    let (element, rest) = read_element(alloc, text)?.ok_or("none")?;
+    assert!(rt; is_element(&element, id, params), "{text}");
+    assert_eq!(rt; rest, "");
+    let printed = element.to_string(alloc)?;
+    assert_eq!(rt; printed.as_str(), text);
+    Ok(())
+}
+
 #[test]
 fn printed_elements(rt: HostRuntime) -> Result<(), Fail> {
     let alloc = rt.alloc();
@@ -78,17 +95,34 @@ fn printed_elements(rt: HostRuntime) -> Result<(), Fail> {
         printed.as_str(),
         "[exampleSDID@32473 iut=\"3\" eventSource=\"Application\" eventID=\"1011\"]"
     );
-    for text in [
-        "[exampleSDID@32473]",
-        "[exampleSDID@32473 iut=\"3\" eventSource=\"Application\" eventID=\"1011\"]",
-        "[WAN_LOCAL-default-D]",
-        "[e v=\"Some \\\"lovely\\\" string\" w=\"\"]",
-    ] {
-        let (element, _) = read_element(alloc, text)?.ok_or("none")?;
-        let printed = element.to_string(alloc)?;
-        assert_eq!(rt; printed.as_str(), text);
-    }
     Ok(())
+}
+
+#[test]
+fn elements_as_written(rt: HostRuntime) -> Result<(), Fail> {
+    let alloc = rt.alloc();
+    let id = "exampleSDID@32473";
+    check_written(&rt, alloc, "[exampleSDID@32473]", id, &[])?;
+    check_written(
+        &rt,
+        alloc,
+        "[exampleSDID@32473 iut=\"3\" eventSource=\"Application\" eventID=\"1011\"]",
+        id,
+        &[
+            ("iut", "3"),
+            ("eventSource", "Application"),
+            ("eventID", "1011"),
+        ],
+    )?;
+    let id = "WAN_LOCAL-default-D";
+    check_written(&rt, alloc, "[WAN_LOCAL-default-D]", id, &[])?;
+    check_written(
+        &rt,
+        alloc,
+        "[e v=\"Some \\\"lovely\\\" string\" w=\"\"]",
+        "e",
+        &[("v", "Some \\\"lovely\\\" string"), ("w", "")],
+    )
 }
 
 #[test]

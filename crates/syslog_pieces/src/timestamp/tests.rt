@@ -1,4 +1,4 @@
-use super::{OffsetTimestamp, rfc3339};
+use super::{OffsetTimestamp, header_stamp, rfc3339};
 use jiff::Timestamp;
 use jiff::tz::Offset;
 use std::alloc::Global;
@@ -194,4 +194,70 @@ fn compares_by_the_instant(rt: HostRuntime) -> Result<(), Fail> {
     assert!(rt; stamp(5, -3600)? <= stamp(5, 0)?);
     assert!(rt; stamp(5, 0)? > stamp(-5, 0)?);
     Ok(())
+}
+
+#[test]
+fn reads_the_timestamp_of_a_header(rt: HostRuntime) -> Result<(), Fail> {
+    let alloc = rt.alloc();
+    for (text, printed, left) in [
+        (
+            "1985-04-12T23:20:50.52Z ",
+            "1985-04-12T23:20:50.520+00:00",
+            " ",
+        ),
+        (
+            "1985-04-12T23:20:50.52-07:00 ",
+            "1985-04-12T23:20:50.520-07:00",
+            " ",
+        ),
+        (
+            "2003-10-11T22:14:15.003Z ",
+            "2003-10-11T22:14:15.003+00:00",
+            " ",
+        ),
+        (
+            "2003-10-11T22:14:15.003Z  h",
+            "2003-10-11T22:14:15.003+00:00",
+            "  h",
+        ),
+    ] {
+        match header_stamp(text) {
+            Some((Some(stamp), rest)) => {
+                let shown = format!(in alloc; "{stamp}")?;
+                assert_eq!(rt; shown.as_str(), printed);
+                assert_eq!(rt; rest, left);
+            }
+            _ => assert!(rt; false, "no timestamp in {text}"),
+        }
+    }
+    Ok(())
+}
+
+#[test]
+fn takes_one_dash_for_an_absent_timestamp(rt: HostRuntime) {
+    for (text, left) in [
+        ("-", ""),
+        ("- h", " h"),
+        ("--", "-"),
+        ("-2003-10-11T22:14:15Z ", "2003-10-11T22:14:15Z "),
+    ] {
+        assert_eq!(rt; header_stamp(text), Some((None, left)), "{text}");
+    }
+}
+
+#[test]
+fn wants_a_space_behind_the_timestamp(rt: HostRuntime) {
+    for text in [
+        "",
+        " ",
+        " 2003-10-11T22:14:15Z ",
+        "2003-10-11T22:14:15Z",
+        "2003-10-11T22:14:15Z\t",
+        "2003-10-11T22:14:15Z\u{a0} ",
+        "2003-10-11 22:14:15Z ",
+        "2003-10-11T22:14:15Zx ",
+        "x ",
+    ] {
+        assert!(rt; header_stamp(text).is_none(), "{text:?}");
+    }
 }
