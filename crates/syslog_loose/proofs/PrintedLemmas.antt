@@ -4,9 +4,9 @@ use Rattle.std.proofs.lemmas.Str.{encodes-append}
 use Rattle.std.specs.Char.{encode_utf8}
 use Rattle.std.specs.Fmt.{decimal}
 use Rattle.std.specs.Str.{encode_utf8_all}
-use Rattle.syslog_pieces.specs.Class.{Text}
-use Rattle.syslog_pieces.specs.Element.{ElementValue}
-use Rattle.syslog_pieces.proofs.DecimalLemmas.{encodes-decimal}
+use Rattle.syslog_pieces.specs.Pieces.Class.{Text}
+use Rattle.syslog_pieces.specs.StructuredData.Element.{ElementValue}
+use Rattle.syslog_pieces.proofs.TextLemmas.Decimals.{encodes-decimal}
 use Rattle.syslog_loose.specs.Printed.{joined_elements, spaced_elements}
 
 -- a text, a space and more

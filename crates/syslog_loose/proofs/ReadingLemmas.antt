@@ -3,8 +3,8 @@ use Rattle.std.proofs.Common.{Result, Ok, Err}
 use Rattle.std.specs.Prelude.{MatchResult, IfOk}
 use Rattle.std.specs.Borrow.{Bor}
 use Rattle.std.proofs.Common.{List, ℕ}
-use Rattle.syslog_pieces.specs.Class.{Text}
-use Rattle.syslog_pieces.specs.View.{shown}
+use Rattle.syslog_pieces.specs.Pieces.Class.{Text}
+use Rattle.syslog_pieces.specs.Pieces.View.{shown}
 use Rattle.syslog_loose.specs.Message.{MessageValue, message_value}
 use Rattle.syslog_loose.specs.Reading.{IsRead, IsQuoted}
 use Rattle.syslog_loose.specs.declared.message.Message.{Message}

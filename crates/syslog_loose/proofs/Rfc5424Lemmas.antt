@@ -1,22 +1,22 @@
 -- The pieces of RFC 5424: a text has one division into them, and what the reader's answers say of the text.
 use Rattle.std.proofs.Common.{◌≡◌, [], ◌∷◌, refl, sym, ap, subst, ◌∙◌}
 use Rattle.std.specs.List.{flat_map}
-use Rattle.syslog_pieces.specs.Class.{Text, Values, Division, Front, NoFront, Row, run, some_run, optional, rest}
+use Rattle.syslog_pieces.specs.Pieces.Class.{Text, Values, Division, Front, NoFront, Row, run, some_run, optional, rest}
 use Rattle.syslog_pieces.specs.StructuredData.{forgiving, NeedsNoMemory}
 use Rattle.syslog_pieces.specs.Text.{trimmed, is_blank, number}
-use Rattle.syslog_pieces.specs.Parts.{AreInPieces, text_list, process_texts}
+use Rattle.syslog_pieces.specs.Pieces.Parts.{AreInPieces, text_list, process_texts}
 use Rattle.syslog_pieces.specs.Timestamp.{header_stamp}
-use Rattle.syslog_pieces.specs.Element.{element_texts}
+use Rattle.syslog_pieces.specs.StructuredData.Element.{element_texts}
 use Rattle.syslog_pieces.specs.Pri.{priority}
-use Rattle.syslog_pieces.proofs.ClassLemmas.{AllDeterministic, unique_division, front_division, no_row_division, optional_det, some_run_det, run_det, rest_det, row_nil, row_cons, rows_join, rest_front}
-use Rattle.syslog_pieces.proofs.RunLemmas.{some_front_run}
-use Rattle.syslog_pieces.proofs.ElementLemmas.{forgiving_det}
-use Rattle.syslog_pieces.proofs.ElementPartLemmas.{forgiving_quotes}
-use Rattle.syslog_pieces.proofs.PartLemmas.{Quoted, row_quotes, silent, rest_quotes, host_quotes, word_quotes, process_quotes}
+use Rattle.syslog_pieces.proofs.PieceLemmas.Class.{AllDeterministic, unique_division, front_division, no_row_division, optional_det, some_run_det, run_det, rest_det, row_nil, row_cons, rows_join, rest_front}
+use Rattle.syslog_pieces.proofs.TextLemmas.Runs.{some_front_run}
+use Rattle.syslog_pieces.proofs.StructuredDataLemmas.Elements.{forgiving_det}
+use Rattle.syslog_pieces.proofs.StructuredDataLemmas.ElementParts.{forgiving_quotes}
+use Rattle.syslog_pieces.proofs.PieceLemmas.Parts.{Quoted, row_quotes, silent, rest_quotes, host_quotes, word_quotes, process_quotes}
 use Rattle.syslog_pieces.proofs.PriLemmas.{priority_det}
 use Rattle.syslog_pieces.proofs.ProcIdLemmas.{process_word_det}
-use Rattle.syslog_pieces.proofs.StampPieceLemmas.{header_stamp_det}
-use Rattle.syslog_pieces.proofs.WordLemmas.{number_det, host_det, word_det}
+use Rattle.syslog_pieces.proofs.TimestampLemmas.Piece.{header_stamp_det}
+use Rattle.syslog_pieces.proofs.TextLemmas.Words.{number_det, host_det, word_det}
 use Rattle.syslog_loose.specs.Message.{MessageValue, message_texts}
 use Rattle.syslog_loose.specs.Rfc5424.{header_row, data_row, rfc5424_row, message_of, IsRead5424, IsNot5424, Quotes5424, NeedsNoMemory5424}
 

@@ -2,9 +2,9 @@
 use Rattle.std.specs.Prelude.{List, [], ◌∷◌, ◌++◌, Option, map}
 use Rattle.std.specs.List.{flat_map}
 use Rattle.std.specs.Option.{option_map}
-use Rattle.syslog_pieces.specs.Class.{Text}
-use Rattle.syslog_pieces.specs.Element.{ElementValue, element_value, element_texts}
-use Rattle.syslog_pieces.specs.Parts.{text_list, process_texts}
+use Rattle.syslog_pieces.specs.Pieces.Class.{Text}
+use Rattle.syslog_pieces.specs.StructuredData.Element.{ElementValue, element_value, element_texts}
+use Rattle.syslog_pieces.specs.Pieces.Parts.{text_list, process_texts}
 use Rattle.syslog_pieces.specs.ProcId.{procid_value}
 use Rattle.syslog_pieces.specs.declared.pri.SyslogFacility.{SyslogFacility}
 use Rattle.syslog_pieces.specs.declared.pri.SyslogSeverity.{SyslogSeverity}

@@ -1,6 +1,6 @@
 -- What it is to read a text, by which protocol.
 use Rattle.std.specs.Prelude.{◌≡◌, ◌<◌, ◌≤◌, ◌^◌, ℕ, []}
-use Rattle.syslog_pieces.specs.Class.{Text}
+use Rattle.syslog_pieces.specs.Pieces.Class.{Text}
 use Rattle.syslog_loose.specs.declared.reading.Variant.{Variant}
 use Rattle.syslog_loose.specs.declared.reading.Variant.TheVariants.{Either, RFC3164, RFC5424}
 use Rattle.syslog_loose.specs.Message.{MessageValue}

@@ -1,8 +1,8 @@
 -- The fields that the header's reader holds, as the meanings of its pieces.
 use Rattle.std.specs.Option.{option_map}
-use Rattle.syslog_pieces.specs.Class.{Values}
+use Rattle.syslog_pieces.specs.Pieces.Class.{Values}
 use Rattle.syslog_pieces.specs.ProcId.{procid_value}
-use Rattle.syslog_pieces.specs.View.{seen, shown}
+use Rattle.syslog_pieces.specs.Pieces.View.{seen, shown}
 use Rattle.syslog_loose.specs.declared.rfc5424.Header.{Header}
 use Rattle.syslog_loose.specs.Rfc5424.{header_row}
 

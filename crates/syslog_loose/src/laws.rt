@@ -1,6 +1,6 @@
 //! Laws over the definitions alone: each function does nothing, and its contract is the law.
 ghost use Rattle.std.specs.Prelude.{◌≡◌};
-ghost use Rattle.syslog_pieces.specs.Class.{Text, Division, Values};
+ghost use Rattle.syslog_pieces.specs.Pieces.Class.{Text, Division, Values};
 ghost use Rattle.syslog_loose.specs.Message.{MessageValue};
 ghost use Rattle.syslog_loose.specs.Rfc5424.{rfc5424_row, IsRead5424};
 

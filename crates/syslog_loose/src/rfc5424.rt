@@ -5,9 +5,9 @@
 ghost use Rattle.std.specs.Prelude.{◌≡◌, IfOk, IsOk, MatchOption, Some, None};
 ghost use Rattle.std.specs.Option.{option_map, option_and_then};
 ghost use Rattle.std.specs.Str.{chars};
-ghost use Rattle.syslog_pieces.specs.Class.{Row};
+ghost use Rattle.syslog_pieces.specs.Pieces.Class.{Row};
 ghost use Rattle.syslog_pieces.specs.Pri.{facility_of, severity_of};
-ghost use Rattle.syslog_pieces.specs.View.{shown, Reads};
+ghost use Rattle.syslog_pieces.specs.Pieces.View.{shown, Reads};
 ghost use Rattle.syslog_loose.specs.Message.{message_value};
 ghost use Rattle.syslog_loose.specs.Rfc5424 as spec;
 ghost use Rattle.syslog_loose.specs.View5424.{header_values};

@@ -1,23 +1,6 @@
-pub mod CharLemmas
-pub mod ClassLemmas
-pub mod ClosingLemmas
-pub mod CutLemmas
-pub mod DecimalLemmas
-pub mod ElementLemmas
-pub mod ElementPartLemmas
-pub mod ItemLemmas
-mod LaneLemmas
-pub mod ListLemmas
-pub mod MeetLemmas
-pub mod ParamLemmas
-pub mod PartLemmas
+pub mod PieceLemmas
 pub mod PriLemmas
-pub mod PrintLemmas
 pub mod ProcIdLemmas
-pub mod RunLemmas
-pub mod StampPieceLemmas
-pub mod Stamps
-pub mod TrimLemmas
-pub mod UnitLemmas
-pub mod WalkLemmas
-pub mod WordLemmas
+pub mod StructuredDataLemmas
+pub mod TextLemmas
+pub mod TimestampLemmas

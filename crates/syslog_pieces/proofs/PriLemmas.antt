@@ -2,14 +2,14 @@
 use Rattle.std.proofs.Common.{◌≡◌, ◌≤◌, ◌<◌, ◌/◌, ◌%◌, ◌+◌, ℕ, zero, suc, List, [], ◌∷◌, length, Option, Some, None, MatchOption, refl, sym, ap, ◌∙◌, arith}
 use Rattle.std.specs.Prelude.{slice_get}
 use Rattle.std.proofs.lemmas.Option.{slice_get_past}
-use Rattle.syslog_pieces.specs.Class.{Text, Front, NoFront, IsDeterministic, Row, Values}
+use Rattle.syslog_pieces.specs.Pieces.Class.{Text, Front, NoFront, IsDeterministic, Row, Values}
 use Rattle.syslog_pieces.specs.Pri.{priority, priority_row, facility_number, severity_number, facilities, severities, facility_of, severity_of, composed}
 use Rattle.syslog_pieces.specs.declared.pri.SyslogFacility.{SyslogFacility}
 use Rattle.syslog_pieces.specs.declared.pri.SyslogFacility.TheVariants.{LOG_KERN, LOG_USER, LOG_MAIL, LOG_DAEMON, LOG_AUTH, LOG_SYSLOG, LOG_LPR, LOG_NEWS, LOG_UUCP, LOG_CRON, LOG_AUTHPRIV, LOG_FTP, LOG_NTP, LOG_AUDIT, LOG_ALERT, LOG_CLOCKD, LOG_LOCAL0, LOG_LOCAL1, LOG_LOCAL2, LOG_LOCAL3, LOG_LOCAL4, LOG_LOCAL5, LOG_LOCAL6, LOG_LOCAL7}
 use Rattle.syslog_pieces.specs.declared.pri.SyslogSeverity.{SyslogSeverity}
 use Rattle.syslog_pieces.specs.declared.pri.SyslogSeverity.TheVariants.{SEV_EMERG, SEV_ALERT, SEV_CRIT, SEV_ERR, SEV_WARNING, SEV_NOTICE, SEV_INFO, SEV_DEBUG}
-use Rattle.syslog_pieces.proofs.ClassLemmas.{AllDeterministic, exactly_det, row_det}
-use Rattle.syslog_pieces.proofs.WordLemmas.{number_det}
+use Rattle.syslog_pieces.proofs.PieceLemmas.Class.{AllDeterministic, exactly_det, row_det}
+use Rattle.syslog_pieces.proofs.TextLemmas.Words.{number_det}
 
 priority_row_det : AllDeterministic priority_row
 priority_row_det = (exactly_det (60 ∷ []), (number_det 255, (exactly_det (62 ∷ []), tt)))

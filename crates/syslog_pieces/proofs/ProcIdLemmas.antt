@@ -6,13 +6,13 @@ use Rattle.std.specs.Str.Parse.{digits_value, ParsesSigned, IsNumeral, without_l
 use Rattle.std.proofs.lemmas.Bool.{cases_eq, ne_eqb}
 use Rattle.std.proofs.lemmas.Str.{chars-IsAscii}
 use Rattle.std.proofs.lemmas.Str.Ascii.{IsAscii-cons}
-use Rattle.syslog_pieces.specs.Class.{Text, Front, NoFront, IsDeterministic}
+use Rattle.syslog_pieces.specs.Pieces.Class.{Text, Front, NoFront, IsDeterministic}
 use Rattle.syslog_pieces.specs.Text.{word}
 use Rattle.syslog_pieces.specs.ProcId.{IsDigits, WritesSigned, IsI32Text, NamesProcess, process_word}
 use Rattle.syslog_pieces.specs.declared.procid.ProcId.{ProcId}
 use Rattle.syslog_pieces.specs.declared.procid.ProcId.TheVariants.{PID, Name}
-use Rattle.syslog_pieces.proofs.CharLemmas.{digits_ascii, ascii_plain}
-use Rattle.syslog_pieces.proofs.WordLemmas.{own, word_det}
+use Rattle.syslog_pieces.proofs.TextLemmas.Chars.{digits_ascii, ascii_plain}
+use Rattle.syslog_pieces.proofs.TextLemmas.Words.{own, word_det}
 
 -- ---- a text writes one number
 

@@ -1,15 +1,7 @@
-pub mod CharClass
-pub mod Class
-pub mod Closing
-pub mod Element
-pub mod Escapes
-pub mod Lists
-pub mod Params
-pub mod Parts
+pub mod Bodies
+pub mod Pieces
 pub mod Pri
 pub mod ProcId
-pub mod Scan
 pub mod StructuredData
 pub mod Text
 pub mod Timestamp
-pub mod View

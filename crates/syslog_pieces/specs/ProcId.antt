@@ -4,7 +4,7 @@ use Rattle.std.specs.Int.{w32}
 use Rattle.std.specs.Char.{is_ascii_digit}
 use Rattle.std.specs.Fmt.{signed_decimal}
 use Rattle.std.specs.Str.Parse.{digits_value}
-use Rattle.syslog_pieces.specs.Class.{Text, Class, Each}
+use Rattle.syslog_pieces.specs.Pieces.Class.{Text, Class, Each}
 use Rattle.syslog_pieces.specs.Text.{word}
 use Rattle.syslog_pieces.specs.declared.procid.ProcId.{ProcId}
 use Rattle.syslog_pieces.specs.declared.procid.ProcId.TheVariants.{PID, Name}

@@ -1,12 +1,16 @@
 -- Structured data: values, parameters, strict and broken elements, and the list that forgives the broken ones
 -- (RFC 5424 section 6.3; what it forgives is this project's own choice).
+pub mod Element
+pub mod Escapes
+pub mod Listed
+pub mod Params
 use Rattle.std.specs.Prelude.{◌≡◌, ◌≢◌, ◌<◌, ◌⊎◌, List, [], ◌∷◌, ◌++◌, length, Option, Some, None}
 use Rattle.std.specs.List.{flat_map, AllByRecursion}
-use Rattle.syslog_pieces.specs.CharClass.{is_name_char, is_id_char, is_open_char}
-use Rattle.syslog_pieces.specs.Class.{Text, Class, Values, Front, NoFront, Row, run, some_run, exactly, mapped, texted}
-use Rattle.syslog_pieces.specs.Element.{ElementValue}
-use Rattle.syslog_pieces.specs.Escapes.{TextUnit, pair, single, unit_text}
-use Rattle.syslog_pieces.specs.Lists.{many, list_before}
+use Rattle.syslog_pieces.specs.Text.CharClass.{is_name_char, is_id_char, is_open_char}
+use Rattle.syslog_pieces.specs.Pieces.Class.{Text, Class, Values, Front, NoFront, Row, run, some_run, exactly, mapped, texted}
+use Rattle.syslog_pieces.specs.StructuredData.Element.{ElementValue}
+use Rattle.syslog_pieces.specs.StructuredData.Escapes.{TextUnit, pair, single, unit_text}
+use Rattle.syslog_pieces.specs.Pieces.Lists.{many, list_before}
 use Rattle.syslog_pieces.specs.Text.{is_blank, dash}
 
 -- a unit of a value: a single character is neither a backslash nor a quote

@@ -1,9 +1,10 @@
 -- White space, blanks, numbers and words: the pieces that both headers are made of.
-use Rattle.std.specs.Prelude.{◌≡◌, ◌≢◌, ℕ, ◌<◌, ◌≤◌, ◌⊎◌, nat_eq, ◌||◌, Bool, [], ◌∷◌, ◌++◌, length, Option, Some, MatchOption}
+pub mod CharClass
+use Rattle.std.specs.Prelude.{◌≡◌, ◌≢◌, ℕ, ◌<◌, ◌≤◌, ◌⊎◌, nat_eq, ◌||◌, ◌&&◌, not, Bool, [], ◌∷◌, ◌++◌, length, Option, Some, MatchOption}
 use Rattle.std.specs.Char.{is_ascii_digit, is_not_whitespace}
 use Rattle.std.specs.Str.{skip_leading_whitespace, drop_trailing_whitespace}
 use Rattle.std.specs.Str.Parse.{digits_value}
-use Rattle.syslog_pieces.specs.Class.{Text, Class, Each, Ends}
+use Rattle.syslog_pieces.specs.Pieces.Class.{Text, Class, Each, Ends}
 
 -- the text without the white space at its two ends; white space is Unicode's White_Space
 abbrev pub trimmed : Text → Text
@@ -43,3 +44,12 @@ IsHost p q v = (0 < length p) × Each is_not_whitespace p
 
 abbrev pub host : Class
 host = record { Value = Option Text; Is = IsHost }
+
+-- neither white space nor a colon
+abbrev pub is_tag_char : ℕ → Bool
+is_tag_char c = is_not_whitespace c && not (nat_eq c 58)
+
+-- A tag word of RFC 3164: a maximal nonempty run without white space and colons. The word `-` stands for a tag that is
+-- there and empty.
+abbrev pub tag_word : Class
+tag_word = record { Value = Option Text; Is = λ p q v. (0 < length p) × Each is_tag_char p × Ends is_tag_char q × Names p v }

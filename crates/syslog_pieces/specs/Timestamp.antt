@@ -1,10 +1,13 @@
 -- Timestamps: the texts that have one, and the text that is printed of one.
 pub mod Fields
+pub mod Loose
+pub mod MonthDate
+pub mod Plain
 pub mod Printed
-pub mod Reading
 pub mod Rfc3339
+pub mod Zone
 use Rattle.std.specs.Prelude.{◌≡◌, ℕ, List, ◌∷◌, Option, Some, None, MatchOption}
-use Rattle.syslog_pieces.specs.Class.{Text, Class}
+use Rattle.syslog_pieces.specs.Pieces.Class.{Text, Class}
 use Rattle.syslog_pieces.specs.Text.{dash}
 use Rattle.syslog_pieces.specs.declared.timestamp.OffsetTimestamp.{OffsetTimestamp}
 use Rattle.syslog_pieces.specs.declared.timestamp.written.Written.{Written}

@@ -4,9 +4,9 @@
 //! memory.
 ghost use Rattle.std.specs.Prelude.{◌≡◌, ◌<◌, ◌≤◌, MatchOption, Some, slice_get};
 ghost use Rattle.std.specs.Str.{chars};
-ghost use Rattle.syslog_pieces.specs.Class.{Front, optional};
+ghost use Rattle.syslog_pieces.specs.Pieces.Class.{Front, optional};
 ghost use Rattle.syslog_pieces.specs.Pri as spec;
-ghost use Rattle.syslog_pieces.specs.View.{shown, Reads};
+ghost use Rattle.syslog_pieces.specs.Pieces.View.{shown, Reads};
 
 #[cfg(test)]
 mod tests;

@@ -6,7 +6,7 @@ ghost use Rattle.std.specs.Prelude.{◌≡◌, Some};
 ghost use Rattle.std.specs.Option.{option_map};
 ghost use Rattle.std.specs.Str.{chars, encode_utf8_all};
 ghost use Rattle.syslog_pieces.specs.ProcId as spec;
-ghost use Rattle.syslog_pieces.specs.View.{shown, text_of, Reads};
+ghost use Rattle.syslog_pieces.specs.Pieces.View.{shown, text_of, Reads};
 
 #[cfg(test)]
 mod tests;

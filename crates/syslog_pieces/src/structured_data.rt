@@ -5,12 +5,13 @@
 ghost use Rattle.std.specs.Prelude.{◌≡◌, ◌++◌, [], ◌∷◌, Some};
 ghost use Rattle.std.specs.Fmt.{WritesOnOk};
 ghost use Rattle.std.specs.Str.{encode_utf8_all};
-ghost use Rattle.syslog_pieces.specs.Element.{element_text, element_value};
-ghost use Rattle.syslog_pieces.specs.View.{text_of};
+ghost use Rattle.syslog_pieces.specs.StructuredData.Element.{element_text, element_value};
+ghost use Rattle.syslog_pieces.specs.Pieces.View.{text_of};
 
 mod element;
 mod escapes;
 mod list;
+pub mod listed;
 mod params;
 #[cfg(test)]
 mod tests;

@@ -5,11 +5,11 @@
 //! the text is of the class. Nothing here takes memory, and no text is copied.
 ghost use Rattle.std.specs.Prelude.{◌≡◌, ◌++◌, [], ◌∷◌, MatchOption};
 ghost use Rattle.std.specs.Str.{chars, IsUtf8};
-ghost use Rattle.syslog_pieces.specs.CharClass.{has};
-ghost use Rattle.syslog_pieces.specs.Class.{Front, NoFront, exactly, run, some_run};
-ghost use Rattle.syslog_pieces.specs.Scan.{EndsRun, SplitsRun};
+ghost use Rattle.syslog_pieces.specs.Text.CharClass.{has};
+ghost use Rattle.syslog_pieces.specs.Pieces.Class.{Front, NoFront, exactly, run, some_run};
+ghost use Rattle.syslog_pieces.specs.Bodies.Scan.{EndsRun, SplitsRun};
 ghost use Rattle.syslog_pieces.specs.Text as spec;
-ghost use Rattle.syslog_pieces.specs.View.{seen, shown, Reads, Skips};
+ghost use Rattle.syslog_pieces.specs.Pieces.View.{seen, shown, Reads, Skips};
 
 mod lanes;
 mod scan;
@@ -39,6 +39,10 @@ pub enum CharClass {
     Inert,
     /// No backslash.
     Bare,
+    /// Neither white space nor a colon: a tag word.
+    Tag,
+    /// Neither white space nor a colon nor `[`: the tag of the form `tag[id]`.
+    Label,
 }
 
 impl CharClass {
@@ -56,6 +60,8 @@ impl CharClass {
             CharClass::Open => c != ']',
             CharClass::Inert => (c != '\\' && c != '"') && c != ']',
             CharClass::Bare => c != '\\',
+            CharClass::Tag => !c.is_whitespace() && c != ':',
+            CharClass::Label => (!c.is_whitespace() && c != ':') && c != '[',
         }
     }
 }

@@ -16,11 +16,12 @@ ghost use Rattle.std.specs.Prelude.{MatchOption};
 ghost use Rattle.std.specs.Str.{chars};
 ghost use Rattle.syslog_pieces.specs.Timestamp as spec;
 ghost use Rattle.syslog_pieces.specs.Timestamp.{IsStampText, HasNoStamp};
-ghost use Rattle.syslog_pieces.specs.View.{Reads};
+ghost use Rattle.syslog_pieces.specs.Pieces.View.{Reads};
 
 mod digits;
 mod display;
 mod fields;
+pub mod month_date;
 #[cfg(test)]
 mod tests;
 mod written;

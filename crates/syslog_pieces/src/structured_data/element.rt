@@ -1,11 +1,11 @@
 //! Collecting a strict element.
 ghost use Rattle.std.specs.Prelude.{map, IfOk, IsOk};
 ghost use Rattle.std.specs.Str.{chars};
-ghost use Rattle.syslog_pieces.specs.Class.{NoFront};
-ghost use Rattle.syslog_pieces.specs.Closing.{quoted as quoted_class, inside};
-ghost use Rattle.syslog_pieces.specs.Element.{element_value, param_value};
+ghost use Rattle.syslog_pieces.specs.Pieces.Class.{NoFront};
+ghost use Rattle.syslog_pieces.specs.Bodies.Closing.{quoted as quoted_class, inside};
+ghost use Rattle.syslog_pieces.specs.StructuredData.Element.{element_value, param_value};
 ghost use Rattle.syslog_pieces.specs.StructuredData.{param as param_class, element as element_class};
-ghost use Rattle.syslog_pieces.specs.View.{shown, Reads};
+ghost use Rattle.syslog_pieces.specs.Pieces.View.{shown, Reads};
 
 use super::StructuredElement;
 use super::walk::{after_element, live_value, opening, start};

@@ -2,12 +2,12 @@
 ghost use Rattle.std.specs.Prelude.{◌≡◌, List, Option, MatchOption, IfOk, IsOk, is_some, is_none, map};
 ghost use Rattle.std.specs.List.{list_any};
 ghost use Rattle.std.specs.Str.{chars, IsUtf8};
-ghost use Rattle.syslog_pieces.specs.Class.{Front, NoFront};
-ghost use Rattle.syslog_pieces.specs.Closing.{IsDead};
-ghost use Rattle.syslog_pieces.specs.Element.{ElementValue, element_value};
-ghost use Rattle.syslog_pieces.specs.Lists.{many};
+ghost use Rattle.syslog_pieces.specs.Pieces.Class.{Front, NoFront};
+ghost use Rattle.syslog_pieces.specs.Bodies.Closing.{IsDead};
+ghost use Rattle.syslog_pieces.specs.StructuredData.Element.{ElementValue, element_value};
+ghost use Rattle.syslog_pieces.specs.Pieces.Lists.{many};
 ghost use Rattle.syslog_pieces.specs.StructuredData.{element as element_class, item as item_class, forgiving, strict as strict_of, NeedsNoMemory};
-ghost use Rattle.syslog_pieces.specs.View.{shown, Reads};
+ghost use Rattle.syslog_pieces.specs.Pieces.View.{shown, Reads};
 
 use super::StructuredElement;
 use super::element::collect_element;

@@ -1,7 +1,7 @@
 //! The parameters of an element, one after the other.
 ghost use Rattle.std.specs.Prelude.{◌≡◌, List};
 ghost use Rattle.std.specs.Iterator.{item_count};
-ghost use Rattle.syslog_pieces.specs.Params.{NextParam};
+ghost use Rattle.syslog_pieces.specs.StructuredData.Params.{NextParam};
 
 use super::escapes::unescape;
 use crate::as_str::AsStr;

@@ -6,12 +6,12 @@
 //! `dead` bytes or more. A scan that passes such a `]` stops there.
 ghost use Rattle.std.specs.Prelude.{◌≡◌, ◌≤◌, ◌++◌, [], ◌∷◌, MatchOption, MatchResult};
 ghost use Rattle.std.specs.Str.{chars, IsUtf8};
-ghost use Rattle.syslog_pieces.specs.CharClass.{has};
-ghost use Rattle.syslog_pieces.specs.Class.{Class, Front, NoFront, exactly, some_run, texted};
-ghost use Rattle.syslog_pieces.specs.Closing.{start as start_class, opening as opening_class, quoted as quoted_class, id_alone, name_alone, closing, byte_count, IsDead, last_char};
-ghost use Rattle.syslog_pieces.specs.Escapes.{TextUnit, unit_text};
+ghost use Rattle.syslog_pieces.specs.Text.CharClass.{has};
+ghost use Rattle.syslog_pieces.specs.Pieces.Class.{Class, Front, NoFront, exactly, some_run, texted};
+ghost use Rattle.syslog_pieces.specs.Bodies.Closing.{start as start_class, opening as opening_class, quoted as quoted_class, id_alone, name_alone, closing, byte_count, IsDead, last_char};
+ghost use Rattle.syslog_pieces.specs.StructuredData.Escapes.{TextUnit, unit_text};
 ghost use Rattle.syslog_pieces.specs.StructuredData.{value, element as element_class, bracketed as bracketed_class, IsValueUnit};
-ghost use Rattle.syslog_pieces.specs.View.{shown, Reads, Recognises};
+ghost use Rattle.syslog_pieces.specs.Pieces.View.{shown, Reads, Recognises};
 
 use crate::text::{CharClass, blanks, first, literal, split_run};
 

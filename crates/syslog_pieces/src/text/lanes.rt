@@ -2,8 +2,8 @@
 //!
 //! Each compares sixteen bytes at once, and answers the place of the first that stops the run.
 ghost use Rattle.std.specs.Prelude.{◌≡◌, ◌+◌, ◌≤◌, length};
-ghost use Rattle.syslog_pieces.specs.Scan.{IsRunIn, byte_in, first_set};
-ghost use Rattle.syslog_pieces.specs.declared.text.CharClass.TheVariants.{Digit, Blank, Visible, Id, Name, Plain, Open, Inert, Bare};
+ghost use Rattle.syslog_pieces.specs.Bodies.Scan.{IsRunIn, byte_in, first_set};
+ghost use Rattle.syslog_pieces.specs.declared.text.CharClass.TheVariants.{Digit, Blank, Visible, Id, Name, Plain, Open, Inert, Bare, Tag, Label};
 
 use crate::text::CharClass;
 use std::simd::prelude::*;
@@ -121,6 +121,31 @@ fn bare_run(bytes: &[u8], at: usize) -> usize
     first_set(stops.to_bitmask())
 }
 
+#[inline(always)]
+fn tag_run(bytes: &[u8], at: usize) -> usize
+    requires { at + LANES ≤ length bytes.now }
+    ensures { IsRunIn (byte_in Tag) bytes.now at result }
+{
+    let v = u8x16::from_slice(&bytes[at..]);
+    let white = (v - u8x16::splat(9)).simd_lt(u8x16::splat(5)) | v.simd_eq(u8x16::splat(b' '));
+    let past = white | v.simd_ge(u8x16::splat(0x80));
+    let stops = past | v.simd_eq(u8x16::splat(b':'));
+    first_set(stops.to_bitmask())
+}
+
+#[inline(always)]
+fn label_run(bytes: &[u8], at: usize) -> usize
+    requires { at + LANES ≤ length bytes.now }
+    ensures { IsRunIn (byte_in Label) bytes.now at result }
+{
+    let v = u8x16::from_slice(&bytes[at..]);
+    let white = (v - u8x16::splat(9)).simd_lt(u8x16::splat(5)) | v.simd_eq(u8x16::splat(b' '));
+    let past = white | v.simd_ge(u8x16::splat(0x80));
+    let marks = v.simd_eq(u8x16::splat(b':')) | v.simd_eq(u8x16::splat(b'['));
+    let stops = past | marks;
+    first_set(stops.to_bitmask())
+}
+
 /// The kernel of a class.
 #[inline(always)]
 pub(crate) fn class_run(bytes: &[u8], at: usize, class: CharClass) -> usize
@@ -137,5 +162,7 @@ pub(crate) fn class_run(bytes: &[u8], at: usize, class: CharClass) -> usize
         CharClass::Open => open_run(bytes, at),
         CharClass::Inert => inert_run(bytes, at),
         CharClass::Bare => bare_run(bytes, at),
+        CharClass::Tag => tag_run(bytes, at),
+        CharClass::Label => label_run(bytes, at),
     }
 }

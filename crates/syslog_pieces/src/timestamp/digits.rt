@@ -9,7 +9,7 @@ ghost use Rattle.std.specs.List.{prefix_len};
 ghost use Rattle.std.specs.Char.{is_ascii_digit, IsAsciiDigit};
 ghost use Rattle.jiff_fmt.specs.Reader.{two_digits as two_digits_of, four_digits as four_digits_of};
 ghost use Rattle.syslog_pieces.specs.Timestamp.Printed.{pad3};
-ghost use Rattle.syslog_pieces.specs.Timestamp.Reading as spec;
+ghost use Rattle.syslog_pieces.specs.Bodies.StampReading as spec;
 
 /// Decimals past this many are cut off: they are shorter than a nanosecond.
 const MAX_DECIMALS: usize = 9;
@@ -65,7 +65,7 @@ pub fn after_letter(text: &[u8], upper: u8) -> Option<&[u8]>
 }
 
 /// A dot and one or more digits, in nanoseconds, or nothing, which is 0.
-#[tactic(auto, unfolding(crate::specs::Timestamp::Reading::fraction))]
+#[tactic(auto, unfolding(crate::specs::Bodies::StampReading::fraction))]
 #[inline(always)]
 pub fn fraction(text: &[u8]) -> Option<(u32, &[u8])>
     ensures value { spec.read_of result ≡ spec.fraction text.now }
@@ -129,7 +129,7 @@ fn begins_with_digit(text: &[u8]) -> bool
 }
 
 // One or more digits, of any number.
-#[tactic(auto, unfolding(crate::specs::Timestamp::Reading::nanoseconds))]
+#[tactic(auto, unfolding(crate::specs::Bodies::StampReading::nanoseconds))]
 fn decimals(text: &[u8]) -> Option<(u32, &[u8])>
     ensures value { spec.read_of result ≡ spec.nanoseconds text.now }
     ensures small { IfSome result (λ read. read.0 < 1_000_000_000) }

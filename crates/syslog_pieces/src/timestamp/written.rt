@@ -2,7 +2,7 @@
 ghost use Rattle.std.specs.Prelude.{◌≡◌, ◌<◌, IfSome, IsNone};
 ghost use Rattle.jiff.specs.Words.{IsOffsetSeconds};
 ghost use Rattle.syslog_pieces.specs.Timestamp.{IsAnswer, IsStampOfWritten};
-ghost use Rattle.syslog_pieces.specs.Timestamp.Reading as spec;
+ghost use Rattle.syslog_pieces.specs.Bodies.StampReading as spec;
 ghost use Rattle.syslog_pieces.specs.Timestamp.Rfc3339.{fields_of_written};
 
 use super::OffsetTimestamp;
@@ -62,7 +62,7 @@ fn offset_of(seconds: i32) -> Option<Offset>
 }
 
 /// What the whole text writes, if it has the form.
-#[tactic(auto, unfolding(crate::specs::Timestamp::Reading::written))]
+#[tactic(auto, unfolding(crate::specs::Bodies::StampReading::written))]
 #[inline(always)]
 pub fn read(text: &[u8]) -> Option<Written>
     ensures value { result ≡ spec.written text.now }
@@ -85,7 +85,7 @@ pub fn read(text: &[u8]) -> Option<Written>
 }
 
 // `YYYY-MM-DD`.
-#[tactic(auto, unfolding(crate::specs::Timestamp::Reading::date))]
+#[tactic(auto, unfolding(crate::specs::Bodies::StampReading::date))]
 #[inline(always)]
 fn date(text: &[u8]) -> Option<((u16, u8, u8), &[u8])>
     ensures { spec.read_of result ≡ spec.date text.now }
@@ -97,7 +97,7 @@ fn date(text: &[u8]) -> Option<((u16, u8, u8), &[u8])>
 }
 
 // `HH:MM:SS`.
-#[tactic(auto, unfolding(crate::specs::Timestamp::Reading::clock))]
+#[tactic(auto, unfolding(crate::specs::Bodies::StampReading::clock))]
 #[inline(always)]
 fn clock(text: &[u8]) -> Option<((u8, u8, u8), &[u8])>
     ensures { spec.read_of result ≡ spec.clock text.now }
@@ -109,7 +109,7 @@ fn clock(text: &[u8]) -> Option<((u8, u8, u8), &[u8])>
 }
 
 // `Z`, or a sign and `HH:MM`, to the end, in seconds.
-#[tactic(auto, unfolding(crate::specs::Timestamp::Reading::offset_seconds))]
+#[tactic(auto, unfolding(crate::specs::Bodies::StampReading::offset_seconds))]
 #[inline(always)]
 fn offset_seconds(text: &[u8]) -> Option<i32>
     ensures value { result ≡ spec.offset_seconds text.now }
@@ -130,7 +130,7 @@ fn offset_seconds(text: &[u8]) -> Option<i32>
 }
 
 // `HH:MM` to the end, in minutes.
-#[tactic(auto, unfolding(crate::specs::Timestamp::Reading::offset_minutes))]
+#[tactic(auto, unfolding(crate::specs::Bodies::StampReading::offset_minutes))]
 #[inline(always)]
 fn offset_minutes(text: &[u8]) -> Option<u16>
     ensures value { result ≡ spec.offset_minutes text.now }

@@ -1,13 +1,13 @@
 use Rattle.std.proofs.Common.{◌≡◌, [], ◌∷◌, List, true, false, map}
 use Rattle.std.specs.Option.{option_map}
 use Rattle.std.specs.Str.{chars}
-use Rattle.syslog_pieces.specs.Class.{Class, run, rest}
-use Rattle.syslog_pieces.specs.Element.{element_value}
+use Rattle.syslog_pieces.specs.Pieces.Class.{Class, run, rest}
+use Rattle.syslog_pieces.specs.StructuredData.Element.{element_value}
 use Rattle.syslog_pieces.specs.ProcId.{procid_value}
 use Rattle.syslog_pieces.specs.StructuredData.{forgiving}
 use Rattle.syslog_pieces.specs.Text.{is_blank}
-use Rattle.syslog_pieces.specs.View.{seen, shown}
-use Rattle.syslog_pieces.proofs.ClassLemmas.{row_nil, row_cons, row_none_here, row_none_later, rows_join, rows_none_here, rows_none_later, rest_front, run_det}
+use Rattle.syslog_pieces.specs.Pieces.View.{seen, shown}
+use Rattle.syslog_pieces.proofs.PieceLemmas.Class.{row_nil, row_cons, row_none_here, row_none_later, rows_join, rows_none_here, rows_none_later, rest_front, run_det}
 use Rattle.syslog_loose.specs.Rfc5424.{header_row, data_row}
 use Rattle.syslog_loose.specs.declared.message.Protocol.TheVariants.{RFC5424}
 use Rattle.syslog_loose.proofs.Rfc5424Lemmas.{header_det, not_read, is_read, list_needs_none}

@@ -1,16 +1,16 @@
 -- Each exit says that the row fails at its piece, behind the pieces that were read; the return joins them.
 use Rattle.std.proofs.Common.{rules, List, [], ◌∷◌}
 use Rattle.std.specs.Str.{chars}
-use Rattle.syslog_pieces.specs.Class.{Class, NoFront, Row, optional, some_run}
+use Rattle.syslog_pieces.specs.Pieces.Class.{Class, NoFront, Row, optional, some_run}
 use Rattle.syslog_pieces.specs.Pri.{priority}
 use Rattle.syslog_pieces.specs.ProcId.{process_word}
 use Rattle.syslog_pieces.specs.Text.{is_blank, number, host, word}
 use Rattle.syslog_pieces.specs.Timestamp.{header_stamp}
-use Rattle.syslog_pieces.proofs.ClassLemmas.{row_nil, row_cons, row_none_here, row_none_later, optional_det, some_run_det}
+use Rattle.syslog_pieces.proofs.PieceLemmas.Class.{row_nil, row_cons, row_none_here, row_none_later, optional_det, some_run_det}
 use Rattle.syslog_pieces.proofs.PriLemmas.{priority_det}
 use Rattle.syslog_pieces.proofs.ProcIdLemmas.{process_word_det}
-use Rattle.syslog_pieces.proofs.StampPieceLemmas.{header_stamp_det}
-use Rattle.syslog_pieces.proofs.WordLemmas.{number_det, host_det, word_det}
+use Rattle.syslog_pieces.proofs.TimestampLemmas.Piece.{header_stamp_det}
+use Rattle.syslog_pieces.proofs.TextLemmas.Words.{number_det, host_det, word_det}
 use Rattle.syslog_loose.specs.Rfc5424.{header_row}
 use Rattle.syslog_loose.proofs.rfc5424.read_header.Goals as goal
 

@@ -1,5 +1,5 @@
-use Rattle.syslog_pieces.specs.Escapes.{escaped}
-use Rattle.syslog_pieces.proofs.UnitLemmas.{escaped_there, unescaped_one}
+use Rattle.syslog_pieces.specs.StructuredData.Escapes.{escaped}
+use Rattle.syslog_pieces.proofs.StructuredDataLemmas.Units.{escaped_there, unescaped_one}
 use Rattle.syslog_pieces.proofs.laws.escapes_are_removed.Goals as goal
 
 pub returns-clause-there : goal.returns-clause-there

@@ -1,4 +1,4 @@
-use Rattle.syslog_pieces.proofs.UnitLemmas.{split_one, split_there}
+use Rattle.syslog_pieces.proofs.StructuredDataLemmas.Units.{split_one, split_there}
 use Rattle.syslog_pieces.proofs.laws.text_has_one_split.Goals as goal
 
 pub returns-clause-there : goal.returns-clause-there

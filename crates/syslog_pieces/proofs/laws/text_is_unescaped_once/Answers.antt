@@ -1,4 +1,4 @@
-use Rattle.syslog_pieces.proofs.UnitLemmas.{unescaped_one}
+use Rattle.syslog_pieces.proofs.StructuredDataLemmas.Units.{unescaped_one}
 use Rattle.syslog_pieces.proofs.laws.text_is_unescaped_once.Goals as goal
 
 pub returns : goal.returns

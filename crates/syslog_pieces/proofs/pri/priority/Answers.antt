@@ -1,11 +1,11 @@
 use Rattle.std.proofs.Common.{rules, [], ◌∷◌}
 use Rattle.std.specs.Str.{chars}
-use Rattle.syslog_pieces.specs.Class.{Class, NoFront, exactly}
+use Rattle.syslog_pieces.specs.Pieces.Class.{Class, NoFront, exactly}
 use Rattle.syslog_pieces.specs.Pri.{priority}
 use Rattle.syslog_pieces.specs.Text.{number}
-use Rattle.syslog_pieces.proofs.ClassLemmas.{row_nil, row_cons, row_none_here, row_none_later, exactly_det}
+use Rattle.syslog_pieces.proofs.PieceLemmas.Class.{row_nil, row_cons, row_none_here, row_none_later, exactly_det}
 use Rattle.syslog_pieces.proofs.PriLemmas.{as_priority, no_priority}
-use Rattle.syslog_pieces.proofs.WordLemmas.{number_det}
+use Rattle.syslog_pieces.proofs.TextLemmas.Words.{number_det}
 use Rattle.syslog_pieces.proofs.pri.priority.Goals as goal
 
 abbrev opens : Class

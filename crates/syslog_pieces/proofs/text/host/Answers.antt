@@ -1,8 +1,8 @@
 use Rattle.std.specs.Char.{encode_utf8}
-use Rattle.syslog_pieces.specs.View.{seen}
+use Rattle.syslog_pieces.specs.Pieces.View.{seen}
 use Rattle.syslog_pieces.proofs.text.host.Goals as goal
-use Rattle.syslog_pieces.proofs.CharLemmas.{empty_is, nonempty_is}
-use Rattle.syslog_pieces.proofs.WordLemmas.{no_host_empty, host_front, host_colon_read, no_host_colon_read}
+use Rattle.syslog_pieces.proofs.TextLemmas.Chars.{empty_is, nonempty_is}
+use Rattle.syslog_pieces.proofs.TextLemmas.Words.{no_host_empty, host_front, host_colon_read, no_host_colon_read}
 
 pub returns-then-is_empty : goal.returns-then-is_empty
 returns-then-is_empty c = no_host_empty c.args.text.now c.split_run.result.0.now c.split_run.result.1.now c.split_run.ensures (empty_is _ c.if-is_empty.ensures)

@@ -1,8 +1,8 @@
 use Rattle.std.proofs.Common.{refl}
 use Rattle.syslog_pieces.specs.Text.{dash}
 use Rattle.syslog_pieces.proofs.text.named.Goals as goal
-use Rattle.syslog_pieces.proofs.CharLemmas.{text_is, text_is_not}
-use Rattle.syslog_pieces.proofs.WordLemmas.{dash_ascii}
+use Rattle.syslog_pieces.proofs.TextLemmas.Chars.{text_is, text_is_not}
+use Rattle.syslog_pieces.proofs.TextLemmas.Words.{dash_ascii}
 
 pub returns-then-eq : goal.returns-then-eq
 returns-then-eq c = text_is c.args.run.now dash dash_ascii c.if-eq.ensures

@@ -1,7 +1,7 @@
 use Rattle.std.proofs.Common.{ℕ, List, subst, refl, rules}
-use Rattle.syslog_pieces.specs.Scan.{IsRun, byte_in}
-use Rattle.syslog_pieces.specs.CharClass.{has}
-use Rattle.syslog_pieces.proofs.RunLemmas.{ascii_ends}
+use Rattle.syslog_pieces.specs.Bodies.Scan.{IsRun, byte_in}
+use Rattle.syslog_pieces.specs.Text.CharClass.{has}
+use Rattle.syslog_pieces.proofs.TextLemmas.Runs.{ascii_ends}
 use Rattle.syslog_pieces.proofs.text.run_end.Goals as goal
 
 pub returns-then-is_cut : goal.returns-then-is_cut

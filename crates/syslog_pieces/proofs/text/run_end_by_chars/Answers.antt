@@ -1,8 +1,8 @@
 use Rattle.std.proofs.Common.{rules, refl, ℕ, Bool, not}
 use Rattle.std.proofs.lemmas.Fn.{always_returns_same}
 use Rattle.std.proofs.lemmas.Str.{IsCharBoundary-end}
-use Rattle.syslog_pieces.specs.CharClass.{has}
-use Rattle.syslog_pieces.proofs.CharLemmas.{found_run, found_none}
+use Rattle.syslog_pieces.specs.Text.CharClass.{has}
+use Rattle.syslog_pieces.proofs.TextLemmas.Chars.{found_run, found_none}
 use Rattle.syslog_pieces.proofs.text.run_end_by_chars.Goals as goal
 
 pub returns-in-Some : goal.returns-in-Some

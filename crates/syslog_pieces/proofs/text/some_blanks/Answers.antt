@@ -1,7 +1,7 @@
 use Rattle.syslog_pieces.specs.Text.{is_blank}
 use Rattle.syslog_pieces.proofs.text.some_blanks.Goals as goal
-use Rattle.syslog_pieces.proofs.RunLemmas.{some_run_front, no_some_run}
-use Rattle.syslog_pieces.proofs.CharLemmas.{empty_is, nonempty_is}
+use Rattle.syslog_pieces.proofs.TextLemmas.Runs.{some_run_front, no_some_run}
+use Rattle.syslog_pieces.proofs.TextLemmas.Chars.{empty_is, nonempty_is}
 
 pub returns-then-is_empty : goal.returns-then-is_empty
 returns-then-is_empty c = no_some_run is_blank c.args.text.now c.split_run.result.0.now c.split_run.result.1.now c.split_run.ensures (empty_is _ c.if-is_empty.ensures)

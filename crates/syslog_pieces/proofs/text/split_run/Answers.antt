@@ -1,5 +1,5 @@
-use Rattle.syslog_pieces.specs.CharClass.{has}
-use Rattle.syslog_pieces.proofs.RunLemmas.{split_at_end}
+use Rattle.syslog_pieces.specs.Text.CharClass.{has}
+use Rattle.syslog_pieces.proofs.TextLemmas.Runs.{split_at_end}
 use Rattle.syslog_pieces.proofs.text.split_run.Goals as goal
 
 pub returns : goal.returns

@@ -1,6 +1,6 @@
 use Rattle.std.proofs.Common.{ap, ◌∙◌}
 use Rattle.std.specs.Str.{chars}
-use Rattle.syslog_pieces.proofs.TrimLemmas.{trimmed_chars}
+use Rattle.syslog_pieces.proofs.TextLemmas.Trim.{trimmed_chars}
 use Rattle.syslog_pieces.proofs.text.trimmed.Goals as goal
 
 pub returns : goal.returns

@@ -1,8 +1,8 @@
-use Rattle.syslog_pieces.specs.View.{seen}
+use Rattle.syslog_pieces.specs.Pieces.View.{seen}
 use Rattle.syslog_pieces.specs.Text.{colon}
 use Rattle.syslog_pieces.proofs.text.word.Goals as goal
-use Rattle.syslog_pieces.proofs.CharLemmas.{empty_is, nonempty_is, text_is, text_is_not}
-use Rattle.syslog_pieces.proofs.WordLemmas.{word_front, no_word_empty, no_word_colon, colon_ascii}
+use Rattle.syslog_pieces.proofs.TextLemmas.Chars.{empty_is, nonempty_is, text_is, text_is_not}
+use Rattle.syslog_pieces.proofs.TextLemmas.Words.{word_front, no_word_empty, no_word_colon, colon_ascii}
 
 pub returns-then-is_empty : goal.returns-then-is_empty
 returns-then-is_empty c = no_word_empty c.args.text.now c.split_run.result.0.now c.split_run.result.1.now c.split_run.ensures (empty_is _ c.if-is_empty.ensures)

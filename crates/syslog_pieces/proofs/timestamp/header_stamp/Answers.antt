@@ -1,8 +1,8 @@
 use Rattle.std.proofs.Common.{rules}
 use Rattle.std.specs.Str.{chars}
-use Rattle.syslog_pieces.specs.Class.{NoFront}
+use Rattle.syslog_pieces.specs.Pieces.Class.{NoFront}
 use Rattle.syslog_pieces.specs.Timestamp.{header_stamp}
-use Rattle.syslog_pieces.proofs.StampPieceLemmas.{dash_front, stamp_front, no_stamp_front, no_space_front}
+use Rattle.syslog_pieces.proofs.TimestampLemmas.Piece.{dash_front, stamp_front, no_stamp_front, no_space_front}
 use Rattle.syslog_pieces.proofs.timestamp.header_stamp.Goals as goal
 
 pub returns-in-Some : goal.returns-in-Some

@@ -1,7 +1,7 @@
 use Rattle.std.proofs.Common.{ap, ◌∙◌, sym}
-use Rattle.syslog_pieces.specs.Timestamp.Reading.{written}
-use Rattle.syslog_pieces.proofs.Stamps.Answers.{answer_of_text, no_answer_of_text}
-use Rattle.syslog_pieces.proofs.Stamps.Characters.{answer_of_characters}
+use Rattle.syslog_pieces.specs.Bodies.StampReading.{written}
+use Rattle.syslog_pieces.proofs.TimestampLemmas.Answers.{answer_of_text, no_answer_of_text}
+use Rattle.syslog_pieces.proofs.TimestampLemmas.Characters.{answer_of_characters}
 use Rattle.syslog_pieces.proofs.timestamp.rfc3339.Goals as goal
 
 pub returns : goal.returns

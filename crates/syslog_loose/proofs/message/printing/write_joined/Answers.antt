@@ -3,9 +3,9 @@ use Rattle.std.proofs.Output.{has_written_of_eq}
 use Rattle.std.proofs.lemmas.Grind.{put_two}
 use Rattle.std.proofs.lemmas.List.{take_all}
 use Rattle.std.specs.Str.{encode_utf8_all}
-use Rattle.syslog_pieces.specs.Element.{element_text, element_value}
-use Rattle.syslog_pieces.specs.View.{text_of}
-use Rattle.syslog_pieces.proofs.PrintLemmas.{encodes_step, flat_map-map}
+use Rattle.syslog_pieces.specs.StructuredData.Element.{element_text, element_value}
+use Rattle.syslog_pieces.specs.Pieces.View.{text_of}
+use Rattle.syslog_pieces.proofs.TextLemmas.Printed.{encodes_step, flat_map-map}
 use Rattle.syslog_loose.proofs.message.printing.write_joined.Goals as goal
 
 pub loop-element-preserved : goal.loop-element-preserved

@@ -1,5 +1,5 @@
 use Rattle.std.proofs.Common.{rules, ◌≡◌, ◌≢◌, ◌⊎◌, ◌<◌, ◌≤◌, IfSome, IsSomeAnd, subst}
-use Rattle.syslog_pieces.specs.Class.{Text}
+use Rattle.syslog_pieces.specs.Pieces.Class.{Text}
 use Rattle.syslog_pieces.specs.Pri.{severity_number}
 use Rattle.syslog_pieces.specs.declared.pri.SyslogFacility.TheVariants.{LOG_AUTH, LOG_AUTHPRIV}
 use Rattle.syslog_loose.specs.Message.{MessageValue}

@@ -2,7 +2,7 @@ use Rattle.std.proofs.Common.{ap, sym, ◌∙◌, ℕ, List}
 use Rattle.std.proofs.Output.{has_written_of_eq}
 use Rattle.std.proofs.lemmas.Str.{encodes-chars}
 use Rattle.std.specs.Str.{chars, encode_utf8_all}
-use Rattle.syslog_pieces.proofs.DecimalLemmas.{encodes-signed}
+use Rattle.syslog_pieces.proofs.TextLemmas.Decimals.{encodes-signed}
 use Rattle.syslog_pieces.proofs.procid.ProcIdDisplay.fmt.Goals as goal
 
 pub returns-in-PID-clause-writes : goal.returns-in-PID-clause-writes

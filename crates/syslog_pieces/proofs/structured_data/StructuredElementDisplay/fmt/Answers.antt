@@ -2,10 +2,10 @@ use Rattle.std.proofs.Common.{refl, ◌∙◌, ap, sym, [], ◌∷◌, ◌++◌,
 use Rattle.std.proofs.lemmas.Grind.{put_two}
 use Rattle.std.proofs.lemmas.List.{take_all}
 use Rattle.std.specs.List.{flat_map}
-use Rattle.syslog_pieces.specs.Class.{Text}
-use Rattle.syslog_pieces.specs.Element.{param_text, param_value}
-use Rattle.syslog_pieces.specs.View.{text_of}
-use Rattle.syslog_pieces.proofs.PrintLemmas.{encodes_shown, encodes_step, encodes_param, encodes_opening, encodes_closed, flat_map-map}
+use Rattle.syslog_pieces.specs.Pieces.Class.{Text}
+use Rattle.syslog_pieces.specs.StructuredData.Element.{param_text, param_value}
+use Rattle.syslog_pieces.specs.Pieces.View.{text_of}
+use Rattle.syslog_pieces.proofs.TextLemmas.Printed.{encodes_shown, encodes_step, encodes_param, encodes_opening, encodes_closed, flat_map-map}
 use Rattle.syslog_pieces.proofs.structured_data.StructuredElementDisplay.fmt.Goals as goal
 
 pub loop-name-init : goal.loop-name-init

@@ -1,5 +1,5 @@
 use Rattle.std.specs.Str.{chars}
-use Rattle.syslog_pieces.proofs.ClosingLemmas.{no_start, no_element_starts, element_read}
+use Rattle.syslog_pieces.proofs.StructuredDataLemmas.Closing.{no_start, no_element_starts, element_read}
 use Rattle.syslog_pieces.proofs.structured_data.element.collect_element.Goals as goal
 
 pub returns-in_default : goal.returns-in_default

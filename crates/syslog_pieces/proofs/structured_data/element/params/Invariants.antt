@@ -2,10 +2,10 @@ use Rattle.std.proofs.Common.{length, map}
 use denote.Shadow.{shadow}
 use denote.Text.{Utf8}
 use Rattle.std.specs.Str.{chars}
-use Rattle.syslog_pieces.specs.Element.{param_value}
+use Rattle.syslog_pieces.specs.StructuredData.Element.{param_value}
 use Rattle.syslog_pieces.specs.StructuredData.{param}
-use Rattle.syslog_pieces.specs.View.{shown}
-use Rattle.syslog_pieces.proofs.ListLemmas.{Collects}
+use Rattle.syslog_pieces.specs.Pieces.View.{shown}
+use Rattle.syslog_pieces.proofs.PieceLemmas.Lists.{Collects}
 use Rattle.syslog_pieces.proofs.structured_data.element.params.Given as goal
 
 abbrev pub invariant-params : goal.invariant-params

@@ -1,7 +1,7 @@
 use Rattle.std.proofs.Common.{rules, sym, arith}
 use Rattle.std.specs.Str.{chars}
-use Rattle.syslog_pieces.proofs.ClosingLemmas.{byte_count_slice, dead_whole}
-use Rattle.syslog_pieces.proofs.CutLemmas.{quoted_longer, quoted_cut, quoted_value}
+use Rattle.syslog_pieces.proofs.StructuredDataLemmas.Closing.{byte_count_slice, dead_whole}
+use Rattle.syslog_pieces.proofs.StructuredDataLemmas.Cuts.{quoted_longer, quoted_cut, quoted_value}
 use Rattle.syslog_pieces.proofs.structured_data.element.quoted.Goals as goal
 
 pub live_value-requires : goal.live_value-requires

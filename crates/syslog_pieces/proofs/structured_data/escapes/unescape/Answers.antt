@@ -1,7 +1,7 @@
 use Rattle.std.proofs.Common.{rules, string_bytes, ap, ◌∙◌}
 use Rattle.std.specs.Str.{chars}
 use Rattle.std.proofs.lemmas.Str.{chars-nil}
-use Rattle.syslog_pieces.proofs.UnitLemmas.{removes_here, removes_end, removes_lone, removes_pair}
+use Rattle.syslog_pieces.proofs.StructuredDataLemmas.Units.{removes_here, removes_end, removes_lone, removes_pair}
 use Rattle.syslog_pieces.proofs.structured_data.escapes.unescape.Goals as goal
 
 pub units-init : goal.units-init

@@ -3,7 +3,7 @@ use denote.Shadow.{shadow}
 use denote.Text.{Utf8}
 use Rattle.std.specs.Str.{chars}
 use Rattle.std.specs.Prelude.{string_bytes}
-use Rattle.syslog_pieces.proofs.UnitLemmas.{Removes}
+use Rattle.syslog_pieces.proofs.StructuredDataLemmas.Units.{Removes}
 use Rattle.syslog_pieces.proofs.structured_data.escapes.unescape.Given as goal
 
 abbrev pub invariant-units : goal.invariant-units

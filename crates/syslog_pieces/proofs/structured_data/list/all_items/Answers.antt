@@ -2,10 +2,10 @@ use Rattle.std.proofs.Common.{rules, [], ◌∷◌, ◌++◌, refl, sym}
 use Rattle.std.specs.Prelude.{is_some, is_none}
 use Rattle.std.specs.Str.{chars}
 use Rattle.syslog_pieces.specs.StructuredData.{item}
-use Rattle.syslog_pieces.proofs.ClosingLemmas.{byte_count_slice, dead_whole}
-use Rattle.syslog_pieces.proofs.ElementLemmas.{item_shorter}
-use Rattle.syslog_pieces.proofs.ItemLemmas.{any_push, none_is_not_some}
-use Rattle.syslog_pieces.proofs.ListLemmas.{has_read_none, has_read_more, has_read_all}
+use Rattle.syslog_pieces.proofs.StructuredDataLemmas.Closing.{byte_count_slice, dead_whole}
+use Rattle.syslog_pieces.proofs.StructuredDataLemmas.Elements.{item_shorter}
+use Rattle.syslog_pieces.proofs.StructuredDataLemmas.Items.{any_push, none_is_not_some}
+use Rattle.syslog_pieces.proofs.PieceLemmas.Lists.{has_read_none, has_read_more, has_read_all}
 use Rattle.syslog_pieces.proofs.structured_data.list.all_items.Goals as goal
 
 pub items-init : goal.items-init

@@ -4,10 +4,10 @@ use denote.Text.{Utf8}
 use Rattle.std.specs.List.{list_any}
 use Rattle.std.specs.Prelude.{is_some, is_none}
 use Rattle.std.specs.Str.{chars}
-use Rattle.syslog_pieces.specs.Closing.{IsDead}
-use Rattle.syslog_pieces.specs.Element.{ElementValue}
+use Rattle.syslog_pieces.specs.Bodies.Closing.{IsDead}
+use Rattle.syslog_pieces.specs.StructuredData.Element.{ElementValue}
 use Rattle.syslog_pieces.specs.StructuredData.{item}
-use Rattle.syslog_pieces.proofs.ListLemmas.{HasRead}
+use Rattle.syslog_pieces.proofs.PieceLemmas.Lists.{HasRead}
 use Rattle.syslog_pieces.proofs.structured_data.list.all_items.Given as goal
 
 abbrev pub invariant-items : goal.invariant-items

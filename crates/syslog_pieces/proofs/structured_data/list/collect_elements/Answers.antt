@@ -2,11 +2,11 @@ use Rattle.std.proofs.Common.{rules, ℕ, List, [], ◌∷◌, map, sym, ap, sub
 use Rattle.std.proofs.lemmas.List.{map-append}
 use Rattle.std.specs.Borrow.{Bor}
 use Rattle.std.specs.Str.{chars}
-use Rattle.syslog_pieces.specs.Element.{ElementValue, element_value}
+use Rattle.syslog_pieces.specs.StructuredData.Element.{ElementValue, element_value}
 use Rattle.syslog_pieces.specs.StructuredData.{element}
-use Rattle.syslog_pieces.specs.View.{shown}
-use Rattle.syslog_pieces.proofs.ElementLemmas.{element_shorter}
-use Rattle.syslog_pieces.proofs.ListLemmas.{HasRead, has_read_none, has_read_more, has_read_all}
+use Rattle.syslog_pieces.specs.Pieces.View.{shown}
+use Rattle.syslog_pieces.proofs.StructuredDataLemmas.Elements.{element_shorter}
+use Rattle.syslog_pieces.proofs.PieceLemmas.Lists.{HasRead, has_read_none, has_read_more, has_read_all}
 use Rattle.syslog_pieces.proofs.structured_data.list.collect_elements.Goals as goal
 
 pub elements-init : goal.elements-init

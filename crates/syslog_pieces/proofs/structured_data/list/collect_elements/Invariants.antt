@@ -2,10 +2,10 @@ use Rattle.std.proofs.Common.{length, map}
 use denote.Shadow.{shadow}
 use denote.Text.{Utf8}
 use Rattle.std.specs.Str.{chars}
-use Rattle.syslog_pieces.specs.Element.{element_value}
+use Rattle.syslog_pieces.specs.StructuredData.Element.{element_value}
 use Rattle.syslog_pieces.specs.StructuredData.{element}
-use Rattle.syslog_pieces.specs.View.{shown}
-use Rattle.syslog_pieces.proofs.ListLemmas.{HasRead}
+use Rattle.syslog_pieces.specs.Pieces.View.{shown}
+use Rattle.syslog_pieces.proofs.PieceLemmas.Lists.{HasRead}
 use Rattle.syslog_pieces.proofs.structured_data.list.collect_elements.Given as goal
 
 abbrev pub invariant-elements : goal.invariant-elements

@@ -1,13 +1,13 @@
 use Rattle.std.proofs.Common.{rules, ℕ, List, [], ◌∷◌, ◌++◌, map, sym, ap, ◌∙◌}
 use Rattle.std.specs.Borrow.{Bor}
 use Rattle.std.specs.Str.{chars}
-use Rattle.syslog_pieces.specs.Element.{element_value}
+use Rattle.syslog_pieces.specs.StructuredData.Element.{element_value}
 use Rattle.syslog_pieces.specs.StructuredData.{item}
-use Rattle.syslog_pieces.specs.View.{shown}
-use Rattle.syslog_pieces.proofs.ClosingLemmas.{byte_count_slice, dead_whole}
-use Rattle.syslog_pieces.proofs.ElementLemmas.{item_shorter}
-use Rattle.syslog_pieces.proofs.ItemLemmas.{strict_there, collected_strict, collected_broken}
-use Rattle.syslog_pieces.proofs.ListLemmas.{has_read_none, has_read_more, has_read_all}
+use Rattle.syslog_pieces.specs.Pieces.View.{shown}
+use Rattle.syslog_pieces.proofs.StructuredDataLemmas.Closing.{byte_count_slice, dead_whole}
+use Rattle.syslog_pieces.proofs.StructuredDataLemmas.Elements.{item_shorter}
+use Rattle.syslog_pieces.proofs.StructuredDataLemmas.Items.{strict_there, collected_strict, collected_broken}
+use Rattle.syslog_pieces.proofs.PieceLemmas.Lists.{has_read_none, has_read_more, has_read_all}
 use Rattle.syslog_pieces.proofs.structured_data.list.collect_items.Goals as goal
 use Rattle.syslog_pieces.proofs.structured_data.list.collect_items.Goals.{then-item+in_ok-element+in-Some-2+in_ok-push, else-item}
 

@@ -2,11 +2,11 @@ use Rattle.std.proofs.Common.{◌≡◌, List, Option, length, map}
 use denote.Shadow.{shadow}
 use denote.Text.{Utf8}
 use Rattle.std.specs.Str.{chars}
-use Rattle.syslog_pieces.specs.Closing.{IsDead}
-use Rattle.syslog_pieces.specs.Element.{ElementValue, element_value}
+use Rattle.syslog_pieces.specs.Bodies.Closing.{IsDead}
+use Rattle.syslog_pieces.specs.StructuredData.Element.{ElementValue, element_value}
 use Rattle.syslog_pieces.specs.StructuredData.{item, strict}
-use Rattle.syslog_pieces.specs.View.{shown}
-use Rattle.syslog_pieces.proofs.ListLemmas.{HasRead}
+use Rattle.syslog_pieces.specs.Pieces.View.{shown}
+use Rattle.syslog_pieces.proofs.PieceLemmas.Lists.{HasRead}
 use Rattle.syslog_pieces.proofs.structured_data.list.collect_items.Given as goal
 
 abbrev pub invariant-items : goal.invariant-items

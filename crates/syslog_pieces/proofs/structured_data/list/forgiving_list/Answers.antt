@@ -1,11 +1,11 @@
 use Rattle.std.proofs.Common.{ℕ, List, map, sym, ap, subst, ◌∙◌}
 use Rattle.std.specs.Borrow.{Bor}
 use Rattle.std.specs.Str.{chars}
-use Rattle.syslog_pieces.specs.Class.{Front}
-use Rattle.syslog_pieces.specs.Element.{ElementValue, element_value}
+use Rattle.syslog_pieces.specs.Pieces.Class.{Front}
+use Rattle.syslog_pieces.specs.StructuredData.Element.{ElementValue, element_value}
 use Rattle.syslog_pieces.specs.StructuredData.{forgiving}
-use Rattle.syslog_pieces.specs.View.{shown}
-use Rattle.syslog_pieces.proofs.ItemLemmas.{no_list, items_none, list_without, list_asks, list_collected, list_of_elements}
+use Rattle.syslog_pieces.specs.Pieces.View.{shown}
+use Rattle.syslog_pieces.proofs.StructuredDataLemmas.Items.{no_list, items_none, list_without, list_asks, list_collected, list_of_elements}
 use Rattle.syslog_pieces.proofs.structured_data.list.forgiving_list.Goals as goal
 
 pub returns-then-not-items-2-clause-list : goal.returns-then-not-items-2-clause-list

@@ -1,9 +1,9 @@
 use Rattle.std.proofs.Common.{rules, ℕ, Some, None, refl, sym, subst}
 use Rattle.std.specs.Str.{chars}
-use Rattle.syslog_pieces.specs.Class.{NoFront}
-use Rattle.syslog_pieces.specs.Closing.{IsDead}
+use Rattle.syslog_pieces.specs.Pieces.Class.{NoFront}
+use Rattle.syslog_pieces.specs.Bodies.Closing.{IsDead}
 use Rattle.syslog_pieces.specs.StructuredData.{element, bracketed, item}
-use Rattle.syslog_pieces.proofs.ItemLemmas.{no_item, element_item, bracketed_item, dead_least, dead_on}
+use Rattle.syslog_pieces.proofs.StructuredDataLemmas.Items.{no_item, element_item, bracketed_item, dead_least, dead_on}
 use Rattle.syslog_pieces.proofs.structured_data.list.next_item.Goals as goal
 
 pub returns-in-Ok : goal.returns-in-Ok

@@ -1,12 +1,12 @@
 use Rattle.std.proofs.Common.{rules, [], ◌∷◌}
 use Rattle.std.specs.Str.{chars}
-use Rattle.syslog_pieces.specs.Class.{Class, NoFront, run, exactly}
+use Rattle.syslog_pieces.specs.Pieces.Class.{Class, NoFront, run, exactly}
 use Rattle.syslog_pieces.specs.StructuredData.{bracketed}
-use Rattle.syslog_pieces.specs.CharClass.{is_open_char}
-use Rattle.syslog_pieces.proofs.ClassLemmas.{row_nil, row_cons, row_none_here, row_none_later, exactly_det, run_det}
-use Rattle.syslog_pieces.proofs.MeetLemmas.{match_map}
+use Rattle.syslog_pieces.specs.Text.CharClass.{is_open_char}
+use Rattle.syslog_pieces.proofs.PieceLemmas.Class.{row_nil, row_cons, row_none_here, row_none_later, exactly_det, run_det}
+use Rattle.syslog_pieces.proofs.PieceLemmas.Meets.{match_map}
 use Rattle.syslog_pieces.proofs.structured_data.walk.after_bracketed.Goals as goal
-use Rattle.syslog_pieces.proofs.RunLemmas.{run_front}
+use Rattle.syslog_pieces.proofs.TextLemmas.Runs.{run_front}
 
 abbrev c1 : Class
 c1 = exactly (91 ∷ [])

@@ -1,6 +1,6 @@
 use Rattle.std.proofs.Common.{sym}
 use Rattle.std.specs.Str.{chars}
-use Rattle.syslog_pieces.proofs.ClosingLemmas.{byte_count_slice, dead_whole}
+use Rattle.syslog_pieces.proofs.StructuredDataLemmas.Closing.{byte_count_slice, dead_whole}
 use Rattle.syslog_pieces.proofs.structured_data.walk.after_element.Goals as goal
 
 pub live_element-requires : goal.live_element-requires

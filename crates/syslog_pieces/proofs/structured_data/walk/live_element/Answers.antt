@@ -1,13 +1,13 @@
 use Rattle.std.proofs.Common.{rules, ◌≡◌, ℕ, Result, Ok, Err, sym, subst}
 use Rattle.std.specs.Result.{MatchResult, IsErrAnd}
 use Rattle.std.specs.Str.{chars}
-use Rattle.syslog_pieces.specs.Class.{NoFront}
+use Rattle.syslog_pieces.specs.Pieces.Class.{NoFront}
 use Rattle.syslog_pieces.specs.StructuredData.{element}
-use Rattle.syslog_pieces.specs.Closing.{closing, IsDead}
-use Rattle.syslog_pieces.proofs.MeetLemmas.{meets_none}
-use Rattle.syslog_pieces.proofs.ClosingLemmas.{byte_count_slice, dead_suffix}
-use Rattle.syslog_pieces.proofs.ClosingLemmas.{no_start, passes_dead_on}
-use Rattle.syslog_pieces.proofs.WalkLemmas.{element_bare, element_unopened, element_enters, element_ends, element_breaks, element_breaks_on, element_goes}
+use Rattle.syslog_pieces.specs.Bodies.Closing.{closing, IsDead}
+use Rattle.syslog_pieces.proofs.PieceLemmas.Meets.{meets_none}
+use Rattle.syslog_pieces.proofs.StructuredDataLemmas.Closing.{byte_count_slice, dead_suffix}
+use Rattle.syslog_pieces.proofs.StructuredDataLemmas.Closing.{no_start, passes_dead_on}
+use Rattle.syslog_pieces.proofs.StructuredDataLemmas.Walk.{element_bare, element_unopened, element_enters, element_ends, element_breaks, element_breaks_on, element_goes}
 use Rattle.syslog_pieces.proofs.structured_data.walk.live_element.Goals as goal
 
 pub returns-in_default : goal.returns-in_default

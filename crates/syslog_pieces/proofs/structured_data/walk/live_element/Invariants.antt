@@ -3,9 +3,9 @@ use denote.Shadow.{shadow}
 use denote.Text.{Utf8}
 use Rattle.std.specs.Str.{chars}
 use Rattle.syslog_pieces.specs.StructuredData.{element}
-use Rattle.syslog_pieces.specs.Closing.{closing}
-use Rattle.syslog_pieces.proofs.MeetLemmas.{Meets}
-use Rattle.syslog_pieces.proofs.ClosingLemmas.{Passes}
+use Rattle.syslog_pieces.specs.Bodies.Closing.{closing}
+use Rattle.syslog_pieces.proofs.PieceLemmas.Meets.{Meets}
+use Rattle.syslog_pieces.proofs.StructuredDataLemmas.Closing.{Passes}
 use Rattle.syslog_pieces.proofs.structured_data.walk.live_element.Given as goal
 
 abbrev pub invariant-params : goal.invariant-params

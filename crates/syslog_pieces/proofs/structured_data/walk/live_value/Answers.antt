@@ -1,8 +1,8 @@
 use Rattle.std.proofs.Common.{arith, ◌≤◌, ◌∙◌}
 use Rattle.std.specs.Str.{chars}
-use Rattle.syslog_pieces.specs.Closing.{byte_count}
-use Rattle.syslog_pieces.proofs.ClosingLemmas.{byte_count_slice}
-use Rattle.syslog_pieces.proofs.WalkLemmas.{value_quoted, value_missing, value_on, text_on, value_dead, value_past}
+use Rattle.syslog_pieces.specs.Bodies.Closing.{byte_count}
+use Rattle.syslog_pieces.proofs.StructuredDataLemmas.Closing.{byte_count_slice}
+use Rattle.syslog_pieces.proofs.StructuredDataLemmas.Walk.{value_quoted, value_missing, value_on, text_on, value_dead, value_past}
 use Rattle.syslog_pieces.proofs.structured_data.walk.live_value.Goals as goal
 
 pub returns-in-Some : goal.returns-in-Some

@@ -3,7 +3,7 @@ use denote.Shadow.{shadow}
 use denote.Text.{Utf8}
 use Rattle.std.specs.Str.{chars}
 use Rattle.syslog_pieces.specs.StructuredData.{value}
-use Rattle.syslog_pieces.proofs.MeetLemmas.{Meets}
+use Rattle.syslog_pieces.proofs.PieceLemmas.Meets.{Meets}
 use Rattle.syslog_pieces.proofs.structured_data.walk.live_value.Given as goal
 
 abbrev pub invariant-units : goal.invariant-units

@@ -1,10 +1,10 @@
 use Rattle.std.proofs.Common.{refl}
 use Rattle.std.specs.Str.{chars}
-use Rattle.syslog_pieces.specs.CharClass.{has}
-use Rattle.syslog_pieces.specs.Class.{some_run}
-use Rattle.syslog_pieces.proofs.CharLemmas.{empty_is, nonempty_is, chars_nonempty}
-use Rattle.syslog_pieces.proofs.ClassLemmas.{no_texted}
-use Rattle.syslog_pieces.proofs.RunLemmas.{no_some_run}
+use Rattle.syslog_pieces.specs.Text.CharClass.{has}
+use Rattle.syslog_pieces.specs.Pieces.Class.{some_run}
+use Rattle.syslog_pieces.proofs.TextLemmas.Chars.{empty_is, nonempty_is, chars_nonempty}
+use Rattle.syslog_pieces.proofs.PieceLemmas.Class.{no_texted}
+use Rattle.syslog_pieces.proofs.TextLemmas.Runs.{no_some_run}
 use Rattle.syslog_pieces.proofs.structured_data.walk.nonempty_run.Goals as goal
 
 pub returns-then-is_empty : goal.returns-then-is_empty

@@ -1,10 +1,10 @@
 use Rattle.std.proofs.Common.{rules, [], ◌∷◌}
 use Rattle.std.specs.Str.{chars}
-use Rattle.syslog_pieces.specs.CharClass.{is_name_char}
-use Rattle.syslog_pieces.specs.Class.{Class, NoFront, run, some_run, exactly, texted}
-use Rattle.syslog_pieces.specs.Closing.{opening}
+use Rattle.syslog_pieces.specs.Text.CharClass.{is_name_char}
+use Rattle.syslog_pieces.specs.Pieces.Class.{Class, NoFront, run, some_run, exactly, texted}
+use Rattle.syslog_pieces.specs.Bodies.Closing.{opening}
 use Rattle.syslog_pieces.specs.Text.{is_blank}
-use Rattle.syslog_pieces.proofs.ClassLemmas.{row_nil, row_cons, row_none_here, row_none_later, exactly_det, some_run_det, run_det, texted_det}
+use Rattle.syslog_pieces.proofs.PieceLemmas.Class.{row_nil, row_cons, row_none_here, row_none_later, exactly_det, some_run_det, run_det, texted_det}
 use Rattle.syslog_pieces.proofs.structured_data.walk.opening.Goals as goal
 
 abbrev name : Class

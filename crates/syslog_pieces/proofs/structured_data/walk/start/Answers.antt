@@ -1,10 +1,10 @@
 use Rattle.std.proofs.Common.{rules, [], ◌∷◌}
 use Rattle.std.specs.Str.{chars}
-use Rattle.syslog_pieces.specs.CharClass.{is_id_char}
-use Rattle.syslog_pieces.specs.Class.{Class, NoFront, run, some_run, exactly, texted}
-use Rattle.syslog_pieces.specs.Closing.{start}
+use Rattle.syslog_pieces.specs.Text.CharClass.{is_id_char}
+use Rattle.syslog_pieces.specs.Pieces.Class.{Class, NoFront, run, some_run, exactly, texted}
+use Rattle.syslog_pieces.specs.Bodies.Closing.{start}
 use Rattle.syslog_pieces.specs.Text.{is_blank}
-use Rattle.syslog_pieces.proofs.ClassLemmas.{row_nil, row_cons, row_none_here, row_none_later, exactly_det}
+use Rattle.syslog_pieces.proofs.PieceLemmas.Class.{row_nil, row_cons, row_none_here, row_none_later, exactly_det}
 use Rattle.syslog_pieces.proofs.structured_data.walk.start.Goals as goal
 
 abbrev bracket : Class

@@ -1,10 +1,10 @@
 use Rattle.std.proofs.Common.{rules, arith, ◌≡◌, ◌≢◌, ℕ, List, [], ◌∷◌, refl, sym, ap, ◌∙◌}
 use Rattle.std.specs.Str.{chars}
-use Rattle.syslog_pieces.specs.Class.{NoFront}
+use Rattle.syslog_pieces.specs.Pieces.Class.{NoFront}
 use Rattle.syslog_pieces.specs.StructuredData.{value}
-use Rattle.syslog_pieces.specs.Escapes.{pair, single}
-use Rattle.syslog_pieces.proofs.MeetLemmas.{match_map}
-use Rattle.syslog_pieces.proofs.WalkLemmas.{no_value_empty, no_value_lone}
+use Rattle.syslog_pieces.specs.StructuredData.Escapes.{pair, single}
+use Rattle.syslog_pieces.proofs.PieceLemmas.Meets.{match_map}
+use Rattle.syslog_pieces.proofs.StructuredDataLemmas.Walk.{no_value_empty, no_value_lone}
 use Rattle.syslog_pieces.proofs.structured_data.walk.unit.Goals as goal
 
 no_quote : (c : ℕ) → c ≡ 92 → c ≢ 34

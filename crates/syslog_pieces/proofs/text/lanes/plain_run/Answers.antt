@@ -1,9 +1,9 @@
 use Rattle.std.proofs.Common.{ℕ, leb, cond, refl}
 use Rattle.std.proofs.lemmas.Simd.{zip2_splat, length-chunk}
 use lib.Lanes.{chunk}
-use Rattle.syslog_pieces.specs.Scan.{byte_in}
+use Rattle.syslog_pieces.specs.Bodies.Scan.{byte_in}
 use Rattle.syslog_pieces.specs.declared.text.CharClass.TheVariants.{Plain}
-use Rattle.syslog_pieces.proofs.LaneLemmas.{joined, splat_is, itself, run_in}
+use Rattle.syslog_pieces.proofs.TextLemmas.Lanes.{joined, splat_is, itself, run_in}
 use Rattle.syslog_pieces.proofs.text.lanes.plain_run.Goals as goal
 
 pub returns : goal.returns

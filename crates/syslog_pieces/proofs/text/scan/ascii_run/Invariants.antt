@@ -1,5 +1,5 @@
 use Rattle.std.proofs.Common.{◌-◌, ◌≤◌, ◌<◌, ◌≡◌, ℕ, true, length, slice_index}
-use Rattle.syslog_pieces.specs.Scan.{byte_in}
+use Rattle.syslog_pieces.specs.Bodies.Scan.{byte_in}
 use Rattle.syslog_pieces.proofs.text.scan.ascii_run.Given as goal
 
 abbrev pub invariant-blocks-2 : goal.invariant-blocks-2

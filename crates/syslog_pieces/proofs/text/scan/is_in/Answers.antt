@@ -3,8 +3,8 @@ use Rattle.std.proofs.Common.{◌≡◌, ℕ, Bool, true, not, nat_eq, get_or, b
 use Rattle.std.proofs.lemmas.Bool.{agree_below, agree_below_at}
 use Rattle.syslog_pieces.specs.declared.text.scan.TheConstants.{CLASSES}
 use Rattle.syslog_pieces.specs.declared.text.CharClass.{CharClass}
-use Rattle.syslog_pieces.specs.declared.text.CharClass.TheVariants.{Digit, Blank, Visible, Id, Name, Plain, Open, Inert, Bare}
-use Rattle.syslog_pieces.specs.Scan.{byte_in, bit_of}
+use Rattle.syslog_pieces.specs.declared.text.CharClass.TheVariants.{Digit, Blank, Visible, Id, Name, Plain, Open, Inert, Bare, Tag, Label}
+use Rattle.syslog_pieces.specs.Bodies.Scan.{byte_in, bit_of}
 use Rattle.syslog_pieces.proofs.text.scan.is_in.Goals as goal
 
 abbrev reads : CharClass → ℕ → Bool
@@ -20,6 +20,8 @@ agrees Plain = refl
 agrees Open = refl
 agrees Inert = refl
 agrees Bare = refl
+agrees Tag = refl
+agrees Label = refl
 
 pub returns : goal.returns
 returns c =

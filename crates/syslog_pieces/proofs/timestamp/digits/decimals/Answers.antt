@@ -5,8 +5,8 @@ use Rattle.std.proofs.lemmas.List.{at_drop_all, take_min}
 use Rattle.std.proofs.Math.Nat.{mul-le-mul_right, min_comm}
 use Rattle.jiff_fmt.specs.Reader.{fraction_value}
 use Rattle.jiff_fmt.proofs.ReaderLemmas.{fraction_value-nil, fraction_value-drop, tenth, ten_pow-pos}
-use Rattle.syslog_pieces.specs.Timestamp.Reading.{nanoseconds}
-use Rattle.syslog_pieces.proofs.Stamps.Fraction.{fraction_value-take, front-digit}
+use Rattle.syslog_pieces.specs.Bodies.StampReading.{nanoseconds}
+use Rattle.syslog_pieces.proofs.TimestampLemmas.Fraction.{fraction_value-take, front-digit}
 use Rattle.syslog_pieces.proofs.timestamp.digits.decimals.Goals as goal
 
 pub digits-preserved : goal.digits-preserved

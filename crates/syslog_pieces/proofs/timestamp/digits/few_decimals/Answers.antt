@@ -1,4 +1,4 @@
-use Rattle.syslog_pieces.proofs.Stamps.Fraction.{three-read, six-read}
+use Rattle.syslog_pieces.proofs.TimestampLemmas.Fraction.{three-read, six-read}
 use Rattle.syslog_pieces.proofs.timestamp.digits.few_decimals.Goals as goal
 
 pub returns-then-not-begins_with_digit-clause-value : goal.returns-then-not-begins_with_digit-clause-value

@@ -1,4 +1,4 @@
-use Rattle.syslog_pieces.proofs.Stamps.Characters.{low_utf8}
+use Rattle.syslog_pieces.proofs.TimestampLemmas.Characters.{low_utf8}
 use Rattle.syslog_pieces.proofs.timestamp.display.write_bytes.Goals as goal
 
 pub from_utf8_unchecked-requires : goal.from_utf8_unchecked-requires

@@ -1,7 +1,7 @@
 use Rattle.std.proofs.Common.{arith, ◌∙◌, FitsSigned, w32}
 use Rattle.std.proofs.lemmas.Int.{to_z-of_z}
 use Rattle.jiff_core.proofs.SignedLemmas.{signed_arith}
-use Rattle.syslog_pieces.proofs.Stamps.Answers.{answer_of_written}
+use Rattle.syslog_pieces.proofs.TimestampLemmas.Answers.{answer_of_written}
 use Rattle.syslog_pieces.proofs.timestamp.written.stamp.Goals as goal
 
 pub returns : goal.returns

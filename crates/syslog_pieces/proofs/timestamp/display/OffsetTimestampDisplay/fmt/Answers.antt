@@ -1,6 +1,6 @@
 use Rattle.std.proofs.Common.{sym}
 use Rattle.std.proofs.Output.{has_written_of_eq}
-use Rattle.syslog_pieces.proofs.Stamps.Civil.{printed_stamp-is}
+use Rattle.syslog_pieces.proofs.TimestampLemmas.Civil.{printed_stamp-is}
 use Rattle.syslog_pieces.proofs.timestamp.display.OffsetTimestampDisplay.fmt.Goals as goal
 
 pub returns-clause-writes : goal.returns-clause-writes

@@ -1,0 +1,131 @@
+-- The written condition: the messages that are read back unchanged from their printed text. It speaks of the fields
+-- alone, and never of reading. (This project's own.)
+use Rattle.std.specs.Prelude.{◌≡◌, ◌≢◌, ℕ, ℤ, ◌<◌, ◌^◌, ◌&&◌, not, nat_eq, true, ⊤, Bool, FitsSigned, List, [], ◌∷◌, ◌++◌, length, Option, Some, None, IfSome, IsSome}
+use Rattle.std.specs.Int.{w32}
+use Rattle.std.specs.Char.{is_not_whitespace}
+use Rattle.std.specs.List.{AllByRecursion}
+use Rattle.syslog_pieces.specs.Pieces.Class.{Text, NoFront, Each, Ends}
+use Rattle.syslog_pieces.specs.ProcId.{IsI32Text}
+use Rattle.syslog_pieces.specs.StructuredData.{IsValue}
+use Rattle.syslog_pieces.specs.StructuredData.Element.{ElementValue}
+use Rattle.syslog_pieces.specs.StructuredData.Listed.{full_element, IsDashBefore}
+use Rattle.syslog_pieces.specs.Text.{is_blank, is_tag_char, dash, colon, EndsInColon}
+use Rattle.syslog_pieces.specs.Text.CharClass.{is_id_char, is_name_char, is_label_char}
+use Rattle.syslog_pieces.specs.Timestamp.Plain.{IsPlainStamp}
+use Rattle.syslog_pieces.specs.declared.procid.ProcId.{ProcId}
+use Rattle.syslog_pieces.specs.declared.procid.ProcId.TheVariants.{PID, Name}
+use Rattle.syslog_pieces.specs.declared.structured_data.listed.DashRule.{DashRule}
+use Rattle.syslog_loose.specs.declared.message.Protocol.{Protocol}
+use Rattle.syslog_loose.specs.declared.message.Protocol.TheVariants.{RFC3164, RFC5424}
+use Rattle.syslog_loose.specs.Message.{MessageValue}
+use Rattle.syslog_loose.specs.TagForm.{IsNoForm}
+
+-- ---- the bounds of a message's numbers, which those of the program always meet
+
+abbrev pub IsBoundedProtocol : Protocol → Type 0
+IsBoundedProtocol RFC3164 = ⊤
+IsBoundedProtocol (RFC5424 version) = version < 2 ^ 32
+
+abbrev pub IsBoundedProcess : ProcId Text → Type 0
+IsBoundedProcess (PID n) = FitsSigned w32 n
+IsBoundedProcess (Name t) = ⊤
+
+-- the version and the number of the process have 32 bits
+pub record IsBounded (m : MessageValue) : Type 0 where
+  pub protocol : IsBoundedProtocol m.protocol
+  pub procid : IfSome m.procid IsBoundedProcess
+
+-- ---- what both protocols ask
+
+-- nonempty and without white space
+abbrev pub IsVisible : Text → Type 0
+IsVisible t = (0 < length t) × Each is_not_whitespace t
+
+-- nonempty, without white space, not `-`, and not ending in a colon
+abbrev pub IsPlainHost : Text → Type 0
+IsPlainHost t = IsVisible t × (t ≢ dash) × (EndsInColon t → ⊥)
+
+-- no text of a number of 32 bits
+abbrev pub IsNoI32Text : Text → Type 0
+IsNoI32Text t = (n : ℤ) → IsI32Text t n → ⊥
+
+-- the name is nonempty, without `]` and `=`, and the value is a list of units
+abbrev pub IsPlainParam : Text × Text → Type 0
+IsPlainParam p = (0 < length p.0) × Each is_name_char p.0 × IsValue p.1
+
+-- the first name does not begin with a blank
+abbrev pub BeginsPlainly : List (Text × Text) → Type 0
+BeginsPlainly [] = ⊤
+BeginsPlainly (p ∷ ps) = Ends is_blank p.0
+
+-- the id is nonempty, without white space, `]` and `=`
+abbrev pub IsPlainElement : ElementValue → Type 0
+IsPlainElement e = (0 < length e.id) × Each is_id_char e.id × AllByRecursion IsPlainParam e.params × BeginsPlainly e.params
+
+-- the text is empty, or its last character is no white space
+abbrev pub EndsVisibly : Text → Type 0
+EndsVisibly t = (front : Text) (c : ℕ) → t ≡ front ++ (c ∷ []) → is_not_whitespace c ≡ true
+
+pub record IsPlain (m : MessageValue) : Type 0 where
+  pub facility : IsSome m.facility
+  pub severity : IsSome m.severity
+  pub timestamp : IfSome m.timestamp IsPlainStamp
+  pub hostname : IfSome m.hostname IsPlainHost
+  pub elements : AllByRecursion IsPlainElement m.structured_data
+  pub msg_front : Ends is_blank m.msg
+  pub msg_end : EndsVisibly m.msg
+
+-- ---- what RFC 5424 asks beyond that
+
+-- nonempty, without white space, neither `-` nor `:`
+abbrev pub IsPlainWord : Text → Type 0
+IsPlainWord t = IsVisible t × (t ≢ dash) × (t ≢ colon)
+
+abbrev pub IsPlainProcess : ProcId Text → Type 0
+IsPlainProcess (PID n) = ⊤
+IsPlainProcess (Name t) = IsPlainWord t × IsNoI32Text t
+
+pub record IsPlain5424 (m : MessageValue) : Type 0 where
+  pub appname : IfSome m.appname IsPlainWord
+  pub procid : IfSome m.procid IsPlainProcess
+  pub msgid : IfSome m.msgid IsPlainWord
+
+-- ---- what RFC 3164 asks beyond that
+
+-- neither white space nor a colon nor `]`
+abbrev pub is_process_char : ℕ → Bool
+is_process_char c = is_tag_char c && not (nat_eq c 93)
+
+-- a name is nonempty, no text of a number, and without white space, colons and `]`
+abbrev pub IsBracketedProcess : ProcId Text → Type 0
+IsBracketedProcess (PID n) = ⊤
+IsBracketedProcess (Name t) = (0 < length t) × Each is_process_char t × IsNoI32Text t
+
+-- A process id stands only with an app name, which then has no white space, no colon and no `[`, and may be empty. An
+-- app name alone is nonempty, without white space and colons, not `-`, and not of the form `tag[id]`. With no app name
+-- the host is not of that form.
+abbrev pub ArePlainNames : Option Text → Option Text → Option (ProcId Text) → Type 0
+ArePlainNames host None None = IfSome host IsNoForm
+ArePlainNames host None (Some process) = ⊥
+ArePlainNames host (Some app) None = (0 < length app) × Each is_tag_char app × (app ≢ dash) × IsNoForm app
+ArePlainNames host (Some app) (Some process) = Each is_label_char app × IsBracketedProcess process
+
+-- the message begins neither with a dash that the rule takes for a list, nor with a strict element that has a parameter
+abbrev pub BeginsNoList : DashRule → Text → Type 0
+BeginsNoList rule msg = ((q : Text) → msg ≡ 45 ∷ q → IsDashBefore rule q → ⊥) × NoFront full_element msg
+
+pub record IsPlain3164 (rule : DashRule) (m : MessageValue) : Type 0 where
+  pub msgid : m.msgid ≡ None
+  pub names : ArePlainNames m.hostname m.appname m.procid
+  pub elements : AllByRecursion (λ e. 0 < length e.params) m.structured_data
+  pub no_list : m.structured_data ≡ [] → BeginsNoList rule m.msg
+
+-- ---- the condition
+
+abbrev pub IsPlainFor : DashRule → Protocol → MessageValue → Type 0
+IsPlainFor rule RFC3164 m = IsPlain3164 rule m
+IsPlainFor rule (RFC5424 version) m = IsPlain5424 m
+
+-- the message is read back unchanged from its printed text, and only such a one is
+abbrev pub IsCanonical : DashRule → MessageValue → Type 0
+IsCanonical rule m = IsPlain m × IsPlainFor rule m.protocol m

@@ -1,0 +1,5 @@
+-- The theory of pieces: one text has one division.
+pub mod Class
+pub mod Lists
+pub mod Meets
+pub mod Parts

@@ -1,0 +1,201 @@
+-- Lists of pieces of one class.
+use Rattle.std.proofs.Common.{◌≡◌, ◌≢◌, ℕ, List, [], ◌∷◌, ◌++◌, refl, sym, ap, subst, ◌∙◌, append_assoc, append-nil}
+use Rattle.syslog_pieces.specs.Pieces.Class.{Text, Class, Front, NoFront, IsDeterministic, Row, exactly}
+use Rattle.syslog_pieces.specs.Pieces.Lists.{many, IsList, IsMore, list_before, more_before}
+use Rattle.syslog_pieces.proofs.PieceLemmas.Class.{rest_same, after_nil, behind, heads, front_same, row_cons, row_head}
+use Rattle.syslog_pieces.proofs.PieceLemmas.Meets.{Meets}
+
+heads_differ : (c d : ℕ) (xs ys : Text) → c ≢ d → c ∷ xs ≡ d ∷ ys → ⊥
+heads_differ c d xs ys n e = n (heads c d xs ys e)
+
+-- the text behind one character
+pub begins : (c : ℕ) (t q : Text) → Front (exactly (c ∷ [])) t q tt → t ≡ c ∷ q
+begins c t q f = f.whole ∙ ap (λ (x : Text). x ++ q) f.is
+
+-- ---- as many pieces as there are
+pub many_det : (C : Class) → IsDeterministic C → IsDeterministic (many C)
+many_det C d p q p' q' [] [] e h h' = (h.0 ∙ sym h'.0, refl)
+many_det C d p q p' q' [] (w ∷ ws) e h (a, b, i, k, more) = absurd (h.1 a (b ++ q') w (after_nil p q (p' ++ q') h.0 e ∙ behind p' a b q' i) k)
+many_det C d p q p' q' (v ∷ vs) [] e (a, b, i, k, more) h' = absurd (h'.1 a (b ++ q) v (after_nil p' q' (p ++ q) h'.0 (sym e) ∙ behind p a b q i) k)
+many_det C d p q p' q' (v ∷ vs) (w ∷ ws) e (a, b, i, k, more) (a', b', i', k', more') =
+    let e1 : a ++ (b ++ q) ≡ a' ++ (b' ++ q') = sym (behind p a b q i) ∙ e ∙ behind p' a' b' q' i' in
+    let r = d a (b ++ q) a' (b' ++ q') v w e1 k k' in
+    let s = many_det C d b q b' q' vs ws (rest_same a (b ++ q) a' (b' ++ q') e1 r.0) more more' in
+    (let t0 = r.0 in let t1 = s.0 in cc, let t0 = r.1 in let t1 = s.1 in cc)
+
+pub many_here : (C : Class) (t : Text) → NoFront C t → Front (many C) t t []
+many_here C t n = record { piece = []; whole = refl; is = (refl, n) }
+
+pub many_cons : (C : Class) (t t' q : Text) (v : C.Value) (vs : List C.Value) → Front C t t' v → Front (many C) t' q vs → Front (many C) t q (v ∷ vs)
+many_cons C t t' q v vs f g = record {
+  piece = f.piece ++ g.piece;
+  whole = f.whole ∙ ap (λ (x : Text). f.piece ++ x) g.whole ∙ sym (append_assoc f.piece g.piece q);
+  is = (f.piece, g.piece, refl, subst (λ (x : Text). C.Is f.piece x v) g.whole f.is, g.is);
+}
+
+-- the pieces vs have been read, and those at t' are left
+abbrev pub HasRead : (C : Class) → Text → List C.Value → Text → Type 0
+HasRead C t vs t' = (q : Text) (ws : List C.Value) → Front (many C) t' q ws → Front (many C) t q (vs ++ ws)
+
+pub has_read_none : (C : Class) (t : Text) → HasRead C t [] t
+has_read_none C t q ws f = f
+
+pub has_read_more : (C : Class) (t s s' : Text) (vs : List C.Value) (v : C.Value) → HasRead C t vs s → Front C s s' v → HasRead C t (vs ++ (v ∷ [])) s'
+has_read_more C t s s' vs v r f q ws g = subst (λ (x : List C.Value). Front (many C) t q x) (sym (append_assoc vs (v ∷ []) ws)) (r q (v ∷ ws) (many_cons C s s' q v ws f g))
+
+pub has_read_all : (C : Class) (t s : Text) (vs : List C.Value) → HasRead C t vs s → NoFront C s → Front (many C) t s vs
+has_read_all C t s vs r n = subst (λ (x : List C.Value). Front (many C) t s x) (append-nil vs) (r s [] (many_here C s n))
+
+-- ---- pieces between separators
+module _ (C : Class) (separator close : ℕ) where
+  abbrev list : Class
+  list = list_before C separator close
+
+  abbrev more : Class
+  more = more_before C separator close
+
+  list_cons : (t t' q : Text) (v : C.Value) (vs : List C.Value) → Front C t t' v → Front more t' q vs → Front list t q (v ∷ vs)
+  list_cons t t' q v vs f g = record {
+    piece = f.piece ++ g.piece;
+    whole = f.whole ∙ ap (λ (x : Text). f.piece ++ x) g.whole ∙ sym (append_assoc f.piece g.piece q);
+    is = ((f.piece, g.piece, refl, subst (λ (x : Text). C.Is f.piece x v) g.whole f.is, g.is.0), g.is.1);
+  }
+
+  more_cons : (t u t' q : Text) (v : C.Value) (vs : List C.Value) → t ≡ separator ∷ u → Front C u t' v → Front more t' q vs → Front more t q (v ∷ vs)
+  more_cons t u t' q v vs e f g = record {
+    piece = separator ∷ (f.piece ++ g.piece);
+    whole = e ∙ ap (λ (x : Text). separator ∷ x) (f.whole ∙ ap (λ (x : Text). f.piece ++ x) g.whole ∙ sym (append_assoc f.piece g.piece q));
+    is = ((f.piece, g.piece, refl, subst (λ (x : Text). C.Is f.piece x v) g.whole f.is, g.is.0), g.is.1);
+  }
+
+  pub list_here : (t r : Text) → t ≡ close ∷ r → Front list t t []
+  list_here t r e = record { piece = []; whole = refl; is = (refl, (r, e)) }
+
+  pub more_here : (t r : Text) → t ≡ close ∷ r → Front more t t []
+  more_here t r e = record { piece = []; whole = refl; is = (refl, (r, e)) }
+
+  pub no_list : (t : Text) → NoFront (exactly (close ∷ [])) t → NoFront C t → NoFront list t
+  no_list t m n p q [] e h = m (close ∷ []) h.1.0 tt (e ∙ ap (λ (x : Text). x ++ q) h.0 ∙ h.1.1) refl
+  no_list t m n p q (v ∷ vs) e ((a, b, i, k, others), z) = n a (b ++ q) v (e ∙ behind p a b q i) k
+
+  pub no_more : (t : Text) → NoFront (exactly (close ∷ [])) t → NoFront (exactly (separator ∷ [])) t → NoFront more t
+  no_more t m n p q [] e h = m (close ∷ []) h.1.0 tt (e ∙ ap (λ (x : Text). x ++ q) h.0 ∙ h.1.1) refl
+  no_more t m n p q (v ∷ vs) e ((a, b, i, k, others), z) = n (separator ∷ []) (a ++ b ++ q) tt (e ∙ ap (λ (x : Text). x ++ q) i) refl
+
+  pub no_more_behind : (t u : Text) → NoFront (exactly (close ∷ [])) t → t ≡ separator ∷ u → NoFront C u → NoFront more t
+  no_more_behind t u m f n p q [] e h = m (close ∷ []) h.1.0 tt (e ∙ ap (λ (x : Text). x ++ q) h.0 ∙ h.1.1) refl
+  no_more_behind t u m f n p q (v ∷ vs) e ((a, b, i, k, others), z) =
+      let g : separator ∷ u ≡ separator ∷ (a ++ b ++ q) = sym f ∙ e ∙ ap (λ (y : Text). y ++ q) i in
+      n a (b ++ q) v ((let y : u ≡ a ++ b ++ q = cc in y) ∙ append_assoc a b q) k
+
+  -- the first piece of a list, and the further ones
+  abbrev Parts : Text → Text → Type 0
+  Parts t q = (v : C.Value) × (vs : List C.Value) × (u : Text) × Front C t u v × Front more u q vs
+
+  list_parts : (t q : Text) (vs : List C.Value) → NoFront (exactly (close ∷ [])) t → Front list t q vs → Parts t q
+  list_parts t q [] n f = absurd (n (close ∷ []) f.is.1.0 tt (f.whole ∙ ap (λ (x : Text). x ++ q) f.is.0 ∙ f.is.1.1) refl)
+  list_parts t q (v ∷ vs) n f =
+      let a = f.is.0.0 in let b = f.is.0.1 in (
+        v,
+        vs,
+        b ++ q,
+        record { piece = a; whole = f.whole ∙ behind f.piece a b q f.is.0.2; is = f.is.0.3 },
+        record { piece = b; whole = refl; is = (f.is.0.4, f.is.1) },
+      )
+
+  -- the first parameter of a list that isn't closed at once
+  pub list_goes : (Cs : List Class) (t : Text) → NoFront (exactly (close ∷ [])) t → Meets (Row (list ∷ Cs)) t (Row (C ∷ more ∷ Cs)) t
+  list_goes Cs t n = record {
+    forth = λ q vs g. (
+        let r = row_head C (more ∷ Cs) g in
+        let s = row_head more Cs r.2 in
+        ((vs.0 ∷ vs.1.0, vs.1.1), row_cons list Cs (list_cons t r.0 s.0 vs.0 vs.1.0 r.1 s.1) s.2));
+    back = λ q vs g. (
+        let r = row_head list Cs g in
+        let s = list_parts t r.0 vs.0 n r.1 in
+        ((s.0, (s.1, vs.1)), row_cons C (more ∷ Cs) s.3 (row_cons more Cs s.4 r.2)));
+  }
+
+  module _ (differ : separator ≢ close) where
+    more_parts : (t u q : Text) (vs : List C.Value) → t ≡ separator ∷ u → Front more t q vs → Parts u q
+    more_parts t u q [] e f = absurd (heads_differ separator close u f.is.1.0 differ (sym e ∙ f.whole ∙ ap (λ (x : Text). x ++ q) f.is.0 ∙ f.is.1.1))
+    more_parts t u q (v ∷ vs) e f =
+        let a = f.is.0.0 in let b = f.is.0.1 in
+        let w : separator ∷ u ≡ separator ∷ (a ++ (b ++ q)) = sym e ∙ f.whole ∙ ap (λ (x : Text). x ++ q) f.is.0.2 ∙ ap (λ (x : Text). separator ∷ x) (append_assoc a b q) in (
+          v,
+          vs,
+          b ++ q,
+          record { piece = a; whole = (let y : u ≡ a ++ (b ++ q) = cc in y); is = f.is.0.3 },
+          record { piece = b; whole = refl; is = (f.is.0.4, f.is.1) },
+        )
+
+    -- a further piece behind the separator
+    pub more_goes : (Cs : List Class) (t u : Text) → t ≡ separator ∷ u → Meets (Row (more ∷ Cs)) t (Row (C ∷ more ∷ Cs)) u
+    more_goes Cs t u e = record {
+      forth = λ q vs g. (
+          let r = row_head C (more ∷ Cs) g in
+          let s = row_head more Cs r.2 in
+          ((vs.0 ∷ vs.1.0, vs.1.1), row_cons more Cs (more_cons t u r.0 s.0 vs.0 vs.1.0 e r.1 s.1) s.2));
+      back = λ q vs g. (
+          let r = row_head more Cs g in
+          let s = more_parts t u r.0 vs.0 e r.1 in
+          ((s.0, (s.1, vs.1)), row_cons C (more ∷ Cs) s.3 (row_cons more Cs s.4 r.2)));
+    }
+
+    module _ (d : IsDeterministic C) where
+      more_same : (p r p' r' : Text) (vs vs' : List C.Value) → p ++ (close ∷ r) ≡ p' ++ (close ∷ r') → IsMore C separator p (close ∷ r) vs → IsMore C separator p' (close ∷ r') vs' → (p ≡ p') × (vs ≡ vs')
+      more_same p r p' r' [] [] e h h' = (h ∙ sym h', refl)
+      more_same p r p' r' [] (w ∷ ws) e h (a, b, i, k, others) = absurd (heads_differ separator close _ _ differ (sym (ap (λ (x : Text). x ++ (close ∷ r')) i) ∙ sym (after_nil p (close ∷ r) _ h e)))
+      more_same p r p' r' (v ∷ vs) [] e (a, b, i, k, others) h' = absurd (heads_differ separator close _ _ differ (sym (ap (λ (x : Text). x ++ (close ∷ r)) i) ∙ sym (after_nil p' (close ∷ r') _ h' (sym e))))
+      more_same p r p' r' (v ∷ vs) (w ∷ ws) e (a, b, i, k, others) (a', b', i', k', others') =
+          let e0 : separator ∷ (a ++ b ++ (close ∷ r)) ≡ separator ∷ (a' ++ b' ++ (close ∷ r')) = sym (ap (λ (x : Text). x ++ (close ∷ r)) i) ∙ e ∙ ap (λ (x : Text). x ++ (close ∷ r')) i' in
+          let e1 : a ++ (b ++ (close ∷ r)) ≡ a' ++ (b' ++ (close ∷ r')) = sym (append_assoc a b (close ∷ r)) ∙ (let u : a ++ b ++ (close ∷ r) ≡ a' ++ b' ++ (close ∷ r') = cc in u) ∙ append_assoc a' b' (close ∷ r') in
+          let s = d a (b ++ (close ∷ r)) a' (b' ++ (close ∷ r')) v w e1 k k' in
+          let t = more_same b r b' r' vs ws (rest_same a (b ++ (close ∷ r)) a' (b' ++ (close ∷ r')) e1 s.0) others others' in
+          (let t0 = s.0 in let t1 = t.0 in cc, let t0 = s.1 in let t1 = t.1 in cc)
+
+      -- where no piece begins with the character that closes the list
+      module _ (apart : (p q : Text) (v : C.Value) (r : Text) → C.Is p q v → p ++ q ≡ close ∷ r → ⊥) where
+        list_same : (p r p' r' : Text) (vs vs' : List C.Value) → p ++ (close ∷ r) ≡ p' ++ (close ∷ r') → IsList C separator p (close ∷ r) vs → IsList C separator p' (close ∷ r') vs' → (p ≡ p') × (vs ≡ vs')
+        list_same p r p' r' [] [] e h h' = (h ∙ sym h', refl)
+        list_same p r p' r' [] (w ∷ ws) e h (a, b, i, k, others) = absurd (apart a (b ++ (close ∷ r')) w r k (sym (behind p' a b (close ∷ r') i) ∙ sym (after_nil p (close ∷ r) _ h e)))
+        list_same p r p' r' (v ∷ vs) [] e (a, b, i, k, others) h' = absurd (apart a (b ++ (close ∷ r)) v r' k (sym (behind p a b (close ∷ r) i) ∙ sym (after_nil p' (close ∷ r') _ h' (sym e))))
+        list_same p r p' r' (v ∷ vs) (w ∷ ws) e (a, b, i, k, others) (a', b', i', k', others') =
+            let e1 = sym (behind p a b (close ∷ r) i) ∙ e ∙ behind p' a' b' (close ∷ r') i' in
+            let s = d a (b ++ (close ∷ r)) a' (b' ++ (close ∷ r')) v w e1 k k' in
+            let t = more_same b r b' r' vs ws (rest_same a (b ++ (close ∷ r)) a' (b' ++ (close ∷ r')) e1 s.0) others others' in
+            (let t0 = s.0 in let t1 = t.0 in cc, let t0 = s.1 in let t1 = t.1 in cc)
+
+        pub list_before_det : IsDeterministic list
+        list_before_det p q p' q' vs vs' e (h, (r, z)) (h', (r', z')) =
+            list_same p r p' r' vs vs' (sym (ap (λ (x : Text). p ++ x) z) ∙ e ∙ ap (λ (x : Text). p' ++ x) z')
+            (subst (λ (x : Text). IsList C separator p x vs) z h) (subst (λ (x : Text). IsList C separator p' x vs') z' h')
+
+-- ---- collecting such a list
+
+-- the pieces vs have been read, and at t' the further ones are left
+pub record Collects (C : Class) (separator close : ℕ) (t : Text) (vs : List C.Value) (t' : Text) : Type 0 where
+  pub some : (q : Text) (ws : List C.Value) → Front (more_before C separator close) t' q ws → Front (list_before C separator close) t q (vs ++ ws)
+  pub none : NoFront (more_before C separator close) t' → NoFront (list_before C separator close) t
+
+module _ (C : Class) (separator close : ℕ) (d : IsDeterministic C) where
+  pub collects_first : (t t' : Text) (v : C.Value) → NoFront (exactly (close ∷ [])) t → Front C t t' v → Collects C separator close t (v ∷ []) t'
+  collects_first t t' v m f = record { some = λ q ws g. list_cons C separator close t t' q v ws f g; none = fails }
+    where
+      fails : NoFront (more_before C separator close) t' → NoFront (list_before C separator close) t
+      fails n p q [] e h = m (close ∷ []) h.1.0 tt (e ∙ ap (λ (x : Text). x ++ q) h.0 ∙ h.1.1) refl
+      fails n p q (w ∷ ws) e ((a, b, i, k, others), z) =
+          let s = front_same C d (record { piece = a; whole = e ∙ behind p a b q i; is = k }) f in n b q ws (sym s.0) (others, z)
+
+  pub collects_more : (t s u s' : Text) (vs : List C.Value) (v : C.Value) → Collects C separator close t vs s → NoFront (exactly (close ∷ [])) s → s ≡ separator ∷ u → Front C u s' v → Collects C separator close t (vs ++ (v ∷ [])) s'
+  collects_more t s u s' vs v c m e f = record {
+    some = λ q ws g. subst (λ (x : List C.Value). Front (list_before C separator close) t q x) (sym (append_assoc vs (v ∷ []) ws)) (c.some q (v ∷ ws) (more_cons C separator close s u s' q v ws e f g));
+    none = λ n. c.none (fails n);
+  }
+    where
+      fails : NoFront (more_before C separator close) s' → NoFront (more_before C separator close) s
+      fails n p q [] w h = m (close ∷ []) h.1.0 tt (w ∙ ap (λ (x : Text). x ++ q) h.0 ∙ h.1.1) refl
+      fails n p q (x ∷ xs) w ((a, b, i, k, others), z) =
+          let g : separator ∷ u ≡ separator ∷ (a ++ (b ++ q)) = sym e ∙ w ∙ ap (λ (y : Text). y ++ q) i ∙ ap (λ (y : Text). separator ∷ y) (append_assoc a b q) in
+          let r = front_same C d (record { piece = a; whole = (let y : u ≡ a ++ (b ++ q) = cc in y); is = k }) f in
+          n b q xs (sym r.0) (others, z)

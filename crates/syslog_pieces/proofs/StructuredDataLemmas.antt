@@ -1,0 +1,9 @@
+-- Values, elements and lists, the walk over them, and escapes.
+pub mod Closing
+pub mod Cuts
+pub mod ElementParts
+pub mod Elements
+pub mod Items
+pub mod Params
+pub mod Units
+pub mod Walk

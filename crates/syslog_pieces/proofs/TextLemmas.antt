@@ -1,0 +1,8 @@
+-- Texts by bytes and by characters: runs, numbers and words, and what is printed.
+pub mod Chars
+pub mod Decimals
+pub mod Lanes
+pub mod Printed
+pub mod Runs
+pub mod Trim
+pub mod Words

@@ -1,0 +1,108 @@
+-- Runs: of bytes, and of the characters that they are.
+use Rattle.std.proofs.Common.{◌≡◌, ◌≤◌, ◌<◌, ◌+◌, ℕ, zero, suc, Bool, true, false, ◌&&◌, nat_lt, List, [], ◌∷◌, ◌++◌, length, get_or, take, drop, refl, sym, ap, subst, ◌∙◌, inl, inr, arith, length-take, get_or-take}
+use Rattle.std.proofs.lemmas.List.{drop_more, drop_all}
+use Rattle.std.proofs.lemmas.Bool.{cases_Bool, cases_lt, and_parts, ltb-true, lt-ltb}
+use Rattle.std.proofs.lemmas.Str.{chars-IsAscii, chars_past_char, encode_ascii, IsUtf8-take, IsUtf8-drop}
+use Rattle.std.specs.Str.{chars, IsUtf8, IsAscii, IsCharBoundary}
+use Rattle.std.specs.Char.{encode_utf8}
+use Rattle.syslog_pieces.specs.Pieces.Class.{Text, Front, NoFront, Each, Ends, run, some_run}
+use Rattle.syslog_pieces.specs.Bodies.Scan.{SplitsRun}
+use Rattle.syslog_pieces.specs.Bodies.Scan.{IsRun, EndsRun}
+use Rattle.syslog_pieces.proofs.TextLemmas.Chars.{cut_at, chars_cut, ends_nil, chars_nonempty, chars_empty}
+use Rattle.syslog_pieces.proofs.PieceLemmas.Class.{run_same}
+
+-- the test of bytes: ASCII, and of the class of characters
+abbrev pub ascii_of : (ℕ → Bool) → ℕ → Bool
+ascii_of h b = nat_lt b 128 && h b
+
+below_of : (b : ℕ) (x : Bool) → (nat_lt b 128 && x) ≡ true → (b < 128) × (x ≡ true)
+below_of b x e = let p = and_parts (nat_lt b 128) x e in (ltb-true b 128 p.0, p.1)
+
+past_of : (b : ℕ) (x : Bool) → (nat_lt b 128 && x) ≡ false → b < 128 → x ≡ false
+past_of b true e lt = let t : nat_lt b 128 ≡ true = lt-ltb b 128 lt in cc
+past_of b false e lt = refl
+
+each_by_place : (h : ℕ → Bool) (bs : List ℕ) → ((k : ℕ) → k < length bs → h (get_or bs k 0) ≡ true) → Each h bs
+each_by_place h [] f = tt
+each_by_place h (b ∷ bs) f = (f 0 (omega arith), each_by_place h bs (λ k lt. f (suc k) (omega arith)))
+
+ascii_by_place : (bs : List ℕ) → ((k : ℕ) → k < length bs → get_or bs k 0 < 128) → IsAscii bs
+ascii_by_place [] f k = omega arith
+ascii_by_place (b ∷ bs) f zero = f 0 (omega arith)
+ascii_by_place (b ∷ bs) f (suc k) = ascii_by_place bs (λ j lt. f (suc j) (omega arith)) k
+
+module _ (h : ℕ → Bool) (bs xs ys : List ℕ) (n : ℕ) (u : IsUtf8 bs) (r : IsRun (ascii_of h) bs n)
+    (front : xs ≡ take n bs) (back : ys ≡ drop n bs) where
+  long : length xs ≡ n
+  long = ap length front ∙ omega (arith, length-take n bs, r.within)
+
+  place : (k : ℕ) → k < length xs → (get_or xs k 0 < 128) × (h (get_or xs k 0) ≡ true)
+  place k lt =
+      let at : get_or xs k 0 ≡ get_or bs k 0 = ap (λ (l : List ℕ). get_or l k 0) front ∙ get_or-take n bs k 0 (omega (arith, long)) in
+      subst (λ (b : ℕ). (b < 128) × (h b ≡ true)) (sym at) (below_of _ _ (r.pass k (omega (arith, long))))
+
+  is_ascii : IsAscii xs
+  is_ascii = ascii_by_place xs (λ k lt. (place k lt).0)
+
+  pub ascii_splits : IsCharBoundary bs n → Ends h (chars ys) → SplitsRun h bs xs ys
+  ascii_splits boundary ends =
+      let w = cut_at bs xs ys n front back in
+      let ux : IsUtf8 xs = subst IsUtf8 (sym front) (IsUtf8-take bs n u boundary) in
+      record {
+        whole = w;
+        characters = chars_cut bs xs ys w ux;
+        each = subst (λ (l : List ℕ). Each h l) (sym (chars-IsAscii xs is_ascii)) (each_by_place h xs (λ k lt. (place k lt).1));
+        ends = ends;
+        front_utf8 = ux;
+        back_utf8 = subst IsUtf8 (sym back) (IsUtf8-drop bs n u boundary);
+      }
+
+  -- at the end of the text
+  pub ends_at_end : length bs ≤ n → Ends h (chars ys)
+  ends_at_end past = ends_nil h ys (ap length back ∙ ap length (drop_all n bs past))
+
+  -- at an ASCII byte
+  pub ends_at_ascii : n < length bs → get_or bs n 0 < 128 → IsUtf8 ys → Ends h (chars ys)
+  ends_at_ascii inside low uy =
+      let b = get_or bs n 0 in
+      let e : ys ≡ encode_utf8 b ++ drop (n + 1) bs = back ∙ drop_more bs n 0 inside ∙ ap (λ (l : List ℕ). l ++ drop (n + 1) bs) (sym (encode_ascii b low)) in
+      subst (λ (l : List ℕ). Ends h l) (sym (chars_past_char ys (drop (n + 1) bs) b uy e)) (past_of b (h b) (r.stops inside) low)
+
+  boundary_of : (n < length bs → get_or bs n 0 < 128) → IsCharBoundary bs n
+  boundary_of low = (r.within, λ inside high. absurd (omega (arith, low inside)))
+
+  ascii_split : (n < length bs → get_or bs n 0 < 128) → SplitsRun h bs xs ys
+  ascii_split low =
+      let boundary = boundary_of low in
+      let uy : IsUtf8 ys = subst IsUtf8 (sym back) (IsUtf8-drop bs n u boundary) in
+      ascii_splits boundary (elim (cases_lt n (length bs)) [ inl inside ↦ ends_at_ascii inside (low inside) uy | inr past ↦ ends_at_end past ])
+
+  pub ascii_ends : (n < length bs → get_or bs n 0 < 128) → IsCharBoundary bs n × SplitsRun h bs xs ys
+  ascii_ends low = (boundary_of low, ascii_split low)
+
+-- a split where the run ends
+pub split_at_end : (h : ℕ → Bool) (bs xs ys : List ℕ) (n : ℕ) → EndsRun h bs n → xs ≡ take n bs → ys ≡ drop n bs → SplitsRun h bs xs ys
+split_at_end h bs xs ys n e f g = subst (λ (x : List ℕ). SplitsRun h bs x ys) (sym f) (subst (λ (y : List ℕ). SplitsRun h bs (take n bs) y) (sym g) e.1)
+
+-- ---- the front of a run
+module _ (test : ℕ → Bool) (bs xs ys : List ℕ) (s : SplitsRun test bs xs ys) where
+  pub run_front : Front (run test) (chars bs) (chars ys) tt
+  run_front = record { piece = chars xs; whole = s.characters; is = (s.each, s.ends) }
+
+  pub some_run_front : 0 < length xs → Front (some_run test) (chars bs) (chars ys) tt
+  some_run_front l = record { piece = chars xs; whole = s.characters; is = (chars_nonempty xs s.front_utf8 l, s.each, s.ends) }
+
+  -- another run at the front is the same
+  pub run_is : (p q : Text) → chars bs ≡ p ++ q → Each test p → Ends test q → p ≡ chars xs
+  run_is p q e a b = run_same test p q (chars xs) (chars ys) (sym e ∙ s.characters) a b s.each s.ends
+
+  pub no_some_run : length xs ≡ 0 → NoFront (some_run test) (chars bs)
+  no_some_run z p q v e (l, a, b) = let r = ap length (run_is p q e a b) in let t = chars_empty xs z in omega arith
+
+-- each text has a maximal run at its front
+pub some_front_run : (test : ℕ → Bool) (text : Text) → (q : Text) × Front (run test) text q tt
+some_front_run test [] = ([], record { piece = []; whole = refl; is = (tt, tt) })
+some_front_run test (c ∷ cs) = elim (cases_Bool (test c)) [
+  | inl passes ↦ (let (q, f) = some_front_run test cs in (q, record { piece = c ∷ f.piece; whole = ap (λ (x : Text). c ∷ x) f.whole; is = ((passes, f.is.0), f.is.1) }))
+  | inr fails ↦ (c ∷ cs, record { piece = []; whole = refl; is = (tt, fails) })
+]

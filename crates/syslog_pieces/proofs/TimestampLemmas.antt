@@ -1,0 +1,13 @@
+-- What is known of timestamps beyond the contracts of their functions. A header needs no more than
+-- `Texts`, `Values` and `Printing`.
+pub mod Answers
+pub mod Characters
+pub mod Civil
+pub mod Fields
+pub mod Fraction
+pub mod Piece
+pub mod Printing
+pub mod Range
+pub mod Reading
+pub mod Texts
+pub mod Values

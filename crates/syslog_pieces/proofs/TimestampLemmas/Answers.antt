@@ -1,0 +1,63 @@
+-- From what a text wrote to the answer of the reader.
+use Rattle.std.proofs.Common.{◌≡◌, ℕ, ℤ, ◌-ℤ◌, ◌<◌, List, Option, Some, None, sym, ap, subst, ◌∙◌}
+use Rattle.jiff.specs.Types.{DateTime, Offset}
+use Rattle.jiff.specs.Words.{nanos_of_seconds}
+use Rattle.syslog_pieces.specs.declared.timestamp.OffsetTimestamp.{OffsetTimestamp}
+use Rattle.syslog_pieces.specs.declared.timestamp.written.Written.{Written}
+use Rattle.syslog_pieces.specs.Timestamp.{IsAnswer, IsStampText, IsStampOfWritten}
+use Rattle.syslog_pieces.specs.Timestamp.Fields.{fields_of, nanos_of_fields, IsStampAt}
+use Rattle.syslog_pieces.specs.Bodies.StampReading.{written}
+use Rattle.syslog_pieces.specs.Timestamp.Rfc3339.{HasStamp, fields_of_written}
+use Rattle.syslog_pieces.proofs.TimestampLemmas.Fields.{civil_nanos-fields, civil-fields}
+use Rattle.syslog_pieces.proofs.TimestampLemmas.Reading.{written-is, written-of, some-inj, none-some}
+
+-- an answer to one question is one to another that asks the same
+pub answer_same : (P Q : OffsetTimestamp → Type 0) (answer : Option OffsetTimestamp) → ((s : OffsetTimestamp) → P s → Q s)
+    → ((s : OffsetTimestamp) → Q s → P s) → IsAnswer P answer → IsAnswer Q answer
+answer_same P Q None forth back h = λ s q. h s (back s q)
+answer_same P Q (Some s) forth back h = forth s h
+
+-- the stamp of the datetime is that of the numbers that name it
+pub answer_of_written : (w : Written) (dt : DateTime) (offset : Offset) (answer : Option OffsetTimestamp) → fields_of dt ≡ fields_of_written w
+    → w.second < 61 → offset.seconds ≡ w.offset → IsAnswer (IsStampAt dt offset) answer → IsAnswer (IsStampOfWritten w) answer
+answer_of_written w dt offset answer e second same h =
+    let nanos = civil_nanos-fields dt (fields_of_written w) e in
+    let P : OffsetTimestamp → Type 0 = IsStampAt dt offset in
+    let Q : OffsetTimestamp → Type 0 = IsStampOfWritten w in
+    let forth : (s : OffsetTimestamp) → P s → Q s = λ s p. record {
+      civil = civil-fields dt (fields_of_written w) e;
+      second = second;
+      instant = rw (← nanos, ← same) p.instant;
+      at_offset = p.at_offset ∙ same;
+      in_range = s.instant.in_range;
+    } in
+    let back : (s : OffsetTimestamp) → Q s → P s = λ s q. record {
+      instant = rw (nanos, same) q.instant;
+      at_offset = q.at_offset ∙ sym same;
+    } in
+    answer_same P Q answer forth back h
+
+-- the numbers that a text writes are the only ones
+pub answer_of_text : (text : List ℕ) (w : Written) (answer : Option OffsetTimestamp) → written text ≡ Some w
+    → IsAnswer (IsStampOfWritten w) answer → IsAnswer (IsStampText text) answer
+answer_of_text text w answer e h =
+    let P : OffsetTimestamp → Type 0 = IsStampOfWritten w in
+    let Q : OffsetTimestamp → Type 0 = IsStampText text in
+    let forth : (s : OffsetTimestamp) → P s → Q s = λ s p. (w, written-is text w e, p) in
+    let back : (s : OffsetTimestamp) → Q s → P s = λ s q.
+    let same : q.0 ≡ w = some-inj _ _ (sym (written-of text q.0 q.1) ∙ e) in
+    let R : Written → Type 0 = λ v. IsStampOfWritten v s in
+    subst R same q.2 in
+    answer_same P Q answer forth back h
+
+-- a text that writes no numbers is one of no timestamp
+pub no_answer_of_text : (text : List ℕ) (answer : Option OffsetTimestamp) → written text ≡ None → answer ≡ None → IsAnswer (IsStampText text) answer
+no_answer_of_text text answer e none = rw none (λ s q. none-some _ (sym e ∙ written-of text q.0 q.1))
+
+-- a text has at most one stamp
+pub one_stamp : (text : List ℕ) (n o m p : ℤ) → HasStamp text n o → HasStamp text m p → (n ≡ m) × (o ≡ p)
+one_stamp text n o m p h k =
+    let same : h.0 ≡ k.0 = some-inj _ _ (sym (written-of text h.0 h.1) ∙ written-of text k.0 k.1) in (
+      h.2.instant ∙ ap (λ w. nanos_of_fields (fields_of_written w) -ℤ nanos_of_seconds w.offset) same ∙ sym k.2.instant,
+      h.2.at_offset ∙ ap (λ w. w.offset) same ∙ sym k.2.at_offset,
+    )

@@ -1,0 +1,55 @@
+-- Runs of bytes, and the runs of characters that they are.
+use Rattle.std.specs.Int.{w64, trailing_zeros}
+use Rattle.std.specs.Prelude.{◌≡◌, ◌+◌, ◌==◌, if◌then◌else◌, ◌≤◌, ◌<◌, ℕ, Bool, true, false, ◌&&◌, nat_lt, List, ◌++◌, length, slice_index, take, drop}
+use Rattle.std.specs.Str.{chars, IsUtf8, IsCharBoundary}
+use Rattle.syslog_pieces.specs.declared.text.CharClass.{CharClass}
+use Rattle.syslog_pieces.specs.declared.text.CharClass.TheVariants.{Digit, Blank, Visible, Id, Name, Plain, Open, Inert, Bare, Tag, Label}
+use Rattle.syslog_pieces.specs.Text.CharClass.{has}
+use Rattle.syslog_pieces.specs.Pieces.Class.{Each, Ends}
+
+-- the text, by its bytes and by its characters, is the maximal run xs of characters that pass the test, and then ys
+pub record SplitsRun (test : ℕ → Bool) (bytes xs ys : List ℕ) : Type 0 where
+  pub whole : bytes ≡ xs ++ ys
+  pub characters : chars bytes ≡ chars xs ++ chars ys
+  pub each : Each test (chars xs)
+  pub ends : Ends test (chars ys)
+  pub front_utf8 : IsUtf8 xs
+  pub back_utf8 : IsUtf8 ys
+
+-- the text may be cut behind n bytes, and the maximal run at its front ends there
+abbrev pub EndsRun : (ℕ → Bool) → List ℕ → ℕ → Type 0
+EndsRun test bytes n = IsCharBoundary bytes n × SplitsRun test bytes (take n bytes) (drop n bytes)
+
+-- an ASCII byte whose character is of the class
+abbrev pub byte_in : CharClass → ℕ → Bool
+byte_in class b = nat_lt b 128 && has class b
+
+-- the longest run at the front of bytes that pass the test has n bytes
+pub record IsRun (test : ℕ → Bool) (bytes : List ℕ) (n : ℕ) : Type 0 where
+  pub within : n ≤ length bytes
+  pub pass : (k : ℕ) → k < n → test (slice_index bytes k) ≡ true
+  pub stops : n < length bytes → test (slice_index bytes n) ≡ false
+
+-- of the sixteen bytes from one place on, the first n pass the test, and the next one fails it
+pub record IsRunIn (test : ℕ → Bool) (bytes : List ℕ) (at n : ℕ) : Type 0 where
+  pub within : n ≤ 16
+  pub pass : (k : ℕ) → at ≤ k → k < at + n → test (slice_index bytes k) ≡ true
+  pub stops : n < 16 → test (slice_index bytes (at + n)) ≡ false
+
+-- the place of the lowest bit that is set, or 16
+abbrev pub first_set : ℕ → ℕ
+first_set mask = if mask == 0 then 16 else trailing_zeros w64 mask
+
+-- the bit of the class in an entry of the scanner's table
+abbrev pub bit_of : CharClass → ℕ
+bit_of Digit = 1
+bit_of Blank = 2
+bit_of Visible = 4
+bit_of Id = 8
+bit_of Name = 16
+bit_of Plain = 32
+bit_of Open = 64
+bit_of Inert = 128
+bit_of Bare = 256
+bit_of Tag = 512
+bit_of Label = 1024

@@ -1,0 +1,5 @@
+-- The theory of pieces: what it is to divide a text, whatever its pieces are; and how clauses see texts.
+pub mod Class
+pub mod Lists
+pub mod Parts
+pub mod View

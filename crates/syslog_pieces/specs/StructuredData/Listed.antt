@@ -1,0 +1,33 @@
+-- The list of RFC 3164, which holds elements with parameters alone, and before which texts a dash is such a list. (All
+-- of it is this project's own choice.)
+use Rattle.std.specs.Prelude.{◌≡◌, ◌<◌, ◌⊎◌, ⊤, true, List, [], ◌∷◌, length, Option, Some, None}
+use Rattle.syslog_pieces.specs.Pieces.Class.{Text, Class, Front}
+use Rattle.syslog_pieces.specs.Pieces.Lists.{many}
+use Rattle.syslog_pieces.specs.StructuredData.{element}
+use Rattle.syslog_pieces.specs.StructuredData.Element.{ElementValue}
+use Rattle.syslog_pieces.specs.Text.{is_blank, dash}
+use Rattle.syslog_pieces.specs.declared.structured_data.listed.DashRule.{DashRule}
+use Rattle.syslog_pieces.specs.declared.structured_data.listed.DashRule.TheVariants.{BeforeAnything, BeforeBlank}
+
+-- a strict element with a parameter
+abbrev pub full_element : Class
+full_element = record { Value = ElementValue; Is = λ p q e. element.Is p q e × (0 < length e.params) }
+
+-- whether a dash is a list before this text: before each, or only at the end and before a blank
+abbrev pub IsDashBefore : DashRule → Text → Type 0
+IsDashBefore BeforeAnything q = ⊤
+IsDashBefore BeforeBlank [] = ⊤
+IsDashBefore BeforeBlank (c ∷ cs) = is_blank c ≡ true
+
+-- `-` where the rule allows it, or one or more strict elements with parameters, as many as there are
+abbrev pub IsListed : DashRule → Text → Text → List ElementValue → Type 0
+IsListed rule p q es = ((p ≡ dash) × IsDashBefore rule q × (es ≡ [])) ⊎ ((0 < length es) × (many full_element).Is p q es)
+
+-- the list of RFC 3164
+abbrev pub listed : DashRule → Class
+listed rule = record { Value = List ElementValue; Is = IsListed rule }
+
+-- the elements of a list that may be absent
+abbrev pub elements_or : Option (List ElementValue) → List ElementValue
+elements_or None = []
+elements_or (Some es) = es

@@ -1,0 +1,47 @@
+-- Which characters belong to a class of characters.
+use Rattle.std.specs.Prelude.{ℕ, Bool, nat_eq, ◌&&◌, not}
+use Rattle.std.specs.Char.{is_ascii_digit, is_not_whitespace}
+use Rattle.syslog_pieces.specs.declared.text.CharClass.{CharClass}
+use Rattle.syslog_pieces.specs.declared.text.CharClass.TheVariants.{Digit, Blank, Visible, Id, Name, Plain, Open, Inert, Bare, Tag, Label}
+use Rattle.syslog_pieces.specs.Text.{is_blank, is_tag_char}
+
+-- neither `]` nor `=`
+abbrev pub is_name_char : ℕ → Bool
+is_name_char c = not (nat_eq c 93) && not (nat_eq c 61)
+
+-- no white space, and neither `]` nor `=`
+abbrev pub is_id_char : ℕ → Bool
+is_id_char c = is_not_whitespace c && is_name_char c
+
+-- neither a backslash nor a quote
+abbrev pub is_plain_char : ℕ → Bool
+is_plain_char c = not (nat_eq c 92) && not (nat_eq c 34)
+
+-- no backslash
+abbrev pub is_bare_char : ℕ → Bool
+is_bare_char c = not (nat_eq c 92)
+
+-- neither a backslash nor a quote nor `]`
+abbrev pub is_inert_char : ℕ → Bool
+is_inert_char c = is_plain_char c && not (nat_eq c 93)
+
+-- no `]`
+abbrev pub is_open_char : ℕ → Bool
+is_open_char c = not (nat_eq c 93)
+
+-- neither white space nor a colon nor `[`: the tag of the form `tag[id]`
+abbrev pub is_label_char : ℕ → Bool
+is_label_char c = is_tag_char c && not (nat_eq c 91)
+
+abbrev pub has : CharClass → ℕ → Bool
+has Digit c = is_ascii_digit c
+has Blank c = is_blank c
+has Visible c = is_not_whitespace c
+has Id c = is_id_char c
+has Name c = is_name_char c
+has Plain c = is_plain_char c
+has Open c = is_open_char c
+has Inert c = is_inert_char c
+has Bare c = is_bare_char c
+has Tag c = is_tag_char c
+has Label c = is_label_char c

@@ -1,0 +1,73 @@
+-- The timestamp of civil fields in a zone, said over what `jiff` tells of the zone: whether a clock there shows the
+-- datetime at one instant, at two (a fold) or at none (a gap).
+use Rattle.std.specs.Prelude.{◌≡◌, ℕ, ℤ, pos, ◌+ℤ◌, Option, Some, None}
+use Rattle.jiff.specs.Types.{DateTime, TimeZone, AmbiguousOffset, Unambiguous, Gap, Fold}
+use Rattle.jiff.specs.Words.{civil_nanos, nanos_of_seconds, offset_at, ambiguous_at}
+use Rattle.syslog_pieces.specs.declared.timestamp.OffsetTimestamp.{OffsetTimestamp}
+use Rattle.syslog_pieces.specs.declared.timestamp.fields.CivilFields.{CivilFields}
+use Rattle.syslog_pieces.specs.declared.timestamp.month_date.MonthDate.{MonthDate}
+use Rattle.syslog_pieces.specs.Timestamp.Fields.{fields_of, IsStampAt}
+
+-- How a date without an offset gets one: the year of a date that has none, the zone that is given, and the zone that
+-- stands in where none is.
+pub record Dating : Type 0 where
+  pub year : ℤ
+  pub zone : Option TimeZone
+  pub local : TimeZone
+
+-- the one instant, or the earlier of two, and none in a gap
+abbrev pub IsStampOf : AmbiguousOffset → DateTime → OffsetTimestamp → Type 0
+IsStampOf (Unambiguous offset) dt s = IsStampAt dt offset s
+IsStampOf (Gap before after) dt s = ⊥
+IsStampOf (Fold before after) dt s = IsStampAt dt before s
+
+-- the timestamp of a datetime in a zone that is given
+abbrev pub IsStampIn : TimeZone → DateTime → OffsetTimestamp → Type 0
+IsStampIn tz dt s = IsStampOf (ambiguous_at tz dt) dt s
+
+-- the fields taken as UTC, with the zone's offset at that instant
+pub record IsStampInGap (tz : TimeZone) (dt : DateTime) (s : OffsetTimestamp) : Type 0 where
+  pub instant : s.instant.nanosecond ≡ civil_nanos dt
+  pub at_offset : s.offset.seconds ≡ offset_at tz s.instant.nanosecond
+
+-- the same, but in a gap the fields are taken as UTC
+abbrev pub IsLocalStampOf : AmbiguousOffset → TimeZone → DateTime → OffsetTimestamp → Type 0
+IsLocalStampOf (Unambiguous offset) tz dt s = IsStampAt dt offset s
+IsLocalStampOf (Gap before after) tz dt s = IsStampInGap tz dt s
+IsLocalStampOf (Fold before after) tz dt s = IsStampAt dt before s
+
+-- the timestamp of a datetime in the local zone
+abbrev pub IsLocalStampIn : TimeZone → DateTime → OffsetTimestamp → Type 0
+IsLocalStampIn tz dt s = IsLocalStampOf (ambiguous_at tz dt) tz dt s
+
+-- in the zone that is given, or else in the local one
+abbrev pub IsStampInAny : Option TimeZone → TimeZone → DateTime → OffsetTimestamp → Type 0
+IsStampInAny (Some tz) local dt s = IsStampIn tz dt s
+IsStampInAny None local dt s = IsLocalStampIn local dt s
+
+-- the year of a date, or the one that stands in for it
+abbrev pub year_or : Option ℕ → ℤ → ℤ
+year_or (Some year) other = pos year
+year_or None other = other
+
+-- the civil fields of a month date, in a year where it has none
+abbrev pub civil_of : MonthDate → ℤ → CivilFields
+civil_of date year = record {
+  year = year_or date.year year;
+  month = date.month;
+  day = date.day;
+  hour = date.hour;
+  minute = date.minute;
+  second = date.second;
+  nanosecond = 0;
+}
+
+-- this is the timestamp of the month date: the calendar has its date, the clock its time, and the instant is in range
+abbrev pub IsMonthStamp : Dating → MonthDate → OffsetTimestamp → Type 0
+IsMonthStamp dating date s = (dt : DateTime) × (fields_of dt ≡ civil_of date dating.year) × IsStampInAny dating.zone dating.local dt s
+
+-- a clock in the zone shows the year at the instant
+pub record IsYearAt (tz : TimeZone) (nanosecond year : ℤ) : Type 0 where
+  pub shown : DateTime
+  pub shows : civil_nanos shown ≡ nanosecond +ℤ nanos_of_seconds (offset_at tz nanosecond)
+  pub is_year : year ≡ shown.date.year
