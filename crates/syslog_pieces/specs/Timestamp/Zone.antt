@@ -8,10 +8,10 @@ use Rattle.syslog_pieces.specs.declared.timestamp.fields.CivilFields.{CivilField
 use Rattle.syslog_pieces.specs.declared.timestamp.month_date.MonthDate.{MonthDate}
 use Rattle.syslog_pieces.specs.Timestamp.Fields.{fields_of, IsStampAt}
 
--- How a date without an offset gets one: the year of a date that has none, the zone that is given, and the zone that
--- stands in where none is.
+-- How a date without an offset gets a timestamp: the year of a date that has none (where that is absent too, such a date
+-- has no timestamp), the zone that is given, and the local zone, which stands in where none is.
 pub record Dating : Type 0 where
-  pub year : ℤ
+  pub year : Option ℤ
   pub zone : Option TimeZone
   pub local : TimeZone
 
@@ -45,15 +45,14 @@ abbrev pub IsStampInAny : Option TimeZone → TimeZone → DateTime → OffsetTi
 IsStampInAny (Some tz) local dt s = IsStampIn tz dt s
 IsStampInAny None local dt s = IsLocalStampIn local dt s
 
--- the year of a date, or the one that stands in for it
-abbrev pub year_or : Option ℕ → ℤ → ℤ
-year_or (Some year) other = pos year
-year_or None other = other
+-- the year that the date has, or else the one that stands in for it
+abbrev pub year_of : MonthDate → Dating → Option ℤ
+year_of date dating = elim date.year [ Some year ↦ Some (pos year) | None ↦ dating.year ]
 
--- the civil fields of a month date, in a year where it has none
+-- the civil fields of a month date in a year
 abbrev pub civil_of : MonthDate → ℤ → CivilFields
 civil_of date year = record {
-  year = year_or date.year year;
+  year = year;
   month = date.month;
   day = date.day;
   hour = date.hour;
@@ -62,9 +61,12 @@ civil_of date year = record {
   nanosecond = 0;
 }
 
--- this is the timestamp of the month date: the calendar has its date, the clock its time, and the instant is in range
+-- this is the timestamp of the month date: it has a year, the calendar has its date, the clock its time, and the instant
+-- is in range
 abbrev pub IsMonthStamp : Dating → MonthDate → OffsetTimestamp → Type 0
-IsMonthStamp dating date s = (dt : DateTime) × (fields_of dt ≡ civil_of date dating.year) × IsStampInAny dating.zone dating.local dt s
+IsMonthStamp dating date s =
+    (year : ℤ) × (year_of date dating ≡ Some year)
+    × (dt : DateTime) × (fields_of dt ≡ civil_of date year) × IsStampInAny dating.zone dating.local dt s
 
 -- a clock in the zone shows the year at the instant
 pub record IsYearAt (tz : TimeZone) (nanosecond year : ℤ) : Type 0 where
