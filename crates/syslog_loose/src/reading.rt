@@ -83,7 +83,7 @@ fn read_rfc5424(alloc: Global, input: &str) -> Result<Message<&str>, ParseFault>
     }
 }
 
-/// The printed text of that message, in memory of its own.
+/// The printed text of that message, in memory of its own. A text that has no reading is `Invalid`, and never `Memory`.
 pub fn normalise<F: FnOnce(IncompleteDate) -> i32>(
     alloc: Global,
     input: &str,
@@ -96,6 +96,7 @@ pub fn normalise<F: FnOnce(IncompleteDate) -> i32>(
     ensures reads { MatchResult result
         (λ text. (m : MessageValue) × IsRead variant (chars input.entry.now) m × (string_bytes text ≡ encode_utf8_all (printed m)))
         (λ fault. fault ≡ Invalid → IsUnreadable variant (chars input.entry.now)) }
+    ensures refusal { IsUnreadable variant (chars input.entry.now) → result ≡ Err Invalid }
 {
     let message = parse_message_with_year_exact_tz(alloc, input, get_year, tz, variant, local)?;
     Ok(print(alloc, &message, input.len())?)
