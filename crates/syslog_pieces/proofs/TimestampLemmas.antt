@@ -5,9 +5,13 @@ pub mod Characters
 pub mod Civil
 pub mod Fields
 pub mod Fraction
+pub mod Loose
+pub mod MonthDate
+pub mod Months
 pub mod Piece
 pub mod Printing
 pub mod Range
 pub mod Reading
 pub mod Texts
 pub mod Values
+pub mod Zone

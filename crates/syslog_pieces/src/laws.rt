@@ -1,11 +1,11 @@
 //! Laws over the definitions alone: each function does nothing, and its contract is the law.
-ghost use Rattle.std.specs.Prelude.{◌≡◌, ◌↔◌, ℕ, ℤ, ◌<◌, Bool, false, List, Result, Some, String};
+ghost use Rattle.std.specs.Prelude.{◌≡◌, ◌↔◌, ℕ, ℤ, ◌<◌, Bool, false, List, Option, Result, Some, String};
 ghost use Rattle.std.specs.Borrow.{Bor};
 ghost use Rattle.std.specs.Global.{Global};
 ghost use Rattle.std.specs.Iterator.{Drains};
 ghost use Rattle.std.specs.List.{AllByRecursion};
 ghost use Rattle.std.specs.declared.alloc.AllocError.{AllocError};
-ghost use Rattle.syslog_pieces.specs.Pieces.Class.{Text};
+ghost use Rattle.syslog_pieces.specs.Pieces.Class.{Text, Front};
 ghost use Rattle.syslog_pieces.specs.StructuredData.Escapes.{TextUnit, SplitsUnits, IsUnescaped, IsUnquoted, escaped};
 ghost use Rattle.syslog_pieces.specs.StructuredData.Params.{NextParam, AreParamItems};
 ghost use Rattle.syslog_pieces.specs.Pri.{facility_of, severity_of, composed};
@@ -13,9 +13,13 @@ ghost use Rattle.syslog_pieces.specs.StructuredData.{IsValue};
 ghost use Rattle.jiff.specs.Words.{IsCivilNanos};
 ghost use Rattle.syslog_pieces.specs.Timestamp.Fields.{AreCivil, nanos_of_fields};
 ghost use Rattle.syslog_pieces.specs.Timestamp.Printed.{civil_fields};
+ghost use Rattle.syslog_pieces.specs.Timestamp.Loose.{loose_stamp, ShowsYearless};
 ghost use Rattle.syslog_pieces.specs.Timestamp.Rfc3339.{HasStamp};
+ghost use Rattle.syslog_pieces.specs.Timestamp.Zone.{Dating};
 ghost use Rattle.syslog_pieces.specs.declared.pri.SyslogFacility.{SyslogFacility};
 ghost use Rattle.syslog_pieces.specs.declared.pri.SyslogSeverity.{SyslogSeverity};
+ghost use Rattle.syslog_pieces.specs.declared.timestamp.OffsetTimestamp.{OffsetTimestamp};
+ghost use Rattle.syslog_pieces.specs.declared.timestamp.month_date.MonthDate.{MonthDate};
 
 use crate::as_str::AsStr;
 
@@ -29,6 +33,18 @@ pub fn priority_is_composed()
 pub fn text_has_one_stamp()
     ensures instant { (text : List ℕ) (n o m p : ℤ) → HasStamp text n o → HasStamp text m p → n ≡ m }
     ensures at_offset { (text : List ℕ) (n o m p : ℤ) → HasStamp text n o → HasStamp text m p → o ≡ p }
+{}
+
+/// A text shows at most one month date without a year.
+pub fn text_shows_one_date()
+    ensures { (text : Text) (date other : MonthDate) → ShowsYearless text date → ShowsYearless text other → date ≡ other }
+{}
+
+/// For a given year and zones, a text has at most one timestamp of RFC 3164 at its front.
+pub fn text_has_one_loose_stamp()
+    ensures { (dating : Dating) (text rest others : Text) (stamp other : Option OffsetTimestamp)
+        → Front (loose_stamp dating) text rest stamp → Front (loose_stamp dating) text others other
+        → (rest ≡ others) × (stamp ≡ other) }
 {}
 
 /// The civil fields of a count of nanoseconds are a date of the calendar and a time of day, and

@@ -1,6 +1,6 @@
 -- The timestamp of a header of RFC 3164, and the month date that a text shows.
-use Rattle.std.specs.Prelude.{◌≡◌, ℕ, List, [], ◌∷◌, Option, Some, None}
-use Rattle.syslog_pieces.specs.Pieces.Class.{Text, Class, Division, run, rest, optional, mapped, either}
+use Rattle.std.specs.Prelude.{ℕ, List, [], ◌∷◌, Option, Some, None}
+use Rattle.syslog_pieces.specs.Pieces.Class.{Text, Class, Division, run, rest, optional, either}
 use Rattle.syslog_pieces.specs.Pri.{priority}
 use Rattle.syslog_pieces.specs.Text.{trimmed, is_blank}
 use Rattle.syslog_pieces.specs.Timestamp.{header_stamp}

@@ -1,6 +1,6 @@
 -- Month dates: the dates of RFC 3164, which have no offset and may have no year. (RFC 3164 section 4.1.2 has one form
 -- of them; the year, the blanks and the last colon are this project's own choice.)
-use Rattle.std.specs.Prelude.{◌≡◌, ℕ, ◌+◌, List, [], ◌∷◌, Option, Some, None, map, slice_get}
+use Rattle.std.specs.Prelude.{◌≡◌, ℕ, ◌+◌, List, [], ◌∷◌, Some, None, map, slice_get}
 use Rattle.std.specs.Char.{to_ascii_lowercase}
 use Rattle.syslog_pieces.specs.Pieces.Class.{Text, Class, Values, Row, some_run, exactly, optional, mapped, either}
 use Rattle.syslog_pieces.specs.Text.{is_blank, number, colon}

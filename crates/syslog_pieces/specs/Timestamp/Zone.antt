@@ -1,6 +1,6 @@
 -- The timestamp of civil fields in a zone, said over what `jiff` tells of the zone: whether a clock there shows the
 -- datetime at one instant, at two (a fold) or at none (a gap).
-use Rattle.std.specs.Prelude.{◌≡◌, ℕ, ℤ, pos, ◌+ℤ◌, Option, Some, None}
+use Rattle.std.specs.Prelude.{◌≡◌, ℤ, pos, ◌+ℤ◌, Option, Some, None}
 use Rattle.jiff.specs.Types.{DateTime, TimeZone, AmbiguousOffset, Unambiguous, Gap, Fold}
 use Rattle.jiff.specs.Words.{civil_nanos, nanos_of_seconds, offset_at, ambiguous_at}
 use Rattle.syslog_pieces.specs.declared.timestamp.OffsetTimestamp.{OffsetTimestamp}

@@ -1,0 +1,46 @@
+-- A text has one timestamp of RFC 3164 at its front: the three kinds begin with `-`, with a digit and with a letter.
+use Rattle.std.proofs.Common.{ℕ, ◌≤◌, ◌++◌, Option, Some, None, sym, ap, subst, arith}
+use Rattle.syslog_pieces.specs.Pieces.Class.{Text, Class, IsDeterministic}
+use Rattle.syslog_pieces.specs.Timestamp.{header_stamp}
+use Rattle.syslog_pieces.specs.Timestamp.Zone.{Dating, IsMonthStamp}
+use Rattle.syslog_pieces.specs.Timestamp.Loose.{IsStampedDate, loose_stamp}
+use Rattle.syslog_pieces.specs.declared.timestamp.OffsetTimestamp.{OffsetTimestamp}
+use Rattle.syslog_pieces.specs.declared.timestamp.month_date.MonthDate.{MonthDate}
+use Rattle.syslog_pieces.proofs.PieceLemmas.Kinds.{Apart, Begins, begins_apart, begins_more, begins_with, either_det}
+use Rattle.syslog_pieces.proofs.TimestampLemmas.MonthDate.{month_date_det, month_date_begins}
+use Rattle.syslog_pieces.proofs.TimestampLemmas.Months.{IsLetter}
+use Rattle.syslog_pieces.proofs.TimestampLemmas.Piece.{header_stamp_det}
+use Rattle.syslog_pieces.proofs.TimestampLemmas.Texts.{stamp_text-first}
+use Rattle.syslog_pieces.proofs.TimestampLemmas.Zone.{month_stamp_once}
+
+-- a digit or a dash
+abbrev pub IsLow : ℕ → Type 0
+IsLow c = c ≤ 57
+
+-- `-`, or an RFC 3339 text
+pub header_stamp_begins : (p q : Text) (v : Option OffsetTimestamp) → header_stamp.Is p q v → Begins IsLow (p ++ q)
+header_stamp_begins p q None h = begins_with IsLow 45 (p ++ q) q (ap (λ (x : Text). x ++ q) h) (omega arith)
+header_stamp_begins p q (Some s) (h, z) =
+    let (c, more, f, digit) = stamp_text-first p s h in
+    begins_more IsLow p q (begins_with IsLow c p more f (let d = digit.1 in omega arith))
+
+pub stamped_date_begins : (dating : Dating) (p q : Text) (v : Option OffsetTimestamp) → IsStampedDate dating p q v → Begins IsLetter (p ++ q)
+stamped_date_begins dating p q None h = absurd h
+stamped_date_begins dating p q (Some s) (d, h, k) = month_date_begins p q d h
+
+abbrev stamped_date : Dating → Class
+stamped_date dating = record { Value = Option OffsetTimestamp; Is = IsStampedDate dating }
+
+pub stamped_date_det : (dating : Dating) → IsDeterministic (stamped_date dating)
+stamped_date_det dating p q p' q' None v' e h h' = absurd h
+stamped_date_det dating p q p' q' (Some s) None e h h' = absurd h'
+stamped_date_det dating p q p' q' (Some s) (Some t) e (d, h, k) (d', h', k') =
+    let r = month_date_det p q p' q' d d' e h h' in
+    (r.0, ap Some (month_stamp_once dating d' s t (subst (λ (x : MonthDate). IsMonthStamp dating x s) r.1 k) k'))
+
+kinds_apart : (dating : Dating) → Apart (Option OffsetTimestamp) header_stamp.Is (IsStampedDate dating)
+kinds_apart dating p q p' q' v v' e h h' =
+    begins_apart (p ++ q) (λ c a b. omega arith) (header_stamp_begins p q v h) (subst (λ (x : Text). Begins IsLetter x) (sym e) (stamped_date_begins dating p' q' v' h'))
+
+pub loose_stamp_det : (dating : Dating) → IsDeterministic (loose_stamp dating)
+loose_stamp_det dating = either_det (Option OffsetTimestamp) header_stamp.Is (IsStampedDate dating) header_stamp_det (stamped_date_det dating) (kinds_apart dating)
