@@ -4,11 +4,11 @@ use Rattle.std.specs.Prelude.{◌≡◌, ◌≢◌, ℕ, ℤ, ◌<◌, ◌^◌, 
 use Rattle.std.specs.Int.{w32}
 use Rattle.std.specs.Char.{is_not_whitespace}
 use Rattle.std.specs.List.{AllByRecursion}
-use Rattle.syslog_pieces.specs.Pieces.Class.{Text, NoFront, Each, Ends}
+use Rattle.syslog_pieces.specs.Pieces.Class.{Text, Each, Ends}
 use Rattle.syslog_pieces.specs.ProcId.{IsI32Text}
 use Rattle.syslog_pieces.specs.StructuredData.{IsValue}
 use Rattle.syslog_pieces.specs.StructuredData.Element.{ElementValue}
-use Rattle.syslog_pieces.specs.StructuredData.Listed.{full_element, IsDashBefore}
+use Rattle.syslog_pieces.specs.StructuredData.Listed.{BeginsNoList}
 use Rattle.syslog_pieces.specs.Text.{is_blank, is_tag_char, dash, colon, EndsInColon}
 use Rattle.syslog_pieces.specs.Text.CharClass.{is_id_char, is_name_char, is_label_char}
 use Rattle.syslog_pieces.specs.Timestamp.Plain.{IsPlainStamp}
@@ -109,10 +109,6 @@ ArePlainNames host None None = IfSome host IsNoForm
 ArePlainNames host None (Some process) = ⊥
 ArePlainNames host (Some app) None = (0 < length app) × Each is_tag_char app × (app ≢ dash) × IsNoForm app
 ArePlainNames host (Some app) (Some process) = Each is_label_char app × IsBracketedProcess process
-
--- the message begins neither with a dash that the rule takes for a list, nor with a strict element that has a parameter
-abbrev pub BeginsNoList : DashRule → Text → Type 0
-BeginsNoList rule msg = ((q : Text) → msg ≡ 45 ∷ q → IsDashBefore rule q → ⊥) × NoFront full_element msg
 
 pub record IsPlain3164 (rule : DashRule) (m : MessageValue) : Type 0 where
   pub msgid : m.msgid ≡ None

@@ -4,3 +4,4 @@ pub mod Kinds
 pub mod Lists
 pub mod Meets
 pub mod Parts
+pub mod Steps

@@ -5,9 +5,10 @@ ghost use Rattle.std.specs.Global.{Global};
 ghost use Rattle.std.specs.Iterator.{Drains};
 ghost use Rattle.std.specs.List.{AllByRecursion};
 ghost use Rattle.std.specs.declared.alloc.AllocError.{AllocError};
-ghost use Rattle.syslog_pieces.specs.Pieces.Class.{Text, Front};
+ghost use Rattle.syslog_pieces.specs.Pieces.Class.{Text, Front, NoFront};
 ghost use Rattle.syslog_pieces.specs.StructuredData.Escapes.{TextUnit, SplitsUnits, IsUnescaped, IsUnquoted, escaped};
 ghost use Rattle.syslog_pieces.specs.StructuredData.Params.{NextParam, AreParamItems};
+ghost use Rattle.syslog_pieces.specs.StructuredData.Listed.{BeginsNoList, listed};
 ghost use Rattle.syslog_pieces.specs.Pri.{facility_of, severity_of, composed};
 ghost use Rattle.syslog_pieces.specs.StructuredData.{IsValue};
 ghost use Rattle.jiff.specs.Words.{IsCivilNanos};
@@ -18,6 +19,7 @@ ghost use Rattle.syslog_pieces.specs.Timestamp.Rfc3339.{HasStamp};
 ghost use Rattle.syslog_pieces.specs.Timestamp.Zone.{Dating};
 ghost use Rattle.syslog_pieces.specs.declared.pri.SyslogFacility.{SyslogFacility};
 ghost use Rattle.syslog_pieces.specs.declared.pri.SyslogSeverity.{SyslogSeverity};
+ghost use Rattle.syslog_pieces.specs.declared.structured_data.listed.DashRule.{DashRule};
 ghost use Rattle.syslog_pieces.specs.declared.timestamp.OffsetTimestamp.{OffsetTimestamp};
 ghost use Rattle.syslog_pieces.specs.declared.timestamp.month_date.MonthDate.{MonthDate};
 
@@ -82,4 +84,9 @@ pub fn text_is_unescaped_once()
 pub fn params_are_given_in_order<S: AsStr>()
     ensures { (params : List (S × S)) (items : List (Result (Bor S × String Global) AllocError))
         → Drains (NextParam S.text) params items → AreParamItems S.text params items }
+{}
+
+/// No list of RFC 3164 begins a text exactly where neither a dash that is such a list begins it, nor an element of one.
+pub fn list_begins_with_dash_or_element()
+    ensures { (rule : DashRule) (text : Text) → NoFront (listed rule) text ↔ BeginsNoList rule text }
 {}

@@ -1,7 +1,7 @@
 -- One text has one front of each class, and so one division into a row.
 use Rattle.std.proofs.Common.{◌≡◌, ℕ, Bool, List, [], ◌∷◌, ◌++◌, Some, None, refl, sym, ap, subst, ◌∙◌, append_assoc}
 use Rattle.std.proofs.lemmas.List.{append_cancel_left, append-nil}
-use Rattle.syslog_pieces.specs.Pieces.Class.{Text, Class, Front, NoFront, IsDeterministic, join, Values, Divides, Row, Division, NoDivision, Each, Ends, run, some_run, exactly, rest, optional, mapped, texted}
+use Rattle.syslog_pieces.specs.Pieces.Class.{Text, Class, Front, NoFront, IsDeterministic, join, Values, Divides, Row, Division, NoDivision, Each, Ends, run, some_run, exactly, rest, optional, mapped, texted, spaced}
 
 -- ---- texts
 
@@ -207,3 +207,29 @@ rows_none_here As Bs n p q vs e h =
 pub rows_none_later : (As Bs : List Class) → AllDeterministic As → {t u : Text} {vs : Values As} → Front (Row As) t u vs → NoFront (Row Bs) u → NoFront (Row (As ++ Bs)) t
 rows_none_later [] Bs d f n = subst (λ (x : Text). NoFront (Row Bs) x) (sym (nil_front f)) n
 rows_none_later (C ∷ As) Bs d f n = let h = row_head C As f in row_none_later C (As ++ Bs) d.0 h.1 (rows_none_later As Bs d.1 h.2 n)
+
+-- ---- pieces behind a space
+pub spaced_det : (C : Class) → IsDeterministic C → IsDeterministic (spaced C)
+spaced_det C d p q p' q' v v' e h h' =
+    let r = row_det (exactly (32 ∷ []) ∷ C ∷ []) (exactly_det (32 ∷ []), (d, tt)) p q p' q' (tt, (v, tt)) (tt, (v', tt)) e h h' in
+    (r.0, ap (λ (x : Values (exactly (32 ∷ []) ∷ C ∷ [])). x.1.0) r.1)
+
+-- such a piece, from the space and the piece behind it
+pub spaced_front : (C : Class) {t q r : Text} {v : C.Value} → Front (exactly (32 ∷ [])) t q tt → Front C q r v → Front (spaced C) t r v
+spaced_front C {r = r} f g =
+    let row = row_cons (exactly (32 ∷ [])) (C ∷ []) f (row_cons C [] g (row_nil r)) in
+    record { piece = row.piece; whole = row.whole; is = row.is }
+
+-- and back
+pub spaced_parts : (C : Class) {t r : Text} {v : C.Value} → Front (spaced C) t r v → (q : Text) × (t ≡ 32 ∷ q) × Front C q r v
+spaced_parts C {t = t} {r = r} {v = v} f =
+    let row : Front (Row (exactly (32 ∷ []) ∷ C ∷ [])) t r (tt, (v, tt)) = record { piece = f.piece; whole = f.whole; is = f.is } in
+    let g = row_head (exactly (32 ∷ [])) (C ∷ []) row in
+    let h = row_head C [] g.2 in
+    (g.0, g.1.whole ∙ ap (λ (x : Text). x ++ g.0) g.1.is, subst (λ (x : Text). Front C g.0 x v) (nil_front h.2) h.1)
+
+pub no_spaced_space : (C : Class) {t : Text} → NoFront (exactly (32 ∷ [])) t → NoFront (spaced C) t
+no_spaced_space C n p q v e h = row_none_here (exactly (32 ∷ [])) (C ∷ []) n p q (tt, (v, tt)) e h
+
+pub no_spaced_piece : (C : Class) {t q : Text} → Front (exactly (32 ∷ [])) t q tt → NoFront C q → NoFront (spaced C) t
+no_spaced_piece C f n p q v e h = row_none_later (exactly (32 ∷ [])) (C ∷ []) (exactly_det (32 ∷ [])) f (row_none_here C [] n) p q (tt, (v, tt)) e h

@@ -1,5 +1,5 @@
 -- Lists of pieces of one class.
-use Rattle.std.proofs.Common.{◌≡◌, ◌≢◌, ℕ, List, [], ◌∷◌, ◌++◌, refl, sym, ap, subst, ◌∙◌, append_assoc, append-nil}
+use Rattle.std.proofs.Common.{◌≡◌, ◌≢◌, ℕ, zero, suc, ◌<◌, ◌≤◌, List, [], ◌∷◌, ◌++◌, length, arith, refl, sym, ap, subst, ◌∙◌, append_assoc, append-nil}
 use Rattle.syslog_pieces.specs.Pieces.Class.{Text, Class, Front, NoFront, IsDeterministic, Row, exactly}
 use Rattle.syslog_pieces.specs.Pieces.Lists.{many, IsList, IsMore, list_before, more_before}
 use Rattle.syslog_pieces.proofs.PieceLemmas.Class.{rest_same, after_nil, behind, heads, front_same, row_cons, row_head}
@@ -45,6 +45,13 @@ has_read_more C t s s' vs v r f q ws g = subst (λ (x : List C.Value). Front (ma
 
 pub has_read_all : (C : Class) (t s : Text) (vs : List C.Value) → HasRead C t vs s → NoFront C s → Front (many C) t s vs
 has_read_all C t s vs r n = subst (λ (x : List C.Value). Front (many C) t s x) (append-nil vs) (r s [] (many_here C s n))
+
+-- it can't be that no row of as many pieces as there are begins a text, where each piece has a character
+pub no_many_no : (C : Class) → ((t u : Text) (v : C.Value) → Front C t u v → length u < length t) → (n : ℕ) (t : Text) → length t ≤ n → ((q : Text) (vs : List C.Value) → Front (many C) t q vs → ⊥) → ⊥
+no_many_no C s zero t l k = k t [] (many_here C t (λ p q v e h. let a = s t q v (record { piece = p; whole = e; is = h }) in omega arith))
+no_many_no C s (suc n) t l k = k t [] (many_here C t (λ p q v e h.
+    let f : Front C t q v = record { piece = p; whole = e; is = h } in
+    no_many_no C s n q (omega (arith, s t q v f)) (λ r vs g. k r (v ∷ vs) (many_cons C t q r v vs f g))))
 
 -- ---- pieces between separators
 module _ (C : Class) (separator close : ℕ) where

@@ -105,7 +105,7 @@ item_det p q p' q' None (Some v') e h h' = absurd (h.0 p' q' v' e h')
 item_det p q p' q' None None e (n, h) (n', h') = ((bracketed_det p q p' q' (tt, (tt, (tt, tt))) (tt, (tt, (tt, tt))) e h h').0, refl)
 
 -- an item begins with a bracket
-item_begins : (p q : Text) (v : Option ElementValue) → item.Is p q v → (r : Text) × (p ++ q ≡ 91 ∷ r)
+pub item_begins : (p q : Text) (v : Option ElementValue) → item.Is p q v → (r : Text) × (p ++ q ≡ 91 ∷ r)
 item_begins p q (Some v) (vs, ([], f, h), g) = absurd h
 item_begins p q (Some v) (vs, (a ∷ ps, f, h), g) =
     (join ps ++ q, ap (λ (x : Text). x ++ q) (f ∙ ap (λ (x : Text). x ++ join ps) h.0))
@@ -118,7 +118,7 @@ many_begins p q [] l h = absurd (omega arith)
 many_begins p q (v ∷ vs) l (a, b, i, k, more) =
     let s = item_begins a (b ++ q) v k in (s.0, ap (λ (x : Text). x ++ q) i ∙ append_assoc a b q ∙ s.1)
 
-dash_is_no_list : (p q r : Text) → p ≡ dash → p ++ q ≡ 91 ∷ r → ⊥
+pub dash_is_no_list : (p q r : Text) → p ≡ dash → p ++ q ≡ 91 ∷ r → ⊥
 dash_is_no_list p q r f e = let t : ◌≡◌ {A = ℕ} 45 91 = heads 45 91 q r (sym (ap (λ (x : Text). x ++ q) f) ∙ e) in omega arith
 
 pub forgiving_det : IsDeterministic forgiving

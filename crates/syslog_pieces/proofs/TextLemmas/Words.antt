@@ -11,7 +11,7 @@ use Rattle.std.specs.Result.{OkIff}
 use Rattle.std.specs.Char.{encode_utf8, is_ascii_digit, is_not_whitespace}
 use Rattle.syslog_pieces.specs.Pieces.Class.{Text, Front, NoFront, IsDeterministic, Each, exactly}
 use Rattle.syslog_pieces.specs.Bodies.Scan.{SplitsRun}
-use Rattle.syslog_pieces.specs.Text.{number, dash, colon, Names, word, EndsInColon, IsHost, host}
+use Rattle.syslog_pieces.specs.Text.{number, dash, colon, Names, word, EndsInColon, IsHost, host, is_tag_char, tag_word}
 use Rattle.syslog_pieces.proofs.TextLemmas.Chars.{cut_at, chars_nonempty, chars_empty, digits_plain, one_ascii}
 use Rattle.syslog_pieces.proofs.PieceLemmas.Class.{run_same}
 use Rattle.syslog_pieces.proofs.TextLemmas.Runs.{run_is}
@@ -32,6 +32,11 @@ pub word_det : IsDeterministic word
 word_det w q w' q' v v' e h h' =
     let s = run_same is_not_whitespace w q w' q' e h.1 h.2 h'.1 h'.2 in
     (s, names_same w' v v' (rw s at h.4) h'.4)
+
+pub tag_word_det : IsDeterministic tag_word
+tag_word_det w q w' q' v v' e h h' =
+    let s = run_same is_tag_char w q w' q' e h.1 h.2 h'.1 h'.2 in
+    (s, names_same w' v v' (rw s at h.3) h'.3)
 
 -- a run whose last colon is given back is still a run
 with_colon : (p : Text) → Each is_not_whitespace p → Each is_not_whitespace (p ++ colon)
@@ -108,6 +113,14 @@ module _ (bs xs ys : List ℕ) (s : SplitsRun is_not_whitespace bs xs ys) where
 
   pub no_word_colon : chars xs ≡ colon → NoFront word (chars bs)
   no_word_colon z p q v e (l, a, b, n, m) = n (run_is is_not_whitespace bs xs ys s p q e a b ∙ z)
+
+-- ---- tag words
+module _ (bs xs ys : List ℕ) (s : SplitsRun is_tag_char bs xs ys) where
+  pub tag_front : (v : Option (List ℕ)) → 0 < length xs → Names (chars xs) v → Front tag_word (chars bs) (chars ys) v
+  tag_front v l n = record { piece = chars xs; whole = s.characters; is = (chars_nonempty xs s.front_utf8 l, s.each, s.ends, n) }
+
+  pub no_tag_empty : length xs ≡ 0 → NoFront tag_word (chars bs)
+  no_tag_empty z p q v e (l, a, b, n) = let r = ap length (run_is is_tag_char bs xs ys s p q e a b) in let t = chars_empty xs z in omega arith
 
 -- ---- one character
 pub literal_front : (c : ℕ) (bs more : List ℕ) → IsUtf8 bs → bs ≡ encode_utf8 c ++ more → Front (exactly (c ∷ [])) (chars bs) (chars more) tt

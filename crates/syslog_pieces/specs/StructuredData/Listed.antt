@@ -1,7 +1,7 @@
 -- The list of RFC 3164, which holds elements with parameters alone, and before which texts a dash is such a list. (All
 -- of it is this project's own choice.)
 use Rattle.std.specs.Prelude.{◌≡◌, ◌<◌, ◌⊎◌, ⊤, true, List, [], ◌∷◌, length, Option, Some, None}
-use Rattle.syslog_pieces.specs.Pieces.Class.{Text, Class, Front}
+use Rattle.syslog_pieces.specs.Pieces.Class.{Text, Class, NoFront}
 use Rattle.syslog_pieces.specs.Pieces.Lists.{many}
 use Rattle.syslog_pieces.specs.StructuredData.{element}
 use Rattle.syslog_pieces.specs.StructuredData.Element.{ElementValue}
@@ -26,6 +26,10 @@ IsListed rule p q es = ((p ≡ dash) × IsDashBefore rule q × (es ≡ [])) ⊎ 
 -- the list of RFC 3164
 abbrev pub listed : DashRule → Class
 listed rule = record { Value = List ElementValue; Is = IsListed rule }
+
+-- the text begins neither with a dash that is a list, nor with a strict element that has a parameter
+abbrev pub BeginsNoList : DashRule → Text → Type 0
+BeginsNoList rule text = ((q : Text) → text ≡ 45 ∷ q → IsDashBefore rule q → ⊥) × NoFront full_element text
 
 -- the elements of a list that may be absent
 abbrev pub elements_or : Option (List ElementValue) → List ElementValue
