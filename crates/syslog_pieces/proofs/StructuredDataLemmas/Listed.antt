@@ -1,5 +1,5 @@
 -- The list of RFC 3164: a text has one at its front, and has none exactly where neither of its two kinds begins.
-use Rattle.std.proofs.Common.{◌≡◌, ℕ, ◌<◌, ◌↔◌, Some, inl, inr, List, [], ◌∷◌, ◌++◌, length, refl, sym, ap, ◌∙◌, append_assoc, arith}
+use Rattle.std.proofs.Common.{◌≡◌, ◌<◌, ◌↔◌, Some, inl, inr, List, [], ◌∷◌, ◌++◌, length, refl, sym, ap, ◌∙◌, append_assoc, arith}
 use Rattle.syslog_pieces.specs.Pieces.Class.{Text, Front, NoFront, IsDeterministic}
 use Rattle.syslog_pieces.specs.Pieces.Lists.{many}
 use Rattle.syslog_pieces.specs.StructuredData.{element}
