@@ -1,7 +1,7 @@
 -- Steps through a row whose pieces are known.
-use Rattle.std.proofs.Common.{◌≡◌, ℕ, ◌<◌, ◌≤◌, Bool, true, List, [], ◌∷◌, ◌++◌, length, Some, None, refl, sym, ap, subst, ◌∙◌, arith}
+use Rattle.std.proofs.Common.{◌≡◌, ℕ, ◌≤◌, List, [], ◌∷◌, ◌++◌, length, Some, None, refl, sym, ap, subst, ◌∙◌, arith}
 use Rattle.std.proofs.lemmas.List.{length-append}
-use Rattle.syslog_pieces.specs.Pieces.Class.{Text, Class, Front, NoFront, IsDeterministic, Values, Row, Each, optional}
+use Rattle.syslog_pieces.specs.Pieces.Class.{Text, Class, Front, NoFront, IsDeterministic, Values, Row, optional}
 use Rattle.syslog_pieces.proofs.PieceLemmas.Class.{front_same, row_head}
 use Rattle.syslog_pieces.proofs.PieceLemmas.Kinds.{Begins, begins_more}
 use Rattle.syslog_pieces.proofs.PieceLemmas.Meets.{nil_front}
