@@ -1,3 +1,5 @@
 pub mod PrintedLemmas
 pub mod ReadingLemmas
+pub mod Rfc3164Lemmas
 pub mod Rfc5424Lemmas
+pub mod TagFormLemmas

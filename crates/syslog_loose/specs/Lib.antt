@@ -5,4 +5,5 @@ pub mod Reading
 pub mod Rfc3164
 pub mod Rfc5424
 pub mod TagForm
+pub mod View3164
 pub mod View5424

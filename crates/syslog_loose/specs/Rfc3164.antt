@@ -1,6 +1,6 @@
 -- The header of RFC 3164 (section 4, read loosely), as eleven pieces of the trimmed text, and the message that they
 -- mean. Behind the timestamp nothing can fail.
-use Rattle.std.specs.Prelude.{◌≡◌, ◌⊎◌, List, [], ◌∷◌, ◌++◌, Option, Some, None}
+use Rattle.std.specs.Prelude.{◌≡◌, ◌⊎◌, List, [], ◌∷◌, Option, Some, None}
 use Rattle.std.specs.Option.{option_and_then}
 use Rattle.syslog_pieces.specs.Pieces.Class.{Text, Class, Values, Division, NoDivision, run, rest, exactly, optional, spaced}
 use Rattle.syslog_pieces.specs.Pieces.Parts.{AreInPieces}

@@ -9,6 +9,7 @@ mod fault;
 pub mod laws;
 mod message;
 mod reading;
+mod rfc3164;
 mod rfc5424;
 #[cfg(test)]
 mod tests;
