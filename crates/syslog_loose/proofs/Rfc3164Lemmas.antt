@@ -1,4 +1,8 @@
--- The pieces of RFC 3164: what the fields of names mean together is one thing.
+-- Texts of RFC 3164: what the fields of names mean together is one thing, a text has one division, and none of RFC 5424.
+pub mod Apart
+pub mod Stamped
+pub mod Unique
+pub mod Years
 use Rattle.std.proofs.Common.{◌≡◌, inl, inr, Option, Some, None, refl, sym, ◌∙◌}
 use Rattle.syslog_pieces.specs.Pieces.Class.{Text}
 use Rattle.syslog_pieces.specs.ProcId.{NamesProcess}

@@ -1,6 +1,6 @@
 -- The header of RFC 3164 (section 4, read loosely), as eleven pieces of the trimmed text, and the message that they
 -- mean. Behind the timestamp nothing can fail.
-use Rattle.std.specs.Prelude.{◌≡◌, ◌⊎◌, List, [], ◌∷◌, Option, Some, None}
+use Rattle.std.specs.Prelude.{◌≡◌, ◌⊎◌, List, [], ◌∷◌, ◌++◌, Option, Some, None}
 use Rattle.std.specs.Option.{option_and_then}
 use Rattle.syslog_pieces.specs.Pieces.Class.{Text, Class, Values, Division, NoDivision, run, rest, exactly, optional, spaced}
 use Rattle.syslog_pieces.specs.Pieces.Parts.{AreInPieces}
@@ -55,9 +55,13 @@ body_row rule =
     optional (spaced host) ∷ optional (spaced tag_word) ∷ run is_blank ∷ optional (exactly colon) ∷ run is_blank
     ∷ optional (listed rule) ∷ run is_blank ∷ rest ∷ []
 
+-- the pieces that can fail: a priority or none, blanks or none, a timestamp
+abbrev pub stamped_row : Dating → List Class
+stamped_row dating = optional priority ∷ run is_blank ∷ loose_stamp dating ∷ []
+
 -- the eleven pieces
 abbrev pub rfc3164_row : DashRule → Dating → List Class
-rfc3164_row rule dating = optional priority ∷ run is_blank ∷ loose_stamp dating ∷ body_row rule
+rfc3164_row rule dating = stamped_row dating ++ body_row rule
 
 -- the pieces mean the message
 abbrev pub Means3164 : (rule : DashRule) (dating : Dating) → Values (rfc3164_row rule dating) → MessageValue → Type 0

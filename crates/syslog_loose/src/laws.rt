@@ -1,9 +1,13 @@
 //! Laws over the definitions alone: each function does nothing, and its contract is the law.
-ghost use Rattle.std.specs.Prelude.{◌≡◌, Option};
-ghost use Rattle.syslog_pieces.specs.Pieces.Class.{Text, Division, Values};
+ghost use Rattle.std.specs.Prelude.{◌≡◌, ◌↔◌, Option};
+ghost use Rattle.syslog_pieces.specs.Pieces.Class.{Text, Division, NoDivision, NoFront, Row, Values};
+ghost use Rattle.syslog_pieces.specs.Timestamp.Loose.{ShowsYearless, ShowsMonthDate};
+ghost use Rattle.syslog_pieces.specs.Timestamp.Zone.{Dating};
+ghost use Rattle.syslog_pieces.specs.declared.structured_data.listed.DashRule.{DashRule};
+ghost use Rattle.syslog_pieces.specs.declared.timestamp.month_date.MonthDate.{MonthDate};
 ghost use Rattle.syslog_loose.specs.Message.{MessageValue};
-ghost use Rattle.syslog_loose.specs.Rfc3164.{Names3164, Resolves};
-ghost use Rattle.syslog_loose.specs.Rfc5424.{rfc5424_row, IsRead5424};
+ghost use Rattle.syslog_loose.specs.Rfc3164.{Names3164, Resolves, stamped_row, rfc3164_row, IsRead3164, Quotes3164};
+ghost use Rattle.syslog_loose.specs.Rfc5424.{rfc5424_row, IsRead5424, IsNot5424};
 ghost use Rattle.syslog_loose.specs.TagForm.{IsForm};
 
 /// Two divisions of one text into the pieces of RFC 5424 are the same list of pieces, with the same meanings.
@@ -26,4 +30,47 @@ pub fn one_form()
 /// The host field and the tag field of RFC 3164 mean one thing together.
 pub fn one_resolution()
     ensures { (host tag : Option (Option Text)) (r s : Names3164) → Resolves host tag r → Resolves host tag s → r ≡ s }
+{}
+
+/// Two divisions of one text into the pieces of RFC 3164, under one rule of the dash, one year and the same zones, are
+/// the same list of pieces, with the same meanings.
+pub fn one_rfc3164_division()
+    ensures pieces { (rule : DashRule) (dating : Dating) (text : Text) (vs ws : Values (rfc3164_row rule dating))
+        (d : Division (rfc3164_row rule dating) text vs) (e : Division (rfc3164_row rule dating) text ws) → d.pieces ≡ e.pieces }
+    ensures meanings { (rule : DashRule) (dating : Dating) (text : Text) (vs ws : Values (rfc3164_row rule dating))
+        → Division (rfc3164_row rule dating) text vs → Division (rfc3164_row rule dating) text ws → vs ≡ ws }
+{}
+
+/// So a text is read as at most one message of RFC 3164.
+pub fn one_rfc3164_message()
+    ensures { (rule : DashRule) (dating : Dating) (text : Text) (m n : MessageValue)
+        → IsRead3164 rule dating text m → IsRead3164 rule dating text n → m ≡ n }
+{}
+
+/// Behind the timestamp of RFC 3164 nothing can fail: a text has no division exactly where no priority or none, blanks
+/// or none and a timestamp begin it. The rule of the dash has no part in that.
+pub fn rfc3164_fails_before_its_timestamp_alone()
+    ensures { (rule : DashRule) (dating : Dating) (text : Text)
+        → NoDivision (rfc3164_row rule dating) text ↔ NoFront (Row (stamped_row dating)) text }
+{}
+
+/// No text has a division of both protocols. So it counts for nothing which one is tried first.
+pub fn no_text_has_both_divisions()
+    ensures { (rule : DashRule) (dating : Dating) (text : Text) (vs : Values rfc5424_row) (ws : Values (rfc3164_row rule dating))
+        → Division rfc5424_row text vs → Division (rfc3164_row rule dating) text ws → ⊥ }
+{}
+
+/// A text that shows a month date, with a year or without, has no division of RFC 5424.
+pub fn month_date_is_no_rfc5424()
+    ensures { (text : Text) (date : MonthDate) → ShowsMonthDate text date → IsNot5424 text }
+{}
+
+/// Where a text shows no date without a year, the year that would stand in for one counts for nothing.
+pub fn year_counts_for_yearless_dates_alone()
+    ensures reads { (rule : DashRule) (text : Text) → ((date : MonthDate) → ShowsYearless text date → ⊥)
+        → (dating other : Dating) → dating.zone ≡ other.zone → dating.local ≡ other.local
+        → (m : MessageValue) → IsRead3164 rule dating text m → IsRead3164 rule other text m }
+    ensures quotes { (rule : DashRule) (text : Text) → ((date : MonthDate) → ShowsYearless text date → ⊥)
+        → (dating other : Dating) → dating.zone ≡ other.zone → dating.local ≡ other.local
+        → (m : MessageValue) → Quotes3164 rule dating text m → Quotes3164 rule other text m }
 {}

@@ -1,9 +1,11 @@
 -- What a header may know of a text that has a stamp.
-use Rattle.std.proofs.Common.{◌≡◌, ◌≢◌, ℕ, ◌+◌, ◌/◌, ◌<◌, false, List, ◌∷◌, length, arith, zero, suc, []}
+use Rattle.std.proofs.Common.{◌≡◌, ◌≢◌, ℕ, ◌+◌, ◌/◌, ◌<◌, false, List, ◌∷◌, ◌++◌, length, arith, zero, suc, []}
 use Rattle.std.proofs.lemmas.Bool.Decides.{nat_tests}
-use Rattle.std.specs.Char.{IsAsciiDigit, is_whitespace}
+use Rattle.std.specs.Char.{IsAsciiDigit, is_ascii_digit, is_whitespace}
 use Rattle.std.specs.List.{All, AllByRecursion}
 use Rattle.std.specs.Str.{IsAscii}
+use Rattle.jiff_fmt.specs.Text.{pad4}
+use Rattle.syslog_pieces.specs.Pieces.Class.{Each}
 use Rattle.syslog_pieces.specs.declared.timestamp.OffsetTimestamp.{OffsetTimestamp}
 use Rattle.syslog_pieces.specs.Timestamp.{IsStampText}
 use Rattle.syslog_pieces.proofs.TimestampLemmas.Characters.{IsStampCharacter, stamp_characters, stamp_ascii}
@@ -50,3 +52,10 @@ stamp_text-first text s (w, writes, stamp) =
 pub stamp_text-nonempty : (text : List ℕ) (s : OffsetTimestamp) → IsStampText text s → 0 < length text
 stamp_text-nonempty text s h =
     let (c, rest, e, digit) = stamp_text-first text s h in rw e (omega arith)
+
+-- the year of the text: four digits, which a dash follows
+pub stamp_text-year : (text : List ℕ) (s : OffsetTimestamp) → IsStampText text s
+    → (year : List ℕ) × (rest : List ℕ) × (text ≡ year ++ (45 ∷ rest)) × Each is_ascii_digit year
+stamp_text-year text s (w, writes, stamp) =
+    let fits = writes.fits.year in
+    (pad4 w.year, _, writes.whole, (grind (arith, nat_tests), (grind (arith, nat_tests), (grind (arith, nat_tests), (grind (arith, nat_tests), tt)))))
