@@ -3,3 +3,4 @@ pub mod ReadingLemmas
 pub mod Rfc3164Lemmas
 pub mod Rfc5424Lemmas
 pub mod TagFormLemmas
+pub mod TrimLemmas

@@ -1,0 +1,126 @@
+-- What trimming leaves of a text: all of it but white space at its end.
+use Rattle.std.proofs.Common.{◌≡◌, ℕ, ◌<◌, inl, inr, Bool, true, false, cond, not, ◌&&◌, ◌||◌, nat_eq, [], ◌∷◌, ◌++◌, length, refl, sym, ap, subst, ◌∙◌, arith, append_assoc}
+use Rattle.std.proofs.lemmas.Bool.Decides.{eqb_tells}
+use Rattle.std.specs.Char.{is_whitespace, is_not_whitespace}
+use Rattle.std.specs.Str.{drop_trailing_whitespace}
+use Rattle.syslog_pieces.specs.Pieces.Class.{Text, Class, Front, Each, Ends, run}
+use Rattle.syslog_pieces.specs.Text.{is_blank}
+use Rattle.syslog_loose.specs.Canonical.{EndsVisibly}
+
+-- ---- characters
+pub not_white : (b : Bool) → not b ≡ true → b ≡ false
+not_white true h = cc
+not_white false h = refl
+
+pub or_false : (a b : Bool) → a ≡ false → b ≡ false → (a || b) ≡ false
+or_false true b h g = h
+or_false false b h g = g
+
+other_char : (k c : ℕ) → is_not_whitespace k ≡ false → is_not_whitespace c ≡ true → nat_eq c k ≡ false
+other_char k c w h =
+    elim (eqb_tells c k) [
+      | inl r ↦ absurd (let t = ap is_not_whitespace r.1 in let u : true ≡ false = sym h ∙ t ∙ w in cc)
+      | inr r ↦ r.0
+    ]
+
+-- what is no white space is no blank
+pub visible_no_blank : (c : ℕ) → is_not_whitespace c ≡ true → is_blank c ≡ false
+visible_no_blank c h = or_false (nat_eq c 32) (nat_eq c 9) (other_char 32 c refl h) (other_char 9 c refl h)
+
+pub visible_ends_blanks : (t q : Text) → 0 < length t → Each is_not_whitespace t → Ends is_blank (t ++ q)
+visible_ends_blanks [] q l h = absurd (omega arith)
+visible_ends_blanks (c ∷ t) q l h = visible_no_blank c h.0
+
+-- ---- a visible last character keeps all before it
+cond_left : (b e : Bool) (xs ys : Text) → b ≡ false → cond (b && e) xs ys ≡ ys
+cond_left true e xs ys h = cc
+cond_left false e xs ys h = refl
+
+cond_right : (b e : Bool) (xs ys : Text) → e ≡ false → cond (b && e) xs ys ≡ ys
+cond_right true true xs ys h = cc
+cond_right true false xs ys h = refl
+cond_right false e xs ys h = refl
+
+some_length : (n : ℕ) → 0 < n → nat_eq n 0 ≡ false
+some_length n h = elim (eqb_tells n 0) [ inl r ↦ absurd (let t = r.1 in omega arith) | inr r ↦ r.0 ]
+
+drop_visible : (c : ℕ) (cs : Text) → is_not_whitespace c ≡ true → drop_trailing_whitespace (c ∷ cs) ≡ c ∷ drop_trailing_whitespace cs
+drop_visible c cs h = cond_left (is_whitespace c) (nat_eq (length (drop_trailing_whitespace cs)) 0) [] (c ∷ drop_trailing_whitespace cs) (not_white (is_whitespace c) h)
+
+drop_before : (c : ℕ) (cs : Text) → 0 < length (drop_trailing_whitespace cs) → drop_trailing_whitespace (c ∷ cs) ≡ c ∷ drop_trailing_whitespace cs
+drop_before c cs h = cond_right (is_whitespace c) (nat_eq (length (drop_trailing_whitespace cs)) 0) [] (c ∷ drop_trailing_whitespace cs) (some_length (length (drop_trailing_whitespace cs)) h)
+
+-- the text has a last character, which is no white space
+abbrev pub LastVisible : Text → Type 0
+LastVisible [] = ⊥
+LastVisible (c ∷ []) = is_not_whitespace c ≡ true
+LastVisible (c ∷ d ∷ cs) = LastVisible (d ∷ cs)
+
+pub last_append : (xs ys : Text) → LastVisible ys → LastVisible (xs ++ ys)
+last_append [] ys h = h
+last_append (c ∷ []) [] h = absurd h
+last_append (c ∷ []) (d ∷ ys) h = h
+last_append (c ∷ d ∷ xs) ys h = last_append (d ∷ xs) ys h
+
+-- what stands before such a character is kept
+pub drop_after : (xs ys : Text) → LastVisible xs → drop_trailing_whitespace (xs ++ ys) ≡ xs ++ drop_trailing_whitespace ys
+drop_after [] ys h = absurd h
+drop_after (c ∷ []) ys h = drop_visible c ys h
+drop_after (c ∷ d ∷ cs) ys h =
+    let r = drop_after (d ∷ cs) ys h in
+    let l : 0 < length (drop_trailing_whitespace ((d ∷ cs) ++ ys)) = subst (λ (x : Text). 0 < length x) (sym r) (omega arith) in
+    drop_before c ((d ∷ cs) ++ ys) l ∙ ap (λ (x : Text). c ∷ x) r
+
+-- a text that ends visibly is kept whole
+pub drop_kept : (xs : Text) → EndsVisibly xs → drop_trailing_whitespace xs ≡ xs
+drop_kept [] h = refl
+drop_kept (c ∷ []) h = drop_visible c [] (h [] c refl)
+drop_kept (c ∷ d ∷ xs) h =
+    let r = drop_kept (d ∷ xs) (λ front e w. h (c ∷ front) e (ap (λ (x : Text). c ∷ x) w)) in
+    drop_before c (d ∷ xs) (subst (λ (x : Text). 0 < length x) (sym r) (omega arith)) ∙ ap (λ (x : Text). c ∷ x) r
+
+-- ---- what is left ends visibly
+visible_from : (b : Bool) → b ≡ false → not b ≡ true
+visible_from true h = cc
+visible_from false h = refl
+
+ends_case : (t n : Bool) (d : ℕ) (ds : Text) → is_whitespace d ≡ t → nat_eq (length ds) 0 ≡ n → EndsVisibly ds → EndsVisibly (cond (t && n) [] (d ∷ ds))
+ends_case true true d ds a b h [] c e = cc
+ends_case true true d ds a b h (x ∷ front) c e = cc
+ends_case true false d ds a b h [] c e = absurd (let z : ds ≡ [] = cc in let y : nat_eq (length ds) 0 ≡ true = ap (λ (x : Text). nat_eq (length x) 0) z in let u : true ≡ false = sym y ∙ b in cc)
+ends_case true false d ds a b h (x ∷ front) c e = h front c cc
+ends_case false n d ds a b h [] c e = let z : c ≡ d = cc in ap is_not_whitespace z ∙ visible_from (is_whitespace d) a
+ends_case false n d ds a b h (x ∷ front) c e = h front c cc
+
+nil_ends : EndsVisibly []
+nil_ends [] c e = cc
+nil_ends (x ∷ front) c e = cc
+
+pub drop_ends : (cs : Text) → EndsVisibly (drop_trailing_whitespace cs)
+drop_ends [] = nil_ends
+drop_ends (d ∷ cs) = ends_case (is_whitespace d) (nat_eq (length (drop_trailing_whitespace cs)) 0) d (drop_trailing_whitespace cs) refl refl (drop_ends cs)
+
+-- and what follows a piece of it does too
+pub ends_behind : (C : Class) {t q : Text} {v : C.Value} → Front C t q v → EndsVisibly t → EndsVisibly q
+ends_behind C {q = q} f h front c e =
+    h (f.piece ++ front) c (f.whole ∙ ap (λ (x : Text). f.piece ++ x) e ∙ sym (append_assoc f.piece front (c ∷ [])))
+
+-- ---- a space and the message at the end of a text
+
+-- what trimming leaves of them
+unfoldable pub message_end : Text → Text
+message_end [] = []
+message_end (c ∷ cs) = 32 ∷ c ∷ cs
+
+pub message_end_is : (msg : Text) → EndsVisibly msg → drop_trailing_whitespace (32 ∷ msg) ≡ message_end msg
+unfolding message_end
+message_end_is [] h = refl
+message_end_is (c ∷ cs) h =
+    let r = drop_kept (c ∷ cs) h in
+    drop_before 32 (c ∷ cs) (subst (λ (x : Text). 0 < length x) (sym r) (omega arith)) ∙ ap (λ (x : Text). 32 ∷ x) r
+
+-- blanks and the message stand there
+pub message_blanks : (msg : Text) → Ends is_blank msg → Front (run is_blank) (message_end msg) msg tt
+unfolding message_end
+message_blanks [] h = record { piece = []; whole = refl; is = (tt, tt) }
+message_blanks (c ∷ cs) h = record { piece = 32 ∷ []; whole = refl; is = ((refl, tt), h) }
