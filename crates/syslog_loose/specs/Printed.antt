@@ -4,37 +4,22 @@ use Rattle.std.specs.Option.{option_map_or}
 use Rattle.std.specs.List.{flat_map}
 use Rattle.std.specs.Fmt.{decimal}
 use Rattle.syslog_pieces.specs.Pieces.Class.{Text}
-use Rattle.syslog_pieces.specs.StructuredData.Element.{ElementValue, element_text}
+use Rattle.syslog_pieces.specs.StructuredData.Element.{ElementValue}
+pub use Rattle.syslog_pieces.specs.StructuredData.Element.{joined_elements, elements_text}
 use Rattle.syslog_pieces.specs.Pri.{facility_number, severity_number}
 use Rattle.syslog_pieces.specs.ProcId.{procid_text}
+pub use Rattle.syslog_pieces.specs.ProcId.{process_text}
 use Rattle.syslog_pieces.specs.Text.{dash}
+pub use Rattle.syslog_pieces.specs.Text.{name_text}
 use Rattle.syslog_pieces.specs.Timestamp.Printed.{printed_stamp}
 use Rattle.syslog_pieces.specs.declared.procid.ProcId.{ProcId}
 use Rattle.syslog_pieces.specs.declared.timestamp.OffsetTimestamp.{OffsetTimestamp}
 use Rattle.syslog_loose.specs.declared.message.Protocol.TheVariants.{RFC3164, RFC5424}
 use Rattle.syslog_loose.specs.Message.{MessageValue}
 
--- a name, or `-` where it is absent
-abbrev pub name_text : Option Text → Text
-name_text None = dash
-name_text (Some t) = t
-
 abbrev pub timestamp_text : Option OffsetTimestamp → Text
 timestamp_text None = dash
 timestamp_text (Some s) = printed_stamp s.instant.nanosecond s.offset.seconds
-
-abbrev pub process_text : Option (ProcId Text) → Text
-process_text None = dash
-process_text (Some p) = procid_text p
-
--- the elements one after the other
-abbrev pub joined_elements : List ElementValue → Text
-joined_elements es = flat_map element_text es
-
--- the elements, or `-` where there are none
-abbrev pub elements_text : List ElementValue → Text
-elements_text [] = dash
-elements_text (e ∷ es) = joined_elements (e ∷ es)
 
 -- the elements and a space, or nothing where there are none
 abbrev pub spaced_elements : List ElementValue → Text

@@ -1,5 +1,6 @@
 -- The theory of pieces: one text has one division.
 pub mod Class
+pub mod Kept
 pub mod Kinds
 pub mod Lists
 pub mod Meets

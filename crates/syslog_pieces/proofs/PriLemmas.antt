@@ -1,14 +1,19 @@
 -- The priority, and its two parts.
-use Rattle.std.proofs.Common.{◌≡◌, ◌≤◌, ◌<◌, ◌/◌, ◌%◌, ◌+◌, ℕ, zero, suc, List, [], ◌∷◌, length, Option, Some, None, MatchOption, refl, sym, ap, ◌∙◌, arith}
+use Rattle.std.proofs.Common.{◌≡◌, ◌≤◌, ◌<◌, ◌/◌, ◌%◌, ◌+◌, ℕ, zero, suc, List, [], ◌∷◌, ◌++◌, length, Option, Some, None, MatchOption, refl, sym, ap, subst, ◌∙◌, append_assoc, arith}
 use Rattle.std.specs.Prelude.{slice_get}
+use Rattle.std.proofs.lemmas.List.{append_cancel_right}
 use Rattle.std.proofs.lemmas.Option.{slice_get_past}
-use Rattle.syslog_pieces.specs.Pieces.Class.{Text, Front, NoFront, IsDeterministic, Row, Values}
-use Rattle.syslog_pieces.specs.Pri.{priority, priority_row, facility_number, severity_number, facilities, severities, facility_of, severity_of, composed}
+use Rattle.std.specs.Fmt.{decimal}
+use Rattle.syslog_pieces.specs.Pieces.Class.{Text, Front, NoFront, IsDeterministic, Row, Values, exactly}
+use Rattle.syslog_pieces.specs.Pieces.Kept.{Kept}
+use Rattle.syslog_pieces.specs.Text.{number}
+use Rattle.syslog_pieces.specs.Pri.{priority, priority_text, priority_row, facility_number, severity_number, facilities, severities, facility_of, severity_of, composed}
 use Rattle.syslog_pieces.specs.declared.pri.SyslogFacility.{SyslogFacility}
 use Rattle.syslog_pieces.specs.declared.pri.SyslogFacility.TheVariants.{LOG_KERN, LOG_USER, LOG_MAIL, LOG_DAEMON, LOG_AUTH, LOG_SYSLOG, LOG_LPR, LOG_NEWS, LOG_UUCP, LOG_CRON, LOG_AUTHPRIV, LOG_FTP, LOG_NTP, LOG_AUDIT, LOG_ALERT, LOG_CLOCKD, LOG_LOCAL0, LOG_LOCAL1, LOG_LOCAL2, LOG_LOCAL3, LOG_LOCAL4, LOG_LOCAL5, LOG_LOCAL6, LOG_LOCAL7}
 use Rattle.syslog_pieces.specs.declared.pri.SyslogSeverity.{SyslogSeverity}
 use Rattle.syslog_pieces.specs.declared.pri.SyslogSeverity.TheVariants.{SEV_EMERG, SEV_ALERT, SEV_CRIT, SEV_ERR, SEV_WARNING, SEV_NOTICE, SEV_INFO, SEV_DEBUG}
-use Rattle.syslog_pieces.proofs.PieceLemmas.Class.{AllDeterministic, exactly_det, row_det}
+use Rattle.syslog_pieces.proofs.PieceLemmas.Class.{AllDeterministic, exactly_det, row_det, row_nil, row_cons}
+use Rattle.syslog_pieces.proofs.PieceLemmas.Lists.{begins}
 use Rattle.syslog_pieces.proofs.TextLemmas.Words.{number_det}
 
 priority_row_det : AllDeterministic priority_row
@@ -99,3 +104,14 @@ priority_composed pri h =
     let (f, there, number) = numbered_facility (pri / 8) (omega arith) in
     let (s, told, left) = numbered_severity (pri % 8) (omega arith) in
     (f, s, there, told, omega arith)
+
+-- ---- a priority that prints as it is written
+pub priority_kept : (t a b q : Text) → Front (exactly (60 ∷ [])) t a tt → Kept (number 191) decimal a b → Front (exactly (62 ∷ [])) b q tt → (k : Kept priority priority_text t q) × (k.value < 192)
+priority_kept t a b q f k g =
+    let n = k.value in
+    let m : Front (number 255) a b n = record { piece = decimal n; whole = k.whole; is = (k.is.0, k.is.1, k.is.2, k.is.3, (let h = k.is.4 in omega arith)) } in
+    let p : Front priority t q n = as_priority (row_cons (exactly (60 ∷ [])) (number 255 ∷ exactly (62 ∷ []) ∷ []) f (row_cons (number 255) (exactly (62 ∷ []) ∷ []) m (row_cons (exactly (62 ∷ [])) [] g (row_nil q)))) in
+    let e : t ≡ priority_text n ++ q =
+    begins 60 t a f ∙ ap (λ (x : Text). 60 ∷ x) (k.whole ∙ ap (λ (x : Text). decimal n ++ x) (begins 62 b q g) ∙ sym (append_assoc (decimal n) (62 ∷ []) q)) in
+    let s : p.piece ≡ priority_text n = append_cancel_right p.piece (priority_text n) q (sym p.whole ∙ e) in
+    (record { value = n; whole = e; is = subst (λ (x : Text). priority.Is x q n) s p.is }, (let h = k.is.4 in omega arith))

@@ -1,14 +1,17 @@
 -- Numbers and names as process ids.
-use Rattle.std.proofs.Common.{◌≡◌, ◌≢◌, ℕ, ℤ, pos, neg_ℤ, ◌<◌, inl, inr, true, false, FitsSigned, w32, List, [], ◌∷◌, nat_eq, Some, None, Result, Ok, Err, refl, sym, ap, subst, ◌∙◌, arith}
+use Rattle.std.proofs.Common.{◌≡◌, ◌≢◌, ℕ, ℤ, pos, neg_ℤ, ◌<◌, ◌≤◌, ◌^◌, ◌⊎◌, inl, inr, Bool, true, false, FitsSigned, w32, List, [], ◌∷◌, ◌++◌, length, get_or, nat_eq, Some, None, Result, Ok, Err, refl, sym, ap, subst, ◌∙◌, rules, arith}
 use Rattle.std.specs.Char.{is_ascii_digit}
 use Rattle.std.specs.Str.{chars, IsUtf8, IsAscii}
 use Rattle.std.specs.Str.Parse.{digits_value, ParsesSigned, IsNumeral, without_leading_sign, signed_digits_value}
-use Rattle.std.proofs.lemmas.Bool.{cases_eq, ne_eqb}
+use Rattle.std.proofs.lemmas.Bool.{cases_eq, cases_lt, ne_eqb}
+use Rattle.std.proofs.lemmas.Fmt.{decimal-digits_value}
 use Rattle.std.proofs.lemmas.Str.{chars-IsAscii}
 use Rattle.std.proofs.lemmas.Str.Ascii.{IsAscii-cons}
-use Rattle.syslog_pieces.specs.Pieces.Class.{Text, Front, NoFront, IsDeterministic}
+use Rattle.syslog_pieces.specs.Bodies.Kept.{IsBareWord}
+use Rattle.syslog_pieces.specs.Pieces.Class.{Text, Each, Front, NoFront, IsDeterministic}
+use Rattle.syslog_pieces.specs.Pieces.Kept.{Kept}
 use Rattle.syslog_pieces.specs.Text.{word}
-use Rattle.syslog_pieces.specs.ProcId.{IsDigits, WritesSigned, IsI32Text, NamesProcess, process_word}
+use Rattle.syslog_pieces.specs.ProcId.{IsDigits, WritesSigned, IsI32Text, NamesProcess, process_word, process_text, procid_text}
 use Rattle.syslog_pieces.specs.declared.procid.ProcId.{ProcId}
 use Rattle.syslog_pieces.specs.declared.procid.ProcId.TheVariants.{PID, Name}
 use Rattle.syslog_pieces.proofs.TextLemmas.Chars.{digits_ascii, ascii_plain}
@@ -146,3 +149,52 @@ process_front {name = name} i f h = record { piece = f.piece; whole = f.whole; i
 
 pub absent_front : {t q : Text} → Front word t q None → Front process_word t q None
 absent_front f = record { piece = f.piece; whole = f.whole; is = f.is }
+
+-- ---- process ids that print as they are written
+all_digits : (t : Text) → Each is_ascii_digit t ⊎ (Each is_ascii_digit t → ⊥)
+all_digits [] = inl tt
+all_digits (c ∷ t) = elim (bool_cases (is_ascii_digit c)) [
+  | inl y ↦ elim (all_digits t) [ inl a ↦ inl (y, a) | inr n ↦ inr (λ h. n h.1) ]
+  | inr n ↦ inr (λ h. (let b : true ≡ false = sym h.0 ∙ n in cc))
+]
+  where
+    bool_cases : (b : Bool) → (b ≡ true) ⊎ (b ≡ false)
+    bool_cases true = inl refl
+    bool_cases false = inr refl
+
+behind_sign_no : (s : ℕ) (t d : Text) → t ≡ s ∷ d → IsDigits d → (1 < length t → get_or t 0 0 ≢ s) → ⊥
+behind_sign_no s t d e h n = n (omega (arith, ap length e, h.0)) (ap (λ (x : Text). get_or x 0 0) e)
+
+no_word_number : (t : Text) → IsBareWord t → (IsDigits t → ⊥) → (n : ℤ) → WritesSigned t n → ⊥
+no_word_number t p nd n (inl (d, e)) = nd d
+no_word_number t p nd n (inr (inl (d, e, h, f))) = behind_sign_no 43 t d e h (λ l. (p l).0)
+no_word_number t p nd n (inr (inr (d, e, h, f))) = behind_sign_no 45 t d e h (λ l. (p l).1)
+
+pub names_itself : (t : Text) → 0 < length t → IsBareWord t → (p : ProcId Text) × NamesProcess t p × (procid_text p ≡ t)
+names_itself t l p = elim (all_digits t) [
+  | inr nd ↦ (Name t, (λ n h. no_word_number t p (λ d. nd d.1) n h.0, refl), refl)
+  | inl a ↦ elim (cases_lt (digits_value 10 t) (2 ^ 31)) [
+    | inl small ↦ (PID (pos (digits_value 10 t)), (inl ((l, a), refl), search rules), decimal-digits_value own t a l (λ z. lead z) (omega (arith, small)))
+    | inr large ↦ (Name t, (λ n h. (let e = number_same t n (pos (digits_value 10 t)) h.0 (inl ((l, a), refl)) in let fits = subst (λ (x : ℤ). FitsSigned w32 x) e h.1 in absurd (omega (arith, fits, large))), refl), refl)
+  ]
+]
+  where
+    lead : get_or t 0 0 ≡ 48 → length t ≡ 1
+    lead z = elim (cases_lt 1 (length t)) [ inl more ↦ absurd ((p more).2 z) | inr few ↦ omega (arith, few, l) ]
+
+pub plain_alone : (t : Text) (c : ℕ) (more : Text) → t ≡ c ∷ more → length more ≡ 0 → IsBareWord t
+plain_alone t c more e z l = absurd (omega (arith, ap length e, z, l))
+
+pub plain_first : (t : Text) (c : ℕ) (more : Text) → t ≡ c ∷ more → c ≢ 43 → c ≢ 45 → c ≢ 48 → IsBareWord t
+plain_first t c more e a b d l =
+    let g : get_or t 0 0 ≡ c = ap (λ (x : Text). get_or x 0 0) e in
+    ((λ h. a (sym g ∙ h)), (λ h. b (sym g ∙ h)), (λ h. d (sym g ∙ h)))
+
+pub process_kept : (text follows name : Text) → Front word text follows (Some name) → IsBareWord name → Kept process_word process_text text follows
+process_kept text follows name f p =
+    let e : name ≡ f.piece = f.is.4.0 in
+    let (i, n, w) = names_itself name (omega (arith, f.is.0, ap length e)) p in
+    record { value = Some i; whole = f.whole ∙ ap (λ (x : Text). x ++ follows) (sym e ∙ sym w); is = (name, subst (λ (x : Text). word.Is x follows (Some name)) (sym e ∙ sym w) f.is, n) }
+
+pub absent_kept : (text follows : Text) → Front word text follows None → Kept process_word process_text text follows
+absent_kept text follows f = record { value = None; whole = f.whole ∙ ap (λ (x : Text). x ++ follows) f.is.4; is = subst (λ (x : Text). word.Is x follows None) f.is.4 f.is }

@@ -4,6 +4,7 @@ pub mod Cuts
 pub mod ElementParts
 pub mod Elements
 pub mod Items
+pub mod Kept
 pub mod Listed
 pub mod Params
 pub mod Units

@@ -1,6 +1,7 @@
 -- Texts by bytes and by characters: runs, numbers and words, and what is printed.
 pub mod Chars
 pub mod Decimals
+pub mod Kept
 pub mod Lanes
 pub mod Printed
 pub mod Runs

@@ -1,6 +1,7 @@
 -- The priority, and the facility and the severity that it is composed of (RFC 5424 section 6.2.1).
-use Rattle.std.specs.Prelude.{ℕ, ◌+◌, ◌*◌, ◌/◌, ◌%◌, List, [], ◌∷◌, Option, slice_get}
-use Rattle.syslog_pieces.specs.Pieces.Class.{Class, Row, exactly}
+use Rattle.std.specs.Prelude.{ℕ, ◌+◌, ◌*◌, ◌/◌, ◌%◌, List, [], ◌∷◌, ◌++◌, Option, slice_get}
+use Rattle.std.specs.Fmt.{decimal}
+use Rattle.syslog_pieces.specs.Pieces.Class.{Text, Class, Row, exactly}
 use Rattle.syslog_pieces.specs.Text.{number}
 use Rattle.syslog_pieces.specs.declared.pri.SyslogFacility.{SyslogFacility}
 use Rattle.syslog_pieces.specs.declared.pri.SyslogFacility.TheVariants.{LOG_KERN, LOG_USER, LOG_MAIL, LOG_DAEMON, LOG_AUTH, LOG_SYSLOG, LOG_LPR, LOG_NEWS, LOG_UUCP, LOG_CRON, LOG_AUTHPRIV, LOG_FTP, LOG_NTP, LOG_AUDIT, LOG_ALERT, LOG_CLOCKD, LOG_LOCAL0, LOG_LOCAL1, LOG_LOCAL2, LOG_LOCAL3, LOG_LOCAL4, LOG_LOCAL5, LOG_LOCAL6, LOG_LOCAL7}
@@ -73,3 +74,7 @@ priority_row = exactly (60 ∷ []) ∷ number 255 ∷ exactly (62 ∷ []) ∷ []
 
 abbrev pub priority : Class
 priority = record { Value = ℕ; Is = λ p q n. (Row priority_row).Is p q (tt, (n, (tt, tt))) }
+
+-- a priority as it prints
+abbrev pub priority_text : ℕ → Text
+priority_text n = 60 ∷ (decimal n ++ (62 ∷ []))

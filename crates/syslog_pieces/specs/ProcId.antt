@@ -5,7 +5,7 @@ use Rattle.std.specs.Char.{is_ascii_digit}
 use Rattle.std.specs.Fmt.{signed_decimal}
 use Rattle.std.specs.Str.Parse.{digits_value}
 use Rattle.syslog_pieces.specs.Pieces.Class.{Text, Class, Each}
-use Rattle.syslog_pieces.specs.Text.{word}
+use Rattle.syslog_pieces.specs.Text.{word, dash}
 use Rattle.syslog_pieces.specs.declared.procid.ProcId.{ProcId}
 use Rattle.syslog_pieces.specs.declared.procid.ProcId.TheVariants.{PID, Name}
 
@@ -38,6 +38,11 @@ NamesProcess t (Name name) = ((n : ℤ) → IsI32Text t n → ⊥) × (name ≡ 
 abbrev pub procid_text : ProcId Text → Text
 procid_text (PID n) = signed_decimal n
 procid_text (Name t) = t
+
+-- that text, or `-` where there is no process id
+abbrev pub process_text : Option (ProcId Text) → Text
+process_text None = dash
+process_text (Some p) = procid_text p
 
 abbrev pub IsProcessWord : Text → Text → Option (ProcId Text) → Type 0
 IsProcessWord p q None = word.Is p q None

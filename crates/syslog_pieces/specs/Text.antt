@@ -1,6 +1,6 @@
 -- White space, blanks, numbers and words: the pieces that both headers are made of.
 pub mod CharClass
-use Rattle.std.specs.Prelude.{◌≡◌, ◌≢◌, ℕ, ◌<◌, ◌≤◌, ◌⊎◌, nat_eq, ◌||◌, ◌&&◌, not, Bool, [], ◌∷◌, ◌++◌, length, Option, Some, MatchOption}
+use Rattle.std.specs.Prelude.{◌≡◌, ◌≢◌, ℕ, ◌<◌, ◌≤◌, ◌⊎◌, nat_eq, ◌||◌, ◌&&◌, not, Bool, [], ◌∷◌, ◌++◌, length, Option, Some, None, MatchOption}
 use Rattle.std.specs.Char.{is_ascii_digit, is_not_whitespace}
 use Rattle.std.specs.Str.{skip_leading_whitespace, drop_trailing_whitespace}
 use Rattle.std.specs.Str.Parse.{digits_value}
@@ -27,6 +27,11 @@ number limit = record { Value = ℕ; Is = λ p q n. (0 < length p) × Each is_as
 -- `-` stands for an absent name, any other text for itself
 abbrev pub Names : Text → Option Text → Type 0
 Names p v = MatchOption v (p ≡ dash) (λ t. (t ≡ p) × (p ≢ dash))
+
+-- a name as it prints: `-` where it is absent
+abbrev pub name_text : Option Text → Text
+name_text None = dash
+name_text (Some t) = t
 
 -- a word of RFC 5424: a maximal nonempty run without white space, other than `:`
 abbrev pub word : Class

@@ -2,15 +2,18 @@
 //!
 //! The priority of a line is optional; `optional_priority` answers it and the text behind it. Nothing here takes
 //! memory.
-ghost use Rattle.std.specs.Prelude.{◌≡◌, ◌<◌, ◌≤◌, MatchOption, Some, slice_get};
+ghost use Rattle.std.specs.Prelude.{◌≡◌, ◌<◌, ◌≤◌, IfSome, MatchOption, Some, slice_get};
 ghost use Rattle.std.specs.Str.{chars};
 ghost use Rattle.syslog_pieces.specs.Pieces.Class.{Front, optional};
+ghost use Rattle.syslog_pieces.specs.Pieces.Kept.{Kept};
+ghost use Rattle.syslog_pieces.specs.Pri.{priority_text};
 ghost use Rattle.syslog_pieces.specs.Pri as spec;
 ghost use Rattle.syslog_pieces.specs.Pieces.View.{shown, Reads};
 
 #[cfg(test)]
 mod tests;
 
+use crate::text::kept::kept_number;
 use crate::text::{literal, number};
 
 /// Which part of a system a message comes from. The number is the discriminant.
@@ -134,4 +137,15 @@ pub fn optional_priority(text: &str) -> (Option<u8>, &str)
         Some((value, rest)) => (Some(value), rest),
         None => (None, text),
     }
+}
+
+/// The text behind the priority at the front, where it is below 192 and prints as it is written.
+#[inline(always)]
+pub fn kept_priority(text: &str) -> Option<&str>
+    ensures { IfSome result (λ rest. (k : Kept spec.priority priority_text (chars text.now) (shown rest)) × (k.value < 192)) }
+{
+    let opened = literal(text, '<')?;
+    let closing = kept_number(opened, 191)?;
+    let rest = literal(closing, '>')?;
+    Some(rest)
 }

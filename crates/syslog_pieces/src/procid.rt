@@ -2,9 +2,12 @@
 //!
 //! A text is a number exactly where it is an optional sign and ASCII digits of such a number; that is the crate's rule,
 //! RFC 5424 section 6.2.6 leaves the form open.
-ghost use Rattle.std.specs.Prelude.{◌≡◌, Some};
+ghost use Rattle.std.specs.Prelude.{◌≡◌, IfSome, IsTrue, Some};
 ghost use Rattle.std.specs.Option.{option_map};
 ghost use Rattle.std.specs.Str.{chars, encode_utf8_all};
+ghost use Rattle.syslog_pieces.specs.Bodies.Kept.{IsBareWord};
+ghost use Rattle.syslog_pieces.specs.Pieces.Kept.{Kept};
+ghost use Rattle.syslog_pieces.specs.ProcId.{process_text};
 ghost use Rattle.syslog_pieces.specs.ProcId as spec;
 ghost use Rattle.syslog_pieces.specs.Pieces.View.{shown, text_of, Reads};
 
@@ -12,7 +15,7 @@ ghost use Rattle.syslog_pieces.specs.Pieces.View.{shown, text_of, Reads};
 mod tests;
 
 use crate::as_str::AsStr;
-use crate::text::word;
+use crate::text::{first, word};
 use std::fmt;
 
 /// A process id.
@@ -58,5 +61,28 @@ pub fn process_word(text: &str) -> Option<(Option<ProcId<&str>>, &str)>
     match name {
         Some(name) => Some((Some(ProcId::from(name)), rest)),
         None => Some((None, rest)),
+    }
+}
+
+// Whether no sign and no zero stands before other characters.
+#[inline(always)]
+fn is_bare_word(name: &str) -> bool
+    ensures { IsTrue result → IsBareWord (chars name.now) }
+{
+    match first(name) {
+        Some((c, more)) => more.is_empty() || (c != '+' && c != '-' && c != '0'),
+        None => true,
+    }
+}
+
+/// The text behind the process id at the front, where it prints as it is written.
+#[inline(always)]
+pub fn kept_process(text: &str) -> Option<&str>
+    ensures { IfSome result (λ rest. Kept spec.process_word process_text (chars text.now) (shown rest)) }
+{
+    let (name, rest) = word(text)?;
+    match name {
+        Some(name) => { if is_bare_word(name) { Some(rest) } else { None } }
+        None => Some(rest),
     }
 }

@@ -10,6 +10,7 @@ ghost use Rattle.syslog_pieces.specs.Pieces.View.{text_of};
 
 mod element;
 mod escapes;
+mod kept;
 mod list;
 pub mod listed;
 mod params;
@@ -19,6 +20,7 @@ mod walk;
 
 use crate::as_str::AsStr;
 pub use element::read_element;
+pub use kept::kept_list;
 pub use list::forgiving_list;
 pub use params::ParamsIter;
 use std::alloc::Global;

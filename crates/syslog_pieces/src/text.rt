@@ -4,13 +4,14 @@
 //! it. A reader answers what its class in `specs/Text.antt` means and the text behind it, or nothing where no front of
 //! the text is of the class. Nothing here takes memory, and no text is copied.
 ghost use Rattle.std.specs.Prelude.{◌≡◌, ◌++◌, [], ◌∷◌, MatchOption};
-ghost use Rattle.std.specs.Str.{chars, IsUtf8};
+ghost use Rattle.std.specs.Str.{bytes_eq, chars, IsUtf8};
 ghost use Rattle.syslog_pieces.specs.Text.CharClass.{has};
 ghost use Rattle.syslog_pieces.specs.Pieces.Class.{Front, NoFront, exactly, run, some_run};
 ghost use Rattle.syslog_pieces.specs.Bodies.Scan.{EndsRun, SplitsRun};
 ghost use Rattle.syslog_pieces.specs.Text as spec;
 ghost use Rattle.syslog_pieces.specs.Pieces.View.{seen, shown, Reads, Skips};
 
+pub mod kept;
 mod lanes;
 mod scan;
 #[cfg(test)]
@@ -163,12 +164,23 @@ pub fn number(text: &str, limit: u32) -> Option<(u32, &str)>
     }
 }
 
+// Whether the text is this one byte.
+#[inline(always)]
+pub(crate) fn is_byte(text: &str, byte: u8) -> bool
+    ensures { result ≡ bytes_eq text.now (byte ∷ []) }
+{
+    match text.as_bytes() {
+        [only] => *only == byte,
+        _ => false,
+    }
+}
+
 // `-` stands for an absent name.
 #[inline(always)]
 fn named(run: &str) -> Option<&str>
     ensures { spec.Names (chars run.now) (seen result) }
 {
-    if run == "-" { None } else { Some(run) }
+    if is_byte(run, b'-') { None } else { Some(run) }
 }
 
 /// The word of RFC 5424 at the front (app name, process id or message id), absent for `-`, and the text behind it.
@@ -180,7 +192,7 @@ pub fn word(text: &str) -> Option<(Option<&str>, &str)>
     if run.is_empty() {
         return None;
     }
-    if run == ":" {
+    if is_byte(run, b':') {
         return None;
     }
     Some((named(run), rest))

@@ -61,14 +61,14 @@ module _ (C : Class) (separator close : ℕ) where
   abbrev more : Class
   more = more_before C separator close
 
-  list_cons : (t t' q : Text) (v : C.Value) (vs : List C.Value) → Front C t t' v → Front more t' q vs → Front list t q (v ∷ vs)
+  pub list_cons : (t t' q : Text) (v : C.Value) (vs : List C.Value) → Front C t t' v → Front more t' q vs → Front list t q (v ∷ vs)
   list_cons t t' q v vs f g = record {
     piece = f.piece ++ g.piece;
     whole = f.whole ∙ ap (λ (x : Text). f.piece ++ x) g.whole ∙ sym (append_assoc f.piece g.piece q);
     is = ((f.piece, g.piece, refl, subst (λ (x : Text). C.Is f.piece x v) g.whole f.is, g.is.0), g.is.1);
   }
 
-  more_cons : (t u t' q : Text) (v : C.Value) (vs : List C.Value) → t ≡ separator ∷ u → Front C u t' v → Front more t' q vs → Front more t q (v ∷ vs)
+  pub more_cons : (t u t' q : Text) (v : C.Value) (vs : List C.Value) → t ≡ separator ∷ u → Front C u t' v → Front more t' q vs → Front more t q (v ∷ vs)
   more_cons t u t' q v vs e f g = record {
     piece = separator ∷ (f.piece ++ g.piece);
     whole = e ∙ ap (λ (x : Text). separator ∷ x) (f.whole ∙ ap (λ (x : Text). f.piece ++ x) g.whole ∙ sym (append_assoc f.piece g.piece q));

@@ -2,6 +2,7 @@
 use Rattle.std.specs.Prelude.{List, [], ◌∷◌, ◌++◌, map}
 use Rattle.std.specs.List.{flat_map}
 use Rattle.syslog_pieces.specs.Pieces.Class.{Text}
+use Rattle.syslog_pieces.specs.Text.{dash}
 use Rattle.syslog_pieces.specs.declared.structured_data.StructuredElement.{StructuredElement}
 
 -- an element over texts: its id, and the names and values of its parameters in order
@@ -23,6 +24,15 @@ param_text p = 32 ∷ (p.0 ++ (61 ∷ 34 ∷ (p.1 ++ (34 ∷ []))))
 -- `[id`, the parameters, `]`
 abbrev pub element_text : ElementValue → Text
 element_text e = 91 ∷ (e.id ++ (flat_map param_text e.params ++ (93 ∷ [])))
+
+-- elements one after the other
+abbrev pub joined_elements : List ElementValue → Text
+joined_elements es = flat_map element_text es
+
+-- elements one after the other, or `-` where there are none
+abbrev pub elements_text : List ElementValue → Text
+elements_text [] = dash
+elements_text (e ∷ es) = joined_elements (e ∷ es)
 
 -- the texts of an element: its id, and the names and values
 abbrev pub element_texts : ElementValue → List Text

@@ -14,7 +14,7 @@ use std::alloc::{AllocError, Global};
 
 // The value at the front, and the text behind the quote that closes it.
 #[inline(always)]
-fn quoted(text: &str) -> Option<(&str, &str)>
+pub(super) fn quoted(text: &str) -> Option<(&str, &str)>
     ensures { Reads quoted_class (λ v. (shown v, (tt, tt))) (chars text.now) result }
 {
     match live_value(text, text.len()) {

@@ -17,7 +17,7 @@ use crate::text::{CharClass, blanks, first, literal, split_run};
 
 // The nonempty run of the class at the front, and the text behind it.
 #[inline(always)]
-fn nonempty_run(text: &str, class: CharClass) -> Option<(&str, &str)>
+pub(super) fn nonempty_run(text: &str, class: CharClass) -> Option<(&str, &str)>
     ensures { Reads (texted (some_run (has class))) (λ run. shown run) (chars text.now) result }
 {
     let (run, rest) = split_run(text, class);

@@ -1,0 +1,69 @@
+//! Readers of words, hosts and numbers that print as they are written.
+//!
+//! Each answers the text behind the piece, or nothing where the piece prints otherwise or isn't there. It may always
+//! answer nothing: then the piece is read and printed instead.
+ghost use Rattle.std.specs.Prelude.{◌≡◌, ◌∷◌, [], IfSome, get_or, length};
+ghost use Rattle.std.specs.Bool.{OnFalse};
+ghost use Rattle.std.specs.Fmt.{decimal};
+ghost use Rattle.std.specs.Str.{chars};
+ghost use Rattle.syslog_pieces.specs.Pieces.Class.{some_run};
+ghost use Rattle.syslog_pieces.specs.Pieces.Kept.{Kept};
+ghost use Rattle.syslog_pieces.specs.Pieces.View.{shown};
+ghost use Rattle.syslog_pieces.specs.Text as spec;
+ghost use Rattle.syslog_pieces.specs.Text.{name_text};
+
+use crate::text::{CharClass, host, is_byte, split_run, word};
+
+/// The text behind the word at the front, which prints as it is written.
+#[inline(always)]
+pub fn kept_word(text: &str) -> Option<&str>
+    ensures { IfSome result (λ rest. Kept spec.word name_text (chars text.now) (shown rest)) }
+{
+    let (_, rest) = word(text)?;
+    Some(rest)
+}
+
+// Whether a zero stands before other bytes.
+#[inline(always)]
+fn has_zero_ahead(digits: &str) -> bool
+    ensures { OnFalse result (get_or digits.now 0 0 ≡ 48 → length digits.now ≡ 1) }
+{
+    matches!(digits.as_bytes(), [b'0', _, ..])
+}
+
+/// The text behind the number at the front, where it has no leading zero: then it prints as it is written.
+#[inline(always)]
+pub fn kept_number(text: &str, limit: u32) -> Option<&str>
+    ensures { IfSome result (λ rest. Kept (spec.number limit) decimal (chars text.now) (shown rest)) }
+{
+    let (digits, rest) = split_run(text, CharClass::Digit);
+    if has_zero_ahead(digits) {
+        return None;
+    }
+    match digits.parse::<u32>() {
+        Ok(value) if value <= limit => Some(rest),
+        _ => None,
+    }
+}
+
+// One space, with no blank behind it.
+#[inline(always)]
+pub fn one_space(text: &str) -> Option<&str>
+    ensures { IfSome result (λ rest. Kept (some_run spec.is_blank) (λ _. 32 ∷ []) (chars text.now) (shown rest)) }
+{
+    let (front, rest) = split_run(text, CharClass::Blank);
+    if is_byte(front, b' ') {
+        Some(rest)
+    } else {
+        None
+    }
+}
+
+/// The text behind the host at the front, which prints as it is written.
+#[inline(always)]
+pub fn kept_host(text: &str) -> Option<&str>
+    ensures { IfSome result (λ rest. Kept spec.host name_text (chars text.now) (shown rest)) }
+{
+    let (_, rest) = host(text)?;
+    Some(rest)
+}
