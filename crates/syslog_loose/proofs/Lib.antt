@@ -1,3 +1,4 @@
+pub mod KeptLineLemmas
 pub mod PrintedLemmas
 pub mod ReadingLemmas
 pub mod Rfc3164Lemmas

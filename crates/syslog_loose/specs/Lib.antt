@@ -1,4 +1,5 @@
 pub mod Canonical
+pub mod KeptLine
 pub mod Message
 pub mod Printed
 pub mod Reading

@@ -7,6 +7,7 @@
 
 mod fault;
 pub mod laws;
+mod line;
 mod message;
 mod reading;
 mod rfc3164;

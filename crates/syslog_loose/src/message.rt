@@ -11,9 +11,8 @@ ghost use Rattle.syslog_loose.specs.Printed as spec;
 
 mod printing;
 
-use printing::{
-    write_elements, write_elements_before, write_name, write_process, write_tag, write_timestamp,
-};
+pub(crate) use printing::write_timestamp;
+use printing::{write_elements, write_elements_before, write_name, write_process, write_tag};
 use std::fmt;
 use syslog_pieces::as_str::AsStr;
 use syslog_pieces::pri::{SyslogFacility, SyslogSeverity};
@@ -130,7 +129,7 @@ fn write_program<S: AsStr, W: fmt::Write>(
 
 // Writes a space and a text.
 #[inline]
-fn write_spaced<W: fmt::Write>(f: &mut fmt::Formatter<W>, text: &str) -> fmt::Result
+pub(crate) fn write_spaced<W: fmt::Write>(f: &mut fmt::Formatter<W>, text: &str) -> fmt::Result
     ensures { WritesOnOk W.write_str_gives f.old result (32 ∷ text.now) f.new }
 {
     f.write_str(" ")?;

@@ -2,11 +2,11 @@
 //!
 //! Each answers the text behind the piece, or nothing where the piece prints otherwise or isn't there. It may always
 //! answer nothing: then the piece is read and printed instead.
-ghost use Rattle.std.specs.Prelude.{◌≡◌, ◌∷◌, [], IfSome, get_or, length};
+ghost use Rattle.std.specs.Prelude.{◌≡◌, ◌∷◌, ◌++◌, [], IfSome, get_or, length};
 ghost use Rattle.std.specs.Bool.{OnFalse};
 ghost use Rattle.std.specs.Fmt.{decimal};
 ghost use Rattle.std.specs.Str.{chars};
-ghost use Rattle.syslog_pieces.specs.Pieces.Class.{some_run};
+ghost use Rattle.syslog_pieces.specs.Pieces.Class.{Text, some_run};
 ghost use Rattle.syslog_pieces.specs.Pieces.Kept.{Kept};
 ghost use Rattle.syslog_pieces.specs.Pieces.View.{shown};
 ghost use Rattle.syslog_pieces.specs.Text as spec;
@@ -66,4 +66,14 @@ pub fn kept_host(text: &str) -> Option<&str>
 {
     let (_, rest) = host(text)?;
     Some(rest)
+}
+
+/// What stands in the text before a rest of it.
+#[inline(always)]
+pub fn before<'a>(text: &'a str, rest: &str) -> &'a str
+    requires { (front : Text) × (chars text.now ≡ front ++ chars rest.now) }
+    ensures { chars text.now ≡ chars result.now ++ chars rest.now }
+{
+    let (front, _) = text.split_at(text.len() - rest.len());
+    front
 }

@@ -1,0 +1,157 @@
+-- Lines that print as they are written, put together from their pieces.
+use Rattle.std.proofs.Common.{◌≡◌, ℕ, ◌+◌, ◌*◌, ◌<◌, List, [], ◌∷◌, ◌++◌, Option, Some, None, refl, sym, ap, ap₂, ◌∙◌, append_assoc}
+use Rattle.std.proofs.lemmas.List.{append_cancel_right}
+use Rattle.std.proofs.lemmas.Str.{encodes-append, encodes-chars}
+use Rattle.std.specs.Char.{encode_utf8}
+use Rattle.std.specs.Str.{chars, IsUtf8, encode_utf8_all}
+use Rattle.std.specs.Fmt.{decimal}
+use Rattle.std.specs.Option.{option_map_or}
+use Rattle.syslog_pieces.specs.Pieces.Class.{Text, Class, Front, Row, Ends, run, some_run, optional, rest}
+use Rattle.syslog_pieces.specs.Pieces.Kept.{Kept}
+use Rattle.syslog_pieces.specs.Pri.{priority, priority_text, facility_of, severity_of, facility_number, severity_number}
+use Rattle.syslog_pieces.specs.declared.pri.SyslogFacility.{SyslogFacility}
+use Rattle.syslog_pieces.specs.declared.pri.SyslogSeverity.{SyslogSeverity}
+use Rattle.syslog_pieces.specs.ProcId.{process_word, process_text}
+use Rattle.syslog_pieces.specs.StructuredData.{forgiving}
+use Rattle.syslog_pieces.specs.StructuredData.Element.{elements_text}
+use Rattle.syslog_pieces.specs.Text.{is_blank, number, host, word, name_text}
+use Rattle.syslog_pieces.specs.Timestamp.{header_stamp}
+use Rattle.syslog_pieces.specs.declared.timestamp.OffsetTimestamp.{OffsetTimestamp}
+use Rattle.syslog_pieces.proofs.PieceLemmas.Class.{row_nil, row_cons, rows_join, rest_front}
+use Rattle.syslog_pieces.proofs.PieceLemmas.Kept.{front_of}
+use Rattle.syslog_pieces.proofs.PriLemmas.{priority_composed}
+use Rattle.syslog_loose.specs.KeptLine.{front_row, tail_row, KeptFront, KeptTail, PrintsKept}
+use Rattle.syslog_loose.specs.Printed.{printed, printed_5424, priority_of, timestamp_text}
+use Rattle.syslog_loose.specs.Rfc5424.{rfc5424_row, message_of}
+
+abbrev Space : Text → Text → Type 0
+Space t u = Kept (some_run is_blank) (λ _. 32 ∷ []) t u
+
+-- one space, as a run that may be empty
+gap : (t u : Text) → Space t u → Front (run is_blank) t u tt
+gap t u k = record { piece = 32 ∷ []; whole = k.whole; is = (k.is.1, k.is.2) }
+
+pub front_kept : (t a b : Text) → (k : Kept priority priority_text t a) → k.value < 192 → Kept (number 4294967295) decimal a b → KeptFront t b
+front_kept t a b k small v = record {
+  pri = k.value;
+  composes = small;
+  version = v.value;
+  is = row_cons (optional priority) (number 4294967295 ∷ []) (record { piece = priority_text k.value; whole = k.whole; is = k.is })
+      (row_cons (number 4294967295) [] (front_of (number 4294967295) decimal a b v) (row_nil b));
+  whole = k.whole ∙ ap (λ (x : Text). priority_text k.value ++ x) v.whole;
+}
+
+abbrev from_list : List Class
+from_list = forgiving ∷ []
+
+abbrev from_gap5 : List Class
+from_gap5 = run is_blank ∷ from_list
+
+abbrev from_msgid : List Class
+from_msgid = word ∷ from_gap5
+
+abbrev from_gap4 : List Class
+from_gap4 = some_run is_blank ∷ from_msgid
+
+abbrev from_process : List Class
+from_process = process_word ∷ from_gap4
+
+abbrev from_gap3 : List Class
+from_gap3 = some_run is_blank ∷ from_process
+
+abbrev from_appname : List Class
+from_appname = word ∷ from_gap3
+
+abbrev from_gap2 : List Class
+from_gap2 = some_run is_blank ∷ from_appname
+
+abbrev from_hostname : List Class
+from_hostname = host ∷ from_gap2
+
+module _ (t a b c d e f g h i q : Text)
+    (s1 : Space t a) (k1 : Kept host name_text a b) (s2 : Space b c) (k2 : Kept word name_text c d)
+    (s3 : Space d e) (k3 : Kept process_word process_text e f) (s4 : Space f g) (k4 : Kept word name_text g h)
+    (s5 : Space h i) (k5 : Kept forgiving elements_text i q) where
+  pub tail_kept : KeptTail t q
+  tail_kept = record {
+    hostname = k1.value;
+    appname = k2.value;
+    procid = k3.value;
+    msgid = k4.value;
+    elements = k5.value;
+    is = row_cons (some_run is_blank) from_hostname (front_of (some_run is_blank) (λ _. 32 ∷ []) t a s1)
+        (row_cons host from_gap2 (front_of host name_text a b k1)
+        (row_cons (some_run is_blank) from_appname (front_of (some_run is_blank) (λ _. 32 ∷ []) b c s2)
+        (row_cons word from_gap3 (front_of word name_text c d k2)
+        (row_cons (some_run is_blank) from_process (front_of (some_run is_blank) (λ _. 32 ∷ []) d e s3)
+        (row_cons process_word from_gap4 (front_of process_word process_text e f k3)
+        (row_cons (some_run is_blank) from_msgid (front_of (some_run is_blank) (λ _. 32 ∷ []) f g s4)
+        (row_cons word from_gap5 (front_of word name_text g h k4)
+        (row_cons (run is_blank) from_list (gap h i s5)
+        (row_cons forgiving [] (front_of forgiving elements_text i q k5) (row_nil q))))))))));
+    whole = s1.whole ∙ ap (λ (x : Text). 32 ∷ x) (k1.whole ∙ ap (λ (x : Text). name_text k1.value ++ x)
+        (s2.whole ∙ ap (λ (x : Text). 32 ∷ x) (k2.whole ∙ ap (λ (x : Text). name_text k2.value ++ x)
+        (s3.whole ∙ ap (λ (x : Text). 32 ∷ x) (k3.whole ∙ ap (λ (x : Text). process_text k3.value ++ x)
+        (s4.whole ∙ ap (λ (x : Text). 32 ∷ x) (k4.whole ∙ ap (λ (x : Text). name_text k4.value ++ x)
+        (s5.whole ∙ ap (λ (x : Text). 32 ∷ x) k5.whole))))))));
+  }
+
+-- a piece behind a space, before more
+spaced_on : (p x r y : Text) → x ++ r ≡ y → (32 ∷ (p ++ x)) ++ r ≡ 32 ∷ (p ++ y)
+spaced_on p x r y e = ap (λ (z : Text). 32 ∷ z) (append_assoc p x r ∙ ap (λ (z : Text). p ++ z) e)
+
+-- five pieces, each behind a space, and then more
+abbrev five : Text → Text → Text → Text → Text → Text → Text
+five a b c d e r = 32 ∷ (a ++ (32 ∷ (b ++ (32 ∷ (c ++ (32 ∷ (d ++ (32 ∷ (e ++ r)))))))))
+
+five_on : (a b c d e r : Text) → five a b c d e [] ++ r ≡ five a b c d e r
+five_on a b c d e r = spaced_on a _ r _ (spaced_on b _ r _ (spaced_on c _ r _ (spaced_on d _ r _ (spaced_on e [] r r refl))))
+
+-- what stands before a rest is the same, whatever follows
+five_cut : (a b c d e r q tail : Text) → tail ++ r ≡ five a b c d e r → tail ++ q ≡ five a b c d e q
+five_cut a b c d e r q tail h =
+    ap (λ (x : Text). x ++ q) (append_cancel_right tail (five a b c d e []) r (h ∙ sym (five_on a b c d e r))) ∙ five_on a b c d e q
+
+composes : (pri : ℕ) → pri < 192 → option_map_or facility_number (facility_of pri) 5 * 8 + option_map_or severity_number (severity_of pri) 7 ≡ pri
+composes pri small =
+    let c = priority_composed pri small in
+    ap₂ (λ (x : Option SyslogFacility) (y : Option SyslogSeverity). option_map_or facility_number x 5 * 8 + option_map_or severity_number y 7) c.2 c.3 ∙ c.4
+
+-- the front of a line, and what is printed behind it
+front_prints : (t b front q : Text) (pri version : ℕ) → t ≡ front ++ b → t ≡ priority_text pri ++ (decimal version ++ b)
+    → 60 ∷ (decimal pri ++ (62 ∷ (decimal version ++ q))) ≡ front ++ q
+front_prints t b front q pri version e w =
+    let s : priority_text pri ++ decimal version ≡ front =
+    append_cancel_right (priority_text pri ++ decimal version) front b (append_assoc (priority_text pri) (decimal version) b ∙ sym w ∙ e) in
+    sym (append_assoc (priority_text pri) (decimal version) q ∙ ap (λ (x : Text). 60 ∷ x) (append_assoc (decimal pri) (62 ∷ []) (decimal version ++ q)))
+    ∙ ap (λ (x : Text). x ++ q) s
+
+module _ (t b c d n o front tail : Text) (stamp : Option OffsetTimestamp) (k : KeptFront t b) (s : Space b c) (f : Front header_stamp c d stamp)
+    (l : KeptTail d n) (g : Front (run is_blank) n o tt) (cut : t ≡ front ++ b) (cut' : d ≡ tail ++ n) where
+  tail_is : tail ++ (32 ∷ o) ≡ five (name_text l.hostname) (name_text l.appname) (process_text l.procid) (name_text l.msgid) (elements_text l.elements) (32 ∷ o)
+  tail_is = five_cut (name_text l.hostname) (name_text l.appname) (process_text l.procid) (name_text l.msgid) (elements_text l.elements) n (32 ∷ o) tail (sym cut' ∙ l.whole)
+
+  -- the whole line
+  pub line_kept : PrintsKept t front stamp tail o
+  unfolding printed_5424
+  line_kept = record {
+    values = (Some k.pri, (k.version, (tt, (stamp, (tt, (l.hostname, (tt, (l.appname, (tt, (l.procid, (tt, (l.msgid, (tt, (l.elements, (tt, (o, tt))))))))))))))));
+    is = rows_join front_row (some_run is_blank ∷ header_stamp ∷ (tail_row ++ (run is_blank ∷ rest ∷ []))) k.is
+        (row_cons (some_run is_blank) (header_stamp ∷ (tail_row ++ (run is_blank ∷ rest ∷ []))) (front_of (some_run is_blank) (λ _. 32 ∷ []) b c s)
+        (row_cons header_stamp (tail_row ++ (run is_blank ∷ rest ∷ [])) f
+        (rows_join tail_row (run is_blank ∷ rest ∷ []) l.is
+        (row_cons (run is_blank) (rest ∷ []) g (row_cons rest [] (rest_front o) (row_nil []))))));
+    prints = ap (λ (x : ℕ). 60 ∷ (decimal x ++ (62 ∷ (decimal k.version ++ (32 ∷ (timestamp_text stamp ++ five (name_text l.hostname) (name_text l.appname) (process_text l.procid) (name_text l.msgid) (elements_text l.elements) (32 ∷ o))))))) (composes k.pri k.composes)
+        ∙ front_prints t b front (32 ∷ (timestamp_text stamp ++ five (name_text l.hostname) (name_text l.appname) (process_text l.procid) (name_text l.msgid) (elements_text l.elements) (32 ∷ o))) k.pri k.version cut k.whole
+        ∙ ap (λ (x : Text). front ++ (32 ∷ (timestamp_text stamp ++ x))) (sym tail_is);
+  }
+
+-- what is written of such a line, by bytes
+pub line_bytes : (front stamp tail msg : List ℕ) → IsUtf8 front → IsUtf8 tail → IsUtf8 msg
+    → front ++ ((32 ∷ encode_utf8_all stamp) ++ (tail ++ (32 ∷ msg))) ≡ encode_utf8_all (chars front ++ (32 ∷ (stamp ++ (chars tail ++ (32 ∷ chars msg)))))
+unfolding encode_utf8
+line_bytes front stamp tail msg u v w =
+    sym (encodes-append (chars front) (32 ∷ (stamp ++ (chars tail ++ (32 ∷ chars msg))))
+    ∙ ap₂ (λ (x y : List ℕ). x ++ (32 ∷ y)) (encodes-chars front u)
+    (encodes-append stamp (chars tail ++ (32 ∷ chars msg))
+    ∙ ap (λ (x : List ℕ). encode_utf8_all stamp ++ x) (encodes-append (chars tail) (32 ∷ chars msg) ∙ ap₂ (λ (x y : List ℕ). x ++ (32 ∷ y)) (encodes-chars tail v) (encodes-chars msg w))))

@@ -1,0 +1,49 @@
+-- Lines of RFC 5424 that print as they are written, but for their timestamp. (Words of the bodies alone.)
+use Rattle.std.specs.Prelude.{◌≡◌, ℕ, ◌<◌, List, [], ◌∷◌, ◌++◌, Option, Some}
+use Rattle.std.specs.Fmt.{decimal}
+use Rattle.syslog_pieces.specs.Pieces.Class.{Text, Class, Front, Row, Values, run, some_run, optional}
+use Rattle.syslog_pieces.specs.Pri.{priority, priority_text}
+use Rattle.syslog_pieces.specs.ProcId.{process_word, process_text}
+use Rattle.syslog_pieces.specs.StructuredData.{forgiving}
+use Rattle.syslog_pieces.specs.StructuredData.Element.{ElementValue, elements_text}
+use Rattle.syslog_pieces.specs.Text.{is_blank, number, host, word, name_text}
+use Rattle.syslog_pieces.specs.declared.procid.ProcId.{ProcId}
+use Rattle.syslog_pieces.specs.declared.timestamp.OffsetTimestamp.{OffsetTimestamp}
+use Rattle.syslog_loose.specs.Message.{MessageValue}
+use Rattle.syslog_loose.specs.Printed.{printed, timestamp_text}
+use Rattle.syslog_loose.specs.Rfc5424.{rfc5424_row, message_of}
+
+-- priority and version
+abbrev pub front_row : List Class
+front_row = optional priority ∷ number 4294967295 ∷ []
+
+-- they print as they are written
+pub record KeptFront (text follows : Text) : Type 0 where
+  pub pri : ℕ
+  pub composes : pri < 192
+  pub version : ℕ
+  pub is : Front (Row front_row) text follows (Some pri, (version, tt))
+  pub whole : text ≡ priority_text pri ++ (decimal version ++ follows)
+
+-- from behind the timestamp to behind the list
+abbrev pub tail_row : List Class
+tail_row =
+    some_run is_blank ∷ host ∷ some_run is_blank ∷ word ∷ some_run is_blank ∷ process_word ∷ some_run is_blank ∷ word
+    ∷ run is_blank ∷ forgiving ∷ []
+
+-- the names and the elements print as they are written, each behind one space
+pub record KeptTail (text follows : Text) : Type 0 where
+  pub hostname : Option Text
+  pub appname : Option Text
+  pub procid : Option (ProcId Text)
+  pub msgid : Option Text
+  pub elements : List ElementValue
+  pub is : Front (Row tail_row) text follows (tt, (hostname, (tt, (appname, (tt, (procid, (tt, (msgid, (tt, (elements, tt))))))))))
+  pub whole : text ≡ 32 ∷ (name_text hostname ++ (32 ∷ (name_text appname ++ (32 ∷ (process_text procid ++ (32 ∷ (name_text msgid
+      ++ (32 ∷ (elements_text elements ++ follows)))))))))
+
+-- the text is a row of the sixteen pieces, whose message prints as these texts and the timestamp
+pub record PrintsKept (text front : Text) (timestamp : Option OffsetTimestamp) (tail msg : Text) : Type 0 where
+  pub values : Values rfc5424_row
+  pub is : Front (Row rfc5424_row) text [] values
+  pub prints : printed (message_of values) ≡ front ++ (32 ∷ (timestamp_text timestamp ++ (tail ++ (32 ∷ msg))))

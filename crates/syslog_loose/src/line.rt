@@ -1,0 +1,115 @@
+//! Lines that print as they are written.
+//!
+//! Most lines of RFC 5424 that a program wrote are already in the form that a message prints: one space in each gap, no
+//! leading zeros, strict elements alone. Such a line needs no message in between: all but its timestamp is copied. Each
+//! reader here answers the text behind its piece where that piece prints as it is written, and may always answer
+//! nothing, since the line is then read and printed as any other. So no contract above speaks of this way.
+ghost use Rattle.std.specs.Prelude.{◌≡◌, ◌++◌, ◌∷◌, IfOk, IfSome, IsOk, Some, string_bytes};
+ghost use Rattle.std.specs.Str.{chars, encode_utf8_all, IsUtf8};
+ghost use Rattle.syslog_pieces.specs.Pieces.View.{shown};
+ghost use Rattle.syslog_loose.specs.KeptLine.{KeptFront, KeptTail, PrintsKept};
+ghost use Rattle.syslog_loose.specs.Message.{MessageValue};
+ghost use Rattle.syslog_loose.specs.Printed.{printed, timestamp_text};
+ghost use Rattle.syslog_loose.specs.Rfc5424.{IsNot5424, IsRead5424};
+
+#[cfg(test)]
+mod tests;
+
+use crate::message::{write_spaced, write_timestamp};
+use std::alloc::{AllocError, Global};
+use std::fmt;
+use std::fmt::Write;
+use syslog_pieces::pri::kept_priority;
+use syslog_pieces::procid::kept_process;
+use syslog_pieces::structured_data::kept_list;
+use syslog_pieces::text::kept::{before, kept_host, kept_number, kept_word, one_space};
+use syslog_pieces::text::{blanks, trimmed};
+use syslog_pieces::timestamp::{OffsetTimestamp, header_stamp};
+
+// A line, cut round its timestamp: priority and version, all from behind it to the elements, and the message.
+#[derive(Clone, Copy)]
+struct KeptLine<'a> {
+    front: &'a str,
+    timestamp: Option<OffsetTimestamp>,
+    tail: &'a str,
+    msg: &'a str,
+}
+
+// The text behind priority and version.
+#[inline(always)]
+fn kept_front(text: &str) -> Option<&str>
+    ensures { IfSome result (λ rest. KeptFront (chars text.now) (shown rest)) }
+{
+    let behind = kept_priority(text)?;
+    let rest = kept_number(behind, u32::MAX)?;
+    Some(rest)
+}
+
+// The text behind the names and the elements.
+#[inline(always)]
+fn kept_tail(text: &str) -> Option<&str>
+    ensures { IfSome result (λ rest. KeptTail (chars text.now) (shown rest)) }
+{
+    let hostname = one_space(text)?;
+    let behind_hostname = kept_host(hostname)?;
+    let appname = one_space(behind_hostname)?;
+    let behind_appname = kept_word(appname)?;
+    let procid = one_space(behind_appname)?;
+    let behind_procid = kept_process(procid)?;
+    let msgid = one_space(behind_procid)?;
+    let behind_msgid = kept_word(msgid)?;
+    let elements = one_space(behind_msgid)?;
+    let rest = kept_list(elements)?;
+    Some(rest)
+}
+
+// The line, where all but its timestamp prints as it is written.
+#[inline(always)]
+fn kept_line(text: &str) -> Option<KeptLine<'_>>
+    ensures kept { IfSome result (λ line. PrintsKept (chars text.now) (shown line.front) line.timestamp (shown line.tail) (shown line.msg)) }
+    ensures utf8 { IfSome result (λ line. IsUtf8 line.front.now × IsUtf8 line.tail.now × IsUtf8 line.msg.now) }
+{
+    let gap = kept_front(text)?;
+    let front = before(text, gap);
+    let start = one_space(gap)?;
+    let Some((timestamp, behind)) = header_stamp(start) else {
+        return None;
+    };
+    let rest = kept_tail(behind)?;
+    let tail = before(behind, rest);
+    let msg = blanks(rest);
+    Some(KeptLine {
+        front,
+        timestamp,
+        tail,
+        msg,
+    })
+}
+
+impl fmt::Display for KeptLine<'_> {
+    ghost output = { λ line. Some (line.front.now ++ ((32 ∷ encode_utf8_all (timestamp_text line.timestamp)) ++ (line.tail.now ++ (32 ∷ line.msg.now)))) };
+
+    fn fmt<W: fmt::Write>(&self, f: &mut fmt::Formatter<W>) -> fmt::Result {
+        f.write_str(self.front)?;
+        write_timestamp(f, self.timestamp)?;
+        f.write_str(self.tail)?;
+        write_spaced(f, self.msg)
+    }
+}
+
+// What a printed message may have beyond its input: a priority, a longer timestamp and the dashes of absent fields.
+pub(crate) const MORE_PRINTED: usize = 48;
+
+/// The printed text of the message of the line, where all but its timestamp prints as it is written. It asks for memory
+/// once, and only for such a line.
+pub(crate) fn copied(alloc: Global, input: &str) -> Result<Option<String>, AllocError>
+    ensures text { IfOk result (λ found. IfSome found (λ text. (m : MessageValue) × IsRead5424 (chars input.now) m × (string_bytes text ≡ encode_utf8_all (printed m)))) }
+    ensures memory { IsNot5424 (chars input.now) → IsOk result }
+{
+    let Some(line) = kept_line(trimmed(input)) else {
+        return Ok(None);
+    };
+    let mut text = String::with_capacity(alloc, input.len().saturating_add(MORE_PRINTED))?;
+    write!(text, "{line}")?;
+    Ok(Some(text))
+}

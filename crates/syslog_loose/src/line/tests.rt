@@ -1,0 +1,64 @@
+//! That lines in the form that a message prints are copied, and which others aren't.
+use super::copied;
+use std::test::Fail;
+
+const COPIED: [(&str, &str); 6] = [
+    (
+        "<34>1 2003-10-11T22:14:15.003Z mymachine.example.com su - ID47 - message",
+        "<34>1 2003-10-11T22:14:15.003+00:00 mymachine.example.com su - ID47 - message",
+    ),
+    (
+        "<13>1 2019-02-13T19:48:34+00:00 74794bfb6795 root 8449 - [meta sequenceId=\"1\" sysUpTime=\"37\" language=\"EN\"][origin ip=\"192.168.0.1\" software=\"test\"] i am foobar",
+        "<13>1 2019-02-13T19:48:34+00:00 74794bfb6795 root 8449 - [meta sequenceId=\"1\" sysUpTime=\"37\" language=\"EN\"][origin ip=\"192.168.0.1\" software=\"test\"] i am foobar",
+    ),
+    (
+        "  <75>1 1969-12-03T23:58:58+00:00 - - - - -\n",
+        "<75>1 1969-12-03T23:58:58+00:00 - - - - - ",
+    ),
+    ("<0>0 - - - 0 - - x", "<0>0 - - - 0 - - x"),
+    (
+        "<191>4294967295 - - - - - [id][a b=\"x\\\"]y\" c d=\"\"]-",
+        "<191>4294967295 - - - - - [id][a b=\"x\\\"]y\" c d=\"\"] -",
+    ),
+    ("<34>1 - - - - - - \u{fc}", "<34>1 - - - - - - \u{fc}"),
+];
+
+#[test]
+fn copies_lines_that_print_as_written(rt: HostRuntime) -> Result<(), Fail> {
+    for (text, printed) in COPIED {
+        match copied(rt.alloc(), text)? {
+            Some(found) => assert_eq!(rt; found.as_str(), printed),
+            None => assert!(rt; false),
+        }
+    }
+    Ok(())
+}
+
+// No priority, one past 191, leading zeros, wide gaps, signs, blanks in elements, broken elements, and no message.
+const OTHERS: [&str; 17] = [
+    "1 - - - - - -",
+    "<200>1 - - - - - -",
+    "<034>1 - - - - - -",
+    "<34>01 - - - - - -",
+    "<34>1  - - - - - -",
+    "<34>1 - -\t- - - -",
+    "<34>1 - - -  - - -",
+    "<34>1 - - - +5 - -",
+    "<34>1 - - - -5 - -",
+    "<34>1 - - - 05 - -",
+    "<34>1 - - - - -  -",
+    "<34>1 - - - - - [a ] x",
+    "<34>1 - - - - - [a  b=\"c\"] x",
+    "<34>1 - - - - - [a b= \"c\"] x",
+    "<34>1 - - - - - [a b][c] x",
+    "<34>1 2020-02-30T00:00:00Z - - - - - x",
+    "gobbledegook",
+];
+
+#[test]
+fn reads_other_lines(rt: HostRuntime) -> Result<(), Fail> {
+    for text in OTHERS {
+        assert!(rt; copied(rt.alloc(), text)?.is_none());
+    }
+    Ok(())
+}
