@@ -1,5 +1,5 @@
 -- Numbers and names as process ids.
-use Rattle.std.proofs.Common.{◌≡◌, ◌≢◌, ℕ, ℤ, pos, neg_ℤ, ◌<◌, ◌≤◌, ◌^◌, ◌⊎◌, inl, inr, Bool, true, false, FitsSigned, w32, List, [], ◌∷◌, ◌++◌, length, get_or, nat_eq, Some, None, Result, Ok, Err, refl, sym, ap, subst, ◌∙◌, rules, arith}
+use Rattle.std.proofs.Common.{◌≡◌, ◌≢◌, ℕ, ℤ, pos, neg_ℤ, ◌<◌, ◌^◌, ◌⊎◌, inl, inr, Bool, true, false, FitsSigned, w32, List, [], ◌∷◌, ◌++◌, length, get_or, nat_eq, Some, None, Result, Ok, Err, refl, sym, ap, subst, ◌∙◌, rules, arith}
 use Rattle.std.specs.Char.{is_ascii_digit}
 use Rattle.std.specs.Str.{chars, IsUtf8, IsAscii}
 use Rattle.std.specs.Str.Parse.{digits_value, ParsesSigned, IsNumeral, without_leading_sign, signed_digits_value}

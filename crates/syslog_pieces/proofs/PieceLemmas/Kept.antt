@@ -1,5 +1,5 @@
 -- Which fronts print as they are written.
-use Rattle.std.proofs.Common.{◌≡◌, List, [], ◌∷◌, ◌++◌, refl, sym, ap, subst, ◌∙◌}
+use Rattle.std.proofs.Common.{◌≡◌, ◌++◌, sym, ap, subst, ◌∙◌}
 use Rattle.std.proofs.lemmas.List.{append_cancel_right}
 use Rattle.syslog_pieces.specs.Pieces.Class.{Text, Class, Front}
 use Rattle.syslog_pieces.specs.Pieces.Kept.{Kept}

@@ -1,9 +1,9 @@
 -- Elements and lists that print as they are written.
-use Rattle.std.proofs.Common.{◌≡◌, ℕ, ◌<◌, List, [], ◌∷◌, ◌++◌, length, map, Option, Some, None, inl, inr, refl, sym, ap, subst, ◌∙◌, append_assoc, arith}
+use Rattle.std.proofs.Common.{◌≡◌, List, [], ◌∷◌, ◌++◌, map, Some, inl, inr, refl, sym, ap, subst, ◌∙◌, append_assoc, arith}
 use Rattle.std.specs.List.{flat_map}
 use Rattle.syslog_pieces.specs.Bodies.Closing.{opening, name_alone, quoted, start, id_alone, inside}
 use Rattle.syslog_pieces.specs.Bodies.Kept.{bare_param_text}
-use Rattle.syslog_pieces.specs.Pieces.Class.{Text, Class, Front, NoFront, Ends, Divides, Row, join, exactly, run, some_run, texted}
+use Rattle.syslog_pieces.specs.Pieces.Class.{Text, Front, NoFront, Ends, Divides, Row, join, exactly, run, some_run, texted}
 use Rattle.syslog_pieces.specs.Pieces.Kept.{Kept}
 use Rattle.syslog_pieces.specs.Pieces.Lists.{many, list_before, more_before}
 use Rattle.syslog_pieces.specs.StructuredData.{value, param, element, item, strict, forgiving}
