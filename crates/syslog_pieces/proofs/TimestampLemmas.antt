@@ -12,6 +12,7 @@ pub mod Piece
 pub mod Printing
 pub mod Range
 pub mod Reading
+pub mod RoundTrip
 pub mod Texts
 pub mod Values
 pub mod Zone

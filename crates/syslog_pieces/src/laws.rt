@@ -5,7 +5,7 @@ ghost use Rattle.std.specs.Global.{Global};
 ghost use Rattle.std.specs.Iterator.{Drains};
 ghost use Rattle.std.specs.List.{AllByRecursion};
 ghost use Rattle.std.specs.declared.alloc.AllocError.{AllocError};
-ghost use Rattle.syslog_pieces.specs.Pieces.Class.{Text, Front, NoFront};
+ghost use Rattle.syslog_pieces.specs.Pieces.Class.{Text, Each, Front, NoFront};
 ghost use Rattle.syslog_pieces.specs.StructuredData.Escapes.{TextUnit, SplitsUnits, IsUnescaped, IsUnquoted, escaped};
 ghost use Rattle.syslog_pieces.specs.StructuredData.Params.{NextParam, AreParamItems};
 ghost use Rattle.syslog_pieces.specs.StructuredData.Listed.{BeginsNoList, listed};
@@ -13,8 +13,11 @@ ghost use Rattle.syslog_pieces.specs.Pri.{facility_of, severity_of, composed};
 ghost use Rattle.syslog_pieces.specs.StructuredData.{IsValue};
 ghost use Rattle.jiff.specs.Words.{IsCivilNanos};
 ghost use Rattle.syslog_pieces.specs.Timestamp.Fields.{AreCivil, nanos_of_fields};
-ghost use Rattle.syslog_pieces.specs.Timestamp.Printed.{civil_fields};
+ghost use Rattle.std.specs.Char.{is_not_whitespace};
+ghost use Rattle.syslog_pieces.specs.Timestamp.{IsStampText};
 ghost use Rattle.syslog_pieces.specs.Timestamp.Loose.{loose_stamp, ShowsYearless};
+ghost use Rattle.syslog_pieces.specs.Timestamp.Plain.{IsPlainStamp, BeginsWithYear};
+ghost use Rattle.syslog_pieces.specs.Timestamp.Printed.{civil_fields, printed_stamp};
 ghost use Rattle.syslog_pieces.specs.Timestamp.Rfc3339.{HasStamp};
 ghost use Rattle.syslog_pieces.specs.Timestamp.Zone.{Dating};
 ghost use Rattle.syslog_pieces.specs.declared.pri.SyslogFacility.{SyslogFacility};
@@ -54,6 +57,21 @@ pub fn text_has_one_loose_stamp()
 pub fn printed_fields_are_civil()
     ensures exist { (n : ℤ) → IsCivilNanos n → AreCivil (civil_fields n) }
     ensures count { (n : ℤ) → IsCivilNanos n → nanos_of_fields (civil_fields n) ≡ n }
+{}
+
+/// What is printed of a plain timestamp has it as an RFC 3339 text, and a timestamp that any text has is plain.
+pub fn plain_stamp_reads_back()
+    ensures back { (stamp : OffsetTimestamp) → IsPlainStamp stamp
+        → IsStampText (printed_stamp stamp.instant.nanosecond stamp.offset.seconds) stamp }
+    ensures only { (text : Text) (stamp : OffsetTimestamp) → IsStampText text stamp → IsPlainStamp stamp }
+{}
+
+/// The printed text of any timestamp begins with a digit, or with `-` and a digit, and no character of it is white space.
+pub fn printed_stamp_is_one_word()
+    ensures begins { (stamp : OffsetTimestamp)
+        → BeginsWithYear (printed_stamp stamp.instant.nanosecond stamp.offset.seconds) }
+    ensures visible { (stamp : OffsetTimestamp)
+        → Each is_not_whitespace (printed_stamp stamp.instant.nanosecond stamp.offset.seconds) }
 {}
 
 /// A text has one split into units.

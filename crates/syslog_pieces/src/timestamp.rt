@@ -22,6 +22,7 @@ mod digits;
 mod display;
 mod fields;
 pub mod month_date;
+pub mod plain;
 #[cfg(test)]
 mod tests;
 mod written;

@@ -59,6 +59,10 @@ pub six-value : (a b : ℕ) → a < 1_000 → b < 1_000 → fraction_value 9 (pa
 unfolding fraction_value
 six-value a b h k = omega (arith, pad3-value a h, pad3-value b k)
 
+pub nine-value : (a b c : ℕ) → a < 1_000 → b < 1_000 → c < 1_000 → fraction_value 9 (pad3 a ++ (pad3 b ++ pad3 c)) ≡ a * 1_000_000 + b * 1_000 + c
+unfolding fraction_value
+nine-value a b c h k l = omega (arith, pad3-value a h, pad3-value b k, pad3-value c l)
+
 -- three digits and no more
 pub three-read : (text rest : List ℕ) (a : ℕ) → a < 1_000 → text ≡ pad3 a ++ rest → prefix_len is_ascii_digit rest ≡ 0
     → nanoseconds text ≡ Some (a * 1_000_000, rest)

@@ -17,7 +17,7 @@ visible : (b : Bool) → b ≡ false → not b ≡ true
 visible true h = cc
 visible false h = refl
 
-each_visible : (t : Text) → All (λ c. is_whitespace c ≡ false) t → Each is_not_whitespace t
+pub each_visible : (t : Text) → All (λ c. is_whitespace c ≡ false) t → Each is_not_whitespace t
 each_visible [] h = tt
 each_visible (c ∷ t) h = (visible (is_whitespace c) (h zero c (omega arith)), each_visible t (λ k d l. h (suc k) d (omega arith)))
 

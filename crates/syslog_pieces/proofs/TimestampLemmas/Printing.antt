@@ -43,7 +43,7 @@ fraction n h =
     (All-append IsStampCharacter milli (micro ++ nano) milli_in (All-append IsStampCharacter micro nano micro_in nano_in))))))
 
 -- a number from -k to k
-absolute : (z : ℤ) (k : ℕ) → IsWithin k z → unsigned_abs z ≤ k
+pub absolute : (z : ℤ) (k : ℕ) → IsWithin k z → unsigned_abs z ≤ k
 absolute (pos n) k h = omega (arith, signed_arith, h.1)
 absolute (negsuc n) k h = omega (arith, signed_arith, h.0)
 

@@ -1,3 +1,4 @@
+use super::plain::is_plain;
 use super::{OffsetTimestamp, header_stamp, rfc3339};
 use jiff::Timestamp;
 use jiff::tz::Offset;
@@ -260,4 +261,32 @@ fn wants_a_space_behind_the_timestamp(rt: HostRuntime) {
     ] {
         assert!(rt; header_stamp(text).is_none(), "{text:?}");
     }
+}
+
+// The civil year counts at the timestamp's own offset: one second before 0000-01-01T00:00:00 at UTC, and that second at
+// an hour ahead of UTC.
+#[test]
+fn tells_which_are_read_back(rt: HostRuntime) -> Result<(), Fail> {
+    let year_zero = -62_167_219_200_000_000_000;
+    let second = 1_000_000_000;
+    for (nanosecond, seconds, plain) in [
+        (0, 0, true),
+        (0, 86_340, true),
+        (0, -86_340, true),
+        (0, 86_400, false),
+        (0, -86_400, false),
+        (0, 90, false),
+        (0, -1, false),
+        (year_zero, 0, true),
+        (year_zero - second, 0, false),
+        (year_zero - second, 3600, true),
+        (year_zero, -3600, false),
+    ] {
+        assert_eq!(rt;
+            is_plain(stamp(nanosecond, seconds)?),
+            plain,
+            "{nanosecond} at {seconds}"
+        );
+    }
+    Ok(())
 }

@@ -1,0 +1,244 @@
+-- A printed stamp and the texts of RFC 3339: what is printed of a plain timestamp has it, and no other timestamp has a text.
+use Rattle.std.proofs.Common.{◌≡◌, ℕ, ℤ, zero, suc, pos, negsuc, neg_ℤ, ◌+ℤ◌, ◌-ℤ◌, ◌≤ℤ◌, ◌+◌, ◌*◌, ◌/◌, ◌%◌, ◌<◌, ◌==◌, true, min, inl, inr, refl, sym, ap, subst, ◌∙◌, arith, unsigned_abs, List, ◌∷◌, ◌++◌, length, append_assoc}
+use Rattle.std.proofs.lemmas.Bool.Decides.{nat_tests}
+use Rattle.std.proofs.lemmas.List.Elements.{All-append}
+use Rattle.std.specs.Char.{IsAsciiDigit, is_ascii_digit, is_not_whitespace}
+use Rattle.std.specs.List.{All}
+use Rattle.jiff.specs.Types.{DateTime}
+use Rattle.jiff.specs.Words.{nanos_of_seconds, IsTimestampNanos}
+use Rattle.jiff_core.proofs.CalendarLemmas.{days_in_month_bounds}
+use Rattle.jiff_core.proofs.SignedLemmas.{signed_arith}
+use Rattle.jiff_fmt.proofs.Cases.{by_bool}
+use Rattle.jiff_fmt.specs.Reader.{fraction_value}
+use Rattle.jiff_fmt.specs.Text.{pad2, pad4}
+use Rattle.syslog_pieces.specs.Pieces.Class.{Each}
+use Rattle.syslog_pieces.specs.declared.timestamp.OffsetTimestamp.{OffsetTimestamp}
+use Rattle.syslog_pieces.specs.declared.timestamp.fields.CivilFields.{CivilFields}
+use Rattle.syslog_pieces.specs.declared.timestamp.written.Written.{Written}
+use Rattle.syslog_pieces.specs.Timestamp.{IsStampText}
+use Rattle.syslog_pieces.specs.Timestamp.Fields.{AreCivil, nanos_of_fields}
+use Rattle.syslog_pieces.specs.Timestamp.Plain.{IsPlainStamp, BeginsWithYear, own_year}
+use Rattle.syslog_pieces.specs.Timestamp.Printed.{civil_fields, printed_stamp, fields_text, date_time_text, year_sign, fraction_text, offset_text, pad3}
+use Rattle.syslog_pieces.specs.Timestamp.Rfc3339.{HasStamp, IsFraction, IsOffsetText, fields_of_written}
+use Rattle.syslog_pieces.proofs.TimestampLemmas.Civil.{civil_fields-is}
+use Rattle.syslog_pieces.proofs.TimestampLemmas.Fields.{civil_nanos-fields}
+use Rattle.syslog_pieces.proofs.TimestampLemmas.Fraction.{pad3-digits, three-value, six-value, nine-value}
+use Rattle.syslog_pieces.proofs.TimestampLemmas.Piece.{each_visible}
+use Rattle.syslog_pieces.proofs.TimestampLemmas.Printing.{absolute, printed_stamp-characters}
+use Rattle.syslog_pieces.proofs.TimestampLemmas.Range.{civil_fields_exist, in_range-at_offset}
+use Rattle.syslog_pieces.proofs.TimestampLemmas.Texts.{stamp_character-visible}
+
+-- ---- a printed fraction and a printed offset
+
+digits-from : (digits text : List ℕ) (n : ℕ) → text ≡ 46 ∷ digits → 0 < length digits → All IsAsciiDigit digits → fraction_value 9 digits ≡ n → IsFraction text n
+digits-from digits text n e long all value = inr (digits, e, long, all, sym value)
+
+fraction_text-is : (n : ℕ) → n < 1_000_000_000 → IsFraction (fraction_text n) n
+unfolding fraction_text
+fraction_text-is n h =
+    let a = n / 1_000_000 in
+    let b = n / 1_000 % 1_000 in
+    let c = n % 1_000 in
+    let a_in : a < 1_000 = omega arith in
+    let b_in : b < 1_000 = omega arith in
+    let c_in : c < 1_000 = omega arith in
+    let da = pad3-digits a a_in in
+    let db = pad3-digits b b_in in
+    let dc = pad3-digits c c_in in
+    by_bool (n == 0)
+    (λ z. let none : n ≡ 0 = grind (arith, nat_tests, z) in inl (rw z, none))
+    (λ z. by_bool (n % 1_000_000 == 0)
+    (λ m. let whole : n % 1_000_000 ≡ 0 = grind (arith, nat_tests, m) in
+    digits-from (pad3 a) _ n (rw (z, m)) (omega arith) da (three-value a a_in ∙ omega arith))
+    (λ m. by_bool (n % 1_000 == 0)
+    (λ k. let whole : n % 1_000 ≡ 0 = grind (arith, nat_tests, k) in
+    digits-from (pad3 a ++ pad3 b) _ n (rw (z, m, k)) (omega arith) (All-append IsAsciiDigit (pad3 a) (pad3 b) da db) (six-value a b a_in b_in ∙ omega arith))
+    (λ k. digits-from (pad3 a ++ (pad3 b ++ pad3 c)) _ n (rw (z, m, k)) (omega arith)
+    (All-append IsAsciiDigit (pad3 a) (pad3 b ++ pad3 c) da (All-append IsAsciiDigit (pad3 b) (pad3 c) db dc))
+    (nine-value a b c a_in b_in c_in ∙ omega arith))))
+
+minutes-back : (n r : ℕ) → n % 60 ≡ 0 → r ≡ (n + 30) / 60 → (r / 60 * 60 + r % 60) * 60 ≡ n
+minutes-back n r whole e = omega arith
+
+offset_text-is : (o : ℤ) → unsigned_abs o % 60 ≡ 0 → unsigned_abs o < 86_400 → IsOffsetText (offset_text o) o
+unfolding offset_text
+offset_text-is (pos n) whole small =
+    let r = (n + 30) / 60 in
+    inr (record {
+      hours = r / 60;
+      minutes = r % 60;
+      hours_in = omega arith;
+      minutes_in = omega arith;
+      written = inl (refl, ap pos (sym (minutes-back n r whole refl)));
+    })
+offset_text-is (negsuc n) whole small =
+    let r = (suc n + 30) / 60 in
+    inr (record {
+      hours = r / 60;
+      minutes = r % 60;
+      hours_in = omega arith;
+      minutes_in = omega arith;
+      written = inr (refl, ap (λ k. neg_ℤ (pos k)) (sym (minutes-back (suc n) r whole refl)));
+    })
+
+-- ---- what is printed of a plain timestamp has it
+
+-- the printed text of fields in a year from 0 on
+text-shape : (f : CivilFields) (y : ℕ) (o : ℤ) → f.year ≡ pos y
+    → fields_text f o ≡ pad4 y ++ (45 ∷ pad2 f.month ++ (45 ∷ pad2 f.day ++ (84 ∷ pad2 f.hour
+    ++ (58 ∷ pad2 f.minute ++ (58 ∷ pad2 f.second ++ (fraction_text f.nanosecond ++ offset_text o))))))
+unfolding date_time_text
+text-shape f y o e = rw e (simp append_assoc)
+
+year-from : (z : ℤ) → pos 0 ≤ℤ z → (y : ℕ) × (z ≡ pos y)
+year-from (pos n) h = (n, refl)
+year-from (negsuc n) h = absurd (omega (arith, signed_arith))
+
+fields-read : (f : CivilFields) (y : ℕ) (n o : ℤ) → f.year ≡ pos y → AreCivil f → IsTimestampNanos n → nanos_of_fields f ≡ n +ℤ nanos_of_seconds o
+    → unsigned_abs o % 60 ≡ 0 → unsigned_abs o < 86_400 → HasStamp (fields_text f o) n o
+fields-read f y n o e there range nanos whole small =
+    let w : Written = record {
+      year = y;
+      month = f.month;
+      day = f.day;
+      hour = f.hour;
+      minute = f.minute;
+      second = f.second;
+      nanosecond = f.nanosecond;
+      offset = o;
+    } in
+    let date = there.date in
+    let least : min f.second 59 ≡ f.second = omega (arith, there.second_in) in
+    let same : fields_of_written w ≡ f = λ i. record {
+      year = sym e i;
+      month = f.month;
+      day = f.day;
+      hour = f.hour;
+      minute = f.minute;
+      second = least i;
+      nanosecond = f.nanosecond;
+    } in
+    let days = days_in_month_bounds f.year f.month in
+    let P : CivilFields → Type 0 = AreCivil in
+    let civil : AreCivil (fields_of_written w) = subst P (sym same) there in
+    let count : nanos_of_fields (fields_of_written w) ≡ n +ℤ nanos_of_seconds o = ap nanos_of_fields same ∙ nanos in (
+      w,
+      record {
+        letter = 84;
+        is_letter = inl refl;
+        decimals = fraction_text f.nanosecond;
+        zone = offset_text o;
+        whole = text-shape f y o e;
+        fits = record {
+          year = omega (arith, signed_arith, date.0.1);
+          month = omega (arith, date.1.1);
+          day = omega (arith, date.2.1);
+          hour = omega (arith, there.hour_in);
+          minute = omega (arith, there.minute_in);
+          second = omega (arith, there.second_in);
+        };
+        fraction = fraction_text-is f.nanosecond there.nanosecond_in;
+        zone_is = offset_text-is o whole small;
+      },
+      record {
+        civil = civil;
+        second = omega (arith, there.second_in);
+        instant = omega (arith, signed_arith, count);
+        at_offset = refl;
+        in_range = range;
+      },
+    )
+
+pub printed_stamp-back : (s : OffsetTimestamp) → IsPlainStamp s → IsStampText (printed_stamp s.instant.nanosecond s.offset.seconds) s
+unfolding printed_stamp
+printed_stamp-back s p =
+    let n = s.instant.nanosecond in
+    let o = s.offset.seconds in
+    let fields = civil_fields_exist _ (in_range-at_offset n o s.instant.in_range s.offset.in_range) in
+    let (y, e) = year-from _ p.year_from in
+    fields-read (civil_fields (n +ℤ nanos_of_seconds o)) y n o e fields.0 s.instant.in_range fields.1 p.minutes p.day
+
+-- ---- a timestamp that a text has is plain
+
+-- the fields of a count are those that have it
+fields-back : (f : CivilFields) → AreCivil f → civil_fields (nanos_of_fields f) ≡ f
+fields-back f h =
+    let (year_in, month_in, day_in) = h.date in
+    let dt : DateTime = record {
+      date = record { year = f.year; month = f.month; day = f.day; year_in = year_in; month_in = month_in; day_in = day_in };
+      time = record {
+        hour = f.hour;
+        minute = f.minute;
+        second = f.second;
+        subsec_nanosecond = f.nanosecond;
+        hour_in = h.hour_in;
+        minute_in = h.minute_in;
+        second_in = h.second_in;
+        subsec_in = h.nanosecond_in;
+      };
+    } in
+    civil_fields-is dt (nanos_of_fields f) (civil_nanos-fields dt f refl)
+
+abs-neg : (k : ℕ) → unsigned_abs (neg_ℤ (pos k)) ≡ k
+abs-neg zero = refl
+abs-neg (suc k) = refl
+
+offset-plain : (zone : List ℕ) (o : ℤ) → IsOffsetText zone o → (unsigned_abs o % 60 ≡ 0) × (unsigned_abs o < 86_400)
+offset-plain zone o (inl zulu) = rw zulu.3 (refl, omega arith)
+offset-plain zone o (inr n) =
+    let hours_in = n.hours_in in
+    let minutes_in = n.minutes_in in
+    elim n.written [
+      | inl w ↦ rw w.1 (omega arith, omega arith)
+      | inr w ↦ rw (w.1, abs-neg) (omega arith, omega arith)
+    ]
+
+back-count : (a b n o p : ℤ) → n ≡ a -ℤ b → nanos_of_seconds o ≡ b → n +ℤ nanos_of_seconds o ≡ a
+back-count a b n o p e f = omega (arith, signed_arith)
+
+pub stamp_text-plain : (text : List ℕ) (s : OffsetTimestamp) → IsStampText text s → IsPlainStamp s
+stamp_text-plain text s (w, writes, stamp) =
+    let f = fields_of_written w in
+    let offset = offset-plain writes.zone w.offset writes.zone_is in
+    let same = stamp.at_offset in
+    let count : s.instant.nanosecond +ℤ nanos_of_seconds s.offset.seconds ≡ nanos_of_fields f =
+    back-count (nanos_of_fields f) (nanos_of_seconds w.offset) s.instant.nanosecond s.offset.seconds w.offset stamp.instant (ap nanos_of_seconds same) in
+    let year : own_year s ≡ pos w.year = ap (λ (z : ℤ). (civil_fields z).year) count ∙ ap (λ (g : CivilFields). g.year) (fields-back f stamp.civil) in
+    let fits = writes.fits.year in
+    record {
+      year_from = omega (arith, signed_arith);
+      year_to = omega (arith, signed_arith);
+      minutes = rw same offset.0;
+      day = rw same offset.1;
+    }
+
+-- ---- the printed text of any timestamp
+
+own_fields : (s : OffsetTimestamp) → AreCivil (civil_fields (s.instant.nanosecond +ℤ nanos_of_seconds s.offset.seconds))
+own_fields s = (civil_fields_exist _ (in_range-at_offset s.instant.nanosecond s.offset.seconds s.instant.in_range s.offset.in_range)).0
+
+-- no timestamp lies past the year 9999 at its own offset
+pub own_year-to : (s : OffsetTimestamp) → own_year s ≤ℤ pos 9999
+own_year-to s = let (year_in, _, _) = (own_fields s).date in year_in.1
+
+-- no character of it is white space
+pub printed_stamp-visible : (s : OffsetTimestamp) → Each is_not_whitespace (printed_stamp s.instant.nanosecond s.offset.seconds)
+printed_stamp-visible s =
+    let all = printed_stamp-characters _ _ s.instant.in_range s.offset.in_range in
+    each_visible _ (λ k d l. stamp_character-visible _ (all k d l))
+
+digit-is : (n : ℕ) → n < 10 → is_ascii_digit (48 + n) ≡ true
+digit-is n h = grind (arith, nat_tests)
+
+begins : (year : ℤ) (y : ℕ) (more tail : List ℕ) → y < 10_000 → BeginsWithYear ((year_sign year ++ (pad4 y ++ more)) ++ tail)
+begins (pos n) y more tail h = (48 + y / 100 / 10, _, digit-is (y / 100 / 10) (omega arith), inl refl)
+begins (negsuc n) y more tail h = (48 + y / 100 / 10, _, digit-is (y / 100 / 10) (omega arith), inr refl)
+
+-- it begins with a digit, or with `-` and a digit
+pub printed_stamp-begins : (s : OffsetTimestamp) → BeginsWithYear (printed_stamp s.instant.nanosecond s.offset.seconds)
+unfolding printed_stamp date_time_text
+printed_stamp-begins s =
+    let f = civil_fields (s.instant.nanosecond +ℤ nanos_of_seconds s.offset.seconds) in
+    let (year_in, _, _) = (own_fields s).date in
+    let small = absolute f.year 9_999 year_in in
+    begins f.year (unsigned_abs f.year) _ _ (omega arith)

@@ -1,0 +1,26 @@
+//! Whether a timestamp is read back from its printed text.
+ghost use Rattle.std.specs.Prelude.{◌≡◌, ◌↔◌, ◌≤ℤ◌, pos, IsTrue};
+ghost use Rattle.syslog_pieces.specs.Timestamp.Plain as spec;
+ghost use Rattle.syslog_pieces.specs.Timestamp.Plain.{IsPlainStamp};
+
+use super::OffsetTimestamp;
+
+/// Whether the timestamp is read back from its printed text: a clock at its own offset shows a year from 0 to 9999, and
+/// the offset is whole minutes and under 24 hours either way. It takes no memory.
+pub fn is_plain(stamp: OffsetTimestamp) -> bool
+    ensures { IsTrue result ↔ IsPlainStamp stamp }
+{
+    let seconds = stamp.offset.seconds().unsigned_abs();
+    let year = own_year(stamp);
+    if year < 0 || seconds % 60 != 0 {
+        return false;
+    }
+    seconds < 86_400
+}
+
+fn own_year(stamp: OffsetTimestamp) -> i16
+    ensures value { result ≡ spec.own_year stamp }
+    ensures to { result ≤ℤ pos 9999 }
+{
+    stamp.offset.to_datetime(stamp.instant).year()
+}
