@@ -6,6 +6,8 @@ ghost use Rattle.syslog_pieces.specs.Timestamp.Zone.{Dating};
 ghost use Rattle.syslog_pieces.specs.declared.structured_data.listed.DashRule.{DashRule};
 ghost use Rattle.syslog_pieces.specs.declared.timestamp.month_date.MonthDate.{MonthDate};
 ghost use Rattle.syslog_loose.specs.Message.{MessageValue};
+ghost use Rattle.syslog_loose.specs.Printed.{printed};
+ghost use Rattle.syslog_loose.specs.declared.message.Protocol.TheVariants.{RFC3164};
 ghost use Rattle.syslog_loose.specs.Rfc3164.{Names3164, Resolves, stamped_row, rfc3164_row, IsRead3164, Quotes3164};
 ghost use Rattle.syslog_loose.specs.Rfc5424.{rfc5424_row, IsRead5424, IsNot5424};
 ghost use Rattle.syslog_loose.specs.TagForm.{IsForm};
@@ -73,4 +75,9 @@ pub fn year_counts_for_yearless_dates_alone()
     ensures quotes { (rule : DashRule) (text : Text) → ((date : MonthDate) → ShowsYearless text date → ⊥)
         → (dating other : Dating) → dating.zone ≡ other.zone → dating.local ≡ other.local
         → (m : MessageValue) → Quotes3164 rule dating text m → Quotes3164 rule other text m }
+{}
+
+/// A printed message of RFC 3164 has no division of RFC 5424: a space stands where the version would begin.
+pub fn printed_rfc3164_is_no_rfc5424()
+    ensures { (m : MessageValue) → m.protocol ≡ RFC3164 → IsNot5424 (printed m) }
 {}

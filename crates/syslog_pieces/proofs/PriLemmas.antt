@@ -105,6 +105,49 @@ priority_composed pri h =
     let (s, told, left) = numbered_severity (pri % 8) (omega arith) in
     (f, s, there, told, omega arith)
 
+-- ---- and the parts of a composed priority are those that it is composed of
+pub facility_low : (f : SyslogFacility) → facility_number f < 24
+facility_low LOG_KERN = omega arith
+facility_low LOG_USER = omega arith
+facility_low LOG_MAIL = omega arith
+facility_low LOG_DAEMON = omega arith
+facility_low LOG_AUTH = omega arith
+facility_low LOG_SYSLOG = omega arith
+facility_low LOG_LPR = omega arith
+facility_low LOG_NEWS = omega arith
+facility_low LOG_UUCP = omega arith
+facility_low LOG_CRON = omega arith
+facility_low LOG_AUTHPRIV = omega arith
+facility_low LOG_FTP = omega arith
+facility_low LOG_NTP = omega arith
+facility_low LOG_AUDIT = omega arith
+facility_low LOG_ALERT = omega arith
+facility_low LOG_CLOCKD = omega arith
+facility_low LOG_LOCAL0 = omega arith
+facility_low LOG_LOCAL1 = omega arith
+facility_low LOG_LOCAL2 = omega arith
+facility_low LOG_LOCAL3 = omega arith
+facility_low LOG_LOCAL4 = omega arith
+facility_low LOG_LOCAL5 = omega arith
+facility_low LOG_LOCAL6 = omega arith
+facility_low LOG_LOCAL7 = omega arith
+
+pub severity_low : (s : SyslogSeverity) → severity_number s < 8
+severity_low SEV_EMERG = omega arith
+severity_low SEV_ALERT = omega arith
+severity_low SEV_CRIT = omega arith
+severity_low SEV_ERR = omega arith
+severity_low SEV_WARNING = omega arith
+severity_low SEV_NOTICE = omega arith
+severity_low SEV_INFO = omega arith
+severity_low SEV_DEBUG = omega arith
+
+pub facility_composed : (f : SyslogFacility) (s : SyslogSeverity) → facility_of (composed f s) ≡ Some f
+facility_composed f s = let low = severity_low s in let e : composed f s / 8 ≡ facility_number f = omega arith in ap (slice_get facilities) e ∙ facility_placed f
+
+pub severity_composed : (f : SyslogFacility) (s : SyslogSeverity) → severity_of (composed f s) ≡ Some s
+severity_composed f s = let low = severity_low s in let e : composed f s % 8 ≡ severity_number s = omega arith in ap (slice_get severities) e ∙ severity_placed s
+
 -- ---- a priority that prints as it is written
 pub priority_kept : (t a b q : Text) → Front (exactly (60 ∷ [])) t a tt → Kept (number 191) decimal a b → Front (exactly (62 ∷ [])) b q tt → (k : Kept priority priority_text t q) × (k.value < 192)
 priority_kept t a b q f k g =

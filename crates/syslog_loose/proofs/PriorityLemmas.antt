@@ -1,0 +1,51 @@
+-- The priority that each printed text begins with.
+use Rattle.std.proofs.Common.{◌≡◌, ℕ, ◌<◌, ◌≤◌, ◌^◌, [], ◌∷◌, ◌++◌, Option, Some, None, refl, sym, ap, ◌∙◌, arith, append_assoc}
+use Rattle.std.proofs.lemmas.Fmt.{decimal_nonempty, digits_decimal, digits_value-decimal}
+use Rattle.std.specs.Char.{is_ascii_digit}
+use Rattle.std.specs.Fmt.{decimal}
+use Rattle.std.specs.Option.{option_map_or}
+use Rattle.std.specs.Str.{drop_trailing_whitespace}
+use Rattle.syslog_pieces.specs.Pieces.Class.{Text, Front, Ends, exactly}
+use Rattle.syslog_pieces.specs.Pri.{priority, facility_number, severity_number}
+use Rattle.syslog_pieces.specs.Text.{number}
+use Rattle.syslog_pieces.specs.declared.pri.SyslogFacility.{SyslogFacility}
+use Rattle.syslog_pieces.specs.declared.pri.SyslogSeverity.{SyslogSeverity}
+use Rattle.syslog_pieces.proofs.PieceLemmas.Class.{row_nil, row_cons}
+use Rattle.syslog_pieces.proofs.PieceLemmas.Steps.{piece_front}
+use Rattle.syslog_pieces.proofs.PriLemmas.{as_priority, facility_low, severity_low}
+use Rattle.syslog_pieces.proofs.TextLemmas.Words.{own}
+use Rattle.syslog_loose.specs.Message.{MessageValue}
+use Rattle.syslog_loose.specs.Printed.{priority_of}
+use Rattle.syslog_loose.proofs.TrimLemmas.{LastVisible, last_append, drop_after}
+
+-- a printed number
+pub number_front : (n limit : ℕ) (q : Text) → n ≤ limit → limit < 2 ^ 64 → Ends is_ascii_digit q → Front (number limit) (decimal n ++ q) q n
+number_front n limit q l b z =
+    let small : n < 2 ^ 64 = omega arith in
+    piece_front (number limit) (decimal n) q n (decimal_nonempty n small, digits_decimal own n small, z, sym (digits_value-decimal own n small), l)
+
+facility_or : (f : Option SyslogFacility) → option_map_or facility_number f 5 < 24
+facility_or None = omega arith
+facility_or (Some f) = facility_low f
+
+severity_or : (s : Option SyslogSeverity) → option_map_or severity_number s 7 < 8
+severity_or None = omega arith
+severity_or (Some s) = severity_low s
+
+pub priority_low : (m : MessageValue) → priority_of m ≤ 255
+priority_low m = let f = facility_or m.facility in let s = severity_or m.severity in omega arith
+
+-- a printed priority, before any text
+pub priority_front : (n : ℕ) (q : Text) → n ≤ 255 → Front priority (60 ∷ (decimal n ++ (62 ∷ q))) q n
+priority_front n q l =
+    as_priority
+    (row_cons (exactly (60 ∷ [])) (number 255 ∷ exactly (62 ∷ []) ∷ []) (piece_front (exactly (60 ∷ [])) (60 ∷ []) _ tt refl)
+    (row_cons (number 255) (exactly (62 ∷ []) ∷ []) (number_front n 255 _ l (omega arith) refl)
+    (row_cons (exactly (62 ∷ [])) [] (piece_front (exactly (62 ∷ [])) (62 ∷ []) q tt refl) (row_nil q))))
+
+-- trimming leaves it
+pub priority_trimmed : (n : ℕ) (q : Text) → drop_trailing_whitespace (60 ∷ (decimal n ++ (62 ∷ q))) ≡ 60 ∷ (decimal n ++ (62 ∷ drop_trailing_whitespace q))
+priority_trimmed n q =
+    let last : LastVisible (60 ∷ (decimal n ++ (62 ∷ []))) = last_append (60 ∷ decimal n) (62 ∷ []) refl in
+    ap (λ (x : Text). drop_trailing_whitespace (60 ∷ x)) (sym (append_assoc (decimal n) (62 ∷ []) q)) ∙ drop_after (60 ∷ (decimal n ++ (62 ∷ []))) q last
+    ∙ ap (λ (x : Text). 60 ∷ x) (append_assoc (decimal n) (62 ∷ []) (drop_trailing_whitespace q))
