@@ -7,6 +7,7 @@ pub mod Fields
 pub mod Fraction
 pub mod Loose
 pub mod MonthDate
+pub mod MonthReading
 pub mod Months
 pub mod Piece
 pub mod Printing

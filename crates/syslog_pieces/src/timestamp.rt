@@ -1,13 +1,15 @@
-//! An instant with an offset: read from an RFC 3339 text, compared, and printed.
+//! An instant with an offset: read from an RFC 3339 text or from a month date, compared, and printed.
 //!
-//! **Rule.** The texts are those of RFC 3339 section 5.6, `date-time`. This project's own choices
-//! are: second 60, in any minute, is read as second 59 with its fraction kept; decimals past nine
-//! are cut off; `Z` and a zero offset of either sign are the offset 0; an instant outside the range
-//! of `jiff::Timestamp` is refused; the printed form is the one that [`OffsetTimestamp`] describes.
+//! **Rule.** Month dates are those of RFC 3164 (`month_date`), read in a zone (`zone`). The other
+//! texts are those of RFC 3339 section 5.6, `date-time`. This project's own choices are: second 60,
+//! in any minute, is read as second 59 with its fraction kept; decimals past nine are cut off; `Z`
+//! and a zero offset of either sign are the offset 0; an instant outside the range of
+//! `jiff::Timestamp` is refused; the printed form is the one that [`OffsetTimestamp`] describes.
 //!
 //! **For the floor above.** [`rfc3339`] answers exactly the `IsStampText` of the text's characters,
-//! of which a text has at most one. Display writes `printed_stamp`. Equality and order look at the
-//! instant alone.
+//! of which a text has at most one. [`loose_stamp`] answers exactly the class `loose_stamp`, whose
+//! three kinds begin with `-`, a digit and a letter. [`shown_date`] answers the date without a year
+//! that a text shows. Display writes `printed_stamp`. Equality and order look at the instant alone.
 ghost use Rattle.std.proofs.Common.{rules};
 ghost use Rattle.std.specs.Cmp.{partial_order_from_own_ties};
 ghost use Rattle.std.specs.Cmp.Rules.{comparing};
@@ -21,16 +23,21 @@ ghost use Rattle.syslog_pieces.specs.Pieces.View.{Reads};
 mod digits;
 mod display;
 mod fields;
+pub mod loose;
 pub mod month_date;
 pub mod plain;
 #[cfg(test)]
 mod tests;
 mod written;
+pub mod zone;
 
 use crate::text::{CharClass, literal, split_run};
 use jiff::Timestamp;
 use jiff::tz::Offset;
+pub use loose::loose_stamp;
+pub use month_date::{MonthDate, shown_date};
 use std::cmp::Ordering;
+pub use zone::year_at;
 
 /// An instant, and how far the clock that showed it is ahead of UTC.
 ///

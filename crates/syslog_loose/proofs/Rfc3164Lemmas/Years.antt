@@ -16,8 +16,8 @@ use Rattle.syslog_loose.specs.Rfc3164.{rfc3164_row, IsRead3164, Quotes3164}
 module _ (dating other : Dating) (zone : dating.zone ≡ other.zone) (local : dating.local ≡ other.local) where
   -- a date that has its year has one timestamp under both
   dated_stamp : (vs : Values dated_row) (s : OffsetTimestamp) → IsMonthStamp dating (dated_of vs) s → IsMonthStamp other (dated_of vs) s
-  dated_stamp vs s (year, e, dt, f, h) =
-      (year, e, dt, f, subst (λ (x : TimeZone). IsStampInAny other.zone x dt s) local (subst (λ (x : Option TimeZone). IsStampInAny x dating.local dt s) zone h))
+  dated_stamp vs s (year, e, (dt, f, h)) =
+      (year, e, (dt, f, subst (λ (x : TimeZone). IsStampInAny other.zone x dt s) local (subst (λ (x : Option TimeZone). IsStampInAny x dating.local dt s) zone h)))
 
   other_stamp : (p q : Text) (v : Option OffsetTimestamp) → ((d : MonthDate) → yearless_date.Is p q d → ⊥) → (loose_stamp dating).Is p q v → (loose_stamp other).Is p q v
   other_stamp p q v n (inl h) = inl h

@@ -1,12 +1,13 @@
 -- A text has one timestamp of RFC 3164 at its front: the three kinds begin with `-`, with a digit and with a letter.
-use Rattle.std.proofs.Common.{ℕ, ◌≤◌, ◌++◌, Option, Some, None, sym, ap, subst, arith}
-use Rattle.syslog_pieces.specs.Pieces.Class.{Text, Class, IsDeterministic}
-use Rattle.syslog_pieces.specs.Timestamp.{header_stamp}
+use Rattle.std.proofs.Common.{◌≡◌, ◌∙◌, ℕ, ◌≤◌, ◌++◌, Option, Some, None, sym, ap, subst, arith}
+use Rattle.syslog_pieces.specs.Pieces.Class.{Text, Class, Front, NoFront, IsDeterministic}
+use Rattle.syslog_pieces.specs.Timestamp.{IsAnswer, header_stamp}
+use Rattle.syslog_pieces.specs.Timestamp.MonthDate.{month_date}
 use Rattle.syslog_pieces.specs.Timestamp.Zone.{Dating, IsMonthStamp}
 use Rattle.syslog_pieces.specs.Timestamp.Loose.{IsStampedDate, loose_stamp}
 use Rattle.syslog_pieces.specs.declared.timestamp.OffsetTimestamp.{OffsetTimestamp}
 use Rattle.syslog_pieces.specs.declared.timestamp.month_date.MonthDate.{MonthDate}
-use Rattle.syslog_pieces.proofs.PieceLemmas.Kinds.{Apart, Begins, begins_apart, begins_more, begins_with, either_det}
+use Rattle.syslog_pieces.proofs.PieceLemmas.Kinds.{first_kind, second_kind, no_either, Apart, Begins, begins_apart, begins_more, begins_with, either_det}
 use Rattle.syslog_pieces.proofs.TimestampLemmas.MonthDate.{month_date_det, month_date_begins}
 use Rattle.syslog_pieces.proofs.TimestampLemmas.Months.{IsLetter}
 use Rattle.syslog_pieces.proofs.TimestampLemmas.Piece.{header_stamp_det}
@@ -44,3 +45,33 @@ kinds_apart dating p q p' q' v v' e h h' =
 
 pub loose_stamp_det : (dating : Dating) → IsDeterministic (loose_stamp dating)
 loose_stamp_det dating = either_det (Option OffsetTimestamp) header_stamp.Is (IsStampedDate dating) header_stamp_det (stamped_date_det dating) (kinds_apart dating)
+
+-- ---- what the reader answers
+module _ (dating : Dating) {t : Text} where
+  pub header_front : {q : Text} {v : Option OffsetTimestamp} → Front header_stamp t q v → Front (loose_stamp dating) t q v
+  header_front f = first_kind (Option OffsetTimestamp) header_stamp.Is (IsStampedDate dating) f
+
+  pub date_front : {q : Text} {d : MonthDate} (s : OffsetTimestamp) → Front month_date t q d → IsMonthStamp dating d s → Front (loose_stamp dating) t q (Some s)
+  date_front {d = d} s f h =
+      second_kind (Option OffsetTimestamp) header_stamp.Is (IsStampedDate dating) (record { piece = f.piece; whole = f.whole; is = (d, f.is, h) })
+
+  module _ (n : NoFront header_stamp t) where
+    no_date_stamp : NoFront (stamped_date dating) t → NoFront (loose_stamp dating) t
+    no_date_stamp m = no_either (Option OffsetTimestamp) header_stamp.Is (IsStampedDate dating) n m
+
+    pub no_date : NoFront month_date t → NoFront (loose_stamp dating) t
+    no_date m = no_date_stamp (λ p q v e h. none v p q e h)
+      where
+        none : (v : Option OffsetTimestamp) (p q : Text) → t ≡ p ++ q → IsStampedDate dating p q v → ⊥
+        none None p q e h = h
+        none (Some s) p q e (d, h, k) = m p q d e h
+
+    -- the date that stands there has none
+    pub no_stamp_of_date : {r : Text} (d : MonthDate) → Front month_date t r d → IsAnswer (IsMonthStamp dating d) None → NoFront (loose_stamp dating) t
+    no_stamp_of_date {r = r} d f m = no_date_stamp (λ p q v e h. none v p q e h)
+      where
+        none : (v : Option OffsetTimestamp) (p q : Text) → t ≡ p ++ q → IsStampedDate dating p q v → ⊥
+        none None p q e h = h
+        none (Some s) p q e (d', h, k) =
+            let same = (month_date_det p q f.piece r d' d (sym e ∙ f.whole) h f.is).1 in
+            m s (subst (λ (x : MonthDate). IsMonthStamp dating x s) same k)

@@ -1,14 +1,19 @@
--- Civil fields have at most one timestamp in a zone.
-use Rattle.std.proofs.Common.{◌≡◌, ℤ, Option, Some, None, sym, ap, subst, ◌∙◌}
+-- The timestamp of civil fields in a zone: there is at most one, and what its readers answer.
+use Rattle.std.proofs.Common.{IfSome, ◌<ℤ◌, arith, ◌≡◌, pos, ℤ, Option, Some, None, sym, ap, subst, ◌∙◌}
+use Rattle.jiff_core.proofs.SignedLemmas.{signed_arith}
 use Rattle.jiff.proofs.Family.{same_datetime}
 use Rattle.jiff.specs.Types.{DateTime, Offset, TimeZone, AmbiguousOffset, Unambiguous, Gap, Fold}
-use Rattle.jiff.specs.Words.{offset_at, ambiguous_at}
-use Rattle.syslog_pieces.specs.Timestamp.Fields.{fields_of, IsStampAt}
-use Rattle.syslog_pieces.specs.Timestamp.Zone.{Dating, IsStampOf, IsStampInGap, IsLocalStampOf, IsStampInAny, IsMonthStamp, civil_of}
+use Rattle.jiff.specs.declared.tz.timezone.TimeZone.{TimeZone as ZoneHandle}
+use Rattle.jiff.specs.Words.{plain_zone, offset_at, ambiguous_at}
+use Rattle.std.specs.Borrow.{Bor}
+use Rattle.syslog_pieces.specs.Timestamp.{IsAnswer}
+use Rattle.syslog_pieces.specs.Timestamp.Fields.{AreCivil, fields_of, IsStampAt}
+use Rattle.syslog_pieces.specs.Timestamp.Zone.{Dating, given_zone, IsStampOf, IsStampIn, IsStampInGap, IsLocalStampOf, IsLocalStampIn, IsStampInAny, IsStampOfFields, IsMonthStamp, civil_of, year_of}
 use Rattle.syslog_pieces.specs.declared.timestamp.OffsetTimestamp.{OffsetTimestamp}
 use Rattle.syslog_pieces.specs.declared.timestamp.fields.CivilFields.{CivilFields}
 use Rattle.syslog_pieces.specs.declared.timestamp.month_date.MonthDate.{MonthDate}
-use Rattle.syslog_pieces.proofs.TimestampLemmas.Fields.{civil_nanos-fields}
+use Rattle.syslog_pieces.proofs.TimestampLemmas.Fields.{civil_nanos-fields, civil-fields}
+use Rattle.syslog_pieces.proofs.TimestampLemmas.Answers.{answer_same}
 use Rattle.syslog_pieces.proofs.TimestampLemmas.Values.{same_timestamp}
 
 -- fields name one datetime
@@ -39,7 +44,54 @@ in_any_once None local dt s t h k = local_once_of (ambiguous_at local dt) local 
 
 -- a month date has one timestamp
 pub month_stamp_once : (dating : Dating) (date : MonthDate) (s t : OffsetTimestamp) → IsMonthStamp dating date s → IsMonthStamp dating date t → s ≡ t
-month_stamp_once dating date s t (year, y, dt, f, h) (year', y', dt', f', h') =
+month_stamp_once dating date s t (year, y, (dt, f, h)) (year', y', (dt', f', h')) =
     let same_year : year ≡ year' = (let e : Some year ≡ Some year' = sym y ∙ y' in cc) in
     let same : dt ≡ dt' = one_datetime (civil_of date year') dt dt' (f ∙ ap (λ (x : ℤ). civil_of date x) same_year) f' in
     in_any_once dating.zone dating.local dt' s t (subst (λ (x : DateTime). IsStampInAny dating.zone dating.local x s) same h) h'
+
+-- ---- what the readers answer
+
+pub answer_in_zone : (tz : TimeZone) (dt : DateTime) (a : AmbiguousOffset) (r : Option OffsetTimestamp) → a ≡ ambiguous_at tz dt → IsAnswer (IsStampOf a dt) r → IsAnswer (IsStampIn tz dt) r
+answer_in_zone tz dt a r e h = subst (λ (x : AmbiguousOffset). IsAnswer (IsStampOf x dt) r) e h
+
+pub answer_in_local : (tz : TimeZone) (dt : DateTime) (a : AmbiguousOffset) (r : Option OffsetTimestamp) → a ≡ ambiguous_at tz dt → IsAnswer (IsLocalStampOf a tz dt) r → IsAnswer (IsLocalStampIn tz dt) r
+answer_in_local tz dt a r e h = subst (λ (x : AmbiguousOffset). IsAnswer (IsLocalStampOf x tz dt) r) e h
+
+-- fields that name a datetime have its timestamp
+answer_of_fields : (f : CivilFields) (dt : DateTime) (tz : Option TimeZone) (local : TimeZone) (r : Option OffsetTimestamp) → fields_of dt ≡ f
+    → IsAnswer (IsStampInAny tz local dt) r → IsAnswer (IsStampOfFields tz local f) r
+answer_of_fields f dt tz local r e h =
+    answer_same (IsStampInAny tz local dt) (IsStampOfFields tz local f) r (λ s p. (dt, e, p))
+    (λ s q. subst (λ (x : DateTime). IsStampInAny tz local x s) (one_datetime f q.0 dt q.1 e) q.2) h
+
+module _ (f : CivilFields) (dt : DateTime) (e : fields_of dt ≡ f) (local : TimeZone) (r : Option OffsetTimestamp) (tz : Option (Bor ZoneHandle)) where
+  pub answer_given : (z : Bor ZoneHandle) → tz ≡ Some z → IsAnswer (IsStampIn (plain_zone z.now) dt) r → IsAnswer (IsStampOfFields (given_zone tz) local f) r
+  answer_given z is h =
+      subst (λ (x : Option (Bor ZoneHandle)). IsAnswer (IsStampOfFields (given_zone x) local f) r) (sym is)
+      (answer_of_fields f dt (Some (plain_zone z.now)) local r e h)
+
+  pub answer_local : tz ≡ None → IsAnswer (IsLocalStampIn local dt) r → IsAnswer (IsStampOfFields (given_zone tz) local f) r
+  answer_local is h =
+      subst (λ (x : Option (Bor ZoneHandle)). IsAnswer (IsStampOfFields (given_zone x) local f) r) (sym is)
+      (answer_of_fields f dt None local r e h)
+
+-- no datetime has the fields
+pub no_fields : (f : CivilFields) (tz : Option TimeZone) (local : TimeZone) → (AreCivil f → ⊥) → IsAnswer (IsStampOfFields tz local f) None
+no_fields f tz local n s (dt, e, h) = n (civil-fields dt f e)
+
+-- ---- the year of a month date
+module _ (dating : Dating) (date : MonthDate) where
+  pub answer_in_year : (y : ℤ) (r : Option OffsetTimestamp) → year_of date dating.year ≡ Some y → IsAnswer (IsStampOfFields dating.zone dating.local (civil_of date y)) r → IsAnswer (IsMonthStamp dating date) r
+  answer_in_year y r e h =
+      answer_same (IsStampOfFields dating.zone dating.local (civil_of date y)) (IsMonthStamp dating date) r (λ s p. (y, e, p))
+      (λ s q. (
+      let same : q.0 ≡ y = (let t : Some q.0 ≡ Some y = sym q.1 ∙ e in cc) in
+      subst (λ (x : ℤ). IsStampOfFields dating.zone dating.local (civil_of date x) s) same q.2
+      )) h
+
+  -- no year, or one past the calendar's
+  pub no_such_year : IfSome (year_of date dating.year) (λ y. pos 9999 <ℤ y) → IsAnswer (IsMonthStamp dating date) None
+  no_such_year n s (y, e, (dt, f, h)) =
+      let past : pos 9999 <ℤ y = subst (λ (x : Option ℤ). IfSome x (λ y. pos 9999 <ℤ y)) e n in
+      let in_range = (civil-fields dt (civil_of date y) f).date in
+      omega (arith, signed_arith, past, in_range.0)

@@ -1,5 +1,11 @@
--- How the name of a month is told from its letters.
-use Rattle.std.specs.Prelude.{ℕ, ◌==◌, ◌&&◌, if◌then◌else◌, Option, Some, None}
+-- In which parts a month date is read.
+use Rattle.std.specs.Prelude.{ℕ, ◌==◌, ◌&&◌, if◌then◌else◌, List, [], ◌∷◌, Option, Some, None}
+use Rattle.syslog_pieces.specs.Pieces.Class.{Class, Values, some_run}
+use Rattle.syslog_pieces.specs.Text.{is_blank, number}
+use Rattle.syslog_pieces.specs.Timestamp.MonthDate.{month, short_number, clock_row}
+use Rattle.syslog_pieces.specs.declared.timestamp.month_date.Clock.{Clock}
+use Rattle.syslog_pieces.specs.declared.timestamp.month_date.Day.{Day}
+use Rattle.syslog_pieces.specs.declared.timestamp.month_date.MonthDate.{MonthDate}
 
 -- which month three small letters name
 unfoldable pub small_month : ℕ → ℕ → ℕ → Option ℕ
@@ -17,3 +23,25 @@ small_month a b c =
     else if a == 110 && (b == 111 && c == 118) then Some 11
     else if a == 100 && (b == 101 && c == 99) then Some 12
     else None
+
+-- the month and the day, each before blanks
+abbrev pub day_row : List Class
+day_row = month ∷ some_run is_blank ∷ short_number ∷ some_run is_blank ∷ []
+
+abbrev pub day_values : Day → Values day_row
+day_values d = (d.month, (tt, (d.day, (tt, tt))))
+
+-- the year before blanks
+abbrev pub year_row : List Class
+year_row = number 2147483647 ∷ some_run is_blank ∷ []
+
+abbrev pub year_values : ℕ → Values year_row
+year_values y = (y, (tt, tt))
+
+-- the clock, whether one more colon stands behind it or not
+abbrev pub clock_values : Clock → Option (Unit {0}) → Values clock_row
+clock_values c more = (c.hour, (tt, (c.minute, (tt, (c.second, (more, tt))))))
+
+-- the month date of these parts
+abbrev pub date_of : Option ℕ → Day → Clock → MonthDate
+date_of year d c = record { year = year; month = d.month; day = d.day; hour = c.hour; minute = c.minute; second = c.second }

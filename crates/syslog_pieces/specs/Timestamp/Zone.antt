@@ -1,8 +1,10 @@
 -- The timestamp of civil fields in a zone, said over what `jiff` tells of the zone: whether a clock there shows the
 -- datetime at one instant, at two (a fold) or at none (a gap).
-use Rattle.std.specs.Prelude.{◌≡◌, ℤ, pos, ◌+ℤ◌, Option, Some, None}
+use Rattle.std.specs.Prelude.{◌≡◌, ℤ, pos, ◌+ℤ◌, Option, Some, None, option_map}
+use Rattle.std.specs.Borrow.{Bor}
 use Rattle.jiff.specs.Types.{DateTime, TimeZone, AmbiguousOffset, Unambiguous, Gap, Fold}
-use Rattle.jiff.specs.Words.{civil_nanos, nanos_of_seconds, offset_at, ambiguous_at}
+use Rattle.jiff.specs.declared.tz.timezone.TimeZone.{TimeZone as ZoneHandle}
+use Rattle.jiff.specs.Words.{plain_zone, civil_nanos, nanos_of_seconds, offset_at, ambiguous_at}
 use Rattle.syslog_pieces.specs.declared.timestamp.OffsetTimestamp.{OffsetTimestamp}
 use Rattle.syslog_pieces.specs.declared.timestamp.fields.CivilFields.{CivilFields}
 use Rattle.syslog_pieces.specs.declared.timestamp.month_date.MonthDate.{MonthDate}
@@ -14,6 +16,14 @@ pub record Dating : Type 0 where
   pub year : Option ℤ
   pub zone : Option TimeZone
   pub local : TimeZone
+
+-- the zone that a caller hands in, or none
+abbrev pub given_zone : Option (Bor ZoneHandle) → Option TimeZone
+given_zone tz = option_map (λ z. plain_zone z.now) tz
+
+-- the year, the zone and the local zone that a caller hands in
+abbrev pub dating_of : Option ℤ → Option (Bor ZoneHandle) → Bor ZoneHandle → Dating
+dating_of year tz local = record { year = year; zone = given_zone tz; local = plain_zone local.now }
 
 -- the one instant, or the earlier of two, and none in a gap
 abbrev pub IsStampOf : AmbiguousOffset → DateTime → OffsetTimestamp → Type 0
@@ -45,9 +55,9 @@ abbrev pub IsStampInAny : Option TimeZone → TimeZone → DateTime → OffsetTi
 IsStampInAny (Some tz) local dt s = IsStampIn tz dt s
 IsStampInAny None local dt s = IsLocalStampIn local dt s
 
--- the year that the date has, or else the one that stands in for it
-abbrev pub year_of : MonthDate → Dating → Option ℤ
-year_of date dating = elim date.year [ Some year ↦ Some (pos year) | None ↦ dating.year ]
+-- the year that the date shows, or else the one that stands in for it
+abbrev pub year_of : MonthDate → Option ℤ → Option ℤ
+year_of date year = elim date.year [ Some shown ↦ Some (pos shown) | None ↦ year ]
 
 -- the civil fields of a month date in a year
 abbrev pub civil_of : MonthDate → ℤ → CivilFields
@@ -61,12 +71,14 @@ civil_of date year = record {
   nanosecond = 0;
 }
 
--- this is the timestamp of the month date: it has a year, the calendar has its date, the clock its time, and the instant
--- is in range
+-- the calendar has the date and the clock the time of the fields, and this is their timestamp, the instant being in range
+abbrev pub IsStampOfFields : Option TimeZone → TimeZone → CivilFields → OffsetTimestamp → Type 0
+IsStampOfFields tz local f s = (dt : DateTime) × (fields_of dt ≡ f) × IsStampInAny tz local dt s
+
+-- this is the timestamp of the month date: it has a year, and its fields in that year have this timestamp
 abbrev pub IsMonthStamp : Dating → MonthDate → OffsetTimestamp → Type 0
 IsMonthStamp dating date s =
-    (year : ℤ) × (year_of date dating ≡ Some year)
-    × (dt : DateTime) × (fields_of dt ≡ civil_of date year) × IsStampInAny dating.zone dating.local dt s
+    (year : ℤ) × (year_of date dating.year ≡ Some year) × IsStampOfFields dating.zone dating.local (civil_of date year) s
 
 -- a clock in the zone shows the year at the instant
 pub record IsYearAt (tz : TimeZone) (nanosecond year : ℤ) : Type 0 where

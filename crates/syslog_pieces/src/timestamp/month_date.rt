@@ -1,4 +1,18 @@
 //! Month dates: the dates of RFC 3164.
+//!
+//! A date is recognised by its letters and digits alone, before anybody asks for its year. Nothing here takes memory.
+ghost use Rattle.std.specs.Prelude.{◌≡◌, Option, MatchOption};
+ghost use Rattle.std.specs.Str.{chars};
+ghost use Rattle.syslog_pieces.specs.Bodies.MonthReading as parts;
+ghost use Rattle.syslog_pieces.specs.Pieces.Class.{Front, NoFront, Row, optional, exactly};
+ghost use Rattle.syslog_pieces.specs.Pieces.View.{shown, Reads};
+ghost use Rattle.syslog_pieces.specs.Text.{colon};
+ghost use Rattle.syslog_pieces.specs.Timestamp.Loose.{ShowsYearless};
+ghost use Rattle.syslog_pieces.specs.Timestamp.MonthDate as spec;
+ghost use Rattle.syslog_pieces.specs.declared.timestamp.month_date.MonthDate.{MonthDate};
+
+use crate::pri::optional_priority;
+use crate::text::{blanks, first, literal, number, some_blanks, trimmed};
 
 /// The numbers of a month date, of which there may be no such date.
 #[derive(Clone, Copy, Debug)]
@@ -15,4 +29,157 @@ pub struct MonthDate {
     pub minute: u32,
     /// The second.
     pub second: u32,
+}
+
+#[derive(Clone, Copy)]
+struct Day {
+    month: u32,
+    day: u32,
+}
+
+#[derive(Clone, Copy)]
+struct Clock {
+    hour: u32,
+    minute: u32,
+    second: u32,
+}
+
+/// The month date at the front, with a year or without one, and the text behind it.
+pub fn month_date(text: &str) -> Option<(MonthDate, &str)>
+    ensures { Reads spec.month_date (λ d. d) (chars text.now) result }
+{
+    let (day, rest) = read_day(text)?;
+    match read_clock(rest) {
+        Some((clock, after)) => return Some((date_of(None, day, clock), after)),
+        None => {}
+    }
+    let (year, rest) = read_year(rest)?;
+    let (clock, rest) = read_clock(rest)?;
+    Some((date_of(Some(year), day, clock), rest))
+}
+
+/// The month date without a year that the text shows: within the white space at its two ends it begins with a
+/// priority or none, blanks or none, and such a date.
+pub fn shown_date(text: &str) -> Option<MonthDate>
+    ensures { MatchOption result
+        ((d : MonthDate) → ShowsYearless (chars text.now) d → ⊥)
+        (λ d. ShowsYearless (chars text.now) d) }
+{
+    let text = trimmed(text);
+    let (_, rest) = optional_priority(text);
+    let rest = blanks(rest);
+    let (date, _) = yearless(rest)?;
+    Some(date)
+}
+
+// The month date without a year at the front.
+fn yearless(text: &str) -> Option<(MonthDate, &str)>
+    ensures { Reads spec.yearless_date (λ d. d) (chars text.now) result }
+{
+    let (day, rest) = read_day(text)?;
+    let (clock, rest) = read_clock(rest)?;
+    Some((date_of(None, day, clock), rest))
+}
+
+fn date_of(year: Option<u32>, day: Day, clock: Clock) -> MonthDate
+    ensures { result ≡ parts.date_of year day clock }
+{
+    MonthDate {
+        year,
+        month: day.month,
+        day: day.day,
+        hour: clock.hour,
+        minute: clock.minute,
+        second: clock.second,
+    }
+}
+
+// The month and the day, and the blanks behind each.
+fn read_day(text: &str) -> Option<(Day, &str)>
+    ensures { Reads (Row parts.day_row) parts.day_values (chars text.now) result }
+{
+    let (month, rest) = read_month(text)?;
+    let rest = some_blanks(rest)?;
+    let (day, rest) = number(rest, u32::MAX)?;
+    let rest = some_blanks(rest)?;
+    Some((Day { month, day }, rest))
+}
+
+// The year, and the blanks behind it.
+fn read_year(text: &str) -> Option<(u32, &str)>
+    ensures { Reads (Row parts.year_row) parts.year_values (chars text.now) result }
+{
+    let (year, rest) = number(text, 2_147_483_647)?;
+    let rest = some_blanks(rest)?;
+    Some((year, rest))
+}
+
+// Hour, minute and second, and the colon behind them where there is one.
+fn read_clock(text: &str) -> Option<(Clock, &str)>
+    ensures { MatchOption result
+        (NoFront (Row spec.clock_row) (chars text.now))
+        (λ x. (more : Option (Unit {0}))
+        × Front (Row spec.clock_row) (chars text.now) (shown x.1) (parts.clock_values x.0 more)) }
+{
+    let (hour, rest) = number(text, u32::MAX)?;
+    let rest = literal(rest, ':')?;
+    let (minute, rest) = number(rest, u32::MAX)?;
+    let rest = literal(rest, ':')?;
+    let (second, rest) = number(rest, u32::MAX)?;
+    let rest = past_colon(rest);
+    Some((
+        Clock {
+            hour,
+            minute,
+            second,
+        },
+        rest,
+    ))
+}
+
+// The text behind a colon, where one begins it.
+fn past_colon(text: &str) -> &str
+    ensures { (more : Option (Unit {0})) × Front (optional (exactly colon)) (chars text.now) (shown result) more }
+{
+    match literal(text, ':') {
+        Some(rest) => rest,
+        None => text,
+    }
+}
+
+// The number of the month that the text begins with the name of.
+fn read_month(text: &str) -> Option<(u32, &str)>
+    ensures { Reads spec.month (λ n. n) (chars text.now) result }
+{
+    let (a, rest) = first(text)?;
+    let (b, rest) = first(rest)?;
+    let (c, rest) = first(rest)?;
+    let number = small_month(
+        a.to_ascii_lowercase(),
+        b.to_ascii_lowercase(),
+        c.to_ascii_lowercase(),
+    )?;
+    Some((number, rest))
+}
+
+// The number of the month that three small letters name.
+#[tactic(auto, unfolding(crate::specs::Bodies::MonthReading::small_month))]
+fn small_month(a: char, b: char, c: char) -> Option<u32>
+    ensures { result ≡ parts.small_month a b c }
+{
+    match (a, b, c) {
+        ('j', 'a', 'n') => Some(1),
+        ('f', 'e', 'b') => Some(2),
+        ('m', 'a', 'r') => Some(3),
+        ('a', 'p', 'r') => Some(4),
+        ('m', 'a', 'y') => Some(5),
+        ('j', 'u', 'n') => Some(6),
+        ('j', 'u', 'l') => Some(7),
+        ('a', 'u', 'g') => Some(8),
+        ('s', 'e', 'p') => Some(9),
+        ('o', 'c', 't') => Some(10),
+        ('n', 'o', 'v') => Some(11),
+        ('d', 'e', 'c') => Some(12),
+        _ => None,
+    }
 }

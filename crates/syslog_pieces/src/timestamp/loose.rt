@@ -1,0 +1,33 @@
+//! The timestamp of a header of RFC 3164.
+ghost use Rattle.std.specs.Str.{chars};
+ghost use Rattle.syslog_pieces.specs.Pieces.View.{Reads};
+ghost use Rattle.syslog_pieces.specs.Timestamp.Loose as spec;
+ghost use Rattle.syslog_pieces.specs.Timestamp.Zone.{dating_of};
+
+use super::month_date::month_date;
+use super::zone::month_stamp;
+use super::{OffsetTimestamp, header_stamp};
+use jiff::tz::TimeZone;
+
+/// The timestamp at the front of a header's text, absent for `-`, and the text behind it. It is `-`, an RFC 3339 text
+/// before a space, or a month date.
+///
+/// A month date is read in the zone that is given, or else in the local one, and takes the year that is handed in where
+/// it shows none. Where that is absent too, and where the calendar, the clock or the zone has no such moment, the text
+/// has no timestamp. It takes no memory.
+pub fn loose_stamp<'a>(
+    text: &'a str,
+    year: Option<i32>,
+    tz: Option<&TimeZone<'_>>,
+    local: &TimeZone<'_>,
+) -> Option<(Option<OffsetTimestamp>, &'a str)>
+    ensures { Reads (spec.loose_stamp (dating_of year tz.entry local.entry)) (λ s. s) (chars text.now) result }
+{
+    match header_stamp(text) {
+        Some(found) => return Some(found),
+        None => {}
+    }
+    let (date, rest) = month_date(text)?;
+    let stamp = month_stamp(date, year, tz, local)?;
+    Some((Some(stamp), rest))
+}

@@ -1,0 +1,106 @@
+//! The timestamp of civil fields in a zone, and the year of a moment there.
+//!
+//! **Rule.** Where a clock in the zone shows the fields twice, the earlier instant counts. Where it never shows them, a
+//! zone that is given has no timestamp of them, and in the local zone they are taken as UTC. (This project's own choice,
+//! as the crate's documents have it.) No conversion here takes memory.
+ghost use Rattle.std.specs.Prelude.{◌≡◌, Some, pos, ◌<ℤ◌, IfSome, IsNone};
+ghost use Rattle.jiff.specs.Words.{plain_zone};
+ghost use Rattle.syslog_pieces.specs.Timestamp.{IsAnswer};
+ghost use Rattle.syslog_pieces.specs.Timestamp.Zone as spec;
+
+use super::OffsetTimestamp;
+use super::fields::{CivilFields, at_offset};
+use super::month_date::MonthDate;
+use jiff::Timestamp;
+use jiff::civil::DateTime;
+use jiff::tz::{AmbiguousOffset, Offset, TimeZone};
+
+/// The timestamp of a month date: in the zone that is given, or else in the local one. A date that shows no year takes
+/// the one that is handed in, and has no timestamp where there is none.
+pub fn month_stamp(
+    date: MonthDate,
+    year: Option<i32>,
+    tz: Option<&TimeZone<'_>>,
+    local: &TimeZone<'_>,
+) -> Option<OffsetTimestamp>
+    ensures { IsAnswer (spec.IsMonthStamp (spec.dating_of year tz.entry local.entry) date) result }
+{
+    let year = year_of(date, year)?;
+    let fields = CivilFields {
+        year,
+        month: date.month,
+        day: date.day,
+        hour: date.hour,
+        minute: date.minute,
+        second: date.second,
+        nanosecond: 0,
+    };
+    of_fields(fields, tz, local)
+}
+
+/// The year that a clock in the zone shows at the moment, from -9999 to 9999.
+pub fn year_at(now: Timestamp, local: &TimeZone<'_>) -> i32
+    ensures { spec.IsYearAt (plain_zone local.now) now.nanosecond result }
+{
+    i32::from(local.to_datetime(now).year())
+}
+
+// The year that the date shows, or else the one that is handed in.
+fn year_of(date: MonthDate, year: Option<i32>) -> Option<i32>
+    ensures value { IfSome result (λ y. spec.year_of date year ≡ Some y) }
+    ensures none { IsNone result → IfSome (spec.year_of date year) (λ y. pos 9999 <ℤ y) }
+{
+    match date.year {
+        Some(shown) => i32::try_from(shown).ok(),
+        None => year,
+    }
+}
+
+fn of_fields(
+    fields: CivilFields,
+    tz: Option<&TimeZone<'_>>,
+    local: &TimeZone<'_>,
+) -> Option<OffsetTimestamp>
+    ensures { IsAnswer (spec.IsStampOfFields (spec.given_zone tz.entry) (plain_zone local.now) fields) result }
+{
+    let dt = fields.datetime()?;
+    match tz {
+        Some(tz) => in_zone(dt, tz),
+        None => in_local(dt, local),
+    }
+}
+
+// In the zone that is given.
+fn in_zone(dt: DateTime, tz: &TimeZone<'_>) -> Option<OffsetTimestamp>
+    ensures { IsAnswer (spec.IsStampIn (plain_zone tz.now) dt) result }
+{
+    match tz.to_ambiguous_timestamp(dt).offset() {
+        AmbiguousOffset::Unambiguous { offset } => at_offset(dt, offset),
+        AmbiguousOffset::Fold { before, .. } => at_offset(dt, before),
+        AmbiguousOffset::Gap { .. } => None,
+    }
+}
+
+// In the local zone.
+fn in_local(dt: DateTime, local: &TimeZone<'_>) -> Option<OffsetTimestamp>
+    ensures { IsAnswer (spec.IsLocalStampIn (plain_zone local.now) dt) result }
+{
+    match local.to_ambiguous_timestamp(dt).offset() {
+        AmbiguousOffset::Unambiguous { offset } => at_offset(dt, offset),
+        AmbiguousOffset::Fold { before: first, .. } => at_offset(dt, first),
+        AmbiguousOffset::Gap { .. } => in_gap(dt, local),
+    }
+}
+
+// As UTC.
+fn in_gap(dt: DateTime, local: &TimeZone<'_>) -> Option<OffsetTimestamp>
+    ensures { IsAnswer (spec.IsStampInGap (plain_zone local.now) dt) result }
+{
+    match Offset::UTC.to_timestamp(dt) {
+        Ok(instant) => Some(OffsetTimestamp {
+            instant,
+            offset: local.to_offset(instant),
+        }),
+        Err(_) => None,
+    }
+}
