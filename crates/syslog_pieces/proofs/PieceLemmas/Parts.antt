@@ -1,10 +1,10 @@
 -- The texts that a piece's meaning holds are parts of the piece.
-use Rattle.std.proofs.Common.{◌≡◌, inl, inr, List, [], ◌∷◌, ◌++◌, Option, Some, None, sym, ap, ◌∙◌, append_assoc, append-nil}
+use Rattle.std.proofs.Common.{◌≡◌, inl, inr, List, [], ◌∷◌, ◌++◌, Option, Some, None, sym, ap, subst, ◌∙◌, append_assoc, append-nil}
 use Rattle.std.specs.List.{AllByRecursion}
-use Rattle.syslog_pieces.specs.Pieces.Class.{Text, Class, Values, join, Divides, rest, texted}
+use Rattle.syslog_pieces.specs.Pieces.Class.{Text, Class, Values, join, Divides, rest, optional, spaced, texted}
 use Rattle.syslog_pieces.specs.Pieces.Parts.{IsPart, IsInPieces, AreInPieces, text_list, process_texts}
 use Rattle.syslog_pieces.specs.ProcId.{process_word}
-use Rattle.syslog_pieces.specs.Text.{Names, host, word}
+use Rattle.syslog_pieces.specs.Text.{Names, host, tag_word, word}
 use Rattle.syslog_pieces.specs.declared.procid.ProcId.TheVariants.{PID, Name}
 
 -- ---- parts of parts
@@ -85,3 +85,25 @@ pub process_quotes : Quotes process_word process_texts
 process_quotes p q None h = tt
 process_quotes p q (Some (PID n)) h = tt
 process_quotes p q (Some (Name t)) (u, w, k) = (part_same p t (k.1 ∙ w.4.0), tt)
+
+pub tag_word_quotes : Quotes tag_word text_list
+tag_word_quotes p q v h = names_quotes p v h.3
+
+-- ---- pieces that may be absent, and pieces behind a space
+
+-- the texts of a meaning that may be absent
+abbrev pub optional_texts : {V : Type 0} → (V → List Text) → Option V → List Text
+optional_texts f None = []
+optional_texts f (Some v) = f v
+
+pub optional_quotes : (C : Class) (f : C.Value → List Text) → Quotes C f → Quotes (optional C) (λ v. optional_texts f v)
+optional_quotes C f g p q None h = tt
+optional_quotes C f g p q (Some v) h = g p q v h
+
+pub spaced_quotes : (C : Class) (f : C.Value → List Text) → Quotes C f → Quotes (spaced C) f
+spaced_quotes C f g p q v ([], e, h) = absurd h
+spaced_quotes C f g p q v (a ∷ [], e, h) = absurd h.1
+spaced_quotes C f g p q v (a ∷ b ∷ c ∷ ps, e, h) = absurd h.1.1
+spaced_quotes C f g p q v (a ∷ b ∷ [], e, h) =
+    let there = all_map (λ t x. part_right a (b ++ []) t (part_left b [] t x)) (f v) (g b q v h.1.0) in
+    subst (λ (x : Text). AllByRecursion (λ t. IsPart x t) (f v)) (sym e) there

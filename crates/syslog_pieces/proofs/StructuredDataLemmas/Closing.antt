@@ -240,53 +240,54 @@ no_bracket [] (x ∷ a) b h e = let k = ap length e in omega arith
 no_bracket (c ∷ w) [] b h e = let k : c ≡ 93 = heads c 93 w b e in let t = ap is_open_char k in let u : true ≡ false = sym h.0 ∙ t in cc
 no_bracket (c ∷ w) (x ∷ a) b h e = no_bracket w a b h.1 (let t : w ≡ a ++ (93 ∷ b) = cc in t)
 
--- ---- what a scan from t to x has passed
-pub record Passes (t x : Text) : Type 0 where
+-- ---- what a scan from t to x has passed, where it fails no piece of the class begins t
+pub record Passes (C : Class) (t x : Text) : Type 0 where
   pub piece : Text
   pub whole : t ≡ piece ++ x
-  pub each : (a b : Text) → piece ≡ a ++ (93 ∷ b) → NoFront element t → NoFront closing (b ++ x)
+  pub each : (a b : Text) → piece ≡ a ++ (93 ∷ b) → NoFront C t → NoFront closing (b ++ x)
 
-pub passes_here : (t : Text) → Passes t t
-passes_here t = record { piece = []; whole = refl; each = λ a b e n. absurd (no_bracket [] a b tt e) }
+module _ (C : Class) where
+  pub passes_here : (t : Text) → Passes C t t
+  passes_here t = record { piece = []; whole = refl; each = λ a b e n. absurd (no_bracket [] a b tt e) }
 
-passes_on : (t x w y : Text) → Passes t x → x ≡ w ++ y → ((a b : Text) → w ≡ a ++ (93 ∷ b) → NoFront element t → NoFront closing (b ++ y)) → Passes t y
-passes_on t x w y s e h = record {
-  piece = s.piece ++ w;
-  whole = s.whole ∙ ap (λ (z : Text). s.piece ++ z) e ∙ sym (append_assoc s.piece w y);
-  each = λ a b f n. elim (split_bracket s.piece w a b f) [
-    | inl (c, i, j) ↦ subst (λ (z : Text). NoFront closing z) (ap (λ (z : Text). c ++ z) e ∙ sym (append_assoc c w y) ∙ ap (λ (z : Text). z ++ y) (sym j)) (s.each a c i n)
-    | inr (c, i) ↦ h c b i n
-  ];
-}
+  passes_on : (t x w y : Text) → Passes C t x → x ≡ w ++ y → ((a b : Text) → w ≡ a ++ (93 ∷ b) → NoFront C t → NoFront closing (b ++ y)) → Passes C t y
+  passes_on t x w y s e h = record {
+    piece = s.piece ++ w;
+    whole = s.whole ∙ ap (λ (z : Text). s.piece ++ z) e ∙ sym (append_assoc s.piece w y);
+    each = λ a b f n. elim (split_bracket s.piece w a b f) [
+      | inl (c, i, j) ↦ subst (λ (z : Text). NoFront closing z) (ap (λ (z : Text). c ++ z) e ∙ sym (append_assoc c w y) ∙ ap (λ (z : Text). z ++ y) (sym j)) (s.each a c i n)
+      | inr (c, i) ↦ h c b i n
+    ];
+  }
 
-pub passes_shut : (C : Class) → IsShut C → (t x y : Text) (v : C.Value) → Passes t x → Front C x y v → Passes t y
-passes_shut C s t x y v p f = passes_on t x f.piece y p f.whole (λ a b e n. absurd (no_bracket f.piece a b (s f.piece y v f.is) e))
+  pub passes_shut : (D : Class) → IsShut D → (t x y : Text) (v : D.Value) → Passes C t x → Front D x y v → Passes C t y
+  passes_shut D s t x y v p f = passes_on t x f.piece y p f.whole (λ a b e n. absurd (no_bracket f.piece a b (s f.piece y v f.is) e))
 
-pub passes_space : (t x y : Text) → Passes t x → x ≡ 32 ∷ y → Passes t y
-passes_space t x y p e = passes_on t x (32 ∷ []) y p e (λ a b f n. absurd (no_bracket (32 ∷ []) a b (refl, tt) f))
+  pub passes_space : (t x y : Text) → Passes C t x → x ≡ 32 ∷ y → Passes C t y
+  passes_space t x y p e = passes_on t x (32 ∷ []) y p e (λ a b f n. absurd (no_bracket (32 ∷ []) a b (refl, tt) f))
 
--- a value, between the quotes
-pub passes_quoted : (t x y : Text) (vs : Values quoted_row) → Passes t x → Meets element t closing x → Front quoted x y vs → Passes t y
-passes_quoted t x y vs p m f =
-    let r = row_head value (exactly (34 ∷ []) ∷ []) f in
-    let s = row_head (exactly (34 ∷ [])) [] r.2 in
-    let value_passed : Passes t r.0 = passes_on t x r.1.piece r.0 p r.1.whole (λ a b e n.
-    meets_none_on closing x closing (b ++ r.0)
-    (value_closing x (b ++ r.0) (subst (λ (z : Text). Meets value z value (b ++ r.0)) (sym r.1.whole) (value_seam r.1.piece a b r.0 r.1.is.0 e)))
-    (meets_none_on element t closing x m n)) in
-    passes_shut (Row (exactly (34 ∷ []) ∷ [])) (row_shut (exactly (34 ∷ []) ∷ []) (one_shut 34 refl, tt)) t r.0 y vs.1 value_passed r.2
+  -- a value, between the quotes
+  pub passes_quoted : (t x y : Text) (vs : Values quoted_row) → Passes C t x → Meets C t closing x → Front quoted x y vs → Passes C t y
+  passes_quoted t x y vs p m f =
+      let r = row_head value (exactly (34 ∷ []) ∷ []) f in
+      let s = row_head (exactly (34 ∷ [])) [] r.2 in
+      let value_passed : Passes C t r.0 = passes_on t x r.1.piece r.0 p r.1.whole (λ a b e n.
+      meets_none_on closing x closing (b ++ r.0)
+      (value_closing x (b ++ r.0) (subst (λ (z : Text). Meets value z value (b ++ r.0)) (sym r.1.whole) (value_seam r.1.piece a b r.0 r.1.is.0 e)))
+      (meets_none_on C t closing x m n)) in
+      passes_shut (Row (exactly (34 ∷ []) ∷ [])) (row_shut (exactly (34 ∷ []) ∷ []) (one_shut 34 refl, tt)) t r.0 y vs.1 value_passed r.2
 
--- a scan that fails leaves dead brackets behind it
-pub passes_dead : (t x : Text) (d : ℕ) → d ≡ byte_count x → Passes t x → NoFront element t → IsDead t d
-passes_dead t x d e s n a b f l =
-    elim (split_bracket s.piece x a b (sym s.whole ∙ f)) [
-      | inl (c, i, j) ↦ subst (λ (z : Text). NoFront closing z) (sym j) (s.each a c i n)
-      | inr (c, i) ↦ absurd (let k = behind_bracket c b in let m = ap byte_count i in omega (arith, k, m))
-    ]
+  -- a scan that fails leaves dead brackets behind it
+  pub passes_dead : (t x : Text) (d : ℕ) → d ≡ byte_count x → Passes C t x → NoFront C t → IsDead t d
+  passes_dead t x d e s n a b f l =
+      elim (split_bracket s.piece x a b (sym s.whole ∙ f)) [
+        | inl (c, i, j) ↦ subst (λ (z : Text). NoFront closing z) (sym j) (s.each a c i n)
+        | inr (c, i) ↦ absurd (let k = behind_bracket c b in let m = ap byte_count i in omega (arith, k, m))
+      ]
 
-pub passes_dead_on : (t x : Text) (d : ℕ) → Passes t x → NoFront element t → IsDead x d → IsDead t d
-passes_dead_on t x d s n h a b f l =
-    elim (split_bracket s.piece x a b (sym s.whole ∙ f)) [
-      | inl (c, i, j) ↦ subst (λ (z : Text). NoFront closing z) (sym j) (s.each a c i n)
-      | inr (c, i) ↦ h c b i l
-    ]
+  pub passes_dead_on : (t x : Text) (d : ℕ) → Passes C t x → NoFront C t → IsDead x d → IsDead t d
+  passes_dead_on t x d s n h a b f l =
+      elim (split_bracket s.piece x a b (sym s.whole ∙ f)) [
+        | inl (c, i, j) ↦ subst (λ (z : Text). NoFront closing z) (sym j) (s.each a c i n)
+        | inr (c, i) ↦ h c b i l
+      ]

@@ -2,12 +2,14 @@
 use Rattle.std.proofs.Common.{◌≡◌, inl, inr, ℕ, List, [], ◌∷◌, ◌++◌, Option, Some, None, refl, sym, subst, append-nil}
 use Rattle.std.specs.List.{flat_map, AllByRecursion}
 use Rattle.syslog_pieces.specs.Text.CharClass.{is_name_char, is_id_char}
-use Rattle.syslog_pieces.specs.Pieces.Class.{Text, Class, Values, Row, run, some_run, exactly}
+use Rattle.syslog_pieces.specs.Pieces.Class.{Text, Class, Values, Row, run, some_run, exactly, optional}
 use Rattle.syslog_pieces.specs.StructuredData.Element.{ElementValue, element_texts}
 use Rattle.syslog_pieces.specs.Pieces.Lists.{IsMany, IsMore, IsList, list_before}
 use Rattle.syslog_pieces.specs.Pieces.Parts.{IsPart}
 use Rattle.syslog_pieces.specs.StructuredData.{value, param_row, param, element_row, element_of, element, item, strict, forgiving}
+use Rattle.syslog_pieces.specs.StructuredData.Listed.{full_element, listed, elements_or}
 use Rattle.syslog_pieces.specs.Text.{is_blank}
+use Rattle.syslog_pieces.specs.declared.structured_data.listed.DashRule.{DashRule}
 use Rattle.syslog_pieces.proofs.PieceLemmas.Parts.{Quotes, Quoted, row_texts, row_quotes, part_same, part_left, part_right, part_joined, all_map, all_append, silent, texted_quotes}
 
 -- the texts of a row are parts of it
@@ -107,3 +109,17 @@ items_parts p q (Some v ∷ items) (a, b, e, h, more) =
 pub forgiving_quotes : Quotes forgiving (λ es. flat_map element_texts es)
 forgiving_quotes p q es (inl (d, e)) = subst (λ (x : List ElementValue). AllByRecursion (λ t. IsPart p t) (flat_map element_texts x)) (sym e) tt
 forgiving_quotes p q es (inr (items, l, m, e)) = subst (λ (x : List ElementValue). AllByRecursion (λ t. IsPart p t) (flat_map element_texts x)) (sym e) (items_parts p q items m)
+
+-- ---- the list of RFC 3164
+full_parts : (p q : Text) (es : List ElementValue) → IsMany full_element p q es → AllByRecursion (λ t. IsPart p t) (flat_map element_texts es)
+full_parts p q [] h = tt
+full_parts p q (v ∷ es) (a, b, e, h, more) =
+    two_parts element element_texts element_quotes 32 p a b (element_texts v) (flat_map element_texts es) e (element_quotes a (b ++ q) v h.0) (full_parts b q es more)
+
+pub listed_quotes : (rule : DashRule) → Quotes (listed rule) (λ es. flat_map element_texts es)
+listed_quotes rule p q es (inl (d, a, e)) = subst (λ (x : List ElementValue). AllByRecursion (λ t. IsPart p t) (flat_map element_texts x)) (sym e) tt
+listed_quotes rule p q es (inr (l, m)) = full_parts p q es m
+
+pub optional_listed_quotes : (rule : DashRule) → Quotes (optional (listed rule)) (λ es. flat_map element_texts (elements_or es))
+optional_listed_quotes rule p q None h = tt
+optional_listed_quotes rule p q (Some es) h = listed_quotes rule p q es h

@@ -73,7 +73,7 @@ name_char_is_no_close : (c : ℕ) → is_name_char c ≡ true → c ≡ 93 → �
 name_char_is_no_close c h e = let t = ap is_name_char e in let u : true ≡ false = sym h ∙ t in cc
 
 -- a nonempty run of such characters doesn't begin with a bracket
-run_no_close : (w q r : Text) → 0 < length w → Each is_name_char w → w ++ q ≡ 93 ∷ r → ⊥
+pub run_no_close : (w q r : Text) → 0 < length w → Each is_name_char w → w ++ q ≡ 93 ∷ r → ⊥
 run_no_close [] q r l h e = omega arith
 run_no_close (c ∷ w) q r l h e = name_char_is_no_close c h.0 (heads c 93 (w ++ q) r e)
 

@@ -1,15 +1,21 @@
 -- The list of RFC 3164: a text has one at its front, and has none exactly where neither of its two kinds begins.
-use Rattle.std.proofs.Common.{◌≡◌, ◌<◌, ◌↔◌, Some, inl, inr, List, [], ◌∷◌, ◌++◌, length, refl, sym, ap, ◌∙◌, append_assoc, arith}
-use Rattle.syslog_pieces.specs.Pieces.Class.{Text, Front, NoFront, IsDeterministic}
-use Rattle.syslog_pieces.specs.Pieces.Lists.{many}
-use Rattle.syslog_pieces.specs.StructuredData.{element}
+use Rattle.std.proofs.Common.{◌≡◌, ◌<◌, ◌↔◌, Bool, true, false, Option, Some, None, MatchOption, MatchBool, inl, inr, List, [], ◌∷◌, ◌++◌, length, map, refl, sym, ap, subst, ◌∙◌, append_assoc, arith}
+use Rattle.std.specs.Prelude.{is_some}
+use Rattle.syslog_pieces.specs.Bodies.Closing.{start_row, start, inside_row, opening_row, opening, closing}
+use Rattle.syslog_pieces.specs.Pieces.Class.{Text, Front, NoFront, IsDeterministic, optional, Values, Row, run, some_run, exactly, texted}
+use Rattle.syslog_pieces.specs.Pieces.Lists.{many, list_before}
+use Rattle.syslog_pieces.specs.StructuredData.{param, element_row, element}
 use Rattle.syslog_pieces.specs.StructuredData.Element.{ElementValue}
-use Rattle.syslog_pieces.specs.StructuredData.Listed.{full_element, IsDashBefore, BeginsNoList, listed}
-use Rattle.syslog_pieces.specs.Text.{dash}
+use Rattle.syslog_pieces.specs.StructuredData.Listed.{full_element, IsDashBefore, BeginsNoList, listed, ListsNoElements}
+use Rattle.syslog_pieces.specs.Text.{is_blank, dash}
+use Rattle.syslog_pieces.specs.Text.CharClass.{is_id_char, is_name_char}
 use Rattle.syslog_pieces.specs.declared.structured_data.listed.DashRule.{DashRule}
-use Rattle.syslog_pieces.proofs.PieceLemmas.Class.{behind}
-use Rattle.syslog_pieces.proofs.PieceLemmas.Lists.{many_det, many_cons, no_many_no}
-use Rattle.syslog_pieces.proofs.StructuredDataLemmas.Elements.{element_det, element_shorter, item_begins, dash_is_no_list}
+use Rattle.syslog_pieces.proofs.PieceLemmas.Class.{behind, front_same, optional_none, optional_some, row_det, row_nil, row_cons, row_head}
+use Rattle.syslog_pieces.proofs.PieceLemmas.Lists.{many_det, many_cons, many_none, no_many_no}
+use Rattle.syslog_pieces.proofs.PieceLemmas.Meets.{Meets}
+use Rattle.syslog_pieces.proofs.StructuredDataLemmas.Closing.{start_det, no_start, no_opening}
+use Rattle.syslog_pieces.proofs.StructuredDataLemmas.Elements.{element_det, element_shorter, item_begins, dash_is_no_list, run_no_close}
+use Rattle.syslog_pieces.proofs.StructuredDataLemmas.Walk.{element_enters}
 
 -- ---- elements with a parameter
 pub full_element_det : IsDeterministic full_element
@@ -66,3 +72,103 @@ begins_no_list rule t n = (
 
 pub no_list_is : (rule : DashRule) (t : Text) → NoFront (listed rule) t ↔ BeginsNoList rule t
 no_list_is rule t = (begins_no_list rule t, no_listed rule t)
+
+-- where each list is without elements, none with a parameter begins the text
+pub lists_none : (rule : DashRule) (t : Text) → ListsNoElements rule t → NoFront full_element t
+lists_none rule t n p q v e h = full_listed rule t q v (record { piece = p; whole = e; is = h }) (λ r es l f.
+    let z = n r (Some es) (optional_some (listed rule) f) in omega (arith, ap length z))
+
+-- whether one begins the text
+some_there : {X : Type 0} (r : Option X) (N : Type 0) (S : X → Type 0) → is_some r ≡ true → MatchOption r N S → (x : X) × S x
+some_there None N S e h = absurd (let t : false ≡ true = e in cc)
+some_there (Some x) N S e h = (x, h)
+
+none_there : {X : Type 0} (r : Option X) (N : Type 0) (S : X → Type 0) → is_some r ≡ false → MatchOption r N S → N
+none_there None N S e h = h
+none_there (Some x) N S e h = absurd (let t : true ≡ false = e in cc)
+
+module _ {X : Type 0} (rule : DashRule) (t : Text) (to : X → Text) (r : Option X)
+    (h : MatchOption r ((q : Text) → t ≡ 45 ∷ q → IsDashBefore rule q → ⊥) (λ x. (t ≡ 45 ∷ to x) × IsDashBefore rule (to x))) where
+  pub told_by_dash : (b : Bool) → b ≡ is_some r → b ≡ true → MatchBool b (NoFront (listed rule) t → ⊥) (NoFront (listed rule) t)
+  told_by_dash true e f = λ n. let (x, g) = some_there r _ _ (sym e) h in (begins_no_list rule t n).0 (to x) g.0 g.1
+  told_by_dash false e f = absurd (let k : false ≡ true = f in cc)
+
+  pub told_by_element : (b c : Bool) → c ≡ is_some r → c ≡ false → (s : Option X) → MatchOption s (NoFront full_element t) (λ x. (v : ElementValue) × Front full_element t (to x) v) → b ≡ is_some s
+      → MatchBool b (NoFront (listed rule) t → ⊥) (NoFront (listed rule) t)
+  told_by_element true c e f s k g = λ n. let (x, (v, u)) = some_there s _ _ (sym g) k in (begins_no_list rule t n).1 u.piece (to x) v u.whole u.is
+  told_by_element false c e f s k g = no_listed rule t (none_there r _ _ (sym e ∙ f) h, none_there s _ _ (sym g) k)
+
+pub nothing_seen : {X : Type 0} (view : X → ElementValue) (xs : List X) → length xs ≡ 0 → map view xs ≡ []
+nothing_seen view [] e = refl
+nothing_seen view (x ∷ xs) e = absurd (omega arith)
+
+-- no dash begins the text, and no element does
+pub list_absent : (rule : DashRule) (t q : Text) (es : List ElementValue) → ((r : Text) → t ≡ 45 ∷ r → IsDashBefore rule r → ⊥) → Front (many full_element) t q es → es ≡ [] → Front (optional (listed rule)) t t None
+list_absent rule t q es n f z =
+    optional_none (listed rule) (no_listed rule t (n, many_none full_element t q (subst (λ (x : List ElementValue). Front (many full_element) t q x) z f)))
+
+-- ---- collecting
+
+-- the element that was recognised is the one that was collected
+pub full_collected : (t q q' : Text) (v w : ElementValue) → Front full_element t q v → Front element t q' w → Front full_element t q w
+full_collected t q q' v w f g = subst (λ (x : ElementValue). Front full_element t q x) (front_same element element_det (full_is_element f) g).1 f
+
+-- ---- recognising an element with a parameter
+
+-- the start of an element, and the parameters behind it
+element_inside : (t q : Text) (v : ElementValue) → Front element t q v → (u : Text) × (vs : Values start_row) × Front start t u vs × (r : Text) × Front (list_before param 32 93) u r v.params
+element_inside t q v f =
+    let row : Front (Row element_row) t q f.is.0 = record { piece = f.piece; whole = f.whole; is = f.is.1 } in
+    let a = row_head (exactly (91 ∷ [])) (texted (some_run is_id_char) ∷ run is_blank ∷ inside_row) row in
+    let b = row_head (texted (some_run is_id_char)) (run is_blank ∷ inside_row) a.2 in
+    let c = row_head (run is_blank) inside_row b.2 in
+    let d = row_head (list_before param 32 93) (exactly (93 ∷ []) ∷ []) c.2 in (
+      c.0,
+      (tt, (f.is.0.1.0, (tt, tt))),
+      row_cons (exactly (91 ∷ [])) (texted (some_run is_id_char) ∷ run is_blank ∷ []) a.1
+          (row_cons (texted (some_run is_id_char)) (run is_blank ∷ []) b.1
+          (row_cons (run is_blank) [] c.1 (row_nil c.0))),
+      d.0,
+      subst (λ (x : ElementValue). Front (list_before param 32 93) c.0 d.0 x.params) (sym f.is.2) d.1,
+    )
+
+-- the same behind a known start
+element_params : (t u q : Text) (vs : Values start_row) (v : ElementValue) → Front start t u vs → Front element t q v → (r : Text) × Front (list_before param 32 93) u r v.params
+element_params t u q vs v f g =
+    let (w, ws, h, r, l) = element_inside t q v g in
+    (r, subst (λ (x : Text). Front (list_before param 32 93) x r v.params) (front_same start (row_det start_row start_det) h f).0 l)
+
+some_params : (t r : Text) (ps : List (Text × Text)) → NoFront (exactly (93 ∷ [])) t → Front (list_before param 32 93) t r ps → 0 < length ps
+some_params t r [] n f = absurd (n (93 ∷ []) f.is.1.0 tt (f.whole ∙ ap (λ (x : Text). x ++ r) f.is.0 ∙ f.is.1.1) refl)
+some_params t r (p ∷ ps) n f = omega arith
+
+first_param : (t r : Text) (ps : List (Text × Text)) → NoFront param t → 0 < length ps → Front (list_before param 32 93) t r ps → ⊥
+first_param t r [] n l f = omega arith
+first_param t r (p ∷ ps) n l f = let (a, b, i, k, more) = f.is.0 in n a (b ++ r) p (f.whole ∙ behind f.piece a b r i) k
+
+-- no parameter begins with a bracket
+opening_open : (t u : Text) (ws : Values opening_row) → Front opening t u ws → NoFront (exactly (93 ∷ [])) t
+opening_open t u ws f p q v e h =
+    let a = row_head (texted (some_run is_name_char)) (exactly (61 ∷ []) ∷ run is_blank ∷ exactly (34 ∷ []) ∷ []) f in
+    run_no_close a.1.piece a.0 q a.1.is.1.0 a.1.is.1.1 (sym a.1.whole ∙ e ∙ ap (λ (x : Text). x ++ q) h)
+
+pub no_full_start : (t : Text) → NoFront start t → NoFront full_element t
+no_full_start t n p q v e h = no_start t n p q v e h.0
+
+module _ (t u : Text) (vs : Values start_row) (f : Front start t u vs) where
+  pub no_full_opening : NoFront opening u → NoFront full_element t
+  no_full_opening n p q v e h =
+      let (r, l) = element_params t u q vs v f (record { piece = p; whole = e; is = h.0 }) in
+      first_param u r v.params (no_opening u n) h.1 l
+
+  pub full_goes : (x : Text) (ws : Values opening_row) → Front opening u x ws → Meets full_element t closing x
+  full_goes x ws g =
+      let n = opening_open u x ws g in
+      let m = (element_enters t u vs f x ws n g).1 in
+      record {
+        forth = λ q v h. (
+            let k = m.forth q v h in
+            let (r, l) = element_params t u q vs k.0 f k.1 in
+            (k.0, record { piece = k.1.piece; whole = k.1.whole; is = (k.1.is, some_params u r k.0.params n l) }));
+        back = λ q w h. m.back q w (full_is_element h);
+      }

@@ -1,6 +1,7 @@
 -- The steps of the walk over an element.
-use Rattle.std.proofs.Common.{◌≡◌, ◌≢◌, ℕ, ◌<◌, ◌≤◌, true, false, [], ◌∷◌, ◌++◌, length, refl, sym, ap, subst, ◌∙◌, append_assoc, arith}
+use Rattle.std.proofs.Common.{◌≡◌, ◌≢◌, ℕ, ◌<◌, ◌≤◌, true, false, [], ◌∷◌, ◌++◌, length, Result, Ok, Err, refl, sym, ap, subst, ◌∙◌, append_assoc, arith}
 use Rattle.std.proofs.lemmas.List.{length-append, nil_from_length}
+use Rattle.std.specs.Result.{MatchResult}
 use Rattle.std.specs.Str.{chars}
 use Rattle.syslog_pieces.specs.Text.CharClass.{is_inert_char}
 use Rattle.syslog_pieces.specs.Pieces.Class.{Text, Class, Front, NoFront, IsDeterministic, Values, Row, Each, exactly}
@@ -11,7 +12,7 @@ use Rattle.syslog_pieces.specs.Pieces.Lists.{list_before, more_before}
 use Rattle.syslog_pieces.specs.Bodies.Scan.{SplitsRun}
 use Rattle.syslog_pieces.specs.StructuredData.{IsValueUnit, value, param, element}
 use Rattle.syslog_pieces.proofs.PieceLemmas.Class.{heads, row_nil, row_cons, row_none_here, row_none_later, row_det, exactly_det}
-use Rattle.syslog_pieces.proofs.StructuredDataLemmas.Closing.{behind_bracket, value_closing, no_closing, dead_values, element_starts, list_enters, tail_enters, no_opening, Passes, passes_here, passes_shut, passes_space, passes_quoted, passes_dead, start_shut, opening_shut}
+use Rattle.syslog_pieces.proofs.StructuredDataLemmas.Closing.{behind_bracket, value_closing, no_closing, dead_values, element_starts, list_enters, tail_enters, no_opening, Passes, passes_here, passes_shut, passes_space, passes_quoted, passes_dead, passes_dead_on, start_shut, opening_shut}
 use Rattle.syslog_pieces.proofs.StructuredDataLemmas.Elements.{value_det, value_here, unit_goes}
 use Rattle.syslog_pieces.proofs.PieceLemmas.Lists.{begins, list_here, more_here, no_list, no_more, no_more_behind}
 use Rattle.syslog_pieces.proofs.PieceLemmas.Meets.{Meets, meets_here, meets_on, meets_none, row_goes}
@@ -93,6 +94,10 @@ quoted_det = row_det quoted_row (value_det, (exactly_det (34 ∷ []), tt))
 front_shorter : (C : Class) (t q : Text) (v : C.Value) → Front C t q v → length q ≤ length t
 front_shorter C t q v f = omega (arith, ap length f.whole, length-append f.piece q)
 
+-- up to the first value of an element
+pub opened_passes : (C : Class) (text params x : Text) (vs : Values start_row) (ws : Values opening_row) → Front start text params vs → Front opening params x ws → Passes C text x
+opened_passes C text params x vs ws f g = passes_shut C opening opening_shut text params x ws (passes_shut C start start_shut text text params vs (passes_here C text) f) g
+
 module _ (text params : Text) (vs : Values start_row) (f : Front start text params vs) where
   pub element_bare : (q : Text) → Front (exactly (93 ∷ [])) params q tt → (v : ElementValue) × Front element text q v
   element_bare q g = (element_starts text params vs f).forth q ([], (tt, tt))
@@ -102,33 +107,41 @@ module _ (text params : Text) (vs : Values start_row) (f : Front start text para
   element_unopened n m = meets_none element text inside params (element_starts text params vs f)
       (row_none_here (list_before param 32 93) (exactly (93 ∷ []) ∷ []) (no_list param 32 93 params n (no_opening params m)))
 
-  pub element_enters : (x : Text) (ws : Values opening_row) → NoFront (exactly (93 ∷ [])) params → Front opening params x ws → Passes text x × Meets element text closing x
+  pub element_enters : (x : Text) (ws : Values opening_row) → NoFront (exactly (93 ∷ [])) params → Front opening params x ws → Passes element text x × Meets element text closing x
   element_enters x ws n g = (
-    passes_shut opening opening_shut text params x ws (passes_shut start start_shut text text params vs (passes_here text) f) g,
+    opened_passes element text params x vs ws f g,
     meets_on element text inside params closing x (element_starts text params vs f) (list_enters params x ws n g),
   )
 
-module _ (text x y : Text) (p : Passes text x) (m : Meets element text closing x) (vs : Values quoted_row) (f : Front quoted x y vs) where
-  pub element_ends : (q : Text) → Front (exactly (93 ∷ [])) y q tt → (v : ElementValue) × Front element text q v
-  element_ends q g = m.forth q (vs, ([], (tt, tt)))
+-- from inside a value, in a class whose pieces go on from there
+module _ (C : Class) (text x y : Text) (p : Passes C text x) (m : Meets C text closing x) (vs : Values quoted_row) (f : Front quoted x y vs) where
+  pub value_ends : (q : Text) → Front (exactly (93 ∷ [])) y q tt → (v : C.Value) × Front C text q v
+  value_ends q g = m.forth q (vs, ([], (tt, tt)))
       (row_cons quoted tail_row f (row_cons (more_before param 32 93) (exactly (93 ∷ []) ∷ []) (more_here param 32 93 y q (begins 93 y q g)) (row_cons (exactly (93 ∷ [])) [] g (row_nil q))))
 
-  fails : NoFront (more_before param 32 93) y → (d : ℕ) → d ≡ byte_count y → NoFront element text × IsDead text d
+  fails : NoFront (more_before param 32 93) y → (d : ℕ) → d ≡ byte_count y → NoFront C text × IsDead text d
   fails n d e =
-      let k = meets_none element text closing x m (row_none_later quoted tail_row quoted_det f (row_none_here (more_before param 32 93) (exactly (93 ∷ []) ∷ []) n)) in
-      (k, passes_dead text y d e (passes_quoted text x y vs p m f) k)
+      let k = meets_none C text closing x m (row_none_later quoted tail_row quoted_det f (row_none_here (more_before param 32 93) (exactly (93 ∷ []) ∷ []) n)) in
+      (k, passes_dead C text y d e (passes_quoted C text x y vs p m f) k)
 
-  pub element_breaks : NoFront (exactly (93 ∷ [])) y → NoFront (exactly (32 ∷ [])) y → (d : ℕ) → d ≡ byte_count y → NoFront element text × IsDead text d
-  element_breaks a b = fails (no_more param 32 93 y a b)
+  pub value_breaks : NoFront (exactly (93 ∷ [])) y → NoFront (exactly (32 ∷ [])) y → (d : ℕ) → d ≡ byte_count y → NoFront C text × IsDead text d
+  value_breaks a b = fails (no_more param 32 93 y a b)
 
-  pub element_breaks_on : (z : Text) → NoFront (exactly (93 ∷ [])) y → Front (exactly (32 ∷ [])) y z tt → NoFront opening z → (d : ℕ) → d ≡ byte_count y → NoFront element text × IsDead text d
-  element_breaks_on z a g n = fails (no_more_behind param 32 93 y z a (begins 32 y z g) (no_opening z n))
+  pub value_breaks_on : (z : Text) → NoFront (exactly (93 ∷ [])) y → Front (exactly (32 ∷ [])) y z tt → NoFront opening z → (d : ℕ) → d ≡ byte_count y → NoFront C text × IsDead text d
+  value_breaks_on z a g n = fails (no_more_behind param 32 93 y z a (begins 32 y z g) (no_opening z n))
 
-  pub element_goes : (z r : Text) (ws : Values opening_row) → Front (exactly (32 ∷ [])) y z tt → Front opening z r ws → Passes text r × Meets element text closing r
-  element_goes z r ws g o = (
-    passes_shut opening opening_shut text z r ws (passes_space text y z (passes_quoted text x y vs p m f) (begins 32 y z g)) o,
-    meets_on element text closing x closing r m (meets_on closing x (Row tail_row) y closing r (row_goes quoted tail_row quoted_det x y vs f) (tail_enters y z r ws (begins 32 y z g) o)),
+  pub value_goes : (z r : Text) (ws : Values opening_row) → Front (exactly (32 ∷ [])) y z tt → Front opening z r ws → Passes C text r × Meets C text closing r
+  value_goes z r ws g o = (
+    passes_shut C opening opening_shut text z r ws (passes_space C text y z (passes_quoted C text x y vs p m f) (begins 32 y z g)) o,
+    meets_on C text closing x closing r m (meets_on closing x (Row tail_row) y closing r (row_goes quoted tail_row quoted_det x y vs f) (tail_enters y z r ws (begins 32 y z g) o)),
   )
 
-  pub element_shorter : (z r : Text) (ws : Values opening_row) → Front (exactly (32 ∷ [])) y z tt → Front opening z r ws → length r < length x
-  element_shorter z r ws g o = omega (arith, front_shorter quoted x y vs f, front_shorter opening z r ws o, ap length (begins 32 y z g))
+  pub value_shorter : (z r : Text) (ws : Values opening_row) → Front (exactly (32 ∷ [])) y z tt → Front opening z r ws → length r < length x
+  value_shorter z r ws g o = omega (arith, front_shorter quoted x y vs f, front_shorter opening z r ws o, ap length (begins 32 y z g))
+
+-- what the scan from inside a value answers, of the text whose element it is in
+pub closing_answers : {X : Type 0} (C : Class) (text x : Text) → Passes C text x → Meets C text closing x → (to : X → Text) (r : Result X ℕ)
+    → MatchResult r (λ q. (v : closing.Value) × Front closing x (to q) v) (λ d. NoFront closing x × IsDead x d)
+    → MatchResult r (λ q. (v : C.Value) × Front C text (to q) v) (λ d. NoFront C text × IsDead text d)
+closing_answers C text x p m to (Ok q) (v, f) = m.forth (to q) v f
+closing_answers C text x p m to (Err d) (n, i) = let k = meets_none C text closing x m n in (k, passes_dead_on C text x d p k i)

@@ -14,6 +14,10 @@ shown s = chars s.now
 abbrev pub seen : Option (Bor (List ℕ)) → Option Text
 seen s = option_map (λ t. shown t) s
 
+-- the same of a field that may be not there, or there and empty
+abbrev pub field_seen : Option (Option (Bor (List ℕ))) → Option (Option Text)
+field_seen field = option_map (λ s. seen s) field
+
 -- the text of a value, of which AsStr gives the bytes
 abbrev pub text_of : {S : Type 0} → (S → List ℕ) → S → Text
 text_of bytes s = chars (bytes s)

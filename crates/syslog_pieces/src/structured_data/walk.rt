@@ -10,6 +10,7 @@ ghost use Rattle.syslog_pieces.specs.Text.CharClass.{has};
 ghost use Rattle.syslog_pieces.specs.Pieces.Class.{Class, Front, NoFront, exactly, some_run, texted};
 ghost use Rattle.syslog_pieces.specs.Bodies.Closing.{start as start_class, opening as opening_class, quoted as quoted_class, id_alone, name_alone, closing, byte_count, IsDead, last_char};
 ghost use Rattle.syslog_pieces.specs.StructuredData.Escapes.{TextUnit, unit_text};
+ghost use Rattle.syslog_pieces.specs.StructuredData.Listed.{full_element};
 ghost use Rattle.syslog_pieces.specs.StructuredData.{value, element as element_class, bracketed as bracketed_class, IsValueUnit};
 ghost use Rattle.syslog_pieces.specs.Pieces.View.{shown, Reads, Recognises};
 
@@ -90,6 +91,31 @@ pub(super) fn live_value(text: &str, dead: usize) -> Result<&str, usize>
     }
 }
 
+// The text behind the element from inside one of whose values this text is; after a refusal a number as that of
+// `live_value`.
+#[inline(always)]
+pub(super) fn live_closing(text: &str, dead: usize) -> Result<&str, usize>
+    requires { IsDead (chars text.now) dead }
+    ensures { MatchResult result
+        (λ behind. (v : closing.Value) × Front closing (chars text.now) (shown behind) v)
+        (λ d. NoFront closing (chars text.now) × IsDead (chars text.now) d) }
+{
+    let mut rest = text;
+    'params: loop {
+        let behind = live_value(rest, dead)?;
+        if let Some(end) = literal(behind, ']') {
+            return Ok(end);
+        }
+        let Some(next) = literal(behind, ' ') else {
+            return Err(behind.len());
+        };
+        let Some((_, value)) = opening(next) else {
+            return Err(behind.len());
+        };
+        rest = value;
+    }
+}
+
 // The text behind the strict element at the front; after a refusal a number as that of `live_value`.
 #[inline(always)]
 pub(super) fn live_element(text: &str, dead: usize) -> Result<&str, usize>
@@ -107,20 +133,16 @@ pub(super) fn live_element(text: &str, dead: usize) -> Result<&str, usize>
     let Some((_, value)) = opening(inside) else {
         return Err(dead);
     };
-    let mut rest = value;
-    'params: loop {
-        let behind = live_value(rest, dead)?;
-        if let Some(end) = literal(behind, ']') {
-            return Ok(end);
-        }
-        let Some(next) = literal(behind, ' ') else {
-            return Err(behind.len());
-        };
-        let Some((_, value)) = opening(next) else {
-            return Err(behind.len());
-        };
-        rest = value;
-    }
+    live_closing(value, dead)
+}
+
+// The text behind the strict element at the front, where that has a parameter.
+pub(super) fn after_full_element(text: &str) -> Option<&str>
+    ensures { Recognises full_element (chars text.now) result }
+{
+    let (_, inside) = start(text)?;
+    let (_, value) = opening(inside)?;
+    live_closing(value, value.len()).ok()
 }
 
 /// The text behind the strict element at the front. Takes no memory.

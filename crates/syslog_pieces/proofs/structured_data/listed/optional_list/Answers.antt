@@ -1,0 +1,24 @@
+use Rattle.std.proofs.Common.{rules, ◌≡◌, ℕ, Bool, true, false, Some, List, length, map, sym, ap, subst}
+use Rattle.std.specs.Borrow.{Bor}
+use Rattle.std.specs.Str.{chars}
+use Rattle.syslog_pieces.specs.Pieces.Class.{Front, optional}
+use Rattle.syslog_pieces.specs.StructuredData.Element.{ElementValue, element_value}
+use Rattle.syslog_pieces.specs.StructuredData.Listed.{listed}
+use Rattle.syslog_pieces.specs.Pieces.View.{shown}
+use Rattle.syslog_pieces.proofs.PieceLemmas.Class.{optional_some}
+use Rattle.syslog_pieces.proofs.StructuredDataLemmas.Listed.{dash_listed, lists_none, nothing_seen, list_absent}
+use Rattle.syslog_pieces.proofs.structured_data.listed.optional_list.Goals as goal
+
+pub returns-in-Some-clause-list : goal.returns-in-Some-clause-list
+returns-in-Some-clause-list c =
+    subst (λ (x : List ElementValue). Front (optional (listed c.args.rule)) (chars c.args.text.now) (chars c.in-Some.rest.now) (Some x)) (sym (ap (map (element_value (λ (s : Bor (List ℕ)). shown s))) c.new.ensures.items))
+    (optional_some (listed c.args.rule) (dash_listed c.args.rule (chars c.args.text.now) (chars c.in-Some.rest.now) c.in-Some.ensures.0 c.in-Some.ensures.1))
+
+pub returns-in_err-elements-clause-memory : goal.returns-in_err-elements-clause-memory
+returns-in_err-elements-clause-memory c n =
+    let asked : ◌≡◌ {A = Bool} false true = c.in_err-elements.ensures.memory (lists_none c.args.rule (chars c.args.text.now) n) in absurd (cc)
+
+pub returns-then-is_empty-clause-list : goal.returns-then-is_empty-clause-list
+returns-then-is_empty-clause-list c =
+    let none : length c.in_ok-elements.elements.items ≡ 0 = search rules in
+    list_absent c.args.rule (chars c.args.text.now) _ _ c.in_default.ensures c.in_ok-elements.ensures.elements (nothing_seen (element_value (λ (s : Bor (List ℕ)). shown s)) c.in_ok-elements.elements.items none)
