@@ -2,15 +2,15 @@
 use std::alloc::AllocError;
 use thiserror::Error;
 
-/// Why a text gave no message.
+/// Why a text gave no message. The number is the discriminant.
 #[derive(Clone, Copy, Debug, PartialEq, Eq, Error)]
 pub enum ParseFault {
     /// The text has no division by the protocol that was asked for.
     #[error("unable to parse input as valid syslog message")]
-    Invalid,
+    Invalid = 1,
     /// A request for memory was refused.
     #[error("out of memory")]
-    Memory,
+    Memory = 2,
 }
 
 impl From<AllocError> for ParseFault {

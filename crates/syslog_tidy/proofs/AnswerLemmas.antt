@@ -1,9 +1,9 @@
 -- Answers to several lines, one after the other.
-use Rattle.std.proofs.Common.{◌≡◌, ℕ, ℤ, ◌+◌, ◌<◌, cond, List, [], ◌∷◌, ◌++◌, length, length-append, Option, Some, None, Bool, true, false, eqb, Result, Ok, Err, OnOk, OnErr, IfErr, IsErrAnd, refl, sym, ap, ◌∙◌, subst, arith, append_assoc, append-nil, add_assoc, add-zero}
+use Rattle.std.proofs.Common.{◌≡◌, ℕ, ℤ, ◌+◌, ◌<◌, cond, List, [], ◌∷◌, ◌++◌, length, length-append, Option, Some, None, Bool, true, false, eqb, Result, Ok, Err, OnErr, IfErr, IsErrAnd, refl, sym, ap, ◌∙◌, subst, arith, append_assoc, append-nil, add_assoc, add-zero}
 use Rattle.std.specs.Prelude.{IsUtf8, encode_utf8_all, count_by, is_none}
 use Rattle.std.specs.Str.{chars}
 use Rattle.std.proofs.lemmas.Bool.{eqb-true}
-use Rattle.std.proofs.lemmas.List.{take_all, take_at, nil_from_length}
+use Rattle.std.proofs.lemmas.List.{nil_from_length}
 use Rattle.std.proofs.lemmas.List.Sums.{sum_by-append}
 use Rattle.std.proofs.lemmas.Slice.Zip.{all_zipped_more}
 use Rattle.std.proofs.lemmas.List.Concat.{flat_map-append}
@@ -13,7 +13,7 @@ use Rattle.syslog_loose.specs.Reading.{IsRead}
 use Rattle.syslog_loose.specs.declared.reading.Variant.TheVariants.{Either}
 use Rattle.syslog_tidy.specs.declared.summary.Summary.{Summary}
 use Rattle.syslog_tidy.specs.Lines.{IsLines, IsFirstLine}
-use Rattle.syslog_tidy.specs.Output.{AddsAnswer, AnswersAll, AnswersFirst, AreAnswers, Counts, IsAnswer, answer_bytes, held_count, output_of}
+use Rattle.syslog_tidy.specs.Output.{AddsAnswer, AnswersAll, AnswersBefore, AreAnswers, Counts, IsAnswer, IsReadable, answer_bytes, held_count, output_of}
 use Rattle.syslog_tidy.proofs.LineLemmas.{IsLines-cons, IsLines-nil, some_lines}
 
 -- one line more was counted, and was refused or not
@@ -90,16 +90,19 @@ AnswersAll-end year y bytes rest old new was is same none so_far =
       counted = before.counted;
     }
 
--- the lines that are left have no answer, and nothing was added for them
-pub AnswersFirst-end : (year y : ℤ) (bytes rest old mid new : List ℕ) (was is : Summary) → y ≡ year → new ≡ mid → AnswersSoFar y bytes rest old mid was is → AnswersFirst year bytes old new
-AnswersFirst-end year y bytes rest old mid new was is same kept so_far =
+-- the next line has no answer, and nothing was added for it
+pub AnswersBefore-end : (year y : ℤ) (bytes rest line after old mid new : List ℕ) (was is : Summary) → y ≡ year → 0 < length rest → IsFirstLine rest line after → IsReadable line → new ≡ mid
+    → AnswersSoFar y bytes rest old mid was is → AnswersBefore year bytes old new
+AnswersBefore-end year y bytes rest line after old mid new was is same some first readable kept so_far =
     let before = subst (λ (z : ℤ). AnswersSoFar z bytes rest old mid was is) same so_far in
-    let left = some_lines rest in record {
-      lines = before.lines ++ left.0;
-      count = length before.lines;
+    let left = some_lines after in record {
+      before = before.lines;
+      line = line;
+      after = left.0;
+      cut = before.goes_on (line ∷ left.0) (IsLines-cons rest line after left.0 some first left.1);
+      readable = readable;
       answers = before.answers;
-      cut = before.goes_on left.0 left.1;
-      answered = subst (λ (l : List (List ℕ)). AreAnswers year l before.answers) (sym (take_at before.lines left.0 (length before.lines) refl)) before.answered;
+      answered = before.answered;
       added = kept ∙ before.added;
     }
 
@@ -114,21 +117,6 @@ some_left (byte ∷ rest) empty is not_empty = omega arith
 
 pub none_left : (rest : List ℕ) (empty : Bool) → empty ≡ eqb (length rest) 0 → empty ≡ true → length rest ≡ 0
 none_left rest empty is is_empty = eqb-true (length rest) 0 (sym is ∙ is_empty)
-
--- all answers are also those to the first lines
-pub AnswersFirst-all : (year : ℤ) (bytes old new : List ℕ) (was is : Summary) → AnswersAll year bytes old new was is → AnswersFirst year bytes old new
-AnswersFirst-all year bytes old new was is all = record {
-  lines = all.lines;
-  count = length all.lines;
-  answers = all.answers;
-  cut = all.cut;
-  answered = subst (λ (l : List (List ℕ)). AreAnswers year l all.answers) (sym (take_all (length all.lines) all.lines (omega arith))) all.answered;
-  added = all.added;
-}
-
-pub AnswersFirst-either : {X E : Type 0} (r : Result X E) (year : ℤ) (bytes old new : List ℕ) (was is : Summary) → OnOk r (AnswersAll year bytes old new was is) → OnErr r (AnswersFirst year bytes old new) → AnswersFirst year bytes old new
-AnswersFirst-either (Ok x) year bytes old new was is all first = AnswersFirst-all year bytes old new was is all
-AnswersFirst-either (Err e) year bytes old new was is all first = first
 
 -- an error that was passed on by `?`
 pub IfErr-passed : {X E : Type 0} (r : Result X E) (e : E) (P : E → Type 0) → IsErrAnd r (λ y. y ≡ e) → P e → IfErr r P

@@ -29,7 +29,7 @@ only_nil [] cut = refl
 only_nil (line ∷ lines) (free, inl joined) = absurd (omega (arith, simp length-append at (ap length joined)))
 only_nil (line ∷ lines) (free, inr lacks) = absurd (omega (arith, lacks.some, simp length-append at (ap length lacks.joined)))
 
-with_feeds-append : (xs ys : List (List ℕ)) → with_feeds (xs ++ ys) ≡ with_feeds xs ++ with_feeds ys
+pub with_feeds-append : (xs ys : List (List ℕ)) → with_feeds (xs ++ ys) ≡ with_feeds xs ++ with_feeds ys
 with_feeds-append [] ys = refl
 with_feeds-append (x ∷ xs) ys = ap (λ (l : List ℕ). x ++ 10 ∷ l) (with_feeds-append xs ys) ∙ sym (append_assoc x (10 ∷ with_feeds xs) (with_feeds ys))
 
@@ -44,7 +44,7 @@ lacks_after xs ys lines more joined lacks = record {
 }
 
 -- lines whose bytes end in a line feed, and more lines after them
-lines_after : (xs ys : List ℕ) (lines more : List (List ℕ)) → All NoFeed lines → xs ≡ with_feeds lines → IsLines ys more → IsLines (xs ++ ys) (lines ++ more)
+pub lines_after : (xs ys : List ℕ) (lines more : List (List ℕ)) → All NoFeed lines → xs ≡ with_feeds lines → IsLines ys more → IsLines (xs ++ ys) (lines ++ more)
 lines_after xs ys lines more free joined (rest, inl same) = (All-append NoFeed lines more free rest, inl (rw (joined, same) (sym (with_feeds-append lines more))))
 lines_after xs ys lines more free joined (rest, inr lacks) = (All-append NoFeed lines more free rest, inr (lacks_after xs ys lines more joined lacks))
 
@@ -79,10 +79,10 @@ last_is_free bytes lines closed free lacks =
     ap₂ (λ (l : List ℕ) (k : ℕ). get_or l k 0) lacks.joined place ∙ get_or-append-add front lacks.last (length lacks.last - 1) 0 in
     last_free (length lacks.last - 1) 0 (omega (arith, lacks.some)) (sym byte ∙ closed (omega (arith, lacks.some)))
 
--- the lines of bytes that end in a line feed, and of what follows them
-pub IsLines-append : (xs ys : List ℕ) (lines more : List (List ℕ)) → EndsInFeed xs → IsLines xs lines → IsLines ys more → IsLines (xs ++ ys) (lines ++ more)
-IsLines-append xs ys lines more closed (free, inl joined) cut = lines_after xs ys lines more free joined cut
-IsLines-append xs ys lines more closed (free, inr lacks) cut = absurd (last_is_free xs lines closed free lacks)
+-- bytes that end in a line feed are their lines, each with one
+pub closed_lines : (bytes : List ℕ) (lines : List (List ℕ)) → EndsInFeed bytes → IsLines bytes lines → All NoFeed lines × (bytes ≡ with_feeds lines)
+closed_lines bytes lines closed (free, inl joined) = (free, joined)
+closed_lines bytes lines closed (free, inr lacks) = absurd (last_is_free bytes lines closed free lacks)
 
 -- ---- all bytes have lines
 

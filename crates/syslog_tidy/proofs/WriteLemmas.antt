@@ -1,10 +1,12 @@
 -- Bytes that are written in several steps.
-use Rattle.std.proofs.Common.{◌≡◌, ℕ, ℤ, Bool, true, subst, ◌-◌, ◌≤◌, List, [], ◌++◌, length, length-drop, take, drop, Option, sym, ◌∙◌, ap, append_assoc, arith, refl}
+use Rattle.std.proofs.Common.{◌≡◌, ℕ, ℤ, Bool, true, subst, ◌-◌, ◌≤◌, List, [], ◌∷◌, ◌++◌, length, length-drop, take, drop, Option, Result, Ok, Err, OnOk, OnErr, sym, ◌∙◌, ap, append_assoc, append-nil, arith, refl}
 use Rattle.std.proofs.KnownBytes.{Appends-kept, Appends-trans}
 use Rattle.std.proofs.lemmas.List.{take_all, take_at, take-append-drop}
 use Rattle.std.specs.Io.KnownBytes.{Appends, Keeps}
-use Rattle.syslog_tidy.specs.Output.{AnswersFirst}
-use Rattle.syslog_tidy.specs.Write.{WritesFirst}
+use Rattle.syslog_tidy.specs.Lines.{IsLines}
+use Rattle.syslog_tidy.specs.Output.{AnswersAll, AnswersBefore}
+use Rattle.syslog_tidy.specs.Write.{WritesFirst, WroteCut}
+use Rattle.syslog_tidy.specs.declared.summary.Summary.{Summary}
 use Rattle.syslog_tidy.specs.declared.summary.RunFault.{RunFault}
 use Rattle.syslog_tidy.specs.declared.summary.RunFault.TheVariants.{Write}
 
@@ -29,9 +31,41 @@ pub WroteSoFar-front : (old mid new : Option (List ℕ)) (bytes rest : List ℕ)
 WroteSoFar-front old mid new bytes rest so_far kept =
     (length so_far.written, rw (← so_far.whole, take_at so_far.written rest (length so_far.written) refl) (Appends-kept old mid new so_far.written so_far.appended kept))
 
--- the write of the output failed
-pub WritesFirst-cut : (year y : ℤ) (bytes cleared output : List ℕ) (held holds : Option (List ℕ)) (failed : Bool) (fault : RunFault) → y ≡ year → cleared ≡ [] → AnswersFirst y bytes cleared output
-    → (fault ≡ Write) × (failed ≡ true) → (size : ℕ) × Appends held holds (take size output) → WritesFirst year bytes held holds failed fault
-WritesFirst-cut year y bytes cleared output held holds failed fault same empty first failure wrote =
-    let here : AnswersFirst year bytes [] output = subst (λ (z : ℤ). AnswersFirst z bytes [] output) same (subst (λ (l : List ℕ). AnswersFirst y bytes l output) empty first) in
-    subst (WritesFirst year bytes held holds failed) (sym failure.0) (failure.1, output, wrote.0, here, wrote.1)
+-- the write of the output failed, whether all lines were answered or those before a readable one
+WroteCut-either : {X E : Type 0} (r : Result X E) (year : ℤ) (bytes output : List ℕ) (was is : Summary) (held holds : Option (List ℕ)) → OnOk r (AnswersAll year bytes [] output was is) → OnErr r (AnswersBefore year bytes [] output)
+    → (size : ℕ) × Appends held holds (take size output) → (lines : List (List ℕ)) × IsLines bytes lines × WroteCut year lines held holds
+WroteCut-either (Ok x) year bytes output was is held holds all first wrote = (
+  all.lines,
+  all.cut,
+  record {
+    before = all.lines;
+    after = [];
+    listed = sym (append-nil all.lines);
+    answers = all.answers;
+    answered = all.answered;
+    size = wrote.0;
+    written = subst (λ (l : List ℕ). Appends held holds (take wrote.0 l)) all.added wrote.1;
+  },
+)
+WroteCut-either (Err e) year bytes output was is held holds all first wrote = (
+  first.before ++ first.line ∷ first.after,
+  first.cut,
+  record {
+    before = first.before;
+    after = first.line ∷ first.after;
+    listed = refl;
+    answers = first.answers;
+    answered = first.answered;
+    size = wrote.0;
+    written = subst (λ (l : List ℕ). Appends held holds (take wrote.0 l)) first.added wrote.1;
+  },
+)
+
+pub WritesFirst-cut : {X E : Type 0} (r : Result X E) (year y : ℤ) (bytes cleared output : List ℕ) (was is : Summary) (held holds : Option (List ℕ)) (failed : Bool) (fault : RunFault) → y ≡ year → cleared ≡ []
+    → OnOk r (AnswersAll y bytes cleared output was is) → OnErr r (AnswersBefore y bytes cleared output) → (fault ≡ Write) × (failed ≡ true) → (size : ℕ) × Appends held holds (take size output)
+    → WritesFirst year bytes held holds failed fault
+WritesFirst-cut r year y bytes cleared output was is held holds failed fault same empty all first failure wrote =
+    let all_here : OnOk r (AnswersAll y bytes [] output was is) = subst (λ (l : List ℕ). OnOk r (AnswersAll y bytes l output was is)) empty all in
+    let first_here : OnErr r (AnswersBefore y bytes [] output) = subst (λ (l : List ℕ). OnErr r (AnswersBefore y bytes l output)) empty first in
+    let cut = WroteCut-either r y bytes output was is held holds all_here first_here wrote in
+    subst (WritesFirst year bytes held holds failed) (sym failure.0) (failure.1, (cut.0, cut.1, subst (λ (z : ℤ). WroteCut z cut.0 held holds) same cut.2))

@@ -1,5 +1,5 @@
 -- What the filter answers to lines, and the bytes that it writes: this project's own choice.
-use Rattle.std.specs.Prelude.{◌≡◌, ◌+◌, ◌-◌, ◌^◌, min, ℕ, ℤ, List, [], ◌∷◌, ◌++◌, Option, Some, None, take, length, count_by, is_none, IsUtf8, encode_utf8_all}
+use Rattle.std.specs.Prelude.{◌≡◌, ◌+◌, ◌-◌, ◌^◌, min, ℕ, ℤ, List, [], ◌∷◌, ◌++◌, Option, Some, None, length, count_by, is_none, IsUtf8, encode_utf8_all}
 use Rattle.std.specs.List.{AllZip, flat_map}
 use Rattle.std.specs.Str.{chars}
 use Rattle.syslog_loose.specs.Message.{MessageValue}
@@ -13,6 +13,10 @@ use Rattle.syslog_tidy.specs.Lines.{IsLines}
 abbrev pub IsAnswer : ℤ → List ℕ → Option (List ℕ) → Type 0
 IsAnswer year line (Some text) = IsUtf8 line × ((m : MessageValue) × IsRead Either (chars line) m × (text ≡ printed m))
 IsAnswer year line None = IsUtf8 line → IsUnreadable Either (chars line)
+
+-- the line is UTF-8, and isn't one that has no reading
+abbrev pub IsReadable : List ℕ → Type 0
+IsReadable line = IsUtf8 line × (¬ (IsUnreadable Either (chars line)))
 
 -- each line's answer, in order
 abbrev pub AreAnswers : ℤ → List (List ℕ) → List (Option (List ℕ)) → Type 0
@@ -55,11 +59,13 @@ pub record AnswersAll (year : ℤ) (bytes old new : List ℕ) (was is : Summary)
   pub added : new ≡ old ++ output_of answers
   pub counted : Counts was is answers
 
--- the first lines of the bytes were answered, and their output added
-pub record AnswersFirst (year : ℤ) (bytes old new : List ℕ) : Type 0 where
-  pub lines : List (List ℕ)
-  pub count : ℕ
+-- the lines of the bytes before a readable one were answered, and their output added
+pub record AnswersBefore (year : ℤ) (bytes old new : List ℕ) : Type 0 where
+  pub before : List (List ℕ)
+  pub line : List ℕ
+  pub after : List (List ℕ)
+  pub cut : IsLines bytes (before ++ line ∷ after)
+  pub readable : IsReadable line
   pub answers : List (Option (List ℕ))
-  pub cut : IsLines bytes lines
-  pub answered : AreAnswers year (take count lines) answers
+  pub answered : AreAnswers year before answers
   pub added : new ≡ old ++ output_of answers

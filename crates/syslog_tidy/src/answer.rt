@@ -1,19 +1,20 @@
 //! The answers to lines.
-ghost use Rattle.std.specs.Prelude.{◌≡◌, ◌+◌, ◌++◌, [], ◌∷◌, if◌then◌else◌, MatchResult, OnOk, OnErr, encode_utf8_all, string_bytes};
+ghost use Rattle.std.specs.Prelude.{◌≡◌, ◌+◌, ◌++◌, [], ◌∷◌, if◌then◌else◌, Err, MatchResult, OnOk, OnErr, encode_utf8_all, string_bytes};
 ghost use Rattle.std.specs.Str.{chars};
 ghost use Rattle.syslog_loose.specs.Message.{MessageValue};
 ghost use Rattle.syslog_loose.specs.Printed.{printed};
 ghost use Rattle.syslog_loose.specs.Reading.{IsRead, IsUnreadable};
 ghost use Rattle.syslog_loose.specs.declared.fault.ParseFault.TheVariants.{Invalid};
 ghost use Rattle.syslog_loose.specs.declared.reading.Variant.TheVariants.{Either};
-ghost use Rattle.syslog_tidy.specs.Output.{AddsAnswer, AnswersAll, AnswersFirst, held_count};
+ghost use Rattle.syslog_tidy.specs.Output.{AddsAnswer, AnswersAll, AnswersBefore, IsReadable, held_count};
 
 use crate::lines::{first_line, first_text_line};
 use crate::summary::Summary;
 use std::alloc::{AllocError, Global};
 use syslog_loose::{IncompleteDate, ParseFault, TimeZone, Variant, normalise};
 
-/// Adds the output of all lines to `output`, and counts them. Where memory is refused, that of the lines before is added.
+/// Adds the output of all lines to `output`, and counts them. Where memory is refused, that of the lines before is added,
+/// and the line that it was refused for is UTF-8 and has a reading.
 pub fn answer_lines(
     alloc: Global,
     lines: &[u8],
@@ -22,7 +23,7 @@ pub fn answer_lines(
     summary: &mut Summary,
 ) -> Result<(), AllocError>
     ensures ok { OnOk result (AnswersAll year lines.now output.old.items output.new.items summary.old summary.new) }
-    ensures err { OnErr result (AnswersFirst year lines.now output.old.items output.new.items) }
+    ensures err { OnErr result (AnswersBefore year lines.now output.old.items output.new.items) }
 {
     match str::from_utf8(lines) {
         Ok(text) => answer_text_lines(alloc, text, year, output, summary),
@@ -39,7 +40,7 @@ fn answer_text_lines(
     summary: &mut Summary,
 ) -> Result<(), AllocError>
     ensures ok { OnOk result (AnswersAll year lines.now output.old.items output.new.items summary.old summary.new) }
-    ensures err { OnErr result (AnswersFirst year lines.now output.old.items output.new.items) }
+    ensures err { OnErr result (AnswersBefore year lines.now output.old.items output.new.items) }
 {
     let mut rest = lines;
     while !rest.is_empty() {
@@ -59,7 +60,7 @@ fn answer_byte_lines(
     summary: &mut Summary,
 ) -> Result<(), AllocError>
     ensures ok { OnOk result (AnswersAll year lines.now output.old.items output.new.items summary.old summary.new) }
-    ensures err { OnErr result (AnswersFirst year lines.now output.old.items output.new.items) }
+    ensures err { OnErr result (AnswersBefore year lines.now output.old.items output.new.items) }
 {
     let mut rest = lines;
     while !rest.is_empty() {
@@ -70,7 +71,7 @@ fn answer_byte_lines(
     Ok(())
 }
 
-// Adds the output of one line, and counts it. Where memory is refused, nothing is added.
+// Adds the output of one line, and counts it. Where memory is refused nothing is added, and the line has a reading.
 fn answer_bytes(
     alloc: Global,
     line: &[u8],
@@ -80,6 +81,7 @@ fn answer_bytes(
 ) -> Result<(), AllocError>
     ensures ok { OnOk result (AddsAnswer year line.now output.old.items output.new.items summary.old summary.new) }
     ensures err { OnErr result (output.new.items ≡ output.old.items) }
+    ensures refusal { OnErr result (IsReadable line.now) }
 {
     match str::from_utf8(line) {
         Ok(text) => answer_text(alloc, text, year, output, summary),
@@ -100,6 +102,7 @@ fn answer_text(
 ) -> Result<(), AllocError>
     ensures ok { OnOk result (AddsAnswer year line.now output.old.items output.new.items summary.old summary.new) }
     ensures err { OnErr result (output.new.items ≡ output.old.items) }
+    ensures refusal { OnErr result (IsReadable line.now) }
 {
     match line_text(alloc, line, year) {
         Ok(text) => {
@@ -117,9 +120,10 @@ fn answer_text(
 
 // The printed text of a line, in a year.
 fn line_text(alloc: Global, line: &str, year: i32) -> Result<String, ParseFault>
-    ensures { MatchResult result
+    ensures reads { MatchResult result
         (λ text. (m : MessageValue) × IsRead Either (chars line.now) m × (string_bytes text ≡ encode_utf8_all (printed m)))
         (λ fault. fault ≡ Invalid → IsUnreadable Either (chars line.now)) }
+    ensures refusal { IsUnreadable Either (chars line.now) → result ≡ Err Invalid }
 {
     let answer_year = move |_: IncompleteDate| -> i32
         ensures { result ≡ year }

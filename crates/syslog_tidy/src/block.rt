@@ -1,6 +1,6 @@
 //! The input, a block at a time.
 ghost use Rattle.std.specs.Prelude.{◌≡◌, ◌≢◌, ◌+◌, ◌-◌, ◌++◌, ◌<◌, ◌≤◌, ℕ, [], length, take, drop, slice_index, vec_len, false, true, IfOk, IfErr, OnOk, OnErr};
-ghost use Rattle.std.specs.Io.KnownBytes.{Consumes, IsAtEnd};
+ghost use Rattle.std.specs.Io.KnownBytes.{Consumes, IsAtEnd, Keeps};
 
 use crate::search::past_last_feed;
 use crate::summary::RunFault;
@@ -60,12 +60,14 @@ impl Block {
     /// Goes on to the next block: reads once, after the line that was cut. False at the end of the input.
     ///
     /// `RunFault::Read` where the read fails, and `RunFault::Memory` where the line that was cut takes the whole block,
-    /// and memory for twice its size is refused.
+    /// and memory for twice its size is refused. Neither takes anything from the reader.
     pub fn fill<R: Read>(&mut self, reader: &mut Watched<R>) -> Result<bool, RunFault>
         requires { reader.old.failed ≡ false }
         ensures ok { IfOk result (λ more. Fills (R.remaining reader.old.inner) (R.remaining reader.new.inner) self.old self.new more) }
         ensures err { IfErr result (λ fault. StopsReading fault reader.new.failed) }
         ensures well { OnOk result (reader.new.failed ≡ false) }
+        ensures kept { OnErr result (Keeps (R.remaining reader.old.inner) (R.remaining reader.new.inner)) }
+        ensures open { NoFeed (cut_bytes self.new) }
         ensures counted { OnOk result ((reader.old.calls < u64.MAX) × (reader.new.calls ≡ reader.old.calls + 1)) }
     {
         self.keep_cut();
@@ -135,6 +137,7 @@ fn read_into<R: Read>(reader: &mut Watched<R>, bytes: &mut Vec<u8>, at: usize) -
     ensures well { OnOk result (reader.new.failed ≡ reader.old.failed) }
     ensures counted { OnOk result ((reader.old.calls < u64.MAX) × (reader.new.calls ≡ reader.old.calls + 1)) }
     ensures err { OnErr result (reader.new.failed ≡ true) }
+    ensures kept { OnErr result (Keeps (R.remaining reader.old.inner) (R.remaining reader.new.inner)) }
 {
     read_at(reader, bytes.as_mut_slice(), at)
 }
@@ -150,6 +153,7 @@ fn read_at<R: Read>(reader: &mut Watched<R>, buffer: &mut [u8], at: usize) -> io
     ensures well { OnOk result (reader.new.failed ≡ reader.old.failed) }
     ensures counted { OnOk result ((reader.old.calls < u64.MAX) × (reader.new.calls ≡ reader.old.calls + 1)) }
     ensures err { OnErr result (reader.new.failed ≡ true) }
+    ensures kept { OnErr result (Keeps (R.remaining reader.old.inner) (R.remaining reader.new.inner)) }
 {
     reader.read(&mut buffer[at..])
 }

@@ -1,7 +1,7 @@
 //! From a reader to a writer.
 ghost use Rattle.std.specs.Prelude.{◌≡◌, ℕ, false, true, IfOk, IfErr, OnOk, OnErr, take};
 ghost use Rattle.std.specs.Io.KnownBytes.{Appends};
-ghost use Rattle.syslog_tidy.specs.Run.{FailedAs, FiltersAll, WroteBefore};
+ghost use Rattle.syslog_tidy.specs.Run.{EndsEarly, FailedAs, FiltersAll};
 ghost use Rattle.syslog_tidy.specs.Write.{WritesAll, WritesFirst};
 ghost use Rattle.syslog_tidy.specs.declared.summary.RunFault.TheVariants.{Write};
 
@@ -15,9 +15,10 @@ use std::io::{Read, Write};
 /// Reads lines to the end of the input, and writes the printed text of each that has a reading, in the given year.
 ///
 /// A line that has none, or is no UTF-8, gives nothing and is counted as refused. The output of each block of input is
-/// written before more is read, and the writer is flushed at the end. Nothing is tried again: after
-/// `RunFault::Read` and `RunFault::Memory` the output of the lines before was written, and after `RunFault::Write` a
-/// beginning of such an output. It takes memory for a block of input, its output, and the longest line.
+/// written before more is read, and the writer is flushed at the end. Nothing is tried again. After `RunFault::Read` the
+/// output of each complete line that was read was written. After `RunFault::Memory` so it was, or memory was refused for a
+/// line that has a reading, and the output of each line before it was written. After `RunFault::Write` a beginning of the
+/// output was written. It takes memory for a block of input, its output, and the longest line.
 pub fn run<R: Read, W: Write>(
     alloc: Global,
     reader: &mut Watched<R>,
@@ -28,7 +29,7 @@ pub fn run<R: Read, W: Write>(
     requires writer { writer.old.failed ≡ false }
     ensures ok { IfOk result (λ summary. FiltersAll year (R.remaining reader.old.inner) (R.remaining reader.new.inner)
         (W.contents writer.old.inner) (W.contents writer.new.inner) summary) }
-    ensures err { IfErr result (λ fault. WroteBefore year (R.remaining reader.old.inner)
+    ensures err { IfErr result (λ fault. EndsEarly year (R.remaining reader.old.inner) (R.remaining reader.new.inner)
         (W.contents writer.old.inner) (W.contents writer.new.inner) fault) }
     ensures failed { FailedAs result reader.new.failed writer.new.failed }
 {

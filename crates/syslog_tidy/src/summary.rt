@@ -11,18 +11,18 @@ pub struct Summary {
     pub refused: u64,
 }
 
-/// Why a run ended before the end of its input.
+/// Why a run ended before the end of its input. The number is the discriminant.
 #[derive(Clone, Copy, Debug, PartialEq, Eq, Error)]
 pub enum RunFault {
     /// The reader answered an error.
     #[error("read failed")]
-    Read,
+    Read = 1,
     /// The writer answered an error, or took nothing.
     #[error("write failed")]
-    Write,
+    Write = 2,
     /// A request for memory was refused.
     #[error("out of memory")]
-    Memory,
+    Memory = 3,
 }
 
 impl From<AllocError> for RunFault {

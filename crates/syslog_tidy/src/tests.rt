@@ -1,6 +1,8 @@
 //! What no clause says: worked lines, printed texts, and readers and writers that give little or fail.
 ghost use Rattle.std.specs.Prelude.{◌≡◌, ◌≤◌, false};
 
+mod sizes;
+
 use crate::args::read_year;
 use crate::report::{report, usage};
 use crate::run::run;
@@ -295,6 +297,13 @@ fn refused_memory(rt: HostRuntime) {
             assert!(rt; written.is_empty() || written == whole);
         }
     }
+}
+
+#[test]
+fn numbers_each_fault(rt: HostRuntime) {
+    assert_eq!(rt; RunFault::Read as i32, 1);
+    assert_eq!(rt; RunFault::Write as i32, 2);
+    assert_eq!(rt; RunFault::Memory as i32, 3);
 }
 
 #[test]

@@ -1,5 +1,5 @@
 use Rattle.std.proofs.lemmas.Int.{to_z-of_z}
-use Rattle.syslog_tidy.proofs.AnswerLemmas.{AnswersAll-end, AnswersFirst-end, AnswersSoFar-more, AnswersSoFar-start, OnErr-any, none_left, some_left}
+use Rattle.syslog_tidy.proofs.AnswerLemmas.{AnswersAll-end, AnswersBefore-end, AnswersSoFar-more, AnswersSoFar-start, OnErr-any, none_left, some_left}
 use Rattle.syslog_tidy.proofs.answer.answer_byte_lines.Goals as goal
 
 pub loop-rest-init : goal.loop-rest-init
@@ -7,7 +7,8 @@ loop-rest-init c = AnswersSoFar-start _ _ _ _
 
 pub returns-in_err-answer_bytes-clause-err : goal.returns-in_err-answer_bytes-clause-err
 returns-in_err-answer_bytes-clause-err c =
-    OnErr-any _ _ (AnswersFirst-end _ _ _ _ _ _ _ _ _ (to_z-of_z _ _ c.ranges.year) c.in_err-answer_bytes.ensures.err c.loop-rest.invariant)
+    OnErr-any _ _
+    (AnswersBefore-end _ _ _ _ _ _ _ _ _ _ _ (to_z-of_z _ _ c.ranges.year) (some_left _ _ c.is_empty.ensures c.loop-rest-test.true) c.first_line.ensures c.in_err-answer_bytes.ensures.refusal c.in_err-answer_bytes.ensures.err c.loop-rest.invariant)
 
 pub loop-rest-preserved : goal.loop-rest-preserved
 loop-rest-preserved c =

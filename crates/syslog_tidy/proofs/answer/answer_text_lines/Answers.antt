@@ -1,6 +1,6 @@
 use Rattle.std.proofs.Common.{rules}
 use Rattle.std.proofs.lemmas.Int.{to_z-of_z}
-use Rattle.syslog_tidy.proofs.AnswerLemmas.{AnswersAll-end, AnswersFirst-end, AnswersSoFar-more, AnswersSoFar-start, OnErr-any, none_left, some_left}
+use Rattle.syslog_tidy.proofs.AnswerLemmas.{AnswersAll-end, AnswersBefore-end, AnswersSoFar-more, AnswersSoFar-start, OnErr-any, none_left, some_left}
 use Rattle.syslog_tidy.proofs.answer.answer_text_lines.Goals as goal
 
 pub loop-rest-init : goal.loop-rest-init
@@ -8,7 +8,8 @@ loop-rest-init c = record { text = c.utf8.lines; so_far = AnswersSoFar-start _ _
 
 pub returns-in_err-answer_text-clause-err : goal.returns-in_err-answer_text-clause-err
 returns-in_err-answer_text-clause-err c =
-    OnErr-any _ _ (AnswersFirst-end _ _ _ _ _ _ _ _ _ (to_z-of_z _ _ c.ranges.year) c.in_err-answer_text.ensures.err c.loop-rest.invariant.so_far)
+    OnErr-any _ _
+    (AnswersBefore-end _ _ _ _ _ _ _ _ _ _ _ (to_z-of_z _ _ c.ranges.year) (some_left _ _ c.is_empty.ensures c.loop-rest-test.true) c.first_text_line.ensures c.in_err-answer_text.ensures.refusal c.in_err-answer_text.ensures.err c.loop-rest.invariant.so_far)
 
 pub loop-rest-preserved : goal.loop-rest-preserved
 loop-rest-preserved c =
