@@ -1,17 +1,15 @@
 -- The written condition: the messages that are read back unchanged from their printed text. It speaks of the fields
 -- alone, and never of reading. (This project's own.)
-use Rattle.std.specs.Prelude.{◌≡◌, ◌≢◌, ℕ, ℤ, ◌<◌, ◌^◌, ◌&&◌, not, nat_eq, true, ⊤, Bool, FitsSigned, List, [], ◌∷◌, ◌++◌, length, Option, Some, None, IfSome, IsSome}
-use Rattle.std.specs.Int.{w32}
-use Rattle.std.specs.Char.{is_not_whitespace}
+use Rattle.std.specs.Prelude.{◌≡◌, ◌≢◌, ℕ, ◌<◌, ◌^◌, ◌&&◌, not, nat_eq, ⊤, Bool, [], length, Option, Some, None, IfSome, IsSome}
 use Rattle.std.specs.List.{AllByRecursion}
 use Rattle.syslog_pieces.specs.Pieces.Class.{Text, Each, Ends}
-use Rattle.syslog_pieces.specs.ProcId.{IsI32Text}
-use Rattle.syslog_pieces.specs.StructuredData.{IsValue}
-use Rattle.syslog_pieces.specs.StructuredData.Element.{ElementValue}
 use Rattle.syslog_pieces.specs.StructuredData.Listed.{BeginsNoList}
-use Rattle.syslog_pieces.specs.Text.{is_blank, is_tag_char, dash, colon, EndsInColon}
-use Rattle.syslog_pieces.specs.Text.CharClass.{is_id_char, is_name_char, is_label_char}
-use Rattle.syslog_pieces.specs.Timestamp.Plain.{IsPlainStamp}
+use Rattle.syslog_pieces.specs.Text.{is_blank, is_tag_char, dash}
+use Rattle.syslog_pieces.specs.Text.CharClass.{is_label_char}
+pub use Rattle.syslog_pieces.specs.ProcId.{IsBoundedProcess, IsNoI32Text, IsPlainProcess}
+pub use Rattle.syslog_pieces.specs.StructuredData.Plain.{IsPlainElement}
+pub use Rattle.syslog_pieces.specs.Text.Plain.{IsVisible, IsPlainHost, IsPlainWord, EndsVisibly}
+pub use Rattle.syslog_pieces.specs.Timestamp.Plain.{IsPlainStamp}
 use Rattle.syslog_pieces.specs.declared.procid.ProcId.{ProcId}
 use Rattle.syslog_pieces.specs.declared.procid.ProcId.TheVariants.{PID, Name}
 use Rattle.syslog_pieces.specs.declared.structured_data.listed.DashRule.{DashRule}
@@ -26,45 +24,12 @@ abbrev pub IsBoundedProtocol : Protocol → Type 0
 IsBoundedProtocol RFC3164 = ⊤
 IsBoundedProtocol (RFC5424 version) = version < 2 ^ 32
 
-abbrev pub IsBoundedProcess : ProcId Text → Type 0
-IsBoundedProcess (PID n) = FitsSigned w32 n
-IsBoundedProcess (Name t) = ⊤
-
 -- the version and the number of the process have 32 bits
 pub record IsBounded (m : MessageValue) : Type 0 where
   pub protocol : IsBoundedProtocol m.protocol
   pub procid : IfSome m.procid IsBoundedProcess
 
 -- ---- what both protocols ask
-
--- nonempty and without white space
-abbrev pub IsVisible : Text → Type 0
-IsVisible t = (0 < length t) × Each is_not_whitespace t
-
--- nonempty, without white space, not `-`, and not ending in a colon
-abbrev pub IsPlainHost : Text → Type 0
-IsPlainHost t = IsVisible t × (t ≢ dash) × (EndsInColon t → ⊥)
-
--- no text of a number of 32 bits
-abbrev pub IsNoI32Text : Text → Type 0
-IsNoI32Text t = (n : ℤ) → IsI32Text t n → ⊥
-
--- the name is nonempty, without `]` and `=`, and the value is a list of units
-abbrev pub IsPlainParam : Text × Text → Type 0
-IsPlainParam p = (0 < length p.0) × Each is_name_char p.0 × IsValue p.1
-
--- the first name does not begin with a blank
-abbrev pub BeginsPlainly : List (Text × Text) → Type 0
-BeginsPlainly [] = ⊤
-BeginsPlainly (p ∷ ps) = Ends is_blank p.0
-
--- the id is nonempty, without white space, `]` and `=`
-abbrev pub IsPlainElement : ElementValue → Type 0
-IsPlainElement e = (0 < length e.id) × Each is_id_char e.id × AllByRecursion IsPlainParam e.params × BeginsPlainly e.params
-
--- the text is empty, or its last character is no white space
-abbrev pub EndsVisibly : Text → Type 0
-EndsVisibly t = (front : Text) (c : ℕ) → t ≡ front ++ (c ∷ []) → is_not_whitespace c ≡ true
 
 pub record IsPlain (m : MessageValue) : Type 0 where
   pub facility : IsSome m.facility
@@ -76,14 +41,6 @@ pub record IsPlain (m : MessageValue) : Type 0 where
   pub msg_end : EndsVisibly m.msg
 
 -- ---- what RFC 5424 asks beyond that
-
--- nonempty, without white space, neither `-` nor `:`
-abbrev pub IsPlainWord : Text → Type 0
-IsPlainWord t = IsVisible t × (t ≢ dash) × (t ≢ colon)
-
-abbrev pub IsPlainProcess : ProcId Text → Type 0
-IsPlainProcess (PID n) = ⊤
-IsPlainProcess (Name t) = IsPlainWord t × IsNoI32Text t
 
 pub record IsPlain5424 (m : MessageValue) : Type 0 where
   pub appname : IfSome m.appname IsPlainWord

@@ -158,3 +158,7 @@ priority_kept t a b q f k g =
     begins 60 t a f ∙ ap (λ (x : Text). 60 ∷ x) (k.whole ∙ ap (λ (x : Text). decimal n ++ x) (begins 62 b q g) ∙ sym (append_assoc (decimal n) (62 ∷ []) q)) in
     let s : p.piece ≡ priority_text n = append_cancel_right p.piece (priority_text n) q (sym p.whole ∙ e) in
     (record { value = n; whole = e; is = subst (λ (x : Text). priority.Is x q n) s p.is }, (let h = k.is.4 in omega arith))
+
+-- and each priority has a severity
+pub severity_there : (pri : ℕ) → (s : SyslogSeverity) × (severity_of pri ≡ Some s)
+severity_there pri = let (s, there, e) = numbered_severity (pri % 8) (omega arith) in (s, there)

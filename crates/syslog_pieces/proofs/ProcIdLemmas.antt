@@ -1,4 +1,5 @@
 -- Numbers and names as process ids.
+pub mod ReadBack
 use Rattle.std.proofs.Common.{◌≡◌, ◌≢◌, ℕ, ℤ, pos, neg_ℤ, ◌<◌, ◌^◌, ◌⊎◌, inl, inr, Bool, true, false, FitsSigned, w32, List, [], ◌∷◌, ◌++◌, length, get_or, nat_eq, Some, None, Result, Ok, Err, refl, sym, ap, subst, ◌∙◌, rules, arith}
 use Rattle.std.specs.Char.{is_ascii_digit}
 use Rattle.std.specs.Str.{chars, IsUtf8, IsAscii}

@@ -7,5 +7,6 @@ pub mod Items
 pub mod Kept
 pub mod Listed
 pub mod Params
+pub mod ReadBack
 pub mod Units
 pub mod Walk

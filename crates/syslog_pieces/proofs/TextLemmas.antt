@@ -5,6 +5,7 @@ pub mod Decimals
 pub mod Kept
 pub mod Lanes
 pub mod Printed
+pub mod ReadBack
 pub mod Runs
 pub mod Trim
 pub mod Words

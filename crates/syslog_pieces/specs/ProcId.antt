@@ -1,11 +1,12 @@
 -- Process ids: a number of 32 bits, or any other text.
-use Rattle.std.specs.Prelude.{◌≡◌, ◌⊎◌, ℤ, pos, neg_ℤ, ◌<◌, FitsSigned, ◌∷◌, length, Option, Some, None}
+use Rattle.std.specs.Prelude.{◌≡◌, ◌⊎◌, ⊤, ℤ, pos, neg_ℤ, ◌<◌, FitsSigned, ◌∷◌, length, Option, Some, None}
 use Rattle.std.specs.Int.{w32}
 use Rattle.std.specs.Char.{is_ascii_digit}
 use Rattle.std.specs.Fmt.{signed_decimal}
 use Rattle.std.specs.Str.Parse.{digits_value}
 use Rattle.syslog_pieces.specs.Pieces.Class.{Text, Class, Each}
 use Rattle.syslog_pieces.specs.Text.{word, dash}
+use Rattle.syslog_pieces.specs.Text.Plain.{IsPlainWord}
 use Rattle.syslog_pieces.specs.declared.procid.ProcId.{ProcId}
 use Rattle.syslog_pieces.specs.declared.procid.ProcId.TheVariants.{PID, Name}
 
@@ -51,3 +52,19 @@ IsProcessWord p q (Some id) = (t : Text) × word.Is p q (Some t) × NamesProcess
 -- a word of RFC 5424 as a process id
 abbrev pub process_word : Class
 process_word = record { Value = Option (ProcId Text); Is = IsProcessWord }
+
+-- ---- process ids that are read back from their printed text
+
+-- no text of a number of 32 bits
+abbrev pub IsNoI32Text : Text → Type 0
+IsNoI32Text t = (n : ℤ) → IsI32Text t n → ⊥
+
+-- a number, or a plain word that is no text of one
+abbrev pub IsPlainProcess : ProcId Text → Type 0
+IsPlainProcess (PID n) = ⊤
+IsPlainProcess (Name t) = IsPlainWord t × IsNoI32Text t
+
+-- the number has 32 bits
+abbrev pub IsBoundedProcess : ProcId Text → Type 0
+IsBoundedProcess (PID n) = FitsSigned w32 n
+IsBoundedProcess (Name t) = ⊤

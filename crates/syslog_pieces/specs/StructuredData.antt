@@ -4,6 +4,7 @@ pub mod Element
 pub mod Escapes
 pub mod Listed
 pub mod Params
+pub mod Plain
 use Rattle.std.specs.Prelude.{◌≡◌, ◌≢◌, ◌<◌, ◌⊎◌, List, [], ◌∷◌, ◌++◌, length, Option, Some, None}
 use Rattle.std.specs.List.{flat_map, AllByRecursion}
 use Rattle.syslog_pieces.specs.Text.CharClass.{is_name_char, is_id_char, is_open_char}

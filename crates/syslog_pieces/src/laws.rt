@@ -26,6 +26,8 @@ ghost use Rattle.syslog_pieces.specs.declared.structured_data.listed.DashRule.{D
 ghost use Rattle.syslog_pieces.specs.declared.timestamp.OffsetTimestamp.{OffsetTimestamp};
 ghost use Rattle.syslog_pieces.specs.declared.timestamp.month_date.MonthDate.{MonthDate};
 
+pub mod read_back;
+
 use crate::as_str::AsStr;
 
 /// A priority below 192 is composed of its two parts.

@@ -107,7 +107,7 @@ keeps_end t s q on f =
 abbrev pub KeepsList : Text → Text → Type 0
 KeepsList t s = (q : Text) (es : List ElementValue) → Front (many item) s q (map Some es) → s ≡ flat_map element_text es ++ q → Kept forgiving elements_text t q
 
-strict_some : (es : List ElementValue) → es ≡ strict (map Some es)
+pub strict_some : (es : List ElementValue) → es ≡ strict (map Some es)
 strict_some [] = refl
 strict_some (e ∷ es) = ap (λ (x : List ElementValue). e ∷ x) (strict_some es)
 

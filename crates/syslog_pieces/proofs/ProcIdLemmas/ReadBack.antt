@@ -1,0 +1,73 @@
+-- Process ids are read back from their printed text, and what is read is plain.
+use Rattle.std.proofs.Common.{◌≡◌, ℕ, ℤ, suc, pos, negsuc, neg_ℤ, ◌<◌, ◌^◌, inl, inr, true, false, FitsSigned, w32, [], ◌∷◌, length, Option, Some, None, IfSome, refl, sym, ap, subst, ◌∙◌, arith}
+use Rattle.std.proofs.lemmas.Fmt.{digits_value-decimal}
+use Rattle.std.specs.Char.{is_ascii_digit, is_not_whitespace}
+use Rattle.std.specs.Fmt.{decimal, signed_decimal}
+use Rattle.syslog_pieces.specs.Pieces.Class.{Text, Each, Ends}
+use Rattle.syslog_pieces.specs.ProcId.{IsI32Text, process_word, process_text, IsPlainProcess, IsBoundedProcess}
+use Rattle.syslog_pieces.specs.Text.{word}
+use Rattle.syslog_pieces.specs.Text.Plain.{IsPlainWord}
+use Rattle.syslog_pieces.specs.declared.procid.ProcId.{ProcId}
+use Rattle.syslog_pieces.specs.declared.procid.ProcId.TheVariants.{PID, Name}
+use Rattle.syslog_pieces.proofs.PieceLemmas.Class.{heads}
+use Rattle.syslog_pieces.proofs.TextLemmas.Words.{own}
+use Rattle.syslog_pieces.proofs.TextLemmas.ReadBack.{decimal_digits, digits_visible, word_back, word_plain}
+
+-- ---- the text of a number
+
+digits_no_mark : (t : Text) (c : ℕ) → Each is_ascii_digit t → is_ascii_digit c ≡ false → t ≡ c ∷ [] → ⊥
+digits_no_mark [] c h n e = let k = ap length e in omega arith
+digits_no_mark (d ∷ t) c h n e =
+    let k : d ≡ c = heads d c t [] e in
+    let u : true ≡ false = sym h.0 ∙ ap is_ascii_digit k ∙ n in cc
+
+magnitude : (n : ℕ) → FitsSigned w32 (pos n) → n < 2 ^ 64
+magnitude n h = omega (arith, h)
+
+negative : (n : ℕ) → FitsSigned w32 (negsuc n) → suc n < 2 ^ 64
+negative n h = omega (arith, h)
+
+-- it writes the number
+pub signed_writes : (n : ℤ) → FitsSigned w32 n → IsI32Text (signed_decimal n) n
+signed_writes (pos n) h =
+    let small = magnitude n h in
+    (inl (decimal_digits n small, ap pos (sym (digits_value-decimal own n small))), h)
+signed_writes (negsuc n) h =
+    let small = negative n h in
+    (inr (inr (decimal (suc n), refl, decimal_digits (suc n) small, ap (λ (k : ℕ). neg_ℤ (pos k)) (sym (digits_value-decimal own (suc n) small)))), h)
+
+-- and is a plain word
+pub signed_plain : (n : ℤ) → FitsSigned w32 n → IsPlainWord (signed_decimal n)
+signed_plain (pos n) h =
+    let (long, digits) = decimal_digits n (magnitude n h) in
+    ((long, digits_visible (decimal n) digits), digits_no_mark (decimal n) 45 digits refl, digits_no_mark (decimal n) 58 digits refl)
+signed_plain (negsuc n) h =
+    let (long, digits) = decimal_digits (suc n) (negative n h) in (
+      (omega arith, (refl, digits_visible (decimal (suc n)) digits)),
+      (λ e. let k = ap length e in omega arith),
+      (λ e. let k = ap length e in omega arith),
+    )
+
+-- ---- process ids
+
+plain_word : (t q : Text) → IsPlainWord t → Ends is_not_whitespace q → word.Is t q (Some t)
+plain_word t q h e = word_back (Some t) q h e
+
+-- a plain process id, or none, is read back before the end or white space
+pub process_back : (v : Option (ProcId Text)) (q : Text) → IfSome v IsPlainProcess → IfSome v IsBoundedProcess → Ends is_not_whitespace q → process_word.Is (process_text v) q v
+process_back None q h b e = word_back None q tt e
+process_back (Some (PID n)) q h b e = (signed_decimal n, plain_word (signed_decimal n) q (signed_plain n b) e, signed_writes n b)
+process_back (Some (Name t)) q (plain, no_number) b e = (t, plain_word t q plain e, (no_number, refl))
+
+-- what is read as a process id is plain
+pub process_plain : (p q : Text) (v : Option (ProcId Text)) → process_word.Is p q v → IfSome v IsPlainProcess
+process_plain p q None h = tt
+process_plain p q (Some (PID n)) h = tt
+process_plain p q (Some (Name t)) (u, w, (no_number, same)) =
+    subst (λ (x : Text). IsPlainProcess (Name x)) (sym same) (word_plain p q (Some u) w, no_number)
+
+-- and its number has 32 bits
+pub process_bounded : (p q : Text) (v : Option (ProcId Text)) → process_word.Is p q v → IfSome v IsBoundedProcess
+process_bounded p q None h = tt
+process_bounded p q (Some (PID n)) (u, w, i) = i.1
+process_bounded p q (Some (Name t)) h = tt

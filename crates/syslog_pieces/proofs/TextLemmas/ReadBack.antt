@@ -1,0 +1,84 @@
+-- Numbers, words and hosts are read back from their printed text, and what is read is plain.
+use Rattle.std.proofs.Common.{◌≡◌, ℕ, ◌<◌, ◌≤◌, ◌^◌, inl, inr, true, false, nat_eq, [], ◌∷◌, ◌++◌, length, get_or, Option, Some, None, IfSome, refl, sym, ap, subst, ◌∙◌, arith}
+use Rattle.std.proofs.lemmas.List.{length-append}
+use Rattle.std.proofs.lemmas.Bool.Decides.{nat_tests, eqb_tells}
+use Rattle.std.proofs.lemmas.Fmt.{decimal_nonempty, digits_decimal, digits_value-decimal}
+use Rattle.std.specs.Char.{is_ascii_digit, is_not_whitespace}
+use Rattle.std.specs.Fmt.{decimal}
+use Rattle.syslog_pieces.specs.Pieces.Class.{Text, Each, Ends}
+use Rattle.syslog_pieces.specs.Text.{number, dash, colon, word, EndsInColon, IsHost, name_text, is_blank}
+use Rattle.syslog_pieces.specs.Text.Plain.{IsVisible, IsPlainHost, IsPlainWord}
+use Rattle.syslog_pieces.proofs.TextLemmas.Words.{own}
+
+-- ---- numbers
+
+pub decimal_digits : (n : ℕ) → n < 2 ^ 64 → (0 < length (decimal n)) × Each is_ascii_digit (decimal n)
+decimal_digits n h = (decimal_nonempty n h, digits_decimal own n h)
+
+-- a number is read back before what begins with no digit
+pub number_back : (n limit : ℕ) (q : Text) → n ≤ limit → limit < 2 ^ 64 → Ends is_ascii_digit q → (number limit).Is (decimal n) q n
+number_back n limit q l b z =
+    let small : n < 2 ^ 64 = omega arith in
+    let (long, digits) = decimal_digits n small in
+    (long, digits, z, sym (digits_value-decimal own n small), l)
+
+-- a digit is no white space
+digit_visible : (c : ℕ) → is_ascii_digit c ≡ true → is_not_whitespace c ≡ true
+digit_visible c h = grind (arith, nat_tests)
+
+pub digits_visible : (t : Text) → Each is_ascii_digit t → Each is_not_whitespace t
+digits_visible [] h = tt
+digits_visible (c ∷ t) h = (digit_visible c h.0, digits_visible t h.1)
+
+-- ---- words
+
+pub dash_no_colon : dash ≡ colon → ⊥
+dash_no_colon e = let t : ◌≡◌ {A = ℕ} 45 58 = ap (λ (x : Text). get_or x 0 0) e in omega arith
+
+pub dash_ends_not : EndsInColon dash → ⊥
+dash_ends_not ([], e) = dash_no_colon e
+dash_ends_not (c ∷ front, e) = let t = ap length e in omega (arith, length-append front colon)
+
+pub dash_visible : IsVisible dash
+dash_visible = (omega arith, (refl, tt))
+
+-- a plain word, or none, is read back before the end or white space
+pub word_back : (v : Option Text) (q : Text) → IfSome v IsPlainWord → Ends is_not_whitespace q → word.Is (name_text v) q v
+word_back None q h e = (dash_visible.0, dash_visible.1, e, dash_no_colon, refl)
+word_back (Some t) q ((long, visible), no_dash, no_colon) e = (long, visible, e, no_colon, (refl, no_dash))
+
+-- what is read as a word is plain
+pub word_plain : (p q : Text) (v : Option Text) → word.Is p q v → IfSome v IsPlainWord
+word_plain p q None h = tt
+word_plain p q (Some t) (long, visible, e, no_colon, (same, no_dash)) =
+    subst (λ (x : Text). IsPlainWord x) (sym same) ((long, visible), no_dash, no_colon)
+
+-- ---- hosts
+
+-- a plain host, or none, is read back before the end or white space
+pub host_back : (v : Option Text) (q : Text) → IfSome v IsPlainHost → Ends is_not_whitespace q → IsHost (name_text v) q v
+host_back None q h e = (dash_visible.0, dash_visible.1, inl (dash_ends_not, e, refl))
+host_back (Some t) q ((long, visible), no_dash, no_end) e = (long, visible, inl (no_end, e, (refl, no_dash)))
+
+-- the text does not begin with a colon
+abbrev pub NoColonNext : Text → Type 0
+NoColonNext q = Ends (λ c. nat_eq c 58) q
+
+-- what is read as a host is plain, where no colon follows it
+pub host_plain : (p q : Text) (v : Option Text) → NoColonNext q → IsHost p q v → IfSome v IsPlainHost
+host_plain p q None n h = tt
+host_plain p q (Some t) n (long, visible, inl (no_end, e, (same, no_dash))) =
+    subst (λ (x : Text). IsPlainHost x) (sym same) ((long, visible), no_dash, no_end)
+host_plain p q (Some t) n (long, visible, inr (r, z, e, same)) =
+    absurd (let t = subst (λ (x : Text). NoColonNext x) z n in let u : true ≡ false = t in cc)
+
+blank_no_colon : (c : ℕ) → is_blank c ≡ true → nat_eq c 58 ≡ false
+blank_no_colon c h = elim (eqb_tells c 58) [
+  | inl r ↦ absurd (let t : is_blank 58 ≡ true = ap is_blank (sym r.1) ∙ h in let u : false ≡ true = t in cc)
+  | inr r ↦ r.0
+]
+
+-- blanks are no colon
+pub blanks_next : (p q : Text) → 0 < length p → Each is_blank p → NoColonNext (p ++ q)
+blanks_next [] q l h = absurd (omega arith)
+blanks_next (c ∷ p) q l h = blank_no_colon c h.0

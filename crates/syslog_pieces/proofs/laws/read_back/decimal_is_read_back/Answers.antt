@@ -1,0 +1,5 @@
+use Rattle.syslog_pieces.proofs.TextLemmas.ReadBack.{number_back}
+use Rattle.syslog_pieces.proofs.laws.read_back.decimal_is_read_back.Goals as goal
+
+pub returns : goal.returns
+returns c = number_back
