@@ -3,6 +3,7 @@ pub mod Closing
 pub mod Cuts
 pub mod ElementParts
 pub mod Elements
+pub mod Equality
 pub mod Items
 pub mod Kept
 pub mod Listed

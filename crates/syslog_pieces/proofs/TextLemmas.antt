@@ -2,6 +2,7 @@
 pub mod Chars
 pub mod Cuts
 pub mod Decimals
+pub mod Equal
 pub mod Kept
 pub mod Lanes
 pub mod Printed

@@ -1,5 +1,5 @@
 -- The priority, and the facility and the severity that it is composed of (RFC 5424 section 6.2.1).
-use Rattle.std.specs.Prelude.{ℕ, ◌+◌, ◌*◌, ◌/◌, ◌%◌, List, [], ◌∷◌, ◌++◌, Option, slice_get}
+use Rattle.std.specs.Prelude.{ℕ, Bool, codes, nat_eq, ◌+◌, ◌*◌, ◌/◌, ◌%◌, List, [], ◌∷◌, ◌++◌, Option, slice_get}
 use Rattle.std.specs.Fmt.{decimal}
 use Rattle.syslog_pieces.specs.Pieces.Class.{Text, Class, Row, exactly}
 use Rattle.syslog_pieces.specs.Text.{number}
@@ -45,6 +45,52 @@ severity_number SEV_WARNING = 4
 severity_number SEV_NOTICE = 5
 severity_number SEV_INFO = 6
 severity_number SEV_DEBUG = 7
+
+-- the facility's name
+abbrev pub facility_name : SyslogFacility → Text
+facility_name LOG_KERN = codes "kern"
+facility_name LOG_USER = codes "user"
+facility_name LOG_MAIL = codes "mail"
+facility_name LOG_DAEMON = codes "daemon"
+facility_name LOG_AUTH = codes "auth"
+facility_name LOG_SYSLOG = codes "syslog"
+facility_name LOG_LPR = codes "lpr"
+facility_name LOG_NEWS = codes "news"
+facility_name LOG_UUCP = codes "uucp"
+facility_name LOG_CRON = codes "cron"
+facility_name LOG_AUTHPRIV = codes "authpriv"
+facility_name LOG_FTP = codes "ftp"
+facility_name LOG_NTP = codes "ntp"
+facility_name LOG_AUDIT = codes "audit"
+facility_name LOG_ALERT = codes "alert"
+facility_name LOG_CLOCKD = codes "clockd"
+facility_name LOG_LOCAL0 = codes "local0"
+facility_name LOG_LOCAL1 = codes "local1"
+facility_name LOG_LOCAL2 = codes "local2"
+facility_name LOG_LOCAL3 = codes "local3"
+facility_name LOG_LOCAL4 = codes "local4"
+facility_name LOG_LOCAL5 = codes "local5"
+facility_name LOG_LOCAL6 = codes "local6"
+facility_name LOG_LOCAL7 = codes "local7"
+
+-- the severity's name
+abbrev pub severity_name : SyslogSeverity → Text
+severity_name SEV_EMERG = codes "emerg"
+severity_name SEV_ALERT = codes "alert"
+severity_name SEV_CRIT = codes "crit"
+severity_name SEV_ERR = codes "err"
+severity_name SEV_WARNING = codes "warning"
+severity_name SEV_NOTICE = codes "notice"
+severity_name SEV_INFO = codes "info"
+severity_name SEV_DEBUG = codes "debug"
+
+-- whether two facilities have one number
+abbrev pub facility_eq : SyslogFacility → SyslogFacility → Bool
+facility_eq a b = nat_eq (facility_number a) (facility_number b)
+
+-- whether two severities have one number
+abbrev pub severity_eq : SyslogSeverity → SyslogSeverity → Bool
+severity_eq a b = nat_eq (severity_number a) (severity_number b)
 
 -- all facilities, each at the place of its number
 abbrev pub facilities : List SyslogFacility

@@ -1,4 +1,6 @@
 -- Process ids: a number of 32 bits, or any other text.
+pub mod Equal
+pub mod EqualLaws
 use Rattle.std.specs.Prelude.{◌≡◌, ◌⊎◌, ⊤, ℤ, pos, neg_ℤ, ◌<◌, FitsSigned, ◌∷◌, length, Option, Some, None}
 use Rattle.std.specs.Int.{w32}
 use Rattle.std.specs.Char.{is_ascii_digit}

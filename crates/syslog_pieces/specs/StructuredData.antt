@@ -1,6 +1,8 @@
 -- Structured data: values, parameters, strict and broken elements, and the list that forgives the broken ones
 -- (RFC 5424 section 6.3; what it forgives is this project's own choice).
 pub mod Element
+pub mod Equal
+pub mod EqualLaws
 pub mod Escapes
 pub mod Listed
 pub mod Params

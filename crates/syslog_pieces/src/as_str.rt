@@ -2,6 +2,7 @@
 ghost use Rattle.std.specs.Prelude.{◌≡◌, ℕ, List, nat_eq, string_bytes, refl};
 ghost use Rattle.std.specs.Cmp.Lexicographic.{pointwise, slice_cmp};
 ghost use Rattle.std.specs.Ordering.{nat_cmp};
+ghost use Rattle.syslog_pieces.specs.Pieces.View.{text_eq, text_of};
 
 #[cfg(test)]
 mod tests;
@@ -19,6 +20,14 @@ pub trait AsStr: Ord {
     ghost eq_by_text: { (x y : Self) → Self.eq x y ≡ pointwise nat_eq (text x) (text y) };
 
     ghost cmp_by_text: { (x y : Self) → Self.cmp x y ≡ slice_cmp nat_cmp (text x) (text y) };
+}
+
+/// Whether two values are the same text. Takes no memory.
+#[inline]
+pub fn is_same_text<S: AsStr>(a: &S, b: &S) -> bool
+    ensures { result ≡ text_eq (text_of S.text a.now) (text_of S.text b.now) }
+{
+    a.as_str() == b.as_str()
 }
 
 impl AsStr for &str {

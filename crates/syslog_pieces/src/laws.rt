@@ -26,6 +26,7 @@ ghost use Rattle.syslog_pieces.specs.declared.structured_data.listed.DashRule.{D
 ghost use Rattle.syslog_pieces.specs.declared.timestamp.OffsetTimestamp.{OffsetTimestamp};
 ghost use Rattle.syslog_pieces.specs.declared.timestamp.month_date.MonthDate.{MonthDate};
 
+pub mod comparison;
 pub mod read_back;
 
 use crate::as_str::AsStr;

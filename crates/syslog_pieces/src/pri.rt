@@ -3,7 +3,7 @@
 //! The priority of a line is optional; `optional_priority` answers it and the text behind it. Nothing here takes
 //! memory.
 ghost use Rattle.std.specs.Prelude.{◌≡◌, ◌<◌, ◌≤◌, IfSome, MatchOption, Some, slice_get};
-ghost use Rattle.std.specs.Str.{chars};
+ghost use Rattle.std.specs.Str.{chars, encode_utf8_all};
 ghost use Rattle.syslog_pieces.specs.Pieces.Class.{Front, optional};
 ghost use Rattle.syslog_pieces.specs.Pieces.Kept.{Kept};
 ghost use Rattle.syslog_pieces.specs.Pri.{priority_text};
@@ -56,6 +56,58 @@ pub enum SyslogSeverity {
     SEV_NOTICE = 5,
     SEV_INFO = 6,
     SEV_DEBUG = 7,
+}
+
+impl SyslogFacility {
+    /// The name, as `auth`; no two have the same one. Takes no memory.
+    pub fn as_str(self) -> &'static str
+        ensures { result.now ≡ encode_utf8_all (spec.facility_name self) }
+    {
+        match self {
+            SyslogFacility::LOG_KERN => "kern",
+            SyslogFacility::LOG_USER => "user",
+            SyslogFacility::LOG_MAIL => "mail",
+            SyslogFacility::LOG_DAEMON => "daemon",
+            SyslogFacility::LOG_AUTH => "auth",
+            SyslogFacility::LOG_SYSLOG => "syslog",
+            SyslogFacility::LOG_LPR => "lpr",
+            SyslogFacility::LOG_NEWS => "news",
+            SyslogFacility::LOG_UUCP => "uucp",
+            SyslogFacility::LOG_CRON => "cron",
+            SyslogFacility::LOG_AUTHPRIV => "authpriv",
+            SyslogFacility::LOG_FTP => "ftp",
+            SyslogFacility::LOG_NTP => "ntp",
+            SyslogFacility::LOG_AUDIT => "audit",
+            SyslogFacility::LOG_ALERT => "alert",
+            SyslogFacility::LOG_CLOCKD => "clockd",
+            SyslogFacility::LOG_LOCAL0 => "local0",
+            SyslogFacility::LOG_LOCAL1 => "local1",
+            SyslogFacility::LOG_LOCAL2 => "local2",
+            SyslogFacility::LOG_LOCAL3 => "local3",
+            SyslogFacility::LOG_LOCAL4 => "local4",
+            SyslogFacility::LOG_LOCAL5 => "local5",
+            SyslogFacility::LOG_LOCAL6 => "local6",
+            SyslogFacility::LOG_LOCAL7 => "local7",
+        }
+    }
+}
+
+impl SyslogSeverity {
+    /// The name, as `crit`; no two have the same one. Takes no memory.
+    pub fn as_str(self) -> &'static str
+        ensures { result.now ≡ encode_utf8_all (spec.severity_name self) }
+    {
+        match self {
+            SyslogSeverity::SEV_EMERG => "emerg",
+            SyslogSeverity::SEV_ALERT => "alert",
+            SyslogSeverity::SEV_CRIT => "crit",
+            SyslogSeverity::SEV_ERR => "err",
+            SyslogSeverity::SEV_WARNING => "warning",
+            SyslogSeverity::SEV_NOTICE => "notice",
+            SyslogSeverity::SEV_INFO => "info",
+            SyslogSeverity::SEV_DEBUG => "debug",
+        }
+    }
 }
 
 fn severity_at(number: u8) -> SyslogSeverity

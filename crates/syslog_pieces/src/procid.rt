@@ -2,20 +2,25 @@
 //!
 //! A text is a number exactly where it is an optional sign and ASCII digits of such a number; that is the crate's rule,
 //! RFC 5424 section 6.2.6 leaves the form open.
-ghost use Rattle.std.specs.Prelude.{◌≡◌, IfSome, IsTrue, Some};
+ghost use Rattle.std.specs.Cmp.{on_equiv, on_per, partial_equiv_from_equiv};
+ghost use Rattle.std.specs.Ordering.{on};
+ghost use Rattle.std.specs.Prelude.{◌≡◌, IfOk, IfSome, IsTrue, Some, string_bytes};
 ghost use Rattle.std.specs.Option.{option_map};
 ghost use Rattle.std.specs.Str.{chars, encode_utf8_all};
 ghost use Rattle.syslog_pieces.specs.Bodies.Kept.{IsBareWord};
 ghost use Rattle.syslog_pieces.specs.Pieces.Kept.{Kept};
 ghost use Rattle.syslog_pieces.specs.ProcId.{process_text};
 ghost use Rattle.syslog_pieces.specs.ProcId as spec;
-ghost use Rattle.syslog_pieces.specs.Pieces.View.{shown, text_of, Reads};
+ghost use Rattle.syslog_pieces.specs.ProcId.Equal.{procid_eq};
+ghost use Rattle.syslog_pieces.specs.ProcId.EqualLaws.{procid_equivalence};
+ghost use Rattle.syslog_pieces.specs.Pieces.View.{shown, text_of, ClonesKeepText, Reads};
 
 #[cfg(test)]
 mod tests;
 
-use crate::as_str::AsStr;
+use crate::as_str::{AsStr, is_same_text};
 use crate::text::{first, word};
+use std::alloc::{AllocError, Global};
 use std::fmt;
 
 /// A process id.
@@ -37,6 +42,53 @@ impl<S: AsStr> fmt::Display for ProcId<S> {
                 let name = name.as_str();
                 f.write_str(name)
             }
+        }
+    }
+}
+
+// A number is equal to no name, not even to the one that writes it.
+impl<S: AsStr> PartialEq for ProcId<S> {
+    ghost eq = { on (spec.procid_value (text_of S.text)) procid_eq };
+
+    ghost laws = { on_per (spec.procid_value (text_of S.text)) (partial_equiv_from_equiv procid_equivalence) };
+
+    fn eq(&self, other: &ProcId<S>) -> bool {
+        match (self, other) {
+            (ProcId::PID(a), ProcId::PID(b)) => *a == *b,
+            (ProcId::Name(a), ProcId::Name(b)) => is_same_text(a, b),
+            (ProcId::PID(_), ProcId::Name(_)) => false,
+            (ProcId::Name(_), ProcId::PID(_)) => false,
+        }
+    }
+}
+
+impl<S: AsStr> Eq for ProcId<S> {
+    ghost laws = { on_equiv (spec.procid_value (text_of S.text)) procid_equivalence };
+}
+
+impl<S: AsStr + Clone> ProcId<S> {
+    /// A copy: the same number, or a clone of the name. An `Err` is only for memory, and nothing has changed then.
+    pub fn try_clone(&self, alloc: Global) -> Result<ProcId<S>, AllocError>
+        requires { ClonesKeepText S.is_clone S.text }
+        ensures { IfOk result (λ copy. spec.procid_value (text_of S.text) copy ≡ spec.procid_value (text_of S.text) self.now) }
+    {
+        // A clone of a name brings its own allocator.
+        let _ = alloc;
+        match self {
+            ProcId::PID(number) => Ok(ProcId::PID(*number)),
+            ProcId::Name(name) => Ok(ProcId::Name(name.clone()?)),
+        }
+    }
+}
+
+impl ProcId<&str> {
+    /// The same process id, with a name of its own. An `Err` is only for memory, and nothing has changed then.
+    pub fn to_owned_text(&self, alloc: Global) -> Result<ProcId<String>, AllocError>
+        ensures { IfOk result (λ copy. spec.procid_value (text_of string_bytes) copy ≡ spec.procid_value (λ s. shown s) self.now) }
+    {
+        match self {
+            ProcId::PID(number) => Ok(ProcId::PID(*number)),
+            ProcId::Name(name) => Ok(ProcId::Name(String::from_str(alloc, *name)?)),
         }
     }
 }

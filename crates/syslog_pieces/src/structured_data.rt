@@ -8,7 +8,9 @@ ghost use Rattle.std.specs.Str.{encode_utf8_all};
 ghost use Rattle.syslog_pieces.specs.StructuredData.Element.{element_text, element_value};
 ghost use Rattle.syslog_pieces.specs.Pieces.View.{text_of};
 
+mod copies;
 mod element;
+mod equality;
 mod escapes;
 mod kept;
 mod list;

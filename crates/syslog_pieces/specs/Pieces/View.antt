@@ -1,5 +1,5 @@
 -- How clauses see the texts that the program holds.
-use Rattle.std.specs.Prelude.{ℕ, Bool, List, Option, MatchOption, nat_eq}
+use Rattle.std.specs.Prelude.{◌≡◌, ℕ, Bool, List, Option, MatchOption, nat_eq}
 use Rattle.std.specs.Option.{option_map}
 use Rattle.std.specs.Borrow.{Bor}
 use Rattle.std.specs.Str.{chars}
@@ -21,6 +21,10 @@ field_seen field = option_map (λ s. seen s) field
 -- the text of a value, of which AsStr gives the bytes
 abbrev pub text_of : {S : Type 0} → (S → List ℕ) → S → Text
 text_of bytes s = chars (bytes s)
+
+-- a clone has the text of its source
+abbrev pub ClonesKeepText : {S : Type 0} → (S → S → Type 0) → (S → List ℕ) → Type 0
+ClonesKeepText {S} is_clone bytes = (x y : S) → is_clone x y → bytes y ≡ bytes x
 
 -- whether two texts are the same
 abbrev pub text_eq : Text → Text → Bool

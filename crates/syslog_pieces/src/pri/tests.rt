@@ -120,3 +120,64 @@ fn leaves_a_text_without_a_priority(rt: HostRuntime) {
         assert_eq!(rt; optional_priority(text), (None, text), "{text}");
     }
 }
+
+// Each facility with its number and its name; those after it are greater.
+#[test]
+fn names_each_facility(rt: HostRuntime) {
+    let names = [
+        (SyslogFacility::LOG_KERN, 0, "kern"),
+        (SyslogFacility::LOG_USER, 1, "user"),
+        (SyslogFacility::LOG_MAIL, 2, "mail"),
+        (SyslogFacility::LOG_DAEMON, 3, "daemon"),
+        (SyslogFacility::LOG_AUTH, 4, "auth"),
+        (SyslogFacility::LOG_SYSLOG, 5, "syslog"),
+        (SyslogFacility::LOG_LPR, 6, "lpr"),
+        (SyslogFacility::LOG_NEWS, 7, "news"),
+        (SyslogFacility::LOG_UUCP, 8, "uucp"),
+        (SyslogFacility::LOG_CRON, 9, "cron"),
+        (SyslogFacility::LOG_AUTHPRIV, 10, "authpriv"),
+        (SyslogFacility::LOG_FTP, 11, "ftp"),
+        (SyslogFacility::LOG_NTP, 12, "ntp"),
+        (SyslogFacility::LOG_AUDIT, 13, "audit"),
+        (SyslogFacility::LOG_ALERT, 14, "alert"),
+        (SyslogFacility::LOG_CLOCKD, 15, "clockd"),
+        (SyslogFacility::LOG_LOCAL0, 16, "local0"),
+        (SyslogFacility::LOG_LOCAL1, 17, "local1"),
+        (SyslogFacility::LOG_LOCAL2, 18, "local2"),
+        (SyslogFacility::LOG_LOCAL3, 19, "local3"),
+        (SyslogFacility::LOG_LOCAL4, 20, "local4"),
+        (SyslogFacility::LOG_LOCAL5, 21, "local5"),
+        (SyslogFacility::LOG_LOCAL6, 22, "local6"),
+        (SyslogFacility::LOG_LOCAL7, 23, "local7"),
+    ];
+    for (place, (facility, number, name)) in names.iter().enumerate() {
+        assert_eq!(rt; facility.as_str(), *name);
+        assert_eq!(rt; *facility as i32, *number);
+        for (other, _, _) in &names[..place] {
+            assert!(rt; *other < *facility, "{name}");
+            assert_ne!(rt; *other, *facility);
+        }
+    }
+}
+
+#[test]
+fn names_each_severity(rt: HostRuntime) {
+    let names = [
+        (SyslogSeverity::SEV_EMERG, 0, "emerg"),
+        (SyslogSeverity::SEV_ALERT, 1, "alert"),
+        (SyslogSeverity::SEV_CRIT, 2, "crit"),
+        (SyslogSeverity::SEV_ERR, 3, "err"),
+        (SyslogSeverity::SEV_WARNING, 4, "warning"),
+        (SyslogSeverity::SEV_NOTICE, 5, "notice"),
+        (SyslogSeverity::SEV_INFO, 6, "info"),
+        (SyslogSeverity::SEV_DEBUG, 7, "debug"),
+    ];
+    for (place, (severity, number, name)) in names.iter().enumerate() {
+        assert_eq!(rt; severity.as_str(), *name);
+        assert_eq!(rt; *severity as i32, *number);
+        for (other, _, _) in &names[..place] {
+            assert!(rt; *other < *severity, "{name}");
+            assert_ne!(rt; *other, *severity);
+        }
+    }
+}

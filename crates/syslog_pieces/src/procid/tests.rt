@@ -132,3 +132,33 @@ fn takes_one_dash_for_an_absent_process(rt: HostRuntime) {
         assert!(rt; process_word(text).is_none(), "{text}");
     }
 }
+
+#[test]
+fn a_number_is_equal_to_no_name(rt: HostRuntime) {
+    assert!(rt; ProcId::from("5") == ProcId::from("+005"));
+    assert!(rt; ProcId::from("5") != ProcId::from("6"));
+    assert!(rt; ProcId::PID(5) != ProcId::Name("5"));
+    assert!(rt; ProcId::Name("5") != ProcId::PID(5));
+    assert!(rt; ProcId::from("x:y") == ProcId::Name("x:y"));
+    assert!(rt; ProcId::Name("") == ProcId::Name(""));
+    assert!(rt; ProcId::Name("größe") != ProcId::Name("große"));
+}
+
+#[test]
+fn copies_a_number_and_a_name(rt: HostRuntime) -> Result<(), Fail> {
+    let alloc = rt.alloc();
+    for text in ["323", "-2147483648", "x:y", "", "größe"] {
+        let procid = ProcId::from(text);
+        let copy = procid.try_clone(alloc)?;
+        assert!(rt; copy == procid, "{text}");
+        let owned = procid.to_owned_text(alloc)?;
+        assert_eq!(rt; number(&owned), number(&procid));
+        assert_eq!(rt;
+            printed(alloc, &owned)?.as_str(),
+            printed(alloc, &procid)?.as_str()
+        );
+        let again = owned.try_clone(alloc)?;
+        assert!(rt; again == owned, "{text}");
+    }
+    Ok(())
+}

@@ -1,4 +1,7 @@
 //! Worked rows and vectors: what no clause says of one text.
+mod copies;
+mod equality;
+
 use super::{StructuredElement, forgiving_list, read_element};
 use std::alloc::{AllocError, Global};
 use std::process::Abort;

@@ -1,0 +1,8 @@
+use Rattle.std.proofs.Common.{◌≡◌, map, take, string_bytes}
+use Rattle.syslog_pieces.specs.Pieces.View.{shown, text_of}
+use Rattle.syslog_pieces.specs.StructuredData.Element.{param_value}
+use Rattle.syslog_pieces.proofs.structured_data.copies.StructuredElement+ref+str.to_owned_text.Given as goal
+
+abbrev pub invariant-loop-name : goal.invariant-loop-name
+invariant-loop-name l =
+    map (param_value (text_of string_bytes)) l.params.items ≡ map (param_value (λ s. shown s)) (take l.name-index l.name-items)

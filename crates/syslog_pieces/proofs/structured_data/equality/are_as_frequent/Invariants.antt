@@ -1,0 +1,13 @@
+use Rattle.std.proofs.Common.{◌≡◌, true, take, nat_eq, count_by}
+use Rattle.std.specs.List.{list_all}
+use Rattle.syslog_pieces.specs.Pieces.View.{text_of}
+use Rattle.syslog_pieces.specs.StructuredData.Element.{param_value}
+use Rattle.syslog_pieces.specs.StructuredData.Equal.{param_eq}
+use Rattle.syslog_pieces.proofs.structured_data.equality.are_as_frequent.Given as goal
+
+abbrev pub invariant-loop-param : goal.invariant-loop-param
+invariant-loop-param g l =
+    list_all (λ p. nat_eq
+    (count_by (λ q. param_eq (param_value (text_of g.S.AsStr.text) p) (param_value (text_of g.S.AsStr.text) q)) l.a)
+    (count_by (λ q. param_eq (param_value (text_of g.S.AsStr.text) p) (param_value (text_of g.S.AsStr.text) q)) l.b))
+    (take l.param-index l.a) ≡ true

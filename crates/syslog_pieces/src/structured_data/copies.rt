@@ -1,0 +1,44 @@
+//! Copies of elements. The memory for a list is asked for once, at its final size.
+ghost use Rattle.std.specs.Prelude.{◌≡◌, IfOk, string_bytes};
+ghost use Rattle.syslog_pieces.specs.Pieces.View.{shown, text_of, ClonesKeepText};
+ghost use Rattle.syslog_pieces.specs.StructuredData.Element.{element_value};
+
+use super::StructuredElement;
+use crate::as_str::AsStr;
+use std::alloc::{AllocError, Global};
+
+impl<S: AsStr + Clone> StructuredElement<S> {
+    /// A copy: the same id, and the same parameters in the same order. An `Err` is only for memory, and nothing has
+    /// changed then.
+    pub fn try_clone(&self, alloc: Global) -> Result<StructuredElement<S>, AllocError>
+        requires { ClonesKeepText S.is_clone S.text }
+        ensures { IfOk result (λ copy. element_value (text_of S.text) copy ≡ element_value (text_of S.text) self.now) }
+    {
+        let id = self.id.clone()?;
+        let mut params = Vec::with_capacity(alloc, self.params.len())?;
+        for (name, value) in &self.params {
+            params.push((name.clone()?, value.clone()?))?;
+        }
+        Ok(StructuredElement { id, params })
+    }
+}
+
+impl StructuredElement<&str> {
+    /// The same element, with texts of its own: the same parameters in the same order. An `Err` is only for memory,
+    /// and nothing has changed then.
+    pub fn to_owned_text(&self, alloc: Global) -> Result<StructuredElement<String>, AllocError>
+        ensures { IfOk result (λ copy. element_value (text_of string_bytes) copy ≡ element_value (λ s. shown s) self.now) }
+    {
+        let mut params = Vec::with_capacity(alloc, self.params.len())?;
+        for (name, value) in &self.params {
+            params.push((
+                String::from_str(alloc, *name)?,
+                String::from_str(alloc, *value)?,
+            ))?;
+        }
+        Ok(StructuredElement {
+            id: String::from_str(alloc, self.id)?,
+            params,
+        })
+    }
+}
