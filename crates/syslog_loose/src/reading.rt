@@ -46,8 +46,9 @@ pub fn parse_message_with_year_exact_tz<'a, F: FnOnce(IncompleteDate) -> i32>(
     ensures reads { MatchResult result
         (λ m. IsRead variant (chars input.entry.now) (message_value (λ s. shown s) m))
         (λ fault. fault ≡ Invalid → IsUnreadable variant (chars input.entry.now)) }
-    // Each text of the message is a piece of the text, or a part of one; and memory is asked for only where there are elements.
+    // Memory is no answer where the text has no reading, or one without elements.
     ensures memory { NeedsNoMemory variant (chars input.entry.now) → result ≢ Err Memory }
+    // Each text of the message is a piece of the division, or a part of one.
     ensures quotes { IfOk result (λ m. IsQuoted variant (chars input.entry.now) (message_value (λ s. shown s) m)) }
 {
     let _ = (get_year, tz, local);
