@@ -32,8 +32,11 @@ severity_or : (s : Option SyslogSeverity) → option_map_or severity_number s 7 
 severity_or None = omega arith
 severity_or (Some s) = severity_low s
 
+pub priority_small : (m : MessageValue) → priority_of m < 192
+priority_small m = let f = facility_or m.facility in let s = severity_or m.severity in omega arith
+
 pub priority_low : (m : MessageValue) → priority_of m ≤ 255
-priority_low m = let f = facility_or m.facility in let s = severity_or m.severity in omega arith
+priority_low m = let h = priority_small m in omega arith
 
 -- a printed priority, before any text
 pub priority_front : (n : ℕ) (q : Text) → n ≤ 255 → Front priority (60 ∷ (decimal n ++ (62 ∷ q))) q n

@@ -1,8 +1,14 @@
 -- Texts of RFC 3164: what the fields of names mean together is one thing, a text has one division, and none of RFC 5424.
 pub mod Apart
+pub mod Exact
+pub mod Misses
+pub mod Near
 pub mod Printed
+pub mod ReadBack
+pub mod Rows
 pub mod Stamped
 pub mod Unique
+pub mod Whole
 pub mod Years
 use Rattle.std.proofs.Common.{◌≡◌, inl, inr, Option, Some, None, refl, sym, ◌∙◌}
 use Rattle.syslog_pieces.specs.Pieces.Class.{Text}

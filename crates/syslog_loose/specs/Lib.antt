@@ -1,5 +1,6 @@
 pub mod Canonical
 pub mod KeptLine
+pub mod ListedMisses
 pub mod Message
 pub mod Printed
 pub mod Reading

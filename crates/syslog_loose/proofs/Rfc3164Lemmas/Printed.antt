@@ -1,5 +1,5 @@
 -- A printed message of RFC 3164 has no division of RFC 5424: a space stands where the version would begin.
-use Rattle.std.proofs.Common.{◌≡◌, Bool, true, false, cond, [], ◌∷◌, ◌++◌, Some, sym, subst}
+use Rattle.std.proofs.Common.{◌≡◌, ap, Bool, true, false, cond, [], ◌∷◌, ◌++◌, Some, sym, subst}
 use Rattle.std.specs.Str.{drop_trailing_whitespace}
 use Rattle.syslog_pieces.specs.Pieces.Class.{Text, Front, optional}
 use Rattle.syslog_pieces.specs.Pri.{priority}
@@ -7,14 +7,20 @@ use Rattle.syslog_pieces.specs.Text.{trimmed}
 use Rattle.syslog_pieces.proofs.PieceLemmas.Class.{optional_some}
 use Rattle.syslog_pieces.proofs.PieceLemmas.Kinds.{Begins}
 use Rattle.syslog_loose.specs.Message.{MessageValue}
-use Rattle.syslog_loose.specs.Printed.{timestamp_text, name_text, tag_text, spaced_elements, priority_of, printed_3164}
+use Rattle.syslog_loose.specs.Printed.{timestamp_text, name_text, tag_text, spaced_elements, priority_of, printed_3164, printed_5424, printed}
 use Rattle.syslog_loose.specs.Rfc5424.{IsNot5424}
+use Rattle.syslog_loose.specs.declared.message.Protocol.{Protocol}
+use Rattle.syslog_loose.specs.declared.message.Protocol.TheVariants.{RFC3164, RFC5424}
 use Rattle.syslog_loose.proofs.PriorityLemmas.{priority_low, priority_front, priority_trimmed}
 use Rattle.syslog_loose.proofs.Rfc3164Lemmas.Apart.{IsDigit, number_begins, versioned}
 
 no_digit : (b : Bool) (ys : Text) → Begins IsDigit (cond b [] (32 ∷ ys)) → ⊥
 no_digit true ys h = h
 no_digit false ys h = let t : false ≡ true = h in cc
+
+-- the printed text of a message of RFC 3164
+pub printed_is : (m : MessageValue) → m.protocol ≡ RFC3164 → printed m ≡ printed_3164 m
+printed_is m e = ap (λ (x : Protocol). elim x [ RFC5424 version ↦ printed_5424 version m | RFC3164 ↦ printed_3164 m ]) e
 
 pub printed_apart : (m : MessageValue) → IsNot5424 (printed_3164 m)
 unfolding printed_3164

@@ -1,12 +1,16 @@
 //! What is printed of a message, and what is read of it.
-ghost use Rattle.std.specs.Prelude.{◌≡◌, ◌↔◌, ℕ, IsSome};
+ghost use Rattle.std.specs.Prelude.{◌≡◌, ◌↔◌, ◌⊎◌, ℕ, IfSome, IsSome};
 ghost use Rattle.syslog_pieces.specs.Pieces.Class.{Text};
+ghost use Rattle.syslog_pieces.specs.Timestamp.Plain.{IsPlainStamp};
+ghost use Rattle.syslog_pieces.specs.Timestamp.Zone.{Dating};
 ghost use Rattle.syslog_pieces.specs.declared.structured_data.listed.DashRule.{DashRule};
 ghost use Rattle.syslog_loose.specs.Canonical.{IsBounded, IsCanonical};
+ghost use Rattle.syslog_loose.specs.ListedMisses.{HasNoMiss, IsNear, IsNearlyCanonical, IsOfMonthDate};
 ghost use Rattle.syslog_loose.specs.Message.{MessageValue};
 ghost use Rattle.syslog_loose.specs.Printed.{printed};
+ghost use Rattle.syslog_loose.specs.Rfc3164.{IsRead3164};
 ghost use Rattle.syslog_loose.specs.Rfc5424.{IsRead5424};
-ghost use Rattle.syslog_loose.specs.declared.message.Protocol.TheVariants.{RFC5424};
+ghost use Rattle.syslog_loose.specs.declared.message.Protocol.TheVariants.{RFC3164, RFC5424};
 
 /// The printed text of a message of RFC 5424 is read as the same message exactly where the message is canonical, under
 /// either rule of the dash.
@@ -25,4 +29,27 @@ pub fn read_rfc5424_is_canonical()
 pub fn printed_rfc5424_prints_again()
     ensures { (text : Text) (m : MessageValue) → IsRead5424 text m
         → (n : MessageValue) × IsRead5424 (printed m) n × (printed n ≡ printed m) }
+{}
+
+/// A printed message of RFC 3164 is read as the message itself exactly where it meets the written condition: under each
+/// rule of the dash, with the condition under that rule, and for every year and zone.
+pub fn rfc3164_is_read_back_exactly()
+    ensures { (rule : DashRule) (dating : Dating) (m : MessageValue) → m.protocol ≡ RFC3164 → IsBounded m
+        → IsRead3164 rule dating (printed m) m ↔ IsCanonical rule m }
+{}
+
+/// What is read as RFC 3164 meets the written condition but for its listed misses, where it has a facility; its facility
+/// and severity aside, always. A timestamp that isn't plain is that of a month date that the text shows.
+pub fn read_rfc3164_has_listed_misses_alone()
+    ensures near { (rule : DashRule) (dating : Dating) (text : Text) (m : MessageValue) → IsRead3164 rule dating text m → IsNear m }
+    ensures nearly { (rule : DashRule) (dating : Dating) (text : Text) (m : MessageValue)
+        → IsRead3164 rule dating text m → IsSome m.facility → IsNearlyCanonical m }
+    ensures timestamp { (rule : DashRule) (dating : Dating) (text : Text) (m : MessageValue)
+        → IsRead3164 rule dating text m → IfSome m.timestamp (λ s. IsPlainStamp s ⊎ IsOfMonthDate dating text s) }
+{}
+
+/// The listed misses are all that a message of RFC 3164 can miss beside the rest of the condition.
+pub fn canonical_rfc3164_has_no_listed_miss()
+    ensures { (rule : DashRule) (m : MessageValue) → m.protocol ≡ RFC3164
+        → IsCanonical rule m ↔ (IsNearlyCanonical m × HasNoMiss rule m) }
 {}

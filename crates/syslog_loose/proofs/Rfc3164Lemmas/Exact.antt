@@ -1,0 +1,249 @@
+-- A message of RFC 3164 that is read from its own printed text is canonical: its division, moved piece by piece to the
+-- places that the printed text has.
+use Rattle.std.proofs.Common.{◌≡◌, ℕ, ◌<◌, ◌≤◌, inl, inr, List, [], ◌∷◌, ◌++◌, length, Option, Some, None, IfSome, IsSome, refl, sym, ap, subst, ◌∙◌, arith, append_assoc, append-nil}
+use Rattle.std.proofs.lemmas.List.{length-append}
+use Rattle.std.specs.Char.{is_not_whitespace}
+use Rattle.std.specs.Option.{option_and_then}
+use Rattle.syslog_pieces.specs.Pieces.Class.{Text, Values, Front, NoFront, Row, Each, Ends, run, exactly, rest, optional, spaced}
+use Rattle.syslog_pieces.specs.Pri.{priority, facility_of}
+use Rattle.syslog_pieces.specs.StructuredData.Element.{ElementValue}
+use Rattle.syslog_pieces.specs.StructuredData.Listed.{IsListed, BeginsNoList, listed, elements_or}
+use Rattle.syslog_pieces.specs.Text.{is_blank, is_tag_char, dash, colon, name_text, IsHost, host, tag_word}
+use Rattle.syslog_pieces.specs.Timestamp.Loose.{loose_stamp}
+use Rattle.syslog_pieces.specs.Timestamp.Plain.{IsPlainStamp}
+use Rattle.syslog_pieces.specs.Timestamp.Printed.{printed_stamp}
+use Rattle.syslog_pieces.specs.Timestamp.Zone.{Dating}
+use Rattle.syslog_pieces.specs.declared.procid.ProcId.{ProcId}
+use Rattle.syslog_pieces.specs.declared.structured_data.listed.DashRule.{DashRule}
+use Rattle.syslog_pieces.specs.declared.timestamp.OffsetTimestamp.{OffsetTimestamp}
+use Rattle.syslog_pieces.proofs.PieceLemmas.Class.{run_same, rest_same, heads, row_head, division_front, optional_det, optional_some, exactly_det, run_det, spaced_det, spaced_parts}
+use Rattle.syslog_pieces.proofs.PieceLemmas.Kinds.{Begins, begins_apart, begins_more, begins_with}
+use Rattle.syslog_pieces.proofs.PieceLemmas.Steps.{piece_front, step, step_value, front_longer, absent_none, present_front}
+use Rattle.syslog_pieces.proofs.PriLemmas.{priority_det, priority_composed}
+use Rattle.syslog_pieces.proofs.StructuredDataLemmas.Listed.{begins_no_list}
+use Rattle.syslog_pieces.proofs.TextLemmas.Words.{host_det, tag_word_det}
+use Rattle.syslog_pieces.proofs.TimestampLemmas.Loose.{loose_stamp_det, stamped_date_begins}
+use Rattle.syslog_pieces.proofs.TimestampLemmas.RoundTrip.{stamp_text-plain, printed_stamp-begins}
+use Rattle.syslog_loose.specs.Canonical.{IsBounded, IsPlainHost, ArePlainNames, IsPlain3164, IsPlainFor, IsCanonical}
+use Rattle.syslog_loose.specs.ListedMisses.{is_no_colon, HasNoColon, IsNear}
+use Rattle.syslog_loose.specs.Message.{MessageValue}
+use Rattle.syslog_loose.specs.Printed.{timestamp_text, priority_of, printed_3164}
+use Rattle.syslog_loose.specs.Rfc3164.{Names3164, names, NamesProgram, Resolves, body_row, rfc3164_row, IsRead3164}
+use Rattle.syslog_loose.specs.declared.message.Protocol.{Protocol}
+use Rattle.syslog_loose.proofs.PriorityLemmas.{priority_low, priority_front, priority_small}
+use Rattle.syslog_loose.proofs.Rfc3164Lemmas.Apart.{digit_range}
+use Rattle.syslog_loose.proofs.Rfc3164Lemmas.Misses.{plain_names}
+use Rattle.syslog_loose.proofs.Rfc3164Lemmas.Near.{each_right, TagField, tag_field, form_parts, no_colon_process, severity_beside, read_near}
+use Rattle.syslog_loose.proofs.Rfc3164Lemmas.ReadBack.{tag_back, program_field, host_field_back, stamp_unblank, stamp_back}
+use Rattle.syslog_loose.proofs.Rfc3164Lemmas.Rows.{from_gap, from_list, from_blanks, from_colon, from_tag_end, from_tag, from_stamp, from_priority_end}
+use Rattle.syslog_loose.proofs.Rfc3164Lemmas.Unique.{told}
+use Rattle.syslog_loose.proofs.Rfc3164Lemmas.Whole.{program_text, whole, tail_text, trimmed_whole}
+use Rattle.syslog_loose.proofs.TrimLemmas.{message_end, message_blanks}
+
+some_same : {A : Type 0} (x y : A) → Some x ≡ Some y → x ≡ y
+some_same x y e = cc
+
+-- ---- the host
+
+-- a host that was read as the text printed before a space is plain
+host_kept : (h p q u : Text) → p ++ q ≡ h ++ (32 ∷ u) → IsHost p q (Some h) → IsPlainHost h
+host_kept h p q u e (l, a, inl (n, b, (w, d))) = subst IsPlainHost (sym w) ((l, a), d, n)
+host_kept h p q u e (l, a, inr (r, w, b, z)) =
+    let s : p ≡ h = sym (some_same h p z) in
+    let t : q ≡ 32 ∷ u = rest_same p q h (32 ∷ u) e s in
+    absurd (let y : ◌≡◌ {A = ℕ} 58 32 = heads 58 32 r u (sym w ∙ t) in omega arith)
+
+dash_is_no_more : (p : Text) → dash ≡ p ++ colon → ⊥
+dash_is_no_more [] e = let t : ◌≡◌ {A = ℕ} 45 58 = heads 45 58 [] [] e in omega arith
+dash_is_no_more (c ∷ p) e = let t = ap length e in omega (arith, length-append p colon)
+
+each_colon : (p : Text) → Each is_not_whitespace p → Each is_not_whitespace (p ++ colon)
+each_colon [] h = (refl, tt)
+each_colon (c ∷ p) h = (h.0, each_colon p h.1)
+
+-- a dash before a space is no host of a text
+dash_no_host : (h p q u : Text) → p ++ q ≡ dash ++ (32 ∷ u) → IsHost p q (Some h) → ⊥
+dash_no_host h p q u e (l, a, inl (n, b, (w, d))) = d (run_same is_not_whitespace p q dash (32 ∷ u) e a b (refl, tt) refl)
+dash_no_host h p q u e (l, a, inr (r, w, b, z)) =
+    let e1 : (p ++ colon) ++ r ≡ dash ++ (32 ∷ u) = append_assoc p colon r ∙ ap (λ (x : Text). p ++ x) (sym w) ∙ e in
+    dash_is_no_more p (sym (run_same is_not_whitespace (p ++ colon) r dash (32 ∷ u) e1 (each_colon p a) b (refl, tt) refl))
+
+-- ---- what the fields were
+
+-- a host of the answer was the host field's text
+abbrev IsHostOf : Option (Option Text) → Text → Type 0
+IsHostOf None h = ⊥
+IsHostOf (Some None) h = ⊥
+IsHostOf (Some (Some x)) h = h ≡ x
+
+no_host : (n : Names3164) (origin app : Option Text) (process : Option (ProcId Text)) (h : Text) → n ≡ names origin app process → origin ≡ None → n.hostname ≡ Some h → ⊥
+no_host n origin app process h e z w = let t : None ≡ Some h = sym z ∙ ap (λ (x : Names3164). x.hostname) (sym e) ∙ w in cc
+
+program_host : (origin : Option Text) (t : Text) (n : Names3164) → NamesProgram origin t n → n.hostname ≡ origin
+program_host origin t n (inl (tag, id, process, f, p, e)) = ap (λ (x : Names3164). x.hostname) e
+program_host origin t n (inr (none, e)) = ap (λ (x : Names3164). x.hostname) e
+
+host_of : (v t : Option (Option Text)) (n : Names3164) (h : Text) → Resolves v t n → n.hostname ≡ Some h → IsHostOf v h
+host_of None None n h r e = no_host n None None None h r refl e
+host_of (Some None) None n h r e = no_host n None None None h r refl e
+host_of (Some (Some x)) None n h (inl (tag, id, process, f, p, r)) e = absurd (no_host n None (Some tag) (Some process) h r refl e)
+host_of (Some (Some x)) None n h (inr (none, r)) e = some_same h x (sym e ∙ ap (λ (z : Names3164). z.hostname) r)
+host_of None (Some None) n h r e = no_host n None None None h r refl e
+host_of (Some None) (Some None) n h r e = no_host n None None None h r refl e
+host_of (Some (Some x)) (Some None) n h r e = absurd (no_host n None None None h r refl e)
+host_of None (Some (Some t)) n h r e = let u : None ≡ Some h = sym (program_host None t n r) ∙ e in cc
+host_of (Some None) (Some (Some t)) n h r e = let u : None ≡ Some h = sym (program_host None t n r) ∙ e in cc
+host_of (Some (Some x)) (Some (Some t)) n h r e = some_same h x (sym e ∙ program_host (Some x) t n r)
+
+-- a process of the answer has no colon where the host field held no text
+abbrev HoldsNoText : Option (Option Text) → Type 0
+HoldsNoText None = Unit {0}
+HoldsNoText (Some None) = Unit {0}
+HoldsNoText (Some (Some h)) = ⊥
+
+abbrev NoColonProcess : Names3164 → Type 0
+NoColonProcess n = IfSome n.procid HasNoColon
+
+program_process : (t q : Text) (origin : Option Text) (n : Names3164) → TagField q (Some (Some t)) → NamesProgram origin t n → NoColonProcess n
+program_process t q origin n ((l, a, d), k) (inl (tag, id, process, f, p, e)) =
+    let parts = form_parts t tag id f in
+    subst NoColonProcess (sym e) (no_colon_process id process p (each_right is_not_whitespace is_no_colon id (parts.within is_tag_char a)))
+program_process t q origin n k (inr (none, e)) = subst NoColonProcess (sym e) tt
+
+process_of : (v t : Option (Option Text)) (q : Text) (n : Names3164) → HoldsNoText v → TagField q t → Resolves v t n → NoColonProcess n
+process_of None None q n x k r = subst NoColonProcess (sym r) tt
+process_of (Some None) None q n x k r = subst NoColonProcess (sym r) tt
+process_of (Some (Some h)) t q n x k r = absurd x
+process_of None (Some None) q n x k r = subst NoColonProcess (sym r) tt
+process_of (Some None) (Some None) q n x k r = subst NoColonProcess (sym r) tt
+process_of None (Some (Some t)) q n x k r = program_process t q None n k r
+process_of (Some None) (Some (Some t)) q n x k r = program_process t q None n k r
+
+-- the host field before the rest, by its parts
+host_field_parts : (t q : Text) (x : Option Text) → Front (optional (spaced host)) (32 ∷ t) q (Some x) → Front host t q x
+host_field_parts t q x f =
+    let (r, e, g) = spaced_parts host (present_front (spaced host) f) in
+    let same : t ≡ r = cc in subst (λ (y : Text). Front host y q x) (sym same) g
+
+host_plain : (origin : Option Text) (v t : Option (Option Text)) (n : Names3164) (q u : Text) → n.hostname ≡ origin → Resolves v t n → Front (optional (spaced host)) (32 ∷ (name_text origin ++ (32 ∷ u))) q v → IfSome origin IsPlainHost
+host_plain None v t n q u e r f = tt
+host_plain (Some h) v t n q u e r f = kept v (host_of v t n h r e) f
+  where
+    kept : (v : Option (Option Text)) → IsHostOf v h → Front (optional (spaced host)) (32 ∷ (h ++ (32 ∷ u))) q v → IsPlainHost h
+    kept None w g = absurd w
+    kept (Some None) w g = absurd w
+    kept (Some (Some x)) w g =
+        let k = host_field_parts (h ++ (32 ∷ u)) q (Some x) g in
+        host_kept h k.piece q u (sym k.whole) (subst (λ (y : Text). IsHost k.piece q (Some y)) (sym w) k.is)
+
+dash_holds : (v : Option (Option Text)) (q u : Text) → Front (optional (spaced host)) (32 ∷ (dash ++ (32 ∷ u))) q v → HoldsNoText v
+dash_holds None q u f = tt
+dash_holds (Some None) q u f = tt
+dash_holds (Some (Some x)) q u f =
+    let k = host_field_parts (dash ++ (32 ∷ u)) q (Some x) f in dash_no_host x k.piece q u (sym k.whole) k.is
+
+-- ---- the timestamp
+abbrev IsLow : ℕ → Type 0
+IsLow c = c ≤ 57
+
+stamp_low : (s : OffsetTimestamp) → Begins IsLow (printed_stamp s.instant.nanosecond s.offset.seconds)
+stamp_low s =
+    let text = printed_stamp s.instant.nanosecond s.offset.seconds in
+    let (c, more, digit, first) = printed_stamp-begins s in
+    elim first [ inl e ↦ begins_with IsLow c text more e (digit_range c digit).1 | inr e ↦ begins_with IsLow 45 text (c ∷ more) e (omega arith) ]
+
+-- a timestamp that was read as the printed text of it is plain
+stamp_plain : (dating : Dating) (v : Option OffsetTimestamp) (q u : Text) → Front (loose_stamp dating) (timestamp_text v ++ (32 ∷ u)) q v → IfSome v IsPlainStamp
+stamp_plain dating None q u f = tt
+stamp_plain dating (Some s) q u f = kind f.is
+  where
+    kind : (loose_stamp dating).Is f.piece q (Some s) → IsPlainStamp s
+    kind (inl h) = stamp_text-plain f.piece s h.0
+    kind (inr h) =
+        absurd (begins_apart (f.piece ++ q) (λ c l k. omega arith) (subst (λ (y : Text). Begins IsLow y) f.whole (begins_more IsLow (timestamp_text (Some s)) (32 ∷ u) (stamp_low s))) (stamped_date_begins dating f.piece q (Some s) h))
+
+-- ---- the list
+list_none : (rule : DashRule) (msg q : Text) (v : Option (List ElementValue)) → Front (optional (listed rule)) msg q v → elements_or v ≡ [] → length msg ≤ length q → NoFront (listed rule) msg
+list_none rule msg q None f e l = absent_none (listed rule) f
+list_none rule msg q (Some es) f e l = absurd (taken f.piece f.is f.whole)
+  where
+    taken : (p : Text) → IsListed rule p q es → msg ≡ p ++ q → ⊥
+    taken p (inl (d, a, z)) w = let y = ap length (w ∙ ap (λ (x : Text). x ++ q) d) in omega arith
+    taken p (inr (m, z)) w = let y = ap length e in omega arith
+
+-- a message behind the colon, without elements, is no list
+end_list : (rule : DashRule) (es : List ElementValue) (msg : Text) (vs : Values (from_blanks rule)) → es ≡ [] → Ends is_blank msg → es ≡ elements_or vs.1.0 → msg ≡ vs.1.1.1.0
+    → Front (Row (from_blanks rule)) (tail_text es msg) [] vs → BeginsNoList rule msg
+end_list rule (e ∷ es) msg vs n h k w d = absurd (let t : e ∷ es ≡ [] = n in cc)
+end_list rule [] msg vs n h k w d =
+    let d9 : Front (Row (from_list rule)) msg [] vs.1 = step (run is_blank) (from_list rule) (run_det is_blank) {t = message_end msg} {q = msg} {v = tt} (message_blanks msg h) d in
+    let g9 = row_head (optional (listed rule)) from_gap d9 in
+    let g10 = row_head (run is_blank) (rest ∷ []) g9.2 in
+    let g11 = row_head rest [] g10.2 in
+    let e : msg ≡ g10.0 = w ∙ g11.1.is.1 ∙ sym (append-nil g11.1.piece) ∙ ap (λ (x : Text). g11.1.piece ++ x) (sym g11.1.is.0) ∙ sym g11.1.whole in
+    begins_no_list rule msg (list_none rule msg g9.0 vs.1.0 g9.1 (sym k) (let a = front_longer (run is_blank) g10.1 in let c = ap length e in omega arith))
+
+-- ---- the priority
+
+-- each printed priority has a facility and a severity
+facility_there : (pri : ℕ) → pri < 192 → IsSome (facility_of pri)
+facility_there pri h = let (f, s, there, told, whole) = priority_composed pri h in subst IsSome (sym there) refl
+
+-- ---- the message
+module _ (rule : DashRule) (dating : Dating) (m : MessageValue) (b : IsBounded m) where
+  module _ (v : Values (rfc3164_row rule dating)) (n : Names3164) (resolves : Resolves v.1.1.1.0 v.1.1.1.1.0 n) (means : m ≡ told rule dating v n) (near : IsNear m) where
+    fields_plain : Front (Row (rfc3164_row rule dating)) (whole m (tail_text m.structured_data m.msg)) [] v → IsCanonical rule m
+    fields_plain d =
+        let t : Text = tail_text m.structured_data m.msg in
+        let u : Text = program_text m.appname m.procid ++ (58 ∷ t) in
+        let y : Text = name_text m.hostname ++ (32 ∷ u) in
+        let x2 : Text = timestamp_text m.timestamp ++ (32 ∷ y) in
+        let p = priority_of m in
+        let pri : Front (optional priority) (whole m t) (32 ∷ x2) (Some p) = optional_some priority (priority_front p (32 ∷ x2) (priority_low m)) in
+        let pri_is : v.0 ≡ Some p = step_value (optional priority) (from_priority_end rule dating) (optional_det priority priority_det) pri d in
+        let d2 : Front (Row (from_priority_end rule dating)) (32 ∷ x2) [] v.1 = step (optional priority) (from_priority_end rule dating) (optional_det priority priority_det) pri d in
+        let d3 : Front (Row (from_stamp rule dating)) x2 [] v.1.1 = step (run is_blank) (from_stamp rule dating) (run_det is_blank) {t = 32 ∷ x2} {q = x2} {v = tt} (piece_front (run is_blank) (32 ∷ []) x2 tt ((refl, tt), stamp_unblank m.timestamp (32 ∷ y))) d2 in
+        let g3 = row_head (loose_stamp dating) (body_row rule) d3 in
+        let stamp : m.timestamp ≡ v.1.1.0 = ap (λ (x : MessageValue). x.timestamp) means in
+        let plain : IfSome m.timestamp IsPlainStamp = stamp_plain dating m.timestamp g3.0 y (subst (λ (x : Option OffsetTimestamp). Front (loose_stamp dating) x2 g3.0 x) (sym stamp) g3.1) in
+        let d4 : Front (Row (body_row rule)) (32 ∷ y) [] v.1.1.1 = step (loose_stamp dating) (body_row rule) (loose_stamp_det dating) {t = x2} {q = 32 ∷ y} {v = m.timestamp} (stamp_back dating m.timestamp y plain) d3 in
+        let g4 = row_head (optional (spaced host)) (from_tag rule) d4 in
+        let host_is : n.hostname ≡ m.hostname = ap (λ (x : MessageValue). x.hostname) (sym means) in
+        let kept : IfSome m.hostname IsPlainHost = host_plain m.hostname v.1.1.1.0 v.1.1.1.1.0 n g4.0 u host_is resolves g4.1 in
+        let d5 : Front (Row (from_tag rule)) (32 ∷ u) [] v.1.1.1.1 = step (optional (spaced host)) (from_tag rule) (optional_det (spaced host) (spaced_det host host_det)) {t = 32 ∷ y} {q = 32 ∷ u} {v = Some m.hostname} (host_field_back m.hostname u kept) d4 in
+        let g5 = row_head (optional (spaced tag_word)) (from_tag_end rule) d5 in
+        let no_colon : IfSome m.procid HasNoColon = elim near.colon_process [
+          | inl k ↦ k
+          | inr none ↦ (
+              let field = subst (λ (x : Option Text). Front (optional (spaced host)) (32 ∷ (name_text x ++ (32 ∷ u))) g4.0 v.1.1.1.0) none g4.1 in
+              subst (λ (x : MessageValue). IfSome x.procid HasNoColon) (sym means) (process_of v.1.1.1.0 v.1.1.1.1.0 (32 ∷ u) n (dash_holds v.1.1.1.0 g4.0 u field) (tag_field (32 ∷ u) g5.0 v.1.1.1.1.0 g5.1) resolves))
+        ] in
+        let named : ArePlainNames m.hostname m.appname m.procid = plain_names m.hostname m.appname m.procid near.names no_colon in
+        let (q, tag, gap) = tag_back m.hostname m.appname m.procid t named b.procid in
+        let d6 : Front (Row (from_tag_end rule)) q [] v.1.1.1.1.1 = step (optional (spaced tag_word)) (from_tag_end rule) (optional_det (spaced tag_word) (spaced_det tag_word tag_word_det)) {t = 32 ∷ u} {q = q} {v = program_field m.appname m.procid} tag d5 in
+        let d7 : Front (Row (from_colon rule)) (58 ∷ t) [] v.1.1.1.1.1.1 = step (run is_blank) (from_colon rule) (run_det is_blank) {t = q} {q = 58 ∷ t} {v = tt} gap d6 in
+        let d8 : Front (Row (from_blanks rule)) t [] v.1.1.1.1.1.1.1 = step (optional (exactly colon)) (from_blanks rule) (optional_det (exactly colon) (exactly_det colon)) {t = 58 ∷ t} {q = t} {v = Some tt} (optional_some (exactly colon) (piece_front (exactly colon) colon t tt refl)) d7 in
+        let own : IsPlain3164 rule m = record {
+          msgid = near.msgid;
+          names = named;
+          elements = near.parameters;
+          no_list = λ e. end_list rule m.structured_data m.msg v.1.1.1.1.1.1.1 e near.msg_front (ap (λ (x : MessageValue). x.structured_data) means) (ap (λ (x : MessageValue). x.msg) means) d8;
+        } in (
+          record {
+            facility = subst (λ (x : MessageValue). IsSome x.facility) (sym means) (subst (λ (x : Option ℕ). IsSome (option_and_then facility_of x)) (sym pri_is) (facility_there p (priority_small m)));
+            severity = subst (λ (x : MessageValue). IsSome x.severity) (sym means) (severity_beside v.0 (subst (λ (x : Option ℕ). IsSome (option_and_then facility_of x)) (sym pri_is) (facility_there p (priority_small m))));
+            timestamp = plain;
+            hostname = kept;
+            elements = near.elements;
+            msg_front = near.msg_front;
+            msg_end = near.msg_end;
+          },
+          subst (λ (x : Protocol). IsPlainFor rule x m) (sym near.protocol) own,
+        )
+
+  pub read_is_canonical : IsRead3164 rule dating (printed_3164 m) m → IsCanonical rule m
+  read_is_canonical r =
+      let (n, resolves, means) = r.means in
+      let near = read_near rule dating (printed_3164 m) m r in
+      let d = division_front (rfc3164_row rule dating) r.division in
+      fields_plain r.values n resolves means near (subst (λ (x : Text). Front (Row (rfc3164_row rule dating)) x [] r.values) (trimmed_whole m near.msg_end) d)

@@ -1,0 +1,37 @@
+-- The pieces of RFC 3164 from each one on.
+use Rattle.std.proofs.Common.{List, [], ◌∷◌}
+use Rattle.syslog_pieces.specs.Pieces.Class.{Class, run, rest, exactly, optional, spaced}
+use Rattle.syslog_pieces.specs.StructuredData.Listed.{listed}
+use Rattle.syslog_pieces.specs.Text.{is_blank, colon, tag_word}
+use Rattle.syslog_pieces.specs.Timestamp.Loose.{loose_stamp}
+use Rattle.syslog_pieces.specs.Timestamp.Zone.{Dating}
+use Rattle.syslog_pieces.specs.declared.structured_data.listed.DashRule.{DashRule}
+use Rattle.syslog_loose.specs.Rfc3164.{body_row}
+
+-- the blanks behind the list, and the message
+abbrev pub from_gap : List Class
+from_gap = run is_blank ∷ rest ∷ []
+
+abbrev pub from_list : DashRule → List Class
+from_list rule = optional (listed rule) ∷ from_gap
+
+-- the blanks behind the colon
+abbrev pub from_blanks : DashRule → List Class
+from_blanks rule = run is_blank ∷ from_list rule
+
+abbrev pub from_colon : DashRule → List Class
+from_colon rule = optional (exactly colon) ∷ from_blanks rule
+
+-- the blanks behind the tag
+abbrev pub from_tag_end : DashRule → List Class
+from_tag_end rule = run is_blank ∷ from_colon rule
+
+abbrev pub from_tag : DashRule → List Class
+from_tag rule = optional (spaced tag_word) ∷ from_tag_end rule
+
+abbrev pub from_stamp : DashRule → Dating → List Class
+from_stamp rule dating = loose_stamp dating ∷ body_row rule
+
+-- the blanks behind the priority
+abbrev pub from_priority_end : DashRule → Dating → List Class
+from_priority_end rule dating = run is_blank ∷ from_stamp rule dating
