@@ -98,8 +98,8 @@ fn date_of(year: Option<u32>, day: Day, clock: Clock) -> MonthDate
 fn read_day(text: &str) -> Option<(Day, &str)>
     ensures { Reads (Row parts.day_row) parts.day_values (chars text.now) result }
 {
-    let (month, rest) = read_month(text)?;
-    let rest = some_blanks(rest)?;
+    let (month, behind) = read_month(text)?;
+    let rest = some_blanks(behind)?;
     let (day, rest) = number(rest, u32::MAX)?;
     let rest = some_blanks(rest)?;
     Some((Day { month, day }, rest))
