@@ -1,3 +1,6 @@
+mod month_dates;
+mod zones;
+
 use super::plain::is_plain;
 use super::{OffsetTimestamp, header_stamp, rfc3339};
 use jiff::Timestamp;
