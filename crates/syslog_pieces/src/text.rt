@@ -6,17 +6,19 @@
 ghost use Rattle.std.specs.Prelude.{◌≡◌, ◌++◌, [], ◌∷◌, MatchOption};
 ghost use Rattle.std.specs.Str.{bytes_eq, chars, IsUtf8};
 ghost use Rattle.syslog_pieces.specs.Text.CharClass.{has};
-ghost use Rattle.syslog_pieces.specs.Pieces.Class.{Front, NoFront, exactly, optional, run, some_run, spaced};
+ghost use Rattle.syslog_pieces.specs.Pieces.Class.{Front, NoFront, exactly, run, some_run};
 ghost use Rattle.syslog_pieces.specs.Bodies.Scan.{EndsRun, SplitsRun};
 ghost use Rattle.syslog_pieces.specs.Text as spec;
-ghost use Rattle.syslog_pieces.specs.Pieces.View.{field_seen, seen, shown, Reads, Skips};
+ghost use Rattle.syslog_pieces.specs.Pieces.View.{seen, shown, Reads, Skips};
 
+mod fields;
 pub mod kept;
 mod lanes;
 mod scan;
 #[cfg(test)]
 mod tests;
 
+pub use fields::{host_field, tag_field};
 use scan::{ascii_run, is_cut};
 
 /// A class of characters.
@@ -227,48 +229,6 @@ pub fn tag_word(text: &str) -> Option<(Option<&str>, &str)>
         return None;
     }
     Some((named(run), rest))
-}
-
-// The host behind a space at the front.
-#[inline(always)]
-fn spaced_host(text: &str) -> Option<(Option<&str>, &str)>
-    ensures { Reads (spaced spec.host) seen (chars text.now) result }
-{
-    let rest = literal(text, ' ')?;
-    host(rest)
-}
-
-// The tag word behind a space at the front.
-#[inline(always)]
-fn spaced_tag(text: &str) -> Option<(Option<&str>, &str)>
-    ensures { Reads (spaced spec.tag_word) seen (chars text.now) result }
-{
-    let rest = literal(text, ' ')?;
-    tag_word(rest)
-}
-
-/// The host field of RFC 3164, where a space and a host begin the text, and the text behind it. The field is there and
-/// empty for `-`.
-#[inline(always)]
-pub fn host_field(text: &str) -> (Option<Option<&str>>, &str)
-    ensures { Front (optional (spaced spec.host)) (chars text.now) (shown result.1) (field_seen result.0) }
-{
-    match spaced_host(text) {
-        Some((name, rest)) => (Some(name), rest),
-        None => (None, text),
-    }
-}
-
-/// The tag field of RFC 3164, where a space and a tag word begin the text, and the text behind it. The field is there
-/// and empty for `-`.
-#[inline(always)]
-pub fn tag_field(text: &str) -> (Option<Option<&str>>, &str)
-    ensures { Front (optional (spaced spec.tag_word)) (chars text.now) (shown result.1) (field_seen result.0) }
-{
-    match spaced_tag(text) {
-        Some((tag, rest)) => (Some(tag), rest),
-        None => (None, text),
-    }
 }
 
 /// The text without the white space at its two ends.

@@ -1,6 +1,7 @@
 //! Worked rows and vectors: what no clause says of one text.
 mod copies;
 mod equality;
+mod listed;
 
 use super::{StructuredElement, forgiving_list, read_element};
 use std::alloc::{AllocError, Global};

@@ -1,6 +1,6 @@
 use super::{
-    CharClass, blanks, first, host, literal, number, run_end, skip_some, some_blanks, split_run,
-    trimmed, word,
+    CharClass, blanks, first, host, host_field, literal, number, run_end, skip_some, some_blanks,
+    split_run, tag_field, tag_word, trimmed, word,
 };
 use std::alloc::{AllocError, Global};
 use std::process::Abort;
@@ -13,7 +13,7 @@ const LONGEST: usize = 40;
 type Cutting = (CharClass, char, &'static [char]);
 
 /// Each class with ASCII characters that stop it.
-const ASCII_STOPS: [Cutting; 9] = [
+const ASCII_STOPS: [Cutting; 11] = [
     (CharClass::Digit, '7', &['x', '/', ':']),
     (CharClass::Blank, ' ', &['x', '\n', '\u{b}']),
     (CharClass::Visible, 'v', &[' ', '\t', '\u{b}', '\r']),
@@ -23,10 +23,12 @@ const ASCII_STOPS: [Cutting; 9] = [
     (CharClass::Open, '[', &[']']),
     (CharClass::Inert, '=', &['\\', '"', ']']),
     (CharClass::Bare, '"', &['\\']),
+    (CharClass::Tag, '[', &[' ', '\t', '\u{c}', ':']),
+    (CharClass::Label, ']', &[' ', '\r', ':', '[']),
 ];
 
 /// The same with fillers or stops past ASCII.
-const WIDE_STOPS: [Cutting; 9] = [
+const WIDE_STOPS: [Cutting; 11] = [
     (CharClass::Digit, '0', &['\u{663}', '\u{3000}']),
     (CharClass::Blank, '\t', &['\u{85}', '\u{2003}', '\u{3000}']),
     (CharClass::Visible, 'v', &['\u{85}', '\u{2003}', '\u{3000}']),
@@ -40,6 +42,12 @@ const WIDE_STOPS: [Cutting; 9] = [
     (CharClass::Plain, '局', &['\\', '"']),
     (CharClass::Open, '\u{85}', &[']']),
     (CharClass::Inert, 'ß', &['\\', '"', ']']),
+    (
+        CharClass::Tag,
+        'ß',
+        &['\u{85}', '\u{2003}', '\u{3000}', ':'],
+    ),
+    (CharClass::Label, '"', &['\u{85}', '\u{a0}', '\u{3000}']),
 ];
 
 // The filler up to the longest length on both sides of the stop.
@@ -149,6 +157,56 @@ fn reads_a_word(rt: HostRuntime) {
     assert_eq!(rt; word("-\t"), Some((None, "\t")));
     for text in ["", " x", ":", ":\tx", "\u{2003}x"] {
         assert_eq!(rt; word(text), None, "{text}");
+    }
+}
+
+#[test]
+fn reads_a_tag_word(rt: HostRuntime) {
+    for (text, name, left) in [
+        ("su: 'su root'", "su", ": 'su root'"),
+        ("app[323]: a message", "app[323]", ": a message"),
+        ("[323]: hi", "[323]", ": hi"),
+        ("app[x:y]: hi", "app[x", ":y]: hi"),
+        ("%ASA-6-302013: Built", "%ASA-6-302013", ": Built"),
+        ("zork:: hi", "zork", ":: hi"),
+        ("-- x", "--", " x"),
+        ("cron", "cron", ""),
+        ("außerplanmäßig\u{a0}x", "außerplanmäßig", "\u{a0}x"),
+    ] {
+        assert_eq!(rt; tag_word(text), Some((Some(name), left)), "{text}");
+    }
+    assert_eq!(rt; tag_word("-: hi"), Some((None, ": hi")));
+    assert_eq!(rt; tag_word("-"), Some((None, "")));
+    for text in ["", ":", ": a message", " su:", "\tsu", "\u{3000}su"] {
+        assert_eq!(rt; tag_word(text), None, "{text}");
+    }
+}
+
+#[test]
+fn reads_the_fields_behind_a_space(rt: HostRuntime) {
+    for (text, field, left) in [
+        (" mymachine app[323]: x", Some("mymachine"), " app[323]: x"),
+        (" mymachine: a message", Some("mymachine"), ": a message"),
+        (" zork:: hi", Some("zork:"), ": hi"),
+        (" -: hi", Some("-"), ": hi"),
+        (" - app: hi", None, " app: hi"),
+        (" fe80::1%eth0 x", Some("fe80::1%eth0"), " x"),
+    ] {
+        assert_eq!(rt; host_field(text), (Some(field), left), "{text}");
+    }
+    for text in ["", "mymachine", "  opsaudit", "\tmymachine", " ", " : x"] {
+        assert_eq!(rt; host_field(text), (None, text), "{text}");
+    }
+    for (text, field, left) in [
+        (" app[323] :", Some("app[323]"), " :"),
+        (" su: x", Some("su"), ": x"),
+        (" -: hi", None, ": hi"),
+        (" -", None, ""),
+    ] {
+        assert_eq!(rt; tag_field(text), (Some(field), left), "{text}");
+    }
+    for text in ["", " :", ": hi", "  x", "\tsu", " \u{a0}su"] {
+        assert_eq!(rt; tag_field(text), (None, text), "{text}");
     }
 }
 

@@ -4,7 +4,7 @@ use Rattle.syslog_pieces.specs.Pieces.Class.{NoFront, spaced}
 use Rattle.syslog_pieces.specs.Text.{tag_word}
 use Rattle.syslog_pieces.proofs.PieceLemmas.Class.{spaced_front, no_spaced_space, no_spaced_piece}
 use Rattle.syslog_pieces.proofs.PieceLemmas.Meets.{match_map}
-use Rattle.syslog_pieces.proofs.text.spaced_tag.Goals as goal
+use Rattle.syslog_pieces.proofs.text.fields.spaced_tag.Goals as goal
 
 pub returns-in_err-rest : goal.returns-in_err-rest
 returns-in_err-rest c = let n : NoFront (spaced tag_word) (chars c.args.text.now) = no_spaced_space tag_word c.in_err-rest.ensures in search rules
