@@ -10,3 +10,4 @@ mod lists;
 mod printed;
 mod refusals;
 mod refusals_lists;
+mod sizes;

@@ -120,5 +120,7 @@ fn says_what_the_fault_is(rt: HostRuntime) -> Result<(), Fail> {
         assert_eq!(rt; shown.as_str(), text);
     }
     assert_ne!(rt; ParseFault::Invalid, ParseFault::Memory);
+    assert_eq!(rt; ParseFault::Invalid as i32, 1);
+    assert_eq!(rt; ParseFault::Memory as i32, 2);
     Ok(())
 }

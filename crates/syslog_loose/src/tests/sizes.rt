@@ -1,0 +1,87 @@
+//! Many elements and parameters, and long texts: no clause refuses a body that claims want of memory for these.
+use super::expected::read;
+use crate::{IncompleteDate, Variant, normalise};
+use jiff::tz::TimeZone;
+use std::alloc::Global;
+use std::process::Abort;
+use std::test::Fail;
+
+/// Expects this text with the priority in front that it prints, and so that printing changed nothing else.
+fn expect_printed(rt: &impl Abort, alloc: Global, text: &str) -> Result<(), Fail> {
+    let utc = TimeZone::UTC;
+    let printed = normalise(
+        alloc,
+        text,
+        |_: IncompleteDate| 2019,
+        None,
+        Variant::Either,
+        &utc,
+    )?;
+    assert!(rt; printed.as_str().strip_prefix("<47>") == Some(text));
+    Ok(())
+}
+
+#[test]
+fn reads_five_thousand_elements(rt: HostRuntime) -> Result<(), Fail> {
+    let alloc = rt.alloc();
+    let elements = "[e k=\"v\"]".repeat(alloc, 5000)?;
+    let text = format!(in alloc; "1 - - - - - {elements} x")?;
+    let message = read(alloc, text.as_str(), Variant::Either)?;
+    assert_eq!(rt; message.structured_data.len(), 5000);
+    for element in &message.structured_data {
+        assert_eq!(rt; element.id, "e");
+        assert!(rt; element.params.as_slice() == [("k", "v")].as_slice());
+    }
+    assert_eq!(rt; message.msg, "x");
+    expect_printed(&rt, alloc, text.as_str())
+}
+
+#[test]
+fn reads_two_thousand_parameters(rt: HostRuntime) -> Result<(), Fail> {
+    let alloc = rt.alloc();
+    let params = " k=\"v\"".repeat(alloc, 2000)?;
+    let text = format!(in alloc; "1 - - - - - [e{params}] x")?;
+    let message = read(alloc, text.as_str(), Variant::Either)?;
+    assert_eq!(rt; message.structured_data.len(), 1);
+    for element in &message.structured_data {
+        assert_eq!(rt; element.params.len(), 2000);
+        assert!(rt; element.params.iter().all(|param| *param == ("k", "v")));
+        for param in element.params(alloc) {
+            let (name, value) = param?;
+            assert_eq!(rt; *name, "k");
+            assert_eq!(rt; value.as_str(), "v");
+        }
+    }
+    expect_printed(&rt, alloc, text.as_str())
+}
+
+/// A value of 100 KB, three escapes in each eight bytes.
+#[test]
+fn removes_many_escapes(rt: HostRuntime) -> Result<(), Fail> {
+    let alloc = rt.alloc();
+    let value = "ab\\\"\\\\\\]".repeat(alloc, 12_500)?;
+    let unescaped = "ab\"\\]".repeat(alloc, 12_500)?;
+    assert_eq!(rt; value.len(), 100_000);
+    let text = format!(in alloc; "1 - - - - - [e k=\"{value}\"] x")?;
+    let message = read(alloc, text.as_str(), Variant::Either)?;
+    assert_eq!(rt; message.structured_data.len(), 1);
+    for element in &message.structured_data {
+        assert!(rt; element.params.as_slice() == [("k", value.as_str())].as_slice());
+        for param in element.params(alloc) {
+            assert!(rt; param?.1.as_str() == unescaped.as_str());
+        }
+    }
+    expect_printed(&rt, alloc, text.as_str())
+}
+
+/// Behind a list of one element, for which memory is taken.
+#[test]
+fn reads_a_message_of_two_megabytes(rt: HostRuntime) -> Result<(), Fail> {
+    let alloc = rt.alloc();
+    let body = "1234567890".repeat(alloc, 200_000)?;
+    let text = format!(in alloc; "1 - - - - - [e] {body}")?;
+    let message = read(alloc, text.as_str(), Variant::Either)?;
+    assert_eq!(rt; message.structured_data.len(), 1);
+    assert!(rt; message.msg == body.as_str());
+    expect_printed(&rt, alloc, text.as_str())
+}
