@@ -1,4 +1,6 @@
 pub mod Canonical
+pub mod Equal
+pub mod EqualLaws
 pub mod KeptLine
 pub mod ListedMisses
 pub mod Message

@@ -9,6 +9,8 @@ ghost use Rattle.syslog_pieces.specs.Pieces.View.{text_of};
 ghost use Rattle.syslog_loose.specs.Message.{message_value};
 ghost use Rattle.syslog_loose.specs.Printed as spec;
 
+mod copies;
+mod equality;
 mod printing;
 
 pub(crate) use printing::write_timestamp;
@@ -31,6 +33,11 @@ pub enum Protocol {
 ///
 /// It prints as its protocol writes it; the values of parameters are printed as they stand, without escaping, and an
 /// absent facility counts as 5, an absent severity as 7.
+///
+/// Two messages are `==` when all fields but the protocol are: timestamps by instant, whatever their offsets, and
+/// elements in order, each with its parameters in any order. That is an equivalence, but there is no `Eq`: messages that
+/// are `==` may differ in protocol, in offsets and in the order of parameters, and then they print otherwise. It takes
+/// no memory. `try_clone` and `to_owned_text` copy a message; there is no `Clone`, which couldn't be refused.
 #[derive(Debug, Drop)]
 pub struct Message<S> {
     /// The protocol that the message was read by, or prints as.

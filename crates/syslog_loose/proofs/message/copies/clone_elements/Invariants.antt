@@ -1,0 +1,8 @@
+use Rattle.std.proofs.Common.{◌≡◌, map, take}
+use Rattle.syslog_pieces.specs.Pieces.View.{text_of}
+use Rattle.syslog_pieces.specs.StructuredData.Element.{element_value}
+use Rattle.syslog_loose.proofs.message.copies.clone_elements.Given as goal
+
+abbrev pub invariant-loop-element : goal.invariant-loop-element
+invariant-loop-element g l =
+    map (element_value (text_of g.S.AsStr.text)) l.copies.items ≡ map (element_value (text_of g.S.AsStr.text)) (take l.element-index l.elements)

@@ -1,0 +1,8 @@
+use Rattle.std.proofs.Common.{◌≡◌, map, take, string_bytes}
+use Rattle.syslog_pieces.specs.Pieces.View.{shown, text_of}
+use Rattle.syslog_pieces.specs.StructuredData.Element.{element_value}
+use Rattle.syslog_loose.proofs.message.copies.own_elements.Given as goal
+
+abbrev pub invariant-loop-element : goal.invariant-loop-element
+invariant-loop-element l =
+    map (element_value (text_of string_bytes)) l.copies.items ≡ map (element_value (λ s. shown s)) (take l.element-index l.elements)
