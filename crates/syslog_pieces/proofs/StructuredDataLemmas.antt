@@ -8,6 +8,7 @@ pub mod Items
 pub mod Kept
 pub mod Listed
 pub mod Params
+pub mod Plain
 pub mod ReadBack
 pub mod Units
 pub mod Walk

@@ -4,6 +4,7 @@ pub mod Cuts
 pub mod Decimals
 pub mod Equal
 pub mod Kept
+pub mod Plain
 pub mod Lanes
 pub mod Printed
 pub mod ReadBack

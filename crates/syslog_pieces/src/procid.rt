@@ -4,7 +4,7 @@
 //! RFC 5424 section 6.2.6 leaves the form open.
 ghost use Rattle.std.specs.Cmp.{on_equiv, on_per, partial_equiv_from_equiv};
 ghost use Rattle.std.specs.Ordering.{on};
-ghost use Rattle.std.specs.Prelude.{◌≡◌, IfOk, IfSome, IsTrue, Some, string_bytes};
+ghost use Rattle.std.specs.Prelude.{◌≡◌, ◌↔◌, IfOk, IfSome, IsTrue, Some, string_bytes};
 ghost use Rattle.std.specs.Option.{option_map};
 ghost use Rattle.std.specs.Str.{chars, encode_utf8_all};
 ghost use Rattle.syslog_pieces.specs.Bodies.Kept.{IsBareWord};
@@ -19,6 +19,7 @@ ghost use Rattle.syslog_pieces.specs.Pieces.View.{shown, text_of, ClonesKeepText
 mod tests;
 
 use crate::as_str::{AsStr, is_same_text};
+use crate::text::plain::is_plain_word;
 use crate::text::{first, word};
 use std::alloc::{AllocError, Global};
 use std::fmt;
@@ -136,5 +137,25 @@ pub fn kept_process(text: &str) -> Option<&str>
     match name {
         Some(name) => { if is_bare_word(name) { Some(rest) } else { None } }
         None => Some(rest),
+    }
+}
+
+/// Whether the text is one of a number of 32 bits.
+pub fn names_number(text: &str) -> bool
+    ensures { IsTrue result ↔ (spec.IsNoI32Text (chars text.now) → ⊥) }
+{
+    matches!(ProcId::from(text), ProcId::PID(_))
+}
+
+/// Whether the process id is read back from its printed text as one of RFC 5424. Takes no memory.
+pub fn is_plain_process<S: AsStr>(process: &ProcId<S>) -> bool
+    ensures { IsTrue result ↔ spec.IsPlainProcess (spec.procid_value (text_of S.text) process.now) }
+{
+    match process {
+        ProcId::PID(_) => true,
+        ProcId::Name(name) => {
+            let name = name.as_str();
+            is_plain_word(name) && !names_number(name)
+        }
     }
 }

@@ -16,6 +16,7 @@ mod kept;
 mod list;
 pub mod listed;
 mod params;
+pub mod plain;
 #[cfg(test)]
 mod tests;
 mod walk;

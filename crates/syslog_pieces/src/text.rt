@@ -14,6 +14,7 @@ ghost use Rattle.syslog_pieces.specs.Pieces.View.{seen, shown, Reads, Skips};
 mod fields;
 pub mod kept;
 mod lanes;
+pub mod plain;
 mod scan;
 #[cfg(test)]
 mod tests;

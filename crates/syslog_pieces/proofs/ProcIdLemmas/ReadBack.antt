@@ -1,10 +1,12 @@
 -- Process ids are read back from their printed text, and what is read is plain.
-use Rattle.std.proofs.Common.{◌≡◌, ℕ, ℤ, suc, pos, negsuc, neg_ℤ, ◌<◌, ◌^◌, inl, inr, true, false, FitsSigned, w32, [], ◌∷◌, length, Option, Some, None, IfSome, refl, sym, ap, subst, ◌∙◌, arith}
+use Rattle.std.proofs.Common.{◌≡◌, ℕ, ℤ, suc, pos, negsuc, neg_ℤ, ◌<◌, ◌^◌, inl, inr, Bool, true, false, not, List, FitsSigned, w32, [], ◌∷◌, length, Option, Some, None, IfSome, refl, sym, ap, subst, ◌∙◌, arith}
 use Rattle.std.proofs.lemmas.Fmt.{digits_value-decimal}
 use Rattle.std.specs.Char.{is_ascii_digit, is_not_whitespace}
+use Rattle.std.specs.Prelude.{◌↔◌, IsTrue}
+use Rattle.std.specs.Str.{chars}
 use Rattle.std.specs.Fmt.{decimal, signed_decimal}
 use Rattle.syslog_pieces.specs.Pieces.Class.{Text, Each, Ends}
-use Rattle.syslog_pieces.specs.ProcId.{IsI32Text, process_word, process_text, IsPlainProcess, IsBoundedProcess}
+use Rattle.syslog_pieces.specs.ProcId.{IsI32Text, process_word, process_text, IsNoI32Text, IsPlainProcess, IsBoundedProcess}
 use Rattle.syslog_pieces.specs.Text.{word}
 use Rattle.syslog_pieces.specs.Text.Plain.{IsPlainWord}
 use Rattle.syslog_pieces.specs.declared.procid.ProcId.{ProcId}
@@ -71,3 +73,27 @@ pub process_bounded : (p q : Text) (v : Option (ProcId Text)) → process_word.I
 process_bounded p q None h = tt
 process_bounded p q (Some (PID n)) (u, w, i) = i.1
 process_bounded p q (Some (Name t)) h = tt
+
+-- ---- what the test of a process name answers
+pub name_told : (bytes text : List ℕ) (process : ProcId Text) (w number : Bool) → bytes ≡ text → process ≡ Name (chars text) → IsTrue w ↔ IsPlainWord (chars bytes) → w ≡ true
+    → IsTrue number ↔ (IsNoI32Text (chars bytes) → ⊥) → IsTrue (not number) ↔ IsPlainProcess process
+name_told bytes text process w number e p plain is number_told =
+    subst (λ (x : ProcId Text). IsTrue (not number) ↔ IsPlainProcess x) (sym (p ∙ ap (λ (x : List ℕ). Name (chars x)) (sym e))) (
+      (λ h. (plain.0 is, (λ n i. taken number h number_told (λ z. z n i)))),
+      (λ h. untaken number number_told h.1),
+    )
+  where
+    taken : (b : Bool) → IsTrue (not b) → IsTrue b ↔ (IsNoI32Text (chars bytes) → ⊥) → (IsNoI32Text (chars bytes) → ⊥) → ⊥
+    taken true h t n = let u : false ≡ true = h in cc
+    taken false h t n = let u : false ≡ true = t.1 n in cc
+
+    untaken : (b : Bool) → IsTrue b ↔ (IsNoI32Text (chars bytes) → ⊥) → IsNoI32Text (chars bytes) → IsTrue (not b)
+    untaken true t z = absurd (t.0 refl z)
+    untaken false t z = refl
+
+-- and that of a name which is no plain word
+pub no_name_told : (bytes text : List ℕ) (process : ProcId Text) (w : Bool) → bytes ≡ text → process ≡ Name (chars text) → IsTrue w ↔ IsPlainWord (chars bytes) → w ≡ false
+    → IsTrue false ↔ IsPlainProcess process
+no_name_told bytes text process w e p plain is =
+    subst (λ (x : ProcId Text). IsTrue false ↔ IsPlainProcess x) (sym (p ∙ ap (λ (x : List ℕ). Name (chars x)) (sym e)))
+    ((λ h. absurd (let u : false ≡ true = h in cc)), (λ h. absurd (let t : w ≡ true = plain.1 h.0 in let u : false ≡ true = sym is ∙ t in cc)))

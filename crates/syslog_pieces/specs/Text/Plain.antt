@@ -2,7 +2,7 @@
 use Rattle.std.specs.Prelude.{◌≡◌, ◌≢◌, ℕ, ◌<◌, true, [], ◌∷◌, ◌++◌, length}
 use Rattle.std.specs.Char.{is_not_whitespace}
 use Rattle.syslog_pieces.specs.Pieces.Class.{Text, Each}
-use Rattle.syslog_pieces.specs.Text.{dash, colon, EndsInColon}
+use Rattle.syslog_pieces.specs.Text.{is_tag_char, dash, colon, EndsInColon}
 
 -- nonempty and without white space
 abbrev pub IsVisible : Text → Type 0
@@ -15,6 +15,10 @@ IsPlainHost t = IsVisible t × (t ≢ dash) × (EndsInColon t → ⊥)
 -- nonempty, without white space, neither `-` nor `:`
 abbrev pub IsPlainWord : Text → Type 0
 IsPlainWord t = IsVisible t × (t ≢ dash) × (t ≢ colon)
+
+-- nonempty, without white space and colons, and not `-`
+abbrev pub IsPlainTag : Text → Type 0
+IsPlainTag t = (0 < length t) × Each is_tag_char t × (t ≢ dash)
 
 -- the text is empty, or its last character is no white space
 abbrev pub EndsVisibly : Text → Type 0
