@@ -1,3 +1,4 @@
+pub mod CanonicalLemmas
 pub mod KeptLineLemmas
 pub mod PrintedLemmas
 pub mod PriorityLemmas

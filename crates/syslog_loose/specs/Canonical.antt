@@ -54,17 +54,23 @@ abbrev pub is_process_char : ℕ → Bool
 is_process_char c = is_tag_char c && not (nat_eq c 93)
 
 -- a name is nonempty, no text of a number, and without white space, colons and `]`
+abbrev pub IsBracketedName : Text → Type 0
+IsBracketedName t = (0 < length t) × Each is_process_char t × IsNoI32Text t
+
 abbrev pub IsBracketedProcess : ProcId Text → Type 0
 IsBracketedProcess (PID n) = ⊤
-IsBracketedProcess (Name t) = (0 < length t) × Each is_process_char t × IsNoI32Text t
+IsBracketedProcess (Name t) = IsBracketedName t
 
--- A process id stands only with an app name, which then has no white space, no colon and no `[`, and may be empty. An
--- app name alone is nonempty, without white space and colons, not `-`, and not of the form `tag[id]`. With no app name
--- the host is not of that form.
+-- an app name alone is nonempty, without white space and colons, not `-`, and not of the form `tag[id]`
+abbrev pub IsLoneTag : Text → Type 0
+IsLoneTag t = (0 < length t) × Each is_tag_char t × (t ≢ dash) × IsNoForm t
+
+-- A process id stands only with an app name, which then has no white space, no colon and no `[`, and may be empty. With
+-- no app name the host is not of the form `tag[id]`.
 abbrev pub ArePlainNames : Option Text → Option Text → Option (ProcId Text) → Type 0
 ArePlainNames host None None = IfSome host IsNoForm
 ArePlainNames host None (Some process) = ⊥
-ArePlainNames host (Some app) None = (0 < length app) × Each is_tag_char app × (app ≢ dash) × IsNoForm app
+ArePlainNames host (Some app) None = IsLoneTag app
 ArePlainNames host (Some app) (Some process) = Each is_label_char app × IsBracketedProcess process
 
 pub record IsPlain3164 (rule : DashRule) (m : MessageValue) : Type 0 where

@@ -9,6 +9,7 @@ ghost use Rattle.syslog_pieces.specs.Pieces.View.{text_of};
 ghost use Rattle.syslog_loose.specs.Message.{message_value};
 ghost use Rattle.syslog_loose.specs.Printed as spec;
 
+mod canonical;
 mod copies;
 mod equality;
 mod printing;

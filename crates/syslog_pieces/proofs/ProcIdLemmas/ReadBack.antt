@@ -97,3 +97,8 @@ pub no_name_told : (bytes text : List ℕ) (process : ProcId Text) (w : Bool) �
 no_name_told bytes text process w e p plain is =
     subst (λ (x : ProcId Text). IsTrue false ↔ IsPlainProcess x) (sym (p ∙ ap (λ (x : List ℕ). Name (chars x)) (sym e)))
     ((λ h. absurd (let u : false ≡ true = h in cc)), (λ h. absurd (let t : w ≡ true = plain.1 h.0 in let u : false ≡ true = sym is ∙ t in cc)))
+
+-- the text is one of no number where the test of one fails
+pub no_number_told : (t : Text) (b : Bool) → IsTrue b ↔ (IsNoI32Text t → ⊥) → IsTrue (not b) ↔ IsNoI32Text t
+no_number_told t true e = ((λ h. absurd (let u : false ≡ true = h in cc)), (λ n. absurd (e.0 refl n)))
+no_number_told t false e = ((λ h n i. (let u : false ≡ true = e.1 (λ z. z n i) in cc)), (λ n. refl))

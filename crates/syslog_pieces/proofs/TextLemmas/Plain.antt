@@ -40,7 +40,7 @@ module _ (test : ℕ → Bool) (bs xs ys : List ℕ) (s : SplitsRun test bs xs y
   only_told e = (
     (λ h. whole_run test (chars bs) (chars xs) (chars ys) s.characters s.each (e.0 h)),
     (λ h. e.1 (let same = run_same test (chars xs) (chars ys) (chars bs) [] (sym s.characters ∙ sym (append-nil (chars bs))) s.each s.ends h tt in
-    rest_same (chars xs) (chars ys) (chars bs) [] (sym s.characters ∙ sym (append-nil (chars bs))) same)),
+        rest_same (chars xs) (chars ys) (chars bs) [] (sym s.characters ∙ sym (append-nil (chars bs))) same)),
   )
 
   -- and the run itself is empty

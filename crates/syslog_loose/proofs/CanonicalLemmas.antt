@@ -1,0 +1,62 @@
+-- What the tests of the written condition answer.
+use Rattle.std.proofs.Common.{◌≡◌, ℕ, ◌<◌, Bool, true, false, not, ◌&&◌, nat_eq, List, [], ◌∷◌, length, map, Option, Some, None, refl, sym, ap, subst, ◌∙◌, arith}
+use Rattle.std.specs.Prelude.{◌↔◌, IsTrue, MatchBool}
+use Rattle.std.specs.Borrow.{Bor}
+use Rattle.std.specs.Str.{chars, IsUtf8, trim_end, bytes_eq, drop_trailing_whitespace, encode_utf8_all}
+use Rattle.std.proofs.lemmas.Bool.{and_parts, and_from}
+use Rattle.std.proofs.lemmas.Slice.Eq.{bytes_eq-Decides}
+use Rattle.std.proofs.lemmas.Str.{encodes-chars}
+use Rattle.syslog_pieces.specs.Pieces.Class.{Text, Each, NoFront}
+use Rattle.syslog_pieces.specs.StructuredData.Listed.{BeginsNoList, listed}
+use Rattle.syslog_pieces.specs.declared.structured_data.listed.DashRule.{DashRule}
+use Rattle.syslog_pieces.specs.Pieces.View.{shown}
+use Rattle.syslog_pieces.specs.Text.{is_tag_char}
+use Rattle.syslog_pieces.specs.Text.CharClass.{is_open_char}
+use Rattle.syslog_pieces.specs.Text.Plain.{EndsVisibly}
+use Rattle.syslog_pieces.proofs.TextLemmas.Chars.{same_chars}
+use Rattle.syslog_pieces.proofs.TextLemmas.Trim.{end_trimmed_chars}
+use Rattle.syslog_pieces.proofs.StructuredDataLemmas.Listed.{no_list_is}
+use Rattle.syslog_loose.specs.Canonical.{is_process_char}
+use Rattle.syslog_loose.specs.TagForm.{IsForm, IsNoForm}
+use Rattle.syslog_loose.proofs.TrimLemmas.{drop_kept, drop_ends}
+
+-- a text that trimming leaves as it is
+pub visible_told : (bs ts : List ℕ) (b : Bool) → IsUtf8 bs → IsUtf8 ts → ts ≡ trim_end bs → b ≡ bytes_eq ts bs → IsTrue b ↔ EndsVisibly (chars bs)
+visible_told bs ts b u v e f =
+    let kept : chars ts ≡ drop_trailing_whitespace (chars bs) = ap chars e ∙ end_trimmed_chars bs u in (
+      (λ h.
+          let same : ts ≡ bs = (bytes_eq-Decides ts bs).0 (sym f ∙ h) in
+          subst EndsVisibly (sym kept ∙ ap chars same) (drop_ends (chars bs))),
+      (λ h. f ∙ (bytes_eq-Decides ts bs).1 (same_chars ts bs v u (kept ∙ drop_kept (chars bs) h))),
+    )
+
+-- the characters of a process name: those of a tag, but for the bracket
+pub process_chars : (t : Text) → Each is_tag_char t → Each is_open_char t → Each is_process_char t
+process_chars [] h k = tt
+process_chars (c ∷ t) h k = (and_from (is_tag_char c) (not (nat_eq c 93)) h.0 k.0, process_chars t h.1 k.1)
+
+pub tag_chars : (t : Text) → Each is_process_char t → Each is_tag_char t
+tag_chars [] h = tt
+tag_chars (c ∷ t) h = ((and_parts (is_tag_char c) (not (nat_eq c 93)) h.0).0, tag_chars t h.1)
+
+pub open_chars : (t : Text) → Each is_process_char t → Each is_open_char t
+open_chars [] h = tt
+open_chars (c ∷ t) h = ((and_parts (is_tag_char c) (not (nat_eq c 93)) h.0).1, open_chars t h.1)
+
+-- a list that is there, seen through a function
+pub some_params : {X Y : Type 0} (f : X → Y) (xs : List X) → 0 < length (map f xs) → 0 < length xs
+some_params f [] h = h
+some_params f (x ∷ xs) h = omega arith
+
+pub no_items : {X Y : Type 0} (f : X → Y) (xs : List X) → (0 < length xs → ⊥) → map f xs ≡ []
+no_items f [] n = refl
+no_items f (x ∷ xs) n = absurd (n (omega arith))
+
+pub some_items : {X Y : Type 0} (f : X → Y) (xs : List X) → 0 < length xs → map f xs ≡ [] → ⊥
+some_items f [] h e = omega arith
+some_items f (x ∷ xs) h e = let k = ap length e in omega arith
+
+-- a message that begins no list
+pub no_list_told : (rule : DashRule) (t : Text) (b : Bool) → MatchBool b (NoFront (listed rule) t → ⊥) (NoFront (listed rule) t) → IsTrue (not b) ↔ BeginsNoList rule t
+no_list_told rule t true m = ((λ h. absurd (let e : false ≡ true = h in cc)), (λ n. absurd (m ((no_list_is rule t).1 n))))
+no_list_told rule t false m = ((λ h. (no_list_is rule t).0 m), (λ n. refl))
