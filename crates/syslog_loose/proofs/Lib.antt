@@ -1,4 +1,5 @@
 pub mod CanonicalLemmas
+pub mod DashLemmas
 pub mod KeptLineLemmas
 pub mod PrintedLemmas
 pub mod PriorityLemmas

@@ -1,4 +1,5 @@
 pub mod Canonical
+pub mod Dash
 pub mod Equal
 pub mod EqualLaws
 pub mod KeptLine

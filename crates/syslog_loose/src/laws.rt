@@ -13,6 +13,7 @@ ghost use Rattle.syslog_loose.specs.Rfc5424.{rfc5424_row, IsRead5424, IsNot5424}
 ghost use Rattle.syslog_loose.specs.TagForm.{IsForm};
 
 pub mod comparison;
+pub mod dash;
 pub mod read_back;
 
 /// Two divisions of one text into the pieces of RFC 5424 are the same list of pieces, with the same meanings.

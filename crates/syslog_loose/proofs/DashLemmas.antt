@@ -1,0 +1,209 @@
+-- Which texts are read differently under the two rules of the dash, and that the condition only grows by the new one.
+use Rattle.std.proofs.Common.{◌≡◌, ◌↔◌, ◌⊎◌, inl, inr, ℕ, Bool, true, false, List, [], ◌∷◌, ◌++◌, length, Option, Some, None, refl, sym, ap, subst, ◌∙◌, arith}
+use Rattle.syslog_pieces.specs.Pieces.Class.{Text, Class, Values, Front, Row, Ends, run, rest, exactly, optional, spaced}
+use Rattle.syslog_pieces.specs.Pri.{priority}
+use Rattle.syslog_pieces.specs.StructuredData.Element.{ElementValue}
+use Rattle.syslog_pieces.specs.StructuredData.Listed.{IsListed, listed, BeginsNoList}
+use Rattle.syslog_pieces.specs.Text.{trimmed, is_blank, dash, colon, host, tag_word}
+use Rattle.syslog_pieces.specs.Timestamp.Zone.{Dating}
+use Rattle.syslog_pieces.specs.declared.structured_data.listed.DashRule.{DashRule}
+use Rattle.syslog_pieces.specs.declared.structured_data.listed.DashRule.TheVariants.{BeforeAnything, BeforeBlank}
+use Rattle.syslog_pieces.proofs.PieceLemmas.Class.{AllDeterministic, heads, front_same, row_det, optional_det, exactly_det, run_det, spaced_det, optional_none, optional_some, rest_front, row_nil, row_cons, row_head, rows_join, division_front, front_division, both_values}
+use Rattle.syslog_pieces.proofs.PriLemmas.{priority_det}
+use Rattle.syslog_pieces.proofs.StructuredDataLemmas.Listed.{dash_listed, full_begins, no_listed}
+use Rattle.syslog_pieces.proofs.TextLemmas.Words.{host_det, tag_word_det}
+use Rattle.syslog_pieces.proofs.TimestampLemmas.Loose.{loose_stamp_det}
+use Rattle.syslog_loose.specs.declared.message.Protocol.{Protocol}
+use Rattle.syslog_loose.specs.declared.message.Protocol.TheVariants as protocol
+use Rattle.syslog_loose.specs.declared.reading.Variant.{Variant}
+use Rattle.syslog_loose.specs.declared.reading.Variant.TheVariants.{Either, RFC3164, RFC5424}
+use Rattle.syslog_loose.specs.Canonical.{IsPlainFor, IsCanonical}
+use Rattle.syslog_loose.specs.Dash.{IsReadUnder, ReadsDifferently, before_list, DropsDash3164, DropsDash}
+use Rattle.syslog_loose.specs.Message.{MessageValue}
+use Rattle.syslog_loose.specs.Rfc3164.{Names3164, Resolves, rfc3164_row, Means3164, IsRead3164}
+use Rattle.syslog_loose.proofs.Rfc3164Lemmas.Rows.{from_gap, from_list}
+use Rattle.syslog_loose.proofs.Rfc3164Lemmas.Unique as loose
+use Rattle.syslog_loose.proofs.Rfc5424Lemmas as strict
+
+-- ---- the condition
+
+own_grows : (p : Protocol) (m : MessageValue) → IsPlainFor BeforeAnything p m → IsPlainFor BeforeBlank p m
+own_grows protocol.RFC3164 m h = record {
+  msgid = h.msgid;
+  names = h.names;
+  elements = h.elements;
+  no_list = λ e. (λ q f a. (h.no_list e).0 q f tt, (h.no_list e).1);
+}
+own_grows (protocol.RFC5424 version) m h = h
+
+pub condition_grows : (m : MessageValue) → IsCanonical BeforeAnything m → IsCanonical BeforeBlank m
+condition_grows m (plain, own) = (plain, own_grows m.protocol m own)
+
+-- ---- a row that is two rows
+
+abbrev firsts : (As Bs : List Class) → Values (As ++ Bs) → Values As
+firsts [] Bs vs = tt
+firsts (C ∷ As) Bs vs = (vs.0, firsts As Bs vs.1)
+
+abbrev lasts : (As Bs : List Class) → Values (As ++ Bs) → Values Bs
+lasts [] Bs vs = vs
+lasts (C ∷ As) Bs vs = lasts As Bs vs.1
+
+rows_split : (As Bs : List Class) {t r : Text} {vs : Values (As ++ Bs)} → Front (Row (As ++ Bs)) t r vs
+    → (u : Text) × Front (Row As) t u (firsts As Bs vs) × Front (Row Bs) u r (lasts As Bs vs)
+rows_split [] Bs {t = t} f = (t, row_nil t, f)
+rows_split (C ∷ As) Bs f =
+    let h = row_head C (As ++ Bs) f in
+    let (u, a, b) = rows_split As Bs h.2 in
+    (u, row_cons C As h.1 a, b)
+
+pub before_det : (dating : Dating) → AllDeterministic (before_list dating)
+before_det dating = (
+  optional_det priority priority_det,
+  (
+    run_det is_blank,
+    (
+      loose_stamp_det dating,
+      (
+        optional_det (spaced host) (spaced_det host host_det),
+        (optional_det (spaced tag_word) (spaced_det tag_word tag_word_det), (run_det is_blank, (optional_det (exactly colon) (exactly_det colon), (run_det is_blank, tt)))),
+      ),
+    ),
+  ),
+)
+
+-- ---- a list under the old rule
+
+-- a dash before a character that is no blank
+pub record BeginsLoose (t : Text) : Type 0 where
+  pub next : ℕ
+  pub behind : Text
+  pub is : t ≡ 45 ∷ (next ∷ behind)
+  pub no_blank : is_blank next ≡ false
+
+dash_turns : (p : Text) (c : ℕ) (q : Text) (es : List ElementValue) (b : Bool) → is_blank c ≡ b → p ≡ dash → es ≡ []
+    → BeginsLoose (p ++ (c ∷ q)) ⊎ IsListed BeforeBlank p (c ∷ q) es
+dash_turns p c q es true e f g = inr (inl (f, e, g))
+dash_turns p c q es false e f g = inl (record { next = c; behind = q; is = ap (λ (x : Text). x ++ (c ∷ q)) f; no_blank = e })
+
+some_turns : (p q : Text) (es : List ElementValue) → IsListed BeforeAnything p q es → BeginsLoose (p ++ q) ⊎ IsListed BeforeBlank p q es
+some_turns p [] es (inl (f, u, g)) = inr (inl (f, tt, g))
+some_turns p (c ∷ q) es (inl (f, u, g)) = dash_turns p c q es (is_blank c) refl f g
+some_turns p [] es (inr h) = inr (inr h)
+some_turns p (c ∷ q) es (inr h) = inr (inr h)
+
+wider : (p q : Text) (es : List ElementValue) → IsListed BeforeBlank p q es → IsListed BeforeAnything p q es
+wider p q es (inl (f, u, g)) = inl (f, tt, g)
+wider p q es (inr h) = inr h
+
+list_turns : (t q : Text) (es : Option (List ElementValue)) → Front (optional (listed BeforeAnything)) t q es
+    → BeginsLoose t ⊎ Front (optional (listed BeforeBlank)) t q es
+list_turns t q None f = inr (record { piece = f.piece; whole = f.whole; is = (f.is.0, λ p r es e h. f.is.1 p r es e (wider p r es h)) })
+list_turns t q (Some es) f = elim (some_turns f.piece q es f.is) [
+  | inl d ↦ inl (subst BeginsLoose (sym f.whole) d)
+  | inr h ↦ inr (record { piece = f.piece; whole = f.whole; is = h })
+]
+
+-- ---- a reading under the old rule
+
+row_read : (rule : DashRule) (dating : Dating) (text : Text) (vs : Values (rfc3164_row rule dating)) (m : MessageValue) → Means3164 rule dating vs m
+    → Front (Row (rfc3164_row rule dating)) (trimmed text) [] vs → IsRead3164 rule dating text m
+row_read rule dating text vs m means f = record { values = vs; division = front_division (rfc3164_row rule dating) f; means = means }
+
+pub old_turns : (dating : Dating) (text : Text) (m : MessageValue) → IsRead3164 BeforeAnything dating text m
+    → DropsDash3164 dating text ⊎ IsRead3164 BeforeBlank dating text m
+old_turns dating text m r =
+    let (u, a, b) = rows_split (before_list dating) (from_list BeforeAnything) (division_front (rfc3164_row BeforeAnything dating) r.division) in
+    let g = row_head (optional (listed BeforeAnything)) from_gap b in
+    let vs = firsts (before_list dating) (from_list BeforeAnything) r.values in
+    elim (list_turns u g.0 _ g.1) [
+      | inl d ↦ inl (record {
+        message = m;
+        read = r;
+        values = vs;
+        next = d.next;
+        behind = d.behind;
+        at_list = subst (λ (x : Text). Front (Row (before_list dating)) (trimmed text) x vs) d.is a;
+        no_blank = d.no_blank;
+      })
+      | inr f ↦ inr (row_read BeforeBlank dating text _ m r.means
+          (rows_join (before_list dating) (from_list BeforeBlank) a (row_cons (optional (listed BeforeBlank)) from_gap f g.2)))
+    ]
+
+differ_drops : (dating : Dating) (text : Text) (m n : MessageValue) → IsRead3164 BeforeAnything dating text m → IsRead3164 BeforeBlank dating text n → (m ≡ n → ⊥) → DropsDash3164 dating text
+differ_drops dating text m n r s d =
+    elim (old_turns dating text m r) [ inl h ↦ h | inr t ↦ absurd (d (loose.one_message BeforeBlank dating text m n t s)) ]
+
+-- ---- a dash that is dropped
+
+dash_no_list : (c : ℕ) (q : Text) → is_blank c ≡ false → BeginsNoList BeforeBlank (45 ∷ (c ∷ q))
+dash_no_list c q b = (
+  λ r e a. let same : r ≡ c ∷ q = cc in let t : is_blank c ≡ true = (rw same at a) in cc,
+  λ p r v e h. let s = full_begins p r v h in let n = heads 45 91 (c ∷ q) s.0 (e ∙ s.1) in omega (arith, n),
+)
+
+no_gap : (t : Text) → Ends is_blank t → Front (run is_blank) t t tt
+no_gap t h = record { piece = []; whole = refl; is = (tt, h) }
+
+gap_row : (t : Text) → Ends is_blank t → Front (Row from_gap) t [] (tt, (t, tt))
+gap_row t h = row_cons (run is_blank) (rest ∷ []) (no_gap t h) (row_cons rest [] (rest_front t) (row_nil []))
+
+-- the values of the row with these at its front, this list and this message
+abbrev with_list : (dating : Dating) → Values (before_list dating) → Option (List ElementValue) → Text → Values (before_list dating ++ from_list BeforeBlank)
+with_list dating vs es msg = both_values (before_list dating) (from_list BeforeBlank) vs (es, (tt, (msg, tt)))
+
+pub drops_differ : (dating : Dating) (text : Text) (vs : Values (before_list dating)) (n : Names3164) (c : ℕ) (q : Text)
+    → Front (Row (before_list dating)) (trimmed text) (45 ∷ (c ∷ q)) vs → Resolves vs.1.1.1.0 vs.1.1.1.1.0 n → is_blank c ≡ false
+    → ReadsDifferently RFC3164 dating text
+drops_differ dating text vs n c q f means b =
+    let all = with_list dating vs (Some []) (c ∷ q) in
+    let new = with_list dating vs None (45 ∷ (c ∷ q)) in
+    let m = loose.told BeforeAnything dating all n in
+    let k = loose.told BeforeBlank dating new n in
+    record {
+      before_anything = m;
+      before_blank = k;
+      read_before_anything = row_read BeforeAnything dating text all m (n, means, refl)
+          (rows_join (before_list dating) (from_list BeforeAnything) f
+          (row_cons (optional (listed BeforeAnything)) from_gap (optional_some (listed BeforeAnything) (dash_listed BeforeAnything (45 ∷ (c ∷ q)) (c ∷ q) refl tt)) (gap_row (c ∷ q) b)));
+      read_before_blank = row_read BeforeBlank dating text new k (n, means, refl)
+          (rows_join (before_list dating) (from_list BeforeBlank) f
+          (row_cons (optional (listed BeforeBlank)) from_gap (optional_none (listed BeforeBlank) (no_listed BeforeBlank (45 ∷ (c ∷ q)) (dash_no_list c q b))) (gap_row (45 ∷ (c ∷ q)) refl)));
+      differ = λ same. let l : length (c ∷ q) ≡ length (45 ∷ (c ∷ q)) = ap (λ (x : MessageValue). length x.msg) same in omega (arith, l);
+    }
+
+pub drop_differs : (dating : Dating) (text : Text) → DropsDash3164 dating text → ReadsDifferently RFC3164 dating text
+drop_differs dating text d =
+    let (u, a, b) = rows_split (before_list dating) (from_list BeforeAnything) (division_front (rfc3164_row BeforeAnything dating) d.read.division) in
+    let e = (front_same (Row (before_list dating)) (row_det (before_list dating) (before_det dating)) a d.at_list).0 in
+    let (n, means, is) = d.read.means in
+    drops_differ dating text (firsts (before_list dating) (from_list BeforeAnything) d.read.values) n d.next d.behind
+    (subst (λ (x : Text). Front (Row (before_list dating)) (trimmed text) x (firsts (before_list dating) (from_list BeforeAnything) d.read.values)) e a) means d.no_blank
+
+-- ---- under each variant
+
+module _ (dating : Dating) (text : Text) where
+  forth : (variant : Variant) (m n : MessageValue) → IsReadUnder BeforeAnything variant dating text m → IsReadUnder BeforeBlank variant dating text n → (m ≡ n → ⊥) → DropsDash variant dating text
+  forth RFC5424 m n r s d = d (strict.one_message text m n r s)
+  forth RFC3164 m n r s d = differ_drops dating text m n r s d
+  forth Either m n (inl r) (inl s) d = absurd (d (strict.one_message text m n r s))
+  forth Either m n (inl r) (inr (none, s)) d = absurd (none r.values r.division)
+  forth Either m n (inr (none, r)) (inl s) d = absurd (none s.values s.division)
+  forth Either m n (inr (none, r)) (inr (also, s)) d = (none, differ_drops dating text m n r s d)
+
+  back : (variant : Variant) → DropsDash variant dating text → ReadsDifferently variant dating text
+  back RFC5424 d = absurd d
+  back RFC3164 d = drop_differs dating text d
+  back Either (none, d) =
+      let r = drop_differs dating text d in
+      record {
+        before_anything = r.before_anything;
+        before_blank = r.before_blank;
+        read_before_anything = inr (none, r.read_before_anything);
+        read_before_blank = inr (none, r.read_before_blank);
+        differ = r.differ;
+      }
+
+  pub differs_where_dropped : (variant : Variant) → ReadsDifferently variant dating text ↔ DropsDash variant dating text
+  differs_where_dropped variant =
+      (λ r. forth variant r.before_anything r.before_blank r.read_before_anything r.read_before_blank r.differ, back variant)
