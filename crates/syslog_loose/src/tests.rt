@@ -1,6 +1,7 @@
 //! What no contract says: worked texts with the messages that they read as, printed texts, and each call once.
 mod caller;
 mod calls;
+mod canonical;
 mod comparison;
 mod crate_answers;
 mod crate_answers_lists;

@@ -1,0 +1,349 @@
+//! Messages built by hand: whether they are canonical, and what their printed text is read as.
+use super::expected::{Expected, Process, check_invalid, check_message, empty, read};
+use crate::{
+    Message, Offset, OffsetTimestamp, ProcId, Protocol, StructuredElement, SyslogFacility,
+    SyslogSeverity, Timestamp, Variant,
+};
+use std::alloc::{AllocError, Global};
+use std::process::Abort;
+use std::test::Fail;
+
+/// Of RFC 5424, from LOG_AUTH and of SEV_CRIT, with the message `x` and nothing else.
+fn small(alloc: Global) -> Message<&'static str> {
+    Message {
+        protocol: Protocol::RFC5424(1),
+        facility: Some(SyslogFacility::LOG_AUTH),
+        severity: Some(SyslogSeverity::SEV_CRIT),
+        timestamp: None,
+        hostname: None,
+        appname: None,
+        procid: None,
+        msgid: None,
+        structured_data: Vec::new(alloc),
+        msg: "x",
+    }
+}
+
+/// That message as it is read.
+fn same<'a>() -> Expected<'a> {
+    Expected {
+        facility: Some(SyslogFacility::LOG_AUTH),
+        severity: Some(SyslogSeverity::SEV_CRIT),
+        msg: "x",
+        printed: "<34>1 - - - - - - x",
+        ..empty()
+    }
+}
+
+/// That message with one element, which has one parameter.
+fn listed(
+    alloc: Global,
+    id: &'static str,
+    name: &'static str,
+    value: &'static str,
+) -> Result<Message<&'static str>, AllocError> {
+    let mut params = Vec::new(alloc);
+    params.push((name, value))?;
+    let mut message = small(alloc);
+    message
+        .structured_data
+        .push(StructuredElement { id, params })?;
+    Ok(message)
+}
+
+/// Whether the message is canonical, and what its printed text is read as under `Either` and by RFC 5424.
+fn check(
+    rt: &impl Abort,
+    alloc: Global,
+    message: &Message<&str>,
+    canonical: bool,
+    want: &Expected,
+) -> Result<(), Fail> {
+    let text = format!(in alloc; "{message}")?;
+    assert_eq!(rt; message.is_canonical(), canonical, "{text}");
+    for variant in [Variant::Either, Variant::RFC5424] {
+        check_message(rt, alloc, &read(alloc, text.as_str(), variant)?, want)?;
+    }
+    Ok(())
+}
+
+/// The message is not canonical, and its printed text has no reading.
+fn check_unread(rt: &impl Abort, alloc: Global, message: &Message<&str>) -> Result<(), Fail> {
+    let text = format!(in alloc; "{message}")?;
+    assert!(rt; !message.is_canonical(), "{text}");
+    check_invalid(rt, alloc, Variant::RFC5424, &[text.as_str()]);
+    Ok(())
+}
+
+#[test]
+fn reads_canonical_messages_back(rt: HostRuntime) -> Result<(), Fail> {
+    let alloc = rt.alloc();
+    check(&rt, alloc, &small(alloc), true, &same())?;
+    for (msg, printed) in [
+        ("", "<34>1 - - - - - - "),
+        ("-", "<34>1 - - - - - - -"),
+        ("[f", "<34>1 - - - - - - [f"),
+        ("\nx", "<34>1 - - - - - - \nx"),
+    ] {
+        let message = Message {
+            msg,
+            ..small(alloc)
+        };
+        check(
+            &rt,
+            alloc,
+            &message,
+            true,
+            &Expected {
+                msg,
+                printed,
+                ..same()
+            },
+        )?;
+    }
+    Ok(())
+}
+
+#[test]
+fn reads_values_back_as_they_stand(rt: HostRuntime) -> Result<(), Fail> {
+    let alloc = rt.alloc();
+    check(
+        &rt,
+        alloc,
+        &listed(alloc, "a", "b", "x]")?,
+        true,
+        &Expected {
+            elements: "a|b|x]",
+            printed: "<34>1 - - - - - [a b=\"x]\"] x",
+            ..same()
+        },
+    )?;
+    check(
+        &rt,
+        alloc,
+        &listed(alloc, "a", "b", "\\\"")?,
+        true,
+        &Expected {
+            elements: "a|b|\\\"",
+            printed: "<34>1 - - - - - [a b=\"\\\"\"] x",
+            ..same()
+        },
+    )
+}
+
+#[test]
+fn loses_broken_elements(rt: HostRuntime) -> Result<(), Fail> {
+    let alloc = rt.alloc();
+    for (id, name, value) in [
+        ("a", "b", "x\""),
+        ("a", "b", "x\\"),
+        ("a", "", "c"),
+        ("a", "b=", "c"),
+    ] {
+        check(&rt, alloc, &listed(alloc, id, name, value)?, false, &same())?;
+    }
+    check(
+        &rt,
+        alloc,
+        &listed(alloc, "a", " b", "c")?,
+        false,
+        &Expected {
+            elements: "a|b|c",
+            printed: "<34>1 - - - - - [a b=\"c\"] x",
+            ..same()
+        },
+    )
+}
+
+#[test]
+fn loses_the_id_before_its_blank(rt: HostRuntime) -> Result<(), Fail> {
+    let alloc = rt.alloc();
+    check(
+        &rt,
+        alloc,
+        &listed(alloc, "a b", "c", "d")?,
+        false,
+        &Expected {
+            elements: "a|b c|d",
+            printed: "<34>1 - - - - - [a b c=\"d\"] x",
+            ..same()
+        },
+    )
+}
+
+#[test]
+fn reads_absent_parts_of_a_priority(rt: HostRuntime) -> Result<(), Fail> {
+    let alloc = rt.alloc();
+    let message = Message {
+        severity: None,
+        ..small(alloc)
+    };
+    check(
+        &rt,
+        alloc,
+        &message,
+        false,
+        &Expected {
+            severity: Some(SyslogSeverity::SEV_DEBUG),
+            printed: "<39>1 - - - - - - x",
+            ..same()
+        },
+    )?;
+    let message = Message {
+        facility: None,
+        ..small(alloc)
+    };
+    check(
+        &rt,
+        alloc,
+        &message,
+        false,
+        &Expected {
+            facility: Some(SyslogFacility::LOG_SYSLOG),
+            printed: "<42>1 - - - - - - x",
+            ..same()
+        },
+    )
+}
+
+#[test]
+fn reads_other_hosts(rt: HostRuntime) -> Result<(), Fail> {
+    let alloc = rt.alloc();
+    let message = Message {
+        hostname: Some("-"),
+        ..small(alloc)
+    };
+    check(&rt, alloc, &message, false, &same())?;
+    let message = Message {
+        hostname: Some("a b"),
+        ..small(alloc)
+    };
+    check(
+        &rt,
+        alloc,
+        &message,
+        false,
+        &Expected {
+            hostname: Some("a"),
+            appname: Some("b"),
+            msg: "- x",
+            printed: "<34>1 - a b - - - - x",
+            ..same()
+        },
+    )?;
+    for hostname in ["", "a:"] {
+        let message = Message {
+            hostname: Some(hostname),
+            ..small(alloc)
+        };
+        check_unread(&rt, alloc, &message)?;
+    }
+    for appname in ["", ":"] {
+        let message = Message {
+            appname: Some(appname),
+            ..small(alloc)
+        };
+        check_unread(&rt, alloc, &message)?;
+    }
+    Ok(())
+}
+
+#[test]
+fn reads_other_process_ids(rt: HostRuntime) -> Result<(), Fail> {
+    let alloc = rt.alloc();
+    let message = Message {
+        procid: Some(ProcId::Name("-")),
+        ..small(alloc)
+    };
+    check(&rt, alloc, &message, false, &same())?;
+    let message = Message {
+        procid: Some(ProcId::Name("+5")),
+        ..small(alloc)
+    };
+    check(
+        &rt,
+        alloc,
+        &message,
+        false,
+        &Expected {
+            process: Process::Number(5),
+            printed: "<34>1 - - - 5 - - x",
+            ..same()
+        },
+    )
+}
+
+#[test]
+fn trims_the_ends_of_the_message(rt: HostRuntime) -> Result<(), Fail> {
+    let alloc = rt.alloc();
+    for msg in [" x", "\tx", "x ", "x\n", "x\u{a0}"] {
+        let message = Message {
+            msg,
+            ..small(alloc)
+        };
+        check(&rt, alloc, &message, false, &same())?;
+    }
+    Ok(())
+}
+
+#[test]
+fn reads_other_timestamps(rt: HostRuntime) -> Result<(), Fail> {
+    let alloc = rt.alloc();
+    let message = Message {
+        timestamp: Some(OffsetTimestamp {
+            instant: Timestamp::from_nanosecond(0)?,
+            offset: Offset::from_seconds(30)?,
+        }),
+        ..small(alloc)
+    };
+    check(
+        &rt,
+        alloc,
+        &message,
+        false,
+        &Expected {
+            timestamp: Some("1970-01-01T00:00:30+00:01"),
+            printed: "<34>1 1970-01-01T00:00:30+00:01 - - - - - x",
+            ..same()
+        },
+    )?;
+    let year_before_zero = -62_198_755_200_000_000_000;
+    let message = Message {
+        timestamp: Some(OffsetTimestamp {
+            instant: Timestamp::from_nanosecond(year_before_zero)?,
+            offset: Offset::UTC,
+        }),
+        ..small(alloc)
+    };
+    check_unread(&rt, alloc, &message)
+}
+
+#[test]
+fn tells_the_names_of_rfc3164(rt: HostRuntime) {
+    let alloc = rt.alloc();
+    for (host, app, process, msg, canonical) in [
+        (None, Some("a[]"), None, "hi", true),
+        (None, Some("app"), Some("-"), "hi", true),
+        (None, Some(""), Some("x"), "hi", true),
+        (None, Some("a[b]"), None, "hi", false),
+        (None, Some("a"), None, "-5", false),
+        (None, Some("a"), None, "[e k=\"v\"]", false),
+        (None, Some("a"), Some("x:y"), "hi", false),
+        (None, Some("a"), Some("7"), "hi", false),
+        (None, Some("a:b"), None, "hi", false),
+        (None, None, Some("x"), "hi", false),
+        (Some("h"), None, None, "hi", true),
+        (Some("h[i]"), None, None, "hi", false),
+        (Some("h[i]"), Some("a"), None, "hi", true),
+    ] {
+        let message = Message {
+            protocol: Protocol::RFC3164,
+            hostname: host,
+            appname: app,
+            procid: process.map(|name| ProcId::Name(name)),
+            msg,
+            ..small(alloc)
+        };
+        assert_eq!(rt; message.is_canonical(), canonical, "{message}");
+    }
+}
