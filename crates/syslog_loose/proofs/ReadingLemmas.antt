@@ -1,24 +1,146 @@
 -- What the reading calls answer.
-use Rattle.std.proofs.Common.{Result, Ok, Err}
-use Rattle.std.specs.Prelude.{MatchResult, IfOk}
+use Rattle.std.proofs.Common.{◌≡◌, ◌↔◌, inl, inr, ℕ, ℤ, List, [], Option, Some, None, Result, Ok, Err, w32, SFits, to_z, of_z, refl, sym, ap, subst, ◌∙◌}
+use Rattle.std.proofs.lemmas.Int.{to_z-of_z}
+use Rattle.std.specs.Prelude.{IsOk, MatchOption, IsSomeAnd}
+use Rattle.std.specs.declared.alloc.AllocError.{AllocError}
 use Rattle.std.specs.Borrow.{Bor}
-use Rattle.std.proofs.Common.{List, ℕ}
+use Rattle.jiff.specs.declared.tz.timezone.TimeZone.{TimeZone}
 use Rattle.syslog_pieces.specs.Pieces.Class.{Text}
 use Rattle.syslog_pieces.specs.Pieces.View.{shown}
+use Rattle.syslog_pieces.specs.Timestamp.Loose.{ShowsYearless}
+use Rattle.syslog_pieces.specs.Timestamp.Zone.{Dating, dating_of}
+use Rattle.syslog_pieces.specs.declared.timestamp.month_date.MonthDate.{MonthDate}
 use Rattle.syslog_loose.specs.Message.{MessageValue, message_value}
-use Rattle.syslog_loose.specs.Reading.{IsRead, IsQuoted}
+use Rattle.syslog_loose.specs.Reading.{dash_rule, IsRead, IsOnlyRead, IsUnreadable, IsQuoted, IsFault, NeedsNoMemory, Answers, AnswersPlainly, IncompleteDate, incomplete, HasMonth, AsksYear, IsYearAnswered, InYear}
+use Rattle.syslog_loose.specs.Rfc3164.{IsRead3164, IsNot3164, NeedsNoMemory3164}
+use Rattle.syslog_loose.specs.Rfc5424.{IsRead5424, IsNot5424, NeedsNoMemory5424}
 use Rattle.syslog_loose.specs.declared.message.Message.{Message}
+use Rattle.syslog_loose.specs.declared.fault.ParseFault.{ParseFault}
+use Rattle.syslog_loose.specs.declared.fault.ParseFault.TheVariants.{Invalid, Memory}
 use Rattle.syslog_loose.specs.declared.reading.Variant.{Variant}
 use Rattle.syslog_loose.specs.declared.reading.Variant.TheVariants.{Either, RFC3164, RFC5424}
-use Rattle.syslog_loose.proofs.Rfc5424Lemmas.{quotes}
+use Rattle.syslog_loose.proofs.Rfc3164Lemmas.Quoting as loose
+use Rattle.syslog_loose.proofs.Rfc3164Lemmas.Unique as loose_unique
+use Rattle.syslog_loose.proofs.Rfc3164Lemmas.Years.{other_read}
+use Rattle.syslog_loose.proofs.Rfc5424Lemmas as strict
 
-is_quoted : (variant : Variant) (text : Text) (m : MessageValue) → IsRead variant text m → IsQuoted variant text m
-is_quoted Either text m r = quotes text m r
-is_quoted RFC5424 text m r = quotes text m r
-is_quoted RFC3164 text m r = absurd r
+abbrev Found : Type 0
+Found = Message (Bor (List ℕ))
 
--- a message that was read quotes its text
-pub quoted : (variant : Variant) (text : Text) {E : Type 0} (r : Result (Message (Bor (List ℕ))) E) (Q : E → Type 0)
-    → MatchResult r (λ m. IsRead variant text (message_value (λ s. shown s) m)) Q → IfOk r (λ m. IsQuoted variant text (message_value (λ s. shown s) m))
-quoted variant text (Ok m) Q h = is_quoted variant text (message_value (λ s. shown s) m) h
-quoted variant text (Err e) Q h = tt
+abbrev value : Found → MessageValue
+value m = message_value (λ s. shown s) m
+
+-- ---- one reading
+pub read_once : (variant : Variant) (dating : Dating) (text : Text) (m n : MessageValue) → IsRead variant dating text m → IsRead variant dating text n → m ≡ n
+read_once RFC5424 dating text m n r s = strict.one_message text m n r s
+read_once RFC3164 dating text m n r s = loose_unique.one_message dash_rule dating text m n r s
+read_once Either dating text m n (inl r) (inl s) = strict.one_message text m n r s
+read_once Either dating text m n (inl r) (inr (none, s)) = absurd (none r.values r.division)
+read_once Either dating text m n (inr (none, r)) (inl s) = absurd (none s.values s.division)
+read_once Either dating text m n (inr (none, r)) (inr (also, s)) = loose_unique.one_message dash_rule dating text m n r s
+
+quoted : (variant : Variant) (dating : Dating) (text : Text) (m : MessageValue) → IsRead variant dating text m → IsQuoted variant dating text m
+quoted RFC5424 dating text m r = strict.quotes text m r
+quoted RFC3164 dating text m r = loose.quotes dash_rule dating text m r
+quoted Either dating text m (inl r) = inl (strict.quotes text m r)
+quoted Either dating text m (inr (none, r)) = inr (none, loose.quotes dash_rule dating text m r)
+
+pub only_read : (variant : Variant) (dating : Dating) (text : Text) (m : MessageValue) → IsRead variant dating text m → IsOnlyRead variant dating text m
+only_read variant dating text m r = record { read = r; only = λ n s. read_once variant dating text n m s r; quoted = quoted variant dating text m r }
+
+-- ---- from the headers
+pub either_read : (dating : Dating) (text : Text) (m : MessageValue) → IsRead5424 text m → IsOnlyRead Either dating text m
+either_read dating text m r = only_read Either dating text m (inl r)
+
+-- what RFC 3164 answers where there is no division of RFC 5424
+pub either_loose : (dating : Dating) (text : Text) (r : Result Found ParseFault) → IsNot5424 text → Answers RFC3164 dating text r → Answers Either dating text r
+either_loose dating text (Ok m) none h = only_read Either dating text (value m) (inr (none, h.read))
+either_loose dating text (Err Invalid) none h = λ m r. elim r [ inl s ↦ none s.values s.division | inr (also, s) ↦ h m s ]
+either_loose dating text (Err Memory) none h = λ needless. h (λ m s. needless m (inr (none, s)))
+
+-- memory was refused to RFC 5424
+pub either_refused : (dating : Dating) (text : Text) → (NeedsNoMemory5424 text → ⊥) → IsFault Either dating text Memory
+either_refused dating text wanted needless = wanted (λ m r. needless m (inl r))
+
+-- an `Err` is no `Ok`
+pub refused : {X : Type 0} (r : Result X AllocError) (e : AllocError) {P : Type 0} → r ≡ Err e → (P → IsOk r) → P → ⊥
+refused (Ok x) e is h p = cc
+refused (Err x) e is h p = let t = h p in cc
+
+-- ---- the year
+
+-- a reading in which no year is asked for is one in each year
+any_year : (variant : Variant) (text : Text) (tz : Option (Bor TimeZone)) (local : Bor TimeZone) (year other : Option ℤ) (m : MessageValue) → ((date : MonthDate) → AsksYear variant text date → ⊥)
+    → IsRead variant (dating_of year tz local) text m → IsRead variant (dating_of other tz local) text m
+any_year RFC5424 text tz local year other m never r = r
+any_year RFC3164 text tz local year other m never r = other_read (dating_of year tz local) (dating_of other tz local) refl refl dash_rule text never m r
+any_year Either text tz local year other m never (inl r) = inl r
+any_year Either text tz local year other m never (inr (none, r)) = inr (none, other_read (dating_of year tz local) (dating_of other tz local) refl refl dash_rule text never m r)
+
+any_answer : (variant : Variant) (text : Text) (tz : Option (Bor TimeZone)) (local : Bor TimeZone) (year other : Option ℤ) (r : Result Found ParseFault) → ((date : MonthDate) → AsksYear variant text date → ⊥)
+    → Answers variant (dating_of year tz local) text r → Answers variant (dating_of other tz local) text r
+any_answer variant text tz local year other (Ok m) never h = only_read variant (dating_of other tz local) text (value m) (any_year variant text tz local year other (value m) never h.read)
+any_answer variant text tz local year other (Err Invalid) never h = λ m r. h m (any_year variant text tz local other year m never r)
+any_answer variant text tz local year other (Err Memory) never h = λ needless. h (λ m r. needless m (any_year variant text tz local year other m never r))
+
+-- what is answered in the year that the closure answered
+pub answers_in : (post : IncompleteDate → ℤ → Type 0) (variant : Variant) (text : Text) (tz : Option (Bor TimeZone)) (local : Bor TimeZone) (r : Result Found ParseFault) (year : Option ℤ)
+    → IsYearAnswered post variant text year → Answers variant (dating_of year tz local) text r → InYear post variant text (λ y. Answers variant (dating_of y tz local) text r)
+answers_in post variant text tz local r None is h = record {
+  answered = None;
+  is_answered = is;
+  holds = λ other agrees. any_answer variant text tz local None other r is h;
+}
+answers_in post variant text tz local r (Some year) is h = record {
+  answered = Some year;
+  is_answered = is;
+  holds = λ other agrees. subst (λ (y : Option ℤ). Answers variant (dating_of y tz local) text r) (sym (agrees is.0 is.1)) h;
+}
+
+-- the answer to the date that the text asks a year of
+pub answered_to : (post : IncompleteDate → ℤ → Type 0) (variant : Variant) (text : Text) (asked : Option IncompleteDate) (year : Option ℤ)
+    → MatchOption asked ((date : MonthDate) → AsksYear variant text date → ⊥) (λ d. (date : MonthDate) × AsksYear variant text date × (d ≡ incomplete date) × HasMonth d)
+    → MatchOption asked (year ≡ None) (λ d. IsSomeAnd year (λ y. post d y)) → IsYearAnswered post variant text year
+answered_to post variant text None None h k = h
+answered_to post variant text None (Some y) h k = cc
+answered_to post variant text (Some d) None h k = absurd k
+answered_to post variant text (Some d) (Some y) (date, asks, e, m) k = (date, asks, subst (λ (x : IncompleteDate). post x y) e k)
+
+-- what holds in each year that agrees holds in that year
+pub in_year_map : {post : IncompleteDate → ℤ → Type 0} {variant : Variant} {text : Text} {Holds More : Option ℤ → Type 0} → ((year : Option ℤ) → Holds year → More year)
+    → InYear post variant text Holds → InYear post variant text More
+in_year_map f h = record { answered = h.answered; is_answered = h.is_answered; holds = λ year agrees. f year (h.holds year agrees) }
+
+year_same : (post : IncompleteDate → ℤ → Type 0) (variant : Variant) (text : Text) (year : ℤ) → ((date : IncompleteDate) (y : ℤ) → post date y → y ≡ year) → (answered : Option ℤ)
+    → IsYearAnswered post variant text answered → (date : MonthDate) → AsksYear variant text date → Some year ≡ answered
+year_same post variant text year same None never date asks = absurd (never date asks)
+year_same post variant text year same (Some y) (d, a, p) date asks = ap Some (sym (same (incomplete d) y p))
+
+-- what holds in the one year that a closure may answer
+pub in_one_year : {post : IncompleteDate → ℤ → Type 0} {variant : Variant} {text : Text} {Holds : Option ℤ → Type 0} → InYear post variant text Holds
+    → (year : ℤ) → ((date : IncompleteDate) (y : ℤ) → post date y → y ≡ year) → Holds (Some year)
+in_one_year {post = post} {variant = variant} {text = text} h year same = h.holds (Some year) (year_same post variant text year same h.answered h.is_answered)
+
+-- For callers: what holds in the year of a closure that always answers this one, an `i32`.
+pub in_this_year : {post : IncompleteDate → ℤ → Type 0} {variant : Variant} {text : Text} {Holds : Option ℤ → Type 0} → InYear post variant text Holds
+    → (year : ℤ) → SFits w32 year → ((date : IncompleteDate) (y : ℤ) → post date y → y ≡ to_z w32 (of_z w32 year)) → Holds (Some year)
+in_this_year h year fits same = in_one_year h year (λ date y is. same date y is ∙ to_z-of_z w32 year fits)
+
+-- ---- faults
+invalid_or_memory : Memory ≡ Invalid → ⊥
+invalid_or_memory e = cc
+
+pub fault_tells : (variant : Variant) (dating : Dating) (text : Text) (fault : ParseFault) → IsFault variant dating text fault → (fault ≡ Invalid) ↔ IsUnreadable variant dating text
+fault_tells variant dating text Invalid unreadable = (λ e. unreadable, λ u. refl)
+fault_tells variant dating text Memory wanted = (λ e. absurd (invalid_or_memory e), λ u. absurd (wanted (λ m r. absurd (u m r))))
+
+-- a readable text is no invalid one
+pub memory_tells : (variant : Variant) (dating : Dating) (text : Text) (m : MessageValue) → IsOnlyRead variant dating text m → (Memory ≡ Invalid) ↔ IsUnreadable variant dating text
+memory_tells variant dating text m r = (λ e. absurd (invalid_or_memory e), λ u. absurd (u m r.read))
+
+-- ---- the plain calls
+-- what is answered in the year that stands in for one, where the text asks for it, and in none where it does not
+pub plainly_in : (post : IncompleteDate → ℤ → Type 0) (variant : Variant) (text : Text) (tz : Option (Bor TimeZone)) (local : Bor TimeZone) (r : Result Found ParseFault) (s : Result Found AllocError) (year : Option ℤ)
+    → IsYearAnswered post variant text year → ((dating : Dating) → Answers variant dating text r → AnswersPlainly variant dating text s) → Answers variant (dating_of year tz local) text r
+    → InYear post variant text (λ y. AnswersPlainly variant (dating_of y tz local) text s)
+plainly_in post variant text tz local r s year is turn h = in_year_map (λ y a. turn (dating_of y tz local) a) (answers_in post variant text tz local r year is h)

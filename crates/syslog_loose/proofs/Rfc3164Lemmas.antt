@@ -4,8 +4,11 @@ pub mod Exact
 pub mod Misses
 pub mod Near
 pub mod Printed
+pub mod Quoting
 pub mod ReadBack
+pub mod Reading
 pub mod Rows
+pub mod Shown
 pub mod Stamped
 pub mod Unique
 pub mod Whole

@@ -1,39 +1,131 @@
--- What it is to read a text, by which protocol.
-use Rattle.std.specs.Prelude.{◌≡◌, ◌<◌, ◌≤◌, ◌^◌, ℕ, []}
+-- What it is to read a text, by which protocol and in which year, and what the reading calls answer.
+use Rattle.std.specs.Prelude.{◌≡◌, ◌⊎◌, ◌<◌, ◌≤◌, ◌^◌, ℕ, ℤ, List, [], Option, Some, None, Result, MatchResult}
+use Rattle.std.specs.Borrow.{Bor}
+use Rattle.std.specs.declared.alloc.AllocError.{AllocError}
+use Rattle.jiff.specs.Types.{UTC}
 use Rattle.syslog_pieces.specs.Pieces.Class.{Text}
+use Rattle.syslog_pieces.specs.Pieces.View.{shown}
+use Rattle.syslog_pieces.specs.Timestamp.Loose.{ShowsYearless}
+use Rattle.syslog_pieces.specs.Timestamp.Zone.{Dating}
+use Rattle.syslog_pieces.specs.declared.structured_data.listed.DashRule.{DashRule}
+use Rattle.syslog_pieces.specs.declared.structured_data.listed.DashRule.TheVariants.{BeforeAnything}
+use Rattle.syslog_pieces.specs.declared.timestamp.month_date.MonthDate.{MonthDate}
+use Rattle.syslog_loose.specs.declared.fault.ParseFault.{ParseFault}
+use Rattle.syslog_loose.specs.declared.fault.ParseFault.TheVariants.{Invalid, Memory}
+use Rattle.syslog_loose.specs.declared.message.Message.{Message}
+use Rattle.syslog_loose.specs.declared.message.Protocol.TheVariants as protocol
 use Rattle.syslog_loose.specs.declared.reading.Variant.{Variant}
 use Rattle.syslog_loose.specs.declared.reading.Variant.TheVariants.{Either, RFC3164, RFC5424}
-use Rattle.syslog_loose.specs.Message.{MessageValue}
-use Rattle.syslog_loose.specs.Rfc5424.{IsRead5424, Quotes5424}
+use Rattle.syslog_loose.specs.Message.{MessageValue, message_value}
+use Rattle.syslog_loose.specs.Rfc3164.{IsRead3164, Quotes3164}
+use Rattle.syslog_loose.specs.Rfc5424.{IsRead5424, IsNot5424, Quotes5424}
 
--- The text is read as the message. (RFC 3164 is not read yet: no text is read under that variant.)
-abbrev pub IsRead : Variant → Text → MessageValue → Type 0
-IsRead Either text m = IsRead5424 text m
-IsRead RFC5424 text m = IsRead5424 text m
-IsRead RFC3164 text m = ⊥
+-- ---- reading a text, its dates taken so
+
+-- before which texts a dash is a list of RFC 3164
+abbrev pub dash_rule : DashRule
+dash_rule = BeforeAnything
+
+-- the text is read as the message: under `Either` as RFC 5424, and as RFC 3164 where that has no division of it
+abbrev pub IsRead : Variant → Dating → Text → MessageValue → Type 0
+IsRead RFC5424 dating text m = IsRead5424 text m
+IsRead RFC3164 dating text m = IsRead3164 dash_rule dating text m
+IsRead Either dating text m = IsRead5424 text m ⊎ (IsNot5424 text × IsRead3164 dash_rule dating text m)
 
 -- there is no message as which the text is read
-abbrev pub IsUnreadable : Variant → Text → Type 0
-IsUnreadable variant text = (m : MessageValue) → IsRead variant text m → ⊥
+abbrev pub IsUnreadable : Variant → Dating → Text → Type 0
+IsUnreadable variant dating text = (m : MessageValue) → IsRead variant dating text m → ⊥
 
--- month, day, hour, minute and second of a date without a year
-abbrev pub MonthDate : Type 0
-MonthDate = ℕ × ℕ × ℕ × ℕ × ℕ
+-- and each text of the message is a piece of the division, or a part of one
+abbrev pub IsQuoted : Variant → Dating → Text → MessageValue → Type 0
+IsQuoted RFC5424 dating text m = Quotes5424 text m
+IsQuoted RFC3164 dating text m = Quotes3164 dash_rule dating text m
+IsQuoted Either dating text m = Quotes5424 text m ⊎ (IsNot5424 text × Quotes3164 dash_rule dating text m)
+
+-- the text is read as this message, and as no other
+pub record IsOnlyRead (variant : Variant) (dating : Dating) (text : Text) (m : MessageValue) : Type 0 where
+  pub read : IsRead variant dating text m
+  pub only : (n : MessageValue) → IsRead variant dating text n → n ≡ m
+  pub quoted : IsQuoted variant dating text m
+
+-- The text has no reading, or one without elements: it has no list, or one that is `-` or broken elements alone.
+abbrev pub NeedsNoMemory : Variant → Dating → Text → Type 0
+NeedsNoMemory variant dating text = (m : MessageValue) → IsRead variant dating text m → m.structured_data ≡ []
+
+-- ---- the year and the zones of a call
+
+-- in this year, dates without an offset being in UTC
+abbrev pub in_utc : ℤ → Dating
+in_utc year = record { year = Some year; zone = None; local = UTC }
+
+-- month, day, hour, minute and second of a date without a year, as the closure takes them
+abbrev pub IncompleteDate : Type 0
+IncompleteDate = ℕ × ℕ × ℕ × ℕ × ℕ
+
+abbrev pub incomplete : MonthDate → IncompleteDate
+incomplete date = (date.month, date.day, date.hour, date.minute, date.second)
 
 -- the month is one of twelve, and the numbers have 32 bits
-abbrev pub HasMonth : MonthDate → Type 0
+abbrev pub HasMonth : IncompleteDate → Type 0
 HasMonth d = (1 ≤ d.0) × (d.0 ≤ 12) × (d.1 < 2 ^ 32) × (d.2 < 2 ^ 32) × (d.3 < 2 ^ 32) × (d.4 < 2 ^ 32)
 
 -- the closure that gives years may be called on each date that has a month
-abbrev pub AnswersEachMonth : (MonthDate → Type 0) → Type 0
-AnswersEachMonth pre = (d : MonthDate) → HasMonth d → pre d
+abbrev pub AnswersEachMonth : (IncompleteDate → Type 0) → Type 0
+AnswersEachMonth pre = (d : IncompleteDate) → HasMonth d → pre d
 
--- the text is read as the message, whose texts are pieces of the division, or parts of pieces
-abbrev pub IsQuoted : Variant → Text → MessageValue → Type 0
-IsQuoted Either text m = Quotes5424 text m
-IsQuoted RFC5424 text m = Quotes5424 text m
-IsQuoted RFC3164 text m = ⊥
+-- the text shows this date without a year, and the variant reads such dates
+abbrev pub AsksYear : Variant → Text → MonthDate → Type 0
+AsksYear RFC5424 text date = ⊥
+AsksYear RFC3164 text date = ShowsYearless text date
+AsksYear Either text date = ShowsYearless text date
 
--- The text has no reading, or one without elements: its list is `-`, or broken elements alone.
-abbrev pub NeedsNoMemory : Variant → Text → Type 0
-NeedsNoMemory variant text = (m : MessageValue) → IsRead variant text m → m.structured_data ≡ []
+-- this is the year that the closure answered: none where the text asks for no year
+abbrev pub IsYearAnswered : (IncompleteDate → ℤ → Type 0) → Variant → Text → Option ℤ → Type 0
+IsYearAnswered post variant text None = (date : MonthDate) → AsksYear variant text date → ⊥
+IsYearAnswered post variant text (Some year) = (date : MonthDate) × AsksYear variant text date × post (incomplete date) year
+
+-- This holds in the year that the closure answered, and in any year where the text asks for none.
+pub record InYear (post : IncompleteDate → ℤ → Type 0) (variant : Variant) (text : Text) (Holds : Option ℤ → Type 0) : Type 0 where
+  pub answered : Option ℤ
+  pub is_answered : IsYearAnswered post variant text answered
+  pub holds : (year : Option ℤ) → ((date : MonthDate) → AsksYear variant text date → year ≡ answered) → Holds year
+
+-- ---- what the exact calls answer
+
+-- `Invalid` only to a text that has no reading, and `Memory` only to one whose message has elements
+abbrev pub IsFault : Variant → Dating → Text → ParseFault → Type 0
+IsFault variant dating text Invalid = IsUnreadable variant dating text
+IsFault variant dating text Memory = NeedsNoMemory variant dating text → ⊥
+
+-- the one message as which the text is read, or a fault
+abbrev pub Answers : Variant → Dating → Text → Result (Message (Bor (List ℕ))) ParseFault → Type 0
+Answers variant dating text result = MatchResult result (λ m. IsOnlyRead variant dating text (message_value (λ s. shown s) m)) (λ fault. IsFault variant dating text fault)
+
+-- ---- what the plain calls answer
+
+-- the message that stands for a text without a reading: the whole of it, as it was handed in
+abbrev pub fallback : Text → MessageValue
+fallback text = record {
+  protocol = protocol.RFC3164;
+  facility = None;
+  severity = None;
+  timestamp = None;
+  hostname = None;
+  appname = None;
+  procid = None;
+  msgid = None;
+  structured_data = [];
+  msg = text;
+}
+
+-- the one message as which the text is read, or the fallback where there is none
+abbrev pub IsReadOrWhole : Variant → Dating → Text → MessageValue → Type 0
+IsReadOrWhole variant dating text m = IsOnlyRead variant dating text m ⊎ (IsUnreadable variant dating text × (m ≡ fallback text))
+
+-- that message, or a refusal of memory, only for a text whose message has elements
+abbrev pub AnswersPlainly : Variant → Dating → Text → Result (Message (Bor (List ℕ))) AllocError → Type 0
+AnswersPlainly variant dating text result = MatchResult result (λ m. IsReadOrWhole variant dating text (message_value (λ s. shown s) m)) (λ _. NeedsNoMemory variant dating text → ⊥)
+
+-- For callers: the text has no reading, and this holds, or this holds of the one message as which it is read.
+abbrev pub OnReading : Variant → Dating → Text → Type 0 → (MessageValue → Type 0) → Type 0
+OnReading variant dating text Otherwise Holds = (IsUnreadable variant dating text × Otherwise) ⊎ ((m : MessageValue) × IsOnlyRead variant dating text m × Holds m)

@@ -8,6 +8,8 @@ ghost use Rattle.syslog_pieces.specs.declared.timestamp.month_date.MonthDate.{Mo
 ghost use Rattle.syslog_loose.specs.Message.{MessageValue};
 ghost use Rattle.syslog_loose.specs.Printed.{printed};
 ghost use Rattle.syslog_loose.specs.declared.message.Protocol.TheVariants.{RFC3164};
+ghost use Rattle.syslog_loose.specs.Reading.{IsRead};
+ghost use Rattle.syslog_loose.specs.declared.reading.Variant.{Variant};
 ghost use Rattle.syslog_loose.specs.Rfc3164.{Names3164, Resolves, stamped_row, rfc3164_row, IsRead3164, Quotes3164};
 ghost use Rattle.syslog_loose.specs.Rfc5424.{rfc5424_row, IsRead5424, IsNot5424};
 ghost use Rattle.syslog_loose.specs.TagForm.{IsForm};
@@ -84,4 +86,9 @@ pub fn year_counts_for_yearless_dates_alone()
 /// A printed message of RFC 3164 has no division of RFC 5424: a space stands where the version would begin.
 pub fn printed_rfc3164_is_no_rfc5424()
     ensures { (m : MessageValue) → m.protocol ≡ RFC3164 → IsNot5424 (printed m) }
+{}
+
+/// A text is read as at most one message under each variant, in one year and by the same zones.
+pub fn one_message()
+    ensures { (variant : Variant) (dating : Dating) (text : Text) (m n : MessageValue) → IsRead variant dating text m → IsRead variant dating text n → m ≡ n }
 {}

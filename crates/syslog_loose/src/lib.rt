@@ -19,7 +19,10 @@ pub use fault::ParseFault;
 pub use jiff::Timestamp;
 pub use jiff::tz::{Offset, TimeZone};
 pub use message::{Message, Protocol};
-pub use reading::{IncompleteDate, Variant, normalise, parse_message_with_year_exact_tz};
+pub use reading::{
+    IncompleteDate, Variant, normalise, parse_message, parse_message_with_year,
+    parse_message_with_year_exact, parse_message_with_year_exact_tz, parse_message_with_year_tz,
+};
 pub use syslog_pieces::as_str::AsStr;
 pub use syslog_pieces::pri::{SyslogFacility, SyslogSeverity, decompose_pri};
 pub use syslog_pieces::procid::ProcId;

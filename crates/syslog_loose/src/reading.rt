@@ -1,26 +1,40 @@
 //! The calls that read a text.
-ghost use Rattle.std.specs.Prelude.{◌≡◌, ◌≢◌, Err, IfOk, MatchResult, string_bytes};
+//!
+//! Each of the five looks first for a date without a year, asks the closure for its year, and then reads by the headers
+//! below. The calls with `exact` in their names refuse a text that has no reading; the plain ones answer the fallback.
+ghost use Rattle.std.specs.Prelude.{◌≡◌, ◌↔◌, IfOk, MatchOption, MatchResult, None, string_bytes};
 ghost use Rattle.std.specs.Str.{chars, encode_utf8_all};
+ghost use Rattle.jiff.specs.Words.{plain_zone};
 ghost use Rattle.syslog_pieces.specs.Pieces.View.{shown};
+ghost use Rattle.syslog_pieces.specs.Timestamp.Loose.{ShowsYearless};
+ghost use Rattle.syslog_pieces.specs.Timestamp.Zone.{Dating, IsYearAt, dating_of};
+ghost use Rattle.syslog_pieces.specs.declared.timestamp.month_date.MonthDate.{MonthDate};
 ghost use Rattle.syslog_loose.specs.Message.{MessageValue, message_value};
 ghost use Rattle.syslog_loose.specs.Printed.{printed};
-ghost use Rattle.syslog_loose.specs.Rfc5424.{IsRead5424, NeedsNoMemory5424};
-ghost use Rattle.syslog_loose.specs.Reading.{AnswersEachMonth, IsRead, IsUnreadable, IsQuoted, NeedsNoMemory};
-ghost use Rattle.syslog_loose.specs.declared.fault.ParseFault.TheVariants.{Invalid, Memory};
+ghost use Rattle.syslog_loose.specs.Reading as spec;
+ghost use Rattle.syslog_loose.specs.Reading.{Answers, AnswersEachMonth, AnswersPlainly, AsksYear, HasMonth, InYear, IsOnlyRead, IsUnreadable, incomplete};
+ghost use Rattle.syslog_loose.specs.declared.fault.ParseFault.TheVariants.{Invalid};
+ghost use Rattle.syslog_loose.specs.declared.reading.Variant.{Variant};
+ghost use Rattle.syslog_loose.specs.declared.reading.Variant.TheVariants as variants;
 
 use crate::fault::ParseFault;
-use crate::message::Message;
+use crate::message::{Message, Protocol};
+use crate::rfc3164;
 use crate::rfc5424;
+use jiff::Timestamp;
 use jiff::tz::TimeZone;
 use std::alloc::{AllocError, Global};
 use std::fmt::Write;
+use syslog_pieces::structured_data::listed::DashRule;
+use syslog_pieces::timestamp::month_date::shown_date;
+use syslog_pieces::timestamp::year_at;
 
 /// By which protocol a text is read.
 #[derive(Clone, Copy, Debug)]
 pub enum Variant {
-    /// RFC 5424, and RFC 3164 where that gives no message. (So far RFC 5424 alone.)
+    /// RFC 5424, and RFC 3164 where that gives no message.
     Either,
-    /// RFC 3164. (Not read so far: each text is `Invalid`.)
+    /// RFC 3164.
     RFC3164,
     /// RFC 5424.
     RFC5424,
@@ -29,11 +43,120 @@ pub enum Variant {
 /// The month, day, hour, minute and second of a date without a year.
 pub type IncompleteDate = (u32, u32, u32, u32, u32);
 
-/// The message of the text, read by the variant.
+/// Before which texts a dash is a list of RFC 3164: today's rule.
+const DASH_RULE: DashRule = DashRule::BeforeAnything;
+
+/// The message of the text, read by the variant, with the year of `now` in the local zone for a date that has none.
 ///
-/// `get_year` gives the year of a date that has none; `tz` is the zone of a date without an offset, and `local` stands
-/// in for it where it is absent. Each text of the message is a slice of the input. The one refusal besides `Invalid` is
-/// `Memory`, and memory is asked for only to collect elements. (So far nothing asks for the closure or the zones.)
+/// A text that has no reading gives the fallback: protocol RFC 3164, the whole input as its `msg`, and nothing else. The
+/// one refusal is for memory, which is asked for only to collect elements.
+pub fn parse_message<'a>(
+    alloc: Global,
+    input: &'a str,
+    variant: Variant,
+    now: Timestamp,
+    local: &TimeZone<'_>,
+) -> Result<Message<&'a str>, AllocError>
+    ensures reads { InYear (λ _ year. IsYearAt (plain_zone local.entry.now) now.nanosecond year) variant (chars input.entry.now)
+        (λ year. AnswersPlainly variant (dating_of year None local.entry) (chars input.entry.now) result) }
+{
+    let year = match asked_date(input, variant) {
+        Some(_) => Some(year_at(now, local)),
+        None => None,
+    };
+    or_fallback(alloc, input, read(alloc, input, year, None, variant, local))
+}
+
+/// The message of the text, read by the variant, or the fallback. `get_year` gives the year of a date that has none, and
+/// dates are in the local zone.
+pub fn parse_message_with_year<'a, F: FnOnce(IncompleteDate) -> i32>(
+    alloc: Global,
+    input: &'a str,
+    get_year: F,
+    variant: Variant,
+    local: &TimeZone<'_>,
+) -> Result<Message<&'a str>, AllocError>
+    requires { AnswersEachMonth (F.pre get_year) }
+    ensures reads { InYear (F.post get_year) variant (chars input.entry.now)
+        (λ year. AnswersPlainly variant (dating_of year None local.entry) (chars input.entry.now) result) }
+{
+    parse_message_with_year_tz(alloc, input, get_year, None, variant, local)
+}
+
+/// The message of the text, read by the variant, or the fallback. `get_year` gives the year of a date that has none; dates
+/// are in the zone `tz`, and in the local one where that is absent.
+pub fn parse_message_with_year_tz<'a, F: FnOnce(IncompleteDate) -> i32>(
+    alloc: Global,
+    input: &'a str,
+    get_year: F,
+    tz: Option<&TimeZone<'_>>,
+    variant: Variant,
+    local: &TimeZone<'_>,
+) -> Result<Message<&'a str>, AllocError>
+    requires { AnswersEachMonth (F.pre get_year) }
+    ensures reads { InYear (F.post get_year) variant (chars input.entry.now)
+        (λ year. AnswersPlainly variant (dating_of year tz.entry local.entry) (chars input.entry.now) result) }
+{
+    let answer = parse_message_with_year_exact_tz(alloc, input, get_year, tz, variant, local);
+    or_fallback(alloc, input, answer)
+}
+
+// The same answer, with the fallback in place of `Invalid`.
+fn or_fallback<'a>(
+    alloc: Global,
+    input: &'a str,
+    answer: Result<Message<&'a str>, ParseFault>,
+) -> Result<Message<&'a str>, AllocError>
+    ensures { (variant : Variant) (dating : Dating) → Answers variant dating (chars input.entry.now) answer.entry
+        → AnswersPlainly variant dating (chars input.entry.now) result }
+{
+    match answer {
+        Ok(message) => Ok(message),
+        Err(ParseFault::Invalid) => Ok(fallback(alloc, input)),
+        Err(ParseFault::Memory) => Err(AllocError),
+    }
+}
+
+// The message that stands for a text without a reading.
+fn fallback(alloc: Global, input: &str) -> Message<&str>
+    ensures { message_value (λ s. shown s) result ≡ spec.fallback (chars input.now) }
+{
+    Message {
+        protocol: Protocol::RFC3164,
+        facility: None,
+        severity: None,
+        timestamp: None,
+        hostname: None,
+        appname: None,
+        procid: None,
+        msgid: None,
+        structured_data: Vec::new(alloc),
+        msg: input,
+    }
+}
+
+/// The message of the text, read by the variant, or `Invalid`. `get_year` gives the year of a date that has none, and dates
+/// are in the local zone.
+pub fn parse_message_with_year_exact<'a, F: FnOnce(IncompleteDate) -> i32>(
+    alloc: Global,
+    input: &'a str,
+    get_year: F,
+    variant: Variant,
+    local: &TimeZone<'_>,
+) -> Result<Message<&'a str>, ParseFault>
+    requires { AnswersEachMonth (F.pre get_year) }
+    ensures reads { InYear (F.post get_year) variant (chars input.entry.now)
+        (λ year. Answers variant (dating_of year None local.entry) (chars input.entry.now) result) }
+{
+    parse_message_with_year_exact_tz(alloc, input, get_year, None, variant, local)
+}
+
+/// The message of the text, read by the variant, or `Invalid`.
+///
+/// `get_year` gives the year of a date that has none: it is called once, before the text is read, and only where the text
+/// shows such a date and the variant reads it. `tz` is the zone of a date without an offset, and `local` stands in for it
+/// where it is absent. Each text of the message is a slice of the input. The one refusal besides `Invalid` is `Memory`,
+/// and memory is asked for only to collect elements.
 pub fn parse_message_with_year_exact_tz<'a, F: FnOnce(IncompleteDate) -> i32>(
     alloc: Global,
     input: &'a str,
@@ -43,37 +166,58 @@ pub fn parse_message_with_year_exact_tz<'a, F: FnOnce(IncompleteDate) -> i32>(
     local: &TimeZone<'_>,
 ) -> Result<Message<&'a str>, ParseFault>
     requires { AnswersEachMonth (F.pre get_year) }
-    ensures reads { MatchResult result
-        (λ m. IsRead variant (chars input.entry.now) (message_value (λ s. shown s) m))
-        (λ fault. fault ≡ Invalid → IsUnreadable variant (chars input.entry.now)) }
-    // Memory is no answer where the text has no reading, or one without elements.
-    ensures memory { NeedsNoMemory variant (chars input.entry.now) → result ≢ Err Memory }
-    // Each text of the message is a piece of the division, or a part of one.
-    ensures quotes { IfOk result (λ m. IsQuoted variant (chars input.entry.now) (message_value (λ s. shown s) m)) }
+    ensures reads { InYear (F.post get_year) variant (chars input.entry.now)
+        (λ year. Answers variant (dating_of year tz.entry local.entry) (chars input.entry.now) result) }
 {
-    let _ = (get_year, tz, local);
-    read(alloc, input, variant)
+    let year = asked_date(input, variant).map(get_year);
+    read(alloc, input, year, tz, variant, local)
 }
 
-// The message of the text, read by the variant.
-fn read(alloc: Global, input: &str, variant: Variant) -> Result<Message<&str>, ParseFault>
-    ensures reads { MatchResult result
-        (λ m. IsRead variant (chars input.now) (message_value (λ s. shown s) m))
-        (λ fault. fault ≡ Invalid → IsUnreadable variant (chars input.now)) }
-    ensures memory { NeedsNoMemory variant (chars input.now) → result ≢ Err Memory }
+// The date without a year that the text shows, where the variant reads it.
+fn asked_date(input: &str, variant: Variant) -> Option<IncompleteDate>
+    ensures { MatchOption result
+        ((date : MonthDate) → AsksYear variant (chars input.now) date → ⊥)
+        (λ d. (date : MonthDate) × AsksYear variant (chars input.now) date × (d ≡ incomplete date) × HasMonth d) }
 {
     match variant {
-        Variant::Either => read_rfc5424(alloc, input),
+        Variant::RFC5424 => None,
+        Variant::RFC3164 => incomplete_date(input),
+        Variant::Either => incomplete_date(input),
+    }
+}
+
+// The date without a year that the text shows.
+fn incomplete_date(input: &str) -> Option<IncompleteDate>
+    ensures { MatchOption result
+        ((date : MonthDate) → ShowsYearless (chars input.now) date → ⊥)
+        (λ d. (date : MonthDate) × ShowsYearless (chars input.now) date × (d ≡ incomplete date) × HasMonth d) }
+{
+    match shown_date(input) {
+        Some(date) => Some((date.month, date.day, date.hour, date.minute, date.second)),
+        None => None,
+    }
+}
+
+// The message of the text, read by the variant in a year.
+fn read<'a>(
+    alloc: Global,
+    input: &'a str,
+    year: Option<i32>,
+    tz: Option<&TimeZone<'_>>,
+    variant: Variant,
+    local: &TimeZone<'_>,
+) -> Result<Message<&'a str>, ParseFault>
+    ensures { Answers variant (dating_of year tz.entry local.entry) (chars input.entry.now) result }
+{
+    match variant {
         Variant::RFC5424 => read_rfc5424(alloc, input),
-        Variant::RFC3164 => Err(ParseFault::Invalid),
+        Variant::RFC3164 => read_rfc3164(alloc, input, year, tz, local),
+        Variant::Either => read_either(alloc, input, year, tz, local),
     }
 }
 
 fn read_rfc5424(alloc: Global, input: &str) -> Result<Message<&str>, ParseFault>
-    ensures reads { MatchResult result
-        (λ m. IsRead5424 (chars input.now) (message_value (λ s. shown s) m))
-        (λ fault. fault ≡ Invalid → (m : MessageValue) → IsRead5424 (chars input.now) m → ⊥) }
-    ensures memory { NeedsNoMemory5424 (chars input.now) → result ≢ Err Memory }
+    ensures { (dating : Dating) → Answers variants.RFC5424 dating (chars input.now) result }
 {
     match rfc5424::read(alloc, input) {
         Ok(found) => match found {
@@ -84,7 +228,45 @@ fn read_rfc5424(alloc: Global, input: &str) -> Result<Message<&str>, ParseFault>
     }
 }
 
-/// The printed text of that message, in memory of its own. A text that has no reading is `Invalid`, and never `Memory`.
+fn read_rfc3164<'a>(
+    alloc: Global,
+    input: &'a str,
+    year: Option<i32>,
+    tz: Option<&TimeZone<'_>>,
+    local: &TimeZone<'_>,
+) -> Result<Message<&'a str>, ParseFault>
+    ensures { Answers variants.RFC3164 (dating_of year tz.entry local.entry) (chars input.entry.now) result }
+{
+    match rfc3164::read(alloc, input, DASH_RULE, year, tz, local) {
+        Ok(found) => match found {
+            Some(message) => Ok(message),
+            None => Err(ParseFault::Invalid),
+        },
+        Err(_) => Err(ParseFault::Memory),
+    }
+}
+
+// As RFC 5424, and as RFC 3164 where the text has no division of it. A refusal of memory is answered at once.
+fn read_either<'a>(
+    alloc: Global,
+    input: &'a str,
+    year: Option<i32>,
+    tz: Option<&TimeZone<'_>>,
+    local: &TimeZone<'_>,
+) -> Result<Message<&'a str>, ParseFault>
+    ensures { Answers variants.Either (dating_of year tz.entry local.entry) (chars input.entry.now) result }
+{
+    match rfc5424::read(alloc, input) {
+        Ok(found) => match found {
+            Some(message) => Ok(message),
+            None => read_rfc3164(alloc, input, year, tz, local),
+        },
+        Err(_) => Err(ParseFault::Memory),
+    }
+}
+
+/// The printed text of the message that `parse_message_with_year_exact_tz` answers, in memory of its own. A text that has
+/// no reading is `Invalid`, and never `Memory`.
 pub fn normalise<F: FnOnce(IncompleteDate) -> i32>(
     alloc: Global,
     input: &str,
@@ -94,10 +276,9 @@ pub fn normalise<F: FnOnce(IncompleteDate) -> i32>(
     local: &TimeZone<'_>,
 ) -> Result<String, ParseFault>
     requires { AnswersEachMonth (F.pre get_year) }
-    ensures reads { MatchResult result
-        (λ text. (m : MessageValue) × IsRead variant (chars input.entry.now) m × (string_bytes text ≡ encode_utf8_all (printed m)))
-        (λ fault. fault ≡ Invalid → IsUnreadable variant (chars input.entry.now)) }
-    ensures refusal { IsUnreadable variant (chars input.entry.now) → result ≡ Err Invalid }
+    ensures reads { InYear (F.post get_year) variant (chars input.entry.now) (λ year. MatchResult result
+        (λ text. (m : MessageValue) × IsOnlyRead variant (dating_of year tz.entry local.entry) (chars input.entry.now) m × (string_bytes text ≡ encode_utf8_all (printed m)))
+        (λ fault. (fault ≡ Invalid) ↔ IsUnreadable variant (dating_of year tz.entry local.entry) (chars input.entry.now))) }
 {
     let message = parse_message_with_year_exact_tz(alloc, input, get_year, tz, variant, local)?;
     Ok(print(alloc, &message, input.len())?)

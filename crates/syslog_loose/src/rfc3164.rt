@@ -1,18 +1,31 @@
 //! The header of RFC 3164 (section 4), read loosely: eleven pieces, of which only the priority, the blanks and the
 //! timestamp at the front can fail.
 //!
-//! `resolve` answers what the host field and the tag field mean together; `tag_form` tells the form `tag[id]` of a
-//! program's name. Both copy no text and take no memory.
-ghost use Rattle.std.specs.Prelude.{◌≡◌, MatchOption, None};
-ghost use Rattle.std.specs.Option.{option_map};
+//! `read` answers the message of the one division of the trimmed text, or that there is none. It takes each piece from
+//! the readers of `syslog_pieces`, from the left. `resolve` answers what the host field and the tag field mean together,
+//! `tag_form` tells the form `tag[id]` of a program's name.
+ghost use Rattle.std.specs.Prelude.{◌≡◌, IfOk, IsOk, MatchOption, None};
 ghost use Rattle.std.specs.Str.{chars};
-ghost use Rattle.syslog_pieces.specs.Pieces.View.{seen, shown};
-ghost use Rattle.syslog_loose.specs.TagForm.{IsForm, IsNoForm};
+ghost use Rattle.syslog_pieces.specs.Pieces.Class.{Row};
+ghost use Rattle.syslog_pieces.specs.Pieces.View.{seen, shown, field_seen, Reads};
+ghost use Rattle.syslog_pieces.specs.Timestamp.Zone.{dating_of};
+ghost use Rattle.syslog_loose.specs.Message.{message_value};
 ghost use Rattle.syslog_loose.specs.Rfc3164 as spec;
-ghost use Rattle.syslog_loose.specs.View3164.{names_value};
+ghost use Rattle.syslog_loose.specs.TagForm.{IsForm, IsNoForm};
+ghost use Rattle.syslog_loose.specs.View3164.{names_value, stamped_values};
 
+use crate::message::{Message, Protocol};
+use crate::rfc5424::parts;
+use jiff::tz::TimeZone;
+use std::alloc::{AllocError, Global};
+use syslog_pieces::pri::optional_priority;
 use syslog_pieces::procid::ProcId;
-use syslog_pieces::text::{CharClass, literal, split_run};
+use syslog_pieces::structured_data::listed::{DashRule, optional_list};
+use syslog_pieces::text::{
+    CharClass, blanks, host_field, literal, past_colon, split_run, tag_field, trimmed,
+};
+use syslog_pieces::timestamp::OffsetTimestamp;
+use syslog_pieces::timestamp::loose::loose_stamp;
 
 /// The names of a message.
 #[derive(Drop)]
@@ -84,7 +97,7 @@ fn nobody() -> Names<'static>
 
 /// What the host field and the tag field mean together: each is not there, or there and empty, or a text.
 pub(crate) fn resolve<'a>(host: Option<Option<&'a str>>, tag: Option<Option<&'a str>>) -> Names<'a>
-    ensures { spec.Resolves (option_map (λ f. seen f) host.entry) (option_map (λ f. seen f) tag.entry) (names_value result) }
+    ensures { spec.Resolves (field_seen host.entry) (field_seen tag.entry) (names_value result) }
 {
     match tag {
         None => match host {
@@ -97,4 +110,66 @@ pub(crate) fn resolve<'a>(host: Option<Option<&'a str>>, tag: Option<Option<&'a 
             None => program(None, name),
         },
     }
+}
+
+/// The priority and the timestamp.
+#[derive(Clone, Copy)]
+pub(crate) struct Stamped {
+    pub(crate) priority: Option<u8>,
+    pub(crate) timestamp: Option<OffsetTimestamp>,
+}
+
+// The pieces at the front that can fail, and the text behind them.
+fn read_stamped<'a>(
+    text: &'a str,
+    year: Option<i32>,
+    tz: Option<&TimeZone<'_>>,
+    local: &TimeZone<'_>,
+) -> Option<(Stamped, &'a str)>
+    ensures { Reads (Row (spec.stamped_row (dating_of year tz.entry local.entry))) stamped_values (chars text.now) result }
+{
+    let (priority, rest) = optional_priority(text);
+    let Some((timestamp, rest)) = loose_stamp(blanks(rest), year, tz, local) else {
+        return None;
+    };
+    Some((Stamped { priority, timestamp }, rest))
+}
+
+/// The message of the one division of the trimmed text, and none where there is no division. `year` is that of a date
+/// that shows none. Memory is asked for only to collect elements, each after it was recognised.
+pub(crate) fn read<'a>(
+    alloc: Global,
+    text: &'a str,
+    rule: DashRule,
+    year: Option<i32>,
+    tz: Option<&TimeZone<'_>>,
+    local: &TimeZone<'_>,
+) -> Result<Option<Message<&'a str>>, AllocError>
+    ensures read { IfOk result (λ found. MatchOption found
+        (spec.IsNot3164 rule (dating_of year tz.entry local.entry) (chars text.entry.now))
+        (λ m. spec.IsRead3164 rule (dating_of year tz.entry local.entry) (chars text.entry.now) (message_value (λ s. shown s) m))) }
+    ensures memory { spec.NeedsNoMemory3164 rule (dating_of year tz.entry local.entry) (chars text.entry.now) → IsOk result }
+{
+    let Some((stamped, rest)) = read_stamped(trimmed(text), year, tz, local) else {
+        return Ok(None);
+    };
+    let (host, rest) = host_field(rest);
+    let (tag, rest) = tag_field(rest);
+    let names = resolve(host, tag);
+    let rest = blanks(past_colon(blanks(rest)));
+    let (elements, rest) = optional_list(alloc, rest, rule)?;
+    let msg = blanks(rest);
+    let (facility, severity) = parts(stamped.priority);
+    Ok(Some(Message {
+        protocol: Protocol::RFC3164,
+        facility,
+        severity,
+        timestamp: stamped.timestamp,
+        hostname: names.hostname,
+        appname: names.appname,
+        procid: names.procid,
+        msgid: None,
+        structured_data: elements.unwrap_or(Vec::new(alloc)),
+        msg,
+    }))
 }

@@ -60,8 +60,8 @@ fn read_header(text: &str) -> Option<(Header<'_>, &str)>
     ))
 }
 
-// The two parts of a priority, both absent where there is none.
-fn parts(priority: Option<u8>) -> (Option<SyslogFacility>, Option<SyslogSeverity>)
+/// The two parts of a priority, both absent where there is none.
+pub(crate) fn parts(priority: Option<u8>) -> (Option<SyslogFacility>, Option<SyslogSeverity>)
     ensures facility { result.0 ≡ option_and_then facility_of priority }
     ensures severity { result.1 ≡ option_and_then severity_of priority }
 {

@@ -3,7 +3,7 @@
 //! One scanner cuts the maximal run of a class of characters from the front of a text; every reader of a word stands on
 //! it. A reader answers what its class in `specs/Text.antt` means and the text behind it, or nothing where no front of
 //! the text is of the class. Nothing here takes memory, and no text is copied.
-ghost use Rattle.std.specs.Prelude.{◌≡◌, ◌++◌, [], ◌∷◌, MatchOption};
+ghost use Rattle.std.specs.Prelude.{◌≡◌, ◌++◌, [], ◌∷◌, Option, MatchOption};
 ghost use Rattle.std.specs.Str.{bytes_eq, chars, IsUtf8};
 ghost use Rattle.syslog_pieces.specs.Text.CharClass.{has};
 ghost use Rattle.syslog_pieces.specs.Pieces.Class.{Front, NoFront, exactly, run, some_run};
@@ -120,6 +120,17 @@ pub fn literal(text: &str, c: char) -> Option<&str>
     ensures { Skips (exactly (c ∷ [])) tt (chars text.now) result }
 {
     text.strip_prefix(c)
+}
+
+/// The text behind a colon, where one begins it, and else the whole.
+#[inline(always)]
+pub fn past_colon(text: &str) -> &str
+    ensures { (more : Option (Unit {0})) × Front (optional (exactly spec.colon)) (chars text.now) (shown result) more }
+{
+    match literal(text, ':') {
+        Some(rest) => rest,
+        None => text,
+    }
 }
 
 /// The text behind the blanks at the front, of which there may be none.

@@ -1,6 +1,6 @@
 -- Answers to several lines, one after the other.
 use Rattle.std.proofs.Common.{◌≡◌, ℕ, ℤ, ◌+◌, ◌<◌, cond, List, [], ◌∷◌, ◌++◌, length, length-append, Option, Some, None, Bool, true, false, eqb, Result, Ok, Err, OnErr, IfErr, IsErrAnd, refl, sym, ap, ◌∙◌, subst, arith, append_assoc, append-nil, add_assoc, add-zero}
-use Rattle.std.specs.Prelude.{IsUtf8, encode_utf8_all, count_by, is_none}
+use Rattle.std.specs.Prelude.{IsUtf8, MatchResult, encode_utf8_all, count_by, is_none}
 use Rattle.std.specs.Str.{chars}
 use Rattle.std.proofs.lemmas.Bool.{eqb-true}
 use Rattle.std.proofs.lemmas.List.{nil_from_length}
@@ -9,7 +9,7 @@ use Rattle.std.proofs.lemmas.Slice.Zip.{all_zipped_more}
 use Rattle.std.proofs.lemmas.List.Concat.{flat_map-append}
 use Rattle.syslog_loose.specs.Message.{MessageValue}
 use Rattle.syslog_loose.specs.Printed.{printed}
-use Rattle.syslog_loose.specs.Reading.{IsRead}
+use Rattle.syslog_loose.specs.Reading.{IsRead, in_utc}
 use Rattle.syslog_loose.specs.declared.reading.Variant.TheVariants.{Either}
 use Rattle.syslog_tidy.specs.declared.summary.Summary.{Summary}
 use Rattle.syslog_tidy.specs.Lines.{IsLines, IsFirstLine}
@@ -28,7 +28,7 @@ Counts-append was mid is first second counted more = λ lines refused before.
 
 -- the text of a line's message was added
 pub AddsAnswer-printed : (year : ℤ) (line old new bytes : List ℕ) (was is : Summary) → IsUtf8 line
-    → (m : MessageValue) × IsRead Either (chars line) m × (bytes ≡ encode_utf8_all (printed m)) → new ≡ old ++ (bytes ++ 10 ∷ []) → is.lines ≡ held_count (was.lines + 1) → is.refused ≡ held_count (was.refused + 0) → AddsAnswer year line old new was is
+    → (m : MessageValue) × IsRead Either (in_utc year) (chars line) m × (bytes ≡ encode_utf8_all (printed m)) → new ≡ old ++ (bytes ++ 10 ∷ []) → is.lines ≡ held_count (was.lines + 1) → is.refused ≡ held_count (was.refused + 0) → AddsAnswer year line old new was is
 AddsAnswer-printed year line old new bytes was is valid read added more refused = record {
   answer = Some (printed read.0);
   answered = (valid, (read.0, read.1, refl));
@@ -91,7 +91,7 @@ AnswersAll-end year y bytes rest old new was is same none so_far =
     }
 
 -- the next line has no answer, and nothing was added for it
-pub AnswersBefore-end : (year y : ℤ) (bytes rest line after old mid new : List ℕ) (was is : Summary) → y ≡ year → 0 < length rest → IsFirstLine rest line after → IsReadable line → new ≡ mid
+pub AnswersBefore-end : (year y : ℤ) (bytes rest line after old mid new : List ℕ) (was is : Summary) → y ≡ year → 0 < length rest → IsFirstLine rest line after → IsReadable y line → new ≡ mid
     → AnswersSoFar y bytes rest old mid was is → AnswersBefore year bytes old new
 AnswersBefore-end year y bytes rest line after old mid new was is same some first readable kept so_far =
     let before = subst (λ (z : ℤ). AnswersSoFar z bytes rest old mid was is) same so_far in
@@ -100,7 +100,7 @@ AnswersBefore-end year y bytes rest line after old mid new was is same some firs
       line = line;
       after = left.0;
       cut = before.goes_on (line ∷ left.0) (IsLines-cons rest line after left.0 some first left.1);
-      readable = readable;
+      readable = subst (λ (z : ℤ). IsReadable z line) same readable;
       answers = before.answers;
       answered = before.answered;
       added = kept ∙ before.added;
@@ -122,3 +122,8 @@ none_left rest empty is is_empty = eqb-true (length rest) 0 (sym is ∙ is_empty
 pub IfErr-passed : {X E : Type 0} (r : Result X E) (e : E) (P : E → Type 0) → IsErrAnd r (λ y. y ≡ e) → P e → IfErr r P
 IfErr-passed (Ok x) e P is p = tt
 IfErr-passed (Err y) e P is p = subst P (sym is) p
+
+-- an answer that can be no value, and no fault but this one
+pub is_invalid : {X E : Type 0} {P : X → Type 0} {Q : E → Type 0} {U : Type 0} {fault : E} (r : Result X E) → MatchResult r P Q → ((x : X) → P x → U → ⊥) → ((e : E) → Q e → U → e ≡ fault) → U → r ≡ Err fault
+is_invalid (Ok x) h no same u = absurd (no x h u)
+is_invalid (Err e) h no same u = ap Err (same e h u)

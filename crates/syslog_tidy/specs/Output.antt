@@ -4,19 +4,20 @@ use Rattle.std.specs.List.{AllZip, flat_map}
 use Rattle.std.specs.Str.{chars}
 use Rattle.syslog_loose.specs.Message.{MessageValue}
 use Rattle.syslog_loose.specs.Printed.{printed}
-use Rattle.syslog_loose.specs.Reading.{IsRead, IsUnreadable}
+use Rattle.syslog_loose.specs.Reading.{IsRead, IsUnreadable, in_utc}
 use Rattle.syslog_loose.specs.declared.reading.Variant.TheVariants.{Either}
 use Rattle.syslog_tidy.specs.declared.summary.Summary.{Summary}
 use Rattle.syslog_tidy.specs.Lines.{IsLines}
 
--- the answer to a line: the printed text of the message that it is read as, or none where it is no UTF-8 or has no reading
+-- the answer to a line in a year: the printed text of the message that it is read as, or none where it is no UTF-8 or has
+-- no reading
 abbrev pub IsAnswer : ℤ → List ℕ → Option (List ℕ) → Type 0
-IsAnswer year line (Some text) = IsUtf8 line × ((m : MessageValue) × IsRead Either (chars line) m × (text ≡ printed m))
-IsAnswer year line None = IsUtf8 line → IsUnreadable Either (chars line)
+IsAnswer year line (Some text) = IsUtf8 line × ((m : MessageValue) × IsRead Either (in_utc year) (chars line) m × (text ≡ printed m))
+IsAnswer year line None = IsUtf8 line → IsUnreadable Either (in_utc year) (chars line)
 
 -- the line is UTF-8, and isn't one that has no reading
-abbrev pub IsReadable : List ℕ → Type 0
-IsReadable line = IsUtf8 line × (¬ (IsUnreadable Either (chars line)))
+abbrev pub IsReadable : ℤ → List ℕ → Type 0
+IsReadable year line = IsUtf8 line × (¬ (IsUnreadable Either (in_utc year) (chars line)))
 
 -- each line's answer, in order
 abbrev pub AreAnswers : ℤ → List (List ℕ) → List (Option (List ℕ)) → Type 0
@@ -65,7 +66,7 @@ pub record AnswersBefore (year : ℤ) (bytes old new : List ℕ) : Type 0 where
   pub line : List ℕ
   pub after : List (List ℕ)
   pub cut : IsLines bytes (before ++ line ∷ after)
-  pub readable : IsReadable line
+  pub readable : IsReadable year line
   pub answers : List (Option (List ℕ))
   pub answered : AreAnswers year before answers
   pub added : new ≡ old ++ output_of answers

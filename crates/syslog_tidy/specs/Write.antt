@@ -19,7 +19,7 @@ pub record WroteBefore (year : ℤ) (lines : List (List ℕ)) (held holds : Opti
   pub line : List ℕ
   pub after : List (List ℕ)
   pub listed : lines ≡ before ++ line ∷ after
-  pub readable : IsReadable line
+  pub readable : IsReadable year line
   pub wrote : Wrote year before held holds
 
 -- a beginning of the output of the lines was written, which may end within a line's

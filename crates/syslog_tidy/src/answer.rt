@@ -3,7 +3,7 @@ ghost use Rattle.std.specs.Prelude.{◌≡◌, ◌+◌, ◌++◌, [], ◌∷◌,
 ghost use Rattle.std.specs.Str.{chars};
 ghost use Rattle.syslog_loose.specs.Message.{MessageValue};
 ghost use Rattle.syslog_loose.specs.Printed.{printed};
-ghost use Rattle.syslog_loose.specs.Reading.{IsRead, IsUnreadable};
+ghost use Rattle.syslog_loose.specs.Reading.{IsRead, IsUnreadable, in_utc};
 ghost use Rattle.syslog_loose.specs.declared.fault.ParseFault.TheVariants.{Invalid};
 ghost use Rattle.syslog_loose.specs.declared.reading.Variant.TheVariants.{Either};
 ghost use Rattle.syslog_tidy.specs.Output.{AddsAnswer, AnswersAll, AnswersBefore, IsReadable, held_count};
@@ -81,7 +81,7 @@ fn answer_bytes(
 ) -> Result<(), AllocError>
     ensures ok { OnOk result (AddsAnswer year line.now output.old.items output.new.items summary.old summary.new) }
     ensures err { OnErr result (output.new.items ≡ output.old.items) }
-    ensures refusal { OnErr result (IsReadable line.now) }
+    ensures refusal { OnErr result (IsReadable year line.now) }
 {
     match str::from_utf8(line) {
         Ok(text) => answer_text(alloc, text, year, output, summary),
@@ -102,7 +102,7 @@ fn answer_text(
 ) -> Result<(), AllocError>
     ensures ok { OnOk result (AddsAnswer year line.now output.old.items output.new.items summary.old summary.new) }
     ensures err { OnErr result (output.new.items ≡ output.old.items) }
-    ensures refusal { OnErr result (IsReadable line.now) }
+    ensures refusal { OnErr result (IsReadable year line.now) }
 {
     match line_text(alloc, line, year) {
         Ok(text) => {
@@ -121,9 +121,9 @@ fn answer_text(
 // The printed text of a line, in a year.
 fn line_text(alloc: Global, line: &str, year: i32) -> Result<String, ParseFault>
     ensures reads { MatchResult result
-        (λ text. (m : MessageValue) × IsRead Either (chars line.now) m × (string_bytes text ≡ encode_utf8_all (printed m)))
-        (λ fault. fault ≡ Invalid → IsUnreadable Either (chars line.now)) }
-    ensures refusal { IsUnreadable Either (chars line.now) → result ≡ Err Invalid }
+        (λ text. (m : MessageValue) × IsRead Either (in_utc year) (chars line.now) m × (string_bytes text ≡ encode_utf8_all (printed m)))
+        (λ fault. fault ≡ Invalid → IsUnreadable Either (in_utc year) (chars line.now)) }
+    ensures refusal { IsUnreadable Either (in_utc year) (chars line.now) → result ≡ Err Invalid }
 {
     let answer_year = move |_: IncompleteDate| -> i32
         ensures { result ≡ year }

@@ -1,14 +1,13 @@
 //! A collector's routing, as a caller of this crate writes it. `CALLING.md` shows it.
-ghost use Rattle.std.specs.Prelude.{◌≡◌, ◌≢◌, ◌↔◌, ◌⊎◌, ◌<◌, ◌≤◌, IfOk, IfSome, IsOk, IsSomeAnd};
+ghost use Rattle.std.specs.Prelude.{◌≡◌, ◌≢◌, ◌↔◌, ◌⊎◌, ◌<◌, ◌≤◌, IfOk, IfSome, IsOk, IsSomeAnd, None, Some};
 ghost use Rattle.std.specs.Str.{chars};
 ghost use Rattle.syslog_pieces.specs.Pri.{severity_number};
+ghost use Rattle.syslog_pieces.specs.Timestamp.Zone.{dating_of};
 ghost use Rattle.syslog_pieces.specs.declared.pri.SyslogFacility.TheVariants.{LOG_AUTH, LOG_AUTHPRIV};
-ghost use Rattle.syslog_loose.specs.Message.{MessageValue};
-ghost use Rattle.syslog_loose.specs.Reading.{IsRead, IsUnreadable, NeedsNoMemory};
+ghost use Rattle.syslog_loose.specs.Reading.{NeedsNoMemory, OnReading};
 ghost use Rattle.syslog_loose.specs.declared.reading.Variant.TheVariants.{Either};
 ghost use Rattle.syslog_loose.specs.declared.tests.caller.Destination.TheVariants.{Security, Pager, Archive, Refused};
 
-use crate::laws::one_rfc5424_message;
 use crate::{
     IncompleteDate, ParseFault, SyslogFacility, SyslogSeverity, TimeZone, Variant,
     parse_message_with_year_exact_tz,
@@ -45,22 +44,25 @@ fn destination_of(facility: Option<SyslogFacility>, severity: Option<SyslogSever
     }
 }
 
-/// Where the line goes, by its severity and its facility. An `Err` is only for memory.
-fn route(alloc: Global, line: &str) -> Result<Destination, AllocError>
-    ensures pager { IfOk result (λ to. (to ≡ Pager) ↔ ((m : MessageValue) × IsRead Either (chars line.now) m
-        × IsSomeAnd m.severity (λ s. severity_number s ≤ 2))) }
-    ensures security { IfOk result (λ to. (to ≡ Security) ↔ ((m : MessageValue) × IsRead Either (chars line.now) m
-        × IfSome m.severity (λ s. 2 < severity_number s) × IsSomeAnd m.facility (λ f. (f ≡ LOG_AUTH) ⊎ (f ≡ LOG_AUTHPRIV)))) }
-    ensures archive { IfOk result (λ to. (to ≡ Archive) ↔ ((m : MessageValue) × IsRead Either (chars line.now) m
-        × IfSome m.severity (λ s. 2 < severity_number s) × IfSome m.facility (λ f. (f ≢ LOG_AUTH) × (f ≢ LOG_AUTHPRIV)))) }
-    ensures refused { IfOk result (λ to. (to ≡ Refused) ↔ IsUnreadable Either (chars line.now)) }
-    ensures memory { NeedsNoMemory Either (chars line.now) → IsOk result }
+/// Where the line goes, by the facility and the severity of its message. `year` is that of dates that have none. An `Err`
+/// is only for memory.
+fn route(
+    alloc: Global,
+    line: &str,
+    year: i32,
+    local: &TimeZone<'_>,
+) -> Result<Destination, AllocError>
+    ensures sends { IfOk result (λ to. OnReading Either (dating_of (Some year) None local.entry) (chars line.now) (to ≡ Refused) (λ m.
+        ((to ≡ Pager) ↔ IsSomeAnd m.severity (λ s. severity_number s ≤ 2))
+        × ((to ≡ Security) ↔ (IfSome m.severity (λ s. 2 < severity_number s) × IsSomeAnd m.facility (λ f. (f ≡ LOG_AUTH) ⊎ (f ≡ LOG_AUTHPRIV))))
+        × ((to ≡ Archive) ↔ (IfSome m.severity (λ s. 2 < severity_number s) × IfSome m.facility (λ f. (f ≢ LOG_AUTH) × (f ≢ LOG_AUTHPRIV))))
+        × (to ≢ Refused))) }
+    ensures memory { NeedsNoMemory Either (dating_of (Some year) None local.entry) (chars line.now) → IsOk result }
 {
-    // No message is read in two ways.
-    one_rfc5424_message();
-    let utc = TimeZone::UTC;
-    let year = |_: IncompleteDate| -> i32 { 2026 };
-    match parse_message_with_year_exact_tz(alloc, line, year, None, Variant::Either, &utc) {
+    let get_year = move |_: IncompleteDate| -> i32
+        ensures { result ≡ year }
+    { year };
+    match parse_message_with_year_exact_tz(alloc, line, get_year, None, Variant::Either, local) {
         Ok(message) => Ok(destination_of(message.facility, message.severity)),
         Err(ParseFault::Invalid) => Ok(Destination::Refused),
         Err(ParseFault::Memory) => Err(AllocError),
@@ -81,7 +83,11 @@ fn routes_lines(rt: HostRuntime) -> Result<(), Fail> {
         ),
         ("<256>1 - host app - - - too large", Destination::Refused),
     ] {
-        assert_eq!(rt; route(rt.alloc(), line)?, to, "{line}");
+        assert_eq!(rt;
+            route(rt.alloc(), line, 2026, &TimeZone::UTC)?,
+            to,
+            "{line}"
+        );
     }
     Ok(())
 }

@@ -4,15 +4,14 @@
 ghost use Rattle.std.specs.Prelude.{◌≡◌, Option, MatchOption};
 ghost use Rattle.std.specs.Str.{chars};
 ghost use Rattle.syslog_pieces.specs.Bodies.MonthReading as parts;
-ghost use Rattle.syslog_pieces.specs.Pieces.Class.{Front, NoFront, Row, optional, exactly};
+ghost use Rattle.syslog_pieces.specs.Pieces.Class.{Front, NoFront, Row};
 ghost use Rattle.syslog_pieces.specs.Pieces.View.{shown, Reads};
-ghost use Rattle.syslog_pieces.specs.Text.{colon};
 ghost use Rattle.syslog_pieces.specs.Timestamp.Loose.{ShowsYearless};
 ghost use Rattle.syslog_pieces.specs.Timestamp.MonthDate as spec;
 ghost use Rattle.syslog_pieces.specs.declared.timestamp.month_date.MonthDate.{MonthDate};
 
 use crate::pri::optional_priority;
-use crate::text::{blanks, first, literal, number, some_blanks, trimmed};
+use crate::text::{blanks, first, literal, number, past_colon, some_blanks, trimmed};
 
 /// The numbers of a month date, of which there may be no such date.
 #[derive(Clone, Copy, Debug)]
@@ -135,16 +134,6 @@ fn read_clock(text: &str) -> Option<(Clock, &str)>
         },
         rest,
     ))
-}
-
-// The text behind a colon, where one begins it.
-fn past_colon(text: &str) -> &str
-    ensures { (more : Option (Unit {0})) × Front (optional (exactly colon)) (chars text.now) (shown result) more }
-{
-    match literal(text, ':') {
-        Some(rest) => rest,
-        None => text,
-    }
 }
 
 // The number of the month that the text begins with the name of.

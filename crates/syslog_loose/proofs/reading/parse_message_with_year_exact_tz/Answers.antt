@@ -1,5 +1,7 @@
-use Rattle.syslog_loose.proofs.ReadingLemmas.{quoted}
+use Rattle.syslog_loose.proofs.ReadingLemmas.{answered_to, answers_in}
 use Rattle.syslog_loose.proofs.reading.parse_message_with_year_exact_tz.Goals as goal
 
-pub returns-clause-quotes : goal.returns-clause-quotes
-returns-clause-quotes g c = quoted c.args.variant _ c.read.result _ c.read.ensures.reads
+pub returns : goal.returns
+returns g c =
+    let answered = answered_to _ _ _ c.asked_date.result c.map-year.result c.asked_date.ensures c.map-year.ensures.cases in
+    record { reads = answers_in _ _ _ c.args.tz c.args.local c.read.result c.map-year.result answered c.read.ensures }

@@ -1,6 +1,11 @@
+use Rattle.syslog_loose.specs.declared.reading.Variant.TheVariants.{RFC5424}
+use Rattle.syslog_loose.proofs.ReadingLemmas.{only_read}
 use Rattle.syslog_loose.proofs.reading.read_rfc5424.Goals as goal
 
-pub returns-in-None-clause-reads : goal.returns-in-None-clause-reads
-returns-in-None-clause-reads c = λ invalid m r.
+pub returns-in-Some : goal.returns-in-Some
+returns-in-Some c dating = only_read RFC5424 dating _ _ (rw c.in-Some.is at c.in-Ok.ensures.read)
+
+pub returns-in-None : goal.returns-in-None
+returns-in-None c =
     let none = rw c.in-None.is at c.in-Ok.ensures.read in
-    none r.values r.division
+    λ dating m r. none r.values r.division

@@ -1,0 +1,12 @@
+use Rattle.syslog_pieces.specs.Timestamp.Zone.{dating_of}
+use Rattle.syslog_loose.specs.declared.reading.Variant.TheVariants.{RFC3164}
+use Rattle.syslog_loose.proofs.ReadingLemmas.{only_read}
+use Rattle.syslog_loose.proofs.reading.read_rfc3164.Goals as goal
+
+pub returns-in-Some : goal.returns-in-Some
+returns-in-Some c = only_read RFC3164 (dating_of c.args.year c.args.tz c.args.local) _ _ (rw c.in-Some.is at c.in-Ok.ensures.read)
+
+pub returns-in-None : goal.returns-in-None
+returns-in-None c =
+    let none = rw c.in-None.is at c.in-Ok.ensures.read in
+    λ m r. none r.values r.division
