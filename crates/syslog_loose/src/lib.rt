@@ -1,5 +1,5 @@
-//! Reads a syslog message from a text by RFC 5424, and prints it again: the crate `syslog_loose` 0.23.0, ported to
-//! Rattle. (The looser RFC 3164 is printed, and not read yet.)
+//! Reads a syslog message from a text, by RFC 5424 or the looser RFC 3164, and prints it again: the crate
+//! `syslog_loose` 0.23.0, ported to Rattle.
 //!
 //! A text is read by the one division into pieces that the grammar in `docs/GRAMMAR.md` allows; reading copies no
 //! text, and what takes memory takes `alloc` first and can be refused.

@@ -19,8 +19,7 @@ ghost use Rattle.syslog_loose.specs.declared.reading.Variant.TheVariants as vari
 
 use crate::fault::ParseFault;
 use crate::message::{Message, Protocol};
-use crate::rfc3164;
-use crate::rfc5424;
+use crate::{rfc3164, rfc5424};
 use jiff::Timestamp;
 use jiff::tz::TimeZone;
 use std::alloc::{AllocError, Global};

@@ -132,7 +132,13 @@ fn read_stamped<'a>(
     let Some((timestamp, rest)) = loose_stamp(blanks(rest), year, tz, local) else {
         return None;
     };
-    Some((Stamped { priority, timestamp }, rest))
+    Some((
+        Stamped {
+            priority,
+            timestamp,
+        },
+        rest,
+    ))
 }
 
 /// The message of the one division of the trimmed text, and none where there is no division. `year` is that of a date

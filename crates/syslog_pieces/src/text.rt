@@ -6,7 +6,7 @@
 ghost use Rattle.std.specs.Prelude.{◌≡◌, ◌++◌, [], ◌∷◌, Option, MatchOption};
 ghost use Rattle.std.specs.Str.{bytes_eq, chars, IsUtf8};
 ghost use Rattle.syslog_pieces.specs.Text.CharClass.{has};
-ghost use Rattle.syslog_pieces.specs.Pieces.Class.{Front, NoFront, exactly, run, some_run};
+ghost use Rattle.syslog_pieces.specs.Pieces.Class.{Front, NoFront, exactly, optional, run, some_run};
 ghost use Rattle.syslog_pieces.specs.Bodies.Scan.{EndsRun, SplitsRun};
 ghost use Rattle.syslog_pieces.specs.Text as spec;
 ghost use Rattle.syslog_pieces.specs.Pieces.View.{seen, shown, Reads, Skips};

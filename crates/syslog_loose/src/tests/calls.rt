@@ -1,7 +1,6 @@
 //! Each public call once, and the texts of the faults.
 ghost use Rattle.std.specs.Prelude.{◌≡◌};
 
-use super::expected::check_invalid;
 use crate::{
     IncompleteDate, ParseFault, Protocol, SyslogFacility, SyslogSeverity, Variant, decompose_pri,
     normalise, parse_message_with_year_exact_tz,
@@ -77,21 +76,6 @@ fn takes_a_closure_with_a_clause_and_one_without(rt: HostRuntime) -> Result<(), 
     assert_eq!(rt; message.protocol, Protocol::RFC5424(1));
     assert_eq!(rt; message.facility, None);
     Ok(())
-}
-
-#[test]
-fn reads_no_text_as_rfc3164_so_far(rt: HostRuntime) {
-    check_invalid(
-        &rt,
-        rt.alloc(),
-        Variant::RFC3164,
-        &[
-            "",
-            TEXT,
-            "-",
-            "<34>Oct 11 22:14:15 mymachine app[323]: a message",
-        ],
-    );
 }
 
 #[test]

@@ -45,19 +45,22 @@ returns-clause-read c =
     let dating = dating_of c.args.year c.args.tz c.args.local in
     let names = c.resolve-names.result in
     let parts = c.parts-facility.ensures in
-    is_read rule dating (chars c.args.text.now) _ _ _ c.trimmed.ensures
-    (names_value c.resolve-names.result, c.resolve-names.ensures, (λ i. record {
-      protocol = RFC3164;
-      facility = parts.facility i;
-      severity = parts.severity i;
-      timestamp = c.in-Some.stamped.timestamp;
-      hostname = seen names.hostname;
-      appname = seen names.appname;
-      procid = option_map (procid_value (λ s. shown s)) names.procid;
-      msgid = None;
-      structured_data = elements_seen c.in_ok-elements.elements c.new.result c.unwrap_or.result c.new.ensures.items c.unwrap_or.ensures i;
-      msg = shown c.blanks-msg.result;
-    }))
+    is_read rule dating (chars c.args.text.now) _ _ _ c.trimmed.ensures (
+      names_value c.resolve-names.result,
+      c.resolve-names.ensures,
+      (λ i. record {
+        protocol = RFC3164;
+        facility = parts.facility i;
+        severity = parts.severity i;
+        timestamp = c.in-Some.stamped.timestamp;
+        hostname = seen names.hostname;
+        appname = seen names.appname;
+        procid = option_map (procid_value (λ s. shown s)) names.procid;
+        msgid = None;
+        structured_data = elements_seen c.in_ok-elements.elements c.new.result c.unwrap_or.result c.new.ensures.items c.unwrap_or.ensures i;
+        msg = shown c.blanks-msg.result;
+      }),
+    )
     (rows_join (stamped_row dating) (body_row rule) c.in-Some.ensures
     (row_cons (optional (spaced host)) (optional (spaced tag_word) ∷ run is_blank ∷ optional (exactly colon) ∷ run is_blank ∷ optional (listed rule) ∷ behind_row) c.host_field.ensures
     (row_cons (optional (spaced tag_word)) (run is_blank ∷ optional (exactly colon) ∷ run is_blank ∷ optional (listed rule) ∷ behind_row) c.tag_field.ensures
