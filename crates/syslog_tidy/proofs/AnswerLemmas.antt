@@ -9,7 +9,9 @@ use Rattle.std.proofs.lemmas.Slice.Zip.{all_zipped_more}
 use Rattle.std.proofs.lemmas.List.Concat.{flat_map-append}
 use Rattle.syslog_loose.specs.Message.{MessageValue}
 use Rattle.syslog_loose.specs.Printed.{printed}
-use Rattle.syslog_loose.specs.Reading.{IsRead, in_utc}
+use Rattle.syslog_loose.specs.Reading.{IsRead, IsUnreadable, in_utc}
+use Rattle.syslog_loose.specs.declared.fault.ParseFault.{ParseFault}
+use Rattle.syslog_loose.specs.declared.fault.ParseFault.TheVariants.{Invalid, Memory}
 use Rattle.syslog_loose.specs.declared.reading.Variant.TheVariants.{Either}
 use Rattle.syslog_tidy.specs.declared.summary.Summary.{Summary}
 use Rattle.syslog_tidy.specs.Lines.{IsLines, IsFirstLine}
@@ -26,25 +28,38 @@ Counts-append was mid is first second counted more = λ lines refused before.
     rw (length-append first second, sum_by-append (λ (answer : Option (List ℕ)). cond (is_none answer) 1 0) first second, ← add_assoc lines (length first) (length second), ← add_assoc refused (count_by is_none first) (count_by is_none second))
     (more (lines + length first) (refused + count_by is_none first) (counted lines refused before))
 
--- the text of a line's message was added
-pub AddsAnswer-printed : (year : ℤ) (line old new bytes : List ℕ) (was is : Summary) → IsUtf8 line
-    → (m : MessageValue) × IsRead Either (in_utc year) (chars line) m × (bytes ≡ encode_utf8_all (printed m)) → new ≡ old ++ (bytes ++ 10 ∷ []) → is.lines ≡ held_count (was.lines + 1) → is.refused ≡ held_count (was.refused + 0) → AddsAnswer year line old new was is
-AddsAnswer-printed year line old new bytes was is valid read added more refused = record {
+-- the text of a line's message was added; the year stands in the call as a number of 32 bits
+pub AddsAnswer-printed : (year y : ℤ) (line old new bytes : List ℕ) (was is : Summary) → y ≡ year → IsUtf8 line
+    → (m : MessageValue) × IsRead Either (in_utc y) (chars line) m × (bytes ≡ encode_utf8_all (printed m)) → new ≡ old ++ (bytes ++ 10 ∷ []) → is.lines ≡ held_count (was.lines + 1) → is.refused ≡ held_count (was.refused + 0) → AddsAnswer year line old new was is
+AddsAnswer-printed year y line old new bytes was is same valid read added more refused = record {
   answer = Some (printed read.0);
-  answered = (valid, (read.0, read.1, refl));
+  answered = (valid, (read.0, subst (λ (z : ℤ). IsRead Either (in_utc z) (chars line) read.0) same read.1, refl));
   added = added ∙ ap (λ (l : List ℕ). old ++ (l ++ 10 ∷ [])) read.2;
   counted = Counts-one was is (Some (printed read.0)) 0 refl more refused;
 }
 
 -- nothing was added for a line with no text
-pub AddsAnswer-refused : (year : ℤ) (line old : List ℕ) (was is : Summary) → IsAnswer year line None → is.lines ≡ held_count (was.lines + 1) → is.refused ≡ held_count (was.refused + 1)
+pub AddsAnswer-refused : (year y : ℤ) (line old : List ℕ) (was is : Summary) → y ≡ year → IsAnswer y line None → is.lines ≡ held_count (was.lines + 1) → is.refused ≡ held_count (was.refused + 1)
     → AddsAnswer year line old old was is
-AddsAnswer-refused year line old was is answered more refused = record {
+AddsAnswer-refused year y line old was is same answered more refused = record {
   answer = None;
-  answered = answered;
+  answered = subst (λ (z : ℤ). IsAnswer z line None) same answered;
   added = sym (append-nil old);
   counted = Counts-one was is None 1 refl more refused;
 }
+
+-- a line that was read is readable
+pub IsReadable-read : (year y : ℤ) (line bytes : List ℕ) → y ≡ year → IsUtf8 line → (m : MessageValue) × IsRead Either (in_utc y) (chars line) m × (bytes ≡ encode_utf8_all (printed m)) → IsReadable year line
+IsReadable-read year y line bytes same valid read = subst (λ (z : ℤ). IsReadable z line) same (valid, λ u. u read.0 read.1)
+
+-- so is one for which memory was refused
+pub IsReadable-refused : {X : Type 0} (year y : ℤ) (line : List ℕ) (fault : ParseFault) → y ≡ year → IsUtf8 line → (IsUnreadable Either (in_utc y) (chars line) → ◌≡◌ {A = Result X ParseFault} (Err fault) (Err Invalid)) → fault ≡ Memory → IsReadable year line
+IsReadable-refused year y line fault same valid refused is =
+    subst (λ (z : ℤ). IsReadable z line) same (valid, λ u. (let e = refused u in cc))
+
+pub IsReadable-on : {X E : Type 0} (year y : ℤ) (line other : List ℕ) (r : Result X E) → y ≡ year → other ≡ line → OnErr r (IsReadable y other) → OnErr r (IsReadable year line)
+IsReadable-on year y line other (Ok x) same also h = tt
+IsReadable-on year y line other (Err e) same also h = subst (λ (z : ℤ). IsReadable z line) same (subst (λ (l : List ℕ). IsReadable y l) also h)
 
 -- the first lines of some bytes were answered, and the rest holds the other lines
 pub record AnswersSoFar (year : ℤ) (bytes rest old new : List ℕ) (was is : Summary) : Type 0 where
@@ -125,5 +140,5 @@ IfErr-passed (Err y) e P is p = subst P (sym is) p
 
 -- an answer that can be no value, and no fault but this one
 pub is_invalid : {X E : Type 0} {P : X → Type 0} {Q : E → Type 0} {U : Type 0} {fault : E} (r : Result X E) → MatchResult r P Q → ((x : X) → P x → U → ⊥) → ((e : E) → Q e → U → e ≡ fault) → U → r ≡ Err fault
-is_invalid (Ok x) h no same u = absurd (no x h u)
-is_invalid (Err e) h no same u = ap Err (same e h u)
+is_invalid (Ok x) h never same u = absurd (never x h u)
+is_invalid (Err e) h never same u = ap Err (same e h u)

@@ -4,8 +4,8 @@ use Rattle.std.proofs.KnownBytes.{Appends-kept, Appends-trans}
 use Rattle.std.proofs.lemmas.List.{take_all, take_at, take-append-drop}
 use Rattle.std.specs.Io.KnownBytes.{Appends, Keeps}
 use Rattle.syslog_tidy.specs.Lines.{IsLines}
-use Rattle.syslog_tidy.specs.Output.{AnswersAll, AnswersBefore}
-use Rattle.syslog_tidy.specs.Write.{WritesFirst, WroteCut}
+use Rattle.syslog_tidy.specs.Output.{AnswersAll, AnswersBefore, output_of}
+use Rattle.syslog_tidy.specs.Write.{WritesFirst, WroteBefore, WroteCut}
 use Rattle.syslog_tidy.specs.declared.summary.Summary.{Summary}
 use Rattle.syslog_tidy.specs.declared.summary.RunFault.{RunFault}
 use Rattle.syslog_tidy.specs.declared.summary.RunFault.TheVariants.{Write}
@@ -69,3 +69,24 @@ WritesFirst-cut r year y bytes cleared output was is held holds failed fault sam
     let first_here : OnErr r (AnswersBefore y bytes [] output) = subst (λ (l : List ℕ). OnErr r (AnswersBefore y bytes l output)) empty first in
     let cut = WroteCut-either r y bytes output was is held holds all_here first_here wrote in
     subst (WritesFirst year bytes held holds failed) (sym failure.0) (failure.1, (cut.0, cut.1, subst (λ (z : ℤ). WroteCut z cut.0 held holds) same cut.2))
+
+-- the output of the lines before a readable one was written
+pub WroteBefore-all : (year y : ℤ) (bytes old output : List ℕ) (held holds : Option (List ℕ)) → y ≡ year → old ≡ [] → AnswersBefore y bytes old output → Appends held holds output
+    → (lines : List (List ℕ)) × IsLines bytes lines × WroteBefore year lines held holds
+WroteBefore-all year y bytes old output held holds same empty before wrote =
+    let first = subst (λ (z : ℤ). AnswersBefore z bytes old output) same before in (
+      first.before ++ first.line ∷ first.after,
+      first.cut,
+      record {
+        before = first.before;
+        line = first.line;
+        after = first.after;
+        listed = refl;
+        readable = first.readable;
+        wrote = record {
+          answers = first.answers;
+          answered = first.answered;
+          written = subst (λ (o : List ℕ). Appends held holds o) (first.added ∙ ap (λ (o : List ℕ). o ++ output_of first.answers) empty) wrote;
+        };
+      },
+    )

@@ -1,6 +1,6 @@
-use Rattle.std.proofs.Common.{OnErr, subst, List, ℕ}
-use Rattle.syslog_tidy.specs.Output.{IsReadable}
+use Rattle.std.proofs.lemmas.Int.{to_z-of_z}
+use Rattle.syslog_tidy.proofs.AnswerLemmas.{IsReadable-on}
 use Rattle.syslog_tidy.proofs.answer.answer_bytes.Goals as goal
 
 pub returns-in-Ok-clause-refusal : goal.returns-in-Ok-clause-refusal
-returns-in-Ok-clause-refusal c = subst (λ (line : List ℕ). OnErr c.answer_text.result (IsReadable c.args.year line)) c.in-Ok.ensures.cases.0 c.answer_text.ensures.refusal
+returns-in-Ok-clause-refusal c = IsReadable-on _ _ c.args.line.now _ c.answer_text.result (to_z-of_z _ _ c.ranges.year) c.in-Ok.ensures.cases.0 c.answer_text.ensures.refusal
