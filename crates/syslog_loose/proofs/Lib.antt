@@ -3,6 +3,7 @@ pub mod DashLemmas
 pub mod KeptLineLemmas
 pub mod PrintedLemmas
 pub mod PriorityLemmas
+pub mod ReadBackLemmas
 pub mod ReadingLemmas
 pub mod Rfc3164Lemmas
 pub mod Rfc5424Lemmas

@@ -6,6 +6,7 @@ pub mod KeptLine
 pub mod ListedMisses
 pub mod Message
 pub mod Printed
+pub mod ReadBack
 pub mod Reading
 pub mod Rfc3164
 pub mod Rfc5424

@@ -1,6 +1,6 @@
 -- A message of RFC 3164 that is read from its own printed text is canonical: its division, moved piece by piece to the
 -- places that the printed text has.
-use Rattle.std.proofs.Common.{◌≡◌, ℕ, ◌<◌, ◌≤◌, inl, inr, List, [], ◌∷◌, ◌++◌, length, Option, Some, None, IfSome, IsSome, refl, sym, ap, subst, ◌∙◌, arith, append_assoc, append-nil}
+use Rattle.std.proofs.Common.{◌≡◌, ◌↔◌, ℕ, ◌<◌, ◌≤◌, inl, inr, List, [], ◌∷◌, ◌++◌, length, Option, Some, None, IfSome, IsSome, refl, sym, ap, subst, ◌∙◌, arith, append_assoc, append-nil}
 use Rattle.std.proofs.lemmas.List.{length-append}
 use Rattle.std.specs.Char.{is_not_whitespace}
 use Rattle.std.specs.Option.{option_and_then}
@@ -27,14 +27,16 @@ use Rattle.syslog_pieces.proofs.TimestampLemmas.RoundTrip.{stamp_text-plain, pri
 use Rattle.syslog_loose.specs.Canonical.{IsBounded, IsPlainHost, ArePlainNames, IsPlain3164, IsPlainFor, IsCanonical}
 use Rattle.syslog_loose.specs.ListedMisses.{is_no_colon, HasNoColon, IsNear}
 use Rattle.syslog_loose.specs.Message.{MessageValue}
-use Rattle.syslog_loose.specs.Printed.{timestamp_text, priority_of, printed_3164}
+use Rattle.syslog_loose.specs.Printed.{timestamp_text, priority_of, printed_3164, printed}
 use Rattle.syslog_loose.specs.Rfc3164.{Names3164, names, NamesProgram, Resolves, body_row, rfc3164_row, IsRead3164}
 use Rattle.syslog_loose.specs.declared.message.Protocol.{Protocol}
+use Rattle.syslog_loose.specs.declared.message.Protocol.TheVariants.{RFC3164}
 use Rattle.syslog_loose.proofs.PriorityLemmas.{priority_low, priority_front, priority_small}
 use Rattle.syslog_loose.proofs.Rfc3164Lemmas.Apart.{digit_range}
 use Rattle.syslog_loose.proofs.Rfc3164Lemmas.Misses.{plain_names}
 use Rattle.syslog_loose.proofs.Rfc3164Lemmas.Near.{each_right, TagField, tag_field, form_parts, no_colon_process, severity_beside, read_near}
-use Rattle.syslog_loose.proofs.Rfc3164Lemmas.ReadBack.{tag_back, program_field, host_field_back, stamp_unblank, stamp_back}
+use Rattle.syslog_loose.proofs.Rfc3164Lemmas.Printed.{printed_is}
+use Rattle.syslog_loose.proofs.Rfc3164Lemmas.ReadBack.{canonical_back, tag_back, program_field, host_field_back, stamp_unblank, stamp_back}
 use Rattle.syslog_loose.proofs.Rfc3164Lemmas.Rows.{from_gap, from_list, from_blanks, from_colon, from_tag_end, from_tag, from_stamp, from_priority_end}
 use Rattle.syslog_loose.proofs.Rfc3164Lemmas.Unique.{told}
 use Rattle.syslog_loose.proofs.Rfc3164Lemmas.Whole.{program_text, whole, tail_text, trimmed_whole}
@@ -247,3 +249,10 @@ module _ (rule : DashRule) (dating : Dating) (m : MessageValue) (b : IsBounded m
       let near = read_near rule dating (printed_3164 m) m r in
       let d = division_front (rfc3164_row rule dating) r.division in
       fields_plain r.values n resolves means near (subst (λ (x : Text). Front (Row (rfc3164_row rule dating)) x [] r.values) (trimmed_whole m near.msg_end) d)
+
+-- read back from the printed text exactly where it is canonical
+pub rfc3164_exact : (rule : DashRule) (dating : Dating) (m : MessageValue) → m.protocol ≡ RFC3164 → IsBounded m → IsRead3164 rule dating (printed m) m ↔ IsCanonical rule m
+rfc3164_exact rule dating m e b = (
+  λ r. read_is_canonical rule dating m b (subst (λ (x : Text). IsRead3164 rule dating x m) (printed_is m e) r),
+  λ k. subst (λ (x : Text). IsRead3164 rule dating x m) (sym (printed_is m e)) (canonical_back rule dating m e b k),
+)

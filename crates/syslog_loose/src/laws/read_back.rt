@@ -8,9 +8,12 @@ ghost use Rattle.syslog_loose.specs.Canonical.{IsBounded, IsCanonical};
 ghost use Rattle.syslog_loose.specs.ListedMisses.{HasNoMiss, IsNear, IsNearlyCanonical, IsOfMonthDate};
 ghost use Rattle.syslog_loose.specs.Message.{MessageValue};
 ghost use Rattle.syslog_loose.specs.Printed.{printed};
+ghost use Rattle.syslog_loose.specs.ReadBack.{ReadsProtocol};
+ghost use Rattle.syslog_loose.specs.Reading.{dash_rule, IsRead, IsOnlyRead};
 ghost use Rattle.syslog_loose.specs.Rfc3164.{IsRead3164};
 ghost use Rattle.syslog_loose.specs.Rfc5424.{IsRead5424};
 ghost use Rattle.syslog_loose.specs.declared.message.Protocol.TheVariants.{RFC3164, RFC5424};
+ghost use Rattle.syslog_loose.specs.declared.reading.Variant.{Variant};
 
 /// The printed text of a message of RFC 5424 is read as the same message exactly where the message is canonical, under
 /// either rule of the dash.
@@ -52,4 +55,13 @@ pub fn read_rfc3164_has_listed_misses_alone()
 pub fn canonical_rfc3164_has_no_listed_miss()
     ensures { (rule : DashRule) (m : MessageValue) → m.protocol ≡ RFC3164
         → IsCanonical rule m ↔ (IsNearlyCanonical m × HasNoMiss rule m) }
+{}
+
+/// The printed text of a message, read under `Either` or the message's own variant, is read as the message itself
+/// exactly where it meets the written condition, for every year and zone. So is the one message as which it is read.
+pub fn printed_is_read_back_exactly()
+    ensures read { (variant : Variant) (dating : Dating) (m : MessageValue) → ReadsProtocol variant m.protocol → IsBounded m
+        → IsRead variant dating (printed m) m ↔ IsCanonical dash_rule m }
+    ensures same { (variant : Variant) (dating : Dating) (m n : MessageValue) → ReadsProtocol variant m.protocol → IsBounded m
+        → IsOnlyRead variant dating (printed m) n → (n ≡ m) ↔ IsCanonical dash_rule m }
 {}
