@@ -1,12 +1,12 @@
 -- Lines that print as they are written, put together from their pieces.
-use Rattle.std.proofs.Common.{◌≡◌, ℕ, ◌+◌, ◌*◌, ◌<◌, List, [], ◌∷◌, ◌++◌, Option, Some, None, refl, sym, ap, ap₂, ◌∙◌, append_assoc}
+use Rattle.std.proofs.Common.{◌≡◌, ℕ, ◌+◌, ◌*◌, ◌<◌, List, [], ◌∷◌, ◌++◌, Option, Some, None, Result, Ok, Err, inl, refl, sym, ap, ap₂, ◌∙◌, append_assoc}
 use Rattle.std.proofs.lemmas.List.{append_cancel_right}
 use Rattle.std.proofs.lemmas.Str.{encodes-append, encodes-chars}
 use Rattle.std.specs.Char.{encode_utf8}
 use Rattle.std.specs.Str.{chars, IsUtf8, encode_utf8_all}
 use Rattle.std.specs.Fmt.{decimal}
 use Rattle.std.specs.Option.{option_map_or}
-use Rattle.syslog_pieces.specs.Pieces.Class.{Text, Class, Front, Row, Ends, run, some_run, optional, rest}
+use Rattle.syslog_pieces.specs.Pieces.Class.{Text, Class, Front, run, some_run, optional, rest}
 use Rattle.syslog_pieces.specs.Pieces.Kept.{Kept}
 use Rattle.syslog_pieces.specs.Pri.{priority, priority_text, facility_of, severity_of, facility_number, severity_number}
 use Rattle.syslog_pieces.specs.declared.pri.SyslogFacility.{SyslogFacility}
@@ -20,9 +20,18 @@ use Rattle.syslog_pieces.specs.declared.timestamp.OffsetTimestamp.{OffsetTimesta
 use Rattle.syslog_pieces.proofs.PieceLemmas.Class.{row_nil, row_cons, rows_join, rest_front}
 use Rattle.syslog_pieces.proofs.PieceLemmas.Kept.{front_of}
 use Rattle.syslog_pieces.proofs.PriLemmas.{priority_composed}
-use Rattle.syslog_loose.specs.KeptLine.{front_row, tail_row, KeptFront, KeptTail, PrintsKept}
-use Rattle.syslog_loose.specs.Printed.{printed, printed_5424, priority_of, timestamp_text}
-use Rattle.syslog_loose.specs.Rfc5424.{rfc5424_row, message_of}
+use Rattle.syslog_loose.proofs.ReadingLemmas.{only_read}
+use Rattle.syslog_loose.proofs.Rfc3164Lemmas.Apart.{shown_apart}
+use Rattle.syslog_loose.proofs.Rfc3164Lemmas.Shown.{shows_month_date}
+use Rattle.syslog_loose.specs.KeptLine.{front_row, tail_row, KeptFront, KeptTail, PrintsKept, PrintsAs}
+use Rattle.syslog_loose.specs.Message.{MessageValue}
+use Rattle.syslog_loose.specs.Printed.{printed, printed_5424, timestamp_text}
+use Rattle.syslog_loose.specs.Rfc5424.{message_of, IsRead5424, IsNot5424}
+use Rattle.std.specs.Prelude.{IfOk, IfSome, String, string_bytes}
+use Rattle.std.specs.Global.{Global}
+use Rattle.std.specs.declared.alloc.AllocError.{AllocError}
+use Rattle.syslog_loose.specs.declared.reading.Variant.{Variant}
+use Rattle.syslog_loose.specs.declared.reading.Variant.TheVariants.{Either, RFC5424}
 
 abbrev Space : Text → Text → Type 0
 Space t u = Kept (some_run is_blank) (λ _. 32 ∷ []) t u
@@ -155,3 +164,29 @@ line_bytes front stamp tail msg u v w =
     ∙ ap₂ (λ (x y : List ℕ). x ++ (32 ∷ y)) (encodes-chars front u)
     (encodes-append stamp (chars tail ++ (32 ∷ chars msg))
     ∙ ap (λ (x : List ℕ). encode_utf8_all stamp ++ x) (encodes-append (chars tail) (32 ∷ chars msg) ∙ ap₂ (λ (x y : List ℕ). x ++ (32 ∷ y)) (encodes-chars tail v) (encodes-chars msg w))))
+
+-- ---- by a variant that reads RFC 5424
+
+pub strictly : (text : Text) (m : MessageValue) (bytes : List ℕ) → IsRead5424 text m → bytes ≡ encode_utf8_all (printed m) → PrintsAs RFC5424 text bytes
+strictly text m bytes r e = record { message = m; only = λ dating. only_read RFC5424 dating text m r; asks_none = λ date asks. asks; prints = e }
+
+pub either_way : (text : Text) (m : MessageValue) (bytes : List ℕ) → IsRead5424 text m → bytes ≡ encode_utf8_all (printed m) → PrintsAs Either text bytes
+either_way text m bytes r e = record {
+  message = m;
+  only = λ dating. only_read Either dating text m (inl r);
+  asks_none = λ date asks. shown_apart text date (shows_month_date text date asks) r.values r.division;
+  prints = e;
+}
+
+-- what was copied is the printed text of one message
+pub told : (variant : Variant) (text : Text) → ((m : MessageValue) (bytes : List ℕ) → IsRead5424 text m → bytes ≡ encode_utf8_all (printed m) → PrintsAs variant text bytes)
+    → (r : Result (Option (String Global)) AllocError)
+    → IfOk r (λ found. IfSome found (λ t. (m : MessageValue) × IsRead5424 text m × (string_bytes t ≡ encode_utf8_all (printed m))))
+    → IfOk r (λ found. IfSome found (λ t. PrintsAs variant text (string_bytes t)))
+told variant text turn (Ok (Some t)) (m, r, e) = turn m (string_bytes t) r e
+told variant text turn (Ok None) h = tt
+told variant text turn (Err e) h = tt
+
+-- a text that no message is read from has no division
+pub no_division : (text : Text) → ((m : MessageValue) → IsRead5424 text m → ⊥) → IsNot5424 text
+no_division text none vs d = none (message_of vs) (record { values = vs; division = d; means = refl })

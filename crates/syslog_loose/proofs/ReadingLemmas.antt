@@ -1,18 +1,16 @@
 -- What the reading calls answer.
-use Rattle.std.proofs.Common.{◌≡◌, ◌↔◌, inl, inr, ℕ, ℤ, List, [], Option, Some, None, Result, Ok, Err, w32, SFits, to_z, of_z, refl, sym, ap, subst, ◌∙◌}
+use Rattle.std.proofs.Common.{◌≡◌, ◌↔◌, inl, inr, ℕ, ℤ, List, Option, Some, None, Result, Ok, Err, w32, SFits, to_z, of_z, refl, sym, ap, subst, ◌∙◌}
 use Rattle.std.proofs.lemmas.Int.{to_z-of_z}
-use Rattle.std.specs.Prelude.{IsOk, MatchOption, IsSomeAnd}
+use Rattle.std.specs.Prelude.{IsOk, IfOk, IfSome, MatchOption, IsSomeAnd}
 use Rattle.std.specs.declared.alloc.AllocError.{AllocError}
 use Rattle.std.specs.Borrow.{Bor}
 use Rattle.jiff.specs.declared.tz.timezone.TimeZone.{TimeZone}
 use Rattle.syslog_pieces.specs.Pieces.Class.{Text}
 use Rattle.syslog_pieces.specs.Pieces.View.{shown}
-use Rattle.syslog_pieces.specs.Timestamp.Loose.{ShowsYearless}
 use Rattle.syslog_pieces.specs.Timestamp.Zone.{Dating, dating_of}
 use Rattle.syslog_pieces.specs.declared.timestamp.month_date.MonthDate.{MonthDate}
 use Rattle.syslog_loose.specs.Message.{MessageValue, message_value}
-use Rattle.syslog_loose.specs.Reading.{dash_rule, IsRead, IsOnlyRead, IsUnreadable, IsQuoted, IsFault, NeedsNoMemory, Answers, AnswersPlainly, IncompleteDate, incomplete, HasMonth, AsksYear, IsYearAnswered, InYear}
-use Rattle.syslog_loose.specs.Rfc3164.{IsRead3164, IsNot3164, NeedsNoMemory3164}
+use Rattle.syslog_loose.specs.Reading.{dash_rule, IsRead, IsOnlyRead, IsUnreadable, IsQuoted, IsFault, Answers, AnswersPlainly, IncompleteDate, incomplete, HasMonth, AsksYear, IsYearAnswered, InYear}
 use Rattle.syslog_loose.specs.Rfc5424.{IsRead5424, IsNot5424, NeedsNoMemory5424}
 use Rattle.syslog_loose.specs.declared.message.Message.{Message}
 use Rattle.syslog_loose.specs.declared.fault.ParseFault.{ParseFault}
@@ -66,6 +64,15 @@ either_refused dating text wanted needless = wanted (λ m r. needless m (inl r))
 pub refused : {X : Type 0} (r : Result X AllocError) (e : AllocError) {P : Type 0} → r ≡ Err e → (P → IsOk r) → P → ⊥
 refused (Ok x) e is h p = cc
 refused (Err x) e is h p = let t = h p in cc
+
+-- what is said of a value that was found
+pub found_text : {X : Type 0} (P : X → Type 0) (r : Result (Option X) AllocError) (o : Option X) (t : X) → r ≡ Ok o → o ≡ Some t → IfOk r (λ found. IfSome found P) → P t
+found_text {X = X} P r o t e f h = subst (λ (x : Option X). IfSome x P) f (subst (λ (x : Result (Option X) AllocError). IfOk x (λ found. IfSome found P)) e h)
+
+-- an `Err` is not `Ok`
+pub no_ok : {X : Type 0} (r : Result X AllocError) (e : AllocError) → r ≡ Err e → IsOk r → ⊥
+no_ok (Ok x) e is h = cc
+no_ok (Err x) e is h = cc
 
 -- ---- the year
 
@@ -127,7 +134,7 @@ pub in_this_year : {post : IncompleteDate → ℤ → Type 0} {variant : Variant
 in_this_year h year fits same = in_one_year h year (λ date y is. same date y is ∙ to_z-of_z w32 year fits)
 
 -- ---- faults
-invalid_or_memory : Memory ≡ Invalid → ⊥
+pub invalid_or_memory : Memory ≡ Invalid → ⊥
 invalid_or_memory e = cc
 
 pub fault_tells : (variant : Variant) (dating : Dating) (text : Text) (fault : ParseFault) → IsFault variant dating text fault → (fault ≡ Invalid) ↔ IsUnreadable variant dating text

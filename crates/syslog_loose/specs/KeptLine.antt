@@ -1,17 +1,22 @@
 -- Lines of RFC 5424 that print as they are written, but for their timestamp. (Words of the bodies alone.)
 use Rattle.std.specs.Prelude.{◌≡◌, ℕ, ◌<◌, List, [], ◌∷◌, ◌++◌, Option, Some}
 use Rattle.std.specs.Fmt.{decimal}
+use Rattle.std.specs.Str.{encode_utf8_all}
 use Rattle.syslog_pieces.specs.Pieces.Class.{Text, Class, Front, Row, Values, run, some_run, optional}
 use Rattle.syslog_pieces.specs.Pri.{priority, priority_text}
 use Rattle.syslog_pieces.specs.ProcId.{process_word, process_text}
 use Rattle.syslog_pieces.specs.StructuredData.{forgiving}
 use Rattle.syslog_pieces.specs.StructuredData.Element.{ElementValue, elements_text}
 use Rattle.syslog_pieces.specs.Text.{is_blank, number, host, word, name_text}
+use Rattle.syslog_pieces.specs.Timestamp.Zone.{Dating}
 use Rattle.syslog_pieces.specs.declared.procid.ProcId.{ProcId}
 use Rattle.syslog_pieces.specs.declared.timestamp.OffsetTimestamp.{OffsetTimestamp}
+use Rattle.syslog_pieces.specs.declared.timestamp.month_date.MonthDate.{MonthDate}
 use Rattle.syslog_loose.specs.Message.{MessageValue}
 use Rattle.syslog_loose.specs.Printed.{printed, timestamp_text}
+use Rattle.syslog_loose.specs.Reading.{AsksYear, IsOnlyRead}
 use Rattle.syslog_loose.specs.Rfc5424.{rfc5424_row, message_of}
+use Rattle.syslog_loose.specs.declared.reading.Variant.{Variant}
 
 -- priority and version
 abbrev pub front_row : List Class
@@ -47,3 +52,10 @@ pub record PrintsKept (text front : Text) (timestamp : Option OffsetTimestamp) (
   pub values : Values rfc5424_row
   pub is : Front (Row rfc5424_row) text [] values
   pub prints : printed (message_of values) ≡ front ++ (32 ∷ (timestamp_text timestamp ++ (tail ++ (32 ∷ msg))))
+
+-- the text is read by the variant as one message, in whatever year, and these bytes are its printed text
+pub record PrintsAs (variant : Variant) (text : Text) (bytes : List ℕ) : Type 0 where
+  pub message : MessageValue
+  pub only : (dating : Dating) → IsOnlyRead variant dating text message
+  pub asks_none : (date : MonthDate) → AsksYear variant text date → ⊥
+  pub prints : bytes ≡ encode_utf8_all (printed message)

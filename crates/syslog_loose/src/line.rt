@@ -7,15 +7,19 @@
 ghost use Rattle.std.specs.Prelude.{◌≡◌, ◌++◌, ◌∷◌, IfOk, IfSome, IsOk, Some, string_bytes};
 ghost use Rattle.std.specs.Str.{chars, encode_utf8_all, IsUtf8};
 ghost use Rattle.syslog_pieces.specs.Pieces.View.{shown};
-ghost use Rattle.syslog_loose.specs.KeptLine.{KeptFront, KeptTail, PrintsKept};
+ghost use Rattle.syslog_pieces.specs.Timestamp.Zone.{Dating};
+ghost use Rattle.syslog_loose.specs.KeptLine.{KeptFront, KeptTail, PrintsAs, PrintsKept};
 ghost use Rattle.syslog_loose.specs.Message.{MessageValue};
 ghost use Rattle.syslog_loose.specs.Printed.{printed, timestamp_text};
+ghost use Rattle.syslog_pieces.specs.declared.timestamp.month_date.MonthDate.{MonthDate};
+ghost use Rattle.syslog_loose.specs.Reading.{AsksYear, IsUnreadable};
 ghost use Rattle.syslog_loose.specs.Rfc5424.{IsNot5424, IsRead5424};
 
 #[cfg(test)]
 mod tests;
 
 use crate::message::{write_spaced, write_timestamp};
+use crate::reading::Variant;
 use std::alloc::{AllocError, Global};
 use std::fmt;
 use std::fmt::Write;
@@ -112,4 +116,21 @@ pub(crate) fn copied(alloc: Global, input: &str) -> Result<Option<String>, Alloc
     let mut text = String::with_capacity(alloc, input.len().saturating_add(MORE_PRINTED))?;
     write!(text, "{line}")?;
     Ok(Some(text))
+}
+
+/// The same, where the variant reads RFC 5424.
+pub(crate) fn kept_text(
+    alloc: Global,
+    input: &str,
+    variant: Variant,
+) -> Result<Option<String>, AllocError>
+    ensures text { IfOk result (λ found. IfSome found (λ text. PrintsAs variant (chars input.now) (string_bytes text))) }
+    ensures memory { (dating : Dating) → IsUnreadable variant dating (chars input.now) → IsOk result }
+    ensures year { (date : MonthDate) → AsksYear variant (chars input.now) date → IsOk result }
+{
+    match variant {
+        Variant::RFC3164 => Ok(None),
+        Variant::RFC5424 => copied(alloc, input),
+        Variant::Either => copied(alloc, input),
+    }
 }

@@ -18,6 +18,7 @@ ghost use Rattle.syslog_loose.specs.declared.reading.Variant.{Variant};
 ghost use Rattle.syslog_loose.specs.declared.reading.Variant.TheVariants as variants;
 
 use crate::fault::ParseFault;
+use crate::line::{MORE_PRINTED, kept_text};
 use crate::message::{Message, Protocol};
 use crate::{rfc3164, rfc5424};
 use jiff::Timestamp;
@@ -279,12 +280,13 @@ pub fn normalise<F: FnOnce(IncompleteDate) -> i32>(
         (λ text. (m : MessageValue) × IsOnlyRead variant (dating_of year tz.entry local.entry) (chars input.entry.now) m × (string_bytes text ≡ encode_utf8_all (printed m)))
         (λ fault. (fault ≡ Invalid) ↔ IsUnreadable variant (dating_of year tz.entry local.entry) (chars input.entry.now))) }
 {
+    match kept_text(alloc, input, variant)? {
+        Some(text) => return Ok(text),
+        None => {}
+    }
     let message = parse_message_with_year_exact_tz(alloc, input, get_year, tz, variant, local)?;
     Ok(print(alloc, &message, input.len())?)
 }
-
-// What a printed message may have beyond its input: a priority, a longer timestamp and the dashes of absent fields.
-const MORE_PRINTED: usize = 48;
 
 // The printed text, in memory for a text of the input's length that is asked for once.
 fn print(alloc: Global, message: &Message<&str>, length: usize) -> Result<String, AllocError>

@@ -1,7 +1,7 @@
 -- The texts of a message of RFC 3164 are in the pieces.
-use Rattle.std.proofs.Common.{◌≡◌, inl, inr, List, [], ◌∷◌, ◌++◌, Option, Some, None, sym, subst}
+use Rattle.std.proofs.Common.{inl, inr, List, [], ◌∷◌, ◌++◌, Option, Some, None, sym, subst}
 use Rattle.std.specs.List.{flat_map, AllByRecursion}
-use Rattle.syslog_pieces.specs.Pieces.Class.{Text, Values, run, some_run, rest, exactly, optional, spaced, texted}
+use Rattle.syslog_pieces.specs.Pieces.Class.{Text, run, some_run, exactly, optional, spaced}
 use Rattle.syslog_pieces.specs.Pieces.Parts.{IsPart, IsInPieces, AreInPieces, text_list, process_texts}
 use Rattle.syslog_pieces.specs.Pri.{priority}
 use Rattle.syslog_pieces.specs.ProcId.{NamesProcess}
@@ -19,7 +19,6 @@ use Rattle.syslog_pieces.proofs.StructuredDataLemmas.ElementParts.{optional_list
 use Rattle.syslog_loose.specs.Message.{MessageValue, message_texts}
 use Rattle.syslog_loose.specs.Rfc3164.{Names3164, Resolves, NamesProgram, NamesHost, rfc3164_row, IsRead3164, Quotes3164}
 use Rattle.syslog_loose.specs.TagForm.{form_row, IsForm}
-use Rattle.syslog_loose.proofs.Rfc3164Lemmas.Unique.{told}
 
 -- ---- parts of texts in pieces
 part_on : (p t u : Text) → IsPart p t → IsPart t u → IsPart p u

@@ -7,7 +7,7 @@ use Rattle.std.specs.Prelude.{unwrap_or}
 use Rattle.std.specs.Fmt.{decimal}
 use Rattle.std.specs.Str.{skip_leading_whitespace, drop_trailing_whitespace}
 use Rattle.std.specs.Char.{is_not_whitespace}
-use Rattle.syslog_pieces.specs.Pieces.Class.{Text, Class, Values, Front, NoFront, Row, Each, Ends, Division, run, some_run, exactly, optional, rest}
+use Rattle.syslog_pieces.specs.Pieces.Class.{Text, Class, Values, Front, NoFront, Row, Each, Ends, Division, run, some_run, optional, rest}
 use Rattle.syslog_pieces.specs.Pri.{priority, composed, facility_of, severity_of, facility_number, severity_number}
 use Rattle.syslog_pieces.specs.ProcId.{process_word, process_text, IsPlainProcess, IsBoundedProcess}
 use Rattle.syslog_pieces.specs.StructuredData.{forgiving, item}

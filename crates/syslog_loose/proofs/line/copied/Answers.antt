@@ -1,8 +1,7 @@
 use Rattle.std.proofs.Common.{rules, ◌≡◌, ◌++◌, ◌∷◌, string_bytes, refl, sym, ap, ◌∙◌}
 use Rattle.std.specs.Str.{chars, encode_utf8_all}
-use Rattle.syslog_pieces.specs.Pieces.View.{shown}
 use Rattle.syslog_loose.specs.Printed.{timestamp_text}
-use Rattle.syslog_loose.specs.Rfc5424.{message_of, IsRead5424}
+use Rattle.syslog_loose.specs.Rfc5424.{message_of}
 use Rattle.syslog_loose.proofs.KeptLineLemmas.{line_bytes}
 use Rattle.syslog_loose.proofs.Rfc5424Lemmas.{is_read}
 use Rattle.syslog_loose.proofs.line.copied.Goals as goal

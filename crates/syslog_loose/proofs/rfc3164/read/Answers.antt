@@ -14,7 +14,7 @@ use Rattle.syslog_pieces.proofs.PieceLemmas.Class.{row_nil, row_cons, rows_join,
 use Rattle.syslog_loose.specs.Rfc3164.{stamped_row, body_row}
 use Rattle.syslog_loose.specs.View3164.{names_value}
 use Rattle.syslog_loose.specs.declared.message.Protocol.TheVariants.{RFC3164}
-use Rattle.syslog_loose.proofs.Rfc3164Lemmas.Reading.{fields_row, behind_row, not_read, is_read, list_needs_none}
+use Rattle.syslog_loose.proofs.Rfc3164Lemmas.Reading.{behind_row, not_read, is_read, list_needs_none}
 use Rattle.syslog_loose.proofs.rfc3164.read.Goals as goal
 
 pub returns-in_default-clause-read : goal.returns-in_default-clause-read
