@@ -3,9 +3,10 @@
 
   compare_texts.py --ours PROGRAM --theirs PROGRAM                 50,000 texts made by edits of base_texts.txt
   compare_texts.py --elements 3000 --ours PROGRAM --theirs PROGRAM   as many elements, each in a whole message
+  compare_texts.py --dates 2000 --variant 3164 --zone rule ..        as many dates of RFC 3164, each in a whole message
 
-PROGRAM of --ours is called with a variant (either, 3164 or 5424); bench/build_reader builds it. PROGRAM of
---theirs is called with --raw --variant VARIANT --year 2019 --tz none, under TZ=UTC. Each reads texts, one a
+PROGRAM of --ours is called with a variant (either, 3164 or 5424), the years and the zone; bench/build_reader builds
+it. PROGRAM of --theirs is called with --raw --variant VARIANT --year YEARS --tz ZONE, under TZ=UTC. Each reads texts, one a
 line, and prints a JSON object for each, with the fields of a message or "ok": false. The texts are the same
 each time for one seed. The status is 0 where each difference is one that is expected, and named below.
 """
@@ -157,6 +158,32 @@ def element(chance):
     return text
 
 
+MONTHS = "Jan Feb Mar Apr May Jun Jul Aug Sep Oct Nov Dec".split()
+GAPS = [" ", " ", " ", "  ", "\t", " \t ", ""]
+# Days and times about the edges of the zone's gap and fold, in the years that are asked for.
+EDGES = ["Mar 29 {}01:59:59", "Mar 29 {}02:00:00", "Mar 29 {}02:30:00", "Mar 29 {}02:59:59", "Mar 29 {}03:00:00", "Oct 25 {}01:59:59", "Oct 25 {}02:00:00", "Oct 25 {}02:30:00", "Oct 25 {}02:59:59", "Oct 25 {}03:00:00"]
+
+
+def odd_case(chance, word):
+    return "".join(chance.choice([it.upper(), it.lower(), it]) for it in word)
+
+
+def date(chance):
+    """A date of RFC 3164, with a year or without: most of them exist."""
+    if chance.random() < 0.2:
+        text = chance.choice(EDGES).format(chance.choice(["", "2020 ", "2021 "]))
+    else:
+        month = odd_case(chance, chance.choice(MONTHS)) if chance.random() < 0.9 else run_of(chance, ["J", "a", "n", "e", "b"], 2, 4)
+        day = chance.choice([str(chance.randrange(1, 29)), str(chance.randrange(0, 33)), chance.choice(LIMITS)])
+        year = chance.choice(["", "", str(chance.randrange(1990, 2030)), str(chance.randrange(0, 10001)), chance.choice(LIMITS)])
+        clock = ":".join(chance.choice([str(chance.randrange(0, 24)), "%02d" % chance.randrange(0, 61), "%02d" % chance.randrange(0, 61)]) for _ in range(3))
+        if chance.random() < 0.1:
+            clock = ":".join(clock.split(":")[:2] + [chance.choice(LIMITS)])
+        words = [it for it in (month, day, year, clock) if it]
+        text = "".join(word + chance.choice(GAPS) for word in words[:-1]) + words[-1]
+    return text + chance.choice(["", "", "", ":", "::", " :"]) + chance.choice([" h a: m", " h a: m", "", "h a: m", " h a[1]: m"])
+
+
 def distinct(count, make):
     found = {}
     while len(found) < count:
@@ -168,6 +195,8 @@ def texts_of(chosen):
     chance = random.Random("texts %d" % chosen.seed)
     if chosen.elements:
         return ["1 - - - - - " + it for it in distinct(chosen.elements, lambda: element(chance))]
+    if chosen.dates:
+        return distinct(chosen.dates, lambda: chance.choice(["", "<34>", "<34> "]) + date(chance))
     with open(chosen.base, encoding="utf-8", newline="\n") as given:
         bases = [it for it in given.read().split("\n") if it and not it.startswith("#")]
     taken = likely(bases, chosen.variant)
@@ -229,7 +258,23 @@ def is_no_rfc_3339(text, ours, theirs):
     return bool(stamp) and not ours.get("ok") and bool(shown) and not any(RFC_3339.fullmatch(it) for it in shown)
 
 
-EXPECTED = [is_second_60, is_past_the_range, is_no_rfc_3339]
+def is_dated_in_a_zone(text, ours, theirs):
+    """A date with a year beside a given zone: taken as UTC there, and in the zone here, where a gap refuses it."""
+    if not re.match(r"\s*(<[0-9]+>)?[ \t]*[A-Za-z]{3}[ \t]+[0-9]+[ \t]+[0-9]+[ \t]+[0-9]", text) or not theirs.get("ok"):
+        return False
+    if not ours.get("ok"):
+        return True
+    a, b = plain(ours), plain(theirs)
+    return all(a[it] == b[it] for it in FIELDS if it not in ("timestamp", "printed"))
+
+
+def is_past_the_dates(text, ours, theirs):
+    """A year of five digits, or an instant outside jiff's range: read there, and refused here."""
+    stamp = theirs.get("timestamp") if theirs.get("ok") else None
+    return bool(stamp) and not ours.get("ok") and not -377705023201 * 10**9 <= int(stamp["nanos"]) <= LAST_INSTANT
+
+
+EXPECTED = [is_second_60, is_past_the_range, is_no_rfc_3339, is_past_the_dates, is_dated_in_a_zone]
 
 
 def kind_of(text, ours, theirs):
@@ -272,6 +317,9 @@ def arguments():
     reader.add_argument("--variant", choices=["either", "3164", "5424"], default="5424")
     reader.add_argument("--count", type=int, default=50_000, help="edited texts (50,000)")
     reader.add_argument("--elements", type=int, default=0, metavar="N", help="N elements in place of edited texts")
+    reader.add_argument("--dates", type=int, default=0, metavar="N", help="N dates of RFC 3164 in place of edited texts")
+    reader.add_argument("--years", default="2019/2019", help="the years of dates without one, in December and else (2019/2019)")
+    reader.add_argument("--zone", default="none", help="the zone of dates without an offset: none, utc, rule or +HH:MM (none)")
     reader.add_argument("--seed", type=int, default=5424)
     reader.add_argument("--base", default=os.path.join(HERE, "base_texts.txt"), help="the texts that are edited")
     reader.add_argument("--shown", type=int, default=2, help="examples of each kind of difference (2)")
@@ -289,8 +337,8 @@ def main():
         with open(chosen.texts, "w", encoding="utf-8", newline="\n") as out:
             out.writelines(text + "\n" for text in texts)
         return
-    ours = answers([chosen.ours, chosen.variant], texts)
-    theirs = answers([chosen.theirs, "--raw", "--variant", chosen.variant, "--year", "2019", "--tz", "none"], texts)
+    ours = answers([chosen.ours, chosen.variant, chosen.years, chosen.zone], texts)
+    theirs = answers([chosen.theirs, "--raw", "--variant", chosen.variant, "--year", chosen.years, "--tz", chosen.zone], texts)
     sys.exit(0 if report(texts, ours, theirs, chosen.shown) else 1)
 
 

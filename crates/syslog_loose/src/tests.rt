@@ -4,6 +4,7 @@ mod calls;
 mod canonical;
 mod comparison;
 mod crate_answers;
+mod crate_answers_3164;
 mod crate_answers_lists;
 mod expected;
 mod headers;

@@ -70,7 +70,7 @@ pub(super) fn read<'a>(
     )
 }
 
-fn process_of<'a>(procid: &Option<ProcId<&'a str>>) -> Process<'a> {
+pub(super) fn process_of<'a>(procid: &Option<ProcId<&'a str>>) -> Process<'a> {
     match procid {
         None => Process::Absent,
         Some(ProcId::PID(number)) => Process::Number(*number),
@@ -96,7 +96,7 @@ pub(super) fn check_elements(rt: &impl Abort, elements: &[StructuredElement<&str
     assert_eq!(rt; lines.next(), None);
 }
 
-fn check_timestamp(
+pub(super) fn check_timestamp(
     rt: &impl Abort,
     alloc: Global,
     message: &Message<&str>,
