@@ -1,20 +1,29 @@
 -- The printed text of a message, read under `Either` or the message's own variant.
-use Rattle.std.proofs.Common.{◌≡◌, ℕ, ◌↔◌, inl, inr, refl, sym, ap, subst, ◌∙◌}
+use Rattle.std.proofs.Common.{◌≡◌, ℕ, ◌↔◌, inl, inr, ℤ, List, Option, Result, Ok, Err, refl, sym, ap, subst, ◌∙◌}
+use Rattle.std.proofs.lemmas.Str.{encodes-chars}
+use Rattle.std.specs.Prelude.{IfOk, IsOkAnd, MatchResult, String, string_bytes}
+use Rattle.std.specs.Str.{chars, IsUtf8, encode_utf8_all}
+use Rattle.std.specs.Global.{Global}
+use Rattle.std.specs.Borrow.{Bor}
+use Rattle.syslog_pieces.specs.Pieces.View.{shown}
 use Rattle.syslog_pieces.specs.Pieces.Class.{Text}
 use Rattle.syslog_pieces.specs.Timestamp.Zone.{Dating}
 use Rattle.syslog_loose.specs.Canonical.{IsBounded, IsCanonical}
-use Rattle.syslog_loose.specs.Message.{MessageValue}
+use Rattle.syslog_loose.specs.Message.{MessageValue, message_value}
 use Rattle.syslog_loose.specs.Printed.{printed}
-use Rattle.syslog_loose.specs.ReadBack.{ReadsProtocol}
-use Rattle.syslog_loose.specs.Reading.{dash_rule, IsRead, IsOnlyRead}
+use Rattle.syslog_loose.specs.ReadBack.{ReadsProtocol, AnswersItself, FieldsAsRead, IsKept, AnswersAgain}
+use Rattle.syslog_loose.specs.Reading.{dash_rule, IsRead, IsOnlyRead, IsUnreadable, Answers, IncompleteDate, InYear}
 use Rattle.syslog_loose.specs.Rfc3164.{IsRead3164}
 use Rattle.syslog_loose.specs.Rfc5424.{IsRead5424, IsNot5424}
+use Rattle.syslog_loose.specs.declared.fault.ParseFault.{ParseFault}
+use Rattle.syslog_loose.specs.declared.fault.ParseFault.TheVariants.{Invalid, Memory}
+use Rattle.syslog_loose.specs.declared.message.Message.{Message}
 use Rattle.syslog_loose.specs.declared.message.Protocol.{Protocol}
 use Rattle.syslog_loose.specs.declared.message.Protocol.TheVariants as protocol
 use Rattle.syslog_loose.specs.declared.reading.Variant.{Variant}
 use Rattle.syslog_loose.specs.declared.reading.Variant.TheVariants.{Either, RFC3164, RFC5424}
 use Rattle.syslog_loose.proofs.Rfc3164Lemmas.Exact.{rfc3164_exact}
-use Rattle.syslog_loose.proofs.Rfc3164Lemmas.Near.{read_near}
+use Rattle.syslog_loose.proofs.Rfc3164Lemmas.Near.{read_near, read_nearly, stamp_read}
 use Rattle.syslog_loose.proofs.Rfc3164Lemmas.Printed.{printed_is, printed_apart}
 use Rattle.syslog_loose.proofs.Rfc5424Lemmas.ReadBack as rfc5424
 
@@ -54,3 +63,65 @@ module _ (dating : Dating) (m : MessageValue) (b : IsBounded m) where
         (λ e. exact.0 (subst (λ (x : MessageValue). IsRead variant dating (printed m) x) e r.read)),
         (λ c. sym (r.only m (exact.1 c))),
       )
+
+-- ---- what the calls answer
+
+pub itself : (variant : Variant) (dating : Dating) (text : Text) (r : Result (Message (Bor (List ℕ))) ParseFault) → Answers variant dating text r → AnswersItself variant text r
+itself variant dating text (Ok found) a m b h e n =
+    only_read_exact dating m b variant (message_value (λ s. shown s) found) h (subst (λ (x : Text). IsOnlyRead variant dating x (message_value (λ s. shown s) found)) e a)
+itself variant dating text (Err Invalid) a m b h e n =
+    (λ no. absurd no, λ c. absurd (a m (subst (λ (x : Text). IsRead variant dating x m) (sym e) ((printed_exact dating m b variant h).1 c))))
+itself variant dating text (Err Memory) a m b h e n = absurd (n refl)
+
+strict_fields : (dating : Dating) (text : Text) (m : MessageValue) → IsRead5424 text m → FieldsAsRead m.protocol dating text m
+strict_fields dating text m r =
+    subst (λ (p : Protocol). FieldsAsRead p dating text m) (sym (ap (λ (x : MessageValue). x.protocol) r.means)) (λ f. rfc5424.read_canonical dash_rule text m r f)
+
+loose_fields : (dating : Dating) (text : Text) (m : MessageValue) → IsRead3164 dash_rule dating text m → FieldsAsRead m.protocol dating text m
+loose_fields dating text m r =
+    subst (λ (p : Protocol). FieldsAsRead p dating text m) (sym (read_near dash_rule dating text m r).protocol) ((λ f. read_nearly dash_rule dating text m r f), stamp_read dash_rule dating text m r)
+
+pub fields : (variant : Variant) (dating : Dating) (text : Text) (m : MessageValue) → IsRead variant dating text m → FieldsAsRead m.protocol dating text m
+fields RFC5424 dating text m r = strict_fields dating text m r
+fields RFC3164 dating text m r = loose_fields dating text m r
+fields Either dating text m (inl r) = strict_fields dating text m r
+fields Either dating text m (inr (n, r)) = loose_fields dating text m r
+
+pub fields_answered : (variant : Variant) (dating : Dating) (text : Text) (r : Result (Message (Bor (List ℕ))) ParseFault) → Answers variant dating text r
+    → IfOk r (λ found. FieldsAsRead found.protocol dating text (message_value (λ s. shown s) found))
+fields_answered variant dating text (Ok found) a = fields variant dating text (message_value (λ s. shown s) found) a.read
+fields_answered variant dating text (Err fault) a = tt
+
+strictly_read : (variant : Variant) (dating : Dating) (version : ℕ) (m n : MessageValue) (text : Text) → m.protocol ≡ protocol.RFC5424 version → ReadsProtocol variant m.protocol → IsRead5424 text n → IsRead variant dating text n
+strictly_read Either dating version m n text e h r = inl r
+strictly_read RFC5424 dating version m n text e h r = r
+strictly_read RFC3164 dating version m n text e h r = absurd (subst (λ (p : Protocol). ReadsProtocol RFC3164 p) e h)
+
+-- a kept message's printed text is read as one that prints the same
+kept_again : (variant : Variant) (dating : Dating) (m : MessageValue) → IsKept m → ReadsProtocol variant m.protocol → (n : MessageValue) × IsRead variant dating (printed m) n × (printed n ≡ printed m)
+kept_again variant dating m (inl (b, c)) h = (m, (printed_exact dating m b variant h).1 c, refl)
+kept_again variant dating m (inr (text, r)) h =
+    let (s, e) = rfc5424.read_again text m r in
+    (rfc5424.completed m, strictly_read variant dating r.values.1.0 m (rfc5424.completed m) (printed m) (ap (λ (x : MessageValue). x.protocol) r.means) h s, e)
+
+pub again : (variant : Variant) (dating : Dating) (bytes : List ℕ) → IsUtf8 bytes → (r : Result (String Global) ParseFault)
+    → MatchResult r (λ text. (m : MessageValue) × IsOnlyRead variant dating (chars bytes) m × (string_bytes text ≡ encode_utf8_all (printed m)))
+    (λ fault. (fault ≡ Invalid) ↔ IsUnreadable variant dating (chars bytes))
+    → AnswersAgain variant (chars bytes) bytes r
+again variant dating bytes u (Ok text) (found, only, written) m k h e n =
+    let (other, r, same) = kept_again variant dating m k h in
+    let is : other ≡ found = only.only other (subst (λ (x : Text). IsRead variant dating x other) (sym e) r) in
+    written ∙ ap encode_utf8_all (ap printed (sym is) ∙ same ∙ sym e) ∙ encodes-chars bytes u
+again variant dating bytes u (Err Invalid) told m k h e n =
+    let (other, r, same) = kept_again variant dating m k h in
+    absurd (told.0 refl other (subst (λ (x : Text). IsRead variant dating x other) (sym e) r))
+again variant dating bytes u (Err Memory) told m k h e n = absurd (n refl)
+
+-- what `normalise` answers in the year that the closure answered
+abbrev Normalises : Variant → (Option ℤ → Dating) → List ℕ → Result (String Global) ParseFault → Option ℤ → Type 0
+Normalises variant dated bytes r year = MatchResult r (λ text. (m : MessageValue) × IsOnlyRead variant (dated year) (chars bytes) m × (string_bytes text ≡ encode_utf8_all (printed m)))
+    (λ fault. (fault ≡ Invalid) ↔ IsUnreadable variant (dated year) (chars bytes))
+
+pub again_in : (post : IncompleteDate → ℤ → Type 0) (variant : Variant) (dated : Option ℤ → Dating) (bytes : List ℕ) → IsUtf8 bytes → (r : Result (String Global) ParseFault)
+    → InYear post variant (chars bytes) (Normalises variant dated bytes r) → AnswersAgain variant (chars bytes) bytes r
+again_in post variant dated bytes u r h = again variant (dated h.answered) bytes u r (h.holds h.answered (λ date asks. refl))

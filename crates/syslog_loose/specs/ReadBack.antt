@@ -1,5 +1,20 @@
--- Under which variants the printed text of a message may be read back.
-use Rattle.std.specs.Prelude.{⊤}
+-- What the reading calls answer to a printed message, and what is known of the fields of a message that was read.
+use Rattle.std.specs.Prelude.{◌≡◌, ◌≢◌, ◌↔◌, ◌⊎◌, ⊤, ℕ, List, Result, Err, String, string_bytes, IfSome, IsSome, IsOkAnd}
+use Rattle.std.specs.Global.{Global}
+use Rattle.std.specs.Borrow.{Bor}
+use Rattle.syslog_pieces.specs.Pieces.Class.{Text}
+use Rattle.syslog_pieces.specs.Pieces.View.{shown}
+use Rattle.syslog_pieces.specs.Timestamp.Plain.{IsPlainStamp}
+use Rattle.syslog_pieces.specs.Timestamp.Zone.{Dating}
+use Rattle.syslog_loose.specs.Canonical.{IsBounded, IsCanonical}
+use Rattle.syslog_loose.specs.ListedMisses.{IsNearlyCanonical, IsOfMonthDate}
+use Rattle.syslog_loose.specs.Message.{MessageValue, message_value}
+use Rattle.syslog_loose.specs.Printed.{printed}
+use Rattle.syslog_loose.specs.Reading.{dash_rule}
+use Rattle.syslog_loose.specs.Rfc5424.{IsRead5424}
+use Rattle.syslog_loose.specs.declared.fault.ParseFault.{ParseFault}
+use Rattle.syslog_loose.specs.declared.fault.ParseFault.TheVariants.{Memory}
+use Rattle.syslog_loose.specs.declared.message.Message.{Message}
 use Rattle.syslog_loose.specs.declared.message.Protocol.{Protocol}
 use Rattle.syslog_loose.specs.declared.message.Protocol.TheVariants as protocol
 use Rattle.syslog_loose.specs.declared.reading.Variant.{Variant}
@@ -12,3 +27,24 @@ ReadsProtocol RFC3164 protocol.RFC3164 = ⊤
 ReadsProtocol RFC3164 (protocol.RFC5424 version) = ⊥
 ReadsProtocol RFC5424 protocol.RFC3164 = ⊥
 ReadsProtocol RFC5424 (protocol.RFC5424 version) = ⊤
+
+-- Where memory suffices, the printed text of a message is answered with the message itself exactly where that meets the
+-- written condition.
+abbrev pub AnswersItself : Variant → Text → Result (Message (Bor (List ℕ))) ParseFault → Type 0
+AnswersItself variant text result = (m : MessageValue) → IsBounded m → ReadsProtocol variant m.protocol → text ≡ printed m → result ≢ Err Memory
+    → IsOkAnd result (λ found. message_value (λ s. shown s) found ≡ m) ↔ IsCanonical dash_rule m
+
+-- What is read as RFC 5424 with a facility meets the condition. What is read as RFC 3164 with one does but for the listed
+-- misses, and its timestamp is plain, or that of a month date.
+abbrev pub FieldsAsRead : Protocol → Dating → Text → MessageValue → Type 0
+FieldsAsRead (protocol.RFC5424 version) dating text m = IsSome m.facility → IsCanonical dash_rule m
+FieldsAsRead protocol.RFC3164 dating text m = (IsSome m.facility → IsNearlyCanonical m) × IfSome m.timestamp (λ s. IsPlainStamp s ⊎ IsOfMonthDate dating text s)
+
+-- the text is printed of a message that normalising keeps: one that meets the condition, or that was read as RFC 5424
+abbrev pub IsKept : MessageValue → Type 0
+IsKept m = (IsBounded m × IsCanonical dash_rule m) ⊎ ((text : Text) × IsRead5424 text m)
+
+-- Where memory suffices, the printed text of such a message is answered again.
+abbrev pub AnswersAgain : Variant → Text → List ℕ → Result (String Global) ParseFault → Type 0
+AnswersAgain variant text bytes result = (m : MessageValue) → IsKept m → ReadsProtocol variant m.protocol → text ≡ printed m → result ≢ Err Memory
+    → IsOkAnd result (λ again. string_bytes again ≡ bytes)

@@ -11,6 +11,7 @@ ghost use Rattle.syslog_pieces.specs.Timestamp.Zone.{Dating, IsYearAt, dating_of
 ghost use Rattle.syslog_pieces.specs.declared.timestamp.month_date.MonthDate.{MonthDate};
 ghost use Rattle.syslog_loose.specs.Message.{MessageValue, message_value};
 ghost use Rattle.syslog_loose.specs.Printed.{printed};
+ghost use Rattle.syslog_loose.specs.ReadBack.{AnswersAgain, AnswersItself, FieldsAsRead};
 ghost use Rattle.syslog_loose.specs.Reading as spec;
 ghost use Rattle.syslog_loose.specs.Reading.{Answers, AnswersEachMonth, AnswersPlainly, AsksYear, HasMonth, InYear, IsOnlyRead, IsUnreadable, incomplete};
 ghost use Rattle.syslog_loose.specs.declared.fault.ParseFault.TheVariants.{Invalid};
@@ -147,6 +148,9 @@ pub fn parse_message_with_year_exact<'a, F: FnOnce(IncompleteDate) -> i32>(
     requires { AnswersEachMonth (F.pre get_year) }
     ensures reads { InYear (F.post get_year) variant (chars input.entry.now)
         (λ year. Answers variant (dating_of year None local.entry) (chars input.entry.now) result) }
+    ensures itself { AnswersItself variant (chars input.entry.now) result }
+    ensures fields { InYear (F.post get_year) variant (chars input.entry.now) (λ year. IfOk result (λ m.
+        FieldsAsRead m.protocol (dating_of year None local.entry) (chars input.entry.now) (message_value (λ s. shown s) m))) }
 {
     parse_message_with_year_exact_tz(alloc, input, get_year, None, variant, local)
 }
@@ -168,6 +172,10 @@ pub fn parse_message_with_year_exact_tz<'a, F: FnOnce(IncompleteDate) -> i32>(
     requires { AnswersEachMonth (F.pre get_year) }
     ensures reads { InYear (F.post get_year) variant (chars input.entry.now)
         (λ year. Answers variant (dating_of year tz.entry local.entry) (chars input.entry.now) result) }
+    // A printed message is answered as itself exactly where it meets the written condition; and what is known of the fields.
+    ensures itself { AnswersItself variant (chars input.entry.now) result }
+    ensures fields { InYear (F.post get_year) variant (chars input.entry.now) (λ year. IfOk result (λ m.
+        FieldsAsRead m.protocol (dating_of year tz.entry local.entry) (chars input.entry.now) (message_value (λ s. shown s) m))) }
 {
     let year = asked_date(input, variant).map(get_year);
     read(alloc, input, year, tz, variant, local)
@@ -279,6 +287,7 @@ pub fn normalise<F: FnOnce(IncompleteDate) -> i32>(
     ensures reads { InYear (F.post get_year) variant (chars input.entry.now) (λ year. MatchResult result
         (λ text. (m : MessageValue) × IsOnlyRead variant (dating_of year tz.entry local.entry) (chars input.entry.now) m × (string_bytes text ≡ encode_utf8_all (printed m)))
         (λ fault. (fault ≡ Invalid) ↔ IsUnreadable variant (dating_of year tz.entry local.entry) (chars input.entry.now))) }
+    ensures again { AnswersAgain variant (chars input.entry.now) input.entry.now result }
 {
     match kept_text(alloc, input, variant)? {
         Some(text) => return Ok(text),
