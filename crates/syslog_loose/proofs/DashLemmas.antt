@@ -1,11 +1,18 @@
 -- Which texts are read differently under the two rules of the dash, and that the condition only grows by the new one.
-use Rattle.std.proofs.Common.{◌≡◌, ◌↔◌, ◌⊎◌, inl, inr, ℕ, Bool, true, false, List, [], ◌∷◌, ◌++◌, length, Option, Some, None, refl, sym, ap, subst, ◌∙◌, arith}
-use Rattle.syslog_pieces.specs.Pieces.Class.{Text, Class, Values, Front, Row, Ends, run, rest, exactly, optional, spaced}
+use Rattle.std.proofs.Common.{◌≡◌, ◌↔◌, ◌⊎◌, inl, inr, ℕ, ℤ, Bool, true, false, not, MatchBool, IsTrue, List, [], ◌∷◌, ◌++◌, length, Option, Some, None, refl, sym, ap, subst, ◌∙◌, arith}
+use Rattle.syslog_pieces.specs.Pieces.Class.{Text, Class, Values, Front, NoFront, Row, Ends, run, rest, exactly, optional, spaced}
 use Rattle.syslog_pieces.specs.Pri.{priority}
 use Rattle.syslog_pieces.specs.StructuredData.Element.{ElementValue}
 use Rattle.syslog_pieces.specs.StructuredData.Listed.{IsListed, listed, BeginsNoList}
 use Rattle.syslog_pieces.specs.Text.{trimmed, is_blank, dash, colon, host, tag_word}
-use Rattle.syslog_pieces.specs.Timestamp.Zone.{Dating}
+use Rattle.std.specs.Borrow.{Bor}
+use Rattle.jiff.specs.declared.tz.timezone.TimeZone.{TimeZone}
+use Rattle.syslog_pieces.specs.Timestamp.Zone.{Dating, dating_of}
+use Rattle.syslog_pieces.specs.declared.timestamp.month_date.MonthDate.{MonthDate}
+use Rattle.syslog_loose.specs.Reading.{IncompleteDate, AsksYear, IsYearAnswered, InYear}
+use Rattle.syslog_loose.proofs.Rfc3164Lemmas.Apart.{not_both}
+use Rattle.syslog_loose.proofs.Rfc3164Lemmas.Stamped.{division_is_stamped}
+use Rattle.syslog_loose.proofs.Rfc3164Lemmas.Years.{other_read}
 use Rattle.syslog_pieces.specs.declared.structured_data.listed.DashRule.{DashRule}
 use Rattle.syslog_pieces.specs.declared.structured_data.listed.DashRule.TheVariants.{BeforeAnything, BeforeBlank}
 use Rattle.syslog_pieces.proofs.PieceLemmas.Class.{AllDeterministic, heads, front_same, row_det, optional_det, exactly_det, run_det, spaced_det, optional_none, optional_some, rest_front, row_nil, row_cons, row_head, rows_join, division_front, front_division, both_values}
@@ -18,9 +25,9 @@ use Rattle.syslog_loose.specs.declared.message.Protocol.TheVariants as protocol
 use Rattle.syslog_loose.specs.declared.reading.Variant.{Variant}
 use Rattle.syslog_loose.specs.declared.reading.Variant.TheVariants.{Either, RFC3164, RFC5424}
 use Rattle.syslog_loose.specs.Canonical.{IsPlainFor, IsCanonical}
-use Rattle.syslog_loose.specs.Dash.{IsReadUnder, ReadsDifferently, before_list, DropsDash3164, DropsDash}
+use Rattle.syslog_loose.specs.Dash.{IsReadUnder, ReadsDifferently, before_list, BeginsLoose, ReachesList, DropsDash3164, DropsDash}
 use Rattle.syslog_loose.specs.Message.{MessageValue}
-use Rattle.syslog_loose.specs.Rfc3164.{Names3164, Resolves, rfc3164_row, Means3164, IsRead3164}
+use Rattle.syslog_loose.specs.Rfc3164.{Names3164, Resolves, stamped_row, rfc3164_row, Means3164, IsRead3164}
 use Rattle.syslog_loose.proofs.Rfc3164Lemmas.Rows.{from_gap, from_list}
 use Rattle.syslog_loose.proofs.Rfc3164Lemmas.Unique as loose
 use Rattle.syslog_loose.proofs.Rfc5424Lemmas as strict
@@ -73,13 +80,6 @@ before_det dating = (
 )
 
 -- ---- a list under the old rule
-
--- a dash before a character that is no blank
-pub record BeginsLoose (t : Text) : Type 0 where
-  pub next : ℕ
-  pub behind : Text
-  pub is : t ≡ 45 ∷ (next ∷ behind)
-  pub no_blank : is_blank next ≡ false
 
 dash_turns : (p : Text) (c : ℕ) (q : Text) (es : List ElementValue) (b : Bool) → is_blank c ≡ b → p ≡ dash → es ≡ []
     → BeginsLoose (p ++ (c ∷ q)) ⊎ IsListed BeforeBlank p (c ∷ q) es
@@ -207,3 +207,107 @@ module _ (dating : Dating) (text : Text) where
   pub differs_where_dropped : (variant : Variant) → ReadsDifferently variant dating text ↔ DropsDash variant dating text
   differs_where_dropped variant =
       (λ r. forth variant r.before_anything r.before_blank r.read_before_anything r.read_before_blank r.differ, back variant)
+
+-- ---- what the call finds
+
+same_behind : (xs ys : Text) → 45 ∷ xs ≡ 45 ∷ ys → xs ≡ ys
+same_behind xs ys e = cc
+
+-- the two protocols are apart, so `Either` has no part in it
+pub either_differs : (dating : Dating) (text : Text) → ReadsDifferently RFC3164 dating text ↔ ReadsDifferently Either dating text
+either_differs dating text = (
+  λ r. back dating text Either (λ vs d. not_both BeforeAnything dating (trimmed text) vs r.read_before_anything.values d r.read_before_anything.division, forth dating text RFC3164 r.before_anything r.before_blank r.read_before_anything r.read_before_blank r.differ),
+  λ r. back dating text RFC3164 (forth dating text Either r.before_anything r.before_blank r.read_before_anything r.read_before_blank r.differ).1,
+)
+
+pub reached : (dating : Dating) {text list : Text} {vs : Values (before_list dating)} {n : Names3164} → Front (Row (before_list dating)) text list vs → Resolves vs.1.1.1.0 vs.1.1.1.1.0 n → ReachesList dating text list n
+reached dating {vs = vs} f h = record { values = vs; front = f; means = h }
+
+-- a dash is dropped where one stands before the list
+pub told_by_list : (dating : Dating) (text t list : Text) (n : Names3164) (b : Bool) → t ≡ trimmed text → ReachesList dating t list n → MatchBool b (BeginsLoose list) (BeginsLoose list → ⊥)
+    → MatchBool b (ReadsDifferently RFC3164 dating text) (ReadsDifferently RFC3164 dating text → ⊥)
+told_by_list dating text t list n true e r h =
+    let f = subst (λ (x : Text). Front (Row (before_list dating)) (trimmed text) x r.values) h.is (subst (λ (x : Text). Front (Row (before_list dating)) x list r.values) e r.front) in
+    drops_differ dating text r.values n h.next h.behind f r.means h.no_blank
+told_by_list dating text t list n false e r h = λ k.
+    let d = forth dating text RFC3164 k.before_anything k.before_blank k.read_before_anything k.read_before_blank k.differ in
+    let f = subst (λ (x : Text). Front (Row (before_list dating)) x list r.values) e r.front in
+    let same = (front_same (Row (before_list dating)) (row_det (before_list dating) (before_det dating)) f d.at_list).0 in
+    h (record { next = d.next; behind = d.behind; is = same; no_blank = d.no_blank })
+
+-- a text that no timestamp of RFC 3164 begins is not read by it
+pub none_differs : (dating : Dating) (text t : Text) → t ≡ trimmed text → NoFront (Row (stamped_row dating)) t → ReadsDifferently RFC3164 dating text → ⊥
+none_differs dating text t e n r =
+    let none = (division_is_stamped BeforeAnything dating (trimmed text)).1 (subst (λ (x : Text). NoFront (Row (stamped_row dating)) x) e n) in
+    none r.read_before_anything.values r.read_before_anything.division
+
+-- the character behind the dash tells
+told_next : (t : Text) (c : ℕ) (q : Text) (a b : Bool) → t ≡ 45 ∷ (c ∷ q) → is_blank c ≡ a → b ≡ not a → MatchBool b (BeginsLoose t) (BeginsLoose t → ⊥)
+told_next t c q false true e g f = record { next = c; behind = q; is = e; no_blank = g }
+told_next t c q true false e g f = λ h. let k : c ∷ q ≡ h.next ∷ h.behind = same_behind _ _ (sym e ∙ h.is) in let l : is_blank c ≡ false = ap is_blank (heads c h.next q h.behind k) ∙ h.no_blank in cc
+told_next t c q true true e g f = absurd (cc)
+told_next t c q false false e g f = absurd (cc)
+
+pub told_by_next : (t : Text) (c : ℕ) (q : Text) (b : Bool) → t ≡ 45 ∷ (c ∷ q) → b ≡ not (is_blank c) → MatchBool b (BeginsLoose t) (BeginsLoose t → ⊥)
+told_by_next t c q b e f = told_next t c q (is_blank c) b e refl f
+
+-- a lone dash is the end
+pub dash_ends : (t : Text) → t ≡ 45 ∷ [] → BeginsLoose t → ⊥
+dash_ends t e h = let k : [] ≡ h.next ∷ h.behind = same_behind _ _ (sym e ∙ h.is) in cc
+
+pub no_dash : (t : Text) → NoFront (exactly (45 ∷ [])) t → BeginsLoose t → ⊥
+no_dash t n h = n (45 ∷ []) (h.next ∷ h.behind) tt h.is refl
+
+-- ---- the year
+
+any_year : (variant : Variant) (dating other : Dating) (text : Text) (rule : DashRule) (m : MessageValue) → dating.zone ≡ other.zone → dating.local ≡ other.local
+    → ((date : MonthDate) → AsksYear variant text date → ⊥) → IsReadUnder rule variant dating text m → IsReadUnder rule variant other text m
+any_year RFC5424 dating other text rule m z l never r = r
+any_year RFC3164 dating other text rule m z l never r = other_read dating other z l rule text never m r
+any_year Either dating other text rule m z l never (inl r) = inl r
+any_year Either dating other text rule m z l never (inr (none, r)) = inr (none, other_read dating other z l rule text never m r)
+
+differs_in_any : (variant : Variant) (dating other : Dating) (text : Text) → dating.zone ≡ other.zone → dating.local ≡ other.local
+    → ((date : MonthDate) → AsksYear variant text date → ⊥) → ReadsDifferently variant dating text → ReadsDifferently variant other text
+differs_in_any variant dating other text z l never r = record {
+  before_anything = r.before_anything;
+  before_blank = r.before_blank;
+  read_before_anything = any_year variant dating other text BeforeAnything r.before_anything z l never r.read_before_anything;
+  read_before_blank = any_year variant dating other text BeforeBlank r.before_blank z l never r.read_before_blank;
+  differ = r.differ;
+}
+
+-- what is told in the year that the closure answered
+pub told_in : (post : IncompleteDate → ℤ → Type 0) (variant : Variant) (text : Text) (tz : Option (Bor TimeZone)) (local : Bor TimeZone) (b : Bool) (year : Option ℤ) → IsYearAnswered post variant text year
+    → IsTrue b ↔ ReadsDifferently variant (dating_of year tz local) text
+    → InYear post variant text (λ y. IsTrue b ↔ ReadsDifferently variant (dating_of y tz local) text)
+told_in post variant text tz local b None is h = record {
+  answered = None;
+  is_answered = is;
+  holds = λ other agrees. (
+      λ t. differs_in_any variant (dating_of None tz local) (dating_of other tz local) text refl refl is (h.0 t),
+      λ r. h.1 (differs_in_any variant (dating_of other tz local) (dating_of None tz local) text refl refl is r));
+}
+told_in post variant text tz local b (Some year) is h = record {
+  answered = Some year;
+  is_answered = is;
+  holds = λ other agrees. subst (λ (y : Option ℤ). IsTrue b ↔ ReadsDifferently variant (dating_of y tz local) text) (sym (agrees is.0 is.1)) h;
+}
+
+-- ---- the answer under each variant
+
+never_5424 : (dating : Dating) (text : Text) → ReadsDifferently RFC5424 dating text → ⊥
+never_5424 dating text r = r.differ (strict.one_message text r.before_anything r.before_blank r.read_before_anything r.read_before_blank)
+
+pub told_5424 : (dating : Dating) (text : Text) → IsTrue false ↔ ReadsDifferently RFC5424 dating text
+told_5424 dating text = (λ t. absurd (let k : false ≡ true = t in cc), λ r. absurd (never_5424 dating text r))
+
+pub told_3164 : (dating : Dating) (text : Text) (b : Bool) → MatchBool b (ReadsDifferently RFC3164 dating text) (ReadsDifferently RFC3164 dating text → ⊥) → IsTrue b ↔ ReadsDifferently RFC3164 dating text
+told_3164 dating text true h = (λ t. h, λ r. refl)
+told_3164 dating text false h = (λ t. absurd (let k : false ≡ true = t in cc), λ r. absurd (h r))
+
+pub told_either : (dating : Dating) (text : Text) (b : Bool) → MatchBool b (ReadsDifferently RFC3164 dating text) (ReadsDifferently RFC3164 dating text → ⊥) → IsTrue b ↔ ReadsDifferently Either dating text
+told_either dating text b h =
+    let own = told_3164 dating text b h in
+    let either = either_differs dating text in
+    (λ t. either.0 (own.0 t), λ r. own.1 (either.1 r))

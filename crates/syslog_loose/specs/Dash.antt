@@ -8,7 +8,7 @@ use Rattle.syslog_pieces.specs.declared.structured_data.listed.DashRule.TheVaria
 use Rattle.syslog_loose.specs.declared.reading.Variant.{Variant}
 use Rattle.syslog_loose.specs.declared.reading.Variant.TheVariants.{Either, RFC3164, RFC5424}
 use Rattle.syslog_loose.specs.Message.{MessageValue}
-use Rattle.syslog_loose.specs.Rfc3164.{stamped_row, IsRead3164}
+use Rattle.syslog_loose.specs.Rfc3164.{Names3164, Resolves, stamped_row, IsRead3164}
 use Rattle.syslog_loose.specs.Rfc5424.{IsRead5424, IsNot5424}
 
 -- the text is read as the message under this rule: as by the reading calls, whose rule is one of the two
@@ -30,6 +30,19 @@ abbrev pub before_list : Dating → List Class
 before_list dating =
     stamped_row dating
     ++ (optional (spaced host) ∷ optional (spaced tag_word) ∷ run is_blank ∷ optional (exactly colon) ∷ run is_blank ∷ [])
+
+-- a dash before a character that is no blank
+pub record BeginsLoose (text : Text) : Type 0 where
+  pub next : ℕ
+  pub behind : Text
+  pub is : text ≡ 45 ∷ (next ∷ behind)
+  pub no_blank : is_blank next ≡ false
+
+-- behind these names the text goes on with what is a list, or the message
+pub record ReachesList (dating : Dating) (text list : Text) (n : Names3164) : Type 0 where
+  pub values : Values (before_list dating)
+  pub front : Front (Row (before_list dating)) text list values
+  pub means : Resolves values.1.1.1.0 values.1.1.1.1.0 n
 
 -- The text is read as RFC 3164 where a dash is a list before anything, and its list is a dash before a character that is
 -- no blank.

@@ -5,6 +5,7 @@
 //! text, and what takes memory takes `alloc` first and can be refused.
 #![tactic(auto)]
 
+mod differing;
 mod fault;
 pub mod laws;
 mod line;
@@ -15,6 +16,7 @@ mod rfc5424;
 #[cfg(test)]
 mod tests;
 
+pub use differing::reads_differently;
 pub use fault::ParseFault;
 pub use jiff::Timestamp;
 pub use jiff::tz::{Offset, TimeZone};

@@ -182,7 +182,7 @@ pub fn parse_message_with_year_exact_tz<'a, F: FnOnce(IncompleteDate) -> i32>(
 }
 
 // The date without a year that the text shows, where the variant reads it.
-fn asked_date(input: &str, variant: Variant) -> Option<IncompleteDate>
+pub(crate) fn asked_date(input: &str, variant: Variant) -> Option<IncompleteDate>
     ensures { MatchOption result
         ((date : MonthDate) → AsksYear variant (chars input.now) date → ⊥)
         (λ d. (date : MonthDate) × AsksYear variant (chars input.now) date × (d ≡ incomplete date) × HasMonth d) }

@@ -120,7 +120,7 @@ pub(crate) struct Stamped {
 }
 
 // The pieces at the front that can fail, and the text behind them.
-fn read_stamped<'a>(
+pub(crate) fn read_stamped<'a>(
     text: &'a str,
     year: Option<i32>,
     tz: Option<&TimeZone<'_>>,

@@ -1,0 +1,104 @@
+//! Whether a text is read differently under the two rules of the dash. The front of the text tells, up to its list: so
+//! no element is collected, and no memory taken.
+ghost use Rattle.std.specs.Prelude.{◌↔◌, IsTrue, MatchBool, MatchOption};
+ghost use Rattle.std.specs.Result.{IsOkAnd};
+ghost use Rattle.std.specs.Str.{chars};
+ghost use Rattle.syslog_pieces.specs.Pieces.Class.{NoFront, Row};
+ghost use Rattle.syslog_pieces.specs.Pieces.View.{shown};
+ghost use Rattle.syslog_pieces.specs.Timestamp.Zone.{dating_of};
+ghost use Rattle.syslog_loose.specs.Dash.{BeginsLoose, ReachesList, ReadsDifferently};
+ghost use Rattle.syslog_loose.specs.Reading.{AnswersEachMonth, InYear};
+ghost use Rattle.syslog_loose.specs.Rfc3164.{stamped_row};
+ghost use Rattle.syslog_loose.specs.View3164.{names_value};
+ghost use Rattle.syslog_loose.specs.declared.reading.Variant.TheVariants as variants;
+
+use crate::reading::{IncompleteDate, Variant, asked_date};
+use crate::rfc3164::{Names, read_stamped, resolve};
+use jiff::tz::TimeZone;
+use std::alloc::{AllocError, Global};
+use syslog_pieces::text::{CharClass, blanks, first, host_field, literal, past_colon, tag_field, trimmed};
+
+/// Whether the text is read as one message where a dash is a list of RFC 3164 before anything, and as another where it is
+/// one before a blank and at the end alone: so whether a dash before a character that is no blank is left out under the
+/// first rule, and begins `msg` under the second.
+///
+/// The arguments are those of `parse_message_with_year_exact_tz`, and `get_year` is called as there. It is never refused.
+pub fn reads_differently<F: FnOnce(IncompleteDate) -> i32>(
+    _alloc: Global,
+    input: &str,
+    get_year: F,
+    tz: Option<&TimeZone<'_>>,
+    variant: Variant,
+    local: &TimeZone<'_>,
+) -> Result<bool, AllocError>
+    requires { AnswersEachMonth (F.pre get_year) }
+    ensures reads { InYear (F.post get_year) variant (chars input.entry.now) (λ year. IsOkAnd result (λ differs.
+        IsTrue differs ↔ ReadsDifferently variant (dating_of year tz.entry local.entry) (chars input.entry.now))) }
+{
+    let year = asked_date(input, variant).map(get_year);
+    Ok(differs(input, year, tz, variant, local))
+}
+
+// The same in a year.
+fn differs(
+    input: &str,
+    year: Option<i32>,
+    tz: Option<&TimeZone<'_>>,
+    variant: Variant,
+    local: &TimeZone<'_>,
+) -> bool
+    ensures { IsTrue result ↔ ReadsDifferently variant (dating_of year tz.entry local.entry) (chars input.entry.now) }
+{
+    match variant {
+        Variant::RFC5424 => false,
+        Variant::RFC3164 => drops_dash(input, year, tz, local),
+        Variant::Either => drops_dash(input, year, tz, local),
+    }
+}
+
+// Whether RFC 3164 reads the text differently. What it reads has no division of RFC 5424.
+fn drops_dash(
+    input: &str,
+    year: Option<i32>,
+    tz: Option<&TimeZone<'_>>,
+    local: &TimeZone<'_>,
+) -> bool
+    ensures { MatchBool result (ReadsDifferently variants.RFC3164 (dating_of year tz.entry local.entry) (chars input.entry.now))
+        (ReadsDifferently variants.RFC3164 (dating_of year tz.entry local.entry) (chars input.entry.now) → ⊥) }
+{
+    match before_list(trimmed(input), year, tz, local) {
+        Some((_, rest)) => begins_loosely(rest),
+        None => false,
+    }
+}
+
+// The names that stand before the list, and the text from there.
+fn before_list<'a>(
+    text: &'a str,
+    year: Option<i32>,
+    tz: Option<&TimeZone<'_>>,
+    local: &TimeZone<'_>,
+) -> Option<(Names<'a>, &'a str)>
+    ensures { MatchOption result (NoFront (Row (stamped_row (dating_of year tz.entry local.entry))) (chars text.now))
+        (λ x. ReachesList (dating_of year tz.entry local.entry) (chars text.now) (shown x.1) (names_value x.0)) }
+{
+    let Some((_, rest)) = read_stamped(text, year, tz, local) else {
+        return None;
+    };
+    let (host, rest) = host_field(rest);
+    let (tag, rest) = tag_field(rest);
+    Some((resolve(host, tag), blanks(past_colon(blanks(rest)))))
+}
+
+// Whether the text begins with a dash before a character that is no blank.
+fn begins_loosely(text: &str) -> bool
+    ensures { MatchBool result (BeginsLoose (chars text.now)) (BeginsLoose (chars text.now) → ⊥) }
+{
+    let Some(rest) = literal(text, '-') else {
+        return false;
+    };
+    match first(rest) {
+        Some((c, _)) => !CharClass::Blank.has(c),
+        None => false,
+    }
+}
