@@ -285,8 +285,9 @@ told_in post variant text tz local b None is h = record {
   answered = None;
   is_answered = is;
   holds = λ other agrees. (
-      λ t. differs_in_any variant (dating_of None tz local) (dating_of other tz local) text refl refl is (h.0 t),
-      λ r. h.1 (differs_in_any variant (dating_of other tz local) (dating_of None tz local) text refl refl is r));
+    λ t. differs_in_any variant (dating_of None tz local) (dating_of other tz local) text refl refl is (h.0 t),
+    λ r. h.1 (differs_in_any variant (dating_of other tz local) (dating_of None tz local) text refl refl is r),
+  );
 }
 told_in post variant text tz local b (Some year) is h = record {
   answered = Some year;

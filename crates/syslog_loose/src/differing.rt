@@ -16,7 +16,9 @@ use crate::reading::{IncompleteDate, Variant, asked_date};
 use crate::rfc3164::{Names, read_stamped, resolve};
 use jiff::tz::TimeZone;
 use std::alloc::{AllocError, Global};
-use syslog_pieces::text::{CharClass, blanks, first, host_field, literal, past_colon, tag_field, trimmed};
+use syslog_pieces::text::{
+    CharClass, blanks, first, host_field, literal, past_colon, tag_field, trimmed,
+};
 
 /// Whether the text is read as one message where a dash is a list of RFC 3164 before anything, and as another where it is
 /// one before a blank and at the end alone: so whether a dash before a character that is no blank is left out under the

@@ -6,6 +6,7 @@ mod comparison;
 mod crate_answers;
 mod crate_answers_3164;
 mod crate_answers_lists;
+mod differing;
 mod expected;
 mod headers;
 mod hostile;
