@@ -45,7 +45,7 @@ pub enum Variant {
 pub type IncompleteDate = (u32, u32, u32, u32, u32);
 
 /// Before which texts a dash is a list of RFC 3164: today's rule.
-const DASH_RULE: DashRule = DashRule::BeforeAnything;
+pub(crate) const DASH_RULE: DashRule = DashRule::BeforeAnything;
 
 /// The message of the text, read by the variant, with the year of `now` in the local zone for a date that has none.
 ///

@@ -9,12 +9,13 @@ ghost use Rattle.syslog_pieces.specs.StructuredData.Element.{element_value};
 ghost use Rattle.syslog_pieces.specs.StructuredData.Listed.{BeginsNoList};
 ghost use Rattle.syslog_pieces.specs.Text.{is_blank};
 ghost use Rattle.syslog_pieces.specs.Pieces.Class.{Ends};
-ghost use Rattle.syslog_pieces.specs.declared.structured_data.listed.DashRule.TheVariants.{BeforeAnything};
 ghost use Rattle.syslog_loose.specs.Canonical as spec;
 ghost use Rattle.syslog_loose.specs.Message.{message_value};
+ghost use Rattle.syslog_loose.specs.Reading.{dash_rule};
 ghost use Rattle.syslog_loose.specs.TagForm.{IsNoForm};
 
 use super::{Message, Protocol};
+use crate::reading::DASH_RULE;
 use crate::rfc3164::tag_form;
 use syslog_pieces::as_str::AsStr;
 use syslog_pieces::procid::{ProcId, is_plain_process, names_number};
@@ -28,14 +29,11 @@ use syslog_pieces::text::plain::{
 use syslog_pieces::timestamp::OffsetTimestamp;
 use syslog_pieces::timestamp::plain::is_plain as is_plain_stamp;
 
-/// Before which texts a dash is a list of RFC 3164.
-const DASH_RULE: DashRule = DashRule::BeforeAnything;
-
 impl<S: AsStr> Message<S> {
     /// Whether the message is read back unchanged from its printed text, by its own protocol. It looks at the fields alone:
     /// it prints nothing and takes no memory, and its time is linear in the message.
     pub fn is_canonical(&self) -> bool
-        ensures { IsTrue result ↔ spec.IsCanonical BeforeAnything (message_value (text_of S.text) self.now) }
+        ensures { IsTrue result ↔ spec.IsCanonical dash_rule (message_value (text_of S.text) self.now) }
     {
         is_canonical_under(self, DASH_RULE)
     }
