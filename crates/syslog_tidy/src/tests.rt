@@ -169,6 +169,14 @@ fn filters_lines(rt: HostRuntime) {
     expect_run(&rt, alloc, TWO.as_bytes(), 7, TWO_PRINTED, 2, 0);
 }
 
+// What the filter wrote of the stored lines, filtered again.
+#[test]
+fn writes_its_own_output_again(rt: HostRuntime) {
+    let alloc = rt.alloc();
+    expect_run(&rt, alloc, TWO_PRINTED.as_bytes(), 1024, TWO_PRINTED, 2, 0);
+    expect_run(&rt, alloc, TWO_PRINTED.as_bytes(), 1, TWO_PRINTED, 2, 0);
+}
+
 #[test]
 fn passes_over_refused_lines(rt: HostRuntime) {
     let alloc = rt.alloc();
