@@ -5,6 +5,7 @@
   bench.py --program PATH             times that program instead
   bench.py --peer PATH                times that one too, on the same files, the runs of the two in turn
   bench.py --check --peer PATH        compares what the two write, and times nothing
+  bench.py --instructions             counts instructions by valgrind, which other work does not change
 
 Each time is the least of five runs, the start of the process included, with the standard input from a
 file and the standard output to /dev/null. Both programs are called with the year as their one argument.
@@ -14,6 +15,7 @@ import argparse
 import datetime
 import os
 import platform
+import re
 import signal
 import subprocess
 import sys
@@ -32,6 +34,8 @@ HOSTILE_SECONDS = 0.1
 HOSTILE_REPEATS = 1024
 # A run of the peer on a hostile line may take so long.
 PATIENCE = 60
+# Kilobytes of the hostile lines whose instructions are counted.
+COUNTED_SIZES = [64, 128, 256, 512]
 
 
 class Filter:
@@ -67,6 +71,14 @@ class Filter:
         )
         self.judge(ran.returncode)
         return ran.stdout
+
+    def instructions(self, lines):
+        """How many instructions valgrind counts in a run over the lines."""
+        given = "".join(line + "\n" for line in lines).encode()
+        words = ["valgrind", "--tool=callgrind", "--callgrind-out-file=/dev/null", *self.words]
+        ran = subprocess.run(words, input=given, stdout=subprocess.DEVNULL, stderr=subprocess.PIPE, env=self.environment)
+        self.judge(ran.returncode)
+        return int(re.search(rb"Collected : ([0-9]+)", ran.stderr)[1])
 
     def judge(self, status):
         # 1 says that some lines were refused.
@@ -182,6 +194,25 @@ def time_hostile(filters, chosen, folder):
             row(name, called, *shown(its_times))
 
 
+def count_corpora(filters, chosen):
+    """The instructions of each filter for one line more, and for hostile lines with the growth at each doubling."""
+    more = ["peer's instructions", "the peer's over ours"] * (len(filters) > 1)
+    head("corpus", "instructions a line", *more)
+    for name, lines in corpora.corpora(4000):
+        if chosen.only not in name or len(lines) < 4000:
+            continue
+        own, *others = [(it.instructions(lines) - it.instructions(lines[:1000])) / 3000 for it in filters]
+        row(name, "{:,.0f}".format(own), *[cell for it in others for cell in ("{:,.0f}".format(it), "%.2f" % (it / own))])
+    print("\nMillions of instructions for one hostile line of each size, and in brackets the growth at each doubling:\n")
+    head("line", *["%d KB" % size for size in COUNTED_SIZES])
+    start = filters[0].instructions([])
+    for name, maker in corpora.HOSTILE:
+        if chosen.only not in "hostile_" + name:
+            continue
+        counts = [(filters[0].instructions([maker(size * 1024)]) - start) / 1e9 for size in COUNTED_SIZES]
+        row(name, *shown(counts))
+
+
 def differences(filters, lines, most):
     """The lines on which two filters write different bytes, found by halves, and at most so many."""
     found, waiting = [], [lines]
@@ -217,6 +248,7 @@ def arguments():
     reader.add_argument("--program", help="the program, in place of the one that is built")
     reader.add_argument("--peer", help="another program with the same argument")
     reader.add_argument("--check", action="store_true", help="compare the outputs")
+    reader.add_argument("--instructions", action="store_true", help="count instructions by valgrind, and time nothing")
     reader.add_argument("--year", type=int, default=2019)
     reader.add_argument("--processor", action="store_true", help="count processor time, which other work on the machine disturbs less")
     reader.add_argument("--lines", type=int, default=200_000, help="lines of each corpus (200,000)")
@@ -235,6 +267,9 @@ def main():
     filters = [Filter(path, chosen.year, chosen.processor) for path in paths]
     if chosen.check:
         sys.exit(1 if check(filters, chosen) else 0)
+    if chosen.instructions:
+        count_corpora(filters, chosen)
+        return
     clock = "processor time" if chosen.processor else "time by the clock"
     print("%s; %s, least of %d runs\n" % (machine(), clock, chosen.runs))
     with tempfile.TemporaryDirectory(prefix="syslog-bench-") as folder:

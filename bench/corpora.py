@@ -33,6 +33,7 @@ FRACTIONS = [0, 3, 3, 6, 6, 9]
 
 HOSTILE_SIZES = [16, 32, 64, 128]
 HEADER = "1 - - - - - "
+HEADER_3164 = "- host app: "
 
 
 def priority(chance):
@@ -106,6 +107,7 @@ KINDS = [
     ("long_5424", long_5424, 0.02),
     ("non_ascii_5424", non_ascii_5424, 1.0),
     ("mixed", mixed, 1.0),
+    ("refused", refused, 1.0),
 ]
 
 
@@ -125,7 +127,11 @@ HOSTILE = [
     ("blanks_for_parameters", lambda size: HEADER + "[a" + filled(" ", size) + "]"),
     ("leading_zeros", lambda size: "<" + filled("0", size) + "7>" + HEADER + "-"),
     ("host_colons", lambda size: "- host" + filled(":", size) + " text"),
-    ("dashes_3164", lambda size: "- host app: " + filled("- ", size) + "x"),
+    ("dashes_3164", lambda size: HEADER_3164 + filled("- ", size) + "x"),
+    ("open_quotes_3164", lambda size: HEADER_3164 + filled('[a" b="]', size)),
+    ("open_brackets_3164", lambda size: HEADER_3164 + filled("[", size)),
+    ("many_elements_3164", lambda size: HEADER_3164 + filled('[a b="c"]', size)),
+    ("tag_brackets", lambda size: "- host " + filled("[", size) + ": x"),
 ]
 
 
