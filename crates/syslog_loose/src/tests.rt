@@ -14,4 +14,6 @@ mod lists;
 mod printed;
 mod refusals;
 mod refusals_lists;
+mod rfc3164;
+mod rfc3164_calls;
 mod sizes;

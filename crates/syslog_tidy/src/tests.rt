@@ -184,6 +184,14 @@ fn passes_over_refused_lines(rt: HostRuntime) {
     expect_run(&rt, alloc, THREE.as_bytes(), 1, THREE_PRINTED, 3, 2);
 }
 
+#[test]
+fn filters_both_protocols(rt: HostRuntime) {
+    let lines = "gobbledegook\n\n<34>Oct 11 22:14:15 mymachine app[323]: a message";
+    let printed = "<34> 2019-10-11T22:14:15+00:00 mymachine app[323]: a message\n";
+    expect_run(&rt, rt.alloc(), lines.as_bytes(), 1024, printed, 3, 2);
+    expect_run(&rt, rt.alloc(), lines.as_bytes(), 1, printed, 3, 2);
+}
+
 /// Strict elements stay, a broken one goes, and what is no element begins the message.
 #[test]
 fn filters_forgiving_lists(rt: HostRuntime) {

@@ -59,11 +59,21 @@ pub(super) fn read<'a>(
     text: &'a str,
     variant: Variant,
 ) -> Result<Message<&'a str>, ParseFault> {
+    read_in_year(alloc, text, 2019, variant)
+}
+
+/// The same, with this year for a date that has none.
+pub(super) fn read_in_year<'a>(
+    alloc: Global,
+    text: &'a str,
+    year: i32,
+    variant: Variant,
+) -> Result<Message<&'a str>, ParseFault> {
     let utc = TimeZone::UTC;
     parse_message_with_year_exact_tz(
         alloc,
         text,
-        |_: IncompleteDate| 2019,
+        move |_: IncompleteDate| year,
         Some(&utc),
         variant,
         &utc,
