@@ -53,10 +53,10 @@ fn program<'a>(hostname: Option<&'a str>, name: &'a str) -> Names<'a>
     ensures { spec.NamesProgram (seen hostname.entry) (chars name.entry.now) (names_value result) }
 {
     match tag_form(name) {
-        Some((tag, id)) => Names {
+        Some((tag, process)) => Names {
             hostname,
             appname: Some(tag),
-            procid: Some(ProcId::from(id)),
+            procid: Some(ProcId::from(process)),
         },
         None => Names {
             hostname,

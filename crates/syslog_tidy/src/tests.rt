@@ -182,6 +182,15 @@ fn passes_over_refused_lines(rt: HostRuntime) {
     let alloc = rt.alloc();
     expect_run(&rt, alloc, THREE.as_bytes(), 1024, THREE_PRINTED, 3, 2);
     expect_run(&rt, alloc, THREE.as_bytes(), 1, THREE_PRINTED, 3, 2);
+    expect_report(
+        &rt,
+        &Ok(Summary {
+            lines: 3,
+            refused: 2,
+        }),
+        1,
+        "refused 2 of 3 lines\n",
+    );
 }
 
 #[test]

@@ -68,6 +68,28 @@ fn reads_a_date_in_a_given_zone(rt: HostRuntime) -> Result<(), Fail> {
 }
 
 #[test]
+fn reads_a_date_in_winter(rt: HostRuntime) -> Result<(), Fail> {
+    let alloc = rt.alloc();
+    let rule = TimeZone::posix(RULE)?;
+    let message = parse_message_with_year_exact_tz(
+        alloc,
+        "<46>Jan  5 15:33:03 plertrood-ThinkPad-X220 rsyslogd: start",
+        |date: IncompleteDate| if date.0 == 12 { 2019 } else { 2020 },
+        Some(&rule),
+        Variant::Either,
+        &TimeZone::UTC,
+    )?;
+    assert_eq!(rt; message.appname, Some("rsyslogd"));
+    assert_eq!(rt; message.msg, "start");
+    check_printed(
+        &rt,
+        alloc,
+        &message,
+        "<46> 2020-01-05T15:33:03+01:00 plertrood-ThinkPad-X220 rsyslogd: start",
+    )
+}
+
+#[test]
 fn asks_for_a_year_only_where_a_date_shows_none(rt: HostRuntime) -> Result<(), Fail> {
     let alloc = rt.alloc();
     let ahead = TimeZone::fixed(Offset::from_hours(1)?);
