@@ -10,6 +10,7 @@ pub mod ReadBack
 pub mod Reading
 pub mod Rfc3164
 pub mod Rfc5424
+pub mod Settling
 pub mod TagForm
 pub mod View3164
 pub mod View5424

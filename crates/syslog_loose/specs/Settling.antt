@@ -1,0 +1,94 @@
+-- Rounds: a text is read and printed, and what was printed is read and printed again, until it no longer changes. And the
+-- weight of a message of RFC 3164, which falls from round to round until then. (All of it is this project's own.)
+use Rattle.std.specs.Prelude.{◌≡◌, ◌≢◌, ◌⊎◌, ℕ, zero, suc, ◌+◌, ◌<◌, List, [], ◌∷◌, ◌++◌, length, Option, Some, None, IfSome}
+use Rattle.syslog_pieces.specs.Pieces.Class.{Text}
+use Rattle.syslog_pieces.specs.StructuredData.Listed.{BeginsNoList}
+use Rattle.syslog_pieces.specs.Text.{dash, EndsInColon}
+use Rattle.syslog_pieces.specs.Timestamp.Plain.{IsPlainStamp}
+use Rattle.syslog_pieces.specs.Timestamp.Zone.{Dating}
+use Rattle.syslog_pieces.specs.declared.procid.ProcId.{ProcId}
+use Rattle.syslog_pieces.specs.declared.structured_data.listed.DashRule.{DashRule}
+use Rattle.syslog_loose.specs.ListedMisses.{HasNoColon}
+use Rattle.syslog_loose.specs.Message.{MessageValue}
+use Rattle.syslog_loose.specs.Printed.{printed}
+use Rattle.syslog_loose.specs.Reading.{IsRead}
+use Rattle.syslog_loose.specs.declared.reading.Variant.{Variant}
+
+-- ---- rounds
+
+-- the next round of the text: the printed text of the message as which it is read
+pub record IsNext (variant : Variant) (dating : Dating) (text next : Text) : Type 0 where
+  pub message : MessageValue
+  pub read : IsRead variant dating text message
+  pub is_printed : next ≡ printed message
+
+-- Round 0 of the text is the text, and round n + 1 is the next round of round n.
+abbrev pub IsRound : Variant → Dating → Text → ℕ → Text → Type 0
+IsRound variant dating text zero u = u ≡ text
+IsRound variant dating text (suc n) u = (before : Text) × IsRound variant dating text n before × IsNext variant dating before u
+
+-- the text has no round n: it or a round before n has no message
+abbrev pub IsMissing : Variant → Dating → Text → ℕ → Type 0
+IsMissing variant dating text n = (u : Text) → IsRound variant dating text n u → ⊥
+
+-- the next round of the text is the text itself
+abbrev pub IsSettled : Variant → Dating → Text → Type 0
+IsSettled variant dating text = IsNext variant dating text text
+
+-- none of the rounds 1 to n is settled
+abbrev pub NoneSettled : Variant → Dating → Text → ℕ → Type 0
+NoneSettled variant dating text n = (k : ℕ) (u : Text) → k < n → IsRound variant dating text (suc k) u → IsSettled variant dating u → ⊥
+
+-- this is the first settled round of the text, from round 1 on
+pub record IsFirstSettled (variant : Variant) (dating : Dating) (text u : Text) : Type 0 where
+  pub before : ℕ
+  pub round : IsRound variant dating text (suc before) u
+  pub settled : IsSettled variant dating u
+  pub none_before : NoneSettled variant dating text before
+
+-- ---- the weight of a message of RFC 3164: a sum of one term for each miss that may be listed
+
+-- the term is nothing where this holds, and n where it does not
+abbrev pub Costs : Type 0 → ℕ → ℕ → Type 0
+Costs Holds n w = (Holds × (w ≡ 0)) ⊎ ((Holds → ⊥) × (w ≡ n))
+
+abbrev pub colons : ℕ → Text
+colons zero = []
+colons (suc n) = 58 ∷ colons n
+
+-- the text ends in n colons and no more
+pub record EndsInColons (text : Text) (n : ℕ) : Type 0 where
+  pub front : Text
+  pub whole : text ≡ front ++ colons n
+  pub no_more : EndsInColon front → ⊥
+
+-- nothing for no colon, else one more than the colons
+abbrev pub colons_cost : ℕ → ℕ
+colons_cost zero = 0
+colons_cost (suc n) = suc n + 1
+
+-- the term for the colons that a host ends in
+abbrev pub ColonsCost : Option Text → ℕ → Type 0
+ColonsCost None w = w ≡ 0
+ColonsCost (Some host) w = (n : ℕ) × EndsInColons host n × (w ≡ colons_cost n)
+
+-- the terms for the host and the process: the colons at the host's end, a host `-`, a colon in the name of a process
+pub record NamesWeigh (host : Option Text) (process : Option (ProcId Text)) (w : ℕ) : Type 0 where
+  pub colons : ℕ
+  pub dashed : ℕ
+  pub cut : ℕ
+  pub colons_is : ColonsCost host colons
+  pub dashed_is : Costs (IfSome host (λ h. h ≢ dash)) 1 dashed
+  pub cut_is : Costs (IfSome process HasNoColon) 1 cut
+  pub total : w ≡ colons + (dashed + cut)
+
+-- The message weighs w: one for a timestamp that its printed text does not have, the terms for its names, and the
+-- characters of the message part where that begins with a list although there is no element.
+pub record Weighs (rule : DashRule) (m : MessageValue) (w : ℕ) : Type 0 where
+  pub stamp : ℕ
+  pub names : ℕ
+  pub taken : ℕ
+  pub stamp_is : Costs (IfSome m.timestamp IsPlainStamp) 1 stamp
+  pub names_is : NamesWeigh m.hostname m.procid names
+  pub taken_is : Costs (m.structured_data ≡ [] → BeginsNoList rule m.msg) (length m.msg) taken
+  pub total : w ≡ stamp + (names + taken)
