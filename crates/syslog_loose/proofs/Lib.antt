@@ -7,5 +7,6 @@ pub mod ReadBackLemmas
 pub mod ReadingLemmas
 pub mod Rfc3164Lemmas
 pub mod Rfc5424Lemmas
+pub mod SettlingLemmas
 pub mod TagFormLemmas
 pub mod TrimLemmas
