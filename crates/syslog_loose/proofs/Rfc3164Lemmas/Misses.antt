@@ -57,7 +57,7 @@ near_of host None (Some p) h = h
 near_of host (Some a) None h = h
 near_of host (Some a) (Some p) h = (h.0, inner_of p h.1)
 
-no_colon_names : (host app : Option Text) (process : Option (ProcId Text)) → ArePlainNames host app process → IfSome process HasNoColon
+pub no_colon_names : (host app : Option Text) (process : Option (ProcId Text)) → ArePlainNames host app process → IfSome process HasNoColon
 no_colon_names host app None h = tt
 no_colon_names host None (Some p) h = absurd h
 no_colon_names host (Some a) (Some p) h = no_colon_of p h.1

@@ -50,11 +50,11 @@ each_left f g = each_map (λ c. f c && g c) f (λ c h. (and_parts (f c) (g c) h)
 pub each_right : (f g : ℕ → Bool) (t : Text) → Each (λ c. f c && g c) t → Each g t
 each_right f g = each_map (λ c. f c && g c) g (λ c h. (and_parts (f c) (g c) h).1)
 
-each_front : (f : ℕ → Bool) (p q : Text) → Each f (p ++ q) → Each f p
+pub each_front : (f : ℕ → Bool) (p q : Text) → Each f (p ++ q) → Each f p
 each_front f [] q h = tt
 each_front f (c ∷ p) q h = (h.0, each_front f p q h.1)
 
-each_behind : (f : ℕ → Bool) (p q : Text) → Each f (p ++ q) → Each f q
+pub each_behind : (f : ℕ → Bool) (p q : Text) → Each f (p ++ q) → Each f q
 each_behind f [] q h = h
 each_behind f (c ∷ p) q h = each_behind f p q h.1
 
@@ -77,7 +77,7 @@ HostField q None = Unit {0}
 HostField q (Some None) = Unit {0}
 HostField q (Some (Some h)) = IsVisible h × (IsOddHost h → (r : Text) × (q ≡ 58 ∷ r))
 
-some_same : {A : Type 0} (x y : A) → Some x ≡ Some y → x ≡ y
+pub some_same : {A : Type 0} (x y : A) → Some x ≡ Some y → x ≡ y
 some_same x y e = cc
 
 host_text : (p q : Text) (v : Option Text) → IsHost p q v → HostField q (Some v)

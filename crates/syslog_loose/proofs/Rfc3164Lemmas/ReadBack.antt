@@ -66,14 +66,14 @@ abbrev pub list_field : List ElementValue → Option (List ElementValue)
 list_field [] = None
 list_field (e ∷ es) = Some (e ∷ es)
 
-list_same : (es : List ElementValue) → es ≡ elements_or (list_field es)
+pub list_same : (es : List ElementValue) → es ≡ elements_or (list_field es)
 list_same [] = refl
 list_same (e ∷ es) = refl
 
 gap_back : (t msg : Text) → Front (run is_blank) t msg tt → Front (Row from_gap) t [] (tt, (msg, tt))
 gap_back t msg f = row_cons (run is_blank) (rest ∷ []) f (row_cons rest [] (rest_front msg) (row_nil []))
 
-body_back : (rule : DashRule) (es : List ElementValue) (msg : Text) → AllByRecursion IsPlainElement es → AllByRecursion (λ e. 0 < length e.params) es → Ends is_blank msg → (es ≡ [] → BeginsNoList rule msg)
+pub body_back : (rule : DashRule) (es : List ElementValue) (msg : Text) → AllByRecursion IsPlainElement es → AllByRecursion (λ e. 0 < length e.params) es → Ends is_blank msg → (es ≡ [] → BeginsNoList rule msg)
     → Front (Row (from_blanks rule)) (tail_text es msg) [] (tt, (list_field es, (tt, (msg, tt))))
 body_back rule [] msg h k b n =
     row_cons (run is_blank) (from_list rule) (message_blanks msg b)
@@ -104,7 +104,7 @@ process_named (PID n) h b = signed_writes n b
 process_named (Name t) (some, each, none) b = (none, refl)
 
 -- ---- the names
-each_append : (f : ℕ → Bool) (p q : Text) → Each f p → Each f q → Each f (p ++ q)
+pub each_append : (f : ℕ → Bool) (p q : Text) → Each f p → Each f q → Each f (p ++ q)
 each_append f [] q h k = k
 each_append f (c ∷ p) q h k = (h.0, each_append f p q h.1 k)
 
@@ -131,7 +131,7 @@ program_field None p = None
 program_field (Some a) None = Some (Some a)
 program_field (Some a) (Some p) = Some (Some (bracketed a (procid_text p)))
 
-resolved : (origin app : Option Text) (process : Option (ProcId Text)) → ArePlainNames origin app process → IfSome process IsBoundedProcess → Resolves (Some origin) (program_field app process) (names origin app process)
+pub resolved : (origin app : Option Text) (process : Option (ProcId Text)) → ArePlainNames origin app process → IfSome process IsBoundedProcess → Resolves (Some origin) (program_field app process) (names origin app process)
 resolved None None None h b = refl
 resolved (Some o) None None h b = inr (h, refl)
 resolved origin None (Some p) h b = absurd h
@@ -147,7 +147,7 @@ no_tag_colon t (c ∷ p) q v e h =
     let w : true ≡ false = sym h.1.0 ∙ ap is_tag_char (sym u) ∙ f in cc
 
 -- a tag word before the colon, and the blanks behind it
-tagged : (w t : Text) → 0 < length w → Each is_tag_char w → w ≢ dash → Front (optional (spaced tag_word)) (32 ∷ (w ++ (58 ∷ t))) (58 ∷ t) (Some (Some w))
+pub tagged : (w t : Text) → 0 < length w → Each is_tag_char w → w ≢ dash → Front (optional (spaced tag_word)) (32 ∷ (w ++ (58 ∷ t))) (58 ∷ t) (Some (Some w))
 tagged w t l e n =
     optional_some (spaced tag_word) (spaced_front tag_word (piece_front (exactly (32 ∷ [])) (32 ∷ []) (w ++ (58 ∷ t)) tt refl) (piece_front tag_word w (58 ∷ t) (Some w) (l, e, refl, (refl, n))))
 
@@ -187,7 +187,7 @@ stamp_back dating None q h = piece_front (loose_stamp dating) dash (32 ∷ q) No
 stamp_back dating (Some s) q h = piece_front (loose_stamp dating) (timestamp_text (Some s)) (32 ∷ q) (Some s) (inl (printed_stamp-back s h, (q, refl)))
 
 -- ---- the priority
-parts_back : (f : Option SyslogFacility) (s : Option SyslogSeverity) → IsSome f → IsSome s
+pub parts_back : (f : Option SyslogFacility) (s : Option SyslogSeverity) → IsSome f → IsSome s
     → (f ≡ facility_of (option_map_or facility_number f 5 * 8 + option_map_or severity_number s 7)) × (s ≡ severity_of (option_map_or facility_number f 5 * 8 + option_map_or severity_number s 7))
 parts_back None s h k = absurd (let t : false ≡ true = h in cc)
 parts_back (Some f) None h k = absurd (let t : false ≡ true = k in cc)
