@@ -22,7 +22,7 @@ use Rattle.syslog_pieces.proofs.PieceLemmas.Steps.{piece_front, step, step_value
 use Rattle.syslog_pieces.proofs.PriLemmas.{priority_det, priority_composed}
 use Rattle.syslog_pieces.proofs.StructuredDataLemmas.Listed.{begins_no_list}
 use Rattle.syslog_pieces.proofs.TextLemmas.Words.{host_det, tag_word_det}
-use Rattle.syslog_pieces.proofs.TimestampLemmas.Loose.{loose_stamp_det, stamped_date_begins}
+use Rattle.syslog_pieces.proofs.TimestampLemmas.Loose.{IsLow, loose_stamp_det, stamped_date_begins}
 use Rattle.syslog_pieces.proofs.TimestampLemmas.RoundTrip.{stamp_text-plain, printed_stamp-begins}
 use Rattle.syslog_loose.specs.Canonical.{IsBounded, IsPlainHost, ArePlainNames, IsPlain3164, IsPlainFor, IsCanonical}
 use Rattle.syslog_loose.specs.ListedMisses.{is_no_colon, HasNoColon, IsNear}
@@ -145,10 +145,7 @@ dash_holds (Some (Some x)) q u f =
     let k = host_field_parts (dash ++ (32 ∷ u)) q (Some x) f in dash_no_host x k.piece q u (sym k.whole) k.is
 
 -- ---- the timestamp
-abbrev IsLow : ℕ → Type 0
-IsLow c = c ≤ 57
-
-stamp_low : (s : OffsetTimestamp) → Begins IsLow (printed_stamp s.instant.nanosecond s.offset.seconds)
+pub stamp_low : (s : OffsetTimestamp) → Begins IsLow (printed_stamp s.instant.nanosecond s.offset.seconds)
 stamp_low s =
     let text = printed_stamp s.instant.nanosecond s.offset.seconds in
     let (c, more, digit, first) = printed_stamp-begins s in

@@ -4,7 +4,7 @@ use Rattle.std.proofs.lemmas.Bool.{and_parts}
 use Rattle.std.specs.Char.{is_not_whitespace}
 use Rattle.syslog_pieces.specs.Pieces.Class.{Text, Front, NoFront, Row, Values, Each, Ends, run, some_run, exactly, texted}
 use Rattle.syslog_pieces.specs.Pieces.Lists.{list_before}
-use Rattle.syslog_pieces.specs.StructuredData.{param, param_row, element_row}
+use Rattle.syslog_pieces.specs.StructuredData.{value, param, param_row, element_row}
 use Rattle.syslog_pieces.specs.StructuredData.Listed.{full_element, IsDashBefore, BeginsNoList}
 use Rattle.syslog_pieces.specs.Text.{is_blank}
 use Rattle.syslog_pieces.specs.Text.CharClass.{is_id_char, is_name_char}
@@ -57,7 +57,7 @@ stops_stay (c ∷ p) k a b = absurd (let t : true ≡ false = sym a.0 ∙ b.1 in
 param_begins : (p q : Text) (v : Text × Text) → param.Is p q v → Begins (λ c. is_name_char c ≡ true) (p ++ q)
 param_begins p q v h =
     let row : Front (Row param_row) (p ++ q) q h.0 = record { piece = p; whole = refl; is = h.1 } in
-    let g = row_head (texted (some_run is_name_char)) (exactly (61 ∷ []) ∷ run is_blank ∷ exactly (34 ∷ []) ∷ Rattle.syslog_pieces.specs.StructuredData.value ∷ exactly (34 ∷ []) ∷ []) row in
+    let g = row_head (texted (some_run is_name_char)) (exactly (61 ∷ []) ∷ run is_blank ∷ exactly (34 ∷ []) ∷ value ∷ exactly (34 ∷ []) ∷ []) row in
     begins_front g.1.piece g.0 g.1.whole g.1.is.1.0 g.1.is.1.1
   where
     begins_front : {t : Text} (n r : Text) → t ≡ n ++ r → 0 < length n → Each is_name_char n → Begins (λ c. is_name_char c ≡ true) t
