@@ -3,10 +3,9 @@ use Rattle.std.proofs.Common.{◌≡◌, ℕ, ◌+◌, ◌*◌, ◌<◌, ◌≤�
 use Rattle.std.proofs.lemmas.Bool.Decides.{nat_tests}
 use Rattle.std.proofs.lemmas.List.{length-append}
 use Rattle.std.specs.Char.{is_not_whitespace}
-use Rattle.std.specs.Fmt.{decimal}
 use Rattle.std.specs.List.{AllByRecursion}
 use Rattle.std.specs.Option.{option_map_or, option_and_then}
-use Rattle.syslog_pieces.specs.Pieces.Class.{Text, Values, Front, NoFront, Row, Each, Ends, run, exactly, rest, optional, spaced}
+use Rattle.syslog_pieces.specs.Pieces.Class.{Text, Values, Front, NoFront, Row, Ends, run, exactly, rest, optional, spaced}
 use Rattle.syslog_pieces.specs.Pri.{priority, facility_number, severity_number, facility_of, severity_of}
 use Rattle.syslog_pieces.specs.ProcId.{NamesProcess}
 use Rattle.syslog_pieces.specs.StructuredData.Element.{ElementValue}
@@ -32,7 +31,7 @@ use Rattle.syslog_pieces.proofs.TimestampLemmas.RoundTrip.{stamp_text-plain, pri
 use Rattle.syslog_loose.specs.Canonical.{IsBoundedProcess, IsPlainElement}
 use Rattle.syslog_loose.specs.ListedMisses.{HasNoColon, IsNear}
 use Rattle.syslog_loose.specs.Message.{MessageValue}
-use Rattle.syslog_loose.specs.Printed.{timestamp_text, tag_text, spaced_elements, priority_of, printed_3164, printed}
+use Rattle.syslog_loose.specs.Printed.{timestamp_text, tag_text, priority_of, printed_3164, printed}
 use Rattle.syslog_loose.specs.Rfc3164.{Names3164, NamesHost, NamesProgram, Resolves, body_row, rfc3164_row, IsRead3164}
 use Rattle.syslog_loose.specs.Settling.{Costs, NamesWeigh, Weighs}
 use Rattle.syslog_loose.proofs.PriorityLemmas.{priority_low, priority_front, priority_small}

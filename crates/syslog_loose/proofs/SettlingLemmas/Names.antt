@@ -16,7 +16,7 @@ use Rattle.syslog_pieces.proofs.StructuredDataLemmas.Listed.{no_listed}
 use Rattle.syslog_pieces.proofs.TextLemmas.ReadBack.{dash_ends_not}
 use Rattle.syslog_pieces.proofs.TextLemmas.Words.{host_det, tag_word_det}
 use Rattle.syslog_loose.specs.Canonical.{IsVisible, IsPlainHost, IsBoundedProcess, ArePlainNames}
-use Rattle.syslog_loose.specs.ListedMisses.{is_no_colon, HasNoColon, IsOddHost, is_inner_char, IsInnerProcess, AreNearNames}
+use Rattle.syslog_loose.specs.ListedMisses.{is_no_colon, HasNoColon, IsOddHost, is_inner_char, AreNearNames}
 use Rattle.syslog_loose.specs.Printed.{tag_text}
 use Rattle.syslog_loose.specs.Rfc3164.{Names3164, names, NamesProgram, NamesHost, Resolves, body_row}
 use Rattle.syslog_loose.specs.Settling.{Costs, ColonsCost, NamesWeigh}

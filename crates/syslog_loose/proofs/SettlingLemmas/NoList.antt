@@ -1,5 +1,5 @@
 -- Texts that begin with no list: what is left as the message where the names of a printed text are read as others.
-use Rattle.std.proofs.Common.{◌≡◌, ◌≢◌, ℕ, ◌<◌, Bool, true, false, not, nat_eq, ◌&&◌, List, [], ◌∷◌, ◌++◌, length, refl, sym, ap, subst, ◌∙◌, arith, append_assoc}
+use Rattle.std.proofs.Common.{◌≡◌, ℕ, ◌<◌, Bool, true, false, not, nat_eq, ◌&&◌, List, [], ◌∷◌, ◌++◌, length, refl, sym, ap, subst, ◌∙◌, arith}
 use Rattle.std.proofs.lemmas.Bool.{and_parts}
 use Rattle.std.specs.Char.{is_not_whitespace}
 use Rattle.syslog_pieces.specs.Pieces.Class.{Text, Front, NoFront, Row, Values, Each, Ends, run, some_run, exactly, texted}
@@ -11,7 +11,7 @@ use Rattle.syslog_pieces.specs.Text.CharClass.{is_id_char, is_name_char}
 use Rattle.syslog_pieces.specs.declared.structured_data.listed.DashRule.{DashRule}
 use Rattle.syslog_pieces.specs.declared.structured_data.listed.DashRule.TheVariants.{BeforeBlank}
 use Rattle.syslog_pieces.proofs.PieceLemmas.Class.{heads, behind, row_head}
-use Rattle.syslog_pieces.proofs.PieceLemmas.Kinds.{Begins, begins_apart, begins_more, begins_with, each_begins}
+use Rattle.syslog_pieces.proofs.PieceLemmas.Kinds.{Begins, begins_apart, begins_more, each_begins}
 use Rattle.syslog_pieces.proofs.StructuredDataLemmas.Listed.{full_begins}
 use Rattle.syslog_loose.specs.ListedMisses.{is_inner_char}
 use Rattle.syslog_loose.proofs.Rfc3164Lemmas.Apart.{IsDigit, digit_range}
