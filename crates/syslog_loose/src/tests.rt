@@ -2,6 +2,7 @@
 mod caller;
 mod calls;
 mod canonical;
+mod canonical_3164;
 mod comparison;
 mod crate_answers;
 mod crate_answers_3164;

@@ -139,6 +139,8 @@ fn loses_broken_elements(rt: HostRuntime) -> Result<(), Fail> {
         ("a", "b", "x\\"),
         ("a", "", "c"),
         ("a", "b=", "c"),
+        ("", "b", "c"),
+        ("a=", "b", "c"),
     ] {
         check(&rt, alloc, &listed(alloc, id, name, value)?, false, &same())?;
     }
@@ -286,36 +288,53 @@ fn trims_the_ends_of_the_message(rt: HostRuntime) -> Result<(), Fail> {
     Ok(())
 }
 
-#[test]
-fn reads_other_timestamps(rt: HostRuntime) -> Result<(), Fail> {
-    let alloc = rt.alloc();
-    let message = Message {
+/// The message at this instant, in seconds, and at this offset.
+fn stamped(alloc: Global, seconds: i64, offset: i32) -> Result<Message<&'static str>, Fail> {
+    Ok(Message {
         timestamp: Some(OffsetTimestamp {
-            instant: Timestamp::from_nanosecond(0)?,
-            offset: Offset::from_seconds(30)?,
+            instant: Timestamp::from_second(seconds)?,
+            offset: Offset::from_seconds(offset)?,
         }),
         ..small(alloc)
-    };
+    })
+}
+
+/// When the year 0 begins, in seconds.
+const YEAR_ZERO: i64 = -62_167_219_200;
+
+#[test]
+fn rounds_an_offset_to_minutes(rt: HostRuntime) -> Result<(), Fail> {
+    let alloc = rt.alloc();
     check(
         &rt,
         alloc,
-        &message,
+        &stamped(alloc, 0, 30)?,
         false,
         &Expected {
             timestamp: Some("1970-01-01T00:00:30+00:01"),
             printed: "<34>1 1970-01-01T00:00:30+00:01 - - - - - x",
             ..same()
         },
-    )?;
-    let year_before_zero = -62_198_755_200_000_000_000;
-    let message = Message {
-        timestamp: Some(OffsetTimestamp {
-            instant: Timestamp::from_nanosecond(year_before_zero)?,
-            offset: Offset::UTC,
-        }),
-        ..small(alloc)
-    };
-    check_unread(&rt, alloc, &message)
+    )
+}
+
+#[test]
+fn reads_years_from_zero_on_at_their_offset(rt: HostRuntime) -> Result<(), Fail> {
+    let alloc = rt.alloc();
+    for (seconds, offset) in [(YEAR_ZERO - 1, 0), (YEAR_ZERO, -3600), (0, 86_400)] {
+        check_unread(&rt, alloc, &stamped(alloc, seconds, offset)?)?;
+    }
+    check(
+        &rt,
+        alloc,
+        &stamped(alloc, YEAR_ZERO - 1, 3600)?,
+        true,
+        &Expected {
+            timestamp: Some("0000-01-01T00:59:59+01:00"),
+            printed: "<34>1 0000-01-01T00:59:59+01:00 - - - - - x",
+            ..same()
+        },
+    )
 }
 
 #[test]
