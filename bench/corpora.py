@@ -115,23 +115,53 @@ def filled(piece, size):
     return piece * (size // len(piece))
 
 
+# A name, and the text of about so many bytes that stands where a list is read.
+HOSTILE_LISTS = [
+    ("open_quotes", lambda size: filled('[a" b="]', size)),
+    ("open_values", lambda size: filled('[a b="]', size)),
+    ("open_escapes", lambda size: filled('[a b="\\]', size)),
+    ("open_value", lambda size: '[a b="' + filled("c", size)),
+    ("escaped_value", lambda size: '[a b="' + filled("\\c", size) + '"] x'),
+    ("open_brackets", lambda size: filled("[", size)),
+    ("closed_brackets", lambda size: "[" + filled("]", size)),
+    ("empty_brackets", lambda size: filled("[]", size)),
+    ("many_elements", lambda size: filled('[a b="c"]', size)),
+    ("one_wide_element", lambda size: "[a" + filled(' b="c"', size) + "]"),
+    ("blanks_for_parameters", lambda size: "[a" + filled(" ", size) + "]"),
+    ("dashes", lambda size: filled("- ", size) + "x"),
+]
+
 # A name, and the one line of about so many bytes.
-HOSTILE = [
-    ("open_quotes", lambda size: HEADER + filled('[a" b="]', size)),
-    ("open_values", lambda size: HEADER + filled('[a b="]', size)),
-    ("open_escapes", lambda size: HEADER + filled('[a b="\\]', size)),
-    ("open_brackets", lambda size: HEADER + filled("[", size)),
-    ("empty_brackets", lambda size: HEADER + filled("[]", size)),
-    ("many_elements", lambda size: HEADER + filled('[a b="c"]', size)),
-    ("one_wide_element", lambda size: HEADER + "[a" + filled(' b="c"', size) + "]"),
-    ("blanks_for_parameters", lambda size: HEADER + "[a" + filled(" ", size) + "]"),
+HOSTILE_LINES = [
+    ("blanks_at_ends", lambda size: filled(" ", size // 2) + HEADER + "-" + filled(" ", size // 2)),
     ("leading_zeros", lambda size: "<" + filled("0", size) + "7>" + HEADER + "-"),
-    ("host_colons", lambda size: "- host" + filled(":", size) + " text"),
-    ("dashes_3164", lambda size: HEADER_3164 + filled("- ", size) + "x"),
-    ("open_quotes_3164", lambda size: HEADER_3164 + filled('[a" b="]', size)),
-    ("open_brackets_3164", lambda size: HEADER_3164 + filled("[", size)),
-    ("many_elements_3164", lambda size: HEADER_3164 + filled('[a b="c"]', size)),
-    ("tag_brackets", lambda size: "- host " + filled("[", size) + ": x"),
+    ("version_nines", lambda size: filled("9", size) + " - - - - - -"),
+    ("decimals", lambda size: "1 2020-01-01T00:00:00." + filled("1", size) + "Z h a 1 m - x"),
+    ("host_colons", lambda size: "1 - " + filled(":", size) + "h a 1 m - x"),
+    ("app_brackets", lambda size: "1 - h " + filled("[", size) + " 1 m - x"),
+    ("process_zeros", lambda size: "1 - h a " + filled("0", size) + "7 m - x"),
+    ("process_nines", lambda size: "1 - h a " + filled("9", size) + " m - x"),
+    ("blanks_at_ends_3164", lambda size: filled(" ", size // 2) + HEADER_3164 + "x" + filled(" ", size // 2)),
+    ("leading_zeros_3164", lambda size: "<" + filled("0", size) + "7>" + HEADER_3164 + "x"),
+    ("day_zeros_3164", lambda size: "Oct " + filled("0", size) + "5 07:08:09 h a: x"),
+    ("year_nines_3164", lambda size: "Oct 5 " + filled("9", size) + " 07:08:09 h a: x"),
+    ("decimals_3164", lambda size: "2020-01-01T00:00:00." + filled("1", size) + "Z h a: x"),
+    ("host_colons_3164", lambda size: "- host" + filled(":", size) + " text"),
+    ("tag_brackets_3164", lambda size: "- host " + filled("[", size) + ": x"),
+    ("form_brackets_3164", lambda size: "- host " + filled("[", size) + "]: x"),
+    ("process_zeros_3164", lambda size: "- host app[" + filled("0", size) + "7]: x"),
+    ("process_nines_3164", lambda size: "- host app[" + filled("9", size) + "]: x"),
+]
+
+
+def behind(header, maker):
+    return lambda size: header + maker(size)
+
+
+HOSTILE = [
+    *((name, behind(HEADER, maker)) for name, maker in HOSTILE_LISTS),
+    *((name + "_3164", behind(HEADER_3164, maker)) for name, maker in HOSTILE_LISTS),
+    *HOSTILE_LINES,
 ]
 
 
