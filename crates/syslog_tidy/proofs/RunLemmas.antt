@@ -19,7 +19,7 @@ use Rattle.syslog_tidy.specs.Block.{Fills, StopsReading, complete_bytes, cut_byt
 use Rattle.syslog_tidy.specs.Lines.{EndsInFeed, IsLines, NoFeed, with_feeds}
 use Rattle.syslog_tidy.specs.Output.{AreAnswers, Counts, HasCounted, IsAnswer, answer_bytes, output_of}
 use Rattle.syslog_tidy.specs.Write.{WritesAll, WritesFirst, Wrote, WroteBefore, WroteCut}
-use Rattle.syslog_tidy.specs.Run.{CanAnswer, EndsEarly, FiltersAll, LosesNothing, ReadAll}
+use Rattle.syslog_tidy.specs.Run.{CanAnswer, EndsEarly, FiltersAll, ReadAll, ReadLines}
 use Rattle.syslog_tidy.proofs.LineLemmas.{closed_lines, lines_after, with_feeds-append}
 
 AllZip-append : {X Y : Type 0} (R : X → Y → Type 0) (xs more : List X) (ys others : List Y) → AllZip R xs ys → AllZip R more others → AllZip R (xs ++ more) (ys ++ others)
@@ -143,25 +143,31 @@ module _ (year : ℤ) (had left left' held holds holds' : Option (List ℕ)) (cu
   EndsEarly-more failed fault wrote = EndsEarly-after year held holds holds' before.lines before.wrote had left' complete failed fault CanAnswer-more wrote
 
 -- nothing more was read
-LosesNothing-kept : (year : ℤ) (had left left' held holds : Option (List ℕ)) (cut : List ℕ) (summary : Summary) → RunSoFar year had left held holds cut summary → Keeps left left' → LosesNothing year had left' held holds
-LosesNothing-kept year had left left' held holds cut summary before kept = (
-  before.lines,
-  record {
+module _ (year : ℤ) (had left left' held holds : Option (List ℕ)) (cut : List ℕ) (summary : Summary) (before : RunSoFar year had left held holds cut summary) (kept : Keeps left left') where
+  ReadLines-kept : ReadLines had left' before.lines
+  ReadLines-kept = record {
     read = before.read;
     consumed = Consumes-kept had left left' before.read before.consumed kept;
     cut = cut;
     joined = before.joined;
     free = before.free;
     cut_free = before.cut_free;
-  },
-  before.wrote,
-)
+  }
 
-pub EndsEarly-stopped : (year : ℤ) (had left left' held holds : Option (List ℕ)) (cut : List ℕ) (summary : Summary) (failed : Bool) (fault : RunFault) → RunSoFar year had left held holds cut summary → Keeps left left'
-    → StopsReading fault failed → EndsEarly year had left' held holds fault
-EndsEarly-stopped year had left left' held holds cut summary failed Read before kept stopped = LosesNothing-kept year had left left' held holds cut summary before kept
-EndsEarly-stopped year had left left' held holds cut summary failed Write before kept stopped = absurd stopped
-EndsEarly-stopped year had left left' held holds cut summary failed Memory before kept stopped = inl (LosesNothing-kept year had left left' held holds cut summary before kept)
+  pub EndsEarly-stopped : (failed : Bool) (fault : RunFault) → StopsReading cut fault failed → EndsEarly year had left' held holds fault
+  unfolding ReadLines-kept
+  EndsEarly-stopped failed Read stopped = (before.lines, ReadLines-kept, before.wrote)
+  EndsEarly-stopped failed Write stopped = absurd stopped
+  EndsEarly-stopped failed Memory stopped = inl (before.lines, ReadLines-kept, inr stopped.1, before.wrote)
+
+-- no block was had, so nothing was read
+pub EndsEarly-unbegun : (year : ℤ) (had held : Option (List ℕ)) → EndsEarly year had had held held Memory
+EndsEarly-unbegun year had held = inl (
+  [],
+  record { read = []; consumed = Consumes-nil had; cut = []; joined = refl; free = All-nil NoFeed; cut_free = All-nil (λ (byte : ℕ). byte ≢ 10) },
+  inl refl,
+  record { answers = []; answered = tt; written = Appends-nil held },
+)
 
 -- ---- the end of the input
 

@@ -1,6 +1,7 @@
 -- What a block of input holds.
-use Rattle.std.specs.Prelude.{◌≡◌, ℕ, Bool, true, false, List, [], ◌++◌, Option, take, drop}
+use Rattle.std.specs.Prelude.{◌≡◌, ◌≤◌, ℕ, Bool, true, false, List, [], ◌++◌, Option, length, take, drop}
 use Rattle.std.specs.Io.KnownBytes.{Consumes, IsAtEnd}
+use Rattle.syslog_tidy.specs.Run.{block_size}
 use Rattle.syslog_tidy.specs.declared.block.Block.{Block}
 use Rattle.syslog_tidy.specs.declared.summary.RunFault.{RunFault}
 use Rattle.syslog_tidy.specs.declared.summary.RunFault.TheVariants.{Read, Write, Memory}
@@ -18,8 +19,8 @@ abbrev pub Fills : Option (List ℕ) → Option (List ℕ) → Block → Block �
 Fills had left old new true = (piece : List ℕ) × Consumes had left piece × (cut_bytes old ++ piece ≡ complete_bytes new ++ cut_bytes new)
 Fills had left old new false = Consumes had left [] × IsAtEnd left × (cut_bytes new ≡ cut_bytes old)
 
--- reading stopped by a failed read, or for want of memory
-abbrev pub StopsReading : RunFault → Bool → Type 0
-StopsReading Read failed = failed ≡ true
-StopsReading Write failed = ⊥
-StopsReading Memory failed = failed ≡ false
+-- reading stopped by a failed read, or for want of memory where the line that was cut takes a whole block
+abbrev pub StopsReading : List ℕ → RunFault → Bool → Type 0
+StopsReading cut Read failed = failed ≡ true
+StopsReading cut Write failed = ⊥
+StopsReading cut Memory failed = (failed ≡ false) × (block_size ≤ length cut)

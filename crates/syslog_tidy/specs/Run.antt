@@ -1,5 +1,5 @@
 -- What a run reads, writes and answers: this project's own choice.
-use Rattle.std.specs.Prelude.{◌≡◌, ℕ, ℤ, Bool, true, false, List, ◌++◌, ◌⊎◌, Option, Result, Ok, Err, length, count_by, is_none, All}
+use Rattle.std.specs.Prelude.{◌≡◌, ◌≤◌, ℕ, ℤ, Bool, true, false, List, [], ◌++◌, ◌⊎◌, Option, Result, Ok, Err, length, count_by, is_none, All}
 use Rattle.std.specs.Io.KnownBytes.{Appends, Consumes, IsAtEnd}
 use Rattle.syslog_tidy.specs.Lines.{IsLines, NoFeed, with_feeds}
 use Rattle.syslog_tidy.specs.Output.{AreAnswers, HasCounted, output_of}
@@ -41,13 +41,22 @@ pub record FiltersAll (year : ℤ) (had left held holds : Option (List ℕ)) (su
 abbrev pub LosesNothing : ℤ → Option (List ℕ) → Option (List ℕ) → Option (List ℕ) → Option (List ℕ) → Type 0
 LosesNothing year had left held holds = (lines : List (List ℕ)) × ReadLines had left lines × Wrote year lines held holds
 
+-- the bytes of a block, where no line is longer
+abbrev pub block_size : ℕ
+block_size = 65536
+
+-- the same, and room was wanted for the next block: nothing was read yet, or the line that was cut takes a whole block
+abbrev pub WantsRoom : ℤ → Option (List ℕ) → Option (List ℕ) → Option (List ℕ) → Option (List ℕ) → Type 0
+WantsRoom year had left held holds =
+    (lines : List (List ℕ)) × (seen : ReadLines had left lines) × ((seen.read ≡ []) ⊎ (block_size ≤ length seen.cut)) × Wrote year lines held holds
+
 -- What was read and written where a run ends early. A failed read, and want of memory for the next block, lose no
 -- complete line; want of memory for a line loses none before it; after a failed write the last line may be cut.
 abbrev pub EndsEarly : ℤ → Option (List ℕ) → Option (List ℕ) → Option (List ℕ) → Option (List ℕ) → RunFault → Type 0
 EndsEarly year had left held holds Read = LosesNothing year had left held holds
 EndsEarly year had left held holds Write = (lines : List (List ℕ)) × CanAnswer had left lines × WroteCut year lines held holds
 EndsEarly year had left held holds Memory =
-    LosesNothing year had left held holds ⊎ ((lines : List (List ℕ)) × CanAnswer had left lines × WroteBefore year lines held holds)
+    WantsRoom year had left held holds ⊎ ((lines : List (List ℕ)) × CanAnswer had left lines × WroteBefore year lines held holds)
 
 -- which of the reader and the writer failed, by how the run ended
 abbrev pub FailedAs : Result Summary RunFault → Bool → Bool → Type 0

@@ -1,6 +1,7 @@
 //! The input, a block at a time.
 ghost use Rattle.std.specs.Prelude.{◌≡◌, ◌≢◌, ◌+◌, ◌-◌, ◌++◌, ◌<◌, ◌≤◌, ℕ, [], length, take, drop, slice_index, vec_len, false, true, IfOk, IfErr, OnOk, OnErr};
 ghost use Rattle.std.specs.Io.KnownBytes.{Consumes, IsAtEnd, Keeps};
+ghost use Rattle.syslog_tidy.specs.Run.{block_size};
 
 use crate::search::past_last_feed;
 use crate::summary::RunFault;
@@ -20,7 +21,7 @@ pub struct Block {
     end: usize,
     ghost ordered: { complete ≤ end },
     ghost within: { end ≤ vec_len bytes },
-    ghost some: { 0 < vec_len bytes },
+    ghost roomy: { block_size ≤ vec_len bytes },
     ghost closed: { 0 < complete → slice_index bytes.items (complete - 1) ≡ 10 },
     ghost open: { (k : ℕ) → complete ≤ k → k < end → slice_index bytes.items k ≢ 10 },
 }
@@ -64,7 +65,7 @@ impl Block {
     pub fn fill<R: Read>(&mut self, reader: &mut Watched<R>) -> Result<bool, RunFault>
         requires { reader.old.failed ≡ false }
         ensures ok { IfOk result (λ more. Fills (R.remaining reader.old.inner) (R.remaining reader.new.inner) self.old self.new more) }
-        ensures err { IfErr result (λ fault. StopsReading fault reader.new.failed) }
+        ensures err { IfErr result (λ fault. StopsReading (cut_bytes self.old) fault reader.new.failed) }
         ensures well { OnOk result (reader.new.failed ≡ false) }
         ensures kept { OnErr result (Keeps (R.remaining reader.old.inner) (R.remaining reader.new.inner)) }
         ensures open { NoFeed (cut_bytes self.new) }
@@ -97,6 +98,7 @@ impl Block {
     // Doubles the room where all of it is taken.
     fn make_room(&mut self) -> Result<(), AllocError>
         ensures ok { OnOk result (self.new.end < vec_len self.new.bytes) }
+        ensures err { OnErr result (block_size ≤ self.old.end) }
         ensures complete { self.new.complete ≡ self.old.complete }
         ensures cut { OnOk result (cut_bytes self.new ≡ cut_bytes self.old) }
     {

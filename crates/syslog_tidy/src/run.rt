@@ -16,9 +16,10 @@ use std::io::{Read, Write};
 ///
 /// A line that has none, or is no UTF-8, gives nothing and is counted as refused. The output of each block of input is
 /// written before more is read, and the writer is flushed at the end. Nothing is tried again. After `RunFault::Read` the
-/// output of each complete line that was read was written. After `RunFault::Memory` so it was, or memory was refused for a
-/// line that has a reading, and the output of each line before it was written. After `RunFault::Write` a beginning of the
-/// output was written. It takes memory for a block of input, its output, and the longest line.
+/// output of each complete line that was read was written. After `RunFault::Memory` so it was, and nothing was read yet or
+/// the line that was cut takes a whole block; or memory was refused for a line that has a reading, and the output of each
+/// line before it was written. After `RunFault::Write` a beginning of the output was written. It takes memory for a block
+/// of input, its output, and the longest line.
 pub fn run<R: Read, W: Write>(
     alloc: Global,
     reader: &mut Watched<R>,

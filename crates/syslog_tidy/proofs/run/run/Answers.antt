@@ -1,17 +1,13 @@
-use Rattle.std.proofs.Common.{refl, [], false}
-use Rattle.std.proofs.KnownBytes.{Keeps-refl}
+use Rattle.std.proofs.Common.{refl}
 use Rattle.std.proofs.lemmas.Int.{to_z-of_z}
 use Rattle.syslog_tidy.specs.declared.summary.RunFault.TheVariants.{Memory}
 use Rattle.syslog_tidy.proofs.AnswerLemmas.{IfErr-passed}
-use Rattle.syslog_tidy.proofs.RunLemmas.{Fills-end, Fills-more, FiltersAll-flushed, FiltersAll-last, FiltersAll-year, EndsEarly-flush, EndsEarly-last, EndsEarly-more, EndsEarly-stopped, EndsEarly-year, RunSoFar-more, RunSoFar-same, RunSoFar-start}
+use Rattle.syslog_tidy.proofs.RunLemmas.{Fills-end, Fills-more, FiltersAll-flushed, FiltersAll-last, FiltersAll-year, EndsEarly-flush, EndsEarly-last, EndsEarly-more, EndsEarly-stopped, EndsEarly-unbegun, EndsEarly-year, RunSoFar-more, RunSoFar-same, RunSoFar-start}
 use Rattle.syslog_tidy.proofs.run.run.Goals as goal
 
 pub returns-in_err-block-clause-err : goal.returns-in_err-block-clause-err
 returns-in_err-block-clause-err g c =
-    let had = g.R.Read.remaining c.args.reader.now.inner in
-    let held = g.W.Write.contents c.args.writer.now.inner in
-    IfErr-passed _ Memory _ c.from_residual.ensures.1
-    (EndsEarly-stopped c.args.year had had had held held [] record { lines = 0; refused = 0 } false Memory (RunSoFar-start c.args.year had held [] record { lines = 0; refused = 0 } refl refl refl) (Keeps-refl had) refl)
+    IfErr-passed _ Memory _ c.from_residual.ensures.1 (EndsEarly-unbegun c.args.year (g.R.Read.remaining c.args.reader.now.inner) (g.W.Write.contents c.args.writer.now.inner))
 
 pub loop-block-init : goal.loop-block-init
 loop-block-init g c = record { so_far = RunSoFar-start _ _ _ _ _ c.in_ok-block.ensures refl refl; reader_well = c.requires.reader; writer_well = c.requires.writer }
@@ -25,7 +21,7 @@ returns-in_err-fill-clause-err g c =
     let holds = g.W.Write.contents c.loop-block.writer.inner in
     IfErr-passed _ fault _ c.from_residual-in_err-fill.ensures.1
     (EndsEarly-year c.args.year _ had left held holds fault (to_z-of_z _ _ c.ranges.year)
-    (EndsEarly-stopped _ _ _ _ _ _ _ _ _ fault c.loop-block.invariant.so_far c.in_err-fill.ensures.kept c.in_err-fill.ensures.err))
+    (EndsEarly-stopped _ _ _ _ _ _ _ _ c.loop-block.invariant.so_far c.in_err-fill.ensures.kept _ fault c.in_err-fill.ensures.err))
 
 pub loop-block-preserved : goal.loop-block-preserved
 loop-block-preserved g c =
