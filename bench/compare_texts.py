@@ -274,11 +274,26 @@ def is_past_the_dates(text, ours, theirs):
     return bool(stamp) and not ours.get("ok") and not -377705023201 * 10**9 <= int(stamp["nanos"]) <= LAST_INSTANT
 
 
+def with_its_dash(ours, theirs):
+    """The answer there, with the dash that begins the message here and is a list there. None where there is no such dash."""
+    if not (ours.get("ok") and theirs.get("ok")) or theirs["protocol"] != "RFC3164":
+        return None
+    msg = theirs["msg"]
+    if ours["msg"] != "-" + msg or not msg or msg[0] in " \t" or not theirs["printed"].endswith(msg):
+        return None
+    return {**theirs, "msg": "-" + msg, "printed": theirs["printed"][: -len(msg)] + "-" + msg}
+
+
 EXPECTED = [is_second_60, is_past_the_range, is_no_rfc_3339, is_past_the_dates, is_dated_in_a_zone]
 
 
 def kind_of(text, ours, theirs):
     """The name of the expected difference, or the fields that differ."""
+    dashed = with_its_dash(ours, theirs)
+    if dashed and plain(ours) == plain(dashed):
+        return "A dash before a character that is no blank: a list of RFC 3164 there, and the begin of the message here."
+    # (another difference may stand beside it)
+    theirs = dashed or theirs
     for it in EXPECTED:
         if it(text, ours, theirs):
             return it.__doc__

@@ -8,7 +8,7 @@ use Rattle.syslog_pieces.specs.Pieces.View.{shown}
 use Rattle.syslog_pieces.specs.Timestamp.Loose.{ShowsYearless}
 use Rattle.syslog_pieces.specs.Timestamp.Zone.{Dating}
 use Rattle.syslog_pieces.specs.declared.structured_data.listed.DashRule.{DashRule}
-use Rattle.syslog_pieces.specs.declared.structured_data.listed.DashRule.TheVariants.{BeforeAnything}
+use Rattle.syslog_pieces.specs.declared.structured_data.listed.DashRule.TheVariants.{BeforeBlank}
 use Rattle.syslog_pieces.specs.declared.timestamp.month_date.MonthDate.{MonthDate}
 use Rattle.syslog_loose.specs.declared.fault.ParseFault.{ParseFault}
 use Rattle.syslog_loose.specs.declared.fault.ParseFault.TheVariants.{Invalid, Memory}
@@ -22,9 +22,9 @@ use Rattle.syslog_loose.specs.Rfc5424.{IsRead5424, IsNot5424, Quotes5424}
 
 -- ---- reading a text, its dates taken so
 
--- before which texts a dash is a list of RFC 3164
+-- before which texts a dash is a list of RFC 3164: at the end and before a blank
 abbrev pub dash_rule : DashRule
-dash_rule = BeforeAnything
+dash_rule = BeforeBlank
 
 -- the text is read as the message: under `Either` as RFC 5424, and as RFC 3164 where that has no division of it
 abbrev pub IsRead : Variant → Dating → Text → MessageValue → Type 0

@@ -1,5 +1,5 @@
-//! Whether a text is read differently under the two rules of the dash. The front of the text tells, up to its list: so
-//! no element is collected, and no memory taken.
+//! Whether the change of the dash changed the reading of a text. The front of the text tells, up to its list: so no
+//! element is collected, and no memory taken.
 ghost use Rattle.std.specs.Prelude.{◌↔◌, IsTrue, MatchBool, MatchOption};
 ghost use Rattle.std.specs.Result.{IsOkAnd};
 ghost use Rattle.std.specs.Str.{chars};
@@ -20,9 +20,9 @@ use syslog_pieces::text::{
     CharClass, blanks, first, host_field, literal, past_colon, tag_field, trimmed,
 };
 
-/// Whether the text is read as one message where a dash is a list of RFC 3164 before anything, and as another where it is
-/// one before a blank and at the end alone: so whether a dash before a character that is no blank is left out under the
-/// first rule, and begins `msg` under the second.
+/// Whether the text is read otherwise than it was while a dash was a list of RFC 3164 before anything, as it is in the Rust
+/// crate: so whether a dash before a character that is no blank was left out, and begins `msg` now that a dash is a list
+/// only at the end and before a blank.
 ///
 /// The arguments are those of `parse_message_with_year_exact_tz`, and `get_year` is called as there. It is never refused.
 pub fn reads_differently<F: FnOnce(IncompleteDate) -> i32>(

@@ -44,8 +44,8 @@ pub enum Variant {
 /// The month, day, hour, minute and second of a date without a year.
 pub type IncompleteDate = (u32, u32, u32, u32, u32);
 
-/// Before which texts a dash is a list of RFC 3164: today's rule.
-pub(crate) const DASH_RULE: DashRule = DashRule::BeforeAnything;
+/// Before which texts a dash is a list of RFC 3164: at the end and before a blank.
+pub(crate) const DASH_RULE: DashRule = DashRule::BeforeBlank;
 
 /// The message of the text, read by the variant, with the year of `now` in the local zone for a date that has none.
 ///

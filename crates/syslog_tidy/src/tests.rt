@@ -201,6 +201,13 @@ fn filters_both_protocols(rt: HostRuntime) {
     expect_run(&rt, rt.alloc(), lines.as_bytes(), 1, printed, 3, 2);
 }
 
+#[test]
+fn keeps_a_dash_that_begins_the_message(rt: HostRuntime) {
+    let line = "<34>Oct 11 22:14:15 mymachine app: -5 degrees\n";
+    let printed = "<34> 2019-10-11T22:14:15+00:00 mymachine app: -5 degrees\n";
+    expect_run(&rt, rt.alloc(), line.as_bytes(), 1024, printed, 1, 0);
+}
+
 /// Strict elements stay, a broken one goes, and what is no element begins the message.
 #[test]
 fn filters_forgiving_lists(rt: HostRuntime) {

@@ -164,6 +164,22 @@ fn reads_canonical_messages_back(rt: HostRuntime) -> Result<(), Fail> {
             ),
             (
                 Fields {
+                    msg: "-5",
+                    ..small()
+                },
+                "<34> - - a: -5",
+                None,
+            ),
+            (
+                Fields {
+                    msg: "-\u{a0}x",
+                    ..small()
+                },
+                "<34> - - a: -\u{a0}x",
+                None,
+            ),
+            (
+                Fields {
                     elements: "e|k|v",
                     msg: "-5",
                     ..small()

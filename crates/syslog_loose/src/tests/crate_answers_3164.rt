@@ -1,7 +1,8 @@
 //! The answers of the Rust crate `syslog_loose` 0.23.0 to texts of RFC 3164 chosen for this file.
 //!
 //! How it was made: the crate, built by rustc 1.95, read each text under its variant RFC3164 with UTC as both zones and
-//! 2019 as the year; its fields and its printed text were written down here, and are not made anew.
+//! 2019 as the year; its fields and its printed text were written down here, and are not made anew. There a dash is a list
+//! before anything; the texts that are read otherwise here for that stand in a test of their own.
 use super::expected::{Process, check_elements, check_invalid, check_timestamp, process_of, read};
 use crate::{Protocol, Variant};
 use std::alloc::Global;
@@ -404,16 +405,6 @@ fn agrees_on_blanks(rt: HostRuntime) -> Result<(), Fail> {
                 printed: "<34> 2019-10-11T22:14:15+00:00 host app: a list",
             },
             Row {
-                text: "<34>Oct 11 22:14:15 host app: -- two dashes",
-                timestamp: Some("2019-10-11T22:14:15+00:00"),
-                hostname: Some("host"),
-                appname: Some("app"),
-                process: Process::Absent,
-                elements: "",
-                msg: "- two dashes",
-                printed: "<34> 2019-10-11T22:14:15+00:00 host app: - two dashes",
-            },
-            Row {
                 text: "<34>Oct 11 22:14:15 - - -",
                 timestamp: Some("2019-10-11T22:14:15+00:00"),
                 hostname: None,
@@ -665,6 +656,38 @@ fn agrees_on_dates_and_lines(rt: HostRuntime) -> Result<(), Fail> {
             },
         ],
     )
+}
+
+// The crate's message, and that which is read here. The other fields are the same.
+#[test]
+fn differs_where_a_dash_stands_before_no_blank(rt: HostRuntime) -> Result<(), Fail> {
+    let alloc = rt.alloc();
+    for (text, there, here) in [
+        (
+            "<34>Oct 11 22:14:15 host app: -- two dashes",
+            "- two dashes",
+            "-- two dashes",
+        ),
+        (
+            "<34>Oct 11 22:14:15 host app: -5 degrees",
+            "5 degrees",
+            "-5 degrees",
+        ),
+        ("- host app: -\u{a0}x", "\u{a0}x", "-\u{a0}x"),
+        (
+            "- host app: -[x y=\"z\"] m",
+            "[x y=\"z\"] m",
+            "-[x y=\"z\"] m",
+        ),
+    ] {
+        let message = read(alloc, text, Variant::RFC3164)?;
+        assert_eq!(rt; message.hostname, Some("host"), "{text}");
+        assert_eq!(rt; message.appname, Some("app"), "{text}");
+        check_elements(&rt, &message.structured_data, "");
+        assert_eq!(rt; message.msg, here, "{text}");
+        assert_eq!(rt; message.msg.strip_prefix('-'), Some(there), "{text}");
+    }
+    Ok(())
 }
 
 #[test]

@@ -1,9 +1,11 @@
 //! Worked texts of RFC 3164: the names of a header, its list, and what is left for the message.
 use super::expected::{Process, check_elements, process_of, read_in_year};
-use crate::{Message, ParseFault, Protocol, Variant};
+use crate::{Message, ParseFault, Protocol, Variant, rfc3164};
+use jiff::tz::TimeZone;
 use std::alloc::Global;
 use std::process::Abort;
 use std::test::Fail;
+use syslog_pieces::structured_data::listed::DashRule;
 
 /// What a text reads as, and how that prints. The printed text has the priority and the timestamp.
 #[derive(Clone, Copy)]
@@ -28,6 +30,16 @@ fn row<'a>(text: &'a str, printed: &'a str) -> Loose<'a> {
         elements: "",
         msg: "",
         printed,
+    }
+}
+
+/// A text that has the host `h`, the program `a` and this message.
+fn in_app<'a>(text: &'a str, msg: &'a str, printed: &'a str) -> Loose<'a> {
+    Loose {
+        hostname: Some("h"),
+        appname: Some("a"),
+        msg,
+        ..row(text, printed)
     }
 }
 
@@ -215,7 +227,7 @@ fn reads_odd_names(rt: HostRuntime) -> Result<(), Fail> {
 }
 
 #[test]
-fn takes_a_dash_before_the_message_as_an_empty_list(rt: HostRuntime) -> Result<(), Fail> {
+fn leaves_a_dash_before_no_blank_to_the_message(rt: HostRuntime) -> Result<(), Fail> {
     check_rows(
         &rt,
         rt.alloc(),
@@ -223,18 +235,66 @@ fn takes_a_dash_before_the_message_as_an_empty_list(rt: HostRuntime) -> Result<(
             Loose {
                 hostname: Some("mymachine"),
                 appname: Some("app"),
-                msg: "5 degrees",
+                msg: "-5 degrees",
                 ..row(
                     "<34>Oct 11 22:14:15 mymachine app: -5 degrees",
-                    "<34> 2019-10-11T22:14:15+00:00 mymachine app: 5 degrees",
+                    "<34> 2019-10-11T22:14:15+00:00 mymachine app: -5 degrees",
                 )
             },
             Loose {
-                msg: "x",
-                ..row("--x", "<47> - - : x")
+                msg: "-x",
+                ..row("--x", "<47> - - : -x")
             },
+            in_app("- h a: -\u{a0}x", "-\u{a0}x", "<47> - h a: -\u{a0}x"),
+            in_app(
+                "- h a: -[e k=\"v\"] x",
+                "-[e k=\"v\"] x",
+                "<47> - h a: -[e k=\"v\"] x",
+            ),
         ],
     )
+}
+
+#[test]
+fn takes_a_dash_before_a_blank_as_an_empty_list(rt: HostRuntime) -> Result<(), Fail> {
+    check_rows(
+        &rt,
+        rt.alloc(),
+        &[
+            in_app("- h a: -", "", "<47> - h a: "),
+            in_app("- h a: - x", "x", "<47> - h a: x"),
+            in_app("- h a: -\tx", "x", "<47> - h a: x"),
+        ],
+    )
+}
+
+// The same texts where a dash is a list before anything.
+#[test]
+fn left_out_a_dash_before_anything(rt: HostRuntime) -> Result<(), Fail> {
+    let alloc = rt.alloc();
+    let utc = TimeZone::UTC;
+    for (text, msg) in [
+        ("<34>Oct 11 22:14:15 mymachine app: -5 degrees", "5 degrees"),
+        ("--x", "x"),
+        ("- h a: -", ""),
+        ("- h a: - x", "x"),
+        ("- h a: -\tx", "x"),
+        ("- h a: -\u{a0}x", "\u{a0}x"),
+        ("- h a: -[e k=\"v\"] x", "[e k=\"v\"] x"),
+    ] {
+        let read = rfc3164::read(
+            alloc,
+            text,
+            DashRule::BeforeAnything,
+            Some(2019),
+            None,
+            &utc,
+        )?;
+        let message = read.ok_or("no message")?;
+        assert_eq!(rt; message.structured_data.len(), 0, "{text}");
+        assert_eq!(rt; message.msg, msg, "{text}");
+    }
+    Ok(())
 }
 
 #[test]
