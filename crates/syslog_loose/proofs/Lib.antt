@@ -1,6 +1,7 @@
 pub mod CanonicalLemmas
 pub mod DashLemmas
 pub mod KeptLineLemmas
+pub mod OneLineLemmas
 pub mod PrintedLemmas
 pub mod PriorityLemmas
 pub mod ReadBackLemmas

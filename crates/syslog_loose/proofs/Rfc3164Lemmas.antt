@@ -1,5 +1,6 @@
 -- Texts of RFC 3164: what the fields of names mean together is one thing, a text has one division, and none of RFC 5424.
 pub mod Apart
+pub mod Bounded
 pub mod Exact
 pub mod Misses
 pub mod Near

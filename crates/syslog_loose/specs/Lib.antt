@@ -5,6 +5,7 @@ pub mod EqualLaws
 pub mod KeptLine
 pub mod ListedMisses
 pub mod Message
+pub mod OneLine
 pub mod Printed
 pub mod ReadBack
 pub mod Reading

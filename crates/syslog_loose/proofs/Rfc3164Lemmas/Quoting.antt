@@ -122,11 +122,11 @@ quoted_row rule dating = (
   ),
 )
 
-all_left : (P : Text → Type 0) (ts us : List Text) → AllByRecursion P (ts ++ us) → AllByRecursion P ts
+pub all_left : (P : Text → Type 0) (ts us : List Text) → AllByRecursion P (ts ++ us) → AllByRecursion P ts
 all_left P [] us h = tt
 all_left P (t ∷ ts) us h = (h.0, all_left P ts us h.1)
 
-all_right : (P : Text → Type 0) (ts us : List Text) → AllByRecursion P (ts ++ us) → AllByRecursion P us
+pub all_right : (P : Text → Type 0) (ts us : List Text) → AllByRecursion P (ts ++ us) → AllByRecursion P us
 all_right P [] us h = h
 all_right P (t ∷ ts) us h = all_right P ts us h.1
 

@@ -7,7 +7,6 @@ use Rattle.std.specs.List.{AllByRecursion}
 use Rattle.std.specs.Option.{option_map_or, option_and_then}
 use Rattle.syslog_pieces.specs.Pieces.Class.{Text, Values, Front, NoFront, Row, Ends, run, exactly, rest, optional, spaced}
 use Rattle.syslog_pieces.specs.Pri.{priority, facility_number, severity_number, facility_of, severity_of}
-use Rattle.syslog_pieces.specs.ProcId.{NamesProcess}
 use Rattle.syslog_pieces.specs.StructuredData.Element.{ElementValue}
 use Rattle.syslog_pieces.specs.StructuredData.Listed.{IsListed, BeginsNoList, listed, elements_or}
 use Rattle.syslog_pieces.specs.Text.{trimmed, is_blank, colon, name_text, host, tag_word}
@@ -17,7 +16,6 @@ use Rattle.syslog_pieces.specs.Timestamp.Zone.{Dating}
 use Rattle.syslog_pieces.specs.declared.pri.SyslogFacility.{SyslogFacility}
 use Rattle.syslog_pieces.specs.declared.pri.SyslogSeverity.{SyslogSeverity}
 use Rattle.syslog_pieces.specs.declared.procid.ProcId.{ProcId}
-use Rattle.syslog_pieces.specs.declared.procid.ProcId.TheVariants.{PID, Name}
 use Rattle.syslog_pieces.specs.declared.structured_data.listed.DashRule.TheVariants.{BeforeBlank}
 use Rattle.syslog_pieces.specs.declared.timestamp.OffsetTimestamp.{OffsetTimestamp}
 use Rattle.syslog_pieces.proofs.PieceLemmas.Class.{run_same, rest_same, heads, behind, row_head, row_cons, division_front, optional_det, optional_some, optional_none, run_det, no_spaced_space}
@@ -32,10 +30,11 @@ use Rattle.syslog_loose.specs.Canonical.{IsBoundedProcess, IsPlainElement}
 use Rattle.syslog_loose.specs.ListedMisses.{HasNoColon, IsNear}
 use Rattle.syslog_loose.specs.Message.{MessageValue}
 use Rattle.syslog_loose.specs.Printed.{timestamp_text, tag_text, priority_of, printed_3164, printed}
-use Rattle.syslog_loose.specs.Rfc3164.{Names3164, NamesHost, NamesProgram, Resolves, body_row, rfc3164_row, IsRead3164}
+use Rattle.syslog_loose.specs.Rfc3164.{Names3164, Resolves, body_row, rfc3164_row, IsRead3164}
 use Rattle.syslog_loose.specs.Settling.{Costs, NamesWeigh, Weighs}
 use Rattle.syslog_loose.proofs.PriorityLemmas.{priority_low, priority_front, priority_small}
 use Rattle.syslog_loose.proofs.Rfc3164Lemmas.Apart.{IsDigit, digit_range}
+use Rattle.syslog_loose.proofs.Rfc3164Lemmas.Bounded.{read_bounded}
 use Rattle.syslog_loose.proofs.Rfc3164Lemmas.Exact.{stamp_low}
 use Rattle.syslog_loose.proofs.Rfc3164Lemmas.Near.{read_near}
 use Rattle.syslog_loose.proofs.Rfc3164Lemmas.Printed.{printed_is}
@@ -276,38 +275,12 @@ module _ (dating : Dating) (m : MessageValue) (w v : ℕ) (near : IsNear m) (bou
 
 -- ---- what was read
 
--- a process that was read is bounded
-named_bounded : (id : Text) (p : ProcId Text) → NamesProcess id p → IsBoundedProcess p
-named_bounded id (PID i) h = h.1
-named_bounded id (Name t) h = tt
-
-abbrev HasBounded : Names3164 → Type 0
-HasBounded n = IfSome n.procid IsBoundedProcess
-
-program_bounded : (origin : Option Text) (t : Text) (n : Names3164) → NamesProgram origin t n → HasBounded n
-program_bounded origin t n (inl (tag, id, p, f, g, e)) = subst HasBounded (sym e) (named_bounded id p g)
-program_bounded origin t n (inr (none, e)) = subst HasBounded (sym e) tt
-
-host_bounded : (t : Text) (n : Names3164) → NamesHost t n → HasBounded n
-host_bounded t n (inl (tag, id, p, f, g, e)) = subst HasBounded (sym e) (named_bounded id p g)
-host_bounded t n (inr (none, e)) = subst HasBounded (sym e) tt
-
-resolved_bounded : (origin program : Option (Option Text)) (n : Names3164) → Resolves origin program n → HasBounded n
-resolved_bounded None None n e = subst HasBounded (sym e) tt
-resolved_bounded (Some None) None n e = subst HasBounded (sym e) tt
-resolved_bounded (Some (Some h)) None n e = host_bounded h n e
-resolved_bounded None (Some None) n e = subst HasBounded (sym e) tt
-resolved_bounded (Some h) (Some None) n e = subst HasBounded (sym e) tt
-resolved_bounded None (Some (Some t)) n e = program_bounded None t n e
-resolved_bounded (Some h) (Some (Some t)) n e = program_bounded h t n e
-
 -- The printed text of a message that was read is read as one that prints the same, or as a lighter one.
 pub falls : (first second : Dating) (text : Text) (m n : MessageValue) (w v : ℕ) → IsRead3164 BeforeBlank first text m → IsRead3164 BeforeBlank second (printed m) n
     → Weighs BeforeBlank m w → Weighs BeforeBlank n v → Result m n w v
 falls first second text m n w v r s x y =
     let near = read_near BeforeBlank first text m r in
-    let (own, own_resolves, own_means) = r.means in
-    let bounded = subst (λ (u : MessageValue). IfSome u.procid IsBoundedProcess) (sym own_means) (resolved_bounded r.values.1.1.1.0 r.values.1.1.1.1.0 own own_resolves) in
+    let bounded = (read_bounded BeforeBlank first text m r).procid in
     let (other, resolves, means) = s.means in
     let print = printed_is m near.protocol in
     let d : Front (Row (rfc3164_row BeforeBlank second)) (whole m (tail_of m)) [] s.values =

@@ -7,6 +7,7 @@ ghost use Rattle.syslog_pieces.specs.declared.structured_data.listed.DashRule.{D
 ghost use Rattle.syslog_loose.specs.Canonical.{IsBounded, IsCanonical};
 ghost use Rattle.syslog_loose.specs.ListedMisses.{HasNoMiss, IsNear, IsNearlyCanonical, IsOfMonthDate};
 ghost use Rattle.syslog_loose.specs.Message.{MessageValue};
+ghost use Rattle.syslog_loose.specs.OneLine.{IsOneLine};
 ghost use Rattle.syslog_loose.specs.Printed.{printed};
 ghost use Rattle.syslog_loose.specs.ReadBack.{ReadsProtocol};
 ghost use Rattle.syslog_loose.specs.Reading.{dash_rule, IsRead, IsOnlyRead};
@@ -64,4 +65,11 @@ pub fn printed_is_read_back_exactly()
         → IsRead variant dating (printed m) m ↔ IsCanonical dash_rule m }
     ensures same { (variant : Variant) (dating : Dating) (m n : MessageValue) → ReadsProtocol variant m.protocol → IsBounded m
         → IsOnlyRead variant dating (printed m) n → (n ≡ m) ↔ IsCanonical dash_rule m }
+{}
+
+/// What is read of one line is printed as one line: where the text has no line feed, the printed text of its message has
+/// none.
+pub fn message_of_one_line_prints_as_one()
+    ensures { (variant : Variant) (dating : Dating) (text : Text) (m : MessageValue) → IsRead variant dating text m → IsOneLine text
+        → IsOneLine (printed m) }
 {}

@@ -1,0 +1,10 @@
+-- Texts of one line.
+use Rattle.std.specs.Prelude.{ℕ, Bool, not, nat_eq}
+use Rattle.syslog_pieces.specs.Pieces.Class.{Text, Each}
+
+abbrev pub is_no_feed : ℕ → Bool
+is_no_feed c = not (nat_eq c 10)
+
+-- the text has no line feed
+abbrev pub IsOneLine : Text → Type 0
+IsOneLine text = Each is_no_feed text
