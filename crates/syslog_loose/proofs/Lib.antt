@@ -1,3 +1,4 @@
+pub mod BoundLemmas
 pub mod CanonicalLemmas
 pub mod DashLemmas
 pub mod KeptLineLemmas

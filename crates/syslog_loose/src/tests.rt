@@ -1,5 +1,5 @@
 //! What no contract says: worked texts with the messages that they read as, printed texts, and each call once.
-mod caller;
+mod callers;
 mod calls;
 mod canonical;
 mod canonical_3164;

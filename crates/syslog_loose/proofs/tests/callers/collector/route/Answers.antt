@@ -1,6 +1,6 @@
 use Rattle.std.proofs.Common.{inl, inr, refl}
 use Rattle.syslog_loose.proofs.ReadingLemmas.{in_this_year}
-use Rattle.syslog_loose.proofs.tests.caller.route.Goals as goal
+use Rattle.syslog_loose.proofs.tests.callers.collector.route.Goals as goal
 
 pub returns-in-Ok-clause-sends : goal.returns-in-Ok-clause-sends
 returns-in-Ok-clause-sends c =

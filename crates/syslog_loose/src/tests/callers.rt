@@ -1,0 +1,6 @@
+//! Callers as users of this crate write them, each with its contract. `CALLING.md` shows them.
+mod alerts;
+mod collector;
+mod normaliser;
+mod relay;
+mod store;
