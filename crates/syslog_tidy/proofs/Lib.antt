@@ -3,4 +3,6 @@ pub mod LineLemmas
 pub mod AnswerLemmas
 pub mod BlockLemmas
 pub mod WriteLemmas
-pub mod RunLemmas
+pub mod WalkLemmas
+pub mod FilterLemmas
+pub mod ArgumentLemmas

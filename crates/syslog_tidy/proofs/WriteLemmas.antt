@@ -1,12 +1,12 @@
 -- Bytes that are written in several steps.
-use Rattle.std.proofs.Common.{◌≡◌, ℕ, ℤ, Bool, true, subst, ◌-◌, ◌≤◌, List, [], ◌∷◌, ◌++◌, length, length-drop, take, drop, Option, Result, Ok, Err, OnOk, OnErr, sym, ◌∙◌, ap, append_assoc, append-nil, arith, refl}
+use Rattle.std.proofs.Common.{◌≡◌, ℕ, Bool, true, subst, ◌-◌, ◌≤◌, List, [], ◌∷◌, ◌++◌, length, length-drop, take, drop, Option, Result, Ok, Err, OnOk, OnErr, sym, ◌∙◌, ap, append_assoc, append-nil, arith, refl}
 use Rattle.std.proofs.KnownBytes.{Appends-kept, Appends-trans}
 use Rattle.std.proofs.lemmas.List.{take_all, take_at, take-append-drop}
 use Rattle.std.specs.Io.KnownBytes.{Appends, Keeps}
 use Rattle.syslog_tidy.specs.Lines.{IsLines}
-use Rattle.syslog_tidy.specs.Output.{AnswersAll, AnswersBefore, output_of}
+use Rattle.syslog_tidy.specs.Output.{AnswersAll, AnswersBefore, Filter, output_of}
 use Rattle.syslog_tidy.specs.Write.{WritesFirst, WroteBefore, WroteCut}
-use Rattle.syslog_tidy.specs.declared.summary.Summary.{Summary}
+use Rattle.syslog_tidy.specs.declared.summary.Tally.{Tally}
 use Rattle.syslog_tidy.specs.declared.summary.RunFault.{RunFault}
 use Rattle.syslog_tidy.specs.declared.summary.RunFault.TheVariants.{Write}
 
@@ -31,10 +31,10 @@ pub WroteSoFar-front : (old mid new : Option (List ℕ)) (bytes rest : List ℕ)
 WroteSoFar-front old mid new bytes rest so_far kept =
     (length so_far.written, rw (← so_far.whole, take_at so_far.written rest (length so_far.written) refl) (Appends-kept old mid new so_far.written so_far.appended kept))
 
--- the write of the output failed, whether all lines were answered or those before a readable one
-WroteCut-either : {X E : Type 0} (r : Result X E) (year : ℤ) (bytes output : List ℕ) (was is : Summary) (held holds : Option (List ℕ)) → OnOk r (AnswersAll year bytes [] output was is) → OnErr r (AnswersBefore year bytes [] output)
-    → (size : ℕ) × Appends held holds (take size output) → (lines : List (List ℕ)) × IsLines bytes lines × WroteCut year lines held holds
-WroteCut-either (Ok x) year bytes output was is held holds all first wrote = (
+-- the write of the output failed, whether all lines were answered or those before one that has an answer
+WroteCut-either : {X E : Type 0} (r : Result X E) (filter : Filter) (bytes output : List ℕ) (was is : Tally) (held holds : Option (List ℕ)) → OnOk r (AnswersAll filter bytes [] output was is) → OnErr r (AnswersBefore filter bytes [] output)
+    → (size : ℕ) × Appends held holds (take size output) → (lines : List (List ℕ)) × IsLines bytes lines × WroteCut filter lines held holds
+WroteCut-either (Ok x) filter bytes output was is held holds all first wrote = (
   all.lines,
   all.cut,
   record {
@@ -47,7 +47,7 @@ WroteCut-either (Ok x) year bytes output was is held holds all first wrote = (
     written = subst (λ (l : List ℕ). Appends held holds (take wrote.0 l)) all.added wrote.1;
   },
 )
-WroteCut-either (Err e) year bytes output was is held holds all first wrote = (
+WroteCut-either (Err e) filter bytes output was is held holds all first wrote = (
   first.before ++ first.line ∷ first.after,
   first.cut,
   record {
@@ -61,32 +61,31 @@ WroteCut-either (Err e) year bytes output was is held holds all first wrote = (
   },
 )
 
-pub WritesFirst-cut : {X E : Type 0} (r : Result X E) (year y : ℤ) (bytes cleared output : List ℕ) (was is : Summary) (held holds : Option (List ℕ)) (failed : Bool) (fault : RunFault) → y ≡ year → cleared ≡ []
-    → OnOk r (AnswersAll y bytes cleared output was is) → OnErr r (AnswersBefore y bytes cleared output) → (fault ≡ Write) × (failed ≡ true) → (size : ℕ) × Appends held holds (take size output)
-    → WritesFirst year bytes held holds failed fault
-WritesFirst-cut r year y bytes cleared output was is held holds failed fault same empty all first failure wrote =
-    let all_here : OnOk r (AnswersAll y bytes [] output was is) = subst (λ (l : List ℕ). OnOk r (AnswersAll y bytes l output was is)) empty all in
-    let first_here : OnErr r (AnswersBefore y bytes [] output) = subst (λ (l : List ℕ). OnErr r (AnswersBefore y bytes l output)) empty first in
-    let cut = WroteCut-either r y bytes output was is held holds all_here first_here wrote in
-    subst (WritesFirst year bytes held holds failed) (sym failure.0) (failure.1, (cut.0, cut.1, subst (λ (z : ℤ). WroteCut z cut.0 held holds) same cut.2))
+pub WritesFirst-cut : {X E : Type 0} (r : Result X E) (filter : Filter) (bytes cleared output : List ℕ) (was is : Tally) (held holds : Option (List ℕ)) (failed : Bool) (fault : RunFault) → cleared ≡ []
+    → OnOk r (AnswersAll filter bytes cleared output was is) → OnErr r (AnswersBefore filter bytes cleared output) → (fault ≡ Write) × (failed ≡ true) → (size : ℕ) × Appends held holds (take size output)
+    → WritesFirst filter bytes held holds failed fault
+WritesFirst-cut r filter bytes cleared output was is held holds failed fault empty all first failure wrote =
+    let all_here : OnOk r (AnswersAll filter bytes [] output was is) = subst (λ (l : List ℕ). OnOk r (AnswersAll filter bytes l output was is)) empty all in
+    let first_here : OnErr r (AnswersBefore filter bytes [] output) = subst (λ (l : List ℕ). OnErr r (AnswersBefore filter bytes l output)) empty first in
+    let cut = WroteCut-either r filter bytes output was is held holds all_here first_here wrote in
+    subst (WritesFirst filter bytes held holds failed) (sym failure.0) (failure.1, cut)
 
--- the output of the lines before a readable one was written
-pub WroteBefore-all : (year y : ℤ) (bytes old output : List ℕ) (held holds : Option (List ℕ)) → y ≡ year → old ≡ [] → AnswersBefore y bytes old output → Appends held holds output
-    → (lines : List (List ℕ)) × IsLines bytes lines × WroteBefore year lines held holds
-WroteBefore-all year y bytes old output held holds same empty before wrote =
-    let first = subst (λ (z : ℤ). AnswersBefore z bytes old output) same before in (
-      first.before ++ first.line ∷ first.after,
-      first.cut,
-      record {
-        before = first.before;
-        line = first.line;
-        after = first.after;
-        listed = refl;
-        readable = first.readable;
-        wrote = record {
-          answers = first.answers;
-          answered = first.answered;
-          written = subst (λ (o : List ℕ). Appends held holds o) (first.added ∙ ap (λ (o : List ℕ). o ++ output_of first.answers) empty) wrote;
-        };
-      },
-    )
+-- the output of the lines before one that has an answer was written
+pub WroteBefore-all : (filter : Filter) (bytes old output : List ℕ) (held holds : Option (List ℕ)) → old ≡ [] → AnswersBefore filter bytes old output → Appends held holds output
+    → (lines : List (List ℕ)) × IsLines bytes lines × WroteBefore filter lines held holds
+WroteBefore-all filter bytes old output held holds empty first wrote = (
+  first.before ++ first.line ∷ first.after,
+  first.cut,
+  record {
+    before = first.before;
+    line = first.line;
+    after = first.after;
+    listed = refl;
+    wanted = first.wanted;
+    wrote = record {
+      answers = first.answers;
+      answered = first.answered;
+      written = subst (λ (o : List ℕ). Appends held holds o) (first.added ∙ ap (λ (o : List ℕ). o ++ output_of first.answers) empty) wrote;
+    };
+  },
+)

@@ -1,7 +1,7 @@
 -- What a block of input holds.
 use Rattle.std.specs.Prelude.{◌≡◌, ◌≤◌, ℕ, Bool, true, false, List, [], ◌++◌, Option, length, take, drop}
 use Rattle.std.specs.Io.KnownBytes.{Consumes, IsAtEnd}
-use Rattle.syslog_tidy.specs.Run.{block_size}
+use Rattle.syslog_tidy.specs.Size.{block_size}
 use Rattle.syslog_tidy.specs.declared.block.Block.{Block}
 use Rattle.syslog_tidy.specs.declared.summary.RunFault.{RunFault}
 use Rattle.syslog_tidy.specs.declared.summary.RunFault.TheVariants.{Read, Write, Memory}

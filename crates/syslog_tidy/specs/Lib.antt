@@ -1,8 +1,11 @@
 pub mod Lines
 pub mod Search
+pub mod Size
 pub mod Block
+pub mod Count
 pub mod Output
 pub mod Write
-pub mod Run
-pub mod Year
+pub mod Walk
+pub mod Filters
+pub mod Arguments
 pub mod Report

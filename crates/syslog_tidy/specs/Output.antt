@@ -1,27 +1,27 @@
--- What the filter answers to lines, and the bytes that it writes: this project's own choice.
-use Rattle.std.specs.Prelude.{◌≡◌, ◌+◌, ◌-◌, ◌^◌, min, ℕ, ℤ, List, [], ◌∷◌, ◌++◌, Option, Some, None, length, count_by, is_none, IsUtf8, encode_utf8_all}
+-- What a filter answers to lines, and the bytes that it writes: this project's own choice.
+use Rattle.std.specs.Prelude.{◌≡◌, ◌+◌, ℕ, Bool, true, false, List, [], ◌∷◌, ◌++◌, Option, Some, None, count_by, is_none, is_some, IsUtf8, encode_utf8_all}
 use Rattle.std.specs.List.{AllZip, flat_map}
 use Rattle.std.specs.Str.{chars}
-use Rattle.syslog_loose.specs.Message.{MessageValue}
-use Rattle.syslog_loose.specs.Printed.{printed}
-use Rattle.syslog_loose.specs.Reading.{IsRead, IsUnreadable, in_utc}
-use Rattle.syslog_loose.specs.declared.reading.Variant.TheVariants.{Either}
-use Rattle.syslog_tidy.specs.declared.summary.Summary.{Summary}
+use Rattle.syslog_tidy.specs.declared.summary.Tally.{Tally}
+use Rattle.syslog_tidy.specs.Count.{held_count}
 use Rattle.syslog_tidy.specs.Lines.{IsLines}
 
--- the answer to a line in a year: the printed text of the message that it is read as, or none where it is no UTF-8 or has
--- no reading
-abbrev pub IsAnswer : ℤ → List ℕ → Option (List ℕ) → Type 0
-IsAnswer year line (Some text) = IsUtf8 line × ((m : MessageValue) × IsRead Either (in_utc year) (chars line) m × (text ≡ printed m))
-IsAnswer year line None = IsUtf8 line → IsUnreadable Either (in_utc year) (chars line)
+-- what a filter does: which text it answers to the text of a line, if any
+abbrev pub Filter : Type 1
+Filter = List ℕ → Option (List ℕ) → Type 0
 
--- the line is UTF-8, and isn't one that has no reading
-abbrev pub IsReadable : ℤ → List ℕ → Type 0
-IsReadable year line = IsUtf8 line × (¬ (IsUnreadable Either (in_utc year) (chars line)))
+-- the answer to a line: that to its text, or none where it is no UTF-8
+abbrev pub IsAnswer : Filter → List ℕ → Option (List ℕ) → Type 0
+IsAnswer filter line (Some answer) = IsUtf8 line × filter (chars line) (Some answer)
+IsAnswer filter line None = IsUtf8 line → filter (chars line) None
+
+-- the line is UTF-8, and isn't one without an answer
+abbrev pub HasAnswer : Filter → List ℕ → Type 0
+HasAnswer filter line = IsUtf8 line × (¬ (filter (chars line) None))
 
 -- each line's answer, in order
-abbrev pub AreAnswers : ℤ → List (List ℕ) → List (Option (List ℕ)) → Type 0
-AreAnswers year lines answers = AllZip (IsAnswer year) lines answers
+abbrev pub AreAnswers : Filter → List (List ℕ) → List (Option (List ℕ)) → Type 0
+AreAnswers filter lines answers = AllZip (IsAnswer filter) lines answers
 
 -- what is written for an answer: its text and a line feed, or nothing
 abbrev pub answer_bytes : Option (List ℕ) → List ℕ
@@ -32,41 +32,43 @@ answer_bytes None = []
 abbrev pub output_of : List (Option (List ℕ)) → List ℕ
 output_of answers = flat_map answer_bytes answers
 
--- a count, which stays at the last value of its type
-abbrev pub held_count : ℕ → ℕ
-held_count n = min n (2 ^ 64 - 1)
+-- the tally counts this many lines with an answer, and this many without
+abbrev pub HasCounted : Tally → ℕ → ℕ → Type 0
+HasCounted tally answered passed_over = (tally.answered ≡ held_count answered) × (tally.passed_over ≡ held_count passed_over)
 
--- the summary counts this many lines, and this many refused ones
-abbrev pub HasCounted : Summary → ℕ → ℕ → Type 0
-HasCounted summary lines refused = (summary.lines ≡ held_count lines) × (summary.refused ≡ held_count refused)
+-- the tally grew by the answers
+abbrev pub Counts : Tally → Tally → List (Option (List ℕ)) → Type 0
+Counts was is answers = (answered passed_over : ℕ) → HasCounted was answered passed_over
+    → HasCounted is (answered + count_by is_some answers) (passed_over + count_by is_none answers)
 
--- the counts grew by a line for each answer, and by a refused line for each that is none
-abbrev pub Counts : Summary → Summary → List (Option (List ℕ)) → Type 0
-Counts was is answers = (lines refused : ℕ) → HasCounted was lines refused → HasCounted is (lines + length answers) (refused + count_by is_none answers)
+-- the answer to a text was added, or nothing where it has none
+abbrev pub AddsAnswer : Filter → List ℕ → List ℕ → List ℕ → Bool → Type 0
+AddsAnswer filter text old new true = (answer : List ℕ) × filter text (Some answer) × (new ≡ old ++ answer_bytes (Some answer))
+AddsAnswer filter text old new false = filter text None × (new ≡ old)
 
--- one line was answered, and its output added
-pub record AddsAnswer (year : ℤ) (line old new : List ℕ) (was is : Summary) : Type 0 where
+-- one line was answered, its output added, and the line counted
+pub record AnswersLine (filter : Filter) (line old new : List ℕ) (was is : Tally) : Type 0 where
   pub answer : Option (List ℕ)
-  pub answered : IsAnswer year line answer
+  pub answered : IsAnswer filter line answer
   pub added : new ≡ old ++ answer_bytes answer
   pub counted : Counts was is (answer ∷ [])
 
--- all lines of the bytes were answered, and their output added
-pub record AnswersAll (year : ℤ) (bytes old new : List ℕ) (was is : Summary) : Type 0 where
+-- all lines of the bytes were answered, their output added, and the lines counted
+pub record AnswersAll (filter : Filter) (bytes old new : List ℕ) (was is : Tally) : Type 0 where
   pub lines : List (List ℕ)
   pub answers : List (Option (List ℕ))
   pub cut : IsLines bytes lines
-  pub answered : AreAnswers year lines answers
+  pub answered : AreAnswers filter lines answers
   pub added : new ≡ old ++ output_of answers
   pub counted : Counts was is answers
 
--- the lines of the bytes before a readable one were answered, and their output added
-pub record AnswersBefore (year : ℤ) (bytes old new : List ℕ) : Type 0 where
+-- the lines of the bytes before one that has an answer were answered, and their output added
+pub record AnswersBefore (filter : Filter) (bytes old new : List ℕ) : Type 0 where
   pub before : List (List ℕ)
   pub line : List ℕ
   pub after : List (List ℕ)
   pub cut : IsLines bytes (before ++ line ∷ after)
-  pub readable : IsReadable year line
+  pub wanted : HasAnswer filter line
   pub answers : List (Option (List ℕ))
-  pub answered : AreAnswers year before answers
+  pub answered : AreAnswers filter before answers
   pub added : new ≡ old ++ output_of answers

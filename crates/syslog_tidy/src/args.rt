@@ -1,7 +1,7 @@
-//! The program's argument.
-ghost use Rattle.std.specs.Prelude.{◌≡◌, ◌↔◌, IsTrue, MatchOption, pos};
+//! The program's arguments.
+ghost use Rattle.std.specs.Prelude.{◌≡◌, ◌↔◌, Bool, ℤ, IsTrue, MatchOption, map, pos};
 ghost use Rattle.std.specs.Str.Parse.{digits_value};
-ghost use Rattle.syslog_tidy.specs.Year.{IsYear};
+ghost use Rattle.syslog_tidy.specs.Arguments.{AreArguments, IsYear};
 
 use std::env;
 
@@ -21,13 +21,29 @@ fn is_year(text: &str) -> bool
     (1..=4).contains(&text.len()) && text.bytes().all(|byte| byte.is_ascii_digit())
 }
 
-/// The year that the one argument names; none where there is not just one argument, or it names no year.
-pub fn year_argument(rt: &HostRuntime) -> Option<i32> {
+/// Whether the words after the program's name begin with `--changed`, and the year that they name: the one word, or the
+/// word after `--changed`. None for all other words.
+pub fn read_args(args: &[&str]) -> Option<(bool, i32)>
+    ensures { MatchOption result ((is_changed : Bool) (year : ℤ) → ¬ (AreArguments (map (λ arg. arg.now) args.now) is_changed year))
+        (λ x. AreArguments (map (λ arg. arg.now) args.now) x.0 x.1) }
+{
+    match args {
+        [year] => Some((false, read_year(year)?)),
+        [word, year] if *word == "--changed" => Some((true, read_year(year)?)),
+        _ => None,
+    }
+}
+
+/// What `read_args` makes of the program's arguments; none where they can't be had.
+pub fn arguments(rt: &HostRuntime) -> Option<(bool, i32)> {
     let mut args = env::args(rt).ok()?;
     args.next()?;
-    let year = args.next()?;
+    let first = args.next()?;
+    let Some(second) = args.next() else {
+        return read_args(&[first.as_str()]);
+    };
     if args.next().is_some() {
         return None;
     }
-    read_year(year.as_str())
+    read_args(&[first.as_str(), second.as_str()])
 }

@@ -1,7 +1,7 @@
 //! The input, a block at a time.
 ghost use Rattle.std.specs.Prelude.{◌≡◌, ◌≢◌, ◌+◌, ◌-◌, ◌++◌, ◌<◌, ◌≤◌, ℕ, [], length, take, drop, slice_index, vec_len, false, true, IfOk, IfErr, OnOk, OnErr};
 ghost use Rattle.std.specs.Io.KnownBytes.{Consumes, IsAtEnd, Keeps};
-ghost use Rattle.syslog_tidy.specs.Run.{block_size};
+ghost use Rattle.syslog_tidy.specs.Size.{block_size};
 
 use crate::search::past_last_feed;
 use crate::summary::RunFault;

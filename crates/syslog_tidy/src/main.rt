@@ -1,18 +1,22 @@
-//! Writes each syslog line of standard input to standard output in one form.
+//! Writes each syslog line of standard input to standard output in one form, or those that once had another.
 #![tactic(auto)]
 
 mod answer;
 mod args;
 mod block;
+mod changed;
+mod filter;
 mod lines;
 mod report;
 mod run;
 mod search;
 mod summary;
+mod walk;
 mod watched;
 
-use args::year_argument;
-use report::{report, usage};
+use args::arguments;
+use changed::changed;
+use report::{report, report_changed, usage};
 use run::run;
 use std::process::ExitCode;
 use watched::Watched;
@@ -21,11 +25,17 @@ use watched::Watched;
 mod tests;
 
 fn main(rt: HostRuntime) -> ExitCode {
-    let Some(year) = year_argument(&rt) else {
+    let Some((is_changed, year)) = arguments(&rt) else {
         return ExitCode::from(usage(&mut rt.stderr()));
     };
     let mut reader = Watched::new(rt.stdin());
     let mut writer = Watched::new(rt.stdout());
-    let outcome = run(rt.alloc(), &mut reader, &mut writer, year);
-    ExitCode::from(report(&outcome, &mut rt.stderr()))
+    let status = if is_changed {
+        let outcome = changed(rt.alloc(), &mut reader, &mut writer, year);
+        report_changed(&outcome, &mut rt.stderr())
+    } else {
+        let outcome = run(rt.alloc(), &mut reader, &mut writer, year);
+        report(&outcome, &mut rt.stderr())
+    };
+    ExitCode::from(status)
 }

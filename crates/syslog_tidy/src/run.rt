@@ -1,25 +1,26 @@
-//! From a reader to a writer.
-ghost use Rattle.std.specs.Prelude.{◌≡◌, ℕ, false, true, IfOk, IfErr, OnOk, OnErr, take};
-ghost use Rattle.std.specs.Io.KnownBytes.{Appends};
-ghost use Rattle.syslog_tidy.specs.Run.{EndsEarly, FailedAs, FiltersAll};
-ghost use Rattle.syslog_tidy.specs.Write.{WritesAll, WritesFirst};
-ghost use Rattle.syslog_tidy.specs.declared.summary.RunFault.TheVariants.{Write};
+//! The filter that writes each message in one form.
+ghost use Rattle.std.specs.Prelude.{◌≡◌, ℕ, List, Some, None, false, Err, IfOk, IfErr, MatchResult, encode_utf8_all, string_bytes};
+ghost use Rattle.std.specs.Str.{chars};
+ghost use Rattle.syslog_loose.specs.declared.fault.ParseFault.TheVariants.{Invalid};
+ghost use Rattle.syslog_tidy.specs.Filters.{IsTidied, TidiesAll};
+ghost use Rattle.syslog_tidy.specs.Walk.{EndsEarly, FailedAs};
 
-use crate::answer::answer_lines;
-use crate::block::Block;
+use crate::filter::{LineFilter, push_line};
 use crate::summary::{RunFault, Summary};
+use crate::walk::walk;
 use crate::watched::Watched;
-use std::alloc::Global;
+use std::alloc::{AllocError, Global};
 use std::io::{Read, Write};
+use syslog_loose::{IncompleteDate, ParseFault, TimeZone, Variant, normalise};
 
 /// Reads lines to the end of the input, and writes the printed text of each that has a reading, in the given year.
 ///
 /// A line that has none, or is no UTF-8, gives nothing and is counted as refused. The output of each block of input is
 /// written before more is read, and the writer is flushed at the end. Nothing is tried again. After `RunFault::Read` the
-/// output of each complete line that was read was written. After `RunFault::Memory` so it was, and nothing was read yet or
-/// the line that was cut takes a whole block; or memory was refused for a line that has a reading, and the output of each
-/// line before it was written. After `RunFault::Write` a beginning of the output was written. It takes memory for a block
-/// of input, its output, and the longest line.
+/// output of each complete line that was read was written. After `RunFault::Memory` so it was, where the memory was
+/// wanted before anything was read or for more of a line that takes a whole block; or it was refused for a line that has a
+/// reading, and the output of each line before it was written. After `RunFault::Write` a beginning of the output was
+/// written. It takes memory for a block of input, its output, and the longest line.
 pub fn run<R: Read, W: Write>(
     alloc: Global,
     reader: &mut Watched<R>,
@@ -28,70 +29,56 @@ pub fn run<R: Read, W: Write>(
 ) -> Result<Summary, RunFault>
     requires reader { reader.old.failed ≡ false }
     requires writer { writer.old.failed ≡ false }
-    ensures ok { IfOk result (λ summary. FiltersAll year (R.remaining reader.old.inner) (R.remaining reader.new.inner)
+    ensures ok { IfOk result (λ summary. TidiesAll year (R.remaining reader.old.inner) (R.remaining reader.new.inner)
         (W.contents writer.old.inner) (W.contents writer.new.inner) summary) }
-    ensures err { IfErr result (λ fault. EndsEarly year (R.remaining reader.old.inner) (R.remaining reader.new.inner)
+    ensures err { IfErr result (λ fault. EndsEarly (IsTidied year) (R.remaining reader.old.inner) (R.remaining reader.new.inner)
         (W.contents writer.old.inner) (W.contents writer.new.inner) fault) }
     ensures failed { FailedAs result reader.new.failed writer.new.failed }
 {
-    let mut summary = Summary {
-        lines: 0,
-        refused: 0,
-    };
-    let mut output = Vec::new(alloc);
-    let mut block = Block::new(alloc)?;
-    while block.fill(reader)? {
-        write_answers(
-            alloc,
-            block.complete(),
-            year,
-            &mut output,
-            writer,
-            &mut summary,
-        )?;
-    }
-    write_answers(alloc, block.cut(), year, &mut output, writer, &mut summary)?;
-    if writer.flush().is_err() {
-        return Err(RunFault::Write);
-    }
-    Ok(summary)
+    let tally = walk(alloc, &Tidy { year }, reader, writer)?;
+    Ok(Summary {
+        lines: tally.lines(),
+        refused: tally.passed_over,
+    })
 }
 
-// Writes the output of the lines, and counts them. Where memory is refused, that of the lines before is written.
-fn write_answers<W: Write>(
-    alloc: Global,
-    lines: &[u8],
+/// Writes the printed text of each line that has a reading in this year.
+#[derive(Drop)]
+struct Tidy {
     year: i32,
-    output: &mut Vec<u8>,
-    writer: &mut Watched<W>,
-    summary: &mut Summary,
-) -> Result<(), RunFault>
-    requires { writer.old.failed ≡ false }
-    ensures ok { OnOk result (WritesAll year lines.now (W.contents writer.old.inner) (W.contents writer.new.inner) summary.old summary.new) }
-    ensures well { OnOk result (writer.new.failed ≡ false) }
-    ensures err { IfErr result (WritesFirst year lines.now (W.contents writer.old.inner) (W.contents writer.new.inner) writer.new.failed) }
-{
-    output.clear();
-    let answered = answer_lines(alloc, lines, year, output, summary);
-    write_whole(writer, output)?;
-    answered?;
-    Ok(())
 }
 
-// Writes all of the bytes, or a beginning of them.
-fn write_whole<W: Write>(writer: &mut Watched<W>, bytes: &[u8]) -> Result<(), RunFault>
-    requires { writer.old.failed ≡ false }
-    ensures ok { OnOk result (Appends (W.contents writer.old.inner) (W.contents writer.new.inner) bytes.now) }
-    ensures well { OnOk result (writer.new.failed ≡ false) }
-    ensures fault { IfErr result (λ fault. (fault ≡ Write) × (writer.new.failed ≡ true)) }
-    ensures err { OnErr result ((size : ℕ) × Appends (W.contents writer.old.inner) (W.contents writer.new.inner) (take size bytes.now)) }
-{
-    let mut rest = bytes;
-    while !rest.is_empty() {
-        match writer.write(rest) {
-            Ok(count) => rest = &rest[count..],
-            Err(_) => return Err(RunFault::Write),
+impl LineFilter for Tidy {
+    ghost answers = { λ tidy. IsTidied tidy.year };
+
+    fn answer(&self, alloc: Global, line: &str, output: &mut Vec<u8>) -> Result<bool, AllocError> {
+        match printed_line(alloc, line, self.year) {
+            Ok(text) => {
+                push_line(output, text.as_str())?;
+                Ok(true)
+            }
+            Err(ParseFault::Invalid) => Ok(false),
+            Err(ParseFault::Memory) => Err(AllocError),
         }
     }
-    Ok(())
+}
+
+// The printed text of a line, in a year.
+fn printed_line(alloc: Global, line: &str, year: i32) -> Result<String, ParseFault>
+    ensures reads { MatchResult result
+        (λ text. (answer : List ℕ) × IsTidied year (chars line.now) (Some answer) × (string_bytes text ≡ encode_utf8_all answer))
+        (λ fault. fault ≡ Invalid → IsTidied year (chars line.now) None) }
+    ensures refusal { IsTidied year (chars line.now) None → result ≡ Err Invalid }
+{
+    let answer_year = move |_: IncompleteDate| -> i32
+        ensures { result ≡ year }
+    { year };
+    normalise(
+        alloc,
+        line,
+        answer_year,
+        None,
+        Variant::Either,
+        &TimeZone::UTC,
+    )
 }

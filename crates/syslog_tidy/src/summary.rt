@@ -1,4 +1,4 @@
-//! How a run ends.
+//! What the program's two filters count, and how they end.
 use std::alloc::AllocError;
 use thiserror::Error;
 
@@ -11,7 +11,47 @@ pub struct Summary {
     pub refused: u64,
 }
 
-/// Why a run ended before the end of its input. The number is the discriminant.
+/// How many lines `changed` read, and how many of them it wrote. A count at its last value stays there.
+#[derive(Clone, Copy, Debug, PartialEq, Eq)]
+pub struct Changed {
+    /// The number of lines.
+    pub lines: u64,
+    /// The number of lines that are read differently under the two rules of the dash.
+    pub changed: u64,
+}
+
+/// How many lines a filter answered, and how many it passed over. A count at its last value stays there.
+#[derive(Clone, Copy)]
+pub struct Tally {
+    /// The number of lines that have an answer.
+    pub answered: u64,
+    /// The number of lines that have none.
+    pub passed_over: u64,
+}
+
+impl Tally {
+    ghost use Rattle.std.specs.Prelude.{◌≡◌, ◌+◌, ◌-◌, if◌then◌else◌};
+    ghost use Rattle.syslog_tidy.specs.Count.{held_count};
+
+    /// Counts a line.
+    #[inline]
+    pub fn count(&mut self, is_answered: bool)
+        ensures answered { self.new.answered ≡ held_count (self.old.answered + (if is_answered then 1 else 0)) }
+        ensures passed_over { self.new.passed_over ≡ held_count (self.old.passed_over + (if is_answered then 0 else 1)) }
+    {
+        self.answered = self.answered.saturating_add(u64::from(is_answered));
+        self.passed_over = self.passed_over.saturating_add(u64::from(!is_answered));
+    }
+
+    /// How many lines it counted.
+    pub fn lines(&self) -> u64
+        ensures { result ≡ held_count (self.now.answered + self.now.passed_over) }
+    {
+        self.answered.saturating_add(self.passed_over)
+    }
+}
+
+/// Why a filter ended before the end of its input. The number is the discriminant.
 #[derive(Clone, Copy, Debug, PartialEq, Eq, Error)]
 pub enum RunFault {
     /// The reader answered an error.

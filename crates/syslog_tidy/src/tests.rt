@@ -1,9 +1,10 @@
 //! What no clause says: worked lines, printed texts, and readers and writers that give little or fail.
 ghost use Rattle.std.specs.Prelude.{◌≡◌, ◌≤◌, false};
 
+mod changed;
 mod sizes;
 
-use crate::args::read_year;
+use crate::args::{read_args, read_year};
 use crate::report::{report, usage};
 use crate::run::run;
 use crate::summary::{RunFault, Summary};
@@ -347,6 +348,19 @@ fn years(rt: HostRuntime) {
     }
 }
 
+#[test]
+fn arguments(rt: HostRuntime) {
+    assert!(rt; read_args(&["2019"]) == Some((false, 2019)));
+    assert!(rt; read_args(&["--changed", "2019"]) == Some((true, 2019)));
+    assert!(rt; read_args(&[]).is_none());
+    assert!(rt; read_args(&["--changed"]).is_none());
+    assert!(rt; read_args(&["--changed", "x"]).is_none());
+    assert!(rt; read_args(&["--Changed", "2019"]).is_none());
+    assert!(rt; read_args(&["2019", "--changed"]).is_none());
+    assert!(rt; read_args(&["2019", "2019"]).is_none());
+    assert!(rt; read_args(&["--changed", "2019", "2019"]).is_none());
+}
+
 /// Reports the outcome, and expects this status and this text.
 fn expect_report(rt: &impl Abort, outcome: &Result<Summary, RunFault>, status: u8, text: &str) {
     let mut errors = Taker::new(1024, NEVER, Wrong::Fails);
@@ -379,7 +393,7 @@ fn reports(rt: HostRuntime) {
     expect_report(&rt, &Err(RunFault::Memory), 2, "out of memory\n");
     let mut errors = Taker::new(1024, NEVER, Wrong::Fails);
     assert!(rt; usage(&mut errors) == 2);
-    assert!(rt; errors.written() == "usage: syslog_tidy YEAR\n".as_bytes());
+    assert!(rt; errors.written() == "usage: syslog_tidy [--changed] YEAR\n".as_bytes());
     let mut closed = Taker::new(1024, 1, Wrong::Fails);
     assert!(rt; report(&Err(RunFault::Read), &mut closed) == 2);
 }

@@ -3,7 +3,7 @@ use Rattle.syslog_tidy.proofs.AnswerLemmas.{AnswersSoFar}
 use Rattle.syslog_tidy.proofs.answer.answer_byte_lines.Given as goal
 
 abbrev pub invariant-loop-rest : goal.invariant-loop-rest
-invariant-loop-rest l = AnswersSoFar l.fn.year l.lines l.rest l.fn.output.items l.output.items l.fn.summary l.summary
+invariant-loop-rest g l = AnswersSoFar (g.F.LineFilter.answers l.filter) l.lines l.rest l.fn.output.items l.output.items l.fn.tally l.tally
 
 abbrev pub decreases-loop-rest : goal.decreases-loop-rest
-decreases-loop-rest l = length l.rest
+decreases-loop-rest g l = length l.rest

@@ -4,7 +4,7 @@ use Rattle.std.specs.Str.Parse.{digits_value}
 use Rattle.std.proofs.lemmas.Str.Parse.{digits_value_short, numerals_by_value, parse_signed_digits, tells_by_index, IsNumeralModel}
 use Rattle.std.specs.Int.{IsInRange}
 use Rattle.std.specs.Result.{OkIff}
-use Rattle.syslog_tidy.specs.Year.{IsYear}
+use Rattle.syslog_tidy.specs.Arguments.{IsYear}
 use Rattle.syslog_tidy.proofs.args.read_year.Goals as goal
 
 year_or_none : {E : Type 0} (text : List ℕ) (r : Result ℤ E) → IsYear text → OkIff r ((0 < length text) × (digits_value 10 text < 2147483648)) (pos (digits_value 10 text)) → digits_value 10 text < 10000

@@ -1,6 +1,6 @@
 use Rattle.std.proofs.Common.{◌≡◌, length, false}
 use Rattle.syslog_tidy.proofs.WriteLemmas.{WroteSoFar}
-use Rattle.syslog_tidy.proofs.run.write_whole.Given as goal
+use Rattle.syslog_tidy.proofs.walk.write_whole.Given as goal
 
 abbrev pub invariant-loop-rest : goal.invariant-loop-rest
 invariant-loop-rest g l = record {

@@ -1,6 +1,6 @@
 use Rattle.std.proofs.Common.{◌∙◌}
 use Rattle.syslog_tidy.proofs.WriteLemmas.{WroteSoFar-more, WroteSoFar-front}
-use Rattle.syslog_tidy.proofs.run.write_whole.Goals as goal
+use Rattle.syslog_tidy.proofs.walk.write_whole.Goals as goal
 
 pub loop-rest-preserved : goal.loop-rest-preserved
 loop-rest-preserved g c = record {

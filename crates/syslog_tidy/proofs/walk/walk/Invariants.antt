@@ -1,11 +1,11 @@
 use Rattle.std.proofs.Common.{◌≡◌, ◌-◌, ◌^◌, false}
 use Rattle.syslog_tidy.specs.Block.{cut_bytes}
-use Rattle.syslog_tidy.proofs.RunLemmas.{RunSoFar}
-use Rattle.syslog_tidy.proofs.run.run.Given as goal
+use Rattle.syslog_tidy.proofs.WalkLemmas.{WalkedSoFar}
+use Rattle.syslog_tidy.proofs.walk.walk.Given as goal
 
 abbrev pub invariant-loop-block : goal.invariant-loop-block
 invariant-loop-block g l = record {
-  so_far : RunSoFar l.fn.year (g.R.Read.remaining l.fn.reader.inner) (g.R.Read.remaining l.reader.inner) (g.W.Write.contents l.fn.writer.inner) (g.W.Write.contents l.writer.inner) (cut_bytes l.block) l.summary;
+  so_far : WalkedSoFar (g.F.LineFilter.answers l.filter) (g.R.Read.remaining l.fn.reader.inner) (g.R.Read.remaining l.reader.inner) (g.W.Write.contents l.fn.writer.inner) (g.W.Write.contents l.writer.inner) (cut_bytes l.block) l.tally;
   reader_well : l.reader.failed ≡ false;
   writer_well : l.writer.failed ≡ false;
 }

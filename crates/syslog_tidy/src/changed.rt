@@ -1,0 +1,78 @@
+//! The filter that writes the lines that are read differently under the two rules of the dash.
+ghost use Rattle.std.specs.Prelude.{◌≡◌, ◌↔◌, false, IsTrue, IfOk, IfErr};
+ghost use Rattle.std.specs.Result.{IsOkAnd};
+ghost use Rattle.std.specs.Str.{chars};
+ghost use Rattle.syslog_loose.specs.Dash.{ReadsDifferently};
+ghost use Rattle.syslog_loose.specs.Reading.{in_utc};
+ghost use Rattle.syslog_loose.specs.declared.reading.Variant.TheVariants.{Either};
+ghost use Rattle.syslog_tidy.specs.Filters.{FindsAll, IsChanged};
+ghost use Rattle.syslog_tidy.specs.Walk.{EndsEarly, FailedAs};
+
+use crate::filter::{LineFilter, push_line};
+use crate::summary::{Changed, RunFault};
+use crate::walk::walk;
+use crate::watched::Watched;
+use std::alloc::{AllocError, Global};
+use std::io::{Read, Write};
+use syslog_loose::{IncompleteDate, TimeZone, Variant, reads_differently};
+
+/// Reads lines to the end of the input, and writes, as it came, each that is read differently under the two rules of the
+/// dash, in the given year: each line that normalising once changed otherwise than it would now.
+///
+/// All other lines, and those that are no UTF-8, give nothing. Blocks, faults, the flush, memory and what was written
+/// after a fault are as for `run`.
+pub fn changed<R: Read, W: Write>(
+    alloc: Global,
+    reader: &mut Watched<R>,
+    writer: &mut Watched<W>,
+    year: i32,
+) -> Result<Changed, RunFault>
+    requires reader { reader.old.failed ≡ false }
+    requires writer { writer.old.failed ≡ false }
+    ensures ok { IfOk result (λ counts. FindsAll year (R.remaining reader.old.inner) (R.remaining reader.new.inner)
+        (W.contents writer.old.inner) (W.contents writer.new.inner) counts) }
+    ensures err { IfErr result (λ fault. EndsEarly (IsChanged year) (R.remaining reader.old.inner) (R.remaining reader.new.inner)
+        (W.contents writer.old.inner) (W.contents writer.new.inner) fault) }
+    ensures failed { FailedAs result reader.new.failed writer.new.failed }
+{
+    let tally = walk(alloc, &Changes { year }, reader, writer)?;
+    Ok(Changed {
+        lines: tally.lines(),
+        changed: tally.answered,
+    })
+}
+
+/// Writes each line that is read differently in this year, as it came.
+#[derive(Drop)]
+struct Changes {
+    year: i32,
+}
+
+impl LineFilter for Changes {
+    ghost answers = { λ changes. IsChanged changes.year };
+
+    fn answer(&self, alloc: Global, line: &str, output: &mut Vec<u8>) -> Result<bool, AllocError> {
+        let is_changed = is_line_changed(alloc, line, self.year)?;
+        if is_changed {
+            push_line(output, line)?;
+        }
+        Ok(is_changed)
+    }
+}
+
+// Whether the line is read differently in a year. It is never refused.
+fn is_line_changed(alloc: Global, line: &str, year: i32) -> Result<bool, AllocError>
+    ensures { IsOkAnd result (λ differs. IsTrue differs ↔ ReadsDifferently Either (in_utc year) (chars line.now)) }
+{
+    let answer_year = move |_: IncompleteDate| -> i32
+        ensures { result ≡ year }
+    { year };
+    reads_differently(
+        alloc,
+        line,
+        answer_year,
+        None,
+        Variant::Either,
+        &TimeZone::UTC,
+    )
+}

@@ -1,0 +1,35 @@
+//! What a filter is: what it writes for each line.
+ghost use Rattle.std.specs.Prelude.{◌≡◌, ◌++◌, ◌∷◌, [], List, ℕ, Option, None, IfOk, OnOk, OnErr};
+ghost use Rattle.std.specs.Str.{chars};
+ghost use Rattle.syslog_tidy.specs.Output.{AddsAnswer};
+
+use std::alloc::{AllocError, Global};
+
+/// What is written for each line of the input that is UTF-8. The others give nothing.
+pub trait LineFilter {
+    // the answer to a line's text: the text that is written for it, if any
+    ghost answers: { Self → List ℕ → Option (List ℕ) → Type 0 };
+
+    /// Adds the answer to a line and a line feed to `output`, or nothing where it has none, and tells whether it has one.
+    ///
+    /// Where memory is refused nothing is added, and the line is one that has an answer.
+    fn answer(&self, alloc: Global, line: &str, output: &mut Vec<u8>) -> Result<bool, AllocError>
+        ensures ok { IfOk result (λ is_answered. AddsAnswer (answers self.now) (chars line.now) output.old.items output.new.items is_answered) }
+        ensures err { OnErr result (output.new.items ≡ output.old.items) }
+        ensures refusal { OnErr result (¬ (answers self.now (chars line.now) None)) };
+}
+
+/// Adds a text and a line feed, or nothing where memory is refused.
+#[inline]
+pub fn push_line(output: &mut Vec<u8>, text: &str) -> Result<(), AllocError>
+    ensures ok { OnOk result (output.new.items ≡ output.old.items ++ (text.now ++ 10 ∷ [])) }
+    ensures err { OnErr result (output.new.items ≡ output.old.items) }
+{
+    let before = output.len();
+    output.extend_from_slice(text.as_bytes())?;
+    if output.push(b'\n').is_err() {
+        output.truncate(before);
+        return Err(AllocError);
+    }
+    Ok(())
+}
