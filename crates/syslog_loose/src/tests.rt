@@ -14,6 +14,8 @@ mod hostile;
 mod lists;
 mod printed;
 mod refusals;
+mod refusals_calls;
+mod refusals_copies;
 mod refusals_lists;
 mod rfc3164;
 mod rfc3164_calls;

@@ -1,19 +1,80 @@
-//! Refused memory. `rt try --test --fail-alloc N` refuses the Nth request of each test, and the script
-//! `tests/by_hand/refused_in_turn` counts N upwards.
+//! Refused memory: `tests/calls_refused`, in the gate, refuses each request of these tests in turn.
 //!
-//! Each test asks for no memory but by the calls that it is about. Those named `answers_..` and `asks_..` pass for each
-//! N; the one named `sees_no_refusal` passes once N is past all requests, and so ends the count.
+//! Each test asks for no memory but by the calls that it is about. Those named `answers_..` pass whichever request is
+//! refused, those named `asks_..` make none, and those named `sees_no_refusal..` fail at each that is refused.
 use super::expected::{check_elements, read};
-use crate::{IncompleteDate, ParseFault, Variant, normalise};
+use crate::{IncompleteDate, Message, ParseFault, Variant, normalise};
 use jiff::tz::TimeZone;
 use std::alloc::Global;
+use std::fmt;
+use std::fmt::Write;
 use std::process::Abort;
 
-/// Texts with what each normalises to.
-const NORMALISED: [(&str, &str); 2] = [
+/// Texts with what each normalises to: plain and with elements, some of them broken, of both protocols.
+const NORMALISED: [(&str, &str); 7] = [
     ("<200>1 - - - - - -", "<40>1 - - - - - - "),
     ("1 - h a +5 m - x", "<47>1 - h a 5 m - x"),
+    (
+        "<34>1 2003-10-11T22:14:15.003Z mymachine.example.com su - ID47 - message",
+        "<34>1 2003-10-11T22:14:15.003+00:00 mymachine.example.com su - ID47 - message",
+    ),
+    (
+        "<13>1 2019-02-13T19:48:34+00:00 74794bfb6795 root 8449 - [meta sequenceId=\"1\" sysUpTime=\"37\" language=\"EN\"][origin ip=\"192.168.0.1\" software=\"test\"] i am foobar",
+        "<13>1 2019-02-13T19:48:34+00:00 74794bfb6795 root 8449 - [meta sequenceId=\"1\" sysUpTime=\"37\" language=\"EN\"][origin ip=\"192.168.0.1\" software=\"test\"] i am foobar",
+    ),
+    (
+        "1 - - - - - [a b=\"x]y\"][c][d e=][f",
+        "<47>1 - - - - - [a b=\"x]y\"][c] [f",
+    ),
+    (
+        "Oct 11 22:14:15 h a: m",
+        "<47> 2019-10-11T22:14:15+00:00 h a: m",
+    ),
+    (
+        "- h a: [a b=\"c\"][d e=\"f\"][g",
+        "<47> - h a: [a b=\"c\"][d e=\"f\"] [g",
+    ),
 ];
+
+/// Compares what is written with a text, and takes no memory.
+#[derive(Drop)]
+struct Comparison<'a> {
+    rest: &'a str,
+    differs: bool,
+}
+
+impl fmt::Write for Comparison<'_> {
+    fn write_str(&mut self, text: &str) -> fmt::Result {
+        match self.rest.strip_prefix(text) {
+            Some(rest) => self.rest = rest,
+            None => self.differs = true,
+        }
+        Ok(())
+    }
+}
+
+/// Whether it prints as this text.
+pub(super) fn prints<D: fmt::Display>(it: &D, want: &str) -> bool {
+    let mut comparison = Comparison {
+        rest: want,
+        differs: false,
+    };
+    let written = write!(comparison, "{it}");
+    written.is_ok() && !comparison.differs && comparison.rest.is_empty()
+}
+
+/// The answer is a message that prints so.
+pub(super) fn check_reading(
+    rt: &impl Abort,
+    answer: Result<Message<&str>, ParseFault>,
+    text: &str,
+    want: &str,
+) {
+    match answer {
+        Ok(message) => assert!(rt; prints(&message, want), "{message} in place of {want}"),
+        Err(fault) => assert!(rt; false, "{fault} in place of a message in {text}"),
+    }
+}
 
 fn normalised(alloc: Global, text: &str) -> Result<String, ParseFault> {
     let utc = TimeZone::UTC;

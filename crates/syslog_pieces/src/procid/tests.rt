@@ -1,3 +1,5 @@
+mod refusals;
+
 use super::{ProcId, process_word};
 use crate::as_str::AsStr;
 use std::alloc::{AllocError, Global};

@@ -2,6 +2,8 @@
 mod copies;
 mod equality;
 mod listed;
+mod refusals;
+mod refusals_copies;
 
 use super::{StructuredElement, forgiving_list, read_element};
 use std::alloc::{AllocError, Global};
