@@ -25,6 +25,7 @@ use Rattle.syslog_loose.specs.declared.reading.Variant.TheVariants.{Either, RFC3
 use Rattle.syslog_loose.proofs.Rfc3164Lemmas.Exact.{rfc3164_exact}
 use Rattle.syslog_loose.proofs.Rfc3164Lemmas.Near.{read_near, read_nearly, stamp_read}
 use Rattle.syslog_loose.proofs.Rfc3164Lemmas.Printed.{printed_is, printed_apart}
+use Rattle.syslog_loose.proofs.Rfc3164Lemmas.Again as loosely
 use Rattle.syslog_loose.proofs.Rfc5424Lemmas.ReadBack as rfc5424
 
 no_protocol : (version : ℕ) → protocol.RFC3164 ≡ protocol.RFC5424 version → ⊥
@@ -100,9 +101,12 @@ strictly_read RFC3164 dating version m n text e h r = absurd (subst (λ (p : Pro
 -- a kept message's printed text is read as one that prints the same
 kept_again : (variant : Variant) (dating : Dating) (m : MessageValue) → IsKept m → ReadsProtocol variant m.protocol → (n : MessageValue) × IsRead variant dating (printed m) n × (printed n ≡ printed m)
 kept_again variant dating m (inl (b, c)) h = (m, (printed_exact dating m b variant h).1 c, refl)
-kept_again variant dating m (inr (text, r)) h =
+kept_again variant dating m (inr (inl (text, r))) h =
     let (s, e) = rfc5424.read_again text m r in
     (rfc5424.completed m, strictly_read variant dating r.values.1.0 m (rfc5424.completed m) (printed m) (ap (λ (x : MessageValue). x.protocol) r.means) h s, e)
+kept_again variant dating m (inr (inr (text, own, r, none))) h =
+    let (canonical, bounded, same) = loosely.read_again dash_rule own text m r none in
+    (rfc5424.completed m, subst (λ (x : Text). IsRead variant dating x (rfc5424.completed m)) same ((printed_exact dating (rfc5424.completed m) bounded variant h).1 canonical), same)
 
 pub again : (variant : Variant) (dating : Dating) (bytes : List ℕ) → IsUtf8 bytes → (r : Result (String Global) ParseFault)
     → MatchResult r (λ text. (m : MessageValue) × IsOnlyRead variant dating (chars bytes) m × (string_bytes text ≡ encode_utf8_all (printed m)))

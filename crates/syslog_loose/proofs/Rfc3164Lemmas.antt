@@ -1,4 +1,5 @@
 -- Texts of RFC 3164: what the fields of names mean together is one thing, a text has one division, and none of RFC 5424.
+pub mod Again
 pub mod Apart
 pub mod Bounded
 pub mod Exact

@@ -7,10 +7,11 @@ use Rattle.syslog_pieces.specs.Pieces.View.{shown}
 use Rattle.syslog_pieces.specs.Timestamp.Plain.{IsPlainStamp}
 use Rattle.syslog_pieces.specs.Timestamp.Zone.{Dating}
 use Rattle.syslog_loose.specs.Canonical.{IsBounded, IsCanonical}
-use Rattle.syslog_loose.specs.ListedMisses.{IsNearlyCanonical, IsOfMonthDate}
+use Rattle.syslog_loose.specs.ListedMisses.{HasNoMiss, IsNearlyCanonical, IsOfMonthDate}
 use Rattle.syslog_loose.specs.Message.{MessageValue, message_value}
 use Rattle.syslog_loose.specs.Printed.{printed}
 use Rattle.syslog_loose.specs.Reading.{dash_rule}
+use Rattle.syslog_loose.specs.Rfc3164.{IsRead3164}
 use Rattle.syslog_loose.specs.Rfc5424.{IsRead5424}
 use Rattle.syslog_loose.specs.declared.fault.ParseFault.{ParseFault}
 use Rattle.syslog_loose.specs.declared.fault.ParseFault.TheVariants.{Memory}
@@ -40,9 +41,11 @@ abbrev pub FieldsAsRead : Protocol → Dating → Text → MessageValue → Type
 FieldsAsRead (protocol.RFC5424 version) dating text m = IsSome m.facility → IsCanonical dash_rule m
 FieldsAsRead protocol.RFC3164 dating text m = (IsSome m.facility → IsNearlyCanonical m) × IfSome m.timestamp (λ s. IsPlainStamp s ⊎ IsOfMonthDate dating text s)
 
--- the text is printed of a message that normalising keeps: one that meets the condition, or that was read as RFC 5424
+-- The text is printed of a message that normalising keeps: one that meets the condition, or one that was read, with a
+-- facility or without: as RFC 5424, or as RFC 3164 and then with none of the listed misses.
 abbrev pub IsKept : MessageValue → Type 0
 IsKept m = (IsBounded m × IsCanonical dash_rule m) ⊎ ((text : Text) × IsRead5424 text m)
+    ⊎ ((text : Text) × (dating : Dating) × IsRead3164 dash_rule dating text m × HasNoMiss dash_rule m)
 
 -- Where memory suffices, the printed text of such a message is answered again.
 abbrev pub AnswersAgain : Variant → Text → List ℕ → Result (String Global) ParseFault → Type 0

@@ -359,7 +359,7 @@ read_canonical rule text m r there =
 -- ---- a printed message that is read back as itself has a facility
 
 -- what stands in print for an absent facility and severity
-priority_same : (f : Option SyslogFacility) (s : Option SyslogSeverity)
+pub priority_same : (f : Option SyslogFacility) (s : Option SyslogSeverity)
     → composed (unwrap_or f LOG_SYSLOG) (unwrap_or s SEV_DEBUG) ≡ option_map_or facility_number f 5 * 8 + option_map_or severity_number s 7
 priority_same None None = refl
 priority_same None (Some s) = refl
