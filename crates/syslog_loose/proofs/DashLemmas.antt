@@ -1,5 +1,6 @@
--- Which texts are read differently under the two rules of the dash, and that the condition only grows by the new one.
+-- Which texts are read differently since the rule of the dash changed, and that the condition only grew.
 use Rattle.std.proofs.Common.{◌≡◌, ◌↔◌, ◌⊎◌, inl, inr, ℕ, ℤ, Bool, true, false, not, MatchBool, IsTrue, List, [], ◌∷◌, ◌++◌, length, Option, Some, None, refl, sym, ap, subst, ◌∙◌, arith}
+use Rattle.std.proofs.lemmas.Bool.Decides.{eqb_tells}
 use Rattle.syslog_pieces.specs.Pieces.Class.{Text, Class, Values, Front, NoFront, Row, Ends, run, rest, exactly, optional, spaced}
 use Rattle.syslog_pieces.specs.Pri.{priority}
 use Rattle.syslog_pieces.specs.StructuredData.Element.{ElementValue}
@@ -9,7 +10,7 @@ use Rattle.std.specs.Borrow.{Bor}
 use Rattle.jiff.specs.declared.tz.timezone.TimeZone.{TimeZone}
 use Rattle.syslog_pieces.specs.Timestamp.Zone.{Dating, dating_of}
 use Rattle.syslog_pieces.specs.declared.timestamp.month_date.MonthDate.{MonthDate}
-use Rattle.syslog_loose.specs.Reading.{IncompleteDate, AsksYear, IsYearAnswered, InYear}
+use Rattle.syslog_loose.specs.Reading.{IsReadUnder, IsRead, IsUnreadable, IncompleteDate, AsksYear, IsYearAnswered, InYear}
 use Rattle.syslog_loose.proofs.Rfc3164Lemmas.Apart.{not_both}
 use Rattle.syslog_loose.proofs.Rfc3164Lemmas.Stamped.{division_is_stamped}
 use Rattle.syslog_loose.proofs.Rfc3164Lemmas.Years.{other_read}
@@ -25,7 +26,7 @@ use Rattle.syslog_loose.specs.declared.message.Protocol.TheVariants as protocol
 use Rattle.syslog_loose.specs.declared.reading.Variant.{Variant}
 use Rattle.syslog_loose.specs.declared.reading.Variant.TheVariants.{Either, RFC3164, RFC5424}
 use Rattle.syslog_loose.specs.Canonical.{IsPlainFor, IsCanonical}
-use Rattle.syslog_loose.specs.Dash.{IsReadUnder, ReadsDifferently, before_list, BeginsLoose, ReachesList, DropsDash3164, DropsDash}
+use Rattle.syslog_loose.specs.Dash.{ReadsDifferently, before_list, BeginsLoose, DropsDash3164, DropsDash, WasUnreadable}
 use Rattle.syslog_loose.specs.Message.{MessageValue}
 use Rattle.syslog_loose.specs.Rfc3164.{Names3164, Resolves, stamped_row, rfc3164_row, Means3164, IsRead3164}
 use Rattle.syslog_loose.proofs.Rfc3164Lemmas.Rows.{from_gap, from_list}
@@ -161,12 +162,12 @@ drops_differ dating text vs n c q f means b =
     let m = loose.told BeforeAnything dating all n in
     let k = loose.told BeforeBlank dating new n in
     record {
-      before_anything = m;
-      before_blank = k;
-      read_before_anything = row_read BeforeAnything dating text all m (n, means, refl)
+      before = m;
+      now = k;
+      was_read = row_read BeforeAnything dating text all m (n, means, refl)
           (rows_join (before_list dating) (from_list BeforeAnything) f
           (row_cons (optional (listed BeforeAnything)) from_gap (optional_some (listed BeforeAnything) (dash_listed BeforeAnything (45 ∷ (c ∷ q)) (c ∷ q) refl tt)) (gap_row (c ∷ q) b)));
-      read_before_blank = row_read BeforeBlank dating text new k (n, means, refl)
+      is_read = row_read BeforeBlank dating text new k (n, means, refl)
           (rows_join (before_list dating) (from_list BeforeBlank) f
           (row_cons (optional (listed BeforeBlank)) from_gap (optional_none (listed BeforeBlank) (no_listed BeforeBlank (45 ∷ (c ∷ q)) (dash_no_list c q b))) (gap_row (45 ∷ (c ∷ q)) refl)));
       differ = λ same. let l : length (c ∷ q) ≡ length (45 ∷ (c ∷ q)) = ap (λ (x : MessageValue). length x.msg) same in omega (arith, l);
@@ -197,49 +198,109 @@ module _ (dating : Dating) (text : Text) where
   back Either (none, d) =
       let r = drop_differs dating text d in
       record {
-        before_anything = r.before_anything;
-        before_blank = r.before_blank;
-        read_before_anything = inr (none, r.read_before_anything);
-        read_before_blank = inr (none, r.read_before_blank);
+        before = r.before;
+        now = r.now;
+        was_read = inr (none, r.was_read);
+        is_read = inr (none, r.is_read);
         differ = r.differ;
       }
 
   pub differs_where_dropped : (variant : Variant) → ReadsDifferently variant dating text ↔ DropsDash variant dating text
   differs_where_dropped variant =
-      (λ r. forth variant r.before_anything r.before_blank r.read_before_anything r.read_before_blank r.differ, back variant)
+      (λ r. forth variant r.before r.now r.was_read r.is_read r.differ, back variant)
 
--- ---- what the call finds
+-- ---- a text was read exactly where it is
 
 same_behind : (xs ys : Text) → 45 ∷ xs ≡ 45 ∷ ys → xs ≡ ys
 same_behind xs ys e = cc
 
+-- a lone dash is the end
+pub dash_ends : (t : Text) → t ≡ 45 ∷ [] → BeginsLoose t → ⊥
+dash_ends t e h = let k : [] ≡ h.next ∷ h.behind = same_behind _ _ (sym e ∙ h.is) in cc
+
+loose_next : (c : ℕ) (q : Text) (b : Bool) → is_blank c ≡ b → BeginsLoose (45 ∷ (c ∷ q)) ⊎ (BeginsLoose (45 ∷ (c ∷ q)) → ⊥)
+loose_next c q false e = inl (record { next = c; behind = q; is = refl; no_blank = e })
+loose_next c q true e = inr (λ h. let k : c ∷ q ≡ h.next ∷ h.behind = same_behind _ _ h.is in let l : is_blank c ≡ false = ap is_blank (heads c h.next q h.behind k) ∙ h.no_blank in cc)
+
+loose_head : (c : ℕ) (t : Text) → c ≡ 45 → BeginsLoose (c ∷ t) ⊎ (BeginsLoose (c ∷ t) → ⊥)
+loose_head c [] e = inr (λ h. dash_ends (c ∷ []) (ap (λ (x : ℕ). x ∷ []) e) h)
+loose_head c (d ∷ q) e = subst (λ (x : ℕ). BeginsLoose (x ∷ (d ∷ q)) ⊎ (BeginsLoose (x ∷ (d ∷ q)) → ⊥)) (sym e) (loose_next d q (is_blank d) refl)
+
+loose_or_not : (t : Text) → BeginsLoose t ⊎ (BeginsLoose t → ⊥)
+loose_or_not [] = inr (λ h. let k : [] ≡ 45 ∷ (h.next ∷ h.behind) = h.is in cc)
+loose_or_not (c ∷ t) = elim (eqb_tells c 45) [ inl (_, e) ↦ loose_head c t e | inr (_, n) ↦ inr (λ h. n (heads c 45 t (h.next ∷ h.behind) h.is)) ]
+
+list_returns : (t q : Text) (es : Option (List ElementValue)) → Front (optional (listed BeforeBlank)) t q es
+    → BeginsLoose t ⊎ Front (optional (listed BeforeAnything)) t q es
+list_returns t q (Some es) f = inr (record { piece = f.piece; whole = f.whole; is = wider f.piece q es f.is })
+list_returns t q None f = elim (loose_or_not q) [
+  | inl d ↦ inl (subst BeginsLoose (sym (f.whole ∙ ap (λ (x : Text). x ++ q) f.is.0)) d)
+  | inr n ↦ inr (record {
+    piece = f.piece;
+    whole = f.whole;
+    is = (f.is.0, λ p r es e h. elim (some_turns p r es h) [ inl d ↦ n (subst BeginsLoose (sym e) d) | inr k ↦ f.is.1 p r es e k ]);
+  })
+]
+
+was_read : (dating : Dating) (text : Text) (m : MessageValue) → IsRead3164 BeforeBlank dating text m → (n : MessageValue) × IsRead3164 BeforeAnything dating text n
+was_read dating text m r =
+    let (u, a, b) = rows_split (before_list dating) (from_list BeforeBlank) (division_front (rfc3164_row BeforeBlank dating) r.division) in
+    let g = row_head (optional (listed BeforeBlank)) from_gap b in
+    let vs = firsts (before_list dating) (from_list BeforeBlank) r.values in
+    let (n, means, is) = r.means in
+    elim (list_returns u g.0 _ g.1) [
+      | inl d ↦ let k = drops_differ dating text vs n d.next d.behind (subst (λ (x : Text). Front (Row (before_list dating)) (trimmed text) x vs) d.is a) means d.no_blank in (k.before, k.was_read)
+      | inr f ↦ (
+        m,
+        row_read BeforeAnything dating text _ m r.means
+            (rows_join (before_list dating) (from_list BeforeAnything) a (row_cons (optional (listed BeforeAnything)) from_gap f g.2)),
+      )
+    ]
+
+is_read : (dating : Dating) (text : Text) (m : MessageValue) → IsRead3164 BeforeAnything dating text m → (n : MessageValue) × IsRead3164 BeforeBlank dating text n
+is_read dating text m r = elim (old_turns dating text m r) [ inl h ↦ let k = drop_differs dating text h in (k.now, k.is_read) | inr t ↦ (m, t) ]
+
+module _ (dating : Dating) (text : Text) where
+  unread_now : (variant : Variant) → WasUnreadable variant dating text → IsUnreadable variant dating text
+  unread_now RFC5424 h = λ m r. h m r
+  unread_now RFC3164 h = λ m r. let (n, s) = was_read dating text m r in h n s
+  unread_now Either h = λ m r. elim r [ inl s ↦ h m (inl s) | inr (none, s) ↦ let (n, k) = was_read dating text m s in h n (inr (none, k)) ]
+
+  unread_before : (variant : Variant) → IsUnreadable variant dating text → WasUnreadable variant dating text
+  unread_before RFC5424 h = λ m r. h m r
+  unread_before RFC3164 h = λ m r. let (n, s) = is_read dating text m r in h n s
+  unread_before Either h = λ m r. elim r [ inl s ↦ h m (inl s) | inr (none, s) ↦ let (n, k) = is_read dating text m s in h n (inr (none, k)) ]
+
+  pub unread_alike : (variant : Variant) → WasUnreadable variant dating text ↔ IsUnreadable variant dating text
+  unread_alike variant = (unread_now variant, unread_before variant)
+
+-- ---- what the call finds
+
 -- the two protocols are apart, so `Either` has no part in it
 pub either_differs : (dating : Dating) (text : Text) → ReadsDifferently RFC3164 dating text ↔ ReadsDifferently Either dating text
 either_differs dating text = (
-  λ r. back dating text Either (λ vs d. not_both BeforeAnything dating (trimmed text) vs r.read_before_anything.values d r.read_before_anything.division, forth dating text RFC3164 r.before_anything r.before_blank r.read_before_anything r.read_before_blank r.differ),
-  λ r. back dating text RFC3164 (forth dating text Either r.before_anything r.before_blank r.read_before_anything r.read_before_blank r.differ).1,
+  λ r. back dating text Either (λ vs d. not_both BeforeAnything dating (trimmed text) vs r.was_read.values d r.was_read.division, forth dating text RFC3164 r.before r.now r.was_read r.is_read r.differ),
+  λ r. back dating text RFC3164 (forth dating text Either r.before r.now r.was_read r.is_read r.differ).1,
 )
 
-pub reached : (dating : Dating) {text list : Text} {vs : Values (before_list dating)} {n : Names3164} → Front (Row (before_list dating)) text list vs → Resolves vs.1.1.1.0 vs.1.1.1.1.0 n → ReachesList dating text list n
-reached dating {vs = vs} f h = record { values = vs; front = f; means = h }
-
 -- a dash is dropped where one stands before the list
-pub told_by_list : (dating : Dating) (text t list : Text) (n : Names3164) (b : Bool) → t ≡ trimmed text → ReachesList dating t list n → MatchBool b (BeginsLoose list) (BeginsLoose list → ⊥)
+pub told_by_list : (dating : Dating) (text t list : Text) (vs : Values (before_list dating)) (n : Names3164) (b : Bool) → t ≡ trimmed text → Front (Row (before_list dating)) t list vs → Resolves vs.1.1.1.0 vs.1.1.1.1.0 n
+    → MatchBool b (BeginsLoose list) (BeginsLoose list → ⊥)
     → MatchBool b (ReadsDifferently RFC3164 dating text) (ReadsDifferently RFC3164 dating text → ⊥)
-told_by_list dating text t list n true e r h =
-    let f = subst (λ (x : Text). Front (Row (before_list dating)) (trimmed text) x r.values) h.is (subst (λ (x : Text). Front (Row (before_list dating)) x list r.values) e r.front) in
-    drops_differ dating text r.values n h.next h.behind f r.means h.no_blank
-told_by_list dating text t list n false e r h = λ k.
-    let d = forth dating text RFC3164 k.before_anything k.before_blank k.read_before_anything k.read_before_blank k.differ in
-    let f = subst (λ (x : Text). Front (Row (before_list dating)) x list r.values) e r.front in
-    let same = (front_same (Row (before_list dating)) (row_det (before_list dating) (before_det dating)) f d.at_list).0 in
+told_by_list dating text t list vs n true e f means h =
+    let g = subst (λ (x : Text). Front (Row (before_list dating)) (trimmed text) x vs) h.is (subst (λ (x : Text). Front (Row (before_list dating)) x list vs) e f) in
+    drops_differ dating text vs n h.next h.behind g means h.no_blank
+told_by_list dating text t list vs n false e f means h = λ k.
+    let d = forth dating text RFC3164 k.before k.now k.was_read k.is_read k.differ in
+    let g = subst (λ (x : Text). Front (Row (before_list dating)) x list vs) e f in
+    let same = (front_same (Row (before_list dating)) (row_det (before_list dating) (before_det dating)) g d.at_list).0 in
     h (record { next = d.next; behind = d.behind; is = same; no_blank = d.no_blank })
 
 -- a text that no timestamp of RFC 3164 begins is not read by it
 pub none_differs : (dating : Dating) (text t : Text) → t ≡ trimmed text → NoFront (Row (stamped_row dating)) t → ReadsDifferently RFC3164 dating text → ⊥
 none_differs dating text t e n r =
     let none = (division_is_stamped BeforeAnything dating (trimmed text)).1 (subst (λ (x : Text). NoFront (Row (stamped_row dating)) x) e n) in
-    none r.read_before_anything.values r.read_before_anything.division
+    none r.was_read.values r.was_read.division
 
 -- the character behind the dash tells
 told_next : (t : Text) (c : ℕ) (q : Text) (a b : Bool) → t ≡ 45 ∷ (c ∷ q) → is_blank c ≡ a → b ≡ not a → MatchBool b (BeginsLoose t) (BeginsLoose t → ⊥)
@@ -250,10 +311,6 @@ told_next t c q false false e g f = absurd (cc)
 
 pub told_by_next : (t : Text) (c : ℕ) (q : Text) (b : Bool) → t ≡ 45 ∷ (c ∷ q) → b ≡ not (is_blank c) → MatchBool b (BeginsLoose t) (BeginsLoose t → ⊥)
 told_by_next t c q b e f = told_next t c q (is_blank c) b e refl f
-
--- a lone dash is the end
-pub dash_ends : (t : Text) → t ≡ 45 ∷ [] → BeginsLoose t → ⊥
-dash_ends t e h = let k : [] ≡ h.next ∷ h.behind = same_behind _ _ (sym e ∙ h.is) in cc
 
 pub no_dash : (t : Text) → NoFront (exactly (45 ∷ [])) t → BeginsLoose t → ⊥
 no_dash t n h = n (45 ∷ []) (h.next ∷ h.behind) tt h.is refl
@@ -270,10 +327,10 @@ any_year Either dating other text rule m z l never (inr (none, r)) = inr (none, 
 differs_in_any : (variant : Variant) (dating other : Dating) (text : Text) → dating.zone ≡ other.zone → dating.local ≡ other.local
     → ((date : MonthDate) → AsksYear variant text date → ⊥) → ReadsDifferently variant dating text → ReadsDifferently variant other text
 differs_in_any variant dating other text z l never r = record {
-  before_anything = r.before_anything;
-  before_blank = r.before_blank;
-  read_before_anything = any_year variant dating other text BeforeAnything r.before_anything z l never r.read_before_anything;
-  read_before_blank = any_year variant dating other text BeforeBlank r.before_blank z l never r.read_before_blank;
+  before = r.before;
+  now = r.now;
+  was_read = any_year variant dating other text BeforeAnything r.before z l never r.was_read;
+  is_read = any_year variant dating other text BeforeBlank r.now z l never r.is_read;
   differ = r.differ;
 }
 
@@ -298,7 +355,7 @@ told_in post variant text tz local b (Some year) is h = record {
 -- ---- the answer under each variant
 
 never_5424 : (dating : Dating) (text : Text) → ReadsDifferently RFC5424 dating text → ⊥
-never_5424 dating text r = r.differ (strict.one_message text r.before_anything r.before_blank r.read_before_anything r.read_before_blank)
+never_5424 dating text r = r.differ (strict.one_message text r.before r.now r.was_read r.is_read)
 
 pub told_5424 : (dating : Dating) (text : Text) → IsTrue false ↔ ReadsDifferently RFC5424 dating text
 told_5424 dating text = (λ t. absurd (let k : false ≡ true = t in cc), λ r. absurd (never_5424 dating text r))

@@ -26,11 +26,16 @@ use Rattle.syslog_loose.specs.Rfc5424.{IsRead5424, IsNot5424, Quotes5424}
 abbrev pub dash_rule : DashRule
 dash_rule = BeforeBlank
 
--- the text is read as the message: under `Either` as RFC 5424, and as RFC 3164 where that has no division of it
+-- the text is read as the message under this rule: under `Either` as RFC 5424, and as RFC 3164 where that has no division
+-- of it
+abbrev pub IsReadUnder : DashRule → Variant → Dating → Text → MessageValue → Type 0
+IsReadUnder rule RFC5424 dating text m = IsRead5424 text m
+IsReadUnder rule RFC3164 dating text m = IsRead3164 rule dating text m
+IsReadUnder rule Either dating text m = IsRead5424 text m ⊎ (IsNot5424 text × IsRead3164 rule dating text m)
+
+-- the text is read as the message
 abbrev pub IsRead : Variant → Dating → Text → MessageValue → Type 0
-IsRead RFC5424 dating text m = IsRead5424 text m
-IsRead RFC3164 dating text m = IsRead3164 dash_rule dating text m
-IsRead Either dating text m = IsRead5424 text m ⊎ (IsNot5424 text × IsRead3164 dash_rule dating text m)
+IsRead variant dating text m = IsReadUnder dash_rule variant dating text m
 
 -- there is no message as which the text is read
 abbrev pub IsUnreadable : Variant → Dating → Text → Type 0

@@ -2,7 +2,7 @@
 -- mean. Behind the timestamp nothing can fail.
 use Rattle.std.specs.Prelude.{◌≡◌, ◌⊎◌, List, [], ◌∷◌, ◌++◌, Option, Some, None}
 use Rattle.std.specs.Option.{option_and_then}
-use Rattle.syslog_pieces.specs.Pieces.Class.{Text, Class, Values, Division, NoDivision, run, rest, exactly, optional, spaced}
+use Rattle.syslog_pieces.specs.Pieces.Class.{Text, Class, Values, Front, Row, Division, NoDivision, run, rest, exactly, optional, spaced}
 use Rattle.syslog_pieces.specs.Pieces.Parts.{AreInPieces}
 use Rattle.syslog_pieces.specs.Pri.{priority, facility_of, severity_of}
 use Rattle.syslog_pieces.specs.ProcId.{NamesProcess}
@@ -49,15 +49,23 @@ Resolves field (Some None) n = n ≡ names None None None
 
 -- ---- the pieces
 
--- the fields of names, a colon, the list and the message, with blanks or none between them
+-- the fields of names and a colon, with blanks or none behind them
+abbrev pub fields_row : List Class
+fields_row = optional (spaced host) ∷ optional (spaced tag_word) ∷ run is_blank ∷ optional (exactly colon) ∷ run is_blank ∷ []
+
+-- these, the list and the message, with blanks or none between them
 abbrev pub body_row : DashRule → List Class
-body_row rule =
-    optional (spaced host) ∷ optional (spaced tag_word) ∷ run is_blank ∷ optional (exactly colon) ∷ run is_blank
-    ∷ optional (listed rule) ∷ run is_blank ∷ rest ∷ []
+body_row rule = fields_row ++ (optional (listed rule) ∷ run is_blank ∷ rest ∷ [])
 
 -- the pieces that can fail: a priority or none, blanks or none, a timestamp
 abbrev pub stamped_row : Dating → List Class
 stamped_row dating = optional priority ∷ run is_blank ∷ loose_stamp dating ∷ []
+
+-- such fields begin the text, and mean these names
+pub record ReadsNames (text behind : Text) (n : Names3164) : Type 0 where
+  pub values : Values fields_row
+  pub front : Front (Row fields_row) text behind values
+  pub means : Resolves values.0 values.1.0 n
 
 -- the eleven pieces
 abbrev pub rfc3164_row : DashRule → Dating → List Class

@@ -1,24 +1,18 @@
 //! Whether the change of the dash changed the reading of a text. The front of the text tells, up to its list: so no
 //! element is collected, and no memory taken.
-ghost use Rattle.std.specs.Prelude.{◌↔◌, IsTrue, MatchBool, MatchOption};
+ghost use Rattle.std.specs.Prelude.{◌↔◌, IsTrue, MatchBool};
 ghost use Rattle.std.specs.Result.{IsOkAnd};
 ghost use Rattle.std.specs.Str.{chars};
-ghost use Rattle.syslog_pieces.specs.Pieces.Class.{NoFront, Row};
-ghost use Rattle.syslog_pieces.specs.Pieces.View.{shown};
 ghost use Rattle.syslog_pieces.specs.Timestamp.Zone.{dating_of};
-ghost use Rattle.syslog_loose.specs.Dash.{BeginsLoose, ReachesList, ReadsDifferently};
+ghost use Rattle.syslog_loose.specs.Dash.{BeginsLoose, ReadsDifferently};
 ghost use Rattle.syslog_loose.specs.Reading.{AnswersEachMonth, InYear};
-ghost use Rattle.syslog_loose.specs.Rfc3164.{stamped_row};
-ghost use Rattle.syslog_loose.specs.View3164.{names_value};
 ghost use Rattle.syslog_loose.specs.declared.reading.Variant.TheVariants as variants;
 
 use crate::reading::{IncompleteDate, Variant, asked_date};
-use crate::rfc3164::{Names, read_stamped, resolve};
+use crate::rfc3164::{read_names, read_stamped};
 use jiff::tz::TimeZone;
 use std::alloc::{AllocError, Global};
-use syslog_pieces::text::{
-    CharClass, blanks, first, host_field, literal, past_colon, tag_field, trimmed,
-};
+use syslog_pieces::text::{CharClass, first, literal, trimmed};
 
 /// Whether the text is read otherwise than it was while a dash was a list of RFC 3164 before anything, as it is in the Rust
 /// crate: so whether a dash before a character that is no blank was left out, and begins `msg` now that a dash is a list
@@ -68,28 +62,11 @@ fn drops_dash(
     ensures { MatchBool result (ReadsDifferently variants.RFC3164 (dating_of year tz.entry local.entry) (chars input.entry.now))
         (ReadsDifferently variants.RFC3164 (dating_of year tz.entry local.entry) (chars input.entry.now) → ⊥) }
 {
-    match before_list(trimmed(input), year, tz, local) {
-        Some((_, rest)) => begins_loosely(rest),
-        None => false,
-    }
-}
-
-// The names that stand before the list, and the text from there.
-fn before_list<'a>(
-    text: &'a str,
-    year: Option<i32>,
-    tz: Option<&TimeZone<'_>>,
-    local: &TimeZone<'_>,
-) -> Option<(Names<'a>, &'a str)>
-    ensures { MatchOption result (NoFront (Row (stamped_row (dating_of year tz.entry local.entry))) (chars text.now))
-        (λ x. ReachesList (dating_of year tz.entry local.entry) (chars text.now) (shown x.1) (names_value x.0)) }
-{
-    let Some((_, rest)) = read_stamped(text, year, tz, local) else {
-        return None;
+    let Some((_, rest)) = read_stamped(trimmed(input), year, tz, local) else {
+        return false;
     };
-    let (host, rest) = host_field(rest);
-    let (tag, rest) = tag_field(rest);
-    Some((resolve(host, tag), blanks(past_colon(blanks(rest)))))
+    let (_, rest) = read_names(rest);
+    begins_loosely(rest)
 }
 
 // Whether the text begins with a dash before a character that is no blank.

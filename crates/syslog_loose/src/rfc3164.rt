@@ -141,6 +141,15 @@ pub(crate) fn read_stamped<'a>(
     ))
 }
 
+/// The names that stand behind the timestamp, and the text behind their colon.
+pub(crate) fn read_names(text: &str) -> (Names<'_>, &str)
+    ensures { spec.ReadsNames (chars text.now) (shown result.1) (names_value result.0) }
+{
+    let (host, rest) = host_field(text);
+    let (tag, rest) = tag_field(rest);
+    (resolve(host, tag), blanks(past_colon(blanks(rest))))
+}
+
 /// The message of the one division of the trimmed text, and none where there is no division. `year` is that of a date
 /// that shows none. Memory is asked for only to collect elements, each after it was recognised.
 pub(crate) fn read<'a>(
@@ -159,10 +168,7 @@ pub(crate) fn read<'a>(
     let Some((stamped, rest)) = read_stamped(trimmed(text), year, tz, local) else {
         return Ok(None);
     };
-    let (host, rest) = host_field(rest);
-    let (tag, rest) = tag_field(rest);
-    let names = resolve(host, tag);
-    let rest = blanks(past_colon(blanks(rest)));
+    let (names, rest) = read_names(rest);
     let (elements, rest) = optional_list(alloc, rest, rule)?;
     let msg = blanks(rest);
     let (facility, severity) = parts(stamped.priority);

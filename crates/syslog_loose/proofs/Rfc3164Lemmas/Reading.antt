@@ -1,14 +1,14 @@
 -- What the reader's answers say of a text of RFC 3164.
 use Rattle.std.proofs.Common.{◌≡◌, List, [], ◌∷◌, refl, subst}
-use Rattle.syslog_pieces.specs.Pieces.Class.{Text, Class, Values, Division, Front, NoFront, Row, run, rest, exactly, optional, spaced}
+use Rattle.syslog_pieces.specs.Pieces.Class.{Text, Class, Values, Division, Front, NoFront, Row, run, rest, optional}
 use Rattle.syslog_pieces.specs.StructuredData.Listed.{listed, ListsNoElements}
-use Rattle.syslog_pieces.specs.Text.{trimmed, is_blank, colon, host, tag_word}
+use Rattle.syslog_pieces.specs.Text.{trimmed, is_blank}
 use Rattle.syslog_pieces.specs.Timestamp.Zone.{Dating}
 use Rattle.syslog_pieces.specs.declared.structured_data.listed.DashRule.{DashRule}
 use Rattle.syslog_pieces.proofs.PieceLemmas.Class.{front_division, no_row_division, row_nil, row_cons, rows_join, rows_none_here, rest_front, both_values}
 use Rattle.syslog_pieces.proofs.TextLemmas.Runs.{some_front_run}
 use Rattle.syslog_loose.specs.Message.{MessageValue}
-use Rattle.syslog_loose.specs.Rfc3164.{Names3164, Resolves, stamped_row, body_row, rfc3164_row, Means3164, IsRead3164, IsNot3164, NeedsNoMemory3164}
+use Rattle.syslog_loose.specs.Rfc3164.{Names3164, Resolves, stamped_row, fields_row, ReadsNames, body_row, rfc3164_row, Means3164, IsRead3164, IsNot3164, NeedsNoMemory3164}
 use Rattle.syslog_loose.proofs.Rfc3164Lemmas.Unique.{told}
 
 -- ---- from the row of the trimmed text
@@ -24,9 +24,8 @@ is_read rule dating text t vs m e means f = record {
   means = means;
 }
 
--- the pieces between the timestamp and the list
-abbrev pub fields_row : List Class
-fields_row = optional (spaced host) ∷ optional (spaced tag_word) ∷ run is_blank ∷ optional (exactly colon) ∷ run is_blank ∷ []
+pub names_read : {text behind : Text} {ws : Values fields_row} {n : Names3164} → Front (Row fields_row) text behind ws → Resolves ws.0 ws.1.0 n → ReadsNames text behind n
+names_read {ws = ws} f h = record { values = ws; front = f; means = h }
 
 -- the blanks behind the list, and the message
 abbrev pub behind_row : List Class

@@ -1,20 +1,26 @@
-//! What the rule of the dash changes: a dash that is a list before anything, or only at the end and before a blank.
+//! What the rule of the dash changed: a dash was a list of RFC 3164 before anything, and is one only at the end and before
+//! a blank.
 ghost use Rattle.std.specs.Prelude.{◌↔◌};
 ghost use Rattle.syslog_pieces.specs.Pieces.Class.{Text};
 ghost use Rattle.syslog_pieces.specs.Timestamp.Zone.{Dating};
-ghost use Rattle.syslog_pieces.specs.declared.structured_data.listed.DashRule.TheVariants.{BeforeAnything, BeforeBlank};
 ghost use Rattle.syslog_loose.specs.Canonical.{IsCanonical};
-ghost use Rattle.syslog_loose.specs.Dash.{ReadsDifferently, DropsDash};
+ghost use Rattle.syslog_loose.specs.Dash.{ReadsDifferently, DropsDash, WasCanonical, WasUnreadable};
 ghost use Rattle.syslog_loose.specs.Message.{MessageValue};
+ghost use Rattle.syslog_loose.specs.Reading.{dash_rule, IsUnreadable};
 ghost use Rattle.syslog_loose.specs.declared.reading.Variant.{Variant};
 
-/// A message that is canonical where a dash is a list before anything is so where it is one before a blank alone.
-pub fn canonical_before_anything_is_so_before_a_blank()
-    ensures { (m : MessageValue) → IsCanonical BeforeAnything m → IsCanonical BeforeBlank m }
+/// A message that was canonical is so.
+pub fn what_was_canonical_is_so()
+    ensures { (m : MessageValue) → WasCanonical m → IsCanonical dash_rule m }
 {}
 
-/// A text is read differently under the two rules exactly where it is read as RFC 3164 and the list of its reading under
-/// the first is a dash before a character that is no blank.
+/// A text is read differently exactly where it was read as RFC 3164 and the list of that reading was a dash before a
+/// character that is no blank.
 pub fn readings_differ_where_a_dash_is_dropped()
     ensures { (variant : Variant) (dating : Dating) (text : Text) → ReadsDifferently variant dating text ↔ DropsDash variant dating text }
+{}
+
+/// A text that was read is read, and one that was not is not.
+pub fn what_was_read_is_read()
+    ensures { (variant : Variant) (dating : Dating) (text : Text) → WasUnreadable variant dating text ↔ IsUnreadable variant dating text }
 {}

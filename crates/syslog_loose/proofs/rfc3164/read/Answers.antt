@@ -2,16 +2,16 @@ use Rattle.std.proofs.Common.{◌≡◌, ℕ, [], ◌∷◌, List, Option, Some,
 use Rattle.std.specs.Borrow.{Bor}
 use Rattle.std.specs.Option.{option_map, unwrap_or}
 use Rattle.std.specs.Str.{chars}
-use Rattle.syslog_pieces.specs.Pieces.Class.{run, rest, exactly, optional, spaced}
+use Rattle.syslog_pieces.specs.Pieces.Class.{run, rest, optional}
 use Rattle.syslog_pieces.specs.Pieces.View.{seen, shown}
 use Rattle.syslog_pieces.specs.ProcId.{procid_value}
 use Rattle.syslog_pieces.specs.StructuredData.Element.{element_value}
 use Rattle.syslog_pieces.specs.StructuredData.Listed.{listed, elements_or}
 use Rattle.syslog_pieces.specs.declared.structured_data.StructuredElement.{StructuredElement}
-use Rattle.syslog_pieces.specs.Text.{is_blank, colon, host, tag_word}
+use Rattle.syslog_pieces.specs.Text.{is_blank}
 use Rattle.syslog_pieces.specs.Timestamp.Zone.{dating_of}
 use Rattle.syslog_pieces.proofs.PieceLemmas.Class.{row_nil, row_cons, rows_join, rest_front}
-use Rattle.syslog_loose.specs.Rfc3164.{stamped_row, body_row}
+use Rattle.syslog_loose.specs.Rfc3164.{stamped_row, fields_row, body_row}
 use Rattle.syslog_loose.specs.View3164.{names_value}
 use Rattle.syslog_loose.specs.declared.message.Protocol.TheVariants.{RFC3164}
 use Rattle.syslog_loose.proofs.Rfc3164Lemmas.Reading.{behind_row, not_read, is_read, list_needs_none}
@@ -22,14 +22,9 @@ returns-in_default-clause-read c = not_read c.args.rule (dating_of c.args.year c
 
 pub returns-in_err-elements-clause-memory : goal.returns-in_err-elements-clause-memory
 returns-in_err-elements-clause-memory c = λ none.
-    let fields =
-    row_cons (optional (spaced host)) (optional (spaced tag_word) ∷ run is_blank ∷ optional (exactly colon) ∷ run is_blank ∷ []) c.host_field.ensures
-    (row_cons (optional (spaced tag_word)) (run is_blank ∷ optional (exactly colon) ∷ run is_blank ∷ []) c.tag_field.ensures
-    (row_cons (run is_blank) (optional (exactly colon) ∷ run is_blank ∷ []) c.blanks.ensures
-    (row_cons (optional (exactly colon)) (run is_blank ∷ []) c.past_colon.ensures.1
-    (row_cons (run is_blank) [] c.blanks-rest.ensures (row_nil _))))) in
-    let needless = list_needs_none c.args.rule (dating_of c.args.year c.args.tz c.args.local) (chars c.args.text.now) _ _ _ _ _ (names_value c.resolve-names.result)
-    c.trimmed.ensures none c.in-Some.ensures fields c.resolve-names.ensures in
+    let fields = c.read_names.ensures in
+    let needless = list_needs_none c.args.rule (dating_of c.args.year c.args.tz c.args.local) (chars c.args.text.now) _ _ _ _ _ (names_value c.read_names.result.0)
+    c.trimmed.ensures none c.in-Some.ensures fields.front fields.means in
     let refused : false ≡ true = c.in_err-elements.ensures.memory needless in
     absurd (cc)
 
@@ -43,11 +38,12 @@ pub returns-clause-read : goal.returns-clause-read
 returns-clause-read c =
     let rule = c.args.rule in
     let dating = dating_of c.args.year c.args.tz c.args.local in
-    let names = c.resolve-names.result in
+    let names = c.read_names.result.0 in
+    let fields = c.read_names.ensures in
     let parts = c.parts-facility.ensures in
     is_read rule dating (chars c.args.text.now) _ _ _ c.trimmed.ensures (
-      names_value c.resolve-names.result,
-      c.resolve-names.ensures,
+      names_value names,
+      fields.means,
       (λ i. record {
         protocol = RFC3164;
         facility = parts.facility i;
@@ -62,11 +58,7 @@ returns-clause-read c =
       }),
     )
     (rows_join (stamped_row dating) (body_row rule) c.in-Some.ensures
-    (row_cons (optional (spaced host)) (optional (spaced tag_word) ∷ run is_blank ∷ optional (exactly colon) ∷ run is_blank ∷ optional (listed rule) ∷ behind_row) c.host_field.ensures
-    (row_cons (optional (spaced tag_word)) (run is_blank ∷ optional (exactly colon) ∷ run is_blank ∷ optional (listed rule) ∷ behind_row) c.tag_field.ensures
-    (row_cons (run is_blank) (optional (exactly colon) ∷ run is_blank ∷ optional (listed rule) ∷ behind_row) c.blanks.ensures
-    (row_cons (optional (exactly colon)) (run is_blank ∷ optional (listed rule) ∷ behind_row) c.past_colon.ensures.1
-    (row_cons (run is_blank) (optional (listed rule) ∷ behind_row) c.blanks-rest.ensures
+    (rows_join fields_row (optional (listed rule) ∷ behind_row) fields.front
     (row_cons (optional (listed rule)) behind_row c.in_ok-elements.ensures.list
     (row_cons (run is_blank) (rest ∷ []) c.blanks-msg.ensures
-    (row_cons rest [] (rest_front _) (row_nil []))))))))))
+    (row_cons rest [] (rest_front _) (row_nil []))))))

@@ -1,5 +1,5 @@
 use Rattle.syslog_loose.proofs.DashLemmas.{condition_grows}
-use Rattle.syslog_loose.proofs.laws.dash.canonical_before_anything_is_so_before_a_blank.Goals as goal
+use Rattle.syslog_loose.proofs.laws.dash.what_was_canonical_is_so.Goals as goal
 
 pub returns : goal.returns
 returns c = condition_grows
