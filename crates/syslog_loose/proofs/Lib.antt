@@ -1,3 +1,4 @@
+pub mod BeginningLemmas
 pub mod BoundLemmas
 pub mod CanonicalLemmas
 pub mod DashLemmas

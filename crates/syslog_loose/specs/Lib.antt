@@ -1,3 +1,4 @@
+pub mod Beginning
 pub mod Canonical
 pub mod Dash
 pub mod Equal

@@ -5,6 +5,7 @@
 //! text, and what takes memory takes `alloc` first and can be refused.
 #![tactic(auto)]
 
+mod beginning;
 mod differing;
 mod fault;
 pub mod laws;

@@ -18,6 +18,7 @@ ghost use Rattle.syslog_loose.specs.declared.fault.ParseFault.TheVariants.{Inval
 ghost use Rattle.syslog_loose.specs.declared.reading.Variant.{Variant};
 ghost use Rattle.syslog_loose.specs.declared.reading.Variant.TheVariants as variants;
 
+use crate::beginning::may_be_read;
 use crate::fault::ParseFault;
 use crate::line::{MORE_PRINTED, kept_text};
 use crate::message::{Message, Protocol};
@@ -217,6 +218,9 @@ fn read<'a>(
 ) -> Result<Message<&'a str>, ParseFault>
     ensures { Answers variant (dating_of year tz.entry local.entry) (chars input.entry.now) result }
 {
+    if !may_be_read(input) {
+        return Err(ParseFault::Invalid);
+    }
     match variant {
         Variant::RFC5424 => read_rfc5424(alloc, input),
         Variant::RFC3164 => read_rfc3164(alloc, input, year, tz, local),

@@ -15,5 +15,6 @@ pub mod Range
 pub mod Reading
 pub mod RoundTrip
 pub mod Texts
+pub mod Usual
 pub mod Values
 pub mod Zone

@@ -5,3 +5,4 @@ pub mod Kept
 pub mod MonthReading
 pub mod Scan
 pub mod StampReading
+pub mod Usual

@@ -3,24 +3,26 @@
 //! One scanner cuts the maximal run of a class of characters from the front of a text; every reader of a word stands on
 //! it. A reader answers what its class in `specs/Text.antt` means and the text behind it, or nothing where no front of
 //! the text is of the class. Nothing here takes memory, and no text is copied.
-ghost use Rattle.std.specs.Prelude.{◌≡◌, ◌++◌, [], ◌∷◌, Option, MatchOption};
+ghost use Rattle.std.specs.Prelude.{◌≡◌, ◌++◌, [], ◌∷◌, IsTrue, Option, MatchOption};
 ghost use Rattle.std.specs.Str.{bytes_eq, chars, IsUtf8};
 ghost use Rattle.syslog_pieces.specs.Text.CharClass.{has};
 ghost use Rattle.syslog_pieces.specs.Pieces.Class.{Front, NoFront, exactly, optional, run, some_run};
-ghost use Rattle.syslog_pieces.specs.Bodies.Scan.{EndsRun, SplitsRun};
+ghost use Rattle.syslog_pieces.specs.Bodies.Scan.{EndsRun, IsBare, SplitsRun};
 ghost use Rattle.syslog_pieces.specs.Text as spec;
 ghost use Rattle.syslog_pieces.specs.Pieces.View.{seen, shown, Reads, Skips};
 
 mod fields;
 pub mod kept;
 mod lanes;
+mod numerals;
 pub mod plain;
 mod scan;
 #[cfg(test)]
 mod tests;
 
 pub use fields::{host_field, tag_field};
-use scan::{ascii_run, is_cut};
+pub(crate) use numerals::number_of_digits;
+use scan::{ascii_run, is_cut, is_in};
 
 /// A class of characters.
 #[derive(Clone, Copy)]
@@ -166,15 +168,11 @@ pub fn number(text: &str, limit: u32) -> Option<(u32, &str)>
     ensures { Reads (spec.number limit) (λ n. n) (chars text.now) result }
 {
     let (digits, rest) = split_run(text, CharClass::Digit);
-    match digits.parse::<u32>() {
-        Ok(value) => {
-            if value > limit {
-                None
-            } else {
-                Some((value, rest))
-            }
-        }
-        Err(_) => None,
+    let value = number_of_digits(digits)?;
+    if value > limit {
+        None
+    } else {
+        Some((value, rest))
     }
 }
 
@@ -248,5 +246,22 @@ pub fn tag_word(text: &str) -> Option<(Option<&str>, &str)>
 pub fn trimmed(text: &str) -> &str
     ensures { shown result ≡ spec.trimmed (chars text.now) }
 {
-    text.trim()
+    if is_bare(text.as_bytes()) {
+        text
+    } else {
+        text.trim()
+    }
+}
+
+// Whether an ASCII character that is no white space stands at either end.
+#[inline(always)]
+fn is_bare(bytes: &[u8]) -> bool
+    ensures { IsTrue result → IsBare bytes.now }
+{
+    match bytes {
+        [first, .., last] => {
+            is_in(*first, CharClass::Visible) && is_in(*last, CharClass::Visible)
+        }
+        _ => false,
+    }
 }

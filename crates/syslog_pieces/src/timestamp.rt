@@ -28,6 +28,7 @@ pub mod month_date;
 pub mod plain;
 #[cfg(test)]
 mod tests;
+mod usual;
 mod written;
 pub mod zone;
 

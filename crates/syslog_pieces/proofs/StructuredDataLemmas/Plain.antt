@@ -1,5 +1,5 @@
 -- What the tests of plain elements answer.
-use Rattle.std.proofs.Common.{◌≡◌, ◌≢◌, ℕ, ◌+◌, ◌<◌, inl, inr, zero, suc, Bool, true, false, not, ◌&&◌, nat_eq, List, [], ◌∷◌, ◌++◌, length, map, take, get_or, refl, sym, ap, subst, ◌∙◌, append_assoc, arith}
+use Rattle.std.proofs.Common.{◌≡◌, ◌≢◌, ℕ, ◌<◌, inl, inr, zero, suc, Bool, true, false, not, ◌&&◌, nat_eq, List, [], ◌∷◌, ◌++◌, length, map, get_or, refl, sym, ap, subst, ◌∙◌, arith}
 use Rattle.std.specs.Prelude.{◌↔◌, IsTrue}
 use Rattle.std.proofs.lemmas.List.{append_cancel_right, length-append}
 use Rattle.std.proofs.lemmas.Bool.Decides.{eqb_tells}
@@ -8,7 +8,7 @@ use Rattle.std.specs.Str.{chars}
 use Rattle.syslog_pieces.specs.Bodies.Scan.{SplitsRun}
 use Rattle.syslog_pieces.specs.Pieces.Class.{Text, Front, Each, Ends}
 use Rattle.syslog_pieces.specs.StructuredData.{IsValue, IsValueUnit, value}
-use Rattle.syslog_pieces.specs.StructuredData.Escapes.{TextUnit, pair, single, unit_text}
+use Rattle.syslog_pieces.specs.StructuredData.Escapes.{pair, single, unit_text}
 use Rattle.syslog_pieces.specs.Text.CharClass.{is_plain_char}
 use Rattle.syslog_pieces.proofs.PieceLemmas.Class.{heads}
 use Rattle.syslog_pieces.proofs.PieceLemmas.Meets.{Meets, meets_here, meets_on}

@@ -4,7 +4,7 @@ use Rattle.std.proofs.lemmas.List.{take-append-drop, take_all, drop_all}
 use Rattle.std.proofs.lemmas.Bool.{eqb-true}
 use Rattle.std.proofs.lemmas.Bool.Decides.{nat_tests, eqb_tells}
 use Rattle.std.proofs.lemmas.Slice.Eq.{bytes_eq-Decides}
-use Rattle.std.proofs.lemmas.Str.{chars_from_encodes, chars_past_char, chars-append, chars-nil, encodes-chars, encodes-IsAscii, chars-IsAscii, IsUtf8-take, IsUtf8-drop, IsUtf8-nil}
+use Rattle.std.proofs.lemmas.Str.{chars_from_encodes, chars_past_char, chars-append, chars-nil, encodes-chars, encodes-IsAscii, chars-IsAscii, IsUtf8-take, IsUtf8-drop, IsUtf8-nil, IsUtf8-from_ascii}
 use Rattle.std.proofs.lemmas.Str.Ascii.{IsAscii-nil, IsAscii-cons}
 use Rattle.std.specs.Char.{encode_utf8, is_ascii_digit}
 use Rattle.std.specs.Str.{chars, IsUtf8, IsAscii, NoCharPasses, NonePass, IsCharBoundary, encode_utf8_all, bytes_eq}
@@ -55,6 +55,11 @@ pub text_is_not : (bs : List ℕ) (w : Text) → IsUtf8 bs → IsAscii w → fal
 text_is_not bs w u a h e =
     let f : bs ≡ w = sym (encodes-chars bs u) ∙ ap encode_utf8_all e ∙ encodes-IsAscii w a in
     let t = (bytes_eq-Decides bs w).1 f in cc
+
+-- ASCII at the front of bytes
+pub ascii_front : (p rest bs : List ℕ) → IsAscii p → bs ≡ p ++ rest → chars bs ≡ p ++ chars rest
+ascii_front p rest bs a e =
+    ap chars e ∙ chars-append p rest (IsUtf8-from_ascii p a) ∙ ap (λ (x : List ℕ). x ++ chars rest) (chars-IsAscii p a)
 
 -- ---- cuts
 pub chars_cut : (bs xs ys : List ℕ) → bs ≡ xs ++ ys → IsUtf8 xs → chars bs ≡ chars xs ++ chars ys

@@ -1,12 +1,18 @@
 -- `trim`, by characters.
-use Rattle.std.proofs.Common.{◌≡◌, ℕ, Bool, true, false, cond, ◌&&◌, nat_eq, List, [], ◌∷◌, length, refl, ap, ◌∙◌}
+use Rattle.std.proofs.Common.{◌≡◌, ℕ, ◌<◌, Bool, true, false, cond, not, ◌&&◌, nat_eq, nat_lt, List, [], ◌∷◌, ◌++◌, length, take, get_or, refl, sym, ap, subst, ◌∙◌, arith, take_at}
 use Rattle.std.proofs.lemmas.Bool.{and_parts, and_from}
-use Rattle.std.proofs.lemmas.Str.{chars-encodes, scalars-chars}
+use Rattle.std.proofs.lemmas.Bool.{ltb-true}
+use Rattle.std.proofs.lemmas.Bool.Decides.{nat_tests}
+use Rattle.std.proofs.lemmas.List.{length-append}
+use Rattle.std.proofs.lemmas.Str.{chars-append, chars-IsAscii, chars-encodes, scalars-chars, IsUtf8-take}
+use Rattle.std.proofs.Math.Seq.{get_or-append_seam}
 use Rattle.std.specs.Char.{is_whitespace}
-use Rattle.std.specs.Str.{chars, IsUtf8, all_scalars, encode_utf8_all, trim, trim_start, trim_end, skip_leading_whitespace, drop_trailing_whitespace}
+use Rattle.std.specs.Str.{chars, IsUtf8, IsCharBoundary, all_scalars, encode_utf8_all, trim, trim_start, trim_end, skip_leading_whitespace, drop_trailing_whitespace}
 use lib.Utf8.{scalar}
 use Rattle.syslog_pieces.specs.Pieces.Class.{Text}
+use Rattle.syslog_pieces.specs.Bodies.Scan.{IsBare}
 use Rattle.syslog_pieces.specs.Text.{trimmed}
+use Rattle.syslog_pieces.proofs.TextLemmas.Chars.{ascii_front, one_ascii}
 
 either : (b : Bool) (xs ys : Text) → all_scalars xs ≡ true → all_scalars ys ≡ true → all_scalars (cond b xs ys) ≡ true
 either true xs ys h g = h
@@ -33,3 +39,63 @@ trimmed_chars bs u =
 pub end_trimmed_chars : (bs : List ℕ) → IsUtf8 bs → chars (trim_end bs) ≡ drop_trailing_whitespace (chars bs)
 unfolding trim_end
 end_trimmed_chars bs u = chars-encodes (drop_trailing_whitespace (chars bs)) (drop_scalars (chars bs) (scalars-chars bs u))
+
+-- ---- texts with no white space at either end
+kept : (b t : Bool) (x : ℕ) (xs : Text) → t ≡ false → cond (b && t) [] (x ∷ xs) ≡ x ∷ xs
+kept true t x xs h = rw h refl
+kept false t x xs h = refl
+
+nonempty : (cs : Text) (c : ℕ) → nat_eq (length (cs ++ (c ∷ []))) 0 ≡ false
+nonempty cs c = grind (arith, nat_tests, length-append cs (c ∷ []))
+
+kept_end : (cs : Text) (c : ℕ) → is_whitespace c ≡ false → drop_trailing_whitespace (cs ++ (c ∷ [])) ≡ cs ++ (c ∷ [])
+kept_end [] c h = rw h refl
+kept_end (d ∷ cs) c h = rw (kept_end cs c h) (kept (is_whitespace d) (nat_eq (length (cs ++ (c ∷ []))) 0) d (cs ++ (c ∷ [])) (nonempty cs c))
+
+kept_start : (c : ℕ) (cs : Text) → is_whitespace c ≡ false → skip_leading_whitespace (c ∷ cs) ≡ c ∷ cs
+kept_start c cs h = rw h refl
+
+no_more : (x : Bool) → not x ≡ true → x ≡ false
+no_more true h = cc
+no_more false h = refl
+
+visible : (b : ℕ) → (nat_lt b 128 && not (is_whitespace b)) ≡ true → (b < 128) × (is_whitespace b ≡ false)
+visible b h = let p = and_parts (nat_lt b 128) (not (is_whitespace b)) h in (ltb-true b 128 p.0, no_more (is_whitespace b) p.1)
+
+module _ (bs : List ℕ) (u : IsUtf8 bs) (h : IsBare bs) where
+  head : (h.first < 128) × (is_whitespace h.first ≡ false)
+  head = visible h.first h.first_in
+
+  last : (h.last < 128) × (is_whitespace h.last ≡ false)
+  last = visible h.last h.last_in
+
+  front : List ℕ
+  front = h.first ∷ h.middle
+
+  seam : get_or bs (length front) 0 ≡ h.last
+  unfolding front
+  seam = ap (λ (x : List ℕ). get_or x (length (h.first ∷ h.middle)) 0) h.whole ∙ get_or-append_seam (h.first ∷ h.middle) h.last [] 0
+
+  boundary : IsCharBoundary bs (length front)
+  unfolding front
+  boundary = (
+    omega (arith, ap length h.whole, length-append (h.first ∷ h.middle) (h.last ∷ [])),
+    λ inside high. absurd (let l = last.0 in let s = seam in omega arith),
+  )
+
+  front_utf8 : IsUtf8 front
+  unfolding front
+  front_utf8 =
+      subst IsUtf8 (ap (take (length (h.first ∷ h.middle))) h.whole ∙ take_at (h.first ∷ h.middle) (h.last ∷ []) (length (h.first ∷ h.middle)) refl)
+      (IsUtf8-take bs (length (h.first ∷ h.middle)) u boundary)
+
+  text_is : chars bs ≡ (h.first ∷ chars h.middle) ++ (h.last ∷ [])
+  unfolding front
+  text_is =
+      ap chars h.whole ∙ chars-append (h.first ∷ h.middle) (h.last ∷ []) front_utf8
+      ∙ ap (λ (x : Text). x ++ chars (h.last ∷ [])) (ascii_front (h.first ∷ []) h.middle (h.first ∷ h.middle) (one_ascii h.first head.0) refl)
+      ∙ ap (λ (x : Text). (h.first ∷ chars h.middle) ++ x) (chars-IsAscii (h.last ∷ []) (one_ascii h.last last.0))
+
+  pub bare_trimmed : chars bs ≡ trimmed (chars bs)
+  bare_trimmed =
+      rw text_is (sym (ap drop_trailing_whitespace (kept_start h.first (chars h.middle ++ (h.last ∷ [])) head.1) ∙ kept_end (h.first ∷ chars h.middle) h.last last.1))

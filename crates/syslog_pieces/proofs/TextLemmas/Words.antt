@@ -1,5 +1,5 @@
 -- What the readers of numbers and words answer.
-use Rattle.std.proofs.Common.{◌≡◌, ◌≢◌, ℕ, ◌-◌, ◌<◌, ◌≤◌, ◌^◌, ◌⊎◌, inl, inr, Bool, List, [], ◌∷◌, ◌++◌, length, take, drop, Option, Some, None, Result, Ok, Err, MatchOption, refl, sym, ap, subst, ◌∙◌, arith, append_assoc, rules}
+use Rattle.std.proofs.Common.{◌≡◌, ◌≢◌, ℕ, ◌-◌, ◌<◌, ◌≤◌, ◌^◌, ◌⊎◌, inl, inr, Bool, List, [], ◌∷◌, ◌++◌, length, take, drop, Option, Some, None, Result, MatchOption, refl, sym, ap, subst, ◌∙◌, arith, append_assoc, rules}
 use Rattle.std.proofs.lemmas.List.{append_cancel_left, length-append, take-append-le, take-append-drop, drop_all, same_from_push}
 use Rattle.std.proofs.lemmas.Str.{chars_past_char, chars-append, encodes-chars, encodes-IsAscii, chars-IsAscii, encodes-append, IsUtf8-take, IsUtf8-from_ascii}
 use Rattle.std.proofs.lemmas.Str.Parse.{IsNumeralModel, IsDigitsTest, numerals_by_value, parse_digits}
@@ -64,44 +64,29 @@ digits_test = search rules
 pub own : IsNumeralModel (λ ds. Each is_ascii_digit ds) (digits_value 10)
 own = numerals_by_value (λ ds. Each is_ascii_digit ds) digits_test
 
+-- what `parse` gives for a run of digits
+pub parsed_digits : (xs : List ℕ) → IsUtf8 xs → Each is_ascii_digit (chars xs) → (E : Type 0) (r : Result ℕ E) → ParsesUnsigned 32 10 xs r
+    → OkIff r ((0 < length xs) × (digits_value 10 xs < 2 ^ 32)) (digits_value 10 xs)
+parsed_digits xs u a E r h = parse_digits own 32 xs r h (subst (λ (x : List ℕ). Each is_ascii_digit x) (digits_plain xs u a) a)
+
 module _ (bs xs ys : List ℕ) (s : SplitsRun is_ascii_digit bs xs ys) where
   plain : chars xs ≡ xs
   plain = digits_plain xs s.front_utf8 s.each
 
-  parsed : (E : Type 0) (r : Result ℕ E) → ParsesUnsigned 32 10 xs r → OkIff r ((0 < length xs) × (digits_value 10 xs < 2 ^ 32)) (digits_value 10 xs)
-  parsed E r h = parse_digits own 32 xs r h (subst (λ (x : List ℕ). Each is_ascii_digit x) plain s.each)
-
-  parsed_ok : (E : Type 0) (v : ℕ) → ParsesUnsigned {E = E} 32 10 xs (Ok v) → (0 < length xs) × (v ≡ digits_value 10 xs)
-  parsed_ok E v h = let t = parsed E (Ok v) h in (t.0.0, t.1)
-
-  pub number_front : (E : Type 0) (v limit : ℕ) → ParsesUnsigned {E = E} 32 10 xs (Ok v) → v ≤ limit → Front (number limit) (chars bs) (chars ys) v
-  number_front E v limit h l =
-      let t = parsed_ok E v h in
-      record { piece = chars xs; whole = s.characters; is = (chars_nonempty xs s.front_utf8 t.0, s.each, s.ends, t.1 ∙ ap (digits_value 10) (sym plain), l) }
+  pub number_read : (v limit : ℕ) → ((0 < length xs) × (digits_value 10 xs < 2 ^ 32)) × (v ≡ digits_value 10 xs) → v ≤ limit → Front (number limit) (chars bs) (chars ys) v
+  number_read v limit h l =
+      record { piece = chars xs; whole = s.characters; is = (chars_nonempty xs s.front_utf8 h.0.0, s.each, s.ends, h.1 ∙ ap (digits_value 10) (sym plain), l) }
 
   no_number : (limit : ℕ) → (0 < length xs → digits_value 10 xs ≤ limit → ⊥) → NoFront (number limit) (chars bs)
   no_number limit stuck p q v e (l, a, b, f, m) =
       let r : p ≡ xs = run_is is_ascii_digit bs xs ys s p q e a b ∙ plain in
       stuck (subst (λ (x : List ℕ). 0 < length x) r l) (subst (λ (x : ℕ). x ≤ limit) (f ∙ ap (digits_value 10) r) m)
 
-  pub number_over : (E : Type 0) (v limit : ℕ) → ParsesUnsigned {E = E} 32 10 xs (Ok v) → limit < v → NoFront (number limit) (chars bs)
-  number_over E v limit h l = let t = parsed_ok E v h in no_number limit (λ a m. omega arith)
+  pub number_past : (v limit : ℕ) → v ≡ digits_value 10 xs → limit < v → NoFront (number limit) (chars bs)
+  number_past v limit e l = no_number limit (λ a m. omega arith)
 
-  pub number_none : (E : Type 0) (x : E) (limit : ℕ) → ParsesUnsigned 32 10 xs (Err x) → limit < 2 ^ 32 → NoFront (number limit) (chars bs)
-  number_none E x limit h l =
-      let t : (0 < length xs) × (digits_value 10 xs < 2 ^ 32) → ⊥ = parsed E (Err x) h in
-      no_number limit (λ a m. t (a, omega arith))
-
-  -- the same of a result that is such a value
-  module _ {E : Type 0} (r : Result ℕ E) (h : ParsesUnsigned 32 10 xs r) where
-    pub number_read : (v limit : ℕ) → r ≡ Ok v → v ≤ limit → Front (number limit) (chars bs) (chars ys) v
-    number_read v limit e l = number_front E v limit (subst (λ (x : Result ℕ E). ParsesUnsigned 32 10 xs x) e h) l
-
-    pub number_past : (v limit : ℕ) → r ≡ Ok v → limit < v → NoFront (number limit) (chars bs)
-    number_past v limit e l = number_over E v limit (subst (λ (x : Result ℕ E). ParsesUnsigned 32 10 xs x) e h) l
-
-    pub number_bad : (x : E) (limit : ℕ) → r ≡ Err x → limit < 2 ^ 32 → NoFront (number limit) (chars bs)
-    number_bad x limit e l = number_none E x limit (subst (λ (x : Result ℕ E). ParsesUnsigned 32 10 xs x) e h) l
+  pub number_bad : (limit : ℕ) → ((0 < length xs) × (digits_value 10 xs < 2 ^ 32) → ⊥) → limit < 2 ^ 32 → NoFront (number limit) (chars bs)
+  number_bad limit t l = no_number limit (λ a m. t (a, omega arith))
 
 -- ---- words and hosts
 module _ (bs xs ys : List ℕ) (s : SplitsRun is_not_whitespace bs xs ys) where

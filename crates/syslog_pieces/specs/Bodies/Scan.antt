@@ -1,6 +1,6 @@
 -- Runs of bytes, and the runs of characters that they are.
 use Rattle.std.specs.Int.{w64, trailing_zeros}
-use Rattle.std.specs.Prelude.{◌≡◌, ◌+◌, ◌==◌, if◌then◌else◌, ◌≤◌, ◌<◌, ℕ, Bool, true, false, ◌&&◌, nat_lt, List, ◌++◌, length, slice_index, take, drop}
+use Rattle.std.specs.Prelude.{◌≡◌, ◌+◌, ◌==◌, if◌then◌else◌, ◌≤◌, ◌<◌, ℕ, Bool, true, false, ◌&&◌, nat_lt, List, [], ◌∷◌, ◌++◌, length, slice_index, take, drop}
 use Rattle.std.specs.Str.{chars, IsUtf8, IsCharBoundary}
 use Rattle.syslog_pieces.specs.declared.text.CharClass.{CharClass}
 use Rattle.syslog_pieces.specs.declared.text.CharClass.TheVariants.{Digit, Blank, Visible, Id, Name, Plain, Open, Inert, Bare, Tag, Label}
@@ -53,3 +53,12 @@ bit_of Inert = 128
 bit_of Bare = 256
 bit_of Tag = 512
 bit_of Label = 1024
+
+-- bytes that begin and end with ASCII characters that are no white space
+pub record IsBare (bytes : List ℕ) : Type 0 where
+  pub first : ℕ
+  pub middle : List ℕ
+  pub last : ℕ
+  pub whole : bytes ≡ first ∷ (middle ++ (last ∷ []))
+  pub first_in : byte_in Visible first ≡ true
+  pub last_in : byte_in Visible last ≡ true

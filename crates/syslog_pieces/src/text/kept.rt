@@ -12,7 +12,7 @@ ghost use Rattle.syslog_pieces.specs.Pieces.View.{shown};
 ghost use Rattle.syslog_pieces.specs.Text as spec;
 ghost use Rattle.syslog_pieces.specs.Text.{name_text};
 
-use crate::text::{CharClass, host, is_byte, split_run, word};
+use crate::text::{CharClass, host, is_byte, number_of_digits, split_run, word};
 
 /// The text behind the word at the front, which prints as it is written.
 #[inline(always)]
@@ -40,10 +40,8 @@ pub fn kept_number(text: &str, limit: u32) -> Option<&str>
     if has_zero_ahead(digits) {
         return None;
     }
-    match digits.parse::<u32>() {
-        Ok(value) if value <= limit => Some(rest),
-        _ => None,
-    }
+    let value = number_of_digits(digits)?;
+    if value > limit { None } else { Some(rest) }
 }
 
 // One space, with no blank behind it.

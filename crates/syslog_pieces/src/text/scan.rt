@@ -40,8 +40,9 @@ fn bit(class: CharClass) -> u16
     }
 }
 
+/// Whether the byte is ASCII and of the class.
 #[inline(always)]
-fn is_in(b: u8, class: CharClass) -> bool
+pub(crate) fn is_in(b: u8, class: CharClass) -> bool
     ensures { result ≡ byte_in class b }
 {
     CLASSES[b as usize] & bit(class) != 0

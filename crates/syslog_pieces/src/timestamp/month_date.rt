@@ -10,6 +10,7 @@ ghost use Rattle.syslog_pieces.specs.Timestamp.Loose.{ShowsYearless};
 ghost use Rattle.syslog_pieces.specs.Timestamp.MonthDate as spec;
 ghost use Rattle.syslog_pieces.specs.declared.timestamp.month_date.MonthDate.{MonthDate};
 
+use super::usual::usual_date;
 use crate::pri::optional_priority;
 use crate::text::{blanks, first, literal, number, past_colon, some_blanks, trimmed};
 
@@ -31,20 +32,30 @@ pub struct MonthDate {
 }
 
 #[derive(Clone, Copy)]
-struct Day {
-    month: u32,
-    day: u32,
+pub(super) struct Day {
+    pub(super) month: u32,
+    pub(super) day: u32,
 }
 
 #[derive(Clone, Copy)]
-struct Clock {
-    hour: u32,
-    minute: u32,
-    second: u32,
+pub(super) struct Clock {
+    pub(super) hour: u32,
+    pub(super) minute: u32,
+    pub(super) second: u32,
 }
 
 /// The month date at the front, with a year or without one, and the text behind it.
 pub fn month_date(text: &str) -> Option<(MonthDate, &str)>
+    ensures { Reads spec.month_date (λ d. d) (chars text.now) result }
+{
+    match usual_date(text) {
+        Some(found) => Some(found),
+        None => any_date(text),
+    }
+}
+
+// The same, piece by piece.
+fn any_date(text: &str) -> Option<(MonthDate, &str)>
     ensures { Reads spec.month_date (λ d. d) (chars text.now) result }
 {
     let (day, rest) = read_day(text)?;
@@ -75,12 +86,22 @@ pub fn shown_date(text: &str) -> Option<MonthDate>
 fn yearless(text: &str) -> Option<(MonthDate, &str)>
     ensures { Reads spec.yearless_date (λ d. d) (chars text.now) result }
 {
+    match usual_date(text) {
+        Some(found) => Some(found),
+        None => any_yearless(text),
+    }
+}
+
+// The same, piece by piece.
+fn any_yearless(text: &str) -> Option<(MonthDate, &str)>
+    ensures { Reads spec.yearless_date (λ d. d) (chars text.now) result }
+{
     let (day, rest) = read_day(text)?;
     let (clock, rest) = read_clock(rest)?;
     Some((date_of(None, day, clock), rest))
 }
 
-fn date_of(year: Option<u32>, day: Day, clock: Clock) -> MonthDate
+pub(super) fn date_of(year: Option<u32>, day: Day, clock: Clock) -> MonthDate
     ensures { result ≡ parts.date_of year day clock }
 {
     MonthDate {
@@ -153,7 +174,7 @@ fn read_month(text: &str) -> Option<(u32, &str)>
 
 // The number of the month that three small letters name.
 #[tactic(auto, unfolding(crate::specs::Bodies::MonthReading::small_month))]
-fn small_month(a: char, b: char, c: char) -> Option<u32>
+pub(super) fn small_month(a: char, b: char, c: char) -> Option<u32>
     ensures { result ≡ parts.small_month a b c }
 {
     match (a, b, c) {

@@ -3,8 +3,11 @@ use Rattle.syslog_pieces.proofs.text.kept.kept_number.Goals as goal
 use Rattle.syslog_pieces.proofs.TextLemmas.Kept.{digits_kept}
 use Rattle.syslog_pieces.proofs.TextLemmas.Words.{number_read}
 
-pub returns-in-Ok : goal.returns-in-Ok
-returns-in-Ok c =
-    digits_kept c.args.limit c.args.text.now c.split_run.result.0.now c.split_run.result.1.now c.split_run.ensures c.in-Ok.value
-    (number_read c.args.text.now c.split_run.result.0.now c.split_run.result.1.now c.split_run.ensures c.parse.result c.parse.ensures.value.0 c.in-Ok.value c.args.limit c.in-Ok.is (omega arith))
+pub number_of_digits-requires : goal.number_of_digits-requires
+number_of_digits-requires c = c.split_run.ensures.each
+
+pub returns-else-value-limit : goal.returns-else-value-limit
+returns-else-value-limit c =
+    digits_kept c.args.limit c.args.text.now c.split_run.result.0.now c.split_run.result.1.now c.split_run.ensures c.in_ok-value.value
+    (number_read c.args.text.now c.split_run.result.0.now c.split_run.result.1.now c.split_run.ensures c.in_ok-value.value c.args.limit c.in_ok-value.ensures (omega arith))
     (omega arith) c.if-has_zero_ahead.ensures

@@ -1,4 +1,3 @@
-use Rattle.std.proofs.Common.{[], Some}
 use Rattle.std.specs.Str.{chars}
 use Rattle.syslog_pieces.specs.Text.{tag_word}
 use Rattle.syslog_pieces.specs.Text.Plain.{IsPlainTag}

@@ -4,7 +4,7 @@ use Rattle.syslog_pieces.specs.Pieces.Class.{NoFront, Front}
 use Rattle.syslog_pieces.specs.Timestamp.MonthDate.{yearless_date}
 use Rattle.syslog_pieces.specs.declared.timestamp.month_date.MonthDate.{MonthDate}
 use Rattle.syslog_pieces.proofs.TimestampLemmas.MonthReading.{yearless_none_here, yearless_none_later, yearless_front}
-use Rattle.syslog_pieces.proofs.timestamp.month_date.yearless.Goals as goal
+use Rattle.syslog_pieces.proofs.timestamp.month_date.any_yearless.Goals as goal
 
 pub returns-in_err-day : goal.returns-in_err-day
 returns-in_err-day c =
