@@ -1,14 +1,13 @@
 -- What each text that has a reading begins with.
-use Rattle.std.proofs.Common.{◌≡◌, inl, inr, ℕ, Bool, true, false, nat_eq, ◌||◌, ◌==◌, ◌<◌, ◌≤◌, List, [], ◌∷◌, ◌++◌, length, get_or, Option, Some, None, refl, sym, ap, subst, ◌∙◌, arith}
+use Rattle.std.proofs.Common.{◌≡◌, inl, inr, ℕ, Bool, true, false, nat_eq, ◌||◌, ◌<◌, ◌≤◌, List, [], ◌∷◌, ◌++◌, length, get_or, Option, Some, None, refl, sym, ap, subst, ◌∙◌, arith}
 use Rattle.std.proofs.lemmas.Bool.{cases_Bool}
 use Rattle.std.proofs.lemmas.Bool.Decides.{nat_tests}
 use Rattle.std.proofs.lemmas.Str.{chars-nil}
-use Rattle.std.specs.Prelude.{IsFalse}
 use Rattle.std.specs.Str.{chars}
 use Rattle.std.specs.Char.{is_ascii_digit, to_ascii_lowercase, IsAsciiDigit}
-use Rattle.syslog_pieces.specs.Pieces.Class.{Text, Class, Values, Division, Front, Row, Each, run, some_run, rest, exactly, optional}
+use Rattle.syslog_pieces.specs.Pieces.Class.{Text, Class, Values, Division, Front, Row, Each, run, some_run, exactly, optional}
 use Rattle.syslog_pieces.specs.Bodies.MonthReading.{small_month}
-use Rattle.syslog_pieces.specs.Pri.{priority, priority_row}
+use Rattle.syslog_pieces.specs.Pri.{priority}
 use Rattle.syslog_pieces.specs.ProcId.{process_word}
 use Rattle.syslog_pieces.specs.Text.{trimmed, is_blank, number, host, word}
 use Rattle.syslog_pieces.specs.Timestamp.{header_stamp}
@@ -19,7 +18,7 @@ use Rattle.syslog_pieces.specs.declared.structured_data.listed.DashRule.{DashRul
 use Rattle.syslog_pieces.specs.declared.timestamp.OffsetTimestamp.{OffsetTimestamp}
 use Rattle.syslog_pieces.specs.declared.timestamp.month_date.MonthDate.{MonthDate}
 use Rattle.syslog_pieces.proofs.PieceLemmas.Class.{row_head, division_front}
-use Rattle.syslog_pieces.proofs.PieceLemmas.Kinds.{Begins, begins_more, begins_with, each_begins}
+use Rattle.syslog_pieces.proofs.PieceLemmas.Kinds.{Begins, begins_more, begins_with}
 use Rattle.syslog_pieces.proofs.PieceLemmas.Steps.{absent_stays, present_front}
 use Rattle.syslog_pieces.proofs.TextLemmas.Chars.{ascii_front, one_ascii}
 use Rattle.syslog_pieces.proofs.TimestampLemmas.Months.{month_letters}

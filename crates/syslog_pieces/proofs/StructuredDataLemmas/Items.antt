@@ -10,10 +10,10 @@ use Rattle.syslog_pieces.specs.StructuredData.Element.{ElementValue}
 use Rattle.syslog_pieces.specs.Pieces.Lists.{many}
 use Rattle.syslog_pieces.specs.StructuredData.{element, bracketed, item, strict, forgiving, NeedsNoMemory}
 use Rattle.syslog_pieces.specs.Text.{dash}
-use Rattle.syslog_pieces.proofs.PieceLemmas.Class.{front_same}
+use Rattle.syslog_pieces.proofs.PieceLemmas.Class.{front_same, behind}
 use Rattle.syslog_pieces.proofs.StructuredDataLemmas.Closing.{dead_suffix}
 use Rattle.syslog_pieces.proofs.StructuredDataLemmas.Elements.{element_det, item_det}
-use Rattle.syslog_pieces.proofs.PieceLemmas.Lists.{many_det}
+use Rattle.syslog_pieces.proofs.PieceLemmas.Lists.{many_det, many_cons, HasRead}
 
 -- ---- one item
 pub no_item : (t : Text) → NoFront element t → NoFront bracketed t → NoFront item t
@@ -93,6 +93,18 @@ module _ {X : Type 0} (view : X → ElementValue) (old : List X) (vs : List (Opt
 pub strict_there : (s s' : Text) (v : Option ElementValue) → true ≡ is_some v → Front item s s' v → NoFront element s → ⊥
 strict_there s s' None e f n = let t : true ≡ false = e in cc
 strict_there s s' (Some d) e f n = n f.piece s' d f.whole f.is
+
+-- strict elements, as items
+pub strict_all : (es : List ElementValue) → strict (map Some es) ≡ es
+strict_all [] = refl
+strict_all (e ∷ es) = ap (λ (x : List ElementValue). e ∷ x) (strict_all es)
+
+pub elements_read : (t q : Text) (es : List ElementValue) → Front (many element) t q es → HasRead item t (map Some es) q
+elements_read t q [] f r ws g = subst (λ (x : Text). Front (many item) x r ws) (sym (f.whole ∙ ap (λ (x : Text). x ++ q) f.is.0)) g
+elements_read t q (e ∷ es) f r ws g =
+    let (a, b, i, k, more) = f.is in
+    many_cons item t (b ++ q) r (Some e) (map Some es ++ ws) (record { piece = a; whole = f.whole ∙ behind f.piece a b q i; is = k })
+    (elements_read (b ++ q) q es (record { piece = b; whole = refl; is = more }) r ws g)
 
 -- ---- items without a broken one are strict elements
 all_strict : (p q : Text) (vs : List (Option ElementValue)) → list_any is_none vs ≡ false → (many item).Is p q vs → (many element).Is p q (strict vs)

@@ -90,8 +90,8 @@ fn collect_elements<'a>(
     alloc: Global,
     text: &'a str,
 ) -> Result<(Vec<StructuredElement<&'a str>>, &'a str), AllocError>
-    ensures { IfOk result (λ read.
-        Front (many element_class) (chars text.now) (shown read.1) (map (element_value (λ s. shown s)) read.0.items)) }
+    ensures { IfOk result (λ read. IsUtf8 read.1.now
+        × Front (many element_class) (chars text.now) (shown read.1) (map (element_value (λ s. shown s)) read.0.items)) }
 {
     let mut elements = Vec::new(alloc);
     let mut rest = text;
@@ -104,7 +104,8 @@ fn collect_elements<'a>(
     }
 }
 
-// The strict elements among the items at the front, and the text behind all the items.
+// The strict elements among the items at the front, and the text behind all the items. Up to the first broken item they
+// are collected at once; behind it each is recognised before it is collected, so that the walk stays linear.
 fn collect_items<'a>(
     alloc: Global,
     text: &'a str,
@@ -113,9 +114,10 @@ fn collect_items<'a>(
         × Front (many item_class) (chars text.now) (shown read.1) vs
         × (map (element_value (λ s. shown s)) read.0.items ≡ strict_of vs)) }
 {
-    let mut kept = Vec::new(alloc);
-    let mut rest = text;
-    let mut dead = text.len();
+    let (elements, behind) = collect_elements(alloc, text)?;
+    let mut kept = elements;
+    let mut rest = behind;
+    let mut dead = behind.len();
     'items: loop {
         let Some(item) = next_item(rest, dead) else {
             return Ok((kept, rest));

@@ -1,6 +1,6 @@
 //! Runs of ASCII bytes of a class: sixteen at a time while they last, then one by one.
 ghost use Rattle.std.specs.Prelude.{◌≡◌, ◌<◌, IsTrue, length, slice_index};
-ghost use Rattle.syslog_pieces.specs.Bodies.Scan.{IsRun, bit_of, byte_in};
+ghost use Rattle.syslog_pieces.specs.Bodies.Scan.{IsRun, bit_of, byte_in, is_long};
 
 use crate::text::CharClass;
 use crate::text::lanes::{LANES, class_run};
@@ -50,7 +50,9 @@ pub(crate) fn is_in(b: u8, class: CharClass) -> bool
 
 // Runs of digits and blanks are short: a load of sixteen bytes isn't worth it.
 #[inline(always)]
-fn is_long(class: CharClass) -> bool {
+fn is_long(class: CharClass) -> bool
+    ensures { result ≡ is_long class }
+{
     !matches!(class, CharClass::Digit | CharClass::Blank)
 }
 

@@ -7,7 +7,7 @@ use std::process::Abort;
 use std::test::Fail;
 
 /// The longest text that is cut.
-const LONGEST: usize = 40;
+const LONGEST: usize = 70;
 
 /// A class with a character of it and characters that stop its runs.
 type Cutting = (CharClass, char, &'static [char]);
@@ -217,6 +217,9 @@ fn reads_a_number_up_to_its_limit(rt: HostRuntime) {
         ("34>", 255, 34, ">"),
         ("255", 255, 255, ""),
         ("00255 ", 255, 255, " "),
+        ("007", 7, 7, ""),
+        ("999 ", 999, 999, " "),
+        ("1000", 1000, 1000, ""),
         ("4294967295 -", u32::MAX, u32::MAX, " -"),
         ("1\u{663}", 9, 1, "\u{663}"),
     ] {
@@ -254,6 +257,11 @@ fn trims_white_space_alone(rt: HostRuntime) {
     for (text, want) in [
         ("", ""),
         (" \t\r\n\u{b}\u{c}", ""),
+        ("x", "x"),
+        ("a b", "a b"),
+        ("x\u{85}", "x"),
+        ("\u{3000}x", "x"),
+        ("\u{fc}", "\u{fc}"),
         ("  a b \n", "a b"),
         (
             "\u{85}\u{a0}\u{1680}\u{2003}x\u{2028}\u{2029}\u{202f}\u{205f}\u{3000}",

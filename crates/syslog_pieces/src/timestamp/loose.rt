@@ -1,10 +1,13 @@
 //! The timestamp of a header of RFC 3164.
+ghost use Rattle.std.specs.Prelude.{IfSome};
 ghost use Rattle.std.specs.Str.{chars};
-ghost use Rattle.syslog_pieces.specs.Pieces.View.{Reads};
+ghost use Rattle.syslog_pieces.specs.Pieces.Class.{Front};
+ghost use Rattle.syslog_pieces.specs.Pieces.View.{shown, Reads};
 ghost use Rattle.syslog_pieces.specs.Timestamp.Loose as spec;
 ghost use Rattle.syslog_pieces.specs.Timestamp.Zone.{dating_of};
 
 use super::month_date::month_date;
+use super::usual::usual_date;
 use super::zone::month_stamp;
 use super::{OffsetTimestamp, header_stamp};
 use jiff::tz::TimeZone;
@@ -16,6 +19,36 @@ use jiff::tz::TimeZone;
 /// it shows none. Where that is absent too, and where the calendar, the clock or the zone has no such moment, the text
 /// has no timestamp. It takes no memory.
 pub fn loose_stamp<'a>(
+    text: &'a str,
+    year: Option<i32>,
+    tz: Option<&TimeZone<'_>>,
+    local: &TimeZone<'_>,
+) -> Option<(Option<OffsetTimestamp>, &'a str)>
+    ensures { Reads (spec.loose_stamp (dating_of year tz.entry local.entry)) (λ s. s) (chars text.now) result }
+{
+    match usual_stamp(text, year, tz, local) {
+        Some(found) => Some(found),
+        None => any_stamp(text, year, tz, local),
+    }
+}
+
+// The timestamp of a month date in its usual form, which neither `-` nor an RFC 3339 text looks like.
+#[inline(always)]
+fn usual_stamp<'a>(
+    text: &'a str,
+    year: Option<i32>,
+    tz: Option<&TimeZone<'_>>,
+    local: &TimeZone<'_>,
+) -> Option<(Option<OffsetTimestamp>, &'a str)>
+    ensures { IfSome result (λ found. Front (spec.loose_stamp (dating_of year tz.entry local.entry)) (chars text.now) (shown found.1) found.0) }
+{
+    let (date, rest) = usual_date(text)?;
+    let stamp = month_stamp(date, year, tz, local)?;
+    Some((Some(stamp), rest))
+}
+
+// The timestamp at the front, whatever its form.
+fn any_stamp<'a>(
     text: &'a str,
     year: Option<i32>,
     tz: Option<&TimeZone<'_>>,

@@ -1,5 +1,6 @@
 use crate::timestamp::month_date::{MonthDate, month_date};
 use crate::timestamp::shown_date;
+use crate::timestamp::usual::usual_date;
 use std::process::Abort;
 use std::test::Fail;
 
@@ -227,4 +228,34 @@ fn shows_no_date_elsewhere(rt: HostRuntime) {
     ] {
         assert!(rt; shown_date(text).is_none(), "{text:?}");
     }
+}
+
+// No clause says which dates are read at one look: a reader that finds none meets its contract.
+#[test]
+fn reads_the_usual_form_at_one_look(rt: HostRuntime) -> Result<(), Fail> {
+    for (text, date, left) in [
+        ("Dec 28 16:49:07 h", DECEMBER, " h"),
+        ("dEC 28 16:49:07", DECEMBER, ""),
+        ("Sep  5 07:08:09-", SEPTEMBER, "-"),
+    ] {
+        let (read, rest) = usual_date(text).ok_or("no usual date")?;
+        assert_eq!(rt; numbers(read), date, "{text:?}");
+        assert_eq!(rt; rest, left, "{text:?}");
+    }
+    for text in [
+        "Dec 28 16:49:07:",
+        "Dec 28 16:49:070",
+        "Dec 28 16:49:07\u{fc}",
+        "Dec 28 16:49:0",
+        "Dec  28 16:49:07",
+        "Dec 028 16:49:07",
+        "Sep 5 07:08:09",
+        "Dec\t28 16:49:07",
+        "Dec 28 6:49:07",
+        "Dez 28 16:49:07",
+        "",
+    ] {
+        assert!(rt; usual_date(text).is_none(), "{text:?}");
+    }
+    Ok(())
 }

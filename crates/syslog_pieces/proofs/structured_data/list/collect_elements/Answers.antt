@@ -14,7 +14,7 @@ elements-init c =
     (search rules, subst (λ (x : List ElementValue). HasRead element (chars c.args.text.now) x (chars c.args.text.now)) (sym (ap (map (element_value (λ (s : Bor (List ℕ)). shown s))) c.new-elements.ensures.items)) (has_read_none element (chars c.args.text.now)))
 
 pub returns-in_default : goal.returns-in_default
-returns-in_default c = has_read_all element (chars c.args.text.now) (chars c.elements.rest.now) _ c.elements.invariant.1 (rw c.in_default.is at c.in_ok-element.ensures)
+returns-in_default c = (search rules, has_read_all element (chars c.args.text.now) (chars c.elements.rest.now) _ c.elements.invariant.1 (rw c.in_default.is at c.in_ok-element.ensures))
 
 pub elements-preserved : goal.elements-preserved
 elements-preserved c =

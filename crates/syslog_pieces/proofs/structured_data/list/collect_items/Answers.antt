@@ -1,4 +1,4 @@
-use Rattle.std.proofs.Common.{rules, ℕ, List, [], ◌∷◌, ◌++◌, map, sym, ap, ◌∙◌}
+use Rattle.std.proofs.Common.{ℕ, List, [], ◌∷◌, ◌++◌, Some, map, sym, ap, ◌∙◌}
 use Rattle.std.specs.Borrow.{Bor}
 use Rattle.std.specs.Str.{chars}
 use Rattle.syslog_pieces.specs.StructuredData.Element.{element_value}
@@ -6,17 +6,20 @@ use Rattle.syslog_pieces.specs.StructuredData.{item}
 use Rattle.syslog_pieces.specs.Pieces.View.{shown}
 use Rattle.syslog_pieces.proofs.StructuredDataLemmas.Closing.{byte_count_slice, dead_whole}
 use Rattle.syslog_pieces.proofs.StructuredDataLemmas.Elements.{item_shorter}
-use Rattle.syslog_pieces.proofs.StructuredDataLemmas.Items.{strict_there, collected_strict, collected_broken}
-use Rattle.syslog_pieces.proofs.PieceLemmas.Lists.{has_read_none, has_read_more, has_read_all}
+use Rattle.syslog_pieces.proofs.StructuredDataLemmas.Items.{strict_all, elements_read, strict_there, collected_strict, collected_broken}
+use Rattle.syslog_pieces.proofs.PieceLemmas.Lists.{has_read_more, has_read_all}
 use Rattle.syslog_pieces.proofs.structured_data.list.collect_items.Goals as goal
 use Rattle.syslog_pieces.proofs.structured_data.list.collect_items.Goals.{then-item+in_ok-element+in-Some-2+in_ok-push, else-item}
 
 pub items-init : goal.items-init
-items-init c = (
-  search rules,
-  dead_whole (chars c.args.text.now) _ (sym (byte_count_slice c.args.text.now c.utf8.text)),
-  ([], has_read_none item (chars c.args.text.now), ap (map (element_value (λ (s : Bor (List ℕ)). shown s))) c.new-kept.ensures.items),
-)
+items-init c =
+    let f = c.in_ok-elements.ensures in
+    let es = map (element_value (λ (s : Bor (List ℕ)). shown s)) c.in_ok-elements.elements.items in
+    let behind = c.in_ok-elements.behind.now in (
+      f.0,
+      dead_whole (chars behind) _ (sym (byte_count_slice behind f.0)),
+      (map Some es, elements_read (chars c.args.text.now) (chars behind) es f.1, sym (strict_all es)),
+    )
 
 pub returns-in_default : goal.returns-in_default
 returns-in_default c =

@@ -38,4 +38,4 @@ returns-in_err-elements-2-clause-memory c n =
 pub returns-clause-list : goal.returns-clause-list
 returns-clause-list c =
     let s = c.all_items-items.ensures.1 in
-    list_of_elements (chars c.args.text.now) _ s.0 s.1 (sym s.2 ∙ c.if-not-items.false) (sym s.3 ∙ c.if-items.false) (chars c.in_ok-elements-2.rest.now) _ c.in_ok-elements-2.ensures
+    list_of_elements (chars c.args.text.now) _ s.0 s.1 (sym s.2 ∙ c.if-not-items.false) (sym s.3 ∙ c.if-items.false) (chars c.in_ok-elements-2.rest.now) _ c.in_ok-elements-2.ensures.1

@@ -4,7 +4,7 @@ use Rattle.syslog_pieces.specs.Pieces.Class.{NoFront}
 use Rattle.syslog_pieces.specs.Timestamp.Loose.{loose_stamp}
 use Rattle.syslog_pieces.specs.Timestamp.Zone.{dating_of}
 use Rattle.syslog_pieces.proofs.TimestampLemmas.Loose.{header_front, date_front, no_date, no_stamp_of_date}
-use Rattle.syslog_pieces.proofs.timestamp.loose.loose_stamp.Goals as goal
+use Rattle.syslog_pieces.proofs.timestamp.loose.any_stamp.Goals as goal
 
 pub returns-in-Some : goal.returns-in-Some
 returns-in-Some c = header_front (dating_of c.args.year c.args.tz c.args.local) c.in-Some.ensures
