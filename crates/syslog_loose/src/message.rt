@@ -18,7 +18,7 @@ pub(crate) use printing::write_timestamp;
 use printing::{write_elements, write_elements_before, write_name, write_process, write_tag};
 use std::fmt;
 use syslog_pieces::as_str::AsStr;
-use syslog_pieces::pri::{SyslogFacility, SyslogSeverity};
+use syslog_pieces::pri::{SyslogFacility, SyslogSeverity, write_priority};
 use syslog_pieces::procid::ProcId;
 use syslog_pieces::structured_data::StructuredElement;
 use syslog_pieces::timestamp::OffsetTimestamp;
@@ -153,7 +153,7 @@ fn write_rfc3164<S: AsStr, W: fmt::Write>(
 {
     let priority = priority(message.facility, message.severity);
     let msg = message.msg.as_str();
-    write!(f, "<{priority}>")?;
+    write_priority(f, priority)?;
     write_origin(f, message)?;
     write_tag(f, &message.appname, &message.procid)?;
     write_elements_before(f, &message.structured_data)?;

@@ -20,6 +20,7 @@ mod tests;
 
 use crate::as_str::{AsStr, is_same_text};
 use crate::text::plain::is_plain_word;
+use crate::text::written::write_signed;
 use crate::text::{first, word};
 use std::alloc::{AllocError, Global};
 use std::fmt;
@@ -38,7 +39,7 @@ impl<S: AsStr> fmt::Display for ProcId<S> {
 
     fn fmt<W: fmt::Write>(&self, f: &mut fmt::Formatter<W>) -> fmt::Result {
         match self {
-            ProcId::PID(number) => write!(f, "{number}"),
+            ProcId::PID(number) => write_signed(f, number),
             ProcId::Name(name) => {
                 let name = name.as_str();
                 f.write_str(name)

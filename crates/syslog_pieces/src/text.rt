@@ -19,6 +19,7 @@ pub mod plain;
 mod scan;
 #[cfg(test)]
 mod tests;
+pub mod written;
 
 pub use fields::{host_field, tag_field};
 pub(crate) use numerals::number_of_digits;

@@ -14,23 +14,11 @@ use Rattle.syslog_pieces.specs.Timestamp.MonthDate.{month, short_number, clock_r
 use Rattle.syslog_pieces.specs.declared.timestamp.month_date.Clock.{Clock}
 use Rattle.syslog_pieces.proofs.PieceLemmas.Class.{row_nil, row_cons}
 use Rattle.syslog_pieces.proofs.TextLemmas.Chars.{ascii_front}
+use Rattle.syslog_pieces.proofs.TextLemmas.Decimals.{digit_is}
 use Rattle.syslog_pieces.proofs.TimestampLemmas.MonthReading.{yearless_front}
 use Rattle.syslog_pieces.proofs.TimestampLemmas.Months.{month_named}
 
 -- ---- digits
-digit_is : (d : ℕ) → d < 10 → (is_ascii_digit (48 + d) ≡ true) × (is_blank (48 + d) ≡ false) × (digit_value (48 + d) ≡ d)
-digit_is zero h = (refl, refl, refl)
-digit_is (suc zero) h = (refl, refl, refl)
-digit_is (suc (suc zero)) h = (refl, refl, refl)
-digit_is (suc (suc (suc zero))) h = (refl, refl, refl)
-digit_is (suc (suc (suc (suc zero)))) h = (refl, refl, refl)
-digit_is (suc (suc (suc (suc (suc zero))))) h = (refl, refl, refl)
-digit_is (suc (suc (suc (suc (suc (suc zero)))))) h = (refl, refl, refl)
-digit_is (suc (suc (suc (suc (suc (suc (suc zero))))))) h = (refl, refl, refl)
-digit_is (suc (suc (suc (suc (suc (suc (suc (suc zero)))))))) h = (refl, refl, refl)
-digit_is (suc (suc (suc (suc (suc (suc (suc (suc (suc zero))))))))) h = (refl, refl, refl)
-digit_is (suc (suc (suc (suc (suc (suc (suc (suc (suc (suc d)))))))))) h = absurd (omega arith)
-
 module _ (n : ℕ) (h : n < 100) where
   tens : n / 10 < 10
   tens = omega arith

@@ -7,9 +7,10 @@ ghost use Rattle.syslog_pieces.specs.Timestamp.Fields.{fields_of};
 ghost use Rattle.syslog_pieces.specs.Timestamp.Printed as spec;
 
 use super::OffsetTimestamp;
+use crate::text::written::{digit, write_bytes};
 use jiff::civil::DateTime;
 use jiff::tz::Offset;
-use std::{fmt, str};
+use std::fmt;
 
 impl fmt::Display for OffsetTimestamp {
     ghost output = { λ s. Some (spec.printed_stamp s.instant.nanosecond s.offset.seconds) };
@@ -43,23 +44,6 @@ fn write_date_time<W: fmt::Write>(f: &mut fmt::Formatter<W>, dt: DateTime) -> fm
         f.write_str("-")?;
     }
     write_bytes(f, &date_time_bytes(dt))
-}
-
-// Bytes that are ASCII.
-#[inline(always)]
-fn write_bytes<W: fmt::Write>(f: &mut fmt::Formatter<W>, bytes: &[u8]) -> fmt::Result
-    requires { AllByRecursion (λ b. b < 128) bytes.now }
-    ensures { WritesOnOk W.write_str_gives f.old result bytes.now f.new }
-{
-    f.write_str(unsafe { str::from_utf8_unchecked(bytes) })
-}
-
-#[inline(always)]
-fn digit(n: u32) -> u8
-    requires { n < 10 }
-    ensures { result ≡ 48 + n }
-{
-    b'0' + n as u8
 }
 
 // The date and the time of day to the second, without the year's sign.
