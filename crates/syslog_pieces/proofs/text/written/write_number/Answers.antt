@@ -1,4 +1,4 @@
-use Rattle.std.proofs.Common.{ℕ, List, [], ◌∷◌, sym, ap, ◌∙◌, arith}
+use Rattle.std.proofs.Common.{ℕ, [], ◌∷◌, sym, ap, ◌∙◌, arith}
 use Rattle.std.proofs.Output.{has_written_of_eq}
 use Rattle.syslog_pieces.proofs.TextLemmas.Decimals.{one_digit, two_digits, three_digits, four_digits, five_digits}
 use Rattle.syslog_pieces.proofs.text.written.write_number.Goals as goal
