@@ -11,6 +11,7 @@ mod differing;
 mod expected;
 mod headers;
 mod hostile;
+mod hostile_3164;
 mod lists;
 mod printed;
 mod refusals;

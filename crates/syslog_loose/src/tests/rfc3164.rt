@@ -9,18 +9,18 @@ use syslog_pieces::structured_data::listed::DashRule;
 
 /// What a text reads as, and how that prints. The printed text has the priority and the timestamp.
 #[derive(Clone, Copy)]
-struct Loose<'a> {
-    text: &'a str,
-    year: i32,
-    hostname: Option<&'a str>,
-    appname: Option<&'a str>,
-    process: Process<'a>,
-    elements: &'a str,
-    msg: &'a str,
-    printed: &'a str,
+pub(super) struct Loose<'a> {
+    pub(super) text: &'a str,
+    pub(super) year: i32,
+    pub(super) hostname: Option<&'a str>,
+    pub(super) appname: Option<&'a str>,
+    pub(super) process: Process<'a>,
+    pub(super) elements: &'a str,
+    pub(super) msg: &'a str,
+    pub(super) printed: &'a str,
 }
 
-fn row<'a>(text: &'a str, printed: &'a str) -> Loose<'a> {
+pub(super) fn row<'a>(text: &'a str, printed: &'a str) -> Loose<'a> {
     Loose {
         text,
         year: 2019,
@@ -63,7 +63,7 @@ fn check_loose(
 }
 
 /// Each text reads as its message, as RFC 3164 and under `Either`, and as none of RFC 5424.
-fn check_rows(rt: &impl Abort, alloc: Global, rows: &[Loose]) -> Result<(), Fail> {
+pub(super) fn check_rows(rt: &impl Abort, alloc: Global, rows: &[Loose]) -> Result<(), Fail> {
     for want in rows {
         for variant in [Variant::Either, Variant::RFC3164] {
             let message = read_in_year(alloc, want.text, want.year, variant)?;
