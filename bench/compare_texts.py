@@ -4,11 +4,13 @@
   compare_texts.py --ours PROGRAM --theirs PROGRAM                 50,000 texts made by edits of base_texts.txt
   compare_texts.py --elements 3000 --ours PROGRAM --theirs PROGRAM   as many elements, each in a whole message
   compare_texts.py --dates 2000 --variant 3164 --zone rule ..        as many dates of RFC 3164, each in a whole message
+  compare_texts.py --dashes 100000 --variant either ..               as many lines that begin their message with a dash
 
 PROGRAM of --ours is called with a variant (either, 3164 or 5424), the years and the zone; bench/build_reader builds
 it. PROGRAM of --theirs is called with --raw --variant VARIANT --year YEARS --tz ZONE, under TZ=UTC. Each reads texts, one a
 line, and prints a JSON object for each, with the fields of a message or "ok": false. The texts are the same
-each time for one seed. The status is 0 where each difference is one that is expected, and named below.
+each time for one seed. The status is 0 where each difference is one that is expected, and named below, and where `differs` of
+ours is true exactly for the texts whose messages differ.
 """
 
 import argparse
@@ -184,6 +186,24 @@ def date(chance):
     return text + chance.choice(["", "", "", ":", "::", " :"]) + chance.choice([" h a: m", " h a: m", "", "h a: m", " h a[1]: m"])
 
 
+HEADERS = ["-", "-", "Oct 11 22:14:15", "Oct 11 2019 22:14:15", "oct  1 02:03:04:", "2019-10-11T22:14:15Z", "2019-10-11T22:14:15.5+02:00"]
+NAMES = ["", " h", " mymachine", " -", " h:", " h[1]", " ü.example", " 10.0.0.1"]
+TAGS = ["", " app", " app", " app[323]", " -", " a/b", " [5]", " 局"]
+BEHIND = ["", " ", "\t", "  ", "-", "--", "5", "5 degrees", "x", "x y", "ü", "🔋", ":", "[", "[e k=\"v\"] x", "[e] x", "]", "\"", ">", "- x", "-\tx"]
+
+
+def dashed(chance):
+    """A line whose message begins with a dash: nearly always of RFC 3164."""
+    front = chance.choice(["", "<34>", "<34> ", "<0>", "<200>"])
+    if chance.random() < 0.05:
+        front += "1 - %s - - - - -" % run_of(chance, ["h", "a", "-"], 1, 3)
+    else:
+        front += chance.choice(HEADERS) + chance.choice(NAMES) + chance.choice(TAGS)
+        front += chance.choice([":", ":", ":", " :", ""]) + chance.choice([" ", " ", "", "\t", "  "]) + "-"
+    behind = chance.choice(BEHIND) if chance.random() < 0.7 else chance.choice(WHITE + NON_ASCII)
+    return (front + behind + run_of(chance, ["x", "7", " ", "-", "é", "[a b=\"c\"]", ": "], 0, 6)).rstrip("\r")
+
+
 def distinct(count, make):
     found = {}
     while len(found) < count:
@@ -197,6 +217,8 @@ def texts_of(chosen):
         return ["1 - - - - - " + it for it in distinct(chosen.elements, lambda: element(chance))]
     if chosen.dates:
         return distinct(chosen.dates, lambda: chance.choice(["", "<34>", "<34> "]) + date(chance))
+    if chosen.dashes:
+        return distinct(chosen.dashes, lambda: dashed(chance))
     with open(chosen.base, encoding="utf-8", newline="\n") as given:
         bases = [it for it in given.read().split("\n") if it and not it.startswith("#")]
     taken = likely(bases, chosen.variant)
@@ -303,6 +325,17 @@ def kind_of(text, ours, theirs):
     return "UNEXPECTED: " + ", ".join(it for it in FIELDS if a.get(it) != b.get(it))
 
 
+def report_dashes(texts, ours, theirs, shown):
+    """Prints how many texts are said to be read differently, and says whether these are those whose messages differ."""
+    both = [(text, a, b) for text, a, b in zip(texts, ours, theirs) if a.get("ok") and b.get("ok")]
+    wrong = [text for text, a, b in both if a["differs"] != (a["msg"] != b["msg"])]
+    wrong += [text for text, a, b in zip(texts, ours, theirs) if a["differs"] and not (a.get("ok") and b.get("ok"))]
+    print("%d read by both; of them %d are said to be read differently, wrongly %d" % (len(both), sum(a["differs"] for _, a, _ in both), len(wrong)))
+    for text in sorted(wrong, key=len)[:shown]:
+        print("  text %s" % json.dumps(text, ensure_ascii=False))
+    return not wrong
+
+
 def report(texts, ours, theirs, shown):
     """Prints how the answers differ, and says whether each difference is expected."""
     found = collections.defaultdict(list)
@@ -333,6 +366,7 @@ def arguments():
     reader.add_argument("--count", type=int, default=50_000, help="edited texts (50,000)")
     reader.add_argument("--elements", type=int, default=0, metavar="N", help="N elements in place of edited texts")
     reader.add_argument("--dates", type=int, default=0, metavar="N", help="N dates of RFC 3164 in place of edited texts")
+    reader.add_argument("--dashes", type=int, default=0, metavar="N", help="N lines that begin their message with a dash in place of edited texts")
     reader.add_argument("--years", default="2019/2019", help="the years of dates without one, in December and else (2019/2019)")
     reader.add_argument("--zone", default="none", help="the zone of dates without an offset: none, utc, rule or +HH:MM (none)")
     reader.add_argument("--seed", type=int, default=5424)
@@ -354,7 +388,9 @@ def main():
         return
     ours = answers([chosen.ours, chosen.variant, chosen.years, chosen.zone], texts)
     theirs = answers([chosen.theirs, "--raw", "--variant", chosen.variant, "--year", chosen.years, "--tz", chosen.zone], texts)
-    sys.exit(0 if report(texts, ours, theirs, chosen.shown) else 1)
+    expected = report(texts, ours, theirs, chosen.shown)
+    told = report_dashes(texts, ours, theirs, chosen.shown)
+    sys.exit(0 if expected and told else 1)
 
 
 if __name__ == "__main__":
