@@ -168,11 +168,12 @@ line_bytes front stamp tail msg u v w =
 -- ---- by a variant that reads RFC 5424
 
 pub strictly : (text : Text) (m : MessageValue) (bytes : List ℕ) → IsRead5424 text m → bytes ≡ encode_utf8_all (printed m) → PrintsAs RFC5424 text bytes
-strictly text m bytes r e = record { message = m; only = λ dating. only_read RFC5424 dating text m r; asks_none = λ date asks. asks; prints = e }
+strictly text m bytes r e = record { message = m; strict = r; only = λ dating. only_read RFC5424 dating text m r; asks_none = λ date asks. asks; prints = e }
 
 pub either_way : (text : Text) (m : MessageValue) (bytes : List ℕ) → IsRead5424 text m → bytes ≡ encode_utf8_all (printed m) → PrintsAs Either text bytes
 either_way text m bytes r e = record {
   message = m;
+  strict = r;
   only = λ dating. only_read Either dating text m (inl r);
   asks_none = λ date asks. shown_apart text date (shows_month_date text date asks) r.values r.division;
   prints = e;

@@ -99,7 +99,7 @@ strictly_read RFC5424 dating version m n text e h r = r
 strictly_read RFC3164 dating version m n text e h r = absurd (subst (λ (p : Protocol). ReadsProtocol RFC3164 p) e h)
 
 -- a kept message's printed text is read as one that prints the same
-kept_again : (variant : Variant) (dating : Dating) (m : MessageValue) → IsKept m → ReadsProtocol variant m.protocol → (n : MessageValue) × IsRead variant dating (printed m) n × (printed n ≡ printed m)
+pub kept_again : (variant : Variant) (dating : Dating) (m : MessageValue) → IsKept m → ReadsProtocol variant m.protocol → (n : MessageValue) × IsRead variant dating (printed m) n × (printed n ≡ printed m)
 kept_again variant dating m (inl (b, c)) h = (m, (printed_exact dating m b variant h).1 c, refl)
 kept_again variant dating m (inr (inl (text, r))) h =
     let (s, e) = rfc5424.read_again text m r in

@@ -77,7 +77,7 @@ no_ok (Err x) e is h = cc
 -- ---- the year
 
 -- a reading in which no year is asked for is one in each year
-any_year : (variant : Variant) (text : Text) (tz : Option (Bor TimeZone)) (local : Bor TimeZone) (year other : Option ℤ) (m : MessageValue) → ((date : MonthDate) → AsksYear variant text date → ⊥)
+pub any_year : (variant : Variant) (text : Text) (tz : Option (Bor TimeZone)) (local : Bor TimeZone) (year other : Option ℤ) (m : MessageValue) → ((date : MonthDate) → AsksYear variant text date → ⊥)
     → IsRead variant (dating_of year tz local) text m → IsRead variant (dating_of other tz local) text m
 any_year RFC5424 text tz local year other m never r = r
 any_year RFC3164 text tz local year other m never r = other_read (dating_of year tz local) (dating_of other tz local) refl refl dash_rule text never m r

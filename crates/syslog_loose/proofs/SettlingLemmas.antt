@@ -1,6 +1,12 @@
--- Lines that settle: what a message weighs, and that a message whose printed text is read as one that prints otherwise
--- becomes lighter.
+-- Lines that settle: what a message weighs, that a message whose printed text is read as one that prints otherwise
+-- becomes lighter, and that so the rounds of a text come to rest.
 pub mod Costs
 pub mod Falls
+pub mod Light
 pub mod Names
 pub mod NoList
+pub mod Quiet
+pub mod Rounds
+pub mod Settles
+pub mod Weights
+pub mod Years

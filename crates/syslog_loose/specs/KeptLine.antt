@@ -15,7 +15,7 @@ use Rattle.syslog_pieces.specs.declared.timestamp.month_date.MonthDate.{MonthDat
 use Rattle.syslog_loose.specs.Message.{MessageValue}
 use Rattle.syslog_loose.specs.Printed.{printed, timestamp_text}
 use Rattle.syslog_loose.specs.Reading.{AsksYear, IsOnlyRead}
-use Rattle.syslog_loose.specs.Rfc5424.{rfc5424_row, message_of}
+use Rattle.syslog_loose.specs.Rfc5424.{rfc5424_row, message_of, IsRead5424}
 use Rattle.syslog_loose.specs.declared.reading.Variant.{Variant}
 
 -- priority and version
@@ -53,9 +53,10 @@ pub record PrintsKept (text front : Text) (timestamp : Option OffsetTimestamp) (
   pub is : Front (Row rfc5424_row) text [] values
   pub prints : printed (message_of values) ≡ front ++ (32 ∷ (timestamp_text timestamp ++ (tail ++ (32 ∷ msg))))
 
--- the text is read by the variant as one message, in whatever year, and these bytes are its printed text
+-- the text is read by the variant as one message, by RFC 5424 and so in whatever year, and these bytes are its printed text
 pub record PrintsAs (variant : Variant) (text : Text) (bytes : List ℕ) : Type 0 where
   pub message : MessageValue
+  pub strict : IsRead5424 text message
   pub only : (dating : Dating) → IsOnlyRead variant dating text message
   pub asks_none : (date : MonthDate) → AsksYear variant text date → ⊥
   pub prints : bytes ≡ encode_utf8_all (printed message)

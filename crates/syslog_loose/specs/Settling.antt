@@ -1,6 +1,8 @@
 -- Rounds: a text is read and printed, and what was printed is read and printed again, until it no longer changes. And the
 -- weight of a message of RFC 3164, which falls from round to round until then. (All of it is this project's own.)
-use Rattle.std.specs.Prelude.{◌≡◌, ◌≢◌, ◌⊎◌, ℕ, zero, suc, ◌+◌, ◌<◌, [], ◌∷◌, ◌++◌, length, Option, Some, None, IfSome}
+use Rattle.std.specs.Prelude.{◌≡◌, ◌≢◌, ◌⊎◌, ℕ, zero, suc, ◌+◌, ◌<◌, [], ◌∷◌, ◌++◌, length, Bool, MatchBool, ⊤, unwrap_or, Option, Some, None, IfSome, Result, MatchResult, String, string_bytes}
+use Rattle.std.specs.Global.{Global}
+use Rattle.std.specs.Str.{chars}
 use Rattle.syslog_pieces.specs.Pieces.Class.{Text}
 use Rattle.syslog_pieces.specs.StructuredData.Listed.{BeginsNoList}
 use Rattle.syslog_pieces.specs.Text.{dash, EndsInColon}
@@ -8,10 +10,17 @@ use Rattle.syslog_pieces.specs.Timestamp.Plain.{IsPlainStamp}
 use Rattle.syslog_pieces.specs.Timestamp.Zone.{Dating}
 use Rattle.syslog_pieces.specs.declared.procid.ProcId.{ProcId}
 use Rattle.syslog_pieces.specs.declared.structured_data.listed.DashRule.{DashRule}
+use Rattle.syslog_pieces.specs.declared.pri.SyslogFacility.TheVariants.{LOG_SYSLOG}
+use Rattle.syslog_pieces.specs.declared.pri.SyslogSeverity.TheVariants.{SEV_DEBUG}
+use Rattle.syslog_loose.specs.Canonical.{IsCanonical}
 use Rattle.syslog_loose.specs.ListedMisses.{HasNoColon}
 use Rattle.syslog_loose.specs.Message.{MessageValue}
 use Rattle.syslog_loose.specs.Printed.{printed}
-use Rattle.syslog_loose.specs.Reading.{IsRead}
+use Rattle.syslog_loose.specs.Reading.{dash_rule, IsRead, IsUnreadable}
+use Rattle.syslog_loose.specs.declared.fault.ParseFault.{ParseFault}
+use Rattle.syslog_loose.specs.declared.fault.ParseFault.TheVariants.{Invalid, Memory}
+use Rattle.syslog_loose.specs.declared.message.Protocol.{Protocol}
+use Rattle.syslog_loose.specs.declared.message.Protocol.TheVariants.{RFC3164, RFC5424}
 use Rattle.syslog_loose.specs.declared.reading.Variant.{Variant}
 
 -- ---- rounds
@@ -45,6 +54,44 @@ pub record IsFirstSettled (variant : Variant) (dating : Dating) (text u : Text) 
   pub round : IsRound variant dating text (suc before) u
   pub settled : IsSettled variant dating u
   pub none_before : NoneSettled variant dating text before
+
+-- ---- what `settle` answers
+
+-- `Invalid` only where some round is missing and none is settled, and `Memory` only to a text that has a round 1
+abbrev pub IsSettlingFault : Variant → Dating → Text → ParseFault → Type 0
+IsSettlingFault variant dating text Invalid = ((n : ℕ) × IsMissing variant dating text n) × ((u : Text) → IsFirstSettled variant dating text u → ⊥)
+IsSettlingFault variant dating text Memory = IsUnreadable variant dating text → ⊥
+
+-- the first settled round, or a fault
+abbrev pub Settles : Variant → Dating → Text → Result (String Global) ParseFault → Type 0
+Settles variant dating text result = MatchResult result (λ u. IsFirstSettled variant dating text (chars (string_bytes u))) (λ fault. IsSettlingFault variant dating text fault)
+
+-- ---- words of the bodies
+
+-- the message with what stands in print for an absent facility and severity, so that it prints the same
+abbrev pub completed : MessageValue → MessageValue
+completed m = record {
+  protocol = m.protocol;
+  facility = Some (unwrap_or m.facility LOG_SYSLOG);
+  severity = Some (unwrap_or m.severity SEV_DEBUG);
+  timestamp = m.timestamp;
+  hostname = m.hostname;
+  appname = m.appname;
+  procid = m.procid;
+  msgid = m.msgid;
+  structured_data = m.structured_data;
+  msg = m.msg;
+}
+
+-- such a message prints as a settled text
+abbrev pub IsAtRest : Protocol → MessageValue → Type 0
+IsAtRest RFC3164 m = IsCanonical dash_rule m
+IsAtRest (RFC5424 version) m = ⊤
+
+-- This is the next round of the text; and where this is true it is settled, else the text is not.
+pub record IsToldNext (variant : Variant) (dating : Dating) (text next : Text) (settled : Bool) : Type 0 where
+  pub is_next : IsNext variant dating text next
+  pub told : MatchBool settled (IsSettled variant dating next) (IsSettled variant dating text → ⊥)
 
 -- ---- the weight of a message of RFC 3164: a sum of one term for each miss that may be listed
 

@@ -17,6 +17,7 @@ ghost use Rattle.syslog_loose.specs.TagForm.{IsForm};
 pub mod comparison;
 pub mod dash;
 pub mod read_back;
+pub mod rounds;
 pub mod settling;
 
 /// Two divisions of one text into the pieces of RFC 5424 are the same list of pieces, with the same meanings.

@@ -3,6 +3,9 @@
 //!
 //! A text is read by the one division into pieces that the grammar in `docs/GRAMMAR.md` allows; reading copies no
 //! text, and what takes memory takes `alloc` first and can be refused.
+//!
+//! `normalise` prints the message of a text, and `settle` goes on until the text no longer changes: a line of RFC 5424
+//! stays as it is once it is normalised, and any other comes to rest.
 #![tactic(auto)]
 
 mod beginning;
@@ -14,6 +17,7 @@ mod message;
 mod reading;
 mod rfc3164;
 mod rfc5424;
+mod settling;
 #[cfg(test)]
 mod tests;
 
@@ -26,6 +30,7 @@ pub use reading::{
     IncompleteDate, Variant, normalise, parse_message, parse_message_with_year,
     parse_message_with_year_exact, parse_message_with_year_exact_tz, parse_message_with_year_tz,
 };
+pub use settling::settle;
 pub use syslog_pieces::as_str::AsStr;
 pub use syslog_pieces::pri::{SyslogFacility, SyslogSeverity, decompose_pri};
 pub use syslog_pieces::procid::ProcId;

@@ -208,7 +208,7 @@ fn incomplete_date(input: &str) -> Option<IncompleteDate>
 }
 
 // The message of the text, read by the variant in a year.
-fn read<'a>(
+pub(crate) fn read<'a>(
     alloc: Global,
     input: &'a str,
     year: Option<i32>,
@@ -302,7 +302,11 @@ pub fn normalise<F: FnOnce(IncompleteDate) -> i32>(
 }
 
 // The printed text, in memory for a text of the input's length that is asked for once.
-fn print(alloc: Global, message: &Message<&str>, length: usize) -> Result<String, AllocError>
+pub(crate) fn print(
+    alloc: Global,
+    message: &Message<&str>,
+    length: usize,
+) -> Result<String, AllocError>
     ensures { IfOk result (λ text. string_bytes text ≡ encode_utf8_all (printed (message_value (λ s. shown s) message.now))) }
 {
     let mut text = String::with_capacity(alloc, length.saturating_add(MORE_PRINTED))?;

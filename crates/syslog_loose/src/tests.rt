@@ -18,6 +18,8 @@ mod refusals;
 mod refusals_calls;
 mod refusals_copies;
 mod refusals_lists;
+mod refusals_settling;
 mod rfc3164;
 mod rfc3164_calls;
+mod settling;
 mod sizes;

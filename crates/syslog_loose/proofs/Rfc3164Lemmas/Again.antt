@@ -49,7 +49,7 @@ completed_canonical rule dating text m r none =
 completed_bounded : (m : MessageValue) → IsBounded m → IsBounded (completed m)
 completed_bounded m b = record { protocol = b.protocol; procid = b.procid }
 
-printed_again : (m : MessageValue) → m.protocol ≡ RFC3164 → printed (completed m) ≡ printed m
+pub printed_again : (m : MessageValue) → m.protocol ≡ RFC3164 → printed (completed m) ≡ printed m
 unfolding printed_3164
 printed_again m e =
     printed_is (completed m) e

@@ -55,7 +55,7 @@ host_kept h p q u e (l, a, inr (r, w, b, z)) =
     let t : q ≡ 32 ∷ u = rest_same p q h (32 ∷ u) e s in
     absurd (let y : ◌≡◌ {A = ℕ} 58 32 = heads 58 32 r u (sym w ∙ t) in omega arith)
 
-dash_is_no_more : (p : Text) → dash ≡ p ++ colon → ⊥
+pub dash_is_no_more : (p : Text) → dash ≡ p ++ colon → ⊥
 dash_is_no_more [] e = let t : ◌≡◌ {A = ℕ} 45 58 = heads 45 58 [] [] e in omega arith
 dash_is_no_more (c ∷ p) e = let t = ap length e in omega (arith, length-append p colon)
 
@@ -81,11 +81,11 @@ IsHostOf (Some (Some x)) h = h ≡ x
 no_host : (n : Names3164) (origin app : Option Text) (process : Option (ProcId Text)) (h : Text) → n ≡ names origin app process → origin ≡ None → n.hostname ≡ Some h → ⊥
 no_host n origin app process h e z w = let t : None ≡ Some h = sym z ∙ ap (λ (x : Names3164). x.hostname) (sym e) ∙ w in cc
 
-program_host : (origin : Option Text) (t : Text) (n : Names3164) → NamesProgram origin t n → n.hostname ≡ origin
+pub program_host : (origin : Option Text) (t : Text) (n : Names3164) → NamesProgram origin t n → n.hostname ≡ origin
 program_host origin t n (inl (tag, id, process, f, p, e)) = ap (λ (x : Names3164). x.hostname) e
 program_host origin t n (inr (none, e)) = ap (λ (x : Names3164). x.hostname) e
 
-host_of : (v t : Option (Option Text)) (n : Names3164) (h : Text) → Resolves v t n → n.hostname ≡ Some h → IsHostOf v h
+pub host_of : (v t : Option (Option Text)) (n : Names3164) (h : Text) → Resolves v t n → n.hostname ≡ Some h → IsHostOf v h
 host_of None None n h r e = no_host n None None None h r refl e
 host_of (Some None) None n h r e = no_host n None None None h r refl e
 host_of (Some (Some x)) None n h (inl (tag, id, process, f, p, r)) e = absurd (no_host n None (Some tag) (Some process) h r refl e)
@@ -98,21 +98,21 @@ host_of (Some None) (Some (Some t)) n h r e = let u : None ≡ Some h = sym (pro
 host_of (Some (Some x)) (Some (Some t)) n h r e = some_same h x (sym e ∙ program_host (Some x) t n r)
 
 -- a process of the answer has no colon where the host field held no text
-abbrev HoldsNoText : Option (Option Text) → Type 0
+abbrev pub HoldsNoText : Option (Option Text) → Type 0
 HoldsNoText None = Unit {0}
 HoldsNoText (Some None) = Unit {0}
 HoldsNoText (Some (Some h)) = ⊥
 
-abbrev NoColonProcess : Names3164 → Type 0
+abbrev pub NoColonProcess : Names3164 → Type 0
 NoColonProcess n = IfSome n.procid HasNoColon
 
-program_process : (t q : Text) (origin : Option Text) (n : Names3164) → TagField q (Some (Some t)) → NamesProgram origin t n → NoColonProcess n
+pub program_process : (t q : Text) (origin : Option Text) (n : Names3164) → TagField q (Some (Some t)) → NamesProgram origin t n → NoColonProcess n
 program_process t q origin n ((l, a, d), k) (inl (tag, id, process, f, p, e)) =
     let parts = form_parts t tag id f in
     subst NoColonProcess (sym e) (no_colon_process id process p (each_right is_not_whitespace is_no_colon id (parts.within is_tag_char a)))
 program_process t q origin n k (inr (none, e)) = subst NoColonProcess (sym e) tt
 
-process_of : (v t : Option (Option Text)) (q : Text) (n : Names3164) → HoldsNoText v → TagField q t → Resolves v t n → NoColonProcess n
+pub process_of : (v t : Option (Option Text)) (q : Text) (n : Names3164) → HoldsNoText v → TagField q t → Resolves v t n → NoColonProcess n
 process_of None None q n x k r = subst NoColonProcess (sym r) tt
 process_of (Some None) None q n x k r = subst NoColonProcess (sym r) tt
 process_of (Some (Some h)) t q n x k r = absurd x

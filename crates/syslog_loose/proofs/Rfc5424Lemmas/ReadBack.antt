@@ -33,6 +33,7 @@ use Rattle.syslog_pieces.proofs.StructuredDataLemmas.ReadBack.{forgiving_back, f
 use Rattle.syslog_pieces.proofs.TextLemmas.ReadBack.{number_back, word_back, word_plain, host_back, host_plain, NoColonNext, blanks_next}
 use Rattle.syslog_pieces.proofs.TimestampLemmas.RoundTrip.{printed_stamp-back, stamp_text-plain, printed_stamp-visible, printed_stamp-begins}
 use Rattle.syslog_loose.specs.declared.message.Protocol.TheVariants.{RFC5424}
+pub use Rattle.syslog_loose.specs.Settling.{completed}
 use Rattle.syslog_loose.specs.declared.message.Protocol.{Protocol}
 use Rattle.syslog_loose.specs.Canonical.{IsBoundedProtocol, IsBounded, IsPlain, IsPlain5424, IsPlainFor, IsCanonical}
 use Rattle.syslog_loose.specs.Message.{MessageValue}
@@ -218,7 +219,7 @@ module _ (pri version : ℕ) (stamp : Option OffsetTimestamp) (name app : Option
 composed_small : (f : SyslogFacility) (s : SyslogSeverity) → composed f s < 192
 composed_small f s = let a = facility_low f in let b = severity_low s in omega arith
 
-some_of : {A : Type 0} (v : Option A) → IsSome v → (x : A) × (v ≡ Some x)
+pub some_of : {A : Type 0} (v : Option A) → IsSome v → (x : A) × (v ≡ Some x)
 some_of None h = absurd (let t : false ≡ true = h in cc)
 some_of (Some x) h = (x, refl)
 
@@ -262,21 +263,6 @@ canonical_read rule version m e b c =
     subst (λ (x : Text). IsRead5424 x m) (sym (printed_is version m e)) (made_read version m f s e ef es b c.0 plain)
 
 -- ---- what is read
-
--- a message with what stands in print for an absent facility and an absent severity
-abbrev pub completed : MessageValue → MessageValue
-completed m = record {
-  protocol = m.protocol;
-  facility = Some (unwrap_or m.facility LOG_SYSLOG);
-  severity = Some (unwrap_or m.severity SEV_DEBUG);
-  timestamp = m.timestamp;
-  hostname = m.hostname;
-  appname = m.appname;
-  procid = m.procid;
-  msgid = m.msgid;
-  structured_data = m.structured_data;
-  msg = m.msg;
-}
 
 -- the completed message that the pieces of a text mean is canonical
 values_plain : (rule : DashRule) (text : Text) (v : Values rfc5424_row) → Division rfc5424_row (trimmed text) v → IsCanonical rule (completed (message_of v)) × IsBounded (completed (message_of v))
@@ -330,7 +316,7 @@ read_plain rule text m r =
 
 -- ---- a message that is read with a facility is canonical
 
-completed_same : (m : MessageValue) (f : SyslogFacility) (s : SyslogSeverity) → m.facility ≡ Some f → m.severity ≡ Some s → completed m ≡ m
+pub completed_same : (m : MessageValue) (f : SyslogFacility) (s : SyslogSeverity) → m.facility ≡ Some f → m.severity ≡ Some s → completed m ≡ m
 completed_same m f s e g = λ i. record {
   protocol = m.protocol;
   facility = (ap (λ (x : Option SyslogFacility). Some (unwrap_or x LOG_SYSLOG)) e ∙ sym e) i;

@@ -1,7 +1,8 @@
 //! Lines that settle: what is read of a text and printed again and again comes to rest.
-ghost use Rattle.std.specs.Prelude.{◌≢◌, ℕ, ◌<◌};
+ghost use Rattle.std.specs.Prelude.{◌≡◌, ◌≢◌, ℕ, ◌<◌, ◌≤◌, length};
 ghost use Rattle.syslog_pieces.specs.Pieces.Class.{Text};
 ghost use Rattle.syslog_pieces.specs.Timestamp.Zone.{Dating};
+ghost use Rattle.syslog_pieces.specs.declared.structured_data.listed.DashRule.{DashRule};
 ghost use Rattle.syslog_pieces.specs.declared.structured_data.listed.DashRule.TheVariants.{BeforeBlank};
 ghost use Rattle.syslog_loose.specs.Message.{MessageValue};
 ghost use Rattle.syslog_loose.specs.Printed.{printed};
@@ -15,4 +16,16 @@ pub fn read_again_weighs_less()
     ensures { (first second : Dating) (text : Text) (m n : MessageValue) (w v : ℕ)
         → IsRead3164 BeforeBlank first text m → IsRead3164 BeforeBlank second (printed m) n → printed n ≢ printed m
         → Weighs BeforeBlank m w → Weighs BeforeBlank n v → v < w }
+{}
+
+/// A message that was read as RFC 3164 weighs no more than its text has characters.
+pub fn read_weighs_no_more_than_its_text()
+    ensures { (rule : DashRule) (dating : Dating) (text : Text) (m : MessageValue) (w : ℕ)
+        → IsRead3164 rule dating text m → Weighs rule m w → w ≤ length text }
+{}
+
+/// A message has one weight, and it can't be that it has none.
+pub fn one_weight()
+    ensures once { (rule : DashRule) (m : MessageValue) (w v : ℕ) → Weighs rule m w → Weighs rule m v → w ≡ v }
+    ensures some { (rule : DashRule) (m : MessageValue) → ((w : ℕ) → Weighs rule m w → ⊥) → ⊥ }
 {}

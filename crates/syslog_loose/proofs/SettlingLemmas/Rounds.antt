@@ -1,0 +1,113 @@
+-- Rounds of a text: there is one of each number, and one that is settled first.
+use Rattle.std.proofs.Common.{◌≡◌, ℕ, zero, suc, ◌<◌, inl, inr, refl, sym, ap, subst, ◌∙◌, arith}
+use Rattle.std.proofs.lemmas.Bool.Decides.{leb_tells}
+use Rattle.std.specs.Prelude.{◌↔◌}
+use Rattle.syslog_pieces.specs.Pieces.Class.{Text}
+use Rattle.syslog_pieces.specs.Timestamp.Zone.{Dating}
+use Rattle.syslog_loose.specs.Printed.{printed}
+use Rattle.syslog_loose.specs.Reading.{IsRead, IsUnreadable}
+use Rattle.syslog_loose.specs.Settling.{IsNext, IsRound, IsMissing, IsSettled, NoneSettled, IsFirstSettled, IsSettlingFault}
+use Rattle.syslog_loose.specs.declared.fault.ParseFault.{ParseFault}
+use Rattle.syslog_loose.specs.declared.fault.ParseFault.TheVariants.{Invalid, Memory}
+use Rattle.syslog_loose.specs.declared.reading.Variant.{Variant}
+use Rattle.syslog_loose.proofs.ReadingLemmas.{read_once, invalid_or_memory}
+
+module _ (variant : Variant) (dating : Dating) where
+  pub one_next : (t u x : Text) → IsNext variant dating t u → IsNext variant dating t x → u ≡ x
+  one_next t u x a b = a.is_printed ∙ ap printed (read_once variant dating t a.message b.message a.read b.read) ∙ sym b.is_printed
+
+  pub one_round : (t : Text) (n : ℕ) (u x : Text) → IsRound variant dating t n u → IsRound variant dating t n x → u ≡ x
+  one_round t zero u x a b = a ∙ sym b
+  one_round t (suc n) u x (y, r, h) (z, s, k) =
+      one_next z u x (subst (λ (q : Text). IsNext variant dating q u) (one_round t n y z r s) h) k
+
+  -- a text that has a round n has all before it, and each of those a next one
+  before_round : (t : Text) (j n : ℕ) (u : Text) → j < n → IsRound variant dating t n u → (v : Text) × IsRound variant dating t j v × ((x : Text) × IsNext variant dating v x)
+  before_round t j zero u l r = absurd (omega arith)
+  before_round t j (suc n) u l (before, r, h) =
+      elim (leb_tells n j) [
+        | inl a ↦ (
+            let e : n ≡ j = (let b = a.1 in omega arith) in
+            (before, subst (λ (k : ℕ). IsRound variant dating t k before) e r, (u, h)))
+        | inr a ↦ before_round t j n before a.1 r
+      ]
+
+  -- a text whose next round is another one is not settled
+  pub moves_on : (u x : Text) → IsNext variant dating u x → (u ≡ x → ⊥) → IsSettled variant dating u → ⊥
+  moves_on u x n k s = k (one_next u u x s n)
+
+  pub one_first_settled : (t u x : Text) → IsFirstSettled variant dating t u → IsFirstSettled variant dating t x → u ≡ x
+  one_first_settled t u x a b =
+      elim (leb_tells b.before a.before) [
+        | inl l ↦ elim (leb_tells a.before b.before) [
+          | inl k ↦ (
+              let e : a.before ≡ b.before = (let c = l.1 in let d = k.1 in omega arith) in
+              one_round t (suc b.before) u x (subst (λ (n : ℕ). IsRound variant dating t (suc n) u) e a.round) b.round)
+          | inr k ↦ absurd (a.none_before b.before x k.1 b.round b.settled)
+        ]
+        | inr l ↦ absurd (b.none_before a.before u l.1 a.round a.settled)
+      ]
+
+  -- ---- what is known after so many rounds that are not settled: this is the round behind them
+  pub record Reached (text : Text) (n : ℕ) (u : Text) : Type 0 where
+    pub round : IsRound variant dating text (suc n) u
+    pub none : NoneSettled variant dating text n
+
+  pub reached_first : (t u : Text) → IsNext variant dating t u → Reached t 0 u
+  reached_first t u h = record { round = (t, refl, h); none = λ k x l. absurd (omega arith) }
+
+  pub reached_next : (t : Text) (n : ℕ) (u x : Text) → Reached t n u → (IsSettled variant dating u → ⊥) → IsNext variant dating u x → Reached t (suc n) x
+  reached_next t n u x r never h = record {
+    round = (u, r.round, h);
+    none = λ k y l round settled. elim (leb_tells n k) [
+      | inl a ↦ (
+          let e : k ≡ n = (let b = a.1 in omega arith) in
+          never (subst (λ (q : Text). IsSettled variant dating q) (one_round t (suc n) y u (subst (λ (j : ℕ). IsRound variant dating t (suc j) y) e round) r.round) settled))
+      | inr a ↦ r.none k y a.1 round settled
+    ];
+  }
+
+  -- where it is settled, it is the first
+  pub reached_settled : (t : Text) (n : ℕ) (u : Text) → Reached t n u → IsSettled variant dating u → IsFirstSettled variant dating t u
+  reached_settled t n u r s = record { before = n; round = r.round; settled = s; none_before = r.none }
+
+  -- where it is read as no message, none is settled
+  pub reached_last : (t : Text) (n : ℕ) (u y : Text) → Reached t n u → IsUnreadable variant dating u → IsFirstSettled variant dating t y → ⊥
+  reached_last t n u y r never s =
+      elim (leb_tells s.before n) [
+        | inl a ↦ elim (leb_tells n s.before) [
+          | inl b ↦ (
+              let e : s.before ≡ n = (let c = a.1 in let d = b.1 in omega arith) in
+              let same = one_round t (suc n) y u (subst (λ (j : ℕ). IsRound variant dating t (suc j) y) e s.round) r.round in
+              never s.settled.message (subst (λ (q : Text). IsRead variant dating q s.settled.message) same s.settled.read))
+          | inr b ↦ r.none s.before y b.1 s.round s.settled
+        ]
+        | inr a ↦ (
+            let (v, round, (x, h)) = before_round t (suc n) (suc s.before) y (let b = a.1 in omega arith) s.round in
+            never h.message (subst (λ (q : Text). IsRead variant dating q h.message) (one_round t (suc n) v u round r.round) h.read))
+      ]
+
+  -- and the round behind it is missing
+  pub reached_missing : (t : Text) (n : ℕ) (u : Text) → Reached t n u → IsUnreadable variant dating u → IsMissing variant dating t (suc (suc n))
+  reached_missing t n u r never x (v, round, h) =
+      never h.message (subst (λ (q : Text). IsRead variant dating q h.message) (one_round t (suc n) v u round r.round) h.read)
+
+  -- ---- what is answered where a round was refused
+
+  -- round 1
+  pub first_fault : (t : Text) (fault : ParseFault) → (fault ≡ Invalid) ↔ IsUnreadable variant dating t → IsSettlingFault variant dating t fault
+  first_fault t Invalid h =
+      let never = h.0 refl in (
+        (1, λ x (before, e, next). never next.message (subst (λ (q : Text). IsRead variant dating q next.message) e next.read)),
+        (λ x s.
+            let (v, e, (y, next)) = before_round t 0 (suc s.before) x (omega arith) s.round in
+            never next.message (subst (λ (q : Text). IsRead variant dating q next.message) e next.read)),
+      )
+  first_fault t Memory h = λ never. invalid_or_memory (h.1 never)
+
+  -- a later one
+  pub later_fault : (t : Text) (n : ℕ) (u : Text) (fault : ParseFault) → Reached t n u → (fault ≡ Invalid) ↔ IsUnreadable variant dating u → IsSettlingFault variant dating t fault
+  later_fault t n u Invalid r h = ((suc (suc n), reached_missing t n u r (h.0 refl)), λ y s. reached_last t n u y r (h.0 refl) s)
+  later_fault t n u Memory r h = λ never.
+      let (v, e, (y, next)) = before_round t 0 (suc n) u (omega arith) r.round in
+      never next.message (subst (λ (q : Text). IsRead variant dating q next.message) e next.read)

@@ -1,0 +1,212 @@
+-- A text comes to rest, or one of its rounds is missing.
+use Rattle.std.proofs.Common.{◌≡◌, ℕ, zero, suc, ◌+◌, ◌<◌, ◌≤◌, ◌⊎◌, inl, inr, Bool, true, false, List, length, refl, sym, ap, subst, ◌∙◌, arith}
+use Rattle.std.proofs.lemmas.Slice.Eq.{bytes_eq-Decides}
+use Rattle.std.proofs.lemmas.Str.{chars_from_encodes, encodes-chars, length-le-encodes}
+use Rattle.std.specs.Prelude.{◌↔◌, IsTrue, MatchBool}
+use Rattle.std.specs.Str.{chars, IsUtf8, bytes_eq, encode_utf8_all}
+use Rattle.syslog_pieces.specs.Pieces.Class.{Text}
+use Rattle.syslog_pieces.specs.Timestamp.Zone.{Dating}
+use Rattle.syslog_loose.specs.Canonical.{IsCanonical}
+use Rattle.syslog_loose.specs.Message.{MessageValue}
+use Rattle.syslog_loose.specs.Printed.{printed}
+use Rattle.syslog_loose.specs.Reading.{dash_rule, IsRead}
+use Rattle.syslog_loose.specs.Rfc3164.{IsRead3164}
+use Rattle.syslog_loose.specs.Rfc5424.{IsRead5424}
+use Rattle.syslog_loose.specs.Settling.{IsNext, IsRound, IsSettled, NoneSettled, IsFirstSettled, IsAtRest, IsToldNext, completed, Weighs}
+use Rattle.syslog_loose.specs.declared.message.Protocol.{Protocol}
+use Rattle.syslog_loose.specs.declared.message.Protocol.TheVariants as protocol
+use Rattle.syslog_loose.specs.declared.reading.Variant.{Variant}
+use Rattle.syslog_loose.specs.declared.reading.Variant.TheVariants.{Either, RFC3164, RFC5424}
+use Rattle.syslog_loose.proofs.BoundLemmas.{read_bounded}
+use Rattle.syslog_loose.proofs.ReadBackLemmas.{printed_exact, kept_again}
+use Rattle.syslog_loose.proofs.ReadingLemmas.{read_once}
+use Rattle.syslog_loose.proofs.Rfc3164Lemmas.Again as rfc3164
+use Rattle.syslog_loose.proofs.Rfc3164Lemmas.Near.{read_near}
+use Rattle.syslog_loose.proofs.Rfc3164Lemmas.Printed.{printed_is, printed_apart}
+use Rattle.syslog_loose.proofs.Rfc5424Lemmas.ReadBack as rfc5424
+use Rattle.syslog_loose.proofs.SettlingLemmas.Falls.{falls}
+use Rattle.syslog_loose.proofs.SettlingLemmas.Light.{light}
+use Rattle.syslog_loose.proofs.SettlingLemmas.Quiet.{read_protocol}
+use Rattle.syslog_loose.proofs.SettlingLemmas.Rounds.{moves_on, Reached, reached_first, reached_next, reached_settled}
+use Rattle.syslog_loose.proofs.SettlingLemmas.Weights.{some_weight}
+
+-- ---- a message with what stands in print for an absent facility and severity prints the same
+pub printed_completed : (m : MessageValue) → printed (completed m) ≡ printed m
+printed_completed m = by m.protocol refl
+  where
+    by : (p : Protocol) → m.protocol ≡ p → printed (completed m) ≡ printed m
+    by (protocol.RFC5424 version) e = rfc5424.printed_again version m e
+    by protocol.RFC3164 e = rfc3164.printed_again m e
+
+completed_canonical : (m : MessageValue) → IsCanonical dash_rule m → completed m ≡ m
+completed_canonical m c =
+    let (f, e) = rfc5424.some_of m.facility c.0.facility in
+    let (s, g) = rfc5424.some_of m.severity c.0.severity in
+    rfc5424.completed_same m f s e g
+
+-- ---- by which protocol a text was read
+no_protocol : (version : ℕ) → protocol.RFC3164 ≡ protocol.RFC5424 version → ⊥
+no_protocol version e = cc
+
+module _ (dating : Dating) (text : Text) (m : MessageValue) where
+  strictly : (variant : Variant) (version : ℕ) → IsRead variant dating text m → m.protocol ≡ protocol.RFC5424 version → IsRead5424 text m
+  strictly RFC5424 version r e = r
+  strictly RFC3164 version r e = absurd (no_protocol version (sym (read_near dash_rule dating text m r).protocol ∙ e))
+  strictly Either version (inl r) e = r
+  strictly Either version (inr (none, r)) e = absurd (no_protocol version (sym (read_near dash_rule dating text m r).protocol ∙ e))
+
+  loosely : (variant : Variant) → IsRead variant dating text m → m.protocol ≡ protocol.RFC3164 → IsRead3164 dash_rule dating text m
+  loosely RFC5424 r e = absurd (no_protocol r.values.1.0 (sym e ∙ ap (λ (x : MessageValue). x.protocol) r.means))
+  loosely RFC3164 r e = r
+  loosely Either (inl r) e = absurd (no_protocol r.values.1.0 (sym e ∙ ap (λ (x : MessageValue). x.protocol) r.means))
+  loosely Either (inr (none, r)) e = r
+
+-- what RFC 3164 printed stays RFC 3164
+stays_loose : (variant : Variant) (dating : Dating) (text : Text) (m n : MessageValue) → IsRead variant dating text m → m.protocol ≡ protocol.RFC3164 → IsRead variant dating (printed m) n → IsRead3164 dash_rule dating (printed m) n
+stays_loose RFC5424 dating text m n r e s = absurd (no_protocol r.values.1.0 (sym e ∙ ap (λ (x : MessageValue). x.protocol) r.means))
+stays_loose RFC3164 dating text m n r e s = s
+stays_loose Either dating text m n r e (inl s) =
+    let k = subst (λ (x : Text). IsRead5424 x n) (printed_is m e) s in absurd (printed_apart m k.values k.division)
+stays_loose Either dating text m n r e (inr (none, s)) = s
+
+module _ (variant : Variant) (dating : Dating) where
+  -- ---- which printed texts are settled
+
+  -- what was read as RFC 5424 prints as one
+  pub strict_settled : (text : Text) (m : MessageValue) (version : ℕ) → IsRead variant dating text m → m.protocol ≡ protocol.RFC5424 version → IsSettled variant dating (printed m)
+  strict_settled text m version r e =
+      let (n, again, same) = kept_again variant dating m (inr (inl (text, strictly dating text m variant version r e))) (read_protocol variant dating text m r) in
+      record { message = n; read = again; is_printed = sym same }
+
+  -- so does a message that is canonical but for an absent facility and severity
+  pub canonical_settled : (text : Text) (m : MessageValue) → IsRead variant dating text m → IsCanonical dash_rule (completed m) → IsSettled variant dating (printed m)
+  canonical_settled text m r c =
+      let b = read_bounded variant dating text m r in
+      let (n, again, same) = kept_again variant dating (completed m) (inl (record { protocol = b.protocol; procid = b.procid }, c)) (read_protocol variant dating text m r) in
+      subst (λ (x : Text). IsSettled variant dating x) (printed_completed m) (record { message = n; read = again; is_printed = sym same })
+
+  -- and the message of a settled text is canonical
+  pub settled_canonical : (text : Text) (m : MessageValue) → IsSettled variant dating text → IsRead variant dating text m → IsCanonical dash_rule m
+  settled_canonical text m s r =
+      let same = read_once variant dating text s.message m s.read r in
+      let e : text ≡ printed m = s.is_printed ∙ ap printed same in
+      (printed_exact dating m (read_bounded variant dating text m r) variant (read_protocol variant dating text m r)).0 (subst (λ (x : Text). IsRead variant dating x m) e r)
+
+  -- so a text is not settled whose message, so completed, is not canonical
+  pub odd_unsettled : (text : Text) (m : MessageValue) → IsRead variant dating text m → (IsCanonical dash_rule (completed m) → ⊥) → IsSettled variant dating text → ⊥
+  odd_unsettled text m r odd s =
+      let c = settled_canonical text m s r in odd (subst (λ (x : MessageValue). IsCanonical dash_rule x) (sym (completed_canonical m c)) c)
+
+  -- ---- weights fall
+
+  -- before a text that is not settled stands one that is read as RFC 3164
+  unsettled_loose : (text u : Text) (h : IsNext variant dating text u) → (IsSettled variant dating u → ⊥) → h.message.protocol ≡ protocol.RFC3164
+  unsettled_loose text u h unsettled = by h.message.protocol refl
+    where
+      by : (p : Protocol) → h.message.protocol ≡ p → h.message.protocol ≡ protocol.RFC3164
+      by protocol.RFC3164 e = e
+      by (protocol.RFC5424 version) e =
+          absurd (unsettled (subst (λ (x : Text). IsSettled variant dating x) (sym h.is_printed) (strict_settled text h.message version h.read e)))
+
+  fewer : (t : Text) (n : ℕ) → NoneSettled variant dating t (suc n) → NoneSettled variant dating t n
+  fewer t n none k y l = none k y (omega arith)
+
+  -- the message of round n weighs n less than the text has characters
+  weighs_less : (t : Text) (n : ℕ) (u : Text) (m : MessageValue) (w : ℕ) → IsRound variant dating t n u → NoneSettled variant dating t n → IsRead variant dating u m → IsRead3164 dash_rule dating u m → Weighs dash_rule m w
+      → length t < w + n → ⊥
+  weighs_less t zero u m w e none k r x l =
+      let a = light dash_rule dating t m w (subst (λ (y : Text). IsRead3164 dash_rule dating y m) e r) x in omega arith
+  weighs_less t (suc n) u m w (before, round, h) none k r x l =
+      let unsettled : IsSettled variant dating u → ⊥ = λ s. none n u (omega arith) (before, round, h) s in
+      let first = loosely dating before h.message variant h.read (unsettled_loose before u h unsettled) in
+      let second = subst (λ (y : Text). IsRead3164 dash_rule dating y m) h.is_printed r in
+      some_weight dash_rule h.message (λ v y.
+      elim (falls dating dating before h.message m v w first second y x) [
+        | inl less ↦ weighs_less t n before h.message v round (fewer t n none) h.read first y (omega arith)
+        | inr (most, same) ↦ unsettled (record { message = m; read = k; is_printed = h.is_printed ∙ sym same })
+      ])
+
+  -- So many rounds can't be unsettled.
+  pub ends : (t : Text) (n : ℕ) (u : Text) → length t < n → Reached variant dating t n u → ⊥
+  ends t zero u l r = omega arith
+  ends t (suc n) u l r = of_round (r.round)
+    where
+      of_round : IsRound variant dating t (suc (suc n)) u → ⊥
+      of_round (before, (earlier, round, h), k) =
+          let unsettled : IsSettled variant dating before → ⊥ = λ s. r.none n before (omega arith) (earlier, round, h) s in
+          let e = unsettled_loose earlier before h unsettled in
+          let read = subst (λ (x : Text). IsRead variant dating x k.message) h.is_printed k.read in
+          let loose = subst (λ (x : Text). IsRead3164 dash_rule dating x k.message) (sym h.is_printed) (stays_loose variant dating earlier h.message k.message h.read e read) in
+          some_weight dash_rule k.message (λ w x. weighs_less t (suc n) before k.message w (earlier, round, h) r.none k.read loose x (omega arith))
+
+  pub rests : (t u : Text) → NoneSettled variant dating t (length t + 1) → IsRound variant dating t (length t + 2) u → ⊥
+  rests t u none round =
+      ends t (length t + 1) u (omega arith) (record { round = subst (λ (n : ℕ). IsRound variant dating t n u) (let e : length t + 2 ≡ suc (length t + 1) = omega arith in e) round; none = none })
+
+-- ---- what the next round's reader answers
+module _ (variant : Variant) (dating : Dating) (text : Text) (m : MessageValue) (r : IsRead variant dating text m) where
+  rest_settled : (p : Protocol) → m.protocol ≡ p → IsAtRest p (completed m) → IsSettled variant dating (printed m)
+  rest_settled (protocol.RFC5424 version) e h = strict_settled variant dating text m version r e
+  rest_settled protocol.RFC3164 e h = canonical_settled variant dating text m r h
+
+  odd_moves : (p : Protocol) → m.protocol ≡ p → (IsAtRest p (completed m) → ⊥) → IsSettled variant dating text → ⊥
+  odd_moves (protocol.RFC5424 version) e odd s = odd tt
+  odd_moves protocol.RFC3164 e odd s = odd_unsettled variant dating text m r odd s
+
+  told_rest : (settled : Bool) → IsTrue settled ↔ IsAtRest m.protocol (completed m) → MatchBool settled (IsSettled variant dating (printed m)) (IsSettled variant dating text → ⊥)
+  told_rest true h = rest_settled m.protocol refl (h.0 refl)
+  told_rest false h = odd_moves m.protocol refl (λ a. let t : false ≡ true = h.1 a in cc)
+
+  -- the message is completed, tested and printed
+  pub told_next : (k : MessageValue) (bytes : List ℕ) (settled : Bool) → k ≡ completed m → IsUtf8 bytes → bytes ≡ encode_utf8_all (printed k) → IsTrue settled ↔ IsAtRest k.protocol k
+      → IsToldNext variant dating text (chars bytes) settled
+  told_next k bytes settled e u w h =
+      let is : chars bytes ≡ printed m = sym (chars_from_encodes (printed k) bytes u (sym w)) ∙ ap printed e ∙ printed_completed m in
+      let told = told_rest settled (subst (λ (x : MessageValue). IsTrue settled ↔ IsAtRest x.protocol x) e h) in
+      record {
+        is_next = record { message = m; read = r; is_printed = is };
+        told = subst (λ (x : Text). MatchBool settled (IsSettled variant dating x) (IsSettled variant dating text → ⊥)) (sym is) told;
+      }
+
+-- ---- what the loop does
+pub told_true : (variant : Variant) (dating : Dating) (text next : Text) (settled : Bool) → settled ≡ true → IsToldNext variant dating text next settled → IsSettled variant dating next
+told_true variant dating text next settled e h = subst (λ (b : Bool). MatchBool b (IsSettled variant dating next) (IsSettled variant dating text → ⊥)) e h.told
+
+pub told_false : (variant : Variant) (dating : Dating) (text next : Text) (settled : Bool) → settled ≡ false → IsToldNext variant dating text next settled → IsSettled variant dating text → ⊥
+told_false variant dating text next settled e h = subst (λ (b : Bool). MatchBool b (IsSettled variant dating next) (IsSettled variant dating text → ⊥)) e h.told
+
+-- the round behind one that is not known to be settled
+pub round_more : (variant : Variant) (dating : Dating) (t : Text) (n : ℕ) (u x : Text) (settled : Bool) → Reached variant dating t n u → settled ≡ false → IsToldNext variant dating u x settled
+    → Reached variant dating t (n + 1) x
+round_more variant dating t n u x settled r e h =
+    subst (λ (k : ℕ). Reached variant dating t k x) (let same : suc n ≡ n + 1 = omega arith in same) (reached_next variant dating t n u x r (told_false variant dating u x settled e h) h.is_next)
+
+same_text : (xs ys : Text) → (xs ≡ ys) ⊎ (xs ≡ ys → ⊥)
+same_text xs ys = by (bytes_eq xs ys) refl
+  where
+    by : (b : Bool) → bytes_eq xs ys ≡ b → (xs ≡ ys) ⊎ (xs ≡ ys → ⊥)
+    by true e = inl ((bytes_eq-Decides xs ys).0 e)
+    by false e = inr (λ k. let t : true ≡ false = sym ((bytes_eq-Decides xs ys).1 k) ∙ e in cc)
+
+-- and the answer where it is settled: that, or the one before, which is the same text
+pub round_answer : (variant : Variant) (dating : Dating) (t : Text) (n : ℕ) (u x : Text) (settled : Bool) → Reached variant dating t n u → settled ≡ true → IsToldNext variant dating u x settled
+    → IsFirstSettled variant dating t x
+round_answer variant dating t n u x settled r e h =
+    let s = told_true variant dating u x settled e h in
+    elim (same_text u x) [
+      | inl same ↦ (
+          let k : IsSettled variant dating u = subst (λ (y : Text). IsNext variant dating u y) (sym same) h.is_next in
+          subst (λ (y : Text). IsFirstSettled variant dating t y) same (reached_settled variant dating t n u r k))
+      | inr other ↦ reached_settled variant dating t (suc n) x (reached_next variant dating t n u x r (moves_on variant dating u x h.is_next other) h.is_next) s
+    ]
+
+-- round 1, where it is settled
+pub first_answer : (variant : Variant) (dating : Dating) (t x : Text) (settled : Bool) → settled ≡ true → IsToldNext variant dating t x settled → IsFirstSettled variant dating t x
+first_answer variant dating t x settled e h =
+    reached_settled variant dating t 0 x (reached_first variant dating t x h.is_next) (told_true variant dating t x settled e h)
+
+-- a text has no fewer bytes than characters, so that so many rounds can't be unsettled
+pub too_many : (variant : Variant) (dating : Dating) (bytes : List ℕ) (n : ℕ) (u : Text) → IsUtf8 bytes → length bytes < n → Reached variant dating (chars bytes) n u → ⊥
+too_many variant dating bytes n u utf8 l r =
+    let fewer : length (chars bytes) ≤ length bytes = subst (λ (x : List ℕ). length (chars bytes) ≤ length x) (encodes-chars bytes utf8) (length-le-encodes (chars bytes)) in
+    ends variant dating (chars bytes) n u (omega arith) r

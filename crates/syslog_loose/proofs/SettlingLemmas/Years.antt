@@ -1,0 +1,85 @@
+-- The year counts in round 1 alone: what `settle` answers in one year it answers in each, where the text asks for none.
+use Rattle.std.proofs.Common.{ℕ, ℤ, zero, suc, Option, Some, None, Result, Ok, Err, sym, ap, subst}
+use Rattle.std.specs.Prelude.{IfOk, String, string_bytes}
+use Rattle.std.specs.Borrow.{Bor}
+use Rattle.std.specs.Global.{Global}
+use Rattle.std.specs.Str.{chars, IsUtf8}
+use Rattle.std.proofs.lemmas.Str.{chars_from_encodes}
+use Rattle.jiff.specs.declared.tz.timezone.TimeZone.{TimeZone}
+use Rattle.syslog_pieces.specs.Pieces.Class.{Text}
+use Rattle.syslog_pieces.specs.Timestamp.Zone.{Dating, dating_of}
+use Rattle.syslog_pieces.specs.declared.timestamp.month_date.MonthDate.{MonthDate}
+use Rattle.syslog_loose.specs.Canonical.{IsCanonical}
+use Rattle.syslog_loose.specs.KeptLine.{PrintsAs}
+use Rattle.syslog_loose.specs.Message.{MessageValue}
+use Rattle.syslog_loose.specs.Reading.{dash_rule, IsRead, AsksYear, IncompleteDate, IsYearAnswered, InYear}
+use Rattle.syslog_loose.specs.Settling.{IsNext, IsRound, IsSettled, IsFirstSettled, Settles}
+use Rattle.syslog_loose.specs.declared.fault.ParseFault.{ParseFault}
+use Rattle.syslog_loose.specs.declared.fault.ParseFault.TheVariants.{Invalid, Memory}
+use Rattle.syslog_loose.specs.declared.reading.Variant.{Variant}
+use Rattle.syslog_loose.proofs.ReadingLemmas.{any_year}
+use Rattle.syslog_loose.proofs.SettlingLemmas.Quiet.{printed_quiet}
+use Rattle.syslog_loose.proofs.SettlingLemmas.Rounds.{reached_first, reached_settled}
+use Rattle.syslog_loose.proofs.SettlingLemmas.Settles.{strict_settled, settled_canonical}
+
+module _ (variant : Variant) (tz : Option (Bor TimeZone)) (local : Bor TimeZone) where
+  -- the text asks for no year
+  abbrev Quiet : Text → Type 0
+  Quiet text = (date : MonthDate) → AsksYear variant text date → ⊥
+
+  abbrev In : Option ℤ → Dating
+  In year = dating_of year tz local
+
+  next_in : (year other : Option ℤ) (t u : Text) → Quiet t → IsNext variant (In year) t u → IsNext variant (In other) t u
+  next_in year other t u quiet h = record { message = h.message; read = any_year variant t tz local year other h.message quiet h.read; is_printed = h.is_printed }
+
+  round_quiet : (year : Option ℤ) (t : Text) (n : ℕ) (u : Text) → Quiet t → IsRound variant (In year) t n u → Quiet u
+  round_quiet year t zero u quiet e = subst Quiet (sym e) quiet
+  round_quiet year t (suc n) u quiet (before, round, h) = subst Quiet (sym h.is_printed) (printed_quiet variant (In year) before h.message h.read)
+
+  round_in : (year other : Option ℤ) (t : Text) (n : ℕ) (u : Text) → Quiet t → IsRound variant (In year) t n u → IsRound variant (In other) t n u
+  round_in year other t zero u quiet e = e
+  round_in year other t (suc n) u quiet (before, round, h) =
+      (before, round_in year other t n before quiet round, next_in year other before u (round_quiet year t n before quiet round) h)
+
+  first_in : (year other : Option ℤ) (t u : Text) → Quiet t → IsFirstSettled variant (In year) t u → IsFirstSettled variant (In other) t u
+  first_in year other t u quiet s = record {
+    before = s.before;
+    round = round_in year other t (suc s.before) u quiet s.round;
+    settled = next_in year other u u (round_quiet year t (suc s.before) u quiet s.round) s.settled;
+    none_before = λ k x l round settled.
+        s.none_before k x l (round_in other year t (suc k) x quiet round) (next_in other year x x (round_quiet other t (suc k) x quiet round) settled);
+  }
+
+  settles_in : (year other : Option ℤ) (t : Text) (result : Result (String Global) ParseFault) → Quiet t → Settles variant (In year) t result → Settles variant (In other) t result
+  settles_in year other t (Ok u) quiet s = first_in year other t (chars (string_bytes u)) quiet s
+  settles_in year other t (Err Invalid) quiet ((n, missing), none) =
+      ((n, λ u round. missing u (round_in other year t n u quiet round)), λ u s. none u (first_in other year t u quiet s))
+  settles_in year other t (Err Memory) quiet h = λ unreadable. h (λ m r. unreadable m (any_year variant t tz local year other m quiet r))
+
+  -- what is answered in the year that the closure answered
+  pub settles_answered : (post : IncompleteDate → ℤ → Type 0) (t : Text) (result : Result (String Global) ParseFault) (year : Option ℤ) → IsYearAnswered post variant t year → Settles variant (In year) t result
+      → InYear post variant t (λ y. Settles variant (In y) t result)
+  settles_answered post t result None quiet h = record { answered = None; is_answered = quiet; holds = λ other agrees. settles_in None other t result quiet h }
+  settles_answered post t result (Some year) is h = record {
+    answered = Some year;
+    is_answered = is;
+    holds = λ other agrees. subst (λ (y : Option ℤ). Settles variant (In y) t result) (sym (agrees is.0 is.1)) h;
+  }
+
+-- a line that is copied is settled in round 1
+pub copied_settles : (variant : Variant) (dating : Dating) (text : Text) (result : String Global) → IsUtf8 (string_bytes result) → PrintsAs variant text (string_bytes result)
+    → IsFirstSettled variant dating text (chars (string_bytes result))
+copied_settles variant dating text result u k =
+    let r = (k.only dating).read in
+    let is = sym (chars_from_encodes _ (string_bytes result) u (sym k.prints)) in
+    let settled = strict_settled variant dating text k.message k.strict.values.1.0 r (ap (λ (x : MessageValue). x.protocol) k.strict.means) in
+    let next : IsNext variant dating text (chars (string_bytes result)) = record { message = k.message; read = r; is_printed = is } in
+    reached_settled variant dating text 0 (chars (string_bytes result)) (reached_first variant dating text (chars (string_bytes result)) next)
+    (subst (λ (x : Text). IsSettled variant dating x) (sym is) settled)
+
+-- the message of the answer is canonical
+pub answer_canonical : (variant : Variant) (dating : Dating) (text : Text) (result : Result (String Global) ParseFault) → Settles variant dating text result
+    → IfOk result (λ u. (m : MessageValue) → IsRead variant dating (chars (string_bytes u)) m → IsCanonical dash_rule m)
+answer_canonical variant dating text (Ok u) s = λ m r. settled_canonical variant dating (chars (string_bytes u)) m s.settled r
+answer_canonical variant dating text (Err fault) s = tt

@@ -1,0 +1,5 @@
+use Rattle.syslog_loose.proofs.SettlingLemmas.Light.{light}
+use Rattle.syslog_loose.proofs.laws.settling.read_weighs_no_more_than_its_text.Goals as goal
+
+pub returns : goal.returns
+returns c = light

@@ -1,0 +1,36 @@
+use Rattle.std.proofs.Common.{None, Ok}
+use Rattle.std.specs.Prelude.{string_bytes}
+use Rattle.std.specs.Str.{chars}
+use Rattle.std.proofs.lemmas.Result.{err_from_is_err_and}
+use Rattle.std.proofs.lemmas.Str.{IsUtf8-string_bytes}
+use Rattle.syslog_pieces.specs.Timestamp.Zone.{dating_of}
+use Rattle.syslog_loose.specs.KeptLine.{PrintsAs}
+use Rattle.syslog_loose.proofs.ReadingLemmas.{answered_to, in_year_map, no_ok, found_text}
+use Rattle.syslog_loose.proofs.SettlingLemmas.Years.{settles_answered, copied_settles, answer_canonical}
+use Rattle.syslog_loose.proofs.settling.settle.Goals as goal
+
+pub returns-in_err-text-clause-settles : goal.returns-in_err-text-clause-settles
+returns-in_err-text-clause-settles g c =
+    let (_, e, same) = err_from_is_err_and c.from_residual.result c.from_residual.ensures.1 in
+    record {
+      answered = None;
+      is_answered = λ date asks. no_ok _ _ c.in_err-text.was (c.kept_text.ensures.year date asks);
+      holds = λ year agrees. rw (e, same) (λ u. no_ok _ _ c.in_err-text.was (c.kept_text.ensures.memory _ u));
+    }
+
+pub returns-in_err-text-clause-canonical : goal.returns-in_err-text-clause-canonical
+returns-in_err-text-clause-canonical g c = in_year_map (λ year s. answer_canonical _ _ _ _ s) (returns-in_err-text-clause-settles g c)
+
+pub returns-in-Some-clause-settles : goal.returns-in-Some-clause-settles
+returns-in-Some-clause-settles g c =
+    let k = found_text (λ t. PrintsAs c.args.variant (chars c.args.input.now) (string_bytes t)) _ _ _ c.in_ok-text.was c.in-Some.is c.kept_text.ensures.text in
+    record { answered = None; is_answered = k.asks_none; holds = λ year agrees. copied_settles _ _ _ c.in-Some.text (IsUtf8-string_bytes c.in-Some.text) k }
+
+pub returns-in-Some-clause-canonical : goal.returns-in-Some-clause-canonical
+returns-in-Some-clause-canonical g c = in_year_map (λ year s. answer_canonical c.args.variant (dating_of year c.args.tz c.args.local) (chars c.args.input.now) (Ok c.in-Some.text) s) (returns-in-Some-clause-settles g c)
+
+pub returns : goal.returns
+returns g c =
+    let answered = answered_to _ _ _ c.asked_date.result c.map-year.result c.asked_date.ensures c.map-year.ensures.cases in
+    let settles = settles_answered c.args.variant c.args.tz c.args.local _ _ c.settle_in.result c.map-year.result answered c.settle_in.ensures in
+    record { settles = settles; canonical = in_year_map (λ year s. answer_canonical _ _ _ _ s) settles }

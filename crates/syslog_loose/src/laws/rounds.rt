@@ -1,0 +1,35 @@
+//! Rounds of a text.
+ghost use Rattle.std.specs.Prelude.{◌≡◌, ◌+◌, length};
+ghost use Rattle.syslog_pieces.specs.Pieces.Class.{Text};
+ghost use Rattle.syslog_pieces.specs.Timestamp.Zone.{Dating};
+ghost use Rattle.syslog_pieces.specs.declared.timestamp.month_date.MonthDate.{MonthDate};
+ghost use Rattle.syslog_loose.specs.Canonical.{IsCanonical};
+ghost use Rattle.syslog_loose.specs.Message.{MessageValue};
+ghost use Rattle.syslog_loose.specs.Printed.{printed};
+ghost use Rattle.syslog_loose.specs.Reading.{AsksYear, IsRead, dash_rule};
+ghost use Rattle.syslog_loose.specs.Settling.{IsFirstSettled, IsRound, IsSettled, NoneSettled};
+ghost use Rattle.syslog_loose.specs.declared.reading.Variant.{Variant};
+
+/// A text has at most one first settled round.
+pub fn one_first_settled_round()
+    ensures { (variant : Variant) (dating : Dating) (text u x : Text) → IsFirstSettled variant dating text u → IsFirstSettled variant dating text x → u ≡ x }
+{}
+
+/// The printed text of a message that was read asks for no year. So the year counts in round 1 alone.
+pub fn printed_text_asks_for_no_year()
+    ensures { (variant : Variant) (dating : Dating) (text : Text) (m : MessageValue) → IsRead variant dating text m
+        → (date : MonthDate) → AsksYear variant (printed m) date → ⊥ }
+{}
+
+/// The message of a settled text is canonical.
+pub fn settled_text_is_of_a_canonical_message()
+    ensures { (variant : Variant) (dating : Dating) (text : Text) (m : MessageValue) → IsSettled variant dating text
+        → IsRead variant dating text m → IsCanonical dash_rule m }
+{}
+
+/// Of the rounds 1 to n + 1 of a text of n characters one is settled, or the text has no round n + 2: so rounds come to
+/// rest, or one is missing.
+pub fn rounds_come_to_rest()
+    ensures { (variant : Variant) (dating : Dating) (text u : Text) → NoneSettled variant dating text (length text + 1)
+        → IsRound variant dating text (length text + 2) u → ⊥ }
+{}
