@@ -10,7 +10,7 @@ use Rattle.std.proofs.lemmas.List.Concat.{flat_map-append}
 use Rattle.syslog_tidy.specs.Count.{held_count}
 use Rattle.syslog_tidy.specs.declared.summary.Tally.{Tally}
 use Rattle.syslog_tidy.specs.Lines.{IsLines, IsFirstLine}
-use Rattle.syslog_tidy.specs.Output.{AddsAnswer, AnswersAll, AnswersBefore, AnswersLine, AreAnswers, Counts, Filter, HasAnswer, IsAnswer, answer_bytes, output_of}
+use Rattle.syslog_tidy.specs.Output.{AddsAnswer, AnswersAll, AnswersBefore, AnswersLine, AreAnswers, Counts, Filter, IsWanted, IsAnswer, answer_bytes, output_of}
 use Rattle.syslog_tidy.proofs.LineLemmas.{IsLines-cons, IsLines-nil, some_lines}
 
 -- ---- one line
@@ -52,8 +52,8 @@ AnswersLine-bytes filter line old new was is invalid kept same more = record {
   counted = Counts-one was is None 0 1 refl refl same more;
 }
 
-pub HasAnswer-on : {X E : Type 0} (filter : Filter) (line other : List ℕ) (r : Result X E) → other ≡ line → OnErr r (HasAnswer filter other) → OnErr r (HasAnswer filter line)
-HasAnswer-on filter line other r also h = subst (λ (l : List ℕ). OnErr r (HasAnswer filter l)) also h
+pub IsWanted-on : {X E : Type 0} (filter : Filter) (line other : List ℕ) (r : Result X E) → other ≡ line → OnErr r (IsWanted filter other) → OnErr r (IsWanted filter line)
+IsWanted-on filter line other r also h = subst (λ (l : List ℕ). OnErr r (IsWanted filter l)) also h
 
 -- ---- several lines
 
@@ -101,7 +101,7 @@ AnswersAll-end filter bytes rest old new was is none before = record {
 }
 
 -- the next line has an answer, and nothing was added for it
-pub AnswersBefore-end : (filter : Filter) (bytes rest line after old mid new : List ℕ) (was is : Tally) → 0 < length rest → IsFirstLine rest line after → HasAnswer filter line → new ≡ mid
+pub AnswersBefore-end : (filter : Filter) (bytes rest line after old mid new : List ℕ) (was is : Tally) → 0 < length rest → IsFirstLine rest line after → IsWanted filter line → new ≡ mid
     → AnswersSoFar filter bytes rest old mid was is → AnswersBefore filter bytes old new
 AnswersBefore-end filter bytes rest line after old mid new was is some first wanted kept before =
     let left = some_lines after in record {

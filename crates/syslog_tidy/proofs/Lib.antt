@@ -6,3 +6,4 @@ pub mod WriteLemmas
 pub mod WalkLemmas
 pub mod FilterLemmas
 pub mod ArgumentLemmas
+pub mod AgainLemmas

@@ -6,18 +6,19 @@ use Rattle.syslog_tidy.specs.declared.summary.Tally.{Tally}
 use Rattle.syslog_tidy.specs.Count.{held_count}
 use Rattle.syslog_tidy.specs.Lines.{IsLines}
 
--- what a filter does: which text it answers to the text of a line, if any
-abbrev pub Filter : Type 1
-Filter = List ℕ → Option (List ℕ) → Type 0
+-- what a filter does: which text it answers to the text of a line, if any, and for which lines it may want memory
+pub record Filter : Type 1 where
+  pub Answers : List ℕ → Option (List ℕ) → Type 0
+  pub Wants : List ℕ → Type 0
 
 -- the answer to a line: that to its text, or none where it is no UTF-8
 abbrev pub IsAnswer : Filter → List ℕ → Option (List ℕ) → Type 0
-IsAnswer filter line (Some answer) = IsUtf8 line × filter (chars line) (Some answer)
-IsAnswer filter line None = IsUtf8 line → filter (chars line) None
+IsAnswer filter line (Some answer) = IsUtf8 line × filter.Answers (chars line) (Some answer)
+IsAnswer filter line None = IsUtf8 line → filter.Answers (chars line) None
 
--- the line is UTF-8, and isn't one without an answer
-abbrev pub HasAnswer : Filter → List ℕ → Type 0
-HasAnswer filter line = IsUtf8 line × (¬ (filter (chars line) None))
+-- the line is UTF-8, and the filter may want memory for it
+abbrev pub IsWanted : Filter → List ℕ → Type 0
+IsWanted filter line = IsUtf8 line × filter.Wants (chars line)
 
 -- each line's answer, in order
 abbrev pub AreAnswers : Filter → List (List ℕ) → List (Option (List ℕ)) → Type 0
@@ -43,8 +44,8 @@ Counts was is answers = (answered passed_over : ℕ) → HasCounted was answered
 
 -- the answer to a text was added, or nothing where it has none
 abbrev pub AddsAnswer : Filter → List ℕ → List ℕ → List ℕ → Bool → Type 0
-AddsAnswer filter text old new true = (answer : List ℕ) × filter text (Some answer) × (new ≡ old ++ answer_bytes (Some answer))
-AddsAnswer filter text old new false = filter text None × (new ≡ old)
+AddsAnswer filter text old new true = (answer : List ℕ) × filter.Answers text (Some answer) × (new ≡ old ++ answer_bytes (Some answer))
+AddsAnswer filter text old new false = filter.Answers text None × (new ≡ old)
 
 -- one line was answered, its output added, and the line counted
 pub record AnswersLine (filter : Filter) (line old new : List ℕ) (was is : Tally) : Type 0 where
@@ -62,13 +63,13 @@ pub record AnswersAll (filter : Filter) (bytes old new : List ℕ) (was is : Tal
   pub added : new ≡ old ++ output_of answers
   pub counted : Counts was is answers
 
--- the lines of the bytes before one that has an answer were answered, and their output added
+-- the lines of the bytes before one for which memory may be wanted were answered, and their output added
 pub record AnswersBefore (filter : Filter) (bytes old new : List ℕ) : Type 0 where
   pub before : List (List ℕ)
   pub line : List ℕ
   pub after : List (List ℕ)
   pub cut : IsLines bytes (before ++ line ∷ after)
-  pub wanted : HasAnswer filter line
+  pub wanted : IsWanted filter line
   pub answers : List (Option (List ℕ))
   pub answered : AreAnswers filter before answers
   pub added : new ≡ old ++ output_of answers

@@ -2,7 +2,7 @@
 use Rattle.std.specs.Prelude.{◌≡◌, ℕ, Bool, true, false, List, [], ◌∷◌, ◌++◌, Option, take}
 use Rattle.std.specs.Io.KnownBytes.{Appends}
 use Rattle.syslog_tidy.specs.Lines.{IsLines}
-use Rattle.syslog_tidy.specs.Output.{AnswersAll, AreAnswers, Filter, HasAnswer, output_of}
+use Rattle.syslog_tidy.specs.Output.{AnswersAll, AreAnswers, Filter, IsWanted, output_of}
 use Rattle.syslog_tidy.specs.declared.summary.Tally.{Tally}
 use Rattle.syslog_tidy.specs.declared.summary.RunFault.{RunFault}
 use Rattle.syslog_tidy.specs.declared.summary.RunFault.TheVariants.{Read, Write, Memory}
@@ -13,13 +13,13 @@ pub record Wrote (filter : Filter) (lines : List (List ℕ)) (held holds : Optio
   pub answered : AreAnswers filter lines answers
   pub written : Appends held holds (output_of answers)
 
--- the output of the lines before one that has an answer was written
+-- the output of the lines before one for which memory may be wanted was written
 pub record WroteBefore (filter : Filter) (lines : List (List ℕ)) (held holds : Option (List ℕ)) : Type 0 where
   pub before : List (List ℕ)
   pub line : List ℕ
   pub after : List (List ℕ)
   pub listed : lines ≡ before ++ line ∷ after
-  pub wanted : HasAnswer filter line
+  pub wanted : IsWanted filter line
   pub wrote : Wrote filter before held holds
 
 -- a beginning of the output of the lines was written, which may end within a line's

@@ -1,7 +1,7 @@
 //! The answers of a filter to lines.
 ghost use Rattle.std.specs.Prelude.{◌≡◌, OnOk, OnErr};
 ghost use Rattle.std.specs.Str.{chars};
-ghost use Rattle.syslog_tidy.specs.Output.{AnswersAll, AnswersBefore, AnswersLine, HasAnswer};
+ghost use Rattle.syslog_tidy.specs.Output.{AnswersAll, AnswersBefore, AnswersLine, IsWanted};
 
 use crate::filter::LineFilter;
 use crate::lines::{first_line, first_text_line};
@@ -9,7 +9,7 @@ use crate::summary::Tally;
 use std::alloc::{AllocError, Global};
 
 /// Adds the output of all lines to `output`, and counts them. Where memory is refused, that of the lines before is added,
-/// and the line that it was refused for is UTF-8 and has an answer.
+/// and the line that it was refused for is UTF-8 and one for which it may be wanted.
 pub fn answer_lines<F: LineFilter>(
     alloc: Global,
     filter: &F,
@@ -66,7 +66,7 @@ fn answer_byte_lines<F: LineFilter>(
     Ok(())
 }
 
-// Adds the output of one line, and counts it. Where memory is refused nothing is added, and the line has an answer.
+// Adds the output of one line, and counts it. Where memory is refused nothing is added, and it may be wanted for the line.
 fn answer_bytes<F: LineFilter>(
     alloc: Global,
     filter: &F,
@@ -76,7 +76,7 @@ fn answer_bytes<F: LineFilter>(
 ) -> Result<(), AllocError>
     ensures ok { OnOk result (AnswersLine (F.answers filter.now) line.now output.old.items output.new.items tally.old tally.new) }
     ensures err { OnErr result (output.new.items ≡ output.old.items) }
-    ensures refusal { OnErr result (HasAnswer (F.answers filter.now) line.now) }
+    ensures refusal { OnErr result (IsWanted (F.answers filter.now) line.now) }
 {
     match str::from_utf8(line) {
         Ok(text) => answer_text(alloc, filter, text, output, tally),
@@ -97,7 +97,7 @@ fn answer_text<F: LineFilter>(
 ) -> Result<(), AllocError>
     ensures ok { OnOk result (AnswersLine (F.answers filter.now) line.now output.old.items output.new.items tally.old tally.new) }
     ensures err { OnErr result (output.new.items ≡ output.old.items) }
-    ensures refusal { OnErr result (HasAnswer (F.answers filter.now) line.now) }
+    ensures refusal { OnErr result (IsWanted (F.answers filter.now) line.now) }
 {
     let is_answered = filter.answer(alloc, line, output)?;
     tally.count(is_answered);

@@ -5,7 +5,7 @@ ghost use Rattle.std.specs.Str.{chars};
 ghost use Rattle.syslog_loose.specs.Dash.{ReadsDifferently};
 ghost use Rattle.syslog_loose.specs.Reading.{in_utc};
 ghost use Rattle.syslog_loose.specs.declared.reading.Variant.TheVariants.{Either};
-ghost use Rattle.syslog_tidy.specs.Filters.{FindsAll, IsChanged};
+ghost use Rattle.syslog_tidy.specs.Filters.{FindsAll, finding};
 ghost use Rattle.syslog_tidy.specs.Walk.{EndsEarly, FailedAs};
 
 use crate::filter::{LineFilter, push_line};
@@ -31,7 +31,7 @@ pub fn changed<R: Read, W: Write>(
     requires writer { writer.old.failed ≡ false }
     ensures ok { IfOk result (λ counts. FindsAll year (R.remaining reader.old.inner) (R.remaining reader.new.inner)
         (W.contents writer.old.inner) (W.contents writer.new.inner) counts) }
-    ensures err { IfErr result (λ fault. EndsEarly (IsChanged year) (R.remaining reader.old.inner) (R.remaining reader.new.inner)
+    ensures err { IfErr result (λ fault. EndsEarly (finding year) (R.remaining reader.old.inner) (R.remaining reader.new.inner)
         (W.contents writer.old.inner) (W.contents writer.new.inner) fault) }
     ensures failed { FailedAs result reader.new.failed writer.new.failed }
 {
@@ -49,7 +49,7 @@ struct Changes {
 }
 
 impl LineFilter for Changes {
-    ghost answers = { λ changes. IsChanged changes.year };
+    ghost answers = { λ changes. finding changes.year };
 
     fn answer(&self, alloc: Global, line: &str, output: &mut Vec<u8>) -> Result<bool, AllocError> {
         let is_changed = is_line_changed(alloc, line, self.year)?;

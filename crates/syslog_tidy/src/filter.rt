@@ -1,22 +1,22 @@
 //! What a filter is: what it writes for each line.
-ghost use Rattle.std.specs.Prelude.{◌≡◌, ◌++◌, ◌∷◌, [], List, ℕ, Option, None, IfOk, OnOk, OnErr};
+ghost use Rattle.std.specs.Prelude.{◌≡◌, ◌++◌, ◌∷◌, [], IfOk, OnOk, OnErr};
 ghost use Rattle.std.specs.Str.{chars};
-ghost use Rattle.syslog_tidy.specs.Output.{AddsAnswer};
+ghost use Rattle.syslog_tidy.specs.Output.{AddsAnswer, Filter};
 
 use std::alloc::{AllocError, Global};
 
 /// What is written for each line of the input that is UTF-8. The others give nothing.
 pub trait LineFilter {
-    // the answer to a line's text: the text that is written for it, if any
-    ghost answers: { Self → List ℕ → Option (List ℕ) → Type 0 };
+    // the answer to a line's text: the text that is written for it, if any; and the lines for which memory may be wanted
+    ghost answers: { Self → Filter };
 
     /// Adds the answer to a line and a line feed to `output`, or nothing where it has none, and tells whether it has one.
     ///
-    /// Where memory is refused nothing is added, and the line is one that has an answer.
+    /// Where memory is refused nothing is added, and the line is one for which it may be wanted.
     fn answer(&self, alloc: Global, line: &str, output: &mut Vec<u8>) -> Result<bool, AllocError>
         ensures ok { IfOk result (λ is_answered. AddsAnswer (answers self.now) (chars line.now) output.old.items output.new.items is_answered) }
         ensures err { OnErr result (output.new.items ≡ output.old.items) }
-        ensures refusal { OnErr result (¬ (answers self.now (chars line.now) None)) };
+        ensures refusal { OnErr result ((answers self.now).Wants (chars line.now)) };
 }
 
 /// Adds a text and a line feed, or nothing where memory is refused.

@@ -1,8 +1,10 @@
 //! The filter that writes each message in one form.
-ghost use Rattle.std.specs.Prelude.{◌≡◌, ℕ, List, Some, None, false, Err, IfOk, IfErr, MatchResult, encode_utf8_all, string_bytes};
+ghost use Rattle.std.specs.Prelude.{◌≡◌, Some, None, false, Err, IfOk, IfErr, MatchResult, string_bytes};
 ghost use Rattle.std.specs.Str.{chars};
+ghost use Rattle.syslog_loose.specs.Reading.{IsUnreadable, in_utc};
 ghost use Rattle.syslog_loose.specs.declared.fault.ParseFault.TheVariants.{Invalid};
-ghost use Rattle.syslog_tidy.specs.Filters.{IsTidied, TidiesAll};
+ghost use Rattle.syslog_loose.specs.declared.reading.Variant.TheVariants.{Either};
+ghost use Rattle.syslog_tidy.specs.Filters.{IsTidied, TidiesAll, WritesAgain, tidying};
 ghost use Rattle.syslog_tidy.specs.Walk.{EndsEarly, FailedAs};
 
 use crate::filter::{LineFilter, push_line};
@@ -11,11 +13,13 @@ use crate::walk::walk;
 use crate::watched::Watched;
 use std::alloc::{AllocError, Global};
 use std::io::{Read, Write};
-use syslog_loose::{IncompleteDate, ParseFault, TimeZone, Variant, normalise};
+use syslog_loose::{IncompleteDate, ParseFault, TimeZone, Variant, settle};
 
-/// Reads lines to the end of the input, and writes the printed text of each that has a reading, in the given year.
+/// Reads lines to the end of the input, and writes the settled text of each that has one, in the given year: its first
+/// printed text that is printed again as it stands.
 ///
-/// A line that has none, or is no UTF-8, gives nothing and is counted as refused. The output of each block of input is
+/// A line that has none, or is no UTF-8, gives nothing and is counted as refused. What was written is written again where
+/// it is the input in the same year, and no line of it is refused. The output of each block of input is
 /// written before more is read, and the writer is flushed at the end. Nothing is tried again. After `RunFault::Read` the
 /// output of each complete line that was read was written. After `RunFault::Memory` so it was, where the memory was
 /// wanted before anything was read or for more of a line that takes a whole block; or it was refused for a line that has a
@@ -31,7 +35,9 @@ pub fn run<R: Read, W: Write>(
     requires writer { writer.old.failed ≡ false }
     ensures ok { IfOk result (λ summary. TidiesAll year (R.remaining reader.old.inner) (R.remaining reader.new.inner)
         (W.contents writer.old.inner) (W.contents writer.new.inner) summary) }
-    ensures err { IfErr result (λ fault. EndsEarly (IsTidied year) (R.remaining reader.old.inner) (R.remaining reader.new.inner)
+    ensures again { IfOk result (λ summary. WritesAgain year (R.remaining reader.old.inner)
+        (W.contents writer.old.inner) (W.contents writer.new.inner) summary) }
+    ensures err { IfErr result (λ fault. EndsEarly (tidying year) (R.remaining reader.old.inner) (R.remaining reader.new.inner)
         (W.contents writer.old.inner) (W.contents writer.new.inner) fault) }
     ensures failed { FailedAs result reader.new.failed writer.new.failed }
 {
@@ -42,17 +48,17 @@ pub fn run<R: Read, W: Write>(
     })
 }
 
-/// Writes the printed text of each line that has a reading in this year.
+/// Writes the settled text of each line that has one in this year.
 #[derive(Drop)]
 struct Tidy {
     year: i32,
 }
 
 impl LineFilter for Tidy {
-    ghost answers = { λ tidy. IsTidied tidy.year };
+    ghost answers = { λ tidy. tidying tidy.year };
 
     fn answer(&self, alloc: Global, line: &str, output: &mut Vec<u8>) -> Result<bool, AllocError> {
-        match printed_line(alloc, line, self.year) {
+        match settled_line(alloc, line, self.year) {
             Ok(text) => {
                 push_line(output, text.as_str())?;
                 Ok(true)
@@ -63,17 +69,17 @@ impl LineFilter for Tidy {
     }
 }
 
-// The printed text of a line, in a year.
-fn printed_line(alloc: Global, line: &str, year: i32) -> Result<String, ParseFault>
-    ensures reads { MatchResult result
-        (λ text. (answer : List ℕ) × IsTidied year (chars line.now) (Some answer) × (string_bytes text ≡ encode_utf8_all answer))
+// The first settled round of a line, in a year.
+fn settled_line(alloc: Global, line: &str, year: i32) -> Result<String, ParseFault>
+    ensures settles { MatchResult result
+        (λ text. IsTidied year (chars line.now) (Some (chars (string_bytes text))))
         (λ fault. fault ≡ Invalid → IsTidied year (chars line.now) None) }
-    ensures refusal { IsTidied year (chars line.now) None → result ≡ Err Invalid }
+    ensures refusal { IsUnreadable Either (in_utc year) (chars line.now) → result ≡ Err Invalid }
 {
     let answer_year = move |_: IncompleteDate| -> i32
         ensures { result ≡ year }
     { year };
-    normalise(
+    settle(
         alloc,
         line,
         answer_year,
