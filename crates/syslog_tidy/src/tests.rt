@@ -178,6 +178,16 @@ fn writes_its_own_output_again(rt: HostRuntime) {
     expect_run(&rt, alloc, TWO_PRINTED.as_bytes(), 1, TWO_PRINTED, 2, 0);
 }
 
+/// A host that ends in colons comes to rest in round 3, and what is written then stays.
+#[test]
+fn writes_settled_lines(rt: HostRuntime) {
+    let alloc = rt.alloc();
+    let line = "<34>- zork::: hi\n";
+    let settled = "<34> - zork : : : hi\n";
+    expect_run(&rt, alloc, line.as_bytes(), 1024, settled, 1, 0);
+    expect_run(&rt, alloc, settled.as_bytes(), 1024, settled, 1, 0);
+}
+
 #[test]
 fn passes_over_refused_lines(rt: HostRuntime) {
     let alloc = rt.alloc();
