@@ -60,7 +60,7 @@ printed_again m e =
 pub read_again : (rule : DashRule) (dating : Dating) (text : Text) (m : MessageValue) → IsRead3164 rule dating text m → HasNoMiss rule m
     → IsCanonical rule (completed m) × IsBounded (completed m) × (printed (completed m) ≡ printed m)
 read_again rule dating text m r none = (
-      completed_canonical rule dating text m r none,
-      completed_bounded m (read_bounded rule dating text m r),
-      printed_again m (read_near rule dating text m r).protocol,
-    )
+  completed_canonical rule dating text m r none,
+  completed_bounded m (read_bounded rule dating text m r),
+  printed_again m (read_near rule dating text m r).protocol,
+)
