@@ -36,6 +36,8 @@ HOSTILE_REPEATS = 1024
 PATIENCE = 60
 # Kilobytes of the hostile lines whose instructions are counted.
 COUNTED_SIZES = [64, 128, 256, 512]
+# The same of lines that take many rounds to settle.
+ROUNDS_SIZES = [4, 8, 16, 32]
 # Valgrind counts an instruction for each byte that the C library moves or fills by one string instruction, as it does
 # for long texts. So it is told not to: else a first doubling is the growth of the filter's block.
 NO_STRING_INSTRUCTIONS = ":".join(
@@ -201,7 +203,7 @@ def time_hostile(filters, chosen, folder):
 
 
 def count_corpora(filters, chosen):
-    """The instructions of each filter for one line more, and for hostile lines with the growth at each doubling."""
+    """The instructions of each filter for one line more, and of the first for hostile lines."""
     more = ["peer's instructions", "the peer's over ours"] * (len(filters) > 1)
     head("corpus", "instructions a line", *more)
     for name, lines in corpora.corpora(4000):
@@ -209,14 +211,19 @@ def count_corpora(filters, chosen):
             continue
         own, *others = [(it.instructions(lines) - it.instructions(lines[:1000])) / 3000 for it in filters]
         row(name, "{:,.0f}".format(own), *[cell for it in others for cell in ("{:,.0f}".format(it), "%.2f" % (it / own))])
-    print("\nMillions of instructions for one hostile line of each size, and in brackets the growth at each doubling:\n")
-    head("line", *["%d KB" % size for size in COUNTED_SIZES])
     start = filters[0].instructions([])
-    for name, maker in corpora.HOSTILE:
+    told = "Millions of instructions for one %s, and in brackets the growth at each doubling"
+    count_lines(filters[0], start, chosen, told % "hostile line of each size", corpora.HOSTILE, COUNTED_SIZES)
+    count_lines(filters[0], start, chosen, told % "line of each size that takes many rounds", corpora.MANY_ROUNDS, ROUNDS_SIZES)
+
+
+def count_lines(it, start, chosen, told, kinds, sizes):
+    print("\n%s:\n" % told)
+    head("line", *["%d KB" % size for size in sizes])
+    for name, maker in kinds:
         if chosen.only not in "hostile_" + name:
             continue
-        counts = [(filters[0].instructions([maker(size * 1024)]) - start) / 1e9 for size in COUNTED_SIZES]
-        row(name, *shown(counts))
+        row(name, *shown([(it.instructions([maker(size * 1024)]) - start) / 1e9 for size in sizes]))
 
 
 def differences(filters, lines, most):

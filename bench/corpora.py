@@ -146,7 +146,7 @@ HOSTILE_LINES = [
     ("day_zeros_3164", lambda size: "Oct " + filled("0", size) + "5 07:08:09 h a: x"),
     ("year_nines_3164", lambda size: "Oct 5 " + filled("9", size) + " 07:08:09 h a: x"),
     ("decimals_3164", lambda size: "2020-01-01T00:00:00." + filled("1", size) + "Z h a: x"),
-    ("host_colons_3164", lambda size: "- host" + filled(":", size) + " text"),
+    ("host_colons_3164", lambda size: "- " + filled(":", size) + "h a: x"),
     ("tag_brackets_3164", lambda size: "- host " + filled("[", size) + ": x"),
     ("form_brackets_3164", lambda size: "- host " + filled("[", size) + "]: x"),
     ("process_zeros_3164", lambda size: "- host app[" + filled("0", size) + "7]: x"),
@@ -160,8 +160,15 @@ def behind(header, maker):
 
 HOSTILE = [
     *((name, behind(HEADER, maker)) for name, maker in HOSTILE_LISTS),
-    *((name + "_3164", behind(HEADER_3164, maker)) for name, maker in HOSTILE_LISTS),
+    *((name + "_3164", behind(HEADER_3164, maker)) for name, maker in HOSTILE_LISTS if name != "dashes"),
     *HOSTILE_LINES,
+]
+
+# Lines that change each time that they are read and printed: a round takes a dash, or a colon, and goes over the whole.
+# A filter that prints until its text settles takes time quadratic in them.
+MANY_ROUNDS = [
+    ("dashes_3164", behind(HEADER_3164, dict(HOSTILE_LISTS)["dashes"])),
+    ("last_colons_3164", lambda size: "- host" + filled(":", size) + " text"),
 ]
 
 
@@ -186,7 +193,7 @@ def main():
     os.makedirs(folder, exist_ok=True)
     for name, made in corpora(lines):
         write_lines(os.path.join(folder, name), made)
-    for name, maker in HOSTILE:
+    for name, maker in HOSTILE + MANY_ROUNDS:
         for size in HOSTILE_SIZES:
             write_lines(os.path.join(folder, "hostile_%s_%dk" % (name, size)), [maker(size * 1024)])
 

@@ -121,7 +121,7 @@ five_cut : (a b c d e r q tail : Text) → tail ++ r ≡ five a b c d e r → ta
 five_cut a b c d e r q tail h =
     ap (λ (x : Text). x ++ q) (append_cancel_right tail (five a b c d e []) r (h ∙ sym (five_on a b c d e r))) ∙ five_on a b c d e q
 
-composes : (pri : ℕ) → pri < 192 → option_map_or facility_number (facility_of pri) 5 * 8 + option_map_or severity_number (severity_of pri) 7 ≡ pri
+pub composes : (pri : ℕ) → pri < 192 → option_map_or facility_number (facility_of pri) 5 * 8 + option_map_or severity_number (severity_of pri) 7 ≡ pri
 composes pri small =
     let c = priority_composed pri small in
     ap₂ (λ (x : Option SyslogFacility) (y : Option SyslogSeverity). option_map_or facility_number x 5 * 8 + option_map_or severity_number y 7) c.2 c.3 ∙ c.4

@@ -3,6 +3,8 @@ pub mod BoundLemmas
 pub mod CanonicalLemmas
 pub mod DashLemmas
 pub mod KeptLineLemmas
+pub mod MissLemmas
+pub mod KeptLooseLemmas
 pub mod OneLineLemmas
 pub mod PrintedLemmas
 pub mod PriorityLemmas

@@ -1,5 +1,5 @@
 -- What is read is printed in the characters of the text and of printable ASCII: what is read of one line, as one line.
-use Rattle.std.proofs.Common.{◌≡◌, ℕ, suc, zero, pos, negsuc, ◌<◌, ◌≤◌, ◌^◌, inl, inr, Bool, true, false, nat_eq, nat_le, nat_lt, ◌&&◌, cond, List, [], ◌∷◌, ◌++◌, length, Option, Some, None, IfSome, refl, sym, ap, subst, ◌∙◌, arith}
+use Rattle.std.proofs.Common.{◌≡◌, ℕ, suc, zero, pos, negsuc, ◌<◌, ◌≤◌, ◌^◌, inl, inr, Bool, true, false, nat_eq, nat_le, nat_lt, ◌&&◌, cond, List, [], ◌∷◌, ◌++◌, length, Option, Some, None, IfSome, refl, sym, ap, subst, arith}
 use Rattle.std.proofs.Math.Utf8.{scalar, scalars, low_scalar}
 use Rattle.std.proofs.lemmas.Bool.{and_from, and_parts}
 use Rattle.std.proofs.lemmas.Bool.Decides.{nat_tests}

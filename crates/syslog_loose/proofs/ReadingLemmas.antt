@@ -90,19 +90,17 @@ any_answer variant text tz local year other (Ok m) never h = only_read variant (
 any_answer variant text tz local year other (Err Invalid) never h = λ m r. h m (any_year variant text tz local other year m never r)
 any_answer variant text tz local year other (Err Memory) never h = λ needless. h (λ m r. needless m (any_year variant text tz local year other m never r))
 
--- what is answered in the year that the closure answered
+-- what holds in the year that the closure answered, and in each year where it holds in none that is asked for
+pub in_answered_year : (post : IncompleteDate → ℤ → Type 0) (variant : Variant) (text : Text) (Holds : Option ℤ → Type 0) (year : Option ℤ) → IsYearAnswered post variant text year
+    → (((date : MonthDate) → AsksYear variant text date → ⊥) → (other : Option ℤ) → Holds None → Holds other) → Holds year → InYear post variant text Holds
+in_answered_year post variant text Holds None is any h = record { answered = None; is_answered = is; holds = λ other agrees. any is other h }
+in_answered_year post variant text Holds (Some year) is any h =
+    record { answered = Some year; is_answered = is; holds = λ other agrees. subst Holds (sym (agrees is.0 is.1)) h }
+
 pub answers_in : (post : IncompleteDate → ℤ → Type 0) (variant : Variant) (text : Text) (tz : Option (Bor TimeZone)) (local : Bor TimeZone) (r : Result Found ParseFault) (year : Option ℤ)
     → IsYearAnswered post variant text year → Answers variant (dating_of year tz local) text r → InYear post variant text (λ y. Answers variant (dating_of y tz local) text r)
-answers_in post variant text tz local r None is h = record {
-  answered = None;
-  is_answered = is;
-  holds = λ other agrees. any_answer variant text tz local None other r is h;
-}
-answers_in post variant text tz local r (Some year) is h = record {
-  answered = Some year;
-  is_answered = is;
-  holds = λ other agrees. subst (λ (y : Option ℤ). Answers variant (dating_of y tz local) text r) (sym (agrees is.0 is.1)) h;
-}
+answers_in post variant text tz local r year is h =
+    in_answered_year post variant text (λ y. Answers variant (dating_of y tz local) text r) year is (λ never other a. any_answer variant text tz local None other r never a) h
 
 -- the answer to the date that the text asks a year of
 pub answered_to : (post : IncompleteDate → ℤ → Type 0) (variant : Variant) (text : Text) (asked : Option IncompleteDate) (year : Option ℤ)

@@ -4,6 +4,7 @@ pub mod Dash
 pub mod Equal
 pub mod EqualLaws
 pub mod KeptLine
+pub mod KeptLoose
 pub mod ListedMisses
 pub mod Message
 pub mod OneLine

@@ -1,6 +1,6 @@
 -- Rounds: a text is read and printed, and what was printed is read and printed again, until it no longer changes. And the
 -- weight of a message of RFC 3164, which falls from round to round until then. (All of it is this project's own.)
-use Rattle.std.specs.Prelude.{◌≡◌, ◌≢◌, ◌⊎◌, ℕ, zero, suc, ◌+◌, ◌<◌, [], ◌∷◌, ◌++◌, length, Bool, MatchBool, ⊤, unwrap_or, Option, Some, None, IfSome, Result, MatchResult, String, string_bytes}
+use Rattle.std.specs.Prelude.{◌≡◌, ◌≢◌, ◌⊎◌, ℕ, zero, suc, ◌+◌, ◌<◌, [], ◌∷◌, ◌++◌, length, Bool, MatchBool, ⊤, Option, Some, None, IfSome, Result, MatchResult, String, string_bytes}
 use Rattle.std.specs.Global.{Global}
 use Rattle.std.specs.Str.{chars}
 use Rattle.syslog_pieces.specs.Pieces.Class.{Text}
@@ -10,10 +10,7 @@ use Rattle.syslog_pieces.specs.Timestamp.Plain.{IsPlainStamp}
 use Rattle.syslog_pieces.specs.Timestamp.Zone.{Dating}
 use Rattle.syslog_pieces.specs.declared.procid.ProcId.{ProcId}
 use Rattle.syslog_pieces.specs.declared.structured_data.listed.DashRule.{DashRule}
-use Rattle.syslog_pieces.specs.declared.pri.SyslogFacility.TheVariants.{LOG_SYSLOG}
-use Rattle.syslog_pieces.specs.declared.pri.SyslogSeverity.TheVariants.{SEV_DEBUG}
-use Rattle.syslog_loose.specs.Canonical.{IsCanonical}
-use Rattle.syslog_loose.specs.ListedMisses.{HasNoColon}
+use Rattle.syslog_loose.specs.ListedMisses.{HasNoColon, HasNoMiss}
 use Rattle.syslog_loose.specs.Message.{MessageValue}
 use Rattle.syslog_loose.specs.Printed.{printed}
 use Rattle.syslog_loose.specs.Reading.{dash_rule, IsRead, IsUnreadable}
@@ -68,24 +65,9 @@ Settles variant dating text result = MatchResult result (λ u. IsFirstSettled va
 
 -- ---- words of the bodies
 
--- the message with what stands in print for an absent facility and severity, so that it prints the same
-abbrev pub completed : MessageValue → MessageValue
-completed m = record {
-  protocol = m.protocol;
-  facility = Some (unwrap_or m.facility LOG_SYSLOG);
-  severity = Some (unwrap_or m.severity SEV_DEBUG);
-  timestamp = m.timestamp;
-  hostname = m.hostname;
-  appname = m.appname;
-  procid = m.procid;
-  msgid = m.msgid;
-  structured_data = m.structured_data;
-  msg = m.msg;
-}
-
--- such a message prints as a settled text
+-- a message that was read so prints as a settled text
 abbrev pub IsAtRest : Protocol → MessageValue → Type 0
-IsAtRest RFC3164 m = IsCanonical dash_rule m
+IsAtRest RFC3164 m = HasNoMiss dash_rule m
 IsAtRest (RFC5424 version) m = ⊤
 
 -- This is the next round of the text; and where this is true it is settled, else the text is not.

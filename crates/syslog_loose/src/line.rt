@@ -15,11 +15,13 @@ ghost use Rattle.syslog_pieces.specs.declared.timestamp.month_date.MonthDate.{Mo
 ghost use Rattle.syslog_loose.specs.Reading.{AsksYear, IsUnreadable};
 ghost use Rattle.syslog_loose.specs.Rfc5424.{IsNot5424, IsRead5424};
 
+mod loose;
 #[cfg(test)]
 mod tests;
 
 use crate::message::{write_spaced, write_timestamp};
 use crate::reading::Variant;
+pub(crate) use loose::{DatedLine, dated_line, dated_text, loose_text};
 use std::alloc::{AllocError, Global};
 use std::fmt;
 use std::fmt::Write;
@@ -101,6 +103,26 @@ impl fmt::Display for KeptLine<'_> {
     }
 }
 
+// Whether a priority may begin the text, perhaps behind white space. It decides only which way is tried.
+#[inline(always)]
+fn may_have_priority(input: &str) -> bool {
+    match input.as_bytes() {
+        [first, ..] => *first == b'<' || *first <= b' ' || *first >= 128,
+        [] => false,
+    }
+}
+
+// Whether a version may stand behind the priority. It decides only which way is tried first.
+#[inline(always)]
+fn may_be_strict(input: &str) -> bool {
+    match input.as_bytes() {
+        [b'<', _, b'>', next, ..] => next.is_ascii_digit(),
+        [b'<', _, _, b'>', next, ..] => next.is_ascii_digit(),
+        [b'<', _, _, _, b'>', next, ..] => next.is_ascii_digit(),
+        _ => may_have_priority(input),
+    }
+}
+
 // What a printed message may have beyond its input: a priority, a longer timestamp and the dashes of absent fields.
 pub(crate) const MORE_PRINTED: usize = 48;
 
@@ -110,6 +132,9 @@ pub(crate) fn copied(alloc: Global, input: &str) -> Result<Option<String>, Alloc
     ensures text { IfOk result (λ found. IfSome found (λ text. (m : MessageValue) × IsRead5424 (chars input.now) m × (string_bytes text ≡ encode_utf8_all (printed m)))) }
     ensures memory { IsNot5424 (chars input.now) → IsOk result }
 {
+    if !may_be_strict(input) {
+        return Ok(None);
+    }
     let Some(line) = kept_line(trimmed(input)) else {
         return Ok(None);
     };

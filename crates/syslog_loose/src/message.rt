@@ -12,8 +12,11 @@ ghost use Rattle.syslog_loose.specs.Printed as spec;
 mod canonical;
 mod copies;
 mod equality;
+mod misses;
 mod printing;
 
+pub(crate) use canonical::is_plain_time;
+pub(crate) use misses::has_no_miss;
 pub(crate) use printing::write_timestamp;
 use printing::{write_elements, write_elements_before, write_name, write_process, write_tag};
 use std::fmt;

@@ -3,12 +3,13 @@
 //! Each of the five looks first for a date without a year, asks the closure for its year, and then reads by the headers
 //! below. The calls with `exact` in their names refuse a text that has no reading; the plain ones answer the fallback.
 ghost use Rattle.std.specs.Prelude.{◌≡◌, ◌↔◌, IfOk, MatchOption, MatchResult, None, string_bytes};
-ghost use Rattle.std.specs.Str.{chars, encode_utf8_all};
+ghost use Rattle.std.specs.Str.{chars, encode_utf8_all, IsUtf8};
 ghost use Rattle.jiff.specs.Words.{plain_zone};
 ghost use Rattle.syslog_pieces.specs.Pieces.View.{shown};
 ghost use Rattle.syslog_pieces.specs.Timestamp.Loose.{ShowsYearless};
 ghost use Rattle.syslog_pieces.specs.Timestamp.Zone.{Dating, IsYearAt, dating_of};
 ghost use Rattle.syslog_pieces.specs.declared.timestamp.month_date.MonthDate.{MonthDate};
+ghost use Rattle.syslog_loose.specs.KeptLoose.{ShowsDated};
 ghost use Rattle.syslog_loose.specs.Message.{MessageValue, message_value};
 ghost use Rattle.syslog_loose.specs.Printed.{printed};
 ghost use Rattle.syslog_loose.specs.ReadBack.{AnswersAgain, AnswersItself, FieldsAsRead};
@@ -20,7 +21,7 @@ ghost use Rattle.syslog_loose.specs.declared.reading.Variant.TheVariants as vari
 
 use crate::beginning::may_be_read;
 use crate::fault::ParseFault;
-use crate::line::{MORE_PRINTED, kept_text};
+use crate::line::{DatedLine, MORE_PRINTED, dated_line, dated_text, kept_text, loose_text};
 use crate::message::{Message, Protocol};
 use crate::{rfc3164, rfc5424};
 use jiff::Timestamp;
@@ -297,7 +298,59 @@ pub fn normalise<F: FnOnce(IncompleteDate) -> i32>(
         Some(text) => return Ok(text),
         None => {}
     }
-    let message = parse_message_with_year_exact_tz(alloc, input, get_year, tz, variant, local)?;
+    match dated_line(input, variant) {
+        Some(line) => {
+            let year = line.asked().map(get_year);
+            normalise_dated(alloc, input, line, year, tz, variant, local)
+        }
+        None => {
+            let year = asked_date(input, variant).map(get_year);
+            normalise_in(alloc, input, year, tz, variant, local)
+        }
+    }
+}
+
+// The same of a line that shows a month date, in a year.
+fn normalise_dated(
+    alloc: Global,
+    input: &str,
+    line: DatedLine<'_>,
+    year: Option<i32>,
+    tz: Option<&TimeZone<'_>>,
+    variant: Variant,
+    local: &TimeZone<'_>,
+) -> Result<String, ParseFault>
+    requires shows { ShowsDated variant (chars input.now) (shown line.front) line.date (shown line.tail) }
+    requires utf8 { IsUtf8 line.front.now × IsUtf8 line.tail.now }
+    ensures { MatchResult result
+        (λ text. (m : MessageValue) × IsOnlyRead variant (dating_of year tz.entry local.entry) (chars input.entry.now) m × (string_bytes text ≡ encode_utf8_all (printed m)))
+        (λ fault. (fault ≡ Invalid) ↔ IsUnreadable variant (dating_of year tz.entry local.entry) (chars input.entry.now)) }
+{
+    match dated_text(alloc, line, input.len(), year, tz, local)? {
+        Some(text) => return Ok(text),
+        None => {}
+    }
+    normalise_in(alloc, input, year, tz, variant, local)
+}
+
+// The same in a year.
+fn normalise_in(
+    alloc: Global,
+    input: &str,
+    year: Option<i32>,
+    tz: Option<&TimeZone<'_>>,
+    variant: Variant,
+    local: &TimeZone<'_>,
+) -> Result<String, ParseFault>
+    ensures { MatchResult result
+        (λ text. (m : MessageValue) × IsOnlyRead variant (dating_of year tz.entry local.entry) (chars input.entry.now) m × (string_bytes text ≡ encode_utf8_all (printed m)))
+        (λ fault. (fault ≡ Invalid) ↔ IsUnreadable variant (dating_of year tz.entry local.entry) (chars input.entry.now)) }
+{
+    match loose_text(alloc, input, year, tz, variant, local)? {
+        Some(text) => return Ok(text),
+        None => {}
+    }
+    let message = read(alloc, input, year, tz, variant, local)?;
     Ok(print(alloc, &message, input.len())?)
 }
 

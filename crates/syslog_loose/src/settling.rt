@@ -1,26 +1,25 @@
 //! Rounds of reading and printing, until the text no longer changes.
 //!
-//! What was read as RFC 5424 prints as a settled text, and so does a message that is canonical but for an absent facility
-//! and severity. So nearly each line is read once and printed once. Any other message of RFC 3164 weighs less each time
-//! that what was printed of it is read again, and no more than its text has characters at first: so this ends.
+//! What was read as RFC 5424 prints as a settled text, and so does what was read as RFC 3164 and has none of the listed
+//! misses. So nearly each line is read once and printed once. Any other message of RFC 3164 weighs less each time that what
+//! was printed of it is read again, and no more than its text has characters at first: so this ends.
 ghost use Rattle.std.specs.Prelude.{◌≡◌, ◌↔◌, IfOk, IsTrue, MatchResult, string_bytes};
-ghost use Rattle.std.specs.Str.{chars};
+ghost use Rattle.std.specs.Str.{chars, IsUtf8};
 ghost use Rattle.syslog_pieces.specs.Pieces.View.{shown};
 ghost use Rattle.syslog_pieces.specs.Timestamp.Zone.{dating_of};
 ghost use Rattle.syslog_loose.specs.Canonical.{IsCanonical};
+ghost use Rattle.syslog_loose.specs.KeptLoose.{ShowsDated};
 ghost use Rattle.syslog_loose.specs.Message.{MessageValue, message_value};
 ghost use Rattle.syslog_loose.specs.Reading.{AnswersEachMonth, InYear, IsRead, IsUnreadable, dash_rule};
-ghost use Rattle.syslog_loose.specs.Settling as spec;
 ghost use Rattle.syslog_loose.specs.Settling.{IsAtRest, IsToldNext, Settles};
 ghost use Rattle.syslog_loose.specs.declared.fault.ParseFault.TheVariants.{Invalid};
 
 use crate::fault::ParseFault;
-use crate::line::kept_text;
-use crate::message::{Message, Protocol};
+use crate::line::{DatedLine, dated_line, dated_text, kept_text, loose_text};
+use crate::message::{Message, Protocol, has_no_miss};
 use crate::reading::{IncompleteDate, Variant, asked_date, print, read};
 use jiff::tz::TimeZone;
 use std::alloc::Global;
-use syslog_pieces::pri::{SyslogFacility, SyslogSeverity};
 
 // A round of a text, and whether it is known that the next round is the same text.
 #[derive(Drop)]
@@ -55,7 +54,36 @@ pub fn settle<F: FnOnce(IncompleteDate) -> i32>(
         Some(text) => return Ok(text),
         None => {}
     }
-    let year = asked_date(input, variant).map(get_year);
+    match dated_line(input, variant) {
+        Some(line) => {
+            let year = line.asked().map(get_year);
+            settle_dated(alloc, input, line, year, tz, variant, local)
+        }
+        None => {
+            let year = asked_date(input, variant).map(get_year);
+            settle_in(alloc, input, year, tz, variant, local)
+        }
+    }
+}
+
+// The same of a line that shows a month date, in a year.
+fn settle_dated(
+    alloc: Global,
+    input: &str,
+    line: DatedLine<'_>,
+    year: Option<i32>,
+    tz: Option<&TimeZone<'_>>,
+    variant: Variant,
+    local: &TimeZone<'_>,
+) -> Result<String, ParseFault>
+    requires shows { ShowsDated variant (chars input.now) (shown line.front) line.date (shown line.tail) }
+    requires utf8 { IsUtf8 line.front.now × IsUtf8 line.tail.now }
+    ensures { Settles variant (dating_of year tz.entry local.entry) (chars input.entry.now) result }
+{
+    match dated_text(alloc, line, input.len(), year, tz, local)? {
+        Some(text) => return Ok(text),
+        None => {}
+    }
     settle_in(alloc, input, year, tz, variant, local)
 }
 
@@ -98,19 +126,19 @@ fn next_round(
         (λ round. IsToldNext variant (dating_of year tz.entry local.entry) (chars input.entry.now) (chars (string_bytes round.text)) round.settled)
         (λ fault. (fault ≡ Invalid) ↔ IsUnreadable variant (dating_of year tz.entry local.entry) (chars input.entry.now)) }
 {
-    let message = completed(read(alloc, input, year, tz, variant, local)?);
+    match loose_text(alloc, input, year, tz, variant, local)? {
+        Some(copied) => {
+            return Ok(Round {
+                text: copied,
+                settled: true,
+            });
+        }
+        None => {}
+    }
+    let message = read(alloc, input, year, tz, variant, local)?;
     let settled = is_at_rest(&message);
     let text = print(alloc, &message, input.len())?;
     Ok(Round { text, settled })
-}
-
-// The message with what stands in print for an absent facility and severity.
-fn completed(mut message: Message<&str>) -> Message<&str>
-    ensures { message_value (λ s. shown s) result ≡ spec.completed (message_value (λ s. shown s) message.entry) }
-{
-    message.facility = Some(message.facility.unwrap_or(SyslogFacility::LOG_SYSLOG));
-    message.severity = Some(message.severity.unwrap_or(SyslogSeverity::SEV_DEBUG));
-    message
 }
 
 // Whether the printed text of the message is known to be settled.
@@ -119,6 +147,6 @@ fn is_at_rest(message: &Message<&str>) -> bool
 {
     match message.protocol {
         Protocol::RFC5424(_) => true,
-        Protocol::RFC3164 => message.is_canonical(),
+        Protocol::RFC3164 => has_no_miss(message),
     }
 }

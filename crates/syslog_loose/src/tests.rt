@@ -22,4 +22,5 @@ mod refusals_settling;
 mod rfc3164;
 mod rfc3164_calls;
 mod settling;
+mod settling_made;
 mod sizes;

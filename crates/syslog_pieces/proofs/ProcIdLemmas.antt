@@ -8,14 +8,15 @@ use Rattle.std.proofs.lemmas.Bool.{cases_eq, cases_lt, ne_eqb}
 use Rattle.std.proofs.lemmas.Fmt.{decimal-digits_value}
 use Rattle.std.proofs.lemmas.Str.{chars-IsAscii}
 use Rattle.std.proofs.lemmas.Str.Ascii.{IsAscii-cons}
-use Rattle.syslog_pieces.specs.Bodies.Kept.{IsBareWord}
+use Rattle.syslog_pieces.specs.Bodies.Kept.{IsBareWord, KeptDigits}
+use Rattle.syslog_pieces.specs.Bodies.Scan.{SplitsRun}
 use Rattle.syslog_pieces.specs.Pieces.Class.{Text, Each, Front, NoFront, IsDeterministic}
 use Rattle.syslog_pieces.specs.Pieces.Kept.{Kept}
 use Rattle.syslog_pieces.specs.Text.{word}
 use Rattle.syslog_pieces.specs.ProcId.{IsDigits, WritesSigned, IsI32Text, NamesProcess, process_word, process_text, procid_text}
 use Rattle.syslog_pieces.specs.declared.procid.ProcId.{ProcId}
 use Rattle.syslog_pieces.specs.declared.procid.ProcId.TheVariants.{PID, Name}
-use Rattle.syslog_pieces.proofs.TextLemmas.Chars.{digits_ascii, ascii_plain}
+use Rattle.syslog_pieces.proofs.TextLemmas.Chars.{digits_ascii, ascii_plain, digits_plain}
 use Rattle.syslog_pieces.proofs.TextLemmas.Words.{own, word_det}
 
 -- ---- a text writes one number
@@ -199,3 +200,24 @@ process_kept text follows name f p =
 
 pub absent_kept : (text follows : Text) → Front word text follows None → Kept process_word process_text text follows
 absent_kept text follows f = record { value = None; whole = f.whole ∙ ap (λ (x : Text). x ++ follows) f.is.4; is = subst (λ (x : Text). word.Is x follows None) f.is.4 f.is }
+
+-- digits, of which the first is 0 only where it is alone
+digit_first : (t : Text) (s : ℕ) → is_ascii_digit s ≡ false → Each is_ascii_digit t → 1 < length t → get_or t 0 0 ≢ s
+digit_first [] s n a l e = absurd (omega arith)
+digit_first (c ∷ t) s n a l e = let b : true ≡ false = sym a.0 ∙ ap is_ascii_digit e ∙ n in cc
+
+bare_digits : (t : Text) → Each is_ascii_digit t → (get_or t 0 0 ≡ 48 → length t ≡ 1) → IsBareWord t
+bare_digits t a lead l = (digit_first t 43 refl a l, digit_first t 45 refl a l, λ z. (let e = lead z in omega arith))
+
+pub digits_kept : (bs xs ys : List ℕ) → SplitsRun is_ascii_digit bs xs ys → 0 < length xs → (get_or xs 0 0 ≡ 48 → length xs ≡ 1) → KeptDigits (chars bs) (chars ys)
+digits_kept bs xs ys s l lead =
+    let plain = digits_plain xs s.front_utf8 s.each in
+    let each = subst (λ (x : Text). Each is_ascii_digit x) plain s.each in
+    let (process, names, e) = names_itself xs l (bare_digits xs each lead) in
+    record {
+      process = process;
+      whole = s.characters ∙ ap (λ (x : Text). x ++ chars ys) (plain ∙ sym e);
+      some = subst (λ (x : Text). 0 < length x) (sym e) l;
+      digits = subst (λ (x : Text). Each is_ascii_digit x) (sym e) each;
+      names = subst (λ (x : Text). NamesProcess x process) (sym e) names;
+    }

@@ -7,7 +7,7 @@ ghost use Rattle.std.specs.Ordering.{on};
 ghost use Rattle.std.specs.Prelude.{◌≡◌, ◌↔◌, IfOk, IfSome, IsTrue, Some, string_bytes};
 ghost use Rattle.std.specs.Option.{option_map};
 ghost use Rattle.std.specs.Str.{chars, encode_utf8_all};
-ghost use Rattle.syslog_pieces.specs.Bodies.Kept.{IsBareWord};
+ghost use Rattle.syslog_pieces.specs.Bodies.Kept.{IsBareWord, KeptDigits};
 ghost use Rattle.syslog_pieces.specs.Pieces.Kept.{Kept};
 ghost use Rattle.syslog_pieces.specs.ProcId.{process_text};
 ghost use Rattle.syslog_pieces.specs.ProcId as spec;
@@ -19,9 +19,10 @@ ghost use Rattle.syslog_pieces.specs.Pieces.View.{shown, text_of, ClonesKeepText
 mod tests;
 
 use crate::as_str::{AsStr, is_same_text};
+use crate::text::kept::has_zero_ahead;
 use crate::text::plain::is_plain_word;
 use crate::text::written::write_signed;
-use crate::text::{first, word};
+use crate::text::{CharClass, first, split_run, word};
 use std::alloc::{AllocError, Global};
 use std::fmt;
 
@@ -139,6 +140,18 @@ pub fn kept_process(text: &str) -> Option<&str>
         Some(name) => { if is_bare_word(name) { Some(rest) } else { None } }
         None => Some(rest),
     }
+}
+
+/// The text behind the digits at the front, where as a process id they print as they are written.
+#[inline(always)]
+pub fn kept_digits(text: &str) -> Option<&str>
+    ensures { IfSome result (λ rest. KeptDigits (chars text.now) (shown rest)) }
+{
+    let (digits, rest) = split_run(text, CharClass::Digit);
+    if digits.is_empty() || has_zero_ahead(digits) {
+        return None;
+    }
+    Some(rest)
 }
 
 /// Whether the text is one of a number of 32 bits.

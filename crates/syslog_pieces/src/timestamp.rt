@@ -28,7 +28,7 @@ pub mod month_date;
 pub mod plain;
 #[cfg(test)]
 mod tests;
-mod usual;
+pub mod usual;
 mod written;
 pub mod zone;
 

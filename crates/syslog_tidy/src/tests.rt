@@ -32,6 +32,11 @@ const THREE: &str = "gobbledegook\n\n<34>1 - - - - - -";
 
 const THREE_PRINTED: &str = "<34>1 - - - - - - \n";
 
+/// The same with a message of RFC 3164.
+const DATED: &str = "gobbledegook\n\n<34>Oct 11 22:14:15 mymachine app[323]: a message";
+
+const DATED_PRINTED: &str = "<34> 2019-10-11T22:14:15+00:00 mymachine app[323]: a message\n";
+
 const NEVER: u64 = 0;
 
 /// Gives at most `step` bytes a call, and fails at one call.
@@ -206,10 +211,9 @@ fn passes_over_refused_lines(rt: HostRuntime) {
 
 #[test]
 fn filters_both_protocols(rt: HostRuntime) {
-    let lines = "gobbledegook\n\n<34>Oct 11 22:14:15 mymachine app[323]: a message";
-    let printed = "<34> 2019-10-11T22:14:15+00:00 mymachine app[323]: a message\n";
-    expect_run(&rt, rt.alloc(), lines.as_bytes(), 1024, printed, 3, 2);
-    expect_run(&rt, rt.alloc(), lines.as_bytes(), 1, printed, 3, 2);
+    let lines = DATED.as_bytes();
+    expect_run(&rt, rt.alloc(), lines, 1024, DATED_PRINTED, 3, 2);
+    expect_run(&rt, rt.alloc(), lines, 1, DATED_PRINTED, 3, 2);
 }
 
 #[test]
@@ -317,13 +321,11 @@ fn failing_writes(rt: HostRuntime) {
     assert!(rt; writer.inner.written() == TWO_PRINTED.as_bytes());
 }
 
-/// Also run with each request for memory refused in turn: nothing is then written, or all of it.
-#[test]
-fn refused_memory(rt: HostRuntime) {
-    let mut reader = reader_of(THREE.as_bytes(), 1024, NEVER);
+/// Either all of the output is written, or memory is refused, and then nothing is written or all of it.
+fn check_refused(rt: &impl Abort, alloc: Global, bytes: &[u8], whole: &[u8]) {
+    let mut reader = reader_of(bytes, 1024, NEVER);
     let mut writer = writer_of(1024, NEVER, Wrong::Fails);
-    let whole = THREE_PRINTED.as_bytes();
-    match run(rt.alloc(), &mut reader, &mut writer, 2019) {
+    match run(alloc, &mut reader, &mut writer, 2019) {
         Ok(summary) => {
             assert!(rt;
                 summary
@@ -340,6 +342,13 @@ fn refused_memory(rt: HostRuntime) {
             assert!(rt; written.is_empty() || written == whole);
         }
     }
+}
+
+/// Also run with each request for memory refused in turn: nothing is then written, or all of it.
+#[test]
+fn refused_memory(rt: HostRuntime) {
+    check_refused(&rt, rt.alloc(), THREE.as_bytes(), THREE_PRINTED.as_bytes());
+    check_refused(&rt, rt.alloc(), DATED.as_bytes(), DATED_PRINTED.as_bytes());
 }
 
 #[test]

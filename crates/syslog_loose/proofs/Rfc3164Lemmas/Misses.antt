@@ -19,11 +19,11 @@ visible_host : (host : Option Text) → IfSome host IsPlainHost → IfSome host 
 visible_host None h = tt
 visible_host (Some x) h = h.0
 
-no_dash_host : (host : Option Text) → IfSome host IsPlainHost → IfSome host (λ x. x ≡ dash → ⊥)
+pub no_dash_host : (host : Option Text) → IfSome host IsPlainHost → IfSome host (λ x. x ≡ dash → ⊥)
 no_dash_host None h = tt
 no_dash_host (Some x) h = h.1
 
-no_colon_host : (host : Option Text) → IfSome host IsPlainHost → IfSome host (λ x. EndsInColon x → ⊥)
+pub no_colon_host : (host : Option Text) → IfSome host IsPlainHost → IfSome host (λ x. EndsInColon x → ⊥)
 no_colon_host None h = tt
 no_colon_host (Some x) h = h.2
 

@@ -70,7 +70,7 @@ pub list_same : (es : List ElementValue) → es ≡ elements_or (list_field es)
 list_same [] = refl
 list_same (e ∷ es) = refl
 
-gap_back : (t msg : Text) → Front (run is_blank) t msg tt → Front (Row from_gap) t [] (tt, (msg, tt))
+pub gap_back : (t msg : Text) → Front (run is_blank) t msg tt → Front (Row from_gap) t [] (tt, (msg, tt))
 gap_back t msg f = row_cons (run is_blank) (rest ∷ []) f (row_cons rest [] (rest_front msg) (row_nil []))
 
 pub body_back : (rule : DashRule) (es : List ElementValue) (msg : Text) → AllByRecursion IsPlainElement es → AllByRecursion (λ e. 0 < length e.params) es → Ends is_blank msg → (es ≡ [] → BeginsNoList rule msg)
@@ -86,7 +86,7 @@ body_back rule (e ∷ es) msg h k b n =
     (gap_back (message_end msg) msg (message_blanks msg b)))
 
 -- ---- the process
-digit_inside : (c : ℕ) → is_ascii_digit c ≡ true → is_process_char c ≡ true
+pub digit_inside : (c : ℕ) → is_ascii_digit c ≡ true → is_process_char c ≡ true
 digit_inside c h =
     let (from, to) = digit_range c h in
     let visible = ap not (stamp_character-visible c (omega arith, omega arith)) in

@@ -33,7 +33,6 @@ use Rattle.syslog_pieces.proofs.StructuredDataLemmas.ReadBack.{forgiving_back, f
 use Rattle.syslog_pieces.proofs.TextLemmas.ReadBack.{number_back, word_back, word_plain, host_back, host_plain, NoColonNext, blanks_next}
 use Rattle.syslog_pieces.proofs.TimestampLemmas.RoundTrip.{printed_stamp-back, stamp_text-plain, printed_stamp-visible, printed_stamp-begins}
 use Rattle.syslog_loose.specs.declared.message.Protocol.TheVariants.{RFC5424}
-pub use Rattle.syslog_loose.specs.Settling.{completed}
 use Rattle.syslog_loose.specs.declared.message.Protocol.{Protocol}
 use Rattle.syslog_loose.specs.Canonical.{IsBoundedProtocol, IsBounded, IsPlain, IsPlain5424, IsPlainFor, IsCanonical}
 use Rattle.syslog_loose.specs.Message.{MessageValue}
@@ -263,6 +262,21 @@ canonical_read rule version m e b c =
     subst (λ (x : Text). IsRead5424 x m) (sym (printed_is version m e)) (made_read version m f s e ef es b c.0 plain)
 
 -- ---- what is read
+
+-- the message with what stands in print for an absent facility and severity, so that it prints the same
+abbrev pub completed : MessageValue → MessageValue
+completed m = record {
+  protocol = m.protocol;
+  facility = Some (unwrap_or m.facility LOG_SYSLOG);
+  severity = Some (unwrap_or m.severity SEV_DEBUG);
+  timestamp = m.timestamp;
+  hostname = m.hostname;
+  appname = m.appname;
+  procid = m.procid;
+  msgid = m.msgid;
+  structured_data = m.structured_data;
+  msg = m.msg;
+}
 
 -- the completed message that the pieces of a text mean is canonical
 values_plain : (rule : DashRule) (text : Text) (v : Values rfc5424_row) → Division rfc5424_row (trimmed text) v → IsCanonical rule (completed (message_of v)) × IsBounded (completed (message_of v))

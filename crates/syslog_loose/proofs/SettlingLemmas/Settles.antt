@@ -7,12 +7,14 @@ use Rattle.std.specs.Str.{chars, IsUtf8, bytes_eq, encode_utf8_all}
 use Rattle.syslog_pieces.specs.Pieces.Class.{Text}
 use Rattle.syslog_pieces.specs.Timestamp.Zone.{Dating}
 use Rattle.syslog_loose.specs.Canonical.{IsCanonical}
+use Rattle.syslog_loose.specs.KeptLoose.{PrintsFreely}
+use Rattle.syslog_loose.specs.ListedMisses.{HasNoMiss}
 use Rattle.syslog_loose.specs.Message.{MessageValue}
 use Rattle.syslog_loose.specs.Printed.{printed}
 use Rattle.syslog_loose.specs.Reading.{dash_rule, IsRead}
 use Rattle.syslog_loose.specs.Rfc3164.{IsRead3164}
 use Rattle.syslog_loose.specs.Rfc5424.{IsRead5424}
-use Rattle.syslog_loose.specs.Settling.{IsNext, IsRound, IsSettled, NoneSettled, IsFirstSettled, IsAtRest, IsToldNext, completed, Weighs}
+use Rattle.syslog_loose.specs.Settling.{IsNext, IsRound, IsSettled, NoneSettled, IsFirstSettled, IsAtRest, IsToldNext, Weighs}
 use Rattle.syslog_loose.specs.declared.message.Protocol.{Protocol}
 use Rattle.syslog_loose.specs.declared.message.Protocol.TheVariants as protocol
 use Rattle.syslog_loose.specs.declared.reading.Variant.{Variant}
@@ -20,29 +22,14 @@ use Rattle.syslog_loose.specs.declared.reading.Variant.TheVariants.{Either, RFC3
 use Rattle.syslog_loose.proofs.BoundLemmas.{read_bounded}
 use Rattle.syslog_loose.proofs.ReadBackLemmas.{printed_exact, kept_again}
 use Rattle.syslog_loose.proofs.ReadingLemmas.{read_once}
-use Rattle.syslog_loose.proofs.Rfc3164Lemmas.Again as rfc3164
+use Rattle.syslog_loose.proofs.Rfc3164Lemmas.Misses.{canonical_near}
 use Rattle.syslog_loose.proofs.Rfc3164Lemmas.Near.{read_near}
 use Rattle.syslog_loose.proofs.Rfc3164Lemmas.Printed.{printed_is, printed_apart}
-use Rattle.syslog_loose.proofs.Rfc5424Lemmas.ReadBack as rfc5424
 use Rattle.syslog_loose.proofs.SettlingLemmas.Falls.{falls}
 use Rattle.syslog_loose.proofs.SettlingLemmas.Light.{light}
 use Rattle.syslog_loose.proofs.SettlingLemmas.Quiet.{read_protocol}
 use Rattle.syslog_loose.proofs.SettlingLemmas.Rounds.{moves_on, Reached, reached_first, reached_next, reached_settled}
 use Rattle.syslog_loose.proofs.SettlingLemmas.Weights.{some_weight}
-
--- ---- a message with what stands in print for an absent facility and severity prints the same
-pub printed_completed : (m : MessageValue) → printed (completed m) ≡ printed m
-printed_completed m = by m.protocol refl
-  where
-    by : (p : Protocol) → m.protocol ≡ p → printed (completed m) ≡ printed m
-    by (protocol.RFC5424 version) e = rfc5424.printed_again version m e
-    by protocol.RFC3164 e = rfc3164.printed_again m e
-
-completed_canonical : (m : MessageValue) → IsCanonical dash_rule m → completed m ≡ m
-completed_canonical m c =
-    let (f, e) = rfc5424.some_of m.facility c.0.facility in
-    let (s, g) = rfc5424.some_of m.severity c.0.severity in
-    rfc5424.completed_same m f s e g
 
 -- ---- by which protocol a text was read
 no_protocol : (version : ℕ) → protocol.RFC3164 ≡ protocol.RFC5424 version → ⊥
@@ -78,12 +65,11 @@ module _ (variant : Variant) (dating : Dating) where
       let (n, again, same) = kept_again variant dating m (inr (inl (text, strictly dating text m variant version r e))) (read_protocol variant dating text m r) in
       record { message = n; read = again; is_printed = sym same }
 
-  -- so does a message that is canonical but for an absent facility and severity
-  pub canonical_settled : (text : Text) (m : MessageValue) → IsRead variant dating text m → IsCanonical dash_rule (completed m) → IsSettled variant dating (printed m)
-  canonical_settled text m r c =
-      let b = read_bounded variant dating text m r in
-      let (n, again, same) = kept_again variant dating (completed m) (inl (record { protocol = b.protocol; procid = b.procid }, c)) (read_protocol variant dating text m r) in
-      subst (λ (x : Text). IsSettled variant dating x) (printed_completed m) (record { message = n; read = again; is_printed = sym same })
+  -- so does what was read as RFC 3164 and has none of the listed misses
+  pub free_settled : (text : Text) (m : MessageValue) → IsRead variant dating text m → m.protocol ≡ protocol.RFC3164 → HasNoMiss dash_rule m → IsSettled variant dating (printed m)
+  free_settled text m r e none =
+      let (n, again, same) = kept_again variant dating m (inr (inr (text, dating, loosely dating text m variant r e, none))) (read_protocol variant dating text m r) in
+      record { message = n; read = again; is_printed = sym same }
 
   -- and the message of a settled text is canonical
   pub settled_canonical : (text : Text) (m : MessageValue) → IsSettled variant dating text → IsRead variant dating text m → IsCanonical dash_rule m
@@ -92,10 +78,9 @@ module _ (variant : Variant) (dating : Dating) where
       let e : text ≡ printed m = s.is_printed ∙ ap printed same in
       (printed_exact dating m (read_bounded variant dating text m r) variant (read_protocol variant dating text m r)).0 (subst (λ (x : Text). IsRead variant dating x m) e r)
 
-  -- so a text is not settled whose message, so completed, is not canonical
-  pub odd_unsettled : (text : Text) (m : MessageValue) → IsRead variant dating text m → (IsCanonical dash_rule (completed m) → ⊥) → IsSettled variant dating text → ⊥
-  odd_unsettled text m r odd s =
-      let c = settled_canonical text m s r in odd (subst (λ (x : MessageValue). IsCanonical dash_rule x) (sym (completed_canonical m c)) c)
+  -- so a text is not settled whose message of RFC 3164 has a listed miss
+  pub odd_unsettled : (text : Text) (m : MessageValue) → IsRead variant dating text m → m.protocol ≡ protocol.RFC3164 → (HasNoMiss dash_rule m → ⊥) → IsSettled variant dating text → ⊥
+  odd_unsettled text m r e odd s = odd (canonical_near dash_rule m e (settled_canonical text m s r)).1
 
   -- ---- weights fall
 
@@ -145,28 +130,39 @@ module _ (variant : Variant) (dating : Dating) where
 
 -- ---- what the next round's reader answers
 module _ (variant : Variant) (dating : Dating) (text : Text) (m : MessageValue) (r : IsRead variant dating text m) where
-  rest_settled : (p : Protocol) → m.protocol ≡ p → IsAtRest p (completed m) → IsSettled variant dating (printed m)
+  rest_settled : (p : Protocol) → m.protocol ≡ p → IsAtRest p m → IsSettled variant dating (printed m)
   rest_settled (protocol.RFC5424 version) e h = strict_settled variant dating text m version r e
-  rest_settled protocol.RFC3164 e h = canonical_settled variant dating text m r h
+  rest_settled protocol.RFC3164 e h = free_settled variant dating text m r e h
 
-  odd_moves : (p : Protocol) → m.protocol ≡ p → (IsAtRest p (completed m) → ⊥) → IsSettled variant dating text → ⊥
+  odd_moves : (p : Protocol) → m.protocol ≡ p → (IsAtRest p m → ⊥) → IsSettled variant dating text → ⊥
   odd_moves (protocol.RFC5424 version) e odd s = odd tt
-  odd_moves protocol.RFC3164 e odd s = odd_unsettled variant dating text m r odd s
+  odd_moves protocol.RFC3164 e odd s = odd_unsettled variant dating text m r e odd s
 
-  told_rest : (settled : Bool) → IsTrue settled ↔ IsAtRest m.protocol (completed m) → MatchBool settled (IsSettled variant dating (printed m)) (IsSettled variant dating text → ⊥)
+  told_rest : (settled : Bool) → IsTrue settled ↔ IsAtRest m.protocol m → MatchBool settled (IsSettled variant dating (printed m)) (IsSettled variant dating text → ⊥)
   told_rest true h = rest_settled m.protocol refl (h.0 refl)
   told_rest false h = odd_moves m.protocol refl (λ a. let t : false ≡ true = h.1 a in cc)
 
-  -- the message is completed, tested and printed
-  pub told_next : (k : MessageValue) (bytes : List ℕ) (settled : Bool) → k ≡ completed m → IsUtf8 bytes → bytes ≡ encode_utf8_all (printed k) → IsTrue settled ↔ IsAtRest k.protocol k
-      → IsToldNext variant dating text (chars bytes) settled
-  told_next k bytes settled e u w h =
-      let is : chars bytes ≡ printed m = sym (chars_from_encodes (printed k) bytes u (sym w)) ∙ ap printed e ∙ printed_completed m in
-      let told = told_rest settled (subst (λ (x : MessageValue). IsTrue settled ↔ IsAtRest x.protocol x) e h) in
+  -- the message is tested and printed
+  pub told_next : (bytes : List ℕ) (settled : Bool) → IsUtf8 bytes → bytes ≡ encode_utf8_all (printed m) → IsTrue settled ↔ IsAtRest m.protocol m → IsToldNext variant dating text (chars bytes) settled
+  told_next bytes settled u w h =
+      let is : chars bytes ≡ printed m = sym (chars_from_encodes (printed m) bytes u (sym w)) in
       record {
         is_next = record { message = m; read = r; is_printed = is };
-        told = subst (λ (x : Text). MatchBool settled (IsSettled variant dating x) (IsSettled variant dating text → ⊥)) (sym is) told;
+        told = subst (λ (x : Text). MatchBool settled (IsSettled variant dating x) (IsSettled variant dating text → ⊥)) (sym is) (told_rest settled h);
       }
+
+-- a line that is copied behind its timestamp is settled
+pub told_freely : (variant : Variant) (dating : Dating) (text : Text) (bytes : List ℕ) → IsUtf8 bytes → PrintsFreely variant dating text bytes → IsToldNext variant dating text (chars bytes) true
+told_freely variant dating text bytes u k =
+    let is : chars bytes ≡ printed k.message = sym (chars_from_encodes (printed k.message) bytes u (sym k.prints)) in
+    record {
+      is_next = record { message = k.message; read = k.read; is_printed = is };
+      told = subst (λ (x : Text). IsSettled variant dating x) (sym is) (free_settled variant dating text k.message k.read k.protocol k.no_miss);
+    }
+
+pub first_freely : (variant : Variant) (dating : Dating) (text : Text) (bytes : List ℕ) → IsUtf8 bytes → PrintsFreely variant dating text bytes → IsFirstSettled variant dating text (chars bytes)
+first_freely variant dating text bytes u k =
+    let told = told_freely variant dating text bytes u k in reached_settled variant dating text 0 (chars bytes) (reached_first variant dating text (chars bytes) told.is_next) told.told
 
 -- ---- what the loop does
 pub told_true : (variant : Variant) (dating : Dating) (text next : Text) (settled : Bool) → settled ≡ true → IsToldNext variant dating text next settled → IsSettled variant dating next

@@ -74,7 +74,7 @@ fn is_plain<S: AsStr>(message: &Message<S>) -> bool
     is_plain_msg(message.msg.as_str())
 }
 
-fn is_plain_time(timestamp: Option<OffsetTimestamp>) -> bool
+pub(crate) fn is_plain_time(timestamp: Option<OffsetTimestamp>) -> bool
     ensures { IsTrue result ↔ IfSome timestamp spec.IsPlainStamp }
 {
     match timestamp {
@@ -259,7 +259,11 @@ fn has_any<T>(items: &[T]) -> bool
 }
 
 // Whether the message is not taken for a list, where there is none before it.
-fn begins_no_list<S: AsStr>(elements: &[StructuredElement<S>], msg: &str, rule: DashRule) -> bool
+pub(super) fn begins_no_list<S: AsStr>(
+    elements: &[StructuredElement<S>],
+    msg: &str,
+    rule: DashRule,
+) -> bool
     ensures { IsTrue result ↔ (map (element_value (text_of S.text)) elements.now ≡ [] → BeginsNoList rule (chars msg.now)) }
 {
     if has_any(elements) {

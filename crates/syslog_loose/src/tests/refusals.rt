@@ -147,3 +147,20 @@ fn asks_for_no_memory_without_elements(rt: HostRuntime) {
         }
     }
 }
+
+#[test]
+fn asks_for_no_memory_to_normalise_nothing(rt: HostRuntime) {
+    for text in [
+        "",
+        "gobbledegook",
+        "<256>1 - - - - - -",
+        "1 - h: a 1 m - x",
+        "1 - - - - - [a b=\"c",
+        "<34>Feb 30 10:00:00 h a: [a b=\"c\"] m",
+    ] {
+        match normalised(rt.alloc(), text) {
+            Ok(printed) => assert!(rt; false, "{text}: {printed}"),
+            Err(fault) => assert_eq!(rt; fault, ParseFault::Invalid, "{text}"),
+        }
+    }
+}

@@ -1,10 +1,10 @@
 -- Every count of nanoseconds in range has civil fields, which the calendar has.
-use Rattle.std.proofs.Common.{◌≡◌, ℕ, ℤ, zero, suc, pos, negsuc, ◌+ℤ◌, ◌-ℤ◌, ◌*ℤ◌, ◌≤ℤ◌, ◌+◌, ◌-◌, ◌*◌, ◌/◌, ◌%◌, ◌<◌, ◌≤◌, ◌≢◌, inl, inr, refl, ap, ◌∙◌, arith, unsigned_abs}
+use Rattle.std.proofs.Common.{◌≡◌, ℕ, ℤ, zero, suc, pos, negsuc, ◌+ℤ◌, ◌-ℤ◌, ◌*ℤ◌, ◌≤ℤ◌, ◌<ℤ◌, ◌+◌, ◌-◌, ◌*◌, ◌/◌, ◌%◌, ◌<◌, ◌≤◌, ◌≢◌, inl, inr, refl, ap, ◌∙◌, arith, unsigned_abs}
 use Rattle.std.proofs.lemmas.Bool.Decides.{leb_tells}
 use Rattle.std.specs.Int.{int_div_euclid, int_rem_euclid}
 use Rattle.jiff.specs.Words.{nanos_of_seconds, IsTimestampNanos, IsOffsetSeconds, IsCivilNanos, IsEpochDay, IsYear}
 use Rattle.jiff_core.specs.Calendar.{days_of_months, days_of_years, days_from_civil, days_in_month, days_in_year, day_count, IsCivilDate}
-use Rattle.jiff_core.proofs.CalendarLemmas.{days_of_months_more, days_of_months_all, days_of_months-zero, days_from_civil-day_count, day_count-day_of_year}
+use Rattle.jiff_core.proofs.CalendarLemmas.{days_of_months_more, days_of_months_all, days_of_months-zero, days_in_year_bounds, days_from_civil-day_count, day_count-day_of_year}
 use Rattle.jiff_core.proofs.MarchLemmas.{days_of_years-march_days}
 use Rattle.jiff_core.proofs.SignedLemmas.{signed_arith, int_rem_euclid-parts, int_div_euclid-parts}
 use Rattle.jiff_tz.specs.Year.{year_of_day, years_within}
@@ -148,3 +148,31 @@ civil_fields_exist n h =
     let small : unsigned_abs left < 86_400_000_000_000 = omega (arith, signed_arith) in
     let there = fields_exist-place (year_of_day day) day _ (unsigned_abs left) (day_placed day range) small in
     (there.0, there.1 ∙ omega (arith, signed_arith))
+
+-- ---- late instants
+
+days_of_years-most : (k : ℕ) → days_of_years k ≤ 366 * k
+unfolding days_of_years
+days_of_years-most zero = omega arith
+days_of_years-most (suc k) = let h = days_of_years-most k in let y = days_in_year_bounds (pos k -ℤ pos 10000) in omega arith
+
+-- a day from 1970 on is in no year before 0
+late_year : (day : ℤ) → IsEpochDay day → pos 0 ≤ℤ day → pos 0 ≤ℤ year_of_day day
+late_year day range late =
+    let count = unsigned_abs (day +ℤ pos 4_371_953) in
+    let e = from_start (day +ℤ pos 4_371_953) (omega (arith, signed_arith, range.0)) in
+    let fit = years_fit 20000 count in
+    let all = years_all in
+    let more = days_of_years-next 20000 in
+    let k = years_within 20000 count in
+    let high : count < days_of_years (suc k) = fit.2 (omega (arith, signed_arith, range.1)) in
+    let most = days_of_years-most (suc k) in
+    omega (arith, signed_arith)
+
+-- from the third day of 1970 on a clock at no offset shows a year before 0
+pub late_fields : (n o : ℤ) → IsTimestampNanos n → IsOffsetSeconds o → pos 172_800_000_000_000 <ℤ n → pos 0 ≤ℤ (civil_fields (n +ℤ nanos_of_seconds o)).year
+unfolding civil_fields place_fields
+late_fields n o h k late =
+    let at = in_range-at_offset n o h k in
+    let quot = int_div_euclid-parts (n +ℤ nanos_of_seconds o) 86_400_000_000_000 (omega arith) in
+    late_year (int_div_euclid (n +ℤ nanos_of_seconds o) (pos 86_400_000_000_000)) (omega (arith, signed_arith, at.0, at.1)) (omega (arith, signed_arith, k.0))

@@ -1,5 +1,5 @@
 -- A printed stamp and the texts of RFC 3339: what is printed of a plain timestamp has it, and no other timestamp has a text.
-use Rattle.std.proofs.Common.{◌≡◌, ℕ, ℤ, zero, suc, pos, negsuc, neg_ℤ, ◌+ℤ◌, ◌-ℤ◌, ◌≤ℤ◌, ◌+◌, ◌*◌, ◌/◌, ◌%◌, ◌<◌, ◌==◌, true, min, inl, inr, refl, sym, ap, subst, ◌∙◌, arith, unsigned_abs, List, ◌∷◌, ◌++◌, length, append_assoc}
+use Rattle.std.proofs.Common.{◌≡◌, ℕ, ℤ, zero, suc, pos, negsuc, neg_ℤ, ◌+ℤ◌, ◌-ℤ◌, ◌≤ℤ◌, ◌<ℤ◌, ◌+◌, ◌*◌, ◌/◌, ◌%◌, ◌<◌, ◌==◌, true, min, inl, inr, refl, sym, ap, subst, ◌∙◌, arith, unsigned_abs, List, ◌∷◌, ◌++◌, length, append_assoc}
 use Rattle.std.proofs.lemmas.Bool.Decides.{nat_tests}
 use Rattle.std.proofs.lemmas.List.Elements.{All-append}
 use Rattle.std.specs.Char.{IsAsciiDigit, is_ascii_digit, is_not_whitespace}
@@ -25,7 +25,7 @@ use Rattle.syslog_pieces.proofs.TimestampLemmas.Fields.{civil_nanos-fields}
 use Rattle.syslog_pieces.proofs.TimestampLemmas.Fraction.{pad3-digits, three-value, six-value, nine-value}
 use Rattle.syslog_pieces.proofs.TimestampLemmas.Piece.{each_visible}
 use Rattle.syslog_pieces.proofs.TimestampLemmas.Printing.{absolute, printed_stamp-characters}
-use Rattle.syslog_pieces.proofs.TimestampLemmas.Range.{civil_fields_exist, in_range-at_offset}
+use Rattle.syslog_pieces.proofs.TimestampLemmas.Range.{late_fields, civil_fields_exist, in_range-at_offset}
 use Rattle.syslog_pieces.proofs.TimestampLemmas.Texts.{stamp_character-visible}
 
 -- ---- a printed fraction and a printed offset
@@ -220,6 +220,10 @@ own_fields s = (civil_fields_exist _ (in_range-at_offset s.instant.nanosecond s.
 -- no timestamp lies past the year 9999 at its own offset
 pub own_year-to : (s : OffsetTimestamp) → own_year s ≤ℤ pos 9999
 own_year-to s = let (year_in, _, _) = (own_fields s).date in year_in.1
+
+-- nor does a late one before the year 0
+pub own_year-late : (s : OffsetTimestamp) → pos 172_800_000_000_000 <ℤ s.instant.nanosecond → pos 0 ≤ℤ own_year s
+own_year-late s late = late_fields s.instant.nanosecond s.offset.seconds s.instant.in_range s.offset.in_range late
 
 -- no character of it is white space
 pub printed_stamp-visible : (s : OffsetTimestamp) → Each is_not_whitespace (printed_stamp s.instant.nanosecond s.offset.seconds)

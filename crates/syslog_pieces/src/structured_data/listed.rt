@@ -39,6 +39,7 @@ impl DashRule {
 }
 
 // The text behind the dash at the front, where that is a list.
+#[inline(always)]
 fn after_dash(text: &str, rule: DashRule) -> Option<&str>
     ensures { MatchOption result ((q : Text) → chars text.now ≡ 45 ∷ q → IsDashBefore rule q → ⊥)
         (λ rest. (chars text.now ≡ 45 ∷ shown rest) × IsDashBefore rule (shown rest)) }
@@ -48,6 +49,7 @@ fn after_dash(text: &str, rule: DashRule) -> Option<&str>
 }
 
 /// Whether a list of RFC 3164 begins the text. Takes no memory.
+#[inline(always)]
 pub fn begins_list(text: &str, rule: DashRule) -> bool
     ensures { MatchBool result (NoFront (listed rule) (chars text.now) → ⊥) (NoFront (listed rule) (chars text.now)) }
 {

@@ -137,6 +137,7 @@ pub(super) fn live_element(text: &str, dead: usize) -> Result<&str, usize>
 }
 
 // The text behind the strict element at the front, where that has a parameter.
+#[inline(always)]
 pub(super) fn after_full_element(text: &str) -> Option<&str>
     ensures { Recognises full_element (chars text.now) result }
 {

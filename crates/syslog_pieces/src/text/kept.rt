@@ -25,7 +25,7 @@ pub fn kept_word(text: &str) -> Option<&str>
 
 // Whether a zero stands before other bytes.
 #[inline(always)]
-fn has_zero_ahead(digits: &str) -> bool
+pub(crate) fn has_zero_ahead(digits: &str) -> bool
     ensures { OnFalse result (get_or digits.now 0 0 ≡ 48 → length digits.now ≡ 1) }
 {
     matches!(digits.as_bytes(), [b'0', _, ..])

@@ -18,6 +18,7 @@ use jiff::tz::TimeZone;
 /// A month date is read in the zone that is given, or else in the local one, and takes the year that is handed in where
 /// it shows none. Where that is absent too, and where the calendar, the clock or the zone has no such moment, the text
 /// has no timestamp. It takes no memory.
+#[inline(always)]
 pub fn loose_stamp<'a>(
     text: &'a str,
     year: Option<i32>,

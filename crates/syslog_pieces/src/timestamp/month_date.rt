@@ -70,6 +70,7 @@ fn any_date(text: &str) -> Option<(MonthDate, &str)>
 
 /// The month date without a year that the text shows: within the white space at its two ends it begins with a
 /// priority or none, blanks or none, and such a date.
+#[inline(always)]
 pub fn shown_date(text: &str) -> Option<MonthDate>
     ensures { MatchOption result
         ((d : MonthDate) → ShowsYearless (chars text.now) d → ⊥)
@@ -83,6 +84,7 @@ pub fn shown_date(text: &str) -> Option<MonthDate>
 }
 
 // The month date without a year at the front.
+#[inline(always)]
 fn yearless(text: &str) -> Option<(MonthDate, &str)>
     ensures { Reads spec.yearless_date (λ d. d) (chars text.now) result }
 {

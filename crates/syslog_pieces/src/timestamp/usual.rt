@@ -143,7 +143,7 @@ fn ends_clock(text: &[u8]) -> bool
 
 /// The month date without a year at the front, where it has the usual form, and the text behind it.
 #[inline(always)]
-pub(super) fn usual_date(text: &str) -> Option<(MonthDate, &str)>
+pub fn usual_date(text: &str) -> Option<(MonthDate, &str)>
     ensures { IfSome result (λ read. Front yearless_date (chars text.now) (shown read.1) read.0) }
 {
     let (month, behind) = month(text.as_bytes())?;

@@ -17,6 +17,7 @@ use jiff::tz::{AmbiguousOffset, Offset, TimeZone};
 
 /// The timestamp of a month date: in the zone that is given, or else in the local one. A date that shows no year takes
 /// the one that is handed in, and has no timestamp where there is none.
+#[inline(always)]
 pub fn month_stamp(
     date: MonthDate,
     year: Option<i32>,
@@ -56,6 +57,7 @@ fn year_of(date: MonthDate, year: Option<i32>) -> Option<i32>
     }
 }
 
+#[inline(always)]
 fn of_fields(
     fields: CivilFields,
     tz: Option<&TimeZone<'_>>,

@@ -3,25 +3,27 @@ use Rattle.std.specs.Prelude.{string_bytes}
 use Rattle.std.specs.Str.{chars}
 use Rattle.syslog_loose.specs.KeptLine.{PrintsAs}
 use Rattle.std.proofs.lemmas.Result.{err_from_is_err_and}
-use Rattle.syslog_loose.proofs.ReadingLemmas.{in_year_map, fault_tells, memory_tells, invalid_or_memory, no_ok, found_text}
-use Rattle.syslog_loose.proofs.ReadBackLemmas.{again_in}
+use Rattle.syslog_loose.proofs.KeptLooseLemmas.{dated_answered, asked_month}
+use Rattle.syslog_loose.proofs.ReadingLemmas.{answered_to, invalid_or_memory, no_ok, found_text}
+use Rattle.syslog_loose.proofs.ReadBackLemmas.{again_in, normalised_in}
 use Rattle.syslog_loose.proofs.reading.normalise.Goals as goal
 
-pub returns-in_err-message : goal.returns-in_err-message
-returns-in_err-message g c =
-    let (_, e, same) = err_from_is_err_and c.from_residual-in_err-message.result c.from_residual-in_err-message.ensures.1 in
-    let reads = in_year_map (λ year f. rw (e, same) (fault_tells _ _ _ _ f)) c.in_err-message.ensures.reads in
-    record { reads = reads; again = again_in _ _ _ _ c.utf8.input c.from_residual-in_err-message.result reads }
+pub map-year-requires : goal.map-year-requires
+map-year-requires g c = λ x e. c.requires x (asked_month _ _ _ _ _ _ x c.in-Some-dated_line.ensures.shows c.asked.ensures e)
 
-pub returns-in_err-print : goal.returns-in_err-print
-returns-in_err-print g c =
-    let (_, e, same) = err_from_is_err_and c.from_residual-in_err-print.result c.from_residual-in_err-print.ensures.1 in
-    let reads = in_year_map (λ year r. rw (e, same) (memory_tells _ _ _ _ r)) c.in_ok-message.ensures.reads in
-    record { reads = reads; again = again_in _ _ _ _ c.utf8.input c.from_residual-in_err-print.result reads }
+pub returns-in-Some-dated_line-clause-reads : goal.returns-in-Some-dated_line-clause-reads
+returns-in-Some-dated_line-clause-reads g c =
+    normalised_in _ c.args.variant c.args.tz c.args.local c.args.input.now c.normalise_dated.result c.map-year.result
+    (dated_answered _ _ _ _ _ _ c.asked.result c.map-year.result c.in-Some-dated_line.ensures.shows c.asked.ensures c.map-year.ensures.cases) c.normalise_dated.ensures
 
-pub returns : goal.returns
-returns g c =
-    let reads = in_year_map (λ year r. (_, r, c.in_ok-print.ensures)) c.in_ok-message.ensures.reads in
+pub returns-in-Some-dated_line-clause-again : goal.returns-in-Some-dated_line-clause-again
+returns-in-Some-dated_line-clause-again g c = again_in _ _ _ _ c.utf8.input _ (returns-in-Some-dated_line-clause-reads g c)
+
+pub returns-in-None-dated_line : goal.returns-in-None-dated_line
+returns-in-None-dated_line g c =
+    let year = c.map-year-in-None-dated_line in
+    let answered = answered_to _ _ _ c.asked_date.result year.result c.asked_date.ensures year.ensures.cases in
+    let reads = normalised_in _ c.args.variant c.args.tz c.args.local c.args.input.now c.normalise_in.result year.result answered c.normalise_in.ensures in
     record { reads = reads; again = again_in _ _ _ _ c.utf8.input _ reads }
 
 pub returns-in_err-text-clause-reads : goal.returns-in_err-text-clause-reads

@@ -5,6 +5,7 @@ use Rattle.std.proofs.lemmas.Result.{err_from_is_err_and}
 use Rattle.std.proofs.lemmas.Str.{IsUtf8-string_bytes}
 use Rattle.syslog_pieces.specs.Timestamp.Zone.{dating_of}
 use Rattle.syslog_loose.specs.KeptLine.{PrintsAs}
+use Rattle.syslog_loose.proofs.KeptLooseLemmas.{dated_answered, asked_month}
 use Rattle.syslog_loose.proofs.ReadingLemmas.{answered_to, in_year_map, no_ok, found_text}
 use Rattle.syslog_loose.proofs.SettlingLemmas.Years.{settles_answered, copied_settles, answer_canonical}
 use Rattle.syslog_loose.proofs.settling.settle.Goals as goal
@@ -29,8 +30,19 @@ returns-in-Some-clause-settles g c =
 pub returns-in-Some-clause-canonical : goal.returns-in-Some-clause-canonical
 returns-in-Some-clause-canonical g c = in_year_map (λ year s. answer_canonical c.args.variant (dating_of year c.args.tz c.args.local) (chars c.args.input.now) (Ok c.in-Some.text) s) (returns-in-Some-clause-settles g c)
 
-pub returns : goal.returns
-returns g c =
-    let answered = answered_to _ _ _ c.asked_date.result c.map-year.result c.asked_date.ensures c.map-year.ensures.cases in
-    let settles = settles_answered c.args.variant c.args.tz c.args.local _ _ c.settle_in.result c.map-year.result answered c.settle_in.ensures in
+pub map-year-requires : goal.map-year-requires
+map-year-requires g c = λ x e. c.requires x (asked_month _ _ _ _ _ _ x c.in-Some-dated_line.ensures.shows c.asked.ensures e)
+
+pub returns-in-Some-dated_line-clause-settles : goal.returns-in-Some-dated_line-clause-settles
+returns-in-Some-dated_line-clause-settles g c =
+    settles_answered c.args.variant c.args.tz c.args.local _ _ c.settle_dated.result c.map-year.result
+    (dated_answered _ _ _ _ _ _ c.asked.result c.map-year.result c.in-Some-dated_line.ensures.shows c.asked.ensures c.map-year.ensures.cases) c.settle_dated.ensures
+
+pub returns-in-Some-dated_line-clause-canonical : goal.returns-in-Some-dated_line-clause-canonical
+returns-in-Some-dated_line-clause-canonical g c = in_year_map (λ year s. answer_canonical _ _ _ _ s) (returns-in-Some-dated_line-clause-settles g c)
+
+pub returns-in-None-dated_line : goal.returns-in-None-dated_line
+returns-in-None-dated_line g c =
+    let answered = answered_to _ _ _ c.asked_date.result c.map-year-in-None-dated_line.result c.asked_date.ensures c.map-year-in-None-dated_line.ensures.cases in
+    let settles = settles_answered c.args.variant c.args.tz c.args.local _ _ c.settle_in.result c.map-year-in-None-dated_line.result answered c.settle_in.ensures in
     record { settles = settles; canonical = in_year_map (λ year s. answer_canonical _ _ _ _ s) settles }

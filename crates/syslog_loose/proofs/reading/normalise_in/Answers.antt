@@ -1,0 +1,29 @@
+use Rattle.std.specs.Prelude.{string_bytes}
+use Rattle.std.specs.Str.{chars}
+use Rattle.std.proofs.lemmas.Result.{err_from_is_err_and}
+use Rattle.syslog_pieces.specs.Timestamp.Zone.{dating_of}
+use Rattle.syslog_loose.specs.KeptLoose.{PrintsFreely}
+use Rattle.syslog_loose.proofs.ReadingLemmas.{fault_tells, memory_tells, invalid_or_memory, no_ok, found_text, only_read}
+use Rattle.syslog_loose.proofs.reading.normalise_in.Goals as goal
+
+pub returns-in_err-text : goal.returns-in_err-text
+returns-in_err-text c =
+    let (_, e, same) = err_from_is_err_and c.from_residual.result c.from_residual.ensures.1 in
+    rw (e, same) (λ i. absurd (invalid_or_memory i), λ u. absurd (no_ok _ _ c.in_err-text.was (c.loose_text.ensures.memory u)))
+
+pub returns-in-Some : goal.returns-in-Some
+returns-in-Some c =
+    let dating = dating_of c.args.year c.args.tz c.args.local in
+    let k = found_text (λ t. PrintsFreely c.args.variant dating (chars c.args.input.now) (string_bytes t)) _ _ _ c.in_ok-text.was c.in-Some.is c.loose_text.ensures.text in
+    (k.message, only_read c.args.variant dating (chars c.args.input.now) k.message k.read, k.prints)
+
+pub returns-in_err-message : goal.returns-in_err-message
+returns-in_err-message c =
+    let (_, e, same) = err_from_is_err_and c.from_residual-in_err-message.result c.from_residual-in_err-message.ensures.1 in rw (e, same) (fault_tells _ _ _ _ c.in_err-message.ensures)
+
+pub returns-in_err-print : goal.returns-in_err-print
+returns-in_err-print c =
+    let (_, e, same) = err_from_is_err_and c.from_residual-in_err-print.result c.from_residual-in_err-print.ensures.1 in rw (e, same) (memory_tells _ _ _ _ c.in_ok-message.ensures)
+
+pub returns : goal.returns
+returns c = (_, c.in_ok-message.ensures, c.in_ok-print.ensures)

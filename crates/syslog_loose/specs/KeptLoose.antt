@@ -1,0 +1,97 @@
+-- Lines of RFC 3164 that print as they are written, but for their timestamp. (Words of the bodies alone.)
+use Rattle.std.specs.Prelude.{◌≡◌, ℕ, ◌<◌, List, [], ◌∷◌, ◌++◌, Option, Some, None, IfSome}
+use Rattle.std.specs.Str.{encode_utf8_all}
+use Rattle.syslog_pieces.specs.Pieces.Class.{Text, Ends, Front, NoFront, Row, Values, run}
+use Rattle.syslog_pieces.specs.Pieces.Kept.{Kept}
+use Rattle.syslog_pieces.specs.Pri.{priority, priority_text}
+use Rattle.syslog_pieces.specs.ProcId.{procid_text, IsBoundedProcess}
+use Rattle.syslog_pieces.specs.StructuredData.Listed.{listed}
+use Rattle.syslog_pieces.specs.Text.{trimmed, is_blank, name_text}
+use Rattle.syslog_pieces.specs.Timestamp.MonthDate.{yearless_date}
+use Rattle.syslog_pieces.specs.Timestamp.Plain.{IsPlainStamp}
+use Rattle.syslog_pieces.specs.Timestamp.Zone.{Dating}
+use Rattle.syslog_pieces.specs.declared.procid.ProcId.{ProcId}
+use Rattle.syslog_pieces.specs.declared.timestamp.OffsetTimestamp.{OffsetTimestamp}
+use Rattle.syslog_pieces.specs.declared.timestamp.month_date.MonthDate.{MonthDate}
+use Rattle.syslog_loose.specs.Canonical.{IsPlainHost, ArePlainNames}
+use Rattle.syslog_loose.specs.ListedMisses.{HasNoMiss}
+use Rattle.syslog_loose.specs.Message.{MessageValue}
+use Rattle.syslog_loose.specs.Printed.{printed, timestamp_text}
+use Rattle.syslog_loose.specs.ReadBack.{ReadsProtocol}
+use Rattle.syslog_loose.specs.Reading.{dash_rule, IsRead}
+use Rattle.syslog_loose.specs.Rfc3164.{rfc3164_row, Means3164}
+use Rattle.syslog_loose.specs.declared.message.Protocol.TheVariants.{RFC3164}
+use Rattle.syslog_loose.specs.declared.reading.Variant.{Variant}
+
+-- `app[id]`
+abbrev pub bracketed : Text → Text → Text
+bracketed app id = app ++ (91 ∷ (id ++ (93 ∷ [])))
+
+-- what stands between the host and the colon
+abbrev pub program_text : Option Text → Option (ProcId Text) → Text
+program_text None p = []
+program_text (Some a) None = a
+program_text (Some a) (Some p) = bracketed a (procid_text p)
+
+-- the text is a host as it prints, behind one space and before another, and then what follows
+pub record KeptOrigin (text follows : Text) : Type 0 where
+  pub hostname : Option Text
+  pub plain : IfSome hostname IsPlainHost
+  pub whole : text ≡ 32 ∷ (name_text hostname ++ (32 ∷ follows))
+
+-- the text is an app name, alone or with a process id, as both print, and then what follows
+pub record KeptProgram (text follows : Text) : Type 0 where
+  pub appname : Text
+  pub procid : Option (ProcId Text)
+  pub plain : ArePlainNames None (Some appname) procid
+  pub bounded : IfSome procid IsBoundedProcess
+  pub whole : text ≡ program_text (Some appname) procid ++ follows
+
+-- the text is a host, a program and a colon as they print, each behind one space, and then what follows
+pub record KeptNames (text follows : Text) : Type 0 where
+  pub hostname : Option Text
+  pub appname : Text
+  pub procid : Option (ProcId Text)
+  pub host : IfSome hostname IsPlainHost
+  pub plain : ArePlainNames hostname (Some appname) procid
+  pub bounded : IfSome procid IsBoundedProcess
+  pub unblank : Ends is_blank follows
+  pub whole : text ≡ 32 ∷ (name_text hostname ++ (32 ∷ (program_text (Some appname) procid ++ (58 ∷ 32 ∷ follows))))
+
+-- The timestamp is read back from print, and the text behind it is the names as they print, a colon, and a message that
+-- begins with no list.
+pub record KeptBehind (timestamp : Option OffsetTimestamp) (tail : Text) : Type 0 where
+  pub msg : Text
+  pub plain : IfSome timestamp IsPlainStamp
+  pub names : KeptNames tail msg
+  pub no_list : NoFront (listed dash_rule) msg
+
+-- The variant reads RFC 3164, and the trimmed text is a priority as it prints, blanks or none, a month date without a
+-- year, and what follows.
+pub record ShowsDated (variant : Variant) (text front : Text) (date : MonthDate) (tail : Text) : Type 0 where
+  pub behind : Text
+  pub start : Text
+  pub reads : ReadsProtocol variant RFC3164
+  pub kept : Kept priority priority_text (trimmed text) behind
+  pub small : kept.value < 192
+  pub cut : trimmed text ≡ front ++ behind
+  pub gap : Front (run is_blank) behind start tt
+  pub dated : Front yearless_date start tail date
+
+-- The text is a row of the eleven pieces. Its message has none of the listed misses, and prints as these texts and the
+-- timestamp.
+pub record PrintsLoosely (dating : Dating) (text front : Text) (timestamp : Option OffsetTimestamp) (tail : Text) : Type 0 where
+  pub values : Values (rfc3164_row dash_rule dating)
+  pub message : MessageValue
+  pub is : Front (Row (rfc3164_row dash_rule dating)) text [] values
+  pub means : Means3164 dash_rule dating values message
+  pub no_miss : HasNoMiss dash_rule message
+  pub prints : printed message ≡ front ++ (32 ∷ (timestamp_text timestamp ++ tail))
+
+-- the text is read by the variant as a message of RFC 3164 without a listed miss, and these bytes are its printed text
+pub record PrintsFreely (variant : Variant) (dating : Dating) (text : Text) (bytes : List ℕ) : Type 0 where
+  pub message : MessageValue
+  pub read : IsRead variant dating text message
+  pub protocol : message.protocol ≡ RFC3164
+  pub no_miss : HasNoMiss dash_rule message
+  pub prints : bytes ≡ encode_utf8_all (printed message)

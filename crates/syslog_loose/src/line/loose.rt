@@ -1,0 +1,253 @@
+//! Lines of RFC 3164 that print as they are written behind their timestamp.
+//!
+//! A timestamp of RFC 3164 never prints as it is written. What programs write behind it, as ` host app[5]: message`,
+//! mostly does, and so does the priority before it. So it is copied, without the fields in between.
+ghost use Rattle.std.specs.Prelude.{◌≡◌, ◌≢◌, ◌++◌, ◌∷◌, ◌<◌, IfOk, IfSome, IsOk, IsTrue, Some, length, string_bytes};
+ghost use Rattle.std.specs.Str.{chars, encode_utf8_all, IsUtf8};
+ghost use Rattle.syslog_pieces.specs.Pieces.Class.{Text};
+ghost use Rattle.syslog_pieces.specs.Pieces.View.{shown};
+ghost use Rattle.syslog_pieces.specs.Text.{dash};
+ghost use Rattle.syslog_pieces.specs.Timestamp.Zone.{dating_of};
+ghost use Rattle.syslog_loose.specs.KeptLoose.{KeptBehind, KeptNames, KeptOrigin, KeptProgram, PrintsFreely, PrintsLoosely, ShowsDated};
+ghost use Rattle.syslog_loose.specs.Printed.{timestamp_text};
+ghost use Rattle.syslog_loose.specs.ReadBack.{ReadsProtocol};
+ghost use Rattle.syslog_loose.specs.Reading.{IsUnreadable, incomplete};
+ghost use Rattle.syslog_loose.specs.declared.message.Protocol.TheVariants.{RFC3164};
+ghost use Rattle.syslog_loose.specs.declared.reading.Variant.{Variant};
+
+#[cfg(test)]
+mod tests;
+
+use super::{MORE_PRINTED, may_have_priority};
+use crate::message::{is_plain_time, write_timestamp};
+use crate::reading::{DASH_RULE, IncompleteDate, Variant};
+use jiff::tz::TimeZone;
+use std::alloc::{AllocError, Global};
+use std::fmt;
+use std::fmt::Write;
+use syslog_pieces::pri::kept_priority;
+use syslog_pieces::procid::kept_digits;
+use syslog_pieces::structured_data::listed::begins_list;
+use syslog_pieces::text::kept::{before, kept_host, one_space};
+use syslog_pieces::text::{CharClass, blanks, literal, split_run, trimmed};
+use syslog_pieces::timestamp::OffsetTimestamp;
+use syslog_pieces::timestamp::loose::loose_stamp;
+use syslog_pieces::timestamp::month_date::MonthDate;
+use syslog_pieces::timestamp::usual::usual_date;
+use syslog_pieces::timestamp::zone::month_stamp;
+
+// A line, cut round its timestamp: the priority, and all from behind the timestamp on.
+#[derive(Clone, Copy)]
+struct LooseLine<'a> {
+    front: &'a str,
+    timestamp: Option<OffsetTimestamp>,
+    tail: &'a str,
+}
+
+// The text behind a host between two spaces.
+#[inline(always)]
+fn kept_origin(text: &str) -> Option<&str>
+    ensures { IfSome result (λ rest. KeptOrigin (chars text.now) (shown rest)) }
+{
+    let hostname = literal(text, ' ')?;
+    let behind = kept_host(hostname)?;
+    let rest = literal(behind, ' ')?;
+    Some(rest)
+}
+
+// Whether an app name may stand alone: it is neither empty nor `-`.
+#[inline(always)]
+fn is_name(tag: &str) -> bool
+    ensures { IsTrue result → (0 < length tag.now) × (tag.now ≢ dash) }
+{
+    !matches!(tag.as_bytes(), [] | [b'-'])
+}
+
+// The text behind an app name, or one and a number in brackets.
+#[inline(always)]
+fn kept_program(text: &str) -> Option<&str>
+    ensures { IfSome result (λ rest. KeptProgram (chars text.now) (shown rest)) }
+{
+    let (tag, behind) = split_run(text, CharClass::Label);
+    match literal(behind, '[') {
+        Some(inside) => {
+            let closing = kept_digits(inside)?;
+            let rest = literal(closing, ']')?;
+            Some(rest)
+        }
+        None => { if is_name(tag) { Some(behind) } else { None } }
+    }
+}
+
+// The text behind the names and their colon.
+#[inline(always)]
+fn kept_names(text: &str) -> Option<&str>
+    ensures { IfSome result (λ rest. KeptNames (chars text.now) (shown rest)) }
+{
+    let program = kept_origin(text)?;
+    let colon = kept_program(program)?;
+    let gap = literal(colon, ':')?;
+    let rest = one_space(gap)?;
+    Some(rest)
+}
+
+// Whether a message with this timestamp prints as the text does behind it.
+#[inline(always)]
+fn is_kept_behind(timestamp: Option<OffsetTimestamp>, tail: &str) -> bool
+    ensures { IsTrue result → KeptBehind timestamp (chars tail.now) }
+{
+    let Some(msg) = kept_names(tail) else {
+        return false;
+    };
+    if begins_list(msg, DASH_RULE) {
+        return false;
+    }
+    is_plain_time(timestamp)
+}
+
+// The line, where all but its timestamp prints as it is written.
+#[inline(always)]
+fn loose_line<'a>(
+    text: &'a str,
+    year: Option<i32>,
+    tz: Option<&TimeZone<'_>>,
+    local: &TimeZone<'_>,
+) -> Option<LooseLine<'a>>
+    ensures kept { IfSome result (λ line. PrintsLoosely (dating_of year tz.entry local.entry) (chars text.entry.now) (shown line.front) line.timestamp (shown line.tail)) }
+    ensures utf8 { IfSome result (λ line. IsUtf8 line.front.now × IsUtf8 line.tail.now) }
+{
+    let behind = kept_priority(text)?;
+    let front = before(text, behind);
+    let Some((timestamp, tail)) = loose_stamp(blanks(behind), year, tz, local) else {
+        return None;
+    };
+    let line = LooseLine {
+        front,
+        timestamp,
+        tail,
+    };
+    if is_kept_behind(line.timestamp, line.tail) {
+        Some(line)
+    } else {
+        None
+    }
+}
+
+impl fmt::Display for LooseLine<'_> {
+    ghost output = { λ line. Some (line.front.now ++ ((32 ∷ encode_utf8_all (timestamp_text line.timestamp)) ++ line.tail.now)) };
+
+    fn fmt<W: fmt::Write>(&self, f: &mut fmt::Formatter<W>) -> fmt::Result {
+        f.write_str(self.front)?;
+        write_timestamp(f, self.timestamp)?;
+        f.write_str(self.tail)
+    }
+}
+
+// Whether the variant reads texts by RFC 3164.
+fn reads_loosely(variant: Variant) -> bool
+    ensures { IsTrue result → ReadsProtocol variant RFC3164 }
+{
+    match variant {
+        Variant::RFC5424 => false,
+        Variant::RFC3164 => true,
+        Variant::Either => true,
+    }
+}
+
+/// A line cut round its month date without a year: the priority, and all from behind the date on.
+#[derive(Clone, Copy)]
+pub(crate) struct DatedLine<'a> {
+    front: &'a str,
+    date: MonthDate,
+    tail: &'a str,
+}
+
+impl DatedLine<'_> {
+    /// The numbers of the date, whose year is asked for.
+    #[inline(always)]
+    pub(crate) fn asked(self) -> Option<IncompleteDate>
+        ensures { result ≡ Some (incomplete self.entry.date) }
+    {
+        let date = self.date;
+        Some((date.month, date.day, date.hour, date.minute, date.second))
+    }
+}
+
+/// The line, where the variant reads it by RFC 3164, its priority prints as it is written, and its date has the usual form.
+#[inline(always)]
+pub(crate) fn dated_line(input: &str, variant: Variant) -> Option<DatedLine<'_>>
+    ensures shows { IfSome result (λ line. ShowsDated variant (chars input.entry.now) (shown line.front) line.date (shown line.tail)) }
+    ensures utf8 { IfSome result (λ line. IsUtf8 line.front.now × IsUtf8 line.tail.now) }
+{
+    if !may_have_priority(input) {
+        return None;
+    }
+    if !reads_loosely(variant) {
+        return None;
+    }
+    let text = trimmed(input);
+    let behind = kept_priority(text)?;
+    let front = before(text, behind);
+    let (date, tail) = usual_date(blanks(behind))?;
+    Some(DatedLine { front, date, tail })
+}
+
+/// The printed text of the message of the line in this year, where all but its date prints as it is written. It asks for
+/// memory once, and only for such a line.
+pub(crate) fn dated_text(
+    alloc: Global,
+    line: DatedLine<'_>,
+    length: usize,
+    year: Option<i32>,
+    tz: Option<&TimeZone<'_>>,
+    local: &TimeZone<'_>,
+) -> Result<Option<String>, AllocError>
+    requires { IsUtf8 line.front.now × IsUtf8 line.tail.now }
+    ensures text { (variant : Variant) (input : Text) → ShowsDated variant input (shown line.entry.front) line.entry.date (shown line.entry.tail)
+        → IfOk result (λ found. IfSome found (λ text. PrintsFreely variant (dating_of year tz.entry local.entry) input (string_bytes text))) }
+    ensures memory { (variant : Variant) (input : Text) → ShowsDated variant input (shown line.entry.front) line.entry.date (shown line.entry.tail)
+        → IsUnreadable variant (dating_of year tz.entry local.entry) input → IsOk result }
+{
+    let Some(stamp) = month_stamp(line.date, year, tz, local) else {
+        return Ok(None);
+    };
+    let found = LooseLine {
+        front: line.front,
+        timestamp: Some(stamp),
+        tail: line.tail,
+    };
+    if !is_kept_behind(found.timestamp, found.tail) {
+        return Ok(None);
+    }
+    let mut text = String::with_capacity(alloc, length.saturating_add(MORE_PRINTED))?;
+    write!(text, "{found}")?;
+    Ok(Some(text))
+}
+
+/// The printed text of the message of the line, where the variant reads it by RFC 3164 and all but its timestamp prints
+/// as it is written. It asks for memory once, and only for such a line.
+pub(crate) fn loose_text(
+    alloc: Global,
+    input: &str,
+    year: Option<i32>,
+    tz: Option<&TimeZone<'_>>,
+    variant: Variant,
+    local: &TimeZone<'_>,
+) -> Result<Option<String>, AllocError>
+    ensures text { IfOk result (λ found. IfSome found (λ text.
+        PrintsFreely variant (dating_of year tz.entry local.entry) (chars input.entry.now) (string_bytes text))) }
+    ensures memory { IsUnreadable variant (dating_of year tz.entry local.entry) (chars input.entry.now) → IsOk result }
+{
+    if !may_have_priority(input) {
+        return Ok(None);
+    }
+    if !reads_loosely(variant) {
+        return Ok(None);
+    }
+    let Some(line) = loose_line(trimmed(input), year, tz, local) else {
+        return Ok(None);
+    };
+    let mut text = String::with_capacity(alloc, input.len().saturating_add(MORE_PRINTED))?;
+    write!(text, "{line}")?;
+    Ok(Some(text))
+}

@@ -1,0 +1,69 @@
+//! The listed misses, tested on the fields. What was read as RFC 3164 meets all else of the written condition but for an
+//! absent facility and severity, so without a listed miss its printed text is settled. The tests look at a few bytes.
+ghost use Rattle.std.specs.Prelude.{◌≢◌, ◌↔◌, IfSome, IsTrue};
+ghost use Rattle.std.specs.Option.{option_map};
+ghost use Rattle.std.specs.Str.{chars};
+ghost use Rattle.syslog_pieces.specs.Pieces.Class.{Each};
+ghost use Rattle.syslog_pieces.specs.Pieces.View.{seen, shown};
+ghost use Rattle.syslog_pieces.specs.ProcId.{procid_value};
+ghost use Rattle.syslog_pieces.specs.Text.{EndsInColon, dash};
+ghost use Rattle.syslog_loose.specs.ListedMisses as spec;
+ghost use Rattle.syslog_loose.specs.Message.{message_value};
+ghost use Rattle.syslog_loose.specs.Reading.{dash_rule};
+
+use super::Message;
+use super::canonical::{begins_no_list, is_plain_time};
+use crate::reading::DASH_RULE;
+use syslog_pieces::procid::ProcId;
+
+/// Whether the message has none of the listed misses.
+pub(crate) fn has_no_miss(message: &Message<&str>) -> bool
+    ensures { IsTrue result ↔ spec.HasNoMiss dash_rule (message_value (λ s. shown s) message.now) }
+{
+    if !is_plain_time(message.timestamp) {
+        return false;
+    }
+    if !is_kept_host(message.hostname) {
+        return false;
+    }
+    if !is_uncut_process(&message.procid) {
+        return false;
+    }
+    begins_no_list(&message.structured_data, message.msg, DASH_RULE)
+}
+
+// Whether the host is neither the text of an absent one nor taken for the one behind the names.
+fn is_kept_host(host: Option<&str>) -> bool
+    ensures { IsTrue result ↔ (IfSome (seen host.entry) (λ h. h ≢ dash) × IfSome (seen host.entry) (λ h. EndsInColon h → ⊥)) }
+{
+    match host {
+        Some(name) => is_kept_name(name),
+        None => true,
+    }
+}
+
+fn is_kept_name(name: &str) -> bool
+    ensures { IsTrue result ↔ ((chars name.now ≢ dash) × (EndsInColon (chars name.now) → ⊥)) }
+{
+    match name.as_bytes() {
+        [.., last] => *last != b':' && (*last != b'-' || name.len() != 1),
+        [] => true,
+    }
+}
+
+// Whether the process is a number, or a name at which no other is cut.
+fn is_uncut_process(process: &Option<ProcId<&str>>) -> bool
+    ensures { IsTrue result ↔ IfSome (option_map (procid_value (λ s. shown s)) process.now) spec.HasNoColon }
+{
+    match process {
+        Some(ProcId::Name(name)) => has_no_colon(*name),
+        Some(ProcId::PID(_)) => true,
+        None => true,
+    }
+}
+
+fn has_no_colon(name: &str) -> bool
+    ensures { IsTrue result ↔ Each spec.is_no_colon (chars name.now) }
+{
+    !name.contains(':')
+}
