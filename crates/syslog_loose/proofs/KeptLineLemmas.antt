@@ -1,5 +1,5 @@
 -- Lines that print as they are written, put together from their pieces.
-use Rattle.std.proofs.Common.{◌≡◌, ℕ, ◌+◌, ◌*◌, ◌<◌, List, [], ◌∷◌, ◌++◌, Option, Some, None, Result, Ok, Err, inl, refl, sym, ap, ap₂, ◌∙◌, append_assoc}
+use Rattle.std.proofs.Common.{◌≡◌, ℕ, ◌+◌, ◌*◌, ◌<◌, List, [], ◌∷◌, ◌++◌, Bool, Option, Some, None, Result, Ok, Err, inl, refl, sym, ap, ap₂, ◌∙◌, append_assoc}
 use Rattle.std.proofs.lemmas.List.{append_cancel_right}
 use Rattle.std.proofs.lemmas.Str.{encodes-append, encodes-chars}
 use Rattle.std.specs.Char.{encode_utf8}
@@ -27,7 +27,7 @@ use Rattle.syslog_loose.specs.KeptLine.{front_row, tail_row, KeptFront, KeptTail
 use Rattle.syslog_loose.specs.Message.{MessageValue}
 use Rattle.syslog_loose.specs.Printed.{printed, printed_5424, timestamp_text}
 use Rattle.syslog_loose.specs.Rfc5424.{message_of, IsRead5424, IsNot5424}
-use Rattle.std.specs.Prelude.{IfOk, IfSome, String, string_bytes}
+use Rattle.std.specs.Prelude.{IfOk, IsTrue}
 use Rattle.std.specs.Global.{Global}
 use Rattle.std.specs.declared.alloc.AllocError.{AllocError}
 use Rattle.syslog_loose.specs.declared.reading.Variant.{Variant}
@@ -181,12 +181,11 @@ either_way text m bytes r e = record {
 
 -- what was copied is the printed text of one message
 pub told : (variant : Variant) (text : Text) → ((m : MessageValue) (bytes : List ℕ) → IsRead5424 text m → bytes ≡ encode_utf8_all (printed m) → PrintsAs variant text bytes)
-    → (r : Result (Option (String Global)) AllocError)
-    → IfOk r (λ found. IfSome found (λ t. (m : MessageValue) × IsRead5424 text m × (string_bytes t ≡ encode_utf8_all (printed m))))
-    → IfOk r (λ found. IfSome found (λ t. PrintsAs variant text (string_bytes t)))
-told variant text turn (Ok (Some t)) (m, r, e) = turn m (string_bytes t) r e
-told variant text turn (Ok None) h = tt
-told variant text turn (Err e) h = tt
+    → (r : Result Bool AllocError) (bytes : List ℕ)
+    → IfOk r (λ found. IsTrue found → (m : MessageValue) × IsRead5424 text m × (bytes ≡ encode_utf8_all (printed m)))
+    → IfOk r (λ found. IsTrue found → PrintsAs variant text bytes)
+told variant text turn (Ok found) bytes h = λ t. let (m, r, e) = h t in turn m bytes r e
+told variant text turn (Err e) bytes h = tt
 
 -- a text that no message is read from has no division
 pub no_division : (text : Text) → ((m : MessageValue) → IsRead5424 text m → ⊥) → IsNot5424 text

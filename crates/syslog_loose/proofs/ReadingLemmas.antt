@@ -1,7 +1,7 @@
 -- What the reading calls answer.
-use Rattle.std.proofs.Common.{◌≡◌, ◌↔◌, inl, inr, ℕ, ℤ, List, Option, Some, None, Result, Ok, Err, w32, SFits, to_z, of_z, refl, sym, ap, subst, ◌∙◌}
+use Rattle.std.proofs.Common.{◌≡◌, ◌↔◌, inl, inr, ℕ, ℤ, List, Bool, true, Option, Some, None, Result, Ok, Err, w32, SFits, to_z, of_z, refl, sym, ap, subst, ◌∙◌}
 use Rattle.std.proofs.lemmas.Int.{to_z-of_z}
-use Rattle.std.specs.Prelude.{IsOk, IfOk, IfSome, MatchOption, IsSomeAnd}
+use Rattle.std.specs.Prelude.{IsOk, IfOk, IfSome, IsTrue, MatchOption, IsSomeAnd}
 use Rattle.std.specs.declared.alloc.AllocError.{AllocError}
 use Rattle.std.specs.Borrow.{Bor}
 use Rattle.jiff.specs.declared.tz.timezone.TimeZone.{TimeZone}
@@ -66,8 +66,8 @@ refused (Ok x) e is h p = cc
 refused (Err x) e is h p = let t = h p in cc
 
 -- what is said of a value that was found
-pub found_text : {X : Type 0} (P : X → Type 0) (r : Result (Option X) AllocError) (o : Option X) (t : X) → r ≡ Ok o → o ≡ Some t → IfOk r (λ found. IfSome found P) → P t
-found_text {X = X} P r o t e f h = subst (λ (x : Option X). IfSome x P) f (subst (λ (x : Result (Option X) AllocError). IfOk x (λ found. IfSome found P)) e h)
+pub found_text : (P : Type 0) (r : Result Bool AllocError) (found : Bool) → r ≡ Ok found → found ≡ true → IfOk r (λ found. IsTrue found → P) → P
+found_text P r found e f h = subst (λ (x : Result Bool AllocError). IfOk x (λ found. IsTrue found → P)) e h f
 
 -- an `Err` is not `Ok`
 pub no_ok : {X : Type 0} (r : Result X AllocError) (e : AllocError) → r ≡ Err e → IsOk r → ⊥

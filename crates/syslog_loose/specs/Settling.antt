@@ -1,6 +1,6 @@
 -- Rounds: a text is read and printed, and what was printed is read and printed again, until it no longer changes. And the
 -- weight of a message of RFC 3164, which falls from round to round until then. (All of it is this project's own.)
-use Rattle.std.specs.Prelude.{◌≡◌, ◌≢◌, ◌⊎◌, ℕ, zero, suc, ◌+◌, ◌<◌, [], ◌∷◌, ◌++◌, length, Bool, MatchBool, ⊤, Option, Some, None, IfSome, Result, MatchResult, String, string_bytes}
+use Rattle.std.specs.Prelude.{◌≡◌, ◌≢◌, ◌⊎◌, ℕ, zero, suc, ◌+◌, ◌<◌, [], ◌∷◌, ◌++◌, length, Bool, MatchBool, ⊤, Option, Some, None, IfSome, Result, Ok, Err, MatchResult, String, string_bytes}
 use Rattle.std.specs.Global.{Global}
 use Rattle.std.specs.Str.{chars}
 use Rattle.syslog_pieces.specs.Pieces.Class.{Text}
@@ -62,6 +62,11 @@ IsSettlingFault variant dating text Memory = IsUnreadable variant dating text �
 -- the first settled round, or a fault
 abbrev pub Settles : Variant → Dating → Text → Result (String Global) ParseFault → Type 0
 Settles variant dating text result = MatchResult result (λ u. IsFirstSettled variant dating text (chars (string_bytes u))) (λ fault. IsSettlingFault variant dating text fault)
+
+-- the answer of a call that leaves its text in a place of the caller's
+abbrev pub answer_in : {A : Type 0} → Result A ParseFault → String Global → Result (String Global) ParseFault
+answer_in (Ok _) text = Ok text
+answer_in (Err fault) text = Err fault
 
 -- ---- words of the bodies
 

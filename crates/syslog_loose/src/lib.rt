@@ -30,7 +30,7 @@ pub use reading::{
     IncompleteDate, Variant, normalise, parse_message, parse_message_with_year,
     parse_message_with_year_exact, parse_message_with_year_exact_tz, parse_message_with_year_tz,
 };
-pub use settling::settle;
+pub use settling::{settle, settle_into};
 pub use syslog_pieces::as_str::AsStr;
 pub use syslog_pieces::pri::{SyslogFacility, SyslogSeverity, decompose_pri};
 pub use syslog_pieces::procid::ProcId;

@@ -4,7 +4,7 @@
 //! leading zeros, strict elements alone. Such a line needs no message in between: all but its timestamp is copied. Each
 //! reader here answers the text behind its piece where that piece prints as it is written, and may always answer
 //! nothing, since the line is then read and printed as any other. So no contract above speaks of this way.
-ghost use Rattle.std.specs.Prelude.{◌≡◌, ◌++◌, ◌∷◌, IfOk, IfSome, IsOk, Some, string_bytes};
+ghost use Rattle.std.specs.Prelude.{◌≡◌, ◌++◌, ◌∷◌, [], IfOk, IfSome, IsOk, IsTrue, Some, string_bytes};
 ghost use Rattle.std.specs.Str.{chars, encode_utf8_all, IsUtf8};
 ghost use Rattle.syslog_pieces.specs.Pieces.View.{shown};
 ghost use Rattle.syslog_pieces.specs.Timestamp.Zone.{Dating};
@@ -22,7 +22,7 @@ mod tests;
 use crate::message::{write_spaced, write_timestamp};
 use crate::reading::Variant;
 pub(crate) use loose::{DatedLine, dated_line, dated_text, loose_text};
-use std::alloc::{AllocError, Global};
+use std::alloc::AllocError;
 use std::fmt;
 use std::fmt::Write;
 use syslog_pieces::pri::kept_priority;
@@ -126,36 +126,46 @@ fn may_be_strict(input: &str) -> bool {
 // What a printed message may have beyond its input: a priority, a longer timestamp and the dashes of absent fields.
 pub(crate) const MORE_PRINTED: usize = 48;
 
-/// The printed text of the message of the line, where all but its timestamp prints as it is written. It asks for memory
-/// once, and only for such a line.
-pub(crate) fn copied(alloc: Global, input: &str) -> Result<Option<String>, AllocError>
-    ensures text { IfOk result (λ found. IfSome found (λ text. (m : MessageValue) × IsRead5424 (chars input.now) m × (string_bytes text ≡ encode_utf8_all (printed m)))) }
+/// Empties the text, and makes room in it for what is printed of an input of this length. It asks for memory only where
+/// the text has less room than that.
+#[inline]
+pub(crate) fn make_room(text: &mut String, length: usize) -> Result<(), AllocError>
+    ensures { string_bytes text.new ≡ [] }
+{
+    text.clear();
+    text.reserve(length.saturating_add(MORE_PRINTED))
+}
+
+/// Writes the printed text of the message of the line into `text`, where all but its timestamp prints as it is written, and
+/// tells whether it did. It asks for memory only for such a line, and where `text` has too little room.
+pub(crate) fn copied(text: &mut String, input: &str) -> Result<bool, AllocError>
+    ensures text { IfOk result (λ found. IsTrue found → (m : MessageValue) × IsRead5424 (chars input.now) m × (string_bytes text.new ≡ encode_utf8_all (printed m))) }
     ensures memory { IsNot5424 (chars input.now) → IsOk result }
 {
     if !may_be_strict(input) {
-        return Ok(None);
+        return Ok(false);
     }
     let Some(line) = kept_line(trimmed(input)) else {
-        return Ok(None);
+        return Ok(false);
     };
-    let mut text = String::with_capacity(alloc, input.len().saturating_add(MORE_PRINTED))?;
+    make_room(text, input.len())?;
     write!(text, "{line}")?;
-    Ok(Some(text))
+    Ok(true)
 }
 
 /// The same, where the variant reads RFC 5424.
 pub(crate) fn kept_text(
-    alloc: Global,
+    text: &mut String,
     input: &str,
     variant: Variant,
-) -> Result<Option<String>, AllocError>
-    ensures text { IfOk result (λ found. IfSome found (λ text. PrintsAs variant (chars input.now) (string_bytes text))) }
+) -> Result<bool, AllocError>
+    ensures text { IfOk result (λ found. IsTrue found → PrintsAs variant (chars input.now) (string_bytes text.new)) }
     ensures memory { (dating : Dating) → IsUnreadable variant dating (chars input.now) → IsOk result }
     ensures year { (date : MonthDate) → AsksYear variant (chars input.now) date → IsOk result }
 {
     match variant {
-        Variant::RFC3164 => Ok(None),
-        Variant::RFC5424 => copied(alloc, input),
-        Variant::Either => copied(alloc, input),
+        Variant::RFC3164 => Ok(false),
+        Variant::RFC5424 => copied(text, input),
+        Variant::Either => copied(text, input),
     }
 }

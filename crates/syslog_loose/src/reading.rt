@@ -2,7 +2,7 @@
 //!
 //! Each of the five looks first for a date without a year, asks the closure for its year, and then reads by the headers
 //! below. The calls with `exact` in their names refuse a text that has no reading; the plain ones answer the fallback.
-ghost use Rattle.std.specs.Prelude.{◌≡◌, ◌↔◌, IfOk, MatchOption, MatchResult, None, string_bytes};
+ghost use Rattle.std.specs.Prelude.{◌≡◌, ◌↔◌, IfOk, MatchOption, MatchResult, None, OnOk, string_bytes};
 ghost use Rattle.std.specs.Str.{chars, encode_utf8_all, IsUtf8};
 ghost use Rattle.jiff.specs.Words.{plain_zone};
 ghost use Rattle.syslog_pieces.specs.Pieces.View.{shown};
@@ -21,7 +21,7 @@ ghost use Rattle.syslog_loose.specs.declared.reading.Variant.TheVariants as vari
 
 use crate::beginning::may_be_read;
 use crate::fault::ParseFault;
-use crate::line::{DatedLine, MORE_PRINTED, dated_line, dated_text, kept_text, loose_text};
+use crate::line::{DatedLine, dated_line, dated_text, kept_text, loose_text, make_room};
 use crate::message::{Message, Protocol};
 use crate::{rfc3164, rfc5424};
 use jiff::Timestamp;
@@ -294,9 +294,10 @@ pub fn normalise<F: FnOnce(IncompleteDate) -> i32>(
         (λ fault. (fault ≡ Invalid) ↔ IsUnreadable variant (dating_of year tz.entry local.entry) (chars input.entry.now))) }
     ensures again { AnswersAgain variant (chars input.entry.now) input.entry.now result }
 {
-    match kept_text(alloc, input, variant)? {
-        Some(text) => return Ok(text),
-        None => {}
+    let mut text = String::new(alloc);
+    let copied = kept_text(&mut text, input, variant)?;
+    if copied {
+        return Ok(text);
     }
     match dated_line(input, variant) {
         Some(line) => {
@@ -326,9 +327,10 @@ fn normalise_dated(
         (λ text. (m : MessageValue) × IsOnlyRead variant (dating_of year tz.entry local.entry) (chars input.entry.now) m × (string_bytes text ≡ encode_utf8_all (printed m)))
         (λ fault. (fault ≡ Invalid) ↔ IsUnreadable variant (dating_of year tz.entry local.entry) (chars input.entry.now)) }
 {
-    match dated_text(alloc, line, input.len(), year, tz, local)? {
-        Some(text) => return Ok(text),
-        None => {}
+    let mut text = String::new(alloc);
+    let copied = dated_text(&mut text, line, input.len(), year, tz, local)?;
+    if copied {
+        return Ok(text);
     }
     normalise_in(alloc, input, year, tz, variant, local)
 }
@@ -346,23 +348,25 @@ fn normalise_in(
         (λ text. (m : MessageValue) × IsOnlyRead variant (dating_of year tz.entry local.entry) (chars input.entry.now) m × (string_bytes text ≡ encode_utf8_all (printed m)))
         (λ fault. (fault ≡ Invalid) ↔ IsUnreadable variant (dating_of year tz.entry local.entry) (chars input.entry.now)) }
 {
-    match loose_text(alloc, input, year, tz, variant, local)? {
-        Some(text) => return Ok(text),
-        None => {}
+    let mut text = String::new(alloc);
+    let copied = loose_text(&mut text, input, year, tz, variant, local)?;
+    if copied {
+        return Ok(text);
     }
     let message = read(alloc, input, year, tz, variant, local)?;
-    Ok(print(alloc, &message, input.len())?)
+    print(&mut text, &message, input.len())?;
+    Ok(text)
 }
 
-// The printed text, in memory for a text of the input's length that is asked for once.
+// Writes the printed text into `text`, which gets room for a text of the input's length at once.
 pub(crate) fn print(
-    alloc: Global,
+    text: &mut String,
     message: &Message<&str>,
     length: usize,
-) -> Result<String, AllocError>
-    ensures { IfOk result (λ text. string_bytes text ≡ encode_utf8_all (printed (message_value (λ s. shown s) message.now))) }
+) -> Result<(), AllocError>
+    ensures { OnOk result (string_bytes text.new ≡ encode_utf8_all (printed (message_value (λ s. shown s) message.now))) }
 {
-    let mut text = String::with_capacity(alloc, length.saturating_add(MORE_PRINTED))?;
+    make_room(text, length)?;
     write!(text, "{message}")?;
-    Ok(text)
+    Ok(())
 }

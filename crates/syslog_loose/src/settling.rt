@@ -11,7 +11,7 @@ ghost use Rattle.syslog_loose.specs.Canonical.{IsCanonical};
 ghost use Rattle.syslog_loose.specs.KeptLoose.{ShowsDated};
 ghost use Rattle.syslog_loose.specs.Message.{MessageValue, message_value};
 ghost use Rattle.syslog_loose.specs.Reading.{AnswersEachMonth, InYear, IsRead, IsUnreadable, dash_rule};
-ghost use Rattle.syslog_loose.specs.Settling.{IsAtRest, IsToldNext, Settles};
+ghost use Rattle.syslog_loose.specs.Settling.{IsAtRest, IsToldNext, Settles, answer_in};
 ghost use Rattle.syslog_loose.specs.declared.fault.ParseFault.TheVariants.{Invalid};
 
 use crate::fault::ParseFault;
@@ -20,13 +20,7 @@ use crate::message::{Message, Protocol, has_no_miss};
 use crate::reading::{IncompleteDate, Variant, asked_date, print, read};
 use jiff::tz::TimeZone;
 use std::alloc::Global;
-
-// A round of a text, and whether it is known that the next round is the same text.
-#[derive(Drop)]
-struct Round {
-    text: String,
-    settled: bool,
-}
+use std::mem::swap;
 
 /// The first round of the text, from round 1 on, that normalising leaves as it is: round 1 is what `normalise` answers to
 /// the text, and each further round what it answers to the one before. `Invalid` where a round has no reading.
@@ -50,18 +44,41 @@ pub fn settle<F: FnOnce(IncompleteDate) -> i32>(
     ensures canonical { InYear (F.post get_year) variant (chars input.entry.now) (λ year. IfOk result (λ text. (m : MessageValue)
         → IsRead variant (dating_of year tz.entry local.entry) (chars (string_bytes text)) m → IsCanonical dash_rule m)) }
 {
-    match kept_text(alloc, input, variant)? {
-        Some(text) => return Ok(text),
-        None => {}
+    let mut text = String::new(alloc);
+    settle_into(alloc, &mut text, input, get_year, tz, variant, local)?;
+    Ok(text)
+}
+
+/// The same, with the answer in `text`, in place of what was there: whoever settles line after line in one `String` asks for
+/// memory only where a line needs more of it than those before. Where the call fails, `text` may hold anything.
+pub fn settle_into<F: FnOnce(IncompleteDate) -> i32>(
+    alloc: Global,
+    text: &mut String,
+    input: &str,
+    get_year: F,
+    tz: Option<&TimeZone<'_>>,
+    variant: Variant,
+    local: &TimeZone<'_>,
+) -> Result<(), ParseFault>
+    requires { AnswersEachMonth (F.pre get_year) }
+    ensures settles { InYear (F.post get_year) variant (chars input.entry.now)
+        (λ year. Settles variant (dating_of year tz.entry local.entry) (chars input.entry.now) (answer_in result text.new)) }
+    // The message of the answer meets the written condition.
+    ensures canonical { InYear (F.post get_year) variant (chars input.entry.now) (λ year. IfOk (answer_in result text.new) (λ answer. (m : MessageValue)
+        → IsRead variant (dating_of year tz.entry local.entry) (chars (string_bytes answer)) m → IsCanonical dash_rule m)) }
+{
+    let copied = kept_text(text, input, variant)?;
+    if copied {
+        return Ok(());
     }
     match dated_line(input, variant) {
         Some(line) => {
             let year = line.asked().map(get_year);
-            settle_dated(alloc, input, line, year, tz, variant, local)
+            settle_dated(alloc, text, input, line, year, tz, variant, local)
         }
         None => {
             let year = asked_date(input, variant).map(get_year);
-            settle_in(alloc, input, year, tz, variant, local)
+            settle_in(alloc, text, input, year, tz, variant, local)
         }
     }
 }
@@ -69,76 +86,74 @@ pub fn settle<F: FnOnce(IncompleteDate) -> i32>(
 // The same of a line that shows a month date, in a year.
 fn settle_dated(
     alloc: Global,
+    text: &mut String,
     input: &str,
     line: DatedLine<'_>,
     year: Option<i32>,
     tz: Option<&TimeZone<'_>>,
     variant: Variant,
     local: &TimeZone<'_>,
-) -> Result<String, ParseFault>
+) -> Result<(), ParseFault>
     requires shows { ShowsDated variant (chars input.now) (shown line.front) line.date (shown line.tail) }
     requires utf8 { IsUtf8 line.front.now × IsUtf8 line.tail.now }
-    ensures { Settles variant (dating_of year tz.entry local.entry) (chars input.entry.now) result }
+    ensures { Settles variant (dating_of year tz.entry local.entry) (chars input.entry.now) (answer_in result text.new) }
 {
-    match dated_text(alloc, line, input.len(), year, tz, local)? {
-        Some(text) => return Ok(text),
-        None => {}
+    let copied = dated_text(text, line, input.len(), year, tz, local)?;
+    if copied {
+        return Ok(());
     }
-    settle_in(alloc, input, year, tz, variant, local)
+    settle_in(alloc, text, input, year, tz, variant, local)
 }
 
-// The same in a year.
+// The same in a year. The text of the last round and of the next change places.
 fn settle_in(
     alloc: Global,
+    text: &mut String,
     input: &str,
     year: Option<i32>,
     tz: Option<&TimeZone<'_>>,
     variant: Variant,
     local: &TimeZone<'_>,
-) -> Result<String, ParseFault>
-    ensures { Settles variant (dating_of year tz.entry local.entry) (chars input.entry.now) result }
+) -> Result<(), ParseFault>
+    ensures { Settles variant (dating_of year tz.entry local.entry) (chars input.entry.now) (answer_in result text.new) }
 {
-    let first = next_round(alloc, input, year, tz, variant, local)?;
-    if first.settled {
-        return Ok(first.text);
+    let settled = next_round(alloc, text, input, year, tz, variant, local)?;
+    if settled {
+        return Ok(());
     }
-    let mut last = first.text;
+    let mut last = String::new(alloc);
     for done in 0..=input.len() {
-        let next = next_round(alloc, last.as_str(), year, tz, variant, local)?;
-        if next.settled {
-            return Ok(next.text);
+        swap(&mut last, text);
+        let settled = next_round(alloc, text, last.as_str(), year, tz, variant, local)?;
+        if settled {
+            return Ok(());
         }
-        last = next.text;
     }
     unreachable!()
 }
 
-// The next round of the text.
+// Writes the next round of the input into `text`, and tells whether it is known that the one behind it is the same text.
 fn next_round(
     alloc: Global,
+    text: &mut String,
     input: &str,
     year: Option<i32>,
     tz: Option<&TimeZone<'_>>,
     variant: Variant,
     local: &TimeZone<'_>,
-) -> Result<Round, ParseFault>
+) -> Result<bool, ParseFault>
     ensures { MatchResult result
-        (λ round. IsToldNext variant (dating_of year tz.entry local.entry) (chars input.entry.now) (chars (string_bytes round.text)) round.settled)
+        (λ settled. IsToldNext variant (dating_of year tz.entry local.entry) (chars input.entry.now) (chars (string_bytes text.new)) settled)
         (λ fault. (fault ≡ Invalid) ↔ IsUnreadable variant (dating_of year tz.entry local.entry) (chars input.entry.now)) }
 {
-    match loose_text(alloc, input, year, tz, variant, local)? {
-        Some(copied) => {
-            return Ok(Round {
-                text: copied,
-                settled: true,
-            });
-        }
-        None => {}
+    let copied = loose_text(text, input, year, tz, variant, local)?;
+    if copied {
+        return Ok(true);
     }
     let message = read(alloc, input, year, tz, variant, local)?;
     let settled = is_at_rest(&message);
-    let text = print(alloc, &message, input.len())?;
-    Ok(Round { text, settled })
+    print(text, &message, input.len())?;
+    Ok(settled)
 }
 
 // Whether the printed text of the message is known to be settled.

@@ -1,13 +1,14 @@
 -- The answers of the two filters, and their counts.
 use Rattle.std.proofs.Common.{◌≡◌, ℕ, zero, suc, ℤ, ◌+◌, ◌++◌, ◌↔◌, List, [], ◌∷◌, length, Option, Some, None, Bool, true, false, Result, Ok, Err, MatchResult, IsTrue, refl, sym, ap, ◌∙◌, subst, cond, arith}
-use Rattle.std.specs.Prelude.{IsUtf8, count_by, is_none, is_some}
+use Rattle.std.specs.Global.{Global}
+use Rattle.std.specs.Prelude.{IsUtf8, String, count_by, is_none, is_some, string_bytes}
 use Rattle.std.specs.Str.{chars}
 use Rattle.std.proofs.lemmas.List.Sums.{sum_by-append}
 use Rattle.std.proofs.lemmas.Slice.Zip.{AllZip-long}
 use Rattle.std.proofs.lemmas.Str.{encodes-chars}
 use Rattle.syslog_loose.specs.Dash.{ReadsDifferently}
 use Rattle.syslog_loose.specs.Reading.{IsRead, IsUnreadable, in_utc}
-use Rattle.syslog_loose.specs.Settling.{IsRound, IsFirstSettled, IsSettlingFault}
+use Rattle.syslog_loose.specs.Settling.{IsRound, IsFirstSettled, IsSettlingFault, Settles, answer_in}
 use Rattle.syslog_loose.proofs.ReadingLemmas.{invalid_or_memory}
 use Rattle.syslog_loose.specs.declared.fault.ParseFault.{ParseFault}
 use Rattle.syslog_loose.specs.declared.fault.ParseFault.TheVariants.{Invalid, Memory}
@@ -96,6 +97,12 @@ invalid_settles_not year text Memory h e = absurd (invalid_or_memory e)
 pub unreadable_is_invalid : (year : ℤ) (text : List ℕ) (fault : ParseFault) → IsSettlingFault Either (in_utc year) text fault → IsUnreadable Either (in_utc year) text → fault ≡ Invalid
 unreadable_is_invalid year text Invalid h u = refl
 unreadable_is_invalid year text Memory h u = absurd (h u)
+
+-- the answer in the caller's place
+pub settled_in : {X : Type 0} (year : ℤ) (text : List ℕ) (r : Result X ParseFault) (into : String Global) → Settles Either (in_utc year) text (answer_in r into)
+    → MatchResult r (λ x. IsFirstSettled Either (in_utc year) text (chars (string_bytes into))) (λ fault. IsSettlingFault Either (in_utc year) text fault)
+settled_in year text (Ok x) into h = h
+settled_in year text (Err fault) into h = h
 
 -- a line was added as it came
 pub AddsAnswer-changed : (year y : ℤ) (line old new : List ℕ) (differs : Bool) → y ≡ year → IsUtf8 line → differs ≡ true → IsTrue differs ↔ ReadsDifferently Either (in_utc y) (chars line) → new ≡ old ++ (line ++ 10 ∷ [])

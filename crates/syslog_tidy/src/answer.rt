@@ -9,11 +9,13 @@ use crate::summary::Tally;
 use std::alloc::{AllocError, Global};
 
 /// Adds the output of all lines to `output`, and counts them. Where memory is refused, that of the lines before is added,
-/// and the line that it was refused for is UTF-8 and one for which it may be wanted.
+/// and the line that it was refused for is UTF-8 and one for which it may be wanted. `text` is the filter's, for its texts in
+/// between.
 pub fn answer_lines<F: LineFilter>(
     alloc: Global,
     filter: &F,
     lines: &[u8],
+    text: &mut String,
     output: &mut Vec<u8>,
     tally: &mut Tally,
 ) -> Result<(), AllocError>
@@ -21,8 +23,8 @@ pub fn answer_lines<F: LineFilter>(
     ensures err { OnErr result (AnswersBefore (F.answers filter.now) lines.now output.old.items output.new.items) }
 {
     match str::from_utf8(lines) {
-        Ok(text) => answer_text_lines(alloc, filter, text, output, tally),
-        Err(_) => answer_byte_lines(alloc, filter, lines, output, tally),
+        Ok(valid) => answer_text_lines(alloc, filter, valid, text, output, tally),
+        Err(_) => answer_byte_lines(alloc, filter, lines, text, output, tally),
     }
 }
 
@@ -31,6 +33,7 @@ fn answer_text_lines<F: LineFilter>(
     alloc: Global,
     filter: &F,
     lines: &str,
+    text: &mut String,
     output: &mut Vec<u8>,
     tally: &mut Tally,
 ) -> Result<(), AllocError>
@@ -40,7 +43,7 @@ fn answer_text_lines<F: LineFilter>(
     let mut rest = lines;
     while !rest.is_empty() {
         let (line, after) = first_text_line(rest);
-        answer_text(alloc, filter, line, output, tally)?;
+        answer_text(alloc, filter, line, text, output, tally)?;
         rest = after;
     }
     Ok(())
@@ -51,6 +54,7 @@ fn answer_byte_lines<F: LineFilter>(
     alloc: Global,
     filter: &F,
     lines: &[u8],
+    text: &mut String,
     output: &mut Vec<u8>,
     tally: &mut Tally,
 ) -> Result<(), AllocError>
@@ -60,7 +64,7 @@ fn answer_byte_lines<F: LineFilter>(
     let mut rest = lines;
     while !rest.is_empty() {
         let (line, after) = first_line(rest);
-        answer_bytes(alloc, filter, line, output, tally)?;
+        answer_bytes(alloc, filter, line, text, output, tally)?;
         rest = after;
     }
     Ok(())
@@ -71,6 +75,7 @@ fn answer_bytes<F: LineFilter>(
     alloc: Global,
     filter: &F,
     line: &[u8],
+    text: &mut String,
     output: &mut Vec<u8>,
     tally: &mut Tally,
 ) -> Result<(), AllocError>
@@ -79,7 +84,7 @@ fn answer_bytes<F: LineFilter>(
     ensures refusal { OnErr result (IsWanted (F.answers filter.now) line.now) }
 {
     match str::from_utf8(line) {
-        Ok(text) => answer_text(alloc, filter, text, output, tally),
+        Ok(valid) => answer_text(alloc, filter, valid, text, output, tally),
         Err(_) => {
             tally.count(false);
             Ok(())
@@ -92,6 +97,7 @@ fn answer_text<F: LineFilter>(
     alloc: Global,
     filter: &F,
     line: &str,
+    text: &mut String,
     output: &mut Vec<u8>,
     tally: &mut Tally,
 ) -> Result<(), AllocError>
@@ -99,7 +105,7 @@ fn answer_text<F: LineFilter>(
     ensures err { OnErr result (output.new.items ≡ output.old.items) }
     ensures refusal { OnErr result (IsWanted (F.answers filter.now) line.now) }
 {
-    let is_answered = filter.answer(alloc, line, output)?;
+    let is_answered = filter.answer(alloc, line, text, output)?;
     tally.count(is_answered);
     Ok(())
 }

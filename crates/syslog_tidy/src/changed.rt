@@ -51,7 +51,13 @@ struct Changes {
 impl LineFilter for Changes {
     ghost answers = { λ changes. finding changes.year };
 
-    fn answer(&self, alloc: Global, line: &str, output: &mut Vec<u8>) -> Result<bool, AllocError> {
+    fn answer(
+        &self,
+        alloc: Global,
+        line: &str,
+        _: &mut String,
+        output: &mut Vec<u8>,
+    ) -> Result<bool, AllocError> {
         let is_changed = is_line_changed(alloc, line, self.year)?;
         if is_changed {
             push_line(output, line)?;

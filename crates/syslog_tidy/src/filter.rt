@@ -12,8 +12,15 @@ pub trait LineFilter {
 
     /// Adds the answer to a line and a line feed to `output`, or nothing where it has none, and tells whether it has one.
     ///
-    /// Where memory is refused nothing is added, and the line is one for which it may be wanted.
-    fn answer(&self, alloc: Global, line: &str, output: &mut Vec<u8>) -> Result<bool, AllocError>
+    /// Where memory is refused nothing is added, and the line is one for which it may be wanted. `text` is for a text in
+    /// between: what it holds doesn't count, and its memory is used again for the next line.
+    fn answer(
+        &self,
+        alloc: Global,
+        line: &str,
+        text: &mut String,
+        output: &mut Vec<u8>,
+    ) -> Result<bool, AllocError>
         ensures ok { IfOk result (λ is_answered. AddsAnswer (answers self.now) (chars line.now) output.old.items output.new.items is_answered) }
         ensures err { OnErr result (output.new.items ≡ output.old.items) }
         ensures refusal { OnErr result ((answers self.now).Wants (chars line.now)) };

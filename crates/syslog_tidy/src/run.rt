@@ -13,7 +13,7 @@ use crate::walk::walk;
 use crate::watched::Watched;
 use std::alloc::{AllocError, Global};
 use std::io::{Read, Write};
-use syslog_loose::{IncompleteDate, ParseFault, TimeZone, Variant, settle};
+use syslog_loose::{IncompleteDate, ParseFault, TimeZone, Variant, settle_into};
 
 /// Reads lines to the end of the input, and writes the settled text of each that has one, in the given year: its first
 /// printed text that is printed again as it stands.
@@ -57,9 +57,15 @@ struct Tidy {
 impl LineFilter for Tidy {
     ghost answers = { λ tidy. tidying tidy.year };
 
-    fn answer(&self, alloc: Global, line: &str, output: &mut Vec<u8>) -> Result<bool, AllocError> {
-        match settled_line(alloc, line, self.year) {
-            Ok(text) => {
+    fn answer(
+        &self,
+        alloc: Global,
+        line: &str,
+        text: &mut String,
+        output: &mut Vec<u8>,
+    ) -> Result<bool, AllocError> {
+        match settle_line(alloc, line, self.year, text) {
+            Ok(()) => {
                 push_line(output, text.as_str())?;
                 Ok(true)
             }
@@ -69,18 +75,19 @@ impl LineFilter for Tidy {
     }
 }
 
-// The first settled round of a line, in a year.
-fn settled_line(alloc: Global, line: &str, year: i32) -> Result<String, ParseFault>
+// Writes the first settled round of a line, in a year, into `text`.
+fn settle_line(alloc: Global, line: &str, year: i32, text: &mut String) -> Result<(), ParseFault>
     ensures settles { MatchResult result
-        (λ text. IsTidied year (chars line.now) (Some (chars (string_bytes text))))
+        (λ _. IsTidied year (chars line.now) (Some (chars (string_bytes text.new))))
         (λ fault. fault ≡ Invalid → IsTidied year (chars line.now) None) }
     ensures refusal { IsUnreadable Either (in_utc year) (chars line.now) → result ≡ Err Invalid }
 {
     let answer_year = move |_: IncompleteDate| -> i32
         ensures { result ≡ year }
     { year };
-    settle(
+    settle_into(
         alloc,
+        text,
         line,
         answer_year,
         None,

@@ -35,6 +35,7 @@ pub fn walk<F: LineFilter, R: Read, W: Write>(
         answered: 0,
         passed_over: 0,
     };
+    let mut text = String::new(alloc);
     let mut output = Vec::new(alloc);
     let mut block = Block::new(alloc)?;
     while block.fill(reader)? {
@@ -42,12 +43,21 @@ pub fn walk<F: LineFilter, R: Read, W: Write>(
             alloc,
             filter,
             block.complete(),
+            &mut text,
             &mut output,
             writer,
             &mut tally,
         )?;
     }
-    write_answers(alloc, filter, block.cut(), &mut output, writer, &mut tally)?;
+    write_answers(
+        alloc,
+        filter,
+        block.cut(),
+        &mut text,
+        &mut output,
+        writer,
+        &mut tally,
+    )?;
     if writer.flush().is_err() {
         return Err(RunFault::Write);
     }
@@ -59,6 +69,7 @@ fn write_answers<F: LineFilter, W: Write>(
     alloc: Global,
     filter: &F,
     lines: &[u8],
+    text: &mut String,
     output: &mut Vec<u8>,
     writer: &mut Watched<W>,
     tally: &mut Tally,
@@ -69,7 +80,7 @@ fn write_answers<F: LineFilter, W: Write>(
     ensures err { IfErr result (WritesFirst (F.answers filter.now) lines.now (W.contents writer.old.inner) (W.contents writer.new.inner) writer.new.failed) }
 {
     output.clear();
-    let answered = answer_lines(alloc, filter, lines, output, tally);
+    let answered = answer_lines(alloc, filter, lines, text, output, tally);
     write_whole(writer, output)?;
     answered?;
     Ok(())

@@ -18,11 +18,11 @@ ghost use Rattle.syslog_loose.specs.declared.reading.Variant.{Variant};
 #[cfg(test)]
 mod tests;
 
-use super::{MORE_PRINTED, may_have_priority};
+use super::{make_room, may_have_priority};
 use crate::message::{is_plain_time, write_timestamp};
 use crate::reading::{DASH_RULE, IncompleteDate, Variant};
 use jiff::tz::TimeZone;
-use std::alloc::{AllocError, Global};
+use std::alloc::AllocError;
 use std::fmt;
 use std::fmt::Write;
 use syslog_pieces::pri::kept_priority;
@@ -192,24 +192,24 @@ pub(crate) fn dated_line(input: &str, variant: Variant) -> Option<DatedLine<'_>>
     Some(DatedLine { front, date, tail })
 }
 
-/// The printed text of the message of the line in this year, where all but its date prints as it is written. It asks for
-/// memory once, and only for such a line.
+/// Writes the printed text of the message of the line in this year into `text`, where all but its date prints as it is
+/// written, and tells whether it did. It asks for memory only for such a line, and where `text` has too little room.
 pub(crate) fn dated_text(
-    alloc: Global,
+    text: &mut String,
     line: DatedLine<'_>,
     length: usize,
     year: Option<i32>,
     tz: Option<&TimeZone<'_>>,
     local: &TimeZone<'_>,
-) -> Result<Option<String>, AllocError>
+) -> Result<bool, AllocError>
     requires { IsUtf8 line.front.now × IsUtf8 line.tail.now }
     ensures text { (variant : Variant) (input : Text) → ShowsDated variant input (shown line.entry.front) line.entry.date (shown line.entry.tail)
-        → IfOk result (λ found. IfSome found (λ text. PrintsFreely variant (dating_of year tz.entry local.entry) input (string_bytes text))) }
+        → IfOk result (λ found. IsTrue found → PrintsFreely variant (dating_of year tz.entry local.entry) input (string_bytes text.new)) }
     ensures memory { (variant : Variant) (input : Text) → ShowsDated variant input (shown line.entry.front) line.entry.date (shown line.entry.tail)
         → IsUnreadable variant (dating_of year tz.entry local.entry) input → IsOk result }
 {
     let Some(stamp) = month_stamp(line.date, year, tz, local) else {
-        return Ok(None);
+        return Ok(false);
     };
     let found = LooseLine {
         front: line.front,
@@ -217,37 +217,37 @@ pub(crate) fn dated_text(
         tail: line.tail,
     };
     if !is_kept_behind(found.timestamp, found.tail) {
-        return Ok(None);
+        return Ok(false);
     }
-    let mut text = String::with_capacity(alloc, length.saturating_add(MORE_PRINTED))?;
+    make_room(text, length)?;
     write!(text, "{found}")?;
-    Ok(Some(text))
+    Ok(true)
 }
 
-/// The printed text of the message of the line, where the variant reads it by RFC 3164 and all but its timestamp prints
-/// as it is written. It asks for memory once, and only for such a line.
+/// Writes the printed text of the message of the line into `text`, where the variant reads it by RFC 3164 and all but its
+/// timestamp prints as it is written, and tells whether it did. It asks for memory as `dated_text` does.
 pub(crate) fn loose_text(
-    alloc: Global,
+    text: &mut String,
     input: &str,
     year: Option<i32>,
     tz: Option<&TimeZone<'_>>,
     variant: Variant,
     local: &TimeZone<'_>,
-) -> Result<Option<String>, AllocError>
-    ensures text { IfOk result (λ found. IfSome found (λ text.
-        PrintsFreely variant (dating_of year tz.entry local.entry) (chars input.entry.now) (string_bytes text))) }
+) -> Result<bool, AllocError>
+    ensures text { IfOk result (λ found. IsTrue found
+        → PrintsFreely variant (dating_of year tz.entry local.entry) (chars input.entry.now) (string_bytes text.new)) }
     ensures memory { IsUnreadable variant (dating_of year tz.entry local.entry) (chars input.entry.now) → IsOk result }
 {
     if !may_have_priority(input) {
-        return Ok(None);
+        return Ok(false);
     }
     if !reads_loosely(variant) {
-        return Ok(None);
+        return Ok(false);
     }
     let Some(line) = loose_line(trimmed(input), year, tz, local) else {
-        return Ok(None);
+        return Ok(false);
     };
-    let mut text = String::with_capacity(alloc, input.len().saturating_add(MORE_PRINTED))?;
+    make_room(text, input.len())?;
     write!(text, "{line}")?;
-    Ok(Some(text))
+    Ok(true)
 }

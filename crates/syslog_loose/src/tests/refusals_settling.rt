@@ -1,5 +1,5 @@
 //! Refused memory in rounds: see `refusals`.
-use crate::{IncompleteDate, ParseFault, Variant, settle};
+use crate::{IncompleteDate, ParseFault, Variant, settle, settle_into};
 use jiff::tz::TimeZone;
 use std::alloc::Global;
 use std::process::Abort;
@@ -45,6 +45,33 @@ fn answers_that_memory_for_a_round_was_refused_and_then_as_ever(rt: HostRuntime)
             other => other,
         };
         check_settled(&rt, answer, want);
+    }
+}
+
+fn settled_into(alloc: Global, text: &mut String, line: &str) -> Result<(), ParseFault> {
+    let utc = TimeZone::UTC;
+    settle_into(
+        alloc,
+        text,
+        line,
+        |_: IncompleteDate| 2019,
+        None,
+        Variant::Either,
+        &utc,
+    )
+}
+
+#[test]
+fn answers_line_after_line_in_one_text(rt: HostRuntime) {
+    let alloc = rt.alloc();
+    let mut text = String::new(alloc);
+    for (line, want) in SETTLED {
+        let answer = match settled_into(alloc, &mut text, line) {
+            Err(ParseFault::Memory) => settled_into(alloc, &mut text, line),
+            other => other,
+        };
+        assert_eq!(rt; answer, Ok(()));
+        assert_eq!(rt; text.as_str(), want);
     }
 }
 

@@ -6,8 +6,8 @@ use Rattle.syslog_loose.proofs.KeptLineLemmas.{line_bytes}
 use Rattle.syslog_loose.proofs.Rfc5424Lemmas.{is_read}
 use Rattle.syslog_loose.proofs.line.copied.Goals as goal
 
-pub returns-in_err-text-clause-memory : goal.returns-in_err-text-clause-memory
-returns-in_err-text-clause-memory c none =
+pub returns-in_err-make_room-clause-memory : goal.returns-in_err-make_room-clause-memory
+returns-in_err-make_room-clause-memory c none =
     let k = c.in-Some.ensures.kept in
     absurd (none _ (is_read (chars c.args.input.now) (chars c.trimmed.result.now) k.values _ c.trimmed.ensures refl k.is).division)
 
@@ -17,7 +17,7 @@ returns-in_err-write-clause-memory c none =
     absurd (none _ (is_read (chars c.args.input.now) (chars c.trimmed.result.now) k.values _ c.trimmed.ensures refl k.is).division)
 
 pub returns-clause-text : goal.returns-clause-text
-returns-clause-text c =
+returns-clause-text c found =
     let k = c.in-Some.ensures.kept in
     let u = c.in-Some.ensures.utf8 in
     let line = c.in-Some.line in

@@ -1,4 +1,4 @@
-use Rattle.std.proofs.Common.{inl}
+use Rattle.std.proofs.Common.{inl, string_bytes}
 use Rattle.std.specs.Str.{chars}
 use Rattle.syslog_loose.specs.declared.reading.Variant.TheVariants.{Either, RFC5424}
 use Rattle.syslog_loose.proofs.KeptLineLemmas.{strictly, either_way, told, no_division}
@@ -7,14 +7,14 @@ use Rattle.syslog_loose.proofs.Rfc3164Lemmas.Shown.{shows_month_date}
 use Rattle.syslog_loose.proofs.line.kept_text.Goals as goal
 
 pub returns-in-RFC5424-clause-text : goal.returns-in-RFC5424-clause-text
-returns-in-RFC5424-clause-text c = rw c.in-RFC5424.is (told RFC5424 (chars c.args.input.now) (strictly (chars c.args.input.now)) c.copied.result c.copied.ensures.text)
+returns-in-RFC5424-clause-text c = rw c.in-RFC5424.is (told RFC5424 (chars c.args.input.now) (strictly (chars c.args.input.now)) c.copied.result (string_bytes c.copied.new.text) c.copied.ensures.text)
 
 pub returns-in-RFC5424-clause-memory : goal.returns-in-RFC5424-clause-memory
 returns-in-RFC5424-clause-memory c = rw c.in-RFC5424.is (λ dating none. c.copied.ensures.memory (no_division (chars c.args.input.now) none))
 
 pub returns-in-Either-clause-text : goal.returns-in-Either-clause-text
 returns-in-Either-clause-text c =
-    rw c.in-Either.is (told Either (chars c.args.input.now) (either_way (chars c.args.input.now)) c.copied-in-Either.result c.copied-in-Either.ensures.text)
+    rw c.in-Either.is (told Either (chars c.args.input.now) (either_way (chars c.args.input.now)) c.copied-in-Either.result (string_bytes c.copied-in-Either.new.text) c.copied-in-Either.ensures.text)
 
 pub returns-in-Either-clause-memory : goal.returns-in-Either-clause-memory
 returns-in-Either-clause-memory c =

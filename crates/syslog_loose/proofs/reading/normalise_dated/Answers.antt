@@ -6,13 +6,13 @@ use Rattle.syslog_loose.specs.KeptLoose.{PrintsFreely}
 use Rattle.syslog_loose.proofs.ReadingLemmas.{invalid_or_memory, no_ok, found_text, only_read}
 use Rattle.syslog_loose.proofs.reading.normalise_dated.Goals as goal
 
-pub returns-in_err-text : goal.returns-in_err-text
-returns-in_err-text c =
+pub returns-in_err-copied : goal.returns-in_err-copied
+returns-in_err-copied c =
     let (_, e, same) = err_from_is_err_and c.from_residual.result c.from_residual.ensures.1 in
-    rw (e, same) (λ i. absurd (invalid_or_memory i), λ u. absurd (no_ok _ _ c.in_err-text.was (c.dated_text.ensures.memory _ _ c.requires.shows u)))
+    rw (e, same) (λ i. absurd (invalid_or_memory i), λ u. absurd (no_ok _ _ c.in_err-copied.was (c.dated_text.ensures.memory _ _ c.requires.shows u)))
 
-pub returns-in-Some : goal.returns-in-Some
-returns-in-Some c =
+pub returns-then-copied : goal.returns-then-copied
+returns-then-copied c =
     let dating = dating_of c.args.year c.args.tz c.args.local in
-    let k = found_text (λ t. PrintsFreely c.args.variant dating (chars c.args.input.now) (string_bytes t)) _ _ _ c.in_ok-text.was c.in-Some.is (c.dated_text.ensures.text _ _ c.requires.shows) in
+    let k = found_text (PrintsFreely c.args.variant dating (chars c.args.input.now) (string_bytes c.dated_text.new.text)) _ _ c.in_ok-copied.was c.if-copied.true (c.dated_text.ensures.text _ _ c.requires.shows) in
     (k.message, only_read c.args.variant dating (chars c.args.input.now) k.message k.read, k.prints)

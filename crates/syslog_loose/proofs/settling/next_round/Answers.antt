@@ -13,19 +13,19 @@ returns-in_err-copied c =
     let (_, e, same) = err_from_is_err_and c.from_residual.result c.from_residual.ensures.1 in
     rw (e, same) (λ i. absurd (invalid_or_memory i), λ u. absurd (no_ok _ _ c.in_err-copied.was (c.loose_text.ensures.memory u)))
 
-pub returns-in-Some : goal.returns-in-Some
-returns-in-Some c =
+pub returns-then-copied : goal.returns-then-copied
+returns-then-copied c =
     let dating = dating_of c.args.year c.args.tz c.args.local in
-    let k = found_text (λ t. PrintsFreely c.args.variant dating (chars c.args.input.now) (string_bytes t)) _ _ _ c.in_ok-copied.was c.in-Some.is c.loose_text.ensures.text in
-    told_freely _ _ _ _ (IsUtf8-string_bytes c.in-Some.copied) k
+    let k = found_text (PrintsFreely c.args.variant dating (chars c.args.input.now) (string_bytes c.loose_text.new.text)) _ _ c.in_ok-copied.was c.if-copied.true c.loose_text.ensures.text in
+    told_freely _ _ _ _ (IsUtf8-string_bytes c.loose_text.new.text) k
 
 pub returns-in_err-message : goal.returns-in_err-message
 returns-in_err-message c =
     let (_, e, same) = err_from_is_err_and c.from_residual-in_err-message.result c.from_residual-in_err-message.ensures.1 in rw (e, same) (fault_tells _ _ _ _ c.in_err-message.ensures)
 
-pub returns-in_err-text : goal.returns-in_err-text
-returns-in_err-text c =
-    let (_, e, same) = err_from_is_err_and c.from_residual-in_err-text.result c.from_residual-in_err-text.ensures.1 in rw (e, same) (memory_tells _ _ _ _ c.in_ok-message.ensures)
+pub returns-in_err-print : goal.returns-in_err-print
+returns-in_err-print c =
+    let (_, e, same) = err_from_is_err_and c.from_residual-in_err-print.result c.from_residual-in_err-print.ensures.1 in rw (e, same) (memory_tells _ _ _ _ c.in_ok-message.ensures)
 
 pub returns : goal.returns
-returns c = told_next _ _ _ _ c.in_ok-message.ensures.read _ _ (IsUtf8-string_bytes c.in_ok-text.text) c.in_ok-text.ensures c.is_at_rest-settled.ensures
+returns c = told_next _ _ _ _ c.in_ok-message.ensures.read _ _ (IsUtf8-string_bytes c.print.new.text) c.in_ok-print.ensures c.is_at_rest-settled.ensures

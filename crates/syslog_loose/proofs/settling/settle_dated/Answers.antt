@@ -8,13 +8,13 @@ use Rattle.syslog_loose.proofs.ReadingLemmas.{no_ok, found_text}
 use Rattle.syslog_loose.proofs.SettlingLemmas.Settles.{first_freely}
 use Rattle.syslog_loose.proofs.settling.settle_dated.Goals as goal
 
-pub returns-in_err-text : goal.returns-in_err-text
-returns-in_err-text c =
+pub returns-in_err-copied : goal.returns-in_err-copied
+returns-in_err-copied c =
     let (_, e, same) = err_from_is_err_and c.from_residual.result c.from_residual.ensures.1 in
-    rw (e, same) (λ u. no_ok _ _ c.in_err-text.was (c.dated_text.ensures.memory _ _ c.requires.shows u))
+    rw (e, same) (λ u. no_ok _ _ c.in_err-copied.was (c.dated_text.ensures.memory _ _ c.requires.shows u))
 
-pub returns-in-Some : goal.returns-in-Some
-returns-in-Some c =
+pub returns-then-copied : goal.returns-then-copied
+returns-then-copied c =
     let dating = dating_of c.args.year c.args.tz c.args.local in
-    let k = found_text (λ t. PrintsFreely c.args.variant dating (chars c.args.input.now) (string_bytes t)) _ _ _ c.in_ok-text.was c.in-Some.is (c.dated_text.ensures.text _ _ c.requires.shows) in
-    first_freely _ _ _ _ (IsUtf8-string_bytes c.in-Some.text) k
+    let k = found_text (PrintsFreely c.args.variant dating (chars c.args.input.now) (string_bytes c.dated_text.new.text)) _ _ c.in_ok-copied.was c.if-copied.true (c.dated_text.ensures.text _ _ c.requires.shows) in
+    first_freely _ _ _ _ (IsUtf8-string_bytes c.dated_text.new.text) k

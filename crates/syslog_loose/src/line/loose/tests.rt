@@ -2,6 +2,7 @@
 use super::{dated_line, dated_text, loose_text};
 use crate::reading::Variant;
 use jiff::tz::TimeZone;
+use std::alloc::AllocError;
 use std::test::Fail;
 
 const COPIED: [(&str, &str); 7] = [
@@ -32,30 +33,17 @@ const COPIED: [(&str, &str); 7] = [
     ),
 ];
 
+fn copies(written: &mut String, text: &str, variant: Variant) -> Result<bool, AllocError> {
+    loose_text(written, text, Some(2019), None, variant, &TimeZone::UTC)
+}
+
 #[test]
 fn copies_lines_behind_their_timestamp(rt: HostRuntime) -> Result<(), Fail> {
+    let mut written = String::from_str(rt.alloc(), "what was there")?;
     for (text, printed) in COPIED {
-        let found = loose_text(
-            rt.alloc(),
-            text,
-            Some(2019),
-            None,
-            Variant::Either,
-            &TimeZone::UTC,
-        )?;
-        match found {
-            Some(found) => assert_eq!(rt; found.as_str(), printed),
-            None => assert!(rt; false, "{text}"),
-        }
-        let none = loose_text(
-            rt.alloc(),
-            text,
-            Some(2019),
-            None,
-            Variant::RFC5424,
-            &TimeZone::UTC,
-        )?;
-        assert!(rt; none.is_none());
+        assert!(rt; copies(&mut written, text, Variant::Either)?, "{text}");
+        assert_eq!(rt; written.as_str(), printed);
+        assert!(rt; !copies(&mut written, text, Variant::RFC5424)?);
     }
     Ok(())
 }
@@ -77,23 +65,23 @@ const DATED: [(&str, &str); 3] = [
 
 #[test]
 fn cuts_lines_round_their_date(rt: HostRuntime) -> Result<(), Fail> {
+    let mut written = String::new(rt.alloc());
     for (text, printed) in DATED {
         assert!(rt; dated_line(text, Variant::RFC5424).is_none());
         let Some(line) = dated_line(text, Variant::Either) else {
             assert!(rt; false, "{text}");
             return Ok(());
         };
-        match dated_text(
-            rt.alloc(),
+        let is_copied = dated_text(
+            &mut written,
             line,
             text.len(),
             Some(2019),
             None,
             &TimeZone::UTC,
-        )? {
-            Some(found) => assert_eq!(rt; found.as_str(), printed),
-            None => assert!(rt; false, "{text}"),
-        }
+        )?;
+        assert!(rt; is_copied, "{text}");
+        assert_eq!(rt; written.as_str(), printed);
     }
     Ok(())
 }
@@ -125,16 +113,9 @@ const OTHERS: [&str; 21] = [
 
 #[test]
 fn leaves_other_lines(rt: HostRuntime) -> Result<(), Fail> {
+    let mut written = String::new(rt.alloc());
     for text in OTHERS {
-        let found = loose_text(
-            rt.alloc(),
-            text,
-            Some(2019),
-            None,
-            Variant::Either,
-            &TimeZone::UTC,
-        )?;
-        assert!(rt; found.is_none(), "{text}");
+        assert!(rt; !copies(&mut written, text, Variant::Either)?, "{text}");
     }
     Ok(())
 }

@@ -6,14 +6,14 @@ use Rattle.syslog_loose.specs.Printed.{timestamp_text}
 use Rattle.syslog_loose.proofs.KeptLooseLemmas.{readable, freely, loose_bytes, dated_kept}
 use Rattle.syslog_loose.proofs.line.loose.dated_text.Goals as goal
 
-pub returns-in_err-text-clause-memory : goal.returns-in_err-text-clause-memory
-returns-in_err-text-clause-memory c variant input shows none = absurd (none _ (readable variant _ input _ _ _ _ shows.reads refl (dated_kept _ variant input _ _ _ _ shows c.in-Some.ensures (c.if-not-is_kept_behind.ensures refl))))
+pub returns-in_err-make_room-clause-memory : goal.returns-in_err-make_room-clause-memory
+returns-in_err-make_room-clause-memory c variant input shows none = absurd (none _ (readable variant _ input _ _ _ _ shows.reads refl (dated_kept _ variant input _ _ _ _ shows c.in-Some.ensures (c.if-not-is_kept_behind.ensures refl))))
 
 pub returns-in_err-write-clause-memory : goal.returns-in_err-write-clause-memory
 returns-in_err-write-clause-memory c variant input shows none = absurd (none _ (readable variant _ input _ _ _ _ shows.reads refl (dated_kept _ variant input _ _ _ _ shows c.in-Some.ensures (c.if-not-is_kept_behind.ensures refl))))
 
 pub returns-clause-text : goal.returns-clause-text
-returns-clause-text c variant input shows =
+returns-clause-text c variant input shows found =
     let line = c.args.line in
     let dating = dating_of c.args.year c.args.tz c.args.local in
     let stamp = c.in-Some.stamp in

@@ -5,14 +5,14 @@ use Rattle.syslog_loose.specs.Printed.{timestamp_text}
 use Rattle.syslog_loose.proofs.KeptLooseLemmas.{readable, freely, loose_bytes}
 use Rattle.syslog_loose.proofs.line.loose.loose_text.Goals as goal
 
-pub returns-in_err-text-clause-memory : goal.returns-in_err-text-clause-memory
-returns-in_err-text-clause-memory c none = absurd (none _ (readable _ _ _ _ _ _ _ (c.if-not-reads_loosely.ensures refl) c.trimmed.ensures c.in-Some.ensures.kept))
+pub returns-in_err-make_room-clause-memory : goal.returns-in_err-make_room-clause-memory
+returns-in_err-make_room-clause-memory c none = absurd (none _ (readable _ _ _ _ _ _ _ (c.if-not-reads_loosely.ensures refl) c.trimmed.ensures c.in-Some.ensures.kept))
 
 pub returns-in_err-write-clause-memory : goal.returns-in_err-write-clause-memory
 returns-in_err-write-clause-memory c none = absurd (none _ (readable _ _ _ _ _ _ _ (c.if-not-reads_loosely.ensures refl) c.trimmed.ensures c.in-Some.ensures.kept))
 
 pub returns-clause-text : goal.returns-clause-text
-returns-clause-text c =
+returns-clause-text c found =
     let u = c.in-Some.ensures.utf8 in
     let line = c.in-Some.line in
     let written : string_bytes c.write.new.self ≡ line.front.now ++ ((32 ∷ encode_utf8_all (timestamp_text line.timestamp)) ++ line.tail.now) = search rules in

@@ -14,7 +14,7 @@ returns-in_err-push_line-in-Ok-clause-refusal c =
 pub returns-in_ok-push_line-in-Ok-clause-ok : goal.returns-in_ok-push_line-in-Ok-clause-ok
 returns-in_ok-push_line-in-Ok-clause-ok c =
     let fits : SFits w32 c.args.self.now.year = search rules in
-    AddsAnswer-tidied c.args.self.now.year _ (chars c.args.line.now) _ _ _ (to_z-of_z _ _ fits) (IsUtf8-string_bytes c.in-Ok.text) c.in-Ok.ensures.settles (rw c.as_str.ensures.value at c.in_ok-push_line-in-Ok.ensures.ok)
+    AddsAnswer-tidied c.args.self.now.year _ (chars c.args.line.now) _ _ _ (to_z-of_z _ _ fits) (IsUtf8-string_bytes c.settle_line.new.text) c.in-Ok.ensures.settles (rw c.as_str.ensures.value at c.in_ok-push_line-in-Ok.ensures.ok)
 
 pub returns-in-Err-Invalid-clause-ok : goal.returns-in-Err-Invalid-clause-ok
 returns-in-Err-Invalid-clause-ok c =
