@@ -1,5 +1,5 @@
 -- Lines that print as they are written, put together from their pieces.
-use Rattle.std.proofs.Common.{◌≡◌, ℕ, ◌+◌, ◌*◌, ◌<◌, List, [], ◌∷◌, ◌++◌, Bool, Option, Some, None, Result, Ok, Err, inl, refl, sym, ap, ap₂, ◌∙◌, append_assoc}
+use Rattle.std.proofs.Common.{◌≡◌, ℕ, ◌+◌, ◌*◌, ◌<◌, List, [], ◌∷◌, ◌++◌, Bool, Option, Some, Result, Ok, Err, inl, refl, sym, ap, ap₂, ◌∙◌, append_assoc}
 use Rattle.std.proofs.lemmas.List.{append_cancel_right}
 use Rattle.std.proofs.lemmas.Str.{encodes-append, encodes-chars}
 use Rattle.std.specs.Char.{encode_utf8}
@@ -28,7 +28,6 @@ use Rattle.syslog_loose.specs.Message.{MessageValue}
 use Rattle.syslog_loose.specs.Printed.{printed, printed_5424, timestamp_text}
 use Rattle.syslog_loose.specs.Rfc5424.{message_of, IsRead5424, IsNot5424}
 use Rattle.std.specs.Prelude.{IfOk, IsTrue}
-use Rattle.std.specs.Global.{Global}
 use Rattle.std.specs.declared.alloc.AllocError.{AllocError}
 use Rattle.syslog_loose.specs.declared.reading.Variant.{Variant}
 use Rattle.syslog_loose.specs.declared.reading.Variant.TheVariants.{Either, RFC5424}
