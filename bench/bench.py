@@ -192,14 +192,14 @@ def shown(times):
 
 def time_hostile(filters, chosen, folder):
     print("\nMilliseconds for one hostile line of each size, and in brackets the growth at each doubling:\n")
-    head("line", "program", *["%d KB" % size for size in corpora.HOSTILE_SIZES])
+    called = ["ours", "peer's"][: len(filters)]
+    head("line", *["%s, %d KB" % (it, size) for it in called for size in corpora.HOSTILE_SIZES])
     for name, maker in corpora.HOSTILE:
         if chosen.only not in "hostile_" + name:
             continue
         lines = [maker(size * 1024) for size in corpora.HOSTILE_SIZES]
         times = [seconds_each(filters, line, folder, chosen.runs) for line in lines]
-        for called, its_times in zip(["ours", "peer"], zip(*times)):
-            row(name, called, *shown(its_times))
+        row(name, *[cell for its_times in zip(*times) for cell in shown(its_times)])
 
 
 def count_corpora(filters, chosen):

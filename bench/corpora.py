@@ -31,7 +31,7 @@ MONTHS = ["Jan", "Feb", "Mar", "Apr", "May", "Jun", "Jul", "Aug", "Sep", "Oct", 
 OFFSETS = ["Z", "Z", "Z", "+00:00", "+01:00", "-05:00", "+05:30"]
 FRACTIONS = [0, 3, 3, 6, 6, 9]
 
-HOSTILE_SIZES = [16, 32, 64, 128]
+HOSTILE_SIZES = [32, 64, 128]
 HEADER = "1 - - - - - "
 HEADER_3164 = "- host app: "
 

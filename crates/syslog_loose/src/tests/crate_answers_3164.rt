@@ -3,37 +3,29 @@
 //! How it was made: the crate, built by rustc 1.95, read each text under its variant RFC3164 with UTC as both zones and
 //! 2019 as the year; its fields and its printed text were written down here, and are not made anew. There a dash is a list
 //! before anything; the texts that are read otherwise here for that stand in a test of their own.
-use super::expected::{Process, check_elements, check_invalid, check_timestamp, process_of, read};
+use super::expected::{
+    Worked, check_elements, check_invalid, check_timestamp, process_of, read, row_of,
+};
 use crate::{Protocol, Variant};
 use std::alloc::Global;
 use std::process::Abort;
 use std::test::Fail;
 
-/// A text and its message; priority and message id are seen in the printed text.
-struct Row<'a> {
-    text: &'a str,
-    timestamp: Option<&'a str>,
-    hostname: Option<&'a str>,
-    appname: Option<&'a str>,
-    process: Process<'a>,
-    elements: &'a str,
-    msg: &'a str,
-    printed: &'a str,
-}
-
-fn check(rt: &impl Abort, alloc: Global, rows: &[Row]) -> Result<(), Fail> {
+/// Each text reads as its message; priority and message id are seen in the printed text.
+fn check(rt: &impl Abort, alloc: Global, rows: &[&str]) -> Result<(), Fail> {
     for row in rows {
-        let message = read(alloc, row.text, Variant::RFC3164)?;
+        let Worked { text, want, .. } = row_of(rt, row);
+        let message = read(alloc, text, Variant::RFC3164)?;
         assert_eq!(rt; message.protocol, Protocol::RFC3164);
-        check_timestamp(rt, alloc, &message, row.timestamp)?;
-        assert_eq!(rt; message.hostname, row.hostname);
-        assert_eq!(rt; message.appname, row.appname);
-        assert_eq!(rt; process_of(&message.procid), row.process);
+        check_timestamp(rt, alloc, &message, want.timestamp)?;
+        assert_eq!(rt; message.hostname, want.hostname);
+        assert_eq!(rt; message.appname, want.appname);
+        assert_eq!(rt; process_of(&message.procid), want.process);
         assert_eq!(rt; message.msgid, None);
-        check_elements(rt, &message.structured_data, row.elements);
-        assert_eq!(rt; message.msg, row.msg);
+        check_elements(rt, &message.structured_data, want.elements);
+        assert_eq!(rt; message.msg, want.msg);
         let printed = format!(in alloc; "{message}")?;
-        assert_eq!(rt; printed.as_str(), row.printed);
+        assert_eq!(rt; printed.as_str(), want.printed);
     }
     Ok(())
 }
@@ -44,206 +36,66 @@ fn agrees_on_names(rt: HostRuntime) -> Result<(), Fail> {
         &rt,
         rt.alloc(),
         &[
-            Row {
-                text: "<189>Oct 11 22:14:15 router1 %LINK-3-UPDOWN: Interface GigabitEthernet0/1, changed state to up",
-                timestamp: Some("2019-10-11T22:14:15+00:00"),
-                hostname: Some("router1"),
-                appname: Some("%LINK-3-UPDOWN"),
-                process: Process::Absent,
-                elements: "",
-                msg: "Interface GigabitEthernet0/1, changed state to up",
-                printed: "<189> 2019-10-11T22:14:15+00:00 router1 %LINK-3-UPDOWN: Interface GigabitEthernet0/1, changed state to up",
-            },
-            Row {
-                text: "<166>Oct 11 2019 22:14:15 fw1 : %ASA-6-302013: Built inbound TCP connection 12 for outside:10.1.2.3/443",
-                timestamp: Some("2019-10-11T22:14:15+00:00"),
-                hostname: Some("fw1"),
-                appname: None,
-                process: Process::Absent,
-                elements: "",
-                msg: "%ASA-6-302013: Built inbound TCP connection 12 for outside:10.1.2.3/443",
-                printed: "<166> 2019-10-11T22:14:15+00:00 fw1 : %ASA-6-302013: Built inbound TCP connection 12 for outside:10.1.2.3/443",
-            },
-            Row {
-                text: "<166>Oct 11 2019 22:14:15: %ASA-6-302013: Built inbound TCP connection 12",
-                timestamp: Some("2019-10-11T22:14:15+00:00"),
-                hostname: Some("%ASA-6-302013"),
-                appname: None,
-                process: Process::Absent,
-                elements: "",
-                msg: "Built inbound TCP connection 12",
-                printed: "<166> 2019-10-11T22:14:15+00:00 %ASA-6-302013 : Built inbound TCP connection 12",
-            },
-            Row {
-                text: "<189>Oct 11 22:14:15 10.1.2.3 45: *Oct 11 22:14:14.123: %SYS-5-CONFIG_I: Configured from console",
-                timestamp: Some("2019-10-11T22:14:15+00:00"),
-                hostname: Some("10.1.2.3"),
-                appname: Some("45"),
-                process: Process::Absent,
-                elements: "",
-                msg: "*Oct 11 22:14:14.123: %SYS-5-CONFIG_I: Configured from console",
-                printed: "<189> 2019-10-11T22:14:15+00:00 10.1.2.3 45: *Oct 11 22:14:14.123: %SYS-5-CONFIG_I: Configured from console",
-            },
-            Row {
-                text: "<34>Oct 11 22:14:15 ::1 sshd[42]: Accepted publickey for deploy",
-                timestamp: Some("2019-10-11T22:14:15+00:00"),
-                hostname: Some("::1"),
-                appname: Some("sshd"),
-                process: Process::Number(42),
-                elements: "",
-                msg: "Accepted publickey for deploy",
-                printed: "<34> 2019-10-11T22:14:15+00:00 ::1 sshd[42]: Accepted publickey for deploy",
-            },
-            Row {
-                text: "<34>Oct 11 22:14:15 2001:db8::8a2e:370:7334 su: 'su root' failed",
-                timestamp: Some("2019-10-11T22:14:15+00:00"),
-                hostname: Some("2001:db8::8a2e:370:7334"),
-                appname: Some("su"),
-                process: Process::Absent,
-                elements: "",
-                msg: "'su root' failed",
-                printed: "<34> 2019-10-11T22:14:15+00:00 2001:db8::8a2e:370:7334 su: 'su root' failed",
-            },
-            Row {
-                text: "<34>Oct 11 22:14:15 fe80::1%eth0: link up",
-                timestamp: Some("2019-10-11T22:14:15+00:00"),
-                hostname: Some("fe80::1%eth0"),
-                appname: None,
-                process: Process::Absent,
-                elements: "",
-                msg: "link up",
-                printed: "<34> 2019-10-11T22:14:15+00:00 fe80::1%eth0 : link up",
-            },
-            Row {
-                text: "<34>Oct 11 22:14:15 host:: odd",
-                timestamp: Some("2019-10-11T22:14:15+00:00"),
-                hostname: Some("host:"),
-                appname: None,
-                process: Process::Absent,
-                elements: "",
-                msg: "odd",
-                printed: "<34> 2019-10-11T22:14:15+00:00 host: : odd",
-            },
-            Row {
-                text: "<34>Oct 11 22:14:15 host app[12][34]: two brackets",
-                timestamp: Some("2019-10-11T22:14:15+00:00"),
-                hostname: Some("host"),
-                appname: Some("app[12][34]"),
-                process: Process::Absent,
-                elements: "",
-                msg: "two brackets",
-                printed: "<34> 2019-10-11T22:14:15+00:00 host app[12][34]: two brackets",
-            },
-            Row {
-                text: "<34>Oct 11 22:14:15 host app[]: empty id",
-                timestamp: Some("2019-10-11T22:14:15+00:00"),
-                hostname: Some("host"),
-                appname: Some("app[]"),
-                process: Process::Absent,
-                elements: "",
-                msg: "empty id",
-                printed: "<34> 2019-10-11T22:14:15+00:00 host app[]: empty id",
-            },
-            Row {
-                text: "<34>Oct 11 22:14:15 host app[12]x: behind the bracket",
-                timestamp: Some("2019-10-11T22:14:15+00:00"),
-                hostname: Some("host"),
-                appname: Some("app[12]x"),
-                process: Process::Absent,
-                elements: "",
-                msg: "behind the bracket",
-                printed: "<34> 2019-10-11T22:14:15+00:00 host app[12]x: behind the bracket",
-            },
-            Row {
-                text: "<34>Oct 11 22:14:15 host app[12: never closed",
-                timestamp: Some("2019-10-11T22:14:15+00:00"),
-                hostname: Some("host"),
-                appname: Some("app[12"),
-                process: Process::Absent,
-                elements: "",
-                msg: "never closed",
-                printed: "<34> 2019-10-11T22:14:15+00:00 host app[12: never closed",
-            },
-            Row {
-                text: "<34>Oct 11 22:14:15 host [12]: no tag",
-                timestamp: Some("2019-10-11T22:14:15+00:00"),
-                hostname: Some("host"),
-                appname: Some(""),
-                process: Process::Number(12),
-                elements: "",
-                msg: "no tag",
-                printed: "<34> 2019-10-11T22:14:15+00:00 host [12]: no tag",
-            },
-            Row {
-                text: "<34>Oct 11 22:14:15 host app[a b]: a blank inside",
-                timestamp: Some("2019-10-11T22:14:15+00:00"),
-                hostname: Some("host"),
-                appname: Some("app[a"),
-                process: Process::Absent,
-                elements: "",
-                msg: "b]: a blank inside",
-                printed: "<34> 2019-10-11T22:14:15+00:00 host app[a: b]: a blank inside",
-            },
-            Row {
-                text: "<34>Oct 11 22:14:15 host app[-5]: below zero",
-                timestamp: Some("2019-10-11T22:14:15+00:00"),
-                hostname: Some("host"),
-                appname: Some("app"),
-                process: Process::Number(-5),
-                elements: "",
-                msg: "below zero",
-                printed: "<34> 2019-10-11T22:14:15+00:00 host app[-5]: below zero",
-            },
-            Row {
-                text: "<34>Oct 11 22:14:15 host app[+5]: a sign",
-                timestamp: Some("2019-10-11T22:14:15+00:00"),
-                hostname: Some("host"),
-                appname: Some("app"),
-                process: Process::Number(5),
-                elements: "",
-                msg: "a sign",
-                printed: "<34> 2019-10-11T22:14:15+00:00 host app[5]: a sign",
-            },
-            Row {
-                text: "<34>Oct 11 22:14:15 host app[2147483648]: too large",
-                timestamp: Some("2019-10-11T22:14:15+00:00"),
-                hostname: Some("host"),
-                appname: Some("app"),
-                process: Process::Name("2147483648"),
-                elements: "",
-                msg: "too large",
-                printed: "<34> 2019-10-11T22:14:15+00:00 host app[2147483648]: too large",
-            },
-            Row {
-                text: "<34>Oct 11 22:14:15 host app[007]: zeros",
-                timestamp: Some("2019-10-11T22:14:15+00:00"),
-                hostname: Some("host"),
-                appname: Some("app"),
-                process: Process::Number(7),
-                elements: "",
-                msg: "zeros",
-                printed: "<34> 2019-10-11T22:14:15+00:00 host app[7]: zeros",
-            },
-            Row {
-                text: "<34>Oct 11 22:14:15 [12]: a lone form",
-                timestamp: Some("2019-10-11T22:14:15+00:00"),
-                hostname: None,
-                appname: Some(""),
-                process: Process::Number(12),
-                elements: "",
-                msg: "a lone form",
-                printed: "<34> 2019-10-11T22:14:15+00:00 - [12]: a lone form",
-            },
-            Row {
-                text: "<34>Oct 11 22:14:15 host[1]: a lone form with a tag",
-                timestamp: Some("2019-10-11T22:14:15+00:00"),
-                hostname: None,
-                appname: Some("host"),
-                process: Process::Number(1),
-                elements: "",
-                msg: "a lone form with a tag",
-                printed: "<34> 2019-10-11T22:14:15+00:00 - host[1]: a lone form with a tag",
-            },
+            "<189>Oct 11 22:14:15 router1 %LINK-3-UPDOWN: Interface GigabitEthernet0/1, changed state to up\
+             ¦at 2019-10-11T22:14:15+00:00¦host router1¦app %LINK-3-UPDOWN¦msg Interface GigabitEthernet0/1, changed state to up\
+             ¦prints <189> 2019-10-11T22:14:15+00:00 router1 %LINK-3-UPDOWN: Interface GigabitEthernet0/1, changed state to up",
+            "<166>Oct 11 2019 22:14:15 fw1 : %ASA-6-302013: Built inbound TCP connection 12 for outside:10.1.2.3/443\
+             ¦at 2019-10-11T22:14:15+00:00¦host fw1¦msg %ASA-6-302013: Built inbound TCP connection 12 for outside:10.1.2.3/443\
+             ¦prints <166> 2019-10-11T22:14:15+00:00 fw1 : %ASA-6-302013: Built inbound TCP connection 12 for outside:10.1.2.3/443",
+            "<166>Oct 11 2019 22:14:15: %ASA-6-302013: Built inbound TCP connection 12\
+             ¦at 2019-10-11T22:14:15+00:00¦host %ASA-6-302013¦msg Built inbound TCP connection 12\
+             ¦prints <166> 2019-10-11T22:14:15+00:00 %ASA-6-302013 : Built inbound TCP connection 12",
+            "<189>Oct 11 22:14:15 10.1.2.3 45: *Oct 11 22:14:14.123: %SYS-5-CONFIG_I: Configured from console\
+             ¦at 2019-10-11T22:14:15+00:00¦host 10.1.2.3¦app 45¦msg *Oct 11 22:14:14.123: %SYS-5-CONFIG_I: Configured from console\
+             ¦prints <189> 2019-10-11T22:14:15+00:00 10.1.2.3 45: *Oct 11 22:14:14.123: %SYS-5-CONFIG_I: Configured from console",
+            "<34>Oct 11 22:14:15 ::1 sshd[42]: Accepted publickey for deploy\
+             ¦at 2019-10-11T22:14:15+00:00¦host ::1¦app sshd¦pid 42¦msg Accepted publickey for deploy\
+             ¦prints <34> 2019-10-11T22:14:15+00:00 ::1 sshd[42]: Accepted publickey for deploy",
+            "<34>Oct 11 22:14:15 2001:db8::8a2e:370:7334 su: 'su root' failed\
+             ¦at 2019-10-11T22:14:15+00:00¦host 2001:db8::8a2e:370:7334¦app su¦msg 'su root' failed\
+             ¦prints <34> 2019-10-11T22:14:15+00:00 2001:db8::8a2e:370:7334 su: 'su root' failed",
+            "<34>Oct 11 22:14:15 fe80::1%eth0: link up\
+             ¦at 2019-10-11T22:14:15+00:00¦host fe80::1%eth0¦msg link up\
+             ¦prints <34> 2019-10-11T22:14:15+00:00 fe80::1%eth0 : link up",
+            "<34>Oct 11 22:14:15 host:: odd\
+             ¦at 2019-10-11T22:14:15+00:00¦host host:¦msg odd\
+             ¦prints <34> 2019-10-11T22:14:15+00:00 host: : odd",
+            "<34>Oct 11 22:14:15 host app[12][34]: two brackets\
+             ¦at 2019-10-11T22:14:15+00:00¦host host¦app app[12][34]¦msg two brackets\
+             ¦prints <34> 2019-10-11T22:14:15+00:00 host app[12][34]: two brackets",
+            "<34>Oct 11 22:14:15 host app[]: empty id\
+             ¦at 2019-10-11T22:14:15+00:00¦host host¦app app[]¦msg empty id\
+             ¦prints <34> 2019-10-11T22:14:15+00:00 host app[]: empty id",
+            "<34>Oct 11 22:14:15 host app[12]x: behind the bracket\
+             ¦at 2019-10-11T22:14:15+00:00¦host host¦app app[12]x¦msg behind the bracket\
+             ¦prints <34> 2019-10-11T22:14:15+00:00 host app[12]x: behind the bracket",
+            "<34>Oct 11 22:14:15 host app[12: never closed\
+             ¦at 2019-10-11T22:14:15+00:00¦host host¦app app[12¦msg never closed\
+             ¦prints <34> 2019-10-11T22:14:15+00:00 host app[12: never closed",
+            "<34>Oct 11 22:14:15 host [12]: no tag\
+             ¦at 2019-10-11T22:14:15+00:00¦host host¦app ¦pid 12¦msg no tag\
+             ¦prints <34> 2019-10-11T22:14:15+00:00 host [12]: no tag",
+            "<34>Oct 11 22:14:15 host app[a b]: a blank inside\
+             ¦at 2019-10-11T22:14:15+00:00¦host host¦app app[a¦msg b]: a blank inside\
+             ¦prints <34> 2019-10-11T22:14:15+00:00 host app[a: b]: a blank inside",
+            "<34>Oct 11 22:14:15 host app[-5]: below zero\
+             ¦at 2019-10-11T22:14:15+00:00¦host host¦app app¦pid -5¦msg below zero\
+             ¦prints <34> 2019-10-11T22:14:15+00:00 host app[-5]: below zero",
+            "<34>Oct 11 22:14:15 host app[+5]: a sign\
+             ¦at 2019-10-11T22:14:15+00:00¦host host¦app app¦pid 5¦msg a sign\
+             ¦prints <34> 2019-10-11T22:14:15+00:00 host app[5]: a sign",
+            "<34>Oct 11 22:14:15 host app[2147483648]: too large\
+             ¦at 2019-10-11T22:14:15+00:00¦host host¦app app¦name 2147483648¦msg too large\
+             ¦prints <34> 2019-10-11T22:14:15+00:00 host app[2147483648]: too large",
+            "<34>Oct 11 22:14:15 host app[007]: zeros\
+             ¦at 2019-10-11T22:14:15+00:00¦host host¦app app¦pid 7¦msg zeros\
+             ¦prints <34> 2019-10-11T22:14:15+00:00 host app[7]: zeros",
+            "<34>Oct 11 22:14:15 [12]: a lone form\
+             ¦at 2019-10-11T22:14:15+00:00¦app ¦pid 12¦msg a lone form\
+             ¦prints <34> 2019-10-11T22:14:15+00:00 - [12]: a lone form",
+            "<34>Oct 11 22:14:15 host[1]: a lone form with a tag\
+             ¦at 2019-10-11T22:14:15+00:00¦app host¦pid 1¦msg a lone form with a tag\
+             ¦prints <34> 2019-10-11T22:14:15+00:00 - host[1]: a lone form with a tag",
         ],
     )
 }
@@ -254,166 +106,54 @@ fn agrees_on_blanks(rt: HostRuntime) -> Result<(), Fail> {
         &rt,
         rt.alloc(),
         &[
-            Row {
-                text: "<34>Oct 11 22:14:15 host  two blanks",
-                timestamp: Some("2019-10-11T22:14:15+00:00"),
-                hostname: Some("host"),
-                appname: None,
-                process: Process::Absent,
-                elements: "",
-                msg: "two blanks",
-                printed: "<34> 2019-10-11T22:14:15+00:00 host : two blanks",
-            },
-            Row {
-                text: "<34>Oct 11 22:14:15  two blanks before the host",
-                timestamp: Some("2019-10-11T22:14:15+00:00"),
-                hostname: None,
-                appname: None,
-                process: Process::Absent,
-                elements: "",
-                msg: "two blanks before the host",
-                printed: "<34> 2019-10-11T22:14:15+00:00 - : two blanks before the host",
-            },
-            Row {
-                text: "<34>Oct 11 22:14:15\thost app: a tab before the host",
-                timestamp: Some("2019-10-11T22:14:15+00:00"),
-                hostname: None,
-                appname: None,
-                process: Process::Absent,
-                elements: "",
-                msg: "host app: a tab before the host",
-                printed: "<34> 2019-10-11T22:14:15+00:00 - : host app: a tab before the host",
-            },
-            Row {
-                text: "<34>Oct 11 22:14:15 host\tapp: a tab behind the host",
-                timestamp: Some("2019-10-11T22:14:15+00:00"),
-                hostname: Some("host"),
-                appname: None,
-                process: Process::Absent,
-                elements: "",
-                msg: "app: a tab behind the host",
-                printed: "<34> 2019-10-11T22:14:15+00:00 host : app: a tab behind the host",
-            },
-            Row {
-                text: "<34>Oct\t11\t22:14:15 host app: tabs in the date",
-                timestamp: Some("2019-10-11T22:14:15+00:00"),
-                hostname: Some("host"),
-                appname: Some("app"),
-                process: Process::Absent,
-                elements: "",
-                msg: "tabs in the date",
-                printed: "<34> 2019-10-11T22:14:15+00:00 host app: tabs in the date",
-            },
-            Row {
-                text: "<34>oCT 11 22:14:15: host app: a colon behind the date",
-                timestamp: Some("2019-10-11T22:14:15+00:00"),
-                hostname: Some("host"),
-                appname: Some("app"),
-                process: Process::Absent,
-                elements: "",
-                msg: "a colon behind the date",
-                printed: "<34> 2019-10-11T22:14:15+00:00 host app: a colon behind the date",
-            },
-            Row {
-                text: "<34> \t Oct 11 22:14:15 host app: blanks behind the priority",
-                timestamp: Some("2019-10-11T22:14:15+00:00"),
-                hostname: Some("host"),
-                appname: Some("app"),
-                process: Process::Absent,
-                elements: "",
-                msg: "blanks behind the priority",
-                printed: "<34> 2019-10-11T22:14:15+00:00 host app: blanks behind the priority",
-            },
-            Row {
-                text: "<34>Oct 11 22:14:15 host app : a blank before the colon",
-                timestamp: Some("2019-10-11T22:14:15+00:00"),
-                hostname: Some("host"),
-                appname: Some("app"),
-                process: Process::Absent,
-                elements: "",
-                msg: "a blank before the colon",
-                printed: "<34> 2019-10-11T22:14:15+00:00 host app: a blank before the colon",
-            },
-            Row {
-                text: "<34>Oct 11 22:14:15 host app :: two colons",
-                timestamp: Some("2019-10-11T22:14:15+00:00"),
-                hostname: Some("host"),
-                appname: Some("app"),
-                process: Process::Absent,
-                elements: "",
-                msg: ": two colons",
-                printed: "<34> 2019-10-11T22:14:15+00:00 host app: : two colons",
-            },
-            Row {
-                text: "<34>Oct 11 22:14:15 host app:no blank behind the colon",
-                timestamp: Some("2019-10-11T22:14:15+00:00"),
-                hostname: Some("host"),
-                appname: Some("app"),
-                process: Process::Absent,
-                elements: "",
-                msg: "no blank behind the colon",
-                printed: "<34> 2019-10-11T22:14:15+00:00 host app: no blank behind the colon",
-            },
-            Row {
-                text: "<34>Oct 11 22:14:15 host app:\t \ttabs behind the colon",
-                timestamp: Some("2019-10-11T22:14:15+00:00"),
-                hostname: Some("host"),
-                appname: Some("app"),
-                process: Process::Absent,
-                elements: "",
-                msg: "tabs behind the colon",
-                printed: "<34> 2019-10-11T22:14:15+00:00 host app: tabs behind the colon",
-            },
-            Row {
-                text: "<34>Oct 11 22:14:15 host app:\u{a0}a no-break space",
-                timestamp: Some("2019-10-11T22:14:15+00:00"),
-                hostname: Some("host"),
-                appname: Some("app"),
-                process: Process::Absent,
-                elements: "",
-                msg: "\u{a0}a no-break space",
-                printed: "<34> 2019-10-11T22:14:15+00:00 host app: \u{a0}a no-break space",
-            },
-            Row {
-                text: "<34>Oct 11 22:14:15 host\u{a0}app: a no-break space behind the host",
-                timestamp: Some("2019-10-11T22:14:15+00:00"),
-                hostname: Some("host"),
-                appname: None,
-                process: Process::Absent,
-                elements: "",
-                msg: "\u{a0}app: a no-break space behind the host",
-                printed: "<34> 2019-10-11T22:14:15+00:00 host : \u{a0}app: a no-break space behind the host",
-            },
-            Row {
-                text: "<34>Oct 11 22:14:15 host - a dash for a message",
-                timestamp: Some("2019-10-11T22:14:15+00:00"),
-                hostname: None,
-                appname: None,
-                process: Process::Absent,
-                elements: "",
-                msg: "a dash for a message",
-                printed: "<34> 2019-10-11T22:14:15+00:00 - : a dash for a message",
-            },
-            Row {
-                text: "<34>Oct 11 22:14:15 host app: - a list",
-                timestamp: Some("2019-10-11T22:14:15+00:00"),
-                hostname: Some("host"),
-                appname: Some("app"),
-                process: Process::Absent,
-                elements: "",
-                msg: "a list",
-                printed: "<34> 2019-10-11T22:14:15+00:00 host app: a list",
-            },
-            Row {
-                text: "<34>Oct 11 22:14:15 - - -",
-                timestamp: Some("2019-10-11T22:14:15+00:00"),
-                hostname: None,
-                appname: None,
-                process: Process::Absent,
-                elements: "",
-                msg: "",
-                printed: "<34> 2019-10-11T22:14:15+00:00 - : ",
-            },
+            "<34>Oct 11 22:14:15 host  two blanks\
+             ¦at 2019-10-11T22:14:15+00:00¦host host¦msg two blanks\
+             ¦prints <34> 2019-10-11T22:14:15+00:00 host : two blanks",
+            "<34>Oct 11 22:14:15  two blanks before the host\
+             ¦at 2019-10-11T22:14:15+00:00¦msg two blanks before the host\
+             ¦prints <34> 2019-10-11T22:14:15+00:00 - : two blanks before the host",
+            "<34>Oct 11 22:14:15\thost app: a tab before the host\
+             ¦at 2019-10-11T22:14:15+00:00¦msg host app: a tab before the host\
+             ¦prints <34> 2019-10-11T22:14:15+00:00 - : host app: a tab before the host",
+            "<34>Oct 11 22:14:15 host\tapp: a tab behind the host\
+             ¦at 2019-10-11T22:14:15+00:00¦host host¦msg app: a tab behind the host\
+             ¦prints <34> 2019-10-11T22:14:15+00:00 host : app: a tab behind the host",
+            "<34>Oct\t11\t22:14:15 host app: tabs in the date\
+             ¦at 2019-10-11T22:14:15+00:00¦host host¦app app¦msg tabs in the date\
+             ¦prints <34> 2019-10-11T22:14:15+00:00 host app: tabs in the date",
+            "<34>oCT 11 22:14:15: host app: a colon behind the date\
+             ¦at 2019-10-11T22:14:15+00:00¦host host¦app app¦msg a colon behind the date\
+             ¦prints <34> 2019-10-11T22:14:15+00:00 host app: a colon behind the date",
+            "<34> \t Oct 11 22:14:15 host app: blanks behind the priority\
+             ¦at 2019-10-11T22:14:15+00:00¦host host¦app app¦msg blanks behind the priority\
+             ¦prints <34> 2019-10-11T22:14:15+00:00 host app: blanks behind the priority",
+            "<34>Oct 11 22:14:15 host app : a blank before the colon\
+             ¦at 2019-10-11T22:14:15+00:00¦host host¦app app¦msg a blank before the colon\
+             ¦prints <34> 2019-10-11T22:14:15+00:00 host app: a blank before the colon",
+            "<34>Oct 11 22:14:15 host app :: two colons\
+             ¦at 2019-10-11T22:14:15+00:00¦host host¦app app¦msg : two colons\
+             ¦prints <34> 2019-10-11T22:14:15+00:00 host app: : two colons",
+            "<34>Oct 11 22:14:15 host app:no blank behind the colon\
+             ¦at 2019-10-11T22:14:15+00:00¦host host¦app app¦msg no blank behind the colon\
+             ¦prints <34> 2019-10-11T22:14:15+00:00 host app: no blank behind the colon",
+            "<34>Oct 11 22:14:15 host app:\t \ttabs behind the colon\
+             ¦at 2019-10-11T22:14:15+00:00¦host host¦app app¦msg tabs behind the colon\
+             ¦prints <34> 2019-10-11T22:14:15+00:00 host app: tabs behind the colon",
+            "<34>Oct 11 22:14:15 host app:\u{a0}a no-break space\
+             ¦at 2019-10-11T22:14:15+00:00¦host host¦app app¦msg \u{a0}a no-break space\
+             ¦prints <34> 2019-10-11T22:14:15+00:00 host app: \u{a0}a no-break space",
+            "<34>Oct 11 22:14:15 host\u{a0}app: a no-break space behind the host\
+             ¦at 2019-10-11T22:14:15+00:00¦host host¦msg \u{a0}app: a no-break space behind the host\
+             ¦prints <34> 2019-10-11T22:14:15+00:00 host : \u{a0}app: a no-break space behind the host",
+            "<34>Oct 11 22:14:15 host - a dash for a message\
+             ¦at 2019-10-11T22:14:15+00:00¦msg a dash for a message\
+             ¦prints <34> 2019-10-11T22:14:15+00:00 - : a dash for a message",
+            "<34>Oct 11 22:14:15 host app: - a list\
+             ¦at 2019-10-11T22:14:15+00:00¦host host¦app app¦msg a list\
+             ¦prints <34> 2019-10-11T22:14:15+00:00 host app: a list",
+            "<34>Oct 11 22:14:15 - - -\
+             ¦at 2019-10-11T22:14:15+00:00\
+             ¦prints <34> 2019-10-11T22:14:15+00:00 - : ",
         ],
     )
 }
@@ -424,36 +164,11 @@ fn agrees_on_dashes(rt: HostRuntime) -> Result<(), Fail> {
         &rt,
         rt.alloc(),
         &[
-            Row {
-                text: "<34>Oct 11 22:14:15 - app: no host",
-                timestamp: Some("2019-10-11T22:14:15+00:00"),
-                hostname: None,
-                appname: Some("app"),
-                process: Process::Absent,
-                elements: "",
-                msg: "no host",
-                printed: "<34> 2019-10-11T22:14:15+00:00 - app: no host",
-            },
-            Row {
-                text: "<34>- - - -",
-                timestamp: None,
-                hostname: None,
-                appname: None,
-                process: Process::Absent,
-                elements: "",
-                msg: "",
-                printed: "<34> - - : ",
-            },
-            Row {
-                text: "<34>- h a: -",
-                timestamp: None,
-                hostname: Some("h"),
-                appname: Some("a"),
-                process: Process::Absent,
-                elements: "",
-                msg: "",
-                printed: "<34> - h a: ",
-            },
+            "<34>Oct 11 22:14:15 - app: no host\
+             ¦at 2019-10-11T22:14:15+00:00¦app app¦msg no host\
+             ¦prints <34> 2019-10-11T22:14:15+00:00 - app: no host",
+            "<34>- - - -¦prints <34> - - : ",
+            "<34>- h a: -¦host h¦app a¦prints <34> - h a: ",
         ],
     )
 }
@@ -464,106 +179,24 @@ fn agrees_on_elements(rt: HostRuntime) -> Result<(), Fail> {
         &rt,
         rt.alloc(),
         &[
-            Row {
-                text: "- h a: [x y=\"z\"]",
-                timestamp: None,
-                hostname: Some("h"),
-                appname: Some("a"),
-                process: Process::Absent,
-                elements: "x|y|z",
-                msg: "",
-                printed: "<47> - h a: [x y=\"z\"] ",
-            },
-            Row {
-                text: "- h a: [x y=\"z\"][x]",
-                timestamp: None,
-                hostname: Some("h"),
-                appname: Some("a"),
-                process: Process::Absent,
-                elements: "x|y|z",
-                msg: "[x]",
-                printed: "<47> - h a: [x y=\"z\"] [x]",
-            },
-            Row {
-                text: "- h a: [x][x y=\"z\"] m",
-                timestamp: None,
-                hostname: Some("h"),
-                appname: Some("a"),
-                process: Process::Absent,
-                elements: "",
-                msg: "[x][x y=\"z\"] m",
-                printed: "<47> - h a: [x][x y=\"z\"] m",
-            },
-            Row {
-                text: "- h a: [x y=\"z\"] [x y=\"z\"] m",
-                timestamp: None,
-                hostname: Some("h"),
-                appname: Some("a"),
-                process: Process::Absent,
-                elements: "x|y|z",
-                msg: "[x y=\"z\"] m",
-                printed: "<47> - h a: [x y=\"z\"] [x y=\"z\"] m",
-            },
-            Row {
-                text: "- h a: [x y=\"z\"w=\"v\"] m",
-                timestamp: None,
-                hostname: Some("h"),
-                appname: Some("a"),
-                process: Process::Absent,
-                elements: "",
-                msg: "[x y=\"z\"w=\"v\"] m",
-                printed: "<47> - h a: [x y=\"z\"w=\"v\"] m",
-            },
-            Row {
-                text: "- h a: [x y=\"]\"]m",
-                timestamp: None,
-                hostname: Some("h"),
-                appname: Some("a"),
-                process: Process::Absent,
-                elements: "x|y|]",
-                msg: "m",
-                printed: "<47> - h a: [x y=\"]\"] m",
-            },
-            Row {
-                text: "- h a: [x y=\"\\\"] \\\\\"]m",
-                timestamp: None,
-                hostname: Some("h"),
-                appname: Some("a"),
-                process: Process::Absent,
-                elements: "x|y|\\\"] \\\\",
-                msg: "m",
-                printed: "<47> - h a: [x y=\"\\\"] \\\\\"] m",
-            },
-            Row {
-                text: "- h a: [x  y=\"z\"  w=\"v\"] m",
-                timestamp: None,
-                hostname: Some("h"),
-                appname: Some("a"),
-                process: Process::Absent,
-                elements: "x|y|z| w|v",
-                msg: "m",
-                printed: "<47> - h a: [x y=\"z\"  w=\"v\"] m",
-            },
-            Row {
-                text: "- h [x y=\"z\"] m",
-                timestamp: None,
-                hostname: Some("h"),
-                appname: Some("[x"),
-                process: Process::Absent,
-                elements: "",
-                msg: "y=\"z\"] m",
-                printed: "<47> - h [x: y=\"z\"] m",
-            },
-            Row {
-                text: "- [x y=\"z\"] m",
-                timestamp: None,
-                hostname: Some("[x"),
-                appname: Some("y=\"z\"]"),
-                process: Process::Absent,
-                elements: "",
-                msg: "m",
-                printed: "<47> - [x y=\"z\"]: m",
-            },
+            "- h a: [x y=\"z\"]¦host h¦app a¦list x|y|z¦prints <47> - h a: [x y=\"z\"] ",
+            "- h a: [x y=\"z\"][x]¦host h¦app a¦list x|y|z¦msg [x]¦prints <47> - h a: [x y=\"z\"] [x]",
+            "- h a: [x][x y=\"z\"] m¦host h¦app a¦msg [x][x y=\"z\"] m¦prints <47> - h a: [x][x y=\"z\"] m",
+            "- h a: [x y=\"z\"] [x y=\"z\"] m\
+             ¦host h¦app a¦list x|y|z¦msg [x y=\"z\"] m\
+             ¦prints <47> - h a: [x y=\"z\"] [x y=\"z\"] m",
+            "- h a: [x y=\"z\"w=\"v\"] m\
+             ¦host h¦app a¦msg [x y=\"z\"w=\"v\"] m\
+             ¦prints <47> - h a: [x y=\"z\"w=\"v\"] m",
+            "- h a: [x y=\"]\"]m¦host h¦app a¦list x|y|]¦msg m¦prints <47> - h a: [x y=\"]\"] m",
+            "- h a: [x y=\"\\\"] \\\\\"]m\
+             ¦host h¦app a¦list x|y|\\\"] \\\\¦msg m\
+             ¦prints <47> - h a: [x y=\"\\\"] \\\\\"] m",
+            "- h a: [x  y=\"z\"  w=\"v\"] m\
+             ¦host h¦app a¦list x|y|z| w|v¦msg m\
+             ¦prints <47> - h a: [x y=\"z\"  w=\"v\"] m",
+            "- h [x y=\"z\"] m¦host h¦app [x¦msg y=\"z\"] m¦prints <47> - h [x: y=\"z\"] m",
+            "- [x y=\"z\"] m¦host [x¦app y=\"z\"]¦msg m¦prints <47> - [x y=\"z\"]: m",
         ],
     )
 }
@@ -574,86 +207,30 @@ fn agrees_on_dates_and_lines(rt: HostRuntime) -> Result<(), Fail> {
         &rt,
         rt.alloc(),
         &[
-            Row {
-                text: "<34>2019-10-11T22:14:15.003Z host app[1]: a stamp of the other kind",
-                timestamp: Some("2019-10-11T22:14:15.003+00:00"),
-                hostname: Some("host"),
-                appname: Some("app"),
-                process: Process::Number(1),
-                elements: "",
-                msg: "a stamp of the other kind",
-                printed: "<34> 2019-10-11T22:14:15.003+00:00 host app[1]: a stamp of the other kind",
-            },
-            Row {
-                text: "<34>2019-10-11T22:14:15+02:00 host app",
-                timestamp: Some("2019-10-11T22:14:15+02:00"),
-                hostname: Some("host"),
-                appname: Some("app"),
-                process: Process::Absent,
-                elements: "",
-                msg: "",
-                printed: "<34> 2019-10-11T22:14:15+02:00 host app: ",
-            },
-            Row {
-                text: "<34>2019-10-11T22:14:15Z  two blanks",
-                timestamp: Some("2019-10-11T22:14:15+00:00"),
-                hostname: None,
-                appname: None,
-                process: Process::Absent,
-                elements: "",
-                msg: "two blanks",
-                printed: "<34> 2019-10-11T22:14:15+00:00 - : two blanks",
-            },
-            Row {
-                text: "Dec 31 23:59:59 h a: the end of the year",
-                timestamp: Some("2019-12-31T23:59:59+00:00"),
-                hostname: Some("h"),
-                appname: Some("a"),
-                process: Process::Absent,
-                elements: "",
-                msg: "the end of the year",
-                printed: "<47> 2019-12-31T23:59:59+00:00 h a: the end of the year",
-            },
-            Row {
-                text: "Feb 29 2020 00:00:00 h a: such a date",
-                timestamp: Some("2020-02-29T00:00:00+00:00"),
-                hostname: Some("h"),
-                appname: Some("a"),
-                process: Process::Absent,
-                elements: "",
-                msg: "such a date",
-                printed: "<47> 2020-02-29T00:00:00+00:00 h a: such a date",
-            },
-            Row {
-                text: "<192>Oct 11 22:14:15 h a: no facility",
-                timestamp: Some("2019-10-11T22:14:15+00:00"),
-                hostname: Some("h"),
-                appname: Some("a"),
-                process: Process::Absent,
-                elements: "",
-                msg: "no facility",
-                printed: "<40> 2019-10-11T22:14:15+00:00 h a: no facility",
-            },
-            Row {
-                text: "<13>Oct 11 22:14:15 CRON[4211]: (root) CMD (   cd / && run-parts --report /etc/cron.hourly)",
-                timestamp: Some("2019-10-11T22:14:15+00:00"),
-                hostname: None,
-                appname: Some("CRON"),
-                process: Process::Number(4211),
-                elements: "",
-                msg: "(root) CMD (   cd / && run-parts --report /etc/cron.hourly)",
-                printed: "<13> 2019-10-11T22:14:15+00:00 - CRON[4211]: (root) CMD (   cd / && run-parts --report /etc/cron.hourly)",
-            },
-            Row {
-                text: "<46>Oct 11 22:14:15 web rsyslogd: [origin software=\"rsyslogd\" swVersion=\"8.32.0\"] start",
-                timestamp: Some("2019-10-11T22:14:15+00:00"),
-                hostname: Some("web"),
-                appname: Some("rsyslogd"),
-                process: Process::Absent,
-                elements: "origin|software|rsyslogd|swVersion|8.32.0",
-                msg: "start",
-                printed: "<46> 2019-10-11T22:14:15+00:00 web rsyslogd: [origin software=\"rsyslogd\" swVersion=\"8.32.0\"] start",
-            },
+            "<34>2019-10-11T22:14:15.003Z host app[1]: a stamp of the other kind\
+             ¦at 2019-10-11T22:14:15.003+00:00¦host host¦app app¦pid 1¦msg a stamp of the other kind\
+             ¦prints <34> 2019-10-11T22:14:15.003+00:00 host app[1]: a stamp of the other kind",
+            "<34>2019-10-11T22:14:15+02:00 host app\
+             ¦at 2019-10-11T22:14:15+02:00¦host host¦app app\
+             ¦prints <34> 2019-10-11T22:14:15+02:00 host app: ",
+            "<34>2019-10-11T22:14:15Z  two blanks\
+             ¦at 2019-10-11T22:14:15+00:00¦msg two blanks\
+             ¦prints <34> 2019-10-11T22:14:15+00:00 - : two blanks",
+            "Dec 31 23:59:59 h a: the end of the year\
+             ¦at 2019-12-31T23:59:59+00:00¦host h¦app a¦msg the end of the year\
+             ¦prints <47> 2019-12-31T23:59:59+00:00 h a: the end of the year",
+            "Feb 29 2020 00:00:00 h a: such a date\
+             ¦at 2020-02-29T00:00:00+00:00¦host h¦app a¦msg such a date\
+             ¦prints <47> 2020-02-29T00:00:00+00:00 h a: such a date",
+            "<192>Oct 11 22:14:15 h a: no facility\
+             ¦at 2019-10-11T22:14:15+00:00¦host h¦app a¦msg no facility\
+             ¦prints <40> 2019-10-11T22:14:15+00:00 h a: no facility",
+            "<13>Oct 11 22:14:15 CRON[4211]: (root) CMD (   cd / && run-parts --report /etc/cron.hourly)\
+             ¦at 2019-10-11T22:14:15+00:00¦app CRON¦pid 4211¦msg (root) CMD (   cd / && run-parts --report /etc/cron.hourly)\
+             ¦prints <13> 2019-10-11T22:14:15+00:00 - CRON[4211]: (root) CMD (   cd / && run-parts --report /etc/cron.hourly)",
+            "<46>Oct 11 22:14:15 web rsyslogd: [origin software=\"rsyslogd\" swVersion=\"8.32.0\"] start\
+             ¦at 2019-10-11T22:14:15+00:00¦host web¦app rsyslogd¦list origin|software|rsyslogd|swVersion|8.32.0¦msg start\
+             ¦prints <46> 2019-10-11T22:14:15+00:00 web rsyslogd: [origin software=\"rsyslogd\" swVersion=\"8.32.0\"] start",
         ],
     )
 }

@@ -12,8 +12,8 @@ fn reads_each_field(rt: HostRuntime) -> Result<(), Fail> {
             (
                 "<34>1 2003-10-11T22:14:15.003Z mymachine.example.com su - ID47 - message",
                 Expected {
-                    facility: Some(SyslogFacility::LOG_AUTH),
-                    severity: Some(SyslogSeverity::SEV_CRIT),
+                    facility: Some("auth"),
+                    severity: Some("crit"),
                     timestamp: Some("2003-10-11T22:14:15.003+00:00"),
                     hostname: Some("mymachine.example.com"),
                     appname: Some("su"),
@@ -26,8 +26,8 @@ fn reads_each_field(rt: HostRuntime) -> Result<(), Fail> {
             (
                 "<28>1 2020-05-22T14:59:09.250-03:00 OX-XXX-MX204 OX-XXX-CONTEUDO:rpd 6589 - - bgp_listen_accept: %DAEMON-4: x",
                 Expected {
-                    facility: Some(SyslogFacility::LOG_DAEMON),
-                    severity: Some(SyslogSeverity::SEV_WARNING),
+                    facility: Some("daemon"),
+                    severity: Some("warning"),
                     timestamp: Some("2020-05-22T14:59:09.250-03:00"),
                     hostname: Some("OX-XXX-MX204"),
                     appname: Some("OX-XXX-CONTEUDO:rpd"),
@@ -67,8 +67,8 @@ fn reads_a_text_without_a_priority(rt: HostRuntime) -> Result<(), Fail> {
 #[test]
 fn reads_second_sixty_and_cuts_decimals(rt: HostRuntime) -> Result<(), Fail> {
     let whole = Expected {
-        facility: Some(SyslogFacility::LOG_AUTH),
-        severity: Some(SyslogSeverity::SEV_CRIT),
+        facility: Some("auth"),
+        severity: Some("crit"),
         hostname: Some("h"),
         appname: Some("a"),
         process: Process::Number(1),
@@ -110,8 +110,8 @@ fn reads_a_priority_and_a_version_up_to_their_limits(rt: HostRuntime) -> Result<
                 "<191>4294967295 - - - - - -",
                 Expected {
                     version: u32::MAX,
-                    facility: Some(SyslogFacility::LOG_LOCAL7),
-                    severity: Some(SyslogSeverity::SEV_DEBUG),
+                    facility: Some("local7"),
+                    severity: Some("debug"),
                     printed: "<191>4294967295 - - - - - - ",
                     ..empty()
                 },
@@ -119,8 +119,8 @@ fn reads_a_priority_and_a_version_up_to_their_limits(rt: HostRuntime) -> Result<
             (
                 "<0007>1 - - - - - -",
                 Expected {
-                    facility: Some(SyslogFacility::LOG_KERN),
-                    severity: Some(SyslogSeverity::SEV_DEBUG),
+                    facility: Some("kern"),
+                    severity: Some("debug"),
                     printed: "<7>1 - - - - - - ",
                     ..empty()
                 },
@@ -128,7 +128,7 @@ fn reads_a_priority_and_a_version_up_to_their_limits(rt: HostRuntime) -> Result<
             (
                 "<200>1 - - - - - -",
                 Expected {
-                    severity: Some(SyslogSeverity::SEV_EMERG),
+                    severity: Some("emerg"),
                     printed: "<40>1 - - - - - - ",
                     ..empty()
                 },
@@ -189,8 +189,8 @@ fn refuses_a_broken_header(rt: HostRuntime) {
 fn reads_a_printed_message_back(rt: HostRuntime) -> Result<(), Fail> {
     let alloc = rt.alloc();
     let want = Expected {
-        facility: Some(SyslogFacility::LOG_CRON),
-        severity: Some(SyslogSeverity::SEV_ERR),
+        facility: Some("cron"),
+        severity: Some("err"),
         timestamp: Some("1969-12-03T23:58:58+00:00"),
         printed: "<75>1 1969-12-03T23:58:58+00:00 - - - - - ",
         ..empty()

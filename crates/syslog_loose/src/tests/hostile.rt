@@ -1,6 +1,6 @@
 //! Long numbers and words, and characters that only look like white space.
 use super::expected::{Expected, Process, check_invalid, check_rows, check_text, empty};
-use crate::{SyslogFacility, SyslogSeverity, Variant};
+use crate::Variant;
 use std::test::Fail;
 
 /// Of `1 - h a 1 m - x`, but for the process id and what is printed.
@@ -22,8 +22,8 @@ fn passes_over_a_thousand_zeros(rt: HostRuntime) -> Result<(), Fail> {
     let zeros = "0".repeat(alloc, 1000)?;
     let priority = format!(in alloc; "<{zeros}34>1 - - - - - -")?;
     let want = Expected {
-        facility: Some(SyslogFacility::LOG_AUTH),
-        severity: Some(SyslogSeverity::SEV_CRIT),
+        facility: Some("auth"),
+        severity: Some("crit"),
         printed: "<34>1 - - - - - - ",
         ..empty()
     };

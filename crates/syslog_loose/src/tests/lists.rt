@@ -1,6 +1,6 @@
 //! Worked texts whose lists have elements, whole or broken.
 use super::expected::{Expected, Process, check_invalid, check_rows, check_text, empty};
-use crate::{SyslogFacility, SyslogSeverity, Variant};
+use crate::Variant;
 use std::alloc::Global;
 use std::process::Abort;
 use std::test::Fail;
@@ -11,8 +11,8 @@ const LOCAL_FRONT: &str = "<13>1 2019-02-13T19:48:34+00:00 74794bfb6795 root 844
 /// The message of that front with `-` and `qwerty` behind it, but for what is printed.
 fn local<'a>() -> Expected<'a> {
     Expected {
-        facility: Some(SyslogFacility::LOG_USER),
-        severity: Some(SyslogSeverity::SEV_NOTICE),
+        facility: Some("user"),
+        severity: Some("notice"),
         timestamp: Some("2019-02-13T19:48:34+00:00"),
         hostname: Some("74794bfb6795"),
         appname: Some("root"),
@@ -89,8 +89,8 @@ fn keeps_blanks_in_names(rt: HostRuntime) -> Result<(), Fail> {
 #[test]
 fn reads_the_parameters_of_an_element(rt: HostRuntime) -> Result<(), Fail> {
     let whole = Expected {
-        facility: Some(SyslogFacility::LOG_LOCAL4),
-        severity: Some(SyslogSeverity::SEV_NOTICE),
+        facility: Some("local4"),
+        severity: Some("notice"),
         timestamp: Some("2003-10-11T22:14:15.003+00:00"),
         appname: Some("evntslog"),
         msgid: Some("ID47"),
@@ -127,8 +127,8 @@ fn reads_the_parameters_of_an_element(rt: HostRuntime) -> Result<(), Fail> {
 #[test]
 fn reads_a_text_without_elements(rt: HostRuntime) -> Result<(), Fail> {
     let want = Expected {
-        facility: Some(SyslogFacility::LOG_AUTH),
-        severity: Some(SyslogSeverity::SEV_CRIT),
+        facility: Some("auth"),
+        severity: Some("crit"),
         timestamp: Some("2003-10-11T22:14:15.003+00:00"),
         hostname: Some("mymachine.example.com"),
         appname: Some("su"),
