@@ -5,14 +5,14 @@ use Rattle.std.proofs.lemmas.Bool.Decides.{nat_tests}
 use Rattle.std.proofs.lemmas.Str.{chars-nil}
 use Rattle.std.specs.Str.{chars}
 use Rattle.std.specs.Char.{is_ascii_digit, to_ascii_lowercase, IsAsciiDigit}
-use Rattle.syslog_pieces.specs.Pieces.Class.{Text, Class, Values, Division, Front, Row, Each, run, some_run, exactly, optional}
+use Rattle.syslog_pieces.specs.Pieces.Class.{Text, Class, Values, Division, Front, Row, Each, run, some_run, exactly, optional, rest}
 use Rattle.syslog_pieces.specs.Bodies.MonthReading.{small_month}
 use Rattle.syslog_pieces.specs.Pri.{priority}
 use Rattle.syslog_pieces.specs.ProcId.{process_word}
 use Rattle.syslog_pieces.specs.Text.{trimmed, is_blank, number, host, word}
 use Rattle.syslog_pieces.specs.Timestamp.{header_stamp}
-use Rattle.syslog_pieces.specs.Timestamp.Loose.{loose_stamp}
-use Rattle.syslog_pieces.specs.Timestamp.MonthDate.{month, month_date, short_number, yearless_row, dated_row, clock_row}
+use Rattle.syslog_pieces.specs.Timestamp.Loose.{loose_stamp, showing_row, ShowsYearless}
+use Rattle.syslog_pieces.specs.Timestamp.MonthDate.{month, month_date, yearless_date, short_number, yearless_row, dated_row, clock_row}
 use Rattle.syslog_pieces.specs.Timestamp.Zone.{Dating}
 use Rattle.syslog_pieces.specs.declared.structured_data.listed.DashRule.{DashRule}
 use Rattle.syslog_pieces.specs.declared.timestamp.OffsetTimestamp.{OffsetTimestamp}
@@ -24,7 +24,7 @@ use Rattle.syslog_pieces.proofs.TextLemmas.Chars.{ascii_front, one_ascii}
 use Rattle.syslog_pieces.proofs.TimestampLemmas.Months.{month_letters}
 use Rattle.syslog_pieces.proofs.TimestampLemmas.Texts.{stamp_text-first}
 use Rattle.syslog_loose.specs.Beginning.{is_initial, is_first, BeginsNone}
-use Rattle.syslog_loose.specs.Reading.{dash_rule, IsUnreadable}
+use Rattle.syslog_loose.specs.Reading.{dash_rule, AsksYear, IsUnreadable}
 use Rattle.syslog_loose.specs.Rfc3164.{body_row, rfc3164_row}
 use Rattle.syslog_loose.specs.Rfc5424.{rfc5424_row, data_row}
 use Rattle.syslog_loose.specs.declared.reading.Variant.{Variant}
@@ -160,3 +160,17 @@ pub none_by_byte : (bs : List ℕ) (told : Bool) → 1 ≤ length bs → get_or 
 none_by_byte [] told l low e f = absurd (omega arith)
 none_by_byte (b ∷ bs) told l low e f =
     subst (λ (x : Text). BeginsNone x) (sym (ascii_front (b ∷ []) bs (b ∷ bs) (one_ascii b low) refl)) (sym e ∙ f)
+
+-- ---- what shows a date without a year
+date_shown_first : (text : Text) (d : MonthDate) → ShowsYearless text d → Begins IsFirst (trimmed text)
+date_shown_first text d (p, more, h) =
+    let g1 = row_head (optional priority) (run is_blank ∷ yearless_date ∷ rest ∷ []) (division_front (showing_row yearless_date) h) in
+    let g2 = row_head (run is_blank) (yearless_date ∷ rest ∷ []) g1.2 in
+    let g3 = row_head yearless_date (rest ∷ []) g2.2 in
+    behind_priority p g1.1 (behind_blanks g2.1.piece g1.0 g2.0 g2.1.whole g2.1.is.0
+    (subst (λ (x : Text). Begins IsFirst x) (sym g3.1.whole) (date_first g3.1.piece g3.0 d (inl g3.1.is))))
+
+pub asks_no_year : (variant : Variant) (text : Text) → BeginsNone (trimmed text) → (d : MonthDate) → AsksYear variant text d → ⊥
+asks_no_year RFC5424 text n d asks = asks
+asks_no_year RFC3164 text n d asks = begins_both (trimmed text) n (date_shown_first text d asks)
+asks_no_year Either text n d asks = begins_both (trimmed text) n (date_shown_first text d asks)

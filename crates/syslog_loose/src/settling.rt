@@ -14,6 +14,7 @@ ghost use Rattle.syslog_loose.specs.Reading.{AnswersEachMonth, InYear, IsRead, I
 ghost use Rattle.syslog_loose.specs.Settling.{IsAtRest, IsToldNext, Settles, answer_in};
 ghost use Rattle.syslog_loose.specs.declared.fault.ParseFault.TheVariants.{Invalid};
 
+use crate::beginning::may_be_read;
 use crate::fault::ParseFault;
 use crate::line::{DatedLine, dated_line, dated_text, kept_text, loose_text};
 use crate::message::{Message, Protocol, has_no_miss};
@@ -77,6 +78,9 @@ pub fn settle_into<F: FnOnce(IncompleteDate) -> i32>(
             settle_dated(alloc, text, input, line, year, tz, variant, local)
         }
         None => {
+            if !may_be_read(input) {
+                return Err(ParseFault::Invalid);
+            }
             let year = asked_date(input, variant).map(get_year);
             settle_in(alloc, text, input, year, tz, variant, local)
         }

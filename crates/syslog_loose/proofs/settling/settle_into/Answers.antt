@@ -1,4 +1,4 @@
-use Rattle.std.proofs.Common.{None, Ok}
+use Rattle.std.proofs.Common.{None, Ok, Err, refl}
 use Rattle.std.specs.Prelude.{string_bytes}
 use Rattle.std.specs.Str.{chars}
 use Rattle.std.proofs.lemmas.Result.{err_from_is_err_and}
@@ -6,8 +6,11 @@ use Rattle.std.proofs.lemmas.Str.{IsUtf8-string_bytes}
 use Rattle.syslog_pieces.specs.Timestamp.Zone.{dating_of}
 use Rattle.syslog_loose.specs.KeptLine.{PrintsAs}
 use Rattle.syslog_loose.specs.Settling.{answer_in}
+use Rattle.syslog_loose.specs.declared.fault.ParseFault.TheVariants.{Invalid}
+use Rattle.syslog_loose.proofs.BeginningLemmas.{asks_no_year, no_reading}
 use Rattle.syslog_loose.proofs.KeptLooseLemmas.{dated_answered, asked_month}
 use Rattle.syslog_loose.proofs.ReadingLemmas.{answered_to, in_year_map, no_ok, found_text}
+use Rattle.syslog_loose.proofs.SettlingLemmas.Rounds.{first_fault}
 use Rattle.syslog_loose.proofs.SettlingLemmas.Years.{settles_answered, copied_settles, answer_canonical}
 use Rattle.syslog_loose.proofs.settling.settle_into.Goals as goal
 
@@ -42,8 +45,22 @@ returns-in-Some-clause-settles g c =
 pub returns-in-Some-clause-canonical : goal.returns-in-Some-clause-canonical
 returns-in-Some-clause-canonical g c = in_year_map (λ year s. answer_canonical c.args.variant (dating_of year c.args.tz c.args.local) (chars c.args.input.now) (answer_in c.settle_dated.result c.settle_dated.new.text) s) (returns-in-Some-clause-settles g c)
 
-pub returns-in-None : goal.returns-in-None
-returns-in-None g c =
-    let answered = answered_to _ _ _ c.asked_date.result c.map-year-in-None.result c.asked_date.ensures c.map-year-in-None.ensures.cases in
-    let settles = settles_answered c.args.variant c.args.tz c.args.local _ _ (answer_in c.settle_in.result c.settle_in.new.text) c.map-year-in-None.result answered c.settle_in.ensures in
-    record { settles = settles; canonical = in_year_map (λ year s. answer_canonical c.args.variant (dating_of year c.args.tz c.args.local) (chars c.args.input.now) (answer_in c.settle_in.result c.settle_in.new.text) s) settles }
+pub returns-then-not-may_be_read-clause-settles : goal.returns-then-not-may_be_read-clause-settles
+returns-then-not-may_be_read-clause-settles g c =
+    let begins = c.if-not-may_be_read.ensures refl in
+    record {
+      answered = None;
+      is_answered = asks_no_year c.args.variant (chars c.args.input.now) begins;
+      holds = λ year agrees. first_fault c.args.variant (dating_of year c.args.tz c.args.local) (chars c.args.input.now) Invalid (λ e. no_reading c.args.variant (dating_of year c.args.tz c.args.local) (chars c.args.input.now) begins, λ u. refl);
+    }
+
+pub returns-then-not-may_be_read-clause-canonical : goal.returns-then-not-may_be_read-clause-canonical
+returns-then-not-may_be_read-clause-canonical g c = in_year_map (λ year s. answer_canonical c.args.variant (dating_of year c.args.tz c.args.local) (chars c.args.input.now) (Err Invalid) s) (returns-then-not-may_be_read-clause-settles g c)
+
+pub returns-else-not-may_be_read-clause-settles : goal.returns-else-not-may_be_read-clause-settles
+returns-else-not-may_be_read-clause-settles g c =
+    settles_answered c.args.variant c.args.tz c.args.local _ _ (answer_in c.settle_in.result c.settle_in.new.text) c.map-year-in-None.result
+    (answered_to _ _ _ c.asked_date.result c.map-year-in-None.result c.asked_date.ensures c.map-year-in-None.ensures.cases) c.settle_in.ensures
+
+pub returns-else-not-may_be_read-clause-canonical : goal.returns-else-not-may_be_read-clause-canonical
+returns-else-not-may_be_read-clause-canonical g c = in_year_map (λ year s. answer_canonical c.args.variant (dating_of year c.args.tz c.args.local) (chars c.args.input.now) (answer_in c.settle_in.result c.settle_in.new.text) s) (returns-else-not-may_be_read-clause-settles g c)
