@@ -78,6 +78,7 @@ pub fn settle_into<F: FnOnce(IncompleteDate) -> i32>(
             settle_dated(alloc, text, input, line, year, tz, variant, local)
         }
         None => {
+            // (A text that begins so shows no date either.)
             if !may_be_read(input) {
                 return Err(ParseFault::Invalid);
             }
