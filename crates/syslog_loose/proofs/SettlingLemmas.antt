@@ -8,5 +8,6 @@ pub mod NoList
 pub mod Quiet
 pub mod Rounds
 pub mod Settles
+pub mod Trimmed
 pub mod Weights
 pub mod Years

@@ -22,6 +22,7 @@ use crate::reading::{IncompleteDate, Variant, asked_date, print, read};
 use jiff::tz::TimeZone;
 use std::alloc::Global;
 use std::mem::swap;
+use syslog_pieces::text::trimmed;
 
 /// The first round of the text, from round 1 on, that normalising leaves as it is: round 1 is what `normalise` answers to
 /// the text, and each further round what it answers to the one before. `Invalid` where a round has no reading.
@@ -67,6 +68,24 @@ pub fn settle_into<F: FnOnce(IncompleteDate) -> i32>(
     // The message of the answer meets the written condition.
     ensures canonical { InYear (F.post get_year) variant (chars input.entry.now) (λ year. IfOk (answer_in result text.new) (λ answer. (m : MessageValue)
         → IsRead variant (dating_of year tz.entry local.entry) (chars (string_bytes answer)) m → IsCanonical dash_rule m)) }
+{
+    // (Each step trims the text that it gets, and has nothing to pass over where that was done.)
+    settle_trimmed(alloc, text, trimmed(input), get_year, tz, variant, local)
+}
+
+// The same.
+fn settle_trimmed<F: FnOnce(IncompleteDate) -> i32>(
+    alloc: Global,
+    text: &mut String,
+    input: &str,
+    get_year: F,
+    tz: Option<&TimeZone<'_>>,
+    variant: Variant,
+    local: &TimeZone<'_>,
+) -> Result<(), ParseFault>
+    requires { AnswersEachMonth (F.pre get_year) }
+    ensures { InYear (F.post get_year) variant (chars input.entry.now)
+        (λ year. Settles variant (dating_of year tz.entry local.entry) (chars input.entry.now) (answer_in result text.new)) }
 {
     let copied = kept_text(text, input, variant)?;
     if copied {

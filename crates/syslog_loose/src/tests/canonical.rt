@@ -1,5 +1,5 @@
 //! Messages built by hand: whether they are canonical, and what their printed text is read as.
-use super::expected::{Expected, Process, check_invalid, check_message, empty, read};
+use super::expected::{check_invalid, check_table};
 use crate::{
     Message, Offset, OffsetTimestamp, ProcId, Protocol, StructuredElement, SyslogFacility,
     SyslogSeverity, Timestamp, Variant,
@@ -24,16 +24,8 @@ fn small(alloc: Global) -> Message<&'static str> {
     }
 }
 
-/// That message as it is read.
-fn same<'a>() -> Expected<'a> {
-    Expected {
-        facility: Some("auth"),
-        severity: Some("crit"),
-        msg: "x",
-        printed: "<34>1 - - - - - - x",
-        ..empty()
-    }
-}
+/// The cells of that message as it is read.
+const SAME: &str = "¦facility auth¦severity crit¦msg x¦prints <34>1 - - - - - - x";
 
 /// That message with one element, which has one parameter.
 fn listed(
@@ -51,20 +43,19 @@ fn listed(
     Ok(message)
 }
 
-/// Whether the message is canonical, and what its printed text is read as under `Either` and by RFC 5424.
+/// Whether the message is canonical, and in which cells that differ from `SAME` its printed text is read under `Either` and
+/// by RFC 5424.
 fn check(
     rt: &impl Abort,
     alloc: Global,
     message: &Message<&str>,
     canonical: bool,
-    want: &Expected,
+    cells: &str,
 ) -> Result<(), Fail> {
     let text = format!(in alloc; "{message}")?;
     assert_eq!(rt; message.is_canonical(), canonical, "{text}");
-    for variant in [Variant::Either, Variant::RFC5424] {
-        check_message(rt, alloc, &read(alloc, text.as_str(), variant)?, want)?;
-    }
-    Ok(())
+    let row = format!(in alloc; "{text}{SAME}{cells}")?;
+    check_table(rt, alloc, &[row.as_str()])
 }
 
 /// The message is not canonical, and its printed text has no reading.
@@ -78,28 +69,14 @@ fn check_unread(rt: &impl Abort, alloc: Global, message: &Message<&str>) -> Resu
 #[test]
 fn reads_canonical_messages_back(rt: HostRuntime) -> Result<(), Fail> {
     let alloc = rt.alloc();
-    check(&rt, alloc, &small(alloc), true, &same())?;
-    for (msg, printed) in [
-        ("", "<34>1 - - - - - - "),
-        ("-", "<34>1 - - - - - - -"),
-        ("[f", "<34>1 - - - - - - [f"),
-        ("\nx", "<34>1 - - - - - - \nx"),
-    ] {
+    check(&rt, alloc, &small(alloc), true, "")?;
+    for msg in ["", "-", "[f", "\nx"] {
         let message = Message {
             msg,
             ..small(alloc)
         };
-        check(
-            &rt,
-            alloc,
-            &message,
-            true,
-            &Expected {
-                msg,
-                printed,
-                ..same()
-            },
-        )?;
+        let cells = format!(in alloc; "¦msg {msg}¦prints <34>1 - - - - - - {msg}")?;
+        check(&rt, alloc, &message, true, cells.as_str())?;
     }
     Ok(())
 }
@@ -112,22 +89,14 @@ fn reads_values_back_as_they_stand(rt: HostRuntime) -> Result<(), Fail> {
         alloc,
         &listed(alloc, "a", "b", "x]")?,
         true,
-        &Expected {
-            elements: "a|b|x]",
-            printed: "<34>1 - - - - - [a b=\"x]\"] x",
-            ..same()
-        },
+        "¦list a|b|x]¦prints <34>1 - - - - - [a b=\"x]\"] x",
     )?;
     check(
         &rt,
         alloc,
         &listed(alloc, "a", "b", "\\\"")?,
         true,
-        &Expected {
-            elements: "a|b|\\\"",
-            printed: "<34>1 - - - - - [a b=\"\\\"\"] x",
-            ..same()
-        },
+        "¦list a|b|\\\"¦prints <34>1 - - - - - [a b=\"\\\"\"] x",
     )
 }
 
@@ -142,18 +111,14 @@ fn loses_broken_elements(rt: HostRuntime) -> Result<(), Fail> {
         ("", "b", "c"),
         ("a=", "b", "c"),
     ] {
-        check(&rt, alloc, &listed(alloc, id, name, value)?, false, &same())?;
+        check(&rt, alloc, &listed(alloc, id, name, value)?, false, "")?;
     }
     check(
         &rt,
         alloc,
         &listed(alloc, "a", " b", "c")?,
         false,
-        &Expected {
-            elements: "a|b|c",
-            printed: "<34>1 - - - - - [a b=\"c\"] x",
-            ..same()
-        },
+        "¦list a|b|c¦prints <34>1 - - - - - [a b=\"c\"] x",
     )
 }
 
@@ -165,11 +130,7 @@ fn loses_the_id_before_its_blank(rt: HostRuntime) -> Result<(), Fail> {
         alloc,
         &listed(alloc, "a b", "c", "d")?,
         false,
-        &Expected {
-            elements: "a|b c|d",
-            printed: "<34>1 - - - - - [a b c=\"d\"] x",
-            ..same()
-        },
+        "¦list a|b c|d¦prints <34>1 - - - - - [a b c=\"d\"] x",
     )
 }
 
@@ -185,11 +146,7 @@ fn reads_absent_parts_of_a_priority(rt: HostRuntime) -> Result<(), Fail> {
         alloc,
         &message,
         false,
-        &Expected {
-            severity: Some("debug"),
-            printed: "<39>1 - - - - - - x",
-            ..same()
-        },
+        "¦severity debug¦prints <39>1 - - - - - - x",
     )?;
     let message = Message {
         facility: None,
@@ -200,11 +157,7 @@ fn reads_absent_parts_of_a_priority(rt: HostRuntime) -> Result<(), Fail> {
         alloc,
         &message,
         false,
-        &Expected {
-            facility: Some("syslog"),
-            printed: "<42>1 - - - - - - x",
-            ..same()
-        },
+        "¦facility syslog¦prints <42>1 - - - - - - x",
     )
 }
 
@@ -215,7 +168,7 @@ fn reads_other_hosts(rt: HostRuntime) -> Result<(), Fail> {
         hostname: Some("-"),
         ..small(alloc)
     };
-    check(&rt, alloc, &message, false, &same())?;
+    check(&rt, alloc, &message, false, "")?;
     let message = Message {
         hostname: Some("a b"),
         ..small(alloc)
@@ -225,13 +178,7 @@ fn reads_other_hosts(rt: HostRuntime) -> Result<(), Fail> {
         alloc,
         &message,
         false,
-        &Expected {
-            hostname: Some("a"),
-            appname: Some("b"),
-            msg: "- x",
-            printed: "<34>1 - a b - - - - x",
-            ..same()
-        },
+        "¦host a¦app b¦msg - x¦prints <34>1 - a b - - - - x",
     )?;
     for hostname in ["", "a:"] {
         let message = Message {
@@ -257,7 +204,7 @@ fn reads_other_process_ids(rt: HostRuntime) -> Result<(), Fail> {
         procid: Some(ProcId::Name("-")),
         ..small(alloc)
     };
-    check(&rt, alloc, &message, false, &same())?;
+    check(&rt, alloc, &message, false, "")?;
     let message = Message {
         procid: Some(ProcId::Name("+5")),
         ..small(alloc)
@@ -267,11 +214,7 @@ fn reads_other_process_ids(rt: HostRuntime) -> Result<(), Fail> {
         alloc,
         &message,
         false,
-        &Expected {
-            process: Process::Number(5),
-            printed: "<34>1 - - - 5 - - x",
-            ..same()
-        },
+        "¦pid 5¦prints <34>1 - - - 5 - - x",
     )
 }
 
@@ -283,7 +226,7 @@ fn trims_the_ends_of_the_message(rt: HostRuntime) -> Result<(), Fail> {
             msg,
             ..small(alloc)
         };
-        check(&rt, alloc, &message, false, &same())?;
+        check(&rt, alloc, &message, false, "")?;
     }
     Ok(())
 }
@@ -310,11 +253,7 @@ fn rounds_an_offset_to_minutes(rt: HostRuntime) -> Result<(), Fail> {
         alloc,
         &stamped(alloc, 0, 30)?,
         false,
-        &Expected {
-            timestamp: Some("1970-01-01T00:00:30+00:01"),
-            printed: "<34>1 1970-01-01T00:00:30+00:01 - - - - - x",
-            ..same()
-        },
+        "¦at 1970-01-01T00:00:30+00:01¦prints <34>1 1970-01-01T00:00:30+00:01 - - - - - x",
     )
 }
 
@@ -329,11 +268,7 @@ fn reads_years_from_zero_on_at_their_offset(rt: HostRuntime) -> Result<(), Fail>
         alloc,
         &stamped(alloc, YEAR_ZERO - 1, 3600)?,
         true,
-        &Expected {
-            timestamp: Some("0000-01-01T00:59:59+01:00"),
-            printed: "<34>1 0000-01-01T00:59:59+01:00 - - - - - x",
-            ..same()
-        },
+        "¦at 0000-01-01T00:59:59+01:00¦prints <34>1 0000-01-01T00:59:59+01:00 - - - - - x",
     )
 }
 

@@ -1,37 +1,11 @@
 //! Messages of RFC 3164 built by hand: whether they are canonical, how they print, and what that is read as.
-use super::expected::{Process, check_elements, process_of, read};
+use super::expected::{Expected, Process, check_fields, read, row_of};
 use crate::{
     Message, ProcId, Protocol, StructuredElement, SyslogFacility, SyslogSeverity, Variant,
 };
 use std::alloc::{AllocError, Global};
 use std::process::Abort;
 use std::test::Fail;
-
-/// A message from LOG_AUTH and of SEV_CRIT without a timestamp; its elements as in `Expected`.
-#[derive(Clone, Copy)]
-struct Fields<'a> {
-    hostname: Option<&'a str>,
-    appname: Option<&'a str>,
-    process: Process<'a>,
-    msgid: Option<&'a str>,
-    elements: &'a str,
-    msg: &'a str,
-}
-
-/// That with app name `a`, the message `hi` and nothing else.
-fn small<'a>() -> Fields<'a> {
-    Fields {
-        hostname: None,
-        appname: Some("a"),
-        process: Process::Absent,
-        msgid: None,
-        elements: "",
-        msg: "hi",
-    }
-}
-
-/// A message, how it prints, and the other message as which that is read: none where it is the same.
-type Row<'a> = (Fields<'a>, &'a str, Option<Fields<'a>>);
 
 fn element<'a>(alloc: Global, line: &'a str) -> Result<StructuredElement<&'a str>, AllocError> {
     let mut texts = line.split('|');
@@ -43,7 +17,8 @@ fn element<'a>(alloc: Global, line: &'a str) -> Result<StructuredElement<&'a str
     Ok(StructuredElement { id, params })
 }
 
-fn message<'a>(alloc: Global, fields: &Fields<'a>) -> Result<Message<&'a str>, AllocError> {
+/// From LOG_AUTH and of SEV_CRIT, without a timestamp.
+fn message<'a>(alloc: Global, fields: &Expected<'a>) -> Result<Message<&'a str>, AllocError> {
     let mut structured_data = Vec::new(alloc);
     for line in fields.elements.lines() {
         structured_data.push(element(alloc, line)?)?;
@@ -66,135 +41,84 @@ fn message<'a>(alloc: Global, fields: &Fields<'a>) -> Result<Message<&'a str>, A
     })
 }
 
-fn check_fields(rt: &impl Abort, found: &Message<&str>, want: &Fields, text: &str) {
-    assert_eq!(rt; found.protocol, Protocol::RFC3164, "{text}");
-    assert_eq!(rt; found.facility, Some(SyslogFacility::LOG_AUTH), "{text}");
-    assert_eq!(rt; found.severity, Some(SyslogSeverity::SEV_CRIT), "{text}");
-    assert!(rt; found.timestamp.is_none(), "{text}");
-    assert_eq!(rt; found.hostname, want.hostname, "{text}");
-    assert_eq!(rt; found.appname, want.appname, "{text}");
-    assert_eq!(rt; process_of(&found.procid), want.process, "{text}");
-    assert_eq!(rt; found.msgid, want.msgid, "{text}");
-    check_elements(rt, &found.structured_data, want.elements);
-    assert_eq!(rt; found.msg, want.msg, "{text}");
+/// Under `Either` and as RFC 3164.
+fn check_reading(rt: &impl Abort, alloc: Global, want: &Expected) -> Result<(), Fail> {
+    for variant in [Variant::Either, Variant::RFC3164] {
+        let found = read(alloc, want.text, variant)?;
+        assert_eq!(rt; found.protocol, Protocol::RFC3164, "{}", want.text);
+        assert_eq!(rt;
+            found.facility,
+            Some(SyslogFacility::LOG_AUTH),
+            "{}",
+            want.text
+        );
+        assert_eq!(rt;
+            found.severity,
+            Some(SyslogSeverity::SEV_CRIT),
+            "{}",
+            want.text
+        );
+        assert!(rt; found.timestamp.is_none(), "{}", want.text);
+        check_fields(rt, &found, want);
+    }
+    Ok(())
 }
 
-/// Under `Either` and as RFC 3164.
-fn check_rows(rt: &impl Abort, alloc: Global, rows: &[Row]) -> Result<(), Fail> {
+/// The message of `built` prints as `printed`, and that reads as the message of `other`. `built` and `other` are the cells
+/// of a row.
+fn check_row(
+    rt: &impl Abort,
+    alloc: Global,
+    built: &str,
+    printed: &str,
+    other: &str,
+) -> Result<(), Fail> {
+    let row = format!(in alloc; "{printed}¦{built}")?;
+    let message = message(alloc, &row_of(rt, row.as_str()))?;
+    assert_eq!(rt; message.is_canonical(), built == other, "{printed}");
+    let text = format!(in alloc; "{message}")?;
+    assert_eq!(rt; text.as_str(), printed);
+    let row = format!(in alloc; "{printed}¦{other}")?;
+    check_reading(rt, alloc, &row_of(rt, row.as_str()))
+}
+
+/// Each message is canonical.
+fn check_canonical(rt: &impl Abort, alloc: Global, rows: &[(&str, &str)]) -> Result<(), Fail> {
+    for (built, printed) in rows {
+        check_row(rt, alloc, built, printed, built)?;
+    }
+    Ok(())
+}
+
+/// Each message is read as another one, which stands last.
+fn check_others(rt: &impl Abort, alloc: Global, rows: &[(&str, &str, &str)]) -> Result<(), Fail> {
     for (built, printed, other) in rows {
-        let message = message(alloc, built)?;
-        assert_eq!(rt; message.is_canonical(), other.is_none(), "{printed}");
-        let text = format!(in alloc; "{message}")?;
-        assert_eq!(rt; text.as_str(), *printed);
-        let want = other.unwrap_or(*built);
-        for variant in [Variant::Either, Variant::RFC3164] {
-            let found = read(alloc, text.as_str(), variant)?;
-            check_fields(rt, &found, &want, text.as_str());
-        }
+        check_row(rt, alloc, built, printed, other)?;
     }
     Ok(())
 }
 
 #[test]
 fn reads_canonical_messages_back(rt: HostRuntime) -> Result<(), Fail> {
-    check_rows(
+    check_canonical(
         &rt,
         rt.alloc(),
         &[
-            (small(), "<34> - - a: hi", None),
+            ("app a¦msg hi", "<34> - - a: hi"),
+            ("msg hi", "<34> - - : hi"),
+            ("app ¦pid -5¦msg hi", "<34> - - [-5]: hi"),
+            ("app a[]¦msg hi", "<34> - - a[]: hi"),
+            ("app app¦name -¦msg hi", "<34> - - app[-]: hi"),
+            ("host h¦msg hi", "<34> - h : hi"),
+            ("host a[b]¦app a¦msg hi", "<34> - a[b] a: hi"),
+            ("app a¦msg ", "<34> - - a: "),
+            ("app a¦msg [e] hi", "<34> - - a: [e] hi"),
+            ("app a¦msg -5", "<34> - - a: -5"),
+            ("app a¦msg -\u{a0}x", "<34> - - a: -\u{a0}x"),
+            ("app a¦list e|k|v¦msg -5", "<34> - - a: [e k=\"v\"] -5"),
             (
-                Fields {
-                    appname: None,
-                    ..small()
-                },
-                "<34> - - : hi",
-                None,
-            ),
-            (
-                Fields {
-                    appname: Some(""),
-                    process: Process::Number(-5),
-                    ..small()
-                },
-                "<34> - - [-5]: hi",
-                None,
-            ),
-            (
-                Fields {
-                    appname: Some("a[]"),
-                    ..small()
-                },
-                "<34> - - a[]: hi",
-                None,
-            ),
-            (
-                Fields {
-                    appname: Some("app"),
-                    process: Process::Name("-"),
-                    ..small()
-                },
-                "<34> - - app[-]: hi",
-                None,
-            ),
-            (
-                Fields {
-                    hostname: Some("h"),
-                    appname: None,
-                    ..small()
-                },
-                "<34> - h : hi",
-                None,
-            ),
-            (
-                Fields {
-                    hostname: Some("a[b]"),
-                    ..small()
-                },
-                "<34> - a[b] a: hi",
-                None,
-            ),
-            (Fields { msg: "", ..small() }, "<34> - - a: ", None),
-            (
-                Fields {
-                    msg: "[e] hi",
-                    ..small()
-                },
-                "<34> - - a: [e] hi",
-                None,
-            ),
-            (
-                Fields {
-                    msg: "-5",
-                    ..small()
-                },
-                "<34> - - a: -5",
-                None,
-            ),
-            (
-                Fields {
-                    msg: "-\u{a0}x",
-                    ..small()
-                },
-                "<34> - - a: -\u{a0}x",
-                None,
-            ),
-            (
-                Fields {
-                    elements: "e|k|v",
-                    msg: "-5",
-                    ..small()
-                },
-                "<34> - - a: [e k=\"v\"] -5",
-                None,
-            ),
-            (
-                Fields {
-                    elements: "e|k|v",
-                    msg: "[f a=\"b\"]",
-                    ..small()
-                },
+                "app a¦list e|k|v¦msg [f a=\"b\"]",
                 "<34> - - a: [e k=\"v\"] [f a=\"b\"]",
-                None,
             ),
         ],
     )
@@ -202,85 +126,24 @@ fn reads_canonical_messages_back(rt: HostRuntime) -> Result<(), Fail> {
 
 #[test]
 fn reads_other_names(rt: HostRuntime) -> Result<(), Fail> {
-    check_rows(
+    check_others(
         &rt,
         rt.alloc(),
         &[
+            ("app a¦id m¦msg hi", "<34> - - a: hi", "app a¦msg hi"),
+            ("app ¦msg hi", "<34> - - : hi", "msg hi"),
+            ("app -¦msg hi", "<34> - - -: hi", "msg hi"),
+            ("app x:y¦msg hi", "<34> - - x:y: hi", "app x¦msg y: hi"),
+            ("app a b¦msg hi", "<34> - - a b: hi", "app a¦msg b: hi"),
             (
-                Fields {
-                    msgid: Some("m"),
-                    ..small()
-                },
-                "<34> - - a: hi",
-                Some(small()),
-            ),
-            (
-                Fields {
-                    appname: Some(""),
-                    ..small()
-                },
-                "<34> - - : hi",
-                Some(Fields {
-                    appname: None,
-                    ..small()
-                }),
-            ),
-            (
-                Fields {
-                    appname: Some("-"),
-                    ..small()
-                },
-                "<34> - - -: hi",
-                Some(Fields {
-                    appname: None,
-                    ..small()
-                }),
-            ),
-            (
-                Fields {
-                    appname: Some("x:y"),
-                    ..small()
-                },
-                "<34> - - x:y: hi",
-                Some(Fields {
-                    appname: Some("x"),
-                    msg: "y: hi",
-                    ..small()
-                }),
-            ),
-            (
-                Fields {
-                    appname: Some("a b"),
-                    ..small()
-                },
-                "<34> - - a b: hi",
-                Some(Fields {
-                    msg: "b: hi",
-                    ..small()
-                }),
-            ),
-            (
-                Fields {
-                    appname: Some("a[b]"),
-                    ..small()
-                },
+                "app a[b]¦msg hi",
                 "<34> - - a[b]: hi",
-                Some(Fields {
-                    process: Process::Name("b"),
-                    ..small()
-                }),
+                "app a¦name b¦msg hi",
             ),
             (
-                Fields {
-                    hostname: Some("a[b]"),
-                    appname: None,
-                    ..small()
-                },
+                "host a[b]¦msg hi",
                 "<34> - a[b] : hi",
-                Some(Fields {
-                    process: Process::Name("b"),
-                    ..small()
-                }),
+                "app a¦name b¦msg hi",
             ),
         ],
     )
@@ -288,176 +151,68 @@ fn reads_other_names(rt: HostRuntime) -> Result<(), Fail> {
 
 #[test]
 fn reads_other_hosts(rt: HostRuntime) -> Result<(), Fail> {
-    check_rows(
+    check_others(
         &rt,
         rt.alloc(),
         &[
+            ("host -¦msg hi", "<34> - - : hi", "msg hi"),
             (
-                Fields {
-                    hostname: Some("-"),
-                    appname: None,
-                    ..small()
-                },
-                "<34> - - : hi",
-                Some(Fields {
-                    appname: None,
-                    ..small()
-                }),
-            ),
-            (
-                Fields {
-                    hostname: Some("zork:"),
-                    appname: None,
-                    ..small()
-                },
+                "host zork:¦msg hi",
                 "<34> - zork: : hi",
-                Some(Fields {
-                    hostname: Some("zork"),
-                    appname: None,
-                    msg: ": hi",
-                    ..small()
-                }),
+                "host zork¦msg : hi",
             ),
             (
-                Fields {
-                    hostname: Some("a b"),
-                    ..small()
-                },
+                "host a b¦app a¦msg hi",
                 "<34> - a b a: hi",
-                Some(Fields {
-                    hostname: Some("a"),
-                    appname: Some("b"),
-                    msg: "a: hi",
-                    ..small()
-                }),
+                "host a¦app b¦msg a: hi",
             ),
-            (
-                Fields {
-                    hostname: Some(""),
-                    ..small()
-                },
-                "<34> -  a: hi",
-                Some(Fields {
-                    appname: None,
-                    msg: "a: hi",
-                    ..small()
-                }),
-            ),
+            ("host ¦app a¦msg hi", "<34> -  a: hi", "msg a: hi"),
         ],
     )
 }
 
 #[test]
 fn reads_other_process_ids(rt: HostRuntime) -> Result<(), Fail> {
-    check_rows(
+    check_others(
         &rt,
         rt.alloc(),
         &[
+            ("pid 5¦msg hi", "<34> - - : hi", "msg hi"),
             (
-                Fields {
-                    appname: None,
-                    process: Process::Number(5),
-                    ..small()
-                },
-                "<34> - - : hi",
-                Some(Fields {
-                    appname: None,
-                    ..small()
-                }),
-            ),
-            (
-                Fields {
-                    appname: Some("a b"),
-                    process: Process::Number(5),
-                    ..small()
-                },
+                "app a b¦pid 5¦msg hi",
                 "<34> - - a b[5]: hi",
-                Some(Fields {
-                    msg: "b[5]: hi",
-                    ..small()
-                }),
+                "app a¦msg b[5]: hi",
             ),
             (
-                Fields {
-                    appname: Some("a:b"),
-                    process: Process::Number(5),
-                    ..small()
-                },
+                "app a:b¦pid 5¦msg hi",
                 "<34> - - a:b[5]: hi",
-                Some(Fields {
-                    msg: "b[5]: hi",
-                    ..small()
-                }),
+                "app a¦msg b[5]: hi",
             ),
             (
-                Fields {
-                    appname: Some("a["),
-                    process: Process::Number(5),
-                    ..small()
-                },
+                "app a[¦pid 5¦msg hi",
                 "<34> - - a[[5]: hi",
-                Some(Fields {
-                    process: Process::Name("[5"),
-                    ..small()
-                }),
+                "app a¦name [5¦msg hi",
             ),
+            ("app a¦name ¦msg hi", "<34> - - a[]: hi", "app a[]¦msg hi"),
             (
-                Fields {
-                    process: Process::Name(""),
-                    ..small()
-                },
-                "<34> - - a[]: hi",
-                Some(Fields {
-                    appname: Some("a[]"),
-                    ..small()
-                }),
-            ),
-            (
-                Fields {
-                    process: Process::Name("7"),
-                    ..small()
-                },
+                "app a¦name 7¦msg hi",
                 "<34> - - a[7]: hi",
-                Some(Fields {
-                    process: Process::Number(7),
-                    ..small()
-                }),
+                "app a¦pid 7¦msg hi",
             ),
             (
-                Fields {
-                    process: Process::Name("b c"),
-                    ..small()
-                },
+                "app a¦name b c¦msg hi",
                 "<34> - - a[b c]: hi",
-                Some(Fields {
-                    appname: Some("a[b"),
-                    msg: "c]: hi",
-                    ..small()
-                }),
+                "app a[b¦msg c]: hi",
             ),
             (
-                Fields {
-                    process: Process::Name("b]"),
-                    ..small()
-                },
+                "app a¦name b]¦msg hi",
                 "<34> - - a[b]]: hi",
-                Some(Fields {
-                    appname: Some("a[b]]"),
-                    ..small()
-                }),
+                "app a[b]]¦msg hi",
             ),
             (
-                Fields {
-                    appname: Some("app"),
-                    process: Process::Name("x:y"),
-                    ..small()
-                },
+                "app app¦name x:y¦msg hi",
                 "<34> - - app[x:y]: hi",
-                Some(Fields {
-                    appname: Some("app[x"),
-                    msg: "y]: hi",
-                    ..small()
-                }),
+                "app app[x¦msg y]: hi",
             ),
         ],
     )
@@ -465,51 +220,22 @@ fn reads_other_process_ids(rt: HostRuntime) -> Result<(), Fail> {
 
 #[test]
 fn takes_lists_from_the_message(rt: HostRuntime) -> Result<(), Fail> {
-    check_rows(
+    check_others(
         &rt,
         rt.alloc(),
         &[
             (
-                Fields {
-                    elements: "e",
-                    ..small()
-                },
+                "app a¦list e¦msg hi",
                 "<34> - - a: [e] hi",
-                Some(Fields {
-                    msg: "[e] hi",
-                    ..small()
-                }),
+                "app a¦msg [e] hi",
             ),
             (
-                Fields {
-                    msg: "[e k=\"v\"] hi",
-                    ..small()
-                },
+                "app a¦msg [e k=\"v\"] hi",
                 "<34> - - a: [e k=\"v\"] hi",
-                Some(Fields {
-                    elements: "e|k|v",
-                    ..small()
-                }),
+                "app a¦list e|k|v¦msg hi",
             ),
-            (
-                Fields {
-                    msg: "-",
-                    ..small()
-                },
-                "<34> - - a: -",
-                Some(Fields { msg: "", ..small() }),
-            ),
-            (
-                Fields {
-                    msg: "- x",
-                    ..small()
-                },
-                "<34> - - a: - x",
-                Some(Fields {
-                    msg: "x",
-                    ..small()
-                }),
-            ),
+            ("app a¦msg -", "<34> - - a: -", "app a¦msg "),
+            ("app a¦msg - x", "<34> - - a: - x", "app a¦msg x"),
         ],
     )
 }

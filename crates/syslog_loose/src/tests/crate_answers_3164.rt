@@ -3,29 +3,21 @@
 //! How it was made: the crate, built by rustc 1.95, read each text under its variant RFC3164 with UTC as both zones and
 //! 2019 as the year; its fields and its printed text were written down here, and are not made anew. There a dash is a list
 //! before anything; the texts that are read otherwise here for that stand in a test of their own.
-use super::expected::{
-    Worked, check_elements, check_invalid, check_timestamp, process_of, read, row_of,
-};
+use super::expected::{check_fields, check_invalid, check_printed, check_timestamp, read, row_of};
 use crate::{Protocol, Variant};
 use std::alloc::Global;
 use std::process::Abort;
 use std::test::Fail;
 
-/// Each text reads as its message; priority and message id are seen in the printed text.
+/// Each text reads as its message; the priority is seen in the printed text.
 fn check(rt: &impl Abort, alloc: Global, rows: &[&str]) -> Result<(), Fail> {
     for row in rows {
-        let Worked { text, want, .. } = row_of(rt, row);
-        let message = read(alloc, text, Variant::RFC3164)?;
+        let want = row_of(rt, row);
+        let message = read(alloc, want.text, Variant::RFC3164)?;
         assert_eq!(rt; message.protocol, Protocol::RFC3164);
         check_timestamp(rt, alloc, &message, want.timestamp)?;
-        assert_eq!(rt; message.hostname, want.hostname);
-        assert_eq!(rt; message.appname, want.appname);
-        assert_eq!(rt; process_of(&message.procid), want.process);
-        assert_eq!(rt; message.msgid, None);
-        check_elements(rt, &message.structured_data, want.elements);
-        assert_eq!(rt; message.msg, want.msg);
-        let printed = format!(in alloc; "{message}")?;
-        assert_eq!(rt; printed.as_str(), want.printed);
+        check_fields(rt, &message, &want);
+        check_printed(rt, alloc, &message, &want)?;
     }
     Ok(())
 }
@@ -257,11 +249,9 @@ fn differs_where_a_dash_stands_before_no_blank(rt: HostRuntime) -> Result<(), Fa
             "-[x y=\"z\"] m",
         ),
     ] {
+        let row = format!(in alloc; "{text}¦host host¦app app¦msg {here}")?;
         let message = read(alloc, text, Variant::RFC3164)?;
-        assert_eq!(rt; message.hostname, Some("host"), "{text}");
-        assert_eq!(rt; message.appname, Some("app"), "{text}");
-        check_elements(&rt, &message.structured_data, "");
-        assert_eq!(rt; message.msg, here, "{text}");
+        check_fields(&rt, &message, &row_of(&rt, row.as_str()));
         assert_eq!(rt; message.msg.strip_prefix('-'), Some(there), "{text}");
     }
     Ok(())

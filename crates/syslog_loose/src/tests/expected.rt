@@ -16,9 +16,12 @@ pub(super) enum Process<'a> {
     Name(&'a str),
 }
 
-/// A message of RFC 5424, with its facility and severity by name, and its timestamp and itself as they print.
+/// A text and its message, with facility and severity by name, and the timestamp and the message itself as they print.
 #[derive(Clone, Copy)]
 pub(super) struct Expected<'a> {
+    pub(super) text: &'a str,
+    /// Of a date that has none in the text.
+    pub(super) year: i32,
     pub(super) version: u32,
     pub(super) facility: Option<&'a str>,
     pub(super) severity: Option<&'a str>,
@@ -33,9 +36,10 @@ pub(super) struct Expected<'a> {
     pub(super) printed: &'a str,
 }
 
-/// The message of `1 - - - - - -`.
-pub(super) fn empty<'a>() -> Expected<'a> {
+fn empty<'a>() -> Expected<'a> {
     Expected {
+        text: "1 - - - - - -",
+        year: 2019,
         version: 1,
         facility: None,
         severity: None,
@@ -50,36 +54,18 @@ pub(super) fn empty<'a>() -> Expected<'a> {
     }
 }
 
-/// A text and its message.
-pub(super) type Row<'a> = (&'a str, Expected<'a>);
-
-/// A text, the year of a date that has none there, and the message.
-#[derive(Clone, Copy)]
-pub(super) struct Worked<'a> {
-    pub(super) text: &'a str,
-    pub(super) year: i32,
-    pub(super) want: Expected<'a>,
-}
-
-/// A row of a table, written in cells with `¦` between them: the text, and then what stands in the fields of its message,
-/// as `host h`. A field without a cell is absent or empty; the year is 2019 where no cell gives one. (A table of structs
-/// would be proved field by field, ten times as long.)
-pub(super) fn row_of<'a>(rt: &impl Abort, row: &'a str) -> Worked<'a> {
+/// What a row of a table says. It is written in cells with `¦` between them: the text, and then what stands in the fields
+/// of its message, as `host h`. A field without a cell is absent or empty; the year is 2019 where no cell gives one. (A
+/// table of structs would be proved field by field, ten times as long.)
+pub(super) fn row_of<'a>(rt: &impl Abort, row: &'a str) -> Expected<'a> {
     let mut cells = row.split('¦');
-    let mut found = Worked {
-        text: cells.next().unwrap_or(""),
-        year: 2019,
-        want: empty(),
-    };
+    let mut want = empty();
+    want.text = cells.next().unwrap_or("");
     for cell in cells {
         let (field, value) = cell.split_once(' ').unwrap_or((cell, ""));
-        if field == "year" {
-            found.year = value.parse().unwrap_or(0);
-        } else {
-            found.want = with_field(rt, found.want, field, value);
-        }
+        want = with_field(rt, want, field, value);
     }
-    found
+    want
 }
 
 fn with_field<'a>(
@@ -89,6 +75,7 @@ fn with_field<'a>(
     value: &'a str,
 ) -> Expected<'a> {
     match field {
+        "year" => want.year = value.parse().unwrap_or(0),
         "version" => want.version = value.parse().unwrap_or(0),
         "facility" => want.facility = Some(value),
         "severity" => want.severity = Some(value),
@@ -133,7 +120,7 @@ pub(super) fn read_in_year<'a>(
     )
 }
 
-pub(super) fn process_of<'a>(procid: &Option<ProcId<&'a str>>) -> Process<'a> {
+fn process_of<'a>(procid: &Option<ProcId<&'a str>>) -> Process<'a> {
     match procid {
         None => Process::Absent,
         Some(ProcId::PID(number)) => Process::Number(*number),
@@ -175,7 +162,45 @@ pub(super) fn check_timestamp(
     Ok(())
 }
 
-/// Compares field by field, and then the printed text.
+fn check_field(
+    rt: &impl Abort,
+    want: &Expected,
+    field: &str,
+    found: Option<&str>,
+    wanted: Option<&str>,
+) {
+    assert_eq!(rt; found, wanted, "{field} of {}", want.text);
+}
+
+fn check_priority(rt: &impl Abort, message: &Message<&str>, want: &Expected) {
+    let facility = message.facility.map(SyslogFacility::as_str);
+    let severity = message.severity.map(SyslogSeverity::as_str);
+    check_field(rt, want, "facility", facility, want.facility);
+    check_field(rt, want, "severity", severity, want.severity);
+}
+
+/// Compares what follows the timestamp.
+pub(super) fn check_fields(rt: &impl Abort, message: &Message<&str>, want: &Expected) {
+    check_field(rt, want, "host", message.hostname, want.hostname);
+    check_field(rt, want, "app", message.appname, want.appname);
+    assert_eq!(rt; process_of(&message.procid), want.process, "{}", want.text);
+    check_field(rt, want, "id", message.msgid, want.msgid);
+    check_elements(rt, &message.structured_data, want.elements);
+    check_field(rt, want, "msg", Some(message.msg), Some(want.msg));
+}
+
+pub(super) fn check_printed(
+    rt: &impl Abort,
+    alloc: Global,
+    message: &Message<&str>,
+    want: &Expected,
+) -> Result<(), Fail> {
+    let printed = format!(in alloc; "{message}")?;
+    assert_eq!(rt; printed.as_str(), want.printed);
+    Ok(())
+}
+
+/// Compares a message of RFC 5424 field by field, and then its printed text.
 pub(super) fn check_message(
     rt: &impl Abort,
     alloc: Global,
@@ -183,46 +208,24 @@ pub(super) fn check_message(
     want: &Expected,
 ) -> Result<(), Fail> {
     assert_eq!(rt; message.protocol, Protocol::RFC5424(want.version));
-    assert_eq!(rt; message.facility.map(SyslogFacility::as_str), want.facility);
-    assert_eq!(rt; message.severity.map(SyslogSeverity::as_str), want.severity);
+    check_priority(rt, message, want);
     check_timestamp(rt, alloc, message, want.timestamp)?;
-    assert_eq!(rt; message.hostname, want.hostname);
-    assert_eq!(rt; message.appname, want.appname);
-    assert_eq!(rt; process_of(&message.procid), want.process);
-    assert_eq!(rt; message.msgid, want.msgid);
-    check_elements(rt, &message.structured_data, want.elements);
-    assert_eq!(rt; message.msg, want.msg);
-    let printed = format!(in alloc; "{message}")?;
-    assert_eq!(rt; printed.as_str(), want.printed);
-    Ok(())
+    check_fields(rt, message, want);
+    check_printed(rt, alloc, message, want)
 }
 
-/// The text reads as this message, as RFC 5424 and under `Either`.
-pub(super) fn check_text(
-    rt: &impl Abort,
-    alloc: Global,
-    text: &str,
-    want: &Expected,
-) -> Result<(), Fail> {
+/// The text reads as its message, as RFC 5424 and under `Either`.
+pub(super) fn check_text(rt: &impl Abort, alloc: Global, want: &Expected) -> Result<(), Fail> {
     for variant in [Variant::Either, Variant::RFC5424] {
-        check_message(rt, alloc, &read(alloc, text, variant)?, want)?;
+        check_message(rt, alloc, &read(alloc, want.text, variant)?, want)?;
     }
     Ok(())
 }
 
-/// Each text reads as its message.
-pub(super) fn check_rows(rt: &impl Abort, alloc: Global, rows: &[Row]) -> Result<(), Fail> {
-    for (text, want) in rows {
-        check_text(rt, alloc, text, want)?;
-    }
-    Ok(())
-}
-
-/// The same of rows of text.
+/// The text of each row reads so.
 pub(super) fn check_table(rt: &impl Abort, alloc: Global, rows: &[&str]) -> Result<(), Fail> {
     for row in rows {
-        let Worked { text, want, .. } = row_of(rt, row);
-        check_text(rt, alloc, text, &want)?;
+        check_text(rt, alloc, &row_of(rt, row))?;
     }
     Ok(())
 }

@@ -1,40 +1,30 @@
 //! Hostile texts of RFC 3164: long numbers and words, brackets and quotes without an end, and characters that only look
 //! like white space.
-use super::expected::{Process, check_invalid};
-use super::rfc3164::{Loose, check_rows, row};
+use super::expected::check_invalid;
+use super::rfc3164::check_table;
 use crate::Variant;
 use std::alloc::Global;
 use std::process::Abort;
 use std::test::Fail;
 
-/// Of `- h a: ` and this message, and of what prints so.
-fn behind<'a>(text: &'a str, msg: &'a str, printed: &'a str) -> Loose<'a> {
-    Loose {
-        hostname: Some("h"),
-        appname: Some("a"),
-        msg,
-        ..row(text, printed)
-    }
-}
-
 #[test]
 fn passes_over_a_thousand_zeros_in_a_date(rt: HostRuntime) -> Result<(), Fail> {
     let alloc = rt.alloc();
     let zeros = "0".repeat(alloc, 1000)?;
-    let priority = format!(in alloc; "<{zeros}34>- h a: x")?;
-    let process = format!(in alloc; "- h a[{zeros}7]: x")?;
-    let date = format!(in alloc; "Oct {zeros}5 {zeros}2019 {zeros}7:{zeros}8:{zeros}9 h a: x")?;
-    check_rows(
+    let priority = format!(in alloc;
+        "<{zeros}34>- h a: x¦host h¦app a¦msg x¦prints <34> - h a: x"
+    )?;
+    let process = format!(in alloc;
+        "- h a[{zeros}7]: x¦host h¦app a¦pid 7¦msg x¦prints <47> - h a[7]: x"
+    )?;
+    let date = format!(in alloc;
+        "Oct {zeros}5 {zeros}2019 {zeros}7:{zeros}8:{zeros}9 h a: x\
+         ¦host h¦app a¦msg x¦prints <47> 2019-10-05T07:08:09+00:00 h a: x"
+    )?;
+    check_table(
         &rt,
         alloc,
-        &[
-            behind(priority.as_str(), "x", "<34> - h a: x"),
-            Loose {
-                process: Process::Number(7),
-                ..behind(process.as_str(), "x", "<47> - h a[7]: x")
-            },
-            behind(date.as_str(), "x", "<47> 2019-10-05T07:08:09+00:00 h a: x"),
-        ],
+        &[priority.as_str(), process.as_str(), date.as_str()],
     )
 }
 
@@ -57,37 +47,32 @@ fn takes_a_thousand_nines_for_no_number_of_a_date(rt: HostRuntime) -> Result<(),
             second.as_str(),
         ],
     );
-    let process = format!(in alloc; "- h a[{nines}]: x")?;
-    let printed = format!(in alloc; "<47> - h a[{nines}]: x")?;
-    let named = Loose {
-        process: Process::Name(nines.as_str()),
-        ..behind(process.as_str(), "x", printed.as_str())
-    };
-    check_rows(&rt, alloc, &[named])
+    let process = format!(in alloc;
+        "- h a[{nines}]: x¦host h¦app a¦name {nines}¦msg x¦prints <47> - h a[{nines}]: x"
+    )?;
+    check_table(&rt, alloc, &[process.as_str()])
 }
 
 #[test]
 fn cuts_a_thousand_decimals_of_a_timestamp(rt: HostRuntime) -> Result<(), Fail> {
     let alloc = rt.alloc();
     let ones = "1".repeat(alloc, 1000)?;
-    let text = format!(in alloc; "2020-01-01T00:00:00.{ones}Z h a: x")?;
-    let printed = "<47> 2020-01-01T00:00:00.111111111+00:00 h a: x";
-    check_rows(&rt, alloc, &[behind(text.as_str(), "x", printed)])
+    let row = format!(in alloc;
+        "2020-01-01T00:00:00.{ones}Z h a: x\
+         ¦host h¦app a¦msg x¦prints <47> 2020-01-01T00:00:00.111111111+00:00 h a: x"
+    )?;
+    check_table(&rt, alloc, &[row.as_str()])
 }
 
 #[test]
 fn trims_white_space_and_splits_names_at_it(rt: HostRuntime) -> Result<(), Fail> {
-    let no_tag = Loose {
-        appname: None,
-        ..behind("- h\u{a0}a: m", "\u{a0}a: m", "<47> - h : \u{a0}a: m")
-    };
-    check_rows(
+    check_table(
         &rt,
         rt.alloc(),
         &[
-            behind("\u{a0}- h a: m\u{3000}", "m", "<47> - h a: m"),
-            behind("- h a: \u{a0}m", "\u{a0}m", "<47> - h a: \u{a0}m"),
-            no_tag,
+            "\u{a0}- h a: m\u{3000}¦host h¦app a¦msg m¦prints <47> - h a: m",
+            "- h a: \u{a0}m¦host h¦app a¦msg \u{a0}m¦prints <47> - h a: \u{a0}m",
+            "- h\u{a0}a: m¦host h¦msg \u{a0}a: m¦prints <47> - h : \u{a0}a: m",
         ],
     )?;
     check_invalid(&rt, rt.alloc(), Variant::Either, &["\u{feff}- h a: m"]);
@@ -96,36 +81,21 @@ fn trims_white_space_and_splits_names_at_it(rt: HostRuntime) -> Result<(), Fail>
 
 #[test]
 fn ends_a_value_at_a_quote_alone(rt: HostRuntime) -> Result<(), Fail> {
-    check_rows(
+    check_table(
         &rt,
         rt.alloc(),
         &[
-            Loose {
-                elements: "a|b|]",
-                ..behind("- h a: [a b=\"]\"]d", "d", "<47> - h a: [a b=\"]\"] d")
-            },
-            Loose {
-                elements: "a|b|c\\\\",
-                ..behind(
-                    "- h a: [a b=\"c\\\\\"]d",
-                    "d",
-                    "<47> - h a: [a b=\"c\\\\\"] d",
-                )
-            },
-            behind(
-                "- h a: [a b=\"c\\\"]d",
-                "[a b=\"c\\\"]d",
-                "<47> - h a: [a b=\"c\\\"]d",
-            ),
+            "- h a: [a b=\"]\"]d¦host h¦app a¦list a|b|]¦msg d¦prints <47> - h a: [a b=\"]\"] d",
+            "- h a: [a b=\"c\\\\\"]d¦host h¦app a¦list a|b|c\\\\¦msg d¦prints <47> - h a: [a b=\"c\\\\\"] d",
+            "- h a: [a b=\"c\\\"]d¦host h¦app a¦msg [a b=\"c\\\"]d¦prints <47> - h a: [a b=\"c\\\"]d",
         ],
     )
 }
 
 // Behind a host and a tag, the whole of this is the message.
 fn check_left(rt: &impl Abort, alloc: Global, msg: &str) -> Result<(), Fail> {
-    let text = format!(in alloc; "- h a: {msg}")?;
-    let printed = format!(in alloc; "<47> {text}")?;
-    check_rows(rt, alloc, &[behind(text.as_str(), msg, printed.as_str())])
+    let row = format!(in alloc; "- h a: {msg}¦host h¦app a¦msg {msg}¦prints <47> - h a: {msg}")?;
+    check_table(rt, alloc, &[row.as_str()])
 }
 
 #[test]
@@ -146,52 +116,31 @@ fn leaves_brackets_and_open_elements_in_the_message(rt: HostRuntime) -> Result<(
 #[test]
 fn reads_ten_thousand_brackets_as_names(rt: HostRuntime) -> Result<(), Fail> {
     let alloc = rt.alloc();
-    let brackets = "[".repeat(alloc, 10_000)?;
-    let tag = format!(in alloc; "- h {brackets}: x")?;
-    let tag_printed = format!(in alloc; "<47> {tag}")?;
-    let form = format!(in alloc; "- h {brackets}]: x")?;
-    let form_printed = format!(in alloc; "<47> {form}")?;
-    check_rows(
-        &rt,
-        alloc,
-        &[
-            Loose {
-                appname: Some(brackets.as_str()),
-                ..behind(tag.as_str(), "x", tag_printed.as_str())
-            },
-            Loose {
-                appname: Some(""),
-                process: Process::Name(brackets.as_str().get(1..).ok_or("no id")?),
-                ..behind(form.as_str(), "x", form_printed.as_str())
-            },
-        ],
-    )
+    let fewer = "[".repeat(alloc, 9_999)?;
+    let tag = format!(in alloc;
+        "- h [{fewer}: x¦host h¦app [{fewer}¦msg x¦prints <47> - h [{fewer}: x"
+    )?;
+    let form = format!(in alloc;
+        "- h [{fewer}]: x¦host h¦app ¦name {fewer}¦msg x¦prints <47> - h [{fewer}]: x"
+    )?;
+    check_table(&rt, alloc, &[tag.as_str(), form.as_str()])
 }
 
 #[test]
 fn reads_a_host_of_ten_thousand_colons(rt: HostRuntime) -> Result<(), Fail> {
     let alloc = rt.alloc();
     let colons = ":".repeat(alloc, 9_999)?;
-    let text = format!(in alloc; "- {colons}: x")?;
-    let printed = format!(in alloc; "<47> - {colons} : x")?;
-    let host = Loose {
-        hostname: Some(colons.as_str()),
-        appname: None,
-        ..behind(text.as_str(), "x", printed.as_str())
-    };
-    check_rows(&rt, alloc, &[host])
+    let row = format!(in alloc; "- {colons}: x¦host {colons}¦msg x¦prints <47> - {colons} : x")?;
+    check_table(&rt, alloc, &[row.as_str()])
 }
 
 #[test]
 fn reads_a_thousand_elements_of_rfc_3164(rt: HostRuntime) -> Result<(), Fail> {
     let alloc = rt.alloc();
-    let lines = "\ne|k|v".repeat(alloc, 1000)?;
+    let lines = "e|k|v\n".repeat(alloc, 999)?;
     let list = "[e k=\"v\"]".repeat(alloc, 1000)?;
-    let text = format!(in alloc; "- h a: {list} x")?;
-    let printed = format!(in alloc; "<47> {text}")?;
-    let want = Loose {
-        elements: lines.as_str().get(1..).ok_or("no lines")?,
-        ..behind(text.as_str(), "x", printed.as_str())
-    };
-    check_rows(&rt, alloc, &[want])
+    let row = format!(in alloc;
+        "- h a: {list} x¦host h¦app a¦list {lines}e|k|v¦msg x¦prints <47> - h a: {list} x"
+    )?;
+    check_table(&rt, alloc, &[row.as_str()])
 }

@@ -1,91 +1,36 @@
 //! Worked texts of RFC 3164: the names of a header, its list, and what is left for the message.
-use super::expected::{Process, Worked, check_elements, process_of, read_in_year, row_of};
-use crate::{Message, ParseFault, Protocol, Variant, rfc3164};
+use super::expected::{Expected, check_fields, check_printed, read_in_year, row_of};
+use crate::{ParseFault, Protocol, Variant, rfc3164};
 use jiff::tz::TimeZone;
 use std::alloc::Global;
 use std::process::Abort;
 use std::test::Fail;
 use syslog_pieces::structured_data::listed::DashRule;
 
-/// What a text reads as, and how that prints. The printed text has the priority and the timestamp.
-#[derive(Clone, Copy)]
-pub(super) struct Loose<'a> {
-    pub(super) text: &'a str,
-    pub(super) year: i32,
-    pub(super) hostname: Option<&'a str>,
-    pub(super) appname: Option<&'a str>,
-    pub(super) process: Process<'a>,
-    pub(super) elements: &'a str,
-    pub(super) msg: &'a str,
-    pub(super) printed: &'a str,
-}
-
-pub(super) fn row<'a>(text: &'a str, printed: &'a str) -> Loose<'a> {
-    Loose {
-        text,
-        year: 2019,
-        hostname: None,
-        appname: None,
-        process: Process::Absent,
-        elements: "",
-        msg: "",
-        printed,
-    }
-}
-
-fn check_loose(
+/// The text reads by the variant as its message of RFC 3164; the printed text has the priority and the timestamp.
+fn check_variant(
     rt: &impl Abort,
     alloc: Global,
-    message: &Message<&str>,
-    want: &Loose,
+    variant: Variant,
+    want: &Expected,
 ) -> Result<(), Fail> {
+    let message = read_in_year(alloc, want.text, want.year, variant)?;
     assert_eq!(rt; message.protocol, Protocol::RFC3164, "{}", want.text);
-    assert_eq!(rt; message.hostname, want.hostname, "{}", want.text);
-    assert_eq!(rt; message.appname, want.appname, "{}", want.text);
-    assert_eq!(rt; process_of(&message.procid), want.process, "{}", want.text);
-    assert_eq!(rt; message.msgid, None);
-    check_elements(rt, &message.structured_data, want.elements);
-    assert_eq!(rt; message.msg, want.msg, "{}", want.text);
     assert_eq!(rt; message.severity.is_some(), want.text.starts_with('<'));
-    let printed = format!(in alloc; "{message}")?;
-    assert_eq!(rt; printed.as_str(), want.printed);
-    Ok(())
+    check_fields(rt, &message, want);
+    check_printed(rt, alloc, &message, want)
 }
 
-/// The text reads as its message, as RFC 3164 and under `Either`, and as none of RFC 5424.
-fn check_row(rt: &impl Abort, alloc: Global, want: &Loose) -> Result<(), Fail> {
-    for variant in [Variant::Either, Variant::RFC3164] {
-        let message = read_in_year(alloc, want.text, want.year, variant)?;
-        check_loose(rt, alloc, &message, want)?;
-    }
-    match read_in_year(alloc, want.text, want.year, Variant::RFC5424) {
-        Ok(_) => assert!(rt; false, "a message in {}", want.text),
-        Err(fault) => assert_eq!(rt; fault, ParseFault::Invalid),
-    }
-    Ok(())
-}
-
-pub(super) fn check_rows(rt: &impl Abort, alloc: Global, rows: &[Loose]) -> Result<(), Fail> {
-    for want in rows {
-        check_row(rt, alloc, want)?;
-    }
-    Ok(())
-}
-
-/// The same of rows of text.
-fn check_table(rt: &impl Abort, alloc: Global, rows: &[&str]) -> Result<(), Fail> {
-    for cells in rows {
-        let Worked { text, year, want } = row_of(rt, cells);
-        let want = Loose {
-            year,
-            hostname: want.hostname,
-            appname: want.appname,
-            process: want.process,
-            elements: want.elements,
-            msg: want.msg,
-            ..row(text, want.printed)
-        };
-        check_row(rt, alloc, &want)?;
+/// The text of each row reads so as RFC 3164 and under `Either`, and not as RFC 5424.
+pub(super) fn check_table(rt: &impl Abort, alloc: Global, rows: &[&str]) -> Result<(), Fail> {
+    for row in rows {
+        let want = row_of(rt, row);
+        check_variant(rt, alloc, Variant::Either, &want)?;
+        check_variant(rt, alloc, Variant::RFC3164, &want)?;
+        match read_in_year(alloc, want.text, want.year, Variant::RFC5424) {
+            Ok(_) => assert!(rt; false, "a message in {}", want.text),
+            Err(fault) => assert_eq!(rt; fault, ParseFault::Invalid),
+        }
     }
     Ok(())
 }
