@@ -4,9 +4,11 @@
 //! and each of the items behind it would be scanned as far again. But whatever scan passes a `]` alive does so inside a
 //! value, so all such scans have one future. A number `dead` keeps it: no element closes from behind a `]` that leaves
 //! `dead` bytes or more. A scan that passes such a `]` stops there.
-ghost use Rattle.std.specs.Prelude.{◌≡◌, ◌≤◌, ◌++◌, [], ◌∷◌, MatchOption, MatchResult};
+ghost use Rattle.std.specs.Prelude.{◌≡◌, ◌<◌, ◌≤◌, ◌++◌, [], ◌∷◌, IsTrue, MatchOption, MatchResult, length, slice_index};
 ghost use Rattle.std.specs.Str.{chars, IsUtf8};
+ghost use Rattle.syslog_pieces.specs.Bodies.Scan.{EndsRun, SplitsRun};
 ghost use Rattle.syslog_pieces.specs.Text.CharClass.{has};
+ghost use Rattle.syslog_pieces.specs.declared.text.CharClass.TheVariants.{Inert};
 ghost use Rattle.syslog_pieces.specs.Pieces.Class.{Class, Front, NoFront, exactly, some_run, texted};
 ghost use Rattle.syslog_pieces.specs.Bodies.Closing.{start as start_class, opening as opening_class, quoted as quoted_class, id_alone, name_alone, closing, byte_count, IsDead, last_char};
 ghost use Rattle.syslog_pieces.specs.StructuredData.Escapes.{TextUnit, unit_text};
@@ -14,7 +16,7 @@ ghost use Rattle.syslog_pieces.specs.StructuredData.Listed.{full_element};
 ghost use Rattle.syslog_pieces.specs.StructuredData.{value, element as element_class, bracketed as bracketed_class, IsValueUnit};
 ghost use Rattle.syslog_pieces.specs.Pieces.View.{shown, Reads, Recognises};
 
-use crate::text::{CharClass, blanks, first, literal, split_run};
+use crate::text::{CharClass, blanks, first, literal, run_end, split_run};
 
 // The nonempty run of the class at the front, and the text behind it.
 #[inline(always)]
@@ -65,6 +67,38 @@ fn unit(text: &str) -> Option<(char, &str)>
     }
 }
 
+// Whether an escape stands at the front.
+#[inline(always)]
+fn begins_escape(bytes: &[u8]) -> bool
+    ensures { IsTrue result → (0 < length bytes.now) × (slice_index bytes.now 0 ≡ 92) }
+{
+    match bytes {
+        [first, ..] => *first == b'\\',
+        [] => false,
+    }
+}
+
+// Where the run of characters that mean nothing in a value ends. Behind an escape there often stands another one, for
+// which sixteen bytes need not be looked at.
+#[inline(always)]
+fn inert_end(text: &str) -> usize
+    ensures { EndsRun (has Inert) text.now result }
+{
+    if begins_escape(text.as_bytes()) {
+        0
+    } else {
+        run_end(text, CharClass::Inert)
+    }
+}
+
+// That run, and the text behind it.
+#[inline(always)]
+fn split_inert(text: &str) -> (&str, &str)
+    ensures { SplitsRun (has Inert) text.now result.0.now result.1.now }
+{
+    text.split_at(inert_end(text))
+}
+
 // The text behind the value at the front and its closing quote. A refusal says that no element closes from here, and
 // gives such a number for the text; under a number past the text it says that no value closes.
 #[inline(always)]
@@ -77,7 +111,7 @@ pub(super) fn live_value(text: &str, dead: usize) -> Result<&str, usize>
 {
     let mut rest = text;
     'units: loop {
-        let (_, after) = split_run(rest, CharClass::Inert);
+        let (_, after) = split_inert(rest);
         if let Some(behind) = literal(after, '"') {
             return Ok(behind);
         }
