@@ -73,7 +73,7 @@ pub fn settle_into<F: FnOnce(IncompleteDate) -> i32>(
     settle_trimmed(alloc, text, trimmed(input), get_year, tz, variant, local)
 }
 
-// The same.
+// The same, given a text that was trimmed, so that no step passes its blanks again.
 fn settle_trimmed<F: FnOnce(IncompleteDate) -> i32>(
     alloc: Global,
     text: &mut String,

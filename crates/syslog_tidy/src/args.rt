@@ -1,5 +1,5 @@
 //! The program's arguments.
-ghost use Rattle.std.specs.Prelude.{◌≡◌, ◌↔◌, Bool, ℤ, IsTrue, MatchOption, map, pos};
+ghost use Rattle.std.specs.Prelude.{◌≡◌, ◌↔◌, Bool, IfSome, IsTrue, List, MatchOption, ℕ, ℤ, map, pos};
 ghost use Rattle.std.specs.Str.Parse.{digits_value};
 ghost use Rattle.syslog_tidy.specs.Arguments.{AreArguments, IsYear};
 
@@ -34,8 +34,11 @@ pub fn read_args(args: &[&str]) -> Option<(bool, i32)>
     }
 }
 
-/// What `read_args` makes of the program's arguments; none where they can't be had.
-pub fn arguments(rt: &HostRuntime) -> Option<(bool, i32)> {
+/// What `read_args` makes of the program's arguments; none where they can't be had. Which words these are, no clause says: the
+/// host has none for them (`tests/program` tries it).
+pub fn arguments(rt: &HostRuntime) -> Option<(bool, i32)>
+    ensures { IfSome result (λ x. (words : List (List ℕ)) × AreArguments words x.0 x.1) }
+{
     let mut args = env::args(rt).ok()?;
     args.next()?;
     let first = args.next()?;
