@@ -52,6 +52,16 @@ fn agrees_on_names(rt: HostRuntime) -> Result<(), Fail> {
             "<34>Oct 11 22:14:15 host:: odd\
              ¦at 2019-10-11T22:14:15+00:00¦host host:¦msg odd\
              ¦prints <34> 2019-10-11T22:14:15+00:00 host: : odd",
+        ],
+    )
+}
+
+#[test]
+fn agrees_on_forms(rt: HostRuntime) -> Result<(), Fail> {
+    check(
+        &rt,
+        rt.alloc(),
+        &[
             "<34>Oct 11 22:14:15 host app[12][34]: two brackets\
              ¦at 2019-10-11T22:14:15+00:00¦host host¦app app[12][34]¦msg two brackets\
              ¦prints <34> 2019-10-11T22:14:15+00:00 host app[12][34]: two brackets",
