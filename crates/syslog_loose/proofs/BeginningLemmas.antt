@@ -27,8 +27,8 @@ use Rattle.syslog_loose.specs.Beginning.{is_initial, is_first, BeginsNone}
 use Rattle.syslog_loose.specs.Reading.{dash_rule, AsksYear, IsUnreadable}
 use Rattle.syslog_loose.specs.Rfc3164.{body_row, rfc3164_row}
 use Rattle.syslog_loose.specs.Rfc5424.{rfc5424_row, data_row}
-use Rattle.syslog_loose.specs.declared.reading.Variant.{Variant}
-use Rattle.syslog_loose.specs.declared.reading.Variant.TheVariants.{Either, RFC3164, RFC5424}
+use Rattle.syslog_loose.specs.declared.variant.Variant.{Variant}
+use Rattle.syslog_loose.specs.declared.variant.Variant.TheVariants.{Either, RFC3164, RFC5424}
 use Rattle.syslog_loose.proofs.Rfc3164Lemmas.Apart.{number_begins}
 
 -- ---- first characters

@@ -1,7 +1,7 @@
 -- Which texts are read differently since the rule of the dash changed, and that the condition only grew.
-use Rattle.std.proofs.Common.{◌≡◌, ◌↔◌, ◌⊎◌, inl, inr, ℕ, ℤ, Bool, true, false, not, MatchBool, IsTrue, List, [], ◌∷◌, ◌++◌, length, Option, Some, None, refl, sym, ap, subst, ◌∙◌, arith}
+use Rattle.std.proofs.Common.{◌≡◌, ◌↔◌, ◌⊎◌, inl, inr, ℕ, suc, ℤ, Bool, true, false, not, MatchBool, IsTrue, List, [], ◌∷◌, ◌++◌, length, Option, Some, None, refl, sym, ap, subst, ◌∙◌, arith, append_assoc, append-nil}
 use Rattle.std.proofs.lemmas.Bool.Decides.{eqb_tells}
-use Rattle.syslog_pieces.specs.Pieces.Class.{Text, Class, Values, Front, NoFront, Row, Ends, run, rest, exactly, optional, spaced}
+use Rattle.syslog_pieces.specs.Pieces.Class.{Text, Class, Values, Front, NoFront, join, Divides, Row, Ends, run, rest, exactly, optional, spaced}
 use Rattle.syslog_pieces.specs.Pri.{priority}
 use Rattle.syslog_pieces.specs.StructuredData.Element.{ElementValue}
 use Rattle.syslog_pieces.specs.StructuredData.Listed.{IsListed, listed, BeginsNoList}
@@ -23,12 +23,12 @@ use Rattle.syslog_pieces.proofs.TextLemmas.Words.{host_det, tag_word_det}
 use Rattle.syslog_pieces.proofs.TimestampLemmas.Loose.{loose_stamp_det}
 use Rattle.syslog_loose.specs.declared.message.Protocol.{Protocol}
 use Rattle.syslog_loose.specs.declared.message.Protocol.TheVariants as protocol
-use Rattle.syslog_loose.specs.declared.reading.Variant.{Variant}
-use Rattle.syslog_loose.specs.declared.reading.Variant.TheVariants.{Either, RFC3164, RFC5424}
+use Rattle.syslog_loose.specs.declared.variant.Variant.{Variant}
+use Rattle.syslog_loose.specs.declared.variant.Variant.TheVariants.{Either, RFC3164, RFC5424}
 use Rattle.syslog_loose.specs.Canonical.{IsPlainFor, IsCanonical}
-use Rattle.syslog_loose.specs.Dash.{ReadsDifferently, before_list, BeginsLoose, DropsDash3164, DropsDash, WasUnreadable}
+use Rattle.syslog_loose.specs.Dash.{ReadsDifferently, BeginsLoose, DropsDash3164, DropsDash, WasUnreadable}
 use Rattle.syslog_loose.specs.Message.{MessageValue}
-use Rattle.syslog_loose.specs.Rfc3164.{Names3164, Resolves, stamped_row, rfc3164_row, Means3164, IsRead3164}
+use Rattle.syslog_loose.specs.Rfc3164.{Names3164, Resolves, stamped_row, fields_row, rfc3164_row, Means3164, IsRead3164}
 use Rattle.syslog_loose.proofs.Rfc3164Lemmas.Rows.{from_gap, from_list}
 use Rattle.syslog_loose.proofs.Rfc3164Lemmas.Unique as loose
 use Rattle.syslog_loose.proofs.Rfc5424Lemmas as strict
@@ -65,6 +65,10 @@ rows_split (C ∷ As) Bs f =
     let (u, a, b) = rows_split As Bs h.2 in
     (u, row_cons C As h.1 a, b)
 
+-- the pieces of RFC 3164 before the list
+abbrev pub before_list : Dating → List Class
+before_list dating = stamped_row dating ++ fields_row
+
 pub before_det : (dating : Dating) → AllDeterministic (before_list dating)
 before_det dating = (
   optional_det priority priority_det,
@@ -82,12 +86,24 @@ before_det dating = (
 
 -- ---- a list under the old rule
 
-dash_turns : (p : Text) (c : ℕ) (q : Text) (es : List ElementValue) (b : Bool) → is_blank c ≡ b → p ≡ dash → es ≡ []
-    → BeginsLoose (p ++ (c ∷ q)) ⊎ IsListed BeforeBlank p (c ∷ q) es
-dash_turns p c q es true e f g = inr (inl (f, e, g))
-dash_turns p c q es false e f g = inl (record { next = c; behind = q; is = ap (λ (x : Text). x ++ (c ∷ q)) f; no_blank = e })
+-- the piece is a dash, and what follows it begins with a character that is no blank
+record IsDropped (p q : Text) : Type 0 where
+  is_dash : p ≡ dash
+  next : ℕ
+  more : Text
+  follows : q ≡ next ∷ more
+  no_blank : is_blank next ≡ false
 
-some_turns : (p q : Text) (es : List ElementValue) → IsListed BeforeAnything p q es → BeginsLoose (p ++ q) ⊎ IsListed BeforeBlank p q es
+dropped_loose : (p q : Text) → IsDropped p q → BeginsLoose (p ++ q)
+dropped_loose p q d =
+    record { next = d.next; behind = d.more; is = ap (λ (x : Text). x ++ q) d.is_dash ∙ ap (λ (x : Text). 45 ∷ x) d.follows; no_blank = d.no_blank }
+
+dash_turns : (p : Text) (c : ℕ) (q : Text) (es : List ElementValue) (b : Bool) → is_blank c ≡ b → p ≡ dash → es ≡ []
+    → IsDropped p (c ∷ q) ⊎ IsListed BeforeBlank p (c ∷ q) es
+dash_turns p c q es true e f g = inr (inl (f, e, g))
+dash_turns p c q es false e f g = inl (record { is_dash = f; next = c; more = q; follows = refl; no_blank = e })
+
+some_turns : (p q : Text) (es : List ElementValue) → IsListed BeforeAnything p q es → IsDropped p q ⊎ IsListed BeforeBlank p q es
 some_turns p [] es (inl (f, u, g)) = inr (inl (f, tt, g))
 some_turns p (c ∷ q) es (inl (f, u, g)) = dash_turns p c q es (is_blank c) refl f g
 some_turns p [] es (inr h) = inr (inr h)
@@ -97,11 +113,11 @@ wider : (p q : Text) (es : List ElementValue) → IsListed BeforeBlank p q es �
 wider p q es (inl (f, u, g)) = inl (f, tt, g)
 wider p q es (inr h) = inr h
 
-list_turns : (t q : Text) (es : Option (List ElementValue)) → Front (optional (listed BeforeAnything)) t q es
-    → BeginsLoose t ⊎ Front (optional (listed BeforeBlank)) t q es
+list_turns : (t q : Text) (es : Option (List ElementValue)) (f : Front (optional (listed BeforeAnything)) t q es)
+    → IsDropped f.piece q ⊎ Front (optional (listed BeforeBlank)) t q es
 list_turns t q None f = inr (record { piece = f.piece; whole = f.whole; is = (f.is.0, λ p r es e h. f.is.1 p r es e (wider p r es h)) })
 list_turns t q (Some es) f = elim (some_turns f.piece q es f.is) [
-  | inl d ↦ inl (subst BeginsLoose (sym f.whole) d)
+  | inl d ↦ inl d
   | inr h ↦ inr (record { piece = f.piece; whole = f.whole; is = h })
 ]
 
@@ -111,25 +127,94 @@ row_read : (rule : DashRule) (dating : Dating) (text : Text) (vs : Values (rfc31
     → Front (Row (rfc3164_row rule dating)) (trimmed text) [] vs → IsRead3164 rule dating text m
 row_read rule dating text vs m means f = record { values = vs; division = front_division (rfc3164_row rule dating) f; means = means }
 
-pub old_turns : (dating : Dating) (text : Text) (m : MessageValue) → IsRead3164 BeforeAnything dating text m
-    → DropsDash3164 dating text ⊎ IsRead3164 BeforeBlank dating text m
-old_turns dating text m r =
-    let (u, a, b) = rows_split (before_list dating) (from_list BeforeAnything) (division_front (rfc3164_row BeforeAnything dating) r.division) in
-    let g = row_head (optional (listed BeforeAnything)) from_gap b in
-    let vs = firsts (before_list dating) (from_list BeforeAnything) r.values in
-    elim (list_turns u g.0 _ g.1) [
-      | inl d ↦ inl (record {
-        message = m;
-        read = r;
-        values = vs;
-        next = d.next;
-        behind = d.behind;
-        at_list = subst (λ (x : Text). Front (Row (before_list dating)) (trimmed text) x vs) d.is a;
-        no_blank = d.no_blank;
-      })
-      | inr f ↦ inr (row_read BeforeBlank dating text _ m r.means
-          (rows_join (before_list dating) (from_list BeforeBlank) a (row_cons (optional (listed BeforeBlank)) from_gap f g.2)))
-    ]
+-- the pieces of two rows, one behind the other
+abbrev places : List Class → ℕ
+places [] = 0
+places (C ∷ Cs) = suc (places Cs)
+
+join_both : (ps qs : List Text) (q : Text) → join (ps ++ qs) ++ q ≡ join ps ++ (join qs ++ q)
+join_both [] qs q = refl
+join_both (p ∷ ps) qs q =
+    append_assoc p (join (ps ++ qs)) q ∙ ap (λ (x : Text). p ++ x) (join_both ps qs q) ∙ sym (append_assoc p (join ps) (join qs ++ q))
+
+divides_split : (As Bs : List Class) (ps qs : List Text) (q : Text) (vs : Values (As ++ Bs)) → length ps ≡ places As → Divides (As ++ Bs) (ps ++ qs) q vs
+    → Divides As ps (join qs ++ q) (firsts As Bs vs) × Divides Bs qs q (lasts As Bs vs)
+divides_split [] Bs [] qs q vs e d = (tt, d)
+divides_split [] Bs (p ∷ ps) qs q vs e d = absurd (omega (arith, e))
+divides_split (C ∷ As) Bs [] qs q vs e d = absurd (omega (arith, e))
+divides_split (C ∷ As) Bs (p ∷ ps) qs q vs e d =
+    let r = divides_split As Bs ps qs q vs.1 (omega (arith, e)) d.1 in
+    ((subst (λ (x : Text). C.Is p x vs.0) (join_both ps qs q) d.0, r.0), r.1)
+
+divides_cut : (As Bs : List Class) (ps : List Text) (q : Text) (vs : Values (As ++ Bs)) → Divides (As ++ Bs) ps q vs
+    → (before : List Text) × (behind : List Text) × (ps ≡ before ++ behind) × (length before ≡ places As)
+divides_cut [] Bs ps q vs d = ([], ps, refl, refl)
+divides_cut (C ∷ As) Bs [] q vs d = absurd d
+divides_cut (C ∷ As) Bs (p ∷ ps) q vs d =
+    let (before, behind, e, l) = divides_cut As Bs ps q vs.1 d.1 in
+    (p ∷ before, behind, ap (λ (x : List Text). p ∷ x) e, ap suc l)
+
+module _ (dating : Dating) (text : Text) (m : MessageValue) (r : IsRead3164 BeforeAnything dating text m) where
+  -- the meanings before the list, and from it on
+  abbrev fore : Values (before_list dating)
+  fore = firsts (before_list dating) (from_list BeforeAnything) r.values
+
+  abbrev aft : Values (from_list BeforeAnything)
+  aft = lasts (before_list dating) (from_list BeforeAnything) r.values
+
+  module _ (before behind : List Text) (e : r.division.pieces ≡ before ++ behind) (l : length before ≡ 8) where
+    both_parts : Divides (before_list dating) before (join behind ++ []) fore × Divides (from_list BeforeAnything) behind [] aft
+    both_parts =
+        divides_split (before_list dating) (from_list BeforeAnything) before behind [] r.values l
+        (subst (λ (ps : List Text). Divides (rfc3164_row BeforeAnything dating) ps [] r.values) e r.division.each)
+
+    fore_front : Front (Row (before_list dating)) (trimmed text) (join behind ++ []) fore
+    fore_front = record {
+      piece = join before;
+      whole = r.division.whole ∙ ap join e ∙ sym (append-nil (join (before ++ behind))) ∙ join_both before behind [];
+      is = (before, refl, both_parts.0);
+    }
+
+  -- where the list of that reading is no list now, it is a dash that is dropped
+  list_piece : (before behind : List Text) (e : r.division.pieces ≡ before ++ behind) (l : length before ≡ 8) → Divides (from_list BeforeAnything) behind [] aft
+      → DropsDash3164 dating text ⊎ IsRead3164 BeforeBlank dating text m
+  list_piece before [] e l d = absurd d
+  list_piece before (p ∷ ps) e l d =
+      let f : Front (optional (listed BeforeAnything)) (join (p ∷ ps) ++ []) (join ps ++ []) aft.0 = record { piece = p; whole = append_assoc p (join ps) []; is = d.0 } in
+      elim (list_turns (join (p ∷ ps) ++ []) (join ps ++ []) aft.0 f) [
+        | inl k ↦ inl (record {
+          message = m;
+          read = r;
+          before = before;
+          list = p;
+          behind = ps;
+          pieces = e;
+          place = l;
+          is_list = inl (k.is_dash, tt, refl);
+          is_dash = k.is_dash;
+          next = k.next;
+          more = k.more;
+          follows = sym (append-nil (join ps)) ∙ k.follows;
+          no_blank = k.no_blank;
+        })
+        | inr g ↦ inr (row_read BeforeBlank dating text _ m r.means
+            (rows_join (before_list dating) (from_list BeforeBlank) (fore_front before (p ∷ ps) e l)
+            (row_cons (optional (listed BeforeBlank)) from_gap g (record { piece = join ps; whole = refl; is = (ps, refl, d.1) }))))
+      ]
+
+  pub old_turns : DropsDash3164 dating text ⊎ IsRead3164 BeforeBlank dating text m
+  old_turns =
+      let (before, behind, e, l) = divides_cut (before_list dating) (from_list BeforeAnything) r.division.pieces [] r.values r.division.each in
+      list_piece before behind e l (both_parts before behind e l).1
+
+-- where such a dash is dropped, the text from it on
+dropped_at : (dating : Dating) (text : Text) (d : DropsDash3164 dating text)
+    → Front (Row (before_list dating)) (trimmed text) (45 ∷ (d.next ∷ d.more)) (firsts (before_list dating) (from_list BeforeAnything) d.read.values)
+dropped_at dating text d =
+    let from : join (d.list ∷ d.behind) ++ [] ≡ 45 ∷ (d.next ∷ d.more) =
+    append-nil (join (d.list ∷ d.behind)) ∙ ap (λ (x : Text). d.list ++ x) d.follows ∙ ap (λ (x : Text). x ++ (d.next ∷ d.more)) d.is_dash in
+    subst (λ (x : Text). Front (Row (before_list dating)) (trimmed text) x (firsts (before_list dating) (from_list BeforeAnything) d.read.values)) from
+    (fore_front dating text d.message d.read d.before (d.list ∷ d.behind) d.pieces d.place)
 
 differ_drops : (dating : Dating) (text : Text) (m n : MessageValue) → IsRead3164 BeforeAnything dating text m → IsRead3164 BeforeBlank dating text n → (m ≡ n → ⊥) → DropsDash3164 dating text
 differ_drops dating text m n r s d =
@@ -175,11 +260,8 @@ drops_differ dating text vs n c q f means b =
 
 pub drop_differs : (dating : Dating) (text : Text) → DropsDash3164 dating text → ReadsDifferently RFC3164 dating text
 drop_differs dating text d =
-    let (u, a, b) = rows_split (before_list dating) (from_list BeforeAnything) (division_front (rfc3164_row BeforeAnything dating) d.read.division) in
-    let e = (front_same (Row (before_list dating)) (row_det (before_list dating) (before_det dating)) a d.at_list).0 in
     let (n, means, is) = d.read.means in
-    drops_differ dating text (firsts (before_list dating) (from_list BeforeAnything) d.read.values) n d.next d.behind
-    (subst (λ (x : Text). Front (Row (before_list dating)) (trimmed text) x (firsts (before_list dating) (from_list BeforeAnything) d.read.values)) e a) means d.no_blank
+    drops_differ dating text (firsts (before_list dating) (from_list BeforeAnything) d.read.values) n d.next d.more (dropped_at dating text d) means d.no_blank
 
 -- ---- under each variant
 
@@ -238,7 +320,7 @@ list_returns t q None f = elim (loose_or_not q) [
   | inr n ↦ inr (record {
     piece = f.piece;
     whole = f.whole;
-    is = (f.is.0, λ p r es e h. elim (some_turns p r es h) [ inl d ↦ n (subst BeginsLoose (sym e) d) | inr k ↦ f.is.1 p r es e k ]);
+    is = (f.is.0, λ p r es e h. elim (some_turns p r es h) [ inl d ↦ n (subst BeginsLoose (sym e) (dropped_loose p r d)) | inr k ↦ f.is.1 p r es e k ]);
   })
 ]
 
@@ -293,8 +375,8 @@ told_by_list dating text t list vs n true e f means h =
 told_by_list dating text t list vs n false e f means h = λ k.
     let d = forth dating text RFC3164 k.before k.now k.was_read k.is_read k.differ in
     let g = subst (λ (x : Text). Front (Row (before_list dating)) x list vs) e f in
-    let same = (front_same (Row (before_list dating)) (row_det (before_list dating) (before_det dating)) g d.at_list).0 in
-    h (record { next = d.next; behind = d.behind; is = same; no_blank = d.no_blank })
+    let same = (front_same (Row (before_list dating)) (row_det (before_list dating) (before_det dating)) g (dropped_at dating text d)).0 in
+    h (record { next = d.next; behind = d.more; is = same; no_blank = d.no_blank })
 
 -- a text that no timestamp of RFC 3164 begins is not read by it
 pub none_differs : (dating : Dating) (text t : Text) → t ≡ trimmed text → NoFront (Row (stamped_row dating)) t → ReadsDifferently RFC3164 dating text → ⊥
@@ -369,3 +451,8 @@ told_either dating text b h =
     let own = told_3164 dating text b h in
     let either = either_differs dating text in
     (λ t. either.0 (own.0 t), λ r. own.1 (either.1 r))
+
+-- whoever tells the texts that are read differently tells those from which a dash is dropped
+pub drops_told : (variant : Variant) (dating : Dating) (text : Text) (b : Bool) → IsTrue b ↔ ReadsDifferently variant dating text → IsTrue b ↔ DropsDash variant dating text
+drops_told variant dating text b h =
+    let law = differs_where_dropped dating text variant in (λ t. law.0 (h.0 t), λ d. h.1 (law.1 d))

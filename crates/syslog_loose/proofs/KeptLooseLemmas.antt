@@ -37,8 +37,8 @@ use Rattle.syslog_loose.specs.ReadBack.{ReadsProtocol}
 use Rattle.syslog_loose.specs.Reading.{dash_rule, IsRead, AsksYear, IncompleteDate, incomplete, HasMonth, IsYearAnswered}
 use Rattle.syslog_loose.specs.Rfc3164.{names, body_row, rfc3164_row, IsRead3164}
 use Rattle.syslog_loose.specs.declared.message.Protocol.TheVariants as protocol
-use Rattle.syslog_loose.specs.declared.reading.Variant.{Variant}
-use Rattle.syslog_loose.specs.declared.reading.Variant.TheVariants.{Either, RFC3164, RFC5424}
+use Rattle.syslog_loose.specs.declared.variant.Variant.{Variant}
+use Rattle.syslog_loose.specs.declared.variant.Variant.TheVariants.{Either, RFC3164, RFC5424}
 use Rattle.syslog_loose.proofs.KeptLineLemmas.{composes}
 use Rattle.syslog_loose.proofs.ReadingLemmas.{answered_to}
 use Rattle.syslog_loose.proofs.Rfc3164Lemmas.Apart.{not_both}

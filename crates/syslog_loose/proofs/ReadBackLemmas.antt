@@ -22,8 +22,8 @@ use Rattle.syslog_loose.specs.declared.fault.ParseFault.TheVariants.{Invalid, Me
 use Rattle.syslog_loose.specs.declared.message.Message.{Message}
 use Rattle.syslog_loose.specs.declared.message.Protocol.{Protocol}
 use Rattle.syslog_loose.specs.declared.message.Protocol.TheVariants as protocol
-use Rattle.syslog_loose.specs.declared.reading.Variant.{Variant}
-use Rattle.syslog_loose.specs.declared.reading.Variant.TheVariants.{Either, RFC3164, RFC5424}
+use Rattle.syslog_loose.specs.declared.variant.Variant.{Variant}
+use Rattle.syslog_loose.specs.declared.variant.Variant.TheVariants.{Either, RFC3164, RFC5424}
 use Rattle.syslog_loose.proofs.ReadingLemmas.{only_read, any_year, in_answered_year}
 use Rattle.syslog_loose.proofs.Rfc3164Lemmas.Exact.{rfc3164_exact}
 use Rattle.syslog_loose.proofs.Rfc3164Lemmas.Near.{read_near, read_nearly, stamp_read}

@@ -15,8 +15,8 @@ use Rattle.syslog_loose.specs.Rfc5424.{IsRead5424, IsNot5424, NeedsNoMemory5424}
 use Rattle.syslog_loose.specs.declared.message.Message.{Message}
 use Rattle.syslog_loose.specs.declared.fault.ParseFault.{ParseFault}
 use Rattle.syslog_loose.specs.declared.fault.ParseFault.TheVariants.{Invalid, Memory}
-use Rattle.syslog_loose.specs.declared.reading.Variant.{Variant}
-use Rattle.syslog_loose.specs.declared.reading.Variant.TheVariants.{Either, RFC3164, RFC5424}
+use Rattle.syslog_loose.specs.declared.variant.Variant.{Variant}
+use Rattle.syslog_loose.specs.declared.variant.Variant.TheVariants.{Either, RFC3164, RFC5424}
 use Rattle.syslog_loose.proofs.Rfc3164Lemmas.Quoting as loose
 use Rattle.syslog_loose.proofs.Rfc3164Lemmas.Unique as loose_unique
 use Rattle.syslog_loose.proofs.Rfc3164Lemmas.Years.{other_read}

@@ -1,17 +1,17 @@
 -- What the rule of the dash changed: how it was while a dash was a list of RFC 3164 before anything, and which texts are
 -- read otherwise now. (This project's own.)
-use Rattle.std.specs.Prelude.{◌≡◌, ◌≢◌, ℕ, false, List, ◌∷◌, ◌++◌}
-use Rattle.syslog_pieces.specs.Pieces.Class.{Text, Class, Values, Front, Row}
+use Rattle.std.specs.Prelude.{◌≡◌, ◌≢◌, ℕ, false, List, [], ◌∷◌, ◌++◌, length}
+use Rattle.syslog_pieces.specs.Pieces.Class.{Text, Class, join}
 use Rattle.syslog_pieces.specs.StructuredData.Listed.{listed}
-use Rattle.syslog_pieces.specs.Text.{trimmed, is_blank}
+use Rattle.syslog_pieces.specs.Text.{is_blank, dash}
 use Rattle.syslog_pieces.specs.Timestamp.Zone.{Dating}
 use Rattle.syslog_pieces.specs.declared.structured_data.listed.DashRule.TheVariants.{BeforeAnything}
-use Rattle.syslog_loose.specs.declared.reading.Variant.{Variant}
-use Rattle.syslog_loose.specs.declared.reading.Variant.TheVariants.{Either, RFC3164, RFC5424}
+use Rattle.syslog_loose.specs.declared.variant.Variant.{Variant}
+use Rattle.syslog_loose.specs.declared.variant.Variant.TheVariants.{Either, RFC3164, RFC5424}
 use Rattle.syslog_loose.specs.Canonical.{IsCanonical}
 use Rattle.syslog_loose.specs.Message.{MessageValue}
 use Rattle.syslog_loose.specs.Reading.{IsReadUnder, IsRead}
-use Rattle.syslog_loose.specs.Rfc3164.{stamped_row, fields_row, IsRead3164}
+use Rattle.syslog_loose.specs.Rfc3164.{IsRead3164}
 use Rattle.syslog_loose.specs.Rfc5424.{IsNot5424}
 
 -- ---- how it was
@@ -46,10 +46,6 @@ pub record ReadsDifferently (variant : Variant) (dating : Dating) (text : Text) 
   pub is_read : IsRead variant dating text now
   pub differ : before ≢ now
 
--- the pieces of RFC 3164 before the list
-abbrev pub before_list : Dating → List Class
-before_list dating = stamped_row dating ++ fields_row
-
 -- a dash before a character that is no blank
 pub record BeginsLoose (text : Text) : Type 0 where
   pub next : ℕ
@@ -57,14 +53,21 @@ pub record BeginsLoose (text : Text) : Type 0 where
   pub is : text ≡ 45 ∷ (next ∷ behind)
   pub no_blank : is_blank next ≡ false
 
--- the text was read as RFC 3164, and its list was a dash before a character that is no blank
+-- The text was read as RFC 3164 with the old list: the ninth of its eleven pieces is the list's, and was `-`, and what
+-- follows that piece begins with a character that is no blank.
 pub record DropsDash3164 (dating : Dating) (text : Text) : Type 0 where
   pub message : MessageValue
   pub read : WasRead3164 dating text message
-  pub values : Values (before_list dating)
+  pub before : List Text
+  pub list : Text
+  pub behind : List Text
+  pub pieces : read.division.pieces ≡ before ++ (list ∷ behind)
+  pub place : length before ≡ 8
+  pub is_list : old_list.Is list (join behind) []
+  pub is_dash : list ≡ dash
   pub next : ℕ
-  pub behind : Text
-  pub at_list : Front (Row (before_list dating)) (trimmed text) (45 ∷ (next ∷ behind)) values
+  pub more : Text
+  pub follows : join behind ≡ next ∷ more
   pub no_blank : is_blank next ≡ false
 
 -- the same for a text that the variant reads as RFC 3164

@@ -16,7 +16,7 @@ use Rattle.syslog_loose.specs.Message.{MessageValue}
 use Rattle.syslog_loose.specs.Printed.{printed, timestamp_text}
 use Rattle.syslog_loose.specs.Reading.{AsksYear, IsOnlyRead}
 use Rattle.syslog_loose.specs.Rfc5424.{rfc5424_row, message_of, IsRead5424}
-use Rattle.syslog_loose.specs.declared.reading.Variant.{Variant}
+use Rattle.syslog_loose.specs.declared.variant.Variant.{Variant}
 
 -- priority and version
 abbrev pub front_row : List Class

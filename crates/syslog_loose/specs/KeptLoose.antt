@@ -21,7 +21,7 @@ use Rattle.syslog_loose.specs.ReadBack.{ReadsProtocol}
 use Rattle.syslog_loose.specs.Reading.{dash_rule, IsRead}
 use Rattle.syslog_loose.specs.Rfc3164.{rfc3164_row, Means3164}
 use Rattle.syslog_loose.specs.declared.message.Protocol.TheVariants.{RFC3164}
-use Rattle.syslog_loose.specs.declared.reading.Variant.{Variant}
+use Rattle.syslog_loose.specs.declared.variant.Variant.{Variant}
 
 -- `app[id]`
 abbrev pub bracketed : Text → Text → Text

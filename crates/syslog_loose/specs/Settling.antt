@@ -1,6 +1,6 @@
 -- Rounds: a text is read and printed, and what was printed is read and printed again, until it no longer changes. And the
 -- weight of a message of RFC 3164, which falls from round to round until then. (All of it is this project's own.)
-use Rattle.std.specs.Prelude.{◌≡◌, ◌≢◌, ◌⊎◌, ℕ, zero, suc, ◌+◌, ◌<◌, [], ◌∷◌, ◌++◌, length, Bool, MatchBool, ⊤, Option, Some, None, IfSome, Result, Ok, Err, MatchResult, String, string_bytes}
+use Rattle.std.specs.Prelude.{◌≡◌, ◌≢◌, ◌⊎◌, ℕ, zero, suc, ◌+◌, ◌<◌, ◌≤◌, [], ◌∷◌, ◌++◌, length, Bool, MatchBool, ⊤, Option, Some, None, IfSome, Result, Ok, Err, MatchResult, String, string_bytes}
 use Rattle.std.specs.Global.{Global}
 use Rattle.std.specs.Str.{chars}
 use Rattle.syslog_pieces.specs.Pieces.Class.{Text}
@@ -18,7 +18,7 @@ use Rattle.syslog_loose.specs.declared.fault.ParseFault.{ParseFault}
 use Rattle.syslog_loose.specs.declared.fault.ParseFault.TheVariants.{Invalid, Memory}
 use Rattle.syslog_loose.specs.declared.message.Protocol.{Protocol}
 use Rattle.syslog_loose.specs.declared.message.Protocol.TheVariants.{RFC3164, RFC5424}
-use Rattle.syslog_loose.specs.declared.reading.Variant.{Variant}
+use Rattle.syslog_loose.specs.declared.variant.Variant.{Variant}
 
 -- ---- rounds
 
@@ -54,14 +54,20 @@ pub record IsFirstSettled (variant : Variant) (dating : Dating) (text u : Text) 
 
 -- ---- what `settle` answers
 
--- `Invalid` only where some round is missing and none is settled, and `Memory` only to a text that has a round 1
+-- this is the first settled round of the text, and one of the rounds 1 to n + 1 where the text has n characters
+pub record SettlesAs (variant : Variant) (dating : Dating) (text u : Text) : Type 0 where
+  pub first : IsFirstSettled variant dating text u
+  pub soon : first.before ≤ length text
+
+-- `Invalid` only where one of the rounds 1 to n + 2 of a text of n characters is missing and none is settled, and
+-- `Memory` only to a text that has a round 1
 abbrev pub IsSettlingFault : Variant → Dating → Text → ParseFault → Type 0
-IsSettlingFault variant dating text Invalid = ((n : ℕ) × IsMissing variant dating text n) × ((u : Text) → IsFirstSettled variant dating text u → ⊥)
+IsSettlingFault variant dating text Invalid = IsMissing variant dating text (length text + 2) × ((u : Text) → IsFirstSettled variant dating text u → ⊥)
 IsSettlingFault variant dating text Memory = IsUnreadable variant dating text → ⊥
 
 -- the first settled round, or a fault
 abbrev pub Settles : Variant → Dating → Text → Result (String Global) ParseFault → Type 0
-Settles variant dating text result = MatchResult result (λ u. IsFirstSettled variant dating text (chars (string_bytes u))) (λ fault. IsSettlingFault variant dating text fault)
+Settles variant dating text result = MatchResult result (λ u. SettlesAs variant dating text (chars (string_bytes u))) (λ fault. IsSettlingFault variant dating text fault)
 
 -- the answer of a call that leaves its text in a place of the caller's
 abbrev pub answer_in : {A : Type 0} → Result A ParseFault → String Global → Result (String Global) ParseFault

@@ -4,19 +4,20 @@ ghost use Rattle.std.specs.Prelude.{◌↔◌, IsTrue, MatchBool};
 ghost use Rattle.std.specs.Result.{IsOkAnd};
 ghost use Rattle.std.specs.Str.{chars};
 ghost use Rattle.syslog_pieces.specs.Timestamp.Zone.{dating_of};
-ghost use Rattle.syslog_loose.specs.Dash.{BeginsLoose, ReadsDifferently};
+ghost use Rattle.syslog_loose.specs.Dash.{BeginsLoose, DropsDash, ReadsDifferently};
 ghost use Rattle.syslog_loose.specs.Reading.{AnswersEachMonth, InYear};
-ghost use Rattle.syslog_loose.specs.declared.reading.Variant.TheVariants as variants;
+ghost use Rattle.syslog_loose.specs.declared.variant.Variant.TheVariants as variants;
 
-use crate::reading::{IncompleteDate, Variant, asked_date};
+use crate::reading::asked_date;
 use crate::rfc3164::{read_names, read_stamped};
+use crate::variant::{IncompleteDate, Variant};
 use jiff::tz::TimeZone;
 use std::alloc::{AllocError, Global};
 use syslog_pieces::text::{CharClass, first, literal, trimmed};
 
-/// Whether the text is read otherwise than it was while a dash was a list of RFC 3164 before anything, as it is in the Rust
-/// crate: so whether a dash before a character that is no blank was left out, and begins `msg` now that a dash is a list
-/// only at the end and before a blank.
+/// Whether the text is read otherwise than it was while a dash was a list of RFC 3164 before anything, as it is in the
+/// Rust crate: so whether the list's piece was a dash before a character that is no blank, which was left out, and begins
+/// `msg` now that a dash is a list only at the end and before a blank.
 ///
 /// The arguments are those of `parse_message_with_year_exact_tz`, and `get_year` is called as there. It is never refused.
 pub fn reads_differently<F: FnOnce(IncompleteDate) -> i32>(
@@ -30,6 +31,9 @@ pub fn reads_differently<F: FnOnce(IncompleteDate) -> i32>(
     requires { AnswersEachMonth (F.pre get_year) }
     ensures reads { InYear (F.post get_year) variant (chars input.entry.now) (λ year. IsOkAnd result (λ differs.
         IsTrue differs ↔ ReadsDifferently variant (dating_of year tz.entry local.entry) (chars input.entry.now))) }
+    // So whether the piece of the list that was read as RFC 3164 was `-`, before a character that is no blank.
+    ensures drops { InYear (F.post get_year) variant (chars input.entry.now) (λ year. IsOkAnd result (λ differs.
+        IsTrue differs ↔ DropsDash variant (dating_of year tz.entry local.entry) (chars input.entry.now))) }
 {
     let year = asked_date(input, variant).map(get_year);
     Ok(differs(input, year, tz, variant, local))

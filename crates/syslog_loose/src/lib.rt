@@ -18,8 +18,10 @@ mod reading;
 mod rfc3164;
 mod rfc5424;
 mod settling;
+mod tag_form;
 #[cfg(test)]
 mod tests;
+mod variant;
 
 pub use differing::reads_differently;
 pub use fault::ParseFault;
@@ -27,8 +29,8 @@ pub use jiff::Timestamp;
 pub use jiff::tz::{Offset, TimeZone};
 pub use message::{Message, Protocol};
 pub use reading::{
-    IncompleteDate, Variant, normalise, parse_message, parse_message_with_year,
-    parse_message_with_year_exact, parse_message_with_year_exact_tz, parse_message_with_year_tz,
+    normalise, parse_message, parse_message_with_year, parse_message_with_year_exact,
+    parse_message_with_year_exact_tz, parse_message_with_year_tz,
 };
 pub use settling::{settle, settle_into};
 pub use syslog_pieces::as_str::AsStr;
@@ -36,3 +38,4 @@ pub use syslog_pieces::pri::{SyslogFacility, SyslogSeverity, decompose_pri};
 pub use syslog_pieces::procid::ProcId;
 pub use syslog_pieces::structured_data::{ParamsIter, StructuredElement};
 pub use syslog_pieces::timestamp::OffsetTimestamp;
+pub use variant::{IncompleteDate, Variant};

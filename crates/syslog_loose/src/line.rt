@@ -20,7 +20,7 @@ mod loose;
 mod tests;
 
 use crate::message::{write_spaced, write_timestamp};
-use crate::reading::Variant;
+use crate::variant::Variant;
 pub(crate) use loose::{DatedLine, dated_line, dated_text, loose_text};
 use std::alloc::AllocError;
 use std::fmt;

@@ -16,38 +16,22 @@ ghost use Rattle.syslog_loose.specs.ReadBack.{AnswersAgain, AnswersItself, Field
 ghost use Rattle.syslog_loose.specs.Reading as spec;
 ghost use Rattle.syslog_loose.specs.Reading.{Answers, AnswersEachMonth, AnswersPlainly, AsksYear, HasMonth, InYear, IsOnlyRead, IsUnreadable, incomplete};
 ghost use Rattle.syslog_loose.specs.declared.fault.ParseFault.TheVariants.{Invalid};
-ghost use Rattle.syslog_loose.specs.declared.reading.Variant.{Variant};
-ghost use Rattle.syslog_loose.specs.declared.reading.Variant.TheVariants as variants;
+ghost use Rattle.syslog_loose.specs.declared.variant.Variant.{Variant};
+ghost use Rattle.syslog_loose.specs.declared.variant.Variant.TheVariants as variants;
 
 use crate::beginning::may_be_read;
 use crate::fault::ParseFault;
 use crate::line::{DatedLine, dated_line, dated_text, kept_text, loose_text, make_room};
 use crate::message::{Message, Protocol};
+use crate::variant::{IncompleteDate, Variant};
 use crate::{rfc3164, rfc5424};
 use jiff::Timestamp;
 use jiff::tz::TimeZone;
 use std::alloc::{AllocError, Global};
 use std::fmt::Write;
-use syslog_pieces::structured_data::listed::DashRule;
+use syslog_pieces::structured_data::listed::DASH_RULE;
 use syslog_pieces::timestamp::month_date::shown_date;
 use syslog_pieces::timestamp::year_at;
-
-/// By which protocol a text is read.
-#[derive(Clone, Copy, Debug)]
-pub enum Variant {
-    /// RFC 5424, and RFC 3164 where that gives no message.
-    Either,
-    /// RFC 3164.
-    RFC3164,
-    /// RFC 5424.
-    RFC5424,
-}
-
-/// The month, day, hour, minute and second of a date without a year.
-pub type IncompleteDate = (u32, u32, u32, u32, u32);
-
-/// Before which texts a dash is a list of RFC 3164: at the end and before a blank.
-pub(crate) const DASH_RULE: DashRule = DashRule::BeforeBlank;
 
 /// The message of the text, read by the variant, with the year of `now` in the local zone for a date that has none.
 ///

@@ -2,8 +2,7 @@
 //! timestamp at the front can fail.
 //!
 //! `read` answers the message of the one division of the trimmed text, or that there is none. It takes each piece from
-//! the readers of `syslog_pieces`, from the left. `resolve` answers what the host field and the tag field mean together,
-//! `tag_form` tells the form `tag[id]` of a program's name.
+//! the readers of `syslog_pieces`, from the left. `resolve` answers what the host field and the tag field mean together.
 ghost use Rattle.std.specs.Prelude.{◌≡◌, IfOk, IsOk, MatchOption, None};
 ghost use Rattle.std.specs.Str.{chars};
 ghost use Rattle.syslog_pieces.specs.Pieces.Class.{Row};
@@ -15,15 +14,13 @@ ghost use Rattle.syslog_loose.specs.TagForm.{IsForm, IsNoForm};
 ghost use Rattle.syslog_loose.specs.View3164.{names_value, stamped_values};
 
 use crate::message::{Message, Protocol};
-use crate::rfc5424::parts;
+use crate::tag_form::tag_form;
 use jiff::tz::TimeZone;
 use std::alloc::{AllocError, Global};
-use syslog_pieces::pri::optional_priority;
+use syslog_pieces::pri::{optional_priority, parts};
 use syslog_pieces::procid::ProcId;
 use syslog_pieces::structured_data::listed::{DashRule, optional_list};
-use syslog_pieces::text::{
-    CharClass, blanks, host_field, literal, past_colon, split_run, tag_field, trimmed,
-};
+use syslog_pieces::text::{blanks, host_field, past_colon, tag_field, trimmed};
 use syslog_pieces::timestamp::OffsetTimestamp;
 use syslog_pieces::timestamp::loose::loose_stamp;
 
@@ -33,19 +30,6 @@ pub(crate) struct Names<'a> {
     pub(crate) hostname: Option<&'a str>,
     pub(crate) appname: Option<&'a str>,
     pub(crate) procid: Option<ProcId<&'a str>>,
-}
-
-/// The tag and the id of a text of the form `tag[id]`.
-pub(crate) fn tag_form(text: &str) -> Option<(&str, &str)>
-    ensures { MatchOption result (IsNoForm (chars text.now)) (λ x. IsForm (chars text.now) (shown x.0) (shown x.1)) }
-{
-    let (tag, rest) = split_run(text, CharClass::Label);
-    let rest = literal(rest, '[')?;
-    let (id, rest) = split_run(rest, CharClass::Open);
-    if id.is_empty() {
-        return None;
-    }
-    if rest == "]" { Some((tag, id)) } else { None }
 }
 
 // A program's name beside this host.

@@ -14,7 +14,7 @@ ghost use Rattle.syslog_loose.specs.View5424.{header_values};
 
 use crate::message::{Message, Protocol};
 use std::alloc::{AllocError, Global};
-use syslog_pieces::pri::{SyslogFacility, SyslogSeverity, decompose_pri, optional_priority};
+use syslog_pieces::pri::{optional_priority, parts};
 use syslog_pieces::procid::{ProcId, process_word};
 use syslog_pieces::structured_data::forgiving_list;
 use syslog_pieces::text::{blanks, host, number, some_blanks, trimmed, word};
@@ -58,17 +58,6 @@ fn read_header(text: &str) -> Option<(Header<'_>, &str)>
         },
         rest,
     ))
-}
-
-/// The two parts of a priority, both absent where there is none.
-pub(crate) fn parts(priority: Option<u8>) -> (Option<SyslogFacility>, Option<SyslogSeverity>)
-    ensures facility { result.0 ≡ option_and_then facility_of priority }
-    ensures severity { result.1 ≡ option_and_then severity_of priority }
-{
-    match priority {
-        Some(priority) => decompose_pri(priority),
-        None => (None, None),
-    }
 }
 
 /// The message of the one division of the trimmed text, and none where there is no division. Memory is asked for only

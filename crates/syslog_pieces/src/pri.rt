@@ -5,6 +5,7 @@
 ghost use Rattle.std.specs.Prelude.{◌≡◌, ◌<◌, ◌≤◌, ◌+◌, ◌++◌, [], ◌∷◌, IfSome, MatchOption, Some, slice_get};
 ghost use Rattle.std.specs.Fmt.{WritesOnOk};
 ghost use Rattle.std.specs.List.{AllByRecursion};
+ghost use Rattle.std.specs.Option.{option_and_then};
 ghost use Rattle.std.specs.Str.{chars, encode_utf8_all};
 ghost use Rattle.jiff_fmt.specs.Text.{pad2};
 ghost use Rattle.syslog_pieces.specs.Pieces.Class.{Front, optional};
@@ -173,6 +174,17 @@ pub fn decompose_pri(pri: u8) -> (Option<SyslogFacility>, Option<SyslogSeverity>
     ensures severity { result.1 ≡ spec.severity_of pri }
 {
     (facility_at(pri / 8), Some(severity_at(pri % 8)))
+}
+
+/// The two parts of a priority, both absent where there is none.
+pub fn parts(priority: Option<u8>) -> (Option<SyslogFacility>, Option<SyslogSeverity>)
+    ensures facility { result.0 ≡ option_and_then spec.facility_of priority }
+    ensures severity { result.1 ≡ option_and_then spec.severity_of priority }
+{
+    match priority {
+        Some(priority) => decompose_pri(priority),
+        None => (None, None),
+    }
 }
 
 /// The priority at the front, as `<34>`, and the text behind it.

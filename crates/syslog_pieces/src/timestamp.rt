@@ -28,7 +28,6 @@ pub mod month_date;
 pub mod plain;
 #[cfg(test)]
 mod tests;
-pub mod usual;
 mod written;
 pub mod zone;
 

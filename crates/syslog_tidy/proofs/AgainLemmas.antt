@@ -12,7 +12,7 @@ use Rattle.std.specs.Str.{chars}
 use Rattle.syslog_loose.specs.OneLine.{is_no_feed, IsOneLine}
 use Rattle.syslog_loose.specs.Reading.{in_utc}
 use Rattle.syslog_loose.specs.Settling.{IsRound, IsFirstSettled}
-use Rattle.syslog_loose.specs.declared.reading.Variant.TheVariants.{Either}
+use Rattle.syslog_loose.specs.declared.variant.Variant.TheVariants.{Either}
 use Rattle.syslog_loose.proofs.OneLineLemmas.{printed_line, printed_scalars}
 use Rattle.syslog_loose.proofs.SettlingLemmas.Rounds.{one_first_settled}
 use Rattle.syslog_tidy.specs.declared.summary.Summary.{Summary}

@@ -12,7 +12,7 @@ use Rattle.syslog_loose.specs.Settling.{IsRound, IsFirstSettled, IsSettlingFault
 use Rattle.syslog_loose.proofs.ReadingLemmas.{invalid_or_memory}
 use Rattle.syslog_loose.specs.declared.fault.ParseFault.{ParseFault}
 use Rattle.syslog_loose.specs.declared.fault.ParseFault.TheVariants.{Invalid, Memory}
-use Rattle.syslog_loose.specs.declared.reading.Variant.TheVariants.{Either}
+use Rattle.syslog_loose.specs.declared.variant.Variant.TheVariants.{Either}
 use Rattle.syslog_tidy.specs.Count.{held_count}
 use Rattle.syslog_tidy.specs.Filters.{FindsAll, IsTidied, TidiesAll, finding, tidying}
 use Rattle.syslog_tidy.specs.Output.{AddsAnswer, Filter, HasCounted, IsAnswer}
@@ -101,7 +101,7 @@ unreadable_is_invalid year text Memory h u = absurd (h u)
 -- the answer in the caller's place
 pub settled_in : {X : Type 0} (year : ℤ) (text : List ℕ) (r : Result X ParseFault) (into : String Global) → Settles Either (in_utc year) text (answer_in r into)
     → MatchResult r (λ x. IsFirstSettled Either (in_utc year) text (chars (string_bytes into))) (λ fault. IsSettlingFault Either (in_utc year) text fault)
-settled_in year text (Ok x) into h = h
+settled_in year text (Ok x) into h = h.first
 settled_in year text (Err fault) into h = h
 
 -- a line was added as it came

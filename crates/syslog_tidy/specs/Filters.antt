@@ -4,7 +4,7 @@ use Rattle.std.specs.Io.KnownBytes.{Appends}
 use Rattle.syslog_loose.specs.Dash.{ReadsDifferently}
 use Rattle.syslog_loose.specs.Reading.{IsUnreadable, in_utc}
 use Rattle.syslog_loose.specs.Settling.{IsFirstSettled}
-use Rattle.syslog_loose.specs.declared.reading.Variant.TheVariants.{Either}
+use Rattle.syslog_loose.specs.declared.variant.Variant.TheVariants.{Either}
 use Rattle.syslog_tidy.specs.Count.{held_count}
 use Rattle.syslog_tidy.specs.Lines.{IsLines}
 use Rattle.syslog_tidy.specs.Output.{AreAnswers, Filter, output_of}

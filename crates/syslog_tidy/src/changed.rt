@@ -4,7 +4,7 @@ ghost use Rattle.std.specs.Result.{IsOkAnd};
 ghost use Rattle.std.specs.Str.{chars};
 ghost use Rattle.syslog_loose.specs.Dash.{ReadsDifferently};
 ghost use Rattle.syslog_loose.specs.Reading.{in_utc};
-ghost use Rattle.syslog_loose.specs.declared.reading.Variant.TheVariants.{Either};
+ghost use Rattle.syslog_loose.specs.declared.variant.Variant.TheVariants.{Either};
 ghost use Rattle.syslog_tidy.specs.Filters.{FindsAll, finding};
 ghost use Rattle.syslog_tidy.specs.Walk.{EndsEarly, FailedAs};
 

@@ -3,7 +3,7 @@ ghost use Rattle.std.specs.Prelude.{◌≡◌, Some, None, false, Err, IfOk, IfE
 ghost use Rattle.std.specs.Str.{chars};
 ghost use Rattle.syslog_loose.specs.Reading.{IsUnreadable, in_utc};
 ghost use Rattle.syslog_loose.specs.declared.fault.ParseFault.TheVariants.{Invalid};
-ghost use Rattle.syslog_loose.specs.declared.reading.Variant.TheVariants.{Either};
+ghost use Rattle.syslog_loose.specs.declared.variant.Variant.TheVariants.{Either};
 ghost use Rattle.syslog_tidy.specs.Filters.{IsTidied, TidiesAll, WritesAgain, tidying};
 ghost use Rattle.syslog_tidy.specs.Walk.{EndsEarly, FailedAs};
 

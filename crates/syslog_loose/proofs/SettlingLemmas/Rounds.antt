@@ -1,16 +1,13 @@
 -- Rounds of a text: there is one of each number, and one that is settled first.
 use Rattle.std.proofs.Common.{◌≡◌, ℕ, zero, suc, ◌<◌, inl, inr, refl, sym, ap, subst, ◌∙◌, arith}
 use Rattle.std.proofs.lemmas.Bool.Decides.{leb_tells}
-use Rattle.std.specs.Prelude.{◌↔◌}
 use Rattle.syslog_pieces.specs.Pieces.Class.{Text}
 use Rattle.syslog_pieces.specs.Timestamp.Zone.{Dating}
 use Rattle.syslog_loose.specs.Printed.{printed}
 use Rattle.syslog_loose.specs.Reading.{IsRead, IsUnreadable}
-use Rattle.syslog_loose.specs.Settling.{IsNext, IsRound, IsMissing, IsSettled, NoneSettled, IsFirstSettled, IsSettlingFault}
-use Rattle.syslog_loose.specs.declared.fault.ParseFault.{ParseFault}
-use Rattle.syslog_loose.specs.declared.fault.ParseFault.TheVariants.{Invalid, Memory}
-use Rattle.syslog_loose.specs.declared.reading.Variant.{Variant}
-use Rattle.syslog_loose.proofs.ReadingLemmas.{read_once, invalid_or_memory}
+use Rattle.syslog_loose.specs.Settling.{IsNext, IsRound, IsSettled, NoneSettled, IsFirstSettled}
+use Rattle.syslog_loose.specs.declared.variant.Variant.{Variant}
+use Rattle.syslog_loose.proofs.ReadingLemmas.{read_once}
 
 module _ (variant : Variant) (dating : Dating) where
   pub one_next : (t u x : Text) → IsNext variant dating t u → IsNext variant dating t x → u ≡ x
@@ -87,27 +84,25 @@ module _ (variant : Variant) (dating : Dating) where
             never h.message (subst (λ (q : Text). IsRead variant dating q h.message) (one_round t (suc n) v u round r.round) h.read))
       ]
 
-  -- and the round behind it is missing
-  pub reached_missing : (t : Text) (n : ℕ) (u : Text) → Reached t n u → IsUnreadable variant dating u → IsMissing variant dating t (suc (suc n))
-  reached_missing t n u r never x (v, round, h) =
-      never h.message (subst (λ (q : Text). IsRead variant dating q h.message) (one_round t (suc n) v u round r.round) h.read)
+  -- ---- where no round is settled first, none is settled
+  pub none_settled : (t : Text) → ((u : Text) → IsFirstSettled variant dating t u → ⊥) → (n : ℕ) → NoneSettled variant dating t n
+  none_settled t never zero k u l round settled = omega arith
+  none_settled t never (suc n) k u l round settled =
+      elim (leb_tells n k) [
+        | inl a ↦ (
+            let e : n ≡ k = (let b = a.1 in omega arith) in
+            never u (record { before = k; round = round; settled = settled; none_before = subst (λ (j : ℕ). NoneSettled variant dating t j) e (none_settled t never n) }))
+        | inr a ↦ none_settled t never n k u a.1 round settled
+      ]
 
-  -- ---- what is answered where a round was refused
+  -- so none is where round 1 is missing
+  pub first_never : (t : Text) → IsUnreadable variant dating t → (x : Text) → IsFirstSettled variant dating t x → ⊥
+  first_never t never x s =
+      let (v, e, (y, next)) = before_round t 0 (suc s.before) x (omega arith) s.round in
+      never next.message (subst (λ (q : Text). IsRead variant dating q next.message) e next.read)
 
-  -- round 1
-  pub first_fault : (t : Text) (fault : ParseFault) → (fault ≡ Invalid) ↔ IsUnreadable variant dating t → IsSettlingFault variant dating t fault
-  first_fault t Invalid h =
-      let never = h.0 refl in (
-        (1, λ x (before, e, next). never next.message (subst (λ (q : Text). IsRead variant dating q next.message) e next.read)),
-        (λ x s.
-            let (v, e, (y, next)) = before_round t 0 (suc s.before) x (omega arith) s.round in
-            never next.message (subst (λ (q : Text). IsRead variant dating q next.message) e next.read)),
-      )
-  first_fault t Memory h = λ never. invalid_or_memory (h.1 never)
-
-  -- a later one
-  pub later_fault : (t : Text) (n : ℕ) (u : Text) (fault : ParseFault) → Reached t n u → (fault ≡ Invalid) ↔ IsUnreadable variant dating u → IsSettlingFault variant dating t fault
-  later_fault t n u Invalid r h = ((suc (suc n), reached_missing t n u r (h.0 refl)), λ y s. reached_last t n u y r (h.0 refl) s)
-  later_fault t n u Memory r h = λ never.
+  -- and a text that has a round behind round 0 is read
+  pub reached_read : (t : Text) (n : ℕ) (u : Text) → Reached t n u → IsUnreadable variant dating t → ⊥
+  reached_read t n u r never =
       let (v, e, (y, next)) = before_round t 0 (suc n) u (omega arith) r.round in
       never next.message (subst (λ (q : Text). IsRead variant dating q next.message) e next.read)

@@ -1,5 +1,6 @@
 -- A text comes to rest, or one of its rounds is missing.
 use Rattle.std.proofs.Common.{◌≡◌, ℕ, zero, suc, ◌+◌, ◌<◌, ◌≤◌, ◌⊎◌, inl, inr, Bool, true, false, List, length, refl, sym, ap, subst, ◌∙◌, arith}
+use Rattle.std.proofs.lemmas.Bool.Decides.{leb_tells}
 use Rattle.std.proofs.lemmas.Slice.Eq.{bytes_eq-Decides}
 use Rattle.std.proofs.lemmas.Str.{chars_from_encodes, encodes-chars, length-le-encodes}
 use Rattle.std.specs.Prelude.{◌↔◌, IsTrue, MatchBool}
@@ -11,25 +12,27 @@ use Rattle.syslog_loose.specs.KeptLoose.{PrintsFreely}
 use Rattle.syslog_loose.specs.ListedMisses.{HasNoMiss}
 use Rattle.syslog_loose.specs.Message.{MessageValue}
 use Rattle.syslog_loose.specs.Printed.{printed}
-use Rattle.syslog_loose.specs.Reading.{dash_rule, IsRead}
+use Rattle.syslog_loose.specs.Reading.{dash_rule, IsRead, IsUnreadable}
 use Rattle.syslog_loose.specs.Rfc3164.{IsRead3164}
 use Rattle.syslog_loose.specs.Rfc5424.{IsRead5424}
-use Rattle.syslog_loose.specs.Settling.{IsNext, IsRound, IsSettled, NoneSettled, IsFirstSettled, IsAtRest, IsToldNext, Weighs}
+use Rattle.syslog_loose.specs.Settling.{IsNext, IsRound, IsSettled, NoneSettled, IsFirstSettled, SettlesAs, IsSettlingFault, IsAtRest, IsToldNext, Weighs}
+use Rattle.syslog_loose.specs.declared.fault.ParseFault.{ParseFault}
+use Rattle.syslog_loose.specs.declared.fault.ParseFault.TheVariants.{Invalid, Memory}
 use Rattle.syslog_loose.specs.declared.message.Protocol.{Protocol}
 use Rattle.syslog_loose.specs.declared.message.Protocol.TheVariants as protocol
-use Rattle.syslog_loose.specs.declared.reading.Variant.{Variant}
-use Rattle.syslog_loose.specs.declared.reading.Variant.TheVariants.{Either, RFC3164, RFC5424}
+use Rattle.syslog_loose.specs.declared.variant.Variant.{Variant}
+use Rattle.syslog_loose.specs.declared.variant.Variant.TheVariants.{Either, RFC3164, RFC5424}
 use Rattle.syslog_loose.proofs.BoundLemmas.{read_bounded}
 use Rattle.syslog_loose.proofs.ReadBackLemmas.{printed_exact, kept_again}
-use Rattle.syslog_loose.proofs.ReadingLemmas.{read_once}
+use Rattle.syslog_loose.proofs.ReadingLemmas.{read_once, invalid_or_memory}
 use Rattle.syslog_loose.proofs.Rfc3164Lemmas.Misses.{canonical_near}
 use Rattle.syslog_loose.proofs.Rfc3164Lemmas.Near.{read_near}
 use Rattle.syslog_loose.proofs.Rfc3164Lemmas.Printed.{printed_is, printed_apart}
 use Rattle.syslog_loose.proofs.SettlingLemmas.Falls.{falls}
 use Rattle.syslog_loose.proofs.SettlingLemmas.Light.{light}
 use Rattle.syslog_loose.proofs.SettlingLemmas.Quiet.{read_protocol}
-use Rattle.syslog_loose.proofs.SettlingLemmas.Rounds.{moves_on, Reached, reached_first, reached_next, reached_settled}
-use Rattle.syslog_loose.proofs.SettlingLemmas.Weights.{some_weight}
+use Rattle.syslog_loose.proofs.SettlingLemmas.Rounds.{moves_on, Reached, reached_first, reached_next, reached_settled, reached_last, reached_read, first_never, none_settled}
+use Rattle.syslog_loose.proofs.SettlingLemmas.Weights.{weight}
 
 -- ---- by which protocol a text was read
 no_protocol : (version : ℕ) → protocol.RFC3164 ≡ protocol.RFC5424 version → ⊥
@@ -105,11 +108,11 @@ module _ (variant : Variant) (dating : Dating) where
       let unsettled : IsSettled variant dating u → ⊥ = λ s. none n u (omega arith) (before, round, h) s in
       let first = loosely dating before h.message variant h.read (unsettled_loose before u h unsettled) in
       let second = subst (λ (y : Text). IsRead3164 dash_rule dating y m) h.is_printed r in
-      some_weight dash_rule h.message (λ v y.
+      let (v, y) = weight dash_rule h.message in
       elim (falls dating dating before h.message m v w first second y x) [
         | inl less ↦ weighs_less t n before h.message v round (fewer t n none) h.read first y (omega arith)
         | inr (most, same) ↦ unsettled (record { message = m; read = k; is_printed = h.is_printed ∙ sym same })
-      ])
+      ]
 
   -- So many rounds can't be unsettled.
   pub ends : (t : Text) (n : ℕ) (u : Text) → length t < n → Reached variant dating t n u → ⊥
@@ -122,11 +125,38 @@ module _ (variant : Variant) (dating : Dating) where
           let e = unsettled_loose earlier before h unsettled in
           let read = subst (λ (x : Text). IsRead variant dating x k.message) h.is_printed k.read in
           let loose = subst (λ (x : Text). IsRead3164 dash_rule dating x k.message) (sym h.is_printed) (stays_loose variant dating earlier h.message k.message h.read e read) in
-          some_weight dash_rule k.message (λ w x. weighs_less t (suc n) before k.message w (earlier, round, h) r.none k.read loose x (omega arith))
+          let (w, x) = weight dash_rule k.message in weighs_less t (suc n) before k.message w (earlier, round, h) r.none k.read loose x (omega arith)
 
   pub rests : (t u : Text) → NoneSettled variant dating t (length t + 1) → IsRound variant dating t (length t + 2) u → ⊥
   rests t u none round =
       ends t (length t + 1) u (omega arith) (record { round = subst (λ (n : ℕ). IsRound variant dating t n u) (let e : length t + 2 ≡ suc (length t + 1) = omega arith in e) round; none = none })
+
+  -- ---- what is answered
+
+  -- so a first settled round is one of the rounds 1 to n + 1
+  pub settles_as : (t u : Text) → IsFirstSettled variant dating t u → SettlesAs variant dating t u
+  settles_as t u s = elim (leb_tells s.before (length t)) [
+    | inl l ↦ record { first = s; soon = l.1 }
+    | inr l ↦ absurd (ends t s.before u l.1 (record { round = s.round; none = s.none_before }))
+  ]
+
+  -- and where there is none, one of the rounds 1 to n + 2 is missing
+  pub settles_not : (t : Text) → ((u : Text) → IsFirstSettled variant dating t u → ⊥) → IsSettlingFault variant dating t Invalid
+  settles_not t never = (λ u round. rests t u (none_settled variant dating t never (length t + 1)) round, never)
+
+  -- where round 1 was refused
+  pub first_fault : (t : Text) (fault : ParseFault) → (fault ≡ Invalid) ↔ IsUnreadable variant dating t → IsSettlingFault variant dating t fault
+  first_fault t Invalid h = settles_not t (first_never variant dating t (h.0 refl))
+  first_fault t Memory h = λ never. invalid_or_memory (h.1 never)
+
+  -- and where a later one was
+  pub later_fault : (t : Text) (n : ℕ) (u : Text) (fault : ParseFault) → Reached variant dating t n u → (fault ≡ Invalid) ↔ IsUnreadable variant dating u → IsSettlingFault variant dating t fault
+  later_fault t n u Invalid r h = settles_not t (λ y s. reached_last variant dating t n u y r (h.0 refl) s)
+  later_fault t n u Memory r h = reached_read variant dating t n u r
+
+  -- where a round is settled behind so many that are not, it is the answer
+  pub settled_here : (t : Text) (n : ℕ) (u : Text) → Reached variant dating t n u → IsSettled variant dating u → SettlesAs variant dating t u
+  settled_here t n u r s = settles_as t u (reached_settled variant dating t n u r s)
 
 -- ---- what the next round's reader answers
 module _ (variant : Variant) (dating : Dating) (text : Text) (m : MessageValue) (r : IsRead variant dating text m) where
@@ -160,9 +190,9 @@ told_freely variant dating text bytes u k =
       told = subst (λ (x : Text). IsSettled variant dating x) (sym is) (free_settled variant dating text k.message k.read k.protocol k.no_miss);
     }
 
-pub first_freely : (variant : Variant) (dating : Dating) (text : Text) (bytes : List ℕ) → IsUtf8 bytes → PrintsFreely variant dating text bytes → IsFirstSettled variant dating text (chars bytes)
+pub first_freely : (variant : Variant) (dating : Dating) (text : Text) (bytes : List ℕ) → IsUtf8 bytes → PrintsFreely variant dating text bytes → SettlesAs variant dating text (chars bytes)
 first_freely variant dating text bytes u k =
-    let told = told_freely variant dating text bytes u k in reached_settled variant dating text 0 (chars bytes) (reached_first variant dating text (chars bytes) told.is_next) told.told
+    let told = told_freely variant dating text bytes u k in settled_here variant dating text 0 (chars bytes) (reached_first variant dating text (chars bytes) told.is_next) told.told
 
 -- ---- what the loop does
 pub told_true : (variant : Variant) (dating : Dating) (text next : Text) (settled : Bool) → settled ≡ true → IsToldNext variant dating text next settled → IsSettled variant dating next
@@ -186,20 +216,20 @@ same_text xs ys = by (bytes_eq xs ys) refl
 
 -- and the answer where it is settled: that, or the one before, which is the same text
 pub round_answer : (variant : Variant) (dating : Dating) (t : Text) (n : ℕ) (u x : Text) (settled : Bool) → Reached variant dating t n u → settled ≡ true → IsToldNext variant dating u x settled
-    → IsFirstSettled variant dating t x
+    → SettlesAs variant dating t x
 round_answer variant dating t n u x settled r e h =
     let s = told_true variant dating u x settled e h in
     elim (same_text u x) [
       | inl same ↦ (
           let k : IsSettled variant dating u = subst (λ (y : Text). IsNext variant dating u y) (sym same) h.is_next in
-          subst (λ (y : Text). IsFirstSettled variant dating t y) same (reached_settled variant dating t n u r k))
-      | inr other ↦ reached_settled variant dating t (suc n) x (reached_next variant dating t n u x r (moves_on variant dating u x h.is_next other) h.is_next) s
+          subst (λ (y : Text). SettlesAs variant dating t y) same (settled_here variant dating t n u r k))
+      | inr other ↦ settled_here variant dating t (suc n) x (reached_next variant dating t n u x r (moves_on variant dating u x h.is_next other) h.is_next) s
     ]
 
 -- round 1, where it is settled
-pub first_answer : (variant : Variant) (dating : Dating) (t x : Text) (settled : Bool) → settled ≡ true → IsToldNext variant dating t x settled → IsFirstSettled variant dating t x
+pub first_answer : (variant : Variant) (dating : Dating) (t x : Text) (settled : Bool) → settled ≡ true → IsToldNext variant dating t x settled → SettlesAs variant dating t x
 first_answer variant dating t x settled e h =
-    reached_settled variant dating t 0 x (reached_first variant dating t x h.is_next) (told_true variant dating t x settled e h)
+    settled_here variant dating t 0 x (reached_first variant dating t x h.is_next) (told_true variant dating t x settled e h)
 
 -- a text has no fewer bytes than characters, so that so many rounds can't be unsettled
 pub too_many : (variant : Variant) (dating : Dating) (bytes : List ℕ) (n : ℕ) (u : Text) → IsUtf8 bytes → length bytes < n → Reached variant dating (chars bytes) n u → ⊥

@@ -15,8 +15,9 @@ use Rattle.syslog_loose.specs.Rfc5424.{IsRead5424, rfc5424_row}
 use Rattle.syslog_loose.specs.Settling.{IsNext, IsRound, IsFirstSettled, Settles}
 use Rattle.syslog_loose.specs.declared.fault.ParseFault.{ParseFault}
 use Rattle.syslog_loose.specs.declared.fault.ParseFault.TheVariants.{Invalid, Memory}
-use Rattle.syslog_loose.specs.declared.reading.Variant.{Variant}
-use Rattle.syslog_loose.specs.declared.reading.Variant.TheVariants.{Either, RFC3164, RFC5424}
+use Rattle.syslog_loose.specs.declared.variant.Variant.{Variant}
+use Rattle.syslog_loose.specs.declared.variant.Variant.TheVariants.{Either, RFC3164, RFC5424}
+use Rattle.syslog_loose.proofs.SettlingLemmas.Settles.{settles_as, settles_not}
 
 -- ---- reading
 division_alike : {cs : List Class} {vs : Values cs} {t u : Text} → t ≡ u → Division cs t vs → Division cs u vs
@@ -61,10 +62,8 @@ module _ (variant : Variant) (dating : Dating) where
   }
 
   pub settles_alike : (t u : Text) (result : Result (String Global) ParseFault) → trimmed t ≡ trimmed u → Settles variant dating t result → Settles variant dating u result
-  settles_alike t u (Ok x) e s = first_alike t u (chars (string_bytes x)) e s
-  settles_alike t u (Err Invalid) e ((zero, missing), none) = absurd (missing t refl)
-  settles_alike t u (Err Invalid) e ((suc n, missing), none) =
-      ((suc n, λ x round. missing x (round_alike u t n x (sym e) round)), λ x s. none x (first_alike u t x (sym e) s))
+  settles_alike t u (Ok x) e s = settles_as variant dating u (chars (string_bytes x)) (first_alike t u (chars (string_bytes x)) e s.first)
+  settles_alike t u (Err Invalid) e (missing, none) = settles_not variant dating u (λ x s. none x (first_alike u t x (sym e) s))
   settles_alike t u (Err Memory) e h = λ unreadable. h (λ m r. unreadable m (read_alike variant dating t u m e r))
 
 -- ---- the year that they ask for

@@ -13,14 +13,14 @@ use Rattle.syslog_loose.specs.Canonical.{IsCanonical}
 use Rattle.syslog_loose.specs.KeptLine.{PrintsAs}
 use Rattle.syslog_loose.specs.Message.{MessageValue}
 use Rattle.syslog_loose.specs.Reading.{dash_rule, IsRead, AsksYear, IncompleteDate, IsYearAnswered, InYear}
-use Rattle.syslog_loose.specs.Settling.{IsNext, IsRound, IsSettled, IsFirstSettled, Settles}
+use Rattle.syslog_loose.specs.Settling.{IsNext, IsRound, IsSettled, IsFirstSettled, SettlesAs, Settles}
 use Rattle.syslog_loose.specs.declared.fault.ParseFault.{ParseFault}
 use Rattle.syslog_loose.specs.declared.fault.ParseFault.TheVariants.{Invalid, Memory}
-use Rattle.syslog_loose.specs.declared.reading.Variant.{Variant}
+use Rattle.syslog_loose.specs.declared.variant.Variant.{Variant}
 use Rattle.syslog_loose.proofs.ReadingLemmas.{any_year}
 use Rattle.syslog_loose.proofs.SettlingLemmas.Quiet.{printed_quiet}
-use Rattle.syslog_loose.proofs.SettlingLemmas.Rounds.{reached_first, reached_settled}
-use Rattle.syslog_loose.proofs.SettlingLemmas.Settles.{strict_settled, settled_canonical}
+use Rattle.syslog_loose.proofs.SettlingLemmas.Rounds.{reached_first}
+use Rattle.syslog_loose.proofs.SettlingLemmas.Settles.{strict_settled, settled_canonical, settles_as, settles_not, settled_here}
 
 module _ (variant : Variant) (tz : Option (Bor TimeZone)) (local : Bor TimeZone) where
   -- the text asks for no year
@@ -52,9 +52,8 @@ module _ (variant : Variant) (tz : Option (Bor TimeZone)) (local : Bor TimeZone)
   }
 
   settles_in : (year other : Option ℤ) (t : Text) (result : Result (String Global) ParseFault) → Quiet t → Settles variant (In year) t result → Settles variant (In other) t result
-  settles_in year other t (Ok u) quiet s = first_in year other t (chars (string_bytes u)) quiet s
-  settles_in year other t (Err Invalid) quiet ((n, missing), none) =
-      ((n, λ u round. missing u (round_in other year t n u quiet round)), λ u s. none u (first_in other year t u quiet s))
+  settles_in year other t (Ok u) quiet s = settles_as variant (In other) t (chars (string_bytes u)) (first_in year other t (chars (string_bytes u)) quiet s.first)
+  settles_in year other t (Err Invalid) quiet (missing, none) = settles_not variant (In other) t (λ u s. none u (first_in other year t u quiet s))
   settles_in year other t (Err Memory) quiet h = λ unreadable. h (λ m r. unreadable m (any_year variant t tz local year other m quiet r))
 
   -- what is answered in the year that the closure answered
@@ -69,17 +68,17 @@ module _ (variant : Variant) (tz : Option (Bor TimeZone)) (local : Bor TimeZone)
 
 -- a line that is copied is settled in round 1
 pub copied_settles : (variant : Variant) (dating : Dating) (text : Text) (result : String Global) → IsUtf8 (string_bytes result) → PrintsAs variant text (string_bytes result)
-    → IsFirstSettled variant dating text (chars (string_bytes result))
+    → SettlesAs variant dating text (chars (string_bytes result))
 copied_settles variant dating text result u k =
     let r = (k.only dating).read in
     let is = sym (chars_from_encodes _ (string_bytes result) u (sym k.prints)) in
     let settled = strict_settled variant dating text k.message k.strict.values.1.0 r (ap (λ (x : MessageValue). x.protocol) k.strict.means) in
     let next : IsNext variant dating text (chars (string_bytes result)) = record { message = k.message; read = r; is_printed = is } in
-    reached_settled variant dating text 0 (chars (string_bytes result)) (reached_first variant dating text (chars (string_bytes result)) next)
+    settled_here variant dating text 0 (chars (string_bytes result)) (reached_first variant dating text (chars (string_bytes result)) next)
     (subst (λ (x : Text). IsSettled variant dating x) (sym is) settled)
 
 -- the message of the answer is canonical
 pub answer_canonical : (variant : Variant) (dating : Dating) (text : Text) (result : Result (String Global) ParseFault) → Settles variant dating text result
     → IfOk result (λ u. (m : MessageValue) → IsRead variant dating (chars (string_bytes u)) m → IsCanonical dash_rule m)
-answer_canonical variant dating text (Ok u) s = λ m r. settled_canonical variant dating (chars (string_bytes u)) m s.settled r
+answer_canonical variant dating text (Ok u) s = λ m r. settled_canonical variant dating (chars (string_bytes u)) m s.first.settled r
 answer_canonical variant dating text (Err fault) s = tt

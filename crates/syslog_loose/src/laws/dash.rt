@@ -7,15 +7,15 @@ ghost use Rattle.syslog_loose.specs.Canonical.{IsCanonical};
 ghost use Rattle.syslog_loose.specs.Dash.{ReadsDifferently, DropsDash, WasCanonical, WasUnreadable};
 ghost use Rattle.syslog_loose.specs.Message.{MessageValue};
 ghost use Rattle.syslog_loose.specs.Reading.{dash_rule, IsUnreadable};
-ghost use Rattle.syslog_loose.specs.declared.reading.Variant.{Variant};
+ghost use Rattle.syslog_loose.specs.declared.variant.Variant.{Variant};
 
 /// A message that was canonical is so.
 pub fn what_was_canonical_is_so()
     ensures { (m : MessageValue) → WasCanonical m → IsCanonical dash_rule m }
 {}
 
-/// A text is read differently exactly where it was read as RFC 3164 and the list of that reading was a dash before a
-/// character that is no blank.
+/// A text is read differently exactly where it was read as RFC 3164 and, of that reading, the list's piece was `-` and
+/// what follows it begins with a character that is no blank.
 pub fn readings_differ_where_a_dash_is_dropped()
     ensures { (variant : Variant) (dating : Dating) (text : Text) → ReadsDifferently variant dating text ↔ DropsDash variant dating text }
 {}

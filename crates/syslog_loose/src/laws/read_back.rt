@@ -14,7 +14,7 @@ ghost use Rattle.syslog_loose.specs.Reading.{dash_rule, IsRead, IsOnlyRead};
 ghost use Rattle.syslog_loose.specs.Rfc3164.{IsRead3164};
 ghost use Rattle.syslog_loose.specs.Rfc5424.{IsRead5424};
 ghost use Rattle.syslog_loose.specs.declared.message.Protocol.TheVariants.{RFC3164, RFC5424};
-ghost use Rattle.syslog_loose.specs.declared.reading.Variant.{Variant};
+ghost use Rattle.syslog_loose.specs.declared.variant.Variant.{Variant};
 
 /// The printed text of a message of RFC 5424 is read as the same message exactly where the message is canonical, under
 /// either rule of the dash.

@@ -8,7 +8,7 @@ ghost use Rattle.syslog_loose.specs.Message.{MessageValue};
 ghost use Rattle.syslog_loose.specs.Printed.{printed};
 ghost use Rattle.syslog_loose.specs.Reading.{AsksYear, IsRead, dash_rule};
 ghost use Rattle.syslog_loose.specs.Settling.{IsFirstSettled, IsRound, IsSettled, NoneSettled};
-ghost use Rattle.syslog_loose.specs.declared.reading.Variant.{Variant};
+ghost use Rattle.syslog_loose.specs.declared.variant.Variant.{Variant};
 
 /// A text has at most one first settled round.
 pub fn one_first_settled_round()

@@ -24,8 +24,8 @@ pub fn read_weighs_no_more_than_its_text()
         → IsRead3164 rule dating text m → Weighs rule m w → w ≤ length text }
 {}
 
-/// A message has one weight, and it can't be that it has none.
+/// A message has one weight, and no more than one.
 pub fn one_weight()
     ensures once { (rule : DashRule) (m : MessageValue) (w v : ℕ) → Weighs rule m w → Weighs rule m v → w ≡ v }
-    ensures some { (rule : DashRule) (m : MessageValue) → ((w : ℕ) → Weighs rule m w → ⊥) → ⊥ }
+    ensures some { (rule : DashRule) (m : MessageValue) → (w : ℕ) × Weighs rule m w }
 {}

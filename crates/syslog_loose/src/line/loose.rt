@@ -13,27 +13,27 @@ ghost use Rattle.syslog_loose.specs.Printed.{timestamp_text};
 ghost use Rattle.syslog_loose.specs.ReadBack.{ReadsProtocol};
 ghost use Rattle.syslog_loose.specs.Reading.{IsUnreadable, incomplete};
 ghost use Rattle.syslog_loose.specs.declared.message.Protocol.TheVariants.{RFC3164};
-ghost use Rattle.syslog_loose.specs.declared.reading.Variant.{Variant};
+ghost use Rattle.syslog_loose.specs.declared.variant.Variant.{Variant};
 
 #[cfg(test)]
 mod tests;
 
 use super::{make_room, may_have_priority};
 use crate::message::{is_plain_time, write_timestamp};
-use crate::reading::{DASH_RULE, IncompleteDate, Variant};
+use crate::variant::{IncompleteDate, Variant};
 use jiff::tz::TimeZone;
 use std::alloc::AllocError;
 use std::fmt;
 use std::fmt::Write;
 use syslog_pieces::pri::kept_priority;
 use syslog_pieces::procid::kept_digits;
-use syslog_pieces::structured_data::listed::begins_list;
+use syslog_pieces::structured_data::listed::{DASH_RULE, begins_list};
 use syslog_pieces::text::kept::{before, kept_host, one_space};
 use syslog_pieces::text::{CharClass, blanks, literal, split_run, trimmed};
 use syslog_pieces::timestamp::OffsetTimestamp;
 use syslog_pieces::timestamp::loose::loose_stamp;
 use syslog_pieces::timestamp::month_date::MonthDate;
-use syslog_pieces::timestamp::usual::usual_date;
+use syslog_pieces::timestamp::month_date::usual::usual_date;
 use syslog_pieces::timestamp::zone::month_stamp;
 
 // A line, cut round its timestamp: the priority, and all from behind the timestamp on.

@@ -15,12 +15,11 @@ ghost use Rattle.syslog_loose.specs.Reading.{dash_rule};
 ghost use Rattle.syslog_loose.specs.TagForm.{IsNoForm};
 
 use super::{Message, Protocol};
-use crate::reading::DASH_RULE;
-use crate::rfc3164::tag_form;
+use crate::tag_form::tag_form;
 use syslog_pieces::as_str::AsStr;
 use syslog_pieces::procid::{ProcId, is_plain_process, names_number};
 use syslog_pieces::structured_data::StructuredElement;
-use syslog_pieces::structured_data::listed::{DashRule, begins_list};
+use syslog_pieces::structured_data::listed::{DASH_RULE, DashRule, begins_list};
 use syslog_pieces::structured_data::plain::are_plain_elements;
 use syslog_pieces::text::CharClass;
 use syslog_pieces::text::plain::{

@@ -13,8 +13,8 @@ ghost use Rattle.syslog_loose.specs.Reading.{dash_rule};
 
 use super::Message;
 use super::canonical::{begins_no_list, is_plain_time};
-use crate::reading::DASH_RULE;
 use syslog_pieces::procid::ProcId;
+use syslog_pieces::structured_data::listed::DASH_RULE;
 
 /// Whether the message has none of the listed misses.
 pub(crate) fn has_no_miss(message: &Message<&str>) -> bool

@@ -23,6 +23,9 @@ pub enum DashRule {
     BeforeBlank,
 }
 
+/// The rule of this project: at the end of the text, and before a blank.
+pub const DASH_RULE: DashRule = DashRule::BeforeBlank;
+
 impl DashRule {
     // Whether a dash is a list before this text.
     fn allows(self, rest: &str) -> bool

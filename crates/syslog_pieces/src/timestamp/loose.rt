@@ -7,7 +7,7 @@ ghost use Rattle.syslog_pieces.specs.Timestamp.Loose as spec;
 ghost use Rattle.syslog_pieces.specs.Timestamp.Zone.{dating_of};
 
 use super::month_date::month_date;
-use super::usual::usual_date;
+use super::month_date::usual::usual_date;
 use super::zone::month_stamp;
 use super::{OffsetTimestamp, header_stamp};
 use jiff::tz::TimeZone;

@@ -10,9 +10,11 @@ ghost use Rattle.syslog_pieces.specs.Timestamp.Loose.{ShowsYearless};
 ghost use Rattle.syslog_pieces.specs.Timestamp.MonthDate as spec;
 ghost use Rattle.syslog_pieces.specs.declared.timestamp.month_date.MonthDate.{MonthDate};
 
-use super::usual::usual_date;
+pub mod usual;
+
 use crate::pri::optional_priority;
 use crate::text::{blanks, first, literal, number, past_colon, some_blanks, trimmed};
+use usual::usual_date;
 
 /// The numbers of a month date, of which there may be no such date.
 #[derive(Clone, Copy, Debug)]

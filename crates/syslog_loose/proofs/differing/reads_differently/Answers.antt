@@ -1,8 +1,14 @@
-use Rattle.syslog_loose.proofs.DashLemmas.{told_in}
-use Rattle.syslog_loose.proofs.ReadingLemmas.{answered_to}
+use Rattle.std.specs.Str.{chars}
+use Rattle.syslog_pieces.specs.Timestamp.Zone.{dating_of}
+use Rattle.syslog_loose.proofs.DashLemmas.{told_in, drops_told}
+use Rattle.syslog_loose.proofs.ReadingLemmas.{answered_to, in_year_map}
 use Rattle.syslog_loose.proofs.differing.reads_differently.Goals as goal
 
 pub returns : goal.returns
 returns g c =
     let answered = answered_to _ _ _ c.asked_date.result c.map-year.result c.asked_date.ensures c.map-year.ensures.cases in
-    record { reads = told_in _ _ _ c.args.tz c.args.local c.differs.result c.map-year.result answered c.differs.ensures }
+    let told = told_in _ _ _ c.args.tz c.args.local c.differs.result c.map-year.result answered c.differs.ensures in
+    record {
+      reads = told;
+      drops = in_year_map (λ year h. drops_told c.args.variant (dating_of year c.args.tz c.args.local) (chars c.args.input.now) c.differs.result h) told;
+    }

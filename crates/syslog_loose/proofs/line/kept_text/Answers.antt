@@ -1,6 +1,6 @@
 use Rattle.std.proofs.Common.{inl, string_bytes}
 use Rattle.std.specs.Str.{chars}
-use Rattle.syslog_loose.specs.declared.reading.Variant.TheVariants.{Either, RFC5424}
+use Rattle.syslog_loose.specs.declared.variant.Variant.TheVariants.{Either, RFC5424}
 use Rattle.syslog_loose.proofs.KeptLineLemmas.{strictly, either_way, told, no_division}
 use Rattle.syslog_loose.proofs.Rfc3164Lemmas.Apart.{shown_apart}
 use Rattle.syslog_loose.proofs.Rfc3164Lemmas.Shown.{shows_month_date}

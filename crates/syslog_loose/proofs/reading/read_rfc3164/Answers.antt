@@ -1,5 +1,5 @@
 use Rattle.syslog_pieces.specs.Timestamp.Zone.{dating_of}
-use Rattle.syslog_loose.specs.declared.reading.Variant.TheVariants.{RFC3164}
+use Rattle.syslog_loose.specs.declared.variant.Variant.TheVariants.{RFC3164}
 use Rattle.syslog_loose.proofs.ReadingLemmas.{only_read}
 use Rattle.syslog_loose.proofs.reading.read_rfc3164.Goals as goal
 

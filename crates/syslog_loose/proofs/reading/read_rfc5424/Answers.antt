@@ -1,4 +1,4 @@
-use Rattle.syslog_loose.specs.declared.reading.Variant.TheVariants.{RFC5424}
+use Rattle.syslog_loose.specs.declared.variant.Variant.TheVariants.{RFC5424}
 use Rattle.syslog_loose.proofs.ReadingLemmas.{only_read}
 use Rattle.syslog_loose.proofs.reading.read_rfc5424.Goals as goal
 

@@ -1,7 +1,7 @@
 use Rattle.std.proofs.Common.{◌+◌, arith}
 use Rattle.std.proofs.lemmas.Result.{err_from_is_err_and}
-use Rattle.syslog_loose.proofs.SettlingLemmas.Rounds.{reached_first, first_fault, later_fault}
-use Rattle.syslog_loose.proofs.SettlingLemmas.Settles.{first_answer, round_answer, round_more, too_many}
+use Rattle.syslog_loose.proofs.SettlingLemmas.Rounds.{reached_first}
+use Rattle.syslog_loose.proofs.SettlingLemmas.Settles.{first_fault, later_fault, first_answer, round_answer, round_more, too_many}
 use Rattle.syslog_loose.proofs.settling.settle_in.Goals as goal
 use Rattle.syslog_loose.proofs.settling.settle_in.Goals.{else-loop-done-test, then-loop-done-test+in_ok-settled-2+else-settled-2+else-done-done-end}
 

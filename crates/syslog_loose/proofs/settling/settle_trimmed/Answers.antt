@@ -10,7 +10,7 @@ use Rattle.syslog_loose.specs.declared.fault.ParseFault.TheVariants.{Invalid}
 use Rattle.syslog_loose.proofs.BeginningLemmas.{asks_no_year, no_reading}
 use Rattle.syslog_loose.proofs.KeptLooseLemmas.{dated_answered, asked_month}
 use Rattle.syslog_loose.proofs.ReadingLemmas.{answered_to, no_ok, found_text}
-use Rattle.syslog_loose.proofs.SettlingLemmas.Rounds.{first_fault}
+use Rattle.syslog_loose.proofs.SettlingLemmas.Settles.{first_fault}
 use Rattle.syslog_loose.proofs.SettlingLemmas.Years.{settles_answered, copied_settles}
 use Rattle.syslog_loose.proofs.settling.settle_trimmed.Goals as goal
 

@@ -1,6 +1,6 @@
 //! That lines of RFC 3164 are copied behind their timestamp where they print as written, and which others aren't.
 use super::{dated_line, dated_text, loose_text};
-use crate::reading::Variant;
+use crate::variant::Variant;
 use jiff::tz::TimeZone;
 use std::alloc::AllocError;
 use std::test::Fail;

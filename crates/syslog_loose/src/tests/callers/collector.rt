@@ -5,7 +5,7 @@ ghost use Rattle.syslog_pieces.specs.Pri.{severity_number};
 ghost use Rattle.syslog_pieces.specs.Timestamp.Zone.{dating_of};
 ghost use Rattle.syslog_pieces.specs.declared.pri.SyslogFacility.TheVariants.{LOG_AUTH, LOG_AUTHPRIV};
 ghost use Rattle.syslog_loose.specs.Reading.{NeedsNoMemory, OnReading};
-ghost use Rattle.syslog_loose.specs.declared.reading.Variant.TheVariants.{Either};
+ghost use Rattle.syslog_loose.specs.declared.variant.Variant.TheVariants.{Either};
 ghost use Rattle.syslog_loose.specs.declared.tests.callers.collector.Destination.TheVariants.{Security, Pager, Archive, Refused};
 
 use crate::{

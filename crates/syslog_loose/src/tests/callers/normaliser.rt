@@ -6,7 +6,7 @@ ghost use Rattle.syslog_loose.specs.Message.{MessageValue};
 ghost use Rattle.syslog_loose.specs.Printed.{printed};
 ghost use Rattle.syslog_loose.specs.ReadBack.{IsKept};
 ghost use Rattle.syslog_loose.specs.Reading.{OnReading};
-ghost use Rattle.syslog_loose.specs.declared.reading.Variant.TheVariants.{Either};
+ghost use Rattle.syslog_loose.specs.declared.variant.Variant.TheVariants.{Either};
 
 use crate::{IncompleteDate, ParseFault, TimeZone, Variant, normalise};
 use std::alloc::{AllocError, Global};

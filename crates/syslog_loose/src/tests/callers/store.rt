@@ -6,7 +6,7 @@ ghost use Rattle.syslog_pieces.specs.Pieces.View.{shown};
 ghost use Rattle.syslog_pieces.specs.Timestamp.Zone.{dating_of};
 ghost use Rattle.syslog_loose.specs.Message.{message_value};
 ghost use Rattle.syslog_loose.specs.Reading.{OnReading};
-ghost use Rattle.syslog_loose.specs.declared.reading.Variant.TheVariants.{Either};
+ghost use Rattle.syslog_loose.specs.declared.variant.Variant.TheVariants.{Either};
 
 use crate::{
     IncompleteDate, Message, OffsetTimestamp, ParseFault, TimeZone, Timestamp, Variant,

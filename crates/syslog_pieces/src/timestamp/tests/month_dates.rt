@@ -1,6 +1,6 @@
+use crate::timestamp::month_date::usual::usual_date;
 use crate::timestamp::month_date::{MonthDate, month_date};
 use crate::timestamp::shown_date;
-use crate::timestamp::usual::usual_date;
 use std::process::Abort;
 use std::test::Fail;
 

@@ -5,4 +5,4 @@ pub returns-clause-once : goal.returns-clause-once
 returns-clause-once c = weights.one_weight
 
 pub returns-clause-some : goal.returns-clause-some
-returns-clause-some c = weights.some_weight
+returns-clause-some c = weights.weight

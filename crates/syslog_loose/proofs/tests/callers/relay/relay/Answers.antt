@@ -1,5 +1,5 @@
 use Rattle.std.proofs.Common.{inl, inr}
-use Rattle.syslog_loose.specs.declared.reading.Variant.TheVariants.{Either}
+use Rattle.syslog_loose.specs.declared.variant.Variant.TheVariants.{Either}
 use Rattle.syslog_loose.proofs.BoundLemmas.{read_bounded}
 use Rattle.syslog_loose.proofs.ReadBackLemmas.{printed_exact}
 use Rattle.syslog_loose.proofs.ReadingLemmas.{in_this_year}

@@ -3,7 +3,7 @@ use Rattle.std.specs.Str.{chars}
 use Rattle.syslog_pieces.proofs.TextLemmas.Chars.{empty_is, nonempty_is, text_is, text_is_not}
 use Rattle.syslog_loose.specs.TagForm.{IsNoForm}
 use Rattle.syslog_loose.proofs.TagFormLemmas.{no_opening, no_id, no_closing, is_form, closing_ascii}
-use Rattle.syslog_loose.proofs.rfc3164.tag_form.Goals as goal
+use Rattle.syslog_loose.proofs.tag_form.tag_form.Goals as goal
 
 pub returns-in_err-rest : goal.returns-in_err-rest
 returns-in_err-rest c =

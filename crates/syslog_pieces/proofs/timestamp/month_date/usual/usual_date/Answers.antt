@@ -5,7 +5,7 @@ use Rattle.syslog_pieces.specs.Pieces.Class.{Text, Front}
 use Rattle.syslog_pieces.specs.Timestamp.MonthDate.{yearless_date}
 use Rattle.syslog_pieces.specs.declared.timestamp.month_date.MonthDate.{MonthDate}
 use Rattle.syslog_pieces.proofs.TimestampLemmas.Usual.{usual_front, usual_rest}
-use Rattle.syslog_pieces.proofs.timestamp.usual.usual_date.Goals as goal
+use Rattle.syslog_pieces.proofs.timestamp.month_date.usual.usual_date.Goals as goal
 
 pub returns : goal.returns
 returns c =

@@ -12,7 +12,7 @@ ghost use Rattle.syslog_pieces.specs.Pieces.Class.{Front};
 ghost use Rattle.syslog_pieces.specs.Pieces.View.{shown};
 ghost use Rattle.syslog_pieces.specs.Timestamp.MonthDate.{yearless_date};
 
-use super::month_date::{Clock, Day, MonthDate, date_of, small_month};
+use super::{Clock, Day, MonthDate, date_of, small_month};
 
 const LENGTH: usize = 15;
 

@@ -1,0 +1,20 @@
+//! The form `tag[id]` of a program's name in RFC 3164 (section 5.3 has it by example; where it ends is the crate's rule).
+ghost use Rattle.std.specs.Prelude.{MatchOption};
+ghost use Rattle.std.specs.Str.{chars};
+ghost use Rattle.syslog_pieces.specs.Pieces.View.{shown};
+ghost use Rattle.syslog_loose.specs.TagForm.{IsForm, IsNoForm};
+
+use syslog_pieces::text::{CharClass, literal, split_run};
+
+/// The tag and the id of a text of the form `tag[id]`.
+pub(crate) fn tag_form(text: &str) -> Option<(&str, &str)>
+    ensures { MatchOption result (IsNoForm (chars text.now)) (λ x. IsForm (chars text.now) (shown x.0) (shown x.1)) }
+{
+    let (tag, rest) = split_run(text, CharClass::Label);
+    let rest = literal(rest, '[')?;
+    let (id, rest) = split_run(rest, CharClass::Open);
+    if id.is_empty() {
+        return None;
+    }
+    if rest == "]" { Some((tag, id)) } else { None }
+}
