@@ -1,11 +1,11 @@
 //! Reads a syslog message from a text, by RFC 5424 or the looser RFC 3164, and prints it again: the crate
 //! `syslog_loose` 0.23.0, ported to Rattle.
 //!
-//! A text is read by the one division into pieces that the grammar in `docs/GRAMMAR.md` allows; reading copies no
-//! text, and what takes memory takes `alloc` first and can be refused.
+//! Memory aside, a text is read by the one division into pieces that the grammar in `docs/GRAMMAR.md` allows. Reading
+//! copies no text; what takes memory takes `alloc` first and can be refused.
 //!
-//! `normalise` prints the message of a text, and `settle` goes on until the text no longer changes: a line of RFC 5424
-//! stays as it is once it is normalised, and any other comes to rest.
+//! `normalise` prints the message of a text, and `settle` goes on until the text no longer changes. Memory aside, a line
+//! of RFC 5424 stays as it is once it is normalised; any other settles, or one of its rounds has no reading.
 #![tactic(auto)]
 
 mod beginning;
