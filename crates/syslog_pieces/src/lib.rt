@@ -2,6 +2,13 @@
 //!
 //! Each module reads one piece of a line, in the order of the line. Its definitions stand in `specs/` under the same
 //! name, over the theory of pieces in `specs/Pieces/`; its lemmas stand in `proofs/`, in the room of the same name.
+//!
+//! A reader answers the piece at the front of a text and the text behind it, or nothing where no such piece begins it:
+//! `pri::priority("<34>1 - h")` is `Some((34, "1 - h"))`, and `pri::decompose_pri(34)` is
+//! `(Some(LOG_AUTH), Some(SEV_CRIT))`.
+//!
+//! The modules `text::kept`, `text::plain`, `text::written`, `timestamp::plain`, `timestamp::month_date::usual` and
+//! `structured_data::plain`, and the functions `kept_..`, serve `syslog_loose` alone.
 #![tactic(auto)]
 
 pub mod as_str;

@@ -1,4 +1,4 @@
-//! Alert rules over structured data, as a caller of this crate writes them. `CALLING.md` shows them.
+//! Alert rules over structured data, as a caller of this crate writes them. `CALLING.md` names them.
 ghost use Rattle.std.specs.Prelude.{◌≡◌, ◌↔◌, false, IfOk, IsTrue};
 ghost use Rattle.std.specs.List.{AllByRecursion};
 ghost use Rattle.std.specs.Str.{chars};

@@ -1,4 +1,4 @@
-//! A normaliser of lines, as a caller of this crate writes it. `CALLING.md` shows it.
+//! A normaliser of lines, as a caller of this crate writes it. `CALLING.md` names it.
 ghost use Rattle.std.specs.Prelude.{◌≡◌, IfOk, None, Some, string_bytes};
 ghost use Rattle.std.specs.Str.{chars, encode_utf8_all};
 ghost use Rattle.syslog_pieces.specs.Timestamp.Zone.{dating_of};

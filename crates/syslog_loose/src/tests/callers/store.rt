@@ -1,4 +1,4 @@
-//! A store of lines with queries by host and instant, as a caller of this crate writes it. `CALLING.md` shows it.
+//! A store of lines with queries by host and instant, as a caller of this crate writes it. `CALLING.md` names it.
 ghost use Rattle.std.specs.Prelude.{◌≡◌, ◌↔◌, ◌≤ℤ◌, ◌<ℤ◌, false, IfOk, IsSomeAnd, IsTrue, None, Some};
 ghost use Rattle.std.specs.Option.{option_map};
 ghost use Rattle.std.specs.Str.{chars};
