@@ -3,6 +3,7 @@ pub mod BoundLemmas
 pub mod CanonicalLemmas
 pub mod DashLemmas
 pub mod KeptLineLemmas
+pub mod JumpLemmas
 pub mod MissLemmas
 pub mod KeptLooseLemmas
 pub mod OneLineLemmas

@@ -3,6 +3,7 @@
 pub mod Costs
 pub mod Decided
 pub mod Falls
+pub mod Jumps
 pub mod Light
 pub mod Names
 pub mod NoList

@@ -6,6 +6,7 @@ use Rattle.std.specs.Str.{skip_leading_whitespace, drop_trailing_whitespace}
 use Rattle.syslog_pieces.specs.Pieces.Class.{Text, Class, Front, Each, Ends, run}
 use Rattle.syslog_pieces.specs.Text.{is_blank, trimmed}
 use Rattle.syslog_loose.specs.Canonical.{EndsVisibly}
+unfoldable pub use Rattle.syslog_loose.specs.Jumps.{message_end}
 
 -- ---- characters
 pub not_white : (b : Bool) → not b ≡ true → b ≡ false
@@ -120,11 +121,6 @@ ends_behind C {q = q} f h front c e =
     h (f.piece ++ front) c (f.whole ∙ ap (λ (x : Text). f.piece ++ x) e ∙ sym (append_assoc f.piece front (c ∷ [])))
 
 -- ---- a space and the message at the end of a text
-
--- what trimming leaves of them
-unfoldable pub message_end : Text → Text
-message_end [] = []
-message_end (c ∷ cs) = 32 ∷ c ∷ cs
 
 pub message_end_is : (msg : Text) → EndsVisibly msg → drop_trailing_whitespace (32 ∷ msg) ≡ message_end msg
 unfolding message_end

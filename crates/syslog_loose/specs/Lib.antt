@@ -3,6 +3,7 @@ pub mod Canonical
 pub mod Dash
 pub mod Equal
 pub mod EqualLaws
+pub mod Jumps
 pub mod KeptLine
 pub mod KeptLoose
 pub mod ListedMisses

@@ -45,6 +45,11 @@ IsSettled variant dating text = IsNext variant dating text text
 abbrev pub NoneSettled : Variant → Dating → Text → ℕ → Type 0
 NoneSettled variant dating text n = (k : ℕ) (u : Text) → k < n → IsRound variant dating text (suc k) u → IsSettled variant dating u → ⊥
 
+-- this is round n + 1 of the text, and none of the rounds 1 to n is settled
+pub record Reaches (variant : Variant) (dating : Dating) (text : Text) (n : ℕ) (u : Text) : Type 0 where
+  pub round : IsRound variant dating text (suc n) u
+  pub none : NoneSettled variant dating text n
+
 -- this is the first settled round of the text, from round 1 on
 pub record IsFirstSettled (variant : Variant) (dating : Dating) (text u : Text) : Type 0 where
   pub before : ℕ
@@ -81,10 +86,12 @@ abbrev pub IsAtRest : Protocol → MessageValue → Type 0
 IsAtRest RFC3164 m = HasNoMiss dash_rule m
 IsAtRest (RFC5424 version) m = ⊤
 
--- This is the next round of the text; and where this is true it is settled, else the text is not.
-pub record IsToldNext (variant : Variant) (dating : Dating) (text next : Text) (settled : Bool) : Type 0 where
-  pub is_next : IsNext variant dating text next
-  pub told : MatchBool settled (IsSettled variant dating next) (IsSettled variant dating text → ⊥)
+-- Where this is true, this is the next round of the text, and settled. Else the text is not settled, and this is one of
+-- its rounds, before which none is.
+abbrev pub IsToldRound : Variant → Dating → Text → Text → Bool → Type 0
+IsToldRound variant dating text later settled = MatchBool settled
+    (IsNext variant dating text later × IsSettled variant dating later)
+    ((IsSettled variant dating text → ⊥) × (n : ℕ) × Reaches variant dating text n later)
 
 -- ---- the weight of a message of RFC 3164: a sum of one term for each miss that may be listed
 

@@ -16,6 +16,7 @@
 mod beginning;
 mod differing;
 mod fault;
+mod jumps;
 pub mod laws;
 mod line;
 mod message;

@@ -11,11 +11,15 @@ ghost use Rattle.syslog_loose.specs.Canonical.{IsCanonical};
 ghost use Rattle.syslog_loose.specs.KeptLoose.{ShowsDated};
 ghost use Rattle.syslog_loose.specs.Message.{MessageValue, message_value};
 ghost use Rattle.syslog_loose.specs.Reading.{AnswersEachMonth, InYear, IsRead, IsUnreadable, dash_rule};
-ghost use Rattle.syslog_loose.specs.Settling.{IsAtRest, IsToldNext, Settles, answer_in};
+ghost use Rattle.syslog_loose.specs.Settling.{IsAtRest, IsToldRound, Settles, answer_in};
 ghost use Rattle.syslog_loose.specs.declared.fault.ParseFault.TheVariants.{Invalid};
+
+#[cfg(test)]
+mod tests;
 
 use crate::beginning::may_be_read;
 use crate::fault::ParseFault;
+use crate::jumps::write_round;
 use crate::line::{DatedLine, dated_line, dated_text, kept_text, loose_text};
 use crate::message::{Message, Protocol, has_no_miss};
 use crate::reading::{asked_date, print, read};
@@ -30,8 +34,8 @@ use syslog_pieces::text::trimmed;
 ///
 /// The arguments are those of `normalise`. `get_year` is called as there, and in round 1 alone: what is printed shows no
 /// month date. Two texts are held at most at a time, and no memory is asked for that `normalise` would not ask for round
-/// by round. A round takes time linear in its text; a host that ends in n colons takes n rounds, and no text takes more
-/// than two beyond its characters.
+/// by round. Rounds that are known from the one before, as those in which a host loses its last colons, are skipped: each
+/// text takes a handful of passes, each of which takes time linear in it.
 pub fn settle<F: FnOnce(IncompleteDate) -> i32>(
     alloc: Global,
     input: &str,
@@ -142,14 +146,14 @@ fn settle_in(
 ) -> Result<(), ParseFault>
     ensures { Settles variant (dating_of year tz.entry local.entry) (chars input.entry.now) (answer_in result text.new) }
 {
-    let settled = next_round(alloc, text, input, year, tz, variant, local)?;
+    let settled = further_round(alloc, text, input, year, tz, variant, local)?;
     if settled {
         return Ok(());
     }
     let mut last = String::new(alloc);
     for done in 0..=input.len() {
         swap(&mut last, text);
-        let settled = next_round(alloc, text, last.as_str(), year, tz, variant, local)?;
+        let settled = further_round(alloc, text, last.as_str(), year, tz, variant, local)?;
         if settled {
             return Ok(());
         }
@@ -157,8 +161,9 @@ fn settle_in(
     unreachable!()
 }
 
-// Writes the next round of the input into `text`, and tells whether it is known that the one behind it is the same text.
-fn next_round(
+// Writes a round of the input into `text`: the next one, where that is known to be settled, and tells so; else one before
+// which none is settled, be it the next or a later one.
+fn further_round(
     alloc: Global,
     text: &mut String,
     input: &str,
@@ -168,7 +173,7 @@ fn next_round(
     local: &TimeZone<'_>,
 ) -> Result<bool, ParseFault>
     ensures { MatchResult result
-        (λ settled. IsToldNext variant (dating_of year tz.entry local.entry) (chars input.entry.now) (chars (string_bytes text.new)) settled)
+        (λ settled. IsToldRound variant (dating_of year tz.entry local.entry) (chars input.entry.now) (chars (string_bytes text.new)) settled)
         (λ fault. (fault ≡ Invalid) ↔ IsUnreadable variant (dating_of year tz.entry local.entry) (chars input.entry.now)) }
 {
     let copied = loose_text(text, input, year, tz, variant, local)?;
@@ -176,9 +181,12 @@ fn next_round(
         return Ok(true);
     }
     let message = read(alloc, input, year, tz, variant, local)?;
-    let settled = is_at_rest(&message);
-    print(text, &message, input.len())?;
-    Ok(settled)
+    if is_at_rest(&message) {
+        print(text, &message, input.len())?;
+        return Ok(true);
+    }
+    write_round(alloc, text, message, input.len())?;
+    Ok(false)
 }
 
 // Whether the printed text of the message is known to be settled.

@@ -9,10 +9,11 @@ use Rattle.syslog_pieces.specs.StructuredData.Element.{ElementValue, param_text,
 use Rattle.syslog_pieces.specs.Text.{trimmed}
 use Rattle.syslog_pieces.specs.declared.procid.ProcId.{ProcId}
 use Rattle.syslog_loose.specs.Canonical.{EndsVisibly}
+pub use Rattle.syslog_loose.specs.Jumps.{tail_text}
 pub use Rattle.syslog_loose.specs.KeptLoose.{bracketed, program_text}
 use Rattle.syslog_loose.specs.Message.{MessageValue}
 use Rattle.syslog_loose.specs.Printed.{timestamp_text, name_text, tag_text, spaced_elements, priority_of, printed_3164}
-use Rattle.syslog_loose.proofs.TrimLemmas.{LastVisible, last_append, drop_after, message_end, message_end_is}
+use Rattle.syslog_loose.proofs.TrimLemmas.{LastVisible, last_append, drop_after, message_end_is}
 
 -- what stands behind the colon and its space
 abbrev pub body_text : List ElementValue → Text → Text
@@ -63,11 +64,6 @@ element_last e =
 elements_last : (e : ElementValue) (es : List ElementValue) → LastVisible (joined_elements (e ∷ es))
 elements_last e [] = subst LastVisible (sym (append-nil (element_text e))) (element_last e)
 elements_last e (f ∷ es) = last_append (element_text e) (joined_elements (f ∷ es)) (elements_last f es)
-
--- what trimming leaves behind the colon
-abbrev pub tail_text : List ElementValue → Text → Text
-tail_text [] msg = message_end msg
-tail_text (e ∷ es) msg = 32 ∷ (joined_elements (e ∷ es) ++ message_end msg)
 
 tail_is : (es : List ElementValue) (msg : Text) → EndsVisibly msg → drop_trailing_whitespace (32 ∷ body_text es msg) ≡ tail_text es msg
 tail_is [] msg h = message_end_is msg h

@@ -29,7 +29,7 @@ colons_length (suc n) = ap suc (colons_length n)
 pub ends_long : (h : Text) (n : ℕ) → EndsInColons h n → n ≤ length h
 ends_long h n e = let l = ap length e.whole in omega (arith, length-append e.front (colons n), colons_length n)
 
-colons_last : (n : ℕ) → colons (suc n) ≡ colons n ++ colon
+pub colons_last : (n : ℕ) → colons (suc n) ≡ colons n ++ colon
 colons_last zero = refl
 colons_last (suc n) = ap (λ (x : Text). 58 ∷ x) (colons_last n)
 

@@ -196,14 +196,14 @@ stamp_step dating s q p r v e (inr h) =
     absurd (begins_apart (p ++ r) (λ c l k. omega arith) (subst (λ (y : Text). Begins IsLow y) e (begins_more IsLow (timestamp_text (Some s)) (32 ∷ q) (stamp_low s))) (stamped_date_begins dating p r v h))
 
 -- ---- the priority
-priority_again : (p : ℕ) → p < 192 → option_map_or facility_number (facility_of p) 5 * 8 + option_map_or severity_number (severity_of p) 7 ≡ p
+pub priority_again : (p : ℕ) → p < 192 → option_map_or facility_number (facility_of p) 5 * 8 + option_map_or severity_number (severity_of p) 7 ≡ p
 priority_again p l =
     let (f, s, e, g, h) = priority_composed p l in
     ap (λ (x : Option SyslogFacility). option_map_or facility_number x 5 * 8 + option_map_or severity_number (severity_of p) 7) e
     ∙ ap (λ (x : Option SyslogSeverity). facility_number f * 8 + option_map_or severity_number x 7) g ∙ h
 
 -- ---- the message
-printed_same : (m n : MessageValue) → priority_of n ≡ priority_of m → n.timestamp ≡ m.timestamp → name_text n.hostname ≡ name_text m.hostname → tag_text n.appname n.procid ≡ tag_text m.appname m.procid
+pub printed_same : (m n : MessageValue) → priority_of n ≡ priority_of m → n.timestamp ≡ m.timestamp → name_text n.hostname ≡ name_text m.hostname → tag_text n.appname n.procid ≡ tag_text m.appname m.procid
     → n.structured_data ≡ m.structured_data → n.msg ≡ m.msg → printed_3164 n ≡ printed_3164 m
 unfolding printed_3164
 printed_same m n a b c d e f = rw (a, b, c, d, e, f) refl

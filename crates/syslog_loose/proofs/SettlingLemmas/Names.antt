@@ -44,7 +44,7 @@ same_values Cs d t vs ws f g = (front_same (Row Cs) (row_det Cs d) f g).1
 pub no_blanks : (t : Text) → Ends is_blank t → Front (run is_blank) t t tt
 no_blanks t b = piece_front (run is_blank) [] t tt (tt, b)
 
-one_space : (t : Text) → Ends is_blank t → Front (run is_blank) (32 ∷ t) t tt
+pub one_space : (t : Text) → Ends is_blank t → Front (run is_blank) (32 ∷ t) t tt
 one_space t b = piece_front (run is_blank) (32 ∷ []) t tt ((refl, tt), b)
 
 -- a text that begins with no list is the message
@@ -58,7 +58,7 @@ message_read t msg f b n =
 pub msg_read : (t : Text) → Ends is_blank t → BeginsNoList BeforeBlank t → Front (Row (from_blanks BeforeBlank)) t [] (tt, (None, (tt, (t, tt))))
 msg_read t b n = message_read t t (no_blanks t b) b n
 
-colon_front : (t : Text) → Front (optional (exactly colon)) (58 ∷ t) t (Some tt)
+pub colon_front : (t : Text) → Front (optional (exactly colon)) (58 ∷ t) t (Some tt)
 colon_front t = optional_some (exactly colon) (piece_front (exactly colon) colon t tt refl)
 
 -- ---- the printed names, t being what follows their colon
@@ -203,11 +203,11 @@ no_host_alone t p q v e (l, a, inr (r, w, b, z)) =
     let s = ap length (run_same is_not_whitespace (p ++ colon) r colon (32 ∷ t) e1 (each_append is_not_whitespace p colon a (refl, tt)) b (refl, tt) refl) in
     omega (arith, length-append p colon)
 
-abbrev colon_values : Option (Option Text) → Text → Values (body_row BeforeBlank)
+abbrev pub colon_values : Option (Option Text) → Text → Values (body_row BeforeBlank)
 colon_values h t = (h, (None, (tt, (Some tt, (tt, (None, (tt, (58 ∷ t, tt))))))))
 
 -- a host that leaves its colon
-host_left : (h t : Text) → IsVisible h → Front (Row (body_row BeforeBlank)) (32 ∷ (h ++ (58 ∷ 32 ∷ 58 ∷ t))) [] (colon_values (Some (Some h)) t)
+pub host_left : (h t : Text) → IsVisible h → Front (Row (body_row BeforeBlank)) (32 ∷ (h ++ (58 ∷ 32 ∷ 58 ∷ t))) [] (colon_values (Some (Some h)) t)
 host_left h t (l, a) =
     let behind : Text = 58 ∷ 32 ∷ 58 ∷ t in
     row_cons (optional (spaced host)) (from_tag BeforeBlank) (optional_some (spaced host) (spaced_front host (space_front (h ++ behind)) (piece_front host h behind (Some h) (l, a, inr (32 ∷ 58 ∷ t, refl, refl, refl)))))

@@ -1,13 +1,20 @@
 -- Rounds of a text: there is one of each number, and one that is settled first.
-use Rattle.std.proofs.Common.{◌≡◌, ℕ, zero, suc, ◌<◌, inl, inr, refl, sym, ap, subst, ◌∙◌, arith}
+use Rattle.std.proofs.Common.{◌≡◌, ℕ, zero, suc, ◌+◌, ◌<◌, inl, inr, refl, sym, ap, subst, ◌∙◌, arith}
 use Rattle.std.proofs.lemmas.Bool.Decides.{leb_tells}
 use Rattle.syslog_pieces.specs.Pieces.Class.{Text}
 use Rattle.syslog_pieces.specs.Timestamp.Zone.{Dating}
 use Rattle.syslog_loose.specs.Printed.{printed}
 use Rattle.syslog_loose.specs.Reading.{IsRead, IsUnreadable}
-use Rattle.syslog_loose.specs.Settling.{IsNext, IsRound, IsSettled, NoneSettled, IsFirstSettled}
+use Rattle.syslog_loose.specs.Settling.{IsNext, IsRound, IsSettled, NoneSettled, Reaches, IsFirstSettled}
 use Rattle.syslog_loose.specs.declared.variant.Variant.{Variant}
 use Rattle.syslog_loose.proofs.ReadingLemmas.{read_once}
+
+difference : (n j : ℕ) → n < j → (i : ℕ) × (j ≡ i + suc n)
+difference n zero l = absurd (omega arith)
+difference n (suc j) l = elim (leb_tells (suc j) (suc n)) [
+  | inl a ↦ (0, (let b = a.1 in omega arith))
+  | inr a ↦ (let (i, e) = difference n j (let b = a.1 in omega arith) in (suc i, (let b = e in omega arith)))
+]
 
 module _ (variant : Variant) (dating : Dating) where
   pub one_next : (t u x : Text) → IsNext variant dating t u → IsNext variant dating t x → u ≡ x
@@ -45,15 +52,11 @@ module _ (variant : Variant) (dating : Dating) where
         | inr l ↦ absurd (b.none_before a.before u l.1 a.round a.settled)
       ]
 
-  -- ---- what is known after so many rounds that are not settled: this is the round behind them
-  pub record Reached (text : Text) (n : ℕ) (u : Text) : Type 0 where
-    pub round : IsRound variant dating text (suc n) u
-    pub none : NoneSettled variant dating text n
-
-  pub reached_first : (t u : Text) → IsNext variant dating t u → Reached t 0 u
+  -- ---- what is known after so many rounds that are not settled
+  pub reached_first : (t u : Text) → IsNext variant dating t u → Reaches variant dating t 0 u
   reached_first t u h = record { round = (t, refl, h); none = λ k x l. absurd (omega arith) }
 
-  pub reached_next : (t : Text) (n : ℕ) (u x : Text) → Reached t n u → (IsSettled variant dating u → ⊥) → IsNext variant dating u x → Reached t (suc n) x
+  pub reached_next : (t : Text) (n : ℕ) (u x : Text) → Reaches variant dating t n u → (IsSettled variant dating u → ⊥) → IsNext variant dating u x → Reaches variant dating t (suc n) x
   reached_next t n u x r never h = record {
     round = (u, r.round, h);
     none = λ k y l round settled. elim (leb_tells n k) [
@@ -65,11 +68,11 @@ module _ (variant : Variant) (dating : Dating) where
   }
 
   -- where it is settled, it is the first
-  pub reached_settled : (t : Text) (n : ℕ) (u : Text) → Reached t n u → IsSettled variant dating u → IsFirstSettled variant dating t u
+  pub reached_settled : (t : Text) (n : ℕ) (u : Text) → Reaches variant dating t n u → IsSettled variant dating u → IsFirstSettled variant dating t u
   reached_settled t n u r s = record { before = n; round = r.round; settled = s; none_before = r.none }
 
   -- where it is read as no message, none is settled
-  pub reached_last : (t : Text) (n : ℕ) (u y : Text) → Reached t n u → IsUnreadable variant dating u → IsFirstSettled variant dating t y → ⊥
+  pub reached_last : (t : Text) (n : ℕ) (u y : Text) → Reaches variant dating t n u → IsUnreadable variant dating u → IsFirstSettled variant dating t y → ⊥
   reached_last t n u y r never s =
       elim (leb_tells s.before n) [
         | inl a ↦ elim (leb_tells n s.before) [
@@ -102,7 +105,38 @@ module _ (variant : Variant) (dating : Dating) where
       never next.message (subst (λ (q : Text). IsRead variant dating q next.message) e next.read)
 
   -- and a text that has a round behind round 0 is read
-  pub reached_read : (t : Text) (n : ℕ) (u : Text) → Reached t n u → IsUnreadable variant dating t → ⊥
+  pub reached_read : (t : Text) (n : ℕ) (u : Text) → Reaches variant dating t n u → IsUnreadable variant dating t → ⊥
   reached_read t n u r never =
       let (v, e, (y, next)) = before_round t 0 (suc n) u (omega arith) r.round in
       never next.message (subst (λ (q : Text). IsRead variant dating q next.message) e next.read)
+
+  -- ---- a round of a round
+  round_at : (t x : Text) (n k : ℕ) → n ≡ k → IsRound variant dating t n x → IsRound variant dating t k x
+  round_at t x n k e r = subst (λ (j : ℕ). IsRound variant dating t j x) e r
+
+  round_join : (t u : Text) (n k : ℕ) (x : Text) → IsRound variant dating t n u → IsRound variant dating u k x → IsRound variant dating t (k + n) x
+  round_join t u n zero x r e = round_at t x n (0 + n) (omega arith) (subst (λ (q : Text). IsRound variant dating t n q) (sym e) r)
+  round_join t u n (suc k) x r (before, s, h) = round_at t x (suc (k + n)) (suc k + n) (omega arith) (before, round_join t u n k before r s, h)
+
+  round_split : (t u : Text) (n k : ℕ) (x : Text) → IsRound variant dating t n u → IsRound variant dating t (k + n) x → IsRound variant dating u k x
+  round_split t u n zero x r s = one_round t n x u (round_at t x (0 + n) n (omega arith) s) r
+  round_split t u n (suc k) x r s =
+      let (before, q, h) = round_at t x (suc k + n) (suc (k + n)) (omega arith) s in (before, round_split t u n k before r q, h)
+
+  -- what is reached from a round that is not settled
+  pub reached_further : (t : Text) (n : ℕ) (u : Text) (k : ℕ) (x : Text) → Reaches variant dating t n u → (IsSettled variant dating u → ⊥) → Reaches variant dating u k x
+      → Reaches variant dating t (k + suc n) x
+  reached_further t n u k x r never s = record {
+    round = round_at t x (suc k + suc n) (suc (k + suc n)) (omega arith) (round_join t u (suc n) (suc k) x r.round s.round);
+    none = λ j y l round settled. elim (leb_tells n j) [
+      | inl a ↦ elim (leb_tells j n) [
+        | inl b ↦ (
+            let e : j ≡ n = (let c = a.1 in let d = b.1 in omega arith) in
+            never (subst (λ (q : Text). IsSettled variant dating q) (one_round t (suc n) y u (round_at t y (suc j) (suc n) (ap suc e) round) r.round) settled))
+        | inr b ↦ (
+            let (i, e) = difference n j b.1 in
+            s.none i y (let c = e in omega arith) (round_split t u (suc n) (suc i) y r.round (round_at t y (suc j) (suc i + suc n) (let c = e in omega arith) round)) settled)
+      ]
+      | inr a ↦ r.none j y a.1 round settled
+    ];
+  }

@@ -3,7 +3,7 @@ use Rattle.std.proofs.Common.{◌≡◌, ℕ, zero, suc, ◌+◌, ◌<◌, ◌�
 use Rattle.std.proofs.lemmas.Bool.Decides.{leb_tells}
 use Rattle.std.proofs.lemmas.Slice.Eq.{bytes_eq-Decides}
 use Rattle.std.proofs.lemmas.Str.{chars_from_encodes, encodes-chars, length-le-encodes}
-use Rattle.std.specs.Prelude.{◌↔◌, IsTrue, MatchBool}
+use Rattle.std.specs.Prelude.{◌↔◌}
 use Rattle.std.specs.Str.{chars, IsUtf8, bytes_eq, encode_utf8_all}
 use Rattle.syslog_pieces.specs.Pieces.Class.{Text}
 use Rattle.syslog_pieces.specs.Timestamp.Zone.{Dating}
@@ -15,7 +15,7 @@ use Rattle.syslog_loose.specs.Printed.{printed}
 use Rattle.syslog_loose.specs.Reading.{dash_rule, IsRead, IsUnreadable}
 use Rattle.syslog_loose.specs.Rfc3164.{IsRead3164}
 use Rattle.syslog_loose.specs.Rfc5424.{IsRead5424}
-use Rattle.syslog_loose.specs.Settling.{IsNext, IsRound, IsSettled, NoneSettled, IsFirstSettled, SettlesAs, IsSettlingFault, IsAtRest, IsToldNext, Weighs}
+use Rattle.syslog_loose.specs.Settling.{IsNext, IsRound, IsSettled, NoneSettled, Reaches, IsFirstSettled, SettlesAs, IsSettlingFault, IsAtRest, IsToldRound, Weighs}
 use Rattle.syslog_loose.specs.declared.fault.ParseFault.{ParseFault}
 use Rattle.syslog_loose.specs.declared.fault.ParseFault.TheVariants.{Invalid, Memory}
 use Rattle.syslog_loose.specs.declared.message.Protocol.{Protocol}
@@ -31,11 +31,11 @@ use Rattle.syslog_loose.proofs.Rfc3164Lemmas.Printed.{printed_is, printed_apart}
 use Rattle.syslog_loose.proofs.SettlingLemmas.Falls.{falls}
 use Rattle.syslog_loose.proofs.SettlingLemmas.Light.{light}
 use Rattle.syslog_loose.proofs.SettlingLemmas.Quiet.{read_protocol}
-use Rattle.syslog_loose.proofs.SettlingLemmas.Rounds.{moves_on, Reached, reached_first, reached_next, reached_settled, reached_last, reached_read, first_never, none_settled}
+use Rattle.syslog_loose.proofs.SettlingLemmas.Rounds.{moves_on, reached_first, reached_next, reached_further, reached_settled, reached_last, reached_read, first_never, none_settled}
 use Rattle.syslog_loose.proofs.SettlingLemmas.Weights.{weight}
 
 -- ---- by which protocol a text was read
-no_protocol : (version : ℕ) → protocol.RFC3164 ≡ protocol.RFC5424 version → ⊥
+pub no_protocol : (version : ℕ) → protocol.RFC3164 ≡ protocol.RFC5424 version → ⊥
 no_protocol version e = cc
 
 module _ (dating : Dating) (text : Text) (m : MessageValue) where
@@ -45,7 +45,7 @@ module _ (dating : Dating) (text : Text) (m : MessageValue) where
   strictly Either version (inl r) e = r
   strictly Either version (inr (none, r)) e = absurd (no_protocol version (sym (read_near dash_rule dating text m r).protocol ∙ e))
 
-  loosely : (variant : Variant) → IsRead variant dating text m → m.protocol ≡ protocol.RFC3164 → IsRead3164 dash_rule dating text m
+  pub loosely : (variant : Variant) → IsRead variant dating text m → m.protocol ≡ protocol.RFC3164 → IsRead3164 dash_rule dating text m
   loosely RFC5424 r e = absurd (no_protocol r.values.1.0 (sym e ∙ ap (λ (x : MessageValue). x.protocol) r.means))
   loosely RFC3164 r e = r
   loosely Either (inl r) e = absurd (no_protocol r.values.1.0 (sym e ∙ ap (λ (x : MessageValue). x.protocol) r.means))
@@ -115,7 +115,7 @@ module _ (variant : Variant) (dating : Dating) where
       ]
 
   -- So many rounds can't be unsettled.
-  pub ends : (t : Text) (n : ℕ) (u : Text) → length t < n → Reached variant dating t n u → ⊥
+  pub ends : (t : Text) (n : ℕ) (u : Text) → length t < n → Reaches variant dating t n u → ⊥
   ends t zero u l r = omega arith
   ends t (suc n) u l r = of_round (r.round)
     where
@@ -150,12 +150,12 @@ module _ (variant : Variant) (dating : Dating) where
   first_fault t Memory h = λ never. invalid_or_memory (h.1 never)
 
   -- and where a later one was
-  pub later_fault : (t : Text) (n : ℕ) (u : Text) (fault : ParseFault) → Reached variant dating t n u → (fault ≡ Invalid) ↔ IsUnreadable variant dating u → IsSettlingFault variant dating t fault
+  pub later_fault : (t : Text) (n : ℕ) (u : Text) (fault : ParseFault) → Reaches variant dating t n u → (fault ≡ Invalid) ↔ IsUnreadable variant dating u → IsSettlingFault variant dating t fault
   later_fault t n u Invalid r h = settles_not t (λ y s. reached_last variant dating t n u y r (h.0 refl) s)
   later_fault t n u Memory r h = reached_read variant dating t n u r
 
   -- where a round is settled behind so many that are not, it is the answer
-  pub settled_here : (t : Text) (n : ℕ) (u : Text) → Reached variant dating t n u → IsSettled variant dating u → SettlesAs variant dating t u
+  pub settled_here : (t : Text) (n : ℕ) (u : Text) → Reaches variant dating t n u → IsSettled variant dating u → SettlesAs variant dating t u
   settled_here t n u r s = settles_as t u (reached_settled variant dating t n u r s)
 
 -- ---- what the next round's reader answers
@@ -164,48 +164,57 @@ module _ (variant : Variant) (dating : Dating) (text : Text) (m : MessageValue) 
   rest_settled (protocol.RFC5424 version) e h = strict_settled variant dating text m version r e
   rest_settled protocol.RFC3164 e h = free_settled variant dating text m r e h
 
+  odd_loose : (p : Protocol) → m.protocol ≡ p → (IsAtRest p m → ⊥) → m.protocol ≡ protocol.RFC3164
+  odd_loose (protocol.RFC5424 version) e odd = absurd (odd tt)
+  odd_loose protocol.RFC3164 e odd = e
+
   odd_moves : (p : Protocol) → m.protocol ≡ p → (IsAtRest p m → ⊥) → IsSettled variant dating text → ⊥
   odd_moves (protocol.RFC5424 version) e odd s = odd tt
   odd_moves protocol.RFC3164 e odd s = odd_unsettled variant dating text m r e odd s
 
-  told_rest : (settled : Bool) → IsTrue settled ↔ IsAtRest m.protocol m → MatchBool settled (IsSettled variant dating (printed m)) (IsSettled variant dating text → ⊥)
-  told_rest true h = rest_settled m.protocol refl (h.0 refl)
-  told_rest false h = odd_moves m.protocol refl (λ a. let t : false ≡ true = h.1 a in cc)
-
-  -- the message is tested and printed
-  pub told_next : (bytes : List ℕ) (settled : Bool) → IsUtf8 bytes → bytes ≡ encode_utf8_all (printed m) → IsTrue settled ↔ IsAtRest m.protocol m → IsToldNext variant dating text (chars bytes) settled
-  told_next bytes settled u w h =
+  -- it is printed
+  pub told_next : (bytes : List ℕ) → IsUtf8 bytes → bytes ≡ encode_utf8_all (printed m) → IsAtRest m.protocol m → IsNext variant dating text (chars bytes) × IsSettled variant dating (chars bytes)
+  told_next bytes u w h =
       let is : chars bytes ≡ printed m = sym (chars_from_encodes (printed m) bytes u (sym w)) in
-      record {
-        is_next = record { message = m; read = r; is_printed = is };
-        told = subst (λ (x : Text). MatchBool settled (IsSettled variant dating x) (IsSettled variant dating text → ⊥)) (sym is) (told_rest settled h);
-      }
+      (record { message = m; read = r; is_printed = is }, subst (λ (x : Text). IsSettled variant dating x) (sym is) (rest_settled m.protocol refl h))
+
+  -- or it is a message of RFC 3164, and a round of it is written
+  pub told_later : (later : Text) → (IsAtRest m.protocol m → ⊥) → (m.protocol ≡ protocol.RFC3164 → (n : ℕ) × Reaches variant dating text n later)
+      → (IsSettled variant dating text → ⊥) × (n : ℕ) × Reaches variant dating text n later
+  told_later later odd reaches = let (n, s) = reaches (odd_loose m.protocol refl odd) in (odd_moves m.protocol refl odd, n, s)
 
 -- a line that is copied behind its timestamp is settled
-pub told_freely : (variant : Variant) (dating : Dating) (text : Text) (bytes : List ℕ) → IsUtf8 bytes → PrintsFreely variant dating text bytes → IsToldNext variant dating text (chars bytes) true
+pub told_freely : (variant : Variant) (dating : Dating) (text : Text) (bytes : List ℕ) → IsUtf8 bytes → PrintsFreely variant dating text bytes → IsToldRound variant dating text (chars bytes) true
 told_freely variant dating text bytes u k =
     let is : chars bytes ≡ printed k.message = sym (chars_from_encodes (printed k.message) bytes u (sym k.prints)) in
-    record {
-      is_next = record { message = k.message; read = k.read; is_printed = is };
-      told = subst (λ (x : Text). IsSettled variant dating x) (sym is) (free_settled variant dating text k.message k.read k.protocol k.no_miss);
-    }
+    (record { message = k.message; read = k.read; is_printed = is }, subst (λ (x : Text). IsSettled variant dating x) (sym is) (free_settled variant dating text k.message k.read k.protocol k.no_miss))
 
 pub first_freely : (variant : Variant) (dating : Dating) (text : Text) (bytes : List ℕ) → IsUtf8 bytes → PrintsFreely variant dating text bytes → SettlesAs variant dating text (chars bytes)
 first_freely variant dating text bytes u k =
-    let told = told_freely variant dating text bytes u k in settled_here variant dating text 0 (chars bytes) (reached_first variant dating text (chars bytes) told.is_next) told.told
+    let told = told_freely variant dating text bytes u k in settled_here variant dating text 0 (chars bytes) (reached_first variant dating text (chars bytes) told.0) told.1
 
 -- ---- what the loop does
-pub told_true : (variant : Variant) (dating : Dating) (text next : Text) (settled : Bool) → settled ≡ true → IsToldNext variant dating text next settled → IsSettled variant dating next
-told_true variant dating text next settled e h = subst (λ (b : Bool). MatchBool b (IsSettled variant dating next) (IsSettled variant dating text → ⊥)) e h.told
+told_true : (variant : Variant) (dating : Dating) (text later : Text) (settled : Bool) → settled ≡ true → IsToldRound variant dating text later settled → IsToldRound variant dating text later true
+told_true variant dating text later settled e h = subst (λ (b : Bool). IsToldRound variant dating text later b) e h
 
-pub told_false : (variant : Variant) (dating : Dating) (text next : Text) (settled : Bool) → settled ≡ false → IsToldNext variant dating text next settled → IsSettled variant dating text → ⊥
-told_false variant dating text next settled e h = subst (λ (b : Bool). MatchBool b (IsSettled variant dating next) (IsSettled variant dating text → ⊥)) e h.told
+told_false : (variant : Variant) (dating : Dating) (text later : Text) (settled : Bool) → settled ≡ false → IsToldRound variant dating text later settled → IsToldRound variant dating text later false
+told_false variant dating text later settled e h = subst (λ (b : Bool). IsToldRound variant dating text later b) e h
 
--- the round behind one that is not known to be settled
-pub round_more : (variant : Variant) (dating : Dating) (t : Text) (n : ℕ) (u x : Text) (settled : Bool) → Reached variant dating t n u → settled ≡ false → IsToldNext variant dating u x settled
-    → Reached variant dating t (n + 1) x
+-- the text is a round behind so many that are not settled, or more
+pub record ReachesFrom (variant : Variant) (dating : Dating) (t : Text) (least : ℕ) (u : Text) : Type 0 where
+  pub before : ℕ
+  pub far : least ≤ before
+  pub reaches : Reaches variant dating t before u
+
+pub first_round : (variant : Variant) (dating : Dating) (t x : Text) (settled : Bool) → settled ≡ false → IsToldRound variant dating t x settled → ReachesFrom variant dating t 0 x
+first_round variant dating t x settled e h = let (never, n, r) = told_false variant dating t x settled e h in record { before = n; far = omega arith; reaches = r }
+
+-- the round behind one that is not settled
+pub round_more : (variant : Variant) (dating : Dating) (t : Text) (n : ℕ) (u x : Text) (settled : Bool) → ReachesFrom variant dating t n u → settled ≡ false → IsToldRound variant dating u x settled
+    → ReachesFrom variant dating t (n + 1) x
 round_more variant dating t n u x settled r e h =
-    subst (λ (k : ℕ). Reached variant dating t k x) (let same : suc n ≡ n + 1 = omega arith in same) (reached_next variant dating t n u x r (told_false variant dating u x settled e h) h.is_next)
+    let (never, k, s) = told_false variant dating u x settled e h in
+    record { before = k + suc r.before; far = (let l = r.far in omega arith); reaches = reached_further variant dating t r.before u k x r.reaches never s }
 
 same_text : (xs ys : Text) → (xs ≡ ys) ⊎ (xs ≡ ys → ⊥)
 same_text xs ys = by (bytes_eq xs ys) refl
@@ -215,24 +224,29 @@ same_text xs ys = by (bytes_eq xs ys) refl
     by false e = inr (λ k. let t : true ≡ false = sym ((bytes_eq-Decides xs ys).1 k) ∙ e in cc)
 
 -- and the answer where it is settled: that, or the one before, which is the same text
-pub round_answer : (variant : Variant) (dating : Dating) (t : Text) (n : ℕ) (u x : Text) (settled : Bool) → Reached variant dating t n u → settled ≡ true → IsToldNext variant dating u x settled
+pub round_answer : (variant : Variant) (dating : Dating) (t : Text) (n : ℕ) (u x : Text) (settled : Bool) → ReachesFrom variant dating t n u → settled ≡ true → IsToldRound variant dating u x settled
     → SettlesAs variant dating t x
 round_answer variant dating t n u x settled r e h =
-    let s = told_true variant dating u x settled e h in
+    let (next, s) = told_true variant dating u x settled e h in
     elim (same_text u x) [
       | inl same ↦ (
-          let k : IsSettled variant dating u = subst (λ (y : Text). IsNext variant dating u y) (sym same) h.is_next in
-          subst (λ (y : Text). SettlesAs variant dating t y) same (settled_here variant dating t n u r k))
-      | inr other ↦ settled_here variant dating t (suc n) x (reached_next variant dating t n u x r (moves_on variant dating u x h.is_next other) h.is_next) s
+          let k : IsSettled variant dating u = subst (λ (y : Text). IsNext variant dating u y) (sym same) next in
+          subst (λ (y : Text). SettlesAs variant dating t y) same (settled_here variant dating t r.before u r.reaches k))
+      | inr other ↦ settled_here variant dating t (suc r.before) x (reached_next variant dating t r.before u x r.reaches (moves_on variant dating u x next other) next) s
     ]
 
 -- round 1, where it is settled
-pub first_answer : (variant : Variant) (dating : Dating) (t x : Text) (settled : Bool) → settled ≡ true → IsToldNext variant dating t x settled → SettlesAs variant dating t x
+pub first_answer : (variant : Variant) (dating : Dating) (t x : Text) (settled : Bool) → settled ≡ true → IsToldRound variant dating t x settled → SettlesAs variant dating t x
 first_answer variant dating t x settled e h =
-    settled_here variant dating t 0 x (reached_first variant dating t x h.is_next) (told_true variant dating t x settled e h)
+    let (next, s) = told_true variant dating t x settled e h in settled_here variant dating t 0 x (reached_first variant dating t x next) s
+
+-- a round that has no message
+pub round_fault : (variant : Variant) (dating : Dating) (t : Text) (n : ℕ) (u : Text) (fault : ParseFault) → ReachesFrom variant dating t n u → (fault ≡ Invalid) ↔ IsUnreadable variant dating u
+    → IsSettlingFault variant dating t fault
+round_fault variant dating t n u fault r h = later_fault variant dating t r.before u fault r.reaches h
 
 -- a text has no fewer bytes than characters, so that so many rounds can't be unsettled
-pub too_many : (variant : Variant) (dating : Dating) (bytes : List ℕ) (n : ℕ) (u : Text) → IsUtf8 bytes → length bytes < n → Reached variant dating (chars bytes) n u → ⊥
+pub too_many : (variant : Variant) (dating : Dating) (bytes : List ℕ) (n : ℕ) (u : Text) → IsUtf8 bytes → length bytes < n → ReachesFrom variant dating (chars bytes) n u → ⊥
 too_many variant dating bytes n u utf8 l r =
     let fewer : length (chars bytes) ≤ length bytes = subst (λ (x : List ℕ). length (chars bytes) ≤ length x) (encodes-chars bytes utf8) (length-le-encodes (chars bytes)) in
-    ends variant dating (chars bytes) n u (omega arith) r
+    let far = r.far in ends variant dating (chars bytes) r.before u (omega arith) r.reaches

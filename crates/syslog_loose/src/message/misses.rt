@@ -7,6 +7,7 @@ ghost use Rattle.syslog_pieces.specs.Pieces.Class.{Each};
 ghost use Rattle.syslog_pieces.specs.Pieces.View.{seen, shown};
 ghost use Rattle.syslog_pieces.specs.ProcId.{procid_value};
 ghost use Rattle.syslog_pieces.specs.Text.{EndsInColon, dash};
+ghost use Rattle.syslog_loose.specs.Jumps.{HasNoNameMiss};
 ghost use Rattle.syslog_loose.specs.ListedMisses as spec;
 ghost use Rattle.syslog_loose.specs.Message.{message_value};
 ghost use Rattle.syslog_loose.specs.Reading.{dash_rule};
@@ -20,16 +21,23 @@ use syslog_pieces::structured_data::listed::DASH_RULE;
 pub(crate) fn has_no_miss(message: &Message<&str>) -> bool
     ensures { IsTrue result ↔ spec.HasNoMiss dash_rule (message_value (λ s. shown s) message.now) }
 {
+    if !has_no_name_miss(message) {
+        return false;
+    }
+    begins_no_list(&message.structured_data, message.msg, DASH_RULE)
+}
+
+/// Whether it has none of those before its message part.
+pub(crate) fn has_no_name_miss(message: &Message<&str>) -> bool
+    ensures { IsTrue result ↔ HasNoNameMiss (message_value (λ s. shown s) message.now) }
+{
     if !is_plain_time(message.timestamp) {
         return false;
     }
     if !is_kept_host(message.hostname) {
         return false;
     }
-    if !is_uncut_process(&message.procid) {
-        return false;
-    }
-    begins_no_list(&message.structured_data, message.msg, DASH_RULE)
+    is_uncut_process(&message.procid)
 }
 
 // Whether the host is neither the text of an absent one nor taken for the one behind the names.

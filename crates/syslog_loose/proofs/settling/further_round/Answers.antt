@@ -1,3 +1,4 @@
+use Rattle.std.proofs.Common.{◌≡◌, true, false, refl}
 use Rattle.std.specs.Prelude.{string_bytes}
 use Rattle.std.specs.Str.{chars}
 use Rattle.std.proofs.lemmas.Result.{err_from_is_err_and}
@@ -5,8 +6,8 @@ use Rattle.std.proofs.lemmas.Str.{IsUtf8-string_bytes}
 use Rattle.syslog_pieces.specs.Timestamp.Zone.{dating_of}
 use Rattle.syslog_loose.specs.KeptLoose.{PrintsFreely}
 use Rattle.syslog_loose.proofs.ReadingLemmas.{fault_tells, memory_tells, invalid_or_memory, no_ok, found_text}
-use Rattle.syslog_loose.proofs.SettlingLemmas.Settles.{told_next, told_freely}
-use Rattle.syslog_loose.proofs.settling.next_round.Goals as goal
+use Rattle.syslog_loose.proofs.SettlingLemmas.Settles.{told_next, told_later, told_freely}
+use Rattle.syslog_loose.proofs.settling.further_round.Goals as goal
 
 pub returns-in_err-copied : goal.returns-in_err-copied
 returns-in_err-copied c =
@@ -27,5 +28,14 @@ pub returns-in_err-print : goal.returns-in_err-print
 returns-in_err-print c =
     let (_, e, same) = err_from_is_err_and c.from_residual-in_err-print.result c.from_residual-in_err-print.ensures.1 in rw (e, same) (memory_tells _ _ _ _ c.in_ok-message.ensures)
 
+pub returns-then-is_at_rest : goal.returns-then-is_at_rest
+returns-then-is_at_rest c = told_next _ _ _ _ c.in_ok-message.ensures.read _ (IsUtf8-string_bytes c.print.new.text) c.in_ok-print.ensures (c.if-is_at_rest.ensures.0 refl)
+
+pub returns-in_err-write_round : goal.returns-in_err-write_round
+returns-in_err-write_round c =
+    let (_, e, same) = err_from_is_err_and c.from_residual-in_err-write_round.result c.from_residual-in_err-write_round.ensures.1 in rw (e, same) (memory_tells _ _ _ _ c.in_ok-message.ensures)
+
 pub returns : goal.returns
-returns c = told_next _ _ _ _ c.in_ok-message.ensures.read _ _ (IsUtf8-string_bytes c.print.new.text) c.in_ok-print.ensures c.is_at_rest-settled.ensures
+returns c =
+    let reaches = c.in_ok-write_round.ensures _ _ _ c.in_ok-message.ensures.read in
+    told_later _ _ _ _ c.in_ok-message.ensures.read _ (λ h. let t : false ≡ true = c.if-is_at_rest.ensures.1 h in cc) reaches

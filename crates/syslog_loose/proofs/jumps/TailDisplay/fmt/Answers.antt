@@ -1,0 +1,17 @@
+use Rattle.std.proofs.Common.{refl, length, map, ◌<◌, arith}
+use Rattle.std.proofs.lemmas.Grind.{put_two}
+use Rattle.std.proofs.lemmas.List.{length-map}
+use Rattle.std.specs.Str.{chars}
+use Rattle.syslog_pieces.specs.Pieces.View.{shown}
+use Rattle.syslog_pieces.specs.StructuredData.Element.{element_value}
+use Rattle.syslog_pieces.proofs.TextLemmas.Chars.{nonempty_is}
+use Rattle.syslog_loose.proofs.JumpLemmas.{tail_elements}
+use Rattle.syslog_loose.proofs.jumps.TailDisplay.fmt.Goals as goal
+
+pub returns-clause-writes : goal.returns-clause-writes
+returns-clause-writes g c = λ plain ok.
+    let elements = c.args.self.now.elements.now in
+    let some : 0 < length elements = nonempty_is _ c.if-is_empty.ensures in
+    let first = c.in_ok-write_elements.ensures plain refl in
+    put_two _ _ _ _ _ _ _ first (c.write_end-2.ensures first.plain ok)
+    (tail_elements (map (element_value (λ s. shown s)) elements) (chars c.args.self.now.msg.now) (omega (arith, length-map elements (element_value (λ s. shown s)))))

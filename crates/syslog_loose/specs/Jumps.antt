@@ -1,0 +1,89 @@
+-- Rounds whose texts are known before they are read: those in which a host loses a colon each time, and those in which a
+-- message part loses a dash. (All of it is this project's own.)
+use Rattle.std.specs.Prelude.{◌≡◌, ℕ, zero, suc, ◌<◌, List, [], ◌∷◌, ◌++◌, length, Some, None, IfSome}
+use Rattle.syslog_pieces.specs.Pieces.Class.{Text, Each, Ends}
+use Rattle.syslog_pieces.specs.Pri.{facility_of, severity_of}
+use Rattle.syslog_pieces.specs.StructuredData.Element.{ElementValue, joined_elements}
+use Rattle.syslog_pieces.specs.Text.{is_blank, dash, EndsInColon}
+use Rattle.syslog_pieces.specs.Timestamp.Plain.{IsPlainStamp}
+use Rattle.syslog_loose.specs.ListedMisses.{HasNoColon}
+use Rattle.syslog_loose.specs.Message.{MessageValue}
+use Rattle.syslog_loose.specs.Printed.{priority_of}
+use Rattle.syslog_loose.specs.Settling.{colons}
+use Rattle.syslog_loose.specs.declared.message.Protocol.TheVariants.{RFC3164}
+
+-- ---- a host that ends in colons
+
+-- n times ` :`, and then the text
+abbrev pub colons_before : ℕ → Text → Text
+colons_before zero t = t
+colons_before (suc n) t = 32 ∷ 58 ∷ colons_before n t
+
+-- a space and the message part, or nothing where that is empty
+unfoldable pub message_end : Text → Text
+message_end [] = []
+message_end (c ∷ cs) = 32 ∷ c ∷ cs
+
+-- what trimming leaves of the elements and the message part that are printed behind the colon of the names
+abbrev pub tail_text : List ElementValue → Text → Text
+tail_text [] msg = message_end msg
+tail_text (e ∷ es) msg = 32 ∷ (joined_elements (e ∷ es) ++ message_end msg)
+
+-- the message that the n-th reading makes of one whose host ends in colons: n + 1 colons fewer, which stand in the
+-- message part before what was printed there
+abbrev pub past_colons : MessageValue → Text → ℕ → MessageValue
+past_colons m host n = record {
+  protocol = RFC3164;
+  facility = facility_of (priority_of m);
+  severity = severity_of (priority_of m);
+  timestamp = m.timestamp;
+  hostname = Some host;
+  appname = None;
+  procid = None;
+  msgid = None;
+  structured_data = [];
+  msg = 58 ∷ colons_before n (tail_text m.structured_data m.msg);
+}
+
+-- The message has a timestamp that its print has too, and this is its host, less n colons at its end, of which it keeps one.
+pub record EndsColons (m : MessageValue) (host : Text) (n : ℕ) : Type 0 where
+  pub timestamp : IfSome m.timestamp IsPlainStamp
+  pub hostname : m.hostname ≡ Some (host ++ colons n)
+  pub keeps : EndsInColon host
+
+-- ---- a message part of dashes
+
+-- none of the misses that a message may have before its message part
+pub record HasNoNameMiss (m : MessageValue) : Type 0 where
+  pub timestamp : IfSome m.timestamp IsPlainStamp
+  pub no_dash : IfSome m.hostname (λ h. h ≡ dash → ⊥)
+  pub no_last_colon : IfSome m.hostname (λ h. EndsInColon h → ⊥)
+  pub no_colon : IfSome m.procid HasNoColon
+
+-- the text is a dash, blanks and then this, which begins with no blank
+pub record IsDashed (text behind : Text) : Type 0 where
+  pub blanks : Text
+  pub whole : text ≡ 45 ∷ (blanks ++ behind)
+  pub some : 0 < length blanks
+  pub each : Each is_blank blanks
+  pub no_more : Ends is_blank behind
+
+-- n dashes, each with the blanks behind it, are passed over, and a further one with blanks behind it follows
+abbrev pub PassesDashes : ℕ → Text → Text → Type 0
+PassesDashes zero text behind = behind ≡ text
+PassesDashes (suc n) text behind = (before : Text) × PassesDashes n text before × IsDashed before behind × (next : Text) × IsDashed behind next
+
+-- the message with this message part
+abbrev pub with_msg : MessageValue → Text → MessageValue
+with_msg m text = record {
+  protocol = m.protocol;
+  facility = m.facility;
+  severity = m.severity;
+  timestamp = m.timestamp;
+  hostname = m.hostname;
+  appname = m.appname;
+  procid = m.procid;
+  msgid = m.msgid;
+  structured_data = m.structured_data;
+  msg = text;
+}

@@ -1,0 +1,182 @@
+//! Rounds that `settle` skips, so that no line takes more than a handful of passes.
+//!
+//! A host of RFC 3164 that ends in colons is read with one fewer each time, and the colon stands in the message part
+//! behind it; of a message part of dashes each reading takes one for an empty list. Each of these rounds is known from
+//! the one before it, so the last of them is written at once.
+ghost use Rattle.std.specs.Prelude.{◌≡◌, ◌+◌, ◌-◌, ◌↔◌, ◌++◌, ◌<◌, ℕ, [], IfSome, IsTrue, MatchOption, OnOk, Some, length, map, string_bytes};
+ghost use Rattle.std.specs.Bool.{◌==◌};
+ghost use Rattle.std.specs.Fmt.{WritesOnOk};
+ghost use Rattle.std.specs.Str.{chars, encode_utf8_all};
+ghost use Rattle.syslog_pieces.specs.Pieces.Class.{Text};
+ghost use Rattle.syslog_pieces.specs.Pieces.View.{shown};
+ghost use Rattle.syslog_pieces.specs.StructuredData.Element.{element_value};
+ghost use Rattle.syslog_pieces.specs.Text.{EndsInColon};
+ghost use Rattle.syslog_pieces.specs.Timestamp.Zone.{Dating};
+ghost use Rattle.syslog_loose.specs.Jumps.{EndsColons, IsDashed, PassesDashes, colons_before, message_end, past_colons, tail_text};
+ghost use Rattle.syslog_loose.specs.Message.{message_value};
+ghost use Rattle.syslog_loose.specs.Printed.{printed};
+ghost use Rattle.syslog_loose.specs.Reading.{IsRead};
+ghost use Rattle.syslog_loose.specs.Settling.{Reaches, colons};
+ghost use Rattle.syslog_loose.specs.declared.message.Protocol.TheVariants.{RFC3164};
+ghost use Rattle.syslog_loose.specs.declared.variant.Variant.{Variant};
+
+use crate::message::{Message, Protocol, has_no_name_miss, is_plain_time, write_elements, write_spaced};
+use crate::reading::print;
+use std::alloc::{AllocError, Global};
+use std::fmt;
+use std::fmt::Write;
+use syslog_pieces::structured_data::StructuredElement;
+use syslog_pieces::text::{literal, some_blanks};
+
+/// Writes a round of the text that was read as this message of RFC 3164: the next one, or the last of those that are known
+/// from it. None before it is settled.
+pub(crate) fn write_round(
+    alloc: Global,
+    text: &mut String,
+    message: Message<&str>,
+    length: usize,
+) -> Result<(), AllocError>
+    ensures { (variant : Variant) (dating : Dating) (input : Text) → IsRead variant dating input (message_value (λ s. shown s) message.entry)
+        → message.entry.protocol ≡ RFC3164 → OnOk result ((n : ℕ) × Reaches variant dating input n (chars (string_bytes text.new))) }
+{
+    match last_colons(&message) {
+        Some((host, cut)) => write_past_colons(alloc, text, &message, host, cut, length),
+        None => print(text, &past_dashes(message), length),
+    }
+}
+
+// The host without all but one of the colons that it ends in, where that cuts any, and how many.
+fn last_colons<'a>(message: &Message<&'a str>) -> Option<(&'a str, usize)>
+    ensures { IfSome result (λ x. EndsColons (message_value (λ s. shown s) message.now) (shown x.0) x.1 × (0 < x.1)) }
+{
+    if !is_plain_time(message.timestamp) {
+        return None;
+    }
+    let name = message.hostname?;
+    let (host, cut) = cut_colons(name);
+    if cut == 0 { None } else { Some((host, cut)) }
+}
+
+// The name without all but one of the colons that it ends in, and how many were cut.
+fn cut_colons(name: &str) -> (&str, usize)
+    ensures { (chars name.now ≡ shown result.0 ++ colons result.1) × (0 < result.1 → EndsInColon (shown result.0)) }
+{
+    let mut host = name;
+    let mut cut = 0;
+    'cuts: while let Some(shorter) = host.strip_suffix(':') {
+        let Some(_front) = shorter.strip_suffix(':') else {
+            break 'cuts;
+        };
+        host = shorter;
+        cut += 1;
+    }
+    (host, cut)
+}
+
+// Writes the message that is read where so many colons of its host were cut, one in each round.
+fn write_past_colons(
+    alloc: Global,
+    text: &mut String,
+    message: &Message<&str>,
+    host: &str,
+    cut: usize,
+    length: usize,
+) -> Result<(), AllocError>
+    requires { 0 < cut }
+    ensures { OnOk result (string_bytes text.new ≡ encode_utf8_all (printed
+        (past_colons (message_value (λ s. shown s) message.now) (chars host.now) (cut - 1)))) }
+{
+    let front = Message {
+        protocol: Protocol::RFC3164,
+        facility: message.facility,
+        severity: message.severity,
+        timestamp: message.timestamp,
+        hostname: Some(host),
+        appname: None,
+        procid: None,
+        msgid: None,
+        structured_data: Vec::new(alloc),
+        msg: ":",
+    };
+    print(text, &front, length)?;
+    push_colons(text, cut - 1)?;
+    let tail = Tail { elements: &message.structured_data, msg: message.msg };
+    write!(text, "{tail}")?;
+    Ok(())
+}
+
+// Appends so many times a space and a colon.
+fn push_colons(text: &mut String, count: usize) -> Result<(), AllocError>
+    ensures { OnOk result (string_bytes text.new ≡ string_bytes text.old ++ colons_before count []) }
+{
+    for done in 0..count {
+        text.push_str(" :")?;
+    }
+    Ok(())
+}
+
+// What stands behind the colon of the names: elements and the message part, each behind a space.
+#[derive(Clone, Copy)]
+struct Tail<'a, 'b> {
+    elements: &'b [StructuredElement<&'a str>],
+    msg: &'a str,
+}
+
+impl fmt::Display for Tail<'_, '_> {
+    ghost output = { λ tail. Some (encode_utf8_all (tail_text (map (element_value (λ s. shown s)) tail.elements.now) (chars tail.msg.now))) };
+
+    fn fmt<W: fmt::Write>(&self, f: &mut fmt::Formatter<W>) -> fmt::Result {
+        if self.elements.is_empty() {
+            return write_end(f, self.msg);
+        }
+        write_elements(f, self.elements)?;
+        write_end(f, self.msg)
+    }
+}
+
+// Writes a space and the message part, where that is not empty.
+fn write_end<W: fmt::Write>(f: &mut fmt::Formatter<W>, msg: &str) -> fmt::Result
+    ensures { WritesOnOk W.write_str_gives f.old result (encode_utf8_all (message_end (chars msg.now))) f.new }
+{
+    if msg.is_empty() { Ok(()) } else { write_spaced(f, msg) }
+}
+
+// The message without the dashes that its next readings take from the message part, one in each round, up to the last one
+// that has a blank behind it.
+fn past_dashes(message: Message<&str>) -> Message<&str>
+    ensures { (variant : Variant) (dating : Dating) (input : Text) → IsRead variant dating input (message_value (λ s. shown s) message.entry)
+        → message.entry.protocol ≡ RFC3164 → (n : ℕ) × Reaches variant dating input n (printed (message_value (λ s. shown s) result)) }
+{
+    let mut message = message;
+    if has_no_name_miss(&message) && are_none(&message.structured_data) {
+        message.msg = last_dash(message.msg);
+    }
+    message
+}
+
+fn are_none(elements: &[StructuredElement<&str>]) -> bool
+    ensures { result ≡ (length elements.now == 0) }
+{
+    elements.is_empty()
+}
+
+// The text from the last dash on of those that it begins with, each with blanks behind it; the text itself where none does.
+fn last_dash(text: &str) -> &str
+    ensures { (n : ℕ) × PassesDashes n (chars text.now) (shown result) }
+{
+    let mut from = text;
+    'dashes: while let Some(rest) = behind_dash(from) {
+        if behind_dash(rest).is_none() {
+            break 'dashes;
+        }
+        from = rest;
+    }
+    from
+}
+
+// The text behind a dash and one or more blanks.
+fn behind_dash(text: &str) -> Option<&str>
+    ensures { MatchOption result ((rest : Text) → IsDashed (chars text.now) rest → ⊥) (λ rest. IsDashed (chars text.now) (shown rest)) }
+{
+    some_blanks(literal(text, '-')?)
+}
