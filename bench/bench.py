@@ -36,8 +36,6 @@ HOSTILE_REPEATS = 1024
 PATIENCE = 60
 # Kilobytes of the hostile lines whose instructions are counted.
 COUNTED_SIZES = [64, 128, 256, 512]
-# The same of lines that take many rounds to settle.
-ROUNDS_SIZES = [4, 8, 16, 32]
 # Valgrind counts an instruction for each byte that the C library moves or fills by one string instruction, as it does
 # for long texts. So it is told not to: else a first doubling is the growth of the filter's block.
 NO_STRING_INSTRUCTIONS = ":".join(
@@ -212,18 +210,11 @@ def count_corpora(filters, chosen):
         own, *others = [(it.instructions(lines) - it.instructions(lines[:1000])) / 3000 for it in filters]
         row(name, "{:,.0f}".format(own), *[cell for it in others for cell in ("{:,.0f}".format(it), "%.2f" % (it / own))])
     start = filters[0].instructions([])
-    told = "Millions of instructions for one %s, and in brackets the growth at each doubling"
-    count_lines(filters[0], start, chosen, told % "hostile line of each size", corpora.HOSTILE, COUNTED_SIZES)
-    count_lines(filters[0], start, chosen, told % "line of each size that takes many rounds", corpora.MANY_ROUNDS, ROUNDS_SIZES)
-
-
-def count_lines(it, start, chosen, told, kinds, sizes):
-    print("\n%s:\n" % told)
-    head("line", *["%d KB" % size for size in sizes])
-    for name, maker in kinds:
-        if chosen.only not in "hostile_" + name:
-            continue
-        row(name, *shown([(it.instructions([maker(size * 1024)]) - start) / 1e9 for size in sizes]))
+    print("\nMillions of instructions for one hostile line of each size, and in brackets the growth at each doubling:\n")
+    head("line", *["%d KB" % size for size in COUNTED_SIZES])
+    for name, maker in corpora.HOSTILE:
+        if chosen.only in "hostile_" + name:
+            row(name, *shown([(filters[0].instructions([maker(size * 1024)]) - start) / 1e9 for size in COUNTED_SIZES]))
 
 
 def differences(filters, lines, most):

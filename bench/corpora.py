@@ -115,6 +115,10 @@ def filled(piece, size):
     return piece * (size // len(piece))
 
 
+def behind(header, maker):
+    return lambda size: header + maker(size)
+
+
 # A name, and the text of about so many bytes that stands where a list is read.
 HOSTILE_LISTS = [
     ("open_quotes", lambda size: filled('[a" b="]', size)),
@@ -153,22 +157,24 @@ HOSTILE_LINES = [
     ("process_nines_3164", lambda size: "- host app[" + filled("9", size) + "]: x"),
 ]
 
-
-def behind(header, maker):
-    return lambda size: header + maker(size)
-
+# Lines whose printed text is read as another message, and so on for as many rounds as they have colons or dashes, which
+# settling skips: one kind each, and then two in one line, or behind a piece that changes first.
+SETTLING_LINES = [
+    ("dashes_3164", behind(HEADER_3164, dict(HOSTILE_LISTS)["dashes"])),
+    ("last_colons_3164", lambda size: "- host" + filled(":", size) + " text"),
+    ("colons_and_dashes_3164", lambda size: "- host" + filled(":", size // 2) + " " + filled("- ", size // 2) + "x"),
+    ("colons_behind_a_date_3164", lambda size: "0000-01-01T00:00:00+01:00 host" + filled(":", size) + " text"),
+    ("dashes_behind_a_process_3164", lambda size: "- host app[x:y]: " + filled("- ", size) + "x"),
+    ("colons_of_a_dash_3164", lambda size: "- -" + filled(":", size) + " text"),
+    ("colons_of_a_form_3164", lambda size: "- h[1]" + filled(":", size) + " text"),
+    ("colons_and_a_list_3164", lambda size: "- host" + filled(":", size // 2) + " " + filled('[a b="c"]', size // 2) + " - x"),
+]
 
 HOSTILE = [
     *((name, behind(HEADER, maker)) for name, maker in HOSTILE_LISTS),
     *((name + "_3164", behind(HEADER_3164, maker)) for name, maker in HOSTILE_LISTS if name != "dashes"),
     *HOSTILE_LINES,
-]
-
-# Lines that change each time that they are read and printed: a round takes a dash, or a colon, and goes over the whole.
-# A filter that prints until its text settles takes time quadratic in them.
-MANY_ROUNDS = [
-    ("dashes_3164", behind(HEADER_3164, dict(HOSTILE_LISTS)["dashes"])),
-    ("last_colons_3164", lambda size: "- host" + filled(":", size) + " text"),
+    *SETTLING_LINES,
 ]
 
 
@@ -193,7 +199,7 @@ def main():
     os.makedirs(folder, exist_ok=True)
     for name, made in corpora(lines):
         write_lines(os.path.join(folder, name), made)
-    for name, maker in HOSTILE + MANY_ROUNDS:
+    for name, maker in HOSTILE:
         for size in HOSTILE_SIZES:
             write_lines(os.path.join(folder, "hostile_%s_%dk" % (name, size)), [maker(size * 1024)])
 
