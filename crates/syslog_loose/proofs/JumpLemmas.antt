@@ -117,9 +117,11 @@ module _ (variant : Variant) (dating : Dating) (input : Text) where
       → bytes ≡ encode_utf8_all (printed (past_colons m h (cut - 1))) → (n : ℕ) × Reaches variant dating input n (chars bytes)
   round_written m h cut bytes u r e k l w =
       let n : ℕ = cut - 1 in
-      let same : cut ≡ suc n = omega (arith, l) in
-      (suc n, subst (λ (x : Text). Reaches variant dating input (suc n) x) (chars_from_encodes (printed (past_colons m h n)) bytes u (sym w))
-          (colons_skipped variant dating input m h n r e (subst (λ (j : ℕ). EndsColons m h j) same k)))
+      let same : cut ≡ suc n = omega (arith, l) in (
+        suc n,
+        subst (λ (x : Text). Reaches variant dating input (suc n) x) (chars_from_encodes (printed (past_colons m h n)) bytes u (sym w))
+            (colons_skipped variant dating input m h n r e (subst (λ (j : ℕ). EndsColons m h j) same k)),
+      )
 
   pub round_printed : (m : MessageValue) (bytes : List ℕ) → IsUtf8 bytes → (n : ℕ) × Reaches variant dating input n (printed m) → bytes ≡ encode_utf8_all (printed m) → (n : ℕ) × Reaches variant dating input n (chars bytes)
   round_printed m bytes u (n, r) w = (n, subst (λ (x : Text). Reaches variant dating input n x) (chars_from_encodes (printed m) bytes u (sym w)) r)

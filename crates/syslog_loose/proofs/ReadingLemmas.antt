@@ -131,6 +131,17 @@ pub in_this_year : {post : IncompleteDate → ℤ → Type 0} {variant : Variant
     → (year : ℤ) → SFits w32 year → ((date : IncompleteDate) (y : ℤ) → post date y → y ≡ to_z w32 (of_z w32 year)) → Holds (Some year)
 in_this_year h year fits same = in_one_year h year (λ date y is. same date y is ∙ to_z-of_z w32 year fits)
 
+told_answered : (post told : IncompleteDate → ℤ → Type 0) (variant : Variant) (text : Text) → ((date : IncompleteDate) (year : ℤ) → post date year → told date year)
+    → (answered : Option ℤ) → IsYearAnswered post variant text answered → IsYearAnswered told variant text answered
+told_answered post told variant text tells None never = never
+told_answered post told variant text tells (Some year) (date, asks, p) = (date, asks, tells (incomplete date) year p)
+
+-- For callers: what holds in the year of a closure, where that is known by what its own clause comes to.
+pub in_year_told : {post told : IncompleteDate → ℤ → Type 0} {variant : Variant} {text : Text} {Holds : Option ℤ → Type 0} → InYear post variant text Holds
+    → ((date : IncompleteDate) (year : ℤ) → post date year → told date year) → InYear told variant text Holds
+in_year_told {post = post} {told = told} {variant = variant} {text = text} h tells =
+    record { answered = h.answered; is_answered = told_answered post told variant text tells h.answered h.is_answered; holds = h.holds }
+
 -- ---- faults
 pub invalid_or_memory : Memory ≡ Invalid → ⊥
 invalid_or_memory e = cc

@@ -20,7 +20,9 @@ ghost use Rattle.syslog_loose.specs.Settling.{Reaches, colons};
 ghost use Rattle.syslog_loose.specs.declared.message.Protocol.TheVariants.{RFC3164};
 ghost use Rattle.syslog_loose.specs.declared.variant.Variant.{Variant};
 
-use crate::message::{Message, Protocol, has_no_name_miss, is_plain_time, write_elements, write_spaced};
+use crate::message::{
+    Message, Protocol, has_no_name_miss, is_plain_time, write_elements, write_spaced,
+};
 use crate::reading::print;
 use std::alloc::{AllocError, Global};
 use std::fmt;
@@ -100,7 +102,10 @@ fn write_past_colons(
     };
     print(text, &front, length)?;
     push_colons(text, cut - 1)?;
-    let tail = Tail { elements: &message.structured_data, msg: message.msg };
+    let tail = Tail {
+        elements: &message.structured_data,
+        msg: message.msg,
+    };
     write!(text, "{tail}")?;
     Ok(())
 }
@@ -138,7 +143,11 @@ impl fmt::Display for Tail<'_, '_> {
 fn write_end<W: fmt::Write>(f: &mut fmt::Formatter<W>, msg: &str) -> fmt::Result
     ensures { WritesOnOk W.write_str_gives f.old result (encode_utf8_all (message_end (chars msg.now))) f.new }
 {
-    if msg.is_empty() { Ok(()) } else { write_spaced(f, msg) }
+    if msg.is_empty() {
+        Ok(())
+    } else {
+        write_spaced(f, msg)
+    }
 }
 
 // The message without the dashes that its next readings take from the message part, one in each round, up to the last one

@@ -39,6 +39,7 @@ pub use reading::{
     parse_message_with_year_exact_tz, parse_message_with_year_tz,
 };
 pub use settling::{settle, settle_into};
+pub use syslog_pieces::VERSION;
 pub use syslog_pieces::as_str::AsStr;
 pub use syslog_pieces::pri::{SyslogFacility, SyslogSeverity, decompose_pri};
 pub use syslog_pieces::procid::ProcId;

@@ -18,3 +18,6 @@ pub mod procid;
 pub mod structured_data;
 pub mod text;
 pub mod timestamp;
+
+/// The version of this library, of those on it and of the programs.
+pub const VERSION: &str = "0.1.0";

@@ -1,8 +1,9 @@
 //! The program's arguments.
-ghost use Rattle.std.specs.Prelude.{◌≡◌, ◌↔◌, Bool, IfSome, IsTrue, List, MatchOption, ℕ, ℤ, drop, map, pos, string_bytes};
+ghost use Rattle.std.specs.Prelude.{◌≡◌, ◌↔◌, ◌∷◌, [], Bool, IfSome, IsTrue, List, MatchOption, ℕ, ℤ, drop, map, pos, string_bytes};
 ghost use Rattle.std.specs.Str.Parse.{digits_value};
 ghost use Rattle.std.specs.Vec.Iter.{into_iter_items};
-ghost use Rattle.syslog_tidy.specs.Arguments.{AreArguments, IsYear};
+ghost use Rattle.syslog_tidy.specs.Arguments.{AreArguments, AsksFor, IsYear, version_word};
+ghost use Rattle.syslog_tidy.specs.declared.args.Task.{Task};
 
 use std::env;
 use std::env::Args;
@@ -36,26 +37,56 @@ pub fn read_args(args: &[&str]) -> Option<(bool, i32)>
     }
 }
 
-/// What `read_args` makes of the program's arguments; none where they can't be had. Which words these are no clause says, since
+/// What the program is asked for.
+#[derive(Clone, Copy)]
+pub enum Task {
+    /// Its version.
+    Version,
+    /// Whether only the lines that changed are wanted, and the year.
+    Lines(bool, i32),
+}
+
+/// What the words after the program's name ask for: `--version` alone, or what `read_args` makes of them.
+pub fn read_task(args: &[&str]) -> Option<Task>
+    ensures { MatchOption result ((task : Task) → ¬ (AsksFor (map (λ arg. arg.now) args.now) task))
+        (λ task. AsksFor (map (λ arg. arg.now) args.now) task) }
+{
+    if is_version(args) {
+        return Some(Task::Version);
+    }
+    let (is_changed, year) = read_args(args)?;
+    Some(Task::Lines(is_changed, year))
+}
+
+fn is_version(args: &[&str]) -> bool
+    ensures { IsTrue result ↔ (map (λ arg. arg.now) args.now ≡ version_word ∷ []) }
+{
+    match args {
+        [word] => *word == "--version",
+        _ => false,
+    }
+}
+
+/// What `read_task` makes of the program's arguments; none where they can't be had. Which words these are no clause says, since
 /// the host has none for them (`tests/program` tries it).
-pub fn arguments(rt: &HostRuntime) -> Option<(bool, i32)>
-    ensures { IfSome result (λ x. (words : List (List ℕ)) × AreArguments words x.0 x.1) }
+pub fn arguments(rt: &HostRuntime) -> Option<Task>
+    ensures { IfSome result (λ task. (words : List (List ℕ)) × AsksFor words task) }
 {
     read_words(env::args(rt).ok()?)
 }
 
-// What `read_args` makes of the words behind the first, which is the program's name.
-fn read_words(mut words: Args) -> Option<(bool, i32)>
-    ensures { MatchOption result ((is_changed : Bool) (year : ℤ) → ¬ (AreArguments (drop 1 (map (λ word. string_bytes word) (into_iter_items words))) is_changed year))
-        (λ x. AreArguments (drop 1 (map (λ word. string_bytes word) (into_iter_items words))) x.0 x.1) }
+// What `read_task` makes of the words behind the first, which is the program's name.
+fn read_words(mut words: Args) -> Option<Task>
+    ensures { MatchOption result ((task : Task) → ¬ (AsksFor (drop 1 (map (λ word. string_bytes word) (into_iter_items words))) task))
+        (λ task. AsksFor (drop 1 (map (λ word. string_bytes word) (into_iter_items words))) task) }
 {
     words.next()?;
     let first = words.next()?;
     let Some(second) = words.next() else {
-        return read_args(&[first.as_str()]);
+        return read_task(&[first.as_str()]);
     };
     if words.next().is_some() {
         return None;
     }
-    read_args(&[first.as_str(), second.as_str()])
+    read_task(&[first.as_str(), second.as_str()])
 }

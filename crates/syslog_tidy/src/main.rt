@@ -17,9 +17,9 @@ mod summary;
 mod walk;
 mod watched;
 
-use args::arguments;
+use args::{Task, arguments};
 use changed::changed;
-use report::{report, report_changed, usage};
+use report::{report, report_changed, usage, version};
 use run::run;
 use std::process::ExitCode;
 use watched::Watched;
@@ -27,18 +27,24 @@ use watched::Watched;
 #[cfg(test)]
 mod tests;
 
-fn main(rt: HostRuntime) -> ExitCode {
-    let Some((is_changed, year)) = arguments(&rt) else {
-        return ExitCode::from(usage(&mut rt.stderr()));
-    };
+// Answers each line of standard input, or those that changed, and then the exit status.
+fn answer_input(rt: &HostRuntime, is_changed: bool, year: i32) -> u8 {
     let mut reader = Watched::new(rt.stdin());
     let mut writer = Watched::new(rt.stdout());
-    let status = if is_changed {
+    if is_changed {
         let outcome = changed(rt.alloc(), &mut reader, &mut writer, year);
         report_changed(&outcome, &mut rt.stderr())
     } else {
         let outcome = run(rt.alloc(), &mut reader, &mut writer, year);
         report(&outcome, &mut rt.stderr())
+    }
+}
+
+fn main(rt: HostRuntime) -> ExitCode {
+    let status = match arguments(&rt) {
+        Some(Task::Lines(is_changed, year)) => answer_input(&rt, is_changed, year),
+        Some(Task::Version) => version(&mut rt.stdout(), &mut rt.stderr()),
+        None => usage(&mut rt.stderr()),
     };
     ExitCode::from(status)
 }

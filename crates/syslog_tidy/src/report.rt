@@ -1,9 +1,10 @@
 //! What the program says at its end.
-ghost use Rattle.std.specs.Prelude.{◌≡◌, ◌==◌, if◌then◌else◌};
+ghost use Rattle.std.specs.Prelude.{◌≡◌, ◌==◌, ◌⊎◌, if◌then◌else◌};
 ghost use Rattle.syslog_tidy.specs.Report.{status_of};
 
 use crate::summary::{Changed, RunFault, Summary};
 use std::io::Write;
+use syslog_loose::VERSION;
 
 /// Writes how many lines were refused, or the fault's text, and answers the exit status: 0 where no line was refused,
 /// 1 where some were, 2 after a fault. Where none was refused nothing is written. A failed write is passed over.
@@ -33,6 +34,16 @@ pub fn usage<W: Write>(errors: &mut W) -> u8
 {
     let _ = errors.write_all(b"usage: syslog_tidy [--changed] YEAR\n");
     2
+}
+
+/// Writes the program's name and its version, and answers the exit status: 0, or 2 where that failed, with the fault's text.
+pub fn version<W: Write, E: Write>(out: &mut W, errors: &mut E) -> u8
+    ensures { (result ≡ 0) ⊎ (result ≡ 2) }
+{
+    match writeln!(out, "syslog_tidy {VERSION}") {
+        Ok(()) => 0,
+        Err(_) => report_fault(RunFault::Write, errors),
+    }
 }
 
 // Says what became of so many of the lines, where there are such.

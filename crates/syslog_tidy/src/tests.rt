@@ -4,8 +4,8 @@ ghost use Rattle.std.specs.Prelude.{◌≡◌, ◌≤◌, false};
 mod changed;
 mod sizes;
 
-use crate::args::{read_args, read_year};
-use crate::report::{report, usage};
+use crate::args::{Task, read_args, read_task, read_year};
+use crate::report::{report, usage, version};
 use crate::run::run;
 use crate::summary::{RunFault, Summary};
 use crate::watched::Watched;
@@ -380,6 +380,22 @@ fn arguments(rt: HostRuntime) {
     assert!(rt; read_args(&["--changed", "2019", "2019"]).is_none());
 }
 
+#[test]
+fn tasks(rt: HostRuntime) {
+    assert!(rt; matches!(read_task(&["--version"]), Some(Task::Version)));
+    assert!(rt; matches!(read_task(&["2019"]), Some(Task::Lines(false, 2019))));
+    assert!(rt;
+        matches!(
+            read_task(&["--changed", "2019"]),
+            Some(Task::Lines(true, 2019))
+        )
+    );
+    assert!(rt; read_task(&["--version", "2019"]).is_none());
+    assert!(rt; read_task(&["2019", "--version"]).is_none());
+    assert!(rt; read_task(&["--Version"]).is_none());
+    assert!(rt; read_task(&[]).is_none());
+}
+
 /// Reports the outcome, and expects this status and this text.
 fn expect_report(rt: &impl Abort, outcome: &Result<Summary, RunFault>, status: u8, text: &str) {
     let mut errors = Taker::new(1024, NEVER, Wrong::Fails);
@@ -415,4 +431,16 @@ fn reports(rt: HostRuntime) {
     assert!(rt; errors.written() == "usage: syslog_tidy [--changed] YEAR\n".as_bytes());
     let mut closed = Taker::new(1024, 1, Wrong::Fails);
     assert!(rt; report(&Err(RunFault::Read), &mut closed) == 2);
+}
+
+#[test]
+fn says_its_version(rt: HostRuntime) {
+    let mut errors = Taker::new(1024, NEVER, Wrong::Fails);
+    let mut out = Taker::new(1024, NEVER, Wrong::Fails);
+    assert!(rt; version(&mut out, &mut errors) == 0);
+    assert!(rt; out.written() == "syslog_tidy 0.1.0\n".as_bytes());
+    assert!(rt; errors.written() == "".as_bytes());
+    let mut closed = Taker::new(1024, 1, Wrong::Fails);
+    assert!(rt; version(&mut closed, &mut errors) == 2);
+    assert!(rt; errors.written() == "write failed\n".as_bytes());
 }

@@ -153,7 +153,7 @@ module _ (variant : Variant) (dating : Dating) (text : Text) (m : MessageValue) 
       values = (Some (priority_of m), (tt, (m.timestamp, colon_values (Some (Some h)) tail)));
       division = front_division (rfc3164_row BeforeBlank dating)
           (subst (λ (x : Text). Front (Row (rfc3164_row BeforeBlank dating)) x [] (Some (priority_of m), (tt, (m.timestamp, colon_values (Some (Some h)) tail)))) (sym (trimmed_whole m near.msg_end))
-              (stamped dating m tail (colon_values (Some (Some h)) tail) k colon_row));
+          (stamped dating m tail (colon_values (Some (Some h)) tail) k colon_row));
       means = (names (Some h) None None, inr (no_form_colon h o, refl), refl);
     })
 
@@ -279,8 +279,8 @@ module _ (variant : Variant) (dating : Dating) (input : Text) (m : MessageValue)
       let y = before.message in
       let last = next_reached k.timestamp (n + 0) h before k.keeps in
       let same : printed_3164 (following k.timestamp y h) ≡ printed_3164 (past_colons m h n) = printed_same (past_colons m h n) (following k.timestamp y h)
-          (priority_again (priority_of y) (priority_small y) ∙ before.like.priority ∙ sym (priority_again (priority_of m) (priority_small m))) before.like.timestamp refl refl refl
-          (ap (λ (x : Text). 58 ∷ x) (before.tail_is ∙ ap (λ (j : ℕ). colons_before j (tail_text m.structured_data m.msg)) (let z : n + 0 ≡ n = omega arith in z))) in
+      (priority_again (priority_of y) (priority_small y) ∙ before.like.priority ∙ sym (priority_again (priority_of m) (priority_small m))) before.like.timestamp refl refl refl
+      (ap (λ (x : Text). 58 ∷ x) (before.tail_is ∙ ap (λ (j : ℕ). colons_before j (tail_text m.structured_data m.msg)) (let z : n + 0 ≡ n = omega arith in z))) in
       subst (λ (j : ℕ). Reaches variant dating input j (printed (past_colons m h n))) (let z : suc (n + 0) ≡ suc n = omega arith in z)
       (subst (λ (x : Text). Reaches variant dating input (suc (n + 0)) x) same last)
 
@@ -350,5 +350,5 @@ module _ (variant : Variant) (dating : Dating) (input : Text) (m : MessageValue)
       let k = all_dashes n m.msg u start p in
       let y = k.message in
       let same : printed_3164 y ≡ printed_3164 (with_msg m u) = printed_same (with_msg m u) y k.like.priority k.like.timestamp (ap name_text k.hostname)
-          (ap (λ (x : Option Text). tag_text x y.procid) k.appname ∙ ap (λ (x : Option (ProcId Text)). tag_text m.appname x) k.procid) (k.elements ∙ sym es) k.msg in
+      (ap (λ (x : Option Text). tag_text x y.procid) k.appname ∙ ap (λ (x : Option (ProcId Text)). tag_text m.appname x) k.procid) (k.elements ∙ sym es) k.msg in
       subst (λ (x : Text). Reaches variant dating input n x) (printed_is y k.protocol ∙ same ∙ sym (printed_is (with_msg m u) e)) k.reaches

@@ -32,7 +32,15 @@ fn passes(alloc: Global, line: &str) -> Result<usize, ParseFault> {
     let mut text = String::new(alloc);
     let (year, tz, local) = (Some(2019), None, &TimeZone::UTC);
     for pass in 1..=line.len() {
-        if further_round(alloc, &mut text, last.as_str(), year, tz, Variant::Either, local)? {
+        if further_round(
+            alloc,
+            &mut text,
+            last.as_str(),
+            year,
+            tz,
+            Variant::Either,
+            local,
+        )? {
             return Ok(pass);
         }
         swap(&mut last, &mut text);

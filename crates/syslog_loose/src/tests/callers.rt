@@ -2,5 +2,6 @@
 mod alerts;
 mod collector;
 mod normaliser;
+mod recent;
 mod relay;
 mod store;
