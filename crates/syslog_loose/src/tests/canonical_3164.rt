@@ -1,11 +1,13 @@
 //! Messages of RFC 3164 built by hand: whether they are canonical, how they print, and what that is read as.
 use super::expected::{Expected, Process, check_fields, read, row_of};
 use crate::{
-    Message, ProcId, Protocol, StructuredElement, SyslogFacility, SyslogSeverity, Variant,
+    Message, ProcId, Protocol, StructuredElement, SyslogFacility, SyslogSeverity, TimeZone,
+    Variant, rfc3164,
 };
 use std::alloc::{AllocError, Global};
 use std::process::Abort;
 use std::test::Fail;
+use syslog_pieces::structured_data::listed::{DASH_RULE, DashRule, begins_list};
 
 fn element<'a>(alloc: Global, line: &'a str) -> Result<StructuredElement<&'a str>, AllocError> {
     let mut texts = line.split('|');
@@ -238,4 +240,25 @@ fn takes_lists_from_the_message(rt: HostRuntime) -> Result<(), Fail> {
             ("app a¦msg - x", "<34> - - a: - x", "app a¦msg x"),
         ],
     )
+}
+
+// While a dash was a list before anything, one began this message part, and the message was read back without the dash. So
+// it was not canonical, as it is now.
+#[test]
+fn was_not_canonical_with_a_dash_before_anything(rt: HostRuntime) -> Result<(), Fail> {
+    let alloc = rt.alloc();
+    let printed = "<34> - - a: -5";
+    check_row(&rt, alloc, "app a¦msg -5", printed, "app a¦msg -5")?;
+    for (rule, begins, msg) in [
+        (DashRule::BeforeAnything, true, "5"),
+        (DASH_RULE, false, "-5"),
+    ] {
+        assert_eq!(rt; begins_list("-5", rule), begins);
+        let read = rfc3164::read(alloc, printed, rule, None, None, &TimeZone::UTC)?;
+        let message = read.ok_or("no message")?;
+        assert_eq!(rt; message.appname, Some("a"));
+        assert_eq!(rt; message.structured_data.len(), 0);
+        assert_eq!(rt; message.msg, msg);
+    }
+    Ok(())
 }

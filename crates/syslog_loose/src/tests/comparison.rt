@@ -1,6 +1,8 @@
 //! Messages built by hand, compared and copied.
+use super::expected::read;
 use crate::{
     Message, OffsetTimestamp, ProcId, Protocol, StructuredElement, SyslogFacility, SyslogSeverity,
+    Variant,
 };
 use jiff::Timestamp;
 use jiff::tz::Offset;
@@ -15,13 +17,18 @@ fn stamp(seconds: i64, offset: i32) -> Result<Option<OffsetTimestamp>, Fail> {
     }))
 }
 
-// `<34>1 2003-10-11T22:14:15Z mymachine.example.com su - ID47 - message`
+/// The text of `full`.
+const FULL: &str = "<34>1 2003-10-11T22:14:15.003Z mymachine.example.com su - ID47 - message";
+
 fn full<'a>(alloc: Global) -> Result<Message<&'a str>, Fail> {
     Ok(Message {
         protocol: Protocol::RFC5424(1),
         facility: Some(SyslogFacility::LOG_AUTH),
         severity: Some(SyslogSeverity::SEV_CRIT),
-        timestamp: stamp(1_065_910_455, 0)?,
+        timestamp: Some(OffsetTimestamp {
+            instant: Timestamp::from_nanosecond(1_065_910_455_003_000_000)?,
+            offset: Offset::from_seconds(0)?,
+        }),
         hostname: Some("mymachine.example.com"),
         appname: Some("su"),
         procid: None,
@@ -46,7 +53,8 @@ fn element<'a>(
 fn passes_over_the_protocol(rt: HostRuntime) -> Result<(), Fail> {
     let alloc = rt.alloc();
     let a = full(alloc)?;
-    let mut b = full(alloc)?;
+    assert!(rt; a == read(alloc, FULL, Variant::Either)?);
+    let mut b = read(alloc, FULL, Variant::Either)?;
     b.protocol = Protocol::RFC3164;
     assert!(rt; a == b);
     assert_ne!(rt; a.protocol, b.protocol);
@@ -107,6 +115,10 @@ fn compares_each_other_field(rt: HostRuntime) -> Result<(), Fail> {
         },
         Message {
             timestamp: None,
+            ..full(alloc)?
+        },
+        Message {
+            timestamp: stamp(1_065_910_455, 0)?,
             ..full(alloc)?
         },
         Message {
@@ -190,6 +202,41 @@ fn copies_lists_in_order(rt: HostRuntime) -> Result<(), Fail> {
     let again = owned.try_clone(alloc)?;
     assert!(rt; again == owned);
     assert_eq!(rt; again.to_string(alloc)?.as_str(), printed.as_str());
+    Ok(())
+}
+
+/// A line with two elements and the number of a process, which prints as it is written.
+const LISTED: &str =
+    "<13>1 2019-02-13T19:48:34+00:00 74794bfb6795 root 8449 - [meta sequenceId=\"1\" sysUpTime=\"37\" language=\"EN\"][origin ip=\"192.168.0.1\" software=\"test\"] i am foobar";
+
+/// Its elements.
+const ELEMENTS: [&str; 2] = [
+    "[meta sequenceId=\"1\" sysUpTime=\"37\" language=\"EN\"]",
+    "[origin ip=\"192.168.0.1\" software=\"test\"]",
+];
+
+#[test]
+fn copies_a_line_with_two_elements(rt: HostRuntime) -> Result<(), Fail> {
+    let alloc = rt.alloc();
+    let message = read(alloc, LISTED, Variant::Either)?;
+    let copy = message.try_clone(alloc)?;
+    assert!(rt; copy == message);
+    assert_eq!(rt; copy.protocol, Protocol::RFC5424(1));
+    assert!(rt; copy.procid == Some(ProcId::PID(8449)));
+    assert_eq!(rt; copy.to_string(alloc)?.as_str(), LISTED);
+    let owned = message.to_owned_text(alloc)?;
+    assert_eq!(rt; owned.protocol, Protocol::RFC5424(1));
+    assert!(rt; owned.procid == Some(ProcId::PID(8449)));
+    assert_eq!(rt; owned.to_string(alloc)?.as_str(), LISTED);
+    assert_eq!(rt; message.to_string(alloc)?.as_str(), LISTED);
+    assert_eq!(rt; message.structured_data.len(), 2);
+    for (element, want) in message.structured_data.iter().zip(ELEMENTS) {
+        let copy = element.try_clone(alloc)?;
+        assert!(rt; copy == *element);
+        assert_eq!(rt; copy.to_string(alloc)?.as_str(), want);
+        let owned = element.to_owned_text(alloc)?;
+        assert_eq!(rt; owned.to_string(alloc)?.as_str(), want);
+    }
     Ok(())
 }
 

@@ -120,6 +120,26 @@ pub(super) fn read_in_year<'a>(
     )
 }
 
+/// The years that a closure answers in January 2020: of a date in December, and of one in another month.
+pub(super) const IN_JANUARY: (i32, i32) = (2019, 2020);
+
+/// The message of the text, with no zone given, UTC as the local one, and a closure that answers by the month.
+pub(super) fn read_by_month<'a>(
+    alloc: Global,
+    text: &'a str,
+    years: (i32, i32),
+    variant: Variant,
+) -> Result<Message<&'a str>, ParseFault> {
+    parse_message_with_year_exact_tz(
+        alloc,
+        text,
+        move |date: IncompleteDate| if date.0 == 12 { years.0 } else { years.1 },
+        None,
+        variant,
+        &TimeZone::UTC,
+    )
+}
+
 fn process_of<'a>(procid: &Option<ProcId<&'a str>>) -> Process<'a> {
     match procid {
         None => Process::Absent,
@@ -214,10 +234,12 @@ pub(super) fn check_message(
     check_printed(rt, alloc, message, want)
 }
 
-/// The text reads as its message, as RFC 5424 and under `Either`.
+/// The text reads as its message, as RFC 5424 and under `Either`, in a given zone and without one.
 pub(super) fn check_text(rt: &impl Abort, alloc: Global, want: &Expected) -> Result<(), Fail> {
     for variant in [Variant::Either, Variant::RFC5424] {
         check_message(rt, alloc, &read(alloc, want.text, variant)?, want)?;
+        let message = read_by_month(alloc, want.text, IN_JANUARY, variant)?;
+        check_message(rt, alloc, &message, want)?;
     }
     Ok(())
 }

@@ -5,9 +5,11 @@ use crate::{Message, ParseFault, StructuredElement, Variant};
 use std::alloc::{AllocError, Global};
 use std::process::Abort;
 
-/// A text with two elements, which prints as it is written, and the elements.
-const LISTED: &str =
-    "<13>1 2019-02-13T19:48:34+00:00 74794bfb6795 root x:y m1 [meta sequenceId=\"1\" sysUpTime=\"37\" language=\"EN\"][origin ip=\"192.168.0.1\" software=\"test\"] i am foobar";
+/// Texts with two elements, which print as they are written: with the number of a process, and with names; and the elements.
+const LISTED: [&str; 2] = [
+    "<13>1 2019-02-13T19:48:34+00:00 74794bfb6795 root 8449 - [meta sequenceId=\"1\" sysUpTime=\"37\" language=\"EN\"][origin ip=\"192.168.0.1\" software=\"test\"] i am foobar",
+    "<13>1 2019-02-13T19:48:34+00:00 74794bfb6795 root x:y m1 [meta sequenceId=\"1\" sysUpTime=\"37\" language=\"EN\"][origin ip=\"192.168.0.1\" software=\"test\"] i am foobar",
+];
 
 const META: &str = "[meta sequenceId=\"1\" sysUpTime=\"37\" language=\"EN\"]";
 
@@ -34,42 +36,48 @@ fn source(alloc: Global, text: &str, tries: Tries) -> Result<Message<&str>, Pars
 }
 
 // A copy of the message is the message again, and the message stays.
-fn check_clone(rt: &impl Abort, alloc: Global, message: &Message<&str>, tries: Tries) {
+fn check_clone(rt: &impl Abort, alloc: Global, message: &Message<&str>, want: &str, tries: Tries) {
     let copy = match message.try_clone(alloc) {
         Err(AllocError) if tries == Tries::Twice => message.try_clone(alloc),
         other => other,
     };
     match copy {
-        Ok(copy) => assert!(rt; copy == *message && prints(&copy, LISTED)),
+        Ok(copy) => assert!(rt; copy == *message && prints(&copy, want)),
         Err(_) => assert!(rt; false, "no copy"),
     }
-    assert!(rt; prints(message, LISTED));
+    assert!(rt; prints(message, want));
 }
 
 // So is one over texts of its own, and a copy of that.
-fn check_owned(rt: &impl Abort, alloc: Global, message: &Message<&str>, tries: Tries) {
+fn check_owned(rt: &impl Abort, alloc: Global, message: &Message<&str>, want: &str, tries: Tries) {
     let owned = match message.to_owned_text(alloc) {
         Err(AllocError) if tries == Tries::Twice => message.to_owned_text(alloc),
         other => other,
     };
-    assert!(rt; prints(message, LISTED));
+    assert!(rt; prints(message, want));
     match owned {
-        Ok(owned) => check_owned_clone(rt, alloc, &owned, tries),
+        Ok(owned) => check_owned_clone(rt, alloc, &owned, want, tries),
         Err(_) => assert!(rt; false, "no copy with texts of its own"),
     }
 }
 
-fn check_owned_clone(rt: &impl Abort, alloc: Global, owned: &Message<String>, tries: Tries) {
-    assert!(rt; prints(owned, LISTED));
+fn check_owned_clone(
+    rt: &impl Abort,
+    alloc: Global,
+    owned: &Message<String>,
+    want: &str,
+    tries: Tries,
+) {
+    assert!(rt; prints(owned, want));
     let copy = match owned.try_clone(alloc) {
         Err(AllocError) if tries == Tries::Twice => owned.try_clone(alloc),
         other => other,
     };
     match copy {
-        Ok(copy) => assert!(rt; copy == *owned && prints(&copy, LISTED)),
+        Ok(copy) => assert!(rt; copy == *owned && prints(&copy, want)),
         Err(_) => assert!(rt; false, "no copy of the copy"),
     }
-    assert!(rt; prints(owned, LISTED));
+    assert!(rt; prints(owned, want));
 }
 
 // Both copies of an element that prints so.
@@ -100,17 +108,19 @@ fn check_element(
 }
 
 fn check_copies(rt: &impl Abort, alloc: Global, tries: Tries) {
-    match source(alloc, LISTED, tries) {
-        Ok(message) => {
-            check_clone(rt, alloc, &message, tries);
-            check_owned(rt, alloc, &message, tries);
-            let elements = &message.structured_data;
-            assert_eq!(rt; elements.len(), 2);
-            for (element, want) in elements.iter().zip([META, ORIGIN]) {
-                check_element(rt, alloc, element, want, tries);
+    for text in LISTED {
+        match source(alloc, text, tries) {
+            Ok(message) => {
+                check_clone(rt, alloc, &message, text, tries);
+                check_owned(rt, alloc, &message, text, tries);
+                let elements = &message.structured_data;
+                assert_eq!(rt; elements.len(), 2);
+                for (element, want) in elements.iter().zip([META, ORIGIN]) {
+                    check_element(rt, alloc, element, want, tries);
+                }
             }
+            Err(fault) => assert!(rt; false, "{fault} in place of a message"),
         }
-        Err(fault) => assert!(rt; false, "{fault} in place of a message"),
     }
 }
 
