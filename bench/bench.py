@@ -6,6 +6,7 @@
   bench.py --peer PATH                times that one too, on the same files, the runs of the two in turn
   bench.py --check --peer PATH        compares what the two write, and times nothing
   bench.py --instructions             counts instructions by valgrind, which other work does not change
+  bench.py --write                    puts the tables of the run into docs/BENCHMARKS.md as well
 
 Each time is the least of five runs, the start of the process included, with the standard input from a
 file and the standard output to /dev/null. Both programs are called with the year as their one argument.
@@ -29,11 +30,12 @@ import corpora  # noqa: E402
 
 TOP = os.path.dirname(os.path.dirname(os.path.abspath(__file__)))
 CRATE = os.path.join(TOP, "crates", "syslog_tidy")
+DOCUMENT = os.path.join(TOP, "docs", "BENCHMARKS.md")
 # A hostile line is given often enough that a run takes about so long, but no more often than this.
 HOSTILE_SECONDS = 0.1
 HOSTILE_REPEATS = 1024
-# A run of the peer on a hostile line may take so long.
-PATIENCE = 60
+# A run of the peer on a hostile line may take so many seconds, under valgrind too.
+PATIENCE = 120
 # Kilobytes of the hostile lines whose instructions are counted.
 COUNTED_SIZES = [64, 128, 256, 512]
 # Valgrind counts an instruction for each byte that the C library moves or fills by one string instruction, as it does
@@ -77,12 +79,16 @@ class Filter:
         self.judge(ran.returncode)
         return ran.stdout
 
-    def instructions(self, lines):
-        """How many instructions valgrind counts in a run over the lines."""
+    def instructions(self, lines, limit=None):
+        """How many instructions valgrind counts in a run over the lines: none where it takes longer than the limit."""
         given = "".join(line + "\n" for line in lines).encode()
         words = ["valgrind", "--tool=callgrind", "--callgrind-out-file=/dev/null", *self.words]
         environment = {**self.environment, "GLIBC_TUNABLES": NO_STRING_INSTRUCTIONS}
-        ran = subprocess.run(words, input=given, stdout=subprocess.DEVNULL, stderr=subprocess.PIPE, env=environment)
+        to = {"stdout": subprocess.DEVNULL, "stderr": subprocess.PIPE}
+        try:
+            ran = subprocess.run(words, input=given, env=environment, timeout=limit, **to)
+        except subprocess.TimeoutExpired:
+            return None
         self.judge(ran.returncode)
         return int(re.search(rb"Collected : ([0-9]+)", ran.stderr)[1])
 
@@ -122,18 +128,36 @@ def least(filters, file, runs):
     return best
 
 
-def row(*cells):
-    print("| " + " | ".join(str(it) for it in cells) + " |", flush=True)
+def row(table, *cells):
+    """Prints a row at once, since a run takes minutes, and adds it to the table."""
+    table.append("| " + " | ".join(str(it) for it in cells) + " |")
+    print(table[-1], flush=True)
 
 
 def head(*cells):
-    row(*cells)
-    row(*["---"] + ["---:"] * (len(cells) - 1))
+    """A new table, of its heading alone."""
+    table = []
+    row(table, *cells)
+    row(table, *["---"] + ["---:"] * (len(cells) - 1))
+    return table
+
+
+def with_tables(text, tables, measured):
+    """The text of the document, each of the tables in place of the one that bears its name."""
+    for name, table in tables.items():
+        opening, closing = "<!-- table: %s -->\n" % name, "<!-- end -->"
+        before, opened, behind = text.partition(opening)
+        old, closed, after = behind.partition(closing)
+        # An end that belongs to another table would take the text up to there along.
+        if not closed or "<!--" in old:
+            sys.exit("the document has no table between %s and %s" % (opening.strip(), closing))
+        text = before + "\n\n".join([opening + measured, "\n".join(table), closing]) + after
+    return text
 
 
 def time_corpora(filters, chosen, folder):
     more = ["peer's lines/s", "times the peer's speed"] * (len(filters) > 1)
-    head("corpus", "lines", "MB", "lines/s", "MB/s", *more)
+    table = head("corpus", "lines", "MB", "lines/s", "MB/s", *more)
     for name, lines in corpora.corpora(chosen.lines):
         if chosen.only not in name:
             continue
@@ -143,8 +167,10 @@ def time_corpora(filters, chosen, folder):
         more = []
         for it in others:
             more += ["{:,.0f}".format(len(lines) / it), "%.2f" % (it / own)]
-        row(name, "{:,}".format(len(lines)), "%.1f" % size, "{:,.0f}".format(len(lines) / own), "%.0f" % (size / own), *more)
+        speeds = ["{:,.0f}".format(len(lines) / own), "%.0f" % (size / own)]
+        row(table, name, "{:,}".format(len(lines)), "%.1f" % size, *speeds, *more)
         os.remove(file)
+    return table
 
 
 def repeats_for(it, line, file):
@@ -191,30 +217,48 @@ def shown(times):
 def time_hostile(filters, chosen, folder):
     print("\nMilliseconds for one hostile line of each size, and in brackets the growth at each doubling:\n")
     called = ["ours", "peer's"][: len(filters)]
-    head("line", *["%s, %d KB" % (it, size) for it in called for size in corpora.HOSTILE_SIZES])
+    table = head("line", *["%s, %d KB" % (it, size) for it in called for size in corpora.HOSTILE_SIZES])
     for name, maker in corpora.HOSTILE:
         if chosen.only not in "hostile_" + name:
             continue
         lines = [maker(size * 1024) for size in corpora.HOSTILE_SIZES]
         times = [seconds_each(filters, line, folder, chosen.runs) for line in lines]
-        row(name, *[cell for its_times in zip(*times) for cell in shown(its_times)])
+        row(table, name, *[cell for its_times in zip(*times) for cell in shown(its_times)])
+    return table
 
 
 def count_corpora(filters, chosen):
-    """The instructions of each filter for one line more, and of the first for hostile lines."""
+    """The instructions of each filter for one line more."""
     more = ["peer's instructions", "the peer's over ours"] * (len(filters) > 1)
-    head("corpus", "instructions a line", *more)
+    table = head("corpus", "instructions a line", *more)
     for name, lines in corpora.corpora(4000):
         if chosen.only not in name or len(lines) < 4000:
             continue
         own, *others = [(it.instructions(lines) - it.instructions(lines[:1000])) / 3000 for it in filters]
-        row(name, "{:,.0f}".format(own), *[cell for it in others for cell in ("{:,.0f}".format(it), "%.2f" % (it / own))])
-    start = filters[0].instructions([])
-    print("\nMillions of instructions for one hostile line of each size, and in brackets the growth at each doubling:\n")
-    head("line", *["%d KB" % size for size in COUNTED_SIZES])
+        more = [cell for it in others for cell in ("{:,.0f}".format(it), "%.2f" % (it / own))]
+        row(table, name, "{:,.0f}".format(own), *more)
+    return table
+
+
+def count_hostile(filters, chosen):
+    """The instructions of the first filter for hostile lines, and of the other for the longest of each."""
+    told = "Millions of instructions for one hostile line of each size, and in brackets the growth at each doubling:"
+    print("\n%s\n" % told)
+    more = ["peer's, %d KB" % COUNTED_SIZES[-1], "the peer's over ours"] * (len(filters) > 1)
+    table = head("line", *["%d KB" % size for size in COUNTED_SIZES], *more)
+    (own, begun), *others = [(it, it.instructions([])) for it in filters]
     for name, maker in corpora.HOSTILE:
-        if chosen.only in "hostile_" + name:
-            row(name, *shown([(filters[0].instructions([maker(size * 1024)]) - start) / 1e9 for size in COUNTED_SIZES]))
+        if chosen.only not in "hostile_" + name:
+            continue
+        lines = [maker(size * 1024) for size in COUNTED_SIZES]
+        counts = [(own.instructions([line]) - begun) / 1e9 for line in lines]
+        more = []
+        for it, start in others:
+            count = it.instructions(lines[-1:], PATIENCE)
+            count = count and (count - start) / 1e9
+            more += shown([count]) + ["%.2f" % (count / counts[-1]) if count else ""]
+        row(table, name, *shown(counts), *more)
+    return table
 
 
 def differences(filters, lines, most):
@@ -241,7 +285,8 @@ def check(filters, chosen):
             continue
         found = differences(filters, lines, chosen.most)
         total += len(found)
-        print("%s: %d lines, %d of them differ%s" % (name, len(lines), len(found), " at least" * (len(found) >= chosen.most)))
+        least_so_many = " at least" * (len(found) >= chosen.most)
+        print("%s: %d lines, %d of them differ%s" % (name, len(lines), len(found), least_so_many))
         for line, (own, other) in found[:3]:
             print("  line  %r\n  ours  %r\n  peer  %r" % (line, own, other))
     return total
@@ -254,31 +299,52 @@ def arguments():
     reader.add_argument("--check", action="store_true", help="compare the outputs")
     reader.add_argument("--instructions", action="store_true", help="count instructions by valgrind, and time nothing")
     reader.add_argument("--year", type=int, default=2019)
-    reader.add_argument("--processor", action="store_true", help="count processor time, which other work on the machine disturbs less")
+    told = "count processor time, which other work on the machine disturbs less"
+    reader.add_argument("--processor", action="store_true", help=told)
     reader.add_argument("--lines", type=int, default=200_000, help="lines of each corpus (200,000)")
     reader.add_argument("--runs", type=int, default=5, help="runs of which the least counts (5)")
-    reader.add_argument("--most", type=int, default=200, help="differing lines after which --check goes on to the next corpus (200)")
+    told = "differing lines after which --check goes on to the next corpus (200)"
+    reader.add_argument("--most", type=int, default=200, help=told)
     reader.add_argument("--only", default="", help="only corpora whose names have this in them")
+    told = "put the tables into this document too (docs/BENCHMARKS.md), as of the commit that is checked out"
+    reader.add_argument("--write", metavar="DOCUMENT", nargs="?", const=DOCUMENT, help=told)
     chosen = reader.parse_args()
     if chosen.check and not chosen.peer:
         reader.error("--check compares with a --peer")
+    if chosen.write and (chosen.only or chosen.check):
+        reader.error("--write replaces whole tables: --only makes parts of them, and --check none")
     return chosen
 
 
 def main():
     chosen = arguments()
+    clock = "processor time" if chosen.processor else "time by the clock"
+    how = "instructions by valgrind, one run" if chosen.instructions else "%s, least of %d runs" % (clock, chosen.runs)
+    kind = "by instructions" if chosen.instructions else "by time"
+    names = ["ordinary lines, " + kind, "hostile lines, " + kind]
+    if chosen.write:
+        commit = subprocess.check_output(["git", "rev-parse", "--short", "HEAD"], cwd=TOP, text=True).strip()
+        measured = "Measured on %s, at commit %s; %s." % (machine(), commit, how)
+        # A document without the tables is found now, not after minutes.
+        with open(chosen.write, encoding="utf-8") as document:
+            with_tables(document.read(), dict.fromkeys(names, []), measured)
     paths = [chosen.program or built(chosen.year)] + [chosen.peer] * bool(chosen.peer)
     filters = [Filter(path, chosen.year, chosen.processor) for path in paths]
     if chosen.check:
         sys.exit(1 if check(filters, chosen) else 0)
     if chosen.instructions:
-        count_corpora(filters, chosen)
-        return
-    clock = "processor time" if chosen.processor else "time by the clock"
-    print("%s; %s, least of %d runs\n" % (machine(), clock, chosen.runs))
-    with tempfile.TemporaryDirectory(prefix="syslog-bench-") as folder:
-        time_corpora(filters, chosen, folder)
-        time_hostile(filters, chosen, folder)
+        tables = [count_corpora(filters, chosen), count_hostile(filters, chosen)]
+    else:
+        print("%s; %s\n" % (machine(), how))
+        with tempfile.TemporaryDirectory(prefix="syslog-bench-") as folder:
+            tables = [time_corpora(filters, chosen, folder), time_hostile(filters, chosen, folder)]
+    if chosen.write:
+        # Read again, since it may have been worked on in the meantime.
+        with open(chosen.write, "r+", encoding="utf-8") as document:
+            text = with_tables(document.read(), dict(zip(names, tables)), measured)
+            document.seek(0)
+            document.write(text)
+            document.truncate()
 
 
 if __name__ == "__main__":
