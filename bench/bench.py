@@ -6,6 +6,7 @@
   bench.py --peer PATH                times that one too, on the same files, the runs of the two in turn
   bench.py --check --peer PATH        compares what the two write, and times nothing
   bench.py --instructions             counts instructions by valgrind, which other work does not change
+  bench.py --reading                  measures the program of bench/totals/ instead, which reads and prints sums alone
   bench.py --write                    puts the tables of the run into docs/BENCHMARKS.md as well
 
 Each time is the least of five runs, the start of the process included, with the standard input from a
@@ -98,8 +99,13 @@ class Filter:
             sys.exit("%s ended with status %d" % (self.words[0], status))
 
 
-def built(year):
+def built(year, reading):
     """Proves and builds the program, and answers its path."""
+    if reading:
+        folder = os.path.join(tempfile.gettempdir(), "syslog-bench-totals")
+        print("building bench/totals in %s" % folder, file=sys.stderr)
+        words = [os.path.join(TOP, "bench", "build_reader"), folder, "totals"]
+        return subprocess.check_output(words, text=True).split()[-1]
     print("building %s" % CRATE, file=sys.stderr)
     ran = subprocess.run(["rt", "run", "--", str(year)], cwd=CRATE, stdin=subprocess.DEVNULL, stdout=sys.stderr)
     if ran.returncode:
@@ -230,12 +236,15 @@ def time_hostile(filters, chosen, folder):
 def count_corpora(filters, chosen):
     """The instructions of each filter for one line more."""
     more = ["peer's instructions", "the peer's over ours"] * (len(filters) > 1)
+    more += ["lines whose sums differ"] * (len(filters) > 1 and chosen.reading)
     table = head("corpus", "instructions a line", *more)
     for name, lines in corpora.corpora(4000):
         if chosen.only not in name or len(lines) < 4000:
             continue
         own, *others = [(it.instructions(lines) - it.instructions(lines[:1000])) / 3000 for it in filters]
         more = [cell for it in others for cell in ("{:,.0f}".format(it), "%.2f" % (it / own))]
+        if others and chosen.reading:
+            more.append(len(differences(filters, lines, len(lines))))
         row(table, name, "{:,.0f}".format(own), *more)
     return table
 
@@ -298,6 +307,8 @@ def arguments():
     reader.add_argument("--peer", help="another program with the same argument")
     reader.add_argument("--check", action="store_true", help="compare the outputs")
     reader.add_argument("--instructions", action="store_true", help="count instructions by valgrind, and time nothing")
+    told = "measure the reading calls, by the program of bench/totals/, on the corpora alone"
+    reader.add_argument("--reading", action="store_true", help=told)
     reader.add_argument("--year", type=int, default=2019)
     told = "count processor time, which other work on the machine disturbs less"
     reader.add_argument("--processor", action="store_true", help=told)
@@ -321,23 +332,25 @@ def main():
     clock = "processor time" if chosen.processor else "time by the clock"
     how = "instructions by valgrind, one run" if chosen.instructions else "%s, least of %d runs" % (clock, chosen.runs)
     kind = "by instructions" if chosen.instructions else "by time"
-    names = ["ordinary lines, " + kind, "hostile lines, " + kind]
+    names = ["reading calls, " + kind] if chosen.reading else ["ordinary lines, " + kind, "hostile lines, " + kind]
     if chosen.write:
         commit = subprocess.check_output(["git", "rev-parse", "--short", "HEAD"], cwd=TOP, text=True).strip()
         measured = "Measured on %s, at commit %s; %s." % (machine(), commit, how)
         # A document without the tables is found now, not after minutes.
         with open(chosen.write, encoding="utf-8") as document:
             with_tables(document.read(), dict.fromkeys(names, []), measured)
-    paths = [chosen.program or built(chosen.year)] + [chosen.peer] * bool(chosen.peer)
+    paths = [chosen.program or built(chosen.year, chosen.reading)] + [chosen.peer] * bool(chosen.peer)
     filters = [Filter(path, chosen.year, chosen.processor) for path in paths]
     if chosen.check:
         sys.exit(1 if check(filters, chosen) else 0)
     if chosen.instructions:
-        tables = [count_corpora(filters, chosen), count_hostile(filters, chosen)]
+        tables = [count_corpora(filters, chosen)]
+        tables += [] if chosen.reading else [count_hostile(filters, chosen)]
     else:
         print("%s; %s\n" % (machine(), how))
         with tempfile.TemporaryDirectory(prefix="syslog-bench-") as folder:
-            tables = [time_corpora(filters, chosen, folder), time_hostile(filters, chosen, folder)]
+            tables = [time_corpora(filters, chosen, folder)]
+            tables += [] if chosen.reading else [time_hostile(filters, chosen, folder)]
     if chosen.write:
         # Read again, since it may have been worked on in the meantime.
         with open(chosen.write, "r+", encoding="utf-8") as document:

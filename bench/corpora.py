@@ -27,6 +27,13 @@ NON_ASCII_TEXTS = [
     "η σύνδεση έκλεισε από τον απομακρυσμένο κόμβο",
     "temperature 21.5 °C, battery 🔋 80 %",
 ]
+CHINESE_AND_RUSSIAN_TEXTS = [
+    "取引 1842 を完了しました (合計 ¥3,980)",
+    "用户 deploy 从 10.0.4.17 登录成功, 会话已打开",
+    "磁盘 /dev/sda1 空间不足: 剩余 4%",
+    "пользователь вошёл в систему, сеанс открыт",
+    "не удалось подключиться к серверу базы данных: время ожидания истекло",
+]
 MONTHS = ["Jan", "Feb", "Mar", "Apr", "May", "Jun", "Jul", "Aug", "Sep", "Oct", "Nov", "Dec"]
 OFFSETS = ["Z", "Z", "Z", "+00:00", "+01:00", "-05:00", "+05:30"]
 FRACTIONS = [0, 3, 3, 6, 6, 9]
@@ -99,6 +106,94 @@ def mixed(chance):
     return chance.choice(makers)(chance)
 
 
+# A client's address.
+def address(chance):
+    return "%s.%d" % (chance.choice(["203.0.113", "198.51.100", "10.0.4"]), chance.randrange(1, 255))
+
+
+# What nginx, sshd, sudo, cron, systemd and the kernel write: facility and severity, the program, whether it gives its
+# process id, and the text.
+def program_line(chance):
+    at, port, user = address(chance), chance.randrange(1024, 65536), chance.choice(["deploy", "root", "anna", "backup"])
+    path = chance.choice(["/", "/index.html", "/static/app.js", "/api/v1/orders?page=2"])
+    status, size = chance.choice([200, 200, 304, 404]), chance.randrange(100000)
+    key = "".join(chance.choice("ABCDEFGHabcdefgh0123456789") for _ in range(16))
+    return chance.choice(
+        [
+            (190, "nginx", False, '%s - - "GET %s HTTP/1.1" %d %d "-" "curl/8.5.0"' % (at, path, status, size)),
+            (38, "sshd", True, "Accepted publickey for %s from %s port %d ssh2: ED25519 %s" % (user, at, port, key)),
+            (84, "sshd", True, "Failed password for invalid user admin from %s port %d ssh2" % (at, port)),
+            (85, "sudo", False, "  %s : TTY=pts/%d ; PWD=/srv ; USER=root ; COMMAND=/usr/bin/id" % (user, port % 9)),
+            (86, "sudo", True, "pam_unix(sudo:session): session opened for user root(uid=0) by %s(uid=0)" % user),
+            (78, "CRON", True, "(root) CMD (test -x /usr/sbin/anacron || run-parts /etc/cron.daily)"),
+            (30, "systemd", True, "Started Session %d of user %s." % (size, user)),
+            (30, "systemd", True, "logrotate.service: Deactivated successfully."),
+            (6, "kernel", False, "[%6d.%06d] eth%d: renamed from veth%s" % (size, port, port % 4, key[:7])),
+            (4, "kernel", False, "[%6d.%06d] TCP: Possible SYN flooding on port %d." % (size, port, port)),
+        ]
+    )
+
+
+def programs_5424(chance):
+    priority, app, has_process, text = program_line(chance)
+    process = str(chance.randrange(1, 70000)) if has_process else "-"
+    words = [stamp(chance), chance.choice(HOSTS), app, process, "- -", text]
+    return "<%d>1 " % priority + " ".join(words)
+
+
+def programs_3164(chance):
+    priority, app, has_process, text = program_line(chance)
+    tag = app + ("[%d]" % chance.randrange(1, 70000) if has_process else "")
+    return "<%d>%s %s %s: %s" % (priority, month_stamp(chance), chance.choice(HOSTS), tag, text)
+
+
+# As logger and rsyslogd write them.
+def senders_5424(chance):
+    start = "<%d>1 %s %s " % (chance.randrange(192), stamp(chance), chance.choice(HOSTS))
+    if chance.random() < 0.75:
+        quality = '[timeQuality tzKnown="1" isSynced="1" syncAccuracy="%d"]' % chance.randrange(10**6)
+        return start + "%s - - %s %s" % (chance.choice(["root", "deploy", "backup"]), quality, chance.choice(TEXTS))
+    origin = '[origin software="rsyslogd" swVersion="8.2302.0" x-pid="%d" x-info="https://www.rsyslog.com"]'
+    text = chance.choice(["start", "exiting on signal 15."])
+    return start + "rsyslogd - - " + origin % chance.randrange(1, 70000) + " " + text
+
+
+def iso_3164(chance):
+    tag = chance.choice(APPS) + ("[%d]" % chance.randrange(1, 70000) if chance.random() < 0.8 else "")
+    return "%s%s %s %s: %s" % (priority(chance), stamp(chance), chance.choice(HOSTS), tag, chance.choice(TEXTS))
+
+
+# Lines of 60 bytes.
+def short(chance):
+    if chance.random() < 0.5:
+        line = "%s1 %s db3 cron - - - " % (priority(chance), stamp(chance))
+    else:
+        line = "%s%s db3 cron[%d]: " % (priority(chance), month_stamp(chance), chance.randrange(1, 70000))
+    return (line + "job done, nothing left to be run here now")[:60]
+
+
+def blanks_outside(chance):
+    line = chance.choice([plain_5424, plain_3164])(chance)
+    return " " * chance.randrange(1, 8) + line + " " * chance.randrange(1, 8)
+
+
+# RFC 5424 with two spaces in one of the gaps.
+def two_spaces_5424(chance):
+    words = (header(chance) + " -").split(" ")
+    words[chance.randrange(1, len(words))] += " "
+    return " ".join(words) + " " + chance.choice(TEXTS)
+
+
+def broken_element_5424(chance):
+    elements = "".join(element(chance) for _ in range(chance.randrange(1, 3)))
+    broken = chance.choice(['[meta sequence=12]', '[origin ip="10.0.0.1" up]', "[flow=7]", "[]"])
+    return header(chance) + " " + elements + broken + " " + chance.choice(TEXTS)
+
+
+def chinese_and_russian_5424(chance):
+    return header(chance) + " - " + chance.choice(CHINESE_AND_RUSSIAN_TEXTS)
+
+
 # A name, what makes a line, and how many lines stand for one of the benchmark's count.
 KINDS = [
     ("plain_5424", plain_5424, 1.0),
@@ -108,6 +203,15 @@ KINDS = [
     ("non_ascii_5424", non_ascii_5424, 1.0),
     ("mixed", mixed, 1.0),
     ("refused", refused, 1.0),
+    ("programs_5424", programs_5424, 1.0),
+    ("programs_3164", programs_3164, 1.0),
+    ("senders_5424", senders_5424, 1.0),
+    ("iso_3164", iso_3164, 1.0),
+    ("short", short, 1.0),
+    ("blanks_outside", blanks_outside, 1.0),
+    ("two_spaces_5424", two_spaces_5424, 1.0),
+    ("broken_element_5424", broken_element_5424, 1.0),
+    ("chinese_and_russian_5424", chinese_and_russian_5424, 1.0),
 ]
 
 
