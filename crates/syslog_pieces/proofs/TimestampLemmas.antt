@@ -4,6 +4,7 @@ pub mod Answers
 pub mod Characters
 pub mod Civil
 pub mod Fields
+pub mod Fold
 pub mod Fraction
 pub mod Loose
 pub mod MonthDate

@@ -1,5 +1,5 @@
 //! Laws over the definitions alone: each function does nothing, and its contract is the law.
-ghost use Rattle.std.specs.Prelude.{◌≡◌, ◌↔◌, ℕ, ℤ, ◌<◌, Bool, false, List, Option, Result, Some, String};
+ghost use Rattle.std.specs.Prelude.{◌≡◌, ◌↔◌, ℕ, ℤ, ◌<◌, ◌≤ℤ◌, Bool, false, List, Option, Result, Some, String};
 ghost use Rattle.std.specs.Borrow.{Bor};
 ghost use Rattle.std.specs.Global.{Global};
 ghost use Rattle.std.specs.Iterator.{Drains};
@@ -11,15 +11,16 @@ ghost use Rattle.syslog_pieces.specs.StructuredData.Params.{NextParam, AreParamI
 ghost use Rattle.syslog_pieces.specs.StructuredData.Listed.{BeginsNoList, listed};
 ghost use Rattle.syslog_pieces.specs.Pri.{facility_of, severity_of, composed};
 ghost use Rattle.syslog_pieces.specs.StructuredData.{IsValue};
-ghost use Rattle.jiff.specs.Words.{IsCivilNanos};
-ghost use Rattle.syslog_pieces.specs.Timestamp.Fields.{AreCivil, nanos_of_fields};
+ghost use Rattle.jiff.specs.Types.{DateTime, Fold, Offset, TimeZone};
+ghost use Rattle.jiff.specs.Words.{IsCivilNanos, ambiguous_at};
+ghost use Rattle.syslog_pieces.specs.Timestamp.Fields.{AreCivil, IsStampAt, nanos_of_fields};
 ghost use Rattle.std.specs.Char.{is_not_whitespace};
 ghost use Rattle.syslog_pieces.specs.Timestamp.{IsStampText};
 ghost use Rattle.syslog_pieces.specs.Timestamp.Loose.{loose_stamp, ShowsYearless};
 ghost use Rattle.syslog_pieces.specs.Timestamp.Plain.{IsPlainStamp, BeginsWithYear};
 ghost use Rattle.syslog_pieces.specs.Timestamp.Printed.{civil_fields, printed_stamp};
 ghost use Rattle.syslog_pieces.specs.Timestamp.Rfc3339.{HasStamp};
-ghost use Rattle.syslog_pieces.specs.Timestamp.Zone.{Dating};
+ghost use Rattle.syslog_pieces.specs.Timestamp.Zone.{Dating, IsStampOf};
 ghost use Rattle.syslog_pieces.specs.declared.pri.SyslogFacility.{SyslogFacility};
 ghost use Rattle.syslog_pieces.specs.declared.pri.SyslogSeverity.{SyslogSeverity};
 ghost use Rattle.syslog_pieces.specs.declared.structured_data.listed.DashRule.{DashRule};
@@ -53,6 +54,13 @@ pub fn text_has_one_loose_stamp()
     ensures { (dating : Dating) (text rest others : Text) (stamp other : Option OffsetTimestamp)
         → Front (loose_stamp dating) text rest stamp → Front (loose_stamp dating) text others other
         → (rest ≡ others) × (stamp ≡ other) }
+{}
+
+/// Where a clock in a zone shows a datetime twice, the offset that jiff names first gives the earlier of the two instants.
+pub fn fold_has_its_earlier_instant_first()
+    ensures { (tz : TimeZone) (dt : DateTime) (before after : Offset) (s other : OffsetTimestamp)
+        → ambiguous_at tz dt ≡ Fold before after → IsStampOf (Fold before after) dt s → IsStampAt dt after other
+        → s.instant.nanosecond ≤ℤ other.instant.nanosecond }
 {}
 
 /// The civil fields of a count of nanoseconds are a date of the calendar and a time of day, and
