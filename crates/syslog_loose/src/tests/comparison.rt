@@ -1,12 +1,10 @@
 //! Messages built by hand, compared and copied.
-use super::expected::read;
-use crate::{
-    Message, OffsetTimestamp, ProcId, Protocol, StructuredElement, SyslogFacility, SyslogSeverity,
-    Variant,
-};
+use super::built::{element, small};
+use super::reading::read;
+use crate::{Message, OffsetTimestamp, ProcId, Protocol, SyslogFacility, SyslogSeverity, Variant};
 use jiff::Timestamp;
 use jiff::tz::Offset;
-use std::alloc::{AllocError, Global};
+use std::alloc::Global;
 use std::test::Fail;
 
 // This many seconds after 1970 began, shown at this offset.
@@ -22,31 +20,15 @@ const FULL: &str = "<34>1 2003-10-11T22:14:15.003Z mymachine.example.com su - ID
 
 fn full<'a>(alloc: Global) -> Result<Message<&'a str>, Fail> {
     Ok(Message {
-        protocol: Protocol::RFC5424(1),
-        facility: Some(SyslogFacility::LOG_AUTH),
-        severity: Some(SyslogSeverity::SEV_CRIT),
         timestamp: Some(OffsetTimestamp {
             instant: Timestamp::from_nanosecond(1_065_910_455_003_000_000)?,
             offset: Offset::from_seconds(0)?,
         }),
         hostname: Some("mymachine.example.com"),
         appname: Some("su"),
-        procid: None,
         msgid: Some("ID47"),
-        structured_data: Vec::new(alloc),
-        msg: "message",
+        ..small(alloc, Protocol::RFC5424(1), "message")
     })
-}
-
-fn element<'a>(
-    alloc: Global,
-    pairs: &[(&'a str, &'a str)],
-) -> Result<StructuredElement<&'a str>, AllocError> {
-    let mut params = Vec::new(alloc);
-    for pair in pairs {
-        params.push(*pair)?;
-    }
-    Ok(StructuredElement { id: "x", params })
 }
 
 #[test]
@@ -160,8 +142,8 @@ fn listed<'a>(
     second: &[(&'a str, &'a str)],
 ) -> Result<Message<&'a str>, Fail> {
     let mut message = full(alloc)?;
-    message.structured_data.push(element(alloc, first)?)?;
-    message.structured_data.push(element(alloc, second)?)?;
+    message.structured_data.push(element(alloc, "x", first)?)?;
+    message.structured_data.push(element(alloc, "x", second)?)?;
     Ok(message)
 }
 
@@ -187,8 +169,8 @@ fn copies_lists_in_order(rt: HostRuntime) -> Result<(), Fail> {
     message.procid = Some(ProcId::Name("x:y"));
     message
         .structured_data
-        .push(element(alloc, &[("b", "2"), ("a", "1")])?)?;
-    message.structured_data.push(element(alloc, &[])?)?;
+        .push(element(alloc, "x", &[("b", "2"), ("a", "1")])?)?;
+    message.structured_data.push(element(alloc, "x", &[])?)?;
     let printed = format!(in alloc; "{message}")?;
     assert_eq!(rt;
         printed.as_str(),
@@ -244,16 +226,11 @@ fn copies_a_line_with_two_elements(rt: HostRuntime) -> Result<(), Fail> {
 fn owns_the_texts_of_a_message(rt: HostRuntime) -> Result<(), Fail> {
     let alloc = rt.alloc();
     let message = Message {
-        protocol: Protocol::RFC3164,
-        facility: Some(SyslogFacility::LOG_AUTH),
-        severity: Some(SyslogSeverity::SEV_CRIT),
         timestamp: stamp(1_570_832_055, 0)?,
         hostname: Some("host"),
         appname: Some(""),
         procid: Some(ProcId::PID(323)),
-        msgid: None,
-        structured_data: Vec::new(alloc),
-        msg: "hi",
+        ..small(alloc, Protocol::RFC3164, "hi")
     };
     let owned = message.to_owned_text(alloc)?;
     assert!(rt; owned.appname.as_ref().is_some_and(|name| name.is_empty()));

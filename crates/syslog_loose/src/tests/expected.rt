@@ -1,9 +1,25 @@
 //! A message as a test writes it down, and the comparison with one that was read.
-use crate::{
-    IncompleteDate, Message, ParseFault, ProcId, Protocol, StructuredElement, SyslogFacility,
-    SyslogSeverity, Variant, parse_message_with_year_exact_tz,
-};
-use jiff::tz::TimeZone;
+//!
+//! A table has a row for each text. A row is one text of cells with `¦` between them: first the text that is read, then
+//! the fields of its message, each by a word, a blank and what stands in it, in any order:
+//!
+//!     - h app[7]: [e k="v"][f] hi¦host h¦app app¦pid 7¦list e|k|v\nf¦msg hi¦prints <47> - h app[7]: [e k="v"][f] hi
+//!
+//! | Cell | What it says |
+//! |---|---|
+//! | `version` | the version of RFC 5424: 1 where there is no such cell |
+//! | `facility`, `severity` | their names, as `auth` and `crit` |
+//! | `at` | the timestamp, as it prints |
+//! | `host`, `app`, `id` | the names; `app ` is an app name that is empty, and no cell is none |
+//! | `pid`, `name` | the process id: a number, or a name |
+//! | `list` | a line for each element: its id, then the name and the raw value of each parameter, with bars between |
+//! | `msg` | the message itself |
+//! | `prints` | the text that the message prints as |
+//! | `year` | the year of a date that shows none: 2019 where there is no such cell |
+//!
+//! A field without a cell is absent, or empty. In a source a row is written on several lines, each but the last with a
+//! backslash at its end, which takes the blanks before the next one away.
+use crate::{Message, ProcId, StructuredElement, SyslogFacility, SyslogSeverity};
 use std::alloc::Global;
 use std::process::Abort;
 use std::test::Fail;
@@ -54,9 +70,7 @@ fn empty<'a>() -> Expected<'a> {
     }
 }
 
-/// What a row of a table says. It is written in cells with `¦` between them: the text, and then what stands in the fields
-/// of its message, as `host h`. A field without a cell is absent or empty; the year is 2019 where no cell gives one. (A
-/// table of structs would be proved field by field, ten times as long.)
+/// What a row says. (A table of structs would be proved field by field, ten times as long.)
 pub(super) fn row_of<'a>(rt: &impl Abort, row: &'a str) -> Expected<'a> {
     let mut cells = row.split('¦');
     let mut want = empty();
@@ -91,53 +105,6 @@ fn with_field<'a>(
         _ => assert!(rt; false, "no field is called {field:?}"),
     }
     want
-}
-
-/// The message of the text, with UTC as both zones.
-pub(super) fn read<'a>(
-    alloc: Global,
-    text: &'a str,
-    variant: Variant,
-) -> Result<Message<&'a str>, ParseFault> {
-    read_in_year(alloc, text, 2019, variant)
-}
-
-/// The same, with this year for a date that has none.
-pub(super) fn read_in_year<'a>(
-    alloc: Global,
-    text: &'a str,
-    year: i32,
-    variant: Variant,
-) -> Result<Message<&'a str>, ParseFault> {
-    let utc = TimeZone::UTC;
-    parse_message_with_year_exact_tz(
-        alloc,
-        text,
-        move |_: IncompleteDate| year,
-        Some(&utc),
-        variant,
-        &utc,
-    )
-}
-
-/// The years that a closure answers in January 2020: of a date in December, and of one in another month.
-pub(super) const IN_JANUARY: (i32, i32) = (2019, 2020);
-
-/// The message of the text, with no zone given, UTC as the local one, and a closure that answers by the month.
-pub(super) fn read_by_month<'a>(
-    alloc: Global,
-    text: &'a str,
-    years: (i32, i32),
-    variant: Variant,
-) -> Result<Message<&'a str>, ParseFault> {
-    parse_message_with_year_exact_tz(
-        alloc,
-        text,
-        move |date: IncompleteDate| if date.0 == 12 { years.0 } else { years.1 },
-        None,
-        variant,
-        &TimeZone::UTC,
-    )
 }
 
 fn process_of<'a>(procid: &Option<ProcId<&'a str>>) -> Process<'a> {
@@ -192,7 +159,7 @@ fn check_field(
     assert_eq!(rt; found, wanted, "{field} of {}", want.text);
 }
 
-fn check_priority(rt: &impl Abort, message: &Message<&str>, want: &Expected) {
+pub(super) fn check_priority(rt: &impl Abort, message: &Message<&str>, want: &Expected) {
     let facility = message.facility.map(SyslogFacility::as_str);
     let severity = message.severity.map(SyslogSeverity::as_str);
     check_field(rt, want, "facility", facility, want.facility);
@@ -218,46 +185,4 @@ pub(super) fn check_printed(
     let printed = format!(in alloc; "{message}")?;
     assert_eq!(rt; printed.as_str(), want.printed);
     Ok(())
-}
-
-/// Compares a message of RFC 5424 field by field, and then its printed text.
-pub(super) fn check_message(
-    rt: &impl Abort,
-    alloc: Global,
-    message: &Message<&str>,
-    want: &Expected,
-) -> Result<(), Fail> {
-    assert_eq!(rt; message.protocol, Protocol::RFC5424(want.version));
-    check_priority(rt, message, want);
-    check_timestamp(rt, alloc, message, want.timestamp)?;
-    check_fields(rt, message, want);
-    check_printed(rt, alloc, message, want)
-}
-
-/// The text reads as its message, as RFC 5424 and under `Either`, in a given zone and without one.
-pub(super) fn check_text(rt: &impl Abort, alloc: Global, want: &Expected) -> Result<(), Fail> {
-    for variant in [Variant::Either, Variant::RFC5424] {
-        check_message(rt, alloc, &read(alloc, want.text, variant)?, want)?;
-        let message = read_by_month(alloc, want.text, IN_JANUARY, variant)?;
-        check_message(rt, alloc, &message, want)?;
-    }
-    Ok(())
-}
-
-/// The text of each row reads so.
-pub(super) fn check_table(rt: &impl Abort, alloc: Global, rows: &[&str]) -> Result<(), Fail> {
-    for row in rows {
-        check_text(rt, alloc, &row_of(rt, row))?;
-    }
-    Ok(())
-}
-
-/// No text has a division by the variant.
-pub(super) fn check_invalid(rt: &impl Abort, alloc: Global, variant: Variant, texts: &[&str]) {
-    for text in texts {
-        match read(alloc, text, variant) {
-            Ok(_) => assert!(rt; false, "a message in {text:?}"),
-            Err(fault) => assert_eq!(rt; fault, ParseFault::Invalid, "{text:?}"),
-        }
-    }
 }

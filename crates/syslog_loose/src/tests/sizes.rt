@@ -1,7 +1,6 @@
 //! Many elements and parameters, and long texts: no clause refuses a body that claims want of memory for these.
-use super::expected::read;
-use crate::{IncompleteDate, Variant, normalise};
-use jiff::tz::TimeZone;
+use super::reading::{normalised, read};
+use crate::Variant;
 use std::alloc::Global;
 use std::process::Abort;
 use std::test::Fail;
@@ -11,15 +10,7 @@ const FRONTS: [&str; 2] = ["1 - - - - - ", " - h a: "];
 
 /// Expects this text with the priority in front that it prints, and so that printing changed nothing else.
 fn expect_printed(rt: &impl Abort, alloc: Global, text: &str) -> Result<(), Fail> {
-    let utc = TimeZone::UTC;
-    let printed = normalise(
-        alloc,
-        text,
-        |_: IncompleteDate| 2019,
-        None,
-        Variant::Either,
-        &utc,
-    )?;
+    let printed = normalised(alloc, text, 2019, None)?;
     assert!(rt; printed.as_str().strip_prefix("<47>") == Some(text));
     Ok(())
 }

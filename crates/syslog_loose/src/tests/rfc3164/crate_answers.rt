@@ -3,8 +3,10 @@
 //! How it was made: the crate, built by rustc 1.95, read each text under its variant RFC3164 with UTC as both zones and
 //! 2019 as the year; its fields and its printed text were written down here, and are not made anew. There a dash is a list
 //! before anything; the texts that are read otherwise here for that stand in a test of their own.
-use super::expected::{check_fields, check_invalid, check_printed, check_timestamp, read, row_of};
-use crate::{Protocol, Variant};
+use super::check_message;
+use crate::Variant;
+use crate::tests::expected::{check_fields, check_timestamp, row_of};
+use crate::tests::reading::{check_invalid, read};
 use std::alloc::Global;
 use std::process::Abort;
 use std::test::Fail;
@@ -14,10 +16,8 @@ fn check(rt: &impl Abort, alloc: Global, rows: &[&str]) -> Result<(), Fail> {
     for row in rows {
         let want = row_of(rt, row);
         let message = read(alloc, want.text, Variant::RFC3164)?;
-        assert_eq!(rt; message.protocol, Protocol::RFC3164);
         check_timestamp(rt, alloc, &message, want.timestamp)?;
-        check_fields(rt, &message, &want);
-        check_printed(rt, alloc, &message, &want)?;
+        check_message(rt, alloc, &message, &want)?;
     }
     Ok(())
 }

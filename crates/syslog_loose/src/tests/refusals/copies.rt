@@ -1,6 +1,6 @@
-//! Refused memory in copies of messages and of elements, and in the values of parameters: see `refusals`.
-use super::expected::read;
-use super::refusals::prints;
+//! Refused memory in copies of messages and of elements, and in the values of parameters.
+use super::prints;
+use crate::tests::reading::read;
 use crate::{Message, ParseFault, StructuredElement, Variant};
 use std::alloc::{AllocError, Global};
 use std::process::Abort;

@@ -2,8 +2,9 @@
 //!
 //! How it was made: the crate, built by rustc 1.95, read each text under its variant RFC5424 with UTC as the local
 //! zone; its fields and its printed text were written down here, and are not made anew.
-use super::expected::{check_invalid, check_table};
+use super::check_table;
 use crate::Variant;
+use crate::tests::reading::check_invalid;
 use std::test::Fail;
 
 #[test]

@@ -1,6 +1,7 @@
 //! Worked texts whose lists have elements, whole or broken.
-use super::expected::{check_invalid, check_table};
+use super::check_table;
 use crate::Variant;
+use crate::tests::reading::check_invalid;
 use std::alloc::Global;
 use std::process::Abort;
 use std::test::Fail;

@@ -1,8 +1,9 @@
-//! Refused memory in rounds: see `refusals`.
-use crate::{IncompleteDate, ParseFault, Variant, settle, settle_into};
+//! Refused memory in rounds.
+use super::check_text;
+use crate::tests::reading::{check_no_text, settled};
+use crate::{IncompleteDate, ParseFault, Variant, settle_into};
 use jiff::tz::TimeZone;
 use std::alloc::Global;
-use std::process::Abort;
 
 /// Texts with what each settles as: in round 1, without a message in between and with one, and in later rounds, with
 /// elements in none of them and in each.
@@ -17,34 +18,15 @@ const SETTLED: [(&str, &str); 5] = [
     ("- zork:: [e k=\"v\"] x", "<47> - zork : : [e k=\"v\"] x"),
 ];
 
-fn settled(alloc: Global, text: &str) -> Result<String, ParseFault> {
-    let utc = TimeZone::UTC;
-    settle(
-        alloc,
-        text,
-        |_: IncompleteDate| 2019,
-        None,
-        Variant::Either,
-        &utc,
-    )
-}
-
-fn check_settled(rt: &impl Abort, answer: Result<String, ParseFault>, want: &str) {
-    match answer {
-        Ok(text) => assert_eq!(rt; text.as_str(), want),
-        Err(fault) => assert!(rt; false, "{fault} in place of {want}"),
-    }
-}
-
 #[test]
 fn answers_that_memory_for_a_round_was_refused_and_then_as_ever(rt: HostRuntime) {
     let alloc = rt.alloc();
     for (text, want) in SETTLED {
-        let answer = match settled(alloc, text) {
-            Err(ParseFault::Memory) => settled(alloc, text),
+        let answer = match settled(alloc, text, 2019, None) {
+            Err(ParseFault::Memory) => settled(alloc, text, 2019, None),
             other => other,
         };
-        check_settled(&rt, answer, want);
+        check_text(&rt, answer, want);
     }
 }
 
@@ -79,16 +61,13 @@ fn answers_line_after_line_in_one_text(rt: HostRuntime) {
 fn sees_no_refusal_of_a_round(rt: HostRuntime) {
     let alloc = rt.alloc();
     for (text, want) in SETTLED {
-        check_settled(&rt, settled(alloc, text), want);
+        check_text(&rt, settled(alloc, text, 2019, None), want);
     }
 }
 
 #[test]
 fn asks_for_no_memory_without_a_round(rt: HostRuntime) {
     for text in ["", "<256>1 - - - - - -", "gobbledegook"] {
-        match settled(rt.alloc(), text) {
-            Ok(text) => assert!(rt; false, "{text}"),
-            Err(fault) => assert_eq!(rt; fault, ParseFault::Invalid, "{text}"),
-        }
+        check_no_text(&rt, settled(rt.alloc(), text, 2019, None), text);
     }
 }

@@ -1,5 +1,6 @@
-//! Refused memory in each of the five reading calls and in `reads_differently`: see `refusals`.
-use super::refusals::check_reading;
+//! Refused memory in each of the five reading calls and in `reads_differently`.
+use super::check_reading;
+use crate::tests::reading::RULE;
 use crate::{
     IncompleteDate, Message, ParseFault, Variant, parse_message, parse_message_with_year,
     parse_message_with_year_exact, parse_message_with_year_exact_tz, parse_message_with_year_tz,
@@ -9,9 +10,6 @@ use jiff::Timestamp;
 use jiff::tz::TimeZone;
 use std::alloc::Global;
 use std::test::Fail;
-
-/// At +01:00 in winter and at +02:00 in summer.
-const RULE: &str = "CET-1CEST,M3.5.0,M10.5.0/3";
 
 #[derive(Clone, Copy, Debug)]
 enum Call {

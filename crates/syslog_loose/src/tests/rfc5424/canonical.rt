@@ -1,27 +1,14 @@
 //! Messages built by hand: whether they are canonical, and what their printed text is read as.
-use super::expected::{check_invalid, check_table};
-use crate::{
-    Message, Offset, OffsetTimestamp, ProcId, Protocol, StructuredElement, SyslogFacility,
-    SyslogSeverity, Timestamp, Variant,
-};
+use super::check_table;
+use crate::tests::built::{self, element};
+use crate::tests::reading::check_invalid;
+use crate::{Message, Offset, OffsetTimestamp, ProcId, Protocol, Timestamp, Variant};
 use std::alloc::{AllocError, Global};
 use std::process::Abort;
 use std::test::Fail;
 
-/// Of RFC 5424, from LOG_AUTH and of SEV_CRIT, with the message `x` and nothing else.
 fn small(alloc: Global) -> Message<&'static str> {
-    Message {
-        protocol: Protocol::RFC5424(1),
-        facility: Some(SyslogFacility::LOG_AUTH),
-        severity: Some(SyslogSeverity::SEV_CRIT),
-        timestamp: None,
-        hostname: None,
-        appname: None,
-        procid: None,
-        msgid: None,
-        structured_data: Vec::new(alloc),
-        msg: "x",
-    }
+    built::small(alloc, Protocol::RFC5424(1), "x")
 }
 
 /// The cells of that message as it is read.
@@ -34,12 +21,10 @@ fn listed(
     name: &'static str,
     value: &'static str,
 ) -> Result<Message<&'static str>, AllocError> {
-    let mut params = Vec::new(alloc);
-    params.push((name, value))?;
     let mut message = small(alloc);
     message
         .structured_data
-        .push(StructuredElement { id, params })?;
+        .push(element(alloc, id, &[(name, value)])?)?;
     Ok(message)
 }
 
@@ -270,34 +255,4 @@ fn reads_years_from_zero_on_at_their_offset(rt: HostRuntime) -> Result<(), Fail>
         true,
         "¦at 0000-01-01T00:59:59+01:00¦prints <34>1 0000-01-01T00:59:59+01:00 - - - - - x",
     )
-}
-
-#[test]
-fn tells_the_names_of_rfc3164(rt: HostRuntime) {
-    let alloc = rt.alloc();
-    for (host, app, process, msg, canonical) in [
-        (None, Some("a[]"), None, "hi", true),
-        (None, Some("app"), Some("-"), "hi", true),
-        (None, Some(""), Some("x"), "hi", true),
-        (None, Some("a[b]"), None, "hi", false),
-        (None, Some("a"), None, "-5", true),
-        (None, Some("a"), None, "[e k=\"v\"]", false),
-        (None, Some("a"), Some("x:y"), "hi", false),
-        (None, Some("a"), Some("7"), "hi", false),
-        (None, Some("a:b"), None, "hi", false),
-        (None, None, Some("x"), "hi", false),
-        (Some("h"), None, None, "hi", true),
-        (Some("h[i]"), None, None, "hi", false),
-        (Some("h[i]"), Some("a"), None, "hi", true),
-    ] {
-        let message = Message {
-            protocol: Protocol::RFC3164,
-            hostname: host,
-            appname: app,
-            procid: process.map(|name| ProcId::Name(name)),
-            msg,
-            ..small(alloc)
-        };
-        assert_eq!(rt; message.is_canonical(), canonical, "{message}");
-    }
 }

@@ -1,5 +1,5 @@
 //! Lines of RFC 3164 that are made of parts hard to read again: each settles as normalising by hand does.
-use super::settling::expect_as_by_hand;
+use super::expect_as_by_hand;
 use crate::{Offset, TimeZone};
 use std::alloc::Global;
 use std::process::Abort;

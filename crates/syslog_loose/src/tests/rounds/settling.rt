@@ -1,58 +1,10 @@
 //! Lines that settle: in which round, and with which text; and that it is what normalising by hand comes to.
-use crate::{IncompleteDate, Offset, ParseFault, TimeZone, Variant, normalise, settle};
+use super::{by_hand, expect_as_by_hand};
+use crate::tests::reading::{check_no_text, normalised, settled};
+use crate::{IncompleteDate, Offset, TimeZone, Variant, settle};
 use std::alloc::Global;
 use std::process::Abort;
 use std::test::Fail;
-
-pub(super) fn settled(
-    alloc: Global,
-    text: &str,
-    year: i32,
-    tz: &TimeZone<'_>,
-) -> Result<String, ParseFault> {
-    settle(
-        alloc,
-        text,
-        move |_: IncompleteDate| year,
-        Some(tz),
-        Variant::Either,
-        &TimeZone::UTC,
-    )
-}
-
-pub(super) fn next_round(
-    alloc: Global,
-    text: &str,
-    year: i32,
-    tz: &TimeZone<'_>,
-) -> Result<String, ParseFault> {
-    normalise(
-        alloc,
-        text,
-        move |_: IncompleteDate| year,
-        Some(tz),
-        Variant::Either,
-        &TimeZone::UTC,
-    )
-}
-
-/// What normalising by hand comes to, and in which round, or the fault of the round that is missing.
-pub(super) fn by_hand(
-    alloc: Global,
-    text: &str,
-    year: i32,
-    tz: &TimeZone<'_>,
-) -> Result<(String, usize), ParseFault> {
-    let mut last = next_round(alloc, text, year, tz)?;
-    for rounds in 1..=text.len() + 1 {
-        let next = next_round(alloc, last.as_str(), year, tz)?;
-        if next.as_str() == last.as_str() {
-            return Ok((last, rounds));
-        }
-        last = next;
-    }
-    Err(ParseFault::Invalid)
-}
 
 /// The text settles in this round, as this text.
 fn expect_settled(
@@ -66,7 +18,7 @@ fn expect_settled(
     let (by_hand, rounds) = by_hand(alloc, text, year, tz)?;
     assert_eq!(rt; by_hand.as_str(), want.0, "{text}");
     assert_eq!(rt; rounds, want.1, "{text}");
-    let settled = settled(alloc, text, year, tz)?;
+    let settled = settled(alloc, text, year, Some(tz))?;
     assert_eq!(rt; settled.as_str(), want.0, "{text}");
     Ok(())
 }
@@ -108,7 +60,7 @@ fn settles_in_later_rounds(rt: HostRuntime) -> Result<(), Fail> {
         ),
         ("- h a: - - x", "<47> - h a: - x", "<47> - h a: x", 2),
     ] {
-        let once = next_round(alloc, text, 2019, &TimeZone::UTC)?;
+        let once = normalised(alloc, text, 2019, Some(&TimeZone::UTC))?;
         assert_eq!(rt; once.as_str(), first);
         expect_settled(&rt, alloc, text, 2019, &TimeZone::UTC, (last, round))?;
     }
@@ -119,33 +71,31 @@ fn settles_in_later_rounds(rt: HostRuntime) -> Result<(), Fail> {
 fn settles_dates_that_print_as_others(rt: HostRuntime) -> Result<(), Fail> {
     let alloc = rt.alloc();
     let before = "Jan 1 00:00:00 h a: m";
-    let once = next_round(alloc, before, -1, &TimeZone::UTC)?;
+    let once = normalised(alloc, before, -1, Some(&TimeZone::UTC))?;
     assert_eq!(rt; once.as_str(), "<47> -0001-01-01T00:00:00+00:00 h a: m");
     let want = "<47> - - : 0001-01-01T00:00:00+00:00 h a: m";
     expect_settled(&rt, alloc, before, -1, &TimeZone::UTC, (want, 2))?;
     let text = "Oct 11 22:14:15 h a: m";
     let seconds = TimeZone::fixed(Offset::from_seconds(-20)?);
-    let once = next_round(alloc, text, 2019, &seconds)?;
+    let once = normalised(alloc, text, 2019, Some(&seconds))?;
     assert_eq!(rt; once.as_str(), "<47> 2019-10-11T22:14:15-00:00 h a: m");
     let want = "<47> 2019-10-11T22:14:15+00:00 h a: m";
     expect_settled(&rt, alloc, text, 2019, &seconds, (want, 2))?;
     let day = TimeZone::fixed(Offset::from_seconds(86_400)?);
-    let once = next_round(alloc, text, 2019, &day)?;
+    let once = normalised(alloc, text, 2019, Some(&day))?;
     assert_eq!(rt; once.as_str(), "<47> 2019-10-11T22:14:15+24:00 h a: m");
-    match settled(alloc, text, 2019, &day) {
-        Ok(text) => assert!(rt; false, "{text}"),
-        Err(fault) => assert_eq!(rt; fault, ParseFault::Invalid),
-    }
+    check_no_text(&rt, settled(alloc, text, 2019, Some(&day)), text);
     Ok(())
 }
 
 #[test]
 fn settles_no_text_without_a_division(rt: HostRuntime) {
     for text in ["", "  ", "<256>1 - - - - - -", "<34>Feb 30 10:00:00 h a: m"] {
-        match settled(rt.alloc(), text, 2019, &TimeZone::UTC) {
-            Ok(text) => assert!(rt; false, "{text}"),
-            Err(fault) => assert_eq!(rt; fault, ParseFault::Invalid, "{text}"),
-        }
+        check_no_text(
+            &rt,
+            settled(rt.alloc(), text, 2019, Some(&TimeZone::UTC)),
+            text,
+        );
     }
 }
 
@@ -215,30 +165,6 @@ const HARD: [&str; 28] = [
     "<34>2019-10-11T22:14:15-23:59 :[a:b]: - x",
     "\t- [:--]\t",
 ];
-
-/// The text settles as normalising it by hand comes to rest, with the same fault where a round is missing; and normalising
-/// leaves the answer as it is.
-pub(super) fn expect_as_by_hand(
-    rt: &impl Abort,
-    alloc: Global,
-    text: &str,
-    year: i32,
-    tz: &TimeZone<'_>,
-) -> Result<(), Fail> {
-    match by_hand(alloc, text, year, tz) {
-        Ok((want, _)) => {
-            let answer = settled(alloc, text, year, tz)?;
-            assert_eq!(rt; answer.as_str(), want.as_str(), "{text}");
-            let again = next_round(alloc, answer.as_str(), year, tz)?;
-            assert_eq!(rt; again.as_str(), answer.as_str(), "{text}");
-        }
-        Err(fault) => match settled(alloc, text, year, tz) {
-            Ok(answer) => assert!(rt; false, "{text}: {answer}"),
-            Err(other) => assert_eq!(rt; other, fault, "{text}"),
-        },
-    }
-    Ok(())
-}
 
 #[test]
 fn settles_hard_texts_as_normalising_by_hand_does(rt: HostRuntime) -> Result<(), Fail> {

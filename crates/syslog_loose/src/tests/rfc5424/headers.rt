@@ -1,5 +1,7 @@
 //! Worked texts of RFC 5424 without elements.
-use super::expected::{check_invalid, check_message, check_table, check_text, read, row_of};
+use super::{check_message, check_table, check_text};
+use crate::tests::expected::row_of;
+use crate::tests::reading::{check_invalid, read};
 use crate::{Message, Protocol, SyslogFacility, SyslogSeverity, Variant};
 use std::test::Fail;
 

@@ -1,4 +1,5 @@
 //! Which texts are read differently since the rule of the dash changed.
+use crate::tests::reading::RULE;
 use crate::{
     IncompleteDate, Variant, parse_message_with_year_exact_tz, reads_differently, rfc3164,
 };
@@ -92,7 +93,7 @@ fn tells_no_text_without_a_timestamp(rt: HostRuntime) -> Result<(), Fail> {
     let leap_day = "Feb 29 00:00:00 h a: -5";
     assert!(rt; differs_in(alloc, leap_day, 2020, None, &utc)?);
     assert!(rt; !differs_in(alloc, leap_day, 2019, None, &utc)?);
-    let rule = TimeZone::posix("CET-1CEST,M3.5.0,M10.5.0/3")?;
+    let rule = TimeZone::posix(RULE)?;
     let in_gap = "Mar 29 02:30:00 h a: -5";
     assert!(rt; !differs_in(alloc, in_gap, 2020, Some(&rule), &utc)?);
     assert!(rt; differs_in(alloc, in_gap, 2019, Some(&rule), &utc)?);

@@ -1,6 +1,7 @@
 //! Long numbers and words, and characters that only look like white space.
-use super::expected::{check_invalid, check_table};
+use super::check_table;
 use crate::Variant;
+use crate::tests::reading::check_invalid;
 use std::test::Fail;
 
 #[test]

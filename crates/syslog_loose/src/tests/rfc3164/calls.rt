@@ -1,5 +1,5 @@
 //! The reading calls on dates: zones, the closure, the fallback and the year of a moment.
-use super::expected::check_invalid;
+use crate::tests::reading::{RULE, check_invalid};
 use crate::{
     IncompleteDate, Message, Offset, ParseFault, Protocol, SyslogFacility, SyslogSeverity,
     TimeZone, Timestamp, Variant, parse_message, parse_message_with_year,
@@ -8,9 +8,6 @@ use crate::{
 use std::alloc::Global;
 use std::process::Abort;
 use std::test::Fail;
-
-/// At +01:00 in winter and at +02:00 in summer.
-const RULE: &str = "CET-1CEST,M3.5.0,M10.5.0/3";
 
 fn check_printed(
     rt: &impl Abort,

@@ -1,8 +1,8 @@
 //! Hostile texts of RFC 3164: long numbers and words, brackets and quotes without an end, and characters that only look
 //! like white space.
-use super::expected::check_invalid;
-use super::rfc3164::check_table;
+use super::check_table;
 use crate::Variant;
+use crate::tests::reading::check_invalid;
 use std::alloc::Global;
 use std::process::Abort;
 use std::test::Fail;

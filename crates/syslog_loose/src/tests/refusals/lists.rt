@@ -1,5 +1,6 @@
-//! Refused memory where a text has elements: see `refusals`.
-use super::expected::{check_elements, read};
+//! Refused memory where a text has elements.
+use crate::tests::expected::check_elements;
+use crate::tests::reading::read;
 use crate::{Message, ParseFault, Variant};
 use std::alloc::Global;
 use std::process::Abort;

@@ -1,5 +1,7 @@
 //! Messages of RFC 3164 built by hand: whether they are canonical, how they print, and what that is read as.
-use super::expected::{Expected, Process, check_fields, read, row_of};
+use crate::tests::built::small;
+use crate::tests::expected::{Expected, Process, check_fields, row_of};
+use crate::tests::reading::read;
 use crate::{
     Message, ProcId, Protocol, StructuredElement, SyslogFacility, SyslogSeverity, TimeZone,
     Variant, rfc3164,
@@ -9,7 +11,8 @@ use std::process::Abort;
 use std::test::Fail;
 use syslog_pieces::structured_data::listed::{DASH_RULE, DashRule, begins_list};
 
-fn element<'a>(alloc: Global, line: &'a str) -> Result<StructuredElement<&'a str>, AllocError> {
+/// An element as a cell `list` has it.
+fn element_of<'a>(alloc: Global, line: &'a str) -> Result<StructuredElement<&'a str>, AllocError> {
     let mut texts = line.split('|');
     let id = texts.next().unwrap_or("");
     let mut params = Vec::new(alloc);
@@ -23,13 +26,9 @@ fn element<'a>(alloc: Global, line: &'a str) -> Result<StructuredElement<&'a str
 fn message<'a>(alloc: Global, fields: &Expected<'a>) -> Result<Message<&'a str>, AllocError> {
     let mut structured_data = Vec::new(alloc);
     for line in fields.elements.lines() {
-        structured_data.push(element(alloc, line)?)?;
+        structured_data.push(element_of(alloc, line)?)?;
     }
     Ok(Message {
-        protocol: Protocol::RFC3164,
-        facility: Some(SyslogFacility::LOG_AUTH),
-        severity: Some(SyslogSeverity::SEV_CRIT),
-        timestamp: None,
         hostname: fields.hostname,
         appname: fields.appname,
         procid: match fields.process {
@@ -39,7 +38,7 @@ fn message<'a>(alloc: Global, fields: &Expected<'a>) -> Result<Message<&'a str>,
         },
         msgid: fields.msgid,
         structured_data,
-        msg: fields.msg,
+        ..small(alloc, Protocol::RFC3164, fields.msg)
     })
 }
 
@@ -261,4 +260,32 @@ fn was_not_canonical_with_a_dash_before_anything(rt: HostRuntime) -> Result<(), 
         assert_eq!(rt; message.msg, msg);
     }
     Ok(())
+}
+
+#[test]
+fn tells_canonical_names(rt: HostRuntime) {
+    let alloc = rt.alloc();
+    for (host, app, process, msg, canonical) in [
+        (None, Some("a[]"), None, "hi", true),
+        (None, Some("app"), Some("-"), "hi", true),
+        (None, Some(""), Some("x"), "hi", true),
+        (None, Some("a[b]"), None, "hi", false),
+        (None, Some("a"), None, "-5", true),
+        (None, Some("a"), None, "[e k=\"v\"]", false),
+        (None, Some("a"), Some("x:y"), "hi", false),
+        (None, Some("a"), Some("7"), "hi", false),
+        (None, Some("a:b"), None, "hi", false),
+        (None, None, Some("x"), "hi", false),
+        (Some("h"), None, None, "hi", true),
+        (Some("h[i]"), None, None, "hi", false),
+        (Some("h[i]"), Some("a"), None, "hi", true),
+    ] {
+        let message = Message {
+            hostname: host,
+            appname: app,
+            procid: process.map(|name| ProcId::Name(name)),
+            ..small(alloc, Protocol::RFC3164, msg)
+        };
+        assert_eq!(rt; message.is_canonical(), canonical, "{message}");
+    }
 }
