@@ -1,0 +1,5 @@
+pub mod Line
+pub mod Options
+pub mod Outcome
+pub mod Room
+pub mod Texts
