@@ -1,14 +1,16 @@
 -- A line that is read.
-use Rattle.std.proofs.Common.{ℕ, ℤ, List, Option, ◌≡◌, subst}
+use Rattle.std.proofs.Common.{ℕ, List, ◌≡◌, inl, inr, subst}
 use Rattle.std.specs.Str.{chars, IsUtf8}
 use Rattle.jiff.specs.Types.{TimeZone}
 use Rattle.syslog_pieces.specs.Pieces.Class.{Text}
 use Rattle.syslog_pieces.specs.Timestamp.Zone.{Dating}
 use Rattle.syslog_loose.specs.Reading.{InYear}
 use Rattle.syslog_loose.specs.declared.variant.Variant.{Variant}
-use Rattle.syslog_c.specs.Line.{IsTried}
+use Rattle.syslog_loose.proofs.ReadingLemmas.{in_year_map}
+use Rattle.syslog_c.specs.Line.{IsTried, OnLine}
 use Rattle.syslog_c.specs.Options.{AreInRange, IsReckoned, IsZoneAt, dating_in, variant_number}
 use Rattle.syslog_c.specs.declared.options.Options.{Options}
+use Rattle.syslog_c.specs.declared.outcome.Outcome.{Outcome}
 
 -- what holds of the text that the line's bytes are
 pub tried_line : (Holds : Variant → Dating → Text → Type 0) (options : Options) (line bytes : List ℕ) (variant : Variant) (zone : TimeZone)
@@ -23,3 +25,22 @@ tried_line Holds options line bytes variant zone named in_range ahead same utf8 
     utf8 = utf8;
     holds = subst (λ (bs : List ℕ). InYear (IsReckoned options) variant (chars bs) (λ year. Holds variant (dating_in zone year) (chars bs))) same holds
   }
+
+-- what holds of a line that is read holds of one that is read so
+pub tried_map : {Holds More : Variant → Dating → Text → Type 0} (options : Options) (line : List ℕ) → ((variant : Variant) (dating : Dating) (text : Text) → Holds variant dating text → More variant dating text)
+    → IsTried options line Holds → IsTried options line More
+tried_map options line f t = record {
+    variant = t.variant;
+    zone = t.zone;
+    named = t.named;
+    in_range = t.in_range;
+    ahead = t.ahead;
+    utf8 = t.utf8;
+    holds = in_year_map (λ year h. f _ _ _ h) t.holds
+  }
+
+pub on_line_map : {Left Other : Type 0} {Holds More : Variant → Dating → Text → Type 0} (options : Options) (line : List ℕ) (outcome : Outcome) → (Left → Other)
+    → ((variant : Variant) (dating : Dating) (text : Text) → Holds variant dating text → More variant dating text) → OnLine options line outcome Left Holds → OnLine options line outcome Other More
+on_line_map options line outcome g f (inl a) = inl (a.0, a.1, g a.2)
+on_line_map options line outcome g f (inr (inl a)) = inr (inl (a.0, a.1, a.2, g a.3))
+on_line_map options line outcome g f (inr (inr t)) = inr (inr (tried_map options line f t))

@@ -1,5 +1,7 @@
+pub mod Fields
 pub mod Line
 pub mod Options
 pub mod Outcome
 pub mod Room
 pub mod Texts
+pub mod Told

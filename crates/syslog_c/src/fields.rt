@@ -1,0 +1,75 @@
+//! What C gets of a message: structs of numbers and of texts, each of which is a piece of the line.
+
+/// A text: where it begins in the line, and how many bytes it has. An absent one has none.
+#[repr(C)]
+#[derive(Clone, Copy)]
+pub struct Text<'a> {
+    pub bytes: &'a [u8],
+    /// 1, or 0 for an absent one.
+    pub present: u32,
+}
+
+/// An instant, and how far the clock that showed it is ahead of UTC. All are 0 for an absent one.
+#[repr(C)]
+#[derive(Clone, Copy)]
+pub struct Stamp {
+    /// The whole seconds since 1970, rounded toward zero.
+    pub seconds: i64,
+    /// The nanoseconds beyond them, with the sign of the instant.
+    pub nanoseconds: i32,
+    /// In seconds.
+    pub offset: i32,
+    /// 1, or 0 for an absent one.
+    pub present: u32,
+}
+
+/// A process id: a number, a name, or none.
+#[repr(C)]
+#[derive(Clone, Copy)]
+pub struct Process<'a> {
+    pub name: Text<'a>,
+    pub number: i32,
+    /// 1 for a number, which else is 0.
+    pub is_number: u32,
+}
+
+/// A message.
+#[repr(C)]
+#[derive(Clone, Copy)]
+pub struct Fields<'a> {
+    /// 3164 or 5424.
+    pub protocol: u32,
+    /// That of RFC 5424, and else 0.
+    pub version: u32,
+    /// From 0 to 23, or -1 for an absent one.
+    pub facility: i32,
+    /// From 0 to 7, or -1 for an absent one.
+    pub severity: i32,
+    pub timestamp: Stamp,
+    pub host: Text<'a>,
+    pub app: Text<'a>,
+    pub process: Process<'a>,
+    pub msgid: Text<'a>,
+    pub msg: Text<'a>,
+    /// How many elements there are.
+    pub elements: usize,
+    /// How many parameters these have together.
+    pub params: usize,
+}
+
+/// An element of structured data.
+#[repr(C)]
+#[derive(Clone, Copy)]
+pub struct Element<'a> {
+    pub id: Text<'a>,
+    /// How many parameters it has. They stand behind those of the elements before it.
+    pub params: usize,
+}
+
+/// A parameter of an element: its name, and its value as it stands in the line.
+#[repr(C)]
+#[derive(Clone, Copy)]
+pub struct Param<'a> {
+    pub name: Text<'a>,
+    pub value: Text<'a>,
+}
