@@ -2,7 +2,7 @@
 use Rattle.std.proofs.Common.{◌≡◌, ◌∙◌, refl, sym, ap, subst, ℕ, suc, ◌+◌, ◌-◌, ◌<◌, ◌≤◌, List, [], ◌∷◌, ◌++◌, length, get_or, set, take, drop, arith, add-one, append-nil, length-append, length-drop, drop_of_length-le, length-take-le, take_all, drop-cons, map, min, ◌^◌}
 use Rattle.std.specs.List.{AllZip, flat_map}
 use Rattle.std.proofs.lemmas.Grind.{flat_map-append}
-use Rattle.std.proofs.lemmas.List.{take_more, take_more_set, drop-set-lt, drop-drop, take-append-le, drop-append-le}
+use Rattle.std.proofs.lemmas.List.{length-map, map-append, take_more, take_more_set, drop-set-lt, drop-drop, take-append-le, drop-append-le}
 use Rattle.syslog_pieces.specs.Pieces.Class.{Text}
 use Rattle.syslog_pieces.specs.StructuredData.Element.{element_value, param_value}
 use Rattle.syslog_pieces.specs.declared.structured_data.StructuredElement.{StructuredElement}
@@ -61,13 +61,13 @@ begun_part {A = A} {B = B} R f xs sub old es e i at n lt is counted before fits 
     let long_p : length p ≡ at = length-take-le at xs within in
     let long : length (p ++ (sub ++ post)) ≡ length p + (length sub + length post) = length-append _ _ ∙ ap (λ m. length p + m) (length-append _ _) in
     let mid : mid_of at (length xs - at) xs ≡ drop at xs = take_all _ _ (let l = length-drop at xs in omega arith) in
-    let long_sub : length sub ≡ length xs - at = same ∙ ap length mid ∙ length-drop at xs in
+    let long_sub : length sub ≡ length xs - at = same ∙ (ap length mid ∙ length-drop at xs) in
     let short : n ≤ length sub = omega arith in
     let taken : take (at + n) (p ++ (sub ++ post)) ≡ p ++ take n sub =
         take_past p (sub ++ post) n (at + n) (omega arith)
         ∙ ap (λ l. p ++ l) (take-append-le n sub post short) in
     let begins : AllZip R (take n sub) (f e) = subst (λ (m : ℕ). AllZip R (take m sub) (f e)) (sym counted) begun.begins in
-    let none : post ≡ [] = drop_of_length-le _ _ (let l = length-drop at xs in omega arith) in
+    let none : post ≡ [] = drop_of_length-le (drop at xs) {i = length xs - at} (let l = length-drop at xs in omega arith) in
     let stays : drop n sub ≡ drop n (drop at xs) = subst (λ (m : ℕ). drop m sub ≡ drop m (mid_of at (length xs - at) xs)) (sym counted) begun.behind ∙ ap (drop n) mid in
     let dropped : drop (at + n) (p ++ (sub ++ post)) ≡ drop n (drop at xs) =
         drop_past p (sub ++ post) n (at + n) (omega arith)
@@ -86,7 +86,7 @@ zip_map R f (x ∷ xs) (y ∷ ys) z = (z.0, zip_map R f xs ys z.1)
 
 pub begun_map : {A B C : Type 0} (R : A → C → Type 0) (f : B → C) (ys : List B) (old new : List A) → IsBegun (λ x y. R x (f y)) ys old new → IsBegun R (map f ys) old new
 begun_map R f ys old new b =
-    let long : length (map f ys) ≡ length ys = length-map f ys in
+    let long : length (map f ys) ≡ length ys = length-map ys f in
     record {
       begins = subst (λ (m : ℕ). AllZip R (take m new) (map f ys)) (sym long) (zip_map R f (take (length ys) new) ys b.begins);
       behind = subst (λ (m : ℕ). drop m new ≡ drop m old) (sym long) b.behind
@@ -100,5 +100,5 @@ all_params_map text (e ∷ es) = ap (λ l. map (param_value text) e.params.items
 pub params_fit : {S : Type 0} (text : S → Text) (es : List (StructuredElement S)) (count room : ℕ) → count ≡ min (length (all_params (map (element_value text) es))) (2 ^ 64 - 1)
     → count ≤ room → room < 2 ^ 64 - 1 → length (flat_map (λ e. e.params.items) es) ≤ room
 params_fit text es count room told fits bound =
-    let same : length (all_params (map (element_value text) es)) ≡ length (flat_map (λ e. e.params.items) es) = ap length (all_params_map text es) ∙ length-map (param_value text) _ in
+    let same : length (all_params (map (element_value text) es)) ≡ length (flat_map (λ e. e.params.items) es) = ap length (all_params_map text es) ∙ length-map _ (param_value text) in
     omega arith

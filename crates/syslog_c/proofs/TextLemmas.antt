@@ -2,7 +2,8 @@
 use Rattle.std.proofs.Common.{ℕ, List, Result, Ok, Err, MatchResult, String, ◌↔◌, ◌≡◌, sym, subst, refl}
 use Rattle.std.specs.Prelude.{string_bytes}
 use Rattle.std.specs.Global.{Global}
-use Rattle.std.specs.Str.{chars, encode_utf8_all}
+use Rattle.std.specs.Str.{chars, encode_utf8_all, IsUtf8}
+use Rattle.syslog_pieces.specs.StructuredData.Escapes.{IsUnescaped}
 use Rattle.std.proofs.lemmas.Str.{IsUtf8-string_bytes}
 use Rattle.syslog_pieces.specs.Pieces.Class.{Text}
 use Rattle.syslog_pieces.specs.Timestamp.Zone.{Dating}
@@ -15,7 +16,7 @@ use Rattle.syslog_loose.specs.declared.fault.ParseFault.TheVariants.{Invalid, Me
 use Rattle.syslog_loose.specs.declared.variant.Variant.{Variant}
 use Rattle.syslog_loose.proofs.ReadingLemmas.{invalid_or_memory}
 use Rattle.syslog_c.specs.Room.{IsLeftFor, Puts}
-use Rattle.syslog_c.specs.Texts.{IsPrintedLine, Normalised, Settled}
+use Rattle.syslog_c.specs.Texts.{IsPrintedLine, Normalised, Settled, Unescaped}
 use Rattle.syslog_c.specs.declared.outcome.Outcome.{Outcome}
 use Rattle.syslog_c.specs.declared.outcome.Outcome.TheVariants.{Done, NoReading, NotUtf8, NoMemory, NoRoom, BadArgument}
 
@@ -54,3 +55,12 @@ pub printed_answer : (variant : Variant) (dating : Dating) (text : Text) (old ne
 printed_answer variant dating text old new needed outcome (Ok u) s p = printed_put variant dating text old new (string_bytes u) needed s outcome p
 printed_answer variant dating text old new needed outcome (Err Invalid) s p = subst (λ (o : Outcome). Normalised variant dating text old new needed o) (sym p.0) (s.0 refl, p.1)
 printed_answer variant dating text old new needed outcome (Err Memory) s p = subst (λ (o : Outcome). Normalised variant dating text old new needed o) (sym p.0) (λ u. invalid_or_memory (s.1 u), p.1)
+
+pub unescaped_put : (value old new : List ℕ) (needed : ℕ) (u : String Global) → IsUtf8 value → IsUnescaped (chars value) (chars (string_bytes u))
+    → (outcome : Outcome) → Puts (string_bytes u) old new needed outcome → Unescaped value old new needed outcome
+unescaped_put value old new needed u v s Done p = (string_bytes u, record { value_utf8 = v; utf8 = IsUtf8-string_bytes u; unescaped = s }, p)
+unescaped_put value old new needed u v s NoRoom p = (string_bytes u, record { value_utf8 = v; utf8 = IsUtf8-string_bytes u; unescaped = s }, p)
+unescaped_put value old new needed u v s NoReading p = absurd p
+unescaped_put value old new needed u v s NotUtf8 p = absurd p
+unescaped_put value old new needed u v s NoMemory p = absurd p
+unescaped_put value old new needed u v s BadArgument p = absurd p

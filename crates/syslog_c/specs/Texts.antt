@@ -2,6 +2,7 @@
 use Rattle.std.specs.Prelude.{◌≡◌, ℕ, List}
 use Rattle.std.specs.Str.{chars, encode_utf8_all, IsUtf8}
 use Rattle.syslog_pieces.specs.Pieces.Class.{Text}
+use Rattle.syslog_pieces.specs.StructuredData.Escapes.{IsUnescaped}
 use Rattle.syslog_pieces.specs.Timestamp.Zone.{Dating}
 use Rattle.syslog_loose.specs.Message.{MessageValue}
 use Rattle.syslog_loose.specs.Printed.{printed}
@@ -39,3 +40,18 @@ Normalised variant dating text old new needed Done = (bytes : List ℕ) × IsPri
 Normalised variant dating text old new needed NoRoom = (bytes : List ℕ) × IsPrintedLine variant dating text bytes × Puts bytes old new needed NoRoom
 Normalised variant dating text old new needed NotUtf8 = ⊥
 Normalised variant dating text old new needed BadArgument = ⊥
+
+-- these bytes spell the value without its escapes
+pub record IsUnescapedValue (value bytes : List ℕ) : Type 0 where
+  pub value_utf8 : IsUtf8 value
+  pub utf8 : IsUtf8 bytes
+  pub unescaped : IsUnescaped (chars value) (chars bytes)
+
+-- them, in the room or with their length alone; or the value is no UTF-8, or memory was refused, and all is left
+abbrev pub Unescaped : List ℕ → List ℕ → List ℕ → ℕ → Outcome → Type 0
+Unescaped value old new needed Done = (bytes : List ℕ) × IsUnescapedValue value bytes × Puts bytes old new needed Done
+Unescaped value old new needed NoRoom = (bytes : List ℕ) × IsUnescapedValue value bytes × Puts bytes old new needed NoRoom
+Unescaped value old new needed NotUtf8 = (IsUtf8 value → ⊥) × IsLeft old new needed
+Unescaped value old new needed NoMemory = IsUtf8 value × IsLeft old new needed
+Unescaped value old new needed NoReading = ⊥
+Unescaped value old new needed BadArgument = ⊥

@@ -13,4 +13,5 @@ mod room;
 mod rules;
 mod settle;
 mod tell;
+mod unescape;
 mod version;

@@ -23,6 +23,7 @@ mod walk;
 
 use crate::as_str::AsStr;
 pub use element::read_element;
+pub use escapes::unescape;
 pub use kept::kept_list;
 pub use list::forgiving_list;
 pub use params::ParamsIter;

@@ -32,10 +32,10 @@ fn push_pair(out: &mut String, c: char) -> Result<(), AllocError>
     push_char(out, c)
 }
 
-// The value with its escapes removed: `\n` gives a line feed, `\"`, `\]` and `\\` give their second character, any
-// other pair stays, and a lone last backslash is dropped (RFC 5424 section 6.3.3; the line feed and the lone backslash
-// are the crate's own). An `Err` is only for memory.
-pub(super) fn unescape(alloc: Global, value: &str) -> Result<String, AllocError>
+/// The value of a parameter with its escapes removed: `\n` gives a line feed, `\"`, `\]` and `\\` give their second
+/// character, any other pair stays, and a lone last backslash is dropped (RFC 5424 section 6.3.3; the line feed and the
+/// lone backslash are the crate's own). An `Err` is only for memory.
+pub fn unescape(alloc: Global, value: &str) -> Result<String, AllocError>
     ensures { IfOk result (λ unescaped. IsUnescaped (chars value.now) (chars (string_bytes unescaped))) }
 {
     let mut out = String::new(alloc);

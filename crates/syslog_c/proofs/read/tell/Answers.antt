@@ -12,7 +12,7 @@ put_all_params-requires c =
     let bound : length c.args.params.now < 2 ^ 64 - 1 = omega arith in
     let fits : c.fields_of.result.params ≤ length c.args.params.now = omega arith in
     subst (λ (es : List (StructuredElement (Bor (List ℕ)))). length (flat_map (λ e. e.params.items) es) ≤ length c.args.params.now) (sym c.deref-2.ensures.value)
-        (params_fit (λ s. shown s) _ _ _ c.fields_of.ensures.params fits bound)
+        (params_fit (λ s. shown s) c.args.message.now.structured_data.items _ _ c.fields_of.ensures.params fits bound)
 
 pub returns : goal.returns
 returns c =
