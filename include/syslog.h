@@ -1,0 +1,142 @@
+/* syslog.h: syslog messages of RFC 5424 and of the looser RFC 3164, read and printed.
+ *
+ * The library is crates/syslog_c/out/libsyslog_c.a, for 64-bit Linux; link it with the toolchain's liblibc_c.a, which
+ * asks the program's malloc, realloc and free for memory. It has no state: no call frees or keeps anything of the
+ * caller's, none leaves anything to be freed, and threads may call it at once. Don't call it from a signal handler, nor
+ * in the forked child of a process with threads.
+ *
+ * What each call owes its caller is proved from its code, but not what the caller owes the call:
+ *   - No pointer is null, also where its length is 0.
+ *   - A pointer with a length n points to n bytes (or n structs), and any other one to one value; n is below 2^63 bytes.
+ *   - What a call writes to overlaps nothing else that it is given, and no other thread touches it meanwhile.
+ *   - Each syslog_message, syslog_element and syslog_param is set before the first call, by SYSLOG_MESSAGE_INIT and the
+ *     like or by an earlier call. (No call looks at what stands there.)
+ *   - The texts of a message lie in the line: they last as long as its bytes do, unchanged.
+ */
+#ifndef SYSLOG_H
+#define SYSLOG_H
+
+#include <stddef.h>
+#include <stdint.h>
+
+#ifdef __cplusplus
+extern "C" {
+#endif
+
+/* 1,000,000 for each major version, 1,000 for each minor one. syslog_version tells that of the library. */
+#define SYSLOG_VERSION 1000
+uint32_t syslog_version(void);
+
+/* What a call comes to. */
+enum syslog_outcome {
+    SYSLOG_DONE = 0,         /* all of the answer is there */
+    SYSLOG_NO_READING = 1,   /* the line is no message (syslog_settle: or one of the texts that it prints is none) */
+    SYSLOG_NOT_UTF8 = 2,     /* the bytes are no UTF-8 */
+    SYSLOG_NO_MEMORY = 3,    /* a request for memory was refused */
+    SYSLOG_NO_ROOM = 4,      /* the answer takes more room than there is: see what is needed */
+    SYSLOG_BAD_ARGUMENT = 5  /* one of the options is out of its range */
+};
+
+/* How a line is read. { .year = 2026 } reads both protocols, in that year and in UTC. */
+struct syslog_options {
+    uint32_t variant; /* 0: either protocol, RFC 5424 first; 3164 or 5424: that one */
+    int32_t year;     /* of dates that show none, from -9999 to 9999 */
+    uint32_t month;   /* 0: all of these are of that year; 1 to 12: it is this month of that year, and in January a date
+                         of December is of the year before */
+    int32_t offset;   /* seconds by which dates without an offset are ahead of UTC, from -93599 to 93599 */
+};
+
+/* A piece of the line, in UTF-8 and with no zero byte behind it. An absent one has the length 0. */
+struct syslog_text {
+    const char *start;
+    size_t length;
+    uint32_t present; /* 1, or 0 for an absent one */
+};
+
+/* All are 0 for an absent one. */
+struct syslog_timestamp {
+    int64_t seconds;     /* since 1970-01-01T00:00:00Z, rounded toward zero */
+    int32_t nanoseconds; /* beyond these; below 0 only before 1970 */
+    int32_t offset;      /* seconds by which the clock that showed it is ahead of UTC */
+    uint32_t present;    /* 1, or 0 for an absent one */
+};
+
+/* A number, a name, or neither. */
+struct syslog_process {
+    struct syslog_text name;
+    int32_t number;
+    uint32_t is_number; /* 1 for a number, which else is 0 */
+};
+
+struct syslog_message {
+    uint32_t protocol; /* 3164 or 5424 */
+    uint32_t version;  /* of RFC 5424, and else 0 */
+    int32_t facility;  /* 0 to 23, or -1 for an absent one */
+    int32_t severity;  /* 0 (emergency) to 7 (debug), or -1 for an absent one */
+    struct syslog_timestamp timestamp;
+    struct syslog_text host;
+    struct syslog_text app;
+    struct syslog_process process;
+    struct syslog_text msgid;
+    struct syslog_text msg;
+    size_t elements; /* how many elements of structured data there are */
+    size_t params;   /* how many parameters these have together */
+};
+
+/* An element of structured data. Its parameters stand behind those of the elements before it. */
+struct syslog_element {
+    struct syslog_text id;
+    size_t params;
+};
+
+/* A parameter. The value is as it stands in the line: syslog_unescape takes its escapes out. */
+struct syslog_param {
+    struct syslog_text name;
+    struct syslog_text value;
+};
+
+#define SYSLOG_TEXT_INIT { "", 0, 0 }
+#define SYSLOG_MESSAGE_INIT \
+    { 0, 0, 0, 0, { 0, 0, 0, 0 }, SYSLOG_TEXT_INIT, SYSLOG_TEXT_INIT, { SYSLOG_TEXT_INIT, 0, 0 }, SYSLOG_TEXT_INIT, \
+      SYSLOG_TEXT_INIT, 0, 0 }
+#define SYSLOG_ELEMENT_INIT { SYSLOG_TEXT_INIT, 0 }
+#define SYSLOG_PARAM_INIT { SYSLOG_TEXT_INIT, SYSLOG_TEXT_INIT }
+
+/* Reads a line: its fields into the message, and its elements and their parameters, in order, into the two arrays.
+ *
+ * SYSLOG_DONE: all of it is there, and what is behind in the arrays is as it was.
+ * SYSLOG_NO_ROOM: the message is there, with the numbers that are needed; one of the arrays is too small, and both are as
+ *   they were. (To skip structured data, hand in two arrays with the lengths 0, and take this for an answer.)
+ * Any other: the message and the arrays are as they were. SYSLOG_NO_MEMORY only where the line has elements.
+ */
+uint32_t syslog_read(const char *line, size_t length, const struct syslog_options *options, struct syslog_message *message,
+                     struct syslog_element *elements, size_t element_room, struct syslog_param *params, size_t param_room);
+
+/* The three that follow write a text to the beginning of the room, and its length to needed.
+ *
+ * SYSLOG_DONE: it is there, with no zero byte behind it, and the rest of the room is as it was.
+ * SYSLOG_NO_ROOM: needed has its length, and the room, which is shorter, is as it was.
+ * Any other: needed is 0, and the room is as it was.
+ */
+
+/* The line in printed form: each message has one. It may be longer than the line. */
+uint32_t syslog_normalise(const char *line, size_t length, const struct syslog_options *options, char *room,
+                          size_t room_length, size_t *needed);
+
+/* The same, printed again and again until it no longer changes, so that it is read as it stands from then on. */
+uint32_t syslog_settle(const char *line, size_t length, const struct syslog_options *options, char *room,
+                       size_t room_length, size_t *needed);
+
+/* The value of a parameter without its escapes: \n is a line feed, \" and \] and \\ are their second character, any other
+ * pair stays, and a lone backslash at the end is dropped. It is no longer than the value. */
+uint32_t syslog_unescape(const char *value, size_t length, char *room, size_t room_length, size_t *needed);
+
+/* Whether the line's message is read back from its printed form as the very same one: canonical is 1 then, and else 0, as
+ * it is where the line has no message. */
+uint32_t syslog_is_canonical(const char *line, size_t length, const struct syslog_options *options, uint32_t *canonical);
+
+#ifdef __cplusplus
+}
+#endif
+
+#endif

@@ -1,0 +1,290 @@
+/* Tries the library for C at its edges, on each line of standard input: arrays and rooms of each size from 0 to one more
+ * than is needed, wrong arguments, bytes that are no UTF-8, and four threads at once.
+ *
+ *   c_edges            all of these
+ *   c_edges LINE       each call once, on this line: a refusal of memory leaves all as it was. Status 4 where one was
+ *                      refused, and 0 where none was. (It asks for no memory itself.)
+ *
+ * A call that breaks what syslog.h says ends the program, by its line in this file.
+ */
+#include "syslog.h"
+
+#include <pthread.h>
+#include <stdio.h>
+#include <stdlib.h>
+#include <string.h>
+
+#define CHECK(holds)                                                  \
+    do {                                                              \
+        if (!(holds)) {                                               \
+            fprintf(stderr, "c_edges: line %d: %s\n", __LINE__, #holds); \
+            abort();                                                  \
+        }                                                             \
+    } while (0)
+
+enum { LINES = 200, MOST = 64, ROOM = 4096 };
+
+static const struct syslog_options OPTIONS = { 0, 2026, 0, 0 };
+static const char STOOD[] = "what stood here before";
+
+static struct syslog_text stood(void)
+{
+    return (struct syslog_text){ STOOD, sizeof STOOD - 1, 9 };
+}
+
+static int same_text(const struct syslog_text *one, const struct syslog_text *other)
+{
+    return one->start == other->start && one->length == other->length && one->present == other->present;
+}
+
+/* The arrays with one thing behind their last one, and the message. */
+struct place {
+    struct syslog_message message;
+    struct syslog_element elements[MOST + 2];
+    struct syslog_param params[MOST + 2];
+};
+
+static void set(struct place *place)
+{
+    memset(place, 0, sizeof *place);
+    place->message = (struct syslog_message){ .protocol = 7, .host = stood(), .app = stood(), .process = { .name = stood() },
+                                              .msgid = stood(), .msg = stood(), .elements = 77, .params = 78 };
+    for (size_t i = 0; i < MOST + 2; i++) {
+        place->elements[i].id = stood();
+        place->params[i].name = place->params[i].value = stood();
+    }
+}
+
+static int is_set(const struct place *place)
+{
+    const struct syslog_message *it = &place->message;
+    struct syslog_text text = stood();
+    return it->protocol == 7 && it->version == 0 && it->facility == 0 && it->severity == 0 && !it->timestamp.present
+        && same_text(&it->host, &text) && same_text(&it->app, &text) && same_text(&it->process.name, &text)
+        && same_text(&it->msgid, &text) && same_text(&it->msg, &text) && it->elements == 77 && it->params == 78;
+}
+
+/* How many of each stand there. */
+static size_t elements_put(const struct place *place)
+{
+    struct syslog_text text = stood();
+    size_t put = 0;
+    while (put < MOST + 2 && !same_text(&place->elements[put].id, &text))
+        put++;
+    for (size_t i = put; i < MOST + 2; i++)
+        CHECK(same_text(&place->elements[i].id, &text) && place->elements[i].params == 0);
+    return put;
+}
+
+static size_t params_put(const struct place *place)
+{
+    struct syslog_text text = stood();
+    size_t put = 0;
+    while (put < MOST + 2 && !same_text(&place->params[put].name, &text))
+        put++;
+    for (size_t i = put; i < MOST + 2; i++)
+        CHECK(same_text(&place->params[i].name, &text) && same_text(&place->params[i].value, &text));
+    return put;
+}
+
+static void each_array(const char *line, size_t length)
+{
+    static struct place whole, place;
+    set(&whole);
+    uint32_t outcome = syslog_read(line, length, &OPTIONS, &whole.message, whole.elements, MOST, whole.params, MOST);
+    if (outcome != SYSLOG_DONE) {
+        CHECK(outcome == SYSLOG_NO_READING && is_set(&whole) && !elements_put(&whole) && !params_put(&whole));
+        return;
+    }
+    size_t elements = whole.message.elements, params = whole.message.params;
+    CHECK(elements_put(&whole) == elements && params_put(&whole) == params);
+    for (size_t i = 0; i <= elements + 1; i++)
+        for (size_t k = 0; k <= params + 1; k++) {
+            set(&place);
+            outcome = syslog_read(line, length, &OPTIONS, &place.message, place.elements, i, place.params, k);
+            int fits = i >= elements && k >= params;
+            CHECK(outcome == (fits ? SYSLOG_DONE : SYSLOG_NO_ROOM));
+            CHECK(place.message.elements == elements && place.message.params == params);
+            CHECK(same_text(&place.message.msg, &whole.message.msg) && same_text(&place.message.host, &whole.message.host));
+            CHECK(elements_put(&place) == (fits ? elements : 0) && params_put(&place) == (fits ? params : 0));
+            for (size_t n = 0; fits && n < elements; n++)
+                CHECK(same_text(&place.elements[n].id, &whole.elements[n].id) && place.elements[n].params == whole.elements[n].params);
+            for (size_t n = 0; fits && n < params; n++)
+                CHECK(same_text(&place.params[n].name, &whole.params[n].name)
+                      && same_text(&place.params[n].value, &whole.params[n].value));
+        }
+}
+
+typedef uint32_t writer(const char *, size_t, char *, size_t, size_t *);
+
+static uint32_t normalise(const char *line, size_t length, char *room, size_t size, size_t *needed)
+{
+    return syslog_normalise(line, length, &OPTIONS, room, size, needed);
+}
+
+static uint32_t settle(const char *line, size_t length, char *room, size_t size, size_t *needed)
+{
+    return syslog_settle(line, length, &OPTIONS, room, size, needed);
+}
+
+static void each_room(writer *write, const char *line, size_t length)
+{
+    static char whole[ROOM], room[ROOM + 1], stood_here[ROOM + 1];
+    memset(stood_here, '#', sizeof stood_here);
+    memset(whole, '#', sizeof whole);
+    size_t needed = 77, again;
+    uint32_t outcome = write(line, length, whole, ROOM, &needed);
+    if (outcome != SYSLOG_DONE) {
+        CHECK(outcome == SYSLOG_NO_READING && needed == 0 && !memcmp(whole, stood_here, ROOM));
+        return;
+    }
+    CHECK(!memcmp(whole + needed, stood_here, ROOM - needed));
+    for (size_t size = 0; size <= needed + 1; size++) {
+        memset(room, '#', sizeof room);
+        again = 77;
+        outcome = write(line, length, room, size, &again);
+        CHECK(again == needed && outcome == (size >= needed ? SYSLOG_DONE : SYSLOG_NO_ROOM));
+        if (size >= needed)
+            CHECK(!memcmp(room, whole, needed) && !memcmp(room + needed, stood_here, sizeof room - needed));
+        else
+            CHECK(!memcmp(room, stood_here, sizeof room));
+    }
+}
+
+/* A call that refuses its arguments or its line leaves all as it was. */
+static void refused(const char *line, size_t length, const struct syslog_options *options, uint32_t code)
+{
+    static struct place place;
+    char room[8] = "#######";
+    size_t needed = 77;
+    uint32_t canonical = 77;
+    set(&place);
+    CHECK(syslog_read(line, length, options, &place.message, place.elements, MOST, place.params, MOST) == code);
+    CHECK(is_set(&place) && !elements_put(&place) && !params_put(&place));
+    CHECK(syslog_normalise(line, length, options, room, sizeof room, &needed) == code && needed == 0);
+    needed = 77;
+    CHECK(syslog_settle(line, length, options, room, sizeof room, &needed) == code && needed == 0);
+    CHECK(!strcmp(room, "#######"));
+    CHECK(syslog_is_canonical(line, length, options, &canonical) == code && canonical == 0);
+}
+
+static void wrong_arguments(void)
+{
+    static const char line[] = "1 - - - - - [a b=\"c\"] x", latin[] = "1 - - - - - - gr\xfc\xdf";
+    static const struct syslog_options wrong[] = {
+        { 1, 2026, 0, 0 },     { 5425, 2026, 0, 0 },   { 0, -10000, 0, 0 },         { 0, 10000, 0, 0 },
+        { 0, INT32_MIN, 1, 0 }, { 0, INT32_MAX, 0, 0 }, { 0, 2026, 13, 0 },          { 0, 2026, UINT32_MAX, 0 },
+        { 0, 2026, 0, 93600 },  { 0, 2026, 0, -93600 }, { 0, 2026, 0, INT32_MIN }, { 3163, 2026, 0, 0 },
+    };
+    for (size_t i = 0; i < sizeof wrong / sizeof *wrong; i++) {
+        refused(line, sizeof line - 1, &wrong[i], SYSLOG_BAD_ARGUMENT);
+        refused(latin, sizeof latin - 1, &wrong[i], SYSLOG_BAD_ARGUMENT);
+    }
+    static const struct syslog_options right[] = {
+        { 0, -9999, 1, -93599 }, { 5424, 9999, 12, 93599 }, { 3164, 0, 0, 0 },
+    };
+    for (size_t i = 0; i < sizeof right / sizeof *right; i++)
+        refused(latin, sizeof latin - 1, &right[i], SYSLOG_NOT_UTF8);
+    refused("gobbledegook", 12, &OPTIONS, SYSLOG_NO_READING);
+    refused("", 0, &OPTIONS, SYSLOG_NO_READING);
+    char room[8] = "#######";
+    size_t needed = 77;
+    CHECK(syslog_unescape(latin, sizeof latin - 1, room, sizeof room, &needed) == SYSLOG_NOT_UTF8 && needed == 0);
+    CHECK(!strcmp(room, "#######"));
+}
+
+static void values(void)
+{
+    static const char *const rows[][2] = {
+        { "", "" },           { "a\\nb", "a\nb" }, { "\\\"\\]\\\\", "\"]\\" }, { "\\a", "\\a" },
+        { "lone\\", "lone" }, { "\\\\n", "\\n" },  { "gr\xc3\xbc\xc3\x9f", "gr\xc3\xbc\xc3\x9f" },
+    };
+    for (size_t i = 0; i < sizeof rows / sizeof *rows; i++) {
+        char room[32];
+        size_t needed = 77;
+        CHECK(syslog_unescape(rows[i][0], strlen(rows[i][0]), room, sizeof room, &needed) == SYSLOG_DONE);
+        CHECK(needed == strlen(rows[i][1]) && !memcmp(room, rows[i][1], needed));
+        each_room(syslog_unescape, rows[i][0], strlen(rows[i][0]));
+    }
+}
+
+static char *lines[LINES];
+static size_t lines_read;
+
+/* A sum over what is read of each line, many times over. */
+static void *sum_of_lines(void *sum)
+{
+    static _Thread_local struct place place;
+    uint64_t total = 0;
+    set(&place);
+    for (int round = 0; round < 200; round++)
+        for (size_t i = 0; i < lines_read; i++) {
+            char room[ROOM];
+            size_t needed;
+            uint32_t outcome = syslog_read(lines[i], strlen(lines[i]), &OPTIONS, &place.message, place.elements, MOST, place.params, MOST);
+            total = total * 31 + outcome + place.message.host.length + place.message.msg.length + (uint64_t)place.message.timestamp.seconds;
+            total = total * 31 + syslog_settle(lines[i], strlen(lines[i]), &OPTIONS, room, sizeof room, &needed) + needed;
+        }
+    *(uint64_t *)sum = total;
+    return NULL;
+}
+
+static void threads(void)
+{
+    uint64_t alone, sums[4];
+    pthread_t ids[4];
+    sum_of_lines(&alone);
+    for (int i = 0; i < 4; i++)
+        CHECK(!pthread_create(&ids[i], NULL, sum_of_lines, &sums[i]));
+    for (int i = 0; i < 4; i++)
+        CHECK(!pthread_join(ids[i], NULL) && sums[i] == alone);
+}
+
+/* Each call once. */
+static int with_memory_refused(const char *line)
+{
+    static struct place place;
+    static char room[ROOM];
+    size_t length = strlen(line), needed = 77;
+    uint32_t canonical = 77, code;
+    int seen = 0;
+    set(&place);
+    code = syslog_read(line, length, &OPTIONS, &place.message, place.elements, MOST, place.params, MOST);
+    CHECK(code == SYSLOG_DONE || (code == SYSLOG_NO_MEMORY && is_set(&place) && !elements_put(&place) && !params_put(&place)));
+    seen |= code == SYSLOG_NO_MEMORY;
+    writer *calls[] = { normalise, settle, syslog_unescape };
+    for (int i = 0; i < 3; i++) {
+        memset(room, 0, sizeof room);
+        code = calls[i](line, length, room, sizeof room, &needed);
+        CHECK(code == SYSLOG_DONE ? needed == strlen(room) : code == SYSLOG_NO_MEMORY && needed == 0 && !room[0]);
+        seen |= code == SYSLOG_NO_MEMORY;
+    }
+    code = syslog_is_canonical(line, length, &OPTIONS, &canonical);
+    CHECK(code == SYSLOG_DONE ? canonical <= 1 : code == SYSLOG_NO_MEMORY && canonical == 0);
+    seen |= code == SYSLOG_NO_MEMORY;
+    return seen ? 4 : 0;
+}
+
+int main(int count, char **words)
+{
+    if (count > 1)
+        return with_memory_refused(words[1]);
+    char text[ROOM];
+    while (lines_read < LINES && fgets(text, sizeof text, stdin)) {
+        text[strcspn(text, "\n")] = 0;
+        lines[lines_read++] = strdup(text);
+    }
+    CHECK(lines_read > 0);
+    for (size_t i = 0; i < lines_read; i++) {
+        each_array(lines[i], strlen(lines[i]));
+        each_room(normalise, lines[i], strlen(lines[i]));
+        each_room(settle, lines[i], strlen(lines[i]));
+    }
+    wrong_arguments();
+    values();
+    threads();
+    for (size_t i = 0; i < lines_read; i++)
+        free(lines[i]);
+    printf("%zu lines\n", lines_read);
+    return 0;
+}
