@@ -2,7 +2,8 @@
  *
  *   c_fields VARIANT YEAR MONTH OFFSET [nul]      nul: a zero byte ends a line, and not a line feed
  *
- * Each line, each array and each room has exactly the bytes that the call is told of, so that a sanitizer sees one more.
+ * Each line, each array and each room ends where a page does that can't be read or written, so that a call which goes past
+ * one ends the program.
  * The status is 3 where an answer isn't as syslog.h says: a text outside of its line, or a number that is not what was
  * needed.
  */
@@ -11,6 +12,8 @@
 #include <stdio.h>
 #include <stdlib.h>
 #include <string.h>
+#include <sys/mman.h>
+#include <unistd.h>
 
 static const char *begin, *end; /* of the line */
 
@@ -20,12 +23,20 @@ static void fault(const char *what)
     exit(3);
 }
 
+/* So many bytes before a page that can't be touched. */
 static void *room_of(size_t size)
 {
-    void *room = malloc(size ? size : 1);
-    if (!room)
+    size_t page = (size_t)sysconf(_SC_PAGESIZE), whole = (size + page - 1) / page * page;
+    char *room = mmap(NULL, whole + page, PROT_READ | PROT_WRITE, MAP_PRIVATE | MAP_ANONYMOUS, -1, 0);
+    if (room == MAP_FAILED || mprotect(room + whole, page, PROT_NONE))
         fault("no memory");
-    return room;
+    return room + whole - size;
+}
+
+static void give_back(void *room, size_t size)
+{
+    size_t page = (size_t)sysconf(_SC_PAGESIZE), whole = (size + page - 1) / page * page;
+    munmap((char *)room + size - whole, whole + page);
 }
 
 static void print_bytes(const char *bytes, size_t length)
@@ -78,7 +89,7 @@ static void print_written(const char *key, writer *write, const struct syslog_op
     if (write(begin, (size_t)(end - begin), options, room, needed, &again) != SYSLOG_DONE || again != needed)
         fault("the room that was asked for is not enough");
     print_bytes(room, needed);
-    free(room);
+    give_back(room, needed);
 }
 
 static void print_value(const struct syslog_text *value)
@@ -89,7 +100,7 @@ static void print_value(const struct syslog_text *value)
         fault("a value is longer without its escapes");
     printf(",\"plain\":");
     print_bytes(room, needed);
-    free(room);
+    give_back(room, value->length);
 }
 
 static void print_elements(const struct syslog_message *message, const struct syslog_element *elements,
@@ -170,8 +181,10 @@ static void print_line(const struct syslog_options *options)
     print_written("printed", syslog_normalise, options);
     print_written("settled", syslog_settle, options);
     printf("}\n");
-    if (elements != &element)
-        free(elements), free(params);
+    if (elements != &element) {
+        give_back(elements, message.elements * sizeof *elements);
+        give_back(params, message.params * sizeof *params);
+    }
 }
 
 int main(int count, char **words)
@@ -188,7 +201,7 @@ int main(int count, char **words)
         memcpy(line, text, length);
         begin = line, end = line + length;
         print_line(&options);
-        free(line);
+        give_back(line, length);
     }
     free(text);
     return fflush(stdout) || ferror(stdin) ? 1 : 0;
