@@ -26,9 +26,10 @@ pub begun_next : {A B : Type 0} (R : A → B → Type 0) (xs old : List A) (ys :
     → AllZip R (take i xs) (take i ys) → drop i xs ≡ drop i old → R x (get_or ys i d)
     → AllZip R (take (i + 1) (set xs i x)) (take (i + 1) ys) × (drop (i + 1) (set xs i x) ≡ drop (i + 1) old)
 begun_next R xs old ys i x d l m z e r =
-    let below : i < i + 1 = omega arith in
-    (rw (take_more_set xs i x l) (rw (take_next ys i d m) (zip_append R (take i xs) (x ∷ []) (take i ys) (get_or ys i d ∷ []) z (r, tt))),
-     drop-set-lt (i + 1) xs i x below ∙ drop_next xs old i 1 e)
+    let below : i < i + 1 = omega arith in (
+      rw (take_more_set xs i x l) (rw (take_next ys i d m) (zip_append R (take i xs) (x ∷ []) (take i ys) (get_or ys i d ∷ []) z (r, tt))),
+      drop-set-lt (i + 1) xs i x below ∙ drop_next xs old i 1 e,
+    )
 
 take_past : {A : Type 0} (p q : List A) (n m : ℕ) → m ≡ length p + n → take m (p ++ q) ≡ p ++ take n q
 take_past [] q n m e = let same : m ≡ n = omega arith in ap (λ k. take k q) same
@@ -52,8 +53,8 @@ begun_part {A = A} {B = B} R f xs sub old es e i at n lt is counted before fits 
     let p = take at xs in
     let post = post_of at (length xs - at) xs in
     let front : flat_map f (take (i + 1) es) ≡ flat_map f (take i es) ++ f e =
-        ap (flat_map f) (take_more es i e lt) ∙ flat_map-append f (take i es) (get_or es i e ∷ [])
-        ∙ ap (λ l. flat_map f (take i es) ++ l) (append-nil (f (get_or es i e)) ∙ ap f (sym is)) in
+    ap (flat_map f) (take_more es i e lt) ∙ flat_map-append f (take i es) (get_or es i e ∷ [])
+    ∙ ap (λ l. flat_map f (take i es) ++ l) (append-nil (f (get_or es i e)) ∙ ap f (sym is)) in
     let rest : drop i es ≡ e ∷ drop (i + 1) es = rw add-one (drop-cons es i e lt ∙ ap (λ x. x ∷ drop (suc i) es) (sym is)) in
     let long_front : length (flat_map f (take (i + 1) es)) ≡ length (flat_map f (take i es)) + length (f e) = ap length front ∙ length-append _ _ in
     let long_rest : length (flat_map f (drop i es)) ≡ length (f e) + length (flat_map f (drop (i + 1) es)) = ap (λ l. length (flat_map f l)) rest ∙ length-append _ _ in
@@ -64,17 +65,19 @@ begun_part {A = A} {B = B} R f xs sub old es e i at n lt is counted before fits 
     let long_sub : length sub ≡ length xs - at = same ∙ (ap length mid ∙ length-drop at xs) in
     let short : n ≤ length sub = omega arith in
     let taken : take (at + n) (p ++ (sub ++ post)) ≡ p ++ take n sub =
-        take_past p (sub ++ post) n (at + n) (omega arith)
-        ∙ ap (λ l. p ++ l) (take-append-le n sub post short) in
+    take_past p (sub ++ post) n (at + n) (omega arith)
+    ∙ ap (λ l. p ++ l) (take-append-le n sub post short) in
     let begins : AllZip R (take n sub) (f e) = subst (λ (m : ℕ). AllZip R (take m sub) (f e)) (sym counted) begun.begins in
     let none : post ≡ [] = drop_of_length-le (drop at xs) {i = length xs - at} (let l = length-drop at xs in omega arith) in
     let stays : drop n sub ≡ drop n (drop at xs) = subst (λ (m : ℕ). drop m sub ≡ drop m (mid_of at (length xs - at) xs)) (sym counted) begun.behind ∙ ap (drop n) mid in
     let dropped : drop (at + n) (p ++ (sub ++ post)) ≡ drop n (drop at xs) =
-        drop_past p (sub ++ post) n (at + n) (omega arith)
-        ∙ drop-append-le n sub post short ∙ ap (λ l. l ++ post) stays ∙ ap (λ l. drop n (drop at xs) ++ l) none ∙ append-nil _ in
-    (omega arith, omega arith,
-     subst (λ (l : List B). AllZip R (take (at + n) (p ++ (sub ++ post))) l) (sym front) (subst (λ (l : List A). AllZip R l (flat_map f (take i es) ++ f e)) (sym taken) (zip_append R p (take n sub) (flat_map f (take i es)) (f e) zip begins)),
-     dropped ∙ drop-drop n at xs ∙ drop_next xs old at n behind)
+    drop_past p (sub ++ post) n (at + n) (omega arith)
+    ∙ drop-append-le n sub post short ∙ ap (λ l. l ++ post) stays ∙ ap (λ l. drop n (drop at xs) ++ l) none ∙ append-nil _ in (
+      omega arith,
+      omega arith,
+      subst (λ (l : List B). AllZip R (take (at + n) (p ++ (sub ++ post))) l) (sym front) (subst (λ (l : List A). AllZip R l (flat_map f (take i es) ++ f e)) (sym taken) (zip_append R p (take n sub) (flat_map f (take i es)) (f e) zip begins)),
+      dropped ∙ drop-drop n at xs ∙ drop_next xs old at n behind,
+    )
 
 -- ---- what is told of values through a view
 
@@ -89,7 +92,7 @@ begun_map R f ys old new b =
     let long : length (map f ys) ≡ length ys = length-map ys f in
     record {
       begins = subst (λ (m : ℕ). AllZip R (take m new) (map f ys)) (sym long) (zip_map R f (take (length ys) new) ys b.begins);
-      behind = subst (λ (m : ℕ). drop m new ≡ drop m old) (sym long) b.behind
+      behind = subst (λ (m : ℕ). drop m new ≡ drop m old) (sym long) b.behind;
     }
 
 pub all_params_map : {S : Type 0} (text : S → Text) (es : List (StructuredElement S)) → all_params (map (element_value text) es) ≡ map (param_value text) (flat_map (λ e. e.params.items) es)

@@ -17,27 +17,27 @@ pub tried_line : (Holds : Variant → Dating → Text → Type 0) (options : Opt
     → options.variant ≡ variant_number variant → AreInRange options → IsZoneAt options.offset zone → bytes ≡ line → IsUtf8 line
     → InYear (IsReckoned options) variant (chars bytes) (λ year. Holds variant (dating_in zone year) (chars bytes)) → IsTried options line Holds
 tried_line Holds options line bytes variant zone named in_range ahead same utf8 holds = record {
-    variant = variant;
-    zone = zone;
-    named = named;
-    in_range = in_range;
-    ahead = ahead;
-    utf8 = utf8;
-    holds = subst (λ (bs : List ℕ). InYear (IsReckoned options) variant (chars bs) (λ year. Holds variant (dating_in zone year) (chars bs))) same holds
-  }
+  variant = variant;
+  zone = zone;
+  named = named;
+  in_range = in_range;
+  ahead = ahead;
+  utf8 = utf8;
+  holds = subst (λ (bs : List ℕ). InYear (IsReckoned options) variant (chars bs) (λ year. Holds variant (dating_in zone year) (chars bs))) same holds;
+}
 
 -- what holds of a line that is read holds of one that is read so
 pub tried_map : {Holds More : Variant → Dating → Text → Type 0} (options : Options) (line : List ℕ) → ((variant : Variant) (dating : Dating) (text : Text) → Holds variant dating text → More variant dating text)
     → IsTried options line Holds → IsTried options line More
 tried_map options line f t = record {
-    variant = t.variant;
-    zone = t.zone;
-    named = t.named;
-    in_range = t.in_range;
-    ahead = t.ahead;
-    utf8 = t.utf8;
-    holds = in_year_map (λ year h. f _ _ _ h) t.holds
-  }
+  variant = t.variant;
+  zone = t.zone;
+  named = t.named;
+  in_range = t.in_range;
+  ahead = t.ahead;
+  utf8 = t.utf8;
+  holds = in_year_map (λ year h. f _ _ _ h) t.holds;
+}
 
 pub on_line_map : {Left Other : Type 0} {Holds More : Variant → Dating → Text → Type 0} (options : Options) (line : List ℕ) (outcome : Outcome) → (Left → Other)
     → ((variant : Variant) (dating : Dating) (text : Text) → Holds variant dating text → More variant dating text) → OnLine options line outcome Left Holds → OnLine options line outcome Other More

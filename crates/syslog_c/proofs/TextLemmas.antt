@@ -48,8 +48,8 @@ printed_put variant dating text old new bytes needed s BadArgument p = absurd p
 
 pub printed_answer : (variant : Variant) (dating : Dating) (text : Text) (old new : List ℕ) (needed : ℕ) (outcome : Outcome) (answer : Result (String Global) ParseFault)
     → MatchResult answer
-        (λ u. (m : MessageValue) × IsOnlyRead variant dating text m × (string_bytes u ≡ encode_utf8_all (printed m)))
-        (λ fault. (fault ≡ Invalid) ↔ IsUnreadable variant dating text)
+    (λ u. (m : MessageValue) × IsOnlyRead variant dating text m × (string_bytes u ≡ encode_utf8_all (printed m)))
+    (λ fault. (fault ≡ Invalid) ↔ IsUnreadable variant dating text)
     → MatchResult answer (λ u. Puts (string_bytes u) old new needed outcome) (λ fault. IsLeftFor fault old new needed outcome)
     → Normalised variant dating text old new needed outcome
 printed_answer variant dating text old new needed outcome (Ok u) s p = printed_put variant dating text old new (string_bytes u) needed s outcome p

@@ -1,7 +1,6 @@
 -- What C gets of a message, over the message as a value.
-use Rattle.std.specs.Prelude.{◌≡◌, ◌⊎◌, ℕ, ℤ, pos, negsuc, ◌<◌, ◌^◌, ◌-◌, min, List, [], length, take, drop, Option, None, Some, int_div, int_rem}
+use Rattle.std.specs.Prelude.{◌≡◌, ℕ, ℤ, pos, negsuc, ◌^◌, ◌-◌, min, List, [], length, take, drop, Option, None, Some, int_div, int_rem}
 use Rattle.std.specs.List.{AllZip, flat_map}
-use Rattle.std.specs.Option.{option_map_or}
 use Rattle.std.specs.Str.{chars, IsUtf8}
 use Rattle.syslog_pieces.specs.Pieces.Class.{Text as Chars}
 use Rattle.syslog_pieces.specs.Pri.{facility_number, severity_number}

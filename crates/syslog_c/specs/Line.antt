@@ -26,8 +26,8 @@ pub record IsTried (options : Options) (line : List ℕ) (Holds : Variant → Da
 abbrev pub OnLine : Options → List ℕ → Outcome → Type 0 → (Variant → Dating → Text → Type 0) → Type 0
 OnLine options line outcome IsLeft Holds =
     ((outcome ≡ BadArgument) × (IsTaken options → ⊥) × IsLeft)
-  ⊎ (((outcome ≡ NotUtf8) × IsTaken options × (IsUtf8 line → ⊥) × IsLeft)
-  ⊎ IsTried options line Holds)
+    ⊎ (((outcome ≡ NotUtf8) × IsTaken options × (IsUtf8 line → ⊥) × IsLeft)
+    ⊎ IsTried options line Holds)
 
 -- why there is no message to tell of: the text has no reading, or memory was refused, for elements
 abbrev pub Refuses : Variant → Dating → Text → Outcome → Type 0

@@ -1,5 +1,5 @@
 -- What the options stand for.
-use Rattle.std.specs.Prelude.{◌≡◌, ℕ, ℤ, ◌-ℤ◌, ◌≤◌, pos, nat_eq, if◌then◌else◌, Option, Some, None}
+use Rattle.std.specs.Prelude.{◌≡◌, ℕ, ℤ, ◌-ℤ◌, ◌≤◌, pos, nat_eq, if◌then◌else◌, Option, None}
 use Rattle.jiff.specs.Types.{Offset, TimeZone}
 use Rattle.jiff.specs.Placed.{fixed_zone}
 use Rattle.jiff_core.specs.Calendar.{IsYear}

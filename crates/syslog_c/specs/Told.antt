@@ -30,7 +30,7 @@ IsTold m fields old_elements elements old_params params BadArgument = ⊥
 abbrev pub ReadsInto : Variant → Dating → Text → Fields → Fields → List Element → List Element → List Param → List Param → Outcome → Type 0
 ReadsInto variant dating text old_fields fields old_elements elements old_params params outcome =
     ((m : MessageValue) × IsOnlyRead variant dating text m × IsTold m fields old_elements elements old_params params outcome)
-  ⊎ (Refuses variant dating text outcome × (fields ≡ old_fields) × (elements ≡ old_elements) × (params ≡ old_params))
+    ⊎ (Refuses variant dating text outcome × (fields ≡ old_fields) × (elements ≡ old_elements) × (params ≡ old_params))
 
 -- 1 of a canonical message, 0 of another
 abbrev pub TellsCanonical : MessageValue → ℕ → Type 0
@@ -40,4 +40,4 @@ TellsCanonical m told = ((told ≡ 1) × IsCanonical dash_rule m) ⊎ ((told ≡
 abbrev pub TellsOwnCanonical : Variant → Dating → Text → ℕ → Outcome → Type 0
 TellsOwnCanonical variant dating text told outcome =
     ((m : MessageValue) × IsOnlyRead variant dating text m × (outcome ≡ Done) × TellsCanonical m told)
-  ⊎ (Refuses variant dating text outcome × (told ≡ 0))
+    ⊎ (Refuses variant dating text outcome × (told ≡ 0))

@@ -10,10 +10,7 @@ use crate::tell::text_of;
 use syslog_loose::StructuredElement;
 
 /// Puts the elements at the beginning of the array.
-pub(crate) fn put_elements<'a>(
-    elements: &[StructuredElement<&'a str>],
-    array: &mut [Element<'a>],
-)
+pub(crate) fn put_elements<'a>(elements: &[StructuredElement<&'a str>], array: &mut [Element<'a>])
     requires { length elements.now ≤ length array.now }
     ensures { IsBegun (λ e value. IsElement e (element_value (λ s. shown s) value)) elements.now array.old array.new }
 {
@@ -32,10 +29,7 @@ fn element_of<'a>(element: &StructuredElement<&'a str>) -> Element<'a>
 }
 
 /// Puts the parameters of the elements at the beginning of the array, one after the other.
-pub(crate) fn put_all_params<'a>(
-    elements: &[StructuredElement<&'a str>],
-    array: &mut [Param<'a>],
-)
+pub(crate) fn put_all_params<'a>(elements: &[StructuredElement<&'a str>], array: &mut [Param<'a>])
     requires { length (flat_map (λ e. e.params.items) elements.now) ≤ length array.now }
     ensures { IsBegun (λ p value. IsParam p (param_value (λ s. shown s) value)) (flat_map (λ e. e.params.items) elements.now) array.old array.new }
 {

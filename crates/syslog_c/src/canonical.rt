@@ -27,12 +27,7 @@ pub extern "C" fn syslog_is_canonical(
     tell_canonical(alloc, line, options, canonical) as u32
 }
 
-fn tell_canonical(
-    alloc: Global,
-    line: &[u8],
-    options: &Options,
-    canonical: &mut u32,
-) -> Outcome
+fn tell_canonical(alloc: Global, line: &[u8], options: &Options, canonical: &mut u32) -> Outcome
     ensures { OnLine options.now line.now result (canonical.new ≡ 0) (λ variant dating text.
         TellsOwnCanonical variant dating text canonical.new result) }
 {

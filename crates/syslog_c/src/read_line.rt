@@ -33,7 +33,14 @@ pub(crate) fn read_line<'a>(
     let get_year = move |date: IncompleteDate| -> i32
         ensures { IsYear options.entry.now.year → IsReckoned options.entry.now date result }
     { year_of(options, date) };
-    match parse_message_with_year_exact_tz(alloc, text, get_year, None, rules.variant, &rules.zone) {
+    match parse_message_with_year_exact_tz(
+        alloc,
+        text,
+        get_year,
+        None,
+        rules.variant,
+        &rules.zone,
+    ) {
         Ok(message) => Ok(message),
         Err(ParseFault::Invalid) => Err(Outcome::NoReading),
         Err(ParseFault::Memory) => Err(Outcome::NoMemory),

@@ -63,5 +63,9 @@ fn zone_of(options: &Options) -> Option<TimeZone<'static>>
 pub(crate) fn year_of(options: &Options, date: IncompleteDate) -> i32
     ensures { IsYear options.now.year → IsReckoned options.now date result }
 {
-    if options.month == 1 && date.0 == 12 { options.year.saturating_sub(1) } else { options.year }
+    if options.month == 1 && date.0 == 12 {
+        options.year.saturating_sub(1)
+    } else {
+        options.year
+    }
 }

@@ -1,5 +1,5 @@
-use Rattle.std.proofs.Common.{inr, refl}
-use Rattle.syslog_loose.proofs.ReadingLemmas.{in_year_map, in_year_told}
+use Rattle.std.proofs.Common.{inr}
+use Rattle.syslog_loose.proofs.ReadingLemmas.{in_year_told}
 use Rattle.syslog_c.proofs.LineLemmas.{tried_line}
 use Rattle.syslog_c.specs.Line.{Refuses}
 use Rattle.syslog_c.specs.declared.outcome.Outcome.TheVariants.{NoReading, NoMemory}
