@@ -1,15 +1,19 @@
 -- Arrays that are written from the front.
-use Rattle.std.proofs.Common.{◌≡◌, ◌∙◌, refl, sym, ap, subst, ℕ, suc, ◌+◌, ◌-◌, ◌<◌, ◌≤◌, List, [], ◌∷◌, ◌++◌, length, get_or, set, take, drop, arith, add-one, append-nil, length-append, length-drop, drop_of_length-le, length-take-le, take_all, drop-cons, map, min, ◌^◌}
+use Rattle.std.proofs.Common.{◌≡◌, ◌∙◌, refl, sym, ap, subst, ℕ, suc, ◌+◌, ◌-◌, ◌<◌, ◌≤◌, List, [], ◌∷◌, ◌++◌}
+use Rattle.std.proofs.Common.{length, get_or, set, take, drop, arith, add-one, append-nil, length-append}
+use Rattle.std.proofs.Common.{length-drop, drop_of_length-le, length-take-le, take_all, drop-cons, map, min, ◌^◌}
 use Rattle.std.specs.List.{AllZip, flat_map}
 use Rattle.std.proofs.lemmas.Grind.{flat_map-append}
-use Rattle.std.proofs.lemmas.List.{length-map, map-append, take_more, take_more_set, drop-set-lt, drop-drop, take-append-le, drop-append-le}
+use Rattle.std.proofs.lemmas.List.{length-map, map-append, take_more, take_more_set, drop-set-lt, drop-drop}
+use Rattle.std.proofs.lemmas.List.{take-append-le, drop-append-le}
 use Rattle.syslog_pieces.specs.Pieces.Class.{Text}
 use Rattle.syslog_pieces.specs.StructuredData.Element.{element_value, param_value}
 use Rattle.syslog_pieces.specs.declared.structured_data.StructuredElement.{StructuredElement}
 use borrow.Rule.Slice.PartMut.{mid_of, post_of, put_mid}
 use Rattle.syslog_c.specs.Fields.{IsBegun, all_params}
 
-pub zip_append : {A B : Type 0} (R : A → B → Type 0) (xs ys : List A) (us vs : List B) → AllZip R xs us → AllZip R ys vs → AllZip R (xs ++ ys) (us ++ vs)
+pub zip_append : {A B : Type 0} (R : A → B → Type 0) (xs ys : List A) (us vs : List B) → AllZip R xs us
+    → AllZip R ys vs → AllZip R (xs ++ ys) (us ++ vs)
 zip_append R [] ys [] vs t z = z
 zip_append R [] ys (u ∷ us) vs t z = absurd t
 zip_append R (x ∷ xs) ys [] vs t z = absurd t
@@ -22,25 +26,30 @@ drop_next : {A : Type 0} (xs old : List A) (i n : ℕ) → drop i xs ≡ drop i 
 drop_next xs old i n e = sym (drop-drop n i xs) ∙ ap (drop n) e ∙ drop-drop n i old
 
 -- one more is written
-pub begun_next : {A B : Type 0} (R : A → B → Type 0) (xs old : List A) (ys : List B) (i : ℕ) (x : A) (d : B) → i < length xs → i < length ys
+pub begun_next : {A B : Type 0} (R : A → B → Type 0) (xs old : List A) (ys : List B) (i : ℕ) (x : A) (d : B)
+    → i < length xs → i < length ys
     → AllZip R (take i xs) (take i ys) → drop i xs ≡ drop i old → R x (get_or ys i d)
     → AllZip R (take (i + 1) (set xs i x)) (take (i + 1) ys) × (drop (i + 1) (set xs i x) ≡ drop (i + 1) old)
 begun_next R xs old ys i x d l m z e r =
     let below : i < i + 1 = omega arith in (
-      rw (take_more_set xs i x l) (rw (take_next ys i d m) (zip_append R (take i xs) (x ∷ []) (take i ys) (get_or ys i d ∷ []) z (r, tt))),
+      rw (take_more_set xs i x l) (rw (take_next ys i d m)
+          (zip_append R (take i xs) (x ∷ []) (take i ys) (get_or ys i d ∷ []) z (r, tt))),
       drop-set-lt (i + 1) xs i x below ∙ drop_next xs old i 1 e,
     )
 
 take_past : {A : Type 0} (p q : List A) (n m : ℕ) → m ≡ length p + n → take m (p ++ q) ≡ p ++ take n q
 take_past [] q n m e = let same : m ≡ n = omega arith in ap (λ k. take k q) same
-take_past (x ∷ p) q n m e = let next : m ≡ suc (length p + n) = omega arith in ap (λ k. take k (x ∷ (p ++ q))) next ∙ ap (λ l. x ∷ l) (take_past p q n _ refl)
+take_past (x ∷ p) q n m e = let next : m ≡ suc (length p + n) = omega arith in ap (λ k. take k (x ∷ (p ++ q))) next
+    ∙ ap (λ l. x ∷ l) (take_past p q n _ refl)
 
 drop_past : {A : Type 0} (p q : List A) (n m : ℕ) → m ≡ length p + n → drop m (p ++ q) ≡ drop n q
 drop_past [] q n m e = let same : m ≡ n = omega arith in ap (λ k. drop k q) same
-drop_past (x ∷ p) q n m e = let next : m ≡ suc (length p + n) = omega arith in ap (λ k. drop k (x ∷ (p ++ q))) next ∙ drop_past p q n _ refl
+drop_past (x ∷ p) q n m e = let next : m ≡ suc (length p + n) = omega arith in ap (λ k. drop k (x ∷ (p ++ q))) next
+    ∙ drop_past p q n _ refl
 
 -- the values of one more item are written behind those of the items before it
-pub begun_part : {A B C : Type 0} (R : A → B → Type 0) (f : C → List B) (xs sub old : List A) (es : List C) (e : C) (i at n : ℕ)
+pub begun_part : {A B C : Type 0} (R : A → B → Type 0) (f : C → List B) (xs sub old : List A)
+    (es : List C) (e : C) (i at n : ℕ)
     → i < length es → e ≡ get_or es i e → n ≡ length (f e)
     → at ≡ length (flat_map f (take i es)) → at + length (flat_map f (drop i es)) ≤ length xs
     → AllZip R (take at xs) (flat_map f (take i es)) → drop at xs ≡ drop at old
@@ -55,53 +64,70 @@ begun_part {A = A} {B = B} R f xs sub old es e i at n lt is counted before fits 
     let front : flat_map f (take (i + 1) es) ≡ flat_map f (take i es) ++ f e =
     ap (flat_map f) (take_more es i e lt) ∙ flat_map-append f (take i es) (get_or es i e ∷ [])
     ∙ ap (λ l. flat_map f (take i es) ++ l) (append-nil (f (get_or es i e)) ∙ ap f (sym is)) in
-    let rest : drop i es ≡ e ∷ drop (i + 1) es = rw add-one (drop-cons es i e lt ∙ ap (λ x. x ∷ drop (suc i) es) (sym is)) in
-    let long_front : length (flat_map f (take (i + 1) es)) ≡ length (flat_map f (take i es)) + length (f e) = ap length front ∙ length-append _ _ in
-    let long_rest : length (flat_map f (drop i es)) ≡ length (f e) + length (flat_map f (drop (i + 1) es)) = ap (λ l. length (flat_map f l)) rest ∙ length-append _ _ in
+    let rest : drop i es ≡ e ∷ drop (i + 1) es =
+    rw add-one (drop-cons es i e lt ∙ ap (λ x. x ∷ drop (suc i) es) (sym is)) in
+    let long_front : length (flat_map f (take (i + 1) es)) ≡ length (flat_map f (take i es)) + length (f e) =
+    ap length front ∙ length-append _ _ in
+    let long_rest : length (flat_map f (drop i es)) ≡ length (f e) + length (flat_map f (drop (i + 1) es)) = ap
+    (λ l. length (flat_map f l)) rest ∙ length-append _ _ in
     let within : at ≤ length xs = omega arith in
     let long_p : length p ≡ at = length-take-le at xs within in
-    let long : length (p ++ (sub ++ post)) ≡ length p + (length sub + length post) = length-append _ _ ∙ ap (λ m. length p + m) (length-append _ _) in
+    let long : length (p ++ (sub ++ post)) ≡ length p + (length sub + length post) = length-append _ _ ∙ ap
+    (λ m. length p + m) (length-append _ _) in
     let mid : mid_of at (length xs - at) xs ≡ drop at xs = take_all _ _ (let l = length-drop at xs in omega arith) in
     let long_sub : length sub ≡ length xs - at = same ∙ (ap length mid ∙ length-drop at xs) in
     let short : n ≤ length sub = omega arith in
     let taken : take (at + n) (p ++ (sub ++ post)) ≡ p ++ take n sub =
     take_past p (sub ++ post) n (at + n) (omega arith)
     ∙ ap (λ l. p ++ l) (take-append-le n sub post short) in
-    let begins : AllZip R (take n sub) (f e) = subst (λ (m : ℕ). AllZip R (take m sub) (f e)) (sym counted) begun.begins in
-    let none : post ≡ [] = drop_of_length-le (drop at xs) {i = length xs - at} (let l = length-drop at xs in omega arith) in
-    let stays : drop n sub ≡ drop n (drop at xs) = subst (λ (m : ℕ). drop m sub ≡ drop m (mid_of at (length xs - at) xs)) (sym counted) begun.behind ∙ ap (drop n) mid in
+    let begins : AllZip R (take n sub) (f e) = subst
+    (λ (m : ℕ). AllZip R (take m sub) (f e)) (sym counted) begun.begins in
+    let none : post ≡ [] = drop_of_length-le (drop at xs) {i = length xs - at} (let l =
+    length-drop at xs in omega arith) in
+    let stays : drop n sub ≡ drop n (drop at xs) = subst
+    (λ (m : ℕ). drop m sub ≡ drop m (mid_of at (length xs - at) xs)) (sym counted) begun.behind ∙ ap (drop n) mid in
     let dropped : drop (at + n) (p ++ (sub ++ post)) ≡ drop n (drop at xs) =
     drop_past p (sub ++ post) n (at + n) (omega arith)
-    ∙ drop-append-le n sub post short ∙ ap (λ l. l ++ post) stays ∙ ap (λ l. drop n (drop at xs) ++ l) none ∙ append-nil _ in (
+    ∙ drop-append-le n sub post short ∙ ap (λ l. l ++ post) stays ∙ ap (λ l. drop n (drop at xs) ++ l) none
+    ∙ append-nil _ in (
       omega arith,
       omega arith,
-      subst (λ (l : List B). AllZip R (take (at + n) (p ++ (sub ++ post))) l) (sym front) (subst (λ (l : List A). AllZip R l (flat_map f (take i es) ++ f e)) (sym taken) (zip_append R p (take n sub) (flat_map f (take i es)) (f e) zip begins)),
+      subst (λ (l : List B). AllZip R (take (at + n) (p ++ (sub ++ post))) l) (sym front) (subst
+          (λ (l : List A). AllZip R l (flat_map f (take i es) ++ f e)) (sym taken)
+          (zip_append R p (take n sub) (flat_map f (take i es)) (f e) zip begins)),
       dropped ∙ drop-drop n at xs ∙ drop_next xs old at n behind,
     )
 
 -- ---- what is told of values through a view
 
-zip_map : {A B C : Type 0} (R : A → C → Type 0) (f : B → C) (xs : List A) (ys : List B) → AllZip (λ x y. R x (f y)) xs ys → AllZip R xs (map f ys)
+zip_map : {A B C : Type 0} (R : A → C → Type 0) (f : B → C) (xs : List A) (ys : List B) → AllZip
+    (λ x y. R x (f y)) xs ys → AllZip R xs (map f ys)
 zip_map R f [] [] z = tt
 zip_map R f [] (y ∷ ys) z = absurd z
 zip_map R f (x ∷ xs) [] z = absurd z
 zip_map R f (x ∷ xs) (y ∷ ys) z = (z.0, zip_map R f xs ys z.1)
 
-pub begun_map : {A B C : Type 0} (R : A → C → Type 0) (f : B → C) (ys : List B) (old new : List A) → IsBegun (λ x y. R x (f y)) ys old new → IsBegun R (map f ys) old new
+pub begun_map : {A B C : Type 0} (R : A → C → Type 0) (f : B → C) (ys : List B) (old new : List A) → IsBegun
+    (λ x y. R x (f y)) ys old new → IsBegun R (map f ys) old new
 begun_map R f ys old new b =
     let long : length (map f ys) ≡ length ys = length-map ys f in
     record {
-      begins = subst (λ (m : ℕ). AllZip R (take m new) (map f ys)) (sym long) (zip_map R f (take (length ys) new) ys b.begins);
+      begins = subst (λ (m : ℕ). AllZip R (take m new) (map f ys)) (sym long)
+          (zip_map R f (take (length ys) new) ys b.begins);
       behind = subst (λ (m : ℕ). drop m new ≡ drop m old) (sym long) b.behind;
     }
 
-pub all_params_map : {S : Type 0} (text : S → Text) (es : List (StructuredElement S)) → all_params (map (element_value text) es) ≡ map (param_value text) (flat_map (λ e. e.params.items) es)
+pub all_params_map : {S : Type 0} (text : S → Text) (es : List (StructuredElement S))
+    → all_params (map (element_value text) es) ≡ map (param_value text) (flat_map (λ e. e.params.items) es)
 all_params_map text [] = refl
-all_params_map text (e ∷ es) = ap (λ l. map (param_value text) e.params.items ++ l) (all_params_map text es) ∙ sym (map-append (param_value text) e.params.items (flat_map (λ d. d.params.items) es))
+all_params_map text (e ∷ es) = ap (λ l. map (param_value text) e.params.items ++ l) (all_params_map text es)
+    ∙ sym (map-append (param_value text) e.params.items (flat_map (λ d. d.params.items) es))
 
 -- where the count that is told fits, so do the parameters
-pub params_fit : {S : Type 0} (text : S → Text) (es : List (StructuredElement S)) (count room : ℕ) → count ≡ min (length (all_params (map (element_value text) es))) (2 ^ 64 - 1)
+pub params_fit : {S : Type 0} (text : S → Text) (es : List (StructuredElement S)) (count room : ℕ)
+    → count ≡ min (length (all_params (map (element_value text) es))) (2 ^ 64 - 1)
     → count ≤ room → room < 2 ^ 64 - 1 → length (flat_map (λ e. e.params.items) es) ≤ room
 params_fit text es count room told fits bound =
-    let same : length (all_params (map (element_value text) es)) ≡ length (flat_map (λ e. e.params.items) es) = ap length (all_params_map text es) ∙ length-map _ (param_value text) in
+    let same : length (all_params (map (element_value text) es)) ≡ length (flat_map (λ e. e.params.items) es) =
+    ap length (all_params_map text es) ∙ length-map _ (param_value text) in
     omega arith

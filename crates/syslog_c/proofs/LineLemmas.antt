@@ -13,9 +13,12 @@ use Rattle.syslog_c.specs.declared.options.Options.{Options}
 use Rattle.syslog_c.specs.declared.outcome.Outcome.{Outcome}
 
 -- what holds of the text that the line's bytes are
-pub tried_line : (Holds : Variant → Dating → Text → Type 0) (options : Options) (line bytes : List ℕ) (variant : Variant) (zone : TimeZone)
-    → options.variant ≡ variant_number variant → AreInRange options → IsZoneAt options.offset zone → bytes ≡ line → IsUtf8 line
-    → InYear (IsReckoned options) variant (chars bytes) (λ year. Holds variant (dating_in zone year) (chars bytes)) → IsTried options line Holds
+pub tried_line : (Holds : Variant → Dating → Text → Type 0) (options : Options) (line bytes : List ℕ)
+    (variant : Variant) (zone : TimeZone)
+    → options.variant ≡ variant_number variant → AreInRange options → IsZoneAt options.offset zone → bytes ≡ line
+    → IsUtf8 line
+    → InYear (IsReckoned options) variant (chars bytes) (λ year. Holds variant (dating_in zone year) (chars bytes))
+    → IsTried options line Holds
 tried_line Holds options line bytes variant zone named in_range ahead same utf8 holds = record {
   variant = variant;
   zone = zone;
@@ -23,11 +26,13 @@ tried_line Holds options line bytes variant zone named in_range ahead same utf8 
   in_range = in_range;
   ahead = ahead;
   utf8 = utf8;
-  holds = subst (λ (bs : List ℕ). InYear (IsReckoned options) variant (chars bs) (λ year. Holds variant (dating_in zone year) (chars bs))) same holds;
+  holds = subst (λ (bs : List ℕ). InYear (IsReckoned options) variant (chars bs)
+      (λ year. Holds variant (dating_in zone year) (chars bs))) same holds;
 }
 
 -- what holds of a line that is read holds of one that is read so
-pub tried_map : {Holds More : Variant → Dating → Text → Type 0} (options : Options) (line : List ℕ) → ((variant : Variant) (dating : Dating) (text : Text) → Holds variant dating text → More variant dating text)
+pub tried_map : {Holds More : Variant → Dating → Text → Type 0} (options : Options) (line : List ℕ)
+    → ((variant : Variant) (dating : Dating) (text : Text) → Holds variant dating text → More variant dating text)
     → IsTried options line Holds → IsTried options line More
 tried_map options line f t = record {
   variant = t.variant;
@@ -39,8 +44,10 @@ tried_map options line f t = record {
   holds = in_year_map (λ year h. f _ _ _ h) t.holds;
 }
 
-pub on_line_map : {Left Other : Type 0} {Holds More : Variant → Dating → Text → Type 0} (options : Options) (line : List ℕ) (outcome : Outcome) → (Left → Other)
-    → ((variant : Variant) (dating : Dating) (text : Text) → Holds variant dating text → More variant dating text) → OnLine options line outcome Left Holds → OnLine options line outcome Other More
+pub on_line_map : {Left Other : Type 0} {Holds More : Variant → Dating → Text → Type 0}
+    (options : Options) (line : List ℕ) (outcome : Outcome) → (Left → Other)
+    → ((variant : Variant) (dating : Dating) (text : Text) → Holds variant dating text → More variant dating text)
+    → OnLine options line outcome Left Holds → OnLine options line outcome Other More
 on_line_map options line outcome g f (inl a) = inl (a.0, a.1, g a.2)
 on_line_map options line outcome g f (inr (inl a)) = inr (inl (a.0, a.1, a.2, g a.3))
 on_line_map options line outcome g f (inr (inr t)) = inr (inr (tried_map options line f t))

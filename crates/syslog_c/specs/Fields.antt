@@ -1,5 +1,6 @@
 -- What C gets of a message, over the message as a value.
-use Rattle.std.specs.Prelude.{◌≡◌, ℕ, ℤ, pos, negsuc, ◌^◌, ◌-◌, min, List, [], length, take, drop, Option, None, Some, int_div, int_rem}
+use Rattle.std.specs.Prelude.{◌≡◌, ℕ, ℤ, pos, negsuc, ◌^◌, ◌-◌, min, List, [], length, take, drop, Option, None}
+use Rattle.std.specs.Prelude.{Some, int_div, int_rem}
 use Rattle.std.specs.List.{AllZip, flat_map}
 use Rattle.std.specs.Str.{chars, IsUtf8}
 use Rattle.syslog_pieces.specs.Pieces.Class.{Text as Chars}
@@ -90,7 +91,7 @@ pub record IsBegun {A B : Type 0} (Is : A → B → Type 0) (values : List B) (o
 
 -- ---- the message
 
--- The struct tells the message. (The number of parameters is a `usize`: 2 ^ 64 of them or more would be told as 2 ^ 64 - 1.)
+-- The struct tells the message. (The number of parameters is a `usize`: 2 ^ 64 or more would be told as 2 ^ 64 - 1.)
 pub record AreFields (fields : Fields) (m : MessageValue) : Type 0 where
   pub protocol : fields.protocol ≡ protocol_number m.protocol
   pub version : fields.version ≡ version_number m.protocol

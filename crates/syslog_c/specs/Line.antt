@@ -19,10 +19,11 @@ pub record IsTried (options : Options) (line : List ℕ) (Holds : Variant → Da
   pub in_range : AreInRange options
   pub ahead : IsZoneAt options.offset zone
   pub utf8 : IsUtf8 line
-  pub holds : InYear (IsReckoned options) variant (chars line) (λ year. Holds variant (dating_in zone year) (chars line))
+  pub holds : InYear (IsReckoned options) variant (chars line)
+      (λ year. Holds variant (dating_in zone year) (chars line))
 
--- The options stand for nothing, or the line is no UTF-8, and all is left as it was; or the line is read by the options,
--- and then this holds.
+-- The options stand for nothing, or the line is no UTF-8, and all is left; or the line is read by the options, and then
+-- this holds.
 abbrev pub OnLine : Options → List ℕ → Outcome → Type 0 → (Variant → Dating → Text → Type 0) → Type 0
 OnLine options line outcome IsLeft Holds =
     ((outcome ≡ BadArgument) × (IsTaken options → ⊥) × IsLeft)

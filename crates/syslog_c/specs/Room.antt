@@ -8,7 +8,8 @@ use Rattle.syslog_c.specs.declared.outcome.Outcome.TheVariants.{Done, NoReading,
 -- The length of the bytes is told. They stand at the beginning of the room, and what was behind them is as it was; or
 -- the room is too small for them, and as it was.
 abbrev pub Puts : List ℕ → List ℕ → List ℕ → ℕ → Outcome → Type 0
-Puts bytes old new needed Done = (needed ≡ length bytes) × (length bytes ≤ length old) × (new ≡ bytes ++ drop (length bytes) old)
+Puts bytes old new needed Done = (needed ≡ length bytes) × (length bytes ≤ length old)
+    × (new ≡ bytes ++ drop (length bytes) old)
 Puts bytes old new needed NoRoom = (needed ≡ length bytes) × (length old < length bytes) × (new ≡ old)
 Puts bytes old new needed NoReading = ⊥
 Puts bytes old new needed NotUtf8 = ⊥

@@ -17,7 +17,8 @@ use Rattle.syslog_c.specs.declared.outcome.Outcome.TheVariants.{Done, NoReading,
 -- the message is told whole; or one of the arrays is too small, both are as they were, and the rest is told
 abbrev pub IsTold : MessageValue → Fields → List Element → List Element → List Param → List Param → Outcome → Type 0
 IsTold m fields old_elements elements old_params params Done = AreFields fields m
-    × IsBegun IsElement m.structured_data old_elements elements × IsBegun IsParam (all_params m.structured_data) old_params params
+    × IsBegun IsElement m.structured_data old_elements elements
+    × IsBegun IsParam (all_params m.structured_data) old_params params
 IsTold m fields old_elements elements old_params params NoRoom = AreFields fields m
     × ((length old_elements < length m.structured_data) ⊎ (length old_params < length (all_params m.structured_data)))
     × (elements ≡ old_elements) × (params ≡ old_params)
@@ -27,9 +28,11 @@ IsTold m fields old_elements elements old_params params NoMemory = ⊥
 IsTold m fields old_elements elements old_params params BadArgument = ⊥
 
 -- the one message as which the text is read is told; or there is none to tell of, and all is as it was
-abbrev pub ReadsInto : Variant → Dating → Text → Fields → Fields → List Element → List Element → List Param → List Param → Outcome → Type 0
+abbrev pub ReadsInto : Variant → Dating → Text → Fields → Fields → List Element → List Element
+    → List Param → List Param → Outcome → Type 0
 ReadsInto variant dating text old_fields fields old_elements elements old_params params outcome =
-    ((m : MessageValue) × IsOnlyRead variant dating text m × IsTold m fields old_elements elements old_params params outcome)
+    ((m : MessageValue) × IsOnlyRead variant dating text m
+    × IsTold m fields old_elements elements old_params params outcome)
     ⊎ (Refuses variant dating text outcome × (fields ≡ old_fields) × (elements ≡ old_elements) × (params ≡ old_params))
 
 -- 1 of a canonical message, 0 of another

@@ -31,7 +31,8 @@ fn element_of<'a>(element: &StructuredElement<&'a str>) -> Element<'a>
 /// Puts the parameters of the elements at the beginning of the array, one after the other.
 pub(crate) fn put_all_params<'a>(elements: &[StructuredElement<&'a str>], array: &mut [Param<'a>])
     requires { length (flat_map (λ e. e.params.items) elements.now) ≤ length array.now }
-    ensures { IsBegun (λ p value. IsParam p (param_value (λ s. shown s) value)) (flat_map (λ e. e.params.items) elements.now) array.old array.new }
+    ensures { IsBegun (λ p value. IsParam p (param_value (λ s. shown s) value))
+        (flat_map (λ e. e.params.items) elements.now) array.old array.new }
 {
     let mut at = 0;
     for element in elements {

@@ -21,8 +21,8 @@ pub extern "C" fn syslog_is_canonical(
     options: &Options,
     canonical: &mut u32,
 ) -> u32
-    ensures { IsCodeOf result (λ outcome. OnLine options.now line.now outcome (canonical.new ≡ 0) (λ variant dating text.
-        TellsOwnCanonical variant dating text canonical.new outcome)) }
+    ensures { IsCodeOf result (λ outcome. OnLine options.now line.now outcome (canonical.new ≡ 0)
+        (λ variant dating text. TellsOwnCanonical variant dating text canonical.new outcome)) }
 {
     tell_canonical(alloc, line, options, canonical) as u32
 }

@@ -23,8 +23,8 @@ pub extern "C" fn syslog_normalise(
     room: &mut [u8],
     needed: &mut usize,
 ) -> u32
-    ensures { IsCodeOf result (λ outcome. OnLine options.now line.now outcome (IsLeft room.old room.new needed.new) (λ variant dating text.
-        Normalised variant dating text room.old room.new needed.new outcome)) }
+    ensures { IsCodeOf result (λ outcome. OnLine options.now line.now outcome (IsLeft room.old room.new needed.new)
+        (λ variant dating text. Normalised variant dating text room.old room.new needed.new outcome)) }
 {
     normalised(alloc, line, options, room, needed) as u32
 }

@@ -30,7 +30,8 @@ pub extern "C" fn syslog_read<'a>(
 ) -> u32
     ensures { IsCodeOf result (λ outcome. OnLine options.now line.now outcome
         ((fields.new ≡ fields.old) × (elements.new ≡ elements.old) × (params.new ≡ params.old))
-        (λ variant dating text. ReadsInto variant dating text fields.old fields.new elements.old elements.new params.old params.new outcome)) }
+        (λ variant dating text. ReadsInto variant dating text
+        fields.old fields.new elements.old elements.new params.old params.new outcome)) }
 {
     read_into(alloc, line, options, fields, elements, params) as u32
 }
@@ -45,7 +46,8 @@ fn read_into<'a>(
 ) -> Outcome
     ensures { OnLine options.now line.now result
         ((fields.new ≡ fields.old) × (elements.new ≡ elements.old) × (params.new ≡ params.old))
-        (λ variant dating text. ReadsInto variant dating text fields.old fields.new elements.old elements.new params.old params.new result) }
+        (λ variant dating text. ReadsInto variant dating text
+        fields.old fields.new elements.old elements.new params.old params.new result) }
 {
     match read_line(alloc, line, options) {
         Ok(message) => tell(&message, fields, elements, params),
@@ -60,7 +62,8 @@ fn tell<'a>(
     elements: &mut [Element<'a>],
     params: &mut [Param<'a>],
 ) -> Outcome
-    ensures { IsTold (message_value (λ s. shown s) message.now) fields.new elements.old elements.new params.old params.new result }
+    ensures { IsTold (message_value (λ s. shown s) message.now) fields.new
+        elements.old elements.new params.old params.new result }
 {
     *fields = fields_of(message);
     if fields.elements > elements.len() || fields.params > params.len() {

@@ -21,8 +21,10 @@ pub(crate) fn read_line<'a>(
     options: &Options,
 ) -> Result<Message<&'a str>, Outcome>
     ensures { MatchResult result
-        (λ m. IsTried options.now line.entry.now (λ variant dating text. IsOnlyRead variant dating text (message_value (λ s. shown s) m)))
-        (λ outcome. OnLine options.now line.entry.now outcome ⊤ (λ variant dating text. Refuses variant dating text outcome)) }
+        (λ m. IsTried options.now line.entry.now
+        (λ variant dating text. IsOnlyRead variant dating text (message_value (λ s. shown s) m)))
+        (λ outcome. OnLine options.now line.entry.now outcome ⊤
+        (λ variant dating text. Refuses variant dating text outcome)) }
 {
     let Some(rules) = rules_of(options) else {
         return Err(Outcome::BadArgument);

@@ -18,7 +18,8 @@ pub(crate) struct Rules {
 
 /// The rules for which the options stand.
 pub(crate) fn rules_of(options: &Options) -> Option<Rules>
-    ensures { MatchOption result (IsTaken options.now → ⊥) (λ rules. (options.now.variant ≡ variant_number rules.variant)
+    ensures { MatchOption result (IsTaken options.now → ⊥)
+        (λ rules. (options.now.variant ≡ variant_number rules.variant)
         × AreInRange options.now × IsZoneAt options.now.offset (plain_zone rules.zone)) }
 {
     if !is_date_in_range(options) {
@@ -38,7 +39,8 @@ fn is_date_in_range(options: &Options) -> bool
 
 // The variant that the number stands for.
 fn variant_of(number: u32) -> Option<Variant>
-    ensures { MatchOption result ((variant : Variant) → number ≡ variant_number variant → ⊥) (λ variant. number ≡ variant_number variant) }
+    ensures { MatchOption result ((variant : Variant) → number ≡ variant_number variant → ⊥)
+        (λ variant. number ≡ variant_number variant) }
 {
     match number {
         0 => Some(Variant::Either),

@@ -6,7 +6,8 @@ ghost use Rattle.syslog_pieces.specs.Pieces.View.{seen, shown};
 ghost use Rattle.syslog_pieces.specs.ProcId.{procid_value};
 ghost use Rattle.syslog_pieces.specs.StructuredData.Element.{element_value};
 ghost use Rattle.syslog_loose.specs.Message.{message_value};
-ghost use Rattle.syslog_c.specs.Fields.{AreFields, IsOptionalText, IsProcess, IsStamp, IsText, all_params, facility_code, protocol_number, severity_code, version_number};
+ghost use Rattle.syslog_c.specs.Fields.{AreFields, IsOptionalText, IsProcess, IsStamp, IsText, all_params};
+ghost use Rattle.syslog_c.specs.Fields.{facility_code, protocol_number, severity_code, version_number};
 
 use crate::fields::{Fields, Process, Stamp, Text};
 use syslog_loose::{

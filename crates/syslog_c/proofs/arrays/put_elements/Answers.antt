@@ -10,5 +10,7 @@ pub loop-i-preserved : goal.loop-i-preserved
 loop-i-preserved c =
     let room : c.loop-i.i < length c.loop-i.array = omega arith in
     let (zip, behind) = c.loop-i.invariant in
-    let is = subst (λ (value : StructuredElement (Bor (List ℕ))). IsElement c.element_of.result (element_value (λ s. shown s) value)) c.index-elements-i.is c.element_of.ensures in
-    begun_next (λ e value. IsElement e (element_value (λ s. shown s) value)) _ _ _ _ _ c.index-elements-i.result room c.loop-i-test.true zip behind is
+    let is = subst (λ (value : StructuredElement (Bor (List ℕ))). IsElement c.element_of.result (element_value
+    (λ s. shown s) value)) c.index-elements-i.is c.element_of.ensures in
+    begun_next (λ e value. IsElement e (element_value
+    (λ s. shown s) value)) _ _ _ _ _ c.index-elements-i.result room c.loop-i-test.true zip behind is

@@ -6,5 +6,6 @@ use Rattle.syslog_c.specs.Fields.{IsElement}
 use Rattle.syslog_c.proofs.arrays.put_elements.Given as goal
 
 abbrev pub invariant-loop-i : goal.invariant-loop-i
-invariant-loop-i l = AllZip (λ e value. IsElement e (element_value (λ s. shown s) value)) (take l.i l.array) (take l.i l.elements)
+invariant-loop-i l = AllZip (λ e value. IsElement e (element_value
+    (λ s. shown s) value)) (take l.i l.array) (take l.i l.elements)
     × (drop l.i l.array ≡ drop l.i l.initial.array)

@@ -9,4 +9,5 @@ pub loop-i-preserved : goal.loop-i-preserved
 loop-i-preserved c =
     let room : c.loop-i.i < length c.loop-i.array = omega arith in
     let (zip, behind) = c.loop-i.invariant in
-    begun_next (λ p value. IsParam p (param_value (λ s. shown s) value)) _ _ _ _ _ _ room c.loop-i-test.true zip behind c.param_of.ensures
+    begun_next (λ p value. IsParam p (param_value
+    (λ s. shown s) value)) _ _ _ _ _ _ room c.loop-i-test.true zip behind c.param_of.ensures

@@ -6,4 +6,5 @@ pub returns-in-Ok : goal.returns-in-Ok
 returns-in-Ok c = inr (inr (tried_map _ _ (λ variant dating text read. inl (_, read, c.tell.ensures)) c.in-Ok.ensures))
 
 pub returns-in-Err : goal.returns-in-Err
-returns-in-Err c = on_line_map _ _ _ (λ left. (refl, refl, refl)) (λ variant dating text refused. inr (refused, refl, refl, refl)) c.in-Err.ensures
+returns-in-Err c = on_line_map _ _ _ (λ left. (refl, refl, refl))
+    (λ variant dating text refused. inr (refused, refl, refl, refl)) c.in-Err.ensures

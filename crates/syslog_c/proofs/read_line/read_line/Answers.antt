@@ -16,12 +16,16 @@ pub returns-in-Err-Invalid : goal.returns-in-Err-Invalid
 returns-in-Err-Invalid c =
     let (same, utf8) = c.in-Ok.ensures.cases in
     let (named, in_range, ahead) = c.in-Some.ensures in
-    let told = in_year_told (rw c.in-Err-Invalid.field-0-is at c.in-Err-Invalid.ensures.reads) (λ date y is. is.1 in_range.year) in
-    inr (inr (tried_line (λ variant dating text. Refuses variant dating text NoReading) _ _ _ _ _ named in_range ahead same utf8 told))
+    let told = in_year_told (rw c.in-Err-Invalid.field-0-is at c.in-Err-Invalid.ensures.reads)
+    (λ date y is. is.1 in_range.year) in
+    inr (inr (tried_line (λ variant dating text. Refuses variant dating text NoReading)
+    _ _ _ _ _ named in_range ahead same utf8 told))
 
 pub returns-in-Err-Memory : goal.returns-in-Err-Memory
 returns-in-Err-Memory c =
     let (same, utf8) = c.in-Ok.ensures.cases in
     let (named, in_range, ahead) = c.in-Some.ensures in
-    let told = in_year_told (rw c.in-Err-Memory.field-0-is at c.in-Err-Memory.ensures.reads) (λ date y is. is.1 in_range.year) in
-    inr (inr (tried_line (λ variant dating text. Refuses variant dating text NoMemory) _ _ _ _ _ named in_range ahead same utf8 told))
+    let told = in_year_told (rw c.in-Err-Memory.field-0-is at c.in-Err-Memory.ensures.reads)
+    (λ date y is. is.1 in_range.year) in
+    inr (inr (tried_line (λ variant dating text. Refuses variant dating text NoMemory)
+    _ _ _ _ _ named in_range ahead same utf8 told))

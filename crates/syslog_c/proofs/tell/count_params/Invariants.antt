@@ -5,4 +5,5 @@ use Rattle.syslog_c.specs.Fields.{all_params}
 use Rattle.syslog_c.proofs.tell.count_params.Given as goal
 
 abbrev pub invariant-loop-element : goal.invariant-loop-element
-invariant-loop-element l = l.count ≡ min (length (all_params (map (element_value (λ s. shown s)) (take l.element-index l.elements)))) (2 ^ 64 - 1)
+invariant-loop-element l = l.count ≡ min (length (all_params (map (element_value
+    (λ s. shown s)) (take l.element-index l.elements)))) (2 ^ 64 - 1)
