@@ -97,10 +97,19 @@ fn no_message() -> Message {
         version: 0,
         facility: -1,
         severity: -1,
-        timestamp: Timestamp { seconds: 0, nanoseconds: 0, offset: 0, present: 0 },
+        timestamp: Timestamp {
+            seconds: 0,
+            nanoseconds: 0,
+            offset: 0,
+            present: 0,
+        },
         host: text,
         app: text,
-        process: Process { name: text, number: 0, is_number: 0 },
+        process: Process {
+            name: text,
+            number: 0,
+            is_number: 0,
+        },
         msgid: text,
         msg: text,
         elements: 0,
@@ -120,37 +129,80 @@ fn route(severity: i32) -> &'static str {
 fn civil(seconds: i64) -> String {
     let (days, second) = (seconds.div_euclid(86_400), seconds.rem_euclid(86_400));
     // Days since 0000-03-01, in eras of 400 years.
-    let (era, day) = ((days + 719_468).div_euclid(146_097), (days + 719_468).rem_euclid(146_097));
+    let (era, day) = (
+        (days + 719_468).div_euclid(146_097),
+        (days + 719_468).rem_euclid(146_097),
+    );
     let year = (day - day / 1_460 + day / 36_524 - day / 146_096) / 365;
     let day = day - (365 * year + year / 4 - year / 100);
     let month = (5 * day + 2) / 153;
-    let (day, month) = (day - (153 * month + 2) / 5 + 1, if month < 10 { month + 3 } else { month - 9 });
+    let (day, month) = (
+        day - (153 * month + 2) / 5 + 1,
+        if month < 10 { month + 3 } else { month - 9 },
+    );
     let year = era * 400 + year + i64::from(month <= 2);
-    format!("{year:04}-{month:02}-{day:02}T{:02}:{:02}:{:02}Z", second / 3_600, second / 60 % 60, second % 60)
+    format!(
+        "{year:04}-{month:02}-{day:02}T{:02}:{:02}:{:02}Z",
+        second / 3_600,
+        second / 60 % 60,
+        second % 60
+    )
 }
 
 fn main() -> ExitCode {
-    let numbers: Vec<i32> = env::args().skip(1).filter_map(|word| word.parse().ok()).collect();
+    let numbers: Vec<i32> = env::args()
+        .skip(1)
+        .filter_map(|word| word.parse().ok())
+        .collect();
     let [year, month] = numbers[..] else {
         eprintln!("usage: collector YEAR MONTH <FILE");
         return ExitCode::from(2);
     };
-    let options = Options { variant: 0, year, month: month as u32, offset: 0 };
+    let options = Options {
+        variant: 0,
+        year,
+        month: month as u32,
+        offset: 0,
+    };
     let mut message = no_message();
-    let mut element = Element { id: Text::NOTHING, params: 0 };
-    let mut param = Param { name: Text::NOTHING, value: Text::NOTHING };
+    let mut element = Element {
+        id: Text::NOTHING,
+        params: 0,
+    };
+    let mut param = Param {
+        name: Text::NOTHING,
+        value: Text::NOTHING,
+    };
     let (mut out, mut refused) = (io::stdout().lock(), 0);
     for line in io::stdin().lock().split(b'\n') {
         let line = line.expect("standard input can be read");
         let outcome = unsafe {
-            syslog_read(line.as_ptr(), line.len(), &options, &mut message, &mut element, 0, &mut param, 0)
+            syslog_read(
+                line.as_ptr(),
+                line.len(),
+                &options,
+                &mut message,
+                &mut element,
+                0,
+                &mut param,
+                0,
+            )
         };
         match outcome {
             // 4: it has elements, which are not asked for
             0 | 4 => {
-                let at = if message.timestamp.present == 1 { civil(message.timestamp.seconds) } else { "-".to_string() };
-                let (host, app, msg) = (message.host.of(&line), message.app.of(&line), message.msg.of(&line));
-                writeln!(out, "{} {at} {host} {app}: {msg}", route(message.severity)).expect("standard output takes it");
+                let at = if message.timestamp.present == 1 {
+                    civil(message.timestamp.seconds)
+                } else {
+                    "-".to_string()
+                };
+                let (host, app, msg) = (
+                    message.host.of(&line),
+                    message.app.of(&line),
+                    message.msg.of(&line),
+                );
+                writeln!(out, "{} {at} {host} {app}: {msg}", route(message.severity))
+                    .expect("standard output takes it");
             }
             1 | 2 => refused += 1,
             _ => {

@@ -1,13 +1,13 @@
 /* syslog.h: syslog messages of RFC 5424 and of the looser RFC 3164, read and printed.
  *
- * The library is crates/syslog_c/out/libsyslog_c.a, for 64-bit Linux; link it with the toolchain's liblibc_c.a, which
- * asks the program's malloc, realloc and free for memory. It has no state: no call frees or keeps anything of the
- * caller's, none leaves anything to be freed, and threads may call it at once. Don't call it from a signal handler, nor
- * in the forked child of a process with threads.
+ * The library is crates/syslog_c/out/libsyslog_c.a, for Linux on x86-64 (level v2). Link it with the toolchain's
+ * liblibc_c.a, which asks the program's malloc, realloc and free for memory. It has no state: no call frees or keeps
+ * anything of the caller's, none leaves anything to be freed, and threads may call it at once. Don't call it from a
+ * signal handler, nor in the forked child of a process with threads.
  *
  * What each call owes its caller is proved from its code, but not what the caller owes the call:
  *   - No pointer is null, also where its length is 0.
- *   - A pointer with a length n points to n bytes (or n structs), and any other one to one value; n is below 2^63 bytes.
+ *   - A pointer with a length n points to n bytes (or n structs), any other one to one value; n is below 2^63 bytes.
  *   - What a call writes to overlaps nothing else that it is given, and no other thread touches it meanwhile.
  *   - Each syslog_message, syslog_element and syslog_param is set before the first call, by SYSLOG_MESSAGE_INIT and the
  *     like or by an earlier call. (No call looks at what stands there.)
@@ -105,12 +105,13 @@ struct syslog_param {
 /* Reads a line: its fields into the message, and its elements and their parameters, in order, into the two arrays.
  *
  * SYSLOG_DONE: all of it is there, and what is behind in the arrays is as it was.
- * SYSLOG_NO_ROOM: the message is there, with the numbers that are needed; one of the arrays is too small, and both are as
- *   they were. (To skip structured data, hand in two arrays with the lengths 0, and take this for an answer.)
+ * SYSLOG_NO_ROOM: the message is there, with the numbers that are needed; one of the arrays is too small, and both are
+ *   as they were. (To skip structured data, hand in two arrays with the lengths 0, and take this for an answer.)
  * Any other: the message and the arrays are as they were. SYSLOG_NO_MEMORY only where the line has elements.
  */
-uint32_t syslog_read(const char *line, size_t length, const struct syslog_options *options, struct syslog_message *message,
-                     struct syslog_element *elements, size_t element_room, struct syslog_param *params, size_t param_room);
+uint32_t syslog_read(const char *line, size_t length, const struct syslog_options *options,
+                     struct syslog_message *message, struct syslog_element *elements, size_t element_room,
+                     struct syslog_param *params, size_t param_room);
 
 /* The three that follow write a text to the beginning of the room, and its length to needed.
  *
@@ -127,13 +128,14 @@ uint32_t syslog_normalise(const char *line, size_t length, const struct syslog_o
 uint32_t syslog_settle(const char *line, size_t length, const struct syslog_options *options, char *room,
                        size_t room_length, size_t *needed);
 
-/* The value of a parameter without its escapes: \n is a line feed, \" and \] and \\ are their second character, any other
- * pair stays, and a lone backslash at the end is dropped. It is no longer than the value. */
+/* The value of a parameter without its escapes: \n is a line feed, \" and \] and \\ are their second character, any
+ * other pair stays, and a lone backslash at the end is dropped. It is no longer than the value. */
 uint32_t syslog_unescape(const char *value, size_t length, char *room, size_t room_length, size_t *needed);
 
-/* Whether the line's message is read back from its printed form as the very same one: canonical is 1 then, and else 0, as
- * it is where the line has no message. */
-uint32_t syslog_is_canonical(const char *line, size_t length, const struct syslog_options *options, uint32_t *canonical);
+/* Whether the line's message is read back from its printed form as the very same one: canonical is 1 then, and else 0,
+ * as it is where the line has no message. */
+uint32_t syslog_is_canonical(const char *line, size_t length, const struct syslog_options *options,
+                             uint32_t *canonical);
 
 #ifdef __cplusplus
 }

@@ -1,5 +1,5 @@
-/* Tries the library for C at its edges, on each line of standard input: arrays and rooms of each size from 0 to one more
- * than is needed, wrong arguments, bytes that are no UTF-8, and four threads at once.
+/* Tries the library for C at its edges, on each line of standard input: arrays and rooms of each size from 0 to one
+ * more than is needed, wrong arguments, bytes that are no UTF-8, and four threads at once.
  *
  *   c_edges            all of these
  *   c_edges LINE       each call once, on this line: a refusal of memory leaves all as it was. Status 4 where one was
@@ -47,8 +47,9 @@ struct place {
 static void set(struct place *place)
 {
     memset(place, 0, sizeof *place);
-    place->message = (struct syslog_message){ .protocol = 7, .host = stood(), .app = stood(), .process = { .name = stood() },
-                                              .msgid = stood(), .msg = stood(), .elements = 77, .params = 78 };
+    place->message = (struct syslog_message){ .protocol = 7, .host = stood(), .app = stood(), .msgid = stood(),
+                                              .process = { .name = stood() }, .msg = stood(), .elements = 77,
+                                              .params = 78 };
     for (size_t i = 0; i < MOST + 2; i++) {
         place->elements[i].id = stood();
         place->params[i].name = place->params[i].value = stood();
@@ -105,17 +106,19 @@ static void each_array(const char *line, size_t length)
             int fits = i >= elements && k >= params;
             CHECK(outcome == (fits ? SYSLOG_DONE : SYSLOG_NO_ROOM));
             CHECK(place.message.elements == elements && place.message.params == params);
-            CHECK(same_text(&place.message.msg, &whole.message.msg) && same_text(&place.message.host, &whole.message.host));
+            CHECK(same_text(&place.message.msg, &whole.message.msg));
+            CHECK(same_text(&place.message.host, &whole.message.host));
             CHECK(elements_put(&place) == (fits ? elements : 0) && params_put(&place) == (fits ? params : 0));
             for (size_t n = 0; fits && n < elements; n++)
-                CHECK(same_text(&place.elements[n].id, &whole.elements[n].id) && place.elements[n].params == whole.elements[n].params);
+                CHECK(same_text(&place.elements[n].id, &whole.elements[n].id)
+                      && place.elements[n].params == whole.elements[n].params);
             for (size_t n = 0; fits && n < params; n++)
                 CHECK(same_text(&place.params[n].name, &whole.params[n].name)
                       && same_text(&place.params[n].value, &whole.params[n].value));
         }
 }
 
-/* The same answer where nothing was set before. (syslog.h asks for it; that it isn't looked at is seen under valgrind.) */
+/* The same answer where nothing was set before. (syslog.h asks for it; valgrind sees that it isn't looked at.) */
 static void unset(const char *line, size_t length)
 {
     static struct place whole;
@@ -233,10 +236,13 @@ static void *sum_of_lines(void *sum)
     for (int round = 0; round < 200; round++)
         for (size_t i = 0; i < lines_read; i++) {
             char room[ROOM];
-            size_t needed;
-            uint32_t outcome = syslog_read(lines[i], strlen(lines[i]), &OPTIONS, &place.message, place.elements, MOST, place.params, MOST);
-            total = total * 31 + outcome + place.message.host.length + place.message.msg.length + (uint64_t)place.message.timestamp.seconds;
-            total = total * 31 + syslog_settle(lines[i], strlen(lines[i]), &OPTIONS, room, sizeof room, &needed) + needed;
+            const char *line = lines[i];
+            size_t length = strlen(line), needed;
+            const struct syslog_message *it = &place.message;
+            total = total * 31
+                + syslog_read(line, length, &OPTIONS, &place.message, place.elements, MOST, place.params, MOST);
+            total = total * 31 + it->host.length + it->msg.length + (uint64_t)it->timestamp.seconds;
+            total = total * 31 + syslog_settle(line, length, &OPTIONS, room, sizeof room, &needed) + needed;
         }
     *(uint64_t *)sum = total;
     return NULL;
@@ -263,7 +269,8 @@ static int with_memory_refused(const char *line)
     int seen = 0;
     set(&place);
     code = syslog_read(line, length, &OPTIONS, &place.message, place.elements, MOST, place.params, MOST);
-    CHECK(code == SYSLOG_DONE || (code == SYSLOG_NO_MEMORY && is_set(&place) && !elements_put(&place) && !params_put(&place)));
+    CHECK(code == SYSLOG_DONE || code == SYSLOG_NO_MEMORY);
+    CHECK(code == SYSLOG_DONE || (is_set(&place) && !elements_put(&place) && !params_put(&place)));
     seen |= code == SYSLOG_NO_MEMORY;
     writer *calls[] = { normalise, settle, syslog_unescape };
     for (int i = 0; i < 3; i++) {

@@ -2,8 +2,8 @@
  *
  *   c_fields VARIANT YEAR MONTH OFFSET [nul]      nul: a zero byte ends a line, and not a line feed
  *
- * Each line, each array and each room ends where a page does that can't be read or written, so that a call which goes past
- * one ends the program.
+ * Each line, each array and each room ends where a page begins that can't be read or written, so that a call which goes
+ * past one ends the program.
  * The status is 3 where an answer isn't as syslog.h says: a text outside of its line, or a number that is not what was
  * needed.
  */
@@ -96,7 +96,8 @@ static void print_value(const struct syslog_text *value)
 {
     size_t needed = 77;
     char *room = room_of(value->length);
-    if (syslog_unescape(value->start, value->length, room, value->length, &needed) != SYSLOG_DONE || needed > value->length)
+    uint32_t outcome = syslog_unescape(value->start, value->length, room, value->length, &needed);
+    if (outcome != SYSLOG_DONE || needed > value->length)
         fault("a value is longer without its escapes");
     printf(",\"plain\":");
     print_bytes(room, needed);
@@ -134,8 +135,8 @@ static void print_head(const struct syslog_message *message)
            message->facility, message->severity);
     const struct syslog_timestamp *at = &message->timestamp;
     if (at->present == 1)
-        printf(",\"timestamp\":{\"seconds\":%lld,\"nanoseconds\":%d,\"offset\":%d}", (long long)at->seconds, at->nanoseconds,
-               at->offset);
+        printf(",\"timestamp\":{\"seconds\":%lld,\"nanoseconds\":%d,\"offset\":%d}", (long long)at->seconds,
+               at->nanoseconds, at->offset);
     else if (at->present || at->seconds || at->nanoseconds || at->offset)
         fault("an absent timestamp has numbers");
     else
@@ -191,7 +192,8 @@ int main(int count, char **words)
 {
     if (count < 5 || syslog_version() != SYSLOG_VERSION)
         return 2;
-    struct syslog_options options = { (uint32_t)atol(words[1]), atoi(words[2]), (uint32_t)atol(words[3]), atoi(words[4]) };
+    struct syslog_options options = { .variant = (uint32_t)atol(words[1]), .year = atoi(words[2]),
+                                      .month = (uint32_t)atol(words[3]), .offset = atoi(words[4]) };
     char *text = NULL;
     size_t size = 0;
     int closing = count > 5 ? 0 : '\n';
