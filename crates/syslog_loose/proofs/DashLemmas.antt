@@ -384,16 +384,6 @@ none_differs dating text t e n r =
     let none = (division_is_stamped BeforeAnything dating (trimmed text)).1 (subst (λ (x : Text). NoFront (Row (stamped_row dating)) x) e n) in
     none r.was_read.values r.was_read.division
 
--- the character behind the dash tells
-told_next : (t : Text) (c : ℕ) (q : Text) (a b : Bool) → t ≡ 45 ∷ (c ∷ q) → is_blank c ≡ a → b ≡ not a → MatchBool b (BeginsLoose t) (BeginsLoose t → ⊥)
-told_next t c q false true e g f = record { next = c; behind = q; is = e; no_blank = g }
-told_next t c q true false e g f = λ h. let k : c ∷ q ≡ h.next ∷ h.behind = same_behind _ _ (sym e ∙ h.is) in let l : is_blank c ≡ false = ap is_blank (heads c h.next q h.behind k) ∙ h.no_blank in cc
-told_next t c q true true e g f = absurd (cc)
-told_next t c q false false e g f = absurd (cc)
-
-pub told_by_next : (t : Text) (c : ℕ) (q : Text) (b : Bool) → t ≡ 45 ∷ (c ∷ q) → b ≡ not (is_blank c) → MatchBool b (BeginsLoose t) (BeginsLoose t → ⊥)
-told_by_next t c q b e f = told_next t c q (is_blank c) b e refl f
-
 pub no_dash : (t : Text) → NoFront (exactly (45 ∷ [])) t → BeginsLoose t → ⊥
 no_dash t n h = n (45 ∷ []) (h.next ∷ h.behind) tt h.is refl
 

@@ -74,9 +74,6 @@ pub facility_told : (n : ℕ) (r : Option SyslogFacility) → MatchOption r (24 
 facility_told n None h = sym (past n h)
 facility_told n (Some f) h = sym (ap (slice_get facilities) (sym h) ∙ facility_placed f)
 
-pub severity_told : (n : ℕ) (s : SyslogSeverity) → severity_number s ≡ n → Some s ≡ slice_get severities n
-severity_told n s h = sym (ap (slice_get severities) (sym h) ∙ severity_placed s)
-
 -- ---- a number below the list's length is that of the value at its place
 module _ {F : Type 0} (number : F → ℕ) where
   abbrev AreNumbered : ℕ → List F → Type 0

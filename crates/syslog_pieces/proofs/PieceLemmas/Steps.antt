@@ -22,10 +22,6 @@ step C Cs d {r = r} {vs = vs} g f =
 pub step_value : (C : Class) (Cs : List Class) → IsDeterministic C → {t q r : Text} {v : C.Value} {vs : Values (C ∷ Cs)} → Front C t q v → Front (Row (C ∷ Cs)) t r vs → vs.0 ≡ v
 step_value C Cs d g f = let h = row_head C Cs f in (front_same C d h.1 g).1
 
--- a row without pieces leaves the text as it is
-pub nil_stays : {t q : Text} → Front (Row []) t q tt → t ≡ q
-nil_stays {t = t} {q = q} f = nil_front t q f
-
 -- what follows a front is no longer than the text
 pub front_longer : (C : Class) {t q : Text} {v : C.Value} → Front C t q v → length q ≤ length t
 front_longer C {q = q} f = omega (arith, ap length f.whole, length-append f.piece q)
@@ -39,7 +35,3 @@ absent_none C f = subst (λ (x : Text). NoFront C x) (sym (absent_stays C f)) f.
 
 pub present_front : (C : Class) {t q : Text} {v : C.Value} → Front (optional C) t q (Some v) → Front C t q v
 present_front C f = record { piece = f.piece; whole = f.whole; is = f.is }
-
--- a text begins as the piece at its front does
-pub begins_front : (C : Class) (H : ℕ → Type 0) {t q : Text} {v : C.Value} → (f : Front C t q v) → Begins H f.piece → Begins H t
-begins_front C H {q = q} f h = subst (λ (x : Text). Begins H x) (sym f.whole) (begins_more H f.piece q h)

@@ -93,9 +93,6 @@ module _ (text bs xs ys : List ℕ) (s : SplitsRun is_plain_char bs xs ys) (m : 
           let whole : chars ys ≡ 92 ∷ d ∷ r = e ∙ ap (λ (x : ℕ). x ∷ q) is_backslash ∙ ap (λ (x : Text). 92 ∷ x) z in
           meets_on value (chars text ++ quote) value (chars ys ++ quote) value (r ++ quote) to_end (unit_goes (pair d) (chars ys ++ quote) (r ++ quote) tt (ap (λ (x : Text). x ++ quote) whole))
 
-      pub value_shorter : (d : ℕ) (r : Text) → q ≡ d ∷ r → length r < length (chars bs)
-      value_shorter d r z = omega (arith, ap length s.characters, length-append (chars xs) (chars ys), ap length e, ap length z)
-
 -- ---- lists of parameters and of elements
 
 module _ {X Y : Type 0} (f : X → Y) (P : Y → Type 0) where

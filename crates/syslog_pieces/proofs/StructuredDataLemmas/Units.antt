@@ -84,14 +84,8 @@ not_n c e = elim (eqb_tells c 110) [
 not_backslash : (c : ℕ) → is_escaped c ≡ false → c ≢ 92
 not_backslash c e f = let t : is_escaped 92 ≡ false = ap is_escaped (sym f) ∙ e in let u : true ≡ false = t in cc
 
-pair_n : (c : ℕ) → nat_eq c 110 ≡ true → pair_meaning c ≡ 10 ∷ []
-pair_n c e = ap (λ (b : Bool). cond b (10 ∷ []) (cond (is_escaped c) (c ∷ []) (92 ∷ c ∷ []))) e
-
 pub pair_char : (c : ℕ) → nat_eq c 110 ≡ false → is_escaped c ≡ true → pair_meaning c ≡ c ∷ []
 pair_char c e f = ap (λ (b : Bool). cond b (10 ∷ []) (cond (is_escaped c) (c ∷ []) (92 ∷ c ∷ []))) e ∙ ap (λ (b : Bool). cond b (c ∷ []) (92 ∷ c ∷ [])) f
-
-pub pair_both : (c : ℕ) → nat_eq c 110 ≡ false → is_escaped c ≡ false → pair_meaning c ≡ 92 ∷ c ∷ []
-pair_both c e f = ap (λ (b : Bool). cond b (10 ∷ []) (cond (is_escaped c) (c ∷ []) (92 ∷ c ∷ []))) e ∙ ap (λ (b : Bool). cond b (c ∷ []) (92 ∷ c ∷ [])) f
 
 escaped_on : (u : TextUnit) (c : ℕ) (t : Text) → IsUnit u → escaped_char c ≡ unit_text u → unit_meaning u ≡ c ∷ [] → IsUnescaped (escaped t) t → IsUnescaped (escaped (c ∷ t)) (c ∷ t)
 escaped_on u c t h e f i = record {

@@ -104,8 +104,3 @@ printed_stamp-ascii s =
 pub printed_stamp-bytes : (s : OffsetTimestamp)
     → encode_utf8_all (printed_stamp s.instant.nanosecond s.offset.seconds) ≡ printed_stamp s.instant.nanosecond s.offset.seconds
 printed_stamp-bytes s = encodes-IsAscii _ (printed_stamp-ascii s)
-
--- and the other way round
-pub printed_stamp-chars : (s : OffsetTimestamp)
-    → chars (printed_stamp s.instant.nanosecond s.offset.seconds) ≡ printed_stamp s.instant.nanosecond s.offset.seconds
-printed_stamp-chars s = chars-IsAscii _ (printed_stamp-ascii s)

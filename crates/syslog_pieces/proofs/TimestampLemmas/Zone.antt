@@ -75,10 +75,6 @@ module _ (f : CivilFields) (dt : DateTime) (e : fields_of dt ≡ f) (local : Tim
       subst (λ (x : Option (Bor ZoneHandle)). IsAnswer (IsStampOfFields (given_zone x) local f) r) (sym is)
       (answer_of_fields f dt None local r e h)
 
--- no datetime has the fields
-pub no_fields : (f : CivilFields) (tz : Option TimeZone) (local : TimeZone) → (AreCivil f → ⊥) → IsAnswer (IsStampOfFields tz local f) None
-no_fields f tz local n s (dt, e, h) = n (civil-fields dt f e)
-
 -- ---- the year of a month date
 module _ (dating : Dating) (date : MonthDate) where
   pub answer_in_year : (y : ℤ) (r : Option OffsetTimestamp) → year_of date dating.year ≡ Some y → IsAnswer (IsStampOfFields dating.zone dating.local (civil_of date y)) r → IsAnswer (IsMonthStamp dating date) r
