@@ -26,19 +26,6 @@ visible_told bs ts b u v e f =
       (λ h. f ∙ (bytes_eq-Decides ts bs).1 (same_chars ts bs v u (kept ∙ drop_kept (chars bs) h))),
     )
 
--- the characters of a process name: those of a tag, but for the bracket
-pub process_chars : (t : Text) → Each is_tag_char t → Each is_open_char t → Each is_process_char t
-process_chars [] h k = tt
-process_chars (c ∷ t) h k = (and_from (is_tag_char c) (not (nat_eq c 93)) h.0 k.0, process_chars t h.1 k.1)
-
-pub tag_chars : (t : Text) → Each is_process_char t → Each is_tag_char t
-tag_chars [] h = tt
-tag_chars (c ∷ t) h = ((and_parts (is_tag_char c) (not (nat_eq c 93)) h.0).0, tag_chars t h.1)
-
-pub open_chars : (t : Text) → Each is_process_char t → Each is_open_char t
-open_chars [] h = tt
-open_chars (c ∷ t) h = ((and_parts (is_tag_char c) (not (nat_eq c 93)) h.0).1, open_chars t h.1)
-
 -- a list that is there, seen through a function
 pub some_params : {X Y : Type 0} (f : X → Y) (xs : List X) → 0 < length (map f xs) → 0 < length xs
 some_params f [] h = h

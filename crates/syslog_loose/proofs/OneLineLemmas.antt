@@ -16,7 +16,8 @@ use Rattle.syslog_pieces.specs.Timestamp.Zone.{Dating}
 use Rattle.syslog_pieces.specs.declared.procid.ProcId.{ProcId}
 use Rattle.syslog_pieces.specs.declared.procid.ProcId.TheVariants.{PID, Name}
 use Rattle.syslog_pieces.specs.declared.timestamp.OffsetTimestamp.{OffsetTimestamp}
-use Rattle.syslog_pieces.proofs.PieceLemmas.Parts.{part_joined, all_map}
+use Rattle.syslog_pieces.proofs.PieceLemmas.Each.{all_map, each_map, each_front, each_behind, all_left, all_right, each_append}
+use Rattle.syslog_pieces.proofs.PieceLemmas.Parts.{part_joined}
 use Rattle.syslog_pieces.proofs.TextLemmas.ReadBack.{decimal_digits}
 use Rattle.syslog_pieces.proofs.TimestampLemmas.Characters.{IsStampCharacter}
 use Rattle.syslog_pieces.proofs.TimestampLemmas.Printing.{printed_stamp-characters}
@@ -32,10 +33,9 @@ use Rattle.syslog_loose.specs.declared.variant.Variant.TheVariants.{Either, RFC3
 use Rattle.syslog_loose.proofs.PriorityLemmas.{priority_small}
 use Rattle.syslog_loose.proofs.Rfc3164Lemmas.Apart.{digit_range}
 use Rattle.syslog_loose.proofs.Rfc3164Lemmas.Bounded.{read_bounded}
-use Rattle.syslog_loose.proofs.Rfc3164Lemmas.Near.{each_map, each_front, each_behind, read_near}
+use Rattle.syslog_loose.proofs.Rfc3164Lemmas.Near.{read_near}
 use Rattle.syslog_loose.proofs.Rfc3164Lemmas.Printed as loose
-use Rattle.syslog_loose.proofs.Rfc3164Lemmas.Quoting.{all_left, all_right, quotes}
-use Rattle.syslog_loose.proofs.Rfc3164Lemmas.ReadBack.{each_append}
+use Rattle.syslog_loose.proofs.Rfc3164Lemmas.Quoting.{quotes}
 use Rattle.syslog_loose.proofs.Rfc5424Lemmas as strict
 use Rattle.syslog_loose.proofs.Rfc5424Lemmas.ReadBack.{read_plain, printed_is}
 

@@ -1,9 +1,19 @@
 -- What trimming leaves of a text: all of it but white space at its end.
-use Rattle.std.proofs.Common.{◌≡◌, ℕ, ◌<◌, inl, inr, Bool, true, false, cond, not, ◌&&◌, ◌||◌, nat_eq, [], ◌∷◌, ◌++◌, length, refl, sym, ap, subst, ◌∙◌, arith, append_assoc}
+use Rattle.std.proofs.Common.{◌≡◌, ℕ, ◌<◌, inl, inr, Bool, true, false, cond, not, ◌&&◌, ◌||◌, nat_eq, Option, Some, None}
+use Rattle.std.proofs.Common.{List, [], ◌∷◌, ◌++◌, length, refl, sym, ap, subst, ◌∙◌, arith, append_assoc, append-nil}
+use Rattle.std.specs.List.{flat_map}
 use Rattle.std.proofs.lemmas.Bool.Decides.{eqb_tells}
 use Rattle.std.specs.Char.{is_whitespace, is_not_whitespace}
 use Rattle.std.specs.Str.{skip_leading_whitespace, drop_trailing_whitespace}
-use Rattle.syslog_pieces.specs.Pieces.Class.{Text, Class, Front, Each, Ends, run}
+use Rattle.syslog_pieces.specs.Pieces.Class.{Text, Class, Values, Front, Row, Each, Ends, run, rest}
+use Rattle.syslog_pieces.specs.Pieces.Format.{Format, classes, printed_row}
+use Rattle.syslog_pieces.specs.StructuredData.Element.{ElementValue, param_text, element_text, joined_elements, elements_text}
+use Rattle.syslog_pieces.specs.Timestamp.Printed.{printed_stamp}
+use Rattle.syslog_pieces.specs.declared.timestamp.OffsetTimestamp.{OffsetTimestamp}
+use Rattle.syslog_pieces.proofs.PieceLemmas.Class.{row_head}
+use Rattle.syslog_pieces.proofs.PieceLemmas.Formats.{printed_more, row_pieces}
+use Rattle.syslog_pieces.proofs.TimestampLemmas.RoundTrip.{printed_stamp-visible, printed_stamp-begins}
+use Rattle.syslog_loose.specs.Printed.{timestamp_text}
 use Rattle.syslog_pieces.specs.Text.{is_blank, trimmed}
 use Rattle.syslog_loose.specs.Canonical.{EndsVisibly}
 unfoldable pub use Rattle.syslog_loose.specs.Jumps.{message_end}
@@ -134,3 +144,55 @@ pub message_blanks : (msg : Text) → Ends is_blank msg → Front (run is_blank)
 unfolding message_end
 message_blanks [] h = record { piece = []; whole = refl; is = (tt, tt) }
 message_blanks (c ∷ cs) h = record { piece = 32 ∷ []; whole = refl; is = ((refl, tt), h) }
+
+-- ---- printed rows
+
+pub row_last : (Fs : List Format) (vs : Values (classes Fs)) (q : Text) → LastVisible q → LastVisible (printed_row Fs vs q)
+row_last [] vs q h = h
+row_last (F ∷ Fs) vs q h = last_append (F.print vs.0) (printed_row Fs vs.1 q) (row_last Fs vs.1 q h)
+
+-- where a text that ends visibly and a message end a printed row, trimming loses nothing but the space before an empty one
+pub row_trimmed : (Fs : List Format) (vs : Values (classes Fs)) (t msg : Text) → LastVisible t → EndsVisibly msg
+    → drop_trailing_whitespace (printed_row Fs vs (t ++ (32 ∷ msg))) ≡ printed_row Fs vs (t ++ message_end msg)
+row_trimmed Fs vs t msg h end =
+    ap drop_trailing_whitespace (sym (printed_more Fs vs t (32 ∷ msg)))
+    ∙ drop_after (printed_row Fs vs t) (32 ∷ msg) (row_last Fs vs t h)
+    ∙ ap (λ (x : Text). printed_row Fs vs t ++ x) (message_end_is msg end) ∙ printed_more Fs vs t (message_end msg)
+
+-- ---- printed elements and timestamps
+
+element_last : (e : ElementValue) → LastVisible (element_text e)
+element_last e =
+    last_append (91 ∷ e.id) (flat_map param_text e.params ++ (93 ∷ [])) (last_append (flat_map param_text e.params) (93 ∷ []) refl)
+
+pub joined_last : (e : ElementValue) (es : List ElementValue) → LastVisible (joined_elements (e ∷ es))
+joined_last e [] = subst LastVisible (sym (append-nil (element_text e))) (element_last e)
+joined_last e (f ∷ es) = last_append (element_text e) (joined_elements (f ∷ es)) (joined_last f es)
+
+pub elements_last : (es : List ElementValue) → LastVisible (elements_text es)
+elements_last [] = refl
+elements_last (e ∷ es) = joined_last e es
+
+-- a printed timestamp, or `-`, begins with no blank
+stamp_some : (s : OffsetTimestamp) → 0 < length (printed_stamp s.instant.nanosecond s.offset.seconds)
+stamp_some s =
+    let (c, more, digit, first) = printed_stamp-begins s in
+    elim first [ inl e ↦ (let k = ap length e in omega arith) | inr e ↦ (let k = ap length e in omega arith) ]
+
+pub stamp_unblank : (v : Option OffsetTimestamp) (q : Text) → Ends is_blank (timestamp_text v ++ q)
+stamp_unblank None q = refl
+stamp_unblank (Some s) q = visible_ends_blanks (timestamp_text (Some s)) q (stamp_some s) (printed_stamp-visible s)
+
+-- ---- the last piece of a row
+
+abbrev pub last_text : (Cs : List Class) → Values (Cs ++ (rest ∷ [])) → Text
+last_text [] vs = vs.0
+last_text (C ∷ Cs) vs = last_text Cs vs.1
+
+-- all that is left of a text that ends visibly does too
+pub last_ends : (Cs : List Class) {t : Text} {vs : Values (Cs ++ (rest ∷ []))} → Front (Row (Cs ++ (rest ∷ []))) t [] vs → EndsVisibly t
+    → EndsVisibly (last_text Cs vs)
+last_ends [] {t = t} f h =
+    let (u, g, e) = row_pieces (rest ∷ []) f in
+    subst EndsVisibly (g.whole ∙ ap (λ (x : Text). g.piece ++ x) g.is.0 ∙ append-nil g.piece ∙ sym g.is.1) h
+last_ends (C ∷ Cs) f h = let g = row_head C (Cs ++ (rest ∷ [])) f in last_ends Cs g.2 (ends_behind C g.1 h)

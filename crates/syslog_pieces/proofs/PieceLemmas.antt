@@ -1,5 +1,7 @@
 -- The theory of pieces: one text has one division.
 pub mod Class
+pub mod Each
+pub mod Formats
 pub mod Kept
 pub mod Kinds
 pub mod Lists

@@ -34,13 +34,14 @@ use Rattle.syslog_loose.specs.declared.message.Protocol.TheVariants.{RFC3164}
 use Rattle.syslog_loose.proofs.PriorityLemmas.{priority_low, priority_front, priority_small}
 use Rattle.syslog_loose.proofs.Rfc3164Lemmas.Apart.{digit_range}
 use Rattle.syslog_loose.proofs.Rfc3164Lemmas.Misses.{plain_names}
-use Rattle.syslog_loose.proofs.Rfc3164Lemmas.Near.{each_right, TagField, tag_field, form_parts, no_colon_process, severity_beside, read_near}
+use Rattle.syslog_pieces.proofs.PieceLemmas.Each.{each_right}
+use Rattle.syslog_loose.proofs.Rfc3164Lemmas.Near.{TagField, tag_field, form_parts, no_colon_process, severity_beside, read_near}
 use Rattle.syslog_loose.proofs.Rfc3164Lemmas.Printed.{printed_is}
-use Rattle.syslog_loose.proofs.Rfc3164Lemmas.ReadBack.{canonical_back, tag_back, program_field, host_field_back, stamp_unblank, stamp_back}
+use Rattle.syslog_loose.proofs.Rfc3164Lemmas.ReadBack.{canonical_back, tag_back, program_field, host_field_back, stamp_back}
 use Rattle.syslog_loose.proofs.Rfc3164Lemmas.Rows.{from_gap, from_list, from_blanks, from_colon, from_tag_end, from_tag, from_stamp, from_priority_end}
 use Rattle.syslog_loose.proofs.Rfc3164Lemmas.Unique.{told}
 use Rattle.syslog_loose.proofs.Rfc3164Lemmas.Whole.{program_text, whole, tail_text, trimmed_whole}
-use Rattle.syslog_loose.proofs.TrimLemmas.{message_end, message_blanks}
+use Rattle.syslog_loose.proofs.TrimLemmas.{message_end, message_blanks, stamp_unblank}
 
 some_same : {A : Type 0} (x y : A) → Some x ≡ Some y → x ≡ y
 some_same x y e = cc

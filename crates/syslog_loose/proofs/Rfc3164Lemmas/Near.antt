@@ -34,29 +34,9 @@ use Rattle.syslog_loose.specs.Rfc3164.{Names3164, NamesHost, NamesProgram, Resol
 use Rattle.syslog_loose.specs.TagForm.{form_row, IsForm}
 use Rattle.syslog_loose.proofs.Rfc3164Lemmas.Rows.{from_gap, from_list, from_blanks, from_colon, from_tag_end, from_tag, from_stamp, from_priority_end}
 use Rattle.syslog_loose.proofs.TrimLemmas.{drop_ends, ends_behind}
+use Rattle.syslog_pieces.proofs.PieceLemmas.Each.{each_behind, each_both, each_left, each_front, each_right}
 
 -- ---- runs of characters that pass two tests
-pub each_map : (f g : ℕ → Bool) → ((c : ℕ) → f c ≡ true → g c ≡ true) → (t : Text) → Each f t → Each g t
-each_map f g k [] h = tt
-each_map f g k (c ∷ t) h = (k c h.0, each_map f g k t h.1)
-
-pub each_both : (f g : ℕ → Bool) (t : Text) → Each f t → Each g t → Each (λ c. f c && g c) t
-each_both f g [] h k = tt
-each_both f g (c ∷ t) h k = (and_from (f c) (g c) h.0 k.0, each_both f g t h.1 k.1)
-
-pub each_left : (f g : ℕ → Bool) (t : Text) → Each (λ c. f c && g c) t → Each f t
-each_left f g = each_map (λ c. f c && g c) f (λ c h. (and_parts (f c) (g c) h).0)
-
-pub each_right : (f g : ℕ → Bool) (t : Text) → Each (λ c. f c && g c) t → Each g t
-each_right f g = each_map (λ c. f c && g c) g (λ c h. (and_parts (f c) (g c) h).1)
-
-pub each_front : (f : ℕ → Bool) (p q : Text) → Each f (p ++ q) → Each f p
-each_front f [] q h = tt
-each_front f (c ∷ p) q h = (h.0, each_front f p q h.1)
-
-pub each_behind : (f : ℕ → Bool) (p q : Text) → Each f (p ++ q) → Each f q
-each_behind f [] q h = h
-each_behind f (c ∷ p) q h = each_behind f p q h.1
 
 -- ---- elements
 many_plain : (p q : Text) (es : List ElementValue) → IsMany full_element p q es → AllByRecursion IsPlainElement es × AllByRecursion (λ e. 0 < length e.params) es

@@ -14,7 +14,8 @@ use Rattle.syslog_pieces.specs.Timestamp.Zone.{Dating}
 use Rattle.syslog_pieces.specs.declared.procid.ProcId.{ProcId}
 use Rattle.syslog_pieces.specs.declared.procid.ProcId.TheVariants.{PID, Name}
 use Rattle.syslog_pieces.specs.declared.structured_data.listed.DashRule.{DashRule}
-use Rattle.syslog_pieces.proofs.PieceLemmas.Parts.{Quoted, row_quotes, silent, texted_quotes, rest_quotes, host_quotes, tag_word_quotes, optional_quotes, optional_texts, spaced_quotes, all_append, part_left, part_right, part_joined}
+use Rattle.syslog_pieces.proofs.PieceLemmas.Each.{all_append, all_left, all_right}
+use Rattle.syslog_pieces.proofs.PieceLemmas.Parts.{Quoted, row_quotes, silent, texted_quotes, rest_quotes, host_quotes, tag_word_quotes, optional_quotes, optional_texts, spaced_quotes, part_left, part_right, part_joined}
 use Rattle.syslog_pieces.proofs.StructuredDataLemmas.ElementParts.{optional_listed_quotes}
 use Rattle.syslog_loose.specs.Message.{MessageValue, message_texts}
 use Rattle.syslog_loose.specs.Rfc3164.{Names3164, Resolves, NamesProgram, NamesHost, rfc3164_row, IsRead3164, Quotes3164}
@@ -121,14 +122,6 @@ quoted_row rule dating = (
     ),
   ),
 )
-
-pub all_left : (P : Text → Type 0) (ts us : List Text) → AllByRecursion P (ts ++ us) → AllByRecursion P ts
-all_left P [] us h = tt
-all_left P (t ∷ ts) us h = (h.0, all_left P ts us h.1)
-
-pub all_right : (P : Text → Type 0) (ts us : List Text) → AllByRecursion P (ts ++ us) → AllByRecursion P us
-all_right P [] us h = h
-all_right P (t ∷ ts) us h = all_right P ts us h.1
 
 pub quotes : (rule : DashRule) (dating : Dating) (text : Text) (m : MessageValue) → IsRead3164 rule dating text m → Quotes3164 rule dating text m
 unfolding quoted_row

@@ -43,11 +43,11 @@ use Rattle.syslog_loose.specs.declared.message.Protocol.{Protocol}
 use Rattle.syslog_loose.specs.declared.message.Protocol.TheVariants.{RFC3164}
 use Rattle.syslog_loose.proofs.PriorityLemmas.{priority_low, priority_front}
 use Rattle.syslog_loose.proofs.Rfc3164Lemmas.Apart.{digit_range}
-use Rattle.syslog_loose.proofs.Rfc3164Lemmas.Near.{each_map, each_left, each_right}
+use Rattle.syslog_pieces.proofs.PieceLemmas.Each.{each_map, each_left, each_right, each_append}
 use Rattle.syslog_loose.proofs.Rfc3164Lemmas.Rows.{from_gap, from_list, from_blanks, from_colon, from_tag_end, from_tag, from_stamp, from_priority_end}
 use Rattle.syslog_loose.proofs.Rfc3164Lemmas.Unique.{told}
 use Rattle.syslog_loose.proofs.Rfc3164Lemmas.Whole.{bracketed, program_text, whole, tail_text, trimmed_whole}
-use Rattle.syslog_loose.proofs.TrimLemmas.{visible_ends_blanks, message_end, message_blanks}
+use Rattle.syslog_loose.proofs.TrimLemmas.{stamp_unblank, visible_ends_blanks, message_end, message_blanks}
 
 -- ---- elements and the message
 many_back : (es : List ElementValue) (q : Text) → AllByRecursion IsPlainElement es → AllByRecursion (λ e. 0 < length e.params) es → NoFront full_element q → IsMany full_element (joined_elements es) q es
@@ -104,9 +104,6 @@ process_named (PID n) h b = signed_writes n b
 process_named (Name t) (some, each, none) b = (none, refl)
 
 -- ---- the names
-pub each_append : (f : ℕ → Bool) (p q : Text) → Each f p → Each f q → Each f (p ++ q)
-each_append f [] q h k = k
-each_append f (c ∷ p) q h k = (h.0, each_append f p q h.1 k)
 
 pub bracketed_long : (a i : Text) → 1 < length (bracketed a i)
 bracketed_long a i = omega (arith, length-append a (91 ∷ (i ++ (93 ∷ []))), length-append i (93 ∷ []))
@@ -172,15 +169,6 @@ host_field_back origin q h =
     optional_some (spaced host) (spaced_front host (piece_front (exactly (32 ∷ [])) (32 ∷ []) (name_text origin ++ (32 ∷ q)) tt refl) (piece_front host (name_text origin) (32 ∷ q) origin (host_back origin (32 ∷ q) h refl)))
 
 -- ---- the timestamp
-stamp_some : (s : OffsetTimestamp) → 0 < length (printed_stamp s.instant.nanosecond s.offset.seconds)
-stamp_some s =
-    let (c, more, digit, first) = printed_stamp-begins s in
-    elim first [ inl e ↦ (let k = ap length e in omega arith) | inr e ↦ (let k = ap length e in omega arith) ]
-
--- no blank stands before it
-pub stamp_unblank : (v : Option OffsetTimestamp) (q : Text) → Ends is_blank (timestamp_text v ++ q)
-stamp_unblank None q = refl
-stamp_unblank (Some s) q = visible_ends_blanks (timestamp_text (Some s)) q (stamp_some s) (printed_stamp-visible s)
 
 pub stamp_back : (dating : Dating) (v : Option OffsetTimestamp) (q : Text) → IfSome v IsPlainStamp → Front (loose_stamp dating) (timestamp_text v ++ (32 ∷ q)) (32 ∷ q) v
 stamp_back dating None q h = piece_front (loose_stamp dating) dash (32 ∷ q) None (inl refl)

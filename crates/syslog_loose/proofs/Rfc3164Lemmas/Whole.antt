@@ -13,7 +13,7 @@ pub use Rattle.syslog_loose.specs.Jumps.{tail_text}
 pub use Rattle.syslog_loose.specs.KeptLoose.{bracketed, program_text}
 use Rattle.syslog_loose.specs.Message.{MessageValue}
 use Rattle.syslog_loose.specs.Printed.{timestamp_text, name_text, tag_text, spaced_elements, priority_of, printed_3164}
-use Rattle.syslog_loose.proofs.TrimLemmas.{LastVisible, last_append, drop_after, message_end_is}
+use Rattle.syslog_loose.proofs.TrimLemmas.{joined_last, LastVisible, last_append, drop_after, message_end_is}
 
 -- what stands behind the colon and its space
 abbrev pub body_text : List ElementValue → Text → Text
@@ -57,18 +57,10 @@ whole_last m =
     (last_append (32 ∷ name_text m.hostname) program
     (last_append (32 ∷ program_text m.appname m.procid) (58 ∷ []) refl)))
 
-element_last : (e : ElementValue) → LastVisible (element_text e)
-element_last e =
-    last_append (91 ∷ e.id) (flat_map param_text e.params ++ (93 ∷ [])) (last_append (flat_map param_text e.params) (93 ∷ []) refl)
-
-elements_last : (e : ElementValue) (es : List ElementValue) → LastVisible (joined_elements (e ∷ es))
-elements_last e [] = subst LastVisible (sym (append-nil (element_text e))) (element_last e)
-elements_last e (f ∷ es) = last_append (element_text e) (joined_elements (f ∷ es)) (elements_last f es)
-
 tail_is : (es : List ElementValue) (msg : Text) → EndsVisibly msg → drop_trailing_whitespace (32 ∷ body_text es msg) ≡ tail_text es msg
 tail_is [] msg h = message_end_is msg h
 tail_is (e ∷ es) msg h =
-    drop_after (32 ∷ joined_elements (e ∷ es)) (32 ∷ msg) (last_append (32 ∷ []) (joined_elements (e ∷ es)) (elements_last e es))
+    drop_after (32 ∷ joined_elements (e ∷ es)) (32 ∷ msg) (last_append (32 ∷ []) (joined_elements (e ∷ es)) (joined_last e es))
     ∙ ap (λ (x : Text). 32 ∷ (joined_elements (e ∷ es) ++ x)) (message_end_is msg h)
 
 pub trimmed_whole : (m : MessageValue) → EndsVisibly m.msg → trimmed (printed_3164 m) ≡ whole m (tail_text m.structured_data m.msg)

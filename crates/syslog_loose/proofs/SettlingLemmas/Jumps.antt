@@ -32,9 +32,11 @@ use Rattle.syslog_loose.specs.declared.variant.Variant.TheVariants as variants
 use Rattle.syslog_loose.proofs.PriorityLemmas.{priority_low, priority_front, priority_small}
 use Rattle.syslog_loose.proofs.Rfc3164Lemmas.Bounded.{read_bounded}
 use Rattle.syslog_loose.proofs.Rfc3164Lemmas.Misses.{plain_host, plain_names}
-use Rattle.syslog_loose.proofs.Rfc3164Lemmas.Near.{read_near, each_front}
+use Rattle.syslog_pieces.proofs.PieceLemmas.Each.{each_front}
+use Rattle.syslog_loose.proofs.Rfc3164Lemmas.Near.{read_near}
 use Rattle.syslog_loose.proofs.Rfc3164Lemmas.Printed.{printed_is, printed_apart}
-use Rattle.syslog_loose.proofs.Rfc3164Lemmas.ReadBack.{stamp_back, stamp_unblank, program_field, resolved, tag_back, host_field_back, gap_back}
+use Rattle.syslog_loose.proofs.TrimLemmas.{stamp_unblank}
+use Rattle.syslog_loose.proofs.Rfc3164Lemmas.ReadBack.{stamp_back, program_field, resolved, tag_back, host_field_back, gap_back}
 use Rattle.syslog_loose.proofs.Rfc3164Lemmas.Rows.{from_gap, from_list, from_blanks, from_colon, from_tag_end, from_tag, from_stamp, from_priority_end}
 use Rattle.syslog_loose.proofs.Rfc3164Lemmas.Whole.{program_text, whole, trimmed_whole}
 use Rattle.syslog_loose.proofs.SettlingLemmas.Costs.{colons_last}

@@ -185,7 +185,7 @@ nil_piece : (p : Text) (ps : List Text) (q : Text) → p ≡ join ps → Divides
 nil_piece p [] q e d = e
 nil_piece p (x ∷ ps) q e d = absurd d
 
-nil_front : {t u : Text} → Front (Row []) t u tt → t ≡ u
+pub nil_front : {t u : Text} → Front (Row []) t u tt → t ≡ u
 nil_front {t = t} {u = u} f = f.whole ∙ ap (λ (x : Text). x ++ u) (nil_piece f.piece f.is.0 u f.is.1 f.is.2)
 
 pub rows_join : (As Bs : List Class) → {t u r : Text} {vs : Values As} {ws : Values Bs} → Front (Row As) t u vs → Front (Row Bs) u r ws → Front (Row (As ++ Bs)) t r (both_values As Bs vs ws)

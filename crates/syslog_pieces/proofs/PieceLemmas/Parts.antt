@@ -6,6 +6,7 @@ use Rattle.syslog_pieces.specs.Pieces.Parts.{IsPart, IsInPieces, AreInPieces, te
 use Rattle.syslog_pieces.specs.ProcId.{process_word}
 use Rattle.syslog_pieces.specs.Text.{Names, host, tag_word, word}
 use Rattle.syslog_pieces.specs.declared.procid.ProcId.TheVariants.{PID, Name}
+use Rattle.syslog_pieces.proofs.PieceLemmas.Each.{all_map, all_append}
 
 -- ---- parts of parts
 pub part_same : (p t : Text) → t ≡ p → IsPart p t
@@ -24,13 +25,6 @@ part_joined (p ∷ ps) t (inl h) = part_left p (join ps) t h
 part_joined (p ∷ ps) t (inr h) = part_right p (join ps) t (part_joined ps t h)
 
 -- ---- lists of texts
-pub all_map : {P Q : Text → Type 0} → ((t : Text) → P t → Q t) → (ts : List Text) → AllByRecursion P ts → AllByRecursion Q ts
-all_map f [] h = tt
-all_map f (t ∷ ts) h = (f t h.0, all_map f ts h.1)
-
-pub all_append : (P : Text → Type 0) (ts us : List Text) → AllByRecursion P ts → AllByRecursion P us → AllByRecursion P (ts ++ us)
-all_append P [] us h k = k
-all_append P (t ∷ ts) us h k = (h.0, all_append P ts us h.1 k)
 
 -- ---- the texts of a meaning
 

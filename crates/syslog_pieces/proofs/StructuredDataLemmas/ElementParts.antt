@@ -10,7 +10,8 @@ use Rattle.syslog_pieces.specs.StructuredData.{value, param_row, param, element_
 use Rattle.syslog_pieces.specs.StructuredData.Listed.{full_element, listed, elements_or}
 use Rattle.syslog_pieces.specs.Text.{is_blank}
 use Rattle.syslog_pieces.specs.declared.structured_data.listed.DashRule.{DashRule}
-use Rattle.syslog_pieces.proofs.PieceLemmas.Parts.{Quotes, Quoted, row_texts, row_quotes, part_same, part_left, part_right, part_joined, all_map, all_append, silent, texted_quotes}
+use Rattle.syslog_pieces.proofs.PieceLemmas.Each.{all_map, all_append}
+use Rattle.syslog_pieces.proofs.PieceLemmas.Parts.{Quotes, Quoted, row_texts, row_quotes, part_same, part_left, part_right, part_joined, silent, texted_quotes}
 
 -- the texts of a row are parts of it
 row_parts : (Cs : List Class) (k : Quoted Cs) (p q : Text) (vs : Values Cs) → (Row Cs).Is p q vs → AllByRecursion (λ t. IsPart p t) (row_texts Cs k vs)
