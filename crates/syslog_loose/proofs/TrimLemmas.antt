@@ -10,7 +10,7 @@ use Rattle.syslog_pieces.specs.Pieces.Format.{Format, classes, printed_row}
 use Rattle.syslog_pieces.specs.StructuredData.Element.{ElementValue, param_text, element_text, joined_elements, elements_text}
 use Rattle.syslog_pieces.specs.Timestamp.Printed.{printed_stamp}
 use Rattle.syslog_pieces.specs.declared.timestamp.OffsetTimestamp.{OffsetTimestamp}
-use Rattle.syslog_pieces.proofs.PieceLemmas.Class.{row_head}
+use Rattle.syslog_pieces.proofs.PieceLemmas.Class.{row_head, rest_whole}
 use Rattle.syslog_pieces.proofs.PieceLemmas.Formats.{printed_more, row_pieces}
 use Rattle.syslog_pieces.proofs.TimestampLemmas.RoundTrip.{printed_stamp-visible, printed_stamp-begins}
 use Rattle.syslog_loose.specs.Printed.{timestamp_text}
@@ -192,7 +192,5 @@ last_text (C ∷ Cs) vs = last_text Cs vs.1
 -- all that is left of a text that ends visibly does too
 pub last_ends : (Cs : List Class) {t : Text} {vs : Values (Cs ++ (rest ∷ []))} → Front (Row (Cs ++ (rest ∷ []))) t [] vs → EndsVisibly t
     → EndsVisibly (last_text Cs vs)
-last_ends [] {t = t} f h =
-    let (u, g, e) = row_pieces (rest ∷ []) f in
-    subst EndsVisibly (g.whole ∙ ap (λ (x : Text). g.piece ++ x) g.is.0 ∙ append-nil g.piece ∙ sym g.is.1) h
+last_ends [] f h = let (u, g, e) = row_pieces (rest ∷ []) f in subst EndsVisibly (rest_whole g) h
 last_ends (C ∷ Cs) f h = let g = row_head C (Cs ++ (rest ∷ [])) f in last_ends Cs g.2 (ends_behind C g.1 h)

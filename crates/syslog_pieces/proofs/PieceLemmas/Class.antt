@@ -110,6 +110,10 @@ optional_some C f = record { piece = f.piece; whole = f.whole; is = f.is }
 pub rest_front : (text : Text) → Front rest text [] text
 rest_front text = record { piece = text; whole = sym (append-nil text); is = (refl, refl) }
 
+-- all that is left is the meaning
+pub rest_whole : {t q v : Text} → Front rest t q v → t ≡ v
+rest_whole f = f.whole ∙ ap (λ (x : Text). f.piece ++ x) f.is.0 ∙ append-nil f.piece ∙ sym f.is.1
+
 pub mapped_front : (C : Class) (B : Type 0) (f : C.Value → B) {t q : Text} {v : C.Value} → Front C t q v → Front (mapped C B f) t q (f v)
 mapped_front C B f {v = v} g = record { piece = g.piece; whole = g.whole; is = (v, g.is, refl) }
 
