@@ -16,7 +16,7 @@ use Rattle.syslog_loose.proofs.Rfc3164Lemmas.Stamped.{division_is_stamped}
 use Rattle.syslog_loose.proofs.Rfc3164Lemmas.Years.{other_read}
 use Rattle.syslog_pieces.specs.declared.structured_data.listed.DashRule.{DashRule}
 use Rattle.syslog_pieces.specs.declared.structured_data.listed.DashRule.TheVariants.{BeforeAnything, BeforeBlank}
-use Rattle.syslog_pieces.proofs.PieceLemmas.Class.{AllDeterministic, heads, front_same, row_det, optional_det, exactly_det, run_det, spaced_det, optional_none, optional_some, rest_front, row_nil, row_cons, row_head, rows_join, division_front, front_division, both_values}
+use Rattle.syslog_pieces.proofs.PieceLemmas.Class.{AllDeterministic, heads, front_same, row_det, optional_det, exactly_det, run_det, spaced_det, optional_none, optional_some, rest_front, row_nil, row_cons, row_head, rows_join, division_front, front_division, both_values, all_joined, firsts, lasts, rows_split}
 use Rattle.syslog_pieces.proofs.PriLemmas.{priority_det}
 use Rattle.syslog_pieces.proofs.StructuredDataLemmas.Listed.{dash_listed, full_begins, no_listed}
 use Rattle.syslog_pieces.proofs.TextLemmas.Words.{host_det, tag_word_det}
@@ -32,6 +32,7 @@ use Rattle.syslog_loose.specs.Rfc3164.{Names3164, Resolves, stamped_row, fields_
 use Rattle.syslog_loose.proofs.Rfc3164Lemmas.Rows.{from_gap, from_list}
 use Rattle.syslog_loose.proofs.Rfc3164Lemmas.Unique as loose
 use Rattle.syslog_loose.proofs.Rfc5424Lemmas as strict
+use Rattle.syslog_loose.proofs.Rfc3164Lemmas.Unique.{stamped_det, fields_det}
 
 -- ---- the condition
 
@@ -47,42 +48,12 @@ own_grows (protocol.RFC5424 version) m h = h
 pub condition_grows : (m : MessageValue) → IsCanonical BeforeAnything m → IsCanonical BeforeBlank m
 condition_grows m (plain, own) = (plain, own_grows m.protocol m own)
 
--- ---- a row that is two rows
-
-abbrev firsts : (As Bs : List Class) → Values (As ++ Bs) → Values As
-firsts [] Bs vs = tt
-firsts (C ∷ As) Bs vs = (vs.0, firsts As Bs vs.1)
-
-abbrev lasts : (As Bs : List Class) → Values (As ++ Bs) → Values Bs
-lasts [] Bs vs = vs
-lasts (C ∷ As) Bs vs = lasts As Bs vs.1
-
-rows_split : (As Bs : List Class) {t r : Text} {vs : Values (As ++ Bs)} → Front (Row (As ++ Bs)) t r vs
-    → (u : Text) × Front (Row As) t u (firsts As Bs vs) × Front (Row Bs) u r (lasts As Bs vs)
-rows_split [] Bs {t = t} f = (t, row_nil t, f)
-rows_split (C ∷ As) Bs f =
-    let h = row_head C (As ++ Bs) f in
-    let (u, a, b) = rows_split As Bs h.2 in
-    (u, row_cons C As h.1 a, b)
-
 -- the pieces of RFC 3164 before the list
 abbrev pub before_list : Dating → List Class
 before_list dating = stamped_row dating ++ fields_row
 
 pub before_det : (dating : Dating) → AllDeterministic (before_list dating)
-before_det dating = (
-  optional_det priority priority_det,
-  (
-    run_det is_blank,
-    (
-      loose_stamp_det dating,
-      (
-        optional_det (spaced host) (spaced_det host host_det),
-        (optional_det (spaced tag_word) (spaced_det tag_word tag_word_det), (run_det is_blank, (optional_det (exactly colon) (exactly_det colon), (run_det is_blank, tt)))),
-      ),
-    ),
-  ),
-)
+before_det dating = all_joined (stamped_row dating) fields_row (stamped_det dating) fields_det
 
 -- ---- a list under the old rule
 

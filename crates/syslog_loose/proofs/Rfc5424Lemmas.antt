@@ -9,7 +9,7 @@ use Rattle.syslog_pieces.specs.Pieces.Parts.{AreInPieces, text_list, process_tex
 use Rattle.syslog_pieces.specs.Timestamp.{header_stamp}
 use Rattle.syslog_pieces.specs.StructuredData.Element.{element_texts}
 use Rattle.syslog_pieces.specs.Pri.{priority}
-use Rattle.syslog_pieces.proofs.PieceLemmas.Class.{AllDeterministic, unique_division, front_division, no_row_division, optional_det, some_run_det, run_det, rest_det, row_nil, row_cons, rows_join, rest_front}
+use Rattle.syslog_pieces.proofs.PieceLemmas.Class.{AllDeterministic, unique_division, front_division, no_row_division, optional_det, some_run_det, run_det, rest_det, row_nil, row_cons, rows_join, rest_front, ◌also◌, all_joined}
 use Rattle.syslog_pieces.proofs.TextLemmas.Runs.{some_front_run}
 use Rattle.syslog_pieces.proofs.StructuredDataLemmas.Elements.{forgiving_det}
 use Rattle.syslog_pieces.proofs.StructuredDataLemmas.ElementParts.{forgiving_quotes}
@@ -22,73 +22,13 @@ use Rattle.syslog_loose.specs.Message.{MessageValue, message_texts}
 use Rattle.syslog_loose.specs.Rfc5424.{header_row, data_row, rfc5424_row, message_of, IsRead5424, IsNot5424, Quotes5424, NeedsNoMemory5424}
 
 pub header_det : AllDeterministic header_row
-header_det = (
-  optional_det priority priority_det,
-  (
-    number_det 4294967295,
-    (
-      some_run_det is_blank,
-      (
-        header_stamp_det,
-        (
-          some_run_det is_blank,
-          (
-            host_det,
-            (
-              some_run_det is_blank,
-              (word_det, (some_run_det is_blank, (process_word_det, (some_run_det is_blank, (word_det, tt))))),
-            ),
-          ),
-        ),
-      ),
-    ),
-  ),
-)
+header_det =
+    optional_det priority priority_det also number_det 4294967295 also some_run_det is_blank also header_stamp_det
+    also some_run_det is_blank also host_det also some_run_det is_blank also word_det also some_run_det is_blank
+    also process_word_det also some_run_det is_blank also word_det also tt
 
 pub rfc5424_det : AllDeterministic rfc5424_row
-rfc5424_det = (
-  optional_det priority priority_det,
-  (
-    number_det 4294967295,
-    (
-      some_run_det is_blank,
-      (
-        header_stamp_det,
-        (
-          some_run_det is_blank,
-          (
-            host_det,
-            (
-              some_run_det is_blank,
-              (
-                word_det,
-                (
-                  some_run_det is_blank,
-                  (
-                    process_word_det,
-                    (
-                      some_run_det is_blank,
-                      (
-                        word_det,
-                        (
-                          run_det is_blank,
-                          (
-                            forgiving_det,
-                            (run_det is_blank, (rest_det, tt)),
-                          ),
-                        ),
-                      ),
-                    ),
-                  ),
-                ),
-              ),
-            ),
-          ),
-        ),
-      ),
-    ),
-  ),
-)
+rfc5424_det = all_joined header_row data_row header_det (run_det is_blank also forgiving_det also run_det is_blank also rest_det also tt)
 
 -- a text is read as one message
 pub one_message : (text : Text) (m n : MessageValue) → IsRead5424 text m → IsRead5424 text n → m ≡ n
@@ -114,67 +54,12 @@ list_needs_none text t u w vs e none header gap q es list =
 
 -- ---- the texts of a message are in the pieces
 quoted_row : Quoted rfc5424_row
-quoted_row = (
-  (λ v. []),
-  silent (optional priority),
-  (
-    (λ v. []),
-    silent (number 4294967295),
-    (
-      (λ v. []),
-      silent (some_run is_blank),
-      (
-        (λ v. []),
-        silent header_stamp,
-        (
-          (λ v. []),
-          silent (some_run is_blank),
-          (
-            text_list,
-            host_quotes,
-            (
-              (λ v. []),
-              silent (some_run is_blank),
-              (
-                text_list,
-                word_quotes,
-                (
-                  (λ v. []),
-                  silent (some_run is_blank),
-                  (
-                    process_texts,
-                    process_quotes,
-                    (
-                      (λ v. []),
-                      silent (some_run is_blank),
-                      (
-                        text_list,
-                        word_quotes,
-                        (
-                          (λ v. []),
-                          silent (run is_blank),
-                          (
-                            (λ es. flat_map element_texts es),
-                            forgiving_quotes,
-                            (
-                              (λ v. []),
-                              silent (run is_blank),
-                              ((λ t. t ∷ []), rest_quotes, tt),
-                            ),
-                          ),
-                        ),
-                      ),
-                    ),
-                  ),
-                ),
-              ),
-            ),
-          ),
-        ),
-      ),
-    ),
-  ),
-)
+quoted_row =
+    silent (optional priority) also silent (number 4294967295) also silent (some_run is_blank) also silent header_stamp
+    also silent (some_run is_blank) also (text_list, host_quotes) also silent (some_run is_blank) also (text_list, word_quotes)
+    also silent (some_run is_blank) also (process_texts, process_quotes) also silent (some_run is_blank)
+    also (text_list, word_quotes) also silent (run is_blank) also ((λ es. flat_map element_texts es), forgiving_quotes)
+    also silent (run is_blank) also ((λ t. t ∷ []), rest_quotes) also tt
 
 pub quotes : (text : Text) (m : MessageValue) → IsRead5424 text m → Quotes5424 text m
 unfolding quoted_row

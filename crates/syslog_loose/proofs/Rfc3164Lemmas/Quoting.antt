@@ -20,6 +20,7 @@ use Rattle.syslog_pieces.proofs.StructuredDataLemmas.ElementParts.{optional_list
 use Rattle.syslog_loose.specs.Message.{MessageValue, message_texts}
 use Rattle.syslog_loose.specs.Rfc3164.{Names3164, Resolves, NamesProgram, NamesHost, rfc3164_row, IsRead3164, Quotes3164}
 use Rattle.syslog_loose.specs.TagForm.{form_row, IsForm}
+use Rattle.syslog_pieces.proofs.PieceLemmas.Class.{◌also◌}
 
 -- ---- parts of texts in pieces
 part_on : (p t u : Text) → IsPart p t → IsPart t u → IsPart p u
@@ -32,15 +33,9 @@ part_in (p ∷ ps) t u (inr h) k = inr (part_in ps t u h k)
 
 -- ---- tag and id are parts of the name
 quoted_form : Quoted form_row
-quoted_form = (
-  (λ t. t ∷ []),
-  texted_quotes (run is_label_char),
-  (
-    (λ v. []),
-    silent (exactly (91 ∷ [])),
-    ((λ t. t ∷ []), texted_quotes (some_run is_open_char), ((λ v. []), silent (exactly (93 ∷ [])), tt)),
-  ),
-)
+quoted_form =
+    ((λ t. t ∷ []), texted_quotes (run is_label_char)) also silent (exactly (91 ∷ []))
+    also ((λ t. t ∷ []), texted_quotes (some_run is_open_char)) also silent (exactly (93 ∷ [])) also tt
 
 form_parts : (text tag id : Text) → IsForm text tag id → IsPart text tag × IsPart text id
 unfolding quoted_form
@@ -85,43 +80,13 @@ module _ (ps : List Text) where
 
 -- ---- all texts
 quoted_row : (rule : DashRule) (dating : Dating) → Quoted (rfc3164_row rule dating)
-quoted_row rule dating = (
-  (λ v. []),
-  silent (optional priority),
-  (
-    (λ v. []),
-    silent (run is_blank),
-    (
-      (λ v. []),
-      silent (loose_stamp dating),
-      (
-        (λ v. optional_texts text_list v),
-        optional_quotes (spaced host) text_list (spaced_quotes host text_list host_quotes),
-        (
-          (λ v. optional_texts text_list v),
-          optional_quotes (spaced tag_word) text_list (spaced_quotes tag_word text_list tag_word_quotes),
-          (
-            (λ v. []),
-            silent (run is_blank),
-            (
-              (λ v. []),
-              silent (optional (exactly colon)),
-              (
-                (λ v. []),
-                silent (run is_blank),
-                (
-                  (λ es. flat_map element_texts (elements_or es)),
-                  optional_listed_quotes rule,
-                  ((λ v. []), silent (run is_blank), ((λ t. t ∷ []), rest_quotes, tt)),
-                ),
-              ),
-            ),
-          ),
-        ),
-      ),
-    ),
-  ),
-)
+quoted_row rule dating =
+    silent (optional priority) also silent (run is_blank) also silent (loose_stamp dating)
+    also ((λ v. optional_texts text_list v), optional_quotes (spaced host) text_list (spaced_quotes host text_list host_quotes))
+    also ((λ v. optional_texts text_list v), optional_quotes (spaced tag_word) text_list (spaced_quotes tag_word text_list tag_word_quotes))
+    also silent (run is_blank) also silent (optional (exactly colon)) also silent (run is_blank)
+    also ((λ es. flat_map element_texts (elements_or es)), optional_listed_quotes rule)
+    also silent (run is_blank) also ((λ t. t ∷ []), rest_quotes) also tt
 
 pub quotes : (rule : DashRule) (dating : Dating) (text : Text) (m : MessageValue) → IsRead3164 rule dating text m → Quotes3164 rule dating text m
 unfolding quoted_row

@@ -62,9 +62,19 @@ pub texted_det : (C : Class) → IsDeterministic C → IsDeterministic (texted C
 texted_det C d p q p' q' b b' e (v, h, i) (v', h', i') = let r = d p q p' q' v v' e h h' in (r.0, i ∙ r.0 ∙ sym i')
 
 -- ---- rows
+
+-- what holds of each in a row, without brackets in brackets
+infixr 30 ◌also◌
+abbrev pub ◌also◌ : {A B : Type 0} → A → B → A × B
+◌also◌ a b = (a, b)
+
 abbrev pub AllDeterministic : List Class → Type 0
 AllDeterministic [] = Unit {0}
 AllDeterministic (C ∷ Cs) = IsDeterministic C × AllDeterministic Cs
+
+pub all_joined : (As Bs : List Class) → AllDeterministic As → AllDeterministic Bs → AllDeterministic (As ++ Bs)
+all_joined [] Bs d e = e
+all_joined (C ∷ As) Bs d e = (d.0, all_joined As Bs d.1 e)
 
 pair_same : {A B : Type 0} (x y : A × B) → x.0 ≡ y.0 → x.1 ≡ y.1 → x ≡ y
 pair_same (a, b) (c, d) e f = cc
@@ -196,17 +206,26 @@ pub rows_join : (As Bs : List Class) → {t u r : Text} {vs : Values As} {ws : V
 rows_join [] Bs {r = r} {ws = ws} f g = subst (λ (x : Text). Front (Row Bs) x r ws) (sym (nil_front f)) g
 rows_join (C ∷ As) Bs f g = let h = row_head C As f in row_cons C (As ++ Bs) h.1 (rows_join As Bs h.2 g)
 
--- the first row of a front
-rows_front : (As Bs : List Class) {t r : Text} {vs : Values (As ++ Bs)} → Front (Row (As ++ Bs)) t r vs → (u : Text) × (ws : Values As) × Front (Row As) t u ws
-rows_front [] Bs {t = t} f = (t, tt, row_nil t)
-rows_front (C ∷ As) Bs {vs = vs} f =
+-- the two rows of a front
+abbrev pub firsts : (As Bs : List Class) → Values (As ++ Bs) → Values As
+firsts [] Bs vs = tt
+firsts (C ∷ As) Bs vs = (vs.0, firsts As Bs vs.1)
+
+abbrev pub lasts : (As Bs : List Class) → Values (As ++ Bs) → Values Bs
+lasts [] Bs vs = vs
+lasts (C ∷ As) Bs vs = lasts As Bs vs.1
+
+pub rows_split : (As Bs : List Class) {t r : Text} {vs : Values (As ++ Bs)} → Front (Row (As ++ Bs)) t r vs
+    → (u : Text) × Front (Row As) t u (firsts As Bs vs) × Front (Row Bs) u r (lasts As Bs vs)
+rows_split [] Bs {t = t} f = (t, row_nil t, f)
+rows_split (C ∷ As) Bs f =
     let h = row_head C (As ++ Bs) f in
-    let (u, ws, g) = rows_front As Bs h.2 in
-    (u, (vs.0, ws), row_cons C As h.1 g)
+    let (u, a, b) = rows_split As Bs h.2 in
+    (u, row_cons C As h.1 a, b)
 
 pub rows_none_here : (As Bs : List Class) → {t : Text} → NoFront (Row As) t → NoFront (Row (As ++ Bs)) t
 rows_none_here As Bs n p q vs e h =
-    let (u, ws, g) = rows_front As Bs (record { piece = p; whole = e; is = h }) in no_front_no (Row As) n g
+    let (u, f, g) = rows_split As Bs (record { piece = p; whole = e; is = h }) in no_front_no (Row As) n f
 
 pub rows_none_later : (As Bs : List Class) → AllDeterministic As → {t u : Text} {vs : Values As} → Front (Row As) t u vs → NoFront (Row Bs) u → NoFront (Row (As ++ Bs)) t
 rows_none_later [] Bs d f n = subst (λ (x : Text). NoFront (Row Bs) x) (sym (nil_front f)) n

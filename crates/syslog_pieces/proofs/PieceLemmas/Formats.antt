@@ -6,11 +6,6 @@ use Rattle.syslog_pieces.proofs.PieceLemmas.Class.{nil_front, row_nil, row_cons,
 use Rattle.syslog_pieces.proofs.PieceLemmas.Steps.{piece_front}
 use Rattle.syslog_pieces.proofs.PieceLemmas.Each.{each_append}
 
--- ---- what holds of each in a row, written without brackets in brackets
-infixr 30 ◌also◌
-abbrev pub ◌also◌ : {A B : Type 0} → A → B → A × B
-◌also◌ a b = (a, b)
-
 -- ---- reading back
 abbrev pub AllSound : List Format → Type 0
 AllSound [] = Unit {0}

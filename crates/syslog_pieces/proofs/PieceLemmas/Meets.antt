@@ -1,7 +1,7 @@
 -- One class at one text has the same fronts as another class further on.
 use Rattle.std.proofs.Common.{◌≡◌, List, [], ◌∷◌, ◌++◌, Option, Some, None, MatchOption, ap, subst, ◌∙◌}
 use Rattle.syslog_pieces.specs.Pieces.Class.{Text, Class, Front, NoFront, IsDeterministic, Values, join, Divides, Row, mapped}
-use Rattle.syslog_pieces.proofs.PieceLemmas.Class.{AllDeterministic, front_same, no_front_no, row_nil, row_cons, row_head, mapped_front}
+use Rattle.syslog_pieces.proofs.PieceLemmas.Class.{AllDeterministic, front_same, no_front_no, row_nil, row_cons, row_head, mapped_front, nil_front}
 
 -- the fronts of C at t end where those of D at u end
 pub record Meets (C : Class) (t : Text) (D : Class) (u : Text) : Type 0 where
@@ -43,30 +43,12 @@ row_first C D Cs t u m = record {
   back = λ q vs g. (let r = row_head C Cs g in let s = m.back r.0 vs.0 r.1 in ((s.0, vs.1), row_cons D Cs s.1 r.2));
 }
 
-no_pieces : (p : Text) (ps : List Text) (q : Text) → p ≡ join ps → Divides [] ps q tt → p ≡ []
-no_pieces p [] q e d = e
-no_pieces p (x ∷ ps) q e d = absurd d
-
-pub nil_front : (t u : Text) → Front (Row []) t u tt → t ≡ u
-nil_front t u f = f.whole ∙ ap (λ (x : Text). x ++ u) (no_pieces f.piece f.is.0 u f.is.1 f.is.2)
-
 -- behind the first pieces of a row
 pub rows_go : (As Bs : List Class) → AllDeterministic As → (t u : Text) (vs : Values As) → Front (Row As) t u vs → Meets (Row (As ++ Bs)) t (Row Bs) u
-rows_go [] Bs d t u vs f = subst (λ (x : Text). Meets (Row Bs) t (Row Bs) x) (nil_front t u f) (meets_here (Row Bs) t)
+rows_go [] Bs d t u vs f = subst (λ (x : Text). Meets (Row Bs) t (Row Bs) x) (nil_front f) (meets_here (Row Bs) t)
 rows_go (C ∷ As) Bs d t u vs f =
     let r = row_head C As f in
     meets_on (Row (C ∷ As ++ Bs)) t (Row (As ++ Bs)) r.0 (Row Bs) u (row_goes C (As ++ Bs) d.0 t r.0 vs.0 r.1) (rows_go As Bs d.1 r.0 u vs.1 r.2)
-
-rows_front : (As Bs : List Class) (t q : Text) (vs : Values (As ++ Bs)) → Front (Row (As ++ Bs)) t q vs → (u : Text) × (ws : Values As) × Front (Row As) t u ws
-rows_front [] Bs t q vs f = (t, tt, row_nil t)
-rows_front (C ∷ As) Bs t q vs f =
-    let r = row_head C (As ++ Bs) f in
-    let s = rows_front As Bs r.0 q vs.1 r.2 in
-    (s.0, (vs.0, s.1), row_cons C As r.1 s.2)
-
-pub no_rows : (As Bs : List Class) (t : Text) → NoFront (Row As) t → NoFront (Row (As ++ Bs)) t
-no_rows As Bs t n p q vs e h =
-    let s = rows_front As Bs t q vs (record { piece = p; whole = e; is = h }) in no_front_no (Row As) n s.2
 
 -- ---- an answer with another meaning
 pub match_map : {X : Type 0} (r : Option X) {N M : Type 0} {S T : X → Type 0} → (N → M) → ((x : X) → S x → T x) → MatchOption r N S → MatchOption r M T

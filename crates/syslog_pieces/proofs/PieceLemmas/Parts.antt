@@ -35,24 +35,24 @@ Quotes C f = (p q : Text) (v : C.Value) → C.Is p q v → AllByRecursion (λ t.
 -- such a function for each class of a row
 abbrev pub Quoted : List Class → Type 0
 Quoted [] = Unit {0}
-Quoted (C ∷ Cs) = (f : C.Value → List Text) × Quotes C f × Quoted Cs
+Quoted (C ∷ Cs) = ((f : C.Value → List Text) × Quotes C f) × Quoted Cs
 
 -- the texts of a row's meanings, in order
 abbrev pub row_texts : (Cs : List Class) → Quoted Cs → Values Cs → List Text
 row_texts [] k vs = []
-row_texts (C ∷ Cs) (f, g, k) vs = f vs.0 ++ row_texts Cs k vs.1
+row_texts (C ∷ Cs) k vs = k.0.0 vs.0 ++ row_texts Cs k.1 vs.1
 
 pub row_quotes : (Cs : List Class) (k : Quoted Cs) (ps : List Text) (q : Text) (vs : Values Cs) → Divides Cs ps q vs → AreInPieces ps (row_texts Cs k vs)
 row_quotes [] k ps q vs h = tt
 row_quotes (C ∷ Cs) k [] q vs h = absurd h
-row_quotes (C ∷ Cs) (f, g, k) (p ∷ ps) q vs h =
+row_quotes (C ∷ Cs) ((f, g), k) (p ∷ ps) q vs h =
     all_append (λ t. IsInPieces (p ∷ ps) t) (f vs.0) (row_texts Cs k vs.1)
     (all_map (λ t x. inl x) (f vs.0) (g p (join ps ++ q) vs.0 h.0))
     (all_map (λ t x. inr x) (row_texts Cs k vs.1) (row_quotes Cs k ps q vs.1 h.1))
 
 -- a meaning without texts
-pub silent : (C : Class) → Quotes C (λ v. [])
-silent C p q v h = tt
+abbrev pub silent : (C : Class) → (f : C.Value → List Text) × Quotes C f
+silent C = ((λ v. []), (λ p q v h. tt))
 
 pub texted_quotes : (C : Class) → Quotes (texted C) (λ t. t ∷ [])
 texted_quotes C p q t (v, h, e) = (part_same p t e, tt)
