@@ -1,19 +1,15 @@
 -- What the tests of the written condition answer.
-use Rattle.std.proofs.Common.{◌≡◌, ℕ, ◌<◌, Bool, true, false, not, nat_eq, List, [], ◌∷◌, length, map, refl, sym, ap, subst, ◌∙◌, arith}
+use Rattle.std.proofs.Common.{◌≡◌, ℕ, ◌<◌, Bool, true, false, not, List, [], ◌∷◌, length, map, refl, sym, ap, subst, ◌∙◌, arith}
 use Rattle.std.specs.Prelude.{◌↔◌, IsTrue, MatchBool}
 use Rattle.std.specs.Str.{chars, IsUtf8, trim_end, bytes_eq, drop_trailing_whitespace}
-use Rattle.std.proofs.lemmas.Bool.{and_parts, and_from}
 use Rattle.std.proofs.lemmas.Slice.Eq.{bytes_eq-Decides}
-use Rattle.syslog_pieces.specs.Pieces.Class.{Text, Each, NoFront}
+use Rattle.syslog_pieces.specs.Pieces.Class.{Text, NoFront}
 use Rattle.syslog_pieces.specs.StructuredData.Listed.{BeginsNoList, listed}
 use Rattle.syslog_pieces.specs.declared.structured_data.listed.DashRule.{DashRule}
-use Rattle.syslog_pieces.specs.Text.{is_tag_char}
-use Rattle.syslog_pieces.specs.Text.CharClass.{is_open_char}
 use Rattle.syslog_pieces.specs.Text.Plain.{EndsVisibly}
 use Rattle.syslog_pieces.proofs.TextLemmas.Chars.{same_chars}
 use Rattle.syslog_pieces.proofs.TextLemmas.Trim.{end_trimmed_chars}
 use Rattle.syslog_pieces.proofs.StructuredDataLemmas.Listed.{no_list_is}
-use Rattle.syslog_loose.specs.Canonical.{is_process_char}
 use Rattle.syslog_loose.proofs.TrimLemmas.{drop_kept, drop_ends}
 
 -- a text that trimming leaves as it is

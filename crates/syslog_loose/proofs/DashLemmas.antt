@@ -1,11 +1,10 @@
 -- Which texts are read differently since the rule of the dash changed, and that the condition only grew.
-use Rattle.std.proofs.Common.{◌≡◌, ◌↔◌, ◌⊎◌, inl, inr, ℕ, suc, ℤ, Bool, true, false, not, MatchBool, IsTrue, List, [], ◌∷◌, ◌++◌, length, Option, Some, None, refl, sym, ap, subst, ◌∙◌, arith, append_assoc, append-nil}
+use Rattle.std.proofs.Common.{◌≡◌, ◌↔◌, ◌⊎◌, inl, inr, ℕ, suc, ℤ, Bool, true, false, MatchBool, IsTrue, List, [], ◌∷◌, ◌++◌, length, Option, Some, None, refl, sym, ap, subst, ◌∙◌, arith, append_assoc, append-nil}
 use Rattle.std.proofs.lemmas.Bool.Decides.{eqb_tells}
-use Rattle.syslog_pieces.specs.Pieces.Class.{Text, Class, Values, Front, NoFront, join, Divides, Row, Ends, run, rest, exactly, optional, spaced}
-use Rattle.syslog_pieces.specs.Pri.{priority}
+use Rattle.syslog_pieces.specs.Pieces.Class.{Text, Class, Values, Front, NoFront, join, Divides, Row, Ends, run, rest, exactly, optional}
 use Rattle.syslog_pieces.specs.StructuredData.Element.{ElementValue}
 use Rattle.syslog_pieces.specs.StructuredData.Listed.{IsListed, listed, BeginsNoList}
-use Rattle.syslog_pieces.specs.Text.{trimmed, is_blank, dash, colon, host, tag_word}
+use Rattle.syslog_pieces.specs.Text.{trimmed, is_blank, dash}
 use Rattle.std.specs.Borrow.{Bor}
 use Rattle.jiff.specs.declared.tz.timezone.TimeZone.{TimeZone}
 use Rattle.syslog_pieces.specs.Timestamp.Zone.{Dating, dating_of}
@@ -16,11 +15,8 @@ use Rattle.syslog_loose.proofs.Rfc3164Lemmas.Stamped.{division_is_stamped}
 use Rattle.syslog_loose.proofs.Rfc3164Lemmas.Years.{other_read}
 use Rattle.syslog_pieces.specs.declared.structured_data.listed.DashRule.{DashRule}
 use Rattle.syslog_pieces.specs.declared.structured_data.listed.DashRule.TheVariants.{BeforeAnything, BeforeBlank}
-use Rattle.syslog_pieces.proofs.PieceLemmas.Class.{AllDeterministic, heads, front_same, row_det, optional_det, exactly_det, run_det, spaced_det, optional_none, optional_some, rest_front, row_nil, row_cons, row_head, rows_join, division_front, front_division, both_values, all_joined, firsts, lasts, rows_split}
-use Rattle.syslog_pieces.proofs.PriLemmas.{priority_det}
+use Rattle.syslog_pieces.proofs.PieceLemmas.Class.{AllDeterministic, heads, front_same, row_det, optional_none, optional_some, rest_front, row_nil, row_cons, row_head, rows_join, division_front, front_division, both_values, all_joined, firsts, lasts, rows_split}
 use Rattle.syslog_pieces.proofs.StructuredDataLemmas.Listed.{dash_listed, full_begins, no_listed}
-use Rattle.syslog_pieces.proofs.TextLemmas.Words.{host_det, tag_word_det}
-use Rattle.syslog_pieces.proofs.TimestampLemmas.Loose.{loose_stamp_det}
 use Rattle.syslog_loose.specs.declared.message.Protocol.{Protocol}
 use Rattle.syslog_loose.specs.declared.message.Protocol.TheVariants as protocol
 use Rattle.syslog_loose.specs.declared.variant.Variant.{Variant}

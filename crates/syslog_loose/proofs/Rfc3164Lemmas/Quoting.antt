@@ -1,6 +1,6 @@
 -- The texts of a message of RFC 3164 are in the pieces.
 use Rattle.std.proofs.Common.{inl, inr, List, [], ◌∷◌, ◌++◌, Option, Some, None, sym, subst}
-use Rattle.std.specs.List.{flat_map, AllByRecursion}
+use Rattle.std.specs.List.{flat_map}
 use Rattle.syslog_pieces.specs.Pieces.Class.{Text, run, some_run, exactly, optional, spaced}
 use Rattle.syslog_pieces.specs.Pieces.Parts.{IsPart, IsInPieces, AreInPieces, text_list, process_texts}
 use Rattle.syslog_pieces.specs.Pri.{priority}

@@ -1,5 +1,5 @@
 -- A canonical message of RFC 3164 is read back: the division of its printed text, piece by piece.
-use Rattle.std.proofs.Common.{◌≡◌, ◌≢◌, ℕ, suc, pos, negsuc, ◌+◌, ◌*◌, ◌<◌, inl, inr, Bool, true, false, not, nat_eq, List, [], ◌∷◌, ◌++◌, length, Option, Some, None, IfSome, IsSome, refl, sym, ap, subst, ◌∙◌, arith}
+use Rattle.std.proofs.Common.{◌≡◌, ◌≢◌, ℕ, suc, pos, negsuc, ◌+◌, ◌*◌, ◌<◌, inl, inr, true, false, not, nat_eq, List, [], ◌∷◌, ◌++◌, length, Option, Some, None, IfSome, IsSome, refl, sym, ap, subst, ◌∙◌, arith}
 use Rattle.std.proofs.lemmas.Bool.{and_from, ne_eqb}
 use Rattle.std.proofs.lemmas.List.{length-append}
 use Rattle.std.specs.Char.{is_ascii_digit, is_not_whitespace}
@@ -16,7 +16,6 @@ use Rattle.syslog_pieces.specs.Text.{is_blank, is_tag_char, dash, colon, name_te
 use Rattle.syslog_pieces.specs.Text.CharClass.{is_label_char, is_open_char}
 use Rattle.syslog_pieces.specs.Timestamp.Loose.{loose_stamp}
 use Rattle.syslog_pieces.specs.Timestamp.Plain.{IsPlainStamp}
-use Rattle.syslog_pieces.specs.Timestamp.Printed.{printed_stamp}
 use Rattle.syslog_pieces.specs.Timestamp.Zone.{Dating}
 use Rattle.syslog_pieces.specs.declared.pri.SyslogFacility.{SyslogFacility}
 use Rattle.syslog_pieces.specs.declared.pri.SyslogSeverity.{SyslogSeverity}
@@ -31,7 +30,7 @@ use Rattle.syslog_pieces.proofs.ProcIdLemmas.ReadBack.{signed_writes}
 use Rattle.syslog_pieces.proofs.StructuredDataLemmas.ReadBack.{element_back}
 use Rattle.syslog_pieces.proofs.TextLemmas.ReadBack.{host_back, decimal_digits}
 use Rattle.syslog_pieces.proofs.StructuredDataLemmas.Listed.{full_begins, no_full_nil, no_listed}
-use Rattle.syslog_pieces.proofs.TimestampLemmas.RoundTrip.{printed_stamp-back, printed_stamp-visible, printed_stamp-begins}
+use Rattle.syslog_pieces.proofs.TimestampLemmas.RoundTrip.{printed_stamp-back}
 use Rattle.syslog_pieces.proofs.TimestampLemmas.Texts.{stamp_character-visible}
 use Rattle.syslog_loose.specs.Canonical.{IsBoundedProcess, IsBounded, IsPlainHost, IsPlainElement, is_process_char, IsBracketedProcess, ArePlainNames, IsPlain, IsPlain3164, IsPlainFor, IsCanonical}
 use Rattle.syslog_loose.specs.ListedMisses.{is_no_colon}
@@ -47,7 +46,7 @@ use Rattle.syslog_pieces.proofs.PieceLemmas.Each.{each_map, each_left, each_righ
 use Rattle.syslog_loose.proofs.Rfc3164Lemmas.Rows.{from_gap, from_list, from_blanks, from_colon, from_tag_end, from_tag, from_stamp, from_priority_end}
 use Rattle.syslog_loose.proofs.Rfc3164Lemmas.Unique.{told}
 use Rattle.syslog_loose.proofs.Rfc3164Lemmas.Whole.{bracketed, program_text, whole, tail_text, trimmed_whole}
-use Rattle.syslog_loose.proofs.TrimLemmas.{stamp_unblank, visible_ends_blanks, message_end, message_blanks}
+use Rattle.syslog_loose.proofs.TrimLemmas.{stamp_unblank, message_end, message_blanks}
 
 -- ---- elements and the message
 many_back : (es : List ElementValue) (q : Text) → AllByRecursion IsPlainElement es → AllByRecursion (λ e. 0 < length e.params) es → NoFront full_element q → IsMany full_element (joined_elements es) q es

@@ -1,19 +1,17 @@
 -- A printed message of RFC 5424 is read back unchanged exactly where it is canonical, and what is read is canonical, up to an
 -- absent facility or severity.
-use Rattle.std.proofs.Common.{◌≡◌, ℕ, ◌<◌, ◌≤◌, ◌^◌, ◌+◌, ◌*◌, ◌⊎◌, inl, inr, true, false, List, [], ◌∷◌, ◌++◌, length, Option, Some, None, IfSome, IsSome, refl, sym, ap, ap₂, subst, ◌∙◌, arith, append_assoc, append-nil}
-use Rattle.std.specs.List.{AllByRecursion, flat_map}
+use Rattle.std.proofs.Common.{◌≡◌, ℕ, ◌<◌, ◌≤◌, ◌^◌, ◌+◌, ◌*◌, true, false, List, [], ◌∷◌, ◌++◌, Option, Some, None, IfSome, IsSome, refl, sym, ap, ap₂, subst, ◌∙◌, arith}
 use Rattle.std.specs.Option.{option_map_or, option_and_then}
 use Rattle.std.specs.Prelude.{unwrap_or}
 use Rattle.std.specs.Fmt.{decimal}
 use Rattle.std.specs.Str.{skip_leading_whitespace, drop_trailing_whitespace}
 use Rattle.std.specs.Char.{is_ascii_digit, is_not_whitespace}
-use Rattle.syslog_pieces.specs.Pieces.Class.{Text, Class, Values, Front, NoFront, Row, Each, Ends, Division, run, some_run, optional, rest}
+use Rattle.syslog_pieces.specs.Pieces.Class.{Text, Class, Values, Front, NoFront, Row, Ends, Division, run, some_run, optional, rest}
 use Rattle.syslog_pieces.specs.Pieces.Format.{Format, IsSound, classes, printed_row, RowReadsBack}
 use Rattle.syslog_pieces.specs.Pri.{priority, composed, facility_of, severity_of, facility_number, severity_number}
 use Rattle.syslog_pieces.specs.ProcId.{process_word, process_text, IsPlainProcess, IsBoundedProcess}
 use Rattle.syslog_pieces.specs.StructuredData.{forgiving, item}
-use Rattle.syslog_pieces.specs.StructuredData.Element.{ElementValue, element_text, param_text, joined_elements, elements_text}
-use Rattle.syslog_pieces.specs.StructuredData.Plain.{IsPlainElement}
+use Rattle.syslog_pieces.specs.StructuredData.Element.{ElementValue, elements_text}
 use Rattle.syslog_pieces.specs.Text.{trimmed, is_blank, number, host, word, name_text}
 use Rattle.syslog_pieces.specs.Text.Plain.{IsVisible, IsPlainHost, IsPlainWord, EndsVisibly}
 use Rattle.syslog_pieces.specs.Timestamp.{header_stamp}
@@ -29,7 +27,7 @@ use Rattle.syslog_pieces.specs.declared.timestamp.OffsetTimestamp.{OffsetTimesta
 use Rattle.syslog_pieces.proofs.PieceLemmas.Class.{row_nil, row_cons, row_head, rows_join, both_values, front_division, division_front, rest_front, rest_whole, optional_some, front_same, optional_det, ◌also◌}
 use Rattle.syslog_pieces.proofs.PieceLemmas.Formats.{AllSound, row_back, row_pieces}
 use Rattle.syslog_pieces.proofs.PieceLemmas.Steps.{piece_front}
-use Rattle.syslog_pieces.proofs.PriLemmas.{priority_det, priority_composed, facility_low, severity_low, facility_composed, severity_composed, severity_there}
+use Rattle.syslog_pieces.proofs.PriLemmas.{priority_det, priority_composed, facility_composed, severity_composed, severity_there}
 use Rattle.syslog_pieces.proofs.ProcIdLemmas.ReadBack.{process_back, process_plain, process_bounded}
 use Rattle.syslog_pieces.proofs.StructuredDataLemmas.ReadBack.{forgiving_back, forgiving_plain, no_item_nil, no_item_before}
 use Rattle.syslog_pieces.proofs.TextLemmas.ReadBack.{number_back, word_back, word_plain, host_back, host_plain, NoColonNext, blanks_next}

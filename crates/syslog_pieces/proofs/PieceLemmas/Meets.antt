@@ -1,7 +1,7 @@
 -- One class at one text has the same fronts as another class further on.
-use Rattle.std.proofs.Common.{◌≡◌, List, [], ◌∷◌, ◌++◌, Option, Some, None, MatchOption, ap, subst, ◌∙◌}
-use Rattle.syslog_pieces.specs.Pieces.Class.{Text, Class, Front, NoFront, IsDeterministic, Values, join, Divides, Row, mapped}
-use Rattle.syslog_pieces.proofs.PieceLemmas.Class.{AllDeterministic, front_same, no_front_no, row_nil, row_cons, row_head, mapped_front, nil_front}
+use Rattle.std.proofs.Common.{List, [], ◌∷◌, ◌++◌, Option, Some, None, MatchOption, subst}
+use Rattle.syslog_pieces.specs.Pieces.Class.{Text, Class, Front, NoFront, IsDeterministic, Values, Row, mapped}
+use Rattle.syslog_pieces.proofs.PieceLemmas.Class.{AllDeterministic, front_same, no_front_no, row_cons, row_head, mapped_front, nil_front}
 
 -- the fronts of C at t end where those of D at u end
 pub record Meets (C : Class) (t : Text) (D : Class) (u : Text) : Type 0 where

@@ -1,9 +1,8 @@
 -- Steps through a row whose pieces are known.
-use Rattle.std.proofs.Common.{◌≡◌, ℕ, ◌≤◌, List, [], ◌∷◌, ◌++◌, length, Some, None, refl, sym, ap, subst, ◌∙◌, arith}
+use Rattle.std.proofs.Common.{◌≡◌, ◌≤◌, List, ◌∷◌, ◌++◌, length, Some, None, refl, sym, ap, subst, ◌∙◌, arith}
 use Rattle.std.proofs.lemmas.List.{length-append}
 use Rattle.syslog_pieces.specs.Pieces.Class.{Text, Class, Front, NoFront, IsDeterministic, Values, Row, optional}
-use Rattle.syslog_pieces.proofs.PieceLemmas.Class.{front_same, row_head, nil_front}
-use Rattle.syslog_pieces.proofs.PieceLemmas.Kinds.{Begins, begins_more}
+use Rattle.syslog_pieces.proofs.PieceLemmas.Class.{front_same, row_head}
 
 -- ---- a front at a known place
 

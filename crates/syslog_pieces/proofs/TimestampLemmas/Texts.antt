@@ -1,14 +1,13 @@
 -- What a header may know of a text that has a stamp.
-use Rattle.std.proofs.Common.{◌≡◌, ◌≢◌, ℕ, ◌+◌, ◌/◌, ◌<◌, false, List, ◌∷◌, ◌++◌, length, arith, zero, suc, []}
+use Rattle.std.proofs.Common.{◌≡◌, ℕ, ◌+◌, ◌/◌, false, List, ◌∷◌, ◌++◌, arith}
 use Rattle.std.proofs.lemmas.Bool.Decides.{nat_tests}
 use Rattle.std.specs.Char.{IsAsciiDigit, is_ascii_digit, is_whitespace}
-use Rattle.std.specs.List.{All, AllByRecursion}
-use Rattle.std.specs.Str.{IsAscii}
+use Rattle.std.specs.List.{All}
 use Rattle.jiff_fmt.specs.Text.{pad4}
 use Rattle.syslog_pieces.specs.Pieces.Class.{Each}
 use Rattle.syslog_pieces.specs.declared.timestamp.OffsetTimestamp.{OffsetTimestamp}
 use Rattle.syslog_pieces.specs.Timestamp.{IsStampText}
-use Rattle.syslog_pieces.proofs.TimestampLemmas.Characters.{IsStampCharacter, stamp_characters, stamp_ascii}
+use Rattle.syslog_pieces.proofs.TimestampLemmas.Characters.{IsStampCharacter, stamp_characters}
 
 -- each character is one from `+` to `z`
 pub stamp_text-characters : (text : List ℕ) (s : OffsetTimestamp) → IsStampText text s → All IsStampCharacter text

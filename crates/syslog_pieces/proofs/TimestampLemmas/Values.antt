@@ -1,13 +1,11 @@
 -- A timestamp is its two numbers, which lie in their ranges.
-use Rattle.std.proofs.Common.{◌≡◌, inl, inr, ℕ, ℤ, List, refl, arith}
+use Rattle.std.proofs.Common.{◌≡◌, ℕ, List}
 use Rattle.std.proofs.Props.{props}
 use mathlib.Core.HLevel.{is_prop→PathP}
 use Rattle.jiff.specs.Types.{Timestamp, Offset}
 use Rattle.jiff.specs.Words.{IsTimestampNanos, IsOffsetSeconds}
-use Rattle.jiff_core.proofs.SignedLemmas.{signed_arith}
 use Rattle.syslog_pieces.specs.declared.timestamp.OffsetTimestamp.{OffsetTimestamp}
-use Rattle.syslog_pieces.specs.Timestamp.{IsStampText, HasNoStamp}
-use Rattle.syslog_pieces.specs.Timestamp.Rfc3339.{HasStamp, IsOffsetText}
+use Rattle.syslog_pieces.specs.Timestamp.{IsStampText}
 use Rattle.syslog_pieces.proofs.TimestampLemmas.Answers.{one_stamp}
 
 pub same_instant : (a b : Timestamp) → a.nanosecond ≡ b.nanosecond → a ≡ b

@@ -7,7 +7,7 @@ use Rattle.jiff.specs.declared.tz.timezone.TimeZone.{TimeZone as ZoneHandle}
 use Rattle.jiff.specs.Words.{plain_zone, offset_at, ambiguous_at}
 use Rattle.std.specs.Borrow.{Bor}
 use Rattle.syslog_pieces.specs.Timestamp.{IsAnswer}
-use Rattle.syslog_pieces.specs.Timestamp.Fields.{AreCivil, fields_of, IsStampAt}
+use Rattle.syslog_pieces.specs.Timestamp.Fields.{fields_of, IsStampAt}
 use Rattle.syslog_pieces.specs.Timestamp.Zone.{Dating, given_zone, IsStampOf, IsStampIn, IsStampInGap, IsLocalStampOf, IsLocalStampIn, IsStampInAny, IsStampOfFields, IsMonthStamp, civil_of, year_of}
 use Rattle.syslog_pieces.specs.declared.timestamp.OffsetTimestamp.{OffsetTimestamp}
 use Rattle.syslog_pieces.specs.declared.timestamp.fields.CivilFields.{CivilFields}
