@@ -20,6 +20,7 @@ use Rattle.syslog_pieces.proofs.TimestampLemmas.MonthDate.{IsBlank, blanks_begin
 use Rattle.syslog_pieces.proofs.TimestampLemmas.Texts.{stamp_text-year}
 use Rattle.syslog_loose.specs.Rfc3164.{body_row, rfc3164_row}
 use Rattle.syslog_loose.specs.Rfc5424.{data_row, rfc5424_row, IsNot5424}
+use Rattle.syslog_pieces.proofs.PieceLemmas.Formats.{row_pieces}
 
 -- ---- what a text begins with
 abbrev pub IsDigit : ℕ → Type 0
@@ -84,11 +85,9 @@ behind_blanks =
 -- where both have their priority, RFC 5424 has a version behind it
 pub versioned : (text q : Text) (p : Option ℕ) (vs : Values rfc5424_row) → Division rfc5424_row text vs → Front (optional priority) text q p → Versioned q
 versioned text q p vs d f =
-    let g1 = row_head (optional priority) (number 4294967295 ∷ some_run is_blank ∷ behind_blanks) (division_front rfc5424_row d) in
-    let g2 = row_head (number 4294967295) (some_run is_blank ∷ behind_blanks) g1.2 in
-    let g3 = row_head (some_run is_blank) behind_blanks g2.2 in
-    let e = (front_same (optional priority) (optional_det priority priority_det) g1.1 f).0 in
-    record { value = vs.1.0; after = g2.0; number = subst (λ (x : Text). Front (number 4294967295) x g2.0 vs.1.0) e g2.1; blank = blanks_begin g3.1 }
+    let (_, g1, (t2, g2, (_, g3, _))) = row_pieces rfc5424_row (division_front rfc5424_row d) in
+    let e = (front_same (optional priority) (optional_det priority priority_det) g1 f).0 in
+    record { value = vs.1.0; after = t2; number = subst (λ (x : Text). Front (number 4294967295) x t2 vs.1.0) e g2; blank = blanks_begin g3 }
 
 -- and blanks behind the priority are none there
 moved : {t q : Text} → Front (run is_blank) t q tt → Versioned t → Versioned q
@@ -96,17 +95,15 @@ moved f v = subst Versioned (stays (number_begins 4294967295 v.number) f) v
 
 pub not_both : (rule : DashRule) (dating : Dating) (text : Text) (vs : Values rfc5424_row) (ws : Values (rfc3164_row rule dating)) → Division rfc5424_row text vs → Division (rfc3164_row rule dating) text ws → ⊥
 not_both rule dating text vs ws d e =
-    let g1 = row_head (optional priority) (run is_blank ∷ loose_stamp dating ∷ body_row rule) (division_front (rfc3164_row rule dating) e) in
-    let g2 = row_head (run is_blank) (loose_stamp dating ∷ body_row rule) g1.2 in
-    let g3 = row_head (loose_stamp dating) (body_row rule) g2.2 in
-    let v = moved g2.1 (versioned text g1.0 ws.0 vs d g1.1) in
-    loose_apart dating g3.1.piece g3.0 ws.1.1.0 g3.1.is (subst Versioned g3.1.whole v)
+    let (t1, g1, (_, g2, more)) = row_pieces (rfc3164_row rule dating) (division_front (rfc3164_row rule dating) e) in
+    let (t3, g3, _) = more in
+    let v = moved g2 (versioned text t1 ws.0 vs d g1) in
+    loose_apart dating g3.piece t3 ws.1.1.0 g3.is (subst Versioned g3.whole v)
 
 -- a text that shows a month date has no division of RFC 5424
 pub shown_apart : (text : Text) (d : MonthDate) → ShowsMonthDate text d → IsNot5424 text
 shown_apart text d (p, more, e) vs f =
-    let g1 = row_head (optional priority) (run is_blank ∷ month_date ∷ rest ∷ []) (division_front (showing_row month_date) e) in
-    let g2 = row_head (run is_blank) (month_date ∷ rest ∷ []) g1.2 in
-    let g3 = row_head month_date (rest ∷ []) g2.2 in
-    let v = moved g2.1 (versioned (trimmed text) g1.0 p vs f g1.1) in
-    date_apart g3.1.piece g3.0 d g3.1.is (subst Versioned g3.1.whole v)
+    let (u1, g1, (_, g2, more)) = row_pieces (showing_row month_date) (division_front (showing_row month_date) e) in
+    let (u3, g3, _) = more in
+    let v = moved g2 (versioned (trimmed text) u1 p vs f g1) in
+    date_apart g3.piece u3 d g3.is (subst Versioned g3.whole v)

@@ -21,7 +21,7 @@ use Rattle.syslog_pieces.specs.declared.procid.ProcId.{ProcId}
 use Rattle.syslog_pieces.specs.declared.procid.ProcId.TheVariants.{PID, Name}
 use Rattle.syslog_pieces.specs.declared.structured_data.listed.DashRule.{DashRule}
 use Rattle.syslog_pieces.specs.declared.timestamp.OffsetTimestamp.{OffsetTimestamp}
-use Rattle.syslog_pieces.proofs.PieceLemmas.Class.{heads, row_nil, row_cons, row_head, division_front, front_division, rest_front, spaced_parts}
+use Rattle.syslog_pieces.proofs.PieceLemmas.Class.{heads, row_nil, row_cons, row_head, division_front, front_division, rest_front, spaced_parts, rest_whole}
 use Rattle.syslog_pieces.proofs.PieceLemmas.Steps.{present_front}
 use Rattle.syslog_pieces.proofs.PriLemmas.{severity_there}
 use Rattle.syslog_pieces.proofs.StructuredDataLemmas.ReadBack.{element_plain}
@@ -29,11 +29,12 @@ use Rattle.syslog_pieces.proofs.TimestampLemmas.RoundTrip.{stamp_text-plain}
 use Rattle.syslog_loose.specs.Canonical.{IsVisible, IsNoI32Text, IsPlainElement, EndsVisibly}
 use Rattle.syslog_loose.specs.ListedMisses.{is_no_colon, HasNoColon, IsOddHost, is_inner_char, IsInnerProcess, AreNearNames, IsNear, IsNearlyCanonical, IsOfMonthDate}
 use Rattle.syslog_loose.specs.Message.{MessageValue}
-use Rattle.syslog_loose.specs.Rfc3164.{Names3164, NamesHost, NamesProgram, Resolves, body_row, rfc3164_row, IsRead3164}
+use Rattle.syslog_loose.specs.Rfc3164.{Names3164, NamesHost, NamesProgram, Resolves, body_row, rfc3164_row, IsRead3164, stamped_row, fields_row}
 use Rattle.syslog_loose.specs.TagForm.{form_row, IsForm}
 use Rattle.syslog_loose.proofs.Rfc3164Lemmas.Rows.{from_gap, from_list, from_blanks, from_colon, from_tag_end, from_tag, from_stamp, from_priority_end}
-use Rattle.syslog_loose.proofs.TrimLemmas.{drop_ends, ends_behind}
+use Rattle.syslog_loose.proofs.TrimLemmas.{drop_ends, ends_behind, last_ends}
 use Rattle.syslog_pieces.proofs.PieceLemmas.Each.{each_behind, each_both, each_left, each_front, each_right}
+use Rattle.syslog_pieces.proofs.PieceLemmas.Formats.{row_pieces}
 
 -- ---- runs of characters that pass two tests
 
@@ -95,18 +96,16 @@ pub record FormParts (text tag id : Text) : Type 0 where
 
 pub form_parts : (text tag id : Text) → IsForm text tag id → FormParts text tag id
 form_parts text tag id d =
-    let g1 = row_head (texted (run is_label_char)) (exactly (91 ∷ []) ∷ texted (some_run is_open_char) ∷ exactly (93 ∷ []) ∷ []) (division_front form_row d) in
-    let g2 = row_head (exactly (91 ∷ [])) (texted (some_run is_open_char) ∷ exactly (93 ∷ []) ∷ []) g1.2 in
-    let g3 = row_head (texted (some_run is_open_char)) (exactly (93 ∷ []) ∷ []) g2.2 in
-    let e : id ≡ g3.1.piece = g3.1.is.2 in
+    let (t1, g1, (t2, g2, (t3, g3, _))) = row_pieces form_row (division_front form_row d) in
+    let e : id ≡ g3.piece = g3.is.2 in
     record {
-      label = subst (λ (x : Text). Each is_label_char x) (sym g1.1.is.2) g1.1.is.1.0;
-      some = subst (λ (x : Text). 0 < length x) (sym e) g3.1.is.1.0;
-      unclosed = subst (λ (x : Text). Each is_open_char x) (sym e) g3.1.is.1.1;
+      label = subst (λ (x : Text). Each is_label_char x) (sym g1.is.2) g1.is.1.0;
+      some = subst (λ (x : Text). 0 < length x) (sym e) g3.is.1.0;
+      unclosed = subst (λ (x : Text). Each is_open_char x) (sym e) g3.is.1.1;
       within = λ f h.
-          let h1 = each_behind f g1.1.piece g1.0 (subst (λ (x : Text). Each f x) g1.1.whole h) in
-          let h2 = each_behind f g2.1.piece g2.0 (subst (λ (x : Text). Each f x) g2.1.whole h1) in
-          subst (λ (x : Text). Each f x) (sym e) (each_front f g3.1.piece g3.0 (subst (λ (x : Text). Each f x) g3.1.whole h2));
+          let h1 = each_behind f g1.piece t1 (subst (λ (x : Text). Each f x) g1.whole h) in
+          let h2 = each_behind f g2.piece t2 (subst (λ (x : Text). Each f x) g2.whole h1) in
+          subst (λ (x : Text). Each f x) (sym e) (each_front f g3.piece t3 (subst (λ (x : Text). Each f x) g3.whole h2));
     }
 
 -- what an id names
@@ -168,22 +167,11 @@ module _ (rule : DashRule) (dating : Dating) (text : Text) where
   read_near m r =
       let v = r.values in
       let (n, resolves, means) = r.means in
-      let g1 = row_head (optional priority) (from_priority_end rule dating) (division_front (rfc3164_row rule dating) r.division) in
-      let g2 = row_head (run is_blank) (from_stamp rule dating) g1.2 in
-      let g3 = row_head (loose_stamp dating) (body_row rule) g2.2 in
-      let g4 = row_head (optional (spaced host)) (from_tag rule) g3.2 in
-      let g5 = row_head (optional (spaced tag_word)) (from_tag_end rule) g4.2 in
-      let g6 = row_head (run is_blank) (from_colon rule) g5.2 in
-      let g7 = row_head (optional (exactly colon)) (from_blanks rule) g6.2 in
-      let g8 = row_head (run is_blank) (from_list rule) g7.2 in
-      let g9 = row_head (optional (listed rule)) from_gap g8.2 in
-      let g10 = row_head (run is_blank) (rest ∷ []) g9.2 in
-      let g11 = row_head rest [] g10.2 in
-      let near = near_names g4.0 v.1.1.1.0 v.1.1.1.1.0 n (host_field g3.0 g4.0 v.1.1.1.0 g4.1) (tag_field g4.0 g5.0 v.1.1.1.1.0 g5.1) resolves in
-      let plain = field_plain rule g8.0 g9.0 v.1.1.1.1.1.1.1.1.0 g9.1 in
-      let e : v.1.1.1.1.1.1.1.1.1.1.0 ≡ g10.0 = g11.1.is.1 ∙ sym (append-nil g11.1.piece) ∙ ap (λ (x : Text). g11.1.piece ++ x) (sym g11.1.is.0) ∙ sym g11.1.whole in
-      let visible = ends_behind (run is_blank) g10.1 (ends_behind (optional (listed rule)) g9.1 (ends_behind (run is_blank) g8.1 (ends_behind (optional (exactly colon)) g7.1 (ends_behind (run is_blank) g6.1
-      (ends_behind (optional (spaced tag_word)) g5.1 (ends_behind (optional (spaced host)) g4.1 (ends_behind (loose_stamp dating) g3.1 (ends_behind (run is_blank) g2.1 (ends_behind (optional priority) g1.1 (drop_ends (skip_leading_whitespace text))))))))))) in
+      let row = division_front (rfc3164_row rule dating) r.division in
+      let (_, _, more) = row_pieces (rfc3164_row rule dating) row in
+      let (_, _, (t3, g3, (t4, g4, (t5, g5, (_, _, (_, _, (t8, _, (t9, g9, (_, g10, (_, g11, _)))))))))) = more in
+      let near = near_names t4 v.1.1.1.0 v.1.1.1.1.0 n (host_field t3 t4 v.1.1.1.0 g4) (tag_field t4 t5 v.1.1.1.1.0 g5) resolves in
+      let plain = field_plain rule t8 t9 v.1.1.1.1.1.1.1.1.0 g9 in
       subst IsNear (sym means) (record {
         protocol = refl;
         hostname = near.0;
@@ -193,8 +181,9 @@ module _ (rule : DashRule) (dating : Dating) (text : Text) where
         msgid = refl;
         elements = plain.0;
         parameters = plain.1;
-        msg_front = subst (λ (x : Text). Ends is_blank x) (sym e) g10.1.is.1;
-        msg_end = subst EndsVisibly (sym e) visible;
+        msg_front = subst (λ (x : Text). Ends is_blank x) (rest_whole g11) g10.is.1;
+        msg_end = last_ends (stamped_row dating ++ (fields_row ++ (optional (listed rule) ∷ run is_blank ∷ []))) row
+            (drop_ends (skip_leading_whitespace text));
       })
 
   -- a timestamp that was read is plain, or that of a month date that the text shows
@@ -218,10 +207,9 @@ module _ (rule : DashRule) (dating : Dating) (text : Text) where
   pub stamp_read : (m : MessageValue) → IsRead3164 rule dating text m → IfSome m.timestamp IsOfKind
   stamp_read m r =
       let (n, resolves, means) = r.means in
-      let g1 = row_head (optional priority) (from_priority_end rule dating) (division_front (rfc3164_row rule dating) r.division) in
-      let g2 = row_head (run is_blank) (from_stamp rule dating) g1.2 in
-      let g3 = row_head (loose_stamp dating) (body_row rule) g2.2 in
-      subst (λ (x : MessageValue). IfSome x.timestamp IsOfKind) (sym means) (stamp_kind r.values.0 g1.0 g2.0 g3.0 r.values.1.1.0 g1.1 g2.1 g3.1)
+      let (t1, g1, more) = row_pieces (rfc3164_row rule dating) (division_front (rfc3164_row rule dating) r.division) in
+      let (t2, g2, (t3, g3, _)) = more in
+      subst (λ (x : MessageValue). IfSome x.timestamp IsOfKind) (sym means) (stamp_kind r.values.0 t1 t2 t3 r.values.1.1.0 g1 g2 g3)
 
   -- with a facility there is a severity
   pub read_nearly : (m : MessageValue) → IsRead3164 rule dating text m → IsSome m.facility → IsNearlyCanonical m

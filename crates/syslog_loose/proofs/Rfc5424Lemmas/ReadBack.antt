@@ -242,7 +242,8 @@ values_plain : (rule : DashRule) (text : Text) (v : Values rfc5424_row) → Divi
     → IsCanonical rule (completed (message_of v)) × IsBounded (completed (message_of v))
 values_plain rule text v d =
     let row = division_front rfc5424_row d in
-    let (t1, pri, (t2, number, (t3, s1, (t4, stamp, (t5, s2, (t6, name, (t7, s3, (t8, app, (t9, s4, (t10, process, (t11, s5, (t12, id, (t13, s6, (t14, list, (t15, s7, (t16, msg, end)))))))))))))))) = row_pieces rfc5424_row row in
+    let (t1, pri, (t2, number, (t3, s1, (t4, stamp, (t5, s2, (t6, name, (t7, s3, more))))))) = row_pieces rfc5424_row row in
+    let (t8, app, (t9, s4, (t10, process, (t11, s5, (t12, id, (t13, s6, (t14, list, (t15, s7, (t16, msg, _))))))))) = more in
     let m = message_of v in
     let no_colon : NoColonNext t6 = subst (λ (x : Text). NoColonNext x) (sym s3.whole) (blanks_next s3.piece t7 s3.is.0 s3.is.1) in
     (
