@@ -37,7 +37,10 @@ use Rattle.syslog_loose.proofs.Rfc3164Lemmas.Near.{read_near}
 use Rattle.syslog_loose.proofs.Rfc3164Lemmas.Printed as loose
 use Rattle.syslog_loose.proofs.Rfc3164Lemmas.Quoting.{quotes}
 use Rattle.syslog_loose.proofs.Rfc5424Lemmas as strict
-use Rattle.syslog_loose.proofs.Rfc5424Lemmas.ReadBack.{read_plain, printed_is}
+use Rattle.syslog_loose.proofs.Rfc5424Lemmas.ReadBack.{read_plain, printed_is, fields, values_of}
+use Rattle.syslog_pieces.proofs.PieceLemmas.Class.{◌also◌}
+use Rattle.syslog_pieces.proofs.PieceLemmas.Formats.{EachPrints, row_passes}
+use Rattle.syslog_pieces.specs.Pieces.Format.{printed_row}
 
 -- the characters of printable ASCII
 abbrev pub is_ascii_print : ℕ → Bool
@@ -195,23 +198,16 @@ module _ (test : ℕ → Bool) (ascii : (c : ℕ) → is_ascii_print c ≡ true 
   strict_line : (version : ℕ) (m : MessageValue) → version < 2 ^ 32 → IfSome m.procid IsBoundedProcess → AreLines m → Passes (printed_5424 version m)
   unfolding printed_5424
   strict_line version m v b h =
+      let space : Passes (32 ∷ []) = (ascii 32 refl, tt) in
       let body : Text = elements_text m.structured_data ++ (32 ∷ m.msg) in
-      let id : Text = name_text m.msgid ++ (32 ∷ body) in
-      let process : Text = process_text m.procid ++ (32 ∷ id) in
-      let app : Text = name_text m.appname ++ (32 ∷ process) in
-      let host : Text = name_text m.hostname ++ (32 ∷ app) in
-      let stamp : Text = timestamp_text m.timestamp ++ (32 ∷ host) in (
+      let header : EachPrints test fields (values_of version m) =
+      number_line version (omega arith) also space also timestamp_line m.timestamp also space also name_line m.hostname h.host
+      also space also name_line m.appname h.app also space also process_line m.procid b h.process also space
+      also name_line m.msgid h.id also tt in
+      let end : Passes (32 ∷ body) = (ascii 32 refl, and_more (elements_text m.structured_data) m.msg (elements_line m.structured_data h.elements) h.msg) in (
         ascii 60 refl,
-        join_lines (decimal (priority_of m)) (62 ∷ (decimal version ++ (32 ∷ stamp))) (priority_line m) (
-          ascii 62 refl,
-          and_more (decimal version) stamp (number_line version (omega arith))
-              (and_more (timestamp_text m.timestamp) host (timestamp_line m.timestamp)
-              (and_more (name_text m.hostname) app (name_line m.hostname h.host)
-              (and_more (name_text m.appname) process (name_line m.appname h.app)
-              (and_more (process_text m.procid) id (process_line m.procid b h.process)
-              (and_more (name_text m.msgid) body (name_line m.msgid h.id)
-              (and_more (elements_text m.structured_data) m.msg (elements_line m.structured_data h.elements) h.msg)))))),
-        ),
+        join_lines (decimal (priority_of m)) (62 ∷ printed_row fields (values_of version m) (32 ∷ body)) (priority_line m)
+            (ascii 62 refl, row_passes test fields (values_of version m) (32 ∷ body) header end),
       )
 
   -- ---- what is read

@@ -1,11 +1,10 @@
 -- No text has a division into the pieces of RFC 5424 and one into those of RFC 3164.
-use Rattle.std.proofs.Common.{◌≡◌, ℕ, ◌≤◌, inl, inr, true, List, [], ◌∷◌, ◌++◌, Option, Some, None, refl, sym, ap, subst, ◌∙◌, arith, append_assoc}
+use Rattle.std.proofs.Common.{◌≡◌, ℕ, ◌≤◌, inl, inr, true, [], ◌∷◌, ◌++◌, Option, Some, None, refl, sym, ap, subst, ◌∙◌, arith, append_assoc}
 use Rattle.std.proofs.lemmas.Bool.Decides.{nat_tests}
 use Rattle.std.specs.Char.{is_ascii_digit}
-use Rattle.syslog_pieces.specs.Pieces.Class.{Text, Class, Values, Division, Front, Each, run, some_run, rest, optional}
+use Rattle.syslog_pieces.specs.Pieces.Class.{Text, Values, Division, Front, Each, run, optional}
 use Rattle.syslog_pieces.specs.Pri.{priority}
-use Rattle.syslog_pieces.specs.ProcId.{process_word}
-use Rattle.syslog_pieces.specs.Text.{trimmed, is_blank, number, host, word}
+use Rattle.syslog_pieces.specs.Text.{trimmed, is_blank, number}
 use Rattle.syslog_pieces.specs.Timestamp.{header_stamp}
 use Rattle.syslog_pieces.specs.Timestamp.Loose.{loose_stamp, showing_row, ShowsMonthDate}
 use Rattle.syslog_pieces.specs.Timestamp.MonthDate.{month_date}
@@ -13,13 +12,13 @@ use Rattle.syslog_pieces.specs.Timestamp.Zone.{Dating}
 use Rattle.syslog_pieces.specs.declared.structured_data.listed.DashRule.{DashRule}
 use Rattle.syslog_pieces.specs.declared.timestamp.OffsetTimestamp.{OffsetTimestamp}
 use Rattle.syslog_pieces.specs.declared.timestamp.month_date.MonthDate.{MonthDate}
-use Rattle.syslog_pieces.proofs.PieceLemmas.Class.{run_same, rest_same, row_head, front_same, optional_det, division_front}
+use Rattle.syslog_pieces.proofs.PieceLemmas.Class.{run_same, rest_same, front_same, optional_det, division_front}
 use Rattle.syslog_pieces.proofs.PieceLemmas.Kinds.{Begins, begins_apart, begins_more, begins_with, each_begins}
 use Rattle.syslog_pieces.proofs.PriLemmas.{priority_det}
 use Rattle.syslog_pieces.proofs.TimestampLemmas.MonthDate.{IsBlank, blanks_begin, blank_low, month_date_begins}
 use Rattle.syslog_pieces.proofs.TimestampLemmas.Texts.{stamp_text-year}
-use Rattle.syslog_loose.specs.Rfc3164.{body_row, rfc3164_row}
-use Rattle.syslog_loose.specs.Rfc5424.{data_row, rfc5424_row, IsNot5424}
+use Rattle.syslog_loose.specs.Rfc3164.{rfc3164_row}
+use Rattle.syslog_loose.specs.Rfc5424.{rfc5424_row, IsNot5424}
 use Rattle.syslog_pieces.proofs.PieceLemmas.Formats.{row_pieces}
 
 -- ---- what a text begins with
@@ -76,11 +75,6 @@ loose_apart dating p q None (inr h) n = absurd h
 loose_apart dating p q (Some s) (inr (d, h, stamp)) n = date_apart p q d h n
 
 -- ---- divisions of both kinds
-
--- what follows the version and its blanks
-abbrev behind_blanks : List Class
-behind_blanks =
-    header_stamp ∷ some_run is_blank ∷ host ∷ some_run is_blank ∷ word ∷ some_run is_blank ∷ process_word ∷ some_run is_blank ∷ word ∷ data_row
 
 -- where both have their priority, RFC 5424 has a version behind it
 pub versioned : (text q : Text) (p : Option ℕ) (vs : Values rfc5424_row) → Division rfc5424_row text vs → Front (optional priority) text q p → Versioned q

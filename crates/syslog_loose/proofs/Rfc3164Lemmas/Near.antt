@@ -1,16 +1,16 @@
 -- What is read as RFC 3164 meets the condition, but for its listed misses.
-use Rattle.std.proofs.Common.{◌≡◌, ◌≢◌, ℕ, ◌<◌, ◌⊎◌, inl, inr, Bool, List, [], ◌∷◌, ◌++◌, length, Option, Some, None, IfSome, IsSome, refl, sym, ap, subst, ◌∙◌, arith, append-nil}
+use Rattle.std.proofs.Common.{◌≡◌, ◌≢◌, ℕ, ◌<◌, ◌⊎◌, inl, inr, Bool, List, [], ◌∷◌, ◌++◌, length, Option, Some, None, IfSome, IsSome, refl, sym, subst, ◌∙◌, arith}
 use Rattle.std.specs.Char.{is_not_whitespace}
 use Rattle.std.specs.List.{AllByRecursion}
 use Rattle.std.specs.Option.{option_and_then}
 use Rattle.std.specs.Str.{skip_leading_whitespace}
-use Rattle.syslog_pieces.specs.Pieces.Class.{Text, Front, Each, Ends, run, some_run, exactly, rest, optional, spaced, texted}
+use Rattle.syslog_pieces.specs.Pieces.Class.{Text, Front, Each, Ends, run, rest, optional, spaced}
 use Rattle.syslog_pieces.specs.Pieces.Lists.{IsMany}
 use Rattle.syslog_pieces.specs.Pri.{priority, facility_of, severity_of}
 use Rattle.syslog_pieces.specs.ProcId.{NamesProcess}
 use Rattle.syslog_pieces.specs.StructuredData.Element.{ElementValue}
 use Rattle.syslog_pieces.specs.StructuredData.Listed.{IsListed, full_element, listed, elements_or}
-use Rattle.syslog_pieces.specs.Text.{trimmed, is_blank, is_tag_char, dash, colon, IsHost, host, tag_word}
+use Rattle.syslog_pieces.specs.Text.{trimmed, is_blank, is_tag_char, dash, IsHost, host, tag_word}
 use Rattle.syslog_pieces.specs.Text.CharClass.{is_label_char, is_open_char}
 use Rattle.syslog_pieces.specs.Timestamp.Loose.{loose_stamp}
 use Rattle.syslog_pieces.specs.Timestamp.MonthDate.{month_date}
@@ -21,18 +21,17 @@ use Rattle.syslog_pieces.specs.declared.procid.ProcId.{ProcId}
 use Rattle.syslog_pieces.specs.declared.procid.ProcId.TheVariants.{PID, Name}
 use Rattle.syslog_pieces.specs.declared.structured_data.listed.DashRule.{DashRule}
 use Rattle.syslog_pieces.specs.declared.timestamp.OffsetTimestamp.{OffsetTimestamp}
-use Rattle.syslog_pieces.proofs.PieceLemmas.Class.{heads, row_nil, row_cons, row_head, division_front, front_division, rest_front, spaced_parts, rest_whole}
+use Rattle.syslog_pieces.proofs.PieceLemmas.Class.{heads, row_nil, row_cons, division_front, front_division, rest_front, spaced_parts, rest_whole}
 use Rattle.syslog_pieces.proofs.PieceLemmas.Steps.{present_front}
 use Rattle.syslog_pieces.proofs.PriLemmas.{severity_there}
 use Rattle.syslog_pieces.proofs.StructuredDataLemmas.ReadBack.{element_plain}
 use Rattle.syslog_pieces.proofs.TimestampLemmas.RoundTrip.{stamp_text-plain}
-use Rattle.syslog_loose.specs.Canonical.{IsVisible, IsNoI32Text, IsPlainElement, EndsVisibly}
+use Rattle.syslog_loose.specs.Canonical.{IsVisible, IsNoI32Text, IsPlainElement}
 use Rattle.syslog_loose.specs.ListedMisses.{is_no_colon, HasNoColon, IsOddHost, is_inner_char, IsInnerProcess, AreNearNames, IsNear, IsNearlyCanonical, IsOfMonthDate}
 use Rattle.syslog_loose.specs.Message.{MessageValue}
-use Rattle.syslog_loose.specs.Rfc3164.{Names3164, NamesHost, NamesProgram, Resolves, body_row, rfc3164_row, IsRead3164, stamped_row, fields_row}
+use Rattle.syslog_loose.specs.Rfc3164.{Names3164, NamesHost, NamesProgram, Resolves, rfc3164_row, IsRead3164, stamped_row, fields_row}
 use Rattle.syslog_loose.specs.TagForm.{form_row, IsForm}
-use Rattle.syslog_loose.proofs.Rfc3164Lemmas.Rows.{from_gap, from_list, from_blanks, from_colon, from_tag_end, from_tag, from_stamp, from_priority_end}
-use Rattle.syslog_loose.proofs.TrimLemmas.{drop_ends, ends_behind, last_ends}
+use Rattle.syslog_loose.proofs.TrimLemmas.{drop_ends, last_ends}
 use Rattle.syslog_pieces.proofs.PieceLemmas.Each.{each_behind, each_both, each_left, each_front, each_right}
 use Rattle.syslog_pieces.proofs.PieceLemmas.Formats.{row_pieces}
 

@@ -2,9 +2,9 @@
 use Rattle.std.proofs.Common.{ℕ, ◌≤◌, ◌<◌, [], ◌∷◌, inl, arith, map, subst, sym}
 use Rattle.std.proofs.lemmas.Option.{slice_get_within}
 use Rattle.std.specs.Char.{to_ascii_lowercase}
-use Rattle.syslog_pieces.specs.Pieces.Class.{Text, Values, Front, Row, run, some_run, rest, exactly, optional}
+use Rattle.syslog_pieces.specs.Pieces.Class.{Text, Values, Front, Row, run, some_run, rest, optional}
 use Rattle.syslog_pieces.specs.Pri.{priority}
-use Rattle.syslog_pieces.specs.Text.{is_blank, colon}
+use Rattle.syslog_pieces.specs.Text.{is_blank}
 use Rattle.syslog_pieces.specs.Timestamp.Loose.{showing_row, ShowsYearless, ShowsMonthDate}
 use Rattle.syslog_pieces.specs.Timestamp.MonthDate.{month_names, IsMonthName, month, short_number, clock_row, yearless_row, yearless_of, yearless_date, month_date}
 use Rattle.syslog_pieces.specs.declared.timestamp.month_date.MonthDate.{MonthDate}

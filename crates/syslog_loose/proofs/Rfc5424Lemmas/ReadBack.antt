@@ -174,8 +174,8 @@ module _ (version : ℕ) (m : MessageValue) (bounded : version ≤ 4294967295) (
       let es = m.structured_data in
       let end : Text = message_end m.msg in
       let body = row_cons (run is_blank) (forgiving ∷ run is_blank ∷ rest ∷ []) (gap_front _ (elements_unblank es end))
-          (row_cons forgiving (run is_blank ∷ rest ∷ []) (piece_front forgiving (elements_text es) end es (forgiving_back es end p.elements (no_item_end m.msg)))
-          (row_cons (run is_blank) (rest ∷ []) (message_blanks m.msg p.msg_front) (row_cons rest [] (rest_front m.msg) (row_nil [])))) in
+      (row_cons forgiving (run is_blank ∷ rest ∷ []) (piece_front forgiving (elements_text es) end es (forgiving_back es end p.elements (no_item_end m.msg)))
+      (row_cons (run is_blank) (rest ∷ []) (message_blanks m.msg p.msg_front) (row_cons rest [] (rest_front m.msg) (row_nil [])))) in
       let header = row_back fields fields_sound (values_of version m) _ (fields_back (elements_text es ++ end)) in
       front_division rfc5424_row (subst (λ (x : Text). Front (Row rfc5424_row) x [] (line_values version m)) (sym (trimmed_5424 version m p.msg_end))
       (row_cons (optional priority) (classes fields ++ data_row) (optional_some priority (priority_front (priority_of m) _ (priority_low m)))
@@ -245,8 +245,7 @@ values_plain rule text v d =
     let (t1, pri, (t2, number, (t3, s1, (t4, stamp, (t5, s2, (t6, name, (t7, s3, more))))))) = row_pieces rfc5424_row row in
     let (t8, app, (t9, s4, (t10, process, (t11, s5, (t12, id, (t13, s6, (t14, list, (t15, s7, (t16, msg, _))))))))) = more in
     let m = message_of v in
-    let no_colon : NoColonNext t6 = subst (λ (x : Text). NoColonNext x) (sym s3.whole) (blanks_next s3.piece t7 s3.is.0 s3.is.1) in
-    (
+    let no_colon : NoColonNext t6 = subst (λ (x : Text). NoColonNext x) (sym s3.whole) (blanks_next s3.piece t7 s3.is.0 s3.is.1) in (
       (
         record {
           facility = refl;

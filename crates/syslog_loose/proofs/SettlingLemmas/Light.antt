@@ -26,7 +26,7 @@ use Rattle.syslog_loose.specs.Rfc3164.{Names3164, Resolves, body_row, rfc3164_ro
 use Rattle.syslog_loose.specs.Settling.{Costs, ColonsCost, NamesWeigh, Weighs}
 use Rattle.syslog_loose.proofs.Rfc3164Lemmas.Exact.{dash_is_no_more, program_host, program_process, HoldsNoText, process_of}
 use Rattle.syslog_loose.proofs.Rfc3164Lemmas.Near.{TagField, tag_field}
-use Rattle.syslog_loose.proofs.Rfc3164Lemmas.Rows.{from_gap, from_list, from_blanks, from_colon, from_tag_end, from_tag, from_stamp, from_priority_end}
+use Rattle.syslog_loose.proofs.Rfc3164Lemmas.Rows.{from_colon, from_tag_end, from_tag, from_stamp, from_priority_end}
 use Rattle.syslog_loose.proofs.SettlingLemmas.Costs.{free, at_most, ends_long, ends_colon, bare_zero, bare_one}
 use Rattle.syslog_pieces.proofs.PieceLemmas.Formats.{row_pieces}
 
