@@ -11,7 +11,8 @@ use Rattle.syslog_pieces.specs.StructuredData.Element.{ElementValue, param_text,
 use Rattle.syslog_pieces.specs.Timestamp.Printed.{printed_stamp}
 use Rattle.syslog_pieces.specs.declared.timestamp.OffsetTimestamp.{OffsetTimestamp}
 use Rattle.syslog_pieces.proofs.PieceLemmas.Class.{row_head, rest_whole}
-use Rattle.syslog_pieces.proofs.PieceLemmas.Formats.{printed_more, row_pieces}
+use Rattle.syslog_pieces.proofs.PieceLemmas.Rows.{row_pieces}
+use Rattle.syslog_pieces.proofs.PieceLemmas.Formats.{printed_more}
 use Rattle.syslog_pieces.proofs.TimestampLemmas.RoundTrip.{printed_stamp-visible, printed_stamp-begins}
 use Rattle.syslog_loose.specs.Printed.{timestamp_text}
 use Rattle.syslog_pieces.specs.Text.{is_blank, trimmed}

@@ -7,4 +7,5 @@ pub mod Kinds
 pub mod Lists
 pub mod Meets
 pub mod Parts
+pub mod Rows
 pub mod Steps

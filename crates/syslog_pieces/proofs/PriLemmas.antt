@@ -16,7 +16,7 @@ use Rattle.syslog_pieces.proofs.PieceLemmas.Class.{AllDeterministic, exactly_det
 use Rattle.syslog_pieces.proofs.PieceLemmas.Lists.{begins}
 use Rattle.syslog_pieces.proofs.TextLemmas.Words.{number_det}
 
-priority_row_det : AllDeterministic priority_row
+pub priority_row_det : AllDeterministic priority_row
 priority_row_det = (exactly_det (60 ∷ []), (number_det 255, (exactly_det (62 ∷ []), tt)))
 
 pub priority_det : IsDeterministic priority

@@ -19,7 +19,7 @@ use Rattle.syslog_pieces.proofs.TimestampLemmas.MonthDate.{IsBlank, blanks_begin
 use Rattle.syslog_pieces.proofs.TimestampLemmas.Texts.{stamp_text-year}
 use Rattle.syslog_loose.specs.Rfc3164.{rfc3164_row}
 use Rattle.syslog_loose.specs.Rfc5424.{rfc5424_row, IsNot5424}
-use Rattle.syslog_pieces.proofs.PieceLemmas.Formats.{row_pieces}
+use Rattle.syslog_pieces.proofs.PieceLemmas.Rows.{row_pieces}
 
 -- ---- what a text begins with
 abbrev pub IsDigit : ℕ → Type 0

@@ -33,7 +33,7 @@ use Rattle.syslog_loose.specs.Rfc3164.{Names3164, NamesHost, NamesProgram, Resol
 use Rattle.syslog_loose.specs.TagForm.{form_row, IsForm}
 use Rattle.syslog_loose.proofs.TrimLemmas.{drop_ends, last_ends}
 use Rattle.syslog_pieces.proofs.PieceLemmas.Each.{each_behind, each_both, each_left, each_front, each_right}
-use Rattle.syslog_pieces.proofs.PieceLemmas.Formats.{row_pieces}
+use Rattle.syslog_pieces.proofs.PieceLemmas.Rows.{row_pieces}
 
 -- ---- runs of characters that pass two tests
 

@@ -10,7 +10,7 @@ use Rattle.syslog_pieces.specs.Timestamp.MonthDate.{month_names, IsMonthName, mo
 use Rattle.syslog_pieces.specs.declared.timestamp.month_date.MonthDate.{MonthDate}
 use Rattle.syslog_pieces.proofs.PieceLemmas.Class.{division_front, front_division, row_cons, row_head}
 use Rattle.syslog_loose.specs.Reading.{incomplete, HasMonth}
-use Rattle.syslog_pieces.proofs.PieceLemmas.Formats.{row_pieces}
+use Rattle.syslog_pieces.proofs.PieceLemmas.Rows.{row_pieces}
 
 month_range : (p : Text) (n : ℕ) → IsMonthName p n → (1 ≤ n) × (n ≤ 12)
 month_range p n (before, e, at) =

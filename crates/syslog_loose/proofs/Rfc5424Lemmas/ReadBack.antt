@@ -25,7 +25,8 @@ use Rattle.syslog_pieces.specs.declared.structured_data.listed.DashRule.{DashRul
 use Rattle.syslog_pieces.specs.declared.structured_data.listed.DashRule.TheVariants.{BeforeAnything}
 use Rattle.syslog_pieces.specs.declared.timestamp.OffsetTimestamp.{OffsetTimestamp}
 use Rattle.syslog_pieces.proofs.PieceLemmas.Class.{row_nil, row_cons, row_head, rows_join, both_values, front_division, division_front, rest_front, rest_whole, optional_some, front_same, optional_det, ◌also◌}
-use Rattle.syslog_pieces.proofs.PieceLemmas.Formats.{AllSound, row_back, row_pieces}
+use Rattle.syslog_pieces.proofs.PieceLemmas.Rows.{row_pieces}
+use Rattle.syslog_pieces.proofs.PieceLemmas.Formats.{AllSound, row_back}
 use Rattle.syslog_pieces.proofs.PieceLemmas.Steps.{piece_front}
 use Rattle.syslog_pieces.proofs.PriLemmas.{priority_det, priority_composed, facility_composed, severity_composed, severity_there}
 use Rattle.syslog_pieces.proofs.ProcIdLemmas.ReadBack.{process_back, process_plain, process_bounded}

@@ -46,7 +46,7 @@ use Rattle.syslog_loose.proofs.SettlingLemmas.Costs.{free, at_most, bare_zero}
 use Rattle.syslog_loose.proofs.SettlingLemmas.Names.{move, same_values, no_blanks, msg_read, names_text, Kept, Moved, names_step}
 use Rattle.syslog_loose.proofs.SettlingLemmas.NoList.{no_list_digit}
 use Rattle.syslog_loose.proofs.TrimLemmas.{message_end, message_blanks, stamp_unblank}
-use Rattle.syslog_pieces.proofs.PieceLemmas.Formats.{row_pieces}
+use Rattle.syslog_pieces.proofs.PieceLemmas.Rows.{row_pieces}
 
 -- ---- elements and the message behind the colon: read as the same, or as a lighter message
 

@@ -28,7 +28,7 @@ use Rattle.syslog_loose.proofs.Rfc3164Lemmas.Exact.{dash_is_no_more, program_hos
 use Rattle.syslog_loose.proofs.Rfc3164Lemmas.Near.{TagField, tag_field}
 use Rattle.syslog_loose.proofs.Rfc3164Lemmas.Rows.{from_colon, from_tag_end, from_tag, from_stamp, from_priority_end}
 use Rattle.syslog_loose.proofs.SettlingLemmas.Costs.{free, at_most, ends_long, ends_colon, bare_zero, bare_one}
-use Rattle.syslog_pieces.proofs.PieceLemmas.Formats.{row_pieces}
+use Rattle.syslog_pieces.proofs.PieceLemmas.Rows.{row_pieces}
 
 -- ---- lengths
 front_length : (C : Class) {t q : Text} {v : C.Value} (f : Front C t q v) → length t ≡ length f.piece + length q

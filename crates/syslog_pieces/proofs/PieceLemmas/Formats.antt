@@ -2,7 +2,7 @@
 use Rattle.std.proofs.Common.{◌≡◌, ℕ, Bool, List, [], ◌∷◌, ◌++◌, refl, ap, ◌∙◌, append_assoc}
 use Rattle.syslog_pieces.specs.Pieces.Class.{Text, Class, Values, Front, Row, Each}
 use Rattle.syslog_pieces.specs.Pieces.Format.{Format, IsSound, classes, printed_row, RowReadsBack}
-use Rattle.syslog_pieces.proofs.PieceLemmas.Class.{nil_front, row_nil, row_cons, row_head}
+use Rattle.syslog_pieces.proofs.PieceLemmas.Class.{row_nil, row_cons}
 use Rattle.syslog_pieces.proofs.PieceLemmas.Steps.{piece_front}
 use Rattle.syslog_pieces.proofs.PieceLemmas.Each.{each_append}
 
@@ -38,12 +38,3 @@ pub row_passes : (test : ℕ → Bool) (Fs : List Format) (vs : Values (classes 
 row_passes test [] vs q h k = k
 row_passes test (F ∷ Fs) vs q h k =
     each_append test (F.print vs.0) (printed_row Fs vs.1 q) h.0 (row_passes test Fs vs.1 q h.1 k)
-
--- ---- the pieces of a row, each with what follows it
-abbrev pub Pieces : (Cs : List Class) → Text → Text → Values Cs → Type 0
-Pieces [] t q vs = t ≡ q
-Pieces (C ∷ Cs) t q vs = (u : Text) × Front C t u vs.0 × Pieces Cs u q vs.1
-
-pub row_pieces : (Cs : List Class) → {t q : Text} {vs : Values Cs} → Front (Row Cs) t q vs → Pieces Cs t q vs
-row_pieces [] f = nil_front f
-row_pieces (C ∷ Cs) f = let r = row_head C Cs f in (r.0, r.1, row_pieces Cs r.2)
