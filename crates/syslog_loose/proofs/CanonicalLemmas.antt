@@ -1,5 +1,6 @@
 -- What the tests of the written condition answer.
-use Rattle.std.proofs.Common.{◌≡◌, ℕ, ◌<◌, Bool, true, false, not, List, [], ◌∷◌, length, map, refl, sym, ap, subst, ◌∙◌, arith}
+use Rattle.std.proofs.Common.{◌≡◌, ℕ, ◌<◌, Bool, true, false, not, List, [], ◌∷◌, length, map, refl, sym, ap, subst}
+use Rattle.std.proofs.Common.{◌∙◌, arith}
 use Rattle.std.specs.Prelude.{◌↔◌, IsTrue, MatchBool}
 use Rattle.std.specs.Str.{chars, IsUtf8, trim_end, bytes_eq, drop_trailing_whitespace}
 use Rattle.std.proofs.lemmas.Slice.Eq.{bytes_eq-Decides}
@@ -13,7 +14,8 @@ use Rattle.syslog_pieces.proofs.StructuredDataLemmas.Listed.{no_list_is}
 use Rattle.syslog_loose.proofs.TrimLemmas.{drop_kept, drop_ends}
 
 -- a text that trimming leaves as it is
-pub visible_told : (bs ts : List ℕ) (b : Bool) → IsUtf8 bs → IsUtf8 ts → ts ≡ trim_end bs → b ≡ bytes_eq ts bs → IsTrue b ↔ EndsVisibly (chars bs)
+pub visible_told : (bs ts : List ℕ) (b : Bool) → IsUtf8 bs → IsUtf8 ts → ts ≡ trim_end bs → b ≡ bytes_eq ts bs
+    → IsTrue b ↔ EndsVisibly (chars bs)
 visible_told bs ts b u v e f =
     let kept : chars ts ≡ drop_trailing_whitespace (chars bs) = ap chars e ∙ end_trimmed_chars bs u in (
       (λ h.
@@ -36,6 +38,8 @@ some_items f [] h e = omega arith
 some_items f (x ∷ xs) h e = let k = ap length e in omega arith
 
 -- a message that begins no list
-pub no_list_told : (rule : DashRule) (t : Text) (b : Bool) → MatchBool b (NoFront (listed rule) t → ⊥) (NoFront (listed rule) t) → IsTrue (not b) ↔ BeginsNoList rule t
-no_list_told rule t true m = ((λ h. absurd (let e : false ≡ true = h in cc)), (λ n. absurd (m ((no_list_is rule t).1 n))))
+pub no_list_told : (rule : DashRule) (t : Text) (b : Bool)
+    → MatchBool b (NoFront (listed rule) t → ⊥) (NoFront (listed rule) t) → IsTrue (not b) ↔ BeginsNoList rule t
+no_list_told rule t true m =
+    ((λ h. absurd (let e : false ≡ true = h in cc)), (λ n. absurd (m ((no_list_is rule t).1 n))))
 no_list_told rule t false m = ((λ h. (no_list_is rule t).0 m), (λ n. refl))

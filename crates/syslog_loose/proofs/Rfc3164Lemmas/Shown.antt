@@ -6,7 +6,8 @@ use Rattle.syslog_pieces.specs.Pieces.Class.{Text, Values, Front, Row, run, some
 use Rattle.syslog_pieces.specs.Pri.{priority}
 use Rattle.syslog_pieces.specs.Text.{is_blank}
 use Rattle.syslog_pieces.specs.Timestamp.Loose.{showing_row, ShowsYearless, ShowsMonthDate}
-use Rattle.syslog_pieces.specs.Timestamp.MonthDate.{month_names, IsMonthName, month, short_number, clock_row, yearless_row, yearless_of, yearless_date, month_date}
+use Rattle.syslog_pieces.specs.Timestamp.MonthDate.{month_names, IsMonthName, month, short_number, clock_row}
+use Rattle.syslog_pieces.specs.Timestamp.MonthDate.{yearless_row, yearless_of, yearless_date, month_date}
 use Rattle.syslog_pieces.specs.declared.timestamp.month_date.MonthDate.{MonthDate}
 use Rattle.syslog_pieces.proofs.PieceLemmas.Class.{division_front, front_division, row_cons, row_head}
 use Rattle.syslog_loose.specs.Reading.{incomplete, HasMonth}
@@ -17,7 +18,8 @@ month_range p n (before, e, at) =
     let within : before < 12 = slice_get_within month_names before (map to_ascii_lowercase p) at in
     (omega arith, omega arith)
 
-row_has_month : {t q : Text} (vs : Values yearless_row) → Front (Row yearless_row) t q vs → HasMonth (incomplete (yearless_of vs))
+row_has_month : {t q : Text} (vs : Values yearless_row) → Front (Row yearless_row) t q vs
+    → HasMonth (incomplete (yearless_of vs))
 row_has_month vs f =
     let (_, f1, more) = row_pieces (month ∷ some_run is_blank ∷ short_number ∷ some_run is_blank ∷ clock_row) f in
     let (_, _, (_, f3, (_, _, (_, f5, (_, _, (_, f7, (_, _, (_, f9, _)))))))) = more in
@@ -39,7 +41,9 @@ shown_has_month text d (p, more, division) =
 -- a date without a year is a month date
 pub shows_month_date : (text : Text) (d : MonthDate) → ShowsYearless text d → ShowsMonthDate text d
 shows_month_date text d (p, more, division) =
-    let f1 = row_head (optional priority) (run is_blank ∷ yearless_date ∷ rest ∷ []) (division_front (showing_row yearless_date) division) in
+    let f1 =
+    row_head (optional priority) (run is_blank ∷ yearless_date ∷ rest ∷ [])
+    (division_front (showing_row yearless_date) division) in
     let f2 = row_head (run is_blank) (yearless_date ∷ rest ∷ []) f1.2 in
     let f3 = row_head yearless_date (rest ∷ []) f2.2 in
     let date : Front month_date f2.0 f3.0 d = record { piece = f3.1.piece; whole = f3.1.whole; is = inl f3.1.is } in (

@@ -25,13 +25,16 @@ whole m q =
     60 ∷ (decimal (priority_of m) ++ (62 ∷ 32 ∷ (timestamp_text m.timestamp ++ (32 ∷ (name_text m.hostname
     ++ (32 ∷ (program_text m.appname m.procid ++ (58 ∷ q))))))))
 
-tag_is : (app : Option Text) (process : Option (ProcId Text)) (r : Text) → tag_text app process ++ r ≡ program_text app process ++ (58 ∷ 32 ∷ r)
+tag_is : (app : Option Text) (process : Option (ProcId Text)) (r : Text)
+    → tag_text app process ++ r ≡ program_text app process ++ (58 ∷ 32 ∷ r)
 tag_is None p r = refl
 tag_is (Some a) None r = append_assoc a (58 ∷ 32 ∷ []) r
 tag_is (Some a) (Some p) r =
     let i = procid_text p in
-    append_assoc a (91 ∷ (i ++ (93 ∷ 58 ∷ 32 ∷ []))) r ∙ ap (λ (x : Text). a ++ (91 ∷ x)) (append_assoc i (93 ∷ 58 ∷ 32 ∷ []) r)
-    ∙ sym (append_assoc a (91 ∷ (i ++ (93 ∷ []))) (58 ∷ 32 ∷ r) ∙ ap (λ (x : Text). a ++ (91 ∷ x)) (append_assoc i (93 ∷ []) (58 ∷ 32 ∷ r)))
+    append_assoc a (91 ∷ (i ++ (93 ∷ 58 ∷ 32 ∷ []))) r
+    ∙ ap (λ (x : Text). a ++ (91 ∷ x)) (append_assoc i (93 ∷ 58 ∷ 32 ∷ []) r)
+    ∙ sym (append_assoc a (91 ∷ (i ++ (93 ∷ []))) (58 ∷ 32 ∷ r)
+    ∙ ap (λ (x : Text). a ++ (91 ∷ x)) (append_assoc i (93 ∷ []) (58 ∷ 32 ∷ r)))
 
 body_is : (es : List ElementValue) (msg : Text) → spaced_elements es ++ msg ≡ body_text es msg
 body_is [] msg = refl
@@ -40,8 +43,10 @@ body_is (e ∷ es) msg = append_assoc (joined_elements (e ∷ es)) (32 ∷ []) m
 pub printed_whole : (m : MessageValue) → printed_3164 m ≡ whole m (32 ∷ body_text m.structured_data m.msg)
 unfolding printed_3164
 printed_whole m =
-    ap (λ (x : Text). 60 ∷ (decimal (priority_of m) ++ (62 ∷ 32 ∷ (timestamp_text m.timestamp ++ (32 ∷ (name_text m.hostname ++ (32 ∷ x)))))))
-    (tag_is m.appname m.procid (spaced_elements m.structured_data ++ m.msg) ∙ ap (λ (x : Text). program_text m.appname m.procid ++ (58 ∷ 32 ∷ x)) (body_is m.structured_data m.msg))
+    ap (λ (x : Text). 60 ∷ (decimal (priority_of m) ++ (62 ∷ 32 ∷
+    (timestamp_text m.timestamp ++ (32 ∷ (name_text m.hostname ++ (32 ∷ x)))))))
+    (tag_is m.appname m.procid (spaced_elements m.structured_data ++ m.msg)
+    ∙ ap (λ (x : Text). program_text m.appname m.procid ++ (58 ∷ 32 ∷ x)) (body_is m.structured_data m.msg))
 
 -- ---- trimming
 whole_is : (m : MessageValue) (q : Text) → whole m [] ++ q ≡ whole m q
@@ -56,14 +61,19 @@ whole_last m =
     (last_append (32 ∷ name_text m.hostname) program
     (last_append (32 ∷ program_text m.appname m.procid) (58 ∷ []) refl)))
 
-tail_is : (es : List ElementValue) (msg : Text) → EndsVisibly msg → drop_trailing_whitespace (32 ∷ body_text es msg) ≡ tail_text es msg
+tail_is : (es : List ElementValue) (msg : Text) → EndsVisibly msg
+    → drop_trailing_whitespace (32 ∷ body_text es msg) ≡ tail_text es msg
 tail_is [] msg h = message_end_is msg h
 tail_is (e ∷ es) msg h =
-    drop_after (32 ∷ joined_elements (e ∷ es)) (32 ∷ msg) (last_append (32 ∷ []) (joined_elements (e ∷ es)) (joined_last e es))
+    drop_after (32 ∷ joined_elements (e ∷ es)) (32 ∷ msg)
+    (last_append (32 ∷ []) (joined_elements (e ∷ es)) (joined_last e es))
     ∙ ap (λ (x : Text). 32 ∷ (joined_elements (e ∷ es) ++ x)) (message_end_is msg h)
 
-pub trimmed_whole : (m : MessageValue) → EndsVisibly m.msg → trimmed (printed_3164 m) ≡ whole m (tail_text m.structured_data m.msg)
+pub trimmed_whole : (m : MessageValue) → EndsVisibly m.msg
+    → trimmed (printed_3164 m) ≡ whole m (tail_text m.structured_data m.msg)
 trimmed_whole m h =
     let tail : Text = 32 ∷ body_text m.structured_data m.msg in
-    ap trimmed (printed_whole m) ∙ ap drop_trailing_whitespace (sym (whole_is m tail)) ∙ drop_after (whole m []) tail (whole_last m)
-    ∙ ap (λ (x : Text). whole m [] ++ x) (tail_is m.structured_data m.msg h) ∙ whole_is m (tail_text m.structured_data m.msg)
+    ap trimmed (printed_whole m) ∙ ap drop_trailing_whitespace (sym (whole_is m tail))
+    ∙ drop_after (whole m []) tail (whole_last m)
+    ∙ ap (λ (x : Text). whole m [] ++ x) (tail_is m.structured_data m.msg h)
+    ∙ whole_is m (tail_text m.structured_data m.msg)

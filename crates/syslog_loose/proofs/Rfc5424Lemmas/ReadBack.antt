@@ -1,12 +1,15 @@
--- A printed message of RFC 5424 is read back unchanged exactly where it is canonical, and what is read is canonical, up to an
+-- A printed message of RFC 5424 is read back unchanged exactly where it is canonical, and what is read is canonical, up
+-- to an
 -- absent facility or severity.
-use Rattle.std.proofs.Common.{◌≡◌, ℕ, ◌<◌, ◌≤◌, ◌^◌, ◌+◌, ◌*◌, true, false, List, [], ◌∷◌, ◌++◌, Option, Some, None, IfSome, IsSome, refl, sym, ap, ap₂, subst, ◌∙◌, arith}
+use Rattle.std.proofs.Common.{◌≡◌, ℕ, ◌<◌, ◌≤◌, ◌^◌, ◌+◌, ◌*◌, true, false, List, [], ◌∷◌, ◌++◌, Option, Some, None}
+use Rattle.std.proofs.Common.{IfSome, IsSome, refl, sym, ap, ap₂, subst, ◌∙◌, arith}
 use Rattle.std.specs.Option.{option_map_or, option_and_then}
 use Rattle.std.specs.Prelude.{unwrap_or}
 use Rattle.std.specs.Fmt.{decimal}
 use Rattle.std.specs.Str.{skip_leading_whitespace, drop_trailing_whitespace}
 use Rattle.std.specs.Char.{is_ascii_digit, is_not_whitespace}
-use Rattle.syslog_pieces.specs.Pieces.Class.{Text, Class, Values, Front, NoFront, Row, Ends, Division, run, some_run, optional, rest}
+use Rattle.syslog_pieces.specs.Pieces.Class.{Text, Class, Values, Front, NoFront, Row, Ends, Division, run, some_run}
+use Rattle.syslog_pieces.specs.Pieces.Class.{optional, rest}
 use Rattle.syslog_pieces.specs.Pieces.Format.{Format, IsSound, classes, printed_row, RowReadsBack}
 use Rattle.syslog_pieces.specs.Pri.{priority, composed, facility_of, severity_of, facility_number, severity_number}
 use Rattle.syslog_pieces.specs.ProcId.{process_word, process_text, IsPlainProcess, IsBoundedProcess}
@@ -24,14 +27,19 @@ use Rattle.syslog_pieces.specs.declared.procid.ProcId.{ProcId}
 use Rattle.syslog_pieces.specs.declared.structured_data.listed.DashRule.{DashRule}
 use Rattle.syslog_pieces.specs.declared.structured_data.listed.DashRule.TheVariants.{BeforeAnything}
 use Rattle.syslog_pieces.specs.declared.timestamp.OffsetTimestamp.{OffsetTimestamp}
-use Rattle.syslog_pieces.proofs.PieceLemmas.Class.{row_nil, row_cons, row_head, rows_join, both_values, front_division, division_front, rest_front, rest_whole, optional_some, front_same, optional_det, ◌also◌}
+use Rattle.syslog_pieces.proofs.PieceLemmas.Class.{row_nil, row_cons, row_head, rows_join, both_values, front_division}
+use Rattle.syslog_pieces.proofs.PieceLemmas.Class.{division_front, rest_front, rest_whole, optional_some, front_same}
+use Rattle.syslog_pieces.proofs.PieceLemmas.Class.{optional_det, ◌also◌}
 use Rattle.syslog_pieces.proofs.PieceLemmas.Rows.{row_pieces}
 use Rattle.syslog_pieces.proofs.PieceLemmas.Formats.{AllSound, row_back}
 use Rattle.syslog_pieces.proofs.PieceLemmas.Steps.{piece_front}
-use Rattle.syslog_pieces.proofs.PriLemmas.{priority_det, priority_composed, facility_composed, severity_composed, severity_there}
+use Rattle.syslog_pieces.proofs.PriLemmas.{priority_det, priority_composed, facility_composed, severity_composed}
+use Rattle.syslog_pieces.proofs.PriLemmas.{severity_there}
 use Rattle.syslog_pieces.proofs.ProcIdLemmas.ReadBack.{process_back, process_plain, process_bounded}
-use Rattle.syslog_pieces.proofs.StructuredDataLemmas.ReadBack.{forgiving_back, forgiving_plain, no_item_nil, no_item_before}
-use Rattle.syslog_pieces.proofs.TextLemmas.ReadBack.{number_back, word_back, word_plain, host_back, host_plain, NoColonNext, blanks_next}
+use Rattle.syslog_pieces.proofs.StructuredDataLemmas.ReadBack.{forgiving_back, forgiving_plain, no_item_nil}
+use Rattle.syslog_pieces.proofs.StructuredDataLemmas.ReadBack.{no_item_before}
+use Rattle.syslog_pieces.proofs.TextLemmas.ReadBack.{number_back, word_back, word_plain, host_back, host_plain}
+use Rattle.syslog_pieces.proofs.TextLemmas.ReadBack.{NoColonNext, blanks_next}
 use Rattle.syslog_pieces.proofs.TimestampLemmas.RoundTrip.{printed_stamp-back, stamp_text-plain}
 use Rattle.syslog_loose.specs.declared.message.Protocol.TheVariants.{RFC5424}
 use Rattle.syslog_loose.specs.declared.message.Protocol.{Protocol}
@@ -40,7 +48,8 @@ use Rattle.syslog_loose.specs.Message.{MessageValue}
 use Rattle.syslog_loose.specs.Printed.{printed, printed_5424, priority_of, timestamp_text}
 use Rattle.syslog_loose.specs.Rfc5424.{header_row, data_row, rfc5424_row, message_of, IsRead5424}
 use Rattle.syslog_loose.proofs.PriorityLemmas.{priority_front, priority_trimmed, priority_small, priority_low}
-use Rattle.syslog_loose.proofs.TrimLemmas.{visible_ends_blanks, stamp_unblank, last_append, elements_last, row_trimmed, last_ends, drop_ends, message_end, message_blanks}
+use Rattle.syslog_loose.proofs.TrimLemmas.{visible_ends_blanks, stamp_unblank, last_append, elements_last, row_trimmed}
+use Rattle.syslog_loose.proofs.TrimLemmas.{last_ends, drop_ends, message_end, message_blanks}
 
 -- ---- the printed fields, as formats
 
@@ -106,7 +115,8 @@ process_field = record {
 -- from the version up to the space before the elements
 abbrev pub fields : List Format
 fields =
-    version_number ∷ space ∷ stamp_field ∷ space ∷ host_field ∷ space ∷ word_field ∷ space ∷ process_field ∷ space ∷ word_field ∷ []
+    version_number ∷ space ∷ stamp_field ∷ space ∷ host_field ∷ space ∷ word_field ∷ space ∷ process_field ∷ space
+    ∷ word_field ∷ []
 
 stamp_sound : IsSound stamp_field
 stamp_sound None q h b = refl
@@ -127,7 +137,8 @@ name_unblank : (v : Option Text) (q : Text) (P : Text → Type 0) → ((t : Text
 name_unblank None q P f h = refl
 name_unblank (Some t) q P f h = let (long, visible) = f t h in visible_ends_blanks t q long visible
 
-process_unblank : (v : Option (ProcId Text)) (q r : Text) → process_word.Is (process_text v) r v → Ends is_blank (process_text v ++ q)
+process_unblank : (v : Option (ProcId Text)) (q r : Text) → process_word.Is (process_text v) r v
+    → Ends is_blank (process_text v ++ q)
 process_unblank None q r h = refl
 process_unblank (Some p) q r (t, w, n) = visible_ends_blanks (process_text (Some p)) q w.0 w.1
 
@@ -146,13 +157,19 @@ values_of version m =
     (version, (tt, (m.timestamp, (tt, (m.hostname, (tt, (m.appname, (tt, (m.procid, (tt, (m.msgid, tt)))))))))))
 
 abbrev line_values : ℕ → MessageValue → Values rfc5424_row
-line_values version m =
-    (Some (priority_of m), both_values (classes fields) data_row (values_of version m) (tt, (m.structured_data, (tt, (m.msg, tt)))))
+line_values version m = (
+  Some (priority_of m),
+  both_values (classes fields) data_row (values_of version m) (
+    tt,
+    (m.structured_data, (tt, (m.msg, tt))),
+  ),
+)
 
 -- what trimming leaves of it
 trimmed_5424 : (version : ℕ) (m : MessageValue) → EndsVisibly m.msg
     → trimmed (printed_5424 version m)
-    ≡ 60 ∷ (decimal (priority_of m) ++ (62 ∷ printed_row fields (values_of version m) (32 ∷ (elements_text m.structured_data ++ message_end m.msg))))
+    ≡ 60 ∷ (decimal (priority_of m) ++
+    (62 ∷ printed_row fields (values_of version m) (32 ∷ (elements_text m.structured_data ++ message_end m.msg))))
 unfolding printed_5424
 trimmed_5424 version m h =
     let last = last_append (32 ∷ []) (elements_text m.structured_data) (elements_last m.structured_data) in
@@ -160,13 +177,15 @@ trimmed_5424 version m h =
     ∙ ap (λ (x : Text). 60 ∷ (decimal (priority_of m) ++ (62 ∷ x)))
     (row_trimmed fields (values_of version m) (32 ∷ elements_text m.structured_data) m.msg last h)
 
-module _ (version : ℕ) (m : MessageValue) (bounded : version ≤ 4294967295) (b : IsBounded m) (p : IsPlain m) (q : IsPlain5424 m) where
+module _ (version : ℕ) (m : MessageValue) (bounded : version ≤ 4294967295) (b : IsBounded m) (p : IsPlain m)
+    (q : IsPlain5424 m) where
   fields_back : (t : Text) → RowReadsBack fields (values_of version m) (32 ∷ t)
   fields_back t =
       (bounded, refl) also (tt, stamp_unblank m.timestamp _) also (p.timestamp, (_, refl))
       also (tt, name_unblank m.hostname _ IsPlainHost (λ t k. k.0) p.hostname) also (p.hostname, refl)
       also (tt, name_unblank m.appname _ IsPlainWord (λ t k. k.0) q.appname) also (q.appname, refl)
-      also (tt, process_unblank m.procid _ [] (process_back m.procid [] q.procid b.procid tt)) also ((q.procid, b.procid), refl)
+      also (tt, process_unblank m.procid _ [] (process_back m.procid [] q.procid b.procid tt))
+      also ((q.procid, b.procid), refl)
       also (tt, name_unblank m.msgid _ IsPlainWord (λ t k. k.0) q.msgid) also (q.msgid, refl) also tt
 
   -- the one division, piece by piece
@@ -175,11 +194,16 @@ module _ (version : ℕ) (m : MessageValue) (bounded : version ≤ 4294967295) (
       let es = m.structured_data in
       let end : Text = message_end m.msg in
       let body = row_cons (run is_blank) (forgiving ∷ run is_blank ∷ rest ∷ []) (gap_front _ (elements_unblank es end))
-      (row_cons forgiving (run is_blank ∷ rest ∷ []) (piece_front forgiving (elements_text es) end es (forgiving_back es end p.elements (no_item_end m.msg)))
-      (row_cons (run is_blank) (rest ∷ []) (message_blanks m.msg p.msg_front) (row_cons rest [] (rest_front m.msg) (row_nil [])))) in
+      (row_cons forgiving (run is_blank ∷ rest ∷ [])
+      (piece_front forgiving (elements_text es) end es (forgiving_back es end p.elements (no_item_end m.msg)))
+      (row_cons (run is_blank) (rest ∷ []) (message_blanks m.msg p.msg_front)
+      (row_cons rest [] (rest_front m.msg) (row_nil [])))) in
       let header = row_back fields fields_sound (values_of version m) _ (fields_back (elements_text es ++ end)) in
-      front_division rfc5424_row (subst (λ (x : Text). Front (Row rfc5424_row) x [] (line_values version m)) (sym (trimmed_5424 version m p.msg_end))
-      (row_cons (optional priority) (classes fields ++ data_row) (optional_some priority (priority_front (priority_of m) _ (priority_low m)))
+      front_division rfc5424_row
+      (subst (λ (x : Text). Front (Row rfc5424_row) x [] (line_values version m))
+      (sym (trimmed_5424 version m p.msg_end))
+      (row_cons (optional priority) (classes fields ++ data_row)
+      (optional_some priority (priority_front (priority_of m) _ (priority_low m)))
       (rows_join (classes fields) data_row header body)))
 
 -- ---- messages
@@ -192,14 +216,17 @@ pub printed_is : (version : ℕ) (m : MessageValue) → m.protocol ≡ RFC5424 v
 printed_is version m e = rw e refl
 
 -- a canonical message is read back
-pub canonical_read : (rule : DashRule) (version : ℕ) (m : MessageValue) → m.protocol ≡ RFC5424 version → IsBounded m → IsCanonical rule m
+pub canonical_read : (rule : DashRule) (version : ℕ) (m : MessageValue) → m.protocol ≡ RFC5424 version → IsBounded m
+    → IsCanonical rule m
     → IsRead5424 (printed m) m
 canonical_read rule version m e b c =
     let (f, ef) = some_of m.facility c.0.facility in
     let (s, es) = some_of m.severity c.0.severity in
     let plain : IsPlain5424 m = subst (λ (x : Protocol). IsPlainFor rule x m) e c.1 in
     let bounded : version < 2 ^ 32 = subst IsBoundedProtocol e b.protocol in
-    let same : priority_of m ≡ composed f s = ap₂ (λ (x : Option SyslogFacility) (y : Option SyslogSeverity). option_map_or facility_number x 5 * 8 + option_map_or severity_number y 7) ef es in
+    let same : priority_of m ≡ composed f s =
+    ap₂ (λ (x : Option SyslogFacility)
+    (y : Option SyslogSeverity). option_map_or facility_number x 5 * 8 + option_map_or severity_number y 7) ef es in
     subst (λ (x : Text). IsRead5424 x m) (sym (printed_is version m e)) (record {
       values = line_values version m;
       division = line_divided version m (omega arith) b c.0 plain;
@@ -243,10 +270,32 @@ values_plain : (rule : DashRule) (text : Text) (v : Values rfc5424_row) → Divi
     → IsCanonical rule (completed (message_of v)) × IsBounded (completed (message_of v))
 values_plain rule text v d =
     let row = division_front rfc5424_row d in
-    let (t1, pri, (t2, number, (t3, s1, (t4, stamp, (t5, s2, (t6, name, (t7, s3, more))))))) = row_pieces rfc5424_row row in
-    let (t8, app, (t9, s4, (t10, process, (t11, s5, (t12, id, (t13, s6, (t14, list, (t15, s7, (t16, msg, _))))))))) = more in
+    let (t1, pri, (t2, number, (t3, s1, (t4, stamp, (t5, s2, (t6, name, (t7, s3, more))))))) =
+    row_pieces rfc5424_row row in
+    let (
+      t8,
+      app,
+      (
+        t9,
+        s4,
+        (
+          t10,
+          process,
+          (
+            t11,
+            s5,
+            (
+              t12,
+              id,
+              (t13, s6, (t14, list, (t15, s7, (t16, msg, _)))),
+            ),
+          ),
+        ),
+      ),
+    ) = more in
     let m = message_of v in
-    let no_colon : NoColonNext t6 = subst (λ (x : Text). NoColonNext x) (sym s3.whole) (blanks_next s3.piece t7 s3.is.0 s3.is.1) in (
+    let no_colon : NoColonNext t6 =
+    subst (λ (x : Text). NoColonNext x) (sym s3.whole) (blanks_next s3.piece t7 s3.is.0 s3.is.1) in (
       (
         record {
           facility = refl;
@@ -263,16 +312,22 @@ values_plain rule text v d =
           msgid = word_plain id.piece t12 m.msgid id.is;
         },
       ),
-      record { protocol = (let l = number.is.4 in omega arith); procid = process_bounded process.piece t10 m.procid process.is },
+      record {
+        protocol = (let l = number.is.4 in omega arith);
+        procid = process_bounded process.piece t10 m.procid process.is;
+      },
     )
 
-pub read_plain : (rule : DashRule) (text : Text) (m : MessageValue) → IsRead5424 text m → IsCanonical rule (completed m) × IsBounded (completed m)
+pub read_plain : (rule : DashRule) (text : Text) (m : MessageValue) → IsRead5424 text m
+    → IsCanonical rule (completed m) × IsBounded (completed m)
 read_plain rule text m r =
-    subst (λ (x : MessageValue). IsCanonical rule (completed x) × IsBounded (completed x)) (sym r.means) (values_plain rule text r.values r.division)
+    subst (λ (x : MessageValue). IsCanonical rule (completed x) × IsBounded (completed x)) (sym r.means)
+    (values_plain rule text r.values r.division)
 
 -- ---- a message that is read with a facility is canonical
 
-pub completed_same : (m : MessageValue) (f : SyslogFacility) (s : SyslogSeverity) → m.facility ≡ Some f → m.severity ≡ Some s → completed m ≡ m
+pub completed_same : (m : MessageValue) (f : SyslogFacility) (s : SyslogSeverity) → m.facility ≡ Some f
+    → m.severity ≡ Some s → completed m ≡ m
 completed_same m f s e g = λ i. record {
   protocol = m.protocol;
   facility = (ap (λ (x : Option SyslogFacility). Some (unwrap_or x LOG_SYSLOG)) e ∙ sym e) i;
@@ -286,11 +341,13 @@ completed_same m f s e g = λ i. record {
   msg = m.msg;
 }
 
-severity_too : (pri : Option ℕ) (f : SyslogFacility) → option_and_then facility_of pri ≡ Some f → (s : SyslogSeverity) × (option_and_then severity_of pri ≡ Some s)
+severity_too : (pri : Option ℕ) (f : SyslogFacility) → option_and_then facility_of pri ≡ Some f
+    → (s : SyslogSeverity) × (option_and_then severity_of pri ≡ Some s)
 severity_too None f e = absurd (let t : None ≡ Some f = e in cc)
 severity_too (Some n) f e = severity_there n
 
-pub read_canonical : (rule : DashRule) (text : Text) (m : MessageValue) → IsRead5424 text m → IsSome m.facility → IsCanonical rule m
+pub read_canonical : (rule : DashRule) (text : Text) (m : MessageValue) → IsRead5424 text m → IsSome m.facility
+    → IsCanonical rule m
 read_canonical rule text m r there =
     let (f, e) = some_of m.facility there in
     let pri = r.values.0 in
@@ -302,28 +359,34 @@ read_canonical rule text m r there =
 
 -- what stands in print for an absent facility and severity
 pub priority_same : (f : Option SyslogFacility) (s : Option SyslogSeverity)
-    → composed (unwrap_or f LOG_SYSLOG) (unwrap_or s SEV_DEBUG) ≡ option_map_or facility_number f 5 * 8 + option_map_or severity_number s 7
+    → composed (unwrap_or f LOG_SYSLOG) (unwrap_or s SEV_DEBUG)
+    ≡ option_map_or facility_number f 5 * 8 + option_map_or severity_number s 7
 priority_same None None = refl
 priority_same None (Some s) = refl
 priority_same (Some f) None = refl
 priority_same (Some f) (Some s) = refl
 
-begun_read : (n : ℕ) (more : Text) (v : Values rfc5424_row) → n < 192 → Division rfc5424_row (trimmed (60 ∷ (decimal n ++ (62 ∷ more)))) v → v.0 ≡ Some n
+begun_read : (n : ℕ) (more : Text) (v : Values rfc5424_row) → n < 192
+    → Division rfc5424_row (trimmed (60 ∷ (decimal n ++ (62 ∷ more)))) v → v.0 ≡ Some n
 begun_read n more v small d =
     let g = row_head (optional priority) (classes fields ++ data_row) (division_front rfc5424_row d) in
-    let known : Front (optional priority) (trimmed (60 ∷ (decimal n ++ (62 ∷ more)))) (drop_trailing_whitespace more) (Some n) =
-    subst (λ (x : Text). Front (optional priority) x (drop_trailing_whitespace more) (Some n)) (sym (priority_trimmed n more))
+    let known : Front (optional priority) (trimmed (60 ∷ (decimal n ++ (62 ∷ more)))) (drop_trailing_whitespace more)
+    (Some n) =
+    subst (λ (x : Text). Front (optional priority) x (drop_trailing_whitespace more) (Some n))
+    (sym (priority_trimmed n more))
     (optional_some priority (priority_front n (drop_trailing_whitespace more) (omega arith))) in
     (front_same (optional priority) (optional_det priority priority_det) g.1 known).1
 
-pub read_is_canonical : (rule : DashRule) (version : ℕ) (m : MessageValue) → m.protocol ≡ RFC5424 version → IsRead5424 (printed m) m → IsCanonical rule m
+pub read_is_canonical : (rule : DashRule) (version : ℕ) (m : MessageValue) → m.protocol ≡ RFC5424 version
+    → IsRead5424 (printed m) m → IsCanonical rule m
 unfolding printed_5424
 read_is_canonical rule version m e r =
     let s : IsRead5424 (printed_5424 version m) m = subst (λ (x : Text). IsRead5424 x m) (printed_is version m e) r in
     let small = priority_small m in
     let first = begun_read (priority_of m) _ s.values small s.division in
     let (f, sev, there, told, same) = priority_composed (priority_of m) small in
-    let facility : m.facility ≡ Some f = ap (λ (x : MessageValue). x.facility) s.means ∙ ap (option_and_then facility_of) first ∙ there in
+    let facility : m.facility ≡ Some f =
+    ap (λ (x : MessageValue). x.facility) s.means ∙ ap (option_and_then facility_of) first ∙ there in
     read_canonical rule (printed m) m r (subst (λ (x : Option SyslogFacility). IsSome x) (sym facility) refl)
 
 -- ---- and the printed text of what was read is read as a message that prints the same
@@ -334,13 +397,16 @@ printed_again version m e =
     printed_is version (completed m) e
     ∙ ap (λ (n : ℕ). 60 ∷ (decimal n ++ (62 ∷ (decimal version ++ (32 ∷ (timestamp_text m.timestamp
     ++ (32 ∷ (name_text m.hostname ++ (32 ∷ (name_text m.appname ++ (32 ∷ (process_text m.procid
-    ++ (32 ∷ (name_text m.msgid ++ (32 ∷ (elements_text m.structured_data ++ (32 ∷ m.msg))))))))))))))))) (priority_same m.facility m.severity)
+    ++ (32 ∷ (name_text m.msgid ++ (32 ∷ (elements_text m.structured_data ++ (32 ∷ m.msg)))))))))))))))))
+    (priority_same m.facility m.severity)
     ∙ sym (printed_is version m e)
 
-pub read_again : (text : Text) (m : MessageValue) → IsRead5424 text m → IsRead5424 (printed m) (completed m) × (printed (completed m) ≡ printed m)
+pub read_again : (text : Text) (m : MessageValue) → IsRead5424 text m
+    → IsRead5424 (printed m) (completed m) × (printed (completed m) ≡ printed m)
 read_again text m r =
     let version = r.values.1.0 in
     let e : m.protocol ≡ RFC5424 version = ap (λ (x : MessageValue). x.protocol) r.means in
     let (canonical, bounded) = read_plain BeforeAnything text m r in
     let same = printed_again version m e in
-    (subst (λ (x : Text). IsRead5424 x (completed m)) same (canonical_read BeforeAnything version (completed m) e bounded canonical), same)
+    let again = canonical_read BeforeAnything version (completed m) e bounded canonical in
+    (subst (λ (x : Text). IsRead5424 x (completed m)) same again, same)

@@ -32,11 +32,13 @@ pub each_right : (f g : ℕ → Bool) (t : Text) → Each (λ c. f c && g c) t �
 each_right f g = each_map (λ c. f c && g c) g (λ c h. (and_parts (f c) (g c) h).1)
 
 -- ---- elements of a list
-pub all_map : {A : Type 0} {P Q : A → Type 0} → ((t : A) → P t → Q t) → (ts : List A) → AllByRecursion P ts → AllByRecursion Q ts
+pub all_map : {A : Type 0} {P Q : A → Type 0} → ((t : A) → P t → Q t) → (ts : List A) → AllByRecursion P ts
+    → AllByRecursion Q ts
 all_map f [] h = tt
 all_map f (t ∷ ts) h = (f t h.0, all_map f ts h.1)
 
-pub all_append : {A : Type 0} (P : A → Type 0) (ts us : List A) → AllByRecursion P ts → AllByRecursion P us → AllByRecursion P (ts ++ us)
+pub all_append : {A : Type 0} (P : A → Type 0) (ts us : List A) → AllByRecursion P ts → AllByRecursion P us
+    → AllByRecursion P (ts ++ us)
 all_append P [] us h k = k
 all_append P (t ∷ ts) us h k = (h.0, all_append P ts us h.1 k)
 

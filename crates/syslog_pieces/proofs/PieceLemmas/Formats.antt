@@ -23,17 +23,20 @@ row_back (F ∷ Fs) s vs q h =
 -- ---- what is printed
 
 -- a row printed before two texts
-pub printed_more : (Fs : List Format) (vs : Values (classes Fs)) (p q : Text) → printed_row Fs vs p ++ q ≡ printed_row Fs vs (p ++ q)
+pub printed_more : (Fs : List Format) (vs : Values (classes Fs)) (p q : Text)
+    → printed_row Fs vs p ++ q ≡ printed_row Fs vs (p ++ q)
 printed_more [] vs p q = refl
 printed_more (F ∷ Fs) vs p q =
-    append_assoc (F.print vs.0) (printed_row Fs vs.1 p) q ∙ ap (λ (x : Text). F.print vs.0 ++ x) (printed_more Fs vs.1 p q)
+    append_assoc (F.print vs.0) (printed_row Fs vs.1 p) q
+    ∙ ap (λ (x : Text). F.print vs.0 ++ x) (printed_more Fs vs.1 p q)
 
 -- the characters of each printed piece pass the test
 abbrev pub EachPrints : (ℕ → Bool) → (Fs : List Format) → Values (classes Fs) → Type 0
 EachPrints test [] vs = Unit {0}
 EachPrints test (F ∷ Fs) vs = Each test (F.print vs.0) × EachPrints test Fs vs.1
 
-pub row_passes : (test : ℕ → Bool) (Fs : List Format) (vs : Values (classes Fs)) (q : Text) → EachPrints test Fs vs → Each test q
+pub row_passes : (test : ℕ → Bool) (Fs : List Format) (vs : Values (classes Fs)) (q : Text) → EachPrints test Fs vs
+    → Each test q
     → Each test (printed_row Fs vs q)
 row_passes test [] vs q h k = k
 row_passes test (F ∷ Fs) vs q h k =

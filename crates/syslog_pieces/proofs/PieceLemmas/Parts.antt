@@ -1,5 +1,6 @@
 -- The texts that a piece's meaning holds are parts of the piece.
-use Rattle.std.proofs.Common.{◌≡◌, inl, inr, List, [], ◌∷◌, ◌++◌, Option, Some, None, sym, ap, subst, ◌∙◌, append_assoc, append-nil}
+use Rattle.std.proofs.Common.{◌≡◌, inl, inr, List, [], ◌∷◌, ◌++◌, Option, Some, None, sym, ap, subst, ◌∙◌, append_assoc}
+use Rattle.std.proofs.Common.{append-nil}
 use Rattle.std.specs.List.{AllByRecursion}
 use Rattle.syslog_pieces.specs.Pieces.Class.{Text, Class, Values, join, Divides, rest, optional, spaced, texted}
 use Rattle.syslog_pieces.specs.Pieces.Parts.{IsPart, IsInPieces, AreInPieces, text_list, process_texts}
@@ -13,7 +14,11 @@ pub part_same : (p t : Text) → t ≡ p → IsPart p t
 part_same p t e = ([], [], sym e ∙ sym (append-nil t))
 
 pub part_left : (p q t : Text) → IsPart p t → IsPart (p ++ q) t
-part_left p q t (a, b, e) = (a, b ++ q, ap (λ (x : Text). x ++ q) e ∙ append_assoc a (t ++ b) q ∙ ap (λ (x : Text). a ++ x) (append_assoc t b q))
+part_left p q t (a, b, e) = (
+  a,
+  b ++ q,
+  ap (λ (x : Text). x ++ q) e ∙ append_assoc a (t ++ b) q ∙ ap (λ (x : Text). a ++ x) (append_assoc t b q),
+)
 
 pub part_right : (p q t : Text) → IsPart q t → IsPart (p ++ q) t
 part_right p q t (a, b, e) = (p ++ a, b, ap (λ (x : Text). p ++ x) e ∙ sym (append_assoc p a (t ++ b)))
@@ -42,7 +47,8 @@ abbrev pub row_texts : (Cs : List Class) → Quoted Cs → Values Cs → List Te
 row_texts [] k vs = []
 row_texts (C ∷ Cs) k vs = k.0.0 vs.0 ++ row_texts Cs k.1 vs.1
 
-pub row_quotes : (Cs : List Class) (k : Quoted Cs) (ps : List Text) (q : Text) (vs : Values Cs) → Divides Cs ps q vs → AreInPieces ps (row_texts Cs k vs)
+pub row_quotes : (Cs : List Class) (k : Quoted Cs) (ps : List Text) (q : Text) (vs : Values Cs) → Divides Cs ps q vs
+    → AreInPieces ps (row_texts Cs k vs)
 row_quotes [] k ps q vs h = tt
 row_quotes (C ∷ Cs) k [] q vs h = absurd h
 row_quotes (C ∷ Cs) ((f, g), k) (p ∷ ps) q vs h =

@@ -21,7 +21,8 @@ row_of (C ∷ Cs) (u, f, p) = row_cons C Cs f (row_of Cs p)
 
 -- a piece, and then those behind it
 infixr 20 ◌then◌
-abbrev pub ◌then◌ : {C : Class} {t u : Text} {v : C.Value} {P : Text → Type 0} → Front C t u v → P u → (q : Text) × Front C t q v × P q
+abbrev pub ◌then◌ : {C : Class} {t u : Text} {v : C.Value} {P : Text → Type 0} → Front C t u v → P u
+    → (q : Text) × Front C t q v × P q
 ◌then◌ {u = u} f p = (u, f, p)
 
 -- ---- the first that is not there

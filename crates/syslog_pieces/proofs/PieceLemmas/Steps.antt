@@ -11,13 +11,15 @@ pub piece_front : (C : Class) (p q : Text) (v : C.Value) → C.Is p q v → Fron
 piece_front C p q v h = record { piece = p; whole = refl; is = h }
 
 -- behind a known front of the first class, the row goes on with its other classes
-pub step : (C : Class) (Cs : List Class) → IsDeterministic C → {t q r : Text} {v : C.Value} {vs : Values (C ∷ Cs)} → Front C t q v → Front (Row (C ∷ Cs)) t r vs → Front (Row Cs) q r vs.1
+pub step : (C : Class) (Cs : List Class) → IsDeterministic C → {t q r : Text} {v : C.Value} {vs : Values (C ∷ Cs)}
+    → Front C t q v → Front (Row (C ∷ Cs)) t r vs → Front (Row Cs) q r vs.1
 step C Cs d {r = r} {vs = vs} g f =
     let h = row_head C Cs f in
     let e = (front_same C d h.1 g).0 in subst (λ (x : Text). Front (Row Cs) x r vs.1) e h.2
 
 -- and the first meaning is that of the known front
-pub step_value : (C : Class) (Cs : List Class) → IsDeterministic C → {t q r : Text} {v : C.Value} {vs : Values (C ∷ Cs)} → Front C t q v → Front (Row (C ∷ Cs)) t r vs → vs.0 ≡ v
+pub step_value : (C : Class) (Cs : List Class) → IsDeterministic C → {t q r : Text} {v : C.Value} {vs : Values (C ∷ Cs)}
+    → Front C t q v → Front (Row (C ∷ Cs)) t r vs → vs.0 ≡ v
 step_value C Cs d g f = let h = row_head C Cs f in (front_same C d h.1 g).1
 
 -- what follows a front is no longer than the text

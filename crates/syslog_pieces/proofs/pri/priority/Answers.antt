@@ -14,7 +14,8 @@ returns-in_err-rest c =
 pub returns-in_err-value : goal.returns-in_err-value
 returns-in_err-value c =
     let n : NoFront priority (chars c.args.text.now) =
-    no_priority (no_row priority_row priority_row_det (c.in_ok-rest.ensures past inl c.in_err-value.ensures)) in search rules
+    no_priority (no_row priority_row priority_row_det (c.in_ok-rest.ensures
+    past inl c.in_err-value.ensures)) in search rules
 
 pub returns-in_err-rest-2 : goal.returns-in_err-rest-2
 returns-in_err-rest-2 c =
@@ -23,4 +24,6 @@ returns-in_err-rest-2 c =
     (c.in_ok-rest.ensures past c.in_ok-value.ensures past inl c.in_err-rest-2.ensures)) in search rules
 
 pub returns : goal.returns
-returns c = as_priority (row_of priority_row (c.in_ok-rest.ensures then c.in_ok-value.ensures then c.in_ok-rest-2.ensures then refl))
+returns c =
+    as_priority (row_of priority_row (c.in_ok-rest.ensures then c.in_ok-value.ensures then c.in_ok-rest-2.ensures
+    then refl))

@@ -8,7 +8,8 @@ use Rattle.syslog_pieces.proofs.timestamp.month_date.read_clock.Goals as goal
 
 pub returns-in_err-hour : goal.returns-in_err-hour
 returns-in_err-hour c =
-    let n : NoFront (Row clock_row) (chars c.args.text.now) = no_row clock_row clock_det (inl c.in_err-hour.ensures) in search rules
+    let n : NoFront (Row clock_row) (chars c.args.text.now) =
+    no_row clock_row clock_det (inl c.in_err-hour.ensures) in search rules
 
 pub returns-in_err-rest : goal.returns-in_err-rest
 returns-in_err-rest c =
@@ -18,13 +19,15 @@ returns-in_err-rest c =
 pub returns-in_err-minute : goal.returns-in_err-minute
 returns-in_err-minute c =
     let n : NoFront (Row clock_row) (chars c.args.text.now) =
-    no_row clock_row clock_det (c.in_ok-hour.ensures past c.in_ok-rest.ensures past inl c.in_err-minute.ensures) in search rules
+    no_row clock_row clock_det
+    (c.in_ok-hour.ensures past c.in_ok-rest.ensures past inl c.in_err-minute.ensures) in search rules
 
 pub returns-in_err-rest-2 : goal.returns-in_err-rest-2
 returns-in_err-rest-2 c =
     let n : NoFront (Row clock_row) (chars c.args.text.now) =
     no_row clock_row clock_det
-    (c.in_ok-hour.ensures past c.in_ok-rest.ensures past c.in_ok-minute.ensures past inl c.in_err-rest-2.ensures) in search rules
+    (c.in_ok-hour.ensures past c.in_ok-rest.ensures past c.in_ok-minute.ensures
+    past inl c.in_err-rest-2.ensures) in search rules
 
 pub returns-in_err-second : goal.returns-in_err-second
 returns-in_err-second c =
@@ -36,6 +39,7 @@ returns-in_err-second c =
 pub returns : goal.returns
 returns c = (
   c.past_colon-rest.ensures.0,
-  row_of clock_row (c.in_ok-hour.ensures then c.in_ok-rest.ensures then c.in_ok-minute.ensures then c.in_ok-rest-2.ensures
+  row_of clock_row (c.in_ok-hour.ensures then c.in_ok-rest.ensures then c.in_ok-minute.ensures
+      then c.in_ok-rest-2.ensures
       then c.in_ok-second.ensures then c.past_colon-rest.ensures.1 then refl),
 )

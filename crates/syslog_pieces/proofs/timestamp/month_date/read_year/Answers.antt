@@ -8,7 +8,8 @@ use Rattle.syslog_pieces.proofs.timestamp.month_date.read_year.Goals as goal
 
 pub returns-in_err-year : goal.returns-in_err-year
 returns-in_err-year c =
-    let n : NoFront (Row year_row) (chars c.args.text.now) = no_row year_row year_det (inl c.in_err-year.ensures) in search rules
+    let n : NoFront (Row year_row) (chars c.args.text.now) =
+    no_row year_row year_det (inl c.in_err-year.ensures) in search rules
 
 pub returns-in_err-rest : goal.returns-in_err-rest
 returns-in_err-rest c =

@@ -14,7 +14,8 @@ pub returns-in_err-date : goal.returns-in_err-date
 returns-in_err-date c =
     let n : (d : MonthDate) → ShowsYearless (chars c.args.text.now) d → ⊥ =
     shown_none c.args.text.now c.trimmed-text.result.now c.trimmed-text.ensures
-    (no_row (showing_row yearless_date) (optional_det _ priority_det also run_det _ also yearless_det also rest_det also tt)
+    (no_row (showing_row yearless_date)
+    (optional_det _ priority_det also run_det _ also yearless_det also rest_det also tt)
     (c.optional_priority.ensures past c.blanks-rest.ensures past inl c.in_err-date.ensures)) in search rules
 
 pub returns : goal.returns
