@@ -1,23 +1,21 @@
 -- What the tests of the written condition answer.
-use Rattle.std.proofs.Common.{◌≡◌, ℕ, ◌<◌, Bool, true, false, not, nat_eq, List, [], ◌∷◌, length, map, refl, sym, ap, subst, ◌∙◌, arith}
+use Rattle.std.proofs.Common.{◌≡◌, ℕ, ◌<◌, Bool, true, false, not, List, [], ◌∷◌, length, map, refl, sym, ap, subst}
+use Rattle.std.proofs.Common.{◌∙◌, arith}
 use Rattle.std.specs.Prelude.{◌↔◌, IsTrue, MatchBool}
 use Rattle.std.specs.Str.{chars, IsUtf8, trim_end, bytes_eq, drop_trailing_whitespace}
-use Rattle.std.proofs.lemmas.Bool.{and_parts, and_from}
 use Rattle.std.proofs.lemmas.Slice.Eq.{bytes_eq-Decides}
-use Rattle.syslog_pieces.specs.Pieces.Class.{Text, Each, NoFront}
+use Rattle.syslog_pieces.specs.Pieces.Class.{Text, NoFront}
 use Rattle.syslog_pieces.specs.StructuredData.Listed.{BeginsNoList, listed}
 use Rattle.syslog_pieces.specs.declared.structured_data.listed.DashRule.{DashRule}
-use Rattle.syslog_pieces.specs.Text.{is_tag_char}
-use Rattle.syslog_pieces.specs.Text.CharClass.{is_open_char}
 use Rattle.syslog_pieces.specs.Text.Plain.{EndsVisibly}
 use Rattle.syslog_pieces.proofs.TextLemmas.Chars.{same_chars}
 use Rattle.syslog_pieces.proofs.TextLemmas.Trim.{end_trimmed_chars}
 use Rattle.syslog_pieces.proofs.StructuredDataLemmas.Listed.{no_list_is}
-use Rattle.syslog_loose.specs.Canonical.{is_process_char}
 use Rattle.syslog_loose.proofs.TrimLemmas.{drop_kept, drop_ends}
 
 -- a text that trimming leaves as it is
-pub visible_told : (bs ts : List ℕ) (b : Bool) → IsUtf8 bs → IsUtf8 ts → ts ≡ trim_end bs → b ≡ bytes_eq ts bs → IsTrue b ↔ EndsVisibly (chars bs)
+pub visible_told : (bs ts : List ℕ) (b : Bool) → IsUtf8 bs → IsUtf8 ts → ts ≡ trim_end bs → b ≡ bytes_eq ts bs
+    → IsTrue b ↔ EndsVisibly (chars bs)
 visible_told bs ts b u v e f =
     let kept : chars ts ≡ drop_trailing_whitespace (chars bs) = ap chars e ∙ end_trimmed_chars bs u in (
       (λ h.
@@ -25,19 +23,6 @@ visible_told bs ts b u v e f =
           subst EndsVisibly (sym kept ∙ ap chars same) (drop_ends (chars bs))),
       (λ h. f ∙ (bytes_eq-Decides ts bs).1 (same_chars ts bs v u (kept ∙ drop_kept (chars bs) h))),
     )
-
--- the characters of a process name: those of a tag, but for the bracket
-pub process_chars : (t : Text) → Each is_tag_char t → Each is_open_char t → Each is_process_char t
-process_chars [] h k = tt
-process_chars (c ∷ t) h k = (and_from (is_tag_char c) (not (nat_eq c 93)) h.0 k.0, process_chars t h.1 k.1)
-
-pub tag_chars : (t : Text) → Each is_process_char t → Each is_tag_char t
-tag_chars [] h = tt
-tag_chars (c ∷ t) h = ((and_parts (is_tag_char c) (not (nat_eq c 93)) h.0).0, tag_chars t h.1)
-
-pub open_chars : (t : Text) → Each is_process_char t → Each is_open_char t
-open_chars [] h = tt
-open_chars (c ∷ t) h = ((and_parts (is_tag_char c) (not (nat_eq c 93)) h.0).1, open_chars t h.1)
 
 -- a list that is there, seen through a function
 pub some_params : {X Y : Type 0} (f : X → Y) (xs : List X) → 0 < length (map f xs) → 0 < length xs
@@ -53,6 +38,8 @@ some_items f [] h e = omega arith
 some_items f (x ∷ xs) h e = let k = ap length e in omega arith
 
 -- a message that begins no list
-pub no_list_told : (rule : DashRule) (t : Text) (b : Bool) → MatchBool b (NoFront (listed rule) t → ⊥) (NoFront (listed rule) t) → IsTrue (not b) ↔ BeginsNoList rule t
-no_list_told rule t true m = ((λ h. absurd (let e : false ≡ true = h in cc)), (λ n. absurd (m ((no_list_is rule t).1 n))))
+pub no_list_told : (rule : DashRule) (t : Text) (b : Bool)
+    → MatchBool b (NoFront (listed rule) t → ⊥) (NoFront (listed rule) t) → IsTrue (not b) ↔ BeginsNoList rule t
+no_list_told rule t true m =
+    ((λ h. absurd (let e : false ≡ true = h in cc)), (λ n. absurd (m ((no_list_is rule t).1 n))))
 no_list_told rule t false m = ((λ h. (no_list_is rule t).0 m), (λ n. refl))

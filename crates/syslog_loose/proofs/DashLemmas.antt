@@ -1,11 +1,10 @@
 -- Which texts are read differently since the rule of the dash changed, and that the condition only grew.
-use Rattle.std.proofs.Common.{◌≡◌, ◌↔◌, ◌⊎◌, inl, inr, ℕ, suc, ℤ, Bool, true, false, not, MatchBool, IsTrue, List, [], ◌∷◌, ◌++◌, length, Option, Some, None, refl, sym, ap, subst, ◌∙◌, arith, append_assoc, append-nil}
+use Rattle.std.proofs.Common.{◌≡◌, ◌↔◌, ◌⊎◌, inl, inr, ℕ, suc, ℤ, Bool, true, false, MatchBool, IsTrue, List, [], ◌∷◌, ◌++◌, length, Option, Some, None, refl, sym, ap, subst, ◌∙◌, arith, append_assoc, append-nil}
 use Rattle.std.proofs.lemmas.Bool.Decides.{eqb_tells}
-use Rattle.syslog_pieces.specs.Pieces.Class.{Text, Class, Values, Front, NoFront, join, Divides, Row, Ends, run, rest, exactly, optional, spaced}
-use Rattle.syslog_pieces.specs.Pri.{priority}
+use Rattle.syslog_pieces.specs.Pieces.Class.{Text, Class, Values, Front, NoFront, join, Divides, Row, Ends, run, rest, exactly, optional}
 use Rattle.syslog_pieces.specs.StructuredData.Element.{ElementValue}
 use Rattle.syslog_pieces.specs.StructuredData.Listed.{IsListed, listed, BeginsNoList}
-use Rattle.syslog_pieces.specs.Text.{trimmed, is_blank, dash, colon, host, tag_word}
+use Rattle.syslog_pieces.specs.Text.{trimmed, is_blank, dash}
 use Rattle.std.specs.Borrow.{Bor}
 use Rattle.jiff.specs.declared.tz.timezone.TimeZone.{TimeZone}
 use Rattle.syslog_pieces.specs.Timestamp.Zone.{Dating, dating_of}
@@ -16,11 +15,8 @@ use Rattle.syslog_loose.proofs.Rfc3164Lemmas.Stamped.{division_is_stamped}
 use Rattle.syslog_loose.proofs.Rfc3164Lemmas.Years.{other_read}
 use Rattle.syslog_pieces.specs.declared.structured_data.listed.DashRule.{DashRule}
 use Rattle.syslog_pieces.specs.declared.structured_data.listed.DashRule.TheVariants.{BeforeAnything, BeforeBlank}
-use Rattle.syslog_pieces.proofs.PieceLemmas.Class.{AllDeterministic, heads, front_same, row_det, optional_det, exactly_det, run_det, spaced_det, optional_none, optional_some, rest_front, row_nil, row_cons, row_head, rows_join, division_front, front_division, both_values}
-use Rattle.syslog_pieces.proofs.PriLemmas.{priority_det}
+use Rattle.syslog_pieces.proofs.PieceLemmas.Class.{AllDeterministic, heads, front_same, row_det, optional_none, optional_some, rest_front, row_nil, row_cons, row_head, rows_join, division_front, front_division, both_values, all_joined, firsts, lasts, rows_split}
 use Rattle.syslog_pieces.proofs.StructuredDataLemmas.Listed.{dash_listed, full_begins, no_listed}
-use Rattle.syslog_pieces.proofs.TextLemmas.Words.{host_det, tag_word_det}
-use Rattle.syslog_pieces.proofs.TimestampLemmas.Loose.{loose_stamp_det}
 use Rattle.syslog_loose.specs.declared.message.Protocol.{Protocol}
 use Rattle.syslog_loose.specs.declared.message.Protocol.TheVariants as protocol
 use Rattle.syslog_loose.specs.declared.variant.Variant.{Variant}
@@ -32,6 +28,7 @@ use Rattle.syslog_loose.specs.Rfc3164.{Names3164, Resolves, stamped_row, fields_
 use Rattle.syslog_loose.proofs.Rfc3164Lemmas.Rows.{from_gap, from_list}
 use Rattle.syslog_loose.proofs.Rfc3164Lemmas.Unique as loose
 use Rattle.syslog_loose.proofs.Rfc5424Lemmas as strict
+use Rattle.syslog_loose.proofs.Rfc3164Lemmas.Unique.{stamped_det, fields_det}
 
 -- ---- the condition
 
@@ -47,42 +44,12 @@ own_grows (protocol.RFC5424 version) m h = h
 pub condition_grows : (m : MessageValue) → IsCanonical BeforeAnything m → IsCanonical BeforeBlank m
 condition_grows m (plain, own) = (plain, own_grows m.protocol m own)
 
--- ---- a row that is two rows
-
-abbrev firsts : (As Bs : List Class) → Values (As ++ Bs) → Values As
-firsts [] Bs vs = tt
-firsts (C ∷ As) Bs vs = (vs.0, firsts As Bs vs.1)
-
-abbrev lasts : (As Bs : List Class) → Values (As ++ Bs) → Values Bs
-lasts [] Bs vs = vs
-lasts (C ∷ As) Bs vs = lasts As Bs vs.1
-
-rows_split : (As Bs : List Class) {t r : Text} {vs : Values (As ++ Bs)} → Front (Row (As ++ Bs)) t r vs
-    → (u : Text) × Front (Row As) t u (firsts As Bs vs) × Front (Row Bs) u r (lasts As Bs vs)
-rows_split [] Bs {t = t} f = (t, row_nil t, f)
-rows_split (C ∷ As) Bs f =
-    let h = row_head C (As ++ Bs) f in
-    let (u, a, b) = rows_split As Bs h.2 in
-    (u, row_cons C As h.1 a, b)
-
 -- the pieces of RFC 3164 before the list
 abbrev pub before_list : Dating → List Class
 before_list dating = stamped_row dating ++ fields_row
 
 pub before_det : (dating : Dating) → AllDeterministic (before_list dating)
-before_det dating = (
-  optional_det priority priority_det,
-  (
-    run_det is_blank,
-    (
-      loose_stamp_det dating,
-      (
-        optional_det (spaced host) (spaced_det host host_det),
-        (optional_det (spaced tag_word) (spaced_det tag_word tag_word_det), (run_det is_blank, (optional_det (exactly colon) (exactly_det colon), (run_det is_blank, tt)))),
-      ),
-    ),
-  ),
-)
+before_det dating = all_joined (stamped_row dating) fields_row (stamped_det dating) fields_det
 
 -- ---- a list under the old rule
 
@@ -383,16 +350,6 @@ pub none_differs : (dating : Dating) (text t : Text) → t ≡ trimmed text → 
 none_differs dating text t e n r =
     let none = (division_is_stamped BeforeAnything dating (trimmed text)).1 (subst (λ (x : Text). NoFront (Row (stamped_row dating)) x) e n) in
     none r.was_read.values r.was_read.division
-
--- the character behind the dash tells
-told_next : (t : Text) (c : ℕ) (q : Text) (a b : Bool) → t ≡ 45 ∷ (c ∷ q) → is_blank c ≡ a → b ≡ not a → MatchBool b (BeginsLoose t) (BeginsLoose t → ⊥)
-told_next t c q false true e g f = record { next = c; behind = q; is = e; no_blank = g }
-told_next t c q true false e g f = λ h. let k : c ∷ q ≡ h.next ∷ h.behind = same_behind _ _ (sym e ∙ h.is) in let l : is_blank c ≡ false = ap is_blank (heads c h.next q h.behind k) ∙ h.no_blank in cc
-told_next t c q true true e g f = absurd (cc)
-told_next t c q false false e g f = absurd (cc)
-
-pub told_by_next : (t : Text) (c : ℕ) (q : Text) (b : Bool) → t ≡ 45 ∷ (c ∷ q) → b ≡ not (is_blank c) → MatchBool b (BeginsLoose t) (BeginsLoose t → ⊥)
-told_by_next t c q b e f = told_next t c q (is_blank c) b e refl f
 
 pub no_dash : (t : Text) → NoFront (exactly (45 ∷ [])) t → BeginsLoose t → ⊥
 no_dash t n h = n (45 ∷ []) (h.next ∷ h.behind) tt h.is refl

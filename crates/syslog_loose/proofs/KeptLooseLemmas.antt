@@ -44,7 +44,8 @@ use Rattle.syslog_loose.proofs.ReadingLemmas.{answered_to}
 use Rattle.syslog_loose.proofs.Rfc3164Lemmas.Apart.{not_both}
 use Rattle.syslog_loose.proofs.Rfc3164Lemmas.Shown.{shown_has_month}
 use Rattle.syslog_loose.proofs.Rfc3164Lemmas.Misses.{no_dash_host, no_colon_host, no_colon_names}
-use Rattle.syslog_loose.proofs.Rfc3164Lemmas.Near.{each_map, each_left, read_near}
+use Rattle.syslog_pieces.proofs.PieceLemmas.Each.{each_map, each_left}
+use Rattle.syslog_loose.proofs.Rfc3164Lemmas.Near.{read_near}
 use Rattle.syslog_loose.proofs.Rfc3164Lemmas.ReadBack.{digit_inside, gap_back, program_field, resolved, tag_back, host_field_back}
 use Rattle.syslog_loose.proofs.Rfc3164Lemmas.Reading.{is_read}
 use Rattle.syslog_loose.proofs.Rfc3164Lemmas.Rows.{from_gap, from_list, from_blanks, from_colon, from_tag_end, from_tag, from_stamp, from_priority_end}

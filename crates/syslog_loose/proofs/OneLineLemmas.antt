@@ -1,5 +1,7 @@
 -- What is read is printed in the characters of the text and of printable ASCII: what is read of one line, as one line.
-use Rattle.std.proofs.Common.{◌≡◌, ℕ, suc, zero, pos, negsuc, ◌<◌, ◌≤◌, ◌^◌, inl, inr, Bool, true, false, nat_eq, nat_le, nat_lt, ◌&&◌, cond, List, [], ◌∷◌, ◌++◌, length, Option, Some, None, IfSome, refl, sym, ap, subst, arith}
+use Rattle.std.proofs.Common.{◌≡◌, ℕ, suc, zero, pos, negsuc, ◌<◌, ◌≤◌, ◌^◌, inl, inr, Bool, true, false, nat_eq}
+use Rattle.std.proofs.Common.{nat_le, nat_lt, ◌&&◌, cond, List, [], ◌∷◌, ◌++◌, length, Option, Some, None, IfSome, refl}
+use Rattle.std.proofs.Common.{sym, ap, subst, arith}
 use Rattle.std.proofs.Math.Utf8.{scalar, scalars, low_scalar}
 use Rattle.std.proofs.lemmas.Bool.{and_from, and_parts}
 use Rattle.std.proofs.lemmas.Bool.Decides.{nat_tests}
@@ -10,20 +12,24 @@ use Rattle.std.specs.Str.{skip_leading_whitespace, drop_trailing_whitespace}
 use Rattle.syslog_pieces.specs.Pieces.Class.{Text, join, Each}
 use Rattle.syslog_pieces.specs.Pieces.Parts.{IsPart, AreInPieces, text_list, process_texts}
 use Rattle.syslog_pieces.specs.ProcId.{procid_text}
-use Rattle.syslog_pieces.specs.StructuredData.Element.{ElementValue, param_text, element_text, joined_elements, elements_text, element_texts}
+use Rattle.syslog_pieces.specs.StructuredData.Element.{ElementValue, param_text, element_text, joined_elements}
+use Rattle.syslog_pieces.specs.StructuredData.Element.{elements_text, element_texts}
 use Rattle.syslog_pieces.specs.Text.{trimmed, name_text}
 use Rattle.syslog_pieces.specs.Timestamp.Zone.{Dating}
 use Rattle.syslog_pieces.specs.declared.procid.ProcId.{ProcId}
 use Rattle.syslog_pieces.specs.declared.procid.ProcId.TheVariants.{PID, Name}
 use Rattle.syslog_pieces.specs.declared.timestamp.OffsetTimestamp.{OffsetTimestamp}
-use Rattle.syslog_pieces.proofs.PieceLemmas.Parts.{part_joined, all_map}
+use Rattle.syslog_pieces.proofs.PieceLemmas.Each.{all_map, each_map, each_front, each_behind, all_left, all_right}
+use Rattle.syslog_pieces.proofs.PieceLemmas.Each.{each_append}
+use Rattle.syslog_pieces.proofs.PieceLemmas.Parts.{part_joined}
 use Rattle.syslog_pieces.proofs.TextLemmas.ReadBack.{decimal_digits}
 use Rattle.syslog_pieces.proofs.TimestampLemmas.Characters.{IsStampCharacter}
 use Rattle.syslog_pieces.proofs.TimestampLemmas.Printing.{printed_stamp-characters}
 use Rattle.syslog_loose.specs.Canonical.{IsBoundedProcess, IsBoundedProtocol}
 use Rattle.syslog_loose.specs.Message.{MessageValue, message_texts}
 use Rattle.syslog_loose.specs.OneLine.{is_no_feed, IsOneLine}
-use Rattle.syslog_loose.specs.Printed.{timestamp_text, spaced_elements, tag_text, process_text, priority_of, printed_3164, printed_5424, printed}
+use Rattle.syslog_loose.specs.Printed.{timestamp_text, spaced_elements, tag_text, process_text, priority_of}
+use Rattle.syslog_loose.specs.Printed.{printed_3164, printed_5424, printed}
 use Rattle.syslog_loose.specs.Reading.{dash_rule, IsRead}
 use Rattle.syslog_loose.specs.Rfc3164.{IsRead3164}
 use Rattle.syslog_loose.specs.Rfc5424.{IsRead5424}
@@ -32,12 +38,14 @@ use Rattle.syslog_loose.specs.declared.variant.Variant.TheVariants.{Either, RFC3
 use Rattle.syslog_loose.proofs.PriorityLemmas.{priority_small}
 use Rattle.syslog_loose.proofs.Rfc3164Lemmas.Apart.{digit_range}
 use Rattle.syslog_loose.proofs.Rfc3164Lemmas.Bounded.{read_bounded}
-use Rattle.syslog_loose.proofs.Rfc3164Lemmas.Near.{each_map, each_front, each_behind, read_near}
+use Rattle.syslog_loose.proofs.Rfc3164Lemmas.Near.{read_near}
 use Rattle.syslog_loose.proofs.Rfc3164Lemmas.Printed as loose
-use Rattle.syslog_loose.proofs.Rfc3164Lemmas.Quoting.{all_left, all_right, quotes}
-use Rattle.syslog_loose.proofs.Rfc3164Lemmas.ReadBack.{each_append}
+use Rattle.syslog_loose.proofs.Rfc3164Lemmas.Quoting.{quotes}
 use Rattle.syslog_loose.proofs.Rfc5424Lemmas as strict
-use Rattle.syslog_loose.proofs.Rfc5424Lemmas.ReadBack.{read_plain, printed_is}
+use Rattle.syslog_loose.proofs.Rfc5424Lemmas.ReadBack.{read_plain, printed_is, fields, values_of}
+use Rattle.syslog_pieces.proofs.PieceLemmas.Class.{◌also◌}
+use Rattle.syslog_pieces.proofs.PieceLemmas.Formats.{EachPrints, row_passes}
+use Rattle.syslog_pieces.specs.Pieces.Format.{printed_row}
 
 -- the characters of printable ASCII
 abbrev pub is_ascii_print : ℕ → Bool
@@ -53,11 +61,15 @@ module _ (test : ℕ → Bool) (ascii : (c : ℕ) → is_ascii_print c ≡ true 
   Passes text = Each test text
 
   digits_pass : (t : Text) → Each is_ascii_digit t → Passes t
-  digits_pass = each_map is_ascii_digit test (λ c h. let r = digit_range c h in ascii c (in_print c (omega arith) (omega arith)))
+  digits_pass =
+      each_map is_ascii_digit test (λ c h. let r = digit_range c h in ascii c (in_print c (omega arith) (omega arith)))
 
   stamp_passes : (t : Text) → All IsStampCharacter t → Passes t
   stamp_passes [] h = tt
-  stamp_passes (c ∷ t) h = (let r = h zero c (omega arith) in ascii c (in_print c (omega (arith, r.0)) (omega (arith, r.1))), stamp_passes t (λ k d l. h (suc k) d (omega arith)))
+  stamp_passes (c ∷ t) h = (
+    let r = h zero c (omega arith) in ascii c (in_print c (omega (arith, r.0)) (omega (arith, r.1))),
+    stamp_passes t (λ k d l. h (suc k) d (omega arith)),
+  )
 
   number_line : (n : ℕ) → n < 2 ^ 64 → Passes (decimal n)
   number_line n h = digits_pass (decimal n) (decimal_digits n h).1
@@ -76,14 +88,16 @@ module _ (test : ℕ → Bool) (ascii : (c : ℕ) → is_ascii_print c ≡ true 
   drop_line : (t : Text) → Passes t → Passes (drop_trailing_whitespace t)
   drop_line [] h = h
   drop_line (c ∷ t) h =
-      cond_line (is_whitespace c && nat_eq (length (drop_trailing_whitespace t)) 0) [] (c ∷ drop_trailing_whitespace t) tt (h.0, drop_line t h.1)
+      cond_line (is_whitespace c && nat_eq (length (drop_trailing_whitespace t)) 0) []
+      (c ∷ drop_trailing_whitespace t) tt (h.0, drop_line t h.1)
 
   part_line : (p t : Text) → Passes p → IsPart p t → Passes t
   part_line p t h (before, after, e) =
       each_front test t after (each_behind test before (t ++ after) (subst Passes e h))
 
   -- what is in the pieces of a trimmed line is one line
-  pieces_line : (text : Text) (ps ts : List Text) → Passes text → trimmed text ≡ join ps → AreInPieces ps ts → AllByRecursion Passes ts
+  pieces_line : (text : Text) (ps ts : List Text) → Passes text → trimmed text ≡ join ps → AreInPieces ps ts
+      → AllByRecursion Passes ts
   pieces_line text ps ts h e k =
       let whole = subst Passes e (drop_line (skip_leading_whitespace text) (skip_line text h)) in
       all_map (λ t x. part_line (join ps) t whole (part_joined ps t x)) ts k
@@ -94,46 +108,71 @@ module _ (test : ℕ → Bool) (ascii : (c : ℕ) → is_ascii_print c ≡ true 
   name_line None h = (ascii 45 refl, tt)
   name_line (Some t) h = h.0
 
-  procid_line : (process : ProcId Text) → IsBoundedProcess process → AllByRecursion Passes (process_texts (Some process)) → Passes (procid_text process)
+  procid_line : (process : ProcId Text) → IsBoundedProcess process
+      → AllByRecursion Passes (process_texts (Some process)) → Passes (procid_text process)
   procid_line (PID (pos n)) b h = number_line n (omega (arith, b))
   procid_line (PID (negsuc n)) b h = (ascii 45 refl, number_line (suc n) (omega (arith, b)))
   procid_line (Name t) b h = h.0
 
-  process_line : (process : Option (ProcId Text)) → IfSome process IsBoundedProcess → AllByRecursion Passes (process_texts process) → Passes (process_text process)
+  process_line : (process : Option (ProcId Text)) → IfSome process IsBoundedProcess
+      → AllByRecursion Passes (process_texts process) → Passes (process_text process)
   process_line None b h = (ascii 45 refl, tt)
   process_line (Some p) b h = procid_line p b h
 
-  tag_line : (app : Option Text) (process : Option (ProcId Text)) → IfSome process IsBoundedProcess → AllByRecursion Passes (text_list app) → AllByRecursion Passes (process_texts process) → Passes (tag_text app process)
+  tag_line : (app : Option Text) (process : Option (ProcId Text)) → IfSome process IsBoundedProcess
+      → AllByRecursion Passes (text_list app) → AllByRecursion Passes (process_texts process)
+      → Passes (tag_text app process)
   tag_line None process b h k = (ascii 58 refl, (ascii 32 refl, tt))
   tag_line (Some a) None b h k = join_lines a (58 ∷ 32 ∷ []) h.0 (ascii 58 refl, (ascii 32 refl, tt))
   tag_line (Some a) (Some p) b h k =
-      join_lines a (91 ∷ (procid_text p ++ (93 ∷ 58 ∷ 32 ∷ []))) h.0 (ascii 91 refl, join_lines (procid_text p) (93 ∷ 58 ∷ 32 ∷ []) (procid_line p b k) (ascii 93 refl, (ascii 58 refl, (ascii 32 refl, tt))))
+      join_lines a (91 ∷ (procid_text p ++ (93 ∷ 58 ∷ 32 ∷ []))) h.0 (
+        ascii 91 refl,
+        join_lines (procid_text p) (93 ∷ 58 ∷ 32 ∷ []) (procid_line p b k) (
+          ascii 93 refl,
+          (ascii 58 refl, (ascii 32 refl, tt)),
+        ),
+      )
 
   timestamp_line : (stamp : Option OffsetTimestamp) → Passes (timestamp_text stamp)
   timestamp_line None = (ascii 45 refl, tt)
-  timestamp_line (Some s) = stamp_passes (timestamp_text (Some s)) (printed_stamp-characters _ _ s.instant.in_range s.offset.in_range)
+  timestamp_line (Some s) =
+      stamp_passes (timestamp_text (Some s)) (printed_stamp-characters _ _ s.instant.in_range s.offset.in_range)
 
-  params_line : (ps : List (Text × Text)) → AllByRecursion Passes (flat_map (λ p. p.0 ∷ p.1 ∷ []) ps) → Passes (flat_map param_text ps)
+  params_line : (ps : List (Text × Text)) → AllByRecursion Passes (flat_map (λ p. p.0 ∷ p.1 ∷ []) ps)
+      → Passes (flat_map param_text ps)
   params_line [] h = tt
   params_line (p ∷ ps) h =
-      join_lines (param_text p) (flat_map param_text ps)
-      (ascii 32 refl, join_lines p.0 (61 ∷ 34 ∷ (p.1 ++ (34 ∷ []))) h.0 (ascii 61 refl, (ascii 34 refl, join_lines p.1 (34 ∷ []) h.1.0 (ascii 34 refl, tt))))
+      join_lines (param_text p) (flat_map param_text ps) (
+        ascii 32 refl,
+        join_lines p.0 (61 ∷ 34 ∷ (p.1 ++ (34 ∷ []))) h.0 (
+          ascii 61 refl,
+          (ascii 34 refl, join_lines p.1 (34 ∷ []) h.1.0 (ascii 34 refl, tt)),
+        ),
+      )
       (params_line ps h.1.1)
 
   element_line : (e : ElementValue) → AllByRecursion Passes (element_texts e) → Passes (element_text e)
-  element_line e h =
-      (ascii 91 refl, join_lines e.id (flat_map param_text e.params ++ (93 ∷ [])) h.0 (join_lines (flat_map param_text e.params) (93 ∷ []) (params_line e.params h.1) (ascii 93 refl, tt)))
+  element_line e h = (
+    ascii 91 refl,
+    join_lines e.id (flat_map param_text e.params ++ (93 ∷ [])) h.0
+        (join_lines (flat_map param_text e.params) (93 ∷ []) (params_line e.params h.1) (ascii 93 refl, tt)),
+  )
 
-  joined_line : (es : List ElementValue) → AllByRecursion Passes (flat_map element_texts es) → Passes (joined_elements es)
+  joined_line : (es : List ElementValue) → AllByRecursion Passes (flat_map element_texts es)
+      → Passes (joined_elements es)
   joined_line [] h = tt
   joined_line (e ∷ es) h =
-      join_lines (element_text e) (joined_elements es) (element_line e (all_left Passes (element_texts e) (flat_map element_texts es) h)) (joined_line es (all_right Passes (element_texts e) (flat_map element_texts es) h))
+      join_lines (element_text e) (joined_elements es)
+      (element_line e (all_left Passes (element_texts e) (flat_map element_texts es) h))
+      (joined_line es (all_right Passes (element_texts e) (flat_map element_texts es) h))
 
-  elements_line : (es : List ElementValue) → AllByRecursion Passes (flat_map element_texts es) → Passes (elements_text es)
+  elements_line : (es : List ElementValue) → AllByRecursion Passes (flat_map element_texts es)
+      → Passes (elements_text es)
   elements_line [] h = (ascii 45 refl, tt)
   elements_line (e ∷ es) h = joined_line (e ∷ es) h
 
-  spaced_line : (es : List ElementValue) → AllByRecursion Passes (flat_map element_texts es) → Passes (spaced_elements es)
+  spaced_line : (es : List ElementValue) → AllByRecursion Passes (flat_map element_texts es)
+      → Passes (spaced_elements es)
   spaced_line [] h = tt
   spaced_line (e ∷ es) h = join_lines (joined_elements (e ∷ es)) (32 ∷ []) (joined_line (e ∷ es) h) (ascii 32 refl, tt)
 
@@ -187,39 +226,42 @@ module _ (test : ℕ → Bool) (ascii : (c : ℕ) → is_ascii_print c ≡ true 
             and_more (timestamp_text m.timestamp) host (timestamp_line m.timestamp)
                 (and_more (name_text m.hostname) tag (name_line m.hostname h.host)
                 (join_lines (tag_text m.appname m.procid) body (tag_line m.appname m.procid b h.app h.process)
-                (join_lines (spaced_elements m.structured_data) m.msg (spaced_line m.structured_data h.elements) h.msg))),
+                (join_lines (spaced_elements m.structured_data) m.msg
+                (spaced_line m.structured_data h.elements) h.msg))),
           ),
         ),
       )
 
-  strict_line : (version : ℕ) (m : MessageValue) → version < 2 ^ 32 → IfSome m.procid IsBoundedProcess → AreLines m → Passes (printed_5424 version m)
+  strict_line : (version : ℕ) (m : MessageValue) → version < 2 ^ 32 → IfSome m.procid IsBoundedProcess → AreLines m
+      → Passes (printed_5424 version m)
   unfolding printed_5424
   strict_line version m v b h =
+      let space : Passes (32 ∷ []) = (ascii 32 refl, tt) in
       let body : Text = elements_text m.structured_data ++ (32 ∷ m.msg) in
-      let id : Text = name_text m.msgid ++ (32 ∷ body) in
-      let process : Text = process_text m.procid ++ (32 ∷ id) in
-      let app : Text = name_text m.appname ++ (32 ∷ process) in
-      let host : Text = name_text m.hostname ++ (32 ∷ app) in
-      let stamp : Text = timestamp_text m.timestamp ++ (32 ∷ host) in (
+      let header : EachPrints test fields (values_of version m) =
+      number_line version (omega arith) also space also timestamp_line m.timestamp also space
+      also name_line m.hostname h.host
+      also space also name_line m.appname h.app also space also process_line m.procid b h.process also space
+      also name_line m.msgid h.id also tt in
+      let end : Passes (32 ∷ body) = (
+        ascii 32 refl,
+        and_more (elements_text m.structured_data) m.msg (elements_line m.structured_data h.elements) h.msg,
+      ) in (
         ascii 60 refl,
-        join_lines (decimal (priority_of m)) (62 ∷ (decimal version ++ (32 ∷ stamp))) (priority_line m) (
-          ascii 62 refl,
-          and_more (decimal version) stamp (number_line version (omega arith))
-              (and_more (timestamp_text m.timestamp) host (timestamp_line m.timestamp)
-              (and_more (name_text m.hostname) app (name_line m.hostname h.host)
-              (and_more (name_text m.appname) process (name_line m.appname h.app)
-              (and_more (process_text m.procid) id (process_line m.procid b h.process)
-              (and_more (name_text m.msgid) body (name_line m.msgid h.id)
-              (and_more (elements_text m.structured_data) m.msg (elements_line m.structured_data h.elements) h.msg)))))),
-        ),
+        join_lines (decimal (priority_of m)) (62 ∷ printed_row fields (values_of version m) (32 ∷ body))
+            (priority_line m)
+            (ascii 62 refl, row_passes test fields (values_of version m) (32 ∷ body) header end),
       )
 
   -- ---- what is read
-  loose_printed : (dating : Dating) (text : Text) (m : MessageValue) → IsRead3164 dash_rule dating text m → Passes text → Passes (printed m)
+  loose_printed : (dating : Dating) (text : Text) (m : MessageValue) → IsRead3164 dash_rule dating text m → Passes text
+      → Passes (printed m)
   loose_printed dating text m r h =
       let q = quotes dash_rule dating text m r in
-      let lines = texts_lines m (pieces_line text q.read.division.pieces (message_texts m) h q.read.division.whole q.each) in
-      subst Passes (sym (loose.printed_is m (read_near dash_rule dating text m r).protocol)) (loose_line m (read_bounded dash_rule dating text m r).procid lines)
+      let lines =
+      texts_lines m (pieces_line text q.read.division.pieces (message_texts m) h q.read.division.whole q.each) in
+      subst Passes (sym (loose.printed_is m (read_near dash_rule dating text m r).protocol))
+      (loose_line m (read_bounded dash_rule dating text m r).procid lines)
 
   strict_printed : (text : Text) (m : MessageValue) → IsRead5424 text m → Passes text → Passes (printed m)
   strict_printed text m r h =
@@ -227,10 +269,13 @@ module _ (test : ℕ → Bool) (ascii : (c : ℕ) → is_ascii_print c ≡ true 
       let version = r.values.1.0 in
       let e = ap (λ (x : MessageValue). x.protocol) r.means in
       let b = (read_plain dash_rule text m r).1 in
-      let lines = texts_lines m (pieces_line text q.read.division.pieces (message_texts m) h q.read.division.whole q.each) in
-      subst Passes (sym (printed_is version m e)) (strict_line version m (subst IsBoundedProtocol e b.protocol) b.procid lines)
+      let lines =
+      texts_lines m (pieces_line text q.read.division.pieces (message_texts m) h q.read.division.whole q.each) in
+      subst Passes (sym (printed_is version m e))
+      (strict_line version m (subst IsBoundedProtocol e b.protocol) b.procid lines)
 
-  pub printed_passes : (variant : Variant) (dating : Dating) (text : Text) (m : MessageValue) → IsRead variant dating text m → Passes text → Passes (printed m)
+  pub printed_passes : (variant : Variant) (dating : Dating) (text : Text) (m : MessageValue)
+      → IsRead variant dating text m → Passes text → Passes (printed m)
   printed_passes RFC5424 dating text m r h = strict_printed text m r h
   printed_passes RFC3164 dating text m r h = loose_printed dating text m r h
   printed_passes Either dating text m (inl r) h = strict_printed text m r h
@@ -240,7 +285,8 @@ module _ (test : ℕ → Bool) (ascii : (c : ℕ) → is_ascii_print c ≡ true 
 no_feed : (c : ℕ) → is_ascii_print c ≡ true → is_no_feed c ≡ true
 no_feed c h = grind (arith, nat_tests)
 
-pub printed_line : (variant : Variant) (dating : Dating) (text : Text) (m : MessageValue) → IsRead variant dating text m → IsOneLine text → IsOneLine (printed m)
+pub printed_line : (variant : Variant) (dating : Dating) (text : Text) (m : MessageValue) → IsRead variant dating text m
+    → IsOneLine text → IsOneLine (printed m)
 printed_line = printed_passes is_no_feed no_feed
 
 -- ---- characters, which the bytes of a text spell
@@ -255,5 +301,7 @@ scalars_each : (cs : Text) → Each scalar cs → scalars cs ≡ true
 scalars_each [] h = refl
 scalars_each (c ∷ cs) h = and_from (scalar c) (scalars cs) h.0 (scalars_each cs h.1)
 
-pub printed_scalars : (variant : Variant) (dating : Dating) (text : Text) (m : MessageValue) → IsRead variant dating text m → scalars text ≡ true → scalars (printed m) ≡ true
-printed_scalars variant dating text m r h = scalars_each (printed m) (printed_passes scalar scalar_print variant dating text m r (each_scalar text h))
+pub printed_scalars : (variant : Variant) (dating : Dating) (text : Text) (m : MessageValue)
+    → IsRead variant dating text m → scalars text ≡ true → scalars (printed m) ≡ true
+printed_scalars variant dating text m r h =
+    scalars_each (printed m) (printed_passes scalar scalar_print variant dating text m r (each_scalar text h))

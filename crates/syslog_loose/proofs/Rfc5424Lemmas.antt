@@ -9,100 +9,54 @@ use Rattle.syslog_pieces.specs.Pieces.Parts.{AreInPieces, text_list, process_tex
 use Rattle.syslog_pieces.specs.Timestamp.{header_stamp}
 use Rattle.syslog_pieces.specs.StructuredData.Element.{element_texts}
 use Rattle.syslog_pieces.specs.Pri.{priority}
-use Rattle.syslog_pieces.proofs.PieceLemmas.Class.{AllDeterministic, unique_division, front_division, no_row_division, optional_det, some_run_det, run_det, rest_det, row_nil, row_cons, rows_join, rest_front}
+use Rattle.syslog_pieces.proofs.PieceLemmas.Class.{AllDeterministic, unique_division, front_division, no_row_division}
+use Rattle.syslog_pieces.proofs.PieceLemmas.Class.{optional_det, some_run_det, run_det, rest_det, row_nil, row_cons}
+use Rattle.syslog_pieces.proofs.PieceLemmas.Class.{rows_join, rest_front, ◌also◌, all_joined}
 use Rattle.syslog_pieces.proofs.TextLemmas.Runs.{some_front_run}
 use Rattle.syslog_pieces.proofs.StructuredDataLemmas.Elements.{forgiving_det}
 use Rattle.syslog_pieces.proofs.StructuredDataLemmas.ElementParts.{forgiving_quotes}
-use Rattle.syslog_pieces.proofs.PieceLemmas.Parts.{Quoted, row_quotes, silent, rest_quotes, host_quotes, word_quotes, process_quotes}
+use Rattle.syslog_pieces.proofs.PieceLemmas.Parts.{Quoted, row_quotes, silent, rest_quotes, host_quotes, word_quotes}
+use Rattle.syslog_pieces.proofs.PieceLemmas.Parts.{process_quotes}
 use Rattle.syslog_pieces.proofs.PriLemmas.{priority_det}
 use Rattle.syslog_pieces.proofs.ProcIdLemmas.{process_word_det}
 use Rattle.syslog_pieces.proofs.TimestampLemmas.Piece.{header_stamp_det}
 use Rattle.syslog_pieces.proofs.TextLemmas.Words.{number_det, host_det, word_det}
 use Rattle.syslog_loose.specs.Message.{MessageValue, message_texts}
-use Rattle.syslog_loose.specs.Rfc5424.{header_row, data_row, rfc5424_row, message_of, IsRead5424, IsNot5424, Quotes5424, NeedsNoMemory5424}
+use Rattle.syslog_loose.specs.Rfc5424.{header_row, data_row, rfc5424_row, message_of, IsRead5424, IsNot5424, Quotes5424}
+use Rattle.syslog_loose.specs.Rfc5424.{NeedsNoMemory5424}
 
 pub header_det : AllDeterministic header_row
-header_det = (
-  optional_det priority priority_det,
-  (
-    number_det 4294967295,
-    (
-      some_run_det is_blank,
-      (
-        header_stamp_det,
-        (
-          some_run_det is_blank,
-          (
-            host_det,
-            (
-              some_run_det is_blank,
-              (word_det, (some_run_det is_blank, (process_word_det, (some_run_det is_blank, (word_det, tt))))),
-            ),
-          ),
-        ),
-      ),
-    ),
-  ),
-)
+header_det =
+    optional_det priority priority_det also number_det 4294967295 also some_run_det is_blank also header_stamp_det
+    also some_run_det is_blank also host_det also some_run_det is_blank also word_det also some_run_det is_blank
+    also process_word_det also some_run_det is_blank also word_det also tt
 
 pub rfc5424_det : AllDeterministic rfc5424_row
-rfc5424_det = (
-  optional_det priority priority_det,
-  (
-    number_det 4294967295,
-    (
-      some_run_det is_blank,
-      (
-        header_stamp_det,
-        (
-          some_run_det is_blank,
-          (
-            host_det,
-            (
-              some_run_det is_blank,
-              (
-                word_det,
-                (
-                  some_run_det is_blank,
-                  (
-                    process_word_det,
-                    (
-                      some_run_det is_blank,
-                      (
-                        word_det,
-                        (
-                          run_det is_blank,
-                          (
-                            forgiving_det,
-                            (run_det is_blank, (rest_det, tt)),
-                          ),
-                        ),
-                      ),
-                    ),
-                  ),
-                ),
-              ),
-            ),
-          ),
-        ),
-      ),
-    ),
-  ),
-)
+rfc5424_det =
+    all_joined header_row data_row header_det
+    (run_det is_blank also forgiving_det also run_det is_blank also rest_det also tt)
 
 -- a text is read as one message
 pub one_message : (text : Text) (m n : MessageValue) → IsRead5424 text m → IsRead5424 text n → m ≡ n
-one_message text m n r s = r.means ∙ ap message_of (unique_division rfc5424_row rfc5424_det r.division s.division).1 ∙ sym s.means
+one_message text m n r s =
+    r.means ∙ ap message_of (unique_division rfc5424_row rfc5424_det r.division s.division).1 ∙ sym s.means
 
 -- ---- from the row of the trimmed text
 pub not_read : (text t : Text) → t ≡ trimmed text → NoFront (Row rfc5424_row) t → IsNot5424 text
 not_read text t e n = no_row_division rfc5424_row (subst (λ (x : Text). NoFront (Row rfc5424_row) x) e n)
 
-pub is_read : (text t : Text) (vs : Values rfc5424_row) (m : MessageValue) → t ≡ trimmed text → m ≡ message_of vs → Front (Row rfc5424_row) t [] vs → IsRead5424 text m
-is_read text t vs m e f g = record { values = vs; division = subst (λ (x : Text). Division rfc5424_row x vs) e (front_division rfc5424_row g); means = f }
+pub is_read : (text t : Text) (vs : Values rfc5424_row) (m : MessageValue) → t ≡ trimmed text → m ≡ message_of vs
+    → Front (Row rfc5424_row) t [] vs → IsRead5424 text m
+is_read text t vs m e f g =
+    record {
+      values = vs;
+      division = subst (λ (x : Text). Division rfc5424_row x vs) e (front_division rfc5424_row g);
+      means = f;
+    }
 
 -- Behind a header and blanks, a list with elements gives a message with elements.
-pub list_needs_none : (text t u w : Text) (vs : Values header_row) → t ≡ trimmed text → NeedsNoMemory5424 text → Front (Row header_row) t u vs → Front (run is_blank) u w tt → NeedsNoMemory w
+pub list_needs_none : (text t u w : Text) (vs : Values header_row) → t ≡ trimmed text → NeedsNoMemory5424 text
+    → Front (Row header_row) t u vs → Front (run is_blank) u w tt → NeedsNoMemory w
 list_needs_none text t u w vs e none header gap q es list =
     let (r, behind) = some_front_run is_blank q in
     let row = rows_join header_row data_row header
@@ -114,67 +68,13 @@ list_needs_none text t u w vs e none header gap q es list =
 
 -- ---- the texts of a message are in the pieces
 quoted_row : Quoted rfc5424_row
-quoted_row = (
-  (λ v. []),
-  silent (optional priority),
-  (
-    (λ v. []),
-    silent (number 4294967295),
-    (
-      (λ v. []),
-      silent (some_run is_blank),
-      (
-        (λ v. []),
-        silent header_stamp,
-        (
-          (λ v. []),
-          silent (some_run is_blank),
-          (
-            text_list,
-            host_quotes,
-            (
-              (λ v. []),
-              silent (some_run is_blank),
-              (
-                text_list,
-                word_quotes,
-                (
-                  (λ v. []),
-                  silent (some_run is_blank),
-                  (
-                    process_texts,
-                    process_quotes,
-                    (
-                      (λ v. []),
-                      silent (some_run is_blank),
-                      (
-                        text_list,
-                        word_quotes,
-                        (
-                          (λ v. []),
-                          silent (run is_blank),
-                          (
-                            (λ es. flat_map element_texts es),
-                            forgiving_quotes,
-                            (
-                              (λ v. []),
-                              silent (run is_blank),
-                              ((λ t. t ∷ []), rest_quotes, tt),
-                            ),
-                          ),
-                        ),
-                      ),
-                    ),
-                  ),
-                ),
-              ),
-            ),
-          ),
-        ),
-      ),
-    ),
-  ),
-)
+quoted_row =
+    silent (optional priority) also silent (number 4294967295) also silent (some_run is_blank) also silent header_stamp
+    also silent (some_run is_blank) also (text_list, host_quotes) also silent (some_run is_blank)
+    also (text_list, word_quotes)
+    also silent (some_run is_blank) also (process_texts, process_quotes) also silent (some_run is_blank)
+    also (text_list, word_quotes) also silent (run is_blank) also ((λ es. flat_map element_texts es), forgiving_quotes)
+    also silent (run is_blank) also ((λ t. t ∷ []), rest_quotes) also tt
 
 pub quotes : (text : Text) (m : MessageValue) → IsRead5424 text m → Quotes5424 text m
 unfolding quoted_row

@@ -4,8 +4,8 @@ use Rattle.std.specs.Str.{chars, IsAscii}
 use Rattle.syslog_pieces.specs.Pieces.Class.{Text, Class, IsDeterministic, Values, Front, NoFront, Row, run, some_run, exactly, texted}
 use Rattle.syslog_pieces.specs.Bodies.Scan.{SplitsRun}
 use Rattle.syslog_pieces.specs.Text.CharClass.{is_label_char, is_open_char}
-use Rattle.syslog_pieces.proofs.PieceLemmas.Class.{AllDeterministic, unique_division, division_front, front_division, exactly_det, run_det, some_run_det, texted_det, no_texted, row_nil, row_cons, row_head, row_none_here, row_none_later, no_row_division}
-use Rattle.syslog_pieces.proofs.PieceLemmas.Meets.{rows_go, nil_front}
+use Rattle.syslog_pieces.proofs.PieceLemmas.Class.{AllDeterministic, unique_division, division_front, front_division, exactly_det, run_det, some_run_det, texted_det, no_texted, row_nil, row_cons, row_head, row_none_here, row_none_later, no_row_division, nil_front}
+use Rattle.syslog_pieces.proofs.PieceLemmas.Meets.{rows_go}
 use Rattle.syslog_pieces.proofs.TextLemmas.Chars.{chars_nonempty, one_ascii}
 use Rattle.syslog_pieces.proofs.TextLemmas.Runs.{no_some_run}
 use Rattle.syslog_loose.specs.TagForm.{form_row, IsForm, IsNoForm}
@@ -67,7 +67,7 @@ id_front bs xs ys s l = record { piece = chars xs; whole = s.characters; is = (t
 left_closes : {t : Text} {v : Values from_closing} → Front (Row from_closing) t [] v → t ≡ 93 ∷ []
 left_closes {t = t} f =
     let (q, g, n) = row_head closing [] f in
-    g.whole ∙ ap (λ (x : Text). x ++ q) g.is ∙ ap (λ (x : Text). 93 ∷ x) (nil_front q [] n)
+    g.whole ∙ ap (λ (x : Text). x ++ q) g.is ∙ ap (λ (x : Text). 93 ∷ x) (nil_front n)
 
 module _ (bs xs ys : List ℕ) (s : SplitsRun is_label_char bs xs ys) where
   -- there is no `[` behind the tag

@@ -1,9 +1,22 @@
 -- What trimming leaves of a text: all of it but white space at its end.
-use Rattle.std.proofs.Common.{◌≡◌, ℕ, ◌<◌, inl, inr, Bool, true, false, cond, not, ◌&&◌, ◌||◌, nat_eq, [], ◌∷◌, ◌++◌, length, refl, sym, ap, subst, ◌∙◌, arith, append_assoc}
+use Rattle.std.proofs.Common.{◌≡◌, ℕ, ◌<◌, inl, inr, Bool, true, false, cond, not, ◌&&◌, ◌||◌, nat_eq, Option, Some}
+use Rattle.std.proofs.Common.{None}
+use Rattle.std.proofs.Common.{List, [], ◌∷◌, ◌++◌, length, refl, sym, ap, subst, ◌∙◌, arith, append_assoc, append-nil}
+use Rattle.std.specs.List.{flat_map}
 use Rattle.std.proofs.lemmas.Bool.Decides.{eqb_tells}
 use Rattle.std.specs.Char.{is_whitespace, is_not_whitespace}
 use Rattle.std.specs.Str.{skip_leading_whitespace, drop_trailing_whitespace}
-use Rattle.syslog_pieces.specs.Pieces.Class.{Text, Class, Front, Each, Ends, run}
+use Rattle.syslog_pieces.specs.Pieces.Class.{Text, Class, Values, Front, Row, Each, Ends, run, rest}
+use Rattle.syslog_pieces.specs.Pieces.Format.{Format, classes, printed_row}
+use Rattle.syslog_pieces.specs.StructuredData.Element.{ElementValue, param_text, element_text, joined_elements}
+use Rattle.syslog_pieces.specs.StructuredData.Element.{elements_text}
+use Rattle.syslog_pieces.specs.Timestamp.Printed.{printed_stamp}
+use Rattle.syslog_pieces.specs.declared.timestamp.OffsetTimestamp.{OffsetTimestamp}
+use Rattle.syslog_pieces.proofs.PieceLemmas.Class.{row_head, rest_whole}
+use Rattle.syslog_pieces.proofs.PieceLemmas.Rows.{row_pieces}
+use Rattle.syslog_pieces.proofs.PieceLemmas.Formats.{printed_more}
+use Rattle.syslog_pieces.proofs.TimestampLemmas.RoundTrip.{printed_stamp-visible, printed_stamp-begins}
+use Rattle.syslog_loose.specs.Printed.{timestamp_text}
 use Rattle.syslog_pieces.specs.Text.{is_blank, trimmed}
 use Rattle.syslog_loose.specs.Canonical.{EndsVisibly}
 unfoldable pub use Rattle.syslog_loose.specs.Jumps.{message_end}
@@ -45,11 +58,17 @@ cond_right false e xs ys h = refl
 some_length : (n : ℕ) → 0 < n → nat_eq n 0 ≡ false
 some_length n h = elim (eqb_tells n 0) [ inl r ↦ absurd (let t = r.1 in omega arith) | inr r ↦ r.0 ]
 
-drop_visible : (c : ℕ) (cs : Text) → is_not_whitespace c ≡ true → drop_trailing_whitespace (c ∷ cs) ≡ c ∷ drop_trailing_whitespace cs
-drop_visible c cs h = cond_left (is_whitespace c) (nat_eq (length (drop_trailing_whitespace cs)) 0) [] (c ∷ drop_trailing_whitespace cs) (not_white (is_whitespace c) h)
+drop_visible : (c : ℕ) (cs : Text) → is_not_whitespace c ≡ true
+    → drop_trailing_whitespace (c ∷ cs) ≡ c ∷ drop_trailing_whitespace cs
+drop_visible c cs h =
+    cond_left (is_whitespace c) (nat_eq (length (drop_trailing_whitespace cs)) 0) [] (c ∷ drop_trailing_whitespace cs)
+    (not_white (is_whitespace c) h)
 
-drop_before : (c : ℕ) (cs : Text) → 0 < length (drop_trailing_whitespace cs) → drop_trailing_whitespace (c ∷ cs) ≡ c ∷ drop_trailing_whitespace cs
-drop_before c cs h = cond_right (is_whitespace c) (nat_eq (length (drop_trailing_whitespace cs)) 0) [] (c ∷ drop_trailing_whitespace cs) (some_length (length (drop_trailing_whitespace cs)) h)
+drop_before : (c : ℕ) (cs : Text) → 0 < length (drop_trailing_whitespace cs)
+    → drop_trailing_whitespace (c ∷ cs) ≡ c ∷ drop_trailing_whitespace cs
+drop_before c cs h =
+    cond_right (is_whitespace c) (nat_eq (length (drop_trailing_whitespace cs)) 0) [] (c ∷ drop_trailing_whitespace cs)
+    (some_length (length (drop_trailing_whitespace cs)) h)
 
 -- the text has a last character, which is no white space
 abbrev pub LastVisible : Text → Type 0
@@ -64,12 +83,14 @@ last_append (c ∷ []) (d ∷ ys) h = h
 last_append (c ∷ d ∷ xs) ys h = last_append (d ∷ xs) ys h
 
 -- what stands before such a character is kept
-pub drop_after : (xs ys : Text) → LastVisible xs → drop_trailing_whitespace (xs ++ ys) ≡ xs ++ drop_trailing_whitespace ys
+pub drop_after : (xs ys : Text) → LastVisible xs
+    → drop_trailing_whitespace (xs ++ ys) ≡ xs ++ drop_trailing_whitespace ys
 drop_after [] ys h = absurd h
 drop_after (c ∷ []) ys h = drop_visible c ys h
 drop_after (c ∷ d ∷ cs) ys h =
     let r = drop_after (d ∷ cs) ys h in
-    let l : 0 < length (drop_trailing_whitespace ((d ∷ cs) ++ ys)) = subst (λ (x : Text). 0 < length x) (sym r) (omega arith) in
+    let l : 0 < length (drop_trailing_whitespace ((d ∷ cs) ++ ys)) =
+    subst (λ (x : Text). 0 < length x) (sym r) (omega arith) in
     drop_before c ((d ∷ cs) ++ ys) l ∙ ap (λ (x : Text). c ∷ x) r
 
 -- a text that ends visibly is kept whole
@@ -85,10 +106,13 @@ visible_from : (b : Bool) → b ≡ false → not b ≡ true
 visible_from true h = cc
 visible_from false h = refl
 
-ends_case : (t n : Bool) (d : ℕ) (ds : Text) → is_whitespace d ≡ t → nat_eq (length ds) 0 ≡ n → EndsVisibly ds → EndsVisibly (cond (t && n) [] (d ∷ ds))
+ends_case : (t n : Bool) (d : ℕ) (ds : Text) → is_whitespace d ≡ t → nat_eq (length ds) 0 ≡ n → EndsVisibly ds
+    → EndsVisibly (cond (t && n) [] (d ∷ ds))
 ends_case true true d ds a b h [] c e = cc
 ends_case true true d ds a b h (x ∷ front) c e = cc
-ends_case true false d ds a b h [] c e = absurd (let z : ds ≡ [] = cc in let y : nat_eq (length ds) 0 ≡ true = ap (λ (x : Text). nat_eq (length x) 0) z in let u : true ≡ false = sym y ∙ b in cc)
+ends_case true false d ds a b h [] c e =
+    absurd (let z : ds ≡ [] = cc in let y : nat_eq (length ds) 0 ≡ true = ap
+    (λ (x : Text). nat_eq (length x) 0) z in let u : true ≡ false = sym y ∙ b in cc)
 ends_case true false d ds a b h (x ∷ front) c e = h front c cc
 ends_case false n d ds a b h [] c e = let z : c ≡ d = cc in ap is_not_whitespace z ∙ visible_from (is_whitespace d) a
 ends_case false n d ds a b h (x ∷ front) c e = h front c cc
@@ -99,16 +123,23 @@ nil_ends (x ∷ front) c e = cc
 
 pub drop_ends : (cs : Text) → EndsVisibly (drop_trailing_whitespace cs)
 drop_ends [] = nil_ends
-drop_ends (d ∷ cs) = ends_case (is_whitespace d) (nat_eq (length (drop_trailing_whitespace cs)) 0) d (drop_trailing_whitespace cs) refl refl (drop_ends cs)
+drop_ends (d ∷ cs) =
+    ends_case (is_whitespace d) (nat_eq (length (drop_trailing_whitespace cs)) 0) d
+    (drop_trailing_whitespace cs) refl refl (drop_ends cs)
 
 -- what was trimmed is trimmed
-skipped_case : (b : Bool) (c : ℕ) (cs : Text) → is_whitespace c ≡ b → trimmed (trimmed cs) ≡ trimmed cs → trimmed (trimmed (c ∷ cs)) ≡ trimmed (c ∷ cs)
-skipped_case true c cs w h = subst (λ (x : Text). trimmed (drop_trailing_whitespace x) ≡ drop_trailing_whitespace x) (sym (ap (λ (b : Bool). cond b (skip_leading_whitespace cs) (c ∷ cs)) w)) h
+skipped_case : (b : Bool) (c : ℕ) (cs : Text) → is_whitespace c ≡ b → trimmed (trimmed cs) ≡ trimmed cs
+    → trimmed (trimmed (c ∷ cs)) ≡ trimmed (c ∷ cs)
+skipped_case true c cs w h =
+    subst (λ (x : Text). trimmed (drop_trailing_whitespace x) ≡ drop_trailing_whitespace x)
+    (sym (ap (λ (b : Bool). cond b (skip_leading_whitespace cs) (c ∷ cs)) w)) h
 skipped_case false c cs w h =
     let kept = drop_visible c cs (visible_from (is_whitespace c) w) in
-    let again : (x : Text) → skip_leading_whitespace (c ∷ x) ≡ c ∷ x = λ x. ap (λ (b : Bool). cond b (skip_leading_whitespace x) (c ∷ x)) w in
+    let again : (x : Text) → skip_leading_whitespace (c ∷ x) ≡ c ∷ x =
+    λ x. ap (λ (b : Bool). cond b (skip_leading_whitespace x) (c ∷ x)) w in
     let once : trimmed (c ∷ cs) ≡ c ∷ drop_trailing_whitespace cs = ap drop_trailing_whitespace (again cs) ∙ kept in
-    ap trimmed once ∙ ap drop_trailing_whitespace (again (drop_trailing_whitespace cs)) ∙ drop_visible c (drop_trailing_whitespace cs) (visible_from (is_whitespace c) w)
+    ap trimmed once ∙ ap drop_trailing_whitespace (again (drop_trailing_whitespace cs))
+    ∙ drop_visible c (drop_trailing_whitespace cs) (visible_from (is_whitespace c) w)
     ∙ ap (λ (x : Text). c ∷ x) (drop_kept (drop_trailing_whitespace cs) (drop_ends cs)) ∙ sym once
 
 pub trimmed_twice : (cs : Text) → trimmed (trimmed cs) ≡ trimmed cs
@@ -134,3 +165,57 @@ pub message_blanks : (msg : Text) → Ends is_blank msg → Front (run is_blank)
 unfolding message_end
 message_blanks [] h = record { piece = []; whole = refl; is = (tt, tt) }
 message_blanks (c ∷ cs) h = record { piece = 32 ∷ []; whole = refl; is = ((refl, tt), h) }
+
+-- ---- printed rows
+
+pub row_last : (Fs : List Format) (vs : Values (classes Fs)) (q : Text) → LastVisible q
+    → LastVisible (printed_row Fs vs q)
+row_last [] vs q h = h
+row_last (F ∷ Fs) vs q h = last_append (F.print vs.0) (printed_row Fs vs.1 q) (row_last Fs vs.1 q h)
+
+-- where a text that ends visibly and a message end a printed row, trimming loses nothing but the space before an empty
+-- one
+pub row_trimmed : (Fs : List Format) (vs : Values (classes Fs)) (t msg : Text) → LastVisible t → EndsVisibly msg
+    → drop_trailing_whitespace (printed_row Fs vs (t ++ (32 ∷ msg))) ≡ printed_row Fs vs (t ++ message_end msg)
+row_trimmed Fs vs t msg h end =
+    ap drop_trailing_whitespace (sym (printed_more Fs vs t (32 ∷ msg)))
+    ∙ drop_after (printed_row Fs vs t) (32 ∷ msg) (row_last Fs vs t h)
+    ∙ ap (λ (x : Text). printed_row Fs vs t ++ x) (message_end_is msg end) ∙ printed_more Fs vs t (message_end msg)
+
+-- ---- printed elements and timestamps
+
+element_last : (e : ElementValue) → LastVisible (element_text e)
+element_last e =
+    last_append (91 ∷ e.id) (flat_map param_text e.params ++ (93 ∷ []))
+    (last_append (flat_map param_text e.params) (93 ∷ []) refl)
+
+pub joined_last : (e : ElementValue) (es : List ElementValue) → LastVisible (joined_elements (e ∷ es))
+joined_last e [] = subst LastVisible (sym (append-nil (element_text e))) (element_last e)
+joined_last e (f ∷ es) = last_append (element_text e) (joined_elements (f ∷ es)) (joined_last f es)
+
+pub elements_last : (es : List ElementValue) → LastVisible (elements_text es)
+elements_last [] = refl
+elements_last (e ∷ es) = joined_last e es
+
+-- a printed timestamp, or `-`, begins with no blank
+stamp_some : (s : OffsetTimestamp) → 0 < length (printed_stamp s.instant.nanosecond s.offset.seconds)
+stamp_some s =
+    let (c, more, digit, first) = printed_stamp-begins s in
+    elim first [ inl e ↦ (let k = ap length e in omega arith) | inr e ↦ (let k = ap length e in omega arith) ]
+
+pub stamp_unblank : (v : Option OffsetTimestamp) (q : Text) → Ends is_blank (timestamp_text v ++ q)
+stamp_unblank None q = refl
+stamp_unblank (Some s) q = visible_ends_blanks (timestamp_text (Some s)) q (stamp_some s) (printed_stamp-visible s)
+
+-- ---- the last piece of a row
+
+abbrev pub last_text : (Cs : List Class) → Values (Cs ++ (rest ∷ [])) → Text
+last_text [] vs = vs.0
+last_text (C ∷ Cs) vs = last_text Cs vs.1
+
+-- all that is left of a text that ends visibly does too
+pub last_ends : (Cs : List Class) {t : Text} {vs : Values (Cs ++ (rest ∷ []))} → Front (Row (Cs ++ (rest ∷ []))) t [] vs
+    → EndsVisibly t
+    → EndsVisibly (last_text Cs vs)
+last_ends [] f h = let (u, g, e) = row_pieces (rest ∷ []) f in subst EndsVisibly (rest_whole g) h
+last_ends (C ∷ Cs) f h = let g = row_head C (Cs ++ (rest ∷ [])) f in last_ends Cs g.2 (ends_behind C g.1 h)

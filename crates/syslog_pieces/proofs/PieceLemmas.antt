@@ -1,8 +1,11 @@
 -- The theory of pieces: one text has one division.
 pub mod Class
+pub mod Each
+pub mod Formats
 pub mod Kept
 pub mod Kinds
 pub mod Lists
 pub mod Meets
 pub mod Parts
+pub mod Rows
 pub mod Steps

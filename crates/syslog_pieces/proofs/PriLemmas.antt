@@ -16,7 +16,7 @@ use Rattle.syslog_pieces.proofs.PieceLemmas.Class.{AllDeterministic, exactly_det
 use Rattle.syslog_pieces.proofs.PieceLemmas.Lists.{begins}
 use Rattle.syslog_pieces.proofs.TextLemmas.Words.{number_det}
 
-priority_row_det : AllDeterministic priority_row
+pub priority_row_det : AllDeterministic priority_row
 priority_row_det = (exactly_det (60 ∷ []), (number_det 255, (exactly_det (62 ∷ []), tt)))
 
 pub priority_det : IsDeterministic priority
@@ -73,9 +73,6 @@ past n h = slice_get_past facilities n h
 pub facility_told : (n : ℕ) (r : Option SyslogFacility) → MatchOption r (24 ≤ n) (λ f. facility_number f ≡ n) → r ≡ slice_get facilities n
 facility_told n None h = sym (past n h)
 facility_told n (Some f) h = sym (ap (slice_get facilities) (sym h) ∙ facility_placed f)
-
-pub severity_told : (n : ℕ) (s : SyslogSeverity) → severity_number s ≡ n → Some s ≡ slice_get severities n
-severity_told n s h = sym (ap (slice_get severities) (sym h) ∙ severity_placed s)
 
 -- ---- a number below the list's length is that of the value at its place
 module _ {F : Type 0} (number : F → ℕ) where

@@ -71,12 +71,6 @@ numeral d h = (h.0, own.to d h.1)
 digits_from : (d : Text) → IsNumeral 10 d → IsDigits d
 digits_from d h = (h.0, own.from d h.1)
 
-minus_is : (d : Text) → (without_leading_sign (45 ∷ d) ≡ d) × (signed_digits_value 10 (45 ∷ d) ≡ neg_ℤ (pos (digits_value 10 d)))
-minus_is d = (refl, refl)
-
-plus_is : (d : Text) → (without_leading_sign (43 ∷ d) ≡ d) × (signed_digits_value 10 (43 ∷ d) ≡ pos (digits_value 10 d))
-plus_is d = (refl, refl)
-
 plain_is : (c : ℕ) (d : Text) → c ≢ 45 → c ≢ 43 → (without_leading_sign (c ∷ d) ≡ c ∷ d) × (signed_digits_value 10 (c ∷ d) ≡ pos (digits_value 10 (c ∷ d)))
 plain_is c d m p =
     let minus : nat_eq c 45 ≡ false = ne_eqb c 45 m in
@@ -186,11 +180,6 @@ names_itself t l p = elim (all_digits t) [
 
 pub plain_alone : (t : Text) (c : ℕ) (more : Text) → t ≡ c ∷ more → length more ≡ 0 → IsBareWord t
 plain_alone t c more e z l = absurd (omega (arith, ap length e, z, l))
-
-pub plain_first : (t : Text) (c : ℕ) (more : Text) → t ≡ c ∷ more → c ≢ 43 → c ≢ 45 → c ≢ 48 → IsBareWord t
-plain_first t c more e a b d l =
-    let g : get_or t 0 0 ≡ c = ap (λ (x : Text). get_or x 0 0) e in
-    ((λ h. a (sym g ∙ h)), (λ h. b (sym g ∙ h)), (λ h. d (sym g ∙ h)))
 
 pub process_kept : (text follows name : Text) → Front word text follows (Some name) → IsBareWord name → Kept process_word process_text text follows
 process_kept text follows name f p =

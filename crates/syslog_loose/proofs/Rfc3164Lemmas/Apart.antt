@@ -1,11 +1,11 @@
 -- No text has a division into the pieces of RFC 5424 and one into those of RFC 3164.
-use Rattle.std.proofs.Common.{◌≡◌, ℕ, ◌≤◌, inl, inr, true, List, [], ◌∷◌, ◌++◌, Option, Some, None, refl, sym, ap, subst, ◌∙◌, arith, append_assoc}
+use Rattle.std.proofs.Common.{◌≡◌, ℕ, ◌≤◌, inl, inr, true, [], ◌∷◌, ◌++◌, Option, Some, None, refl, sym, ap, subst, ◌∙◌}
+use Rattle.std.proofs.Common.{arith, append_assoc}
 use Rattle.std.proofs.lemmas.Bool.Decides.{nat_tests}
 use Rattle.std.specs.Char.{is_ascii_digit}
-use Rattle.syslog_pieces.specs.Pieces.Class.{Text, Class, Values, Division, Front, Each, run, some_run, rest, optional}
+use Rattle.syslog_pieces.specs.Pieces.Class.{Text, Values, Division, Front, Each, run, optional}
 use Rattle.syslog_pieces.specs.Pri.{priority}
-use Rattle.syslog_pieces.specs.ProcId.{process_word}
-use Rattle.syslog_pieces.specs.Text.{trimmed, is_blank, number, host, word}
+use Rattle.syslog_pieces.specs.Text.{trimmed, is_blank, number}
 use Rattle.syslog_pieces.specs.Timestamp.{header_stamp}
 use Rattle.syslog_pieces.specs.Timestamp.Loose.{loose_stamp, showing_row, ShowsMonthDate}
 use Rattle.syslog_pieces.specs.Timestamp.MonthDate.{month_date}
@@ -13,13 +13,14 @@ use Rattle.syslog_pieces.specs.Timestamp.Zone.{Dating}
 use Rattle.syslog_pieces.specs.declared.structured_data.listed.DashRule.{DashRule}
 use Rattle.syslog_pieces.specs.declared.timestamp.OffsetTimestamp.{OffsetTimestamp}
 use Rattle.syslog_pieces.specs.declared.timestamp.month_date.MonthDate.{MonthDate}
-use Rattle.syslog_pieces.proofs.PieceLemmas.Class.{run_same, rest_same, row_head, front_same, optional_det, division_front}
+use Rattle.syslog_pieces.proofs.PieceLemmas.Class.{run_same, rest_same, front_same, optional_det, division_front}
 use Rattle.syslog_pieces.proofs.PieceLemmas.Kinds.{Begins, begins_apart, begins_more, begins_with, each_begins}
 use Rattle.syslog_pieces.proofs.PriLemmas.{priority_det}
 use Rattle.syslog_pieces.proofs.TimestampLemmas.MonthDate.{IsBlank, blanks_begin, blank_low, month_date_begins}
 use Rattle.syslog_pieces.proofs.TimestampLemmas.Texts.{stamp_text-year}
-use Rattle.syslog_loose.specs.Rfc3164.{body_row, rfc3164_row}
-use Rattle.syslog_loose.specs.Rfc5424.{data_row, rfc5424_row, IsNot5424}
+use Rattle.syslog_loose.specs.Rfc3164.{rfc3164_row}
+use Rattle.syslog_loose.specs.Rfc5424.{rfc5424_row, IsNot5424}
+use Rattle.syslog_pieces.proofs.PieceLemmas.Rows.{row_pieces}
 
 -- ---- what a text begins with
 abbrev pub IsDigit : ℕ → Type 0
@@ -32,7 +33,9 @@ pub digit_range : (c : ℕ) → is_ascii_digit c ≡ true → (48 ≤ c) × (c �
 digit_range c h = grind (arith, nat_tests)
 
 pub number_begins : (limit : ℕ) {t q : Text} {n : ℕ} → Front (number limit) t q n → Begins IsDigit t
-number_begins limit {q = q} f = subst (λ (x : Text). Begins IsDigit x) (sym f.whole) (begins_more IsDigit f.piece q (each_begins is_ascii_digit f.piece f.is.0 f.is.1))
+number_begins limit {q = q} f =
+    subst (λ (x : Text). Begins IsDigit x) (sym f.whole)
+    (begins_more IsDigit f.piece q (each_begins is_ascii_digit f.piece f.is.0 f.is.1))
 
 -- no blank stands before a digit
 no_blanks : (p q : Text) → Each is_blank p → Begins IsDigit (p ++ q) → p ≡ []
@@ -55,58 +58,62 @@ pub record Versioned (t : Text) : Type 0 where
 -- digits and a dash are no version
 dated_apart : (p y r q : Text) → p ≡ y ++ (45 ∷ r) → Each is_ascii_digit y → Versioned (p ++ q) → ⊥
 dated_apart p y r q e h v =
-    let w : y ++ (45 ∷ (r ++ q)) ≡ v.number.piece ++ v.after = sym (append_assoc y (45 ∷ r) q) ∙ ap (λ (x : Text). x ++ q) (sym e) ∙ v.number.whole in
+    let w : y ++ (45 ∷ (r ++ q)) ≡ v.number.piece ++ v.after =
+    sym (append_assoc y (45 ∷ r) q) ∙ ap (λ (x : Text). x ++ q) (sym e) ∙ v.number.whole in
     let same = run_same is_ascii_digit y (45 ∷ (r ++ q)) v.number.piece v.after w h refl v.number.is.1 v.number.is.2 in
     let a : 45 ∷ (r ++ q) ≡ v.after = rest_same y (45 ∷ (r ++ q)) v.number.piece v.after w same in
-    begins_apart v.after (λ c d k. let t = blank_low c k in omega arith) (begins_with IsDash 45 v.after (r ++ q) (sym a) refl) v.blank
+    begins_apart v.after (λ c d k. let t = blank_low c k in omega arith)
+    (begins_with IsDash 45 v.after (r ++ q) (sym a) refl) v.blank
 
 stamp_apart : (p q : Text) (v : Option OffsetTimestamp) → header_stamp.Is p q v → Versioned (p ++ q) → ⊥
 stamp_apart p q None e v =
-    begins_apart (p ++ q) (λ c h k. let t = digit_range c k in omega arith) (begins_with IsDash 45 (p ++ q) q (ap (λ (x : Text). x ++ q) e) refl) (number_begins 4294967295 v.number)
+    begins_apart (p ++ q) (λ c h k. let t = digit_range c k in omega arith)
+    (begins_with IsDash 45 (p ++ q) q (ap (λ (x : Text). x ++ q) e) refl) (number_begins 4294967295 v.number)
 stamp_apart p q (Some s) (h, z) v = let (y, r, e, digits) = stamp_text-year p s h in dated_apart p y r q e digits v
 
 date_apart : (p q : Text) (d : MonthDate) → month_date.Is p q d → Versioned (p ++ q) → ⊥
 date_apart p q d h v =
-    begins_apart (p ++ q) (λ c l k. let t = digit_range c k in omega arith) (month_date_begins p q d h) (number_begins 4294967295 v.number)
+    begins_apart (p ++ q) (λ c l k. let t = digit_range c k in omega arith) (month_date_begins p q d h)
+    (number_begins 4294967295 v.number)
 
-loose_apart : (dating : Dating) (p q : Text) (v : Option OffsetTimestamp) → (loose_stamp dating).Is p q v → Versioned (p ++ q) → ⊥
+loose_apart : (dating : Dating) (p q : Text) (v : Option OffsetTimestamp) → (loose_stamp dating).Is p q v
+    → Versioned (p ++ q) → ⊥
 loose_apart dating p q v (inl h) n = stamp_apart p q v h n
 loose_apart dating p q None (inr h) n = absurd h
 loose_apart dating p q (Some s) (inr (d, h, stamp)) n = date_apart p q d h n
 
 -- ---- divisions of both kinds
 
--- what follows the version and its blanks
-abbrev behind_blanks : List Class
-behind_blanks =
-    header_stamp ∷ some_run is_blank ∷ host ∷ some_run is_blank ∷ word ∷ some_run is_blank ∷ process_word ∷ some_run is_blank ∷ word ∷ data_row
-
 -- where both have their priority, RFC 5424 has a version behind it
-pub versioned : (text q : Text) (p : Option ℕ) (vs : Values rfc5424_row) → Division rfc5424_row text vs → Front (optional priority) text q p → Versioned q
+pub versioned : (text q : Text) (p : Option ℕ) (vs : Values rfc5424_row) → Division rfc5424_row text vs
+    → Front (optional priority) text q p → Versioned q
 versioned text q p vs d f =
-    let g1 = row_head (optional priority) (number 4294967295 ∷ some_run is_blank ∷ behind_blanks) (division_front rfc5424_row d) in
-    let g2 = row_head (number 4294967295) (some_run is_blank ∷ behind_blanks) g1.2 in
-    let g3 = row_head (some_run is_blank) behind_blanks g2.2 in
-    let e = (front_same (optional priority) (optional_det priority priority_det) g1.1 f).0 in
-    record { value = vs.1.0; after = g2.0; number = subst (λ (x : Text). Front (number 4294967295) x g2.0 vs.1.0) e g2.1; blank = blanks_begin g3.1 }
+    let (_, g1, (t2, g2, (_, g3, _))) = row_pieces rfc5424_row (division_front rfc5424_row d) in
+    let e = (front_same (optional priority) (optional_det priority priority_det) g1 f).0 in
+    record {
+      value = vs.1.0;
+      after = t2;
+      number = subst (λ (x : Text). Front (number 4294967295) x t2 vs.1.0) e g2;
+      blank = blanks_begin g3;
+    }
 
 -- and blanks behind the priority are none there
 moved : {t q : Text} → Front (run is_blank) t q tt → Versioned t → Versioned q
 moved f v = subst Versioned (stays (number_begins 4294967295 v.number) f) v
 
-pub not_both : (rule : DashRule) (dating : Dating) (text : Text) (vs : Values rfc5424_row) (ws : Values (rfc3164_row rule dating)) → Division rfc5424_row text vs → Division (rfc3164_row rule dating) text ws → ⊥
+pub not_both : (rule : DashRule) (dating : Dating) (text : Text) (vs : Values rfc5424_row)
+    (ws : Values (rfc3164_row rule dating)) → Division rfc5424_row text vs → Division (rfc3164_row rule dating) text ws
+    → ⊥
 not_both rule dating text vs ws d e =
-    let g1 = row_head (optional priority) (run is_blank ∷ loose_stamp dating ∷ body_row rule) (division_front (rfc3164_row rule dating) e) in
-    let g2 = row_head (run is_blank) (loose_stamp dating ∷ body_row rule) g1.2 in
-    let g3 = row_head (loose_stamp dating) (body_row rule) g2.2 in
-    let v = moved g2.1 (versioned text g1.0 ws.0 vs d g1.1) in
-    loose_apart dating g3.1.piece g3.0 ws.1.1.0 g3.1.is (subst Versioned g3.1.whole v)
+    let (t1, g1, (_, g2, more)) = row_pieces (rfc3164_row rule dating) (division_front (rfc3164_row rule dating) e) in
+    let (t3, g3, _) = more in
+    let v = moved g2 (versioned text t1 ws.0 vs d g1) in
+    loose_apart dating g3.piece t3 ws.1.1.0 g3.is (subst Versioned g3.whole v)
 
 -- a text that shows a month date has no division of RFC 5424
 pub shown_apart : (text : Text) (d : MonthDate) → ShowsMonthDate text d → IsNot5424 text
 shown_apart text d (p, more, e) vs f =
-    let g1 = row_head (optional priority) (run is_blank ∷ month_date ∷ rest ∷ []) (division_front (showing_row month_date) e) in
-    let g2 = row_head (run is_blank) (month_date ∷ rest ∷ []) g1.2 in
-    let g3 = row_head month_date (rest ∷ []) g2.2 in
-    let v = moved g2.1 (versioned (trimmed text) g1.0 p vs f g1.1) in
-    date_apart g3.1.piece g3.0 d g3.1.is (subst Versioned g3.1.whole v)
+    let (u1, g1, (_, g2, more)) = row_pieces (showing_row month_date) (division_front (showing_row month_date) e) in
+    let (u3, g3, _) = more in
+    let v = moved g2 (versioned (trimmed text) u1 p vs f g1) in
+    date_apart g3.piece u3 d g3.is (subst Versioned g3.whole v)

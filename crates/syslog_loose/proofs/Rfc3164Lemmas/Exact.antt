@@ -1,10 +1,10 @@
 -- A message of RFC 3164 that is read from its own printed text is canonical: its division, moved piece by piece to the
 -- places that the printed text has.
-use Rattle.std.proofs.Common.{◌≡◌, ◌↔◌, ℕ, ◌<◌, ◌≤◌, inl, inr, List, [], ◌∷◌, ◌++◌, length, Option, Some, None, IfSome, IsSome, refl, sym, ap, subst, ◌∙◌, arith, append_assoc, append-nil}
+use Rattle.std.proofs.Common.{◌≡◌, ◌↔◌, ℕ, ◌<◌, ◌≤◌, inl, inr, List, [], ◌∷◌, ◌++◌, length, Option, Some, None, IfSome, IsSome, refl, sym, ap, subst, ◌∙◌, arith, append_assoc}
 use Rattle.std.proofs.lemmas.List.{length-append}
 use Rattle.std.specs.Char.{is_not_whitespace}
 use Rattle.std.specs.Option.{option_and_then}
-use Rattle.syslog_pieces.specs.Pieces.Class.{Text, Values, Front, NoFront, Row, Each, Ends, run, exactly, rest, optional, spaced}
+use Rattle.syslog_pieces.specs.Pieces.Class.{Text, Values, Front, NoFront, Row, Each, Ends, run, exactly, optional, spaced}
 use Rattle.syslog_pieces.specs.Pri.{priority, facility_of}
 use Rattle.syslog_pieces.specs.StructuredData.Element.{ElementValue}
 use Rattle.syslog_pieces.specs.StructuredData.Listed.{IsListed, BeginsNoList, listed, elements_or}
@@ -16,7 +16,7 @@ use Rattle.syslog_pieces.specs.Timestamp.Zone.{Dating}
 use Rattle.syslog_pieces.specs.declared.procid.ProcId.{ProcId}
 use Rattle.syslog_pieces.specs.declared.structured_data.listed.DashRule.{DashRule}
 use Rattle.syslog_pieces.specs.declared.timestamp.OffsetTimestamp.{OffsetTimestamp}
-use Rattle.syslog_pieces.proofs.PieceLemmas.Class.{run_same, rest_same, heads, row_head, division_front, optional_det, optional_some, exactly_det, run_det, spaced_det, spaced_parts}
+use Rattle.syslog_pieces.proofs.PieceLemmas.Class.{run_same, rest_same, heads, row_head, division_front, optional_det, optional_some, exactly_det, run_det, spaced_det, spaced_parts, rest_whole}
 use Rattle.syslog_pieces.proofs.PieceLemmas.Kinds.{Begins, begins_apart, begins_more, begins_with}
 use Rattle.syslog_pieces.proofs.PieceLemmas.Steps.{piece_front, step, step_value, front_longer, absent_none, present_front}
 use Rattle.syslog_pieces.proofs.PriLemmas.{priority_det, priority_composed}
@@ -34,13 +34,15 @@ use Rattle.syslog_loose.specs.declared.message.Protocol.TheVariants.{RFC3164}
 use Rattle.syslog_loose.proofs.PriorityLemmas.{priority_low, priority_front, priority_small}
 use Rattle.syslog_loose.proofs.Rfc3164Lemmas.Apart.{digit_range}
 use Rattle.syslog_loose.proofs.Rfc3164Lemmas.Misses.{plain_names}
-use Rattle.syslog_loose.proofs.Rfc3164Lemmas.Near.{each_right, TagField, tag_field, form_parts, no_colon_process, severity_beside, read_near}
+use Rattle.syslog_pieces.proofs.PieceLemmas.Each.{each_right}
+use Rattle.syslog_loose.proofs.Rfc3164Lemmas.Near.{TagField, tag_field, form_parts, no_colon_process, severity_beside, read_near}
 use Rattle.syslog_loose.proofs.Rfc3164Lemmas.Printed.{printed_is}
-use Rattle.syslog_loose.proofs.Rfc3164Lemmas.ReadBack.{canonical_back, tag_back, program_field, host_field_back, stamp_unblank, stamp_back}
+use Rattle.syslog_loose.proofs.Rfc3164Lemmas.ReadBack.{canonical_back, tag_back, program_field, host_field_back, stamp_back}
 use Rattle.syslog_loose.proofs.Rfc3164Lemmas.Rows.{from_gap, from_list, from_blanks, from_colon, from_tag_end, from_tag, from_stamp, from_priority_end}
 use Rattle.syslog_loose.proofs.Rfc3164Lemmas.Unique.{told}
 use Rattle.syslog_loose.proofs.Rfc3164Lemmas.Whole.{program_text, whole, tail_text, trimmed_whole}
-use Rattle.syslog_loose.proofs.TrimLemmas.{message_end, message_blanks}
+use Rattle.syslog_loose.proofs.TrimLemmas.{message_end, message_blanks, stamp_unblank}
+use Rattle.syslog_pieces.proofs.PieceLemmas.Rows.{row_pieces}
 
 some_same : {A : Type 0} (x y : A) → Some x ≡ Some y → x ≡ y
 some_same x y e = cc
@@ -176,11 +178,9 @@ end_list : (rule : DashRule) (es : List ElementValue) (msg : Text) (vs : Values 
 end_list rule (e ∷ es) msg vs n h k w d = absurd (let t : e ∷ es ≡ [] = n in cc)
 end_list rule [] msg vs n h k w d =
     let d9 : Front (Row (from_list rule)) msg [] vs.1 = step (run is_blank) (from_list rule) (run_det is_blank) {t = message_end msg} {q = msg} {v = tt} (message_blanks msg h) d in
-    let g9 = row_head (optional (listed rule)) from_gap d9 in
-    let g10 = row_head (run is_blank) (rest ∷ []) g9.2 in
-    let g11 = row_head rest [] g10.2 in
-    let e : msg ≡ g10.0 = w ∙ g11.1.is.1 ∙ sym (append-nil g11.1.piece) ∙ ap (λ (x : Text). g11.1.piece ++ x) (sym g11.1.is.0) ∙ sym g11.1.whole in
-    begins_no_list rule msg (list_none rule msg g9.0 vs.1.0 g9.1 (sym k) (let a = front_longer (run is_blank) g10.1 in let c = ap length e in omega arith))
+    let (t9, g9, (t10, g10, (_, g11, _))) = row_pieces (optional (listed rule) ∷ from_gap) d9 in
+    let e : msg ≡ t10 = w ∙ sym (rest_whole g11) in
+    begins_no_list rule msg (list_none rule msg t9 vs.1.0 g9 (sym k) (let a = front_longer (run is_blank) g10 in let c = ap length e in omega arith))
 
 -- ---- the priority
 

@@ -12,7 +12,7 @@ use Rattle.syslog_loose.specs.declared.message.Protocol.TheVariants.{RFC3164}
 use Rattle.syslog_loose.specs.Canonical.{IsVisible, IsPlainHost, IsBracketedProcess, ArePlainNames, IsPlain3164, IsPlainFor, IsCanonical}
 use Rattle.syslog_loose.specs.ListedMisses.{is_no_colon, HasNoColon, HasNoMiss, IsOddHost, IsInnerProcess, AreNearNames, IsNearlyCanonical}
 use Rattle.syslog_loose.specs.Message.{MessageValue}
-use Rattle.syslog_loose.proofs.Rfc3164Lemmas.Near.{each_both, each_left, each_right}
+use Rattle.syslog_pieces.proofs.PieceLemmas.Each.{each_both, each_left, each_right}
 
 -- ---- the host
 visible_host : (host : Option Text) → IfSome host IsPlainHost → IfSome host IsVisible

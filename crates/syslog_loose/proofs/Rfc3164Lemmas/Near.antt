@@ -1,17 +1,17 @@
 -- What is read as RFC 3164 meets the condition, but for its listed misses.
-use Rattle.std.proofs.Common.{◌≡◌, ◌≢◌, ℕ, ◌<◌, ◌⊎◌, inl, inr, Bool, true, ◌&&◌, List, [], ◌∷◌, ◌++◌, length, Option, Some, None, IfSome, IsSome, refl, sym, ap, subst, ◌∙◌, arith, append-nil}
-use Rattle.std.proofs.lemmas.Bool.{and_parts, and_from}
+use Rattle.std.proofs.Common.{◌≡◌, ◌≢◌, ℕ, ◌<◌, ◌⊎◌, inl, inr, Bool, List, [], ◌∷◌, ◌++◌, length, Option, Some, None}
+use Rattle.std.proofs.Common.{IfSome, IsSome, refl, sym, subst, ◌∙◌, arith}
 use Rattle.std.specs.Char.{is_not_whitespace}
 use Rattle.std.specs.List.{AllByRecursion}
 use Rattle.std.specs.Option.{option_and_then}
 use Rattle.std.specs.Str.{skip_leading_whitespace}
-use Rattle.syslog_pieces.specs.Pieces.Class.{Text, Front, Each, Ends, run, some_run, exactly, rest, optional, spaced, texted}
+use Rattle.syslog_pieces.specs.Pieces.Class.{Text, Front, Each, Ends, run, rest, optional, spaced}
 use Rattle.syslog_pieces.specs.Pieces.Lists.{IsMany}
 use Rattle.syslog_pieces.specs.Pri.{priority, facility_of, severity_of}
 use Rattle.syslog_pieces.specs.ProcId.{NamesProcess}
 use Rattle.syslog_pieces.specs.StructuredData.Element.{ElementValue}
 use Rattle.syslog_pieces.specs.StructuredData.Listed.{IsListed, full_element, listed, elements_or}
-use Rattle.syslog_pieces.specs.Text.{trimmed, is_blank, is_tag_char, dash, colon, IsHost, host, tag_word}
+use Rattle.syslog_pieces.specs.Text.{trimmed, is_blank, is_tag_char, dash, IsHost, host, tag_word}
 use Rattle.syslog_pieces.specs.Text.CharClass.{is_label_char, is_open_char}
 use Rattle.syslog_pieces.specs.Timestamp.Loose.{loose_stamp}
 use Rattle.syslog_pieces.specs.Timestamp.MonthDate.{month_date}
@@ -22,52 +22,41 @@ use Rattle.syslog_pieces.specs.declared.procid.ProcId.{ProcId}
 use Rattle.syslog_pieces.specs.declared.procid.ProcId.TheVariants.{PID, Name}
 use Rattle.syslog_pieces.specs.declared.structured_data.listed.DashRule.{DashRule}
 use Rattle.syslog_pieces.specs.declared.timestamp.OffsetTimestamp.{OffsetTimestamp}
-use Rattle.syslog_pieces.proofs.PieceLemmas.Class.{heads, row_nil, row_cons, row_head, division_front, front_division, rest_front, spaced_parts}
+use Rattle.syslog_pieces.proofs.PieceLemmas.Class.{heads, row_nil, row_cons, division_front, front_division, rest_front}
+use Rattle.syslog_pieces.proofs.PieceLemmas.Class.{spaced_parts, rest_whole}
 use Rattle.syslog_pieces.proofs.PieceLemmas.Steps.{present_front}
 use Rattle.syslog_pieces.proofs.PriLemmas.{severity_there}
 use Rattle.syslog_pieces.proofs.StructuredDataLemmas.ReadBack.{element_plain}
 use Rattle.syslog_pieces.proofs.TimestampLemmas.RoundTrip.{stamp_text-plain}
-use Rattle.syslog_loose.specs.Canonical.{IsVisible, IsNoI32Text, IsPlainElement, EndsVisibly}
-use Rattle.syslog_loose.specs.ListedMisses.{is_no_colon, HasNoColon, IsOddHost, is_inner_char, IsInnerProcess, AreNearNames, IsNear, IsNearlyCanonical, IsOfMonthDate}
+use Rattle.syslog_loose.specs.Canonical.{IsVisible, IsNoI32Text, IsPlainElement}
+use Rattle.syslog_loose.specs.ListedMisses.{is_no_colon, HasNoColon, IsOddHost, is_inner_char, IsInnerProcess}
+use Rattle.syslog_loose.specs.ListedMisses.{AreNearNames, IsNear, IsNearlyCanonical, IsOfMonthDate}
 use Rattle.syslog_loose.specs.Message.{MessageValue}
-use Rattle.syslog_loose.specs.Rfc3164.{Names3164, NamesHost, NamesProgram, Resolves, body_row, rfc3164_row, IsRead3164}
+use Rattle.syslog_loose.specs.Rfc3164.{Names3164, NamesHost, NamesProgram, Resolves, rfc3164_row, IsRead3164}
+use Rattle.syslog_loose.specs.Rfc3164.{stamped_row, fields_row}
 use Rattle.syslog_loose.specs.TagForm.{form_row, IsForm}
-use Rattle.syslog_loose.proofs.Rfc3164Lemmas.Rows.{from_gap, from_list, from_blanks, from_colon, from_tag_end, from_tag, from_stamp, from_priority_end}
-use Rattle.syslog_loose.proofs.TrimLemmas.{drop_ends, ends_behind}
+use Rattle.syslog_loose.proofs.TrimLemmas.{drop_ends, last_ends}
+use Rattle.syslog_pieces.proofs.PieceLemmas.Each.{each_behind, each_both, each_left, each_front, each_right}
+use Rattle.syslog_pieces.proofs.PieceLemmas.Rows.{row_pieces}
 
 -- ---- runs of characters that pass two tests
-pub each_map : (f g : ℕ → Bool) → ((c : ℕ) → f c ≡ true → g c ≡ true) → (t : Text) → Each f t → Each g t
-each_map f g k [] h = tt
-each_map f g k (c ∷ t) h = (k c h.0, each_map f g k t h.1)
-
-pub each_both : (f g : ℕ → Bool) (t : Text) → Each f t → Each g t → Each (λ c. f c && g c) t
-each_both f g [] h k = tt
-each_both f g (c ∷ t) h k = (and_from (f c) (g c) h.0 k.0, each_both f g t h.1 k.1)
-
-pub each_left : (f g : ℕ → Bool) (t : Text) → Each (λ c. f c && g c) t → Each f t
-each_left f g = each_map (λ c. f c && g c) f (λ c h. (and_parts (f c) (g c) h).0)
-
-pub each_right : (f g : ℕ → Bool) (t : Text) → Each (λ c. f c && g c) t → Each g t
-each_right f g = each_map (λ c. f c && g c) g (λ c h. (and_parts (f c) (g c) h).1)
-
-pub each_front : (f : ℕ → Bool) (p q : Text) → Each f (p ++ q) → Each f p
-each_front f [] q h = tt
-each_front f (c ∷ p) q h = (h.0, each_front f p q h.1)
-
-pub each_behind : (f : ℕ → Bool) (p q : Text) → Each f (p ++ q) → Each f q
-each_behind f [] q h = h
-each_behind f (c ∷ p) q h = each_behind f p q h.1
 
 -- ---- elements
-many_plain : (p q : Text) (es : List ElementValue) → IsMany full_element p q es → AllByRecursion IsPlainElement es × AllByRecursion (λ e. 0 < length e.params) es
+many_plain : (p q : Text) (es : List ElementValue) → IsMany full_element p q es
+    → AllByRecursion IsPlainElement es × AllByRecursion (λ e. 0 < length e.params) es
 many_plain p q [] h = (tt, tt)
-many_plain p q (e ∷ es) (a, b, i, k, more) = let r = many_plain b q es more in ((element_plain a (b ++ q) e k.0, r.0), (k.1, r.1))
+many_plain p q (e ∷ es) (a, b, i, k, more) =
+    let r = many_plain b q es more in ((element_plain a (b ++ q) e k.0, r.0), (k.1, r.1))
 
-listed_plain : (rule : DashRule) (p q : Text) (es : List ElementValue) → IsListed rule p q es → AllByRecursion IsPlainElement es × AllByRecursion (λ e. 0 < length e.params) es
-listed_plain rule p q es (inl (d, a, e)) = subst (λ (x : List ElementValue). AllByRecursion IsPlainElement x × AllByRecursion (λ e. 0 < length e.params) x) (sym e) (tt, tt)
+listed_plain : (rule : DashRule) (p q : Text) (es : List ElementValue) → IsListed rule p q es
+    → AllByRecursion IsPlainElement es × AllByRecursion (λ e. 0 < length e.params) es
+listed_plain rule p q es (inl (d, a, e)) =
+    subst (λ (x : List ElementValue). AllByRecursion IsPlainElement x × AllByRecursion (λ e. 0 < length e.params) x)
+    (sym e) (tt, tt)
 listed_plain rule p q es (inr (l, h)) = many_plain p q es h
 
-field_plain : (rule : DashRule) (t q : Text) (v : Option (List ElementValue)) → Front (optional (listed rule)) t q v → AllByRecursion IsPlainElement (elements_or v) × AllByRecursion (λ e. 0 < length e.params) (elements_or v)
+field_plain : (rule : DashRule) (t q : Text) (v : Option (List ElementValue)) → Front (optional (listed rule)) t q v
+    → AllByRecursion IsPlainElement (elements_or v) × AllByRecursion (λ e. 0 < length e.params) (elements_or v)
 field_plain rule t q None f = (tt, tt)
 field_plain rule t q (Some es) f = listed_plain rule f.piece q es f.is
 
@@ -82,13 +71,17 @@ some_same x y e = cc
 
 host_text : (p q : Text) (v : Option Text) → IsHost p q v → HostField q (Some v)
 host_text p q None h = tt
-host_text p q (Some w) (l, a, inl (n, b, (e, d))) =
-    (subst (λ (x : Text). IsVisible x) (sym e) (l, a), λ o. absurd (elim (subst IsOddHost e o) [ inl x ↦ d x | inr x ↦ n x ]))
-host_text p q (Some w) (l, a, inr (r, f, b, e)) = (subst (λ (x : Text). IsVisible x) (sym (some_same w p e)) (l, a), λ o. (r, f))
+host_text p q (Some w) (l, a, inl (n, b, (e, d))) = (
+  subst (λ (x : Text). IsVisible x) (sym e) (l, a),
+  λ o. absurd (elim (subst IsOddHost e o) [ inl x ↦ d x | inr x ↦ n x ]),
+)
+host_text p q (Some w) (l, a, inr (r, f, b, e)) =
+    (subst (λ (x : Text). IsVisible x) (sym (some_same w p e)) (l, a), λ o. (r, f))
 
 pub host_field : (t q : Text) (v : Option (Option Text)) → Front (optional (spaced host)) t q v → HostField q v
 host_field t q None f = tt
-host_field t q (Some v) f = let (r, e, g) = spaced_parts host (present_front (spaced host) f) in host_text g.piece q v g.is
+host_field t q (Some v) f =
+    let (r, e, g) = spaced_parts host (present_front (spaced host) f) in host_text g.piece q v g.is
 
 -- ---- the tag field: a word behind a space
 abbrev IsTagText : Text → Type 0
@@ -105,7 +98,8 @@ tag_text_of t p q r (Some w) e (l, a, b, (i, d)) = (subst (λ (x : Text). IsTagT
 
 pub tag_field : (t q : Text) (v : Option (Option Text)) → Front (optional (spaced tag_word)) t q v → TagField t v
 tag_field t q None f = tt
-tag_field t q (Some v) f = let (r, e, g) = spaced_parts tag_word (present_front (spaced tag_word) f) in tag_text_of t g.piece q r v e g.is
+tag_field t q (Some v) f =
+    let (r, e, g) = spaced_parts tag_word (present_front (spaced tag_word) f) in tag_text_of t g.piece q r v e g.is
 
 -- ---- the form
 pub record FormParts (text tag id : Text) : Type 0 where
@@ -116,27 +110,29 @@ pub record FormParts (text tag id : Text) : Type 0 where
 
 pub form_parts : (text tag id : Text) → IsForm text tag id → FormParts text tag id
 form_parts text tag id d =
-    let g1 = row_head (texted (run is_label_char)) (exactly (91 ∷ []) ∷ texted (some_run is_open_char) ∷ exactly (93 ∷ []) ∷ []) (division_front form_row d) in
-    let g2 = row_head (exactly (91 ∷ [])) (texted (some_run is_open_char) ∷ exactly (93 ∷ []) ∷ []) g1.2 in
-    let g3 = row_head (texted (some_run is_open_char)) (exactly (93 ∷ []) ∷ []) g2.2 in
-    let e : id ≡ g3.1.piece = g3.1.is.2 in
+    let (t1, g1, (t2, g2, (t3, g3, _))) = row_pieces form_row (division_front form_row d) in
+    let e : id ≡ g3.piece = g3.is.2 in
     record {
-      label = subst (λ (x : Text). Each is_label_char x) (sym g1.1.is.2) g1.1.is.1.0;
-      some = subst (λ (x : Text). 0 < length x) (sym e) g3.1.is.1.0;
-      unclosed = subst (λ (x : Text). Each is_open_char x) (sym e) g3.1.is.1.1;
+      label = subst (λ (x : Text). Each is_label_char x) (sym g1.is.2) g1.is.1.0;
+      some = subst (λ (x : Text). 0 < length x) (sym e) g3.is.1.0;
+      unclosed = subst (λ (x : Text). Each is_open_char x) (sym e) g3.is.1.1;
       within = λ f h.
-          let h1 = each_behind f g1.1.piece g1.0 (subst (λ (x : Text). Each f x) g1.1.whole h) in
-          let h2 = each_behind f g2.1.piece g2.0 (subst (λ (x : Text). Each f x) g2.1.whole h1) in
-          subst (λ (x : Text). Each f x) (sym e) (each_front f g3.1.piece g3.0 (subst (λ (x : Text). Each f x) g3.1.whole h2));
+          let h1 = each_behind f g1.piece t1 (subst (λ (x : Text). Each f x) g1.whole h) in
+          let h2 = each_behind f g2.piece t2 (subst (λ (x : Text). Each f x) g2.whole h1) in
+          subst (λ (x : Text). Each f x) (sym e)
+          (each_front f g3.piece t3 (subst (λ (x : Text). Each f x) g3.whole h2));
     }
 
 -- what an id names
-inner_process : (id : Text) (process : ProcId Text) → NamesProcess id process → 0 < length id → Each is_not_whitespace id → Each is_open_char id → IsInnerProcess process
+inner_process : (id : Text) (process : ProcId Text) → NamesProcess id process → 0 < length id
+    → Each is_not_whitespace id → Each is_open_char id → IsInnerProcess process
 inner_process id (PID n) h l a o = tt
 inner_process id (Name t) (none, e) l a o =
-    subst (λ (x : Text). (0 < length x) × Each is_inner_char x × IsNoI32Text x) (sym e) (l, each_both is_not_whitespace is_open_char id a o, none)
+    subst (λ (x : Text). (0 < length x) × Each is_inner_char x × IsNoI32Text x) (sym e)
+    (l, each_both is_not_whitespace is_open_char id a o, none)
 
-pub no_colon_process : (id : Text) (process : ProcId Text) → NamesProcess id process → Each is_no_colon id → HasNoColon process
+pub no_colon_process : (id : Text) (process : ProcId Text) → NamesProcess id process → Each is_no_colon id
+    → HasNoColon process
 no_colon_process id (PID n) h a = tt
 no_colon_process id (Name t) (none, e) a = subst (λ (x : Text). Each is_no_colon x) (sym e) a
 
@@ -149,28 +145,43 @@ NearNames n =
 near_host : (q h : Text) (n : Names3164) → HostField q (Some (Some h)) → NamesHost h n → NearNames n
 near_host q h n (v, o) (inl (tag, id, process, f, p, e)) =
     let parts = form_parts h tag id f in
-    subst NearNames (sym e) (tt, tt, (parts.label, inner_process id process p parts.some (parts.within is_not_whitespace v.1) parts.unclosed), inr refl)
+    subst NearNames (sym e) (
+      tt,
+      tt,
+      (parts.label, inner_process id process p parts.some (parts.within is_not_whitespace v.1) parts.unclosed),
+      inr refl,
+    )
 near_host q h n (v, o) (inr (none, e)) = subst NearNames (sym e) (v, λ x. refl, none, inl tt)
 
 abbrev PlainField : Option Text → Option Text → Type 0
 PlainField host app = IfSome host IsVisible × IfSome host (λ h. IsOddHost h → app ≡ None)
 
 -- before a space the host is not odd
-before_space : (q : Text) (origin app : Option Text) → HostField q (Some origin) → ((r : Text) × (q ≡ 32 ∷ r)) → PlainField origin app
+before_space : (q : Text) (origin app : Option Text) → HostField q (Some origin) → ((r : Text) × (q ≡ 32 ∷ r))
+    → PlainField origin app
 before_space q None app k s = (tt, tt)
-before_space q (Some h) app (v, o) (r, w) = (v, λ x. absurd (let (s, y) = o x in let t : ◌≡◌ {A = ℕ} 58 32 = heads 58 32 s r (sym y ∙ w) in omega arith))
+before_space q (Some h) app (v, o) (r, w) =
+    (v, λ x. absurd (let (s, y) = o x in let t : ◌≡◌ {A = ℕ} 58 32 = heads 58 32 s r (sym y ∙ w) in omega arith))
 
-near_program : (q t : Text) (origin : Option Text) (n : Names3164) → HostField q (Some origin) → TagField q (Some (Some t)) → NamesProgram origin t n → NearNames n
+near_program : (q t : Text) (origin : Option Text) (n : Names3164) → HostField q (Some origin)
+    → TagField q (Some (Some t)) → NamesProgram origin t n → NearNames n
 near_program q t origin n k ((l, a, d), w) (inl (tag, id, process, f, p, e)) =
     let parts = form_parts t tag id f in
     let inside = parts.within is_tag_char a in
     let first = before_space q origin (Some tag) k w in
     let visible = each_left is_not_whitespace is_no_colon id inside in
-    subst NearNames (sym e) (first.0, first.1, (parts.label, inner_process id process p parts.some visible parts.unclosed), inl (no_colon_process id process p (each_right is_not_whitespace is_no_colon id inside)))
+    subst NearNames (sym e) (
+      first.0,
+      first.1,
+      (parts.label, inner_process id process p parts.some visible parts.unclosed),
+      inl (no_colon_process id process p (each_right is_not_whitespace is_no_colon id inside)),
+    )
 near_program q t origin n k ((l, a, d), w) (inr (none, e)) =
-    let first = before_space q origin (Some t) k w in subst NearNames (sym e) (first.0, first.1, (l, a, d, none), inl tt)
+    let first =
+    before_space q origin (Some t) k w in subst NearNames (sym e) (first.0, first.1, (l, a, d, none), inl tt)
 
-near_names : (q : Text) (origin program : Option (Option Text)) (n : Names3164) → HostField q origin → TagField q program → Resolves origin program n → NearNames n
+near_names : (q : Text) (origin program : Option (Option Text)) (n : Names3164) → HostField q origin
+    → TagField q program → Resolves origin program n → NearNames n
 near_names q None None n a b e = subst NearNames (sym e) (tt, tt, tt, inl tt)
 near_names q (Some None) None n a b e = subst NearNames (sym e) (tt, tt, tt, inl tt)
 near_names q (Some (Some h)) None n a b e = near_host q h n a e
@@ -180,31 +191,23 @@ near_names q None (Some (Some t)) n a b e = near_program q t None n tt b e
 near_names q (Some h) (Some (Some t)) n a b e = near_program q t h n a b e
 
 -- ---- the message
-pub severity_beside : (pri : Option ℕ) → IsSome (option_and_then facility_of pri) → IsSome (option_and_then severity_of pri)
+pub severity_beside : (pri : Option ℕ) → IsSome (option_and_then facility_of pri)
+    → IsSome (option_and_then severity_of pri)
 severity_beside None h = h
-severity_beside (Some pri) h = let (s, e) = severity_there pri in subst (λ (x : Option SyslogSeverity). IsSome x) (sym e) refl
+severity_beside (Some pri) h =
+    let (s, e) = severity_there pri in subst (λ (x : Option SyslogSeverity). IsSome x) (sym e) refl
 
 module _ (rule : DashRule) (dating : Dating) (text : Text) where
   pub read_near : (m : MessageValue) → IsRead3164 rule dating text m → IsNear m
   read_near m r =
       let v = r.values in
       let (n, resolves, means) = r.means in
-      let g1 = row_head (optional priority) (from_priority_end rule dating) (division_front (rfc3164_row rule dating) r.division) in
-      let g2 = row_head (run is_blank) (from_stamp rule dating) g1.2 in
-      let g3 = row_head (loose_stamp dating) (body_row rule) g2.2 in
-      let g4 = row_head (optional (spaced host)) (from_tag rule) g3.2 in
-      let g5 = row_head (optional (spaced tag_word)) (from_tag_end rule) g4.2 in
-      let g6 = row_head (run is_blank) (from_colon rule) g5.2 in
-      let g7 = row_head (optional (exactly colon)) (from_blanks rule) g6.2 in
-      let g8 = row_head (run is_blank) (from_list rule) g7.2 in
-      let g9 = row_head (optional (listed rule)) from_gap g8.2 in
-      let g10 = row_head (run is_blank) (rest ∷ []) g9.2 in
-      let g11 = row_head rest [] g10.2 in
-      let near = near_names g4.0 v.1.1.1.0 v.1.1.1.1.0 n (host_field g3.0 g4.0 v.1.1.1.0 g4.1) (tag_field g4.0 g5.0 v.1.1.1.1.0 g5.1) resolves in
-      let plain = field_plain rule g8.0 g9.0 v.1.1.1.1.1.1.1.1.0 g9.1 in
-      let e : v.1.1.1.1.1.1.1.1.1.1.0 ≡ g10.0 = g11.1.is.1 ∙ sym (append-nil g11.1.piece) ∙ ap (λ (x : Text). g11.1.piece ++ x) (sym g11.1.is.0) ∙ sym g11.1.whole in
-      let visible = ends_behind (run is_blank) g10.1 (ends_behind (optional (listed rule)) g9.1 (ends_behind (run is_blank) g8.1 (ends_behind (optional (exactly colon)) g7.1 (ends_behind (run is_blank) g6.1
-      (ends_behind (optional (spaced tag_word)) g5.1 (ends_behind (optional (spaced host)) g4.1 (ends_behind (loose_stamp dating) g3.1 (ends_behind (run is_blank) g2.1 (ends_behind (optional priority) g1.1 (drop_ends (skip_leading_whitespace text))))))))))) in
+      let row = division_front (rfc3164_row rule dating) r.division in
+      let (_, _, more) = row_pieces (rfc3164_row rule dating) row in
+      let (_, _, (t3, g3, (t4, g4, (t5, g5, (_, _, (_, _, (t8, _, (t9, g9, (_, g10, (_, g11, _)))))))))) = more in
+      let near =
+      near_names t4 v.1.1.1.0 v.1.1.1.1.0 n (host_field t3 t4 v.1.1.1.0 g4) (tag_field t4 t5 v.1.1.1.1.0 g5) resolves in
+      let plain = field_plain rule t8 t9 v.1.1.1.1.1.1.1.1.0 g9 in
       subst IsNear (sym means) (record {
         protocol = refl;
         hostname = near.0;
@@ -214,15 +217,17 @@ module _ (rule : DashRule) (dating : Dating) (text : Text) where
         msgid = refl;
         elements = plain.0;
         parameters = plain.1;
-        msg_front = subst (λ (x : Text). Ends is_blank x) (sym e) g10.1.is.1;
-        msg_end = subst EndsVisibly (sym e) visible;
+        msg_front = subst (λ (x : Text). Ends is_blank x) (rest_whole g11) g10.is.1;
+        msg_end = last_ends (stamped_row dating ++ (fields_row ++ (optional (listed rule) ∷ run is_blank ∷ []))) row
+            (drop_ends (skip_leading_whitespace text));
       })
 
   -- a timestamp that was read is plain, or that of a month date that the text shows
   abbrev IsOfKind : OffsetTimestamp → Type 0
   IsOfKind s = IsPlainStamp s ⊎ IsOfMonthDate dating text s
 
-  stamp_kind : (p : Option ℕ) (t u q : Text) (v : Option OffsetTimestamp) → Front (optional priority) (trimmed text) t p → Front (run is_blank) t u tt → Front (loose_stamp dating) u q v → IfSome v IsOfKind
+  stamp_kind : (p : Option ℕ) (t u q : Text) (v : Option OffsetTimestamp) → Front (optional priority) (trimmed text) t p
+      → Front (run is_blank) t u tt → Front (loose_stamp dating) u q v → IfSome v IsOfKind
   stamp_kind p t u q None f g h = tt
   stamp_kind p t u q (Some s) f g h = kind h.is
     where
@@ -239,14 +244,18 @@ module _ (rule : DashRule) (dating : Dating) (text : Text) where
   pub stamp_read : (m : MessageValue) → IsRead3164 rule dating text m → IfSome m.timestamp IsOfKind
   stamp_read m r =
       let (n, resolves, means) = r.means in
-      let g1 = row_head (optional priority) (from_priority_end rule dating) (division_front (rfc3164_row rule dating) r.division) in
-      let g2 = row_head (run is_blank) (from_stamp rule dating) g1.2 in
-      let g3 = row_head (loose_stamp dating) (body_row rule) g2.2 in
-      subst (λ (x : MessageValue). IfSome x.timestamp IsOfKind) (sym means) (stamp_kind r.values.0 g1.0 g2.0 g3.0 r.values.1.1.0 g1.1 g2.1 g3.1)
+      let (t1, g1, more) = row_pieces (rfc3164_row rule dating) (division_front (rfc3164_row rule dating) r.division) in
+      let (t2, g2, (t3, g3, _)) = more in
+      subst (λ (x : MessageValue). IfSome x.timestamp IsOfKind) (sym means)
+      (stamp_kind r.values.0 t1 t2 t3 r.values.1.1.0 g1 g2 g3)
 
   -- with a facility there is a severity
   pub read_nearly : (m : MessageValue) → IsRead3164 rule dating text m → IsSome m.facility → IsNearlyCanonical m
   read_nearly m r f =
       let (n, resolves, means) = r.means in
       let there = severity_beside r.values.0 (subst (λ (x : MessageValue). IsSome x.facility) means f) in
-      record { facility = f; severity = subst (λ (x : MessageValue). IsSome x.severity) (sym means) there; rest = read_near m r }
+      record {
+        facility = f;
+        severity = subst (λ (x : MessageValue). IsSome x.severity) (sym means) there;
+        rest = read_near m r;
+      }

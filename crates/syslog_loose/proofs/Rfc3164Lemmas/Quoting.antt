@@ -1,6 +1,6 @@
 -- The texts of a message of RFC 3164 are in the pieces.
 use Rattle.std.proofs.Common.{inl, inr, List, [], ◌∷◌, ◌++◌, Option, Some, None, sym, subst}
-use Rattle.std.specs.List.{flat_map, AllByRecursion}
+use Rattle.std.specs.List.{flat_map}
 use Rattle.syslog_pieces.specs.Pieces.Class.{Text, run, some_run, exactly, optional, spaced}
 use Rattle.syslog_pieces.specs.Pieces.Parts.{IsPart, IsInPieces, AreInPieces, text_list, process_texts}
 use Rattle.syslog_pieces.specs.Pri.{priority}
@@ -14,15 +14,21 @@ use Rattle.syslog_pieces.specs.Timestamp.Zone.{Dating}
 use Rattle.syslog_pieces.specs.declared.procid.ProcId.{ProcId}
 use Rattle.syslog_pieces.specs.declared.procid.ProcId.TheVariants.{PID, Name}
 use Rattle.syslog_pieces.specs.declared.structured_data.listed.DashRule.{DashRule}
-use Rattle.syslog_pieces.proofs.PieceLemmas.Parts.{Quoted, row_quotes, silent, texted_quotes, rest_quotes, host_quotes, tag_word_quotes, optional_quotes, optional_texts, spaced_quotes, all_append, part_left, part_right, part_joined}
+use Rattle.syslog_pieces.proofs.PieceLemmas.Each.{all_append, all_left, all_right}
+use Rattle.syslog_pieces.proofs.PieceLemmas.Parts.{Quoted, row_quotes, silent, texted_quotes, rest_quotes, host_quotes}
+use Rattle.syslog_pieces.proofs.PieceLemmas.Parts.{tag_word_quotes, optional_quotes, optional_texts, spaced_quotes}
+use Rattle.syslog_pieces.proofs.PieceLemmas.Parts.{part_left, part_right, part_joined}
 use Rattle.syslog_pieces.proofs.StructuredDataLemmas.ElementParts.{optional_listed_quotes}
 use Rattle.syslog_loose.specs.Message.{MessageValue, message_texts}
-use Rattle.syslog_loose.specs.Rfc3164.{Names3164, Resolves, NamesProgram, NamesHost, rfc3164_row, IsRead3164, Quotes3164}
+use Rattle.syslog_loose.specs.Rfc3164.{Names3164, Resolves, NamesProgram, NamesHost, rfc3164_row, IsRead3164}
+use Rattle.syslog_loose.specs.Rfc3164.{Quotes3164}
 use Rattle.syslog_loose.specs.TagForm.{form_row, IsForm}
+use Rattle.syslog_pieces.proofs.PieceLemmas.Class.{◌also◌}
 
 -- ---- parts of texts in pieces
 part_on : (p t u : Text) → IsPart p t → IsPart t u → IsPart p u
-part_on p t u (before, after, e) h = subst (λ (x : Text). IsPart x u) (sym e) (part_right before (t ++ after) u (part_left t after u h))
+part_on p t u (before, after, e) h =
+    subst (λ (x : Text). IsPart x u) (sym e) (part_right before (t ++ after) u (part_left t after u h))
 
 part_in : (ps : List Text) (t u : Text) → IsInPieces ps t → IsPart t u → IsInPieces ps u
 part_in [] t u h k = absurd h
@@ -31,20 +37,15 @@ part_in (p ∷ ps) t u (inr h) k = inr (part_in ps t u h k)
 
 -- ---- tag and id are parts of the name
 quoted_form : Quoted form_row
-quoted_form = (
-  (λ t. t ∷ []),
-  texted_quotes (run is_label_char),
-  (
-    (λ v. []),
-    silent (exactly (91 ∷ [])),
-    ((λ t. t ∷ []), texted_quotes (some_run is_open_char), ((λ v. []), silent (exactly (93 ∷ [])), tt)),
-  ),
-)
+quoted_form =
+    ((λ t. t ∷ []), texted_quotes (run is_label_char)) also silent (exactly (91 ∷ []))
+    also ((λ t. t ∷ []), texted_quotes (some_run is_open_char)) also silent (exactly (93 ∷ [])) also tt
 
 form_parts : (text tag id : Text) → IsForm text tag id → IsPart text tag × IsPart text id
 unfolding quoted_form
 form_parts text tag id f =
-    let all : AreInPieces f.pieces (tag ∷ id ∷ []) = row_quotes form_row quoted_form f.pieces [] (tag, (tt, (id, (tt, tt)))) f.each in (
+    let all : AreInPieces f.pieces (tag ∷ id ∷ []) =
+    row_quotes form_row quoted_form f.pieces [] (tag, (tt, (id, (tt, tt)))) f.each in (
       subst (λ (x : Text). IsPart x tag) (sym f.whole) (part_joined f.pieces tag all.0),
       subst (λ (x : Text). IsPart x id) (sym f.whole) (part_joined f.pieces id all.1.0),
     )
@@ -61,19 +62,23 @@ module _ (ps : List Text) where
   process_in id (PID number) h k = tt
   process_in id (Name name) h k = (subst (λ (x : Text). IsInPieces ps x) (sym h.1) k, tt)
 
-  program_in : (origin : Option Text) (text : Text) (n : Names3164) → NamesProgram origin text n → AreIn (text_list origin) → IsInPieces ps text → NamesAreIn n
+  program_in : (origin : Option Text) (text : Text) (n : Names3164) → NamesProgram origin text n
+      → AreIn (text_list origin) → IsInPieces ps text → NamesAreIn n
   program_in origin text n (inl (tag, id, p, f, h, e)) k l =
       let parts = form_parts text tag id f in
-      subst NamesAreIn (sym e) (k, (part_in ps text tag l parts.0, tt), process_in id p h (part_in ps text id l parts.1))
+      subst NamesAreIn (sym e)
+      (k, (part_in ps text tag l parts.0, tt), process_in id p h (part_in ps text id l parts.1))
   program_in origin text n (inr (f, e)) k l = subst NamesAreIn (sym e) (k, (l, tt), tt)
 
   host_in : (text : Text) (n : Names3164) → NamesHost text n → IsInPieces ps text → NamesAreIn n
   host_in text n (inl (tag, id, p, f, h, e)) l =
       let parts = form_parts text tag id f in
-      subst NamesAreIn (sym e) (tt, (part_in ps text tag l parts.0, tt), process_in id p h (part_in ps text id l parts.1))
+      subst NamesAreIn (sym e)
+      (tt, (part_in ps text tag l parts.0, tt), process_in id p h (part_in ps text id l parts.1))
   host_in text n (inr (f, e)) l = subst NamesAreIn (sym e) ((l, tt), tt, tt)
 
-  resolved_in : (origin program : Option (Option Text)) (n : Names3164) → Resolves origin program n → AreIn (optional_texts text_list origin) → AreIn (optional_texts text_list program) → NamesAreIn n
+  resolved_in : (origin program : Option (Option Text)) (n : Names3164) → Resolves origin program n
+      → AreIn (optional_texts text_list origin) → AreIn (optional_texts text_list program) → NamesAreIn n
   resolved_in None None n e k l = subst NamesAreIn (sym e) (tt, tt, tt)
   resolved_in (Some None) None n e k l = subst NamesAreIn (sym e) (tt, tt, tt)
   resolved_in (Some (Some name)) None n h k l = host_in name n h k.0
@@ -84,53 +89,22 @@ module _ (ps : List Text) where
 
 -- ---- all texts
 quoted_row : (rule : DashRule) (dating : Dating) → Quoted (rfc3164_row rule dating)
-quoted_row rule dating = (
-  (λ v. []),
-  silent (optional priority),
-  (
-    (λ v. []),
-    silent (run is_blank),
-    (
-      (λ v. []),
-      silent (loose_stamp dating),
-      (
-        (λ v. optional_texts text_list v),
-        optional_quotes (spaced host) text_list (spaced_quotes host text_list host_quotes),
-        (
-          (λ v. optional_texts text_list v),
-          optional_quotes (spaced tag_word) text_list (spaced_quotes tag_word text_list tag_word_quotes),
-          (
-            (λ v. []),
-            silent (run is_blank),
-            (
-              (λ v. []),
-              silent (optional (exactly colon)),
-              (
-                (λ v. []),
-                silent (run is_blank),
-                (
-                  (λ es. flat_map element_texts (elements_or es)),
-                  optional_listed_quotes rule,
-                  ((λ v. []), silent (run is_blank), ((λ t. t ∷ []), rest_quotes, tt)),
-                ),
-              ),
-            ),
-          ),
-        ),
-      ),
-    ),
-  ),
-)
+quoted_row rule dating =
+    silent (optional priority) also silent (run is_blank) also silent (loose_stamp dating)
+    also (
+      (λ v. optional_texts text_list v),
+      optional_quotes (spaced host) text_list (spaced_quotes host text_list host_quotes),
+    )
+    also (
+      (λ v. optional_texts text_list v),
+      optional_quotes (spaced tag_word) text_list (spaced_quotes tag_word text_list tag_word_quotes),
+    )
+    also silent (run is_blank) also silent (optional (exactly colon)) also silent (run is_blank)
+    also ((λ es. flat_map element_texts (elements_or es)), optional_listed_quotes rule)
+    also silent (run is_blank) also ((λ t. t ∷ []), rest_quotes) also tt
 
-pub all_left : (P : Text → Type 0) (ts us : List Text) → AllByRecursion P (ts ++ us) → AllByRecursion P ts
-all_left P [] us h = tt
-all_left P (t ∷ ts) us h = (h.0, all_left P ts us h.1)
-
-pub all_right : (P : Text → Type 0) (ts us : List Text) → AllByRecursion P (ts ++ us) → AllByRecursion P us
-all_right P [] us h = h
-all_right P (t ∷ ts) us h = all_right P ts us h.1
-
-pub quotes : (rule : DashRule) (dating : Dating) (text : Text) (m : MessageValue) → IsRead3164 rule dating text m → Quotes3164 rule dating text m
+pub quotes : (rule : DashRule) (dating : Dating) (text : Text) (m : MessageValue) → IsRead3164 rule dating text m
+    → Quotes3164 rule dating text m
 unfolding quoted_row
 quotes rule dating text m r =
     let ps = r.division.pieces in
@@ -139,9 +113,14 @@ quotes rule dating text m r =
     let origin = optional_texts text_list vs.1.1.1.0 in
     let program = optional_texts text_list vs.1.1.1.1.0 in
     let body = flat_map element_texts (elements_or vs.1.1.1.1.1.1.1.1.0) ++ (vs.1.1.1.1.1.1.1.1.1.1.0 ∷ []) in
-    let all : AreInPieces ps (origin ++ (program ++ body)) = row_quotes (rfc3164_row rule dating) (quoted_row rule dating) ps [] vs r.division.each in
+    let all : AreInPieces ps (origin ++ (program ++ body)) =
+    row_quotes (rfc3164_row rule dating) (quoted_row rule dating) ps [] vs r.division.each in
     let (n, h, e) = r.means in
-    let (a, b, c) = resolved_in ps vs.1.1.1.0 vs.1.1.1.1.0 n h (all_left P origin (program ++ body) all) (all_left P program body (all_right P origin (program ++ body) all)) in
+    let (a, b, c) =
+    resolved_in ps vs.1.1.1.0 vs.1.1.1.1.0 n h (all_left P origin (program ++ body) all)
+    (all_left P program body (all_right P origin (program ++ body) all)) in
     let others = all_right P program body (all_right P origin (program ++ body) all) in
-    let inner = all_append P (text_list n.hostname) _ a (all_append P (text_list n.appname) _ b (all_append P (process_texts n.procid) _ c others)) in
+    let inner =
+    all_append P (text_list n.hostname) _ a
+    (all_append P (text_list n.appname) _ b (all_append P (process_texts n.procid) _ c others)) in
     record { read = r; each = subst (λ (x : MessageValue). AreInPieces ps (message_texts x)) (sym e) inner }

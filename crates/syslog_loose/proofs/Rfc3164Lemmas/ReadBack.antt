@@ -1,12 +1,15 @@
 -- A canonical message of RFC 3164 is read back: the division of its printed text, piece by piece.
-use Rattle.std.proofs.Common.{◌≡◌, ◌≢◌, ℕ, suc, pos, negsuc, ◌+◌, ◌*◌, ◌<◌, inl, inr, Bool, true, false, not, nat_eq, List, [], ◌∷◌, ◌++◌, length, Option, Some, None, IfSome, IsSome, refl, sym, ap, subst, ◌∙◌, arith}
+use Rattle.std.proofs.Common.{◌≡◌, ◌≢◌, ℕ, suc, pos, negsuc, ◌+◌, ◌*◌, ◌<◌, inl, inr, true, false, not, nat_eq, List}
+use Rattle.std.proofs.Common.{[], ◌∷◌, ◌++◌, length, Option, Some, None, IfSome, IsSome, refl, sym, ap, subst, ◌∙◌}
+use Rattle.std.proofs.Common.{arith}
 use Rattle.std.proofs.lemmas.Bool.{and_from, ne_eqb}
 use Rattle.std.proofs.lemmas.List.{length-append}
 use Rattle.std.specs.Char.{is_ascii_digit, is_not_whitespace}
 use Rattle.std.specs.Fmt.{decimal}
 use Rattle.std.specs.List.{AllByRecursion}
 use Rattle.std.specs.Option.{option_map_or}
-use Rattle.syslog_pieces.specs.Pieces.Class.{Text, Values, Front, NoFront, Row, Each, Ends, run, exactly, rest, optional, spaced}
+use Rattle.syslog_pieces.specs.Pieces.Class.{Text, Values, Front, NoFront, Row, Each, Ends, run, exactly, rest}
+use Rattle.syslog_pieces.specs.Pieces.Class.{optional, spaced}
 use Rattle.syslog_pieces.specs.Pieces.Lists.{IsMany}
 use Rattle.syslog_pieces.specs.Pri.{priority, facility_number, severity_number, facility_of, severity_of}
 use Rattle.syslog_pieces.specs.ProcId.{NamesProcess, procid_text}
@@ -16,7 +19,6 @@ use Rattle.syslog_pieces.specs.Text.{is_blank, is_tag_char, dash, colon, name_te
 use Rattle.syslog_pieces.specs.Text.CharClass.{is_label_char, is_open_char}
 use Rattle.syslog_pieces.specs.Timestamp.Loose.{loose_stamp}
 use Rattle.syslog_pieces.specs.Timestamp.Plain.{IsPlainStamp}
-use Rattle.syslog_pieces.specs.Timestamp.Printed.{printed_stamp}
 use Rattle.syslog_pieces.specs.Timestamp.Zone.{Dating}
 use Rattle.syslog_pieces.specs.declared.pri.SyslogFacility.{SyslogFacility}
 use Rattle.syslog_pieces.specs.declared.pri.SyslogSeverity.{SyslogSeverity}
@@ -24,16 +26,19 @@ use Rattle.syslog_pieces.specs.declared.procid.ProcId.{ProcId}
 use Rattle.syslog_pieces.specs.declared.procid.ProcId.TheVariants.{PID, Name}
 use Rattle.syslog_pieces.specs.declared.structured_data.listed.DashRule.{DashRule}
 use Rattle.syslog_pieces.specs.declared.timestamp.OffsetTimestamp.{OffsetTimestamp}
-use Rattle.syslog_pieces.proofs.PieceLemmas.Class.{heads, row_nil, row_cons, front_division, optional_some, optional_none, rest_front, spaced_front, no_spaced_piece}
+use Rattle.syslog_pieces.proofs.PieceLemmas.Class.{heads, row_nil, row_cons, front_division, optional_some}
+use Rattle.syslog_pieces.proofs.PieceLemmas.Class.{optional_none, rest_front, spaced_front, no_spaced_piece}
 use Rattle.syslog_pieces.proofs.PieceLemmas.Steps.{piece_front}
 use Rattle.syslog_pieces.proofs.PriLemmas.{facility_composed, severity_composed}
 use Rattle.syslog_pieces.proofs.ProcIdLemmas.ReadBack.{signed_writes}
 use Rattle.syslog_pieces.proofs.StructuredDataLemmas.ReadBack.{element_back}
 use Rattle.syslog_pieces.proofs.TextLemmas.ReadBack.{host_back, decimal_digits}
 use Rattle.syslog_pieces.proofs.StructuredDataLemmas.Listed.{full_begins, no_full_nil, no_listed}
-use Rattle.syslog_pieces.proofs.TimestampLemmas.RoundTrip.{printed_stamp-back, printed_stamp-visible, printed_stamp-begins}
+use Rattle.syslog_pieces.proofs.TimestampLemmas.RoundTrip.{printed_stamp-back}
 use Rattle.syslog_pieces.proofs.TimestampLemmas.Texts.{stamp_character-visible}
-use Rattle.syslog_loose.specs.Canonical.{IsBoundedProcess, IsBounded, IsPlainHost, IsPlainElement, is_process_char, IsBracketedProcess, ArePlainNames, IsPlain, IsPlain3164, IsPlainFor, IsCanonical}
+use Rattle.syslog_loose.specs.Canonical.{IsBoundedProcess, IsBounded, IsPlainHost, IsPlainElement, is_process_char}
+use Rattle.syslog_loose.specs.Canonical.{IsBracketedProcess, ArePlainNames, IsPlain, IsPlain3164, IsPlainFor}
+use Rattle.syslog_loose.specs.Canonical.{IsCanonical}
 use Rattle.syslog_loose.specs.ListedMisses.{is_no_colon}
 use Rattle.syslog_loose.specs.Message.{MessageValue}
 use Rattle.syslog_loose.specs.Printed.{timestamp_text, priority_of, printed_3164}
@@ -43,19 +48,29 @@ use Rattle.syslog_loose.specs.declared.message.Protocol.{Protocol}
 use Rattle.syslog_loose.specs.declared.message.Protocol.TheVariants.{RFC3164}
 use Rattle.syslog_loose.proofs.PriorityLemmas.{priority_low, priority_front}
 use Rattle.syslog_loose.proofs.Rfc3164Lemmas.Apart.{digit_range}
-use Rattle.syslog_loose.proofs.Rfc3164Lemmas.Near.{each_map, each_left, each_right}
-use Rattle.syslog_loose.proofs.Rfc3164Lemmas.Rows.{from_gap, from_list, from_blanks, from_colon, from_tag_end, from_tag, from_stamp, from_priority_end}
+use Rattle.syslog_pieces.proofs.PieceLemmas.Each.{each_map, each_left, each_right, each_append}
+use Rattle.syslog_loose.proofs.Rfc3164Lemmas.Rows.{from_gap, from_list, from_blanks, from_colon, from_tag_end, from_tag}
+use Rattle.syslog_loose.proofs.Rfc3164Lemmas.Rows.{from_stamp, from_priority_end}
 use Rattle.syslog_loose.proofs.Rfc3164Lemmas.Unique.{told}
 use Rattle.syslog_loose.proofs.Rfc3164Lemmas.Whole.{bracketed, program_text, whole, tail_text, trimmed_whole}
-use Rattle.syslog_loose.proofs.TrimLemmas.{visible_ends_blanks, message_end, message_blanks}
+use Rattle.syslog_loose.proofs.TrimLemmas.{stamp_unblank, message_end, message_blanks}
 
 -- ---- elements and the message
-many_back : (es : List ElementValue) (q : Text) → AllByRecursion IsPlainElement es → AllByRecursion (λ e. 0 < length e.params) es → NoFront full_element q → IsMany full_element (joined_elements es) q es
+many_back : (es : List ElementValue) (q : Text) → AllByRecursion IsPlainElement es
+    → AllByRecursion (λ e. 0 < length e.params) es → NoFront full_element q
+    → IsMany full_element (joined_elements es) q es
 many_back [] q h k n = (refl, n)
-many_back (e ∷ es) q h k n = (element_text e, joined_elements es, refl, (element_back e (joined_elements es ++ q) h.0, k.0), many_back es q h.1 k.1 n)
+many_back (e ∷ es) q h k n = (
+  element_text e,
+  joined_elements es,
+  refl,
+  (element_back e (joined_elements es ++ q) h.0, k.0),
+  many_back es q h.1 k.1 n,
+)
 
 no_full_space : (t : Text) → NoFront full_element (32 ∷ t)
-no_full_space t p q v e h = let (r, w) = full_begins p q v h in let u : ◌≡◌ {A = ℕ} 32 91 = heads 32 91 t r (e ∙ w) in omega arith
+no_full_space t p q v e h =
+    let (r, w) = full_begins p q v h in let u : ◌≡◌ {A = ℕ} 32 91 = heads 32 91 t r (e ∙ w) in omega arith
 
 no_full_end : (msg : Text) → NoFront full_element (message_end msg)
 unfolding message_end
@@ -73,16 +88,20 @@ list_same (e ∷ es) = refl
 pub gap_back : (t msg : Text) → Front (run is_blank) t msg tt → Front (Row from_gap) t [] (tt, (msg, tt))
 gap_back t msg f = row_cons (run is_blank) (rest ∷ []) f (row_cons rest [] (rest_front msg) (row_nil []))
 
-pub body_back : (rule : DashRule) (es : List ElementValue) (msg : Text) → AllByRecursion IsPlainElement es → AllByRecursion (λ e. 0 < length e.params) es → Ends is_blank msg → (es ≡ [] → BeginsNoList rule msg)
+pub body_back : (rule : DashRule) (es : List ElementValue) (msg : Text) → AllByRecursion IsPlainElement es
+    → AllByRecursion (λ e. 0 < length e.params) es → Ends is_blank msg → (es ≡ [] → BeginsNoList rule msg)
     → Front (Row (from_blanks rule)) (tail_text es msg) [] (tt, (list_field es, (tt, (msg, tt))))
 body_back rule [] msg h k b n =
     row_cons (run is_blank) (from_list rule) (message_blanks msg b)
     (row_cons (optional (listed rule)) from_gap (optional_none (listed rule) (no_listed rule msg (n refl)))
     (gap_back msg msg (record { piece = []; whole = refl; is = (tt, b) })))
 body_back rule (e ∷ es) msg h k b n =
-    row_cons (run is_blank) (from_list rule) (piece_front (run is_blank) (32 ∷ []) (joined_elements (e ∷ es) ++ message_end msg) tt ((refl, tt), refl))
+    row_cons (run is_blank) (from_list rule)
+    (piece_front (run is_blank) (32 ∷ []) (joined_elements (e ∷ es) ++ message_end msg) tt ((refl, tt), refl))
     (row_cons (optional (listed rule)) from_gap
-    (optional_some (listed rule) (piece_front (listed rule) (joined_elements (e ∷ es)) (message_end msg) (e ∷ es) (inr (omega arith, many_back (e ∷ es) (message_end msg) h k (no_full_end msg)))))
+    (optional_some (listed rule)
+    (piece_front (listed rule) (joined_elements (e ∷ es)) (message_end msg) (e ∷ es)
+    (inr (omega arith, many_back (e ∷ es) (message_end msg) h k (no_full_end msg)))))
     (gap_back (message_end msg) msg (message_blanks msg b)))
 
 -- ---- the process
@@ -90,23 +109,28 @@ pub digit_inside : (c : ℕ) → is_ascii_digit c ≡ true → is_process_char c
 digit_inside c h =
     let (from, to) = digit_range c h in
     let visible = ap not (stamp_character-visible c (omega arith, omega arith)) in
-    and_from (is_tag_char c) (is_open_char c) (and_from (is_not_whitespace c) (is_no_colon c) visible (ap not (ne_eqb c 58 (λ e. omega arith)))) (ap not (ne_eqb c 93 (λ e. omega arith)))
+    and_from (is_tag_char c) (is_open_char c)
+    (and_from (is_not_whitespace c) (is_no_colon c) visible (ap not (ne_eqb c 58 (λ e. omega arith))))
+    (ap not (ne_eqb c 93 (λ e. omega arith)))
 
-pub process_chars : (process : ProcId Text) → IsBracketedProcess process → IsBoundedProcess process → (0 < length (procid_text process)) × Each is_process_char (procid_text process)
+pub process_chars : (process : ProcId Text) → IsBracketedProcess process → IsBoundedProcess process
+    → (0 < length (procid_text process)) × Each is_process_char (procid_text process)
 process_chars (PID (pos n)) h b =
-    let (some, digits) = decimal_digits n (omega (arith, b)) in (some, each_map is_ascii_digit is_process_char digit_inside (decimal n) digits)
+    let (some, digits) =
+    decimal_digits n (omega (arith, b)) in
+    (some, each_map is_ascii_digit is_process_char digit_inside (decimal n) digits)
 process_chars (PID (negsuc n)) h b =
-    let (some, digits) = decimal_digits (suc n) (omega (arith, b)) in (omega arith, (refl, each_map is_ascii_digit is_process_char digit_inside (decimal (suc n)) digits))
+    let (some, digits) =
+    decimal_digits (suc n) (omega (arith, b)) in
+    (omega arith, (refl, each_map is_ascii_digit is_process_char digit_inside (decimal (suc n)) digits))
 process_chars (Name t) (some, each, none) b = (some, each)
 
-process_named : (process : ProcId Text) → IsBracketedProcess process → IsBoundedProcess process → NamesProcess (procid_text process) process
+process_named : (process : ProcId Text) → IsBracketedProcess process → IsBoundedProcess process
+    → NamesProcess (procid_text process) process
 process_named (PID n) h b = signed_writes n b
 process_named (Name t) (some, each, none) b = (none, refl)
 
 -- ---- the names
-pub each_append : (f : ℕ → Bool) (p q : Text) → Each f p → Each f q → Each f (p ++ q)
-each_append f [] q h k = k
-each_append f (c ∷ p) q h k = (h.0, each_append f p q h.1 k)
 
 pub bracketed_long : (a i : Text) → 1 < length (bracketed a i)
 bracketed_long a i = omega (arith, length-append a (91 ∷ (i ++ (93 ∷ []))), length-append i (93 ∷ []))
@@ -116,7 +140,8 @@ bracketed_chars a i h k =
     each_append is_tag_char a (91 ∷ (i ++ (93 ∷ []))) (each_left is_tag_char (λ c. not (nat_eq c 91)) a h)
     (refl, each_append is_tag_char i (93 ∷ []) (each_left is_tag_char is_open_char i k) (refl, tt))
 
-bracketed_form : (a i : Text) → Each is_label_char a → 0 < length i → Each is_process_char i → IsForm (bracketed a i) a i
+bracketed_form : (a i : Text) → Each is_label_char a → 0 < length i → Each is_process_char i
+    → IsForm (bracketed a i) a i
 bracketed_form a i h l k = record {
   pieces = a ∷ (91 ∷ []) ∷ i ∷ (93 ∷ []) ∷ [];
   whole = refl;
@@ -131,13 +156,16 @@ program_field None p = None
 program_field (Some a) None = Some (Some a)
 program_field (Some a) (Some p) = Some (Some (bracketed a (procid_text p)))
 
-pub resolved : (origin app : Option Text) (process : Option (ProcId Text)) → ArePlainNames origin app process → IfSome process IsBoundedProcess → Resolves (Some origin) (program_field app process) (names origin app process)
+pub resolved : (origin app : Option Text) (process : Option (ProcId Text)) → ArePlainNames origin app process
+    → IfSome process IsBoundedProcess → Resolves (Some origin) (program_field app process) (names origin app process)
 resolved None None None h b = refl
 resolved (Some o) None None h b = inr (h, refl)
 resolved origin None (Some p) h b = absurd h
 resolved origin (Some a) None (l, e, d, n) b = inr (n, refl)
 resolved origin (Some a) (Some p) (e, h) b =
-    let (some, each) = process_chars p h b in inl (a, procid_text p, p, bracketed_form a (procid_text p) e some each, process_named p h b, refl)
+    let (some, each) =
+    process_chars p h b in inl
+    (a, procid_text p, p, bracketed_form a (procid_text p) e some each, process_named p h b, refl)
 
 pub no_tag_colon : (t : Text) → NoFront tag_word (58 ∷ t)
 no_tag_colon t [] q v e h = omega (arith, h.0)
@@ -147,54 +175,63 @@ no_tag_colon t (c ∷ p) q v e h =
     let w : true ≡ false = sym h.1.0 ∙ ap is_tag_char (sym u) ∙ f in cc
 
 -- a tag word before the colon, and the blanks behind it
-pub tagged : (w t : Text) → 0 < length w → Each is_tag_char w → w ≢ dash → Front (optional (spaced tag_word)) (32 ∷ (w ++ (58 ∷ t))) (58 ∷ t) (Some (Some w))
+pub tagged : (w t : Text) → 0 < length w → Each is_tag_char w → w ≢ dash
+    → Front (optional (spaced tag_word)) (32 ∷ (w ++ (58 ∷ t))) (58 ∷ t) (Some (Some w))
 tagged w t l e n =
-    optional_some (spaced tag_word) (spaced_front tag_word (piece_front (exactly (32 ∷ [])) (32 ∷ []) (w ++ (58 ∷ t)) tt refl) (piece_front tag_word w (58 ∷ t) (Some w) (l, e, refl, (refl, n))))
+    optional_some (spaced tag_word)
+    (spaced_front tag_word (piece_front (exactly (32 ∷ [])) (32 ∷ []) (w ++ (58 ∷ t)) tt refl)
+    (piece_front tag_word w (58 ∷ t) (Some w) (l, e, refl, (refl, n))))
 
 -- the tag field and the blanks behind it, up to the colon
-pub tag_back : (origin app : Option Text) (process : Option (ProcId Text)) (t : Text) → ArePlainNames origin app process → IfSome process IsBoundedProcess
-    → (q : Text) × Front (optional (spaced tag_word)) (32 ∷ (program_text app process ++ (58 ∷ t))) q (program_field app process) × Front (run is_blank) q (58 ∷ t) tt
+pub tag_back : (origin app : Option Text) (process : Option (ProcId Text)) (t : Text) → ArePlainNames origin app process
+    → IfSome process IsBoundedProcess
+    → (q : Text) × Front (optional (spaced tag_word)) (32 ∷ (program_text app process ++ (58 ∷ t))) q
+    (program_field app process) × Front (run is_blank) q (58 ∷ t) tt
 tag_back origin None None t h b = (
   32 ∷ 58 ∷ t,
-  optional_none (spaced tag_word) (no_spaced_piece tag_word (piece_front (exactly (32 ∷ [])) (32 ∷ []) (58 ∷ t) tt refl) (no_tag_colon t)),
+  optional_none (spaced tag_word)
+      (no_spaced_piece tag_word (piece_front (exactly (32 ∷ [])) (32 ∷ []) (58 ∷ t) tt refl) (no_tag_colon t)),
   piece_front (run is_blank) (32 ∷ []) (58 ∷ t) tt ((refl, tt), refl),
 )
 tag_back origin None (Some p) t h b = absurd h
-tag_back origin (Some a) None t (l, e, d, n) b = (58 ∷ t, tagged a t l e d, piece_front (run is_blank) [] (58 ∷ t) tt (tt, refl))
+tag_back origin (Some a) None t (l, e, d, n) b =
+    (58 ∷ t, tagged a t l e d, piece_front (run is_blank) [] (58 ∷ t) tt (tt, refl))
 tag_back origin (Some a) (Some p) t (e, h) b =
     let i = procid_text p in
     let (some, each) = process_chars p h b in
-    let long = bracketed_long a i in
-    (58 ∷ t, tagged (bracketed a i) t (omega arith) (bracketed_chars a i e each) (long_no_dash (bracketed a i) long), piece_front (run is_blank) [] (58 ∷ t) tt (tt, refl))
+    let long = bracketed_long a i in (
+      58 ∷ t,
+      tagged (bracketed a i) t (omega arith) (bracketed_chars a i e each) (long_no_dash (bracketed a i) long),
+      piece_front (run is_blank) [] (58 ∷ t) tt (tt, refl),
+    )
 
-pub host_field_back : (origin : Option Text) (q : Text) → IfSome origin IsPlainHost → Front (optional (spaced host)) (32 ∷ (name_text origin ++ (32 ∷ q))) (32 ∷ q) (Some origin)
+pub host_field_back : (origin : Option Text) (q : Text) → IfSome origin IsPlainHost
+    → Front (optional (spaced host)) (32 ∷ (name_text origin ++ (32 ∷ q))) (32 ∷ q) (Some origin)
 host_field_back origin q h =
-    optional_some (spaced host) (spaced_front host (piece_front (exactly (32 ∷ [])) (32 ∷ []) (name_text origin ++ (32 ∷ q)) tt refl) (piece_front host (name_text origin) (32 ∷ q) origin (host_back origin (32 ∷ q) h refl)))
+    optional_some (spaced host)
+    (spaced_front host (piece_front (exactly (32 ∷ [])) (32 ∷ []) (name_text origin ++ (32 ∷ q)) tt refl)
+    (piece_front host (name_text origin) (32 ∷ q) origin (host_back origin (32 ∷ q) h refl)))
 
 -- ---- the timestamp
-stamp_some : (s : OffsetTimestamp) → 0 < length (printed_stamp s.instant.nanosecond s.offset.seconds)
-stamp_some s =
-    let (c, more, digit, first) = printed_stamp-begins s in
-    elim first [ inl e ↦ (let k = ap length e in omega arith) | inr e ↦ (let k = ap length e in omega arith) ]
 
--- no blank stands before it
-pub stamp_unblank : (v : Option OffsetTimestamp) (q : Text) → Ends is_blank (timestamp_text v ++ q)
-stamp_unblank None q = refl
-stamp_unblank (Some s) q = visible_ends_blanks (timestamp_text (Some s)) q (stamp_some s) (printed_stamp-visible s)
-
-pub stamp_back : (dating : Dating) (v : Option OffsetTimestamp) (q : Text) → IfSome v IsPlainStamp → Front (loose_stamp dating) (timestamp_text v ++ (32 ∷ q)) (32 ∷ q) v
+pub stamp_back : (dating : Dating) (v : Option OffsetTimestamp) (q : Text) → IfSome v IsPlainStamp
+    → Front (loose_stamp dating) (timestamp_text v ++ (32 ∷ q)) (32 ∷ q) v
 stamp_back dating None q h = piece_front (loose_stamp dating) dash (32 ∷ q) None (inl refl)
-stamp_back dating (Some s) q h = piece_front (loose_stamp dating) (timestamp_text (Some s)) (32 ∷ q) (Some s) (inl (printed_stamp-back s h, (q, refl)))
+stamp_back dating (Some s) q h =
+    piece_front (loose_stamp dating) (timestamp_text (Some s)) (32 ∷ q) (Some s)
+    (inl (printed_stamp-back s h, (q, refl)))
 
 -- ---- the priority
 pub parts_back : (f : Option SyslogFacility) (s : Option SyslogSeverity) → IsSome f → IsSome s
-    → (f ≡ facility_of (option_map_or facility_number f 5 * 8 + option_map_or severity_number s 7)) × (s ≡ severity_of (option_map_or facility_number f 5 * 8 + option_map_or severity_number s 7))
+    → (f ≡ facility_of (option_map_or facility_number f 5 * 8 + option_map_or severity_number s 7))
+    × (s ≡ severity_of (option_map_or facility_number f 5 * 8 + option_map_or severity_number s 7))
 parts_back None s h k = absurd (let t : false ≡ true = h in cc)
 parts_back (Some f) None h k = absurd (let t : false ≡ true = k in cc)
 parts_back (Some f) (Some s) h k = (sym (facility_composed f s), sym (severity_composed f s))
 
 -- ---- the message
-module _ (rule : DashRule) (dating : Dating) (m : MessageValue) (e : m.protocol ≡ RFC3164) (b : IsBounded m) (c : IsCanonical rule m) where
+module _ (rule : DashRule) (dating : Dating) (m : MessageValue) (e : m.protocol ≡ RFC3164) (b : IsBounded m)
+    (c : IsCanonical rule m) where
   plain : IsPlain m
   plain = c.0
 
@@ -202,8 +239,19 @@ module _ (rule : DashRule) (dating : Dating) (m : MessageValue) (e : m.protocol 
   own = subst (λ (x : Protocol). IsPlainFor rule x m) e c.1
 
   abbrev values : Values (rfc3164_row rule dating)
-  values =
-      (Some (priority_of m), (tt, (m.timestamp, (Some m.hostname, (program_field m.appname m.procid, (tt, (Some tt, (tt, (list_field m.structured_data, (tt, (m.msg, tt)))))))))))
+  values = (
+    Some (priority_of m),
+    (
+      tt,
+      (
+        m.timestamp,
+        (
+          Some m.hostname,
+          (program_field m.appname m.procid, (tt, (Some tt, (tt, (list_field m.structured_data, (tt, (m.msg, tt))))))),
+        ),
+      ),
+    ),
+  )
 
   row_back : Front (Row (rfc3164_row rule dating)) (whole m (tail_text m.structured_data m.msg)) [] values
   row_back =
@@ -211,13 +259,16 @@ module _ (rule : DashRule) (dating : Dating) (m : MessageValue) (e : m.protocol 
       let u : Text = program_text m.appname m.procid ++ (58 ∷ t) in
       let y : Text = name_text m.hostname ++ (32 ∷ u) in
       let (q, tag, gap) = tag_back m.hostname m.appname m.procid t own.names b.procid in
-      row_cons (optional priority) (from_priority_end rule dating) (optional_some priority (priority_front (priority_of m) _ (priority_low m)))
-      (row_cons (run is_blank) (from_stamp rule dating) (piece_front (run is_blank) (32 ∷ []) _ tt ((refl, tt), stamp_unblank m.timestamp (32 ∷ y)))
+      row_cons (optional priority) (from_priority_end rule dating)
+      (optional_some priority (priority_front (priority_of m) _ (priority_low m)))
+      (row_cons (run is_blank) (from_stamp rule dating)
+      (piece_front (run is_blank) (32 ∷ []) _ tt ((refl, tt), stamp_unblank m.timestamp (32 ∷ y)))
       (row_cons (loose_stamp dating) (body_row rule) (stamp_back dating m.timestamp y plain.timestamp)
       (row_cons (optional (spaced host)) (from_tag rule) (host_field_back m.hostname u plain.hostname)
       (row_cons (optional (spaced tag_word)) (from_tag_end rule) tag
       (row_cons (run is_blank) (from_colon rule) gap
-      (row_cons (optional (exactly colon)) (from_blanks rule) (optional_some (exactly colon) (piece_front (exactly colon) colon t tt refl))
+      (row_cons (optional (exactly colon)) (from_blanks rule)
+      (optional_some (exactly colon) (piece_front (exactly colon) colon t tt refl))
       (body_back rule m.structured_data m.msg plain.elements own.elements plain.msg_front own.no_list)))))))
 
   means_back : m ≡ told rule dating values (names m.hostname m.appname m.procid)
@@ -243,6 +294,12 @@ module _ (rule : DashRule) (dating : Dating) (m : MessageValue) (e : m.protocol 
   pub canonical_back : IsRead3164 rule dating (printed_3164 m) m
   canonical_back = record {
     values = values;
-    division = front_division (rfc3164_row rule dating) (subst (λ (x : Text). Front (Row (rfc3164_row rule dating)) x [] values) (sym (trimmed_whole m plain.msg_end)) row_back);
-    means = (names m.hostname m.appname m.procid, resolved m.hostname m.appname m.procid own.names b.procid, means_back);
+    division = front_division (rfc3164_row rule dating)
+        (subst (λ (x : Text). Front (Row (rfc3164_row rule dating)) x [] values)
+        (sym (trimmed_whole m plain.msg_end)) row_back);
+    means = (
+      names m.hostname m.appname m.procid,
+      resolved m.hostname m.appname m.procid own.names b.procid,
+      means_back,
+    );
   }

@@ -2,51 +2,48 @@
 use Rattle.std.proofs.Common.{ℕ, ◌≤◌, ◌<◌, [], ◌∷◌, inl, arith, map, subst, sym}
 use Rattle.std.proofs.lemmas.Option.{slice_get_within}
 use Rattle.std.specs.Char.{to_ascii_lowercase}
-use Rattle.syslog_pieces.specs.Pieces.Class.{Text, Values, Front, Row, run, some_run, rest, exactly, optional}
+use Rattle.syslog_pieces.specs.Pieces.Class.{Text, Values, Front, Row, run, some_run, rest, optional}
 use Rattle.syslog_pieces.specs.Pri.{priority}
-use Rattle.syslog_pieces.specs.Text.{is_blank, colon}
+use Rattle.syslog_pieces.specs.Text.{is_blank}
 use Rattle.syslog_pieces.specs.Timestamp.Loose.{showing_row, ShowsYearless, ShowsMonthDate}
-use Rattle.syslog_pieces.specs.Timestamp.MonthDate.{month_names, IsMonthName, month, short_number, clock_row, yearless_row, yearless_of, yearless_date, month_date}
+use Rattle.syslog_pieces.specs.Timestamp.MonthDate.{month_names, IsMonthName, month, short_number, clock_row}
+use Rattle.syslog_pieces.specs.Timestamp.MonthDate.{yearless_row, yearless_of, yearless_date, month_date}
 use Rattle.syslog_pieces.specs.declared.timestamp.month_date.MonthDate.{MonthDate}
 use Rattle.syslog_pieces.proofs.PieceLemmas.Class.{division_front, front_division, row_cons, row_head}
 use Rattle.syslog_loose.specs.Reading.{incomplete, HasMonth}
+use Rattle.syslog_pieces.proofs.PieceLemmas.Rows.{row_pieces}
 
 month_range : (p : Text) (n : ℕ) → IsMonthName p n → (1 ≤ n) × (n ≤ 12)
 month_range p n (before, e, at) =
     let within : before < 12 = slice_get_within month_names before (map to_ascii_lowercase p) at in
     (omega arith, omega arith)
 
-row_has_month : {t q : Text} (vs : Values yearless_row) → Front (Row yearless_row) t q vs → HasMonth (incomplete (yearless_of vs))
+row_has_month : {t q : Text} (vs : Values yearless_row) → Front (Row yearless_row) t q vs
+    → HasMonth (incomplete (yearless_of vs))
 row_has_month vs f =
-    let f1 = row_head month (some_run is_blank ∷ short_number ∷ some_run is_blank ∷ clock_row) f in
-    let f2 = row_head (some_run is_blank) (short_number ∷ some_run is_blank ∷ clock_row) f1.2 in
-    let f3 = row_head short_number (some_run is_blank ∷ clock_row) f2.2 in
-    let f4 = row_head (some_run is_blank) clock_row f3.2 in
-    let f5 = row_head short_number (exactly colon ∷ short_number ∷ exactly colon ∷ short_number ∷ optional (exactly colon) ∷ []) f4.2 in
-    let f6 = row_head (exactly colon) (short_number ∷ exactly colon ∷ short_number ∷ optional (exactly colon) ∷ []) f5.2 in
-    let f7 = row_head short_number (exactly colon ∷ short_number ∷ optional (exactly colon) ∷ []) f6.2 in
-    let f8 = row_head (exactly colon) (short_number ∷ optional (exactly colon) ∷ []) f7.2 in
-    let f9 = row_head short_number (optional (exactly colon) ∷ []) f8.2 in
-    let m = month_range f1.1.piece vs.0 f1.1.is in
-    let day = f3.1.is.4 in
-    let hour = f5.1.is.4 in
-    let minute = f7.1.is.4 in
-    let second = f9.1.is.4 in
+    let (_, f1, more) = row_pieces (month ∷ some_run is_blank ∷ short_number ∷ some_run is_blank ∷ clock_row) f in
+    let (_, _, (_, f3, (_, _, (_, f5, (_, _, (_, f7, (_, _, (_, f9, _)))))))) = more in
+    let m = month_range f1.piece vs.0 f1.is in
+    let day = f3.is.4 in
+    let hour = f5.is.4 in
+    let minute = f7.is.4 in
+    let second = f9.is.4 in
     (m.0, m.1, omega arith, omega arith, omega arith, omega arith)
 
 pub shown_has_month : (text : Text) (d : MonthDate) → ShowsYearless text d → HasMonth (incomplete d)
 shown_has_month text d (p, more, division) =
-    let f1 = row_head (optional priority) (run is_blank ∷ yearless_date ∷ rest ∷ []) (division_front (showing_row yearless_date) division) in
-    let f2 = row_head (run is_blank) (yearless_date ∷ rest ∷ []) f1.2 in
-    let f3 = row_head yearless_date (rest ∷ []) f2.2 in
-    let (vs, h, e) = f3.1.is in
-    let row : Front (Row yearless_row) f2.0 f3.0 vs = record { piece = f3.1.piece; whole = f3.1.whole; is = h } in
+    let (_, _, more) = row_pieces (showing_row yearless_date) (division_front (showing_row yearless_date) division) in
+    let (t2, _, (t3, f3, _)) = more in
+    let (vs, h, e) = f3.is in
+    let row : Front (Row yearless_row) t2 t3 vs = record { piece = f3.piece; whole = f3.whole; is = h } in
     subst (λ (x : MonthDate). HasMonth (incomplete x)) (sym e) (row_has_month vs row)
 
 -- a date without a year is a month date
 pub shows_month_date : (text : Text) (d : MonthDate) → ShowsYearless text d → ShowsMonthDate text d
 shows_month_date text d (p, more, division) =
-    let f1 = row_head (optional priority) (run is_blank ∷ yearless_date ∷ rest ∷ []) (division_front (showing_row yearless_date) division) in
+    let f1 =
+    row_head (optional priority) (run is_blank ∷ yearless_date ∷ rest ∷ [])
+    (division_front (showing_row yearless_date) division) in
     let f2 = row_head (run is_blank) (yearless_date ∷ rest ∷ []) f1.2 in
     let f3 = row_head yearless_date (rest ∷ []) f2.2 in
     let date : Front month_date f2.0 f3.0 d = record { piece = f3.1.piece; whole = f3.1.whole; is = inl f3.1.is } in (

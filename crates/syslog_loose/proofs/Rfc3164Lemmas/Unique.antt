@@ -1,39 +1,39 @@
 -- A text has one division into the pieces of RFC 3164, and is read as one message.
 use Rattle.std.specs.Option.{option_and_then}
-use Rattle.std.proofs.Common.{◌≡◌, None, sym, ap, subst, ◌∙◌}
-use Rattle.syslog_pieces.specs.Pieces.Class.{Text, Values, exactly, spaced}
+use Rattle.std.proofs.Common.{◌≡◌, None, sym, ap, subst, ◌∙◌, ◌∷◌, []}
+use Rattle.syslog_pieces.specs.Pieces.Class.{Text, Values, exactly, spaced, run, rest, optional}
 use Rattle.syslog_pieces.specs.Pri.{priority, facility_of, severity_of}
 use Rattle.syslog_pieces.specs.StructuredData.Listed.{listed, elements_or}
 use Rattle.syslog_pieces.specs.Text.{is_blank, colon, host, tag_word}
 use Rattle.syslog_pieces.specs.Timestamp.Zone.{Dating}
 use Rattle.syslog_pieces.specs.declared.structured_data.listed.DashRule.{DashRule}
-use Rattle.syslog_pieces.proofs.PieceLemmas.Class.{AllDeterministic, unique_division, optional_det, exactly_det, run_det, rest_det, spaced_det}
+use Rattle.syslog_pieces.proofs.PieceLemmas.Class.{AllDeterministic, unique_division, optional_det, exactly_det}
+use Rattle.syslog_pieces.proofs.PieceLemmas.Class.{run_det, rest_det, spaced_det, ◌also◌, all_joined}
 use Rattle.syslog_pieces.proofs.PriLemmas.{priority_det}
 use Rattle.syslog_pieces.proofs.StructuredDataLemmas.Listed.{listed_det}
 use Rattle.syslog_pieces.proofs.TextLemmas.Words.{host_det, tag_word_det}
 use Rattle.syslog_pieces.proofs.TimestampLemmas.Loose.{loose_stamp_det}
 use Rattle.syslog_loose.specs.Message.{MessageValue}
 use Rattle.syslog_loose.specs.declared.message.Protocol.TheVariants.{RFC3164}
-use Rattle.syslog_loose.specs.Rfc3164.{Names3164, body_row, rfc3164_row, Means3164, IsRead3164}
+use Rattle.syslog_loose.specs.Rfc3164.{Names3164, fields_row, stamped_row, body_row, rfc3164_row, Means3164, IsRead3164}
 use Rattle.syslog_loose.proofs.Rfc3164Lemmas.{resolves_once}
 
+pub fields_det : AllDeterministic fields_row
+fields_det =
+    optional_det (spaced host) (spaced_det host host_det)
+    also optional_det (spaced tag_word) (spaced_det tag_word tag_word_det)
+    also run_det is_blank also optional_det (exactly colon) (exactly_det colon) also run_det is_blank also tt
+
+pub stamped_det : (dating : Dating) → AllDeterministic (stamped_row dating)
+stamped_det dating = optional_det priority priority_det also run_det is_blank also loose_stamp_det dating also tt
+
 pub body_det : (rule : DashRule) → AllDeterministic (body_row rule)
-body_det rule = (
-  optional_det (spaced host) (spaced_det host host_det),
-  (
-    optional_det (spaced tag_word) (spaced_det tag_word tag_word_det),
-    (
-      run_det is_blank,
-      (
-        optional_det (exactly colon) (exactly_det colon),
-        (run_det is_blank, (optional_det (listed rule) (listed_det rule), (run_det is_blank, (rest_det, tt)))),
-      ),
-    ),
-  ),
-)
+body_det rule =
+    all_joined fields_row (optional (listed rule) ∷ run is_blank ∷ rest ∷ []) fields_det
+    (optional_det (listed rule) (listed_det rule) also run_det is_blank also rest_det also tt)
 
 pub rfc3164_det : (rule : DashRule) (dating : Dating) → AllDeterministic (rfc3164_row rule dating)
-rfc3164_det rule dating = (optional_det priority priority_det, (run_det is_blank, (loose_stamp_det dating, body_det rule)))
+rfc3164_det rule dating = all_joined (stamped_row dating) (body_row rule) (stamped_det dating) (body_det rule)
 
 -- the message of these pieces, with these names
 abbrev pub told : (rule : DashRule) (dating : Dating) → Values (rfc3164_row rule dating) → Names3164 → MessageValue
@@ -51,12 +51,15 @@ told rule dating (pri, (_, (stamp, (_, (_, (_, (_, (_, (es, (_, (m, _)))))))))))
 }
 
 -- pieces mean one message
-means_once : (rule : DashRule) (dating : Dating) (vs : Values (rfc3164_row rule dating)) (m n : MessageValue) → Means3164 rule dating vs m → Means3164 rule dating vs n → m ≡ n
+means_once : (rule : DashRule) (dating : Dating) (vs : Values (rfc3164_row rule dating)) (m n : MessageValue)
+    → Means3164 rule dating vs m → Means3164 rule dating vs n → m ≡ n
 means_once rule dating vs m n (x, h, e) (y, k, f) =
     e ∙ ap (told rule dating vs) (resolves_once vs.1.1.1.0 vs.1.1.1.1.0 x y h k) ∙ sym f
 
 -- a text is read as one message
-pub one_message : (rule : DashRule) (dating : Dating) (text : Text) (m n : MessageValue) → IsRead3164 rule dating text m → IsRead3164 rule dating text n → m ≡ n
+pub one_message : (rule : DashRule) (dating : Dating) (text : Text) (m n : MessageValue) → IsRead3164 rule dating text m
+    → IsRead3164 rule dating text n → m ≡ n
 one_message rule dating text m n r s =
     let same = (unique_division (rfc3164_row rule dating) (rfc3164_det rule dating) r.division s.division).1 in
-    means_once rule dating s.values m n (subst (λ (vs : Values (rfc3164_row rule dating)). Means3164 rule dating vs m) same r.means) s.means
+    means_once rule dating s.values m n
+    (subst (λ (vs : Values (rfc3164_row rule dating)). Means3164 rule dating vs m) same r.means) s.means

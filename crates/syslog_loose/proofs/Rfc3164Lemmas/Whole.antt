@@ -1,11 +1,10 @@
 -- The printed text of a message of RFC 3164, cut at the colon behind the names, and what trimming leaves of it.
-use Rattle.std.proofs.Common.{◌≡◌, List, [], ◌∷◌, ◌++◌, Option, Some, None, refl, sym, ap, subst, ◌∙◌, append_assoc, append-nil}
+use Rattle.std.proofs.Common.{◌≡◌, List, [], ◌∷◌, ◌++◌, Option, Some, None, refl, sym, ap, ◌∙◌, append_assoc}
 use Rattle.std.specs.Fmt.{decimal}
-use Rattle.std.specs.List.{flat_map}
 use Rattle.std.specs.Str.{drop_trailing_whitespace}
 use Rattle.syslog_pieces.specs.Pieces.Class.{Text}
 use Rattle.syslog_pieces.specs.ProcId.{procid_text}
-use Rattle.syslog_pieces.specs.StructuredData.Element.{ElementValue, param_text, element_text, joined_elements}
+use Rattle.syslog_pieces.specs.StructuredData.Element.{ElementValue, joined_elements}
 use Rattle.syslog_pieces.specs.Text.{trimmed}
 use Rattle.syslog_pieces.specs.declared.procid.ProcId.{ProcId}
 use Rattle.syslog_loose.specs.Canonical.{EndsVisibly}
@@ -13,7 +12,7 @@ pub use Rattle.syslog_loose.specs.Jumps.{tail_text}
 pub use Rattle.syslog_loose.specs.KeptLoose.{bracketed, program_text}
 use Rattle.syslog_loose.specs.Message.{MessageValue}
 use Rattle.syslog_loose.specs.Printed.{timestamp_text, name_text, tag_text, spaced_elements, priority_of, printed_3164}
-use Rattle.syslog_loose.proofs.TrimLemmas.{LastVisible, last_append, drop_after, message_end_is}
+use Rattle.syslog_loose.proofs.TrimLemmas.{joined_last, LastVisible, last_append, drop_after, message_end_is}
 
 -- what stands behind the colon and its space
 abbrev pub body_text : List ElementValue → Text → Text
@@ -26,13 +25,16 @@ whole m q =
     60 ∷ (decimal (priority_of m) ++ (62 ∷ 32 ∷ (timestamp_text m.timestamp ++ (32 ∷ (name_text m.hostname
     ++ (32 ∷ (program_text m.appname m.procid ++ (58 ∷ q))))))))
 
-tag_is : (app : Option Text) (process : Option (ProcId Text)) (r : Text) → tag_text app process ++ r ≡ program_text app process ++ (58 ∷ 32 ∷ r)
+tag_is : (app : Option Text) (process : Option (ProcId Text)) (r : Text)
+    → tag_text app process ++ r ≡ program_text app process ++ (58 ∷ 32 ∷ r)
 tag_is None p r = refl
 tag_is (Some a) None r = append_assoc a (58 ∷ 32 ∷ []) r
 tag_is (Some a) (Some p) r =
     let i = procid_text p in
-    append_assoc a (91 ∷ (i ++ (93 ∷ 58 ∷ 32 ∷ []))) r ∙ ap (λ (x : Text). a ++ (91 ∷ x)) (append_assoc i (93 ∷ 58 ∷ 32 ∷ []) r)
-    ∙ sym (append_assoc a (91 ∷ (i ++ (93 ∷ []))) (58 ∷ 32 ∷ r) ∙ ap (λ (x : Text). a ++ (91 ∷ x)) (append_assoc i (93 ∷ []) (58 ∷ 32 ∷ r)))
+    append_assoc a (91 ∷ (i ++ (93 ∷ 58 ∷ 32 ∷ []))) r
+    ∙ ap (λ (x : Text). a ++ (91 ∷ x)) (append_assoc i (93 ∷ 58 ∷ 32 ∷ []) r)
+    ∙ sym (append_assoc a (91 ∷ (i ++ (93 ∷ []))) (58 ∷ 32 ∷ r)
+    ∙ ap (λ (x : Text). a ++ (91 ∷ x)) (append_assoc i (93 ∷ []) (58 ∷ 32 ∷ r)))
 
 body_is : (es : List ElementValue) (msg : Text) → spaced_elements es ++ msg ≡ body_text es msg
 body_is [] msg = refl
@@ -41,8 +43,10 @@ body_is (e ∷ es) msg = append_assoc (joined_elements (e ∷ es)) (32 ∷ []) m
 pub printed_whole : (m : MessageValue) → printed_3164 m ≡ whole m (32 ∷ body_text m.structured_data m.msg)
 unfolding printed_3164
 printed_whole m =
-    ap (λ (x : Text). 60 ∷ (decimal (priority_of m) ++ (62 ∷ 32 ∷ (timestamp_text m.timestamp ++ (32 ∷ (name_text m.hostname ++ (32 ∷ x)))))))
-    (tag_is m.appname m.procid (spaced_elements m.structured_data ++ m.msg) ∙ ap (λ (x : Text). program_text m.appname m.procid ++ (58 ∷ 32 ∷ x)) (body_is m.structured_data m.msg))
+    ap (λ (x : Text). 60 ∷ (decimal (priority_of m) ++ (62 ∷ 32 ∷
+    (timestamp_text m.timestamp ++ (32 ∷ (name_text m.hostname ++ (32 ∷ x)))))))
+    (tag_is m.appname m.procid (spaced_elements m.structured_data ++ m.msg)
+    ∙ ap (λ (x : Text). program_text m.appname m.procid ++ (58 ∷ 32 ∷ x)) (body_is m.structured_data m.msg))
 
 -- ---- trimming
 whole_is : (m : MessageValue) (q : Text) → whole m [] ++ q ≡ whole m q
@@ -57,22 +61,19 @@ whole_last m =
     (last_append (32 ∷ name_text m.hostname) program
     (last_append (32 ∷ program_text m.appname m.procid) (58 ∷ []) refl)))
 
-element_last : (e : ElementValue) → LastVisible (element_text e)
-element_last e =
-    last_append (91 ∷ e.id) (flat_map param_text e.params ++ (93 ∷ [])) (last_append (flat_map param_text e.params) (93 ∷ []) refl)
-
-elements_last : (e : ElementValue) (es : List ElementValue) → LastVisible (joined_elements (e ∷ es))
-elements_last e [] = subst LastVisible (sym (append-nil (element_text e))) (element_last e)
-elements_last e (f ∷ es) = last_append (element_text e) (joined_elements (f ∷ es)) (elements_last f es)
-
-tail_is : (es : List ElementValue) (msg : Text) → EndsVisibly msg → drop_trailing_whitespace (32 ∷ body_text es msg) ≡ tail_text es msg
+tail_is : (es : List ElementValue) (msg : Text) → EndsVisibly msg
+    → drop_trailing_whitespace (32 ∷ body_text es msg) ≡ tail_text es msg
 tail_is [] msg h = message_end_is msg h
 tail_is (e ∷ es) msg h =
-    drop_after (32 ∷ joined_elements (e ∷ es)) (32 ∷ msg) (last_append (32 ∷ []) (joined_elements (e ∷ es)) (elements_last e es))
+    drop_after (32 ∷ joined_elements (e ∷ es)) (32 ∷ msg)
+    (last_append (32 ∷ []) (joined_elements (e ∷ es)) (joined_last e es))
     ∙ ap (λ (x : Text). 32 ∷ (joined_elements (e ∷ es) ++ x)) (message_end_is msg h)
 
-pub trimmed_whole : (m : MessageValue) → EndsVisibly m.msg → trimmed (printed_3164 m) ≡ whole m (tail_text m.structured_data m.msg)
+pub trimmed_whole : (m : MessageValue) → EndsVisibly m.msg
+    → trimmed (printed_3164 m) ≡ whole m (tail_text m.structured_data m.msg)
 trimmed_whole m h =
     let tail : Text = 32 ∷ body_text m.structured_data m.msg in
-    ap trimmed (printed_whole m) ∙ ap drop_trailing_whitespace (sym (whole_is m tail)) ∙ drop_after (whole m []) tail (whole_last m)
-    ∙ ap (λ (x : Text). whole m [] ++ x) (tail_is m.structured_data m.msg h) ∙ whole_is m (tail_text m.structured_data m.msg)
+    ap trimmed (printed_whole m) ∙ ap drop_trailing_whitespace (sym (whole_is m tail))
+    ∙ drop_after (whole m []) tail (whole_last m)
+    ∙ ap (λ (x : Text). whole m [] ++ x) (tail_is m.structured_data m.msg h)
+    ∙ whole_is m (tail_text m.structured_data m.msg)

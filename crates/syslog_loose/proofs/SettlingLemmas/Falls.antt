@@ -5,7 +5,7 @@ use Rattle.std.proofs.lemmas.List.{length-append}
 use Rattle.std.specs.Char.{is_not_whitespace}
 use Rattle.std.specs.List.{AllByRecursion}
 use Rattle.std.specs.Option.{option_map_or, option_and_then}
-use Rattle.syslog_pieces.specs.Pieces.Class.{Text, Values, Front, NoFront, Row, Ends, run, exactly, rest, optional, spaced}
+use Rattle.syslog_pieces.specs.Pieces.Class.{Text, Values, Front, NoFront, Row, Ends, run, exactly, optional, spaced}
 use Rattle.syslog_pieces.specs.Pri.{priority, facility_number, severity_number, facility_of, severity_of}
 use Rattle.syslog_pieces.specs.StructuredData.Element.{ElementValue}
 use Rattle.syslog_pieces.specs.StructuredData.Listed.{IsListed, BeginsNoList, listed, elements_or}
@@ -38,14 +38,15 @@ use Rattle.syslog_loose.proofs.Rfc3164Lemmas.Bounded.{read_bounded}
 use Rattle.syslog_loose.proofs.Rfc3164Lemmas.Exact.{stamp_low}
 use Rattle.syslog_loose.proofs.Rfc3164Lemmas.Near.{read_near}
 use Rattle.syslog_loose.proofs.Rfc3164Lemmas.Printed.{printed_is}
-use Rattle.syslog_loose.proofs.Rfc3164Lemmas.ReadBack.{list_field, list_same, body_back, stamp_unblank, stamp_back}
+use Rattle.syslog_loose.proofs.Rfc3164Lemmas.ReadBack.{list_field, list_same, body_back, stamp_back}
 use Rattle.syslog_loose.proofs.Rfc3164Lemmas.Rows.{from_gap, from_list, from_blanks, from_colon, from_tag_end, from_tag, from_stamp, from_priority_end}
 use Rattle.syslog_loose.proofs.Rfc3164Lemmas.Unique.{body_det, told}
 use Rattle.syslog_loose.proofs.Rfc3164Lemmas.Whole.{program_text, whole, tail_text, trimmed_whole}
 use Rattle.syslog_loose.proofs.SettlingLemmas.Costs.{free, at_most, bare_zero}
 use Rattle.syslog_loose.proofs.SettlingLemmas.Names.{move, same_values, no_blanks, msg_read, names_text, Kept, Moved, names_step}
 use Rattle.syslog_loose.proofs.SettlingLemmas.NoList.{no_list_digit}
-use Rattle.syslog_loose.proofs.TrimLemmas.{message_end, message_blanks}
+use Rattle.syslog_loose.proofs.TrimLemmas.{message_end, message_blanks, stamp_unblank}
+use Rattle.syslog_pieces.proofs.PieceLemmas.Rows.{row_pieces}
 
 -- ---- elements and the message behind the colon: read as the same, or as a lighter message
 
@@ -81,13 +82,11 @@ module _ (es : List ElementValue) (msg : Text) (h : AllByRecursion IsPlainElemen
   end_taken : (BeginsNoList BeforeBlank msg → ⊥) → w ≡ length msg → Front (Row (from_blanks BeforeBlank)) (message_end msg) [] vs → v < w
   end_taken n l d =
       let d1 = move (run is_blank) (from_list BeforeBlank) (run_det is_blank) (message_end msg) msg tt vs (message_blanks msg b) d in
-      let g1 = row_head (optional (listed BeforeBlank)) from_gap d1.1 in
-      let g2 = row_head (run is_blank) (rest ∷ []) g1.2 in
-      let g3 = row_head rest [] g2.2 in
-      let a1 = taken_shorter msg g1.0 vs.1.0 g1.1 n in
-      let a2 = front_longer (run is_blank) g2.1 in
+      let (t1, g1, (_, g2, (t3, g3, _))) = row_pieces (optional (listed BeforeBlank) ∷ from_gap) d1.1 in
+      let a1 = taken_shorter msg t1 vs.1.0 g1 n in
+      let a2 = front_longer (run is_blank) g2 in
       let a3 = at_most (Clause (elements_or vs.1.0) vs.1.1.1.0) (length vs.1.1.1.0) v c in
-      omega (arith, ap length g3.1.is.1, ap length g3.1.whole, length-append g3.1.piece g3.0)
+      omega (arith, ap length g3.is.1, ap length g3.whole, length-append g3.piece t3)
 
 end_step : (es : List ElementValue) (msg : Text) → AllByRecursion IsPlainElement es → AllByRecursion (λ e. 0 < length e.params) es → Ends is_blank msg → (vs : Values (from_blanks BeforeBlank)) (w v : ℕ)
     → Costs (Clause es msg) (length msg) w → Costs (Clause (elements_or vs.1.0) vs.1.1.1.0) (length vs.1.1.1.0) v → Front (Row (from_blanks BeforeBlank)) (tail_text es msg) [] vs → EndStep es msg vs w v

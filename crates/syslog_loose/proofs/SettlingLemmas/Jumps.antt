@@ -14,8 +14,7 @@ use Rattle.syslog_pieces.specs.Timestamp.Zone.{Dating}
 use Rattle.syslog_pieces.specs.declared.procid.ProcId.{ProcId}
 use Rattle.syslog_pieces.specs.declared.structured_data.listed.DashRule.TheVariants.{BeforeBlank}
 use Rattle.syslog_pieces.specs.declared.timestamp.OffsetTimestamp.{OffsetTimestamp}
-use Rattle.syslog_pieces.proofs.PieceLemmas.Meets.{nil_front}
-use Rattle.syslog_pieces.proofs.PieceLemmas.Class.{row_cons, row_head, division_front, front_division, optional_some}
+use Rattle.syslog_pieces.proofs.PieceLemmas.Class.{row_cons, row_head, division_front, front_division, optional_some, nil_front}
 use Rattle.syslog_pieces.proofs.PieceLemmas.Steps.{piece_front}
 use Rattle.syslog_loose.specs.Canonical.{IsVisible, IsBoundedProcess, ArePlainNames}
 use Rattle.syslog_loose.specs.Jumps.{colons_before, message_end, tail_text, past_colons, EndsColons, HasNoNameMiss, IsDashed, PassesDashes, with_msg}
@@ -32,9 +31,11 @@ use Rattle.syslog_loose.specs.declared.variant.Variant.TheVariants as variants
 use Rattle.syslog_loose.proofs.PriorityLemmas.{priority_low, priority_front, priority_small}
 use Rattle.syslog_loose.proofs.Rfc3164Lemmas.Bounded.{read_bounded}
 use Rattle.syslog_loose.proofs.Rfc3164Lemmas.Misses.{plain_host, plain_names}
-use Rattle.syslog_loose.proofs.Rfc3164Lemmas.Near.{read_near, each_front}
+use Rattle.syslog_pieces.proofs.PieceLemmas.Each.{each_front}
+use Rattle.syslog_loose.proofs.Rfc3164Lemmas.Near.{read_near}
 use Rattle.syslog_loose.proofs.Rfc3164Lemmas.Printed.{printed_is, printed_apart}
-use Rattle.syslog_loose.proofs.Rfc3164Lemmas.ReadBack.{stamp_back, stamp_unblank, program_field, resolved, tag_back, host_field_back, gap_back}
+use Rattle.syslog_loose.proofs.TrimLemmas.{stamp_unblank}
+use Rattle.syslog_loose.proofs.Rfc3164Lemmas.ReadBack.{stamp_back, program_field, resolved, tag_back, host_field_back, gap_back}
 use Rattle.syslog_loose.proofs.Rfc3164Lemmas.Rows.{from_gap, from_list, from_blanks, from_colon, from_tag_end, from_tag, from_stamp, from_priority_end}
 use Rattle.syslog_loose.proofs.Rfc3164Lemmas.Whole.{program_text, whole, trimmed_whole}
 use Rattle.syslog_loose.proofs.SettlingLemmas.Costs.{colons_last}
@@ -109,7 +110,7 @@ no_form_colon h (front, e) vs d =
     let g2 = row_head (exactly (91 ∷ [])) (texted (some_run is_open_char) ∷ exactly (93 ∷ []) ∷ []) g1.2 in
     let g3 = row_head (texted (some_run is_open_char)) (exactly (93 ∷ []) ∷ []) g2.2 in
     let g4 = row_head (exactly (93 ∷ [])) [] g3.2 in
-    let last : g3.0 ≡ 93 ∷ [] = g4.1.whole ∙ ap (λ (x : Text). x ++ g4.0) g4.1.is ∙ ap (λ (x : Text). 93 ∷ x) (nil_front g4.0 [] g4.2) in
+    let last : g3.0 ≡ 93 ∷ [] = g4.1.whole ∙ ap (λ (x : Text). x ++ g4.0) g4.1.is ∙ ap (λ (x : Text). 93 ∷ x) (nil_front g4.2) in
     let w : h ≡ (g1.1.piece ++ (g2.1.piece ++ g3.1.piece)) ++ (93 ∷ []) =
     g1.1.whole ∙ ap (λ (x : Text). g1.1.piece ++ x) (g2.1.whole ∙ ap (λ (x : Text). g2.1.piece ++ x) (g3.1.whole ∙ ap (λ (x : Text). g3.1.piece ++ x) last) ∙ sym (append_assoc g2.1.piece g3.1.piece (93 ∷ [])))
     ∙ sym (append_assoc g1.1.piece (g2.1.piece ++ g3.1.piece) (93 ∷ [])) in

@@ -26,8 +26,9 @@ use Rattle.syslog_loose.specs.Rfc3164.{Names3164, Resolves, body_row, rfc3164_ro
 use Rattle.syslog_loose.specs.Settling.{Costs, ColonsCost, NamesWeigh, Weighs}
 use Rattle.syslog_loose.proofs.Rfc3164Lemmas.Exact.{dash_is_no_more, program_host, program_process, HoldsNoText, process_of}
 use Rattle.syslog_loose.proofs.Rfc3164Lemmas.Near.{TagField, tag_field}
-use Rattle.syslog_loose.proofs.Rfc3164Lemmas.Rows.{from_gap, from_list, from_blanks, from_colon, from_tag_end, from_tag, from_stamp, from_priority_end}
+use Rattle.syslog_loose.proofs.Rfc3164Lemmas.Rows.{from_colon, from_tag_end, from_tag, from_stamp, from_priority_end}
 use Rattle.syslog_loose.proofs.SettlingLemmas.Costs.{free, at_most, ends_long, ends_colon, bare_zero, bare_one}
+use Rattle.syslog_pieces.proofs.PieceLemmas.Rows.{row_pieces}
 
 -- ---- lengths
 front_length : (C : Class) {t q : Text} {v : C.Value} (f : Front C t q v) → length t ≡ length f.piece + length q
@@ -133,19 +134,14 @@ names_light t q r (Some (Some x)) u n w f g m y = let a = text_light q x u n w (
 -- ---- the message
 msg_size : (rule : DashRule) (t : Text) (vs : Values (from_tag_end rule)) → Front (Row (from_tag_end rule)) t [] vs → length vs.1.1.1.1.1.0 ≤ length t
 msg_size rule t vs f =
-    let g6 = row_head (run is_blank) (from_colon rule) f in
-    let g7 = row_head (optional (exactly colon)) (from_blanks rule) g6.2 in
-    let g8 = row_head (run is_blank) (from_list rule) g7.2 in
-    let g9 = row_head (optional (listed rule)) from_gap g8.2 in
-    let g10 = row_head (run is_blank) (rest ∷ []) g9.2 in
-    let g11 = row_head rest [] g10.2 in
-    let a6 = front_longer (run is_blank) g6.1 in
-    let a7 = front_longer (optional (exactly colon)) g7.1 in
-    let a8 = front_longer (run is_blank) g8.1 in
-    let a9 = front_longer (optional (listed rule)) g9.1 in
-    let a10 = front_longer (run is_blank) g10.1 in
-    let a11 = front_length rest g11.1 in
-    omega (arith, ap length g11.1.is.1)
+    let (_, g6, (_, g7, (_, g8, (_, g9, (_, g10, (_, g11, _)))))) = row_pieces (run is_blank ∷ from_colon rule) f in
+    let a6 = front_longer (run is_blank) g6 in
+    let a7 = front_longer (optional (exactly colon)) g7 in
+    let a8 = front_longer (run is_blank) g8 in
+    let a9 = front_longer (optional (listed rule)) g9 in
+    let a10 = front_longer (run is_blank) g10 in
+    let a11 = front_length rest g11 in
+    omega (arith, ap length g11.is.1)
 
 body_light : (rule : DashRule) (t : Text) (vs : Values (body_row rule)) (n : Names3164) (a b : ℕ) → Front (Row (body_row rule)) t [] vs → Resolves vs.0 vs.1.0 n
     → NamesWeigh n.hostname n.procid a → b ≤ length vs.1.1.1.1.1.1.1.0 → a + b ≤ length t

@@ -23,8 +23,8 @@ use Rattle.syslog_loose.specs.Settling.{Costs, ColonsCost, NamesWeigh}
 use Rattle.syslog_loose.specs.TagForm.{form_row, IsNoForm}
 use Rattle.syslog_loose.proofs.Rfc3164Lemmas.{resolves_once}
 use Rattle.syslog_loose.proofs.Rfc3164Lemmas.Misses.{no_colon_names, plain_names}
-use Rattle.syslog_loose.proofs.Rfc3164Lemmas.Near.{each_both, each_left, each_right, each_front, each_behind}
-use Rattle.syslog_loose.proofs.Rfc3164Lemmas.ReadBack.{each_append, program_field, resolved, no_tag_colon, tagged, tag_back, host_field_back}
+use Rattle.syslog_pieces.proofs.PieceLemmas.Each.{each_both, each_left, each_right, each_front, each_behind, each_append}
+use Rattle.syslog_loose.proofs.Rfc3164Lemmas.ReadBack.{program_field, resolved, no_tag_colon, tagged, tag_back, host_field_back}
 use Rattle.syslog_loose.proofs.Rfc3164Lemmas.Rows.{from_gap, from_list, from_blanks, from_colon, from_tag_end, from_tag}
 use Rattle.syslog_loose.proofs.Rfc3164Lemmas.Unique.{body_det}
 use Rattle.syslog_loose.proofs.Rfc3164Lemmas.Whole.{program_text}

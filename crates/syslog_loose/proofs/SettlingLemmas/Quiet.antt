@@ -30,7 +30,7 @@ use Rattle.syslog_loose.proofs.Rfc3164Lemmas.Apart.{shown_apart}
 use Rattle.syslog_loose.proofs.Rfc3164Lemmas.Exact.{stamp_low}
 use Rattle.syslog_loose.proofs.Rfc3164Lemmas.Near.{read_near}
 use Rattle.syslog_loose.proofs.Rfc3164Lemmas.Printed.{printed_is}
-use Rattle.syslog_loose.proofs.Rfc3164Lemmas.ReadBack.{stamp_unblank}
+use Rattle.syslog_loose.proofs.TrimLemmas.{stamp_unblank}
 use Rattle.syslog_loose.proofs.Rfc3164Lemmas.Shown.{shows_month_date}
 use Rattle.syslog_loose.proofs.Rfc3164Lemmas.Whole.{program_text, whole, tail_text, trimmed_whole}
 use Rattle.syslog_loose.proofs.Rfc5424Lemmas.ReadBack as rfc5424

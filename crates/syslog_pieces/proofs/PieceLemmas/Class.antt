@@ -1,7 +1,9 @@
 -- One text has one front of each class, and so one division into a row.
 use Rattle.std.proofs.Common.{◌≡◌, ℕ, Bool, List, [], ◌∷◌, ◌++◌, Some, None, refl, sym, ap, subst, ◌∙◌, append_assoc}
 use Rattle.std.proofs.lemmas.List.{append_cancel_left, append-nil}
-use Rattle.syslog_pieces.specs.Pieces.Class.{Text, Class, Front, NoFront, IsDeterministic, join, Values, Divides, Row, Division, NoDivision, Each, Ends, run, some_run, exactly, rest, optional, mapped, texted, spaced}
+use Rattle.syslog_pieces.specs.Pieces.Class.{Text, Class, Front, NoFront, IsDeterministic, join, Values, Divides, Row}
+use Rattle.syslog_pieces.specs.Pieces.Class.{Division, NoDivision, Each, Ends, run, some_run, exactly, rest, optional}
+use Rattle.syslog_pieces.specs.Pieces.Class.{mapped, texted, spaced}
 
 -- ---- texts
 
@@ -24,7 +26,8 @@ heads x y xs ys e = cc
 -- ---- runs
 
 -- a text has one maximal run at its front
-pub run_same : (test : ℕ → Bool) (w q w' q' : Text) → w ++ q ≡ w' ++ q' → Each test w → Ends test q → Each test w' → Ends test q' → w ≡ w'
+pub run_same : (test : ℕ → Bool) (w q w' q' : Text) → w ++ q ≡ w' ++ q' → Each test w → Ends test q → Each test w'
+    → Ends test q' → w ≡ w'
 run_same test [] q [] q' e a b a' b' = refl
 run_same test [] [] (d ∷ w') q' e a b a' b' = cc
 run_same test [] (c ∷ q) (d ∷ w') q' e a b a' b' = let t = a'.0 in cc
@@ -46,7 +49,8 @@ exactly_det t p q p' q' v v' e h h' = (h ∙ sym h', refl)
 
 pub rest_det : IsDeterministic rest
 rest_det p q p' q' v v' e h h' =
-    let s : p ≡ p' = sym (append-nil p) ∙ (ap (λ (x : Text). p ++ x) (sym h.0) ∙ e ∙ ap (λ (x : Text). p' ++ x) h'.0) ∙ append-nil p' in
+    let s : p ≡ p' =
+    sym (append-nil p) ∙ (ap (λ (x : Text). p ++ x) (sym h.0) ∙ e ∙ ap (λ (x : Text). p' ++ x) h'.0) ∙ append-nil p' in
     (s, h.1 ∙ s ∙ sym h'.1)
 
 pub optional_det : (C : Class) → IsDeterministic C → IsDeterministic (optional C)
@@ -56,21 +60,33 @@ optional_det C d p q p' q' (Some x) None e h h' = absurd (h'.1 p q x (after_nil 
 optional_det C d p q p' q' (Some x) (Some y) e h h' = let r = d p q p' q' x y e h h' in (r.0, ap Some r.1)
 
 pub mapped_det : (C : Class) (B : Type 0) (f : C.Value → B) → IsDeterministic C → IsDeterministic (mapped C B f)
-mapped_det C B f d p q p' q' b b' e (v, h, i) (v', h', i') = let r = d p q p' q' v v' e h h' in (r.0, i ∙ ap f r.1 ∙ sym i')
+mapped_det C B f d p q p' q' b b' e (v, h, i) (v', h', i') =
+    let r = d p q p' q' v v' e h h' in (r.0, i ∙ ap f r.1 ∙ sym i')
 
 pub texted_det : (C : Class) → IsDeterministic C → IsDeterministic (texted C)
 texted_det C d p q p' q' b b' e (v, h, i) (v', h', i') = let r = d p q p' q' v v' e h h' in (r.0, i ∙ r.0 ∙ sym i')
 
 -- ---- rows
+
+-- what holds of each in a row, without brackets in brackets
+infixr 30 ◌also◌
+abbrev pub ◌also◌ : {A B : Type 0} → A → B → A × B
+◌also◌ a b = (a, b)
+
 abbrev pub AllDeterministic : List Class → Type 0
 AllDeterministic [] = Unit {0}
 AllDeterministic (C ∷ Cs) = IsDeterministic C × AllDeterministic Cs
+
+pub all_joined : (As Bs : List Class) → AllDeterministic As → AllDeterministic Bs → AllDeterministic (As ++ Bs)
+all_joined [] Bs d e = e
+all_joined (C ∷ As) Bs d e = (d.0, all_joined As Bs d.1 e)
 
 pair_same : {A B : Type 0} (x y : A × B) → x.0 ≡ y.0 → x.1 ≡ y.1 → x ≡ y
 pair_same (a, b) (c, d) e f = cc
 
 -- two divisions of one text into a row are the same pieces, with the same meanings
-pub divides_same : (Cs : List Class) → AllDeterministic Cs → (ps : List Text) (q : Text) (ps' : List Text) (q' : Text) (vs vs' : Values Cs)
+pub divides_same : (Cs : List Class) → AllDeterministic Cs
+    → (ps : List Text) (q : Text) (ps' : List Text) (q' : Text) (vs vs' : Values Cs)
     → join ps ++ q ≡ join ps' ++ q' → Divides Cs ps q vs → Divides Cs ps' q' vs' → (ps ≡ ps') × (vs ≡ vs')
 divides_same [] d [] q [] q' vs vs' e h h' = (refl, refl)
 divides_same [] d [] q (p' ∷ ps') q' vs vs' e h h' = absurd h'
@@ -78,9 +94,12 @@ divides_same [] d (p ∷ ps) q ps' q' vs vs' e h h' = absurd h
 divides_same (C ∷ Cs) d [] q ps' q' vs vs' e h h' = absurd h
 divides_same (C ∷ Cs) d (p ∷ ps) q [] q' vs vs' e h h' = absurd h'
 divides_same (C ∷ Cs) d (p ∷ ps) q (p' ∷ ps') q' vs vs' e h h' =
-    let whole : p ++ (join ps ++ q) ≡ p' ++ (join ps' ++ q') = sym (append_assoc p (join ps) q) ∙ e ∙ append_assoc p' (join ps') q' in
+    let whole : p ++ (join ps ++ q) ≡ p' ++ (join ps' ++ q') =
+    sym (append_assoc p (join ps) q) ∙ e ∙ append_assoc p' (join ps') q' in
     let first = d.0 p (join ps ++ q) p' (join ps' ++ q') vs.0 vs'.0 whole h.0 h'.0 in
-    let others = divides_same Cs d.1 ps q ps' q' vs.1 vs'.1 (rest_same p (join ps ++ q) p' (join ps' ++ q') whole first.0) h.1 h'.1 in
+    let others =
+    divides_same Cs d.1 ps q ps' q' vs.1 vs'.1
+    (rest_same p (join ps ++ q) p' (join ps' ++ q') whole first.0) h.1 h'.1 in
     (let a = first.0 in let b = others.0 in cc, pair_same vs vs' first.1 others.1)
 
 pub row_det : (Cs : List Class) → AllDeterministic Cs → IsDeterministic (Row Cs)
@@ -92,7 +111,8 @@ row_det Cs d p q p' q' vs vs' e (ps, w, h) (ps', w', h') =
 -- ---- fronts
 
 -- two fronts of one text are one
-pub front_same : (C : Class) → IsDeterministic C → {text q q' : Text} {v v' : C.Value} → Front C text q v → Front C text q' v' → (q ≡ q') × (v ≡ v')
+pub front_same : (C : Class) → IsDeterministic C → {text q q' : Text} {v v' : C.Value} → Front C text q v
+    → Front C text q' v' → (q ≡ q') × (v ≡ v')
 front_same C d {text = text} {q = q} {q' = q'} {v = v} {v' = v'} f f' =
     let e = sym f.whole ∙ f'.whole in
     let r = d f.piece q f'.piece q' v v' e f.is f'.is in
@@ -110,7 +130,12 @@ optional_some C f = record { piece = f.piece; whole = f.whole; is = f.is }
 pub rest_front : (text : Text) → Front rest text [] text
 rest_front text = record { piece = text; whole = sym (append-nil text); is = (refl, refl) }
 
-pub mapped_front : (C : Class) (B : Type 0) (f : C.Value → B) {t q : Text} {v : C.Value} → Front C t q v → Front (mapped C B f) t q (f v)
+-- all that is left is the meaning
+pub rest_whole : {t q v : Text} → Front rest t q v → t ≡ v
+rest_whole f = f.whole ∙ ap (λ (x : Text). f.piece ++ x) f.is.0 ∙ append-nil f.piece ∙ sym f.is.1
+
+pub mapped_front : (C : Class) (B : Type 0) (f : C.Value → B) {t q : Text} {v : C.Value} → Front C t q v
+    → Front (mapped C B f) t q (f v)
 mapped_front C B f {v = v} g = record { piece = g.piece; whole = g.whole; is = (v, g.is, refl) }
 
 pub no_mapped : (C : Class) (B : Type 0) (f : C.Value → B) {t : Text} → NoFront C t → NoFront (mapped C B f) t
@@ -126,7 +151,8 @@ no_texted C n p q b e (v, h, i) = n p q v e h
 pub row_nil : (text : Text) → Front (Row []) text text tt
 row_nil text = record { piece = []; whole = refl; is = ([], refl, tt) }
 
-pub row_cons : (C : Class) (Cs : List Class) → {text q r : Text} {v : C.Value} {vs : Values Cs} → Front C text q v → Front (Row Cs) q r vs → Front (Row (C ∷ Cs)) text r (v, vs)
+pub row_cons : (C : Class) (Cs : List Class) → {text q r : Text} {v : C.Value} {vs : Values Cs} → Front C text q v
+    → Front (Row Cs) q r vs → Front (Row (C ∷ Cs)) text r (v, vs)
 row_cons C Cs {text = text} {q = q} {r = r} {v = v} {vs = vs} f g =
     let ps = g.is.0 in
     let e : q ≡ join ps ++ r = g.whole ∙ ap (λ (x : Text). x ++ r) g.is.1 in
@@ -136,7 +162,8 @@ row_cons C Cs {text = text} {q = q} {r = r} {v = v} {vs = vs} f g =
       is = (f.piece ∷ ps, refl, (subst (λ (x : Text). C.Is f.piece x v) e f.is, g.is.2));
     }
 
-front_parts : (C : Class) (Cs : List Class) (text r : Text) (vs : Values (C ∷ Cs)) (piece : Text) (ps : List Text) → text ≡ piece ++ r → piece ≡ join ps → Divides (C ∷ Cs) ps r vs
+front_parts : (C : Class) (Cs : List Class) (text r : Text) (vs : Values (C ∷ Cs)) (piece : Text) (ps : List Text)
+    → text ≡ piece ++ r → piece ≡ join ps → Divides (C ∷ Cs) ps r vs
     → (q : Text) × Front C text q vs.0 × Front (Row Cs) q r vs.1
 front_parts C Cs text r vs piece [] w e h = absurd h
 front_parts C Cs text r vs piece (p ∷ ps) w e h = (
@@ -146,33 +173,40 @@ front_parts C Cs text r vs piece (p ∷ ps) w e h = (
 )
 
 -- the first piece of a row, and the others
-pub row_head : (C : Class) (Cs : List Class) → {text r : Text} {vs : Values (C ∷ Cs)} → Front (Row (C ∷ Cs)) text r vs → (q : Text) × Front C text q vs.0 × Front (Row Cs) q r vs.1
+pub row_head : (C : Class) (Cs : List Class) → {text r : Text} {vs : Values (C ∷ Cs)} → Front (Row (C ∷ Cs)) text r vs
+    → (q : Text) × Front C text q vs.0 × Front (Row Cs) q r vs.1
 row_head C Cs {text = text} {r = r} {vs = vs} f = front_parts C Cs text r vs f.piece f.is.0 f.whole f.is.1 f.is.2
 
 pub row_none_here : (C : Class) (Cs : List Class) → {text : Text} → NoFront C text → NoFront (Row (C ∷ Cs)) text
 row_none_here C Cs n p q vs w h =
     let r = row_head C Cs (record { piece = p; whole = w; is = h }) in no_front_no C n r.1
 
-pub row_none_later : (C : Class) (Cs : List Class) → IsDeterministic C → {text q : Text} {v : C.Value} → Front C text q v → NoFront (Row Cs) q → NoFront (Row (C ∷ Cs)) text
+pub row_none_later : (C : Class) (Cs : List Class) → IsDeterministic C → {text q : Text} {v : C.Value}
+    → Front C text q v → NoFront (Row Cs) q → NoFront (Row (C ∷ Cs)) text
 row_none_later C Cs d {text = text} {q = q} f n p r vs w h =
     let g = row_head C Cs (record { piece = p; whole = w; is = h }) in
     let s = front_same C d g.1 f in
     no_front_no (Row Cs) n (subst (λ (x : Text). Front (Row Cs) x r vs.1) s.0 g.2)
 
 -- ---- divisions of a whole text
-pub division_front : (Cs : List Class) → {text : Text} {vs : Values Cs} → Division Cs text vs → Front (Row Cs) text [] vs
-division_front Cs d = record { piece = join d.pieces; whole = d.whole ∙ sym (append-nil (join d.pieces)); is = (d.pieces, refl, d.each) }
+pub division_front : (Cs : List Class) → {text : Text} {vs : Values Cs} → Division Cs text vs
+    → Front (Row Cs) text [] vs
+division_front Cs d =
+    record { piece = join d.pieces; whole = d.whole ∙ sym (append-nil (join d.pieces)); is = (d.pieces, refl, d.each) }
 
-pub front_division : (Cs : List Class) → {text : Text} {vs : Values Cs} → Front (Row Cs) text [] vs → Division Cs text vs
+pub front_division : (Cs : List Class) → {text : Text} {vs : Values Cs} → Front (Row Cs) text [] vs
+    → Division Cs text vs
 front_division Cs f = record { pieces = f.is.0; whole = f.whole ∙ append-nil f.piece ∙ f.is.1; each = f.is.2 }
 
 pub no_row_division : (Cs : List Class) → {text : Text} → NoFront (Row Cs) text → NoDivision Cs text
 no_row_division Cs n vs d = no_front_no (Row Cs) n (division_front Cs d)
 
 -- two divisions of one text are the same list of pieces, with the same meanings
-pub unique_division : (Cs : List Class) → AllDeterministic Cs → {text : Text} {vs vs' : Values Cs} → (d : Division Cs text vs) (d' : Division Cs text vs') → (d.pieces ≡ d'.pieces) × (vs ≡ vs')
+pub unique_division : (Cs : List Class) → AllDeterministic Cs → {text : Text} {vs vs' : Values Cs}
+    → (d : Division Cs text vs) (d' : Division Cs text vs') → (d.pieces ≡ d'.pieces) × (vs ≡ vs')
 unique_division Cs a {vs = vs} {vs' = vs'} d d' =
-    divides_same Cs a d.pieces [] d'.pieces [] vs vs' (append-nil (join d.pieces) ∙ sym d.whole ∙ d'.whole ∙ sym (append-nil (join d'.pieces))) d.each d'.each
+    divides_same Cs a d.pieces [] d'.pieces [] vs vs'
+    (append-nil (join d.pieces) ∙ sym d.whole ∙ d'.whole ∙ sym (append-nil (join d'.pieces))) d.each d'.each
 
 -- ---- a row that goes on with another row
 
@@ -185,45 +219,62 @@ nil_piece : (p : Text) (ps : List Text) (q : Text) → p ≡ join ps → Divides
 nil_piece p [] q e d = e
 nil_piece p (x ∷ ps) q e d = absurd d
 
-nil_front : {t u : Text} → Front (Row []) t u tt → t ≡ u
+pub nil_front : {t u : Text} → Front (Row []) t u tt → t ≡ u
 nil_front {t = t} {u = u} f = f.whole ∙ ap (λ (x : Text). x ++ u) (nil_piece f.piece f.is.0 u f.is.1 f.is.2)
 
-pub rows_join : (As Bs : List Class) → {t u r : Text} {vs : Values As} {ws : Values Bs} → Front (Row As) t u vs → Front (Row Bs) u r ws → Front (Row (As ++ Bs)) t r (both_values As Bs vs ws)
+pub rows_join : (As Bs : List Class) → {t u r : Text} {vs : Values As} {ws : Values Bs} → Front (Row As) t u vs
+    → Front (Row Bs) u r ws → Front (Row (As ++ Bs)) t r (both_values As Bs vs ws)
 rows_join [] Bs {r = r} {ws = ws} f g = subst (λ (x : Text). Front (Row Bs) x r ws) (sym (nil_front f)) g
 rows_join (C ∷ As) Bs f g = let h = row_head C As f in row_cons C (As ++ Bs) h.1 (rows_join As Bs h.2 g)
 
--- the first row of a front
-rows_front : (As Bs : List Class) {t r : Text} {vs : Values (As ++ Bs)} → Front (Row (As ++ Bs)) t r vs → (u : Text) × (ws : Values As) × Front (Row As) t u ws
-rows_front [] Bs {t = t} f = (t, tt, row_nil t)
-rows_front (C ∷ As) Bs {vs = vs} f =
+-- the two rows of a front
+abbrev pub firsts : (As Bs : List Class) → Values (As ++ Bs) → Values As
+firsts [] Bs vs = tt
+firsts (C ∷ As) Bs vs = (vs.0, firsts As Bs vs.1)
+
+abbrev pub lasts : (As Bs : List Class) → Values (As ++ Bs) → Values Bs
+lasts [] Bs vs = vs
+lasts (C ∷ As) Bs vs = lasts As Bs vs.1
+
+pub rows_split : (As Bs : List Class) {t r : Text} {vs : Values (As ++ Bs)} → Front (Row (As ++ Bs)) t r vs
+    → (u : Text) × Front (Row As) t u (firsts As Bs vs) × Front (Row Bs) u r (lasts As Bs vs)
+rows_split [] Bs {t = t} f = (t, row_nil t, f)
+rows_split (C ∷ As) Bs f =
     let h = row_head C (As ++ Bs) f in
-    let (u, ws, g) = rows_front As Bs h.2 in
-    (u, (vs.0, ws), row_cons C As h.1 g)
+    let (u, a, b) = rows_split As Bs h.2 in
+    (u, row_cons C As h.1 a, b)
 
 pub rows_none_here : (As Bs : List Class) → {t : Text} → NoFront (Row As) t → NoFront (Row (As ++ Bs)) t
 rows_none_here As Bs n p q vs e h =
-    let (u, ws, g) = rows_front As Bs (record { piece = p; whole = e; is = h }) in no_front_no (Row As) n g
+    let (u, f, g) = rows_split As Bs (record { piece = p; whole = e; is = h }) in no_front_no (Row As) n f
 
-pub rows_none_later : (As Bs : List Class) → AllDeterministic As → {t u : Text} {vs : Values As} → Front (Row As) t u vs → NoFront (Row Bs) u → NoFront (Row (As ++ Bs)) t
+pub rows_none_later : (As Bs : List Class) → AllDeterministic As → {t u : Text} {vs : Values As} → Front (Row As) t u vs
+    → NoFront (Row Bs) u → NoFront (Row (As ++ Bs)) t
 rows_none_later [] Bs d f n = subst (λ (x : Text). NoFront (Row Bs) x) (sym (nil_front f)) n
-rows_none_later (C ∷ As) Bs d f n = let h = row_head C As f in row_none_later C (As ++ Bs) d.0 h.1 (rows_none_later As Bs d.1 h.2 n)
+rows_none_later (C ∷ As) Bs d f n =
+    let h = row_head C As f in row_none_later C (As ++ Bs) d.0 h.1 (rows_none_later As Bs d.1 h.2 n)
 
 -- ---- pieces behind a space
 pub spaced_det : (C : Class) → IsDeterministic C → IsDeterministic (spaced C)
 spaced_det C d p q p' q' v v' e h h' =
-    let r = row_det (exactly (32 ∷ []) ∷ C ∷ []) (exactly_det (32 ∷ []), (d, tt)) p q p' q' (tt, (v, tt)) (tt, (v', tt)) e h h' in
+    let r =
+    row_det (exactly (32 ∷ []) ∷ C ∷ []) (exactly_det (32 ∷ []), (d, tt)) p q p' q' (tt, (v, tt))
+    (tt, (v', tt)) e h h' in
     (r.0, ap (λ (x : Values (exactly (32 ∷ []) ∷ C ∷ [])). x.1.0) r.1)
 
 -- such a piece, from the space and the piece behind it
-pub spaced_front : (C : Class) {t q r : Text} {v : C.Value} → Front (exactly (32 ∷ [])) t q tt → Front C q r v → Front (spaced C) t r v
+pub spaced_front : (C : Class) {t q r : Text} {v : C.Value} → Front (exactly (32 ∷ [])) t q tt → Front C q r v
+    → Front (spaced C) t r v
 spaced_front C {r = r} f g =
     let row = row_cons (exactly (32 ∷ [])) (C ∷ []) f (row_cons C [] g (row_nil r)) in
     record { piece = row.piece; whole = row.whole; is = row.is }
 
 -- and back
-pub spaced_parts : (C : Class) {t r : Text} {v : C.Value} → Front (spaced C) t r v → (q : Text) × (t ≡ 32 ∷ q) × Front C q r v
+pub spaced_parts : (C : Class) {t r : Text} {v : C.Value} → Front (spaced C) t r v
+    → (q : Text) × (t ≡ 32 ∷ q) × Front C q r v
 spaced_parts C {t = t} {r = r} {v = v} f =
-    let row : Front (Row (exactly (32 ∷ []) ∷ C ∷ [])) t r (tt, (v, tt)) = record { piece = f.piece; whole = f.whole; is = f.is } in
+    let row : Front (Row (exactly (32 ∷ []) ∷ C ∷ [])) t r (tt, (v, tt)) =
+    record { piece = f.piece; whole = f.whole; is = f.is } in
     let g = row_head (exactly (32 ∷ [])) (C ∷ []) row in
     let h = row_head C [] g.2 in
     (g.0, g.1.whole ∙ ap (λ (x : Text). x ++ g.0) g.1.is, subst (λ (x : Text). Front C g.0 x v) (nil_front h.2) h.1)
@@ -232,4 +283,5 @@ pub no_spaced_space : (C : Class) {t : Text} → NoFront (exactly (32 ∷ [])) t
 no_spaced_space C n p q v e h = row_none_here (exactly (32 ∷ [])) (C ∷ []) n p q (tt, (v, tt)) e h
 
 pub no_spaced_piece : (C : Class) {t q : Text} → Front (exactly (32 ∷ [])) t q tt → NoFront C q → NoFront (spaced C) t
-no_spaced_piece C f n p q v e h = row_none_later (exactly (32 ∷ [])) (C ∷ []) (exactly_det (32 ∷ [])) f (row_none_here C [] n) p q (tt, (v, tt)) e h
+no_spaced_piece C f n p q v e h =
+    row_none_later (exactly (32 ∷ [])) (C ∷ []) (exactly_det (32 ∷ [])) f (row_none_here C [] n) p q (tt, (v, tt)) e h

@@ -1,7 +1,8 @@
 -- One class at one text has the same fronts as another class further on.
-use Rattle.std.proofs.Common.{◌≡◌, List, [], ◌∷◌, ◌++◌, Option, Some, None, MatchOption, ap, subst, ◌∙◌}
-use Rattle.syslog_pieces.specs.Pieces.Class.{Text, Class, Front, NoFront, IsDeterministic, Values, join, Divides, Row, mapped}
-use Rattle.syslog_pieces.proofs.PieceLemmas.Class.{AllDeterministic, front_same, no_front_no, row_nil, row_cons, row_head, mapped_front}
+use Rattle.std.proofs.Common.{List, [], ◌∷◌, ◌++◌, Option, Some, None, MatchOption, subst}
+use Rattle.syslog_pieces.specs.Pieces.Class.{Text, Class, Front, NoFront, IsDeterministic, Values, Row, mapped}
+use Rattle.syslog_pieces.proofs.PieceLemmas.Class.{AllDeterministic, front_same, no_front_no, row_cons, row_head}
+use Rattle.syslog_pieces.proofs.PieceLemmas.Class.{mapped_front, nil_front}
 
 -- the fronts of C at t end where those of D at u end
 pub record Meets (C : Class) (t : Text) (D : Class) (u : Text) : Type 0 where
@@ -11,7 +12,8 @@ pub record Meets (C : Class) (t : Text) (D : Class) (u : Text) : Type 0 where
 pub meets_here : (C : Class) (t : Text) → Meets C t C t
 meets_here C t = record { forth = λ q v f. (v, f); back = λ q v f. (v, f) }
 
-pub meets_on : (C : Class) (t : Text) (D : Class) (u : Text) (E : Class) (s : Text) → Meets C t D u → Meets D u E s → Meets C t E s
+pub meets_on : (C : Class) (t : Text) (D : Class) (u : Text) (E : Class) (s : Text) → Meets C t D u → Meets D u E s
+    → Meets C t E s
 meets_on C t D u E s m n = record {
   forth = λ q v f. (let g = n.forth q v f in m.forth q g.0 g.1);
   back = λ q w f. (let g = m.back q w f in n.back q g.0 g.1);
@@ -21,7 +23,8 @@ pub meets_none : (C : Class) (t : Text) (D : Class) (u : Text) → Meets C t D u
 meets_none C t D u m n p q v e h = let g = m.back q v (record { piece = p; whole = e; is = h }) in no_front_no D n g.1
 
 pub meets_none_on : (C : Class) (t : Text) (D : Class) (u : Text) → Meets C t D u → NoFront C t → NoFront D u
-meets_none_on C t D u m n p q v e h = let g = m.forth q v (record { piece = p; whole = e; is = h }) in no_front_no C n g.1
+meets_none_on C t D u m n p q v e h =
+    let g = m.forth q v (record { piece = p; whole = e; is = h }) in no_front_no C n g.1
 
 pub mapped_meets : (C : Class) (B : Type 0) (f : C.Value → B) (t : Text) → Meets (mapped C B f) t C t
 mapped_meets C B f t = record {
@@ -30,10 +33,12 @@ mapped_meets C B f t = record {
 }
 
 -- behind the first piece of a row
-pub row_goes : (C : Class) (Cs : List Class) → IsDeterministic C → (t u : Text) (v : C.Value) → Front C t u v → Meets (Row (C ∷ Cs)) t (Row Cs) u
+pub row_goes : (C : Class) (Cs : List Class) → IsDeterministic C → (t u : Text) (v : C.Value) → Front C t u v
+    → Meets (Row (C ∷ Cs)) t (Row Cs) u
 row_goes C Cs d t u v f = record {
   forth = λ q vs g. ((v, vs), row_cons C Cs f g);
-  back = λ q vs g. (let r = row_head C Cs g in let s = front_same C d r.1 f in (vs.1, subst (λ (x : Text). Front (Row Cs) x q vs.1) s.0 r.2));
+  back = λ q vs g. (let r = row_head C Cs g in let s = front_same C d r.1 f in
+      (vs.1, subst (λ (x : Text). Front (Row Cs) x q vs.1) s.0 r.2));
 }
 
 -- another first piece of a row
@@ -43,32 +48,17 @@ row_first C D Cs t u m = record {
   back = λ q vs g. (let r = row_head C Cs g in let s = m.back r.0 vs.0 r.1 in ((s.0, vs.1), row_cons D Cs s.1 r.2));
 }
 
-no_pieces : (p : Text) (ps : List Text) (q : Text) → p ≡ join ps → Divides [] ps q tt → p ≡ []
-no_pieces p [] q e d = e
-no_pieces p (x ∷ ps) q e d = absurd d
-
-pub nil_front : (t u : Text) → Front (Row []) t u tt → t ≡ u
-nil_front t u f = f.whole ∙ ap (λ (x : Text). x ++ u) (no_pieces f.piece f.is.0 u f.is.1 f.is.2)
-
 -- behind the first pieces of a row
-pub rows_go : (As Bs : List Class) → AllDeterministic As → (t u : Text) (vs : Values As) → Front (Row As) t u vs → Meets (Row (As ++ Bs)) t (Row Bs) u
-rows_go [] Bs d t u vs f = subst (λ (x : Text). Meets (Row Bs) t (Row Bs) x) (nil_front t u f) (meets_here (Row Bs) t)
+pub rows_go : (As Bs : List Class) → AllDeterministic As → (t u : Text) (vs : Values As) → Front (Row As) t u vs
+    → Meets (Row (As ++ Bs)) t (Row Bs) u
+rows_go [] Bs d t u vs f = subst (λ (x : Text). Meets (Row Bs) t (Row Bs) x) (nil_front f) (meets_here (Row Bs) t)
 rows_go (C ∷ As) Bs d t u vs f =
     let r = row_head C As f in
-    meets_on (Row (C ∷ As ++ Bs)) t (Row (As ++ Bs)) r.0 (Row Bs) u (row_goes C (As ++ Bs) d.0 t r.0 vs.0 r.1) (rows_go As Bs d.1 r.0 u vs.1 r.2)
-
-rows_front : (As Bs : List Class) (t q : Text) (vs : Values (As ++ Bs)) → Front (Row (As ++ Bs)) t q vs → (u : Text) × (ws : Values As) × Front (Row As) t u ws
-rows_front [] Bs t q vs f = (t, tt, row_nil t)
-rows_front (C ∷ As) Bs t q vs f =
-    let r = row_head C (As ++ Bs) f in
-    let s = rows_front As Bs r.0 q vs.1 r.2 in
-    (s.0, (vs.0, s.1), row_cons C As r.1 s.2)
-
-pub no_rows : (As Bs : List Class) (t : Text) → NoFront (Row As) t → NoFront (Row (As ++ Bs)) t
-no_rows As Bs t n p q vs e h =
-    let s = rows_front As Bs t q vs (record { piece = p; whole = e; is = h }) in no_front_no (Row As) n s.2
+    meets_on (Row (C ∷ As ++ Bs)) t (Row (As ++ Bs)) r.0 (Row Bs) u (row_goes C (As ++ Bs) d.0 t r.0 vs.0 r.1)
+    (rows_go As Bs d.1 r.0 u vs.1 r.2)
 
 -- ---- an answer with another meaning
-pub match_map : {X : Type 0} (r : Option X) {N M : Type 0} {S T : X → Type 0} → (N → M) → ((x : X) → S x → T x) → MatchOption r N S → MatchOption r M T
+pub match_map : {X : Type 0} (r : Option X) {N M : Type 0} {S T : X → Type 0} → (N → M) → ((x : X) → S x → T x)
+    → MatchOption r N S → MatchOption r M T
 match_map None f g h = f h
 match_map (Some x) f g h = g x h

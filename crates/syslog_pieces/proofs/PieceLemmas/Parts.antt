@@ -1,18 +1,24 @@
 -- The texts that a piece's meaning holds are parts of the piece.
-use Rattle.std.proofs.Common.{◌≡◌, inl, inr, List, [], ◌∷◌, ◌++◌, Option, Some, None, sym, ap, subst, ◌∙◌, append_assoc, append-nil}
+use Rattle.std.proofs.Common.{◌≡◌, inl, inr, List, [], ◌∷◌, ◌++◌, Option, Some, None, sym, ap, subst, ◌∙◌, append_assoc}
+use Rattle.std.proofs.Common.{append-nil}
 use Rattle.std.specs.List.{AllByRecursion}
 use Rattle.syslog_pieces.specs.Pieces.Class.{Text, Class, Values, join, Divides, rest, optional, spaced, texted}
 use Rattle.syslog_pieces.specs.Pieces.Parts.{IsPart, IsInPieces, AreInPieces, text_list, process_texts}
 use Rattle.syslog_pieces.specs.ProcId.{process_word}
 use Rattle.syslog_pieces.specs.Text.{Names, host, tag_word, word}
 use Rattle.syslog_pieces.specs.declared.procid.ProcId.TheVariants.{PID, Name}
+use Rattle.syslog_pieces.proofs.PieceLemmas.Each.{all_map, all_append}
 
 -- ---- parts of parts
 pub part_same : (p t : Text) → t ≡ p → IsPart p t
 part_same p t e = ([], [], sym e ∙ sym (append-nil t))
 
 pub part_left : (p q t : Text) → IsPart p t → IsPart (p ++ q) t
-part_left p q t (a, b, e) = (a, b ++ q, ap (λ (x : Text). x ++ q) e ∙ append_assoc a (t ++ b) q ∙ ap (λ (x : Text). a ++ x) (append_assoc t b q))
+part_left p q t (a, b, e) = (
+  a,
+  b ++ q,
+  ap (λ (x : Text). x ++ q) e ∙ append_assoc a (t ++ b) q ∙ ap (λ (x : Text). a ++ x) (append_assoc t b q),
+)
 
 pub part_right : (p q t : Text) → IsPart q t → IsPart (p ++ q) t
 part_right p q t (a, b, e) = (p ++ a, b, ap (λ (x : Text). p ++ x) e ∙ sym (append_assoc p a (t ++ b)))
@@ -24,13 +30,6 @@ part_joined (p ∷ ps) t (inl h) = part_left p (join ps) t h
 part_joined (p ∷ ps) t (inr h) = part_right p (join ps) t (part_joined ps t h)
 
 -- ---- lists of texts
-pub all_map : {P Q : Text → Type 0} → ((t : Text) → P t → Q t) → (ts : List Text) → AllByRecursion P ts → AllByRecursion Q ts
-all_map f [] h = tt
-all_map f (t ∷ ts) h = (f t h.0, all_map f ts h.1)
-
-pub all_append : (P : Text → Type 0) (ts us : List Text) → AllByRecursion P ts → AllByRecursion P us → AllByRecursion P (ts ++ us)
-all_append P [] us h k = k
-all_append P (t ∷ ts) us h k = (h.0, all_append P ts us h.1 k)
 
 -- ---- the texts of a meaning
 
@@ -41,24 +40,25 @@ Quotes C f = (p q : Text) (v : C.Value) → C.Is p q v → AllByRecursion (λ t.
 -- such a function for each class of a row
 abbrev pub Quoted : List Class → Type 0
 Quoted [] = Unit {0}
-Quoted (C ∷ Cs) = (f : C.Value → List Text) × Quotes C f × Quoted Cs
+Quoted (C ∷ Cs) = ((f : C.Value → List Text) × Quotes C f) × Quoted Cs
 
 -- the texts of a row's meanings, in order
 abbrev pub row_texts : (Cs : List Class) → Quoted Cs → Values Cs → List Text
 row_texts [] k vs = []
-row_texts (C ∷ Cs) (f, g, k) vs = f vs.0 ++ row_texts Cs k vs.1
+row_texts (C ∷ Cs) k vs = k.0.0 vs.0 ++ row_texts Cs k.1 vs.1
 
-pub row_quotes : (Cs : List Class) (k : Quoted Cs) (ps : List Text) (q : Text) (vs : Values Cs) → Divides Cs ps q vs → AreInPieces ps (row_texts Cs k vs)
+pub row_quotes : (Cs : List Class) (k : Quoted Cs) (ps : List Text) (q : Text) (vs : Values Cs) → Divides Cs ps q vs
+    → AreInPieces ps (row_texts Cs k vs)
 row_quotes [] k ps q vs h = tt
 row_quotes (C ∷ Cs) k [] q vs h = absurd h
-row_quotes (C ∷ Cs) (f, g, k) (p ∷ ps) q vs h =
+row_quotes (C ∷ Cs) ((f, g), k) (p ∷ ps) q vs h =
     all_append (λ t. IsInPieces (p ∷ ps) t) (f vs.0) (row_texts Cs k vs.1)
     (all_map (λ t x. inl x) (f vs.0) (g p (join ps ++ q) vs.0 h.0))
     (all_map (λ t x. inr x) (row_texts Cs k vs.1) (row_quotes Cs k ps q vs.1 h.1))
 
 -- a meaning without texts
-pub silent : (C : Class) → Quotes C (λ v. [])
-silent C p q v h = tt
+abbrev pub silent : (C : Class) → (f : C.Value → List Text) × Quotes C f
+silent C = ((λ v. []), (λ p q v h. tt))
 
 pub texted_quotes : (C : Class) → Quotes (texted C) (λ t. t ∷ [])
 texted_quotes C p q t (v, h, e) = (part_same p t e, tt)

@@ -1,10 +1,8 @@
 -- Steps through a row whose pieces are known.
-use Rattle.std.proofs.Common.{◌≡◌, ℕ, ◌≤◌, List, [], ◌∷◌, ◌++◌, length, Some, None, refl, sym, ap, subst, ◌∙◌, arith}
+use Rattle.std.proofs.Common.{◌≡◌, ◌≤◌, List, ◌∷◌, ◌++◌, length, Some, None, refl, sym, ap, subst, ◌∙◌, arith}
 use Rattle.std.proofs.lemmas.List.{length-append}
 use Rattle.syslog_pieces.specs.Pieces.Class.{Text, Class, Front, NoFront, IsDeterministic, Values, Row, optional}
 use Rattle.syslog_pieces.proofs.PieceLemmas.Class.{front_same, row_head}
-use Rattle.syslog_pieces.proofs.PieceLemmas.Kinds.{Begins, begins_more}
-use Rattle.syslog_pieces.proofs.PieceLemmas.Meets.{nil_front}
 
 -- ---- a front at a known place
 
@@ -13,18 +11,16 @@ pub piece_front : (C : Class) (p q : Text) (v : C.Value) → C.Is p q v → Fron
 piece_front C p q v h = record { piece = p; whole = refl; is = h }
 
 -- behind a known front of the first class, the row goes on with its other classes
-pub step : (C : Class) (Cs : List Class) → IsDeterministic C → {t q r : Text} {v : C.Value} {vs : Values (C ∷ Cs)} → Front C t q v → Front (Row (C ∷ Cs)) t r vs → Front (Row Cs) q r vs.1
+pub step : (C : Class) (Cs : List Class) → IsDeterministic C → {t q r : Text} {v : C.Value} {vs : Values (C ∷ Cs)}
+    → Front C t q v → Front (Row (C ∷ Cs)) t r vs → Front (Row Cs) q r vs.1
 step C Cs d {r = r} {vs = vs} g f =
     let h = row_head C Cs f in
     let e = (front_same C d h.1 g).0 in subst (λ (x : Text). Front (Row Cs) x r vs.1) e h.2
 
 -- and the first meaning is that of the known front
-pub step_value : (C : Class) (Cs : List Class) → IsDeterministic C → {t q r : Text} {v : C.Value} {vs : Values (C ∷ Cs)} → Front C t q v → Front (Row (C ∷ Cs)) t r vs → vs.0 ≡ v
+pub step_value : (C : Class) (Cs : List Class) → IsDeterministic C → {t q r : Text} {v : C.Value} {vs : Values (C ∷ Cs)}
+    → Front C t q v → Front (Row (C ∷ Cs)) t r vs → vs.0 ≡ v
 step_value C Cs d g f = let h = row_head C Cs f in (front_same C d h.1 g).1
-
--- a row without pieces leaves the text as it is
-pub nil_stays : {t q : Text} → Front (Row []) t q tt → t ≡ q
-nil_stays {t = t} {q = q} f = nil_front t q f
 
 -- what follows a front is no longer than the text
 pub front_longer : (C : Class) {t q : Text} {v : C.Value} → Front C t q v → length q ≤ length t
@@ -39,7 +35,3 @@ absent_none C f = subst (λ (x : Text). NoFront C x) (sym (absent_stays C f)) f.
 
 pub present_front : (C : Class) {t q : Text} {v : C.Value} → Front (optional C) t q (Some v) → Front C t q v
 present_front C f = record { piece = f.piece; whole = f.whole; is = f.is }
-
--- a text begins as the piece at its front does
-pub begins_front : (C : Class) (H : ℕ → Type 0) {t q : Text} {v : C.Value} → (f : Front C t q v) → Begins H f.piece → Begins H t
-begins_front C H {q = q} f h = subst (λ (x : Text). Begins H x) (sym f.whole) (begins_more H f.piece q h)

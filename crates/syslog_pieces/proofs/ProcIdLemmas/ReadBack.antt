@@ -91,13 +91,6 @@ name_told bytes text process w number e p plain is number_told =
     untaken true t z = absurd (t.0 refl z)
     untaken false t z = refl
 
--- and that of a name which is no plain word
-pub no_name_told : (bytes text : List ℕ) (process : ProcId Text) (w : Bool) → bytes ≡ text → process ≡ Name (chars text) → IsTrue w ↔ IsPlainWord (chars bytes) → w ≡ false
-    → IsTrue false ↔ IsPlainProcess process
-no_name_told bytes text process w e p plain is =
-    subst (λ (x : ProcId Text). IsTrue false ↔ IsPlainProcess x) (sym (p ∙ ap (λ (x : List ℕ). Name (chars x)) (sym e)))
-    ((λ h. absurd (let u : false ≡ true = h in cc)), (λ h. absurd (let t : w ≡ true = plain.1 h.0 in let u : false ≡ true = sym is ∙ t in cc)))
-
 -- the text is one of no number where the test of one fails
 pub no_number_told : (t : Text) (b : Bool) → IsTrue b ↔ (IsNoI32Text t → ⊥) → IsTrue (not b) ↔ IsNoI32Text t
 no_number_told t true e = ((λ h. absurd (let u : false ≡ true = h in cc)), (λ n. absurd (e.0 refl n)))

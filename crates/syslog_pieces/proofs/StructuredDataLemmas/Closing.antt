@@ -13,10 +13,10 @@ use Rattle.syslog_pieces.specs.StructuredData.Element.{ElementValue}
 use Rattle.syslog_pieces.specs.StructuredData.Escapes.{TextUnit, pair, single, unit_text}
 use Rattle.syslog_pieces.specs.StructuredData.{IsValueUnit, IsValue, value, param_row, param_of, param, element, element_row, element_of}
 use Rattle.syslog_pieces.specs.Text.{is_blank}
-use Rattle.syslog_pieces.proofs.PieceLemmas.Class.{AllDeterministic, heads, run_det, some_run_det, exactly_det, texted_det, mapped_front, row_cons, row_head, row_none_here}
+use Rattle.syslog_pieces.proofs.PieceLemmas.Class.{AllDeterministic, heads, run_det, some_run_det, exactly_det, texted_det, mapped_front, row_cons, row_head, row_none_here, nil_front, rows_none_here}
 use Rattle.syslog_pieces.proofs.StructuredDataLemmas.Elements.{unit_goes, space_is_no_close}
 use Rattle.syslog_pieces.proofs.PieceLemmas.Lists.{list_goes, more_goes}
-use Rattle.syslog_pieces.proofs.PieceLemmas.Meets.{Meets, meets_on, meets_none, meets_none_on, mapped_meets, nil_front, row_first, rows_go, no_rows}
+use Rattle.syslog_pieces.proofs.PieceLemmas.Meets.{Meets, meets_on, meets_none, meets_none_on, mapped_meets, row_first, rows_go}
 
 -- ---- bytes, and where a bracket stands in two joined texts
 pub byte_count-append : (a b : Text) → byte_count (a ++ b) ≡ byte_count a + byte_count b
@@ -84,16 +84,16 @@ element_read t u r id ps f g =
     (row_cons bracket (texted (some_run is_id_char) ∷ blanks ∷ inside_row) a.1
     (row_cons (texted (some_run is_id_char)) (blanks ∷ inside_row) b.1
     (row_cons blanks inside_row c.1
-    (subst (λ (x : Text). Front inside x r (ps, (tt, tt))) (sym (nil_front c.0 u c.2)) g))))
+    (subst (λ (x : Text). Front inside x r (ps, (tt, tt))) (sym (nil_front c.2)) g))))
 
 pub no_start : (t : Text) → NoFront start t → NoFront element t
-no_start t n = meets_none element t (Row element_row) t (mapped_meets (Row element_row) ElementValue element_of t) (no_rows start_row inside_row t n)
+no_start t n = meets_none element t (Row element_row) t (mapped_meets (Row element_row) ElementValue element_of t) (rows_none_here start_row inside_row n)
 
 pub param_opens : (t u : Text) (vs : Values opening_row) → Front opening t u vs → Meets param t quoted u
 param_opens t u vs f = meets_on param t (Row param_row) t quoted u (mapped_meets (Row param_row) (Text × Text) param_of t) (rows_go opening_row quoted_row opening_det t u vs f)
 
 pub no_opening : (t : Text) → NoFront opening t → NoFront param t
-no_opening t n = meets_none param t (Row param_row) t (mapped_meets (Row param_row) (Text × Text) param_of t) (no_rows opening_row quoted_row t n)
+no_opening t n = meets_none param t (Row param_row) t (mapped_meets (Row param_row) (Text × Text) param_of t) (rows_none_here opening_row quoted_row n)
 
 pub no_param_opens : (t u : Text) (vs : Values opening_row) → Front opening t u vs → NoFront quoted u → NoFront param t
 no_param_opens t u vs f = meets_none param t quoted u (param_opens t u vs f)
@@ -109,7 +109,7 @@ param_read t u q name v f g =
     (row_cons equals (blanks ∷ quote ∷ quoted_row) b.1
     (row_cons blanks (quote ∷ quoted_row) c.1
     (row_cons quote quoted_row d.1
-    (subst (λ (x : Text). Front quoted x q (v, (tt, tt))) (sym (nil_front d.0 u d.2)) g)))))
+    (subst (λ (x : Text). Front quoted x q (v, (tt, tt))) (sym (nil_front d.2)) g)))))
 
 -- into the first value
 pub list_enters : (t u : Text) (vs : Values opening_row) → NoFront (exactly (93 ∷ [])) t → Front opening t u vs → Meets inside t closing u

@@ -8,9 +8,8 @@ use Rattle.syslog_pieces.specs.Pieces.Class.{Text, Front, Values, Row, exactly}
 use Rattle.syslog_pieces.specs.Bodies.Closing.{quoted_row, quoted}
 use Rattle.syslog_pieces.specs.StructuredData.{IsValue, value}
 use Rattle.syslog_pieces.proofs.TextLemmas.Chars.{chars_cut, one_ascii}
-use Rattle.syslog_pieces.proofs.PieceLemmas.Class.{row_cons, row_head}
+use Rattle.syslog_pieces.proofs.PieceLemmas.Class.{row_cons, row_head, nil_front}
 use Rattle.syslog_pieces.proofs.PieceLemmas.Lists.{begins}
-use Rattle.syslog_pieces.proofs.PieceLemmas.Meets.{nil_front}
 
 module _ (t r : List ℕ) (u : IsUtf8 t) (z : IsUtf8 r) (v : Values quoted_row) (f : Front quoted (chars t) (chars r) v) where
   first : (w : Text) × Front value (chars t) w v.0 × Front (Row (exactly (34 ∷ []) ∷ [])) w (chars r) v.1
@@ -19,7 +18,7 @@ module _ (t r : List ℕ) (u : IsUtf8 t) (z : IsUtf8 r) (v : Values quoted_row) 
   behind : first.0 ≡ 34 ∷ chars r
   behind =
       let s = row_head (exactly (34 ∷ [])) [] first.2 in
-      begins 34 first.0 s.0 s.1 ∙ ap (λ (x : Text). 34 ∷ x) (nil_front s.0 (chars r) s.2)
+      begins 34 first.0 s.0 s.1 ∙ ap (λ (x : Text). 34 ∷ x) (nil_front s.2)
 
   whole : chars t ≡ first.1.piece ++ (34 ∷ chars r)
   whole = first.1.whole ∙ ap (λ (x : Text). first.1.piece ++ x) behind

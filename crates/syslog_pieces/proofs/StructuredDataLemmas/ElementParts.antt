@@ -10,7 +10,9 @@ use Rattle.syslog_pieces.specs.StructuredData.{value, param_row, param, element_
 use Rattle.syslog_pieces.specs.StructuredData.Listed.{full_element, listed, elements_or}
 use Rattle.syslog_pieces.specs.Text.{is_blank}
 use Rattle.syslog_pieces.specs.declared.structured_data.listed.DashRule.{DashRule}
-use Rattle.syslog_pieces.proofs.PieceLemmas.Parts.{Quotes, Quoted, row_texts, row_quotes, part_same, part_left, part_right, part_joined, all_map, all_append, silent, texted_quotes}
+use Rattle.syslog_pieces.proofs.PieceLemmas.Each.{all_map, all_append}
+use Rattle.syslog_pieces.proofs.PieceLemmas.Parts.{Quotes, Quoted, row_texts, row_quotes, part_same, part_left, part_right, part_joined, silent, texted_quotes}
+use Rattle.syslog_pieces.proofs.PieceLemmas.Class.{◌also◌}
 
 -- the texts of a row are parts of it
 row_parts : (Cs : List Class) (k : Quoted Cs) (p q : Text) (vs : Values Cs) → (Row Cs).Is p q vs → AllByRecursion (λ t. IsPart p t) (row_texts Cs k vs)
@@ -40,27 +42,9 @@ value_quotes : Quotes value (λ v. v ∷ [])
 value_quotes p q v h = (part_same p v h.2, tt)
 
 param_quoted : Quoted param_row
-param_quoted = (
-  (λ t. t ∷ []),
-  texted_quotes (some_run is_name_char),
-  (
-    (λ v. []),
-    silent (exactly (61 ∷ [])),
-    (
-      (λ v. []),
-      silent (run is_blank),
-      (
-        (λ v. []),
-        silent (exactly (34 ∷ [])),
-        (
-          (λ v. v ∷ []),
-          value_quotes,
-          ((λ v. []), silent (exactly (34 ∷ [])), tt),
-        ),
-      ),
-    ),
-  ),
-)
+param_quoted =
+    ((λ t. t ∷ []), texted_quotes (some_run is_name_char)) also silent (exactly (61 ∷ [])) also silent (run is_blank)
+    also silent (exactly (34 ∷ [])) also ((λ v. v ∷ []), value_quotes) also silent (exactly (34 ∷ [])) also tt
 
 param_quotes : Quotes param (λ p. p.0 ∷ p.1 ∷ [])
 unfolding param_quoted
@@ -71,23 +55,9 @@ params_quotes : Quotes (list_before param 32 93) (λ ps. flat_map (λ p. p.0 ∷
 params_quotes p q vs h = list_parts param (λ p. p.0 ∷ p.1 ∷ []) param_quotes 32 p q vs h.0
 
 element_quoted : Quoted element_row
-element_quoted = (
-  (λ v. []),
-  silent (exactly (91 ∷ [])),
-  (
-    (λ t. t ∷ []),
-    texted_quotes (some_run is_id_char),
-    (
-      (λ v. []),
-      silent (run is_blank),
-      (
-        (λ ps. flat_map (λ p. p.0 ∷ p.1 ∷ []) ps),
-        params_quotes,
-        ((λ v. []), silent (exactly (93 ∷ [])), tt),
-      ),
-    ),
-  ),
-)
+element_quoted =
+    silent (exactly (91 ∷ [])) also ((λ t. t ∷ []), texted_quotes (some_run is_id_char)) also silent (run is_blank)
+    also ((λ ps. flat_map (λ p. p.0 ∷ p.1 ∷ []) ps), params_quotes) also silent (exactly (93 ∷ [])) also tt
 
 pub element_quotes : Quotes element element_texts
 unfolding element_quoted

@@ -116,8 +116,6 @@ pub strict_front : (t q : Text) (vs : List (Option ElementValue)) → list_any i
 strict_front t q vs e f = record { piece = f.piece; whole = f.whole; is = all_strict f.piece q vs e f.is }
 
 -- ---- the list
-pub dash_list : (t q : Text) → Front (exactly dash) t q tt → Front forgiving t q []
-dash_list t q f = record { piece = f.piece; whole = f.whole; is = inl (f.is, refl) }
 
 pub no_list : (t q : Text) (vs : List (Option ElementValue)) → NoFront (exactly dash) t → Front (many item) t q vs → vs ≡ [] → NoFront forgiving t
 no_list t q vs n f z p r es e (inl (g, h)) = n p r tt e g

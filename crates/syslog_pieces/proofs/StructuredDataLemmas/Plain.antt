@@ -1,7 +1,7 @@
 -- What the tests of plain elements answer.
 use Rattle.std.proofs.Common.{◌≡◌, ◌≢◌, ℕ, ◌<◌, inl, inr, zero, suc, Bool, true, false, not, ◌&&◌, nat_eq, List, [], ◌∷◌, ◌++◌, length, map, get_or, refl, sym, ap, subst, ◌∙◌, arith}
 use Rattle.std.specs.Prelude.{◌↔◌, IsTrue}
-use Rattle.std.proofs.lemmas.List.{append_cancel_right, length-append}
+use Rattle.std.proofs.lemmas.List.{append_cancel_right}
 use Rattle.std.proofs.lemmas.Bool.Decides.{eqb_tells}
 use Rattle.std.specs.List.{flat_map, AllByRecursion}
 use Rattle.std.specs.Str.{chars}
@@ -92,9 +92,6 @@ module _ (text bs xs ys : List ℕ) (s : SplitsRun is_plain_char bs xs ys) (m : 
       value_on d r z =
           let whole : chars ys ≡ 92 ∷ d ∷ r = e ∙ ap (λ (x : ℕ). x ∷ q) is_backslash ∙ ap (λ (x : Text). 92 ∷ x) z in
           meets_on value (chars text ++ quote) value (chars ys ++ quote) value (r ++ quote) to_end (unit_goes (pair d) (chars ys ++ quote) (r ++ quote) tt (ap (λ (x : Text). x ++ quote) whole))
-
-      pub value_shorter : (d : ℕ) (r : Text) → q ≡ d ∷ r → length r < length (chars bs)
-      value_shorter d r z = omega (arith, ap length s.characters, length-append (chars xs) (chars ys), ap length e, ap length z)
 
 -- ---- lists of parameters and of elements
 

@@ -11,6 +11,7 @@ use Rattle.syslog_pieces.specs.StructuredData.Escapes.{TextUnit, pair, single, u
 use Rattle.syslog_pieces.specs.Bodies.Scan.{SplitsRun}
 use Rattle.syslog_pieces.specs.StructuredData.{IsValueUnit, IsValue}
 use Rattle.syslog_pieces.proofs.PieceLemmas.Class.{heads}
+use Rattle.syslog_pieces.proofs.PieceLemmas.Each.{all_append}
 
 -- ---- a text has one split
 lone_same : (k l : Bool) → lone_backslash k ≡ lone_backslash l → k ≡ l
@@ -84,14 +85,8 @@ not_n c e = elim (eqb_tells c 110) [
 not_backslash : (c : ℕ) → is_escaped c ≡ false → c ≢ 92
 not_backslash c e f = let t : is_escaped 92 ≡ false = ap is_escaped (sym f) ∙ e in let u : true ≡ false = t in cc
 
-pair_n : (c : ℕ) → nat_eq c 110 ≡ true → pair_meaning c ≡ 10 ∷ []
-pair_n c e = ap (λ (b : Bool). cond b (10 ∷ []) (cond (is_escaped c) (c ∷ []) (92 ∷ c ∷ []))) e
-
 pub pair_char : (c : ℕ) → nat_eq c 110 ≡ false → is_escaped c ≡ true → pair_meaning c ≡ c ∷ []
 pair_char c e f = ap (λ (b : Bool). cond b (10 ∷ []) (cond (is_escaped c) (c ∷ []) (92 ∷ c ∷ []))) e ∙ ap (λ (b : Bool). cond b (c ∷ []) (92 ∷ c ∷ [])) f
-
-pub pair_both : (c : ℕ) → nat_eq c 110 ≡ false → is_escaped c ≡ false → pair_meaning c ≡ 92 ∷ c ∷ []
-pair_both c e f = ap (λ (b : Bool). cond b (10 ∷ []) (cond (is_escaped c) (c ∷ []) (92 ∷ c ∷ []))) e ∙ ap (λ (b : Bool). cond b (c ∷ []) (92 ∷ c ∷ [])) f
 
 escaped_on : (u : TextUnit) (c : ℕ) (t : Text) → IsUnit u → escaped_char c ≡ unit_text u → unit_meaning u ≡ c ∷ [] → IsUnescaped (escaped t) t → IsUnescaped (escaped (c ∷ t)) (c ∷ t)
 escaped_on u c t h e f i = record {
@@ -138,15 +133,11 @@ pub record Removes (text out rest : Text) : Type 0 where
 pub removes_here : (t : Text) (out : Text) → out ≡ [] → Removes t out t
 removes_here t out e = record { units = []; whole = refl; each = tt; means = e }
 
-each_append : (us vs : List TextUnit) → AllByRecursion IsUnit us → AllByRecursion IsUnit vs → AllByRecursion IsUnit (us ++ vs)
-each_append [] vs a b = b
-each_append (u ∷ us) vs a b = (a.0, each_append us vs a.1 b)
-
 pub removes_on : (t out rest rest' out' more : Text) (us : List TextUnit) → Removes t out rest → rest ≡ flat_map unit_text us ++ rest' → AllByRecursion IsUnit us → out' ≡ out ++ more → more ≡ flat_map unit_meaning us → Removes t out' rest'
 removes_on t out rest rest' out' more us r e h f g = record {
   units = r.units ++ us;
   whole = r.whole ∙ ap (λ (x : Text). flat_map unit_text r.units ++ x) e ∙ sym (append_assoc (flat_map unit_text r.units) (flat_map unit_text us) rest') ∙ ap (λ (x : Text). x ++ rest') (sym (flat_map-append unit_text r.units us));
-  each = each_append r.units us r.each h;
+  each = all_append IsUnit r.units us r.each h;
   means = f ∙ ap (λ (x : Text). out ++ x) g ∙ ap (λ (x : Text). x ++ flat_map unit_meaning us) r.means ∙ sym (flat_map-append unit_meaning r.units us);
 }
 

@@ -91,9 +91,6 @@ module _ (text bs xs ys : Text) (s : SplitsRun is_inert_char bs xs ys) (m : Meet
 pub quoted_det : IsDeterministic quoted
 quoted_det = row_det quoted_row (value_det, (exactly_det (34 ∷ []), tt))
 
-front_shorter : (C : Class) (t q : Text) (v : C.Value) → Front C t q v → length q ≤ length t
-front_shorter C t q v f = omega (arith, ap length f.whole, length-append f.piece q)
-
 -- up to the first value of an element
 pub opened_passes : (C : Class) (text params x : Text) (vs : Values start_row) (ws : Values opening_row) → Front start text params vs → Front opening params x ws → Passes C text x
 opened_passes C text params x vs ws f g = passes_shut C opening opening_shut text params x ws (passes_shut C start start_shut text text params vs (passes_here C text) f) g
@@ -135,9 +132,6 @@ module _ (C : Class) (text x y : Text) (p : Passes C text x) (m : Meets C text c
     passes_shut C opening opening_shut text z r ws (passes_space C text y z (passes_quoted C text x y vs p m f) (begins 32 y z g)) o,
     meets_on C text closing x closing r m (meets_on closing x (Row tail_row) y closing r (row_goes quoted tail_row quoted_det x y vs f) (tail_enters y z r ws (begins 32 y z g) o)),
   )
-
-  pub value_shorter : (z r : Text) (ws : Values opening_row) → Front (exactly (32 ∷ [])) y z tt → Front opening z r ws → length r < length x
-  value_shorter z r ws g o = omega (arith, front_shorter quoted x y vs f, front_shorter opening z r ws o, ap length (begins 32 y z g))
 
 -- what the scan from inside a value answers, of the text whose element it is in
 pub closing_answers : {X : Type 0} (C : Class) (text x : Text) → Passes C text x → Meets C text closing x → (to : X → Text) (r : Result X ℕ)

@@ -1,5 +1,5 @@
 -- What the readers of numbers and words answer.
-use Rattle.std.proofs.Common.{◌≡◌, ◌≢◌, ℕ, ◌-◌, ◌<◌, ◌≤◌, ◌^◌, ◌⊎◌, inl, inr, Bool, List, [], ◌∷◌, ◌++◌, length, take, drop, Option, Some, None, Result, MatchOption, refl, sym, ap, subst, ◌∙◌, arith, append_assoc, rules}
+use Rattle.std.proofs.Common.{◌≡◌, ◌≢◌, ℕ, ◌-◌, ◌<◌, ◌≤◌, ◌^◌, ◌⊎◌, inl, inr, List, [], ◌∷◌, ◌++◌, length, take, drop, Option, Some, None, Result, MatchOption, refl, sym, ap, subst, ◌∙◌, arith, append_assoc, rules}
 use Rattle.std.proofs.lemmas.List.{append_cancel_left, length-append, take-append-le, take-append-drop, drop_all, same_from_push}
 use Rattle.std.proofs.lemmas.Str.{chars_past_char, chars-append, encodes-chars, encodes-IsAscii, chars-IsAscii, encodes-append, IsUtf8-take, IsUtf8-from_ascii}
 use Rattle.std.proofs.lemmas.Str.Parse.{IsNumeralModel, IsDigitsTest, numerals_by_value, parse_digits}
@@ -15,6 +15,7 @@ use Rattle.syslog_pieces.specs.Text.{number, dash, colon, Names, word, EndsInCol
 use Rattle.syslog_pieces.proofs.TextLemmas.Chars.{cut_at, chars_nonempty, chars_empty, digits_plain, one_ascii}
 use Rattle.syslog_pieces.proofs.PieceLemmas.Class.{run_same}
 use Rattle.syslog_pieces.proofs.TextLemmas.Runs.{run_is}
+use Rattle.syslog_pieces.proofs.PieceLemmas.Each.{each_front}
 
 -- ---- each is deterministic
 pub number_det : (limit : ℕ) → IsDeterministic (number limit)
@@ -135,10 +136,6 @@ ends_in_colon xs u (front, e) = (
   sym (encodes-chars xs u) ∙ ap encode_utf8_all e ∙ encodes-append front colon ∙ ap (λ (x : List ℕ). encode_utf8_all front ++ x) (encodes-IsAscii colon colon_ascii),
 )
 
-all_left : (h : ℕ → Bool) (p q : List ℕ) → Each h (p ++ q) → Each h p
-all_left h [] q a = tt
-all_left h (c ∷ p) q a = (a.0, all_left h p q a.1)
-
 module _ (bs xs ys : List ℕ) (s : SplitsRun is_not_whitespace bs xs ys) where
   -- either the piece is the run, or the run is the piece and a colon
   host_run : (p q : List ℕ) (v : Option (List ℕ)) → chars bs ≡ p ++ q → IsHost p q v → ((p ≡ chars xs) × (EndsInColon p → ⊥)) ⊎ (p ++ colon ≡ chars xs)
@@ -175,7 +172,7 @@ module _ (bs xs ys : List ℕ) (s : SplitsRun is_not_whitespace bs xs ys) where
           whole = ap chars f ∙ chars-append front after u;
           is = (
             chars_nonempty front u l,
-            all_left is_not_whitespace (chars front) colon (subst (λ (x : List ℕ). Each is_not_whitespace x) run_chars s.each),
+            each_front is_not_whitespace (chars front) colon (subst (λ (x : List ℕ). Each is_not_whitespace x) run_chars s.each),
             inr (chars ys, ap chars after_is ∙ chars-append colon ys (IsUtf8-from_ascii colon colon_ascii) ∙ ap (λ (x : List ℕ). x ++ chars ys) (chars-IsAscii colon colon_ascii), s.ends, refl),
           );
         }

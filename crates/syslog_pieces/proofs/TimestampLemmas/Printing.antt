@@ -1,9 +1,9 @@
 -- A printed stamp is ASCII, so that its characters are its bytes.
 use Rattle.std.proofs.Common.{◌≡◌, ℕ, ℤ, pos, negsuc, zero, suc, ◌+◌, ◌+ℤ◌, ◌/◌, ◌%◌, ◌<◌, ◌≤◌, ◌==◌, List, ◌∷◌, ◌++◌, arith, unsigned_abs}
 use Rattle.std.proofs.lemmas.List.Elements.{All-append}
-use Rattle.std.proofs.lemmas.Str.{encodes-IsAscii, chars-IsAscii}
+use Rattle.std.proofs.lemmas.Str.{encodes-IsAscii}
 use Rattle.std.specs.List.{All}
-use Rattle.std.specs.Str.{IsAscii, chars, encode_utf8_all}
+use Rattle.std.specs.Str.{IsAscii, encode_utf8_all}
 use Rattle.jiff.specs.Words.{IsTimestampNanos, IsOffsetSeconds, nanos_of_seconds}
 use Rattle.jiff_core.specs.Calendar.{IsWithin}
 use Rattle.jiff_core.proofs.CalendarLemmas.{days_in_month_bounds}
@@ -104,8 +104,3 @@ printed_stamp-ascii s =
 pub printed_stamp-bytes : (s : OffsetTimestamp)
     → encode_utf8_all (printed_stamp s.instant.nanosecond s.offset.seconds) ≡ printed_stamp s.instant.nanosecond s.offset.seconds
 printed_stamp-bytes s = encodes-IsAscii _ (printed_stamp-ascii s)
-
--- and the other way round
-pub printed_stamp-chars : (s : OffsetTimestamp)
-    → chars (printed_stamp s.instant.nanosecond s.offset.seconds) ≡ printed_stamp s.instant.nanosecond s.offset.seconds
-printed_stamp-chars s = chars-IsAscii _ (printed_stamp-ascii s)

@@ -262,9 +262,6 @@ written-is text w h =
 
 -- and what a text writes, the reader reads
 
-after_byte-of : (byte : ℕ) (rest : List ℕ) → after_byte byte (byte ∷ rest) ≡ Some rest
-after_byte-of byte rest = let same : (byte == byte) ≡ true = grind (arith, nat_tests) in rw same
-
 after_letter-of : (upper c : ℕ) (rest : List ℕ) → IsLetter upper c → after_letter upper (c ∷ rest) ≡ Some rest
 after_letter-of upper c rest l = let same : (c == upper || c == upper + 32) ≡ true = grind (arith, nat_tests, l) in rw same
 

@@ -1,32 +1,17 @@
 -- What a header may know of a text that has a stamp.
-use Rattle.std.proofs.Common.{◌≡◌, ◌≢◌, ℕ, ◌+◌, ◌/◌, ◌<◌, false, List, ◌∷◌, ◌++◌, length, arith, zero, suc, []}
+use Rattle.std.proofs.Common.{◌≡◌, ℕ, ◌+◌, ◌/◌, false, List, ◌∷◌, ◌++◌, arith}
 use Rattle.std.proofs.lemmas.Bool.Decides.{nat_tests}
 use Rattle.std.specs.Char.{IsAsciiDigit, is_ascii_digit, is_whitespace}
-use Rattle.std.specs.List.{All, AllByRecursion}
-use Rattle.std.specs.Str.{IsAscii}
+use Rattle.std.specs.List.{All}
 use Rattle.jiff_fmt.specs.Text.{pad4}
 use Rattle.syslog_pieces.specs.Pieces.Class.{Each}
 use Rattle.syslog_pieces.specs.declared.timestamp.OffsetTimestamp.{OffsetTimestamp}
 use Rattle.syslog_pieces.specs.Timestamp.{IsStampText}
-use Rattle.syslog_pieces.proofs.TimestampLemmas.Characters.{IsStampCharacter, stamp_characters, stamp_ascii}
+use Rattle.syslog_pieces.proofs.TimestampLemmas.Characters.{IsStampCharacter, stamp_characters}
 
 -- each character is one from `+` to `z`
 pub stamp_text-characters : (text : List ℕ) (s : OffsetTimestamp) → IsStampText text s → All IsStampCharacter text
 stamp_text-characters text s h = stamp_characters text s.instant.nanosecond s.offset.seconds h
-
--- each character is ASCII
-pub stamp_text-ascii : (text : List ℕ) (s : OffsetTimestamp) → IsStampText text s → IsAscii text
-stamp_text-ascii text s h = stamp_ascii text s.instant.nanosecond s.offset.seconds h
-
-each_of_all : (P : ℕ → Type 0) (text : List ℕ) → All P text → AllByRecursion P text
-each_of_all P [] h = tt
-each_of_all P (c ∷ cs) h =
-    (h zero c (omega arith), each_of_all P cs (λ k d l. h (suc k) d (omega arith)))
-
--- what holds of each character from `+` to `z` holds of each of the text
-pub stamp_text-each : (P : ℕ → Type 0) → ((c : ℕ) → IsStampCharacter c → P c) → (text : List ℕ) (s : OffsetTimestamp) → IsStampText text s → AllByRecursion P text
-stamp_text-each P holds text s h =
-    each_of_all P text (λ k d l. holds _ (stamp_text-characters text s h k d l))
 
 -- such a character is no white space
 pub stamp_character-visible : (c : ℕ) → IsStampCharacter c → is_whitespace c ≡ false
@@ -36,22 +21,12 @@ stamp_character-visible c h = grind (arith, nat_tests)
 pub stamp_text-visible : (text : List ℕ) (s : OffsetTimestamp) → IsStampText text s → All (λ c. is_whitespace c ≡ false) text
 stamp_text-visible text s h k d l = stamp_character-visible _ (stamp_text-characters text s h k d l)
 
--- no character is a space or a tab
-pub stamp_text-no_blank : (text : List ℕ) (s : OffsetTimestamp) → IsStampText text s → All (λ c. (c ≢ 32) × (c ≢ 9)) text
-stamp_text-no_blank text s h k d l =
-    let (from, below) = stamp_text-characters text s h k d l in (omega arith, omega arith)
-
 -- the text begins with a digit
 pub stamp_text-first : (text : List ℕ) (s : OffsetTimestamp) → IsStampText text s
     → (c : ℕ) × (rest : List ℕ) × (text ≡ c ∷ rest) × IsAsciiDigit c
 stamp_text-first text s (w, writes, stamp) =
     let year = writes.fits.year in
     (48 + w.year / 100 / 10, _, writes.whole, (omega arith, omega arith))
-
--- the text is not empty
-pub stamp_text-nonempty : (text : List ℕ) (s : OffsetTimestamp) → IsStampText text s → 0 < length text
-stamp_text-nonempty text s h =
-    let (c, rest, e, digit) = stamp_text-first text s h in rw e (omega arith)
 
 -- the year of the text: four digits, which a dash follows
 pub stamp_text-year : (text : List ℕ) (s : OffsetTimestamp) → IsStampText text s

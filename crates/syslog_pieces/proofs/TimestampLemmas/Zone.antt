@@ -7,7 +7,7 @@ use Rattle.jiff.specs.declared.tz.timezone.TimeZone.{TimeZone as ZoneHandle}
 use Rattle.jiff.specs.Words.{plain_zone, offset_at, ambiguous_at}
 use Rattle.std.specs.Borrow.{Bor}
 use Rattle.syslog_pieces.specs.Timestamp.{IsAnswer}
-use Rattle.syslog_pieces.specs.Timestamp.Fields.{AreCivil, fields_of, IsStampAt}
+use Rattle.syslog_pieces.specs.Timestamp.Fields.{fields_of, IsStampAt}
 use Rattle.syslog_pieces.specs.Timestamp.Zone.{Dating, given_zone, IsStampOf, IsStampIn, IsStampInGap, IsLocalStampOf, IsLocalStampIn, IsStampInAny, IsStampOfFields, IsMonthStamp, civil_of, year_of}
 use Rattle.syslog_pieces.specs.declared.timestamp.OffsetTimestamp.{OffsetTimestamp}
 use Rattle.syslog_pieces.specs.declared.timestamp.fields.CivilFields.{CivilFields}
@@ -74,10 +74,6 @@ module _ (f : CivilFields) (dt : DateTime) (e : fields_of dt ≡ f) (local : Tim
   answer_local is h =
       subst (λ (x : Option (Bor ZoneHandle)). IsAnswer (IsStampOfFields (given_zone x) local f) r) (sym is)
       (answer_of_fields f dt None local r e h)
-
--- no datetime has the fields
-pub no_fields : (f : CivilFields) (tz : Option TimeZone) (local : TimeZone) → (AreCivil f → ⊥) → IsAnswer (IsStampOfFields tz local f) None
-no_fields f tz local n s (dt, e, h) = n (civil-fields dt f e)
 
 -- ---- the year of a month date
 module _ (dating : Dating) (date : MonthDate) where

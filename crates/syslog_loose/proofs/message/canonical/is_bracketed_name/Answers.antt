@@ -2,18 +2,26 @@ use Rattle.std.proofs.Common.{refl}
 use Rattle.std.specs.Str.{chars}
 use Rattle.syslog_pieces.proofs.ProcIdLemmas.ReadBack.{no_number_told}
 use Rattle.syslog_pieces.proofs.TextLemmas.Plain.{false_is, no_truth}
-use Rattle.syslog_loose.proofs.CanonicalLemmas.{process_chars, tag_chars, open_chars}
+use Rattle.syslog_pieces.proofs.PieceLemmas.Each.{each_both, each_left, each_right}
 use Rattle.syslog_loose.proofs.message.canonical.is_bracketed_name.Goals as goal
+use Rattle.syslog_pieces.specs.Text.{is_tag_char}
+use Rattle.syslog_pieces.specs.Text.CharClass.{is_open_char}
 
 pub returns-then-not-is_some_of : goal.returns-then-not-is_some_of
-returns-then-not-is_some_of c = false_is (λ h. no_truth (c.if-not-is_some_of.ensures.1 (h.0, tag_chars (chars c.args.name.now) h.1)))
+returns-then-not-is_some_of c =
+    false_is (λ h. no_truth
+    (c.if-not-is_some_of.ensures.1 (h.0, each_left is_tag_char is_open_char (chars c.args.name.now) h.1)))
 
 pub returns-then-not-is_only : goal.returns-then-not-is_only
-returns-then-not-is_only c = false_is (λ h. no_truth (c.if-not-is_only.ensures.1 (open_chars (chars c.args.name.now) h.1)))
+returns-then-not-is_only c =
+    false_is (λ h. no_truth (c.if-not-is_only.ensures.1 (each_right is_tag_char is_open_char
+    (chars c.args.name.now) h.1)))
 
 pub returns : goal.returns
 returns c =
     let (long, tags) = c.if-not-is_some_of.ensures.0 refl in
     let unclosed = c.if-not-is_only.ensures.0 refl in
-    let number = no_number_told (chars c.args.name.now) c.names_number.result c.names_number.ensures in
-    ((λ h. (long, process_chars (chars c.args.name.now) tags unclosed, number.0 h)), (λ h. number.1 h.2))
+    let number = no_number_told (chars c.args.name.now) c.names_number.result c.names_number.ensures in (
+      (λ h. (long, each_both is_tag_char is_open_char (chars c.args.name.now) tags unclosed, number.0 h)),
+      (λ h. number.1 h.2),
+    )
