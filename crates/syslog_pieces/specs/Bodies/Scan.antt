@@ -62,9 +62,3 @@ pub record IsBare (bytes : List ℕ) : Type 0 where
   pub whole : bytes ≡ first ∷ (middle ++ (last ∷ []))
   pub first_in : byte_in Visible first ≡ true
   pub last_in : byte_in Visible last ≡ true
-
--- whether runs of the class are scanned by blocks: those of digits and blanks are too short for it
-abbrev pub is_long : CharClass → Bool
-is_long Digit = false
-is_long Blank = false
-is_long class = true
