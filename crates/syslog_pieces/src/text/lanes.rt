@@ -2,7 +2,7 @@
 //!
 //! Each compares sixteen bytes at once, and answers the place of the first that stops the run.
 ghost use Rattle.std.specs.Prelude.{◌≡◌, ◌+◌, ◌≤◌, length};
-ghost use Rattle.syslog_pieces.specs.Bodies.Scan.{IsRunIn, byte_in, first_set};
+ghost use Rattle.syslog_pieces.specs.Bodies.Scan.{IsRunIn, byte_in, first_set, is_zero};
 ghost use Rattle.syslog_pieces.specs.declared.text.CharClass.TheVariants.{Digit, Blank, Visible, Id, Name, Plain, Open, Inert, Bare, Tag, Label};
 
 use crate::text::CharClass;
@@ -143,6 +143,17 @@ fn label_run(bytes: &[u8], at: usize) -> usize
     let past = white | v.simd_ge(u8x16::splat(0x80));
     let marks = v.simd_eq(u8x16::splat(b':')) | v.simd_eq(u8x16::splat(b'['));
     let stops = past | marks;
+    first_set(stops.to_bitmask())
+}
+
+/// How many of the next sixteen bytes, from the first, are the digit zero.
+#[inline(always)]
+pub(crate) fn zero_run(bytes: &[u8], at: usize) -> usize
+    requires { at + LANES ≤ length bytes.now }
+    ensures { IsRunIn is_zero bytes.now at result }
+{
+    let v = u8x16::from_slice(&bytes[at..]);
+    let stops = v.simd_ne(u8x16::splat(b'0'));
     first_set(stops.to_bitmask())
 }
 
