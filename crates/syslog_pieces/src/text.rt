@@ -96,8 +96,8 @@ pub fn run_end(text: &str, class: CharClass) -> usize
     }
 }
 
-// The same of a run that reaches a character past ASCII: those are looked at one by one, and the bytes between them, and
-// behind them, sixteen at a time.
+// The same of a run that reaches a character past ASCII: those are looked at one by one, and the bytes between and
+// behind them sixteen at a time.
 #[cold]
 #[inline(never)]
 fn mixed_run_end(text: &str, class: CharClass) -> usize

@@ -91,7 +91,8 @@ strict_inside [] ws e f = let k = ap length f in omega arith
 strict_inside (None ∷ vs) ws e f = strict_inside vs ws e f
 strict_inside (Some d ∷ vs) ws e f = let k = ap length f in omega arith
 
-pub element_asks : (t s s' : Text) (vs : List (Option ElementValue)) (e : ElementValue) → HasRead item t vs s → Front element s s' e → NeedsNoMemory t → ⊥
+pub element_asks : (t s s' : Text) (vs : List (Option ElementValue)) (e : ElementValue) → HasRead item t vs s
+    → Front element s s' e → NeedsNoMemory t → ⊥
 element_asks t s s' vs e h f n = no_many_no item item_shorter (length s') s' (omega arith) (λ r ws g.
     let all = h r (Some e ∷ ws) (many_cons item s s' r (Some e) ws (element_item s s' e f) g) in
     strict_inside vs ws e (n r (strict (vs ++ (Some e ∷ ws))) (record {
@@ -101,12 +102,15 @@ element_asks t s s' vs e h f n = no_many_no item item_shorter (length s') s' (om
     })))
 
 -- no element is left, where no memory is needed
-pub none_asks : (t s : Text) (vs : List (Option ElementValue)) → HasRead item t vs s → NeedsNoMemory t → NoFront element s
+pub none_asks : (t s : Text) (vs : List (Option ElementValue)) → HasRead item t vs s → NeedsNoMemory t
+    → NoFront element s
 none_asks t s vs h n p q e w i = element_asks t s q vs e h (record { piece = p; whole = w; is = i }) n
 
-pub strict_asks : (t s s' : Text) (vs : List (Option ElementValue)) (v : Option ElementValue) → true ≡ is_some v → HasRead item t vs s → Front item s s' v → NeedsNoMemory t → ⊥
+pub strict_asks : (t s s' : Text) (vs : List (Option ElementValue)) (v : Option ElementValue) → true ≡ is_some v
+    → HasRead item t vs s → Front item s s' v → NeedsNoMemory t → ⊥
 strict_asks t s s' vs None e h f n = let z : true ≡ false = e in cc
-strict_asks t s s' vs (Some d) e h f n = element_asks t s s' vs d h (record { piece = f.piece; whole = f.whole; is = f.is }) n
+strict_asks t s s' vs (Some d) e h f n = element_asks t s s' vs d h
+    (record { piece = f.piece; whole = f.whole; is = f.is }) n
 
 -- ---- the list
 pub dash_list : (t q : Text) → Front (exactly dash) t q tt → Front forgiving t q []

@@ -29,18 +29,28 @@ full_is_element f = record { piece = f.piece; whole = f.whole; is = f.is.0 }
 pub full_shorter : (t u : Text) (v : ElementValue) → Front full_element t u v → length u < length t
 full_shorter t u v f = element_shorter t u v (full_is_element f)
 
-pub bare_is_not_full : (t q : Text) (v : ElementValue) → Front element t q v → length v.params ≡ 0 → NoFront full_element t
+pub bare_is_not_full : (t q : Text) (v : ElementValue) → Front element t q v → length v.params ≡ 0
+    → NoFront full_element t
 bare_is_not_full t q v f z p r w e h =
     let s = front_same element element_det f (record { piece = p; whole = e; is = h.0 }) in
     let k = ap (λ (x : ElementValue). length x.params) s.1 in
     omega (arith, h.1, k, z)
 
 -- where such an element begins the text, the element that was read there is it
-pub full_read : {X : Type 0} (view : X → ElementValue) (t q : Text) (v : ElementValue) (r : Option (X × Bor (List ℕ))) → Front full_element t q v → Reads element view t r → Reads full_element view t r
+pub full_read : {X : Type 0} (view : X → ElementValue) (t q : Text) (v : ElementValue) (r : Option (X × Bor (List ℕ)))
+    → Front full_element t q v → Reads element view t r → Reads full_element view t r
 full_read view t q v None f n = absurd (no_front_no element n (full_is_element f))
 full_read view t q v (Some x) f g =
     let s = front_same element element_det (full_is_element f) g in
-    record { piece = g.piece; whole = g.whole; is = (g.is, subst (λ (y : ElementValue). 0 < length y.params) s.1 f.is.1) }
+    record {
+      piece = g.piece;
+      whole = g.whole;
+      is = (
+        g.is,
+        subst (λ (y : ElementValue). 0 < length y.params)
+            s.1 f.is.1,
+      );
+    }
 
 -- such an element begins with a bracket
 pub full_begins : (p q : Text) (v : ElementValue) → full_element.Is p q v → (r : Text) × (p ++ q ≡ 91 ∷ r)

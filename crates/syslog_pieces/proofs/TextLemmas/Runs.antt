@@ -46,7 +46,8 @@ module _ (h : ℕ → Bool) (bs xs ys : List ℕ) (n : ℕ) (u : IsUtf8 bs) (r :
   is_ascii = ascii_by_place xs (λ k lt. (place k lt).0)
 
   pub ascii_each : Each h (chars xs)
-  ascii_each = subst (λ (l : List ℕ). Each h l) (sym (chars-IsAscii xs is_ascii)) (each_by_place h xs (λ k lt. (place k lt).1))
+  ascii_each = subst (λ (l : List ℕ). Each h l) (sym (chars-IsAscii xs is_ascii))
+      (each_by_place h xs (λ k lt. (place k lt).1))
 
   pub ascii_splits : IsCharBoundary bs n → Ends h (chars ys) → SplitsRun h bs xs ys
   ascii_splits boundary ends =
@@ -89,15 +90,19 @@ pub split_at_end : (h : ℕ → Bool) (bs xs ys : List ℕ) (n : ℕ) → EndsRu
 split_at_end h bs xs ys n e f g = subst (λ (x : List ℕ). SplitsRun h bs x ys) (sym f) (subst (λ (y : List ℕ). SplitsRun h bs (take n bs) y) (sym g) e.1)
 
 -- ---- a run by its stretches: of ASCII, and past it
-behind_ascii : (bs : List ℕ) (n : ℕ) → IsUtf8 bs → n ≤ length bs → ((k : ℕ) → k < n → get_or bs k 0 < 128) → IsUtf8 (drop n bs)
+behind_ascii : (bs : List ℕ) (n : ℕ) → IsUtf8 bs → n ≤ length bs → ((k : ℕ) → k < n → get_or bs k 0 < 128)
+    → IsUtf8 (drop n bs)
 behind_ascii bs zero u l f = u
 behind_ascii [] (suc n) u l f = absurd (omega arith)
 behind_ascii (b ∷ bs) (suc n) u l f =
-    behind_ascii bs n (IsUtf8-past_char (b ∷ bs) bs b u (ap (λ (x : List ℕ). x ++ bs) (sym (encode_ascii b (f 0 (omega arith)))))) (omega arith) (λ k lt. f (suc k) (omega arith))
+    behind_ascii bs n (IsUtf8-past_char (b ∷ bs) bs b u
+    (ap (λ (x : List ℕ). x ++ bs) (sym (encode_ascii b (f 0 (omega arith)))))) (omega arith)
+    (λ k lt. f (suc k) (omega arith))
 
 -- a text may be cut behind a run of ASCII bytes
 pub ascii_boundary : (h : ℕ → Bool) (bs : List ℕ) (n : ℕ) → IsUtf8 bs → IsRun (ascii_of h) bs n → IsCharBoundary bs n
-ascii_boundary h bs n u r = IsCharBoundary-from_drop bs n r.within (behind_ascii bs n u r.within (λ k lt. (below_of _ _ (r.pass k lt)).0))
+ascii_boundary h bs n u r = IsCharBoundary-from_drop bs n r.within
+    (behind_ascii bs n u r.within (λ k lt. (below_of _ _ (r.pass k lt)).0))
 
 -- the characters before a place pass the test, and there the rest begins
 pub record HasPassed (test : ℕ → Bool) (bs rest : List ℕ) (n : ℕ) : Type 0 where
@@ -111,15 +116,23 @@ each_on test (c ∷ p) q a b = (a.0, each_on test p q a.1 b)
 
 module _ (test : ℕ → Bool) (bs : List ℕ) (u : IsUtf8 bs) where
   pub passed_none : HasPassed test bs bs 0
-  passed_none = record { boundary = IsCharBoundary-start bs u; left = refl; each = subst (λ (x : Text). Each test x) (sym chars-nil) tt }
+  passed_none = record {
+    boundary = IsCharBoundary-start bs u;
+    left = refl;
+    each = subst (λ (x : Text). Each test x)
+        (sym chars-nil) tt;
+  }
 
-  pub passed_more : (rest rest' : List ℕ) (n k : ℕ) → HasPassed test bs rest n → IsCharBoundary rest k → Each test (chars (take k rest)) → rest' ≡ drop k rest → HasPassed test bs rest' (n + k)
+  pub passed_more : (rest rest' : List ℕ) (n k : ℕ) → HasPassed test bs rest n → IsCharBoundary rest k
+      → Each test (chars (take k rest)) → rest' ≡ drop k rest → HasPassed test bs rest' (n + k)
   passed_more rest rest' n k p b e f = record {
     boundary = IsCharBoundary-from_rest bs n k p.boundary.0 (subst (λ (x : List ℕ). IsCharBoundary x k) p.left b);
     left = f ∙ ap (drop k) p.left ∙ drop-drop k n bs;
     each = subst (λ (x : Text). Each test x)
-        (sym (ap chars (take-add n k bs) ∙ chars-append (take n bs) (take k (drop n bs)) (IsUtf8-take bs n u p.boundary)))
-        (each_on test (chars (take n bs)) (chars (take k (drop n bs))) p.each (subst (λ (x : List ℕ). Each test (chars (take k x))) p.left e));
+        (sym (ap chars (take-add n k bs) ∙ chars-append (take n bs) (take k (drop n bs))
+        (IsUtf8-take bs n u p.boundary)))
+        (each_on test (chars (take n bs)) (chars (take k (drop n bs))) p.each
+        (subst (λ (x : List ℕ). Each test (chars (take k x))) p.left e));
   }
 
   pub passed_ends : (rest : List ℕ) (n : ℕ) → HasPassed test bs rest n → Ends test (chars rest) → EndsRun test bs n
@@ -146,17 +159,21 @@ past_each h [] a = tt
 past_each h (c ∷ t) a = ((and_parts (not (nat_lt c 128)) (h c) a.0).1, past_each h t a.1)
 
 -- where neither an ASCII byte nor a character past ASCII passes the test, no character does
-both_end : (h : ℕ → Bool) (bs : List ℕ) (t : Text) → IsUtf8 bs → chars bs ≡ t → (0 < length bs → ascii_of h (get_or bs 0 0) ≡ false) → Ends (past_of_ascii h) t → Ends h t
+both_end : (h : ℕ → Bool) (bs : List ℕ) (t : Text) → IsUtf8 bs → chars bs ≡ t
+    → (0 < length bs → ascii_of h (get_or bs 0 0) ≡ false) → Ends (past_of_ascii h) t → Ends h t
 both_end h bs [] u e f g = tt
 both_end h bs (c ∷ cs) u e f g = elim (cases_Bool (nat_lt c 128)) [
   | inl t ↦ (
       let low : c < 128 = ltb-true c 128 t in
-      let w : bs ≡ c ∷ encode_utf8_all cs = sym (encodes-chars bs u) ∙ ap encode_utf8_all e ∙ ap (λ (x : List ℕ). x ++ encode_utf8_all cs) (encode_ascii c low) in
-      past_of c (h c) (subst (λ (x : ℕ). ascii_of h x ≡ false) (ap (λ (x : List ℕ). get_or x 0 0) w) (f (let k = ap length w in omega arith))) low)
+      let w : bs ≡ c ∷ encode_utf8_all cs = sym (encodes-chars bs u) ∙ ap encode_utf8_all e
+      ∙ ap (λ (x : List ℕ). x ++ encode_utf8_all cs) (encode_ascii c low) in
+      past_of c (h c) (subst (λ (x : ℕ). ascii_of h x ≡ false) (ap (λ (x : List ℕ). get_or x 0 0) w)
+      (f (let k = ap length w in omega arith))) low)
   | inr t ↦ rw t at g
 ]
 
-pub ends_at_both : (h : ℕ → Bool) (bs : List ℕ) → IsUtf8 bs → (0 < length bs → ascii_of h (get_or bs 0 0) ≡ false) → Ends (past_of_ascii h) (chars bs) → Ends h (chars bs)
+pub ends_at_both : (h : ℕ → Bool) (bs : List ℕ) → IsUtf8 bs → (0 < length bs → ascii_of h (get_or bs 0 0) ≡ false)
+    → Ends (past_of_ascii h) (chars bs) → Ends h (chars bs)
 ends_at_both h bs u f g = both_end h bs (chars bs) u refl f g
 
 -- ---- the front of a run

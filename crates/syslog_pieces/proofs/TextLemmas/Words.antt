@@ -70,21 +70,27 @@ pub parsed_digits : (xs : List ℕ) → IsUtf8 xs → Each is_ascii_digit (chars
 parsed_digits xs u a E r h = parse_digits own 32 xs r h (subst (λ (x : List ℕ). Each is_ascii_digit x) (digits_plain xs u a) a)
 
 -- zeros ahead add nothing
-pub zeros_off : (ds : List ℕ) (n : ℕ) → ((k : ℕ) → k < n → get_or ds k 0 ≡ 48) → digits_value 10 (drop n ds) ≡ digits_value 10 ds
+pub zeros_off : (ds : List ℕ) (n : ℕ) → ((k : ℕ) → k < n → get_or ds k 0 ≡ 48)
+    → digits_value 10 (drop n ds) ≡ digits_value 10 ds
 zeros_off ds zero f = refl
 zeros_off [] (suc n) f = refl
-zeros_off (d ∷ ds) (suc n) f = zeros_off ds n (λ k l. f (suc k) (omega arith)) ∙ ap (λ (x : ℕ). digits_value 10 (x ∷ ds)) (sym (f 0 (omega arith)))
+zeros_off (d ∷ ds) (suc n) f = zeros_off ds n (λ k l. f (suc k) (omega arith))
+    ∙ ap (λ (x : ℕ). digits_value 10 (x ∷ ds)) (sym (f 0 (omega arith)))
 
 each_behind : (test : ℕ → Bool) (ds : List ℕ) (n : ℕ) → Each test ds → Each test (drop n ds)
 each_behind test ds zero a = a
 each_behind test [] (suc n) a = tt
 each_behind test (d ∷ ds) (suc n) a = each_behind test ds n a.1
 
-pub digits_behind : (ds : List ℕ) (n : ℕ) → IsUtf8 ds → Each is_ascii_digit (chars ds) → n ≤ length ds → IsCharBoundary ds n × Each is_ascii_digit (chars (drop n ds))
+pub digits_behind : (ds : List ℕ) (n : ℕ) → IsUtf8 ds → Each is_ascii_digit (chars ds) → n ≤ length ds
+    → IsCharBoundary ds n × Each is_ascii_digit (chars (drop n ds))
 digits_behind ds n u a l =
     let each = subst (λ (x : List ℕ). Each is_ascii_digit x) (digits_plain ds u a) a in
-    let ascii = digits_ascii ds each in
-    (IsCharBoundary-from_ascii ds n ascii l, subst (λ (x : List ℕ). Each is_ascii_digit x) (sym (chars-IsAscii (drop n ds) (IsAscii-drop ds n ascii))) (each_behind is_ascii_digit ds n each))
+    let ascii = digits_ascii ds each in (
+      IsCharBoundary-from_ascii ds n ascii l,
+      subst (λ (x : List ℕ). Each is_ascii_digit x)
+          (sym (chars-IsAscii (drop n ds) (IsAscii-drop ds n ascii))) (each_behind is_ascii_digit ds n each),
+    )
 
 module _ (bs xs ys : List ℕ) (s : SplitsRun is_ascii_digit bs xs ys) where
   plain : chars xs ≡ xs

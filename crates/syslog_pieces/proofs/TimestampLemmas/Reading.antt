@@ -345,4 +345,5 @@ written-of text w h =
 
 -- no text is shorter than a date and a clock
 pub short-none : (text : List ℕ) → length text < 19 → written text ≡ None
-short-none text h = by_option (written text) (λ e. e) (λ w e. let k = ap length (written-is text w e).whole in absurd (omega arith))
+short-none text h = by_option (written text) (λ e. e)
+    (λ w e. let k = ap length (written-is text w e).whole in absurd (omega arith))

@@ -95,7 +95,8 @@ pub(super) const NOTED: usize = 16;
 #[inline(always)]
 fn note_params<'a>(text: &'a str, notes: &mut [(&'a str, &'a str)]) -> Option<(usize, &'a str)>
     ensures { IfSome result (λ read. (read.0 ≤ length notes.new)
-        × Front inside (chars text.now) (shown read.1) (map (param_value (λ s. shown s)) (take read.0 notes.new), (tt, tt))) }
+        × Front inside (chars text.now) (shown read.1)
+        (map (param_value (λ s. shown s)) (take read.0 notes.new), (tt, tt))) }
 {
     if let Some(end) = literal(text, ']') {
         return Some((0, end));

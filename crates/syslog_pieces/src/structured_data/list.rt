@@ -65,7 +65,8 @@ fn noted_elements<'a>(
     text: &'a str,
 ) -> Result<(Vec<StructuredElement<&'a str>>, &'a str), AllocError>
     ensures elements { IfOk result (λ read. IsUtf8 read.1.now
-        × HasRead item_class (chars text.now) (map Some (map (element_value (λ s. shown s)) read.0.items)) (shown read.1)) }
+        × HasRead item_class (chars text.now)
+        (map Some (map (element_value (λ s. shown s)) read.0.items)) (shown read.1)) }
     ensures memory { NeedsNoMemory (chars text.now) → IsOk result }
 {
     let mut notes = [("", ""); NOTED];

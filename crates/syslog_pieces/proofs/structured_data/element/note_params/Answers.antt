@@ -19,13 +19,18 @@ abbrev seen : List (Bor (List ℕ) × Bor (List ℕ)) → List (Text × Text)
 seen = map (param_value (λ s. shown s))
 
 -- one note more
-noted : (notes : List (Bor (List ℕ) × Bor (List ℕ))) (count : ℕ) (x : Bor (List ℕ) × Bor (List ℕ)) → count < length notes → seen (take (count + 1) (slice_set notes count x)) ≡ seen (take count notes) ++ (param_value (λ s. shown s) x ∷ [])
-noted notes count x h = ap seen (take_more_set notes count x h) ∙ map-append (param_value (λ (s : Bor (List ℕ)). shown s)) (take count notes) (x ∷ [])
+noted : (notes : List (Bor (List ℕ) × Bor (List ℕ))) (count : ℕ) (x : Bor (List ℕ) × Bor (List ℕ))
+    → count < length notes → seen (take (count + 1) (slice_set notes count x)) ≡ seen (take count notes) ++
+    (param_value (λ s. shown s) x ∷ [])
+noted notes count x h = ap seen (take_more_set notes count x h)
+    ∙ map-append (param_value (λ (s : Bor (List ℕ)). shown s)) (take count notes) (x ∷ [])
 
 pub returns-in-Some : goal.returns-in-Some
 returns-in-Some c = (
   omega arith,
-  row_cons (list_before param 32 93) (bracket ∷ []) (list_here param 32 93 (chars c.args.text.now) (chars c.in-Some.end.now) (begins 93 (chars c.args.text.now) (chars c.in-Some.end.now) c.in-Some.ensures))
+  row_cons (list_before param 32 93) (bracket ∷ [])
+      (list_here param 32 93 (chars c.args.text.now) (chars c.in-Some.end.now)
+      (begins 93 (chars c.args.text.now) (chars c.in-Some.end.now) c.in-Some.ensures))
       (row_cons bracket [] c.in-Some.ensures (row_nil (chars c.in-Some.end.now))),
 )
 
@@ -35,11 +40,14 @@ params-init c = (search rules, omega arith, leaves_all param 32 93 (chars c.args
 pub returns-in-Some-literal : goal.returns-in-Some-literal
 returns-in-Some-literal c =
     let within : c.params.count < length c.params.notes = search rules in
-    let left = leaves_last param 32 93 (chars c.args.text.now) (chars c.params.next.now) (chars c.in_ok-found.rest.now) (chars c.in-Some-literal.end.now) _ _ c.params.invariant.2 c.in_ok-found.ensures
+    let left = leaves_last param 32 93 (chars c.args.text.now) (chars c.params.next.now) (chars c.in_ok-found.rest.now)
+    (chars c.in-Some-literal.end.now) _ _ c.params.invariant.2 c.in_ok-found.ensures
     (begins 93 (chars c.in_ok-found.rest.now) (chars c.in-Some-literal.end.now) c.in-Some-literal.ensures) in (
       omega (arith, within, length-set c.params.notes c.params.count c.in_ok-found.found),
-      subst (λ (x : List (Text × Text)). Front inside (chars c.args.text.now) (chars c.in-Some-literal.end.now) (x, (tt, tt))) (sym (noted c.params.notes c.params.count c.in_ok-found.found within))
-          (row_cons (list_before param 32 93) (bracket ∷ []) left (row_cons bracket [] c.in-Some-literal.ensures (row_nil (chars c.in-Some-literal.end.now)))),
+      subst (λ (x : List (Text × Text)). Front inside (chars c.args.text.now) (chars c.in-Some-literal.end.now)
+          (x, (tt, tt))) (sym (noted c.params.notes c.params.count c.in_ok-found.found within))
+          (row_cons (list_before param 32 93) (bracket ∷ []) left
+          (row_cons bracket [] c.in-Some-literal.ensures (row_nil (chars c.in-Some-literal.end.now)))),
     )
 
 pub params-preserved : goal.params-preserved
@@ -47,7 +55,9 @@ params-preserved c =
     let within : c.params.count < length c.params.notes = search rules in (
       search rules,
       omega (arith, within, length-set c.params.notes c.params.count c.in_ok-found.found),
-      subst (λ (x : List (Text × Text)). Leaves param 32 93 (chars c.args.text.now) x (chars c.in_ok-next.next.now)) (sym (noted c.params.notes c.params.count c.in_ok-found.found within))
-          (leaves_less param 32 93 (chars c.args.text.now) (chars c.params.next.now) (chars c.in_ok-found.rest.now) (chars c.in_ok-next.next.now) _ _ c.params.invariant.2 c.in_ok-found.ensures
+      subst (λ (x : List (Text × Text)). Leaves param 32 93 (chars c.args.text.now) x (chars c.in_ok-next.next.now))
+          (sym (noted c.params.notes c.params.count c.in_ok-found.found within))
+          (leaves_less param 32 93 (chars c.args.text.now) (chars c.params.next.now) (chars c.in_ok-found.rest.now)
+          (chars c.in_ok-next.next.now) _ _ c.params.invariant.2 c.in_ok-found.ensures
           (begins 32 (chars c.in_ok-found.rest.now) (chars c.in_ok-next.next.now) c.in_ok-next.ensures)),
     )

@@ -17,23 +17,31 @@ elements-init c =
 pub returns-in_err-element-clause-memory : goal.returns-in_err-element-clause-memory
 returns-in_err-element-clause-memory c n =
     let asked : ◌≡◌ {A = Bool} false true = c.in_err-element.ensures.memory (λ p q e w h.
-    read_some full_element full_shorter (chars c.args.text.now) (chars c.elements.rest.now) q _ e c.elements.invariant.1 (record { piece = p; whole = w; is = h }) n) in
+    read_some full_element full_shorter (chars c.args.text.now)
+    (chars c.elements.rest.now) q _ e c.elements.invariant.1 (record { piece = p; whole = w; is = h }) n) in
     absurd (cc)
 
 pub returns-in_default-clause-elements : goal.returns-in_default-clause-elements
-returns-in_default-clause-elements c = has_read_all full_element (chars c.args.text.now) (chars c.elements.rest.now) _ c.elements.invariant.1 (rw c.in_default.is at c.in_ok-element.ensures.element)
+returns-in_default-clause-elements c = has_read_all full_element (chars c.args.text.now)
+    (chars c.elements.rest.now) _ c.elements.invariant.1 (rw c.in_default.is at c.in_ok-element.ensures.element)
 
 pub returns-in_err-push-clause-memory : goal.returns-in_err-push-clause-memory
 returns-in_err-push-clause-memory c n =
-    absurd (read_some full_element full_shorter (chars c.args.text.now) (chars c.elements.rest.now) (chars c.in-Some.next.now) _ _ c.elements.invariant.1 (rw c.in-Some.is at c.in_ok-element.ensures.element) n)
+    absurd (read_some full_element full_shorter (chars c.args.text.now) (chars c.elements.rest.now)
+    (chars c.in-Some.next.now) _ _ c.elements.invariant.1 (rw c.in-Some.is at c.in_ok-element.ensures.element) n)
 
 pub elements-preserved : goal.elements-preserved
 elements-preserved c =
-    let e = ap (map (element_value (λ (s : Bor (List ℕ)). shown s))) c.in_ok-push.ensures.items ∙ map-append (element_value (λ (s : Bor (List ℕ)). shown s)) c.elements.elements.items (c.in-Some.element ∷ []) in (
+    let e = ap (map (element_value (λ (s : Bor (List ℕ)). shown s))) c.in_ok-push.ensures.items
+    ∙ map-append (element_value (λ (s : Bor (List ℕ)). shown s)) c.elements.elements.items
+    (c.in-Some.element ∷ []) in (
       search rules,
       subst (λ (x : List ElementValue). HasRead full_element (chars c.args.text.now) x (chars c.in-Some.next.now)) (sym e)
-          (has_read_more full_element (chars c.args.text.now) (chars c.elements.rest.now) (chars c.in-Some.next.now) _ _ c.elements.invariant.1 (rw c.in-Some.is at c.in_ok-element.ensures.element)),
+          (has_read_more full_element (chars c.args.text.now) (chars c.elements.rest.now)
+          (chars c.in-Some.next.now) _ _ c.elements.invariant.1
+          (rw c.in-Some.is at c.in_ok-element.ensures.element)),
     )
 
 pub elements-smaller : goal.elements-smaller
-elements-smaller c = full_shorter (chars c.elements.rest.now) (chars c.in-Some.next.now) _ (rw c.in-Some.is at c.in_ok-element.ensures.element)
+elements-smaller c = full_shorter (chars c.elements.rest.now) (chars c.in-Some.next.now) _
+    (rw c.in-Some.is at c.in_ok-element.ensures.element)
