@@ -7,7 +7,7 @@ ghost use Rattle.std.specs.Prelude.{◌≡◌, ◌++◌, [], ◌∷◌, IsTrue, 
 ghost use Rattle.std.specs.Str.{bytes_eq, chars, IsUtf8};
 ghost use Rattle.syslog_pieces.specs.Text.CharClass.{has};
 ghost use Rattle.syslog_pieces.specs.Pieces.Class.{Front, NoFront, exactly, optional, run, some_run};
-ghost use Rattle.syslog_pieces.specs.Bodies.Scan.{EndsRun, IsBare, SplitsRun};
+ghost use Rattle.syslog_pieces.specs.Bodies.Scan.{EndsRun, IsBare, SplitsRun, past_in};
 ghost use Rattle.syslog_pieces.specs.Text as spec;
 ghost use Rattle.syslog_pieces.specs.Pieces.View.{seen, shown, Reads, Skips};
 
@@ -54,6 +54,7 @@ pub enum CharClass {
 
 impl CharClass {
     /// Whether the character is of the class.
+    #[inline]
     pub fn has(self, c: char) -> bool
         ensures { result ≡ has self c }
     {
@@ -91,17 +92,51 @@ pub fn run_end(text: &str, class: CharClass) -> usize
     if is_cut(bytes, end) {
         end
     } else {
-        run_end_by_chars(text, class)
+        mixed_run_end(text, class)
     }
 }
 
-// The same, character by character: for runs that reach a character past ASCII.
+// The same of a run that reaches a character past ASCII: those are looked at one by one, and the bytes between and
+// behind them sixteen at a time.
 #[cold]
 #[inline(never)]
-fn run_end_by_chars(text: &str, class: CharClass) -> usize
+fn mixed_run_end(text: &str, class: CharClass) -> usize
     ensures { EndsRun (has class) text.now result }
 {
-    match text.find(|c: char| !class.has(c)) {
+    let mut end = 0;
+    let mut rest = text;
+    'stretches: loop {
+        let bytes = rest.as_bytes();
+        let run = ascii_run(bytes, class);
+        if is_cut(bytes, run) {
+            return end + run;
+        }
+        let (_, past) = rest.split_at(run);
+        let more = past_run_end(past, class);
+        end += run;
+        if more == 0 {
+            return end;
+        }
+        let (_, behind) = past.split_at(more);
+        end += more;
+        rest = behind;
+    }
+}
+
+// Whether the character is past ASCII and of the class.
+#[inline(always)]
+fn is_past(c: char, class: CharClass) -> bool
+    ensures { result ≡ past_in class c }
+{
+    !c.is_ascii() && class.has(c)
+}
+
+// Where the run of characters past ASCII and of the class ends.
+#[inline(always)]
+fn past_run_end(text: &str, class: CharClass) -> usize
+    ensures { EndsRun (past_in class) text.now result }
+{
+    match text.find(|c: char| !is_past(c, class)) {
         Some(end) => end,
         None => text.len(),
     }

@@ -2,7 +2,7 @@
 use Rattle.std.proofs.Common.{◌≡◌, ◌≢◌, ℕ, zero, suc, ◌<◌, ◌≤◌, List, [], ◌∷◌, ◌++◌, length, arith, refl, sym, ap, subst, ◌∙◌, append_assoc, append-nil}
 use Rattle.std.proofs.lemmas.List.{length-append}
 use Rattle.syslog_pieces.specs.Pieces.Class.{Text, Class, Front, NoFront, IsDeterministic, Row, exactly}
-use Rattle.syslog_pieces.specs.Pieces.Lists.{many, IsList, IsMore, list_before, more_before}
+use Rattle.syslog_pieces.specs.Pieces.Lists.{many, HasRead, IsList, IsMore, list_before, more_before}
 use Rattle.syslog_pieces.proofs.PieceLemmas.Class.{rest_same, after_nil, behind, heads, front_same, row_cons, row_head}
 use Rattle.syslog_pieces.proofs.PieceLemmas.Meets.{Meets}
 
@@ -33,10 +33,6 @@ many_cons C t t' q v vs f g = record {
   whole = f.whole ∙ ap (λ (x : Text). f.piece ++ x) g.whole ∙ sym (append_assoc f.piece g.piece q);
   is = (f.piece, g.piece, refl, subst (λ (x : Text). C.Is f.piece x v) g.whole f.is, g.is);
 }
-
--- the pieces vs have been read, and those at t' are left
-abbrev pub HasRead : (C : Class) → Text → List C.Value → Text → Type 0
-HasRead C t vs t' = (q : Text) (ws : List C.Value) → Front (many C) t' q ws → Front (many C) t q (vs ++ ws)
 
 pub has_read_none : (C : Class) (t : Text) → HasRead C t [] t
 has_read_none C t q ws f = f
@@ -221,3 +217,24 @@ module _ (C : Class) (separator close : ℕ) (d : IsDeterministic C) where
           let g : separator ∷ u ≡ separator ∷ (a ++ (b ++ q)) = sym e ∙ w ∙ ap (λ (y : Text). y ++ q) i ∙ ap (λ (y : Text). separator ∷ y) (append_assoc a b q) in
           let r = front_same C d (record { piece = a; whole = (let y : u ≡ a ++ (b ++ q) = cc in y); is = k }) f in
           n b q xs (sym r.0) (others, z)
+
+-- the pieces vs have been read, and at t' a further one is left, and then the ones behind it
+abbrev pub Leaves : (C : Class) (separator close : ℕ) → Text → List C.Value → Text → Type 0
+Leaves C separator close t vs t' =
+    (q u : Text) (v : C.Value) (ws : List C.Value) → Front C t' u v → Front (more_before C separator close) u q ws
+    → Front (list_before C separator close) t q (vs ++ (v ∷ ws))
+
+module _ (C : Class) (separator close : ℕ) where
+  pub leaves_all : (t : Text) → Leaves C separator close t [] t
+  leaves_all t q u v ws f g = list_cons C separator close t u q v ws f g
+
+  pub leaves_less : (t s u s' : Text) (vs : List C.Value) (v : C.Value) → Leaves C separator close t vs s
+      → Front C s u v → u ≡ separator ∷ s' → Leaves C separator close t (vs ++ (v ∷ [])) s'
+  leaves_less t s u s' vs v c f e q u' v' ws f' g =
+      subst (λ (x : List C.Value). Front (list_before C separator close) t q x)
+      (sym (append_assoc vs (v ∷ []) (v' ∷ ws)))
+      (c q u v (v' ∷ ws) f (more_cons C separator close u s' u' q v' ws e f' g))
+
+  pub leaves_last : (t s u r : Text) (vs : List C.Value) (v : C.Value) → Leaves C separator close t vs s
+      → Front C s u v → u ≡ close ∷ r → Front (list_before C separator close) t u (vs ++ (v ∷ []))
+  leaves_last t s u r vs v c f e = c u u v [] f (more_here C separator close u r e)

@@ -1,16 +1,18 @@
 -- The list of RFC 3164: a text has one at its front, and has none exactly where neither of its two kinds begins.
-use Rattle.std.proofs.Common.{◌≡◌, ◌<◌, ◌↔◌, Bool, true, false, Option, Some, None, MatchOption, MatchBool, inl, inr, List, [], ◌∷◌, ◌++◌, length, map, refl, sym, ap, subst, ◌∙◌, append_assoc, arith}
+use Rattle.std.proofs.Common.{◌≡◌, ℕ, ◌<◌, ◌↔◌, Bool, true, false, Option, Some, None, MatchOption, MatchBool, inl, inr, List, [], ◌∷◌, ◌++◌, length, map, refl, sym, ap, subst, ◌∙◌, append_assoc, arith}
 use Rattle.std.specs.Prelude.{is_some}
+use Rattle.std.specs.Borrow.{Bor}
 use Rattle.syslog_pieces.specs.Bodies.Closing.{start_row, start, inside_row, opening_row, opening, closing}
 use Rattle.syslog_pieces.specs.Pieces.Class.{Text, Front, NoFront, IsDeterministic, optional, Values, Row, run, some_run, exactly, texted}
 use Rattle.syslog_pieces.specs.Pieces.Lists.{many, list_before}
+use Rattle.syslog_pieces.specs.Pieces.View.{Reads}
 use Rattle.syslog_pieces.specs.StructuredData.{param, element_row, element}
 use Rattle.syslog_pieces.specs.StructuredData.Element.{ElementValue}
 use Rattle.syslog_pieces.specs.StructuredData.Listed.{full_element, IsDashBefore, BeginsNoList, listed, ListsNoElements}
 use Rattle.syslog_pieces.specs.Text.{is_blank, dash}
 use Rattle.syslog_pieces.specs.Text.CharClass.{is_id_char, is_name_char}
 use Rattle.syslog_pieces.specs.declared.structured_data.listed.DashRule.{DashRule}
-use Rattle.syslog_pieces.proofs.PieceLemmas.Class.{behind, front_same, optional_none, optional_some, row_det, row_nil, row_cons, row_head}
+use Rattle.syslog_pieces.proofs.PieceLemmas.Class.{behind, front_same, no_front_no, optional_none, optional_some, row_det, row_nil, row_cons, row_head}
 use Rattle.syslog_pieces.proofs.PieceLemmas.Lists.{many_det, many_cons, many_none, no_many_no}
 use Rattle.syslog_pieces.proofs.PieceLemmas.Meets.{Meets}
 use Rattle.syslog_pieces.proofs.StructuredDataLemmas.Closing.{start_det, no_start, no_opening}
@@ -27,9 +29,35 @@ full_is_element f = record { piece = f.piece; whole = f.whole; is = f.is.0 }
 pub full_shorter : (t u : Text) (v : ElementValue) → Front full_element t u v → length u < length t
 full_shorter t u v f = element_shorter t u v (full_is_element f)
 
+pub bare_is_not_full : (t q : Text) (v : ElementValue) → Front element t q v → length v.params ≡ 0
+    → NoFront full_element t
+bare_is_not_full t q v f z p r w e h =
+    let s = front_same element element_det f (record { piece = p; whole = e; is = h.0 }) in
+    let k = ap (λ (x : ElementValue). length x.params) s.1 in
+    omega (arith, h.1, k, z)
+
+-- where such an element begins the text, the element that was read there is it
+pub full_read : {X : Type 0} (view : X → ElementValue) (t q : Text) (v : ElementValue) (r : Option (X × Bor (List ℕ)))
+    → Front full_element t q v → Reads element view t r → Reads full_element view t r
+full_read view t q v None f n = absurd (no_front_no element n (full_is_element f))
+full_read view t q v (Some x) f g =
+    let s = front_same element element_det (full_is_element f) g in
+    record {
+      piece = g.piece;
+      whole = g.whole;
+      is = (
+        g.is,
+        subst (λ (y : ElementValue). 0 < length y.params)
+            s.1 f.is.1,
+      );
+    }
+
 -- such an element begins with a bracket
 pub full_begins : (p q : Text) (v : ElementValue) → full_element.Is p q v → (r : Text) × (p ++ q ≡ 91 ∷ r)
 full_begins p q v h = item_begins p q (Some v) h.0
+
+pub no_full_unopened : (t : Text) → NoFront (exactly (91 ∷ [])) t → NoFront full_element t
+no_full_unopened t n p q v e h = let s = full_begins p q v h in n (91 ∷ []) s.0 tt (e ∙ s.1) refl
 
 pub no_full_nil : NoFront full_element []
 no_full_nil p q v e h = let s = full_begins p q v h in let t : [] ≡ 91 ∷ s.0 = e ∙ s.1 in cc
@@ -108,10 +136,6 @@ list_absent rule t q es n f z =
     optional_none (listed rule) (no_listed rule t (n, many_none full_element t q (subst (λ (x : List ElementValue). Front (many full_element) t q x) z f)))
 
 -- ---- collecting
-
--- the element that was recognised is the one that was collected
-pub full_collected : (t q q' : Text) (v w : ElementValue) → Front full_element t q v → Front element t q' w → Front full_element t q w
-full_collected t q q' v w f g = subst (λ (x : ElementValue). Front full_element t q x) (front_same element element_det (full_is_element f) g).1 f
 
 -- ---- recognising an element with a parameter
 

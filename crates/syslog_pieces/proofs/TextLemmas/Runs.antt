@@ -1,9 +1,10 @@
 -- Runs: of bytes, and of the characters that they are.
-use Rattle.std.proofs.Common.{◌≡◌, ◌≤◌, ◌<◌, ◌+◌, ℕ, zero, suc, Bool, true, false, ◌&&◌, nat_lt, List, [], ◌∷◌, ◌++◌, length, get_or, take, drop, refl, sym, ap, subst, ◌∙◌, inl, inr, arith, length-take, get_or-take}
-use Rattle.std.proofs.lemmas.List.{drop_more, drop_all}
+use Rattle.std.proofs.Common.{◌≡◌, ◌≤◌, ◌<◌, ◌+◌, ℕ, zero, suc, Bool, true, false, not, ◌&&◌, nat_lt, List, [], ◌∷◌, ◌++◌, length, get_or, take, drop, refl, sym, ap, subst, ◌∙◌, inl, inr, arith, length-take, get_or-take}
+use Rattle.std.proofs.Math.Seq.{take-add}
+use Rattle.std.proofs.lemmas.List.{drop_more, drop_all, drop-drop, take-append-drop}
 use Rattle.std.proofs.lemmas.Bool.{cases_Bool, cases_lt, and_parts, ltb-true, lt-ltb}
-use Rattle.std.proofs.lemmas.Str.{chars-IsAscii, chars_past_char, encode_ascii, IsUtf8-take, IsUtf8-drop}
-use Rattle.std.specs.Str.{chars, IsUtf8, IsAscii, IsCharBoundary}
+use Rattle.std.proofs.lemmas.Str.{chars-append, chars-nil, chars-IsAscii, chars_past_char, encode_ascii, encodes-chars, IsCharBoundary-start, IsCharBoundary-from_drop, IsCharBoundary-from_rest, IsUtf8-take, IsUtf8-drop, IsUtf8-past_char}
+use Rattle.std.specs.Str.{chars, encode_utf8_all, IsUtf8, IsAscii, IsCharBoundary}
 use Rattle.std.specs.Char.{encode_utf8}
 use Rattle.syslog_pieces.specs.Pieces.Class.{Text, Front, NoFront, Each, Ends, run, some_run}
 use Rattle.syslog_pieces.specs.Bodies.Scan.{SplitsRun}
@@ -44,6 +45,10 @@ module _ (h : ℕ → Bool) (bs xs ys : List ℕ) (n : ℕ) (u : IsUtf8 bs) (r :
   is_ascii : IsAscii xs
   is_ascii = ascii_by_place xs (λ k lt. (place k lt).0)
 
+  pub ascii_each : Each h (chars xs)
+  ascii_each = subst (λ (l : List ℕ). Each h l) (sym (chars-IsAscii xs is_ascii))
+      (each_by_place h xs (λ k lt. (place k lt).1))
+
   pub ascii_splits : IsCharBoundary bs n → Ends h (chars ys) → SplitsRun h bs xs ys
   ascii_splits boundary ends =
       let w = cut_at bs xs ys n front back in
@@ -51,7 +56,7 @@ module _ (h : ℕ → Bool) (bs xs ys : List ℕ) (n : ℕ) (u : IsUtf8 bs) (r :
       record {
         whole = w;
         characters = chars_cut bs xs ys w ux;
-        each = subst (λ (l : List ℕ). Each h l) (sym (chars-IsAscii xs is_ascii)) (each_by_place h xs (λ k lt. (place k lt).1));
+        each = ascii_each;
         ends = ends;
         front_utf8 = ux;
         back_utf8 = subst IsUtf8 (sym back) (IsUtf8-drop bs n u boundary);
@@ -83,6 +88,93 @@ module _ (h : ℕ → Bool) (bs xs ys : List ℕ) (n : ℕ) (u : IsUtf8 bs) (r :
 -- a split where the run ends
 pub split_at_end : (h : ℕ → Bool) (bs xs ys : List ℕ) (n : ℕ) → EndsRun h bs n → xs ≡ take n bs → ys ≡ drop n bs → SplitsRun h bs xs ys
 split_at_end h bs xs ys n e f g = subst (λ (x : List ℕ). SplitsRun h bs x ys) (sym f) (subst (λ (y : List ℕ). SplitsRun h bs (take n bs) y) (sym g) e.1)
+
+-- ---- a run by its stretches: of ASCII, and past it
+behind_ascii : (bs : List ℕ) (n : ℕ) → IsUtf8 bs → n ≤ length bs → ((k : ℕ) → k < n → get_or bs k 0 < 128)
+    → IsUtf8 (drop n bs)
+behind_ascii bs zero u l f = u
+behind_ascii [] (suc n) u l f = absurd (omega arith)
+behind_ascii (b ∷ bs) (suc n) u l f =
+    behind_ascii bs n (IsUtf8-past_char (b ∷ bs) bs b u
+    (ap (λ (x : List ℕ). x ++ bs) (sym (encode_ascii b (f 0 (omega arith)))))) (omega arith)
+    (λ k lt. f (suc k) (omega arith))
+
+-- a text may be cut behind a run of ASCII bytes
+pub ascii_boundary : (h : ℕ → Bool) (bs : List ℕ) (n : ℕ) → IsUtf8 bs → IsRun (ascii_of h) bs n → IsCharBoundary bs n
+ascii_boundary h bs n u r = IsCharBoundary-from_drop bs n r.within
+    (behind_ascii bs n u r.within (λ k lt. (below_of _ _ (r.pass k lt)).0))
+
+-- the characters before a place pass the test, and there the rest begins
+pub record HasPassed (test : ℕ → Bool) (bs rest : List ℕ) (n : ℕ) : Type 0 where
+  pub boundary : IsCharBoundary bs n
+  pub left : rest ≡ drop n bs
+  pub each : Each test (chars (take n bs))
+
+each_on : (test : ℕ → Bool) (p q : Text) → Each test p → Each test q → Each test (p ++ q)
+each_on test [] q a b = b
+each_on test (c ∷ p) q a b = (a.0, each_on test p q a.1 b)
+
+module _ (test : ℕ → Bool) (bs : List ℕ) (u : IsUtf8 bs) where
+  pub passed_none : HasPassed test bs bs 0
+  passed_none = record {
+    boundary = IsCharBoundary-start bs u;
+    left = refl;
+    each = subst (λ (x : Text). Each test x)
+        (sym chars-nil) tt;
+  }
+
+  pub passed_more : (rest rest' : List ℕ) (n k : ℕ) → HasPassed test bs rest n → IsCharBoundary rest k
+      → Each test (chars (take k rest)) → rest' ≡ drop k rest → HasPassed test bs rest' (n + k)
+  passed_more rest rest' n k p b e f = record {
+    boundary = IsCharBoundary-from_rest bs n k p.boundary.0 (subst (λ (x : List ℕ). IsCharBoundary x k) p.left b);
+    left = f ∙ ap (drop k) p.left ∙ drop-drop k n bs;
+    each = subst (λ (x : Text). Each test x)
+        (sym (ap chars (take-add n k bs) ∙ chars-append (take n bs) (take k (drop n bs))
+        (IsUtf8-take bs n u p.boundary)))
+        (each_on test (chars (take n bs)) (chars (take k (drop n bs))) p.each
+        (subst (λ (x : List ℕ). Each test (chars (take k x))) p.left e));
+  }
+
+  pub passed_ends : (rest : List ℕ) (n : ℕ) → HasPassed test bs rest n → Ends test (chars rest) → EndsRun test bs n
+  passed_ends rest n p e =
+      let cut = sym (take-append-drop n bs) in
+      let front = IsUtf8-take bs n u p.boundary in (
+        p.boundary,
+        record {
+          whole = cut;
+          characters = chars_cut bs (take n bs) (drop n bs) cut front;
+          each = p.each;
+          ends = subst (λ (x : List ℕ). Ends test (chars x)) p.left e;
+          front_utf8 = front;
+          back_utf8 = IsUtf8-drop bs n u p.boundary;
+        },
+      )
+
+-- characters past ASCII that pass the test
+abbrev pub past_of_ascii : (ℕ → Bool) → ℕ → Bool
+past_of_ascii h c = not (nat_lt c 128) && h c
+
+pub past_each : (h : ℕ → Bool) (t : Text) → Each (past_of_ascii h) t → Each h t
+past_each h [] a = tt
+past_each h (c ∷ t) a = ((and_parts (not (nat_lt c 128)) (h c) a.0).1, past_each h t a.1)
+
+-- where neither an ASCII byte nor a character past ASCII passes the test, no character does
+both_end : (h : ℕ → Bool) (bs : List ℕ) (t : Text) → IsUtf8 bs → chars bs ≡ t
+    → (0 < length bs → ascii_of h (get_or bs 0 0) ≡ false) → Ends (past_of_ascii h) t → Ends h t
+both_end h bs [] u e f g = tt
+both_end h bs (c ∷ cs) u e f g = elim (cases_Bool (nat_lt c 128)) [
+  | inl t ↦ (
+      let low : c < 128 = ltb-true c 128 t in
+      let w : bs ≡ c ∷ encode_utf8_all cs = sym (encodes-chars bs u) ∙ ap encode_utf8_all e
+      ∙ ap (λ (x : List ℕ). x ++ encode_utf8_all cs) (encode_ascii c low) in
+      past_of c (h c) (subst (λ (x : ℕ). ascii_of h x ≡ false) (ap (λ (x : List ℕ). get_or x 0 0) w)
+      (f (let k = ap length w in omega arith))) low)
+  | inr t ↦ rw t at g
+]
+
+pub ends_at_both : (h : ℕ → Bool) (bs : List ℕ) → IsUtf8 bs → (0 < length bs → ascii_of h (get_or bs 0 0) ≡ false)
+    → Ends (past_of_ascii h) (chars bs) → Ends h (chars bs)
+ends_at_both h bs u f g = both_end h bs (chars bs) u refl f g
 
 -- ---- the front of a run
 module _ (test : ℕ → Bool) (bs xs ys : List ℕ) (s : SplitsRun test bs xs ys) where

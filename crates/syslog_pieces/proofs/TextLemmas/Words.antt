@@ -1,9 +1,9 @@
 -- What the readers of numbers and words answer.
-use Rattle.std.proofs.Common.{◌≡◌, ◌≢◌, ℕ, ◌-◌, ◌<◌, ◌≤◌, ◌^◌, ◌⊎◌, inl, inr, List, [], ◌∷◌, ◌++◌, length, take, drop, Option, Some, None, Result, MatchOption, refl, sym, ap, subst, ◌∙◌, arith, append_assoc, rules}
+use Rattle.std.proofs.Common.{◌≡◌, ◌≢◌, ℕ, zero, suc, get_or, ◌-◌, ◌<◌, ◌≤◌, ◌^◌, ◌⊎◌, inl, inr, Bool, List, [], ◌∷◌, ◌++◌, length, take, drop, Option, Some, None, Result, MatchOption, refl, sym, ap, subst, ◌∙◌, arith, append_assoc, rules}
 use Rattle.std.proofs.lemmas.List.{append_cancel_left, length-append, take-append-le, take-append-drop, drop_all, same_from_push}
-use Rattle.std.proofs.lemmas.Str.{chars_past_char, chars-append, encodes-chars, encodes-IsAscii, chars-IsAscii, encodes-append, IsUtf8-take, IsUtf8-from_ascii}
+use Rattle.std.proofs.lemmas.Str.{IsAscii-drop, IsCharBoundary-from_ascii, chars_past_char, chars-append, encodes-chars, encodes-IsAscii, chars-IsAscii, encodes-append, IsUtf8-take, IsUtf8-from_ascii}
 use Rattle.std.proofs.lemmas.Str.Parse.{IsNumeralModel, IsDigitsTest, numerals_by_value, parse_digits}
-use Rattle.std.specs.Str.{chars, IsUtf8, IsAscii, encode_utf8_all}
+use Rattle.std.specs.Str.{chars, IsUtf8, IsAscii, IsCharBoundary, encode_utf8_all}
 use Rattle.std.specs.Str.Parse.{digits_value, ParsesUnsigned}
 use Rattle.std.specs.Str.Pattern.{FindsCharPrefix, StripsPrefix, HasSuffixMatch, FindsCharSuffix}
 use Rattle.std.specs.Borrow.{Bor}
@@ -12,7 +12,7 @@ use Rattle.std.specs.Char.{encode_utf8, is_ascii_digit, is_not_whitespace}
 use Rattle.syslog_pieces.specs.Pieces.Class.{Text, Front, NoFront, IsDeterministic, Each, exactly}
 use Rattle.syslog_pieces.specs.Bodies.Scan.{SplitsRun}
 use Rattle.syslog_pieces.specs.Text.{number, dash, colon, Names, word, EndsInColon, IsHost, host, is_tag_char, tag_word}
-use Rattle.syslog_pieces.proofs.TextLemmas.Chars.{cut_at, chars_nonempty, chars_empty, digits_plain, one_ascii}
+use Rattle.syslog_pieces.proofs.TextLemmas.Chars.{cut_at, chars_nonempty, chars_empty, digits_ascii, digits_plain, one_ascii}
 use Rattle.syslog_pieces.proofs.PieceLemmas.Class.{run_same}
 use Rattle.syslog_pieces.proofs.TextLemmas.Runs.{run_is}
 use Rattle.syslog_pieces.proofs.PieceLemmas.Each.{each_front}
@@ -69,6 +69,29 @@ own = numerals_by_value (λ ds. Each is_ascii_digit ds) digits_test
 pub parsed_digits : (xs : List ℕ) → IsUtf8 xs → Each is_ascii_digit (chars xs) → (E : Type 0) (r : Result ℕ E) → ParsesUnsigned 32 10 xs r
     → OkIff r ((0 < length xs) × (digits_value 10 xs < 2 ^ 32)) (digits_value 10 xs)
 parsed_digits xs u a E r h = parse_digits own 32 xs r h (subst (λ (x : List ℕ). Each is_ascii_digit x) (digits_plain xs u a) a)
+
+-- zeros ahead add nothing
+pub zeros_off : (ds : List ℕ) (n : ℕ) → ((k : ℕ) → k < n → get_or ds k 0 ≡ 48)
+    → digits_value 10 (drop n ds) ≡ digits_value 10 ds
+zeros_off ds zero f = refl
+zeros_off [] (suc n) f = refl
+zeros_off (d ∷ ds) (suc n) f = zeros_off ds n (λ k l. f (suc k) (omega arith))
+    ∙ ap (λ (x : ℕ). digits_value 10 (x ∷ ds)) (sym (f 0 (omega arith)))
+
+each_behind : (test : ℕ → Bool) (ds : List ℕ) (n : ℕ) → Each test ds → Each test (drop n ds)
+each_behind test ds zero a = a
+each_behind test [] (suc n) a = tt
+each_behind test (d ∷ ds) (suc n) a = each_behind test ds n a.1
+
+pub digits_behind : (ds : List ℕ) (n : ℕ) → IsUtf8 ds → Each is_ascii_digit (chars ds) → n ≤ length ds
+    → IsCharBoundary ds n × Each is_ascii_digit (chars (drop n ds))
+digits_behind ds n u a l =
+    let each = subst (λ (x : List ℕ). Each is_ascii_digit x) (digits_plain ds u a) a in
+    let ascii = digits_ascii ds each in (
+      IsCharBoundary-from_ascii ds n ascii l,
+      subst (λ (x : List ℕ). Each is_ascii_digit x)
+          (sym (chars-IsAscii (drop n ds) (IsAscii-drop ds n ascii))) (each_behind is_ascii_digit ds n each),
+    )
 
 module _ (bs xs ys : List ℕ) (s : SplitsRun is_ascii_digit bs xs ys) where
   plain : chars xs ≡ xs

@@ -339,3 +339,8 @@ written-of text w h =
     let tail = h.decimals ++ h.zone in
     let clock_text = pad2 w.hour ++ (58 ∷ pad2 w.minute ++ (58 ∷ pad2 w.second ++ tail)) in
     rw (h.whole, date-of w.year w.month w.day (h.letter ∷ clock_text) h.fits.year h.fits.month h.fits.day, after_letter-of 84 h.letter clock_text h.is_letter, clock-of w.hour w.minute w.second tail h.fits.hour h.fits.minute h.fits.second, fraction-of h.decimals h.zone w.nanosecond h.fraction (starts-of h.zone w.offset h.zone_is), offset_seconds-of h.zone w.offset h.zone_is)
+
+-- no text is shorter than a date and a clock
+pub short-none : (text : List ℕ) → length text < 19 → written text ≡ None
+short-none text h = by_option (written text) (λ e. e)
+    (λ w e. let k = ap length (written-is text w e).whole in absurd (omega arith))

@@ -1,6 +1,6 @@
 -- Runs of bytes, and the runs of characters that they are.
 use Rattle.std.specs.Int.{w64, trailing_zeros}
-use Rattle.std.specs.Prelude.{◌≡◌, ◌+◌, ◌==◌, if◌then◌else◌, ◌≤◌, ◌<◌, ℕ, Bool, true, false, ◌&&◌, nat_lt, List, [], ◌∷◌, ◌++◌, length, slice_index, take, drop}
+use Rattle.std.specs.Prelude.{◌≡◌, ◌+◌, ◌==◌, if◌then◌else◌, ◌≤◌, ◌<◌, ℕ, Bool, true, false, not, ◌&&◌, nat_lt, List, [], ◌∷◌, ◌++◌, length, slice_index, take, drop}
 use Rattle.std.specs.Str.{chars, IsUtf8, IsCharBoundary}
 use Rattle.syslog_pieces.specs.declared.text.CharClass.{CharClass}
 use Rattle.syslog_pieces.specs.declared.text.CharClass.TheVariants.{Digit, Blank, Visible, Id, Name, Plain, Open, Inert, Bare, Tag, Label}
@@ -23,6 +23,14 @@ EndsRun test bytes n = IsCharBoundary bytes n × SplitsRun test bytes (take n by
 -- an ASCII byte whose character is of the class
 abbrev pub byte_in : CharClass → ℕ → Bool
 byte_in class b = nat_lt b 128 && has class b
+
+-- a character past ASCII of the class
+abbrev pub past_in : CharClass → ℕ → Bool
+past_in class c = not (nat_lt c 128) && has class c
+
+-- the byte is the digit zero
+abbrev pub is_zero : ℕ → Bool
+is_zero b = b == 48
 
 -- the longest run at the front of bytes that pass the test has n bytes
 pub record IsRun (test : ℕ → Bool) (bytes : List ℕ) (n : ℕ) : Type 0 where
@@ -62,9 +70,3 @@ pub record IsBare (bytes : List ℕ) : Type 0 where
   pub whole : bytes ≡ first ∷ (middle ++ (last ∷ []))
   pub first_in : byte_in Visible first ≡ true
   pub last_in : byte_in Visible last ≡ true
-
--- whether runs of the class are scanned by blocks: those of digits and blanks are too short for it
-abbrev pub is_long : CharClass → Bool
-is_long Digit = false
-is_long Blank = false
-is_long class = true

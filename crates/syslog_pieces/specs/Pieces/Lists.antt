@@ -1,6 +1,6 @@
 -- Lists of pieces of one class.
 use Rattle.std.specs.Prelude.{◌≡◌, ℕ, List, [], ◌∷◌, ◌++◌}
-use Rattle.syslog_pieces.specs.Pieces.Class.{Text, Class, NoFront}
+use Rattle.syslog_pieces.specs.Pieces.Class.{Text, Class, Front, NoFront}
 
 abbrev pub IsMany : (C : Class) → Text → Text → List C.Value → Type 0
 IsMany C p q [] = (p ≡ []) × NoFront C q
@@ -9,6 +9,10 @@ IsMany C p q (v ∷ vs) = (a : Text) × (b : Text) × (p ≡ a ++ b) × C.Is a (
 -- pieces of the class one after the other, as many as there are
 abbrev pub many : Class → Class
 many C = record { Value = List C.Value; Is = IsMany C }
+
+-- the pieces vs have been read, and those at t' are left
+abbrev pub HasRead : (C : Class) → Text → List C.Value → Text → Type 0
+HasRead C t vs t' = (q : Text) (ws : List C.Value) → Front (many C) t' q ws → Front (many C) t q (vs ++ ws)
 
 -- further pieces of the class, each behind one separator
 abbrev pub IsMore : (C : Class) (separator : ℕ) → Text → Text → List C.Value → Type 0

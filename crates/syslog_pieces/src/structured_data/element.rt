@@ -1,10 +1,11 @@
 //! Collecting a strict element.
-ghost use Rattle.std.specs.Prelude.{map, IfOk, IsOk};
+ghost use Rattle.std.specs.Prelude.{◌≤◌, length, map, take, IfOk, IfSome, IsOk};
 ghost use Rattle.std.specs.Str.{chars};
-ghost use Rattle.syslog_pieces.specs.Pieces.Class.{NoFront};
+ghost use Rattle.syslog_pieces.specs.Pieces.Class.{Front, NoFront};
 ghost use Rattle.syslog_pieces.specs.Bodies.Closing.{quoted as quoted_class, inside};
 ghost use Rattle.syslog_pieces.specs.StructuredData.Element.{element_value, param_value};
 ghost use Rattle.syslog_pieces.specs.StructuredData.{param as param_class, element as element_class};
+ghost use Rattle.syslog_pieces.specs.StructuredData.Listed.{full_element};
 ghost use Rattle.syslog_pieces.specs.Pieces.View.{shown, Reads};
 
 use super::StructuredElement;
@@ -86,7 +87,58 @@ pub(super) fn collect_element<'a>(
     Ok(Some((StructuredElement { id, params }, rest)))
 }
 
-/// The strict element at the front, and the text behind it. It is recognised before anything is collected: an `Err` is
+/// How many parameters of an element are noted before memory is asked for them.
+pub(super) const NOTED: usize = 16;
+
+// Notes the parameters at the front, where there are no more than the notes have room for, and answers their number and
+// the text behind the bracket that closes their element.
+#[inline(always)]
+fn note_params<'a>(text: &'a str, notes: &mut [(&'a str, &'a str)]) -> Option<(usize, &'a str)>
+    ensures { IfSome result (λ read. (read.0 ≤ length notes.new)
+        × Front inside (chars text.now) (shown read.1)
+        (map (param_value (λ s. shown s)) (take read.0 notes.new), (tt, tt))) }
+{
+    if let Some(end) = literal(text, ']') {
+        return Some((0, end));
+    }
+    let mut next = text;
+    let mut count = 0;
+    'params: while count < notes.len() {
+        let (found, rest) = param(next)?;
+        notes[count] = found;
+        count += 1;
+        if let Some(end) = literal(rest, ']') {
+            return Some((count, end));
+        }
+        next = literal(rest, ' ')?;
+    }
+    None
+}
+
+/// The strict element at the front where it has few parameters, and the text behind it: walked once, and the memory for
+/// its parameters asked for once, behind its `]`. It may always answer nothing.
+#[inline(always)]
+pub(super) fn noted_element<'a>(
+    alloc: Global,
+    text: &'a str,
+    notes: &mut [(&'a str, &'a str)],
+) -> Result<Option<(StructuredElement<&'a str>, &'a str)>, AllocError>
+    ensures element { IfOk result (λ read. IfSome read (λ x.
+        Front element_class (chars text.now) (shown x.1) (element_value (λ s. shown s) x.0))) }
+    ensures memory { NoFront full_element (chars text.now) → IsOk result }
+{
+    let Some((id, inside)) = start(text) else {
+        return Ok(None);
+    };
+    let Some((count, rest)) = note_params(inside, notes) else {
+        return Ok(None);
+    };
+    let mut params = Vec::with_capacity(alloc, count)?;
+    params.extend_from_slice(&notes[..count])?;
+    Ok(Some((StructuredElement { id, params }, rest)))
+}
+
+/// The strict element at the front, and the text behind it. It is recognised before memory is asked for it: an `Err` is
 /// only for memory, and where no element begins the text none is asked for.
 pub fn read_element<'a>(
     alloc: Global,
@@ -95,6 +147,10 @@ pub fn read_element<'a>(
     ensures element { IfOk result (λ read. Reads element_class (element_value (λ s. shown s)) (chars text.now) read) }
     ensures memory { NoFront element_class (chars text.now) → IsOk result }
 {
+    let mut notes = [("", ""); NOTED];
+    if let Some(found) = noted_element(alloc, text, &mut notes)? {
+        return Ok(Some(found));
+    }
     match after_element(text) {
         Some(_) => collect_element(alloc, text),
         None => Ok(None),

@@ -4,12 +4,12 @@ ghost use Rattle.std.specs.Option.{option_map};
 ghost use Rattle.std.specs.Str.{chars};
 ghost use Rattle.syslog_pieces.specs.Pieces.Class.{Text, Front, NoFront, optional};
 ghost use Rattle.syslog_pieces.specs.Pieces.Lists.{many};
-ghost use Rattle.syslog_pieces.specs.Pieces.View.{shown};
+ghost use Rattle.syslog_pieces.specs.Pieces.View.{shown, Reads};
 ghost use Rattle.syslog_pieces.specs.StructuredData.Element.{element_value};
 ghost use Rattle.syslog_pieces.specs.StructuredData.Listed.{full_element, listed, IsDashBefore, ListsNoElements};
 
 use super::StructuredElement;
-use super::element::collect_element;
+use super::element::{NOTED, collect_element, noted_element};
 use super::walk::after_full_element;
 use crate::text::{CharClass, first, literal};
 use std::alloc::{AllocError, Global};
@@ -59,8 +59,30 @@ pub fn begins_list(text: &str, rule: DashRule) -> bool
     after_dash(text, rule).is_some() || after_full_element(text).is_some()
 }
 
-// The elements with parameters at the front, as many as there are, and the text behind them. Each is recognised before
-// it is collected.
+// The element with parameters at the front, and the text behind it. It is recognised before memory is asked for it.
+#[inline(always)]
+fn read_full_element<'a>(
+    alloc: Global,
+    text: &'a str,
+    notes: &mut [(&'a str, &'a str)],
+) -> Result<Option<(StructuredElement<&'a str>, &'a str)>, AllocError>
+    ensures element { IfOk result (λ read. Reads full_element (element_value (λ s. shown s)) (chars text.now) read) }
+    ensures memory { NoFront full_element (chars text.now) → IsOk result }
+{
+    if let Some((element, rest)) = noted_element(alloc, text, notes)? {
+        if element.params.is_empty() {
+            return Ok(None);
+        }
+        return Ok(Some((element, rest)));
+    }
+    match after_full_element(text) {
+        Some(_) => collect_element(alloc, text),
+        None => Ok(None),
+    }
+}
+
+// The elements with parameters at the front, as many as there are, and the text behind them.
+#[inline(never)]
 fn full_elements<'a>(
     alloc: Global,
     text: &'a str,
@@ -69,13 +91,11 @@ fn full_elements<'a>(
         Front (many full_element) (chars text.now) (shown read.1) (map (element_value (λ s. shown s)) read.0.items)) }
     ensures memory { NoFront full_element (chars text.now) → IsOk result }
 {
+    let mut notes = [("", ""); NOTED];
     let mut elements = Vec::new(alloc);
     let mut rest = text;
     'elements: loop {
-        let Some(next) = after_full_element(rest) else {
-            return Ok((elements, rest));
-        };
-        let Some((element, _)) = collect_element(alloc, rest)? else {
+        let Some((element, next)) = read_full_element(alloc, rest, &mut notes)? else {
             return Ok((elements, rest));
         };
         elements.push(element)?;
@@ -97,6 +117,9 @@ pub fn optional_list<'a>(
     if let Some(rest) = after_dash(text, rule) {
         return Ok((Some(Vec::new(alloc)), rest));
     }
+    let Some(_) = literal(text, '[') else {
+        return Ok((None, text));
+    };
     let (elements, rest) = full_elements(alloc, text)?;
     if elements.is_empty() {
         Ok((None, text))

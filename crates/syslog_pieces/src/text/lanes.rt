@@ -1,10 +1,9 @@
 //! Kernels: how many of the next sixteen bytes, from the first, are ASCII and of a class.
 //!
-//! Each compares sixteen bytes at once, and answers the place of the first that stops the run. Digits and blanks have no
-//! kernel: their runs are short.
-ghost use Rattle.std.specs.Prelude.{◌≡◌, ◌+◌, ◌≤◌, true, length};
-ghost use Rattle.syslog_pieces.specs.Bodies.Scan.{IsRunIn, byte_in, first_set, is_long};
-ghost use Rattle.syslog_pieces.specs.declared.text.CharClass.TheVariants.{Visible, Id, Name, Plain, Open, Inert, Bare, Tag, Label};
+//! Each compares sixteen bytes at once, and answers the place of the first that stops the run.
+ghost use Rattle.std.specs.Prelude.{◌≡◌, ◌+◌, ◌≤◌, length};
+ghost use Rattle.syslog_pieces.specs.Bodies.Scan.{IsRunIn, byte_in, first_set, is_zero};
+ghost use Rattle.syslog_pieces.specs.declared.text.CharClass.TheVariants.{Digit, Blank, Visible, Id, Name, Plain, Open, Inert, Bare, Tag, Label};
 
 use crate::text::CharClass;
 use std::simd::prelude::*;
@@ -21,6 +20,26 @@ fn first_set(mask: u64) -> usize
     } else {
         mask.trailing_zeros() as usize
     }
+}
+
+#[inline(always)]
+fn digit_run(bytes: &[u8], at: usize) -> usize
+    requires { at + LANES ≤ length bytes.now }
+    ensures { IsRunIn (byte_in Digit) bytes.now at result }
+{
+    let v = u8x16::from_slice(&bytes[at..]);
+    let stops = (v - u8x16::splat(b'0')).simd_ge(u8x16::splat(10));
+    first_set(stops.to_bitmask())
+}
+
+#[inline(always)]
+fn blank_run(bytes: &[u8], at: usize) -> usize
+    requires { at + LANES ≤ length bytes.now }
+    ensures { IsRunIn (byte_in Blank) bytes.now at result }
+{
+    let v = u8x16::from_slice(&bytes[at..]);
+    let stops = v.simd_ne(u8x16::splat(b' ')) & v.simd_ne(u8x16::splat(b'\t'));
+    first_set(stops.to_bitmask())
 }
 
 // ASCII white space is 9 to 13 and 32, and no other byte.
@@ -127,16 +146,26 @@ fn label_run(bytes: &[u8], at: usize) -> usize
     first_set(stops.to_bitmask())
 }
 
-/// The kernel of a class that has one.
+/// How many of the next sixteen bytes, from the first, are the digit zero.
+#[inline(always)]
+pub(crate) fn zero_run(bytes: &[u8], at: usize) -> usize
+    requires { at + LANES ≤ length bytes.now }
+    ensures { IsRunIn is_zero bytes.now at result }
+{
+    let v = u8x16::from_slice(&bytes[at..]);
+    let stops = v.simd_ne(u8x16::splat(b'0'));
+    first_set(stops.to_bitmask())
+}
+
+/// The kernel of the class.
 #[inline(always)]
 pub(crate) fn class_run(bytes: &[u8], at: usize, class: CharClass) -> usize
-    requires block { at + LANES ≤ length bytes.now }
-    requires kernel { is_long class ≡ true }
+    requires { at + LANES ≤ length bytes.now }
     ensures { IsRunIn (byte_in class) bytes.now at result }
 {
     match class {
-        CharClass::Digit => unreachable!(),
-        CharClass::Blank => unreachable!(),
+        CharClass::Digit => digit_run(bytes, at),
+        CharClass::Blank => blank_run(bytes, at),
         CharClass::Visible => visible_run(bytes, at),
         CharClass::Id => id_run(bytes, at),
         CharClass::Name => name_run(bytes, at),

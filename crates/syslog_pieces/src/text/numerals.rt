@@ -1,9 +1,11 @@
 //! The numbers that runs of digits write.
-ghost use Rattle.std.specs.Prelude.{◌≡◌, ◌<◌, ◌^◌, IfSome, SomeIff, length};
+ghost use Rattle.std.specs.Prelude.{◌≡◌, ◌<◌, ◌≤◌, ◌^◌, ℕ, IfSome, SomeIff, length, slice_index};
 ghost use Rattle.std.specs.Char.{is_ascii_digit};
 ghost use Rattle.std.specs.Str.{chars};
 ghost use Rattle.std.specs.Str.Parse.{digits_value};
 ghost use Rattle.syslog_pieces.specs.Pieces.Class.{Each};
+
+use crate::text::lanes::{LANES, zero_run};
 
 /// The number that a run of digits writes, where it has 32 bits.
 #[inline(always)]
@@ -41,8 +43,22 @@ fn any_digits(digits: &str) -> Option<u32>
     requires { Each is_ascii_digit (chars digits.now) }
     ensures { SomeIff result ((0 < length digits.now) × (digits_value 10 digits.now < 2 ^ 32)) (digits_value 10 digits.now) }
 {
-    match digits.parse::<u32>() {
+    let (_, rest) = digits.split_at(zeros_ahead(digits.as_bytes()));
+    match rest.parse::<u32>() {
         Ok(value) => Some(value),
         Err(_) => None,
     }
+}
+
+// How many zeros stand before other digits, by sixteen.
+fn zeros_ahead(digits: &[u8]) -> usize
+    ensures within { result ≤ length digits.now }
+    ensures others { 0 < length digits.now → result < length digits.now }
+    ensures zeros { (k : ℕ) → k < result → slice_index digits.now k ≡ 48 }
+{
+    let mut end = 0;
+    'blocks: while digits.len() - end > LANES && zero_run(digits, end) == LANES {
+        end += LANES;
+    }
+    end
 }

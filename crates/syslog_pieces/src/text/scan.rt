@@ -1,6 +1,7 @@
-//! Runs of ASCII bytes of a class: sixteen at a time while they last, then one by one.
+//! Runs of ASCII bytes of a class: sixteen at a time while they last, then one by one. The first of a run of digits or
+//! blanks are looked at one by one before that.
 ghost use Rattle.std.specs.Prelude.{◌≡◌, ◌<◌, IsTrue, length, slice_index};
-ghost use Rattle.syslog_pieces.specs.Bodies.Scan.{IsRun, bit_of, byte_in, is_long};
+ghost use Rattle.syslog_pieces.specs.Bodies.Scan.{IsRun, bit_of, byte_in};
 
 use crate::text::CharClass;
 use crate::text::lanes::{LANES, class_run};
@@ -48,12 +49,12 @@ pub(crate) fn is_in(b: u8, class: CharClass) -> bool
     CLASSES[b as usize] & bit(class) != 0
 }
 
-// Runs of digits and blanks are short: a load of sixteen bytes isn't worth it.
+// Runs of digits and blanks are short: so many bytes are looked at one by one, before a load of sixteen is worth it.
+const SHORT: usize = 8;
+
 #[inline(always)]
-fn is_long(class: CharClass) -> bool
-    ensures { result ≡ is_long class }
-{
-    !matches!(class, CharClass::Digit | CharClass::Blank)
+fn is_short(class: CharClass) -> bool {
+    matches!(class, CharClass::Digit | CharClass::Blank)
 }
 
 /// How many bytes at the front are ASCII and of the class.
@@ -61,8 +62,40 @@ fn is_long(class: CharClass) -> bool
 pub(crate) fn ascii_run(bytes: &[u8], class: CharClass) -> usize
     ensures { IsRun (byte_in class) bytes.now result }
 {
+    if !is_short(class) {
+        return block_run(bytes, class);
+    }
+    let front = bytes.len().min(SHORT);
     let mut end = 0;
-    'blocks: while is_long(class) && bytes.len() - end >= LANES {
+    'front: while end < front {
+        if !is_in(bytes[end], class) {
+            return end;
+        }
+        end += 1;
+    }
+    if front < SHORT {
+        end
+    } else {
+        long_run(bytes, class)
+    }
+}
+
+// The same of a run of digits or blanks that goes on behind the first bytes.
+#[cold]
+#[inline(never)]
+fn long_run(bytes: &[u8], class: CharClass) -> usize
+    ensures { IsRun (byte_in class) bytes.now result }
+{
+    block_run(bytes, class)
+}
+
+// By sixteen bytes while they last.
+#[inline(always)]
+fn block_run(bytes: &[u8], class: CharClass) -> usize
+    ensures { IsRun (byte_in class) bytes.now result }
+{
+    let mut end = 0;
+    'blocks: while bytes.len() - end >= LANES {
         let run = class_run(bytes, end, class);
         if run < LANES {
             return end + run;

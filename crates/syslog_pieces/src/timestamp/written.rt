@@ -61,6 +61,9 @@ fn offset_of(seconds: i32) -> Option<Offset>
     Offset::from_seconds(seconds).ok()
 }
 
+// The length of `YYYY-MM-DDTHH:MM:SS`, which each text has at its front.
+const FRONT: usize = 19;
+
 /// What the whole text writes, if it has the form.
 #[tactic(auto, unfolding(crate::specs::Bodies::StampReading::written))]
 #[inline(always)]
@@ -68,6 +71,10 @@ pub fn read(text: &[u8]) -> Option<Written>
     ensures value { result ≡ spec.written text.now }
     ensures offset { IfSome result (λ written. IsOffsetSeconds written.offset) }
 {
+    // With the length known, no piece looks for its end.
+    if text.len() < FRONT {
+        return None;
+    }
     let (date, text) = date(text)?;
     let (clock, text) = clock(after_letter(text, b'T')?)?;
     let (nanosecond, text) = fraction(text)?;

@@ -5,7 +5,7 @@ use Rattle.std.specs.Str.{chars}
 use Rattle.syslog_pieces.specs.StructuredData.Element.{element_value}
 use Rattle.syslog_pieces.specs.StructuredData.Listed.{full_element}
 use Rattle.syslog_pieces.specs.Pieces.View.{shown}
-use Rattle.syslog_pieces.proofs.PieceLemmas.Lists.{HasRead}
+use Rattle.syslog_pieces.specs.Pieces.Lists.{HasRead}
 use Rattle.syslog_pieces.proofs.structured_data.listed.full_elements.Given as goal
 
 abbrev pub invariant-elements : goal.invariant-elements
