@@ -44,13 +44,13 @@ host_det p q p' q' v v' e (_, a, inl (n, b, m)) (_, a', inl (n', b', m')) =
     let s = run_same is_not_whitespace p q p' q' e a b a' b' in (s, names_same p' v v' (rw s at m) m')
 host_det p q p' q' v v' e (_, a, inl (n, b, m)) (_, a', inr (r', f', b', m')) =
     let whole : p ++ q ≡ (p' ++ colon) ++ r' = e ∙ ap (λ (x : Text). p' ++ x) f' ∙ sym (append_assoc p' colon r') in
-    let s = run_same is_not_whitespace p q (p' ++ colon) r' whole a b (with_colon p' a') b' in absurd (n (p', s))
+    let s = run_same is_not_whitespace p q (p' ++ colon) r' whole a b (each_append is_not_whitespace p' colon a' (refl, tt)) b' in absurd (n (p', s))
 host_det p q p' q' v v' e (_, a, inr (r, f, b, m)) (_, a', inl (n', b', m')) =
     let whole : (p ++ colon) ++ r ≡ p' ++ q' = append_assoc p colon r ∙ ap (λ (x : Text). p ++ x) (sym f) ∙ e in
     let s = run_same is_not_whitespace (p ++ colon) r p' q' whole (each_append is_not_whitespace p colon a (refl, tt)) b a' b' in absurd (n' (p, sym s))
 host_det p q p' q' v v' e (_, a, inr (r, f, b, m)) (_, a', inr (r', f', b', m')) =
     let whole : (p ++ colon) ++ r ≡ (p' ++ colon) ++ r' = append_assoc p colon r ∙ ap (λ (x : Text). p ++ x) (sym f) ∙ e ∙ ap (λ (x : Text). p' ++ x) f' ∙ sym (append_assoc p' colon r') in
-    let s = run_same is_not_whitespace (p ++ colon) r (p' ++ colon) r' whole (each_append is_not_whitespace p colon a (refl, tt)) b (with_colon p' a') b' in
+    let s = run_same is_not_whitespace (p ++ colon) r (p' ++ colon) r' whole (each_append is_not_whitespace p colon a (refl, tt)) b (each_append is_not_whitespace p' colon a' (refl, tt)) b' in
     let t = (same_from_push p p' 58 58 s).0 in (t, m ∙ ap Some t ∙ sym m')
 
 -- ---- numbers
