@@ -10,7 +10,7 @@ use Rattle.std.specs.Str.{chars, IsUtf8, NonePass, encode_utf8_all}
 use Rattle.std.specs.Str.Pattern.{FindsChar, HasMatch}
 use Rattle.syslog_pieces.specs.Pieces.Class.{Text, Each}
 use Rattle.syslog_pieces.specs.Text.{colon, dash, EndsInColon}
-use Rattle.syslog_pieces.proofs.TextLemmas.Chars.{chars_empty}
+use Rattle.syslog_pieces.proofs.TextLemmas.Chars.{chars_empty, from_not_true}
 use Rattle.syslog_pieces.proofs.TextLemmas.Plain.{false_is}
 use Rattle.syslog_pieces.proofs.TextLemmas.Words.{colon_ascii, dash_ascii}
 use Rattle.syslog_loose.specs.ListedMisses.{is_no_colon}
@@ -97,10 +97,6 @@ empty_kept bs l =
 each_of : (cs : Text) → NonePass (λ d. nat_eq d 58) cs → Each is_no_colon cs
 each_of [] n = tt
 each_of (c ∷ cs) n = (ap not n.0, each_of cs n.1)
-
-from_not_true : (b : Bool) → not b ≡ true → b ≡ false
-from_not_true false e = refl
-from_not_true true e = sym e
 
 none_of : (cs : Text) → Each is_no_colon cs → NonePass (λ d. nat_eq d 58) cs
 none_of [] h = tt

@@ -19,12 +19,10 @@ use Rattle.syslog_pieces.proofs.TimestampLemmas.RoundTrip.{printed_stamp-visible
 use Rattle.syslog_loose.specs.Printed.{timestamp_text}
 use Rattle.syslog_pieces.specs.Text.{is_blank, trimmed}
 use Rattle.syslog_loose.specs.Canonical.{EndsVisibly}
+use Rattle.syslog_pieces.proofs.TextLemmas.Chars.{from_not_true}
 unfoldable pub use Rattle.syslog_loose.specs.Jumps.{message_end}
 
 -- ---- characters
-pub not_white : (b : Bool) → not b ≡ true → b ≡ false
-not_white true h = cc
-not_white false h = refl
 
 pub or_false : (a b : Bool) → a ≡ false → b ≡ false → (a || b) ≡ false
 or_false true b h g = h
@@ -62,7 +60,7 @@ drop_visible : (c : ℕ) (cs : Text) → is_not_whitespace c ≡ true
     → drop_trailing_whitespace (c ∷ cs) ≡ c ∷ drop_trailing_whitespace cs
 drop_visible c cs h =
     cond_left (is_whitespace c) (nat_eq (length (drop_trailing_whitespace cs)) 0) [] (c ∷ drop_trailing_whitespace cs)
-    (not_white (is_whitespace c) h)
+    (from_not_true (is_whitespace c) h)
 
 drop_before : (c : ℕ) (cs : Text) → 0 < length (drop_trailing_whitespace cs)
     → drop_trailing_whitespace (c ∷ cs) ≡ c ∷ drop_trailing_whitespace cs

@@ -4,7 +4,7 @@ use Rattle.std.proofs.Common.{◌≡◌, ◌↔◌, ℕ, ◌<◌, ◌≤◌, inl
 use Rattle.std.proofs.lemmas.List.{length-append}
 use Rattle.std.specs.Char.{is_not_whitespace}
 use Rattle.std.specs.Option.{option_and_then}
-use Rattle.syslog_pieces.specs.Pieces.Class.{Text, Values, Front, NoFront, Row, Each, Ends, run, exactly, optional, spaced}
+use Rattle.syslog_pieces.specs.Pieces.Class.{Text, Values, Front, NoFront, Row, Ends, run, exactly, optional, spaced}
 use Rattle.syslog_pieces.specs.Pri.{priority, facility_of}
 use Rattle.syslog_pieces.specs.StructuredData.Element.{ElementValue}
 use Rattle.syslog_pieces.specs.StructuredData.Listed.{IsListed, BeginsNoList, listed, elements_or}
@@ -34,8 +34,8 @@ use Rattle.syslog_loose.specs.declared.message.Protocol.TheVariants.{RFC3164}
 use Rattle.syslog_loose.proofs.PriorityLemmas.{priority_low, priority_front, priority_small}
 use Rattle.syslog_loose.proofs.Rfc3164Lemmas.Apart.{digit_range}
 use Rattle.syslog_loose.proofs.Rfc3164Lemmas.Misses.{plain_names}
-use Rattle.syslog_pieces.proofs.PieceLemmas.Each.{each_right}
-use Rattle.syslog_loose.proofs.Rfc3164Lemmas.Near.{TagField, tag_field, form_parts, no_colon_process, severity_beside, read_near}
+use Rattle.syslog_pieces.proofs.PieceLemmas.Each.{each_right, each_append}
+use Rattle.syslog_loose.proofs.Rfc3164Lemmas.Near.{TagField, tag_field, form_parts, no_colon_process, severity_beside, read_near, some_same}
 use Rattle.syslog_loose.proofs.Rfc3164Lemmas.Printed.{printed_is}
 use Rattle.syslog_loose.proofs.Rfc3164Lemmas.ReadBack.{canonical_back, tag_back, program_field, host_field_back, stamp_back}
 use Rattle.syslog_loose.proofs.Rfc3164Lemmas.Rows.{from_gap, from_list, from_blanks, from_colon, from_tag_end, from_tag, from_stamp, from_priority_end}
@@ -43,9 +43,6 @@ use Rattle.syslog_loose.proofs.Rfc3164Lemmas.Unique.{told}
 use Rattle.syslog_loose.proofs.Rfc3164Lemmas.Whole.{program_text, whole, tail_text, trimmed_whole}
 use Rattle.syslog_loose.proofs.TrimLemmas.{message_end, message_blanks, stamp_unblank}
 use Rattle.syslog_pieces.proofs.PieceLemmas.Rows.{row_pieces}
-
-some_same : {A : Type 0} (x y : A) → Some x ≡ Some y → x ≡ y
-some_same x y e = cc
 
 -- ---- the host
 
@@ -61,16 +58,12 @@ pub dash_is_no_more : (p : Text) → dash ≡ p ++ colon → ⊥
 dash_is_no_more [] e = let t : ◌≡◌ {A = ℕ} 45 58 = heads 45 58 [] [] e in omega arith
 dash_is_no_more (c ∷ p) e = let t = ap length e in omega (arith, length-append p colon)
 
-each_colon : (p : Text) → Each is_not_whitespace p → Each is_not_whitespace (p ++ colon)
-each_colon [] h = (refl, tt)
-each_colon (c ∷ p) h = (h.0, each_colon p h.1)
-
 -- a dash before a space is no host of a text
 dash_no_host : (h p q u : Text) → p ++ q ≡ dash ++ (32 ∷ u) → IsHost p q (Some h) → ⊥
 dash_no_host h p q u e (l, a, inl (n, b, (w, d))) = d (run_same is_not_whitespace p q dash (32 ∷ u) e a b (refl, tt) refl)
 dash_no_host h p q u e (l, a, inr (r, w, b, z)) =
     let e1 : (p ++ colon) ++ r ≡ dash ++ (32 ∷ u) = append_assoc p colon r ∙ ap (λ (x : Text). p ++ x) (sym w) ∙ e in
-    dash_is_no_more p (sym (run_same is_not_whitespace (p ++ colon) r dash (32 ∷ u) e1 (each_colon p a) b (refl, tt) refl))
+    dash_is_no_more p (sym (run_same is_not_whitespace (p ++ colon) r dash (32 ∷ u) e1 (each_append is_not_whitespace p colon a (refl, tt)) b (refl, tt) refl))
 
 -- ---- what the fields were
 

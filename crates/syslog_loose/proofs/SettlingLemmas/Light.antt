@@ -25,7 +25,7 @@ use Rattle.syslog_loose.specs.Message.{MessageValue}
 use Rattle.syslog_loose.specs.Rfc3164.{Names3164, Resolves, body_row, rfc3164_row, IsRead3164}
 use Rattle.syslog_loose.specs.Settling.{Costs, ColonsCost, NamesWeigh, Weighs}
 use Rattle.syslog_loose.proofs.Rfc3164Lemmas.Exact.{dash_is_no_more, program_host, program_process, HoldsNoText, process_of}
-use Rattle.syslog_loose.proofs.Rfc3164Lemmas.Near.{TagField, tag_field}
+use Rattle.syslog_loose.proofs.Rfc3164Lemmas.Near.{TagField, tag_field, some_same}
 use Rattle.syslog_loose.proofs.Rfc3164Lemmas.Rows.{from_colon, from_tag_end, from_tag, from_stamp, from_priority_end}
 use Rattle.syslog_loose.proofs.SettlingLemmas.Costs.{free, at_most, ends_long, ends_colon, bare_zero, bare_one}
 use Rattle.syslog_pieces.proofs.PieceLemmas.Rows.{row_pieces}
@@ -90,9 +90,6 @@ host_light h origin process w k e p =
     let a = colons_dash h k.colons k.dashed (subst (λ (x : Option Text). ColonsCost x k.colons) e k.colons_is) (subst (λ (x : Option Text). Costs (IfSome x (λ y. y ≢ dash)) 1 k.dashed) e k.dashed_is) in
     let b = free (IfSome process HasNoColon) 1 k.cut k.cut_is p in
     omega (arith, k.total)
-
-some_same : {A : Type 0} (x y : A) → Some x ≡ Some y → x ≡ y
-some_same x y e = cc
 
 host_length : (p q x : Text) → IsHost p q (Some x) → length x ≡ length p
 host_length p q x (l, a, inl (n, b, (w, d))) = ap length w

@@ -1,6 +1,6 @@
 -- Rows of formats: printed, they are read back, and what each printed piece has the whole text has.
 use Rattle.std.proofs.Common.{◌≡◌, ℕ, Bool, List, [], ◌∷◌, ◌++◌, refl, ap, ◌∙◌, append_assoc}
-use Rattle.syslog_pieces.specs.Pieces.Class.{Text, Class, Values, Front, Row, Each}
+use Rattle.syslog_pieces.specs.Pieces.Class.{Text, Values, Front, Row, Each}
 use Rattle.syslog_pieces.specs.Pieces.Format.{Format, IsSound, classes, printed_row, RowReadsBack}
 use Rattle.syslog_pieces.proofs.PieceLemmas.Class.{row_nil, row_cons}
 use Rattle.syslog_pieces.proofs.PieceLemmas.Steps.{piece_front}

@@ -1,5 +1,5 @@
 -- A row, piece by piece: each with what follows it, or the first that is not there.
-use Rattle.std.proofs.Common.{◌≡◌, ◌⊎◌, inl, inr, List, [], ◌∷◌, refl, subst}
+use Rattle.std.proofs.Common.{◌≡◌, ◌⊎◌, inl, inr, List, [], ◌∷◌, subst}
 use Rattle.syslog_pieces.specs.Pieces.Class.{Text, Class, Values, Front, NoFront, Row}
 use Rattle.syslog_pieces.proofs.PieceLemmas.Class.{AllDeterministic, nil_front, row_nil, row_cons, row_head}
 use Rattle.syslog_pieces.proofs.PieceLemmas.Class.{row_none_here, row_none_later}

@@ -77,7 +77,7 @@ from_not_false : (b : Bool) → not b ≡ false → b ≡ true
 from_not_false true e = refl
 from_not_false false e = cc
 
-from_not_true : (b : Bool) → not b ≡ true → b ≡ false
+pub from_not_true : (b : Bool) → not b ≡ true → b ≡ false
 from_not_true true e = cc
 from_not_true false e = refl
 

@@ -15,7 +15,7 @@ use Rattle.syslog_pieces.specs.Text.{number, dash, colon, Names, word, EndsInCol
 use Rattle.syslog_pieces.proofs.TextLemmas.Chars.{cut_at, chars_nonempty, chars_empty, digits_ascii, digits_plain, one_ascii}
 use Rattle.syslog_pieces.proofs.PieceLemmas.Class.{run_same}
 use Rattle.syslog_pieces.proofs.TextLemmas.Runs.{run_is}
-use Rattle.syslog_pieces.proofs.PieceLemmas.Each.{each_front}
+use Rattle.syslog_pieces.proofs.PieceLemmas.Each.{each_front, each_append}
 
 -- ---- each is deterministic
 pub number_det : (limit : ℕ) → IsDeterministic (number limit)
@@ -39,23 +39,18 @@ tag_word_det w q w' q' v v' e h h' =
     let s = run_same is_tag_char w q w' q' e h.1 h.2 h'.1 h'.2 in
     (s, names_same w' v v' (rw s at h.3) h'.3)
 
--- a run whose last colon is given back is still a run
-with_colon : (p : Text) → Each is_not_whitespace p → Each is_not_whitespace (p ++ colon)
-with_colon [] h = (refl, tt)
-with_colon (c ∷ p) h = (h.0, with_colon p h.1)
-
 pub host_det : IsDeterministic host
 host_det p q p' q' v v' e (_, a, inl (n, b, m)) (_, a', inl (n', b', m')) =
     let s = run_same is_not_whitespace p q p' q' e a b a' b' in (s, names_same p' v v' (rw s at m) m')
 host_det p q p' q' v v' e (_, a, inl (n, b, m)) (_, a', inr (r', f', b', m')) =
     let whole : p ++ q ≡ (p' ++ colon) ++ r' = e ∙ ap (λ (x : Text). p' ++ x) f' ∙ sym (append_assoc p' colon r') in
-    let s = run_same is_not_whitespace p q (p' ++ colon) r' whole a b (with_colon p' a') b' in absurd (n (p', s))
+    let s = run_same is_not_whitespace p q (p' ++ colon) r' whole a b (each_append is_not_whitespace p' colon a' (refl, tt)) b' in absurd (n (p', s))
 host_det p q p' q' v v' e (_, a, inr (r, f, b, m)) (_, a', inl (n', b', m')) =
     let whole : (p ++ colon) ++ r ≡ p' ++ q' = append_assoc p colon r ∙ ap (λ (x : Text). p ++ x) (sym f) ∙ e in
-    let s = run_same is_not_whitespace (p ++ colon) r p' q' whole (with_colon p a) b a' b' in absurd (n' (p, sym s))
+    let s = run_same is_not_whitespace (p ++ colon) r p' q' whole (each_append is_not_whitespace p colon a (refl, tt)) b a' b' in absurd (n' (p, sym s))
 host_det p q p' q' v v' e (_, a, inr (r, f, b, m)) (_, a', inr (r', f', b', m')) =
     let whole : (p ++ colon) ++ r ≡ (p' ++ colon) ++ r' = append_assoc p colon r ∙ ap (λ (x : Text). p ++ x) (sym f) ∙ e ∙ ap (λ (x : Text). p' ++ x) f' ∙ sym (append_assoc p' colon r') in
-    let s = run_same is_not_whitespace (p ++ colon) r (p' ++ colon) r' whole (with_colon p a) b (with_colon p' a') b' in
+    let s = run_same is_not_whitespace (p ++ colon) r (p' ++ colon) r' whole (each_append is_not_whitespace p colon a (refl, tt)) b (each_append is_not_whitespace p' colon a' (refl, tt)) b' in
     let t = (same_from_push p p' 58 58 s).0 in (t, m ∙ ap Some t ∙ sym m')
 
 -- ---- numbers
@@ -164,7 +159,7 @@ module _ (bs xs ys : List ℕ) (s : SplitsRun is_not_whitespace bs xs ys) where
   host_run : (p q : List ℕ) (v : Option (List ℕ)) → chars bs ≡ p ++ q → IsHost p q v → ((p ≡ chars xs) × (EndsInColon p → ⊥)) ⊎ (p ++ colon ≡ chars xs)
   host_run p q v e (_, a, inl (n, b, m)) = inl (run_is is_not_whitespace bs xs ys s p q e a b, n)
   host_run p q v e (_, a, inr (r, f, b, m)) =
-      inr (run_is is_not_whitespace bs xs ys s (p ++ colon) r (e ∙ ap (λ (x : List ℕ). p ++ x) f ∙ sym (append_assoc p colon r)) (with_colon p a) b)
+      inr (run_is is_not_whitespace bs xs ys s (p ++ colon) r (e ∙ ap (λ (x : List ℕ). p ++ x) f ∙ sym (append_assoc p colon r)) (each_append is_not_whitespace p colon a (refl, tt)) b)
 
   pub no_host_empty : length xs ≡ 0 → NoFront host (chars bs)
   no_host_empty z p q v e h =
