@@ -4,6 +4,9 @@ ghost use Rattle.std.specs.Str.{chars};
 ghost use Rattle.syslog_pieces.specs.Pieces.View.{shown};
 ghost use Rattle.syslog_loose.specs.TagForm.{IsForm, IsNoForm};
 
+#[cfg(test)]
+mod tests;
+
 use syslog_pieces::text::{CharClass, literal, split_run};
 
 /// The tag and the id of a text of the form `tag[id]`.

@@ -1,12 +1,5 @@
-//! What no contract says: worked texts with the messages that they read as, printed texts, and each call once.
-mod built;
+//! What no contract says, where it takes more than public calls, or a caller's contract. The crate `syslog_tests` has the
+//! tests by public calls.
 mod callers;
-mod calls;
-mod comparison;
-mod expected;
-mod reading;
-mod refusals;
-mod rfc3164;
-mod rfc5424;
-mod rounds;
-mod sizes;
+mod differing;
+mod old_dash;

@@ -1,0 +1,49 @@
+//! Texts and messages of RFC 5424.
+mod canonical;
+mod crate_answers;
+mod crate_answers_lists;
+mod headers;
+mod hostile;
+mod lists;
+mod printed;
+
+use super::expected::{
+    Expected, check_fields, check_printed, check_priority, check_timestamp, row_of,
+};
+use super::reading::{IN_JANUARY, read, read_by_month};
+use syslog_loose::{Message, Protocol, Variant};
+use std::alloc::Global;
+use std::process::Abort;
+use std::test::Fail;
+
+/// It is the message of the row, field by field, and it prints so.
+fn check_message(
+    rt: &impl Abort,
+    alloc: Global,
+    message: &Message<&str>,
+    want: &Expected,
+) -> Result<(), Fail> {
+    assert_eq!(rt; message.protocol, Protocol::RFC5424(want.version));
+    check_priority(rt, message, want);
+    check_timestamp(rt, alloc, message, want.timestamp)?;
+    check_fields(rt, message, want);
+    check_printed(rt, alloc, message, want)
+}
+
+/// The text reads as its message, as RFC 5424 and under `Either`, in a given zone and without one.
+fn check_text(rt: &impl Abort, alloc: Global, want: &Expected) -> Result<(), Fail> {
+    for variant in [Variant::Either, Variant::RFC5424] {
+        check_message(rt, alloc, &read(alloc, want.text, variant)?, want)?;
+        let message = read_by_month(alloc, want.text, IN_JANUARY, variant)?;
+        check_message(rt, alloc, &message, want)?;
+    }
+    Ok(())
+}
+
+/// The text of each row reads so.
+fn check_table(rt: &impl Abort, alloc: Global, rows: &[&str]) -> Result<(), Fail> {
+    for row in rows {
+        check_text(rt, alloc, &row_of(rt, row))?;
+    }
+    Ok(())
+}

@@ -1,0 +1,119 @@
+//! Worked texts of RFC 5424 without elements.
+use super::{check_message, check_table, check_text};
+use crate::expected::row_of;
+use crate::reading::{check_invalid, read};
+use syslog_loose::{Message, Protocol, SyslogFacility, SyslogSeverity, Variant};
+use std::test::Fail;
+
+#[test]
+fn reads_each_field(rt: HostRuntime) -> Result<(), Fail> {
+    check_table(
+        &rt,
+        rt.alloc(),
+        &[
+            "<34>1 2003-10-11T22:14:15.003Z mymachine.example.com su - ID47 - message\
+             ¦facility auth¦severity crit¦at 2003-10-11T22:14:15.003+00:00¦host mymachine.example.com¦app su¦id ID47¦msg message\
+             ¦prints <34>1 2003-10-11T22:14:15.003+00:00 mymachine.example.com su - ID47 - message",
+            "<28>1 2020-05-22T14:59:09.250-03:00 OX-XXX-MX204 OX-XXX-CONTEUDO:rpd 6589 - - bgp_listen_accept: %DAEMON-4: x\
+             ¦facility daemon¦severity warning¦at 2020-05-22T14:59:09.250-03:00¦host OX-XXX-MX204¦app OX-XXX-CONTEUDO:rpd¦pid 6589¦msg bgp_listen_accept: %DAEMON-4: x\
+             ¦prints <28>1 2020-05-22T14:59:09.250-03:00 OX-XXX-MX204 OX-XXX-CONTEUDO:rpd 6589 - - bgp_listen_accept: %DAEMON-4: x",
+        ],
+    )
+}
+
+#[test]
+fn reads_a_text_without_a_priority(rt: HostRuntime) -> Result<(), Fail> {
+    check_table(
+        &rt,
+        rt.alloc(),
+        &[
+            "1 - - - - - -¦prints <47>1 - - - - - - ",
+            "1 2020-05-22T14:59:09.250-03:00 OX-XXX-MX204 OX-XXX-CONTEUDO:rpd 6589 - - bgp_listen_accept: %DAEMON-4: x\
+             ¦at 2020-05-22T14:59:09.250-03:00¦host OX-XXX-MX204¦app OX-XXX-CONTEUDO:rpd¦pid 6589¦msg bgp_listen_accept: %DAEMON-4: x\
+             ¦prints <47>1 2020-05-22T14:59:09.250-03:00 OX-XXX-MX204 OX-XXX-CONTEUDO:rpd 6589 - - bgp_listen_accept: %DAEMON-4: x",
+        ],
+    )
+}
+
+#[test]
+fn reads_second_sixty_and_cuts_decimals(rt: HostRuntime) -> Result<(), Fail> {
+    check_table(
+        &rt,
+        rt.alloc(),
+        &[
+            "<34>1 2016-12-31T23:59:60.25Z h a 1 m - x\
+             ¦facility auth¦severity crit¦at 2016-12-31T23:59:59.250+00:00¦host h¦app a¦pid 1¦id m¦msg x\
+             ¦prints <34>1 2016-12-31T23:59:59.250+00:00 h a 1 m - x",
+            "<34>1 2020-01-01t00:00:00.1234567899z h a 1 m - x\
+             ¦facility auth¦severity crit¦at 2020-01-01T00:00:00.123456789+00:00¦host h¦app a¦pid 1¦id m¦msg x\
+             ¦prints <34>1 2020-01-01T00:00:00.123456789+00:00 h a 1 m - x",
+        ],
+    )
+}
+
+#[test]
+fn reads_a_priority_and_a_version_up_to_their_limits(rt: HostRuntime) -> Result<(), Fail> {
+    check_table(
+        &rt,
+        rt.alloc(),
+        &[
+            "<191>4294967295 - - - - - -¦version 4294967295¦facility local7¦severity debug¦prints <191>4294967295 - - - - - - ",
+            "<0007>1 - - - - - -¦facility kern¦severity debug¦prints <7>1 - - - - - - ",
+            "<200>1 - - - - - -¦severity emerg¦prints <40>1 - - - - - - ",
+        ],
+    )
+}
+
+#[test]
+fn reads_a_process_id_as_a_number_or_a_name(rt: HostRuntime) -> Result<(), Fail> {
+    check_table(
+        &rt,
+        rt.alloc(),
+        &[
+            "1 - h a +5 m - x¦host h¦app a¦pid 5¦id m¦msg x¦prints <47>1 - h a 5 m - x",
+            "1 - h a 2147483648 m - x¦host h¦app a¦name 2147483648¦id m¦msg x¦prints <47>1 - h a 2147483648 m - x",
+        ],
+    )
+}
+
+#[test]
+fn refuses_a_broken_header(rt: HostRuntime) {
+    let texts = [
+        "",
+        "  ",
+        "<256>1 - - - - - -",
+        "<191>4294967296 - - - - - -",
+        "1 - h: a 1 m - x",
+        "<34>1 2020-01-01T00:00:00+24:00 h a 1 m - x",
+        "<34>2020-01-01T00:00:00Z",
+    ];
+    check_invalid(&rt, rt.alloc(), Variant::Either, &texts);
+    check_invalid(&rt, rt.alloc(), Variant::RFC5424, &texts);
+}
+
+#[test]
+fn reads_a_printed_message_back(rt: HostRuntime) -> Result<(), Fail> {
+    let alloc = rt.alloc();
+    let want = row_of(
+        &rt,
+        "<75>1 1969-12-03T23:58:58+00:00 - - - - - \
+         ¦facility cron¦severity err¦at 1969-12-03T23:58:58+00:00\
+         ¦prints <75>1 1969-12-03T23:58:58+00:00 - - - - - ",
+    );
+    let message = Message {
+        protocol: Protocol::RFC5424(1),
+        facility: Some(SyslogFacility::LOG_CRON),
+        severity: Some(SyslogSeverity::SEV_ERR),
+        timestamp: read(alloc, "1 1969-12-03T23:58:58Z - - - - -", Variant::RFC5424)?.timestamp,
+        hostname: None,
+        appname: None,
+        procid: None,
+        msgid: None,
+        structured_data: Vec::new(alloc),
+        msg: "",
+    };
+    check_message(&rt, alloc, &message, &want)?;
+    assert_eq!(rt; want.text.len(), 42);
+    assert_eq!(rt; want.text, want.printed);
+    check_text(&rt, alloc, &want)
+}

@@ -1,0 +1,51 @@
+//! Rounds: lines that settle, and what normalising them by hand comes to.
+mod made;
+mod settling;
+
+use super::reading::{normalised, settled};
+use syslog_loose::{ParseFault, TimeZone};
+use std::alloc::Global;
+use std::process::Abort;
+use std::test::Fail;
+
+/// What normalising by hand comes to, and in which round, or the fault of the round that is missing.
+fn by_hand(
+    alloc: Global,
+    text: &str,
+    year: i32,
+    tz: &TimeZone<'_>,
+) -> Result<(String, usize), ParseFault> {
+    let mut last = normalised(alloc, text, year, Some(tz))?;
+    for rounds in 1..=text.len() + 1 {
+        let next = normalised(alloc, last.as_str(), year, Some(tz))?;
+        if next.as_str() == last.as_str() {
+            return Ok((last, rounds));
+        }
+        last = next;
+    }
+    Err(ParseFault::Invalid)
+}
+
+/// The text settles as normalising it by hand comes to rest, with the same fault where a round is missing; and normalising
+/// leaves the answer as it is.
+fn expect_as_by_hand(
+    rt: &impl Abort,
+    alloc: Global,
+    text: &str,
+    year: i32,
+    tz: &TimeZone<'_>,
+) -> Result<(), Fail> {
+    match by_hand(alloc, text, year, tz) {
+        Ok((want, _)) => {
+            let answer = settled(alloc, text, year, Some(tz))?;
+            assert_eq!(rt; answer.as_str(), want.as_str(), "{text}");
+            let again = normalised(alloc, answer.as_str(), year, Some(tz))?;
+            assert_eq!(rt; again.as_str(), answer.as_str(), "{text}");
+        }
+        Err(fault) => match settled(alloc, text, year, Some(tz)) {
+            Ok(answer) => assert!(rt; false, "{text}: {answer}"),
+            Err(other) => assert_eq!(rt; other, fault, "{text}"),
+        },
+    }
+    Ok(())
+}

@@ -1,0 +1,65 @@
+//! Lines of RFC 3164 that are made of parts hard to read again: each settles as normalising by hand does.
+use super::expect_as_by_hand;
+use syslog_loose::{Offset, TimeZone};
+use std::alloc::Global;
+use std::process::Abort;
+use std::test::Fail;
+
+/// Priorities and timestamps: none, an absent one, a month date without a year, and one with the last year.
+const STAMPS: [&str; 4] = ["", "-", "<34>Jan 1 00:00:00", "<200>Dec 31 9999 23:59:59"];
+
+/// Hosts of colons, dashes and brackets.
+const HOSTS: [&str; 8] = ["", " h", " -", " h::", " :", " -:", " a[b]", " [:-]"];
+
+/// Tags, with and without a process, whose name may have colons.
+const TAGS: [&str; 8] = [
+    "", " a:", " -:", " a[b]:", " a[b:c]:", " [::", " [x:y]]:", " a::",
+];
+
+/// Messages, of which some begin with a list.
+const MESSAGES: [&str; 6] = ["", " -", " - -", " --", " [e k=\"v\"]- x", " m: ::"];
+
+/// Each message behind the front of a line.
+fn expect_messages(
+    rt: &impl Abort,
+    alloc: Global,
+    front: &str,
+    year: i32,
+    tz: &TimeZone<'_>,
+) -> Result<(), Fail> {
+    for message in MESSAGES {
+        let line = format!(in alloc; "{front}{message}")?;
+        expect_as_by_hand(rt, alloc, line.as_str(), year, tz)?;
+    }
+    Ok(())
+}
+
+/// Each host, and each tag with it, behind the timestamp.
+fn expect_names(
+    rt: &impl Abort,
+    alloc: Global,
+    stamp: &str,
+    year: i32,
+    tz: &TimeZone<'_>,
+) -> Result<(), Fail> {
+    for host in HOSTS {
+        for tag in TAGS {
+            let front = format!(in alloc; "{stamp}{host}{tag}")?;
+            expect_messages(rt, alloc, front.as_str(), year, tz)?;
+        }
+    }
+    Ok(())
+}
+
+/// 3,072 lines, half of them at an offset of 30 seconds, half of them in a year before 0.
+#[test]
+fn settles_made_lines_as_normalising_by_hand_does(rt: HostRuntime) -> Result<(), Fail> {
+    let alloc = rt.alloc();
+    for (seconds, year) in [(30, 2019), (-86_370, -1)] {
+        let zone = TimeZone::fixed(Offset::from_seconds(seconds)?);
+        for stamp in STAMPS {
+            expect_names(&rt, alloc, stamp, year, &zone)?;
+        }
+    }
+    Ok(())
+}
