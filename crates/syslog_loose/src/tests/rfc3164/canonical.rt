@@ -10,6 +10,7 @@ use std::alloc::{AllocError, Global};
 use std::process::Abort;
 use std::test::Fail;
 use syslog_pieces::structured_data::listed::{DASH_RULE, DashRule, begins_list};
+use syslog_pieces::timestamp::zone::Dating;
 
 /// An element as a cell `list` has it.
 fn element_of<'a>(alloc: Global, line: &'a str) -> Result<StructuredElement<&'a str>, AllocError> {
@@ -253,7 +254,16 @@ fn was_not_canonical_with_a_dash_before_anything(rt: HostRuntime) -> Result<(), 
         (DASH_RULE, false, "-5"),
     ] {
         assert_eq!(rt; begins_list("-5", rule), begins);
-        let read = rfc3164::read(alloc, printed, rule, None, None, &TimeZone::UTC)?;
+        let read = rfc3164::read(
+            alloc,
+            printed,
+            rule,
+            &Dating {
+                year: None,
+                tz: None,
+                local: &TimeZone::UTC,
+            },
+        )?;
         let message = read.ok_or("no message")?;
         assert_eq!(rt; message.appname, Some("a"));
         assert_eq!(rt; message.structured_data.len(), 0);

@@ -4,6 +4,7 @@ use crate::rfc3164;
 use jiff::tz::TimeZone;
 use std::test::Fail;
 use syslog_pieces::structured_data::listed::DashRule;
+use syslog_pieces::timestamp::zone::Dating;
 
 #[test]
 fn leaves_a_dash_before_no_blank_to_the_message(rt: HostRuntime) -> Result<(), Fail> {
@@ -38,7 +39,11 @@ fn takes_a_dash_before_a_blank_as_an_empty_list(rt: HostRuntime) -> Result<(), F
 #[test]
 fn left_out_a_dash_before_anything(rt: HostRuntime) -> Result<(), Fail> {
     let alloc = rt.alloc();
-    let utc = TimeZone::UTC;
+    let dating = Dating {
+        year: Some(2019),
+        tz: None,
+        local: &TimeZone::UTC,
+    };
     for (text, msg) in [
         ("<34>Oct 11 22:14:15 mymachine app: -5 degrees", "5 degrees"),
         ("--x", "x"),
@@ -48,14 +53,7 @@ fn left_out_a_dash_before_anything(rt: HostRuntime) -> Result<(), Fail> {
         ("- h a: -\u{a0}x", "\u{a0}x"),
         ("- h a: -[e k=\"v\"] x", "[e k=\"v\"] x"),
     ] {
-        let read = rfc3164::read(
-            alloc,
-            text,
-            DashRule::BeforeAnything,
-            Some(2019),
-            None,
-            &utc,
-        )?;
+        let read = rfc3164::read(alloc, text, DashRule::BeforeAnything, &dating)?;
         let message = read.ok_or("no message")?;
         assert_eq!(rt; message.structured_data.len(), 0, "{text}");
         assert_eq!(rt; message.msg, msg, "{text}");
