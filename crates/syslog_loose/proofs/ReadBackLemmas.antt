@@ -17,6 +17,7 @@ use Rattle.syslog_loose.specs.ReadBack.{ReadsProtocol, AnswersItself, FieldsAsRe
 use Rattle.syslog_loose.specs.Reading.{dash_rule, IsRead, IsOnlyRead, IsUnreadable, Answers, IncompleteDate, AsksYear, IsYearAnswered, InYear}
 use Rattle.syslog_loose.specs.Rfc3164.{IsRead3164}
 use Rattle.syslog_loose.specs.Rfc5424.{IsRead5424, IsNot5424}
+use Rattle.syslog_loose.specs.Settling.{IsNext}
 use Rattle.syslog_loose.specs.declared.fault.ParseFault.{ParseFault}
 use Rattle.syslog_loose.specs.declared.fault.ParseFault.TheVariants.{Invalid, Memory}
 use Rattle.syslog_loose.specs.declared.message.Message.{Message}
@@ -142,6 +143,12 @@ pub normalised_in : (post : IncompleteDate → ℤ → Type 0) (variant : Varian
     → IsYearAnswered post variant (chars bytes) year → Normalises variant (λ y. dating_of y tz local) bytes r year → InYear post variant (chars bytes) (Normalises variant (λ y. dating_of y tz local) bytes r)
 normalised_in post variant tz local bytes r year is h =
     in_answered_year post variant (chars bytes) (Normalises variant (λ y. dating_of y tz local) bytes r) year is (any_normalised variant tz local bytes r) h
+
+-- a round that is written is what it answers
+pub normalised : (variant : Variant) (dating : Dating) (text : Text) (result : String Global) → IsUtf8 (string_bytes result) → IsNext variant dating text (chars (string_bytes result))
+    → (m : MessageValue) × IsOnlyRead variant dating text m × (string_bytes result ≡ encode_utf8_all (printed m))
+normalised variant dating text result u next =
+    (next.message, only_read variant dating text next.message next.read, sym (encodes-chars (string_bytes result) u) ∙ ap encode_utf8_all next.is_printed)
 
 pub again_in : (post : IncompleteDate → ℤ → Type 0) (variant : Variant) (dated : Option ℤ → Dating) (bytes : List ℕ) → IsUtf8 bytes → (r : Result (String Global) ParseFault)
     → InYear post variant (chars bytes) (Normalises variant dated bytes r) → AnswersAgain variant (chars bytes) bytes r

@@ -97,6 +97,17 @@ in_answered_year post variant text Holds None is any h = record { answered = Non
 in_answered_year post variant text Holds (Some year) is any h =
     record { answered = Some year; is_answered = is; holds = λ other agrees. subst Holds (sym (agrees is.0 is.1)) h }
 
+-- a fault that tells in the year that the closure answered whether the text is unreadable
+pub fault_in : (post : IncompleteDate → ℤ → Type 0) (variant : Variant) (text : Text) (tz : Option (Bor TimeZone)) (local : Bor TimeZone) (fault : ParseFault) (year : Option ℤ)
+    → IsYearAnswered post variant text year → (fault ≡ Invalid) ↔ IsUnreadable variant (dating_of year tz local) text
+    → InYear post variant text (λ y. (fault ≡ Invalid) ↔ IsUnreadable variant (dating_of y tz local) text)
+fault_in post variant text tz local fault year is h =
+    in_answered_year post variant text (λ y. (fault ≡ Invalid) ↔ IsUnreadable variant (dating_of y tz local) text) year is
+    (λ never other told. (
+      (λ e m r. told.0 e m (any_year variant text tz local other None m never r)),
+      (λ u. told.1 (λ m r. u m (any_year variant text tz local None other m never r))),
+    )) h
+
 pub answers_in : (post : IncompleteDate → ℤ → Type 0) (variant : Variant) (text : Text) (tz : Option (Bor TimeZone)) (local : Bor TimeZone) (r : Result Found ParseFault) (year : Option ℤ)
     → IsYearAnswered post variant text year → Answers variant (dating_of year tz local) text r → InYear post variant text (λ y. Answers variant (dating_of y tz local) text r)
 answers_in post variant text tz local r year is h =

@@ -1,6 +1,6 @@
 -- Rounds: a text is read and printed, and what was printed is read and printed again, until it no longer changes. And the
 -- weight of a message of RFC 3164, which falls from round to round until then. (All of it is this project's own.)
-use Rattle.std.specs.Prelude.{◌≡◌, ◌≢◌, ◌⊎◌, ℕ, zero, suc, ◌+◌, ◌<◌, ◌≤◌, [], ◌∷◌, ◌++◌, length, Bool, MatchBool, ⊤, Option, Some, None, IfSome, Result, Ok, Err, MatchResult, String, string_bytes}
+use Rattle.std.specs.Prelude.{◌≡◌, ◌≢◌, ◌⊎◌, ℕ, zero, suc, ◌+◌, ◌<◌, ◌≤◌, [], ◌∷◌, ◌++◌, length, Bool, false, MatchBool, ⊤, Option, Some, None, IfSome, Result, Ok, Err, MatchResult, String, string_bytes}
 use Rattle.std.specs.Global.{Global}
 use Rattle.std.specs.Str.{chars}
 use Rattle.syslog_pieces.specs.Pieces.Class.{Text}
@@ -92,6 +92,17 @@ abbrev pub IsToldRound : Variant → Dating → Text → Text → Bool → Type 
 IsToldRound variant dating text later settled = MatchBool settled
     (IsNext variant dating text later × IsSettled variant dating later)
     ((IsSettled variant dating text → ⊥) × (n : ℕ) × Reaches variant dating text n later)
+
+-- A round as it is told; and it is the next one where no rounds are skipped.
+pub record IsRoundAsTold (skips : Bool) (variant : Variant) (dating : Dating) (text later : Text) (settled : Bool) : Type 0 where
+  pub told : IsToldRound variant dating text later settled
+  pub next : skips ≡ false → IsNext variant dating text later
+
+-- the text is a round behind so many that are not settled, or more
+pub record ReachesFrom (variant : Variant) (dating : Dating) (t : Text) (least : ℕ) (u : Text) : Type 0 where
+  pub before : ℕ
+  pub far : least ≤ before
+  pub reaches : Reaches variant dating t before u
 
 -- ---- the weight of a message of RFC 3164: a sum of one term for each miss that may be listed
 

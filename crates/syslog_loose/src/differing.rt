@@ -3,7 +3,7 @@
 ghost use Rattle.std.specs.Prelude.{◌↔◌, IsTrue, MatchBool};
 ghost use Rattle.std.specs.Result.{IsOkAnd};
 ghost use Rattle.std.specs.Str.{chars};
-ghost use Rattle.syslog_pieces.specs.Timestamp.Zone.{dating_of};
+ghost use Rattle.syslog_pieces.specs.Timestamp.Zone.{dating_of, dating_value};
 ghost use Rattle.syslog_loose.specs.Dash.{BeginsLoose, DropsDash, ReadsDifferently};
 ghost use Rattle.syslog_loose.specs.Reading.{AnswersEachMonth, InYear};
 ghost use Rattle.syslog_loose.specs.declared.variant.Variant.TheVariants as variants;
@@ -14,6 +14,7 @@ use crate::variant::{IncompleteDate, Variant};
 use jiff::tz::TimeZone;
 use std::alloc::{AllocError, Global};
 use syslog_pieces::text::{CharClass, first, literal, trimmed};
+use syslog_pieces::timestamp::zone::Dating;
 
 /// Whether the text is read otherwise than it was while a dash was a list of RFC 3164 before anything, as it is in the
 /// Rust crate: so whether the list's piece was a dash before a character that is no blank, which was left out, and begins
@@ -36,37 +37,26 @@ pub fn reads_differently<F: FnOnce(IncompleteDate) -> i32>(
         IsTrue differs ↔ DropsDash variant (dating_of year tz.entry local.entry) (chars input.entry.now))) }
 {
     let year = asked_date(input, variant).map(get_year);
-    Ok(differs(input, year, tz, variant, local))
+    Ok(differs(input, &Dating { year, tz, local }, variant))
 }
 
 // The same in a year.
-fn differs(
-    input: &str,
-    year: Option<i32>,
-    tz: Option<&TimeZone<'_>>,
-    variant: Variant,
-    local: &TimeZone<'_>,
-) -> bool
-    ensures { IsTrue result ↔ ReadsDifferently variant (dating_of year tz.entry local.entry) (chars input.entry.now) }
+fn differs(input: &str, dating: &Dating<'_, '_>, variant: Variant) -> bool
+    ensures { IsTrue result ↔ ReadsDifferently variant (dating_value dating.entry.now) (chars input.entry.now) }
 {
     match variant {
         Variant::RFC5424 => false,
-        Variant::RFC3164 => drops_dash(input, year, tz, local),
-        Variant::Either => drops_dash(input, year, tz, local),
+        Variant::RFC3164 => drops_dash(input, dating),
+        Variant::Either => drops_dash(input, dating),
     }
 }
 
 // Whether RFC 3164 reads the text differently. What it reads has no division of RFC 5424.
-fn drops_dash(
-    input: &str,
-    year: Option<i32>,
-    tz: Option<&TimeZone<'_>>,
-    local: &TimeZone<'_>,
-) -> bool
-    ensures { MatchBool result (ReadsDifferently variants.RFC3164 (dating_of year tz.entry local.entry) (chars input.entry.now))
-        (ReadsDifferently variants.RFC3164 (dating_of year tz.entry local.entry) (chars input.entry.now) → ⊥) }
+fn drops_dash(input: &str, dating: &Dating<'_, '_>) -> bool
+    ensures { MatchBool result (ReadsDifferently variants.RFC3164 (dating_value dating.entry.now) (chars input.entry.now))
+        (ReadsDifferently variants.RFC3164 (dating_value dating.entry.now) (chars input.entry.now) → ⊥) }
 {
-    let Some((_, rest)) = read_stamped(trimmed(input), year, tz, local) else {
+    let Some((_, rest)) = read_stamped(trimmed(input), dating) else {
         return false;
     };
     let (_, rest) = read_names(rest);

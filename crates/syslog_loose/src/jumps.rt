@@ -21,9 +21,8 @@ ghost use Rattle.syslog_loose.specs.declared.message.Protocol.TheVariants.{RFC31
 ghost use Rattle.syslog_loose.specs.declared.variant.Variant.{Variant};
 
 use crate::message::{
-    Message, Protocol, has_no_name_miss, is_plain_time, write_elements, write_spaced,
+    Message, Protocol, has_no_name_miss, is_plain_time, print, write_elements, write_spaced,
 };
-use crate::reading::print;
 use std::alloc::{AllocError, Global};
 use std::fmt;
 use std::fmt::Write;

@@ -23,6 +23,7 @@ mod message;
 mod reading;
 mod rfc3164;
 mod rfc5424;
+mod rounds;
 mod settling;
 mod tag_form;
 #[cfg(test)]
@@ -35,9 +36,10 @@ pub use jiff::Timestamp;
 pub use jiff::tz::{Offset, TimeZone};
 pub use message::{Message, Protocol};
 pub use reading::{
-    normalise, parse_message, parse_message_with_year, parse_message_with_year_exact,
+    parse_message, parse_message_with_year, parse_message_with_year_exact,
     parse_message_with_year_exact_tz, parse_message_with_year_tz,
 };
+pub use rounds::normalise;
 pub use settling::{settle, settle_into};
 pub use syslog_pieces::VERSION;
 pub use syslog_pieces::as_str::AsStr;

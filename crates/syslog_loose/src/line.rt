@@ -19,7 +19,7 @@ mod loose;
 #[cfg(test)]
 mod tests;
 
-use crate::message::{write_spaced, write_timestamp};
+use crate::message::{make_room, write_spaced, write_timestamp};
 use crate::variant::Variant;
 pub(crate) use loose::{DatedLine, dated_line, dated_text, loose_text};
 use std::alloc::AllocError;
@@ -121,19 +121,6 @@ fn may_be_strict(input: &str) -> bool {
         [b'<', _, _, _, b'>', next, ..] => next.is_ascii_digit(),
         _ => may_have_priority(input),
     }
-}
-
-// What a printed message may have beyond its input: a priority, a longer timestamp and the dashes of absent fields.
-pub(crate) const MORE_PRINTED: usize = 48;
-
-/// Empties the text, and makes room in it for what is printed of an input of this length. It asks for memory only where
-/// the text has less room than that.
-#[inline]
-pub(crate) fn make_room(text: &mut String, length: usize) -> Result<(), AllocError>
-    ensures { string_bytes text.new ≡ [] }
-{
-    text.clear();
-    text.reserve(length.saturating_add(MORE_PRINTED))
 }
 
 /// Writes the printed text of the message of the line into `text`, where all but its timestamp prints as it is written, and

@@ -14,11 +14,13 @@ mod copies;
 mod equality;
 mod misses;
 mod printing;
+mod room;
 
 pub(crate) use canonical::is_plain_time;
 pub(crate) use misses::{has_no_miss, has_no_name_miss};
 pub(crate) use printing::{write_elements, write_timestamp};
 use printing::{write_elements_before, write_name, write_process, write_tag};
+pub(crate) use room::{make_room, print};
 use std::fmt;
 use syslog_pieces::as_str::AsStr;
 use syslog_pieces::pri::{SyslogFacility, SyslogSeverity, write_priority};

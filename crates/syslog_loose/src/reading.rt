@@ -7,7 +7,8 @@ ghost use Rattle.std.specs.Str.{chars, encode_utf8_all, IsUtf8};
 ghost use Rattle.jiff.specs.Words.{plain_zone};
 ghost use Rattle.syslog_pieces.specs.Pieces.View.{shown};
 ghost use Rattle.syslog_pieces.specs.Timestamp.Loose.{ShowsYearless};
-ghost use Rattle.syslog_pieces.specs.Timestamp.Zone.{Dating, IsYearAt, dating_of};
+ghost use Rattle.syslog_pieces.specs.Timestamp.Zone as zone;
+ghost use Rattle.syslog_pieces.specs.Timestamp.Zone.{IsYearAt, dating_of, dating_value};
 ghost use Rattle.syslog_pieces.specs.declared.timestamp.month_date.MonthDate.{MonthDate};
 ghost use Rattle.syslog_loose.specs.KeptLoose.{ShowsDated};
 ghost use Rattle.syslog_loose.specs.Message.{MessageValue, message_value};
@@ -21,17 +22,16 @@ ghost use Rattle.syslog_loose.specs.declared.variant.Variant.TheVariants as vari
 
 use crate::beginning::may_be_read;
 use crate::fault::ParseFault;
-use crate::line::{DatedLine, dated_line, dated_text, kept_text, loose_text, make_room};
 use crate::message::{Message, Protocol};
 use crate::variant::{IncompleteDate, Variant};
 use crate::{rfc3164, rfc5424};
 use jiff::Timestamp;
 use jiff::tz::TimeZone;
 use std::alloc::{AllocError, Global};
-use std::fmt::Write;
 use syslog_pieces::structured_data::listed::DASH_RULE;
 use syslog_pieces::timestamp::month_date::shown_date;
 use syslog_pieces::timestamp::year_at;
+use syslog_pieces::timestamp::zone::Dating;
 
 /// The message of the text, read by the variant, with the year of `now` in the local zone for a date that has none.
 ///
@@ -51,7 +51,12 @@ pub fn parse_message<'a>(
         Some(_) => Some(year_at(now, local)),
         None => None,
     };
-    or_fallback(alloc, input, read(alloc, input, year, None, variant, local))
+    let dating = Dating {
+        year,
+        tz: None,
+        local,
+    };
+    or_fallback(alloc, input, read(alloc, input, &dating, variant))
 }
 
 /// The message of the text, read by the variant, or the fallback. `get_year` gives the year of a date that has none, and
@@ -94,7 +99,7 @@ fn or_fallback<'a>(
     input: &'a str,
     answer: Result<Message<&'a str>, ParseFault>,
 ) -> Result<Message<&'a str>, AllocError>
-    ensures { (variant : Variant) (dating : Dating) → Answers variant dating (chars input.entry.now) answer.entry
+    ensures { (variant : Variant) (dating : zone.Dating) → Answers variant dating (chars input.entry.now) answer.entry
         → AnswersPlainly variant dating (chars input.entry.now) result }
 {
     match answer {
@@ -164,7 +169,7 @@ pub fn parse_message_with_year_exact_tz<'a, F: FnOnce(IncompleteDate) -> i32>(
         FieldsAsRead m.protocol (dating_of year tz.entry local.entry) (chars input.entry.now) (message_value (λ s. shown s) m))) }
 {
     let year = asked_date(input, variant).map(get_year);
-    read(alloc, input, year, tz, variant, local)
+    read(alloc, input, &Dating { year, tz, local }, variant)
 }
 
 // The date without a year that the text shows, where the variant reads it.
@@ -196,25 +201,23 @@ fn incomplete_date(input: &str) -> Option<IncompleteDate>
 pub(crate) fn read<'a>(
     alloc: Global,
     input: &'a str,
-    year: Option<i32>,
-    tz: Option<&TimeZone<'_>>,
+    dating: &Dating<'_, '_>,
     variant: Variant,
-    local: &TimeZone<'_>,
 ) -> Result<Message<&'a str>, ParseFault>
-    ensures { Answers variant (dating_of year tz.entry local.entry) (chars input.entry.now) result }
+    ensures { Answers variant (dating_value dating.entry.now) (chars input.entry.now) result }
 {
     if !may_be_read(input) {
         return Err(ParseFault::Invalid);
     }
     match variant {
         Variant::RFC5424 => read_rfc5424(alloc, input),
-        Variant::RFC3164 => read_rfc3164(alloc, input, year, tz, local),
-        Variant::Either => read_either(alloc, input, year, tz, local),
+        Variant::RFC3164 => read_rfc3164(alloc, input, dating),
+        Variant::Either => read_either(alloc, input, dating),
     }
 }
 
 fn read_rfc5424(alloc: Global, input: &str) -> Result<Message<&str>, ParseFault>
-    ensures { (dating : Dating) → Answers variants.RFC5424 dating (chars input.now) result }
+    ensures { (dating : zone.Dating) → Answers variants.RFC5424 dating (chars input.now) result }
 {
     match rfc5424::read(alloc, input) {
         Ok(found) => match found {
@@ -228,13 +231,11 @@ fn read_rfc5424(alloc: Global, input: &str) -> Result<Message<&str>, ParseFault>
 fn read_rfc3164<'a>(
     alloc: Global,
     input: &'a str,
-    year: Option<i32>,
-    tz: Option<&TimeZone<'_>>,
-    local: &TimeZone<'_>,
+    dating: &Dating<'_, '_>,
 ) -> Result<Message<&'a str>, ParseFault>
-    ensures { Answers variants.RFC3164 (dating_of year tz.entry local.entry) (chars input.entry.now) result }
+    ensures { Answers variants.RFC3164 (dating_value dating.entry.now) (chars input.entry.now) result }
 {
-    match rfc3164::read(alloc, input, DASH_RULE, year, tz, local) {
+    match rfc3164::read(alloc, input, DASH_RULE, dating) {
         Ok(found) => match found {
             Some(message) => Ok(message),
             None => Err(ParseFault::Invalid),
@@ -247,110 +248,15 @@ fn read_rfc3164<'a>(
 fn read_either<'a>(
     alloc: Global,
     input: &'a str,
-    year: Option<i32>,
-    tz: Option<&TimeZone<'_>>,
-    local: &TimeZone<'_>,
+    dating: &Dating<'_, '_>,
 ) -> Result<Message<&'a str>, ParseFault>
-    ensures { Answers variants.Either (dating_of year tz.entry local.entry) (chars input.entry.now) result }
+    ensures { Answers variants.Either (dating_value dating.entry.now) (chars input.entry.now) result }
 {
     match rfc5424::read(alloc, input) {
         Ok(found) => match found {
             Some(message) => Ok(message),
-            None => read_rfc3164(alloc, input, year, tz, local),
+            None => read_rfc3164(alloc, input, dating),
         },
         Err(_) => Err(ParseFault::Memory),
     }
-}
-
-/// The printed text of the message that `parse_message_with_year_exact_tz` answers, in memory of its own. A text that has
-/// no reading is `Invalid`, and never `Memory`.
-pub fn normalise<F: FnOnce(IncompleteDate) -> i32>(
-    alloc: Global,
-    input: &str,
-    get_year: F,
-    tz: Option<&TimeZone<'_>>,
-    variant: Variant,
-    local: &TimeZone<'_>,
-) -> Result<String, ParseFault>
-    requires { AnswersEachMonth (F.pre get_year) }
-    ensures reads { InYear (F.post get_year) variant (chars input.entry.now) (λ year. MatchResult result
-        (λ text. (m : MessageValue) × IsOnlyRead variant (dating_of year tz.entry local.entry) (chars input.entry.now) m × (string_bytes text ≡ encode_utf8_all (printed m)))
-        (λ fault. (fault ≡ Invalid) ↔ IsUnreadable variant (dating_of year tz.entry local.entry) (chars input.entry.now))) }
-    ensures again { AnswersAgain variant (chars input.entry.now) input.entry.now result }
-{
-    let mut text = String::new(alloc);
-    let copied = kept_text(&mut text, input, variant)?;
-    if copied {
-        return Ok(text);
-    }
-    match dated_line(input, variant) {
-        Some(line) => {
-            let year = line.asked().map(get_year);
-            normalise_dated(alloc, input, line, year, tz, variant, local)
-        }
-        None => {
-            let year = asked_date(input, variant).map(get_year);
-            normalise_in(alloc, input, year, tz, variant, local)
-        }
-    }
-}
-
-// The same of a line that shows a month date, in a year.
-fn normalise_dated(
-    alloc: Global,
-    input: &str,
-    line: DatedLine<'_>,
-    year: Option<i32>,
-    tz: Option<&TimeZone<'_>>,
-    variant: Variant,
-    local: &TimeZone<'_>,
-) -> Result<String, ParseFault>
-    requires shows { ShowsDated variant (chars input.now) (shown line.front) line.date (shown line.tail) }
-    requires utf8 { IsUtf8 line.front.now × IsUtf8 line.tail.now }
-    ensures { MatchResult result
-        (λ text. (m : MessageValue) × IsOnlyRead variant (dating_of year tz.entry local.entry) (chars input.entry.now) m × (string_bytes text ≡ encode_utf8_all (printed m)))
-        (λ fault. (fault ≡ Invalid) ↔ IsUnreadable variant (dating_of year tz.entry local.entry) (chars input.entry.now)) }
-{
-    let mut text = String::new(alloc);
-    let copied = dated_text(&mut text, line, input.len(), year, tz, local)?;
-    if copied {
-        return Ok(text);
-    }
-    normalise_in(alloc, input, year, tz, variant, local)
-}
-
-// The same in a year.
-fn normalise_in(
-    alloc: Global,
-    input: &str,
-    year: Option<i32>,
-    tz: Option<&TimeZone<'_>>,
-    variant: Variant,
-    local: &TimeZone<'_>,
-) -> Result<String, ParseFault>
-    ensures { MatchResult result
-        (λ text. (m : MessageValue) × IsOnlyRead variant (dating_of year tz.entry local.entry) (chars input.entry.now) m × (string_bytes text ≡ encode_utf8_all (printed m)))
-        (λ fault. (fault ≡ Invalid) ↔ IsUnreadable variant (dating_of year tz.entry local.entry) (chars input.entry.now)) }
-{
-    let mut text = String::new(alloc);
-    let copied = loose_text(&mut text, input, year, tz, variant, local)?;
-    if copied {
-        return Ok(text);
-    }
-    let message = read(alloc, input, year, tz, variant, local)?;
-    print(&mut text, &message, input.len())?;
-    Ok(text)
-}
-
-// Writes the printed text into `text`, which gets room for a text of the input's length at once.
-pub(crate) fn print(
-    text: &mut String,
-    message: &Message<&str>,
-    length: usize,
-) -> Result<(), AllocError>
-    ensures { OnOk result (string_bytes text.new ≡ encode_utf8_all (printed (message_value (λ s. shown s) message.now))) }
-{
-    make_room(text, length)?;
-    write!(text, "{message}")?;
-    Ok(())
 }

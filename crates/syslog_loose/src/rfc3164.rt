@@ -7,7 +7,7 @@ ghost use Rattle.std.specs.Prelude.{◌≡◌, IfOk, IsOk, MatchOption, None};
 ghost use Rattle.std.specs.Str.{chars};
 ghost use Rattle.syslog_pieces.specs.Pieces.Class.{Row};
 ghost use Rattle.syslog_pieces.specs.Pieces.View.{seen, shown, field_seen, Reads};
-ghost use Rattle.syslog_pieces.specs.Timestamp.Zone.{dating_of};
+ghost use Rattle.syslog_pieces.specs.Timestamp.Zone.{dating_value};
 ghost use Rattle.syslog_loose.specs.Message.{message_value};
 ghost use Rattle.syslog_loose.specs.Rfc3164 as spec;
 ghost use Rattle.syslog_loose.specs.TagForm.{IsForm, IsNoForm};
@@ -15,7 +15,6 @@ ghost use Rattle.syslog_loose.specs.View3164.{names_value, stamped_values};
 
 use crate::message::{Message, Protocol};
 use crate::tag_form::tag_form;
-use jiff::tz::TimeZone;
 use std::alloc::{AllocError, Global};
 use syslog_pieces::pri::{optional_priority, parts};
 use syslog_pieces::procid::ProcId;
@@ -23,6 +22,7 @@ use syslog_pieces::structured_data::listed::{DashRule, optional_list};
 use syslog_pieces::text::{blanks, host_field, past_colon, tag_field, trimmed};
 use syslog_pieces::timestamp::OffsetTimestamp;
 use syslog_pieces::timestamp::loose::loose_stamp;
+use syslog_pieces::timestamp::zone::Dating;
 
 /// The names of a message.
 #[derive(Drop)]
@@ -104,16 +104,11 @@ pub(crate) struct Stamped {
 }
 
 // The pieces at the front that can fail, and the text behind them.
-pub(crate) fn read_stamped<'a>(
-    text: &'a str,
-    year: Option<i32>,
-    tz: Option<&TimeZone<'_>>,
-    local: &TimeZone<'_>,
-) -> Option<(Stamped, &'a str)>
-    ensures { Reads (Row (spec.stamped_row (dating_of year tz.entry local.entry))) stamped_values (chars text.now) result }
+pub(crate) fn read_stamped<'a>(text: &'a str, dating: &Dating<'_, '_>) -> Option<(Stamped, &'a str)>
+    ensures { Reads (Row (spec.stamped_row (dating_value dating.entry.now))) stamped_values (chars text.now) result }
 {
     let (priority, rest) = optional_priority(text);
-    let Some((timestamp, rest)) = loose_stamp(blanks(rest), year, tz, local) else {
+    let Some((timestamp, rest)) = loose_stamp(blanks(rest), dating) else {
         return None;
     };
     Some((
@@ -140,16 +135,14 @@ pub(crate) fn read<'a>(
     alloc: Global,
     text: &'a str,
     rule: DashRule,
-    year: Option<i32>,
-    tz: Option<&TimeZone<'_>>,
-    local: &TimeZone<'_>,
+    dating: &Dating<'_, '_>,
 ) -> Result<Option<Message<&'a str>>, AllocError>
     ensures read { IfOk result (λ found. MatchOption found
-        (spec.IsNot3164 rule (dating_of year tz.entry local.entry) (chars text.entry.now))
-        (λ m. spec.IsRead3164 rule (dating_of year tz.entry local.entry) (chars text.entry.now) (message_value (λ s. shown s) m))) }
-    ensures memory { spec.NeedsNoMemory3164 rule (dating_of year tz.entry local.entry) (chars text.entry.now) → IsOk result }
+        (spec.IsNot3164 rule (dating_value dating.entry.now) (chars text.entry.now))
+        (λ m. spec.IsRead3164 rule (dating_value dating.entry.now) (chars text.entry.now) (message_value (λ s. shown s) m))) }
+    ensures memory { spec.NeedsNoMemory3164 rule (dating_value dating.entry.now) (chars text.entry.now) → IsOk result }
 {
-    let Some((stamped, rest)) = read_stamped(trimmed(text), year, tz, local) else {
+    let Some((stamped, rest)) = read_stamped(trimmed(text), dating) else {
         return Ok(None);
     };
     let (names, rest) = read_names(rest);

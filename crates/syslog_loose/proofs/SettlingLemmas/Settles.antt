@@ -3,11 +3,12 @@ use Rattle.std.proofs.Common.{◌≡◌, ℕ, zero, suc, ◌+◌, ◌<◌, ◌�
 use Rattle.std.proofs.lemmas.Bool.Decides.{leb_tells}
 use Rattle.std.proofs.lemmas.Slice.Eq.{bytes_eq-Decides}
 use Rattle.std.proofs.lemmas.Str.{chars_from_encodes, encodes-chars, length-le-encodes}
-use Rattle.std.specs.Prelude.{◌↔◌}
+use Rattle.std.specs.Prelude.{◌↔◌, IsTrue}
 use Rattle.std.specs.Str.{chars, IsUtf8, bytes_eq, encode_utf8_all}
 use Rattle.syslog_pieces.specs.Pieces.Class.{Text}
 use Rattle.syslog_pieces.specs.Timestamp.Zone.{Dating}
 use Rattle.syslog_loose.specs.Canonical.{IsCanonical}
+use Rattle.syslog_loose.specs.KeptLine.{PrintsAs}
 use Rattle.syslog_loose.specs.KeptLoose.{PrintsFreely}
 use Rattle.syslog_loose.specs.ListedMisses.{HasNoMiss}
 use Rattle.syslog_loose.specs.Message.{MessageValue}
@@ -15,7 +16,7 @@ use Rattle.syslog_loose.specs.Printed.{printed}
 use Rattle.syslog_loose.specs.Reading.{dash_rule, IsRead, IsUnreadable}
 use Rattle.syslog_loose.specs.Rfc3164.{IsRead3164}
 use Rattle.syslog_loose.specs.Rfc5424.{IsRead5424}
-use Rattle.syslog_loose.specs.Settling.{IsNext, IsRound, IsSettled, NoneSettled, Reaches, IsFirstSettled, SettlesAs, IsSettlingFault, IsAtRest, IsToldRound, Weighs}
+use Rattle.syslog_loose.specs.Settling.{IsNext, IsRound, IsSettled, NoneSettled, Reaches, IsFirstSettled, SettlesAs, IsSettlingFault, IsAtRest, IsToldRound, IsRoundAsTold, ReachesFrom, Weighs}
 use Rattle.syslog_loose.specs.declared.fault.ParseFault.{ParseFault}
 use Rattle.syslog_loose.specs.declared.fault.ParseFault.TheVariants.{Invalid, Memory}
 use Rattle.syslog_loose.specs.declared.message.Protocol.{Protocol}
@@ -183,15 +184,47 @@ module _ (variant : Variant) (dating : Dating) (text : Text) (m : MessageValue) 
       → (IsSettled variant dating text → ⊥) × (n : ℕ) × Reaches variant dating text n later
   told_later later odd reaches = let (n, s) = reaches (odd_loose m.protocol refl odd) in (odd_moves m.protocol refl odd, n, s)
 
--- a line that is copied behind its timestamp is settled
-pub told_freely : (variant : Variant) (dating : Dating) (text : Text) (bytes : List ℕ) → IsUtf8 bytes → PrintsFreely variant dating text bytes → IsToldRound variant dating text (chars bytes) true
-told_freely variant dating text bytes u k =
-    let is : chars bytes ≡ printed k.message = sym (chars_from_encodes (printed k.message) bytes u (sym k.prints)) in
-    (record { message = k.message; read = k.read; is_printed = is }, subst (λ (x : Text). IsSettled variant dating x) (sym is) (free_settled variant dating text k.message k.read k.protocol k.no_miss))
+  -- whether it is at rest is told, and its print is the next round
+  pub round_printed : (skips settled : Bool) → (IsTrue settled ↔ IsAtRest m.protocol m) → (bytes : List ℕ) → IsUtf8 bytes → bytes ≡ encode_utf8_all (printed m)
+      → IsRoundAsTold skips variant dating text (chars bytes) settled
+  round_printed skips settled rest bytes u w =
+      let is : chars bytes ≡ printed m = sym (chars_from_encodes (printed m) bytes u (sym w)) in
+      let next : IsNext variant dating text (chars bytes) = record { message = m; read = r; is_printed = is } in
+      record { told = by settled rest next; next = λ e. next }
+    where
+      by : (s : Bool) → (IsTrue s ↔ IsAtRest m.protocol m) → IsNext variant dating text (chars bytes) → IsToldRound variant dating text (chars bytes) s
+      by true h next = told_next bytes u w (h.0 refl)
+      by false h next =
+          told_later (chars bytes) (λ at. let t : false ≡ true = h.1 at in cc) (λ e. (0, reached_first variant dating text (chars bytes) next))
 
-pub first_freely : (variant : Variant) (dating : Dating) (text : Text) (bytes : List ℕ) → IsUtf8 bytes → PrintsFreely variant dating text bytes → SettlesAs variant dating text (chars bytes)
-first_freely variant dating text bytes u k =
-    let told = told_freely variant dating text bytes u k in settled_here variant dating text 0 (chars bytes) (reached_first variant dating text (chars bytes) told.0) told.1
+  -- where rounds are skipped, a later one may stand in its place
+  pub round_skipped : (skips settled : Bool) → skips ≡ true → settled ≡ false → (IsTrue settled ↔ IsAtRest m.protocol m) → (later : Text)
+      → (m.protocol ≡ protocol.RFC3164 → (n : ℕ) × Reaches variant dating text n later) → IsRoundAsTold skips variant dating text later false
+  round_skipped skips settled e f rest later reaches = record {
+    told = told_later later (λ at. let t : settled ≡ true = rest.1 at in cc) reaches;
+    next = λ g. cc;
+  }
+
+-- a line that is copied is settled
+pub round_copied : (skips : Bool) (variant : Variant) (dating : Dating) (text : Text) (bytes : List ℕ) → IsUtf8 bytes → PrintsAs variant text bytes
+    → IsRoundAsTold skips variant dating text (chars bytes) true
+round_copied skips variant dating text bytes u k =
+    let r = (k.only dating).read in
+    let is : chars bytes ≡ printed k.message = sym (chars_from_encodes (printed k.message) bytes u (sym k.prints)) in
+    let settled = strict_settled variant dating text k.message k.strict.values.1.0 r (ap (λ (x : MessageValue). x.protocol) k.strict.means) in
+    let next : IsNext variant dating text (chars bytes) = record { message = k.message; read = r; is_printed = is } in
+    record { told = (next, subst (λ (x : Text). IsSettled variant dating x) (sym is) settled); next = λ e. next }
+
+-- and so is one that is copied behind its timestamp
+pub round_freely : (skips : Bool) (variant : Variant) (dating : Dating) (text : Text) (bytes : List ℕ) → IsUtf8 bytes → PrintsFreely variant dating text bytes
+    → IsRoundAsTold skips variant dating text (chars bytes) true
+round_freely skips variant dating text bytes u k =
+    let is : chars bytes ≡ printed k.message = sym (chars_from_encodes (printed k.message) bytes u (sym k.prints)) in
+    let next : IsNext variant dating text (chars bytes) = record { message = k.message; read = k.read; is_printed = is } in
+    record {
+      told = (next, subst (λ (x : Text). IsSettled variant dating x) (sym is) (free_settled variant dating text k.message k.read k.protocol k.no_miss));
+      next = λ e. next;
+    }
 
 -- ---- what the loop does
 told_true : (variant : Variant) (dating : Dating) (text later : Text) (settled : Bool) → settled ≡ true → IsToldRound variant dating text later settled → IsToldRound variant dating text later true
@@ -199,12 +232,6 @@ told_true variant dating text later settled e h = subst (λ (b : Bool). IsToldRo
 
 told_false : (variant : Variant) (dating : Dating) (text later : Text) (settled : Bool) → settled ≡ false → IsToldRound variant dating text later settled → IsToldRound variant dating text later false
 told_false variant dating text later settled e h = subst (λ (b : Bool). IsToldRound variant dating text later b) e h
-
--- the text is a round behind so many that are not settled, or more
-pub record ReachesFrom (variant : Variant) (dating : Dating) (t : Text) (least : ℕ) (u : Text) : Type 0 where
-  pub before : ℕ
-  pub far : least ≤ before
-  pub reaches : Reaches variant dating t before u
 
 pub first_round : (variant : Variant) (dating : Dating) (t x : Text) (settled : Bool) → settled ≡ false → IsToldRound variant dating t x settled → ReachesFrom variant dating t 0 x
 first_round variant dating t x settled e h = let (never, n, r) = told_false variant dating t x settled e h in record { before = n; far = omega arith; reaches = r }

@@ -66,17 +66,6 @@ module _ (variant : Variant) (tz : Option (Bor TimeZone)) (local : Bor TimeZone)
     holds = λ other agrees. subst (λ (y : Option ℤ). Settles variant (In y) t result) (sym (agrees is.0 is.1)) h;
   }
 
--- a line that is copied is settled in round 1
-pub copied_settles : (variant : Variant) (dating : Dating) (text : Text) (result : String Global) → IsUtf8 (string_bytes result) → PrintsAs variant text (string_bytes result)
-    → SettlesAs variant dating text (chars (string_bytes result))
-copied_settles variant dating text result u k =
-    let r = (k.only dating).read in
-    let is = sym (chars_from_encodes _ (string_bytes result) u (sym k.prints)) in
-    let settled = strict_settled variant dating text k.message k.strict.values.1.0 r (ap (λ (x : MessageValue). x.protocol) k.strict.means) in
-    let next : IsNext variant dating text (chars (string_bytes result)) = record { message = k.message; read = r; is_printed = is } in
-    settled_here variant dating text 0 (chars (string_bytes result)) (reached_first variant dating text (chars (string_bytes result)) next)
-    (subst (λ (x : Text). IsSettled variant dating x) (sym is) settled)
-
 -- the message of the answer is canonical
 pub answer_canonical : (variant : Variant) (dating : Dating) (text : Text) (result : Result (String Global) ParseFault) → Settles variant dating text result
     → IfOk result (λ u. (m : MessageValue) → IsRead variant dating (chars (string_bytes u)) m → IsCanonical dash_rule m)

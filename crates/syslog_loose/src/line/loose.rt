@@ -7,7 +7,7 @@ ghost use Rattle.std.specs.Str.{chars, encode_utf8_all, IsUtf8};
 ghost use Rattle.syslog_pieces.specs.Pieces.Class.{Text};
 ghost use Rattle.syslog_pieces.specs.Pieces.View.{shown};
 ghost use Rattle.syslog_pieces.specs.Text.{dash};
-ghost use Rattle.syslog_pieces.specs.Timestamp.Zone.{dating_of};
+ghost use Rattle.syslog_pieces.specs.Timestamp.Zone.{dating_value};
 ghost use Rattle.syslog_loose.specs.KeptLoose.{KeptBehind, KeptNames, KeptOrigin, KeptProgram, PrintsFreely, PrintsLoosely, ShowsDated};
 ghost use Rattle.syslog_loose.specs.Printed.{timestamp_text};
 ghost use Rattle.syslog_loose.specs.ReadBack.{ReadsProtocol};
@@ -18,10 +18,9 @@ ghost use Rattle.syslog_loose.specs.declared.variant.Variant.{Variant};
 #[cfg(test)]
 mod tests;
 
-use super::{make_room, may_have_priority};
-use crate::message::{is_plain_time, write_timestamp};
+use super::may_have_priority;
+use crate::message::{is_plain_time, make_room, write_timestamp};
 use crate::variant::{IncompleteDate, Variant};
-use jiff::tz::TimeZone;
 use std::alloc::AllocError;
 use std::fmt;
 use std::fmt::Write;
@@ -34,7 +33,7 @@ use syslog_pieces::timestamp::OffsetTimestamp;
 use syslog_pieces::timestamp::loose::loose_stamp;
 use syslog_pieces::timestamp::month_date::MonthDate;
 use syslog_pieces::timestamp::month_date::usual::usual_date;
-use syslog_pieces::timestamp::zone::month_stamp;
+use syslog_pieces::timestamp::zone::{Dating, month_stamp};
 
 // A line, cut round its timestamp: the priority, and all from behind the timestamp on.
 #[derive(Clone, Copy)]
@@ -107,18 +106,13 @@ fn is_kept_behind(timestamp: Option<OffsetTimestamp>, tail: &str) -> bool
 
 // The line, where all but its timestamp prints as it is written.
 #[inline(always)]
-fn loose_line<'a>(
-    text: &'a str,
-    year: Option<i32>,
-    tz: Option<&TimeZone<'_>>,
-    local: &TimeZone<'_>,
-) -> Option<LooseLine<'a>>
-    ensures kept { IfSome result (λ line. PrintsLoosely (dating_of year tz.entry local.entry) (chars text.entry.now) (shown line.front) line.timestamp (shown line.tail)) }
+fn loose_line<'a>(text: &'a str, dating: &Dating<'_, '_>) -> Option<LooseLine<'a>>
+    ensures kept { IfSome result (λ line. PrintsLoosely (dating_value dating.entry.now) (chars text.entry.now) (shown line.front) line.timestamp (shown line.tail)) }
     ensures utf8 { IfSome result (λ line. IsUtf8 line.front.now × IsUtf8 line.tail.now) }
 {
     let behind = kept_priority(text)?;
     let front = before(text, behind);
-    let Some((timestamp, tail)) = loose_stamp(blanks(behind), year, tz, local) else {
+    let Some((timestamp, tail)) = loose_stamp(blanks(behind), dating) else {
         return None;
     };
     let line = LooseLine {
@@ -198,17 +192,15 @@ pub(crate) fn dated_text(
     text: &mut String,
     line: DatedLine<'_>,
     length: usize,
-    year: Option<i32>,
-    tz: Option<&TimeZone<'_>>,
-    local: &TimeZone<'_>,
+    dating: &Dating<'_, '_>,
 ) -> Result<bool, AllocError>
     requires { IsUtf8 line.front.now × IsUtf8 line.tail.now }
     ensures text { (variant : Variant) (input : Text) → ShowsDated variant input (shown line.entry.front) line.entry.date (shown line.entry.tail)
-        → IfOk result (λ found. IsTrue found → PrintsFreely variant (dating_of year tz.entry local.entry) input (string_bytes text.new)) }
+        → IfOk result (λ found. IsTrue found → PrintsFreely variant (dating_value dating.entry.now) input (string_bytes text.new)) }
     ensures memory { (variant : Variant) (input : Text) → ShowsDated variant input (shown line.entry.front) line.entry.date (shown line.entry.tail)
-        → IsUnreadable variant (dating_of year tz.entry local.entry) input → IsOk result }
+        → IsUnreadable variant (dating_value dating.entry.now) input → IsOk result }
 {
-    let Some(stamp) = month_stamp(line.date, year, tz, local) else {
+    let Some(stamp) = month_stamp(line.date, dating) else {
         return Ok(false);
     };
     let found = LooseLine {
@@ -229,14 +221,12 @@ pub(crate) fn dated_text(
 pub(crate) fn loose_text(
     text: &mut String,
     input: &str,
-    year: Option<i32>,
-    tz: Option<&TimeZone<'_>>,
+    dating: &Dating<'_, '_>,
     variant: Variant,
-    local: &TimeZone<'_>,
 ) -> Result<bool, AllocError>
     ensures text { IfOk result (λ found. IsTrue found
-        → PrintsFreely variant (dating_of year tz.entry local.entry) (chars input.entry.now) (string_bytes text.new)) }
-    ensures memory { IsUnreadable variant (dating_of year tz.entry local.entry) (chars input.entry.now) → IsOk result }
+        → PrintsFreely variant (dating_value dating.entry.now) (chars input.entry.now) (string_bytes text.new)) }
+    ensures memory { IsUnreadable variant (dating_value dating.entry.now) (chars input.entry.now) → IsOk result }
 {
     if !may_have_priority(input) {
         return Ok(false);
@@ -244,7 +234,7 @@ pub(crate) fn loose_text(
     if !reads_loosely(variant) {
         return Ok(false);
     }
-    let Some(line) = loose_line(trimmed(input), year, tz, local) else {
+    let Some(line) = loose_line(trimmed(input), dating) else {
         return Ok(false);
     };
     make_room(text, input.len())?;

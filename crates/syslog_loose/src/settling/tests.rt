@@ -1,9 +1,10 @@
 //! However often a line repeats what each round takes one of, few passes settle it.
-use super::further_round;
+use crate::rounds::next_round;
 use crate::{ParseFault, TimeZone, Variant};
 use std::alloc::Global;
 use std::mem::swap;
 use std::test::Fail;
+use syslog_pieces::timestamp::zone::Dating;
 
 /// What a line begins with, what it repeats, and what stands behind that: host colons, and dashes, behind pieces that change
 /// first and before those that change then.
@@ -30,16 +31,19 @@ const REPEATS: [(&str, &str, &str); 16] = [
 fn passes(alloc: Global, line: &str) -> Result<usize, ParseFault> {
     let mut last = String::from_str(alloc, line)?;
     let mut text = String::new(alloc);
-    let (year, tz, local) = (Some(2019), None, &TimeZone::UTC);
+    let dating = Dating {
+        year: Some(2019),
+        tz: None,
+        local: &TimeZone::UTC,
+    };
     for pass in 1..=line.len() {
-        if further_round(
+        if next_round(
             alloc,
             &mut text,
             last.as_str(),
-            year,
-            tz,
+            &dating,
             Variant::Either,
-            local,
+            true,
         )? {
             return Ok(pass);
         }

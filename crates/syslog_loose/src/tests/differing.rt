@@ -7,6 +7,7 @@ use std::alloc::{AllocError, Global};
 use std::process::Abort;
 use std::test::Fail;
 use syslog_pieces::structured_data::listed::DashRule;
+use syslog_pieces::timestamp::zone::Dating;
 
 const DEGREES: &str = "<34>Oct 11 22:14:15 mymachine app: -5 degrees";
 
@@ -60,7 +61,16 @@ fn tells_no_text_of_rfc_5424(rt: HostRuntime) -> Result<(), Fail> {
 
 // How long the message of RFC 3164 is under a rule: none where there is no message.
 fn message_length(alloc: Global, text: &str, rule: DashRule) -> Result<Option<usize>, AllocError> {
-    let read = rfc3164::read(alloc, text, rule, Some(2019), None, &TimeZone::UTC)?;
+    let read = rfc3164::read(
+        alloc,
+        text,
+        rule,
+        &Dating {
+            year: Some(2019),
+            tz: None,
+            local: &TimeZone::UTC,
+        },
+    )?;
     Ok(read.map(|message| message.msg.len()))
 }
 

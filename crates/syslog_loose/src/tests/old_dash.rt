@@ -3,11 +3,11 @@ use crate::rfc3164;
 use jiff::tz::TimeZone;
 use std::test::Fail;
 use syslog_pieces::structured_data::listed::{DASH_RULE, DashRule, begins_list};
+use syslog_pieces::timestamp::zone::Dating;
 
 #[test]
 fn left_out_a_dash_before_anything(rt: HostRuntime) -> Result<(), Fail> {
     let alloc = rt.alloc();
-    let utc = TimeZone::UTC;
     for (text, msg) in [
         ("<34>Oct 11 22:14:15 mymachine app: -5 degrees", "5 degrees"),
         ("--x", "x"),
@@ -21,9 +21,11 @@ fn left_out_a_dash_before_anything(rt: HostRuntime) -> Result<(), Fail> {
             alloc,
             text,
             DashRule::BeforeAnything,
-            Some(2019),
-            None,
-            &utc,
+            &Dating {
+                year: Some(2019),
+                tz: None,
+                local: &TimeZone::UTC,
+            },
         )?;
         let message = read.ok_or("no message")?;
         assert_eq!(rt; message.structured_data.len(), 0, "{text}");
@@ -43,7 +45,16 @@ fn was_not_canonical_with_a_dash_before_anything(rt: HostRuntime) -> Result<(), 
         (DASH_RULE, false, "-5"),
     ] {
         assert_eq!(rt; begins_list("-5", rule), begins);
-        let read = rfc3164::read(alloc, printed, rule, None, None, &TimeZone::UTC)?;
+        let read = rfc3164::read(
+            alloc,
+            printed,
+            rule,
+            &Dating {
+                year: None,
+                tz: None,
+                local: &TimeZone::UTC,
+            },
+        )?;
         let message = read.ok_or("no message")?;
         assert_eq!(rt; message.appname, Some("a"));
         assert_eq!(rt; message.structured_data.len(), 0);

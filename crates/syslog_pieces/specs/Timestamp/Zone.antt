@@ -8,6 +8,7 @@ use Rattle.jiff.specs.Words.{plain_zone, civil_nanos, nanos_of_seconds, offset_a
 use Rattle.syslog_pieces.specs.declared.timestamp.OffsetTimestamp.{OffsetTimestamp}
 use Rattle.syslog_pieces.specs.declared.timestamp.fields.CivilFields.{CivilFields}
 use Rattle.syslog_pieces.specs.declared.timestamp.month_date.MonthDate.{MonthDate}
+use Rattle.syslog_pieces.specs.declared.timestamp.zone.Dating.{Dating as DatingHandle}
 use Rattle.syslog_pieces.specs.Timestamp.Fields.{fields_of, IsStampAt}
 
 -- How a date without an offset gets a timestamp: the year of a date that has none (where that is absent too, such a date
@@ -24,6 +25,10 @@ given_zone tz = option_map (λ z. plain_zone z.now) tz
 -- the year, the zone and the local zone that a caller hands in
 abbrev pub dating_of : Option ℤ → Option (Bor ZoneHandle) → Bor ZoneHandle → Dating
 dating_of year tz local = record { year = year; zone = given_zone tz; local = plain_zone local.now }
+
+-- the same, handed on as one value
+abbrev pub dating_value : DatingHandle → Dating
+dating_value d = dating_of d.year d.tz d.local
 
 -- the one instant, or the earlier of two, and none in a gap
 abbrev pub IsStampOf : AmbiguousOffset → DateTime → OffsetTimestamp → Type 0

@@ -4,13 +4,12 @@ ghost use Rattle.std.specs.Str.{chars};
 ghost use Rattle.syslog_pieces.specs.Pieces.Class.{Front};
 ghost use Rattle.syslog_pieces.specs.Pieces.View.{shown, Reads};
 ghost use Rattle.syslog_pieces.specs.Timestamp.Loose as spec;
-ghost use Rattle.syslog_pieces.specs.Timestamp.Zone.{dating_of};
+ghost use Rattle.syslog_pieces.specs.Timestamp.Zone.{dating_value};
 
 use super::month_date::month_date;
 use super::month_date::usual::usual_date;
-use super::zone::month_stamp;
+use super::zone::{Dating, month_stamp};
 use super::{OffsetTimestamp, header_stamp};
-use jiff::tz::TimeZone;
 
 /// The timestamp at the front of a header's text, absent for `-`, and the text behind it. It is `-`, an RFC 3339 text
 /// before a space, or a month date.
@@ -21,15 +20,13 @@ use jiff::tz::TimeZone;
 #[inline(always)]
 pub fn loose_stamp<'a>(
     text: &'a str,
-    year: Option<i32>,
-    tz: Option<&TimeZone<'_>>,
-    local: &TimeZone<'_>,
+    dating: &Dating<'_, '_>,
 ) -> Option<(Option<OffsetTimestamp>, &'a str)>
-    ensures { Reads (spec.loose_stamp (dating_of year tz.entry local.entry)) (λ s. s) (chars text.now) result }
+    ensures { Reads (spec.loose_stamp (dating_value dating.entry.now)) (λ s. s) (chars text.now) result }
 {
-    match usual_stamp(text, year, tz, local) {
+    match usual_stamp(text, dating) {
         Some(found) => Some(found),
-        None => any_stamp(text, year, tz, local),
+        None => any_stamp(text, dating),
     }
 }
 
@@ -37,31 +34,27 @@ pub fn loose_stamp<'a>(
 #[inline(always)]
 fn usual_stamp<'a>(
     text: &'a str,
-    year: Option<i32>,
-    tz: Option<&TimeZone<'_>>,
-    local: &TimeZone<'_>,
+    dating: &Dating<'_, '_>,
 ) -> Option<(Option<OffsetTimestamp>, &'a str)>
-    ensures { IfSome result (λ found. Front (spec.loose_stamp (dating_of year tz.entry local.entry)) (chars text.now) (shown found.1) found.0) }
+    ensures { IfSome result (λ found. Front (spec.loose_stamp (dating_value dating.entry.now)) (chars text.now) (shown found.1) found.0) }
 {
     let (date, rest) = usual_date(text)?;
-    let stamp = month_stamp(date, year, tz, local)?;
+    let stamp = month_stamp(date, dating)?;
     Some((Some(stamp), rest))
 }
 
 // The timestamp at the front, whatever its form.
 fn any_stamp<'a>(
     text: &'a str,
-    year: Option<i32>,
-    tz: Option<&TimeZone<'_>>,
-    local: &TimeZone<'_>,
+    dating: &Dating<'_, '_>,
 ) -> Option<(Option<OffsetTimestamp>, &'a str)>
-    ensures { Reads (spec.loose_stamp (dating_of year tz.entry local.entry)) (λ s. s) (chars text.now) result }
+    ensures { Reads (spec.loose_stamp (dating_value dating.entry.now)) (λ s. s) (chars text.now) result }
 {
     match header_stamp(text) {
         Some(found) => return Some(found),
         None => {}
     }
     let (date, rest) = month_date(text)?;
-    let stamp = month_stamp(date, year, tz, local)?;
+    let stamp = month_stamp(date, dating)?;
     Some((Some(stamp), rest))
 }

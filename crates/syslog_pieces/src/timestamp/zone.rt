@@ -15,18 +15,24 @@ use jiff::Timestamp;
 use jiff::civil::DateTime;
 use jiff::tz::{AmbiguousOffset, Offset, TimeZone};
 
+/// The year of a date that shows none, and the zones of one without an offset: the one that is given, or else the local one.
+#[derive(Clone, Copy)]
+pub struct Dating<'a, 'z> {
+    /// The year, where there is one.
+    pub year: Option<i32>,
+    /// The zone that is given.
+    pub tz: Option<&'a TimeZone<'z>>,
+    /// The local zone.
+    pub local: &'a TimeZone<'z>,
+}
+
 /// The timestamp of a month date: in the zone that is given, or else in the local one. A date that shows no year takes
 /// the one that is handed in, and has no timestamp where there is none.
 #[inline(always)]
-pub fn month_stamp(
-    date: MonthDate,
-    year: Option<i32>,
-    tz: Option<&TimeZone<'_>>,
-    local: &TimeZone<'_>,
-) -> Option<OffsetTimestamp>
-    ensures { IsAnswer (spec.IsMonthStamp (spec.dating_of year tz.entry local.entry) date) result }
+pub fn month_stamp(date: MonthDate, dating: &Dating<'_, '_>) -> Option<OffsetTimestamp>
+    ensures { IsAnswer (spec.IsMonthStamp (spec.dating_value dating.entry.now) date) result }
 {
-    let year = year_of(date, year)?;
+    let year = year_of(date, dating.year)?;
     let fields = CivilFields {
         year,
         month: date.month,
@@ -36,7 +42,7 @@ pub fn month_stamp(
         second: date.second,
         nanosecond: 0,
     };
-    of_fields(fields, tz, local)
+    of_fields(fields, dating.tz, dating.local)
 }
 
 /// The year that a clock in the zone shows at the moment, from -9999 to 9999.

@@ -1,10 +1,10 @@
-use Rattle.syslog_pieces.specs.Timestamp.Zone.{dating_of}
+use Rattle.syslog_pieces.specs.Timestamp.Zone.{dating_value}
 use Rattle.syslog_loose.specs.declared.variant.Variant.TheVariants.{RFC3164}
 use Rattle.syslog_loose.proofs.ReadingLemmas.{only_read}
 use Rattle.syslog_loose.proofs.reading.read_rfc3164.Goals as goal
 
 pub returns-in-Some : goal.returns-in-Some
-returns-in-Some c = only_read RFC3164 (dating_of c.args.year c.args.tz c.args.local) _ _ (rw c.in-Some.is at c.in-Ok.ensures.read)
+returns-in-Some c = only_read RFC3164 (dating_value c.args.dating.now) _ _ (rw c.in-Some.is at c.in-Ok.ensures.read)
 
 pub returns-in-None : goal.returns-in-None
 returns-in-None c =

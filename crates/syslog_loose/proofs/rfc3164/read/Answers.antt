@@ -9,7 +9,7 @@ use Rattle.syslog_pieces.specs.StructuredData.Element.{element_value}
 use Rattle.syslog_pieces.specs.StructuredData.Listed.{listed, elements_or}
 use Rattle.syslog_pieces.specs.declared.structured_data.StructuredElement.{StructuredElement}
 use Rattle.syslog_pieces.specs.Text.{is_blank}
-use Rattle.syslog_pieces.specs.Timestamp.Zone.{dating_of}
+use Rattle.syslog_pieces.specs.Timestamp.Zone.{dating_value}
 use Rattle.syslog_pieces.proofs.PieceLemmas.Class.{row_nil, row_cons, rows_join, rest_front}
 use Rattle.syslog_loose.specs.Rfc3164.{stamped_row, fields_row, body_row}
 use Rattle.syslog_loose.specs.View3164.{names_value}
@@ -18,12 +18,12 @@ use Rattle.syslog_loose.proofs.Rfc3164Lemmas.Reading.{behind_row, not_read, is_r
 use Rattle.syslog_loose.proofs.rfc3164.read.Goals as goal
 
 pub returns-in_default-clause-read : goal.returns-in_default-clause-read
-returns-in_default-clause-read c = not_read c.args.rule (dating_of c.args.year c.args.tz c.args.local) (chars c.args.text.now) _ c.trimmed.ensures c.in_default.ensures
+returns-in_default-clause-read c = not_read c.args.rule (dating_value c.args.dating.now) (chars c.args.text.now) _ c.trimmed.ensures c.in_default.ensures
 
 pub returns-in_err-elements-clause-memory : goal.returns-in_err-elements-clause-memory
 returns-in_err-elements-clause-memory c = λ none.
     let fields = c.read_names.ensures in
-    let needless = list_needs_none c.args.rule (dating_of c.args.year c.args.tz c.args.local) (chars c.args.text.now) _ _ _ _ _ (names_value c.read_names.result.0)
+    let needless = list_needs_none c.args.rule (dating_value c.args.dating.now) (chars c.args.text.now) _ _ _ _ _ (names_value c.read_names.result.0)
     c.trimmed.ensures none c.in-Some.ensures fields.front fields.means in
     let refused : false ≡ true = c.in_err-elements.ensures.memory needless in
     absurd (cc)
@@ -37,7 +37,7 @@ elements_seen (Some elements) none found e f = ap (λ (v : Vec (StructuredElemen
 pub returns-clause-read : goal.returns-clause-read
 returns-clause-read c =
     let rule = c.args.rule in
-    let dating = dating_of c.args.year c.args.tz c.args.local in
+    let dating = dating_value c.args.dating.now in
     let names = c.read_names.result.0 in
     let fields = c.read_names.ensures in
     let parts = c.parts-facility.ensures in

@@ -4,6 +4,7 @@ use crate::variant::Variant;
 use jiff::tz::TimeZone;
 use std::alloc::AllocError;
 use std::test::Fail;
+use syslog_pieces::timestamp::zone::Dating;
 
 const COPIED: [(&str, &str); 7] = [
     (
@@ -34,7 +35,16 @@ const COPIED: [(&str, &str); 7] = [
 ];
 
 fn copies(written: &mut String, text: &str, variant: Variant) -> Result<bool, AllocError> {
-    loose_text(written, text, Some(2019), None, variant, &TimeZone::UTC)
+    loose_text(
+        written,
+        text,
+        &Dating {
+            year: Some(2019),
+            tz: None,
+            local: &TimeZone::UTC,
+        },
+        variant,
+    )
 }
 
 #[test]
@@ -76,9 +86,11 @@ fn cuts_lines_round_their_date(rt: HostRuntime) -> Result<(), Fail> {
             &mut written,
             line,
             text.len(),
-            Some(2019),
-            None,
-            &TimeZone::UTC,
+            &Dating {
+                year: Some(2019),
+                tz: None,
+                local: &TimeZone::UTC,
+            },
         )?;
         assert!(rt; is_copied, "{text}");
         assert_eq!(rt; written.as_str(), printed);

@@ -1,4 +1,5 @@
 use super::check_printed;
+use crate::timestamp::zone::Dating;
 use crate::timestamp::{OffsetTimestamp, loose_stamp, rfc3339, year_at};
 use jiff::tz::{Offset, TimeZone};
 use std::alloc::Global;
@@ -22,7 +23,14 @@ fn stamp_of(
     tz: Option<&TimeZone<'_>>,
     local: &TimeZone<'_>,
 ) -> Option<OffsetTimestamp> {
-    match loose_stamp(text, Some(year), tz, local) {
+    match loose_stamp(
+        text,
+        &Dating {
+            year: Some(year),
+            tz,
+            local,
+        },
+    ) {
         Some((stamp, rest)) => { if rest.is_empty() { stamp } else { None } }
         None => None,
     }
@@ -131,8 +139,28 @@ fn takes_a_year_only_where_none_is_shown(rt: HostRuntime) -> Result<(), Fail> {
         assert!(rt; stamp_of("Jan 1 00:00:00", year, None, &utc).is_none());
         assert!(rt; stamp_of("Jan 1 2020 00:00:00", year, None, &utc).is_some());
     }
-    assert!(rt; loose_stamp("Aug 4 16:49:07", None, None, &utc).is_none());
-    assert!(rt; loose_stamp("Aug 4 2020 16:49:07", None, None, &utc).is_some());
+    assert!(rt;
+        loose_stamp(
+            "Aug 4 16:49:07",
+            &Dating {
+                year: None,
+                tz: None,
+                local: &utc
+            }
+        )
+        .is_none()
+    );
+    assert!(rt;
+        loose_stamp(
+            "Aug 4 2020 16:49:07",
+            &Dating {
+                year: None,
+                tz: None,
+                local: &utc
+            }
+        )
+        .is_some()
+    );
     Ok(())
 }
 
@@ -150,7 +178,14 @@ fn leaves_the_text_behind_the_date(rt: HostRuntime) -> Result<(), Fail> {
         ),
         ("2003-10-11T22:14:15Z h", "2003-10-11T22:14:15Z", " h"),
     ] {
-        match loose_stamp(text, Some(2019), None, &utc) {
+        match loose_stamp(
+            text,
+            &Dating {
+                year: Some(2019),
+                tz: None,
+                local: &utc,
+            },
+        ) {
             Some((stamp, rest)) => {
                 assert_eq!(rt; stamp, rfc3339(printed), "{text}");
                 assert_eq!(rt; rest, left, "{text}");
@@ -165,7 +200,14 @@ fn leaves_the_text_behind_the_date(rt: HostRuntime) -> Result<(), Fail> {
         ("-Oct 11", "Oct 11"),
     ] {
         assert_eq!(rt;
-            loose_stamp(text, Some(2019), None, &utc),
+            loose_stamp(
+                text,
+                &Dating {
+                    year: Some(2019),
+                    tz: None,
+                    local: &utc
+                }
+            ),
             Some((None, left)),
             "{text}"
         );
@@ -179,7 +221,15 @@ fn leaves_the_text_behind_the_date(rt: HostRuntime) -> Result<(), Fail> {
         "<34>Oct 11 22:14:15",
     ] {
         assert!(rt;
-            loose_stamp(text, Some(2019), None, &utc).is_none(),
+            loose_stamp(
+                text,
+                &Dating {
+                    year: Some(2019),
+                    tz: None,
+                    local: &utc
+                }
+            )
+            .is_none(),
             "{text}"
         );
     }

@@ -1,7 +1,7 @@
 use Rattle.std.proofs.Common.{rules, ◌≡◌, ◌++◌, ◌∷◌, Some, string_bytes, refl, ◌∙◌}
 use Rattle.std.specs.Str.{chars, encode_utf8_all}
 use Rattle.syslog_pieces.specs.Text.{trimmed}
-use Rattle.syslog_pieces.specs.Timestamp.Zone.{dating_of}
+use Rattle.syslog_pieces.specs.Timestamp.Zone.{dating_value}
 use Rattle.syslog_loose.specs.Printed.{timestamp_text}
 use Rattle.syslog_loose.proofs.KeptLooseLemmas.{readable, freely, loose_bytes, dated_kept}
 use Rattle.syslog_loose.proofs.line.loose.dated_text.Goals as goal
@@ -15,7 +15,7 @@ returns-in_err-write-clause-memory c variant input shows none = absurd (none _ (
 pub returns-clause-text : goal.returns-clause-text
 returns-clause-text c variant input shows found =
     let line = c.args.line in
-    let dating = dating_of c.args.year c.args.tz c.args.local in
+    let dating = dating_value c.args.dating.now in
     let stamp = c.in-Some.stamp in
     let written : string_bytes c.write.new.self ≡ line.front.now ++ ((32 ∷ encode_utf8_all (timestamp_text (Some stamp))) ++ line.tail.now) = search rules in
     freely variant dating input (trimmed input) (chars line.front.now) (Some stamp) (chars line.tail.now) shows.reads refl

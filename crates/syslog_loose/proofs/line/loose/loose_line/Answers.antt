@@ -1,7 +1,7 @@
 use Rattle.std.proofs.Common.{refl}
 use Rattle.std.specs.Str.{chars}
 use Rattle.syslog_pieces.specs.Pri.{priority_text}
-use Rattle.syslog_pieces.specs.Timestamp.Zone.{dating_of}
+use Rattle.syslog_pieces.specs.Timestamp.Zone.{dating_value}
 use Rattle.syslog_loose.proofs.KeptLooseLemmas.{line_kept}
 use Rattle.syslog_loose.proofs.line.loose.loose_line.Goals as goal
 
@@ -10,5 +10,5 @@ before-front-requires c = (priority_text c.in_ok-behind.ensures.0.value, c.in_ok
 
 pub returns-then-is_kept_behind-clause-kept : goal.returns-then-is_kept_behind-clause-kept
 returns-then-is_kept_behind-clause-kept c =
-    line_kept (dating_of c.args.year c.args.tz c.args.local) (chars c.args.text.now) (chars c.in_ok-behind.behind.now) (chars c.blanks.result.now) (chars c.before-front.result.now) (chars c.in-Some.tail.now) c.in-Some.timestamp
+    line_kept (dating_value c.args.dating.now) (chars c.args.text.now) (chars c.in_ok-behind.behind.now) (chars c.blanks.result.now) (chars c.before-front.result.now) (chars c.in-Some.tail.now) c.in-Some.timestamp
     c.in_ok-behind.ensures.0 c.in_ok-behind.ensures.1 c.blanks.ensures c.in-Some.ensures (c.if-is_kept_behind.ensures refl) c.before-front.ensures

@@ -1,6 +1,6 @@
 use Rattle.std.proofs.Common.{rules, ◌≡◌, ◌++◌, ◌∷◌, string_bytes, refl, ◌∙◌}
 use Rattle.std.specs.Str.{chars, encode_utf8_all}
-use Rattle.syslog_pieces.specs.Timestamp.Zone.{dating_of}
+use Rattle.syslog_pieces.specs.Timestamp.Zone.{dating_value}
 use Rattle.syslog_loose.specs.Printed.{timestamp_text}
 use Rattle.syslog_loose.proofs.KeptLooseLemmas.{readable, freely, loose_bytes}
 use Rattle.syslog_loose.proofs.line.loose.loose_text.Goals as goal
@@ -16,5 +16,5 @@ returns-clause-text c found =
     let u = c.in-Some.ensures.utf8 in
     let line = c.in-Some.line in
     let written : string_bytes c.write.new.self ≡ line.front.now ++ ((32 ∷ encode_utf8_all (timestamp_text line.timestamp)) ++ line.tail.now) = search rules in
-    freely c.args.variant (dating_of c.args.year c.args.tz c.args.local) (chars c.args.input.now) (chars c.trimmed.result.now) (chars line.front.now) line.timestamp (chars line.tail.now)
+    freely c.args.variant (dating_value c.args.dating.now) (chars c.args.input.now) (chars c.trimmed.result.now) (chars line.front.now) line.timestamp (chars line.tail.now)
     (c.if-not-reads_loosely.ensures refl) c.trimmed.ensures c.in-Some.ensures.kept (string_bytes c.write.new.self) (written ∙ loose_bytes line.front.now (timestamp_text line.timestamp) line.tail.now u.0 u.1)

@@ -1,5 +1,5 @@
 use Rattle.syslog_pieces.specs.Timestamp.MonthDate.{yearless_date, dated_date}
-use Rattle.syslog_pieces.specs.Timestamp.Zone.{dating_of}
+use Rattle.syslog_pieces.specs.Timestamp.Zone.{dating_value}
 use Rattle.syslog_pieces.specs.declared.timestamp.month_date.MonthDate.{MonthDate}
 use Rattle.syslog_pieces.proofs.PieceLemmas.Kinds.{first_kind}
 use Rattle.syslog_pieces.proofs.TimestampLemmas.Loose.{date_front}
@@ -7,5 +7,5 @@ use Rattle.syslog_pieces.proofs.timestamp.loose.usual_stamp.Goals as goal
 
 pub returns : goal.returns
 returns c =
-    date_front (dating_of c.args.year c.args.tz c.args.local) c.in_ok-stamp.stamp
+    date_front (dating_value c.args.dating.now) c.in_ok-stamp.stamp
     (first_kind MonthDate yearless_date.Is dated_date.Is c.in_ok-date.ensures) c.in_ok-stamp.ensures

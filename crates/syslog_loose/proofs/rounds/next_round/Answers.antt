@@ -1,13 +1,12 @@
-use Rattle.std.proofs.Common.{◌≡◌, true, false, refl}
 use Rattle.std.specs.Prelude.{string_bytes}
 use Rattle.std.specs.Str.{chars}
 use Rattle.std.proofs.lemmas.Result.{err_from_is_err_and}
 use Rattle.std.proofs.lemmas.Str.{IsUtf8-string_bytes}
-use Rattle.syslog_pieces.specs.Timestamp.Zone.{dating_of}
+use Rattle.syslog_pieces.specs.Timestamp.Zone.{dating_value}
 use Rattle.syslog_loose.specs.KeptLoose.{PrintsFreely}
 use Rattle.syslog_loose.proofs.ReadingLemmas.{fault_tells, memory_tells, invalid_or_memory, no_ok, found_text}
-use Rattle.syslog_loose.proofs.SettlingLemmas.Settles.{told_next, told_later, told_freely}
-use Rattle.syslog_loose.proofs.settling.further_round.Goals as goal
+use Rattle.syslog_loose.proofs.SettlingLemmas.Settles.{round_freely, round_printed, round_skipped}
+use Rattle.syslog_loose.proofs.rounds.next_round.Goals as goal
 
 pub returns-in_err-copied : goal.returns-in_err-copied
 returns-in_err-copied c =
@@ -16,9 +15,9 @@ returns-in_err-copied c =
 
 pub returns-then-copied : goal.returns-then-copied
 returns-then-copied c =
-    let dating = dating_of c.args.year c.args.tz c.args.local in
+    let dating = dating_value c.args.dating.now in
     let k = found_text (PrintsFreely c.args.variant dating (chars c.args.input.now) (string_bytes c.loose_text.new.text)) _ _ c.in_ok-copied.was c.if-copied.true c.loose_text.ensures.text in
-    told_freely _ _ _ _ (IsUtf8-string_bytes c.loose_text.new.text) k
+    round_freely c.args.skips _ _ _ _ (IsUtf8-string_bytes c.loose_text.new.text) k
 
 pub returns-in_err-message : goal.returns-in_err-message
 returns-in_err-message c =
@@ -28,8 +27,9 @@ pub returns-in_err-print : goal.returns-in_err-print
 returns-in_err-print c =
     let (_, e, same) = err_from_is_err_and c.from_residual-in_err-print.result c.from_residual-in_err-print.ensures.1 in rw (e, same) (memory_tells _ _ _ _ c.in_ok-message.ensures)
 
-pub returns-then-is_at_rest : goal.returns-then-is_at_rest
-returns-then-is_at_rest c = told_next _ _ _ _ c.in_ok-message.ensures.read _ (IsUtf8-string_bytes c.print.new.text) c.in_ok-print.ensures (c.if-is_at_rest.ensures.0 refl)
+pub returns-then-settled : goal.returns-then-settled
+returns-then-settled c =
+    round_printed _ _ _ _ c.in_ok-message.ensures.read c.args.skips c.is_at_rest-settled.result c.is_at_rest-settled.ensures _ (IsUtf8-string_bytes c.print.new.text) c.in_ok-print.ensures
 
 pub returns-in_err-write_round : goal.returns-in_err-write_round
 returns-in_err-write_round c =
@@ -37,5 +37,5 @@ returns-in_err-write_round c =
 
 pub returns : goal.returns
 returns c =
-    let reaches = c.in_ok-write_round.ensures _ _ _ c.in_ok-message.ensures.read in
-    told_later _ _ _ _ c.in_ok-message.ensures.read _ (λ h. let t : false ≡ true = c.if-is_at_rest.ensures.1 h in cc) reaches
+    round_skipped _ _ _ _ c.in_ok-message.ensures.read c.args.skips c.is_at_rest-settled.result c.if-not-skips.false c.if-settled.false c.is_at_rest-settled.ensures _
+    (c.in_ok-write_round.ensures _ _ _ c.in_ok-message.ensures.read)

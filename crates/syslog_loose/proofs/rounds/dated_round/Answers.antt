@@ -2,19 +2,19 @@ use Rattle.std.specs.Prelude.{string_bytes}
 use Rattle.std.specs.Str.{chars}
 use Rattle.std.proofs.lemmas.Result.{err_from_is_err_and}
 use Rattle.std.proofs.lemmas.Str.{IsUtf8-string_bytes}
-use Rattle.syslog_pieces.specs.Timestamp.Zone.{dating_of}
+use Rattle.syslog_pieces.specs.Timestamp.Zone.{dating_value}
 use Rattle.syslog_loose.specs.KeptLoose.{PrintsFreely}
-use Rattle.syslog_loose.proofs.ReadingLemmas.{no_ok, found_text}
-use Rattle.syslog_loose.proofs.SettlingLemmas.Settles.{first_freely}
-use Rattle.syslog_loose.proofs.settling.settle_dated.Goals as goal
+use Rattle.syslog_loose.proofs.ReadingLemmas.{invalid_or_memory, no_ok, found_text}
+use Rattle.syslog_loose.proofs.SettlingLemmas.Settles.{round_freely}
+use Rattle.syslog_loose.proofs.rounds.dated_round.Goals as goal
 
 pub returns-in_err-copied : goal.returns-in_err-copied
 returns-in_err-copied c =
     let (_, e, same) = err_from_is_err_and c.from_residual.result c.from_residual.ensures.1 in
-    rw (e, same) (λ u. no_ok _ _ c.in_err-copied.was (c.dated_text.ensures.memory _ _ c.requires.shows u))
+    rw (e, same) (λ i. absurd (invalid_or_memory i), λ u. absurd (no_ok _ _ c.in_err-copied.was (c.dated_text.ensures.memory _ _ c.requires.shows u)))
 
 pub returns-then-copied : goal.returns-then-copied
 returns-then-copied c =
-    let dating = dating_of c.args.year c.args.tz c.args.local in
+    let dating = dating_value c.args.dating.now in
     let k = found_text (PrintsFreely c.args.variant dating (chars c.args.input.now) (string_bytes c.dated_text.new.text)) _ _ c.in_ok-copied.was c.if-copied.true (c.dated_text.ensures.text _ _ c.requires.shows) in
-    first_freely _ _ _ _ (IsUtf8-string_bytes c.dated_text.new.text) k
+    round_freely c.args.skips _ _ _ _ (IsUtf8-string_bytes c.dated_text.new.text) k
