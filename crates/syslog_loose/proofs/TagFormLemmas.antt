@@ -1,14 +1,15 @@
 -- The form `tag[id]`: a text is of it in one way, and what its reader finds.
-use Rattle.std.proofs.Common.{◌≡◌, ◌≢◌, ℕ, ◌<◌, List, [], ◌∷◌, ◌++◌, length, refl, ap, ◌∙◌, arith}
+use Rattle.std.proofs.Common.{◌≡◌, ◌≢◌, ℕ, ◌<◌, List, [], ◌∷◌, ◌++◌, length, refl, ap, ◌∙◌, arith, inl}
 use Rattle.std.specs.Str.{chars, IsAscii}
 use Rattle.syslog_pieces.specs.Pieces.Class.{Text, Class, IsDeterministic, Values, Front, NoFront, Row, run, some_run, exactly, texted}
 use Rattle.syslog_pieces.specs.Bodies.Scan.{SplitsRun}
 use Rattle.syslog_pieces.specs.Text.CharClass.{is_label_char, is_open_char}
-use Rattle.syslog_pieces.proofs.PieceLemmas.Class.{AllDeterministic, unique_division, division_front, front_division, exactly_det, run_det, some_run_det, texted_det, no_texted, row_nil, row_cons, row_head, row_none_here, row_none_later, no_row_division, nil_front}
+use Rattle.syslog_pieces.proofs.PieceLemmas.Class.{AllDeterministic, unique_division, division_front, front_division, exactly_det, run_det, some_run_det, texted_det, no_texted, no_row_division}
 use Rattle.syslog_pieces.proofs.PieceLemmas.Meets.{rows_go}
 use Rattle.syslog_pieces.proofs.TextLemmas.Chars.{chars_nonempty, one_ascii}
 use Rattle.syslog_pieces.proofs.TextLemmas.Runs.{no_some_run}
 use Rattle.syslog_loose.specs.TagForm.{form_row, IsForm, IsNoForm}
+use Rattle.syslog_pieces.proofs.PieceLemmas.Rows.{row_pieces, row_of, no_row, ◌then◌, ◌past◌}
 
 abbrev label : Class
 label = texted (run is_label_char)
@@ -21,15 +22,6 @@ id_text = texted (some_run is_open_char)
 
 abbrev closing : Class
 closing = exactly (93 ∷ [])
-
-abbrev from_closing : List Class
-from_closing = closing ∷ []
-
-abbrev from_id : List Class
-from_id = id_text ∷ from_closing
-
-abbrev from_opening : List Class
-from_opening = opening ∷ from_id
 
 abbrev to_closing : List Class
 to_closing = label ∷ opening ∷ id_text ∷ []
@@ -63,43 +55,31 @@ label_front bs xs ys s = record { piece = chars xs; whole = s.characters; is = (
 id_front : (bs xs ys : List ℕ) → SplitsRun is_open_char bs xs ys → 0 < length xs → Front id_text (chars bs) (chars ys) (chars xs)
 id_front bs xs ys s l = record { piece = chars xs; whole = s.characters; is = (tt, (chars_nonempty xs s.front_utf8 l, s.each, s.ends), refl) }
 
--- only `]` is left where the form ends
-left_closes : {t : Text} {v : Values from_closing} → Front (Row from_closing) t [] v → t ≡ 93 ∷ []
-left_closes {t = t} f =
-    let (q, g, n) = row_head closing [] f in
-    g.whole ∙ ap (λ (x : Text). x ++ q) g.is ∙ ap (λ (x : Text). 93 ∷ x) (nil_front n)
-
 module _ (bs xs ys : List ℕ) (s : SplitsRun is_label_char bs xs ys) where
   -- there is no `[` behind the tag
   pub no_opening : NoFront opening (chars ys) → IsNoForm (chars bs)
-  no_opening n = no_row_division form_row (row_none_later label from_opening label_det (label_front bs xs ys s) (row_none_here opening from_id n))
+  no_opening n = no_row_division form_row (no_row form_row form_det (label_front bs xs ys s past inl n))
 
   module _ (ts is ks : List ℕ) (o : Front opening (chars ys) (chars ts) tt) (r : SplitsRun is_open_char ts is ks) where
     -- the id is empty
     pub no_id : length is ≡ 0 → IsNoForm (chars bs)
     no_id z =
-        no_row_division form_row
-        (row_none_later label from_opening label_det (label_front bs xs ys s)
-        (row_none_later opening from_id (exactly_det (91 ∷ [])) o
-        (row_none_here id_text from_closing (no_texted (some_run is_open_char) (no_some_run is_open_char ts is ks r z)))))
+        let n : NoFront id_text (chars ts) = no_texted (some_run is_open_char) (no_some_run is_open_char ts is ks r z) in
+        no_row_division form_row (no_row form_row form_det (label_front bs xs ys s past o past inl n))
 
     to_id : 0 < length is → Front (Row to_closing) (chars bs) (chars ks) (chars xs, (tt, (chars is, tt)))
-    to_id l =
-        row_cons label (opening ∷ id_text ∷ []) (label_front bs xs ys s)
-        (row_cons opening (id_text ∷ []) o
-        (row_cons id_text [] (id_front ts is ks r l) (row_nil (chars ks))))
+    to_id l = row_of to_closing (label_front bs xs ys s then o then id_front ts is ks r l then refl)
 
     -- something else than `]` is behind the id
     pub no_closing : 0 < length is → chars ks ≢ 93 ∷ [] → IsNoForm (chars bs)
     no_closing l n vs d =
-        let (v, f) = (rows_go to_closing from_closing to_closing_det (chars bs) (chars ks) _ (to_id l)).back [] vs (division_front form_row d) in
-        n (left_closes f)
+        let (v, f) = (rows_go to_closing (closing ∷ []) to_closing_det (chars bs) (chars ks) _ (to_id l)).back [] vs (division_front form_row d) in
+        let (q, g, e) = row_pieces (closing ∷ []) f in
+        n (g.whole ∙ ap (λ (x : Text). x ++ q) g.is ∙ ap (λ (x : Text). 93 ∷ x) e)
 
     -- `]` alone is behind it
     pub is_form : 0 < length is → chars ks ≡ 93 ∷ [] → IsForm (chars bs) (chars xs) (chars is)
     is_form l e =
+        let closed : Front closing (chars ks) [] tt = record { piece = 93 ∷ []; whole = e; is = refl } in
         front_division form_row
-        (row_cons label from_opening (label_front bs xs ys s)
-        (row_cons opening from_id o
-        (row_cons id_text from_closing (id_front ts is ks r l)
-        (row_cons closing [] (record { piece = 93 ∷ []; whole = e; is = refl }) (row_nil [])))))
+        (row_of form_row (label_front bs xs ys s then o then id_front ts is ks r l then closed then refl))
