@@ -7,7 +7,7 @@ use Rattle.std.proofs.lemmas.Str.{chars-encodes, encodes-chars, scalars-chars}
 use Rattle.std.specs.Char.{encode_utf8}
 use Rattle.std.specs.Io.KnownBytes.{Appends, Consumes, IsAtEnd}
 use Rattle.std.specs.List.{All}
-use Rattle.std.specs.Prelude.{IsUtf8, encode_utf8_all, count_by, is_none, not}
+use Rattle.std.specs.Prelude.{IsUtf8, encode_utf8_all, count_by, not}
 use Rattle.std.specs.Str.{chars}
 use Rattle.syslog_loose.specs.OneLine.{is_no_feed, IsOneLine}
 use Rattle.syslog_loose.specs.Reading.{in_utc}
@@ -15,11 +15,11 @@ use Rattle.syslog_loose.specs.Settling.{IsRound, IsFirstSettled}
 use Rattle.syslog_loose.specs.declared.variant.Variant.TheVariants.{Either}
 use Rattle.syslog_loose.proofs.OneLineLemmas.{printed_line, printed_scalars}
 use Rattle.syslog_loose.proofs.SettlingLemmas.Rounds.{one_first_settled}
-use Rattle.syslog_tidy.specs.declared.summary.Summary.{Summary}
-use Rattle.syslog_tidy.specs.Lines.{NoFeed, with_feeds, IsLines}
-use Rattle.syslog_tidy.specs.Count.{held_count}
-use Rattle.syslog_tidy.specs.Output.{AreAnswers, IsAnswer, output_of}
-use Rattle.syslog_tidy.specs.Filters.{TidiesAll, WritesAgain, tidying}
+use Rattle.syslog_lines.specs.declared.summary.Summary.{Summary}
+use Rattle.syslog_lines.specs.Lines.{NoFeed, with_feeds, IsLines}
+use Rattle.syslog_lines.specs.Count.{held_count}
+use Rattle.syslog_lines.specs.Output.{Answer, AreAnswers, Marked, Omitted, Written, is_passed_over, output_of}
+use Rattle.syslog_tidy.specs.Filters.{IsTidied, TidiesAll, WritesAgain, tidying}
 
 -- ---- line feeds in bytes and in characters
 abbrev IsOther : ℕ → Type 0
@@ -146,61 +146,65 @@ record IsAtRest (year : ℤ) (text : List ℕ) : Type 0 where
   free : IsOneLine text
   settled : IsFirstSettled Either (in_utc year) text text
 
-at_rest : (year : ℤ) (line text : List ℕ) → NoFeed line → IsAnswer (tidying year) line (Some text) → IsAtRest year text
-at_rest year line text h (valid, first) = record {
+at_rest : (year : ℤ) (line text : List ℕ) → NoFeed line → IsUtf8 line → IsTidied year (chars line) (Some text) → IsAtRest year text
+at_rest year line text h valid first = record {
   valid = round_scalars year (chars line) text (suc first.before) first.round (scalars-chars line valid);
   free = round_line year (chars line) text (suc first.before) first.round (free_chars line valid h);
   settled = record { before = 0; round = (text, refl, first.settled); settled = first.settled; none_before = λ k u l. absurd (omega arith) };
 }
 
--- the bytes of the texts among answers
-abbrev lines_of : List (Option (List ℕ)) → List (List ℕ)
+-- the bytes of the answers that are written
+abbrev lines_of : List Answer → List (List ℕ)
 lines_of [] = []
-lines_of (None ∷ answers) = lines_of answers
-lines_of (Some text ∷ answers) = encode_utf8_all text ∷ lines_of answers
+lines_of (Omitted ∷ answers) = lines_of answers
+lines_of (Marked bytes ∷ answers) = bytes ∷ lines_of answers
+lines_of (Written bytes ∷ answers) = bytes ∷ lines_of answers
 
-output_fed : (answers : List (Option (List ℕ))) → output_of answers ≡ with_feeds (lines_of answers)
+output_fed : (answers : List Answer) → output_of answers ≡ with_feeds (lines_of answers)
 output_fed [] = refl
-output_fed (None ∷ answers) = output_fed answers
-output_fed (Some text ∷ answers) = append_assoc (encode_utf8_all text) (10 ∷ []) (output_of answers) ∙ ap (λ (l : List ℕ). encode_utf8_all text ++ 10 ∷ l) (output_fed answers)
+output_fed (Omitted ∷ answers) = output_fed answers
+output_fed (Marked bytes ∷ answers) = append_assoc bytes (10 ∷ []) (output_of answers) ∙ ap (λ (l : List ℕ). bytes ++ 10 ∷ l) (output_fed answers)
+output_fed (Written bytes ∷ answers) = append_assoc bytes (10 ∷ []) (output_of answers) ∙ ap (λ (l : List ℕ). bytes ++ 10 ∷ l) (output_fed answers)
 
 -- each line is the bytes of a text at rest
 abbrev AreAtRest : ℤ → List (List ℕ) → Type 0
 AreAtRest year [] = Unit {0}
 AreAtRest year (line ∷ lines) = ((text : List ℕ) × IsAtRest year text × (line ≡ encode_utf8_all text)) × AreAtRest year lines
 
-all_at_rest : (year : ℤ) (lines : List (List ℕ)) (answers : List (Option (List ℕ))) → All NoFeed lines → AreAnswers (tidying year) lines answers → AreAtRest year (lines_of answers)
+all_at_rest : (year : ℤ) (lines : List (List ℕ)) (answers : List Answer) → All NoFeed lines → AreAnswers (tidying year) lines answers → AreAtRest year (lines_of answers)
 all_at_rest year [] [] free h = tt
 all_at_rest year [] (a ∷ answers) free h = absurd h
 all_at_rest year (line ∷ lines) [] free h = absurd h
-all_at_rest year (line ∷ lines) (None ∷ answers) free h = all_at_rest year lines answers (All-tail NoFeed line lines free) h.1
-all_at_rest year (line ∷ lines) (Some text ∷ answers) free h =
-    ((text, at_rest year line text (All-head NoFeed line lines free) h.0, refl), all_at_rest year lines answers (All-tail NoFeed line lines free) h.1)
+all_at_rest year (line ∷ lines) (Omitted ∷ answers) free h = all_at_rest year lines answers (All-tail NoFeed line lines free) h.1
+all_at_rest year (line ∷ lines) (Marked bytes ∷ answers) free h = absurd h.0
+all_at_rest year (line ∷ lines) (Written bytes ∷ answers) free ((valid, (text, first, same)), h) =
+    ((text, at_rest year line text (All-head NoFeed line lines free) valid first, same), all_at_rest year lines answers (All-tail NoFeed line lines free) h)
 
 rest_free : (year : ℤ) (ts : List (List ℕ)) → AreAtRest year ts → All NoFeed ts
 rest_free year [] h = All-nil NoFeed
 rest_free year (t ∷ ts) ((text, r, e), h) = All-cons NoFeed t ts (subst NoFeed (sym e) (encoded_line text r.free)) (rest_free year ts h)
 
 -- the answer to such a line is its text
-same_text : (year : ℤ) (t text s : List ℕ) → IsAtRest year text → t ≡ encode_utf8_all text → IsAnswer (tidying year) t (Some s) → encode_utf8_all s ≡ t
-same_text year t text s r e (valid, first) =
+same_text : (year : ℤ) (t text bytes : List ℕ) → IsAtRest year text → t ≡ encode_utf8_all text → (tidying year).Answers t (Written bytes) → bytes ≡ t
+same_text year t text bytes r e (valid, (s, first, same)) =
     let there : chars t ≡ text = ap chars e ∙ chars-encodes text r.valid in
-    ap encode_utf8_all (one_first_settled Either (in_utc year) text s text (subst (λ (x : List ℕ). IsFirstSettled Either (in_utc year) x s) there first) r.settled) ∙ sym e
+    same ∙ ap encode_utf8_all (one_first_settled Either (in_utc year) text s text (subst (λ (x : List ℕ). IsFirstSettled Either (in_utc year) x s) there first) r.settled) ∙ sym e
 
-none_there : (year : ℤ) (t text : List ℕ) → IsAtRest year text → t ≡ encode_utf8_all text → IsAnswer (tidying year) t None → ⊥
+none_there : (year : ℤ) (t text : List ℕ) → IsAtRest year text → t ≡ encode_utf8_all text → (tidying year).Answers t Omitted → ⊥
 none_there year t text r e none =
     let there : chars t ≡ text = ap chars e ∙ chars-encodes text r.valid in
     none (text, (r.valid, sym e)) text (subst (λ (x : List ℕ). IsFirstSettled Either (in_utc year) x text) (sym there) r.settled)
 
 -- each of them is answered by itself
-answered_again : (year : ℤ) (ts : List (List ℕ)) (answers : List (Option (List ℕ))) → AreAtRest year ts → AreAnswers (tidying year) ts answers → (output_of answers ≡ with_feeds ts) × (count_by is_none answers ≡ 0)
+answered_again : (year : ℤ) (ts : List (List ℕ)) (answers : List Answer) → AreAtRest year ts → AreAnswers (tidying year) ts answers → (output_of answers ≡ with_feeds ts) × (count_by is_passed_over answers ≡ 0)
 answered_again year [] [] h k = (refl, refl)
 answered_again year [] (a ∷ answers) h k = absurd k
 answered_again year (t ∷ ts) [] h k = absurd k
-answered_again year (t ∷ ts) (None ∷ answers) ((text, r, e), h) k = absurd (none_there year t text r e k.0)
-answered_again year (t ∷ ts) (Some s ∷ answers) ((text, r, e), h) k =
+answered_again year (t ∷ ts) (Omitted ∷ answers) ((text, r, e), h) k = absurd (none_there year t text r e k.0)
+answered_again year (t ∷ ts) (Marked bytes ∷ answers) h k = absurd k.0
+answered_again year (t ∷ ts) (Written bytes ∷ answers) ((text, r, e), h) k =
     let (same, none) = answered_again year ts answers h k.1 in
-    (append_assoc (encode_utf8_all s) (10 ∷ []) (output_of answers) ∙ ap (λ (l : List ℕ). encode_utf8_all s ++ 10 ∷ l) same ∙ ap (λ (l : List ℕ). l ++ 10 ∷ with_feeds ts) (same_text year t text s r e k.0), none)
+    (append_assoc bytes (10 ∷ []) (output_of answers) ∙ ap (λ (l : List ℕ). bytes ++ 10 ∷ l) same ∙ ap (λ (l : List ℕ). l ++ 10 ∷ with_feeds ts) (same_text year t text bytes r e k.0), none)
 
 -- ---- the run
 whole_read : (output read : List ℕ) (had left : Option (List ℕ)) → had ≡ Some output → Consumes had left read → IsAtEnd left → read ≡ output

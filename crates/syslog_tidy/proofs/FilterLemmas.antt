@@ -1,10 +1,9 @@
--- The answers of the two filters, and their counts.
-use Rattle.std.proofs.Common.{◌≡◌, ℕ, zero, suc, ℤ, ◌+◌, ◌++◌, ◌↔◌, List, [], ◌∷◌, length, Option, Some, None, Bool, true, false, Result, Ok, Err, MatchResult, IsTrue, refl, sym, ap, ◌∙◌, subst, cond, arith}
+-- The answers of the filters, and their counts.
+use Rattle.std.proofs.Common.{◌≡◌, ℕ, zero, suc, ℤ, ◌+◌, ◌++◌, ◌↔◌, List, [], ◌∷◌, Option, Some, None, Bool, true, false, Result, Ok, Err, MatchResult, IsTrue, refl, sym, ap, ◌∙◌, subst, append-nil}
 use Rattle.std.specs.Global.{Global}
-use Rattle.std.specs.Prelude.{IsUtf8, String, count_by, is_none, is_some, string_bytes}
+use Rattle.std.specs.Prelude.{IsUtf8, String, encode_utf8_all, string_bytes}
 use Rattle.std.specs.Str.{chars}
-use Rattle.std.proofs.lemmas.List.Sums.{sum_by-append}
-use Rattle.std.proofs.lemmas.Slice.Zip.{AllZip-long}
+use Rattle.std.proofs.lemmas.Bool.{false≢true}
 use Rattle.std.proofs.lemmas.Str.{encodes-chars}
 use Rattle.syslog_loose.specs.Dash.{ReadsDifferently}
 use Rattle.syslog_loose.specs.Reading.{IsRead, IsUnreadable, in_utc}
@@ -13,63 +12,81 @@ use Rattle.syslog_loose.proofs.ReadingLemmas.{invalid_or_memory}
 use Rattle.syslog_loose.specs.declared.fault.ParseFault.{ParseFault}
 use Rattle.syslog_loose.specs.declared.fault.ParseFault.TheVariants.{Invalid, Memory}
 use Rattle.syslog_loose.specs.declared.variant.Variant.TheVariants.{Either}
-use Rattle.syslog_tidy.specs.Count.{held_count}
-use Rattle.syslog_tidy.specs.Filters.{FindsAll, IsTidied, TidiesAll, finding, tidying}
-use Rattle.syslog_tidy.specs.Output.{AddsAnswer, Filter, HasCounted, IsAnswer}
-use Rattle.syslog_tidy.specs.Walk.{EndsEarly, FiltersAll, WalksAll}
-use Rattle.syslog_tidy.specs.declared.summary.Changed.{Changed}
-use Rattle.syslog_tidy.specs.declared.summary.RunFault.{RunFault}
-use Rattle.syslog_tidy.specs.declared.summary.Summary.{Summary}
-use Rattle.syslog_tidy.specs.declared.summary.Tally.{Tally}
+use Rattle.syslog_lines.specs.Count.{held_count}
+use Rattle.syslog_tidy.specs.Filters.{FindsAll, IsTidied, RefusesAll, SharesOut, TidiesAll, finding, of_texts, refusing, tidying}
+use Rattle.syslog_lines.specs.Output.{AddsAnswer, Answer, AreAnswers, Marked, Omitted, Written, is_answered, is_passed_over}
+use Rattle.syslog_lines.specs.Walk.{WalksAll}
+use Rattle.syslog_lines.proofs.CountLemmas.{WalksAll-at, lines_counted}
+use Rattle.syslog_tidy.specs.declared.counts.Changed.{Changed}
+use Rattle.syslog_lines.specs.declared.summary.Summary.{Summary}
+use Rattle.syslog_lines.specs.declared.summary.Tally.{Tally}
 
--- ---- counts
-
-count_more : (keep : Option (List ℕ) → Bool) (answer : Option (List ℕ)) (answers : List (Option (List ℕ))) → count_by keep (answer ∷ answers) ≡ count_by keep (answer ∷ []) + count_by keep answers
-count_more keep answer answers = sum_by-append (λ (x : Option (List ℕ)). cond (keep x) 1 0) (answer ∷ []) answers
-
-counted_once : (answer : Option (List ℕ)) → count_by is_some (answer ∷ []) + count_by is_none (answer ∷ []) ≡ 1
-counted_once (Some text) = refl
-counted_once None = refl
-
--- each answer is one or none
-counted_all : (answers : List (Option (List ℕ))) → count_by is_some answers + count_by is_none answers ≡ length answers
-counted_all [] = refl
-counted_all (answer ∷ answers) = omega (arith, counted_all answers, count_more is_some answer answers, count_more is_none answer answers, counted_once answer)
-
--- the tally's lines are those of the input
-lines_counted : (filter : Filter) (had left held holds : Option (List ℕ)) (tally : Tally) (answers : List (Option (List ℕ))) (all : FiltersAll filter had left held holds answers)
-    → HasCounted tally (count_by is_some answers) (count_by is_none answers) → held_count (tally.answered + tally.passed_over) ≡ held_count (length all.lines)
-lines_counted filter had left held holds tally answers all counted =
-    omega (arith, counted.0, counted.1, counted_all answers, AllZip-long (IsAnswer filter) all.lines answers all.answered)
-
--- ---- the ends of the two filters; the year stands in a call as a number of 32 bits
-
-pub EndsEarly-year : (filter : ℤ → Filter) (year y : ℤ) (had left held holds : Option (List ℕ)) (fault : RunFault) → y ≡ year → EndsEarly (filter y) had left held holds fault → EndsEarly (filter year) had left held holds fault
-EndsEarly-year filter year y had left held holds fault same ended = subst (λ (z : ℤ). EndsEarly (filter z) had left held holds fault) same ended
+-- ---- the ends of the filters; the year stands in a call as a number of 32 bits
 
 pub TidiesAll-walked : (year y : ℤ) (had left held holds : Option (List ℕ)) (tally : Tally) (summary : Summary) → y ≡ year → WalksAll (tidying y) had left held holds tally
     → summary.lines ≡ held_count (tally.answered + tally.passed_over) → summary.refused ≡ tally.passed_over → TidiesAll year had left held holds summary
 TidiesAll-walked year y had left held holds tally summary same walked lines refused =
-    let whole : WalksAll (tidying year) had left held holds tally = subst (λ (z : ℤ). WalksAll (tidying z) had left held holds tally) same walked in
+    let whole = WalksAll-at tidying year y had left held holds tally same walked in
     (whole.0, whole.1, lines ∙ lines_counted (tidying year) had left held holds tally whole.0 whole.1 whole.2, refused ∙ whole.2.1)
 
 pub FindsAll-walked : (year y : ℤ) (had left held holds : Option (List ℕ)) (tally : Tally) (counts : Changed) → y ≡ year → WalksAll (finding y) had left held holds tally
     → counts.lines ≡ held_count (tally.answered + tally.passed_over) → counts.changed ≡ tally.answered → FindsAll year had left held holds counts
 FindsAll-walked year y had left held holds tally counts same walked lines changed =
-    let whole : WalksAll (finding year) had left held holds tally = subst (λ (z : ℤ). WalksAll (finding z) had left held holds tally) same walked in
+    let whole = WalksAll-at finding year y had left held holds tally same walked in
     (whole.0, whole.1, lines ∙ lines_counted (finding year) had left held holds tally whole.0 whole.1 whole.2, changed ∙ whole.2.0)
+
+-- exactly one of two answers to a line is written
+one_written : (year : ℤ) (line : List ℕ) (settled refused : Answer) → (tidying year).Answers line settled → (refusing year).Answers line refused → is_answered refused ≡ is_passed_over settled
+one_written year line (Written bytes) (Written other) (valid, (text, given, same)) (none, whole) = absurd (none valid text given)
+one_written year line (Written bytes) (Marked other) s r = absurd r
+one_written year line (Written bytes) Omitted s r = refl
+one_written year line (Marked bytes) refused s r = absurd s
+one_written year line Omitted (Written other) s r = refl
+one_written year line Omitted (Marked other) s r = absurd r
+one_written year line Omitted Omitted none (bytes, (valid, (text, given, same))) = absurd (none valid text given)
+
+shared_out : (year : ℤ) (lines : List (List ℕ)) (refused : List Answer) → AreAnswers (refusing year) lines refused → SharesOut year lines refused
+shared_out year [] [] r [] s = tt
+shared_out year [] [] r (x ∷ settled) s = absurd s
+shared_out year [] (a ∷ refused) r settled s = absurd r
+shared_out year (line ∷ lines) [] r settled s = absurd r
+shared_out year (line ∷ lines) (a ∷ refused) r [] s = absurd s
+shared_out year (line ∷ lines) (a ∷ refused) r (x ∷ settled) s = (one_written year line x a s.0 r.0, shared_out year lines refused r.1 settled s.1)
+
+pub RefusesAll-walked : (year y : ℤ) (had left held holds : Option (List ℕ)) (tally : Tally) (summary : Summary) → y ≡ year → WalksAll (refusing y) had left held holds tally
+    → summary.lines ≡ held_count (tally.answered + tally.passed_over) → summary.refused ≡ tally.answered → RefusesAll year had left held holds summary
+RefusesAll-walked year y had left held holds tally summary same walked lines refused =
+    let whole = WalksAll-at refusing year y had left held holds tally same walked in
+    (whole.0, whole.1, shared_out year whole.1.lines whole.0 whole.1.answered, lines ∙ lines_counted (refusing year) had left held holds tally whole.0 whole.1 whole.2, refused ∙ whole.2.0)
 
 -- ---- one line
 
 -- the settled text of a line was added
-pub AddsAnswer-tidied : (year y : ℤ) (text old new bytes : List ℕ) → y ≡ year → IsUtf8 bytes → IsTidied y text (Some (chars bytes)) → new ≡ old ++ (bytes ++ 10 ∷ [])
-    → AddsAnswer (tidying year) text old new true
-AddsAnswer-tidied year y text old new bytes same valid given added =
-    (chars bytes, subst (λ (z : ℤ). IsTidied z text (Some (chars bytes))) same given, added ∙ ap (λ (l : List ℕ). old ++ (l ++ 10 ∷ [])) (sym (encodes-chars bytes valid)))
+pub AddsAnswer-tidied : (year y : ℤ) (line old new bytes : List ℕ) → y ≡ year → IsUtf8 line → IsUtf8 bytes → IsTidied y (chars line) (Some (chars bytes)) → new ≡ old ++ (bytes ++ 10 ∷ [])
+    → AddsAnswer (tidying year) line old new true
+AddsAnswer-tidied year y line old new bytes same utf8 valid given added =
+    (Written bytes, (utf8, (chars bytes, subst (λ (z : ℤ). IsTidied z (chars line) (Some (chars bytes))) same given, sym (encodes-chars bytes valid))), added, refl)
 
 -- nothing was added for a line that has none
-pub AddsAnswer-refused : (year y : ℤ) (text old new : List ℕ) → y ≡ year → IsTidied y text None → new ≡ old → AddsAnswer (tidying year) text old new false
-AddsAnswer-refused year y text old new same none kept = (subst (λ (z : ℤ). IsTidied z text None) same none, kept)
+pub AddsAnswer-untidied : (year y : ℤ) (line old new : List ℕ) → y ≡ year → IsTidied y (chars line) None → new ≡ old → AddsAnswer (tidying year) line old new false
+AddsAnswer-untidied year y line old new same none kept = (Omitted, (λ utf8. subst (λ (z : ℤ). IsTidied z (chars line) None) same none), kept ∙ sym (append-nil old), refl)
+
+-- nor for one that is no UTF-8
+pub AddsAnswer-other : (Answers : List ℕ → Option (List ℕ) → Type 0) (Wants : List ℕ → Type 0) (line old : List ℕ) → ¬ (IsUtf8 line) → AddsAnswer record { Answers = of_texts Answers; Wants = Wants } line old old false
+AddsAnswer-other Answers Wants line old other = (Omitted, (λ utf8. absurd (other utf8)), sym (append-nil old), refl)
+
+-- a line that has no settled text was added as it came
+pub AddsAnswer-refused : (year y : ℤ) (line old new : List ℕ) → y ≡ year → IsTidied y (chars line) None → new ≡ old ++ (line ++ 10 ∷ []) → AddsAnswer (refusing year) line old new true
+AddsAnswer-refused year y line old new same none added =
+    (Written line, ((λ utf8. subst (λ (z : ℤ). IsTidied z (chars line) None) same none), refl), added, refl)
+
+pub AddsAnswer-other_refused : (year : ℤ) (line old new : List ℕ) → ¬ (IsUtf8 line) → new ≡ old ++ (line ++ 10 ∷ []) → AddsAnswer (refusing year) line old new true
+AddsAnswer-other_refused year line old new other added = (Written line, ((λ utf8. absurd (other utf8)), refl), added, refl)
+
+-- nothing was added for one that has
+pub AddsAnswer-settled : (year y : ℤ) (line old text : List ℕ) → y ≡ year → IsUtf8 line → IsTidied y (chars line) (Some text) → AddsAnswer (refusing year) line old old false
+AddsAnswer-settled year y line old text same utf8 given =
+    (Omitted, (encode_utf8_all text, (utf8, (text, subst (λ (z : ℤ). IsTidied z (chars line) (Some text)) same given, refl))), sym (append-nil old), refl)
 
 -- a text that has a round has a reading
 has_message : (year : ℤ) (text u : List ℕ) (n : ℕ) → IsRound Either (in_utc year) text (suc n) u → IsUnreadable Either (in_utc year) text → ⊥
@@ -106,10 +123,16 @@ settled_in year text (Err fault) into h = h
 
 -- a line was added as it came
 pub AddsAnswer-changed : (year y : ℤ) (line old new : List ℕ) (differs : Bool) → y ≡ year → IsUtf8 line → differs ≡ true → IsTrue differs ↔ ReadsDifferently Either (in_utc y) (chars line) → new ≡ old ++ (line ++ 10 ∷ [])
-    → AddsAnswer (finding year) (chars line) old new differs
+    → AddsAnswer (finding year) line old new differs
 AddsAnswer-changed year y line old new true same valid is tells added =
-    (chars line, (subst (λ (z : ℤ). ReadsDifferently Either (in_utc z) (chars line)) same (tells.0 is), refl), added ∙ ap (λ (l : List ℕ). old ++ (l ++ 10 ∷ [])) (sym (encodes-chars line valid)))
+    (Written line, (valid, (chars line, (subst (λ (z : ℤ). ReadsDifferently Either (in_utc z) (chars line)) same (tells.0 is), refl), sym (encodes-chars line valid))), added, refl)
 AddsAnswer-changed year y line old new false same valid is tells added = cc
+
+-- nothing was added for a line that is read as ever
+pub AddsAnswer-unchanged : (year y : ℤ) (line old : List ℕ) (differs : Bool) → y ≡ year → differs ≡ false → IsTrue differs ↔ ReadsDifferently Either (in_utc y) (chars line) → AddsAnswer (finding year) line old old differs
+AddsAnswer-unchanged year y line old true same is tells = cc
+AddsAnswer-unchanged year y line old false same is tells =
+    (Omitted, (λ utf8 reads. absurd (false≢true (tells.1 (subst (λ (z : ℤ). ReadsDifferently Either (in_utc z) (chars line)) (sym same) reads)))), sym (append-nil old), refl)
 
 -- an answer that can be no value, and no fault but this one
 pub is_invalid : {X E : Type 0} {P : X → Type 0} {Q : E → Type 0} {U : Type 0} {fault : E} (r : Result X E) → MatchResult r P Q → ((x : X) → P x → U → ⊥) → ((e : E) → Q e → U → e ≡ fault) → U → r ≡ Err fault

@@ -1,9 +1,3 @@
-pub mod LaneLemmas
-pub mod LineLemmas
-pub mod AnswerLemmas
-pub mod BlockLemmas
-pub mod WriteLemmas
-pub mod WalkLemmas
 pub mod FilterLemmas
 pub mod ArgumentLemmas
 pub mod AgainLemmas

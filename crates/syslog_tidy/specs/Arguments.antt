@@ -1,32 +1,35 @@
 -- The program's arguments: this project's own choice.
-use Rattle.std.specs.Prelude.{◌≡◌, ℕ, ℤ, Bool, true, false, ◌≤◌, List, [], ◌∷◌, length, All, pos}
-use Rattle.std.specs.Char.{IsAsciiDigit}
-use Rattle.std.specs.Str.Parse.{digits_value}
+use Rattle.std.specs.Prelude.{◌≡◌, ◌⊎◌, ℕ, ℤ, List, [], ◌∷◌, ◌++◌}
+use Rattle.syslog_lines.specs.Arguments.{AreYearWords, help_word, version_word}
+use Rattle.syslog_tidy.specs.declared.args.Output.{Output}
+use Rattle.syslog_tidy.specs.declared.args.Output.TheVariants.{Settled, Changed, Refused}
 use Rattle.syslog_tidy.specs.declared.args.Task.{Task}
-use Rattle.syslog_tidy.specs.declared.args.Task.TheVariants.{Version, Lines}
-
--- one to four ASCII digits
-abbrev pub IsYear : List ℕ → Type 0
-IsYear text = (1 ≤ length text) × (length text ≤ 4) × All IsAsciiDigit text
-
--- the text names this year
-abbrev pub NamesYear : List ℕ → ℤ → Type 0
-NamesYear text year = IsYear text × (year ≡ pos (digits_value 10 text))
+use Rattle.syslog_tidy.specs.declared.args.Task.TheVariants.{Help, Version, Lines}
 
 -- the word `--changed`
 abbrev pub changed_word : List ℕ
-changed_word = 45 ∷ (45 ∷ (99 ∷ (104 ∷ (97 ∷ (110 ∷ (103 ∷ (101 ∷ (100 ∷ []))))))))
+changed_word = 45 ∷ 45 ∷ 99 ∷ 104 ∷ 97 ∷ 110 ∷ 103 ∷ 101 ∷ 100 ∷ []
 
--- the word `--version`
-abbrev pub version_word : List ℕ
-version_word = 45 ∷ (45 ∷ (118 ∷ (101 ∷ (114 ∷ (115 ∷ (105 ∷ (111 ∷ (110 ∷ []))))))))
+-- the word `--refused`
+abbrev pub refused_word : List ℕ
+refused_word = 45 ∷ 45 ∷ 114 ∷ 101 ∷ 102 ∷ 117 ∷ 115 ∷ 101 ∷ 100 ∷ []
 
--- the words are a year alone, or `--changed` and a year
-abbrev pub AreArguments : List (List ℕ) → Bool → ℤ → Type 0
-AreArguments words false year = (word : List ℕ) × (words ≡ word ∷ []) × NamesYear word year
-AreArguments words true year = (word : List ℕ) × (words ≡ changed_word ∷ (word ∷ [])) × NamesYear word year
+-- the flag that asks for an output, if any
+abbrev pub flags_of : Output → List (List ℕ)
+flags_of Settled = []
+flags_of Changed = changed_word ∷ []
+flags_of Refused = refused_word ∷ []
+
+-- no other output's flag begins the words
+abbrev pub OnlyFlag : List (List ℕ) → Output → Type 0
+OnlyFlag words output = (other : Output) (behind : List (List ℕ)) → words ≡ flags_of other ++ behind → (other ≡ output) ⊎ (other ≡ Settled)
+
+-- the words are a flag, if any, and those that name a year
+abbrev pub AreArguments : List (List ℕ) → Output → ℤ → Type 0
+AreArguments words output year = (behind : List (List ℕ)) × (words ≡ flags_of output ++ behind) × AreYearWords behind year
 
 -- the words ask for this
 abbrev pub AsksFor : List (List ℕ) → Task → Type 0
+AsksFor words Help = words ≡ help_word ∷ []
 AsksFor words Version = words ≡ version_word ∷ []
-AsksFor words (Lines is_changed year) = AreArguments words is_changed year
+AsksFor words (Lines output year) = AreArguments words output year

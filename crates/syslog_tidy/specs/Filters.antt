@@ -1,16 +1,24 @@
--- What the program's two filters answer, and what they count: this project's own choice.
-use Rattle.std.specs.Prelude.{◌≡◌, ℕ, ℤ, List, Option, Some, None, length, count_by, is_none, is_some}
+-- What the program's three filters answer, and what they count: this project's own choice.
+use Rattle.std.specs.Prelude.{◌≡◌, ℕ, ℤ, List, Option, Some, None, length, count_by, IsUtf8, encode_utf8_all, ⊤}
 use Rattle.std.specs.Io.KnownBytes.{Appends}
+use Rattle.std.specs.List.{AllZip}
+use Rattle.std.specs.Str.{chars}
 use Rattle.syslog_loose.specs.Dash.{ReadsDifferently}
 use Rattle.syslog_loose.specs.Reading.{IsUnreadable, in_utc}
 use Rattle.syslog_loose.specs.Settling.{IsFirstSettled}
 use Rattle.syslog_loose.specs.declared.variant.Variant.TheVariants.{Either}
-use Rattle.syslog_tidy.specs.Count.{held_count}
-use Rattle.syslog_tidy.specs.Lines.{IsLines}
-use Rattle.syslog_tidy.specs.Output.{AreAnswers, Filter, output_of}
-use Rattle.syslog_tidy.specs.Walk.{FiltersAll}
-use Rattle.syslog_tidy.specs.declared.summary.Changed.{Changed}
-use Rattle.syslog_tidy.specs.declared.summary.Summary.{Summary}
+use Rattle.syslog_lines.specs.Count.{held_count}
+use Rattle.syslog_lines.specs.Lines.{IsLines}
+use Rattle.syslog_lines.specs.Output.{Answer, AreAnswers, Filter, Marked, Omitted, Written, is_answered, is_passed_over, output_of}
+use Rattle.syslog_lines.specs.Walk.{FiltersAll}
+use Rattle.syslog_tidy.specs.declared.counts.Changed.{Changed}
+use Rattle.syslog_lines.specs.declared.summary.Summary.{Summary}
+
+-- the answer to a line by that to its text: encoded, or none where there is none or the line is no UTF-8
+abbrev pub of_texts : (List ℕ → Option (List ℕ) → Type 0) → List ℕ → Answer → Type 0
+of_texts Answers line (Written bytes) = IsUtf8 line × ((text : List ℕ) × Answers (chars line) (Some text) × (bytes ≡ encode_utf8_all text))
+of_texts Answers line (Marked bytes) = ⊥
+of_texts Answers line Omitted = IsUtf8 line → Answers (chars line) None
 
 -- the answer is the first settled round of the text in this year, or none where no round of it is settled
 abbrev pub IsTidied : ℤ → List ℕ → Option (List ℕ) → Type 0
@@ -19,7 +27,7 @@ IsTidied year text None = (answer : List ℕ) → IsFirstSettled Either (in_utc 
 
 -- memory may be wanted for a text that has a reading
 abbrev pub tidying : ℤ → Filter
-tidying year = record { Answers = IsTidied year; Wants = λ text. ¬ (IsUnreadable Either (in_utc year) text) }
+tidying year = record { Answers = of_texts (IsTidied year); Wants = λ line. IsUtf8 line × (¬ (IsUnreadable Either (in_utc year) (chars line))) }
 
 -- the answer is the text itself where it is read differently in this year under the two rules of the dash, or none
 abbrev pub IsChanged : ℤ → List ℕ → Option (List ℕ) → Type 0
@@ -28,16 +36,26 @@ IsChanged year text None = ¬ (ReadsDifferently Either (in_utc year) text)
 
 -- memory may be wanted for a text that has an answer
 abbrev pub finding : ℤ → Filter
-finding year = record { Answers = IsChanged year; Wants = λ text. ¬ (IsChanged year text None) }
+finding year = record { Answers = of_texts (IsChanged year); Wants = λ line. IsUtf8 line × (¬ (IsChanged year (chars line) None)) }
+
+-- the answer is the line itself where nothing is written for it by `tidying`, and none where something is
+abbrev pub IsRefused : ℤ → List ℕ → Answer → Type 0
+IsRefused year line (Written bytes) = (tidying year).Answers line Omitted × (bytes ≡ line)
+IsRefused year line (Marked bytes) = ⊥
+IsRefused year line Omitted = (bytes : List ℕ) × (tidying year).Answers line (Written bytes)
+
+-- memory may be wanted for any line
+abbrev pub refusing : ℤ → Filter
+refusing year = record { Answers = IsRefused year; Wants = λ line. ⊤ }
 
 -- all was read and written, and the summary counts the lines and those without an answer
 abbrev pub TidiesAll : ℤ → Option (List ℕ) → Option (List ℕ) → Option (List ℕ) → Option (List ℕ) → Summary → Type 0
-TidiesAll year had left held holds summary = (answers : List (Option (List ℕ))) × (all : FiltersAll (tidying year) had left held holds answers)
-    × (summary.lines ≡ held_count (length all.lines)) × (summary.refused ≡ held_count (count_by is_none answers))
+TidiesAll year had left held holds summary = (answers : List Answer) × (all : FiltersAll (tidying year) had left held holds answers)
+    × (summary.lines ≡ held_count (length all.lines)) × (summary.refused ≡ held_count (count_by is_passed_over answers))
 
 -- these bytes are what is written in the year for the lines of some bytes
 abbrev pub IsOutput : ℤ → List ℕ → Type 0
-IsOutput year output = (bytes : List ℕ) × (lines : List (List ℕ)) × (answers : List (Option (List ℕ)))
+IsOutput year output = (bytes : List ℕ) × (lines : List (List ℕ)) × (answers : List Answer)
     × IsLines bytes lines × AreAnswers (tidying year) lines answers × (output ≡ output_of answers)
 
 -- where the input is what was written in the same year, it was written again, and no line was refused
@@ -46,5 +64,16 @@ WritesAgain year had held holds summary = (output : List ℕ) → had ≡ Some o
 
 -- all was read and written, and the counts are those of the lines and of those with an answer
 abbrev pub FindsAll : ℤ → Option (List ℕ) → Option (List ℕ) → Option (List ℕ) → Option (List ℕ) → Changed → Type 0
-FindsAll year had left held holds counts = (answers : List (Option (List ℕ))) × (all : FiltersAll (finding year) had left held holds answers)
-    × (counts.lines ≡ held_count (length all.lines)) × (counts.changed ≡ held_count (count_by is_some answers))
+FindsAll year had left held holds counts = (answers : List Answer) × (all : FiltersAll (finding year) had left held holds answers)
+    × (counts.lines ≡ held_count (length all.lines)) × (counts.changed ≡ held_count (count_by is_answered answers))
+
+-- of each of these lines exactly one is written: what `tidying` answers, or the line as it came
+abbrev pub SharesOut : ℤ → List (List ℕ) → List Answer → Type 0
+SharesOut year lines refused =
+    (settled : List Answer) → AreAnswers (tidying year) lines settled → AllZip (λ s r. is_answered r ≡ is_passed_over s) settled refused
+
+-- all was read and written, the lines are shared out with those that `tidying` answers, and the summary counts the lines
+-- and those that were written
+abbrev pub RefusesAll : ℤ → Option (List ℕ) → Option (List ℕ) → Option (List ℕ) → Option (List ℕ) → Summary → Type 0
+RefusesAll year had left held holds summary = (answers : List Answer) × (all : FiltersAll (refusing year) had left held holds answers)
+    × SharesOut year all.lines answers × (summary.lines ≡ held_count (length all.lines)) × (summary.refused ≡ held_count (count_by is_answered answers))

@@ -1,11 +1,2 @@
-pub mod Lines
-pub mod Search
-pub mod Size
-pub mod Block
-pub mod Count
-pub mod Output
-pub mod Write
-pub mod Walk
 pub mod Filters
 pub mod Arguments
-pub mod Report

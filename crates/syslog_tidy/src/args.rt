@@ -1,70 +1,72 @@
 //! The program's arguments.
-ghost use Rattle.std.specs.Prelude.{◌≡◌, ◌↔◌, ◌∷◌, [], Bool, IfSome, IsTrue, List, MatchOption, ℕ, ℤ, drop, map, pos, string_bytes};
-ghost use Rattle.std.specs.Str.Parse.{digits_value};
+ghost use Rattle.std.specs.Prelude.{◌≡◌, ◌++◌, IfSome, List, MatchOption, ℕ, ℤ, drop, map, string_bytes};
 ghost use Rattle.std.specs.Vec.Iter.{into_iter_items};
-ghost use Rattle.syslog_tidy.specs.Arguments.{AreArguments, AsksFor, IsYear, version_word};
+ghost use Rattle.syslog_tidy.specs.Arguments.{AreArguments, AsksFor, OnlyFlag, flags_of};
+ghost use Rattle.syslog_tidy.specs.declared.args.Output.{Output};
 ghost use Rattle.syslog_tidy.specs.declared.args.Task.{Task};
 
 use std::env;
 use std::env::Args;
+use syslog_lines::{is_alone, read_year_words};
 
-/// The year that a text of 1 to 4 ASCII digits names; none where the text is no such text.
-pub fn read_year(text: &str) -> Option<i32>
-    ensures { MatchOption result (¬ (IsYear text.now)) (λ year. IsYear text.now × (year ≡ pos (digits_value 10 text.now))) }
-{
-    if !is_year(text) {
-        return None;
-    }
-    text.parse::<i32>().ok()
-}
-
-fn is_year(text: &str) -> bool
-    ensures { IsTrue result ↔ IsYear text.now }
-{
-    (1..=4).contains(&text.len()) && text.bytes().all(|byte| byte.is_ascii_digit())
-}
-
-/// Whether the words after the program's name begin with `--changed`, and the year that they name: the one word, or the
-/// word after `--changed`. None for all other words.
-pub fn read_args(args: &[&str]) -> Option<(bool, i32)>
-    ensures { MatchOption result ((is_changed : Bool) (year : ℤ) → ¬ (AreArguments (map (λ arg. arg.now) args.now) is_changed year))
-        (λ x. AreArguments (map (λ arg. arg.now) args.now) x.0 x.1) }
-{
-    match args {
-        [year] => Some((false, read_year(year)?)),
-        [word, year] if *word == "--changed" => Some((true, read_year(year)?)),
-        _ => None,
-    }
+/// Which lines are wanted.
+#[derive(Clone, Copy, PartialEq, Eq)]
+pub enum Output {
+    /// Each line that has a settled text, as that text.
+    Settled,
+    /// Each that is read differently under the two rules of the dash, as it came.
+    Changed,
+    /// Each that has no settled text, as it came.
+    Refused,
 }
 
 /// What the program is asked for.
 #[derive(Clone, Copy)]
 pub enum Task {
+    /// How it is called.
+    Help,
     /// Its version.
     Version,
-    /// Whether only the lines that changed are wanted, and the year.
-    Lines(bool, i32),
+    /// These lines, in this year.
+    Lines(Output, i32),
 }
 
-/// What the words after the program's name ask for: `--version` alone, or what `read_args` makes of them.
+// The output that the first word asks for, and the words behind the flag; all of them where there is none.
+fn read_flag<'a, 'b>(args: &'a [&'b str]) -> (Output, &'a [&'b str])
+    ensures split { map (λ arg. arg.now) args.now ≡ flags_of result.0 ++ map (λ arg. arg.now) result.1.now }
+    ensures only { OnlyFlag (map (λ arg. arg.now) args.now) result.0 }
+{
+    match args {
+        [word, rest @ ..] if *word == "--changed" => (Output::Changed, rest),
+        [word, rest @ ..] if *word == "--refused" => (Output::Refused, rest),
+        _ => (Output::Settled, args),
+    }
+}
+
+/// The output and the year that the words ask for: `YEAR`, `--changed YEAR` or `--refused YEAR`, where `--` may stand before
+/// the year. None for all other words.
+pub fn read_args(args: &[&str]) -> Option<(Output, i32)>
+    ensures { MatchOption result ((output : Output) (year : ℤ) → ¬ (AreArguments (map (λ arg. arg.now) args.now) output year))
+        (λ x. AreArguments (map (λ arg. arg.now) args.now) x.0 x.1) }
+{
+    let (output, words) = read_flag(args);
+    let year = read_year_words(words)?;
+    Some((output, year))
+}
+
+/// What the words after the program's name ask for: `--help` or `--version` alone, or what `read_args` makes of them.
 pub fn read_task(args: &[&str]) -> Option<Task>
     ensures { MatchOption result ((task : Task) → ¬ (AsksFor (map (λ arg. arg.now) args.now) task))
         (λ task. AsksFor (map (λ arg. arg.now) args.now) task) }
 {
-    if is_version(args) {
+    if is_alone(args, "--help") {
+        return Some(Task::Help);
+    }
+    if is_alone(args, "--version") {
         return Some(Task::Version);
     }
-    let (is_changed, year) = read_args(args)?;
-    Some(Task::Lines(is_changed, year))
-}
-
-fn is_version(args: &[&str]) -> bool
-    ensures { IsTrue result ↔ (map (λ arg. arg.now) args.now ≡ version_word ∷ []) }
-{
-    match args {
-        [word] => *word == "--version",
-        _ => false,
-    }
+    let (output, year) = read_args(args)?;
+    Some(Task::Lines(output, year))
 }
 
 /// What `read_task` makes of the program's arguments; none where they can't be had. Which words these are no clause says, since
@@ -85,8 +87,11 @@ fn read_words(mut words: Args) -> Option<Task>
     let Some(second) = words.next() else {
         return read_task(&[first.as_str()]);
     };
+    let Some(third) = words.next() else {
+        return read_task(&[first.as_str(), second.as_str()]);
+    };
     if words.next().is_some() {
         return None;
     }
-    read_task(&[first.as_str(), second.as_str()])
+    read_task(&[first.as_str(), second.as_str(), third.as_str()])
 }

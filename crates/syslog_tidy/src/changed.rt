@@ -6,14 +6,13 @@ ghost use Rattle.syslog_loose.specs.Dash.{ReadsDifferently};
 ghost use Rattle.syslog_loose.specs.Reading.{in_utc};
 ghost use Rattle.syslog_loose.specs.declared.variant.Variant.TheVariants.{Either};
 ghost use Rattle.syslog_tidy.specs.Filters.{FindsAll, finding};
-ghost use Rattle.syslog_tidy.specs.Walk.{EndsEarly, FailedAs};
+ghost use Rattle.syslog_lines.specs.Walk.{EndsEarly, FailedAs};
 
-use crate::filter::{LineFilter, push_line};
-use crate::summary::{Changed, RunFault};
-use crate::walk::walk;
-use crate::watched::Watched;
+use crate::counts::Changed;
 use std::alloc::{AllocError, Global};
 use std::io::{Read, Write};
+use syslog_lines::walk::walk;
+use syslog_lines::{LineFilter, RunFault, Watched, push_line};
 use syslog_loose::{IncompleteDate, TimeZone, Variant, reads_differently};
 
 /// Reads lines to the end of the input, and writes, as it came, each that is read differently under the two rules of the
@@ -60,9 +59,13 @@ impl LineFilter for Changes {
     ) -> Result<bool, AllocError> {
         let is_changed = is_line_changed(alloc, line, self.year)?;
         if is_changed {
-            push_line(output, line)?;
+            push_line(output, line.as_bytes())?;
         }
         Ok(is_changed)
+    }
+
+    fn answer_other(&self, _: Global, _: &[u8], _: &mut Vec<u8>) -> Result<bool, AllocError> {
+        Ok(false)
     }
 }
 

@@ -1,48 +1,53 @@
-//! Writes each syslog line of standard input to standard output in one form, or those that once had another.
+//! Writes each syslog line of standard input to standard output in one form, or those that once had another, or those that
+//! are no message.
 //!
 //! `syslog_tidy 2019` answers the line `<34>Oct 11 22:14:15 mymachine app[323]: a message` with
 //! `<34> 2019-10-11T22:14:15+00:00 mymachine app[323]: a message`.
 #![tactic(auto)]
 
-mod answer;
 mod args;
-mod block;
 mod changed;
-mod filter;
-mod lines;
+mod counts;
+mod refused;
 mod report;
 mod run;
-mod search;
-mod summary;
-mod walk;
-mod watched;
 
-use args::{Task, arguments};
+use args::{Output, Task, arguments};
 use changed::changed;
-use report::{report, report_changed, usage, version};
+use refused::refused;
+use report::{help, report_changed, usage, version};
 use run::run;
 use std::process::ExitCode;
-use watched::Watched;
+use syslog_lines::Watched;
+use syslog_lines::report::report;
 
 #[cfg(test)]
 mod tests;
 
-// Answers each line of standard input, or those that changed, and then the exit status.
-fn answer_input(rt: &HostRuntime, is_changed: bool, year: i32) -> u8 {
+// Writes the lines of standard input that are wanted, and then answers the exit status.
+fn answer_input(rt: &HostRuntime, output: Output, year: i32) -> u8 {
     let mut reader = Watched::new(rt.stdin());
     let mut writer = Watched::new(rt.stdout());
-    if is_changed {
-        let outcome = changed(rt.alloc(), &mut reader, &mut writer, year);
-        report_changed(&outcome, &mut rt.stderr())
-    } else {
-        let outcome = run(rt.alloc(), &mut reader, &mut writer, year);
-        report(&outcome, &mut rt.stderr())
+    match output {
+        Output::Settled => {
+            let outcome = run(rt.alloc(), &mut reader, &mut writer, year);
+            report(&outcome, &mut rt.stderr())
+        }
+        Output::Changed => {
+            let outcome = changed(rt.alloc(), &mut reader, &mut writer, year);
+            report_changed(&outcome, &mut rt.stderr())
+        }
+        Output::Refused => {
+            let outcome = refused(rt.alloc(), &mut reader, &mut writer, year);
+            report(&outcome, &mut rt.stderr())
+        }
     }
 }
 
 fn main(rt: HostRuntime) -> ExitCode {
     let status = match arguments(&rt) {
-        Some(Task::Lines(is_changed, year)) => answer_input(&rt, is_changed, year),
+        Some(Task::Lines(output, year)) => answer_input(&rt, output, year),
+        Some(Task::Help) => help(&mut rt.stdout(), &mut rt.stderr()),
         Some(Task::Version) => version(&mut rt.stdout(), &mut rt.stderr()),
         None => usage(&mut rt.stderr()),
     };

@@ -1,21 +1,28 @@
-//! What the program says at its end.
-ghost use Rattle.std.specs.Prelude.{◌≡◌, ◌==◌, ◌⊎◌, if◌then◌else◌};
-ghost use Rattle.syslog_tidy.specs.Report.{status_of};
+//! What the program says at its end, and of itself.
+ghost use Rattle.std.specs.Prelude.{◌≡◌, ◌⊎◌};
+ghost use Rattle.syslog_lines.specs.Report.{status_of};
 
-use crate::summary::{Changed, RunFault, Summary};
+use crate::counts::Changed;
 use std::io::Write;
+use syslog_lines::RunFault;
+use syslog_lines::report::{refuse, report_count, report_fault, say};
 use syslog_loose::VERSION;
 
-/// Writes how many lines were refused, or the fault's text, and answers the exit status: 0 where no line was refused,
-/// 1 where some were, 2 after a fault. Where none was refused nothing is written. A failed write is passed over.
-pub fn report<W: Write>(outcome: &Result<Summary, RunFault>, errors: &mut W) -> u8
-    ensures { result ≡ status_of (λ summary. summary.refused) outcome.now }
-{
-    match outcome {
-        Ok(summary) => report_count("refused", summary.refused, summary.lines, errors),
-        Err(fault) => report_fault(*fault, errors),
-    }
-}
+/// How the program is called.
+const USAGE: &str =
+    "usage: syslog_tidy [--changed | --refused] [--] YEAR, or --help, or --version\n";
+
+const HELP: &str = "usage: syslog_tidy [--changed | --refused] [--] YEAR, or --help, or --version
+
+Reads lines of syslog from standard input, and writes to standard output:
+  YEAR            each line that is a message, in its printed form, settled
+  --changed YEAR  as they came, the lines that are read otherwise since a dash
+                  is a list of no elements only before a blank
+  --refused YEAR  as they came, the lines that are no message
+YEAR, of one to four digits, is that of dates that have none; these are in UTC.
+
+The status is 0; 1 where lines were refused, or changed; 2 after a fault.
+";
 
 /// Writes how many lines changed, or the fault's text, and answers the exit status: 0 where no line changed, 1 where some
 /// did, 2 after a fault. Where none changed nothing is written. A failed write is passed over.
@@ -32,8 +39,14 @@ pub fn report_changed<W: Write>(outcome: &Result<Changed, RunFault>, errors: &mu
 pub fn usage<W: Write>(errors: &mut W) -> u8
     ensures { result ≡ 2 }
 {
-    let _ = errors.write_all(b"usage: syslog_tidy [--changed] YEAR\n");
-    2
+    refuse(USAGE, errors)
+}
+
+/// Writes how the program is called, and answers the exit status: 0, or 2 where that failed, with the fault's text.
+pub fn help<W: Write, E: Write>(out: &mut W, errors: &mut E) -> u8
+    ensures { (result ≡ 0) ⊎ (result ≡ 2) }
+{
+    say(HELP, out, errors)
 }
 
 /// Writes the program's name and its version, and answers the exit status: 0, or 2 where that failed, with the fault's text.
@@ -44,23 +57,4 @@ pub fn version<W: Write, E: Write>(out: &mut W, errors: &mut E) -> u8
         Ok(()) => 0,
         Err(_) => report_fault(RunFault::Write, errors),
     }
-}
-
-// Says what became of so many of the lines, where there are such.
-fn report_count<W: Write>(what: &str, count: u64, lines: u64, errors: &mut W) -> u8
-    ensures { result ≡ (if count == 0 then 0 else 1) }
-{
-    if count == 0 {
-        return 0;
-    }
-    let _ = writeln!(errors, "{what} {count} of {lines} lines");
-    1
-}
-
-// Says why a filter ended early.
-fn report_fault<W: Write>(fault: RunFault, errors: &mut W) -> u8
-    ensures { result ≡ 2 }
-{
-    let _ = writeln!(errors, "{fault}");
-    2
 }

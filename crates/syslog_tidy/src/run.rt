@@ -5,14 +5,12 @@ ghost use Rattle.syslog_loose.specs.Reading.{IsUnreadable, in_utc};
 ghost use Rattle.syslog_loose.specs.declared.fault.ParseFault.TheVariants.{Invalid};
 ghost use Rattle.syslog_loose.specs.declared.variant.Variant.TheVariants.{Either};
 ghost use Rattle.syslog_tidy.specs.Filters.{IsTidied, TidiesAll, WritesAgain, tidying};
-ghost use Rattle.syslog_tidy.specs.Walk.{EndsEarly, FailedAs};
+ghost use Rattle.syslog_lines.specs.Walk.{EndsEarly, FailedAs};
 
-use crate::filter::{LineFilter, push_line};
-use crate::summary::{RunFault, Summary};
-use crate::walk::walk;
-use crate::watched::Watched;
 use std::alloc::{AllocError, Global};
 use std::io::{Read, Write};
+use syslog_lines::walk::walk;
+use syslog_lines::{LineFilter, RunFault, Summary, Watched, push_line};
 use syslog_loose::{IncompleteDate, ParseFault, TimeZone, Variant, settle_into};
 
 /// Reads lines to the end of the input, and writes the settled text of each that has one, in the given year: its first
@@ -66,17 +64,26 @@ impl LineFilter for Tidy {
     ) -> Result<bool, AllocError> {
         match settle_line(alloc, line, self.year, text) {
             Ok(()) => {
-                push_line(output, text.as_str())?;
+                push_line(output, text.as_bytes())?;
                 Ok(true)
             }
             Err(ParseFault::Invalid) => Ok(false),
             Err(ParseFault::Memory) => Err(AllocError),
         }
     }
+
+    fn answer_other(&self, _: Global, _: &[u8], _: &mut Vec<u8>) -> Result<bool, AllocError> {
+        Ok(false)
+    }
 }
 
-// Writes the first settled round of a line, in a year, into `text`.
-fn settle_line(alloc: Global, line: &str, year: i32, text: &mut String) -> Result<(), ParseFault>
+/// Writes the first settled round of a line, in a year, into `text`.
+pub fn settle_line(
+    alloc: Global,
+    line: &str,
+    year: i32,
+    text: &mut String,
+) -> Result<(), ParseFault>
     ensures settles { MatchResult result
         (λ _. IsTidied year (chars line.now) (Some (chars (string_bytes text.new))))
         (λ fault. fault ≡ Invalid → IsTidied year (chars line.now) None) }

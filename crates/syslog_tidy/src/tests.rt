@@ -2,18 +2,19 @@
 ghost use Rattle.std.specs.Prelude.{◌≡◌, ◌≤◌, false};
 
 mod changed;
+mod refused;
 mod sizes;
 
-use crate::args::{Task, read_args, read_task, read_year};
-use crate::report::{report, usage, version};
+use crate::args::{Output, Task, read_args, read_task};
+use crate::report::{help, usage, version};
 use crate::run::run;
-use crate::summary::{RunFault, Summary};
-use crate::watched::Watched;
 use std::alloc::Global;
 use std::io;
 use std::io::{Error, ErrorKind, Read, Write};
 use std::process::Abort;
 use std::test::Fail;
+use syslog_lines::report::report;
+use syslog_lines::{RunFault, Summary, Watched, read_year};
 
 const MESSAGE: &str = "<34>1 2003-10-11T22:14:15.003Z mymachine.example.com su - ID47 - message";
 
@@ -369,29 +370,34 @@ fn years(rt: HostRuntime) {
 
 #[test]
 fn arguments(rt: HostRuntime) {
-    assert!(rt; read_args(&["2019"]) == Some((false, 2019)));
-    assert!(rt; read_args(&["--changed", "2019"]) == Some((true, 2019)));
+    assert!(rt; read_args(&["2019"]) == Some((Output::Settled, 2019)));
+    assert!(rt; read_args(&["--", "2019"]) == Some((Output::Settled, 2019)));
+    assert!(rt; read_args(&["--changed", "2019"]) == Some((Output::Changed, 2019)));
+    assert!(rt; read_args(&["--refused", "2019"]) == Some((Output::Refused, 2019)));
+    assert!(rt; read_args(&["--refused", "--", "2019"]) == Some((Output::Refused, 2019)));
     assert!(rt; read_args(&[]).is_none());
     assert!(rt; read_args(&["--changed"]).is_none());
     assert!(rt; read_args(&["--changed", "x"]).is_none());
+    assert!(rt; read_args(&["--changed", "--refused", "2019"]).is_none());
     assert!(rt; read_args(&["--Changed", "2019"]).is_none());
     assert!(rt; read_args(&["2019", "--changed"]).is_none());
+    assert!(rt; read_args(&["--", "--changed", "2019"]).is_none());
     assert!(rt; read_args(&["2019", "2019"]).is_none());
-    assert!(rt; read_args(&["--changed", "2019", "2019"]).is_none());
+    assert!(rt; read_args(&["--"]).is_none());
 }
 
 #[test]
 fn tasks(rt: HostRuntime) {
+    assert!(rt; matches!(read_task(&["--help"]), Some(Task::Help)));
     assert!(rt; matches!(read_task(&["--version"]), Some(Task::Version)));
-    assert!(rt; matches!(read_task(&["2019"]), Some(Task::Lines(false, 2019))));
     assert!(rt;
         matches!(
-            read_task(&["--changed", "2019"]),
-            Some(Task::Lines(true, 2019))
+            read_task(&["--refused", "2019"]),
+            Some(Task::Lines(Output::Refused, 2019))
         )
     );
     assert!(rt; read_task(&["--version", "2019"]).is_none());
-    assert!(rt; read_task(&["2019", "--version"]).is_none());
+    assert!(rt; read_task(&["--", "--help"]).is_none());
     assert!(rt; read_task(&["--Version"]).is_none());
     assert!(rt; read_task(&[]).is_none());
 }
@@ -428,7 +434,9 @@ fn reports(rt: HostRuntime) {
     expect_report(&rt, &Err(RunFault::Memory), 2, "out of memory\n");
     let mut errors = Taker::new(1024, NEVER, Wrong::Fails);
     assert!(rt; usage(&mut errors) == 2);
-    assert!(rt; errors.written() == "usage: syslog_tidy [--changed] YEAR\n".as_bytes());
+    assert!(rt;
+        errors.written().starts_with(b"usage: syslog_tidy [--changed | --refused] [--] YEAR, or ")
+    );
     let mut closed = Taker::new(1024, 1, Wrong::Fails);
     assert!(rt; report(&Err(RunFault::Read), &mut closed) == 2);
 }
@@ -442,5 +450,17 @@ fn says_its_version(rt: HostRuntime) {
     assert!(rt; errors.written() == "".as_bytes());
     let mut closed = Taker::new(1024, 1, Wrong::Fails);
     assert!(rt; version(&mut closed, &mut errors) == 2);
+    assert!(rt; errors.written() == "write failed\n".as_bytes());
+}
+
+#[test]
+fn says_how_it_is_called(rt: HostRuntime) {
+    let mut errors = Taker::new(1024, NEVER, Wrong::Fails);
+    let mut out = Taker::new(1024, NEVER, Wrong::Fails);
+    assert!(rt; help(&mut out, &mut errors) == 0);
+    assert!(rt; out.written().starts_with(b"usage: syslog_tidy "));
+    assert!(rt; errors.written() == "".as_bytes());
+    let mut closed = Taker::new(1024, 1, Wrong::Fails);
+    assert!(rt; help(&mut closed, &mut errors) == 2);
     assert!(rt; errors.written() == "write failed\n".as_bytes());
 }

@@ -1,10 +1,11 @@
 //! The lines that are read differently: worked lines, and readers and writers that fail.
 use super::{NEVER, Taker, Wrong, reader_of, writer_of};
 use crate::changed::changed;
+use crate::counts::Changed;
 use crate::report::report_changed;
-use crate::summary::{Changed, RunFault};
 use std::alloc::Global;
 use std::process::Abort;
+use syslog_lines::RunFault;
 
 /// Its message begins with a dash, before a character that is no blank.
 const DASHED: &str = "<34>Oct 11 22:14:15 mymachine app: -5 degrees";

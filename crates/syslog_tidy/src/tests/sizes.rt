@@ -1,12 +1,11 @@
 //! Long lines, much input and many calls: no clause refuses a body that claims a fault where none was.
 use super::{NEVER, THREE_PRINTED, reader_of};
 use crate::run::run;
-use crate::summary::Summary;
-use crate::watched::Watched;
 use std::alloc::Global;
 use std::io::Write;
 use std::process::Abort;
 use std::test::Fail;
+use syslog_lines::{Summary, Watched};
 
 /// Runs over the input, `step` bytes a read at most, and expects this output and these counts.
 fn expect_output(

@@ -1,0 +1,8 @@
+pub mod LaneLemmas
+pub mod LineLemmas
+pub mod AnswerLemmas
+pub mod BlockLemmas
+pub mod WriteLemmas
+pub mod WalkLemmas
+pub mod CountLemmas
+pub mod ArgumentLemmas

@@ -1,0 +1,15 @@
+use Rattle.std.proofs.Common.{◌≡◌, ◌++◌, take, drop, ap, sym, ◌∙◌, List, ℕ}
+use Rattle.syslog_lines.specs.Block.{cut_bytes}
+use Rattle.syslog_lines.proofs.BlockLemmas.{take-front}
+use Rattle.syslog_lines.proofs.block.Block.fill.Goals as goal
+
+pub returns-clause-ok : goal.returns-clause-ok
+returns-clause-ok g c =
+    let at = c.make_room.new.self.end in
+    let room = c.make_room.new.self.bytes.items in
+    let bytes = c.read_into.new.bytes.items in
+    let piece = take c.in-Ok.count (drop at bytes) in
+    let moved : cut_bytes c.make_room.new.self ≡ take at room = ap (λ (n : ℕ). drop n (take at room)) (c.in_ok-make_room.ensures.complete ∙ c.keep_cut.ensures.complete) in
+    let cut : cut_bytes c.args.self.now ≡ take at bytes =
+    sym c.keep_cut.ensures.cut ∙ sym c.in_ok-make_room.ensures.cut ∙ moved ∙ sym c.in-Ok.ensures.front in
+    (piece, c.in-Ok.ensures.ok, ap (λ (l : List ℕ). l ++ piece) cut ∙ take-front bytes at c.in-Ok.count ∙ sym c.take_in.ensures)

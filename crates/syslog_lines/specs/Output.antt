@@ -1,0 +1,79 @@
+-- What a filter answers to lines, and the bytes that it writes: this project's own choice.
+use Rattle.std.specs.Prelude.{◌≡◌, ◌+◌, ℕ, Bool, true, false, not, List, [], ◌∷◌, ◌++◌, count_by}
+use Rattle.std.specs.List.{AllZip, flat_map}
+use Rattle.syslog_lines.specs.declared.summary.Tally.{Tally}
+use Rattle.syslog_lines.specs.Count.{held_count}
+use Rattle.syslog_lines.specs.Lines.{IsLines}
+
+-- the answer to a line: these bytes are written for it; or they are, and the line counts as passed over; or nothing is
+pub data Answer : Type 0 where
+  Written : List ℕ → Answer
+  Marked : List ℕ → Answer
+  Omitted : Answer
+
+abbrev pub is_answered : Answer → Bool
+is_answered (Written bytes) = true
+is_answered (Marked bytes) = false
+is_answered Omitted = false
+
+abbrev pub is_passed_over : Answer → Bool
+is_passed_over answer = not (is_answered answer)
+
+-- what a filter does: how it answers a line, and for which lines it may want memory
+pub record Filter : Type 1 where
+  pub Answers : List ℕ → Answer → Type 0
+  pub Wants : List ℕ → Type 0
+
+-- each line's answer, in order
+abbrev pub AreAnswers : Filter → List (List ℕ) → List Answer → Type 0
+AreAnswers filter lines answers = AllZip filter.Answers lines answers
+
+-- what is written for an answer: its bytes and a line feed, or nothing
+abbrev pub answer_bytes : Answer → List ℕ
+answer_bytes (Written bytes) = bytes ++ 10 ∷ []
+answer_bytes (Marked bytes) = bytes ++ 10 ∷ []
+answer_bytes Omitted = []
+
+-- what is written for all of them
+abbrev pub output_of : List Answer → List ℕ
+output_of answers = flat_map answer_bytes answers
+
+-- the tally counts this many lines as answered, and this many as passed over
+abbrev pub HasCounted : Tally → ℕ → ℕ → Type 0
+HasCounted tally answered passed_over = (tally.answered ≡ held_count answered) × (tally.passed_over ≡ held_count passed_over)
+
+-- the tally grew by the answers
+abbrev pub Counts : Tally → Tally → List Answer → Type 0
+Counts was is answers = (answered passed_over : ℕ) → HasCounted was answered passed_over
+    → HasCounted is (answered + count_by is_answered answers) (passed_over + count_by is_passed_over answers)
+
+-- the answer to a line was added, and this tells whether it counts as answered
+abbrev pub AddsAnswer : Filter → List ℕ → List ℕ → List ℕ → Bool → Type 0
+AddsAnswer filter line old new answered = (answer : Answer) × filter.Answers line answer × (new ≡ old ++ answer_bytes answer) × (answered ≡ is_answered answer)
+
+-- one line was answered, its output added, and the line counted
+pub record AnswersLine (filter : Filter) (line old new : List ℕ) (was is : Tally) : Type 0 where
+  pub answer : Answer
+  pub answered : filter.Answers line answer
+  pub added : new ≡ old ++ answer_bytes answer
+  pub counted : Counts was is (answer ∷ [])
+
+-- all lines of the bytes were answered, their output added, and the lines counted
+pub record AnswersAll (filter : Filter) (bytes old new : List ℕ) (was is : Tally) : Type 0 where
+  pub lines : List (List ℕ)
+  pub answers : List Answer
+  pub cut : IsLines bytes lines
+  pub answered : AreAnswers filter lines answers
+  pub added : new ≡ old ++ output_of answers
+  pub counted : Counts was is answers
+
+-- the lines of the bytes before one for which memory may be wanted were answered, and their output added
+pub record AnswersBefore (filter : Filter) (bytes old new : List ℕ) : Type 0 where
+  pub before : List (List ℕ)
+  pub line : List ℕ
+  pub after : List (List ℕ)
+  pub cut : IsLines bytes (before ++ line ∷ after)
+  pub wanted : filter.Wants line
+  pub answers : List Answer
+  pub answered : AreAnswers filter before answers
+  pub added : new ≡ old ++ output_of answers

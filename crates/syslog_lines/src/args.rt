@@ -1,0 +1,42 @@
+//! What the programs' arguments have in common.
+ghost use Rattle.std.specs.Prelude.{◌≡◌, ◌↔◌, ◌∷◌, [], IsTrue, MatchOption, ℤ, map, pos};
+ghost use Rattle.std.specs.Str.Parse.{digits_value};
+ghost use Rattle.syslog_lines.specs.Arguments.{AreYearWords, IsYear};
+
+/// The year that a text of 1 to 4 ASCII digits names; none where the text is no such text.
+pub fn read_year(text: &str) -> Option<i32>
+    ensures { MatchOption result (¬ (IsYear text.now)) (λ year. IsYear text.now × (year ≡ pos (digits_value 10 text.now))) }
+{
+    if !is_year(text) {
+        return None;
+    }
+    text.parse::<i32>().ok()
+}
+
+fn is_year(text: &str) -> bool
+    ensures { IsTrue result ↔ IsYear text.now }
+{
+    (1..=4).contains(&text.len()) && text.bytes().all(|byte| byte.is_ascii_digit())
+}
+
+/// The year that these words name: the one word, or the word after `--`. None for all other words.
+pub fn read_year_words(args: &[&str]) -> Option<i32>
+    ensures { MatchOption result ((year : ℤ) → ¬ (AreYearWords (map (λ arg. arg.now) args.now) year))
+        (λ year. AreYearWords (map (λ arg. arg.now) args.now) year) }
+{
+    match args {
+        [year] => read_year(year),
+        [word, year] if *word == "--" => read_year(year),
+        _ => None,
+    }
+}
+
+/// Whether the words are this one alone.
+pub fn is_alone(args: &[&str], wanted: &str) -> bool
+    ensures { IsTrue result ↔ (map (λ arg. arg.now) args.now ≡ wanted.now ∷ []) }
+{
+    match args {
+        [word] => *word == wanted,
+        _ => false,
+    }
+}

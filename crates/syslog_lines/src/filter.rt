@@ -1,0 +1,54 @@
+//! What a filter is: what it writes for each line.
+ghost use Rattle.std.specs.Prelude.{◌≡◌, ◌++◌, ◌∷◌, [], IfOk, IsUtf8, OnOk, OnErr};
+ghost use Rattle.syslog_lines.specs.Output.{AddsAnswer, Filter};
+
+use std::alloc::{AllocError, Global};
+
+/// What is written for each line of the input.
+pub trait LineFilter {
+    // the answer to a line, and the lines for which memory may be wanted
+    ghost answers: { Self → Filter };
+
+    /// Adds the answer to a line that is UTF-8, and a line feed, to `output`, or nothing where nothing is written for it, and
+    /// tells whether the line counts as answered.
+    ///
+    /// Where memory is refused nothing is added, and the line is one for which it may be wanted. `text` is for a text in
+    /// between: what it holds doesn't count, and its memory is used again for the next line.
+    fn answer(
+        &self,
+        alloc: Global,
+        line: &str,
+        text: &mut String,
+        output: &mut Vec<u8>,
+    ) -> Result<bool, AllocError>
+        ensures ok { IfOk result (λ is_answered. AddsAnswer (answers self.now) line.now output.old.items output.new.items is_answered) }
+        ensures err { OnErr result (output.new.items ≡ output.old.items) }
+        ensures refusal { OnErr result ((answers self.now).Wants line.now) };
+
+    /// The same for a line that is no UTF-8.
+    fn answer_other(
+        &self,
+        alloc: Global,
+        line: &[u8],
+        output: &mut Vec<u8>,
+    ) -> Result<bool, AllocError>
+        requires { ¬ (IsUtf8 line.now) }
+        ensures ok { IfOk result (λ is_answered. AddsAnswer (answers self.now) line.now output.old.items output.new.items is_answered) }
+        ensures err { OnErr result (output.new.items ≡ output.old.items) }
+        ensures refusal { OnErr result ((answers self.now).Wants line.now) };
+}
+
+/// Adds the bytes and a line feed, or nothing where memory is refused.
+#[inline]
+pub fn push_line(output: &mut Vec<u8>, line: &[u8]) -> Result<(), AllocError>
+    ensures ok { OnOk result (output.new.items ≡ output.old.items ++ (line.now ++ 10 ∷ [])) }
+    ensures err { OnErr result (output.new.items ≡ output.old.items) }
+{
+    let before = output.len();
+    output.extend_from_slice(line)?;
+    if output.push(b'\n').is_err() {
+        output.truncate(before);
+        return Err(AllocError);
+    }
+    Ok(())
+}

@@ -1,0 +1,21 @@
+//! Filters of lines: from a reader to a writer, an answer to each line of the input.
+//!
+//! `walk` reads the input a block at a time, hands each line to a `LineFilter`, and writes the answers of a block before it
+//! reads the next. `docs/PROMISES.md` says what was read and written where it ends early. Both programs stand on it.
+#![tactic(auto)]
+
+mod answer;
+mod args;
+mod block;
+pub mod filter;
+mod lines;
+pub mod report;
+mod search;
+pub mod summary;
+pub mod walk;
+mod watched;
+
+pub use args::{is_alone, read_year, read_year_words};
+pub use filter::{LineFilter, push_line};
+pub use summary::{RunFault, Summary, Tally};
+pub use watched::Watched;

@@ -1,0 +1,68 @@
+//! What filters count, and how they end.
+use std::alloc::AllocError;
+use thiserror::Error;
+
+/// How many lines a run read, and how many of them gave no text. A count at its last value stays there.
+#[derive(Clone, Copy, Debug, PartialEq, Eq)]
+pub struct Summary {
+    /// The number of lines.
+    pub lines: u64,
+    /// The number of lines that are no UTF-8 or have no reading.
+    pub refused: u64,
+}
+
+/// How many lines a filter answered, and how many it passed over. A count at its last value stays there.
+#[derive(Clone, Copy)]
+pub struct Tally {
+    /// The number of lines that have an answer.
+    pub answered: u64,
+    /// The number of lines that have none.
+    pub passed_over: u64,
+}
+
+impl Tally {
+    ghost use Rattle.std.specs.Prelude.{◌≡◌, ◌+◌, ◌-◌, if◌then◌else◌};
+    ghost use Rattle.syslog_lines.specs.Count.{held_count};
+
+    /// Counts a line.
+    #[inline]
+    pub fn count(&mut self, is_answered: bool)
+        ensures answered { self.new.answered ≡ held_count (self.old.answered + (if is_answered then 1 else 0)) }
+        ensures passed_over { self.new.passed_over ≡ held_count (self.old.passed_over + (if is_answered then 0 else 1)) }
+    {
+        self.answered = self.answered.saturating_add(u64::from(is_answered));
+        self.passed_over = self.passed_over.saturating_add(u64::from(!is_answered));
+    }
+
+    /// How many lines it counted.
+    pub fn lines(&self) -> u64
+        ensures { result ≡ held_count (self.now.answered + self.now.passed_over) }
+    {
+        self.answered.saturating_add(self.passed_over)
+    }
+}
+
+/// Why a filter ended before the end of its input. The number is the discriminant.
+#[derive(Clone, Copy, Debug, PartialEq, Eq, Error)]
+pub enum RunFault {
+    /// The reader answered an error.
+    #[error("read failed")]
+    Read = 1,
+    /// The writer answered an error, or took nothing.
+    #[error("write failed")]
+    Write = 2,
+    /// A request for memory was refused.
+    #[error("out of memory")]
+    Memory = 3,
+}
+
+impl From<AllocError> for RunFault {
+    ghost use Rattle.std.specs.Prelude.{◌≡◌};
+    ghost use Rattle.syslog_lines.specs.declared.summary.RunFault.TheVariants.{Memory};
+
+    ghost from_gives = { λ _ fault. fault ≡ Memory };
+
+    fn from(_refused: AllocError) -> RunFault {
+        RunFault::Memory
+    }
+}

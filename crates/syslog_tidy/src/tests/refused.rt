@@ -1,0 +1,83 @@
+//! The lines that are refused: worked lines, and readers and writers that fail.
+use super::{NEVER, Wrong, reader_of, writer_of};
+use crate::refused::refused;
+use std::alloc::Global;
+use std::process::Abort;
+use syslog_lines::{RunFault, Summary};
+
+/// A line with no reading, a message, one that is no UTF-8, an empty line, and one with no reading and no line feed.
+const FIVE: &[u8] =
+    b"gobbledegook\r\n<34>1 - - - - - -\n\xff<34>1 - - - - - -\n\n<256>1 - - - - - -";
+
+const FOUR_LINES: &[u8] = b"gobbledegook\r\n\xff<34>1 - - - - - -\n\n<256>1 - - - - - -\n";
+
+/// Goes over the bytes, `step` at a time on both sides, and expects this output and these counts.
+fn expect_refused(
+    rt: &impl Abort,
+    alloc: Global,
+    bytes: &[u8],
+    step: usize,
+    output: &[u8],
+    lines: u64,
+    count: u64,
+) {
+    let mut reader = reader_of(bytes, step, NEVER);
+    let mut writer = writer_of(step, NEVER, Wrong::Fails);
+    let outcome = refused(alloc, &mut reader, &mut writer, 2019);
+    assert!(rt;
+        outcome
+            == Ok(Summary {
+                lines,
+                refused: count
+            })
+    );
+    assert!(rt; writer.inner.written() == output);
+    assert!(rt; writer.inner.flushes == 1);
+}
+
+#[test]
+fn writes_refused_lines_as_they_came(rt: HostRuntime) {
+    let alloc = rt.alloc();
+    for step in [1usize, 7, 1024] {
+        expect_refused(&rt, alloc, FIVE, step, FOUR_LINES, 5, 4);
+    }
+    expect_refused(&rt, alloc, b"", 1024, b"", 0, 0);
+    expect_refused(&rt, alloc, b"<34>1 - - - - - -\n--x\n", 1024, b"", 2, 0);
+}
+
+#[test]
+fn fails_as_run_does(rt: HostRuntime) {
+    let mut reader = reader_of(FIVE, 8, 3);
+    let mut writer = writer_of(1024, NEVER, Wrong::Fails);
+    let outcome = refused(rt.alloc(), &mut reader, &mut writer, 2019);
+    assert!(rt; outcome == Err(RunFault::Read));
+    assert!(rt; writer.inner.written() == b"gobbledegook\r\n".as_slice());
+    let mut reader = reader_of(FIVE, 1024, NEVER);
+    let mut writer = writer_of(8, 2, Wrong::TakesNothing);
+    let outcome = refused(rt.alloc(), &mut reader, &mut writer, 2019);
+    assert!(rt; outcome == Err(RunFault::Write));
+    assert!(rt; FOUR_LINES.starts_with(writer.inner.written()));
+}
+
+/// Also run with each request for memory refused in turn: nothing is then written, or all lines before one that was refused.
+#[test]
+fn refused_memory(rt: HostRuntime) {
+    let mut reader = reader_of(FIVE, 1024, NEVER);
+    let mut writer = writer_of(1024, NEVER, Wrong::Fails);
+    match refused(rt.alloc(), &mut reader, &mut writer, 2019) {
+        Ok(summary) => {
+            assert!(rt;
+                summary
+                    == Summary {
+                        lines: 5,
+                        refused: 4
+                    }
+            );
+            assert!(rt; writer.inner.written() == FOUR_LINES);
+        }
+        Err(fault) => {
+            assert!(rt; fault == RunFault::Memory);
+            assert!(rt; FOUR_LINES.starts_with(writer.inner.written()));
+        }
+    }
+}
