@@ -1,7 +1,10 @@
 #!/usr/bin/env python3
-"""What collector.c does, by ctypes: collector.py LIBRARY YEAR MONTH <FILE
+r"""What collector.c does, by ctypes: collector.py LIBRARY YEAR MONTH <FILE
 
-LIBRARY is the shared library that README.md makes of the static one.
+LIBRARY is a shared library made of the static one, whose code doesn't depend on where it lies, by
+
+    cc -shared -o libsyslog.so -Wl,--whole-archive crates/syslog_c/out/libsyslog_c.a -Wl,--no-whole-archive \
+        "$KIT"/c/liblibc_c.a
 """
 import ctypes
 import datetime
