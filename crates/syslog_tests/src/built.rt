@@ -1,6 +1,6 @@
 //! Messages built by hand.
-use syslog_loose::{Message, Protocol, StructuredElement, SyslogFacility, SyslogSeverity};
 use std::alloc::{AllocError, Global};
+use syslog_loose::{Message, Protocol, StructuredElement, SyslogFacility, SyslogSeverity};
 
 /// From LOG_AUTH and of SEV_CRIT, with this message and nothing else.
 pub(super) fn small<'a>(alloc: Global, protocol: Protocol, msg: &'a str) -> Message<&'a str> {

@@ -1,13 +1,13 @@
 //! Each public call once, and the texts of the faults.
 ghost use Rattle.std.specs.Prelude.{◌≡◌};
 
+use jiff::tz::TimeZone;
+use std::alloc::AllocError;
+use std::test::Fail;
 use syslog_loose::{
     IncompleteDate, ParseFault, Protocol, SyslogFacility, SyslogSeverity, Variant, decompose_pri,
     normalise, parse_message_with_year_exact_tz,
 };
-use jiff::tz::TimeZone;
-use std::alloc::AllocError;
-use std::test::Fail;
 
 const TEXT: &str = "<200>1 - - - - - -";
 

@@ -1,11 +1,13 @@
 //! Messages built by hand, compared and copied.
 use super::built::{element, small};
 use super::reading::read;
-use syslog_loose::{Message, OffsetTimestamp, ProcId, Protocol, SyslogFacility, SyslogSeverity, Variant};
 use jiff::Timestamp;
 use jiff::tz::Offset;
 use std::alloc::Global;
 use std::test::Fail;
+use syslog_loose::{
+    Message, OffsetTimestamp, ProcId, Protocol, SyslogFacility, SyslogSeverity, Variant,
+};
 
 // This many seconds after 1970 began, shown at this offset.
 fn stamp(seconds: i64, offset: i32) -> Result<Option<OffsetTimestamp>, Fail> {

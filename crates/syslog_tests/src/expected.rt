@@ -19,10 +19,10 @@
 //!
 //! A field without a cell is absent, or empty. In a source a row is written on several lines, each but the last with a
 //! backslash at its end, which takes the blanks before the next one away.
-use syslog_loose::{Message, ProcId, StructuredElement, SyslogFacility, SyslogSeverity};
 use std::alloc::Global;
 use std::process::Abort;
 use std::test::Fail;
+use syslog_loose::{Message, ProcId, StructuredElement, SyslogFacility, SyslogSeverity};
 
 /// A process id.
 #[derive(Clone, Copy, Debug, PartialEq, Eq)]

@@ -1,11 +1,11 @@
 //! The calls as tests make them, with UTC as the local zone.
+use jiff::tz::TimeZone;
+use std::alloc::Global;
+use std::process::Abort;
 use syslog_loose::{
     IncompleteDate, Message, ParseFault, Variant, normalise, parse_message_with_year_exact_tz,
     settle,
 };
-use jiff::tz::TimeZone;
-use std::alloc::Global;
-use std::process::Abort;
 
 /// A zone at +01:00 in winter and at +02:00 in summer.
 pub(super) const RULE: &str = "CET-1CEST,M3.5.0,M10.5.0/3";

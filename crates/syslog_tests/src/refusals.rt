@@ -8,10 +8,10 @@ mod lists;
 mod normalising;
 mod rounds;
 
-use syslog_loose::{Message, ParseFault};
 use std::fmt;
 use std::fmt::Write;
 use std::process::Abort;
+use syslog_loose::{Message, ParseFault};
 
 /// Compares what is written with a text, and takes no memory.
 #[derive(Drop)]

@@ -9,10 +9,10 @@ mod printed;
 
 use super::expected::{Expected, check_fields, check_printed, row_of};
 use super::reading::{IN_JANUARY, read_by_month, read_in_year};
-use syslog_loose::{Message, ParseFault, Protocol, Variant};
 use std::alloc::Global;
 use std::process::Abort;
 use std::test::Fail;
+use syslog_loose::{Message, ParseFault, Protocol, Variant};
 
 /// It is the message of RFC 3164 of the row; the printed text has the priority and the timestamp.
 fn check_message(

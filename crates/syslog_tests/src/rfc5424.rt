@@ -11,10 +11,10 @@ use super::expected::{
     Expected, check_fields, check_printed, check_priority, check_timestamp, row_of,
 };
 use super::reading::{IN_JANUARY, read, read_by_month};
-use syslog_loose::{Message, Protocol, Variant};
 use std::alloc::Global;
 use std::process::Abort;
 use std::test::Fail;
+use syslog_loose::{Message, Protocol, Variant};
 
 /// It is the message of the row, field by field, and it prints so.
 fn check_message(

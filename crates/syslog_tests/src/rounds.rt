@@ -3,10 +3,10 @@ mod made;
 mod settling;
 
 use super::reading::{normalised, settled};
-use syslog_loose::{ParseFault, TimeZone};
 use std::alloc::Global;
 use std::process::Abort;
 use std::test::Fail;
+use syslog_loose::{ParseFault, TimeZone};
 
 /// What normalising by hand comes to, and in which round, or the fault of the round that is missing.
 fn by_hand(

@@ -1,9 +1,9 @@
 //! Many elements and parameters, and long texts: no clause refuses a body that claims want of memory for these.
 use super::reading::{normalised, read};
-use syslog_loose::Variant;
 use std::alloc::Global;
 use std::process::Abort;
 use std::test::Fail;
+use syslog_loose::Variant;
 
 /// What stands before a list, in each protocol, as it prints behind the priority.
 const FRONTS: [&str; 2] = ["1 - - - - - ", " - h a: "];

@@ -1,15 +1,15 @@
 //! Refused memory in each of the five reading calls and in `reads_differently`.
 use super::check_reading;
 use crate::reading::RULE;
+use jiff::Timestamp;
+use jiff::tz::TimeZone;
+use std::alloc::Global;
+use std::test::Fail;
 use syslog_loose::{
     IncompleteDate, Message, ParseFault, Variant, parse_message, parse_message_with_year,
     parse_message_with_year_exact, parse_message_with_year_exact_tz, parse_message_with_year_tz,
     reads_differently,
 };
-use jiff::Timestamp;
-use jiff::tz::TimeZone;
-use std::alloc::Global;
-use std::test::Fail;
 
 #[derive(Clone, Copy, Debug)]
 enum Call {

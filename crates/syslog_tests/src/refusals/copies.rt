@@ -1,9 +1,9 @@
 //! Refused memory in copies of messages and of elements, and in the values of parameters.
 use super::prints;
 use crate::reading::read;
-use syslog_loose::{Message, ParseFault, StructuredElement, Variant};
 use std::alloc::{AllocError, Global};
 use std::process::Abort;
+use syslog_loose::{Message, ParseFault, StructuredElement, Variant};
 
 /// Texts with two elements, which print as they are written: with the number of a process, and with names; and the elements.
 const LISTED: [&str; 2] = [

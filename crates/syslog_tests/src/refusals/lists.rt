@@ -1,9 +1,9 @@
 //! Refused memory where a text has elements.
 use crate::expected::check_elements;
 use crate::reading::read;
-use syslog_loose::{Message, ParseFault, Variant};
 use std::alloc::Global;
 use std::process::Abort;
+use syslog_loose::{Message, ParseFault, Variant};
 
 /// A text with two elements, the elements with lines as in `Expected`, and the message behind them.
 const LISTED: (&str, &str, &str) = (

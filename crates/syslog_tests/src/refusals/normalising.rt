@@ -2,9 +2,9 @@
 use super::check_text;
 use crate::expected::check_elements;
 use crate::reading::{check_invalid, check_no_text, normalised, read};
-use syslog_loose::{ParseFault, Variant};
 use std::alloc::Global;
 use std::process::Abort;
+use syslog_loose::{ParseFault, Variant};
 
 /// Texts with what each normalises to: plain and with elements, some of them broken, of both protocols.
 const NORMALISED: [(&str, &str); 7] = [

@@ -1,9 +1,9 @@
 //! Refused memory in rounds.
 use super::check_text;
 use crate::reading::{check_no_text, settled};
-use syslog_loose::{IncompleteDate, ParseFault, Variant, settle_into};
 use jiff::tz::TimeZone;
 use std::alloc::Global;
+use syslog_loose::{IncompleteDate, ParseFault, Variant, settle_into};
 
 /// Texts with what each settles as: in round 1, without a message in between and with one, and in later rounds, with
 /// elements in none of them and in each.

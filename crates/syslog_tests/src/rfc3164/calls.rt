@@ -1,13 +1,13 @@
 //! The reading calls on dates: zones, the closure, the fallback and the year of a moment.
 use crate::reading::{RULE, check_invalid};
+use std::alloc::Global;
+use std::process::Abort;
+use std::test::Fail;
 use syslog_loose::{
     IncompleteDate, Message, Offset, ParseFault, Protocol, SyslogFacility, SyslogSeverity,
     TimeZone, Timestamp, Variant, parse_message, parse_message_with_year,
     parse_message_with_year_exact, parse_message_with_year_exact_tz, parse_message_with_year_tz,
 };
-use std::alloc::Global;
-use std::process::Abort;
-use std::test::Fail;
 
 fn check_printed(
     rt: &impl Abort,

@@ -2,12 +2,12 @@
 use crate::built::small;
 use crate::expected::{Expected, Process, check_fields, row_of};
 use crate::reading::read;
-use syslog_loose::{
-    Message, ProcId, Protocol, StructuredElement, SyslogFacility, SyslogSeverity, Variant,
-};
 use std::alloc::{AllocError, Global};
 use std::process::Abort;
 use std::test::Fail;
+use syslog_loose::{
+    Message, ProcId, Protocol, StructuredElement, SyslogFacility, SyslogSeverity, Variant,
+};
 
 /// An element as a cell `list` has it.
 fn element_of<'a>(alloc: Global, line: &'a str) -> Result<StructuredElement<&'a str>, AllocError> {

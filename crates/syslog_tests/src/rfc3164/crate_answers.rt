@@ -4,12 +4,12 @@
 //! 2019 as the year; its fields and its printed text were written down here, and are not made anew. There a dash is a list
 //! before anything; the texts that are read otherwise here for that stand in a test of their own.
 use super::check_message;
-use syslog_loose::Variant;
 use crate::expected::{check_fields, check_timestamp, row_of};
 use crate::reading::{check_invalid, read};
 use std::alloc::Global;
 use std::process::Abort;
 use std::test::Fail;
+use syslog_loose::Variant;
 
 /// Each text reads as its message; the priority is seen in the printed text.
 fn check(rt: &impl Abort, alloc: Global, rows: &[&str]) -> Result<(), Fail> {

@@ -1,11 +1,11 @@
 //! Hostile texts of RFC 3164: long numbers and words, brackets and quotes without an end, and characters that only look
 //! like white space.
 use super::check_table;
-use syslog_loose::Variant;
 use crate::reading::check_invalid;
 use std::alloc::Global;
 use std::process::Abort;
 use std::test::Fail;
+use syslog_loose::Variant;
 
 #[test]
 fn passes_over_a_thousand_zeros_in_a_date(rt: HostRuntime) -> Result<(), Fail> {

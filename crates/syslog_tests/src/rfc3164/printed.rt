@@ -1,8 +1,8 @@
 //! Messages built by hand, and what they print as.
 use crate::built::{self, element};
-use syslog_loose::{Message, ProcId, Protocol};
 use std::alloc::Global;
 use std::test::Fail;
+use syslog_loose::{Message, ProcId, Protocol};
 
 /// With the app name `a` and the message `hi`.
 fn small(alloc: Global) -> Message<&'static str> {

@@ -2,10 +2,10 @@
 use super::check_table;
 use crate::built::{self, element};
 use crate::reading::check_invalid;
-use syslog_loose::{Message, Offset, OffsetTimestamp, ProcId, Protocol, Timestamp, Variant};
 use std::alloc::{AllocError, Global};
 use std::process::Abort;
 use std::test::Fail;
+use syslog_loose::{Message, Offset, OffsetTimestamp, ProcId, Protocol, Timestamp, Variant};
 
 fn small(alloc: Global) -> Message<&'static str> {
     built::small(alloc, Protocol::RFC5424(1), "x")

@@ -3,9 +3,9 @@
 //! How it was made: the crate, built by rustc 1.95, read each text under its variant RFC5424 with UTC as the local
 //! zone; its fields and its printed text were written down here, and are not made anew.
 use super::check_table;
-use syslog_loose::Variant;
 use crate::reading::check_invalid;
 use std::test::Fail;
+use syslog_loose::Variant;
 
 #[test]
 fn agrees_on_elements_with_parameters(rt: HostRuntime) -> Result<(), Fail> {

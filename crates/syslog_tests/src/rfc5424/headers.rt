@@ -2,8 +2,8 @@
 use super::{check_message, check_table, check_text};
 use crate::expected::row_of;
 use crate::reading::{check_invalid, read};
-use syslog_loose::{Message, Protocol, SyslogFacility, SyslogSeverity, Variant};
 use std::test::Fail;
+use syslog_loose::{Message, Protocol, SyslogFacility, SyslogSeverity, Variant};
 
 #[test]
 fn reads_each_field(rt: HostRuntime) -> Result<(), Fail> {

@@ -1,8 +1,8 @@
 //! Long numbers and words, and characters that only look like white space.
 use super::check_table;
-use syslog_loose::Variant;
 use crate::reading::check_invalid;
 use std::test::Fail;
+use syslog_loose::Variant;
 
 #[test]
 fn passes_over_a_thousand_zeros(rt: HostRuntime) -> Result<(), Fail> {

@@ -1,10 +1,10 @@
 //! Worked texts whose lists have elements, whole or broken.
 use super::check_table;
-use syslog_loose::Variant;
 use crate::reading::check_invalid;
 use std::alloc::Global;
 use std::process::Abort;
 use std::test::Fail;
+use syslog_loose::Variant;
 
 #[test]
 fn keeps_a_bracket_in_a_value_and_drops_broken_elements(rt: HostRuntime) -> Result<(), Fail> {

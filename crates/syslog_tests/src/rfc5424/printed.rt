@@ -1,7 +1,9 @@
 //! Messages built by hand, and what they print as.
 use crate::built::{element, small};
-use syslog_loose::{Message, Offset, OffsetTimestamp, ProcId, Protocol, StructuredElement, Timestamp};
 use std::test::Fail;
+use syslog_loose::{
+    Message, Offset, OffsetTimestamp, ProcId, Protocol, StructuredElement, Timestamp,
+};
 
 #[test]
 fn prints_values_as_they_stand(rt: HostRuntime) -> Result<(), Fail> {

@@ -1,9 +1,9 @@
 //! Lines of RFC 3164 that are made of parts hard to read again: each settles as normalising by hand does.
 use super::expect_as_by_hand;
-use syslog_loose::{Offset, TimeZone};
 use std::alloc::Global;
 use std::process::Abort;
 use std::test::Fail;
+use syslog_loose::{Offset, TimeZone};
 
 /// Priorities and timestamps: none, an absent one, a month date without a year, and one with the last year.
 const STAMPS: [&str; 4] = ["", "-", "<34>Jan 1 00:00:00", "<200>Dec 31 9999 23:59:59"];

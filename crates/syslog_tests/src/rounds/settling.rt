@@ -1,10 +1,10 @@
 //! Lines that settle: in which round, and with which text; and that it is what normalising by hand comes to.
 use super::{by_hand, expect_as_by_hand};
 use crate::reading::{check_no_text, normalised, settled};
-use syslog_loose::{IncompleteDate, Offset, TimeZone, Variant, settle};
 use std::alloc::Global;
 use std::process::Abort;
 use std::test::Fail;
+use syslog_loose::{IncompleteDate, Offset, TimeZone, Variant, settle};
 
 /// The text settles in this round, as this text.
 fn expect_settled(
