@@ -10,14 +10,16 @@ use Rattle.syslog_pieces.specs.Pieces.View.{shown}
 use Rattle.syslog_pieces.specs.Timestamp.Zone.{Dating, dating_of}
 use Rattle.syslog_pieces.specs.declared.timestamp.month_date.MonthDate.{MonthDate}
 use Rattle.syslog_loose.specs.Message.{MessageValue, message_value}
-use Rattle.syslog_loose.specs.Reading.{dash_rule, IsRead, IsOnlyRead, IsUnreadable, IsQuoted, IsFault, Answers, AnswersPlainly, IncompleteDate, incomplete, HasMonth, AsksYear, IsYearAnswered, InYear}
+use Rattle.syslog_loose.specs.Reading.{dash_rule, IsRead, IsOnlyRead, IsUnreadable, IsQuoted, IsFault, Answers, AnswersDateless, AnswersPlainly, IncompleteDate, incomplete, HasMonth, AsksYear, IsLeftTo3164, IsYearAnswered, InYear}
 use Rattle.syslog_loose.specs.Rfc5424.{IsRead5424, IsNot5424, NeedsNoMemory5424}
 use Rattle.syslog_loose.specs.declared.message.Message.{Message}
 use Rattle.syslog_loose.specs.declared.fault.ParseFault.{ParseFault}
 use Rattle.syslog_loose.specs.declared.fault.ParseFault.TheVariants.{Invalid, Memory}
 use Rattle.syslog_loose.specs.declared.variant.Variant.{Variant}
 use Rattle.syslog_loose.specs.declared.variant.Variant.TheVariants.{Either, RFC3164, RFC5424}
+use Rattle.syslog_loose.proofs.Rfc3164Lemmas.Apart.{shown_apart}
 use Rattle.syslog_loose.proofs.Rfc3164Lemmas.Quoting as loose
+use Rattle.syslog_loose.proofs.Rfc3164Lemmas.Shown.{shows_month_date}
 use Rattle.syslog_loose.proofs.Rfc3164Lemmas.Unique as loose_unique
 use Rattle.syslog_loose.proofs.Rfc3164Lemmas.Years.{other_read}
 use Rattle.syslog_loose.proofs.Rfc5424Lemmas as strict
@@ -59,6 +61,29 @@ either_loose dating text (Err Memory) none h = λ needless. h (λ m s. needless 
 -- memory was refused to RFC 5424
 pub either_refused : (dating : Dating) (text : Text) → (NeedsNoMemory5424 text → ⊥) → IsFault Either dating text Memory
 either_refused dating text wanted needless = wanted (λ m r. needless m (inl r))
+
+-- a division of RFC 5424 leaves no date to ask a year of
+dateless_divided : (text : Text) (m : MessageValue) → IsRead5424 text m → (date : MonthDate) → AsksYear Either text date → ⊥
+dateless_divided text m r date asks = shown_apart text date (shows_month_date text date asks) r.values r.division
+
+-- what RFC 5424 answers where RFC 3164 would be next
+pub dateless_found : (text : Text) (found : Option Found) → MatchOption found (IsNot5424 text) (λ m. IsRead5424 text (value m))
+    → MatchOption found (IsLeftTo3164 Either text) (λ m. AnswersDateless Either text (Ok m))
+dateless_found text None h = h
+dateless_found text (Some m) h = (dateless_divided text (value m) h, λ dating. either_read dating text (value m) h)
+
+pub dateless_refused : (text : Text) → (NeedsNoMemory5424 text → ⊥) → AnswersDateless Either text (Err Memory)
+dateless_refused text wanted = (
+  (λ date asks. wanted (λ m r. absurd (dateless_divided text m r date asks))),
+  (λ dating. either_refused dating text wanted),
+)
+
+-- what RFC 3164 answers where it is left to try
+pub left_answer : (variant : Variant) (dating : Dating) (text : Text) (r : Result Found ParseFault) → IsLeftTo3164 variant text
+    → Answers RFC3164 dating text r → Answers variant dating text r
+left_answer RFC5424 dating text r left h = absurd left
+left_answer RFC3164 dating text r left h = h
+left_answer Either dating text r left h = either_loose dating text r left h
 
 -- an `Err` is no `Ok`
 pub refused : {X : Type 0} (r : Result X AllocError) (e : AllocError) {P : Type 0} → r ≡ Err e → (P → IsOk r) → P → ⊥
@@ -112,6 +137,11 @@ pub answers_in : (post : IncompleteDate → ℤ → Type 0) (variant : Variant) 
     → IsYearAnswered post variant text year → Answers variant (dating_of year tz local) text r → InYear post variant text (λ y. Answers variant (dating_of y tz local) text r)
 answers_in post variant text tz local r year is h =
     in_answered_year post variant text (λ y. Answers variant (dating_of y tz local) text r) year is (λ never other a. any_answer variant text tz local None other r never a) h
+
+-- an answer that no date counts for, in whatever year
+pub dateless_in : (post : IncompleteDate → ℤ → Type 0) (variant : Variant) (text : Text) (tz : Option (Bor TimeZone)) (local : Bor TimeZone) (r : Result Found ParseFault)
+    → AnswersDateless variant text r → InYear post variant text (λ y. Answers variant (dating_of y tz local) text r)
+dateless_in post variant text tz local r (never, h) = record { answered = None; is_answered = never; holds = λ year agrees. h (dating_of year tz local) }
 
 -- the answer to the date that the text asks a year of
 pub answered_to : (post : IncompleteDate → ℤ → Type 0) (variant : Variant) (text : Text) (asked : Option IncompleteDate) (year : Option ℤ)

@@ -1,5 +1,5 @@
 -- What it is to read a text, by which protocol and in which year, and what the reading calls answer.
-use Rattle.std.specs.Prelude.{◌≡◌, ◌⊎◌, ◌<◌, ◌≤◌, ◌^◌, ℕ, ℤ, List, [], Option, Some, None, Result, MatchResult}
+use Rattle.std.specs.Prelude.{◌≡◌, ◌⊎◌, ⊤, ◌<◌, ◌≤◌, ◌^◌, ℕ, ℤ, List, [], Option, Some, None, Result, MatchResult}
 use Rattle.std.specs.Borrow.{Bor}
 use Rattle.std.specs.declared.alloc.AllocError.{AllocError}
 use Rattle.jiff.specs.Types.{UTC}
@@ -105,6 +105,16 @@ IsFault variant dating text Memory = NeedsNoMemory variant dating text → ⊥
 -- the one message as which the text is read, or a fault
 abbrev pub Answers : Variant → Dating → Text → Result (Message (Bor (List ℕ))) ParseFault → Type 0
 Answers variant dating text result = MatchResult result (λ m. IsOnlyRead variant dating text (message_value (λ s. shown s) m)) (λ fault. IsFault variant dating text fault)
+
+-- this answer, whatever the year and the zones: the text shows no date that a year would be asked for
+abbrev pub AnswersDateless : Variant → Text → Result (Message (Bor (List ℕ))) ParseFault → Type 0
+AnswersDateless variant text result = ((date : MonthDate) → AsksYear variant text date → ⊥) × ((dating : Dating) → Answers variant dating text result)
+
+-- the text is read as RFC 3164 says, if at all
+abbrev pub IsLeftTo3164 : Variant → Text → Type 0
+IsLeftTo3164 RFC5424 text = ⊥
+IsLeftTo3164 RFC3164 text = ⊤
+IsLeftTo3164 Either text = IsNot5424 text
 
 -- ---- what the plain calls answer
 

@@ -1,8 +1,7 @@
 //! The calls that read a text.
 //!
-//! Each of the five looks first for a date without a year, asks the closure for its year, and then reads by the headers
-//! below. The calls with `exact` in their names refuse a text that has no reading; the plain ones answer the fallback.
-ghost use Rattle.std.specs.Prelude.{◌≡◌, ◌↔◌, IfOk, MatchOption, MatchResult, None, OnOk, string_bytes};
+//! A date without a year is looked for before RFC 3164 is tried, and the closure asked for its year. The calls with `exact` in their names refuse a text that has no reading; the plain ones answer the fallback.
+ghost use Rattle.std.specs.Prelude.{◌≡◌, ◌↔◌, Err, IfOk, MatchOption, MatchResult, None, Ok, OnOk, string_bytes};
 ghost use Rattle.std.specs.Str.{chars, encode_utf8_all, IsUtf8};
 ghost use Rattle.jiff.specs.Words.{plain_zone};
 ghost use Rattle.syslog_pieces.specs.Pieces.View.{shown};
@@ -15,7 +14,7 @@ ghost use Rattle.syslog_loose.specs.Message.{MessageValue, message_value};
 ghost use Rattle.syslog_loose.specs.Printed.{printed};
 ghost use Rattle.syslog_loose.specs.ReadBack.{AnswersAgain, AnswersItself, FieldsAsRead};
 ghost use Rattle.syslog_loose.specs.Reading as spec;
-ghost use Rattle.syslog_loose.specs.Reading.{Answers, AnswersEachMonth, AnswersPlainly, AsksYear, HasMonth, InYear, IsOnlyRead, IsUnreadable, incomplete};
+ghost use Rattle.syslog_loose.specs.Reading.{Answers, AnswersDateless, AnswersEachMonth, AnswersPlainly, AsksYear, HasMonth, InYear, IsLeftTo3164, IsOnlyRead, IsUnreadable, incomplete};
 ghost use Rattle.syslog_loose.specs.declared.fault.ParseFault.TheVariants.{Invalid};
 ghost use Rattle.syslog_loose.specs.declared.variant.Variant.{Variant};
 ghost use Rattle.syslog_loose.specs.declared.variant.Variant.TheVariants as variants;
@@ -148,8 +147,8 @@ pub fn parse_message_with_year_exact<'a, F: FnOnce(IncompleteDate) -> i32>(
 
 /// The message of the text, read by the variant, or `Invalid`.
 ///
-/// `get_year` gives the year of a date that has none: it is called once, before the text is read, and only where the text
-/// shows such a date and the variant reads it. `tz` is the zone of a date without an offset, and `local` stands in for it
+/// `get_year` gives the year of a date that has none: it is called once, and only where the text shows such a date and the
+/// variant reads it. `tz` is the zone of a date without an offset, and `local` stands in for it
 /// where it is absent. Each text of the message is a slice of the input. The one refusal besides `Invalid` is `Memory`,
 /// and memory is asked for only to collect elements.
 pub fn parse_message_with_year_exact_tz<'a, F: FnOnce(IncompleteDate) -> i32>(
@@ -168,8 +167,16 @@ pub fn parse_message_with_year_exact_tz<'a, F: FnOnce(IncompleteDate) -> i32>(
     ensures fields { InYear (F.post get_year) variant (chars input.entry.now) (λ year. IfOk result (λ m.
         FieldsAsRead m.protocol (dating_of year tz.entry local.entry) (chars input.entry.now) (message_value (λ s. shown s) m))) }
 {
+    let found = match read_dateless(alloc, input, variant) {
+        Ok(found) => found,
+        Err(fault) => return Err(fault),
+    };
+    match found {
+        Some(message) => return Ok(message),
+        None => {}
+    }
     let year = asked_date(input, variant).map(get_year);
-    read(alloc, input, &Dating { year, tz, local }, variant)
+    read_rfc3164(alloc, input, &Dating { year, tz, local })
 }
 
 // The date without a year that the text shows, where the variant reads it.
@@ -206,13 +213,40 @@ pub(crate) fn read<'a>(
 ) -> Result<Message<&'a str>, ParseFault>
     ensures { Answers variant (dating_value dating.entry.now) (chars input.entry.now) result }
 {
+    match read_dateless(alloc, input, variant) {
+        Ok(found) => match found {
+            Some(message) => Ok(message),
+            None => read_rfc3164(alloc, input, dating),
+        },
+        Err(fault) => Err(fault),
+    }
+}
+
+// The answer that no date counts for: where the first byte begins no reading, and where the variant reads RFC 5424. None
+// where RFC 3164 is left to try.
+#[inline(always)]
+fn read_dateless(
+    alloc: Global,
+    input: &str,
+    variant: Variant,
+) -> Result<Option<Message<&str>>, ParseFault>
+    ensures { MatchResult result
+        (λ found. MatchOption found (IsLeftTo3164 variant (chars input.now)) (λ m. AnswersDateless variant (chars input.now) (Ok m)))
+        (λ fault. AnswersDateless variant (chars input.now) (Err fault)) }
+{
     if !may_be_read(input) {
         return Err(ParseFault::Invalid);
     }
     match variant {
-        Variant::RFC5424 => read_rfc5424(alloc, input),
-        Variant::RFC3164 => read_rfc3164(alloc, input, dating),
-        Variant::Either => read_either(alloc, input, dating),
+        Variant::RFC5424 => match read_rfc5424(alloc, input) {
+            Ok(message) => Ok(Some(message)),
+            Err(fault) => Err(fault),
+        },
+        Variant::RFC3164 => Ok(None),
+        Variant::Either => match rfc5424::read(alloc, input) {
+            Ok(found) => Ok(found),
+            Err(_) => Err(ParseFault::Memory),
+        },
     }
 }
 
@@ -239,23 +273,6 @@ fn read_rfc3164<'a>(
         Ok(found) => match found {
             Some(message) => Ok(message),
             None => Err(ParseFault::Invalid),
-        },
-        Err(_) => Err(ParseFault::Memory),
-    }
-}
-
-// As RFC 5424, and as RFC 3164 where the text has no division of it. A refusal of memory is answered at once.
-fn read_either<'a>(
-    alloc: Global,
-    input: &'a str,
-    dating: &Dating<'_, '_>,
-) -> Result<Message<&'a str>, ParseFault>
-    ensures { Answers variants.Either (dating_value dating.entry.now) (chars input.entry.now) result }
-{
-    match rfc5424::read(alloc, input) {
-        Ok(found) => match found {
-            Some(message) => Ok(message),
-            None => read_rfc3164(alloc, input, dating),
         },
         Err(_) => Err(ParseFault::Memory),
     }

@@ -1,8 +1,11 @@
-use Rattle.std.proofs.Common.{refl}
 use Rattle.std.specs.Str.{chars}
 use Rattle.syslog_pieces.specs.Timestamp.Zone.{dating_value}
-use Rattle.syslog_loose.proofs.BeginningLemmas.{no_reading}
+use Rattle.syslog_loose.proofs.ReadingLemmas.{left_answer}
 use Rattle.syslog_loose.proofs.reading.read.Goals as goal
 
-pub returns-then-not-may_be_read : goal.returns-then-not-may_be_read
-returns-then-not-may_be_read c = no_reading c.args.variant (dating_value c.args.dating.now) (chars c.args.input.now) (c.if-not-may_be_read.ensures refl)
+pub returns-in-None : goal.returns-in-None
+returns-in-None c =
+    left_answer c.args.variant (dating_value c.args.dating.now) (chars c.args.input.now) c.read_rfc3164.result (rw c.in-None.is at c.in-Ok.ensures) c.read_rfc3164.ensures
+
+pub returns-in-Err : goal.returns-in-Err
+returns-in-Err c = c.in-Err.ensures.1 (dating_value c.args.dating.now)
