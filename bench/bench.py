@@ -7,6 +7,8 @@
   bench.py --check --peer PATH        compares what the two write, and times nothing
   bench.py --instructions             counts instructions by valgrind, which other work does not change
   bench.py --reading                  measures the program of bench/totals/ instead, which reads and prints sums alone
+  bench.py --library                  measures bench/c_totals.c, the same over the library for C; needs cc
+  bench.py --cores                    times ways to filter one file on all cores
   bench.py --write                    puts the tables of the run into docs/BENCHMARKS.md as well
 
 Each time is the least of five runs, the start of the process included, with the standard input from a
@@ -18,6 +20,7 @@ import datetime
 import os
 import platform
 import re
+import shutil
 import signal
 import subprocess
 import sys
@@ -32,6 +35,18 @@ import corpora  # noqa: E402
 TOP = os.path.dirname(os.path.dirname(os.path.abspath(__file__)))
 CRATE = os.path.join(TOP, "crates", "syslog_tidy")
 DOCUMENT = os.path.join(TOP, "docs", "BENCHMARKS.md")
+# Ways to filter the file $F by $P, each to files whose names begin with "out". `split` sets FILE, and would end at the
+# first part in which lines are refused.
+WAYS = [
+    ("one process", "$P <$F >out"),
+    ("`split -n l/K/2` in each of two", "seq 2 | xargs -P 2 -I{} sh -c 'split -n l/{}/2 $F | $P >out.{}'"),
+    ("`split -n l/K/4` in each of four", "seq 4 | xargs -P 4 -I{} sh -c 'split -n l/{}/4 $F | $P >out.{}'"),
+    ("`split -n r/4 --filter`", "split -n r/4 --filter '$P >$FILE || [ $? = 1 ]' $F out."),
+    ("`split -n l/4 --filter`", "split -n l/4 --filter '$P >$FILE || [ $? = 1 ]' $F out."),
+    ("`parallel --pipepart --block -1 --keep-order`", "parallel --pipepart -a $F --block -1 --keep-order $P >out"),
+    ("`parallel --pipe --block 50M --keep-order`", "parallel --pipe --block 50M --keep-order $P <$F >out"),
+    ("`parallel --pipe --block 1M --keep-order`", "parallel --pipe --block 1M --keep-order $P <$F >out"),
+]
 # A hostile line is given often enough that a run takes about so long, but no more often than this.
 HOSTILE_SECONDS = 0.1
 HOSTILE_REPEATS = 1024
@@ -99,15 +114,30 @@ class Filter:
             sys.exit("%s ended with status %d" % (self.words[0], status))
 
 
-def built(year, reading):
+def built_over_library():
+    """Proves and builds the library for C, and the program over it, and answers that one's path."""
+    crate = os.path.join(TOP, "crates", "syslog_c")
+    print("building %s" % crate, file=sys.stderr)
+    subprocess.run(["rt", "lib"], cwd=crate, stdout=sys.stderr, check=True)
+    program = os.path.join(tempfile.gettempdir(), "syslog-bench-c-totals")
+    kit = os.path.dirname(os.path.dirname(os.path.realpath(shutil.which("rt"))))
+    libraries = [os.path.join(crate, "out", "libsyslog_c.a"), os.path.join(kit, "c", "liblibc_c.a")]
+    source = os.path.join(TOP, "bench", "c_totals.c")
+    subprocess.run(["cc", "-O2", "-I", os.path.join(TOP, "include"), "-o", program, source, *libraries], check=True)
+    return program
+
+
+def built(chosen):
     """Proves and builds the program, and answers its path."""
-    if reading:
+    if chosen.library:
+        return built_over_library()
+    if chosen.reading:
         folder = os.path.join(tempfile.gettempdir(), "syslog-bench-totals")
         print("building bench/totals in %s" % folder, file=sys.stderr)
         words = [os.path.join(TOP, "bench", "build_reader"), folder, "totals"]
         return subprocess.check_output(words, text=True).split()[-1]
     print("building %s" % CRATE, file=sys.stderr)
-    ran = subprocess.run(["rt", "run", "--", str(year)], cwd=CRATE, stdin=subprocess.DEVNULL, stdout=sys.stderr)
+    ran = subprocess.run(["rt", "run", "--", str(chosen.year)], cwd=CRATE, stdin=subprocess.DEVNULL, stdout=sys.stderr)
     if ran.returncode:
         sys.exit("the program was not built")
     return os.path.join(CRATE, "out", "syslog_tidy")
@@ -233,17 +263,56 @@ def time_hostile(filters, chosen, folder):
     return table
 
 
+def order_kept(folder, wanted):
+    """Whether the files that begin with "out", one behind the other, are the wanted one, or have its lines at least."""
+    words = {"shell": True, "cwd": folder, "env": {**os.environ, "LC_ALL": "C", "W": wanted}, "executable": "/bin/bash"}
+    if not subprocess.run('cat out* | cmp -s - "$W"', **words).returncode:
+        return "kept"
+    if subprocess.run('cmp -s <(cat out* | sort) <(sort "$W")', **words).returncode:
+        sys.exit("not all lines came out")
+    return "lost"
+
+
+def time_cores(it, chosen, folder):
+    """The least time of each way to filter ten times the lines of the corpus mixed, by the clock."""
+    file, wanted, parts = (os.path.join(folder, name) for name in ("mixed", "wanted", "parts"))
+    size = corpora.write_lines(file, corpora.corpus("mixed", chosen.lines) * 10)
+    print("%d lines, %.0f MB\n" % (chosen.lines * 10, size / 1e6))
+    table = head("how", "seconds", "order of the lines")
+    for name, command in WAYS:
+        if command.startswith("parallel") and not shutil.which("parallel"):
+            continue
+        best = None
+        for _ in range(chosen.runs):
+            shutil.rmtree(parts, ignore_errors=True)
+            os.mkdir(parts)
+            begun = time.perf_counter()
+            environment = {**it.environment, "P": " ".join(it.words), "F": file}
+            ran = subprocess.run(["sh", "-c", command], cwd=parts, env=environment, stderr=subprocess.DEVNULL)
+            taken = time.perf_counter() - begun
+            best = taken if best is None else min(best, taken)
+        if name == "one process":
+            # (where lines are refused the other ways end as after a failed command, so what came out must tell)
+            it.judge(ran.returncode)
+            os.rename(os.path.join(parts, "out"), wanted)
+            order = "kept"
+        else:
+            order = order_kept(parts, wanted)
+        row(table, name, "%.2f" % best, order)
+    return table
+
+
 def count_corpora(filters, chosen):
     """The instructions of each filter for one line more."""
     more = ["peer's instructions", "the peer's over ours"] * (len(filters) > 1)
-    more += ["lines whose sums differ"] * (len(filters) > 1 and chosen.reading)
+    more += ["lines whose sums differ"] * (len(filters) > 1 and chosen.sums)
     table = head("corpus", "instructions a line", *more)
     for name, lines in corpora.corpora(4000):
         if chosen.only not in name or len(lines) < 4000:
             continue
         own, *others = [(it.instructions(lines) - it.instructions(lines[:1000])) / 3000 for it in filters]
         more = [cell for it in others for cell in ("{:,.0f}".format(it), "%.2f" % (it / own))]
-        if others and chosen.reading:
+        if others and chosen.sums:
             more.append(len(differences(filters, lines, len(lines))))
         row(table, name, "{:,.0f}".format(own), *more)
     return table
@@ -309,6 +378,9 @@ def arguments():
     reader.add_argument("--instructions", action="store_true", help="count instructions by valgrind, and time nothing")
     told = "measure the reading calls, by the program of bench/totals/, on the corpora alone"
     reader.add_argument("--reading", action="store_true", help=told)
+    told = "measure the library for C, by the program bench/c_totals.c, on the corpora alone"
+    reader.add_argument("--library", action="store_true", help=told)
+    reader.add_argument("--cores", action="store_true", help="time ways to filter one file on all cores")
     reader.add_argument("--year", type=int, default=2019)
     told = "count processor time, which other work on the machine disturbs less"
     reader.add_argument("--processor", action="store_true", help=told)
@@ -320,6 +392,7 @@ def arguments():
     told = "put the tables into this document too (docs/BENCHMARKS.md), as of the commit that is checked out"
     reader.add_argument("--write", metavar="DOCUMENT", nargs="?", const=DOCUMENT, help=told)
     chosen = reader.parse_args()
+    chosen.sums = chosen.reading or chosen.library
     if chosen.check and not chosen.peer:
         reader.error("--check compares with a --peer")
     if chosen.write and (chosen.only or chosen.check):
@@ -327,30 +400,42 @@ def arguments():
     return chosen
 
 
+def table_names(chosen):
+    """The names of the tables of this run in the document."""
+    if chosen.cores:
+        return ["all cores"]
+    subjects = ["ordinary lines", "hostile lines"]
+    if chosen.sums:
+        subjects = ["library for C" if chosen.library else "reading calls"]
+    return ["%s, by %s" % (it, "instructions" if chosen.instructions else "time") for it in subjects]
+
+
 def main():
     chosen = arguments()
     clock = "processor time" if chosen.processor else "time by the clock"
     how = "instructions by valgrind, one run" if chosen.instructions else "%s, least of %d runs" % (clock, chosen.runs)
-    kind = "by instructions" if chosen.instructions else "by time"
-    names = ["reading calls, " + kind] if chosen.reading else ["ordinary lines, " + kind, "hostile lines, " + kind]
+    names = table_names(chosen)
     if chosen.write:
         commit = subprocess.check_output(["git", "rev-parse", "--short", "HEAD"], cwd=TOP, text=True).strip()
         measured = "Measured on %s, at commit %s; %s." % (machine(), commit, how)
         # A document without the tables is found now, not after minutes.
         with open(chosen.write, encoding="utf-8") as document:
             with_tables(document.read(), dict.fromkeys(names, []), measured)
-    paths = [chosen.program or built(chosen.year, chosen.reading)] + [chosen.peer] * bool(chosen.peer)
+    paths = [chosen.program or built(chosen)] + [chosen.peer] * bool(chosen.peer)
     filters = [Filter(path, chosen.year, chosen.processor) for path in paths]
     if chosen.check:
         sys.exit(1 if check(filters, chosen) else 0)
     if chosen.instructions:
         tables = [count_corpora(filters, chosen)]
-        tables += [] if chosen.reading else [count_hostile(filters, chosen)]
+        tables += [] if chosen.sums else [count_hostile(filters, chosen)]
     else:
         print("%s; %s\n" % (machine(), how))
         with tempfile.TemporaryDirectory(prefix="syslog-bench-") as folder:
-            tables = [time_corpora(filters, chosen, folder)]
-            tables += [] if chosen.reading else [time_hostile(filters, chosen, folder)]
+            if chosen.cores:
+                tables = [time_cores(filters[0], chosen, folder)]
+            else:
+                tables = [time_corpora(filters, chosen, folder)]
+                tables += [] if chosen.sums else [time_hostile(filters, chosen, folder)]
     if chosen.write:
         # Read again, since it may have been worked on in the meantime.
         with open(chosen.write, "r+", encoding="utf-8") as document:

@@ -282,11 +282,17 @@ HOSTILE = [
 ]
 
 
+def corpus(wanted, lines):
+    """The lines of the corpus of that name."""
+    name, maker, share = next(it for it in KINDS if it[0] == wanted)
+    chance = random.Random("syslog " + name)
+    return [maker(chance) for _ in range(max(int(lines * share), 1))]
+
+
 def corpora(lines):
     """Each corpus as its name and its lines."""
-    for name, maker, share in KINDS:
-        chance = random.Random("syslog " + name)
-        yield name, [maker(chance) for _ in range(max(int(lines * share), 1))]
+    for name, _, _ in KINDS:
+        yield name, corpus(name, lines)
 
 
 def write_lines(path, lines):
