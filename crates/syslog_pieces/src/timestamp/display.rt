@@ -21,7 +21,9 @@ impl fmt::Display for OffsetTimestamp {
     }
 }
 
-fn write_stamp<W: fmt::Write>(
+/// Writes what a clock at the offset shows, and the offset.
+#[inline]
+pub(super) fn write_stamp<W: fmt::Write>(
     f: &mut fmt::Formatter<W>,
     dt: DateTime,
     offset: Offset,
