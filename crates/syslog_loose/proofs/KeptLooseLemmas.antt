@@ -21,11 +21,8 @@ use Rattle.syslog_pieces.specs.Timestamp.Plain.{IsPlainStamp}
 use Rattle.syslog_pieces.specs.Timestamp.Zone.{Dating, IsMonthStamp}
 use Rattle.syslog_pieces.specs.declared.procid.ProcId.{ProcId}
 use Rattle.syslog_pieces.specs.declared.procid.ProcId.TheVariants.{PID, Name}
-use Rattle.syslog_pieces.specs.Timestamp.Fields.{fields_of, IsStampAt}
-use Rattle.syslog_pieces.specs.Timestamp.Printed.{fields_text}
-use Rattle.syslog_pieces.specs.declared.timestamp.civil.CivilStamp.{CivilStamp}
+use Rattle.syslog_pieces.specs.Timestamp.Printed.{printed_stamp}
 use Rattle.syslog_pieces.specs.declared.timestamp.OffsetTimestamp.{OffsetTimestamp}
-use Rattle.syslog_pieces.proofs.TimestampLemmas.CivilStamp.{printed_at}
 use Rattle.syslog_pieces.proofs.TimestampLemmas.Printing.{printed_stamp-bytes}
 use Rattle.syslog_pieces.specs.declared.timestamp.month_date.MonthDate.{MonthDate}
 use Rattle.syslog_pieces.proofs.PieceLemmas.Class.{row_nil, row_cons, rest_front, front_division, optional_some, optional_none}
@@ -258,9 +255,9 @@ loose_bytes front stamp tail u v =
     ∙ ap₂ (λ (x y : List ℕ). x ++ (32 ∷ y)) (encodes-chars front u)
     (encodes-append stamp (chars tail) ∙ ap (λ (x : List ℕ). encode_utf8_all stamp ++ x) (encodes-chars tail v)))
 
--- what is written of a timestamp by its clock
-pub civil_bytes : (c : CivilStamp) (stamp : OffsetTimestamp) → IsStampAt c.datetime c.offset stamp → fields_text (fields_of c.datetime) c.offset.seconds ≡ encode_utf8_all (timestamp_text (Some stamp))
-civil_bytes c stamp h = sym (printed_stamp-bytes stamp ∙ printed_at c.datetime c.offset stamp h)
+-- what is written of a timestamp that prints so
+pub stamp_bytes : (stamp : OffsetTimestamp) (text : List ℕ) → text ≡ 32 ∷ printed_stamp stamp.instant.nanosecond stamp.offset.seconds → text ≡ 32 ∷ encode_utf8_all (timestamp_text (Some stamp))
+stamp_bytes stamp text e = e ∙ ap (λ (x : List ℕ). 32 ∷ x) (sym (printed_stamp-bytes stamp))
 
 -- ---- by a variant that reads RFC 3164
 

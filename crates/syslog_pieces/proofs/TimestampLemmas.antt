@@ -3,13 +3,13 @@
 pub mod Answers
 pub mod Characters
 pub mod Civil
-pub mod CivilStamp
 pub mod Fields
 pub mod Fold
 pub mod Fraction
 pub mod Loose
 pub mod MonthDate
 pub mod MonthReading
+pub mod MonthText
 pub mod Months
 pub mod Piece
 pub mod Printing

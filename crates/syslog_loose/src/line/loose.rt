@@ -3,12 +3,11 @@
 //! A timestamp of RFC 3164 never prints as it is written. What programs write behind it, as ` host app[5]: message`,
 //! mostly does, and so does the priority before it. So it is copied, without the fields in between.
 ghost use Rattle.std.specs.Prelude.{◌≡◌, ◌≢◌, ◌++◌, ◌∷◌, ◌<◌, IfOk, IfSome, IsOk, IsTrue, OnOk, Some, length, string_bytes};
+ghost use Rattle.std.specs.List.{AllByRecursion};
 ghost use Rattle.std.specs.Str.{chars, encode_utf8_all, IsUtf8};
 ghost use Rattle.syslog_pieces.specs.Pieces.Class.{Text};
 ghost use Rattle.syslog_pieces.specs.Pieces.View.{shown};
 ghost use Rattle.syslog_pieces.specs.Text.{dash};
-ghost use Rattle.syslog_pieces.specs.Timestamp.Fields.{fields_of};
-ghost use Rattle.syslog_pieces.specs.Timestamp.Printed.{fields_text};
 ghost use Rattle.syslog_pieces.specs.Timestamp.Zone.{dating_value};
 ghost use Rattle.syslog_loose.specs.KeptLoose.{KeptBehind, KeptNames, KeptOrigin, KeptProgram, PrintsFreely, PrintsLoosely, ShowsDated};
 ghost use Rattle.syslog_loose.specs.Printed.{timestamp_text};
@@ -30,9 +29,10 @@ use syslog_pieces::pri::kept_priority;
 use syslog_pieces::procid::kept_digits;
 use syslog_pieces::structured_data::listed::{DASH_RULE, begins_list};
 use syslog_pieces::text::kept::{before, kept_host, one_space};
+use syslog_pieces::text::written::push_bytes;
 use syslog_pieces::text::{CharClass, blanks, literal, split_run, trimmed};
 use syslog_pieces::timestamp::OffsetTimestamp;
-use syslog_pieces::timestamp::civil::{CivilStamp, civil_month_stamp};
+use syslog_pieces::timestamp::civil::month_text;
 use syslog_pieces::timestamp::loose::loose_stamp;
 use syslog_pieces::timestamp::month_date::MonthDate;
 use syslog_pieces::timestamp::month_date::usual::usual_date;
@@ -200,30 +200,30 @@ pub(crate) fn dated_text(
     ensures memory { (variant : Variant) (input : Text) → ShowsDated variant input (shown line.entry.front) line.entry.date (shown line.entry.tail)
         → IsUnreadable variant (dating_value dating.entry.now) input → IsOk result }
 {
-    let Some(stamp) = civil_month_stamp(line.date, dating) else {
+    let Some(stamp) = month_text(line.date, dating) else {
         return Ok(false);
     };
     if !is_kept_behind(line.tail) {
         return Ok(false);
     }
-    write_dated(text, line, stamp, length)?;
+    write_dated(text, line, &stamp, length)?;
     Ok(true)
 }
 
-// Writes the line with the timestamp in place of its date, into a text that gets room for the input's length at once.
-#[inline]
+// Writes the line with this text in place of its date, into a text that gets room for the input's length at once.
+#[inline(always)]
 fn write_dated(
     text: &mut String,
     line: DatedLine<'_>,
-    stamp: CivilStamp,
+    stamp: &[u8],
     length: usize,
 ) -> Result<(), AllocError>
-    ensures { OnOk result (string_bytes text.new
-        ≡ line.entry.front.now ++ ((32 ∷ fields_text (fields_of stamp.datetime) stamp.offset.seconds) ++ line.entry.tail.now)) }
+    requires { AllByRecursion (λ b. b < 128) stamp.now }
+    ensures { OnOk result (string_bytes text.new ≡ line.entry.front.now ++ (stamp.entry.now ++ line.entry.tail.now)) }
 {
     make_room(text, length)?;
     text.push_str(line.front)?;
-    write!(text, " {stamp}")?;
+    push_bytes(text, stamp)?;
     text.push_str(line.tail)
 }
 

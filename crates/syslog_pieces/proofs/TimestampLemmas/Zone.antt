@@ -55,14 +55,14 @@ some_same : {a b : Offset} → Some a ≡ Some b → b ≡ a
 some_same e = cc
 
 -- at the one offset, or at the one before a fold
-pub answer_at : (a : AmbiguousOffset) (dt : DateTime) (offset : Offset) (r : Option OffsetTimestamp) → earlier a ≡ Some offset → IsAnswer (IsStampAt dt offset) r
-    → IsAnswer (IsStampOf a dt) r
+pub answer_at : (a : AmbiguousOffset) (dt : DateTime) (offset : Offset) (r : Option OffsetTimestamp)
+    → earlier a ≡ Some offset → IsAnswer (IsStampAt dt offset) r → IsAnswer (IsStampOf a dt) r
 answer_at (Unambiguous o) dt offset r e h = subst (λ (x : Offset). IsAnswer (IsStampAt dt x) r) (some_same e) h
 answer_at (Gap before after) dt offset r e h = absurd (let s : None ≡ Some offset = e in cc)
 answer_at (Fold before after) dt offset r e h = subst (λ (x : Offset). IsAnswer (IsStampAt dt x) r) (some_same e) h
 
-pub local_answer_at : (a : AmbiguousOffset) (tz : TimeZone) (dt : DateTime) (offset : Offset) (r : Option OffsetTimestamp) → earlier a ≡ Some offset
-    → IsAnswer (IsStampAt dt offset) r → IsAnswer (IsLocalStampOf a tz dt) r
+pub local_answer_at : (a : AmbiguousOffset) (tz : TimeZone) (dt : DateTime) (offset : Offset) (r : Option OffsetTimestamp)
+    → earlier a ≡ Some offset → IsAnswer (IsStampAt dt offset) r → IsAnswer (IsLocalStampOf a tz dt) r
 local_answer_at (Unambiguous o) tz dt offset r e h = subst (λ (x : Offset). IsAnswer (IsStampAt dt x) r) (some_same e) h
 local_answer_at (Gap before after) tz dt offset r e h = absurd (let s : None ≡ Some offset = e in cc)
 local_answer_at (Fold before after) tz dt offset r e h = subst (λ (x : Offset). IsAnswer (IsStampAt dt x) r) (some_same e) h

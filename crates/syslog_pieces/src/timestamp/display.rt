@@ -21,9 +21,7 @@ impl fmt::Display for OffsetTimestamp {
     }
 }
 
-/// Writes what a clock at the offset shows, and the offset.
-#[inline]
-pub(super) fn write_stamp<W: fmt::Write>(
+fn write_stamp<W: fmt::Write>(
     f: &mut fmt::Formatter<W>,
     dt: DateTime,
     offset: Offset,
