@@ -21,7 +21,9 @@ use Rattle.syslog_pieces.specs.Timestamp.Plain.{IsPlainStamp}
 use Rattle.syslog_pieces.specs.Timestamp.Zone.{Dating, IsMonthStamp}
 use Rattle.syslog_pieces.specs.declared.procid.ProcId.{ProcId}
 use Rattle.syslog_pieces.specs.declared.procid.ProcId.TheVariants.{PID, Name}
+use Rattle.syslog_pieces.specs.Timestamp.Printed.{printed_stamp}
 use Rattle.syslog_pieces.specs.declared.timestamp.OffsetTimestamp.{OffsetTimestamp}
+use Rattle.syslog_pieces.proofs.TimestampLemmas.Printing.{printed_stamp-bytes}
 use Rattle.syslog_pieces.specs.declared.timestamp.month_date.MonthDate.{MonthDate}
 use Rattle.syslog_pieces.proofs.PieceLemmas.Class.{row_nil, row_cons, rest_front, front_division, optional_some, optional_none}
 use Rattle.syslog_pieces.proofs.PieceLemmas.Kept.{front_of}
@@ -185,15 +187,15 @@ module _ (dating : Dating) (t b d front tail msg : Text) (stamp : Option OffsetT
 
 -- the same, from what stands behind the timestamp
 pub line_kept : (dating : Dating) (t b d front tail : Text) (stamp : Option OffsetTimestamp) (k : Kept priority priority_text t b) → k.value < 192 → Front (run is_blank) b d tt → Front (loose_stamp dating) d tail stamp
-    → KeptBehind stamp tail → t ≡ front ++ b → PrintsLoosely dating t front stamp tail
-line_kept dating t b d front tail stamp k small gap s h cut = loosely_kept dating t b d front tail h.msg stamp k small gap s h.plain h.names h.no_list cut
+    → IfSome stamp IsPlainStamp → KeptBehind tail → t ≡ front ++ b → PrintsLoosely dating t front stamp tail
+line_kept dating t b d front tail stamp k small gap s plain h cut = loosely_kept dating t b d front tail h.msg stamp k small gap s plain h.names h.no_list cut
 
 -- a line that shows a date has the timestamp of the date
 pub dated_kept : (dating : Dating) (variant : Variant) (text front : Text) (date : MonthDate) (tail : Text) (stamp : OffsetTimestamp) → ShowsDated variant text front date tail → IsMonthStamp dating date stamp
-    → KeptBehind (Some stamp) tail → PrintsLoosely dating (trimmed text) front (Some stamp) tail
-dated_kept dating variant text front date tail stamp shows is h =
+    → IsPlainStamp stamp → KeptBehind tail → PrintsLoosely dating (trimmed text) front (Some stamp) tail
+dated_kept dating variant text front date tail stamp shows is plain h =
     let s : Front (loose_stamp dating) shows.start tail (Some stamp) = record { piece = shows.dated.piece; whole = shows.dated.whole; is = inr (date, inl shows.dated.is, is) } in
-    line_kept dating (trimmed text) shows.behind shows.start front tail (Some stamp) shows.kept shows.small shows.gap s h shows.cut
+    line_kept dating (trimmed text) shows.behind shows.start front tail (Some stamp) shows.kept shows.small shows.gap s plain h shows.cut
 
 pub shown_dated : (variant : Variant) (text t b d front : Text) (date : MonthDate) (tail : Text) → t ≡ trimmed text → ReadsProtocol variant protocol.RFC3164
     → (k : Kept priority priority_text t b) → k.value < 192 → t ≡ front ++ b → Front (run is_blank) b d tt → Front yearless_date d tail date → ShowsDated variant text front date tail
@@ -252,6 +254,10 @@ loose_bytes front stamp tail u v =
     sym (encodes-append (chars front) (32 ∷ (stamp ++ chars tail))
     ∙ ap₂ (λ (x y : List ℕ). x ++ (32 ∷ y)) (encodes-chars front u)
     (encodes-append stamp (chars tail) ∙ ap (λ (x : List ℕ). encode_utf8_all stamp ++ x) (encodes-chars tail v)))
+
+-- what is written of a timestamp that prints so
+pub stamp_bytes : (stamp : OffsetTimestamp) (text : List ℕ) → text ≡ 32 ∷ printed_stamp stamp.instant.nanosecond stamp.offset.seconds → text ≡ 32 ∷ encode_utf8_all (timestamp_text (Some stamp))
+stamp_bytes stamp text e = e ∙ ap (λ (x : List ℕ). 32 ∷ x) (sym (printed_stamp-bytes stamp))
 
 -- ---- by a variant that reads RFC 3164
 

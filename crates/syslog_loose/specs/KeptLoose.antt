@@ -8,7 +8,6 @@ use Rattle.syslog_pieces.specs.ProcId.{procid_text, IsBoundedProcess}
 use Rattle.syslog_pieces.specs.StructuredData.Listed.{listed}
 use Rattle.syslog_pieces.specs.Text.{trimmed, is_blank, name_text}
 use Rattle.syslog_pieces.specs.Timestamp.MonthDate.{yearless_date}
-use Rattle.syslog_pieces.specs.Timestamp.Plain.{IsPlainStamp}
 use Rattle.syslog_pieces.specs.Timestamp.Zone.{Dating}
 use Rattle.syslog_pieces.specs.declared.procid.ProcId.{ProcId}
 use Rattle.syslog_pieces.specs.declared.timestamp.OffsetTimestamp.{OffsetTimestamp}
@@ -58,11 +57,9 @@ pub record KeptNames (text follows : Text) : Type 0 where
   pub unblank : Ends is_blank follows
   pub whole : text ≡ 32 ∷ (name_text hostname ++ (32 ∷ (program_text (Some appname) procid ++ (58 ∷ 32 ∷ follows))))
 
--- The timestamp is read back from print, and the text behind it is the names as they print, a colon, and a message that
--- begins with no list.
-pub record KeptBehind (timestamp : Option OffsetTimestamp) (tail : Text) : Type 0 where
+-- the text is the names as they print, a colon, and a message that begins with no list
+pub record KeptBehind (tail : Text) : Type 0 where
   pub msg : Text
-  pub plain : IfSome timestamp IsPlainStamp
   pub names : KeptNames tail msg
   pub no_list : NoFront (listed dash_rule) msg
 

@@ -9,6 +9,7 @@ pub mod Fraction
 pub mod Loose
 pub mod MonthDate
 pub mod MonthReading
+pub mod MonthText
 pub mod Months
 pub mod Piece
 pub mod Printing

@@ -3,6 +3,7 @@
 pub mod Closing
 pub mod Kept
 pub mod MonthReading
+pub mod MonthText
 pub mod Scan
 pub mod StampReading
 pub mod Usual

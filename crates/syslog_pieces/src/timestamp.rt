@@ -20,6 +20,7 @@ ghost use Rattle.syslog_pieces.specs.Timestamp as spec;
 ghost use Rattle.syslog_pieces.specs.Timestamp.{IsStampText, HasNoStamp};
 ghost use Rattle.syslog_pieces.specs.Pieces.View.{Reads};
 
+pub mod civil;
 mod digits;
 mod display;
 mod fields;

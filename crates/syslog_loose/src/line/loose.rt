@@ -2,7 +2,8 @@
 //!
 //! A timestamp of RFC 3164 never prints as it is written. What programs write behind it, as ` host app[5]: message`,
 //! mostly does, and so does the priority before it. So it is copied, without the fields in between.
-ghost use Rattle.std.specs.Prelude.{◌≡◌, ◌≢◌, ◌++◌, ◌∷◌, ◌<◌, IfOk, IfSome, IsOk, IsTrue, Some, length, string_bytes};
+ghost use Rattle.std.specs.Prelude.{◌≡◌, ◌≢◌, ◌++◌, ◌∷◌, ◌<◌, IfOk, IfSome, IsOk, IsTrue, OnOk, Some, length, string_bytes};
+ghost use Rattle.std.specs.List.{AllByRecursion};
 ghost use Rattle.std.specs.Str.{chars, encode_utf8_all, IsUtf8};
 ghost use Rattle.syslog_pieces.specs.Pieces.Class.{Text};
 ghost use Rattle.syslog_pieces.specs.Pieces.View.{shown};
@@ -28,12 +29,14 @@ use syslog_pieces::pri::kept_priority;
 use syslog_pieces::procid::kept_digits;
 use syslog_pieces::structured_data::listed::{DASH_RULE, begins_list};
 use syslog_pieces::text::kept::{before, kept_host, one_space};
+use syslog_pieces::text::written::push_bytes;
 use syslog_pieces::text::{CharClass, blanks, literal, split_run, trimmed};
 use syslog_pieces::timestamp::OffsetTimestamp;
+use syslog_pieces::timestamp::civil::month_text;
 use syslog_pieces::timestamp::loose::loose_stamp;
 use syslog_pieces::timestamp::month_date::MonthDate;
 use syslog_pieces::timestamp::month_date::usual::usual_date;
-use syslog_pieces::timestamp::zone::{Dating, month_stamp};
+use syslog_pieces::timestamp::zone::Dating;
 
 // A line, cut round its timestamp: the priority, and all from behind the timestamp on.
 #[derive(Clone, Copy)]
@@ -90,18 +93,15 @@ fn kept_names(text: &str) -> Option<&str>
     Some(rest)
 }
 
-// Whether a message with this timestamp prints as the text does behind it.
+// Whether a message whose timestamp is read back from print prints as the text does behind it.
 #[inline(always)]
-fn is_kept_behind(timestamp: Option<OffsetTimestamp>, tail: &str) -> bool
-    ensures { IsTrue result → KeptBehind timestamp (chars tail.now) }
+fn is_kept_behind(tail: &str) -> bool
+    ensures { IsTrue result → KeptBehind (chars tail.now) }
 {
     let Some(msg) = kept_names(tail) else {
         return false;
     };
-    if begins_list(msg, DASH_RULE) {
-        return false;
-    }
-    is_plain_time(timestamp)
+    !begins_list(msg, DASH_RULE)
 }
 
 // The line, where all but its timestamp prints as it is written.
@@ -120,7 +120,7 @@ fn loose_line<'a>(text: &'a str, dating: &Dating<'_, '_>) -> Option<LooseLine<'a
         timestamp,
         tail,
     };
-    if is_kept_behind(line.timestamp, line.tail) {
+    if is_plain_time(line.timestamp) && is_kept_behind(line.tail) {
         Some(line)
     } else {
         None
@@ -200,20 +200,31 @@ pub(crate) fn dated_text(
     ensures memory { (variant : Variant) (input : Text) → ShowsDated variant input (shown line.entry.front) line.entry.date (shown line.entry.tail)
         → IsUnreadable variant (dating_value dating.entry.now) input → IsOk result }
 {
-    let Some(stamp) = month_stamp(line.date, dating) else {
+    let Some(stamp) = month_text(line.date, dating) else {
         return Ok(false);
     };
-    let found = LooseLine {
-        front: line.front,
-        timestamp: Some(stamp),
-        tail: line.tail,
-    };
-    if !is_kept_behind(found.timestamp, found.tail) {
+    if !is_kept_behind(line.tail) {
         return Ok(false);
     }
-    make_room(text, length)?;
-    write!(text, "{found}")?;
+    write_dated(text, line, &stamp, length)?;
     Ok(true)
+}
+
+// Writes the line with this text in place of its date, into a text that gets room for the input's length at once.
+#[inline(always)]
+fn write_dated(
+    text: &mut String,
+    line: DatedLine<'_>,
+    stamp: &[u8],
+    length: usize,
+) -> Result<(), AllocError>
+    requires { AllByRecursion (λ b. b < 128) stamp.now }
+    ensures { OnOk result (string_bytes text.new ≡ line.entry.front.now ++ (stamp.entry.now ++ line.entry.tail.now)) }
+{
+    make_room(text, length)?;
+    text.push_str(line.front)?;
+    push_bytes(text, stamp)?;
+    text.push_str(line.tail)
 }
 
 /// Writes the printed text of the message of the line into `text`, where the variant reads it by RFC 3164 and all but its

@@ -8,7 +8,7 @@ use Rattle.jiff.specs.Words.{plain_zone, offset_at, ambiguous_at}
 use Rattle.std.specs.Borrow.{Bor}
 use Rattle.syslog_pieces.specs.Timestamp.{IsAnswer}
 use Rattle.syslog_pieces.specs.Timestamp.Fields.{fields_of, IsStampAt}
-use Rattle.syslog_pieces.specs.Timestamp.Zone.{Dating, given_zone, IsStampOf, IsStampIn, IsStampInGap, IsLocalStampOf, IsLocalStampIn, IsStampInAny, IsStampOfFields, IsMonthStamp, civil_of, year_of}
+use Rattle.syslog_pieces.specs.Timestamp.Zone.{Dating, earlier, given_zone, IsStampOf, IsStampIn, IsStampInGap, IsLocalStampOf, IsLocalStampIn, IsStampInAny, IsStampOfFields, IsMonthStamp, civil_of, year_of}
 use Rattle.syslog_pieces.specs.declared.timestamp.OffsetTimestamp.{OffsetTimestamp}
 use Rattle.syslog_pieces.specs.declared.timestamp.fields.CivilFields.{CivilFields}
 use Rattle.syslog_pieces.specs.declared.timestamp.month_date.MonthDate.{MonthDate}
@@ -51,11 +51,21 @@ month_stamp_once dating date s t (year, y, (dt, f, h)) (year', y', (dt', f', h')
 
 -- ---- what the readers answer
 
-pub answer_in_zone : (tz : TimeZone) (dt : DateTime) (a : AmbiguousOffset) (r : Option OffsetTimestamp) → a ≡ ambiguous_at tz dt → IsAnswer (IsStampOf a dt) r → IsAnswer (IsStampIn tz dt) r
-answer_in_zone tz dt a r e h = subst (λ (x : AmbiguousOffset). IsAnswer (IsStampOf x dt) r) e h
+some_same : {a b : Offset} → Some a ≡ Some b → b ≡ a
+some_same e = cc
 
-pub answer_in_local : (tz : TimeZone) (dt : DateTime) (a : AmbiguousOffset) (r : Option OffsetTimestamp) → a ≡ ambiguous_at tz dt → IsAnswer (IsLocalStampOf a tz dt) r → IsAnswer (IsLocalStampIn tz dt) r
-answer_in_local tz dt a r e h = subst (λ (x : AmbiguousOffset). IsAnswer (IsLocalStampOf x tz dt) r) e h
+-- at the one offset, or at the one before a fold
+pub answer_at : (a : AmbiguousOffset) (dt : DateTime) (offset : Offset) (r : Option OffsetTimestamp)
+    → earlier a ≡ Some offset → IsAnswer (IsStampAt dt offset) r → IsAnswer (IsStampOf a dt) r
+answer_at (Unambiguous o) dt offset r e h = subst (λ (x : Offset). IsAnswer (IsStampAt dt x) r) (some_same e) h
+answer_at (Gap before after) dt offset r e h = absurd (let s : None ≡ Some offset = e in cc)
+answer_at (Fold before after) dt offset r e h = subst (λ (x : Offset). IsAnswer (IsStampAt dt x) r) (some_same e) h
+
+pub local_answer_at : (a : AmbiguousOffset) (tz : TimeZone) (dt : DateTime) (offset : Offset) (r : Option OffsetTimestamp)
+    → earlier a ≡ Some offset → IsAnswer (IsStampAt dt offset) r → IsAnswer (IsLocalStampOf a tz dt) r
+local_answer_at (Unambiguous o) tz dt offset r e h = subst (λ (x : Offset). IsAnswer (IsStampAt dt x) r) (some_same e) h
+local_answer_at (Gap before after) tz dt offset r e h = absurd (let s : None ≡ Some offset = e in cc)
+local_answer_at (Fold before after) tz dt offset r e h = subst (λ (x : Offset). IsAnswer (IsStampAt dt x) r) (some_same e) h
 
 -- fields that name a datetime have its timestamp
 answer_of_fields : (f : CivilFields) (dt : DateTime) (tz : Option TimeZone) (local : TimeZone) (r : Option OffsetTimestamp) → fields_of dt ≡ f

@@ -2,7 +2,7 @@
 -- datetime at one instant, at two (a fold) or at none (a gap).
 use Rattle.std.specs.Prelude.{◌≡◌, ℤ, pos, ◌+ℤ◌, Option, Some, None, option_map}
 use Rattle.std.specs.Borrow.{Bor}
-use Rattle.jiff.specs.Types.{DateTime, TimeZone, AmbiguousOffset, Unambiguous, Gap, Fold}
+use Rattle.jiff.specs.Types.{DateTime, Offset, TimeZone, AmbiguousOffset, Unambiguous, Gap, Fold}
 use Rattle.jiff.specs.declared.tz.timezone.TimeZone.{TimeZone as ZoneHandle}
 use Rattle.jiff.specs.Words.{plain_zone, civil_nanos, nanos_of_seconds, offset_at, ambiguous_at}
 use Rattle.syslog_pieces.specs.declared.timestamp.OffsetTimestamp.{OffsetTimestamp}
@@ -29,6 +29,12 @@ dating_of year tz local = record { year = year; zone = given_zone tz; local = pl
 -- the same, handed on as one value
 abbrev pub dating_value : DatingHandle → Dating
 dating_value d = dating_of d.year d.tz d.local
+
+-- the one offset, or the one before a fold, and none in a gap
+abbrev pub earlier : AmbiguousOffset → Option Offset
+earlier (Unambiguous offset) = Some offset
+earlier (Gap before after) = None
+earlier (Fold before after) = Some before
 
 -- the one instant, or the earlier of two, and none in a gap
 abbrev pub IsStampOf : AmbiguousOffset → DateTime → OffsetTimestamp → Type 0

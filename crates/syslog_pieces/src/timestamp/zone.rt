@@ -7,6 +7,7 @@ ghost use Rattle.std.specs.Prelude.{◌≡◌, Some, pos, ◌<ℤ◌, IfSome, Is
 ghost use Rattle.jiff.specs.Words.{plain_zone};
 ghost use Rattle.syslog_pieces.specs.Timestamp.{IsAnswer};
 ghost use Rattle.syslog_pieces.specs.Timestamp.Zone as spec;
+ghost use Rattle.jiff.specs.Words.{ambiguous_at};
 
 use super::OffsetTimestamp;
 use super::fields::{CivilFields, at_offset};
@@ -33,7 +34,15 @@ pub fn month_stamp(date: MonthDate, dating: &Dating<'_, '_>) -> Option<OffsetTim
     ensures { IsAnswer (spec.IsMonthStamp (spec.dating_value dating.entry.now) date) result }
 {
     let year = year_of(date, dating.year)?;
-    let fields = CivilFields {
+    of_fields(fields_in(date, year), dating.tz, dating.local)
+}
+
+/// The civil fields of the month date in a year.
+#[inline(always)]
+pub(super) fn fields_in(date: MonthDate, year: i32) -> CivilFields
+    ensures { result ≡ spec.civil_of date year }
+{
+    CivilFields {
         year,
         month: date.month,
         day: date.day,
@@ -41,8 +50,7 @@ pub fn month_stamp(date: MonthDate, dating: &Dating<'_, '_>) -> Option<OffsetTim
         minute: date.minute,
         second: date.second,
         nanosecond: 0,
-    };
-    of_fields(fields, dating.tz, dating.local)
+    }
 }
 
 /// The year that a clock in the zone shows at the moment, from -9999 to 9999.
@@ -52,8 +60,9 @@ pub fn year_at(now: Timestamp, local: &TimeZone<'_>) -> i32
     i32::from(local.to_datetime(now).year())
 }
 
-// The year that the date shows, or else the one that is handed in.
-fn year_of(date: MonthDate, year: Option<i32>) -> Option<i32>
+/// The year that the date shows, or else the one that is handed in.
+#[inline(always)]
+pub(super) fn year_of(date: MonthDate, year: Option<i32>) -> Option<i32>
     ensures value { IfSome result (λ y. spec.year_of date year ≡ Some y) }
     ensures none { IsNone result → IfSome (spec.year_of date year) (λ y. pos 9999 <ℤ y) }
 {
@@ -78,25 +87,33 @@ fn of_fields(
     }
 }
 
+/// The offset of the clock in the zone that shows the datetime, the one before a fold where two do, and none in a gap.
+#[inline(always)]
+pub(super) fn offset_before(dt: DateTime, tz: &TimeZone<'_>) -> Option<Offset>
+    ensures { result ≡ spec.earlier (ambiguous_at (plain_zone tz.now) dt) }
+{
+    match tz.to_ambiguous_timestamp(dt).offset() {
+        AmbiguousOffset::Unambiguous { offset } => Some(offset),
+        AmbiguousOffset::Fold { before, .. } => Some(before),
+        AmbiguousOffset::Gap { .. } => None,
+    }
+}
+
 // In the zone that is given.
 fn in_zone(dt: DateTime, tz: &TimeZone<'_>) -> Option<OffsetTimestamp>
     ensures { IsAnswer (spec.IsStampIn (plain_zone tz.now) dt) result }
 {
-    match tz.to_ambiguous_timestamp(dt).offset() {
-        AmbiguousOffset::Unambiguous { offset } => at_offset(dt, offset),
-        AmbiguousOffset::Fold { before, .. } => at_offset(dt, before),
-        AmbiguousOffset::Gap { .. } => None,
-    }
+    let offset = offset_before(dt, tz)?;
+    at_offset(dt, offset)
 }
 
 // In the local zone.
 fn in_local(dt: DateTime, local: &TimeZone<'_>) -> Option<OffsetTimestamp>
     ensures { IsAnswer (spec.IsLocalStampIn (plain_zone local.now) dt) result }
 {
-    match local.to_ambiguous_timestamp(dt).offset() {
-        AmbiguousOffset::Unambiguous { offset } => at_offset(dt, offset),
-        AmbiguousOffset::Fold { before: first, .. } => at_offset(dt, first),
-        AmbiguousOffset::Gap { .. } => in_gap(dt, local),
+    match offset_before(dt, local) {
+        Some(offset) => at_offset(dt, offset),
+        None => in_gap(dt, local),
     }
 }
 

@@ -11,4 +11,4 @@ before-front-requires c = (priority_text c.in_ok-behind.ensures.0.value, c.in_ok
 pub returns-then-is_kept_behind-clause-kept : goal.returns-then-is_kept_behind-clause-kept
 returns-then-is_kept_behind-clause-kept c =
     line_kept (dating_value c.args.dating.now) (chars c.args.text.now) (chars c.in_ok-behind.behind.now) (chars c.blanks.result.now) (chars c.before-front.result.now) (chars c.in-Some.tail.now) c.in-Some.timestamp
-    c.in_ok-behind.ensures.0 c.in_ok-behind.ensures.1 c.blanks.ensures c.in-Some.ensures (c.if-is_kept_behind.ensures refl) c.before-front.ensures
+    c.in_ok-behind.ensures.0 c.in_ok-behind.ensures.1 c.blanks.ensures c.in-Some.ensures (c.if-is_plain_time.ensures.0 refl) (c.if-is_kept_behind.ensures refl) c.before-front.ensures

@@ -1,13 +1,6 @@
-use Rattle.std.proofs.Common.{sym, ap, ◌∙◌}
-use Rattle.jiff.specs.Words.{plain_offsets}
-use Rattle.jiff.specs.Types.{Unambiguous, Fold}
-use Rattle.syslog_pieces.proofs.TimestampLemmas.Zone.{answer_in_local}
+use Rattle.std.proofs.Common.{sym}
+use Rattle.syslog_pieces.proofs.TimestampLemmas.Zone.{local_answer_at}
 use Rattle.syslog_pieces.proofs.timestamp.zone.in_local.Goals as goal
 
-pub returns-in-Unambiguous : goal.returns-in-Unambiguous
-returns-in-Unambiguous c =
-    answer_in_local _ _ (Unambiguous c.in-Unambiguous.offset) _ (sym (ap plain_offsets c.in-Unambiguous.is) ∙ c.offset.ensures ∙ c.to_ambiguous_timestamp.ensures.offsets) c.at_offset.ensures
-
-pub returns-in-Fold : goal.returns-in-Fold
-returns-in-Fold c =
-    answer_in_local _ _ (Fold c.in-Fold.first c.in-Fold.after) _ (sym (ap plain_offsets c.in-Fold.is) ∙ c.offset.ensures ∙ c.to_ambiguous_timestamp.ensures.offsets) c.at_offset-in-Fold.ensures
+pub returns-in-Some : goal.returns-in-Some
+returns-in-Some c = local_answer_at _ _ c.args.dt c.in-Some.offset _ (sym c.in-Some.ensures) c.at_offset.ensures

@@ -1,7 +1,8 @@
-use Rattle.std.proofs.Common.{rules, FitsSigned, w32, None, refl}
+use Rattle.std.proofs.Common.{rules, FitsSigned, w32, None, refl, subst}
 use Rattle.std.proofs.lemmas.Int.{to_z-of_z}
 use Rattle.syslog_pieces.specs.Timestamp.{IsAnswer}
-use Rattle.syslog_pieces.specs.Timestamp.Zone.{IsMonthStamp, dating_value}
+use Rattle.syslog_pieces.specs.Timestamp.Zone.{IsMonthStamp, IsStampOfFields, dating_value}
+use Rattle.syslog_pieces.specs.declared.timestamp.fields.CivilFields.{CivilFields}
 use Rattle.syslog_pieces.proofs.TimestampLemmas.Zone.{answer_in_year, no_such_year}
 use Rattle.syslog_pieces.proofs.timestamp.zone.month_stamp.Goals as goal
 
@@ -13,4 +14,6 @@ returns-in_err-year c =
 pub returns : goal.returns
 returns c =
     let fits : FitsSigned w32 c.in_ok-year.year = search rules in
-    answer_in_year (dating_value c.args.dating.now) c.args.date c.in_ok-year.year _ c.in_ok-year.ensures.value (simp to_z-of_z at c.of_fields.ensures)
+    let dating = dating_value c.args.dating.now in
+    answer_in_year dating c.args.date c.in_ok-year.year _ c.in_ok-year.ensures.value
+    (subst (λ (f : CivilFields). IsAnswer (IsStampOfFields dating.zone dating.local f) c.of_fields.result) (simp to_z-of_z at c.fields_in.ensures) c.of_fields.ensures)
