@@ -1,0 +1,54 @@
+-- What is written for each line: this project's own choice.
+use Rattle.std.specs.Prelude.{◌≡◌, ◌≤◌, ◌⊎◌, ⊤, ℕ, ℤ, List, [], ◌∷◌, Option, Some, None, codes, true, length, count_by, IsUtf8, All}
+use Rattle.std.specs.Str.{chars}
+use Rattle.std.specs.Str.Lossy.{utf8_lossy}
+use Rattle.syslog_loose.specs.Message.{MessageValue}
+use Rattle.syslog_loose.specs.Reading.{IsOnlyRead, IsUnreadable, in_utc}
+use Rattle.syslog_loose.specs.declared.variant.Variant.TheVariants.{Either}
+use Rattle.serde_json.specs.Data.{Data, boolean, string, object, no_members}
+use Rattle.serde_json.specs.Read.{read}
+use Rattle.serde_json.specs.Written.{compact_text}
+use Rattle.syslog_lines.specs.Count.{held_count}
+use Rattle.syslog_lines.specs.Output.{Answer, Filter, Written, Marked, Omitted, is_passed_over}
+use Rattle.syslog_lines.specs.Walk.{FiltersAll}
+use Rattle.syslog_lines.specs.declared.summary.Summary.{Summary}
+use Rattle.syslog_json.specs.Json.{IsMessageJson, with_fields}
+
+-- the bytes are read as the value, are its text without a space between tokens, and have no control character
+pub record IsTextOf (data : Data) (bytes : List ℕ) : Type 0 where
+  pub read_back : read bytes ≡ Some data
+  pub compact : bytes ≡ compact_text data
+  pub printable : All (λ byte. 32 ≤ byte) bytes
+
+-- the value of a line that has no reading
+abbrev pub refused_json : List ℕ → Data
+refused_json line = object (with_fields ((codes "message", Some (string line)) ∷ (codes "refused", Some (boolean true)) ∷ []) no_members)
+
+-- the value of a line that is no UTF-8: what is none of it is replaced
+abbrev pub broken_json : List ℕ → Data
+broken_json line =
+    object (with_fields ((codes "invalid_utf8", Some (boolean true)) ∷ (codes "message", Some (string (utf8_lossy line))) ∷ (codes "refused", Some (boolean true)) ∷ []) no_members)
+
+-- the value of the message as which the line is read in this year
+abbrev pub IsReadJson : ℤ → List ℕ → Data → Type 0
+IsReadJson year line data = IsUtf8 line × ((m : MessageValue) × IsOnlyRead Either (in_utc year) (chars line) m × IsMessageJson m data)
+
+-- the value of a line that is no message
+abbrev pub IsRefusedJson : ℤ → List ℕ → Data → Type 0
+IsRefusedJson year line data =
+    (IsUtf8 line × IsUnreadable Either (in_utc year) (chars line) × (data ≡ refused_json line)) ⊎ ((¬ (IsUtf8 line)) × (data ≡ broken_json line))
+
+-- the answer to a line: the text of its value; one that is no message counts as passed over
+abbrev pub IsObject : ℤ → List ℕ → Answer → Type 0
+IsObject year line (Written bytes) = (data : Data) × IsReadJson year line data × IsTextOf data bytes
+IsObject year line (Marked bytes) = (data : Data) × IsRefusedJson year line data × IsTextOf data bytes
+IsObject year line Omitted = ⊥
+
+-- memory may be wanted for any line
+abbrev pub objects : ℤ → Filter
+objects year = record { Answers = IsObject year; Wants = λ line. ⊤ }
+
+-- all was read, the text of each line's value was written, and the summary counts the lines and those that are no message
+abbrev pub WritesObjects : ℤ → Option (List ℕ) → Option (List ℕ) → Option (List ℕ) → Option (List ℕ) → Summary → Type 0
+WritesObjects year had left held holds summary = (answers : List Answer) × (all : FiltersAll (objects year) had left held holds answers)
+    × (summary.lines ≡ held_count (length all.lines)) × (summary.refused ≡ held_count (count_by is_passed_over answers))

@@ -1,0 +1,42 @@
+//! Writes each syslog line of standard input to standard output as one JSON object on one line.
+//!
+//! `syslog_json 2019` answers the line `<34>Oct 11 22:14:15 mymachine app[323]: a message` with the object that has
+//! `"protocol":"RFC3164"`, `"facility":"auth"`, `"severity":"crit"`, `"timestamp":"2019-10-11T22:14:15+00:00"`,
+//! `"hostname":"mymachine"`, `"appname":"app"`, `"procid":323` and `"message":"a message"`, its keys in the order of their
+//! bytes. A line that is no message is written as `{"message":"..","refused":true}`, so that no line is lost.
+#![tactic(auto)]
+
+mod args;
+mod field;
+mod filter;
+mod gather;
+mod message;
+mod report;
+
+use args::{Task, arguments};
+use filter::write_objects;
+use report::{help, usage, version};
+use std::process::ExitCode;
+use syslog_lines::Watched;
+use syslog_lines::report::report;
+
+#[cfg(test)]
+mod tests;
+
+// Writes the lines of standard input as JSON, and then answers the exit status.
+fn answer_input(rt: &HostRuntime, year: i32) -> u8 {
+    let mut reader = Watched::new(rt.stdin());
+    let mut writer = Watched::new(rt.stdout());
+    let outcome = write_objects(rt.alloc(), &mut reader, &mut writer, year);
+    report(&outcome, &mut rt.stderr())
+}
+
+fn main(rt: HostRuntime) -> ExitCode {
+    let status = match arguments(&rt) {
+        Some(Task::Lines(year)) => answer_input(&rt, year),
+        Some(Task::Help) => help(&mut rt.stdout(), &mut rt.stderr()),
+        Some(Task::Version) => version(&mut rt.stdout(), &mut rt.stderr()),
+        None => usage(&mut rt.stderr()),
+    };
+    ExitCode::from(status)
+}
