@@ -1,5 +1,5 @@
 -- The answers of the filter, and their counts.
-use Rattle.std.proofs.Common.{◌≡◌, ℕ, ℤ, ◌+◌, ◌++◌, List, [], ◌∷◌, Option, Some, true, false, inl, inr, refl, sym, subst, ◌∙◌, arith}
+use Rattle.std.proofs.Common.{◌≡◌, ℕ, ℤ, ◌+◌, ◌++◌, List, [], ◌∷◌, Option, true, false, inl, inr, refl, subst, ◌∙◌}
 use Rattle.std.specs.Prelude.{IsUtf8}
 use Rattle.std.specs.Str.{chars}
 use Rattle.syslog_loose.specs.Message.{MessageValue}
@@ -14,8 +14,6 @@ use Rattle.syslog_lines.specs.declared.summary.Summary.{Summary}
 use Rattle.syslog_lines.specs.declared.summary.Tally.{Tally}
 use Rattle.syslog_json.specs.Json.{IsMessageJson}
 use Rattle.syslog_json.specs.Objects.{IsTextOf, WritesObjects, broken_json, objects, refused_json}
-use Rattle.syslog_json.proofs.MemberLemmas.{IsFlat}
-use Rattle.syslog_json.proofs.MessageLemmas.{flat_fields}
 
 -- the end of the filter; the year stands in a call as a number of 32 bits
 pub WritesObjects-walked : (year y : ℤ) (had left held holds : Option (List ℕ)) (tally : Tally) (summary : Summary) → y ≡ year → WalksAll (objects y) had left held holds tally
@@ -28,7 +26,7 @@ WritesObjects-walked year y had left held holds tally summary same walked lines 
 pub AddsAnswer-read : (year y : ℤ) (line old new bytes : List ℕ) (m : MessageValue) (value : Data) → y ≡ year → IsUtf8 line → IsOnlyRead Either (in_utc y) (chars line) m → IsMessageJson m value
     → IsTextOf value bytes → new ≡ old ++ (bytes ++ 10 ∷ []) → AddsAnswer (objects year) line old new true
 AddsAnswer-read year y line old new bytes m value same utf8 read json text added =
-    (Written bytes, (value, (utf8, m, subst (λ (z : ℤ). IsOnlyRead Either (in_utc z) (chars line) m) same read, json), text), added, refl)
+    (Written bytes, (value, (utf8, (m, subst (λ (z : ℤ). IsOnlyRead Either (in_utc z) (chars line) m) same read, json)), text), added, refl)
 
 -- the text of the value of a line without a reading was added
 pub AddsAnswer-refused : (year y : ℤ) (line old new bytes : List ℕ) (value : Data) → y ≡ year → IsUtf8 line → IsUnreadable Either (in_utc y) (chars line) → value ≡ refused_json line
@@ -40,10 +38,3 @@ AddsAnswer-refused year y line old new bytes value same utf8 none json text adde
 pub AddsAnswer-broken : (year : ℤ) (line old new bytes : List ℕ) (value : Data) → (IsUtf8 line → ⊥) → value ≡ broken_json line
     → IsTextOf value bytes → new ≡ old ++ (bytes ++ 10 ∷ []) → AddsAnswer (objects year) line old new false
 AddsAnswer-broken year line old new bytes value other json text added = (Marked bytes, (value, inr (other, json), text), added, refl)
-
--- neither of these values has a float, or nests
-pub flat_refused : (line : List ℕ) (value : Data) → value ≡ refused_json line → IsFlat 5 value
-flat_refused line value is = subst (IsFlat 5) (sym is) (flat_fields _ ((refl, omega arith), ((refl, omega arith), tt)))
-
-pub flat_broken : (line : List ℕ) (value : Data) → value ≡ broken_json line → IsFlat 5 value
-flat_broken line value is = subst (IsFlat 5) (sym is) (flat_fields _ ((refl, omega arith), ((refl, omega arith), ((refl, omega arith), tt))))

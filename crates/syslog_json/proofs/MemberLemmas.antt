@@ -1,7 +1,7 @@
 -- The members of objects: their order, and what is found at a key.
-use Rattle.std.proofs.Common.{◌≡◌, ℕ, suc, ◌≤◌, List, [], ◌∷◌, ◌++◌, map, Option, Some, None, Ordering, Less, Equal, Greater, is_eq, cond, Bool, true, false, ◌||◌, bytes_eq, nat_cmp, refl, sym, ap, subst, ◌∙◌, arith, append-nil}
+use Rattle.std.proofs.Common.{◌≡◌, ℕ, suc, ◌≤◌, List, [], ◌∷◌, ◌++◌, map, Some, None, Ordering, Less, Equal, Greater, is_eq, cond, Bool, true, false, bytes_eq, nat_cmp, refl, sym, ap, subst, ◌∙◌, arith, append-nil}
 use Rattle.std.proofs.lemmas.List.{map-append}
-use Rattle.std.specs.Prelude.{⊤, max}
+use Rattle.std.specs.Prelude.{⊤}
 use Rattle.std.proofs.lemmas.Cmp.{nat_list_cmp_total, tied_itself}
 use Rattle.std.proofs.lemmas.Map.Text.{is_eq-slice_cmp}
 use Rattle.std.proofs.lemmas.Slice.Eq.{bytes_eq-Decides}
@@ -9,10 +9,10 @@ use Rattle.std.specs.Cmp.Lexicographic.{slice_cmp}
 use Rattle.std.specs.List.{AllByRecursion, filter}
 use Rattle.std.specs.List.Sorted.{IsStrictlySortedBy}
 use Rattle.std.specs.Ordering.{match_ordering, ordering_reverse}
-use Rattle.serde_json.specs.Data.{Data, array, object, Items, no_items, item, Members, no_members, member, put, depth, items_depth, members_depth}
+use Rattle.serde_json.specs.Data.{Data, array, object, Members, no_members, member, put, depth}
 use Rattle.serde_json.specs.Find.{as_array, get_member}
 use Rattle.serde_json.specs.View.{items_of, items_view, view}
-use Rattle.serde_json.specs.Written.{has_float, items_have_float, members_have_float}
+use Rattle.serde_json.specs.Written.{has_float}
 use Rattle.serde_json.specs.declared.value.Value.{Value}
 use Rattle.serde_json.proofs.Views.{get_member-put, get_member-put_other}
 use Rattle.syslog_json.specs.Json.{Gathers, IsSingle, Pair, member_keys, one_or_all, values_at}
@@ -98,6 +98,10 @@ ascends-put k d (member l e ms) ascends = ascends-put_at _ k l d e ms refl ascen
 
 -- ---- a value is added to those at its key
 
+pub gathers_none : (ms : Members) → ms ≡ no_members → Gathers [] ms
+unfolding IsStrictlySortedBy
+gathers_none ms is = subst (Gathers []) (sym is) record { ascends = tt; each = λ key. refl }
+
 gathers_at : (here : Bool) (pairs : List Pair) (key q : List ℕ) (joined mid d : Data) (old : Members) → bytes_eq q key ≡ here → AllByRecursion (λ (p : Pair). IsSingle p.1) pairs → Gathers pairs old
     → ((values : List Data) → AllByRecursion IsSingle values → get_member key old ≡ one_or_all values → Some joined ≡ one_or_all (values ++ d ∷ []))
     → get_member q (put key joined (put key mid old)) ≡ one_or_all (values_at q (pairs ++ (key, d) ∷ []))
@@ -115,9 +119,9 @@ pub gathers_push : (pairs : List Pair) (key : List ℕ) (joined mid d : Data) (o
     → ((values : List Data) → AllByRecursion IsSingle values → get_member key old ≡ one_or_all values → Some joined ≡ one_or_all (values ++ d ∷ []))
     → Gathers (pairs ++ (key, d) ∷ []) new
 gathers_push pairs key joined mid d old new is single gathers joins = subst (Gathers (pairs ++ (key, d) ∷ [])) (sym is) record {
-    ascends = ascends-put key joined _ (ascends-put key mid old gathers.ascends);
-    each = λ q. gathers_at (bytes_eq q key) pairs key q joined mid d old refl single gathers joins
-  }
+  ascends = ascends-put key joined _ (ascends-put key mid old gathers.ascends);
+  each = λ q. gathers_at (bytes_eq q key) pairs key q joined mid d old refl single gathers joins;
+}
 
 -- ---- no float, and depth
 

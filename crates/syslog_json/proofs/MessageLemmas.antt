@@ -1,6 +1,10 @@
 -- The JSON of messages: how elements are gathered, and that no value of it has a float or nests deep.
-use Rattle.std.proofs.Common.{◌≡◌, ℕ, suc, ◌≤◌, pos, negsuc, List, [], ◌∷◌, ◌++◌, map, Option, Some, None, false, refl, sym, ap, subst, ◌∙◌, arith, append_assoc, append-nil}
-use Rattle.std.specs.Prelude.{IsUtf8, ⊤, codes, encode_utf8_all}
+use Rattle.std.proofs.Common.{◌≡◌, ℕ, pos, negsuc, List, [], ◌∷◌, ◌++◌, map, Option, Some, None, refl, sym, ap, subst, ◌∙◌, arith, append_assoc, append-nil}
+use Rattle.std.proofs.Common.{Result, Ok}
+use Rattle.std.specs.Borrow.{Bor}
+use Rattle.std.specs.Global.{Global}
+use Rattle.std.specs.Prelude.{IsUtf8, String, ⊤, encode_utf8_all, string_bytes}
+use Rattle.std.specs.declared.alloc.AllocError.{AllocError}
 use Rattle.std.specs.List.{AllByRecursion, AllZip}
 use Rattle.std.specs.Option.{option_map}
 use Rattle.std.specs.Str.{chars}
@@ -8,14 +12,17 @@ use Rattle.std.proofs.lemmas.Str.{encodes-chars}
 use Rattle.syslog_pieces.specs.Pieces.Class.{Text}
 use Rattle.syslog_pieces.specs.StructuredData.Element.{ElementValue}
 use Rattle.syslog_pieces.specs.StructuredData.Escapes.{IsUnescaped}
+use Rattle.syslog_pieces.specs.StructuredData.Params.{IsParamItem, NextParam}
+use Rattle.syslog_pieces.specs.Pieces.View.{shown}
+use Rattle.syslog_pieces.specs.Pri.{facility_name, severity_name}
+use Rattle.syslog_pieces.specs.Timestamp.Printed.{printed_stamp}
 use Rattle.syslog_pieces.specs.declared.procid.ProcId.{ProcId}
 use Rattle.syslog_pieces.specs.declared.procid.ProcId.TheVariants.{PID, Name}
 use Rattle.syslog_loose.specs.declared.message.Protocol.{Protocol}
 use Rattle.syslog_loose.specs.declared.message.Protocol.TheVariants.{RFC3164, RFC5424}
 use Rattle.syslog_loose.specs.Message.{MessageValue}
-use Rattle.serde_json.specs.Data.{Data, boolean, number, string, object, Members, no_members, put}
-use Rattle.serde_json.specs.Find.{of_integer}
-use Rattle.syslog_json.specs.Json.{Field, IsElementJson, IsElementPair, IsElementsJson, IsMessageJson, IsParamPair, IsSingle, IsStructuredJson, Pair, fields_of, process_json, text_json, version_json, with_field, with_fields}
+use Rattle.serde_json.specs.Data.{Data, string, object, Members, no_members}
+use Rattle.syslog_json.specs.Json.{Field, IsElementJson, IsElementPair, IsElementsJson, IsMessageJson, IsParamPair, IsSingle, IsStructuredJson, Pair, fields_of, process_json, protocol_text, text_json, timestamp_json, version_json, with_field, with_fields}
 use Rattle.syslog_json.proofs.MemberLemmas.{EachMember, IsFlat, each_put, flat_gathered, flat_object}
 
 -- ---- gathering
@@ -38,10 +45,28 @@ single_push (p ∷ done) pair single each = (each.0, single_push done pair singl
 
 pub param_pair : (param : Text × Text) (name value : List ℕ) → IsUtf8 name → IsUtf8 value → chars name ≡ param.0 → IsUnescaped param.1 (chars value) → IsParamPair param (name, string value)
 param_pair param name value named valued same unescaped =
-    (sym (encodes-chars name named) ∙ ap encode_utf8_all same, chars value, unescaped, ap string (sym (encodes-chars value valued)))
+    (sym (encodes-chars name named) ∙ ap encode_utf8_all same, (chars value, unescaped, ap string (sym (encodes-chars value valued))))
 
 pub element_single : (element : ElementValue) (value : Data) → IsElementJson element value → IsSingle value
 element_single element value is = rw is.whole refl
+
+-- the parameter that comes next, its name and its value without escapes
+pub param_next : (old new : List (Bor (List ℕ) × Bor (List ℕ))) (item : Result (Bor (Bor (List ℕ)) × String Global) AllocError) (found : Bor (Bor (List ℕ)) × String Global)
+    → NextParam (λ s. s.now) old (Some item) new → item ≡ Ok found
+    → (param : Bor (List ℕ) × Bor (List ℕ)) × (old ≡ param ∷ new) × (found.0.now ≡ param.0) × IsUnescaped (shown param.1) (chars (string_bytes found.1))
+param_next [] new item found next ok = absurd (let none = next.0 in cc)
+param_next (param ∷ rest) new item found next ok =
+    let (names, unescaped) = subst (λ (r : Result (Bor (Bor (List ℕ)) × String Global) AllocError). IsParamItem (λ s. s.now) param r) ok next.0 in
+    (param, ap (λ (xs : List (Bor (List ℕ) × Bor (List ℕ))). param ∷ xs) (sym next.1), names, unescaped)
+
+pub param_end : (old new : List (Bor (List ℕ) × Bor (List ℕ))) → NextParam (λ s. s.now) old None new → old ≡ []
+param_end [] new next = refl
+param_end (param ∷ rest) new next = absurd next.0
+
+-- the value of elements, of which there are some, is that of structured data
+pub structured_some : {X : Type 0} (f : X → ElementValue) (xs : List X) (value : Data) → (xs ≡ [] → ⊥) → IsElementsJson (map f xs) value → IsStructuredJson (map f xs) (Some value)
+structured_some f [] value some is = absurd (some refl)
+structured_some f (x ∷ xs) value some is = is
 
 -- ---- no float, and depth
 
@@ -77,6 +102,9 @@ flat_optional : {X : Type 0} (json : X → Data) → ((x : X) → IsFlat 4 (json
 flat_optional json flat None = tt
 flat_optional json flat (Some x) = flat x
 
+flat_name : (o : Option Text) → IsFlatField (option_map text_json o)
+flat_name o = flat_optional text_json (λ t. flat_text (encode_utf8_all t)) o
+
 flat_version : (protocol : Protocol) → IsFlatField (version_json protocol)
 flat_version RFC3164 = tt
 flat_version (RFC5424 version) = (refl, omega arith)
@@ -84,7 +112,7 @@ flat_version (RFC5424 version) = (refl, omega arith)
 flat_process : (process : ProcId Text) → IsFlat 4 (process_json process)
 flat_process (PID (pos n)) = (refl, omega arith)
 flat_process (PID (negsuc n)) = (refl, omega arith)
-flat_process (Name name) = flat_text _
+flat_process (Name name) = flat_text (encode_utf8_all name)
 
 each_field : (key : List ℕ) (value : Option Data) (ms : Members) → IsFlatField value → EachMember (IsFlat 4) ms → EachMember (IsFlat 4) (with_field key value ms)
 each_field key None ms flat each = each
@@ -99,7 +127,31 @@ pub flat_fields : (fields : List Field) → AllByRecursion (λ (f : Field). IsFl
 flat_fields fields flat = flat_object 4 _ (each_fields fields no_members flat tt)
 
 pub flat_message : (m : MessageValue) (value : Data) → IsMessageJson m value → IsFlat 5 value
-flat_message m value (structured, is, whole) = subst (IsFlat 5) (sym whole) (flat_fields (fields_of m structured)
-    (flat_text _, (flat_version m.protocol, (flat_optional _ (λ f. flat_text _) m.facility, (flat_optional _ (λ s. flat_text _) m.severity, (flat_optional _ (λ s. flat_text _) m.timestamp,
-    (flat_optional _ (λ t. flat_text _) m.hostname, (flat_optional _ (λ t. flat_text _) m.appname, (flat_optional _ flat_process m.procid, (flat_optional _ (λ t. flat_text _) m.msgid,
-    (flat_structured m.structured_data structured is, (flat_text _, tt))))))))))))
+flat_message m value (structured, is, whole) = subst (IsFlat 5) (sym whole) (flat_fields (fields_of m structured) (
+  flat_text (protocol_text m.protocol),
+  (
+    flat_version m.protocol,
+    (
+      flat_optional (λ f. text_json (facility_name f)) (λ f. flat_text (encode_utf8_all (facility_name f))) m.facility,
+      (
+        flat_optional (λ s. text_json (severity_name s)) (λ s. flat_text (encode_utf8_all (severity_name s))) m.severity,
+        (
+          flat_optional timestamp_json (λ s. flat_text (printed_stamp s.instant.nanosecond s.offset.seconds)) m.timestamp,
+          (
+            flat_name m.hostname,
+            (
+              flat_name m.appname,
+              (
+                flat_optional process_json flat_process m.procid,
+                (
+                  flat_name m.msgid,
+                  (flat_structured m.structured_data structured is, (flat_text (encode_utf8_all m.msg), tt)),
+                ),
+              ),
+            ),
+          ),
+        ),
+      ),
+    ),
+  ),
+))

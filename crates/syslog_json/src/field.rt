@@ -1,7 +1,6 @@
 //! The fields of a message that have one value.
-ghost use Rattle.std.specs.Prelude.{◌≡◌, [], ◌∷◌, OnOk, Some, codes};
+ghost use Rattle.std.specs.Prelude.{◌≡◌, [], ◌∷◌, IsUtf8, OnOk, Some, codes};
 ghost use Rattle.std.specs.Option.{option_map};
-ghost use Rattle.std.specs.Str.{chars};
 ghost use Rattle.syslog_pieces.specs.Pieces.View.{shown};
 ghost use Rattle.syslog_pieces.specs.Pri.{facility_name, severity_name};
 ghost use Rattle.syslog_pieces.specs.ProcId.{procid_value};
@@ -13,14 +12,15 @@ use serde_json::{Map, Value, put};
 use std::alloc::{AllocError, Global};
 use syslog_loose::{OffsetTimestamp, ProcId, Protocol, SyslogFacility, SyslogSeverity};
 
-/// Adds a text at the key.
+/// Adds a text at the key. A `&str` is UTF-8, which callers that have it from a field ask for.
 pub fn put_text(
     members: &mut Map<String, Value>,
     alloc: Global,
     key: &str,
     text: &str,
 ) -> Result<(), AllocError>
-    ensures { OnOk result (members_view members.new.entries ≡ with_member key.now (text_json (chars text.now)) (members_view members.old.entries)) }
+    ensures ok { OnOk result (members_view members.new.entries ≡ with_member key.now (string text.now) (members_view members.old.entries)) }
+    ensures utf8 { IsUtf8 text.now }
 {
     put(members, alloc, key, Value::try_from_str(alloc, text)?)
 }
@@ -33,7 +33,7 @@ pub fn put_optional(
     text: Option<&str>,
 ) -> Result<(), AllocError>
     ensures { OnOk result (members_view members.new.entries
-        ≡ with_field key.now (option_map (λ t. text_json (shown t)) text.entry) (members_view members.old.entries)) }
+        ≡ with_field key.now (option_map text_json (option_map (λ t. shown t) text.entry)) (members_view members.old.entries)) }
 {
     match text {
         Some(text) => put_text(members, alloc, key, text),

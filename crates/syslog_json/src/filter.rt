@@ -130,7 +130,12 @@ fn refused_object(alloc: Global, line: &str) -> Result<Value, AllocError>
     ensures { IfOk result (λ value. view value ≡ refused_json line.now) }
 {
     let mut members = Map::new(alloc);
-    put(&mut members, alloc, "message", Value::try_from_str(alloc, line)?)?;
+    put(
+        &mut members,
+        alloc,
+        "message",
+        Value::try_from_str(alloc, line)?,
+    )?;
     put(&mut members, alloc, "refused", Value::Bool(true))?;
     Ok(Value::Object(members))
 }

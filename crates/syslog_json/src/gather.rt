@@ -1,5 +1,5 @@
 //! Objects whose keys may come again: then the value is an array of all their values, in order.
-ghost use Rattle.std.specs.Prelude.{◌≡◌, ◌++◌, [], ◌∷◌, IfOk, List, OnOk, Some, map};
+ghost use Rattle.std.specs.Prelude.{◌≡◌, ◌++◌, [], ◌∷◌, IfOk, IsUtf8, List, OnOk, Some, map};
 ghost use Rattle.std.specs.List.{AllByRecursion};
 ghost use Rattle.std.specs.Option.{option_map};
 ghost use Rattle.serde_json.specs.Data.{Data};
@@ -10,15 +10,16 @@ use serde_json::{Map, Value, put};
 use std::alloc::{AllocError, Global};
 
 /// Adds a value at a key: alone where the key is new, and behind the values that it has otherwise. No value is an array.
-/// An `Err` is only for memory.
+/// An `Err` is only for memory. A `&str` is UTF-8, which callers that have it from a field ask for.
 pub fn gather(
     members: &mut Map<String, Value>,
     alloc: Global,
     key: &str,
     value: Value,
 ) -> Result<(), AllocError>
-    ensures { OnOk result ((pairs : List Pair) → AllByRecursion (λ pair. IsSingle pair.1) pairs → Gathers pairs (members_view members.old.entries)
+    ensures ok { OnOk result ((pairs : List Pair) → AllByRecursion (λ pair. IsSingle pair.1) pairs → Gathers pairs (members_view members.old.entries)
         → Gathers (pairs ++ (key.now, view value) ∷ []) (members_view members.new.entries)) }
+    ensures utf8 { IsUtf8 key.now }
 {
     let name = String::from_str(alloc, key)?;
     let before = members.insert(name, Value::Null)?;
