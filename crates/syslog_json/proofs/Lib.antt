@@ -1,0 +1,5 @@
+pub mod ArgumentLemmas
+pub mod MemberLemmas
+pub mod TextLemmas
+pub mod MessageLemmas
+pub mod FilterLemmas

@@ -1,5 +1,5 @@
 -- What is written for each line: this project's own choice.
-use Rattle.std.specs.Prelude.{◌≡◌, ◌≤◌, ◌⊎◌, ⊤, ℕ, ℤ, List, [], ◌∷◌, Option, Some, None, codes, true, length, count_by, IsUtf8, All}
+use Rattle.std.specs.Prelude.{◌≡◌, ◌≤◌, ◌⊎◌, ⊤, ℕ, ℤ, List, [], ◌∷◌, Option, Some, codes, true, length, count_by, IsUtf8, All}
 use Rattle.std.specs.Str.{chars}
 use Rattle.std.specs.Str.Lossy.{utf8_lossy}
 use Rattle.syslog_loose.specs.Message.{MessageValue}
@@ -15,9 +15,9 @@ use Rattle.syslog_lines.specs.declared.summary.Summary.{Summary}
 use Rattle.syslog_json.specs.Json.{IsMessageJson, with_fields}
 
 -- the bytes are read as the value, are its text without a space between tokens, and have no control character
-pub record IsTextOf (data : Data) (bytes : List ℕ) : Type 0 where
-  pub read_back : read bytes ≡ Some data
-  pub compact : bytes ≡ compact_text data
+pub record IsTextOf (value : Data) (bytes : List ℕ) : Type 0 where
+  pub read_back : read bytes ≡ Some value
+  pub compact : bytes ≡ compact_text value
   pub printable : All (λ byte. 32 ≤ byte) bytes
 
 -- the value of a line that has no reading
@@ -31,17 +31,17 @@ broken_json line =
 
 -- the value of the message as which the line is read in this year
 abbrev pub IsReadJson : ℤ → List ℕ → Data → Type 0
-IsReadJson year line data = IsUtf8 line × ((m : MessageValue) × IsOnlyRead Either (in_utc year) (chars line) m × IsMessageJson m data)
+IsReadJson year line value = IsUtf8 line × ((m : MessageValue) × IsOnlyRead Either (in_utc year) (chars line) m × IsMessageJson m value)
 
 -- the value of a line that is no message
 abbrev pub IsRefusedJson : ℤ → List ℕ → Data → Type 0
-IsRefusedJson year line data =
-    (IsUtf8 line × IsUnreadable Either (in_utc year) (chars line) × (data ≡ refused_json line)) ⊎ ((¬ (IsUtf8 line)) × (data ≡ broken_json line))
+IsRefusedJson year line value =
+    (IsUtf8 line × IsUnreadable Either (in_utc year) (chars line) × (value ≡ refused_json line)) ⊎ ((¬ (IsUtf8 line)) × (value ≡ broken_json line))
 
 -- the answer to a line: the text of its value; one that is no message counts as passed over
 abbrev pub IsObject : ℤ → List ℕ → Answer → Type 0
-IsObject year line (Written bytes) = (data : Data) × IsReadJson year line data × IsTextOf data bytes
-IsObject year line (Marked bytes) = (data : Data) × IsRefusedJson year line data × IsTextOf data bytes
+IsObject year line (Written bytes) = (value : Data) × IsReadJson year line value × IsTextOf value bytes
+IsObject year line (Marked bytes) = (value : Data) × IsRefusedJson year line value × IsTextOf value bytes
 IsObject year line Omitted = ⊥
 
 -- memory may be wanted for any line

@@ -1,5 +1,16 @@
 //! The filter that writes each line as JSON.
-ghost use Rattle.syslog_json.specs.Objects.{objects};
+ghost use Rattle.std.specs.Prelude.{◌≡◌, ◌≤◌, ◌++◌, [], ◌∷◌, ℕ, List, false, IfErr, IfOk, MatchOption, OnErr, OnOk};
+ghost use Rattle.std.specs.Str.{chars};
+ghost use Rattle.syslog_loose.specs.Message.{MessageValue};
+ghost use Rattle.syslog_loose.specs.Reading.{IsOnlyRead, IsUnreadable, in_utc};
+ghost use Rattle.syslog_loose.specs.declared.variant.Variant.TheVariants.{Either};
+ghost use Rattle.serde_json.specs.Data.{depth};
+ghost use Rattle.serde_json.specs.Read.{max_depth};
+ghost use Rattle.serde_json.specs.View.{view};
+ghost use Rattle.serde_json.specs.Written.{has_float};
+ghost use Rattle.syslog_lines.specs.Walk.{EndsEarly, FailedAs};
+ghost use Rattle.syslog_json.specs.Json.{IsMessageJson};
+ghost use Rattle.syslog_json.specs.Objects.{IsTextOf, WritesObjects, broken_json, objects, refused_json};
 
 use crate::message::message_object;
 use serde_json::{Map, Value, put};
@@ -11,13 +22,28 @@ use syslog_loose::{
     IncompleteDate, ParseFault, TimeZone, Variant, parse_message_with_year_exact_tz,
 };
 
-/// Reads lines to the end of the input, and writes each as one JSON object on one line.
+/// Reads lines to the end of the input, and writes each as one JSON object on one line: that of its message, read in the
+/// given year, or one that has the line and `"refused": true`. No line is lost, and no byte below 32 stands in an object.
+///
+/// The output of each block of input is written before more is read, and the writer is flushed at the end. Nothing is tried
+/// again. After `RunFault::Read` the output of each complete line that was read was written. After `RunFault::Memory` so it
+/// was, where the memory was wanted before anything was read or for more of a line that takes a whole block; or it was
+/// refused for a line, and the output of each line before it was written. After `RunFault::Write` a beginning of the
+/// output was written. It takes memory for a block of input, its output, and the longest line and its object.
 pub fn write_objects<R: Read, W: Write>(
     alloc: Global,
     reader: &mut Watched<R>,
     writer: &mut Watched<W>,
     year: i32,
-) -> Result<Summary, RunFault> {
+) -> Result<Summary, RunFault>
+    requires reader { reader.old.failed ≡ false }
+    requires writer { writer.old.failed ≡ false }
+    ensures ok { IfOk result (λ summary. WritesObjects year (R.remaining reader.old.inner) (R.remaining reader.new.inner)
+        (W.contents writer.old.inner) (W.contents writer.new.inner) summary) }
+    ensures err { IfErr result (λ fault. EndsEarly (objects year) (R.remaining reader.old.inner) (R.remaining reader.new.inner)
+        (W.contents writer.old.inner) (W.contents writer.new.inner) fault) }
+    ensures failed { FailedAs result reader.new.failed writer.new.failed }
+{
     let tally = walk(alloc, &Objects { year }, reader, writer)?;
     Ok(Summary {
         lines: tally.lines(),
@@ -67,14 +93,24 @@ impl LineFilter for Objects {
 }
 
 // Adds the text of a value and a line feed, or nothing where memory is refused.
-fn push_value(alloc: Global, output: &mut Vec<u8>, value: &Value) -> Result<(), AllocError> {
+fn push_value(alloc: Global, output: &mut Vec<u8>, value: &Value) -> Result<(), AllocError>
+    requires whole { has_float (view value.now) ≡ false }
+    requires shallow { depth (view value.now) ≤ max_depth }
+    ensures ok { OnOk result ((bytes : List ℕ) × IsTextOf (view value.now) bytes × (output.new.items ≡ output.old.items ++ (bytes ++ 10 ∷ []))) }
+    ensures err { OnErr result (output.new.items ≡ output.old.items) }
+{
     let text = value.to_string(alloc)?;
     push_line(output, text.as_bytes())
 }
 
 // The object of the line's message, read in a year, where it is one.
-fn read_line(alloc: Global, line: &str, year: i32) -> Result<Option<Value>, AllocError> {
-    let answer_year = move |_: IncompleteDate| -> i32 { year };
+fn read_line(alloc: Global, line: &str, year: i32) -> Result<Option<Value>, AllocError>
+    ensures { IfOk result (λ found. MatchOption found (IsUnreadable Either (in_utc year) (chars line.now))
+        (λ value. (m : MessageValue) × IsOnlyRead Either (in_utc year) (chars line.now) m × IsMessageJson m (view value))) }
+{
+    let answer_year = move |_: IncompleteDate| -> i32
+        ensures { result ≡ year }
+    { year };
     match parse_message_with_year_exact_tz(
         alloc,
         line,
@@ -90,19 +126,28 @@ fn read_line(alloc: Global, line: &str, year: i32) -> Result<Option<Value>, Allo
 }
 
 // The object of a line that is no message.
-fn refused_object(alloc: Global, line: &str) -> Result<Value, AllocError> {
-    let mut map = Map::new(alloc);
-    put(&mut map, alloc, "message", Value::try_from_str(alloc, line)?)?;
-    put(&mut map, alloc, "refused", Value::Bool(true))?;
-    Ok(Value::Object(map))
+fn refused_object(alloc: Global, line: &str) -> Result<Value, AllocError>
+    ensures { IfOk result (λ value. view value ≡ refused_json line.now) }
+{
+    let mut members = Map::new(alloc);
+    put(
+        &mut members,
+        alloc,
+        "message",
+        Value::try_from_str(alloc, line)?,
+    )?;
+    put(&mut members, alloc, "refused", Value::Bool(true))?;
+    Ok(Value::Object(members))
 }
 
 // The object of a line that is no UTF-8.
-fn broken_object(alloc: Global, line: &[u8]) -> Result<Value, AllocError> {
-    let mut map = Map::new(alloc);
+fn broken_object(alloc: Global, line: &[u8]) -> Result<Value, AllocError>
+    ensures { IfOk result (λ value. view value ≡ broken_json line.now) }
+{
+    let mut members = Map::new(alloc);
     let text = String::from_utf8_lossy(alloc, line)?;
-    put(&mut map, alloc, "invalid_utf8", Value::Bool(true))?;
-    put(&mut map, alloc, "message", Value::String(text))?;
-    put(&mut map, alloc, "refused", Value::Bool(true))?;
-    Ok(Value::Object(map))
+    put(&mut members, alloc, "invalid_utf8", Value::Bool(true))?;
+    put(&mut members, alloc, "message", Value::String(text))?;
+    put(&mut members, alloc, "refused", Value::Bool(true))?;
+    Ok(Value::Object(members))
 }

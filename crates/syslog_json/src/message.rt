@@ -1,61 +1,77 @@
 //! The JSON of a message.
+ghost use Rattle.std.specs.Prelude.{◌≡◌, ◌≢◌, [], IfOk, OnOk, Option, codes, map};
+ghost use Rattle.syslog_pieces.specs.Pieces.View.{shown};
+ghost use Rattle.syslog_pieces.specs.StructuredData.Element.{element_value};
+ghost use Rattle.syslog_loose.specs.Message.{message_value};
+ghost use Rattle.serde_json.specs.Data.{Data};
+ghost use Rattle.serde_json.specs.View.{members_view, view};
+ghost use Rattle.syslog_json.specs.Json.{IsElementJson, IsElementsJson, IsMessageJson, IsStructuredJson, with_field};
 
-use crate::field::{put_process, put_protocol, put_text, put_timestamp};
+use crate::field::{
+    put_facility, put_optional, put_process, put_protocol, put_severity, put_text, put_timestamp,
+};
 use crate::gather::gather;
 use serde_json::{Map, Value, put};
 use std::alloc::{AllocError, Global};
 use syslog_loose::{Message, StructuredElement};
 
 /// The object of a message. An `Err` is only for memory.
-pub fn message_object(alloc: Global, message: &Message<&str>) -> Result<Value, AllocError> {
-    let mut map = Map::new(alloc);
-    put_protocol(&mut map, alloc, message.protocol)?;
-    let facility = message.facility.map(|facility| facility.as_str());
-    let severity = message.severity.map(|severity| severity.as_str());
-    put_text(&mut map, alloc, "facility", facility)?;
-    put_text(&mut map, alloc, "severity", severity)?;
-    put_timestamp(&mut map, alloc, message.timestamp)?;
-    put_text(&mut map, alloc, "hostname", message.hostname)?;
-    put_text(&mut map, alloc, "appname", message.appname)?;
-    put_process(&mut map, alloc, &message.procid)?;
-    put_text(&mut map, alloc, "msgid", message.msgid)?;
-    put_elements(&mut map, alloc, &message.structured_data)?;
-    put_text(&mut map, alloc, "message", Some(message.msg))?;
-    Ok(Value::Object(map))
+pub fn message_object(alloc: Global, message: &Message<&str>) -> Result<Value, AllocError>
+    ensures { IfOk result (λ value. IsMessageJson (message_value (λ s. shown s) message.now) (view value)) }
+{
+    let mut members = Map::new(alloc);
+    put_protocol(&mut members, alloc, message.protocol)?;
+    put_facility(&mut members, alloc, message.facility)?;
+    put_severity(&mut members, alloc, message.severity)?;
+    put_timestamp(&mut members, alloc, message.timestamp)?;
+    put_optional(&mut members, alloc, "hostname", message.hostname)?;
+    put_optional(&mut members, alloc, "appname", message.appname)?;
+    put_process(&mut members, alloc, &message.procid)?;
+    put_optional(&mut members, alloc, "msgid", message.msgid)?;
+    put_elements(&mut members, alloc, &message.structured_data)?;
+    put_text(&mut members, alloc, "message", message.msg)?;
+    Ok(Value::Object(members))
 }
 
 // Adds the elements, where there are some.
 fn put_elements(
-    map: &mut Map<String, Value>,
+    members: &mut Map<String, Value>,
     alloc: Global,
     elements: &Vec<StructuredElement<&str>>,
-) -> Result<(), AllocError> {
+) -> Result<(), AllocError>
+    ensures { OnOk result ((structured : Option Data) × IsStructuredJson (map (element_value (λ s. shown s)) elements.now.items) structured
+        × (members_view members.new.entries ≡ with_field (codes "structured_data") structured (members_view members.old.entries))) }
+{
     if elements.is_empty() {
         return Ok(());
     }
     let value = elements_object(alloc, elements)?;
-    put(map, alloc, "structured_data", value)
+    put(members, alloc, "structured_data", value)
 }
 
 // Each element at its id.
 fn elements_object(
     alloc: Global,
     elements: &Vec<StructuredElement<&str>>,
-) -> Result<Value, AllocError> {
-    let mut map = Map::new(alloc);
+) -> Result<Value, AllocError>
+    ensures { IfOk result (λ value. IsElementsJson (map (element_value (λ s. shown s)) elements.now.items) (view value)) }
+{
+    let mut members = Map::new(alloc);
     for element in elements {
         let value = element_object(alloc, element)?;
-        gather(&mut map, alloc, element.id, value)?;
+        gather(&mut members, alloc, element.id, value)?;
     }
-    Ok(Value::Object(map))
+    Ok(Value::Object(members))
 }
 
 // Each value of an element, without its escapes, at its name.
-fn element_object(alloc: Global, element: &StructuredElement<&str>) -> Result<Value, AllocError> {
-    let mut map = Map::new(alloc);
+fn element_object(alloc: Global, element: &StructuredElement<&str>) -> Result<Value, AllocError>
+    ensures { IfOk result (λ value. IsElementJson (element_value (λ s. shown s) element.now) (view value)) }
+{
+    let mut members = Map::new(alloc);
     for item in element.params(alloc) {
         let (name, value) = item?;
-        gather(&mut map, alloc, *name, Value::String(value))?;
+        gather(&mut members, alloc, *name, Value::String(value))?;
     }
-    Ok(Value::Object(map))
+    Ok(Value::Object(members))
 }
