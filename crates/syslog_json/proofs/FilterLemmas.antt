@@ -13,6 +13,7 @@ use Rattle.syslog_lines.proofs.CountLemmas.{WalksAll-at, lines_counted}
 use Rattle.syslog_lines.specs.declared.summary.Summary.{Summary}
 use Rattle.syslog_lines.specs.declared.summary.Tally.{Tally}
 use Rattle.syslog_json.specs.Json.{IsMessageJson}
+use Rattle.syslog_json.proofs.UniqueLemmas.{only_read, only_refused}
 use Rattle.syslog_json.specs.Objects.{IsTextOf, WritesObjects, broken_json, objects, refused_json}
 
 -- the end of the filter; the year stands in a call as a number of 32 bits
@@ -26,15 +27,18 @@ WritesObjects-walked year y had left held holds tally summary same walked lines 
 pub AddsAnswer-read : (year y : ℤ) (line old new bytes : List ℕ) (m : MessageValue) (value : Data) → y ≡ year → IsUtf8 line → IsOnlyRead Either (in_utc y) (chars line) m → IsMessageJson m value
     → IsTextOf value bytes → new ≡ old ++ (bytes ++ 10 ∷ []) → AddsAnswer (objects year) line old new true
 AddsAnswer-read year y line old new bytes m value same utf8 read json text added =
-    (Written bytes, (value, (utf8, (m, subst (λ (z : ℤ). IsOnlyRead Either (in_utc z) (chars line) m) same read, json)), text), added, refl)
+    let here = subst (λ (z : ℤ). IsOnlyRead Either (in_utc z) (chars line) m) same read in
+    (Written bytes, (value, only_read year line m value utf8 here json, text), added, refl)
 
 -- the text of the value of a line without a reading was added
 pub AddsAnswer-refused : (year y : ℤ) (line old new bytes : List ℕ) (value : Data) → y ≡ year → IsUtf8 line → IsUnreadable Either (in_utc y) (chars line) → value ≡ refused_json line
     → IsTextOf value bytes → new ≡ old ++ (bytes ++ 10 ∷ []) → AddsAnswer (objects year) line old new false
 AddsAnswer-refused year y line old new bytes value same utf8 none json text added =
-    (Marked bytes, (value, inl (utf8, subst (λ (z : ℤ). IsUnreadable Either (in_utc z) (chars line)) same none, json), text), added, refl)
+    let here = subst (λ (z : ℤ). IsUnreadable Either (in_utc z) (chars line)) same none in
+    (Marked bytes, (value, only_refused year line value (inl (utf8, here, json)), text), added, refl)
 
 -- the text of the value of a line that is no UTF-8 was added
 pub AddsAnswer-broken : (year : ℤ) (line old new bytes : List ℕ) (value : Data) → (IsUtf8 line → ⊥) → value ≡ broken_json line
     → IsTextOf value bytes → new ≡ old ++ (bytes ++ 10 ∷ []) → AddsAnswer (objects year) line old new false
-AddsAnswer-broken year line old new bytes value other json text added = (Marked bytes, (value, inr (other, json), text), added, refl)
+AddsAnswer-broken year line old new bytes value other json text added =
+    (Marked bytes, (value, only_refused year line value (inr (other, json)), text), added, refl)

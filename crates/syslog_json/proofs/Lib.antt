@@ -3,3 +3,4 @@ pub mod MemberLemmas
 pub mod TextLemmas
 pub mod MessageLemmas
 pub mod FilterLemmas
+pub mod UniqueLemmas

@@ -65,7 +65,7 @@ abbrev pub Ascends : Members → Type 0
 Ascends ms = IsStrictlySortedBy (slice_cmp nat_cmp) (member_keys ms)
 
 -- the key is below each key of the members
-abbrev Below : List ℕ → Members → Type 0
+abbrev pub Below : List ℕ → Members → Type 0
 Below key ms = AllByRecursion (λ (other : List ℕ). slice_cmp nat_cmp key other ≡ Less) (member_keys ms)
 
 below-put_at : (o : Ordering) (low k l : List ℕ) (d e : Data) (ms : Members) → slice_cmp nat_cmp low k ≡ Less → Below low (member l e ms) → Below low (put k d ms)
@@ -78,7 +78,7 @@ below-put : (low k : List ℕ) (d : Data) (ms : Members) → slice_cmp nat_cmp l
 below-put low k d no_members less below = (less, tt)
 below-put low k d (member l e ms) less below = below-put_at (slice_cmp nat_cmp k l) low k l d e ms less below (below-put low k d ms less below.1)
 
-below_all : (low k : List ℕ) (ms : Members) → slice_cmp nat_cmp low k ≡ Less → Below k ms → Below low ms
+pub below_all : (low k : List ℕ) (ms : Members) → slice_cmp nat_cmp low k ≡ Less → Below k ms → Below low ms
 below_all low k no_members less below = tt
 below_all low k (member l e ms) less below = (nat_list_cmp_total.trans low k l less below.0, below_all low k ms less below.1)
 
@@ -143,7 +143,7 @@ pub each_put : (P : Data → Type 0) (k : List ℕ) (d : Data) (ms : Members) �
 each_put P k d no_members new each = (new, tt)
 each_put P k d (member l e ms) new each = each_put_at P (slice_cmp nat_cmp k l) k l d e ms new each (each_put P k d ms new each.1)
 
-absent : (k : List ℕ) (ms : Members) → Below k ms → get_member k ms ≡ None
+pub absent : (k : List ℕ) (ms : Members) → Below k ms → get_member k ms ≡ None
 absent k no_members below = refl
 absent k (member l e ms) below = rw (below.0) (absent k ms below.1)
 

@@ -38,10 +38,14 @@ abbrev pub IsRefusedJson : ℤ → List ℕ → Data → Type 0
 IsRefusedJson year line value =
     (IsUtf8 line × IsUnreadable Either (in_utc year) (chars line) × (value ≡ refused_json line)) ⊎ ((¬ (IsUtf8 line)) × (value ≡ broken_json line))
 
--- the answer to a line: the text of its value; one that is no message counts as passed over
+-- the value is such, and there is no other
+abbrev pub IsOnly : (Data → Type 0) → Data → Type 0
+IsOnly Is value = Is value × ((other : Data) → Is other → other ≡ value)
+
+-- the answer to a line: the text of its only value; a line that is no message counts as passed over
 abbrev pub IsObject : ℤ → List ℕ → Answer → Type 0
-IsObject year line (Written bytes) = (value : Data) × IsReadJson year line value × IsTextOf value bytes
-IsObject year line (Marked bytes) = (value : Data) × IsRefusedJson year line value × IsTextOf value bytes
+IsObject year line (Written bytes) = (value : Data) × IsOnly (IsReadJson year line) value × IsTextOf value bytes
+IsObject year line (Marked bytes) = (value : Data) × IsOnly (IsRefusedJson year line) value × IsTextOf value bytes
 IsObject year line Omitted = ⊥
 
 -- memory may be wanted for any line
