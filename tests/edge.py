@@ -235,13 +235,13 @@ def of_itself(usage):
     """The cases of how a program tells how it is called, and that it judges its arguments before it reads."""
 
     def tells(program):
-        help = asked(program, "--help")
-        return (help.returncode, help.stdout.startswith(usage), help.stderr), (0, True, b"")
+        ran = asked(program, "--help")
+        return (ran.returncode, ran.stdout.startswith(usage), ran.stderr), (0, True, b"")
 
-    def full(program):
+    def tells_nobody(program):
         with open("/dev/full", "wb") as full:
-            help = asked(program, "--help", stdout=full)
-        return (help.returncode, help.stderr), (2, WRITE_FAILED)
+            ran = asked(program, "--help", stdout=full)
+        return (ran.returncode, ran.stderr), (2, WRITE_FAILED)
 
     def reads_nothing(program):
         with tempfile.TemporaryFile() as given:
@@ -253,7 +253,7 @@ def of_itself(usage):
 
     return [
         ("it says how it is called", tells),
-        ("how it is called is lost on a full device", full),
+        ("how it is called is lost on a full device", tells_nobody),
         ("arguments are judged before anything is read", reads_nothing),
     ]
 
