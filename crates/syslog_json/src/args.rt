@@ -36,7 +36,7 @@ pub fn read_task(args: &[&str]) -> Option<Task>
 }
 
 /// What `read_task` makes of the program's arguments; none where they can't be had. Which words these are no clause says, since
-/// the host has none for them (`tests/program` tries it).
+/// the host has none for them (`tests/json` tries it).
 pub fn arguments(rt: &HostRuntime) -> Option<Task>
     ensures { IfSome result (λ task. (words : List (List ℕ)) × AsksFor words task) }
 {
