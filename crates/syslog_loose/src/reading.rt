@@ -151,6 +151,7 @@ pub fn parse_message_with_year_exact<'a, F: FnOnce(IncompleteDate) -> i32>(
 /// variant reads it. `tz` is the zone of a date without an offset, and `local` stands in for it
 /// where it is absent. Each text of the message is a slice of the input. The one refusal besides `Invalid` is `Memory`,
 /// and memory is asked for only to collect elements.
+#[inline]
 pub fn parse_message_with_year_exact_tz<'a, F: FnOnce(IncompleteDate) -> i32>(
     alloc: Global,
     input: &'a str,
@@ -180,6 +181,7 @@ pub fn parse_message_with_year_exact_tz<'a, F: FnOnce(IncompleteDate) -> i32>(
 }
 
 // The date without a year that the text shows, where the variant reads it.
+#[inline(always)]
 pub(crate) fn asked_date(input: &str, variant: Variant) -> Option<IncompleteDate>
     ensures { MatchOption result
         ((date : MonthDate) → AsksYear variant (chars input.now) date → ⊥)
@@ -193,6 +195,7 @@ pub(crate) fn asked_date(input: &str, variant: Variant) -> Option<IncompleteDate
 }
 
 // The date without a year that the text shows.
+#[inline(always)]
 fn incomplete_date(input: &str) -> Option<IncompleteDate>
     ensures { MatchOption result
         ((date : MonthDate) → ShowsYearless (chars input.now) date → ⊥)
@@ -250,6 +253,7 @@ fn read_dateless(
     }
 }
 
+#[inline(always)]
 fn read_rfc5424(alloc: Global, input: &str) -> Result<Message<&str>, ParseFault>
     ensures { (dating : zone.Dating) → Answers variants.RFC5424 dating (chars input.now) result }
 {
@@ -262,6 +266,7 @@ fn read_rfc5424(alloc: Global, input: &str) -> Result<Message<&str>, ParseFault>
     }
 }
 
+#[inline(always)]
 fn read_rfc3164<'a>(
     alloc: Global,
     input: &'a str,

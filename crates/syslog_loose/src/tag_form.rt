@@ -10,6 +10,7 @@ mod tests;
 use syslog_pieces::text::{CharClass, literal, split_run};
 
 /// The tag and the id of a text of the form `tag[id]`.
+#[inline(always)]
 pub(crate) fn tag_form(text: &str) -> Option<(&str, &str)>
     ensures { MatchOption result (IsNoForm (chars text.now)) (λ x. IsForm (chars text.now) (shown x.0) (shown x.1)) }
 {
@@ -19,5 +20,8 @@ pub(crate) fn tag_form(text: &str) -> Option<(&str, &str)>
     if id.is_empty() {
         return None;
     }
-    if rest == "]" { Some((tag, id)) } else { None }
+    match rest.as_bytes() {
+        [b']'] => Some((tag, id)),
+        _ => None,
+    }
 }

@@ -107,7 +107,7 @@ fn few_decimals(text: &[u8]) -> Option<(u32, &[u8])>
 }
 
 #[inline(always)]
-fn three_digits(text: &[u8]) -> Option<(u32, &[u8])>
+pub fn three_digits(text: &[u8]) -> Option<(u32, &[u8])>
     ensures small { IfSome result (λ read. read.0 < 1_000) }
     ensures text { IfSome result (λ read. text.now ≡ pad3 read.0 ++ read.1.now) }
 {
