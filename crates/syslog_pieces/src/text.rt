@@ -199,7 +199,7 @@ pub fn blanks(text: &str) -> &str
     ensures { Front (run spec.is_blank) (chars text.now) (shown result) tt }
 {
     match few_blanks(text) {
-        Some(rest) => rest,
+        Some(behind) => behind,
         None => any_blanks(text),
     }
 }
@@ -287,7 +287,7 @@ fn lone_digit(text: &str, limit: u32) -> Option<(u32, &str)>
     ensures { IfSome result (λ read. Front (spec.number limit) (chars text.now) (shown read.1) read.0) }
 {
     let value = first_digit(text.as_bytes())?;
-    if value > limit {
+    if limit < value {
         return None;
     }
     let (_, rest) = text.split_at(1);
