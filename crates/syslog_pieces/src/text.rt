@@ -24,7 +24,8 @@ pub mod written;
 
 pub use fields::{host_field, tag_field};
 use looks::{
-    begins_visibly, begins_with, begins_with_gap, begins_with_nil, ends_in_colon, first_digit,
+    begins_visibly, begins_with, begins_with_digit, begins_with_gap, begins_with_nil,
+    ends_in_colon, first_digit,
 };
 pub(crate) use numerals::{few_digits, number_of_digits};
 use scan::{ascii_run, is_cut, is_in};
@@ -299,10 +300,10 @@ fn lone_digit(text: &str, limit: u32) -> Option<(u32, &str)>
 fn any_number(text: &str, limit: u32) -> Option<(u32, &str)>
     ensures { Reads (spec.number limit) (λ n. n) (chars text.now) result }
 {
-    let (digits, rest) = split_run(text, CharClass::Digit);
-    if digits.is_empty() {
+    if !begins_with_digit(text.as_bytes()) {
         return None;
     }
+    let (digits, rest) = split_run(text, CharClass::Digit);
     let value = number_of_digits(digits)?;
     if value > limit {
         None

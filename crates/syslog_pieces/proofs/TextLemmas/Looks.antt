@@ -1,12 +1,12 @@
 -- What the first bytes of a text tell of its characters.
-use Rattle.std.proofs.Common.{◌≡◌, ◌≢◌, ℕ, zero, suc, ◌+◌, ◌-◌, ◌<◌, ◌≤◌, Bool, true, false, not, ◌&&◌, nat_lt, List, [], ◌∷◌, ◌++◌, length, drop, get_or, None, refl, sym, ap, subst, ◌∙◌, arith}
+use Rattle.std.proofs.Common.{◌≡◌, ◌≢◌, ℕ, suc, ◌+◌, ◌-◌, ◌<◌, ◌≤◌, false, List, [], ◌∷◌, ◌++◌, length, drop, get_or, None, refl, sym, ap, subst, ◌∙◌, arith, true}
 use Rattle.std.proofs.lemmas.Bool.Decides.{nat_tests}
 use Rattle.std.proofs.lemmas.List.{length-append, drop_at}
-use Rattle.std.proofs.lemmas.Str.{encode_ascii, chars_past_char, IsUtf8-past_char, IsCharBoundary-at_seam}
-use Rattle.std.specs.Char.{encode_utf8, is_ascii_digit, is_not_whitespace}
+use Rattle.std.proofs.lemmas.Str.{encode_ascii, IsUtf8-past_char, IsCharBoundary-at_seam}
+use Rattle.std.specs.Char.{is_ascii_digit, is_not_whitespace}
 use Rattle.std.specs.Str.{chars, IsUtf8, IsAscii, IsCharBoundary}
 use Rattle.syslog_pieces.specs.Bodies.Looks.{BeginsVisibly, BeginsWithDigit, BeginsWithGap, BeginsWithNil}
-use Rattle.syslog_pieces.specs.Pieces.Class.{Text, Front, NoFront, Each, Ends, exactly, run, some_run}
+use Rattle.syslog_pieces.specs.Pieces.Class.{Text, Front, NoFront, Ends, exactly, run, some_run}
 use Rattle.syslog_pieces.specs.Text.{colon, dash, is_blank, number, word}
 use Rattle.syslog_pieces.proofs.TextLemmas.Chars.{ascii_front, one_ascii}
 use Rattle.syslog_pieces.proofs.TextLemmas.Decimals.{digit_is}
@@ -165,3 +165,24 @@ module _ (bs : List ℕ) (value limit : ℕ) (u : IsUtf8 bs) (g : BeginsWithDigi
     where
       before_digits : (b : ℕ) → b < 48 → is_ascii_digit b ≡ false
       before_digits b h = grind (arith, nat_tests)
+
+-- ---- no digit
+no_past_digit : (t : Text) → Ends (past_of_ascii is_ascii_digit) t
+no_past_digit [] = tt
+no_past_digit (c ∷ t) = grind (arith, nat_tests)
+
+no_ascii_digit : (b : ℕ) → is_ascii_digit b ≡ false → ascii_of is_ascii_digit b ≡ false
+no_ascii_digit b h = grind (arith, nat_tests, h)
+
+no_number_at : (limit : ℕ) (t : Text) → Ends is_ascii_digit t → NoFront (number limit) t
+no_number_at limit t ends [] q v e (l, a, b, m, k) = absurd (omega (arith, l))
+no_number_at limit t ends (c ∷ p) q v e (l, a, b, m, k) =
+    let no : is_ascii_digit c ≡ false = subst (λ (x : Text). Ends is_ascii_digit x) e ends in
+    let yes : is_ascii_digit c ≡ true = a.0 in
+    absurd (let z : true ≡ false = sym yes ∙ no in cc)
+
+pub no_number : (limit : ℕ) (bs : List ℕ) → IsUtf8 bs → (0 < length bs → is_ascii_digit (get_or bs 0 0) ≡ false)
+    → NoFront (number limit) (chars bs)
+no_number limit bs u h =
+    no_number_at limit (chars bs)
+    (ends_at_both is_ascii_digit bs u (λ l. no_ascii_digit (get_or bs 0 0) (h l)) (no_past_digit (chars bs)))

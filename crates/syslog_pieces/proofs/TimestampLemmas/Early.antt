@@ -3,7 +3,7 @@ use Rattle.std.proofs.Common.{◌≡◌, ℕ, ℤ, ◌+◌, ◌-◌, ◌*◌, �
 use Rattle.std.proofs.lemmas.List.Elements.{All-append}
 use Rattle.std.specs.Char.{IsAsciiDigit}
 use Rattle.std.specs.Str.{chars, IsUtf8, IsAscii, IsCharBoundary}
-use Rattle.jiff.specs.Types.{DateTime, Offset, TimeZone}
+use Rattle.jiff.specs.Types.{Offset, TimeZone}
 use Rattle.jiff.specs.Words.{IsFixed, offset_at, nanos_of_seconds}
 use Rattle.jiff_core.specs.Calendar.{day_count}
 use Rattle.jiff_core.proofs.CalendarLemmas.{days_from_civil-day_count}
@@ -14,7 +14,7 @@ use Rattle.syslog_pieces.specs.Bodies.MonthText.{zone_of}
 use Rattle.syslog_pieces.specs.Bodies.Usual.{IsClockBytes}
 use Rattle.syslog_pieces.specs.Pieces.Class.{Front}
 use Rattle.syslog_pieces.specs.Timestamp.{header_stamp, IsStampText}
-use Rattle.syslog_pieces.specs.Timestamp.Fields.{AreCivil, IsStampAt, fields_of, nanos_of_fields}
+use Rattle.syslog_pieces.specs.Timestamp.Fields.{AreCivil, IsStampAt, nanos_of_fields}
 use Rattle.syslog_pieces.specs.Timestamp.Printed.{pad3}
 use Rattle.syslog_pieces.specs.Timestamp.Rfc3339.{Writes, fields_of_written}
 use Rattle.syslog_pieces.specs.Timestamp.Zone.{IsStampOfFields}

@@ -1,5 +1,7 @@
 //! What the first bytes of a text tell, or its last one, without a scan.
-ghost use Rattle.std.specs.Prelude.{◌≡◌, ◌≢◌, ℕ, List, ◌∷◌, ◌++◌, [], IfSome, IsTrue, MatchBool, drop};
+ghost use Rattle.std.specs.Prelude.{◌≡◌, ◌≢◌, ℕ, List, ◌∷◌, ◌++◌, [], IfSome, IsTrue, MatchBool, drop, false, length, slice_index, ◌<◌};
+ghost use Rattle.std.specs.Bool.{OnFalse};
+ghost use Rattle.std.specs.Char.{is_ascii_digit};
 ghost use Rattle.syslog_pieces.specs.Bodies.Looks as spec;
 
 /// Whether this byte begins the bytes.
@@ -49,6 +51,14 @@ pub(crate) fn ends_in_colon(bytes: &[u8]) -> bool
     ensures { MatchBool result ((front : List ℕ) × (bytes.now ≡ front ++ (58 ∷ []))) ((front : List ℕ) → bytes.now ≢ front ++ (58 ∷ [])) }
 {
     matches!(bytes, [.., b':'])
+}
+
+/// Whether a digit begins the bytes.
+#[inline(always)]
+pub(crate) fn begins_with_digit(bytes: &[u8]) -> bool
+    ensures { OnFalse result (0 < length bytes.now → is_ascii_digit (slice_index bytes.now 0) ≡ false) }
+{
+    matches!(bytes, [b'0'..=b'9', ..])
 }
 
 /// The digit that begins the bytes, where none stands behind it but a byte before the digits.

@@ -1,4 +1,4 @@
-use Rattle.std.proofs.Common.{ℕ, List, refl, subst}
+use Rattle.std.proofs.Common.{refl, subst}
 use Rattle.syslog_pieces.specs.Bodies.Looks.{BeginsWithNil}
 use Rattle.syslog_pieces.proofs.TextLemmas.Looks.{nil_cut, nil_front}
 use Rattle.syslog_pieces.proofs.text.past_nil.Goals as goal

@@ -1,4 +1,4 @@
-use Rattle.std.proofs.Common.{ℕ, List, refl, subst}
+use Rattle.std.proofs.Common.{refl, subst}
 use Rattle.syslog_pieces.specs.Bodies.Looks.{BeginsWithGap}
 use Rattle.syslog_pieces.proofs.TextLemmas.Looks.{gap_cut, gap_some}
 use Rattle.syslog_pieces.proofs.text.past_space.Goals as goal

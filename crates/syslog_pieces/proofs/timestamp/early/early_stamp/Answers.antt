@@ -1,4 +1,4 @@
-use Rattle.std.proofs.Common.{◌≡◌, ◌≤ℤ◌, ◌<ℤ◌, pos, FitsSigned, w32, w64, arith, refl, rules, ap, sym, ◌∙◌, unsigned_abs}
+use Rattle.std.proofs.Common.{◌≤ℤ◌, ◌<ℤ◌, pos, FitsSigned, w32, w64, arith, refl, rules, ap, ◌∙◌}
 use Rattle.std.specs.Int.{w128}
 use Rattle.std.proofs.lemmas.Int.{to_z-of_z}
 use Rattle.jiff_core.specs.Calendar.{day_count}
