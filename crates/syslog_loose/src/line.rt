@@ -74,7 +74,8 @@ fn kept_tail(text: &str) -> Option<&str>
 // The line, where all but its timestamp prints as it is written.
 #[inline(always)]
 fn kept_line(text: &str) -> Option<KeptLine<'_>>
-    ensures kept { IfSome result (λ line. PrintsKept (chars text.now) (shown line.front) line.is_zulu (shown line.tail) (shown line.msg)) }
+    ensures kept { IfSome result (λ line.
+        PrintsKept (chars text.now) (shown line.front) line.is_zulu (shown line.tail) (shown line.msg)) }
     ensures utf8 { IfSome result (λ line. IsUtf8 line.front.now × IsUtf8 line.tail.now × IsUtf8 line.msg.now) }
 {
     let gap = kept_front(text)?;
@@ -93,7 +94,8 @@ fn kept_line(text: &str) -> Option<KeptLine<'_>>
 }
 
 impl fmt::Display for KeptLine<'_> {
-    ghost output = { λ line. Some (line.front.now ++ (zone_text line.is_zulu ++ (line.tail.now ++ (32 ∷ line.msg.now)))) };
+    ghost output = { λ line.
+        Some (line.front.now ++ (zone_text line.is_zulu ++ (line.tail.now ++ (32 ∷ line.msg.now)))) };
 
     fn fmt<W: fmt::Write>(&self, f: &mut fmt::Formatter<W>) -> fmt::Result {
         f.write_str(self.front)?;

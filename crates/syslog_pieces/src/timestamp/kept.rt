@@ -1,8 +1,8 @@
 //! Timestamps of a header that print as they are written, but that a `Z` prints as `+00:00`.
 //!
 //! What prints of a timestamp is what a clock at its offset shows, and that is the digits that stand in the text. So of
-//! most timestamps no instant is computed: it is enough that the calendar has the date and the clock the time. Another
-//! form (small letters, a fraction that ends in three zeros, second 60, `-00:00`) is left to `header_stamp`.
+//! most timestamps no instant is computed: it is enough that the calendar has the date and the clock the time. Other
+//! forms (small letters, a fraction that ends in three zeros, second 60, `-00:00`) are left to `header_stamp`.
 ghost use Rattle.std.specs.Prelude.{◌≡◌, ◌≢◌, ◌<◌, ◌++◌, ◌∷◌, ◌/◌, ◌%◌, ◌⊎◌, IfSome, IsTrue};
 ghost use Rattle.std.specs.Str.{chars, IsUtf8};
 ghost use Rattle.jiff_fmt.specs.Text.{pad2};
@@ -30,7 +30,8 @@ pub struct KeptStamp<'a> {
 /// The timestamp at the front of a header's text, where it prints as it is written but for a `Z`.
 #[inline(always)]
 pub fn kept_stamp(text: &str) -> Option<KeptStamp<'_>>
-    ensures { IfSome result (λ stamp. spec.IsKeptStamp (chars text.now) (shown stamp.zone) stamp.is_zulu (shown stamp.rest)) }
+    ensures { IfSome result (λ stamp.
+        spec.IsKeptStamp (chars text.now) (shown stamp.zone) stamp.is_zulu (shown stamp.rest)) }
 {
     match literal(text, '-') {
         Some(rest) => Some(KeptStamp {
@@ -45,7 +46,8 @@ pub fn kept_stamp(text: &str) -> Option<KeptStamp<'_>>
 // The same of a timestamp that is not absent.
 #[inline(always)]
 fn written_stamp(text: &str) -> Option<KeptStamp<'_>>
-    ensures { IfSome result (λ stamp. spec.IsKeptStamp (chars text.now) (shown stamp.zone) stamp.is_zulu (shown stamp.rest)) }
+    ensures { IfSome result (λ stamp.
+        spec.IsKeptStamp (chars text.now) (shown stamp.zone) stamp.is_zulu (shown stamp.rest)) }
 {
     let behind = date_and_clock(text.as_bytes())?;
     let zone = fraction(behind)?;
@@ -188,7 +190,8 @@ fn sign(text: &[u8]) -> Option<(u8, &[u8])>
 #[inline(always)]
 fn minutes(text: &[u8]) -> Option<(u32, &[u8])>
     ensures in_day { IfSome result (λ read. read.0 < 1440) }
-    ensures text { IfSome result (λ read. text.now ≡ pad2 (read.0 / 60) ++ (58 ∷ (pad2 (read.0 % 60) ++ read.1.now))) }
+    ensures text { IfSome result (λ read.
+        text.now ≡ pad2 (read.0 / 60) ++ (58 ∷ (pad2 (read.0 % 60) ++ read.1.now))) }
 {
     let (hours, rest) = pair(text)?;
     let (minutes, rest) = pair_behind(rest, b':')?;
