@@ -128,7 +128,7 @@ composes pri small =
     ap₂ (λ (x : Option SyslogFacility) (y : Option SyslogSeverity). option_map_or facility_number x 5 * 8 + option_map_or severity_number y 7) c.2 c.3 ∙ c.4
 
 -- the printed timestamp is what is copied of it, and what stands in place of a `Z`
-stamp_prints : (value : Option OffsetTimestamp) (text : Text)
+pub stamp_prints : (value : Option OffsetTimestamp) (text : Text)
     → MatchOption value (text ≡ dash) (λ s. text ≡ printed_stamp s.instant.nanosecond s.offset.seconds) → timestamp_text value ≡ text
 stamp_prints None text h = sym h
 stamp_prints (Some s) text h = sym h
@@ -180,7 +180,7 @@ module _ (t b c zone d n o front tail : Text) (is_zulu : Bool) (k : KeptFront t 
         ∙ front_prints t b c z.copied zone front (zone_text is_zulu ++ (tail ++ (32 ∷ o))) k.pri k.version cut k.whole s.whole z.whole;
   }
 
-zone_bytes : (is_zulu : Bool) → encode_utf8_all (zone_text is_zulu) ≡ zone_text is_zulu
+pub zone_bytes : (is_zulu : Bool) → encode_utf8_all (zone_text is_zulu) ≡ zone_text is_zulu
 unfolding encode_utf8
 zone_bytes true = refl
 zone_bytes false = refl

@@ -2,7 +2,7 @@ use Rattle.std.proofs.Common.{rules, ◌≡◌, ◌++◌, ◌∷◌, string_byte
 use Rattle.std.specs.Str.{chars, encode_utf8_all}
 use Rattle.syslog_pieces.specs.Timestamp.Zone.{dating_value}
 use Rattle.syslog_loose.specs.Printed.{timestamp_text}
-use Rattle.syslog_loose.proofs.KeptLooseLemmas.{readable, freely, loose_bytes}
+use Rattle.syslog_loose.proofs.KeptLooseLemmas.{readable, freely, loose_bytes, stamped_bytes}
 use Rattle.syslog_loose.proofs.line.loose.loose_text.Goals as goal
 
 pub returns-in_err-make_room-clause-memory : goal.returns-in_err-make_room-clause-memory
