@@ -47,7 +47,6 @@ use Rattle.syslog_loose.specs.declared.variant.Variant.TheVariants.{Either, RFC3
 use Rattle.syslog_loose.proofs.KeptLineLemmas.{composes, stamp_prints, zone_bytes}
 use Rattle.syslog_loose.proofs.ReadingLemmas.{answered_to}
 use Rattle.syslog_loose.proofs.Rfc3164Lemmas.Apart.{not_both}
-use Rattle.syslog_loose.proofs.Rfc3164Lemmas.Shown.{shown_has_month}
 use Rattle.syslog_loose.proofs.Rfc3164Lemmas.Misses.{no_dash_host, no_colon_host, no_colon_names}
 use Rattle.syslog_pieces.proofs.PieceLemmas.Each.{each_map, each_left}
 use Rattle.syslog_loose.proofs.Rfc3164Lemmas.Near.{read_near}
@@ -250,13 +249,9 @@ asks_shown Either text date reads h = h
 pub dated_asks : (variant : Variant) (text front : Text) (date : MonthDate) (tail : Text) → ShowsDated variant text front date tail → AsksYear variant text date
 dated_asks variant text front date tail shows = asks_shown variant text date shows.reads (dated_shows variant text front date tail shows)
 
--- which has a month
-dated_month : (variant : Variant) (text front : Text) (date : MonthDate) (tail : Text) → ShowsDated variant text front date tail → HasMonth (incomplete date)
-dated_month variant text front date tail shows = shown_has_month text date (dated_shows variant text front date tail shows)
-
-pub asked_month : (variant : Variant) (text front : Text) (date : MonthDate) (tail : Text) (asked : Option IncompleteDate) (x : IncompleteDate) → ShowsDated variant text front date tail → asked ≡ Some (incomplete date)
-    → asked ≡ Some x → HasMonth x
-asked_month variant text front date tail asked x shows e f = subst HasMonth (same (incomplete date) x (sym e ∙ f)) (dated_month variant text front date tail shows)
+-- a date of one of twelve months, as the closure takes it
+pub asked_month : (date : MonthDate) (asked : Option IncompleteDate) (x : IncompleteDate) → HasMonth (incomplete date) → asked ≡ Some (incomplete date) → asked ≡ Some x → HasMonth x
+asked_month date asked x has e f = subst HasMonth (same (incomplete date) x (sym e ∙ f)) has
   where
     same : (a b : IncompleteDate) → Some a ≡ Some b → a ≡ b
     same a b g = cc
@@ -265,7 +260,7 @@ asked_month variant text front date tail asked x shows e f = subst HasMonth (sam
 pub dated_answered : (post : IncompleteDate → ℤ → Type 0) (variant : Variant) (text front : Text) (date : MonthDate) (tail : Text) (asked : Option IncompleteDate) (year : Option ℤ)
     → ShowsDated variant text front date tail → asked ≡ Some (incomplete date) → MatchOption asked (year ≡ None) (λ d. IsSomeAnd year (λ y. post d y)) → IsYearAnswered post variant text year
 dated_answered post variant text front date tail asked year shows e k =
-    answered_to post variant text (Some (incomplete date)) year (date, dated_asks variant text front date tail shows, refl, dated_month variant text front date tail shows)
+    answered_to post variant text (Some (incomplete date)) year (date, dated_asks variant text front date tail shows, refl)
     (subst (λ (x : Option IncompleteDate). MatchOption x (year ≡ None) (λ d. IsSomeAnd year (λ y. post d y))) e k)
 
 -- what is written of such a line, by bytes

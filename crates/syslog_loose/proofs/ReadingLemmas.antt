@@ -10,7 +10,7 @@ use Rattle.syslog_pieces.specs.Pieces.View.{shown}
 use Rattle.syslog_pieces.specs.Timestamp.Zone.{Dating, dating_of}
 use Rattle.syslog_pieces.specs.declared.timestamp.month_date.MonthDate.{MonthDate}
 use Rattle.syslog_loose.specs.Message.{MessageValue, message_value}
-use Rattle.syslog_loose.specs.Reading.{dash_rule, IsRead, IsOnlyRead, IsUnreadable, IsQuoted, IsFault, Answers, AnswersDateless, AnswersPlainly, IncompleteDate, incomplete, HasMonth, AsksYear, IsLeftTo3164, IsYearAnswered, InYear}
+use Rattle.syslog_loose.specs.Reading.{dash_rule, IsRead, IsOnlyRead, IsUnreadable, IsQuoted, IsFault, Answers, AnswersDateless, AnswersPlainly, IncompleteDate, incomplete, AsksYear, IsLeftTo3164, IsYearAnswered, InYear}
 use Rattle.syslog_loose.specs.Rfc5424.{IsRead5424, IsNot5424, NeedsNoMemory5424}
 use Rattle.syslog_loose.specs.declared.message.Message.{Message}
 use Rattle.syslog_loose.specs.declared.fault.ParseFault.{ParseFault}
@@ -145,12 +145,12 @@ dateless_in post variant text tz local r (never, h) = record { answered = None; 
 
 -- the answer to the date that the text asks a year of
 pub answered_to : (post : IncompleteDate → ℤ → Type 0) (variant : Variant) (text : Text) (asked : Option IncompleteDate) (year : Option ℤ)
-    → MatchOption asked ((date : MonthDate) → AsksYear variant text date → ⊥) (λ d. (date : MonthDate) × AsksYear variant text date × (d ≡ incomplete date) × HasMonth d)
+    → MatchOption asked ((date : MonthDate) → AsksYear variant text date → ⊥) (λ d. (date : MonthDate) × AsksYear variant text date × (d ≡ incomplete date))
     → MatchOption asked (year ≡ None) (λ d. IsSomeAnd year (λ y. post d y)) → IsYearAnswered post variant text year
 answered_to post variant text None None h k = h
 answered_to post variant text None (Some y) h k = cc
 answered_to post variant text (Some d) None h k = absurd k
-answered_to post variant text (Some d) (Some y) (date, asks, e, m) k = (date, asks, subst (λ (x : IncompleteDate). post x y) e k)
+answered_to post variant text (Some d) (Some y) (date, asks, e) k = (date, asks, subst (λ (x : IncompleteDate). post x y) e k)
 
 -- what holds in each year that agrees holds in that year
 pub in_year_map : {post : IncompleteDate → ℤ → Type 0} {variant : Variant} {text : Text} {Holds More : Option ℤ → Type 0} → ((year : Option ℤ) → Holds year → More year)

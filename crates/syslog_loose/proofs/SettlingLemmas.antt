@@ -10,6 +10,5 @@ pub mod NoList
 pub mod Quiet
 pub mod Rounds
 pub mod Settles
-pub mod Trimmed
 pub mod Weights
 pub mod Years

@@ -5,7 +5,7 @@ use Rattle.std.proofs.Common.{List, [], ◌∷◌, ◌++◌, length, refl, sym, 
 use Rattle.std.specs.List.{flat_map}
 use Rattle.std.proofs.lemmas.Bool.Decides.{eqb_tells}
 use Rattle.std.specs.Char.{is_whitespace, is_not_whitespace}
-use Rattle.std.specs.Str.{skip_leading_whitespace, drop_trailing_whitespace}
+use Rattle.std.specs.Str.{drop_trailing_whitespace}
 use Rattle.syslog_pieces.specs.Pieces.Class.{Text, Class, Values, Front, Row, Each, Ends, run, rest}
 use Rattle.syslog_pieces.specs.Pieces.Format.{Format, classes, printed_row}
 use Rattle.syslog_pieces.specs.StructuredData.Element.{ElementValue, param_text, element_text, joined_elements}
@@ -17,7 +17,7 @@ use Rattle.syslog_pieces.proofs.PieceLemmas.Rows.{row_pieces}
 use Rattle.syslog_pieces.proofs.PieceLemmas.Formats.{printed_more}
 use Rattle.syslog_pieces.proofs.TimestampLemmas.RoundTrip.{printed_stamp-visible, printed_stamp-begins}
 use Rattle.syslog_loose.specs.Printed.{timestamp_text}
-use Rattle.syslog_pieces.specs.Text.{is_blank, trimmed}
+use Rattle.syslog_pieces.specs.Text.{is_blank}
 use Rattle.syslog_loose.specs.Canonical.{EndsVisibly}
 use Rattle.syslog_pieces.proofs.TextLemmas.Chars.{from_not_true}
 unfoldable pub use Rattle.syslog_loose.specs.Jumps.{message_end}
@@ -124,25 +124,6 @@ drop_ends [] = nil_ends
 drop_ends (d ∷ cs) =
     ends_case (is_whitespace d) (nat_eq (length (drop_trailing_whitespace cs)) 0) d
     (drop_trailing_whitespace cs) refl refl (drop_ends cs)
-
--- what was trimmed is trimmed
-skipped_case : (b : Bool) (c : ℕ) (cs : Text) → is_whitespace c ≡ b → trimmed (trimmed cs) ≡ trimmed cs
-    → trimmed (trimmed (c ∷ cs)) ≡ trimmed (c ∷ cs)
-skipped_case true c cs w h =
-    subst (λ (x : Text). trimmed (drop_trailing_whitespace x) ≡ drop_trailing_whitespace x)
-    (sym (ap (λ (b : Bool). cond b (skip_leading_whitespace cs) (c ∷ cs)) w)) h
-skipped_case false c cs w h =
-    let kept = drop_visible c cs (visible_from (is_whitespace c) w) in
-    let again : (x : Text) → skip_leading_whitespace (c ∷ x) ≡ c ∷ x =
-    λ x. ap (λ (b : Bool). cond b (skip_leading_whitespace x) (c ∷ x)) w in
-    let once : trimmed (c ∷ cs) ≡ c ∷ drop_trailing_whitespace cs = ap drop_trailing_whitespace (again cs) ∙ kept in
-    ap trimmed once ∙ ap drop_trailing_whitespace (again (drop_trailing_whitespace cs))
-    ∙ drop_visible c (drop_trailing_whitespace cs) (visible_from (is_whitespace c) w)
-    ∙ ap (λ (x : Text). c ∷ x) (drop_kept (drop_trailing_whitespace cs) (drop_ends cs)) ∙ sym once
-
-pub trimmed_twice : (cs : Text) → trimmed (trimmed cs) ≡ trimmed cs
-trimmed_twice [] = refl
-trimmed_twice (c ∷ cs) = skipped_case (is_whitespace c) c cs refl (trimmed_twice cs)
 
 -- and what follows a piece of it does too
 pub ends_behind : (C : Class) {t q : Text} {v : C.Value} → Front C t q v → EndsVisibly t → EndsVisibly q

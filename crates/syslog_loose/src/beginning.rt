@@ -1,10 +1,7 @@
 //! What each text that has a reading begins with, so that most of the others are refused by one look.
 ghost use Rattle.std.specs.Prelude.{◌≡◌, IsFalse, IsTrue};
 ghost use Rattle.std.specs.Str.{chars};
-ghost use Rattle.syslog_pieces.specs.Text.{trimmed};
 ghost use Rattle.syslog_loose.specs.Beginning as spec;
-
-use syslog_pieces::text::trimmed;
 
 // Whether the byte is `<`, a blank, `-`, a digit, or the first letter of a month's name.
 #[inline(always)]
@@ -33,12 +30,12 @@ fn is_first(byte: u8) -> bool
     )
 }
 
-/// Whether the text may have a reading, by its first byte behind white space.
+/// Whether the trimmed text may have a reading, by its first byte.
 #[inline(always)]
 pub(crate) fn may_be_read(input: &str) -> bool
-    ensures { IsFalse result → spec.BeginsNone (trimmed (chars input.now)) }
+    ensures { IsFalse result → spec.BeginsNone (chars input.now) }
 {
-    match trimmed(input).as_bytes() {
+    match input.as_bytes() {
         [byte, ..] => *byte >= 128 || is_first(*byte),
         [] => false,
     }

@@ -5,7 +5,7 @@ ghost use Rattle.std.specs.Result.{IsOkAnd};
 ghost use Rattle.std.specs.Str.{chars};
 ghost use Rattle.syslog_pieces.specs.Timestamp.Zone.{dating_of, dating_value};
 ghost use Rattle.syslog_loose.specs.Dash.{BeginsLoose, DropsDash, ReadsDifferently};
-ghost use Rattle.syslog_loose.specs.Reading.{AnswersEachMonth, InYear};
+ghost use Rattle.syslog_loose.specs.Reading.{AnswersEachMonth, InYear, OfTrimmed};
 ghost use Rattle.syslog_loose.specs.declared.variant.Variant.TheVariants as variants;
 
 use crate::reading::asked_date;
@@ -36,13 +36,15 @@ pub fn reads_differently<F: FnOnce(IncompleteDate) -> i32>(
     ensures drops { InYear (F.post get_year) variant (chars input.entry.now) (λ year. IsOkAnd result (λ differs.
         IsTrue differs ↔ DropsDash variant (dating_of year tz.entry local.entry) (chars input.entry.now))) }
 {
-    let year = asked_date(input, variant).map(get_year);
-    Ok(differs(input, &Dating { year, tz, local }, variant))
+    let text = trimmed(input);
+    let year = asked_date(text, variant).map(get_year);
+    Ok(differs(text, &Dating { year, tz, local }, variant))
 }
 
-// The same in a year.
+// The same of the trimmed text, in a year.
 fn differs(input: &str, dating: &Dating<'_, '_>, variant: Variant) -> bool
-    ensures { IsTrue result ↔ ReadsDifferently variant (dating_value dating.entry.now) (chars input.entry.now) }
+    ensures { OfTrimmed (chars input.entry.now) (λ whole.
+        IsTrue result ↔ ReadsDifferently variant (dating_value dating.entry.now) whole) }
 {
     match variant {
         Variant::RFC5424 => false,
@@ -53,10 +55,11 @@ fn differs(input: &str, dating: &Dating<'_, '_>, variant: Variant) -> bool
 
 // Whether RFC 3164 reads the text differently. What it reads has no division of RFC 5424.
 fn drops_dash(input: &str, dating: &Dating<'_, '_>) -> bool
-    ensures { MatchBool result (ReadsDifferently variants.RFC3164 (dating_value dating.entry.now) (chars input.entry.now))
-        (ReadsDifferently variants.RFC3164 (dating_value dating.entry.now) (chars input.entry.now) → ⊥) }
+    ensures { OfTrimmed (chars input.entry.now) (λ whole. MatchBool result
+        (ReadsDifferently variants.RFC3164 (dating_value dating.entry.now) whole)
+        (ReadsDifferently variants.RFC3164 (dating_value dating.entry.now) whole → ⊥)) }
 {
-    let Some((_, rest)) = read_stamped(trimmed(input), dating) else {
+    let Some((_, rest)) = read_stamped(input, dating) else {
         return false;
     };
     let (_, rest) = read_names(rest);

@@ -13,7 +13,7 @@ ghost use Rattle.syslog_loose.specs.KeptLine.{KeptFront, KeptTail, PrintsAs, Pri
 ghost use Rattle.syslog_loose.specs.Message.{MessageValue};
 ghost use Rattle.syslog_loose.specs.Printed.{printed};
 ghost use Rattle.syslog_pieces.specs.declared.timestamp.month_date.MonthDate.{MonthDate};
-ghost use Rattle.syslog_loose.specs.Reading.{AsksYear, IsUnreadable};
+ghost use Rattle.syslog_loose.specs.Reading.{AsksYear, IsUnreadable, OfTrimmed};
 ghost use Rattle.syslog_loose.specs.Rfc5424.{IsNot5424, IsRead5424};
 
 mod loose;
@@ -29,8 +29,8 @@ use std::fmt::Write;
 use syslog_pieces::pri::kept_priority;
 use syslog_pieces::procid::kept_process;
 use syslog_pieces::structured_data::kept_list;
+use syslog_pieces::text::blanks;
 use syslog_pieces::text::kept::{before, kept_host, kept_number, kept_word, one_space};
-use syslog_pieces::text::{blanks, trimmed};
 use syslog_pieces::timestamp::kept::kept_stamp;
 
 // A line, cut at the offset of its timestamp: all before it, whether it is `Z`, all from behind it to the elements, and
@@ -107,15 +107,6 @@ impl fmt::Display for KeptLine<'_> {
     }
 }
 
-// Whether a priority may begin the text, perhaps behind white space. It decides only which way is tried.
-#[inline(always)]
-fn may_have_priority(input: &str) -> bool {
-    match input.as_bytes() {
-        [first, ..] => *first == b'<' || *first <= b' ' || *first >= 128,
-        [] => false,
-    }
-}
-
 // Whether a version may stand behind the priority. It decides only which way is tried first.
 #[inline(always)]
 fn may_be_strict(input: &str) -> bool {
@@ -123,20 +114,21 @@ fn may_be_strict(input: &str) -> bool {
         [b'<', _, b'>', next, ..] => next.is_ascii_digit(),
         [b'<', _, _, b'>', next, ..] => next.is_ascii_digit(),
         [b'<', _, _, _, b'>', next, ..] => next.is_ascii_digit(),
-        _ => may_have_priority(input),
+        _ => false,
     }
 }
 
-/// Writes the printed text of the message of the line into `text`, where all but its timestamp prints as it is written, and
-/// tells whether it did. It asks for memory only for such a line, and where `text` has too little room.
+/// Writes the printed text of the message of the trimmed line into `text`, where all but its timestamp prints as it is
+/// written, and tells whether it did. It asks for memory only for such a line, and where `text` has too little room.
 pub(crate) fn copied(text: &mut String, input: &str) -> Result<bool, AllocError>
-    ensures text { IfOk result (λ found. IsTrue found → (m : MessageValue) × IsRead5424 (chars input.now) m × (string_bytes text.new ≡ encode_utf8_all (printed m))) }
-    ensures memory { IsNot5424 (chars input.now) → IsOk result }
+    ensures text { OfTrimmed (chars input.now) (λ whole. IfOk result (λ found. IsTrue found
+        → (m : MessageValue) × IsRead5424 whole m × (string_bytes text.new ≡ encode_utf8_all (printed m)))) }
+    ensures memory { OfTrimmed (chars input.now) (λ whole. IsNot5424 whole → IsOk result) }
 {
     if !may_be_strict(input) {
         return Ok(false);
     }
-    let Some(line) = kept_line(trimmed(input)) else {
+    let Some(line) = kept_line(input) else {
         return Ok(false);
     };
     make_room(text, input.len())?;
@@ -150,9 +142,12 @@ pub(crate) fn kept_text(
     input: &str,
     variant: Variant,
 ) -> Result<bool, AllocError>
-    ensures text { IfOk result (λ found. IsTrue found → PrintsAs variant (chars input.now) (string_bytes text.new)) }
-    ensures memory { (dating : Dating) → IsUnreadable variant dating (chars input.now) → IsOk result }
-    ensures year { (date : MonthDate) → AsksYear variant (chars input.now) date → IsOk result }
+    ensures text { OfTrimmed (chars input.now) (λ whole. IfOk result (λ found. IsTrue found
+        → PrintsAs variant whole (string_bytes text.new))) }
+    ensures memory { OfTrimmed (chars input.now) (λ whole. (dating : Dating)
+        → IsUnreadable variant dating whole → IsOk result) }
+    ensures year { OfTrimmed (chars input.now) (λ whole. (date : MonthDate)
+        → AsksYear variant whole date → IsOk result) }
 {
     match variant {
         Variant::RFC3164 => Ok(false),

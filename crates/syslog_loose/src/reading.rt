@@ -1,7 +1,9 @@
 //! The calls that read a text.
 //!
-//! A date without a year is looked for before RFC 3164 is tried, and the closure asked for its year. The calls with `exact` in their names refuse a text that has no reading; the plain ones answer the fallback.
-ghost use Rattle.std.specs.Prelude.{◌≡◌, ◌↔◌, Err, IfOk, MatchOption, MatchResult, None, Ok, OnOk, string_bytes};
+//! Each call trims its text once, and the steps behind it are given what is left. A date without a year is looked for
+//! before RFC 3164 is tried, and the closure asked for its year. The calls with `exact` in their names refuse a text that
+//! has no reading; the plain ones answer the fallback.
+ghost use Rattle.std.specs.Prelude.{◌≡◌, ◌↔◌, Err, IfOk, IfSome, MatchOption, MatchResult, None, Ok, OnOk, string_bytes};
 ghost use Rattle.std.specs.Str.{chars, encode_utf8_all, IsUtf8};
 ghost use Rattle.jiff.specs.Words.{plain_zone};
 ghost use Rattle.syslog_pieces.specs.Pieces.View.{shown};
@@ -14,7 +16,7 @@ ghost use Rattle.syslog_loose.specs.Message.{MessageValue, message_value};
 ghost use Rattle.syslog_loose.specs.Printed.{printed};
 ghost use Rattle.syslog_loose.specs.ReadBack.{AnswersAgain, AnswersItself, FieldsAsRead};
 ghost use Rattle.syslog_loose.specs.Reading as spec;
-ghost use Rattle.syslog_loose.specs.Reading.{Answers, AnswersDateless, AnswersEachMonth, AnswersPlainly, AsksYear, HasMonth, InYear, IsLeftTo3164, IsOnlyRead, IsUnreadable, incomplete};
+ghost use Rattle.syslog_loose.specs.Reading.{Answers, AnswersDateless, AnswersEachMonth, AnswersPlainly, AsksYear, HasMonth, InYear, IsLeftTo3164, IsOnlyRead, IsUnreadable, OfTrimmed, incomplete};
 ghost use Rattle.syslog_loose.specs.declared.fault.ParseFault.TheVariants.{Invalid};
 ghost use Rattle.syslog_loose.specs.declared.variant.Variant.{Variant};
 ghost use Rattle.syslog_loose.specs.declared.variant.Variant.TheVariants as variants;
@@ -28,6 +30,7 @@ use jiff::Timestamp;
 use jiff::tz::TimeZone;
 use std::alloc::{AllocError, Global};
 use syslog_pieces::structured_data::listed::DASH_RULE;
+use syslog_pieces::text::trimmed;
 use syslog_pieces::timestamp::month_date::shown_date;
 use syslog_pieces::timestamp::year_at;
 use syslog_pieces::timestamp::zone::Dating;
@@ -46,7 +49,8 @@ pub fn parse_message<'a>(
     ensures reads { InYear (λ _ year. IsYearAt (plain_zone local.entry.now) now.nanosecond year) variant (chars input.entry.now)
         (λ year. AnswersPlainly variant (dating_of year None local.entry) (chars input.entry.now) result) }
 {
-    let year = match asked_date(input, variant) {
+    let text = trimmed(input);
+    let year = match asked_date(text, variant) {
         Some(_) => Some(year_at(now, local)),
         None => None,
     };
@@ -55,7 +59,7 @@ pub fn parse_message<'a>(
         tz: None,
         local,
     };
-    or_fallback(alloc, input, read(alloc, input, &dating, variant))
+    or_fallback(alloc, input, read(alloc, text, &dating, variant))
 }
 
 /// The message of the text, read by the variant, or the fallback. `get_year` gives the year of a date that has none, and
@@ -167,7 +171,8 @@ pub fn parse_message_with_year_exact_tz<'a, F: FnOnce(IncompleteDate) -> i32>(
     ensures fields { InYear (F.post get_year) variant (chars input.entry.now) (λ year. IfOk result (λ m.
         FieldsAsRead m.protocol (dating_of year tz.entry local.entry) (chars input.entry.now) (message_value (λ s. shown s) m))) }
 {
-    let found = match read_dateless(alloc, input, variant) {
+    let text = trimmed(input);
+    let found = match read_dateless(alloc, text, variant) {
         Ok(found) => found,
         Err(fault) => return Err(fault),
     };
@@ -175,15 +180,16 @@ pub fn parse_message_with_year_exact_tz<'a, F: FnOnce(IncompleteDate) -> i32>(
         Some(message) => return Ok(message),
         None => {}
     }
-    let year = asked_date(input, variant).map(get_year);
-    read_rfc3164(alloc, input, &Dating { year, tz, local })
+    let year = asked_date(text, variant).map(get_year);
+    read_rfc3164(alloc, text, &Dating { year, tz, local })
 }
 
-// The date without a year that the text shows, where the variant reads it.
+// The date without a year that the trimmed text shows, where the variant reads it.
 pub(crate) fn asked_date(input: &str, variant: Variant) -> Option<IncompleteDate>
-    ensures { MatchOption result
-        ((date : MonthDate) → AsksYear variant (chars input.now) date → ⊥)
-        (λ d. (date : MonthDate) × AsksYear variant (chars input.now) date × (d ≡ incomplete date) × HasMonth d) }
+    ensures asks { OfTrimmed (chars input.now) (λ whole. MatchOption result
+        ((date : MonthDate) → AsksYear variant whole date → ⊥)
+        (λ d. (date : MonthDate) × AsksYear variant whole date × (d ≡ incomplete date))) }
+    ensures month { IfSome result (λ d. HasMonth d) }
 {
     match variant {
         Variant::RFC5424 => None,
@@ -192,11 +198,12 @@ pub(crate) fn asked_date(input: &str, variant: Variant) -> Option<IncompleteDate
     }
 }
 
-// The date without a year that the text shows.
+// The date without a year that the trimmed text shows.
 fn incomplete_date(input: &str) -> Option<IncompleteDate>
-    ensures { MatchOption result
-        ((date : MonthDate) → ShowsYearless (chars input.now) date → ⊥)
-        (λ d. (date : MonthDate) × ShowsYearless (chars input.now) date × (d ≡ incomplete date) × HasMonth d) }
+    ensures asks { OfTrimmed (chars input.now) (λ whole. MatchOption result
+        ((date : MonthDate) → ShowsYearless whole date → ⊥)
+        (λ d. (date : MonthDate) × ShowsYearless whole date × (d ≡ incomplete date))) }
+    ensures month { IfSome result (λ d. HasMonth d) }
 {
     match shown_date(input) {
         Some(date) => Some((date.month, date.day, date.hour, date.minute, date.second)),
@@ -204,14 +211,14 @@ fn incomplete_date(input: &str) -> Option<IncompleteDate>
     }
 }
 
-// The message of the text, read by the variant in a year.
+// The message of the trimmed text, read by the variant in a year.
 pub(crate) fn read<'a>(
     alloc: Global,
     input: &'a str,
     dating: &Dating<'_, '_>,
     variant: Variant,
 ) -> Result<Message<&'a str>, ParseFault>
-    ensures { Answers variant (dating_value dating.entry.now) (chars input.entry.now) result }
+    ensures { OfTrimmed (chars input.entry.now) (λ whole. Answers variant (dating_value dating.entry.now) whole result) }
 {
     match read_dateless(alloc, input, variant) {
         Ok(found) => match found {
@@ -230,9 +237,9 @@ fn read_dateless(
     input: &str,
     variant: Variant,
 ) -> Result<Option<Message<&str>>, ParseFault>
-    ensures { MatchResult result
-        (λ found. MatchOption found (IsLeftTo3164 variant (chars input.now)) (λ m. AnswersDateless variant (chars input.now) (Ok m)))
-        (λ fault. AnswersDateless variant (chars input.now) (Err fault)) }
+    ensures { OfTrimmed (chars input.now) (λ whole. MatchResult result
+        (λ found. MatchOption found (IsLeftTo3164 variant whole) (λ m. AnswersDateless variant whole (Ok m)))
+        (λ fault. AnswersDateless variant whole (Err fault))) }
 {
     if !may_be_read(input) {
         return Err(ParseFault::Invalid);
@@ -251,7 +258,7 @@ fn read_dateless(
 }
 
 fn read_rfc5424(alloc: Global, input: &str) -> Result<Message<&str>, ParseFault>
-    ensures { (dating : zone.Dating) → Answers variants.RFC5424 dating (chars input.now) result }
+    ensures { OfTrimmed (chars input.now) (λ whole. (dating : zone.Dating) → Answers variants.RFC5424 dating whole result) }
 {
     match rfc5424::read(alloc, input) {
         Ok(found) => match found {
@@ -267,7 +274,8 @@ fn read_rfc3164<'a>(
     input: &'a str,
     dating: &Dating<'_, '_>,
 ) -> Result<Message<&'a str>, ParseFault>
-    ensures { Answers variants.RFC3164 (dating_value dating.entry.now) (chars input.entry.now) result }
+    ensures { OfTrimmed (chars input.entry.now) (λ whole.
+        Answers variants.RFC3164 (dating_value dating.entry.now) whole result) }
 {
     match rfc3164::read(alloc, input, DASH_RULE, dating) {
         Ok(found) => match found {

@@ -1,7 +1,7 @@
 //! The header of RFC 3164 (section 4), read loosely: eleven pieces, of which only the priority, the blanks and the
 //! timestamp at the front can fail.
 //!
-//! `read` answers the message of the one division of the trimmed text, or that there is none. It takes each piece from
+//! `read` answers the message of the one division of a trimmed text, or that there is none. It takes each piece from
 //! the readers of `syslog_pieces`, from the left. `resolve` answers what the host field and the tag field mean together.
 ghost use Rattle.std.specs.Prelude.{◌≡◌, IfOk, IsOk, MatchOption, None};
 ghost use Rattle.std.specs.Str.{chars};
@@ -9,6 +9,7 @@ ghost use Rattle.syslog_pieces.specs.Pieces.Class.{Row};
 ghost use Rattle.syslog_pieces.specs.Pieces.View.{seen, shown, field_seen, Reads};
 ghost use Rattle.syslog_pieces.specs.Timestamp.Zone.{dating_value};
 ghost use Rattle.syslog_loose.specs.Message.{message_value};
+ghost use Rattle.syslog_loose.specs.Reading.{OfTrimmed};
 ghost use Rattle.syslog_loose.specs.Rfc3164 as spec;
 ghost use Rattle.syslog_loose.specs.TagForm.{IsForm, IsNoForm};
 ghost use Rattle.syslog_loose.specs.View3164.{names_value, stamped_values};
@@ -19,7 +20,7 @@ use std::alloc::{AllocError, Global};
 use syslog_pieces::pri::{optional_priority, parts};
 use syslog_pieces::procid::ProcId;
 use syslog_pieces::structured_data::listed::{DashRule, optional_list};
-use syslog_pieces::text::{blanks, host_field, past_colon, tag_field, trimmed};
+use syslog_pieces::text::{blanks, host_field, past_colon, tag_field};
 use syslog_pieces::timestamp::OffsetTimestamp;
 use syslog_pieces::timestamp::loose::loose_stamp;
 use syslog_pieces::timestamp::zone::Dating;
@@ -137,12 +138,13 @@ pub(crate) fn read<'a>(
     rule: DashRule,
     dating: &Dating<'_, '_>,
 ) -> Result<Option<Message<&'a str>>, AllocError>
-    ensures read { IfOk result (λ found. MatchOption found
-        (spec.IsNot3164 rule (dating_value dating.entry.now) (chars text.entry.now))
-        (λ m. spec.IsRead3164 rule (dating_value dating.entry.now) (chars text.entry.now) (message_value (λ s. shown s) m))) }
-    ensures memory { spec.NeedsNoMemory3164 rule (dating_value dating.entry.now) (chars text.entry.now) → IsOk result }
+    ensures read { OfTrimmed (chars text.entry.now) (λ whole. IfOk result (λ found. MatchOption found
+        (spec.IsNot3164 rule (dating_value dating.entry.now) whole)
+        (λ m. spec.IsRead3164 rule (dating_value dating.entry.now) whole (message_value (λ s. shown s) m)))) }
+    ensures memory { OfTrimmed (chars text.entry.now) (λ whole.
+        spec.NeedsNoMemory3164 rule (dating_value dating.entry.now) whole → IsOk result) }
 {
-    let Some((stamped, rest)) = read_stamped(trimmed(text), dating) else {
+    let Some((stamped, rest)) = read_stamped(text, dating) else {
         return Ok(None);
     };
     let (names, rest) = read_names(rest);

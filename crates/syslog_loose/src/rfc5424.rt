@@ -1,7 +1,7 @@
 //! The header of RFC 5424 (section 6): sixteen pieces, from the priority to the message.
 //!
-//! `read` answers the message of the one division of the trimmed text, or that there is none. What it reads it takes
-//! from the readers of `syslog_pieces`, piece by piece from the left; a header that fails takes no memory.
+//! `read` answers the message of the one division of a trimmed text, or that there is none. What it reads it takes from
+//! the readers of `syslog_pieces`, piece by piece from the left; a header that fails takes no memory.
 ghost use Rattle.std.specs.Prelude.{◌≡◌, IfOk, IsOk, MatchOption, Some, None};
 ghost use Rattle.std.specs.Option.{option_map, option_and_then};
 ghost use Rattle.std.specs.Str.{chars};
@@ -9,6 +9,7 @@ ghost use Rattle.syslog_pieces.specs.Pieces.Class.{Row};
 ghost use Rattle.syslog_pieces.specs.Pri.{facility_of, severity_of};
 ghost use Rattle.syslog_pieces.specs.Pieces.View.{shown, Reads};
 ghost use Rattle.syslog_loose.specs.Message.{message_value};
+ghost use Rattle.syslog_loose.specs.Reading.{OfTrimmed};
 ghost use Rattle.syslog_loose.specs.Rfc5424 as spec;
 ghost use Rattle.syslog_loose.specs.View5424.{header_values};
 
@@ -17,7 +18,7 @@ use std::alloc::{AllocError, Global};
 use syslog_pieces::pri::{optional_priority, parts};
 use syslog_pieces::procid::{ProcId, process_word};
 use syslog_pieces::structured_data::forgiving_list;
-use syslog_pieces::text::{blanks, host, number, some_blanks, trimmed, word};
+use syslog_pieces::text::{blanks, host, number, some_blanks, word};
 use syslog_pieces::timestamp::{OffsetTimestamp, header_stamp};
 
 /// The fields before the structured data.
@@ -63,10 +64,11 @@ fn read_header(text: &str) -> Option<(Header<'_>, &str)>
 /// The message of the one division of the trimmed text, and none where there is no division. Memory is asked for only
 /// to collect elements, after the whole text has been recognised.
 pub(crate) fn read(alloc: Global, text: &str) -> Result<Option<Message<&str>>, AllocError>
-    ensures read { IfOk result (λ found. MatchOption found (spec.IsNot5424 (chars text.now)) (λ m. spec.IsRead5424 (chars text.now) (message_value (λ s. shown s) m))) }
-    ensures memory { spec.NeedsNoMemory5424 (chars text.now) → IsOk result }
+    ensures read { OfTrimmed (chars text.now) (λ whole. IfOk result (λ found. MatchOption found (spec.IsNot5424 whole)
+        (λ m. spec.IsRead5424 whole (message_value (λ s. shown s) m)))) }
+    ensures memory { OfTrimmed (chars text.now) (λ whole. spec.NeedsNoMemory5424 whole → IsOk result) }
 {
-    let Some((header, rest)) = read_header(trimmed(text)) else {
+    let Some((header, rest)) = read_header(text) else {
         return Ok(None);
     };
     let Some((elements, rest)) = forgiving_list(alloc, blanks(rest))? else {

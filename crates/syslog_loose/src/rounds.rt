@@ -11,7 +11,7 @@ ghost use Rattle.syslog_loose.specs.KeptLoose.{ShowsDated};
 ghost use Rattle.syslog_loose.specs.Message.{MessageValue, message_value};
 ghost use Rattle.syslog_loose.specs.Printed.{printed};
 ghost use Rattle.syslog_loose.specs.ReadBack.{AnswersAgain};
-ghost use Rattle.syslog_loose.specs.Reading.{AnswersEachMonth, InYear, IsOnlyRead, IsUnreadable, IsYearAnswered};
+ghost use Rattle.syslog_loose.specs.Reading.{AnswersEachMonth, InYear, IsOnlyRead, IsUnreadable, IsYearAnswered, OfTrimmed};
 ghost use Rattle.syslog_loose.specs.Settling.{IsAtRest, IsRoundAsTold};
 ghost use Rattle.syslog_loose.specs.declared.fault.ParseFault.TheVariants.{Invalid};
 
@@ -24,6 +24,7 @@ use crate::reading::{asked_date, read};
 use crate::variant::{IncompleteDate, Variant};
 use jiff::tz::TimeZone;
 use std::alloc::Global;
+use syslog_pieces::text::trimmed;
 use syslog_pieces::timestamp::zone::Dating;
 
 /// The printed text of the message that `parse_message_with_year_exact_tz` answers, in memory of its own. A text that has
@@ -43,7 +44,16 @@ pub fn normalise<F: FnOnce(IncompleteDate) -> i32>(
     ensures again { AnswersAgain variant (chars input.entry.now) input.entry.now result }
 {
     let mut text = String::new(alloc);
-    first_round(alloc, &mut text, input, get_year, tz, variant, local, false)?;
+    first_round(
+        alloc,
+        &mut text,
+        trimmed(input),
+        get_year,
+        tz,
+        variant,
+        local,
+        false,
+    )?;
     Ok(text)
 }
 
@@ -54,7 +64,7 @@ pub(crate) struct Round {
     pub(crate) year: Option<i32>,
 }
 
-/// Writes round 1 of the input into `text`, as `next_round` does. The closure is called once, and only where the text shows
+/// Writes round 1 of the trimmed input into `text`, as `next_round` does. The closure is called once, and only where the text shows
 /// a date without a year that the variant reads.
 #[inline]
 pub(crate) fn first_round<F: FnOnce(IncompleteDate) -> i32>(
@@ -68,11 +78,11 @@ pub(crate) fn first_round<F: FnOnce(IncompleteDate) -> i32>(
     skips: bool,
 ) -> Result<Round, ParseFault>
     requires { AnswersEachMonth (F.pre get_year) }
-    ensures { MatchResult result
-        (λ round. IsYearAnswered (F.post get_year) variant (chars input.entry.now) round.year
-        × IsRoundAsTold skips variant (dating_of round.year tz.entry local.entry) (chars input.entry.now) (chars (string_bytes text.new)) round.settled)
-        (λ fault. InYear (F.post get_year) variant (chars input.entry.now) (λ year.
-        (fault ≡ Invalid) ↔ IsUnreadable variant (dating_of year tz.entry local.entry) (chars input.entry.now))) }
+    ensures { OfTrimmed (chars input.entry.now) (λ whole. MatchResult result
+        (λ round. IsYearAnswered (F.post get_year) variant whole round.year × IsRoundAsTold skips variant
+        (dating_of round.year tz.entry local.entry) whole (chars (string_bytes text.new)) round.settled)
+        (λ fault. InYear (F.post get_year) variant whole (λ year.
+        (fault ≡ Invalid) ↔ IsUnreadable variant (dating_of year tz.entry local.entry) whole))) }
 {
     let copied = kept_text(text, input, variant)?;
     if copied {
@@ -111,11 +121,11 @@ fn dated_round(
     variant: Variant,
     skips: bool,
 ) -> Result<bool, ParseFault>
-    requires shows { ShowsDated variant (chars input.now) (shown line.front) line.date (shown line.tail) }
+    requires shows { OfTrimmed (chars input.now) (λ whole. ShowsDated variant whole (shown line.front) line.date (shown line.tail)) }
     requires utf8 { IsUtf8 line.front.now × IsUtf8 line.tail.now }
-    ensures { MatchResult result
-        (λ settled. IsRoundAsTold skips variant (dating_value dating.entry.now) (chars input.entry.now) (chars (string_bytes text.new)) settled)
-        (λ fault. (fault ≡ Invalid) ↔ IsUnreadable variant (dating_value dating.entry.now) (chars input.entry.now)) }
+    ensures { OfTrimmed (chars input.entry.now) (λ whole. MatchResult result
+        (λ settled. IsRoundAsTold skips variant (dating_value dating.entry.now) whole (chars (string_bytes text.new)) settled)
+        (λ fault. (fault ≡ Invalid) ↔ IsUnreadable variant (dating_value dating.entry.now) whole)) }
 {
     let copied = dated_text(text, line, input.len(), dating)?;
     if copied {
@@ -124,7 +134,7 @@ fn dated_round(
     next_round(alloc, text, input, dating, variant, skips)
 }
 
-/// Writes a round of the input into `text`: the next one, where that is known to be settled, and tells so. Else the next
+/// Writes a round of the trimmed input into `text`: the next one, where that is known to be settled, and tells so. Else the next
 /// one too, or, where rounds may be skipped, a later one before which none is settled.
 pub(crate) fn next_round(
     alloc: Global,
@@ -134,9 +144,9 @@ pub(crate) fn next_round(
     variant: Variant,
     skips: bool,
 ) -> Result<bool, ParseFault>
-    ensures { MatchResult result
-        (λ settled. IsRoundAsTold skips variant (dating_value dating.entry.now) (chars input.entry.now) (chars (string_bytes text.new)) settled)
-        (λ fault. (fault ≡ Invalid) ↔ IsUnreadable variant (dating_value dating.entry.now) (chars input.entry.now)) }
+    ensures { OfTrimmed (chars input.entry.now) (λ whole. MatchResult result
+        (λ settled. IsRoundAsTold skips variant (dating_value dating.entry.now) whole (chars (string_bytes text.new)) settled)
+        (λ fault. (fault ≡ Invalid) ↔ IsUnreadable variant (dating_value dating.entry.now) whole)) }
 {
     let copied = loose_text(text, input, dating, variant)?;
     if copied {

@@ -67,26 +67,16 @@ pub fn settle_into<F: FnOnce(IncompleteDate) -> i32>(
     ensures canonical { InYear (F.post get_year) variant (chars input.entry.now) (λ year. IfOk (answer_in result text.new) (λ answer. (m : MessageValue)
         → IsRead variant (dating_of year tz.entry local.entry) (chars (string_bytes answer)) m → IsCanonical dash_rule m)) }
 {
-    // (Each step trims the text that it gets, and has nothing to pass over where that was done.)
-    settle_trimmed(alloc, text, trimmed(input), get_year, tz, variant, local)
-}
-
-// The same, given a text that was trimmed, so that no step passes its blanks again.
-#[inline]
-fn settle_trimmed<F: FnOnce(IncompleteDate) -> i32>(
-    alloc: Global,
-    text: &mut String,
-    input: &str,
-    get_year: F,
-    tz: Option<&TimeZone<'_>>,
-    variant: Variant,
-    local: &TimeZone<'_>,
-) -> Result<(), ParseFault>
-    requires { AnswersEachMonth (F.pre get_year) }
-    ensures { InYear (F.post get_year) variant (chars input.entry.now)
-        (λ year. Settles variant (dating_of year tz.entry local.entry) (chars input.entry.now) (answer_in result text.new)) }
-{
-    let round = first_round(alloc, text, input, get_year, tz, variant, local, true)?;
+    let round = first_round(
+        alloc,
+        text,
+        trimmed(input),
+        get_year,
+        tz,
+        variant,
+        local,
+        true,
+    )?;
     if round.settled {
         return Ok(());
     }
@@ -95,7 +85,7 @@ fn settle_trimmed<F: FnOnce(IncompleteDate) -> i32>(
 }
 
 // The same from a round of the input that is not known to be settled, in a year. The text of the last round and of the
-// next change places.
+// next change places. (What is printed may end in a space.)
 fn settle_on(
     alloc: Global,
     text: &mut String,
@@ -109,7 +99,7 @@ fn settle_on(
     let mut last = String::new(alloc);
     for done in 0..=input.len() {
         swap(&mut last, text);
-        let settled = next_round(alloc, text, last.as_str(), dating, variant, true)?;
+        let settled = next_round(alloc, text, trimmed(last.as_str()), dating, variant, true)?;
         if settled {
             return Ok(());
         }

@@ -9,7 +9,7 @@
 //! **For the floor above.** [`rfc3339`] answers exactly the `IsStampText` of the text's characters,
 //! of which a text has at most one. [`loose_stamp`] answers exactly the class `loose_stamp`, whose
 //! three kinds begin with `-`, a digit and a letter. [`shown_date`] answers the date without a year
-//! that a text shows. Display writes `printed_stamp`. Equality and order look at the instant alone.
+//! that a trimmed text shows. Display writes `printed_stamp`. Equality and order look at the instant alone.
 ghost use Rattle.std.proofs.Common.{rules};
 ghost use Rattle.std.specs.Cmp.{partial_order_from_own_ties};
 ghost use Rattle.std.specs.Cmp.Rules.{comparing};

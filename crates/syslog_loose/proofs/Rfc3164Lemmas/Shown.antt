@@ -5,7 +5,7 @@ use Rattle.std.specs.Char.{to_ascii_lowercase}
 use Rattle.syslog_pieces.specs.Pieces.Class.{Text, Values, Front, Row, run, some_run, rest, optional}
 use Rattle.syslog_pieces.specs.Pri.{priority}
 use Rattle.syslog_pieces.specs.Text.{is_blank}
-use Rattle.syslog_pieces.specs.Timestamp.Loose.{showing_row, ShowsYearless, ShowsMonthDate}
+use Rattle.syslog_pieces.specs.Timestamp.Loose.{showing_row, BeginsWithDate, ShowsYearless, ShowsMonthDate}
 use Rattle.syslog_pieces.specs.Timestamp.MonthDate.{month_names, IsMonthName, month, short_number, clock_row}
 use Rattle.syslog_pieces.specs.Timestamp.MonthDate.{yearless_row, yearless_of, yearless_date, month_date}
 use Rattle.syslog_pieces.specs.declared.timestamp.month_date.MonthDate.{MonthDate}
@@ -30,13 +30,16 @@ row_has_month vs f =
     let second = f9.is.4 in
     (m.0, m.1, omega arith, omega arith, omega arith, omega arith)
 
-pub shown_has_month : (text : Text) (d : MonthDate) → ShowsYearless text d → HasMonth (incomplete d)
+pub date_has_month : {t q : Text} (d : MonthDate) → Front yearless_date t q d → HasMonth (incomplete d)
+date_has_month {t} {q} d f =
+    let (vs, h, e) = f.is in
+    let row : Front (Row yearless_row) t q vs = record { piece = f.piece; whole = f.whole; is = h } in
+    subst (λ (x : MonthDate). HasMonth (incomplete x)) (sym e) (row_has_month vs row)
+
+pub shown_has_month : (text : Text) (d : MonthDate) → BeginsWithDate yearless_date text d → HasMonth (incomplete d)
 shown_has_month text d (p, more, division) =
     let (_, _, more) = row_pieces (showing_row yearless_date) (division_front (showing_row yearless_date) division) in
-    let (t2, _, (t3, f3, _)) = more in
-    let (vs, h, e) = f3.is in
-    let row : Front (Row yearless_row) t2 t3 vs = record { piece = f3.piece; whole = f3.whole; is = h } in
-    subst (λ (x : MonthDate). HasMonth (incomplete x)) (sym e) (row_has_month vs row)
+    let (_, _, (_, date, _)) = more in date_has_month d date
 
 -- a date without a year is a month date
 pub shows_month_date : (text : Text) (d : MonthDate) → ShowsYearless text d → ShowsMonthDate text d

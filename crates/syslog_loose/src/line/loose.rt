@@ -14,14 +14,13 @@ ghost use Rattle.syslog_pieces.specs.Timestamp.Zone.{Dating as AnyDating, dating
 ghost use Rattle.syslog_loose.specs.KeptLoose.{KeptBehind, KeptNames, KeptOrigin, KeptProgram, PrintsFreely, PrintsLoosely, PrintsStamped, ShowsDated};
 ghost use Rattle.syslog_loose.specs.Printed.{timestamp_text};
 ghost use Rattle.syslog_loose.specs.ReadBack.{ReadsProtocol};
-ghost use Rattle.syslog_loose.specs.Reading.{IsUnreadable, incomplete};
+ghost use Rattle.syslog_loose.specs.Reading.{HasMonth, IsUnreadable, OfTrimmed, incomplete};
 ghost use Rattle.syslog_loose.specs.declared.message.Protocol.TheVariants.{RFC3164};
 ghost use Rattle.syslog_loose.specs.declared.variant.Variant.{Variant};
 
 #[cfg(test)]
 mod tests;
 
-use super::may_have_priority;
 use crate::message::{is_plain_time, make_room, write_spaced, write_timestamp};
 use crate::variant::{IncompleteDate, Variant};
 use std::alloc::AllocError;
@@ -32,7 +31,7 @@ use syslog_pieces::procid::kept_digits;
 use syslog_pieces::structured_data::listed::{DASH_RULE, begins_list};
 use syslog_pieces::text::kept::{before, kept_host, one_space};
 use syslog_pieces::text::written::push_bytes;
-use syslog_pieces::text::{CharClass, blanks, literal, split_run, trimmed};
+use syslog_pieces::text::{CharClass, blanks, literal, split_run};
 use syslog_pieces::timestamp::OffsetTimestamp;
 use syslog_pieces::timestamp::civil::month_text;
 use syslog_pieces::timestamp::kept::kept_stamp;
@@ -217,21 +216,20 @@ impl DatedLine<'_> {
     }
 }
 
-/// The line, where the variant reads it by RFC 3164, its priority prints as it is written, and its date has the usual form.
+/// The trimmed line, where the variant reads it by RFC 3164, its priority prints as it is written, and its date has the
+/// usual form.
 #[inline(always)]
 pub(crate) fn dated_line(input: &str, variant: Variant) -> Option<DatedLine<'_>>
-    ensures shows { IfSome result (λ line. ShowsDated variant (chars input.entry.now) (shown line.front) line.date (shown line.tail)) }
+    ensures shows { OfTrimmed (chars input.entry.now) (λ whole. IfSome result (λ line.
+        ShowsDated variant whole (shown line.front) line.date (shown line.tail))) }
+    ensures month { IfSome result (λ line. HasMonth (incomplete line.date)) }
     ensures utf8 { IfSome result (λ line. IsUtf8 line.front.now × IsUtf8 line.tail.now) }
 {
-    if !may_have_priority(input) {
-        return None;
-    }
     if !reads_loosely(variant) {
         return None;
     }
-    let text = trimmed(input);
-    let behind = kept_priority(text)?;
-    let front = before(text, behind);
+    let behind = kept_priority(input)?;
+    let front = before(input, behind);
     let (date, tail) = usual_date(blanks(behind))?;
     Some(DatedLine { front, date, tail })
 }
@@ -277,31 +275,28 @@ fn write_dated(
     text.push_str(line.tail)
 }
 
-/// Writes the printed text of the message of the line into `text`, where the variant reads it by RFC 3164 and all but its
-/// timestamp prints as it is written, and tells whether it did. It asks for memory as `dated_text` does.
+/// Writes the printed text of the message of the trimmed line into `text`, where the variant reads it by RFC 3164 and all
+/// but its timestamp prints as it is written, and tells whether it did. It asks for memory as `dated_text` does.
 pub(crate) fn loose_text(
     text: &mut String,
     input: &str,
     dating: &Dating<'_, '_>,
     variant: Variant,
 ) -> Result<bool, AllocError>
-    ensures text { IfOk result (λ found. IsTrue found
-        → PrintsFreely variant (dating_value dating.entry.now) (chars input.entry.now) (string_bytes text.new)) }
-    ensures memory { IsUnreadable variant (dating_value dating.entry.now) (chars input.entry.now) → IsOk result }
+    ensures text { OfTrimmed (chars input.entry.now) (λ whole. IfOk result (λ found. IsTrue found
+        → PrintsFreely variant (dating_value dating.entry.now) whole (string_bytes text.new))) }
+    ensures memory { OfTrimmed (chars input.entry.now) (λ whole.
+        IsUnreadable variant (dating_value dating.entry.now) whole → IsOk result) }
 {
-    if !may_have_priority(input) {
-        return Ok(false);
-    }
     if !reads_loosely(variant) {
         return Ok(false);
     }
-    let line = trimmed(input);
-    if let Some(line) = stamped_line(line) {
+    if let Some(line) = stamped_line(input) {
         make_room(text, input.len())?;
         write!(text, "{line}")?;
         return Ok(true);
     }
-    let Some(line) = loose_line(line, dating) else {
+    let Some(line) = loose_line(input, dating) else {
         return Ok(false);
     };
     make_room(text, input.len())?;

@@ -1,11 +1,9 @@
 -- What the readers of month dates answer.
-use Rattle.std.proofs.Common.{◌≡◌, ℕ, List, [], ◌∷◌, ◌++◌, Option, Some, None, refl, sym, ap, subst, ◌∙◌}
+use Rattle.std.proofs.Common.{◌≡◌, ℕ, List, [], ◌∷◌, ◌++◌, Option, Some, None, refl, sym, ap, ◌∙◌}
 use Rattle.std.specs.Char.{to_ascii_lowercase}
-use Rattle.std.specs.Str.{chars}
 use Rattle.syslog_pieces.specs.Bodies.MonthReading.{small_month, day_row, day_values, year_row, year_values, clock_values, date_of}
-use Rattle.syslog_pieces.specs.Pieces.Class.{Text, Class, Division, Front, NoFront, Row}
-use Rattle.syslog_pieces.specs.Text.{trimmed}
-use Rattle.syslog_pieces.specs.Timestamp.Loose.{ShowsYearless, showing_row}
+use Rattle.syslog_pieces.specs.Pieces.Class.{Text, Class, Front, NoFront, Row}
+use Rattle.syslog_pieces.specs.Timestamp.Loose.{BeginsWithDate, showing_row}
 use Rattle.syslog_pieces.specs.Timestamp.MonthDate.{month, clock_row, yearless_row, yearless_of, yearless_date, dated_row, dated_of, dated_date, month_date}
 use Rattle.syslog_pieces.specs.declared.timestamp.month_date.Clock.{Clock}
 use Rattle.syslog_pieces.specs.declared.timestamp.month_date.Day.{Day}
@@ -107,11 +105,8 @@ module _ {t : Text} where
         (mapped_front (Row dated_row) MonthDate dated_of (rows_join day_row from_year f (rows_join year_row clock_row g h)))
 
 -- ---- what a text shows
-pub shown_none : (bs ts : List ℕ) → chars ts ≡ trimmed (chars bs) → NoFront (Row (showing_row yearless_date)) (chars ts) → (d : MonthDate) → ShowsYearless (chars bs) d → ⊥
-shown_none bs ts e n d (p, more, v) =
-    no_front_no (Row (showing_row yearless_date)) n
-    (division_front (showing_row yearless_date) (subst (λ (x : Text). Division (showing_row yearless_date) x (p, (tt, (d, (more, tt))))) (sym e) v))
+pub shown_none : {t : Text} → NoFront (Row (showing_row yearless_date)) t → (d : MonthDate) → BeginsWithDate yearless_date t d → ⊥
+shown_none n d (p, more, v) = no_front_no (Row (showing_row yearless_date)) n (division_front (showing_row yearless_date) v)
 
-pub shown_some : (bs ts : List ℕ) (p : Option ℕ) (d : MonthDate) (more : Text) → chars ts ≡ trimmed (chars bs) → Front (Row (showing_row yearless_date)) (chars ts) [] (p, (tt, (d, (more, tt)))) → ShowsYearless (chars bs) d
-shown_some bs ts p d more e f =
-    (p, more, subst (λ (x : Text). Division (showing_row yearless_date) x (p, (tt, (d, (more, tt))))) e (front_division (showing_row yearless_date) f))
+pub shown_some : {t : Text} (p : Option ℕ) (d : MonthDate) (more : Text) → Front (Row (showing_row yearless_date)) t [] (p, (tt, (d, (more, tt)))) → BeginsWithDate yearless_date t d
+shown_some p d more f = (p, more, front_division (showing_row yearless_date) f)

@@ -24,9 +24,13 @@ loose_stamp dating = either (Option OffsetTimestamp) header_stamp.Is (IsStampedD
 abbrev pub showing_row : Class → List Class
 showing_row date = optional priority ∷ run is_blank ∷ date ∷ rest ∷ []
 
+-- the text is such a row, with this date of the class
+abbrev pub BeginsWithDate : (date : Class) → Text → date.Value → Type 0
+BeginsWithDate date text d = (p : Option ℕ) × (more : Text) × Division (showing_row date) text (p, (tt, (d, (more, tt))))
+
 -- the trimmed text shows this date of the class
 abbrev pub ShowsOf : (date : Class) → Text → date.Value → Type 0
-ShowsOf date text d = (p : Option ℕ) × (more : Text) × Division (showing_row date) (trimmed text) (p, (tt, (d, (more, tt))))
+ShowsOf date text d = BeginsWithDate date (trimmed text) d
 
 -- the text shows this month date without a year
 abbrev pub ShowsYearless : Text → MonthDate → Type 0

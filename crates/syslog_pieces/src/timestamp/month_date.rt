@@ -6,14 +6,14 @@ ghost use Rattle.std.specs.Str.{chars};
 ghost use Rattle.syslog_pieces.specs.Bodies.MonthReading as parts;
 ghost use Rattle.syslog_pieces.specs.Pieces.Class.{Front, NoFront, Row};
 ghost use Rattle.syslog_pieces.specs.Pieces.View.{shown, Reads};
-ghost use Rattle.syslog_pieces.specs.Timestamp.Loose.{ShowsYearless};
+ghost use Rattle.syslog_pieces.specs.Timestamp.Loose.{BeginsWithDate};
 ghost use Rattle.syslog_pieces.specs.Timestamp.MonthDate as spec;
 ghost use Rattle.syslog_pieces.specs.declared.timestamp.month_date.MonthDate.{MonthDate};
 
 pub mod usual;
 
 use crate::pri::optional_priority;
-use crate::text::{blanks, first, literal, number, past_colon, some_blanks, trimmed};
+use crate::text::{blanks, first, literal, number, past_colon, some_blanks};
 use usual::usual_date;
 
 /// The numbers of a month date, of which there may be no such date.
@@ -70,15 +70,14 @@ fn any_date(text: &str) -> Option<(MonthDate, &str)>
     Some((date_of(Some(year), day, clock), rest))
 }
 
-/// The month date without a year that the text shows: within the white space at its two ends it begins with a
-/// priority or none, blanks or none, and such a date.
+/// The month date without a year that the trimmed text shows: it begins with a priority or none, blanks or none, and
+/// such a date.
 #[inline(always)]
 pub fn shown_date(text: &str) -> Option<MonthDate>
     ensures { MatchOption result
-        ((d : MonthDate) → ShowsYearless (chars text.now) d → ⊥)
-        (λ d. ShowsYearless (chars text.now) d) }
+        ((d : MonthDate) → BeginsWithDate spec.yearless_date (chars text.now) d → ⊥)
+        (λ d. BeginsWithDate spec.yearless_date (chars text.now) d) }
 {
-    let text = trimmed(text);
     let (_, rest) = optional_priority(text);
     let rest = blanks(rest);
     let (date, _) = yearless(rest)?;

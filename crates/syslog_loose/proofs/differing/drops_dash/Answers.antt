@@ -1,4 +1,3 @@
-use Rattle.std.specs.Str.{chars}
 use Rattle.syslog_pieces.specs.Timestamp.Zone.{dating_value}
 use Rattle.syslog_pieces.proofs.PieceLemmas.Class.{rows_join}
 use Rattle.syslog_loose.specs.Rfc3164.{stamped_row, fields_row}
@@ -7,11 +6,11 @@ use Rattle.syslog_loose.proofs.DashLemmas.{told_by_list, none_differs}
 use Rattle.syslog_loose.proofs.differing.drops_dash.Goals as goal
 
 pub returns-in_default : goal.returns-in_default
-returns-in_default c = none_differs (dating_value c.args.dating.now) (chars c.args.input.now) _ c.trimmed.ensures c.in_default.ensures
+returns-in_default c whole e = none_differs (dating_value c.args.dating.now) whole _ e c.in_default.ensures
 
 pub returns : goal.returns
-returns c =
+returns c whole e =
     let dating = dating_value c.args.dating.now in
     let fields = c.read_names.ensures in
-    told_by_list dating (chars c.args.input.now) _ _ _ (names_value c.read_names.result.0) c.begins_loosely.result c.trimmed.ensures
+    told_by_list dating whole _ _ _ (names_value c.read_names.result.0) c.begins_loosely.result e
     (rows_join (stamped_row dating) fields_row c.in-Some.ensures fields.front) fields.means c.begins_loosely.ensures

@@ -6,9 +6,11 @@ use Rattle.syslog_loose.proofs.differing.reads_differently.Goals as goal
 
 pub returns : goal.returns
 returns g c =
-    let answered = answered_to _ _ _ c.asked_date.result c.map-year.result c.asked_date.ensures c.map-year.ensures.cases in
-    let told = told_in _ _ _ c.args.tz c.args.local c.differs.result c.map-year.result answered c.differs.ensures in
+    let whole = chars c.args.input.now in
+    let left = c.trimmed-text.ensures in
+    let answered = answered_to _ _ _ c.asked_date.result c.map-year.result (c.asked_date.ensures.asks whole left) c.map-year.ensures.cases in
+    let told = told_in _ _ _ c.args.tz c.args.local c.differs.result c.map-year.result answered (c.differs.ensures whole left) in
     record {
       reads = told;
-      drops = in_year_map (λ year h. drops_told c.args.variant (dating_of year c.args.tz c.args.local) (chars c.args.input.now) c.differs.result h) told;
+      drops = in_year_map (λ year h. drops_told c.args.variant (dating_of year c.args.tz c.args.local) whole c.differs.result h) told;
     }

@@ -7,23 +7,23 @@ use Rattle.syslog_loose.proofs.Rfc5424Lemmas.{is_read}
 use Rattle.syslog_loose.proofs.line.copied.Goals as goal
 
 pub returns-in_err-make_room-clause-memory : goal.returns-in_err-make_room-clause-memory
-returns-in_err-make_room-clause-memory c none =
+returns-in_err-make_room-clause-memory c whole e none =
     let k = c.in-Some.ensures.kept in
-    absurd (none _ (is_read (chars c.args.input.now) (chars c.trimmed.result.now) k.values _ c.trimmed.ensures refl k.is).division)
+    absurd (none _ (is_read whole (chars c.args.input.now) k.values _ e refl k.is).division)
 
 pub returns-in_err-write-clause-memory : goal.returns-in_err-write-clause-memory
-returns-in_err-write-clause-memory c none =
+returns-in_err-write-clause-memory c whole e none =
     let k = c.in-Some.ensures.kept in
-    absurd (none _ (is_read (chars c.args.input.now) (chars c.trimmed.result.now) k.values _ c.trimmed.ensures refl k.is).division)
+    absurd (none _ (is_read whole (chars c.args.input.now) k.values _ e refl k.is).division)
 
 pub returns-clause-text : goal.returns-clause-text
-returns-clause-text c found =
+returns-clause-text c whole e found =
     let k = c.in-Some.ensures.kept in
     let u = c.in-Some.ensures.utf8 in
     let line = c.in-Some.line in
     let written : string_bytes c.write.new.self ≡ line.front.now ++ (zone_text line.is_zulu ++ (line.tail.now ++ (32 ∷ line.msg.now))) = search rules in
     let bytes = line_bytes line.front.now line.tail.now line.msg.now line.is_zulu u.0 u.1 u.2 in (
       message_of k.values,
-      is_read (chars c.args.input.now) (chars c.trimmed.result.now) k.values _ c.trimmed.ensures refl k.is,
+      is_read whole (chars c.args.input.now) k.values _ e refl k.is,
       written ∙ bytes ∙ sym (ap encode_utf8_all k.prints),
     )

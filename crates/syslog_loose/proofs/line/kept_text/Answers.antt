@@ -1,5 +1,4 @@
 use Rattle.std.proofs.Common.{inl, string_bytes}
-use Rattle.std.specs.Str.{chars}
 use Rattle.syslog_loose.specs.declared.variant.Variant.TheVariants.{Either, RFC5424}
 use Rattle.syslog_loose.proofs.KeptLineLemmas.{strictly, either_way, told, no_division}
 use Rattle.syslog_loose.proofs.Rfc3164Lemmas.Apart.{shown_apart}
@@ -7,22 +6,22 @@ use Rattle.syslog_loose.proofs.Rfc3164Lemmas.Shown.{shows_month_date}
 use Rattle.syslog_loose.proofs.line.kept_text.Goals as goal
 
 pub returns-in-RFC5424-clause-text : goal.returns-in-RFC5424-clause-text
-returns-in-RFC5424-clause-text c = rw c.in-RFC5424.is (told RFC5424 (chars c.args.input.now) (strictly (chars c.args.input.now)) c.copied.result (string_bytes c.copied.new.text) c.copied.ensures.text)
+returns-in-RFC5424-clause-text c whole e = rw c.in-RFC5424.is (told RFC5424 whole (strictly whole) c.copied.result (string_bytes c.copied.new.text) (c.copied.ensures.text whole e))
 
 pub returns-in-RFC5424-clause-memory : goal.returns-in-RFC5424-clause-memory
-returns-in-RFC5424-clause-memory c = rw c.in-RFC5424.is (λ dating none. c.copied.ensures.memory (no_division (chars c.args.input.now) none))
+returns-in-RFC5424-clause-memory c whole e = rw c.in-RFC5424.is (λ dating none. c.copied.ensures.memory whole e (no_division whole none))
 
 pub returns-in-Either-clause-text : goal.returns-in-Either-clause-text
-returns-in-Either-clause-text c =
-    rw c.in-Either.is (told Either (chars c.args.input.now) (either_way (chars c.args.input.now)) c.copied-in-Either.result (string_bytes c.copied-in-Either.new.text) c.copied-in-Either.ensures.text)
+returns-in-Either-clause-text c whole e =
+    rw c.in-Either.is (told Either whole (either_way whole) c.copied-in-Either.result (string_bytes c.copied-in-Either.new.text) (c.copied-in-Either.ensures.text whole e))
 
 pub returns-in-Either-clause-memory : goal.returns-in-Either-clause-memory
-returns-in-Either-clause-memory c =
-    rw c.in-Either.is (λ dating none. c.copied-in-Either.ensures.memory (no_division (chars c.args.input.now) (λ m r. none m (inl r))))
+returns-in-Either-clause-memory c whole e =
+    rw c.in-Either.is (λ dating none. c.copied-in-Either.ensures.memory whole e (no_division whole (λ m r. none m (inl r))))
 
 pub returns-in-RFC5424-clause-year : goal.returns-in-RFC5424-clause-year
-returns-in-RFC5424-clause-year c = rw c.in-RFC5424.is (λ date asks. absurd asks)
+returns-in-RFC5424-clause-year c whole e = rw c.in-RFC5424.is (λ date asks. absurd asks)
 
 pub returns-in-Either-clause-year : goal.returns-in-Either-clause-year
-returns-in-Either-clause-year c =
-    rw c.in-Either.is (λ date asks. c.copied-in-Either.ensures.memory (shown_apart (chars c.args.input.now) date (shows_month_date (chars c.args.input.now) date asks)))
+returns-in-Either-clause-year c whole e =
+    rw c.in-Either.is (λ date asks. c.copied-in-Either.ensures.memory whole e (shown_apart whole date (shows_month_date whole date asks)))

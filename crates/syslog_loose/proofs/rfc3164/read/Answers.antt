@@ -1,7 +1,6 @@
 use Rattle.std.proofs.Common.{◌≡◌, ℕ, [], ◌∷◌, List, Option, Some, None, Vec, Global, true, false, map, ap, ◌∙◌}
 use Rattle.std.specs.Borrow.{Bor}
 use Rattle.std.specs.Option.{option_map, unwrap_or}
-use Rattle.std.specs.Str.{chars}
 use Rattle.syslog_pieces.specs.Pieces.Class.{run, rest, optional}
 use Rattle.syslog_pieces.specs.Pieces.View.{seen, shown}
 use Rattle.syslog_pieces.specs.ProcId.{procid_value}
@@ -18,13 +17,13 @@ use Rattle.syslog_loose.proofs.Rfc3164Lemmas.Reading.{behind_row, not_read, is_r
 use Rattle.syslog_loose.proofs.rfc3164.read.Goals as goal
 
 pub returns-in_default-clause-read : goal.returns-in_default-clause-read
-returns-in_default-clause-read c = not_read c.args.rule (dating_value c.args.dating.now) (chars c.args.text.now) _ c.trimmed.ensures c.in_default.ensures
+returns-in_default-clause-read c whole e = not_read c.args.rule (dating_value c.args.dating.now) whole _ e c.in_default.ensures
 
 pub returns-in_err-elements-clause-memory : goal.returns-in_err-elements-clause-memory
-returns-in_err-elements-clause-memory c = λ none.
+returns-in_err-elements-clause-memory c whole e = λ none.
     let fields = c.read_names.ensures in
-    let needless = list_needs_none c.args.rule (dating_value c.args.dating.now) (chars c.args.text.now) _ _ _ _ _ (names_value c.read_names.result.0)
-    c.trimmed.ensures none c.in-Some.ensures fields.front fields.means in
+    let needless = list_needs_none c.args.rule (dating_value c.args.dating.now) whole _ _ _ _ _ (names_value c.read_names.result.0)
+    e none c.in-Some.ensures fields.front fields.means in
     let refused : false ≡ true = c.in_err-elements.ensures.memory needless in
     absurd (cc)
 
@@ -35,13 +34,13 @@ elements_seen None none found e f = ap (λ (v : Vec (StructuredElement (Bor (Lis
 elements_seen (Some elements) none found e f = ap (λ (v : Vec (StructuredElement (Bor (List ℕ))) Global). map (element_value (λ s. shown s)) v.items) f
 
 pub returns-clause-read : goal.returns-clause-read
-returns-clause-read c =
+returns-clause-read c whole e =
     let rule = c.args.rule in
     let dating = dating_value c.args.dating.now in
     let names = c.read_names.result.0 in
     let fields = c.read_names.ensures in
     let parts = c.parts-facility.ensures in
-    is_read rule dating (chars c.args.text.now) _ _ _ c.trimmed.ensures (
+    is_read rule dating whole _ _ _ e (
       names_value names,
       fields.means,
       (λ i. record {

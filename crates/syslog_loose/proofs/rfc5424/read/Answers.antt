@@ -1,6 +1,5 @@
 use Rattle.std.proofs.Common.{◌≡◌, [], ◌∷◌, List, true, false, map}
 use Rattle.std.specs.Option.{option_map}
-use Rattle.std.specs.Str.{chars}
 use Rattle.syslog_pieces.specs.Pieces.Class.{Class, run, rest}
 use Rattle.syslog_pieces.specs.StructuredData.Element.{element_value}
 use Rattle.syslog_pieces.specs.ProcId.{procid_value}
@@ -17,28 +16,28 @@ abbrev from_elements : List Class
 from_elements = forgiving ∷ run is_blank ∷ rest ∷ []
 
 pub returns-in_default-clause-read : goal.returns-in_default-clause-read
-returns-in_default-clause-read c = not_read (chars c.args.text.now) _ c.trimmed.ensures (rows_none_here header_row data_row c.in_default.ensures)
+returns-in_default-clause-read c whole e = not_read whole _ e (rows_none_here header_row data_row c.in_default.ensures)
 
 pub returns-in_err-elements-clause-memory : goal.returns-in_err-elements-clause-memory
-returns-in_err-elements-clause-memory c = λ none.
-    let needless = list_needs_none (chars c.args.text.now) _ _ _ _ c.trimmed.ensures none c.in-Some.ensures c.blanks.ensures in
+returns-in_err-elements-clause-memory c whole e = λ none.
+    let needless = list_needs_none whole _ _ _ _ e none c.in-Some.ensures c.blanks.ensures in
     let refused : false ≡ true = c.in_err-elements.ensures.memory needless in
     absurd (cc)
 
 pub returns-in_default-2-clause-read : goal.returns-in_default-2-clause-read
-returns-in_default-2-clause-read c =
+returns-in_default-2-clause-read c whole e =
     let no_list = rw c.in_default-2.is at c.in_ok-elements.ensures.list in
-    not_read (chars c.args.text.now) _ c.trimmed.ensures
+    not_read whole _ e
     (rows_none_later header_row data_row header_det c.in-Some.ensures
     (row_none_later (run is_blank) from_elements (run_det is_blank) c.blanks.ensures
     (row_none_here forgiving (run is_blank ∷ rest ∷ []) no_list)))
 
 pub returns-clause-read : goal.returns-clause-read
-returns-clause-read c =
+returns-clause-read c whole e =
     let h = c.in-Some.header in
     let parts = c.parts-facility.ensures in
     let list = rw c.in-Some-2.is at c.in_ok-elements.ensures.list in
-    is_read (chars c.args.text.now) _ _ _ c.trimmed.ensures
+    is_read whole _ _ _ e
     (λ i. record {
       protocol = RFC5424 h.version;
       facility = parts.facility i;

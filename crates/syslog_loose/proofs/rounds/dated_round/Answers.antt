@@ -1,5 +1,4 @@
 use Rattle.std.specs.Prelude.{string_bytes}
-use Rattle.std.specs.Str.{chars}
 use Rattle.std.proofs.lemmas.Result.{err_from_is_err_and}
 use Rattle.std.proofs.lemmas.Str.{IsUtf8-string_bytes}
 use Rattle.syslog_pieces.specs.Timestamp.Zone.{dating_value}
@@ -9,12 +8,12 @@ use Rattle.syslog_loose.proofs.SettlingLemmas.Settles.{round_freely}
 use Rattle.syslog_loose.proofs.rounds.dated_round.Goals as goal
 
 pub returns-in_err-copied : goal.returns-in_err-copied
-returns-in_err-copied c =
-    let (_, e, same) = err_from_is_err_and c.from_residual.result c.from_residual.ensures.1 in
-    rw (e, same) (λ i. absurd (invalid_or_memory i), λ u. absurd (no_ok _ _ c.in_err-copied.was (c.dated_text.ensures.memory _ _ c.requires.shows u)))
+returns-in_err-copied c whole e =
+    let (_, f, same) = err_from_is_err_and c.from_residual.result c.from_residual.ensures.1 in
+    rw (f, same) (λ i. absurd (invalid_or_memory i), λ u. absurd (no_ok _ _ c.in_err-copied.was (c.dated_text.ensures.memory _ _ (c.requires.shows whole e) u)))
 
 pub returns-then-copied : goal.returns-then-copied
-returns-then-copied c =
+returns-then-copied c whole e =
     let dating = dating_value c.args.dating.now in
-    let k = found_text (PrintsFreely c.args.variant dating (chars c.args.input.now) (string_bytes c.dated_text.new.text)) _ _ c.in_ok-copied.was c.if-copied.true (c.dated_text.ensures.text _ _ c.requires.shows) in
+    let k = found_text (PrintsFreely c.args.variant dating whole (string_bytes c.dated_text.new.text)) _ _ c.in_ok-copied.was c.if-copied.true (c.dated_text.ensures.text _ _ (c.requires.shows whole e)) in
     round_freely c.args.skips _ _ _ _ (IsUtf8-string_bytes c.dated_text.new.text) k

@@ -1,9 +1,10 @@
-use Rattle.std.proofs.Common.{None, refl}
+use Rattle.std.proofs.Common.{None, refl, subst}
 use Rattle.std.specs.Prelude.{string_bytes}
-use Rattle.std.specs.Str.{chars}
 use Rattle.std.proofs.lemmas.Result.{err_from_is_err_and}
 use Rattle.std.proofs.lemmas.Str.{IsUtf8-string_bytes}
+use Rattle.syslog_pieces.specs.Pieces.Class.{Text}
 use Rattle.syslog_pieces.specs.Timestamp.Zone.{dating_of}
+use Rattle.syslog_loose.specs.Beginning.{BeginsNone}
 use Rattle.syslog_loose.specs.KeptLine.{PrintsAs}
 use Rattle.syslog_loose.proofs.BeginningLemmas.{asks_no_year, no_reading}
 use Rattle.syslog_loose.proofs.KeptLooseLemmas.{dated_answered, asked_month}
@@ -12,44 +13,44 @@ use Rattle.syslog_loose.proofs.SettlingLemmas.Settles.{round_copied}
 use Rattle.syslog_loose.proofs.rounds.first_round.Goals as goal
 
 pub returns-in_err-copied : goal.returns-in_err-copied
-returns-in_err-copied g c =
-    let (_, e, same) = err_from_is_err_and c.from_residual.result c.from_residual.ensures.1 in
-    rw (e, same) (record {
+returns-in_err-copied g c whole e =
+    let (_, f, same) = err_from_is_err_and c.from_residual.result c.from_residual.ensures.1 in
+    rw (f, same) (record {
       answered = None;
-      is_answered = λ date asks. no_ok _ _ c.in_err-copied.was (c.kept_text.ensures.year date asks);
-      holds = λ year agrees. (λ i. absurd (invalid_or_memory i), λ u. absurd (no_ok _ _ c.in_err-copied.was (c.kept_text.ensures.memory _ u)));
+      is_answered = λ date asks. no_ok _ _ c.in_err-copied.was (c.kept_text.ensures.year whole e date asks);
+      holds = λ year agrees. (λ i. absurd (invalid_or_memory i), λ u. absurd (no_ok _ _ c.in_err-copied.was (c.kept_text.ensures.memory whole e _ u)));
     })
 
 pub returns-then-copied : goal.returns-then-copied
-returns-then-copied g c =
-    let k = found_text (PrintsAs c.args.variant (chars c.args.input.now) (string_bytes c.kept_text.new.text)) _ _ c.in_ok-copied.was c.if-copied.true c.kept_text.ensures.text in
+returns-then-copied g c whole e =
+    let k = found_text (PrintsAs c.args.variant whole (string_bytes c.kept_text.new.text)) _ _ c.in_ok-copied.was c.if-copied.true (c.kept_text.ensures.text whole e) in
     (k.asks_none, round_copied c.args.skips c.args.variant (dating_of None c.args.tz c.args.local) _ _ (IsUtf8-string_bytes c.kept_text.new.text) k)
 
 pub map-year-requires : goal.map-year-requires
-map-year-requires g c = λ x e. c.requires x (asked_month _ _ _ _ _ _ x c.in-Some.ensures.shows c.asked.ensures e)
+map-year-requires g c = λ x e. c.requires x (asked_month c.in-Some.line.date _ x c.in-Some.ensures.month c.asked.ensures e)
 
 pub returns-in_err-settled-in-Some : goal.returns-in_err-settled-in-Some
-returns-in_err-settled-in-Some g c =
-    let (_, e, same) = err_from_is_err_and c.from_residual-in_err-settled-in-Some.result c.from_residual-in_err-settled-in-Some.ensures.1 in
-    rw (e, same) (fault_in _ c.args.variant (chars c.args.input.now) c.args.tz c.args.local _ c.map-year.result
-    (dated_answered _ _ _ _ _ _ c.asked.result c.map-year.result c.in-Some.ensures.shows c.asked.ensures c.map-year.ensures.cases) c.in_err-settled-in-Some.ensures)
+returns-in_err-settled-in-Some g c whole e =
+    let (_, f, same) = err_from_is_err_and c.from_residual-in_err-settled-in-Some.result c.from_residual-in_err-settled-in-Some.ensures.1 in
+    rw (f, same) (fault_in _ c.args.variant whole c.args.tz c.args.local _ c.map-year.result
+    (dated_answered _ _ _ _ _ _ c.asked.result c.map-year.result (c.in-Some.ensures.shows whole e) c.asked.ensures c.map-year.ensures.cases) (c.in_err-settled-in-Some.ensures whole e))
 
 pub returns-in_err-settled-in-None : goal.returns-in_err-settled-in-None
-returns-in_err-settled-in-None g c =
+returns-in_err-settled-in-None g c whole e =
     let year = c.map-year-in-None in
-    let (_, e, same) = err_from_is_err_and c.from_residual-in_err-settled-in-None.result c.from_residual-in_err-settled-in-None.ensures.1 in
-    rw (e, same) (fault_in _ c.args.variant (chars c.args.input.now) c.args.tz c.args.local _ year.result
-    (answered_to _ _ _ c.asked_date.result year.result c.asked_date.ensures year.ensures.cases) c.in_err-settled-in-None.ensures)
+    let (_, f, same) = err_from_is_err_and c.from_residual-in_err-settled-in-None.result c.from_residual-in_err-settled-in-None.ensures.1 in
+    rw (f, same) (fault_in _ c.args.variant whole c.args.tz c.args.local _ year.result
+    (answered_to _ _ _ c.asked_date.result year.result (c.asked_date.ensures.asks whole e) year.ensures.cases) (c.in_err-settled-in-None.ensures whole e))
 
 pub returns-in_ok-settled-in-Some : goal.returns-in_ok-settled-in-Some
-returns-in_ok-settled-in-Some g c =
-    (dated_answered _ _ _ _ _ _ c.asked.result c.map-year.result c.in-Some.ensures.shows c.asked.ensures c.map-year.ensures.cases, c.in_ok-settled-in-Some.ensures)
+returns-in_ok-settled-in-Some g c whole e =
+    (dated_answered _ _ _ _ _ _ c.asked.result c.map-year.result (c.in-Some.ensures.shows whole e) c.asked.ensures c.map-year.ensures.cases, c.in_ok-settled-in-Some.ensures whole e)
 
 pub returns-then-not-may_be_read : goal.returns-then-not-may_be_read
-returns-then-not-may_be_read g c =
-    let begins = c.if-not-may_be_read.ensures refl in
+returns-then-not-may_be_read g c whole e =
+    let begins = subst (λ (x : Text). BeginsNone x) e (c.if-not-may_be_read.ensures refl) in
     record {
       answered = None;
-      is_answered = asks_no_year c.args.variant (chars c.args.input.now) begins;
-      holds = λ year agrees. (λ e. no_reading c.args.variant (dating_of year c.args.tz c.args.local) (chars c.args.input.now) begins, λ u. refl);
+      is_answered = asks_no_year c.args.variant whole begins;
+      holds = λ year agrees. (λ i. no_reading c.args.variant (dating_of year c.args.tz c.args.local) whole begins, λ u. refl);
     }

@@ -1,3 +1,4 @@
+use crate::text::trimmed;
 use crate::timestamp::month_date::usual::usual_date;
 use crate::timestamp::month_date::{MonthDate, month_date};
 use crate::timestamp::shown_date;
@@ -199,7 +200,7 @@ fn shows_a_date_without_a_year(rt: HostRuntime) -> Result<(), Fail> {
         "   OCT\t11 22:14:15x",
         "<255>Oct 11 22:14:15",
     ] {
-        let date = shown_date(text).ok_or("no date")?;
+        let date = shown_date(trimmed(text)).ok_or("no date")?;
         assert_eq!(rt; numbers(date), OCTOBER, "{text:?}");
     }
     // That there is such a date isn't asked.

@@ -2,12 +2,16 @@ use Rattle.std.proofs.Common.{refl}
 use Rattle.std.specs.Str.{chars}
 use Rattle.syslog_pieces.specs.Pri.{priority_text}
 use Rattle.syslog_loose.proofs.KeptLooseLemmas.{shown_dated}
+use Rattle.syslog_loose.proofs.Rfc3164Lemmas.Shown.{date_has_month}
 use Rattle.syslog_loose.proofs.line.loose.dated_line.Goals as goal
 
 pub before-front-requires : goal.before-front-requires
 before-front-requires c = (priority_text c.in_ok-behind.ensures.0.value, c.in_ok-behind.ensures.0.whole)
 
 pub returns-clause-shows : goal.returns-clause-shows
-returns-clause-shows c =
-    shown_dated c.args.variant (chars c.args.input.now) (chars c.trimmed-text.result.now) (chars c.in_ok-behind.behind.now) (chars c.blanks.result.now) _ _ _
-    c.trimmed-text.ensures (c.if-not-reads_loosely.ensures refl) c.in_ok-behind.ensures.0 c.in_ok-behind.ensures.1 c.before-front.ensures c.blanks.ensures c.in_ok-date.ensures
+returns-clause-shows c whole e =
+    shown_dated c.args.variant whole (chars c.args.input.now) (chars c.in_ok-behind.behind.now) (chars c.blanks.result.now) _ _ _
+    e (c.if-not-reads_loosely.ensures refl) c.in_ok-behind.ensures.0 c.in_ok-behind.ensures.1 c.before-front.ensures c.blanks.ensures c.in_ok-date.ensures
+
+pub returns-clause-month : goal.returns-clause-month
+returns-clause-month c = date_has_month _ c.in_ok-date.ensures

@@ -6,15 +6,15 @@ use Rattle.syslog_loose.proofs.KeptLooseLemmas.{readable, freely, loose_bytes, s
 use Rattle.syslog_loose.proofs.line.loose.loose_text.Goals as goal
 
 pub returns-in_err-make_room-clause-memory : goal.returns-in_err-make_room-clause-memory
-returns-in_err-make_room-clause-memory c none = absurd (none _ (readable _ _ _ _ _ _ _ (c.if-not-reads_loosely.ensures refl) c.trimmed.ensures c.in-Some.ensures.kept))
+returns-in_err-make_room-clause-memory c whole e none = absurd (none _ (readable _ _ _ _ _ _ _ (c.if-not-reads_loosely.ensures refl) e c.in-Some.ensures.kept))
 
 pub returns-in_err-write-clause-memory : goal.returns-in_err-write-clause-memory
-returns-in_err-write-clause-memory c none = absurd (none _ (readable _ _ _ _ _ _ _ (c.if-not-reads_loosely.ensures refl) c.trimmed.ensures c.in-Some.ensures.kept))
+returns-in_err-write-clause-memory c whole e none = absurd (none _ (readable _ _ _ _ _ _ _ (c.if-not-reads_loosely.ensures refl) e c.in-Some.ensures.kept))
 
 pub returns-clause-text : goal.returns-clause-text
-returns-clause-text c found =
+returns-clause-text c whole e found =
     let u = c.in-Some.ensures.utf8 in
     let line = c.in-Some.line in
     let written : string_bytes c.write.new.self ≡ line.front.now ++ ((32 ∷ encode_utf8_all (timestamp_text line.timestamp)) ++ line.tail.now) = search rules in
-    freely c.args.variant (dating_value c.args.dating.now) (chars c.args.input.now) (chars c.trimmed.result.now) (chars line.front.now) line.timestamp (chars line.tail.now)
-    (c.if-not-reads_loosely.ensures refl) c.trimmed.ensures c.in-Some.ensures.kept (string_bytes c.write.new.self) (written ∙ loose_bytes line.front.now (timestamp_text line.timestamp) line.tail.now u.0 u.1)
+    freely c.args.variant (dating_value c.args.dating.now) whole (chars c.args.input.now) (chars line.front.now) line.timestamp (chars line.tail.now)
+    (c.if-not-reads_loosely.ensures refl) e c.in-Some.ensures.kept (string_bytes c.write.new.self) (written ∙ loose_bytes line.front.now (timestamp_text line.timestamp) line.tail.now u.0 u.1)

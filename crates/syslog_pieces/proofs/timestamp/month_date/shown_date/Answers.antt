@@ -1,6 +1,6 @@
 use Rattle.std.proofs.Common.{inl, refl, rules}
 use Rattle.std.specs.Str.{chars}
-use Rattle.syslog_pieces.specs.Timestamp.Loose.{ShowsYearless, showing_row}
+use Rattle.syslog_pieces.specs.Timestamp.Loose.{BeginsWithDate, showing_row}
 use Rattle.syslog_pieces.specs.Timestamp.MonthDate.{yearless_date}
 use Rattle.syslog_pieces.specs.declared.timestamp.month_date.MonthDate.{MonthDate}
 use Rattle.syslog_pieces.proofs.PieceLemmas.Class.{optional_det, run_det, rest_det, rest_front, ◌also◌}
@@ -12,14 +12,13 @@ use Rattle.syslog_pieces.proofs.timestamp.month_date.shown_date.Goals as goal
 
 pub returns-in_err-date : goal.returns-in_err-date
 returns-in_err-date c =
-    let n : (d : MonthDate) → ShowsYearless (chars c.args.text.now) d → ⊥ =
-    shown_none c.args.text.now c.trimmed-text.result.now c.trimmed-text.ensures
-    (no_row (showing_row yearless_date)
+    let n : (d : MonthDate) → BeginsWithDate yearless_date (chars c.args.text.now) d → ⊥ =
+    shown_none (no_row (showing_row yearless_date)
     (optional_det _ priority_det also run_det _ also yearless_det also rest_det also tt)
     (c.optional_priority.ensures past c.blanks-rest.ensures past inl c.in_err-date.ensures)) in search rules
 
 pub returns : goal.returns
 returns c =
-    shown_some c.args.text.now c.trimmed-text.result.now _ c.in_ok-date.date _ c.trimmed-text.ensures
+    shown_some _ c.in_ok-date.date _
     (row_of (showing_row yearless_date)
     (c.optional_priority.ensures then c.blanks-rest.ensures then c.in_ok-date.ensures then rest_front _ then refl))
