@@ -6,10 +6,11 @@
 //! answer nothing, since the line is then read and printed as any other. So no contract above speaks of this way.
 ghost use Rattle.std.specs.Prelude.{◌≡◌, ◌++◌, ◌∷◌, [], IfOk, IfSome, IsOk, IsTrue, Some, string_bytes};
 ghost use Rattle.std.specs.Str.{chars, encode_utf8_all, IsUtf8};
-ghost use Rattle.syslog_pieces.specs.Pieces.View.{shown};
+ghost use Rattle.syslog_pieces.specs.Pieces.Class.{Text};
+ghost use Rattle.syslog_pieces.specs.Pieces.View.{seen, shown};
 ghost use Rattle.syslog_pieces.specs.Bodies.KeptStamp.{zone_text};
 ghost use Rattle.syslog_pieces.specs.Timestamp.Zone.{Dating};
-ghost use Rattle.syslog_loose.specs.KeptLine.{KeptFront, KeptTail, PrintsAs, PrintsKept};
+ghost use Rattle.syslog_loose.specs.KeptLine.{KeptEnd, KeptFront, KeptTail, PrintsAs, PrintsKept, bytes_of, spaced};
 ghost use Rattle.syslog_loose.specs.Message.{MessageValue};
 ghost use Rattle.syslog_loose.specs.Printed.{printed};
 ghost use Rattle.syslog_pieces.specs.declared.timestamp.month_date.MonthDate.{MonthDate};
@@ -34,13 +35,13 @@ use syslog_pieces::text::kept::{before, kept_host, kept_number, kept_word, one_s
 use syslog_pieces::timestamp::kept::kept_stamp;
 
 // A line, cut at the offset of its timestamp: all before it, whether it is `Z`, all from behind it to the elements, and
-// the message. (An offset that prints as it is written stands before the cut.)
+// the message. (An offset that prints as it is written stands before the cut, and a message behind one space in the tail.)
 #[derive(Clone, Copy)]
 struct KeptLine<'a> {
     front: &'a str,
     is_zulu: bool,
     tail: &'a str,
-    msg: &'a str,
+    msg: Option<&'a str>,
 }
 
 // The text behind priority and version.
@@ -71,20 +72,33 @@ fn kept_tail(text: &str) -> Option<&str>
     Some(rest)
 }
 
+// The text up to the rest behind the elements, and the message, where that isn't behind one space: then it is one text.
+#[inline(always)]
+fn kept_end<'a>(text: &'a str, rest: &'a str) -> (&'a str, Option<&'a str>)
+    requires { (front : Text) × (chars text.now ≡ front ++ chars rest.now) }
+    ensures ends { KeptEnd (chars text.now) (chars rest.now) (shown result.0) (seen result.1) }
+    ensures utf8 { IsUtf8 result.0.now × IfSome result.1 (λ msg. IsUtf8 msg.now) }
+{
+    match one_space(rest) {
+        Some(_) => (text, None),
+        None => (before(text, rest), Some(blanks(rest))),
+    }
+}
+
 // The line, where all but its timestamp prints as it is written.
 #[inline(always)]
 fn kept_line(text: &str) -> Option<KeptLine<'_>>
     ensures kept { IfSome result (λ line.
-        PrintsKept (chars text.now) (shown line.front) line.is_zulu (shown line.tail) (shown line.msg)) }
-    ensures utf8 { IfSome result (λ line. IsUtf8 line.front.now × IsUtf8 line.tail.now × IsUtf8 line.msg.now) }
+        PrintsKept (chars text.now) (shown line.front) line.is_zulu (shown line.tail ++ spaced (seen line.msg))) }
+    ensures utf8 { IfSome result (λ line.
+        IsUtf8 line.front.now × IsUtf8 line.tail.now × IfSome line.msg (λ msg. IsUtf8 msg.now)) }
 {
     let gap = kept_front(text)?;
     let start = one_space(gap)?;
     let stamp = kept_stamp(start)?;
     let front = before(text, stamp.zone);
     let rest = kept_tail(stamp.rest)?;
-    let tail = before(stamp.rest, rest);
-    let msg = blanks(rest);
+    let (tail, msg) = kept_end(stamp.rest, rest);
     Some(KeptLine {
         front,
         is_zulu: stamp.is_zulu,
@@ -95,7 +109,7 @@ fn kept_line(text: &str) -> Option<KeptLine<'_>>
 
 impl fmt::Display for KeptLine<'_> {
     ghost output = { λ line.
-        Some (line.front.now ++ (zone_text line.is_zulu ++ (line.tail.now ++ (32 ∷ line.msg.now)))) };
+        Some (line.front.now ++ (zone_text line.is_zulu ++ (line.tail.now ++ spaced (bytes_of line.msg)))) };
 
     fn fmt<W: fmt::Write>(&self, f: &mut fmt::Formatter<W>) -> fmt::Result {
         f.write_str(self.front)?;
@@ -103,7 +117,10 @@ impl fmt::Display for KeptLine<'_> {
             f.write_str("+00:00")?;
         }
         f.write_str(self.tail)?;
-        write_spaced(f, self.msg)
+        match self.msg {
+            Some(msg) => write_spaced(f, msg),
+            None => Ok(()),
+        }
     }
 }
 

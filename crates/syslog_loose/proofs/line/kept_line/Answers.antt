@@ -1,4 +1,5 @@
 use Rattle.std.specs.Str.{chars}
+use Rattle.syslog_pieces.specs.Pieces.View.{seen}
 use Rattle.syslog_loose.proofs.KeptLineLemmas.{before_zone, line_kept}
 use Rattle.syslog_loose.proofs.line.kept_line.Goals as goal
 
@@ -10,5 +11,5 @@ before-front-requires c =
 pub returns-clause-kept : goal.returns-clause-kept
 returns-clause-kept c =
     line_kept (chars c.args.text.now) (chars c.in_ok-gap.gap.now) (chars c.in_ok-start.start.now) (chars c.in_ok-stamp.stamp.zone.now) (chars c.in_ok-stamp.stamp.rest.now)
-    (chars c.in_ok-rest.rest.now) (chars c.blanks-msg.result.now) (chars c.before-front.result.now) (chars c.before-tail.result.now) c.in_ok-stamp.stamp.is_zulu
-    c.in_ok-gap.ensures c.in_ok-start.ensures c.in_ok-stamp.ensures c.in_ok-rest.ensures c.blanks-msg.ensures c.before-front.ensures c.before-tail.ensures
+    (chars c.in_ok-rest.rest.now) (chars c.before-front.result.now) (chars c.kept_end.result.0.now) (seen c.kept_end.result.1) c.in_ok-stamp.stamp.is_zulu
+    c.in_ok-gap.ensures c.in_ok-start.ensures c.in_ok-stamp.ensures c.in_ok-rest.ensures c.kept_end.ensures.ends c.before-front.ensures
