@@ -5,6 +5,7 @@
 //! copied. Each reader here answers the text behind its piece where that piece prints as it is written, and may always
 //! answer nothing, since the line is then read and printed as any other. So no contract above speaks of this way.
 ghost use Rattle.std.specs.Prelude.{◌≡◌, ◌++◌, ◌∷◌, [], IfOk, IfSome, IsOk, IsTrue, Some, string_bytes};
+ghost use Rattle.std.specs.Fmt.{WritesOnOk};
 ghost use Rattle.std.specs.Str.{chars, encode_utf8_all, IsUtf8};
 ghost use Rattle.syslog_pieces.specs.Pieces.Class.{Text};
 ghost use Rattle.syslog_pieces.specs.Pieces.View.{seen, shown};
@@ -107,15 +108,25 @@ fn kept_line(text: &str) -> Option<KeptLine<'_>>
     })
 }
 
+// Writes what stands in place of a `Z`, where there was one.
+#[inline(always)]
+fn write_zone<W: fmt::Write>(f: &mut fmt::Formatter<W>, is_zulu: bool) -> fmt::Result
+    ensures { WritesOnOk W.write_str_gives f.old result (zone_text is_zulu) f.new }
+{
+    if is_zulu {
+        f.write_str("+00:00")
+    } else {
+        Ok(())
+    }
+}
+
 impl fmt::Display for KeptLine<'_> {
     ghost output = { λ line.
         Some (line.front.now ++ (zone_text line.is_zulu ++ (line.tail.now ++ spaced (bytes_of line.msg)))) };
 
     fn fmt<W: fmt::Write>(&self, f: &mut fmt::Formatter<W>) -> fmt::Result {
         f.write_str(self.front)?;
-        if self.is_zulu {
-            f.write_str("+00:00")?;
-        }
+        write_zone(f, self.is_zulu)?;
         f.write_str(self.tail)?;
         match self.msg {
             Some(msg) => write_spaced(f, msg),

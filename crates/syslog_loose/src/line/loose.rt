@@ -21,6 +21,7 @@ ghost use Rattle.syslog_loose.specs.declared.variant.Variant.{Variant};
 #[cfg(test)]
 mod tests;
 
+use super::write_zone;
 use crate::message::{is_plain_time, make_room, write_spaced, write_timestamp};
 use crate::variant::{IncompleteDate, Variant};
 use std::alloc::AllocError;
@@ -179,9 +180,7 @@ impl fmt::Display for StampedLine<'_> {
     fn fmt<W: fmt::Write>(&self, f: &mut fmt::Formatter<W>) -> fmt::Result {
         f.write_str(self.front)?;
         write_spaced(f, self.stamp)?;
-        if self.is_zulu {
-            f.write_str("+00:00")?;
-        }
+        write_zone(f, self.is_zulu)?;
         f.write_str(self.tail)
     }
 }
