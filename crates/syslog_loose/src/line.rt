@@ -36,7 +36,7 @@ use syslog_pieces::text::kept::{before, kept_host, kept_number, kept_word, one_s
 use syslog_pieces::timestamp::kept::kept_stamp;
 
 // A line, cut at the offset of its timestamp: all before it, whether it is `Z`, all from behind it to the elements, and
-// the message. (An offset that prints as it is written stands before the cut, and a message behind one space in the tail.)
+// the message. An offset that prints as it is written stands before the cut, a message behind one space in the tail.
 #[derive(Clone, Copy)]
 struct KeptLine<'a> {
     front: &'a str,

@@ -11,7 +11,8 @@ ghost use Rattle.syslog_pieces.specs.Pieces.Class.{Text};
 ghost use Rattle.syslog_pieces.specs.Pieces.View.{shown};
 ghost use Rattle.syslog_pieces.specs.Text.{dash};
 ghost use Rattle.syslog_pieces.specs.Timestamp.Zone.{Dating as AnyDating, dating_value};
-ghost use Rattle.syslog_loose.specs.KeptLoose.{KeptBehind, KeptNames, KeptOrigin, KeptProgram, PrintsFreely, PrintsLoosely, PrintsStamped, ShowsDated};
+ghost use Rattle.syslog_loose.specs.KeptLoose.{KeptBehind, KeptNames, KeptOrigin, KeptProgram};
+ghost use Rattle.syslog_loose.specs.KeptLoose.{PrintsFreely, PrintsLoosely, PrintsStamped, ShowsDated};
 ghost use Rattle.syslog_loose.specs.Printed.{timestamp_text};
 ghost use Rattle.syslog_loose.specs.ReadBack.{ReadsProtocol};
 ghost use Rattle.syslog_loose.specs.Reading.{HasMonth, IsUnreadable, OfTrimmed, incomplete};
@@ -274,8 +275,8 @@ fn write_dated(
     text.push_str(line.tail)
 }
 
-/// Writes the printed text of the message of the trimmed line into `text`, where the variant reads it by RFC 3164 and all
-/// but its timestamp prints as it is written, and tells whether it did. It asks for memory as `dated_text` does.
+/// Writes the printed text of the message of the trimmed line into `text`, where the variant reads it by RFC 3164 and
+/// all but its timestamp prints as it is written, and tells whether it did. It asks for memory as `dated_text` does.
 pub(crate) fn loose_text(
     text: &mut String,
     input: &str,
