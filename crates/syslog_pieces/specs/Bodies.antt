@@ -3,6 +3,7 @@
 pub mod Closing
 pub mod Early
 pub mod Kept
+pub mod KeptStamp
 pub mod Looks
 pub mod MonthReading
 pub mod MonthText

@@ -25,6 +25,7 @@ mod digits;
 mod display;
 mod early;
 mod fields;
+pub mod kept;
 pub mod loose;
 pub mod month_date;
 pub mod plain;

@@ -28,7 +28,8 @@ use Rattle.syslog_pieces.proofs.TextLemmas.Looks.{behind_chars, behind_cut, behi
 use Rattle.syslog_pieces.proofs.TimestampLemmas.Characters.{stamp_ascii}
 use Rattle.syslog_pieces.proofs.TimestampLemmas.Fields.{civil_nanos-fields}
 use Rattle.syslog_pieces.proofs.TimestampLemmas.Fraction.{nine-value, pad3-digits, six-value, three-value}
-use Rattle.syslog_pieces.proofs.TimestampLemmas.MonthText.{datetime_of, fixed_earlier, in_any}
+use Rattle.syslog_pieces.proofs.TimestampLemmas.Clocks.{datetime_of}
+use Rattle.syslog_pieces.proofs.TimestampLemmas.MonthText.{fixed_earlier, in_any}
 
 module _ (bs b1 b2 b3 b4 : List ℕ) (day : Day) (clock : Clock) (n : ℕ) (offset : Offset) (s : OffsetTimestamp)
     (d : IsDayBytes bs day b1) (c : IsClockBytes b1 clock b2) (f : IsFractionBytes b2 n b3) (z : IsOffsetBytes b3 offset.seconds b4)

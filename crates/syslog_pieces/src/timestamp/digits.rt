@@ -122,7 +122,7 @@ pub fn three_digits(text: &[u8]) -> Option<(u32, &[u8])>
 }
 
 #[inline(always)]
-fn begins_with_digit(text: &[u8]) -> bool
+pub fn begins_with_digit(text: &[u8]) -> bool
     ensures { OnFalse result (prefix_len is_ascii_digit text.now ≡ 0) }
 {
     matches!(text, [b'0'..=b'9', ..])

@@ -53,7 +53,7 @@ fn named_month(a: u8, b: u8, c: u8) -> Option<u32>
 
 // Two digits.
 #[inline(always)]
-pub(in crate::timestamp) fn pair(text: &[u8]) -> Option<(u32, &[u8])>
+pub(crate) fn pair(text: &[u8]) -> Option<(u32, &[u8])>
     ensures small { IfSome result (λ read. read.0 < 100) }
     ensures text { IfSome result (λ read. text.now ≡ pad2 read.0 ++ read.1.now) }
 {
