@@ -48,7 +48,8 @@ pub(crate) fn begins_with_nil(bytes: &[u8]) -> bool
 /// Whether the last byte is that of a colon.
 #[inline(always)]
 pub(crate) fn ends_in_colon(bytes: &[u8]) -> bool
-    ensures { MatchBool result ((front : List ℕ) × (bytes.now ≡ front ++ (58 ∷ []))) ((front : List ℕ) → bytes.now ≢ front ++ (58 ∷ [])) }
+    ensures { MatchBool result ((front : List ℕ) × (bytes.now ≡ front ++ (58 ∷ [])))
+        ((front : List ℕ) → bytes.now ≢ front ++ (58 ∷ [])) }
 {
     matches!(bytes, [.., b':'])
 }

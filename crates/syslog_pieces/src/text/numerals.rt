@@ -22,7 +22,8 @@ pub(crate) fn number_of_digits(digits: &str) -> Option<u32>
 /// One to five digits, which most numbers have: they need no loop.
 #[inline(always)]
 pub(crate) fn few_digits(digits: &[u8]) -> Option<u32>
-    ensures value { IfSome result (λ value. (0 < length digits.now) × (value < 100_000) × (value ≡ digits_value 10 digits.now)) }
+    ensures value { IfSome result (λ value.
+        (0 < length digits.now) × (value < 100_000) × (value ≡ digits_value 10 digits.now)) }
     ensures digits { IfSome result (λ _. Each is_ascii_digit digits.now) }
 {
     match digits {

@@ -11,7 +11,7 @@ use super::fields::{CivilFields, is_early};
 use jiff::Timestamp;
 use jiff::tz::Offset;
 
-/// The stamp of the fields on a clock at this offset, where each month has such a day and the year is one from 0 to 9998.
+/// The stamp of the fields on a clock at this offset, where each month has such a day, in a year from 0 to 9998.
 #[inline(always)]
 pub(super) fn early_stamp(fields: CivilFields, offset: Offset) -> Option<OffsetTimestamp>
     ensures { IfSome result (IsEarlyStamp fields offset) }

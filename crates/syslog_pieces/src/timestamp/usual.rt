@@ -1,6 +1,7 @@
 //! RFC 3339 texts as most senders write them, read at the front of a text: `2003-10-11T22:14:15.003Z` before a space.
 //!
-//! Each reader here looks at bytes, and answers nothing where they have another form: the text is then cut and read whole.
+//! Each reader here looks at bytes, and answers nothing where they have another form: the text is then cut and read
+//! whole.
 ghost use Rattle.std.specs.Prelude.{◌≡◌, ◌*◌, ◌<◌, ◌++◌, ◌∷◌, IfSome, Some, neg_ℤ, pos};
 ghost use Rattle.std.specs.Str.{chars};
 ghost use Rattle.jiff_fmt.specs.Text.{pad2, pad4};

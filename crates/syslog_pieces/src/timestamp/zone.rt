@@ -58,7 +58,8 @@ pub(super) fn zone_of<'a, 'z>(dating: &Dating<'a, 'z>) -> &'a TimeZone<'z>
 // The timestamp of a date that each month has, in a zone of one offset.
 #[inline(always)]
 fn fixed_stamp(fields: CivilFields, dating: &Dating<'_, '_>) -> Option<OffsetTimestamp>
-    ensures { IfSome result (spec.IsStampOfFields (spec.given_zone dating.entry.now.tz) (plain_zone dating.entry.now.local.now) fields) }
+    ensures { IfSome result
+        (spec.IsStampOfFields (spec.given_zone dating.entry.now.tz) (plain_zone dating.entry.now.local.now) fields) }
 {
     match zone_of(dating).to_fixed_offset() {
         Ok(offset) => early_stamp(fields, offset),
