@@ -1,11 +1,12 @@
 -- Lines that print as they are written, put together from their pieces.
-use Rattle.std.proofs.Common.{◌≡◌, ℕ, ◌+◌, ◌*◌, ◌<◌, List, [], ◌∷◌, ◌++◌, Bool, Option, Some, Result, Ok, Err, inl, refl, sym, ap, ap₂, ◌∙◌, append_assoc}
+use Rattle.std.proofs.Common.{◌≡◌, ℕ, ◌+◌, ◌*◌, ◌<◌, List, [], ◌∷◌, ◌++◌, Bool, true, false, Option, None, Some, Result, Ok, Err, inl, refl, sym, ap, ap₂, ◌∙◌, append_assoc}
 use Rattle.std.proofs.lemmas.List.{append_cancel_right}
 use Rattle.std.proofs.lemmas.Str.{encodes-append, encodes-chars}
 use Rattle.std.specs.Char.{encode_utf8}
 use Rattle.std.specs.Str.{chars, IsUtf8, encode_utf8_all}
 use Rattle.std.specs.Fmt.{decimal}
 use Rattle.std.specs.Option.{option_map_or}
+use Rattle.syslog_pieces.specs.Bodies.KeptStamp.{zone_text, IsKeptStamp}
 use Rattle.syslog_pieces.specs.Pieces.Class.{Text, Class, Front, run, some_run, optional, rest}
 use Rattle.syslog_pieces.specs.Pieces.Kept.{Kept}
 use Rattle.syslog_pieces.specs.Pri.{priority, priority_text, facility_of, severity_of, facility_number, severity_number}
@@ -14,8 +15,9 @@ use Rattle.syslog_pieces.specs.declared.pri.SyslogSeverity.{SyslogSeverity}
 use Rattle.syslog_pieces.specs.ProcId.{process_word, process_text}
 use Rattle.syslog_pieces.specs.StructuredData.{forgiving}
 use Rattle.syslog_pieces.specs.StructuredData.Element.{elements_text}
-use Rattle.syslog_pieces.specs.Text.{is_blank, number, host, word, name_text}
+use Rattle.syslog_pieces.specs.Text.{is_blank, dash, number, host, word, name_text}
 use Rattle.syslog_pieces.specs.Timestamp.{header_stamp}
+use Rattle.syslog_pieces.specs.Timestamp.Printed.{printed_stamp}
 use Rattle.syslog_pieces.specs.declared.timestamp.OffsetTimestamp.{OffsetTimestamp}
 use Rattle.syslog_pieces.proofs.PieceLemmas.Class.{row_nil, row_cons, rows_join, rest_front}
 use Rattle.syslog_pieces.proofs.PieceLemmas.Kept.{front_of}
@@ -27,7 +29,7 @@ use Rattle.syslog_loose.specs.KeptLine.{front_row, tail_row, KeptFront, KeptTail
 use Rattle.syslog_loose.specs.Message.{MessageValue}
 use Rattle.syslog_loose.specs.Printed.{printed, printed_5424, timestamp_text}
 use Rattle.syslog_loose.specs.Rfc5424.{message_of, IsRead5424, IsNot5424}
-use Rattle.std.specs.Prelude.{IfOk, IsTrue}
+use Rattle.std.specs.Prelude.{IfOk, IsTrue, MatchOption}
 use Rattle.std.specs.declared.alloc.AllocError.{AllocError}
 use Rattle.syslog_loose.specs.declared.variant.Variant.{Variant}
 use Rattle.syslog_loose.specs.declared.variant.Variant.TheVariants.{Either, RFC5424}
@@ -125,44 +127,74 @@ composes pri small =
     let c = priority_composed pri small in
     ap₂ (λ (x : Option SyslogFacility) (y : Option SyslogSeverity). option_map_or facility_number x 5 * 8 + option_map_or severity_number y 7) c.2 c.3 ∙ c.4
 
--- the front of a line, and what is printed behind it
-front_prints : (t b front q : Text) (pri version : ℕ) → t ≡ front ++ b → t ≡ priority_text pri ++ (decimal version ++ b)
-    → 60 ∷ (decimal pri ++ (62 ∷ (decimal version ++ q))) ≡ front ++ q
-front_prints t b front q pri version e w =
-    let s : priority_text pri ++ decimal version ≡ front =
-    append_cancel_right (priority_text pri ++ decimal version) front b (append_assoc (priority_text pri) (decimal version) b ∙ sym w ∙ e) in
-    sym (append_assoc (priority_text pri) (decimal version) q ∙ ap (λ (x : Text). 60 ∷ x) (append_assoc (decimal pri) (62 ∷ []) (decimal version ++ q)))
-    ∙ ap (λ (x : Text). x ++ q) s
+-- the printed timestamp is what is copied of it, and what stands in place of a `Z`
+stamp_prints : (value : Option OffsetTimestamp) (text : Text)
+    → MatchOption value (text ≡ dash) (λ s. text ≡ printed_stamp s.instant.nanosecond s.offset.seconds) → timestamp_text value ≡ text
+stamp_prints None text h = sym h
+stamp_prints (Some s) text h = sym h
 
-module _ (t b c d n o front tail : Text) (stamp : Option OffsetTimestamp) (k : KeptFront t b) (s : Space b c) (f : Front header_stamp c d stamp)
-    (l : KeptTail d n) (g : Front (run is_blank) n o tt) (cut : t ≡ front ++ b) (cut' : d ≡ tail ++ n) where
-  tail_is : tail ++ (32 ∷ o) ≡ five (name_text l.hostname) (name_text l.appname) (process_text l.procid) (name_text l.msgid) (elements_text l.elements) (32 ∷ o)
+-- the front of a line up to its offset, and what is printed behind that
+front_prints : (t b c copied zone front q : Text) (pri version : ℕ) → t ≡ front ++ zone → t ≡ priority_text pri ++ (decimal version ++ b)
+    → b ≡ 32 ∷ c → c ≡ copied ++ zone → 60 ∷ (decimal pri ++ (62 ∷ (decimal version ++ (32 ∷ (copied ++ q))))) ≡ front ++ q
+front_prints t b c copied zone front q pri version e w s z =
+    let first = priority_text pri ++ decimal version in
+    let on : (r : Text) → 60 ∷ (decimal pri ++ (62 ∷ (decimal version ++ (32 ∷ (copied ++ r))))) ≡ (first ++ (32 ∷ copied)) ++ r =
+    λ r. sym (append_assoc first (32 ∷ copied) r ∙ append_assoc (priority_text pri) (decimal version) (32 ∷ (copied ++ r))
+    ∙ ap (λ (x : Text). 60 ∷ x) (append_assoc (decimal pri) (62 ∷ []) (decimal version ++ (32 ∷ (copied ++ r))))) in
+    let whole : t ≡ 60 ∷ (decimal pri ++ (62 ∷ (decimal version ++ (32 ∷ (copied ++ zone))))) =
+    w ∙ ap (λ (x : Text). priority_text pri ++ (decimal version ++ x)) (s ∙ ap (λ (x : Text). 32 ∷ x) z)
+    ∙ ap (λ (x : Text). 60 ∷ x) (append_assoc (decimal pri) (62 ∷ []) (decimal version ++ (32 ∷ (copied ++ zone)))) in
+    let same : first ++ (32 ∷ copied) ≡ front = append_cancel_right (first ++ (32 ∷ copied)) front zone (sym (whole ∙ on zone) ∙ e) in
+    on q ∙ ap (λ (x : Text). x ++ q) same
+
+-- what stands before the offset
+pub before_zone : (t b c zone d : Text) (is_zulu : Bool) → KeptFront t b → Space b c → IsKeptStamp c zone is_zulu d → (front : Text) × (t ≡ front ++ zone)
+before_zone t b c zone d is_zulu k s z =
+    let p = k.is.piece in
+    (p ++ (32 ∷ z.copied), k.is.whole ∙ ap (λ (x : Text). p ++ x) (s.whole ∙ ap (λ (x : Text). 32 ∷ x) z.whole) ∙ sym (append_assoc p (32 ∷ z.copied) zone))
+
+module _ (t b c zone d n o front tail : Text) (is_zulu : Bool) (k : KeptFront t b) (s : Space b c) (z : IsKeptStamp c zone is_zulu d)
+    (l : KeptTail d n) (g : Front (run is_blank) n o tt) (cut : t ≡ front ++ zone) (cut' : d ≡ tail ++ n) where
+  abbrev names : Text
+  names = five (name_text l.hostname) (name_text l.appname) (process_text l.procid) (name_text l.msgid) (elements_text l.elements) (32 ∷ o)
+
+  tail_is : tail ++ (32 ∷ o) ≡ names
   tail_is = five_cut (name_text l.hostname) (name_text l.appname) (process_text l.procid) (name_text l.msgid) (elements_text l.elements) n (32 ∷ o) tail (sym cut' ∙ l.whole)
 
+  stamp_is : timestamp_text z.value ++ names ≡ z.copied ++ (zone_text is_zulu ++ (tail ++ (32 ∷ o)))
+  stamp_is =
+      ap₂ (λ (x y : Text). x ++ y) (stamp_prints z.value (z.copied ++ zone_text is_zulu) z.prints) (sym tail_is)
+      ∙ append_assoc z.copied (zone_text is_zulu) (tail ++ (32 ∷ o))
+
   -- the whole line
-  pub line_kept : PrintsKept t front stamp tail o
+  pub line_kept : PrintsKept t front is_zulu tail o
   unfolding printed_5424
   line_kept = record {
-    values = (Some k.pri, (k.version, (tt, (stamp, (tt, (l.hostname, (tt, (l.appname, (tt, (l.procid, (tt, (l.msgid, (tt, (l.elements, (tt, (o, tt))))))))))))))));
+    values = (Some k.pri, (k.version, (tt, (z.value, (tt, (l.hostname, (tt, (l.appname, (tt, (l.procid, (tt, (l.msgid, (tt, (l.elements, (tt, (o, tt))))))))))))))));
     is = rows_join front_row (some_run is_blank ∷ header_stamp ∷ (tail_row ++ (run is_blank ∷ rest ∷ []))) k.is
         (row_cons (some_run is_blank) (header_stamp ∷ (tail_row ++ (run is_blank ∷ rest ∷ []))) (front_of (some_run is_blank) (λ _. 32 ∷ []) b c s)
-        (row_cons header_stamp (tail_row ++ (run is_blank ∷ rest ∷ [])) f
+        (row_cons header_stamp (tail_row ++ (run is_blank ∷ rest ∷ [])) z.is
         (rows_join tail_row (run is_blank ∷ rest ∷ []) l.is
         (row_cons (run is_blank) (rest ∷ []) g (row_cons rest [] (rest_front o) (row_nil []))))));
-    prints = ap (λ (x : ℕ). 60 ∷ (decimal x ++ (62 ∷ (decimal k.version ++ (32 ∷ (timestamp_text stamp ++ five (name_text l.hostname) (name_text l.appname) (process_text l.procid) (name_text l.msgid) (elements_text l.elements) (32 ∷ o))))))) (composes k.pri k.composes)
-        ∙ front_prints t b front (32 ∷ (timestamp_text stamp ++ five (name_text l.hostname) (name_text l.appname) (process_text l.procid) (name_text l.msgid) (elements_text l.elements) (32 ∷ o))) k.pri k.version cut k.whole
-        ∙ ap (λ (x : Text). front ++ (32 ∷ (timestamp_text stamp ++ x))) (sym tail_is);
+    prints = ap₂ (λ (x : ℕ) (y : Text). 60 ∷ (decimal x ++ (62 ∷ (decimal k.version ++ (32 ∷ y))))) (composes k.pri k.composes) stamp_is
+        ∙ front_prints t b c z.copied zone front (zone_text is_zulu ++ (tail ++ (32 ∷ o))) k.pri k.version cut k.whole s.whole z.whole;
   }
 
--- what is written of such a line, by bytes
-pub line_bytes : (front stamp tail msg : List ℕ) → IsUtf8 front → IsUtf8 tail → IsUtf8 msg
-    → front ++ ((32 ∷ encode_utf8_all stamp) ++ (tail ++ (32 ∷ msg))) ≡ encode_utf8_all (chars front ++ (32 ∷ (stamp ++ (chars tail ++ (32 ∷ chars msg)))))
+zone_bytes : (is_zulu : Bool) → encode_utf8_all (zone_text is_zulu) ≡ zone_text is_zulu
 unfolding encode_utf8
-line_bytes front stamp tail msg u v w =
-    sym (encodes-append (chars front) (32 ∷ (stamp ++ (chars tail ++ (32 ∷ chars msg))))
-    ∙ ap₂ (λ (x y : List ℕ). x ++ (32 ∷ y)) (encodes-chars front u)
-    (encodes-append stamp (chars tail ++ (32 ∷ chars msg))
-    ∙ ap (λ (x : List ℕ). encode_utf8_all stamp ++ x) (encodes-append (chars tail) (32 ∷ chars msg) ∙ ap₂ (λ (x y : List ℕ). x ++ (32 ∷ y)) (encodes-chars tail v) (encodes-chars msg w))))
+zone_bytes true = refl
+zone_bytes false = refl
+
+-- what is written of such a line, by bytes
+pub line_bytes : (front tail msg : List ℕ) (is_zulu : Bool) → IsUtf8 front → IsUtf8 tail → IsUtf8 msg
+    → front ++ (zone_text is_zulu ++ (tail ++ (32 ∷ msg))) ≡ encode_utf8_all (chars front ++ (zone_text is_zulu ++ (chars tail ++ (32 ∷ chars msg))))
+unfolding encode_utf8
+line_bytes front tail msg is_zulu u v w =
+    sym (encodes-append (chars front) (zone_text is_zulu ++ (chars tail ++ (32 ∷ chars msg)))
+    ∙ ap₂ (λ (x y : List ℕ). x ++ y) (encodes-chars front u)
+    (encodes-append (zone_text is_zulu) (chars tail ++ (32 ∷ chars msg))
+    ∙ ap₂ (λ (x y : List ℕ). x ++ y) (zone_bytes is_zulu)
+    (encodes-append (chars tail) (32 ∷ chars msg) ∙ ap₂ (λ (x y : List ℕ). x ++ (32 ∷ y)) (encodes-chars tail v) (encodes-chars msg w))))
 
 -- ---- by a variant that reads RFC 5424
 

@@ -1,7 +1,8 @@
--- Lines of RFC 5424 that print as they are written, but for their timestamp. (Words of the bodies alone.)
-use Rattle.std.specs.Prelude.{◌≡◌, ℕ, ◌<◌, List, [], ◌∷◌, ◌++◌, Option, Some}
+-- Lines of RFC 5424 that print as they are written, but for the `Z` of their timestamp. (Words of the bodies alone.)
+use Rattle.std.specs.Prelude.{◌≡◌, ℕ, ◌<◌, List, [], ◌∷◌, ◌++◌, Bool, Option, Some}
 use Rattle.std.specs.Fmt.{decimal}
 use Rattle.std.specs.Str.{encode_utf8_all}
+use Rattle.syslog_pieces.specs.Bodies.KeptStamp.{zone_text}
 use Rattle.syslog_pieces.specs.Pieces.Class.{Text, Class, Front, Row, Values, run, some_run, optional}
 use Rattle.syslog_pieces.specs.Pri.{priority, priority_text}
 use Rattle.syslog_pieces.specs.ProcId.{process_word, process_text}
@@ -10,10 +11,9 @@ use Rattle.syslog_pieces.specs.StructuredData.Element.{ElementValue, elements_te
 use Rattle.syslog_pieces.specs.Text.{is_blank, number, host, word, name_text}
 use Rattle.syslog_pieces.specs.Timestamp.Zone.{Dating}
 use Rattle.syslog_pieces.specs.declared.procid.ProcId.{ProcId}
-use Rattle.syslog_pieces.specs.declared.timestamp.OffsetTimestamp.{OffsetTimestamp}
 use Rattle.syslog_pieces.specs.declared.timestamp.month_date.MonthDate.{MonthDate}
 use Rattle.syslog_loose.specs.Message.{MessageValue}
-use Rattle.syslog_loose.specs.Printed.{printed, timestamp_text}
+use Rattle.syslog_loose.specs.Printed.{printed}
 use Rattle.syslog_loose.specs.Reading.{AsksYear, IsOnlyRead}
 use Rattle.syslog_loose.specs.Rfc5424.{rfc5424_row, message_of, IsRead5424}
 use Rattle.syslog_loose.specs.declared.variant.Variant.{Variant}
@@ -47,11 +47,11 @@ pub record KeptTail (text follows : Text) : Type 0 where
   pub whole : text ≡ 32 ∷ (name_text hostname ++ (32 ∷ (name_text appname ++ (32 ∷ (process_text procid ++ (32 ∷ (name_text msgid
       ++ (32 ∷ (elements_text elements ++ follows)))))))))
 
--- the text is a row of the sixteen pieces, whose message prints as these texts and the timestamp
-pub record PrintsKept (text front : Text) (timestamp : Option OffsetTimestamp) (tail msg : Text) : Type 0 where
+-- the text is a row of the sixteen pieces, whose message prints as these texts, with `+00:00` in place of a `Z`
+pub record PrintsKept (text front : Text) (is_zulu : Bool) (tail msg : Text) : Type 0 where
   pub values : Values rfc5424_row
   pub is : Front (Row rfc5424_row) text [] values
-  pub prints : printed (message_of values) ≡ front ++ (32 ∷ (timestamp_text timestamp ++ (tail ++ (32 ∷ msg))))
+  pub prints : printed (message_of values) ≡ front ++ (zone_text is_zulu ++ (tail ++ (32 ∷ msg)))
 
 -- the text is read by the variant as one message, by RFC 5424 and so in whatever year, and these bytes are its printed text
 pub record PrintsAs (variant : Variant) (text : Text) (bytes : List ℕ) : Type 0 where

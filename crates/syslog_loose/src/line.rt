@@ -1,16 +1,17 @@
 //! Lines that print as they are written.
 //!
 //! Most lines of RFC 5424 that a program wrote are already in the form that a message prints: one space in each gap, no
-//! leading zeros, strict elements alone. Such a line needs no message in between: all but its timestamp is copied. Each
-//! reader here answers the text behind its piece where that piece prints as it is written, and may always answer
-//! nothing, since the line is then read and printed as any other. So no contract above speaks of this way.
+//! leading zeros, strict elements alone. Such a line needs no message in between: all but a `Z` of its timestamp is
+//! copied. Each reader here answers the text behind its piece where that piece prints as it is written, and may always
+//! answer nothing, since the line is then read and printed as any other. So no contract above speaks of this way.
 ghost use Rattle.std.specs.Prelude.{◌≡◌, ◌++◌, ◌∷◌, [], IfOk, IfSome, IsOk, IsTrue, Some, string_bytes};
 ghost use Rattle.std.specs.Str.{chars, encode_utf8_all, IsUtf8};
 ghost use Rattle.syslog_pieces.specs.Pieces.View.{shown};
+ghost use Rattle.syslog_pieces.specs.Bodies.KeptStamp.{zone_text};
 ghost use Rattle.syslog_pieces.specs.Timestamp.Zone.{Dating};
 ghost use Rattle.syslog_loose.specs.KeptLine.{KeptFront, KeptTail, PrintsAs, PrintsKept};
 ghost use Rattle.syslog_loose.specs.Message.{MessageValue};
-ghost use Rattle.syslog_loose.specs.Printed.{printed, timestamp_text};
+ghost use Rattle.syslog_loose.specs.Printed.{printed};
 ghost use Rattle.syslog_pieces.specs.declared.timestamp.month_date.MonthDate.{MonthDate};
 ghost use Rattle.syslog_loose.specs.Reading.{AsksYear, IsUnreadable, OfTrimmed};
 ghost use Rattle.syslog_loose.specs.Rfc5424.{IsNot5424, IsRead5424};
@@ -19,7 +20,7 @@ mod loose;
 #[cfg(test)]
 mod tests;
 
-use crate::message::{make_room, write_spaced, write_timestamp};
+use crate::message::{make_room, write_spaced};
 use crate::variant::Variant;
 pub(crate) use loose::{DatedLine, dated_line, dated_text, loose_text};
 use std::alloc::AllocError;
@@ -30,13 +31,14 @@ use syslog_pieces::procid::kept_process;
 use syslog_pieces::structured_data::kept_list;
 use syslog_pieces::text::blanks;
 use syslog_pieces::text::kept::{before, kept_host, kept_number, kept_word, one_space};
-use syslog_pieces::timestamp::{OffsetTimestamp, header_stamp};
+use syslog_pieces::timestamp::kept::kept_stamp;
 
-// A line, cut round its timestamp: priority and version, all from behind it to the elements, and the message.
+// A line, cut at the offset of its timestamp: all before it, whether it is `Z`, all from behind it to the elements, and
+// the message. (An offset that prints as it is written stands before the cut.)
 #[derive(Clone, Copy)]
 struct KeptLine<'a> {
     front: &'a str,
-    timestamp: Option<OffsetTimestamp>,
+    is_zulu: bool,
     tail: &'a str,
     msg: &'a str,
 }
@@ -72,32 +74,34 @@ fn kept_tail(text: &str) -> Option<&str>
 // The line, where all but its timestamp prints as it is written.
 #[inline(always)]
 fn kept_line(text: &str) -> Option<KeptLine<'_>>
-    ensures kept { IfSome result (λ line. PrintsKept (chars text.now) (shown line.front) line.timestamp (shown line.tail) (shown line.msg)) }
+    ensures kept { IfSome result (λ line.
+        PrintsKept (chars text.now) (shown line.front) line.is_zulu (shown line.tail) (shown line.msg)) }
     ensures utf8 { IfSome result (λ line. IsUtf8 line.front.now × IsUtf8 line.tail.now × IsUtf8 line.msg.now) }
 {
     let gap = kept_front(text)?;
-    let front = before(text, gap);
     let start = one_space(gap)?;
-    let Some((timestamp, behind)) = header_stamp(start) else {
-        return None;
-    };
-    let rest = kept_tail(behind)?;
-    let tail = before(behind, rest);
+    let stamp = kept_stamp(start)?;
+    let front = before(text, stamp.zone);
+    let rest = kept_tail(stamp.rest)?;
+    let tail = before(stamp.rest, rest);
     let msg = blanks(rest);
     Some(KeptLine {
         front,
-        timestamp,
+        is_zulu: stamp.is_zulu,
         tail,
         msg,
     })
 }
 
 impl fmt::Display for KeptLine<'_> {
-    ghost output = { λ line. Some (line.front.now ++ ((32 ∷ encode_utf8_all (timestamp_text line.timestamp)) ++ (line.tail.now ++ (32 ∷ line.msg.now)))) };
+    ghost output = { λ line.
+        Some (line.front.now ++ (zone_text line.is_zulu ++ (line.tail.now ++ (32 ∷ line.msg.now)))) };
 
     fn fmt<W: fmt::Write>(&self, f: &mut fmt::Formatter<W>) -> fmt::Result {
         f.write_str(self.front)?;
-        write_timestamp(f, self.timestamp)?;
+        if self.is_zulu {
+            f.write_str("+00:00")?;
+        }
         f.write_str(self.tail)?;
         write_spaced(f, self.msg)
     }

@@ -3,9 +3,11 @@
 pub mod Answers
 pub mod Characters
 pub mod Civil
+pub mod Clocks
 pub mod Fields
 pub mod Fold
 pub mod Fraction
+pub mod KeptStamp
 pub mod Loose
 pub mod MonthDate
 pub mod MonthReading

@@ -2,6 +2,7 @@
 -- read. No public clause of the message needs them, and a reader of the claims can pass them over.
 pub mod Closing
 pub mod Kept
+pub mod KeptStamp
 pub mod MonthReading
 pub mod MonthText
 pub mod Scan

@@ -24,6 +24,7 @@ pub mod civil;
 mod digits;
 mod display;
 mod fields;
+pub mod kept;
 pub mod loose;
 pub mod month_date;
 pub mod plain;

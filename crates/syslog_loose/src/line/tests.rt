@@ -2,7 +2,7 @@
 use super::copied;
 use std::test::Fail;
 
-const COPIED: [(&str, &str); 6] = [
+const COPIED: [(&str, &str); 9] = [
     (
         "<34>1 2003-10-11T22:14:15.003Z mymachine.example.com su - ID47 - message",
         "<34>1 2003-10-11T22:14:15.003+00:00 mymachine.example.com su - ID47 - message",
@@ -21,6 +21,18 @@ const COPIED: [(&str, &str); 6] = [
         "<191>4294967295 - - - - - [id][a b=\"x\\\"]y\" c d=\"\"] -",
     ),
     ("<34>1 - - - - - - \u{fc}", "<34>1 - - - - - - \u{fc}"),
+    (
+        "<34>1 2024-02-29T23:59:59.123456789+23:59 - - - - - x",
+        "<34>1 2024-02-29T23:59:59.123456789+23:59 - - - - - x",
+    ),
+    (
+        "<34>1 0000-01-01T00:00:00.100-23:59 - - - - - x",
+        "<34>1 0000-01-01T00:00:00.100-23:59 - - - - - x",
+    ),
+    (
+        "<34>1 9998-12-31T23:59:59.000001Z - - - - - x",
+        "<34>1 9998-12-31T23:59:59.000001+00:00 - - - - - x",
+    ),
 ];
 
 #[test]
@@ -53,6 +65,35 @@ const OTHERS: [&str; 17] = [
     "<34>1 2020-02-30T00:00:00Z - - - - - x",
     "gobbledegook",
 ];
+
+// Timestamps that are left to be read: the last year, second 60, small letters, fractions that print otherwise, an offset
+// that does, and texts that aren't timestamps.
+const STAMPS: [&str; 14] = [
+    "9999-01-01T00:00:00Z",
+    "2020-12-31T23:59:60Z",
+    "2020-01-01t00:00:00Z",
+    "2020-01-01T00:00:00z",
+    "2020-01-01T00:00:00.5Z",
+    "2020-01-01T00:00:00.000Z",
+    "2020-01-01T00:00:00.100000Z",
+    "2020-01-01T00:00:00.100100000Z",
+    "2020-01-01T00:00:00.1234567891Z",
+    "2020-01-01T00:00:00-00:00",
+    "2021-02-29T00:00:00Z",
+    "2020-01-01T00:00:00+24:00",
+    "2020-01-01T00:00:00ZZ",
+    "2020-01-01T00:00:00",
+];
+
+#[test]
+fn reads_other_timestamps(rt: HostRuntime) -> Result<(), Fail> {
+    let mut written = String::new(rt.alloc());
+    for stamp in STAMPS {
+        let line = format!(in rt.alloc(); "<34>1 {stamp} - - - - - x")?;
+        assert!(rt; !copied(&mut written, line.as_str())?);
+    }
+    Ok(())
+}
 
 #[test]
 fn reads_other_lines(rt: HostRuntime) -> Result<(), Fail> {

@@ -4,7 +4,6 @@ use Rattle.std.proofs.lemmas.Bool.Decides.{nat_tests}
 use Rattle.std.proofs.lemmas.List.Elements.{All-append}
 use Rattle.std.specs.Char.{IsAsciiDigit, is_ascii_digit, is_not_whitespace}
 use Rattle.std.specs.List.{All}
-use Rattle.jiff.specs.Types.{DateTime}
 use Rattle.jiff.specs.Words.{nanos_of_seconds, IsTimestampNanos}
 use Rattle.jiff_core.proofs.CalendarLemmas.{days_in_month_bounds}
 use Rattle.jiff_core.proofs.SignedLemmas.{signed_arith}
@@ -18,9 +17,10 @@ use Rattle.syslog_pieces.specs.declared.timestamp.written.Written.{Written}
 use Rattle.syslog_pieces.specs.Timestamp.{IsStampText}
 use Rattle.syslog_pieces.specs.Timestamp.Fields.{AreCivil, nanos_of_fields}
 use Rattle.syslog_pieces.specs.Timestamp.Plain.{IsPlainStamp, BeginsWithYear, own_year}
-use Rattle.syslog_pieces.specs.Timestamp.Printed.{civil_fields, printed_stamp, fields_text, date_time_text, year_sign, fraction_text, offset_text, pad3}
+use Rattle.syslog_pieces.specs.Timestamp.Printed.{civil_fields, printed_stamp, date_time_text, year_sign, fraction_text, offset_text, pad3}
 use Rattle.syslog_pieces.specs.Timestamp.Rfc3339.{HasStamp, IsFraction, IsOffsetText, fields_of_written}
 use Rattle.syslog_pieces.proofs.TimestampLemmas.Civil.{civil_fields-is}
+use Rattle.syslog_pieces.proofs.TimestampLemmas.Clocks.{datetime_of}
 use Rattle.syslog_pieces.proofs.TimestampLemmas.Fields.{civil_nanos-fields}
 use Rattle.syslog_pieces.proofs.TimestampLemmas.Fraction.{pad3-digits, three-value, six-value, nine-value}
 use Rattle.syslog_pieces.proofs.TimestampLemmas.Piece.{each_visible}
@@ -60,7 +60,7 @@ fraction_text-is n h =
 minutes-back : (n r : ℕ) → n % 60 ≡ 0 → r ≡ (n + 30) / 60 → (r / 60 * 60 + r % 60) * 60 ≡ n
 minutes-back n r whole e = omega arith
 
-offset_text-is : (o : ℤ) → unsigned_abs o % 60 ≡ 0 → unsigned_abs o < 86_400 → IsOffsetText (offset_text o) o
+pub offset_text-is : (o : ℤ) → unsigned_abs o % 60 ≡ 0 → unsigned_abs o < 86_400 → IsOffsetText (offset_text o) o
 unfolding offset_text
 offset_text-is (pos n) whole small =
     let r = (n + 30) / 60 in
@@ -83,20 +83,21 @@ offset_text-is (negsuc n) whole small =
 
 -- ---- what is printed of a plain timestamp has it
 
--- the printed text of fields in a year from 0 on
-text-shape : (f : CivilFields) (y : ℕ) (o : ℤ) → f.year ≡ pos y
-    → fields_text f o ≡ pad4 y ++ (45 ∷ pad2 f.month ++ (45 ∷ pad2 f.day ++ (84 ∷ pad2 f.hour
-    ++ (58 ∷ pad2 f.minute ++ (58 ∷ pad2 f.second ++ (fraction_text f.nanosecond ++ offset_text o))))))
+-- date and time in a year from 0 on, and more
+pub text-shape : (f : CivilFields) (y : ℕ) (more : List ℕ) → f.year ≡ pos y
+    → date_time_text f ++ more ≡ pad4 y ++ (45 ∷ pad2 f.month ++ (45 ∷ pad2 f.day ++ (84 ∷ pad2 f.hour
+    ++ (58 ∷ pad2 f.minute ++ (58 ∷ pad2 f.second ++ more)))))
 unfolding date_time_text
-text-shape f y o e = rw e (simp append_assoc)
+text-shape f y more e = rw e (simp append_assoc)
 
-year-from : (z : ℤ) → pos 0 ≤ℤ z → (y : ℕ) × (z ≡ pos y)
+pub year-from : (z : ℤ) → pos 0 ≤ℤ z → (y : ℕ) × (z ≡ pos y)
 year-from (pos n) h = (n, refl)
 year-from (negsuc n) h = absurd (omega (arith, signed_arith))
 
-fields-read : (f : CivilFields) (y : ℕ) (n o : ℤ) → f.year ≡ pos y → AreCivil f → IsTimestampNanos n → nanos_of_fields f ≡ n +ℤ nanos_of_seconds o
-    → unsigned_abs o % 60 ≡ 0 → unsigned_abs o < 86_400 → HasStamp (fields_text f o) n o
-fields-read f y n o e there range nanos whole small =
+-- fields as they print, and any text of the offset
+pub fields-read : (f : CivilFields) (y : ℕ) (n o : ℤ) (zone : List ℕ) → f.year ≡ pos y → AreCivil f → IsTimestampNanos n → nanos_of_fields f ≡ n +ℤ nanos_of_seconds o
+    → IsOffsetText zone o → HasStamp (date_time_text f ++ (fraction_text f.nanosecond ++ zone)) n o
+fields-read f y n o zone e there range nanos zone_is =
     let w : Written = record {
       year = y;
       month = f.month;
@@ -127,8 +128,8 @@ fields-read f y n o e there range nanos whole small =
         letter = 84;
         is_letter = inl refl;
         decimals = fraction_text f.nanosecond;
-        zone = offset_text o;
-        whole = text-shape f y o e;
+        zone = zone;
+        whole = text-shape f y (fraction_text f.nanosecond ++ zone) e;
         fits = record {
           year = omega (arith, signed_arith, date.0.1);
           month = omega (arith, date.1.1);
@@ -138,7 +139,7 @@ fields-read f y n o e there range nanos whole small =
           second = omega (arith, there.second_in);
         };
         fraction = fraction_text-is f.nanosecond there.nanosecond_in;
-        zone_is = offset_text-is o whole small;
+        zone_is = zone_is;
       },
       record {
         civil = civil;
@@ -156,28 +157,13 @@ printed_stamp-back s p =
     let o = s.offset.seconds in
     let fields = civil_fields_exist _ (in_range-at_offset n o s.instant.in_range s.offset.in_range) in
     let (y, e) = year-from _ p.year_from in
-    fields-read (civil_fields (n +ℤ nanos_of_seconds o)) y n o e fields.0 s.instant.in_range fields.1 p.minutes p.day
+    fields-read (civil_fields (n +ℤ nanos_of_seconds o)) y n o (offset_text o) e fields.0 s.instant.in_range fields.1 (offset_text-is o p.minutes p.day)
 
 -- ---- a timestamp that a text has is plain
 
 -- the fields of a count are those that have it
 fields-back : (f : CivilFields) → AreCivil f → civil_fields (nanos_of_fields f) ≡ f
-fields-back f h =
-    let (year_in, month_in, day_in) = h.date in
-    let dt : DateTime = record {
-      date = record { year = f.year; month = f.month; day = f.day; year_in = year_in; month_in = month_in; day_in = day_in };
-      time = record {
-        hour = f.hour;
-        minute = f.minute;
-        second = f.second;
-        subsec_nanosecond = f.nanosecond;
-        hour_in = h.hour_in;
-        minute_in = h.minute_in;
-        second_in = h.second_in;
-        subsec_in = h.nanosecond_in;
-      };
-    } in
-    civil_fields-is dt (nanos_of_fields f) (civil_nanos-fields dt f refl)
+fields-back f h = civil_fields-is (datetime_of f h).0 (nanos_of_fields f) (civil_nanos-fields (datetime_of f h).0 f refl)
 
 abs-neg : (k : ℕ) → unsigned_abs (neg_ℤ (pos k)) ≡ k
 abs-neg zero = refl

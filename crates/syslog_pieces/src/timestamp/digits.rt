@@ -107,7 +107,7 @@ fn few_decimals(text: &[u8]) -> Option<(u32, &[u8])>
 }
 
 #[inline(always)]
-fn three_digits(text: &[u8]) -> Option<(u32, &[u8])>
+pub fn three_digits(text: &[u8]) -> Option<(u32, &[u8])>
     ensures small { IfSome result (λ read. read.0 < 1_000) }
     ensures text { IfSome result (λ read. text.now ≡ pad3 read.0 ++ read.1.now) }
 {
@@ -122,7 +122,7 @@ fn three_digits(text: &[u8]) -> Option<(u32, &[u8])>
 }
 
 #[inline(always)]
-fn begins_with_digit(text: &[u8]) -> bool
+pub fn begins_with_digit(text: &[u8]) -> bool
     ensures { OnFalse result (prefix_len is_ascii_digit text.now ≡ 0) }
 {
     matches!(text, [b'0'..=b'9', ..])

@@ -41,7 +41,7 @@ fn small(letter: u8) -> char
 
 // Two digits.
 #[inline(always)]
-fn pair(text: &[u8]) -> Option<(u32, &[u8])>
+pub(crate) fn pair(text: &[u8]) -> Option<(u32, &[u8])>
     ensures small { IfSome result (λ read. read.0 < 100) }
     ensures text { IfSome result (λ read. text.now ≡ pad2 read.0 ++ read.1.now) }
 {
