@@ -1,15 +1,17 @@
 -- Lines that print as they are written, put together from their pieces.
-use Rattle.std.proofs.Common.{◌≡◌, ℕ, ◌+◌, ◌*◌, ◌<◌, List, [], ◌∷◌, ◌++◌, Bool, true, false, Option, None, Some, Result, Ok, Err, inl, refl, sym, ap, ap₂, ◌∙◌, append_assoc}
+use Rattle.std.proofs.Common.{◌≡◌, ℕ, ◌+◌, ◌*◌, ◌<◌, List, [], ◌∷◌, ◌++◌, Bool, true, false, Option, None, Some, Result, Ok, Err, inl, refl, sym, ap, ap₂, subst, ◌∙◌, append_assoc, append-nil}
 use Rattle.std.proofs.lemmas.List.{append_cancel_right}
 use Rattle.std.proofs.lemmas.Str.{encodes-append, encodes-chars}
 use Rattle.std.specs.Char.{encode_utf8}
 use Rattle.std.specs.Str.{chars, IsUtf8, encode_utf8_all}
 use Rattle.std.specs.Fmt.{decimal}
 use Rattle.std.specs.Option.{option_map_or}
+use Rattle.syslog_pieces.specs.Bodies.Kept.{Copies, CopiedOn}
 use Rattle.syslog_pieces.specs.Bodies.KeptStamp.{zone_text, IsKeptStamp}
 use Rattle.syslog_pieces.specs.Pieces.Class.{Text, Class, Front, run, some_run, optional, rest}
 use Rattle.syslog_pieces.specs.Pieces.Kept.{Kept}
 use Rattle.syslog_pieces.specs.Pri.{priority, priority_text, facility_of, severity_of, facility_number, severity_number}
+use Rattle.syslog_pieces.specs.declared.text.kept.Cut.{Cut}
 use Rattle.syslog_pieces.specs.declared.pri.SyslogFacility.{SyslogFacility}
 use Rattle.syslog_pieces.specs.declared.pri.SyslogSeverity.{SyslogSeverity}
 use Rattle.syslog_pieces.specs.ProcId.{process_word, process_text}
@@ -22,6 +24,7 @@ use Rattle.syslog_pieces.specs.declared.timestamp.OffsetTimestamp.{OffsetTimesta
 use Rattle.syslog_pieces.proofs.PieceLemmas.Class.{row_nil, row_cons, rows_join, rest_front}
 use Rattle.syslog_pieces.proofs.PieceLemmas.Kept.{front_of}
 use Rattle.syslog_pieces.proofs.PriLemmas.{priority_composed}
+use Rattle.syslog_pieces.proofs.TextLemmas.Copied.{extended}
 use Rattle.syslog_loose.proofs.ReadingLemmas.{only_read}
 use Rattle.syslog_loose.proofs.Rfc3164Lemmas.Apart.{shown_apart}
 use Rattle.syslog_loose.proofs.Rfc3164Lemmas.Shown.{shows_month_date}
@@ -37,9 +40,13 @@ use Rattle.syslog_loose.specs.declared.variant.Variant.TheVariants.{Either, RFC5
 abbrev Space : Text → Text → Type 0
 Space t u = Kept (some_run is_blank) (λ _. 32 ∷ []) t u
 
--- one space, as a run that may be empty
-gap : (t u : Text) → Space t u → Front (run is_blank) t u tt
-gap t u k = record { piece = 32 ∷ []; whole = k.whole; is = (k.is.1, k.is.2) }
+-- one space that is copied
+abbrev Gap : Text → Option Cut → Text → Option Cut → Type 0
+Gap t x u y = CopiedOn (some_run is_blank) (λ _. 32 ∷ []) t x u y
+
+-- as a run that may be empty
+gap : (t u : Text) (x y : Option Cut) → Gap t x u y → Front (run is_blank) t u tt
+gap t u x y k = record { piece = k.is.piece; whole = k.is.whole; is = (k.is.is.1, k.is.is.2) }
 
 pub front_kept : (t a b : Text) → (k : Kept priority priority_text t a) → k.value < 192 → Kept (number 4294967295) decimal a b → KeptFront t b
 front_kept t a b k small v = record {
@@ -78,49 +85,106 @@ from_gap2 = some_run is_blank ∷ from_appname
 abbrev from_hostname : List Class
 from_hostname = host ∷ from_gap2
 
-module _ (t a b c d e f g h i q : Text)
-    (s1 : Space t a) (k1 : Kept host name_text a b) (s2 : Space b c) (k2 : Kept word name_text c d)
-    (s3 : Space d e) (k3 : Kept process_word process_text e f) (s4 : Space f g) (k4 : Kept word name_text g h)
-    (s5 : Space h i) (k5 : Kept forgiving elements_text i q) where
-  pub tail_kept : KeptTail t q
+-- five pieces, each behind a space
+abbrev five : Text → Text → Text → Text → Text → Text
+five a b c d e = 32 ∷ (a ++ (32 ∷ (b ++ (32 ∷ (c ++ (32 ∷ (d ++ (32 ∷ e))))))))
+
+-- and the same, put together from the front, before more
+five_on : (a b c d e r : Text) → ((((32 ∷ a) ++ (32 ∷ b)) ++ (32 ∷ c)) ++ (32 ∷ d)) ++ (32 ∷ (e ++ r)) ≡ 32 ∷ (a ++ (32 ∷ (b ++ (32 ∷ (c ++ (32 ∷ (d ++ (32 ∷ (e ++ r)))))))))
+five_on a b c d e r =
+    append_assoc (((32 ∷ a) ++ (32 ∷ b)) ++ (32 ∷ c)) (32 ∷ d) (32 ∷ (e ++ r))
+    ∙ append_assoc ((32 ∷ a) ++ (32 ∷ b)) (32 ∷ c) (32 ∷ (d ++ (32 ∷ (e ++ r))))
+    ∙ append_assoc (32 ∷ a) (32 ∷ b) (32 ∷ (c ++ (32 ∷ (d ++ (32 ∷ (e ++ r))))))
+
+-- a space and a piece behind what was copied
+step : (p x : Text) → (p ++ (32 ∷ [])) ++ x ≡ p ++ (32 ∷ x)
+step p x = append_assoc p (32 ∷ []) x
+
+module _ (t a b c d e f g h i q : Text) (x1 x2 x3 x4 x5 x6 : Option Cut)
+    (s1 : Gap t None a x1) (k1 : Kept host name_text a b) (s2 : Gap b x1 c x2) (k2 : Kept word name_text c d)
+    (s3 : Gap d x2 e x3) (k3 : Kept process_word process_text e f) (s4 : Gap f x3 g x4) (k4 : Kept word name_text g h)
+    (s5 : Gap h x4 i x5) (k5 : CopiedOn forgiving elements_text i x5 q x6) where
+  abbrev hostname_text : Text
+  hostname_text = name_text k1.value
+
+  abbrev appname_text : Text
+  appname_text = name_text k2.value
+
+  abbrev procid_text : Text
+  procid_text = process_text k3.value
+
+  abbrev msgid_text : Text
+  msgid_text = name_text k4.value
+
+  -- up to behind each name
+  up_to_hostname : Copies t x1 b (32 ∷ hostname_text)
+  up_to_hostname = extended t a b hostname_text (32 ∷ []) x1 k1.whole (s1.copies t [] refl)
+
+  up_to_appname : Copies t x2 d ((32 ∷ hostname_text) ++ (32 ∷ appname_text))
+  up_to_appname =
+      subst (λ (p : Text). Copies t x2 d p) (step (32 ∷ hostname_text) appname_text)
+      (extended t c d appname_text ((32 ∷ hostname_text) ++ (32 ∷ [])) x2 k2.whole (s2.copies t (32 ∷ hostname_text) up_to_hostname))
+
+  abbrev two : Text
+  two = (32 ∷ hostname_text) ++ (32 ∷ appname_text)
+
+  up_to_procid : Copies t x3 f (two ++ (32 ∷ procid_text))
+  up_to_procid =
+      subst (λ (p : Text). Copies t x3 f p) (step two procid_text)
+      (extended t e f procid_text (two ++ (32 ∷ [])) x3 k3.whole (s3.copies t two up_to_appname))
+
+  abbrev three : Text
+  three = two ++ (32 ∷ procid_text)
+
+  up_to_msgid : Copies t x4 h (three ++ (32 ∷ msgid_text))
+  up_to_msgid =
+      subst (λ (p : Text). Copies t x4 h p) (step three msgid_text)
+      (extended t g h msgid_text (three ++ (32 ∷ [])) x4 k4.whole (s4.copies t three up_to_procid))
+
+  abbrev four : Text
+  four = three ++ (32 ∷ msgid_text)
+
+  up_to_list : Copies t x6 q (four ++ (32 ∷ elements_text k5.value))
+  up_to_list = subst (λ (p : Text). Copies t x6 q p) (step four (elements_text k5.value)) (k5.copies t (four ++ (32 ∷ [])) (s5.copies t four up_to_msgid))
+
+  in_order : four ++ (32 ∷ elements_text k5.value) ≡ five hostname_text appname_text procid_text msgid_text (elements_text k5.value)
+  in_order =
+      ap (λ (x : Text). four ++ (32 ∷ x)) (sym (append-nil (elements_text k5.value)))
+      ∙ five_on hostname_text appname_text procid_text msgid_text (elements_text k5.value) []
+      ∙ ap (λ (x : Text). five hostname_text appname_text procid_text msgid_text x) (append-nil (elements_text k5.value))
+
+  pub tail_kept : KeptTail t x6 q
   tail_kept = record {
     hostname = k1.value;
     appname = k2.value;
     procid = k3.value;
     msgid = k4.value;
     elements = k5.value;
-    is = row_cons (some_run is_blank) from_hostname (front_of (some_run is_blank) (λ _. 32 ∷ []) t a s1)
+    is = row_cons (some_run is_blank) from_hostname s1.is
         (row_cons host from_gap2 (front_of host name_text a b k1)
-        (row_cons (some_run is_blank) from_appname (front_of (some_run is_blank) (λ _. 32 ∷ []) b c s2)
+        (row_cons (some_run is_blank) from_appname s2.is
         (row_cons word from_gap3 (front_of word name_text c d k2)
-        (row_cons (some_run is_blank) from_process (front_of (some_run is_blank) (λ _. 32 ∷ []) d e s3)
+        (row_cons (some_run is_blank) from_process s3.is
         (row_cons process_word from_gap4 (front_of process_word process_text e f k3)
-        (row_cons (some_run is_blank) from_msgid (front_of (some_run is_blank) (λ _. 32 ∷ []) f g s4)
+        (row_cons (some_run is_blank) from_msgid s4.is
         (row_cons word from_gap5 (front_of word name_text g h k4)
-        (row_cons (run is_blank) from_list (gap h i s5)
-        (row_cons forgiving [] (front_of forgiving elements_text i q k5) (row_nil q))))))))));
-    whole = s1.whole ∙ ap (λ (x : Text). 32 ∷ x) (k1.whole ∙ ap (λ (x : Text). name_text k1.value ++ x)
-        (s2.whole ∙ ap (λ (x : Text). 32 ∷ x) (k2.whole ∙ ap (λ (x : Text). name_text k2.value ++ x)
-        (s3.whole ∙ ap (λ (x : Text). 32 ∷ x) (k3.whole ∙ ap (λ (x : Text). process_text k3.value ++ x)
-        (s4.whole ∙ ap (λ (x : Text). 32 ∷ x) (k4.whole ∙ ap (λ (x : Text). name_text k4.value ++ x)
-        (s5.whole ∙ ap (λ (x : Text). 32 ∷ x) k5.whole))))))));
+        (row_cons (run is_blank) from_list (gap h i x4 x5 s5)
+        (row_cons forgiving [] k5.is (row_nil q))))))))));
+    copies = subst (λ (p : Text). Copies t x6 q p) in_order up_to_list;
   }
 
 -- a piece behind a space, before more
 spaced_on : (p x r y : Text) → x ++ r ≡ y → (32 ∷ (p ++ x)) ++ r ≡ 32 ∷ (p ++ y)
 spaced_on p x r y e = ap (λ (z : Text). 32 ∷ z) (append_assoc p x r ∙ ap (λ (z : Text). p ++ z) e)
 
--- five pieces, each behind a space, and then more
-abbrev five : Text → Text → Text → Text → Text → Text → Text
-five a b c d e r = 32 ∷ (a ++ (32 ∷ (b ++ (32 ∷ (c ++ (32 ∷ (d ++ (32 ∷ (e ++ r)))))))))
+-- the five pieces before more
+five_before : (a b c d e r : Text) → five a b c d e ++ r ≡ 32 ∷ (a ++ (32 ∷ (b ++ (32 ∷ (c ++ (32 ∷ (d ++ (32 ∷ (e ++ r)))))))))
+five_before a b c d e r = spaced_on a _ r _ (spaced_on b _ r _ (spaced_on c _ r _ (spaced_on d _ r _ refl)))
 
-five_on : (a b c d e r : Text) → five a b c d e [] ++ r ≡ five a b c d e r
-five_on a b c d e r = spaced_on a _ r _ (spaced_on b _ r _ (spaced_on c _ r _ (spaced_on d _ r _ (spaced_on e [] r r refl))))
-
--- what stands before a rest is the same, whatever follows
-five_cut : (a b c d e r q tail : Text) → tail ++ r ≡ five a b c d e r → tail ++ q ≡ five a b c d e q
-five_cut a b c d e r q tail h =
-    ap (λ (x : Text). x ++ q) (append_cancel_right tail (five a b c d e []) r (h ∙ sym (five_on a b c d e r))) ∙ five_on a b c d e q
+-- what is copied before a rest
+pub some_copied : (t : Text) (cut : Option Cut) (q : Text) → KeptTail t cut q → (copied : Text) × Copies t cut q copied
+some_copied t cut q l =
+    (five (name_text l.hostname) (name_text l.appname) (process_text l.procid) (name_text l.msgid) (elements_text l.elements), l.copies)
 
 pub composes : (pri : ℕ) → pri < 192 → option_map_or facility_number (facility_of pri) 5 * 8 + option_map_or severity_number (severity_of pri) 7 ≡ pri
 composes pri small =
@@ -153,21 +217,32 @@ before_zone t b c zone d is_zulu k s z =
     let p = k.is.piece in
     (p ++ (32 ∷ z.copied), k.is.whole ∙ ap (λ (x : Text). p ++ x) (s.whole ∙ ap (λ (x : Text). 32 ∷ x) z.whole) ∙ sym (append_assoc p (32 ∷ z.copied) zone))
 
-module _ (t b c zone d n o front tail : Text) (is_zulu : Bool) (k : KeptFront t b) (s : Space b c) (z : IsKeptStamp c zone is_zulu d)
-    (l : KeptTail d n) (g : Front (run is_blank) n o tt) (cut : t ≡ front ++ zone) (cut' : d ≡ tail ++ n) where
+module _ (t b c zone d n o front tail more : Text) (is_zulu : Bool) (left : Option Cut) (k : KeptFront t b) (s : Space b c)
+    (z : IsKeptStamp c zone is_zulu d) (l : KeptTail d left n) (g : Front (run is_blank) n o tt) (cut : t ≡ front ++ zone)
+    (parts : (copied : Text) → Copies d left n copied → copied ≡ tail ++ more) where
   abbrev names : Text
-  names = five (name_text l.hostname) (name_text l.appname) (process_text l.procid) (name_text l.msgid) (elements_text l.elements) (32 ∷ o)
+  names = five (name_text l.hostname) (name_text l.appname) (process_text l.procid) (name_text l.msgid) (elements_text l.elements)
 
-  tail_is : tail ++ (32 ∷ o) ≡ names
-  tail_is = five_cut (name_text l.hostname) (name_text l.appname) (process_text l.procid) (name_text l.msgid) (elements_text l.elements) n (32 ∷ o) tail (sym cut' ∙ l.whole)
+  abbrev behind : Text
+  behind = tail ++ (more ++ (32 ∷ o))
 
-  stamp_is : timestamp_text z.value ++ names ≡ z.copied ++ (zone_text is_zulu ++ (tail ++ (32 ∷ o)))
+  tail_is : behind ≡ names ++ (32 ∷ o)
+  tail_is = sym (append_assoc tail more (32 ∷ o)) ∙ ap (λ (x : Text). x ++ (32 ∷ o)) (sym (parts names l.copies))
+
+  stamp_is : timestamp_text z.value ++ (names ++ (32 ∷ o)) ≡ z.copied ++ (zone_text is_zulu ++ behind)
   stamp_is =
       ap₂ (λ (x y : Text). x ++ y) (stamp_prints z.value (z.copied ++ zone_text is_zulu) z.prints) (sym tail_is)
-      ∙ append_assoc z.copied (zone_text is_zulu) (tail ++ (32 ∷ o))
+      ∙ append_assoc z.copied (zone_text is_zulu) behind
+
+  names_are : timestamp_text z.value ++ (32 ∷ (name_text l.hostname ++ (32 ∷ (name_text l.appname ++ (32 ∷ (process_text l.procid
+      ++ (32 ∷ (name_text l.msgid ++ (32 ∷ (elements_text l.elements ++ (32 ∷ o)))))))))) ≡ z.copied ++ (zone_text is_zulu ++ behind)
+  names_are =
+      ap (λ (x : Text). timestamp_text z.value ++ x)
+      (sym (five_before (name_text l.hostname) (name_text l.appname) (process_text l.procid) (name_text l.msgid) (elements_text l.elements) (32 ∷ o)))
+      ∙ stamp_is
 
   -- the whole line
-  pub line_kept : PrintsKept t front is_zulu tail o
+  pub line_kept : PrintsKept t front is_zulu tail more o
   unfolding printed_5424
   line_kept = record {
     values = (Some k.pri, (k.version, (tt, (z.value, (tt, (l.hostname, (tt, (l.appname, (tt, (l.procid, (tt, (l.msgid, (tt, (l.elements, (tt, (o, tt))))))))))))))));
@@ -176,8 +251,8 @@ module _ (t b c zone d n o front tail : Text) (is_zulu : Bool) (k : KeptFront t 
         (row_cons header_stamp (tail_row ++ (run is_blank ∷ rest ∷ [])) z.is
         (rows_join tail_row (run is_blank ∷ rest ∷ []) l.is
         (row_cons (run is_blank) (rest ∷ []) g (row_cons rest [] (rest_front o) (row_nil []))))));
-    prints = ap₂ (λ (x : ℕ) (y : Text). 60 ∷ (decimal x ++ (62 ∷ (decimal k.version ++ (32 ∷ y))))) (composes k.pri k.composes) stamp_is
-        ∙ front_prints t b c z.copied zone front (zone_text is_zulu ++ (tail ++ (32 ∷ o))) k.pri k.version cut k.whole s.whole z.whole;
+    prints = ap₂ (λ (x : ℕ) (y : Text). 60 ∷ (decimal x ++ (62 ∷ (decimal k.version ++ (32 ∷ y))))) (composes k.pri k.composes) names_are
+        ∙ front_prints t b c z.copied zone front (zone_text is_zulu ++ behind) k.pri k.version cut k.whole s.whole z.whole;
   }
 
 zone_bytes : (is_zulu : Bool) → encode_utf8_all (zone_text is_zulu) ≡ zone_text is_zulu
@@ -186,15 +261,18 @@ zone_bytes true = refl
 zone_bytes false = refl
 
 -- what is written of such a line, by bytes
-pub line_bytes : (front tail msg : List ℕ) (is_zulu : Bool) → IsUtf8 front → IsUtf8 tail → IsUtf8 msg
-    → front ++ (zone_text is_zulu ++ (tail ++ (32 ∷ msg))) ≡ encode_utf8_all (chars front ++ (zone_text is_zulu ++ (chars tail ++ (32 ∷ chars msg))))
+pub line_bytes : (front tail more msg : List ℕ) (is_zulu : Bool) → IsUtf8 front → IsUtf8 tail → IsUtf8 more → IsUtf8 msg
+    → front ++ (zone_text is_zulu ++ (tail ++ (more ++ (32 ∷ msg))))
+    ≡ encode_utf8_all (chars front ++ (zone_text is_zulu ++ (chars tail ++ (chars more ++ (32 ∷ chars msg)))))
 unfolding encode_utf8
-line_bytes front tail msg is_zulu u v w =
-    sym (encodes-append (chars front) (zone_text is_zulu ++ (chars tail ++ (32 ∷ chars msg)))
+line_bytes front tail more msg is_zulu u v w x =
+    sym (encodes-append (chars front) (zone_text is_zulu ++ (chars tail ++ (chars more ++ (32 ∷ chars msg))))
     ∙ ap₂ (λ (x y : List ℕ). x ++ y) (encodes-chars front u)
-    (encodes-append (zone_text is_zulu) (chars tail ++ (32 ∷ chars msg))
+    (encodes-append (zone_text is_zulu) (chars tail ++ (chars more ++ (32 ∷ chars msg)))
     ∙ ap₂ (λ (x y : List ℕ). x ++ y) (zone_bytes is_zulu)
-    (encodes-append (chars tail) (32 ∷ chars msg) ∙ ap₂ (λ (x y : List ℕ). x ++ (32 ∷ y)) (encodes-chars tail v) (encodes-chars msg w))))
+    (encodes-append (chars tail) (chars more ++ (32 ∷ chars msg))
+    ∙ ap₂ (λ (x y : List ℕ). x ++ y) (encodes-chars tail v)
+    (encodes-append (chars more) (32 ∷ chars msg) ∙ ap₂ (λ (x y : List ℕ). x ++ (32 ∷ y)) (encodes-chars more w) (encodes-chars msg x)))))
 
 -- ---- by a variant that reads RFC 5424
 
