@@ -2,6 +2,7 @@
 use Rattle.std.proofs.Common.{◌≡◌, ℕ, ◌+◌, ◌*◌, ◌<◌, List, [], ◌∷◌, ◌++◌, Bool, true, false, Option, None, Some, Result, Ok, Err, inl, refl, sym, ap, ap₂, subst, ◌∙◌, append_assoc, append-nil}
 use Rattle.std.proofs.lemmas.List.{append_cancel_right}
 use Rattle.std.proofs.lemmas.Str.{encodes-append, encodes-chars}
+use Rattle.std.specs.Borrow.{Bor}
 use Rattle.std.specs.Char.{encode_utf8}
 use Rattle.std.specs.Str.{chars, IsUtf8, encode_utf8_all}
 use Rattle.std.specs.Fmt.{decimal}
@@ -10,6 +11,7 @@ use Rattle.syslog_pieces.specs.Bodies.Kept.{Copies, CopiedOn}
 use Rattle.syslog_pieces.specs.Bodies.KeptStamp.{zone_text, IsKeptStamp}
 use Rattle.syslog_pieces.specs.Pieces.Class.{Text, Class, Front, run, some_run, optional, rest}
 use Rattle.syslog_pieces.specs.Pieces.Kept.{Kept}
+use Rattle.syslog_pieces.specs.Pieces.View.{seen}
 use Rattle.syslog_pieces.specs.Pri.{priority, priority_text, facility_of, severity_of, facility_number, severity_number}
 use Rattle.syslog_pieces.specs.declared.text.kept.Cut.{Cut}
 use Rattle.syslog_pieces.specs.declared.pri.SyslogFacility.{SyslogFacility}
@@ -28,11 +30,11 @@ use Rattle.syslog_pieces.proofs.TextLemmas.Copied.{extended}
 use Rattle.syslog_loose.proofs.ReadingLemmas.{only_read}
 use Rattle.syslog_loose.proofs.Rfc3164Lemmas.Apart.{shown_apart}
 use Rattle.syslog_loose.proofs.Rfc3164Lemmas.Shown.{shows_month_date}
-use Rattle.syslog_loose.specs.KeptLine.{front_row, tail_row, KeptFront, KeptTail, PrintsKept, PrintsAs}
+use Rattle.syslog_loose.specs.KeptLine.{front_row, tail_row, spaced, bytes_of, KeptFront, KeptTail, KeptEnd, PrintsKept, PrintsAs}
 use Rattle.syslog_loose.specs.Message.{MessageValue}
 use Rattle.syslog_loose.specs.Printed.{printed, printed_5424, timestamp_text}
 use Rattle.syslog_loose.specs.Rfc5424.{message_of, IsRead5424, IsNot5424}
-use Rattle.std.specs.Prelude.{IfOk, IsTrue, MatchOption}
+use Rattle.std.specs.Prelude.{IfOk, IfSome, IsTrue, MatchOption}
 use Rattle.std.specs.declared.alloc.AllocError.{AllocError}
 use Rattle.syslog_loose.specs.declared.variant.Variant.{Variant}
 use Rattle.syslog_loose.specs.declared.variant.Variant.TheVariants.{Either, RFC5424}
@@ -44,9 +46,13 @@ Space t u = Kept (some_run is_blank) (λ _. 32 ∷ []) t u
 abbrev Gap : Text → Option Cut → Text → Option Cut → Type 0
 Gap t x u y = CopiedOn (some_run is_blank) (λ _. 32 ∷ []) t x u y
 
--- as a run that may be empty
-gap : (t u : Text) (x y : Option Cut) → Gap t x u y → Front (run is_blank) t u tt
-gap t u x y k = record { piece = k.is.piece; whole = k.is.whole; is = (k.is.is.1, k.is.is.2) }
+-- a gap, as a run that may be empty
+gap_run : (t u : Text) (x y : Option Cut) → Gap t x u y → Front (run is_blank) t u tt
+gap_run t u x y k = record { piece = k.is.piece; whole = k.is.whole; is = (k.is.is.1, k.is.is.2) }
+
+-- one space, as a run that may be empty
+gap : (t u : Text) → Space t u → Front (run is_blank) t u tt
+gap t u k = record { piece = 32 ∷ []; whole = k.whole; is = (k.is.1, k.is.2) }
 
 pub front_kept : (t a b : Text) → (k : Kept priority priority_text t a) → k.value < 192 → Kept (number 4294967295) decimal a b → KeptFront t b
 front_kept t a b k small v = record {
@@ -168,7 +174,7 @@ module _ (t a b c d e f g h i q : Text) (x1 x2 x3 x4 x5 x6 : Option Cut)
         (row_cons process_word from_gap4 (front_of process_word process_text e f k3)
         (row_cons (some_run is_blank) from_msgid s4.is
         (row_cons word from_gap5 (front_of word name_text g h k4)
-        (row_cons (run is_blank) from_list (gap h i x4 x5 s5)
+        (row_cons (run is_blank) from_list (gap_run h i x4 x5 s5)
         (row_cons forgiving [] k5.is (row_nil q))))))))));
     copies = subst (λ (p : Text). Copies t x6 q p) in_order up_to_list;
   }
@@ -186,13 +192,20 @@ pub some_copied : (t : Text) (cut : Option Cut) (q : Text) → KeptTail t cut q 
 some_copied t cut q l =
     (five (name_text l.hostname) (name_text l.appname) (process_text l.procid) (name_text l.msgid) (elements_text l.elements), l.copies)
 
+-- where what is left out is passed over
+abbrev Passes : Text → Option Cut → Text → Text → Text → Type 0
+Passes t cut q head start = (copied : Text) → Copies t cut q copied → (behind : Text) × (start ≡ behind ++ q) × (copied ≡ head ++ behind)
+
+pub some_behind : (t : Text) (cut : Option Cut) (q head start : Text) → KeptTail t cut q → Passes t cut q head start → (front : Text) × (start ≡ front ++ q)
+some_behind t cut q head start l p = let c = some_copied t cut q l in let r = p c.0 c.1 in (r.0, r.1)
+
 pub composes : (pri : ℕ) → pri < 192 → option_map_or facility_number (facility_of pri) 5 * 8 + option_map_or severity_number (severity_of pri) 7 ≡ pri
 composes pri small =
     let c = priority_composed pri small in
     ap₂ (λ (x : Option SyslogFacility) (y : Option SyslogSeverity). option_map_or facility_number x 5 * 8 + option_map_or severity_number y 7) c.2 c.3 ∙ c.4
 
 -- the printed timestamp is what is copied of it, and what stands in place of a `Z`
-stamp_prints : (value : Option OffsetTimestamp) (text : Text)
+pub stamp_prints : (value : Option OffsetTimestamp) (text : Text)
     → MatchOption value (text ≡ dash) (λ s. text ≡ printed_stamp s.instant.nanosecond s.offset.seconds) → timestamp_text value ≡ text
 stamp_prints None text h = sym h
 stamp_prints (Some s) text h = sym h
@@ -217,32 +230,46 @@ before_zone t b c zone d is_zulu k s z =
     let p = k.is.piece in
     (p ++ (32 ∷ z.copied), k.is.whole ∙ ap (λ (x : Text). p ++ x) (s.whole ∙ ap (λ (x : Text). 32 ∷ x) z.whole) ∙ sym (append_assoc p (32 ∷ z.copied) zone))
 
-module _ (t b c zone d n o front tail more : Text) (is_zulu : Bool) (left : Option Cut) (k : KeptFront t b) (s : Space b c)
-    (z : IsKeptStamp c zone is_zulu d) (l : KeptTail d left n) (g : Front (run is_blank) n o tt) (cut : t ≡ front ++ zone)
-    (parts : (copied : Text) → Copies d left n copied → copied ≡ tail ++ more) where
+-- a message behind one space is copied with what stands before it
+pub whole_end : (text rest msg : Text) → (front : Text) × (text ≡ front ++ rest) → Space rest msg → KeptEnd text rest text None
+whole_end text rest msg (front, e) s = record {
+  names = front;
+  message = msg;
+  whole = e;
+  gap = gap rest msg s;
+  ends = append-nil text ∙ e ∙ ap (λ (x : Text). front ++ x) s.whole;
+}
+
+module _ (t b c zone d n front head start end : Text) (left : Option Cut) (msg : Option Text) (is_zulu : Bool) (k : KeptFront t b) (s : Space b c)
+    (z : IsKeptStamp c zone is_zulu d) (l : KeptTail d left n) (parts : Passes d left n head start) (e : KeptEnd start n end msg) (cut : t ≡ front ++ zone) where
+  abbrev o : Text
+  o = e.message
+
+  abbrev tail : Text
+  tail = head ++ e.names
+
   abbrev names : Text
-  names = five (name_text l.hostname) (name_text l.appname) (process_text l.procid) (name_text l.msgid) (elements_text l.elements)
+  names = 32 ∷ (name_text l.hostname ++ (32 ∷ (name_text l.appname ++ (32 ∷ (process_text l.procid
+      ++ (32 ∷ (name_text l.msgid ++ (32 ∷ (elements_text l.elements ++ (32 ∷ o)))))))))
 
-  abbrev behind : Text
-  behind = tail ++ (more ++ (32 ∷ o))
+  tail_is : tail ++ (32 ∷ o) ≡ names
+  tail_is =
+      let c = some_copied d left n l in
+      let p = parts c.0 c.1 in
+      ap (λ (x : Text). (head ++ x) ++ (32 ∷ o)) (append_cancel_right e.names p.0 n (sym e.whole ∙ p.1))
+      ∙ ap (λ (x : Text). x ++ (32 ∷ o)) (sym p.2)
+      ∙ five_before (name_text l.hostname) (name_text l.appname) (process_text l.procid) (name_text l.msgid) (elements_text l.elements) (32 ∷ o)
 
-  tail_is : behind ≡ names ++ (32 ∷ o)
-  tail_is = sym (append_assoc tail more (32 ∷ o)) ∙ ap (λ (x : Text). x ++ (32 ∷ o)) (sym (parts names l.copies))
+  end_is : tail ++ (32 ∷ o) ≡ head ++ (end ++ spaced msg)
+  end_is = append_assoc head e.names (32 ∷ o) ∙ ap (λ (x : Text). head ++ x) (sym e.ends)
 
-  stamp_is : timestamp_text z.value ++ (names ++ (32 ∷ o)) ≡ z.copied ++ (zone_text is_zulu ++ behind)
+  stamp_is : timestamp_text z.value ++ names ≡ z.copied ++ (zone_text is_zulu ++ (tail ++ (32 ∷ o)))
   stamp_is =
       ap₂ (λ (x y : Text). x ++ y) (stamp_prints z.value (z.copied ++ zone_text is_zulu) z.prints) (sym tail_is)
-      ∙ append_assoc z.copied (zone_text is_zulu) behind
-
-  names_are : timestamp_text z.value ++ (32 ∷ (name_text l.hostname ++ (32 ∷ (name_text l.appname ++ (32 ∷ (process_text l.procid
-      ++ (32 ∷ (name_text l.msgid ++ (32 ∷ (elements_text l.elements ++ (32 ∷ o)))))))))) ≡ z.copied ++ (zone_text is_zulu ++ behind)
-  names_are =
-      ap (λ (x : Text). timestamp_text z.value ++ x)
-      (sym (five_before (name_text l.hostname) (name_text l.appname) (process_text l.procid) (name_text l.msgid) (elements_text l.elements) (32 ∷ o)))
-      ∙ stamp_is
+      ∙ append_assoc z.copied (zone_text is_zulu) (tail ++ (32 ∷ o))
 
   -- the whole line
-  pub line_kept : PrintsKept t front is_zulu tail more o
+  pub line_kept : PrintsKept t front is_zulu (head ++ (end ++ spaced msg))
   unfolding printed_5424
   line_kept = record {
     values = (Some k.pri, (k.version, (tt, (z.value, (tt, (l.hostname, (tt, (l.appname, (tt, (l.procid, (tt, (l.msgid, (tt, (l.elements, (tt, (o, tt))))))))))))))));
@@ -250,29 +277,34 @@ module _ (t b c zone d n o front tail more : Text) (is_zulu : Bool) (left : Opti
         (row_cons (some_run is_blank) (header_stamp ∷ (tail_row ++ (run is_blank ∷ rest ∷ []))) (front_of (some_run is_blank) (λ _. 32 ∷ []) b c s)
         (row_cons header_stamp (tail_row ++ (run is_blank ∷ rest ∷ [])) z.is
         (rows_join tail_row (run is_blank ∷ rest ∷ []) l.is
-        (row_cons (run is_blank) (rest ∷ []) g (row_cons rest [] (rest_front o) (row_nil []))))));
-    prints = ap₂ (λ (x : ℕ) (y : Text). 60 ∷ (decimal x ++ (62 ∷ (decimal k.version ++ (32 ∷ y))))) (composes k.pri k.composes) names_are
-        ∙ front_prints t b c z.copied zone front (zone_text is_zulu ++ behind) k.pri k.version cut k.whole s.whole z.whole;
+        (row_cons (run is_blank) (rest ∷ []) e.gap (row_cons rest [] (rest_front o) (row_nil []))))));
+    prints = ap₂ (λ (x : ℕ) (y : Text). 60 ∷ (decimal x ++ (62 ∷ (decimal k.version ++ (32 ∷ y))))) (composes k.pri k.composes) stamp_is
+        ∙ front_prints t b c z.copied zone front (zone_text is_zulu ++ (tail ++ (32 ∷ o))) k.pri k.version cut k.whole s.whole z.whole
+        ∙ ap (λ (x : Text). front ++ (zone_text is_zulu ++ x)) end_is;
   }
 
-zone_bytes : (is_zulu : Bool) → encode_utf8_all (zone_text is_zulu) ≡ zone_text is_zulu
+pub zone_bytes : (is_zulu : Bool) → encode_utf8_all (zone_text is_zulu) ≡ zone_text is_zulu
 unfolding encode_utf8
 zone_bytes true = refl
 zone_bytes false = refl
 
--- what is written of such a line, by bytes
-pub line_bytes : (front tail more msg : List ℕ) (is_zulu : Bool) → IsUtf8 front → IsUtf8 tail → IsUtf8 more → IsUtf8 msg
-    → front ++ (zone_text is_zulu ++ (tail ++ (more ++ (32 ∷ msg))))
-    ≡ encode_utf8_all (chars front ++ (zone_text is_zulu ++ (chars tail ++ (chars more ++ (32 ∷ chars msg)))))
+end_bytes : (tail : List ℕ) (msg : Option (Bor (List ℕ))) → IsUtf8 tail → IfSome msg (λ m. IsUtf8 m.now)
+    → tail ++ spaced (bytes_of msg) ≡ encode_utf8_all (chars tail ++ spaced (seen msg))
 unfolding encode_utf8
-line_bytes front tail more msg is_zulu u v w x =
-    sym (encodes-append (chars front) (zone_text is_zulu ++ (chars tail ++ (chars more ++ (32 ∷ chars msg))))
-    ∙ ap₂ (λ (x y : List ℕ). x ++ y) (encodes-chars front u)
-    (encodes-append (zone_text is_zulu) (chars tail ++ (chars more ++ (32 ∷ chars msg)))
-    ∙ ap₂ (λ (x y : List ℕ). x ++ y) (zone_bytes is_zulu)
-    (encodes-append (chars tail) (chars more ++ (32 ∷ chars msg))
-    ∙ ap₂ (λ (x y : List ℕ). x ++ y) (encodes-chars tail v)
-    (encodes-append (chars more) (32 ∷ chars msg) ∙ ap₂ (λ (x y : List ℕ). x ++ (32 ∷ y)) (encodes-chars more w) (encodes-chars msg x)))))
+end_bytes tail None v w = append-nil tail ∙ sym (ap encode_utf8_all (append-nil (chars tail)) ∙ encodes-chars tail v)
+end_bytes tail (Some m) v w =
+    sym (encodes-append (chars tail) (32 ∷ chars m.now) ∙ ap₂ (λ (x y : List ℕ). x ++ (32 ∷ y)) (encodes-chars tail v) (encodes-chars m.now w))
+
+-- what is written of such a line, by bytes
+pub line_bytes : (front head tail : List ℕ) (msg : Option (Bor (List ℕ))) (is_zulu : Bool) → IsUtf8 front → IsUtf8 head → IsUtf8 tail → IfSome msg (λ m. IsUtf8 m.now)
+    → front ++ (zone_text is_zulu ++ (head ++ (tail ++ spaced (bytes_of msg))))
+    ≡ encode_utf8_all (chars front ++ (zone_text is_zulu ++ (chars head ++ (chars tail ++ spaced (seen msg)))))
+line_bytes front head tail msg is_zulu u h v w =
+    let behind = chars tail ++ spaced (seen msg) in
+    ap₂ (λ (x y : List ℕ). x ++ y) (sym (encodes-chars front u)) (ap₂ (λ (x y : List ℕ). x ++ y) (sym (zone_bytes is_zulu))
+    (ap₂ (λ (x y : List ℕ). x ++ y) (sym (encodes-chars head h)) (end_bytes tail msg v w) ∙ sym (encodes-append (chars head) behind))
+    ∙ sym (encodes-append (zone_text is_zulu) (chars head ++ behind)))
+    ∙ sym (encodes-append (chars front) (zone_text is_zulu ++ (chars head ++ behind)))
 
 -- ---- by a variant that reads RFC 5424
 

@@ -1,5 +1,5 @@
 -- Lines of RFC 3164 that print as they are written but for their timestamp, put together from their pieces.
-use Rattle.std.proofs.Common.{◌≡◌, ◌≢◌, ℕ, ℤ, ◌<◌, not, nat_eq, List, [], ◌∷◌, ◌++◌, length, Option, Some, None, IfSome, inl, inr, refl, sym, ap, ap₂, subst, ◌∙◌, arith, append_assoc, append-nil}
+use Rattle.std.proofs.Common.{◌≡◌, ◌≢◌, ℕ, ℤ, ◌<◌, Bool, not, nat_eq, List, [], ◌∷◌, ◌++◌, length, Option, Some, None, IfSome, inl, inr, refl, sym, ap, ap₂, subst, ◌∙◌, arith, append_assoc, append-nil}
 use Rattle.std.proofs.lemmas.List.{append_cancel_right}
 use Rattle.std.proofs.lemmas.Str.{encodes-append, encodes-chars}
 use Rattle.std.specs.Char.{encode_utf8, is_ascii_digit}
@@ -7,6 +7,7 @@ use Rattle.std.specs.Fmt.{decimal}
 use Rattle.std.specs.Prelude.{MatchOption, IsSomeAnd}
 use Rattle.std.specs.Str.{chars, IsUtf8, IsAscii, encode_utf8_all}
 use Rattle.syslog_pieces.specs.Bodies.Kept.{KeptDigits}
+use Rattle.syslog_pieces.specs.Bodies.KeptStamp.{zone_text, IsKeptStamp}
 use Rattle.syslog_pieces.specs.Bodies.Scan.{SplitsRun}
 use Rattle.syslog_pieces.specs.Pieces.Class.{Text, Values, Front, NoFront, Row, Each, Ends, run, some_run, exactly, optional, spaced, rest}
 use Rattle.syslog_pieces.specs.Pieces.Kept.{Kept}
@@ -15,6 +16,7 @@ use Rattle.syslog_pieces.specs.ProcId.{NamesProcess, procid_text, IsBoundedProce
 use Rattle.syslog_pieces.specs.StructuredData.Listed.{listed}
 use Rattle.syslog_pieces.specs.Text.{trimmed, is_blank, is_tag_char, dash, colon, host, tag_word, name_text}
 use Rattle.syslog_pieces.specs.Text.CharClass.{is_label_char}
+use Rattle.syslog_pieces.specs.Timestamp.{header_stamp}
 use Rattle.syslog_pieces.specs.Timestamp.Loose.{loose_stamp, showing_row, ShowsYearless}
 use Rattle.syslog_pieces.specs.Timestamp.MonthDate.{yearless_date}
 use Rattle.syslog_pieces.specs.Timestamp.Plain.{IsPlainStamp}
@@ -24,6 +26,7 @@ use Rattle.syslog_pieces.specs.declared.procid.ProcId.TheVariants.{PID, Name}
 use Rattle.syslog_pieces.specs.Timestamp.Printed.{printed_stamp}
 use Rattle.syslog_pieces.specs.declared.timestamp.OffsetTimestamp.{OffsetTimestamp}
 use Rattle.syslog_pieces.proofs.TimestampLemmas.Printing.{printed_stamp-bytes}
+use Rattle.syslog_pieces.proofs.TimestampLemmas.RoundTrip.{stamp_text-plain}
 use Rattle.syslog_pieces.specs.declared.timestamp.month_date.MonthDate.{MonthDate}
 use Rattle.syslog_pieces.proofs.PieceLemmas.Class.{row_nil, row_cons, rest_front, front_division, optional_some, optional_none}
 use Rattle.syslog_pieces.proofs.PieceLemmas.Kept.{front_of}
@@ -32,7 +35,7 @@ use Rattle.syslog_pieces.proofs.StructuredDataLemmas.Listed.{begins_no_list}
 use Rattle.syslog_pieces.proofs.TextLemmas.Chars.{chars_nonempty, ascii_plain, one_ascii}
 use Rattle.syslog_pieces.proofs.TextLemmas.ReadBack.{host_plain}
 use Rattle.syslog_loose.specs.Canonical.{is_process_char, IsBracketedProcess, IsLoneTag, ArePlainNames}
-use Rattle.syslog_loose.specs.KeptLoose.{program_text, KeptOrigin, KeptProgram, KeptNames, KeptBehind, ShowsDated, PrintsLoosely, PrintsFreely}
+use Rattle.syslog_loose.specs.KeptLoose.{program_text, KeptOrigin, KeptProgram, KeptNames, KeptBehind, ShowsDated, PrintsLoosely, PrintsStamped, PrintsFreely}
 use Rattle.syslog_loose.specs.Message.{MessageValue}
 use Rattle.syslog_loose.specs.Printed.{timestamp_text, printed_3164}
 use Rattle.syslog_loose.specs.ReadBack.{ReadsProtocol}
@@ -41,7 +44,7 @@ use Rattle.syslog_loose.specs.Rfc3164.{names, body_row, rfc3164_row, IsRead3164}
 use Rattle.syslog_loose.specs.declared.message.Protocol.TheVariants as protocol
 use Rattle.syslog_loose.specs.declared.variant.Variant.{Variant}
 use Rattle.syslog_loose.specs.declared.variant.Variant.TheVariants.{Either, RFC3164, RFC5424}
-use Rattle.syslog_loose.proofs.KeptLineLemmas.{composes}
+use Rattle.syslog_loose.proofs.KeptLineLemmas.{composes, stamp_prints, zone_bytes}
 use Rattle.syslog_loose.proofs.ReadingLemmas.{answered_to}
 use Rattle.syslog_loose.proofs.Rfc3164Lemmas.Apart.{not_both}
 use Rattle.syslog_loose.proofs.Rfc3164Lemmas.Misses.{no_dash_host, no_colon_host, no_colon_names}
@@ -189,6 +192,24 @@ pub line_kept : (dating : Dating) (t b d front tail : Text) (stamp : Option Offs
     → IfSome stamp IsPlainStamp → KeptBehind tail → t ≡ front ++ b → PrintsLoosely dating t front stamp tail
 line_kept dating t b d front tail stamp k small gap s plain h cut = loosely_kept dating t b d front tail h.msg stamp k small gap s plain h.names h.no_list cut
 
+-- a timestamp of RFC 3339 is read back from print
+header_plain : (p q : Text) (v : Option OffsetTimestamp) → header_stamp.Is p q v → IfSome v IsPlainStamp
+header_plain p q None h = tt
+header_plain p q (Some s) h = stamp_text-plain p s h.0
+
+-- the same, where the timestamp prints as it is written
+pub stamped_kept : (dating : Dating) (t b d zone front stamp tail : Text) (is_zulu : Bool) (k : Kept priority priority_text t b) → k.value < 192
+    → Front (run is_blank) b d tt → IsKeptStamp d zone is_zulu tail → KeptBehind tail → t ≡ front ++ b → d ≡ stamp ++ zone → PrintsStamped dating t front stamp is_zulu tail
+stamped_kept dating t b d zone front stamp tail is_zulu k small gap z h cut cut' =
+    let f = z.is in
+    let s : Front (loose_stamp dating) d tail z.value = record { piece = f.piece; whole = f.whole; is = inl f.is } in
+    let same : z.copied ≡ stamp = append_cancel_right z.copied stamp zone (sym z.whole ∙ cut') in
+    record {
+      value = z.value;
+      loosely = line_kept dating t b d front tail z.value k small gap s (header_plain f.piece tail z.value f.is) h cut;
+      stamped = stamp_prints z.value (z.copied ++ zone_text is_zulu) z.prints ∙ ap (λ (x : Text). x ++ zone_text is_zulu) same;
+    }
+
 -- a line that shows a date has the timestamp of the date
 pub dated_kept : (dating : Dating) (variant : Variant) (text front : Text) (date : MonthDate) (tail : Text) (stamp : OffsetTimestamp) → ShowsDated variant text front date tail → IsMonthStamp dating date stamp
     → IsPlainStamp stamp → KeptBehind tail → PrintsLoosely dating (trimmed text) front (Some stamp) tail
@@ -249,6 +270,15 @@ loose_bytes front stamp tail u v =
     sym (encodes-append (chars front) (32 ∷ (stamp ++ chars tail))
     ∙ ap₂ (λ (x y : List ℕ). x ++ (32 ∷ y)) (encodes-chars front u)
     (encodes-append stamp (chars tail) ∙ ap (λ (x : List ℕ). encode_utf8_all stamp ++ x) (encodes-chars tail v)))
+
+-- and of one whose timestamp prints as it is written
+pub stamped_bytes : (front stamp tail : List ℕ) (value : Text) (is_zulu : Bool) → IsUtf8 front → IsUtf8 stamp → IsUtf8 tail → value ≡ chars stamp ++ zone_text is_zulu
+    → front ++ ((32 ∷ stamp) ++ (zone_text is_zulu ++ tail)) ≡ encode_utf8_all (chars front ++ (32 ∷ (value ++ chars tail)))
+stamped_bytes front stamp tail value is_zulu u v w e =
+    let text : encode_utf8_all value ≡ stamp ++ zone_text is_zulu =
+    ap encode_utf8_all e ∙ encodes-append (chars stamp) (zone_text is_zulu) ∙ ap₂ (λ (x y : List ℕ). x ++ y) (encodes-chars stamp v) (zone_bytes is_zulu) in
+    ap (λ (x : List ℕ). front ++ (32 ∷ x)) (sym (append_assoc stamp (zone_text is_zulu) tail) ∙ ap (λ (x : List ℕ). x ++ tail) (sym text))
+    ∙ loose_bytes front value tail u w
 
 -- what is written of a timestamp that prints so
 pub stamp_bytes : (stamp : OffsetTimestamp) (text : List ℕ) → text ≡ 32 ∷ printed_stamp stamp.instant.nanosecond stamp.offset.seconds → text ≡ 32 ∷ encode_utf8_all (timestamp_text (Some stamp))

@@ -1,7 +1,9 @@
 -- Lines of RFC 5424 that print as they are written, but for the `Z` of their timestamp and one piece that is left out.
 -- (Words of the bodies alone.)
-use Rattle.std.specs.Prelude.{◌≡◌, ℕ, ◌<◌, List, [], ◌∷◌, ◌++◌, Bool, Option, Some}
+use Rattle.std.specs.Prelude.{◌≡◌, ℕ, ◌<◌, List, [], ◌∷◌, ◌++◌, Bool, Option, None, Some}
+use Rattle.std.specs.Borrow.{Bor}
 use Rattle.std.specs.Fmt.{decimal}
+use Rattle.std.specs.Option.{option_map}
 use Rattle.std.specs.Str.{encode_utf8_all}
 use Rattle.syslog_pieces.specs.Bodies.Kept.{Copies}
 use Rattle.syslog_pieces.specs.Bodies.KeptStamp.{zone_text}
@@ -50,11 +52,28 @@ pub record KeptTail (text : Text) (cut : Option Cut) (follows : Text) : Type 0 w
   pub copies : Copies text cut follows (32 ∷ (name_text hostname ++ (32 ∷ (name_text appname ++ (32 ∷ (process_text procid
       ++ (32 ∷ (name_text msgid ++ (32 ∷ elements_text elements)))))))))
 
+-- a space and a message, or nothing
+abbrev pub spaced : Option Text → Text
+spaced None = []
+spaced (Some t) = 32 ∷ t
+
+-- the bytes of an optional slice
+abbrev pub bytes_of : Option (Bor (List ℕ)) → Option (List ℕ)
+bytes_of s = option_map (λ t. t.now) s
+
+-- the text is the names and the rest, a message behind blanks; the tail and the message are the names, a space and the message
+pub record KeptEnd (text follows tail : Text) (msg : Option Text) : Type 0 where
+  pub names : Text
+  pub message : Text
+  pub whole : text ≡ names ++ follows
+  pub gap : Front (run is_blank) follows message tt
+  pub ends : tail ++ spaced msg ≡ names ++ (32 ∷ message)
+
 -- the text is a row of the sixteen pieces, whose message prints as these texts, with `+00:00` in place of a `Z`
-pub record PrintsKept (text front : Text) (is_zulu : Bool) (tail more msg : Text) : Type 0 where
+pub record PrintsKept (text front : Text) (is_zulu : Bool) (end : Text) : Type 0 where
   pub values : Values rfc5424_row
   pub is : Front (Row rfc5424_row) text [] values
-  pub prints : printed (message_of values) ≡ front ++ (zone_text is_zulu ++ (tail ++ (more ++ (32 ∷ msg))))
+  pub prints : printed (message_of values) ≡ front ++ (zone_text is_zulu ++ end)
 
 -- the text is read by the variant as one message, by RFC 5424 and so in whatever year, and these bytes are its printed text
 pub record PrintsAs (variant : Variant) (text : Text) (bytes : List ℕ) : Type 0 where

@@ -1,6 +1,7 @@
 -- Lines of RFC 3164 that print as they are written, but for their timestamp. (Words of the bodies alone.)
-use Rattle.std.specs.Prelude.{◌≡◌, ℕ, ◌<◌, List, [], ◌∷◌, ◌++◌, Option, Some, None, IfSome}
+use Rattle.std.specs.Prelude.{◌≡◌, ℕ, ◌<◌, List, [], ◌∷◌, ◌++◌, Bool, Option, Some, None, IfSome}
 use Rattle.std.specs.Str.{encode_utf8_all}
+use Rattle.syslog_pieces.specs.Bodies.KeptStamp.{zone_text}
 use Rattle.syslog_pieces.specs.Pieces.Class.{Text, Ends, Front, NoFront, Row, Values, run}
 use Rattle.syslog_pieces.specs.Pieces.Kept.{Kept}
 use Rattle.syslog_pieces.specs.Pri.{priority, priority_text}
@@ -84,6 +85,12 @@ pub record PrintsLoosely (dating : Dating) (text front : Text) (timestamp : Opti
   pub means : Means3164 dash_rule dating values message
   pub no_miss : HasNoMiss dash_rule message
   pub prints : printed message ≡ front ++ (32 ∷ (timestamp_text timestamp ++ tail))
+
+-- the same, where the timestamp prints as this text, with `+00:00` in place of a `Z`
+pub record PrintsStamped (dating : Dating) (text front stamp : Text) (is_zulu : Bool) (tail : Text) : Type 0 where
+  pub value : Option OffsetTimestamp
+  pub loosely : PrintsLoosely dating text front value tail
+  pub stamped : timestamp_text value ≡ stamp ++ zone_text is_zulu
 
 -- the text is read by the variant as a message of RFC 3164 without a listed miss, and these bytes are its printed text
 pub record PrintsFreely (variant : Variant) (dating : Dating) (text : Text) (bytes : List ℕ) : Type 0 where

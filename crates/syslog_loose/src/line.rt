@@ -3,14 +3,16 @@
 //! Most lines of RFC 5424 that a program wrote are already in the form that a message prints: one space in each gap, no
 //! leading zeros, strict elements alone. Such a line needs no message in between: all but a `Z` of its timestamp is
 //! copied. So is a line with one gap behind its timestamp that is wider, or with one broken element behind strict ones:
-//! that one piece is left out of the copy. Each reader here answers the text behind its piece where that piece prints as it is written, and may always
+//! that piece is left out of the copy. Each reader here answers the text behind its piece where that piece prints as it is written, and may always
 //! answer nothing, since the line is then read and printed as any other. So no contract above speaks of this way.
 ghost use Rattle.std.specs.Prelude.{◌≡◌, ◌++◌, ◌∷◌, [], IfOk, IfSome, IsOk, IsTrue, Some, string_bytes};
+ghost use Rattle.std.specs.Fmt.{WritesOnOk};
 ghost use Rattle.std.specs.Str.{chars, encode_utf8_all, IsUtf8};
-ghost use Rattle.syslog_pieces.specs.Pieces.View.{shown};
+ghost use Rattle.syslog_pieces.specs.Pieces.Class.{Text};
+ghost use Rattle.syslog_pieces.specs.Pieces.View.{seen, shown};
 ghost use Rattle.syslog_pieces.specs.Bodies.KeptStamp.{zone_text};
 ghost use Rattle.syslog_pieces.specs.Timestamp.Zone.{Dating};
-ghost use Rattle.syslog_loose.specs.KeptLine.{KeptFront, KeptTail, PrintsAs, PrintsKept};
+ghost use Rattle.syslog_loose.specs.KeptLine.{KeptEnd, KeptFront, KeptTail, PrintsAs, PrintsKept, bytes_of, spaced};
 ghost use Rattle.syslog_loose.specs.Message.{MessageValue};
 ghost use Rattle.syslog_loose.specs.Printed.{printed};
 ghost use Rattle.syslog_pieces.specs.declared.timestamp.month_date.MonthDate.{MonthDate};
@@ -31,19 +33,20 @@ use syslog_pieces::pri::kept_priority;
 use syslog_pieces::procid::kept_process;
 use syslog_pieces::structured_data::kept_list;
 use syslog_pieces::text::blanks;
-use syslog_pieces::text::kept::{Cut, before, copied_parts, kept_gap, kept_host, kept_number, kept_word, one_space};
+use syslog_pieces::text::kept::{
+    Cut, before, kept_gap, kept_host, kept_number, kept_word, one_space, past_cut,
+};
 use syslog_pieces::timestamp::kept::kept_stamp;
 
-// A line, cut at the offset of its timestamp: all before it, whether it is `Z`, all from behind it to the elements, and
-// the message. (An offset that prints as it is written stands before the cut.) Where a piece is left out, the tail ends
-// before it, and more stands behind it.
+// A line, cut at the offset of its timestamp: all before it, whether it is `Z`, all from behind it up to what is left out,
+// if anything is, all from there or from behind the offset to the elements, and the message. An offset that prints as it is written stands before the cut, a message behind one space in the tail.
 #[derive(Clone, Copy)]
 struct KeptLine<'a> {
     front: &'a str,
     is_zulu: bool,
+    head: &'a str,
     tail: &'a str,
-    more: &'a str,
-    msg: &'a str,
+    msg: Option<&'a str>,
 }
 
 // The text behind priority and version.
@@ -74,42 +77,82 @@ fn kept_tail(text: &str) -> Option<(&str, Option<Cut<'_>>)>
     Some((rest, cut))
 }
 
+// The text up to the rest behind the elements, and the message, where that isn't behind one space: then it is one text.
+#[inline(always)]
+fn kept_end<'a>(text: &'a str, rest: &'a str) -> (&'a str, Option<&'a str>)
+    requires { (front : Text) × (chars text.now ≡ front ++ chars rest.now) }
+    ensures ends { KeptEnd (chars text.now) (chars rest.now) (shown result.0) (seen result.1) }
+    ensures utf8 { IsUtf8 result.0.now × IfSome result.1 (λ msg. IsUtf8 msg.now) }
+{
+    match one_space(rest) {
+        Some(_) => (text, None),
+        None => (before(text, rest), Some(blanks(rest))),
+    }
+}
+
 // The line, where all but its timestamp prints as it is written.
 #[inline(always)]
 fn kept_line(text: &str) -> Option<KeptLine<'_>>
     ensures kept { IfSome result (λ line.
-        PrintsKept (chars text.now) (shown line.front) line.is_zulu (shown line.tail) (shown line.more) (shown line.msg)) }
-    ensures utf8 { IfSome result (λ line.
-        IsUtf8 line.front.now × IsUtf8 line.tail.now × IsUtf8 line.more.now × IsUtf8 line.msg.now) }
+        PrintsKept (chars text.now) (shown line.front) line.is_zulu
+        (shown line.head ++ (shown line.tail ++ spaced (seen line.msg)))) }
+    ensures utf8 { IfSome result (λ line. IsUtf8 line.front.now × IsUtf8 line.head.now × IsUtf8 line.tail.now
+        × IfSome line.msg (λ msg. IsUtf8 msg.now)) }
 {
     let gap = kept_front(text)?;
     let start = one_space(gap)?;
     let stamp = kept_stamp(start)?;
     let front = before(text, stamp.zone);
     let (rest, cut) = kept_tail(stamp.rest)?;
-    let (tail, more) = copied_parts(stamp.rest, cut, rest);
-    let msg = blanks(rest);
+    let (head, start) = past_cut(stamp.rest, cut, rest);
+    let (tail, msg) = kept_end(start, rest);
     Some(KeptLine {
         front,
         is_zulu: stamp.is_zulu,
+        head,
         tail,
-        more,
         msg,
     })
 }
 
+// Writes what stands in place of a `Z`, where there was one.
+#[inline(always)]
+fn write_zone<W: fmt::Write>(f: &mut fmt::Formatter<W>, is_zulu: bool) -> fmt::Result
+    ensures { WritesOnOk W.write_str_gives f.old result (zone_text is_zulu) f.new }
+{
+    if is_zulu {
+        f.write_str("+00:00")
+    } else {
+        Ok(())
+    }
+}
+
+// Writes what stands before what is left out. Mostly nothing is, and then it is empty.
+#[inline(always)]
+fn write_head<W: fmt::Write>(f: &mut fmt::Formatter<W>, head: &str) -> fmt::Result
+    ensures { WritesOnOk W.write_str_gives f.old result head.now f.new }
+{
+    if head.is_empty() {
+        Ok(())
+    } else {
+        f.write_str(head)
+    }
+}
+
 impl fmt::Display for KeptLine<'_> {
     ghost output = { λ line.
-        Some (line.front.now ++ (zone_text line.is_zulu ++ (line.tail.now ++ (line.more.now ++ (32 ∷ line.msg.now))))) };
+        Some (line.front.now ++ (zone_text line.is_zulu
+        ++ (line.head.now ++ (line.tail.now ++ spaced (bytes_of line.msg))))) };
 
     fn fmt<W: fmt::Write>(&self, f: &mut fmt::Formatter<W>) -> fmt::Result {
         f.write_str(self.front)?;
-        if self.is_zulu {
-            f.write_str("+00:00")?;
-        }
+        write_zone(f, self.is_zulu)?;
+        write_head(f, self.head)?;
         f.write_str(self.tail)?;
-        f.write_str(self.more)?;
-        write_spaced(f, self.msg)
+        match self.msg {
+            Some(msg) => write_spaced(f, msg),
+            None => Ok(()),
+        }
     }
 }
 

@@ -43,17 +43,9 @@ pub fn normalise<F: FnOnce(IncompleteDate) -> i32>(
         (λ fault. (fault ≡ Invalid) ↔ IsUnreadable variant (dating_of year tz.entry local.entry) (chars input.entry.now))) }
     ensures again { AnswersAgain variant (chars input.entry.now) input.entry.now result }
 {
+    let left = trimmed(input);
     let mut text = String::new(alloc);
-    first_round(
-        alloc,
-        &mut text,
-        trimmed(input),
-        get_year,
-        tz,
-        variant,
-        local,
-        false,
-    )?;
+    first_round(alloc, &mut text, left, get_year, tz, variant, local, false)?;
     Ok(text)
 }
 
@@ -64,8 +56,8 @@ pub(crate) struct Round {
     pub(crate) year: Option<i32>,
 }
 
-/// Writes round 1 of the trimmed input into `text`, as `next_round` does. The closure is called once, and only where the text shows
-/// a date without a year that the variant reads.
+/// Writes round 1 of the trimmed input into `text`, as `next_round` does. The closure is called once, and only where the
+/// text shows a date without a year that the variant reads.
 #[inline]
 pub(crate) fn first_round<F: FnOnce(IncompleteDate) -> i32>(
     alloc: Global,
@@ -121,7 +113,8 @@ fn dated_round(
     variant: Variant,
     skips: bool,
 ) -> Result<bool, ParseFault>
-    requires shows { OfTrimmed (chars input.now) (λ whole. ShowsDated variant whole (shown line.front) line.date (shown line.tail)) }
+    requires shows { OfTrimmed (chars input.now) (λ whole.
+        ShowsDated variant whole (shown line.front) line.date (shown line.tail)) }
     requires utf8 { IsUtf8 line.front.now × IsUtf8 line.tail.now }
     ensures { OfTrimmed (chars input.entry.now) (λ whole. MatchResult result
         (λ settled. IsRoundAsTold skips variant (dating_value dating.entry.now) whole (chars (string_bytes text.new)) settled)
@@ -134,8 +127,8 @@ fn dated_round(
     next_round(alloc, text, input, dating, variant, skips)
 }
 
-/// Writes a round of the trimmed input into `text`: the next one, where that is known to be settled, and tells so. Else the next
-/// one too, or, where rounds may be skipped, a later one before which none is settled.
+/// Writes a round of the trimmed input into `text`: the next one, where that is known to be settled, and tells so. Else
+/// the next one too, or, where rounds may be skipped, a later one before which none is settled.
 pub(crate) fn next_round(
     alloc: Global,
     text: &mut String,

@@ -67,16 +67,8 @@ pub fn settle_into<F: FnOnce(IncompleteDate) -> i32>(
     ensures canonical { InYear (F.post get_year) variant (chars input.entry.now) (λ year. IfOk (answer_in result text.new) (λ answer. (m : MessageValue)
         → IsRead variant (dating_of year tz.entry local.entry) (chars (string_bytes answer)) m → IsCanonical dash_rule m)) }
 {
-    let round = first_round(
-        alloc,
-        text,
-        trimmed(input),
-        get_year,
-        tz,
-        variant,
-        local,
-        true,
-    )?;
+    let left = trimmed(input);
+    let round = first_round(alloc, text, left, get_year, tz, variant, local, true)?;
     if round.settled {
         return Ok(());
     }

@@ -1,15 +1,18 @@
 //! Lines of RFC 3164 that print as they are written behind their timestamp.
 //!
-//! A timestamp of RFC 3164 never prints as it is written. What programs write behind it, as ` host app[5]: message`,
-//! mostly does, and so does the priority before it. So it is copied, without the fields in between.
+//! A month date never prints as it is written; a timestamp of RFC 3339, which some programs write in its place, mostly
+//! does. So does what programs write behind either, as ` host app[5]: message`, and the priority before it. So it is
+//! copied, without the fields in between.
 ghost use Rattle.std.specs.Prelude.{◌≡◌, ◌≢◌, ◌++◌, ◌∷◌, ◌<◌, IfOk, IfSome, IsOk, IsTrue, OnOk, Some, length, string_bytes};
 ghost use Rattle.std.specs.List.{AllByRecursion};
 ghost use Rattle.std.specs.Str.{chars, encode_utf8_all, IsUtf8};
+ghost use Rattle.syslog_pieces.specs.Bodies.KeptStamp.{zone_text};
 ghost use Rattle.syslog_pieces.specs.Pieces.Class.{Text};
 ghost use Rattle.syslog_pieces.specs.Pieces.View.{shown};
 ghost use Rattle.syslog_pieces.specs.Text.{dash};
-ghost use Rattle.syslog_pieces.specs.Timestamp.Zone.{dating_value};
-ghost use Rattle.syslog_loose.specs.KeptLoose.{KeptBehind, KeptNames, KeptOrigin, KeptProgram, PrintsFreely, PrintsLoosely, ShowsDated};
+ghost use Rattle.syslog_pieces.specs.Timestamp.Zone.{Dating as AnyDating, dating_value};
+ghost use Rattle.syslog_loose.specs.KeptLoose.{KeptBehind, KeptNames, KeptOrigin, KeptProgram};
+ghost use Rattle.syslog_loose.specs.KeptLoose.{PrintsFreely, PrintsLoosely, PrintsStamped, ShowsDated};
 ghost use Rattle.syslog_loose.specs.Printed.{timestamp_text};
 ghost use Rattle.syslog_loose.specs.ReadBack.{ReadsProtocol};
 ghost use Rattle.syslog_loose.specs.Reading.{HasMonth, IsUnreadable, OfTrimmed, incomplete};
@@ -19,7 +22,8 @@ ghost use Rattle.syslog_loose.specs.declared.variant.Variant.{Variant};
 #[cfg(test)]
 mod tests;
 
-use crate::message::{is_plain_time, make_room, write_timestamp};
+use super::write_zone;
+use crate::message::{is_plain_time, make_room, write_spaced, write_timestamp};
 use crate::variant::{IncompleteDate, Variant};
 use std::alloc::AllocError;
 use std::fmt;
@@ -32,6 +36,7 @@ use syslog_pieces::text::written::push_bytes;
 use syslog_pieces::text::{CharClass, blanks, literal, split_run};
 use syslog_pieces::timestamp::OffsetTimestamp;
 use syslog_pieces::timestamp::civil::month_text;
+use syslog_pieces::timestamp::kept::kept_stamp;
 use syslog_pieces::timestamp::loose::loose_stamp;
 use syslog_pieces::timestamp::month_date::MonthDate;
 use syslog_pieces::timestamp::month_date::usual::usual_date;
@@ -136,6 +141,51 @@ impl fmt::Display for LooseLine<'_> {
     }
 }
 
+// A line whose timestamp prints as it is written, cut round it and before its `Z`, where it has one.
+#[derive(Clone, Copy)]
+struct StampedLine<'a> {
+    front: &'a str,
+    stamp: &'a str,
+    is_zulu: bool,
+    tail: &'a str,
+}
+
+// The line, where it prints as it is written but for a space before its timestamp and for a `Z`.
+#[inline(always)]
+fn stamped_line(text: &str) -> Option<StampedLine<'_>>
+    ensures kept { IfSome result (λ line. (dating : AnyDating)
+        → PrintsStamped dating (chars text.now) (shown line.front) (shown line.stamp) line.is_zulu (shown line.tail)) }
+    ensures utf8 { IfSome result (λ line. IsUtf8 line.front.now × IsUtf8 line.stamp.now × IsUtf8 line.tail.now) }
+{
+    let behind = kept_priority(text)?;
+    let front = before(text, behind);
+    let start = blanks(behind);
+    let kept = kept_stamp(start)?;
+    let stamp = before(start, kept.zone);
+    if is_kept_behind(kept.rest) {
+        Some(StampedLine {
+            front,
+            stamp,
+            is_zulu: kept.is_zulu,
+            tail: kept.rest,
+        })
+    } else {
+        None
+    }
+}
+
+impl fmt::Display for StampedLine<'_> {
+    ghost output = { λ line.
+        Some (line.front.now ++ ((32 ∷ line.stamp.now) ++ (zone_text line.is_zulu ++ line.tail.now))) };
+
+    fn fmt<W: fmt::Write>(&self, f: &mut fmt::Formatter<W>) -> fmt::Result {
+        f.write_str(self.front)?;
+        write_spaced(f, self.stamp)?;
+        write_zone(f, self.is_zulu)?;
+        f.write_str(self.tail)
+    }
+}
+
 // Whether the variant reads texts by RFC 3164.
 fn reads_loosely(variant: Variant) -> bool
     ensures { IsTrue result → ReadsProtocol variant RFC3164 }
@@ -225,8 +275,8 @@ fn write_dated(
     text.push_str(line.tail)
 }
 
-/// Writes the printed text of the message of the trimmed line into `text`, where the variant reads it by RFC 3164 and all
-/// but its timestamp prints as it is written, and tells whether it did. It asks for memory as `dated_text` does.
+/// Writes the printed text of the message of the trimmed line into `text`, where the variant reads it by RFC 3164 and
+/// all but its timestamp prints as it is written, and tells whether it did. It asks for memory as `dated_text` does.
 pub(crate) fn loose_text(
     text: &mut String,
     input: &str,
@@ -240,6 +290,11 @@ pub(crate) fn loose_text(
 {
     if !reads_loosely(variant) {
         return Ok(false);
+    }
+    if let Some(line) = stamped_line(input) {
+        make_room(text, input.len())?;
+        write!(text, "{line}")?;
+        return Ok(true);
     }
     let Some(line) = loose_line(input, dating) else {
         return Ok(false);

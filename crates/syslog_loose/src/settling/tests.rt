@@ -4,6 +4,7 @@ use crate::{ParseFault, TimeZone, Variant};
 use std::alloc::Global;
 use std::mem::swap;
 use std::test::Fail;
+use syslog_pieces::text::trimmed;
 use syslog_pieces::timestamp::zone::Dating;
 
 /// What a line begins with, what it repeats, and what stands behind that: host colons, and dashes, behind pieces that change
@@ -40,7 +41,7 @@ fn passes(alloc: Global, line: &str) -> Result<usize, ParseFault> {
         if next_round(
             alloc,
             &mut text,
-            last.as_str(),
+            trimmed(last.as_str()),
             &dating,
             Variant::Either,
             true,

@@ -7,6 +7,7 @@ use std::alloc::{AllocError, Global};
 use std::process::Abort;
 use std::test::Fail;
 use syslog_pieces::structured_data::listed::DashRule;
+use syslog_pieces::text::trimmed;
 use syslog_pieces::timestamp::zone::Dating;
 
 const DEGREES: &str = "<34>Oct 11 22:14:15 mymachine app: -5 degrees";
@@ -63,7 +64,7 @@ fn tells_no_text_of_rfc_5424(rt: HostRuntime) -> Result<(), Fail> {
 fn message_length(alloc: Global, text: &str, rule: DashRule) -> Result<Option<usize>, AllocError> {
     let read = rfc3164::read(
         alloc,
-        text,
+        trimmed(text),
         rule,
         &Dating {
             year: Some(2019),

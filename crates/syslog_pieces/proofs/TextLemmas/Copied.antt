@@ -1,5 +1,5 @@
 -- What is copied of a text, where one piece may be left out.
-use Rattle.std.proofs.Common.{◌≡◌, Bool, true, false, List, [], ◌∷◌, ◌++◌, Option, None, Some, refl, sym, ap, ap₂, subst, ◌∙◌, append_assoc, append-nil, arith}
+use Rattle.std.proofs.Common.{◌≡◌, Bool, true, false, List, [], ◌∷◌, ◌++◌, Option, None, Some, refl, sym, ap, subst, ◌∙◌, append_assoc, append-nil, arith}
 use Rattle.std.proofs.lemmas.List.{append_cancel_right}
 use Rattle.std.specs.Prelude.{is_some}
 use Rattle.syslog_pieces.specs.Bodies.Kept.{Copies, CopiedOn}
@@ -36,22 +36,12 @@ wide_gap t u (a ∷ xs) None c n e each ends g x = record {
 }
 wide_gap t u (a ∷ xs) (Some d) c n e each ends g x = absurd (cc)
 
--- ---- what is copied before a rest, in two parts
+-- ---- past what is left out
 
--- what stands before what is left out, or before the rest; and the front of what stands behind
+-- what stands before it
 pub before_gap : (w u p : Text) (c : Cut) → Copies w (Some c) u p → (front : Text) × (w ≡ front ++ shown c.gap)
 before_gap w u p c (a, b, f, g, h) = (a, f)
 
-pub before_rest : (w u p : Text) (c : Cut) → Copies w (Some c) u p → (behind : Text) × (shown c.next ≡ behind ++ u)
-before_rest w u p c (a, b, f, g, h) = (b, g)
-
-pub before_all : (w u p : Text) → Copies w None u p → (front : Text) × (w ≡ front ++ u)
-before_all w u p e = (p, e)
-
--- and these are the two parts
-pub two_parts : (w u p x y : Text) (c : Cut) → w ≡ x ++ shown c.gap → shown c.next ≡ y ++ u → Copies w (Some c) u p → p ≡ x ++ y
-two_parts w u p x y c e f (a, b, g, h, i) =
-    i ∙ ap₂ (λ (k l : Text). k ++ l) (append_cancel_right a x (shown c.gap) (sym g ∙ e)) (append_cancel_right b y u (sym h ∙ f))
-
-pub one_part : (w u p x : Text) → w ≡ x ++ u → Copies w None u p → p ≡ x ++ []
-one_part w u p x e c = append_cancel_right p x u (sym c ∙ e) ∙ sym (append-nil x)
+-- and what is copied behind it
+pub behind_gap : (w u p x : Text) (c : Cut) → w ≡ x ++ shown c.gap → Copies w (Some c) u p → (behind : Text) × (shown c.next ≡ behind ++ u) × (p ≡ x ++ behind)
+behind_gap w u p x c e (a, b, f, g, h) = (b, g, h ∙ ap (λ (y : Text). y ++ b) (append_cancel_right a x (shown c.gap) (sym f ∙ e)))

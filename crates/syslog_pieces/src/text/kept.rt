@@ -74,8 +74,8 @@ pub fn kept_gap<'a>(text: &'a str, cut: Option<Cut<'a>>) -> Option<(&'a str, Opt
     ensures { IfSome result (λ x.
         CopiedOn (some_run spec.is_blank) (λ _. 32 ∷ []) (chars text.now) cut.entry (shown x.0) x.1) }
 {
-    let (front, next) = split_run(text, CharClass::Blank);
-    if is_byte(front, b' ') {
+    let (run, next) = split_run(text, CharClass::Blank);
+    if is_byte(run, b' ') {
         return Some((next, cut));
     }
     if cut.is_some() {
@@ -104,15 +104,16 @@ pub fn before<'a>(text: &'a str, rest: &str) -> &'a str
     front
 }
 
-/// What is copied of the text before a rest of it: what stands before what is left out, and what stands behind.
+/// What is copied of the text before what is left out, and the text from behind that on: nothing and the whole, where
+/// nothing is left out. The rest is that up to which the text is copied.
 #[inline(always)]
-pub fn copied_parts<'a>(text: &'a str, cut: Option<Cut<'a>>, rest: &str) -> (&'a str, &'a str)
+pub fn past_cut<'a>(text: &'a str, cut: Option<Cut<'a>>, rest: &str) -> (&'a str, &'a str)
     requires { (copied : Text) × Copies (chars text.now) cut (chars rest.now) copied }
     ensures { (copied : Text) → Copies (chars text.now) cut.entry (chars rest.now) copied
-        → copied ≡ shown result.0 ++ shown result.1 }
+        → (behind : Text) × (shown result.1 ≡ behind ++ chars rest.now) × (copied ≡ shown result.0 ++ behind) }
 {
     match cut {
-        Some(cut) => (before(text, cut.gap), before(cut.next, rest)),
-        None => (before(text, rest), ""),
+        Some(cut) => (before(text, cut.gap), cut.next),
+        None => ("", text),
     }
 }

@@ -9,7 +9,7 @@ use Rattle.syslog_loose.proofs.rounds.normalise.Goals as goal
 pub returns-in_err-first_round-clause-reads : goal.returns-in_err-first_round-clause-reads
 returns-in_err-first_round-clause-reads g c =
     let (_, e, same) = err_from_is_err_and c.from_residual.result c.from_residual.ensures.1 in
-    rw (e, same) (c.in_err-first_round.ensures (chars c.args.input.now) c.trimmed.ensures)
+    rw (e, same) (c.in_err-first_round.ensures (chars c.args.input.now) c.trimmed-left.ensures)
 
 pub returns-in_err-first_round-clause-again : goal.returns-in_err-first_round-clause-again
 returns-in_err-first_round-clause-again g c = again_in _ _ _ _ c.utf8.input _ (returns-in_err-first_round-clause-reads g c)
@@ -17,7 +17,7 @@ returns-in_err-first_round-clause-again g c = again_in _ _ _ _ c.utf8.input _ (r
 pub returns-clause-reads : goal.returns-clause-reads
 returns-clause-reads g c =
     let round = c.in_ok-first_round.field-0 in
-    let told = c.in_ok-first_round.ensures (chars c.args.input.now) c.trimmed.ensures in
+    let told = c.in_ok-first_round.ensures (chars c.args.input.now) c.trimmed-left.ensures in
     let text = c.first_round.new.text in
     normalised_in _ c.args.variant c.args.tz c.args.local c.args.input.now (Ok text) round.year told.0
     (normalised c.args.variant (dating_of round.year c.args.tz c.args.local) (chars c.args.input.now) text (IsUtf8-string_bytes text) (told.1.next refl))

@@ -6,7 +6,7 @@ use std::alloc::AllocError;
 use std::test::Fail;
 use syslog_pieces::timestamp::zone::Dating;
 
-const COPIED: [(&str, &str); 7] = [
+const COPIED: [(&str, &str); 9] = [
     (
         "<34>Oct 11 22:14:15 mymachine su: 'su root' failed for lonvick on /dev/pts/8",
         "<34> 2019-10-11T22:14:15+00:00 mymachine su: 'su root' failed for lonvick on /dev/pts/8",
@@ -18,6 +18,14 @@ const COPIED: [(&str, &str); 7] = [
     (
         "<0> 2003-10-11T22:14:15.003Z - a[0]: -x",
         "<0> 2003-10-11T22:14:15.003+00:00 - a[0]: -x",
+    ),
+    (
+        "<13>2003-10-11T22:14:15.003456-07:00 h a: x",
+        "<13> 2003-10-11T22:14:15.003456-07:00 h a: x",
+    ),
+    (
+        "<13>2003-10-11T22:14:60.5z h a: x",
+        "<13> 2003-10-11T22:14:59.500+00:00 h a: x",
     ),
     ("<191>- h [7]: y", "<191> - h [7]: y"),
     (

@@ -1,0 +1,17 @@
+"""The toolchain's own script rt, as a module: it knows the crates, and how an edit is applied, tried and judged."""
+import importlib.machinery
+import importlib.util
+import os
+import shutil
+import sys
+
+
+def toolchain():
+    rt = shutil.which("rt") or sys.exit("toolchain: there is no rt")
+    place = os.path.dirname(os.path.realpath(rt))
+    sys.path.insert(0, place)
+    sys.dont_write_bytecode = True
+    loader = importlib.machinery.SourceFileLoader("rt_script", os.path.join(place, "rt"))
+    module = importlib.util.module_from_spec(importlib.util.spec_from_loader("rt_script", loader))
+    loader.exec_module(module)
+    return module
