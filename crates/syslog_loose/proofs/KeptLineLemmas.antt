@@ -250,12 +250,11 @@ module _ (t b c zone d n front head start end : Text) (left : Option Cut) (msg :
 
   abbrev names : Text
   names = 32 ∷ (name_text l.hostname ++ (32 ∷ (name_text l.appname ++ (32 ∷ (process_text l.procid
-      ++ (32 ∷ (name_text l.msgid ++ (32 ∷ (elements_text l.elements ++ (32 ∷ o)))))))))
+      ++ (32 ∷ (name_text l.msgid ++ (32 ∷ (elements_text l.elements ++ (32 ∷ o))))))))))
 
   tail_is : tail ++ (32 ∷ o) ≡ names
   tail_is =
-      let c = some_copied d left n l in
-      let p = parts c.0 c.1 in
+      let p = parts (five (name_text l.hostname) (name_text l.appname) (process_text l.procid) (name_text l.msgid) (elements_text l.elements)) l.copies in
       ap (λ (x : Text). (head ++ x) ++ (32 ∷ o)) (append_cancel_right e.names p.0 n (sym e.whole ∙ p.1))
       ∙ ap (λ (x : Text). x ++ (32 ∷ o)) (sym p.2)
       ∙ five_before (name_text l.hostname) (name_text l.appname) (process_text l.procid) (name_text l.msgid) (elements_text l.elements) (32 ∷ o)
