@@ -155,6 +155,7 @@ pub fn parse_message_with_year_exact<'a, F: FnOnce(IncompleteDate) -> i32>(
 /// variant reads it. `tz` is the zone of a date without an offset, and `local` stands in for it
 /// where it is absent. Each text of the message is a slice of the input. The one refusal besides `Invalid` is `Memory`,
 /// and memory is asked for only to collect elements.
+#[inline]
 pub fn parse_message_with_year_exact_tz<'a, F: FnOnce(IncompleteDate) -> i32>(
     alloc: Global,
     input: &'a str,
@@ -185,6 +186,7 @@ pub fn parse_message_with_year_exact_tz<'a, F: FnOnce(IncompleteDate) -> i32>(
 }
 
 // The date without a year that the trimmed text shows, where the variant reads it.
+#[inline(always)]
 pub(crate) fn asked_date(input: &str, variant: Variant) -> Option<IncompleteDate>
     ensures asks { OfTrimmed (chars input.now) (λ whole. MatchOption result
         ((date : MonthDate) → AsksYear variant whole date → ⊥)
@@ -199,6 +201,7 @@ pub(crate) fn asked_date(input: &str, variant: Variant) -> Option<IncompleteDate
 }
 
 // The date without a year that the trimmed text shows.
+#[inline(always)]
 fn incomplete_date(input: &str) -> Option<IncompleteDate>
     ensures asks { OfTrimmed (chars input.now) (λ whole. MatchOption result
         ((date : MonthDate) → ShowsYearless whole date → ⊥)
@@ -257,6 +260,7 @@ fn read_dateless(
     }
 }
 
+#[inline(always)]
 fn read_rfc5424(alloc: Global, input: &str) -> Result<Message<&str>, ParseFault>
     ensures { OfTrimmed (chars input.now) (λ whole. (dating : zone.Dating) → Answers variants.RFC5424 dating whole result) }
 {
@@ -269,6 +273,7 @@ fn read_rfc5424(alloc: Global, input: &str) -> Result<Message<&str>, ParseFault>
     }
 }
 
+#[inline(always)]
 fn read_rfc3164<'a>(
     alloc: Global,
     input: &'a str,

@@ -34,6 +34,7 @@ pub(crate) struct Names<'a> {
 }
 
 // A program's name beside this host.
+#[inline(always)]
 fn program<'a>(hostname: Option<&'a str>, name: &'a str) -> Names<'a>
     ensures { spec.NamesProgram (seen hostname.entry) (chars name.entry.now) (names_value result) }
 {
@@ -52,6 +53,7 @@ fn program<'a>(hostname: Option<&'a str>, name: &'a str) -> Names<'a>
 }
 
 // A name that stands alone: a program's where it is of the form `tag[id]`, else a host.
+#[inline(always)]
 fn lone<'a>(name: &'a str) -> Names<'a>
     ensures { spec.NamesHost (chars name.entry.now) (names_value result) }
 {
@@ -70,6 +72,7 @@ fn lone<'a>(name: &'a str) -> Names<'a>
 }
 
 // No names.
+#[inline(always)]
 fn nobody() -> Names<'static>
     ensures { names_value result ≡ spec.names None None None }
 {
@@ -81,6 +84,7 @@ fn nobody() -> Names<'static>
 }
 
 /// What the host field and the tag field mean together: each is not there, or there and empty, or a text.
+#[inline(always)]
 pub(crate) fn resolve<'a>(host: Option<Option<&'a str>>, tag: Option<Option<&'a str>>) -> Names<'a>
     ensures { spec.Resolves (field_seen host.entry) (field_seen tag.entry) (names_value result) }
 {
@@ -105,6 +109,7 @@ pub(crate) struct Stamped {
 }
 
 // The pieces at the front that can fail, and the text behind them.
+#[inline(always)]
 pub(crate) fn read_stamped<'a>(text: &'a str, dating: &Dating<'_, '_>) -> Option<(Stamped, &'a str)>
     ensures { Reads (Row (spec.stamped_row (dating_value dating.entry.now))) stamped_values (chars text.now) result }
 {
@@ -122,6 +127,7 @@ pub(crate) fn read_stamped<'a>(text: &'a str, dating: &Dating<'_, '_>) -> Option
 }
 
 /// The names that stand behind the timestamp, and the text behind their colon.
+#[inline(always)]
 pub(crate) fn read_names(text: &str) -> (Names<'_>, &str)
     ensures { spec.ReadsNames (chars text.now) (shown result.1) (names_value result.0) }
 {
@@ -132,6 +138,7 @@ pub(crate) fn read_names(text: &str) -> (Names<'_>, &str)
 
 /// The message of the one division of the trimmed text, and none where there is no division. `year` is that of a date
 /// that shows none. Memory is asked for only to collect elements, each after it was recognised.
+#[inline(always)]
 pub(crate) fn read<'a>(
     alloc: Global,
     text: &'a str,

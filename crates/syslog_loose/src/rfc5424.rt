@@ -63,6 +63,7 @@ fn read_header(text: &str) -> Option<(Header<'_>, &str)>
 
 /// The message of the one division of the trimmed text, and none where there is no division. Memory is asked for only
 /// to collect elements, after the whole text has been recognised.
+#[inline(always)]
 pub(crate) fn read(alloc: Global, text: &str) -> Result<Option<Message<&str>>, AllocError>
     ensures read { OfTrimmed (chars text.now) (λ whole. IfOk result (λ found. MatchOption found (spec.IsNot5424 whole)
         (λ m. spec.IsRead5424 whole (message_value (λ s. shown s) m)))) }

@@ -1,6 +1,6 @@
 //! The form `tag[id]` of a program's name in RFC 3164 (section 5.3 has it by example; where it ends is the crate's rule).
-ghost use Rattle.std.specs.Prelude.{MatchOption};
-ghost use Rattle.std.specs.Str.{chars};
+ghost use Rattle.std.specs.Prelude.{◌≡◌, [], ◌∷◌, MatchOption};
+ghost use Rattle.std.specs.Str.{bytes_eq, chars};
 ghost use Rattle.syslog_pieces.specs.Pieces.View.{shown};
 ghost use Rattle.syslog_loose.specs.TagForm.{IsForm, IsNoForm};
 
@@ -9,7 +9,19 @@ mod tests;
 
 use syslog_pieces::text::{CharClass, literal, split_run};
 
+// Whether the text is `]` alone.
+#[inline(always)]
+fn is_closing(text: &str) -> bool
+    ensures { result ≡ bytes_eq text.now (93 ∷ []) }
+{
+    match text.as_bytes() {
+        [only] => *only == b']',
+        _ => false,
+    }
+}
+
 /// The tag and the id of a text of the form `tag[id]`.
+#[inline(always)]
 pub(crate) fn tag_form(text: &str) -> Option<(&str, &str)>
     ensures { MatchOption result (IsNoForm (chars text.now)) (λ x. IsForm (chars text.now) (shown x.0) (shown x.1)) }
 {
@@ -19,5 +31,9 @@ pub(crate) fn tag_form(text: &str) -> Option<(&str, &str)>
     if id.is_empty() {
         return None;
     }
-    if rest == "]" { Some((tag, id)) } else { None }
+    if is_closing(rest) {
+        Some((tag, id))
+    } else {
+        None
+    }
 }

@@ -1,10 +1,17 @@
 -- The priority, and its two parts.
-use Rattle.std.proofs.Common.{◌≡◌, ◌≤◌, ◌<◌, ◌/◌, ◌%◌, ◌+◌, ℕ, zero, suc, List, [], ◌∷◌, ◌++◌, length, Option, Some, None, MatchOption, refl, sym, ap, subst, ◌∙◌, append_assoc, arith}
+use Rattle.std.proofs.Common.{◌≡◌, ◌≤◌, ◌<◌, ◌-◌, ◌/◌, ◌%◌, ◌+◌, ℕ, zero, suc, inl, inr, List, [], ◌∷◌, ◌++◌, length, drop, Option, Some, None, MatchOption, refl, sym, ap, subst, ◌∙◌, append_assoc, arith}
 use Rattle.std.specs.Prelude.{slice_get}
 use Rattle.std.proofs.lemmas.List.{append_cancel_right}
 use Rattle.std.proofs.lemmas.Option.{slice_get_past}
+use Rattle.std.proofs.lemmas.Str.{IsAscii-append}
+use Rattle.std.proofs.lemmas.Str.Ascii.{IsAscii-cons}
+use Rattle.std.specs.Char.{is_ascii_digit}
 use Rattle.std.specs.Fmt.{decimal}
-use Rattle.syslog_pieces.specs.Pieces.Class.{Text, Front, NoFront, IsDeterministic, Row, Values, exactly}
+use Rattle.std.specs.Str.{chars, IsUtf8, IsAscii, IsCharBoundary}
+use Rattle.std.specs.Str.Parse.{digits_value}
+use Rattle.jiff_fmt.specs.Text.{pad2}
+use Rattle.syslog_pieces.specs.Bodies.Looks.{IsPriorityBytes}
+use Rattle.syslog_pieces.specs.Pieces.Class.{Text, Each, Front, NoFront, IsDeterministic, Row, Values, exactly}
 use Rattle.syslog_pieces.specs.Pieces.Kept.{Kept}
 use Rattle.syslog_pieces.specs.Text.{number}
 use Rattle.syslog_pieces.specs.Pri.{priority, priority_text, priority_row, facility_number, severity_number, facilities, severities, facility_of, severity_of, composed}
@@ -13,7 +20,12 @@ use Rattle.syslog_pieces.specs.declared.pri.SyslogFacility.TheVariants.{LOG_KERN
 use Rattle.syslog_pieces.specs.declared.pri.SyslogSeverity.{SyslogSeverity}
 use Rattle.syslog_pieces.specs.declared.pri.SyslogSeverity.TheVariants.{SEV_EMERG, SEV_ALERT, SEV_CRIT, SEV_ERR, SEV_WARNING, SEV_NOTICE, SEV_INFO, SEV_DEBUG}
 use Rattle.syslog_pieces.proofs.PieceLemmas.Class.{AllDeterministic, exactly_det, row_det, row_nil, row_cons}
+use Rattle.syslog_pieces.specs.Timestamp.Printed.{pad3}
 use Rattle.syslog_pieces.proofs.PieceLemmas.Lists.{begins}
+use Rattle.syslog_pieces.proofs.PieceLemmas.Rows.{row_of, ◌then◌}
+use Rattle.syslog_pieces.proofs.TextLemmas.Chars.{digits_ascii, one_ascii}
+use Rattle.syslog_pieces.proofs.TextLemmas.Decimals.{digit_is}
+use Rattle.syslog_pieces.proofs.TextLemmas.Looks.{behind_cut, behind_is, behind_chars}
 use Rattle.syslog_pieces.proofs.TextLemmas.Words.{number_det}
 
 pub priority_row_det : AllDeterministic priority_row
@@ -29,6 +41,70 @@ as_priority f = record { piece = f.piece; whole = f.whole; is = f.is }
 
 pub no_priority : {text : Text} → NoFront (Row priority_row) text → NoFront priority text
 no_priority n p q v e h = n p q (tt, (v, (tt, tt))) e h
+
+-- ---- a priority of one to three digits, by bytes
+record HasPriority (bs : List ℕ) (n : ℕ) (rest : List ℕ) : Type 0 where
+  digits : List ℕ
+  some : 0 < length digits
+  each : Each is_ascii_digit digits
+  value : n ≡ digits_value 10 digits
+  small : n ≤ 255
+  whole : bs ≡ (60 ∷ (digits ++ (62 ∷ []))) ++ rest
+
+has_priority : (bs : List ℕ) (n : ℕ) (rest : List ℕ) → IsPriorityBytes bs n rest → HasPriority bs n rest
+has_priority bs n rest (inl (h, e)) =
+    let a = digit_is (n / 10) (omega arith) in let b = digit_is (n % 10) (omega arith) in record {
+      digits = pad2 n;
+      some = omega arith;
+      each = (a.0, (b.0, tt));
+      value = rw (a.2, b.2) (omega arith);
+      small = omega arith;
+      whole = e;
+    }
+has_priority bs n rest (inr (inl (h, e))) =
+    let a = digit_is (n / 100) (omega arith) in let b = digit_is (n / 10 % 10) (omega arith) in
+    let c = digit_is (n % 10) (omega arith) in record {
+      digits = pad3 n;
+      some = omega arith;
+      each = (a.0, (b.0, (c.0, tt)));
+      value = rw (a.2, b.2, c.2) (omega arith);
+      small = omega arith;
+      whole = e;
+    }
+has_priority bs n rest (inr (inr (h, e))) =
+    let a = digit_is n h in record {
+      digits = (48 + n) ∷ [];
+      some = omega arith;
+      each = (a.0, tt);
+      value = rw a.2 (omega arith);
+      small = omega arith;
+      whole = e;
+    }
+
+module _ (bs : List ℕ) (n : ℕ) (rest : List ℕ) (u : IsUtf8 bs) (b : IsPriorityBytes bs n rest) where
+  its : HasPriority bs n rest
+  its = has_priority bs n rest b
+
+  its_ascii : IsAscii (60 ∷ (its.digits ++ (62 ∷ [])))
+  its_ascii =
+      IsAscii-cons 60 (its.digits ++ (62 ∷ [])) (omega arith)
+      (IsAscii-append its.digits (62 ∷ []) (digits_ascii its.digits its.each) (one_ascii 62 (omega arith)))
+
+  pub priority_cut : IsCharBoundary bs (length bs - length rest)
+  priority_cut = behind_cut (60 ∷ (its.digits ++ (62 ∷ []))) bs rest its_ascii u its.whole
+
+  pub priority_read : (ys : List ℕ) → ys ≡ drop (length bs - length rest) bs → Front priority (chars bs) (chars ys) n
+  priority_read ys f =
+      let q = chars rest in
+      let ds = its.digits in
+      let whole : chars bs ≡ 60 ∷ (ds ++ (62 ∷ q)) =
+      behind_chars (60 ∷ (ds ++ (62 ∷ []))) bs rest its_ascii u its.whole ∙ ap (λ (x : List ℕ). 60 ∷ x) (append_assoc ds (62 ∷ []) q) in
+      let open_ : Front (exactly (60 ∷ [])) (chars bs) (ds ++ (62 ∷ q)) tt = record { piece = 60 ∷ []; whole = whole; is = refl } in
+      let number_ : Front (number 255) (ds ++ (62 ∷ q)) (62 ∷ q) n = record { piece = ds; whole = refl; is = (its.some, its.each, refl, its.value, its.small) } in
+      let close_ : Front (exactly (62 ∷ [])) (62 ∷ q) q tt = record { piece = 62 ∷ []; whole = refl; is = refl } in
+      subst (λ (x : List ℕ). Front priority (chars bs) (chars x) n)
+      (sym (behind_is (60 ∷ (ds ++ (62 ∷ []))) bs rest its_ascii u its.whole ys f))
+      (as_priority (row_of priority_row (open_ then number_ then close_ then refl)))
 
 -- each facility, and each severity, stands at the place of its number
 facility_placed : (f : SyslogFacility) → slice_get facilities (facility_number f) ≡ Some f

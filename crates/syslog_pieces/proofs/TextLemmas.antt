@@ -7,6 +7,7 @@ pub mod Equal
 pub mod Kept
 pub mod Plain
 pub mod Lanes
+pub mod Looks
 pub mod Printed
 pub mod ReadBack
 pub mod Runs

@@ -4,6 +4,7 @@ pub mod Answers
 pub mod Characters
 pub mod Civil
 pub mod Clocks
+pub mod Early
 pub mod Fields
 pub mod Fold
 pub mod Fraction

@@ -8,6 +8,7 @@ ghost use Rattle.std.specs.List.{AllByRecursion};
 ghost use Rattle.std.specs.Option.{option_and_then};
 ghost use Rattle.std.specs.Str.{chars, encode_utf8_all};
 ghost use Rattle.jiff_fmt.specs.Text.{pad2};
+ghost use Rattle.syslog_pieces.specs.Bodies.Looks.{IsPriorityBytes};
 ghost use Rattle.syslog_pieces.specs.Pieces.Class.{Front, optional};
 ghost use Rattle.syslog_pieces.specs.Pieces.Kept.{Kept};
 ghost use Rattle.syslog_pieces.specs.Pri.{priority_text};
@@ -117,6 +118,7 @@ impl SyslogSeverity {
     }
 }
 
+#[inline(always)]
 fn severity_at(number: u8) -> SyslogSeverity
     requires { number < 8 }
     ensures { spec.severity_number result ≡ number }
@@ -133,6 +135,7 @@ fn severity_at(number: u8) -> SyslogSeverity
     }
 }
 
+#[inline(always)]
 fn facility_at(number: u8) -> Option<SyslogFacility>
     ensures { MatchOption result (24 ≤ number) (λ facility. spec.facility_number facility ≡ number) }
 {
@@ -169,6 +172,7 @@ fn facility_at(number: u8) -> Option<SyslogFacility>
 /// The facility and the severity of a priority. The facility is an eighth of it, and absent from 192
 /// on; the severity is what is left of it, and always there. (RFC 5424 stops at 191; that 192 to 255
 /// keep their severity is the crate's own rule.)
+#[inline(always)]
 pub fn decompose_pri(pri: u8) -> (Option<SyslogFacility>, Option<SyslogSeverity>)
     ensures facility { result.0 ≡ spec.facility_of pri }
     ensures severity { result.1 ≡ spec.severity_of pri }
@@ -177,6 +181,7 @@ pub fn decompose_pri(pri: u8) -> (Option<SyslogFacility>, Option<SyslogSeverity>
 }
 
 /// The two parts of a priority, both absent where there is none.
+#[inline(always)]
 pub fn parts(priority: Option<u8>) -> (Option<SyslogFacility>, Option<SyslogSeverity>)
     ensures facility { result.0 ≡ option_and_then spec.facility_of priority }
     ensures severity { result.1 ≡ option_and_then spec.severity_of priority }
@@ -190,6 +195,57 @@ pub fn parts(priority: Option<u8>) -> (Option<SyslogFacility>, Option<SyslogSeve
 /// The priority at the front, as `<34>`, and the text behind it.
 #[inline(always)]
 pub fn priority(text: &str) -> Option<(u8, &str)>
+    ensures { Reads spec.priority (λ n. n) (chars text.now) result }
+{
+    match usual_priority(text) {
+        Some(found) => Some(found),
+        None => any_priority(text),
+    }
+}
+
+// `<`, a number of one to three digits and `>`, and the bytes behind them.
+#[inline(always)]
+fn priority_bytes(text: &[u8]) -> Option<(u8, &[u8])>
+    ensures { IfSome result (λ read. IsPriorityBytes text.now read.0 read.1.now) }
+{
+    match text {
+        [b'<', b @ b'0'..=b'9', c @ b'0'..=b'9', b'>', rest @ ..] => {
+            Some(((*b - b'0') * 10 + (*c - b'0'), rest))
+        }
+        [
+            b'<',
+            a @ b'0'..=b'9',
+            b @ b'0'..=b'9',
+            c @ b'0'..=b'9',
+            b'>',
+            rest @ ..,
+        ] => {
+            let tens = u16::from(*a - b'0') * 10 + u16::from(*b - b'0');
+            let number = tens * 10 + u16::from(*c - b'0');
+            if number < 256 {
+                Some((number as u8, rest))
+            } else {
+                None
+            }
+        }
+        [b'<', c @ b'0'..=b'9', b'>', rest @ ..] => Some((*c - b'0', rest)),
+        _ => None,
+    }
+}
+
+// The priority at the front, where it has one to three digits, and the text behind it.
+#[inline(always)]
+fn usual_priority(text: &str) -> Option<(u8, &str)>
+    ensures { IfSome result (λ read. Front spec.priority (chars text.now) (shown read.1) read.0) }
+{
+    let (number, behind) = priority_bytes(text.as_bytes())?;
+    let (_, rest) = text.split_at(text.len() - behind.len());
+    Some((number, rest))
+}
+
+// The priority at the front in any form, and the text behind it.
+#[inline(never)]
+fn any_priority(text: &str) -> Option<(u8, &str)>
     ensures { Reads spec.priority (λ n. n) (chars text.now) result }
 {
     let rest = literal(text, '<')?;

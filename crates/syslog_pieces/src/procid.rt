@@ -22,7 +22,7 @@ use crate::as_str::{AsStr, is_same_text};
 use crate::text::kept::has_zero_ahead;
 use crate::text::plain::is_plain_word;
 use crate::text::written::write_signed;
-use crate::text::{CharClass, first, split_run, word};
+use crate::text::{CharClass, few_digits, first, split_run, word};
 use std::alloc::{AllocError, Global};
 use std::fmt;
 
@@ -99,11 +99,23 @@ impl ProcId<&str> {
 impl<'a> From<&'a str> for ProcId<&'a str> {
     ghost from_gives = { λ text procid. spec.NamesProcess (chars text.now) (spec.procid_value (λ s. shown s) procid) };
 
+    #[inline(always)]
     fn from(text: &'a str) -> ProcId<&'a str> {
-        match text.parse::<i32>() {
-            Ok(number) => ProcId::PID(number),
-            Err(_) => ProcId::Name(text),
+        match few_digits(text.as_bytes()) {
+            Some(number) => ProcId::PID(number as i32),
+            None => any_process(text),
         }
+    }
+}
+
+// The process id of any text.
+#[inline(never)]
+fn any_process(text: &str) -> ProcId<&str>
+    ensures { spec.NamesProcess (chars text.now) (spec.procid_value (λ s. shown s) result) }
+{
+    match text.parse::<i32>() {
+        Ok(number) => ProcId::PID(number),
+        Err(_) => ProcId::Name(text),
     }
 }
 

@@ -3,7 +3,7 @@
 //! One scanner cuts the maximal run of a class of characters from the front of a text; every reader of a word stands on
 //! it. A reader answers what its class in `specs/Text.antt` means and the text behind it, or nothing where no front of
 //! the text is of the class. Nothing here takes memory, and no text is copied.
-ghost use Rattle.std.specs.Prelude.{◌≡◌, ◌++◌, [], ◌∷◌, IsTrue, Option, MatchOption};
+ghost use Rattle.std.specs.Prelude.{◌≡◌, ◌<◌, ◌++◌, [], ◌∷◌, IfSome, IsTrue, None, Option, MatchOption};
 ghost use Rattle.std.specs.Str.{bytes_eq, chars, IsUtf8};
 ghost use Rattle.syslog_pieces.specs.Text.CharClass.{has};
 ghost use Rattle.syslog_pieces.specs.Pieces.Class.{Front, NoFront, exactly, optional, run, some_run};
@@ -14,6 +14,7 @@ ghost use Rattle.syslog_pieces.specs.Pieces.View.{seen, shown, Reads, Skips};
 mod fields;
 pub mod kept;
 mod lanes;
+mod looks;
 mod numerals;
 pub mod plain;
 mod scan;
@@ -22,7 +23,11 @@ mod tests;
 pub mod written;
 
 pub use fields::{host_field, tag_field};
-pub(crate) use numerals::number_of_digits;
+use looks::{
+    begins_visibly, begins_with, begins_with_digit, begins_with_gap, begins_with_nil,
+    ends_in_colon, first_digit,
+};
+pub(crate) use numerals::{few_digits, number_of_digits};
 use scan::{ascii_run, is_cut, is_in};
 
 /// A class of characters.
@@ -157,7 +162,25 @@ pub fn first(text: &str) -> Option<(char, &str)>
 pub fn literal(text: &str, c: char) -> Option<&str>
     ensures { Skips (exactly (c ∷ [])) tt (chars text.now) result }
 {
-    text.strip_prefix(c)
+    if c.is_ascii() {
+        ascii_literal(text, c as u8)
+    } else {
+        text.strip_prefix(c)
+    }
+}
+
+// The same of an ASCII character, which is its byte.
+#[inline(always)]
+fn ascii_literal(text: &str, byte: u8) -> Option<&str>
+    requires { byte < 128 }
+    ensures { Skips (exactly (byte ∷ [])) tt (chars text.now) result }
+{
+    if begins_with(text.as_bytes(), byte) {
+        let (_, rest) = text.split_at(1);
+        Some(rest)
+    } else {
+        None
+    }
 }
 
 /// The text behind a colon, where one begins it, and else the whole.
@@ -174,6 +197,32 @@ pub fn past_colon(text: &str) -> &str
 /// The text behind the blanks at the front, of which there may be none.
 #[inline(always)]
 pub fn blanks(text: &str) -> &str
+    ensures { Front (run spec.is_blank) (chars text.now) (shown result) tt }
+{
+    match few_blanks(text) {
+        Some(behind) => behind,
+        None => any_blanks(text),
+    }
+}
+
+// The same of no blank, or of one space, which most gaps are: they need no scan.
+#[inline(always)]
+fn few_blanks(text: &str) -> Option<&str>
+    ensures { IfSome result (λ rest. Front (run spec.is_blank) (chars text.now) (shown rest) tt) }
+{
+    if begins_visibly(text.as_bytes()) {
+        return Some(text);
+    }
+    if begins_with_gap(text.as_bytes()) {
+        let (_, rest) = text.split_at(1);
+        return Some(rest);
+    }
+    None
+}
+
+// The same of any number of blanks.
+#[inline(never)]
+fn any_blanks(text: &str) -> &str
     ensures { Front (run spec.is_blank) (chars text.now) (shown result) tt }
 {
     let (_, rest) = split_run(text, CharClass::Blank);
@@ -194,6 +243,30 @@ pub fn skip_some(text: &str, class: CharClass) -> Option<&str>
 pub fn some_blanks(text: &str) -> Option<&str>
     ensures { Skips (some_run spec.is_blank) tt (chars text.now) result }
 {
+    match past_space(text) {
+        Some(rest) => Some(rest),
+        None => many_blanks(text),
+    }
+}
+
+// The text behind a space before no blank, which most gaps are: it needs no scan.
+#[inline(always)]
+fn past_space(text: &str) -> Option<&str>
+    ensures { IfSome result (λ rest. Front (some_run spec.is_blank) (chars text.now) (shown rest) tt) }
+{
+    if begins_with_gap(text.as_bytes()) {
+        let (_, rest) = text.split_at(1);
+        Some(rest)
+    } else {
+        None
+    }
+}
+
+// The text behind any number of blanks but none.
+#[inline(never)]
+fn many_blanks(text: &str) -> Option<&str>
+    ensures { Skips (some_run spec.is_blank) tt (chars text.now) result }
+{
     let (front, rest) = split_run(text, CharClass::Blank);
     if front.is_empty() { None } else { Some(rest) }
 }
@@ -203,6 +276,33 @@ pub fn some_blanks(text: &str) -> Option<&str>
 pub fn number(text: &str, limit: u32) -> Option<(u32, &str)>
     ensures { Reads (spec.number limit) (λ n. n) (chars text.now) result }
 {
+    match lone_digit(text, limit) {
+        Some(found) => Some(found),
+        None => any_number(text, limit),
+    }
+}
+
+// The same of one digit before what is none, as versions are: it needs no scan.
+#[inline(always)]
+fn lone_digit(text: &str, limit: u32) -> Option<(u32, &str)>
+    ensures { IfSome result (λ read. Front (spec.number limit) (chars text.now) (shown read.1) read.0) }
+{
+    let value = first_digit(text.as_bytes())?;
+    if limit < value {
+        return None;
+    }
+    let (_, rest) = text.split_at(1);
+    Some((value, rest))
+}
+
+// The same of any number.
+#[inline(always)]
+fn any_number(text: &str, limit: u32) -> Option<(u32, &str)>
+    ensures { Reads (spec.number limit) (λ n. n) (chars text.now) result }
+{
+    if !begins_with_digit(text.as_bytes()) {
+        return None;
+    }
     let (digits, rest) = split_run(text, CharClass::Digit);
     let value = number_of_digits(digits)?;
     if value > limit {
@@ -236,6 +336,30 @@ fn named(run: &str) -> Option<&str>
 pub fn word(text: &str) -> Option<(Option<&str>, &str)>
     ensures { Reads spec.word seen (chars text.now) result }
 {
+    match past_nil(text) {
+        Some(rest) => Some((None, rest)),
+        None => any_word(text),
+    }
+}
+
+// The text behind a lone `-` before a space: an absent word.
+#[inline(always)]
+fn past_nil(text: &str) -> Option<&str>
+    ensures { IfSome result (λ rest. Front spec.word (chars text.now) (shown rest) None) }
+{
+    if begins_with_nil(text.as_bytes()) {
+        let (_, rest) = text.split_at(1);
+        Some(rest)
+    } else {
+        None
+    }
+}
+
+// The same of any word.
+#[inline(always)]
+fn any_word(text: &str) -> Option<(Option<&str>, &str)>
+    ensures { Reads spec.word seen (chars text.now) result }
+{
     let (run, rest) = split_run(text, CharClass::Visible);
     if run.is_empty() {
         return None;
@@ -255,7 +379,7 @@ pub fn host(text: &str) -> Option<(Option<&str>, &str)>
     if run.is_empty() {
         return None;
     }
-    if !run.ends_with(':') {
+    if !ends_in_colon(run.as_bytes()) {
         return Some((named(run), rest));
     }
     let (front, after) = text.split_at(run.len() - 1);

@@ -23,6 +23,7 @@ ghost use Rattle.syslog_pieces.specs.Pieces.View.{Reads};
 pub mod civil;
 mod digits;
 mod display;
+mod early;
 mod fields;
 pub mod kept;
 pub mod loose;
@@ -30,6 +31,7 @@ pub mod month_date;
 pub mod plain;
 #[cfg(test)]
 mod tests;
+mod usual;
 mod written;
 pub mod zone;
 
@@ -39,6 +41,7 @@ use jiff::tz::Offset;
 pub use loose::loose_stamp;
 pub use month_date::{MonthDate, shown_date};
 use std::cmp::Ordering;
+use usual::usual_stamp;
 pub use zone::year_at;
 
 /// An instant, and how far the clock that showed it is ahead of UTC.
@@ -71,6 +74,17 @@ pub fn rfc3339(text: &str) -> Option<OffsetTimestamp>
 /// that begins with `-` is never more than that.
 #[inline(always)]
 pub fn header_stamp(text: &str) -> Option<(Option<OffsetTimestamp>, &str)>
+    ensures { Reads spec.header_stamp (λ s. s) (chars text.now) result }
+{
+    match usual_stamp(text) {
+        Some((stamp, rest)) => Some((Some(stamp), rest)),
+        None => any_header_stamp(text),
+    }
+}
+
+// The same, whatever its form.
+#[inline(never)]
+fn any_header_stamp(text: &str) -> Option<(Option<OffsetTimestamp>, &str)>
     ensures { Reads spec.header_stamp (λ s. s) (chars text.now) result }
 {
     match literal(text, '-') {

@@ -1,11 +1,11 @@
 -- What the readers of numbers and words answer.
 use Rattle.std.proofs.Common.{◌≡◌, ◌≢◌, ℕ, zero, suc, get_or, ◌-◌, ◌<◌, ◌≤◌, ◌^◌, ◌⊎◌, inl, inr, Bool, List, [], ◌∷◌, ◌++◌, length, take, drop, Option, Some, None, Result, MatchOption, refl, sym, ap, subst, ◌∙◌, arith, append_assoc, rules}
-use Rattle.std.proofs.lemmas.List.{append_cancel_left, length-append, take-append-le, take-append-drop, drop_all, same_from_push}
-use Rattle.std.proofs.lemmas.Str.{IsAscii-drop, IsCharBoundary-from_ascii, chars_past_char, chars-append, encodes-chars, encodes-IsAscii, chars-IsAscii, encodes-append, IsUtf8-take, IsUtf8-from_ascii}
+use Rattle.std.proofs.lemmas.List.{append_cancel_left, length-append, take-append-le, take_at, same_from_push}
+use Rattle.std.proofs.lemmas.Str.{IsAscii-drop, IsCharBoundary-at_seam, IsCharBoundary-from_ascii, chars_past_char, chars-append, encodes-chars, encodes-IsAscii, chars-IsAscii, encodes-append, IsUtf8-take, IsUtf8-from_ascii}
 use Rattle.std.proofs.lemmas.Str.Parse.{IsNumeralModel, IsDigitsTest, numerals_by_value, parse_digits}
 use Rattle.std.specs.Str.{chars, IsUtf8, IsAscii, IsCharBoundary, encode_utf8_all}
 use Rattle.std.specs.Str.Parse.{digits_value, ParsesUnsigned}
-use Rattle.std.specs.Str.Pattern.{FindsCharPrefix, StripsPrefix, HasSuffixMatch, FindsCharSuffix}
+use Rattle.std.specs.Str.Pattern.{FindsCharPrefix, StripsPrefix}
 use Rattle.std.specs.Borrow.{Bor}
 use Rattle.std.specs.Result.{OkIff}
 use Rattle.std.specs.Char.{encode_utf8, is_ascii_digit, is_not_whitespace}
@@ -201,20 +201,23 @@ module _ (bs xs ys : List ℕ) (s : SplitsRun is_not_whitespace bs xs ys) where
         let l = h.0 in
         elim (host_run p q v g h) [ inl r ↦ r.1 (chars front, r.0 ∙ run_chars) | inr r ↦ (let k = ap length (r ∙ run_chars) in omega (arith, length-append p colon, length-append (chars front) colon)) ]
 
-  -- what `ends_with` and `split_at` give
-  module _ (front after : List ℕ) (h : HasSuffixMatch (FindsCharSuffix 58) xs) (e : front ≡ take (length xs - 1) bs) (f : after ≡ drop (length xs - 1) bs) where
+  -- what a look at the last byte and `split_at` give
+  module _ (front after : List ℕ) (h : (before : List ℕ) × (xs ≡ before ++ colon)) (e : front ≡ take (length xs - 1) bs) (f : after ≡ drop (length xs - 1) bs) where
+    place : length h.0 ≡ length xs - 1
+    place = omega (arith, ap length h.1, length-append h.0 colon)
+
     front_is : front ≡ take (length xs - 1) xs
     front_is = e ∙ ap (λ (x : List ℕ). take (length xs - 1) x) s.whole ∙ take-append-le (length xs - 1) xs ys (omega arith)
 
-    last_is : drop (length xs - 1) xs ≡ colon
-    unfolding encode_utf8
-    last_is = ap (λ (x : ℕ). drop (length xs - x) xs) (sym h.1.0) ∙ h.1.1.split ∙ ap (λ (x : List ℕ). colon ++ x) (drop_all (length xs) xs (omega arith))
-
     run_split : xs ≡ front ++ colon
-    run_split = rw (front_is, ← last_is) (sym (take-append-drop (length xs - 1) xs))
+    run_split =
+        let same : front ≡ h.0 = front_is ∙ ap (λ (n : ℕ). take n xs) (sym place) ∙ ap (take (length h.0)) h.1 ∙ take_at h.0 colon (length h.0) refl in
+        h.1 ∙ ap (λ (x : List ℕ). x ++ colon) (sym same)
 
     front_text : IsUtf8 front
-    front_text = subst IsUtf8 (sym front_is) (IsUtf8-take xs (length xs - 1) s.front_utf8 h.1.2)
+    front_text =
+        let cut = IsCharBoundary-at_seam xs h.0 colon h.1 (IsUtf8-from_ascii colon colon_ascii) in
+        subst IsUtf8 (sym front_is) (IsUtf8-take xs (length xs - 1) s.front_utf8 (subst (λ (n : ℕ). IsCharBoundary xs n) place cut))
 
     pub host_colon_read : 0 < length front → Front host (chars bs) (chars after) (Some (chars front))
     host_colon_read = host_front_colon front after run_split (cut_at bs front after (length xs - 1) e f) front_text

@@ -25,7 +25,7 @@ at_earlier (Unambiguous o) tz dt offset s e h = let at = at_same dt offset o s (
 at_earlier (Gap before after) tz dt offset s e h = absurd (let t : None ≡ Some offset = e in cc)
 at_earlier (Fold before after) tz dt offset s e h = let at = at_same dt offset before s (cc) h in (at, at)
 
-in_any : (tz : Option TimeZone) (local : TimeZone) (dt : DateTime) (offset : Offset) (s : OffsetTimestamp)
+pub in_any : (tz : Option TimeZone) (local : TimeZone) (dt : DateTime) (offset : Offset) (s : OffsetTimestamp)
     → earlier (ambiguous_at (zone_of tz local) dt) ≡ Some offset → IsStampAt dt offset s → IsStampInAny tz local dt s
 in_any (Some tz) local dt offset s e h = (at_earlier (ambiguous_at tz dt) tz dt offset s e h).0
 in_any None local dt offset s e h = (at_earlier (ambiguous_at local dt) local dt offset s e h).1

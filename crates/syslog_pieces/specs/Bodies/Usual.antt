@@ -5,7 +5,13 @@ use Rattle.jiff_fmt.specs.Text.{pad2}
 use Rattle.syslog_pieces.specs.Bodies.MonthReading.{small_month}
 use Rattle.syslog_pieces.specs.declared.timestamp.month_date.Clock.{Clock}
 
--- three letters that name the month, and the rest
+-- three letters that name the month
+abbrev pub NamesMonth : ℕ → ℕ → ℕ → ℕ → Type 0
+NamesMonth a b c month =
+    (a < 128) × (b < 128) × (c < 128)
+    × (small_month (to_ascii_lowercase a) (to_ascii_lowercase b) (to_ascii_lowercase c) ≡ Some month)
+
+-- the same at the front of bytes, and the rest
 pub record IsMonthBytes (bytes : List ℕ) (month : ℕ) (rest : List ℕ) : Type 0 where
   pub a : ℕ
   pub b : ℕ

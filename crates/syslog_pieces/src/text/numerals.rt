@@ -19,10 +19,12 @@ pub(crate) fn number_of_digits(digits: &str) -> Option<u32>
     }
 }
 
-// One to three digits, which most numbers have: they need no loop.
+/// One to five digits, which most numbers have: they need no loop.
 #[inline(always)]
-fn few_digits(digits: &[u8]) -> Option<u32>
-    ensures { IfSome result (λ value. (0 < length digits.now) × (value < 1000) × (value ≡ digits_value 10 digits.now)) }
+pub(crate) fn few_digits(digits: &[u8]) -> Option<u32>
+    ensures value { IfSome result (λ value.
+        (0 < length digits.now) × (value < 100_000) × (value ≡ digits_value 10 digits.now)) }
+    ensures digits { IfSome result (λ _. Each is_ascii_digit digits.now) }
 {
     match digits {
         [a @ b'0'..=b'9'] => Some(u32::from(*a - b'0')),
@@ -32,6 +34,27 @@ fn few_digits(digits: &[u8]) -> Option<u32>
         [a @ b'0'..=b'9', b @ b'0'..=b'9', c @ b'0'..=b'9'] => {
             let tens = u32::from(*a - b'0') * 10 + u32::from(*b - b'0');
             Some(tens * 10 + u32::from(*c - b'0'))
+        }
+        [
+            a @ b'0'..=b'9',
+            b @ b'0'..=b'9',
+            c @ b'0'..=b'9',
+            d @ b'0'..=b'9',
+        ] => {
+            let front = u32::from(*a - b'0') * 10 + u32::from(*b - b'0');
+            let back = u32::from(*c - b'0') * 10 + u32::from(*d - b'0');
+            Some(front * 100 + back)
+        }
+        [
+            a @ b'0'..=b'9',
+            b @ b'0'..=b'9',
+            c @ b'0'..=b'9',
+            d @ b'0'..=b'9',
+            e @ b'0'..=b'9',
+        ] => {
+            let front = u32::from(*a - b'0') * 10 + u32::from(*b - b'0');
+            let back = u32::from(*c - b'0') * 10 + u32::from(*d - b'0');
+            Some((front * 100 + back) * 10 + u32::from(*e - b'0'))
         }
         _ => None,
     }

@@ -13,9 +13,9 @@ ghost use Rattle.syslog_pieces.specs.Timestamp.Fields.{AreCivil, fields_of};
 ghost use Rattle.syslog_pieces.specs.Timestamp.Printed.{fields_text, offset_sign, unsigned_date_time};
 ghost use Rattle.syslog_pieces.specs.Timestamp.Zone.{dating_value, earlier, given_zone};
 
-use super::fields::CivilFields;
+use super::fields::{CivilFields, is_early};
 use super::month_date::MonthDate;
-use super::zone::{Dating, fields_in, offset_before, year_of};
+use super::zone::{Dating, fields_in, offset_before, year_of, zone_of};
 use crate::text::written::digit;
 use jiff::tz::{Offset, TimeZone};
 
@@ -47,28 +47,6 @@ pub(super) fn is_civil(fields: CivilFields) -> bool
         return false;
     }
     is_early(fields) || fields.datetime().is_some()
-}
-
-// Whether the date is one that each month has. Most are, and then no calendar is asked.
-#[inline(always)]
-fn is_early(fields: CivilFields) -> bool
-    ensures { IsTrue result → pos 0 ≤ℤ fields.year → fields.year <ℤ pos 9999 → AreCivil fields }
-{
-    let date = fields.month >= 1 && fields.month <= 12 && fields.day >= 1 && fields.day <= 28;
-    let clock = fields.hour < 24 && fields.minute < 60 && fields.second < 60;
-    date && clock && fields.nanosecond < 1_000_000_000
-}
-
-// The zone that is given, or else the local one.
-#[inline(always)]
-fn zone_of<'a, 'z>(dating: &Dating<'a, 'z>) -> &'a TimeZone<'z>
-    ensures { plain_zone result.now
-        ≡ spec.zone_of (given_zone dating.entry.now.tz) (plain_zone dating.entry.now.local.now) }
-{
-    match dating.tz {
-        Some(tz) => tz,
-        None => dating.local,
-    }
 }
 
 // The offset of the clock in the zone that shows the fields. Most zones that a filter is given have one alone.

@@ -1,5 +1,5 @@
 //! Civil fields as numbers, the datetime that they name, and its instant at an offset.
-ghost use Rattle.std.specs.Prelude.{◌≡◌, ◌<◌, ◌^◌, pos, IsNone, IfSome, SomeIff};
+ghost use Rattle.std.specs.Prelude.{◌≡◌, ◌<◌, ◌≤ℤ◌, ◌<ℤ◌, ◌^◌, pos, IsNone, IsTrue, IfSome, SomeIff};
 ghost use Rattle.std.specs.Int.{w16};
 ghost use Rattle.std.specs.Int.RustNames.{FitsSigned};
 ghost use Rattle.jiff.specs.Words.{IsDate, IsYmd, IsTime, IsHms};
@@ -38,6 +38,16 @@ impl CivilFields {
         let nanosecond = nanosecond_number(self.nanosecond)?;
         datetime_of(year, month, day, hour, minute, second, nanosecond)
     }
+}
+
+/// Whether the date is one that each month has. Most are, and then no calendar is asked.
+#[inline(always)]
+pub(super) fn is_early(fields: CivilFields) -> bool
+    ensures { IsTrue result → pos 0 ≤ℤ fields.year → fields.year <ℤ pos 9999 → AreCivil fields }
+{
+    let date = fields.month >= 1 && fields.month <= 12 && fields.day >= 1 && fields.day <= 28;
+    let clock = fields.hour < 24 && fields.minute < 60 && fields.second < 60;
+    date && clock && fields.nanosecond < 1_000_000_000
 }
 
 /// The stamp of the datetime on a clock at this offset, if its instant is in range.

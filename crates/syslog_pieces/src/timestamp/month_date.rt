@@ -177,7 +177,7 @@ fn read_month(text: &str) -> Option<(u32, &str)>
 
 // The number of the month that three small letters name.
 #[tactic(auto, unfolding(crate::specs::Bodies::MonthReading::small_month))]
-pub(super) fn small_month(a: char, b: char, c: char) -> Option<u32>
+fn small_month(a: char, b: char, c: char) -> Option<u32>
     ensures { result ≡ parts.small_month a b c }
 {
     match (a, b, c) {

@@ -54,7 +54,7 @@ fn fields_of(written: Written) -> CivilFields
 }
 
 #[inline(always)]
-fn offset_of(seconds: i32) -> Option<Offset>
+pub(super) fn offset_of(seconds: i32) -> Option<Offset>
     ensures value { IfSome result (λ offset. offset.seconds ≡ seconds) }
     ensures none { IsNone result → ¬ (IsOffsetSeconds seconds) }
 {

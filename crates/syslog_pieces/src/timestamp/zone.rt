@@ -6,10 +6,12 @@
 ghost use Rattle.std.specs.Prelude.{◌≡◌, Some, pos, ◌<ℤ◌, IfSome, IsNone};
 ghost use Rattle.jiff.specs.Words.{plain_zone};
 ghost use Rattle.syslog_pieces.specs.Timestamp.{IsAnswer};
+ghost use Rattle.syslog_pieces.specs.Bodies.MonthText.{zone_of as one_zone};
 ghost use Rattle.syslog_pieces.specs.Timestamp.Zone as spec;
 ghost use Rattle.jiff.specs.Words.{ambiguous_at};
 
 use super::OffsetTimestamp;
+use super::early::early_stamp;
 use super::fields::{CivilFields, at_offset};
 use super::month_date::MonthDate;
 use jiff::Timestamp;
@@ -34,7 +36,35 @@ pub fn month_stamp(date: MonthDate, dating: &Dating<'_, '_>) -> Option<OffsetTim
     ensures { IsAnswer (spec.IsMonthStamp (spec.dating_value dating.entry.now) date) result }
 {
     let year = year_of(date, dating.year)?;
-    of_fields(fields_in(date, year), dating.tz, dating.local)
+    let fields = fields_in(date, year);
+    match fixed_stamp(fields, dating) {
+        Some(stamp) => Some(stamp),
+        None => of_fields(fields, dating.tz, dating.local),
+    }
+}
+
+/// The zone that is given, or else the local one.
+#[inline(always)]
+pub(super) fn zone_of<'a, 'z>(dating: &Dating<'a, 'z>) -> &'a TimeZone<'z>
+    ensures { plain_zone result.now
+        ≡ one_zone (spec.given_zone dating.entry.now.tz) (plain_zone dating.entry.now.local.now) }
+{
+    match dating.tz {
+        Some(tz) => tz,
+        None => dating.local,
+    }
+}
+
+// The timestamp of a date that each month has, in a zone of one offset.
+#[inline(always)]
+fn fixed_stamp(fields: CivilFields, dating: &Dating<'_, '_>) -> Option<OffsetTimestamp>
+    ensures { IfSome result
+        (spec.IsStampOfFields (spec.given_zone dating.entry.now.tz) (plain_zone dating.entry.now.local.now) fields) }
+{
+    match zone_of(dating).to_fixed_offset() {
+        Ok(offset) => early_stamp(fields, offset),
+        Err(_) => None,
+    }
 }
 
 /// The civil fields of the month date in a year.
@@ -72,7 +102,7 @@ pub(super) fn year_of(date: MonthDate, year: Option<i32>) -> Option<i32>
     }
 }
 
-#[inline(always)]
+#[inline(never)]
 fn of_fields(
     fields: CivilFields,
     tz: Option<&TimeZone<'_>>,

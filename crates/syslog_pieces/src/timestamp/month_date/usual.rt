@@ -3,16 +3,14 @@
 //! Each reader here looks at bytes, and answers nothing where they have another form: the date is then read piece by
 //! piece. The form has fifteen bytes.
 ghost use Rattle.std.specs.Prelude.{◌≡◌, ℕ, ◌+◌, ◌<◌, ◌++◌, ◌∷◌, IfSome, IsTrue, Some};
-ghost use Rattle.std.specs.Char.{to_ascii_lowercase};
 ghost use Rattle.std.specs.Str.{chars};
 ghost use Rattle.jiff_fmt.specs.Text.{pad2};
-ghost use Rattle.syslog_pieces.specs.Bodies.MonthReading.{small_month};
 ghost use Rattle.syslog_pieces.specs.Bodies.Usual as spec;
 ghost use Rattle.syslog_pieces.specs.Pieces.Class.{Front};
 ghost use Rattle.syslog_pieces.specs.Pieces.View.{shown};
 ghost use Rattle.syslog_pieces.specs.Timestamp.MonthDate.{yearless_date};
 
-use super::{Clock, Day, MonthDate, date_of, small_month};
+use super::{Clock, Day, MonthDate, date_of};
 
 const LENGTH: usize = 15;
 
@@ -22,21 +20,35 @@ fn month(text: &[u8]) -> Option<(u32, &[u8])>
     ensures { IfSome result (λ read. spec.IsMonthBytes text.now read.0 read.1.now) }
 {
     match text {
-        [a @ b'A'..=b'z', b @ b'A'..=b'z', c @ b'A'..=b'z', rest @ ..] => {
-            let number = small_month(small(*a), small(*b), small(*c))?;
+        [a, b, c, rest @ ..] => {
+            let number = named_month(*a, *b, *c)?;
             Some((number, rest))
         }
         _ => None,
     }
 }
 
-// The letter in small.
+// The number of the month that a capital and two small letters name.
+#[tactic(auto, unfolding(crate::specs::Bodies::MonthReading::small_month))]
 #[inline(always)]
-fn small(letter: u8) -> char
-    requires { letter < 128 }
-    ensures { result ≡ to_ascii_lowercase letter }
+fn named_month(a: u8, b: u8, c: u8) -> Option<u32>
+    ensures { IfSome result (λ month. spec.NamesMonth a b c month) }
 {
-    char::from(letter).to_ascii_lowercase()
+    match (a, b, c) {
+        (b'J', b'a', b'n') => Some(1),
+        (b'F', b'e', b'b') => Some(2),
+        (b'M', b'a', b'r') => Some(3),
+        (b'A', b'p', b'r') => Some(4),
+        (b'M', b'a', b'y') => Some(5),
+        (b'J', b'u', b'n') => Some(6),
+        (b'J', b'u', b'l') => Some(7),
+        (b'A', b'u', b'g') => Some(8),
+        (b'S', b'e', b'p') => Some(9),
+        (b'O', b'c', b't') => Some(10),
+        (b'N', b'o', b'v') => Some(11),
+        (b'D', b'e', b'c') => Some(12),
+        _ => None,
+    }
 }
 
 // Two digits.
@@ -114,7 +126,7 @@ fn day(text: &[u8]) -> Option<(u32, &[u8])>
 
 // Hour, minute and second.
 #[inline(always)]
-fn clock(text: &[u8]) -> Option<(Clock, &[u8])>
+pub(in crate::timestamp) fn clock(text: &[u8]) -> Option<(Clock, &[u8])>
     ensures { IfSome result (λ read. spec.IsClockBytes text.now read.0 read.1.now) }
 {
     let (hour, rest) = pair(text)?;
@@ -146,6 +158,10 @@ fn ends_clock(text: &[u8]) -> bool
 pub fn usual_date(text: &str) -> Option<(MonthDate, &str)>
     ensures { IfSome result (λ read. Front yearless_date (chars text.now) (shown read.1) read.0) }
 {
+    // With the length known, no piece looks for its end.
+    if text.len() < LENGTH {
+        return None;
+    }
     let (month, behind) = month(text.as_bytes())?;
     let (day, behind) = day(behind)?;
     let (clock, behind) = clock(behind)?;

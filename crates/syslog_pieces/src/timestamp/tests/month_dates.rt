@@ -236,7 +236,7 @@ fn shows_no_date_elsewhere(rt: HostRuntime) {
 fn reads_the_usual_form_at_one_look(rt: HostRuntime) -> Result<(), Fail> {
     for (text, date, left) in [
         ("Dec 28 16:49:07 h", DECEMBER, " h"),
-        ("dEC 28 16:49:07", DECEMBER, ""),
+        ("Dec 28 16:49:07", DECEMBER, ""),
         ("Sep  5 07:08:09-", SEPTEMBER, "-"),
     ] {
         let (read, rest) = usual_date(text).ok_or("no usual date")?;
@@ -254,6 +254,7 @@ fn reads_the_usual_form_at_one_look(rt: HostRuntime) -> Result<(), Fail> {
         "Dec\t28 16:49:07",
         "Dec 28 6:49:07",
         "Dez 28 16:49:07",
+        "dEC 28 16:49:07",
         "",
     ] {
         assert!(rt; usual_date(text).is_none(), "{text:?}");

@@ -1,8 +1,10 @@
-use Rattle.std.proofs.Common.{arith, rules}
+use Rattle.std.proofs.Common.{◌≡◌, ◌<◌, ℕ, List, false, length, get_or, arith, rules, subst}
+use Rattle.std.specs.Char.{is_ascii_digit}
 use Rattle.std.specs.Str.{chars}
 use Rattle.syslog_pieces.specs.Pieces.Class.{NoFront}
 use Rattle.syslog_pieces.specs.Text.{number}
-use Rattle.syslog_pieces.proofs.text.number.Goals as goal
+use Rattle.syslog_pieces.proofs.text.any_number.Goals as goal
+use Rattle.syslog_pieces.proofs.TextLemmas.Looks.{no_number}
 use Rattle.syslog_pieces.proofs.TextLemmas.Words.{number_read, number_past, number_bad}
 
 pub number_of_digits-requires : goal.number_of_digits-requires
@@ -18,3 +20,9 @@ pub returns-in_err-value : goal.returns-in_err-value
 returns-in_err-value c =
     let n : NoFront (number c.args.limit) (chars c.args.text.now) =
     number_bad c.args.text.now c.split_run.result.0.now c.split_run.result.1.now c.split_run.ensures c.args.limit c.in_err-value.ensures (omega arith) in search rules
+
+pub returns-then-not-begins_with_digit : goal.returns-then-not-begins_with_digit
+returns-then-not-begins_with_digit c =
+    no_number c.args.limit c.args.text.now c.utf8.text
+    (subst (λ (x : List ℕ). 0 < length x → is_ascii_digit (get_or x 0 0) ≡ false) c.as_bytes.ensures.value
+    c.if-not-begins_with_digit.ensures)

@@ -1,5 +1,5 @@
 use Rattle.syslog_pieces.specs.Text.{is_blank}
-use Rattle.syslog_pieces.proofs.text.some_blanks.Goals as goal
+use Rattle.syslog_pieces.proofs.text.many_blanks.Goals as goal
 use Rattle.syslog_pieces.proofs.TextLemmas.Runs.{some_run_front, no_some_run}
 use Rattle.syslog_pieces.proofs.TextLemmas.Chars.{empty_is, nonempty_is}
 

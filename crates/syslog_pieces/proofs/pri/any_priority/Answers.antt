@@ -4,7 +4,7 @@ use Rattle.syslog_pieces.specs.Pieces.Class.{NoFront}
 use Rattle.syslog_pieces.specs.Pri.{priority, priority_row}
 use Rattle.syslog_pieces.proofs.PieceLemmas.Rows.{row_of, no_row, ◌then◌, ◌past◌}
 use Rattle.syslog_pieces.proofs.PriLemmas.{as_priority, no_priority, priority_row_det}
-use Rattle.syslog_pieces.proofs.pri.priority.Goals as goal
+use Rattle.syslog_pieces.proofs.pri.any_priority.Goals as goal
 
 pub returns-in_err-rest : goal.returns-in_err-rest
 returns-in_err-rest c =

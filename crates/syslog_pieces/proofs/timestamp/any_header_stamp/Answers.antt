@@ -3,7 +3,7 @@ use Rattle.std.specs.Str.{chars}
 use Rattle.syslog_pieces.specs.Pieces.Class.{NoFront}
 use Rattle.syslog_pieces.specs.Timestamp.{header_stamp}
 use Rattle.syslog_pieces.proofs.TimestampLemmas.Piece.{dash_front, stamp_front, no_stamp_front, no_space_front}
-use Rattle.syslog_pieces.proofs.timestamp.header_stamp.Goals as goal
+use Rattle.syslog_pieces.proofs.timestamp.any_header_stamp.Goals as goal
 
 pub returns-in-Some : goal.returns-in-Some
 returns-in-Some c = dash_front c.in-Some.ensures

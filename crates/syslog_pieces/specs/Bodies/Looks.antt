@@ -1,0 +1,27 @@
+-- What the first bytes of a text are.
+use Rattle.std.specs.Prelude.{◌≡◌, ◌⊎◌, ℕ, ◌+◌, ◌<◌, List, ◌∷◌, ◌++◌, length, slice_index}
+use Rattle.jiff_fmt.specs.Text.{pad2}
+use Rattle.syslog_pieces.specs.Timestamp.Printed.{pad3}
+
+-- a byte past white space
+abbrev pub BeginsVisibly : List ℕ → Type 0
+BeginsVisibly bytes = (0 < length bytes) × (32 < slice_index bytes 0)
+
+-- a space, and then such a byte
+abbrev pub BeginsWithGap : List ℕ → Type 0
+BeginsWithGap bytes = (1 < length bytes) × (slice_index bytes 0 ≡ 32) × (32 < slice_index bytes 1)
+
+-- `-`, and a space
+abbrev pub BeginsWithNil : List ℕ → Type 0
+BeginsWithNil bytes = (1 < length bytes) × (slice_index bytes 0 ≡ 45) × (slice_index bytes 1 ≡ 32)
+
+-- a digit, and then a byte before the digits
+abbrev pub BeginsWithDigit : List ℕ → ℕ → Type 0
+BeginsWithDigit bytes value =
+    (1 < length bytes) × (value < 10) × (slice_index bytes 0 ≡ 48 + value) × (slice_index bytes 1 < 48)
+
+-- `<`, a number of one to three digits, `>`, and the rest
+abbrev pub IsPriorityBytes : List ℕ → ℕ → List ℕ → Type 0
+IsPriorityBytes bytes n rest =
+    ((n < 100) × (bytes ≡ 60 ∷ (pad2 n ++ (62 ∷ rest))))
+    ⊎ (((n < 256) × (bytes ≡ 60 ∷ (pad3 n ++ (62 ∷ rest)))) ⊎ ((n < 10) × (bytes ≡ 60 ∷ (48 + n) ∷ 62 ∷ rest)))

@@ -1,0 +1,74 @@
+//! What the first bytes of a text tell, or its last one, without a scan.
+ghost use Rattle.std.specs.Prelude.{◌≡◌, ◌≢◌, ℕ, List, ◌∷◌, ◌++◌, [], IfSome, IsTrue, MatchBool, drop, false, length, slice_index, ◌<◌};
+ghost use Rattle.std.specs.Bool.{OnFalse};
+ghost use Rattle.std.specs.Char.{is_ascii_digit};
+ghost use Rattle.syslog_pieces.specs.Bodies.Looks as spec;
+
+/// Whether this byte begins the bytes.
+#[inline(always)]
+pub(crate) fn begins_with(bytes: &[u8], byte: u8) -> bool
+    ensures { MatchBool result (bytes.now ≡ byte ∷ drop 1 bytes.now) ((more : List ℕ) → bytes.now ≢ byte ∷ more) }
+{
+    match bytes {
+        [first, ..] => *first == byte,
+        [] => false,
+    }
+}
+
+/// Whether a byte that is no blank begins the bytes.
+#[inline(always)]
+pub(crate) fn begins_visibly(bytes: &[u8]) -> bool
+    ensures { IsTrue result → spec.BeginsVisibly bytes.now }
+{
+    match bytes {
+        [first, ..] => *first > b' ',
+        [] => false,
+    }
+}
+
+/// Whether a space begins the bytes, and behind it stands a byte that is no blank.
+#[inline(always)]
+pub(crate) fn begins_with_gap(bytes: &[u8]) -> bool
+    ensures { IsTrue result → spec.BeginsWithGap bytes.now }
+{
+    match bytes {
+        [b' ', next, ..] => *next > b' ',
+        _ => false,
+    }
+}
+
+/// Whether `-` and a space begin the bytes.
+#[inline(always)]
+pub(crate) fn begins_with_nil(bytes: &[u8]) -> bool
+    ensures { IsTrue result → spec.BeginsWithNil bytes.now }
+{
+    matches!(bytes, [b'-', b' ', ..])
+}
+
+/// Whether the last byte is that of a colon.
+#[inline(always)]
+pub(crate) fn ends_in_colon(bytes: &[u8]) -> bool
+    ensures { MatchBool result ((front : List ℕ) × (bytes.now ≡ front ++ (58 ∷ [])))
+        ((front : List ℕ) → bytes.now ≢ front ++ (58 ∷ [])) }
+{
+    matches!(bytes, [.., b':'])
+}
+
+/// Whether a digit begins the bytes.
+#[inline(always)]
+pub(crate) fn begins_with_digit(bytes: &[u8]) -> bool
+    ensures { OnFalse result (0 < length bytes.now → is_ascii_digit (slice_index bytes.now 0) ≡ false) }
+{
+    matches!(bytes, [b'0'..=b'9', ..])
+}
+
+/// The digit that begins the bytes, where none stands behind it but a byte before the digits.
+#[inline(always)]
+pub(crate) fn first_digit(bytes: &[u8]) -> Option<u32>
+    ensures { IfSome result (λ value. spec.BeginsWithDigit bytes.now value) }
+{
+    match bytes {
+        [digit @ b'0'..=b'9', next, ..] if *next < b'0' => Some(u32::from(*digit - b'0')),
+        _ => None,
+    }
+}
