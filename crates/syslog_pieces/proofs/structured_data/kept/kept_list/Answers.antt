@@ -1,4 +1,4 @@
-use Rattle.std.proofs.Common.{rules, ◌≡◌, Bool, false, refl}
+use Rattle.std.proofs.Common.{rules, ◌≡◌, false, refl}
 use Rattle.std.specs.Prelude.{is_some}
 use Rattle.std.specs.Str.{chars}
 use Rattle.syslog_pieces.proofs.structured_data.kept.kept_list.Goals as goal

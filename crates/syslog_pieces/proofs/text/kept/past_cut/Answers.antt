@@ -1,7 +1,7 @@
 use Rattle.std.proofs.Common.{refl}
 use Rattle.std.specs.Str.{chars}
 use Rattle.syslog_pieces.proofs.text.kept.past_cut.Goals as goal
-use Rattle.syslog_pieces.proofs.TextLemmas.Copied.{before_gap, behind_gap}
+use Rattle.syslog_pieces.proofs.TextLemmas.Copied.{behind_gap}
 
 pub returns-in-Some : goal.returns-in-Some
 returns-in-Some c = rw c.in-Some.is (λ copied h.
