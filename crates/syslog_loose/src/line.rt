@@ -3,8 +3,9 @@
 //! Most lines of RFC 5424 that a program wrote are already in the form that a message prints: one space in each gap, no
 //! leading zeros, strict elements alone. Such a line needs no message in between: all but a `Z` of its timestamp is
 //! copied. So is a line with one gap behind its timestamp that is wider, or with one broken element behind strict ones:
-//! that piece is left out of the copy. Each reader here answers the text behind its piece where that piece prints as it is written, and may always
-//! answer nothing, since the line is then read and printed as any other. So no contract above speaks of this way.
+//! that piece is left out of the copy. Each reader here answers the text behind its piece where that piece prints as it
+//! is written, and may always answer nothing, since the line is then read and printed as any other. So no contract above
+//! speaks of this way.
 ghost use Rattle.std.specs.Prelude.{◌≡◌, ◌++◌, ◌∷◌, [], IfOk, IfSome, IsOk, IsTrue, Some, string_bytes};
 ghost use Rattle.std.specs.Fmt.{WritesOnOk};
 ghost use Rattle.std.specs.Str.{chars, encode_utf8_all, IsUtf8};
@@ -38,8 +39,9 @@ use syslog_pieces::text::kept::{
 };
 use syslog_pieces::timestamp::kept::kept_stamp;
 
-// A line, cut at the offset of its timestamp: all before it, whether it is `Z`, all from behind it up to what is left out,
-// if anything is, all from there or from behind the offset to the elements, and the message. An offset that prints as it is written stands before the cut, a message behind one space in the tail.
+// A line, cut at the offset of its timestamp: all before it, whether it is `Z`, all from behind it up to what is left
+// out, if anything is, all from there, or else from behind the offset, to the elements, and the message. An offset that
+// prints as it is written stands before the cut, a message behind one space in the tail.
 #[derive(Clone, Copy)]
 struct KeptLine<'a> {
     front: &'a str,
@@ -90,7 +92,7 @@ fn kept_end<'a>(text: &'a str, rest: &'a str) -> (&'a str, Option<&'a str>)
     }
 }
 
-// The line, where all but its timestamp prints as it is written.
+// The line, where all but its timestamp and what is left out prints as it is written.
 #[inline(always)]
 fn kept_line(text: &str) -> Option<KeptLine<'_>>
     ensures kept { IfSome result (λ line.
@@ -167,8 +169,8 @@ fn may_be_strict(input: &str) -> bool {
     }
 }
 
-/// Writes the printed text of the message of the trimmed line into `text`, where all but its timestamp prints as it is
-/// written, and tells whether it did. It asks for memory only for such a line, and where `text` has too little room.
+/// Writes the printed text of the message of the trimmed line into `text`, where that can be copied, and tells whether
+/// it did. It asks for memory only for such a line, and where `text` has too little room.
 pub(crate) fn copied(text: &mut String, input: &str) -> Result<bool, AllocError>
     ensures text { OfTrimmed (chars input.now) (λ whole. IfOk result (λ found. IsTrue found
         → (m : MessageValue) × IsRead5424 whole m × (string_bytes text.new ≡ encode_utf8_all (printed m)))) }

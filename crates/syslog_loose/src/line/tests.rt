@@ -67,8 +67,8 @@ fn copies_lines_that_print_as_written(rt: HostRuntime) -> Result<(), Fail> {
     Ok(())
 }
 
-// No priority, one past 191, leading zeros, a gap that is wide before the timestamp, a tab first, two wide gaps, signs, blanks
-// in elements, a broken element behind a wide gap, before a strict one or behind a broken one, and no message.
+// No priority, one past 191, leading zeros, a wide gap before the timestamp, a tab first, two wide gaps, signs, blanks in
+// elements, a broken element behind a wide gap, before a strict one or behind a broken one, and no message.
 const OTHERS: [&str; 22] = [
     "1 - - - - - -",
     "<200>1 - - - - - -",
