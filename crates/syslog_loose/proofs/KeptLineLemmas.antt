@@ -26,7 +26,7 @@ use Rattle.syslog_pieces.specs.declared.timestamp.OffsetTimestamp.{OffsetTimesta
 use Rattle.syslog_pieces.proofs.PieceLemmas.Class.{row_nil, row_cons, rows_join, rest_front}
 use Rattle.syslog_pieces.proofs.PieceLemmas.Kept.{front_of}
 use Rattle.syslog_pieces.proofs.PriLemmas.{priority_composed}
-use Rattle.syslog_pieces.proofs.TextLemmas.Copied.{extended}
+use Rattle.syslog_pieces.proofs.TextLemmas.Copied.{extended, kept_on}
 use Rattle.syslog_loose.proofs.ReadingLemmas.{only_read}
 use Rattle.syslog_loose.proofs.Rfc3164Lemmas.Apart.{shown_apart}
 use Rattle.syslog_loose.proofs.Rfc3164Lemmas.Shown.{shows_month_date}
@@ -45,6 +45,9 @@ Space t u = Kept (some_run is_blank) (λ _. 32 ∷ []) t u
 -- one space that is copied
 abbrev Gap : Text → Option Cut → Text → Option Cut → Type 0
 Gap t x u y = CopiedOn (some_run is_blank) (λ _. 32 ∷ []) t x u y
+
+pub space_on : (t u : Text) → Space t u → Gap t None u None
+space_on t u k = kept_on (some_run is_blank) (λ _. 32 ∷ []) t u None k
 
 -- a gap, as a run that may be empty
 gap_run : (t u : Text) (x y : Option Cut) → Gap t x u y → Front (run is_blank) t u tt

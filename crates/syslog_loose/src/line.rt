@@ -61,9 +61,29 @@ fn kept_front(text: &str) -> Option<&str>
     Some(rest)
 }
 
-// The text behind the names and the elements, and what is left out of them.
+// The text behind the names and the elements, and what is left out of the list, where one space stands in each gap.
 #[inline(always)]
-fn kept_tail(text: &str) -> Option<(&str, Option<Cut<'_>>)>
+fn spaced_tail(text: &str) -> Option<(&str, Option<Cut<'_>>)>
+    ensures { IfSome result (λ x. KeptTail (chars text.now) x.1 (shown x.0)) }
+{
+    let hostname = one_space(text)?;
+    let behind_hostname = kept_host(hostname)?;
+    let appname = one_space(behind_hostname)?;
+    let behind_appname = kept_word(appname)?;
+    let procid = one_space(behind_appname)?;
+    let behind_procid = kept_process(procid)?;
+    let msgid = one_space(behind_procid)?;
+    let behind_msgid = kept_word(msgid)?;
+    let elements = one_space(behind_msgid)?;
+    let (rest, cut) = kept_list(elements, None)?;
+    Some((rest, cut))
+}
+
+// The same where a gap may be wider. It stands apart, since what it carries along costs the others some thirty
+// instructions.
+#[cold]
+#[inline(never)]
+fn wide_tail(text: &str) -> Option<(&str, Option<Cut<'_>>)>
     ensures { IfSome result (λ x. KeptTail (chars text.now) x.1 (shown x.0)) }
 {
     let (hostname, first) = kept_gap(text, None)?;
@@ -77,6 +97,17 @@ fn kept_tail(text: &str) -> Option<(&str, Option<Cut<'_>>)>
     let (elements, fifth) = kept_gap(behind_msgid, fourth)?;
     let (rest, cut) = kept_list(elements, fifth)?;
     Some((rest, cut))
+}
+
+// The text behind the names and the elements, and what is left out of them.
+#[inline(always)]
+fn kept_tail(text: &str) -> Option<(&str, Option<Cut<'_>>)>
+    ensures { IfSome result (λ x. KeptTail (chars text.now) x.1 (shown x.0)) }
+{
+    match spaced_tail(text) {
+        Some(found) => Some(found),
+        None => wide_tail(text),
+    }
 }
 
 // The text up to the rest behind the elements, and the message, where that isn't behind one space: then it is one text.

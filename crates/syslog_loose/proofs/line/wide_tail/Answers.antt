@@ -1,6 +1,6 @@
 use Rattle.std.specs.Str.{chars}
 use Rattle.syslog_loose.proofs.KeptLineLemmas.{tail_kept}
-use Rattle.syslog_loose.proofs.line.kept_tail.Goals as goal
+use Rattle.syslog_loose.proofs.line.wide_tail.Goals as goal
 
 pub returns : goal.returns
 returns c =
