@@ -1,5 +1,5 @@
 -- Lines that print as they are written, put together from their pieces.
-use Rattle.std.proofs.Common.{◌≡◌, ℕ, ◌+◌, ◌*◌, ◌<◌, List, [], ◌∷◌, ◌++◌, Bool, true, false, Option, None, Some, Result, Ok, Err, inl, refl, sym, ap, ap₂, ◌∙◌, append_assoc, append-nil}
+use Rattle.std.proofs.Common.{◌≡◌, ℕ, ◌+◌, ◌*◌, ◌<◌, List, [], ◌∷◌, ◌++◌, Bool, true, false, Option, None, Some, Result, Ok, Err, inl, refl, sym, ap, ap₂, subst, ◌∙◌, append_assoc, append-nil}
 use Rattle.std.proofs.lemmas.List.{append_cancel_right}
 use Rattle.std.proofs.lemmas.Str.{encodes-append, encodes-chars}
 use Rattle.std.specs.Borrow.{Bor}
@@ -7,11 +7,13 @@ use Rattle.std.specs.Char.{encode_utf8}
 use Rattle.std.specs.Str.{chars, IsUtf8, encode_utf8_all}
 use Rattle.std.specs.Fmt.{decimal}
 use Rattle.std.specs.Option.{option_map_or}
+use Rattle.syslog_pieces.specs.Bodies.Kept.{Copies, CopiedOn}
 use Rattle.syslog_pieces.specs.Bodies.KeptStamp.{zone_text, IsKeptStamp}
 use Rattle.syslog_pieces.specs.Pieces.Class.{Text, Class, Front, run, some_run, optional, rest}
 use Rattle.syslog_pieces.specs.Pieces.Kept.{Kept}
 use Rattle.syslog_pieces.specs.Pieces.View.{seen}
 use Rattle.syslog_pieces.specs.Pri.{priority, priority_text, facility_of, severity_of, facility_number, severity_number}
+use Rattle.syslog_pieces.specs.declared.text.kept.Cut.{Cut}
 use Rattle.syslog_pieces.specs.declared.pri.SyslogFacility.{SyslogFacility}
 use Rattle.syslog_pieces.specs.declared.pri.SyslogSeverity.{SyslogSeverity}
 use Rattle.syslog_pieces.specs.ProcId.{process_word, process_text}
@@ -24,6 +26,7 @@ use Rattle.syslog_pieces.specs.declared.timestamp.OffsetTimestamp.{OffsetTimesta
 use Rattle.syslog_pieces.proofs.PieceLemmas.Class.{row_nil, row_cons, rows_join, rest_front}
 use Rattle.syslog_pieces.proofs.PieceLemmas.Kept.{front_of}
 use Rattle.syslog_pieces.proofs.PriLemmas.{priority_composed}
+use Rattle.syslog_pieces.proofs.TextLemmas.Copied.{extended, kept_on}
 use Rattle.syslog_loose.proofs.ReadingLemmas.{only_read}
 use Rattle.syslog_loose.proofs.Rfc3164Lemmas.Apart.{shown_apart}
 use Rattle.syslog_loose.proofs.Rfc3164Lemmas.Shown.{shows_month_date}
@@ -38,6 +41,17 @@ use Rattle.syslog_loose.specs.declared.variant.Variant.TheVariants.{Either, RFC5
 
 abbrev Space : Text → Text → Type 0
 Space t u = Kept (some_run is_blank) (λ _. 32 ∷ []) t u
+
+-- one space that is copied
+abbrev Gap : Text → Option Cut → Text → Option Cut → Type 0
+Gap t x u y = CopiedOn (some_run is_blank) (λ _. 32 ∷ []) t x u y
+
+pub space_on : (t u : Text) → Space t u → Gap t None u None
+space_on t u k = kept_on (some_run is_blank) (λ _. 32 ∷ []) t u None k
+
+-- a gap, as a run that may be empty
+gap_run : (t u : Text) (x y : Option Cut) → Gap t x u y → Front (run is_blank) t u tt
+gap_run t u x y k = record { piece = k.is.piece; whole = k.is.whole; is = (k.is.is.1, k.is.is.2) }
 
 -- one space, as a run that may be empty
 gap : (t u : Text) → Space t u → Front (run is_blank) t u tt
@@ -80,49 +94,113 @@ from_gap2 = some_run is_blank ∷ from_appname
 abbrev from_hostname : List Class
 from_hostname = host ∷ from_gap2
 
-module _ (t a b c d e f g h i q : Text)
-    (s1 : Space t a) (k1 : Kept host name_text a b) (s2 : Space b c) (k2 : Kept word name_text c d)
-    (s3 : Space d e) (k3 : Kept process_word process_text e f) (s4 : Space f g) (k4 : Kept word name_text g h)
-    (s5 : Space h i) (k5 : Kept forgiving elements_text i q) where
-  pub tail_kept : KeptTail t q
+-- five pieces, each behind a space
+abbrev five : Text → Text → Text → Text → Text → Text
+five a b c d e = 32 ∷ (a ++ (32 ∷ (b ++ (32 ∷ (c ++ (32 ∷ (d ++ (32 ∷ e))))))))
+
+-- and the same, put together from the front, before more
+five_on : (a b c d e r : Text) → ((((32 ∷ a) ++ (32 ∷ b)) ++ (32 ∷ c)) ++ (32 ∷ d)) ++ (32 ∷ (e ++ r)) ≡ 32 ∷ (a ++ (32 ∷ (b ++ (32 ∷ (c ++ (32 ∷ (d ++ (32 ∷ (e ++ r)))))))))
+five_on a b c d e r =
+    append_assoc (((32 ∷ a) ++ (32 ∷ b)) ++ (32 ∷ c)) (32 ∷ d) (32 ∷ (e ++ r))
+    ∙ append_assoc ((32 ∷ a) ++ (32 ∷ b)) (32 ∷ c) (32 ∷ (d ++ (32 ∷ (e ++ r))))
+    ∙ append_assoc (32 ∷ a) (32 ∷ b) (32 ∷ (c ++ (32 ∷ (d ++ (32 ∷ (e ++ r))))))
+
+-- a space and a piece behind what was copied
+step : (p x : Text) → (p ++ (32 ∷ [])) ++ x ≡ p ++ (32 ∷ x)
+step p x = append_assoc p (32 ∷ []) x
+
+module _ (t a b c d e f g h i q : Text) (x1 x2 x3 x4 x5 x6 : Option Cut)
+    (s1 : Gap t None a x1) (k1 : Kept host name_text a b) (s2 : Gap b x1 c x2) (k2 : Kept word name_text c d)
+    (s3 : Gap d x2 e x3) (k3 : Kept process_word process_text e f) (s4 : Gap f x3 g x4) (k4 : Kept word name_text g h)
+    (s5 : Gap h x4 i x5) (k5 : CopiedOn forgiving elements_text i x5 q x6) where
+  abbrev hostname_text : Text
+  hostname_text = name_text k1.value
+
+  abbrev appname_text : Text
+  appname_text = name_text k2.value
+
+  abbrev procid_text : Text
+  procid_text = process_text k3.value
+
+  abbrev msgid_text : Text
+  msgid_text = name_text k4.value
+
+  -- up to behind each name
+  up_to_hostname : Copies t x1 b (32 ∷ hostname_text)
+  up_to_hostname = extended t a b hostname_text (32 ∷ []) x1 k1.whole (s1.copies t [] refl)
+
+  up_to_appname : Copies t x2 d ((32 ∷ hostname_text) ++ (32 ∷ appname_text))
+  up_to_appname =
+      subst (λ (p : Text). Copies t x2 d p) (step (32 ∷ hostname_text) appname_text)
+      (extended t c d appname_text ((32 ∷ hostname_text) ++ (32 ∷ [])) x2 k2.whole (s2.copies t (32 ∷ hostname_text) up_to_hostname))
+
+  abbrev two : Text
+  two = (32 ∷ hostname_text) ++ (32 ∷ appname_text)
+
+  up_to_procid : Copies t x3 f (two ++ (32 ∷ procid_text))
+  up_to_procid =
+      subst (λ (p : Text). Copies t x3 f p) (step two procid_text)
+      (extended t e f procid_text (two ++ (32 ∷ [])) x3 k3.whole (s3.copies t two up_to_appname))
+
+  abbrev three : Text
+  three = two ++ (32 ∷ procid_text)
+
+  up_to_msgid : Copies t x4 h (three ++ (32 ∷ msgid_text))
+  up_to_msgid =
+      subst (λ (p : Text). Copies t x4 h p) (step three msgid_text)
+      (extended t g h msgid_text (three ++ (32 ∷ [])) x4 k4.whole (s4.copies t three up_to_procid))
+
+  abbrev four : Text
+  four = three ++ (32 ∷ msgid_text)
+
+  up_to_list : Copies t x6 q (four ++ (32 ∷ elements_text k5.value))
+  up_to_list = subst (λ (p : Text). Copies t x6 q p) (step four (elements_text k5.value)) (k5.copies t (four ++ (32 ∷ [])) (s5.copies t four up_to_msgid))
+
+  in_order : four ++ (32 ∷ elements_text k5.value) ≡ five hostname_text appname_text procid_text msgid_text (elements_text k5.value)
+  in_order =
+      ap (λ (x : Text). four ++ (32 ∷ x)) (sym (append-nil (elements_text k5.value)))
+      ∙ five_on hostname_text appname_text procid_text msgid_text (elements_text k5.value) []
+      ∙ ap (λ (x : Text). five hostname_text appname_text procid_text msgid_text x) (append-nil (elements_text k5.value))
+
+  pub tail_kept : KeptTail t x6 q
   tail_kept = record {
     hostname = k1.value;
     appname = k2.value;
     procid = k3.value;
     msgid = k4.value;
     elements = k5.value;
-    is = row_cons (some_run is_blank) from_hostname (front_of (some_run is_blank) (λ _. 32 ∷ []) t a s1)
+    is = row_cons (some_run is_blank) from_hostname s1.is
         (row_cons host from_gap2 (front_of host name_text a b k1)
-        (row_cons (some_run is_blank) from_appname (front_of (some_run is_blank) (λ _. 32 ∷ []) b c s2)
+        (row_cons (some_run is_blank) from_appname s2.is
         (row_cons word from_gap3 (front_of word name_text c d k2)
-        (row_cons (some_run is_blank) from_process (front_of (some_run is_blank) (λ _. 32 ∷ []) d e s3)
+        (row_cons (some_run is_blank) from_process s3.is
         (row_cons process_word from_gap4 (front_of process_word process_text e f k3)
-        (row_cons (some_run is_blank) from_msgid (front_of (some_run is_blank) (λ _. 32 ∷ []) f g s4)
+        (row_cons (some_run is_blank) from_msgid s4.is
         (row_cons word from_gap5 (front_of word name_text g h k4)
-        (row_cons (run is_blank) from_list (gap h i s5)
-        (row_cons forgiving [] (front_of forgiving elements_text i q k5) (row_nil q))))))))));
-    whole = s1.whole ∙ ap (λ (x : Text). 32 ∷ x) (k1.whole ∙ ap (λ (x : Text). name_text k1.value ++ x)
-        (s2.whole ∙ ap (λ (x : Text). 32 ∷ x) (k2.whole ∙ ap (λ (x : Text). name_text k2.value ++ x)
-        (s3.whole ∙ ap (λ (x : Text). 32 ∷ x) (k3.whole ∙ ap (λ (x : Text). process_text k3.value ++ x)
-        (s4.whole ∙ ap (λ (x : Text). 32 ∷ x) (k4.whole ∙ ap (λ (x : Text). name_text k4.value ++ x)
-        (s5.whole ∙ ap (λ (x : Text). 32 ∷ x) k5.whole))))))));
+        (row_cons (run is_blank) from_list (gap_run h i x4 x5 s5)
+        (row_cons forgiving [] k5.is (row_nil q))))))))));
+    copies = subst (λ (p : Text). Copies t x6 q p) in_order up_to_list;
   }
 
 -- a piece behind a space, before more
 spaced_on : (p x r y : Text) → x ++ r ≡ y → (32 ∷ (p ++ x)) ++ r ≡ 32 ∷ (p ++ y)
 spaced_on p x r y e = ap (λ (z : Text). 32 ∷ z) (append_assoc p x r ∙ ap (λ (z : Text). p ++ z) e)
 
--- five pieces, each behind a space, and then more
-abbrev five : Text → Text → Text → Text → Text → Text → Text
-five a b c d e r = 32 ∷ (a ++ (32 ∷ (b ++ (32 ∷ (c ++ (32 ∷ (d ++ (32 ∷ (e ++ r)))))))))
+-- the five pieces before more
+five_before : (a b c d e r : Text) → five a b c d e ++ r ≡ 32 ∷ (a ++ (32 ∷ (b ++ (32 ∷ (c ++ (32 ∷ (d ++ (32 ∷ (e ++ r)))))))))
+five_before a b c d e r = spaced_on a _ r _ (spaced_on b _ r _ (spaced_on c _ r _ (spaced_on d _ r _ refl)))
 
-five_on : (a b c d e r : Text) → five a b c d e [] ++ r ≡ five a b c d e r
-five_on a b c d e r = spaced_on a _ r _ (spaced_on b _ r _ (spaced_on c _ r _ (spaced_on d _ r _ (spaced_on e [] r r refl))))
+-- what is copied before a rest
+pub some_copied : (t : Text) (cut : Option Cut) (q : Text) → KeptTail t cut q → (copied : Text) × Copies t cut q copied
+some_copied t cut q l =
+    (five (name_text l.hostname) (name_text l.appname) (process_text l.procid) (name_text l.msgid) (elements_text l.elements), l.copies)
 
--- what stands before a rest is the same, whatever follows
-five_cut : (a b c d e r q tail : Text) → tail ++ r ≡ five a b c d e r → tail ++ q ≡ five a b c d e q
-five_cut a b c d e r q tail h =
-    ap (λ (x : Text). x ++ q) (append_cancel_right tail (five a b c d e []) r (h ∙ sym (five_on a b c d e r))) ∙ five_on a b c d e q
+-- where what is left out is passed over
+abbrev Passes : Text → Option Cut → Text → Text → Text → Type 0
+Passes t cut q head start = (copied : Text) → Copies t cut q copied → (behind : Text) × (start ≡ behind ++ q) × (copied ≡ head ++ behind)
+
+pub some_behind : (t : Text) (cut : Option Cut) (q head start : Text) → KeptTail t cut q → Passes t cut q head start → (front : Text) × (start ≡ front ++ q)
+some_behind t cut q head start l p = let c = some_copied t cut q l in let r = p c.0 c.1 in (r.0, r.1)
 
 pub composes : (pri : ℕ) → pri < 192 → option_map_or facility_number (facility_of pri) 5 * 8 + option_map_or severity_number (severity_of pri) 7 ≡ pri
 composes pri small =
@@ -165,19 +243,27 @@ whole_end text rest msg (front, e) s = record {
   ends = append-nil text ∙ e ∙ ap (λ (x : Text). front ++ x) s.whole;
 }
 
-module _ (t b c zone d n front end : Text) (msg : Option Text) (is_zulu : Bool) (k : KeptFront t b) (s : Space b c) (z : IsKeptStamp c zone is_zulu d)
-    (l : KeptTail d n) (e : KeptEnd d n end msg) (cut : t ≡ front ++ zone) where
+module _ (t b c zone d n front head start end : Text) (left : Option Cut) (msg : Option Text) (is_zulu : Bool) (k : KeptFront t b) (s : Space b c)
+    (z : IsKeptStamp c zone is_zulu d) (l : KeptTail d left n) (parts : Passes d left n head start) (e : KeptEnd start n end msg) (cut : t ≡ front ++ zone) where
   abbrev o : Text
   o = e.message
 
   abbrev tail : Text
-  tail = e.names
+  tail = head ++ e.names
 
   abbrev names : Text
-  names = five (name_text l.hostname) (name_text l.appname) (process_text l.procid) (name_text l.msgid) (elements_text l.elements) (32 ∷ o)
+  names = 32 ∷ (name_text l.hostname ++ (32 ∷ (name_text l.appname ++ (32 ∷ (process_text l.procid
+      ++ (32 ∷ (name_text l.msgid ++ (32 ∷ (elements_text l.elements ++ (32 ∷ o))))))))))
 
   tail_is : tail ++ (32 ∷ o) ≡ names
-  tail_is = five_cut (name_text l.hostname) (name_text l.appname) (process_text l.procid) (name_text l.msgid) (elements_text l.elements) n (32 ∷ o) tail (sym e.whole ∙ l.whole)
+  tail_is =
+      let p = parts (five (name_text l.hostname) (name_text l.appname) (process_text l.procid) (name_text l.msgid) (elements_text l.elements)) l.copies in
+      ap (λ (x : Text). (head ++ x) ++ (32 ∷ o)) (append_cancel_right e.names p.0 n (sym e.whole ∙ p.1))
+      ∙ ap (λ (x : Text). x ++ (32 ∷ o)) (sym p.2)
+      ∙ five_before (name_text l.hostname) (name_text l.appname) (process_text l.procid) (name_text l.msgid) (elements_text l.elements) (32 ∷ o)
+
+  end_is : tail ++ (32 ∷ o) ≡ head ++ (end ++ spaced msg)
+  end_is = append_assoc head e.names (32 ∷ o) ∙ ap (λ (x : Text). head ++ x) (sym e.ends)
 
   stamp_is : timestamp_text z.value ++ names ≡ z.copied ++ (zone_text is_zulu ++ (tail ++ (32 ∷ o)))
   stamp_is =
@@ -185,7 +271,7 @@ module _ (t b c zone d n front end : Text) (msg : Option Text) (is_zulu : Bool) 
       ∙ append_assoc z.copied (zone_text is_zulu) (tail ++ (32 ∷ o))
 
   -- the whole line
-  pub line_kept : PrintsKept t front is_zulu (end ++ spaced msg)
+  pub line_kept : PrintsKept t front is_zulu (head ++ (end ++ spaced msg))
   unfolding printed_5424
   line_kept = record {
     values = (Some k.pri, (k.version, (tt, (z.value, (tt, (l.hostname, (tt, (l.appname, (tt, (l.procid, (tt, (l.msgid, (tt, (l.elements, (tt, (o, tt))))))))))))))));
@@ -196,7 +282,7 @@ module _ (t b c zone d n front end : Text) (msg : Option Text) (is_zulu : Bool) 
         (row_cons (run is_blank) (rest ∷ []) e.gap (row_cons rest [] (rest_front o) (row_nil []))))));
     prints = ap₂ (λ (x : ℕ) (y : Text). 60 ∷ (decimal x ++ (62 ∷ (decimal k.version ++ (32 ∷ y))))) (composes k.pri k.composes) stamp_is
         ∙ front_prints t b c z.copied zone front (zone_text is_zulu ++ (tail ++ (32 ∷ o))) k.pri k.version cut k.whole s.whole z.whole
-        ∙ ap (λ (x : Text). front ++ (zone_text is_zulu ++ x)) (sym e.ends);
+        ∙ ap (λ (x : Text). front ++ (zone_text is_zulu ++ x)) end_is;
   }
 
 pub zone_bytes : (is_zulu : Bool) → encode_utf8_all (zone_text is_zulu) ≡ zone_text is_zulu
@@ -212,12 +298,15 @@ end_bytes tail (Some m) v w =
     sym (encodes-append (chars tail) (32 ∷ chars m.now) ∙ ap₂ (λ (x y : List ℕ). x ++ (32 ∷ y)) (encodes-chars tail v) (encodes-chars m.now w))
 
 -- what is written of such a line, by bytes
-pub line_bytes : (front tail : List ℕ) (msg : Option (Bor (List ℕ))) (is_zulu : Bool) → IsUtf8 front → IsUtf8 tail → IfSome msg (λ m. IsUtf8 m.now)
-    → front ++ (zone_text is_zulu ++ (tail ++ spaced (bytes_of msg))) ≡ encode_utf8_all (chars front ++ (zone_text is_zulu ++ (chars tail ++ spaced (seen msg))))
-line_bytes front tail msg is_zulu u v w =
-    ap₂ (λ (x y : List ℕ). x ++ y) (sym (encodes-chars front u)) (ap₂ (λ (x y : List ℕ). x ++ y) (sym (zone_bytes is_zulu)) (end_bytes tail msg v w)
-    ∙ sym (encodes-append (zone_text is_zulu) (chars tail ++ spaced (seen msg))))
-    ∙ sym (encodes-append (chars front) (zone_text is_zulu ++ (chars tail ++ spaced (seen msg))))
+pub line_bytes : (front head tail : List ℕ) (msg : Option (Bor (List ℕ))) (is_zulu : Bool) → IsUtf8 front → IsUtf8 head → IsUtf8 tail → IfSome msg (λ m. IsUtf8 m.now)
+    → front ++ (zone_text is_zulu ++ (head ++ (tail ++ spaced (bytes_of msg))))
+    ≡ encode_utf8_all (chars front ++ (zone_text is_zulu ++ (chars head ++ (chars tail ++ spaced (seen msg)))))
+line_bytes front head tail msg is_zulu u h v w =
+    let behind = chars tail ++ spaced (seen msg) in
+    ap₂ (λ (x y : List ℕ). x ++ y) (sym (encodes-chars front u)) (ap₂ (λ (x y : List ℕ). x ++ y) (sym (zone_bytes is_zulu))
+    (ap₂ (λ (x y : List ℕ). x ++ y) (sym (encodes-chars head h)) (end_bytes tail msg v w) ∙ sym (encodes-append (chars head) behind))
+    ∙ sym (encodes-append (zone_text is_zulu) (chars head ++ behind)))
+    ∙ sym (encodes-append (chars front) (zone_text is_zulu ++ (chars head ++ behind)))
 
 -- ---- by a variant that reads RFC 5424
 

@@ -1,9 +1,11 @@
--- Lines of RFC 5424 that print as they are written, but for the `Z` of their timestamp. (Words of the bodies alone.)
+-- Lines of RFC 5424 that print as they are written, but for the `Z` of their timestamp and one piece that is left out.
+-- (Words of the bodies alone.)
 use Rattle.std.specs.Prelude.{◌≡◌, ℕ, ◌<◌, List, [], ◌∷◌, ◌++◌, Bool, Option, None, Some}
 use Rattle.std.specs.Borrow.{Bor}
 use Rattle.std.specs.Fmt.{decimal}
 use Rattle.std.specs.Option.{option_map}
 use Rattle.std.specs.Str.{encode_utf8_all}
+use Rattle.syslog_pieces.specs.Bodies.Kept.{Copies}
 use Rattle.syslog_pieces.specs.Bodies.KeptStamp.{zone_text}
 use Rattle.syslog_pieces.specs.Pieces.Class.{Text, Class, Front, Row, Values, run, some_run, optional}
 use Rattle.syslog_pieces.specs.Pri.{priority, priority_text}
@@ -13,6 +15,7 @@ use Rattle.syslog_pieces.specs.StructuredData.Element.{ElementValue, elements_te
 use Rattle.syslog_pieces.specs.Text.{is_blank, number, host, word, name_text}
 use Rattle.syslog_pieces.specs.Timestamp.Zone.{Dating}
 use Rattle.syslog_pieces.specs.declared.procid.ProcId.{ProcId}
+use Rattle.syslog_pieces.specs.declared.text.kept.Cut.{Cut}
 use Rattle.syslog_pieces.specs.declared.timestamp.month_date.MonthDate.{MonthDate}
 use Rattle.syslog_loose.specs.Message.{MessageValue}
 use Rattle.syslog_loose.specs.Printed.{printed}
@@ -38,16 +41,16 @@ tail_row =
     some_run is_blank ∷ host ∷ some_run is_blank ∷ word ∷ some_run is_blank ∷ process_word ∷ some_run is_blank ∷ word
     ∷ run is_blank ∷ forgiving ∷ []
 
--- the names and the elements print as they are written, each behind one space
-pub record KeptTail (text follows : Text) : Type 0 where
+-- the names and the elements, each behind one space, are copied as they print, but for what is left out
+pub record KeptTail (text : Text) (cut : Option Cut) (follows : Text) : Type 0 where
   pub hostname : Option Text
   pub appname : Option Text
   pub procid : Option (ProcId Text)
   pub msgid : Option Text
   pub elements : List ElementValue
   pub is : Front (Row tail_row) text follows (tt, (hostname, (tt, (appname, (tt, (procid, (tt, (msgid, (tt, (elements, tt))))))))))
-  pub whole : text ≡ 32 ∷ (name_text hostname ++ (32 ∷ (name_text appname ++ (32 ∷ (process_text procid ++ (32 ∷ (name_text msgid
-      ++ (32 ∷ (elements_text elements ++ follows)))))))))
+  pub copies : Copies text cut follows (32 ∷ (name_text hostname ++ (32 ∷ (name_text appname ++ (32 ∷ (process_text procid
+      ++ (32 ∷ (name_text msgid ++ (32 ∷ elements_text elements)))))))))
 
 -- a space and a message, or nothing
 abbrev pub spaced : Option Text → Text

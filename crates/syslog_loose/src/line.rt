@@ -2,8 +2,10 @@
 //!
 //! Most lines of RFC 5424 that a program wrote are already in the form that a message prints: one space in each gap, no
 //! leading zeros, strict elements alone. Such a line needs no message in between: all but a `Z` of its timestamp is
-//! copied. Each reader here answers the text behind its piece where that piece prints as it is written, and may always
-//! answer nothing, since the line is then read and printed as any other. So no contract above speaks of this way.
+//! copied. So is a line with one gap behind its timestamp that is wider, or with one broken element behind strict ones:
+//! that piece is left out of the copy. Each reader here answers the text behind its piece where that piece prints as it
+//! is written, and may always answer nothing, since the line is then read and printed as any other. So no contract above
+//! speaks of this way.
 ghost use Rattle.std.specs.Prelude.{◌≡◌, ◌++◌, ◌∷◌, [], IfOk, IfSome, IsOk, IsTrue, Some, string_bytes};
 ghost use Rattle.std.specs.Fmt.{WritesOnOk};
 ghost use Rattle.std.specs.Str.{chars, encode_utf8_all, IsUtf8};
@@ -32,15 +34,19 @@ use syslog_pieces::pri::kept_priority;
 use syslog_pieces::procid::kept_process;
 use syslog_pieces::structured_data::kept_list;
 use syslog_pieces::text::blanks;
-use syslog_pieces::text::kept::{before, kept_host, kept_number, kept_word, one_space};
+use syslog_pieces::text::kept::{
+    Cut, before, kept_gap, kept_host, kept_number, kept_word, one_space, past_cut,
+};
 use syslog_pieces::timestamp::kept::kept_stamp;
 
-// A line, cut at the offset of its timestamp: all before it, whether it is `Z`, all from behind it to the elements, and
-// the message. An offset that prints as it is written stands before the cut, a message behind one space in the tail.
+// A line, cut at the offset of its timestamp: all before it, whether it is `Z`, all from behind it up to what is left
+// out, if anything is, all from there, or else from behind the offset, to the elements, and the message. An offset that
+// prints as it is written stands before the cut, a message behind one space in the tail.
 #[derive(Clone, Copy)]
 struct KeptLine<'a> {
     front: &'a str,
     is_zulu: bool,
+    head: &'a str,
     tail: &'a str,
     msg: Option<&'a str>,
 }
@@ -55,10 +61,10 @@ fn kept_front(text: &str) -> Option<&str>
     Some(rest)
 }
 
-// The text behind the names and the elements.
+// The text behind the names and the elements, and what is left out of the list, where one space stands in each gap.
 #[inline(always)]
-fn kept_tail(text: &str) -> Option<&str>
-    ensures { IfSome result (λ rest. KeptTail (chars text.now) (shown rest)) }
+fn spaced_tail(text: &str) -> Option<(&str, Option<Cut<'_>>)>
+    ensures { IfSome result (λ x. KeptTail (chars text.now) x.1 (shown x.0)) }
 {
     let hostname = one_space(text)?;
     let behind_hostname = kept_host(hostname)?;
@@ -69,8 +75,39 @@ fn kept_tail(text: &str) -> Option<&str>
     let msgid = one_space(behind_procid)?;
     let behind_msgid = kept_word(msgid)?;
     let elements = one_space(behind_msgid)?;
-    let rest = kept_list(elements)?;
-    Some(rest)
+    let (rest, cut) = kept_list(elements, None)?;
+    Some((rest, cut))
+}
+
+// The same where a gap may be wider. It stands apart, since what it carries along costs the others some thirty
+// instructions.
+#[cold]
+#[inline(never)]
+fn wide_tail(text: &str) -> Option<(&str, Option<Cut<'_>>)>
+    ensures { IfSome result (λ x. KeptTail (chars text.now) x.1 (shown x.0)) }
+{
+    let (hostname, first) = kept_gap(text, None)?;
+    let behind_hostname = kept_host(hostname)?;
+    let (appname, second) = kept_gap(behind_hostname, first)?;
+    let behind_appname = kept_word(appname)?;
+    let (procid, third) = kept_gap(behind_appname, second)?;
+    let behind_procid = kept_process(procid)?;
+    let (msgid, fourth) = kept_gap(behind_procid, third)?;
+    let behind_msgid = kept_word(msgid)?;
+    let (elements, fifth) = kept_gap(behind_msgid, fourth)?;
+    let (rest, cut) = kept_list(elements, fifth)?;
+    Some((rest, cut))
+}
+
+// The text behind the names and the elements, and what is left out of them.
+#[inline(always)]
+fn kept_tail(text: &str) -> Option<(&str, Option<Cut<'_>>)>
+    ensures { IfSome result (λ x. KeptTail (chars text.now) x.1 (shown x.0)) }
+{
+    match spaced_tail(text) {
+        Some(found) => Some(found),
+        None => wide_tail(text),
+    }
 }
 
 // The text up to the rest behind the elements, and the message, where that isn't behind one space: then it is one text.
@@ -86,23 +123,26 @@ fn kept_end<'a>(text: &'a str, rest: &'a str) -> (&'a str, Option<&'a str>)
     }
 }
 
-// The line, where all but its timestamp prints as it is written.
+// The line, where all but its timestamp and what is left out prints as it is written.
 #[inline(always)]
 fn kept_line(text: &str) -> Option<KeptLine<'_>>
     ensures kept { IfSome result (λ line.
-        PrintsKept (chars text.now) (shown line.front) line.is_zulu (shown line.tail ++ spaced (seen line.msg))) }
-    ensures utf8 { IfSome result (λ line.
-        IsUtf8 line.front.now × IsUtf8 line.tail.now × IfSome line.msg (λ msg. IsUtf8 msg.now)) }
+        PrintsKept (chars text.now) (shown line.front) line.is_zulu
+        (shown line.head ++ (shown line.tail ++ spaced (seen line.msg)))) }
+    ensures utf8 { IfSome result (λ line. IsUtf8 line.front.now × IsUtf8 line.head.now × IsUtf8 line.tail.now
+        × IfSome line.msg (λ msg. IsUtf8 msg.now)) }
 {
     let gap = kept_front(text)?;
     let start = one_space(gap)?;
     let stamp = kept_stamp(start)?;
     let front = before(text, stamp.zone);
-    let rest = kept_tail(stamp.rest)?;
-    let (tail, msg) = kept_end(stamp.rest, rest);
+    let (rest, cut) = kept_tail(stamp.rest)?;
+    let (head, start) = past_cut(stamp.rest, cut, rest);
+    let (tail, msg) = kept_end(start, rest);
     Some(KeptLine {
         front,
         is_zulu: stamp.is_zulu,
+        head,
         tail,
         msg,
     })
@@ -120,13 +160,27 @@ fn write_zone<W: fmt::Write>(f: &mut fmt::Formatter<W>, is_zulu: bool) -> fmt::R
     }
 }
 
+// Writes what stands before what is left out. Mostly nothing is, and then it is empty.
+#[inline(always)]
+fn write_head<W: fmt::Write>(f: &mut fmt::Formatter<W>, head: &str) -> fmt::Result
+    ensures { WritesOnOk W.write_str_gives f.old result head.now f.new }
+{
+    if head.is_empty() {
+        Ok(())
+    } else {
+        f.write_str(head)
+    }
+}
+
 impl fmt::Display for KeptLine<'_> {
     ghost output = { λ line.
-        Some (line.front.now ++ (zone_text line.is_zulu ++ (line.tail.now ++ spaced (bytes_of line.msg)))) };
+        Some (line.front.now ++ (zone_text line.is_zulu
+        ++ (line.head.now ++ (line.tail.now ++ spaced (bytes_of line.msg))))) };
 
     fn fmt<W: fmt::Write>(&self, f: &mut fmt::Formatter<W>) -> fmt::Result {
         f.write_str(self.front)?;
         write_zone(f, self.is_zulu)?;
+        write_head(f, self.head)?;
         f.write_str(self.tail)?;
         match self.msg {
             Some(msg) => write_spaced(f, msg),
@@ -146,8 +200,8 @@ fn may_be_strict(input: &str) -> bool {
     }
 }
 
-/// Writes the printed text of the message of the trimmed line into `text`, where all but its timestamp prints as it is
-/// written, and tells whether it did. It asks for memory only for such a line, and where `text` has too little room.
+/// Writes the printed text of the message of the trimmed line into `text`, where that can be copied, and tells whether
+/// it did. It asks for memory only for such a line, and where `text` has too little room.
 pub(crate) fn copied(text: &mut String, input: &str) -> Result<bool, AllocError>
     ensures text { OfTrimmed (chars input.now) (λ whole. IfOk result (λ found. IsTrue found
         → (m : MessageValue) × IsRead5424 whole m × (string_bytes text.new ≡ encode_utf8_all (printed m)))) }

@@ -2,7 +2,7 @@
 use super::copied;
 use std::test::Fail;
 
-const COPIED: [(&str, &str); 9] = [
+const COPIED: [(&str, &str); 17] = [
     (
         "<34>1 2003-10-11T22:14:15.003Z mymachine.example.com su - ID47 - message",
         "<34>1 2003-10-11T22:14:15.003+00:00 mymachine.example.com su - ID47 - message",
@@ -33,6 +33,28 @@ const COPIED: [(&str, &str); 9] = [
         "<34>1 9998-12-31T23:59:59.000001Z - - - - - x",
         "<34>1 9998-12-31T23:59:59.000001+00:00 - - - - - x",
     ),
+    // One gap behind the timestamp is wider, in each place.
+    ("<34>1 -  - - - - - x", "<34>1 - - - - - - x"),
+    (
+        "<34>1 2020-01-01T00:00:00Z host \tapp 5 - - x",
+        "<34>1 2020-01-01T00:00:00+00:00 host app 5 - - x",
+    ),
+    ("<34>1 - - -  - - -", "<34>1 - - - - - - "),
+    ("<34>1 - - - -   - - x", "<34>1 - - - - - - x"),
+    ("<34>1 - - - - -  -", "<34>1 - - - - - - "),
+    // The last element is broken, behind strict ones.
+    (
+        "<34>1 - - - - - [a b=\"c\"][d e] x",
+        "<34>1 - - - - - [a b=\"c\"] x",
+    ),
+    (
+        "<34>1 2020-01-01T00:00:00Z h a - - [a][b][]x",
+        "<34>1 2020-01-01T00:00:00+00:00 h a - - [a][b] x",
+    ),
+    (
+        "<34>1 - - - - - [a b=\"]\"][c d=\"]\" ]  x",
+        "<34>1 - - - - - [a b=\"]\"] \" ]  x",
+    ),
 ];
 
 #[test]
@@ -45,23 +67,29 @@ fn copies_lines_that_print_as_written(rt: HostRuntime) -> Result<(), Fail> {
     Ok(())
 }
 
-// No priority, one past 191, leading zeros, wide gaps, signs, blanks in elements, broken elements, and no message.
-const OTHERS: [&str; 17] = [
+// No priority, one past 191, leading zeros, a wide gap before the timestamp, a tab first, two wide gaps, signs, blanks in
+// elements, a broken element behind a wide gap, before a strict one or behind a broken one, and no message.
+const OTHERS: [&str; 22] = [
     "1 - - - - - -",
     "<200>1 - - - - - -",
     "<034>1 - - - - - -",
     "<34>01 - - - - - -",
     "<34>1  - - - - - -",
     "<34>1 - -\t- - - -",
-    "<34>1 - - -  - - -",
+    "<34>1 -\t- - - - - x",
+    "<34>1 -  -  - - - - x",
+    "<34>1 - - - -  - [a][b c] x",
     "<34>1 - - - +5 - -",
     "<34>1 - - - -5 - -",
     "<34>1 - - - 05 - -",
-    "<34>1 - - - - -  -",
     "<34>1 - - - - - [a ] x",
     "<34>1 - - - - - [a  b=\"c\"] x",
     "<34>1 - - - - - [a b= \"c\"] x",
     "<34>1 - - - - - [a b][c] x",
+    "<34>1 - - - - - [a][b c][d] x",
+    "<34>1 - - - - - [a][b c][d e] x",
+    "<34>1 - - - - - [a][b  c=\"d\"] x",
+    "<34>1 - - - - - [a][b c=\"d\" x",
     "<34>1 2020-02-30T00:00:00Z - - - - - x",
     "gobbledegook",
 ];

@@ -1,20 +1,25 @@
 -- Elements and lists that print as they are written.
-use Rattle.std.proofs.Common.{◌≡◌, List, [], ◌∷◌, ◌++◌, map, Some, inl, inr, refl, sym, ap, subst, ◌∙◌, append_assoc, arith}
+use Rattle.std.proofs.Common.{◌≡◌, false, List, [], ◌∷◌, ◌++◌, map, Option, None, Some, inl, inr, refl, sym, ap, subst, ◌∙◌, append_assoc, arith}
 use Rattle.std.specs.List.{flat_map}
+use Rattle.std.specs.Prelude.{is_some}
 use Rattle.syslog_pieces.specs.Bodies.Closing.{opening, name_alone, quoted, start, id_alone, inside}
-use Rattle.syslog_pieces.specs.Bodies.Kept.{bare_param_text}
+use Rattle.syslog_pieces.specs.Bodies.Kept.{bare_param_text, CopiedOn, KeepsList, ListPrints}
 use Rattle.syslog_pieces.specs.Pieces.Class.{Text, Front, NoFront, Ends, Divides, Row, join, exactly, run, some_run, texted}
 use Rattle.syslog_pieces.specs.Pieces.Kept.{Kept}
 use Rattle.syslog_pieces.specs.Pieces.Lists.{many, list_before, more_before}
-use Rattle.syslog_pieces.specs.StructuredData.{value, param, element, item, strict, forgiving}
-use Rattle.syslog_pieces.specs.StructuredData.Element.{ElementValue, element_text, param_text, elements_text}
+use Rattle.syslog_pieces.specs.Pieces.View.{shown}
+use Rattle.syslog_pieces.specs.StructuredData.{value, param, bracketed, element, item, strict, forgiving}
+use Rattle.syslog_pieces.specs.StructuredData.Element.{ElementValue, element_text, param_text, joined_elements, elements_text}
 use Rattle.syslog_pieces.specs.Text.{is_blank}
 use Rattle.syslog_pieces.specs.Text.CharClass.{is_name_char, is_id_char}
+use Rattle.syslog_pieces.specs.declared.text.kept.Cut.{Cut}
 use Rattle.syslog_pieces.proofs.PieceLemmas.Class.{row_nil, row_cons, row_head}
 use Rattle.syslog_pieces.proofs.PieceLemmas.Kept.{kept_by_text, front_of}
 use Rattle.syslog_pieces.proofs.PieceLemmas.Lists.{many_here, many_cons, begins, list_here, list_cons, more_here, more_cons}
 use Rattle.syslog_pieces.proofs.StructuredDataLemmas.Closing.{param_read, element_read}
 use Rattle.syslog_pieces.proofs.StructuredDataLemmas.Elements.{item_begins}
+use Rattle.syslog_pieces.proofs.StructuredDataLemmas.Items.{bracketed_item}
+use Rattle.syslog_pieces.proofs.TextLemmas.Copied.{kept_on, extended, left_out}
 
 nil_row : (t u : Text) → Front (Row []) t u tt → t ≡ u
 nil_row t u f = f.whole ∙ ap (λ (x : Text). x ++ u) (nothing f.piece f.is.0 f.is.1 f.is.2)
@@ -103,10 +108,6 @@ keeps_end t s q on f =
 
 -- ---- lists
 
--- a list of which a front has been read prints as it is written, where its further elements do
-abbrev pub KeepsList : Text → Text → Type 0
-KeepsList t s = (q : Text) (es : List ElementValue) → Front (many item) s q (map Some es) → s ≡ flat_map element_text es ++ q → Kept forgiving elements_text t q
-
 pub strict_some : (es : List ElementValue) → es ≡ strict (map Some es)
 strict_some [] = refl
 strict_some (e ∷ es) = ap (λ (x : List ElementValue). e ∷ x) (strict_some es)
@@ -114,22 +115,45 @@ strict_some (e ∷ es) = ap (λ (x : List ElementValue). e ∷ x) (strict_some e
 item_of : (t s : Text) → (k : Kept element element_text t s) → Front item t s (Some k.value)
 item_of t s k = record { piece = element_text k.value; whole = k.whole; is = k.is }
 
-joined : (e : ElementValue) (es : List ElementValue) (t s q : Text) → t ≡ element_text e ++ s → s ≡ flat_map element_text es ++ q → t ≡ flat_map element_text (e ∷ es) ++ q
-joined e es t s q f g = f ∙ ap (λ (x : Text). element_text e ++ x) g ∙ sym (append_assoc (element_text e) (flat_map element_text es) q)
+joined : (e : ElementValue) (es : List ElementValue) (t s q : Text) → t ≡ element_text e ++ s → s ≡ joined_elements es ++ q → t ≡ joined_elements (e ∷ es) ++ q
+joined e es t s q f g = f ∙ ap (λ (x : Text). element_text e ++ x) g ∙ sym (append_assoc (element_text e) (joined_elements es) q)
 
 pub list_first : (t s : Text) → Kept element element_text t s → KeepsList t s
-list_first t s k q es f e =
+list_first t s k q gap items f e =
     let v = k.value in
-    let m : Front (many item) t q (map Some (v ∷ es)) = many_cons item t s q (Some v) (map Some es) (item_of t s k) f in
-    kept_by_text forgiving elements_text t q (v ∷ es) (record { piece = m.piece; whole = m.whole; is = inr (map Some (v ∷ es), omega arith, m.is, strict_some (v ∷ es)) })
-    (joined v es t s q k.whole e)
+    let m : Front (many item) t q (Some v ∷ items) = many_cons item t s q (Some v) items (item_of t s k) f in
+    record {
+      elements = v ∷ strict items;
+      is = record { piece = m.piece; whole = m.whole; is = inr (Some v ∷ items, omega arith, m.is, refl) };
+      prints = joined v (strict items) t s gap k.whole e;
+    }
 
 pub list_more : (t s s' : Text) → KeepsList t s → Kept element element_text s s' → KeepsList t s'
-list_more t s s' on k q es f e =
-    let v = k.value in on q (v ∷ es) (many_cons item s s' q (Some v) (map Some es) (item_of s s' k) f) (joined v es s s' q k.whole e)
+list_more t s s' on k q gap items f e =
+    let v = k.value in on q gap (Some v ∷ items) (many_cons item s s' q (Some v) items (item_of s s' k) f) (joined v (strict items) s s' gap k.whole e)
 
-pub list_end : (t s : Text) → KeepsList t s → NoFront (exactly (91 ∷ [])) s → Kept forgiving elements_text t s
-list_end t s on n = on s [] (many_here item s (λ p q v e h. let b = item_begins p q v h in n (91 ∷ []) b.0 tt (e ∙ b.1) refl)) refl
+-- where no bracket stands, no item does
+no_bracket : (s : Text) → NoFront (exactly (91 ∷ [])) s → NoFront item s
+no_bracket s n p q v e h = let b = item_begins p q v h in n (91 ∷ []) b.0 tt (e ∙ b.1) refl
 
-pub dash_kept : (t s : Text) → Front (exactly (45 ∷ [])) t s tt → Kept forgiving elements_text t s
-dash_kept t s f = record { value = []; whole = begins 45 t s f; is = inl (refl, refl) }
+pub list_end : (t s : Text) → KeepsList t s → NoFront (exactly (91 ∷ [])) s → ListPrints t s s
+list_end t s on n = on s s [] (many_here item s (no_bracket s n)) refl
+
+-- a broken element behind them, and no further one
+pub broken_end : (t s q : Text) → KeepsList t s → NoFront element s → Front bracketed s q (tt, (tt, (tt, tt))) → NoFront (exactly (91 ∷ [])) q → ListPrints t s q
+broken_end t s q on n b m = on q s (None ∷ []) (many_cons item s q q None [] (bracketed_item s q n b) (many_here item q (no_bracket q m))) refl
+
+-- ---- lists that are copied
+
+pub dash_on : (t s : Text) (cut : Option Cut) → Front (exactly (45 ∷ [])) t s tt → CopiedOn forgiving elements_text t cut s cut
+dash_on t s cut f =
+    kept_on forgiving elements_text t s cut (record { value = []; whole = begins 45 t s f; is = inl (refl, refl) })
+
+pub list_on : (t s : Text) (cut : Option Cut) → ListPrints t s s → CopiedOn forgiving elements_text t cut s cut
+list_on t s cut l =
+    record { value = l.elements; is = l.is; copies = λ w p c. extended w t s (elements_text l.elements) p cut l.prints c }
+
+pub list_cut : (t q : Text) (cut : Option Cut) (c : Cut) → is_some cut ≡ false → ListPrints t (shown c.gap) q → shown c.next ≡ q → CopiedOn forgiving elements_text t cut q (Some c)
+list_cut t q None c n l e =
+    record { value = l.elements; is = l.is; copies = λ w p d. left_out w t q (elements_text l.elements) p c l.prints e d }
+list_cut t q (Some d) c n l e = absurd (cc)

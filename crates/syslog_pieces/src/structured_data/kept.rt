@@ -1,17 +1,19 @@
-//! Lists that print as they are written: strict elements alone, with one space behind the id and no blank behind a `=`.
+//! Lists whose strict elements print as they are written, with one space behind the id and no blank behind a `=`.
 //!
 //! Each reader answers the text behind the piece, or nothing where the piece prints otherwise or isn't there.
-ghost use Rattle.std.specs.Prelude.{IfSome};
+ghost use Rattle.std.specs.Prelude.{[], ◌∷◌, IfSome};
 ghost use Rattle.std.specs.Str.{chars};
-ghost use Rattle.syslog_pieces.specs.Bodies.Kept.{bare_param_text};
+ghost use Rattle.syslog_pieces.specs.Bodies.Kept.{bare_param_text, CopiedOn, KeepsList};
+ghost use Rattle.syslog_pieces.specs.Pieces.Class.{Front, NoFront, exactly};
 ghost use Rattle.syslog_pieces.specs.Pieces.Kept.{Kept};
 ghost use Rattle.syslog_pieces.specs.Pieces.View.{shown};
-ghost use Rattle.syslog_pieces.specs.StructuredData.{element as element_class, forgiving, param as param_class};
+ghost use Rattle.syslog_pieces.specs.StructuredData.{bracketed as bracketed_class, element as element_class};
+ghost use Rattle.syslog_pieces.specs.StructuredData.{forgiving, param as param_class};
 ghost use Rattle.syslog_pieces.specs.StructuredData.Element.{element_text, elements_text};
 
 use super::element::quoted;
-use super::walk::nonempty_run;
-use crate::text::kept::one_space;
+use super::walk::{after_bracketed, after_element, nonempty_run};
+use crate::text::kept::{Cut, one_space};
 use crate::text::{CharClass, literal};
 
 // The text behind the parameter at the front, where no blank stands behind its `=`: then it prints as it is written.
@@ -47,25 +49,52 @@ fn kept_element(text: &str) -> Option<&str>
     }
 }
 
-/// The text behind the list at the front, where it has no broken element and prints as it is written. Takes no memory.
-#[inline(always)]
-pub fn kept_list(text: &str) -> Option<&str>
-    ensures { IfSome result (λ rest. Kept forgiving elements_text (chars text.now) (shown rest)) }
-{
-    if let Some(rest) = literal(text, '-') {
-        return Some(rest);
-    }
-    kept_elements(text)
-}
-
+// The text behind the elements at the front that print as they are written, of which there is at least one.
 fn kept_elements(text: &str) -> Option<&str>
-    ensures { IfSome result (λ rest. Kept forgiving elements_text (chars text.now) (shown rest)) }
+    ensures { IfSome result (λ rest. KeepsList (chars text.now) (shown rest)) }
 {
     let mut rest = kept_element(text)?;
     'elements: loop {
-        let Some(_) = literal(rest, '[') else {
-            return Some(rest);
-        };
-        rest = kept_element(rest)?;
+        match kept_element(rest) {
+            Some(next) => rest = next,
+            None => return Some(rest),
+        }
     }
+}
+
+// The text behind a broken element at the front, where that is the last of its list.
+#[inline(never)]
+fn last_broken(text: &str) -> Option<&str>
+    ensures { IfSome result (λ rest. NoFront element_class (chars text.now)
+        × ((v : bracketed_class.Value) × Front bracketed_class (chars text.now) (shown rest) v)
+        × NoFront (exactly (91 ∷ [])) (shown rest)) }
+{
+    let None = after_element(text) else {
+        return None;
+    };
+    let rest = after_bracketed(text)?;
+    match literal(rest, '[') {
+        Some(_) => None,
+        None => Some(rest),
+    }
+}
+
+/// The text behind the list at the front, where its strict elements print as they are written, and what has been left
+/// out by then: a broken element may stand at its end, if nothing has been left out before. Takes no memory.
+#[inline(always)]
+pub fn kept_list<'a>(text: &'a str, cut: Option<Cut<'a>>) -> Option<(&'a str, Option<Cut<'a>>)>
+    ensures { IfSome result (λ x. CopiedOn forgiving elements_text (chars text.now) cut.entry (shown x.0) x.1) }
+{
+    if let Some(rest) = literal(text, '-') {
+        return Some((rest, cut));
+    }
+    let gap = kept_elements(text)?;
+    let Some(_) = literal(gap, '[') else {
+        return Some((gap, cut));
+    };
+    if cut.is_some() {
+        return None;
+    }
+    let next = last_broken(gap)?;
+    Some((next, Some(Cut { gap, next })))
 }

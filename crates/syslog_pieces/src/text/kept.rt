@@ -6,13 +6,14 @@ ghost use Rattle.std.specs.Prelude.{◌≡◌, ◌∷◌, ◌++◌, [], IfSome, 
 ghost use Rattle.std.specs.Bool.{OnFalse};
 ghost use Rattle.std.specs.Fmt.{decimal};
 ghost use Rattle.std.specs.Str.{chars};
+ghost use Rattle.syslog_pieces.specs.Bodies.Kept.{Copies, CopiedOn};
 ghost use Rattle.syslog_pieces.specs.Pieces.Class.{Text, some_run};
 ghost use Rattle.syslog_pieces.specs.Pieces.Kept.{Kept};
 ghost use Rattle.syslog_pieces.specs.Pieces.View.{shown};
 ghost use Rattle.syslog_pieces.specs.Text as spec;
 ghost use Rattle.syslog_pieces.specs.Text.{name_text};
 
-use crate::text::{CharClass, host, is_byte, number_of_digits, split_run, word};
+use crate::text::{CharClass, host, is_byte, literal, number_of_digits, split_run, word};
 
 /// The text behind the word at the front, which prints as it is written.
 #[inline(always)]
@@ -57,6 +58,33 @@ pub fn one_space(text: &str) -> Option<&str>
     }
 }
 
+/// What is left out of a text that is copied: what stands between two rests of it.
+#[derive(Clone, Copy)]
+pub struct Cut<'a> {
+    /// The text from what is left out on.
+    pub gap: &'a str,
+    /// The text behind it.
+    pub next: &'a str,
+}
+
+/// The text behind a gap that prints as one space, and what has been left out by then: nothing behind one space, and
+/// what stands behind the first space of a wider gap. Only one piece of a text may be left out.
+#[inline(always)]
+pub fn kept_gap<'a>(text: &'a str, cut: Option<Cut<'a>>) -> Option<(&'a str, Option<Cut<'a>>)>
+    ensures { IfSome result (λ x.
+        CopiedOn (some_run spec.is_blank) (λ _. 32 ∷ []) (chars text.now) cut.entry (shown x.0) x.1) }
+{
+    let (run, next) = split_run(text, CharClass::Blank);
+    if is_byte(run, b' ') {
+        return Some((next, cut));
+    }
+    if cut.is_some() {
+        return None;
+    }
+    let gap = literal(text, ' ')?;
+    Some((next, Some(Cut { gap, next })))
+}
+
 /// The text behind the host at the front, which prints as it is written.
 #[inline(always)]
 pub fn kept_host(text: &str) -> Option<&str>
@@ -74,4 +102,18 @@ pub fn before<'a>(text: &'a str, rest: &str) -> &'a str
 {
     let (front, _) = text.split_at(text.len() - rest.len());
     front
+}
+
+/// What is copied of the text before what is left out, and the text from behind that on: nothing and the whole, where
+/// nothing is left out. The rest is that up to which the text is copied.
+#[inline(always)]
+pub fn past_cut<'a>(text: &'a str, cut: Option<Cut<'a>>, rest: &str) -> (&'a str, &'a str)
+    requires { (copied : Text) × Copies (chars text.now) cut (chars rest.now) copied }
+    ensures { (copied : Text) → Copies (chars text.now) cut.entry (chars rest.now) copied
+        → (behind : Text) × (shown result.1 ≡ behind ++ chars rest.now) × (copied ≡ shown result.0 ++ behind) }
+{
+    match cut {
+        Some(cut) => (before(text, cut.gap), cut.next),
+        None => ("", text),
+    }
 }

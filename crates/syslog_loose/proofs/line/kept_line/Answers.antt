@@ -1,6 +1,6 @@
 use Rattle.std.specs.Str.{chars}
 use Rattle.syslog_pieces.specs.Pieces.View.{seen}
-use Rattle.syslog_loose.proofs.KeptLineLemmas.{before_zone, line_kept}
+use Rattle.syslog_loose.proofs.KeptLineLemmas.{before_zone, line_kept, some_behind, some_copied}
 use Rattle.syslog_loose.proofs.line.kept_line.Goals as goal
 
 pub before-front-requires : goal.before-front-requires
@@ -8,8 +8,17 @@ before-front-requires c =
     before_zone (chars c.args.text.now) (chars c.in_ok-gap.gap.now) (chars c.in_ok-start.start.now) (chars c.in_ok-stamp.stamp.zone.now) (chars c.in_ok-stamp.stamp.rest.now)
     c.in_ok-stamp.stamp.is_zulu c.in_ok-gap.ensures c.in_ok-start.ensures c.in_ok-stamp.ensures
 
+pub past_cut-requires : goal.past_cut-requires
+past_cut-requires c = some_copied (chars c.in_ok-stamp.stamp.rest.now) c.in_ok-rest.cut (chars c.in_ok-rest.rest.now) c.in_ok-rest.ensures
+
+pub kept_end-requires : goal.kept_end-requires
+kept_end-requires c =
+    some_behind (chars c.in_ok-stamp.stamp.rest.now) c.in_ok-rest.cut (chars c.in_ok-rest.rest.now) (chars c.past_cut.result.0.now) (chars c.past_cut.result.1.now)
+    c.in_ok-rest.ensures c.past_cut.ensures
+
 pub returns-clause-kept : goal.returns-clause-kept
 returns-clause-kept c =
     line_kept (chars c.args.text.now) (chars c.in_ok-gap.gap.now) (chars c.in_ok-start.start.now) (chars c.in_ok-stamp.stamp.zone.now) (chars c.in_ok-stamp.stamp.rest.now)
-    (chars c.in_ok-rest.rest.now) (chars c.before-front.result.now) (chars c.kept_end.result.0.now) (seen c.kept_end.result.1) c.in_ok-stamp.stamp.is_zulu
-    c.in_ok-gap.ensures c.in_ok-start.ensures c.in_ok-stamp.ensures c.in_ok-rest.ensures c.kept_end.ensures.ends c.before-front.ensures
+    (chars c.in_ok-rest.rest.now) (chars c.before-front.result.now) (chars c.past_cut.result.0.now) (chars c.past_cut.result.1.now) (chars c.kept_end.result.0.now)
+    c.in_ok-rest.cut (seen c.kept_end.result.1) c.in_ok-stamp.stamp.is_zulu c.in_ok-gap.ensures c.in_ok-start.ensures c.in_ok-stamp.ensures c.in_ok-rest.ensures
+    c.past_cut.ensures c.kept_end.ensures.ends c.before-front.ensures

@@ -2,7 +2,7 @@ use Rattle.std.proofs.Common.{length}
 use denote.Shadow.{shadow}
 use denote.Text.{Utf8}
 use Rattle.std.specs.Str.{chars}
-use Rattle.syslog_pieces.proofs.StructuredDataLemmas.Kept.{KeepsList}
+use Rattle.syslog_pieces.specs.Bodies.Kept.{KeepsList}
 use Rattle.syslog_pieces.proofs.structured_data.kept.kept_elements.Given as goal
 
 abbrev pub invariant-elements : goal.invariant-elements
