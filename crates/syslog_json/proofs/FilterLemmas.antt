@@ -8,8 +8,8 @@ use Rattle.syslog_loose.specs.declared.variant.Variant.TheVariants.{Either}
 use Rattle.serde_json.specs.Data.{Data}
 use Rattle.syslog_lines.specs.Count.{held_count}
 use Rattle.syslog_lines.specs.Output.{AddsAnswer, Marked, Written}
-use Rattle.syslog_lines.specs.Walk.{WalksAll}
-use Rattle.syslog_lines.proofs.CountLemmas.{WalksAll-at, lines_counted}
+use Rattle.syslog_lines.specs.Pump.{PumpsAll}
+use Rattle.syslog_lines.proofs.CountLemmas.{PumpsAll-at, lines_counted}
 use Rattle.syslog_lines.specs.declared.summary.Summary.{Summary}
 use Rattle.syslog_lines.specs.declared.summary.Tally.{Tally}
 use Rattle.syslog_json.specs.Json.{IsMessageJson}
@@ -17,11 +17,11 @@ use Rattle.syslog_json.proofs.UniqueLemmas.{only_read, only_refused}
 use Rattle.syslog_json.specs.Objects.{IsTextOf, WritesObjects, broken_json, objects, refused_json}
 
 -- the end of the filter; the year stands in a call as a number of 32 bits
-pub WritesObjects-walked : (year y : ℤ) (had left held holds : Option (List ℕ)) (tally : Tally) (summary : Summary) → y ≡ year → WalksAll (objects y) had left held holds tally
-    → summary.lines ≡ held_count (tally.answered + tally.passed_over) → summary.refused ≡ tally.passed_over → WritesObjects year had left held holds summary
-WritesObjects-walked year y had left held holds tally summary same walked lines refused =
-    let whole = WalksAll-at objects year y had left held holds tally same walked in
-    (whole.0, whole.1, lines ∙ lines_counted (objects year) had left held holds tally whole.0 whole.1 whole.2, refused ∙ whole.2.1)
+pub WritesObjects-pumped : (year y : ℤ) (in_before in_after out_before out_after : Option (List ℕ)) (tally : Tally) (summary : Summary) → y ≡ year → PumpsAll (objects y) in_before in_after out_before out_after tally
+    → summary.lines ≡ held_count (tally.answered + tally.passed_over) → summary.refused ≡ tally.passed_over → WritesObjects year in_before in_after out_before out_after summary
+WritesObjects-pumped year y in_before in_after out_before out_after tally summary same pumped lines refused =
+    let whole = PumpsAll-at objects year y in_before in_after out_before out_after tally same pumped in
+    (whole.0, whole.1, lines ∙ lines_counted (objects year) in_before in_after out_before out_after tally whole.0 whole.1 whole.2, refused ∙ whole.2.1)
 
 -- the text of a message's value was added
 pub AddsAnswer-read : (year y : ℤ) (line old new bytes : List ℕ) (m : MessageValue) (value : Data) → y ≡ year → IsUtf8 line → IsOnlyRead Either (in_utc y) (chars line) m → IsMessageJson m value

@@ -112,8 +112,8 @@ gathers_at true pairs key q joined mid d old is single gathers joins =
     (get_member-put key joined (put key mid old) ∙ joins (values_at key pairs) (each_value IsSingle key pairs single) (gathers.each key)))
 gathers_at false pairs key q joined mid d old is single gathers joins =
     let other : q ≡ key → ⊥ = λ same. (let e = (bytes_eq-Decides q key).1 same in cc) in
-    let kept = get_member-put_other q key joined (put key mid old) other ∙ get_member-put_other q key mid old other ∙ gathers.each q in
-    rw (values_push q (key, d) pairs, is, append-nil) kept
+    let stays = get_member-put_other q key joined (put key mid old) other ∙ get_member-put_other q key mid old other ∙ gathers.each q in
+    rw (values_push q (key, d) pairs, is, append-nil) stays
 
 pub gathers_push : (pairs : List Pair) (key : List ℕ) (joined mid d : Data) (old new : Members) → new ≡ put key joined (put key mid old) → AllByRecursion (λ (p : Pair). IsSingle p.1) pairs → Gathers pairs old
     → ((values : List Data) → AllByRecursion IsSingle values → get_member key old ≡ one_or_all values → Some joined ≡ one_or_all (values ++ d ∷ []))

@@ -29,15 +29,15 @@ use Rattle.syslog_json.proofs.MemberLemmas.{EachMember, IsFlat, each_put, flat_g
 
 -- the pairs so far, and those of what is left, are those of the whole
 abbrev pub Continues : {X : Type 0} → (X → Pair → Type 0) → List X → List X → List Pair → Type 0
-Continues Is whole left done = (more : List Pair) → AllZip Is left more → AllZip Is whole (done ++ more)
+Continues Is whole in_after done = (more : List Pair) → AllZip Is in_after more → AllZip Is whole (done ++ more)
 
-pub continues_next : {X : Type 0} (Is : X → Pair → Type 0) (whole left next : List X) (done : List Pair) (x : X) (pair : Pair) → left ≡ x ∷ next → Is x pair → Continues Is whole left done
+pub continues_next : {X : Type 0} (Is : X → Pair → Type 0) (whole in_after next : List X) (done : List Pair) (x : X) (pair : Pair) → in_after ≡ x ∷ next → Is x pair → Continues Is whole in_after done
     → Continues Is whole next (done ++ pair ∷ [])
-continues_next Is whole left next done x pair first is so_far = λ more rest.
+continues_next Is whole in_after next done x pair first is so_far = λ more rest.
     subst (AllZip Is whole) (sym (append_assoc done (pair ∷ []) more)) (so_far (pair ∷ more) (subst (λ xs. AllZip Is xs (pair ∷ more)) (sym first) (is, rest)))
 
-pub continues_end : {X : Type 0} (Is : X → Pair → Type 0) (whole left : List X) (done : List Pair) → left ≡ [] → Continues Is whole left done → AllZip Is whole done
-continues_end Is whole left done empty so_far = subst (AllZip Is whole) (append-nil done) (so_far [] (subst (λ xs. AllZip Is xs []) (sym empty) tt))
+pub continues_end : {X : Type 0} (Is : X → Pair → Type 0) (whole in_after : List X) (done : List Pair) → in_after ≡ [] → Continues Is whole in_after done → AllZip Is whole done
+continues_end Is whole in_after done empty so_far = subst (AllZip Is whole) (append-nil done) (so_far [] (subst (λ xs. AllZip Is xs []) (sym empty) tt))
 
 pub single_push : (done : List Pair) (pair : Pair) → IsSingle pair.1 → AllByRecursion (λ (p : Pair). IsSingle p.1) done → AllByRecursion (λ (p : Pair). IsSingle p.1) (done ++ pair ∷ [])
 single_push [] pair single each = (single, tt)

@@ -95,8 +95,8 @@ params_same [] (p ∷ ps) qs g h = absurd g
 params_same (x ∷ params) [] qs g h = absurd g
 params_same (x ∷ params) (p ∷ ps) [] g h = absurd h
 params_same (x ∷ params) (p ∷ ps) (q ∷ qs) g h =
-    let plain = unescaped_one x.1 g.0.1.0 h.0.1.0 g.0.1.1 h.0.1.1 in
-    rw (pair_same p q (g.0.0 ∙ sym h.0.0) (g.0.1.2 ∙ ap text_json plain ∙ sym h.0.1.2), params_same params ps qs g.1 h.1) refl
+    let canonical = unescaped_one x.1 g.0.1.0 h.0.1.0 g.0.1.1 h.0.1.1 in
+    rw (pair_same p q (g.0.0 ∙ sym h.0.0) (g.0.1.2 ∙ ap text_json canonical ∙ sym h.0.1.2), params_same params ps qs g.1 h.1) refl
 
 element_same : (element : ElementValue) (value other : Data) → IsElementJson element value → IsElementJson element other → value ≡ other
 element_same element value other g h =

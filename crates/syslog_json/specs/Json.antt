@@ -58,7 +58,7 @@ text_json text = string (encode_utf8_all text)
 
 -- the pair is a parameter's name and its value without escapes
 abbrev pub IsParamPair : Text × Text → Pair → Type 0
-IsParamPair param pair = (pair.0 ≡ encode_utf8_all param.0) × ((plain : Text) × IsUnescaped param.1 plain × (pair.1 ≡ text_json plain))
+IsParamPair param pair = (pair.0 ≡ encode_utf8_all param.0) × ((canonical : Text) × IsUnescaped param.1 canonical × (pair.1 ≡ text_json canonical))
 
 -- the value of an element: the object of its parameters
 pub record IsElementJson (element : ElementValue) (value : Data) : Type 0 where

@@ -10,7 +10,7 @@ use Rattle.serde_json.specs.Read.{read}
 use Rattle.serde_json.specs.Written.{compact_text}
 use Rattle.syslog_lines.specs.Count.{held_count}
 use Rattle.syslog_lines.specs.Output.{Answer, Filter, Written, Marked, Omitted, is_passed_over}
-use Rattle.syslog_lines.specs.Walk.{FiltersAll}
+use Rattle.syslog_lines.specs.Pump.{FiltersAll}
 use Rattle.syslog_lines.specs.declared.summary.Summary.{Summary}
 use Rattle.syslog_json.specs.Json.{IsMessageJson, with_fields}
 
@@ -54,5 +54,5 @@ objects year = record { Answers = IsObject year; Wants = λ line. ⊤ }
 
 -- all was read, the text of each line's value was written, and the summary counts the lines and those that are no message
 abbrev pub WritesObjects : ℤ → Option (List ℕ) → Option (List ℕ) → Option (List ℕ) → Option (List ℕ) → Summary → Type 0
-WritesObjects year had left held holds summary = (answers : List Answer) × (all : FiltersAll (objects year) had left held holds answers)
+WritesObjects year in_before in_after out_before out_after summary = (answers : List Answer) × (all : FiltersAll (objects year) in_before in_after out_before out_after answers)
     × (summary.lines ≡ held_count (length all.lines)) × (summary.refused ≡ held_count (count_by is_passed_over answers))

@@ -8,7 +8,7 @@ ghost use Rattle.serde_json.specs.Data.{depth};
 ghost use Rattle.serde_json.specs.Read.{max_depth};
 ghost use Rattle.serde_json.specs.View.{view};
 ghost use Rattle.serde_json.specs.Written.{has_float};
-ghost use Rattle.syslog_lines.specs.Walk.{EndsEarly, FailedAs};
+ghost use Rattle.syslog_lines.specs.Pump.{EndsEarly, FailedAs};
 ghost use Rattle.syslog_json.specs.Json.{IsMessageJson};
 ghost use Rattle.syslog_json.specs.Objects.{IsTextOf, WritesObjects, broken_json, objects, refused_json};
 
@@ -16,7 +16,7 @@ use crate::message::message_object;
 use serde_json::{Map, Value, put};
 use std::alloc::{AllocError, Global};
 use std::io::{Read, Write};
-use syslog_lines::walk::walk;
+use syslog_lines::pump::pump;
 use syslog_lines::{LineFilter, RunFault, Summary, Watched, push_line};
 use syslog_loose::{
     IncompleteDate, ParseFault, TimeZone, Variant, parse_message_with_year_exact_tz,
@@ -44,7 +44,7 @@ pub fn write_objects<R: Read, W: Write>(
         (W.contents writer.old.inner) (W.contents writer.new.inner) fault) }
     ensures failed { FailedAs result reader.new.failed writer.new.failed }
 {
-    let tally = walk(alloc, &Objects { year }, reader, writer)?;
+    let tally = pump(alloc, &Objects { year }, reader, writer)?;
     Ok(Summary {
         lines: tally.lines(),
         refused: tally.passed_over,

@@ -87,16 +87,16 @@ AnswersAll-end filter bytes rest old new was is none before = record {
 -- the next line has an answer, and nothing was added for it
 pub AnswersBefore-end : (filter : Filter) (bytes rest line after old mid new : List ℕ) (was is : Tally) → 0 < length rest → IsFirstLine rest line after → filter.Wants line → new ≡ mid
     → AnswersSoFar filter bytes rest old mid was is → AnswersBefore filter bytes old new
-AnswersBefore-end filter bytes rest line after old mid new was is some first wanted kept before =
-    let left = some_lines after in record {
+AnswersBefore-end filter bytes rest line after old mid new was is some first wanted unchanged before =
+    let in_after = some_lines after in record {
       before = before.lines;
       line = line;
-      after = left.0;
-      cut = before.goes_on (line ∷ left.0) (IsLines-cons rest line after left.0 some first left.1);
+      after = in_after.0;
+      cut = before.goes_on (line ∷ in_after.0) (IsLines-cons rest line after in_after.0 some first in_after.1);
       wanted = wanted;
       answers = before.answers;
       answered = before.answered;
-      added = kept ∙ before.added;
+      added = unchanged ∙ before.added;
     }
 
 pub OnErr-any : {X E : Type 0} (r : Result X E) (P : Type 0) → P → OnErr r P

@@ -5,7 +5,7 @@ use Rattle.std.proofs.lemmas.List.Sums.{sum_by-append}
 use Rattle.std.proofs.lemmas.Slice.Zip.{AllZip-long}
 use Rattle.syslog_lines.specs.Count.{held_count}
 use Rattle.syslog_lines.specs.Output.{Answer, Filter, HasCounted, Marked, Omitted, Written, is_answered, is_passed_over}
-use Rattle.syslog_lines.specs.Walk.{EndsEarly, FiltersAll, WalksAll}
+use Rattle.syslog_lines.specs.Pump.{EndsEarly, FiltersAll, PumpsAll}
 use Rattle.syslog_lines.specs.declared.summary.RunFault.{RunFault}
 use Rattle.syslog_lines.specs.declared.summary.Tally.{Tally}
 
@@ -23,14 +23,14 @@ counted_all [] = refl
 counted_all (answer ∷ answers) = omega (arith, counted_all answers, count_more is_answered answer answers, count_more is_passed_over answer answers, counted_once answer)
 
 -- the tally's lines are those of the input
-pub lines_counted : (filter : Filter) (had left held holds : Option (List ℕ)) (tally : Tally) (answers : List Answer) (all : FiltersAll filter had left held holds answers)
+pub lines_counted : (filter : Filter) (in_before in_after out_before out_after : Option (List ℕ)) (tally : Tally) (answers : List Answer) (all : FiltersAll filter in_before in_after out_before out_after answers)
     → HasCounted tally (count_by is_answered answers) (count_by is_passed_over answers) → held_count (tally.answered + tally.passed_over) ≡ held_count (length all.lines)
-lines_counted filter had left held holds tally answers all counted =
+lines_counted filter in_before in_after out_before out_after tally answers all counted =
     omega (arith, counted.0, counted.1, counted_all answers, AllZip-long filter.Answers all.lines answers all.answered)
 
 -- the number stands in a call as one of 32 bits
-pub EndsEarly-at : (filter : ℤ → Filter) (year y : ℤ) (had left held holds : Option (List ℕ)) (fault : RunFault) → y ≡ year → EndsEarly (filter y) had left held holds fault → EndsEarly (filter year) had left held holds fault
-EndsEarly-at filter year y had left held holds fault same ended = subst (λ (z : ℤ). EndsEarly (filter z) had left held holds fault) same ended
+pub EndsEarly-at : (filter : ℤ → Filter) (year y : ℤ) (in_before in_after out_before out_after : Option (List ℕ)) (fault : RunFault) → y ≡ year → EndsEarly (filter y) in_before in_after out_before out_after fault → EndsEarly (filter year) in_before in_after out_before out_after fault
+EndsEarly-at filter year y in_before in_after out_before out_after fault same ended = subst (λ (z : ℤ). EndsEarly (filter z) in_before in_after out_before out_after fault) same ended
 
-pub WalksAll-at : (filter : ℤ → Filter) (year y : ℤ) (had left held holds : Option (List ℕ)) (tally : Tally) → y ≡ year → WalksAll (filter y) had left held holds tally → WalksAll (filter year) had left held holds tally
-WalksAll-at filter year y had left held holds tally same walked = subst (λ (z : ℤ). WalksAll (filter z) had left held holds tally) same walked
+pub PumpsAll-at : (filter : ℤ → Filter) (year y : ℤ) (in_before in_after out_before out_after : Option (List ℕ)) (tally : Tally) → y ≡ year → PumpsAll (filter y) in_before in_after out_before out_after tally → PumpsAll (filter year) in_before in_after out_before out_after tally
+PumpsAll-at filter year y in_before in_after out_before out_after tally same pumped = subst (λ (z : ℤ). PumpsAll (filter z) in_before in_after out_before out_after tally) same pumped

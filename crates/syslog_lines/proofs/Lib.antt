@@ -3,6 +3,6 @@ pub mod LineLemmas
 pub mod AnswerLemmas
 pub mod BlockLemmas
 pub mod WriteLemmas
-pub mod WalkLemmas
+pub mod PumpLemmas
 pub mod CountLemmas
 pub mod ArgumentLemmas

@@ -28,13 +28,13 @@ WroteSoFar-more old mid new bytes rest n fits so_far more =
 
 -- what stands there where a write fails
 pub WroteSoFar-front : (old mid new : Option (List ℕ)) (bytes rest : List ℕ) → WroteSoFar old mid bytes rest → Keeps mid new → (size : ℕ) × Appends old new (take size bytes)
-WroteSoFar-front old mid new bytes rest so_far kept =
-    (length so_far.written, rw (← so_far.whole, take_at so_far.written rest (length so_far.written) refl) (Appends-kept old mid new so_far.written so_far.appended kept))
+WroteSoFar-front old mid new bytes rest so_far unchanged =
+    (length so_far.written, rw (← so_far.whole, take_at so_far.written rest (length so_far.written) refl) (Appends-kept old mid new so_far.written so_far.appended unchanged))
 
 -- the write of the output failed, whether all lines were answered or those before one that has an answer
-WroteCut-either : {X E : Type 0} (r : Result X E) (filter : Filter) (bytes output : List ℕ) (was is : Tally) (held holds : Option (List ℕ)) → OnOk r (AnswersAll filter bytes [] output was is) → OnErr r (AnswersBefore filter bytes [] output)
-    → (size : ℕ) × Appends held holds (take size output) → (lines : List (List ℕ)) × IsLines bytes lines × WroteCut filter lines held holds
-WroteCut-either (Ok x) filter bytes output was is held holds all first wrote = (
+WroteCut-either : {X E : Type 0} (r : Result X E) (filter : Filter) (bytes output : List ℕ) (was is : Tally) (out_before out_after : Option (List ℕ)) → OnOk r (AnswersAll filter bytes [] output was is) → OnErr r (AnswersBefore filter bytes [] output)
+    → (size : ℕ) × Appends out_before out_after (take size output) → (lines : List (List ℕ)) × IsLines bytes lines × WroteCut filter lines out_before out_after
+WroteCut-either (Ok x) filter bytes output was is out_before out_after all first wrote = (
   all.lines,
   all.cut,
   record {
@@ -44,10 +44,10 @@ WroteCut-either (Ok x) filter bytes output was is held holds all first wrote = (
     answers = all.answers;
     answered = all.answered;
     size = wrote.0;
-    written = subst (λ (l : List ℕ). Appends held holds (take wrote.0 l)) all.added wrote.1;
+    written = subst (λ (l : List ℕ). Appends out_before out_after (take wrote.0 l)) all.added wrote.1;
   },
 )
-WroteCut-either (Err e) filter bytes output was is held holds all first wrote = (
+WroteCut-either (Err e) filter bytes output was is out_before out_after all first wrote = (
   first.before ++ first.line ∷ first.after,
   first.cut,
   record {
@@ -57,23 +57,23 @@ WroteCut-either (Err e) filter bytes output was is held holds all first wrote = 
     answers = first.answers;
     answered = first.answered;
     size = wrote.0;
-    written = subst (λ (l : List ℕ). Appends held holds (take wrote.0 l)) first.added wrote.1;
+    written = subst (λ (l : List ℕ). Appends out_before out_after (take wrote.0 l)) first.added wrote.1;
   },
 )
 
-pub WritesFirst-cut : {X E : Type 0} (r : Result X E) (filter : Filter) (bytes cleared output : List ℕ) (was is : Tally) (held holds : Option (List ℕ)) (failed : Bool) (fault : RunFault) → cleared ≡ []
-    → OnOk r (AnswersAll filter bytes cleared output was is) → OnErr r (AnswersBefore filter bytes cleared output) → (fault ≡ Write) × (failed ≡ true) → (size : ℕ) × Appends held holds (take size output)
-    → WritesFirst filter bytes held holds failed fault
-WritesFirst-cut r filter bytes cleared output was is held holds failed fault empty all first failure wrote =
+pub WritesFirst-cut : {X E : Type 0} (r : Result X E) (filter : Filter) (bytes cleared output : List ℕ) (was is : Tally) (out_before out_after : Option (List ℕ)) (failed : Bool) (fault : RunFault) → cleared ≡ []
+    → OnOk r (AnswersAll filter bytes cleared output was is) → OnErr r (AnswersBefore filter bytes cleared output) → (fault ≡ Write) × (failed ≡ true) → (size : ℕ) × Appends out_before out_after (take size output)
+    → WritesFirst filter bytes out_before out_after failed fault
+WritesFirst-cut r filter bytes cleared output was is out_before out_after failed fault empty all first failure wrote =
     let all_here : OnOk r (AnswersAll filter bytes [] output was is) = subst (λ (l : List ℕ). OnOk r (AnswersAll filter bytes l output was is)) empty all in
     let first_here : OnErr r (AnswersBefore filter bytes [] output) = subst (λ (l : List ℕ). OnErr r (AnswersBefore filter bytes l output)) empty first in
-    let cut = WroteCut-either r filter bytes output was is held holds all_here first_here wrote in
-    subst (WritesFirst filter bytes held holds failed) (sym failure.0) (failure.1, cut)
+    let cut = WroteCut-either r filter bytes output was is out_before out_after all_here first_here wrote in
+    subst (WritesFirst filter bytes out_before out_after failed) (sym failure.0) (failure.1, cut)
 
 -- the output of the lines before one that has an answer was written
-pub WroteBefore-all : (filter : Filter) (bytes old output : List ℕ) (held holds : Option (List ℕ)) → old ≡ [] → AnswersBefore filter bytes old output → Appends held holds output
-    → (lines : List (List ℕ)) × IsLines bytes lines × WroteBefore filter lines held holds
-WroteBefore-all filter bytes old output held holds empty first wrote = (
+pub WroteBefore-all : (filter : Filter) (bytes old output : List ℕ) (out_before out_after : Option (List ℕ)) → old ≡ [] → AnswersBefore filter bytes old output → Appends out_before out_after output
+    → (lines : List (List ℕ)) × IsLines bytes lines × WroteBefore filter lines out_before out_after
+WroteBefore-all filter bytes old output out_before out_after empty first wrote = (
   first.before ++ first.line ∷ first.after,
   first.cut,
   record {
@@ -85,7 +85,7 @@ WroteBefore-all filter bytes old output held holds empty first wrote = (
     wrote = record {
       answers = first.answers;
       answered = first.answered;
-      written = subst (λ (o : List ℕ). Appends held holds o) (first.added ∙ ap (λ (o : List ℕ). o ++ output_of first.answers) empty) wrote;
+      written = subst (λ (o : List ℕ). Appends out_before out_after o) (first.added ∙ ap (λ (o : List ℕ). o ++ output_of first.answers) empty) wrote;
     };
   },
 )

@@ -5,6 +5,6 @@ pub mod Block
 pub mod Count
 pub mod Output
 pub mod Write
-pub mod Walk
+pub mod Pump
 pub mod Arguments
 pub mod Report

@@ -8,36 +8,36 @@ use Rattle.syslog_lines.specs.declared.summary.RunFault.{RunFault}
 use Rattle.syslog_lines.specs.declared.summary.RunFault.TheVariants.{Read, Write, Memory}
 
 -- the output of the lines was written
-pub record Wrote (filter : Filter) (lines : List (List ℕ)) (held holds : Option (List ℕ)) : Type 0 where
+pub record Wrote (filter : Filter) (lines : List (List ℕ)) (out_before out_after : Option (List ℕ)) : Type 0 where
   pub answers : List Answer
   pub answered : AreAnswers filter lines answers
-  pub written : Appends held holds (output_of answers)
+  pub written : Appends out_before out_after (output_of answers)
 
 -- the output of the lines before one for which memory may be wanted was written
-pub record WroteBefore (filter : Filter) (lines : List (List ℕ)) (held holds : Option (List ℕ)) : Type 0 where
+pub record WroteBefore (filter : Filter) (lines : List (List ℕ)) (out_before out_after : Option (List ℕ)) : Type 0 where
   pub before : List (List ℕ)
   pub line : List ℕ
   pub after : List (List ℕ)
   pub listed : lines ≡ before ++ line ∷ after
   pub wanted : filter.Wants line
-  pub wrote : Wrote filter before held holds
+  pub wrote : Wrote filter before out_before out_after
 
 -- a beginning of the output of the lines was written, which may end within a line's
-pub record WroteCut (filter : Filter) (lines : List (List ℕ)) (held holds : Option (List ℕ)) : Type 0 where
+pub record WroteCut (filter : Filter) (lines : List (List ℕ)) (out_before out_after : Option (List ℕ)) : Type 0 where
   pub before : List (List ℕ)
   pub after : List (List ℕ)
   pub listed : lines ≡ before ++ after
   pub answers : List Answer
   pub answered : AreAnswers filter before answers
   pub size : ℕ
-  pub written : Appends held holds (take size (output_of answers))
+  pub written : Appends out_before out_after (take size (output_of answers))
 
 -- the output of all lines of the bytes was written, and the lines counted
 abbrev pub WritesAll : Filter → List ℕ → Option (List ℕ) → Option (List ℕ) → Tally → Tally → Type 0
-WritesAll filter bytes held holds was is = (output : List ℕ) × AnswersAll filter bytes [] output was is × Appends held holds output
+WritesAll filter bytes out_before out_after was is = (output : List ℕ) × AnswersAll filter bytes [] output was is × Appends out_before out_after output
 
 -- by the fault: what was written of the output of the bytes' lines, and whether the writer failed
 abbrev pub WritesFirst : Filter → List ℕ → Option (List ℕ) → Option (List ℕ) → Bool → RunFault → Type 0
-WritesFirst filter bytes held holds failed Read = ⊥
-WritesFirst filter bytes held holds failed Write = (failed ≡ true) × ((lines : List (List ℕ)) × IsLines bytes lines × WroteCut filter lines held holds)
-WritesFirst filter bytes held holds failed Memory = (failed ≡ false) × ((lines : List (List ℕ)) × IsLines bytes lines × WroteBefore filter lines held holds)
+WritesFirst filter bytes out_before out_after failed Read = ⊥
+WritesFirst filter bytes out_before out_after failed Write = (failed ≡ true) × ((lines : List (List ℕ)) × IsLines bytes lines × WroteCut filter lines out_before out_after)
+WritesFirst filter bytes out_before out_after failed Memory = (failed ≡ false) × ((lines : List (List ℕ)) × IsLines bytes lines × WroteBefore filter lines out_before out_after)

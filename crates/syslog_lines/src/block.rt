@@ -67,7 +67,7 @@ impl Block {
         ensures ok { IfOk result (λ more. Fills (R.remaining reader.old.inner) (R.remaining reader.new.inner) self.old self.new more) }
         ensures err { IfErr result (λ fault. StopsReading (cut_bytes self.old) fault reader.new.failed) }
         ensures well { OnOk result (reader.new.failed ≡ false) }
-        ensures kept { OnErr result (Keeps (R.remaining reader.old.inner) (R.remaining reader.new.inner)) }
+        ensures unchanged { OnErr result (Keeps (R.remaining reader.old.inner) (R.remaining reader.new.inner)) }
         ensures open { NoFeed (cut_bytes self.new) }
         ensures counted { OnOk result ((reader.old.calls < u64.MAX) × (reader.new.calls ≡ reader.old.calls + 1)) }
     {
@@ -139,7 +139,7 @@ fn read_into<R: Read>(reader: &mut Watched<R>, bytes: &mut Vec<u8>, at: usize) -
     ensures well { OnOk result (reader.new.failed ≡ reader.old.failed) }
     ensures counted { OnOk result ((reader.old.calls < u64.MAX) × (reader.new.calls ≡ reader.old.calls + 1)) }
     ensures err { OnErr result (reader.new.failed ≡ true) }
-    ensures kept { OnErr result (Keeps (R.remaining reader.old.inner) (R.remaining reader.new.inner)) }
+    ensures unchanged { OnErr result (Keeps (R.remaining reader.old.inner) (R.remaining reader.new.inner)) }
 {
     read_at(reader, bytes.as_mut_slice(), at)
 }
@@ -155,7 +155,7 @@ fn read_at<R: Read>(reader: &mut Watched<R>, buffer: &mut [u8], at: usize) -> io
     ensures well { OnOk result (reader.new.failed ≡ reader.old.failed) }
     ensures counted { OnOk result ((reader.old.calls < u64.MAX) × (reader.new.calls ≡ reader.old.calls + 1)) }
     ensures err { OnErr result (reader.new.failed ≡ true) }
-    ensures kept { OnErr result (Keeps (R.remaining reader.old.inner) (R.remaining reader.new.inner)) }
+    ensures unchanged { OnErr result (Keeps (R.remaining reader.old.inner) (R.remaining reader.new.inner)) }
 {
     reader.read(&mut buffer[at..])
 }

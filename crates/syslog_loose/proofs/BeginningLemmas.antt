@@ -11,10 +11,10 @@ use Rattle.syslog_pieces.specs.Pri.{priority}
 use Rattle.syslog_pieces.specs.ProcId.{process_word}
 use Rattle.syslog_pieces.specs.Text.{trimmed, is_blank, number, host, word}
 use Rattle.syslog_pieces.specs.Timestamp.{header_stamp}
-use Rattle.syslog_pieces.specs.Timestamp.Loose.{loose_stamp, showing_row, ShowsYearless}
+use Rattle.syslog_pieces.specs.Timestamp.Rfc3164.{rfc3164_stamp, showing_row, ShowsYearless}
 use Rattle.syslog_pieces.specs.Timestamp.MonthDate.{month, month_date, yearless_date, short_number, yearless_row, dated_row, clock_row}
 use Rattle.syslog_pieces.specs.Timestamp.Zone.{Dating}
-use Rattle.syslog_pieces.specs.declared.structured_data.listed.DashRule.{DashRule}
+use Rattle.syslog_pieces.specs.declared.structured_data.rfc3164_list.DashRule.{DashRule}
 use Rattle.syslog_pieces.specs.declared.timestamp.OffsetTimestamp.{OffsetTimestamp}
 use Rattle.syslog_pieces.specs.declared.timestamp.month_date.MonthDate.{MonthDate}
 use Rattle.syslog_pieces.proofs.PieceLemmas.Class.{row_head, division_front}
@@ -96,10 +96,10 @@ stamp_first p q None h = begins_with IsFirst 45 (p ++ q) q (ap (λ (x : Text). x
 stamp_first p q (Some s) (h, z) =
     let (c, more, f, digit) = stamp_text-first p s h in begins_more IsFirst p q (begins_with IsFirst c p more f (digit_first c (in_range c digit)))
 
-loose_first : (dating : Dating) (p q : Text) (v : Option OffsetTimestamp) → (loose_stamp dating).Is p q v → Begins IsFirst (p ++ q)
-loose_first dating p q v (inl h) = stamp_first p q v h
-loose_first dating p q None (inr h) = absurd h
-loose_first dating p q (Some s) (inr (d, h, stamp)) = date_first p q d h
+rfc3164_first : (dating : Dating) (p q : Text) (v : Option OffsetTimestamp) → (rfc3164_stamp dating).Is p q v → Begins IsFirst (p ++ q)
+rfc3164_first dating p q v (inl h) = stamp_first p q v h
+rfc3164_first dating p q None (inr h) = absurd h
+rfc3164_first dating p q (Some s) (inr (d, h, stamp)) = date_first p q d h
 
 priority_first : {t q : Text} {n : ℕ} → Front priority t q n → Begins IsFirst t
 priority_first {t = t} f =
@@ -137,19 +137,19 @@ strict_first t vs d =
     let g2 = row_head (number 4294967295) behind_version g1.2 in
     behind_priority vs.0 g1.1 (number_first 4294967295 g2.1)
 
-loosely_first : (rule : DashRule) (dating : Dating) (t : Text) (vs : Values (rfc3164_row rule dating)) → Division (rfc3164_row rule dating) t vs → Begins IsFirst t
-loosely_first rule dating t vs d =
-    let g1 = row_head (optional priority) (run is_blank ∷ loose_stamp dating ∷ body_row rule) (division_front (rfc3164_row rule dating) d) in
-    let g2 = row_head (run is_blank) (loose_stamp dating ∷ body_row rule) g1.2 in
-    let g3 = row_head (loose_stamp dating) (body_row rule) g2.2 in
+rfc3164_row_first : (rule : DashRule) (dating : Dating) (t : Text) (vs : Values (rfc3164_row rule dating)) → Division (rfc3164_row rule dating) t vs → Begins IsFirst t
+rfc3164_row_first rule dating t vs d =
+    let g1 = row_head (optional priority) (run is_blank ∷ rfc3164_stamp dating ∷ body_row rule) (division_front (rfc3164_row rule dating) d) in
+    let g2 = row_head (run is_blank) (rfc3164_stamp dating ∷ body_row rule) g1.2 in
+    let g3 = row_head (rfc3164_stamp dating) (body_row rule) g2.2 in
     behind_priority vs.0 g1.1 (behind_blanks g2.1.piece g1.0 g2.0 g2.1.whole g2.1.is.0
-    (subst (λ (x : Text). Begins IsFirst x) (sym g3.1.whole) (loose_first dating g3.1.piece g3.0 vs.1.1.0 g3.1.is)))
+    (subst (λ (x : Text). Begins IsFirst x) (sym g3.1.whole) (rfc3164_first dating g3.1.piece g3.0 vs.1.1.0 g3.1.is)))
 
 pub no_reading : (variant : Variant) (dating : Dating) (text : Text) → BeginsNone (trimmed text) → IsUnreadable variant dating text
 no_reading RFC5424 dating text n m r = begins_both (trimmed text) n (strict_first (trimmed text) r.values r.division)
-no_reading RFC3164 dating text n m r = begins_both (trimmed text) n (loosely_first dash_rule dating (trimmed text) r.values r.division)
+no_reading RFC3164 dating text n m r = begins_both (trimmed text) n (rfc3164_row_first dash_rule dating (trimmed text) r.values r.division)
 no_reading Either dating text n m (inl r) = begins_both (trimmed text) n (strict_first (trimmed text) r.values r.division)
-no_reading Either dating text n m (inr (x, r)) = begins_both (trimmed text) n (loosely_first dash_rule dating (trimmed text) r.values r.division)
+no_reading Either dating text n m (inr (x, r)) = begins_both (trimmed text) n (rfc3164_row_first dash_rule dating (trimmed text) r.values r.division)
 
 -- ---- what one look at bytes tells
 pub none_in_none : (bs : List ℕ) → length bs < 1 → BeginsNone (chars bs)

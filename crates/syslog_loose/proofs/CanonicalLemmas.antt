@@ -5,23 +5,23 @@ use Rattle.std.specs.Prelude.{◌↔◌, IsTrue, MatchBool}
 use Rattle.std.specs.Str.{chars, IsUtf8, trim_end, bytes_eq, drop_trailing_whitespace}
 use Rattle.std.proofs.lemmas.Slice.Eq.{bytes_eq-Decides}
 use Rattle.syslog_pieces.specs.Pieces.Class.{Text, NoFront}
-use Rattle.syslog_pieces.specs.StructuredData.Listed.{BeginsNoList, listed}
-use Rattle.syslog_pieces.specs.declared.structured_data.listed.DashRule.{DashRule}
-use Rattle.syslog_pieces.specs.Text.Plain.{EndsVisibly}
+use Rattle.syslog_pieces.specs.StructuredData.Rfc3164List.{BeginsNoList, rfc3164_list}
+use Rattle.syslog_pieces.specs.declared.structured_data.rfc3164_list.DashRule.{DashRule}
+use Rattle.syslog_pieces.specs.Text.Canonical.{EndsVisibly}
 use Rattle.syslog_pieces.proofs.TextLemmas.Chars.{same_chars}
 use Rattle.syslog_pieces.proofs.TextLemmas.Trim.{end_trimmed_chars}
-use Rattle.syslog_pieces.proofs.StructuredDataLemmas.Listed.{no_list_is}
-use Rattle.syslog_loose.proofs.TrimLemmas.{drop_kept, drop_ends}
+use Rattle.syslog_pieces.proofs.StructuredDataLemmas.Rfc3164List.{no_list_is}
+use Rattle.syslog_loose.proofs.TrimLemmas.{drop_none, drop_ends}
 
 -- a text that trimming leaves as it is
 pub visible_told : (bs ts : List ℕ) (b : Bool) → IsUtf8 bs → IsUtf8 ts → ts ≡ trim_end bs → b ≡ bytes_eq ts bs
     → IsTrue b ↔ EndsVisibly (chars bs)
 visible_told bs ts b u v e f =
-    let kept : chars ts ≡ drop_trailing_whitespace (chars bs) = ap chars e ∙ end_trimmed_chars bs u in (
+    let stays : chars ts ≡ drop_trailing_whitespace (chars bs) = ap chars e ∙ end_trimmed_chars bs u in (
       (λ h.
           let same : ts ≡ bs = (bytes_eq-Decides ts bs).0 (sym f ∙ h) in
-          subst EndsVisibly (sym kept ∙ ap chars same) (drop_ends (chars bs))),
-      (λ h. f ∙ (bytes_eq-Decides ts bs).1 (same_chars ts bs v u (kept ∙ drop_kept (chars bs) h))),
+          subst EndsVisibly (sym stays ∙ ap chars same) (drop_ends (chars bs))),
+      (λ h. f ∙ (bytes_eq-Decides ts bs).1 (same_chars ts bs v u (stays ∙ drop_none (chars bs) h))),
     )
 
 -- a list that is there, seen through a function
@@ -39,7 +39,7 @@ some_items f (x ∷ xs) h e = let k = ap length e in omega arith
 
 -- a message that begins no list
 pub no_list_told : (rule : DashRule) (t : Text) (b : Bool)
-    → MatchBool b (NoFront (listed rule) t → ⊥) (NoFront (listed rule) t) → IsTrue (not b) ↔ BeginsNoList rule t
+    → MatchBool b (NoFront (rfc3164_list rule) t → ⊥) (NoFront (rfc3164_list rule) t) → IsTrue (not b) ↔ BeginsNoList rule t
 no_list_told rule t true m =
     ((λ h. absurd (let e : false ≡ true = h in cc)), (λ n. absurd (m ((no_list_is rule t).1 n))))
 no_list_told rule t false m = ((λ h. (no_list_is rule t).0 m), (λ n. refl))

@@ -63,9 +63,9 @@ pub ends_some : (bytes : List ℕ) → IsUtf8 bytes → 0 < length bytes → enc
 ends_some bytes u l = some_end (chars bytes) bytes (encodes-chars bytes u) l
 
 -- ---- a tail of elements and a message part
-pub tail_plain : (es : List ElementValue) (msg : Text) → length es ≡ 0 → tail_text es msg ≡ message_end msg
-tail_plain [] msg l = refl
-tail_plain (e ∷ es) msg l = absurd (omega (arith, l))
+pub tail_without_elements : (es : List ElementValue) (msg : Text) → length es ≡ 0 → tail_text es msg ≡ message_end msg
+tail_without_elements [] msg l = refl
+tail_without_elements (e ∷ es) msg l = absurd (omega (arith, l))
 
 pub tail_elements : (es : List ElementValue) (msg : Text) → 0 < length es → (32 ∷ encode_utf8_all (elements_text es)) ++ encode_utf8_all (message_end msg) ≡ encode_utf8_all (tail_text es msg)
 unfolding encode_utf8

@@ -1,11 +1,11 @@
 pub mod BeginningLemmas
 pub mod BoundLemmas
 pub mod CanonicalLemmas
-pub mod DashLemmas
-pub mod KeptLineLemmas
+pub mod DashChangeLemmas
+pub mod VerbatimLineLemmas
 pub mod JumpLemmas
-pub mod MissLemmas
-pub mod KeptLooseLemmas
+pub mod ExceptionLemmas
+pub mod Verbatim3164Lemmas
 pub mod OneLineLemmas
 pub mod PrintedLemmas
 pub mod PriorityLemmas

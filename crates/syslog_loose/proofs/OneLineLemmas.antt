@@ -39,10 +39,10 @@ use Rattle.syslog_loose.proofs.PriorityLemmas.{priority_small}
 use Rattle.syslog_loose.proofs.Rfc3164Lemmas.Apart.{digit_range}
 use Rattle.syslog_loose.proofs.Rfc3164Lemmas.Bounded.{read_bounded}
 use Rattle.syslog_loose.proofs.Rfc3164Lemmas.Near.{read_near}
-use Rattle.syslog_loose.proofs.Rfc3164Lemmas.Printed as loose
+use Rattle.syslog_loose.proofs.Rfc3164Lemmas.Printed as rfc3164
 use Rattle.syslog_loose.proofs.Rfc3164Lemmas.Quoting.{quotes}
 use Rattle.syslog_loose.proofs.Rfc5424Lemmas as strict
-use Rattle.syslog_loose.proofs.Rfc5424Lemmas.ReadBack.{read_plain, printed_is, fields, values_of}
+use Rattle.syslog_loose.proofs.Rfc5424Lemmas.ReadBack.{read_completed, printed_is, fields, values_of}
 use Rattle.syslog_pieces.proofs.PieceLemmas.Class.{◌also◌}
 use Rattle.syslog_pieces.proofs.PieceLemmas.Formats.{EachPrints, row_passes}
 use Rattle.syslog_pieces.specs.Pieces.Format.{printed_row}
@@ -212,9 +212,9 @@ module _ (test : ℕ → Bool) (ascii : (c : ℕ) → is_ascii_print c ≡ true 
   priority_line : (m : MessageValue) → Passes (decimal (priority_of m))
   priority_line m = let small = priority_small m in number_line (priority_of m) (omega arith)
 
-  loose_line : (m : MessageValue) → IfSome m.procid IsBoundedProcess → AreLines m → Passes (printed_3164 m)
+  rfc3164_line : (m : MessageValue) → IfSome m.procid IsBoundedProcess → AreLines m → Passes (printed_3164 m)
   unfolding printed_3164
-  loose_line m b h =
+  rfc3164_line m b h =
       let body : Text = spaced_elements m.structured_data ++ m.msg in
       let tag : Text = tag_text m.appname m.procid ++ body in
       let host : Text = name_text m.hostname ++ (32 ∷ tag) in (
@@ -254,21 +254,21 @@ module _ (test : ℕ → Bool) (ascii : (c : ℕ) → is_ascii_print c ≡ true 
       )
 
   -- ---- what is read
-  loose_printed : (dating : Dating) (text : Text) (m : MessageValue) → IsRead3164 dash_rule dating text m → Passes text
+  rfc3164_printed : (dating : Dating) (text : Text) (m : MessageValue) → IsRead3164 dash_rule dating text m → Passes text
       → Passes (printed m)
-  loose_printed dating text m r h =
+  rfc3164_printed dating text m r h =
       let q = quotes dash_rule dating text m r in
       let lines =
       texts_lines m (pieces_line text q.read.division.pieces (message_texts m) h q.read.division.whole q.each) in
-      subst Passes (sym (loose.printed_is m (read_near dash_rule dating text m r).protocol))
-      (loose_line m (read_bounded dash_rule dating text m r).procid lines)
+      subst Passes (sym (rfc3164.printed_is m (read_near dash_rule dating text m r).protocol))
+      (rfc3164_line m (read_bounded dash_rule dating text m r).procid lines)
 
   strict_printed : (text : Text) (m : MessageValue) → IsRead5424 text m → Passes text → Passes (printed m)
   strict_printed text m r h =
       let q = strict.quotes text m r in
       let version = r.values.1.0 in
       let e = ap (λ (x : MessageValue). x.protocol) r.means in
-      let b = (read_plain dash_rule text m r).1 in
+      let b = (read_completed dash_rule text m r).1 in
       let lines =
       texts_lines m (pieces_line text q.read.division.pieces (message_texts m) h q.read.division.whole q.each) in
       subst Passes (sym (printed_is version m e))
@@ -277,9 +277,9 @@ module _ (test : ℕ → Bool) (ascii : (c : ℕ) → is_ascii_print c ≡ true 
   pub printed_passes : (variant : Variant) (dating : Dating) (text : Text) (m : MessageValue)
       → IsRead variant dating text m → Passes text → Passes (printed m)
   printed_passes RFC5424 dating text m r h = strict_printed text m r h
-  printed_passes RFC3164 dating text m r h = loose_printed dating text m r h
+  printed_passes RFC3164 dating text m r h = rfc3164_printed dating text m r h
   printed_passes Either dating text m (inl r) h = strict_printed text m r h
-  printed_passes Either dating text m (inr (none, r)) h = loose_printed dating text m r h
+  printed_passes Either dating text m (inr (none, r)) h = rfc3164_printed dating text m r h
 
 -- ---- one line
 no_feed : (c : ℕ) → is_ascii_print c ≡ true → is_no_feed c ≡ true

@@ -13,7 +13,7 @@ use Rattle.syslog_pieces.specs.declared.timestamp.month_date.MonthDate.{MonthDat
 use Rattle.syslog_loose.specs.Canonical.{IsBounded, IsCanonical}
 use Rattle.syslog_loose.specs.Message.{MessageValue, message_value}
 use Rattle.syslog_loose.specs.Printed.{printed}
-use Rattle.syslog_loose.specs.ReadBack.{ReadsProtocol, AnswersItself, FieldsAsRead, IsKept, AnswersAgain}
+use Rattle.syslog_loose.specs.ReadBack.{ReadsProtocol, AnswersItself, FieldsAsRead, IsFixed, AnswersAgain}
 use Rattle.syslog_loose.specs.Reading.{dash_rule, IsRead, IsOnlyRead, IsUnreadable, Answers, IncompleteDate, AsksYear, IsYearAnswered, InYear}
 use Rattle.syslog_loose.specs.Rfc3164.{IsRead3164}
 use Rattle.syslog_loose.specs.Rfc5424.{IsRead5424, IsNot5424}
@@ -29,7 +29,7 @@ use Rattle.syslog_loose.proofs.ReadingLemmas.{only_read, any_year, in_answered_y
 use Rattle.syslog_loose.proofs.Rfc3164Lemmas.Exact.{rfc3164_exact}
 use Rattle.syslog_loose.proofs.Rfc3164Lemmas.Near.{read_near, read_nearly, stamp_read}
 use Rattle.syslog_loose.proofs.Rfc3164Lemmas.Printed.{printed_is, printed_apart}
-use Rattle.syslog_loose.proofs.Rfc3164Lemmas.Again as loosely
+use Rattle.syslog_loose.proofs.Rfc3164Lemmas.Again as as_rfc3164
 use Rattle.syslog_loose.proofs.Rfc5424Lemmas.ReadBack as rfc5424
 
 no_protocol : (version : ℕ) → protocol.RFC3164 ≡ protocol.RFC5424 version → ⊥
@@ -82,15 +82,15 @@ strict_fields : (dating : Dating) (text : Text) (m : MessageValue) → IsRead542
 strict_fields dating text m r =
     subst (λ (p : Protocol). FieldsAsRead p dating text m) (sym (ap (λ (x : MessageValue). x.protocol) r.means)) (λ f. rfc5424.read_canonical dash_rule text m r f)
 
-loose_fields : (dating : Dating) (text : Text) (m : MessageValue) → IsRead3164 dash_rule dating text m → FieldsAsRead m.protocol dating text m
-loose_fields dating text m r =
+rfc3164_fields : (dating : Dating) (text : Text) (m : MessageValue) → IsRead3164 dash_rule dating text m → FieldsAsRead m.protocol dating text m
+rfc3164_fields dating text m r =
     subst (λ (p : Protocol). FieldsAsRead p dating text m) (sym (read_near dash_rule dating text m r).protocol) ((λ f. read_nearly dash_rule dating text m r f), stamp_read dash_rule dating text m r)
 
 pub fields : (variant : Variant) (dating : Dating) (text : Text) (m : MessageValue) → IsRead variant dating text m → FieldsAsRead m.protocol dating text m
 fields RFC5424 dating text m r = strict_fields dating text m r
-fields RFC3164 dating text m r = loose_fields dating text m r
+fields RFC3164 dating text m r = rfc3164_fields dating text m r
 fields Either dating text m (inl r) = strict_fields dating text m r
-fields Either dating text m (inr (n, r)) = loose_fields dating text m r
+fields Either dating text m (inr (n, r)) = rfc3164_fields dating text m r
 
 pub fields_answered : (variant : Variant) (dating : Dating) (text : Text) (r : Result (Message (Bor (List ℕ))) ParseFault) → Answers variant dating text r
     → IfOk r (λ found. FieldsAsRead found.protocol dating text (message_value (λ s. shown s) found))
@@ -102,14 +102,14 @@ strictly_read Either dating version m n text e h r = inl r
 strictly_read RFC5424 dating version m n text e h r = r
 strictly_read RFC3164 dating version m n text e h r = absurd (subst (λ (p : Protocol). ReadsProtocol RFC3164 p) e h)
 
--- a kept message's printed text is read as one that prints the same
-pub kept_again : (variant : Variant) (dating : Dating) (m : MessageValue) → IsKept m → ReadsProtocol variant m.protocol → (n : MessageValue) × IsRead variant dating (printed m) n × (printed n ≡ printed m)
-kept_again variant dating m (inl (b, c)) h = (m, (printed_exact dating m b variant h).1 c, refl)
-kept_again variant dating m (inr (inl (text, r))) h =
+-- a fixed message's printed text is read as one that prints the same
+pub fixed_again : (variant : Variant) (dating : Dating) (m : MessageValue) → IsFixed m → ReadsProtocol variant m.protocol → (n : MessageValue) × IsRead variant dating (printed m) n × (printed n ≡ printed m)
+fixed_again variant dating m (inl (b, c)) h = (m, (printed_exact dating m b variant h).1 c, refl)
+fixed_again variant dating m (inr (inl (text, r))) h =
     let (s, e) = rfc5424.read_again text m r in
     (rfc5424.completed m, strictly_read variant dating r.values.1.0 m (rfc5424.completed m) (printed m) (ap (λ (x : MessageValue). x.protocol) r.means) h s, e)
-kept_again variant dating m (inr (inr (text, own, r, none))) h =
-    let (canonical, bounded, same) = loosely.read_again dash_rule own text m r none in
+fixed_again variant dating m (inr (inr (text, own, r, none))) h =
+    let (canonical, bounded, same) = as_rfc3164.read_again dash_rule own text m r none in
     (rfc5424.completed m, subst (λ (x : Text). IsRead variant dating x (rfc5424.completed m)) same ((printed_exact dating (rfc5424.completed m) bounded variant h).1 canonical), same)
 
 pub again : (variant : Variant) (dating : Dating) (bytes : List ℕ) → IsUtf8 bytes → (r : Result (String Global) ParseFault)
@@ -117,11 +117,11 @@ pub again : (variant : Variant) (dating : Dating) (bytes : List ℕ) → IsUtf8 
     (λ fault. (fault ≡ Invalid) ↔ IsUnreadable variant dating (chars bytes))
     → AnswersAgain variant (chars bytes) bytes r
 again variant dating bytes u (Ok text) (found, only, written) m k h e n =
-    let (other, r, same) = kept_again variant dating m k h in
+    let (other, r, same) = fixed_again variant dating m k h in
     let is : other ≡ found = only.only other (subst (λ (x : Text). IsRead variant dating x other) (sym e) r) in
     written ∙ ap encode_utf8_all (ap printed (sym is) ∙ same ∙ sym e) ∙ encodes-chars bytes u
 again variant dating bytes u (Err Invalid) told m k h e n =
-    let (other, r, same) = kept_again variant dating m k h in
+    let (other, r, same) = fixed_again variant dating m k h in
     absurd (told.0 refl other (subst (λ (x : Text). IsRead variant dating x other) (sym e) r))
 again variant dating bytes u (Err Memory) told m k h e n = absurd (n refl)
 

@@ -10,7 +10,7 @@ use Rattle.syslog_pieces.specs.Pieces.View.{shown}
 use Rattle.syslog_pieces.specs.Timestamp.Zone.{Dating, dating_of}
 use Rattle.syslog_pieces.specs.declared.timestamp.month_date.MonthDate.{MonthDate}
 use Rattle.syslog_loose.specs.Message.{MessageValue, message_value}
-use Rattle.syslog_loose.specs.Reading.{dash_rule, IsRead, IsOnlyRead, IsUnreadable, IsQuoted, IsFault, Answers, AnswersDateless, AnswersPlainly, IncompleteDate, incomplete, AsksYear, IsLeftTo3164, IsYearAnswered, InYear}
+use Rattle.syslog_loose.specs.Reading.{dash_rule, IsRead, IsOnlyRead, IsUnreadable, IsQuoted, IsFault, Answers, AnswersDateless, AnswersOrWhole, IncompleteDate, incomplete, AsksYear, IsLeftTo3164, IsYearAnswered, InYear}
 use Rattle.syslog_loose.specs.Rfc5424.{IsRead5424, IsNot5424, NeedsNoMemory5424}
 use Rattle.syslog_loose.specs.declared.message.Message.{Message}
 use Rattle.syslog_loose.specs.declared.fault.ParseFault.{ParseFault}
@@ -18,9 +18,9 @@ use Rattle.syslog_loose.specs.declared.fault.ParseFault.TheVariants.{Invalid, Me
 use Rattle.syslog_loose.specs.declared.variant.Variant.{Variant}
 use Rattle.syslog_loose.specs.declared.variant.Variant.TheVariants.{Either, RFC3164, RFC5424}
 use Rattle.syslog_loose.proofs.Rfc3164Lemmas.Apart.{shown_apart}
-use Rattle.syslog_loose.proofs.Rfc3164Lemmas.Quoting as loose
+use Rattle.syslog_loose.proofs.Rfc3164Lemmas.Quoting as rfc3164
 use Rattle.syslog_loose.proofs.Rfc3164Lemmas.Shown.{shows_month_date}
-use Rattle.syslog_loose.proofs.Rfc3164Lemmas.Unique as loose_unique
+use Rattle.syslog_loose.proofs.Rfc3164Lemmas.Unique as rfc3164_unique
 use Rattle.syslog_loose.proofs.Rfc3164Lemmas.Years.{other_read}
 use Rattle.syslog_loose.proofs.Rfc5424Lemmas as strict
 
@@ -33,17 +33,17 @@ value m = message_value (λ s. shown s) m
 -- ---- one reading
 pub read_once : (variant : Variant) (dating : Dating) (text : Text) (m n : MessageValue) → IsRead variant dating text m → IsRead variant dating text n → m ≡ n
 read_once RFC5424 dating text m n r s = strict.one_message text m n r s
-read_once RFC3164 dating text m n r s = loose_unique.one_message dash_rule dating text m n r s
+read_once RFC3164 dating text m n r s = rfc3164_unique.one_message dash_rule dating text m n r s
 read_once Either dating text m n (inl r) (inl s) = strict.one_message text m n r s
 read_once Either dating text m n (inl r) (inr (none, s)) = absurd (none r.values r.division)
 read_once Either dating text m n (inr (none, r)) (inl s) = absurd (none s.values s.division)
-read_once Either dating text m n (inr (none, r)) (inr (also, s)) = loose_unique.one_message dash_rule dating text m n r s
+read_once Either dating text m n (inr (none, r)) (inr (also, s)) = rfc3164_unique.one_message dash_rule dating text m n r s
 
 quoted : (variant : Variant) (dating : Dating) (text : Text) (m : MessageValue) → IsRead variant dating text m → IsQuoted variant dating text m
 quoted RFC5424 dating text m r = strict.quotes text m r
-quoted RFC3164 dating text m r = loose.quotes dash_rule dating text m r
+quoted RFC3164 dating text m r = rfc3164.quotes dash_rule dating text m r
 quoted Either dating text m (inl r) = inl (strict.quotes text m r)
-quoted Either dating text m (inr (none, r)) = inr (none, loose.quotes dash_rule dating text m r)
+quoted Either dating text m (inr (none, r)) = inr (none, rfc3164.quotes dash_rule dating text m r)
 
 pub only_read : (variant : Variant) (dating : Dating) (text : Text) (m : MessageValue) → IsRead variant dating text m → IsOnlyRead variant dating text m
 only_read variant dating text m r = record { read = r; only = λ n s. read_once variant dating text n m s r; quoted = quoted variant dating text m r }
@@ -53,10 +53,10 @@ pub either_read : (dating : Dating) (text : Text) (m : MessageValue) → IsRead5
 either_read dating text m r = only_read Either dating text m (inl r)
 
 -- what RFC 3164 answers where there is no division of RFC 5424
-pub either_loose : (dating : Dating) (text : Text) (r : Result Found ParseFault) → IsNot5424 text → Answers RFC3164 dating text r → Answers Either dating text r
-either_loose dating text (Ok m) none h = only_read Either dating text (value m) (inr (none, h.read))
-either_loose dating text (Err Invalid) none h = λ m r. elim r [ inl s ↦ none s.values s.division | inr (also, s) ↦ h m s ]
-either_loose dating text (Err Memory) none h = λ needless. h (λ m s. needless m (inr (none, s)))
+pub either_rfc3164 : (dating : Dating) (text : Text) (r : Result Found ParseFault) → IsNot5424 text → Answers RFC3164 dating text r → Answers Either dating text r
+either_rfc3164 dating text (Ok m) none h = only_read Either dating text (value m) (inr (none, h.read))
+either_rfc3164 dating text (Err Invalid) none h = λ m r. elim r [ inl s ↦ none s.values s.division | inr (also, s) ↦ h m s ]
+either_rfc3164 dating text (Err Memory) none h = λ needless. h (λ m s. needless m (inr (none, s)))
 
 -- memory was refused to RFC 5424
 pub either_refused : (dating : Dating) (text : Text) → (NeedsNoMemory5424 text → ⊥) → IsFault Either dating text Memory
@@ -83,7 +83,7 @@ pub left_answer : (variant : Variant) (dating : Dating) (text : Text) (r : Resul
     → Answers RFC3164 dating text r → Answers variant dating text r
 left_answer RFC5424 dating text r left h = absurd left
 left_answer RFC3164 dating text r left h = h
-left_answer Either dating text r left h = either_loose dating text r left h
+left_answer Either dating text r left h = either_rfc3164 dating text r left h
 
 -- an `Err` is no `Ok`
 pub refused : {X : Type 0} (r : Result X AllocError) (e : AllocError) {P : Type 0} → r ≡ Err e → (P → IsOk r) → P → ⊥
@@ -195,9 +195,9 @@ fault_tells variant dating text Memory wanted = (λ e. absurd (invalid_or_memory
 pub memory_tells : (variant : Variant) (dating : Dating) (text : Text) (m : MessageValue) → IsOnlyRead variant dating text m → (Memory ≡ Invalid) ↔ IsUnreadable variant dating text
 memory_tells variant dating text m r = (λ e. absurd (invalid_or_memory e), λ u. absurd (u m r.read))
 
--- ---- the plain calls
+-- ---- the calls with a fallback
 -- what is answered in the year that stands in for one, where the text asks for it, and in none where it does not
-pub plainly_in : (post : IncompleteDate → ℤ → Type 0) (variant : Variant) (text : Text) (tz : Option (Bor TimeZone)) (local : Bor TimeZone) (r : Result Found ParseFault) (s : Result Found AllocError) (year : Option ℤ)
-    → IsYearAnswered post variant text year → ((dating : Dating) → Answers variant dating text r → AnswersPlainly variant dating text s) → Answers variant (dating_of year tz local) text r
-    → InYear post variant text (λ y. AnswersPlainly variant (dating_of y tz local) text s)
-plainly_in post variant text tz local r s year is turn h = in_year_map (λ y a. turn (dating_of y tz local) a) (answers_in post variant text tz local r year is h)
+pub or_whole_in : (post : IncompleteDate → ℤ → Type 0) (variant : Variant) (text : Text) (tz : Option (Bor TimeZone)) (local : Bor TimeZone) (r : Result Found ParseFault) (s : Result Found AllocError) (year : Option ℤ)
+    → IsYearAnswered post variant text year → ((dating : Dating) → Answers variant dating text r → AnswersOrWhole variant dating text s) → Answers variant (dating_of year tz local) text r
+    → InYear post variant text (λ y. AnswersOrWhole variant (dating_of y tz local) text s)
+or_whole_in post variant text tz local r s year is turn h = in_year_map (λ y a. turn (dating_of y tz local) a) (answers_in post variant text tz local r year is h)

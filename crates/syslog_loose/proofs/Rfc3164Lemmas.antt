@@ -3,7 +3,7 @@ pub mod Again
 pub mod Apart
 pub mod Bounded
 pub mod Exact
-pub mod Misses
+pub mod Exceptions
 pub mod Near
 pub mod Printed
 pub mod Quoting

@@ -92,11 +92,11 @@ drop_after (c ∷ d ∷ cs) ys h =
     drop_before c ((d ∷ cs) ++ ys) l ∙ ap (λ (x : Text). c ∷ x) r
 
 -- a text that ends visibly is kept whole
-pub drop_kept : (xs : Text) → EndsVisibly xs → drop_trailing_whitespace xs ≡ xs
-drop_kept [] h = refl
-drop_kept (c ∷ []) h = drop_visible c [] (h [] c refl)
-drop_kept (c ∷ d ∷ xs) h =
-    let r = drop_kept (d ∷ xs) (λ front e w. h (c ∷ front) e (ap (λ (x : Text). c ∷ x) w)) in
+pub drop_none : (xs : Text) → EndsVisibly xs → drop_trailing_whitespace xs ≡ xs
+drop_none [] h = refl
+drop_none (c ∷ []) h = drop_visible c [] (h [] c refl)
+drop_none (c ∷ d ∷ xs) h =
+    let r = drop_none (d ∷ xs) (λ front e w. h (c ∷ front) e (ap (λ (x : Text). c ∷ x) w)) in
     drop_before c (d ∷ xs) (subst (λ (x : Text). 0 < length x) (sym r) (omega arith)) ∙ ap (λ (x : Text). c ∷ x) r
 
 -- ---- what is left ends visibly
@@ -136,7 +136,7 @@ pub message_end_is : (msg : Text) → EndsVisibly msg → drop_trailing_whitespa
 unfolding message_end
 message_end_is [] h = refl
 message_end_is (c ∷ cs) h =
-    let r = drop_kept (c ∷ cs) h in
+    let r = drop_none (c ∷ cs) h in
     drop_before 32 (c ∷ cs) (subst (λ (x : Text). 0 < length x) (sym r) (omega arith)) ∙ ap (λ (x : Text). 32 ∷ x) r
 
 -- blanks and the message stand there

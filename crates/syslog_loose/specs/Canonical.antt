@@ -3,16 +3,16 @@
 use Rattle.std.specs.Prelude.{◌≡◌, ◌≢◌, ℕ, ◌<◌, ◌^◌, ◌&&◌, not, nat_eq, ⊤, Bool, [], length, Option, Some, None, IfSome, IsSome}
 use Rattle.std.specs.List.{AllByRecursion}
 use Rattle.syslog_pieces.specs.Pieces.Class.{Text, Each, Ends}
-use Rattle.syslog_pieces.specs.StructuredData.Listed.{BeginsNoList}
+use Rattle.syslog_pieces.specs.StructuredData.Rfc3164List.{BeginsNoList}
 use Rattle.syslog_pieces.specs.Text.{is_blank, is_tag_char, dash}
 use Rattle.syslog_pieces.specs.Text.CharClass.{is_label_char}
-pub use Rattle.syslog_pieces.specs.ProcId.{IsBoundedProcess, IsNoI32Text, IsPlainProcess}
-pub use Rattle.syslog_pieces.specs.StructuredData.Plain.{IsPlainElement}
-pub use Rattle.syslog_pieces.specs.Text.Plain.{IsVisible, IsPlainHost, IsPlainWord, EndsVisibly}
-pub use Rattle.syslog_pieces.specs.Timestamp.Plain.{IsPlainStamp}
+pub use Rattle.syslog_pieces.specs.ProcId.{IsBoundedProcess, IsNoI32Text, IsCanonicalProcess}
+pub use Rattle.syslog_pieces.specs.StructuredData.Canonical.{IsCanonicalElement}
+pub use Rattle.syslog_pieces.specs.Text.Canonical.{IsVisible, IsCanonicalHost, IsCanonicalWord, EndsVisibly}
+pub use Rattle.syslog_pieces.specs.Timestamp.Canonical.{IsCanonicalStamp}
 use Rattle.syslog_pieces.specs.declared.procid.ProcId.{ProcId}
 use Rattle.syslog_pieces.specs.declared.procid.ProcId.TheVariants.{PID, Name}
-use Rattle.syslog_pieces.specs.declared.structured_data.listed.DashRule.{DashRule}
+use Rattle.syslog_pieces.specs.declared.structured_data.rfc3164_list.DashRule.{DashRule}
 use Rattle.syslog_loose.specs.declared.message.Protocol.{Protocol}
 use Rattle.syslog_loose.specs.declared.message.Protocol.TheVariants.{RFC3164, RFC5424}
 use Rattle.syslog_loose.specs.Message.{MessageValue}
@@ -31,21 +31,21 @@ pub record IsBounded (m : MessageValue) : Type 0 where
 
 -- ---- what both protocols ask
 
-pub record IsPlain (m : MessageValue) : Type 0 where
+pub record IsCanonicalInBoth (m : MessageValue) : Type 0 where
   pub facility : IsSome m.facility
   pub severity : IsSome m.severity
-  pub timestamp : IfSome m.timestamp IsPlainStamp
-  pub hostname : IfSome m.hostname IsPlainHost
-  pub elements : AllByRecursion IsPlainElement m.structured_data
+  pub timestamp : IfSome m.timestamp IsCanonicalStamp
+  pub hostname : IfSome m.hostname IsCanonicalHost
+  pub elements : AllByRecursion IsCanonicalElement m.structured_data
   pub msg_front : Ends is_blank m.msg
   pub msg_end : EndsVisibly m.msg
 
 -- ---- what RFC 5424 asks beyond that
 
-pub record IsPlain5424 (m : MessageValue) : Type 0 where
-  pub appname : IfSome m.appname IsPlainWord
-  pub procid : IfSome m.procid IsPlainProcess
-  pub msgid : IfSome m.msgid IsPlainWord
+pub record IsCanonical5424 (m : MessageValue) : Type 0 where
+  pub appname : IfSome m.appname IsCanonicalWord
+  pub procid : IfSome m.procid IsCanonicalProcess
+  pub msgid : IfSome m.msgid IsCanonicalWord
 
 -- ---- what RFC 3164 asks beyond that
 
@@ -67,24 +67,24 @@ IsLoneTag t = (0 < length t) × Each is_tag_char t × (t ≢ dash) × IsNoForm t
 
 -- A process id stands only with an app name, which then has no white space, no colon and no `[`, and may be empty. With
 -- no app name the host is not of the form `tag[id]`.
-abbrev pub ArePlainNames : Option Text → Option Text → Option (ProcId Text) → Type 0
-ArePlainNames host None None = IfSome host IsNoForm
-ArePlainNames host None (Some process) = ⊥
-ArePlainNames host (Some app) None = IsLoneTag app
-ArePlainNames host (Some app) (Some process) = Each is_label_char app × IsBracketedProcess process
+abbrev pub AreCanonicalNames : Option Text → Option Text → Option (ProcId Text) → Type 0
+AreCanonicalNames host None None = IfSome host IsNoForm
+AreCanonicalNames host None (Some process) = ⊥
+AreCanonicalNames host (Some app) None = IsLoneTag app
+AreCanonicalNames host (Some app) (Some process) = Each is_label_char app × IsBracketedProcess process
 
-pub record IsPlain3164 (rule : DashRule) (m : MessageValue) : Type 0 where
+pub record IsCanonical3164 (rule : DashRule) (m : MessageValue) : Type 0 where
   pub msgid : m.msgid ≡ None
-  pub names : ArePlainNames m.hostname m.appname m.procid
+  pub names : AreCanonicalNames m.hostname m.appname m.procid
   pub elements : AllByRecursion (λ e. 0 < length e.params) m.structured_data
   pub no_list : m.structured_data ≡ [] → BeginsNoList rule m.msg
 
 -- ---- the condition
 
-abbrev pub IsPlainFor : DashRule → Protocol → MessageValue → Type 0
-IsPlainFor rule RFC3164 m = IsPlain3164 rule m
-IsPlainFor rule (RFC5424 version) m = IsPlain5424 m
+abbrev pub IsCanonicalFor : DashRule → Protocol → MessageValue → Type 0
+IsCanonicalFor rule RFC3164 m = IsCanonical3164 rule m
+IsCanonicalFor rule (RFC5424 version) m = IsCanonical5424 m
 
 -- the message is read back unchanged from its printed text, and only such a one is
 abbrev pub IsCanonical : DashRule → MessageValue → Type 0
-IsCanonical rule m = IsPlain m × IsPlainFor rule m.protocol m
+IsCanonical rule m = IsCanonicalInBoth m × IsCanonicalFor rule m.protocol m

@@ -5,8 +5,8 @@ use Rattle.syslog_pieces.specs.Pieces.Class.{Text, Each, Ends}
 use Rattle.syslog_pieces.specs.Pri.{facility_of, severity_of}
 use Rattle.syslog_pieces.specs.StructuredData.Element.{ElementValue, joined_elements}
 use Rattle.syslog_pieces.specs.Text.{is_blank, dash, EndsInColon}
-use Rattle.syslog_pieces.specs.Timestamp.Plain.{IsPlainStamp}
-use Rattle.syslog_loose.specs.ListedMisses.{HasNoColon}
+use Rattle.syslog_pieces.specs.Timestamp.Canonical.{IsCanonicalStamp}
+use Rattle.syslog_loose.specs.Exceptions.{HasNoColon}
 use Rattle.syslog_loose.specs.Message.{MessageValue}
 use Rattle.syslog_loose.specs.Printed.{priority_of}
 use Rattle.syslog_loose.specs.Settling.{colons}
@@ -47,15 +47,15 @@ past_colons m host n = record {
 
 -- The message has a timestamp that its print has too, and this is its host, less n colons at its end, of which it keeps one.
 pub record EndsColons (m : MessageValue) (host : Text) (n : ℕ) : Type 0 where
-  pub timestamp : IfSome m.timestamp IsPlainStamp
+  pub timestamp : IfSome m.timestamp IsCanonicalStamp
   pub hostname : m.hostname ≡ Some (host ++ colons n)
   pub keeps : EndsInColon host
 
 -- ---- a message part of dashes
 
--- none of the misses that a message may have before its message part
-pub record HasNoNameMiss (m : MessageValue) : Type 0 where
-  pub timestamp : IfSome m.timestamp IsPlainStamp
+-- none of the exceptions that a message may have before its message part
+pub record HasNoNameException (m : MessageValue) : Type 0 where
+  pub timestamp : IfSome m.timestamp IsCanonicalStamp
   pub no_dash : IfSome m.hostname (λ h. h ≡ dash → ⊥)
   pub no_last_colon : IfSome m.hostname (λ h. EndsInColon h → ⊥)
   pub no_colon : IfSome m.procid HasNoColon

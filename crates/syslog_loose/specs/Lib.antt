@@ -1,12 +1,12 @@
 pub mod Beginning
 pub mod Canonical
-pub mod Dash
+pub mod DashChange
 pub mod Equal
 pub mod EqualLaws
 pub mod Jumps
-pub mod KeptLine
-pub mod KeptLoose
-pub mod ListedMisses
+pub mod VerbatimLine
+pub mod Verbatim3164
+pub mod Exceptions
 pub mod Message
 pub mod OneLine
 pub mod Printed

@@ -4,10 +4,10 @@ use Rattle.std.specs.Global.{Global}
 use Rattle.std.specs.Borrow.{Bor}
 use Rattle.syslog_pieces.specs.Pieces.Class.{Text}
 use Rattle.syslog_pieces.specs.Pieces.View.{shown}
-use Rattle.syslog_pieces.specs.Timestamp.Plain.{IsPlainStamp}
+use Rattle.syslog_pieces.specs.Timestamp.Canonical.{IsCanonicalStamp}
 use Rattle.syslog_pieces.specs.Timestamp.Zone.{Dating}
 use Rattle.syslog_loose.specs.Canonical.{IsBounded, IsCanonical}
-use Rattle.syslog_loose.specs.ListedMisses.{HasNoMiss, IsNearlyCanonical, IsOfMonthDate}
+use Rattle.syslog_loose.specs.Exceptions.{HasNoException, IsNearlyCanonical, IsOfMonthDate}
 use Rattle.syslog_loose.specs.Message.{MessageValue, message_value}
 use Rattle.syslog_loose.specs.Printed.{printed}
 use Rattle.syslog_loose.specs.Reading.{dash_rule}
@@ -35,19 +35,19 @@ abbrev pub AnswersItself : Variant → Text → Result (Message (Bor (List ℕ))
 AnswersItself variant text result = (m : MessageValue) → IsBounded m → ReadsProtocol variant m.protocol → text ≡ printed m → result ≢ Err Memory
     → IsOkAnd result (λ found. message_value (λ s. shown s) found ≡ m) ↔ IsCanonical dash_rule m
 
--- What is read as RFC 5424 with a facility meets the condition. What is read as RFC 3164 with one does but for the listed
--- misses, and its timestamp is plain, or that of a month date.
+-- What is read as RFC 5424 with a facility meets the condition. What is read as RFC 3164 with one does but for the
+-- exceptions, and its timestamp is canonical, or that of a month date.
 abbrev pub FieldsAsRead : Protocol → Dating → Text → MessageValue → Type 0
 FieldsAsRead (protocol.RFC5424 version) dating text m = IsSome m.facility → IsCanonical dash_rule m
-FieldsAsRead protocol.RFC3164 dating text m = (IsSome m.facility → IsNearlyCanonical m) × IfSome m.timestamp (λ s. IsPlainStamp s ⊎ IsOfMonthDate dating text s)
+FieldsAsRead protocol.RFC3164 dating text m = (IsSome m.facility → IsNearlyCanonical m) × IfSome m.timestamp (λ s. IsCanonicalStamp s ⊎ IsOfMonthDate dating text s)
 
 -- The text is printed of a message that normalising keeps: one that meets the condition, or one that was read, with a
--- facility or without: as RFC 5424, or as RFC 3164 and then with none of the listed misses.
-abbrev pub IsKept : MessageValue → Type 0
-IsKept m = (IsBounded m × IsCanonical dash_rule m) ⊎ ((text : Text) × IsRead5424 text m)
-    ⊎ ((text : Text) × (dating : Dating) × IsRead3164 dash_rule dating text m × HasNoMiss dash_rule m)
+-- facility or without: as RFC 5424, or as RFC 3164 and then with none of the exceptions.
+abbrev pub IsFixed : MessageValue → Type 0
+IsFixed m = (IsBounded m × IsCanonical dash_rule m) ⊎ ((text : Text) × IsRead5424 text m)
+    ⊎ ((text : Text) × (dating : Dating) × IsRead3164 dash_rule dating text m × HasNoException dash_rule m)
 
 -- Where memory suffices, the printed text of such a message is answered again.
 abbrev pub AnswersAgain : Variant → Text → List ℕ → Result (String Global) ParseFault → Type 0
-AnswersAgain variant text bytes result = (m : MessageValue) → IsKept m → ReadsProtocol variant m.protocol → text ≡ printed m → result ≢ Err Memory
+AnswersAgain variant text bytes result = (m : MessageValue) → IsFixed m → ReadsProtocol variant m.protocol → text ≡ printed m → result ≢ Err Memory
     → IsOkAnd result (λ again. string_bytes again ≡ bytes)

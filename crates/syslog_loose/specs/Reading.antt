@@ -6,10 +6,10 @@ use Rattle.jiff.specs.Types.{UTC}
 use Rattle.syslog_pieces.specs.Pieces.Class.{Text}
 use Rattle.syslog_pieces.specs.Pieces.View.{shown}
 use Rattle.syslog_pieces.specs.Text.{trimmed}
-use Rattle.syslog_pieces.specs.Timestamp.Loose.{ShowsYearless}
+use Rattle.syslog_pieces.specs.Timestamp.Rfc3164.{ShowsYearless}
 use Rattle.syslog_pieces.specs.Timestamp.Zone.{Dating}
-use Rattle.syslog_pieces.specs.declared.structured_data.listed.DashRule.{DashRule}
-use Rattle.syslog_pieces.specs.declared.structured_data.listed.DashRule.TheVariants.{BeforeBlank}
+use Rattle.syslog_pieces.specs.declared.structured_data.rfc3164_list.DashRule.{DashRule}
+use Rattle.syslog_pieces.specs.declared.structured_data.rfc3164_list.DashRule.TheVariants.{BeforeBlank}
 use Rattle.syslog_pieces.specs.declared.timestamp.month_date.MonthDate.{MonthDate}
 use Rattle.syslog_loose.specs.declared.fault.ParseFault.{ParseFault}
 use Rattle.syslog_loose.specs.declared.fault.ParseFault.TheVariants.{Invalid, Memory}
@@ -122,7 +122,7 @@ IsLeftTo3164 RFC5424 text = ⊥
 IsLeftTo3164 RFC3164 text = ⊤
 IsLeftTo3164 Either text = IsNot5424 text
 
--- ---- what the plain calls answer
+-- ---- what the calls with a fallback answer
 
 -- the message that stands for a text without a reading: the whole of it, as it was handed in
 abbrev pub fallback : Text → MessageValue
@@ -144,8 +144,8 @@ abbrev pub IsReadOrWhole : Variant → Dating → Text → MessageValue → Type
 IsReadOrWhole variant dating text m = IsOnlyRead variant dating text m ⊎ (IsUnreadable variant dating text × (m ≡ fallback text))
 
 -- that message, or a refusal of memory, only for a text whose message has elements
-abbrev pub AnswersPlainly : Variant → Dating → Text → Result (Message (Bor (List ℕ))) AllocError → Type 0
-AnswersPlainly variant dating text result = MatchResult result (λ m. IsReadOrWhole variant dating text (message_value (λ s. shown s) m)) (λ _. NeedsNoMemory variant dating text → ⊥)
+abbrev pub AnswersOrWhole : Variant → Dating → Text → Result (Message (Bor (List ℕ))) AllocError → Type 0
+AnswersOrWhole variant dating text result = MatchResult result (λ m. IsReadOrWhole variant dating text (message_value (λ s. shown s) m)) (λ _. NeedsNoMemory variant dating text → ⊥)
 
 -- For callers: the text has no reading, and this holds, or this holds of the one message as which it is read.
 abbrev pub OnReading : Variant → Dating → Text → Type 0 → (MessageValue → Type 0) → Type 0

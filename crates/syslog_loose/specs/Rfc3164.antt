@@ -6,12 +6,12 @@ use Rattle.syslog_pieces.specs.Pieces.Class.{Text, Class, Values, Front, Row, Di
 use Rattle.syslog_pieces.specs.Pieces.Parts.{AreInPieces}
 use Rattle.syslog_pieces.specs.Pri.{priority, facility_of, severity_of}
 use Rattle.syslog_pieces.specs.ProcId.{NamesProcess}
-use Rattle.syslog_pieces.specs.StructuredData.Listed.{listed, elements_or}
+use Rattle.syslog_pieces.specs.StructuredData.Rfc3164List.{rfc3164_list, elements_or}
 use Rattle.syslog_pieces.specs.Text.{trimmed, is_blank, colon, host, tag_word}
-use Rattle.syslog_pieces.specs.Timestamp.Loose.{loose_stamp}
+use Rattle.syslog_pieces.specs.Timestamp.Rfc3164.{rfc3164_stamp}
 use Rattle.syslog_pieces.specs.Timestamp.Zone.{Dating}
 use Rattle.syslog_pieces.specs.declared.procid.ProcId.{ProcId}
-use Rattle.syslog_pieces.specs.declared.structured_data.listed.DashRule.{DashRule}
+use Rattle.syslog_pieces.specs.declared.structured_data.rfc3164_list.DashRule.{DashRule}
 use Rattle.syslog_loose.specs.declared.message.Protocol.TheVariants.{RFC3164}
 use Rattle.syslog_loose.specs.Message.{MessageValue, message_texts}
 use Rattle.syslog_loose.specs.TagForm.{IsForm, IsNoForm}
@@ -55,11 +55,11 @@ fields_row = optional (spaced host) ∷ optional (spaced tag_word) ∷ run is_bl
 
 -- these, the list and the message, with blanks or none between them
 abbrev pub body_row : DashRule → List Class
-body_row rule = fields_row ++ (optional (listed rule) ∷ run is_blank ∷ rest ∷ [])
+body_row rule = fields_row ++ (optional (rfc3164_list rule) ∷ run is_blank ∷ rest ∷ [])
 
 -- the pieces that can fail: a priority or none, blanks or none, a timestamp
 abbrev pub stamped_row : Dating → List Class
-stamped_row dating = optional priority ∷ run is_blank ∷ loose_stamp dating ∷ []
+stamped_row dating = optional priority ∷ run is_blank ∷ rfc3164_stamp dating ∷ []
 
 -- such fields begin the text, and mean these names
 pub record ReadsNames (text behind : Text) (n : Names3164) : Type 0 where

@@ -4,13 +4,13 @@ use Rattle.std.specs.Prelude.{◌≡◌, ◌≢◌, ◌⊎◌, ℕ, zero, suc, �
 use Rattle.std.specs.Global.{Global}
 use Rattle.std.specs.Str.{chars}
 use Rattle.syslog_pieces.specs.Pieces.Class.{Text}
-use Rattle.syslog_pieces.specs.StructuredData.Listed.{BeginsNoList}
+use Rattle.syslog_pieces.specs.StructuredData.Rfc3164List.{BeginsNoList}
 use Rattle.syslog_pieces.specs.Text.{dash, EndsInColon}
-use Rattle.syslog_pieces.specs.Timestamp.Plain.{IsPlainStamp}
+use Rattle.syslog_pieces.specs.Timestamp.Canonical.{IsCanonicalStamp}
 use Rattle.syslog_pieces.specs.Timestamp.Zone.{Dating}
 use Rattle.syslog_pieces.specs.declared.procid.ProcId.{ProcId}
-use Rattle.syslog_pieces.specs.declared.structured_data.listed.DashRule.{DashRule}
-use Rattle.syslog_loose.specs.ListedMisses.{HasNoColon, HasNoMiss}
+use Rattle.syslog_pieces.specs.declared.structured_data.rfc3164_list.DashRule.{DashRule}
+use Rattle.syslog_loose.specs.Exceptions.{HasNoColon, HasNoException}
 use Rattle.syslog_loose.specs.Message.{MessageValue}
 use Rattle.syslog_loose.specs.Printed.{printed}
 use Rattle.syslog_loose.specs.Reading.{dash_rule, IsRead, IsUnreadable}
@@ -83,7 +83,7 @@ answer_in (Err fault) text = Err fault
 
 -- a message that was read so prints as a settled text
 abbrev pub IsAtRest : Protocol → MessageValue → Type 0
-IsAtRest RFC3164 m = HasNoMiss dash_rule m
+IsAtRest RFC3164 m = HasNoException dash_rule m
 IsAtRest (RFC5424 version) m = ⊤
 
 -- Where this is true, this is the next round of the text, and settled. Else the text is not settled, and this is one of
@@ -104,7 +104,7 @@ pub record ReachesFrom (variant : Variant) (dating : Dating) (t : Text) (least :
   pub far : least ≤ before
   pub reaches : Reaches variant dating t before u
 
--- ---- the weight of a message of RFC 3164: a sum of one term for each miss that may be listed
+-- ---- the weight of a message of RFC 3164: a sum of one term for each exception
 
 -- the term is nothing where this holds, and n where it does not
 abbrev pub Costs : Type 0 → ℕ → ℕ → Type 0
@@ -146,7 +146,7 @@ pub record Weighs (rule : DashRule) (m : MessageValue) (w : ℕ) : Type 0 where
   pub stamp : ℕ
   pub names : ℕ
   pub taken : ℕ
-  pub stamp_is : Costs (IfSome m.timestamp IsPlainStamp) 1 stamp
+  pub stamp_is : Costs (IfSome m.timestamp IsCanonicalStamp) 1 stamp
   pub names_is : NamesWeigh m.hostname m.procid names
   pub taken_is : Costs (m.structured_data ≡ [] → BeginsNoList rule m.msg) (length m.msg) taken
   pub total : w ≡ stamp + (names + taken)

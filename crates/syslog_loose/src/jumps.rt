@@ -21,7 +21,7 @@ ghost use Rattle.syslog_loose.specs.declared.message.Protocol.TheVariants.{RFC31
 ghost use Rattle.syslog_loose.specs.declared.variant.Variant.{Variant};
 
 use crate::message::{
-    Message, Protocol, has_no_name_miss, is_plain_time, print, write_elements, write_spaced,
+    Message, Protocol, has_no_name_exception, is_canonical_time, print, write_elements, write_spaced,
 };
 use std::alloc::{AllocError, Global};
 use std::fmt;
@@ -50,7 +50,7 @@ pub(crate) fn write_round(
 fn last_colons<'a>(message: &Message<&'a str>) -> Option<(&'a str, usize)>
     ensures { IfSome result (λ x. EndsColons (message_value (λ s. shown s) message.now) (shown x.0) x.1 × (0 < x.1)) }
 {
-    if !is_plain_time(message.timestamp) {
+    if !is_canonical_time(message.timestamp) {
         return None;
     }
     let name = message.hostname?;
@@ -156,7 +156,7 @@ fn past_dashes(message: Message<&str>) -> Message<&str>
         → message.entry.protocol ≡ RFC3164 → (n : ℕ) × Reaches variant dating input n (printed (message_value (λ s. shown s) result)) }
 {
     let mut message = message;
-    if has_no_name_miss(&message) && are_none(&message.structured_data) {
+    if has_no_name_exception(&message) && are_none(&message.structured_data) {
         message.msg = last_dash(message.msg);
     }
     message

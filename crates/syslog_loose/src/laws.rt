@@ -1,9 +1,9 @@
 //! Laws over the definitions alone: each function does nothing, and its contract is the law.
 ghost use Rattle.std.specs.Prelude.{◌≡◌, ◌↔◌, Option};
 ghost use Rattle.syslog_pieces.specs.Pieces.Class.{Text, Division, NoDivision, NoFront, Row, Values};
-ghost use Rattle.syslog_pieces.specs.Timestamp.Loose.{ShowsYearless, ShowsMonthDate};
+ghost use Rattle.syslog_pieces.specs.Timestamp.Rfc3164.{ShowsYearless, ShowsMonthDate};
 ghost use Rattle.syslog_pieces.specs.Timestamp.Zone.{Dating};
-ghost use Rattle.syslog_pieces.specs.declared.structured_data.listed.DashRule.{DashRule};
+ghost use Rattle.syslog_pieces.specs.declared.structured_data.rfc3164_list.DashRule.{DashRule};
 ghost use Rattle.syslog_pieces.specs.declared.timestamp.month_date.MonthDate.{MonthDate};
 ghost use Rattle.syslog_loose.specs.Message.{MessageValue};
 ghost use Rattle.syslog_loose.specs.Printed.{printed};
@@ -15,7 +15,7 @@ ghost use Rattle.syslog_loose.specs.Rfc5424.{rfc5424_row, IsRead5424, IsNot5424}
 ghost use Rattle.syslog_loose.specs.TagForm.{IsForm};
 
 pub mod comparison;
-pub mod dash;
+pub mod dash_change;
 pub mod read_back;
 pub mod rounds;
 pub mod settling;

@@ -14,7 +14,7 @@
 #![tactic(auto)]
 
 mod beginning;
-mod differing;
+mod dash_change;
 mod fault;
 mod jumps;
 pub mod laws;
@@ -30,7 +30,7 @@ mod tag_form;
 mod tests;
 mod variant;
 
-pub use differing::reads_differently;
+pub use dash_change::reads_differently;
 pub use fault::ParseFault;
 pub use jiff::Timestamp;
 pub use jiff::tz::{Offset, TimeZone};

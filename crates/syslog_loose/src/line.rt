@@ -11,39 +11,39 @@ ghost use Rattle.std.specs.Fmt.{WritesOnOk};
 ghost use Rattle.std.specs.Str.{chars, encode_utf8_all, IsUtf8};
 ghost use Rattle.syslog_pieces.specs.Pieces.Class.{Text};
 ghost use Rattle.syslog_pieces.specs.Pieces.View.{seen, shown};
-ghost use Rattle.syslog_pieces.specs.Bodies.KeptStamp.{zone_text};
+ghost use Rattle.syslog_pieces.specs.Bodies.VerbatimStamp.{zone_text};
 ghost use Rattle.syslog_pieces.specs.Timestamp.Zone.{Dating};
-ghost use Rattle.syslog_loose.specs.KeptLine.{KeptEnd, KeptFront, KeptTail, PrintsAs, PrintsKept, bytes_of, spaced};
+ghost use Rattle.syslog_loose.specs.VerbatimLine.{VerbatimEnd, VerbatimFront, VerbatimTail, PrintsAs5424, PrintsVerbatim5424, bytes_of, spaced};
 ghost use Rattle.syslog_loose.specs.Message.{MessageValue};
 ghost use Rattle.syslog_loose.specs.Printed.{printed};
 ghost use Rattle.syslog_pieces.specs.declared.timestamp.month_date.MonthDate.{MonthDate};
 ghost use Rattle.syslog_loose.specs.Reading.{AsksYear, IsUnreadable, OfTrimmed};
 ghost use Rattle.syslog_loose.specs.Rfc5424.{IsNot5424, IsRead5424};
 
-mod loose;
+mod rfc3164;
 #[cfg(test)]
 mod tests;
 
 use crate::message::{make_room, write_spaced};
 use crate::variant::Variant;
-pub(crate) use loose::{DatedLine, dated_line, dated_text, loose_text};
+pub(crate) use rfc3164::{DatedLine, dated_line, dated_text, rfc3164_text};
 use std::alloc::AllocError;
 use std::fmt;
 use std::fmt::Write;
-use syslog_pieces::pri::kept_priority;
-use syslog_pieces::procid::kept_process;
-use syslog_pieces::structured_data::kept_list;
+use syslog_pieces::pri::verbatim_priority;
+use syslog_pieces::procid::verbatim_process;
+use syslog_pieces::structured_data::verbatim_list;
 use syslog_pieces::text::blanks;
-use syslog_pieces::text::kept::{
-    Cut, before, kept_gap, kept_host, kept_number, kept_word, one_space, past_cut,
+use syslog_pieces::text::verbatim::{
+    Cut, before, verbatim_gap, verbatim_host, verbatim_number, verbatim_word, one_space, past_cut,
 };
-use syslog_pieces::timestamp::kept::kept_stamp;
+use syslog_pieces::timestamp::verbatim::verbatim_stamp;
 
 // A line, cut at the offset of its timestamp: all before it, whether it is `Z`, all from behind it up to what is left
 // out, if anything is, all from there, or else from behind the offset, to the elements, and the message. An offset that
 // prints as it is written stands before the cut, a message behind one space in the tail.
 #[derive(Clone, Copy)]
-struct KeptLine<'a> {
+struct VerbatimLine<'a> {
     front: &'a str,
     is_zulu: bool,
     head: &'a str,
@@ -53,29 +53,29 @@ struct KeptLine<'a> {
 
 // The text behind priority and version.
 #[inline(always)]
-fn kept_front(text: &str) -> Option<&str>
-    ensures { IfSome result (λ rest. KeptFront (chars text.now) (shown rest)) }
+fn verbatim_front(text: &str) -> Option<&str>
+    ensures { IfSome result (λ rest. VerbatimFront (chars text.now) (shown rest)) }
 {
-    let behind = kept_priority(text)?;
-    let rest = kept_number(behind, u32::MAX)?;
+    let behind = verbatim_priority(text)?;
+    let rest = verbatim_number(behind, u32::MAX)?;
     Some(rest)
 }
 
 // The text behind the names and the elements, and what is left out of the list, where one space stands in each gap.
 #[inline(always)]
 fn spaced_tail(text: &str) -> Option<(&str, Option<Cut<'_>>)>
-    ensures { IfSome result (λ x. KeptTail (chars text.now) x.1 (shown x.0)) }
+    ensures { IfSome result (λ x. VerbatimTail (chars text.now) x.1 (shown x.0)) }
 {
     let hostname = one_space(text)?;
-    let behind_hostname = kept_host(hostname)?;
+    let behind_hostname = verbatim_host(hostname)?;
     let appname = one_space(behind_hostname)?;
-    let behind_appname = kept_word(appname)?;
+    let behind_appname = verbatim_word(appname)?;
     let procid = one_space(behind_appname)?;
-    let behind_procid = kept_process(procid)?;
+    let behind_procid = verbatim_process(procid)?;
     let msgid = one_space(behind_procid)?;
-    let behind_msgid = kept_word(msgid)?;
+    let behind_msgid = verbatim_word(msgid)?;
     let elements = one_space(behind_msgid)?;
-    let (rest, cut) = kept_list(elements, None)?;
+    let (rest, cut) = verbatim_list(elements, None)?;
     Some((rest, cut))
 }
 
@@ -84,25 +84,25 @@ fn spaced_tail(text: &str) -> Option<(&str, Option<Cut<'_>>)>
 #[cold]
 #[inline(never)]
 fn wide_tail(text: &str) -> Option<(&str, Option<Cut<'_>>)>
-    ensures { IfSome result (λ x. KeptTail (chars text.now) x.1 (shown x.0)) }
+    ensures { IfSome result (λ x. VerbatimTail (chars text.now) x.1 (shown x.0)) }
 {
-    let (hostname, first) = kept_gap(text, None)?;
-    let behind_hostname = kept_host(hostname)?;
-    let (appname, second) = kept_gap(behind_hostname, first)?;
-    let behind_appname = kept_word(appname)?;
-    let (procid, third) = kept_gap(behind_appname, second)?;
-    let behind_procid = kept_process(procid)?;
-    let (msgid, fourth) = kept_gap(behind_procid, third)?;
-    let behind_msgid = kept_word(msgid)?;
-    let (elements, fifth) = kept_gap(behind_msgid, fourth)?;
-    let (rest, cut) = kept_list(elements, fifth)?;
+    let (hostname, first) = verbatim_gap(text, None)?;
+    let behind_hostname = verbatim_host(hostname)?;
+    let (appname, second) = verbatim_gap(behind_hostname, first)?;
+    let behind_appname = verbatim_word(appname)?;
+    let (procid, third) = verbatim_gap(behind_appname, second)?;
+    let behind_procid = verbatim_process(procid)?;
+    let (msgid, fourth) = verbatim_gap(behind_procid, third)?;
+    let behind_msgid = verbatim_word(msgid)?;
+    let (elements, fifth) = verbatim_gap(behind_msgid, fourth)?;
+    let (rest, cut) = verbatim_list(elements, fifth)?;
     Some((rest, cut))
 }
 
 // The text behind the names and the elements, and what is left out of them.
 #[inline(always)]
-fn kept_tail(text: &str) -> Option<(&str, Option<Cut<'_>>)>
-    ensures { IfSome result (λ x. KeptTail (chars text.now) x.1 (shown x.0)) }
+fn verbatim_tail(text: &str) -> Option<(&str, Option<Cut<'_>>)>
+    ensures { IfSome result (λ x. VerbatimTail (chars text.now) x.1 (shown x.0)) }
 {
     match spaced_tail(text) {
         Some(found) => Some(found),
@@ -112,9 +112,9 @@ fn kept_tail(text: &str) -> Option<(&str, Option<Cut<'_>>)>
 
 // The text up to the rest behind the elements, and the message, where that isn't behind one space: then it is one text.
 #[inline(always)]
-fn kept_end<'a>(text: &'a str, rest: &'a str) -> (&'a str, Option<&'a str>)
+fn end_stays<'a>(text: &'a str, rest: &'a str) -> (&'a str, Option<&'a str>)
     requires { (front : Text) × (chars text.now ≡ front ++ chars rest.now) }
-    ensures ends { KeptEnd (chars text.now) (chars rest.now) (shown result.0) (seen result.1) }
+    ensures ends { VerbatimEnd (chars text.now) (chars rest.now) (shown result.0) (seen result.1) }
     ensures utf8 { IsUtf8 result.0.now × IfSome result.1 (λ msg. IsUtf8 msg.now) }
 {
     match one_space(rest) {
@@ -125,21 +125,21 @@ fn kept_end<'a>(text: &'a str, rest: &'a str) -> (&'a str, Option<&'a str>)
 
 // The line, where all but its timestamp and what is left out prints as it is written.
 #[inline(always)]
-fn kept_line(text: &str) -> Option<KeptLine<'_>>
-    ensures kept { IfSome result (λ line.
-        PrintsKept (chars text.now) (shown line.front) line.is_zulu
+fn verbatim_line(text: &str) -> Option<VerbatimLine<'_>>
+    ensures verbatim { IfSome result (λ line.
+        PrintsVerbatim5424 (chars text.now) (shown line.front) line.is_zulu
         (shown line.head ++ (shown line.tail ++ spaced (seen line.msg)))) }
     ensures utf8 { IfSome result (λ line. IsUtf8 line.front.now × IsUtf8 line.head.now × IsUtf8 line.tail.now
         × IfSome line.msg (λ msg. IsUtf8 msg.now)) }
 {
-    let gap = kept_front(text)?;
+    let gap = verbatim_front(text)?;
     let start = one_space(gap)?;
-    let stamp = kept_stamp(start)?;
+    let stamp = verbatim_stamp(start)?;
     let front = before(text, stamp.zone);
-    let (rest, cut) = kept_tail(stamp.rest)?;
+    let (rest, cut) = verbatim_tail(stamp.rest)?;
     let (head, start) = past_cut(stamp.rest, cut, rest);
-    let (tail, msg) = kept_end(start, rest);
-    Some(KeptLine {
+    let (tail, msg) = end_stays(start, rest);
+    Some(VerbatimLine {
         front,
         is_zulu: stamp.is_zulu,
         head,
@@ -172,7 +172,7 @@ fn write_head<W: fmt::Write>(f: &mut fmt::Formatter<W>, head: &str) -> fmt::Resu
     }
 }
 
-impl fmt::Display for KeptLine<'_> {
+impl fmt::Display for VerbatimLine<'_> {
     ghost output = { λ line.
         Some (line.front.now ++ (zone_text line.is_zulu
         ++ (line.head.now ++ (line.tail.now ++ spaced (bytes_of line.msg))))) };
@@ -210,7 +210,7 @@ pub(crate) fn copied(text: &mut String, input: &str) -> Result<bool, AllocError>
     if !may_be_strict(input) {
         return Ok(false);
     }
-    let Some(line) = kept_line(input) else {
+    let Some(line) = verbatim_line(input) else {
         return Ok(false);
     };
     make_room(text, input.len())?;
@@ -219,13 +219,13 @@ pub(crate) fn copied(text: &mut String, input: &str) -> Result<bool, AllocError>
 }
 
 /// The same, where the variant reads RFC 5424.
-pub(crate) fn kept_text(
+pub(crate) fn verbatim_text(
     text: &mut String,
     input: &str,
     variant: Variant,
 ) -> Result<bool, AllocError>
     ensures text { OfTrimmed (chars input.now) (λ whole. IfOk result (λ found. IsTrue found
-        → PrintsAs variant whole (string_bytes text.new))) }
+        → PrintsAs5424 variant whole (string_bytes text.new))) }
     ensures memory { OfTrimmed (chars input.now) (λ whole. (dating : Dating)
         → IsUnreadable variant dating whole → IsOk result) }
     ensures year { OfTrimmed (chars input.now) (λ whole. (date : MonthDate)

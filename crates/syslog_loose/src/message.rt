@@ -12,12 +12,12 @@ ghost use Rattle.syslog_loose.specs.Printed as spec;
 mod canonical;
 mod copies;
 mod equality;
-mod misses;
+mod exceptions;
 mod printing;
 mod room;
 
-pub(crate) use canonical::is_plain_time;
-pub(crate) use misses::{has_no_miss, has_no_name_miss};
+pub(crate) use canonical::is_canonical_time;
+pub(crate) use exceptions::{has_no_exception, has_no_name_exception};
 pub(crate) use printing::{write_elements, write_timestamp};
 use printing::{write_elements_before, write_name, write_process, write_tag};
 pub(crate) use room::{make_room, print};

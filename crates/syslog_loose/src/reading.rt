@@ -2,21 +2,21 @@
 //!
 //! Each call trims its text once, and the steps behind it are given what is left. A date without a year is looked for
 //! before RFC 3164 is tried, and the closure asked for its year. The calls with `exact` in their names refuse a text that
-//! has no reading; the plain ones answer the fallback.
+//! has no reading; the others answer the fallback.
 ghost use Rattle.std.specs.Prelude.{◌≡◌, ◌↔◌, Err, IfOk, IfSome, MatchOption, MatchResult, None, Ok, OnOk, string_bytes};
 ghost use Rattle.std.specs.Str.{chars, encode_utf8_all, IsUtf8};
 ghost use Rattle.jiff.specs.Words.{plain_zone};
 ghost use Rattle.syslog_pieces.specs.Pieces.View.{shown};
-ghost use Rattle.syslog_pieces.specs.Timestamp.Loose.{ShowsYearless};
+ghost use Rattle.syslog_pieces.specs.Timestamp.Rfc3164.{ShowsYearless};
 ghost use Rattle.syslog_pieces.specs.Timestamp.Zone as zone;
 ghost use Rattle.syslog_pieces.specs.Timestamp.Zone.{IsYearAt, dating_of, dating_value};
 ghost use Rattle.syslog_pieces.specs.declared.timestamp.month_date.MonthDate.{MonthDate};
-ghost use Rattle.syslog_loose.specs.KeptLoose.{ShowsDated};
+ghost use Rattle.syslog_loose.specs.Verbatim3164.{ShowsDated};
 ghost use Rattle.syslog_loose.specs.Message.{MessageValue, message_value};
 ghost use Rattle.syslog_loose.specs.Printed.{printed};
 ghost use Rattle.syslog_loose.specs.ReadBack.{AnswersAgain, AnswersItself, FieldsAsRead};
 ghost use Rattle.syslog_loose.specs.Reading as spec;
-ghost use Rattle.syslog_loose.specs.Reading.{Answers, AnswersDateless, AnswersEachMonth, AnswersPlainly, AsksYear, HasMonth, InYear, IsLeftTo3164, IsOnlyRead, IsUnreadable, OfTrimmed, incomplete};
+ghost use Rattle.syslog_loose.specs.Reading.{Answers, AnswersDateless, AnswersEachMonth, AnswersOrWhole, AsksYear, HasMonth, InYear, IsLeftTo3164, IsOnlyRead, IsUnreadable, OfTrimmed, incomplete};
 ghost use Rattle.syslog_loose.specs.declared.fault.ParseFault.TheVariants.{Invalid};
 ghost use Rattle.syslog_loose.specs.declared.variant.Variant.{Variant};
 ghost use Rattle.syslog_loose.specs.declared.variant.Variant.TheVariants as variants;
@@ -29,7 +29,7 @@ use crate::{rfc3164, rfc5424};
 use jiff::Timestamp;
 use jiff::tz::TimeZone;
 use std::alloc::{AllocError, Global};
-use syslog_pieces::structured_data::listed::DASH_RULE;
+use syslog_pieces::structured_data::rfc3164_list::DASH_RULE;
 use syslog_pieces::text::trimmed;
 use syslog_pieces::timestamp::month_date::shown_date;
 use syslog_pieces::timestamp::year_at;
@@ -47,7 +47,7 @@ pub fn parse_message<'a>(
     local: &TimeZone<'_>,
 ) -> Result<Message<&'a str>, AllocError>
     ensures reads { InYear (λ _ year. IsYearAt (plain_zone local.entry.now) now.nanosecond year) variant (chars input.entry.now)
-        (λ year. AnswersPlainly variant (dating_of year None local.entry) (chars input.entry.now) result) }
+        (λ year. AnswersOrWhole variant (dating_of year None local.entry) (chars input.entry.now) result) }
 {
     let text = trimmed(input);
     let year = match asked_date(text, variant) {
@@ -73,7 +73,7 @@ pub fn parse_message_with_year<'a, F: FnOnce(IncompleteDate) -> i32>(
 ) -> Result<Message<&'a str>, AllocError>
     requires { AnswersEachMonth (F.pre get_year) }
     ensures reads { InYear (F.post get_year) variant (chars input.entry.now)
-        (λ year. AnswersPlainly variant (dating_of year None local.entry) (chars input.entry.now) result) }
+        (λ year. AnswersOrWhole variant (dating_of year None local.entry) (chars input.entry.now) result) }
 {
     parse_message_with_year_tz(alloc, input, get_year, None, variant, local)
 }
@@ -90,7 +90,7 @@ pub fn parse_message_with_year_tz<'a, F: FnOnce(IncompleteDate) -> i32>(
 ) -> Result<Message<&'a str>, AllocError>
     requires { AnswersEachMonth (F.pre get_year) }
     ensures reads { InYear (F.post get_year) variant (chars input.entry.now)
-        (λ year. AnswersPlainly variant (dating_of year tz.entry local.entry) (chars input.entry.now) result) }
+        (λ year. AnswersOrWhole variant (dating_of year tz.entry local.entry) (chars input.entry.now) result) }
 {
     let answer = parse_message_with_year_exact_tz(alloc, input, get_year, tz, variant, local);
     or_fallback(alloc, input, answer)
@@ -103,7 +103,7 @@ fn or_fallback<'a>(
     answer: Result<Message<&'a str>, ParseFault>,
 ) -> Result<Message<&'a str>, AllocError>
     ensures { (variant : Variant) (dating : zone.Dating) → Answers variant dating (chars input.entry.now) answer.entry
-        → AnswersPlainly variant dating (chars input.entry.now) result }
+        → AnswersOrWhole variant dating (chars input.entry.now) result }
 {
     match answer {
         Ok(message) => Ok(message),

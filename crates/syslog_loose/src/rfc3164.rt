@@ -19,10 +19,10 @@ use crate::tag_form::tag_form;
 use std::alloc::{AllocError, Global};
 use syslog_pieces::pri::{optional_priority, parts};
 use syslog_pieces::procid::ProcId;
-use syslog_pieces::structured_data::listed::{DashRule, optional_list};
+use syslog_pieces::structured_data::rfc3164_list::{DashRule, optional_list};
 use syslog_pieces::text::{blanks, host_field, past_colon, tag_field};
 use syslog_pieces::timestamp::OffsetTimestamp;
-use syslog_pieces::timestamp::loose::loose_stamp;
+use syslog_pieces::timestamp::rfc3164::rfc3164_stamp;
 use syslog_pieces::timestamp::zone::Dating;
 
 /// The names of a message.
@@ -114,7 +114,7 @@ pub(crate) fn read_stamped<'a>(text: &'a str, dating: &Dating<'_, '_>) -> Option
     ensures { Reads (Row (spec.stamped_row (dating_value dating.entry.now))) stamped_values (chars text.now) result }
 {
     let (priority, rest) = optional_priority(text);
-    let Some((timestamp, rest)) = loose_stamp(blanks(rest), dating) else {
+    let Some((timestamp, rest)) = rfc3164_stamp(blanks(rest), dating) else {
         return None;
     };
     Some((

@@ -1,13 +1,13 @@
 //! Rounds: a text is read, and the message is printed.
 //!
 //! `normalise` answers one round. What was read as RFC 5424 prints as a settled text, and so does what was read as
-//! RFC 3164 and has none of the listed misses. So nearly each line is settled by one round, and `settling` asks for more
+//! RFC 3164 and has none of the exceptions. So nearly each line is settled by one round, and `settling` asks for more
 //! of the others alone.
 ghost use Rattle.std.specs.Prelude.{◌≡◌, ◌↔◌, IsFalse, IsTrue, MatchResult, OnOk, string_bytes};
 ghost use Rattle.std.specs.Str.{chars, encode_utf8_all, IsUtf8};
 ghost use Rattle.syslog_pieces.specs.Pieces.View.{shown};
 ghost use Rattle.syslog_pieces.specs.Timestamp.Zone.{dating_of, dating_value};
-ghost use Rattle.syslog_loose.specs.KeptLoose.{ShowsDated};
+ghost use Rattle.syslog_loose.specs.Verbatim3164.{ShowsDated};
 ghost use Rattle.syslog_loose.specs.Message.{MessageValue, message_value};
 ghost use Rattle.syslog_loose.specs.Printed.{printed};
 ghost use Rattle.syslog_loose.specs.ReadBack.{AnswersAgain};
@@ -18,8 +18,8 @@ ghost use Rattle.syslog_loose.specs.declared.fault.ParseFault.TheVariants.{Inval
 use crate::beginning::may_be_read;
 use crate::fault::ParseFault;
 use crate::jumps::write_round;
-use crate::line::{DatedLine, dated_line, dated_text, kept_text, loose_text};
-use crate::message::{Message, Protocol, has_no_miss, print};
+use crate::line::{DatedLine, dated_line, dated_text, verbatim_text, rfc3164_text};
+use crate::message::{Message, Protocol, has_no_exception, print};
 use crate::reading::{asked_date, read};
 use crate::variant::{IncompleteDate, Variant};
 use jiff::tz::TimeZone;
@@ -76,7 +76,7 @@ pub(crate) fn first_round<F: FnOnce(IncompleteDate) -> i32>(
         (λ fault. InYear (F.post get_year) variant whole (λ year.
         (fault ≡ Invalid) ↔ IsUnreadable variant (dating_of year tz.entry local.entry) whole))) }
 {
-    let copied = kept_text(text, input, variant)?;
+    let copied = verbatim_text(text, input, variant)?;
     if copied {
         return Ok(Round {
             settled: true,
@@ -141,7 +141,7 @@ pub(crate) fn next_round(
         (λ settled. IsRoundAsTold skips variant (dating_value dating.entry.now) whole (chars (string_bytes text.new)) settled)
         (λ fault. (fault ≡ Invalid) ↔ IsUnreadable variant (dating_value dating.entry.now) whole)) }
 {
-    let copied = loose_text(text, input, dating, variant)?;
+    let copied = rfc3164_text(text, input, dating, variant)?;
     if copied {
         return Ok(true);
     }
@@ -161,6 +161,6 @@ fn is_at_rest(message: &Message<&str>) -> bool
 {
     match message.protocol {
         Protocol::RFC5424(_) => true,
-        Protocol::RFC3164 => has_no_miss(message),
+        Protocol::RFC3164 => has_no_exception(message),
     }
 }

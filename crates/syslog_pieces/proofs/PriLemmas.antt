@@ -12,7 +12,7 @@ use Rattle.std.specs.Str.Parse.{digits_value}
 use Rattle.jiff_fmt.specs.Text.{pad2}
 use Rattle.syslog_pieces.specs.Bodies.Looks.{IsPriorityBytes}
 use Rattle.syslog_pieces.specs.Pieces.Class.{Text, Each, Front, NoFront, IsDeterministic, Row, Values, exactly}
-use Rattle.syslog_pieces.specs.Pieces.Kept.{Kept}
+use Rattle.syslog_pieces.specs.Pieces.Verbatim.{Verbatim}
 use Rattle.syslog_pieces.specs.Text.{number}
 use Rattle.syslog_pieces.specs.Pri.{priority, priority_text, priority_row, facility_number, severity_number, facilities, severities, facility_of, severity_of, composed}
 use Rattle.syslog_pieces.specs.declared.pri.SyslogFacility.{SyslogFacility}
@@ -222,8 +222,8 @@ pub severity_composed : (f : SyslogFacility) (s : SyslogSeverity) → severity_o
 severity_composed f s = let low = severity_low s in let e : composed f s % 8 ≡ severity_number s = omega arith in ap (slice_get severities) e ∙ severity_placed s
 
 -- ---- a priority that prints as it is written
-pub priority_kept : (t a b q : Text) → Front (exactly (60 ∷ [])) t a tt → Kept (number 191) decimal a b → Front (exactly (62 ∷ [])) b q tt → (k : Kept priority priority_text t q) × (k.value < 192)
-priority_kept t a b q f k g =
+pub priority_verbatim : (t a b q : Text) → Front (exactly (60 ∷ [])) t a tt → Verbatim (number 191) decimal a b → Front (exactly (62 ∷ [])) b q tt → (k : Verbatim priority priority_text t q) × (k.value < 192)
+priority_verbatim t a b q f k g =
     let n = k.value in
     let m : Front (number 255) a b n = record { piece = decimal n; whole = k.whole; is = (k.is.0, k.is.1, k.is.2, k.is.3, (let h = k.is.4 in omega arith)) } in
     let p : Front priority t q n = as_priority (row_cons (exactly (60 ∷ [])) (number 255 ∷ exactly (62 ∷ []) ∷ []) f (row_cons (number 255) (exactly (62 ∷ []) ∷ []) m (row_cons (exactly (62 ∷ [])) [] g (row_nil q)))) in

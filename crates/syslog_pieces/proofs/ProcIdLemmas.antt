@@ -8,15 +8,15 @@ use Rattle.std.proofs.lemmas.Bool.{cases_eq, cases_lt, ne_eqb}
 use Rattle.std.proofs.lemmas.Fmt.{decimal-digits_value}
 use Rattle.std.proofs.lemmas.Str.{chars-IsAscii}
 use Rattle.std.proofs.lemmas.Str.Ascii.{IsAscii-cons}
-use Rattle.syslog_pieces.specs.Bodies.Kept.{IsBareWord, KeptDigits}
+use Rattle.syslog_pieces.specs.Bodies.Verbatim.{IsBareWord, VerbatimDigits}
 use Rattle.syslog_pieces.specs.Bodies.Scan.{SplitsRun}
 use Rattle.syslog_pieces.specs.Pieces.Class.{Text, Each, Front, NoFront, IsDeterministic}
-use Rattle.syslog_pieces.specs.Pieces.Kept.{Kept}
+use Rattle.syslog_pieces.specs.Pieces.Verbatim.{Verbatim}
 use Rattle.syslog_pieces.specs.Text.{word}
 use Rattle.syslog_pieces.specs.ProcId.{IsDigits, WritesSigned, IsI32Text, NamesProcess, process_word, process_text, procid_text}
 use Rattle.syslog_pieces.specs.declared.procid.ProcId.{ProcId}
 use Rattle.syslog_pieces.specs.declared.procid.ProcId.TheVariants.{PID, Name}
-use Rattle.syslog_pieces.proofs.TextLemmas.Chars.{digits_ascii, ascii_plain, digits_plain}
+use Rattle.syslog_pieces.proofs.TextLemmas.Chars.{digits_ascii, ascii_chars, digit_chars}
 use Rattle.syslog_pieces.proofs.TextLemmas.Words.{own, word_det}
 
 -- ---- a text writes one number
@@ -71,8 +71,8 @@ numeral d h = (h.0, own.to d h.1)
 digits_from : (d : Text) → IsNumeral 10 d → IsDigits d
 digits_from d h = (h.0, own.from d h.1)
 
-plain_is : (c : ℕ) (d : Text) → c ≢ 45 → c ≢ 43 → (without_leading_sign (c ∷ d) ≡ c ∷ d) × (signed_digits_value 10 (c ∷ d) ≡ pos (digits_value 10 (c ∷ d)))
-plain_is c d m p =
+unsigned_is : (c : ℕ) (d : Text) → c ≢ 45 → c ≢ 43 → (without_leading_sign (c ∷ d) ≡ c ∷ d) × (signed_digits_value 10 (c ∷ d) ≡ pos (digits_value 10 (c ∷ d)))
+unsigned_is c d m p =
     let minus : nat_eq c 45 ≡ false = ne_eqb c 45 m in
     let plus : nat_eq c 43 ≡ false = ne_eqb c 43 p in
     rw (minus, plus) (refl, refl)
@@ -87,7 +87,7 @@ numeral_writes (c ∷ d) h = elim (cases_eq c 45) [
   | inl minus ↦ sign_writes 45 c d minus h (λ k. inr (inr (d, refl, digits_from d k, refl)))
   | inr no_minus ↦ elim (cases_eq c 43) [
     | inl plus ↦ sign_writes 43 c d plus h (λ k. inr (inl (d, refl, digits_from d k, refl)))
-    | inr no_plus ↦ (let e = plain_is c d no_minus no_plus in unsigned_writes (c ∷ d) e.0 e.1 h)
+    | inr no_plus ↦ (let e = unsigned_is c d no_minus no_plus in unsigned_writes (c ∷ d) e.0 e.1 h)
   ]
 ]
   where
@@ -102,7 +102,7 @@ writes_numeral [] n (inl (d, e)) = absurd (let k : 0 < 0 = d.0 in omega arith)
 writes_numeral (c ∷ t) n (inl (d, e)) =
     let no_minus : c ≢ 45 = λ z. no_sign t (c ∷ t) 45 d (ap (λ (x : ℕ). x ∷ t) z) refl in
     let no_plus : c ≢ 43 = λ z. no_sign t (c ∷ t) 43 d (ap (λ (x : ℕ). x ∷ t) z) refl in
-    let s = plain_is c t no_minus no_plus in
+    let s = unsigned_is c t no_minus no_plus in
     (subst (λ (x : Text). IsNumeral 10 x) (sym s.0) (numeral (c ∷ t) d), e ∙ sym s.1)
 writes_numeral t n (inr (inl (d, s, h, e))) =
     (subst (λ (x : Text). IsNumeral 10 (without_leading_sign x)) (sym s) (numeral d h), e ∙ ap (λ (x : Text). signed_digits_value 10 x) (sym s))
@@ -118,14 +118,14 @@ module _ (bs : List ℕ) (u : IsUtf8 bs) where
   number_from : (n : ℤ) → IsNumeral 10 (without_leading_sign bs) → FitsSigned w32 (signed_digits_value 10 bs) → n ≡ signed_digits_value 10 bs → IsI32Text (chars bs) n
   number_from n h fits e =
       let there = numeral_writes bs h in
-      let plain : chars bs ≡ bs = chars-IsAscii bs (writes_ascii bs _ there) in
+      let canonical : chars bs ≡ bs = chars-IsAscii bs (writes_ascii bs _ there) in
       let w : WritesSigned bs n = subst (λ (x : ℤ). WritesSigned bs x) (sym e) there in
-      (subst (λ (x : Text). WritesSigned x n) (sym plain) w, subst (λ (x : ℤ). FitsSigned w32 x) (sym e) fits)
+      (subst (λ (x : Text). WritesSigned x n) (sym canonical) w, subst (λ (x : ℤ). FitsSigned w32 x) (sym e) fits)
 
   no_number_from : (IsNumeral 10 (without_leading_sign bs) × FitsSigned w32 (signed_digits_value 10 bs) → ⊥) → (n : ℤ) → IsI32Text (chars bs) n → ⊥
   no_number_from h n w =
-      let plain : chars bs ≡ bs = ascii_plain bs u (writes_ascii (chars bs) n w.0) in
-      let k = writes_numeral bs n (subst (λ (x : Text). WritesSigned x n) plain w.0) in
+      let canonical : chars bs ≡ bs = ascii_chars bs u (writes_ascii (chars bs) n w.0) in
+      let k = writes_numeral bs n (subst (λ (x : Text). WritesSigned x n) canonical w.0) in
       h (k.0, subst (λ (x : ℤ). FitsSigned w32 x) k.1 w.1)
 
   -- what a result of `parse` says of the text
@@ -178,17 +178,17 @@ names_itself t l p = elim (all_digits t) [
     lead : get_or t 0 0 ≡ 48 → length t ≡ 1
     lead z = elim (cases_lt 1 (length t)) [ inl more ↦ absurd ((p more).2 z) | inr few ↦ omega (arith, few, l) ]
 
-pub plain_alone : (t : Text) (c : ℕ) (more : Text) → t ≡ c ∷ more → length more ≡ 0 → IsBareWord t
-plain_alone t c more e z l = absurd (omega (arith, ap length e, z, l))
+pub bare_alone : (t : Text) (c : ℕ) (more : Text) → t ≡ c ∷ more → length more ≡ 0 → IsBareWord t
+bare_alone t c more e z l = absurd (omega (arith, ap length e, z, l))
 
-pub process_kept : (text follows name : Text) → Front word text follows (Some name) → IsBareWord name → Kept process_word process_text text follows
-process_kept text follows name f p =
+pub process_verbatim : (text follows name : Text) → Front word text follows (Some name) → IsBareWord name → Verbatim process_word process_text text follows
+process_verbatim text follows name f p =
     let e : name ≡ f.piece = f.is.4.0 in
     let (i, n, w) = names_itself name (omega (arith, f.is.0, ap length e)) p in
     record { value = Some i; whole = f.whole ∙ ap (λ (x : Text). x ++ follows) (sym e ∙ sym w); is = (name, subst (λ (x : Text). word.Is x follows (Some name)) (sym e ∙ sym w) f.is, n) }
 
-pub absent_kept : (text follows : Text) → Front word text follows None → Kept process_word process_text text follows
-absent_kept text follows f = record { value = None; whole = f.whole ∙ ap (λ (x : Text). x ++ follows) f.is.4; is = subst (λ (x : Text). word.Is x follows None) f.is.4 f.is }
+pub absent_verbatim : (text follows : Text) → Front word text follows None → Verbatim process_word process_text text follows
+absent_verbatim text follows f = record { value = None; whole = f.whole ∙ ap (λ (x : Text). x ++ follows) f.is.4; is = subst (λ (x : Text). word.Is x follows None) f.is.4 f.is }
 
 -- digits, of which the first is 0 only where it is alone
 digit_first : (t : Text) (s : ℕ) → is_ascii_digit s ≡ false → Each is_ascii_digit t → 1 < length t → get_or t 0 0 ≢ s
@@ -198,14 +198,14 @@ digit_first (c ∷ t) s n a l e = let b : true ≡ false = sym a.0 ∙ ap is_asc
 bare_digits : (t : Text) → Each is_ascii_digit t → (get_or t 0 0 ≡ 48 → length t ≡ 1) → IsBareWord t
 bare_digits t a lead l = (digit_first t 43 refl a l, digit_first t 45 refl a l, λ z. (let e = lead z in omega arith))
 
-pub digits_kept : (bs xs ys : List ℕ) → SplitsRun is_ascii_digit bs xs ys → 0 < length xs → (get_or xs 0 0 ≡ 48 → length xs ≡ 1) → KeptDigits (chars bs) (chars ys)
-digits_kept bs xs ys s l lead =
-    let plain = digits_plain xs s.front_utf8 s.each in
-    let each = subst (λ (x : Text). Each is_ascii_digit x) plain s.each in
+pub digits_verbatim : (bs xs ys : List ℕ) → SplitsRun is_ascii_digit bs xs ys → 0 < length xs → (get_or xs 0 0 ≡ 48 → length xs ≡ 1) → VerbatimDigits (chars bs) (chars ys)
+digits_verbatim bs xs ys s l lead =
+    let canonical = digit_chars xs s.front_utf8 s.each in
+    let each = subst (λ (x : Text). Each is_ascii_digit x) canonical s.each in
     let (process, names, e) = names_itself xs l (bare_digits xs each lead) in
     record {
       process = process;
-      whole = s.characters ∙ ap (λ (x : Text). x ++ chars ys) (plain ∙ sym e);
+      whole = s.characters ∙ ap (λ (x : Text). x ++ chars ys) (canonical ∙ sym e);
       some = subst (λ (x : Text). 0 < length x) (sym e) l;
       digits = subst (λ (x : Text). Each is_ascii_digit x) (sym e) each;
       names = subst (λ (x : Text). NamesProcess x process) (sym e) names;

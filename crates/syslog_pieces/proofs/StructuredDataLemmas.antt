@@ -5,10 +5,10 @@ pub mod ElementParts
 pub mod Elements
 pub mod Equality
 pub mod Items
-pub mod Kept
-pub mod Listed
+pub mod Verbatim
+pub mod Rfc3164List
 pub mod Params
-pub mod Plain
+pub mod Canonical
 pub mod ReadBack
 pub mod Units
-pub mod Walk
+pub mod Recognise

@@ -4,8 +4,8 @@ pub mod Copied
 pub mod Cuts
 pub mod Decimals
 pub mod Equal
-pub mod Kept
-pub mod Plain
+pub mod Verbatim
+pub mod Canonical
 pub mod Lanes
 pub mod Looks
 pub mod Printed

@@ -8,8 +8,8 @@ pub mod Early
 pub mod Fields
 pub mod Fold
 pub mod Fraction
-pub mod KeptStamp
-pub mod Loose
+pub mod VerbatimStamp
+pub mod Rfc3164
 pub mod MonthDate
 pub mod MonthReading
 pub mod MonthText
@@ -20,6 +20,6 @@ pub mod Range
 pub mod Reading
 pub mod RoundTrip
 pub mod Texts
-pub mod Usual
+pub mod Standard
 pub mod Values
 pub mod Zone

@@ -2,11 +2,11 @@
 -- read. No public clause of the message needs them, and a reader of the claims can pass them over.
 pub mod Closing
 pub mod Early
-pub mod Kept
-pub mod KeptStamp
+pub mod Verbatim
+pub mod VerbatimStamp
 pub mod Looks
 pub mod MonthReading
 pub mod MonthText
 pub mod Scan
 pub mod StampReading
-pub mod Usual
+pub mod Standard

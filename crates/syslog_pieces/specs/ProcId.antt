@@ -8,7 +8,7 @@ use Rattle.std.specs.Fmt.{signed_decimal}
 use Rattle.std.specs.Str.Parse.{digits_value}
 use Rattle.syslog_pieces.specs.Pieces.Class.{Text, Class, Each}
 use Rattle.syslog_pieces.specs.Text.{word, dash}
-use Rattle.syslog_pieces.specs.Text.Plain.{IsPlainWord}
+use Rattle.syslog_pieces.specs.Text.Canonical.{IsCanonicalWord}
 use Rattle.syslog_pieces.specs.declared.procid.ProcId.{ProcId}
 use Rattle.syslog_pieces.specs.declared.procid.ProcId.TheVariants.{PID, Name}
 
@@ -61,10 +61,10 @@ process_word = record { Value = Option (ProcId Text); Is = IsProcessWord }
 abbrev pub IsNoI32Text : Text → Type 0
 IsNoI32Text t = (n : ℤ) → IsI32Text t n → ⊥
 
--- a number, or a plain word that is no text of one
-abbrev pub IsPlainProcess : ProcId Text → Type 0
-IsPlainProcess (PID n) = ⊤
-IsPlainProcess (Name t) = IsPlainWord t × IsNoI32Text t
+-- a number, or a canonical word that is no text of one
+abbrev pub IsCanonicalProcess : ProcId Text → Type 0
+IsCanonicalProcess (PID n) = ⊤
+IsCanonicalProcess (Name t) = IsCanonicalWord t × IsNoI32Text t
 
 -- the number has 32 bits
 abbrev pub IsBoundedProcess : ProcId Text → Type 0

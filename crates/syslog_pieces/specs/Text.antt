@@ -1,6 +1,6 @@
 -- White space, blanks, numbers and words: the pieces that both headers are made of.
 pub mod CharClass
-pub mod Plain
+pub mod Canonical
 use Rattle.std.specs.Prelude.{◌≡◌, ◌≢◌, ℕ, ◌<◌, ◌≤◌, ◌⊎◌, nat_eq, ◌||◌, ◌&&◌, not, Bool, [], ◌∷◌, ◌++◌, length, Option, Some, None, MatchOption}
 use Rattle.std.specs.Char.{is_ascii_digit, is_not_whitespace}
 use Rattle.std.specs.Str.{skip_leading_whitespace, drop_trailing_whitespace}

@@ -1,8 +1,8 @@
 -- Timestamps: the texts that have one, and the text that is printed of one.
 pub mod Fields
-pub mod Loose
+pub mod Rfc3164
 pub mod MonthDate
-pub mod Plain
+pub mod Canonical
 pub mod Printed
 pub mod Rfc3339
 pub mod Zone
@@ -10,8 +10,8 @@ use Rattle.std.specs.Prelude.{◌≡◌, ℕ, List, ◌∷◌, Option, Some, Non
 use Rattle.syslog_pieces.specs.Pieces.Class.{Text, Class}
 use Rattle.syslog_pieces.specs.Text.{dash}
 use Rattle.syslog_pieces.specs.declared.timestamp.OffsetTimestamp.{OffsetTimestamp}
-use Rattle.syslog_pieces.specs.declared.timestamp.written.Written.{Written}
-use Rattle.syslog_pieces.specs.Timestamp.Rfc3339.{HasStamp, HasWrittenStamp}
+use Rattle.syslog_pieces.specs.declared.timestamp.rfc3339_text.Rfc3339Fields.{Rfc3339Fields}
+use Rattle.syslog_pieces.specs.Timestamp.Rfc3339.{HasStamp, HasRfc3339Stamp}
 
 -- the whole text is an RFC 3339 text of this timestamp
 abbrev pub IsStampText : List ℕ → OffsetTimestamp → Type 0
@@ -22,8 +22,8 @@ abbrev pub HasNoStamp : List ℕ → Type 0
 HasNoStamp text = (s : OffsetTimestamp) → IsStampText text s → ⊥
 
 -- this is the timestamp of the numbers that a text wrote
-abbrev pub IsStampOfWritten : Written → OffsetTimestamp → Type 0
-IsStampOfWritten w s = HasWrittenStamp w s.instant.nanosecond s.offset.seconds
+abbrev pub IsStampOfRfc3339 : Rfc3339Fields → OffsetTimestamp → Type 0
+IsStampOfRfc3339 w s = HasRfc3339Stamp w s.instant.nanosecond s.offset.seconds
 
 -- the timestamp of which `P` holds, and none only where it holds of no timestamp
 abbrev pub IsAnswer : (OffsetTimestamp → Type 0) → Option OffsetTimestamp → Type 0

@@ -8,7 +8,7 @@ ghost use Rattle.std.specs.declared.alloc.AllocError.{AllocError};
 ghost use Rattle.syslog_pieces.specs.Pieces.Class.{Text, Each, Front, NoFront};
 ghost use Rattle.syslog_pieces.specs.StructuredData.Escapes.{TextUnit, SplitsUnits, IsUnescaped, IsUnquoted, escaped};
 ghost use Rattle.syslog_pieces.specs.StructuredData.Params.{NextParam, AreParamItems};
-ghost use Rattle.syslog_pieces.specs.StructuredData.Listed.{BeginsNoList, listed};
+ghost use Rattle.syslog_pieces.specs.StructuredData.Rfc3164List.{BeginsNoList, rfc3164_list};
 ghost use Rattle.syslog_pieces.specs.Pri.{facility_of, severity_of, composed};
 ghost use Rattle.syslog_pieces.specs.StructuredData.{IsValue};
 ghost use Rattle.jiff.specs.Types.{DateTime, Fold, Offset, TimeZone};
@@ -16,14 +16,14 @@ ghost use Rattle.jiff.specs.Words.{IsCivilNanos, ambiguous_at};
 ghost use Rattle.syslog_pieces.specs.Timestamp.Fields.{AreCivil, IsStampAt, nanos_of_fields};
 ghost use Rattle.std.specs.Char.{is_not_whitespace};
 ghost use Rattle.syslog_pieces.specs.Timestamp.{IsStampText};
-ghost use Rattle.syslog_pieces.specs.Timestamp.Loose.{loose_stamp, ShowsYearless};
-ghost use Rattle.syslog_pieces.specs.Timestamp.Plain.{IsPlainStamp, BeginsWithYear};
+ghost use Rattle.syslog_pieces.specs.Timestamp.Rfc3164.{rfc3164_stamp, ShowsYearless};
+ghost use Rattle.syslog_pieces.specs.Timestamp.Canonical.{IsCanonicalStamp, BeginsWithYear};
 ghost use Rattle.syslog_pieces.specs.Timestamp.Printed.{civil_fields, printed_stamp};
 ghost use Rattle.syslog_pieces.specs.Timestamp.Rfc3339.{HasStamp};
 ghost use Rattle.syslog_pieces.specs.Timestamp.Zone.{Dating, IsStampOf};
 ghost use Rattle.syslog_pieces.specs.declared.pri.SyslogFacility.{SyslogFacility};
 ghost use Rattle.syslog_pieces.specs.declared.pri.SyslogSeverity.{SyslogSeverity};
-ghost use Rattle.syslog_pieces.specs.declared.structured_data.listed.DashRule.{DashRule};
+ghost use Rattle.syslog_pieces.specs.declared.structured_data.rfc3164_list.DashRule.{DashRule};
 ghost use Rattle.syslog_pieces.specs.declared.timestamp.OffsetTimestamp.{OffsetTimestamp};
 ghost use Rattle.syslog_pieces.specs.declared.timestamp.month_date.MonthDate.{MonthDate};
 
@@ -50,9 +50,9 @@ pub fn text_shows_one_date()
 {}
 
 /// For a given year and zones, a text has at most one timestamp of RFC 3164 at its front.
-pub fn text_has_one_loose_stamp()
+pub fn text_has_one_rfc3164_stamp()
     ensures { (dating : Dating) (text rest others : Text) (stamp other : Option OffsetTimestamp)
-        → Front (loose_stamp dating) text rest stamp → Front (loose_stamp dating) text others other
+        → Front (rfc3164_stamp dating) text rest stamp → Front (rfc3164_stamp dating) text others other
         → (rest ≡ others) × (stamp ≡ other) }
 {}
 
@@ -70,11 +70,11 @@ pub fn printed_fields_are_civil()
     ensures count { (n : ℤ) → IsCivilNanos n → nanos_of_fields (civil_fields n) ≡ n }
 {}
 
-/// What is printed of a plain timestamp has it as an RFC 3339 text, and a timestamp that any text has is plain.
-pub fn plain_stamp_reads_back()
-    ensures back { (stamp : OffsetTimestamp) → IsPlainStamp stamp
+/// What is printed of a canonical timestamp has it as an RFC 3339 text, and a timestamp that any text has is canonical.
+pub fn canonical_stamp_reads_back()
+    ensures back { (stamp : OffsetTimestamp) → IsCanonicalStamp stamp
         → IsStampText (printed_stamp stamp.instant.nanosecond stamp.offset.seconds) stamp }
-    ensures only { (text : Text) (stamp : OffsetTimestamp) → IsStampText text stamp → IsPlainStamp stamp }
+    ensures only { (text : Text) (stamp : OffsetTimestamp) → IsStampText text stamp → IsCanonicalStamp stamp }
 {}
 
 /// The printed text of any timestamp begins with a digit, or with `-` and a digit, and no character of it is white space.
@@ -117,5 +117,5 @@ pub fn params_are_given_in_order<S: AsStr>()
 
 /// No list of RFC 3164 begins a text exactly where neither a dash that is such a list begins it, nor an element of one.
 pub fn list_begins_with_dash_or_element()
-    ensures { (rule : DashRule) (text : Text) → NoFront (listed rule) text ↔ BeginsNoList rule text }
+    ensures { (rule : DashRule) (text : Text) → NoFront (rfc3164_list rule) text ↔ BeginsNoList rule text }
 {}

@@ -7,8 +7,8 @@
 //! `pri::priority("<34>1 - h")` is `Some((34, "1 - h"))`, and `pri::decompose_pri(34)` is
 //! `(Some(LOG_AUTH), Some(SEV_CRIT))`.
 //!
-//! The modules `text::kept`, `text::plain`, `text::written`, `timestamp::kept`, `timestamp::plain`,
-//! `timestamp::month_date::usual` and `structured_data::plain`, and the functions `kept_..`, serve `syslog_loose` alone.
+//! The modules `text::verbatim`, `text::canonical`, `text::write_ascii`, `timestamp::verbatim`, `timestamp::canonical`,
+//! `timestamp::month_date::standard` and `structured_data::canonical`, and the functions `verbatim_..`, serve `syslog_loose` alone.
 #![tactic(auto)]
 
 pub mod as_str;

@@ -10,7 +10,7 @@ ghost use Rattle.std.specs.Str.{chars, encode_utf8_all};
 ghost use Rattle.jiff_fmt.specs.Text.{pad2};
 ghost use Rattle.syslog_pieces.specs.Bodies.Looks.{IsPriorityBytes};
 ghost use Rattle.syslog_pieces.specs.Pieces.Class.{Front, optional};
-ghost use Rattle.syslog_pieces.specs.Pieces.Kept.{Kept};
+ghost use Rattle.syslog_pieces.specs.Pieces.Verbatim.{Verbatim};
 ghost use Rattle.syslog_pieces.specs.Pri.{priority_text};
 ghost use Rattle.syslog_pieces.specs.Pri as spec;
 ghost use Rattle.syslog_pieces.specs.Pieces.View.{shown, Reads};
@@ -19,8 +19,8 @@ ghost use Rattle.syslog_pieces.specs.Timestamp.Printed.{pad3};
 #[cfg(test)]
 mod tests;
 
-use crate::text::kept::kept_number;
-use crate::text::written::{digit, write_bytes};
+use crate::text::verbatim::verbatim_number;
+use crate::text::write_ascii::{digit, write_bytes};
 use crate::text::{literal, number};
 use std::fmt;
 
@@ -197,7 +197,7 @@ pub fn parts(priority: Option<u8>) -> (Option<SyslogFacility>, Option<SyslogSeve
 pub fn priority(text: &str) -> Option<(u8, &str)>
     ensures { Reads spec.priority (λ n. n) (chars text.now) result }
 {
-    match usual_priority(text) {
+    match standard_priority(text) {
         Some(found) => Some(found),
         None => any_priority(text),
     }
@@ -235,7 +235,7 @@ fn priority_bytes(text: &[u8]) -> Option<(u8, &[u8])>
 
 // The priority at the front, where it has one to three digits, and the text behind it.
 #[inline(always)]
-fn usual_priority(text: &str) -> Option<(u8, &str)>
+fn standard_priority(text: &str) -> Option<(u8, &str)>
     ensures { IfSome result (λ read. Front spec.priority (chars text.now) (shown read.1) read.0) }
 {
     let (number, behind) = priority_bytes(text.as_bytes())?;
@@ -267,11 +267,11 @@ pub fn optional_priority(text: &str) -> (Option<u8>, &str)
 
 /// The text behind the priority at the front, where it is below 192 and prints as it is written.
 #[inline(always)]
-pub fn kept_priority(text: &str) -> Option<&str>
-    ensures { IfSome result (λ rest. (k : Kept spec.priority priority_text (chars text.now) (shown rest)) × (k.value < 192)) }
+pub fn verbatim_priority(text: &str) -> Option<&str>
+    ensures { IfSome result (λ rest. (k : Verbatim spec.priority priority_text (chars text.now) (shown rest)) × (k.value < 192)) }
 {
     let opened = literal(text, '<')?;
-    let closing = kept_number(opened, 191)?;
+    let closing = verbatim_number(opened, 191)?;
     let rest = literal(closing, '>')?;
     Some(rest)
 }

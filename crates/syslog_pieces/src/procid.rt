@@ -7,8 +7,8 @@ ghost use Rattle.std.specs.Ordering.{on};
 ghost use Rattle.std.specs.Prelude.{◌≡◌, ◌↔◌, IfOk, IfSome, IsTrue, Some, string_bytes};
 ghost use Rattle.std.specs.Option.{option_map};
 ghost use Rattle.std.specs.Str.{chars, encode_utf8_all};
-ghost use Rattle.syslog_pieces.specs.Bodies.Kept.{IsBareWord, KeptDigits};
-ghost use Rattle.syslog_pieces.specs.Pieces.Kept.{Kept};
+ghost use Rattle.syslog_pieces.specs.Bodies.Verbatim.{IsBareWord, VerbatimDigits};
+ghost use Rattle.syslog_pieces.specs.Pieces.Verbatim.{Verbatim};
 ghost use Rattle.syslog_pieces.specs.ProcId.{process_text};
 ghost use Rattle.syslog_pieces.specs.ProcId as spec;
 ghost use Rattle.syslog_pieces.specs.ProcId.Equal.{procid_eq};
@@ -19,9 +19,9 @@ ghost use Rattle.syslog_pieces.specs.Pieces.View.{shown, text_of, ClonesKeepText
 mod tests;
 
 use crate::as_str::{AsStr, is_same_text};
-use crate::text::kept::has_zero_ahead;
-use crate::text::plain::is_plain_word;
-use crate::text::written::write_signed;
+use crate::text::verbatim::has_zero_ahead;
+use crate::text::canonical::is_canonical_word;
+use crate::text::write_ascii::write_signed;
 use crate::text::{CharClass, few_digits, first, split_run, word};
 use std::alloc::{AllocError, Global};
 use std::fmt;
@@ -144,8 +144,8 @@ fn is_bare_word(name: &str) -> bool
 
 /// The text behind the process id at the front, where it prints as it is written.
 #[inline(always)]
-pub fn kept_process(text: &str) -> Option<&str>
-    ensures { IfSome result (λ rest. Kept spec.process_word process_text (chars text.now) (shown rest)) }
+pub fn verbatim_process(text: &str) -> Option<&str>
+    ensures { IfSome result (λ rest. Verbatim spec.process_word process_text (chars text.now) (shown rest)) }
 {
     let (name, rest) = word(text)?;
     match name {
@@ -156,8 +156,8 @@ pub fn kept_process(text: &str) -> Option<&str>
 
 /// The text behind the digits at the front, where as a process id they print as they are written.
 #[inline(always)]
-pub fn kept_digits(text: &str) -> Option<&str>
-    ensures { IfSome result (λ rest. KeptDigits (chars text.now) (shown rest)) }
+pub fn verbatim_digits(text: &str) -> Option<&str>
+    ensures { IfSome result (λ rest. VerbatimDigits (chars text.now) (shown rest)) }
 {
     let (digits, rest) = split_run(text, CharClass::Digit);
     if digits.is_empty() || has_zero_ahead(digits) {
@@ -174,14 +174,14 @@ pub fn names_number(text: &str) -> bool
 }
 
 /// Whether the process id is read back from its printed text as one of RFC 5424. Takes no memory.
-pub fn is_plain_process<S: AsStr>(process: &ProcId<S>) -> bool
-    ensures { IsTrue result ↔ spec.IsPlainProcess (spec.procid_value (text_of S.text) process.now) }
+pub fn is_canonical_process<S: AsStr>(process: &ProcId<S>) -> bool
+    ensures { IsTrue result ↔ spec.IsCanonicalProcess (spec.procid_value (text_of S.text) process.now) }
 {
     match process {
         ProcId::PID(_) => true,
         ProcId::Name(name) => {
             let name = name.as_str();
-            is_plain_word(name) && !names_number(name)
+            is_canonical_word(name) && !names_number(name)
         }
     }
 }

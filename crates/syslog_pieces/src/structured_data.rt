@@ -12,24 +12,24 @@ mod copies;
 mod element;
 mod equality;
 mod escapes;
-mod kept;
+mod verbatim;
 mod list;
-pub mod listed;
+pub mod rfc3164_list;
 mod params;
-pub mod plain;
+pub mod canonical;
 #[cfg(test)]
 mod tests;
-mod walk;
+mod recognise;
 
 use crate::as_str::AsStr;
 pub use element::read_element;
 pub use escapes::unescape;
-pub use kept::kept_list;
+pub use verbatim::verbatim_list;
 pub use list::forgiving_list;
 pub use params::ParamsIter;
 use std::alloc::Global;
 use std::fmt;
-pub use walk::after_element;
+pub use recognise::after_element;
 
 /// An element: its id, and the names and the raw values of its parameters, in order. It prints as it is written, each
 /// parameter behind one space; a value prints raw, with the escapes that stand in it and no others.

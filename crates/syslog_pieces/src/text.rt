@@ -12,15 +12,15 @@ ghost use Rattle.syslog_pieces.specs.Text as spec;
 ghost use Rattle.syslog_pieces.specs.Pieces.View.{seen, shown, Reads, Skips};
 
 mod fields;
-pub mod kept;
+pub mod verbatim;
 mod lanes;
 mod looks;
 mod numerals;
-pub mod plain;
+pub mod canonical;
 mod scan;
 #[cfg(test)]
 mod tests;
-pub mod written;
+pub mod write_ascii;
 
 pub use fields::{host_field, tag_field};
 use looks::{
@@ -44,7 +44,7 @@ pub enum CharClass {
     /// Neither `]` nor `=`: a parameter's name.
     Name,
     /// Neither a backslash nor a quote: what a value is mostly made of.
-    Plain,
+    Unescaped,
     /// No `]`: what a broken element is made of.
     Open,
     /// Neither a backslash nor a quote nor `]`.
@@ -69,7 +69,7 @@ impl CharClass {
             CharClass::Visible => !c.is_whitespace(),
             CharClass::Id => !c.is_whitespace() && (c != ']' && c != '='),
             CharClass::Name => c != ']' && c != '=',
-            CharClass::Plain => c != '\\' && c != '"',
+            CharClass::Unescaped => c != '\\' && c != '"',
             CharClass::Open => c != ']',
             CharClass::Inert => (c != '\\' && c != '"') && c != ']',
             CharClass::Bare => c != '\\',

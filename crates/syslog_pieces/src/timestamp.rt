@@ -7,7 +7,7 @@
 //! `jiff::Timestamp` is refused; the printed form is the one that [`OffsetTimestamp`] describes.
 //!
 //! **For the floor above.** [`rfc3339`] answers exactly the `IsStampText` of the text's characters,
-//! of which a text has at most one. [`loose_stamp`] answers exactly the class `loose_stamp`, whose
+//! of which a text has at most one. [`rfc3164_stamp`] answers exactly the class `rfc3164_stamp`, whose
 //! three kinds begin with `-`, a digit and a letter. [`shown_date`] answers the date without a year
 //! that a trimmed text shows. Display writes `printed_stamp`. Equality and order look at the instant alone.
 ghost use Rattle.std.proofs.Common.{rules};
@@ -25,23 +25,23 @@ mod digits;
 mod display;
 mod early;
 mod fields;
-pub mod kept;
-pub mod loose;
+pub mod verbatim;
+pub mod rfc3164;
 pub mod month_date;
-pub mod plain;
+pub mod canonical;
 #[cfg(test)]
 mod tests;
-mod usual;
-mod written;
+mod standard;
+mod rfc3339_text;
 pub mod zone;
 
 use crate::text::{CharClass, literal, split_run};
 use jiff::Timestamp;
 use jiff::tz::Offset;
-pub use loose::loose_stamp;
+pub use rfc3164::rfc3164_stamp;
 pub use month_date::{MonthDate, shown_date};
 use std::cmp::Ordering;
-use usual::usual_stamp;
+use standard::standard_stamp;
 pub use zone::year_at;
 
 /// An instant, and how far the clock that showed it is ahead of UTC.
@@ -67,7 +67,7 @@ pub struct OffsetTimestamp {
 pub fn rfc3339(text: &str) -> Option<OffsetTimestamp>
     ensures { MatchOption result (HasNoStamp (chars text.now)) (IsStampText (chars text.now)) }
 {
-    written::stamp(written::read(text.as_bytes())?)
+    rfc3339_text::stamp(rfc3339_text::read(text.as_bytes())?)
 }
 
 /// The timestamp at the front of a header's text, absent for `-`, and the text behind it. A text
@@ -76,7 +76,7 @@ pub fn rfc3339(text: &str) -> Option<OffsetTimestamp>
 pub fn header_stamp(text: &str) -> Option<(Option<OffsetTimestamp>, &str)>
     ensures { Reads spec.header_stamp (λ s. s) (chars text.now) result }
 {
-    match usual_stamp(text) {
+    match standard_stamp(text) {
         Some((stamp, rest)) => Some((Some(stamp), rest)),
         None => any_header_stamp(text),
     }

@@ -207,18 +207,18 @@ answered_again year (t ∷ ts) (Written bytes ∷ answers) ((text, r, e), h) k =
     (append_assoc bytes (10 ∷ []) (output_of answers) ∙ ap (λ (l : List ℕ). bytes ++ 10 ∷ l) same ∙ ap (λ (l : List ℕ). l ++ 10 ∷ with_feeds ts) (same_text year t text bytes r e k.0), none)
 
 -- ---- the run
-whole_read : (output read : List ℕ) (had left : Option (List ℕ)) → had ≡ Some output → Consumes had left read → IsAtEnd left → read ≡ output
-whole_read output read None left e c end = absurd (let t : None ≡ Some output = e in cc)
+whole_read : (output read : List ℕ) (in_before in_after : Option (List ℕ)) → in_before ≡ Some output → Consumes in_before in_after read → IsAtEnd in_after → read ≡ output
+whole_read output read None in_after e c end = absurd (let t : None ≡ Some output = e in cc)
 whole_read output read (Some xs) None e c end = absurd c
 whole_read output read (Some xs) (Some ys) e c end =
     let same : xs ≡ output = cc in sym (append-nil read) ∙ ap (λ (l : List ℕ). read ++ l) (sym end) ∙ sym c ∙ same
 
-pub TidiesAll-again : (year : ℤ) (had left held holds : Option (List ℕ)) (summary : Summary) → TidiesAll year had left held holds summary → WritesAgain year had held holds summary
-TidiesAll-again year had left held holds summary (found, all, counted, refused) output e (bytes, lines, answers, cut, answered, is) =
+pub TidiesAll-again : (year : ℤ) (in_before in_after out_before out_after : Option (List ℕ)) (summary : Summary) → TidiesAll year in_before in_after out_before out_after summary → WritesAgain year in_before out_before out_after summary
+TidiesAll-again year in_before in_after out_before out_after summary (found, all, counted, refused) output e (bytes, lines, answers, cut, answered, is) =
     let ts = lines_of answers in
     let rests = all_at_rest year lines answers cut.0 answered in
     let fed : output ≡ with_feeds ts = is ∙ output_fed answers in
-    let read = whole_read output all.all.read had left e all.all.consumed all.all.at_end ∙ fed in
+    let read = whole_read output all.all.read in_before in_after e all.all.consumed all.all.at_end ∙ fed in
     let same = fed_lines ts all.lines (rest_free year ts rests) (subst (λ (l : List ℕ). IsLines l all.lines) read all.all.cut) in
     let (again, none) = answered_again year ts found rests (subst (λ (l : List (List ℕ)). AreAnswers (tidying year) l found) same all.answered) in
-    (subst (λ (l : List ℕ). Appends held holds l) (again ∙ sym fed) all.written, refused ∙ ap held_count none)
+    (subst (λ (l : List ℕ). Appends out_before out_after l) (again ∙ sym fed) all.written, refused ∙ ap held_count none)

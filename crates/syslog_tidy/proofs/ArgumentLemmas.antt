@@ -6,7 +6,7 @@ use Rattle.std.proofs.lemmas.List.{take_all}
 use Rattle.syslog_lines.specs.Arguments.{AreYearWords, end_word, help_word, version_word}
 use Rattle.syslog_tidy.specs.Arguments.{AreArguments, AsksFor, OnlyFlag, changed_word, flags_of, refused_word}
 use Rattle.syslog_tidy.specs.declared.args.Output.{Output}
-use Rattle.syslog_tidy.specs.declared.args.Output.TheVariants.{Settled, Changed, Refused}
+use Rattle.syslog_tidy.specs.declared.args.Output.TheVariants.{Settled, DashChange, Refused}
 use Rattle.syslog_tidy.specs.declared.args.Task.{Task}
 use Rattle.syslog_tidy.specs.declared.args.Task.TheVariants.{Help, Version, Lines}
 
@@ -20,13 +20,13 @@ no_year flag behind year long (word, inr dashed, named) = let same = ap length (
 
 behind_flag : (output : Output) (behind more : List (List ℕ)) → flags_of output ++ behind ≡ flags_of output ++ more → behind ≡ more
 behind_flag Settled behind more same = same
-behind_flag Changed behind more same = cc
+behind_flag DashChange behind more same = cc
 behind_flag Refused behind more same = cc
 
 -- so words that begin with one name no year
 no_settled : (words behind more : List (List ℕ)) (output : Output) → words ≡ flags_of output ++ behind → ((year : ℤ) → ¬ (AreYearWords behind year)) → (year : ℤ) → words ≡ more → AreYearWords more year → ⊥
 no_settled words behind more Settled split none year same named = none year (subst (λ (l : List (List ℕ)). AreYearWords l year) (sym same ∙ split) named)
-no_settled words behind more Changed split none year same named = no_year changed_word behind year (omega arith) (subst (λ (l : List (List ℕ)). AreYearWords l year) (sym same ∙ split) named)
+no_settled words behind more DashChange split none year same named = no_year changed_word behind year (omega arith) (subst (λ (l : List (List ℕ)). AreYearWords l year) (sym same ∙ split) named)
 no_settled words behind more Refused split none year same named = no_year refused_word behind year (omega arith) (subst (λ (l : List (List ℕ)). AreYearWords l year) (sym same ∙ split) named)
 
 -- words whose flag was read, and that name no year behind it, are no arguments

@@ -5,7 +5,7 @@ use Rattle.std.specs.Prelude.{IsUtf8, String, encode_utf8_all, string_bytes}
 use Rattle.std.specs.Str.{chars}
 use Rattle.std.proofs.lemmas.Bool.{false≢true}
 use Rattle.std.proofs.lemmas.Str.{encodes-chars}
-use Rattle.syslog_loose.specs.Dash.{ReadsDifferently}
+use Rattle.syslog_loose.specs.DashChange.{ReadsDifferently}
 use Rattle.syslog_loose.specs.Reading.{IsRead, IsUnreadable, in_utc}
 use Rattle.syslog_loose.specs.Settling.{IsRound, IsFirstSettled, IsSettlingFault, Settles, answer_in}
 use Rattle.syslog_loose.proofs.ReadingLemmas.{invalid_or_memory}
@@ -13,27 +13,27 @@ use Rattle.syslog_loose.specs.declared.fault.ParseFault.{ParseFault}
 use Rattle.syslog_loose.specs.declared.fault.ParseFault.TheVariants.{Invalid, Memory}
 use Rattle.syslog_loose.specs.declared.variant.Variant.TheVariants.{Either}
 use Rattle.syslog_lines.specs.Count.{held_count}
-use Rattle.syslog_tidy.specs.Filters.{FindsAll, IsTidied, RefusesAll, SharesOut, TidiesAll, finding, of_texts, refusing, tidying}
+use Rattle.syslog_tidy.specs.Filters.{FindsDashChanges, IsTidied, RefusesAll, SharesOut, TidiesAll, finding_dash_changes, of_texts, refusing, tidying}
 use Rattle.syslog_lines.specs.Output.{AddsAnswer, Answer, AreAnswers, Marked, Omitted, Written, is_answered, is_passed_over}
-use Rattle.syslog_lines.specs.Walk.{WalksAll}
-use Rattle.syslog_lines.proofs.CountLemmas.{WalksAll-at, lines_counted}
-use Rattle.syslog_tidy.specs.declared.counts.Changed.{Changed}
+use Rattle.syslog_lines.specs.Pump.{PumpsAll}
+use Rattle.syslog_lines.proofs.CountLemmas.{PumpsAll-at, lines_counted}
+use Rattle.syslog_tidy.specs.declared.counts.DashChangeCounts.{DashChangeCounts}
 use Rattle.syslog_lines.specs.declared.summary.Summary.{Summary}
 use Rattle.syslog_lines.specs.declared.summary.Tally.{Tally}
 
 -- ---- the ends of the filters; the year stands in a call as a number of 32 bits
 
-pub TidiesAll-walked : (year y : ℤ) (had left held holds : Option (List ℕ)) (tally : Tally) (summary : Summary) → y ≡ year → WalksAll (tidying y) had left held holds tally
-    → summary.lines ≡ held_count (tally.answered + tally.passed_over) → summary.refused ≡ tally.passed_over → TidiesAll year had left held holds summary
-TidiesAll-walked year y had left held holds tally summary same walked lines refused =
-    let whole = WalksAll-at tidying year y had left held holds tally same walked in
-    (whole.0, whole.1, lines ∙ lines_counted (tidying year) had left held holds tally whole.0 whole.1 whole.2, refused ∙ whole.2.1)
+pub TidiesAll-pumped : (year y : ℤ) (in_before in_after out_before out_after : Option (List ℕ)) (tally : Tally) (summary : Summary) → y ≡ year → PumpsAll (tidying y) in_before in_after out_before out_after tally
+    → summary.lines ≡ held_count (tally.answered + tally.passed_over) → summary.refused ≡ tally.passed_over → TidiesAll year in_before in_after out_before out_after summary
+TidiesAll-pumped year y in_before in_after out_before out_after tally summary same pumped lines refused =
+    let whole = PumpsAll-at tidying year y in_before in_after out_before out_after tally same pumped in
+    (whole.0, whole.1, lines ∙ lines_counted (tidying year) in_before in_after out_before out_after tally whole.0 whole.1 whole.2, refused ∙ whole.2.1)
 
-pub FindsAll-walked : (year y : ℤ) (had left held holds : Option (List ℕ)) (tally : Tally) (counts : Changed) → y ≡ year → WalksAll (finding y) had left held holds tally
-    → counts.lines ≡ held_count (tally.answered + tally.passed_over) → counts.changed ≡ tally.answered → FindsAll year had left held holds counts
-FindsAll-walked year y had left held holds tally counts same walked lines changed =
-    let whole = WalksAll-at finding year y had left held holds tally same walked in
-    (whole.0, whole.1, lines ∙ lines_counted (finding year) had left held holds tally whole.0 whole.1 whole.2, changed ∙ whole.2.0)
+pub FindsDashChanges-pumped : (year y : ℤ) (in_before in_after out_before out_after : Option (List ℕ)) (tally : Tally) (counts : DashChangeCounts) → y ≡ year → PumpsAll (finding_dash_changes y) in_before in_after out_before out_after tally
+    → counts.lines ≡ held_count (tally.answered + tally.passed_over) → counts.dash_changes ≡ tally.answered → FindsDashChanges year in_before in_after out_before out_after counts
+FindsDashChanges-pumped year y in_before in_after out_before out_after tally counts same pumped lines dash_change =
+    let whole = PumpsAll-at finding_dash_changes year y in_before in_after out_before out_after tally same pumped in
+    (whole.0, whole.1, lines ∙ lines_counted (finding_dash_changes year) in_before in_after out_before out_after tally whole.0 whole.1 whole.2, dash_change ∙ whole.2.0)
 
 -- exactly one of two answers to a line is written
 one_written : (year : ℤ) (line : List ℕ) (settled refused : Answer) → (tidying year).Answers line settled → (refusing year).Answers line refused → is_answered refused ≡ is_passed_over settled
@@ -53,11 +53,11 @@ shared_out year (line ∷ lines) [] r settled s = absurd r
 shared_out year (line ∷ lines) (a ∷ refused) r [] s = absurd s
 shared_out year (line ∷ lines) (a ∷ refused) r (x ∷ settled) s = (one_written year line x a s.0 r.0, shared_out year lines refused r.1 settled s.1)
 
-pub RefusesAll-walked : (year y : ℤ) (had left held holds : Option (List ℕ)) (tally : Tally) (summary : Summary) → y ≡ year → WalksAll (refusing y) had left held holds tally
-    → summary.lines ≡ held_count (tally.answered + tally.passed_over) → summary.refused ≡ tally.answered → RefusesAll year had left held holds summary
-RefusesAll-walked year y had left held holds tally summary same walked lines refused =
-    let whole = WalksAll-at refusing year y had left held holds tally same walked in
-    (whole.0, whole.1, shared_out year whole.1.lines whole.0 whole.1.answered, lines ∙ lines_counted (refusing year) had left held holds tally whole.0 whole.1 whole.2, refused ∙ whole.2.0)
+pub RefusesAll-pumped : (year y : ℤ) (in_before in_after out_before out_after : Option (List ℕ)) (tally : Tally) (summary : Summary) → y ≡ year → PumpsAll (refusing y) in_before in_after out_before out_after tally
+    → summary.lines ≡ held_count (tally.answered + tally.passed_over) → summary.refused ≡ tally.answered → RefusesAll year in_before in_after out_before out_after summary
+RefusesAll-pumped year y in_before in_after out_before out_after tally summary same pumped lines refused =
+    let whole = PumpsAll-at refusing year y in_before in_after out_before out_after tally same pumped in
+    (whole.0, whole.1, shared_out year whole.1.lines whole.0 whole.1.answered, lines ∙ lines_counted (refusing year) in_before in_after out_before out_after tally whole.0 whole.1 whole.2, refused ∙ whole.2.0)
 
 -- ---- one line
 
@@ -69,7 +69,7 @@ AddsAnswer-tidied year y line old new bytes same utf8 valid given added =
 
 -- nothing was added for a line that has none
 pub AddsAnswer-untidied : (year y : ℤ) (line old new : List ℕ) → y ≡ year → IsTidied y (chars line) None → new ≡ old → AddsAnswer (tidying year) line old new false
-AddsAnswer-untidied year y line old new same none kept = (Omitted, (λ utf8. subst (λ (z : ℤ). IsTidied z (chars line) None) same none), kept ∙ sym (append-nil old), refl)
+AddsAnswer-untidied year y line old new same none verbatim = (Omitted, (λ utf8. subst (λ (z : ℤ). IsTidied z (chars line) None) same none), verbatim ∙ sym (append-nil old), refl)
 
 -- nor for one that is no UTF-8
 pub AddsAnswer-other : (Answers : List ℕ → Option (List ℕ) → Type 0) (Wants : List ℕ → Type 0) (line old : List ℕ) → ¬ (IsUtf8 line) → AddsAnswer record { Answers = of_texts Answers; Wants = Wants } line old old false
@@ -122,14 +122,14 @@ settled_in year text (Ok x) into h = h.first
 settled_in year text (Err fault) into h = h
 
 -- a line was added as it came
-pub AddsAnswer-changed : (year y : ℤ) (line old new : List ℕ) (differs : Bool) → y ≡ year → IsUtf8 line → differs ≡ true → IsTrue differs ↔ ReadsDifferently Either (in_utc y) (chars line) → new ≡ old ++ (line ++ 10 ∷ [])
-    → AddsAnswer (finding year) line old new differs
-AddsAnswer-changed year y line old new true same valid is tells added =
+pub AddsAnswer-dash_change : (year y : ℤ) (line old new : List ℕ) (differs : Bool) → y ≡ year → IsUtf8 line → differs ≡ true → IsTrue differs ↔ ReadsDifferently Either (in_utc y) (chars line) → new ≡ old ++ (line ++ 10 ∷ [])
+    → AddsAnswer (finding_dash_changes year) line old new differs
+AddsAnswer-dash_change year y line old new true same valid is tells added =
     (Written line, (valid, (chars line, (subst (λ (z : ℤ). ReadsDifferently Either (in_utc z) (chars line)) same (tells.0 is), refl), sym (encodes-chars line valid))), added, refl)
-AddsAnswer-changed year y line old new false same valid is tells added = cc
+AddsAnswer-dash_change year y line old new false same valid is tells added = cc
 
 -- nothing was added for a line that is read as ever
-pub AddsAnswer-unchanged : (year y : ℤ) (line old : List ℕ) (differs : Bool) → y ≡ year → differs ≡ false → IsTrue differs ↔ ReadsDifferently Either (in_utc y) (chars line) → AddsAnswer (finding year) line old old differs
+pub AddsAnswer-unchanged : (year y : ℤ) (line old : List ℕ) (differs : Bool) → y ≡ year → differs ≡ false → IsTrue differs ↔ ReadsDifferently Either (in_utc y) (chars line) → AddsAnswer (finding_dash_changes year) line old old differs
 AddsAnswer-unchanged year y line old true same is tells = cc
 AddsAnswer-unchanged year y line old false same is tells =
     (Omitted, (λ utf8 reads. absurd (false≢true (tells.1 (subst (λ (z : ℤ). ReadsDifferently Either (in_utc z) (chars line)) (sym same) reads)))), sym (append-nil old), refl)

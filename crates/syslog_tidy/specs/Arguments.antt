@@ -2,7 +2,7 @@
 use Rattle.std.specs.Prelude.{◌≡◌, ◌⊎◌, ℕ, ℤ, List, [], ◌∷◌, ◌++◌}
 use Rattle.syslog_lines.specs.Arguments.{AreYearWords, help_word, version_word}
 use Rattle.syslog_tidy.specs.declared.args.Output.{Output}
-use Rattle.syslog_tidy.specs.declared.args.Output.TheVariants.{Settled, Changed, Refused}
+use Rattle.syslog_tidy.specs.declared.args.Output.TheVariants.{Settled, DashChange, Refused}
 use Rattle.syslog_tidy.specs.declared.args.Task.{Task}
 use Rattle.syslog_tidy.specs.declared.args.Task.TheVariants.{Help, Version, Lines}
 
@@ -17,7 +17,7 @@ refused_word = 45 ∷ 45 ∷ 114 ∷ 101 ∷ 102 ∷ 117 ∷ 115 ∷ 101 ∷ 100
 -- the flag that asks for an output, if any
 abbrev pub flags_of : Output → List (List ℕ)
 flags_of Settled = []
-flags_of Changed = changed_word ∷ []
+flags_of DashChange = changed_word ∷ []
 flags_of Refused = refused_word ∷ []
 
 -- no other output's flag begins the words

@@ -3,15 +3,15 @@ use Rattle.std.specs.Prelude.{◌≡◌, ℕ, ℤ, List, Option, Some, None, len
 use Rattle.std.specs.Io.KnownBytes.{Appends}
 use Rattle.std.specs.List.{AllZip}
 use Rattle.std.specs.Str.{chars}
-use Rattle.syslog_loose.specs.Dash.{ReadsDifferently}
+use Rattle.syslog_loose.specs.DashChange.{ReadsDifferently}
 use Rattle.syslog_loose.specs.Reading.{IsUnreadable, in_utc}
 use Rattle.syslog_loose.specs.Settling.{IsFirstSettled}
 use Rattle.syslog_loose.specs.declared.variant.Variant.TheVariants.{Either}
 use Rattle.syslog_lines.specs.Count.{held_count}
 use Rattle.syslog_lines.specs.Lines.{IsLines}
 use Rattle.syslog_lines.specs.Output.{Answer, AreAnswers, Filter, Marked, Omitted, Written, is_answered, is_passed_over, output_of}
-use Rattle.syslog_lines.specs.Walk.{FiltersAll}
-use Rattle.syslog_tidy.specs.declared.counts.Changed.{Changed}
+use Rattle.syslog_lines.specs.Pump.{FiltersAll}
+use Rattle.syslog_tidy.specs.declared.counts.DashChangeCounts.{DashChangeCounts}
 use Rattle.syslog_lines.specs.declared.summary.Summary.{Summary}
 
 -- the answer to a line by that to its text: encoded, or none where there is none or the line is no UTF-8
@@ -30,13 +30,13 @@ abbrev pub tidying : ℤ → Filter
 tidying year = record { Answers = of_texts (IsTidied year); Wants = λ line. IsUtf8 line × (¬ (IsUnreadable Either (in_utc year) (chars line))) }
 
 -- the answer is the text itself where it is read differently in this year under the two rules of the dash, or none
-abbrev pub IsChanged : ℤ → List ℕ → Option (List ℕ) → Type 0
-IsChanged year text (Some answer) = ReadsDifferently Either (in_utc year) text × (answer ≡ text)
-IsChanged year text None = ¬ (ReadsDifferently Either (in_utc year) text)
+abbrev pub IsDashChange : ℤ → List ℕ → Option (List ℕ) → Type 0
+IsDashChange year text (Some answer) = ReadsDifferently Either (in_utc year) text × (answer ≡ text)
+IsDashChange year text None = ¬ (ReadsDifferently Either (in_utc year) text)
 
 -- memory may be wanted for a text that has an answer
-abbrev pub finding : ℤ → Filter
-finding year = record { Answers = of_texts (IsChanged year); Wants = λ line. IsUtf8 line × (¬ (IsChanged year (chars line) None)) }
+abbrev pub finding_dash_changes : ℤ → Filter
+finding_dash_changes year = record { Answers = of_texts (IsDashChange year); Wants = λ line. IsUtf8 line × (¬ (IsDashChange year (chars line) None)) }
 
 -- the answer is the line itself where nothing is written for it by `tidying`, and none where something is
 abbrev pub IsRefused : ℤ → List ℕ → Answer → Type 0
@@ -50,7 +50,7 @@ refusing year = record { Answers = IsRefused year; Wants = λ line. ⊤ }
 
 -- all was read and written, and the summary counts the lines and those without an answer
 abbrev pub TidiesAll : ℤ → Option (List ℕ) → Option (List ℕ) → Option (List ℕ) → Option (List ℕ) → Summary → Type 0
-TidiesAll year had left held holds summary = (answers : List Answer) × (all : FiltersAll (tidying year) had left held holds answers)
+TidiesAll year in_before in_after out_before out_after summary = (answers : List Answer) × (all : FiltersAll (tidying year) in_before in_after out_before out_after answers)
     × (summary.lines ≡ held_count (length all.lines)) × (summary.refused ≡ held_count (count_by is_passed_over answers))
 
 -- these bytes are what is written in the year for the lines of some bytes
@@ -60,12 +60,12 @@ IsOutput year output = (bytes : List ℕ) × (lines : List (List ℕ)) × (answe
 
 -- where the input is what was written in the same year, it was written again, and no line was refused
 abbrev pub WritesAgain : ℤ → Option (List ℕ) → Option (List ℕ) → Option (List ℕ) → Summary → Type 0
-WritesAgain year had held holds summary = (output : List ℕ) → had ≡ Some output → IsOutput year output → Appends held holds output × (summary.refused ≡ 0)
+WritesAgain year in_before out_before out_after summary = (output : List ℕ) → in_before ≡ Some output → IsOutput year output → Appends out_before out_after output × (summary.refused ≡ 0)
 
 -- all was read and written, and the counts are those of the lines and of those with an answer
-abbrev pub FindsAll : ℤ → Option (List ℕ) → Option (List ℕ) → Option (List ℕ) → Option (List ℕ) → Changed → Type 0
-FindsAll year had left held holds counts = (answers : List Answer) × (all : FiltersAll (finding year) had left held holds answers)
-    × (counts.lines ≡ held_count (length all.lines)) × (counts.changed ≡ held_count (count_by is_answered answers))
+abbrev pub FindsDashChanges : ℤ → Option (List ℕ) → Option (List ℕ) → Option (List ℕ) → Option (List ℕ) → DashChangeCounts → Type 0
+FindsDashChanges year in_before in_after out_before out_after counts = (answers : List Answer) × (all : FiltersAll (finding_dash_changes year) in_before in_after out_before out_after answers)
+    × (counts.lines ≡ held_count (length all.lines)) × (counts.dash_changes ≡ held_count (count_by is_answered answers))
 
 -- of each of these lines exactly one is written: what `tidying` answers, or the line as it came
 abbrev pub SharesOut : ℤ → List (List ℕ) → List Answer → Type 0
@@ -75,5 +75,5 @@ SharesOut year lines refused =
 -- all was read and written, the lines are shared out with those that `tidying` answers, and the summary counts the lines
 -- and those that were written
 abbrev pub RefusesAll : ℤ → Option (List ℕ) → Option (List ℕ) → Option (List ℕ) → Option (List ℕ) → Summary → Type 0
-RefusesAll year had left held holds summary = (answers : List Answer) × (all : FiltersAll (refusing year) had left held holds answers)
+RefusesAll year in_before in_after out_before out_after summary = (answers : List Answer) × (all : FiltersAll (refusing year) in_before in_after out_before out_after answers)
     × SharesOut year all.lines answers × (summary.lines ≡ held_count (length all.lines)) × (summary.refused ≡ held_count (count_by is_answered answers))

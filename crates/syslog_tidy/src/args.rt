@@ -15,7 +15,7 @@ pub enum Output {
     /// Each line that has a settled text, as that text.
     Settled,
     /// Each that is read differently under the two rules of the dash, as it came.
-    Changed,
+    DashChange,
     /// Each that has no settled text, as it came.
     Refused,
 }
@@ -37,7 +37,7 @@ fn read_flag<'a, 'b>(args: &'a [&'b str]) -> (Output, &'a [&'b str])
     ensures only { OnlyFlag (map (λ arg. arg.now) args.now) result.0 }
 {
     match args {
-        [word, rest @ ..] if *word == "--changed" => (Output::Changed, rest),
+        [word, rest @ ..] if *word == "--changed" => (Output::DashChange, rest),
         [word, rest @ ..] if *word == "--refused" => (Output::Refused, rest),
         _ => (Output::Settled, args),
     }

@@ -6,16 +6,16 @@
 #![tactic(auto)]
 
 mod args;
-mod changed;
+mod dash_change;
 mod counts;
 mod refused;
 mod report;
 mod run;
 
 use args::{Output, Task, arguments};
-use changed::changed;
+use dash_change::dash_change;
 use refused::refused;
-use report::{help, report_changed, usage, version};
+use report::{help, report_dash_change, usage, version};
 use run::run;
 use std::process::ExitCode;
 use syslog_lines::Watched;
@@ -33,9 +33,9 @@ fn answer_input(rt: &HostRuntime, output: Output, year: i32) -> u8 {
             let outcome = run(rt.alloc(), &mut reader, &mut writer, year);
             report(&outcome, &mut rt.stderr())
         }
-        Output::Changed => {
-            let outcome = changed(rt.alloc(), &mut reader, &mut writer, year);
-            report_changed(&outcome, &mut rt.stderr())
+        Output::DashChange => {
+            let outcome = dash_change(rt.alloc(), &mut reader, &mut writer, year);
+            report_dash_change(&outcome, &mut rt.stderr())
         }
         Output::Refused => {
             let outcome = refused(rt.alloc(), &mut reader, &mut writer, year);

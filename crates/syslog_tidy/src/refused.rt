@@ -1,12 +1,12 @@
 //! The filter that writes the lines for which the others write nothing.
 ghost use Rattle.std.specs.Prelude.{◌≡◌, false, IfOk, IfErr};
 ghost use Rattle.syslog_tidy.specs.Filters.{RefusesAll, refusing};
-ghost use Rattle.syslog_lines.specs.Walk.{EndsEarly, FailedAs};
+ghost use Rattle.syslog_lines.specs.Pump.{EndsEarly, FailedAs};
 
 use crate::run::settle_line;
 use std::alloc::{AllocError, Global};
 use std::io::{Read, Write};
-use syslog_lines::walk::walk;
+use syslog_lines::pump::pump;
 use syslog_lines::{LineFilter, RunFault, Summary, Watched, push_line};
 use syslog_loose::ParseFault;
 
@@ -29,7 +29,7 @@ pub fn refused<R: Read, W: Write>(
         (W.contents writer.old.inner) (W.contents writer.new.inner) fault) }
     ensures failed { FailedAs result reader.new.failed writer.new.failed }
 {
-    let tally = walk(alloc, &Refusals { year }, reader, writer)?;
+    let tally = pump(alloc, &Refusals { year }, reader, writer)?;
     Ok(Summary {
         lines: tally.lines(),
         refused: tally.answered,

@@ -2,7 +2,7 @@
 ghost use Rattle.std.specs.Prelude.{◌≡◌, ◌⊎◌};
 ghost use Rattle.syslog_lines.specs.Report.{status_of};
 
-use crate::counts::Changed;
+use crate::counts::DashChangeCounts;
 use std::io::Write;
 use syslog_lines::RunFault;
 use syslog_lines::report::{refuse, report_count, report_fault, say};
@@ -26,11 +26,11 @@ The status is 0; 1 where lines were refused, or changed; 2 after a fault.
 
 /// Writes how many lines changed, or the fault's text, and answers the exit status: 0 where no line changed, 1 where some
 /// did, 2 after a fault. Where none changed nothing is written. A failed write is passed over.
-pub fn report_changed<W: Write>(outcome: &Result<Changed, RunFault>, errors: &mut W) -> u8
-    ensures { result ≡ status_of (λ counts. counts.changed) outcome.now }
+pub fn report_dash_change<W: Write>(outcome: &Result<DashChangeCounts, RunFault>, errors: &mut W) -> u8
+    ensures { result ≡ status_of (λ counts. counts.dash_changes) outcome.now }
 {
     match outcome {
-        Ok(counts) => report_count("changed", counts.changed, counts.lines, errors),
+        Ok(counts) => report_count("changed", counts.dash_changes, counts.lines, errors),
         Err(fault) => report_fault(*fault, errors),
     }
 }

@@ -5,11 +5,11 @@ ghost use Rattle.syslog_loose.specs.Reading.{IsUnreadable, in_utc};
 ghost use Rattle.syslog_loose.specs.declared.fault.ParseFault.TheVariants.{Invalid};
 ghost use Rattle.syslog_loose.specs.declared.variant.Variant.TheVariants.{Either};
 ghost use Rattle.syslog_tidy.specs.Filters.{IsTidied, TidiesAll, WritesAgain, tidying};
-ghost use Rattle.syslog_lines.specs.Walk.{EndsEarly, FailedAs};
+ghost use Rattle.syslog_lines.specs.Pump.{EndsEarly, FailedAs};
 
 use std::alloc::{AllocError, Global};
 use std::io::{Read, Write};
-use syslog_lines::walk::walk;
+use syslog_lines::pump::pump;
 use syslog_lines::{LineFilter, RunFault, Summary, Watched, push_line};
 use syslog_loose::{IncompleteDate, ParseFault, TimeZone, Variant, settle_into};
 
@@ -39,7 +39,7 @@ pub fn run<R: Read, W: Write>(
         (W.contents writer.old.inner) (W.contents writer.new.inner) fault) }
     ensures failed { FailedAs result reader.new.failed writer.new.failed }
 {
-    let tally = walk(alloc, &Tidy { year }, reader, writer)?;
+    let tally = pump(alloc, &Tidy { year }, reader, writer)?;
     Ok(Summary {
         lines: tally.lines(),
         refused: tally.passed_over,

@@ -1,7 +1,7 @@
 //! What no clause says: worked lines, printed texts, and readers and writers that give little or fail.
 ghost use Rattle.std.specs.Prelude.{◌≡◌, ◌≤◌, false};
 
-mod changed;
+mod dash_change;
 mod refused;
 mod sizes;
 
@@ -372,7 +372,7 @@ fn years(rt: HostRuntime) {
 fn arguments(rt: HostRuntime) {
     assert!(rt; read_args(&["2019"]) == Some((Output::Settled, 2019)));
     assert!(rt; read_args(&["--", "2019"]) == Some((Output::Settled, 2019)));
-    assert!(rt; read_args(&["--changed", "2019"]) == Some((Output::Changed, 2019)));
+    assert!(rt; read_args(&["--changed", "2019"]) == Some((Output::DashChange, 2019)));
     assert!(rt; read_args(&["--refused", "2019"]) == Some((Output::Refused, 2019)));
     assert!(rt; read_args(&["--refused", "--", "2019"]) == Some((Output::Refused, 2019)));
     assert!(rt; read_args(&[]).is_none());

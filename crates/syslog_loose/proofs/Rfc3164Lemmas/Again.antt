@@ -1,23 +1,23 @@
--- What was read as RFC 3164 without a listed miss prints as a text that is read as a message that prints the same.
+-- What was read as RFC 3164 without an exception prints as a text that is read as a message that prints the same.
 use Rattle.std.proofs.Common.{◌≡◌, ℕ, ◌∷◌, ◌++◌, refl, sym, ap, ◌∙◌}
 use Rattle.std.specs.Fmt.{decimal}
 use Rattle.syslog_pieces.specs.Pieces.Class.{Text}
 use Rattle.syslog_pieces.specs.Text.{name_text}
 use Rattle.syslog_pieces.specs.Timestamp.Zone.{Dating}
-use Rattle.syslog_pieces.specs.declared.structured_data.listed.DashRule.{DashRule}
+use Rattle.syslog_pieces.specs.declared.structured_data.rfc3164_list.DashRule.{DashRule}
 use Rattle.syslog_loose.specs.Canonical.{IsBounded, IsCanonical}
-use Rattle.syslog_loose.specs.ListedMisses.{HasNoMiss}
+use Rattle.syslog_loose.specs.Exceptions.{HasNoException}
 use Rattle.syslog_loose.specs.Message.{MessageValue}
 use Rattle.syslog_loose.specs.Printed.{printed, printed_3164, timestamp_text, tag_text, spaced_elements}
 use Rattle.syslog_loose.specs.Rfc3164.{IsRead3164}
 use Rattle.syslog_loose.specs.declared.message.Protocol.TheVariants.{RFC3164}
 use Rattle.syslog_loose.proofs.Rfc3164Lemmas.Bounded.{read_bounded}
-use Rattle.syslog_loose.proofs.Rfc3164Lemmas.Misses.{near_canonical}
+use Rattle.syslog_loose.proofs.Rfc3164Lemmas.Exceptions.{near_canonical}
 use Rattle.syslog_loose.proofs.Rfc3164Lemmas.Near.{read_near}
 use Rattle.syslog_loose.proofs.Rfc3164Lemmas.Printed.{printed_is}
 use Rattle.syslog_loose.proofs.Rfc5424Lemmas.ReadBack.{completed, priority_same}
 
-completed_canonical : (rule : DashRule) (dating : Dating) (text : Text) (m : MessageValue) → IsRead3164 rule dating text m → HasNoMiss rule m → IsCanonical rule (completed m)
+completed_canonical : (rule : DashRule) (dating : Dating) (text : Text) (m : MessageValue) → IsRead3164 rule dating text m → HasNoException rule m → IsCanonical rule (completed m)
 completed_canonical rule dating text m r none =
     let near = read_near rule dating text m r in
     near_canonical rule (completed m) (
@@ -38,7 +38,7 @@ completed_canonical rule dating text m r none =
         };
       },
       record {
-        plain_timestamp = none.plain_timestamp;
+        canonical_timestamp = none.canonical_timestamp;
         host_is_no_dash = none.host_is_no_dash;
         host_ends_in_no_colon = none.host_ends_in_no_colon;
         process_has_no_colon = none.process_has_no_colon;
@@ -57,7 +57,7 @@ printed_again m e =
     ++ (32 ∷ (tag_text m.appname m.procid ++ (spaced_elements m.structured_data ++ m.msg))))))))) (priority_same m.facility m.severity)
     ∙ sym (printed_is m e)
 
-pub read_again : (rule : DashRule) (dating : Dating) (text : Text) (m : MessageValue) → IsRead3164 rule dating text m → HasNoMiss rule m
+pub read_again : (rule : DashRule) (dating : Dating) (text : Text) (m : MessageValue) → IsRead3164 rule dating text m → HasNoException rule m
     → IsCanonical rule (completed m) × IsBounded (completed m) × (printed (completed m) ≡ printed m)
 read_again rule dating text m r none = (
   completed_canonical rule dating text m r none,

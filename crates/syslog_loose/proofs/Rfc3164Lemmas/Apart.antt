@@ -7,10 +7,10 @@ use Rattle.syslog_pieces.specs.Pieces.Class.{Text, Values, Division, Front, Each
 use Rattle.syslog_pieces.specs.Pri.{priority}
 use Rattle.syslog_pieces.specs.Text.{trimmed, is_blank, number}
 use Rattle.syslog_pieces.specs.Timestamp.{header_stamp}
-use Rattle.syslog_pieces.specs.Timestamp.Loose.{loose_stamp, showing_row, ShowsMonthDate}
+use Rattle.syslog_pieces.specs.Timestamp.Rfc3164.{rfc3164_stamp, showing_row, ShowsMonthDate}
 use Rattle.syslog_pieces.specs.Timestamp.MonthDate.{month_date}
 use Rattle.syslog_pieces.specs.Timestamp.Zone.{Dating}
-use Rattle.syslog_pieces.specs.declared.structured_data.listed.DashRule.{DashRule}
+use Rattle.syslog_pieces.specs.declared.structured_data.rfc3164_list.DashRule.{DashRule}
 use Rattle.syslog_pieces.specs.declared.timestamp.OffsetTimestamp.{OffsetTimestamp}
 use Rattle.syslog_pieces.specs.declared.timestamp.month_date.MonthDate.{MonthDate}
 use Rattle.syslog_pieces.proofs.PieceLemmas.Class.{run_same, rest_same, front_same, optional_det, division_front}
@@ -76,11 +76,11 @@ date_apart p q d h v =
     begins_apart (p ++ q) (λ c l k. let t = digit_range c k in omega arith) (month_date_begins p q d h)
     (number_begins 4294967295 v.number)
 
-loose_apart : (dating : Dating) (p q : Text) (v : Option OffsetTimestamp) → (loose_stamp dating).Is p q v
+rfc3164_apart : (dating : Dating) (p q : Text) (v : Option OffsetTimestamp) → (rfc3164_stamp dating).Is p q v
     → Versioned (p ++ q) → ⊥
-loose_apart dating p q v (inl h) n = stamp_apart p q v h n
-loose_apart dating p q None (inr h) n = absurd h
-loose_apart dating p q (Some s) (inr (d, h, stamp)) n = date_apart p q d h n
+rfc3164_apart dating p q v (inl h) n = stamp_apart p q v h n
+rfc3164_apart dating p q None (inr h) n = absurd h
+rfc3164_apart dating p q (Some s) (inr (d, h, stamp)) n = date_apart p q d h n
 
 -- ---- divisions of both kinds
 
@@ -108,7 +108,7 @@ not_both rule dating text vs ws d e =
     let (t1, g1, (_, g2, more)) = row_pieces (rfc3164_row rule dating) (division_front (rfc3164_row rule dating) e) in
     let (t3, g3, _) = more in
     let v = moved g2 (versioned text t1 ws.0 vs d g1) in
-    loose_apart dating g3.piece t3 ws.1.1.0 g3.is (subst Versioned g3.whole v)
+    rfc3164_apart dating g3.piece t3 ws.1.1.0 g3.is (subst Versioned g3.whole v)
 
 -- a text that shows a month date has no division of RFC 5424
 pub shown_apart : (text : Text) (d : MonthDate) → ShowsMonthDate text d → IsNot5424 text

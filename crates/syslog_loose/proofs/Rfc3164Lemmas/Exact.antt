@@ -7,25 +7,25 @@ use Rattle.std.specs.Option.{option_and_then}
 use Rattle.syslog_pieces.specs.Pieces.Class.{Text, Values, Front, NoFront, Row, Ends, run, exactly, optional, spaced}
 use Rattle.syslog_pieces.specs.Pri.{priority, facility_of}
 use Rattle.syslog_pieces.specs.StructuredData.Element.{ElementValue}
-use Rattle.syslog_pieces.specs.StructuredData.Listed.{IsListed, BeginsNoList, listed, elements_or}
+use Rattle.syslog_pieces.specs.StructuredData.Rfc3164List.{IsRfc3164List, BeginsNoList, rfc3164_list, elements_or}
 use Rattle.syslog_pieces.specs.Text.{is_blank, is_tag_char, dash, colon, name_text, IsHost, host, tag_word}
-use Rattle.syslog_pieces.specs.Timestamp.Loose.{loose_stamp}
-use Rattle.syslog_pieces.specs.Timestamp.Plain.{IsPlainStamp}
+use Rattle.syslog_pieces.specs.Timestamp.Rfc3164.{rfc3164_stamp}
+use Rattle.syslog_pieces.specs.Timestamp.Canonical.{IsCanonicalStamp}
 use Rattle.syslog_pieces.specs.Timestamp.Printed.{printed_stamp}
 use Rattle.syslog_pieces.specs.Timestamp.Zone.{Dating}
 use Rattle.syslog_pieces.specs.declared.procid.ProcId.{ProcId}
-use Rattle.syslog_pieces.specs.declared.structured_data.listed.DashRule.{DashRule}
+use Rattle.syslog_pieces.specs.declared.structured_data.rfc3164_list.DashRule.{DashRule}
 use Rattle.syslog_pieces.specs.declared.timestamp.OffsetTimestamp.{OffsetTimestamp}
 use Rattle.syslog_pieces.proofs.PieceLemmas.Class.{run_same, rest_same, heads, row_head, division_front, optional_det, optional_some, exactly_det, run_det, spaced_det, spaced_parts, rest_whole}
 use Rattle.syslog_pieces.proofs.PieceLemmas.Kinds.{Begins, begins_apart, begins_more, begins_with}
 use Rattle.syslog_pieces.proofs.PieceLemmas.Steps.{piece_front, step, step_value, front_longer, absent_none, present_front}
 use Rattle.syslog_pieces.proofs.PriLemmas.{priority_det, priority_composed}
-use Rattle.syslog_pieces.proofs.StructuredDataLemmas.Listed.{begins_no_list}
+use Rattle.syslog_pieces.proofs.StructuredDataLemmas.Rfc3164List.{begins_no_list}
 use Rattle.syslog_pieces.proofs.TextLemmas.Words.{host_det, tag_word_det}
-use Rattle.syslog_pieces.proofs.TimestampLemmas.Loose.{IsLow, loose_stamp_det, stamped_date_begins}
-use Rattle.syslog_pieces.proofs.TimestampLemmas.RoundTrip.{stamp_text-plain, printed_stamp-begins}
-use Rattle.syslog_loose.specs.Canonical.{IsBounded, IsPlainHost, ArePlainNames, IsPlain3164, IsPlainFor, IsCanonical}
-use Rattle.syslog_loose.specs.ListedMisses.{is_no_colon, HasNoColon, IsNear}
+use Rattle.syslog_pieces.proofs.TimestampLemmas.Rfc3164.{IsLow, rfc3164_stamp_det, stamped_date_begins}
+use Rattle.syslog_pieces.proofs.TimestampLemmas.RoundTrip.{stamp_text-canonical, printed_stamp-begins}
+use Rattle.syslog_loose.specs.Canonical.{IsBounded, IsCanonicalHost, AreCanonicalNames, IsCanonical3164, IsCanonicalFor, IsCanonical}
+use Rattle.syslog_loose.specs.Exceptions.{is_no_colon, HasNoColon, HasExceptionsAlone}
 use Rattle.syslog_loose.specs.Message.{MessageValue}
 use Rattle.syslog_loose.specs.Printed.{timestamp_text, priority_of, printed_3164, printed}
 use Rattle.syslog_loose.specs.Rfc3164.{Names3164, names, NamesProgram, Resolves, body_row, rfc3164_row, IsRead3164}
@@ -33,7 +33,7 @@ use Rattle.syslog_loose.specs.declared.message.Protocol.{Protocol}
 use Rattle.syslog_loose.specs.declared.message.Protocol.TheVariants.{RFC3164}
 use Rattle.syslog_loose.proofs.PriorityLemmas.{priority_low, priority_front, priority_small}
 use Rattle.syslog_loose.proofs.Rfc3164Lemmas.Apart.{digit_range}
-use Rattle.syslog_loose.proofs.Rfc3164Lemmas.Misses.{plain_names}
+use Rattle.syslog_loose.proofs.Rfc3164Lemmas.Exceptions.{canonical_names}
 use Rattle.syslog_pieces.proofs.PieceLemmas.Each.{each_right, each_append}
 use Rattle.syslog_loose.proofs.Rfc3164Lemmas.Near.{TagField, tag_field, form_parts, no_colon_process, severity_beside, read_near, some_same}
 use Rattle.syslog_loose.proofs.Rfc3164Lemmas.Printed.{printed_is}
@@ -46,10 +46,10 @@ use Rattle.syslog_pieces.proofs.PieceLemmas.Rows.{row_pieces}
 
 -- ---- the host
 
--- a host that was read as the text printed before a space is plain
-host_kept : (h p q u : Text) → p ++ q ≡ h ++ (32 ∷ u) → IsHost p q (Some h) → IsPlainHost h
-host_kept h p q u e (l, a, inl (n, b, (w, d))) = subst IsPlainHost (sym w) ((l, a), d, n)
-host_kept h p q u e (l, a, inr (r, w, b, z)) =
+-- a host that was read as the text printed before a space is canonical
+host_stays : (h p q u : Text) → p ++ q ≡ h ++ (32 ∷ u) → IsHost p q (Some h) → IsCanonicalHost h
+host_stays h p q u e (l, a, inl (n, b, (w, d))) = subst IsCanonicalHost (sym w) ((l, a), d, n)
+host_stays h p q u e (l, a, inr (r, w, b, z)) =
     let s : p ≡ h = sym (some_same h p z) in
     let t : q ≡ 32 ∷ u = rest_same p q h (32 ∷ u) e s in
     absurd (let y : ◌≡◌ {A = ℕ} 58 32 = heads 58 32 r u (sym w ∙ t) in omega arith)
@@ -122,16 +122,16 @@ host_field_parts t q x f =
     let (r, e, g) = spaced_parts host (present_front (spaced host) f) in
     let same : t ≡ r = cc in subst (λ (y : Text). Front host y q x) (sym same) g
 
-host_plain : (origin : Option Text) (v t : Option (Option Text)) (n : Names3164) (q u : Text) → n.hostname ≡ origin → Resolves v t n → Front (optional (spaced host)) (32 ∷ (name_text origin ++ (32 ∷ u))) q v → IfSome origin IsPlainHost
-host_plain None v t n q u e r f = tt
-host_plain (Some h) v t n q u e r f = kept v (host_of v t n h r e) f
+host_canonical : (origin : Option Text) (v t : Option (Option Text)) (n : Names3164) (q u : Text) → n.hostname ≡ origin → Resolves v t n → Front (optional (spaced host)) (32 ∷ (name_text origin ++ (32 ∷ u))) q v → IfSome origin IsCanonicalHost
+host_canonical None v t n q u e r f = tt
+host_canonical (Some h) v t n q u e r f = stays v (host_of v t n h r e) f
   where
-    kept : (v : Option (Option Text)) → IsHostOf v h → Front (optional (spaced host)) (32 ∷ (h ++ (32 ∷ u))) q v → IsPlainHost h
-    kept None w g = absurd w
-    kept (Some None) w g = absurd w
-    kept (Some (Some x)) w g =
+    stays : (v : Option (Option Text)) → IsHostOf v h → Front (optional (spaced host)) (32 ∷ (h ++ (32 ∷ u))) q v → IsCanonicalHost h
+    stays None w g = absurd w
+    stays (Some None) w g = absurd w
+    stays (Some (Some x)) w g =
         let k = host_field_parts (h ++ (32 ∷ u)) q (Some x) g in
-        host_kept h k.piece q u (sym k.whole) (subst (λ (y : Text). IsHost k.piece q (Some y)) (sym w) k.is)
+        host_stays h k.piece q u (sym k.whole) (subst (λ (y : Text). IsHost k.piece q (Some y)) (sym w) k.is)
 
 dash_holds : (v : Option (Option Text)) (q u : Text) → Front (optional (spaced host)) (32 ∷ (dash ++ (32 ∷ u))) q v → HoldsNoText v
 dash_holds None q u f = tt
@@ -146,22 +146,22 @@ stamp_low s =
     let (c, more, digit, first) = printed_stamp-begins s in
     elim first [ inl e ↦ begins_with IsLow c text more e (digit_range c digit).1 | inr e ↦ begins_with IsLow 45 text (c ∷ more) e (omega arith) ]
 
--- a timestamp that was read as the printed text of it is plain
-stamp_plain : (dating : Dating) (v : Option OffsetTimestamp) (q u : Text) → Front (loose_stamp dating) (timestamp_text v ++ (32 ∷ u)) q v → IfSome v IsPlainStamp
-stamp_plain dating None q u f = tt
-stamp_plain dating (Some s) q u f = kind f.is
+-- a timestamp that was read as the printed text of it is canonical
+stamp_canonical : (dating : Dating) (v : Option OffsetTimestamp) (q u : Text) → Front (rfc3164_stamp dating) (timestamp_text v ++ (32 ∷ u)) q v → IfSome v IsCanonicalStamp
+stamp_canonical dating None q u f = tt
+stamp_canonical dating (Some s) q u f = kind f.is
   where
-    kind : (loose_stamp dating).Is f.piece q (Some s) → IsPlainStamp s
-    kind (inl h) = stamp_text-plain f.piece s h.0
+    kind : (rfc3164_stamp dating).Is f.piece q (Some s) → IsCanonicalStamp s
+    kind (inl h) = stamp_text-canonical f.piece s h.0
     kind (inr h) =
         absurd (begins_apart (f.piece ++ q) (λ c l k. omega arith) (subst (λ (y : Text). Begins IsLow y) f.whole (begins_more IsLow (timestamp_text (Some s)) (32 ∷ u) (stamp_low s))) (stamped_date_begins dating f.piece q (Some s) h))
 
 -- ---- the list
-list_none : (rule : DashRule) (msg q : Text) (v : Option (List ElementValue)) → Front (optional (listed rule)) msg q v → elements_or v ≡ [] → length msg ≤ length q → NoFront (listed rule) msg
-list_none rule msg q None f e l = absent_none (listed rule) f
+list_none : (rule : DashRule) (msg q : Text) (v : Option (List ElementValue)) → Front (optional (rfc3164_list rule)) msg q v → elements_or v ≡ [] → length msg ≤ length q → NoFront (rfc3164_list rule) msg
+list_none rule msg q None f e l = absent_none (rfc3164_list rule) f
 list_none rule msg q (Some es) f e l = absurd (taken f.piece f.is f.whole)
   where
-    taken : (p : Text) → IsListed rule p q es → msg ≡ p ++ q → ⊥
+    taken : (p : Text) → IsRfc3164List rule p q es → msg ≡ p ++ q → ⊥
     taken p (inl (d, a, z)) w = let y = ap length (w ∙ ap (λ (x : Text). x ++ q) d) in omega arith
     taken p (inr (m, z)) w = let y = ap length e in omega arith
 
@@ -171,7 +171,7 @@ end_list : (rule : DashRule) (es : List ElementValue) (msg : Text) (vs : Values 
 end_list rule (e ∷ es) msg vs n h k w d = absurd (let t : e ∷ es ≡ [] = n in cc)
 end_list rule [] msg vs n h k w d =
     let d9 : Front (Row (from_list rule)) msg [] vs.1 = step (run is_blank) (from_list rule) (run_det is_blank) {t = message_end msg} {q = msg} {v = tt} (message_blanks msg h) d in
-    let (t9, g9, (t10, g10, (_, g11, _))) = row_pieces (optional (listed rule) ∷ from_gap) d9 in
+    let (t9, g9, (t10, g10, (_, g11, _))) = row_pieces (optional (rfc3164_list rule) ∷ from_gap) d9 in
     let e : msg ≡ t10 = w ∙ sym (rest_whole g11) in
     begins_no_list rule msg (list_none rule msg t9 vs.1.0 g9 (sym k) (let a = front_longer (run is_blank) g10 in let c = ap length e in omega arith))
 
@@ -183,9 +183,9 @@ facility_there pri h = let (f, s, there, told, whole) = priority_composed pri h 
 
 -- ---- the message
 module _ (rule : DashRule) (dating : Dating) (m : MessageValue) (b : IsBounded m) where
-  module _ (v : Values (rfc3164_row rule dating)) (n : Names3164) (resolves : Resolves v.1.1.1.0 v.1.1.1.1.0 n) (means : m ≡ told rule dating v n) (near : IsNear m) where
-    fields_plain : Front (Row (rfc3164_row rule dating)) (whole m (tail_text m.structured_data m.msg)) [] v → IsCanonical rule m
-    fields_plain d =
+  module _ (v : Values (rfc3164_row rule dating)) (n : Names3164) (resolves : Resolves v.1.1.1.0 v.1.1.1.1.0 n) (means : m ≡ told rule dating v n) (near : HasExceptionsAlone m) where
+    fields_canonical : Front (Row (rfc3164_row rule dating)) (whole m (tail_text m.structured_data m.msg)) [] v → IsCanonical rule m
+    fields_canonical d =
         let t : Text = tail_text m.structured_data m.msg in
         let u : Text = program_text m.appname m.procid ++ (58 ∷ t) in
         let y : Text = name_text m.hostname ++ (32 ∷ u) in
@@ -195,14 +195,14 @@ module _ (rule : DashRule) (dating : Dating) (m : MessageValue) (b : IsBounded m
         let pri_is : v.0 ≡ Some p = step_value (optional priority) (from_priority_end rule dating) (optional_det priority priority_det) pri d in
         let d2 : Front (Row (from_priority_end rule dating)) (32 ∷ x2) [] v.1 = step (optional priority) (from_priority_end rule dating) (optional_det priority priority_det) pri d in
         let d3 : Front (Row (from_stamp rule dating)) x2 [] v.1.1 = step (run is_blank) (from_stamp rule dating) (run_det is_blank) {t = 32 ∷ x2} {q = x2} {v = tt} (piece_front (run is_blank) (32 ∷ []) x2 tt ((refl, tt), stamp_unblank m.timestamp (32 ∷ y))) d2 in
-        let g3 = row_head (loose_stamp dating) (body_row rule) d3 in
+        let g3 = row_head (rfc3164_stamp dating) (body_row rule) d3 in
         let stamp : m.timestamp ≡ v.1.1.0 = ap (λ (x : MessageValue). x.timestamp) means in
-        let plain : IfSome m.timestamp IsPlainStamp = stamp_plain dating m.timestamp g3.0 y (subst (λ (x : Option OffsetTimestamp). Front (loose_stamp dating) x2 g3.0 x) (sym stamp) g3.1) in
-        let d4 : Front (Row (body_row rule)) (32 ∷ y) [] v.1.1.1 = step (loose_stamp dating) (body_row rule) (loose_stamp_det dating) {t = x2} {q = 32 ∷ y} {v = m.timestamp} (stamp_back dating m.timestamp y plain) d3 in
+        let canonical : IfSome m.timestamp IsCanonicalStamp = stamp_canonical dating m.timestamp g3.0 y (subst (λ (x : Option OffsetTimestamp). Front (rfc3164_stamp dating) x2 g3.0 x) (sym stamp) g3.1) in
+        let d4 : Front (Row (body_row rule)) (32 ∷ y) [] v.1.1.1 = step (rfc3164_stamp dating) (body_row rule) (rfc3164_stamp_det dating) {t = x2} {q = 32 ∷ y} {v = m.timestamp} (stamp_back dating m.timestamp y canonical) d3 in
         let g4 = row_head (optional (spaced host)) (from_tag rule) d4 in
         let host_is : n.hostname ≡ m.hostname = ap (λ (x : MessageValue). x.hostname) (sym means) in
-        let kept : IfSome m.hostname IsPlainHost = host_plain m.hostname v.1.1.1.0 v.1.1.1.1.0 n g4.0 u host_is resolves g4.1 in
-        let d5 : Front (Row (from_tag rule)) (32 ∷ u) [] v.1.1.1.1 = step (optional (spaced host)) (from_tag rule) (optional_det (spaced host) (spaced_det host host_det)) {t = 32 ∷ y} {q = 32 ∷ u} {v = Some m.hostname} (host_field_back m.hostname u kept) d4 in
+        let stays : IfSome m.hostname IsCanonicalHost = host_canonical m.hostname v.1.1.1.0 v.1.1.1.1.0 n g4.0 u host_is resolves g4.1 in
+        let d5 : Front (Row (from_tag rule)) (32 ∷ u) [] v.1.1.1.1 = step (optional (spaced host)) (from_tag rule) (optional_det (spaced host) (spaced_det host host_det)) {t = 32 ∷ y} {q = 32 ∷ u} {v = Some m.hostname} (host_field_back m.hostname u stays) d4 in
         let g5 = row_head (optional (spaced tag_word)) (from_tag_end rule) d5 in
         let no_colon : IfSome m.procid HasNoColon = elim near.colon_process [
           | inl k ↦ k
@@ -210,12 +210,12 @@ module _ (rule : DashRule) (dating : Dating) (m : MessageValue) (b : IsBounded m
               let field = subst (λ (x : Option Text). Front (optional (spaced host)) (32 ∷ (name_text x ++ (32 ∷ u))) g4.0 v.1.1.1.0) none g4.1 in
               subst (λ (x : MessageValue). IfSome x.procid HasNoColon) (sym means) (process_of v.1.1.1.0 v.1.1.1.1.0 (32 ∷ u) n (dash_holds v.1.1.1.0 g4.0 u field) (tag_field (32 ∷ u) g5.0 v.1.1.1.1.0 g5.1) resolves))
         ] in
-        let named : ArePlainNames m.hostname m.appname m.procid = plain_names m.hostname m.appname m.procid near.names no_colon in
+        let named : AreCanonicalNames m.hostname m.appname m.procid = canonical_names m.hostname m.appname m.procid near.names no_colon in
         let (q, tag, gap) = tag_back m.hostname m.appname m.procid t named b.procid in
         let d6 : Front (Row (from_tag_end rule)) q [] v.1.1.1.1.1 = step (optional (spaced tag_word)) (from_tag_end rule) (optional_det (spaced tag_word) (spaced_det tag_word tag_word_det)) {t = 32 ∷ u} {q = q} {v = program_field m.appname m.procid} tag d5 in
         let d7 : Front (Row (from_colon rule)) (58 ∷ t) [] v.1.1.1.1.1.1 = step (run is_blank) (from_colon rule) (run_det is_blank) {t = q} {q = 58 ∷ t} {v = tt} gap d6 in
         let d8 : Front (Row (from_blanks rule)) t [] v.1.1.1.1.1.1.1 = step (optional (exactly colon)) (from_blanks rule) (optional_det (exactly colon) (exactly_det colon)) {t = 58 ∷ t} {q = t} {v = Some tt} (optional_some (exactly colon) (piece_front (exactly colon) colon t tt refl)) d7 in
-        let own : IsPlain3164 rule m = record {
+        let own : IsCanonical3164 rule m = record {
           msgid = near.msgid;
           names = named;
           elements = near.parameters;
@@ -224,13 +224,13 @@ module _ (rule : DashRule) (dating : Dating) (m : MessageValue) (b : IsBounded m
           record {
             facility = subst (λ (x : MessageValue). IsSome x.facility) (sym means) (subst (λ (x : Option ℕ). IsSome (option_and_then facility_of x)) (sym pri_is) (facility_there p (priority_small m)));
             severity = subst (λ (x : MessageValue). IsSome x.severity) (sym means) (severity_beside v.0 (subst (λ (x : Option ℕ). IsSome (option_and_then facility_of x)) (sym pri_is) (facility_there p (priority_small m))));
-            timestamp = plain;
-            hostname = kept;
+            timestamp = canonical;
+            hostname = stays;
             elements = near.elements;
             msg_front = near.msg_front;
             msg_end = near.msg_end;
           },
-          subst (λ (x : Protocol). IsPlainFor rule x m) (sym near.protocol) own,
+          subst (λ (x : Protocol). IsCanonicalFor rule x m) (sym near.protocol) own,
         )
 
   pub read_is_canonical : IsRead3164 rule dating (printed_3164 m) m → IsCanonical rule m
@@ -238,7 +238,7 @@ module _ (rule : DashRule) (dating : Dating) (m : MessageValue) (b : IsBounded m
       let (n, resolves, means) = r.means in
       let near = read_near rule dating (printed_3164 m) m r in
       let d = division_front (rfc3164_row rule dating) r.division in
-      fields_plain r.values n resolves means near (subst (λ (x : Text). Front (Row (rfc3164_row rule dating)) x [] r.values) (trimmed_whole m near.msg_end) d)
+      fields_canonical r.values n resolves means near (subst (λ (x : Text). Front (Row (rfc3164_row rule dating)) x [] r.values) (trimmed_whole m near.msg_end) d)
 
 -- read back from the printed text exactly where it is canonical
 pub rfc3164_exact : (rule : DashRule) (dating : Dating) (m : MessageValue) → m.protocol ≡ RFC3164 → IsBounded m → IsRead3164 rule dating (printed m) m ↔ IsCanonical rule m

@@ -1,4 +1,4 @@
--- What is read as RFC 3164 meets the condition, but for its listed misses.
+-- What is read as RFC 3164 meets the condition, but for its exceptions.
 use Rattle.std.proofs.Common.{◌≡◌, ◌≢◌, ℕ, ◌<◌, ◌⊎◌, inl, inr, Bool, List, [], ◌∷◌, ◌++◌, length, Option, Some, None}
 use Rattle.std.proofs.Common.{IfSome, IsSome, refl, sym, subst, ◌∙◌, arith}
 use Rattle.std.specs.Char.{is_not_whitespace}
@@ -10,27 +10,27 @@ use Rattle.syslog_pieces.specs.Pieces.Lists.{IsMany}
 use Rattle.syslog_pieces.specs.Pri.{priority, facility_of, severity_of}
 use Rattle.syslog_pieces.specs.ProcId.{NamesProcess}
 use Rattle.syslog_pieces.specs.StructuredData.Element.{ElementValue}
-use Rattle.syslog_pieces.specs.StructuredData.Listed.{IsListed, full_element, listed, elements_or}
+use Rattle.syslog_pieces.specs.StructuredData.Rfc3164List.{IsRfc3164List, full_element, rfc3164_list, elements_or}
 use Rattle.syslog_pieces.specs.Text.{trimmed, is_blank, is_tag_char, dash, IsHost, host, tag_word}
 use Rattle.syslog_pieces.specs.Text.CharClass.{is_label_char, is_open_char}
-use Rattle.syslog_pieces.specs.Timestamp.Loose.{loose_stamp}
+use Rattle.syslog_pieces.specs.Timestamp.Rfc3164.{rfc3164_stamp}
 use Rattle.syslog_pieces.specs.Timestamp.MonthDate.{month_date}
-use Rattle.syslog_pieces.specs.Timestamp.Plain.{IsPlainStamp}
+use Rattle.syslog_pieces.specs.Timestamp.Canonical.{IsCanonicalStamp}
 use Rattle.syslog_pieces.specs.Timestamp.Zone.{Dating}
 use Rattle.syslog_pieces.specs.declared.pri.SyslogSeverity.{SyslogSeverity}
 use Rattle.syslog_pieces.specs.declared.procid.ProcId.{ProcId}
 use Rattle.syslog_pieces.specs.declared.procid.ProcId.TheVariants.{PID, Name}
-use Rattle.syslog_pieces.specs.declared.structured_data.listed.DashRule.{DashRule}
+use Rattle.syslog_pieces.specs.declared.structured_data.rfc3164_list.DashRule.{DashRule}
 use Rattle.syslog_pieces.specs.declared.timestamp.OffsetTimestamp.{OffsetTimestamp}
 use Rattle.syslog_pieces.proofs.PieceLemmas.Class.{heads, row_nil, row_cons, division_front, front_division, rest_front}
 use Rattle.syslog_pieces.proofs.PieceLemmas.Class.{spaced_parts, rest_whole}
 use Rattle.syslog_pieces.proofs.PieceLemmas.Steps.{present_front}
 use Rattle.syslog_pieces.proofs.PriLemmas.{severity_there}
-use Rattle.syslog_pieces.proofs.StructuredDataLemmas.ReadBack.{element_plain}
-use Rattle.syslog_pieces.proofs.TimestampLemmas.RoundTrip.{stamp_text-plain}
-use Rattle.syslog_loose.specs.Canonical.{IsVisible, IsNoI32Text, IsPlainElement}
-use Rattle.syslog_loose.specs.ListedMisses.{is_no_colon, HasNoColon, IsOddHost, is_inner_char, IsInnerProcess}
-use Rattle.syslog_loose.specs.ListedMisses.{AreNearNames, IsNear, IsNearlyCanonical, IsOfMonthDate}
+use Rattle.syslog_pieces.proofs.StructuredDataLemmas.ReadBack.{element_canonical}
+use Rattle.syslog_pieces.proofs.TimestampLemmas.RoundTrip.{stamp_text-canonical}
+use Rattle.syslog_loose.specs.Canonical.{IsVisible, IsNoI32Text, IsCanonicalElement}
+use Rattle.syslog_loose.specs.Exceptions.{is_no_colon, HasNoColon, IsOddHost, is_inner_char, IsInnerProcess}
+use Rattle.syslog_loose.specs.Exceptions.{AreNamesButExceptions, HasExceptionsAlone, IsNearlyCanonical, IsOfMonthDate}
 use Rattle.syslog_loose.specs.Message.{MessageValue}
 use Rattle.syslog_loose.specs.Rfc3164.{Names3164, NamesHost, NamesProgram, Resolves, rfc3164_row, IsRead3164}
 use Rattle.syslog_loose.specs.Rfc3164.{stamped_row, fields_row}
@@ -42,23 +42,23 @@ use Rattle.syslog_pieces.proofs.PieceLemmas.Rows.{row_pieces}
 -- ---- runs of characters that pass two tests
 
 -- ---- elements
-many_plain : (p q : Text) (es : List ElementValue) → IsMany full_element p q es
-    → AllByRecursion IsPlainElement es × AllByRecursion (λ e. 0 < length e.params) es
-many_plain p q [] h = (tt, tt)
-many_plain p q (e ∷ es) (a, b, i, k, more) =
-    let r = many_plain b q es more in ((element_plain a (b ++ q) e k.0, r.0), (k.1, r.1))
+many_canonical : (p q : Text) (es : List ElementValue) → IsMany full_element p q es
+    → AllByRecursion IsCanonicalElement es × AllByRecursion (λ e. 0 < length e.params) es
+many_canonical p q [] h = (tt, tt)
+many_canonical p q (e ∷ es) (a, b, i, k, more) =
+    let r = many_canonical b q es more in ((element_canonical a (b ++ q) e k.0, r.0), (k.1, r.1))
 
-listed_plain : (rule : DashRule) (p q : Text) (es : List ElementValue) → IsListed rule p q es
-    → AllByRecursion IsPlainElement es × AllByRecursion (λ e. 0 < length e.params) es
-listed_plain rule p q es (inl (d, a, e)) =
-    subst (λ (x : List ElementValue). AllByRecursion IsPlainElement x × AllByRecursion (λ e. 0 < length e.params) x)
+rfc3164_list_canonical : (rule : DashRule) (p q : Text) (es : List ElementValue) → IsRfc3164List rule p q es
+    → AllByRecursion IsCanonicalElement es × AllByRecursion (λ e. 0 < length e.params) es
+rfc3164_list_canonical rule p q es (inl (d, a, e)) =
+    subst (λ (x : List ElementValue). AllByRecursion IsCanonicalElement x × AllByRecursion (λ e. 0 < length e.params) x)
     (sym e) (tt, tt)
-listed_plain rule p q es (inr (l, h)) = many_plain p q es h
+rfc3164_list_canonical rule p q es (inr (l, h)) = many_canonical p q es h
 
-field_plain : (rule : DashRule) (t q : Text) (v : Option (List ElementValue)) → Front (optional (listed rule)) t q v
-    → AllByRecursion IsPlainElement (elements_or v) × AllByRecursion (λ e. 0 < length e.params) (elements_or v)
-field_plain rule t q None f = (tt, tt)
-field_plain rule t q (Some es) f = listed_plain rule f.piece q es f.is
+field_canonical : (rule : DashRule) (t q : Text) (v : Option (List ElementValue)) → Front (optional (rfc3164_list rule)) t q v
+    → AllByRecursion IsCanonicalElement (elements_or v) × AllByRecursion (λ e. 0 < length e.params) (elements_or v)
+field_canonical rule t q None f = (tt, tt)
+field_canonical rule t q (Some es) f = rfc3164_list_canonical rule f.piece q es f.is
 
 -- ---- the host field: only before a colon its text is `-`, or ends in a colon
 abbrev pub HostField : Text → Option (Option Text) → Type 0
@@ -140,7 +140,7 @@ no_colon_process id (Name t) (none, e) a = subst (λ (x : Text). Each is_no_colo
 abbrev NearNames : Names3164 → Type 0
 NearNames n =
     IfSome n.hostname IsVisible × IfSome n.hostname (λ h. IsOddHost h → n.appname ≡ None)
-    × AreNearNames n.hostname n.appname n.procid × (IfSome n.procid HasNoColon ⊎ (n.hostname ≡ None))
+    × AreNamesButExceptions n.hostname n.appname n.procid × (IfSome n.procid HasNoColon ⊎ (n.hostname ≡ None))
 
 near_host : (q h : Text) (n : Names3164) → HostField q (Some (Some h)) → NamesHost h n → NearNames n
 near_host q h n (v, o) (inl (tag, id, process, f, p, e)) =
@@ -153,12 +153,12 @@ near_host q h n (v, o) (inl (tag, id, process, f, p, e)) =
     )
 near_host q h n (v, o) (inr (none, e)) = subst NearNames (sym e) (v, λ x. refl, none, inl tt)
 
-abbrev PlainField : Option Text → Option Text → Type 0
-PlainField host app = IfSome host IsVisible × IfSome host (λ h. IsOddHost h → app ≡ None)
+abbrev CanonicalField : Option Text → Option Text → Type 0
+CanonicalField host app = IfSome host IsVisible × IfSome host (λ h. IsOddHost h → app ≡ None)
 
 -- before a space the host is not odd
 before_space : (q : Text) (origin app : Option Text) → HostField q (Some origin) → ((r : Text) × (q ≡ 32 ∷ r))
-    → PlainField origin app
+    → CanonicalField origin app
 before_space q None app k s = (tt, tt)
 before_space q (Some h) app (v, o) (r, w) =
     (v, λ x. absurd (let (s, y) = o x in let t : ◌≡◌ {A = ℕ} 58 32 = heads 58 32 s r (sym y ∙ w) in omega arith))
@@ -198,7 +198,7 @@ severity_beside (Some pri) h =
     let (s, e) = severity_there pri in subst (λ (x : Option SyslogSeverity). IsSome x) (sym e) refl
 
 module _ (rule : DashRule) (dating : Dating) (text : Text) where
-  pub read_near : (m : MessageValue) → IsRead3164 rule dating text m → IsNear m
+  pub read_near : (m : MessageValue) → IsRead3164 rule dating text m → HasExceptionsAlone m
   read_near m r =
       let v = r.values in
       let (n, resolves, means) = r.means in
@@ -207,32 +207,32 @@ module _ (rule : DashRule) (dating : Dating) (text : Text) where
       let (_, _, (t3, g3, (t4, g4, (t5, g5, (_, _, (_, _, (t8, _, (t9, g9, (_, g10, (_, g11, _)))))))))) = more in
       let near =
       near_names t4 v.1.1.1.0 v.1.1.1.1.0 n (host_field t3 t4 v.1.1.1.0 g4) (tag_field t4 t5 v.1.1.1.1.0 g5) resolves in
-      let plain = field_plain rule t8 t9 v.1.1.1.1.1.1.1.1.0 g9 in
-      subst IsNear (sym means) (record {
+      let canonical = field_canonical rule t8 t9 v.1.1.1.1.1.1.1.1.0 g9 in
+      subst HasExceptionsAlone (sym means) (record {
         protocol = refl;
         hostname = near.0;
         odd_host = near.1;
         names = near.2;
         colon_process = near.3;
         msgid = refl;
-        elements = plain.0;
-        parameters = plain.1;
+        elements = canonical.0;
+        parameters = canonical.1;
         msg_front = subst (λ (x : Text). Ends is_blank x) (rest_whole g11) g10.is.1;
-        msg_end = last_ends (stamped_row dating ++ (fields_row ++ (optional (listed rule) ∷ run is_blank ∷ []))) row
+        msg_end = last_ends (stamped_row dating ++ (fields_row ++ (optional (rfc3164_list rule) ∷ run is_blank ∷ []))) row
             (drop_ends (skip_leading_whitespace text));
       })
 
-  -- a timestamp that was read is plain, or that of a month date that the text shows
+  -- a timestamp that was read is canonical, or that of a month date that the text shows
   abbrev IsOfKind : OffsetTimestamp → Type 0
-  IsOfKind s = IsPlainStamp s ⊎ IsOfMonthDate dating text s
+  IsOfKind s = IsCanonicalStamp s ⊎ IsOfMonthDate dating text s
 
   stamp_kind : (p : Option ℕ) (t u q : Text) (v : Option OffsetTimestamp) → Front (optional priority) (trimmed text) t p
-      → Front (run is_blank) t u tt → Front (loose_stamp dating) u q v → IfSome v IsOfKind
+      → Front (run is_blank) t u tt → Front (rfc3164_stamp dating) u q v → IfSome v IsOfKind
   stamp_kind p t u q None f g h = tt
   stamp_kind p t u q (Some s) f g h = kind h.is
     where
-      kind : (loose_stamp dating).Is h.piece q (Some s) → IsOfKind s
-      kind (inl k) = inl (stamp_text-plain h.piece s k.0)
+      kind : (rfc3164_stamp dating).Is h.piece q (Some s) → IsOfKind s
+      kind (inl k) = inl (stamp_text-canonical h.piece s k.0)
       kind (inr (date, k, stamp)) =
           let d : Front month_date u q date = record { piece = h.piece; whole = h.whole; is = k } in
           let row = row_cons (optional priority) (run is_blank ∷ month_date ∷ rest ∷ []) f

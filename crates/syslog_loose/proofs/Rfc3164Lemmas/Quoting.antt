@@ -6,19 +6,19 @@ use Rattle.syslog_pieces.specs.Pieces.Parts.{IsPart, IsInPieces, AreInPieces, te
 use Rattle.syslog_pieces.specs.Pri.{priority}
 use Rattle.syslog_pieces.specs.ProcId.{NamesProcess}
 use Rattle.syslog_pieces.specs.StructuredData.Element.{element_texts}
-use Rattle.syslog_pieces.specs.StructuredData.Listed.{elements_or}
+use Rattle.syslog_pieces.specs.StructuredData.Rfc3164List.{elements_or}
 use Rattle.syslog_pieces.specs.Text.{is_blank, colon, host, tag_word}
 use Rattle.syslog_pieces.specs.Text.CharClass.{is_label_char, is_open_char}
-use Rattle.syslog_pieces.specs.Timestamp.Loose.{loose_stamp}
+use Rattle.syslog_pieces.specs.Timestamp.Rfc3164.{rfc3164_stamp}
 use Rattle.syslog_pieces.specs.Timestamp.Zone.{Dating}
 use Rattle.syslog_pieces.specs.declared.procid.ProcId.{ProcId}
 use Rattle.syslog_pieces.specs.declared.procid.ProcId.TheVariants.{PID, Name}
-use Rattle.syslog_pieces.specs.declared.structured_data.listed.DashRule.{DashRule}
+use Rattle.syslog_pieces.specs.declared.structured_data.rfc3164_list.DashRule.{DashRule}
 use Rattle.syslog_pieces.proofs.PieceLemmas.Each.{all_append, all_left, all_right}
 use Rattle.syslog_pieces.proofs.PieceLemmas.Parts.{Quoted, row_quotes, silent, texted_quotes, rest_quotes, host_quotes}
 use Rattle.syslog_pieces.proofs.PieceLemmas.Parts.{tag_word_quotes, optional_quotes, optional_texts, spaced_quotes}
 use Rattle.syslog_pieces.proofs.PieceLemmas.Parts.{part_left, part_right, part_joined}
-use Rattle.syslog_pieces.proofs.StructuredDataLemmas.ElementParts.{optional_listed_quotes}
+use Rattle.syslog_pieces.proofs.StructuredDataLemmas.ElementParts.{optional_rfc3164_list_quotes}
 use Rattle.syslog_loose.specs.Message.{MessageValue, message_texts}
 use Rattle.syslog_loose.specs.Rfc3164.{Names3164, Resolves, NamesProgram, NamesHost, rfc3164_row, IsRead3164}
 use Rattle.syslog_loose.specs.Rfc3164.{Quotes3164}
@@ -90,7 +90,7 @@ module _ (ps : List Text) where
 -- ---- all texts
 quoted_row : (rule : DashRule) (dating : Dating) → Quoted (rfc3164_row rule dating)
 quoted_row rule dating =
-    silent (optional priority) also silent (run is_blank) also silent (loose_stamp dating)
+    silent (optional priority) also silent (run is_blank) also silent (rfc3164_stamp dating)
     also (
       (λ v. optional_texts text_list v),
       optional_quotes (spaced host) text_list (spaced_quotes host text_list host_quotes),
@@ -100,7 +100,7 @@ quoted_row rule dating =
       optional_quotes (spaced tag_word) text_list (spaced_quotes tag_word text_list tag_word_quotes),
     )
     also silent (run is_blank) also silent (optional (exactly colon)) also silent (run is_blank)
-    also ((λ es. flat_map element_texts (elements_or es)), optional_listed_quotes rule)
+    also ((λ es. flat_map element_texts (elements_or es)), optional_rfc3164_list_quotes rule)
     also silent (run is_blank) also ((λ t. t ∷ []), rest_quotes) also tt
 
 pub quotes : (rule : DashRule) (dating : Dating) (text : Text) (m : MessageValue) → IsRead3164 rule dating text m

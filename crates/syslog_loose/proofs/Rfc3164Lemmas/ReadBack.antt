@@ -14,17 +14,17 @@ use Rattle.syslog_pieces.specs.Pieces.Lists.{IsMany}
 use Rattle.syslog_pieces.specs.Pri.{priority, facility_number, severity_number, facility_of, severity_of}
 use Rattle.syslog_pieces.specs.ProcId.{NamesProcess, procid_text}
 use Rattle.syslog_pieces.specs.StructuredData.Element.{ElementValue, element_text, joined_elements}
-use Rattle.syslog_pieces.specs.StructuredData.Listed.{full_element, BeginsNoList, listed, elements_or}
+use Rattle.syslog_pieces.specs.StructuredData.Rfc3164List.{full_element, BeginsNoList, rfc3164_list, elements_or}
 use Rattle.syslog_pieces.specs.Text.{is_blank, is_tag_char, dash, colon, name_text, host, tag_word}
 use Rattle.syslog_pieces.specs.Text.CharClass.{is_label_char, is_open_char}
-use Rattle.syslog_pieces.specs.Timestamp.Loose.{loose_stamp}
-use Rattle.syslog_pieces.specs.Timestamp.Plain.{IsPlainStamp}
+use Rattle.syslog_pieces.specs.Timestamp.Rfc3164.{rfc3164_stamp}
+use Rattle.syslog_pieces.specs.Timestamp.Canonical.{IsCanonicalStamp}
 use Rattle.syslog_pieces.specs.Timestamp.Zone.{Dating}
 use Rattle.syslog_pieces.specs.declared.pri.SyslogFacility.{SyslogFacility}
 use Rattle.syslog_pieces.specs.declared.pri.SyslogSeverity.{SyslogSeverity}
 use Rattle.syslog_pieces.specs.declared.procid.ProcId.{ProcId}
 use Rattle.syslog_pieces.specs.declared.procid.ProcId.TheVariants.{PID, Name}
-use Rattle.syslog_pieces.specs.declared.structured_data.listed.DashRule.{DashRule}
+use Rattle.syslog_pieces.specs.declared.structured_data.rfc3164_list.DashRule.{DashRule}
 use Rattle.syslog_pieces.specs.declared.timestamp.OffsetTimestamp.{OffsetTimestamp}
 use Rattle.syslog_pieces.proofs.PieceLemmas.Class.{heads, row_nil, row_cons, front_division, optional_some}
 use Rattle.syslog_pieces.proofs.PieceLemmas.Class.{optional_none, rest_front, spaced_front, no_spaced_piece}
@@ -33,13 +33,13 @@ use Rattle.syslog_pieces.proofs.PriLemmas.{facility_composed, severity_composed}
 use Rattle.syslog_pieces.proofs.ProcIdLemmas.ReadBack.{signed_writes}
 use Rattle.syslog_pieces.proofs.StructuredDataLemmas.ReadBack.{element_back}
 use Rattle.syslog_pieces.proofs.TextLemmas.ReadBack.{host_back, decimal_digits}
-use Rattle.syslog_pieces.proofs.StructuredDataLemmas.Listed.{full_begins, no_full_nil, no_listed}
+use Rattle.syslog_pieces.proofs.StructuredDataLemmas.Rfc3164List.{full_begins, no_full_nil, no_rfc3164_list}
 use Rattle.syslog_pieces.proofs.TimestampLemmas.RoundTrip.{printed_stamp-back}
 use Rattle.syslog_pieces.proofs.TimestampLemmas.Texts.{stamp_character-visible}
-use Rattle.syslog_loose.specs.Canonical.{IsBoundedProcess, IsBounded, IsPlainHost, IsPlainElement, is_process_char}
-use Rattle.syslog_loose.specs.Canonical.{IsBracketedProcess, ArePlainNames, IsPlain, IsPlain3164, IsPlainFor}
+use Rattle.syslog_loose.specs.Canonical.{IsBoundedProcess, IsBounded, IsCanonicalHost, IsCanonicalElement, is_process_char}
+use Rattle.syslog_loose.specs.Canonical.{IsBracketedProcess, AreCanonicalNames, IsCanonicalInBoth, IsCanonical3164, IsCanonicalFor}
 use Rattle.syslog_loose.specs.Canonical.{IsCanonical}
-use Rattle.syslog_loose.specs.ListedMisses.{is_no_colon}
+use Rattle.syslog_loose.specs.Exceptions.{is_no_colon}
 use Rattle.syslog_loose.specs.Message.{MessageValue}
 use Rattle.syslog_loose.specs.Printed.{timestamp_text, priority_of, printed_3164}
 use Rattle.syslog_loose.specs.Rfc3164.{names, Resolves, body_row, rfc3164_row, IsRead3164}
@@ -56,7 +56,7 @@ use Rattle.syslog_loose.proofs.Rfc3164Lemmas.Whole.{bracketed, program_text, who
 use Rattle.syslog_loose.proofs.TrimLemmas.{stamp_unblank, message_end, message_blanks}
 
 -- ---- elements and the message
-many_back : (es : List ElementValue) (q : Text) → AllByRecursion IsPlainElement es
+many_back : (es : List ElementValue) (q : Text) → AllByRecursion IsCanonicalElement es
     → AllByRecursion (λ e. 0 < length e.params) es → NoFront full_element q
     → IsMany full_element (joined_elements es) q es
 many_back [] q h k n = (refl, n)
@@ -88,19 +88,19 @@ list_same (e ∷ es) = refl
 pub gap_back : (t msg : Text) → Front (run is_blank) t msg tt → Front (Row from_gap) t [] (tt, (msg, tt))
 gap_back t msg f = row_cons (run is_blank) (rest ∷ []) f (row_cons rest [] (rest_front msg) (row_nil []))
 
-pub body_back : (rule : DashRule) (es : List ElementValue) (msg : Text) → AllByRecursion IsPlainElement es
+pub body_back : (rule : DashRule) (es : List ElementValue) (msg : Text) → AllByRecursion IsCanonicalElement es
     → AllByRecursion (λ e. 0 < length e.params) es → Ends is_blank msg → (es ≡ [] → BeginsNoList rule msg)
     → Front (Row (from_blanks rule)) (tail_text es msg) [] (tt, (list_field es, (tt, (msg, tt))))
 body_back rule [] msg h k b n =
     row_cons (run is_blank) (from_list rule) (message_blanks msg b)
-    (row_cons (optional (listed rule)) from_gap (optional_none (listed rule) (no_listed rule msg (n refl)))
+    (row_cons (optional (rfc3164_list rule)) from_gap (optional_none (rfc3164_list rule) (no_rfc3164_list rule msg (n refl)))
     (gap_back msg msg (record { piece = []; whole = refl; is = (tt, b) })))
 body_back rule (e ∷ es) msg h k b n =
     row_cons (run is_blank) (from_list rule)
     (piece_front (run is_blank) (32 ∷ []) (joined_elements (e ∷ es) ++ message_end msg) tt ((refl, tt), refl))
-    (row_cons (optional (listed rule)) from_gap
-    (optional_some (listed rule)
-    (piece_front (listed rule) (joined_elements (e ∷ es)) (message_end msg) (e ∷ es)
+    (row_cons (optional (rfc3164_list rule)) from_gap
+    (optional_some (rfc3164_list rule)
+    (piece_front (rfc3164_list rule) (joined_elements (e ∷ es)) (message_end msg) (e ∷ es)
     (inr (omega arith, many_back (e ∷ es) (message_end msg) h k (no_full_end msg)))))
     (gap_back (message_end msg) msg (message_blanks msg b)))
 
@@ -156,7 +156,7 @@ program_field None p = None
 program_field (Some a) None = Some (Some a)
 program_field (Some a) (Some p) = Some (Some (bracketed a (procid_text p)))
 
-pub resolved : (origin app : Option Text) (process : Option (ProcId Text)) → ArePlainNames origin app process
+pub resolved : (origin app : Option Text) (process : Option (ProcId Text)) → AreCanonicalNames origin app process
     → IfSome process IsBoundedProcess → Resolves (Some origin) (program_field app process) (names origin app process)
 resolved None None None h b = refl
 resolved (Some o) None None h b = inr (h, refl)
@@ -183,7 +183,7 @@ tagged w t l e n =
     (piece_front tag_word w (58 ∷ t) (Some w) (l, e, refl, (refl, n))))
 
 -- the tag field and the blanks behind it, up to the colon
-pub tag_back : (origin app : Option Text) (process : Option (ProcId Text)) (t : Text) → ArePlainNames origin app process
+pub tag_back : (origin app : Option Text) (process : Option (ProcId Text)) (t : Text) → AreCanonicalNames origin app process
     → IfSome process IsBoundedProcess
     → (q : Text) × Front (optional (spaced tag_word)) (32 ∷ (program_text app process ++ (58 ∷ t))) q
     (program_field app process) × Front (run is_blank) q (58 ∷ t) tt
@@ -205,7 +205,7 @@ tag_back origin (Some a) (Some p) t (e, h) b =
       piece_front (run is_blank) [] (58 ∷ t) tt (tt, refl),
     )
 
-pub host_field_back : (origin : Option Text) (q : Text) → IfSome origin IsPlainHost
+pub host_field_back : (origin : Option Text) (q : Text) → IfSome origin IsCanonicalHost
     → Front (optional (spaced host)) (32 ∷ (name_text origin ++ (32 ∷ q))) (32 ∷ q) (Some origin)
 host_field_back origin q h =
     optional_some (spaced host)
@@ -214,11 +214,11 @@ host_field_back origin q h =
 
 -- ---- the timestamp
 
-pub stamp_back : (dating : Dating) (v : Option OffsetTimestamp) (q : Text) → IfSome v IsPlainStamp
-    → Front (loose_stamp dating) (timestamp_text v ++ (32 ∷ q)) (32 ∷ q) v
-stamp_back dating None q h = piece_front (loose_stamp dating) dash (32 ∷ q) None (inl refl)
+pub stamp_back : (dating : Dating) (v : Option OffsetTimestamp) (q : Text) → IfSome v IsCanonicalStamp
+    → Front (rfc3164_stamp dating) (timestamp_text v ++ (32 ∷ q)) (32 ∷ q) v
+stamp_back dating None q h = piece_front (rfc3164_stamp dating) dash (32 ∷ q) None (inl refl)
 stamp_back dating (Some s) q h =
-    piece_front (loose_stamp dating) (timestamp_text (Some s)) (32 ∷ q) (Some s)
+    piece_front (rfc3164_stamp dating) (timestamp_text (Some s)) (32 ∷ q) (Some s)
     (inl (printed_stamp-back s h, (q, refl)))
 
 -- ---- the priority
@@ -232,11 +232,11 @@ parts_back (Some f) (Some s) h k = (sym (facility_composed f s), sym (severity_c
 -- ---- the message
 module _ (rule : DashRule) (dating : Dating) (m : MessageValue) (e : m.protocol ≡ RFC3164) (b : IsBounded m)
     (c : IsCanonical rule m) where
-  plain : IsPlain m
-  plain = c.0
+  canonical : IsCanonicalInBoth m
+  canonical = c.0
 
-  own : IsPlain3164 rule m
-  own = subst (λ (x : Protocol). IsPlainFor rule x m) e c.1
+  own : IsCanonical3164 rule m
+  own = subst (λ (x : Protocol). IsCanonicalFor rule x m) e c.1
 
   abbrev values : Values (rfc3164_row rule dating)
   values = (
@@ -263,17 +263,17 @@ module _ (rule : DashRule) (dating : Dating) (m : MessageValue) (e : m.protocol 
       (optional_some priority (priority_front (priority_of m) _ (priority_low m)))
       (row_cons (run is_blank) (from_stamp rule dating)
       (piece_front (run is_blank) (32 ∷ []) _ tt ((refl, tt), stamp_unblank m.timestamp (32 ∷ y)))
-      (row_cons (loose_stamp dating) (body_row rule) (stamp_back dating m.timestamp y plain.timestamp)
-      (row_cons (optional (spaced host)) (from_tag rule) (host_field_back m.hostname u plain.hostname)
+      (row_cons (rfc3164_stamp dating) (body_row rule) (stamp_back dating m.timestamp y canonical.timestamp)
+      (row_cons (optional (spaced host)) (from_tag rule) (host_field_back m.hostname u canonical.hostname)
       (row_cons (optional (spaced tag_word)) (from_tag_end rule) tag
       (row_cons (run is_blank) (from_colon rule) gap
       (row_cons (optional (exactly colon)) (from_blanks rule)
       (optional_some (exactly colon) (piece_front (exactly colon) colon t tt refl))
-      (body_back rule m.structured_data m.msg plain.elements own.elements plain.msg_front own.no_list)))))))
+      (body_back rule m.structured_data m.msg canonical.elements own.elements canonical.msg_front own.no_list)))))))
 
   means_back : m ≡ told rule dating values (names m.hostname m.appname m.procid)
   means_back =
-      let parts = parts_back m.facility m.severity plain.facility plain.severity in
+      let parts = parts_back m.facility m.severity canonical.facility canonical.severity in
       let facility = parts.0 in
       let severity = parts.1 in
       let msgid = own.msgid in
@@ -296,7 +296,7 @@ module _ (rule : DashRule) (dating : Dating) (m : MessageValue) (e : m.protocol 
     values = values;
     division = front_division (rfc3164_row rule dating)
         (subst (λ (x : Text). Front (Row (rfc3164_row rule dating)) x [] values)
-        (sym (trimmed_whole m plain.msg_end)) row_back);
+        (sym (trimmed_whole m canonical.msg_end)) row_back);
     means = (
       names m.hostname m.appname m.procid,
       resolved m.hostname m.appname m.procid own.names b.procid,

@@ -1,10 +1,10 @@
 -- What the reader's answers say of a text of RFC 3164.
 use Rattle.std.proofs.Common.{◌≡◌, List, [], ◌∷◌, refl, subst}
 use Rattle.syslog_pieces.specs.Pieces.Class.{Text, Class, Values, Division, Front, NoFront, Row, run, rest, optional}
-use Rattle.syslog_pieces.specs.StructuredData.Listed.{listed, ListsNoElements}
+use Rattle.syslog_pieces.specs.StructuredData.Rfc3164List.{rfc3164_list, ListsNoElements}
 use Rattle.syslog_pieces.specs.Text.{trimmed, is_blank}
 use Rattle.syslog_pieces.specs.Timestamp.Zone.{Dating}
-use Rattle.syslog_pieces.specs.declared.structured_data.listed.DashRule.{DashRule}
+use Rattle.syslog_pieces.specs.declared.structured_data.rfc3164_list.DashRule.{DashRule}
 use Rattle.syslog_pieces.proofs.PieceLemmas.Class.{front_division, no_row_division, row_nil, row_cons, rows_join, rows_none_here, rest_front, both_values}
 use Rattle.syslog_pieces.proofs.TextLemmas.Runs.{some_front_run}
 use Rattle.syslog_loose.specs.Message.{MessageValue}
@@ -36,10 +36,10 @@ pub list_needs_none : (rule : DashRule) (dating : Dating) (text t u w : Text) (v
     → t ≡ trimmed text → NeedsNoMemory3164 rule dating text → Front (Row (stamped_row dating)) t u vs → Front (Row fields_row) u w ws → Resolves ws.0 ws.1.0 n → ListsNoElements rule w
 list_needs_none rule dating text t u w vs ws n e none stamped fields means q es list =
     let (r, gap) = some_front_run is_blank q in
-    let all = both_values (stamped_row dating) (body_row rule) vs (both_values fields_row (optional (listed rule) ∷ behind_row) ws (es, (tt, (r, tt)))) in
+    let all = both_values (stamped_row dating) (body_row rule) vs (both_values fields_row (optional (rfc3164_list rule) ∷ behind_row) ws (es, (tt, (r, tt)))) in
     let row = rows_join (stamped_row dating) (body_row rule) stamped
-    (rows_join fields_row (optional (listed rule) ∷ behind_row) fields
-    (row_cons (optional (listed rule)) behind_row list
+    (rows_join fields_row (optional (rfc3164_list rule) ∷ behind_row) fields
+    (row_cons (optional (rfc3164_list rule)) behind_row list
     (row_cons (run is_blank) (rest ∷ []) gap
     (row_cons rest [] (rest_front r) (row_nil []))))) in
     none (told rule dating all n) (is_read rule dating text t all (told rule dating all n) e (n, means, refl) row)

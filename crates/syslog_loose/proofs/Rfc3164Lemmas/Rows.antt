@@ -1,11 +1,11 @@
 -- The pieces of RFC 3164 from each one on.
 use Rattle.std.proofs.Common.{List, [], ◌∷◌}
 use Rattle.syslog_pieces.specs.Pieces.Class.{Class, run, rest, exactly, optional, spaced}
-use Rattle.syslog_pieces.specs.StructuredData.Listed.{listed}
+use Rattle.syslog_pieces.specs.StructuredData.Rfc3164List.{rfc3164_list}
 use Rattle.syslog_pieces.specs.Text.{is_blank, colon, tag_word}
-use Rattle.syslog_pieces.specs.Timestamp.Loose.{loose_stamp}
+use Rattle.syslog_pieces.specs.Timestamp.Rfc3164.{rfc3164_stamp}
 use Rattle.syslog_pieces.specs.Timestamp.Zone.{Dating}
-use Rattle.syslog_pieces.specs.declared.structured_data.listed.DashRule.{DashRule}
+use Rattle.syslog_pieces.specs.declared.structured_data.rfc3164_list.DashRule.{DashRule}
 use Rattle.syslog_loose.specs.Rfc3164.{body_row}
 
 -- the blanks behind the list, and the message
@@ -13,7 +13,7 @@ abbrev pub from_gap : List Class
 from_gap = run is_blank ∷ rest ∷ []
 
 abbrev pub from_list : DashRule → List Class
-from_list rule = optional (listed rule) ∷ from_gap
+from_list rule = optional (rfc3164_list rule) ∷ from_gap
 
 -- the blanks behind the colon
 abbrev pub from_blanks : DashRule → List Class
@@ -30,7 +30,7 @@ abbrev pub from_tag : DashRule → List Class
 from_tag rule = optional (spaced tag_word) ∷ from_tag_end rule
 
 abbrev pub from_stamp : DashRule → Dating → List Class
-from_stamp rule dating = loose_stamp dating ∷ body_row rule
+from_stamp rule dating = rfc3164_stamp dating ∷ body_row rule
 
 -- the blanks behind the priority
 abbrev pub from_priority_end : DashRule → Dating → List Class

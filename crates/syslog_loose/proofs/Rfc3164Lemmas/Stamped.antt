@@ -1,10 +1,10 @@
 -- Behind the timestamp of RFC 3164 nothing can fail.
 use Rattle.std.proofs.Common.{List, [], ◌∷◌, Some, None, ◌↔◌}
 use Rattle.syslog_pieces.specs.Pieces.Class.{Text, Class, Values, NoDivision, Front, NoFront, Row, run, rest, exactly, optional, spaced}
-use Rattle.syslog_pieces.specs.StructuredData.Listed.{listed}
+use Rattle.syslog_pieces.specs.StructuredData.Rfc3164List.{rfc3164_list}
 use Rattle.syslog_pieces.specs.Text.{is_blank, colon, host, tag_word}
 use Rattle.syslog_pieces.specs.Timestamp.Zone.{Dating}
-use Rattle.syslog_pieces.specs.declared.structured_data.listed.DashRule.{DashRule}
+use Rattle.syslog_pieces.specs.declared.structured_data.rfc3164_list.DashRule.{DashRule}
 use Rattle.syslog_pieces.proofs.PieceLemmas.Class.{optional_none, rest_front, row_nil, row_cons, rows_join, rows_none_here, no_row_division, front_division}
 use Rattle.syslog_pieces.proofs.TextLemmas.Runs.{some_front_run}
 use Rattle.syslog_loose.specs.Rfc3164.{stamped_row, body_row, rfc3164_row}
@@ -27,11 +27,11 @@ rest_stands t n = n (t, tt) (row_cons rest [] (rest_front t) (row_nil []))
 pub body_stands : (rule : DashRule) → Stands (body_row rule)
 body_stands rule =
     let message = run_stands (rest ∷ []) rest_stands in
-    let list = run_stands (optional (listed rule) ∷ run is_blank ∷ rest ∷ []) (optional_stands (listed rule) (run is_blank ∷ rest ∷ []) message) in
-    let mark = optional_stands (exactly colon) (run is_blank ∷ optional (listed rule) ∷ run is_blank ∷ rest ∷ []) list in
-    let behind = run_stands (optional (exactly colon) ∷ run is_blank ∷ optional (listed rule) ∷ run is_blank ∷ rest ∷ []) mark in
-    let program = optional_stands (spaced tag_word) (run is_blank ∷ optional (exactly colon) ∷ run is_blank ∷ optional (listed rule) ∷ run is_blank ∷ rest ∷ []) behind in
-    optional_stands (spaced host) (optional (spaced tag_word) ∷ run is_blank ∷ optional (exactly colon) ∷ run is_blank ∷ optional (listed rule) ∷ run is_blank ∷ rest ∷ []) program
+    let list = run_stands (optional (rfc3164_list rule) ∷ run is_blank ∷ rest ∷ []) (optional_stands (rfc3164_list rule) (run is_blank ∷ rest ∷ []) message) in
+    let mark = optional_stands (exactly colon) (run is_blank ∷ optional (rfc3164_list rule) ∷ run is_blank ∷ rest ∷ []) list in
+    let behind = run_stands (optional (exactly colon) ∷ run is_blank ∷ optional (rfc3164_list rule) ∷ run is_blank ∷ rest ∷ []) mark in
+    let program = optional_stands (spaced tag_word) (run is_blank ∷ optional (exactly colon) ∷ run is_blank ∷ optional (rfc3164_list rule) ∷ run is_blank ∷ rest ∷ []) behind in
+    optional_stands (spaced host) (optional (spaced tag_word) ∷ run is_blank ∷ optional (exactly colon) ∷ run is_blank ∷ optional (rfc3164_list rule) ∷ run is_blank ∷ rest ∷ []) program
 
 -- a text has no division exactly where no priority, blanks and timestamp begin it
 pub division_is_stamped : (rule : DashRule) (dating : Dating) (text : Text) → NoDivision (rfc3164_row rule dating) text ↔ NoFront (Row (stamped_row dating)) text

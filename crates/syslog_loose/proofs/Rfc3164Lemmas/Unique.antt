@@ -3,16 +3,16 @@ use Rattle.std.specs.Option.{option_and_then}
 use Rattle.std.proofs.Common.{◌≡◌, None, sym, ap, subst, ◌∙◌, ◌∷◌, []}
 use Rattle.syslog_pieces.specs.Pieces.Class.{Text, Values, exactly, spaced, run, rest, optional}
 use Rattle.syslog_pieces.specs.Pri.{priority, facility_of, severity_of}
-use Rattle.syslog_pieces.specs.StructuredData.Listed.{listed, elements_or}
+use Rattle.syslog_pieces.specs.StructuredData.Rfc3164List.{rfc3164_list, elements_or}
 use Rattle.syslog_pieces.specs.Text.{is_blank, colon, host, tag_word}
 use Rattle.syslog_pieces.specs.Timestamp.Zone.{Dating}
-use Rattle.syslog_pieces.specs.declared.structured_data.listed.DashRule.{DashRule}
+use Rattle.syslog_pieces.specs.declared.structured_data.rfc3164_list.DashRule.{DashRule}
 use Rattle.syslog_pieces.proofs.PieceLemmas.Class.{AllDeterministic, unique_division, optional_det, exactly_det}
 use Rattle.syslog_pieces.proofs.PieceLemmas.Class.{run_det, rest_det, spaced_det, ◌also◌, all_joined}
 use Rattle.syslog_pieces.proofs.PriLemmas.{priority_det}
-use Rattle.syslog_pieces.proofs.StructuredDataLemmas.Listed.{listed_det}
+use Rattle.syslog_pieces.proofs.StructuredDataLemmas.Rfc3164List.{rfc3164_list_det}
 use Rattle.syslog_pieces.proofs.TextLemmas.Words.{host_det, tag_word_det}
-use Rattle.syslog_pieces.proofs.TimestampLemmas.Loose.{loose_stamp_det}
+use Rattle.syslog_pieces.proofs.TimestampLemmas.Rfc3164.{rfc3164_stamp_det}
 use Rattle.syslog_loose.specs.Message.{MessageValue}
 use Rattle.syslog_loose.specs.declared.message.Protocol.TheVariants.{RFC3164}
 use Rattle.syslog_loose.specs.Rfc3164.{Names3164, fields_row, stamped_row, body_row, rfc3164_row, Means3164, IsRead3164}
@@ -25,12 +25,12 @@ fields_det =
     also run_det is_blank also optional_det (exactly colon) (exactly_det colon) also run_det is_blank also tt
 
 pub stamped_det : (dating : Dating) → AllDeterministic (stamped_row dating)
-stamped_det dating = optional_det priority priority_det also run_det is_blank also loose_stamp_det dating also tt
+stamped_det dating = optional_det priority priority_det also run_det is_blank also rfc3164_stamp_det dating also tt
 
 pub body_det : (rule : DashRule) → AllDeterministic (body_row rule)
 body_det rule =
-    all_joined fields_row (optional (listed rule) ∷ run is_blank ∷ rest ∷ []) fields_det
-    (optional_det (listed rule) (listed_det rule) also run_det is_blank also rest_det also tt)
+    all_joined fields_row (optional (rfc3164_list rule) ∷ run is_blank ∷ rest ∷ []) fields_det
+    (optional_det (rfc3164_list rule) (rfc3164_list_det rule) also run_det is_blank also rest_det also tt)
 
 pub rfc3164_det : (rule : DashRule) (dating : Dating) → AllDeterministic (rfc3164_row rule dating)
 rfc3164_det rule dating = all_joined (stamped_row dating) (body_row rule) (stamped_det dating) (body_det rule)

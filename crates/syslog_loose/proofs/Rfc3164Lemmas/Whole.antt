@@ -9,7 +9,7 @@ use Rattle.syslog_pieces.specs.Text.{trimmed}
 use Rattle.syslog_pieces.specs.declared.procid.ProcId.{ProcId}
 use Rattle.syslog_loose.specs.Canonical.{EndsVisibly}
 pub use Rattle.syslog_loose.specs.Jumps.{tail_text}
-pub use Rattle.syslog_loose.specs.KeptLoose.{bracketed, program_text}
+pub use Rattle.syslog_loose.specs.Verbatim3164.{bracketed, program_text}
 use Rattle.syslog_loose.specs.Message.{MessageValue}
 use Rattle.syslog_loose.specs.Printed.{timestamp_text, name_text, tag_text, spaced_elements, priority_of, printed_3164}
 use Rattle.syslog_loose.proofs.TrimLemmas.{joined_last, LastVisible, last_append, drop_after, message_end_is}

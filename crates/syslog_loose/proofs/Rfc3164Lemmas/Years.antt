@@ -3,11 +3,11 @@ use Rattle.std.proofs.Common.{◌≡◌, inl, inr, List, [], ◌∷◌, ◌++◌
 use Rattle.syslog_pieces.specs.Pieces.Class.{Text, Values, Divides, join, run, optional}
 use Rattle.syslog_pieces.specs.Pri.{priority}
 use Rattle.syslog_pieces.specs.Text.{trimmed, is_blank}
-use Rattle.syslog_pieces.specs.Timestamp.Loose.{loose_stamp, ShowsYearless}
+use Rattle.syslog_pieces.specs.Timestamp.Rfc3164.{rfc3164_stamp, ShowsYearless}
 use Rattle.syslog_pieces.specs.Timestamp.MonthDate.{yearless_date, dated_row, dated_of}
 use Rattle.syslog_pieces.specs.Timestamp.Zone.{Dating, IsStampInAny, IsMonthStamp}
 use Rattle.jiff.specs.Types.{TimeZone}
-use Rattle.syslog_pieces.specs.declared.structured_data.listed.DashRule.{DashRule}
+use Rattle.syslog_pieces.specs.declared.structured_data.rfc3164_list.DashRule.{DashRule}
 use Rattle.syslog_pieces.specs.declared.timestamp.OffsetTimestamp.{OffsetTimestamp}
 use Rattle.syslog_pieces.specs.declared.timestamp.month_date.MonthDate.{MonthDate}
 use Rattle.syslog_loose.specs.Message.{MessageValue}
@@ -19,7 +19,7 @@ module _ (dating other : Dating) (zone : dating.zone ≡ other.zone) (local : da
   dated_stamp vs s (year, e, (dt, f, h)) =
       (year, e, (dt, f, subst (λ (x : TimeZone). IsStampInAny other.zone x dt s) local (subst (λ (x : Option TimeZone). IsStampInAny x dating.local dt s) zone h)))
 
-  other_stamp : (p q : Text) (v : Option OffsetTimestamp) → ((d : MonthDate) → yearless_date.Is p q d → ⊥) → (loose_stamp dating).Is p q v → (loose_stamp other).Is p q v
+  other_stamp : (p q : Text) (v : Option OffsetTimestamp) → ((d : MonthDate) → yearless_date.Is p q d → ⊥) → (rfc3164_stamp dating).Is p q v → (rfc3164_stamp other).Is p q v
   other_stamp p q v n (inl h) = inl h
   other_stamp p q None n (inr h) = absurd h
   other_stamp p q (Some s) n (inr (d, inl h, k)) = absurd (n d h)

@@ -12,20 +12,20 @@ use Rattle.syslog_pieces.specs.Pieces.Class.{Text, Class, Values, Front, NoFront
 use Rattle.syslog_pieces.specs.Pieces.Class.{optional, rest}
 use Rattle.syslog_pieces.specs.Pieces.Format.{Format, IsSound, classes, printed_row, RowReadsBack}
 use Rattle.syslog_pieces.specs.Pri.{priority, composed, facility_of, severity_of, facility_number, severity_number}
-use Rattle.syslog_pieces.specs.ProcId.{process_word, process_text, IsPlainProcess, IsBoundedProcess}
+use Rattle.syslog_pieces.specs.ProcId.{process_word, process_text, IsCanonicalProcess, IsBoundedProcess}
 use Rattle.syslog_pieces.specs.StructuredData.{forgiving, item}
 use Rattle.syslog_pieces.specs.StructuredData.Element.{ElementValue, elements_text}
 use Rattle.syslog_pieces.specs.Text.{trimmed, is_blank, number, host, word, name_text}
-use Rattle.syslog_pieces.specs.Text.Plain.{IsVisible, IsPlainHost, IsPlainWord, EndsVisibly}
+use Rattle.syslog_pieces.specs.Text.Canonical.{IsVisible, IsCanonicalHost, IsCanonicalWord, EndsVisibly}
 use Rattle.syslog_pieces.specs.Timestamp.{header_stamp}
-use Rattle.syslog_pieces.specs.Timestamp.Plain.{IsPlainStamp}
+use Rattle.syslog_pieces.specs.Timestamp.Canonical.{IsCanonicalStamp}
 use Rattle.syslog_pieces.specs.declared.pri.SyslogFacility.{SyslogFacility}
 use Rattle.syslog_pieces.specs.declared.pri.SyslogFacility.TheVariants.{LOG_SYSLOG}
 use Rattle.syslog_pieces.specs.declared.pri.SyslogSeverity.{SyslogSeverity}
 use Rattle.syslog_pieces.specs.declared.pri.SyslogSeverity.TheVariants.{SEV_DEBUG}
 use Rattle.syslog_pieces.specs.declared.procid.ProcId.{ProcId}
-use Rattle.syslog_pieces.specs.declared.structured_data.listed.DashRule.{DashRule}
-use Rattle.syslog_pieces.specs.declared.structured_data.listed.DashRule.TheVariants.{BeforeAnything}
+use Rattle.syslog_pieces.specs.declared.structured_data.rfc3164_list.DashRule.{DashRule}
+use Rattle.syslog_pieces.specs.declared.structured_data.rfc3164_list.DashRule.TheVariants.{BeforeAnything}
 use Rattle.syslog_pieces.specs.declared.timestamp.OffsetTimestamp.{OffsetTimestamp}
 use Rattle.syslog_pieces.proofs.PieceLemmas.Class.{row_nil, row_cons, row_head, rows_join, both_values, front_division}
 use Rattle.syslog_pieces.proofs.PieceLemmas.Class.{division_front, rest_front, rest_whole, optional_some, front_same}
@@ -35,15 +35,15 @@ use Rattle.syslog_pieces.proofs.PieceLemmas.Formats.{AllSound, row_back}
 use Rattle.syslog_pieces.proofs.PieceLemmas.Steps.{piece_front}
 use Rattle.syslog_pieces.proofs.PriLemmas.{priority_det, priority_composed, facility_composed, severity_composed}
 use Rattle.syslog_pieces.proofs.PriLemmas.{severity_there}
-use Rattle.syslog_pieces.proofs.ProcIdLemmas.ReadBack.{process_back, process_plain, process_bounded}
-use Rattle.syslog_pieces.proofs.StructuredDataLemmas.ReadBack.{forgiving_back, forgiving_plain, no_item_nil}
+use Rattle.syslog_pieces.proofs.ProcIdLemmas.ReadBack.{process_back, process_canonical, process_bounded}
+use Rattle.syslog_pieces.proofs.StructuredDataLemmas.ReadBack.{forgiving_back, forgiving_canonical, no_item_nil}
 use Rattle.syslog_pieces.proofs.StructuredDataLemmas.ReadBack.{no_item_before}
-use Rattle.syslog_pieces.proofs.TextLemmas.ReadBack.{number_back, word_back, word_plain, host_back, host_plain}
+use Rattle.syslog_pieces.proofs.TextLemmas.ReadBack.{number_back, word_back, word_canonical, host_back, host_canonical}
 use Rattle.syslog_pieces.proofs.TextLemmas.ReadBack.{NoColonNext, blanks_next}
-use Rattle.syslog_pieces.proofs.TimestampLemmas.RoundTrip.{printed_stamp-back, stamp_text-plain}
+use Rattle.syslog_pieces.proofs.TimestampLemmas.RoundTrip.{printed_stamp-back, stamp_text-canonical}
 use Rattle.syslog_loose.specs.declared.message.Protocol.TheVariants.{RFC5424}
 use Rattle.syslog_loose.specs.declared.message.Protocol.{Protocol}
-use Rattle.syslog_loose.specs.Canonical.{IsBoundedProtocol, IsBounded, IsPlain, IsPlain5424, IsPlainFor, IsCanonical}
+use Rattle.syslog_loose.specs.Canonical.{IsBoundedProtocol, IsBounded, IsCanonicalInBoth, IsCanonical5424, IsCanonicalFor, IsCanonical}
 use Rattle.syslog_loose.specs.Message.{MessageValue}
 use Rattle.syslog_loose.specs.Printed.{printed, printed_5424, priority_of, timestamp_text}
 use Rattle.syslog_loose.specs.Rfc5424.{header_row, data_row, rfc5424_row, message_of, IsRead5424}
@@ -56,10 +56,10 @@ use Rattle.syslog_loose.proofs.TrimLemmas.{last_ends, drop_ends, message_end, me
 gap_front : (t : Text) → Ends is_blank t → Front (run is_blank) (32 ∷ t) t tt
 gap_front t h = record { piece = 32 ∷ []; whole = refl; is = ((refl, tt), h) }
 
--- what is read of a timestamp is plain
-stamp_plain : (p q : Text) (v : Option OffsetTimestamp) → header_stamp.Is p q v → IfSome v IsPlainStamp
-stamp_plain p q None h = tt
-stamp_plain p q (Some s) h = stamp_text-plain p s h.0
+-- what is read of a timestamp is canonical
+stamp_canonical : (p q : Text) (v : Option OffsetTimestamp) → header_stamp.Is p q v → IfSome v IsCanonicalStamp
+stamp_canonical p q None h = tt
+stamp_canonical p q (Some s) h = stamp_text-canonical p s h.0
 
 -- a version
 abbrev version_number : Format
@@ -84,7 +84,7 @@ abbrev stamp_field : Format
 stamp_field = record {
   reads = header_stamp;
   print = timestamp_text;
-  ReadsBack = λ v. IfSome v IsPlainStamp;
+  ReadsBack = λ v. IfSome v IsCanonicalStamp;
   Before = λ q. (r : Text) × (q ≡ 32 ∷ r);
 }
 
@@ -92,7 +92,7 @@ abbrev host_field : Format
 host_field = record {
   reads = host;
   print = name_text;
-  ReadsBack = λ v. IfSome v IsPlainHost;
+  ReadsBack = λ v. IfSome v IsCanonicalHost;
   Before = λ q. Ends is_not_whitespace q;
 }
 
@@ -100,7 +100,7 @@ abbrev word_field : Format
 word_field = record {
   reads = word;
   print = name_text;
-  ReadsBack = λ v. IfSome v IsPlainWord;
+  ReadsBack = λ v. IfSome v IsCanonicalWord;
   Before = λ q. Ends is_not_whitespace q;
 }
 
@@ -108,7 +108,7 @@ abbrev process_field : Format
 process_field = record {
   reads = process_word;
   print = process_text;
-  ReadsBack = λ v. IfSome v IsPlainProcess × IfSome v IsBoundedProcess;
+  ReadsBack = λ v. IfSome v IsCanonicalProcess × IfSome v IsBoundedProcess;
   Before = λ q. Ends is_not_whitespace q;
 }
 
@@ -177,16 +177,16 @@ trimmed_5424 version m h =
     ∙ ap (λ (x : Text). 60 ∷ (decimal (priority_of m) ++ (62 ∷ x)))
     (row_trimmed fields (values_of version m) (32 ∷ elements_text m.structured_data) m.msg last h)
 
-module _ (version : ℕ) (m : MessageValue) (bounded : version ≤ 4294967295) (b : IsBounded m) (p : IsPlain m)
-    (q : IsPlain5424 m) where
+module _ (version : ℕ) (m : MessageValue) (bounded : version ≤ 4294967295) (b : IsBounded m) (p : IsCanonicalInBoth m)
+    (q : IsCanonical5424 m) where
   fields_back : (t : Text) → RowReadsBack fields (values_of version m) (32 ∷ t)
   fields_back t =
       (bounded, refl) also (tt, stamp_unblank m.timestamp _) also (p.timestamp, (_, refl))
-      also (tt, name_unblank m.hostname _ IsPlainHost (λ t k. k.0) p.hostname) also (p.hostname, refl)
-      also (tt, name_unblank m.appname _ IsPlainWord (λ t k. k.0) q.appname) also (q.appname, refl)
+      also (tt, name_unblank m.hostname _ IsCanonicalHost (λ t k. k.0) p.hostname) also (p.hostname, refl)
+      also (tt, name_unblank m.appname _ IsCanonicalWord (λ t k. k.0) q.appname) also (q.appname, refl)
       also (tt, process_unblank m.procid _ [] (process_back m.procid [] q.procid b.procid tt))
       also ((q.procid, b.procid), refl)
-      also (tt, name_unblank m.msgid _ IsPlainWord (λ t k. k.0) q.msgid) also (q.msgid, refl) also tt
+      also (tt, name_unblank m.msgid _ IsCanonicalWord (λ t k. k.0) q.msgid) also (q.msgid, refl) also tt
 
   -- the one division, piece by piece
   line_divided : Division rfc5424_row (trimmed (printed_5424 version m)) (line_values version m)
@@ -222,14 +222,14 @@ pub canonical_read : (rule : DashRule) (version : ℕ) (m : MessageValue) → m.
 canonical_read rule version m e b c =
     let (f, ef) = some_of m.facility c.0.facility in
     let (s, es) = some_of m.severity c.0.severity in
-    let plain : IsPlain5424 m = subst (λ (x : Protocol). IsPlainFor rule x m) e c.1 in
+    let own : IsCanonical5424 m = subst (λ (x : Protocol). IsCanonicalFor rule x m) e c.1 in
     let bounded : version < 2 ^ 32 = subst IsBoundedProtocol e b.protocol in
     let same : priority_of m ≡ composed f s =
     ap₂ (λ (x : Option SyslogFacility)
     (y : Option SyslogSeverity). option_map_or facility_number x 5 * 8 + option_map_or severity_number y 7) ef es in
     subst (λ (x : Text). IsRead5424 x m) (sym (printed_is version m e)) (record {
       values = line_values version m;
-      division = line_divided version m (omega arith) b c.0 plain;
+      division = line_divided version m (omega arith) b c.0 own;
       means = λ i. record {
         protocol = e i;
         facility = (ef ∙ sym (facility_composed f s) ∙ sym (ap facility_of same)) i;
@@ -266,9 +266,9 @@ abbrev front_row : List Class
 front_row = header_row ++ (run is_blank ∷ forgiving ∷ run is_blank ∷ [])
 
 -- the completed message that the pieces of a text mean is canonical
-values_plain : (rule : DashRule) (text : Text) (v : Values rfc5424_row) → Division rfc5424_row (trimmed text) v
+values_canonical : (rule : DashRule) (text : Text) (v : Values rfc5424_row) → Division rfc5424_row (trimmed text) v
     → IsCanonical rule (completed (message_of v)) × IsBounded (completed (message_of v))
-values_plain rule text v d =
+values_canonical rule text v d =
     let row = division_front rfc5424_row d in
     let (t1, pri, (t2, number, (t3, s1, (t4, stamp, (t5, s2, (t6, name, (t7, s3, more))))))) =
     row_pieces rfc5424_row row in
@@ -300,16 +300,16 @@ values_plain rule text v d =
         record {
           facility = refl;
           severity = refl;
-          timestamp = stamp_plain stamp.piece t4 m.timestamp stamp.is;
-          hostname = host_plain name.piece t6 m.hostname no_colon name.is;
-          elements = forgiving_plain list.piece t14 m.structured_data list.is;
+          timestamp = stamp_canonical stamp.piece t4 m.timestamp stamp.is;
+          hostname = host_canonical name.piece t6 m.hostname no_colon name.is;
+          elements = forgiving_canonical list.piece t14 m.structured_data list.is;
           msg_front = subst (λ (x : Text). Ends is_blank x) (rest_whole msg) s7.is.1;
           msg_end = last_ends front_row row (drop_ends (skip_leading_whitespace text));
         },
         record {
-          appname = word_plain app.piece t8 m.appname app.is;
-          procid = process_plain process.piece t10 m.procid process.is;
-          msgid = word_plain id.piece t12 m.msgid id.is;
+          appname = word_canonical app.piece t8 m.appname app.is;
+          procid = process_canonical process.piece t10 m.procid process.is;
+          msgid = word_canonical id.piece t12 m.msgid id.is;
         },
       ),
       record {
@@ -318,11 +318,11 @@ values_plain rule text v d =
       },
     )
 
-pub read_plain : (rule : DashRule) (text : Text) (m : MessageValue) → IsRead5424 text m
+pub read_completed : (rule : DashRule) (text : Text) (m : MessageValue) → IsRead5424 text m
     → IsCanonical rule (completed m) × IsBounded (completed m)
-read_plain rule text m r =
+read_completed rule text m r =
     subst (λ (x : MessageValue). IsCanonical rule (completed x) × IsBounded (completed x)) (sym r.means)
-    (values_plain rule text r.values r.division)
+    (values_canonical rule text r.values r.division)
 
 -- ---- a message that is read with a facility is canonical
 
@@ -353,7 +353,7 @@ read_canonical rule text m r there =
     let pri = r.values.0 in
     let (s, g) = severity_too pri f (sym (ap (λ (x : MessageValue). x.facility) r.means) ∙ e) in
     let severity : m.severity ≡ Some s = ap (λ (x : MessageValue). x.severity) r.means ∙ g in
-    subst (λ (x : MessageValue). IsCanonical rule x) (completed_same m f s e severity) (read_plain rule text m r).0
+    subst (λ (x : MessageValue). IsCanonical rule x) (completed_same m f s e severity) (read_completed rule text m r).0
 
 -- ---- a printed message that is read back as itself has a facility
 
@@ -406,7 +406,7 @@ pub read_again : (text : Text) (m : MessageValue) → IsRead5424 text m
 read_again text m r =
     let version = r.values.1.0 in
     let e : m.protocol ≡ RFC5424 version = ap (λ (x : MessageValue). x.protocol) r.means in
-    let (canonical, bounded) = read_plain BeforeAnything text m r in
+    let (canonical, bounded) = read_completed BeforeAnything text m r in
     let same = printed_again version m e in
     let again = canonical_read BeforeAnything version (completed m) e bounded canonical in
     (subst (λ (x : Text). IsRead5424 x (completed m)) same again, same)

@@ -5,7 +5,7 @@ use Rattle.std.proofs.lemmas.List.{length-append, same_from_push}
 use Rattle.syslog_pieces.specs.Pieces.Class.{Text}
 use Rattle.syslog_pieces.specs.Text.{dash, colon, EndsInColon}
 use Rattle.syslog_pieces.specs.declared.procid.ProcId.{ProcId}
-use Rattle.syslog_loose.specs.ListedMisses.{HasNoColon}
+use Rattle.syslog_loose.specs.Exceptions.{HasNoColon}
 use Rattle.syslog_loose.specs.Settling.{Costs, colons, EndsInColons, ColonsCost, NamesWeigh}
 
 -- ---- one term

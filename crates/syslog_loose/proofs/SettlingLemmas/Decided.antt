@@ -8,11 +8,11 @@ use Rattle.syslog_pieces.specs.Pieces.Lists.{list_before, more_before}
 use Rattle.syslog_pieces.specs.StructuredData.{value, param_row, param_of, param, element_row, element_of, element}
 use Rattle.syslog_pieces.specs.StructuredData.Element.{ElementValue}
 use Rattle.syslog_pieces.specs.StructuredData.Escapes.{pair, single}
-use Rattle.syslog_pieces.specs.StructuredData.Listed.{full_element, IsDashBefore, BeginsNoList}
+use Rattle.syslog_pieces.specs.StructuredData.Rfc3164List.{full_element, IsDashBefore, BeginsNoList}
 use Rattle.syslog_pieces.specs.Text.{is_blank}
 use Rattle.syslog_pieces.specs.Text.CharClass.{is_id_char, is_name_char}
-use Rattle.syslog_pieces.specs.declared.structured_data.listed.DashRule.{DashRule}
-use Rattle.syslog_pieces.specs.declared.structured_data.listed.DashRule.TheVariants.{BeforeAnything, BeforeBlank}
+use Rattle.syslog_pieces.specs.declared.structured_data.rfc3164_list.DashRule.{DashRule}
+use Rattle.syslog_pieces.specs.declared.structured_data.rfc3164_list.DashRule.TheVariants.{BeforeAnything, BeforeBlank}
 use Rattle.syslog_pieces.proofs.PieceLemmas.Class.{heads, run_same, run_det, some_run_det, exactly_det, texted_det, front_same, no_front_no, mapped_front, no_mapped, texted_front, no_texted, row_nil, row_cons, row_none_here, row_none_later}
 use Rattle.syslog_pieces.proofs.PieceLemmas.Lists.{begins, list_here, list_cons, no_list, list_goes, more_here, more_cons, no_more, no_more_behind, more_goes}
 use Rattle.syslog_pieces.proofs.PieceLemmas.Meets.{Meets, meets_none}

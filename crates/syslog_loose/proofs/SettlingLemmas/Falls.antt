@@ -8,26 +8,26 @@ use Rattle.std.specs.Option.{option_map_or, option_and_then}
 use Rattle.syslog_pieces.specs.Pieces.Class.{Text, Values, Front, NoFront, Row, Ends, run, exactly, optional, spaced}
 use Rattle.syslog_pieces.specs.Pri.{priority, facility_number, severity_number, facility_of, severity_of}
 use Rattle.syslog_pieces.specs.StructuredData.Element.{ElementValue}
-use Rattle.syslog_pieces.specs.StructuredData.Listed.{IsListed, BeginsNoList, listed, elements_or}
+use Rattle.syslog_pieces.specs.StructuredData.Rfc3164List.{IsRfc3164List, BeginsNoList, rfc3164_list, elements_or}
 use Rattle.syslog_pieces.specs.Text.{trimmed, is_blank, colon, name_text, host, tag_word}
-use Rattle.syslog_pieces.specs.Timestamp.Loose.{loose_stamp}
-use Rattle.syslog_pieces.specs.Timestamp.Plain.{IsPlainStamp}
+use Rattle.syslog_pieces.specs.Timestamp.Rfc3164.{rfc3164_stamp}
+use Rattle.syslog_pieces.specs.Timestamp.Canonical.{IsCanonicalStamp}
 use Rattle.syslog_pieces.specs.Timestamp.Zone.{Dating}
 use Rattle.syslog_pieces.specs.declared.pri.SyslogFacility.{SyslogFacility}
 use Rattle.syslog_pieces.specs.declared.pri.SyslogSeverity.{SyslogSeverity}
 use Rattle.syslog_pieces.specs.declared.procid.ProcId.{ProcId}
-use Rattle.syslog_pieces.specs.declared.structured_data.listed.DashRule.TheVariants.{BeforeBlank}
+use Rattle.syslog_pieces.specs.declared.structured_data.rfc3164_list.DashRule.TheVariants.{BeforeBlank}
 use Rattle.syslog_pieces.specs.declared.timestamp.OffsetTimestamp.{OffsetTimestamp}
 use Rattle.syslog_pieces.proofs.PieceLemmas.Class.{run_same, rest_same, heads, behind, row_head, row_cons, division_front, optional_det, optional_some, optional_none, run_det, no_spaced_space}
 use Rattle.syslog_pieces.proofs.PieceLemmas.Kinds.{Begins, begins_apart, begins_more, begins_with}
 use Rattle.syslog_pieces.proofs.PieceLemmas.Steps.{piece_front, front_longer, absent_none}
 use Rattle.syslog_pieces.proofs.PriLemmas.{priority_det, priority_composed}
-use Rattle.syslog_pieces.proofs.StructuredDataLemmas.Listed.{full_shorter, begins_no_list}
-use Rattle.syslog_pieces.proofs.TimestampLemmas.Loose.{IsLow, loose_stamp_det, stamped_date_begins}
+use Rattle.syslog_pieces.proofs.StructuredDataLemmas.Rfc3164List.{full_shorter, begins_no_list}
+use Rattle.syslog_pieces.proofs.TimestampLemmas.Rfc3164.{IsLow, rfc3164_stamp_det, stamped_date_begins}
 use Rattle.syslog_pieces.proofs.TimestampLemmas.Piece.{stamp_each, space_ends}
-use Rattle.syslog_pieces.proofs.TimestampLemmas.RoundTrip.{stamp_text-plain, printed_stamp-visible, printed_stamp-begins}
-use Rattle.syslog_loose.specs.Canonical.{IsBoundedProcess, IsPlainElement}
-use Rattle.syslog_loose.specs.ListedMisses.{HasNoColon, IsNear}
+use Rattle.syslog_pieces.proofs.TimestampLemmas.RoundTrip.{stamp_text-canonical, printed_stamp-visible, printed_stamp-begins}
+use Rattle.syslog_loose.specs.Canonical.{IsBoundedProcess, IsCanonicalElement}
+use Rattle.syslog_loose.specs.Exceptions.{HasNoColon, HasExceptionsAlone}
 use Rattle.syslog_loose.specs.Message.{MessageValue}
 use Rattle.syslog_loose.specs.Printed.{timestamp_text, tag_text, priority_of, printed_3164, printed}
 use Rattle.syslog_loose.specs.Rfc3164.{Names3164, Resolves, body_row, rfc3164_row, IsRead3164}
@@ -43,7 +43,7 @@ use Rattle.syslog_loose.proofs.Rfc3164Lemmas.Rows.{from_gap, from_list, from_bla
 use Rattle.syslog_loose.proofs.Rfc3164Lemmas.Unique.{body_det, told}
 use Rattle.syslog_loose.proofs.Rfc3164Lemmas.Whole.{program_text, whole, tail_text, trimmed_whole}
 use Rattle.syslog_loose.proofs.SettlingLemmas.Costs.{free, at_most, bare_zero}
-use Rattle.syslog_loose.proofs.SettlingLemmas.Names.{move, same_values, no_blanks, msg_read, names_text, Kept, Moved, names_step}
+use Rattle.syslog_loose.proofs.SettlingLemmas.Names.{move, same_values, no_blanks, msg_read, names_text, Stays, Moved, names_step}
 use Rattle.syslog_loose.proofs.SettlingLemmas.NoList.{no_list_digit}
 use Rattle.syslog_loose.proofs.TrimLemmas.{message_end, message_blanks, stamp_unblank}
 use Rattle.syslog_pieces.proofs.PieceLemmas.Rows.{row_pieces}
@@ -54,21 +54,21 @@ use Rattle.syslog_pieces.proofs.PieceLemmas.Rows.{row_pieces}
 abbrev Clause : List ElementValue → Text → Type 0
 Clause es msg = es ≡ [] → BeginsNoList BeforeBlank msg
 
-listed_some : (p q : Text) (es : List ElementValue) → IsListed BeforeBlank p q es → length q < length (p ++ q)
-listed_some p q es (inl (d, a, e)) = omega (arith, ap length d, length-append p q)
-listed_some p q [] (inr (l, h)) = absurd (omega arith)
-listed_some p q (e ∷ es) (inr (l, (a, b, i, k, more))) =
+rfc3164_list_some : (p q : Text) (es : List ElementValue) → IsRfc3164List BeforeBlank p q es → length q < length (p ++ q)
+rfc3164_list_some p q es (inl (d, a, e)) = omega (arith, ap length d, length-append p q)
+rfc3164_list_some p q [] (inr (l, h)) = absurd (omega arith)
+rfc3164_list_some p q (e ∷ es) (inr (l, (a, b, i, k, more))) =
     let s = full_shorter (a ++ (b ++ q)) (b ++ q) e (record { piece = a; whole = refl; is = k }) in
     omega (arith, ap length (behind p a b q i), length-append b q)
 
-taken_shorter : (msg q : Text) (v : Option (List ElementValue)) → Front (optional (listed BeforeBlank)) msg q v → (BeginsNoList BeforeBlank msg → ⊥) → length q < length msg
-taken_shorter msg q None f k = absurd (k (begins_no_list BeforeBlank msg (absent_none (listed BeforeBlank) f)))
-taken_shorter msg q (Some es) f k = let s = listed_some f.piece q es f.is in omega (arith, ap length f.whole)
+taken_shorter : (msg q : Text) (v : Option (List ElementValue)) → Front (optional (rfc3164_list BeforeBlank)) msg q v → (BeginsNoList BeforeBlank msg → ⊥) → length q < length msg
+taken_shorter msg q None f k = absurd (k (begins_no_list BeforeBlank msg (absent_none (rfc3164_list BeforeBlank) f)))
+taken_shorter msg q (Some es) f k = let s = rfc3164_list_some f.piece q es f.is in omega (arith, ap length f.whole)
 
 abbrev EndStep : List ElementValue → Text → Values (from_blanks BeforeBlank) → ℕ → ℕ → Type 0
 EndStep es msg vs w v = (v < w) ⊎ ((v ≤ w) × (elements_or vs.1.0 ≡ es) × (vs.1.1.1.0 ≡ msg))
 
-module _ (es : List ElementValue) (msg : Text) (h : AllByRecursion IsPlainElement es) (k : AllByRecursion (λ e. 0 < length e.params) es) (b : Ends is_blank msg) (vs : Values (from_blanks BeforeBlank)) (w v : ℕ)
+module _ (es : List ElementValue) (msg : Text) (h : AllByRecursion IsCanonicalElement es) (k : AllByRecursion (λ e. 0 < length e.params) es) (b : Ends is_blank msg) (vs : Values (from_blanks BeforeBlank)) (w v : ℕ)
     (c : Costs (Clause (elements_or vs.1.0) vs.1.1.1.0) (length vs.1.1.1.0) v) where
   end_same : Clause es msg → Front (Row (from_blanks BeforeBlank)) (tail_text es msg) [] vs → EndStep es msg vs w v
   end_same n d =
@@ -82,13 +82,13 @@ module _ (es : List ElementValue) (msg : Text) (h : AllByRecursion IsPlainElemen
   end_taken : (BeginsNoList BeforeBlank msg → ⊥) → w ≡ length msg → Front (Row (from_blanks BeforeBlank)) (message_end msg) [] vs → v < w
   end_taken n l d =
       let d1 = move (run is_blank) (from_list BeforeBlank) (run_det is_blank) (message_end msg) msg tt vs (message_blanks msg b) d in
-      let (t1, g1, (_, g2, (t3, g3, _))) = row_pieces (optional (listed BeforeBlank) ∷ from_gap) d1.1 in
+      let (t1, g1, (_, g2, (t3, g3, _))) = row_pieces (optional (rfc3164_list BeforeBlank) ∷ from_gap) d1.1 in
       let a1 = taken_shorter msg t1 vs.1.0 g1 n in
       let a2 = front_longer (run is_blank) g2 in
       let a3 = at_most (Clause (elements_or vs.1.0) vs.1.1.1.0) (length vs.1.1.1.0) v c in
       omega (arith, ap length g3.is.1, ap length g3.whole, length-append g3.piece t3)
 
-end_step : (es : List ElementValue) (msg : Text) → AllByRecursion IsPlainElement es → AllByRecursion (λ e. 0 < length e.params) es → Ends is_blank msg → (vs : Values (from_blanks BeforeBlank)) (w v : ℕ)
+end_step : (es : List ElementValue) (msg : Text) → AllByRecursion IsCanonicalElement es → AllByRecursion (λ e. 0 < length e.params) es → Ends is_blank msg → (vs : Values (from_blanks BeforeBlank)) (w v : ℕ)
     → Costs (Clause es msg) (length msg) w → Costs (Clause (elements_or vs.1.0) vs.1.1.1.0) (length vs.1.1.1.0) v → Front (Row (from_blanks BeforeBlank)) (tail_text es msg) [] vs → EndStep es msg vs w v
 end_step es msg h k b vs w v (inl (n, e)) c d = end_same es msg h k b vs w v c n d
 end_step [] msg h k b vs w v (inr (n, e)) c d = inl (end_taken [] msg h k b vs w v c (λ z. n (λ x. z)) e d)
@@ -119,10 +119,10 @@ behind_stamp m = names_text m.hostname m.appname m.procid (tail_of m)
 abbrev TailStep : MessageValue → Values (body_row BeforeBlank) → Names3164 → ℕ → ℕ → Type 0
 TailStep m vs n v w = (v < w) ⊎ ((v ≤ w) × Same m vs n)
 
-module _ (m : MessageValue) (w1 w2 : ℕ) (near : IsNear m) (bounded : IfSome m.procid IsBoundedProcess) (x : NamesWeigh m.hostname m.procid w1) (y : Costs (Clause m.structured_data m.msg) (length m.msg) w2)
+module _ (m : MessageValue) (w1 w2 : ℕ) (near : HasExceptionsAlone m) (bounded : IfSome m.procid IsBoundedProcess) (x : NamesWeigh m.hostname m.procid w1) (y : Costs (Clause m.structured_data m.msg) (length m.msg) w2)
     (vs : Values (body_row BeforeBlank)) (n : Names3164) (v1 v2 : ℕ) (t : Tail vs n v1 v2) where
-  kept_tail : Kept m.hostname m.appname m.procid (tail_of m) n vs v1 → TailStep m vs n (v1 + v2) (w1 + w2)
-  kept_tail k =
+  stays_tail : Stays m.hostname m.appname m.procid (tail_of m) n vs v1 → TailStep m vs n (v1 + v2) (w1 + w2)
+  stays_tail k =
       let z = k.light in
       elim (end_step m.structured_data m.msg near.elements near.parameters near.msg_front vs.1.1.1.1 w2 v2 y t.taken_is k.behind) [
         | inl l ↦ inl (omega arith)
@@ -137,7 +137,7 @@ module _ (m : MessageValue) (w1 w2 : ℕ) (near : IsNear m) (bounded : IfSome m.
 
   tail_step : Front (Row (body_row BeforeBlank)) (behind_stamp m) [] vs → TailStep m vs n (v1 + v2) (w1 + w2)
   tail_step d = elim (names_step (tail_of m) n vs w1 v1 t.names_is t.means m.hostname m.appname m.procid near.hostname near.odd_host near.names near.colon_process bounded x d) [
-    | inl k ↦ kept_tail k
+    | inl k ↦ stays_tail k
     | inr k ↦ moved_tail k
   ]
 
@@ -181,16 +181,16 @@ behind_dash s q r e =
       | inr f ↦ begins_with IsDigit c r (more ++ q) (let u : 45 ∷ r ≡ 45 ∷ c ∷ (more ++ q) = sym e ∙ ap (λ (y : Text). y ++ q) f in cc) digit
     ]
 
--- What is read where a timestamp was printed: a plain one or none, and what follows is what was printed behind it, or
+-- What is read where a timestamp was printed: a canonical one or none, and what follows is what was printed behind it, or
 -- begins with a digit.
 abbrev StampStep : Text → Text → Option OffsetTimestamp → Type 0
-StampStep q r v = IfSome v IsPlainStamp × ((r ≡ 32 ∷ q) ⊎ Begins IsDigit r)
+StampStep q r v = IfSome v IsCanonicalStamp × ((r ≡ 32 ∷ q) ⊎ Begins IsDigit r)
 
-stamp_step : (dating : Dating) (s : OffsetTimestamp) (q p r : Text) (v : Option OffsetTimestamp) → timestamp_text (Some s) ++ (32 ∷ q) ≡ p ++ r → (loose_stamp dating).Is p r v → StampStep q r v
+stamp_step : (dating : Dating) (s : OffsetTimestamp) (q p r : Text) (v : Option OffsetTimestamp) → timestamp_text (Some s) ++ (32 ∷ q) ≡ p ++ r → (rfc3164_stamp dating).Is p r v → StampStep q r v
 stamp_step dating s q p r None e (inl h) = (tt, inr (behind_dash s (32 ∷ q) r (e ∙ ap (λ (x : Text). x ++ r) h)))
 stamp_step dating s q p r (Some z) e (inl (h, (more, f))) =
     let same = run_same is_not_whitespace (timestamp_text (Some s)) (32 ∷ q) p r e (printed_stamp-visible s) refl (stamp_each p z h) (space_ends r more f) in
-    (stamp_text-plain p z h, inl (sym (rest_same (timestamp_text (Some s)) (32 ∷ q) p r e same)))
+    (stamp_text-canonical p z h, inl (sym (rest_same (timestamp_text (Some s)) (32 ∷ q) p r e same)))
 stamp_step dating s q p r v e (inr h) =
     absurd (begins_apart (p ++ r) (λ c l k. omega arith) (subst (λ (y : Text). Begins IsLow y) e (begins_more IsLow (timestamp_text (Some s)) (32 ∷ q) (stamp_low s))) (stamped_date_begins dating p r v h))
 
@@ -210,7 +210,7 @@ printed_same m n a b c d e f = rw (a, b, c, d, e, f) refl
 abbrev pub Result : MessageValue → MessageValue → ℕ → ℕ → Type 0
 Result m n w v = (v < w) ⊎ ((v ≤ w) × (printed n ≡ printed m))
 
-module _ (dating : Dating) (m : MessageValue) (w v : ℕ) (near : IsNear m) (bounded : IfSome m.procid IsBoundedProcess) (x : Weighs BeforeBlank m w)
+module _ (dating : Dating) (m : MessageValue) (w v : ℕ) (near : HasExceptionsAlone m) (bounded : IfSome m.procid IsBoundedProcess) (x : Weighs BeforeBlank m w)
     (vs : Values (rfc3164_row BeforeBlank dating)) (n : Names3164) (means : Resolves vs.1.1.1.0 vs.1.1.1.1.0 n) (y : Weighs BeforeBlank (told BeforeBlank dating vs n) v) where
   tail : Tail vs.1.1.1 n y.names y.taken
   tail = record { names_is = y.names_is; taken_is = y.taken_is; means = means }
@@ -222,18 +222,18 @@ module _ (dating : Dating) (m : MessageValue) (w v : ℕ) (near : IsNear m) (bou
   abbrev Lighter : Type 0
   Lighter = (v < w) ⊎ ((v ≤ w) × (printed_3164 (told BeforeBlank dating vs n) ≡ printed_3164 m))
 
-  stamp_free : IfSome vs.1.1.0 IsPlainStamp → y.stamp ≡ 0
-  stamp_free k = free (IfSome vs.1.1.0 IsPlainStamp) 1 y.stamp y.stamp_is k
+  stamp_free : IfSome vs.1.1.0 IsCanonicalStamp → y.stamp ≡ 0
+  stamp_free k = free (IfSome vs.1.1.0 IsCanonicalStamp) 1 y.stamp y.stamp_is k
 
   behind_step : Front (Row (body_row BeforeBlank)) (behind_stamp m) [] vs.1.1.1 → TailStep m vs.1.1.1 n (y.names + y.taken) (x.names + x.taken)
   behind_step d = tail_step m x.names x.taken near bounded x.names_is x.taken_is vs.1.1.1 n y.names y.taken tail d
 
   module _ (d : Front (Row (from_stamp BeforeBlank dating)) (timestamp_text m.timestamp ++ behind_stamp m) [] vs.1.1) where
     -- the timestamp is read as what it is
-    plain_stamp : IfSome m.timestamp IsPlainStamp → vs.0 ≡ Some (priority_of m) → Lighter
-    plain_stamp k p =
-        let g = move (loose_stamp dating) (body_row BeforeBlank) (loose_stamp_det dating) (timestamp_text m.timestamp ++ behind_stamp m) (behind_stamp m) m.timestamp vs.1.1 (stamp_back dating m.timestamp behind_space k) d in
-        let z = stamp_free (subst (λ (u : Option OffsetTimestamp). IfSome u IsPlainStamp) (sym g.0) k) in
+    canonical_stamp : IfSome m.timestamp IsCanonicalStamp → vs.0 ≡ Some (priority_of m) → Lighter
+    canonical_stamp k p =
+        let g = move (rfc3164_stamp dating) (body_row BeforeBlank) (rfc3164_stamp_det dating) (timestamp_text m.timestamp ++ behind_stamp m) (behind_stamp m) m.timestamp vs.1.1 (stamp_back dating m.timestamp behind_space k) d in
+        let z = stamp_free (subst (λ (u : Option OffsetTimestamp). IfSome u IsCanonicalStamp) (sym g.0) k) in
         let same : priority_of (told BeforeBlank dating vs n) ≡ priority_of m =
         ap (λ (u : Option ℕ). option_map_or facility_number (option_and_then facility_of u) 5 * 8 + option_map_or severity_number (option_and_then severity_of u) 7) p ∙ priority_again (priority_of m) (priority_small m) in
         elim (behind_step g.1) [
@@ -244,10 +244,10 @@ module _ (dating : Dating) (m : MessageValue) (w v : ℕ) (near : IsNear m) (bou
     -- it is read as another, or as none
     odd_stamp : (s : OffsetTimestamp) → m.timestamp ≡ Some s → x.stamp ≡ 1 → v < w
     odd_stamp s e o =
-        let h = row_head (loose_stamp dating) (body_row BeforeBlank) d in
+        let h = row_head (rfc3164_stamp dating) (body_row BeforeBlank) d in
         let whole : timestamp_text (Some s) ++ behind_stamp m ≡ h.1.piece ++ h.0 = ap (λ (u : Option OffsetTimestamp). timestamp_text u ++ behind_stamp m) (sym e) ∙ h.1.whole in
-        let (plain, next) = stamp_step dating s behind_space h.1.piece h.0 vs.1.1.0 whole h.1.is in
-        let z = stamp_free plain in
+        let (canonical, next) = stamp_step dating s behind_space h.1.piece h.0 vs.1.1.0 whole h.1.is in
+        let z = stamp_free canonical in
         elim next [
           | inl a ↦ elim (behind_step (subst (λ (u : Text). Front (Row (body_row BeforeBlank)) u [] vs.1.1.1) a h.2)) [
             | inl l ↦ omega (arith, x.total, y.total)
@@ -256,12 +256,12 @@ module _ (dating : Dating) (m : MessageValue) (w v : ℕ) (near : IsNear m) (bou
           | inr b ↦ (let k = digit_tail h.0 vs.1.1.1 n y.names y.taken b h.2 tail in omega (arith, x.total, y.total))
         ]
 
-    some_stamp : (t : Option OffsetTimestamp) → (IfSome t IsPlainStamp → ⊥) → (s : OffsetTimestamp) × (t ≡ Some s)
+    some_stamp : (t : Option OffsetTimestamp) → (IfSome t IsCanonicalStamp → ⊥) → (s : OffsetTimestamp) × (t ≡ Some s)
     some_stamp None k = absurd (k tt)
     some_stamp (Some s) k = (s, refl)
 
-    stamp_lighter : vs.0 ≡ Some (priority_of m) → Costs (IfSome m.timestamp IsPlainStamp) 1 x.stamp → Lighter
-    stamp_lighter p (inl (k, o)) = plain_stamp k p
+    stamp_lighter : vs.0 ≡ Some (priority_of m) → Costs (IfSome m.timestamp IsCanonicalStamp) 1 x.stamp → Lighter
+    stamp_lighter p (inl (k, o)) = canonical_stamp k p
     stamp_lighter p (inr (k, o)) = let (s, e) = some_stamp m.timestamp k in inl (odd_stamp s e o)
 
   row_lighter : Front (Row (rfc3164_row BeforeBlank dating)) (whole m (tail_of m)) [] vs → Lighter

@@ -5,20 +5,20 @@ use Rattle.std.specs.Char.{is_not_whitespace}
 use Rattle.syslog_pieces.specs.Pieces.Class.{Text, Values, Front, Row, Each, run, some_run, exactly, optional, spaced, texted}
 use Rattle.syslog_pieces.specs.Pri.{priority, facility_of, severity_of}
 use Rattle.syslog_pieces.specs.StructuredData.Element.{ElementValue}
-use Rattle.syslog_pieces.specs.StructuredData.Listed.{IsDashBefore, listed, BeginsNoList}
+use Rattle.syslog_pieces.specs.StructuredData.Rfc3164List.{IsDashBefore, rfc3164_list, BeginsNoList}
 use Rattle.syslog_pieces.specs.Text.{is_blank, dash, colon, EndsInColon, name_text, host, tag_word}
 use Rattle.syslog_pieces.specs.Text.CharClass.{is_label_char, is_open_char}
-use Rattle.syslog_pieces.specs.Timestamp.Loose.{loose_stamp}
-use Rattle.syslog_pieces.specs.Timestamp.Plain.{IsPlainStamp}
+use Rattle.syslog_pieces.specs.Timestamp.Rfc3164.{rfc3164_stamp}
+use Rattle.syslog_pieces.specs.Timestamp.Canonical.{IsCanonicalStamp}
 use Rattle.syslog_pieces.specs.Timestamp.Zone.{Dating}
 use Rattle.syslog_pieces.specs.declared.procid.ProcId.{ProcId}
-use Rattle.syslog_pieces.specs.declared.structured_data.listed.DashRule.TheVariants.{BeforeBlank}
+use Rattle.syslog_pieces.specs.declared.structured_data.rfc3164_list.DashRule.TheVariants.{BeforeBlank}
 use Rattle.syslog_pieces.specs.declared.timestamp.OffsetTimestamp.{OffsetTimestamp}
 use Rattle.syslog_pieces.proofs.PieceLemmas.Class.{row_cons, row_head, division_front, front_division, optional_some, nil_front}
 use Rattle.syslog_pieces.proofs.PieceLemmas.Steps.{piece_front}
-use Rattle.syslog_loose.specs.Canonical.{IsVisible, IsBoundedProcess, ArePlainNames}
-use Rattle.syslog_loose.specs.Jumps.{colons_before, message_end, tail_text, past_colons, EndsColons, HasNoNameMiss, IsDashed, PassesDashes, with_msg}
-use Rattle.syslog_loose.specs.ListedMisses.{IsOddHost, AreNearNames, IsNear}
+use Rattle.syslog_loose.specs.Canonical.{IsVisible, IsBoundedProcess, AreCanonicalNames}
+use Rattle.syslog_loose.specs.Jumps.{colons_before, message_end, tail_text, past_colons, EndsColons, HasNoNameException, IsDashed, PassesDashes, with_msg}
+use Rattle.syslog_loose.specs.Exceptions.{IsOddHost, AreNamesButExceptions, HasExceptionsAlone}
 use Rattle.syslog_loose.specs.Message.{MessageValue}
 use Rattle.syslog_loose.specs.Printed.{tag_text, priority_of, printed_3164, printed}
 use Rattle.syslog_loose.specs.Reading.{IsRead}
@@ -30,7 +30,7 @@ use Rattle.syslog_loose.specs.declared.variant.Variant.{Variant}
 use Rattle.syslog_loose.specs.declared.variant.Variant.TheVariants as variants
 use Rattle.syslog_loose.proofs.PriorityLemmas.{priority_low, priority_front, priority_small}
 use Rattle.syslog_loose.proofs.Rfc3164Lemmas.Bounded.{read_bounded}
-use Rattle.syslog_loose.proofs.Rfc3164Lemmas.Misses.{plain_host, plain_names}
+use Rattle.syslog_loose.proofs.Rfc3164Lemmas.Exceptions.{canonical_host, canonical_names}
 use Rattle.syslog_pieces.proofs.PieceLemmas.Each.{each_front}
 use Rattle.syslog_loose.proofs.Rfc3164Lemmas.Near.{read_near}
 use Rattle.syslog_loose.proofs.Rfc3164Lemmas.Printed.{printed_is, printed_apart}
@@ -42,7 +42,7 @@ use Rattle.syslog_loose.proofs.SettlingLemmas.Costs.{colons_last}
 use Rattle.syslog_loose.proofs.SettlingLemmas.Falls.{priority_again, printed_same}
 use Rattle.syslog_loose.proofs.SettlingLemmas.Names.{colon_values, host_left, one_space, colon_front}
 use Rattle.syslog_loose.proofs.SettlingLemmas.Rounds.{reached_first, reached_next}
-use Rattle.syslog_loose.proofs.SettlingLemmas.Settles.{no_protocol, loosely, odd_unsettled}
+use Rattle.syslog_loose.proofs.SettlingLemmas.Settles.{no_protocol, as_rfc3164, odd_unsettled}
 
 -- a blank follows a dash
 blank_follows : (blanks q : Text) → 0 < length blanks → Each is_blank blanks → IsDashBefore BeforeBlank (blanks ++ q)
@@ -82,14 +82,14 @@ with_names m t = record {
 }
 
 -- what is read behind the timestamp is read behind the printed priority and timestamp
-stamped : (dating : Dating) (m : MessageValue) (t : Text) (vs : Values (body_row BeforeBlank)) → IfSome m.timestamp IsPlainStamp
+stamped : (dating : Dating) (m : MessageValue) (t : Text) (vs : Values (body_row BeforeBlank)) → IfSome m.timestamp IsCanonicalStamp
     → Front (Row (body_row BeforeBlank)) (32 ∷ (name_text m.hostname ++ (32 ∷ (program_text m.appname m.procid ++ (58 ∷ t))))) [] vs
     → Front (Row (rfc3164_row BeforeBlank dating)) (whole m t) [] (Some (priority_of m), (tt, (m.timestamp, vs)))
 stamped dating m t vs k f =
     let y : Text = name_text m.hostname ++ (32 ∷ (program_text m.appname m.procid ++ (58 ∷ t))) in
     row_cons (optional priority) (from_priority_end BeforeBlank dating) (optional_some priority (priority_front (priority_of m) _ (priority_low m)))
     (row_cons (run is_blank) (from_stamp BeforeBlank dating) (piece_front (run is_blank) (32 ∷ []) _ tt ((refl, tt), stamp_unblank m.timestamp (32 ∷ y)))
-    (row_cons (loose_stamp dating) (body_row BeforeBlank) (stamp_back dating m.timestamp y k) f))
+    (row_cons (rfc3164_stamp dating) (body_row BeforeBlank) (stamp_back dating m.timestamp y k) f))
 
 -- a printed message of RFC 3164 is read by the variant as by RFC 3164
 as_variant : (variant : Variant) (dating : Dating) (text : Text) (m n : MessageValue) → IsRead variant dating text m → m.protocol ≡ RFC3164 → IsRead3164 BeforeBlank dating (printed_3164 m) n
@@ -120,26 +120,26 @@ no_form_colon h (front, e) vs d =
 visible_front : (h : Text) → IsVisible (h ++ colon) → EndsInColon h → IsVisible h
 visible_front h (l, a) (front, e) = (let n = ap length e in omega (arith, length-append front colon), each_front is_not_whitespace h colon a)
 
-no_process : (h : Option Text) (p : Option (ProcId Text)) → AreNearNames h None p → p ≡ None
+no_process : (h : Option Text) (p : Option (ProcId Text)) → AreNamesButExceptions h None p → p ≡ None
 no_process h None k = refl
 no_process h (Some p) k = absurd k
 
 module _ (variant : Variant) (dating : Dating) (text : Text) (m : MessageValue) (r : IsRead variant dating text m) (e : m.protocol ≡ RFC3164) where
   first : IsRead3164 BeforeBlank dating text m
-  first = loosely dating text m variant r e
+  first = as_rfc3164 dating text m variant r e
 
-  near : IsNear m
+  near : HasExceptionsAlone m
   near = read_near BeforeBlank dating text m first
 
   abbrev tail : Text
   tail = tail_text m.structured_data m.msg
 
-  module _ (h : Text) (k : IfSome m.timestamp IsPlainStamp) (is : m.hostname ≡ Some (h ++ colon)) (o : EndsInColon h) where
+  module _ (h : Text) (k : IfSome m.timestamp IsCanonicalStamp) (is : m.hostname ≡ Some (h ++ colon)) (o : EndsInColon h) where
     alone : m.appname ≡ None
     alone = (subst (λ (x : Option Text). IfSome x (λ y. IsOddHost y → m.appname ≡ None)) is near.odd_host) (inr (h, refl))
 
     without : m.procid ≡ None
-    without = no_process m.hostname m.procid (subst (λ (x : Option Text). AreNearNames m.hostname x m.procid) alone near.names)
+    without = no_process m.hostname m.procid (subst (λ (x : Option Text). AreNamesButExceptions m.hostname x m.procid) alone near.names)
 
     colon_row : Front (Row (body_row BeforeBlank)) (32 ∷ (name_text m.hostname ++ (32 ∷ (program_text m.appname m.procid ++ (58 ∷ tail))))) [] (colon_values (Some (Some h)) tail)
     colon_row =
@@ -159,22 +159,22 @@ module _ (variant : Variant) (dating : Dating) (text : Text) (m : MessageValue) 
     })
 
   -- ---- a message part of dashes, one of which is taken for an empty list
-  module _ (none : HasNoNameMiss m) (es : m.structured_data ≡ []) (msg rest_text : Text) (is : m.msg ≡ msg) (d : IsDashed msg rest_text) where
+  module _ (none : HasNoNameException m) (es : m.structured_data ≡ []) (msg rest_text : Text) (is : m.msg ≡ msg) (d : IsDashed msg rest_text) where
     dash_list : Front (Row (from_blanks BeforeBlank)) (message_end msg) [] (tt, (Some [], (tt, (rest_text, tt))))
     unfolding message_end
     dash_list =
         let f : Front (Row (from_blanks BeforeBlank)) (32 ∷ 45 ∷ (d.blanks ++ rest_text)) [] (tt, (Some [], (tt, (rest_text, tt)))) =
         row_cons (run is_blank) (from_list BeforeBlank) (one_space (45 ∷ (d.blanks ++ rest_text)) refl)
-        (row_cons (optional (listed BeforeBlank)) from_gap
-        (optional_some (listed BeforeBlank) (piece_front (listed BeforeBlank) dash (d.blanks ++ rest_text) [] (inl (refl, blank_follows d.blanks rest_text d.some d.each, refl))))
+        (row_cons (optional (rfc3164_list BeforeBlank)) from_gap
+        (optional_some (rfc3164_list BeforeBlank) (piece_front (rfc3164_list BeforeBlank) dash (d.blanks ++ rest_text) [] (inl (refl, blank_follows d.blanks rest_text d.some d.each, refl))))
         (gap_back (d.blanks ++ rest_text) rest_text (piece_front (run is_blank) d.blanks rest_text tt (d.each, d.no_more)))) in
         subst (λ (x : Text). Front (Row (from_blanks BeforeBlank)) (message_end x) [] (tt, (Some [], (tt, (rest_text, tt))))) (sym d.whole) f
 
     abbrev dash_values : Values (body_row BeforeBlank)
     dash_values = (Some m.hostname, (program_field m.appname m.procid, (tt, (Some tt, (tt, (Some [], (tt, (rest_text, tt))))))))
 
-    plain_names_of : ArePlainNames m.hostname m.appname m.procid
-    plain_names_of = plain_names m.hostname m.appname m.procid near.names none.no_colon
+    canonical_names_of : AreCanonicalNames m.hostname m.appname m.procid
+    canonical_names_of = canonical_names m.hostname m.appname m.procid near.names none.no_colon
 
     bounded : IfSome m.procid IsBoundedProcess
     bounded = (read_bounded BeforeBlank dating text m first).procid
@@ -182,9 +182,9 @@ module _ (variant : Variant) (dating : Dating) (text : Text) (m : MessageValue) 
     dash_row : Front (Row (body_row BeforeBlank)) (32 ∷ (name_text m.hostname ++ (32 ∷ (program_text m.appname m.procid ++ (58 ∷ tail))))) [] dash_values
     dash_row =
         let u : Text = program_text m.appname m.procid ++ (58 ∷ tail) in
-        let (q, tag, gap) = tag_back m.hostname m.appname m.procid tail plain_names_of bounded in
+        let (q, tag, gap) = tag_back m.hostname m.appname m.procid tail canonical_names_of bounded in
         let list = subst (λ (x : Text). Front (Row (from_blanks BeforeBlank)) x [] (tt, (Some [], (tt, (rest_text, tt))))) (sym (ap (λ (x : List ElementValue). tail_text x m.msg) es ∙ ap message_end is)) dash_list in
-        row_cons (optional (spaced host)) (from_tag BeforeBlank) (host_field_back m.hostname u (plain_host m.hostname near.hostname none.no_dash none.no_last_colon))
+        row_cons (optional (spaced host)) (from_tag BeforeBlank) (host_field_back m.hostname u (canonical_host m.hostname near.hostname none.no_dash none.no_last_colon))
         (row_cons (optional (spaced tag_word)) (from_tag_end BeforeBlank) tag
         (row_cons (run is_blank) (from_colon BeforeBlank) gap
         (row_cons (optional (exactly colon)) (from_blanks BeforeBlank) (colon_front tail) list)))
@@ -194,7 +194,7 @@ module _ (variant : Variant) (dating : Dating) (text : Text) (m : MessageValue) 
       values = (Some (priority_of m), (tt, (m.timestamp, dash_values)));
       division = front_division (rfc3164_row BeforeBlank dating)
           (subst (λ (x : Text). Front (Row (rfc3164_row BeforeBlank dating)) x [] (Some (priority_of m), (tt, (m.timestamp, dash_values)))) (sym (trimmed_whole m near.msg_end)) (stamped dating m tail dash_values none.timestamp dash_row));
-      means = (names m.hostname m.appname m.procid, resolved m.hostname m.appname m.procid plain_names_of bounded, refl);
+      means = (names m.hostname m.appname m.procid, resolved m.hostname m.appname m.procid canonical_names_of bounded, refl);
     })
 
 -- ---- what prints the same
@@ -220,13 +220,13 @@ module _ (variant : Variant) (dating : Dating) (input : Text) (m : MessageValue)
   host_odd : (h : Text) (x : Option Text) → x ≡ Some h → EndsInColon h → IfSome x (λ y. EndsInColon y → ⊥) → ⊥
   host_odd h x e o k = (subst (λ (z : Option Text). IfSome z (λ y. EndsInColon y → ⊥)) e k) o
 
-  module _ (stamp : IfSome m.timestamp IsPlainStamp) where
+  module _ (stamp : IfSome m.timestamp IsCanonicalStamp) where
     abbrev following : MessageValue → Text → MessageValue
     following y h = with_host y h (58 ∷ tail_text y.structured_data y.msg)
 
     next_read : (n : ℕ) (h : Text) (c : Colons n (h ++ colon)) → EndsInColon h → IsRead variant dating (printed c.message) (following c.message h)
     next_read n h c o =
-        let k = subst (λ (x : Option OffsetTimestamp). IfSome x IsPlainStamp) (sym c.like.timestamp) stamp in colon_read variant dating c.text c.message c.read c.protocol h k c.hostname o
+        let k = subst (λ (x : Option OffsetTimestamp). IfSome x IsCanonicalStamp) (sym c.like.timestamp) stamp in colon_read variant dating c.text c.message c.read c.protocol h k c.hostname o
 
     next_reached : (n : ℕ) (h : Text) (c : Colons n (h ++ colon)) → EndsInColon h → Reaches variant dating input (suc n) (printed (following c.message h))
     next_reached n h c o =
@@ -297,7 +297,7 @@ module _ (variant : Variant) (dating : Dating) (input : Text) (m : MessageValue)
     text : Text
     read : IsRead variant dating text message
     protocol : message.protocol ≡ RFC3164
-    none : HasNoNameMiss message
+    none : HasNoNameException message
     like : PrintsLike m message
     hostname : message.hostname ≡ m.hostname
     appname : message.appname ≡ m.appname
@@ -331,7 +331,7 @@ module _ (variant : Variant) (dating : Dating) (input : Text) (m : MessageValue)
   all_dashes zero t u k e = subst (λ (x : Text). Dashes 0 x) (sym e) k
   all_dashes (suc n) t u k (before, p, d, next, f) = next_dash n before u next (all_dashes n t before k p) d f
 
-  pub dashes_skipped : (n : ℕ) (u : Text) → IsRead variant dating input m → m.protocol ≡ RFC3164 → HasNoNameMiss m → m.structured_data ≡ [] → PassesDashes n m.msg u
+  pub dashes_skipped : (n : ℕ) (u : Text) → IsRead variant dating input m → m.protocol ≡ RFC3164 → HasNoNameException m → m.structured_data ≡ [] → PassesDashes n m.msg u
       → Reaches variant dating input n (printed (with_msg m u))
   dashes_skipped n u r e none es p =
       let start : Dashes 0 m.msg = record {

@@ -5,22 +5,22 @@ use Rattle.std.specs.Char.{is_whitespace}
 use Rattle.std.specs.Str.{skip_leading_whitespace, drop_trailing_whitespace}
 use Rattle.syslog_pieces.specs.Pieces.Class.{Text, Class, Values, Front, Row, join, run, rest, exactly, optional, spaced}
 use Rattle.syslog_pieces.specs.Pri.{priority}
-use Rattle.syslog_pieces.specs.StructuredData.Listed.{BeginsNoList, listed}
+use Rattle.syslog_pieces.specs.StructuredData.Rfc3164List.{BeginsNoList, rfc3164_list}
 use Rattle.syslog_pieces.specs.Text.{trimmed, is_blank, dash, colon, IsHost, host, tag_word}
-use Rattle.syslog_pieces.specs.Timestamp.Loose.{loose_stamp}
+use Rattle.syslog_pieces.specs.Timestamp.Rfc3164.{rfc3164_stamp}
 use Rattle.syslog_pieces.specs.Timestamp.MonthDate.{yearless_date, dated_date, month_date}
-use Rattle.syslog_pieces.specs.Timestamp.Plain.{IsPlainStamp}
+use Rattle.syslog_pieces.specs.Timestamp.Canonical.{IsCanonicalStamp}
 use Rattle.syslog_pieces.specs.Timestamp.Zone.{Dating}
 use Rattle.syslog_pieces.specs.declared.procid.ProcId.{ProcId}
-use Rattle.syslog_pieces.specs.declared.structured_data.listed.DashRule.{DashRule}
+use Rattle.syslog_pieces.specs.declared.structured_data.rfc3164_list.DashRule.{DashRule}
 use Rattle.syslog_pieces.specs.declared.timestamp.OffsetTimestamp.{OffsetTimestamp}
 use Rattle.syslog_pieces.specs.declared.timestamp.month_date.MonthDate.{MonthDate}
 use Rattle.syslog_pieces.proofs.PieceLemmas.Class.{row_head, division_front, spaced_parts}
 use Rattle.syslog_pieces.proofs.PieceLemmas.Kinds.{Begins}
 use Rattle.syslog_pieces.proofs.PieceLemmas.Steps.{front_longer, present_front}
 use Rattle.syslog_pieces.proofs.TimestampLemmas.Months.{IsLetter, month_begins}
-use Rattle.syslog_pieces.proofs.TimestampLemmas.RoundTrip.{stamp_text-plain}
-use Rattle.syslog_loose.specs.ListedMisses.{HasNoColon}
+use Rattle.syslog_pieces.proofs.TimestampLemmas.RoundTrip.{stamp_text-canonical}
+use Rattle.syslog_loose.specs.Exceptions.{HasNoColon}
 use Rattle.syslog_loose.specs.Message.{MessageValue}
 use Rattle.syslog_loose.specs.Rfc3164.{Names3164, Resolves, body_row, rfc3164_row, IsRead3164}
 use Rattle.syslog_loose.specs.Settling.{Costs, ColonsCost, NamesWeigh, Weighs}
@@ -71,10 +71,10 @@ date_some : (p q : Text) (d : MonthDate) → month_date.Is p q d → 0 < length 
 date_some p q d (inl h) = yearless_some p q d h
 date_some p q d (inr h) = dated_some p q d h
 
-stamp_light : (dating : Dating) (p q : Text) (s : Option OffsetTimestamp) (w : ℕ) → (loose_stamp dating).Is p q s → Costs (IfSome s IsPlainStamp) 1 w → w ≤ length p
+stamp_light : (dating : Dating) (p q : Text) (s : Option OffsetTimestamp) (w : ℕ) → (rfc3164_stamp dating).Is p q s → Costs (IfSome s IsCanonicalStamp) 1 w → w ≤ length p
 stamp_light dating p q None w h c = let e : w ≡ 0 = free _ 1 w c tt in omega arith
-stamp_light dating p q (Some s) w (inl (text, space)) c = let e = free (IfSome (Some s) IsPlainStamp) 1 w c (stamp_text-plain p s text) in omega arith
-stamp_light dating p q (Some s) w (inr (d, h, k)) c = let a = at_most (IfSome (Some s) IsPlainStamp) 1 w c in let b = date_some p q d h in omega arith
+stamp_light dating p q (Some s) w (inl (text, space)) c = let e = free (IfSome (Some s) IsCanonicalStamp) 1 w c (stamp_text-canonical p s text) in omega arith
+stamp_light dating p q (Some s) w (inr (d, h, k)) c = let a = at_most (IfSome (Some s) IsCanonicalStamp) 1 w c in let b = date_some p q d h in omega arith
 
 -- ---- the names
 
@@ -135,7 +135,7 @@ msg_size rule t vs f =
     let a6 = front_longer (run is_blank) g6 in
     let a7 = front_longer (optional (exactly colon)) g7 in
     let a8 = front_longer (run is_blank) g8 in
-    let a9 = front_longer (optional (listed rule)) g9 in
+    let a9 = front_longer (optional (rfc3164_list rule)) g9 in
     let a10 = front_longer (run is_blank) g10 in
     let a11 = front_length rest g11 in
     omega (arith, ap length g11.is.1)
@@ -157,12 +157,12 @@ light rule dating text m w r x =
     let (n, resolves, means) = r.means in
     let g1 = row_head (optional priority) (from_priority_end rule dating) (division_front (rfc3164_row rule dating) r.division) in
     let g2 = row_head (run is_blank) (from_stamp rule dating) g1.2 in
-    let g3 = row_head (loose_stamp dating) (body_row rule) g2.2 in
-    let stamp = stamp_light dating g3.1.piece g3.0 v.1.1.0 x.stamp g3.1.is (subst (λ (z : MessageValue). Costs (IfSome z.timestamp IsPlainStamp) 1 x.stamp) means x.stamp_is) in
+    let g3 = row_head (rfc3164_stamp dating) (body_row rule) g2.2 in
+    let stamp = stamp_light dating g3.1.piece g3.0 v.1.1.0 x.stamp g3.1.is (subst (λ (z : MessageValue). Costs (IfSome z.timestamp IsCanonicalStamp) 1 x.stamp) means x.stamp_is) in
     let taken : x.taken ≤ length m.msg = at_most (m.structured_data ≡ [] → BeginsNoList rule m.msg) (length m.msg) x.taken x.taken_is in
     let behind = body_light rule g3.0 v.1.1.1 n x.names x.taken g3.2 resolves (subst (λ (z : MessageValue). NamesWeigh z.hostname z.procid x.names) means x.names_is) (subst (λ (z : MessageValue). x.taken ≤ length z.msg) means taken) in
     let a1 = front_longer (optional priority) g1.1 in
     let a2 = front_longer (run is_blank) g2.1 in
-    let a3 = front_length (loose_stamp dating) g3.1 in
+    let a3 = front_length (rfc3164_stamp dating) g3.1 in
     let a0 = trimmed_shorter text in
     omega (arith, x.total)

@@ -4,25 +4,25 @@ use Rattle.std.proofs.lemmas.Bool.Decides.{eqb_tells}
 use Rattle.std.proofs.lemmas.List.{length-append}
 use Rattle.std.specs.Char.{is_not_whitespace}
 use Rattle.syslog_pieces.specs.Pieces.Class.{Text, Class, Values, Front, NoFront, IsDeterministic, Row, Each, Ends, run, some_run, exactly, rest, optional, spaced, texted}
-use Rattle.syslog_pieces.specs.StructuredData.Listed.{BeginsNoList, listed, elements_or}
+use Rattle.syslog_pieces.specs.StructuredData.Rfc3164List.{BeginsNoList, rfc3164_list, elements_or}
 use Rattle.syslog_pieces.specs.Text.{is_blank, is_tag_char, dash, colon, EndsInColon, name_text, host, tag_word}
 use Rattle.syslog_pieces.specs.Text.CharClass.{is_label_char, is_open_char}
 use Rattle.syslog_pieces.specs.declared.procid.ProcId.{ProcId}
 use Rattle.syslog_pieces.specs.declared.procid.ProcId.TheVariants.{PID, Name}
-use Rattle.syslog_pieces.specs.declared.structured_data.listed.DashRule.TheVariants.{BeforeBlank}
+use Rattle.syslog_pieces.specs.declared.structured_data.rfc3164_list.DashRule.TheVariants.{BeforeBlank}
 use Rattle.syslog_pieces.proofs.PieceLemmas.Class.{AllDeterministic, run_same, rest_same, heads, row_nil, row_cons, row_head, row_det, front_same, division_front, rest_front, optional_det, optional_some, optional_none, exactly_det, run_det, spaced_det, spaced_front, no_spaced_space, no_spaced_piece}
 use Rattle.syslog_pieces.proofs.PieceLemmas.Steps.{piece_front, step, step_value}
-use Rattle.syslog_pieces.proofs.StructuredDataLemmas.Listed.{no_listed}
+use Rattle.syslog_pieces.proofs.StructuredDataLemmas.Rfc3164List.{no_rfc3164_list}
 use Rattle.syslog_pieces.proofs.TextLemmas.ReadBack.{dash_ends_not}
 use Rattle.syslog_pieces.proofs.TextLemmas.Words.{host_det, tag_word_det}
-use Rattle.syslog_loose.specs.Canonical.{IsVisible, IsPlainHost, IsBoundedProcess, ArePlainNames}
-use Rattle.syslog_loose.specs.ListedMisses.{is_no_colon, HasNoColon, IsOddHost, is_inner_char, AreNearNames}
+use Rattle.syslog_loose.specs.Canonical.{IsVisible, IsCanonicalHost, IsBoundedProcess, AreCanonicalNames}
+use Rattle.syslog_loose.specs.Exceptions.{is_no_colon, HasNoColon, IsOddHost, is_inner_char, AreNamesButExceptions}
 use Rattle.syslog_loose.specs.Printed.{tag_text}
 use Rattle.syslog_loose.specs.Rfc3164.{Names3164, names, NamesProgram, NamesHost, Resolves, body_row}
 use Rattle.syslog_loose.specs.Settling.{Costs, ColonsCost, NamesWeigh}
 use Rattle.syslog_loose.specs.TagForm.{form_row, IsNoForm}
 use Rattle.syslog_loose.proofs.Rfc3164Lemmas.{resolves_once}
-use Rattle.syslog_loose.proofs.Rfc3164Lemmas.Misses.{no_colon_names, plain_names}
+use Rattle.syslog_loose.proofs.Rfc3164Lemmas.Exceptions.{no_colon_names, canonical_names}
 use Rattle.syslog_pieces.proofs.PieceLemmas.Each.{each_both, each_left, each_right, each_front, each_behind, each_append}
 use Rattle.syslog_loose.proofs.Rfc3164Lemmas.ReadBack.{program_field, resolved, no_tag_colon, tagged, tag_back, host_field_back}
 use Rattle.syslog_loose.proofs.Rfc3164Lemmas.Rows.{from_gap, from_list, from_blanks, from_colon, from_tag_end, from_tag}
@@ -51,7 +51,7 @@ one_space t b = piece_front (run is_blank) (32 ∷ []) t tt ((refl, tt), b)
 message_read : (t msg : Text) → Front (run is_blank) t msg tt → Ends is_blank msg → BeginsNoList BeforeBlank msg → Front (Row (from_blanks BeforeBlank)) t [] (tt, (None, (tt, (msg, tt))))
 message_read t msg f b n =
     row_cons (run is_blank) (from_list BeforeBlank) f
-    (row_cons (optional (listed BeforeBlank)) from_gap (optional_none (listed BeforeBlank) (no_listed BeforeBlank msg n))
+    (row_cons (optional (rfc3164_list BeforeBlank)) from_gap (optional_none (rfc3164_list BeforeBlank) (no_rfc3164_list BeforeBlank msg n))
     (row_cons (run is_blank) (rest ∷ []) (no_blanks msg b)
     (row_cons rest [] (rest_front msg) (row_nil []))))
 
@@ -66,7 +66,7 @@ abbrev pub names_text : Option Text → Option Text → Option (ProcId Text) →
 names_text h a p t = 32 ∷ (name_text h ++ (32 ∷ (program_text a p ++ (58 ∷ t))))
 
 -- read as names that print the same and weigh nothing, and what follows the colon is read next
-pub record Kept (h a : Option Text) (p : Option (ProcId Text)) (t : Text) (n : Names3164) (vs : Values (body_row BeforeBlank)) (v : ℕ) : Type 0 where
+pub record Stays (h a : Option Text) (p : Option (ProcId Text)) (t : Text) (n : Names3164) (vs : Values (body_row BeforeBlank)) (v : ℕ) : Type 0 where
   pub light : v ≡ 0
   pub host_is : name_text n.hostname ≡ name_text h
   pub tag_is : tag_text n.appname n.procid ≡ tag_text a p
@@ -82,25 +82,25 @@ pub record Moved (vs : Values (body_row BeforeBlank)) (v w : ℕ) : Type 0 where
 abbrev NoDash : Option Text → Type 0
 NoDash h = IfSome h (λ x. x ≢ dash)
 
-plain_colons : (h : Option Text) (w : ℕ) → IfSome h IsPlainHost → ColonsCost h w → w ≡ 0
-plain_colons None w k e = e
-plain_colons (Some h) w k (zero, n, e) = e
-plain_colons (Some h) w k (suc c, n, e) = absurd (k.2 (ends_colon h c n))
+canonical_colons : (h : Option Text) (w : ℕ) → IfSome h IsCanonicalHost → ColonsCost h w → w ≡ 0
+canonical_colons None w k e = e
+canonical_colons (Some h) w k (zero, n, e) = e
+canonical_colons (Some h) w k (suc c, n, e) = absurd (k.2 (ends_colon h c n))
 
-plain_dash : (h : Option Text) → IfSome h IsPlainHost → NoDash h
-plain_dash None k = tt
-plain_dash (Some h) k = k.1
+canonical_dash : (h : Option Text) → IfSome h IsCanonicalHost → NoDash h
+canonical_dash None k = tt
+canonical_dash (Some h) k = k.1
 
-plain_zero : (h a : Option Text) (p : Option (ProcId Text)) (v : ℕ) → IfSome h IsPlainHost → ArePlainNames h a p → NamesWeigh h p v → v ≡ 0
-plain_zero h a p v k c y =
-    let x = plain_colons h y.colons k y.colons_is in
-    let d = free (NoDash h) 1 y.dashed y.dashed_is (plain_dash h k) in
+canonical_zero : (h a : Option Text) (p : Option (ProcId Text)) (v : ℕ) → IfSome h IsCanonicalHost → AreCanonicalNames h a p → NamesWeigh h p v → v ≡ 0
+canonical_zero h a p v k c y =
+    let x = canonical_colons h y.colons k y.colons_is in
+    let d = free (NoDash h) 1 y.dashed y.dashed_is (canonical_dash h k) in
     let z = free (IfSome p HasNoColon) 1 y.cut y.cut_is (no_colon_names h a p c) in
     omega (arith, y.total)
 
-plain_kept : (h a : Option Text) (p : Option (ProcId Text)) (t : Text) (n : Names3164) (vs : Values (body_row BeforeBlank)) (v : ℕ) → IfSome h IsPlainHost → ArePlainNames h a p → IfSome p IsBoundedProcess
-    → NamesWeigh n.hostname n.procid v → Resolves vs.0 vs.1.0 n → Front (Row (body_row BeforeBlank)) (names_text h a p t) [] vs → Kept h a p t n vs v
-plain_kept h a p t n vs v k c b y r d =
+canonical_stays : (h a : Option Text) (p : Option (ProcId Text)) (t : Text) (n : Names3164) (vs : Values (body_row BeforeBlank)) (v : ℕ) → IfSome h IsCanonicalHost → AreCanonicalNames h a p → IfSome p IsBoundedProcess
+    → NamesWeigh n.hostname n.procid v → Resolves vs.0 vs.1.0 n → Front (Row (body_row BeforeBlank)) (names_text h a p t) [] vs → Stays h a p t n vs v
+canonical_stays h a p t n vs v k c b y r d =
     let u : Text = program_text a p ++ (58 ∷ t) in
     let d1 = move (optional (spaced host)) (from_tag BeforeBlank) (optional_det (spaced host) (spaced_det host host_det)) (names_text h a p t) (32 ∷ u) (Some h) vs (host_field_back h u k) d in
     let (q, tag, gap) = tag_back h a p t c b in
@@ -111,17 +111,17 @@ plain_kept h a p t n vs v k c b y r d =
     let r2 : Resolves (Some h) (program_field a p) n = subst (λ (x : Option (Option Text)). Resolves (Some h) x n) d2.0 r1 in
     let e : n ≡ names h a p = resolves_once (Some h) (program_field a p) n (names h a p) r2 (resolved h a p c b) in
     record {
-      light = plain_zero h a p v k c (subst (λ (x : Names3164). NamesWeigh x.hostname x.procid v) e y);
+      light = canonical_zero h a p v k c (subst (λ (x : Names3164). NamesWeigh x.hostname x.procid v) e y);
       host_is = ap (λ (x : Names3164). name_text x.hostname) e;
       tag_is = ap (λ (x : Names3164). tag_text x.appname x.procid) e;
       behind = d4.1;
     }
 
 -- a host that is a dash is read as none
-dash_kept : (h t : Text) (n : Names3164) (vs : Values (body_row BeforeBlank)) (v : ℕ) → h ≡ dash → NamesWeigh n.hostname n.procid v → Resolves vs.0 vs.1.0 n
-    → Front (Row (body_row BeforeBlank)) (names_text (Some h) None None t) [] vs → Kept (Some h) None None t n vs v
-dash_kept h t n vs v e y r d =
-    let k = plain_kept None None None t n vs v tt tt tt y r (subst (λ (x : Text). Front (Row (body_row BeforeBlank)) (32 ∷ (x ++ (32 ∷ (58 ∷ t)))) [] vs) e d) in
+dash_stays : (h t : Text) (n : Names3164) (vs : Values (body_row BeforeBlank)) (v : ℕ) → h ≡ dash → NamesWeigh n.hostname n.procid v → Resolves vs.0 vs.1.0 n
+    → Front (Row (body_row BeforeBlank)) (names_text (Some h) None None t) [] vs → Stays (Some h) None None t n vs v
+dash_stays h t n vs v e y r d =
+    let k = canonical_stays None None None t n vs v tt tt tt y r (subst (λ (x : Text). Front (Row (body_row BeforeBlank)) (32 ∷ (x ++ (32 ∷ (58 ∷ t)))) [] vs) e d) in
     record { light = k.light; host_is = k.host_is ∙ sym e; tag_is = k.tag_is; behind = k.behind }
 
 -- ---- a process name with a colon: its tag word ends there
@@ -302,52 +302,52 @@ cut_colon p c h = colon_inside c.before c.after (subst (λ (x : Option (ProcId T
 
 module _ (t : Text) (n : Names3164) (vs : Values (body_row BeforeBlank)) (w v : ℕ) (y : NamesWeigh n.hostname n.procid v) (r : Resolves vs.0 vs.1.0 n) where
   abbrev pub Step : Option Text → Option Text → Option (ProcId Text) → Type 0
-  Step h a p = Kept h a p t n vs v ⊎ Moved vs v w
+  Step h a p = Stays h a p t n vs v ⊎ Moved vs v w
 
-  cut_moved : (a : Option Text) (p : Option (ProcId Text)) (c : Cut p) → AreNearNames None a p → NamesWeigh None p w → Front (Row (body_row BeforeBlank)) (names_text None a p t) [] vs → Moved vs v w
-  cut_moved None p c near k d = absurd (subst (λ (x : Option (ProcId Text)). AreNearNames None None x) c.is near)
+  cut_moved : (a : Option Text) (p : Option (ProcId Text)) (c : Cut p) → AreNamesButExceptions None a p → NamesWeigh None p w → Front (Row (body_row BeforeBlank)) (names_text None a p t) [] vs → Moved vs v w
+  cut_moved None p c near k d = absurd (subst (λ (x : Option (ProcId Text)). AreNamesButExceptions None None x) c.is near)
   cut_moved (Some a) p c near k d =
       let d1 = subst (λ (x : Option (ProcId Text)). Front (Row (body_row BeforeBlank)) (names_text None (Some a) x t) [] vs) c.is d in
-      let (label, (some, inner, no_number)) = subst (λ (x : Option (ProcId Text)). AreNearNames None (Some a) x) c.is near in
+      let (label, (some, inner, no_number)) = subst (λ (x : Option (ProcId Text)). AreNamesButExceptions None (Some a) x) c.is near in
       let d2 = subst (λ (x : Text). Front (Row (body_row BeforeBlank)) (32 ∷ (dash ++ (32 ∷ x))) [] vs) (cut_text a c.before c.after t) d1 in
       let b = cut_bare a c.before c.after t n vs v label c.none (each_front is_inner_char c.before (58 ∷ c.after) inner) (each_behind is_inner_char c.before (58 ∷ c.after) inner).1 y r d2 in
       let one : k.cut ≡ 1 = paid (IfSome p HasNoColon) 1 k.cut k.cut_is (cut_colon p c) in
       record { lighter = (let l = b.light in omega (arith, k.total)); bare = b.bare; no_list = b.no_list }
 
   odd_step : (h : Text) → Each is_not_whitespace h → IsOddHost h → NamesWeigh (Some h) None w → Front (Row (body_row BeforeBlank)) (names_text (Some h) None None t) [] vs → Step (Some h) None None
-  odd_step h b (inl e) x d = inl (dash_kept h t n vs v e y r d)
+  odd_step h b (inl e) x d = inl (dash_stays h t n vs v e y r d)
   odd_step h b (inr (front, e)) x d =
       let m = colons_moved front t n vs x.colons v (subst (λ (z : Text). Each is_not_whitespace z) e b) (subst (λ (z : Text). ColonsCost (Some z) x.colons) e x.colons_is) y r
       (subst (λ (z : Text). Front (Row (body_row BeforeBlank)) (32 ∷ (z ++ (32 ∷ 58 ∷ t))) [] vs) e d) in
       inr (record { lighter = (let l = m.lighter in omega (arith, x.total)); bare = m.bare; no_list = m.no_list })
 
-  plain_or_odd : (h : Text) → IsVisible h → IsPlainHost h ⊎ IsOddHost h
-  plain_or_odd h k =
+  canonical_or_odd : (h : Text) → IsVisible h → IsCanonicalHost h ⊎ IsOddHost h
+  canonical_or_odd h k =
       elim (ends_in h) [
         | inl o ↦ inr (inr o)
         | inr e ↦ elim (is_dash h) [ inl o ↦ inr (inl o) | inr m ↦ inl (k, m, e) ]
       ]
 
-  host_step : (h : Text) (a : Option Text) (p : Option (ProcId Text)) → IsVisible h → (IsOddHost h → a ≡ None) → ArePlainNames (Some h) a p → IfSome p IsBoundedProcess → NamesWeigh (Some h) p w
-      → Front (Row (body_row BeforeBlank)) (names_text (Some h) a p t) [] vs → IsPlainHost h ⊎ IsOddHost h → Step (Some h) a p
-  host_step h a p k o c b x d (inl f) = inl (plain_kept (Some h) a p t n vs v f c b y r d)
+  host_step : (h : Text) (a : Option Text) (p : Option (ProcId Text)) → IsVisible h → (IsOddHost h → a ≡ None) → AreCanonicalNames (Some h) a p → IfSome p IsBoundedProcess → NamesWeigh (Some h) p w
+      → Front (Row (body_row BeforeBlank)) (names_text (Some h) a p t) [] vs → IsCanonicalHost h ⊎ IsOddHost h → Step (Some h) a p
+  host_step h a p k o c b x d (inl f) = inl (canonical_stays (Some h) a p t n vs v f c b y r d)
   host_step h None None k o c b x d (inr f) = odd_step h k.1 f x d
   host_step h None (Some p) k o c b x d (inr f) = absurd c
   host_step h (Some a) p k o c b x d (inr f) = absurd (let z : Some a ≡ None = o f in cc)
 
-  plain_step : (h a : Option Text) (p : Option (ProcId Text)) → IfSome h IsVisible → IfSome h (λ x. IsOddHost x → a ≡ None) → ArePlainNames h a p → IfSome p IsBoundedProcess → NamesWeigh h p w
+  canonical_step : (h a : Option Text) (p : Option (ProcId Text)) → IfSome h IsVisible → IfSome h (λ x. IsOddHost x → a ≡ None) → AreCanonicalNames h a p → IfSome p IsBoundedProcess → NamesWeigh h p w
       → Front (Row (body_row BeforeBlank)) (names_text h a p t) [] vs → Step h a p
-  plain_step None a p k o c b x d = inl (plain_kept None a p t n vs v tt c b y r d)
-  plain_step (Some h) a p k o c b x d = host_step h a p k o c b x d (plain_or_odd h k)
+  canonical_step None a p k o c b x d = inl (canonical_stays None a p t n vs v tt c b y r d)
+  canonical_step (Some h) a p k o c b x d = host_step h a p k o c b x d (canonical_or_odd h k)
 
-  cut_step : (h a : Option Text) (p : Option (ProcId Text)) → Cut p → IfSome p HasNoColon ⊎ (h ≡ None) → AreNearNames h a p → NamesWeigh h p w → Front (Row (body_row BeforeBlank)) (names_text h a p t) [] vs → Step h a p
+  cut_step : (h a : Option Text) (p : Option (ProcId Text)) → Cut p → IfSome p HasNoColon ⊎ (h ≡ None) → AreNamesButExceptions h a p → NamesWeigh h p w → Front (Row (body_row BeforeBlank)) (names_text h a p t) [] vs → Step h a p
   cut_step h a p c (inl k) near x d = absurd (cut_colon p c k)
   cut_step None a p c (inr e) near x d = inr (cut_moved a p c near x d)
   cut_step (Some h) a p c (inr e) near x d = absurd (let z : Some h ≡ None = e in cc)
 
-  pub names_step : (h a : Option Text) (p : Option (ProcId Text)) → IfSome h IsVisible → IfSome h (λ x. IsOddHost x → a ≡ None) → AreNearNames h a p → IfSome p HasNoColon ⊎ (h ≡ None) → IfSome p IsBoundedProcess
+  pub names_step : (h a : Option Text) (p : Option (ProcId Text)) → IfSome h IsVisible → IfSome h (λ x. IsOddHost x → a ≡ None) → AreNamesButExceptions h a p → IfSome p HasNoColon ⊎ (h ≡ None) → IfSome p IsBoundedProcess
       → NamesWeigh h p w → Front (Row (body_row BeforeBlank)) (names_text h a p t) [] vs → Step h a p
   names_step h a p k o near cut b x d = elim (whole_or_cut p) [
-    | inl c ↦ plain_step h a p k o (plain_names h a p near c) b x d
+    | inl c ↦ canonical_step h a p k o (canonical_names h a p near c) b x d
     | inr c ↦ cut_step h a p c cut near x d
   ]

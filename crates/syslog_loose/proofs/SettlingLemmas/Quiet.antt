@@ -3,7 +3,7 @@ use Rattle.std.proofs.Common.{inl, inr, [], ◌∷◌, ◌++◌, Option, Some, N
 use Rattle.syslog_pieces.specs.Pieces.Class.{Text, Front, Row, run, rest, optional}
 use Rattle.syslog_pieces.specs.Pri.{priority}
 use Rattle.syslog_pieces.specs.Text.{is_blank, name_text}
-use Rattle.syslog_pieces.specs.Timestamp.Loose.{showing_row, ShowsYearless}
+use Rattle.syslog_pieces.specs.Timestamp.Rfc3164.{showing_row, ShowsYearless}
 use Rattle.syslog_pieces.specs.Timestamp.MonthDate.{yearless_date}
 use Rattle.syslog_pieces.specs.Timestamp.Zone.{Dating}
 use Rattle.syslog_pieces.specs.declared.timestamp.OffsetTimestamp.{OffsetTimestamp}
@@ -12,7 +12,7 @@ use Rattle.syslog_pieces.proofs.PieceLemmas.Class.{row_head, division_front, opt
 use Rattle.syslog_pieces.proofs.PieceLemmas.Kinds.{Begins, begins_apart, begins_more}
 use Rattle.syslog_pieces.proofs.PieceLemmas.Steps.{piece_front, step}
 use Rattle.syslog_pieces.proofs.PriLemmas.{priority_det}
-use Rattle.syslog_pieces.proofs.TimestampLemmas.Loose.{IsLow}
+use Rattle.syslog_pieces.proofs.TimestampLemmas.Rfc3164.{IsLow}
 use Rattle.syslog_pieces.proofs.TimestampLemmas.MonthDate.{month_date_begins}
 use Rattle.syslog_pieces.proofs.TimestampLemmas.Months.{IsLetter}
 use Rattle.syslog_loose.specs.Canonical.{EndsVisibly}
@@ -46,8 +46,8 @@ stamp_begins : (v : Option OffsetTimestamp) (q : Text) → Begins IsLow (timesta
 stamp_begins None q = omega arith
 stamp_begins (Some s) q = begins_more IsLow (timestamp_text (Some s)) q (stamp_low s)
 
-loose_quiet : (m : MessageValue) → EndsVisibly m.msg → (date : MonthDate) → ShowsYearless (printed_3164 m) date → ⊥
-loose_quiet m visible date (p, more, k) =
+rfc3164_quiet : (m : MessageValue) → EndsVisibly m.msg → (date : MonthDate) → ShowsYearless (printed_3164 m) date → ⊥
+rfc3164_quiet m visible date (p, more, k) =
     let t : Text = tail_text m.structured_data m.msg in
     let y : Text = name_text m.hostname ++ (32 ∷ (program_text m.appname m.procid ++ (58 ∷ t))) in
     let x2 : Text = timestamp_text m.timestamp ++ (32 ∷ y) in
@@ -57,10 +57,10 @@ loose_quiet m visible date (p, more, k) =
     let (q, f, g) = row_head yearless_date (rest ∷ []) d2 in
     begins_apart x2 (λ c a b. omega arith) (stamp_begins m.timestamp (32 ∷ y)) (subst (λ (x : Text). Begins IsLetter x) (sym f.whole) (month_date_begins f.piece q date (inl f.is)))
 
-loose_shows_none : (dating : Dating) (text : Text) (m : MessageValue) → IsRead3164 dash_rule dating text m → (date : MonthDate) → ShowsYearless (printed m) date → ⊥
-loose_shows_none dating text m r date h =
+rfc3164_shows_none : (dating : Dating) (text : Text) (m : MessageValue) → IsRead3164 dash_rule dating text m → (date : MonthDate) → ShowsYearless (printed m) date → ⊥
+rfc3164_shows_none dating text m r date h =
     let near = read_near dash_rule dating text m r in
-    loose_quiet m near.msg_end date (subst (λ (x : Text). ShowsYearless x date) (printed_is m near.protocol) h)
+    rfc3164_quiet m near.msg_end date (subst (λ (x : Text). ShowsYearless x date) (printed_is m near.protocol) h)
 
 strict_shows_none : (text : Text) (m : MessageValue) → IsRead5424 text m → (date : MonthDate) → ShowsYearless (printed m) date → ⊥
 strict_shows_none text m r date h =
@@ -70,6 +70,6 @@ strict_shows_none text m r date h =
 -- the printed text of what was read asks for no year
 pub printed_quiet : (variant : Variant) (dating : Dating) (text : Text) (m : MessageValue) → IsRead variant dating text m → (date : MonthDate) → AsksYear variant (printed m) date → ⊥
 printed_quiet RFC5424 dating text m r date asks = asks
-printed_quiet RFC3164 dating text m r date asks = loose_shows_none dating text m r date asks
+printed_quiet RFC3164 dating text m r date asks = rfc3164_shows_none dating text m r date asks
 printed_quiet Either dating text m (inl r) date asks = strict_shows_none text m r date asks
-printed_quiet Either dating text m (inr (none, r)) date asks = loose_shows_none dating text m r date asks
+printed_quiet Either dating text m (inr (none, r)) date asks = rfc3164_shows_none dating text m r date asks

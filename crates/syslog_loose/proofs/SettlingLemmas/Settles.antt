@@ -8,9 +8,9 @@ use Rattle.std.specs.Str.{chars, IsUtf8, bytes_eq, encode_utf8_all}
 use Rattle.syslog_pieces.specs.Pieces.Class.{Text}
 use Rattle.syslog_pieces.specs.Timestamp.Zone.{Dating}
 use Rattle.syslog_loose.specs.Canonical.{IsCanonical}
-use Rattle.syslog_loose.specs.KeptLine.{PrintsAs}
-use Rattle.syslog_loose.specs.KeptLoose.{PrintsFreely}
-use Rattle.syslog_loose.specs.ListedMisses.{HasNoMiss}
+use Rattle.syslog_loose.specs.VerbatimLine.{PrintsAs5424}
+use Rattle.syslog_loose.specs.Verbatim3164.{PrintsAs3164}
+use Rattle.syslog_loose.specs.Exceptions.{HasNoException}
 use Rattle.syslog_loose.specs.Message.{MessageValue}
 use Rattle.syslog_loose.specs.Printed.{printed}
 use Rattle.syslog_loose.specs.Reading.{dash_rule, IsRead, IsUnreadable}
@@ -24,9 +24,9 @@ use Rattle.syslog_loose.specs.declared.message.Protocol.TheVariants as protocol
 use Rattle.syslog_loose.specs.declared.variant.Variant.{Variant}
 use Rattle.syslog_loose.specs.declared.variant.Variant.TheVariants.{Either, RFC3164, RFC5424}
 use Rattle.syslog_loose.proofs.BoundLemmas.{read_bounded}
-use Rattle.syslog_loose.proofs.ReadBackLemmas.{printed_exact, kept_again}
+use Rattle.syslog_loose.proofs.ReadBackLemmas.{printed_exact, fixed_again}
 use Rattle.syslog_loose.proofs.ReadingLemmas.{read_once, invalid_or_memory}
-use Rattle.syslog_loose.proofs.Rfc3164Lemmas.Misses.{canonical_near}
+use Rattle.syslog_loose.proofs.Rfc3164Lemmas.Exceptions.{canonical_near}
 use Rattle.syslog_loose.proofs.Rfc3164Lemmas.Near.{read_near}
 use Rattle.syslog_loose.proofs.Rfc3164Lemmas.Printed.{printed_is, printed_apart}
 use Rattle.syslog_loose.proofs.SettlingLemmas.Falls.{falls}
@@ -46,19 +46,19 @@ module _ (dating : Dating) (text : Text) (m : MessageValue) where
   strictly Either version (inl r) e = r
   strictly Either version (inr (none, r)) e = absurd (no_protocol version (sym (read_near dash_rule dating text m r).protocol ∙ e))
 
-  pub loosely : (variant : Variant) → IsRead variant dating text m → m.protocol ≡ protocol.RFC3164 → IsRead3164 dash_rule dating text m
-  loosely RFC5424 r e = absurd (no_protocol r.values.1.0 (sym e ∙ ap (λ (x : MessageValue). x.protocol) r.means))
-  loosely RFC3164 r e = r
-  loosely Either (inl r) e = absurd (no_protocol r.values.1.0 (sym e ∙ ap (λ (x : MessageValue). x.protocol) r.means))
-  loosely Either (inr (none, r)) e = r
+  pub as_rfc3164 : (variant : Variant) → IsRead variant dating text m → m.protocol ≡ protocol.RFC3164 → IsRead3164 dash_rule dating text m
+  as_rfc3164 RFC5424 r e = absurd (no_protocol r.values.1.0 (sym e ∙ ap (λ (x : MessageValue). x.protocol) r.means))
+  as_rfc3164 RFC3164 r e = r
+  as_rfc3164 Either (inl r) e = absurd (no_protocol r.values.1.0 (sym e ∙ ap (λ (x : MessageValue). x.protocol) r.means))
+  as_rfc3164 Either (inr (none, r)) e = r
 
 -- what RFC 3164 printed stays RFC 3164
-stays_loose : (variant : Variant) (dating : Dating) (text : Text) (m n : MessageValue) → IsRead variant dating text m → m.protocol ≡ protocol.RFC3164 → IsRead variant dating (printed m) n → IsRead3164 dash_rule dating (printed m) n
-stays_loose RFC5424 dating text m n r e s = absurd (no_protocol r.values.1.0 (sym e ∙ ap (λ (x : MessageValue). x.protocol) r.means))
-stays_loose RFC3164 dating text m n r e s = s
-stays_loose Either dating text m n r e (inl s) =
+stays_rfc3164 : (variant : Variant) (dating : Dating) (text : Text) (m n : MessageValue) → IsRead variant dating text m → m.protocol ≡ protocol.RFC3164 → IsRead variant dating (printed m) n → IsRead3164 dash_rule dating (printed m) n
+stays_rfc3164 RFC5424 dating text m n r e s = absurd (no_protocol r.values.1.0 (sym e ∙ ap (λ (x : MessageValue). x.protocol) r.means))
+stays_rfc3164 RFC3164 dating text m n r e s = s
+stays_rfc3164 Either dating text m n r e (inl s) =
     let k = subst (λ (x : Text). IsRead5424 x n) (printed_is m e) s in absurd (printed_apart m k.values k.division)
-stays_loose Either dating text m n r e (inr (none, s)) = s
+stays_rfc3164 Either dating text m n r e (inr (none, s)) = s
 
 module _ (variant : Variant) (dating : Dating) where
   -- ---- which printed texts are settled
@@ -66,13 +66,13 @@ module _ (variant : Variant) (dating : Dating) where
   -- what was read as RFC 5424 prints as one
   pub strict_settled : (text : Text) (m : MessageValue) (version : ℕ) → IsRead variant dating text m → m.protocol ≡ protocol.RFC5424 version → IsSettled variant dating (printed m)
   strict_settled text m version r e =
-      let (n, again, same) = kept_again variant dating m (inr (inl (text, strictly dating text m variant version r e))) (read_protocol variant dating text m r) in
+      let (n, again, same) = fixed_again variant dating m (inr (inl (text, strictly dating text m variant version r e))) (read_protocol variant dating text m r) in
       record { message = n; read = again; is_printed = sym same }
 
-  -- so does what was read as RFC 3164 and has none of the listed misses
-  pub free_settled : (text : Text) (m : MessageValue) → IsRead variant dating text m → m.protocol ≡ protocol.RFC3164 → HasNoMiss dash_rule m → IsSettled variant dating (printed m)
+  -- so does what was read as RFC 3164 and has none of the exceptions
+  pub free_settled : (text : Text) (m : MessageValue) → IsRead variant dating text m → m.protocol ≡ protocol.RFC3164 → HasNoException dash_rule m → IsSettled variant dating (printed m)
   free_settled text m r e none =
-      let (n, again, same) = kept_again variant dating m (inr (inr (text, dating, loosely dating text m variant r e, none))) (read_protocol variant dating text m r) in
+      let (n, again, same) = fixed_again variant dating m (inr (inr (text, dating, as_rfc3164 dating text m variant r e, none))) (read_protocol variant dating text m r) in
       record { message = n; read = again; is_printed = sym same }
 
   -- and the message of a settled text is canonical
@@ -82,15 +82,15 @@ module _ (variant : Variant) (dating : Dating) where
       let e : text ≡ printed m = s.is_printed ∙ ap printed same in
       (printed_exact dating m (read_bounded variant dating text m r) variant (read_protocol variant dating text m r)).0 (subst (λ (x : Text). IsRead variant dating x m) e r)
 
-  -- so a text is not settled whose message of RFC 3164 has a listed miss
-  pub odd_unsettled : (text : Text) (m : MessageValue) → IsRead variant dating text m → m.protocol ≡ protocol.RFC3164 → (HasNoMiss dash_rule m → ⊥) → IsSettled variant dating text → ⊥
+  -- so a text is not settled whose message of RFC 3164 has an exception
+  pub odd_unsettled : (text : Text) (m : MessageValue) → IsRead variant dating text m → m.protocol ≡ protocol.RFC3164 → (HasNoException dash_rule m → ⊥) → IsSettled variant dating text → ⊥
   odd_unsettled text m r e odd s = odd (canonical_near dash_rule m e (settled_canonical text m s r)).1
 
   -- ---- weights fall
 
   -- before a text that is not settled stands one that is read as RFC 3164
-  unsettled_loose : (text u : Text) (h : IsNext variant dating text u) → (IsSettled variant dating u → ⊥) → h.message.protocol ≡ protocol.RFC3164
-  unsettled_loose text u h unsettled = by h.message.protocol refl
+  unsettled_rfc3164 : (text u : Text) (h : IsNext variant dating text u) → (IsSettled variant dating u → ⊥) → h.message.protocol ≡ protocol.RFC3164
+  unsettled_rfc3164 text u h unsettled = by h.message.protocol refl
     where
       by : (p : Protocol) → h.message.protocol ≡ p → h.message.protocol ≡ protocol.RFC3164
       by protocol.RFC3164 e = e
@@ -107,7 +107,7 @@ module _ (variant : Variant) (dating : Dating) where
       let a = light dash_rule dating t m w (subst (λ (y : Text). IsRead3164 dash_rule dating y m) e r) x in omega arith
   weighs_less t (suc n) u m w (before, round, h) none k r x l =
       let unsettled : IsSettled variant dating u → ⊥ = λ s. none n u (omega arith) (before, round, h) s in
-      let first = loosely dating before h.message variant h.read (unsettled_loose before u h unsettled) in
+      let first = as_rfc3164 dating before h.message variant h.read (unsettled_rfc3164 before u h unsettled) in
       let second = subst (λ (y : Text). IsRead3164 dash_rule dating y m) h.is_printed r in
       let (v, y) = weight dash_rule h.message in
       elim (falls dating dating before h.message m v w first second y x) [
@@ -123,10 +123,10 @@ module _ (variant : Variant) (dating : Dating) where
       of_round : IsRound variant dating t (suc (suc n)) u → ⊥
       of_round (before, (earlier, round, h), k) =
           let unsettled : IsSettled variant dating before → ⊥ = λ s. r.none n before (omega arith) (earlier, round, h) s in
-          let e = unsettled_loose earlier before h unsettled in
+          let e = unsettled_rfc3164 earlier before h unsettled in
           let read = subst (λ (x : Text). IsRead variant dating x k.message) h.is_printed k.read in
-          let loose = subst (λ (x : Text). IsRead3164 dash_rule dating x k.message) (sym h.is_printed) (stays_loose variant dating earlier h.message k.message h.read e read) in
-          let (w, x) = weight dash_rule k.message in weighs_less t (suc n) before k.message w (earlier, round, h) r.none k.read loose x (omega arith)
+          let rfc3164 = subst (λ (x : Text). IsRead3164 dash_rule dating x k.message) (sym h.is_printed) (stays_rfc3164 variant dating earlier h.message k.message h.read e read) in
+          let (w, x) = weight dash_rule k.message in weighs_less t (suc n) before k.message w (earlier, round, h) r.none k.read rfc3164 x (omega arith)
 
   pub rests : (t u : Text) → NoneSettled variant dating t (length t + 1) → IsRound variant dating t (length t + 2) u → ⊥
   rests t u none round =
@@ -165,9 +165,9 @@ module _ (variant : Variant) (dating : Dating) (text : Text) (m : MessageValue) 
   rest_settled (protocol.RFC5424 version) e h = strict_settled variant dating text m version r e
   rest_settled protocol.RFC3164 e h = free_settled variant dating text m r e h
 
-  odd_loose : (p : Protocol) → m.protocol ≡ p → (IsAtRest p m → ⊥) → m.protocol ≡ protocol.RFC3164
-  odd_loose (protocol.RFC5424 version) e odd = absurd (odd tt)
-  odd_loose protocol.RFC3164 e odd = e
+  odd_rfc3164 : (p : Protocol) → m.protocol ≡ p → (IsAtRest p m → ⊥) → m.protocol ≡ protocol.RFC3164
+  odd_rfc3164 (protocol.RFC5424 version) e odd = absurd (odd tt)
+  odd_rfc3164 protocol.RFC3164 e odd = e
 
   odd_moves : (p : Protocol) → m.protocol ≡ p → (IsAtRest p m → ⊥) → IsSettled variant dating text → ⊥
   odd_moves (protocol.RFC5424 version) e odd s = odd tt
@@ -182,7 +182,7 @@ module _ (variant : Variant) (dating : Dating) (text : Text) (m : MessageValue) 
   -- or it is a message of RFC 3164, and a round of it is written
   pub told_later : (later : Text) → (IsAtRest m.protocol m → ⊥) → (m.protocol ≡ protocol.RFC3164 → (n : ℕ) × Reaches variant dating text n later)
       → (IsSettled variant dating text → ⊥) × (n : ℕ) × Reaches variant dating text n later
-  told_later later odd reaches = let (n, s) = reaches (odd_loose m.protocol refl odd) in (odd_moves m.protocol refl odd, n, s)
+  told_later later odd reaches = let (n, s) = reaches (odd_rfc3164 m.protocol refl odd) in (odd_moves m.protocol refl odd, n, s)
 
   -- whether it is at rest is told, and its print is the next round
   pub round_printed : (skips settled : Bool) → (IsTrue settled ↔ IsAtRest m.protocol m) → (bytes : List ℕ) → IsUtf8 bytes → bytes ≡ encode_utf8_all (printed m)
@@ -206,7 +206,7 @@ module _ (variant : Variant) (dating : Dating) (text : Text) (m : MessageValue) 
   }
 
 -- a line that is copied is settled
-pub round_copied : (skips : Bool) (variant : Variant) (dating : Dating) (text : Text) (bytes : List ℕ) → IsUtf8 bytes → PrintsAs variant text bytes
+pub round_copied : (skips : Bool) (variant : Variant) (dating : Dating) (text : Text) (bytes : List ℕ) → IsUtf8 bytes → PrintsAs5424 variant text bytes
     → IsRoundAsTold skips variant dating text (chars bytes) true
 round_copied skips variant dating text bytes u k =
     let r = (k.only dating).read in
@@ -216,13 +216,13 @@ round_copied skips variant dating text bytes u k =
     record { told = (next, subst (λ (x : Text). IsSettled variant dating x) (sym is) settled); next = λ e. next }
 
 -- and so is one that is copied behind its timestamp
-pub round_freely : (skips : Bool) (variant : Variant) (dating : Dating) (text : Text) (bytes : List ℕ) → IsUtf8 bytes → PrintsFreely variant dating text bytes
+pub round_freely : (skips : Bool) (variant : Variant) (dating : Dating) (text : Text) (bytes : List ℕ) → IsUtf8 bytes → PrintsAs3164 variant dating text bytes
     → IsRoundAsTold skips variant dating text (chars bytes) true
 round_freely skips variant dating text bytes u k =
     let is : chars bytes ≡ printed k.message = sym (chars_from_encodes (printed k.message) bytes u (sym k.prints)) in
     let next : IsNext variant dating text (chars bytes) = record { message = k.message; read = k.read; is_printed = is } in
     record {
-      told = (next, subst (λ (x : Text). IsSettled variant dating x) (sym is) (free_settled variant dating text k.message k.read k.protocol k.no_miss));
+      told = (next, subst (λ (x : Text). IsSettled variant dating x) (sym is) (free_settled variant dating text k.message k.read k.protocol k.no_exception));
       next = λ e. next;
     }
 

@@ -5,15 +5,15 @@ use Rattle.std.proofs.lemmas.Int.{ints, by_lt_z}
 use Rattle.std.specs.Prelude.{pos, unsigned_abs}
 use Rattle.syslog_pieces.specs.Pieces.Class.{Text, Each}
 use Rattle.syslog_pieces.specs.StructuredData.Element.{ElementValue}
-use Rattle.syslog_pieces.specs.StructuredData.Listed.{BeginsNoList}
+use Rattle.syslog_pieces.specs.StructuredData.Rfc3164List.{BeginsNoList}
 use Rattle.syslog_pieces.specs.Text.{dash}
-use Rattle.syslog_pieces.specs.Timestamp.Plain.{IsPlainStamp, own_year}
+use Rattle.syslog_pieces.specs.Timestamp.Canonical.{IsCanonicalStamp, own_year}
 use Rattle.syslog_pieces.specs.declared.procid.ProcId.{ProcId}
 use Rattle.syslog_pieces.specs.declared.procid.ProcId.TheVariants.{PID, Name}
-use Rattle.syslog_pieces.specs.declared.structured_data.listed.DashRule.{DashRule}
+use Rattle.syslog_pieces.specs.declared.structured_data.rfc3164_list.DashRule.{DashRule}
 use Rattle.syslog_pieces.specs.declared.timestamp.OffsetTimestamp.{OffsetTimestamp}
 use Rattle.syslog_pieces.proofs.StructuredDataLemmas.Units.{decide}
-use Rattle.syslog_loose.specs.ListedMisses.{is_no_colon, HasNoColon}
+use Rattle.syslog_loose.specs.Exceptions.{is_no_colon, HasNoColon}
 use Rattle.syslog_loose.specs.Message.{MessageValue}
 use Rattle.syslog_loose.specs.Settling.{Costs, colons_cost, ColonsCost, Weighs}
 use Rattle.syslog_loose.proofs.SettlingLemmas.Costs.{counts_once, count, is_dash}
@@ -32,7 +32,7 @@ colons_once (Some h) w v (c, k, e) (d, l, f) = e ∙ ap colons_cost (counts_once
 
 pub one_weight : (rule : DashRule) (m : MessageValue) (w v : ℕ) → Weighs rule m w → Weighs rule m v → w ≡ v
 one_weight rule m w v a b =
-    let x = cost_once (IfSome m.timestamp IsPlainStamp) 1 a.stamp b.stamp a.stamp_is b.stamp_is in
+    let x = cost_once (IfSome m.timestamp IsCanonicalStamp) 1 a.stamp b.stamp a.stamp_is b.stamp_is in
     let y = colons_once m.hostname a.names_is.colons b.names_is.colons a.names_is.colons_is b.names_is.colons_is in
     let z = cost_once (IfSome m.hostname (λ h. h ≢ dash)) 1 a.names_is.dashed b.names_is.dashed a.names_is.dashed_is b.names_is.dashed_is in
     let u = cost_once (IfSome m.procid HasNoColon) 1 a.names_is.cut b.names_is.cut a.names_is.cut_is b.names_is.cut_is in
@@ -44,11 +44,11 @@ cost : (A : Type 0) (n : ℕ) → Decided A → (w : ℕ) × Costs A n w
 cost A n (inl a) = (0, inl (a, refl))
 cost A n (inr k) = (n, inr (k, refl))
 
--- whether the timestamp is plain can be decided
-plain_decided : (s : OffsetTimestamp) → Decided (IsPlainStamp s)
-plain_decided s =
-    by_lt_z {P = Decided (IsPlainStamp s)} (own_year s) (pos 0) (λ l. inr (λ k. let e = k.year_from in omega (arith, ints, e, l))) (λ from.
-    by_lt_z {P = Decided (IsPlainStamp s)} (pos 9999) (own_year s) (λ l. inr (λ k. let e = k.year_to in omega (arith, ints, e, l))) (λ to.
+-- whether the timestamp is canonical can be decided
+canonical_decided : (s : OffsetTimestamp) → Decided (IsCanonicalStamp s)
+canonical_decided s =
+    by_lt_z {P = Decided (IsCanonicalStamp s)} (own_year s) (pos 0) (λ l. inr (λ k. let e = k.year_from in omega (arith, ints, e, l))) (λ from.
+    by_lt_z {P = Decided (IsCanonicalStamp s)} (pos 9999) (own_year s) (λ l. inr (λ k. let e = k.year_to in omega (arith, ints, e, l))) (λ to.
     elim (eqb_tells (unsigned_abs s.offset.seconds % 60) 0) [
       | inl m ↦ elim (leb_tells 86_400 (unsigned_abs s.offset.seconds)) [
         | inl d ↦ inr (λ k. let e = k.day in let f = d.1 in omega (arith, e, f))
@@ -57,9 +57,9 @@ plain_decided s =
       | inr m ↦ inr (λ k. m.1 k.minutes)
     ]))
 
-stamp_decided : (s : Option OffsetTimestamp) → Decided (IfSome s IsPlainStamp)
+stamp_decided : (s : Option OffsetTimestamp) → Decided (IfSome s IsCanonicalStamp)
 stamp_decided None = inl tt
-stamp_decided (Some s) = plain_decided s
+stamp_decided (Some s) = canonical_decided s
 
 -- so can whether the host is a dash
 host_decided : (h : Option Text) → Decided (IfSome h (λ x. x ≢ dash))
@@ -90,7 +90,7 @@ some_colons (Some h) = let (n, ends) = count h in (colons_cost n, (n, ends, refl
 
 pub weight : (rule : DashRule) (m : MessageValue) → (w : ℕ) × Weighs rule m w
 weight rule m =
-    let (a, x) = cost (IfSome m.timestamp IsPlainStamp) 1 (stamp_decided m.timestamp) in
+    let (a, x) = cost (IfSome m.timestamp IsCanonicalStamp) 1 (stamp_decided m.timestamp) in
     let (b, y) = cost (IfSome m.hostname (λ h. h ≢ dash)) 1 (host_decided m.hostname) in
     let (c, z) = cost (IfSome m.procid HasNoColon) 1 (process_decided m.procid) in
     let (d, u) = cost (m.structured_data ≡ [] → BeginsNoList rule m.msg) (length m.msg) (taken_decided rule m.structured_data m.msg) in

@@ -1,11 +1,11 @@
 //! What is printed of a message, and what is read of it.
 ghost use Rattle.std.specs.Prelude.{◌≡◌, ◌↔◌, ◌⊎◌, ℕ, IfSome, IsSome};
 ghost use Rattle.syslog_pieces.specs.Pieces.Class.{Text};
-ghost use Rattle.syslog_pieces.specs.Timestamp.Plain.{IsPlainStamp};
+ghost use Rattle.syslog_pieces.specs.Timestamp.Canonical.{IsCanonicalStamp};
 ghost use Rattle.syslog_pieces.specs.Timestamp.Zone.{Dating};
-ghost use Rattle.syslog_pieces.specs.declared.structured_data.listed.DashRule.{DashRule};
+ghost use Rattle.syslog_pieces.specs.declared.structured_data.rfc3164_list.DashRule.{DashRule};
 ghost use Rattle.syslog_loose.specs.Canonical.{IsBounded, IsCanonical};
-ghost use Rattle.syslog_loose.specs.ListedMisses.{HasNoMiss, IsNear, IsNearlyCanonical, IsOfMonthDate};
+ghost use Rattle.syslog_loose.specs.Exceptions.{HasNoException, HasExceptionsAlone, IsNearlyCanonical, IsOfMonthDate};
 ghost use Rattle.syslog_loose.specs.Message.{MessageValue};
 ghost use Rattle.syslog_loose.specs.OneLine.{IsOneLine};
 ghost use Rattle.syslog_loose.specs.Printed.{printed};
@@ -42,20 +42,20 @@ pub fn rfc3164_is_read_back_exactly()
         → IsRead3164 rule dating (printed m) m ↔ IsCanonical rule m }
 {}
 
-/// What is read as RFC 3164 meets the written condition but for its listed misses, where it has a facility; its facility
-/// and severity aside, always. A timestamp that isn't plain is that of a month date that the text shows.
-pub fn read_rfc3164_has_listed_misses_alone()
-    ensures near { (rule : DashRule) (dating : Dating) (text : Text) (m : MessageValue) → IsRead3164 rule dating text m → IsNear m }
+/// What is read as RFC 3164 meets the written condition but for its exceptions, where it has a facility; its facility
+/// and severity aside, always. A timestamp that isn't canonical is that of a month date that the text shows.
+pub fn read_rfc3164_has_exceptions_alone()
+    ensures near { (rule : DashRule) (dating : Dating) (text : Text) (m : MessageValue) → IsRead3164 rule dating text m → HasExceptionsAlone m }
     ensures nearly { (rule : DashRule) (dating : Dating) (text : Text) (m : MessageValue)
         → IsRead3164 rule dating text m → IsSome m.facility → IsNearlyCanonical m }
     ensures timestamp { (rule : DashRule) (dating : Dating) (text : Text) (m : MessageValue)
-        → IsRead3164 rule dating text m → IfSome m.timestamp (λ s. IsPlainStamp s ⊎ IsOfMonthDate dating text s) }
+        → IsRead3164 rule dating text m → IfSome m.timestamp (λ s. IsCanonicalStamp s ⊎ IsOfMonthDate dating text s) }
 {}
 
-/// The listed misses are all that a message of RFC 3164 can miss beside the rest of the condition.
-pub fn canonical_rfc3164_has_no_listed_miss()
+/// The exceptions are all that a message of RFC 3164 can miss beside the rest of the condition.
+pub fn canonical_rfc3164_has_no_exception()
     ensures { (rule : DashRule) (m : MessageValue) → m.protocol ≡ RFC3164
-        → IsCanonical rule m ↔ (IsNearlyCanonical m × HasNoMiss rule m) }
+        → IsCanonical rule m ↔ (IsNearlyCanonical m × HasNoException rule m) }
 {}
 
 /// The printed text of a message, read under `Either` or the message's own variant, is read as the message itself

@@ -6,7 +6,7 @@ ghost use Rattle.std.specs.Str.{chars};
 ghost use Rattle.syslog_pieces.specs.Pieces.View.{text_of};
 ghost use Rattle.syslog_pieces.specs.ProcId.{procid_value};
 ghost use Rattle.syslog_pieces.specs.StructuredData.Element.{element_value};
-ghost use Rattle.syslog_pieces.specs.StructuredData.Listed.{BeginsNoList};
+ghost use Rattle.syslog_pieces.specs.StructuredData.Rfc3164List.{BeginsNoList};
 ghost use Rattle.syslog_pieces.specs.Text.{is_blank};
 ghost use Rattle.syslog_pieces.specs.Pieces.Class.{Ends};
 ghost use Rattle.syslog_loose.specs.Canonical as spec;
@@ -17,16 +17,16 @@ ghost use Rattle.syslog_loose.specs.TagForm.{IsNoForm};
 use super::{Message, Protocol};
 use crate::tag_form::tag_form;
 use syslog_pieces::as_str::AsStr;
-use syslog_pieces::procid::{ProcId, is_plain_process, names_number};
+use syslog_pieces::procid::{ProcId, is_canonical_process, names_number};
 use syslog_pieces::structured_data::StructuredElement;
-use syslog_pieces::structured_data::listed::{DASH_RULE, DashRule, begins_list};
-use syslog_pieces::structured_data::plain::are_plain_elements;
+use syslog_pieces::structured_data::rfc3164_list::{DASH_RULE, DashRule, begins_list};
+use syslog_pieces::structured_data::canonical::are_canonical_elements;
 use syslog_pieces::text::CharClass;
-use syslog_pieces::text::plain::{
-    begins_plainly, is_only, is_plain_host, is_plain_tag, is_plain_word, is_some_of,
+use syslog_pieces::text::canonical::{
+    begins_unblank, is_only, is_canonical_host, is_canonical_tag, is_canonical_word, is_some_of,
 };
 use syslog_pieces::timestamp::OffsetTimestamp;
-use syslog_pieces::timestamp::plain::is_plain as is_plain_stamp;
+use syslog_pieces::timestamp::canonical::is_canonical_stamp;
 
 impl<S: AsStr> Message<S> {
     /// Whether the message is read back unchanged from its printed text, by its own protocol. It looks at the fields alone:
@@ -42,18 +42,18 @@ impl<S: AsStr> Message<S> {
 fn is_canonical_under<S: AsStr>(message: &Message<S>, rule: DashRule) -> bool
     ensures { IsTrue result ↔ spec.IsCanonical rule (message_value (text_of S.text) message.now) }
 {
-    if !is_plain(message) {
+    if !is_canonical_in_both(message) {
         return false;
     }
     match message.protocol {
-        Protocol::RFC5424(_) => is_plain_rfc5424(message),
-        Protocol::RFC3164 => is_plain_rfc3164(message, rule),
+        Protocol::RFC5424(_) => is_canonical_rfc5424(message),
+        Protocol::RFC3164 => is_canonical_rfc3164(message, rule),
     }
 }
 
 // What both protocols ask.
-fn is_plain<S: AsStr>(message: &Message<S>) -> bool
-    ensures { IsTrue result ↔ spec.IsPlain (message_value (text_of S.text) message.now) }
+fn is_canonical_in_both<S: AsStr>(message: &Message<S>) -> bool
+    ensures { IsTrue result ↔ spec.IsCanonicalInBoth (message_value (text_of S.text) message.now) }
 {
     if message.facility.is_none() {
         return false;
@@ -61,40 +61,40 @@ fn is_plain<S: AsStr>(message: &Message<S>) -> bool
     if message.severity.is_none() {
         return false;
     }
-    if !is_plain_time(message.timestamp) {
+    if !is_canonical_time(message.timestamp) {
         return false;
     }
-    if !is_plain_name(&message.hostname) {
+    if !is_canonical_name(&message.hostname) {
         return false;
     }
-    if !are_plain_elements(&message.structured_data) {
+    if !are_canonical_elements(&message.structured_data) {
         return false;
     }
-    is_plain_msg(message.msg.as_str())
+    is_canonical_msg(message.msg.as_str())
 }
 
-pub(crate) fn is_plain_time(timestamp: Option<OffsetTimestamp>) -> bool
-    ensures { IsTrue result ↔ IfSome timestamp spec.IsPlainStamp }
+pub(crate) fn is_canonical_time(timestamp: Option<OffsetTimestamp>) -> bool
+    ensures { IsTrue result ↔ IfSome timestamp spec.IsCanonicalStamp }
 {
     match timestamp {
-        Some(stamp) => is_plain_stamp(stamp),
+        Some(stamp) => is_canonical_stamp(stamp),
         None => true,
     }
 }
 
-fn is_plain_name<S: AsStr>(host: &Option<S>) -> bool
-    ensures { IsTrue result ↔ IfSome (option_map (text_of S.text) host.now) spec.IsPlainHost }
+fn is_canonical_name<S: AsStr>(host: &Option<S>) -> bool
+    ensures { IsTrue result ↔ IfSome (option_map (text_of S.text) host.now) spec.IsCanonicalHost }
 {
     match host {
-        Some(name) => is_plain_host(name.as_str()),
+        Some(name) => is_canonical_host(name.as_str()),
         None => true,
     }
 }
 
-fn is_plain_msg(msg: &str) -> bool
+fn is_canonical_msg(msg: &str) -> bool
     ensures { IsTrue result ↔ (Ends is_blank (chars msg.now) × spec.EndsVisibly (chars msg.now)) }
 {
-    if !begins_plainly(msg) {
+    if !begins_unblank(msg) {
         return false;
     }
     ends_visibly(msg)
@@ -107,8 +107,8 @@ fn ends_visibly(text: &str) -> bool
 }
 
 // What RFC 5424 asks beyond that.
-fn is_plain_rfc5424<S: AsStr>(message: &Message<S>) -> bool
-    ensures { IsTrue result ↔ spec.IsPlain5424 (message_value (text_of S.text) message.now) }
+fn is_canonical_rfc5424<S: AsStr>(message: &Message<S>) -> bool
+    ensures { IsTrue result ↔ spec.IsCanonical5424 (message_value (text_of S.text) message.now) }
 {
     if !is_word(&message.appname) {
         return false;
@@ -120,31 +120,31 @@ fn is_plain_rfc5424<S: AsStr>(message: &Message<S>) -> bool
 }
 
 fn is_word<S: AsStr>(word: &Option<S>) -> bool
-    ensures { IsTrue result ↔ IfSome (option_map (text_of S.text) word.now) spec.IsPlainWord }
+    ensures { IsTrue result ↔ IfSome (option_map (text_of S.text) word.now) spec.IsCanonicalWord }
 {
     match word {
-        Some(word) => is_plain_word(word.as_str()),
+        Some(word) => is_canonical_word(word.as_str()),
         None => true,
     }
 }
 
 fn is_process<S: AsStr>(process: &Option<ProcId<S>>) -> bool
-    ensures { IsTrue result ↔ IfSome (option_map (procid_value (text_of S.text)) process.now) spec.IsPlainProcess }
+    ensures { IsTrue result ↔ IfSome (option_map (procid_value (text_of S.text)) process.now) spec.IsCanonicalProcess }
 {
     match process {
-        Some(process) => is_plain_process(process),
+        Some(process) => is_canonical_process(process),
         None => true,
     }
 }
 
 // What RFC 3164 asks beyond that.
-fn is_plain_rfc3164<S: AsStr>(message: &Message<S>, rule: DashRule) -> bool
-    ensures { IsTrue result ↔ spec.IsPlain3164 rule (message_value (text_of S.text) message.now) }
+fn is_canonical_rfc3164<S: AsStr>(message: &Message<S>, rule: DashRule) -> bool
+    ensures { IsTrue result ↔ spec.IsCanonical3164 rule (message_value (text_of S.text) message.now) }
 {
     if !is_absent(&message.msgid) {
         return false;
     }
-    if !are_plain_names(&message.hostname, &message.appname, &message.procid) {
+    if !are_canonical_names(&message.hostname, &message.appname, &message.procid) {
         return false;
     }
     if !have_params(&message.structured_data) {
@@ -163,8 +163,8 @@ fn is_absent<S: AsStr>(name: &Option<S>) -> bool
 }
 
 // Whether host, app name and process id are found again.
-fn are_plain_names<S: AsStr>(host: &Option<S>, app: &Option<S>, process: &Option<ProcId<S>>) -> bool
-    ensures { IsTrue result ↔ spec.ArePlainNames (option_map (text_of S.text) host.now) (option_map (text_of S.text) app.now)
+fn are_canonical_names<S: AsStr>(host: &Option<S>, app: &Option<S>, process: &Option<ProcId<S>>) -> bool
+    ensures { IsTrue result ↔ spec.AreCanonicalNames (option_map (text_of S.text) host.now) (option_map (text_of S.text) app.now)
         (option_map (procid_value (text_of S.text)) process.now) }
 {
     match app {
@@ -181,7 +181,7 @@ fn are_plain_names<S: AsStr>(host: &Option<S>, app: &Option<S>, process: &Option
 
 // An app name and a process id that are printed as `app[process]`.
 fn is_program<S: AsStr>(app: &S, process: &ProcId<S>) -> bool
-    ensures { IsTrue result ↔ spec.ArePlainNames None (Some (text_of S.text app.now)) (Some (procid_value (text_of S.text) process.now)) }
+    ensures { IsTrue result ↔ spec.AreCanonicalNames None (Some (text_of S.text app.now)) (Some (procid_value (text_of S.text) process.now)) }
 {
     if !is_only(app.as_str(), CharClass::Label) {
         return false;
@@ -214,7 +214,7 @@ fn is_bracketed_name(name: &str) -> bool
 fn is_lone_tag(app: &str) -> bool
     ensures { IsTrue result ↔ spec.IsLoneTag (chars app.now) }
 {
-    if !is_plain_tag(app) {
+    if !is_canonical_tag(app) {
         return false;
     }
     is_no_form(app)

@@ -2,7 +2,7 @@
 use crate::rfc3164;
 use jiff::tz::TimeZone;
 use std::test::Fail;
-use syslog_pieces::structured_data::listed::{DASH_RULE, DashRule, begins_list};
+use syslog_pieces::structured_data::rfc3164_list::{DASH_RULE, DashRule, begins_list};
 use syslog_pieces::timestamp::zone::Dating;
 
 #[test]

@@ -1,4 +1,4 @@
--- Process ids are read back from their printed text, and what is read is plain.
+-- Process ids are read back from their printed text, and what is read is canonical.
 use Rattle.std.proofs.Common.{◌≡◌, ℕ, ℤ, suc, pos, negsuc, neg_ℤ, ◌<◌, ◌^◌, inl, inr, Bool, true, false, not, List, FitsSigned, w32, [], ◌∷◌, length, Option, Some, None, IfSome, refl, sym, ap, subst, ◌∙◌, arith}
 use Rattle.std.proofs.lemmas.Fmt.{digits_value-decimal}
 use Rattle.std.specs.Char.{is_ascii_digit, is_not_whitespace}
@@ -6,14 +6,14 @@ use Rattle.std.specs.Prelude.{◌↔◌, IsTrue}
 use Rattle.std.specs.Str.{chars}
 use Rattle.std.specs.Fmt.{decimal, signed_decimal}
 use Rattle.syslog_pieces.specs.Pieces.Class.{Text, Each, Ends}
-use Rattle.syslog_pieces.specs.ProcId.{IsI32Text, process_word, process_text, IsNoI32Text, IsPlainProcess, IsBoundedProcess}
+use Rattle.syslog_pieces.specs.ProcId.{IsI32Text, process_word, process_text, IsNoI32Text, IsCanonicalProcess, IsBoundedProcess}
 use Rattle.syslog_pieces.specs.Text.{word}
-use Rattle.syslog_pieces.specs.Text.Plain.{IsPlainWord}
+use Rattle.syslog_pieces.specs.Text.Canonical.{IsCanonicalWord}
 use Rattle.syslog_pieces.specs.declared.procid.ProcId.{ProcId}
 use Rattle.syslog_pieces.specs.declared.procid.ProcId.TheVariants.{PID, Name}
 use Rattle.syslog_pieces.proofs.PieceLemmas.Class.{heads}
 use Rattle.syslog_pieces.proofs.TextLemmas.Words.{own}
-use Rattle.syslog_pieces.proofs.TextLemmas.ReadBack.{decimal_digits, digits_visible, word_back, word_plain}
+use Rattle.syslog_pieces.proofs.TextLemmas.ReadBack.{decimal_digits, digits_visible, word_back, word_canonical}
 
 -- ---- the text of a number
 
@@ -38,12 +38,12 @@ signed_writes (negsuc n) h =
     let small = negative n h in
     (inr (inr (decimal (suc n), refl, decimal_digits (suc n) small, ap (λ (k : ℕ). neg_ℤ (pos k)) (sym (digits_value-decimal own (suc n) small)))), h)
 
--- and is a plain word
-pub signed_plain : (n : ℤ) → FitsSigned w32 n → IsPlainWord (signed_decimal n)
-signed_plain (pos n) h =
+-- and is a canonical word
+pub signed_canonical : (n : ℤ) → FitsSigned w32 n → IsCanonicalWord (signed_decimal n)
+signed_canonical (pos n) h =
     let (long, digits) = decimal_digits n (magnitude n h) in
     ((long, digits_visible (decimal n) digits), digits_no_mark (decimal n) 45 digits refl, digits_no_mark (decimal n) 58 digits refl)
-signed_plain (negsuc n) h =
+signed_canonical (negsuc n) h =
     let (long, digits) = decimal_digits (suc n) (negative n h) in (
       (omega arith, (refl, digits_visible (decimal (suc n)) digits)),
       (λ e. let k = ap length e in omega arith),
@@ -52,21 +52,21 @@ signed_plain (negsuc n) h =
 
 -- ---- process ids
 
-plain_word : (t q : Text) → IsPlainWord t → Ends is_not_whitespace q → word.Is t q (Some t)
-plain_word t q h e = word_back (Some t) q h e
+canonical_word : (t q : Text) → IsCanonicalWord t → Ends is_not_whitespace q → word.Is t q (Some t)
+canonical_word t q h e = word_back (Some t) q h e
 
--- a plain process id, or none, is read back before the end or white space
-pub process_back : (v : Option (ProcId Text)) (q : Text) → IfSome v IsPlainProcess → IfSome v IsBoundedProcess → Ends is_not_whitespace q → process_word.Is (process_text v) q v
+-- a canonical process id, or none, is read back before the end or white space
+pub process_back : (v : Option (ProcId Text)) (q : Text) → IfSome v IsCanonicalProcess → IfSome v IsBoundedProcess → Ends is_not_whitespace q → process_word.Is (process_text v) q v
 process_back None q h b e = word_back None q tt e
-process_back (Some (PID n)) q h b e = (signed_decimal n, plain_word (signed_decimal n) q (signed_plain n b) e, signed_writes n b)
-process_back (Some (Name t)) q (plain, no_number) b e = (t, plain_word t q plain e, (no_number, refl))
+process_back (Some (PID n)) q h b e = (signed_decimal n, canonical_word (signed_decimal n) q (signed_canonical n b) e, signed_writes n b)
+process_back (Some (Name t)) q (canonical, no_number) b e = (t, canonical_word t q canonical e, (no_number, refl))
 
--- what is read as a process id is plain
-pub process_plain : (p q : Text) (v : Option (ProcId Text)) → process_word.Is p q v → IfSome v IsPlainProcess
-process_plain p q None h = tt
-process_plain p q (Some (PID n)) h = tt
-process_plain p q (Some (Name t)) (u, w, (no_number, same)) =
-    subst (λ (x : Text). IsPlainProcess (Name x)) (sym same) (word_plain p q (Some u) w, no_number)
+-- what is read as a process id is canonical
+pub process_canonical : (p q : Text) (v : Option (ProcId Text)) → process_word.Is p q v → IfSome v IsCanonicalProcess
+process_canonical p q None h = tt
+process_canonical p q (Some (PID n)) h = tt
+process_canonical p q (Some (Name t)) (u, w, (no_number, same)) =
+    subst (λ (x : Text). IsCanonicalProcess (Name x)) (sym same) (word_canonical p q (Some u) w, no_number)
 
 -- and its number has 32 bits
 pub process_bounded : (p q : Text) (v : Option (ProcId Text)) → process_word.Is p q v → IfSome v IsBoundedProcess
@@ -75,11 +75,11 @@ process_bounded p q (Some (PID n)) (u, w, i) = i.1
 process_bounded p q (Some (Name t)) h = tt
 
 -- ---- what the test of a process name answers
-pub name_told : (bytes text : List ℕ) (process : ProcId Text) (w number : Bool) → bytes ≡ text → process ≡ Name (chars text) → IsTrue w ↔ IsPlainWord (chars bytes) → w ≡ true
-    → IsTrue number ↔ (IsNoI32Text (chars bytes) → ⊥) → IsTrue (not number) ↔ IsPlainProcess process
-name_told bytes text process w number e p plain is number_told =
-    subst (λ (x : ProcId Text). IsTrue (not number) ↔ IsPlainProcess x) (sym (p ∙ ap (λ (x : List ℕ). Name (chars x)) (sym e))) (
-      (λ h. (plain.0 is, (λ n i. taken number h number_told (λ z. z n i)))),
+pub name_told : (bytes text : List ℕ) (process : ProcId Text) (w number : Bool) → bytes ≡ text → process ≡ Name (chars text) → IsTrue w ↔ IsCanonicalWord (chars bytes) → w ≡ true
+    → IsTrue number ↔ (IsNoI32Text (chars bytes) → ⊥) → IsTrue (not number) ↔ IsCanonicalProcess process
+name_told bytes text process w number e p canonical is number_told =
+    subst (λ (x : ProcId Text). IsTrue (not number) ↔ IsCanonicalProcess x) (sym (p ∙ ap (λ (x : List ℕ). Name (chars x)) (sym e))) (
+      (λ h. (canonical.0 is, (λ n i. taken number h number_told (λ z. z n i)))),
       (λ h. untaken number number_told h.1),
     )
   where

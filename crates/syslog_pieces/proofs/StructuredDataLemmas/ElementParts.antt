@@ -7,9 +7,9 @@ use Rattle.syslog_pieces.specs.StructuredData.Element.{ElementValue, element_tex
 use Rattle.syslog_pieces.specs.Pieces.Lists.{IsMany, IsMore, IsList, list_before}
 use Rattle.syslog_pieces.specs.Pieces.Parts.{IsPart}
 use Rattle.syslog_pieces.specs.StructuredData.{value, param_row, param, element_row, element_of, element, item, strict, forgiving}
-use Rattle.syslog_pieces.specs.StructuredData.Listed.{full_element, listed, elements_or}
+use Rattle.syslog_pieces.specs.StructuredData.Rfc3164List.{full_element, rfc3164_list, elements_or}
 use Rattle.syslog_pieces.specs.Text.{is_blank}
-use Rattle.syslog_pieces.specs.declared.structured_data.listed.DashRule.{DashRule}
+use Rattle.syslog_pieces.specs.declared.structured_data.rfc3164_list.DashRule.{DashRule}
 use Rattle.syslog_pieces.proofs.PieceLemmas.Each.{all_map, all_append}
 use Rattle.syslog_pieces.proofs.PieceLemmas.Parts.{Quotes, Quoted, row_texts, row_quotes, part_same, part_left, part_right, part_joined, silent, texted_quotes}
 use Rattle.syslog_pieces.proofs.PieceLemmas.Class.{◌also◌}
@@ -86,10 +86,10 @@ full_parts p q [] h = tt
 full_parts p q (v ∷ es) (a, b, e, h, more) =
     two_parts element element_texts element_quotes 32 p a b (element_texts v) (flat_map element_texts es) e (element_quotes a (b ++ q) v h.0) (full_parts b q es more)
 
-pub listed_quotes : (rule : DashRule) → Quotes (listed rule) (λ es. flat_map element_texts es)
-listed_quotes rule p q es (inl (d, a, e)) = subst (λ (x : List ElementValue). AllByRecursion (λ t. IsPart p t) (flat_map element_texts x)) (sym e) tt
-listed_quotes rule p q es (inr (l, m)) = full_parts p q es m
+pub rfc3164_list_quotes : (rule : DashRule) → Quotes (rfc3164_list rule) (λ es. flat_map element_texts es)
+rfc3164_list_quotes rule p q es (inl (d, a, e)) = subst (λ (x : List ElementValue). AllByRecursion (λ t. IsPart p t) (flat_map element_texts x)) (sym e) tt
+rfc3164_list_quotes rule p q es (inr (l, m)) = full_parts p q es m
 
-pub optional_listed_quotes : (rule : DashRule) → Quotes (optional (listed rule)) (λ es. flat_map element_texts (elements_or es))
-optional_listed_quotes rule p q None h = tt
-optional_listed_quotes rule p q (Some es) h = listed_quotes rule p q es h
+pub optional_rfc3164_list_quotes : (rule : DashRule) → Quotes (optional (rfc3164_list rule)) (λ es. flat_map element_texts (elements_or es))
+optional_rfc3164_list_quotes rule p q None h = tt
+optional_rfc3164_list_quotes rule p q (Some es) h = rfc3164_list_quotes rule p q es h

@@ -28,15 +28,15 @@ pub chars_nonempty : (bs : List ℕ) → IsUtf8 bs → 0 < length bs → 0 < len
 chars_nonempty bs u l = some_encodes (chars bs) bs (encodes-chars bs u) l
 
 -- a text whose characters are ASCII is its characters
-pub ascii_plain : (bs : List ℕ) → IsUtf8 bs → IsAscii (chars bs) → chars bs ≡ bs
-ascii_plain bs u a = sym (encodes-IsAscii (chars bs) a) ∙ encodes-chars bs u
+pub ascii_chars : (bs : List ℕ) → IsUtf8 bs → IsAscii (chars bs) → chars bs ≡ bs
+ascii_chars bs u a = sym (encodes-IsAscii (chars bs) a) ∙ encodes-chars bs u
 
 pub digits_ascii : (cs : Text) → Each is_ascii_digit cs → IsAscii cs
 digits_ascii [] h = IsAscii-nil
 digits_ascii (c ∷ cs) h = let t = h.0 in IsAscii-cons c cs (grind (arith, nat_tests)) (digits_ascii cs h.1)
 
-pub digits_plain : (bs : List ℕ) → IsUtf8 bs → Each is_ascii_digit (chars bs) → chars bs ≡ bs
-digits_plain bs u h = ascii_plain bs u (digits_ascii (chars bs) h)
+pub digit_chars : (bs : List ℕ) → IsUtf8 bs → Each is_ascii_digit (chars bs) → chars bs ≡ bs
+digit_chars bs u h = ascii_chars bs u (digits_ascii (chars bs) h)
 
 pub one_ascii : (c : ℕ) → c < 128 → IsAscii (c ∷ [])
 one_ascii c l = IsAscii-cons c [] l IsAscii-nil

@@ -2,13 +2,13 @@
 use Rattle.std.proofs.Common.{◌≡◌, true, false, [], ◌∷◌, ◌++◌, Option, None, Some, sym, ap, subst, ◌∙◌, append_assoc, append-nil, arith}
 use Rattle.std.proofs.lemmas.List.{append_cancel_right}
 use Rattle.std.specs.Prelude.{is_some}
-use Rattle.syslog_pieces.specs.Bodies.Kept.{Copies, CopiedOn}
+use Rattle.syslog_pieces.specs.Bodies.Verbatim.{Copies, CopiedOn}
 use Rattle.syslog_pieces.specs.Pieces.Class.{Text, Class, Each, Ends, some_run}
-use Rattle.syslog_pieces.specs.Pieces.Kept.{Kept}
+use Rattle.syslog_pieces.specs.Pieces.Verbatim.{Verbatim}
 use Rattle.syslog_pieces.specs.Pieces.View.{shown}
 use Rattle.syslog_pieces.specs.Text.{is_blank}
-use Rattle.syslog_pieces.specs.declared.text.kept.Cut.{Cut}
-use Rattle.syslog_pieces.proofs.PieceLemmas.Kept.{front_of}
+use Rattle.syslog_pieces.specs.declared.text.verbatim.Cut.{Cut}
+use Rattle.syslog_pieces.proofs.PieceLemmas.Verbatim.{front_of}
 
 -- a piece that prints as it is written is copied, whatever was left out before it
 pub extended : (w t u piece p : Text) (cut : Option Cut) → t ≡ piece ++ u → Copies w cut t p → Copies w cut u (p ++ piece)
@@ -21,8 +21,8 @@ pub left_out : (w t u piece p : Text) (c : Cut) → t ≡ piece ++ shown c.gap �
 left_out w t u piece p c e f d =
     (p ++ piece, [], d ∙ ap (λ (x : Text). p ++ x) e ∙ sym (append_assoc p piece (shown c.gap)), f, sym (append-nil (p ++ piece)))
 
-pub kept_on : (C : Class) (print : C.Value → Text) (t u : Text) (cut : Option Cut) → Kept C print t u → CopiedOn C print t cut u cut
-kept_on C print t u cut k =
+pub verbatim_on : (C : Class) (print : C.Value → Text) (t u : Text) (cut : Option Cut) → Verbatim C print t u → CopiedOn C print t cut u cut
+verbatim_on C print t u cut k =
     record { value = k.value; is = front_of C print t u k; copies = λ w p c. extended w t u (print k.value) p cut k.whole c }
 
 -- a gap that is wider than its first space

@@ -1,4 +1,4 @@
--- Numbers, words and hosts are read back from their printed text, and what is read is plain.
+-- Numbers, words and hosts are read back from their printed text, and what is read is canonical.
 use Rattle.std.proofs.Common.{◌≡◌, ℕ, ◌<◌, ◌≤◌, ◌^◌, inl, inr, true, false, nat_eq, [], ◌∷◌, ◌++◌, length, get_or, Option, Some, None, IfSome, refl, sym, ap, subst, ◌∙◌, arith}
 use Rattle.std.proofs.lemmas.List.{length-append}
 use Rattle.std.proofs.lemmas.Bool.Decides.{nat_tests, eqb_tells}
@@ -7,7 +7,7 @@ use Rattle.std.specs.Char.{is_ascii_digit, is_not_whitespace}
 use Rattle.std.specs.Fmt.{decimal}
 use Rattle.syslog_pieces.specs.Pieces.Class.{Text, Each, Ends}
 use Rattle.syslog_pieces.specs.Text.{number, dash, colon, word, EndsInColon, IsHost, name_text, is_blank}
-use Rattle.syslog_pieces.specs.Text.Plain.{IsVisible, IsPlainHost, IsPlainWord}
+use Rattle.syslog_pieces.specs.Text.Canonical.{IsVisible, IsCanonicalHost, IsCanonicalWord}
 use Rattle.syslog_pieces.proofs.TextLemmas.Words.{own}
 
 -- ---- numbers
@@ -42,21 +42,21 @@ dash_ends_not (c ∷ front, e) = let t = ap length e in omega (arith, length-app
 pub dash_visible : IsVisible dash
 dash_visible = (omega arith, (refl, tt))
 
--- a plain word, or none, is read back before the end or white space
-pub word_back : (v : Option Text) (q : Text) → IfSome v IsPlainWord → Ends is_not_whitespace q → word.Is (name_text v) q v
+-- a canonical word, or none, is read back before the end or white space
+pub word_back : (v : Option Text) (q : Text) → IfSome v IsCanonicalWord → Ends is_not_whitespace q → word.Is (name_text v) q v
 word_back None q h e = (dash_visible.0, dash_visible.1, e, dash_no_colon, refl)
 word_back (Some t) q ((long, visible), no_dash, no_colon) e = (long, visible, e, no_colon, (refl, no_dash))
 
--- what is read as a word is plain
-pub word_plain : (p q : Text) (v : Option Text) → word.Is p q v → IfSome v IsPlainWord
-word_plain p q None h = tt
-word_plain p q (Some t) (long, visible, e, no_colon, (same, no_dash)) =
-    subst (λ (x : Text). IsPlainWord x) (sym same) ((long, visible), no_dash, no_colon)
+-- what is read as a word is canonical
+pub word_canonical : (p q : Text) (v : Option Text) → word.Is p q v → IfSome v IsCanonicalWord
+word_canonical p q None h = tt
+word_canonical p q (Some t) (long, visible, e, no_colon, (same, no_dash)) =
+    subst (λ (x : Text). IsCanonicalWord x) (sym same) ((long, visible), no_dash, no_colon)
 
 -- ---- hosts
 
--- a plain host, or none, is read back before the end or white space
-pub host_back : (v : Option Text) (q : Text) → IfSome v IsPlainHost → Ends is_not_whitespace q → IsHost (name_text v) q v
+-- a canonical host, or none, is read back before the end or white space
+pub host_back : (v : Option Text) (q : Text) → IfSome v IsCanonicalHost → Ends is_not_whitespace q → IsHost (name_text v) q v
 host_back None q h e = (dash_visible.0, dash_visible.1, inl (dash_ends_not, e, refl))
 host_back (Some t) q ((long, visible), no_dash, no_end) e = (long, visible, inl (no_end, e, (refl, no_dash)))
 
@@ -64,12 +64,12 @@ host_back (Some t) q ((long, visible), no_dash, no_end) e = (long, visible, inl 
 abbrev pub NoColonNext : Text → Type 0
 NoColonNext q = Ends (λ c. nat_eq c 58) q
 
--- what is read as a host is plain, where no colon follows it
-pub host_plain : (p q : Text) (v : Option Text) → NoColonNext q → IsHost p q v → IfSome v IsPlainHost
-host_plain p q None n h = tt
-host_plain p q (Some t) n (long, visible, inl (no_end, e, (same, no_dash))) =
-    subst (λ (x : Text). IsPlainHost x) (sym same) ((long, visible), no_dash, no_end)
-host_plain p q (Some t) n (long, visible, inr (r, z, e, same)) =
+-- what is read as a host is canonical, where no colon follows it
+pub host_canonical : (p q : Text) (v : Option Text) → NoColonNext q → IsHost p q v → IfSome v IsCanonicalHost
+host_canonical p q None n h = tt
+host_canonical p q (Some t) n (long, visible, inl (no_end, e, (same, no_dash))) =
+    subst (λ (x : Text). IsCanonicalHost x) (sym same) ((long, visible), no_dash, no_end)
+host_canonical p q (Some t) n (long, visible, inr (r, z, e, same)) =
     absurd (let t = subst (λ (x : Text). NoColonNext x) z n in let u : true ≡ false = t in cc)
 
 blank_no_colon : (c : ℕ) → is_blank c ≡ true → nat_eq c 58 ≡ false

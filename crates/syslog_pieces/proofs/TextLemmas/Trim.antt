@@ -41,19 +41,19 @@ unfolding trim_end
 end_trimmed_chars bs u = chars-encodes (drop_trailing_whitespace (chars bs)) (drop_scalars (chars bs) (scalars-chars bs u))
 
 -- ---- texts with no white space at either end
-kept : (b t : Bool) (x : ℕ) (xs : Text) → t ≡ false → cond (b && t) [] (x ∷ xs) ≡ x ∷ xs
-kept true t x xs h = rw h refl
-kept false t x xs h = refl
+stays : (b t : Bool) (x : ℕ) (xs : Text) → t ≡ false → cond (b && t) [] (x ∷ xs) ≡ x ∷ xs
+stays true t x xs h = rw h refl
+stays false t x xs h = refl
 
 nonempty : (cs : Text) (c : ℕ) → nat_eq (length (cs ++ (c ∷ []))) 0 ≡ false
 nonempty cs c = grind (arith, nat_tests, length-append cs (c ∷ []))
 
-kept_end : (cs : Text) (c : ℕ) → is_whitespace c ≡ false → drop_trailing_whitespace (cs ++ (c ∷ [])) ≡ cs ++ (c ∷ [])
-kept_end [] c h = rw h refl
-kept_end (d ∷ cs) c h = rw (kept_end cs c h) (kept (is_whitespace d) (nat_eq (length (cs ++ (c ∷ []))) 0) d (cs ++ (c ∷ [])) (nonempty cs c))
+end_stays : (cs : Text) (c : ℕ) → is_whitespace c ≡ false → drop_trailing_whitespace (cs ++ (c ∷ [])) ≡ cs ++ (c ∷ [])
+end_stays [] c h = rw h refl
+end_stays (d ∷ cs) c h = rw (end_stays cs c h) (stays (is_whitespace d) (nat_eq (length (cs ++ (c ∷ []))) 0) d (cs ++ (c ∷ [])) (nonempty cs c))
 
-kept_start : (c : ℕ) (cs : Text) → is_whitespace c ≡ false → skip_leading_whitespace (c ∷ cs) ≡ c ∷ cs
-kept_start c cs h = rw h refl
+start_stays : (c : ℕ) (cs : Text) → is_whitespace c ≡ false → skip_leading_whitespace (c ∷ cs) ≡ c ∷ cs
+start_stays c cs h = rw h refl
 
 no_more : (x : Bool) → not x ≡ true → x ≡ false
 no_more true h = cc
@@ -98,4 +98,4 @@ module _ (bs : List ℕ) (u : IsUtf8 bs) (h : IsBare bs) where
 
   pub bare_trimmed : chars bs ≡ trimmed (chars bs)
   bare_trimmed =
-      rw text_is (sym (ap drop_trailing_whitespace (kept_start h.first (chars h.middle ++ (h.last ∷ [])) head.1) ∙ kept_end (h.first ∷ chars h.middle) h.last last.1))
+      rw text_is (sym (ap drop_trailing_whitespace (start_stays h.first (chars h.middle ++ (h.last ∷ [])) head.1) ∙ end_stays (h.first ∷ chars h.middle) h.last last.1))

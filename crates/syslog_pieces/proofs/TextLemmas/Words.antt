@@ -12,7 +12,7 @@ use Rattle.std.specs.Char.{encode_utf8, is_ascii_digit, is_not_whitespace}
 use Rattle.syslog_pieces.specs.Pieces.Class.{Text, Front, NoFront, IsDeterministic, Each, exactly}
 use Rattle.syslog_pieces.specs.Bodies.Scan.{SplitsRun}
 use Rattle.syslog_pieces.specs.Text.{number, dash, colon, Names, word, EndsInColon, IsHost, host, is_tag_char, tag_word}
-use Rattle.syslog_pieces.proofs.TextLemmas.Chars.{cut_at, chars_nonempty, chars_empty, digits_ascii, digits_plain, one_ascii}
+use Rattle.syslog_pieces.proofs.TextLemmas.Chars.{cut_at, chars_nonempty, chars_empty, digits_ascii, digit_chars, one_ascii}
 use Rattle.syslog_pieces.proofs.PieceLemmas.Class.{run_same}
 use Rattle.syslog_pieces.proofs.TextLemmas.Runs.{run_is}
 use Rattle.syslog_pieces.proofs.PieceLemmas.Each.{each_front, each_append}
@@ -63,7 +63,7 @@ own = numerals_by_value (λ ds. Each is_ascii_digit ds) digits_test
 -- what `parse` gives for a run of digits
 pub parsed_digits : (xs : List ℕ) → IsUtf8 xs → Each is_ascii_digit (chars xs) → (E : Type 0) (r : Result ℕ E) → ParsesUnsigned 32 10 xs r
     → OkIff r ((0 < length xs) × (digits_value 10 xs < 2 ^ 32)) (digits_value 10 xs)
-parsed_digits xs u a E r h = parse_digits own 32 xs r h (subst (λ (x : List ℕ). Each is_ascii_digit x) (digits_plain xs u a) a)
+parsed_digits xs u a E r h = parse_digits own 32 xs r h (subst (λ (x : List ℕ). Each is_ascii_digit x) (digit_chars xs u a) a)
 
 -- zeros ahead add nothing
 pub zeros_off : (ds : List ℕ) (n : ℕ) → ((k : ℕ) → k < n → get_or ds k 0 ≡ 48)
@@ -81,7 +81,7 @@ each_behind test (d ∷ ds) (suc n) a = each_behind test ds n a.1
 pub digits_behind : (ds : List ℕ) (n : ℕ) → IsUtf8 ds → Each is_ascii_digit (chars ds) → n ≤ length ds
     → IsCharBoundary ds n × Each is_ascii_digit (chars (drop n ds))
 digits_behind ds n u a l =
-    let each = subst (λ (x : List ℕ). Each is_ascii_digit x) (digits_plain ds u a) a in
+    let each = subst (λ (x : List ℕ). Each is_ascii_digit x) (digit_chars ds u a) a in
     let ascii = digits_ascii ds each in (
       IsCharBoundary-from_ascii ds n ascii l,
       subst (λ (x : List ℕ). Each is_ascii_digit x)
@@ -89,16 +89,16 @@ digits_behind ds n u a l =
     )
 
 module _ (bs xs ys : List ℕ) (s : SplitsRun is_ascii_digit bs xs ys) where
-  plain : chars xs ≡ xs
-  plain = digits_plain xs s.front_utf8 s.each
+  canonical : chars xs ≡ xs
+  canonical = digit_chars xs s.front_utf8 s.each
 
   pub number_read : (v limit : ℕ) → ((0 < length xs) × (digits_value 10 xs < 2 ^ 32)) × (v ≡ digits_value 10 xs) → v ≤ limit → Front (number limit) (chars bs) (chars ys) v
   number_read v limit h l =
-      record { piece = chars xs; whole = s.characters; is = (chars_nonempty xs s.front_utf8 h.0.0, s.each, s.ends, h.1 ∙ ap (digits_value 10) (sym plain), l) }
+      record { piece = chars xs; whole = s.characters; is = (chars_nonempty xs s.front_utf8 h.0.0, s.each, s.ends, h.1 ∙ ap (digits_value 10) (sym canonical), l) }
 
   no_number : (limit : ℕ) → (0 < length xs → digits_value 10 xs ≤ limit → ⊥) → NoFront (number limit) (chars bs)
   no_number limit stuck p q v e (l, a, b, f, m) =
-      let r : p ≡ xs = run_is is_ascii_digit bs xs ys s p q e a b ∙ plain in
+      let r : p ≡ xs = run_is is_ascii_digit bs xs ys s p q e a b ∙ canonical in
       stuck (subst (λ (x : List ℕ). 0 < length x) r l) (subst (λ (x : ℕ). x ≤ limit) (f ∙ ap (digits_value 10) r) m)
 
   pub number_past : (v limit : ℕ) → v ≡ digits_value 10 xs → limit < v → NoFront (number limit) (chars bs)

@@ -7,7 +7,7 @@ use Rattle.std.specs.List.{All, AllByRecursion}
 use Rattle.std.specs.Str.{IsAscii, IsUtf8, chars}
 use Rattle.jiff_fmt.specs.Text.{pad2, pad4}
 use Rattle.syslog_pieces.specs.declared.timestamp.OffsetTimestamp.{OffsetTimestamp}
-use Rattle.syslog_pieces.specs.declared.timestamp.written.Written.{Written}
+use Rattle.syslog_pieces.specs.declared.timestamp.rfc3339_text.Rfc3339Fields.{Rfc3339Fields}
 use Rattle.syslog_pieces.specs.Timestamp.{IsAnswer, IsStampText}
 use Rattle.syslog_pieces.specs.Timestamp.Rfc3339.{HasStamp, Writes, IsFraction, IsLetter, IsOffsetText}
 use Rattle.syslog_pieces.proofs.TimestampLemmas.Answers.{answer_same}
@@ -72,7 +72,7 @@ letter c (inr e) = (omega arith, omega arith)
 
 -- ---- a text that has a stamp
 
-writes_characters : (text : List ℕ) (w : Written) → Writes text w → All IsStampCharacter text
+writes_characters : (text : List ℕ) (w : Rfc3339Fields) → Writes text w → All IsStampCharacter text
 writes_characters text w h =
     let after_second = h.decimals ++ h.zone in
     let after_minute = 58 ∷ pad2 w.second ++ after_second in

@@ -7,7 +7,7 @@ use Rattle.jiff_core.proofs.DateLemmas.{civil}
 use Rattle.jiff_core.proofs.DateTimeLemmas.{civil_nanos-parts, time_nanos_bound}
 use Rattle.jiff_core.proofs.SignedLemmas.{signed_arith}
 use Rattle.syslog_pieces.specs.Timestamp.Fields.{AreCivil, fields_of, IsStampAt}
-use Rattle.syslog_pieces.specs.Timestamp.Plain.{IsPlainStamp, own_year}
+use Rattle.syslog_pieces.specs.Timestamp.Canonical.{IsCanonicalStamp, own_year}
 use Rattle.syslog_pieces.specs.Timestamp.Printed.{printed_stamp, fields_text}
 use Rattle.syslog_pieces.specs.declared.timestamp.OffsetTimestamp.{OffsetTimestamp}
 use Rattle.syslog_pieces.specs.declared.timestamp.fields.CivilFields.{CivilFields}
@@ -67,8 +67,8 @@ module _ (dt : DateTime) (offset : Offset) (from : pos 0 ≤ℤ dt.date.year) (t
   pub prints : printed_stamp (instant_of dt offset) offset.seconds ≡ fields_text (fields_of dt) offset.seconds
   prints = printed_stamp-is dt _ _ shown
 
-  pub plain : unsigned_abs offset.seconds % 60 ≡ 0 → unsigned_abs offset.seconds < 86_400 → IsPlainStamp stamp
-  plain minutes day =
+  pub canonical : unsigned_abs offset.seconds % 60 ≡ 0 → unsigned_abs offset.seconds < 86_400 → IsCanonicalStamp stamp
+  canonical minutes day =
       let year : own_year stamp ≡ dt.date.year = ap (λ (f : CivilFields). f.year) (civil_fields-is dt _ shown) in
       let most : dt.date.year ≤ℤ pos 9999 = omega (arith, signed_arith, to) in
       record {

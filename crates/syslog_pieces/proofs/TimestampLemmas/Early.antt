@@ -1,4 +1,4 @@
--- A timestamp in its usual form, read by bytes, is one of the text; and the stamps of dates that each month has.
+-- A timestamp in its standard form, read by bytes, is one of the text; and the stamps of dates that each month has.
 use Rattle.std.proofs.Common.{◌≡◌, ℕ, ℤ, ◌+◌, ◌-◌, ◌*◌, ◌/◌, ◌%◌, ◌<◌, ◌+ℤ◌, ◌-ℤ◌, ◌*ℤ◌, ◌≤ℤ◌, min, unsigned_abs, inl, inr, List, [], ◌∷◌, ◌++◌, length, drop, IfSome, Option, Some, None, pos, negsuc, neg_ℤ, refl, sym, ap, subst, ◌∙◌, append_assoc, arith}
 use Rattle.std.proofs.lemmas.List.Elements.{All-append}
 use Rattle.std.specs.Char.{IsAsciiDigit}
@@ -11,18 +11,18 @@ use Rattle.jiff_core.proofs.SignedLemmas.{signed_arith}
 use Rattle.jiff_fmt.specs.Text.{pad2, pad4}
 use Rattle.syslog_pieces.specs.Bodies.Early.{AreDecimalBytes, AreMinuteBytes, IsDayBytes, IsEarlyStamp, IsFractionBytes, IsOffsetBytes, fields_read}
 use Rattle.syslog_pieces.specs.Bodies.MonthText.{zone_of}
-use Rattle.syslog_pieces.specs.Bodies.Usual.{IsClockBytes}
+use Rattle.syslog_pieces.specs.Bodies.Standard.{IsClockBytes}
 use Rattle.syslog_pieces.specs.Pieces.Class.{Front}
 use Rattle.syslog_pieces.specs.Timestamp.{header_stamp, IsStampText}
 use Rattle.syslog_pieces.specs.Timestamp.Fields.{AreCivil, IsStampAt, nanos_of_fields}
 use Rattle.syslog_pieces.specs.Timestamp.Printed.{pad3}
-use Rattle.syslog_pieces.specs.Timestamp.Rfc3339.{Writes, fields_of_written}
+use Rattle.syslog_pieces.specs.Timestamp.Rfc3339.{Writes, fields_of_rfc3339}
 use Rattle.syslog_pieces.specs.Timestamp.Zone.{IsStampOfFields}
 use Rattle.syslog_pieces.specs.declared.timestamp.OffsetTimestamp.{OffsetTimestamp}
 use Rattle.syslog_pieces.specs.declared.timestamp.fields.CivilFields.{CivilFields}
 use Rattle.syslog_pieces.specs.declared.timestamp.month_date.Clock.{Clock}
-use Rattle.syslog_pieces.specs.declared.timestamp.usual.Day.{Day}
-use Rattle.syslog_pieces.specs.declared.timestamp.written.Written.{Written}
+use Rattle.syslog_pieces.specs.declared.timestamp.standard.Day.{Day}
+use Rattle.syslog_pieces.specs.declared.timestamp.rfc3339_text.Rfc3339Fields.{Rfc3339Fields}
 use Rattle.syslog_pieces.proofs.TextLemmas.Chars.{ascii_front, one_ascii}
 use Rattle.syslog_pieces.proofs.TextLemmas.Looks.{behind_chars, behind_cut, behind_is}
 use Rattle.syslog_pieces.proofs.TimestampLemmas.Characters.{stamp_ascii}
@@ -34,7 +34,7 @@ use Rattle.syslog_pieces.proofs.TimestampLemmas.MonthText.{fixed_earlier, in_any
 module _ (bs b1 b2 b3 b4 : List ℕ) (day : Day) (clock : Clock) (n : ℕ) (offset : Offset) (s : OffsetTimestamp)
     (d : IsDayBytes bs day b1) (c : IsClockBytes b1 clock b2) (f : IsFractionBytes b2 n b3) (z : IsOffsetBytes b3 offset.seconds b4)
     (h : IsEarlyStamp (fields_read day clock n) offset s) where
-  abbrev w : Written
+  abbrev w : Rfc3339Fields
   w = record {
     year = day.year;
     month = day.month;
@@ -73,7 +73,7 @@ module _ (bs b1 b2 b3 b4 : List ℕ) (day : Day) (clock : Clock) (n : ℕ) (offs
   same_second : min clock.second 59 ≡ clock.second
   same_second = let k = h.civil.second_in in omega arith
 
-  same_fields : fields_read day clock n ≡ fields_of_written w
+  same_fields : fields_read day clock n ≡ fields_of_rfc3339 w
   same_fields = ap (λ (x : ℕ). fields_read day (record { hour = clock.hour; minute = clock.minute; second = x }) n) (sym same_second)
 
   is_stamp : IsStampText p s
@@ -103,9 +103,9 @@ module _ (bs b1 b2 b3 b4 : List ℕ) (day : Day) (clock : Clock) (n : ℕ) (offs
     pub stamp_cut : IsCharBoundary bs (length bs - length b4)
     stamp_cut = behind_cut p bs b4 ascii u whole
 
-    pub usual_stamp_front : (more ys : List ℕ) → b4 ≡ 32 ∷ more → ys ≡ drop (length bs - length b4) bs
+    pub standard_stamp_front : (more ys : List ℕ) → b4 ≡ 32 ∷ more → ys ≡ drop (length bs - length b4) bs
         → Front header_stamp (chars bs) (chars ys) (Some s)
-    usual_stamp_front more ys e k =
+    standard_stamp_front more ys e k =
         let same : ys ≡ b4 = behind_is p bs b4 ascii u whole ys k in record {
           piece = p;
           whole = behind_chars p bs b4 ascii u whole ∙ ap (λ (x : List ℕ). p ++ chars x) (sym same);

@@ -5,7 +5,7 @@ use Rattle.std.specs.Char.{is_ascii_digit}
 use Rattle.syslog_pieces.specs.Pieces.Class.{Text, Class, Values, Front, Row, IsDeterministic, some_run, exactly, optional}
 use Rattle.syslog_pieces.specs.Text.{number, is_blank, colon}
 use Rattle.syslog_pieces.specs.Timestamp.MonthDate.{month, short_number, clock_row, yearless_row, yearless_of, yearless_date, dated_row, dated_of, dated_date, month_date}
-use Rattle.syslog_pieces.specs.Timestamp.Loose.{ShowsYearless, showing_row}
+use Rattle.syslog_pieces.specs.Timestamp.Rfc3164.{ShowsYearless, showing_row}
 use Rattle.syslog_pieces.specs.declared.timestamp.month_date.MonthDate.{MonthDate}
 use Rattle.syslog_pieces.proofs.PieceLemmas.Class.{AllDeterministic, run_same, rest_same, some_run_det, run_det, rest_det, exactly_det, optional_det, mapped_det, row_det, row_head, front_same, unique_division}
 use Rattle.syslog_pieces.proofs.PieceLemmas.Kinds.{Apart, Begins, begins_apart, begins_more, begins_with, each_begins, either_det}

@@ -3,7 +3,7 @@ use Rattle.std.proofs.Common.{◌≡◌, ℕ, List, [], ◌∷◌, ◌++◌, Opt
 use Rattle.std.specs.Char.{to_ascii_lowercase}
 use Rattle.syslog_pieces.specs.Bodies.MonthReading.{small_month, day_row, day_values, year_row, year_values, clock_values, date_of}
 use Rattle.syslog_pieces.specs.Pieces.Class.{Text, Class, Front, NoFront, Row}
-use Rattle.syslog_pieces.specs.Timestamp.Loose.{BeginsWithDate, showing_row}
+use Rattle.syslog_pieces.specs.Timestamp.Rfc3164.{BeginsWithDate, showing_row}
 use Rattle.syslog_pieces.specs.Timestamp.MonthDate.{month, clock_row, yearless_row, yearless_of, yearless_date, dated_row, dated_of, dated_date, month_date}
 use Rattle.syslog_pieces.specs.declared.timestamp.month_date.Clock.{Clock}
 use Rattle.syslog_pieces.specs.declared.timestamp.month_date.Day.{Day}

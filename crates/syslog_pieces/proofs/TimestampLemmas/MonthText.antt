@@ -14,7 +14,7 @@ use Rattle.jiff_fmt.specs.Text.{pad2}
 use Rattle.jiff_tz.specs.Zone.{utc_offset}
 use Rattle.syslog_pieces.proofs.TimestampLemmas.Values.{same_offset}
 use Rattle.syslog_pieces.proofs.TimestampLemmas.Zone.{one_datetime}
-use Rattle.syslog_pieces.proofs.TimestampLemmas.Clocks.{datetime_of, stamp, at_offset, prints, plain}
+use Rattle.syslog_pieces.proofs.TimestampLemmas.Clocks.{datetime_of, stamp, at_offset, prints, canonical}
 
 at_same : (dt : DateTime) (offset other : Offset) (s : OffsetTimestamp) → offset ≡ other → IsStampAt dt offset s → IsStampAt dt other s
 at_same dt offset other s same h = subst (λ (x : Offset). IsStampAt dt x s) same h
@@ -89,7 +89,7 @@ month_printed dating date year f offset text y e there (from, to) at (minutes, d
           in_any dating.zone dating.local dt offset (stamp dt offset low high) (at dt same) (at_offset dt offset low high),
         ),
       );
-      plain = plain dt offset low high minutes day;
+      canonical = canonical dt offset low high minutes day;
       printed = is ∙ ap (λ (x : List ℕ). 32 ∷ x)
           (ap (λ (x : CivilFields). fields_text x offset.seconds) (sym same) ∙ sym (prints dt offset low high));
     }

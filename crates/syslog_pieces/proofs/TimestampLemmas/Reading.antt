@@ -16,8 +16,8 @@ use Rattle.std.specs.List.{All, prefix_len}
 use Rattle.std.specs.Char.{IsAsciiDigit}
 use Rattle.jiff_fmt.specs.Reader.{fraction_value}
 use Rattle.jiff_fmt.proofs.RoundTrip.{two_digits-pad2, four_digits-pad4}
-use Rattle.syslog_pieces.specs.declared.timestamp.written.Written.{Written}
-use Rattle.syslog_pieces.specs.Bodies.StampReading.{after_byte, after_letter, date, clock, nanoseconds, fraction, offset_minutes, offset_seconds, written, is_empty}
+use Rattle.syslog_pieces.specs.declared.timestamp.rfc3339_text.Rfc3339Fields.{Rfc3339Fields}
+use Rattle.syslog_pieces.specs.Bodies.StampReading.{after_byte, after_letter, date, clock, nanoseconds, fraction, offset_minutes, offset_seconds, rfc3339_fields, is_empty}
 use Rattle.syslog_pieces.proofs.TimestampLemmas.Fraction.{nanoseconds-of}
 use Rattle.syslog_pieces.specs.Timestamp.Rfc3339.{IsLetter, IsFraction, IsOffsetText, Writes}
 
@@ -235,9 +235,9 @@ offset_seconds-is (c ∷ rest) z h =
     (λ d. none-some _ (rw d at h2))))
 
 -- what the reader reads is what the text writes
-pub written-is : (text : List ℕ) (w : Written) → written text ≡ Some w → Writes text w
-unfolding written
-written-is text w h =
+pub rfc3339_fields-is : (text : List ℕ) (w : Rfc3339Fields) → rfc3339_fields text ≡ Some w → Writes text w
+unfolding rfc3339_fields
+rfc3339_fields-is text w h =
     let (date, is_date, after_date) = chained (date text) _ w h in
     let (clock, is_clock, after_clock) = chained _ _ w after_date in
     let (decimals, is_decimals, after_decimals) = chained _ _ w after_clock in
@@ -247,7 +247,7 @@ written-is text w h =
     let l = after_letter-is 84 date.1 after_letter is_letter in
     let c = clock-is after_letter clock is_after_letter in
     let f = fraction-is clock.1 decimals.0 decimals.1 is_decimals in
-    let P : Written → Type 0 = Writes text in
+    let P : Rfc3339Fields → Type 0 = Writes text in
     subst P (some-inj _ w is_written)
     (record {
       letter = l.0;
@@ -333,14 +333,14 @@ starts-of zone z (inr n) =
       | inr w ↦ (45, pad2 n.hours ++ 58 ∷ pad2 n.minutes, w.0, refl, refl)
     ]
 
-pub written-of : (text : List ℕ) (w : Written) → Writes text w → written text ≡ Some w
-unfolding written
-written-of text w h =
+pub rfc3339_fields-of : (text : List ℕ) (w : Rfc3339Fields) → Writes text w → rfc3339_fields text ≡ Some w
+unfolding rfc3339_fields
+rfc3339_fields-of text w h =
     let tail = h.decimals ++ h.zone in
     let clock_text = pad2 w.hour ++ (58 ∷ pad2 w.minute ++ (58 ∷ pad2 w.second ++ tail)) in
     rw (h.whole, date-of w.year w.month w.day (h.letter ∷ clock_text) h.fits.year h.fits.month h.fits.day, after_letter-of 84 h.letter clock_text h.is_letter, clock-of w.hour w.minute w.second tail h.fits.hour h.fits.minute h.fits.second, fraction-of h.decimals h.zone w.nanosecond h.fraction (starts-of h.zone w.offset h.zone_is), offset_seconds-of h.zone w.offset h.zone_is)
 
 -- no text is shorter than a date and a clock
-pub short-none : (text : List ℕ) → length text < 19 → written text ≡ None
-short-none text h = by_option (written text) (λ e. e)
-    (λ w e. let k = ap length (written-is text w e).whole in absurd (omega arith))
+pub short-none : (text : List ℕ) → length text < 19 → rfc3339_fields text ≡ None
+short-none text h = by_option (rfc3339_fields text) (λ e. e)
+    (λ w e. let k = ap length (rfc3339_fields-is text w e).whole in absurd (omega arith))

@@ -1,4 +1,4 @@
--- A printed stamp and the texts of RFC 3339: what is printed of a plain timestamp has it, and no other timestamp has a text.
+-- A printed stamp and the texts of RFC 3339: what is printed of a canonical timestamp has it, and no other timestamp has a text.
 use Rattle.std.proofs.Common.{◌≡◌, ℕ, ℤ, zero, suc, pos, negsuc, neg_ℤ, ◌+ℤ◌, ◌-ℤ◌, ◌≤ℤ◌, ◌<ℤ◌, ◌+◌, ◌*◌, ◌/◌, ◌%◌, ◌<◌, ◌==◌, true, min, inl, inr, refl, sym, ap, subst, ◌∙◌, arith, unsigned_abs, List, ◌∷◌, ◌++◌, length, append_assoc}
 use Rattle.std.proofs.lemmas.Bool.Decides.{nat_tests}
 use Rattle.std.proofs.lemmas.List.Elements.{All-append}
@@ -13,12 +13,12 @@ use Rattle.jiff_fmt.specs.Text.{pad2, pad4}
 use Rattle.syslog_pieces.specs.Pieces.Class.{Each}
 use Rattle.syslog_pieces.specs.declared.timestamp.OffsetTimestamp.{OffsetTimestamp}
 use Rattle.syslog_pieces.specs.declared.timestamp.fields.CivilFields.{CivilFields}
-use Rattle.syslog_pieces.specs.declared.timestamp.written.Written.{Written}
+use Rattle.syslog_pieces.specs.declared.timestamp.rfc3339_text.Rfc3339Fields.{Rfc3339Fields}
 use Rattle.syslog_pieces.specs.Timestamp.{IsStampText}
 use Rattle.syslog_pieces.specs.Timestamp.Fields.{AreCivil, nanos_of_fields}
-use Rattle.syslog_pieces.specs.Timestamp.Plain.{IsPlainStamp, BeginsWithYear, own_year}
+use Rattle.syslog_pieces.specs.Timestamp.Canonical.{IsCanonicalStamp, BeginsWithYear, own_year}
 use Rattle.syslog_pieces.specs.Timestamp.Printed.{civil_fields, printed_stamp, date_time_text, year_sign, fraction_text, offset_text, pad3}
-use Rattle.syslog_pieces.specs.Timestamp.Rfc3339.{HasStamp, IsFraction, IsOffsetText, fields_of_written}
+use Rattle.syslog_pieces.specs.Timestamp.Rfc3339.{HasStamp, IsFraction, IsOffsetText, fields_of_rfc3339}
 use Rattle.syslog_pieces.proofs.TimestampLemmas.Civil.{civil_fields-is}
 use Rattle.syslog_pieces.proofs.TimestampLemmas.Clocks.{datetime_of}
 use Rattle.syslog_pieces.proofs.TimestampLemmas.Fields.{civil_nanos-fields}
@@ -81,7 +81,7 @@ offset_text-is (negsuc n) whole small =
       written = inr (refl, ap (λ k. neg_ℤ (pos k)) (sym (minutes-back (suc n) r whole refl)));
     })
 
--- ---- what is printed of a plain timestamp has it
+-- ---- what is printed of a canonical timestamp has it
 
 -- date and time in a year from 0 on, and more
 pub text-shape : (f : CivilFields) (y : ℕ) (more : List ℕ) → f.year ≡ pos y
@@ -98,7 +98,7 @@ year-from (negsuc n) h = absurd (omega (arith, signed_arith))
 pub fields-read : (f : CivilFields) (y : ℕ) (n o : ℤ) (zone : List ℕ) → f.year ≡ pos y → AreCivil f → IsTimestampNanos n → nanos_of_fields f ≡ n +ℤ nanos_of_seconds o
     → IsOffsetText zone o → HasStamp (date_time_text f ++ (fraction_text f.nanosecond ++ zone)) n o
 fields-read f y n o zone e there range nanos zone_is =
-    let w : Written = record {
+    let w : Rfc3339Fields = record {
       year = y;
       month = f.month;
       day = f.day;
@@ -110,7 +110,7 @@ fields-read f y n o zone e there range nanos zone_is =
     } in
     let date = there.date in
     let least : min f.second 59 ≡ f.second = omega (arith, there.second_in) in
-    let same : fields_of_written w ≡ f = λ i. record {
+    let same : fields_of_rfc3339 w ≡ f = λ i. record {
       year = sym e i;
       month = f.month;
       day = f.day;
@@ -121,8 +121,8 @@ fields-read f y n o zone e there range nanos zone_is =
     } in
     let days = days_in_month_bounds f.year f.month in
     let P : CivilFields → Type 0 = AreCivil in
-    let civil : AreCivil (fields_of_written w) = subst P (sym same) there in
-    let count : nanos_of_fields (fields_of_written w) ≡ n +ℤ nanos_of_seconds o = ap nanos_of_fields same ∙ nanos in (
+    let civil : AreCivil (fields_of_rfc3339 w) = subst P (sym same) there in
+    let count : nanos_of_fields (fields_of_rfc3339 w) ≡ n +ℤ nanos_of_seconds o = ap nanos_of_fields same ∙ nanos in (
       w,
       record {
         letter = 84;
@@ -150,7 +150,7 @@ fields-read f y n o zone e there range nanos zone_is =
       },
     )
 
-pub printed_stamp-back : (s : OffsetTimestamp) → IsPlainStamp s → IsStampText (printed_stamp s.instant.nanosecond s.offset.seconds) s
+pub printed_stamp-back : (s : OffsetTimestamp) → IsCanonicalStamp s → IsStampText (printed_stamp s.instant.nanosecond s.offset.seconds) s
 unfolding printed_stamp
 printed_stamp-back s p =
     let n = s.instant.nanosecond in
@@ -159,7 +159,7 @@ printed_stamp-back s p =
     let (y, e) = year-from _ p.year_from in
     fields-read (civil_fields (n +ℤ nanos_of_seconds o)) y n o (offset_text o) e fields.0 s.instant.in_range fields.1 (offset_text-is o p.minutes p.day)
 
--- ---- a timestamp that a text has is plain
+-- ---- a timestamp that a text has is canonical
 
 -- the fields of a count are those that have it
 fields-back : (f : CivilFields) → AreCivil f → civil_fields (nanos_of_fields f) ≡ f
@@ -169,9 +169,9 @@ abs-neg : (k : ℕ) → unsigned_abs (neg_ℤ (pos k)) ≡ k
 abs-neg zero = refl
 abs-neg (suc k) = refl
 
-offset-plain : (zone : List ℕ) (o : ℤ) → IsOffsetText zone o → (unsigned_abs o % 60 ≡ 0) × (unsigned_abs o < 86_400)
-offset-plain zone o (inl zulu) = rw zulu.3 (refl, omega arith)
-offset-plain zone o (inr n) =
+offset-canonical : (zone : List ℕ) (o : ℤ) → IsOffsetText zone o → (unsigned_abs o % 60 ≡ 0) × (unsigned_abs o < 86_400)
+offset-canonical zone o (inl zulu) = rw zulu.3 (refl, omega arith)
+offset-canonical zone o (inr n) =
     let hours_in = n.hours_in in
     let minutes_in = n.minutes_in in
     elim n.written [
@@ -182,10 +182,10 @@ offset-plain zone o (inr n) =
 back-count : (a b n o p : ℤ) → n ≡ a -ℤ b → nanos_of_seconds o ≡ b → n +ℤ nanos_of_seconds o ≡ a
 back-count a b n o p e f = omega (arith, signed_arith)
 
-pub stamp_text-plain : (text : List ℕ) (s : OffsetTimestamp) → IsStampText text s → IsPlainStamp s
-stamp_text-plain text s (w, writes, stamp) =
-    let f = fields_of_written w in
-    let offset = offset-plain writes.zone w.offset writes.zone_is in
+pub stamp_text-canonical : (text : List ℕ) (s : OffsetTimestamp) → IsStampText text s → IsCanonicalStamp s
+stamp_text-canonical text s (w, writes, stamp) =
+    let f = fields_of_rfc3339 w in
+    let offset = offset-canonical writes.zone w.offset writes.zone_is in
     let same = stamp.at_offset in
     let count : s.instant.nanosecond +ℤ nanos_of_seconds s.offset.seconds ≡ nanos_of_fields f =
     back-count (nanos_of_fields f) (nanos_of_seconds w.offset) s.instant.nanosecond s.offset.seconds w.offset stamp.instant (ap nanos_of_seconds same) in

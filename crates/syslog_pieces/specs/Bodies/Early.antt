@@ -11,7 +11,7 @@ use Rattle.syslog_pieces.specs.Timestamp.Rfc3339.{IsFraction, IsOffsetText}
 use Rattle.syslog_pieces.specs.declared.timestamp.OffsetTimestamp.{OffsetTimestamp}
 use Rattle.syslog_pieces.specs.declared.timestamp.fields.CivilFields.{CivilFields}
 use Rattle.syslog_pieces.specs.declared.timestamp.month_date.Clock.{Clock}
-use Rattle.syslog_pieces.specs.declared.timestamp.usual.Day.{Day}
+use Rattle.syslog_pieces.specs.declared.timestamp.standard.Day.{Day}
 
 -- a clock at the offset shows the fields at the stamp's instant, in a year from 0 to 9998
 pub record IsEarlyStamp (f : CivilFields) (offset : Offset) (s : OffsetTimestamp) : Type 0 where

@@ -1,7 +1,7 @@
 -- A month date's timestamp by what a clock shows.
 use Rattle.std.specs.Prelude.{◌≡◌, ℕ, List, ◌∷◌, Option, Some, None}
 use Rattle.jiff.specs.Types.{TimeZone}
-use Rattle.syslog_pieces.specs.Timestamp.Plain.{IsPlainStamp}
+use Rattle.syslog_pieces.specs.Timestamp.Canonical.{IsCanonicalStamp}
 use Rattle.syslog_pieces.specs.Timestamp.Printed.{printed_stamp}
 use Rattle.syslog_pieces.specs.Timestamp.Zone.{Dating, IsMonthStamp}
 use Rattle.syslog_pieces.specs.declared.timestamp.OffsetTimestamp.{OffsetTimestamp}
@@ -11,7 +11,7 @@ use Rattle.syslog_pieces.specs.declared.timestamp.month_date.MonthDate.{MonthDat
 pub record IsMonthText (dating : Dating) (date : MonthDate) (text : List ℕ) : Type 0 where
   pub stamp : OffsetTimestamp
   pub is : IsMonthStamp dating date stamp
-  pub plain : IsPlainStamp stamp
+  pub canonical : IsCanonicalStamp stamp
   pub printed : text ≡ 32 ∷ printed_stamp stamp.instant.nanosecond stamp.offset.seconds
 
 -- the zone that counts: the one that is given, or else the local one

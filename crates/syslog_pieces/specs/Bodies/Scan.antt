@@ -3,7 +3,7 @@ use Rattle.std.specs.Int.{w64, trailing_zeros}
 use Rattle.std.specs.Prelude.{◌≡◌, ◌+◌, ◌==◌, if◌then◌else◌, ◌≤◌, ◌<◌, ℕ, Bool, true, false, not, ◌&&◌, nat_lt, List, [], ◌∷◌, ◌++◌, length, slice_index, take, drop}
 use Rattle.std.specs.Str.{chars, IsUtf8, IsCharBoundary}
 use Rattle.syslog_pieces.specs.declared.text.CharClass.{CharClass}
-use Rattle.syslog_pieces.specs.declared.text.CharClass.TheVariants.{Digit, Blank, Visible, Id, Name, Plain, Open, Inert, Bare, Tag, Label}
+use Rattle.syslog_pieces.specs.declared.text.CharClass.TheVariants.{Digit, Blank, Visible, Id, Name, Unescaped, Open, Inert, Bare, Tag, Label}
 use Rattle.syslog_pieces.specs.Text.CharClass.{has}
 use Rattle.syslog_pieces.specs.Pieces.Class.{Each, Ends}
 
@@ -55,7 +55,7 @@ bit_of Blank = 2
 bit_of Visible = 4
 bit_of Id = 8
 bit_of Name = 16
-bit_of Plain = 32
+bit_of Unescaped = 32
 bit_of Open = 64
 bit_of Inert = 128
 bit_of Bare = 256

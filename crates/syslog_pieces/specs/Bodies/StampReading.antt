@@ -5,7 +5,7 @@ use Rattle.std.specs.List.{prefix_len}
 use Rattle.std.specs.Char.{is_ascii_digit}
 use Rattle.std.specs.Borrow.{Bor}
 use Rattle.jiff_fmt.specs.Reader.{two_digits, four_digits, fraction_value}
-use Rattle.syslog_pieces.specs.declared.timestamp.written.Written.{Written}
+use Rattle.syslog_pieces.specs.declared.timestamp.rfc3339_text.Rfc3339Fields.{Rfc3339Fields}
 
 -- a value and the text after it
 abbrev pub Read : Type 0 → Type 0
@@ -80,8 +80,8 @@ clock text = do
   Some ((hour.0, minute.0, second.0), second.1)
 
 -- the numbers of the whole text
-unfoldable pub written : List ℕ → Option Written
-written text = do
+unfoldable pub rfc3339_fields : List ℕ → Option Rfc3339Fields
+rfc3339_fields text = do
   d ← date text
   t ← after_letter 84 d.1 >>= clock
   f ← fraction t.1

@@ -2,7 +2,7 @@
 use Rattle.std.specs.Prelude.{ℕ, Bool, nat_eq, ◌&&◌, not}
 use Rattle.std.specs.Char.{is_ascii_digit, is_not_whitespace}
 use Rattle.syslog_pieces.specs.declared.text.CharClass.{CharClass}
-use Rattle.syslog_pieces.specs.declared.text.CharClass.TheVariants.{Digit, Blank, Visible, Id, Name, Plain, Open, Inert, Bare, Tag, Label}
+use Rattle.syslog_pieces.specs.declared.text.CharClass.TheVariants.{Digit, Blank, Visible, Id, Name, Unescaped, Open, Inert, Bare, Tag, Label}
 use Rattle.syslog_pieces.specs.Text.{is_blank, is_tag_char}
 
 -- neither `]` nor `=`
@@ -14,8 +14,8 @@ abbrev pub is_id_char : ℕ → Bool
 is_id_char c = is_not_whitespace c && is_name_char c
 
 -- neither a backslash nor a quote
-abbrev pub is_plain_char : ℕ → Bool
-is_plain_char c = not (nat_eq c 92) && not (nat_eq c 34)
+abbrev pub is_unescaped_char : ℕ → Bool
+is_unescaped_char c = not (nat_eq c 92) && not (nat_eq c 34)
 
 -- no backslash
 abbrev pub is_bare_char : ℕ → Bool
@@ -23,7 +23,7 @@ is_bare_char c = not (nat_eq c 92)
 
 -- neither a backslash nor a quote nor `]`
 abbrev pub is_inert_char : ℕ → Bool
-is_inert_char c = is_plain_char c && not (nat_eq c 93)
+is_inert_char c = is_unescaped_char c && not (nat_eq c 93)
 
 -- no `]`
 abbrev pub is_open_char : ℕ → Bool
@@ -39,7 +39,7 @@ has Blank c = is_blank c
 has Visible c = is_not_whitespace c
 has Id c = is_id_char c
 has Name c = is_name_char c
-has Plain c = is_plain_char c
+has Unescaped c = is_unescaped_char c
 has Open c = is_open_char c
 has Inert c = is_inert_char c
 has Bare c = is_bare_char c

@@ -7,11 +7,11 @@ use Rattle.jiff.specs.Words.{IsTimestampNanos, nanos_of_seconds}
 use Rattle.jiff_fmt.specs.Reader.{fraction_value}
 use Rattle.jiff_fmt.specs.Text.{pad2, pad4}
 use Rattle.syslog_pieces.specs.declared.timestamp.fields.CivilFields.{CivilFields}
-use Rattle.syslog_pieces.specs.declared.timestamp.written.Written.{Written}
+use Rattle.syslog_pieces.specs.declared.timestamp.rfc3339_text.Rfc3339Fields.{Rfc3339Fields}
 use Rattle.syslog_pieces.specs.Timestamp.Fields.{AreCivil, nanos_of_fields}
 
 -- the number is below ten to the power of the digits that it is written with
-pub record FitsDigits (w : Written) : Type 0 where
+pub record FitsDigits (w : Rfc3339Fields) : Type 0 where
   pub year : w.year < 10_000
   pub month : w.month < 100
   pub day : w.day < 100
@@ -47,7 +47,7 @@ IsOffsetText text seconds =
     ((c : ℕ) × (text ≡ c ∷ []) × IsLetter 90 c × (seconds ≡ pos 0)) ⊎ IsNumericOffset text seconds
 
 -- the text writes these numbers
-pub record Writes (text : List ℕ) (w : Written) : Type 0 where
+pub record Writes (text : List ℕ) (w : Rfc3339Fields) : Type 0 where
   pub letter : ℕ
   pub is_letter : IsLetter 84 letter
   pub decimals : List ℕ
@@ -59,8 +59,8 @@ pub record Writes (text : List ℕ) (w : Written) : Type 0 where
   pub zone_is : IsOffsetText zone w.offset
 
 -- the civil fields, where second 60 is taken as 59
-abbrev pub fields_of_written : Written → CivilFields
-fields_of_written w = record {
+abbrev pub fields_of_rfc3339 : Rfc3339Fields → CivilFields
+fields_of_rfc3339 w = record {
   year = pos w.year;
   month = w.month;
   day = w.day;
@@ -71,13 +71,13 @@ fields_of_written w = record {
 }
 
 -- there is such a date and time of day, n is its instant at the offset o, and n is in range
-pub record HasWrittenStamp (w : Written) (n o : ℤ) : Type 0 where
-  pub civil : AreCivil (fields_of_written w)
+pub record HasRfc3339Stamp (w : Rfc3339Fields) (n o : ℤ) : Type 0 where
+  pub civil : AreCivil (fields_of_rfc3339 w)
   pub second : w.second < 61
-  pub instant : n ≡ nanos_of_fields (fields_of_written w) -ℤ nanos_of_seconds w.offset
+  pub instant : n ≡ nanos_of_fields (fields_of_rfc3339 w) -ℤ nanos_of_seconds w.offset
   pub at_offset : o ≡ w.offset
   pub in_range : IsTimestampNanos n
 
 -- the text writes a time at the offset o, in seconds, whose instant is n, in nanoseconds
 abbrev pub HasStamp : List ℕ → ℤ → ℤ → Type 0
-HasStamp text n o = (w : Written) × Writes text w × HasWrittenStamp w n o
+HasStamp text n o = (w : Rfc3339Fields) × Writes text w × HasRfc3339Stamp w n o

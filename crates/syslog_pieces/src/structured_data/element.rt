@@ -5,11 +5,11 @@ ghost use Rattle.syslog_pieces.specs.Pieces.Class.{Front, NoFront};
 ghost use Rattle.syslog_pieces.specs.Bodies.Closing.{quoted as quoted_class, inside};
 ghost use Rattle.syslog_pieces.specs.StructuredData.Element.{element_value, param_value};
 ghost use Rattle.syslog_pieces.specs.StructuredData.{param as param_class, element as element_class};
-ghost use Rattle.syslog_pieces.specs.StructuredData.Listed.{full_element};
+ghost use Rattle.syslog_pieces.specs.StructuredData.Rfc3164List.{full_element};
 ghost use Rattle.syslog_pieces.specs.Pieces.View.{shown, Reads};
 
 use super::StructuredElement;
-use super::walk::{after_element, live_value, opening, start};
+use super::recognise::{after_element, live_value, opening, start};
 use crate::text::literal;
 use std::alloc::{AllocError, Global};
 

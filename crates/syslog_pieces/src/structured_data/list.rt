@@ -11,7 +11,7 @@ ghost use Rattle.syslog_pieces.specs.Pieces.View.{shown, Reads};
 
 use super::StructuredElement;
 use super::element::{NOTED, collect_element, noted_element};
-use super::walk::{after_bracketed, live_element};
+use super::recognise::{after_bracketed, live_element};
 use crate::text::literal;
 use std::alloc::{AllocError, Global};
 

@@ -1,7 +1,7 @@
 //! Worked rows and vectors: what no clause says of one text.
 mod copies;
 mod equality;
-mod listed;
+mod rfc3164_list;
 mod refusals;
 mod refusals_copies;
 

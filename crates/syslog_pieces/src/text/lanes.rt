@@ -3,7 +3,7 @@
 //! Each compares sixteen bytes at once, and answers the place of the first that stops the run.
 ghost use Rattle.std.specs.Prelude.{◌≡◌, ◌+◌, ◌≤◌, length};
 ghost use Rattle.syslog_pieces.specs.Bodies.Scan.{IsRunIn, byte_in, first_set, is_zero};
-ghost use Rattle.syslog_pieces.specs.declared.text.CharClass.TheVariants.{Digit, Blank, Visible, Id, Name, Plain, Open, Inert, Bare, Tag, Label};
+ghost use Rattle.syslog_pieces.specs.declared.text.CharClass.TheVariants.{Digit, Blank, Visible, Id, Name, Unescaped, Open, Inert, Bare, Tag, Label};
 
 use crate::text::CharClass;
 use std::simd::prelude::*;
@@ -79,9 +79,9 @@ fn name_run(bytes: &[u8], at: usize) -> usize
 }
 
 #[inline(always)]
-fn plain_run(bytes: &[u8], at: usize) -> usize
+fn unescaped_run(bytes: &[u8], at: usize) -> usize
     requires { at + LANES ≤ length bytes.now }
-    ensures { IsRunIn (byte_in Plain) bytes.now at result }
+    ensures { IsRunIn (byte_in Unescaped) bytes.now at result }
 {
     let v = u8x16::from_slice(&bytes[at..]);
     let marks = v.simd_eq(u8x16::splat(b'\\')) | v.simd_eq(u8x16::splat(b'"'));
@@ -169,7 +169,7 @@ pub(crate) fn class_run(bytes: &[u8], at: usize, class: CharClass) -> usize
         CharClass::Visible => visible_run(bytes, at),
         CharClass::Id => id_run(bytes, at),
         CharClass::Name => name_run(bytes, at),
-        CharClass::Plain => plain_run(bytes, at),
+        CharClass::Unescaped => unescaped_run(bytes, at),
         CharClass::Open => open_run(bytes, at),
         CharClass::Inert => inert_run(bytes, at),
         CharClass::Bare => bare_run(bytes, at),

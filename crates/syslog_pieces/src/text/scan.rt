@@ -32,7 +32,7 @@ fn bit(class: CharClass) -> u16
         CharClass::Visible => 4,
         CharClass::Id => 8,
         CharClass::Name => 16,
-        CharClass::Plain => 32,
+        CharClass::Unescaped => 32,
         CharClass::Open => 64,
         CharClass::Inert => 128,
         CharClass::Bare => 256,

@@ -19,7 +19,7 @@ const ASCII_STOPS: [Cutting; 11] = [
     (CharClass::Visible, 'v', &[' ', '\t', '\u{b}', '\r']),
     (CharClass::Id, 'i', &[' ', '\u{c}', ']', '=']),
     (CharClass::Name, ' ', &[']', '=']),
-    (CharClass::Plain, ']', &['\\', '"']),
+    (CharClass::Unescaped, ']', &['\\', '"']),
     (CharClass::Open, '[', &[']']),
     (CharClass::Inert, '=', &['\\', '"', ']']),
     (CharClass::Bare, '"', &['\\']),
@@ -39,7 +39,7 @@ const WIDE_STOPS: [Cutting; 11] = [
     ),
     (CharClass::Id, '"', &['\u{85}', '\u{2003}', '\u{3000}']),
     (CharClass::Name, '\u{2003}', &[']', '=']),
-    (CharClass::Plain, '局', &['\\', '"']),
+    (CharClass::Unescaped, '局', &['\\', '"']),
     (CharClass::Open, '\u{85}', &[']']),
     (CharClass::Inert, 'ß', &['\\', '"', ']']),
     (

@@ -16,7 +16,7 @@ ghost use Rattle.syslog_pieces.specs.Timestamp.Zone.{dating_value, earlier, give
 use super::fields::{CivilFields, is_early};
 use super::month_date::MonthDate;
 use super::zone::{Dating, fields_in, offset_before, year_of, zone_of};
-use crate::text::written::digit;
+use crate::text::write_ascii::digit;
 use jiff::tz::{Offset, TimeZone};
 
 /// A space and the printed text of the month date's timestamp, where that is read back from print. It may be absent for

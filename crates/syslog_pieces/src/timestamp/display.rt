@@ -7,7 +7,7 @@ ghost use Rattle.syslog_pieces.specs.Timestamp.Fields.{fields_of};
 ghost use Rattle.syslog_pieces.specs.Timestamp.Printed as spec;
 
 use super::OffsetTimestamp;
-use crate::text::written::{digit, write_bytes};
+use crate::text::write_ascii::{digit, write_bytes};
 use jiff::civil::DateTime;
 use jiff::tz::Offset;
 use std::fmt;

@@ -6,15 +6,15 @@ ghost use Rattle.std.specs.Str.{chars};
 ghost use Rattle.syslog_pieces.specs.Bodies.MonthReading as parts;
 ghost use Rattle.syslog_pieces.specs.Pieces.Class.{Front, NoFront, Row};
 ghost use Rattle.syslog_pieces.specs.Pieces.View.{shown, Reads};
-ghost use Rattle.syslog_pieces.specs.Timestamp.Loose.{BeginsWithDate};
+ghost use Rattle.syslog_pieces.specs.Timestamp.Rfc3164.{BeginsWithDate};
 ghost use Rattle.syslog_pieces.specs.Timestamp.MonthDate as spec;
 ghost use Rattle.syslog_pieces.specs.declared.timestamp.month_date.MonthDate.{MonthDate};
 
-pub mod usual;
+pub mod standard;
 
 use crate::pri::optional_priority;
 use crate::text::{blanks, first, literal, number, past_colon, some_blanks};
-use usual::usual_date;
+use standard::standard_date;
 
 /// The numbers of a month date, of which there may be no such date.
 #[derive(Clone, Copy, Debug)]
@@ -50,7 +50,7 @@ pub(super) struct Clock {
 pub fn month_date(text: &str) -> Option<(MonthDate, &str)>
     ensures { Reads spec.month_date (λ d. d) (chars text.now) result }
 {
-    match usual_date(text) {
+    match standard_date(text) {
         Some(found) => Some(found),
         None => any_date(text),
     }
@@ -89,7 +89,7 @@ pub fn shown_date(text: &str) -> Option<MonthDate>
 fn yearless(text: &str) -> Option<(MonthDate, &str)>
     ensures { Reads spec.yearless_date (λ d. d) (chars text.now) result }
 {
-    match usual_date(text) {
+    match standard_date(text) {
         Some(found) => Some(found),
         None => any_yearless(text),
     }

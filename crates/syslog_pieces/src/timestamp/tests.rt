@@ -1,7 +1,7 @@
 mod month_dates;
 mod zones;
 
-use super::plain::is_plain;
+use super::canonical::is_canonical_stamp;
 use super::{OffsetTimestamp, header_stamp, rfc3339};
 use jiff::Timestamp;
 use jiff::tz::Offset;
@@ -165,7 +165,7 @@ fn prints_the_fewest_exact_decimals(rt: HostRuntime) -> Result<(), Fail> {
 }
 
 #[test]
-fn prints_outside_the_usual_form(rt: HostRuntime) -> Result<(), Fail> {
+fn prints_outside_the_standard_form(rt: HostRuntime) -> Result<(), Fail> {
     let alloc = rt.alloc();
     for (nanosecond, seconds, text) in [
         (0, 29, "1970-01-01T00:00:29+00:00"),
@@ -272,7 +272,7 @@ fn wants_a_space_behind_the_timestamp(rt: HostRuntime) {
 fn tells_which_are_read_back(rt: HostRuntime) -> Result<(), Fail> {
     let year_zero = -62_167_219_200_000_000_000;
     let second = 1_000_000_000;
-    for (nanosecond, seconds, plain) in [
+    for (nanosecond, seconds, canonical) in [
         (0, 0, true),
         (0, 86_340, true),
         (0, -86_340, true),
@@ -286,8 +286,8 @@ fn tells_which_are_read_back(rt: HostRuntime) -> Result<(), Fail> {
         (year_zero, -3600, false),
     ] {
         assert_eq!(rt;
-            is_plain(stamp(nanosecond, seconds)?),
-            plain,
+            is_canonical_stamp(stamp(nanosecond, seconds)?),
+            canonical,
             "{nanosecond} at {seconds}"
         );
     }

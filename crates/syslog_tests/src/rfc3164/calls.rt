@@ -199,7 +199,7 @@ const UNREADABLE: [&str; 6] = [
 ];
 
 // Each call that answers the fallback answers a message with nothing but this in it.
-fn check_plain_calls(
+fn check_fallback_calls(
     rt: &impl Abort,
     alloc: Global,
     text: &str,
@@ -226,7 +226,7 @@ fn answers_the_fallback_where_there_is_no_reading(rt: HostRuntime) -> Result<(),
     let alloc = rt.alloc();
     for text in UNREADABLE {
         for variant in [Variant::Either, Variant::RFC3164, Variant::RFC5424] {
-            check_plain_calls(&rt, alloc, text, variant, text)?;
+            check_fallback_calls(&rt, alloc, text, variant, text)?;
         }
     }
     for variant in [Variant::Either, Variant::RFC3164, Variant::RFC5424] {
@@ -240,9 +240,9 @@ fn answers_the_fallback_where_there_is_no_reading(rt: HostRuntime) -> Result<(),
 fn answers_the_message_where_there_is_one(rt: HostRuntime) -> Result<(), Fail> {
     let alloc = rt.alloc();
     for (text, msg) in [("-", ""), ("--x", "-x")] {
-        check_plain_calls(&rt, alloc, text, Variant::Either, msg)?;
-        check_plain_calls(&rt, alloc, text, Variant::RFC3164, msg)?;
-        check_plain_calls(&rt, alloc, text, Variant::RFC5424, text)?;
+        check_fallback_calls(&rt, alloc, text, Variant::Either, msg)?;
+        check_fallback_calls(&rt, alloc, text, Variant::RFC3164, msg)?;
+        check_fallback_calls(&rt, alloc, text, Variant::RFC5424, text)?;
     }
     Ok(())
 }

@@ -78,9 +78,9 @@ fn reads_two_elements_and_trims_the_text(rt: HostRuntime) -> Result<(), Fail> {
     let cells = format!(in alloc;
         "{LOCAL_CELLS}¦list meta|sequenceId|1|sysUpTime|37|language|EN\norigin|ip|192.168.0.1|software|test¦msg i am foobar¦prints {line}"
     )?;
-    let plain = format!(in alloc; "{line}{cells}")?;
+    let canonical = format!(in alloc; "{line}{cells}")?;
     let indented = format!(in alloc; "\n            {line}\n            {cells}")?;
-    check_table(&rt, alloc, &[plain.as_str(), indented.as_str()])
+    check_table(&rt, alloc, &[canonical.as_str(), indented.as_str()])
 }
 
 // The list reads as these elements, and prints as what is left of it.

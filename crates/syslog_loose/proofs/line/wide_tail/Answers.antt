@@ -1,10 +1,10 @@
 use Rattle.std.specs.Str.{chars}
-use Rattle.syslog_loose.proofs.KeptLineLemmas.{tail_kept}
+use Rattle.syslog_loose.proofs.VerbatimLineLemmas.{tail_verbatim}
 use Rattle.syslog_loose.proofs.line.wide_tail.Goals as goal
 
 pub returns : goal.returns
 returns c =
-    tail_kept (chars c.args.text.now) (chars c.in_ok-hostname.hostname.now) (chars c.in_ok-behind_hostname.behind_hostname.now)
+    tail_verbatim (chars c.args.text.now) (chars c.in_ok-hostname.hostname.now) (chars c.in_ok-behind_hostname.behind_hostname.now)
     (chars c.in_ok-appname.appname.now) (chars c.in_ok-behind_appname.behind_appname.now) (chars c.in_ok-procid.procid.now)
     (chars c.in_ok-behind_procid.behind_procid.now) (chars c.in_ok-msgid.msgid.now) (chars c.in_ok-behind_msgid.behind_msgid.now)
     (chars c.in_ok-elements.elements.now) (chars c.in_ok-rest.rest.now)

@@ -1,7 +1,7 @@
 use Rattle.std.proofs.Common.{refl, sym, subst}
 use Rattle.std.specs.Str.{chars}
 use Rattle.syslog_pieces.specs.Pieces.Class.{Text}
-use Rattle.syslog_pieces.specs.Timestamp.Loose.{BeginsWithDate}
+use Rattle.syslog_pieces.specs.Timestamp.Rfc3164.{BeginsWithDate}
 use Rattle.syslog_pieces.specs.Timestamp.MonthDate.{yearless_date}
 use Rattle.syslog_loose.proofs.Rfc3164Lemmas.Shown.{shown_has_month}
 use Rattle.syslog_loose.proofs.reading.incomplete_date.Goals as goal

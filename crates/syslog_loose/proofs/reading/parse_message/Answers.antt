@@ -4,7 +4,7 @@ use Rattle.std.specs.Str.{chars}
 use Rattle.jiff.specs.Words.{plain_zone}
 use Rattle.syslog_pieces.specs.Timestamp.Zone.{IsYearAt}
 use Rattle.syslog_loose.specs.Reading.{IncompleteDate, IsYearAnswered}
-use Rattle.syslog_loose.proofs.ReadingLemmas.{plainly_in}
+use Rattle.syslog_loose.proofs.ReadingLemmas.{or_whole_in}
 use Rattle.syslog_loose.proofs.reading.parse_message.Goals.{in-Some, in-None}
 use Rattle.syslog_loose.proofs.reading.parse_message.Goals as goal
 
@@ -16,4 +16,4 @@ returns c =
       | in-Some w ↦ (let fits : FitsSigned w32 w.year_at.result = omega (arith, ints, w.year_at.type_inv) in rw (w.year-is ∙ ap Some (to_z-of_z w32 w.year_at.result fits)) ((w.in-Some.ensures.asks whole left).0, (w.in-Some.ensures.asks whole left).1, w.year_at.ensures))
       | in-None w ↦ rw w.year-is (w.in-None.ensures.asks whole left)
     ] in
-    record { reads = plainly_in _ _ _ None c.args.local c.read.result c.or_fallback.result c.match-asked_date.year answered (c.or_fallback.ensures c.args.variant) (c.read.ensures whole left) }
+    record { reads = or_whole_in _ _ _ None c.args.local c.read.result c.or_fallback.result c.match-asked_date.year answered (c.or_fallback.ensures c.args.variant) (c.read.ensures whole left) }

@@ -5,7 +5,7 @@ use Rattle.syslog_pieces.specs.Pieces.Class.{run, rest, optional}
 use Rattle.syslog_pieces.specs.Pieces.View.{seen, shown}
 use Rattle.syslog_pieces.specs.ProcId.{procid_value}
 use Rattle.syslog_pieces.specs.StructuredData.Element.{element_value}
-use Rattle.syslog_pieces.specs.StructuredData.Listed.{listed, elements_or}
+use Rattle.syslog_pieces.specs.StructuredData.Rfc3164List.{rfc3164_list, elements_or}
 use Rattle.syslog_pieces.specs.declared.structured_data.StructuredElement.{StructuredElement}
 use Rattle.syslog_pieces.specs.Text.{is_blank}
 use Rattle.syslog_pieces.specs.Timestamp.Zone.{dating_value}
@@ -28,8 +28,8 @@ returns-in_err-elements-clause-memory c whole e = λ none.
     absurd (cc)
 
 -- the elements that were collected, none where there is no list
-elements_seen : (listed : Option (Vec (StructuredElement (Bor (List ℕ))) Global)) (none found : Vec (StructuredElement (Bor (List ℕ))) Global) → none.items ≡ [] → found ≡ unwrap_or listed none
-    → map (element_value (λ s. shown s)) found.items ≡ elements_or (option_map (λ elements. map (element_value (λ s. shown s)) elements.items) listed)
+elements_seen : (rfc3164_list : Option (Vec (StructuredElement (Bor (List ℕ))) Global)) (none found : Vec (StructuredElement (Bor (List ℕ))) Global) → none.items ≡ [] → found ≡ unwrap_or rfc3164_list none
+    → map (element_value (λ s. shown s)) found.items ≡ elements_or (option_map (λ elements. map (element_value (λ s. shown s)) elements.items) rfc3164_list)
 elements_seen None none found e f = ap (λ (v : Vec (StructuredElement (Bor (List ℕ))) Global). map (element_value (λ s. shown s)) v.items) f ∙ ap (λ (es : List (StructuredElement (Bor (List ℕ)))). map (element_value (λ s. shown s)) es) e
 elements_seen (Some elements) none found e f = ap (λ (v : Vec (StructuredElement (Bor (List ℕ))) Global). map (element_value (λ s. shown s)) v.items) f
 
@@ -57,7 +57,7 @@ returns-clause-read c whole e =
       }),
     )
     (rows_join (stamped_row dating) (body_row rule) c.in-Some.ensures
-    (rows_join fields_row (optional (listed rule) ∷ behind_row) fields.front
-    (row_cons (optional (listed rule)) behind_row c.in_ok-elements.ensures.list
+    (rows_join fields_row (optional (rfc3164_list rule) ∷ behind_row) fields.front
+    (row_cons (optional (rfc3164_list rule)) behind_row c.in_ok-elements.ensures.list
     (row_cons (run is_blank) (rest ∷ []) c.blanks-msg.ensures
     (row_cons rest [] (rest_front _) (row_nil []))))))

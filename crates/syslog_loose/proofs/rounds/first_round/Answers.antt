@@ -5,9 +5,9 @@ use Rattle.std.proofs.lemmas.Str.{IsUtf8-string_bytes}
 use Rattle.syslog_pieces.specs.Pieces.Class.{Text}
 use Rattle.syslog_pieces.specs.Timestamp.Zone.{dating_of}
 use Rattle.syslog_loose.specs.Beginning.{BeginsNone}
-use Rattle.syslog_loose.specs.KeptLine.{PrintsAs}
+use Rattle.syslog_loose.specs.VerbatimLine.{PrintsAs5424}
 use Rattle.syslog_loose.proofs.BeginningLemmas.{asks_no_year, no_reading}
-use Rattle.syslog_loose.proofs.KeptLooseLemmas.{dated_answered, asked_month}
+use Rattle.syslog_loose.proofs.Verbatim3164Lemmas.{dated_answered, asked_month}
 use Rattle.syslog_loose.proofs.ReadingLemmas.{answered_to, fault_in, invalid_or_memory, no_ok, found_text}
 use Rattle.syslog_loose.proofs.SettlingLemmas.Settles.{round_copied}
 use Rattle.syslog_loose.proofs.rounds.first_round.Goals as goal
@@ -17,14 +17,14 @@ returns-in_err-copied g c whole e =
     let (_, f, same) = err_from_is_err_and c.from_residual.result c.from_residual.ensures.1 in
     rw (f, same) (record {
       answered = None;
-      is_answered = λ date asks. no_ok _ _ c.in_err-copied.was (c.kept_text.ensures.year whole e date asks);
-      holds = λ year agrees. (λ i. absurd (invalid_or_memory i), λ u. absurd (no_ok _ _ c.in_err-copied.was (c.kept_text.ensures.memory whole e _ u)));
+      is_answered = λ date asks. no_ok _ _ c.in_err-copied.was (c.verbatim_text.ensures.year whole e date asks);
+      holds = λ year agrees. (λ i. absurd (invalid_or_memory i), λ u. absurd (no_ok _ _ c.in_err-copied.was (c.verbatim_text.ensures.memory whole e _ u)));
     })
 
 pub returns-then-copied : goal.returns-then-copied
 returns-then-copied g c whole e =
-    let k = found_text (PrintsAs c.args.variant whole (string_bytes c.kept_text.new.text)) _ _ c.in_ok-copied.was c.if-copied.true (c.kept_text.ensures.text whole e) in
-    (k.asks_none, round_copied c.args.skips c.args.variant (dating_of None c.args.tz c.args.local) _ _ (IsUtf8-string_bytes c.kept_text.new.text) k)
+    let k = found_text (PrintsAs5424 c.args.variant whole (string_bytes c.verbatim_text.new.text)) _ _ c.in_ok-copied.was c.if-copied.true (c.verbatim_text.ensures.text whole e) in
+    (k.asks_none, round_copied c.args.skips c.args.variant (dating_of None c.args.tz c.args.local) _ _ (IsUtf8-string_bytes c.verbatim_text.new.text) k)
 
 pub map-year-requires : goal.map-year-requires
 map-year-requires g c = λ x e. c.requires x (asked_month c.in-Some.line.date _ x c.in-Some.ensures.month c.asked.ensures e)

@@ -2,7 +2,7 @@ use Rattle.std.specs.Prelude.{string_bytes}
 use Rattle.std.proofs.lemmas.Result.{err_from_is_err_and}
 use Rattle.std.proofs.lemmas.Str.{IsUtf8-string_bytes}
 use Rattle.syslog_pieces.specs.Timestamp.Zone.{dating_value}
-use Rattle.syslog_loose.specs.KeptLoose.{PrintsFreely}
+use Rattle.syslog_loose.specs.Verbatim3164.{PrintsAs3164}
 use Rattle.syslog_loose.proofs.ReadingLemmas.{fault_tells, memory_tells, invalid_or_memory, no_ok, found_text}
 use Rattle.syslog_loose.proofs.SettlingLemmas.Settles.{round_freely, round_printed, round_skipped}
 use Rattle.syslog_loose.proofs.rounds.next_round.Goals as goal
@@ -10,13 +10,13 @@ use Rattle.syslog_loose.proofs.rounds.next_round.Goals as goal
 pub returns-in_err-copied : goal.returns-in_err-copied
 returns-in_err-copied c whole e =
     let (_, f, same) = err_from_is_err_and c.from_residual.result c.from_residual.ensures.1 in
-    rw (f, same) (λ i. absurd (invalid_or_memory i), λ u. absurd (no_ok _ _ c.in_err-copied.was (c.loose_text.ensures.memory whole e u)))
+    rw (f, same) (λ i. absurd (invalid_or_memory i), λ u. absurd (no_ok _ _ c.in_err-copied.was (c.rfc3164_text.ensures.memory whole e u)))
 
 pub returns-then-copied : goal.returns-then-copied
 returns-then-copied c whole e =
     let dating = dating_value c.args.dating.now in
-    let k = found_text (PrintsFreely c.args.variant dating whole (string_bytes c.loose_text.new.text)) _ _ c.in_ok-copied.was c.if-copied.true (c.loose_text.ensures.text whole e) in
-    round_freely c.args.skips _ _ _ _ (IsUtf8-string_bytes c.loose_text.new.text) k
+    let k = found_text (PrintsAs3164 c.args.variant dating whole (string_bytes c.rfc3164_text.new.text)) _ _ c.in_ok-copied.was c.if-copied.true (c.rfc3164_text.ensures.text whole e) in
+    round_freely c.args.skips _ _ _ _ (IsUtf8-string_bytes c.rfc3164_text.new.text) k
 
 pub returns-in_err-message : goal.returns-in_err-message
 returns-in_err-message c whole e =

@@ -4,7 +4,7 @@ ghost use Rattle.std.specs.Str.{chars, encode_utf8_all};
 ghost use Rattle.syslog_pieces.specs.Timestamp.Zone.{dating_of};
 ghost use Rattle.syslog_loose.specs.Message.{MessageValue};
 ghost use Rattle.syslog_loose.specs.Printed.{printed};
-ghost use Rattle.syslog_loose.specs.ReadBack.{IsKept};
+ghost use Rattle.syslog_loose.specs.ReadBack.{IsFixed};
 ghost use Rattle.syslog_loose.specs.Reading.{OnReading};
 ghost use Rattle.syslog_loose.specs.declared.variant.Variant.TheVariants.{Either};
 
@@ -12,7 +12,7 @@ use crate::{IncompleteDate, ParseFault, TimeZone, Variant, normalise};
 use std::alloc::{AllocError, Global};
 use std::test::Fail;
 
-/// The line in printed form, and as it came where it is no message. A line that was printed of a message that is kept
+/// The line in printed form, and as it came where it is no message. A line that was printed of a message that is fixed
 /// stays as it is. An `Err` is only for memory.
 fn normal_line(
     alloc: Global,
@@ -22,7 +22,7 @@ fn normal_line(
 ) -> Result<String, AllocError>
     ensures prints { IfOk result (λ text. OnReading Either (dating_of (Some year) None local.entry) (chars line.entry.now)
         (string_bytes text ≡ line.entry.now) (λ m. string_bytes text ≡ encode_utf8_all (printed m))) }
-    ensures again { IfOk result (λ text. (m : MessageValue) → IsKept m → chars line.entry.now ≡ printed m → string_bytes text ≡ line.entry.now) }
+    ensures again { IfOk result (λ text. (m : MessageValue) → IsFixed m → chars line.entry.now ≡ printed m → string_bytes text ≡ line.entry.now) }
 {
     let get_year = move |_: IncompleteDate| -> i32
         ensures { result ≡ year }

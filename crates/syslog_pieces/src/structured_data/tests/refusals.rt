@@ -3,7 +3,7 @@
 //! Each test asks for no memory but by the calls that it is about. Those named `answers_..` pass whichever request is
 //! refused, those named `asks_..` make none, and those named `sees_no_refusal..` fail at each that is refused.
 use super::is_element;
-use crate::structured_data::listed::{DashRule, optional_list};
+use crate::structured_data::rfc3164_list::{DashRule, optional_list};
 use crate::structured_data::{StructuredElement, forgiving_list, read_element};
 use std::alloc::{AllocError, Global};
 use std::process::Abort;
@@ -22,9 +22,9 @@ pub(super) enum Tries {
 
 pub(super) type Read<'a> = Option<(StructuredElement<&'a str>, &'a str)>;
 
-type Listed<'a> = Option<(Vec<StructuredElement<&'a str>>, &'a str)>;
+type Rfc3164List<'a> = Option<(Vec<StructuredElement<&'a str>>, &'a str)>;
 
-type OptionallyListed<'a> = (Option<Vec<StructuredElement<&'a str>>>, &'a str);
+type OptionalRfc3164List<'a> = (Option<Vec<StructuredElement<&'a str>>>, &'a str);
 
 pub(super) fn element_of(alloc: Global, text: &str, tries: Tries) -> Result<Read<'_>, AllocError> {
     match read_element(alloc, text) {
@@ -33,19 +33,19 @@ pub(super) fn element_of(alloc: Global, text: &str, tries: Tries) -> Result<Read
     }
 }
 
-fn list_of(alloc: Global, text: &str, tries: Tries) -> Result<Listed<'_>, AllocError> {
+fn list_of(alloc: Global, text: &str, tries: Tries) -> Result<Rfc3164List<'_>, AllocError> {
     match forgiving_list(alloc, text) {
         Err(AllocError) if tries == Tries::Twice => forgiving_list(alloc, text),
         other => other,
     }
 }
 
-fn loose_list_of(
+fn rfc3164_list_of(
     alloc: Global,
     text: &str,
     rule: DashRule,
     tries: Tries,
-) -> Result<OptionallyListed<'_>, AllocError> {
+) -> Result<OptionalRfc3164List<'_>, AllocError> {
     match optional_list(alloc, text, rule) {
         Err(AllocError) if tries == Tries::Twice => optional_list(alloc, text, rule),
         other => other,
@@ -115,9 +115,9 @@ fn sees_no_refusal_of_a_list(rt: HostRuntime) {
     check_lists(&rt, rt.alloc(), Tries::Once);
 }
 
-fn check_loose_lists(rt: &impl Abort, alloc: Global, tries: Tries) {
+fn check_rfc3164_lists(rt: &impl Abort, alloc: Global, tries: Tries) {
     for rule in [DashRule::BeforeAnything, DashRule::BeforeBlank] {
-        match loose_list_of(alloc, "[a b=\"x]y\"][c d=\"e\"][f]", rule, tries) {
+        match rfc3164_list_of(alloc, "[a b=\"x]y\"][c d=\"e\"][f]", rule, tries) {
             Ok((elements, rest)) => {
                 assert!(rt; elements.is_some_and(|elements| are_both(&elements)));
                 assert_eq!(rt; rest, "[f]");
@@ -129,12 +129,12 @@ fn check_loose_lists(rt: &impl Abort, alloc: Global, tries: Tries) {
 
 #[test]
 fn answers_that_memory_for_a_list_of_rfc_3164_was_refused(rt: HostRuntime) {
-    check_loose_lists(&rt, rt.alloc(), Tries::Twice);
+    check_rfc3164_lists(&rt, rt.alloc(), Tries::Twice);
 }
 
 #[test]
 fn sees_no_refusal_of_a_list_of_rfc_3164(rt: HostRuntime) {
-    check_loose_lists(&rt, rt.alloc(), Tries::Once);
+    check_rfc3164_lists(&rt, rt.alloc(), Tries::Once);
 }
 
 #[test]

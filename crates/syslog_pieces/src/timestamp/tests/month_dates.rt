@@ -1,5 +1,5 @@
 use crate::text::trimmed;
-use crate::timestamp::month_date::usual::usual_date;
+use crate::timestamp::month_date::standard::standard_date;
 use crate::timestamp::month_date::{MonthDate, month_date};
 use crate::timestamp::shown_date;
 use std::process::Abort;
@@ -233,13 +233,13 @@ fn shows_no_date_elsewhere(rt: HostRuntime) {
 
 // No clause says which dates are read at one look: a reader that finds none meets its contract.
 #[test]
-fn reads_the_usual_form_at_one_look(rt: HostRuntime) -> Result<(), Fail> {
+fn reads_the_standard_form_at_one_look(rt: HostRuntime) -> Result<(), Fail> {
     for (text, date, left) in [
         ("Dec 28 16:49:07 h", DECEMBER, " h"),
         ("Dec 28 16:49:07", DECEMBER, ""),
         ("Sep  5 07:08:09-", SEPTEMBER, "-"),
     ] {
-        let (read, rest) = usual_date(text).ok_or("no usual date")?;
+        let (read, rest) = standard_date(text).ok_or("no usual date")?;
         assert_eq!(rt; numbers(read), date, "{text:?}");
         assert_eq!(rt; rest, left, "{text:?}");
     }
@@ -257,7 +257,7 @@ fn reads_the_usual_form_at_one_look(rt: HostRuntime) -> Result<(), Fail> {
         "dEC 28 16:49:07",
         "",
     ] {
-        assert!(rt; usual_date(text).is_none(), "{text:?}");
+        assert!(rt; standard_date(text).is_none(), "{text:?}");
     }
     Ok(())
 }

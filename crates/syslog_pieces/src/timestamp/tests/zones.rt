@@ -1,6 +1,6 @@
 use super::check_printed;
 use crate::timestamp::zone::Dating;
-use crate::timestamp::{OffsetTimestamp, loose_stamp, rfc3339, year_at};
+use crate::timestamp::{OffsetTimestamp, rfc3164_stamp, rfc3339, year_at};
 use jiff::tz::{Offset, TimeZone};
 use std::alloc::Global;
 use std::process::Abort;
@@ -23,7 +23,7 @@ fn stamp_of(
     tz: Option<&TimeZone<'_>>,
     local: &TimeZone<'_>,
 ) -> Option<OffsetTimestamp> {
-    match loose_stamp(
+    match rfc3164_stamp(
         text,
         &Dating {
             year: Some(year),
@@ -140,7 +140,7 @@ fn takes_a_year_only_where_none_is_shown(rt: HostRuntime) -> Result<(), Fail> {
         assert!(rt; stamp_of("Jan 1 2020 00:00:00", year, None, &utc).is_some());
     }
     assert!(rt;
-        loose_stamp(
+        rfc3164_stamp(
             "Aug 4 16:49:07",
             &Dating {
                 year: None,
@@ -151,7 +151,7 @@ fn takes_a_year_only_where_none_is_shown(rt: HostRuntime) -> Result<(), Fail> {
         .is_none()
     );
     assert!(rt;
-        loose_stamp(
+        rfc3164_stamp(
             "Aug 4 2020 16:49:07",
             &Dating {
                 year: None,
@@ -178,7 +178,7 @@ fn leaves_the_text_behind_the_date(rt: HostRuntime) -> Result<(), Fail> {
         ),
         ("2003-10-11T22:14:15Z h", "2003-10-11T22:14:15Z", " h"),
     ] {
-        match loose_stamp(
+        match rfc3164_stamp(
             text,
             &Dating {
                 year: Some(2019),
@@ -200,7 +200,7 @@ fn leaves_the_text_behind_the_date(rt: HostRuntime) -> Result<(), Fail> {
         ("-Oct 11", "Oct 11"),
     ] {
         assert_eq!(rt;
-            loose_stamp(
+            rfc3164_stamp(
                 text,
                 &Dating {
                     year: Some(2019),
@@ -221,7 +221,7 @@ fn leaves_the_text_behind_the_date(rt: HostRuntime) -> Result<(), Fail> {
         "<34>Oct 11 22:14:15",
     ] {
         assert!(rt;
-            loose_stamp(
+            rfc3164_stamp(
                 text,
                 &Dating {
                     year: Some(2019),

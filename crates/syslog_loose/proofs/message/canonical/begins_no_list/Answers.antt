@@ -2,7 +2,7 @@ use Rattle.std.proofs.Common.{refl}
 use Rattle.std.specs.Str.{chars}
 use Rattle.syslog_pieces.specs.Pieces.View.{text_of}
 use Rattle.syslog_pieces.specs.StructuredData.Element.{element_value}
-use Rattle.syslog_pieces.proofs.TextLemmas.Plain.{no_truth}
+use Rattle.syslog_pieces.proofs.TextLemmas.Canonical.{no_truth}
 use Rattle.syslog_loose.proofs.CanonicalLemmas.{no_items, some_items, no_list_told}
 use Rattle.syslog_loose.proofs.message.canonical.begins_no_list.Goals as goal
 

@@ -1,7 +1,7 @@
 use Rattle.std.proofs.Common.{refl}
 use Rattle.std.specs.Str.{chars}
 use Rattle.syslog_pieces.proofs.ProcIdLemmas.ReadBack.{no_number_told}
-use Rattle.syslog_pieces.proofs.TextLemmas.Plain.{false_is, no_truth}
+use Rattle.syslog_pieces.proofs.TextLemmas.Canonical.{false_is, no_truth}
 use Rattle.syslog_pieces.proofs.PieceLemmas.Each.{each_both, each_left, each_right}
 use Rattle.syslog_loose.proofs.message.canonical.is_bracketed_name.Goals as goal
 use Rattle.syslog_pieces.specs.Text.{is_tag_char}

@@ -3,5 +3,5 @@ use Rattle.syslog_loose.proofs.message.canonical.is_lone_tag.Goals as goal
 
 pub returns : goal.returns
 returns c =
-    let tag = c.if-not-is_plain_tag.ensures.0 refl in
+    let tag = c.if-not-is_canonical_tag.ensures.0 refl in
     ((λ h. (tag.0, tag.1, tag.2, c.is_no_form.ensures.0 h)), (λ h. c.is_no_form.ensures.1 h.3))

@@ -9,14 +9,14 @@ use Rattle.syslog_pieces.proofs.TextLemmas.Printed.{encodes_shown, encodes_step,
 use Rattle.syslog_pieces.proofs.structured_data.StructuredElementDisplay.fmt.Goals as goal
 
 pub loop-name-init : goal.loop-name-init
-loop-name-init g c = λ plain.
+loop-name-init g c = λ canonical.
     let id = encodes_shown c.as_str-id.result.now _ c.as_str-id.utf8 c.as_str-id.ensures in
-    let bracket = c.in_ok-write_str.ensures.writes plain refl in
+    let bracket = c.in_ok-write_str.ensures.writes canonical refl in
     put_two _ _ _ _ _ _ _ bracket (c.in_ok-write_str-2.ensures.writes bracket.plain refl) (sym (encodes_opening _ _ id))
 
 pub loop-name-preserved : goal.loop-name-preserved
-loop-name-preserved g c = λ plain.
-    let so_far = c.loop-name.invariant plain in
+loop-name-preserved g c = λ canonical.
+    let so_far = c.loop-name.invariant canonical in
     let item = c.loop-name-item.result in
     let name = encodes_shown c.as_str-name.result.now (g.S.AsStr.text item.0) c.as_str-name.utf8 c.as_str-name.ensures in
     let value = encodes_shown c.as_str-value.result.now (g.S.AsStr.text item.1) c.as_str-value.utf8 c.as_str-value.ensures in
@@ -25,10 +25,10 @@ loop-name-preserved g c = λ plain.
     c.loop-name-test.true c.loop-name-item.is (encodes_param _ _ _ _ name value))
 
 pub returns-clause-writes : goal.returns-clause-writes
-returns-clause-writes g c = λ plain ok.
+returns-clause-writes g c = λ canonical ok.
     let items = c.args.self.now.params.items in
     let text = text_of g.S.AsStr.text in
-    let so_far = rw (take_all c.loop-name.name-index c.deref-name-items.result.now c.loop-name-test.false, c.deref-name-items.ensures.value) at c.loop-name.invariant plain in
+    let so_far = rw (take_all c.loop-name.name-index c.deref-name-items.result.now c.loop-name-test.false, c.deref-name-items.ensures.value) at c.loop-name.invariant canonical in
     put_two _ _ _ _ _ _ _ so_far (c.write_str-3.ensures.writes so_far.plain ok)
     (encodes_closed ((91 ∷ text c.args.self.now.id) ++ flat_map (λ p. param_text (param_value text p)) items) _
     (ap (λ (x : Text). 91 ∷ (text c.args.self.now.id ++ (x ++ (93 ∷ [])))) (flat_map-map param_text (param_value text) items)

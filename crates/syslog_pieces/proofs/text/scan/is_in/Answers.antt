@@ -3,7 +3,7 @@ use Rattle.std.proofs.Common.{◌≡◌, ℕ, Bool, true, not, nat_eq, get_or, b
 use Rattle.std.proofs.lemmas.Bool.{agree_below, agree_below_at}
 use Rattle.syslog_pieces.specs.declared.text.scan.TheConstants.{CLASSES}
 use Rattle.syslog_pieces.specs.declared.text.CharClass.{CharClass}
-use Rattle.syslog_pieces.specs.declared.text.CharClass.TheVariants.{Digit, Blank, Visible, Id, Name, Plain, Open, Inert, Bare, Tag, Label}
+use Rattle.syslog_pieces.specs.declared.text.CharClass.TheVariants.{Digit, Blank, Visible, Id, Name, Unescaped, Open, Inert, Bare, Tag, Label}
 use Rattle.syslog_pieces.specs.Bodies.Scan.{byte_in, bit_of}
 use Rattle.syslog_pieces.proofs.text.scan.is_in.Goals as goal
 
@@ -16,7 +16,7 @@ agrees Blank = refl
 agrees Visible = refl
 agrees Id = refl
 agrees Name = refl
-agrees Plain = refl
+agrees Unescaped = refl
 agrees Open = refl
 agrees Inert = refl
 agrees Bare = refl

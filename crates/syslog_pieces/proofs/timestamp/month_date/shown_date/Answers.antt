@@ -1,6 +1,6 @@
 use Rattle.std.proofs.Common.{inl, refl, rules}
 use Rattle.std.specs.Str.{chars}
-use Rattle.syslog_pieces.specs.Timestamp.Loose.{BeginsWithDate, showing_row}
+use Rattle.syslog_pieces.specs.Timestamp.Rfc3164.{BeginsWithDate, showing_row}
 use Rattle.syslog_pieces.specs.Timestamp.MonthDate.{yearless_date}
 use Rattle.syslog_pieces.specs.declared.timestamp.month_date.MonthDate.{MonthDate}
 use Rattle.syslog_pieces.proofs.PieceLemmas.Class.{optional_det, run_det, rest_det, rest_front, ◌also◌}

@@ -32,5 +32,5 @@ passed name value (p ∷ rest) new item found n e k =
 pub loop-item-preserved : goal.loop-item-preserved
 loop-item-preserved c =
     let step = passed _ _ _ _ _ (c.in_ok-name.name, c.in_ok-name.value) c.in-Some.ensures.steps c.in_ok-name.was (λ both. let t = c.is_named.ensures.1 (both.0, ap chars c.as_str.ensures.value ∙ both.1) in let f = c.if-is_named in cc) in
-    let kept = c.loop-item.invariant.2 in
-    (tt, tt, ((λ h. kept.0 (step.1 h)), (λ h. step.0 (kept.1 h))))
+    let stays = c.loop-item.invariant.2 in
+    (tt, tt, ((λ h. stays.0 (step.1 h)), (λ h. step.0 (stays.1 h))))

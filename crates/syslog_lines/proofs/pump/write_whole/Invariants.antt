@@ -1,0 +1,12 @@
+use Rattle.std.proofs.Common.{◌≡◌, length, false}
+use Rattle.syslog_lines.proofs.WriteLemmas.{WroteSoFar}
+use Rattle.syslog_lines.proofs.pump.write_whole.Given as goal
+
+abbrev pub invariant-loop-rest : goal.invariant-loop-rest
+invariant-loop-rest g l = record {
+  wrote : WroteSoFar (g.W.Write.contents l.fn.writer.inner) (g.W.Write.contents l.writer.inner) l.bytes l.rest;
+  well : l.writer.failed ≡ false;
+}
+
+abbrev pub decreases-loop-rest : goal.decreases-loop-rest
+decreases-loop-rest g l = length l.rest

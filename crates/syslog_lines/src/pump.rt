@@ -1,0 +1,105 @@
+//! From a reader to a writer, through a filter.
+ghost use Rattle.std.specs.Prelude.{◌≡◌, ℕ, false, true, IfOk, IfErr, OnOk, OnErr, take};
+ghost use Rattle.std.specs.Io.KnownBytes.{Appends};
+ghost use Rattle.syslog_lines.specs.Pump.{EndsEarly, FailedAs, PumpsAll};
+ghost use Rattle.syslog_lines.specs.Write.{WritesAll, WritesFirst};
+ghost use Rattle.syslog_lines.specs.declared.summary.RunFault.TheVariants.{Write};
+
+use crate::answer::answer_lines;
+use crate::block::Block;
+use crate::filter::LineFilter;
+use crate::summary::{RunFault, Tally};
+use crate::watched::Watched;
+use std::alloc::Global;
+use std::io::{Read, Write};
+
+/// Reads lines to the end of the input, and writes the filter's answer to each that has one.
+///
+/// The output of each block of input is written before more is read, and the writer is flushed at the end. Nothing is
+/// tried again. It takes memory for a block of input, its output, and the longest line.
+pub fn pump<F: LineFilter, R: Read, W: Write>(
+    alloc: Global,
+    filter: &F,
+    reader: &mut Watched<R>,
+    writer: &mut Watched<W>,
+) -> Result<Tally, RunFault>
+    requires reader { reader.old.failed ≡ false }
+    requires writer { writer.old.failed ≡ false }
+    ensures ok { IfOk result (λ tally. PumpsAll (F.answers filter.now) (R.remaining reader.old.inner) (R.remaining reader.new.inner)
+        (W.contents writer.old.inner) (W.contents writer.new.inner) tally) }
+    ensures err { IfErr result (λ fault. EndsEarly (F.answers filter.now) (R.remaining reader.old.inner) (R.remaining reader.new.inner)
+        (W.contents writer.old.inner) (W.contents writer.new.inner) fault) }
+    ensures failed { FailedAs result reader.new.failed writer.new.failed }
+{
+    let mut tally = Tally {
+        answered: 0,
+        passed_over: 0,
+    };
+    let mut text = String::new(alloc);
+    let mut output = Vec::new(alloc);
+    let mut block = Block::new(alloc)?;
+    while block.fill(reader)? {
+        write_answers(
+            alloc,
+            filter,
+            block.complete(),
+            &mut text,
+            &mut output,
+            writer,
+            &mut tally,
+        )?;
+    }
+    write_answers(
+        alloc,
+        filter,
+        block.cut(),
+        &mut text,
+        &mut output,
+        writer,
+        &mut tally,
+    )?;
+    if writer.flush().is_err() {
+        return Err(RunFault::Write);
+    }
+    Ok(tally)
+}
+
+// Writes the answers to the lines, and counts them. Where memory is refused, those to the lines before are written.
+fn write_answers<F: LineFilter, W: Write>(
+    alloc: Global,
+    filter: &F,
+    lines: &[u8],
+    text: &mut String,
+    output: &mut Vec<u8>,
+    writer: &mut Watched<W>,
+    tally: &mut Tally,
+) -> Result<(), RunFault>
+    requires { writer.old.failed ≡ false }
+    ensures ok { OnOk result (WritesAll (F.answers filter.now) lines.now (W.contents writer.old.inner) (W.contents writer.new.inner) tally.old tally.new) }
+    ensures well { OnOk result (writer.new.failed ≡ false) }
+    ensures err { IfErr result (WritesFirst (F.answers filter.now) lines.now (W.contents writer.old.inner) (W.contents writer.new.inner) writer.new.failed) }
+{
+    output.clear();
+    let answered = answer_lines(alloc, filter, lines, text, output, tally);
+    write_whole(writer, output)?;
+    answered?;
+    Ok(())
+}
+
+// Writes all of the bytes, or a beginning of them.
+fn write_whole<W: Write>(writer: &mut Watched<W>, bytes: &[u8]) -> Result<(), RunFault>
+    requires { writer.old.failed ≡ false }
+    ensures ok { OnOk result (Appends (W.contents writer.old.inner) (W.contents writer.new.inner) bytes.now) }
+    ensures well { OnOk result (writer.new.failed ≡ false) }
+    ensures fault { IfErr result (λ fault. (fault ≡ Write) × (writer.new.failed ≡ true)) }
+    ensures err { OnErr result ((size : ℕ) × Appends (W.contents writer.old.inner) (W.contents writer.new.inner) (take size bytes.now)) }
+{
+    let mut rest = bytes;
+    while !rest.is_empty() {
+        match writer.write(rest) {
+            Ok(count) => rest = &rest[count..],
+            Err(_) => return Err(RunFault::Write),
+        }
+    }
+    Ok(())
+}

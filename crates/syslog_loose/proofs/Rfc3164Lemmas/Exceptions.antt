@@ -1,0 +1,119 @@
+-- The condition for RFC 3164 is the exceptions' absence, beside all that they leave.
+use Rattle.std.proofs.Common.{◌≡◌, inl, inr, Option, Some, None, IfSome, sym, subst}
+use Rattle.std.specs.Char.{is_not_whitespace}
+use Rattle.syslog_pieces.specs.Pieces.Class.{Text}
+use Rattle.syslog_pieces.specs.Text.{is_tag_char, dash, EndsInColon}
+use Rattle.syslog_pieces.specs.Text.CharClass.{is_open_char}
+use Rattle.syslog_pieces.specs.declared.procid.ProcId.{ProcId}
+use Rattle.syslog_pieces.specs.declared.procid.ProcId.TheVariants.{PID, Name}
+use Rattle.syslog_pieces.specs.declared.structured_data.rfc3164_list.DashRule.{DashRule}
+use Rattle.syslog_loose.specs.declared.message.Protocol.{Protocol}
+use Rattle.syslog_loose.specs.declared.message.Protocol.TheVariants.{RFC3164}
+use Rattle.syslog_loose.specs.Canonical.{IsVisible, IsCanonicalHost, IsBracketedProcess, AreCanonicalNames, IsCanonical3164, IsCanonicalFor, IsCanonical}
+use Rattle.syslog_loose.specs.Exceptions.{is_no_colon, HasNoColon, HasNoException, IsOddHost, IsInnerProcess, AreNamesButExceptions, IsNearlyCanonical}
+use Rattle.syslog_loose.specs.Message.{MessageValue}
+use Rattle.syslog_pieces.proofs.PieceLemmas.Each.{each_both, each_left, each_right}
+
+-- ---- the host
+visible_host : (host : Option Text) → IfSome host IsCanonicalHost → IfSome host IsVisible
+visible_host None h = tt
+visible_host (Some x) h = h.0
+
+pub no_dash_host : (host : Option Text) → IfSome host IsCanonicalHost → IfSome host (λ x. x ≡ dash → ⊥)
+no_dash_host None h = tt
+no_dash_host (Some x) h = h.1
+
+pub no_colon_host : (host : Option Text) → IfSome host IsCanonicalHost → IfSome host (λ x. EndsInColon x → ⊥)
+no_colon_host None h = tt
+no_colon_host (Some x) h = h.2
+
+no_odd_host : (host app : Option Text) → IfSome host IsCanonicalHost → IfSome host (λ x. IsOddHost x → app ≡ None)
+no_odd_host None app h = tt
+no_odd_host (Some x) app h = λ o. absurd (elim o [ inl d ↦ h.1 d | inr c ↦ h.2 c ])
+
+pub canonical_host : (host : Option Text) → IfSome host IsVisible → IfSome host (λ x. x ≡ dash → ⊥) → IfSome host (λ x. EndsInColon x → ⊥) → IfSome host IsCanonicalHost
+canonical_host None v d c = tt
+canonical_host (Some x) v d c = (v, d, c)
+
+-- ---- the process
+inner_of : (process : ProcId Text) → IsBracketedProcess process → IsInnerProcess process
+inner_of (PID n) h = tt
+inner_of (Name t) (l, a, none) =
+    (l, each_both is_not_whitespace is_open_char t (each_left is_not_whitespace is_no_colon t (each_left is_tag_char is_open_char t a)) (each_right is_tag_char is_open_char t a), none)
+
+no_colon_of : (process : ProcId Text) → IsBracketedProcess process → HasNoColon process
+no_colon_of (PID n) h = tt
+no_colon_of (Name t) (l, a, none) = each_right is_not_whitespace is_no_colon t (each_left is_tag_char is_open_char t a)
+
+pub bracketed_of : (process : ProcId Text) → IsInnerProcess process → HasNoColon process → IsBracketedProcess process
+bracketed_of (PID n) h k = tt
+bracketed_of (Name t) (l, a, none) k =
+    (l, each_both is_tag_char is_open_char t (each_both is_not_whitespace is_no_colon t (each_left is_not_whitespace is_open_char t a) k) (each_right is_not_whitespace is_open_char t a), none)
+
+-- ---- the names
+near_of : (host app : Option Text) (process : Option (ProcId Text)) → AreCanonicalNames host app process → AreNamesButExceptions host app process
+near_of host None None h = h
+near_of host None (Some p) h = h
+near_of host (Some a) None h = h
+near_of host (Some a) (Some p) h = (h.0, inner_of p h.1)
+
+pub no_colon_names : (host app : Option Text) (process : Option (ProcId Text)) → AreCanonicalNames host app process → IfSome process HasNoColon
+no_colon_names host app None h = tt
+no_colon_names host None (Some p) h = absurd h
+no_colon_names host (Some a) (Some p) h = no_colon_of p h.1
+
+pub canonical_names : (host app : Option Text) (process : Option (ProcId Text)) → AreNamesButExceptions host app process → IfSome process HasNoColon → AreCanonicalNames host app process
+canonical_names host None None h k = h
+canonical_names host None (Some p) h k = h
+canonical_names host (Some a) None h k = h
+canonical_names host (Some a) (Some p) h k = (h.0, bracketed_of p h.1 k)
+
+-- ---- the message
+pub canonical_near : (rule : DashRule) (m : MessageValue) → m.protocol ≡ RFC3164 → IsCanonical rule m → IsNearlyCanonical m × HasNoException rule m
+canonical_near rule m e (canonical, other) =
+    let own : IsCanonical3164 rule m = subst (λ (x : Protocol). IsCanonicalFor rule x m) e other in (
+      record {
+        facility = canonical.facility;
+        severity = canonical.severity;
+        rest = record {
+          protocol = e;
+          hostname = visible_host m.hostname canonical.hostname;
+          odd_host = no_odd_host m.hostname m.appname canonical.hostname;
+          names = near_of m.hostname m.appname m.procid own.names;
+          colon_process = inl (no_colon_names m.hostname m.appname m.procid own.names);
+          msgid = own.msgid;
+          elements = canonical.elements;
+          parameters = own.elements;
+          msg_front = canonical.msg_front;
+          msg_end = canonical.msg_end;
+        };
+      },
+      record {
+        canonical_timestamp = canonical.timestamp;
+        host_is_no_dash = no_dash_host m.hostname canonical.hostname;
+        host_ends_in_no_colon = no_colon_host m.hostname canonical.hostname;
+        process_has_no_colon = no_colon_names m.hostname m.appname m.procid own.names;
+        message_is_no_list = own.no_list;
+      },
+    )
+
+pub near_canonical : (rule : DashRule) (m : MessageValue) → IsNearlyCanonical m × HasNoException rule m → IsCanonical rule m
+near_canonical rule m (nearly, none) =
+    let near = nearly.rest in
+    let own : IsCanonical3164 rule m = record {
+      msgid = near.msgid;
+      names = canonical_names m.hostname m.appname m.procid near.names none.process_has_no_colon;
+      elements = near.parameters;
+      no_list = none.message_is_no_list;
+    } in (
+      record {
+        facility = nearly.facility;
+        severity = nearly.severity;
+        timestamp = none.canonical_timestamp;
+        hostname = canonical_host m.hostname near.hostname none.host_is_no_dash none.host_ends_in_no_colon;
+        elements = near.elements;
+        msg_front = near.msg_front;
+        msg_end = near.msg_end;
+      },
+      subst (λ (x : Protocol). IsCanonicalFor rule x m) (sym near.protocol) own,
+    )

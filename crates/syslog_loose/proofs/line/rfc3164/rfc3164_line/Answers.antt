@@ -1,0 +1,14 @@
+use Rattle.std.proofs.Common.{refl}
+use Rattle.std.specs.Str.{chars}
+use Rattle.syslog_pieces.specs.Pri.{priority_text}
+use Rattle.syslog_pieces.specs.Timestamp.Zone.{dating_value}
+use Rattle.syslog_loose.proofs.Verbatim3164Lemmas.{line_verbatim}
+use Rattle.syslog_loose.proofs.line.rfc3164.rfc3164_line.Goals as goal
+
+pub before-front-requires : goal.before-front-requires
+before-front-requires c = (priority_text c.in_ok-behind.ensures.0.value, c.in_ok-behind.ensures.0.whole)
+
+pub returns-then-is_verbatim_behind-clause-verbatim : goal.returns-then-is_verbatim_behind-clause-verbatim
+returns-then-is_verbatim_behind-clause-verbatim c =
+    line_verbatim (dating_value c.args.dating.now) (chars c.args.text.now) (chars c.in_ok-behind.behind.now) (chars c.blanks.result.now) (chars c.before-front.result.now) (chars c.in-Some.tail.now) c.in-Some.timestamp
+    c.in_ok-behind.ensures.0 c.in_ok-behind.ensures.1 c.blanks.ensures c.in-Some.ensures (c.if-is_canonical_time.ensures.0 refl) (c.if-is_verbatim_behind.ensures refl) c.before-front.ensures

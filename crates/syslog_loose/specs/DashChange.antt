@@ -1,0 +1,77 @@
+-- What the rule of the dash changed: how it was while a dash was a list of RFC 3164 before anything, and which texts are
+-- read otherwise now. (This project's own.)
+use Rattle.std.specs.Prelude.{◌≡◌, ◌≢◌, ℕ, false, List, [], ◌∷◌, ◌++◌, length}
+use Rattle.syslog_pieces.specs.Pieces.Class.{Text, Class, join}
+use Rattle.syslog_pieces.specs.StructuredData.Rfc3164List.{rfc3164_list}
+use Rattle.syslog_pieces.specs.Text.{is_blank, dash}
+use Rattle.syslog_pieces.specs.Timestamp.Zone.{Dating}
+use Rattle.syslog_pieces.specs.declared.structured_data.rfc3164_list.DashRule.TheVariants.{BeforeAnything}
+use Rattle.syslog_loose.specs.declared.variant.Variant.{Variant}
+use Rattle.syslog_loose.specs.declared.variant.Variant.TheVariants.{Either, RFC3164, RFC5424}
+use Rattle.syslog_loose.specs.Canonical.{IsCanonical}
+use Rattle.syslog_loose.specs.Message.{MessageValue}
+use Rattle.syslog_loose.specs.Reading.{IsReadUnder, IsRead}
+use Rattle.syslog_loose.specs.Rfc3164.{IsRead3164}
+use Rattle.syslog_loose.specs.Rfc5424.{IsNot5424}
+
+-- ---- how it was
+
+-- the list of RFC 3164
+abbrev pub old_list : Class
+old_list = rfc3164_list BeforeAnything
+
+-- the text was read as the message, as RFC 3164
+abbrev pub WasRead3164 : Dating → Text → MessageValue → Type 0
+WasRead3164 dating text m = IsRead3164 BeforeAnything dating text m
+
+-- the text was read as the message
+abbrev pub WasRead : Variant → Dating → Text → MessageValue → Type 0
+WasRead variant dating text m = IsReadUnder BeforeAnything variant dating text m
+
+-- there was no message as which the text was read
+abbrev pub WasUnreadable : Variant → Dating → Text → Type 0
+WasUnreadable variant dating text = (m : MessageValue) → WasRead variant dating text m → ⊥
+
+-- the message met the written condition
+abbrev pub WasCanonical : MessageValue → Type 0
+WasCanonical m = IsCanonical BeforeAnything m
+
+-- ---- what changed
+
+-- the text was read as one message, and is read as another
+pub record ReadsDifferently (variant : Variant) (dating : Dating) (text : Text) : Type 0 where
+  pub before : MessageValue
+  pub now : MessageValue
+  pub was_read : WasRead variant dating text before
+  pub is_read : IsRead variant dating text now
+  pub differ : before ≢ now
+
+-- a dash before a character that is no blank
+pub record BeginsDashChange (text : Text) : Type 0 where
+  pub next : ℕ
+  pub behind : Text
+  pub is : text ≡ 45 ∷ (next ∷ behind)
+  pub no_blank : is_blank next ≡ false
+
+-- The text was read as RFC 3164 with the old list: the ninth of its eleven pieces is the list's, and was `-`, and what
+-- follows that piece begins with a character that is no blank.
+pub record HasDashChange3164 (dating : Dating) (text : Text) : Type 0 where
+  pub message : MessageValue
+  pub read : WasRead3164 dating text message
+  pub before : List Text
+  pub list : Text
+  pub behind : List Text
+  pub pieces : read.division.pieces ≡ before ++ (list ∷ behind)
+  pub place : length before ≡ 8
+  pub is_list : old_list.Is list (join behind) []
+  pub is_dash : list ≡ dash
+  pub next : ℕ
+  pub more : Text
+  pub follows : join behind ≡ next ∷ more
+  pub no_blank : is_blank next ≡ false
+
+-- the same for a text that the variant reads as RFC 3164
+abbrev pub HasDashChange : Variant → Dating → Text → Type 0
+HasDashChange RFC5424 dating text = ⊥
+HasDashChange RFC3164 dating text = HasDashChange3164 dating text
+HasDashChange Either dating text = IsNot5424 text × HasDashChange3164 dating text

@@ -1,0 +1,87 @@
+-- What a message that was read as RFC 3164 may miss of the written condition: five things and no more. So these are the
+-- messages that are read as another one, or not at all, when they are printed. (This project's own.)
+use Rattle.std.specs.Prelude.{◌≡◌, ◌≢◌, ◌⊎◌, ⊤, ℕ, ◌<◌, nat_eq, ◌&&◌, not, Bool, [], length, Option, Some, None, IfSome, IsSome}
+use Rattle.std.specs.Char.{is_not_whitespace}
+use Rattle.std.specs.List.{AllByRecursion}
+use Rattle.syslog_pieces.specs.Pieces.Class.{Text, Each, Ends}
+use Rattle.syslog_pieces.specs.StructuredData.Rfc3164List.{BeginsNoList}
+use Rattle.syslog_pieces.specs.Text.{is_blank, is_tag_char, dash, EndsInColon}
+use Rattle.syslog_pieces.specs.Text.CharClass.{is_label_char}
+use Rattle.syslog_pieces.specs.Timestamp.Rfc3164.{ShowsMonthDate}
+use Rattle.syslog_pieces.specs.Timestamp.Canonical.{IsCanonicalStamp}
+use Rattle.syslog_pieces.specs.Timestamp.Zone.{Dating, IsMonthStamp}
+use Rattle.syslog_pieces.specs.declared.procid.ProcId.{ProcId}
+use Rattle.syslog_pieces.specs.declared.procid.ProcId.TheVariants.{PID, Name}
+use Rattle.syslog_pieces.specs.declared.structured_data.rfc3164_list.DashRule.{DashRule}
+use Rattle.syslog_pieces.specs.declared.timestamp.OffsetTimestamp.{OffsetTimestamp}
+use Rattle.syslog_pieces.specs.declared.timestamp.month_date.MonthDate.{MonthDate}
+use Rattle.syslog_loose.specs.declared.message.Protocol.TheVariants.{RFC3164}
+use Rattle.syslog_loose.specs.Canonical.{IsVisible, IsNoI32Text, IsCanonicalElement, EndsVisibly}
+use Rattle.syslog_loose.specs.Message.{MessageValue}
+use Rattle.syslog_loose.specs.TagForm.{IsNoForm}
+
+-- ---- the exceptions
+
+abbrev pub is_no_colon : ℕ → Bool
+is_no_colon c = not (nat_eq c 58)
+
+-- the process is a number, or its name has no colon
+abbrev pub HasNoColon : ProcId Text → Type 0
+HasNoColon (PID n) = ⊤
+HasNoColon (Name t) = Each is_no_colon t
+
+-- The message has none of the exceptions, which are: a timestamp that its printed text does not have; a host `-`,
+-- which is the text of an absent one; a host that ends in a colon, which is taken for the one behind the names; a
+-- process name with a colon, at which the name before it is cut; and with no element a message that begins with a list.
+pub record HasNoException (rule : DashRule) (m : MessageValue) : Type 0 where
+  pub canonical_timestamp : IfSome m.timestamp IsCanonicalStamp
+  pub host_is_no_dash : IfSome m.hostname (λ h. h ≢ dash)
+  pub host_ends_in_no_colon : IfSome m.hostname (λ h. EndsInColon h → ⊥)
+  pub process_has_no_colon : IfSome m.procid HasNoColon
+  pub message_is_no_list : m.structured_data ≡ [] → BeginsNoList rule m.msg
+
+-- ---- all else
+
+-- `-`, or a text that ends in a colon
+abbrev pub IsOddHost : Text → Type 0
+IsOddHost h = (h ≡ dash) ⊎ EndsInColon h
+
+-- neither white space nor `]`
+abbrev pub is_inner_char : ℕ → Bool
+is_inner_char c = is_not_whitespace c && not (nat_eq c 93)
+
+-- a name is nonempty, no text of a number, and without white space and `]`
+abbrev pub IsInnerProcess : ProcId Text → Type 0
+IsInnerProcess (PID n) = ⊤
+IsInnerProcess (Name t) = (0 < length t) × Each is_inner_char t × IsNoI32Text t
+
+-- the condition on the names, but that a process name may have colons
+abbrev pub AreNamesButExceptions : Option Text → Option Text → Option (ProcId Text) → Type 0
+AreNamesButExceptions host None None = IfSome host IsNoForm
+AreNamesButExceptions host None (Some process) = ⊥
+AreNamesButExceptions host (Some app) None = (0 < length app) × Each is_tag_char app × (app ≢ dash) × IsNoForm app
+AreNamesButExceptions host (Some app) (Some process) = Each is_label_char app × IsInnerProcess process
+
+-- The message meets the condition for RFC 3164, but for its facility and severity and for the exceptions. A host that
+-- is `-` or ends in a colon stands with no app name, and a process name with a colon stands with no host.
+pub record HasExceptionsAlone (m : MessageValue) : Type 0 where
+  pub protocol : m.protocol ≡ RFC3164
+  pub hostname : IfSome m.hostname IsVisible
+  pub odd_host : IfSome m.hostname (λ h. IsOddHost h → m.appname ≡ None)
+  pub names : AreNamesButExceptions m.hostname m.appname m.procid
+  pub colon_process : IfSome m.procid HasNoColon ⊎ (m.hostname ≡ None)
+  pub msgid : m.msgid ≡ None
+  pub elements : AllByRecursion IsCanonicalElement m.structured_data
+  pub parameters : AllByRecursion (λ e. 0 < length e.params) m.structured_data
+  pub msg_front : Ends is_blank m.msg
+  pub msg_end : EndsVisibly m.msg
+
+-- the message meets the condition but for the exceptions
+pub record IsNearlyCanonical (m : MessageValue) : Type 0 where
+  pub facility : IsSome m.facility
+  pub severity : IsSome m.severity
+  pub rest : HasExceptionsAlone m
+
+-- the timestamp is that of a month date that the text shows
+abbrev pub IsOfMonthDate : Dating → Text → OffsetTimestamp → Type 0
+IsOfMonthDate dating text s = (date : MonthDate) × ShowsMonthDate text date × IsMonthStamp dating date s

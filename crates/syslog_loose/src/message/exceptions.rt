@@ -1,0 +1,77 @@
+//! The exceptions, tested on the fields. What was read as RFC 3164 meets all else of the written condition but for an
+//! absent facility and severity, so without an exception its printed text is settled. The tests look at a few bytes.
+ghost use Rattle.std.specs.Prelude.{◌≢◌, ◌↔◌, IfSome, IsTrue};
+ghost use Rattle.std.specs.Option.{option_map};
+ghost use Rattle.std.specs.Str.{chars};
+ghost use Rattle.syslog_pieces.specs.Pieces.Class.{Each};
+ghost use Rattle.syslog_pieces.specs.Pieces.View.{seen, shown};
+ghost use Rattle.syslog_pieces.specs.ProcId.{procid_value};
+ghost use Rattle.syslog_pieces.specs.Text.{EndsInColon, dash};
+ghost use Rattle.syslog_loose.specs.Jumps.{HasNoNameException};
+ghost use Rattle.syslog_loose.specs.Exceptions as spec;
+ghost use Rattle.syslog_loose.specs.Message.{message_value};
+ghost use Rattle.syslog_loose.specs.Reading.{dash_rule};
+
+use super::Message;
+use super::canonical::{begins_no_list, is_canonical_time};
+use syslog_pieces::procid::ProcId;
+use syslog_pieces::structured_data::rfc3164_list::DASH_RULE;
+
+/// Whether the message has none of the exceptions.
+pub(crate) fn has_no_exception(message: &Message<&str>) -> bool
+    ensures { IsTrue result ↔ spec.HasNoException dash_rule (message_value (λ s. shown s) message.now) }
+{
+    if !has_no_name_exception(message) {
+        return false;
+    }
+    begins_no_list(&message.structured_data, message.msg, DASH_RULE)
+}
+
+/// Whether it has none of those before its message part.
+pub(crate) fn has_no_name_exception(message: &Message<&str>) -> bool
+    ensures { IsTrue result ↔ HasNoNameException (message_value (λ s. shown s) message.now) }
+{
+    if !is_canonical_time(message.timestamp) {
+        return false;
+    }
+    if !has_no_odd_host(message.hostname) {
+        return false;
+    }
+    is_uncut_process(&message.procid)
+}
+
+// Whether the host is neither the text of an absent one nor taken for the one behind the names.
+fn has_no_odd_host(host: Option<&str>) -> bool
+    ensures { IsTrue result ↔ (IfSome (seen host.entry) (λ h. h ≢ dash) × IfSome (seen host.entry) (λ h. EndsInColon h → ⊥)) }
+{
+    match host {
+        Some(name) => is_no_odd_host(name),
+        None => true,
+    }
+}
+
+fn is_no_odd_host(name: &str) -> bool
+    ensures { IsTrue result ↔ ((chars name.now ≢ dash) × (EndsInColon (chars name.now) → ⊥)) }
+{
+    match name.as_bytes() {
+        [.., last] => *last != b':' && (*last != b'-' || name.len() != 1),
+        [] => true,
+    }
+}
+
+// Whether the process is a number, or a name at which no other is cut.
+fn is_uncut_process(process: &Option<ProcId<&str>>) -> bool
+    ensures { IsTrue result ↔ IfSome (option_map (procid_value (λ s. shown s)) process.now) spec.HasNoColon }
+{
+    match process {
+        Some(ProcId::Name(name)) => has_no_colon(*name),
+        Some(ProcId::PID(_)) => true,
+        None => true,
+    }
+}
+
+fn has_no_colon(name: &str) -> bool
+    ensures { IsTrue result ↔ Each spec.is_no_colon (chars name.now) }
+{
+    !name.contains(':')
+}

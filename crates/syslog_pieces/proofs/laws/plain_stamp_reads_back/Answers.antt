@@ -1,8 +1,0 @@
-use Rattle.syslog_pieces.proofs.TimestampLemmas.RoundTrip.{printed_stamp-back, stamp_text-plain}
-use Rattle.syslog_pieces.proofs.laws.plain_stamp_reads_back.Goals as goal
-
-pub returns-clause-back : goal.returns-clause-back
-returns-clause-back c = printed_stamp-back
-
-pub returns-clause-only : goal.returns-clause-only
-returns-clause-only c = stamp_text-plain

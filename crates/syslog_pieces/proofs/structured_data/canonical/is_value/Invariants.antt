@@ -1,0 +1,12 @@
+use Rattle.std.proofs.Common.{length}
+use denote.Shadow.{shadow}
+use denote.Text.{Utf8}
+use Rattle.std.specs.Str.{chars}
+use Rattle.syslog_pieces.proofs.StructuredDataLemmas.Canonical.{ExtendsValue}
+use Rattle.syslog_pieces.proofs.structured_data.canonical.is_value.Given as goal
+
+abbrev pub invariant-units : goal.invariant-units
+invariant-units l = shadow (Utf8 l.rest) × ExtendsValue (chars l.text) (chars l.rest)
+
+abbrev pub decreases-units : goal.decreases-units
+decreases-units l = length (chars l.rest)

@@ -1,0 +1,12 @@
+use Rattle.std.proofs.Common.{length}
+use denote.Shadow.{shadow}
+use denote.Text.{Utf8}
+use Rattle.std.specs.Str.{chars}
+use Rattle.syslog_pieces.proofs.StructuredDataLemmas.Verbatim.{VerbatimSoFar}
+use Rattle.syslog_pieces.proofs.structured_data.verbatim.verbatim_element.Given as goal
+
+abbrev pub invariant-params : goal.invariant-params
+invariant-params l = shadow (Utf8 l.rest) × VerbatimSoFar (chars l.text) (chars l.rest)
+
+abbrev pub decreases-params : goal.decreases-params
+decreases-params l = length (chars l.rest)

@@ -1,0 +1,12 @@
+use Rattle.std.proofs.Common.{length}
+use denote.Shadow.{shadow}
+use denote.Text.{Utf8}
+use Rattle.std.specs.Str.{chars}
+use Rattle.syslog_pieces.specs.Bodies.Verbatim.{VerbatimItems}
+use Rattle.syslog_pieces.proofs.structured_data.verbatim.verbatim_elements.Given as goal
+
+abbrev pub invariant-elements : goal.invariant-elements
+invariant-elements l = shadow (Utf8 l.rest) × VerbatimItems (chars l.text) (chars l.rest)
+
+abbrev pub decreases-elements : goal.decreases-elements
+decreases-elements l = length (chars l.rest)

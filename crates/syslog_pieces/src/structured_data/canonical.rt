@@ -1,0 +1,91 @@
+//! Which elements are read back from print as they stand: the scanners that read them are asked, and no memory is taken.
+ghost use Rattle.std.specs.Prelude.{◌↔◌, ◌<◌, IsTrue, length, map};
+ghost use Rattle.std.specs.List.{AllByRecursion};
+ghost use Rattle.std.specs.Str.{chars};
+ghost use Rattle.syslog_pieces.specs.Pieces.View.{text_of};
+ghost use Rattle.syslog_pieces.specs.StructuredData.{IsValue};
+ghost use Rattle.syslog_pieces.specs.StructuredData.Element.{element_value, param_value};
+ghost use Rattle.syslog_pieces.specs.StructuredData.Canonical as spec;
+
+use super::StructuredElement;
+use crate::as_str::AsStr;
+use crate::text::canonical::{begins_unblank, is_some_of};
+use crate::text::{CharClass, first, split_run};
+
+// Whether the text is a list of units, as the value of a parameter is.
+fn is_value(text: &str) -> bool
+    ensures { IsTrue result ↔ IsValue (chars text.now) }
+{
+    let mut rest = text;
+    'units: loop {
+        let (_, after) = split_run(rest, CharClass::Unescaped);
+        let Some((c, more)) = first(after) else {
+            return true;
+        };
+        if c == '"' {
+            return false;
+        }
+        let Some((_, behind)) = first(more) else {
+            return false;
+        };
+        rest = behind;
+    }
+}
+
+// Whether the name and the value are read back from print.
+fn is_canonical_param<S: AsStr>(param: &(S, S)) -> bool
+    ensures { IsTrue result ↔ spec.IsCanonicalParam (param_value (text_of S.text) param.now) }
+{
+    let name = param.0.as_str();
+    let value = param.1.as_str();
+    if !is_some_of(name, CharClass::Name) {
+        return false;
+    }
+    is_value(value)
+}
+
+fn are_canonical_params<S: AsStr>(params: &[(S, S)]) -> bool
+    ensures { IsTrue result ↔ AllByRecursion spec.IsCanonicalParam (map (param_value (text_of S.text)) params.now) }
+{
+    for param in params {
+        if !is_canonical_param(param) {
+            return false;
+        }
+    }
+    true
+}
+
+// Whether the first name does not begin with a blank.
+fn begins_unblank_params<S: AsStr>(params: &[(S, S)]) -> bool
+    ensures { IsTrue result ↔ spec.BeginsUnblank (map (param_value (text_of S.text)) params.now) }
+{
+    match params {
+        [first, ..] => begins_unblank(first.0.as_str()),
+        [] => true,
+    }
+}
+
+/// Whether the element is read back from its printed text, in which each value stands as it is.
+pub fn is_canonical_element<S: AsStr>(element: &StructuredElement<S>) -> bool
+    ensures { IsTrue result ↔ spec.IsCanonicalElement (element_value (text_of S.text) element.now) }
+{
+    if !is_some_of(element.id.as_str(), CharClass::Id) {
+        return false;
+    }
+    if !are_canonical_params(&element.params) {
+        return false;
+    }
+    begins_unblank_params(&element.params)
+}
+
+/// Whether each of the elements is.
+pub fn are_canonical_elements<S: AsStr>(elements: &[StructuredElement<S>]) -> bool
+    ensures { IsTrue result ↔ AllByRecursion spec.IsCanonicalElement (map (element_value (text_of S.text)) elements.now) }
+{
+    for element in elements {
+        if !is_canonical_element(element) {
+            return false;
+        }
+    }
+    true
+}

@@ -1,0 +1,197 @@
+//! Recognising strict and broken elements, without memory and in time linear in the text.
+//!
+//! A strict element that fails may have been scanned far: its first value may hold every `]` up to the end of the text,
+//! and each of the items behind it would be scanned as far again. But whatever scan passes a `]` alive does so inside a
+//! value, so all such scans have one future. A number `dead` keeps it: no element closes from behind a `]` that leaves
+//! `dead` bytes or more. A scan that passes such a `]` stops there.
+ghost use Rattle.std.specs.Prelude.{◌≡◌, ◌<◌, ◌≤◌, ◌++◌, [], ◌∷◌, IsTrue, MatchOption, MatchResult, length, slice_index};
+ghost use Rattle.std.specs.Str.{chars, IsUtf8};
+ghost use Rattle.syslog_pieces.specs.Bodies.Scan.{EndsRun, SplitsRun};
+ghost use Rattle.syslog_pieces.specs.Text.CharClass.{has};
+ghost use Rattle.syslog_pieces.specs.declared.text.CharClass.TheVariants.{Inert};
+ghost use Rattle.syslog_pieces.specs.Pieces.Class.{Class, Front, NoFront, exactly, some_run, texted};
+ghost use Rattle.syslog_pieces.specs.Bodies.Closing.{start as start_class, opening as opening_class, quoted as quoted_class, id_alone, name_alone, closing, byte_count, IsDead, last_char};
+ghost use Rattle.syslog_pieces.specs.StructuredData.Escapes.{TextUnit, unit_text};
+ghost use Rattle.syslog_pieces.specs.StructuredData.Rfc3164List.{full_element};
+ghost use Rattle.syslog_pieces.specs.StructuredData.{value, element as element_class, bracketed as bracketed_class, IsValueUnit};
+ghost use Rattle.syslog_pieces.specs.Pieces.View.{shown, Reads, Recognises};
+
+use crate::text::{CharClass, blanks, first, literal, run_end, split_run};
+
+// The nonempty run of the class at the front, and the text behind it.
+#[inline(always)]
+pub(super) fn nonempty_run(text: &str, class: CharClass) -> Option<(&str, &str)>
+    ensures { Reads (texted (some_run (has class))) (λ run. shown run) (chars text.now) result }
+{
+    let (run, rest) = split_run(text, class);
+    if run.is_empty() {
+        None
+    } else {
+        Some((run, rest))
+    }
+}
+
+// The id of the element at the front, and the text behind it and blanks.
+#[inline(always)]
+pub(super) fn start(text: &str) -> Option<(&str, &str)>
+    ensures { Reads start_class (λ id. id_alone (shown id)) (chars text.now) result }
+{
+    let rest = literal(text, '[')?;
+    let (id, rest) = nonempty_run(rest, CharClass::Id)?;
+    Some((id, blanks(rest)))
+}
+
+// The name of the parameter at the front, and the text behind the quote that opens its value.
+#[inline(always)]
+pub(super) fn opening(text: &str) -> Option<(&str, &str)>
+    ensures { Reads opening_class (λ name. name_alone (shown name)) (chars text.now) result }
+{
+    let (name, rest) = nonempty_run(text, CharClass::Name)?;
+    let rest = literal(rest, '=')?;
+    let rest = literal(blanks(rest), '"')?;
+    Some((name, rest))
+}
+
+// The last character of the unit at the front, and the text behind the unit.
+#[inline(always)]
+fn unit(text: &str) -> Option<(char, &str)>
+    requires { NoFront (exactly (34 ∷ [])) (chars text.now) }
+    ensures { MatchOption result (NoFront value (chars text.now)) (λ x. IsUtf8 x.1.now
+        × ((u : TextUnit) × IsValueUnit u × (chars text.now ≡ unit_text u ++ shown x.1) × (last_char u ≡ x.0))) }
+{
+    let (c, more) = first(text)?;
+    if c == '\\' {
+        first(more)
+    } else {
+        Some((c, more))
+    }
+}
+
+// Whether an escape stands at the front.
+#[inline(always)]
+fn begins_escape(bytes: &[u8]) -> bool
+    ensures { IsTrue result → (0 < length bytes.now) × (slice_index bytes.now 0 ≡ 92) }
+{
+    match bytes {
+        [first, ..] => *first == b'\\',
+        [] => false,
+    }
+}
+
+// Where the run of characters that mean nothing in a value ends. Behind an escape there often stands another one, for
+// which sixteen bytes need not be looked at.
+#[inline(always)]
+fn inert_end(text: &str) -> usize
+    ensures { EndsRun (has Inert) text.now result }
+{
+    if begins_escape(text.as_bytes()) {
+        0
+    } else {
+        run_end(text, CharClass::Inert)
+    }
+}
+
+// That run, and the text behind it.
+#[inline(always)]
+fn split_inert(text: &str) -> (&str, &str)
+    ensures { SplitsRun (has Inert) text.now result.0.now result.1.now }
+{
+    text.split_at(inert_end(text))
+}
+
+// The text behind the value at the front and its closing quote. A refusal says that no element closes from here, and
+// gives such a number for the text; under a number past the text it says that no value closes.
+#[inline(always)]
+pub(super) fn live_value(text: &str, dead: usize) -> Result<&str, usize>
+    requires { IsDead (chars text.now) dead }
+    ensures { MatchResult result
+        (λ behind. (v : quoted_class.Value) × Front quoted_class (chars text.now) (shown behind) v)
+        (λ d. NoFront closing (chars text.now) × IsDead (chars text.now) d
+        × (byte_count (chars text.now) ≤ dead → NoFront quoted_class (chars text.now))) }
+{
+    let mut rest = text;
+    'units: loop {
+        let (_, after) = split_inert(rest);
+        if let Some(behind) = literal(after, '"') {
+            return Ok(behind);
+        }
+        let Some((last, more)) = unit(after) else {
+            return Err(0);
+        };
+        if last == ']' && more.len() >= dead {
+            return Err(dead);
+        }
+        rest = more;
+    }
+}
+
+// The text behind the element from inside one of whose values this text is; after a refusal a number as that of
+// `live_value`.
+#[inline(always)]
+pub(super) fn live_closing(text: &str, dead: usize) -> Result<&str, usize>
+    requires { IsDead (chars text.now) dead }
+    ensures { MatchResult result
+        (λ behind. (v : closing.Value) × Front closing (chars text.now) (shown behind) v)
+        (λ d. NoFront closing (chars text.now) × IsDead (chars text.now) d) }
+{
+    let mut rest = text;
+    'params: loop {
+        let behind = live_value(rest, dead)?;
+        if let Some(end) = literal(behind, ']') {
+            return Ok(end);
+        }
+        let Some(next) = literal(behind, ' ') else {
+            return Err(behind.len());
+        };
+        let Some((_, value)) = opening(next) else {
+            return Err(behind.len());
+        };
+        rest = value;
+    }
+}
+
+// The text behind the strict element at the front; after a refusal a number as that of `live_value`.
+#[inline(always)]
+pub(super) fn live_element(text: &str, dead: usize) -> Result<&str, usize>
+    requires { IsDead (chars text.now) dead }
+    ensures { MatchResult result
+        (λ behind. (e : element_class.Value) × Front element_class (chars text.now) (shown behind) e)
+        (λ d. NoFront element_class (chars text.now) × IsDead (chars text.now) d) }
+{
+    let Some((_, inside)) = start(text) else {
+        return Err(dead);
+    };
+    if let Some(end) = literal(inside, ']') {
+        return Ok(end);
+    }
+    let Some((_, value)) = opening(inside) else {
+        return Err(dead);
+    };
+    live_closing(value, dead)
+}
+
+// The text behind the strict element at the front, where that has a parameter.
+#[inline(always)]
+pub(super) fn after_full_element(text: &str) -> Option<&str>
+    ensures { Recognises full_element (chars text.now) result }
+{
+    let (_, inside) = start(text)?;
+    let (_, value) = opening(inside)?;
+    live_closing(value, value.len()).ok()
+}
+
+/// The text behind the strict element at the front. Takes no memory.
+pub fn after_element(text: &str) -> Option<&str>
+    ensures { Recognises element_class (chars text.now) result }
+{
+    live_element(text, text.len()).ok()
+}
+
+// The text behind the bracketed text at the front.
+pub(super) fn after_bracketed(text: &str) -> Option<&str>
+    ensures { Recognises bracketed_class (chars text.now) result }
+{
+    let rest = literal(text, '[')?;
+    let (_, rest) = split_run(rest, CharClass::Open);
+    literal(rest, ']')
+}

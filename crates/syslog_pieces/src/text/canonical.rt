@@ -1,0 +1,82 @@
+//! Which texts are read back from print as they stand. Each asks the scanner or the reader that reads such a text, and
+//! takes no memory.
+ghost use Rattle.std.specs.Prelude.{◌≡◌, ◌↔◌, ◌<◌, IsTrue, [], length};
+ghost use Rattle.std.specs.Str.{chars};
+ghost use Rattle.syslog_pieces.specs.Pieces.Class.{Each, Ends};
+ghost use Rattle.syslog_pieces.specs.Text.{is_blank};
+ghost use Rattle.syslog_pieces.specs.Text.CharClass.{has};
+ghost use Rattle.syslog_pieces.specs.Text.Canonical.{IsCanonicalHost, IsCanonicalTag, IsCanonicalWord};
+
+use super::{CharClass, host, split_run, tag_word, word};
+
+// Whether no character is left.
+fn is_end(text: &str) -> bool
+    ensures { IsTrue result ↔ (chars text.now ≡ []) }
+{
+    text.is_empty()
+}
+
+/// Whether each character of the text is of the class.
+pub fn is_only(text: &str, class: CharClass) -> bool
+    ensures { IsTrue result ↔ Each (has class) (chars text.now) }
+{
+    let (_, rest) = split_run(text, class);
+    is_end(rest)
+}
+
+/// Whether the text has a character, and each is of the class.
+pub fn is_some_of(text: &str, class: CharClass) -> bool
+    ensures { IsTrue result ↔ ((0 < length (chars text.now)) × Each (has class) (chars text.now)) }
+{
+    if is_end(text) {
+        return false;
+    }
+    is_only(text, class)
+}
+
+/// Whether the reader of hosts takes the whole text for a host.
+pub fn is_canonical_host(text: &str) -> bool
+    ensures { IsTrue result ↔ IsCanonicalHost (chars text.now) }
+{
+    match host(text) {
+        Some((name, rest)) => match name {
+            Some(_) => is_end(rest),
+            None => false,
+        },
+        None => false,
+    }
+}
+
+/// Whether the reader of words takes the whole text for a word.
+pub fn is_canonical_word(text: &str) -> bool
+    ensures { IsTrue result ↔ IsCanonicalWord (chars text.now) }
+{
+    match word(text) {
+        Some((name, rest)) => match name {
+            Some(_) => is_end(rest),
+            None => false,
+        },
+        None => false,
+    }
+}
+
+/// Whether the text does not begin with a blank.
+pub fn begins_unblank(text: &str) -> bool
+    ensures { IsTrue result ↔ Ends is_blank (chars text.now) }
+{
+    let (blanks, _) = split_run(text, CharClass::Blank);
+    is_end(blanks)
+}
+
+/// Whether the reader of tag words takes the whole text for a tag.
+pub fn is_canonical_tag(text: &str) -> bool
+    ensures { IsTrue result ↔ IsCanonicalTag (chars text.now) }
+{
+    match tag_word(text) {
+        Some((name, rest)) => match name {
+            Some(_) => is_end(rest),
+            None => false,
+        },
+        None => false,
+    }
+}

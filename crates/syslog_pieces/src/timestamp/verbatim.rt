@@ -1,0 +1,210 @@
+//! Timestamps of a header that print as they are written, but that a `Z` prints as `+00:00`.
+//!
+//! What prints of a timestamp is what a clock at its offset shows, and that is the digits that stand in the text. So of
+//! most timestamps no instant is computed: it is enough that the calendar has the date and the clock the time. Other
+//! forms (small letters, a fraction that ends in three zeros, second 60, `-00:00`) are left to `header_stamp`.
+ghost use Rattle.std.specs.Prelude.{◌≡◌, ◌≢◌, ◌<◌, ◌++◌, ◌∷◌, ◌/◌, ◌%◌, ◌⊎◌, IfSome, IsTrue};
+ghost use Rattle.std.specs.Str.{chars, IsUtf8};
+ghost use Rattle.jiff_fmt.specs.Text.{pad2};
+ghost use Rattle.syslog_pieces.specs.Bodies.VerbatimStamp as spec;
+ghost use Rattle.syslog_pieces.specs.Pieces.View.{shown};
+
+use super::civil::is_civil;
+use super::digits::{begins_with_digit, three_digits};
+use super::fields::CivilFields;
+use super::month_date::standard::pair;
+use crate::text::literal;
+use std::str;
+
+/// A timestamp at the front of a text, which is copied up to its zone.
+#[derive(Clone, Copy)]
+pub struct VerbatimStamp<'a> {
+    /// The text from a `Z` on, or the text behind the timestamp.
+    pub zone: &'a str,
+    /// Whether `+00:00` is written in place of a `Z`.
+    pub is_zulu: bool,
+    /// The text behind the timestamp.
+    pub rest: &'a str,
+}
+
+/// The timestamp at the front of a header's text, where it prints as it is written but for a `Z`.
+#[inline(always)]
+pub fn verbatim_stamp(text: &str) -> Option<VerbatimStamp<'_>>
+    ensures { IfSome result (λ stamp.
+        spec.IsVerbatimStamp (chars text.now) (shown stamp.zone) stamp.is_zulu (shown stamp.rest)) }
+{
+    match literal(text, '-') {
+        Some(rest) => Some(VerbatimStamp {
+            zone: rest,
+            is_zulu: false,
+            rest,
+        }),
+        None => written_stamp(text),
+    }
+}
+
+// The same of a timestamp that is not absent.
+#[inline(always)]
+fn written_stamp(text: &str) -> Option<VerbatimStamp<'_>>
+    ensures { IfSome result (λ stamp.
+        spec.IsVerbatimStamp (chars text.now) (shown stamp.zone) stamp.is_zulu (shown stamp.rest)) }
+{
+    let behind = date_and_clock(text.as_bytes())?;
+    let zone = fraction(behind)?;
+    match zulu(zone) {
+        Some(rest) => Some(cut(zone, true, rest)),
+        None => {
+            let rest = offset(zone)?;
+            Some(cut(rest, false, rest))
+        }
+    }
+}
+
+#[inline(always)]
+fn cut<'a>(zone: &'a [u8], is_zulu: bool, rest: &'a [u8]) -> VerbatimStamp<'a>
+    requires { IsUtf8 zone.now × IsUtf8 rest.now }
+    ensures { (result.zone.now ≡ zone.now) × (result.is_zulu ≡ is_zulu) × (result.rest.now ≡ rest.now) }
+{
+    VerbatimStamp {
+        zone: unsafe { str::from_utf8_unchecked(zone) },
+        is_zulu,
+        rest: unsafe { str::from_utf8_unchecked(rest) },
+    }
+}
+
+// The length of `YYYY-MM-DDTHH:MM:SS`, `Z` and a space.
+const SHORTEST: usize = 21;
+
+// The text behind `YYYY-MM-DDTHH:MM:SS`, where there are such a date, in a year before 9999, and such a time of day.
+#[inline(always)]
+fn date_and_clock(text: &[u8]) -> Option<&[u8]>
+    ensures { IfSome result (λ rest. spec.IsDateAndClock text.now rest.now) }
+{
+    // With the length known, no piece looks for its end.
+    if text.len() < SHORTEST {
+        return None;
+    }
+    let (century, text) = pair(text)?;
+    let (year, text) = pair(text)?;
+    let (month, text) = pair_behind(text, b'-')?;
+    let (day, text) = pair_behind(text, b'-')?;
+    let (hour, text) = pair_behind(text, b'T')?;
+    let (minute, text) = pair_behind(text, b':')?;
+    let (second, text) = pair_behind(text, b':')?;
+    let fields = CivilFields {
+        year: (century * 100 + year) as i32,
+        month,
+        day,
+        hour,
+        minute,
+        second,
+        nanosecond: 0,
+    };
+    if is_civil(fields) { Some(text) } else { None }
+}
+
+// A sign and two digits.
+#[inline(always)]
+fn pair_behind(text: &[u8], sign: u8) -> Option<(u32, &[u8])>
+    ensures small { IfSome result (λ read. read.0 < 100) }
+    ensures text { IfSome result (λ read. text.now ≡ sign ∷ (pad2 read.0 ++ read.1.now)) }
+{
+    match text {
+        [first, rest @ ..] if *first == sign => pair(rest),
+        _ => None,
+    }
+}
+
+// The text behind a fraction: none, or three, six or nine decimals, the last three of which are not all zero.
+#[inline(always)]
+fn fraction(text: &[u8]) -> Option<&[u8]>
+    ensures { IfSome result (λ rest. spec.IsVerbatimFraction text.now rest.now) }
+{
+    match text {
+        [b'.', rest @ ..] => decimals(rest),
+        _ => Some(text),
+    }
+}
+
+// The same behind the dot. (Where more digits follow than these, no offset does.)
+#[inline(always)]
+fn decimals(text: &[u8]) -> Option<&[u8]>
+    ensures { IfSome result (λ rest. spec.IsVerbatimFraction (46 ∷ text.now) rest.now) }
+{
+    let (milli, rest) = three_digits(text)?;
+    if !begins_with_digit(rest) {
+        return if milli == 0 { None } else { Some(rest) };
+    }
+    let (micro, rest) = three_digits(rest)?;
+    if !begins_with_digit(rest) {
+        return if micro == 0 { None } else { Some(rest) };
+    }
+    let (nano, rest) = three_digits(rest)?;
+    if nano == 0 { None } else { Some(rest) }
+}
+
+// The text behind a `Z`, where a space begins it.
+#[inline(always)]
+fn zulu(text: &[u8]) -> Option<&[u8]>
+    ensures { IfSome result (λ rest. (text.now ≡ 90 ∷ rest.now) × spec.IsBeforeSpace rest.now) }
+{
+    match text {
+        [b'Z', rest @ ..] if begins_with_space(rest) => Some(rest),
+        _ => None,
+    }
+}
+
+// The text behind an offset that prints as it is written, where a space begins it. (`-00:00` prints otherwise.)
+#[inline(always)]
+fn offset(text: &[u8]) -> Option<&[u8]>
+    ensures { IfSome result (λ rest. spec.IsVerbatimOffset text.now rest.now) }
+{
+    let (sign, behind) = sign(text)?;
+    let (minutes, rest) = minutes(behind)?;
+    if !prints_so(sign, minutes) || !begins_with_space(rest) {
+        return None;
+    }
+    Some(rest)
+}
+
+// Whether an offset with this sign and so many minutes prints with this sign.
+#[inline(always)]
+fn prints_so(sign: u8, minutes: u32) -> bool
+    ensures { IsTrue result → sign ≡ 45 → minutes ≢ 0 }
+{
+    sign == b'+' || minutes > 0
+}
+
+// `+` or `-`.
+#[inline(always)]
+fn sign(text: &[u8]) -> Option<(u8, &[u8])>
+    ensures { IfSome result (λ read. ((read.0 ≡ 43) ⊎ (read.0 ≡ 45)) × (text.now ≡ read.0 ∷ read.1.now)) }
+{
+    match text {
+        [first @ (b'+' | b'-'), rest @ ..] => Some((*first, rest)),
+        _ => None,
+    }
+}
+
+// `HH:MM`, in minutes.
+#[inline(always)]
+fn minutes(text: &[u8]) -> Option<(u32, &[u8])>
+    ensures in_day { IfSome result (λ read. read.0 < 1440) }
+    ensures text { IfSome result (λ read.
+        text.now ≡ pad2 (read.0 / 60) ++ (58 ∷ (pad2 (read.0 % 60) ++ read.1.now))) }
+{
+    let (hours, rest) = pair(text)?;
+    let (minutes, rest) = pair_behind(rest, b':')?;
+    if hours < 24 && minutes < 60 {
+        Some((hours * 60 + minutes, rest))
+    } else {
+        None
+    }
+}
+
+#[inline(always)]
+fn begins_with_space(text: &[u8]) -> bool
+    ensures { IsTrue result → spec.IsBeforeSpace text.now }
+{
+    matches!(text, [b' ', ..])
+}
