@@ -1,5 +1,6 @@
 -- The JSON of messages: how elements are gathered, and that no value of it has a float or nests deep.
-use Rattle.std.proofs.Common.{◌≡◌, ℕ, pos, negsuc, List, [], ◌∷◌, ◌++◌, map, Option, Some, None, refl, sym, ap, subst, ◌∙◌, arith, append_assoc, append-nil}
+use Rattle.std.proofs.Common.{◌≡◌, ℕ, pos, negsuc, List, [], ◌∷◌, ◌++◌, map, Option, Some}
+use Rattle.std.proofs.Common.{None, refl, sym, ap, subst, ◌∙◌, arith, append_assoc, append-nil}
 use Rattle.std.proofs.Common.{Result, Ok}
 use Rattle.std.specs.Borrow.{Bor}
 use Rattle.std.specs.Global.{Global}
@@ -22,7 +23,9 @@ use Rattle.syslog_loose.specs.declared.message.Protocol.{Protocol}
 use Rattle.syslog_loose.specs.declared.message.Protocol.TheVariants.{RFC3164, RFC5424}
 use Rattle.syslog_loose.specs.Message.{MessageValue}
 use Rattle.serde_json.specs.Data.{Data, string, object, Members, no_members}
-use Rattle.syslog_json.specs.Json.{Field, IsElementJson, IsElementPair, IsElementsJson, IsMessageJson, IsParamPair, IsSingle, IsStructuredJson, Pair, fields_of, process_json, protocol_text, text_json, timestamp_json, version_json, with_field, with_fields}
+use Rattle.syslog_json.specs.Json.{Field, IsElementJson, IsElementPair, IsElementsJson, IsMessageJson, IsParamPair}
+use Rattle.syslog_json.specs.Json.{IsSingle, IsStructuredJson, Pair, fields_of, process_json, protocol_text}
+use Rattle.syslog_json.specs.Json.{text_json, timestamp_json, version_json, with_field, with_fields}
 use Rattle.syslog_json.proofs.MemberLemmas.{EachMember, IsFlat, each_put, flat_gathered, flat_object}
 
 -- ---- gathering
@@ -31,32 +34,43 @@ use Rattle.syslog_json.proofs.MemberLemmas.{EachMember, IsFlat, each_put, flat_g
 abbrev pub Continues : {X : Type 0} → (X → Pair → Type 0) → List X → List X → List Pair → Type 0
 Continues Is whole in_after done = (more : List Pair) → AllZip Is in_after more → AllZip Is whole (done ++ more)
 
-pub continues_next : {X : Type 0} (Is : X → Pair → Type 0) (whole in_after next : List X) (done : List Pair) (x : X) (pair : Pair) → in_after ≡ x ∷ next → Is x pair → Continues Is whole in_after done
+pub continues_next : {X : Type 0} (Is : X → Pair → Type 0) (whole in_after next : List X) (done : List Pair) (x : X)
+    (pair : Pair) → in_after ≡ x ∷ next → Is x pair → Continues Is whole in_after done
     → Continues Is whole next (done ++ pair ∷ [])
 continues_next Is whole in_after next done x pair first is so_far = λ more rest.
-    subst (AllZip Is whole) (sym (append_assoc done (pair ∷ []) more)) (so_far (pair ∷ more) (subst (λ xs. AllZip Is xs (pair ∷ more)) (sym first) (is, rest)))
+    subst (AllZip Is whole) (sym (append_assoc done (pair ∷ []) more))
+    (so_far (pair ∷ more) (subst (λ xs. AllZip Is xs (pair ∷ more)) (sym first) (is, rest)))
 
-pub continues_end : {X : Type 0} (Is : X → Pair → Type 0) (whole in_after : List X) (done : List Pair) → in_after ≡ [] → Continues Is whole in_after done → AllZip Is whole done
-continues_end Is whole in_after done empty so_far = subst (AllZip Is whole) (append-nil done) (so_far [] (subst (λ xs. AllZip Is xs []) (sym empty) tt))
+pub continues_end : {X : Type 0} (Is : X → Pair → Type 0) (whole in_after : List X) (done : List Pair) → in_after ≡ []
+    → Continues Is whole in_after done → AllZip Is whole done
+continues_end Is whole in_after done empty so_far =
+    subst (AllZip Is whole) (append-nil done) (so_far [] (subst (λ xs. AllZip Is xs []) (sym empty) tt))
 
-pub single_push : (done : List Pair) (pair : Pair) → IsSingle pair.1 → AllByRecursion (λ (p : Pair). IsSingle p.1) done → AllByRecursion (λ (p : Pair). IsSingle p.1) (done ++ pair ∷ [])
+pub single_push : (done : List Pair) (pair : Pair) → IsSingle pair.1 → AllByRecursion (λ (p : Pair). IsSingle p.1) done
+    → AllByRecursion (λ (p : Pair). IsSingle p.1) (done ++ pair ∷ [])
 single_push [] pair single each = (single, tt)
 single_push (p ∷ done) pair single each = (each.0, single_push done pair single each.1)
 
-pub param_pair : (param : Text × Text) (name value : List ℕ) → IsUtf8 name → IsUtf8 value → chars name ≡ param.0 → IsUnescaped param.1 (chars value) → IsParamPair param (name, string value)
-param_pair param name value named valued same unescaped =
-    (sym (encodes-chars name named) ∙ ap encode_utf8_all same, (chars value, unescaped, ap string (sym (encodes-chars value valued))))
+pub param_pair : (param : Text × Text) (name value : List ℕ) → IsUtf8 name → IsUtf8 value → chars name ≡ param.0
+    → IsUnescaped param.1 (chars value) → IsParamPair param (name, string value)
+param_pair param name value named valued same unescaped = (
+  sym (encodes-chars name named) ∙ ap encode_utf8_all same,
+  (chars value, unescaped, ap string (sym (encodes-chars value valued))),
+)
 
 pub element_single : (element : ElementValue) (value : Data) → IsElementJson element value → IsSingle value
 element_single element value is = rw is.whole refl
 
 -- the parameter that comes next, its name and its value without escapes
-pub param_next : (old new : List (Bor (List ℕ) × Bor (List ℕ))) (item : Result (Bor (Bor (List ℕ)) × String Global) AllocError) (found : Bor (Bor (List ℕ)) × String Global)
+pub param_next : (old new : List (Bor (List ℕ) × Bor (List ℕ)))
+    (item : Result (Bor (Bor (List ℕ)) × String Global) AllocError) (found : Bor (Bor (List ℕ)) × String Global)
     → NextParam (λ s. s.now) old (Some item) new → item ≡ Ok found
-    → (param : Bor (List ℕ) × Bor (List ℕ)) × (old ≡ param ∷ new) × (found.0.now ≡ param.0) × IsUnescaped (shown param.1) (chars (string_bytes found.1))
+    → (param : Bor (List ℕ) × Bor (List ℕ)) × (old ≡ param ∷ new) × (found.0.now ≡ param.0)
+    × IsUnescaped (shown param.1) (chars (string_bytes found.1))
 param_next [] new item found next ok = absurd (let none = next.0 in cc)
 param_next (param ∷ rest) new item found next ok =
-    let (names, unescaped) = subst (λ (r : Result (Bor (Bor (List ℕ)) × String Global) AllocError). IsParamItem (λ s. s.now) param r) ok next.0 in
+    let (names, unescaped) = subst
+    (λ (r : Result (Bor (Bor (List ℕ)) × String Global) AllocError). IsParamItem (λ s. s.now) param r) ok next.0 in
     (param, ap (λ (xs : List (Bor (List ℕ) × Bor (List ℕ))). param ∷ xs) (sym next.1), names, unescaped)
 
 pub param_end : (old new : List (Bor (List ℕ) × Bor (List ℕ))) → NextParam (λ s. s.now) old None new → old ≡ []
@@ -64,22 +78,27 @@ param_end [] new next = refl
 param_end (param ∷ rest) new next = absurd next.0
 
 -- the value of elements, of which there are some, is that of structured data
-pub structured_some : {X : Type 0} (f : X → ElementValue) (xs : List X) (value : Data) → (xs ≡ [] → ⊥) → IsElementsJson (map f xs) value → IsStructuredJson (map f xs) (Some value)
+pub structured_some : {X : Type 0} (f : X → ElementValue) (xs : List X) (value : Data) → (xs ≡ [] → ⊥)
+    → IsElementsJson (map f xs) value → IsStructuredJson (map f xs) (Some value)
 structured_some f [] value some is = absurd (some refl)
 structured_some f (x ∷ xs) value some is = is
 
 -- ---- no float, and depth
 
-flat_params : (params : List (Text × Text)) (pairs : List Pair) → AllZip IsParamPair params pairs → AllByRecursion (λ (p : Pair). IsFlat 0 p.1) pairs
+flat_params : (params : List (Text × Text)) (pairs : List Pair) → AllZip IsParamPair params pairs
+    → AllByRecursion (λ (p : Pair). IsFlat 0 p.1) pairs
 flat_params [] [] named = tt
 flat_params [] (p ∷ pairs) named = absurd named
 flat_params (x ∷ params) [] named = absurd named
-flat_params (x ∷ params) (p ∷ pairs) named = (subst (IsFlat 0) (sym named.0.1.2) (refl, omega arith), flat_params params pairs named.1)
+flat_params (x ∷ params) (p ∷ pairs) named =
+    (subst (IsFlat 0) (sym named.0.1.2) (refl, omega arith), flat_params params pairs named.1)
 
 flat_element : (element : ElementValue) (value : Data) → IsElementJson element value → IsFlat 2 value
-flat_element element value is = subst (IsFlat 2) (sym is.whole) (flat_gathered 0 is.pairs is.members is.gathered (flat_params element.params is.pairs is.named))
+flat_element element value is = subst (IsFlat 2) (sym is.whole)
+    (flat_gathered 0 is.pairs is.members is.gathered (flat_params element.params is.pairs is.named))
 
-flat_elements : (elements : List ElementValue) (pairs : List Pair) → AllZip IsElementPair elements pairs → AllByRecursion (λ (p : Pair). IsFlat 2 p.1) pairs
+flat_elements : (elements : List ElementValue) (pairs : List Pair) → AllZip IsElementPair elements pairs
+    → AllByRecursion (λ (p : Pair). IsFlat 2 p.1) pairs
 flat_elements [] [] named = tt
 flat_elements [] (p ∷ pairs) named = absurd named
 flat_elements (x ∷ elements) [] named = absurd named
@@ -90,15 +109,18 @@ abbrev IsFlatField : Option Data → Type 0
 IsFlatField None = ⊤
 IsFlatField (Some value) = IsFlat 4 value
 
-flat_structured : (elements : List ElementValue) (structured : Option Data) → IsStructuredJson elements structured → IsFlatField structured
+flat_structured : (elements : List ElementValue) (structured : Option Data) → IsStructuredJson elements structured
+    → IsFlatField structured
 flat_structured [] structured is = subst IsFlatField (sym is) tt
 flat_structured (e ∷ es) None is = tt
-flat_structured (e ∷ es) (Some value) is = subst (IsFlat 4) (sym is.whole) (flat_gathered 2 is.pairs is.members is.gathered (flat_elements (e ∷ es) is.pairs is.named))
+flat_structured (e ∷ es) (Some value) is = subst (IsFlat 4) (sym is.whole)
+    (flat_gathered 2 is.pairs is.members is.gathered (flat_elements (e ∷ es) is.pairs is.named))
 
 flat_text : (s : List ℕ) → IsFlat 4 (string s)
 flat_text s = (refl, omega arith)
 
-flat_optional : {X : Type 0} (json : X → Data) → ((x : X) → IsFlat 4 (json x)) → (o : Option X) → IsFlatField (option_map json o)
+flat_optional : {X : Type 0} (json : X → Data) → ((x : X) → IsFlat 4 (json x)) → (o : Option X)
+    → IsFlatField (option_map json o)
 flat_optional json flat None = tt
 flat_optional json flat (Some x) = flat x
 
@@ -114,16 +136,20 @@ flat_process (PID (pos n)) = (refl, omega arith)
 flat_process (PID (negsuc n)) = (refl, omega arith)
 flat_process (Name name) = flat_text (encode_utf8_all name)
 
-each_field : (key : List ℕ) (value : Option Data) (ms : Members) → IsFlatField value → EachMember (IsFlat 4) ms → EachMember (IsFlat 4) (with_field key value ms)
+each_field : (key : List ℕ) (value : Option Data) (ms : Members) → IsFlatField value → EachMember (IsFlat 4) ms
+    → EachMember (IsFlat 4) (with_field key value ms)
 each_field key None ms flat each = each
 each_field key (Some value) ms flat each = each_put (IsFlat 4) key value ms flat each
 
-each_fields : (fields : List Field) (ms : Members) → AllByRecursion (λ (f : Field). IsFlatField f.1) fields → EachMember (IsFlat 4) ms → EachMember (IsFlat 4) (with_fields fields ms)
+each_fields : (fields : List Field) (ms : Members) → AllByRecursion (λ (f : Field). IsFlatField f.1) fields
+    → EachMember (IsFlat 4) ms → EachMember (IsFlat 4) (with_fields fields ms)
 each_fields [] ms flat each = each
-each_fields (f ∷ fields) ms flat each = each_fields fields (with_field f.0 f.1 ms) flat.1 (each_field f.0 f.1 ms flat.0 each)
+each_fields (f ∷ fields) ms flat each =
+    each_fields fields (with_field f.0 f.1 ms) flat.1 (each_field f.0 f.1 ms flat.0 each)
 
 -- the object of such fields
-pub flat_fields : (fields : List Field) → AllByRecursion (λ (f : Field). IsFlatField f.1) fields → IsFlat 5 (object (with_fields fields no_members))
+pub flat_fields : (fields : List Field) → AllByRecursion (λ (f : Field). IsFlatField f.1) fields
+    → IsFlat 5 (object (with_fields fields no_members))
 flat_fields fields flat = flat_object 4 _ (each_fields fields no_members flat tt)
 
 pub flat_message : (m : MessageValue) (value : Data) → IsMessageJson m value → IsFlat 5 value
@@ -134,9 +160,11 @@ flat_message m value (structured, is, whole) = subst (IsFlat 5) (sym whole) (fla
     (
       flat_optional (λ f. text_json (facility_name f)) (λ f. flat_text (encode_utf8_all (facility_name f))) m.facility,
       (
-        flat_optional (λ s. text_json (severity_name s)) (λ s. flat_text (encode_utf8_all (severity_name s))) m.severity,
+        flat_optional (λ s. text_json (severity_name s))
+            (λ s. flat_text (encode_utf8_all (severity_name s))) m.severity,
         (
-          flat_optional timestamp_json (λ s. flat_text (printed_stamp s.instant.nanosecond s.offset.seconds)) m.timestamp,
+          flat_optional timestamp_json
+              (λ s. flat_text (printed_stamp s.instant.nanosecond s.offset.seconds)) m.timestamp,
           (
             flat_name m.hostname,
             (

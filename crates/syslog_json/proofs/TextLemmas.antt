@@ -1,12 +1,14 @@
 -- The text of a value has no control character.
-use Rattle.std.proofs.Common.{◌≡◌, ℕ, zero, suc, ◌+◌, ◌<◌, ◌≤◌, ◌/◌, ◌%◌, negsuc, pos, List, [], ◌∷◌, ◌++◌, cond, Bool, true, false, nat_lt, ◌==◌, decimal, refl, subst, arith}
+use Rattle.std.proofs.Common.{◌≡◌, ℕ, zero, suc, ◌+◌, ◌<◌, ◌≤◌, ◌/◌, ◌%◌, negsuc, pos, List, [], ◌∷◌}
+use Rattle.std.proofs.Common.{◌++◌, cond, Bool, true, false, nat_lt, ◌==◌, decimal, refl, subst, arith}
 use Rattle.std.proofs.lemmas.Grind.{common_steps}
 use Rattle.std.proofs.DigitsParse.{digits_onto-nil}
 use Rattle.std.specs.Char.{digit_char}
 use Rattle.std.specs.Fmt.{digit_glyph, digits_onto}
 use Rattle.std.specs.List.{AllByRecursion}
 use Rattle.json.specs.Print.{escape, escape_byte, escape_letter, quoted}
-use Rattle.serde_json.specs.Data.{Data, Num, unsigned, negative, float, null, boolean, number, string, array, object, Items, no_items, item, Members, no_members, member}
+use Rattle.serde_json.specs.Data.{Data, Num, unsigned, negative, float, null, boolean, number, string}
+use Rattle.serde_json.specs.Data.{array, object, Items, no_items, item, Members, no_members, member}
 use Rattle.serde_json.specs.Written.{comma_if, compact_text, items_text, members_text, number_text}
 
 abbrev pub Printable : List ℕ → Type 0
@@ -29,9 +31,11 @@ letter : (x : ℕ) → 0 < escape_letter x → 32 ≤ escape_letter x
 letter x some = grind (arith, common_steps, some)
 
 byte_at : (short low : Bool) (x : ℕ) → nat_lt 0 (escape_letter x) ≡ short → nat_lt x 32 ≡ low
-    → Printable (cond short (92 ∷ escape_letter x ∷ []) (cond low (92 ∷ 117 ∷ 48 ∷ 48 ∷ digit_char (x / 16) ∷ digit_char (x % 16) ∷ []) (x ∷ [])))
+    → Printable (cond short (92 ∷ escape_letter x ∷ [])
+    (cond low (92 ∷ 117 ∷ 48 ∷ 48 ∷ digit_char (x / 16) ∷ digit_char (x % 16) ∷ []) (x ∷ [])))
 byte_at true low x is below = (omega arith, (letter x (grind (arith, is)), tt))
-byte_at false true x is below = (omega arith, (omega arith, (omega arith, (omega arith, (hex (x / 16), (hex (x % 16), tt))))))
+byte_at false true x is below =
+    (omega arith, (omega arith, (omega arith, (omega arith, (hex (x / 16), (hex (x % 16), tt))))))
 byte_at false false x is below = (grind (arith, below), tt)
 
 escaped_byte : (x : ℕ) → Printable (escape_byte x)
@@ -90,9 +94,11 @@ mutual
 
   items : (later : Bool) (ds : Items) → Printable (items_text later ds)
   items later no_items = (omega arith, tt)
-  items later (item d ds) = joined (comma_if later) _ (comma later) (joined (compact_text d) _ (printable d) (items true ds))
+  items later (item d ds) =
+      joined (comma_if later) _ (comma later) (joined (compact_text d) _ (printable d) (items true ds))
 
   members : (later : Bool) (ms : Members) → Printable (members_text later ms)
   members later no_members = (omega arith, tt)
   members later (member k d ms) =
-      joined (comma_if later) _ (comma later) (joined (quoted k) _ (in_quotes k) (omega arith, joined (compact_text d) _ (printable d) (members true ms)))
+      joined (comma_if later) _ (comma later)
+      (joined (quoted k) _ (in_quotes k) (omega arith, joined (compact_text d) _ (printable d) (members true ms)))

@@ -58,7 +58,8 @@ text_json text = string (encode_utf8_all text)
 
 -- the pair is a parameter's name and its value without escapes
 abbrev pub IsParamPair : Text × Text → Pair → Type 0
-IsParamPair param pair = (pair.0 ≡ encode_utf8_all param.0) × ((canonical : Text) × IsUnescaped param.1 canonical × (pair.1 ≡ text_json canonical))
+IsParamPair param pair = (pair.0 ≡ encode_utf8_all param.0)
+    × ((canonical : Text) × IsUnescaped param.1 canonical × (pair.1 ≡ text_json canonical))
 
 -- the value of an element: the object of its parameters
 pub record IsElementJson (element : ElementValue) (value : Data) : Type 0 where
@@ -136,4 +137,5 @@ fields_of m structured =
 
 -- the value of a message: the object of its fields
 abbrev pub IsMessageJson : MessageValue → Data → Type 0
-IsMessageJson m value = (structured : Option Data) × IsStructuredJson m.structured_data structured × (value ≡ object (with_fields (fields_of m structured) no_members))
+IsMessageJson m value = (structured : Option Data) × IsStructuredJson m.structured_data structured
+    × (value ≡ object (with_fields (fields_of m structured) no_members))

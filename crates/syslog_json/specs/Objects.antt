@@ -1,5 +1,6 @@
 -- What is written for each line: this project's own choice.
-use Rattle.std.specs.Prelude.{◌≡◌, ◌≤◌, ◌⊎◌, ⊤, ℕ, ℤ, List, [], ◌∷◌, Option, Some, codes, true, length, count_by, IsUtf8, All}
+use Rattle.std.specs.Prelude.{◌≡◌, ◌≤◌, ◌⊎◌, ⊤, ℕ, ℤ, List, [], ◌∷◌, Option}
+use Rattle.std.specs.Prelude.{Some, codes, true, length, count_by, IsUtf8, All}
 use Rattle.std.specs.Str.{chars}
 use Rattle.std.specs.Str.Lossy.{utf8_lossy}
 use Rattle.syslog_loose.specs.Message.{MessageValue}
@@ -22,21 +23,26 @@ pub record IsTextOf (value : Data) (bytes : List ℕ) : Type 0 where
 
 -- the value of a line that has no reading
 abbrev pub refused_json : List ℕ → Data
-refused_json line = object (with_fields ((codes "message", Some (string line)) ∷ (codes "refused", Some (boolean true)) ∷ []) no_members)
+refused_json line =
+    object (with_fields ((codes "message", Some (string line)) ∷ (codes "refused", Some (boolean true)) ∷ [])
+    no_members)
 
 -- the value of a line that is no UTF-8: what is none of it is replaced
 abbrev pub broken_json : List ℕ → Data
 broken_json line =
-    object (with_fields ((codes "invalid_utf8", Some (boolean true)) ∷ (codes "message", Some (string (utf8_lossy line))) ∷ (codes "refused", Some (boolean true)) ∷ []) no_members)
+    object (with_fields ((codes "invalid_utf8", Some (boolean true))
+    ∷ (codes "message", Some (string (utf8_lossy line))) ∷ (codes "refused", Some (boolean true)) ∷ []) no_members)
 
 -- the value of the message as which the line is read in this year
 abbrev pub IsReadJson : ℤ → List ℕ → Data → Type 0
-IsReadJson year line value = IsUtf8 line × ((m : MessageValue) × IsOnlyRead Either (in_utc year) (chars line) m × IsMessageJson m value)
+IsReadJson year line value =
+    IsUtf8 line × ((m : MessageValue) × IsOnlyRead Either (in_utc year) (chars line) m × IsMessageJson m value)
 
 -- the value of a line that is no message
 abbrev pub IsRefusedJson : ℤ → List ℕ → Data → Type 0
 IsRefusedJson year line value =
-    (IsUtf8 line × IsUnreadable Either (in_utc year) (chars line) × (value ≡ refused_json line)) ⊎ ((¬ (IsUtf8 line)) × (value ≡ broken_json line))
+    (IsUtf8 line × IsUnreadable Either (in_utc year) (chars line) × (value ≡ refused_json line))
+    ⊎ ((¬ (IsUtf8 line)) × (value ≡ broken_json line))
 
 -- the value is such, and there is no other
 abbrev pub IsOnly : (Data → Type 0) → Data → Type 0
@@ -52,7 +58,9 @@ IsObject year line Omitted = ⊥
 abbrev pub objects : ℤ → Filter
 objects year = record { Answers = IsObject year; Wants = λ line. ⊤ }
 
--- all was read, the text of each line's value was written, and the summary counts the lines and those that are no message
+-- all was read, the text of each line's value was written, and the summary counts the lines and those that are no
+-- message
 abbrev pub WritesObjects : ℤ → Option (List ℕ) → Option (List ℕ) → Option (List ℕ) → Option (List ℕ) → Summary → Type 0
-WritesObjects year in_before in_after out_before out_after summary = (answers : List Answer) × (all : FiltersAll (objects year) in_before in_after out_before out_after answers)
+WritesObjects year in_before in_after out_before out_after summary = (answers : List Answer)
+    × (all : FiltersAll (objects year) in_before in_after out_before out_after answers)
     × (summary.lines ≡ held_count (length all.lines)) × (summary.refused ≡ held_count (count_by is_passed_over answers))

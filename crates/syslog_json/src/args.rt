@@ -19,8 +19,8 @@ pub enum Task {
     Lines(i32),
 }
 
-/// What the words after the program's name ask for: `--help` or `--version` alone, or a year, where `--` may stand before
-/// it. None for all other words.
+/// What the words after the program's name ask for: `--help` or `--version` alone, or a year, where `--` may stand
+/// before it. None for all other words.
 pub fn read_task(args: &[&str]) -> Option<Task>
     ensures { MatchOption result ((task : Task) → ¬ (AsksFor (map (λ arg. arg.now) args.now) task))
         (λ task. AsksFor (map (λ arg. arg.now) args.now) task) }
@@ -35,8 +35,8 @@ pub fn read_task(args: &[&str]) -> Option<Task>
     Some(Task::Lines(year))
 }
 
-/// What `read_task` makes of the program's arguments; none where they can't be had. Which words these are no clause says, since
-/// the host has none for them (`tests/json` tries it).
+/// What `read_task` makes of the program's arguments; none where they can't be had. Which words these are no clause
+/// says, since the host has none for them (`tests/json` tries it).
 pub fn arguments(rt: &HostRuntime) -> Option<Task>
     ensures { IfSome result (λ task. (words : List (List ℕ)) × AsksFor words task) }
 {
@@ -45,7 +45,8 @@ pub fn arguments(rt: &HostRuntime) -> Option<Task>
 
 // What `read_task` makes of the words behind the first, which is the program's name.
 fn read_words(mut words: Args) -> Option<Task>
-    ensures { MatchOption result ((task : Task) → ¬ (AsksFor (drop 1 (map (λ word. string_bytes word) (into_iter_items words))) task))
+    ensures { MatchOption result ((task : Task)
+        → ¬ (AsksFor (drop 1 (map (λ word. string_bytes word) (into_iter_items words))) task))
         (λ task. AsksFor (drop 1 (map (λ word. string_bytes word) (into_iter_items words))) task) }
 {
     words.next()?;

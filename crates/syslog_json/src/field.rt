@@ -6,7 +6,8 @@ ghost use Rattle.syslog_pieces.specs.Pri.{facility_name, severity_name};
 ghost use Rattle.syslog_pieces.specs.ProcId.{procid_value};
 ghost use Rattle.serde_json.specs.Data.{put as with_member, string};
 ghost use Rattle.serde_json.specs.View.{members_view};
-ghost use Rattle.syslog_json.specs.Json.{process_json, protocol_text, text_json, timestamp_json, version_json, with_field, with_fields};
+ghost use Rattle.syslog_json.specs.Json.{process_json, protocol_text, text_json};
+ghost use Rattle.syslog_json.specs.Json.{timestamp_json, version_json, with_field, with_fields};
 
 use serde_json::{Map, Value, put};
 use std::alloc::{AllocError, Global};
@@ -19,7 +20,8 @@ pub fn put_text(
     key: &str,
     text: &str,
 ) -> Result<(), AllocError>
-    ensures ok { OnOk result (members_view members.new.entries ≡ with_member key.now (string text.now) (members_view members.old.entries)) }
+    ensures ok { OnOk result (members_view members.new.entries
+        ≡ with_member key.now (string text.now) (members_view members.old.entries)) }
     ensures utf8 { IsUtf8 text.now }
 {
     put(members, alloc, key, Value::try_from_str(alloc, text)?)
@@ -33,7 +35,8 @@ pub fn put_optional(
     text: Option<&str>,
 ) -> Result<(), AllocError>
     ensures { OnOk result (members_view members.new.entries
-        ≡ with_field key.now (option_map text_json (option_map (λ t. shown t) text.entry)) (members_view members.old.entries)) }
+        ≡ with_field key.now (option_map text_json (option_map (λ t. shown t) text.entry))
+        (members_view members.old.entries)) }
 {
     match text {
         Some(text) => put_text(members, alloc, key, text),
@@ -48,7 +51,8 @@ pub fn put_protocol(
     protocol: Protocol,
 ) -> Result<(), AllocError>
     ensures { OnOk result (members_view members.new.entries
-        ≡ with_fields ((codes "protocol", Some (string (protocol_text protocol))) ∷ (codes "version", version_json protocol) ∷ []) (members_view members.old.entries)) }
+        ≡ with_fields ((codes "protocol", Some (string (protocol_text protocol)))
+        ∷ (codes "version", version_json protocol) ∷ []) (members_view members.old.entries)) }
 {
     match protocol {
         Protocol::RFC3164 => put_text(members, alloc, "protocol", "RFC3164"),
@@ -66,7 +70,8 @@ pub fn put_facility(
     facility: Option<SyslogFacility>,
 ) -> Result<(), AllocError>
     ensures { OnOk result (members_view members.new.entries
-        ≡ with_field (codes "facility") (option_map (λ f. text_json (facility_name f)) facility) (members_view members.old.entries)) }
+        ≡ with_field (codes "facility") (option_map (λ f. text_json (facility_name f)) facility)
+        (members_view members.old.entries)) }
 {
     match facility {
         Some(facility) => put_text(members, alloc, "facility", facility.as_str()),
@@ -81,7 +86,8 @@ pub fn put_severity(
     severity: Option<SyslogSeverity>,
 ) -> Result<(), AllocError>
     ensures { OnOk result (members_view members.new.entries
-        ≡ with_field (codes "severity") (option_map (λ s. text_json (severity_name s)) severity) (members_view members.old.entries)) }
+        ≡ with_field (codes "severity") (option_map (λ s. text_json (severity_name s)) severity)
+        (members_view members.old.entries)) }
 {
     match severity {
         Some(severity) => put_text(members, alloc, "severity", severity.as_str()),
@@ -114,7 +120,8 @@ pub fn put_process(
     process: &Option<ProcId<&str>>,
 ) -> Result<(), AllocError>
     ensures { OnOk result (members_view members.new.entries
-        ≡ with_field (codes "procid") (option_map process_json (option_map (procid_value (λ s. shown s)) process.now)) (members_view members.old.entries)) }
+        ≡ with_field (codes "procid") (option_map process_json (option_map (procid_value (λ s. shown s)) process.now))
+        (members_view members.old.entries)) }
 {
     match process {
         Some(ProcId::PID(number)) => put(members, alloc, "procid", Value::from(*number)),

@@ -22,14 +22,16 @@ use syslog_loose::{
     IncompleteDate, ParseFault, TimeZone, Variant, parse_message_with_year_exact_tz,
 };
 
-/// Reads lines to the end of the input, and writes each as one JSON object on one line: that of its message, read in the
-/// given year, or one that has the line and `"refused": true`. No line is lost, and no byte below 32 stands in an object.
+/// Reads lines to the end of the input, and writes each as one JSON object on one line: that of its message, read in
+/// the given year, or one that has the line and `"refused": true`. No line is lost, and no byte below 32 stands in an
+/// object.
 ///
-/// The output of each block of input is written before more is read, and the writer is flushed at the end. Nothing is tried
-/// again. After `RunFault::Read` the output of each complete line that was read was written. After `RunFault::Memory` so it
-/// was, where the memory was wanted before anything was read or for more of a line that takes a whole block; or it was
-/// refused for a line, and the output of each line before it was written. After `RunFault::Write` a beginning of the
-/// output was written. It takes memory for a block of input, its output, and the longest line and its object.
+/// The output of each block of input is written before more is read, and the writer is flushed at the end. Nothing is
+/// tried again. After `RunFault::Read` the output of each complete line that was read was written. After
+/// `RunFault::Memory` so it was, where the memory was wanted before anything was read or for more of a line that takes
+/// a whole block; or it was refused for a line, and the output of each line before it was written. After
+/// `RunFault::Write` a beginning of the output was written. It takes memory for a block of input, its output, and the
+/// longest line and its object.
 pub fn write_objects<R: Read, W: Write>(
     alloc: Global,
     reader: &mut Watched<R>,
@@ -38,9 +40,11 @@ pub fn write_objects<R: Read, W: Write>(
 ) -> Result<Summary, RunFault>
     requires reader { reader.old.failed ≡ false }
     requires writer { writer.old.failed ≡ false }
-    ensures ok { IfOk result (λ summary. WritesObjects year (R.remaining reader.old.inner) (R.remaining reader.new.inner)
+    ensures ok { IfOk result (λ summary. WritesObjects year (R.remaining reader.old.inner)
+        (R.remaining reader.new.inner)
         (W.contents writer.old.inner) (W.contents writer.new.inner) summary) }
-    ensures err { IfErr result (λ fault. EndsEarly (objects year) (R.remaining reader.old.inner) (R.remaining reader.new.inner)
+    ensures err { IfErr result (λ fault. EndsEarly (objects year) (R.remaining reader.old.inner)
+        (R.remaining reader.new.inner)
         (W.contents writer.old.inner) (W.contents writer.new.inner) fault) }
     ensures failed { FailedAs result reader.new.failed writer.new.failed }
 {
@@ -96,7 +100,8 @@ impl LineFilter for Objects {
 fn push_value(alloc: Global, output: &mut Vec<u8>, value: &Value) -> Result<(), AllocError>
     requires whole { has_float (view value.now) ≡ false }
     requires shallow { depth (view value.now) ≤ max_depth }
-    ensures ok { OnOk result ((bytes : List ℕ) × IsTextOf (view value.now) bytes × (output.new.items ≡ output.old.items ++ (bytes ++ 10 ∷ []))) }
+    ensures ok { OnOk result ((bytes : List ℕ) × IsTextOf (view value.now) bytes
+        × (output.new.items ≡ output.old.items ++ (bytes ++ 10 ∷ []))) }
     ensures err { OnErr result (output.new.items ≡ output.old.items) }
 {
     let text = value.to_string(alloc)?;
@@ -106,7 +111,8 @@ fn push_value(alloc: Global, output: &mut Vec<u8>, value: &Value) -> Result<(), 
 // The object of the line's message, read in a year, where it is one.
 fn read_line(alloc: Global, line: &str, year: i32) -> Result<Option<Value>, AllocError>
     ensures { IfOk result (λ found. MatchOption found (IsUnreadable Either (in_utc year) (chars line.now))
-        (λ value. (m : MessageValue) × IsOnlyRead Either (in_utc year) (chars line.now) m × IsMessageJson m (view value))) }
+        (λ value. (m : MessageValue) × IsOnlyRead Either (in_utc year) (chars line.now) m
+        × IsMessageJson m (view value))) }
 {
     let answer_year = move |_: IncompleteDate| -> i32
         ensures { result ≡ year }

@@ -9,15 +9,16 @@ ghost use Rattle.syslog_json.specs.Json.{Gathers, IsSingle, Pair, one_or_all};
 use serde_json::{Map, Value, put};
 use std::alloc::{AllocError, Global};
 
-/// Adds a value at a key: alone where the key is new, and behind the values that it has otherwise. No value is an array.
-/// An `Err` is only for memory. A `&str` is UTF-8, which callers that have it from a field ask for.
+/// Adds a value at a key: alone where the key is new, and behind the values that it has otherwise. No value is an
+/// array. An `Err` is only for memory. A `&str` is UTF-8, which callers that have it from a field ask for.
 pub fn gather(
     members: &mut Map<String, Value>,
     alloc: Global,
     key: &str,
     value: Value,
 ) -> Result<(), AllocError>
-    ensures ok { OnOk result ((pairs : List Pair) → AllByRecursion (λ pair. IsSingle pair.1) pairs → Gathers pairs (members_view members.old.entries)
+    ensures ok { OnOk result ((pairs : List Pair) → AllByRecursion (λ pair. IsSingle pair.1) pairs
+        → Gathers pairs (members_view members.old.entries)
         → Gathers (pairs ++ (key.now, view value) ∷ []) (members_view members.new.entries)) }
     ensures utf8 { IsUtf8 key.now }
 {
@@ -29,7 +30,8 @@ pub fn gather(
 
 // The value alone, or an array of those before and it.
 fn join(alloc: Global, before: Option<Value>, value: Value) -> Result<Value, AllocError>
-    ensures { IfOk result (λ joined. (values : List Data) → AllByRecursion IsSingle values → option_map view before ≡ one_or_all values
+    ensures { IfOk result (λ joined. (values : List Data) → AllByRecursion IsSingle values
+        → option_map view before ≡ one_or_all values
         → Some (view joined) ≡ one_or_all (values ++ view value ∷ [])) }
 {
     match before {

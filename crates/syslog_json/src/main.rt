@@ -2,8 +2,8 @@
 //!
 //! `syslog_json 2019` answers the line `<34>Oct 11 22:14:15 mymachine app[323]: a message` with the object that has
 //! `"protocol":"RFC3164"`, `"facility":"auth"`, `"severity":"crit"`, `"timestamp":"2019-10-11T22:14:15+00:00"`,
-//! `"hostname":"mymachine"`, `"appname":"app"`, `"procid":323` and `"message":"a message"`, its keys in the order of their
-//! bytes. A line that is no message is written as `{"message":"..","refused":true}`, so that no line is lost.
+//! `"hostname":"mymachine"`, `"appname":"app"`, `"procid":323` and `"message":"a message"`, its keys in the order of
+//! their bytes. A line that is no message is written as `{"message":"..","refused":true}`, so that no line is lost.
 #![tactic(auto)]
 
 mod args;

@@ -39,8 +39,10 @@ fn put_elements(
     alloc: Global,
     elements: &Vec<StructuredElement<&str>>,
 ) -> Result<(), AllocError>
-    ensures { OnOk result ((structured : Option Data) × IsStructuredJson (map (element_value (λ s. shown s)) elements.now.items) structured
-        × (members_view members.new.entries ≡ with_field (codes "structured_data") structured (members_view members.old.entries))) }
+    ensures { OnOk result ((structured : Option Data)
+        × IsStructuredJson (map (element_value (λ s. shown s)) elements.now.items) structured
+        × (members_view members.new.entries
+        ≡ with_field (codes "structured_data") structured (members_view members.old.entries))) }
 {
     if elements.is_empty() {
         return Ok(());
@@ -54,7 +56,8 @@ fn elements_object(
     alloc: Global,
     elements: &Vec<StructuredElement<&str>>,
 ) -> Result<Value, AllocError>
-    ensures { IfOk result (λ value. IsElementsJson (map (element_value (λ s. shown s)) elements.now.items) (view value)) }
+    ensures { IfOk result (λ value. IsElementsJson (map (element_value (λ s. shown s)) elements.now.items)
+        (view value)) }
 {
     let mut members = Map::new(alloc);
     for element in elements {

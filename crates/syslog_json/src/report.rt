@@ -36,7 +36,8 @@ pub fn help<W: Write, E: Write>(out: &mut W, errors: &mut E) -> u8
     say(HELP, out, errors)
 }
 
-/// Writes the program's name and its version, and answers the exit status: 0, or 2 where that failed, with the fault's text.
+/// Writes the program's name and its version, and answers the exit status: 0, or 2 where that failed, with the fault's
+/// text.
 pub fn version<W: Write, E: Write>(out: &mut W, errors: &mut E) -> u8
     ensures { (result ≡ 0) ⊎ (result ≡ 2) }
 {

@@ -13,19 +13,26 @@ use syslog_lines::{RunFault, Summary, Watched};
 const DATED: &str = "<34>Oct 11 22:14:15 mymachine app[323]: a message\n";
 
 const DATED_OBJECT: &str =
-    "{\"appname\":\"app\",\"facility\":\"auth\",\"hostname\":\"mymachine\",\"message\":\"a message\",\"procid\":323,\"protocol\":\"RFC3164\",\"severity\":\"crit\",\"timestamp\":\"2019-10-11T22:14:15+00:00\"}\n";
+    "{\"appname\":\"app\",\"facility\":\"auth\",\"hostname\":\"mymachine\",\"message\":\"a \
+     message\",\"procid\":323,\"protocol\":\"RFC3164\",\"severity\":\"crit\",\
+     \"timestamp\":\"2019-10-11T22:14:15+00:00\"}\n";
 
 const LISTED: &str =
-    "<165>1 2003-10-11T22:14:15.003-07:00 h evntslog p1 ID47 [ex@1 iut=\"3\" e=\"a\\\"b\\]c\\\\d\" iut=\"4\" iut=\"5\"][ex@2][ex@1 message=\"y\"][ex@1] text\n";
+    "<165>1 2003-10-11T22:14:15.003-07:00 h evntslog p1 ID47 [ex@1 iut=\"3\" e=\"a\\\"b\\]c\\\\d\" iut=\"4\" \
+     iut=\"5\"][ex@2][ex@1 message=\"y\"][ex@1] text\n";
 
 const LISTED_OBJECT: &str =
-    "{\"appname\":\"evntslog\",\"facility\":\"local4\",\"hostname\":\"h\",\"message\":\"text\",\"msgid\":\"ID47\",\"procid\":\"p1\",\"protocol\":\"RFC5424\",\"severity\":\"notice\",\"structured_data\":{\"ex@1\":[{\"e\":\"a\\\"b]c\\\\d\",\"iut\":[\"3\",\"4\",\"5\"]},{\"message\":\"y\"},{}],\"ex@2\":{}},\"timestamp\":\"2003-10-11T22:14:15.003-07:00\",\"version\":1}\n";
+    "{\"appname\":\"evntslog\",\"facility\":\"local4\",\"hostname\":\"h\",\"message\":\"text\",\"msgid\":\"ID47\",\
+     \"procid\":\"p1\",\"protocol\":\"RFC5424\",\"severity\":\"notice\",\
+     \"structured_data\":{\"ex@1\":[{\"e\":\"a\\\"b]c\\\\d\",\"iut\":[\"3\",\"4\",\"5\"]},{\"message\":\"y\"},{}],\
+     \"ex@2\":{}},\"timestamp\":\"2003-10-11T22:14:15.003-07:00\",\"version\":1}\n";
 
 /// A line with no reading, an empty line, and a message with neither a priority nor a line feed.
 const THREE: &str = "gobbledegook\n\n1 - - - - - -";
 
 const THREE_OBJECTS: &str =
-    "{\"message\":\"gobbledegook\",\"refused\":true}\n{\"message\":\"\",\"refused\":true}\n{\"message\":\"\",\"protocol\":\"RFC5424\",\"version\":1}\n";
+    "{\"message\":\"gobbledegook\",\"refused\":true}\n{\"message\":\"\",\"refused\":true}\n{\"message\":\"\",\
+     \"protocol\":\"RFC5424\",\"version\":1}\n";
 
 const NEVER: u64 = 0;
 
@@ -156,7 +163,8 @@ fn writes_refused_lines(rt: HostRuntime) {
 fn escapes_controls(rt: HostRuntime) {
     let line = "<13>1 - - - - - [a b=\"c\\nd\"] \"e\\\tf\u{1}\rg\u{7f}\n";
     let object =
-        "{\"facility\":\"user\",\"message\":\"\\\"e\\\\\\tf\\u0001\\rg\u{7f}\",\"protocol\":\"RFC5424\",\"severity\":\"notice\",\"structured_data\":{\"a\":{\"b\":\"c\\nd\"}},\"version\":1}\n";
+        "{\"facility\":\"user\",\"message\":\"\\\"e\\\\\\tf\\u0001\\rg\u{7f}\",\"protocol\":\"RFC5424\",\
+         \"severity\":\"notice\",\"structured_data\":{\"a\":{\"b\":\"c\\nd\"}},\"version\":1}\n";
     expect_objects(&rt, rt.alloc(), line.as_bytes(), 1024, object, 1, 0);
 }
 

@@ -1,14 +1,18 @@
 -- The program's arguments as words.
-use Rattle.std.proofs.Common.{◌≡◌, ◌↔◌, ℕ, ℤ, Bor, List, [], ◌∷◌, map, length, get_or, MatchOption, Option, Some, None, ap, inl, inr, pos, subst, sym, true, nat_eq, arith}
+use Rattle.std.proofs.Common.{◌≡◌, ◌↔◌, ℕ, ℤ, Bor, List, [], ◌∷◌, map, length, get_or, MatchOption}
+use Rattle.std.proofs.Common.{Option, Some, None, ap, inl, inr, pos, subst, sym, true, nat_eq, arith}
 use Rattle.std.specs.Cmp.Lexicographic.{bytes_decides, pointwise}
 use Rattle.std.specs.Str.Parse.{digits_value}
 use Rattle.syslog_lines.specs.Arguments.{AreYearWords, IsYear, end_word}
 
 -- one word, and whether it is this one
-pub word_alone : (args : List (Bor (List ℕ))) (d : Bor (List ℕ)) (wanted : List ℕ) → length args ≡ 1 → (pointwise nat_eq (get_or args 0 d).now wanted ≡ true) ↔ (map (λ arg. arg.now) args ≡ wanted ∷ [])
+pub word_alone : (args : List (Bor (List ℕ))) (d : Bor (List ℕ)) (wanted : List ℕ) → length args ≡ 1
+    → (pointwise nat_eq (get_or args 0 d).now wanted ≡ true) ↔ (map (λ arg. arg.now) args ≡ wanted ∷ [])
 word_alone [] d wanted one = absurd (omega (arith, one))
-word_alone (x ∷ []) d wanted one =
-    (λ same. ap (λ (word : List ℕ). word ∷ []) ((bytes_decides x.now wanted).0 same), λ same. (bytes_decides x.now wanted).1 (ap (λ (words : List (List ℕ)). get_or words 0 []) same))
+word_alone (x ∷ []) d wanted one = (
+  λ same. ap (λ (word : List ℕ). word ∷ []) ((bytes_decides x.now wanted).0 same),
+  λ same. (bytes_decides x.now wanted).1 (ap (λ (words : List (List ℕ)). get_or words 0 []) same),
+)
 word_alone (x ∷ (y ∷ ys)) d wanted one = absurd (omega (arith, one))
 
 -- the second of two words is the only one that may name a year
@@ -16,12 +20,16 @@ second_names : (first second word : List ℕ) → first ∷ (second ∷ []) ≡ 
 second_names first second word same = ap (λ (words : List (List ℕ)). get_or words 1 []) same
 
 -- two words, of which the first is `--`, name the year that the second names
-pub year_behind : (args : List (Bor (List ℕ))) (d e : Bor (List ℕ)) (year : Option ℤ) → length args ≡ 2 → pointwise nat_eq (get_or args 0 d).now end_word ≡ true
-    → MatchOption year (¬ (IsYear (get_or args 1 e).now)) (λ (y : ℤ). IsYear (get_or args 1 e).now × (y ≡ pos (digits_value 10 (get_or args 1 e).now)))
-    → MatchOption year ((y : ℤ) → ¬ (AreYearWords (map (λ (arg : Bor (List ℕ)). arg.now) args) y)) (λ (y : ℤ). AreYearWords (map (λ (arg : Bor (List ℕ)). arg.now) args) y)
+pub year_behind : (args : List (Bor (List ℕ))) (d e : Bor (List ℕ)) (year : Option ℤ) → length args ≡ 2
+    → pointwise nat_eq (get_or args 0 d).now end_word ≡ true
+    → MatchOption year (¬ (IsYear (get_or args 1 e).now))
+    (λ (y : ℤ). IsYear (get_or args 1 e).now × (y ≡ pos (digits_value 10 (get_or args 1 e).now)))
+    → MatchOption year ((y : ℤ) → ¬ (AreYearWords (map (λ (arg : Bor (List ℕ)). arg.now) args) y))
+    (λ (y : ℤ). AreYearWords (map (λ (arg : Bor (List ℕ)). arg.now) args) y)
 year_behind [] d e year two same named = absurd (omega (arith, two))
 year_behind (x ∷ []) d e year two same named = absurd (omega (arith, two))
-year_behind (x ∷ (y ∷ [])) d e (Some year) two same named = (y.now, inr (ap (λ (word : List ℕ). word ∷ (y.now ∷ [])) ((bytes_decides x.now end_word).0 same)), named)
+year_behind (x ∷ (y ∷ [])) d e (Some year) two same named =
+    (y.now, inr (ap (λ (word : List ℕ). word ∷ (y.now ∷ [])) ((bytes_decides x.now end_word).0 same)), named)
 year_behind (x ∷ (y ∷ [])) d e None two same named = λ year words.
     elim words.1 [
       | inl alone ↦ absurd (let more = ap length alone in omega (arith, more))

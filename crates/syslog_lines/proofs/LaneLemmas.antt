@@ -1,7 +1,9 @@
 -- From the mask of one load of thirty-two bytes to the bytes before the first line feed.
-use Rattle.std.proofs.Common.{◌≡◌, ◌≢◌, ℕ, ◌+◌, ◌-◌, ◌%◌, ◌^◌, ◌<◌, ◌≤◌, eqb, cond, Bool, true, false, not, List, map, length, get_or, sym, ap, ◌∙◌, subst, arith, inl, inr}
+use Rattle.std.proofs.Common.{◌≡◌, ◌≢◌, ℕ, ◌+◌, ◌-◌, ◌%◌, ◌^◌, ◌<◌, ◌≤◌, eqb, cond, Bool, true, false}
+use Rattle.std.proofs.Common.{not, List, map, length, get_or, sym, ap, ◌∙◌, subst, arith, inl, inr}
 use Rattle.std.proofs.lemmas.Bool.{not-true, not-false, cases_eq, eq-eqb, ne_eqb, cond-true, cond-false}
-use Rattle.std.proofs.lemmas.Simd.{map-map, mask_l-mod, length-chunk, get_or-chunk, leading_from_mask_l, trailing_mask_l}
+use Rattle.std.proofs.lemmas.Simd.{map-map, mask_l-mod, length-chunk, get_or-chunk}
+use Rattle.std.proofs.lemmas.Simd.{leading_from_mask_l, trailing_mask_l}
 use Rattle.std.proofs.lemmas.List.{length-map}
 use Rattle.std.proofs.lemmas.List.Sums.{prefix_len-le-length, prefix_len_passes, prefix_len_stops}
 use Rattle.std.specs.List.{prefix_len}
@@ -26,29 +28,35 @@ run_is v long =
 stops_at_feed : (byte : ℕ) → stops byte ≡ true → byte ≡ 10
 stops_at_feed byte stop = elim (cases_eq byte 10) [
   | inl feed ↦ feed
-  | inr other ↦ absurd (let none : stops byte ≡ false = ap (λ (b : Bool). top 7 (cond b 255 0)) (ne_eqb byte 10 other) in cc)
+  | inr other ↦
+      absurd (let none : stops byte ≡ false = ap (λ (b : Bool). top 7 (cond b 255 0)) (ne_eqb byte 10 other) in cc)
 ]
 
 goes_past_others : (byte : ℕ) → stops byte ≡ false → byte ≢ 10
 goes_past_others byte pass feed = let some : stops byte ≡ true = ap stops feed in cc
 
 module _ (bytes : List ℕ) (at run : ℕ) (lanes : List ℕ) (room : at + 32 ≤ length bytes)
-    (found : run ≡ first_set (mask_l (map (top 7) lanes) % 2 ^ 64)) (compares : lanes ≡ map compared (chunk at 32 bytes)) where
+    (found : run ≡ first_set (mask_l (map (top 7) lanes) % 2 ^ 64))
+    (compares : lanes ≡ map compared (chunk at 32 bytes)) where
   long : length (chunk at 32 bytes) ≡ 32
   long = length-chunk at 32 bytes room
 
   counted : run ≡ prefix_len (λ byte. not (stops byte)) (chunk at 32 bytes)
   counted =
       let v = chunk at 32 bytes in
-      let mask = ap (λ l. mask_l l % 2 ^ 64) (ap (map (top 7)) compares ∙ map-map (top 7) compared v) ∙ mask_l-mod (map stops v) 64 (omega (arith, length-map v stops, long)) in
+      let mask = ap (λ l. mask_l l % 2 ^ 64) (ap (map (top 7)) compares ∙ map-map (top 7) compared v)
+      ∙ mask_l-mod (map stops v) 64 (omega (arith, length-map v stops, long)) in
       found ∙ ap first_set mask ∙ run_is v long
 
   goes_on : (k : ℕ) → at ≤ k → k < at + run → stops (get_or bytes k 0) ≡ false
   goes_on k from to =
       let back : at + (k - at) ≡ k = omega arith in
       let bound = prefix_len-le-length (λ byte. not (stops byte)) (chunk at 32 bytes) in
-      let place = get_or-chunk at 32 bytes (k - at) 0 (omega (arith, counted, long)) ∙ ap (λ j. get_or bytes j 0) back in
-      subst (λ byte. stops byte ≡ false) place (not-true _ (prefix_len_passes (λ byte. not (stops byte)) (chunk at 32 bytes) (k - at) 0 (omega (arith, counted))))
+      let place = get_or-chunk at 32 bytes (k - at) 0 (omega (arith, counted, long))
+      ∙ ap (λ j. get_or bytes j 0) back in
+      subst (λ byte. stops byte ≡ false) place
+      (not-true _ (prefix_len_passes (λ byte. not (stops byte)) (chunk at 32 bytes) (k - at) 0
+      (omega (arith, counted))))
 
   -- the place of the lowest bit is how many bytes stand before the first line feed
   pub run_from_mask : IsRun bytes at run
@@ -57,6 +65,8 @@ module _ (bytes : List ℕ) (at run : ℕ) (lanes : List ℕ) (room : at + 32 �
     before = λ k from to. goes_past_others _ (goes_on k from to);
     stops = λ short.
         let place = ap (λ j. get_or (chunk at 32 bytes) j 0) (sym counted) ∙ get_or-chunk at 32 bytes run 0 short in
-        let set = subst (λ byte. stops byte ≡ true) place (not-false _ (prefix_len_stops (λ byte. not (stops byte)) (chunk at 32 bytes) 0 (omega (arith, counted, long)))) in
+        let set = subst (λ byte. stops byte ≡ true) place
+        (not-false _ (prefix_len_stops (λ byte. not (stops byte)) (chunk at 32 bytes) 0
+        (omega (arith, counted, long)))) in
         stops_at_feed _ set;
   }

@@ -16,8 +16,10 @@ cut_bytes block = drop block.complete (take block.end block.bytes.items)
 
 -- a piece was read after the line that was cut, or there was nothing left to read
 abbrev pub Fills : Option (List ℕ) → Option (List ℕ) → Block → Block → Bool → Type 0
-Fills in_before in_after old new true = (piece : List ℕ) × Consumes in_before in_after piece × (cut_bytes old ++ piece ≡ complete_bytes new ++ cut_bytes new)
-Fills in_before in_after old new false = Consumes in_before in_after [] × IsAtEnd in_after × (cut_bytes new ≡ cut_bytes old)
+Fills in_before in_after old new true = (piece : List ℕ) × Consumes in_before in_after piece
+    × (cut_bytes old ++ piece ≡ complete_bytes new ++ cut_bytes new)
+Fills in_before in_after old new false = Consumes in_before in_after [] × IsAtEnd in_after
+    × (cut_bytes new ≡ cut_bytes old)
 
 -- reading stopped by a failed read, or for want of memory where the line that was cut takes a whole block
 abbrev pub StopsReading : List ℕ → RunFault → Bool → Type 0

@@ -40,7 +40,8 @@ output_of answers = flat_map answer_bytes answers
 
 -- the tally counts this many lines as answered, and this many as passed over
 abbrev pub HasCounted : Tally → ℕ → ℕ → Type 0
-HasCounted tally answered passed_over = (tally.answered ≡ held_count answered) × (tally.passed_over ≡ held_count passed_over)
+HasCounted tally answered passed_over = (tally.answered ≡ held_count answered)
+    × (tally.passed_over ≡ held_count passed_over)
 
 -- the tally grew by the answers
 abbrev pub Counts : Tally → Tally → List Answer → Type 0
@@ -49,7 +50,8 @@ Counts was is answers = (answered passed_over : ℕ) → HasCounted was answered
 
 -- the answer to a line was added, and this tells whether it counts as answered
 abbrev pub AddsAnswer : Filter → List ℕ → List ℕ → List ℕ → Bool → Type 0
-AddsAnswer filter line old new answered = (answer : Answer) × filter.Answers line answer × (new ≡ old ++ answer_bytes answer) × (answered ≡ is_answered answer)
+AddsAnswer filter line old new answered = (answer : Answer) × filter.Answers line answer
+    × (new ≡ old ++ answer_bytes answer) × (answered ≡ is_answered answer)
 
 -- one line was answered, its output added, and the line counted
 pub record AnswersLine (filter : Filter) (line old new : List ℕ) (was is : Tally) : Type 0 where

@@ -1,5 +1,6 @@
 -- What a filter reads and writes, and how it ends: this project's own choice.
-use Rattle.std.specs.Prelude.{◌≡◌, ◌≤◌, ℕ, Bool, true, false, List, [], ◌++◌, ◌⊎◌, Option, Result, Ok, Err, length, count_by, All}
+use Rattle.std.specs.Prelude.{◌≡◌, ◌≤◌, ℕ, Bool, true, false, List, [], ◌++◌, ◌⊎◌}
+use Rattle.std.specs.Prelude.{Option, Result, Ok, Err, length, count_by, All}
 use Rattle.std.specs.Io.KnownBytes.{Appends, Consumes, IsAtEnd}
 use Rattle.syslog_lines.specs.Lines.{IsLines, NoFeed, with_feeds}
 use Rattle.syslog_lines.specs.Output.{Answer, AreAnswers, Filter, HasCounted, is_answered, is_passed_over, output_of}
@@ -30,7 +31,8 @@ abbrev pub CanAnswer : Option (List ℕ) → Option (List ℕ) → List (List �
 CanAnswer in_before in_after lines = ReadLines in_before in_after lines ⊎ ReadAll in_before in_after lines
 
 -- all was read, these are the answers to its lines, and their output was written
-pub record FiltersAll (filter : Filter) (in_before in_after out_before out_after : Option (List ℕ)) (answers : List Answer) : Type 0 where
+pub record FiltersAll (filter : Filter) (in_before in_after out_before out_after : Option (List ℕ))
+    (answers : List Answer) : Type 0 where
   pub lines : List (List ℕ)
   pub all : ReadAll in_before in_after lines
   pub answered : AreAnswers filter lines answers
@@ -38,24 +40,32 @@ pub record FiltersAll (filter : Filter) (in_before in_after out_before out_after
 
 -- the same, and the tally counts the answers
 abbrev pub PumpsAll : Filter → Option (List ℕ) → Option (List ℕ) → Option (List ℕ) → Option (List ℕ) → Tally → Type 0
-PumpsAll filter in_before in_after out_before out_after tally = (answers : List Answer) × FiltersAll filter in_before in_after out_before out_after answers × HasCounted tally (count_by is_answered answers) (count_by is_passed_over answers)
+PumpsAll filter in_before in_after out_before out_after tally = (answers : List Answer)
+    × FiltersAll filter in_before in_after out_before out_after answers
+    × HasCounted tally (count_by is_answered answers) (count_by is_passed_over answers)
 
 -- the output of all complete lines of what was read was written
 abbrev pub LosesNothing : Filter → Option (List ℕ) → Option (List ℕ) → Option (List ℕ) → Option (List ℕ) → Type 0
-LosesNothing filter in_before in_after out_before out_after = (lines : List (List ℕ)) × ReadLines in_before in_after lines × Wrote filter lines out_before out_after
+LosesNothing filter in_before in_after out_before out_after = (lines : List (List ℕ))
+    × ReadLines in_before in_after lines × Wrote filter lines out_before out_after
 
 -- the same, and room was wanted for the next block: nothing was read yet, or the line that was cut takes a whole block
 abbrev pub WantsRoom : Filter → Option (List ℕ) → Option (List ℕ) → Option (List ℕ) → Option (List ℕ) → Type 0
 WantsRoom filter in_before in_after out_before out_after =
-    (lines : List (List ℕ)) × (seen : ReadLines in_before in_after lines) × ((seen.read ≡ []) ⊎ (block_size ≤ length seen.cut)) × Wrote filter lines out_before out_after
+    (lines : List (List ℕ)) × (seen : ReadLines in_before in_after lines)
+    × ((seen.read ≡ []) ⊎ (block_size ≤ length seen.cut)) × Wrote filter lines out_before out_after
 
 -- What was read and written where a filter ends early. A failed read, and want of memory for the next block, lose no
 -- complete line; want of memory for a line loses none before it; after a failed write the last line may be cut.
-abbrev pub EndsEarly : Filter → Option (List ℕ) → Option (List ℕ) → Option (List ℕ) → Option (List ℕ) → RunFault → Type 0
-EndsEarly filter in_before in_after out_before out_after Read = LosesNothing filter in_before in_after out_before out_after
-EndsEarly filter in_before in_after out_before out_after Write = (lines : List (List ℕ)) × CanAnswer in_before in_after lines × WroteCut filter lines out_before out_after
+abbrev pub EndsEarly : Filter → Option (List ℕ) → Option (List ℕ) → Option (List ℕ) → Option (List ℕ) → RunFault
+    → Type 0
+EndsEarly filter in_before in_after out_before out_after Read =
+    LosesNothing filter in_before in_after out_before out_after
+EndsEarly filter in_before in_after out_before out_after Write = (lines : List (List ℕ))
+    × CanAnswer in_before in_after lines × WroteCut filter lines out_before out_after
 EndsEarly filter in_before in_after out_before out_after Memory =
-    WantsRoom filter in_before in_after out_before out_after ⊎ ((lines : List (List ℕ)) × CanAnswer in_before in_after lines × WroteBefore filter lines out_before out_after)
+    WantsRoom filter in_before in_after out_before out_after
+    ⊎ ((lines : List (List ℕ)) × CanAnswer in_before in_after lines × WroteBefore filter lines out_before out_after)
 
 -- which of the reader and the writer failed, by how the filter ended
 abbrev pub FailedAs : {X : Type 0} → Result X RunFault → Bool → Bool → Type 0

@@ -34,10 +34,13 @@ pub record WroteCut (filter : Filter) (lines : List (List ℕ)) (out_before out_
 
 -- the output of all lines of the bytes was written, and the lines counted
 abbrev pub WritesAll : Filter → List ℕ → Option (List ℕ) → Option (List ℕ) → Tally → Tally → Type 0
-WritesAll filter bytes out_before out_after was is = (output : List ℕ) × AnswersAll filter bytes [] output was is × Appends out_before out_after output
+WritesAll filter bytes out_before out_after was is = (output : List ℕ) × AnswersAll filter bytes [] output was is
+    × Appends out_before out_after output
 
 -- by the fault: what was written of the output of the bytes' lines, and whether the writer failed
 abbrev pub WritesFirst : Filter → List ℕ → Option (List ℕ) → Option (List ℕ) → Bool → RunFault → Type 0
 WritesFirst filter bytes out_before out_after failed Read = ⊥
-WritesFirst filter bytes out_before out_after failed Write = (failed ≡ true) × ((lines : List (List ℕ)) × IsLines bytes lines × WroteCut filter lines out_before out_after)
-WritesFirst filter bytes out_before out_after failed Memory = (failed ≡ false) × ((lines : List (List ℕ)) × IsLines bytes lines × WroteBefore filter lines out_before out_after)
+WritesFirst filter bytes out_before out_after failed Write = (failed ≡ true)
+    × ((lines : List (List ℕ)) × IsLines bytes lines × WroteCut filter lines out_before out_after)
+WritesFirst filter bytes out_before out_after failed Memory = (failed ≡ false)
+    × ((lines : List (List ℕ)) × IsLines bytes lines × WroteBefore filter lines out_before out_after)

@@ -7,9 +7,9 @@ use crate::lines::{first_line, first_text_line};
 use crate::summary::Tally;
 use std::alloc::{AllocError, Global};
 
-/// Adds the output of all lines to `output`, and counts them. Where memory is refused, that of the lines before is added,
-/// and the line that it was refused for is one for which it may be wanted. `text` is the filter's, for its texts in
-/// between.
+/// Adds the output of all lines to `output`, and counts them. Where memory is refused, that of the lines before is
+/// added, and the line that it was refused for is one for which it may be wanted. `text` is the filter's, for its texts
+/// in between.
 pub fn answer_lines<F: LineFilter>(
     alloc: Global,
     filter: &F,
@@ -18,7 +18,8 @@ pub fn answer_lines<F: LineFilter>(
     output: &mut Vec<u8>,
     tally: &mut Tally,
 ) -> Result<(), AllocError>
-    ensures ok { OnOk result (AnswersAll (F.answers filter.now) lines.now output.old.items output.new.items tally.old tally.new) }
+    ensures ok { OnOk result
+        (AnswersAll (F.answers filter.now) lines.now output.old.items output.new.items tally.old tally.new) }
     ensures err { OnErr result (AnswersBefore (F.answers filter.now) lines.now output.old.items output.new.items) }
 {
     match str::from_utf8(lines) {
@@ -36,7 +37,8 @@ fn answer_text_lines<F: LineFilter>(
     output: &mut Vec<u8>,
     tally: &mut Tally,
 ) -> Result<(), AllocError>
-    ensures ok { OnOk result (AnswersAll (F.answers filter.now) lines.now output.old.items output.new.items tally.old tally.new) }
+    ensures ok { OnOk result
+        (AnswersAll (F.answers filter.now) lines.now output.old.items output.new.items tally.old tally.new) }
     ensures err { OnErr result (AnswersBefore (F.answers filter.now) lines.now output.old.items output.new.items) }
 {
     let mut rest = lines;
@@ -57,7 +59,8 @@ fn answer_byte_lines<F: LineFilter>(
     output: &mut Vec<u8>,
     tally: &mut Tally,
 ) -> Result<(), AllocError>
-    ensures ok { OnOk result (AnswersAll (F.answers filter.now) lines.now output.old.items output.new.items tally.old tally.new) }
+    ensures ok { OnOk result
+        (AnswersAll (F.answers filter.now) lines.now output.old.items output.new.items tally.old tally.new) }
     ensures err { OnErr result (AnswersBefore (F.answers filter.now) lines.now output.old.items output.new.items) }
 {
     let mut rest = lines;
@@ -69,7 +72,8 @@ fn answer_byte_lines<F: LineFilter>(
     Ok(())
 }
 
-// Adds the output of one line, and counts it. Where memory is refused nothing is added, and it may be wanted for the line.
+// Adds the output of one line, and counts it. Where memory is refused nothing is added, and it may be wanted for the
+// line.
 fn answer_bytes<F: LineFilter>(
     alloc: Global,
     filter: &F,
@@ -78,7 +82,8 @@ fn answer_bytes<F: LineFilter>(
     output: &mut Vec<u8>,
     tally: &mut Tally,
 ) -> Result<(), AllocError>
-    ensures ok { OnOk result (AnswersLine (F.answers filter.now) line.now output.old.items output.new.items tally.old tally.new) }
+    ensures ok { OnOk result
+        (AnswersLine (F.answers filter.now) line.now output.old.items output.new.items tally.old tally.new) }
     ensures err { OnErr result (output.new.items ≡ output.old.items) }
     ensures refusal { OnErr result ((F.answers filter.now).Wants line.now) }
 {
@@ -101,7 +106,8 @@ fn answer_text<F: LineFilter>(
     output: &mut Vec<u8>,
     tally: &mut Tally,
 ) -> Result<(), AllocError>
-    ensures ok { OnOk result (AnswersLine (F.answers filter.now) line.now output.old.items output.new.items tally.old tally.new) }
+    ensures ok { OnOk result
+        (AnswersLine (F.answers filter.now) line.now output.old.items output.new.items tally.old tally.new) }
     ensures err { OnErr result (output.new.items ≡ output.old.items) }
     ensures refusal { OnErr result ((F.answers filter.now).Wants line.now) }
 {

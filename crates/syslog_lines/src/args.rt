@@ -5,7 +5,8 @@ ghost use Rattle.syslog_lines.specs.Arguments.{AreYearWords, IsYear};
 
 /// The year that a text of 1 to 4 ASCII digits names; none where the text is no such text.
 pub fn read_year(text: &str) -> Option<i32>
-    ensures { MatchOption result (¬ (IsYear text.now)) (λ year. IsYear text.now × (year ≡ pos (digits_value 10 text.now))) }
+    ensures { MatchOption result (¬ (IsYear text.now))
+        (λ year. IsYear text.now × (year ≡ pos (digits_value 10 text.now))) }
 {
     if !is_year(text) {
         return None;

@@ -1,5 +1,6 @@
 //! The input, a block at a time.
-ghost use Rattle.std.specs.Prelude.{◌≡◌, ◌≢◌, ◌+◌, ◌-◌, ◌++◌, ◌<◌, ◌≤◌, ℕ, [], length, take, drop, slice_index, vec_len, false, true, IfOk, IfErr, OnOk, OnErr};
+ghost use Rattle.std.specs.Prelude.{◌≡◌, ◌≢◌, ◌+◌, ◌-◌, ◌++◌, ◌<◌, ◌≤◌, ℕ, [], length, take, drop};
+ghost use Rattle.std.specs.Prelude.{slice_index, vec_len, false, true, IfOk, IfErr, OnOk, OnErr};
 ghost use Rattle.std.specs.Io.KnownBytes.{Consumes, IsAtEnd, Keeps};
 ghost use Rattle.syslog_lines.specs.Size.{block_size};
 
@@ -64,7 +65,8 @@ impl Block {
     /// and memory for twice its size is refused. Neither takes anything from the reader.
     pub fn fill<R: Read>(&mut self, reader: &mut Watched<R>) -> Result<bool, RunFault>
         requires { reader.old.failed ≡ false }
-        ensures ok { IfOk result (λ more. Fills (R.remaining reader.old.inner) (R.remaining reader.new.inner) self.old self.new more) }
+        ensures ok { IfOk result (λ more. Fills (R.remaining reader.old.inner)
+            (R.remaining reader.new.inner) self.old self.new more) }
         ensures err { IfErr result (λ fault. StopsReading (cut_bytes self.old) fault reader.new.failed) }
         ensures well { OnOk result (reader.new.failed ≡ false) }
         ensures unchanged { OnErr result (Keeps (R.remaining reader.old.inner) (R.remaining reader.new.inner)) }

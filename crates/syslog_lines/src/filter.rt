@@ -9,11 +9,11 @@ pub trait LineFilter {
     // the answer to a line, and the lines for which memory may be wanted
     ghost answers: { Self → Filter };
 
-    /// Adds the answer to a line that is UTF-8, and a line feed, to `output`, or nothing where nothing is written for it, and
-    /// tells whether the line counts as answered.
+    /// Adds the answer to a line that is UTF-8, and a line feed, to `output`, or nothing where nothing is written for
+    /// it, and tells whether the line counts as answered.
     ///
-    /// Where memory is refused nothing is added, and the line is one for which it may be wanted. `text` is for a text in
-    /// between: what it holds doesn't count, and its memory is used again for the next line.
+    /// Where memory is refused nothing is added, and the line is one for which it may be wanted. `text` is for a text
+    /// in between: what it holds doesn't count, and its memory is used again for the next line.
     fn answer(
         &self,
         alloc: Global,
@@ -21,7 +21,8 @@ pub trait LineFilter {
         text: &mut String,
         output: &mut Vec<u8>,
     ) -> Result<bool, AllocError>
-        ensures ok { IfOk result (λ is_answered. AddsAnswer (answers self.now) line.now output.old.items output.new.items is_answered) }
+        ensures ok { IfOk result (λ is_answered. AddsAnswer
+            (answers self.now) line.now output.old.items output.new.items is_answered) }
         ensures err { OnErr result (output.new.items ≡ output.old.items) }
         ensures refusal { OnErr result ((answers self.now).Wants line.now) };
 
@@ -33,7 +34,8 @@ pub trait LineFilter {
         output: &mut Vec<u8>,
     ) -> Result<bool, AllocError>
         requires { ¬ (IsUtf8 line.now) }
-        ensures ok { IfOk result (λ is_answered. AddsAnswer (answers self.now) line.now output.old.items output.new.items is_answered) }
+        ensures ok { IfOk result (λ is_answered. AddsAnswer
+            (answers self.now) line.now output.old.items output.new.items is_answered) }
         ensures err { OnErr result (output.new.items ≡ output.old.items) }
         ensures refusal { OnErr result ((answers self.now).Wants line.now) };
 }

@@ -1,11 +1,12 @@
 //! Filters of lines: from a reader to a writer, an answer to each line of the input.
 //!
-//! `pump` reads the input a block at a time, hands each line to a `LineFilter`, and writes the answers of a block before it
-//! reads the next. `docs/PROMISES.md` says what was read and written where it ends early. The programs stand on it.
+//! `pump` reads the input a block at a time, hands each line to a `LineFilter`, and writes the answers of a block
+//! before it reads the next. `docs/PROMISES.md` says what was read and written where it ends early. The programs stand
+//! on it.
 //!
-//! Where `reader` holds the lines `a` and `b`, and `filter` answers each with its text, `pump(alloc, &filter, &mut reader,
-//! &mut writer)` writes `a` and `b`, each with a line feed, and answers a `Tally` with `answered` 2 and `passed_over` 0.
-//! `read_year("2019")` is `Some(2019)`.
+//! Where `reader` holds the lines `a` and `b`, and `filter` answers each with its text, `pump(alloc, &filter, &mut
+//! reader, &mut writer)` writes `a` and `b`, each with a line feed, and answers a `Tally` with `answered` 2 and
+//! `passed_over` 0. `read_year("2019")` is `Some(2019)`.
 #![tactic(auto)]
 
 mod answer;
@@ -13,10 +14,10 @@ mod args;
 mod block;
 pub mod filter;
 mod lines;
+pub mod pump;
 pub mod report;
 mod search;
 pub mod summary;
-pub mod pump;
 mod watched;
 
 pub use args::{is_alone, read_year, read_year_words};

@@ -25,9 +25,11 @@ pub fn pump<F: LineFilter, R: Read, W: Write>(
 ) -> Result<Tally, RunFault>
     requires reader { reader.old.failed ≡ false }
     requires writer { writer.old.failed ≡ false }
-    ensures ok { IfOk result (λ tally. PumpsAll (F.answers filter.now) (R.remaining reader.old.inner) (R.remaining reader.new.inner)
+    ensures ok { IfOk result (λ tally. PumpsAll (F.answers filter.now) (R.remaining reader.old.inner)
+        (R.remaining reader.new.inner)
         (W.contents writer.old.inner) (W.contents writer.new.inner) tally) }
-    ensures err { IfErr result (λ fault. EndsEarly (F.answers filter.now) (R.remaining reader.old.inner) (R.remaining reader.new.inner)
+    ensures err { IfErr result (λ fault. EndsEarly (F.answers filter.now) (R.remaining reader.old.inner)
+        (R.remaining reader.new.inner)
         (W.contents writer.old.inner) (W.contents writer.new.inner) fault) }
     ensures failed { FailedAs result reader.new.failed writer.new.failed }
 {
@@ -75,9 +77,11 @@ fn write_answers<F: LineFilter, W: Write>(
     tally: &mut Tally,
 ) -> Result<(), RunFault>
     requires { writer.old.failed ≡ false }
-    ensures ok { OnOk result (WritesAll (F.answers filter.now) lines.now (W.contents writer.old.inner) (W.contents writer.new.inner) tally.old tally.new) }
+    ensures ok { OnOk result (WritesAll (F.answers filter.now) lines.now (W.contents writer.old.inner)
+        (W.contents writer.new.inner) tally.old tally.new) }
     ensures well { OnOk result (writer.new.failed ≡ false) }
-    ensures err { IfErr result (WritesFirst (F.answers filter.now) lines.now (W.contents writer.old.inner) (W.contents writer.new.inner) writer.new.failed) }
+    ensures err { IfErr result (WritesFirst (F.answers filter.now) lines.now (W.contents writer.old.inner)
+        (W.contents writer.new.inner) writer.new.failed) }
 {
     output.clear();
     let answered = answer_lines(alloc, filter, lines, text, output, tally);
@@ -92,7 +96,8 @@ fn write_whole<W: Write>(writer: &mut Watched<W>, bytes: &[u8]) -> Result<(), Ru
     ensures ok { OnOk result (Appends (W.contents writer.old.inner) (W.contents writer.new.inner) bytes.now) }
     ensures well { OnOk result (writer.new.failed ≡ false) }
     ensures fault { IfErr result (λ fault. (fault ≡ Write) × (writer.new.failed ≡ true)) }
-    ensures err { OnErr result ((size : ℕ) × Appends (W.contents writer.old.inner) (W.contents writer.new.inner) (take size bytes.now)) }
+    ensures err { OnErr result ((size : ℕ)
+        × Appends (W.contents writer.old.inner) (W.contents writer.new.inner) (take size bytes.now)) }
 {
     let mut rest = bytes;
     while !rest.is_empty() {

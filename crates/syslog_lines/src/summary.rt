@@ -28,7 +28,8 @@ impl Tally {
     #[inline]
     pub fn count(&mut self, is_answered: bool)
         ensures answered { self.new.answered ≡ held_count (self.old.answered + (if is_answered then 1 else 0)) }
-        ensures passed_over { self.new.passed_over ≡ held_count (self.old.passed_over + (if is_answered then 0 else 1)) }
+        ensures passed_over { self.new.passed_over
+            ≡ held_count (self.old.passed_over + (if is_answered then 0 else 1)) }
     {
         self.answered = self.answered.saturating_add(u64::from(is_answered));
         self.passed_over = self.passed_over.saturating_add(u64::from(!is_answered));

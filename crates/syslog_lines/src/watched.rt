@@ -42,7 +42,8 @@ impl<R: Read> Read for Watched<R> {
         ensures ok { OnOk result (self.new.failed ≡ self.old.failed) }
         ensures err { OnErr result (self.new.failed ≡ true) }
         ensures counted { self.old.calls < u64.MAX → self.new.calls ≡ self.old.calls + 1 }
-        ensures spent { self.old.calls ≡ u64.MAX → IsErr result × (self.new.inner ≡ self.old.inner) × (self.new.calls ≡ self.old.calls) }
+        ensures spent { self.old.calls ≡ u64.MAX → IsErr result × (self.new.inner ≡ self.old.inner)
+            × (self.new.calls ≡ self.old.calls) }
         ensures within { OnOk result (self.old.calls < u64.MAX) }
     {
         if self.calls == u64::MAX {

@@ -1,18 +1,21 @@
 -- What each text that has a reading begins with.
-use Rattle.std.proofs.Common.{◌≡◌, inl, inr, ℕ, Bool, true, false, nat_eq, ◌||◌, ◌<◌, ◌≤◌, List, [], ◌∷◌, ◌++◌, length, get_or, Option, Some, None, refl, sym, ap, subst, ◌∙◌, arith}
+use Rattle.std.proofs.Common.{◌≡◌, inl, inr, ℕ, Bool, true, false, nat_eq, ◌||◌, ◌<◌, ◌≤◌, List, [], ◌∷◌}
+use Rattle.std.proofs.Common.{◌++◌, length, get_or, Option, Some, None, refl, sym, ap, subst, ◌∙◌, arith}
 use Rattle.std.proofs.lemmas.Bool.{cases_Bool}
 use Rattle.std.proofs.lemmas.Bool.Decides.{nat_tests}
 use Rattle.std.proofs.lemmas.Str.{chars-nil}
 use Rattle.std.specs.Str.{chars}
 use Rattle.std.specs.Char.{is_ascii_digit, to_ascii_lowercase, IsAsciiDigit}
-use Rattle.syslog_pieces.specs.Pieces.Class.{Text, Class, Values, Division, Front, Row, Each, run, some_run, exactly, optional, rest}
+use Rattle.syslog_pieces.specs.Pieces.Class.{Text, Class, Values, Division, Front, Row}
+use Rattle.syslog_pieces.specs.Pieces.Class.{Each, run, some_run, exactly, optional, rest}
 use Rattle.syslog_pieces.specs.Bodies.MonthReading.{small_month}
 use Rattle.syslog_pieces.specs.Pri.{priority}
 use Rattle.syslog_pieces.specs.ProcId.{process_word}
 use Rattle.syslog_pieces.specs.Text.{trimmed, is_blank, number, host, word}
 use Rattle.syslog_pieces.specs.Timestamp.{header_stamp}
 use Rattle.syslog_pieces.specs.Timestamp.Rfc3164.{rfc3164_stamp, showing_row, ShowsYearless}
-use Rattle.syslog_pieces.specs.Timestamp.MonthDate.{month, month_date, yearless_date, short_number, yearless_row, dated_row, clock_row}
+use Rattle.syslog_pieces.specs.Timestamp.MonthDate.{month, month_date, yearless_date, short_number}
+use Rattle.syslog_pieces.specs.Timestamp.MonthDate.{yearless_row, dated_row, clock_row}
 use Rattle.syslog_pieces.specs.Timestamp.Zone.{Dating}
 use Rattle.syslog_pieces.specs.declared.structured_data.rfc3164_list.DashRule.{DashRule}
 use Rattle.syslog_pieces.specs.declared.timestamp.OffsetTimestamp.{OffsetTimestamp}
@@ -78,15 +81,18 @@ initial_of a b c n m = elim (cases_Bool (is_initial a)) [
 month_first : (t q : Text) (n : ℕ) → Front month t q n → Begins IsFirst t
 month_first t q n f =
     let (a, b, c, w, m) = month_letters f.piece n f.is in
-    begins_with IsFirst a t (b ∷ c ∷ q) (f.whole ∙ ap (λ (x : Text). x ++ q) w) (initial_first a (initial_of (to_ascii_lowercase a) (to_ascii_lowercase b) (to_ascii_lowercase c) n m))
+    begins_with IsFirst a t (b ∷ c ∷ q) (f.whole ∙ ap (λ (x : Text). x ++ q) w)
+    (initial_first a (initial_of (to_ascii_lowercase a) (to_ascii_lowercase b) (to_ascii_lowercase c) n m))
 
 date_first : (p q : Text) (d : MonthDate) → month_date.Is p q d → Begins IsFirst (p ++ q)
 date_first p q d (inl (vs, h, i)) =
     let f : Front (Row yearless_row) (p ++ q) q vs = record { piece = p; whole = refl; is = h } in
-    let f1 = row_head month (some_run is_blank ∷ short_number ∷ some_run is_blank ∷ clock_row) f in month_first (p ++ q) f1.0 vs.0 f1.1
+    let f1 = row_head month (some_run is_blank ∷ short_number ∷ some_run is_blank ∷ clock_row) f in
+    month_first (p ++ q) f1.0 vs.0 f1.1
 date_first p q d (inr (vs, h, i)) =
     let f : Front (Row dated_row) (p ++ q) q vs = record { piece = p; whole = refl; is = h } in
-    let f1 = row_head month (some_run is_blank ∷ short_number ∷ some_run is_blank ∷ number 2147483647 ∷ some_run is_blank ∷ clock_row) f in month_first (p ++ q) f1.0 vs.0 f1.1
+    let f1 = row_head month (some_run is_blank ∷ short_number ∷ some_run is_blank ∷ number 2147483647
+    ∷ some_run is_blank ∷ clock_row) f in month_first (p ++ q) f1.0 vs.0 f1.1
 
 in_range : (c : ℕ) → IsAsciiDigit c → is_ascii_digit c ≡ true
 in_range c h = grind (arith, nat_tests, h)
@@ -94,16 +100,19 @@ in_range c h = grind (arith, nat_tests, h)
 stamp_first : (p q : Text) (v : Option OffsetTimestamp) → header_stamp.Is p q v → Begins IsFirst (p ++ q)
 stamp_first p q None h = begins_with IsFirst 45 (p ++ q) q (ap (λ (x : Text). x ++ q) h) refl
 stamp_first p q (Some s) (h, z) =
-    let (c, more, f, digit) = stamp_text-first p s h in begins_more IsFirst p q (begins_with IsFirst c p more f (digit_first c (in_range c digit)))
+    let (c, more, f, digit) = stamp_text-first p s h in
+    begins_more IsFirst p q (begins_with IsFirst c p more f (digit_first c (in_range c digit)))
 
-rfc3164_first : (dating : Dating) (p q : Text) (v : Option OffsetTimestamp) → (rfc3164_stamp dating).Is p q v → Begins IsFirst (p ++ q)
+rfc3164_first : (dating : Dating) (p q : Text) (v : Option OffsetTimestamp) → (rfc3164_stamp dating).Is p q v
+    → Begins IsFirst (p ++ q)
 rfc3164_first dating p q v (inl h) = stamp_first p q v h
 rfc3164_first dating p q None (inr h) = absurd h
 rfc3164_first dating p q (Some s) (inr (d, h, stamp)) = date_first p q d h
 
 priority_first : {t q : Text} {n : ℕ} → Front priority t q n → Begins IsFirst t
 priority_first {t = t} f =
-    let g = row_head (exactly (60 ∷ [])) (number 255 ∷ exactly (62 ∷ []) ∷ []) (record { piece = f.piece; whole = f.whole; is = f.is }) in
+    let g = row_head (exactly (60 ∷ [])) (number 255 ∷ exactly (62 ∷ []) ∷ [])
+    (record { piece = f.piece; whole = f.whole; is = f.is }) in
     begins_with IsFirst 60 t g.0 (g.1.whole ∙ ap (λ (x : Text). x ++ g.0) g.1.is) refl
 
 behind_priority : {t q : Text} (p : Option ℕ) → Front (optional priority) t q p → Begins IsFirst q → Begins IsFirst t
@@ -129,7 +138,8 @@ begins_both (c ∷ cs) n b = cc
 -- what follows the version
 abbrev behind_version : List Class
 behind_version =
-    some_run is_blank ∷ header_stamp ∷ some_run is_blank ∷ host ∷ some_run is_blank ∷ word ∷ some_run is_blank ∷ process_word ∷ some_run is_blank ∷ word ∷ data_row
+    some_run is_blank ∷ header_stamp ∷ some_run is_blank ∷ host ∷ some_run is_blank ∷ word ∷ some_run is_blank
+    ∷ process_word ∷ some_run is_blank ∷ word ∷ data_row
 
 strict_first : (t : Text) (vs : Values rfc5424_row) → Division rfc5424_row t vs → Begins IsFirst t
 strict_first t vs d =
@@ -137,26 +147,33 @@ strict_first t vs d =
     let g2 = row_head (number 4294967295) behind_version g1.2 in
     behind_priority vs.0 g1.1 (number_first 4294967295 g2.1)
 
-rfc3164_row_first : (rule : DashRule) (dating : Dating) (t : Text) (vs : Values (rfc3164_row rule dating)) → Division (rfc3164_row rule dating) t vs → Begins IsFirst t
+rfc3164_row_first : (rule : DashRule) (dating : Dating) (t : Text) (vs : Values (rfc3164_row rule dating))
+    → Division (rfc3164_row rule dating) t vs → Begins IsFirst t
 rfc3164_row_first rule dating t vs d =
-    let g1 = row_head (optional priority) (run is_blank ∷ rfc3164_stamp dating ∷ body_row rule) (division_front (rfc3164_row rule dating) d) in
+    let g1 = row_head (optional priority) (run is_blank ∷ rfc3164_stamp dating ∷ body_row rule)
+    (division_front (rfc3164_row rule dating) d) in
     let g2 = row_head (run is_blank) (rfc3164_stamp dating ∷ body_row rule) g1.2 in
     let g3 = row_head (rfc3164_stamp dating) (body_row rule) g2.2 in
     behind_priority vs.0 g1.1 (behind_blanks g2.1.piece g1.0 g2.0 g2.1.whole g2.1.is.0
     (subst (λ (x : Text). Begins IsFirst x) (sym g3.1.whole) (rfc3164_first dating g3.1.piece g3.0 vs.1.1.0 g3.1.is)))
 
-pub no_reading : (variant : Variant) (dating : Dating) (text : Text) → BeginsNone (trimmed text) → IsUnreadable variant dating text
+pub no_reading : (variant : Variant) (dating : Dating) (text : Text) → BeginsNone (trimmed text)
+    → IsUnreadable variant dating text
 no_reading RFC5424 dating text n m r = begins_both (trimmed text) n (strict_first (trimmed text) r.values r.division)
-no_reading RFC3164 dating text n m r = begins_both (trimmed text) n (rfc3164_row_first dash_rule dating (trimmed text) r.values r.division)
-no_reading Either dating text n m (inl r) = begins_both (trimmed text) n (strict_first (trimmed text) r.values r.division)
-no_reading Either dating text n m (inr (x, r)) = begins_both (trimmed text) n (rfc3164_row_first dash_rule dating (trimmed text) r.values r.division)
+no_reading RFC3164 dating text n m r =
+    begins_both (trimmed text) n (rfc3164_row_first dash_rule dating (trimmed text) r.values r.division)
+no_reading Either dating text n m (inl r) =
+    begins_both (trimmed text) n (strict_first (trimmed text) r.values r.division)
+no_reading Either dating text n m (inr (x, r)) =
+    begins_both (trimmed text) n (rfc3164_row_first dash_rule dating (trimmed text) r.values r.division)
 
 -- ---- what one look at bytes tells
 pub none_in_none : (bs : List ℕ) → length bs < 1 → BeginsNone (chars bs)
 none_in_none [] l = subst (λ (x : Text). BeginsNone x) (sym chars-nil) tt
 none_in_none (b ∷ bs) l = absurd (omega arith)
 
-pub none_by_byte : (bs : List ℕ) (told : Bool) → 1 ≤ length bs → get_or bs 0 0 < 128 → told ≡ is_first (get_or bs 0 0) → told ≡ false → BeginsNone (chars bs)
+pub none_by_byte : (bs : List ℕ) (told : Bool) → 1 ≤ length bs → get_or bs 0 0 < 128 → told ≡ is_first (get_or bs 0 0)
+    → told ≡ false → BeginsNone (chars bs)
 none_by_byte [] told l low e f = absurd (omega arith)
 none_by_byte (b ∷ bs) told l low e f =
     subst (λ (x : Text). BeginsNone x) (sym (ascii_front (b ∷ []) bs (b ∷ bs) (one_ascii b low) refl)) (sym e ∙ f)
@@ -164,13 +181,15 @@ none_by_byte (b ∷ bs) told l low e f =
 -- ---- what shows a date without a year
 date_shown_first : (text : Text) (d : MonthDate) → ShowsYearless text d → Begins IsFirst (trimmed text)
 date_shown_first text d (p, more, h) =
-    let g1 = row_head (optional priority) (run is_blank ∷ yearless_date ∷ rest ∷ []) (division_front (showing_row yearless_date) h) in
+    let g1 = row_head (optional priority) (run is_blank ∷ yearless_date ∷ rest ∷ [])
+    (division_front (showing_row yearless_date) h) in
     let g2 = row_head (run is_blank) (yearless_date ∷ rest ∷ []) g1.2 in
     let g3 = row_head yearless_date (rest ∷ []) g2.2 in
     behind_priority p g1.1 (behind_blanks g2.1.piece g1.0 g2.0 g2.1.whole g2.1.is.0
     (subst (λ (x : Text). Begins IsFirst x) (sym g3.1.whole) (date_first g3.1.piece g3.0 d (inl g3.1.is))))
 
-pub asks_no_year : (variant : Variant) (text : Text) → BeginsNone (trimmed text) → (d : MonthDate) → AsksYear variant text d → ⊥
+pub asks_no_year : (variant : Variant) (text : Text) → BeginsNone (trimmed text) → (d : MonthDate)
+    → AsksYear variant text d → ⊥
 asks_no_year RFC5424 text n d asks = asks
 asks_no_year RFC3164 text n d asks = begins_both (trimmed text) n (date_shown_first text d asks)
 asks_no_year Either text n d asks = begins_both (trimmed text) n (date_shown_first text d asks)

@@ -14,7 +14,8 @@ use Rattle.syslog_loose.proofs.Rfc5424Lemmas.ReadBack.{read_completed}
 strict : (text : Text) (m : MessageValue) → IsRead5424 text m → IsBounded m
 strict text m r = let b = (read_completed dash_rule text m r).1 in record { protocol = b.protocol; procid = b.procid }
 
-pub read_bounded : (variant : Variant) (dating : Dating) (text : Text) (m : MessageValue) → IsRead variant dating text m → IsBounded m
+pub read_bounded : (variant : Variant) (dating : Dating) (text : Text) (m : MessageValue) → IsRead variant dating text m
+    → IsBounded m
 read_bounded RFC5424 dating text m r = strict text m r
 read_bounded RFC3164 dating text m r = rfc3164.read_bounded dash_rule dating text m r
 read_bounded Either dating text m (inl r) = strict text m r

@@ -39,7 +39,8 @@ some_items f (x ∷ xs) h e = let k = ap length e in omega arith
 
 -- a message that begins no list
 pub no_list_told : (rule : DashRule) (t : Text) (b : Bool)
-    → MatchBool b (NoFront (rfc3164_list rule) t → ⊥) (NoFront (rfc3164_list rule) t) → IsTrue (not b) ↔ BeginsNoList rule t
+    → MatchBool b (NoFront (rfc3164_list rule) t → ⊥) (NoFront (rfc3164_list rule) t) → IsTrue (not b)
+    ↔ BeginsNoList rule t
 no_list_told rule t true m =
     ((λ h. absurd (let e : false ≡ true = h in cc)), (λ n. absurd (m ((no_list_is rule t).1 n))))
 no_list_told rule t false m = ((λ h. (no_list_is rule t).0 m), (λ n. refl))

@@ -1,7 +1,10 @@
 -- Which texts are read differently since the rule of the dash changed, and that the condition only grew.
-use Rattle.std.proofs.Common.{◌≡◌, ◌↔◌, ◌⊎◌, inl, inr, ℕ, suc, ℤ, Bool, true, false, MatchBool, IsTrue, List, [], ◌∷◌, ◌++◌, length, Option, Some, None, refl, sym, ap, subst, ◌∙◌, arith, append_assoc, append-nil}
+use Rattle.std.proofs.Common.{◌≡◌, ◌↔◌, ◌⊎◌, inl, inr, ℕ, suc, ℤ, Bool, true, false, MatchBool}
+use Rattle.std.proofs.Common.{IsTrue, List, [], ◌∷◌, ◌++◌, length, Option, Some, None, refl}
+use Rattle.std.proofs.Common.{sym, ap, subst, ◌∙◌, arith, append_assoc, append-nil}
 use Rattle.std.proofs.lemmas.Bool.Decides.{eqb_tells}
-use Rattle.syslog_pieces.specs.Pieces.Class.{Text, Class, Values, Front, NoFront, join, Divides, Row, Ends, run, rest, exactly, optional}
+use Rattle.syslog_pieces.specs.Pieces.Class.{Text, Class, Values, Front, NoFront, join}
+use Rattle.syslog_pieces.specs.Pieces.Class.{Divides, Row, Ends, run, rest, exactly, optional}
 use Rattle.syslog_pieces.specs.StructuredData.Element.{ElementValue}
 use Rattle.syslog_pieces.specs.StructuredData.Rfc3164List.{IsRfc3164List, rfc3164_list, BeginsNoList}
 use Rattle.syslog_pieces.specs.Text.{trimmed, is_blank, dash}
@@ -15,14 +18,18 @@ use Rattle.syslog_loose.proofs.Rfc3164Lemmas.Stamped.{division_is_stamped}
 use Rattle.syslog_loose.proofs.Rfc3164Lemmas.Years.{other_read}
 use Rattle.syslog_pieces.specs.declared.structured_data.rfc3164_list.DashRule.{DashRule}
 use Rattle.syslog_pieces.specs.declared.structured_data.rfc3164_list.DashRule.TheVariants.{BeforeAnything, BeforeBlank}
-use Rattle.syslog_pieces.proofs.PieceLemmas.Class.{AllDeterministic, heads, front_same, row_det, optional_none, optional_some, rest_front, row_nil, row_cons, row_head, rows_join, division_front, front_division, both_values, all_joined, firsts, lasts, rows_split}
+use Rattle.syslog_pieces.proofs.PieceLemmas.Class.{AllDeterministic, heads, front_same, row_det, optional_none}
+use Rattle.syslog_pieces.proofs.PieceLemmas.Class.{optional_some, rest_front, row_nil, row_cons, row_head}
+use Rattle.syslog_pieces.proofs.PieceLemmas.Class.{rows_join, division_front, front_division, both_values}
+use Rattle.syslog_pieces.proofs.PieceLemmas.Class.{all_joined, firsts, lasts, rows_split}
 use Rattle.syslog_pieces.proofs.StructuredDataLemmas.Rfc3164List.{dash_rfc3164_list, full_begins, no_rfc3164_list}
 use Rattle.syslog_loose.specs.declared.message.Protocol.{Protocol}
 use Rattle.syslog_loose.specs.declared.message.Protocol.TheVariants as protocol
 use Rattle.syslog_loose.specs.declared.variant.Variant.{Variant}
 use Rattle.syslog_loose.specs.declared.variant.Variant.TheVariants.{Either, RFC3164, RFC5424}
 use Rattle.syslog_loose.specs.Canonical.{IsCanonicalFor, IsCanonical}
-use Rattle.syslog_loose.specs.DashChange.{ReadsDifferently, BeginsDashChange, HasDashChange3164, HasDashChange, WasUnreadable}
+use Rattle.syslog_loose.specs.DashChange.{ReadsDifferently, BeginsDashChange}
+use Rattle.syslog_loose.specs.DashChange.{HasDashChange3164, HasDashChange, WasUnreadable}
 use Rattle.syslog_loose.specs.Message.{MessageValue}
 use Rattle.syslog_loose.specs.Rfc3164.{Names3164, Resolves, stamped_row, fields_row, rfc3164_row, Means3164, IsRead3164}
 use Rattle.syslog_loose.proofs.Rfc3164Lemmas.Rows.{from_gap, from_list}
@@ -63,14 +70,20 @@ record IsDropped (p q : Text) : Type 0 where
 
 dropped_dash_change : (p q : Text) → IsDropped p q → BeginsDashChange (p ++ q)
 dropped_dash_change p q d =
-    record { next = d.next; behind = d.more; is = ap (λ (x : Text). x ++ q) d.is_dash ∙ ap (λ (x : Text). 45 ∷ x) d.follows; no_blank = d.no_blank }
+    record {
+      next = d.next;
+      behind = d.more;
+      is = ap (λ (x : Text). x ++ q) d.is_dash ∙ ap (λ (x : Text). 45 ∷ x) d.follows;
+      no_blank = d.no_blank;
+    }
 
 dash_turns : (p : Text) (c : ℕ) (q : Text) (es : List ElementValue) (b : Bool) → is_blank c ≡ b → p ≡ dash → es ≡ []
     → IsDropped p (c ∷ q) ⊎ IsRfc3164List BeforeBlank p (c ∷ q) es
 dash_turns p c q es true e f g = inr (inl (f, e, g))
 dash_turns p c q es false e f g = inl (record { is_dash = f; next = c; more = q; follows = refl; no_blank = e })
 
-some_turns : (p q : Text) (es : List ElementValue) → IsRfc3164List BeforeAnything p q es → IsDropped p q ⊎ IsRfc3164List BeforeBlank p q es
+some_turns : (p q : Text) (es : List ElementValue) → IsRfc3164List BeforeAnything p q es
+    → IsDropped p q ⊎ IsRfc3164List BeforeBlank p q es
 some_turns p [] es (inl (f, u, g)) = inr (inl (f, tt, g))
 some_turns p (c ∷ q) es (inl (f, u, g)) = dash_turns p c q es (is_blank c) refl f g
 some_turns p [] es (inr h) = inr (inr h)
@@ -82,7 +95,8 @@ wider p q es (inr h) = inr h
 
 list_turns : (t q : Text) (es : Option (List ElementValue)) (f : Front (optional (rfc3164_list BeforeAnything)) t q es)
     → IsDropped f.piece q ⊎ Front (optional (rfc3164_list BeforeBlank)) t q es
-list_turns t q None f = inr (record { piece = f.piece; whole = f.whole; is = (f.is.0, λ p r es e h. f.is.1 p r es e (wider p r es h)) })
+list_turns t q None f =
+    inr (record { piece = f.piece; whole = f.whole; is = (f.is.0, λ p r es e h. f.is.1 p r es e (wider p r es h)) })
 list_turns t q (Some es) f = elim (some_turns f.piece q es f.is) [
   | inl d ↦ inl d
   | inr h ↦ inr (record { piece = f.piece; whole = f.whole; is = h })
@@ -90,9 +104,11 @@ list_turns t q (Some es) f = elim (some_turns f.piece q es f.is) [
 
 -- ---- a reading under the old rule
 
-row_read : (rule : DashRule) (dating : Dating) (text : Text) (vs : Values (rfc3164_row rule dating)) (m : MessageValue) → Means3164 rule dating vs m
+row_read : (rule : DashRule) (dating : Dating) (text : Text) (vs : Values (rfc3164_row rule dating)) (m : MessageValue)
+    → Means3164 rule dating vs m
     → Front (Row (rfc3164_row rule dating)) (trimmed text) [] vs → IsRead3164 rule dating text m
-row_read rule dating text vs m means f = record { values = vs; division = front_division (rfc3164_row rule dating) f; means = means }
+row_read rule dating text vs m means f =
+    record { values = vs; division = front_division (rfc3164_row rule dating) f; means = means }
 
 -- the pieces of two rows, one behind the other
 abbrev places : List Class → ℕ
@@ -102,9 +118,11 @@ places (C ∷ Cs) = suc (places Cs)
 join_both : (ps qs : List Text) (q : Text) → join (ps ++ qs) ++ q ≡ join ps ++ (join qs ++ q)
 join_both [] qs q = refl
 join_both (p ∷ ps) qs q =
-    append_assoc p (join (ps ++ qs)) q ∙ ap (λ (x : Text). p ++ x) (join_both ps qs q) ∙ sym (append_assoc p (join ps) (join qs ++ q))
+    append_assoc p (join (ps ++ qs)) q ∙ ap (λ (x : Text). p ++ x) (join_both ps qs q)
+    ∙ sym (append_assoc p (join ps) (join qs ++ q))
 
-divides_split : (As Bs : List Class) (ps qs : List Text) (q : Text) (vs : Values (As ++ Bs)) → length ps ≡ places As → Divides (As ++ Bs) (ps ++ qs) q vs
+divides_split : (As Bs : List Class) (ps qs : List Text) (q : Text) (vs : Values (As ++ Bs)) → length ps ≡ places As
+    → Divides (As ++ Bs) (ps ++ qs) q vs
     → Divides As ps (join qs ++ q) (firsts As Bs vs) × Divides Bs qs q (lasts As Bs vs)
 divides_split [] Bs [] qs q vs e d = (tt, d)
 divides_split [] Bs (p ∷ ps) qs q vs e d = absurd (omega (arith, e))
@@ -130,7 +148,8 @@ module _ (dating : Dating) (text : Text) (m : MessageValue) (r : IsRead3164 Befo
   aft = lasts (before_list dating) (from_list BeforeAnything) r.values
 
   module _ (before behind : List Text) (e : r.division.pieces ≡ before ++ behind) (l : length before ≡ 8) where
-    both_parts : Divides (before_list dating) before (join behind ++ []) fore × Divides (from_list BeforeAnything) behind [] aft
+    both_parts : Divides (before_list dating) before (join behind ++ []) fore
+        × Divides (from_list BeforeAnything) behind [] aft
     both_parts =
         divides_split (before_list dating) (from_list BeforeAnything) before behind [] r.values l
         (subst (λ (ps : List Text). Divides (rfc3164_row BeforeAnything dating) ps [] r.values) e r.division.each)
@@ -143,11 +162,13 @@ module _ (dating : Dating) (text : Text) (m : MessageValue) (r : IsRead3164 Befo
     }
 
   -- where the list of that reading is no list now, it is a dash that is dropped
-  list_piece : (before behind : List Text) (e : r.division.pieces ≡ before ++ behind) (l : length before ≡ 8) → Divides (from_list BeforeAnything) behind [] aft
+  list_piece : (before behind : List Text) (e : r.division.pieces ≡ before ++ behind) (l : length before ≡ 8)
+      → Divides (from_list BeforeAnything) behind [] aft
       → HasDashChange3164 dating text ⊎ IsRead3164 BeforeBlank dating text m
   list_piece before [] e l d = absurd d
   list_piece before (p ∷ ps) e l d =
-      let f : Front (optional (rfc3164_list BeforeAnything)) (join (p ∷ ps) ++ []) (join ps ++ []) aft.0 = record { piece = p; whole = append_assoc p (join ps) []; is = d.0 } in
+      let f : Front (optional (rfc3164_list BeforeAnything)) (join (p ∷ ps) ++ []) (join ps ++ []) aft.0 =
+      record { piece = p; whole = append_assoc p (join ps) []; is = d.0 } in
       elim (list_turns (join (p ∷ ps) ++ []) (join ps ++ []) aft.0 f) [
         | inl k ↦ inl (record {
           message = m;
@@ -166,26 +187,36 @@ module _ (dating : Dating) (text : Text) (m : MessageValue) (r : IsRead3164 Befo
         })
         | inr g ↦ inr (row_read BeforeBlank dating text _ m r.means
             (rows_join (before_list dating) (from_list BeforeBlank) (fore_front before (p ∷ ps) e l)
-            (row_cons (optional (rfc3164_list BeforeBlank)) from_gap g (record { piece = join ps; whole = refl; is = (ps, refl, d.1) }))))
+            (row_cons (optional (rfc3164_list BeforeBlank)) from_gap g
+            (record { piece = join ps; whole = refl; is = (ps, refl, d.1) }))))
       ]
 
   pub old_turns : HasDashChange3164 dating text ⊎ IsRead3164 BeforeBlank dating text m
   old_turns =
-      let (before, behind, e, l) = divides_cut (before_list dating) (from_list BeforeAnything) r.division.pieces [] r.values r.division.each in
+      let (before, behind, e, l) =
+      divides_cut (before_list dating) (from_list BeforeAnything) r.division.pieces [] r.values r.division.each in
       list_piece before behind e l (both_parts before behind e l).1
 
 -- where such a dash is dropped, the text from it on
 dropped_at : (dating : Dating) (text : Text) (d : HasDashChange3164 dating text)
-    → Front (Row (before_list dating)) (trimmed text) (45 ∷ (d.next ∷ d.more)) (firsts (before_list dating) (from_list BeforeAnything) d.read.values)
+    → Front (Row (before_list dating)) (trimmed text) (45 ∷ (d.next ∷ d.more))
+    (firsts (before_list dating) (from_list BeforeAnything) d.read.values)
 dropped_at dating text d =
     let from : join (d.list ∷ d.behind) ++ [] ≡ 45 ∷ (d.next ∷ d.more) =
-    append-nil (join (d.list ∷ d.behind)) ∙ ap (λ (x : Text). d.list ++ x) d.follows ∙ ap (λ (x : Text). x ++ (d.next ∷ d.more)) d.is_dash in
-    subst (λ (x : Text). Front (Row (before_list dating)) (trimmed text) x (firsts (before_list dating) (from_list BeforeAnything) d.read.values)) from
+    append-nil (join (d.list ∷ d.behind)) ∙ ap (λ (x : Text). d.list ++ x) d.follows
+    ∙ ap (λ (x : Text). x ++ (d.next ∷ d.more)) d.is_dash in
+    subst (λ (x : Text). Front (Row (before_list dating)) (trimmed text) x
+    (firsts (before_list dating) (from_list BeforeAnything) d.read.values)) from
     (fore_front dating text d.message d.read d.before (d.list ∷ d.behind) d.pieces d.place)
 
-dash_change_of_differ : (dating : Dating) (text : Text) (m n : MessageValue) → IsRead3164 BeforeAnything dating text m → IsRead3164 BeforeBlank dating text n → (m ≡ n → ⊥) → HasDashChange3164 dating text
+dash_change_of_differ : (dating : Dating) (text : Text) (m n : MessageValue) → IsRead3164 BeforeAnything dating text m
+    → IsRead3164 BeforeBlank dating text n → (m ≡ n → ⊥) → HasDashChange3164 dating text
 dash_change_of_differ dating text m n r s d =
-    elim (old_turns dating text m r) [ inl h ↦ h | inr t ↦ absurd (d (rfc3164.one_message BeforeBlank dating text m n t s)) ]
+    elim (old_turns dating text m r) [
+      | inl h ↦ h
+      | inr t ↦
+          absurd (d (rfc3164.one_message BeforeBlank dating text m n t s))
+    ]
 
 -- ---- a dash that is dropped
 
@@ -202,11 +233,14 @@ gap_row : (t : Text) → Ends is_blank t → Front (Row from_gap) t [] (tt, (t, 
 gap_row t h = row_cons (run is_blank) (rest ∷ []) (no_gap t h) (row_cons rest [] (rest_front t) (row_nil []))
 
 -- the values of the row with these at its front, this list and this message
-abbrev with_list : (dating : Dating) → Values (before_list dating) → Option (List ElementValue) → Text → Values (before_list dating ++ from_list BeforeBlank)
+abbrev with_list : (dating : Dating) → Values (before_list dating) → Option (List ElementValue) → Text
+    → Values (before_list dating ++ from_list BeforeBlank)
 with_list dating vs es msg = both_values (before_list dating) (from_list BeforeBlank) vs (es, (tt, (msg, tt)))
 
-pub differ_of_dash_change : (dating : Dating) (text : Text) (vs : Values (before_list dating)) (n : Names3164) (c : ℕ) (q : Text)
-    → Front (Row (before_list dating)) (trimmed text) (45 ∷ (c ∷ q)) vs → Resolves vs.1.1.1.0 vs.1.1.1.1.0 n → is_blank c ≡ false
+pub differ_of_dash_change : (dating : Dating) (text : Text) (vs : Values (before_list dating)) (n : Names3164) (c : ℕ)
+    (q : Text)
+    → Front (Row (before_list dating)) (trimmed text) (45 ∷ (c ∷ q)) vs → Resolves vs.1.1.1.0 vs.1.1.1.1.0 n
+    → is_blank c ≡ false
     → ReadsDifferently RFC3164 dating text
 differ_of_dash_change dating text vs n c q f means b =
     let all = with_list dating vs (Some []) (c ∷ q) in
@@ -218,22 +252,30 @@ differ_of_dash_change dating text vs n c q f means b =
       now = k;
       was_read = row_read BeforeAnything dating text all m (n, means, refl)
           (rows_join (before_list dating) (from_list BeforeAnything) f
-          (row_cons (optional (rfc3164_list BeforeAnything)) from_gap (optional_some (rfc3164_list BeforeAnything) (dash_rfc3164_list BeforeAnything (45 ∷ (c ∷ q)) (c ∷ q) refl tt)) (gap_row (c ∷ q) b)));
+          (row_cons (optional (rfc3164_list BeforeAnything)) from_gap
+          (optional_some (rfc3164_list BeforeAnything)
+          (dash_rfc3164_list BeforeAnything (45 ∷ (c ∷ q)) (c ∷ q) refl tt)) (gap_row (c ∷ q) b)));
       is_read = row_read BeforeBlank dating text new k (n, means, refl)
           (rows_join (before_list dating) (from_list BeforeBlank) f
-          (row_cons (optional (rfc3164_list BeforeBlank)) from_gap (optional_none (rfc3164_list BeforeBlank) (no_rfc3164_list BeforeBlank (45 ∷ (c ∷ q)) (dash_no_list c q b))) (gap_row (45 ∷ (c ∷ q)) refl)));
-      differ = λ same. let l : length (c ∷ q) ≡ length (45 ∷ (c ∷ q)) = ap (λ (x : MessageValue). length x.msg) same in omega (arith, l);
+          (row_cons (optional (rfc3164_list BeforeBlank)) from_gap
+          (optional_none (rfc3164_list BeforeBlank) (no_rfc3164_list BeforeBlank (45 ∷ (c ∷ q)) (dash_no_list c q b)))
+          (gap_row (45 ∷ (c ∷ q)) refl)));
+      differ = λ same. let l : length (c ∷ q) ≡ length (45 ∷ (c ∷ q)) = ap (λ (x : MessageValue). length x.msg) same in
+          omega (arith, l);
     }
 
-pub differs_by_dash_change : (dating : Dating) (text : Text) → HasDashChange3164 dating text → ReadsDifferently RFC3164 dating text
+pub differs_by_dash_change : (dating : Dating) (text : Text) → HasDashChange3164 dating text
+    → ReadsDifferently RFC3164 dating text
 differs_by_dash_change dating text d =
     let (n, means, is) = d.read.means in
-    differ_of_dash_change dating text (firsts (before_list dating) (from_list BeforeAnything) d.read.values) n d.next d.more (dropped_at dating text d) means d.no_blank
+    differ_of_dash_change dating text (firsts (before_list dating) (from_list BeforeAnything) d.read.values) n d.next
+    d.more (dropped_at dating text d) means d.no_blank
 
 -- ---- under each variant
 
 module _ (dating : Dating) (text : Text) where
-  forth : (variant : Variant) (m n : MessageValue) → IsReadUnder BeforeAnything variant dating text m → IsReadUnder BeforeBlank variant dating text n → (m ≡ n → ⊥) → HasDashChange variant dating text
+  forth : (variant : Variant) (m n : MessageValue) → IsReadUnder BeforeAnything variant dating text m
+      → IsReadUnder BeforeBlank variant dating text n → (m ≡ n → ⊥) → HasDashChange variant dating text
   forth RFC5424 m n r s d = d (strict.one_message text m n r s)
   forth RFC3164 m n r s d = dash_change_of_differ dating text m n r s d
   forth Either m n (inl r) (inl s) d = absurd (d (strict.one_message text m n r s))
@@ -254,7 +296,8 @@ module _ (dating : Dating) (text : Text) where
         differ = r.differ;
       }
 
-  pub differs_where_dash_change : (variant : Variant) → ReadsDifferently variant dating text ↔ HasDashChange variant dating text
+  pub differs_where_dash_change : (variant : Variant) → ReadsDifferently variant dating text
+      ↔ HasDashChange variant dating text
   differs_where_dash_change variant =
       (λ r. forth variant r.before r.now r.was_read r.is_read r.differ, back variant)
 
@@ -267,17 +310,24 @@ same_behind xs ys e = cc
 pub dash_ends : (t : Text) → t ≡ 45 ∷ [] → BeginsDashChange t → ⊥
 dash_ends t e h = let k : [] ≡ h.next ∷ h.behind = same_behind _ _ (sym e ∙ h.is) in cc
 
-dash_change_next : (c : ℕ) (q : Text) (b : Bool) → is_blank c ≡ b → BeginsDashChange (45 ∷ (c ∷ q)) ⊎ (BeginsDashChange (45 ∷ (c ∷ q)) → ⊥)
+dash_change_next : (c : ℕ) (q : Text) (b : Bool) → is_blank c ≡ b → BeginsDashChange (45 ∷ (c ∷ q))
+    ⊎ (BeginsDashChange (45 ∷ (c ∷ q)) → ⊥)
 dash_change_next c q false e = inl (record { next = c; behind = q; is = refl; no_blank = e })
-dash_change_next c q true e = inr (λ h. let k : c ∷ q ≡ h.next ∷ h.behind = same_behind _ _ h.is in let l : is_blank c ≡ false = ap is_blank (heads c h.next q h.behind k) ∙ h.no_blank in cc)
+dash_change_next c q true e = inr (λ h. let k : c ∷ q ≡ h.next ∷ h.behind = same_behind _ _ h.is in
+    let l : is_blank c ≡ false = ap is_blank (heads c h.next q h.behind k) ∙ h.no_blank in cc)
 
 dash_change_head : (c : ℕ) (t : Text) → c ≡ 45 → BeginsDashChange (c ∷ t) ⊎ (BeginsDashChange (c ∷ t) → ⊥)
 dash_change_head c [] e = inr (λ h. dash_ends (c ∷ []) (ap (λ (x : ℕ). x ∷ []) e) h)
-dash_change_head c (d ∷ q) e = subst (λ (x : ℕ). BeginsDashChange (x ∷ (d ∷ q)) ⊎ (BeginsDashChange (x ∷ (d ∷ q)) → ⊥)) (sym e) (dash_change_next d q (is_blank d) refl)
+dash_change_head c (d ∷ q) e = subst (λ (x : ℕ). BeginsDashChange (x ∷ (d ∷ q)) ⊎ (BeginsDashChange (x ∷ (d ∷ q)) → ⊥))
+    (sym e) (dash_change_next d q (is_blank d) refl)
 
 dash_change_or_not : (t : Text) → BeginsDashChange t ⊎ (BeginsDashChange t → ⊥)
 dash_change_or_not [] = inr (λ h. let k : [] ≡ 45 ∷ (h.next ∷ h.behind) = h.is in cc)
-dash_change_or_not (c ∷ t) = elim (eqb_tells c 45) [ inl (_, e) ↦ dash_change_head c t e | inr (_, n) ↦ inr (λ h. n (heads c 45 t (h.next ∷ h.behind) h.is)) ]
+dash_change_or_not (c ∷ t) = elim (eqb_tells c 45) [
+  | inl (_, e) ↦ dash_change_head c t e
+  | inr (_, n) ↦
+      inr (λ h. n (heads c 45 t (h.next ∷ h.behind) h.is))
+]
 
 list_returns : (t q : Text) (es : Option (List ElementValue)) → Front (optional (rfc3164_list BeforeBlank)) t q es
     → BeginsDashChange t ⊎ Front (optional (rfc3164_list BeforeAnything)) t q es
@@ -287,38 +337,65 @@ list_returns t q None f = elim (dash_change_or_not q) [
   | inr n ↦ inr (record {
     piece = f.piece;
     whole = f.whole;
-    is = (f.is.0, λ p r es e h. elim (some_turns p r es h) [ inl d ↦ n (subst BeginsDashChange (sym e) (dropped_dash_change p r d)) | inr k ↦ f.is.1 p r es e k ]);
+    is = (
+      f.is.0,
+      λ p r es e h. elim (some_turns p r es h) [
+        | inl d ↦
+            n (subst BeginsDashChange (sym e) (dropped_dash_change p r d))
+        | inr k ↦ f.is.1 p r es e k
+      ],
+    );
   })
 ]
 
-was_read : (dating : Dating) (text : Text) (m : MessageValue) → IsRead3164 BeforeBlank dating text m → (n : MessageValue) × IsRead3164 BeforeAnything dating text n
+was_read : (dating : Dating) (text : Text) (m : MessageValue) → IsRead3164 BeforeBlank dating text m
+    → (n : MessageValue) × IsRead3164 BeforeAnything dating text n
 was_read dating text m r =
-    let (u, a, b) = rows_split (before_list dating) (from_list BeforeBlank) (division_front (rfc3164_row BeforeBlank dating) r.division) in
+    let (u, a, b) = rows_split (before_list dating) (from_list BeforeBlank)
+    (division_front (rfc3164_row BeforeBlank dating) r.division) in
     let g = row_head (optional (rfc3164_list BeforeBlank)) from_gap b in
     let vs = firsts (before_list dating) (from_list BeforeBlank) r.values in
     let (n, means, is) = r.means in
     elim (list_returns u g.0 _ g.1) [
-      | inl d ↦ let k = differ_of_dash_change dating text vs n d.next d.behind (subst (λ (x : Text). Front (Row (before_list dating)) (trimmed text) x vs) d.is a) means d.no_blank in (k.before, k.was_read)
+      | inl d ↦ let k = differ_of_dash_change dating text vs n d.next d.behind
+          (subst (λ (x : Text). Front (Row (before_list dating)) (trimmed text) x vs) d.is a) means d.no_blank in
+          (k.before, k.was_read)
       | inr f ↦ (
         m,
         row_read BeforeAnything dating text _ m r.means
-            (rows_join (before_list dating) (from_list BeforeAnything) a (row_cons (optional (rfc3164_list BeforeAnything)) from_gap f g.2)),
+            (rows_join (before_list dating) (from_list BeforeAnything) a
+            (row_cons (optional (rfc3164_list BeforeAnything)) from_gap f g.2)),
       )
     ]
 
-is_read : (dating : Dating) (text : Text) (m : MessageValue) → IsRead3164 BeforeAnything dating text m → (n : MessageValue) × IsRead3164 BeforeBlank dating text n
-is_read dating text m r = elim (old_turns dating text m r) [ inl h ↦ let k = differs_by_dash_change dating text h in (k.now, k.is_read) | inr t ↦ (m, t) ]
+is_read : (dating : Dating) (text : Text) (m : MessageValue) → IsRead3164 BeforeAnything dating text m
+    → (n : MessageValue) × IsRead3164 BeforeBlank dating text n
+is_read dating text m r = elim (old_turns dating text m r) [
+  | inl h ↦ let k = differs_by_dash_change dating text h in
+      (k.now, k.is_read)
+  | inr t ↦ (m, t)
+]
 
 module _ (dating : Dating) (text : Text) where
   unread_now : (variant : Variant) → WasUnreadable variant dating text → IsUnreadable variant dating text
   unread_now RFC5424 h = λ m r. h m r
   unread_now RFC3164 h = λ m r. let (n, s) = was_read dating text m r in h n s
-  unread_now Either h = λ m r. elim r [ inl s ↦ h m (inl s) | inr (none, s) ↦ let (n, k) = was_read dating text m s in h n (inr (none, k)) ]
+  unread_now Either h =
+      λ m r. elim r [
+        | inl s ↦ h m (inl s)
+        | inr (none, s) ↦ let (n, k) = was_read dating text m s in
+            h n (inr (none, k))
+      ]
 
   unread_before : (variant : Variant) → IsUnreadable variant dating text → WasUnreadable variant dating text
   unread_before RFC5424 h = λ m r. h m r
   unread_before RFC3164 h = λ m r. let (n, s) = is_read dating text m r in h n s
-  unread_before Either h = λ m r. elim r [ inl s ↦ h m (inl s) | inr (none, s) ↦ let (n, k) = is_read dating text m s in h n (inr (none, k)) ]
+  unread_before Either h =
+      λ m r. elim r [
+        | inl s ↦ h m (inl s)
+        | inr (none, s) ↦ let (n, k) = is_read dating text m s in
+            h n (inr (none, k))
+      ]
 
   pub unread_alike : (variant : Variant) → WasUnreadable variant dating text ↔ IsUnreadable variant dating text
   unread_alike variant = (unread_now variant, unread_before variant)
@@ -326,29 +403,38 @@ module _ (dating : Dating) (text : Text) where
 -- ---- what the call finds
 
 -- the two protocols are apart, so `Either` has no part in it
-pub either_differs : (dating : Dating) (text : Text) → ReadsDifferently RFC3164 dating text ↔ ReadsDifferently Either dating text
+pub either_differs : (dating : Dating) (text : Text) → ReadsDifferently RFC3164 dating text
+    ↔ ReadsDifferently Either dating text
 either_differs dating text = (
-  λ r. back dating text Either (λ vs d. not_both BeforeAnything dating (trimmed text) vs r.was_read.values d r.was_read.division, forth dating text RFC3164 r.before r.now r.was_read r.is_read r.differ),
+  λ r. back dating text Either (
+    λ vs d. not_both BeforeAnything dating (trimmed text) vs r.was_read.values d r.was_read.division,
+    forth dating text RFC3164 r.before r.now r.was_read r.is_read r.differ,
+  ),
   λ r. back dating text RFC3164 (forth dating text Either r.before r.now r.was_read r.is_read r.differ).1,
 )
 
 -- a dash is dropped where one stands before the list
-pub told_by_list : (dating : Dating) (text t list : Text) (vs : Values (before_list dating)) (n : Names3164) (b : Bool) → t ≡ trimmed text → Front (Row (before_list dating)) t list vs → Resolves vs.1.1.1.0 vs.1.1.1.1.0 n
+pub told_by_list : (dating : Dating) (text t list : Text) (vs : Values (before_list dating)) (n : Names3164) (b : Bool)
+    → t ≡ trimmed text → Front (Row (before_list dating)) t list vs → Resolves vs.1.1.1.0 vs.1.1.1.1.0 n
     → MatchBool b (BeginsDashChange list) (BeginsDashChange list → ⊥)
     → MatchBool b (ReadsDifferently RFC3164 dating text) (ReadsDifferently RFC3164 dating text → ⊥)
 told_by_list dating text t list vs n true e f means h =
-    let g = subst (λ (x : Text). Front (Row (before_list dating)) (trimmed text) x vs) h.is (subst (λ (x : Text). Front (Row (before_list dating)) x list vs) e f) in
+    let g = subst (λ (x : Text). Front (Row (before_list dating)) (trimmed text) x vs) h.is
+    (subst (λ (x : Text). Front (Row (before_list dating)) x list vs) e f) in
     differ_of_dash_change dating text vs n h.next h.behind g means h.no_blank
 told_by_list dating text t list vs n false e f means h = λ k.
     let d = forth dating text RFC3164 k.before k.now k.was_read k.is_read k.differ in
     let g = subst (λ (x : Text). Front (Row (before_list dating)) x list vs) e f in
-    let same = (front_same (Row (before_list dating)) (row_det (before_list dating) (before_det dating)) g (dropped_at dating text d)).0 in
+    let same = (front_same (Row (before_list dating)) (row_det (before_list dating) (before_det dating)) g
+    (dropped_at dating text d)).0 in
     h (record { next = d.next; behind = d.more; is = same; no_blank = d.no_blank })
 
 -- a text that no timestamp of RFC 3164 begins is not read by it
-pub none_differs : (dating : Dating) (text t : Text) → t ≡ trimmed text → NoFront (Row (stamped_row dating)) t → ReadsDifferently RFC3164 dating text → ⊥
+pub none_differs : (dating : Dating) (text t : Text) → t ≡ trimmed text → NoFront (Row (stamped_row dating)) t
+    → ReadsDifferently RFC3164 dating text → ⊥
 none_differs dating text t e n r =
-    let none = (division_is_stamped BeforeAnything dating (trimmed text)).1 (subst (λ (x : Text). NoFront (Row (stamped_row dating)) x) e n) in
+    let none = (division_is_stamped BeforeAnything dating (trimmed text)).1
+    (subst (λ (x : Text). NoFront (Row (stamped_row dating)) x) e n) in
     none r.was_read.values r.was_read.division
 
 pub no_dash : (t : Text) → NoFront (exactly (45 ∷ [])) t → BeginsDashChange t → ⊥
@@ -356,15 +442,20 @@ no_dash t n h = n (45 ∷ []) (h.next ∷ h.behind) tt h.is refl
 
 -- ---- the year
 
-any_year : (variant : Variant) (dating other : Dating) (text : Text) (rule : DashRule) (m : MessageValue) → dating.zone ≡ other.zone → dating.local ≡ other.local
-    → ((date : MonthDate) → AsksYear variant text date → ⊥) → IsReadUnder rule variant dating text m → IsReadUnder rule variant other text m
+any_year : (variant : Variant) (dating other : Dating) (text : Text) (rule : DashRule) (m : MessageValue)
+    → dating.zone ≡ other.zone → dating.local ≡ other.local
+    → ((date : MonthDate) → AsksYear variant text date → ⊥) → IsReadUnder rule variant dating text m
+    → IsReadUnder rule variant other text m
 any_year RFC5424 dating other text rule m z l never r = r
 any_year RFC3164 dating other text rule m z l never r = other_read dating other z l rule text never m r
 any_year Either dating other text rule m z l never (inl r) = inl r
-any_year Either dating other text rule m z l never (inr (none, r)) = inr (none, other_read dating other z l rule text never m r)
+any_year Either dating other text rule m z l never (inr (none, r)) =
+    inr (none, other_read dating other z l rule text never m r)
 
-dash_change_in_any : (variant : Variant) (dating other : Dating) (text : Text) → dating.zone ≡ other.zone → dating.local ≡ other.local
-    → ((date : MonthDate) → AsksYear variant text date → ⊥) → ReadsDifferently variant dating text → ReadsDifferently variant other text
+dash_change_in_any : (variant : Variant) (dating other : Dating) (text : Text) → dating.zone ≡ other.zone
+    → dating.local ≡ other.local
+    → ((date : MonthDate) → AsksYear variant text date → ⊥) → ReadsDifferently variant dating text
+    → ReadsDifferently variant other text
 dash_change_in_any variant dating other text z l never r = record {
   before = r.before;
   now = r.now;
@@ -374,7 +465,8 @@ dash_change_in_any variant dating other text z l never r = record {
 }
 
 -- what is told in the year that the closure answered
-pub told_in : (post : IncompleteDate → ℤ → Type 0) (variant : Variant) (text : Text) (tz : Option (Bor TimeZone)) (local : Bor TimeZone) (b : Bool) (year : Option ℤ) → IsYearAnswered post variant text year
+pub told_in : (post : IncompleteDate → ℤ → Type 0) (variant : Variant) (text : Text) (tz : Option (Bor TimeZone))
+    (local : Bor TimeZone) (b : Bool) (year : Option ℤ) → IsYearAnswered post variant text year
     → IsTrue b ↔ ReadsDifferently variant (dating_of year tz local) text
     → InYear post variant text (λ y. IsTrue b ↔ ReadsDifferently variant (dating_of y tz local) text)
 told_in post variant text tz local b None is h = record {
@@ -388,7 +480,8 @@ told_in post variant text tz local b None is h = record {
 told_in post variant text tz local b (Some year) is h = record {
   answered = Some year;
   is_answered = is;
-  holds = λ other agrees. subst (λ (y : Option ℤ). IsTrue b ↔ ReadsDifferently variant (dating_of y tz local) text) (sym (agrees is.0 is.1)) h;
+  holds = λ other agrees. subst (λ (y : Option ℤ). IsTrue b ↔ ReadsDifferently variant (dating_of y tz local) text)
+      (sym (agrees is.0 is.1)) h;
 }
 
 -- ---- the answer under each variant
@@ -399,17 +492,22 @@ never_5424 dating text r = r.differ (strict.one_message text r.before r.now r.wa
 pub told_5424 : (dating : Dating) (text : Text) → IsTrue false ↔ ReadsDifferently RFC5424 dating text
 told_5424 dating text = (λ t. absurd (let k : false ≡ true = t in cc), λ r. absurd (never_5424 dating text r))
 
-pub told_3164 : (dating : Dating) (text : Text) (b : Bool) → MatchBool b (ReadsDifferently RFC3164 dating text) (ReadsDifferently RFC3164 dating text → ⊥) → IsTrue b ↔ ReadsDifferently RFC3164 dating text
+pub told_3164 : (dating : Dating) (text : Text) (b : Bool)
+    → MatchBool b (ReadsDifferently RFC3164 dating text) (ReadsDifferently RFC3164 dating text → ⊥) → IsTrue b
+    ↔ ReadsDifferently RFC3164 dating text
 told_3164 dating text true h = (λ t. h, λ r. refl)
 told_3164 dating text false h = (λ t. absurd (let k : false ≡ true = t in cc), λ r. absurd (h r))
 
-pub told_either : (dating : Dating) (text : Text) (b : Bool) → MatchBool b (ReadsDifferently RFC3164 dating text) (ReadsDifferently RFC3164 dating text → ⊥) → IsTrue b ↔ ReadsDifferently Either dating text
+pub told_either : (dating : Dating) (text : Text) (b : Bool)
+    → MatchBool b (ReadsDifferently RFC3164 dating text) (ReadsDifferently RFC3164 dating text → ⊥) → IsTrue b
+    ↔ ReadsDifferently Either dating text
 told_either dating text b h =
     let own = told_3164 dating text b h in
     let either = either_differs dating text in
     (λ t. either.0 (own.0 t), λ r. own.1 (either.1 r))
 
 -- whoever tells the texts that are read differently tells those from which a dash is dropped
-pub dash_change_told : (variant : Variant) (dating : Dating) (text : Text) (b : Bool) → IsTrue b ↔ ReadsDifferently variant dating text → IsTrue b ↔ HasDashChange variant dating text
+pub dash_change_told : (variant : Variant) (dating : Dating) (text : Text) (b : Bool) → IsTrue b
+    ↔ ReadsDifferently variant dating text → IsTrue b ↔ HasDashChange variant dating text
 dash_change_told variant dating text b h =
     let law = differs_where_dash_change dating text variant in (λ t. law.0 (h.0 t), λ d. h.1 (law.1 d))

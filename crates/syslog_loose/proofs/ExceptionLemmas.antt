@@ -1,9 +1,11 @@
 -- What the tests of the exceptions answer.
-use Rattle.std.proofs.Common.{inl, inr, ◌≡◌, ◌≢◌, ℕ, ◌<◌, Bool, true, false, not, nat_eq, List, [], ◌∷◌, ◌++◌, length, take, drop, None, suc, ◌-◌, refl, sym, ap, subst, ◌∙◌, arith}
+use Rattle.std.proofs.Common.{inl, inr, ◌≡◌, ◌≢◌, ℕ, ◌<◌, Bool, true, false, not, nat_eq, List, [], ◌∷◌}
+use Rattle.std.proofs.Common.{◌++◌, length, take, drop, None, suc, ◌-◌, refl, sym, ap, subst, ◌∙◌, arith}
 use Rattle.std.proofs.Math.Seq.{drop-cons, get_or-append_seam, take-append_seam}
 use Rattle.std.proofs.lemmas.Bool.Decides.{eqb_tells}
 use Rattle.std.proofs.lemmas.List.{drop_all, length-append, same_from_push, take-append-drop}
-use Rattle.std.proofs.lemmas.Str.{chars_from_encodes, chars-append, chars-IsAscii, encodes-append, encodes-chars, encodes-IsAscii, IsCharBoundary-before_ascii, IsUtf8-take}
+use Rattle.std.proofs.lemmas.Str.{chars_from_encodes, chars-append, chars-IsAscii, encodes-append}
+use Rattle.std.proofs.lemmas.Str.{encodes-chars, encodes-IsAscii, IsCharBoundary-before_ascii, IsUtf8-take}
 use Rattle.std.proofs.lemmas.Str.Pattern.{contains_char, NoCharPasses-char}
 use Rattle.std.specs.Prelude.{◌↔◌, IsTrue, MatchBool, get_or}
 use Rattle.std.specs.Str.{chars, IsUtf8, NonePass, encode_utf8_all}
@@ -19,7 +21,8 @@ use Rattle.syslog_loose.specs.Exceptions.{is_no_colon}
 module _ (bs front : List ℕ) (last : ℕ) (u : IsUtf8 bs) (e : bs ≡ front ++ (last ∷ [])) where
   front_text : last < 128 → IsUtf8 front
   front_text low =
-      let at : get_or bs (length front) 0 ≡ last = ap (λ (x : List ℕ). get_or x (length front) 0) e ∙ get_or-append_seam front last [] 0 in
+      let at : get_or bs (length front) 0 ≡ last = ap (λ (x : List ℕ). get_or x (length front) 0) e
+      ∙ get_or-append_seam front last [] 0 in
       let long : length front < length bs = omega (arith, ap length e, length-append front (last ∷ [])) in
       let cut = IsUtf8-take bs (length front) u (IsCharBoundary-before_ascii bs (length front) long (omega arith)) in
       subst IsUtf8 (ap (λ (x : List ℕ). take (length front) x) e ∙ take-append_seam front (last ∷ [])) cut
@@ -34,7 +37,8 @@ module _ (bs front : List ℕ) (last : ℕ) (u : IsUtf8 bs) (e : bs ≡ front ++
   pub last_colon : EndsInColon (chars bs) → last ≡ 58
   last_colon (f, w) =
       let bytes : bs ≡ encode_utf8_all f ++ colon =
-      sym (encodes-chars bs u) ∙ ap encode_utf8_all w ∙ encodes-append f colon ∙ ap (λ (x : List ℕ). encode_utf8_all f ++ x) (encodes-IsAscii colon colon_ascii) in
+      sym (encodes-chars bs u) ∙ ap encode_utf8_all w ∙ encodes-append f colon
+      ∙ ap (λ (x : List ℕ). encode_utf8_all f ++ x) (encodes-IsAscii colon colon_ascii) in
       (same_from_push front (encode_utf8_all f) last 58 (sym e ∙ bytes)).1
 
 unequal : (a b : ℕ) → (a ≡ b → ⊥) → IsTrue (not (nat_eq a b))
@@ -58,10 +62,12 @@ module _ (bs : List ℕ) (u : IsUtf8 bs) (long : 0 < length bs) where
   whole : bs ≡ take (length bs - 1) bs ++ (last ∷ [])
   whole =
       let rest : drop (suc (length bs - 1)) bs ≡ [] = drop_all (suc (length bs - 1)) bs (omega arith) in
-      sym (take-append-drop (length bs - 1) bs) ∙ ap (λ (x : List ℕ). take (length bs - 1) bs ++ x) (drop-cons bs (length bs - 1) 0 (omega arith) ∙ ap (λ (x : List ℕ). last ∷ x) rest)
+      sym (take-append-drop (length bs - 1) bs) ∙ ap (λ (x : List ℕ). take (length bs - 1) bs ++ x)
+      (drop-cons bs (length bs - 1) 0 (omega arith) ∙ ap (λ (x : List ℕ). last ∷ x) rest)
 
   -- a name that is read back is no dash, and ends in no colon
-  verbatim_told : ((last ≡ 58 → ⊥) × (length bs ≡ 1 → last ≡ 45 → ⊥)) ↔ ((chars bs ≢ dash) × (EndsInColon (chars bs) → ⊥))
+  verbatim_told : ((last ≡ 58 → ⊥) × (length bs ≡ 1 → last ≡ 45 → ⊥))
+      ↔ ((chars bs ≢ dash) × (EndsInColon (chars bs) → ⊥))
   verbatim_told = (
     (λ (c, d). (
       (λ e. let f = dash_bytes bs u e in d (ap length f) (ap (λ (x : List ℕ). get_or x (length x - 1) 0) f)),
@@ -84,7 +90,10 @@ module _ (bs : List ℕ) (u : IsUtf8 bs) (long : 0 < length bs) where
   dash_tells c d = ((λ h. verbatim_told.0 (c, λ l e. d e)), (λ k. unequal last 45 d))
 
   pub length_tells : (last ≡ 58 → ⊥) → last ≡ 45 → IsTrue (not (nat_eq (length bs) 1)) ↔ IsFixed
-  length_tells c d = ((λ h. verbatim_told.0 (c, λ l e. no_equal (length bs) 1 h l)), (λ k. unequal (length bs) 1 (λ l. (verbatim_told.1 k).1 l d)))
+  length_tells c d = (
+    (λ h. verbatim_told.0 (c, λ l e. no_equal (length bs) 1 h l)),
+    (λ k. unequal (length bs) 1 (λ l. (verbatim_told.1 k).1 l d)),
+  )
 
 pub empty_verbatim : (bs : List ℕ) → length bs < 1 → (chars bs ≢ dash) × (EndsInColon (chars bs) → ⊥)
 empty_verbatim bs l =
@@ -102,8 +111,12 @@ none_of : (cs : Text) → Each is_no_colon cs → NonePass (λ d. nat_eq d 58) c
 none_of [] h = tt
 none_of (c ∷ cs) h = (from_not_true (nat_eq c 58) h.0, none_of cs h.1)
 
-pub no_colon_told : (bs : List ℕ) (b : Bool) → IsUtf8 bs → MatchBool b (HasMatch (FindsChar 58) bs) (FindsChar 58 bs None) → IsTrue (not b) ↔ Each is_no_colon (chars bs)
+pub no_colon_told : (bs : List ℕ) (b : Bool) → IsUtf8 bs
+    → MatchBool b (HasMatch (FindsChar 58) bs) (FindsChar 58 bs None) → IsTrue (not b) ↔ Each is_no_colon (chars bs)
 no_colon_told bs true u m =
     let (k, l, e) = (contains_char 58 bs true m (omega arith)).0 refl in
     false_is (λ h. NoCharPasses-char 58 bs k (chars bs, encodes-chars bs u, none_of (chars bs) h) (omega arith) l e)
-no_colon_told bs false u m = ((λ h. let (cs, e, n) = m in subst (λ (x : Text). Each is_no_colon x) (chars_from_encodes cs bs u e) (each_of cs n)), (λ h. refl))
+no_colon_told bs false u m = (
+  (λ h. let (cs, e, n) = m in subst (λ (x : Text). Each is_no_colon x) (chars_from_encodes cs bs u e) (each_of cs n)),
+  (λ h. refl),
+)

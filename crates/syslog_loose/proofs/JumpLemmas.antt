@@ -1,5 +1,6 @@
 -- What the readers of a skipped round tell.
-use Rattle.std.proofs.Common.{◌≡◌, ℕ, zero, suc, ◌+◌, ◌-◌, ◌<◌, true, false, map, Result, Ok, Err, subst, List, [], ◌∷◌, ◌++◌, length, Option, Some, None, refl, sym, ap, ◌∙◌, arith, append_assoc}
+use Rattle.std.proofs.Common.{◌≡◌, ℕ, zero, suc, ◌+◌, ◌-◌, ◌<◌, true, false, map, Result, Ok, Err, subst, List}
+use Rattle.std.proofs.Common.{[], ◌∷◌, ◌++◌, length, Option, Some, None, refl, sym, ap, ◌∙◌, arith, append_assoc}
 use Rattle.std.proofs.lemmas.List.{length-append}
 use Rattle.std.specs.Borrow.{Bor}
 use Rattle.std.specs.Prelude.{MatchOption, OnOk}
@@ -30,7 +31,8 @@ no_dash t n rest d = n (45 ∷ []) (d.blanks ++ rest) tt d.whole refl
 behind : (t q p : Text) (f : Front (exactly (45 ∷ [])) t q tt) (r : Text) → t ≡ 45 ∷ (p ++ r) → q ≡ p ++ r
 behind t q p f r e = let u : 45 ∷ q ≡ 45 ∷ (p ++ r) = sym (f.whole ∙ ap (λ (x : Text). x ++ q) f.is) ∙ e in cc
 
-pub dash_told : (t q : Text) (f : Front (exactly (45 ∷ [])) t q tt) (r : Option (Bor (List ℕ))) → Skips (some_run is_blank) tt q r
+pub dash_told : (t q : Text) (f : Front (exactly (45 ∷ [])) t q tt) (r : Option (Bor (List ℕ)))
+    → Skips (some_run is_blank) tt q r
     → MatchOption r ((rest : Text) → IsDashed t rest → ⊥) (λ x. IsDashed t (shown x))
 dash_told t q f None n = λ rest d. n d.blanks rest tt (behind t q d.blanks f rest d.whole) (d.some, d.each, d.no_more)
 dash_told t q f (Some x) g = record {
@@ -46,12 +48,15 @@ pub dash_shorter : (t rest : Text) → IsDashed t rest → length rest < length 
 dash_shorter t rest d = omega (arith, ap length d.whole, length-append d.blanks rest)
 
 -- ---- the end of a line
-empty_end : (t : Text) (bytes : List ℕ) → encode_utf8_all t ≡ bytes → length bytes ≡ 0 → encode_utf8_all (message_end t) ≡ []
+empty_end : (t : Text) (bytes : List ℕ) → encode_utf8_all t ≡ bytes → length bytes ≡ 0
+    → encode_utf8_all (message_end t) ≡ []
 unfolding message_end
 empty_end [] bytes e l = refl
-empty_end (c ∷ cs) bytes e l = absurd (let k = ap length e in let m = length-le-encodes (c ∷ cs) in omega (arith, k, m, l))
+empty_end (c ∷ cs) bytes e l =
+    absurd (let k = ap length e in let m = length-le-encodes (c ∷ cs) in omega (arith, k, m, l))
 
-some_end : (t : Text) (bytes : List ℕ) → encode_utf8_all t ≡ bytes → 0 < length bytes → encode_utf8_all (message_end t) ≡ 32 ∷ bytes
+some_end : (t : Text) (bytes : List ℕ) → encode_utf8_all t ≡ bytes → 0 < length bytes
+    → encode_utf8_all (message_end t) ≡ 32 ∷ bytes
 unfolding message_end encode_utf8
 some_end [] bytes e l = absurd (let k = ap length e in omega (arith, k, l))
 some_end (c ∷ cs) bytes e l = ap (λ (x : List ℕ). 32 ∷ x) e
@@ -59,7 +64,8 @@ some_end (c ∷ cs) bytes e l = ap (λ (x : List ℕ). 32 ∷ x) e
 pub ends_empty : (bytes : List ℕ) → IsUtf8 bytes → length bytes ≡ 0 → encode_utf8_all (message_end (chars bytes)) ≡ []
 ends_empty bytes u l = empty_end (chars bytes) bytes (encodes-chars bytes u) l
 
-pub ends_some : (bytes : List ℕ) → IsUtf8 bytes → 0 < length bytes → encode_utf8_all (message_end (chars bytes)) ≡ 32 ∷ bytes
+pub ends_some : (bytes : List ℕ) → IsUtf8 bytes → 0 < length bytes
+    → encode_utf8_all (message_end (chars bytes)) ≡ 32 ∷ bytes
 ends_some bytes u l = some_end (chars bytes) bytes (encodes-chars bytes u) l
 
 -- ---- a tail of elements and a message part
@@ -67,10 +73,12 @@ pub tail_without_elements : (es : List ElementValue) (msg : Text) → length es 
 tail_without_elements [] msg l = refl
 tail_without_elements (e ∷ es) msg l = absurd (omega (arith, l))
 
-pub tail_elements : (es : List ElementValue) (msg : Text) → 0 < length es → (32 ∷ encode_utf8_all (elements_text es)) ++ encode_utf8_all (message_end msg) ≡ encode_utf8_all (tail_text es msg)
+pub tail_elements : (es : List ElementValue) (msg : Text) → 0 < length es → (32 ∷ encode_utf8_all (elements_text es))
+    ++ encode_utf8_all (message_end msg) ≡ encode_utf8_all (tail_text es msg)
 unfolding encode_utf8
 tail_elements [] msg l = absurd (omega (arith, l))
-tail_elements (e ∷ es) msg l = ap (λ (x : List ℕ). 32 ∷ x) (sym (encodes-append (joined_elements (e ∷ es)) (message_end msg)))
+tail_elements (e ∷ es) msg l =
+    ap (λ (x : List ℕ). 32 ∷ x) (sym (encodes-append (joined_elements (e ∷ es)) (message_end msg)))
 
 -- ---- colons
 colons_suc : (n : ℕ) → colons_before (suc n) [] ≡ colons_before n [] ++ (32 ∷ 58 ∷ [])
@@ -89,17 +97,22 @@ unfolding encode_utf8
 colons_encode zero = refl
 colons_encode (suc n) = ap (λ (x : Text). 32 ∷ 58 ∷ x) (colons_encode n)
 
-pub colons_cut : (name host shorter : Text) (n : ℕ) → name ≡ host ++ colons n → host ≡ shorter ++ colon → name ≡ shorter ++ colons (n + 1)
+pub colons_cut : (name host shorter : Text) (n : ℕ) → name ≡ host ++ colons n → host ≡ shorter ++ colon
+    → name ≡ shorter ++ colons (n + 1)
 colons_cut name host shorter n e f =
-    e ∙ ap (λ (x : Text). x ++ colons n) f ∙ append_assoc shorter colon (colons n) ∙ ap (λ (k : ℕ). shorter ++ colons k) (let z : suc n ≡ n + 1 = omega arith in z)
+    e ∙ ap (λ (x : Text). x ++ colons n) f ∙ append_assoc shorter colon (colons n) ∙ ap (λ (k : ℕ). shorter ++ colons k)
+    (let z : suc n ≡ n + 1 = omega arith in z)
 
 -- what `strip_suffix` of a colon tells
-pub suffix_some : (bytes short : List ℕ) → IsUtf8 bytes → IsUtf8 short → bytes ≡ short ++ (58 ∷ []) → chars bytes ≡ chars short ++ colon
+pub suffix_some : (bytes short : List ℕ) → IsUtf8 bytes → IsUtf8 short → bytes ≡ short ++ (58 ∷ [])
+    → chars bytes ≡ chars short ++ colon
 unfolding encode_utf8
 suffix_some bytes short u v e =
-    sym (chars_from_encodes (chars short ++ colon) bytes u (encodes-append (chars short) colon ∙ ap (λ (x : List ℕ). x ++ (58 ∷ [])) (encodes-chars short v) ∙ sym e))
+    sym (chars_from_encodes (chars short ++ colon) bytes u
+    (encodes-append (chars short) colon ∙ ap (λ (x : List ℕ). x ++ (58 ∷ [])) (encodes-chars short v) ∙ sym e))
 
-pub some_next : (t : Text) (A : Type 0) (r : Option (Bor (List ℕ))) → is_some r ≡ true → MatchOption r A (λ x. IsDashed t (shown x)) → (next : Text) × IsDashed t next
+pub some_next : (t : Text) (A : Type 0) (r : Option (Bor (List ℕ))) → is_some r ≡ true
+    → MatchOption r A (λ x. IsDashed t (shown x)) → (next : Text) × IsDashed t next
 some_next t A None h m = absurd (let u : false ≡ true = h in cc)
 some_next t A (Some x) h m = (shown x, m)
 
@@ -113,18 +126,24 @@ map_ok (Ok x) a f = f a
 map_ok (Err e) a f = tt
 
 module _ (variant : Variant) (dating : Dating) (input : Text) where
-  pub round_written : (m : MessageValue) (h : Text) (cut : ℕ) (bytes : List ℕ) → IsUtf8 bytes → IsRead variant dating input m → m.protocol ≡ RFC3164 → EndsColons m h cut → 0 < cut
-      → bytes ≡ encode_utf8_all (printed (past_colons m h (cut - 1))) → (n : ℕ) × Reaches variant dating input n (chars bytes)
+  pub round_written : (m : MessageValue) (h : Text) (cut : ℕ) (bytes : List ℕ) → IsUtf8 bytes
+      → IsRead variant dating input m → m.protocol ≡ RFC3164 → EndsColons m h cut → 0 < cut
+      → bytes ≡ encode_utf8_all (printed (past_colons m h (cut - 1)))
+      → (n : ℕ) × Reaches variant dating input n (chars bytes)
   round_written m h cut bytes u r e k l w =
       let n : ℕ = cut - 1 in
       let same : cut ≡ suc n = omega (arith, l) in (
         suc n,
-        subst (λ (x : Text). Reaches variant dating input (suc n) x) (chars_from_encodes (printed (past_colons m h n)) bytes u (sym w))
+        subst (λ (x : Text). Reaches variant dating input (suc n) x)
+            (chars_from_encodes (printed (past_colons m h n)) bytes u (sym w))
             (colons_skipped variant dating input m h n r e (subst (λ (j : ℕ). EndsColons m h j) same k)),
       )
 
-  pub round_printed : (m : MessageValue) (bytes : List ℕ) → IsUtf8 bytes → (n : ℕ) × Reaches variant dating input n (printed m) → bytes ≡ encode_utf8_all (printed m) → (n : ℕ) × Reaches variant dating input n (chars bytes)
-  round_printed m bytes u (n, r) w = (n, subst (λ (x : Text). Reaches variant dating input n x) (chars_from_encodes (printed m) bytes u (sym w)) r)
+  pub round_printed : (m : MessageValue) (bytes : List ℕ) → IsUtf8 bytes
+      → (n : ℕ) × Reaches variant dating input n (printed m) → bytes ≡ encode_utf8_all (printed m)
+      → (n : ℕ) × Reaches variant dating input n (chars bytes)
+  round_printed m bytes u (n, r) w =
+      (n, subst (λ (x : Text). Reaches variant dating input n x) (chars_from_encodes (printed m) bytes u (sym w)) r)
 
 -- the front of a message whose colons were cut, as it is written first
 abbrev pub front_with : MessageValue → Text → List ElementValue → Text → MessageValue
@@ -155,22 +174,31 @@ parts_more a b c d e f t = simp append_assoc refl
 front_more : (m : MessageValue) (t : Text) → printed_3164 (with_msg m (m.msg ++ t)) ≡ printed_3164 m ++ t
 unfolding printed_3164
 front_more m t =
-    parts_more (decimal (priority_of m)) (timestamp_text m.timestamp) (name_text m.hostname) (tag_text m.appname m.procid) (spaced_elements m.structured_data) m.msg t
+    parts_more (decimal (priority_of m)) (timestamp_text m.timestamp) (name_text m.hostname)
+    (tag_text m.appname m.procid) (spaced_elements m.structured_data) m.msg t
 
-written_so : (m : MessageValue) (h : Text) (n : ℕ) (bytes : List ℕ) → bytes ≡ (encode_utf8_all (printed_3164 (front_of m h)) ++ colons_before n []) ++ encode_utf8_all (tail_text m.structured_data m.msg)
+written_so : (m : MessageValue) (h : Text) (n : ℕ) (bytes : List ℕ)
+    → bytes ≡ (encode_utf8_all (printed_3164 (front_of m h)) ++ colons_before n [])
+    ++ encode_utf8_all (tail_text m.structured_data m.msg)
     → bytes ≡ encode_utf8_all (printed_3164 (past_colons m h n))
 written_so m h n bytes e =
     let t : Text = tail_text m.structured_data m.msg in
     let same : printed_3164 (past_colons m h n) ≡ printed_3164 (with_msg (front_of m h) (58 ∷ colons_before n t)) =
-    printed_same (with_msg (front_of m h) (58 ∷ colons_before n t)) (past_colons m h n) (priority_again (priority_of m) (priority_small m)) refl refl refl refl refl in
+    printed_same (with_msg (front_of m h) (58 ∷ colons_before n t)) (past_colons m h n)
+    (priority_again (priority_of m) (priority_small m)) refl refl refl refl refl in
     let apart = front_more (front_of m h) (colons_before n t) in
     e ∙ append_assoc (encode_utf8_all (printed_3164 (front_of m h))) (colons_before n []) (encode_utf8_all t)
     ∙ ap (λ (x : List ℕ). encode_utf8_all (printed_3164 (front_of m h)) ++ x)
-    (ap (λ (x : List ℕ). x ++ encode_utf8_all t) (sym (colons_encode n)) ∙ sym (encodes-append (colons_before n []) t) ∙ ap encode_utf8_all (sym (colons_apart n t)))
+    (ap (λ (x : List ℕ). x ++ encode_utf8_all t) (sym (colons_encode n)) ∙ sym (encodes-append (colons_before n []) t)
+    ∙ ap encode_utf8_all (sym (colons_apart n t)))
     ∙ sym (encodes-append (printed_3164 (front_of m h)) (colons_before n t)) ∙ ap encode_utf8_all (sym apart ∙ sym same)
 
-pub past_written : (m : MessageValue) (h : Text) (n : ℕ) (es : List ElementValue) (msg : Text) (bytes : List ℕ) → es ≡ [] → msg ≡ 58 ∷ []
-    → bytes ≡ (encode_utf8_all (printed_3164 (front_with m h es msg)) ++ colons_before n []) ++ encode_utf8_all (tail_text m.structured_data m.msg) → bytes ≡ encode_utf8_all (printed_3164 (past_colons m h n))
+pub past_written : (m : MessageValue) (h : Text) (n : ℕ) (es : List ElementValue) (msg : Text) (bytes : List ℕ)
+    → es ≡ [] → msg ≡ 58 ∷ []
+    → bytes ≡ (encode_utf8_all (printed_3164 (front_with m h es msg)) ++ colons_before n [])
+    ++ encode_utf8_all (tail_text m.structured_data m.msg) → bytes ≡ encode_utf8_all (printed_3164 (past_colons m h n))
 past_written m h n es msg bytes e f w =
-    let same : front_with m h es msg ≡ front_of m h = ap (λ (x : List ElementValue). front_with m h x msg) e ∙ ap (λ (x : Text). front_with m h [] x) f in
-    written_so m h n bytes (w ∙ ap (λ (x : MessageValue). (encode_utf8_all (printed_3164 x) ++ colons_before n []) ++ encode_utf8_all (tail_text m.structured_data m.msg)) same)
+    let same : front_with m h es msg ≡ front_of m h = ap (λ (x : List ElementValue). front_with m h x msg) e
+    ∙ ap (λ (x : Text). front_with m h [] x) f in
+    written_so m h n bytes (w ∙ ap (λ (x : MessageValue). (encode_utf8_all (printed_3164 x) ++ colons_before n [])
+    ++ encode_utf8_all (tail_text m.structured_data m.msg)) same)

@@ -254,7 +254,8 @@ module _ (test : ℕ → Bool) (ascii : (c : ℕ) → is_ascii_print c ≡ true 
       )
 
   -- ---- what is read
-  rfc3164_printed : (dating : Dating) (text : Text) (m : MessageValue) → IsRead3164 dash_rule dating text m → Passes text
+  rfc3164_printed : (dating : Dating) (text : Text) (m : MessageValue) → IsRead3164 dash_rule dating text m
+      → Passes text
       → Passes (printed m)
   rfc3164_printed dating text m r h =
       let q = quotes dash_rule dating text m r in

@@ -1,5 +1,6 @@
 -- The priority that each printed text begins with.
-use Rattle.std.proofs.Common.{◌≡◌, ℕ, ◌<◌, ◌≤◌, ◌^◌, [], ◌∷◌, ◌++◌, Option, Some, None, refl, sym, ap, ◌∙◌, arith, append_assoc}
+use Rattle.std.proofs.Common.{◌≡◌, ℕ, ◌<◌, ◌≤◌, ◌^◌, [], ◌∷◌, ◌++◌, Option, Some}
+use Rattle.std.proofs.Common.{None, refl, sym, ap, ◌∙◌, arith, append_assoc}
 use Rattle.std.proofs.lemmas.Fmt.{decimal_nonempty, digits_decimal, digits_value-decimal}
 use Rattle.std.specs.Char.{is_ascii_digit}
 use Rattle.std.specs.Fmt.{decimal}
@@ -19,10 +20,12 @@ use Rattle.syslog_loose.specs.Printed.{priority_of}
 use Rattle.syslog_loose.proofs.TrimLemmas.{LastVisible, last_append, drop_after}
 
 -- a printed number
-pub number_front : (n limit : ℕ) (q : Text) → n ≤ limit → limit < 2 ^ 64 → Ends is_ascii_digit q → Front (number limit) (decimal n ++ q) q n
+pub number_front : (n limit : ℕ) (q : Text) → n ≤ limit → limit < 2 ^ 64 → Ends is_ascii_digit q
+    → Front (number limit) (decimal n ++ q) q n
 number_front n limit q l b z =
     let small : n < 2 ^ 64 = omega arith in
-    piece_front (number limit) (decimal n) q n (decimal_nonempty n small, digits_decimal own n small, z, sym (digits_value-decimal own n small), l)
+    piece_front (number limit) (decimal n) q n
+    (decimal_nonempty n small, digits_decimal own n small, z, sym (digits_value-decimal own n small), l)
 
 facility_or : (f : Option SyslogFacility) → option_map_or facility_number f 5 < 24
 facility_or None = omega arith
@@ -42,13 +45,16 @@ priority_low m = let h = priority_small m in omega arith
 pub priority_front : (n : ℕ) (q : Text) → n ≤ 255 → Front priority (60 ∷ (decimal n ++ (62 ∷ q))) q n
 priority_front n q l =
     as_priority
-    (row_cons (exactly (60 ∷ [])) (number 255 ∷ exactly (62 ∷ []) ∷ []) (piece_front (exactly (60 ∷ [])) (60 ∷ []) _ tt refl)
+    (row_cons (exactly (60 ∷ [])) (number 255 ∷ exactly (62 ∷ []) ∷ [])
+    (piece_front (exactly (60 ∷ [])) (60 ∷ []) _ tt refl)
     (row_cons (number 255) (exactly (62 ∷ []) ∷ []) (number_front n 255 _ l (omega arith) refl)
     (row_cons (exactly (62 ∷ [])) [] (piece_front (exactly (62 ∷ [])) (62 ∷ []) q tt refl) (row_nil q))))
 
 -- trimming leaves it
-pub priority_trimmed : (n : ℕ) (q : Text) → drop_trailing_whitespace (60 ∷ (decimal n ++ (62 ∷ q))) ≡ 60 ∷ (decimal n ++ (62 ∷ drop_trailing_whitespace q))
+pub priority_trimmed : (n : ℕ) (q : Text)
+    → drop_trailing_whitespace (60 ∷ (decimal n ++ (62 ∷ q))) ≡ 60 ∷ (decimal n ++ (62 ∷ drop_trailing_whitespace q))
 priority_trimmed n q =
     let last : LastVisible (60 ∷ (decimal n ++ (62 ∷ []))) = last_append (60 ∷ decimal n) (62 ∷ []) refl in
-    ap (λ (x : Text). drop_trailing_whitespace (60 ∷ x)) (sym (append_assoc (decimal n) (62 ∷ []) q)) ∙ drop_after (60 ∷ (decimal n ++ (62 ∷ []))) q last
+    ap (λ (x : Text). drop_trailing_whitespace (60 ∷ x)) (sym (append_assoc (decimal n) (62 ∷ []) q))
+    ∙ drop_after (60 ∷ (decimal n ++ (62 ∷ []))) q last
     ∙ ap (λ (x : Text). 60 ∷ x) (append_assoc (decimal n) (62 ∷ []) (drop_trailing_whitespace q))

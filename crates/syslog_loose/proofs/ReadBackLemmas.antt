@@ -14,7 +14,8 @@ use Rattle.syslog_loose.specs.Canonical.{IsBounded, IsCanonical}
 use Rattle.syslog_loose.specs.Message.{MessageValue, message_value}
 use Rattle.syslog_loose.specs.Printed.{printed}
 use Rattle.syslog_loose.specs.ReadBack.{ReadsProtocol, AnswersItself, FieldsAsRead, IsFixed, AnswersAgain}
-use Rattle.syslog_loose.specs.Reading.{dash_rule, IsRead, IsOnlyRead, IsUnreadable, Answers, IncompleteDate, AsksYear, IsYearAnswered, InYear}
+use Rattle.syslog_loose.specs.Reading.{dash_rule, IsRead, IsOnlyRead, IsUnreadable, Answers}
+use Rattle.syslog_loose.specs.Reading.{IncompleteDate, AsksYear, IsYearAnswered, InYear}
 use Rattle.syslog_loose.specs.Rfc3164.{IsRead3164}
 use Rattle.syslog_loose.specs.Rfc5424.{IsRead5424, IsNot5424}
 use Rattle.syslog_loose.specs.Settling.{IsNext}
@@ -39,9 +40,11 @@ module _ (dating : Dating) (m : MessageValue) (b : IsBounded m) where
   of_5424 : (version : ℕ) → m.protocol ≡ protocol.RFC5424 version → IsRead5424 (printed m) m ↔ IsCanonical dash_rule m
   of_5424 version e = (rfc5424.read_is_canonical dash_rule version m e, rfc5424.canonical_read dash_rule version m e b)
 
-  either_5424 : (version : ℕ) → m.protocol ≡ protocol.RFC5424 version → IsRead Either dating (printed m) m → IsCanonical dash_rule m
+  either_5424 : (version : ℕ) → m.protocol ≡ protocol.RFC5424 version → IsRead Either dating (printed m) m
+      → IsCanonical dash_rule m
   either_5424 version e (inl r) = (of_5424 version e).0 r
-  either_5424 version e (inr (n, r)) = absurd (no_protocol version (sym (read_near dash_rule dating (printed m) m r).protocol ∙ e))
+  either_5424 version e (inr (n, r)) =
+      absurd (no_protocol version (sym (read_near dash_rule dating (printed m) m r).protocol ∙ e))
 
   either_3164 : m.protocol ≡ protocol.RFC3164 → IsRead Either dating (printed m) m → IsCanonical dash_rule m
   either_3164 e (inl r) = absurd (no_protocol r.values.1.0 (sym e ∙ ap (λ (x : MessageValue). x.protocol) r.means))
@@ -50,19 +53,23 @@ module _ (dating : Dating) (m : MessageValue) (b : IsBounded m) where
   no_5424 : m.protocol ≡ protocol.RFC3164 → IsNot5424 (printed m)
   no_5424 e = subst (λ (x : Text). IsNot5424 x) (sym (printed_is m e)) (printed_apart m)
 
-  by_protocol : (variant : Variant) (p : Protocol) → m.protocol ≡ p → ReadsProtocol variant p → IsRead variant dating (printed m) m ↔ IsCanonical dash_rule m
-  by_protocol Either protocol.RFC3164 e h = (either_3164 e, λ c. inr (no_5424 e, (rfc3164_exact dash_rule dating m e b).1 c))
+  by_protocol : (variant : Variant) (p : Protocol) → m.protocol ≡ p → ReadsProtocol variant p
+      → IsRead variant dating (printed m) m ↔ IsCanonical dash_rule m
+  by_protocol Either protocol.RFC3164 e h =
+      (either_3164 e, λ c. inr (no_5424 e, (rfc3164_exact dash_rule dating m e b).1 c))
   by_protocol Either (protocol.RFC5424 version) e h = (either_5424 version e, λ c. inl ((of_5424 version e).1 c))
   by_protocol RFC3164 protocol.RFC3164 e h = rfc3164_exact dash_rule dating m e b
   by_protocol RFC3164 (protocol.RFC5424 version) e h = absurd h
   by_protocol RFC5424 protocol.RFC3164 e h = absurd h
   by_protocol RFC5424 (protocol.RFC5424 version) e h = of_5424 version e
 
-  pub printed_exact : (variant : Variant) → ReadsProtocol variant m.protocol → IsRead variant dating (printed m) m ↔ IsCanonical dash_rule m
+  pub printed_exact : (variant : Variant) → ReadsProtocol variant m.protocol → IsRead variant dating (printed m) m
+      ↔ IsCanonical dash_rule m
   printed_exact variant h = by_protocol variant m.protocol refl h
 
   -- so the one message as which the printed text is read is the message itself exactly where that is canonical
-  pub only_read_exact : (variant : Variant) (n : MessageValue) → ReadsProtocol variant m.protocol → IsOnlyRead variant dating (printed m) n → (n ≡ m) ↔ IsCanonical dash_rule m
+  pub only_read_exact : (variant : Variant) (n : MessageValue) → ReadsProtocol variant m.protocol
+      → IsOnlyRead variant dating (printed m) n → (n ≡ m) ↔ IsCanonical dash_rule m
   only_read_exact variant n h r =
       let exact = printed_exact variant h in (
         (λ e. exact.0 (subst (λ (x : MessageValue). IsRead variant dating (printed m) x) e r.read)),
@@ -71,49 +78,75 @@ module _ (dating : Dating) (m : MessageValue) (b : IsBounded m) where
 
 -- ---- what the calls answer
 
-pub itself : (variant : Variant) (dating : Dating) (text : Text) (r : Result (Message (Bor (List ℕ))) ParseFault) → Answers variant dating text r → AnswersItself variant text r
+pub itself : (variant : Variant) (dating : Dating) (text : Text) (r : Result (Message (Bor (List ℕ))) ParseFault)
+    → Answers variant dating text r → AnswersItself variant text r
 itself variant dating text (Ok found) a m b h e n =
-    only_read_exact dating m b variant (message_value (λ s. shown s) found) h (subst (λ (x : Text). IsOnlyRead variant dating x (message_value (λ s. shown s) found)) e a)
-itself variant dating text (Err Invalid) a m b h e n =
-    (λ no. absurd no, λ c. absurd (a m (subst (λ (x : Text). IsRead variant dating x m) (sym e) ((printed_exact dating m b variant h).1 c))))
+    only_read_exact dating m b variant (message_value (λ s. shown s) found) h
+    (subst (λ (x : Text). IsOnlyRead variant dating x (message_value (λ s. shown s) found)) e a)
+itself variant dating text (Err Invalid) a m b h e n = (
+  λ no. absurd no,
+  λ c. absurd
+      (a m (subst (λ (x : Text). IsRead variant dating x m) (sym e) ((printed_exact dating m b variant h).1 c))),
+)
 itself variant dating text (Err Memory) a m b h e n = absurd (n refl)
 
-strict_fields : (dating : Dating) (text : Text) (m : MessageValue) → IsRead5424 text m → FieldsAsRead m.protocol dating text m
+strict_fields : (dating : Dating) (text : Text) (m : MessageValue) → IsRead5424 text m
+    → FieldsAsRead m.protocol dating text m
 strict_fields dating text m r =
-    subst (λ (p : Protocol). FieldsAsRead p dating text m) (sym (ap (λ (x : MessageValue). x.protocol) r.means)) (λ f. rfc5424.read_canonical dash_rule text m r f)
+    subst (λ (p : Protocol). FieldsAsRead p dating text m) (sym (ap (λ (x : MessageValue). x.protocol) r.means))
+    (λ f. rfc5424.read_canonical dash_rule text m r f)
 
-rfc3164_fields : (dating : Dating) (text : Text) (m : MessageValue) → IsRead3164 dash_rule dating text m → FieldsAsRead m.protocol dating text m
+rfc3164_fields : (dating : Dating) (text : Text) (m : MessageValue) → IsRead3164 dash_rule dating text m
+    → FieldsAsRead m.protocol dating text m
 rfc3164_fields dating text m r =
-    subst (λ (p : Protocol). FieldsAsRead p dating text m) (sym (read_near dash_rule dating text m r).protocol) ((λ f. read_nearly dash_rule dating text m r f), stamp_read dash_rule dating text m r)
+    subst (λ (p : Protocol). FieldsAsRead p dating text m) (sym (read_near dash_rule dating text m r).protocol)
+    ((λ f. read_nearly dash_rule dating text m r f), stamp_read dash_rule dating text m r)
 
-pub fields : (variant : Variant) (dating : Dating) (text : Text) (m : MessageValue) → IsRead variant dating text m → FieldsAsRead m.protocol dating text m
+pub fields : (variant : Variant) (dating : Dating) (text : Text) (m : MessageValue) → IsRead variant dating text m
+    → FieldsAsRead m.protocol dating text m
 fields RFC5424 dating text m r = strict_fields dating text m r
 fields RFC3164 dating text m r = rfc3164_fields dating text m r
 fields Either dating text m (inl r) = strict_fields dating text m r
 fields Either dating text m (inr (n, r)) = rfc3164_fields dating text m r
 
-pub fields_answered : (variant : Variant) (dating : Dating) (text : Text) (r : Result (Message (Bor (List ℕ))) ParseFault) → Answers variant dating text r
+pub fields_answered : (variant : Variant) (dating : Dating) (text : Text)
+    (r : Result (Message (Bor (List ℕ))) ParseFault) → Answers variant dating text r
     → IfOk r (λ found. FieldsAsRead found.protocol dating text (message_value (λ s. shown s) found))
-fields_answered variant dating text (Ok found) a = fields variant dating text (message_value (λ s. shown s) found) a.read
+fields_answered variant dating text (Ok found) a =
+    fields variant dating text (message_value (λ s. shown s) found) a.read
 fields_answered variant dating text (Err fault) a = tt
 
-strictly_read : (variant : Variant) (dating : Dating) (version : ℕ) (m n : MessageValue) (text : Text) → m.protocol ≡ protocol.RFC5424 version → ReadsProtocol variant m.protocol → IsRead5424 text n → IsRead variant dating text n
+strictly_read : (variant : Variant) (dating : Dating) (version : ℕ) (m n : MessageValue) (text : Text)
+    → m.protocol ≡ protocol.RFC5424 version → ReadsProtocol variant m.protocol → IsRead5424 text n
+    → IsRead variant dating text n
 strictly_read Either dating version m n text e h r = inl r
 strictly_read RFC5424 dating version m n text e h r = r
 strictly_read RFC3164 dating version m n text e h r = absurd (subst (λ (p : Protocol). ReadsProtocol RFC3164 p) e h)
 
 -- a fixed message's printed text is read as one that prints the same
-pub fixed_again : (variant : Variant) (dating : Dating) (m : MessageValue) → IsFixed m → ReadsProtocol variant m.protocol → (n : MessageValue) × IsRead variant dating (printed m) n × (printed n ≡ printed m)
+pub fixed_again : (variant : Variant) (dating : Dating) (m : MessageValue) → IsFixed m
+    → ReadsProtocol variant m.protocol → (n : MessageValue) × IsRead variant dating (printed m) n
+    × (printed n ≡ printed m)
 fixed_again variant dating m (inl (b, c)) h = (m, (printed_exact dating m b variant h).1 c, refl)
 fixed_again variant dating m (inr (inl (text, r))) h =
-    let (s, e) = rfc5424.read_again text m r in
-    (rfc5424.completed m, strictly_read variant dating r.values.1.0 m (rfc5424.completed m) (printed m) (ap (λ (x : MessageValue). x.protocol) r.means) h s, e)
+    let (s, e) = rfc5424.read_again text m r in (
+      rfc5424.completed m,
+      strictly_read variant dating r.values.1.0 m (rfc5424.completed m) (printed m)
+          (ap (λ (x : MessageValue). x.protocol) r.means) h s,
+      e,
+    )
 fixed_again variant dating m (inr (inr (text, own, r, none))) h =
-    let (canonical, bounded, same) = as_rfc3164.read_again dash_rule own text m r none in
-    (rfc5424.completed m, subst (λ (x : Text). IsRead variant dating x (rfc5424.completed m)) same ((printed_exact dating (rfc5424.completed m) bounded variant h).1 canonical), same)
+    let (canonical, bounded, same) = as_rfc3164.read_again dash_rule own text m r none in (
+      rfc5424.completed m,
+      subst (λ (x : Text). IsRead variant dating x (rfc5424.completed m)) same
+          ((printed_exact dating (rfc5424.completed m) bounded variant h).1 canonical),
+      same,
+    )
 
-pub again : (variant : Variant) (dating : Dating) (bytes : List ℕ) → IsUtf8 bytes → (r : Result (String Global) ParseFault)
-    → MatchResult r (λ text. (m : MessageValue) × IsOnlyRead variant dating (chars bytes) m × (string_bytes text ≡ encode_utf8_all (printed m)))
+pub again : (variant : Variant) (dating : Dating) (bytes : List ℕ) → IsUtf8 bytes
+    → (r : Result (String Global) ParseFault)
+    → MatchResult r (λ text. (m : MessageValue) × IsOnlyRead variant dating (chars bytes) m
+    × (string_bytes text ≡ encode_utf8_all (printed m)))
     (λ fault. (fault ≡ Invalid) ↔ IsUnreadable variant dating (chars bytes))
     → AnswersAgain variant (chars bytes) bytes r
 again variant dating bytes u (Ok text) (found, only, written) m k h e n =
@@ -127,29 +160,45 @@ again variant dating bytes u (Err Memory) told m k h e n = absurd (n refl)
 
 -- what `normalise` answers in the year that the closure answered
 abbrev Normalises : Variant → (Option ℤ → Dating) → List ℕ → Result (String Global) ParseFault → Option ℤ → Type 0
-Normalises variant dated bytes r year = MatchResult r (λ text. (m : MessageValue) × IsOnlyRead variant (dated year) (chars bytes) m × (string_bytes text ≡ encode_utf8_all (printed m)))
+Normalises variant dated bytes r year = MatchResult r (λ text. (m : MessageValue)
+    × IsOnlyRead variant (dated year) (chars bytes) m × (string_bytes text ≡ encode_utf8_all (printed m)))
     (λ fault. (fault ≡ Invalid) ↔ IsUnreadable variant (dated year) (chars bytes))
 
-any_normalised : (variant : Variant) (tz : Option (Bor TimeZone)) (local : Bor TimeZone) (bytes : List ℕ) (r : Result (String Global) ParseFault) → ((date : MonthDate) → AsksYear variant (chars bytes) date → ⊥)
-    → (other : Option ℤ) → Normalises variant (λ y. dating_of y tz local) bytes r None → Normalises variant (λ y. dating_of y tz local) bytes r other
-any_normalised variant tz local bytes (Ok text) never other (m, only, written) =
-    (m, only_read variant (dating_of other tz local) (chars bytes) m (any_year variant (chars bytes) tz local None other m never only.read), written)
+any_normalised : (variant : Variant) (tz : Option (Bor TimeZone)) (local : Bor TimeZone) (bytes : List ℕ)
+    (r : Result (String Global) ParseFault) → ((date : MonthDate) → AsksYear variant (chars bytes) date → ⊥)
+    → (other : Option ℤ) → Normalises variant (λ y. dating_of y tz local) bytes r None
+    → Normalises variant (λ y. dating_of y tz local) bytes r other
+any_normalised variant tz local bytes (Ok text) never other (m, only, written) = (
+  m,
+  only_read variant (dating_of other tz local) (chars bytes) m
+      (any_year variant (chars bytes) tz local None other m never only.read),
+  written,
+)
 any_normalised variant tz local bytes (Err fault) never other told = (
   (λ e m r. told.0 e m (any_year variant (chars bytes) tz local other None m never r)),
   (λ u. told.1 (λ m r. u m (any_year variant (chars bytes) tz local None other m never r))),
 )
 
-pub normalised_in : (post : IncompleteDate → ℤ → Type 0) (variant : Variant) (tz : Option (Bor TimeZone)) (local : Bor TimeZone) (bytes : List ℕ) (r : Result (String Global) ParseFault) (year : Option ℤ)
-    → IsYearAnswered post variant (chars bytes) year → Normalises variant (λ y. dating_of y tz local) bytes r year → InYear post variant (chars bytes) (Normalises variant (λ y. dating_of y tz local) bytes r)
+pub normalised_in : (post : IncompleteDate → ℤ → Type 0) (variant : Variant) (tz : Option (Bor TimeZone))
+    (local : Bor TimeZone) (bytes : List ℕ) (r : Result (String Global) ParseFault) (year : Option ℤ)
+    → IsYearAnswered post variant (chars bytes) year → Normalises variant (λ y. dating_of y tz local) bytes r year
+    → InYear post variant (chars bytes) (Normalises variant (λ y. dating_of y tz local) bytes r)
 normalised_in post variant tz local bytes r year is h =
-    in_answered_year post variant (chars bytes) (Normalises variant (λ y. dating_of y tz local) bytes r) year is (any_normalised variant tz local bytes r) h
+    in_answered_year post variant (chars bytes) (Normalises variant (λ y. dating_of y tz local) bytes r) year is
+    (any_normalised variant tz local bytes r) h
 
 -- a round that is written is what it answers
-pub normalised : (variant : Variant) (dating : Dating) (text : Text) (result : String Global) → IsUtf8 (string_bytes result) → IsNext variant dating text (chars (string_bytes result))
+pub normalised : (variant : Variant) (dating : Dating) (text : Text) (result : String Global)
+    → IsUtf8 (string_bytes result) → IsNext variant dating text (chars (string_bytes result))
     → (m : MessageValue) × IsOnlyRead variant dating text m × (string_bytes result ≡ encode_utf8_all (printed m))
-normalised variant dating text result u next =
-    (next.message, only_read variant dating text next.message next.read, sym (encodes-chars (string_bytes result) u) ∙ ap encode_utf8_all next.is_printed)
+normalised variant dating text result u next = (
+  next.message,
+  only_read variant dating text next.message next.read,
+  sym (encodes-chars (string_bytes result) u) ∙ ap encode_utf8_all next.is_printed,
+)
 
-pub again_in : (post : IncompleteDate → ℤ → Type 0) (variant : Variant) (dated : Option ℤ → Dating) (bytes : List ℕ) → IsUtf8 bytes → (r : Result (String Global) ParseFault)
+pub again_in : (post : IncompleteDate → ℤ → Type 0) (variant : Variant) (dated : Option ℤ → Dating) (bytes : List ℕ)
+    → IsUtf8 bytes → (r : Result (String Global) ParseFault)
     → InYear post variant (chars bytes) (Normalises variant dated bytes r) → AnswersAgain variant (chars bytes) bytes r
-again_in post variant dated bytes u r h = again variant (dated h.answered) bytes u r (h.holds h.answered (λ date asks. refl))
+again_in post variant dated bytes u r h =
+    again variant (dated h.answered) bytes u r (h.holds h.answered (λ date asks. refl))

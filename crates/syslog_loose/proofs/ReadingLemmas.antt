@@ -1,5 +1,6 @@
 -- What the reading calls answer.
-use Rattle.std.proofs.Common.{◌≡◌, ◌↔◌, inl, inr, ℕ, ℤ, List, Bool, true, Option, Some, None, Result, Ok, Err, w32, SFits, to_z, of_z, refl, sym, ap, subst, ◌∙◌}
+use Rattle.std.proofs.Common.{◌≡◌, ◌↔◌, inl, inr, ℕ, ℤ, List, Bool, true, Option, Some, None}
+use Rattle.std.proofs.Common.{Result, Ok, Err, w32, SFits, to_z, of_z, refl, sym, ap, subst, ◌∙◌}
 use Rattle.std.proofs.lemmas.Int.{to_z-of_z}
 use Rattle.std.specs.Prelude.{IsOk, IfOk, IsTrue, MatchOption, IsSomeAnd}
 use Rattle.std.specs.declared.alloc.AllocError.{AllocError}
@@ -10,7 +11,9 @@ use Rattle.syslog_pieces.specs.Pieces.View.{shown}
 use Rattle.syslog_pieces.specs.Timestamp.Zone.{Dating, dating_of}
 use Rattle.syslog_pieces.specs.declared.timestamp.month_date.MonthDate.{MonthDate}
 use Rattle.syslog_loose.specs.Message.{MessageValue, message_value}
-use Rattle.syslog_loose.specs.Reading.{dash_rule, IsRead, IsOnlyRead, IsUnreadable, IsQuoted, IsFault, Answers, AnswersDateless, AnswersOrWhole, IncompleteDate, incomplete, AsksYear, IsLeftTo3164, IsYearAnswered, InYear}
+use Rattle.syslog_loose.specs.Reading.{dash_rule, IsRead, IsOnlyRead, IsUnreadable, IsQuoted, IsFault}
+use Rattle.syslog_loose.specs.Reading.{Answers, AnswersDateless, AnswersOrWhole, IncompleteDate}
+use Rattle.syslog_loose.specs.Reading.{incomplete, AsksYear, IsLeftTo3164, IsYearAnswered, InYear}
 use Rattle.syslog_loose.specs.Rfc5424.{IsRead5424, IsNot5424, NeedsNoMemory5424}
 use Rattle.syslog_loose.specs.declared.message.Message.{Message}
 use Rattle.syslog_loose.specs.declared.fault.ParseFault.{ParseFault}
@@ -31,31 +34,39 @@ abbrev value : Found → MessageValue
 value m = message_value (λ s. shown s) m
 
 -- ---- one reading
-pub read_once : (variant : Variant) (dating : Dating) (text : Text) (m n : MessageValue) → IsRead variant dating text m → IsRead variant dating text n → m ≡ n
+pub read_once : (variant : Variant) (dating : Dating) (text : Text) (m n : MessageValue) → IsRead variant dating text m
+    → IsRead variant dating text n → m ≡ n
 read_once RFC5424 dating text m n r s = strict.one_message text m n r s
 read_once RFC3164 dating text m n r s = rfc3164_unique.one_message dash_rule dating text m n r s
 read_once Either dating text m n (inl r) (inl s) = strict.one_message text m n r s
 read_once Either dating text m n (inl r) (inr (none, s)) = absurd (none r.values r.division)
 read_once Either dating text m n (inr (none, r)) (inl s) = absurd (none s.values s.division)
-read_once Either dating text m n (inr (none, r)) (inr (also, s)) = rfc3164_unique.one_message dash_rule dating text m n r s
+read_once Either dating text m n (inr (none, r)) (inr (also, s)) =
+    rfc3164_unique.one_message dash_rule dating text m n r s
 
-quoted : (variant : Variant) (dating : Dating) (text : Text) (m : MessageValue) → IsRead variant dating text m → IsQuoted variant dating text m
+quoted : (variant : Variant) (dating : Dating) (text : Text) (m : MessageValue) → IsRead variant dating text m
+    → IsQuoted variant dating text m
 quoted RFC5424 dating text m r = strict.quotes text m r
 quoted RFC3164 dating text m r = rfc3164.quotes dash_rule dating text m r
 quoted Either dating text m (inl r) = inl (strict.quotes text m r)
 quoted Either dating text m (inr (none, r)) = inr (none, rfc3164.quotes dash_rule dating text m r)
 
-pub only_read : (variant : Variant) (dating : Dating) (text : Text) (m : MessageValue) → IsRead variant dating text m → IsOnlyRead variant dating text m
-only_read variant dating text m r = record { read = r; only = λ n s. read_once variant dating text n m s r; quoted = quoted variant dating text m r }
+pub only_read : (variant : Variant) (dating : Dating) (text : Text) (m : MessageValue) → IsRead variant dating text m
+    → IsOnlyRead variant dating text m
+only_read variant dating text m r =
+    record { read = r; only = λ n s. read_once variant dating text n m s r; quoted = quoted variant dating text m r }
 
 -- ---- from the headers
-pub either_read : (dating : Dating) (text : Text) (m : MessageValue) → IsRead5424 text m → IsOnlyRead Either dating text m
+pub either_read : (dating : Dating) (text : Text) (m : MessageValue) → IsRead5424 text m
+    → IsOnlyRead Either dating text m
 either_read dating text m r = only_read Either dating text m (inl r)
 
 -- what RFC 3164 answers where there is no division of RFC 5424
-pub either_rfc3164 : (dating : Dating) (text : Text) (r : Result Found ParseFault) → IsNot5424 text → Answers RFC3164 dating text r → Answers Either dating text r
+pub either_rfc3164 : (dating : Dating) (text : Text) (r : Result Found ParseFault) → IsNot5424 text
+    → Answers RFC3164 dating text r → Answers Either dating text r
 either_rfc3164 dating text (Ok m) none h = only_read Either dating text (value m) (inr (none, h.read))
-either_rfc3164 dating text (Err Invalid) none h = λ m r. elim r [ inl s ↦ none s.values s.division | inr (also, s) ↦ h m s ]
+either_rfc3164 dating text (Err Invalid) none h =
+    λ m r. elim r [ inl s ↦ none s.values s.division | inr (also, s) ↦ h m s ]
 either_rfc3164 dating text (Err Memory) none h = λ needless. h (λ m s. needless m (inr (none, s)))
 
 -- memory was refused to RFC 5424
@@ -63,11 +74,13 @@ pub either_refused : (dating : Dating) (text : Text) → (NeedsNoMemory5424 text
 either_refused dating text wanted needless = wanted (λ m r. needless m (inl r))
 
 -- a division of RFC 5424 leaves no date to ask a year of
-dateless_divided : (text : Text) (m : MessageValue) → IsRead5424 text m → (date : MonthDate) → AsksYear Either text date → ⊥
+dateless_divided : (text : Text) (m : MessageValue) → IsRead5424 text m → (date : MonthDate) → AsksYear Either text date
+    → ⊥
 dateless_divided text m r date asks = shown_apart text date (shows_month_date text date asks) r.values r.division
 
 -- what RFC 5424 answers where RFC 3164 would be next
-pub dateless_found : (text : Text) (found : Option Found) → MatchOption found (IsNot5424 text) (λ m. IsRead5424 text (value m))
+pub dateless_found : (text : Text) (found : Option Found)
+    → MatchOption found (IsNot5424 text) (λ m. IsRead5424 text (value m))
     → MatchOption found (IsLeftTo3164 Either text) (λ m. AnswersDateless Either text (Ok m))
 dateless_found text None h = h
 dateless_found text (Some m) h = (dateless_divided text (value m) h, λ dating. either_read dating text (value m) h)
@@ -79,7 +92,8 @@ dateless_refused text wanted = (
 )
 
 -- what RFC 3164 answers where it is left to try
-pub left_answer : (variant : Variant) (dating : Dating) (text : Text) (r : Result Found ParseFault) → IsLeftTo3164 variant text
+pub left_answer : (variant : Variant) (dating : Dating) (text : Text) (r : Result Found ParseFault)
+    → IsLeftTo3164 variant text
     → Answers RFC3164 dating text r → Answers variant dating text r
 left_answer RFC5424 dating text r left h = absurd left
 left_answer RFC3164 dating text r left h = h
@@ -91,7 +105,8 @@ refused (Ok x) e is h p = cc
 refused (Err x) e is h p = let t = h p in cc
 
 -- what is said of a value that was found
-pub found_text : (P : Type 0) (r : Result Bool AllocError) (found : Bool) → r ≡ Ok found → found ≡ true → IfOk r (λ found. IsTrue found → P) → P
+pub found_text : (P : Type 0) (r : Result Bool AllocError) (found : Bool) → r ≡ Ok found → found ≡ true
+    → IfOk r (λ found. IsTrue found → P) → P
 found_text P r found e f h = subst (λ (x : Result Bool AllocError). IfOk x (λ found. IsTrue found → P)) e h f
 
 -- an `Err` is not `Ok`
@@ -102,102 +117,142 @@ no_ok (Err x) e is h = cc
 -- ---- the year
 
 -- a reading in which no year is asked for is one in each year
-pub any_year : (variant : Variant) (text : Text) (tz : Option (Bor TimeZone)) (local : Bor TimeZone) (year other : Option ℤ) (m : MessageValue) → ((date : MonthDate) → AsksYear variant text date → ⊥)
+pub any_year : (variant : Variant) (text : Text) (tz : Option (Bor TimeZone)) (local : Bor TimeZone)
+    (year other : Option ℤ) (m : MessageValue) → ((date : MonthDate) → AsksYear variant text date → ⊥)
     → IsRead variant (dating_of year tz local) text m → IsRead variant (dating_of other tz local) text m
 any_year RFC5424 text tz local year other m never r = r
-any_year RFC3164 text tz local year other m never r = other_read (dating_of year tz local) (dating_of other tz local) refl refl dash_rule text never m r
+any_year RFC3164 text tz local year other m never r =
+    other_read (dating_of year tz local) (dating_of other tz local) refl refl dash_rule text never m r
 any_year Either text tz local year other m never (inl r) = inl r
-any_year Either text tz local year other m never (inr (none, r)) = inr (none, other_read (dating_of year tz local) (dating_of other tz local) refl refl dash_rule text never m r)
+any_year Either text tz local year other m never (inr (none, r)) =
+    inr (none, other_read (dating_of year tz local) (dating_of other tz local) refl refl dash_rule text never m r)
 
-any_answer : (variant : Variant) (text : Text) (tz : Option (Bor TimeZone)) (local : Bor TimeZone) (year other : Option ℤ) (r : Result Found ParseFault) → ((date : MonthDate) → AsksYear variant text date → ⊥)
+any_answer : (variant : Variant) (text : Text) (tz : Option (Bor TimeZone)) (local : Bor TimeZone)
+    (year other : Option ℤ) (r : Result Found ParseFault) → ((date : MonthDate) → AsksYear variant text date → ⊥)
     → Answers variant (dating_of year tz local) text r → Answers variant (dating_of other tz local) text r
-any_answer variant text tz local year other (Ok m) never h = only_read variant (dating_of other tz local) text (value m) (any_year variant text tz local year other (value m) never h.read)
-any_answer variant text tz local year other (Err Invalid) never h = λ m r. h m (any_year variant text tz local other year m never r)
-any_answer variant text tz local year other (Err Memory) never h = λ needless. h (λ m r. needless m (any_year variant text tz local year other m never r))
+any_answer variant text tz local year other (Ok m) never h = only_read variant (dating_of other tz local) text (value m)
+    (any_year variant text tz local year other (value m) never h.read)
+any_answer variant text tz local year other (Err Invalid) never h =
+    λ m r. h m (any_year variant text tz local other year m never r)
+any_answer variant text tz local year other (Err Memory) never h =
+    λ needless. h (λ m r. needless m (any_year variant text tz local year other m never r))
 
 -- what holds in the year that the closure answered, and in each year where it holds in none that is asked for
-pub in_answered_year : (post : IncompleteDate → ℤ → Type 0) (variant : Variant) (text : Text) (Holds : Option ℤ → Type 0) (year : Option ℤ) → IsYearAnswered post variant text year
-    → (((date : MonthDate) → AsksYear variant text date → ⊥) → (other : Option ℤ) → Holds None → Holds other) → Holds year → InYear post variant text Holds
-in_answered_year post variant text Holds None is any h = record { answered = None; is_answered = is; holds = λ other agrees. any is other h }
+pub in_answered_year : (post : IncompleteDate → ℤ → Type 0) (variant : Variant) (text : Text)
+    (Holds : Option ℤ → Type 0) (year : Option ℤ) → IsYearAnswered post variant text year
+    → (((date : MonthDate) → AsksYear variant text date → ⊥) → (other : Option ℤ) → Holds None → Holds other)
+    → Holds year → InYear post variant text Holds
+in_answered_year post variant text Holds None is any h =
+    record { answered = None; is_answered = is; holds = λ other agrees. any is other h }
 in_answered_year post variant text Holds (Some year) is any h =
     record { answered = Some year; is_answered = is; holds = λ other agrees. subst Holds (sym (agrees is.0 is.1)) h }
 
 -- a fault that tells in the year that the closure answered whether the text is unreadable
-pub fault_in : (post : IncompleteDate → ℤ → Type 0) (variant : Variant) (text : Text) (tz : Option (Bor TimeZone)) (local : Bor TimeZone) (fault : ParseFault) (year : Option ℤ)
+pub fault_in : (post : IncompleteDate → ℤ → Type 0) (variant : Variant) (text : Text) (tz : Option (Bor TimeZone))
+    (local : Bor TimeZone) (fault : ParseFault) (year : Option ℤ)
     → IsYearAnswered post variant text year → (fault ≡ Invalid) ↔ IsUnreadable variant (dating_of year tz local) text
     → InYear post variant text (λ y. (fault ≡ Invalid) ↔ IsUnreadable variant (dating_of y tz local) text)
 fault_in post variant text tz local fault year is h =
-    in_answered_year post variant text (λ y. (fault ≡ Invalid) ↔ IsUnreadable variant (dating_of y tz local) text) year is
+    in_answered_year post variant text
+    (λ y. (fault ≡ Invalid) ↔ IsUnreadable variant (dating_of y tz local) text) year is
     (λ never other told. (
       (λ e m r. told.0 e m (any_year variant text tz local other None m never r)),
       (λ u. told.1 (λ m r. u m (any_year variant text tz local None other m never r))),
     )) h
 
-pub answers_in : (post : IncompleteDate → ℤ → Type 0) (variant : Variant) (text : Text) (tz : Option (Bor TimeZone)) (local : Bor TimeZone) (r : Result Found ParseFault) (year : Option ℤ)
-    → IsYearAnswered post variant text year → Answers variant (dating_of year tz local) text r → InYear post variant text (λ y. Answers variant (dating_of y tz local) text r)
+pub answers_in : (post : IncompleteDate → ℤ → Type 0) (variant : Variant) (text : Text) (tz : Option (Bor TimeZone))
+    (local : Bor TimeZone) (r : Result Found ParseFault) (year : Option ℤ)
+    → IsYearAnswered post variant text year → Answers variant (dating_of year tz local) text r
+    → InYear post variant text (λ y. Answers variant (dating_of y tz local) text r)
 answers_in post variant text tz local r year is h =
-    in_answered_year post variant text (λ y. Answers variant (dating_of y tz local) text r) year is (λ never other a. any_answer variant text tz local None other r never a) h
+    in_answered_year post variant text (λ y. Answers variant (dating_of y tz local) text r) year is
+    (λ never other a. any_answer variant text tz local None other r never a) h
 
 -- an answer that no date counts for, in whatever year
-pub dateless_in : (post : IncompleteDate → ℤ → Type 0) (variant : Variant) (text : Text) (tz : Option (Bor TimeZone)) (local : Bor TimeZone) (r : Result Found ParseFault)
+pub dateless_in : (post : IncompleteDate → ℤ → Type 0) (variant : Variant) (text : Text) (tz : Option (Bor TimeZone))
+    (local : Bor TimeZone) (r : Result Found ParseFault)
     → AnswersDateless variant text r → InYear post variant text (λ y. Answers variant (dating_of y tz local) text r)
-dateless_in post variant text tz local r (never, h) = record { answered = None; is_answered = never; holds = λ year agrees. h (dating_of year tz local) }
+dateless_in post variant text tz local r (never, h) =
+    record { answered = None; is_answered = never; holds = λ year agrees. h (dating_of year tz local) }
 
 -- the answer to the date that the text asks a year of
-pub answered_to : (post : IncompleteDate → ℤ → Type 0) (variant : Variant) (text : Text) (asked : Option IncompleteDate) (year : Option ℤ)
-    → MatchOption asked ((date : MonthDate) → AsksYear variant text date → ⊥) (λ d. (date : MonthDate) × AsksYear variant text date × (d ≡ incomplete date))
+pub answered_to : (post : IncompleteDate → ℤ → Type 0) (variant : Variant) (text : Text) (asked : Option IncompleteDate)
+    (year : Option ℤ)
+    → MatchOption asked ((date : MonthDate) → AsksYear variant text date → ⊥)
+    (λ d. (date : MonthDate) × AsksYear variant text date × (d ≡ incomplete date))
     → MatchOption asked (year ≡ None) (λ d. IsSomeAnd year (λ y. post d y)) → IsYearAnswered post variant text year
 answered_to post variant text None None h k = h
 answered_to post variant text None (Some y) h k = cc
 answered_to post variant text (Some d) None h k = absurd k
-answered_to post variant text (Some d) (Some y) (date, asks, e) k = (date, asks, subst (λ (x : IncompleteDate). post x y) e k)
+answered_to post variant text (Some d) (Some y) (date, asks, e) k =
+    (date, asks, subst (λ (x : IncompleteDate). post x y) e k)
 
 -- what holds in each year that agrees holds in that year
-pub in_year_map : {post : IncompleteDate → ℤ → Type 0} {variant : Variant} {text : Text} {Holds More : Option ℤ → Type 0} → ((year : Option ℤ) → Holds year → More year)
+pub in_year_map : {post : IncompleteDate → ℤ → Type 0} {variant : Variant} {text : Text} {Holds More : Option ℤ
+    → Type 0} → ((year : Option ℤ) → Holds year → More year)
     → InYear post variant text Holds → InYear post variant text More
-in_year_map f h = record { answered = h.answered; is_answered = h.is_answered; holds = λ year agrees. f year (h.holds year agrees) }
+in_year_map f h =
+    record { answered = h.answered; is_answered = h.is_answered; holds = λ year agrees. f year (h.holds year agrees) }
 
-year_same : (post : IncompleteDate → ℤ → Type 0) (variant : Variant) (text : Text) (year : ℤ) → ((date : IncompleteDate) (y : ℤ) → post date y → y ≡ year) → (answered : Option ℤ)
+year_same : (post : IncompleteDate → ℤ → Type 0) (variant : Variant) (text : Text) (year : ℤ)
+    → ((date : IncompleteDate) (y : ℤ) → post date y → y ≡ year) → (answered : Option ℤ)
     → IsYearAnswered post variant text answered → (date : MonthDate) → AsksYear variant text date → Some year ≡ answered
 year_same post variant text year same None never date asks = absurd (never date asks)
 year_same post variant text year same (Some y) (d, a, p) date asks = ap Some (sym (same (incomplete d) y p))
 
 -- what holds in the one year that a closure may answer
-pub in_one_year : {post : IncompleteDate → ℤ → Type 0} {variant : Variant} {text : Text} {Holds : Option ℤ → Type 0} → InYear post variant text Holds
+pub in_one_year : {post : IncompleteDate → ℤ → Type 0} {variant : Variant} {text : Text} {Holds : Option ℤ → Type 0}
+    → InYear post variant text Holds
     → (year : ℤ) → ((date : IncompleteDate) (y : ℤ) → post date y → y ≡ year) → Holds (Some year)
-in_one_year {post = post} {variant = variant} {text = text} h year same = h.holds (Some year) (year_same post variant text year same h.answered h.is_answered)
+in_one_year {post = post} {variant = variant} {text = text} h year same = h.holds (Some year)
+    (year_same post variant text year same h.answered h.is_answered)
 
 -- For callers: what holds in the year of a closure that always answers this one, an `i32`.
-pub in_this_year : {post : IncompleteDate → ℤ → Type 0} {variant : Variant} {text : Text} {Holds : Option ℤ → Type 0} → InYear post variant text Holds
-    → (year : ℤ) → SFits w32 year → ((date : IncompleteDate) (y : ℤ) → post date y → y ≡ to_z w32 (of_z w32 year)) → Holds (Some year)
+pub in_this_year : {post : IncompleteDate → ℤ → Type 0} {variant : Variant} {text : Text} {Holds : Option ℤ → Type 0}
+    → InYear post variant text Holds
+    → (year : ℤ) → SFits w32 year → ((date : IncompleteDate) (y : ℤ) → post date y → y ≡ to_z w32 (of_z w32 year))
+    → Holds (Some year)
 in_this_year h year fits same = in_one_year h year (λ date y is. same date y is ∙ to_z-of_z w32 year fits)
 
-told_answered : (post told : IncompleteDate → ℤ → Type 0) (variant : Variant) (text : Text) → ((date : IncompleteDate) (year : ℤ) → post date year → told date year)
+told_answered : (post told : IncompleteDate → ℤ → Type 0) (variant : Variant) (text : Text)
+    → ((date : IncompleteDate) (year : ℤ) → post date year → told date year)
     → (answered : Option ℤ) → IsYearAnswered post variant text answered → IsYearAnswered told variant text answered
 told_answered post told variant text tells None never = never
 told_answered post told variant text tells (Some year) (date, asks, p) = (date, asks, tells (incomplete date) year p)
 
 -- For callers: what holds in the year of a closure, where that is known by what its own clause comes to.
-pub in_year_told : {post told : IncompleteDate → ℤ → Type 0} {variant : Variant} {text : Text} {Holds : Option ℤ → Type 0} → InYear post variant text Holds
+pub in_year_told : {post told : IncompleteDate → ℤ → Type 0} {variant : Variant} {text : Text} {Holds : Option ℤ
+    → Type 0} → InYear post variant text Holds
     → ((date : IncompleteDate) (year : ℤ) → post date year → told date year) → InYear told variant text Holds
 in_year_told {post = post} {told = told} {variant = variant} {text = text} h tells =
-    record { answered = h.answered; is_answered = told_answered post told variant text tells h.answered h.is_answered; holds = h.holds }
+    record {
+      answered = h.answered;
+      is_answered = told_answered post told variant text tells h.answered h.is_answered;
+      holds = h.holds;
+    }
 
 -- ---- faults
 pub invalid_or_memory : Memory ≡ Invalid → ⊥
 invalid_or_memory e = cc
 
-pub fault_tells : (variant : Variant) (dating : Dating) (text : Text) (fault : ParseFault) → IsFault variant dating text fault → (fault ≡ Invalid) ↔ IsUnreadable variant dating text
+pub fault_tells : (variant : Variant) (dating : Dating) (text : Text) (fault : ParseFault)
+    → IsFault variant dating text fault → (fault ≡ Invalid) ↔ IsUnreadable variant dating text
 fault_tells variant dating text Invalid unreadable = (λ e. unreadable, λ u. refl)
-fault_tells variant dating text Memory wanted = (λ e. absurd (invalid_or_memory e), λ u. absurd (wanted (λ m r. absurd (u m r))))
+fault_tells variant dating text Memory wanted =
+    (λ e. absurd (invalid_or_memory e), λ u. absurd (wanted (λ m r. absurd (u m r))))
 
 -- a readable text is no invalid one
-pub memory_tells : (variant : Variant) (dating : Dating) (text : Text) (m : MessageValue) → IsOnlyRead variant dating text m → (Memory ≡ Invalid) ↔ IsUnreadable variant dating text
+pub memory_tells : (variant : Variant) (dating : Dating) (text : Text) (m : MessageValue)
+    → IsOnlyRead variant dating text m → (Memory ≡ Invalid) ↔ IsUnreadable variant dating text
 memory_tells variant dating text m r = (λ e. absurd (invalid_or_memory e), λ u. absurd (u m r.read))
 
 -- ---- the calls with a fallback
 -- what is answered in the year that stands in for one, where the text asks for it, and in none where it does not
-pub or_whole_in : (post : IncompleteDate → ℤ → Type 0) (variant : Variant) (text : Text) (tz : Option (Bor TimeZone)) (local : Bor TimeZone) (r : Result Found ParseFault) (s : Result Found AllocError) (year : Option ℤ)
-    → IsYearAnswered post variant text year → ((dating : Dating) → Answers variant dating text r → AnswersOrWhole variant dating text s) → Answers variant (dating_of year tz local) text r
+pub or_whole_in : (post : IncompleteDate → ℤ → Type 0) (variant : Variant) (text : Text) (tz : Option (Bor TimeZone))
+    (local : Bor TimeZone) (r : Result Found ParseFault) (s : Result Found AllocError) (year : Option ℤ)
+    → IsYearAnswered post variant text year
+    → ((dating : Dating) → Answers variant dating text r → AnswersOrWhole variant dating text s)
+    → Answers variant (dating_of year tz local) text r
     → InYear post variant text (λ y. AnswersOrWhole variant (dating_of y tz local) text s)
-or_whole_in post variant text tz local r s year is turn h = in_year_map (λ y a. turn (dating_of y tz local) a) (answers_in post variant text tz local r year is h)
+or_whole_in post variant text tz local r s year is turn h =
+    in_year_map (λ y a. turn (dating_of y tz local) a) (answers_in post variant text tz local r year is h)

@@ -1,10 +1,13 @@
 -- The form `tag[id]`: a text is of it in one way, and what its reader finds.
 use Rattle.std.proofs.Common.{◌≡◌, ◌≢◌, ℕ, ◌<◌, List, [], ◌∷◌, ◌++◌, length, refl, ap, ◌∙◌, arith, inl}
 use Rattle.std.specs.Str.{chars, IsAscii}
-use Rattle.syslog_pieces.specs.Pieces.Class.{Text, Class, IsDeterministic, Values, Front, NoFront, Row, run, some_run, exactly, texted}
+use Rattle.syslog_pieces.specs.Pieces.Class.{Text, Class, IsDeterministic, Values, Front}
+use Rattle.syslog_pieces.specs.Pieces.Class.{NoFront, Row, run, some_run, exactly, texted}
 use Rattle.syslog_pieces.specs.Bodies.Scan.{SplitsRun}
 use Rattle.syslog_pieces.specs.Text.CharClass.{is_label_char, is_open_char}
-use Rattle.syslog_pieces.proofs.PieceLemmas.Class.{AllDeterministic, unique_division, division_front, front_division, exactly_det, run_det, some_run_det, texted_det, no_texted, no_row_division}
+use Rattle.syslog_pieces.proofs.PieceLemmas.Class.{AllDeterministic, unique_division, division_front}
+use Rattle.syslog_pieces.proofs.PieceLemmas.Class.{front_division, exactly_det, run_det, some_run_det}
+use Rattle.syslog_pieces.proofs.PieceLemmas.Class.{texted_det, no_texted, no_row_division}
 use Rattle.syslog_pieces.proofs.PieceLemmas.Meets.{rows_go}
 use Rattle.syslog_pieces.proofs.TextLemmas.Chars.{chars_nonempty, one_ascii}
 use Rattle.syslog_pieces.proofs.TextLemmas.Runs.{no_some_run}
@@ -52,8 +55,13 @@ closing_ascii = one_ascii 93 (omega arith)
 label_front : (bs xs ys : List ℕ) → SplitsRun is_label_char bs xs ys → Front label (chars bs) (chars ys) (chars xs)
 label_front bs xs ys s = record { piece = chars xs; whole = s.characters; is = (tt, (s.each, s.ends), refl) }
 
-id_front : (bs xs ys : List ℕ) → SplitsRun is_open_char bs xs ys → 0 < length xs → Front id_text (chars bs) (chars ys) (chars xs)
-id_front bs xs ys s l = record { piece = chars xs; whole = s.characters; is = (tt, (chars_nonempty xs s.front_utf8 l, s.each, s.ends), refl) }
+id_front : (bs xs ys : List ℕ) → SplitsRun is_open_char bs xs ys → 0 < length xs
+    → Front id_text (chars bs) (chars ys) (chars xs)
+id_front bs xs ys s l = record {
+  piece = chars xs;
+  whole = s.characters;
+  is = (tt, (chars_nonempty xs s.front_utf8 l, s.each, s.ends), refl);
+}
 
 module _ (bs xs ys : List ℕ) (s : SplitsRun is_label_char bs xs ys) where
   -- there is no `[` behind the tag
@@ -64,7 +72,8 @@ module _ (bs xs ys : List ℕ) (s : SplitsRun is_label_char bs xs ys) where
     -- the id is empty
     pub no_id : length is ≡ 0 → IsNoForm (chars bs)
     no_id z =
-        let n : NoFront id_text (chars ts) = no_texted (some_run is_open_char) (no_some_run is_open_char ts is ks r z) in
+        let n : NoFront id_text (chars ts) =
+        no_texted (some_run is_open_char) (no_some_run is_open_char ts is ks r z) in
         no_row_division form_row (no_row form_row form_det (label_front bs xs ys s past o past inl n))
 
     to_id : 0 < length is → Front (Row to_closing) (chars bs) (chars ks) (chars xs, (tt, (chars is, tt)))
@@ -73,7 +82,8 @@ module _ (bs xs ys : List ℕ) (s : SplitsRun is_label_char bs xs ys) where
     -- something else than `]` is behind the id
     pub no_closing : 0 < length is → chars ks ≢ 93 ∷ [] → IsNoForm (chars bs)
     no_closing l n vs d =
-        let (v, f) = (rows_go to_closing (closing ∷ []) to_closing_det (chars bs) (chars ks) _ (to_id l)).back [] vs (division_front form_row d) in
+        let (v, f) = (rows_go to_closing (closing ∷ []) to_closing_det (chars bs) (chars ks) _ (to_id l)).back [] vs
+        (division_front form_row d) in
         let (q, g, e) = row_pieces (closing ∷ []) f in
         n (g.whole ∙ ap (λ (x : Text). x ++ q) g.is ∙ ap (λ (x : Text). 93 ∷ x) e)
 

@@ -6,7 +6,10 @@ use Rattle.syslog_pieces.specs.Text.{is_blank}
 
 -- the first small letter of a month's name: a, d, f, j, m, n, o, s
 abbrev pub is_initial : ℕ → Bool
-is_initial c = nat_eq c 97 || (nat_eq c 100 || (nat_eq c 102 || (nat_eq c 106 || (nat_eq c 109 || (nat_eq c 110 || (nat_eq c 111 || nat_eq c 115))))))
+is_initial c =
+    nat_eq c 97
+    || (nat_eq c 100 || (nat_eq c 102
+    || (nat_eq c 106 || (nat_eq c 109 || (nat_eq c 110 || (nat_eq c 111 || nat_eq c 115))))))
 
 -- `<`, a blank, `-`, a digit, or such a letter
 abbrev pub is_first : ℕ → Bool

@@ -1,6 +1,7 @@
 -- The written condition: the messages that are read back unchanged from their printed text. It speaks of the fields
 -- alone, and never of reading. (This project's own.)
-use Rattle.std.specs.Prelude.{◌≡◌, ◌≢◌, ℕ, ◌<◌, ◌^◌, ◌&&◌, not, nat_eq, ⊤, Bool, [], length, Option, Some, None, IfSome, IsSome}
+use Rattle.std.specs.Prelude.{◌≡◌, ◌≢◌, ℕ, ◌<◌, ◌^◌, ◌&&◌, not, nat_eq, ⊤, Bool}
+use Rattle.std.specs.Prelude.{[], length, Option, Some, None, IfSome, IsSome}
 use Rattle.std.specs.List.{AllByRecursion}
 use Rattle.syslog_pieces.specs.Pieces.Class.{Text, Each, Ends}
 use Rattle.syslog_pieces.specs.StructuredData.Rfc3164List.{BeginsNoList}

@@ -1,5 +1,5 @@
--- What the rule of the dash changed: how it was while a dash was a list of RFC 3164 before anything, and which texts are
--- read otherwise now. (This project's own.)
+-- What the rule of the dash changed: how it was while a dash was a list of RFC 3164 before anything, and which texts
+-- are read otherwise now. (This project's own.)
 use Rattle.std.specs.Prelude.{◌≡◌, ◌≢◌, ℕ, false, List, [], ◌∷◌, ◌++◌, length}
 use Rattle.syslog_pieces.specs.Pieces.Class.{Text, Class, join}
 use Rattle.syslog_pieces.specs.StructuredData.Rfc3164List.{rfc3164_list}

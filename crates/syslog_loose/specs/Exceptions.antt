@@ -1,6 +1,7 @@
 -- What a message that was read as RFC 3164 may miss of the written condition: five things and no more. So these are the
 -- messages that are read as another one, or not at all, when they are printed. (This project's own.)
-use Rattle.std.specs.Prelude.{◌≡◌, ◌≢◌, ◌⊎◌, ⊤, ℕ, ◌<◌, nat_eq, ◌&&◌, not, Bool, [], length, Option, Some, None, IfSome, IsSome}
+use Rattle.std.specs.Prelude.{◌≡◌, ◌≢◌, ◌⊎◌, ⊤, ℕ, ◌<◌, nat_eq, ◌&&◌, not, Bool}
+use Rattle.std.specs.Prelude.{[], length, Option, Some, None, IfSome, IsSome}
 use Rattle.std.specs.Char.{is_not_whitespace}
 use Rattle.std.specs.List.{AllByRecursion}
 use Rattle.syslog_pieces.specs.Pieces.Class.{Text, Each, Ends}

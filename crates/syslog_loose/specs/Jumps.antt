@@ -1,5 +1,5 @@
--- Rounds whose texts are known before they are read: those in which a host loses a colon each time, and those in which a
--- message part loses a dash. (All of it is this project's own.)
+-- Rounds whose texts are known before they are read: those in which a host loses a colon each time, and those in which
+-- a message part loses a dash. (All of it is this project's own.)
 use Rattle.std.specs.Prelude.{◌≡◌, ℕ, zero, suc, ◌<◌, List, [], ◌∷◌, ◌++◌, length, Some, None, IfSome}
 use Rattle.syslog_pieces.specs.Pieces.Class.{Text, Each, Ends}
 use Rattle.syslog_pieces.specs.Pri.{facility_of, severity_of}
@@ -45,7 +45,8 @@ past_colons m host n = record {
   msg = 58 ∷ colons_before n (tail_text m.structured_data m.msg);
 }
 
--- The message has a timestamp that its print has too, and this is its host, less n colons at its end, of which it keeps one.
+-- The message has a timestamp that its print has too, and this is its host, less n colons at its end, of which it keeps
+-- one.
 pub record EndsColons (m : MessageValue) (host : Text) (n : ℕ) : Type 0 where
   pub timestamp : IfSome m.timestamp IsCanonicalStamp
   pub hostname : m.hostname ≡ Some (host ++ colons n)
@@ -71,7 +72,8 @@ pub record IsDashed (text behind : Text) : Type 0 where
 -- n dashes, each with the blanks behind it, are passed over, and a further one with blanks behind it follows
 abbrev pub PassesDashes : ℕ → Text → Text → Type 0
 PassesDashes zero text behind = behind ≡ text
-PassesDashes (suc n) text behind = (before : Text) × PassesDashes n text before × IsDashed before behind × (next : Text) × IsDashed behind next
+PassesDashes (suc n) text behind = (before : Text) × PassesDashes n text before × IsDashed before behind × (next : Text)
+    × IsDashed behind next
 
 -- the message with this message part
 abbrev pub with_msg : MessageValue → Text → MessageValue

@@ -1,5 +1,6 @@
 -- What the reading calls answer to a printed message, and what is known of the fields of a message that was read.
-use Rattle.std.specs.Prelude.{◌≡◌, ◌≢◌, ◌↔◌, ◌⊎◌, ⊤, ℕ, List, Result, Err, String, string_bytes, IfSome, IsSome, IsOkAnd}
+use Rattle.std.specs.Prelude.{◌≡◌, ◌≢◌, ◌↔◌, ◌⊎◌, ⊤, ℕ, List, Result, Err}
+use Rattle.std.specs.Prelude.{String, string_bytes, IfSome, IsSome, IsOkAnd}
 use Rattle.std.specs.Global.{Global}
 use Rattle.std.specs.Borrow.{Bor}
 use Rattle.syslog_pieces.specs.Pieces.Class.{Text}
@@ -32,14 +33,16 @@ ReadsProtocol RFC5424 (protocol.RFC5424 version) = ⊤
 -- Where memory suffices, the printed text of a message is answered with the message itself exactly where that meets the
 -- written condition.
 abbrev pub AnswersItself : Variant → Text → Result (Message (Bor (List ℕ))) ParseFault → Type 0
-AnswersItself variant text result = (m : MessageValue) → IsBounded m → ReadsProtocol variant m.protocol → text ≡ printed m → result ≢ Err Memory
+AnswersItself variant text result = (m : MessageValue) → IsBounded m → ReadsProtocol variant m.protocol
+    → text ≡ printed m → result ≢ Err Memory
     → IsOkAnd result (λ found. message_value (λ s. shown s) found ≡ m) ↔ IsCanonical dash_rule m
 
 -- What is read as RFC 5424 with a facility meets the condition. What is read as RFC 3164 with one does but for the
 -- exceptions, and its timestamp is canonical, or that of a month date.
 abbrev pub FieldsAsRead : Protocol → Dating → Text → MessageValue → Type 0
 FieldsAsRead (protocol.RFC5424 version) dating text m = IsSome m.facility → IsCanonical dash_rule m
-FieldsAsRead protocol.RFC3164 dating text m = (IsSome m.facility → IsNearlyCanonical m) × IfSome m.timestamp (λ s. IsCanonicalStamp s ⊎ IsOfMonthDate dating text s)
+FieldsAsRead protocol.RFC3164 dating text m = (IsSome m.facility → IsNearlyCanonical m)
+    × IfSome m.timestamp (λ s. IsCanonicalStamp s ⊎ IsOfMonthDate dating text s)
 
 -- The text is printed of a message that normalising keeps: one that meets the condition, or one that was read, with a
 -- facility or without: as RFC 5424, or as RFC 3164 and then with none of the exceptions.
@@ -49,5 +52,6 @@ IsFixed m = (IsBounded m × IsCanonical dash_rule m) ⊎ ((text : Text) × IsRea
 
 -- Where memory suffices, the printed text of such a message is answered again.
 abbrev pub AnswersAgain : Variant → Text → List ℕ → Result (String Global) ParseFault → Type 0
-AnswersAgain variant text bytes result = (m : MessageValue) → IsFixed m → ReadsProtocol variant m.protocol → text ≡ printed m → result ≢ Err Memory
+AnswersAgain variant text bytes result = (m : MessageValue) → IsFixed m → ReadsProtocol variant m.protocol
+    → text ≡ printed m → result ≢ Err Memory
     → IsOkAnd result (λ again. string_bytes again ≡ bytes)

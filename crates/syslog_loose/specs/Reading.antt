@@ -27,8 +27,8 @@ use Rattle.syslog_loose.specs.Rfc5424.{IsRead5424, IsNot5424, Quotes5424}
 abbrev pub dash_rule : DashRule
 dash_rule = BeforeBlank
 
--- the text is read as the message under this rule: under `Either` as RFC 5424, and as RFC 3164 where that has no division
--- of it
+-- the text is read as the message under this rule: under `Either` as RFC 5424, and as RFC 3164 where that has no
+-- division of it
 abbrev pub IsReadUnder : DashRule → Variant → Dating → Text → MessageValue → Type 0
 IsReadUnder rule RFC5424 dating text m = IsRead5424 text m
 IsReadUnder rule RFC3164 dating text m = IsRead3164 rule dating text m
@@ -93,10 +93,12 @@ AsksYear Either text date = ShowsYearless text date
 -- this is the year that the closure answered: none where the text asks for no year
 abbrev pub IsYearAnswered : (IncompleteDate → ℤ → Type 0) → Variant → Text → Option ℤ → Type 0
 IsYearAnswered post variant text None = (date : MonthDate) → AsksYear variant text date → ⊥
-IsYearAnswered post variant text (Some year) = (date : MonthDate) × AsksYear variant text date × post (incomplete date) year
+IsYearAnswered post variant text (Some year) = (date : MonthDate) × AsksYear variant text date
+    × post (incomplete date) year
 
 -- This holds in the year that the closure answered, and in any year where the text asks for none.
-pub record InYear (post : IncompleteDate → ℤ → Type 0) (variant : Variant) (text : Text) (Holds : Option ℤ → Type 0) : Type 0 where
+pub record InYear (post : IncompleteDate → ℤ → Type 0) (variant : Variant) (text : Text)
+    (Holds : Option ℤ → Type 0) : Type 0 where
   pub answered : Option ℤ
   pub is_answered : IsYearAnswered post variant text answered
   pub holds : (year : Option ℤ) → ((date : MonthDate) → AsksYear variant text date → year ≡ answered) → Holds year
@@ -110,11 +112,13 @@ IsFault variant dating text Memory = NeedsNoMemory variant dating text → ⊥
 
 -- the one message as which the text is read, or a fault
 abbrev pub Answers : Variant → Dating → Text → Result (Message (Bor (List ℕ))) ParseFault → Type 0
-Answers variant dating text result = MatchResult result (λ m. IsOnlyRead variant dating text (message_value (λ s. shown s) m)) (λ fault. IsFault variant dating text fault)
+Answers variant dating text result = MatchResult result
+    (λ m. IsOnlyRead variant dating text (message_value (λ s. shown s) m)) (λ fault. IsFault variant dating text fault)
 
 -- this answer, whatever the year and the zones: the text shows no date that a year would be asked for
 abbrev pub AnswersDateless : Variant → Text → Result (Message (Bor (List ℕ))) ParseFault → Type 0
-AnswersDateless variant text result = ((date : MonthDate) → AsksYear variant text date → ⊥) × ((dating : Dating) → Answers variant dating text result)
+AnswersDateless variant text result = ((date : MonthDate) → AsksYear variant text date → ⊥)
+    × ((dating : Dating) → Answers variant dating text result)
 
 -- the text is read as RFC 3164 says, if at all
 abbrev pub IsLeftTo3164 : Variant → Text → Type 0
@@ -141,12 +145,16 @@ fallback text = record {
 
 -- the one message as which the text is read, or the fallback where there is none
 abbrev pub IsReadOrWhole : Variant → Dating → Text → MessageValue → Type 0
-IsReadOrWhole variant dating text m = IsOnlyRead variant dating text m ⊎ (IsUnreadable variant dating text × (m ≡ fallback text))
+IsReadOrWhole variant dating text m = IsOnlyRead variant dating text m
+    ⊎ (IsUnreadable variant dating text × (m ≡ fallback text))
 
 -- that message, or a refusal of memory, only for a text whose message has elements
 abbrev pub AnswersOrWhole : Variant → Dating → Text → Result (Message (Bor (List ℕ))) AllocError → Type 0
-AnswersOrWhole variant dating text result = MatchResult result (λ m. IsReadOrWhole variant dating text (message_value (λ s. shown s) m)) (λ _. NeedsNoMemory variant dating text → ⊥)
+AnswersOrWhole variant dating text result = MatchResult result
+    (λ m. IsReadOrWhole variant dating text (message_value (λ s. shown s) m))
+    (λ _. NeedsNoMemory variant dating text → ⊥)
 
 -- For callers: the text has no reading, and this holds, or this holds of the one message as which it is read.
 abbrev pub OnReading : Variant → Dating → Text → Type 0 → (MessageValue → Type 0) → Type 0
-OnReading variant dating text Otherwise Holds = (IsUnreadable variant dating text × Otherwise) ⊎ ((m : MessageValue) × IsOnlyRead variant dating text m × Holds m)
+OnReading variant dating text Otherwise Holds = (IsUnreadable variant dating text × Otherwise)
+    ⊎ ((m : MessageValue) × IsOnlyRead variant dating text m × Holds m)

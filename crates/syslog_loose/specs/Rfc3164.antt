@@ -2,7 +2,8 @@
 -- mean. Behind the timestamp nothing can fail.
 use Rattle.std.specs.Prelude.{◌≡◌, ◌⊎◌, List, [], ◌∷◌, ◌++◌, Option, Some, None}
 use Rattle.std.specs.Option.{option_and_then}
-use Rattle.syslog_pieces.specs.Pieces.Class.{Text, Class, Values, Front, Row, Division, NoDivision, run, rest, exactly, optional, spaced}
+use Rattle.syslog_pieces.specs.Pieces.Class.{Text, Class, Values, Front, Row, Division}
+use Rattle.syslog_pieces.specs.Pieces.Class.{NoDivision, run, rest, exactly, optional, spaced}
 use Rattle.syslog_pieces.specs.Pieces.Parts.{AreInPieces}
 use Rattle.syslog_pieces.specs.Pri.{priority, facility_of, severity_of}
 use Rattle.syslog_pieces.specs.ProcId.{NamesProcess}
@@ -29,13 +30,15 @@ names hostname appname procid = record { hostname = hostname; appname = appname;
 -- a program's name beside this host: of the form `tag[id]` it gives app name and process id, else it is the app name
 abbrev pub NamesProgram : Option Text → Text → Names3164 → Type 0
 NamesProgram host text n =
-    ((tag : Text) × (id : Text) × (process : ProcId Text) × IsForm text tag id × NamesProcess id process × (n ≡ names host (Some tag) (Some process)))
+    ((tag : Text) × (id : Text) × (process : ProcId Text) × IsForm text tag id × NamesProcess id process
+    × (n ≡ names host (Some tag) (Some process)))
     ⊎ (IsNoForm text × (n ≡ names host (Some text) None))
 
 -- a lone name: of the form `tag[id]` it is a program's, else it is the host
 abbrev pub NamesHost : Text → Names3164 → Type 0
 NamesHost text n =
-    ((tag : Text) × (id : Text) × (process : ProcId Text) × IsForm text tag id × NamesProcess id process × (n ≡ names None (Some tag) (Some process)))
+    ((tag : Text) × (id : Text) × (process : ProcId Text) × IsForm text tag id × NamesProcess id process
+    × (n ≡ names None (Some tag) (Some process)))
     ⊎ (IsNoForm text × (n ≡ names (Some text) None None))
 
 -- What the host field and the tag field mean together: each is not there, or there and empty (`-`), or a text.
@@ -51,7 +54,8 @@ Resolves field (Some None) n = n ≡ names None None None
 
 -- the fields of names and a colon, with blanks or none behind them
 abbrev pub fields_row : List Class
-fields_row = optional (spaced host) ∷ optional (spaced tag_word) ∷ run is_blank ∷ optional (exactly colon) ∷ run is_blank ∷ []
+fields_row =
+    optional (spaced host) ∷ optional (spaced tag_word) ∷ run is_blank ∷ optional (exactly colon) ∷ run is_blank ∷ []
 
 -- these, the list and the message, with blanks or none between them
 abbrev pub body_row : DashRule → List Class
@@ -73,18 +77,19 @@ rfc3164_row rule dating = stamped_row dating ++ body_row rule
 
 -- the pieces mean the message
 abbrev pub Means3164 : (rule : DashRule) (dating : Dating) → Values (rfc3164_row rule dating) → MessageValue → Type 0
-Means3164 rule dating (pri, (_, (stamp, (origin, (program, (_, (_, (_, (es, (_, (m, _))))))))))) message = (n : Names3164) × Resolves origin program n × (message ≡ record {
-  protocol = RFC3164;
-  facility = option_and_then facility_of pri;
-  severity = option_and_then severity_of pri;
-  timestamp = stamp;
-  hostname = n.hostname;
-  appname = n.appname;
-  procid = n.procid;
-  msgid = None;
-  structured_data = elements_or es;
-  msg = m;
-})
+Means3164 rule dating (pri, (_, (stamp, (origin, (program, (_, (_, (_, (es, (_, (m, _))))))))))) message =
+    (n : Names3164) × Resolves origin program n × (message ≡ record {
+      protocol = RFC3164;
+      facility = option_and_then facility_of pri;
+      severity = option_and_then severity_of pri;
+      timestamp = stamp;
+      hostname = n.hostname;
+      appname = n.appname;
+      procid = n.procid;
+      msgid = None;
+      structured_data = elements_or es;
+      msg = m;
+    })
 
 -- the trimmed text has a division into these pieces, and they mean the message
 pub record IsRead3164 (rule : DashRule) (dating : Dating) (text : Text) (m : MessageValue) : Type 0 where

@@ -14,7 +14,8 @@ use Rattle.syslog_loose.specs.Message.{MessageValue, message_texts}
 -- priority, version, timestamp, host, app name, process id, message id, with blanks between two
 abbrev pub header_row : List Class
 header_row =
-    optional priority ∷ number 4294967295 ∷ some_run is_blank ∷ header_stamp ∷ some_run is_blank ∷ host ∷ some_run is_blank ∷ word
+    optional priority ∷ number 4294967295 ∷ some_run is_blank ∷ header_stamp ∷ some_run is_blank ∷ host
+    ∷ some_run is_blank ∷ word
     ∷ some_run is_blank ∷ process_word ∷ some_run is_blank ∷ word ∷ []
 
 -- the elements and the message, with blanks or none before each
@@ -27,18 +28,19 @@ rfc5424_row = header_row ++ data_row
 
 -- the message that the pieces mean
 abbrev pub message_of : Values rfc5424_row → MessageValue
-message_of (pri, (version, (_, (stamp, (_, (name, (_, (app, (_, (process, (_, (id, (_, (es, (_, (m, _)))))))))))))))) = record {
-  protocol = RFC5424 version;
-  facility = option_and_then facility_of pri;
-  severity = option_and_then severity_of pri;
-  timestamp = stamp;
-  hostname = name;
-  appname = app;
-  procid = process;
-  msgid = id;
-  structured_data = es;
-  msg = m;
-}
+message_of (pri, (version, (_, (stamp, (_, (name, (_, (app, (_, (process, (_, (id, (_, (es, (_, (m, _)))))))))))))))) =
+    record {
+      protocol = RFC5424 version;
+      facility = option_and_then facility_of pri;
+      severity = option_and_then severity_of pri;
+      timestamp = stamp;
+      hostname = name;
+      appname = app;
+      procid = process;
+      msgid = id;
+      structured_data = es;
+      msg = m;
+    }
 
 -- the trimmed text has a division into these pieces, and the message is what they mean
 pub record IsRead5424 (text : Text) (m : MessageValue) : Type 0 where

@@ -1,6 +1,7 @@
--- Rounds: a text is read and printed, and what was printed is read and printed again, until it no longer changes. And the
--- weight of a message of RFC 3164, which falls from round to round until then. (All of it is this project's own.)
-use Rattle.std.specs.Prelude.{◌≡◌, ◌≢◌, ◌⊎◌, ℕ, zero, suc, ◌+◌, ◌<◌, ◌≤◌, [], ◌∷◌, ◌++◌, length, Bool, false, MatchBool, ⊤, Option, Some, None, IfSome, Result, Ok, Err, MatchResult, String, string_bytes}
+-- Rounds: a text is read and printed, and what was printed is read and printed again, until it no longer changes. And
+-- the weight of a message of RFC 3164, which falls from round to round until then. (All of it is this project's own.)
+use Rattle.std.specs.Prelude.{◌≡◌, ◌≢◌, ◌⊎◌, ℕ, zero, suc, ◌+◌, ◌<◌, ◌≤◌, [], ◌∷◌, ◌++◌, length, Bool, false, MatchBool}
+use Rattle.std.specs.Prelude.{⊤, Option, Some, None, IfSome, Result, Ok, Err, MatchResult, String, string_bytes}
 use Rattle.std.specs.Global.{Global}
 use Rattle.std.specs.Str.{chars}
 use Rattle.syslog_pieces.specs.Pieces.Class.{Text}
@@ -31,7 +32,8 @@ pub record IsNext (variant : Variant) (dating : Dating) (text next : Text) : Typ
 -- Round 0 of the text is the text, and round n + 1 is the next round of round n.
 abbrev pub IsRound : Variant → Dating → Text → ℕ → Text → Type 0
 IsRound variant dating text zero u = u ≡ text
-IsRound variant dating text (suc n) u = (before : Text) × IsRound variant dating text n before × IsNext variant dating before u
+IsRound variant dating text (suc n) u = (before : Text) × IsRound variant dating text n before
+    × IsNext variant dating before u
 
 -- the text has no round n: it or a round before n has no message
 abbrev pub IsMissing : Variant → Dating → Text → ℕ → Type 0
@@ -43,7 +45,8 @@ IsSettled variant dating text = IsNext variant dating text text
 
 -- none of the rounds 1 to n is settled
 abbrev pub NoneSettled : Variant → Dating → Text → ℕ → Type 0
-NoneSettled variant dating text n = (k : ℕ) (u : Text) → k < n → IsRound variant dating text (suc k) u → IsSettled variant dating u → ⊥
+NoneSettled variant dating text n = (k : ℕ) (u : Text) → k < n → IsRound variant dating text (suc k) u
+    → IsSettled variant dating u → ⊥
 
 -- this is round n + 1 of the text, and none of the rounds 1 to n is settled
 pub record Reaches (variant : Variant) (dating : Dating) (text : Text) (n : ℕ) (u : Text) : Type 0 where
@@ -67,12 +70,14 @@ pub record SettlesAs (variant : Variant) (dating : Dating) (text u : Text) : Typ
 -- `Invalid` only where one of the rounds 1 to n + 2 of a text of n characters is missing and none is settled, and
 -- `Memory` only to a text that has a round 1
 abbrev pub IsSettlingFault : Variant → Dating → Text → ParseFault → Type 0
-IsSettlingFault variant dating text Invalid = IsMissing variant dating text (length text + 2) × ((u : Text) → IsFirstSettled variant dating text u → ⊥)
+IsSettlingFault variant dating text Invalid = IsMissing variant dating text (length text + 2)
+    × ((u : Text) → IsFirstSettled variant dating text u → ⊥)
 IsSettlingFault variant dating text Memory = IsUnreadable variant dating text → ⊥
 
 -- the first settled round, or a fault
 abbrev pub Settles : Variant → Dating → Text → Result (String Global) ParseFault → Type 0
-Settles variant dating text result = MatchResult result (λ u. SettlesAs variant dating text (chars (string_bytes u))) (λ fault. IsSettlingFault variant dating text fault)
+Settles variant dating text result = MatchResult result (λ u. SettlesAs variant dating text (chars (string_bytes u)))
+    (λ fault. IsSettlingFault variant dating text fault)
 
 -- the answer of a call that leaves its text in a place of the caller's
 abbrev pub answer_in : {A : Type 0} → Result A ParseFault → String Global → Result (String Global) ParseFault
@@ -94,7 +99,8 @@ IsToldRound variant dating text later settled = MatchBool settled
     ((IsSettled variant dating text → ⊥) × (n : ℕ) × Reaches variant dating text n later)
 
 -- A round as it is told; and it is the next one where no rounds are skipped.
-pub record IsRoundAsTold (skips : Bool) (variant : Variant) (dating : Dating) (text later : Text) (settled : Bool) : Type 0 where
+pub record IsRoundAsTold (skips : Bool) (variant : Variant) (dating : Dating) (text later : Text)
+    (settled : Bool) : Type 0 where
   pub told : IsToldRound variant dating text later settled
   pub next : skips ≡ false → IsNext variant dating text later
 

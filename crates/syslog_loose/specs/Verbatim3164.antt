@@ -78,7 +78,8 @@ pub record ShowsDated (variant : Variant) (text front : Text) (date : MonthDate)
 
 -- The text is a row of the eleven pieces. Its message has none of the exceptions, and prints as these texts and the
 -- timestamp.
-pub record PrintsVerbatim3164 (dating : Dating) (text front : Text) (timestamp : Option OffsetTimestamp) (tail : Text) : Type 0 where
+pub record PrintsVerbatim3164 (dating : Dating) (text front : Text) (timestamp : Option OffsetTimestamp)
+    (tail : Text) : Type 0 where
   pub values : Values (rfc3164_row dash_rule dating)
   pub message : MessageValue
   pub is : Front (Row (rfc3164_row dash_rule dating)) text [] values

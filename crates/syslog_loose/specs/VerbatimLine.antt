@@ -48,8 +48,10 @@ pub record VerbatimTail (text : Text) (cut : Option Cut) (follows : Text) : Type
   pub procid : Option (ProcId Text)
   pub msgid : Option Text
   pub elements : List ElementValue
-  pub is : Front (Row tail_row) text follows (tt, (hostname, (tt, (appname, (tt, (procid, (tt, (msgid, (tt, (elements, tt))))))))))
-  pub copies : Copies text cut follows (32 ∷ (name_text hostname ++ (32 ∷ (name_text appname ++ (32 ∷ (process_text procid
+  pub is : Front (Row tail_row) text follows
+      (tt, (hostname, (tt, (appname, (tt, (procid, (tt, (msgid, (tt, (elements, tt))))))))))
+  pub copies : Copies text cut follows
+      (32 ∷ (name_text hostname ++ (32 ∷ (name_text appname ++ (32 ∷ (process_text procid
       ++ (32 ∷ (name_text msgid ++ (32 ∷ elements_text elements)))))))))
 
 -- a space and a message, or nothing
@@ -61,7 +63,8 @@ spaced (Some t) = 32 ∷ t
 abbrev pub bytes_of : Option (Bor (List ℕ)) → Option (List ℕ)
 bytes_of s = option_map (λ t. t.now) s
 
--- the text is the names and the rest, a message behind blanks; the tail and the message are the names, a space and the message
+-- the text is the names and the rest, a message behind blanks; the tail and the message are the names, a space and the
+-- message
 pub record VerbatimEnd (text follows tail : Text) (msg : Option Text) : Type 0 where
   pub names : Text
   pub message : Text
@@ -75,7 +78,8 @@ pub record PrintsVerbatim5424 (text front : Text) (is_zulu : Bool) (end : Text) 
   pub is : Front (Row rfc5424_row) text [] values
   pub prints : printed (message_of values) ≡ front ++ (zone_text is_zulu ++ end)
 
--- the text is read by the variant as one message, by RFC 5424 and so in whatever year, and these bytes are its printed text
+-- the text is read by the variant as one message, by RFC 5424 and so in whatever year, and these bytes are its printed
+-- text
 pub record PrintsAs5424 (variant : Variant) (text : Text) (bytes : List ℕ) : Type 0 where
   pub message : MessageValue
   pub strict : IsRead5424 text message

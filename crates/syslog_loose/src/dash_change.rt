@@ -17,10 +17,11 @@ use syslog_pieces::text::{CharClass, first, literal, trimmed};
 use syslog_pieces::timestamp::zone::Dating;
 
 /// Whether the text is read otherwise than it was while a dash was a list of RFC 3164 before anything, as it is in the
-/// Rust crate: so whether the list's piece was a dash before a character that is no blank, which was left out, and begins
-/// `msg` now that a dash is a list only at the end and before a blank.
+/// Rust crate: so whether the list's piece was a dash before a character that is no blank, which was left out, and
+/// begins `msg` now that a dash is a list only at the end and before a blank.
 ///
-/// The arguments are those of `parse_message_with_year_exact_tz`, and `get_year` is called as there. It is never refused.
+/// The arguments are those of `parse_message_with_year_exact_tz`, and `get_year` is called as there. It is never
+/// refused.
 pub fn reads_differently<F: FnOnce(IncompleteDate) -> i32>(
     _alloc: Global,
     input: &str,

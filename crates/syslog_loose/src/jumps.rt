@@ -3,7 +3,8 @@
 //! A host of RFC 3164 that ends in colons is read with one fewer each time, and the colon stands in the message part
 //! behind it; of a message part of dashes each reading takes one for an empty list. Each of these rounds is known from
 //! the one before it, so the last of them is written at once.
-ghost use Rattle.std.specs.Prelude.{◌≡◌, ◌+◌, ◌-◌, ◌↔◌, ◌++◌, ◌<◌, ℕ, [], IfSome, IsTrue, MatchOption, OnOk, Some, length, map, string_bytes};
+ghost use Rattle.std.specs.Prelude.{◌≡◌, ◌+◌, ◌-◌, ◌↔◌, ◌++◌, ◌<◌, ℕ, [], IfSome, IsTrue};
+ghost use Rattle.std.specs.Prelude.{MatchOption, OnOk, Some, length, map, string_bytes};
 ghost use Rattle.std.specs.Bool.{◌==◌};
 ghost use Rattle.std.specs.Fmt.{WritesOnOk};
 ghost use Rattle.std.specs.Str.{chars, encode_utf8_all};
@@ -12,7 +13,8 @@ ghost use Rattle.syslog_pieces.specs.Pieces.View.{shown};
 ghost use Rattle.syslog_pieces.specs.StructuredData.Element.{element_value};
 ghost use Rattle.syslog_pieces.specs.Text.{EndsInColon};
 ghost use Rattle.syslog_pieces.specs.Timestamp.Zone.{Dating};
-ghost use Rattle.syslog_loose.specs.Jumps.{EndsColons, IsDashed, PassesDashes, colons_before, message_end, past_colons, tail_text};
+ghost use Rattle.syslog_loose.specs.Jumps.{EndsColons, IsDashed, PassesDashes, colons_before};
+ghost use Rattle.syslog_loose.specs.Jumps.{message_end, past_colons, tail_text};
 ghost use Rattle.syslog_loose.specs.Message.{message_value};
 ghost use Rattle.syslog_loose.specs.Printed.{printed};
 ghost use Rattle.syslog_loose.specs.Reading.{IsRead};
@@ -21,7 +23,8 @@ ghost use Rattle.syslog_loose.specs.declared.message.Protocol.TheVariants.{RFC31
 ghost use Rattle.syslog_loose.specs.declared.variant.Variant.{Variant};
 
 use crate::message::{
-    Message, Protocol, has_no_name_exception, is_canonical_time, print, write_elements, write_spaced,
+    Message, Protocol, has_no_name_exception, is_canonical_time, print, write_elements,
+    write_spaced,
 };
 use std::alloc::{AllocError, Global};
 use std::fmt;
@@ -29,16 +32,18 @@ use std::fmt::Write;
 use syslog_pieces::structured_data::StructuredElement;
 use syslog_pieces::text::{literal, some_blanks};
 
-/// Writes a round of the text that was read as this message of RFC 3164: the next one, or the last of those that are known
-/// from it. None before it is settled.
+/// Writes a round of the text that was read as this message of RFC 3164: the next one, or the last of those that are
+/// known from it. None before it is settled.
 pub(crate) fn write_round(
     alloc: Global,
     text: &mut String,
     message: Message<&str>,
     length: usize,
 ) -> Result<(), AllocError>
-    ensures { (variant : Variant) (dating : Dating) (input : Text) → IsRead variant dating input (message_value (λ s. shown s) message.entry)
-        → message.entry.protocol ≡ RFC3164 → OnOk result ((n : ℕ) × Reaches variant dating input n (chars (string_bytes text.new))) }
+    ensures { (variant : Variant) (dating : Dating) (input : Text)
+        → IsRead variant dating input (message_value (λ s. shown s) message.entry)
+        → message.entry.protocol ≡ RFC3164
+        → OnOk result ((n : ℕ) × Reaches variant dating input n (chars (string_bytes text.new))) }
 {
     match last_colons(&message) {
         Some((host, cut)) => write_past_colons(alloc, text, &message, host, cut, length),
@@ -127,7 +132,8 @@ struct Tail<'a, 'b> {
 }
 
 impl fmt::Display for Tail<'_, '_> {
-    ghost output = { λ tail. Some (encode_utf8_all (tail_text (map (element_value (λ s. shown s)) tail.elements.now) (chars tail.msg.now))) };
+    ghost output = { λ tail. Some
+        (encode_utf8_all (tail_text (map (element_value (λ s. shown s)) tail.elements.now) (chars tail.msg.now))) };
 
     fn fmt<W: fmt::Write>(&self, f: &mut fmt::Formatter<W>) -> fmt::Result {
         if self.elements.is_empty() {
@@ -149,11 +155,13 @@ fn write_end<W: fmt::Write>(f: &mut fmt::Formatter<W>, msg: &str) -> fmt::Result
     }
 }
 
-// The message without the dashes that its next readings take from the message part, one in each round, up to the last one
-// that has a blank behind it.
+// The message without the dashes that its next readings take from the message part, one in each round, up to the last
+// one that has a blank behind it.
 fn past_dashes(message: Message<&str>) -> Message<&str>
-    ensures { (variant : Variant) (dating : Dating) (input : Text) → IsRead variant dating input (message_value (λ s. shown s) message.entry)
-        → message.entry.protocol ≡ RFC3164 → (n : ℕ) × Reaches variant dating input n (printed (message_value (λ s. shown s) result)) }
+    ensures { (variant : Variant) (dating : Dating) (input : Text)
+        → IsRead variant dating input (message_value (λ s. shown s) message.entry)
+        → message.entry.protocol ≡ RFC3164 → (n : ℕ)
+        × Reaches variant dating input n (printed (message_value (λ s. shown s) result)) }
 {
     let mut message = message;
     if has_no_name_exception(&message) && are_none(&message.structured_data) {
@@ -168,7 +176,8 @@ fn are_none(elements: &[StructuredElement<&str>]) -> bool
     elements.is_empty()
 }
 
-// The text from the last dash on of those that it begins with, each with blanks behind it; the text itself where none does.
+// The text from the last dash on of those that it begins with, each with blanks behind it; the text itself where none
+// does.
 fn last_dash(text: &str) -> &str
     ensures { (n : ℕ) × PassesDashes n (chars text.now) (shown result) }
 {
@@ -184,7 +193,8 @@ fn last_dash(text: &str) -> &str
 
 // The text behind a dash and one or more blanks.
 fn behind_dash(text: &str) -> Option<&str>
-    ensures { MatchOption result ((rest : Text) → IsDashed (chars text.now) rest → ⊥) (λ rest. IsDashed (chars text.now) (shown rest)) }
+    ensures { MatchOption result ((rest : Text) → IsDashed (chars text.now) rest → ⊥)
+        (λ rest. IsDashed (chars text.now) (shown rest)) }
 {
     some_blanks(literal(text, '-')?)
 }

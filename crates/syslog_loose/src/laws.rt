@@ -22,8 +22,10 @@ pub mod settling;
 
 /// Two divisions of one text into the pieces of RFC 5424 are the same list of pieces, with the same meanings.
 pub fn one_rfc5424_division()
-    ensures pieces { (text : Text) (vs ws : Values rfc5424_row) (d : Division rfc5424_row text vs) (e : Division rfc5424_row text ws) → d.pieces ≡ e.pieces }
-    ensures meanings { (text : Text) (vs ws : Values rfc5424_row) → Division rfc5424_row text vs → Division rfc5424_row text ws → vs ≡ ws }
+    ensures pieces { (text : Text) (vs ws : Values rfc5424_row) (d : Division rfc5424_row text vs)
+        (e : Division rfc5424_row text ws) → d.pieces ≡ e.pieces }
+    ensures meanings { (text : Text) (vs ws : Values rfc5424_row) → Division rfc5424_row text vs
+        → Division rfc5424_row text ws → vs ≡ ws }
 {}
 
 /// So a text is read as at most one message of RFC 5424.
@@ -46,7 +48,8 @@ pub fn one_resolution()
 /// the same list of pieces, with the same meanings.
 pub fn one_rfc3164_division()
     ensures pieces { (rule : DashRule) (dating : Dating) (text : Text) (vs ws : Values (rfc3164_row rule dating))
-        (d : Division (rfc3164_row rule dating) text vs) (e : Division (rfc3164_row rule dating) text ws) → d.pieces ≡ e.pieces }
+        (d : Division (rfc3164_row rule dating) text vs) (e : Division (rfc3164_row rule dating) text ws)
+        → d.pieces ≡ e.pieces }
     ensures meanings { (rule : DashRule) (dating : Dating) (text : Text) (vs ws : Values (rfc3164_row rule dating))
         → Division (rfc3164_row rule dating) text vs → Division (rfc3164_row rule dating) text ws → vs ≡ ws }
 {}
@@ -66,7 +69,8 @@ pub fn rfc3164_fails_before_its_timestamp_alone()
 
 /// No text has a division of both protocols. So it counts for nothing which one is tried first.
 pub fn no_text_has_both_divisions()
-    ensures { (rule : DashRule) (dating : Dating) (text : Text) (vs : Values rfc5424_row) (ws : Values (rfc3164_row rule dating))
+    ensures { (rule : DashRule) (dating : Dating) (text : Text) (vs : Values rfc5424_row)
+        (ws : Values (rfc3164_row rule dating))
         → Division rfc5424_row text vs → Division (rfc3164_row rule dating) text ws → ⊥ }
 {}
 
@@ -92,5 +96,6 @@ pub fn printed_rfc3164_is_no_rfc5424()
 
 /// A text is read as at most one message under each variant, in one year and by the same zones.
 pub fn one_message()
-    ensures { (variant : Variant) (dating : Dating) (text : Text) (m n : MessageValue) → IsRead variant dating text m → IsRead variant dating text n → m ≡ n }
+    ensures { (variant : Variant) (dating : Dating) (text : Text) (m n : MessageValue) → IsRead variant dating text m
+        → IsRead variant dating text n → m ≡ n }
 {}

@@ -4,8 +4,8 @@
 //! leading zeros, strict elements alone. Such a line needs no message in between: all but a `Z` of its timestamp is
 //! copied. So is a line with one gap behind its timestamp that is wider, or with one broken element behind strict ones:
 //! that piece is left out of the copy. Each reader here answers the text behind its piece where that piece prints as it
-//! is written, and may always answer nothing, since the line is then read and printed as any other. So no contract above
-//! speaks of this way.
+//! is written, and may always answer nothing, since the line is then read and printed as any other. So no contract
+//! above speaks of this way.
 ghost use Rattle.std.specs.Prelude.{◌≡◌, ◌++◌, ◌∷◌, [], IfOk, IfSome, IsOk, IsTrue, Some, string_bytes};
 ghost use Rattle.std.specs.Fmt.{WritesOnOk};
 ghost use Rattle.std.specs.Str.{chars, encode_utf8_all, IsUtf8};
@@ -13,7 +13,8 @@ ghost use Rattle.syslog_pieces.specs.Pieces.Class.{Text};
 ghost use Rattle.syslog_pieces.specs.Pieces.View.{seen, shown};
 ghost use Rattle.syslog_pieces.specs.Bodies.VerbatimStamp.{zone_text};
 ghost use Rattle.syslog_pieces.specs.Timestamp.Zone.{Dating};
-ghost use Rattle.syslog_loose.specs.VerbatimLine.{VerbatimEnd, VerbatimFront, VerbatimTail, PrintsAs5424, PrintsVerbatim5424, bytes_of, spaced};
+ghost use Rattle.syslog_loose.specs.VerbatimLine.{VerbatimEnd, VerbatimFront, VerbatimTail};
+ghost use Rattle.syslog_loose.specs.VerbatimLine.{PrintsAs5424, PrintsVerbatim5424, bytes_of, spaced};
 ghost use Rattle.syslog_loose.specs.Message.{MessageValue};
 ghost use Rattle.syslog_loose.specs.Printed.{printed};
 ghost use Rattle.syslog_pieces.specs.declared.timestamp.month_date.MonthDate.{MonthDate};
@@ -35,7 +36,7 @@ use syslog_pieces::procid::verbatim_process;
 use syslog_pieces::structured_data::verbatim_list;
 use syslog_pieces::text::blanks;
 use syslog_pieces::text::verbatim::{
-    Cut, before, verbatim_gap, verbatim_host, verbatim_number, verbatim_word, one_space, past_cut,
+    Cut, before, one_space, past_cut, verbatim_gap, verbatim_host, verbatim_number, verbatim_word,
 };
 use syslog_pieces::timestamp::verbatim::verbatim_stamp;
 

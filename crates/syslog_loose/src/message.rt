@@ -41,9 +41,9 @@ pub enum Protocol {
 /// absent facility counts as 5, an absent severity as 7.
 ///
 /// Two messages are `==` when all fields but the protocol are: timestamps by instant, whatever their offsets, and
-/// elements in order, each with its parameters in any order. That is an equivalence, but there is no `Eq`: messages that
-/// are `==` may differ in protocol, in offsets and in the order of parameters, and then they print otherwise. It takes
-/// no memory. `try_clone` and `to_owned_text` copy a message; there is no `Clone`, which couldn't be refused.
+/// elements in order, each with its parameters in any order. That is an equivalence, but there is no `Eq`: messages
+/// that are `==` may differ in protocol, in offsets and in the order of parameters, and then they print otherwise. It
+/// takes no memory. `try_clone` and `to_owned_text` copy a message; there is no `Clone`, which couldn't be refused.
 #[derive(Debug, Drop)]
 pub struct Message<S> {
     /// The protocol that the message was read by, or prints as.
@@ -117,7 +117,8 @@ fn write_origin<S: AsStr, W: fmt::Write>(
     f: &mut fmt::Formatter<W>,
     message: &Message<S>,
 ) -> fmt::Result
-    ensures { WritesOnOk W.write_str_gives f.old result ((32 ∷ encode_utf8_all (spec.timestamp_text message.now.timestamp))
+    ensures { WritesOnOk W.write_str_gives f.old result
+        ((32 ∷ encode_utf8_all (spec.timestamp_text message.now.timestamp))
         ++ (32 ∷ encode_utf8_all (spec.name_text (option_map (text_of S.text) message.now.hostname)))) f.new }
 {
     write_timestamp(f, message.timestamp)?;

@@ -1,9 +1,10 @@
 //! The calls that read a text.
 //!
 //! Each call trims its text once, and the steps behind it are given what is left. A date without a year is looked for
-//! before RFC 3164 is tried, and the closure asked for its year. The calls with `exact` in their names refuse a text that
-//! has no reading; the others answer the fallback.
-ghost use Rattle.std.specs.Prelude.{◌≡◌, ◌↔◌, Err, IfOk, IfSome, MatchOption, MatchResult, None, Ok, OnOk, string_bytes};
+//! before RFC 3164 is tried, and the closure asked for its year. The calls with `exact` in their names refuse a text
+//! that has no reading; the others answer the fallback.
+ghost use Rattle.std.specs.Prelude.{◌≡◌, ◌↔◌, Err, IfOk, IfSome, MatchOption};
+ghost use Rattle.std.specs.Prelude.{MatchResult, None, Ok, OnOk, string_bytes};
 ghost use Rattle.std.specs.Str.{chars, encode_utf8_all, IsUtf8};
 ghost use Rattle.jiff.specs.Words.{plain_zone};
 ghost use Rattle.syslog_pieces.specs.Pieces.View.{shown};
@@ -16,7 +17,9 @@ ghost use Rattle.syslog_loose.specs.Message.{MessageValue, message_value};
 ghost use Rattle.syslog_loose.specs.Printed.{printed};
 ghost use Rattle.syslog_loose.specs.ReadBack.{AnswersAgain, AnswersItself, FieldsAsRead};
 ghost use Rattle.syslog_loose.specs.Reading as spec;
-ghost use Rattle.syslog_loose.specs.Reading.{Answers, AnswersDateless, AnswersEachMonth, AnswersOrWhole, AsksYear, HasMonth, InYear, IsLeftTo3164, IsOnlyRead, IsUnreadable, OfTrimmed, incomplete};
+ghost use Rattle.syslog_loose.specs.Reading.{Answers, AnswersDateless, AnswersEachMonth};
+ghost use Rattle.syslog_loose.specs.Reading.{AnswersOrWhole, AsksYear, HasMonth, InYear, IsLeftTo3164};
+ghost use Rattle.syslog_loose.specs.Reading.{IsOnlyRead, IsUnreadable, OfTrimmed, incomplete};
 ghost use Rattle.syslog_loose.specs.declared.fault.ParseFault.TheVariants.{Invalid};
 ghost use Rattle.syslog_loose.specs.declared.variant.Variant.{Variant};
 ghost use Rattle.syslog_loose.specs.declared.variant.Variant.TheVariants as variants;
@@ -37,8 +40,8 @@ use syslog_pieces::timestamp::zone::Dating;
 
 /// The message of the text, read by the variant, with the year of `now` in the local zone for a date that has none.
 ///
-/// A text that has no reading gives the fallback: protocol RFC 3164, the whole input as its `msg`, and nothing else. The
-/// one refusal is for memory, which is asked for only to collect elements.
+/// A text that has no reading gives the fallback: protocol RFC 3164, the whole input as its `msg`, and nothing else.
+/// The one refusal is for memory, which is asked for only to collect elements.
 pub fn parse_message<'a>(
     alloc: Global,
     input: &'a str,
@@ -46,7 +49,8 @@ pub fn parse_message<'a>(
     now: Timestamp,
     local: &TimeZone<'_>,
 ) -> Result<Message<&'a str>, AllocError>
-    ensures reads { InYear (λ _ year. IsYearAt (plain_zone local.entry.now) now.nanosecond year) variant (chars input.entry.now)
+    ensures reads { InYear (λ _ year. IsYearAt (plain_zone local.entry.now) now.nanosecond year) variant
+        (chars input.entry.now)
         (λ year. AnswersOrWhole variant (dating_of year None local.entry) (chars input.entry.now) result) }
 {
     let text = trimmed(input);
@@ -62,8 +66,8 @@ pub fn parse_message<'a>(
     or_fallback(alloc, input, read(alloc, text, &dating, variant))
 }
 
-/// The message of the text, read by the variant, or the fallback. `get_year` gives the year of a date that has none, and
-/// dates are in the local zone.
+/// The message of the text, read by the variant, or the fallback. `get_year` gives the year of a date that has none,
+/// and dates are in the local zone.
 pub fn parse_message_with_year<'a, F: FnOnce(IncompleteDate) -> i32>(
     alloc: Global,
     input: &'a str,
@@ -78,8 +82,8 @@ pub fn parse_message_with_year<'a, F: FnOnce(IncompleteDate) -> i32>(
     parse_message_with_year_tz(alloc, input, get_year, None, variant, local)
 }
 
-/// The message of the text, read by the variant, or the fallback. `get_year` gives the year of a date that has none; dates
-/// are in the zone `tz`, and in the local one where that is absent.
+/// The message of the text, read by the variant, or the fallback. `get_year` gives the year of a date that has none;
+/// dates are in the zone `tz`, and in the local one where that is absent.
 pub fn parse_message_with_year_tz<'a, F: FnOnce(IncompleteDate) -> i32>(
     alloc: Global,
     input: &'a str,
@@ -130,8 +134,8 @@ fn fallback(alloc: Global, input: &str) -> Message<&str>
     }
 }
 
-/// The message of the text, read by the variant, or `Invalid`. `get_year` gives the year of a date that has none, and dates
-/// are in the local zone.
+/// The message of the text, read by the variant, or `Invalid`. `get_year` gives the year of a date that has none, and
+/// dates are in the local zone.
 pub fn parse_message_with_year_exact<'a, F: FnOnce(IncompleteDate) -> i32>(
     alloc: Global,
     input: &'a str,
@@ -144,17 +148,18 @@ pub fn parse_message_with_year_exact<'a, F: FnOnce(IncompleteDate) -> i32>(
         (λ year. Answers variant (dating_of year None local.entry) (chars input.entry.now) result) }
     ensures itself { AnswersItself variant (chars input.entry.now) result }
     ensures fields { InYear (F.post get_year) variant (chars input.entry.now) (λ year. IfOk result (λ m.
-        FieldsAsRead m.protocol (dating_of year None local.entry) (chars input.entry.now) (message_value (λ s. shown s) m))) }
+        FieldsAsRead m.protocol (dating_of year None local.entry) (chars input.entry.now)
+        (message_value (λ s. shown s) m))) }
 {
     parse_message_with_year_exact_tz(alloc, input, get_year, None, variant, local)
 }
 
 /// The message of the text, read by the variant, or `Invalid`.
 ///
-/// `get_year` gives the year of a date that has none: it is called once, and only where the text shows such a date and the
-/// variant reads it. `tz` is the zone of a date without an offset, and `local` stands in for it
-/// where it is absent. Each text of the message is a slice of the input. The one refusal besides `Invalid` is `Memory`,
-/// and memory is asked for only to collect elements.
+/// `get_year` gives the year of a date that has none: it is called once, and only where the text shows such a date and
+/// the variant reads it. `tz` is the zone of a date without an offset, and `local` stands in for it where it is absent.
+/// Each text of the message is a slice of the input. The one refusal besides `Invalid` is `Memory`, and memory is asked
+/// for only to collect elements.
 #[inline]
 pub fn parse_message_with_year_exact_tz<'a, F: FnOnce(IncompleteDate) -> i32>(
     alloc: Global,
@@ -167,10 +172,12 @@ pub fn parse_message_with_year_exact_tz<'a, F: FnOnce(IncompleteDate) -> i32>(
     requires { AnswersEachMonth (F.pre get_year) }
     ensures reads { InYear (F.post get_year) variant (chars input.entry.now)
         (λ year. Answers variant (dating_of year tz.entry local.entry) (chars input.entry.now) result) }
-    // A printed message is answered as itself exactly where it meets the written condition; and what is known of the fields.
+    // A printed message is answered as itself exactly where it meets the written condition; and what is known of the
+    // fields.
     ensures itself { AnswersItself variant (chars input.entry.now) result }
     ensures fields { InYear (F.post get_year) variant (chars input.entry.now) (λ year. IfOk result (λ m.
-        FieldsAsRead m.protocol (dating_of year tz.entry local.entry) (chars input.entry.now) (message_value (λ s. shown s) m))) }
+        FieldsAsRead m.protocol (dating_of year tz.entry local.entry) (chars input.entry.now)
+        (message_value (λ s. shown s) m))) }
 {
     let text = trimmed(input);
     let found = match read_dateless(alloc, text, variant) {
@@ -221,7 +228,8 @@ pub(crate) fn read<'a>(
     dating: &Dating<'_, '_>,
     variant: Variant,
 ) -> Result<Message<&'a str>, ParseFault>
-    ensures { OfTrimmed (chars input.entry.now) (λ whole. Answers variant (dating_value dating.entry.now) whole result) }
+    ensures { OfTrimmed (chars input.entry.now)
+        (λ whole. Answers variant (dating_value dating.entry.now) whole result) }
 {
     match read_dateless(alloc, input, variant) {
         Ok(found) => match found {
@@ -232,8 +240,8 @@ pub(crate) fn read<'a>(
     }
 }
 
-// The answer that no date counts for: where the first byte begins no reading, and where the variant reads RFC 5424. None
-// where RFC 3164 is left to try.
+// The answer that no date counts for: where the first byte begins no reading, and where the variant reads RFC 5424.
+// None where RFC 3164 is left to try.
 #[inline(always)]
 fn read_dateless(
     alloc: Global,
@@ -262,7 +270,8 @@ fn read_dateless(
 
 #[inline(always)]
 fn read_rfc5424(alloc: Global, input: &str) -> Result<Message<&str>, ParseFault>
-    ensures { OfTrimmed (chars input.now) (λ whole. (dating : zone.Dating) → Answers variants.RFC5424 dating whole result) }
+    ensures { OfTrimmed (chars input.now)
+        (λ whole. (dating : zone.Dating) → Answers variants.RFC5424 dating whole result) }
 {
     match rfc5424::read(alloc, input) {
         Ok(found) => match found {

@@ -2,7 +2,8 @@
 //! timestamp at the front can fail.
 //!
 //! `read` answers the message of the one division of a trimmed text, or that there is none. It takes each piece from
-//! the readers of `syslog_pieces`, from the left. `resolve` answers what the host field and the tag field mean together.
+//! the readers of `syslog_pieces`, from the left. `resolve` answers what the host field and the tag field mean
+//! together.
 ghost use Rattle.std.specs.Prelude.{◌≡◌, IfOk, IsOk, MatchOption, None};
 ghost use Rattle.std.specs.Str.{chars};
 ghost use Rattle.syslog_pieces.specs.Pieces.Class.{Row};

@@ -11,14 +11,15 @@ ghost use Rattle.syslog_loose.specs.Verbatim3164.{ShowsDated};
 ghost use Rattle.syslog_loose.specs.Message.{MessageValue, message_value};
 ghost use Rattle.syslog_loose.specs.Printed.{printed};
 ghost use Rattle.syslog_loose.specs.ReadBack.{AnswersAgain};
-ghost use Rattle.syslog_loose.specs.Reading.{AnswersEachMonth, InYear, IsOnlyRead, IsUnreadable, IsYearAnswered, OfTrimmed};
+ghost use Rattle.syslog_loose.specs.Reading.{AnswersEachMonth, InYear, IsOnlyRead};
+ghost use Rattle.syslog_loose.specs.Reading.{IsUnreadable, IsYearAnswered, OfTrimmed};
 ghost use Rattle.syslog_loose.specs.Settling.{IsAtRest, IsRoundAsTold};
 ghost use Rattle.syslog_loose.specs.declared.fault.ParseFault.TheVariants.{Invalid};
 
 use crate::beginning::may_be_read;
 use crate::fault::ParseFault;
 use crate::jumps::write_round;
-use crate::line::{DatedLine, dated_line, dated_text, verbatim_text, rfc3164_text};
+use crate::line::{DatedLine, dated_line, dated_text, rfc3164_text, verbatim_text};
 use crate::message::{Message, Protocol, has_no_exception, print};
 use crate::reading::{asked_date, read};
 use crate::variant::{IncompleteDate, Variant};
@@ -27,8 +28,8 @@ use std::alloc::Global;
 use syslog_pieces::text::trimmed;
 use syslog_pieces::timestamp::zone::Dating;
 
-/// The printed text of the message that `parse_message_with_year_exact_tz` answers, in memory of its own. A text that has
-/// no reading is `Invalid`, and never `Memory`.
+/// The printed text of the message that `parse_message_with_year_exact_tz` answers, in memory of its own. A text that
+/// has no reading is `Invalid`, and never `Memory`.
 pub fn normalise<F: FnOnce(IncompleteDate) -> i32>(
     alloc: Global,
     input: &str,
@@ -39,8 +40,10 @@ pub fn normalise<F: FnOnce(IncompleteDate) -> i32>(
 ) -> Result<String, ParseFault>
     requires { AnswersEachMonth (F.pre get_year) }
     ensures reads { InYear (F.post get_year) variant (chars input.entry.now) (λ year. MatchResult result
-        (λ text. (m : MessageValue) × IsOnlyRead variant (dating_of year tz.entry local.entry) (chars input.entry.now) m × (string_bytes text ≡ encode_utf8_all (printed m)))
-        (λ fault. (fault ≡ Invalid) ↔ IsUnreadable variant (dating_of year tz.entry local.entry) (chars input.entry.now))) }
+        (λ text. (m : MessageValue) × IsOnlyRead variant (dating_of year tz.entry local.entry) (chars input.entry.now) m
+        × (string_bytes text ≡ encode_utf8_all (printed m)))
+        (λ fault. (fault ≡ Invalid) ↔ IsUnreadable variant (dating_of year tz.entry local.entry)
+        (chars input.entry.now))) }
     ensures again { AnswersAgain variant (chars input.entry.now) input.entry.now result }
 {
     let left = trimmed(input);
@@ -56,8 +59,8 @@ pub(crate) struct Round {
     pub(crate) year: Option<i32>,
 }
 
-/// Writes round 1 of the trimmed input into `text`, as `next_round` does. The closure is called once, and only where the
-/// text shows a date without a year that the variant reads.
+/// Writes round 1 of the trimmed input into `text`, as `next_round` does. The closure is called once, and only where
+/// the text shows a date without a year that the variant reads.
 #[inline]
 pub(crate) fn first_round<F: FnOnce(IncompleteDate) -> i32>(
     alloc: Global,
@@ -117,7 +120,8 @@ fn dated_round(
         ShowsDated variant whole (shown line.front) line.date (shown line.tail)) }
     requires utf8 { IsUtf8 line.front.now × IsUtf8 line.tail.now }
     ensures { OfTrimmed (chars input.entry.now) (λ whole. MatchResult result
-        (λ settled. IsRoundAsTold skips variant (dating_value dating.entry.now) whole (chars (string_bytes text.new)) settled)
+        (λ settled. IsRoundAsTold skips variant (dating_value dating.entry.now) whole
+        (chars (string_bytes text.new)) settled)
         (λ fault. (fault ≡ Invalid) ↔ IsUnreadable variant (dating_value dating.entry.now) whole)) }
 {
     let copied = dated_text(text, line, input.len(), dating)?;
@@ -138,7 +142,8 @@ pub(crate) fn next_round(
     skips: bool,
 ) -> Result<bool, ParseFault>
     ensures { OfTrimmed (chars input.entry.now) (λ whole. MatchResult result
-        (λ settled. IsRoundAsTold skips variant (dating_value dating.entry.now) whole (chars (string_bytes text.new)) settled)
+        (λ settled. IsRoundAsTold skips variant (dating_value dating.entry.now) whole
+        (chars (string_bytes text.new)) settled)
         (λ fault. (fault ≡ Invalid) ↔ IsUnreadable variant (dating_value dating.entry.now) whole)) }
 {
     let copied = rfc3164_text(text, input, dating, variant)?;

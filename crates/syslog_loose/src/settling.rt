@@ -22,13 +22,13 @@ use std::mem::swap;
 use syslog_pieces::text::trimmed;
 use syslog_pieces::timestamp::zone::Dating;
 
-/// The first round of the text, from round 1 on, that normalising leaves as it is: round 1 is what `normalise` answers to
-/// the text, and each further round what it answers to the one before. `Invalid` where a round has no reading.
+/// The first round of the text, from round 1 on, that normalising leaves as it is: round 1 is what `normalise` answers
+/// to the text, and each further round what it answers to the one before. `Invalid` where a round has no reading.
 ///
-/// The arguments are those of `normalise`. `get_year` is called as there, and in round 1 alone: what is printed shows no
-/// month date. Two texts are held at most at a time, and no memory is asked for that `normalise` would not ask for round
-/// by round. Rounds that are known from the one before, as those in which a host loses its last colons, are skipped: each
-/// text takes a handful of passes, each of which takes time linear in it.
+/// The arguments are those of `normalise`. `get_year` is called as there, and in round 1 alone: what is printed shows
+/// no month date. Two texts are held at most at a time, and no memory is asked for that `normalise` would not ask for
+/// round by round. Rounds that are known from the one before, as those in which a host loses its last colons, are
+/// skipped: each text takes a handful of passes, each of which takes time linear in it.
 pub fn settle<F: FnOnce(IncompleteDate) -> i32>(
     alloc: Global,
     input: &str,
@@ -41,16 +41,19 @@ pub fn settle<F: FnOnce(IncompleteDate) -> i32>(
     ensures settles { InYear (F.post get_year) variant (chars input.entry.now)
         (λ year. Settles variant (dating_of year tz.entry local.entry) (chars input.entry.now) result) }
     // The message of the answer meets the written condition.
-    ensures canonical { InYear (F.post get_year) variant (chars input.entry.now) (λ year. IfOk result (λ text. (m : MessageValue)
-        → IsRead variant (dating_of year tz.entry local.entry) (chars (string_bytes text)) m → IsCanonical dash_rule m)) }
+    ensures canonical { InYear (F.post get_year) variant (chars input.entry.now)
+        (λ year. IfOk result (λ text. (m : MessageValue)
+        → IsRead variant (dating_of year tz.entry local.entry) (chars (string_bytes text)) m
+        → IsCanonical dash_rule m)) }
 {
     let mut text = String::new(alloc);
     settle_into(alloc, &mut text, input, get_year, tz, variant, local)?;
     Ok(text)
 }
 
-/// The same, with the answer in `text`, in place of what was there: whoever settles line after line in one `String` asks for
-/// memory only where a line needs more of it than those before. Where the call fails, `text` may hold anything.
+/// The same, with the answer in `text`, in place of what was there: whoever settles line after line in one `String`
+/// asks for memory only where a line needs more of it than those before. Where the call fails, `text` may hold
+/// anything.
 pub fn settle_into<F: FnOnce(IncompleteDate) -> i32>(
     alloc: Global,
     text: &mut String,
@@ -62,10 +65,13 @@ pub fn settle_into<F: FnOnce(IncompleteDate) -> i32>(
 ) -> Result<(), ParseFault>
     requires { AnswersEachMonth (F.pre get_year) }
     ensures settles { InYear (F.post get_year) variant (chars input.entry.now)
-        (λ year. Settles variant (dating_of year tz.entry local.entry) (chars input.entry.now) (answer_in result text.new)) }
+        (λ year. Settles variant (dating_of year tz.entry local.entry) (chars input.entry.now)
+        (answer_in result text.new)) }
     // The message of the answer meets the written condition.
-    ensures canonical { InYear (F.post get_year) variant (chars input.entry.now) (λ year. IfOk (answer_in result text.new) (λ answer. (m : MessageValue)
-        → IsRead variant (dating_of year tz.entry local.entry) (chars (string_bytes answer)) m → IsCanonical dash_rule m)) }
+    ensures canonical { InYear (F.post get_year) variant (chars input.entry.now)
+        (λ year. IfOk (answer_in result text.new) (λ answer. (m : MessageValue)
+        → IsRead variant (dating_of year tz.entry local.entry) (chars (string_bytes answer)) m
+        → IsCanonical dash_rule m)) }
 {
     let left = trimmed(input);
     let round = first_round(alloc, text, left, get_year, tz, variant, local, true)?;

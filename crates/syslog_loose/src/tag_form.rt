@@ -1,4 +1,5 @@
-//! The form `tag[id]` of a program's name in RFC 3164 (section 5.3 has it by example; where it ends is the crate's rule).
+//! The form `tag[id]` of a program's name in RFC 3164 (section 5.3 has it by example; where it ends is the crate's
+//! rule).
 ghost use Rattle.std.specs.Prelude.{◌≡◌, [], ◌∷◌, MatchOption};
 ghost use Rattle.std.specs.Str.{bytes_eq, chars};
 ghost use Rattle.syslog_pieces.specs.Pieces.View.{shown};

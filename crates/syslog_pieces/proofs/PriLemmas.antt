@@ -1,5 +1,6 @@
 -- The priority, and its two parts.
-use Rattle.std.proofs.Common.{◌≡◌, ◌≤◌, ◌<◌, ◌-◌, ◌/◌, ◌%◌, ◌+◌, ℕ, zero, suc, inl, inr, List, [], ◌∷◌, ◌++◌, length, drop, Option, Some, None, MatchOption, refl, sym, ap, subst, ◌∙◌, append_assoc, arith}
+use Rattle.std.proofs.Common.{◌≡◌, ◌≤◌, ◌<◌, ◌-◌, ◌/◌, ◌%◌, ◌+◌, ℕ, zero, suc, inl, inr, List, [], ◌∷◌, ◌++◌, length}
+use Rattle.std.proofs.Common.{drop, Option, Some, None, MatchOption, refl, sym, ap, subst, ◌∙◌, append_assoc, arith}
 use Rattle.std.specs.Prelude.{slice_get}
 use Rattle.std.proofs.lemmas.List.{append_cancel_right}
 use Rattle.std.proofs.lemmas.Option.{slice_get_past}
@@ -14,11 +15,18 @@ use Rattle.syslog_pieces.specs.Bodies.Looks.{IsPriorityBytes}
 use Rattle.syslog_pieces.specs.Pieces.Class.{Text, Each, Front, NoFront, IsDeterministic, Row, Values, exactly}
 use Rattle.syslog_pieces.specs.Pieces.Verbatim.{Verbatim}
 use Rattle.syslog_pieces.specs.Text.{number}
-use Rattle.syslog_pieces.specs.Pri.{priority, priority_text, priority_row, facility_number, severity_number, facilities, severities, facility_of, severity_of, composed}
+use Rattle.syslog_pieces.specs.Pri.{priority, priority_text, priority_row, facility_number, severity_number}
+use Rattle.syslog_pieces.specs.Pri.{facilities, severities, facility_of, severity_of, composed}
 use Rattle.syslog_pieces.specs.declared.pri.SyslogFacility.{SyslogFacility}
-use Rattle.syslog_pieces.specs.declared.pri.SyslogFacility.TheVariants.{LOG_KERN, LOG_USER, LOG_MAIL, LOG_DAEMON, LOG_AUTH, LOG_SYSLOG, LOG_LPR, LOG_NEWS, LOG_UUCP, LOG_CRON, LOG_AUTHPRIV, LOG_FTP, LOG_NTP, LOG_AUDIT, LOG_ALERT, LOG_CLOCKD, LOG_LOCAL0, LOG_LOCAL1, LOG_LOCAL2, LOG_LOCAL3, LOG_LOCAL4, LOG_LOCAL5, LOG_LOCAL6, LOG_LOCAL7}
+use Rattle.syslog_pieces.specs.declared.pri.SyslogFacility.TheVariants.{LOG_KERN, LOG_USER, LOG_MAIL, LOG_DAEMON}
+use Rattle.syslog_pieces.specs.declared.pri.SyslogFacility.TheVariants.{LOG_AUTH, LOG_SYSLOG, LOG_LPR, LOG_NEWS}
+use Rattle.syslog_pieces.specs.declared.pri.SyslogFacility.TheVariants.{LOG_UUCP, LOG_CRON, LOG_AUTHPRIV, LOG_FTP}
+use Rattle.syslog_pieces.specs.declared.pri.SyslogFacility.TheVariants.{LOG_NTP, LOG_AUDIT, LOG_ALERT, LOG_CLOCKD}
+use Rattle.syslog_pieces.specs.declared.pri.SyslogFacility.TheVariants.{LOG_LOCAL0, LOG_LOCAL1, LOG_LOCAL2, LOG_LOCAL3}
+use Rattle.syslog_pieces.specs.declared.pri.SyslogFacility.TheVariants.{LOG_LOCAL4, LOG_LOCAL5, LOG_LOCAL6, LOG_LOCAL7}
 use Rattle.syslog_pieces.specs.declared.pri.SyslogSeverity.{SyslogSeverity}
-use Rattle.syslog_pieces.specs.declared.pri.SyslogSeverity.TheVariants.{SEV_EMERG, SEV_ALERT, SEV_CRIT, SEV_ERR, SEV_WARNING, SEV_NOTICE, SEV_INFO, SEV_DEBUG}
+use Rattle.syslog_pieces.specs.declared.pri.SyslogSeverity.TheVariants.{SEV_EMERG, SEV_ALERT, SEV_CRIT, SEV_ERR}
+use Rattle.syslog_pieces.specs.declared.pri.SyslogSeverity.TheVariants.{SEV_WARNING, SEV_NOTICE, SEV_INFO, SEV_DEBUG}
 use Rattle.syslog_pieces.proofs.PieceLemmas.Class.{AllDeterministic, exactly_det, row_det, row_nil, row_cons}
 use Rattle.syslog_pieces.specs.Timestamp.Printed.{pad3}
 use Rattle.syslog_pieces.proofs.PieceLemmas.Lists.{begins}
@@ -36,7 +44,8 @@ priority_det p q p' q' n n' e h h' =
     let r = row_det priority_row priority_row_det p q p' q' (tt, (n, (tt, tt))) (tt, (n', (tt, tt))) e h h' in
     let t = r.1 in (r.0, ap (λ (x : Values priority_row). x.1.0) t)
 
-pub as_priority : {text q : Text} {n : ℕ} → Front (Row priority_row) text q (tt, (n, (tt, tt))) → Front priority text q n
+pub as_priority : {text q : Text} {n : ℕ} → Front (Row priority_row) text q (tt, (n, (tt, tt)))
+    → Front priority text q n
 as_priority f = record { piece = f.piece; whole = f.whole; is = f.is }
 
 pub no_priority : {text : Text} → NoFront (Row priority_row) text → NoFront priority text
@@ -98,9 +107,12 @@ module _ (bs : List ℕ) (n : ℕ) (rest : List ℕ) (u : IsUtf8 bs) (b : IsPrio
       let q = chars rest in
       let ds = its.digits in
       let whole : chars bs ≡ 60 ∷ (ds ++ (62 ∷ q)) =
-      behind_chars (60 ∷ (ds ++ (62 ∷ []))) bs rest its_ascii u its.whole ∙ ap (λ (x : List ℕ). 60 ∷ x) (append_assoc ds (62 ∷ []) q) in
-      let open_ : Front (exactly (60 ∷ [])) (chars bs) (ds ++ (62 ∷ q)) tt = record { piece = 60 ∷ []; whole = whole; is = refl } in
-      let number_ : Front (number 255) (ds ++ (62 ∷ q)) (62 ∷ q) n = record { piece = ds; whole = refl; is = (its.some, its.each, refl, its.value, its.small) } in
+      behind_chars (60 ∷ (ds ++ (62 ∷ []))) bs rest its_ascii u its.whole
+      ∙ ap (λ (x : List ℕ). 60 ∷ x) (append_assoc ds (62 ∷ []) q) in
+      let open_ : Front (exactly (60 ∷ [])) (chars bs) (ds ++ (62 ∷ q)) tt =
+      record { piece = 60 ∷ []; whole = whole; is = refl } in
+      let number_ : Front (number 255) (ds ++ (62 ∷ q)) (62 ∷ q) n =
+      record { piece = ds; whole = refl; is = (its.some, its.each, refl, its.value, its.small) } in
       let close_ : Front (exactly (62 ∷ [])) (62 ∷ q) q tt = record { piece = 62 ∷ []; whole = refl; is = refl } in
       subst (λ (x : List ℕ). Front priority (chars bs) (chars x) n)
       (sym (behind_is (60 ∷ (ds ++ (62 ∷ []))) bs rest its_ascii u its.whole ys f))
@@ -146,7 +158,8 @@ severity_placed SEV_DEBUG = refl
 past : (n : ℕ) → 24 ≤ n → slice_get facilities n ≡ None
 past n h = slice_get_past facilities n h
 
-pub facility_told : (n : ℕ) (r : Option SyslogFacility) → MatchOption r (24 ≤ n) (λ f. facility_number f ≡ n) → r ≡ slice_get facilities n
+pub facility_told : (n : ℕ) (r : Option SyslogFacility) → MatchOption r (24 ≤ n) (λ f. facility_number f ≡ n)
+    → r ≡ slice_get facilities n
 facility_told n None h = sym (past n h)
 facility_told n (Some f) h = sym (ap (slice_get facilities) (sym h) ∙ facility_placed f)
 
@@ -156,19 +169,24 @@ module _ {F : Type 0} (number : F → ℕ) where
   AreNumbered first [] = Unit {0}
   AreNumbered first (f ∷ fs) = (number f ≡ first) × AreNumbered (suc first) fs
 
-  numbered : (fs : List F) (first n : ℕ) → AreNumbered first fs → n < length fs → (f : F) × (slice_get fs n ≡ Some f) × (number f ≡ first + n)
+  numbered : (fs : List F) (first n : ℕ) → AreNumbered first fs → n < length fs → (f : F) × (slice_get fs n ≡ Some f)
+      × (number f ≡ first + n)
   numbered [] first n a h = absurd (omega arith)
   numbered (f ∷ fs) first zero a h = (f, refl, a.0 ∙ omega arith)
-  numbered (f ∷ fs) first (suc n) a h = let (g, there, e) = numbered fs (suc first) n a.1 (omega arith) in (g, there, e ∙ omega arith)
+  numbered (f ∷ fs) first (suc n) a h = let (g, there, e) = numbered fs (suc first) n a.1 (omega arith) in
+      (g, there, e ∙ omega arith)
 
-numbered_facility : (n : ℕ) → n < 24 → (f : SyslogFacility) × (slice_get facilities n ≡ Some f) × (facility_number f ≡ n)
+numbered_facility : (n : ℕ) → n < 24 → (f : SyslogFacility) × (slice_get facilities n ≡ Some f)
+    × (facility_number f ≡ n)
 numbered_facility n h =
-    let all : AreNumbered facility_number 0 facilities = ((refl, (refl, (refl, (refl, (refl, (refl, (refl, (refl, (refl, (refl, (refl, (refl, (refl, (refl, (refl, (refl, (refl, (refl, (refl, (refl, (refl, (refl, (refl, (refl, tt))))))))))))))))))))))))) in
+    let all : AreNumbered facility_number 0 facilities =
+    ((refl, (refl, (refl, (refl, (refl, (refl, (refl, (refl, (refl, (refl, (refl, (refl, (refl, (refl, (refl, (refl, (refl, (refl, (refl, (refl, (refl, (refl, (refl, (refl, tt))))))))))))))))))))))))) in
     let (f, there, e) = numbered facility_number facilities 0 n all h in (f, there, e ∙ omega arith)
 
 numbered_severity : (n : ℕ) → n < 8 → (s : SyslogSeverity) × (slice_get severities n ≡ Some s) × (severity_number s ≡ n)
 numbered_severity n h =
-    let all : AreNumbered severity_number 0 severities = ((refl, (refl, (refl, (refl, (refl, (refl, (refl, (refl, tt))))))))) in
+    let all : AreNumbered severity_number 0 severities =
+    ((refl, (refl, (refl, (refl, (refl, (refl, (refl, (refl, tt))))))))) in
     let (s, there, e) = numbered severity_number severities 0 n all h in (s, there, e ∙ omega arith)
 
 pub priority_composed : (pri : ℕ) → pri < 192 → (f : SyslogFacility) × (s : SyslogSeverity)
@@ -216,21 +234,33 @@ severity_low SEV_INFO = omega arith
 severity_low SEV_DEBUG = omega arith
 
 pub facility_composed : (f : SyslogFacility) (s : SyslogSeverity) → facility_of (composed f s) ≡ Some f
-facility_composed f s = let low = severity_low s in let e : composed f s / 8 ≡ facility_number f = omega arith in ap (slice_get facilities) e ∙ facility_placed f
+facility_composed f s = let low = severity_low s in let e : composed f s / 8 ≡ facility_number f = omega arith in
+    ap (slice_get facilities) e ∙ facility_placed f
 
 pub severity_composed : (f : SyslogFacility) (s : SyslogSeverity) → severity_of (composed f s) ≡ Some s
-severity_composed f s = let low = severity_low s in let e : composed f s % 8 ≡ severity_number s = omega arith in ap (slice_get severities) e ∙ severity_placed s
+severity_composed f s = let low = severity_low s in let e : composed f s % 8 ≡ severity_number s = omega arith in
+    ap (slice_get severities) e ∙ severity_placed s
 
 -- ---- a priority that prints as it is written
-pub priority_verbatim : (t a b q : Text) → Front (exactly (60 ∷ [])) t a tt → Verbatim (number 191) decimal a b → Front (exactly (62 ∷ [])) b q tt → (k : Verbatim priority priority_text t q) × (k.value < 192)
+pub priority_verbatim : (t a b q : Text) → Front (exactly (60 ∷ [])) t a tt → Verbatim (number 191) decimal a b
+    → Front (exactly (62 ∷ [])) b q tt → (k : Verbatim priority priority_text t q) × (k.value < 192)
 priority_verbatim t a b q f k g =
     let n = k.value in
-    let m : Front (number 255) a b n = record { piece = decimal n; whole = k.whole; is = (k.is.0, k.is.1, k.is.2, k.is.3, (let h = k.is.4 in omega arith)) } in
-    let p : Front priority t q n = as_priority (row_cons (exactly (60 ∷ [])) (number 255 ∷ exactly (62 ∷ []) ∷ []) f (row_cons (number 255) (exactly (62 ∷ []) ∷ []) m (row_cons (exactly (62 ∷ [])) [] g (row_nil q)))) in
+    let m : Front (number 255) a b
+    n = record {
+      piece = decimal n;
+      whole = k.whole;
+      is = (k.is.0, k.is.1, k.is.2, k.is.3, (let h = k.is.4 in omega arith));
+    } in
+    let p : Front priority t q n = as_priority (row_cons (exactly (60 ∷ [])) (number 255 ∷ exactly (62 ∷ []) ∷ []) f
+    (row_cons (number 255) (exactly (62 ∷ []) ∷ []) m (row_cons (exactly (62 ∷ [])) [] g (row_nil q)))) in
     let e : t ≡ priority_text n ++ q =
-    begins 60 t a f ∙ ap (λ (x : Text). 60 ∷ x) (k.whole ∙ ap (λ (x : Text). decimal n ++ x) (begins 62 b q g) ∙ sym (append_assoc (decimal n) (62 ∷ []) q)) in
-    let s : p.piece ≡ priority_text n = append_cancel_right p.piece (priority_text n) q (sym p.whole ∙ e) in
-    (record { value = n; whole = e; is = subst (λ (x : Text). priority.Is x q n) s p.is }, (let h = k.is.4 in omega arith))
+    begins 60 t a f ∙ ap (λ (x : Text). 60 ∷ x) (k.whole ∙ ap (λ (x : Text). decimal n ++ x) (begins 62 b q g)
+    ∙ sym (append_assoc (decimal n) (62 ∷ []) q)) in
+    let s : p.piece ≡ priority_text n = append_cancel_right p.piece (priority_text n) q (sym p.whole ∙ e) in (
+      record { value = n; whole = e; is = subst (λ (x : Text). priority.Is x q n) s p.is },
+      (let h = k.is.4 in omega arith),
+    )
 
 -- and each priority has a severity
 pub severity_there : (pri : ℕ) → (s : SyslogSeverity) × (severity_of pri ≡ Some s)

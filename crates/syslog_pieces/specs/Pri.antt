@@ -4,9 +4,15 @@ use Rattle.std.specs.Fmt.{decimal}
 use Rattle.syslog_pieces.specs.Pieces.Class.{Text, Class, Row, exactly}
 use Rattle.syslog_pieces.specs.Text.{number}
 use Rattle.syslog_pieces.specs.declared.pri.SyslogFacility.{SyslogFacility}
-use Rattle.syslog_pieces.specs.declared.pri.SyslogFacility.TheVariants.{LOG_KERN, LOG_USER, LOG_MAIL, LOG_DAEMON, LOG_AUTH, LOG_SYSLOG, LOG_LPR, LOG_NEWS, LOG_UUCP, LOG_CRON, LOG_AUTHPRIV, LOG_FTP, LOG_NTP, LOG_AUDIT, LOG_ALERT, LOG_CLOCKD, LOG_LOCAL0, LOG_LOCAL1, LOG_LOCAL2, LOG_LOCAL3, LOG_LOCAL4, LOG_LOCAL5, LOG_LOCAL6, LOG_LOCAL7}
+use Rattle.syslog_pieces.specs.declared.pri.SyslogFacility.TheVariants.{LOG_KERN, LOG_USER, LOG_MAIL, LOG_DAEMON}
+use Rattle.syslog_pieces.specs.declared.pri.SyslogFacility.TheVariants.{LOG_AUTH, LOG_SYSLOG, LOG_LPR, LOG_NEWS}
+use Rattle.syslog_pieces.specs.declared.pri.SyslogFacility.TheVariants.{LOG_UUCP, LOG_CRON, LOG_AUTHPRIV, LOG_FTP}
+use Rattle.syslog_pieces.specs.declared.pri.SyslogFacility.TheVariants.{LOG_NTP, LOG_AUDIT, LOG_ALERT, LOG_CLOCKD}
+use Rattle.syslog_pieces.specs.declared.pri.SyslogFacility.TheVariants.{LOG_LOCAL0, LOG_LOCAL1, LOG_LOCAL2, LOG_LOCAL3}
+use Rattle.syslog_pieces.specs.declared.pri.SyslogFacility.TheVariants.{LOG_LOCAL4, LOG_LOCAL5, LOG_LOCAL6, LOG_LOCAL7}
 use Rattle.syslog_pieces.specs.declared.pri.SyslogSeverity.{SyslogSeverity}
-use Rattle.syslog_pieces.specs.declared.pri.SyslogSeverity.TheVariants.{SEV_EMERG, SEV_ALERT, SEV_CRIT, SEV_ERR, SEV_WARNING, SEV_NOTICE, SEV_INFO, SEV_DEBUG}
+use Rattle.syslog_pieces.specs.declared.pri.SyslogSeverity.TheVariants.{SEV_EMERG, SEV_ALERT, SEV_CRIT, SEV_ERR}
+use Rattle.syslog_pieces.specs.declared.pri.SyslogSeverity.TheVariants.{SEV_WARNING, SEV_NOTICE, SEV_INFO, SEV_DEBUG}
 
 -- the facility's number
 abbrev pub facility_number : SyslogFacility → ℕ
@@ -95,8 +101,10 @@ severity_eq a b = nat_eq (severity_number a) (severity_number b)
 -- all facilities, each at the place of its number
 abbrev pub facilities : List SyslogFacility
 facilities =
-    LOG_KERN ∷ LOG_USER ∷ LOG_MAIL ∷ LOG_DAEMON ∷ LOG_AUTH ∷ LOG_SYSLOG ∷ LOG_LPR ∷ LOG_NEWS ∷ LOG_UUCP ∷ LOG_CRON ∷ LOG_AUTHPRIV ∷ LOG_FTP
-    ∷ LOG_NTP ∷ LOG_AUDIT ∷ LOG_ALERT ∷ LOG_CLOCKD ∷ LOG_LOCAL0 ∷ LOG_LOCAL1 ∷ LOG_LOCAL2 ∷ LOG_LOCAL3 ∷ LOG_LOCAL4 ∷ LOG_LOCAL5 ∷ LOG_LOCAL6 ∷ LOG_LOCAL7 ∷ []
+    LOG_KERN ∷ LOG_USER ∷ LOG_MAIL ∷ LOG_DAEMON ∷ LOG_AUTH ∷ LOG_SYSLOG ∷ LOG_LPR ∷ LOG_NEWS ∷ LOG_UUCP ∷ LOG_CRON
+    ∷ LOG_AUTHPRIV ∷ LOG_FTP
+    ∷ LOG_NTP ∷ LOG_AUDIT ∷ LOG_ALERT ∷ LOG_CLOCKD ∷ LOG_LOCAL0 ∷ LOG_LOCAL1 ∷ LOG_LOCAL2 ∷ LOG_LOCAL3 ∷ LOG_LOCAL4
+    ∷ LOG_LOCAL5 ∷ LOG_LOCAL6 ∷ LOG_LOCAL7 ∷ []
 
 -- all severities, each at the place of its number
 abbrev pub severities : List SyslogSeverity

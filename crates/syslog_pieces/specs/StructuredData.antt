@@ -10,7 +10,8 @@ pub mod Canonical
 use Rattle.std.specs.Prelude.{◌≡◌, ◌≢◌, ◌<◌, ◌⊎◌, List, [], ◌∷◌, ◌++◌, length, Option, Some, None}
 use Rattle.std.specs.List.{flat_map, AllByRecursion}
 use Rattle.syslog_pieces.specs.Text.CharClass.{is_name_char, is_id_char, is_open_char}
-use Rattle.syslog_pieces.specs.Pieces.Class.{Text, Class, Values, Front, NoFront, Row, run, some_run, exactly, mapped, texted}
+use Rattle.syslog_pieces.specs.Pieces.Class.{Text, Class, Values, Front, NoFront, Row}
+use Rattle.syslog_pieces.specs.Pieces.Class.{run, some_run, exactly, mapped, texted}
 use Rattle.syslog_pieces.specs.StructuredData.Element.{ElementValue}
 use Rattle.syslog_pieces.specs.StructuredData.Escapes.{TextUnit, pair, single, unit_text}
 use Rattle.syslog_pieces.specs.Pieces.Lists.{many, list_before}
@@ -31,7 +32,8 @@ value = record { Value = Text; Is = λ p q v. IsValue p × ((r : Text) × (q ≡
 
 -- `name="value"`, where blanks may stand behind the equals sign
 abbrev pub param_row : List Class
-param_row = texted (some_run is_name_char) ∷ exactly (61 ∷ []) ∷ run is_blank ∷ exactly (34 ∷ []) ∷ value ∷ exactly (34 ∷ []) ∷ []
+param_row = texted (some_run is_name_char) ∷ exactly (61 ∷ []) ∷ run is_blank ∷ exactly (34 ∷ []) ∷ value
+    ∷ exactly (34 ∷ []) ∷ []
 
 -- what it means: its name and its value
 abbrev pub param_of : Values param_row → Text × Text
@@ -43,7 +45,8 @@ param = mapped (Row param_row) (Text × Text) param_of
 
 -- `[id`, blanks or none, parameters with one space between two, `]`
 abbrev pub element_row : List Class
-element_row = exactly (91 ∷ []) ∷ texted (some_run is_id_char) ∷ run is_blank ∷ list_before param 32 93 ∷ exactly (93 ∷ []) ∷ []
+element_row =
+    exactly (91 ∷ []) ∷ texted (some_run is_id_char) ∷ run is_blank ∷ list_before param 32 93 ∷ exactly (93 ∷ []) ∷ []
 
 -- what it means: its id and its parameters
 abbrev pub element_of : Values element_row → ElementValue
@@ -74,7 +77,8 @@ strict (Some e ∷ items) = e ∷ strict items
 
 -- `-`, or one or more items, as many as there are; the broken ones are left out of the meaning
 abbrev pub IsForgiving : Text → Text → List ElementValue → Type 0
-IsForgiving p q es = ((p ≡ dash) × (es ≡ [])) ⊎ ((items : List (Option ElementValue)) × (0 < length items) × (many item).Is p q items × (es ≡ strict items))
+IsForgiving p q es = ((p ≡ dash) × (es ≡ []))
+    ⊎ ((items : List (Option ElementValue)) × (0 < length items) × (many item).Is p q items × (es ≡ strict items))
 
 -- the list of elements that forgives broken ones
 abbrev pub forgiving : Class

@@ -1,7 +1,8 @@
 -- White space, blanks, numbers and words: the pieces that both headers are made of.
 pub mod CharClass
 pub mod Canonical
-use Rattle.std.specs.Prelude.{◌≡◌, ◌≢◌, ℕ, ◌<◌, ◌≤◌, ◌⊎◌, nat_eq, ◌||◌, ◌&&◌, not, Bool, [], ◌∷◌, ◌++◌, length, Option, Some, None, MatchOption}
+use Rattle.std.specs.Prelude.{◌≡◌, ◌≢◌, ℕ, ◌<◌, ◌≤◌, ◌⊎◌, nat_eq, ◌||◌, ◌&&◌, not, Bool}
+use Rattle.std.specs.Prelude.{[], ◌∷◌, ◌++◌, length, Option, Some, None, MatchOption}
 use Rattle.std.specs.Char.{is_ascii_digit, is_not_whitespace}
 use Rattle.std.specs.Str.{skip_leading_whitespace, drop_trailing_whitespace}
 use Rattle.std.specs.Str.Parse.{digits_value}
@@ -23,7 +24,10 @@ colon = 58 ∷ []
 
 -- a number: a maximal nonempty run of ASCII digits, with a value up to a limit
 abbrev pub number : ℕ → Class
-number limit = record { Value = ℕ; Is = λ p q n. (0 < length p) × Each is_ascii_digit p × Ends is_ascii_digit q × (n ≡ digits_value 10 p) × (n ≤ limit) }
+number limit = record {
+  Value = ℕ;
+  Is = λ p q n. (0 < length p) × Each is_ascii_digit p × Ends is_ascii_digit q × (n ≡ digits_value 10 p) × (n ≤ limit);
+}
 
 -- `-` stands for an absent name, any other text for itself
 abbrev pub Names : Text → Option Text → Type 0
@@ -36,7 +40,10 @@ name_text (Some t) = t
 
 -- a word of RFC 5424: a maximal nonempty run without white space, other than `:`
 abbrev pub word : Class
-word = record { Value = Option Text; Is = λ p q v. (0 < length p) × Each is_not_whitespace p × Ends is_not_whitespace q × (p ≢ colon) × Names p v }
+word = record {
+  Value = Option Text;
+  Is = λ p q v. (0 < length p) × Each is_not_whitespace p × Ends is_not_whitespace q × (p ≢ colon) × Names p v;
+}
 
 abbrev pub EndsInColon : Text → Type 0
 EndsInColon p = (front : Text) × (p ≡ front ++ colon)
@@ -58,4 +65,5 @@ is_tag_char c = is_not_whitespace c && not (nat_eq c 58)
 -- A tag word of RFC 3164: a maximal nonempty run without white space and colons. The word `-` stands for a tag that is
 -- there and empty.
 abbrev pub tag_word : Class
-tag_word = record { Value = Option Text; Is = λ p q v. (0 < length p) × Each is_tag_char p × Ends is_tag_char q × Names p v }
+tag_word =
+    record { Value = Option Text; Is = λ p q v. (0 < length p) × Each is_tag_char p × Ends is_tag_char q × Names p v }

@@ -46,7 +46,8 @@ pub fn text_has_one_stamp()
 
 /// A text shows at most one month date without a year.
 pub fn text_shows_one_date()
-    ensures { (text : Text) (date other : MonthDate) → ShowsYearless text date → ShowsYearless text other → date ≡ other }
+    ensures { (text : Text) (date other : MonthDate) → ShowsYearless text date → ShowsYearless text other
+        → date ≡ other }
 {}
 
 /// For a given year and zones, a text has at most one timestamp of RFC 3164 at its front.
@@ -56,7 +57,8 @@ pub fn text_has_one_rfc3164_stamp()
         → (rest ≡ others) × (stamp ≡ other) }
 {}
 
-/// Where a clock in a zone shows a datetime twice, the offset that jiff names first gives the earlier of the two instants.
+/// Where a clock in a zone shows a datetime twice, the offset that jiff names first gives the earlier of the two
+/// instants.
 pub fn fold_has_its_earlier_instant_first()
     ensures { (tz : TimeZone) (dt : DateTime) (before after : Offset) (s other : OffsetTimestamp)
         → ambiguous_at tz dt ≡ Fold before after → IsStampOf (Fold before after) dt s → IsStampAt dt after other
@@ -77,7 +79,8 @@ pub fn canonical_stamp_reads_back()
     ensures only { (text : Text) (stamp : OffsetTimestamp) → IsStampText text stamp → IsCanonicalStamp stamp }
 {}
 
-/// The printed text of any timestamp begins with a digit, or with `-` and a digit, and no character of it is white space.
+/// The printed text of any timestamp begins with a digit, or with `-` and a digit, and no character of it is white
+/// space.
 pub fn printed_stamp_is_one_word()
     ensures begins { (stamp : OffsetTimestamp)
         → BeginsWithYear (printed_stamp stamp.instant.nanosecond stamp.offset.seconds) }

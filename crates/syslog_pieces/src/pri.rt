@@ -268,7 +268,8 @@ pub fn optional_priority(text: &str) -> (Option<u8>, &str)
 /// The text behind the priority at the front, where it is below 192 and prints as it is written.
 #[inline(always)]
 pub fn verbatim_priority(text: &str) -> Option<&str>
-    ensures { IfSome result (λ rest. (k : Verbatim spec.priority priority_text (chars text.now) (shown rest)) × (k.value < 192)) }
+    ensures { IfSome result (λ rest. (k : Verbatim spec.priority priority_text (chars text.now) (shown rest))
+        × (k.value < 192)) }
 {
     let opened = literal(text, '<')?;
     let closing = verbatim_number(opened, 191)?;

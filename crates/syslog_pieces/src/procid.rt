@@ -19,8 +19,8 @@ ghost use Rattle.syslog_pieces.specs.Pieces.View.{shown, text_of, ClonesKeepText
 mod tests;
 
 use crate::as_str::{AsStr, is_same_text};
-use crate::text::verbatim::has_zero_ahead;
 use crate::text::canonical::is_canonical_word;
+use crate::text::verbatim::has_zero_ahead;
 use crate::text::write_ascii::write_signed;
 use crate::text::{CharClass, few_digits, first, split_run, word};
 use std::alloc::{AllocError, Global};
@@ -73,7 +73,8 @@ impl<S: AsStr + Clone> ProcId<S> {
     /// A copy: the same number, or a clone of the name. An `Err` is only for memory, and nothing has changed then.
     pub fn try_clone(&self, alloc: Global) -> Result<ProcId<S>, AllocError>
         requires { ClonesKeepText S.is_clone S.text }
-        ensures { IfOk result (λ copy. spec.procid_value (text_of S.text) copy ≡ spec.procid_value (text_of S.text) self.now) }
+        ensures { IfOk result (λ copy. spec.procid_value (text_of S.text) copy
+            ≡ spec.procid_value (text_of S.text) self.now) }
     {
         // A clone of a name brings its own allocator.
         let _ = alloc;
@@ -87,7 +88,8 @@ impl<S: AsStr + Clone> ProcId<S> {
 impl ProcId<&str> {
     /// The same process id, with a name of its own. An `Err` is only for memory, and nothing has changed then.
     pub fn to_owned_text(&self, alloc: Global) -> Result<ProcId<String>, AllocError>
-        ensures { IfOk result (λ copy. spec.procid_value (text_of string_bytes) copy ≡ spec.procid_value (λ s. shown s) self.now) }
+        ensures { IfOk result (λ copy. spec.procid_value (text_of string_bytes) copy
+            ≡ spec.procid_value (λ s. shown s) self.now) }
     {
         match self {
             ProcId::PID(number) => Ok(ProcId::PID(*number)),

@@ -8,28 +8,28 @@ ghost use Rattle.std.specs.Str.{encode_utf8_all};
 ghost use Rattle.syslog_pieces.specs.StructuredData.Element.{element_text, element_value};
 ghost use Rattle.syslog_pieces.specs.Pieces.View.{text_of};
 
+pub mod canonical;
 mod copies;
 mod element;
 mod equality;
 mod escapes;
-mod verbatim;
 mod list;
-pub mod rfc3164_list;
 mod params;
-pub mod canonical;
+mod recognise;
+pub mod rfc3164_list;
 #[cfg(test)]
 mod tests;
-mod recognise;
+mod verbatim;
 
 use crate::as_str::AsStr;
 pub use element::read_element;
 pub use escapes::unescape;
-pub use verbatim::verbatim_list;
 pub use list::forgiving_list;
 pub use params::ParamsIter;
+pub use recognise::after_element;
 use std::alloc::Global;
 use std::fmt;
-pub use recognise::after_element;
+pub use verbatim::verbatim_list;
 
 /// An element: its id, and the names and the raw values of its parameters, in order. It prints as it is written, each
 /// parameter behind one space; a value prints raw, with the escapes that stand in it and no others.
@@ -70,7 +70,8 @@ impl<S: AsStr> fmt::Display for StructuredElement<S> {
 // A space, the name, and the value between quotes.
 #[inline]
 fn write_param<W: fmt::Write>(f: &mut fmt::Formatter<W>, name: &str, value: &str) -> fmt::Result
-    ensures { WritesOnOk W.write_str_gives f.old result (32 ∷ (name.now ++ (61 ∷ 34 ∷ (value.now ++ (34 ∷ []))))) f.new }
+    ensures { WritesOnOk W.write_str_gives f.old result
+        (32 ∷ (name.now ++ (61 ∷ 34 ∷ (value.now ++ (34 ∷ []))))) f.new }
 {
     f.write_str(" ")?;
     f.write_str(name)?;

@@ -11,15 +11,15 @@ ghost use Rattle.syslog_pieces.specs.Bodies.Scan.{EndsRun, IsBare, SplitsRun, pa
 ghost use Rattle.syslog_pieces.specs.Text as spec;
 ghost use Rattle.syslog_pieces.specs.Pieces.View.{seen, shown, Reads, Skips};
 
+pub mod canonical;
 mod fields;
-pub mod verbatim;
 mod lanes;
 mod looks;
 mod numerals;
-pub mod canonical;
 mod scan;
 #[cfg(test)]
 mod tests;
+pub mod verbatim;
 pub mod write_ascii;
 
 pub use fields::{host_field, tag_field};

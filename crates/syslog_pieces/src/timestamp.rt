@@ -20,28 +20,28 @@ ghost use Rattle.syslog_pieces.specs.Timestamp as spec;
 ghost use Rattle.syslog_pieces.specs.Timestamp.{IsStampText, HasNoStamp};
 ghost use Rattle.syslog_pieces.specs.Pieces.View.{Reads};
 
+pub mod canonical;
 pub mod civil;
 mod digits;
 mod display;
 mod early;
 mod fields;
-pub mod verbatim;
-pub mod rfc3164;
 pub mod month_date;
-pub mod canonical;
+pub mod rfc3164;
+mod rfc3339_text;
+mod standard;
 #[cfg(test)]
 mod tests;
-mod standard;
-mod rfc3339_text;
+pub mod verbatim;
 pub mod zone;
 
 use crate::text::{CharClass, literal, split_run};
 use jiff::Timestamp;
 use jiff::tz::Offset;
-pub use rfc3164::rfc3164_stamp;
 pub use month_date::{MonthDate, shown_date};
-use std::cmp::Ordering;
+pub use rfc3164::rfc3164_stamp;
 use standard::standard_stamp;
+use std::cmp::Ordering;
 pub use zone::year_at;
 
 /// An instant, and how far the clock that showed it is ahead of UTC.

@@ -191,7 +191,8 @@ fn copies_lists_in_order(rt: HostRuntime) -> Result<(), Fail> {
 
 /// A line with two elements and the number of a process, which prints as it is written.
 const LISTED: &str =
-    "<13>1 2019-02-13T19:48:34+00:00 74794bfb6795 root 8449 - [meta sequenceId=\"1\" sysUpTime=\"37\" language=\"EN\"][origin ip=\"192.168.0.1\" software=\"test\"] i am foobar";
+    "<13>1 2019-02-13T19:48:34+00:00 74794bfb6795 root 8449 - [meta sequenceId=\"1\" sysUpTime=\"37\" \
+     language=\"EN\"][origin ip=\"192.168.0.1\" software=\"test\"] i am foobar";
 
 /// Its elements.
 const ELEMENTS: [&str; 2] = [

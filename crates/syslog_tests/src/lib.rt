@@ -1,6 +1,6 @@
-//! Tests of `syslog_loose` by its public calls, of what no contract says: worked texts with the messages that they read as,
-//! printed texts, rounds, and refused memory. They stand in a crate of their own so that the library is not proved once
-//! more with them.
+//! Tests of `syslog_loose` by its public calls, of what no contract says: worked texts with the messages that they read
+//! as, printed texts, rounds, and refused memory. They stand in a crate of their own so that the library is not proved
+//! once more with them.
 #![tactic(auto)]
 
 #[cfg(test)]

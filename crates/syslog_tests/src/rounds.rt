@@ -26,8 +26,8 @@ fn by_hand(
     Err(ParseFault::Invalid)
 }
 
-/// The text settles as normalising it by hand comes to rest, with the same fault where a round is missing; and normalising
-/// leaves the answer as it is.
+/// The text settles as normalising it by hand comes to rest, with the same fault where a round is missing; and
+/// normalising leaves the answer as it is.
 fn expect_as_by_hand(
     rt: &impl Abort,
     alloc: Global,

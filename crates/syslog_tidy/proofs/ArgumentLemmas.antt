@@ -1,5 +1,6 @@
 -- The program's arguments as words.
-use Rattle.std.proofs.Common.{◌≡◌, ℕ, ℤ, ◌-◌, ◌<◌, ◌≤◌, Bor, Bool, false, ◌↔◌, List, [], ◌∷◌, ◌++◌, length, map, take, drop, get_or, IsTrue, ap, inl, inr, nat_eq, refl, sym, subst, true, ◌∙◌, arith}
+use Rattle.std.proofs.Common.{◌≡◌, ℕ, ℤ, ◌-◌, ◌<◌, ◌≤◌, Bor, Bool, false, ◌↔◌, List, [], ◌∷◌, ◌++◌, length, map}
+use Rattle.std.proofs.Common.{take, drop, get_or, IsTrue, ap, inl, inr, nat_eq, refl, sym, subst, true, ◌∙◌, arith}
 use Rattle.std.specs.Cmp.Lexicographic.{bytes_decides, pointwise}
 use Rattle.std.proofs.lemmas.Bool.{false≢true}
 use Rattle.std.proofs.lemmas.List.{take_all}
@@ -15,38 +16,55 @@ first_word word other behind more same = ap (λ (words : List (List ℕ)). get_o
 
 -- a flag is longer than a year and `--`
 no_year : (flag : List ℕ) (behind : List (List ℕ)) (year : ℤ) → 4 < length flag → AreYearWords (flag ∷ behind) year → ⊥
-no_year flag behind year long (word, inl alone, named) = let same = ap length (first_word flag word behind [] alone) in omega (arith, same, named.0.1)
-no_year flag behind year long (word, inr dashed, named) = let same = ap length (first_word flag end_word behind (word ∷ []) dashed) in omega (arith, same)
+no_year flag behind year long (word, inl alone, named) = let same = ap length (first_word flag word behind [] alone) in
+    omega (arith, same, named.0.1)
+no_year flag behind year long (word, inr dashed, named) =
+    let same = ap length (first_word flag end_word behind (word ∷ []) dashed) in omega (arith, same)
 
-behind_flag : (output : Output) (behind more : List (List ℕ)) → flags_of output ++ behind ≡ flags_of output ++ more → behind ≡ more
+behind_flag : (output : Output) (behind more : List (List ℕ)) → flags_of output ++ behind ≡ flags_of output ++ more
+    → behind ≡ more
 behind_flag Settled behind more same = same
 behind_flag DashChange behind more same = cc
 behind_flag Refused behind more same = cc
 
 -- so words that begin with one name no year
-no_settled : (words behind more : List (List ℕ)) (output : Output) → words ≡ flags_of output ++ behind → ((year : ℤ) → ¬ (AreYearWords behind year)) → (year : ℤ) → words ≡ more → AreYearWords more year → ⊥
-no_settled words behind more Settled split none year same named = none year (subst (λ (l : List (List ℕ)). AreYearWords l year) (sym same ∙ split) named)
-no_settled words behind more DashChange split none year same named = no_year changed_word behind year (omega arith) (subst (λ (l : List (List ℕ)). AreYearWords l year) (sym same ∙ split) named)
-no_settled words behind more Refused split none year same named = no_year refused_word behind year (omega arith) (subst (λ (l : List (List ℕ)). AreYearWords l year) (sym same ∙ split) named)
+no_settled : (words behind more : List (List ℕ)) (output : Output) → words ≡ flags_of output ++ behind
+    → ((year : ℤ) → ¬ (AreYearWords behind year)) → (year : ℤ) → words ≡ more → AreYearWords more year → ⊥
+no_settled words behind more Settled split none year same named =
+    none year (subst (λ (l : List (List ℕ)). AreYearWords l year) (sym same ∙ split) named)
+no_settled words behind more DashChange split none year same named = no_year changed_word behind year (omega arith)
+    (subst (λ (l : List (List ℕ)). AreYearWords l year) (sym same ∙ split) named)
+no_settled words behind more Refused split none year same named = no_year refused_word behind year (omega arith)
+    (subst (λ (l : List (List ℕ)). AreYearWords l year) (sym same ∙ split) named)
 
 -- words whose flag was read, and that name no year behind it, are no arguments
-pub no_arguments : (words behind : List (List ℕ)) (output : Output) → words ≡ flags_of output ++ behind → OnlyFlag words output → ((year : ℤ) → ¬ (AreYearWords behind year))
+pub no_arguments : (words behind : List (List ℕ)) (output : Output) → words ≡ flags_of output ++ behind
+    → OnlyFlag words output → ((year : ℤ) → ¬ (AreYearWords behind year))
     → (other : Output) (year : ℤ) → ¬ (AreArguments words other year)
 no_arguments words behind output split only none other year (more, same, named) =
     elim (only other more same) [
-      | inl here ↦ none year (subst (λ (l : List (List ℕ)). AreYearWords l year) (behind_flag output more behind (sym (subst (λ (o : Output). words ≡ flags_of o ++ more) here same) ∙ split)) named)
-      | inr settled ↦ no_settled words behind more output split none year (subst (λ (o : Output). words ≡ flags_of o ++ more) settled same) named
+      | inl here ↦
+          none year (subst (λ (l : List (List ℕ)). AreYearWords l year)
+          (behind_flag output more behind (sym (subst (λ (o : Output). words ≡ flags_of o ++ more) here same) ∙ split))
+          named)
+      | inr settled ↦ no_settled words behind more output split none year
+          (subst (λ (o : Output). words ≡ flags_of o ++ more) settled same) named
     ]
 
 -- the words behind a first one
-pub flag_first : (args : List (Bor (List ℕ))) (d : Bor (List ℕ)) (flag : List ℕ) → 1 ≤ length args → pointwise nat_eq (get_or args 0 d).now flag ≡ true
-    → map (λ (arg : Bor (List ℕ)). arg.now) args ≡ flag ∷ map (λ (arg : Bor (List ℕ)). arg.now) (take (length args - 1) (drop 1 args))
+pub flag_first : (args : List (Bor (List ℕ))) (d : Bor (List ℕ)) (flag : List ℕ) → 1 ≤ length args
+    → pointwise nat_eq (get_or args 0 d).now flag ≡ true
+    → map (λ (arg : Bor (List ℕ)). arg.now) args
+    ≡ flag ∷ map (λ (arg : Bor (List ℕ)). arg.now) (take (length args - 1) (drop 1 args))
 flag_first [] d flag some same = absurd (omega (arith, some))
-flag_first (x ∷ xs) d flag some same = rw (take_all (length (x ∷ xs) - 1) xs (omega arith), (bytes_decides x.now flag).0 same) refl
+flag_first (x ∷ xs) d flag some same =
+    rw (take_all (length (x ∷ xs) - 1) xs (omega arith), (bytes_decides x.now flag).0 same) refl
 
 -- where neither word stands alone and there are no arguments, nothing is asked for
-pub no_task : (words : List (List ℕ)) (helps versions : Bool) → IsTrue helps ↔ (words ≡ help_word ∷ []) → IsTrue versions ↔ (words ≡ version_word ∷ []) → helps ≡ false → versions ≡ false
+pub no_task : (words : List (List ℕ)) (helps versions : Bool) → IsTrue helps ↔ (words ≡ help_word ∷ [])
+    → IsTrue versions ↔ (words ≡ version_word ∷ []) → helps ≡ false → versions ≡ false
     → ((other : Output) (year : ℤ) → ¬ (AreArguments words other year)) → (task : Task) → ¬ (AsksFor words task)
 no_task words helps versions help version no_help no_version none Help asks = false≢true (sym no_help ∙ help.1 asks)
-no_task words helps versions help version no_help no_version none Version asks = false≢true (sym no_version ∙ version.1 asks)
+no_task words helps versions help version no_help no_version none Version asks =
+    false≢true (sym no_version ∙ version.1 asks)
 no_task words helps versions help version no_help no_version none (Lines output year) asks = none output year asks

@@ -22,11 +22,13 @@ flags_of Refused = refused_word ∷ []
 
 -- no other output's flag begins the words
 abbrev pub OnlyFlag : List (List ℕ) → Output → Type 0
-OnlyFlag words output = (other : Output) (behind : List (List ℕ)) → words ≡ flags_of other ++ behind → (other ≡ output) ⊎ (other ≡ Settled)
+OnlyFlag words output = (other : Output) (behind : List (List ℕ)) → words ≡ flags_of other ++ behind
+    → (other ≡ output) ⊎ (other ≡ Settled)
 
 -- the words are a flag, if any, and those that name a year
 abbrev pub AreArguments : List (List ℕ) → Output → ℤ → Type 0
-AreArguments words output year = (behind : List (List ℕ)) × (words ≡ flags_of output ++ behind) × AreYearWords behind year
+AreArguments words output year = (behind : List (List ℕ)) × (words ≡ flags_of output ++ behind)
+    × AreYearWords behind year
 
 -- the words ask for this
 abbrev pub AsksFor : List (List ℕ) → Task → Type 0

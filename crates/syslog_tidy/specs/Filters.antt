@@ -9,14 +9,16 @@ use Rattle.syslog_loose.specs.Settling.{IsFirstSettled}
 use Rattle.syslog_loose.specs.declared.variant.Variant.TheVariants.{Either}
 use Rattle.syslog_lines.specs.Count.{held_count}
 use Rattle.syslog_lines.specs.Lines.{IsLines}
-use Rattle.syslog_lines.specs.Output.{Answer, AreAnswers, Filter, Marked, Omitted, Written, is_answered, is_passed_over, output_of}
+use Rattle.syslog_lines.specs.Output.{Answer, AreAnswers, Filter, Marked, Omitted}
+use Rattle.syslog_lines.specs.Output.{Written, is_answered, is_passed_over, output_of}
 use Rattle.syslog_lines.specs.Pump.{FiltersAll}
 use Rattle.syslog_tidy.specs.declared.counts.DashChangeCounts.{DashChangeCounts}
 use Rattle.syslog_lines.specs.declared.summary.Summary.{Summary}
 
 -- the answer to a line by that to its text: encoded, or none where there is none or the line is no UTF-8
 abbrev pub of_texts : (List ℕ → Option (List ℕ) → Type 0) → List ℕ → Answer → Type 0
-of_texts Answers line (Written bytes) = IsUtf8 line × ((text : List ℕ) × Answers (chars line) (Some text) × (bytes ≡ encode_utf8_all text))
+of_texts Answers line (Written bytes) =
+    IsUtf8 line × ((text : List ℕ) × Answers (chars line) (Some text) × (bytes ≡ encode_utf8_all text))
 of_texts Answers line (Marked bytes) = ⊥
 of_texts Answers line Omitted = IsUtf8 line → Answers (chars line) None
 
@@ -27,7 +29,10 @@ IsTidied year text None = (answer : List ℕ) → IsFirstSettled Either (in_utc 
 
 -- memory may be wanted for a text that has a reading
 abbrev pub tidying : ℤ → Filter
-tidying year = record { Answers = of_texts (IsTidied year); Wants = λ line. IsUtf8 line × (¬ (IsUnreadable Either (in_utc year) (chars line))) }
+tidying year = record {
+  Answers = of_texts (IsTidied year);
+  Wants = λ line. IsUtf8 line × (¬ (IsUnreadable Either (in_utc year) (chars line)));
+}
 
 -- the answer is the text itself where it is read differently in this year under the two rules of the dash, or none
 abbrev pub IsDashChange : ℤ → List ℕ → Option (List ℕ) → Type 0
@@ -36,7 +41,10 @@ IsDashChange year text None = ¬ (ReadsDifferently Either (in_utc year) text)
 
 -- memory may be wanted for a text that has an answer
 abbrev pub finding_dash_changes : ℤ → Filter
-finding_dash_changes year = record { Answers = of_texts (IsDashChange year); Wants = λ line. IsUtf8 line × (¬ (IsDashChange year (chars line) None)) }
+finding_dash_changes year = record {
+  Answers = of_texts (IsDashChange year);
+  Wants = λ line. IsUtf8 line × (¬ (IsDashChange year (chars line) None));
+}
 
 -- the answer is the line itself where nothing is written for it by `tidying`, and none where something is
 abbrev pub IsRefused : ℤ → List ℕ → Answer → Type 0
@@ -50,7 +58,8 @@ refusing year = record { Answers = IsRefused year; Wants = λ line. ⊤ }
 
 -- all was read and written, and the summary counts the lines and those without an answer
 abbrev pub TidiesAll : ℤ → Option (List ℕ) → Option (List ℕ) → Option (List ℕ) → Option (List ℕ) → Summary → Type 0
-TidiesAll year in_before in_after out_before out_after summary = (answers : List Answer) × (all : FiltersAll (tidying year) in_before in_after out_before out_after answers)
+TidiesAll year in_before in_after out_before out_after summary = (answers : List Answer)
+    × (all : FiltersAll (tidying year) in_before in_after out_before out_after answers)
     × (summary.lines ≡ held_count (length all.lines)) × (summary.refused ≡ held_count (count_by is_passed_over answers))
 
 -- these bytes are what is written in the year for the lines of some bytes
@@ -60,20 +69,26 @@ IsOutput year output = (bytes : List ℕ) × (lines : List (List ℕ)) × (answe
 
 -- where the input is what was written in the same year, it was written again, and no line was refused
 abbrev pub WritesAgain : ℤ → Option (List ℕ) → Option (List ℕ) → Option (List ℕ) → Summary → Type 0
-WritesAgain year in_before out_before out_after summary = (output : List ℕ) → in_before ≡ Some output → IsOutput year output → Appends out_before out_after output × (summary.refused ≡ 0)
+WritesAgain year in_before out_before out_after summary = (output : List ℕ) → in_before ≡ Some output
+    → IsOutput year output → Appends out_before out_after output × (summary.refused ≡ 0)
 
 -- all was read and written, and the counts are those of the lines and of those with an answer
-abbrev pub FindsDashChanges : ℤ → Option (List ℕ) → Option (List ℕ) → Option (List ℕ) → Option (List ℕ) → DashChangeCounts → Type 0
-FindsDashChanges year in_before in_after out_before out_after counts = (answers : List Answer) × (all : FiltersAll (finding_dash_changes year) in_before in_after out_before out_after answers)
+abbrev pub FindsDashChanges : ℤ → Option (List ℕ) → Option (List ℕ) → Option (List ℕ) → Option (List ℕ)
+    → DashChangeCounts → Type 0
+FindsDashChanges year in_before in_after out_before out_after counts = (answers : List Answer)
+    × (all : FiltersAll (finding_dash_changes year) in_before in_after out_before out_after answers)
     × (counts.lines ≡ held_count (length all.lines)) × (counts.dash_changes ≡ held_count (count_by is_answered answers))
 
 -- of each of these lines exactly one is written: what `tidying` answers, or the line as it came
 abbrev pub SharesOut : ℤ → List (List ℕ) → List Answer → Type 0
 SharesOut year lines refused =
-    (settled : List Answer) → AreAnswers (tidying year) lines settled → AllZip (λ s r. is_answered r ≡ is_passed_over s) settled refused
+    (settled : List Answer) → AreAnswers (tidying year) lines settled
+    → AllZip (λ s r. is_answered r ≡ is_passed_over s) settled refused
 
--- all was read and written, the lines are shared out with those that `tidying` answers, and the summary counts the lines
--- and those that were written
+-- all was read and written, the lines are shared out with those that `tidying` answers, and the summary counts the
+-- lines and those that were written
 abbrev pub RefusesAll : ℤ → Option (List ℕ) → Option (List ℕ) → Option (List ℕ) → Option (List ℕ) → Summary → Type 0
-RefusesAll year in_before in_after out_before out_after summary = (answers : List Answer) × (all : FiltersAll (refusing year) in_before in_after out_before out_after answers)
-    × SharesOut year all.lines answers × (summary.lines ≡ held_count (length all.lines)) × (summary.refused ≡ held_count (count_by is_answered answers))
+RefusesAll year in_before in_after out_before out_after summary = (answers : List Answer)
+    × (all : FiltersAll (refusing year) in_before in_after out_before out_after answers)
+    × SharesOut year all.lines answers × (summary.lines ≡ held_count (length all.lines))
+    × (summary.refused ≡ held_count (count_by is_answered answers))

@@ -43,10 +43,11 @@ fn read_flag<'a, 'b>(args: &'a [&'b str]) -> (Output, &'a [&'b str])
     }
 }
 
-/// The output and the year that the words ask for: `YEAR`, `--changed YEAR` or `--refused YEAR`, where `--` may stand before
-/// the year. None for all other words.
+/// The output and the year that the words ask for: `YEAR`, `--changed YEAR` or `--refused YEAR`, where `--` may stand
+/// before the year. None for all other words.
 pub fn read_args(args: &[&str]) -> Option<(Output, i32)>
-    ensures { MatchOption result ((output : Output) (year : ℤ) → ¬ (AreArguments (map (λ arg. arg.now) args.now) output year))
+    ensures { MatchOption result ((output : Output) (year : ℤ)
+        → ¬ (AreArguments (map (λ arg. arg.now) args.now) output year))
         (λ x. AreArguments (map (λ arg. arg.now) args.now) x.0 x.1) }
 {
     let (output, words) = read_flag(args);
@@ -69,8 +70,8 @@ pub fn read_task(args: &[&str]) -> Option<Task>
     Some(Task::Lines(output, year))
 }
 
-/// What `read_task` makes of the program's arguments; none where they can't be had. Which words these are no clause says, since
-/// the host has none for them (`tests/program` tries it).
+/// What `read_task` makes of the program's arguments; none where they can't be had. Which words these are no clause
+/// says, since the host has none for them (`tests/program` tries it).
 pub fn arguments(rt: &HostRuntime) -> Option<Task>
     ensures { IfSome result (λ task. (words : List (List ℕ)) × AsksFor words task) }
 {
@@ -79,7 +80,8 @@ pub fn arguments(rt: &HostRuntime) -> Option<Task>
 
 // What `read_task` makes of the words behind the first, which is the program's name.
 fn read_words(mut words: Args) -> Option<Task>
-    ensures { MatchOption result ((task : Task) → ¬ (AsksFor (drop 1 (map (λ word. string_bytes word) (into_iter_items words))) task))
+    ensures { MatchOption result ((task : Task)
+        → ¬ (AsksFor (drop 1 (map (λ word. string_bytes word) (into_iter_items words))) task))
         (λ task. AsksFor (drop 1 (map (λ word. string_bytes word) (into_iter_items words))) task) }
 {
     words.next()?;

@@ -15,8 +15,8 @@ use syslog_lines::pump::pump;
 use syslog_lines::{LineFilter, RunFault, Watched, push_line};
 use syslog_loose::{IncompleteDate, TimeZone, Variant, reads_differently};
 
-/// Reads lines to the end of the input, and writes, as it came, each that is read differently under the two rules of the
-/// dash, in the given year: each line that normalising once changed otherwise than it would now.
+/// Reads lines to the end of the input, and writes, as it came, each that is read differently under the two rules of
+/// the dash, in the given year: each line that normalising once changed otherwise than it would now.
 ///
 /// All other lines, and those that are no UTF-8, give nothing. Blocks, faults, the flush, memory and what was written
 /// after a fault are as for `run`.
@@ -28,9 +28,11 @@ pub fn dash_change<R: Read, W: Write>(
 ) -> Result<DashChangeCounts, RunFault>
     requires reader { reader.old.failed ≡ false }
     requires writer { writer.old.failed ≡ false }
-    ensures ok { IfOk result (λ counts. FindsDashChanges year (R.remaining reader.old.inner) (R.remaining reader.new.inner)
+    ensures ok { IfOk result (λ counts. FindsDashChanges year (R.remaining reader.old.inner)
+        (R.remaining reader.new.inner)
         (W.contents writer.old.inner) (W.contents writer.new.inner) counts) }
-    ensures err { IfErr result (λ fault. EndsEarly (finding_dash_changes year) (R.remaining reader.old.inner) (R.remaining reader.new.inner)
+    ensures err { IfErr result (λ fault. EndsEarly (finding_dash_changes year) (R.remaining reader.old.inner)
+        (R.remaining reader.new.inner)
         (W.contents writer.old.inner) (W.contents writer.new.inner) fault) }
     ensures failed { FailedAs result reader.new.failed writer.new.failed }
 {

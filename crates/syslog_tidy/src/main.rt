@@ -1,13 +1,13 @@
-//! Writes each syslog line of standard input to standard output in one form, or those that once had another, or those that
-//! are no message.
+//! Writes each syslog line of standard input to standard output in one form, or those that once had another, or those
+//! that are no message.
 //!
 //! `syslog_tidy 2019` answers the line `<34>Oct 11 22:14:15 mymachine app[323]: a message` with
 //! `<34> 2019-10-11T22:14:15+00:00 mymachine app[323]: a message`.
 #![tactic(auto)]
 
 mod args;
-mod dash_change;
 mod counts;
+mod dash_change;
 mod refused;
 mod report;
 mod run;

@@ -10,11 +10,11 @@ use syslog_lines::pump::pump;
 use syslog_lines::{LineFilter, RunFault, Summary, Watched, push_line};
 use syslog_loose::ParseFault;
 
-/// Reads lines to the end of the input, and writes, as it came, each for which `run` writes nothing in the given year: it has
-/// no settled text, or is no UTF-8. Each line is thus in the output of exactly one of the two.
+/// Reads lines to the end of the input, and writes, as it came, each for which `run` writes nothing in the given year:
+/// it has no settled text, or is no UTF-8. Each line is thus in the output of exactly one of the two.
 ///
-/// Blocks, faults, the flush, memory and what was written after a fault are as for `run`, but that memory may be wanted for
-/// each line.
+/// Blocks, faults, the flush, memory and what was written after a fault are as for `run`, but that memory may be wanted
+/// for each line.
 pub fn refused<R: Read, W: Write>(
     alloc: Global,
     reader: &mut Watched<R>,
@@ -25,7 +25,8 @@ pub fn refused<R: Read, W: Write>(
     requires writer { writer.old.failed ≡ false }
     ensures ok { IfOk result (λ summary. RefusesAll year (R.remaining reader.old.inner) (R.remaining reader.new.inner)
         (W.contents writer.old.inner) (W.contents writer.new.inner) summary) }
-    ensures err { IfErr result (λ fault. EndsEarly (refusing year) (R.remaining reader.old.inner) (R.remaining reader.new.inner)
+    ensures err { IfErr result (λ fault. EndsEarly (refusing year) (R.remaining reader.old.inner)
+        (R.remaining reader.new.inner)
         (W.contents writer.old.inner) (W.contents writer.new.inner) fault) }
     ensures failed { FailedAs result reader.new.failed writer.new.failed }
 {

@@ -24,9 +24,12 @@ YEAR, of one to four digits, is that of dates that have none; these are in UTC.
 The status is 0; 1 where lines were refused, or changed; 2 after a fault.
 ";
 
-/// Writes how many lines changed, or the fault's text, and answers the exit status: 0 where no line changed, 1 where some
-/// did, 2 after a fault. Where none changed nothing is written. A failed write is passed over.
-pub fn report_dash_change<W: Write>(outcome: &Result<DashChangeCounts, RunFault>, errors: &mut W) -> u8
+/// Writes how many lines changed, or the fault's text, and answers the exit status: 0 where no line changed, 1 where
+/// some did, 2 after a fault. Where none changed nothing is written. A failed write is passed over.
+pub fn report_dash_change<W: Write>(
+    outcome: &Result<DashChangeCounts, RunFault>,
+    errors: &mut W,
+) -> u8
     ensures { result ≡ status_of (λ counts. counts.dash_changes) outcome.now }
 {
     match outcome {
@@ -49,7 +52,8 @@ pub fn help<W: Write, E: Write>(out: &mut W, errors: &mut E) -> u8
     say(HELP, out, errors)
 }
 
-/// Writes the program's name and its version, and answers the exit status: 0, or 2 where that failed, with the fault's text.
+/// Writes the program's name and its version, and answers the exit status: 0, or 2 where that failed, with the fault's
+/// text.
 pub fn version<W: Write, E: Write>(out: &mut W, errors: &mut E) -> u8
     ensures { (result ≡ 0) ⊎ (result ≡ 2) }
 {

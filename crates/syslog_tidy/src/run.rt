@@ -16,11 +16,11 @@ use syslog_loose::{IncompleteDate, ParseFault, TimeZone, Variant, settle_into};
 /// Reads lines to the end of the input, and writes the settled text of each that has one, in the given year: its first
 /// printed text that is printed again as it stands.
 ///
-/// A line that has none, or is no UTF-8, gives nothing and is counted as refused. What was written is written again where
-/// it is the input in the same year, and no line of it is refused. The output of each block of input is
-/// written before more is read, and the writer is flushed at the end. Nothing is tried again. After `RunFault::Read` the
-/// output of each complete line that was read was written. After `RunFault::Memory` so it was, where the memory was
-/// wanted before anything was read or for more of a line that takes a whole block; or it was refused for a line that has a
+/// A line that has none, or is no UTF-8, gives nothing and is counted as refused. What was written is written again
+/// where it is the input in the same year, and no line of it is refused. The output of each block of input is written
+/// before more is read, and the writer is flushed at the end. Nothing is tried again. After `RunFault::Read` the output
+/// of each complete line that was read was written. After `RunFault::Memory` so it was, where the memory was wanted
+/// before anything was read or for more of a line that takes a whole block; or it was refused for a line that has a
 /// reading, and the output of each line before it was written. After `RunFault::Write` a beginning of the output was
 /// written. It takes memory for a block of input, its output, and the longest line.
 pub fn run<R: Read, W: Write>(
@@ -35,7 +35,8 @@ pub fn run<R: Read, W: Write>(
         (W.contents writer.old.inner) (W.contents writer.new.inner) summary) }
     ensures again { IfOk result (λ summary. WritesAgain year (R.remaining reader.old.inner)
         (W.contents writer.old.inner) (W.contents writer.new.inner) summary) }
-    ensures err { IfErr result (λ fault. EndsEarly (tidying year) (R.remaining reader.old.inner) (R.remaining reader.new.inner)
+    ensures err { IfErr result (λ fault. EndsEarly (tidying year) (R.remaining reader.old.inner)
+        (R.remaining reader.new.inner)
         (W.contents writer.old.inner) (W.contents writer.new.inner) fault) }
     ensures failed { FailedAs result reader.new.failed writer.new.failed }
 {

@@ -17,7 +17,8 @@ use Rattle.syslog_loose.proofs.Rfc3164Lemmas.Near.{read_near}
 use Rattle.syslog_loose.proofs.Rfc3164Lemmas.Printed.{printed_is}
 use Rattle.syslog_loose.proofs.Rfc5424Lemmas.ReadBack.{completed, priority_same}
 
-completed_canonical : (rule : DashRule) (dating : Dating) (text : Text) (m : MessageValue) → IsRead3164 rule dating text m → HasNoException rule m → IsCanonical rule (completed m)
+completed_canonical : (rule : DashRule) (dating : Dating) (text : Text) (m : MessageValue)
+    → IsRead3164 rule dating text m → HasNoException rule m → IsCanonical rule (completed m)
 completed_canonical rule dating text m r none =
     let near = read_near rule dating text m r in
     near_canonical rule (completed m) (
@@ -54,10 +55,12 @@ unfolding printed_3164
 printed_again m e =
     printed_is (completed m) e
     ∙ ap (λ (n : ℕ). 60 ∷ (decimal n ++ (62 ∷ 32 ∷ (timestamp_text m.timestamp ++ (32 ∷ (name_text m.hostname
-    ++ (32 ∷ (tag_text m.appname m.procid ++ (spaced_elements m.structured_data ++ m.msg))))))))) (priority_same m.facility m.severity)
+    ++ (32 ∷ (tag_text m.appname m.procid ++ (spaced_elements m.structured_data ++ m.msg)))))))))
+    (priority_same m.facility m.severity)
     ∙ sym (printed_is m e)
 
-pub read_again : (rule : DashRule) (dating : Dating) (text : Text) (m : MessageValue) → IsRead3164 rule dating text m → HasNoException rule m
+pub read_again : (rule : DashRule) (dating : Dating) (text : Text) (m : MessageValue) → IsRead3164 rule dating text m
+    → HasNoException rule m
     → IsCanonical rule (completed m) × IsBounded (completed m) × (printed (completed m) ≡ printed m)
 read_again rule dating text m r none = (
   completed_canonical rule dating text m r none,

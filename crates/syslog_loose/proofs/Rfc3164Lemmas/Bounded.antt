@@ -34,7 +34,9 @@ resolved_bounded (Some h) (Some None) n e = subst HasBounded (sym e) tt
 resolved_bounded None (Some (Some t)) n e = program_bounded None t n e
 resolved_bounded (Some h) (Some (Some t)) n e = program_bounded h t n e
 
-pub read_bounded : (rule : DashRule) (dating : Dating) (text : Text) (m : MessageValue) → IsRead3164 rule dating text m → IsBounded m
+pub read_bounded : (rule : DashRule) (dating : Dating) (text : Text) (m : MessageValue) → IsRead3164 rule dating text m
+    → IsBounded m
 read_bounded rule dating text m r =
     let (n, resolves, means) = r.means in
-    subst IsBounded (sym means) (record { protocol = tt; procid = resolved_bounded r.values.1.1.1.0 r.values.1.1.1.1.0 n resolves })
+    subst IsBounded (sym means)
+    (record { protocol = tt; procid = resolved_bounded r.values.1.1.1.0 r.values.1.1.1.1.0 n resolves })

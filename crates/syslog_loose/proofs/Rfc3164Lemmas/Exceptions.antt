@@ -9,8 +9,10 @@ use Rattle.syslog_pieces.specs.declared.procid.ProcId.TheVariants.{PID, Name}
 use Rattle.syslog_pieces.specs.declared.structured_data.rfc3164_list.DashRule.{DashRule}
 use Rattle.syslog_loose.specs.declared.message.Protocol.{Protocol}
 use Rattle.syslog_loose.specs.declared.message.Protocol.TheVariants.{RFC3164}
-use Rattle.syslog_loose.specs.Canonical.{IsVisible, IsCanonicalHost, IsBracketedProcess, AreCanonicalNames, IsCanonical3164, IsCanonicalFor, IsCanonical}
-use Rattle.syslog_loose.specs.Exceptions.{is_no_colon, HasNoColon, HasNoException, IsOddHost, IsInnerProcess, AreNamesButExceptions, IsNearlyCanonical}
+use Rattle.syslog_loose.specs.Canonical.{IsVisible, IsCanonicalHost, IsBracketedProcess}
+use Rattle.syslog_loose.specs.Canonical.{AreCanonicalNames, IsCanonical3164, IsCanonicalFor, IsCanonical}
+use Rattle.syslog_loose.specs.Exceptions.{is_no_colon, HasNoColon, HasNoException, IsOddHost}
+use Rattle.syslog_loose.specs.Exceptions.{IsInnerProcess, AreNamesButExceptions, IsNearlyCanonical}
 use Rattle.syslog_loose.specs.Message.{MessageValue}
 use Rattle.syslog_pieces.proofs.PieceLemmas.Each.{each_both, each_left, each_right}
 
@@ -31,15 +33,21 @@ no_odd_host : (host app : Option Text) → IfSome host IsCanonicalHost → IfSom
 no_odd_host None app h = tt
 no_odd_host (Some x) app h = λ o. absurd (elim o [ inl d ↦ h.1 d | inr c ↦ h.2 c ])
 
-pub canonical_host : (host : Option Text) → IfSome host IsVisible → IfSome host (λ x. x ≡ dash → ⊥) → IfSome host (λ x. EndsInColon x → ⊥) → IfSome host IsCanonicalHost
+pub canonical_host : (host : Option Text) → IfSome host IsVisible → IfSome host (λ x. x ≡ dash → ⊥)
+    → IfSome host (λ x. EndsInColon x → ⊥) → IfSome host IsCanonicalHost
 canonical_host None v d c = tt
 canonical_host (Some x) v d c = (v, d, c)
 
 -- ---- the process
 inner_of : (process : ProcId Text) → IsBracketedProcess process → IsInnerProcess process
 inner_of (PID n) h = tt
-inner_of (Name t) (l, a, none) =
-    (l, each_both is_not_whitespace is_open_char t (each_left is_not_whitespace is_no_colon t (each_left is_tag_char is_open_char t a)) (each_right is_tag_char is_open_char t a), none)
+inner_of (Name t) (l, a, none) = (
+  l,
+  each_both is_not_whitespace is_open_char t
+      (each_left is_not_whitespace is_no_colon t (each_left is_tag_char is_open_char t a))
+      (each_right is_tag_char is_open_char t a),
+  none,
+)
 
 no_colon_of : (process : ProcId Text) → IsBracketedProcess process → HasNoColon process
 no_colon_of (PID n) h = tt
@@ -47,29 +55,38 @@ no_colon_of (Name t) (l, a, none) = each_right is_not_whitespace is_no_colon t (
 
 pub bracketed_of : (process : ProcId Text) → IsInnerProcess process → HasNoColon process → IsBracketedProcess process
 bracketed_of (PID n) h k = tt
-bracketed_of (Name t) (l, a, none) k =
-    (l, each_both is_tag_char is_open_char t (each_both is_not_whitespace is_no_colon t (each_left is_not_whitespace is_open_char t a) k) (each_right is_not_whitespace is_open_char t a), none)
+bracketed_of (Name t) (l, a, none) k = (
+  l,
+  each_both is_tag_char is_open_char t
+      (each_both is_not_whitespace is_no_colon t (each_left is_not_whitespace is_open_char t a) k)
+      (each_right is_not_whitespace is_open_char t a),
+  none,
+)
 
 -- ---- the names
-near_of : (host app : Option Text) (process : Option (ProcId Text)) → AreCanonicalNames host app process → AreNamesButExceptions host app process
+near_of : (host app : Option Text) (process : Option (ProcId Text)) → AreCanonicalNames host app process
+    → AreNamesButExceptions host app process
 near_of host None None h = h
 near_of host None (Some p) h = h
 near_of host (Some a) None h = h
 near_of host (Some a) (Some p) h = (h.0, inner_of p h.1)
 
-pub no_colon_names : (host app : Option Text) (process : Option (ProcId Text)) → AreCanonicalNames host app process → IfSome process HasNoColon
+pub no_colon_names : (host app : Option Text) (process : Option (ProcId Text)) → AreCanonicalNames host app process
+    → IfSome process HasNoColon
 no_colon_names host app None h = tt
 no_colon_names host None (Some p) h = absurd h
 no_colon_names host (Some a) (Some p) h = no_colon_of p h.1
 
-pub canonical_names : (host app : Option Text) (process : Option (ProcId Text)) → AreNamesButExceptions host app process → IfSome process HasNoColon → AreCanonicalNames host app process
+pub canonical_names : (host app : Option Text) (process : Option (ProcId Text)) → AreNamesButExceptions host app process
+    → IfSome process HasNoColon → AreCanonicalNames host app process
 canonical_names host None None h k = h
 canonical_names host None (Some p) h k = h
 canonical_names host (Some a) None h k = h
 canonical_names host (Some a) (Some p) h k = (h.0, bracketed_of p h.1 k)
 
 -- ---- the message
-pub canonical_near : (rule : DashRule) (m : MessageValue) → m.protocol ≡ RFC3164 → IsCanonical rule m → IsNearlyCanonical m × HasNoException rule m
+pub canonical_near : (rule : DashRule) (m : MessageValue) → m.protocol ≡ RFC3164 → IsCanonical rule m
+    → IsNearlyCanonical m × HasNoException rule m
 canonical_near rule m e (canonical, other) =
     let own : IsCanonical3164 rule m = subst (λ (x : Protocol). IsCanonicalFor rule x m) e other in (
       record {
@@ -97,7 +114,8 @@ canonical_near rule m e (canonical, other) =
       },
     )
 
-pub near_canonical : (rule : DashRule) (m : MessageValue) → IsNearlyCanonical m × HasNoException rule m → IsCanonical rule m
+pub near_canonical : (rule : DashRule) (m : MessageValue) → IsNearlyCanonical m × HasNoException rule m
+    → IsCanonical rule m
 near_canonical rule m (nearly, none) =
     let near = nearly.rest in
     let own : IsCanonical3164 rule m = record {

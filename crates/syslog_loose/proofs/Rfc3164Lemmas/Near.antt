@@ -55,7 +55,8 @@ rfc3164_list_canonical rule p q es (inl (d, a, e)) =
     (sym e) (tt, tt)
 rfc3164_list_canonical rule p q es (inr (l, h)) = many_canonical p q es h
 
-field_canonical : (rule : DashRule) (t q : Text) (v : Option (List ElementValue)) → Front (optional (rfc3164_list rule)) t q v
+field_canonical : (rule : DashRule) (t q : Text) (v : Option (List ElementValue))
+    → Front (optional (rfc3164_list rule)) t q v
     → AllByRecursion IsCanonicalElement (elements_or v) × AllByRecursion (λ e. 0 < length e.params) (elements_or v)
 field_canonical rule t q None f = (tt, tt)
 field_canonical rule t q (Some es) f = rfc3164_list_canonical rule f.piece q es f.is
@@ -218,7 +219,8 @@ module _ (rule : DashRule) (dating : Dating) (text : Text) where
         elements = canonical.0;
         parameters = canonical.1;
         msg_front = subst (λ (x : Text). Ends is_blank x) (rest_whole g11) g10.is.1;
-        msg_end = last_ends (stamped_row dating ++ (fields_row ++ (optional (rfc3164_list rule) ∷ run is_blank ∷ []))) row
+        msg_end =
+            last_ends (stamped_row dating ++ (fields_row ++ (optional (rfc3164_list rule) ∷ run is_blank ∷ []))) row
             (drop_ends (skip_leading_whitespace text));
       })
 

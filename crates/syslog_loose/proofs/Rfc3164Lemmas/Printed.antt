@@ -7,7 +7,8 @@ use Rattle.syslog_pieces.specs.Text.{trimmed}
 use Rattle.syslog_pieces.proofs.PieceLemmas.Class.{optional_some}
 use Rattle.syslog_pieces.proofs.PieceLemmas.Kinds.{Begins}
 use Rattle.syslog_loose.specs.Message.{MessageValue}
-use Rattle.syslog_loose.specs.Printed.{timestamp_text, name_text, tag_text, spaced_elements, priority_of, printed_3164, printed_5424, printed}
+use Rattle.syslog_loose.specs.Printed.{timestamp_text, name_text, tag_text, spaced_elements}
+use Rattle.syslog_loose.specs.Printed.{priority_of, printed_3164, printed_5424, printed}
 use Rattle.syslog_loose.specs.Rfc5424.{IsNot5424}
 use Rattle.syslog_loose.specs.declared.message.Protocol.{Protocol}
 use Rattle.syslog_loose.specs.declared.message.Protocol.TheVariants.{RFC3164, RFC5424}
@@ -26,8 +27,11 @@ pub printed_apart : (m : MessageValue) → IsNot5424 (printed_3164 m)
 unfolding printed_3164
 printed_apart m vs d =
     let n = priority_of m in
-    let more : Text = timestamp_text m.timestamp ++ (32 ∷ (name_text m.hostname ++ (32 ∷ (tag_text m.appname m.procid ++ (spaced_elements m.structured_data ++ m.msg))))) in
+    let more : Text = timestamp_text m.timestamp
+    ++ (32 ∷ (name_text m.hostname
+    ++ (32 ∷ (tag_text m.appname m.procid ++ (spaced_elements m.structured_data ++ m.msg))))) in
     let q : Text = drop_trailing_whitespace (32 ∷ more) in
     let f : Front (optional priority) (trimmed (printed_3164 m)) q (Some n) =
-    subst (λ (x : Text). Front (optional priority) x q (Some n)) (sym (priority_trimmed n (32 ∷ more))) (optional_some priority (priority_front n q (priority_low m))) in
+    subst (λ (x : Text). Front (optional priority) x q (Some n)) (sym (priority_trimmed n (32 ∷ more)))
+    (optional_some priority (priority_front n q (priority_low m))) in
     no_digit _ _ (number_begins 4294967295 (versioned (trimmed (printed_3164 m)) q (Some n) vs d f).number)

@@ -36,8 +36,10 @@ use Rattle.syslog_pieces.proofs.TextLemmas.ReadBack.{host_back, decimal_digits}
 use Rattle.syslog_pieces.proofs.StructuredDataLemmas.Rfc3164List.{full_begins, no_full_nil, no_rfc3164_list}
 use Rattle.syslog_pieces.proofs.TimestampLemmas.RoundTrip.{printed_stamp-back}
 use Rattle.syslog_pieces.proofs.TimestampLemmas.Texts.{stamp_character-visible}
-use Rattle.syslog_loose.specs.Canonical.{IsBoundedProcess, IsBounded, IsCanonicalHost, IsCanonicalElement, is_process_char}
-use Rattle.syslog_loose.specs.Canonical.{IsBracketedProcess, AreCanonicalNames, IsCanonicalInBoth, IsCanonical3164, IsCanonicalFor}
+use Rattle.syslog_loose.specs.Canonical.{IsBoundedProcess, IsBounded, IsCanonicalHost}
+use Rattle.syslog_loose.specs.Canonical.{IsCanonicalElement, is_process_char}
+use Rattle.syslog_loose.specs.Canonical.{IsBracketedProcess, AreCanonicalNames}
+use Rattle.syslog_loose.specs.Canonical.{IsCanonicalInBoth, IsCanonical3164, IsCanonicalFor}
 use Rattle.syslog_loose.specs.Canonical.{IsCanonical}
 use Rattle.syslog_loose.specs.Exceptions.{is_no_colon}
 use Rattle.syslog_loose.specs.Message.{MessageValue}
@@ -93,7 +95,8 @@ pub body_back : (rule : DashRule) (es : List ElementValue) (msg : Text) → AllB
     → Front (Row (from_blanks rule)) (tail_text es msg) [] (tt, (list_field es, (tt, (msg, tt))))
 body_back rule [] msg h k b n =
     row_cons (run is_blank) (from_list rule) (message_blanks msg b)
-    (row_cons (optional (rfc3164_list rule)) from_gap (optional_none (rfc3164_list rule) (no_rfc3164_list rule msg (n refl)))
+    (row_cons (optional (rfc3164_list rule)) from_gap
+    (optional_none (rfc3164_list rule) (no_rfc3164_list rule msg (n refl)))
     (gap_back msg msg (record { piece = []; whole = refl; is = (tt, b) })))
 body_back rule (e ∷ es) msg h k b n =
     row_cons (run is_blank) (from_list rule)
@@ -183,7 +186,8 @@ tagged w t l e n =
     (piece_front tag_word w (58 ∷ t) (Some w) (l, e, refl, (refl, n))))
 
 -- the tag field and the blanks behind it, up to the colon
-pub tag_back : (origin app : Option Text) (process : Option (ProcId Text)) (t : Text) → AreCanonicalNames origin app process
+pub tag_back : (origin app : Option Text) (process : Option (ProcId Text)) (t : Text)
+    → AreCanonicalNames origin app process
     → IfSome process IsBoundedProcess
     → (q : Text) × Front (optional (spaced tag_word)) (32 ∷ (program_text app process ++ (58 ∷ t))) q
     (program_field app process) × Front (run is_blank) q (58 ∷ t) tt

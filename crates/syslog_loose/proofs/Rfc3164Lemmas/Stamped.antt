@@ -1,11 +1,13 @@
 -- Behind the timestamp of RFC 3164 nothing can fail.
 use Rattle.std.proofs.Common.{List, [], ◌∷◌, Some, None, ◌↔◌}
-use Rattle.syslog_pieces.specs.Pieces.Class.{Text, Class, Values, NoDivision, Front, NoFront, Row, run, rest, exactly, optional, spaced}
+use Rattle.syslog_pieces.specs.Pieces.Class.{Text, Class, Values, NoDivision, Front, NoFront}
+use Rattle.syslog_pieces.specs.Pieces.Class.{Row, run, rest, exactly, optional, spaced}
 use Rattle.syslog_pieces.specs.StructuredData.Rfc3164List.{rfc3164_list}
 use Rattle.syslog_pieces.specs.Text.{is_blank, colon, host, tag_word}
 use Rattle.syslog_pieces.specs.Timestamp.Zone.{Dating}
 use Rattle.syslog_pieces.specs.declared.structured_data.rfc3164_list.DashRule.{DashRule}
-use Rattle.syslog_pieces.proofs.PieceLemmas.Class.{optional_none, rest_front, row_nil, row_cons, rows_join, rows_none_here, no_row_division, front_division}
+use Rattle.syslog_pieces.proofs.PieceLemmas.Class.{optional_none, rest_front, row_nil, row_cons, rows_join}
+use Rattle.syslog_pieces.proofs.PieceLemmas.Class.{rows_none_here, no_row_division, front_division}
 use Rattle.syslog_pieces.proofs.TextLemmas.Runs.{some_front_run}
 use Rattle.syslog_loose.specs.Rfc3164.{stamped_row, body_row, rfc3164_row}
 
@@ -14,7 +16,8 @@ abbrev Stands : List Class → Type 0
 Stands Cs = (t : Text) → ((vs : Values Cs) → Front (Row Cs) t [] vs → ⊥) → ⊥
 
 run_stands : (Cs : List Class) → Stands Cs → Stands (run is_blank ∷ Cs)
-run_stands Cs s t n = let (q, f) = some_front_run is_blank t in s q (λ vs g. n (tt, vs) (row_cons (run is_blank) Cs f g))
+run_stands Cs s t n = let (q, f) = some_front_run is_blank t in
+    s q (λ vs g. n (tt, vs) (row_cons (run is_blank) Cs f g))
 
 optional_stands : (C : Class) (Cs : List Class) → Stands Cs → Stands (optional C ∷ Cs)
 optional_stands C Cs s t n =
@@ -27,16 +30,24 @@ rest_stands t n = n (t, tt) (row_cons rest [] (rest_front t) (row_nil []))
 pub body_stands : (rule : DashRule) → Stands (body_row rule)
 body_stands rule =
     let message = run_stands (rest ∷ []) rest_stands in
-    let list = run_stands (optional (rfc3164_list rule) ∷ run is_blank ∷ rest ∷ []) (optional_stands (rfc3164_list rule) (run is_blank ∷ rest ∷ []) message) in
-    let mark = optional_stands (exactly colon) (run is_blank ∷ optional (rfc3164_list rule) ∷ run is_blank ∷ rest ∷ []) list in
-    let behind = run_stands (optional (exactly colon) ∷ run is_blank ∷ optional (rfc3164_list rule) ∷ run is_blank ∷ rest ∷ []) mark in
-    let program = optional_stands (spaced tag_word) (run is_blank ∷ optional (exactly colon) ∷ run is_blank ∷ optional (rfc3164_list rule) ∷ run is_blank ∷ rest ∷ []) behind in
-    optional_stands (spaced host) (optional (spaced tag_word) ∷ run is_blank ∷ optional (exactly colon) ∷ run is_blank ∷ optional (rfc3164_list rule) ∷ run is_blank ∷ rest ∷ []) program
+    let list = run_stands (optional (rfc3164_list rule) ∷ run is_blank ∷ rest ∷ [])
+    (optional_stands (rfc3164_list rule) (run is_blank ∷ rest ∷ []) message) in
+    let mark =
+    optional_stands (exactly colon) (run is_blank ∷ optional (rfc3164_list rule) ∷ run is_blank ∷ rest ∷ []) list in
+    let behind = run_stands (optional (exactly colon) ∷ run is_blank ∷ optional (rfc3164_list rule) ∷ run is_blank
+    ∷ rest ∷ []) mark in
+    let program = optional_stands (spaced tag_word)
+    (run is_blank ∷ optional (exactly colon) ∷ run is_blank ∷ optional (rfc3164_list rule) ∷ run is_blank ∷ rest ∷ [])
+    behind in
+    optional_stands (spaced host) (optional (spaced tag_word) ∷ run is_blank ∷ optional (exactly colon) ∷ run is_blank
+    ∷ optional (rfc3164_list rule) ∷ run is_blank ∷ rest ∷ []) program
 
 -- a text has no division exactly where no priority, blanks and timestamp begin it
-pub division_is_stamped : (rule : DashRule) (dating : Dating) (text : Text) → NoDivision (rfc3164_row rule dating) text ↔ NoFront (Row (stamped_row dating)) text
+pub division_is_stamped : (rule : DashRule) (dating : Dating) (text : Text) → NoDivision (rfc3164_row rule dating) text
+    ↔ NoFront (Row (stamped_row dating)) text
 division_is_stamped rule dating text = (
   (λ n p q vs e h. body_stands rule q (λ ws g.
-      n _ (front_division (rfc3164_row rule dating) (rows_join (stamped_row dating) (body_row rule) (record { piece = p; whole = e; is = h }) g)))),
+      n _ (front_division (rfc3164_row rule dating)
+      (rows_join (stamped_row dating) (body_row rule) (record { piece = p; whole = e; is = h }) g)))),
   (λ n. no_row_division (rfc3164_row rule dating) (rows_none_here (stamped_row dating) (body_row rule) n)),
 )

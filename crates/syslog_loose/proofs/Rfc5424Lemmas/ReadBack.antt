@@ -43,7 +43,8 @@ use Rattle.syslog_pieces.proofs.TextLemmas.ReadBack.{NoColonNext, blanks_next}
 use Rattle.syslog_pieces.proofs.TimestampLemmas.RoundTrip.{printed_stamp-back, stamp_text-canonical}
 use Rattle.syslog_loose.specs.declared.message.Protocol.TheVariants.{RFC5424}
 use Rattle.syslog_loose.specs.declared.message.Protocol.{Protocol}
-use Rattle.syslog_loose.specs.Canonical.{IsBoundedProtocol, IsBounded, IsCanonicalInBoth, IsCanonical5424, IsCanonicalFor, IsCanonical}
+use Rattle.syslog_loose.specs.Canonical.{IsBoundedProtocol, IsBounded, IsCanonicalInBoth}
+use Rattle.syslog_loose.specs.Canonical.{IsCanonical5424, IsCanonicalFor, IsCanonical}
 use Rattle.syslog_loose.specs.Message.{MessageValue}
 use Rattle.syslog_loose.specs.Printed.{printed, printed_5424, priority_of, timestamp_text}
 use Rattle.syslog_loose.specs.Rfc5424.{header_row, data_row, rfc5424_row, message_of, IsRead5424}

@@ -1,9 +1,11 @@
 -- Whether a list begins a text can be decided: of each class of which a strict element is made, a piece begins the
 -- text or none does.
-use Rattle.std.proofs.Common.{◌≡◌, ℕ, zero, suc, ◌≤◌, ◌⊎◌, inl, inr, Bool, true, false, List, [], ◌∷◌, ◌++◌, length, refl, sym, ap, subst, ◌∙◌, arith}
+use Rattle.std.proofs.Common.{◌≡◌, ℕ, zero, suc, ◌≤◌, ◌⊎◌, inl, inr, Bool, true, false}
+use Rattle.std.proofs.Common.{List, [], ◌∷◌, ◌++◌, length, refl, sym, ap, subst, ◌∙◌, arith}
 use Rattle.std.proofs.lemmas.Bool.Decides.{leb_tells, eqb_tells}
 use Rattle.std.proofs.lemmas.List.{length-append}
-use Rattle.syslog_pieces.specs.Pieces.Class.{Text, Class, Front, NoFront, IsDeterministic, Row, Each, Ends, run, some_run, exactly, mapped, texted}
+use Rattle.syslog_pieces.specs.Pieces.Class.{Text, Class, Front, NoFront, IsDeterministic, Row}
+use Rattle.syslog_pieces.specs.Pieces.Class.{Each, Ends, run, some_run, exactly, mapped, texted}
 use Rattle.syslog_pieces.specs.Pieces.Lists.{list_before, more_before}
 use Rattle.syslog_pieces.specs.StructuredData.{value, param_row, param_of, param, element_row, element_of, element}
 use Rattle.syslog_pieces.specs.StructuredData.Element.{ElementValue}
@@ -13,11 +15,15 @@ use Rattle.syslog_pieces.specs.Text.{is_blank}
 use Rattle.syslog_pieces.specs.Text.CharClass.{is_id_char, is_name_char}
 use Rattle.syslog_pieces.specs.declared.structured_data.rfc3164_list.DashRule.{DashRule}
 use Rattle.syslog_pieces.specs.declared.structured_data.rfc3164_list.DashRule.TheVariants.{BeforeAnything, BeforeBlank}
-use Rattle.syslog_pieces.proofs.PieceLemmas.Class.{heads, run_same, run_det, some_run_det, exactly_det, texted_det, front_same, no_front_no, mapped_front, no_mapped, texted_front, no_texted, row_nil, row_cons, row_none_here, row_none_later}
-use Rattle.syslog_pieces.proofs.PieceLemmas.Lists.{begins, list_here, list_cons, no_list, list_goes, more_here, more_cons, no_more, no_more_behind, more_goes}
+use Rattle.syslog_pieces.proofs.PieceLemmas.Class.{heads, run_same, run_det, some_run_det, exactly_det, texted_det}
+use Rattle.syslog_pieces.proofs.PieceLemmas.Class.{front_same, no_front_no, mapped_front, no_mapped, texted_front}
+use Rattle.syslog_pieces.proofs.PieceLemmas.Class.{no_texted, row_nil, row_cons, row_none_here, row_none_later}
+use Rattle.syslog_pieces.proofs.PieceLemmas.Lists.{begins, list_here, list_cons, no_list, list_goes}
+use Rattle.syslog_pieces.proofs.PieceLemmas.Lists.{more_here, more_cons, no_more, no_more_behind, more_goes}
 use Rattle.syslog_pieces.proofs.PieceLemmas.Meets.{Meets, meets_none}
 use Rattle.syslog_pieces.proofs.PieceLemmas.Steps.{front_longer}
-use Rattle.syslog_pieces.proofs.StructuredDataLemmas.Elements.{value_det, value_here, unit_goes, param_det, params_det, element_det, space_is_no_close}
+use Rattle.syslog_pieces.proofs.StructuredDataLemmas.Elements.{value_det, value_here, unit_goes, param_det}
+use Rattle.syslog_pieces.proofs.StructuredDataLemmas.Elements.{params_det, element_det, space_is_no_close}
 use Rattle.syslog_pieces.proofs.StructuredDataLemmas.Units.{decide}
 
 -- it holds, or it does not
@@ -43,8 +49,11 @@ find_run test (c ∷ t) = elim (decide (test c)) [
   | inr h ↦ ([], c ∷ t, refl, tt, h)
 ]
 
-some_found : (test : ℕ → Bool) (t : Text) → (p : Text) × (q : Text) × (t ≡ p ++ q) × Each test p × Ends test q → Finds (some_run test) t
-some_found test t ([], q, e, a, b) = inr (λ p r v f h. let s = ap length (run_same test p r [] q (sym f ∙ e) h.1 h.2 a b) in let l = h.0 in omega (arith, s, l))
+some_found : (test : ℕ → Bool) (t : Text) → (p : Text) × (q : Text) × (t ≡ p ++ q) × Each test p × Ends test q
+    → Finds (some_run test) t
+some_found test t ([], q, e, a, b) = inr
+    (λ p r v f h. let s = ap length (run_same test p r [] q (sym f ∙ e) h.1 h.2 a b) in let l = h.0 in
+    omega (arith, s, l))
 some_found test t (c ∷ p, q, e, a, b) = inl (q, tt, record { piece = c ∷ p; whole = e; is = (omega arith, a, b) })
 
 find_some : (test : ℕ → Bool) (t : Text) → Finds (some_run test) t
@@ -65,7 +74,8 @@ find_texted C t (inr n) = inr (no_texted C n)
 find_nil : (t : Text) → Finds (Row []) t
 find_nil t = inl (t, tt, row_nil t)
 
-find_row : (C : Class) (Cs : List Class) (t : Text) → IsDeterministic C → Finds C t → ((q : Text) → Finds (Row Cs) q) → Finds (Row (C ∷ Cs)) t
+find_row : (C : Class) (Cs : List Class) (t : Text) → IsDeterministic C → Finds C t → ((q : Text) → Finds (Row Cs) q)
+    → Finds (Row (C ∷ Cs)) t
 find_row C Cs t d (inr n) k = inr (row_none_here C Cs n)
 find_row C Cs t d (inl (q, v, f)) k = elim (k q) [
   | inl (r, vs, g) ↦ inl (r, (v, vs), row_cons C Cs f g)
@@ -77,7 +87,8 @@ find_moved C t D u m (inl (q, v, f)) = let g = m.forth q v f in inl (q, g.0, g.1
 find_moved C t D u m (inr n) = inr (meets_none C t D u m n)
 
 no_lone : (C : Class) (t : Text) → NoFront (Row (C ∷ [])) t → NoFront C t
-no_lone C t n p q v e h = no_front_no (Row (C ∷ [])) n (row_cons C [] (record { piece = p; whole = e; is = h }) (row_nil q))
+no_lone C t n p q v e h =
+    no_front_no (Row (C ∷ [])) n (row_cons C [] (record { piece = p; whole = e; is = h }) (row_nil q))
 
 -- ---- values
 no_value_nil : NoFront value []
@@ -97,8 +108,10 @@ find_value (suc n) (c ∷ []) l = elim (eqb_tells c 34) [
 find_value (suc n) (c ∷ d ∷ t) l = elim (eqb_tells c 34) [
   | inl a ↦ inl (c ∷ d ∷ t, [], value_here (c ∷ d ∷ t) (d ∷ t) (ap (λ (x : ℕ). x ∷ d ∷ t) a.1))
   | inr a ↦ elim (eqb_tells c 92) [
-    | inl b ↦ find_moved value (c ∷ d ∷ t) value t (unit_goes (pair d) (c ∷ d ∷ t) t tt (ap (λ (x : ℕ). x ∷ d ∷ t) b.1)) (find_value n t (omega arith))
-    | inr b ↦ find_moved value (c ∷ d ∷ t) value (d ∷ t) (unit_goes (single c) (c ∷ d ∷ t) (d ∷ t) (b.1, a.1) refl) (find_value n (d ∷ t) (omega arith))
+    | inl b ↦ find_moved value (c ∷ d ∷ t) value t (unit_goes (pair d) (c ∷ d ∷ t) t tt (ap (λ (x : ℕ). x ∷ d ∷ t) b.1))
+        (find_value n t (omega arith))
+    | inr b ↦ find_moved value (c ∷ d ∷ t) value (d ∷ t) (unit_goes (single c) (c ∷ d ∷ t) (d ∷ t) (b.1, a.1) refl)
+        (find_value n (d ∷ t) (omega arith))
   ]
 ]
 
@@ -108,10 +121,14 @@ find_quote t = find_row (exactly (34 ∷ [])) [] t (exactly_det (34 ∷ [])) (fi
 
 find_param : (t : Text) → Finds param t
 find_param t = find_mapped (Row param_row) (Text × Text) param_of t
-    (find_row (texted (some_run is_name_char)) (exactly (61 ∷ []) ∷ run is_blank ∷ exactly (34 ∷ []) ∷ value ∷ exactly (34 ∷ []) ∷ []) t
-    (texted_det (some_run is_name_char) (some_run_det is_name_char)) (find_texted (some_run is_name_char) t (find_some is_name_char t)) (λ u.
-    find_row (exactly (61 ∷ [])) (run is_blank ∷ exactly (34 ∷ []) ∷ value ∷ exactly (34 ∷ []) ∷ []) u (exactly_det (61 ∷ [])) (find_char 61 u) (λ w.
-    find_row (run is_blank) (exactly (34 ∷ []) ∷ value ∷ exactly (34 ∷ []) ∷ []) w (run_det is_blank) (find_blanks is_blank w) (λ x.
+    (find_row (texted (some_run is_name_char))
+    (exactly (61 ∷ []) ∷ run is_blank ∷ exactly (34 ∷ []) ∷ value ∷ exactly (34 ∷ []) ∷ []) t
+    (texted_det (some_run is_name_char) (some_run_det is_name_char))
+    (find_texted (some_run is_name_char) t (find_some is_name_char t)) (λ u.
+    find_row (exactly (61 ∷ [])) (run is_blank ∷ exactly (34 ∷ []) ∷ value ∷ exactly (34 ∷ []) ∷ []) u
+    (exactly_det (61 ∷ [])) (find_char 61 u) (λ w.
+    find_row (run is_blank) (exactly (34 ∷ []) ∷ value ∷ exactly (34 ∷ []) ∷ []) w (run_det is_blank)
+    (find_blanks is_blank w) (λ x.
     find_row (exactly (34 ∷ [])) (value ∷ exactly (34 ∷ []) ∷ []) x (exactly_det (34 ∷ [])) (find_char 34 x) (λ y.
     find_row value (exactly (34 ∷ []) ∷ []) y value_det (find_value (length y) y (omega arith)) find_quote)))))
 
@@ -121,11 +138,14 @@ more = more_before param 32 93
 abbrev params : Class
 params = list_before param 32 93
 
-more_found : (t u : Text) → NoFront (exactly (93 ∷ [])) t → t ≡ 32 ∷ u → Finds param u → ((s : Text) → length s ≤ length u → Finds more s) → Finds more t
+more_found : (t u : Text) → NoFront (exactly (93 ∷ [])) t → t ≡ 32 ∷ u → Finds param u
+    → ((s : Text) → length s ≤ length u → Finds more s) → Finds more t
 more_found t u m e (inr k) next = inr (no_more_behind param 32 93 t u m e k)
 more_found t u m e (inl (s, v, g)) next = elim (next s (front_longer param g)) [
   | inl (q, vs, h) ↦ inl (q, v ∷ vs, more_cons param 32 93 t u s q v vs e g h)
-  | inr k ↦ inr (no_lone more t (meets_none (Row (more ∷ [])) t (Row (param ∷ more ∷ [])) u (more_goes param 32 93 space_is_no_close [] t u e)
+  | inr k ↦
+      inr (no_lone more t (meets_none (Row (more ∷ [])) t (Row (param ∷ more ∷ [])) u
+      (more_goes param 32 93 space_is_no_close [] t u e)
       (row_none_later param (more ∷ []) param_det g (row_none_here more [] k))))
 ]
 
@@ -151,7 +171,8 @@ params_found : (t : Text) → NoFront (exactly (93 ∷ [])) t → Finds param t 
 params_found t m (inr k) = inr (no_list param 32 93 t m k)
 params_found t m (inl (s, v, g)) = elim (find_more (length s) s (omega arith)) [
   | inl (q, vs, h) ↦ inl (q, v ∷ vs, list_cons param 32 93 t s q v vs g h)
-  | inr k ↦ inr (no_lone params t (meets_none (Row (params ∷ [])) t (Row (param ∷ more ∷ [])) t (list_goes param 32 93 [] t m)
+  | inr k ↦
+      inr (no_lone params t (meets_none (Row (params ∷ [])) t (Row (param ∷ more ∷ [])) t (list_goes param 32 93 [] t m)
       (row_none_later param (more ∷ []) param_det g (row_none_here more [] k))))
 ]
 
@@ -164,9 +185,11 @@ find_params t = elim (find_char 93 t) [
 -- ---- elements
 find_element : (t : Text) → Finds element t
 find_element t = find_mapped (Row element_row) ElementValue element_of t
-    (find_row (exactly (91 ∷ [])) (texted (some_run is_id_char) ∷ run is_blank ∷ params ∷ exactly (93 ∷ []) ∷ []) t (exactly_det (91 ∷ [])) (find_char 91 t) (λ u.
+    (find_row (exactly (91 ∷ [])) (texted (some_run is_id_char) ∷ run is_blank ∷ params ∷ exactly (93 ∷ []) ∷ []) t
+    (exactly_det (91 ∷ [])) (find_char 91 t) (λ u.
     find_row (texted (some_run is_id_char)) (run is_blank ∷ params ∷ exactly (93 ∷ []) ∷ []) u
-    (texted_det (some_run is_id_char) (some_run_det is_id_char)) (find_texted (some_run is_id_char) u (find_some is_id_char u)) (λ w.
+    (texted_det (some_run is_id_char) (some_run_det is_id_char))
+    (find_texted (some_run is_id_char) u (find_some is_id_char u)) (λ w.
     find_row (run is_blank) (params ∷ exactly (93 ∷ []) ∷ []) w (run_det is_blank) (find_blanks is_blank w) (λ x.
     find_row params (exactly (93 ∷ []) ∷ []) x params_det (find_params x) (λ y.
     find_row (exactly (93 ∷ [])) [] y (exactly_det (93 ∷ [])) (find_char 93 y) find_nil)))))
@@ -191,7 +214,8 @@ find_full t = elim (find_element t) [
 dash_before : (rule : DashRule) (q : Text) → Decided (IsDashBefore rule q)
 dash_before BeforeAnything q = inl tt
 dash_before BeforeBlank [] = inl tt
-dash_before BeforeBlank (c ∷ q) = elim (decide (is_blank c)) [ inl h ↦ inl h | inr h ↦ inr (λ k. let t : true ≡ false = sym k ∙ h in cc) ]
+dash_before BeforeBlank (c ∷ q) =
+    elim (decide (is_blank c)) [ inl h ↦ inl h | inr h ↦ inr (λ k. let t : true ≡ false = sym k ∙ h in cc) ]
 
 same_behind : (c : ℕ) (xs ys : Text) → c ∷ xs ≡ c ∷ ys → xs ≡ ys
 same_behind c xs ys e = cc
@@ -200,7 +224,8 @@ dash_decided : (rule : DashRule) (t : Text) → NoFront full_element t → Decid
 dash_decided rule t n = elim (find_char 45 t) [
   | inl (q, v, f) ↦ elim (dash_before rule q) [
     | inl a ↦ inr (λ k. k.0 q (begins 45 t q f) a)
-    | inr b ↦ inl (λ r e a. b (subst (λ (x : Text). IsDashBefore rule x) (same_behind 45 r q (sym e ∙ begins 45 t q f)) a), n)
+    | inr b ↦
+        inl (λ r e a. b (subst (λ (x : Text). IsDashBefore rule x) (same_behind 45 r q (sym e ∙ begins 45 t q f)) a), n)
   ]
   | inr m ↦ inl (λ q e a. m (45 ∷ []) q tt e refl, n)
 ]

@@ -36,9 +36,12 @@ use Rattle.syslog_loose.proofs.Rfc3164Lemmas.Whole.{program_text, whole, tail_te
 use Rattle.syslog_loose.proofs.Rfc5424Lemmas.ReadBack as rfc5424
 
 -- ---- the protocol of a message that was read is one that the variant reads
-pub read_protocol : (variant : Variant) (dating : Dating) (text : Text) (m : MessageValue) → IsRead variant dating text m → ReadsProtocol variant m.protocol
-read_protocol RFC5424 dating text m r = subst (λ (p : Protocol). ReadsProtocol RFC5424 p) (sym (ap (λ (x : MessageValue). x.protocol) r.means)) tt
-read_protocol RFC3164 dating text m r = subst (λ (p : Protocol). ReadsProtocol RFC3164 p) (sym (read_near dash_rule dating text m r).protocol) tt
+pub read_protocol : (variant : Variant) (dating : Dating) (text : Text) (m : MessageValue)
+    → IsRead variant dating text m → ReadsProtocol variant m.protocol
+read_protocol RFC5424 dating text m r =
+    subst (λ (p : Protocol). ReadsProtocol RFC5424 p) (sym (ap (λ (x : MessageValue). x.protocol) r.means)) tt
+read_protocol RFC3164 dating text m r =
+    subst (λ (p : Protocol). ReadsProtocol RFC3164 p) (sym (read_near dash_rule dating text m r).protocol) tt
 read_protocol Either dating text m r = tt
 
 -- ---- no month date
@@ -51,24 +54,32 @@ rfc3164_quiet m visible date (p, more, k) =
     let t : Text = tail_text m.structured_data m.msg in
     let y : Text = name_text m.hostname ++ (32 ∷ (program_text m.appname m.procid ++ (58 ∷ t))) in
     let x2 : Text = timestamp_text m.timestamp ++ (32 ∷ y) in
-    let d = subst (λ (x : Text). Front (Row (showing_row yearless_date)) x [] (p, (tt, (date, (more, tt))))) (trimmed_whole m visible) (division_front (showing_row yearless_date) k) in
-    let d1 = step (optional priority) (run is_blank ∷ yearless_date ∷ rest ∷ []) (optional_det priority priority_det) {t = whole m t} {q = 32 ∷ x2} {v = Some (priority_of m)} (optional_some priority (priority_front (priority_of m) (32 ∷ x2) (priority_low m))) d in
-    let d2 = step (run is_blank) (yearless_date ∷ rest ∷ []) (run_det is_blank) {t = 32 ∷ x2} {q = x2} {v = tt} (piece_front (run is_blank) (32 ∷ []) x2 tt ((refl, tt), stamp_unblank m.timestamp (32 ∷ y))) d1 in
+    let d = subst (λ (x : Text). Front (Row (showing_row yearless_date)) x [] (p, (tt, (date, (more, tt)))))
+    (trimmed_whole m visible) (division_front (showing_row yearless_date) k) in
+    let d1 = step (optional priority) (run is_blank ∷ yearless_date ∷ rest ∷ [])
+    (optional_det priority priority_det) {t = whole m t} {q = 32 ∷ x2} {v = Some (priority_of m)}
+    (optional_some priority (priority_front (priority_of m) (32 ∷ x2) (priority_low m))) d in
+    let d2 = step (run is_blank) (yearless_date ∷ rest ∷ []) (run_det is_blank) {t = 32 ∷ x2} {q = x2} {v = tt}
+    (piece_front (run is_blank) (32 ∷ []) x2 tt ((refl, tt), stamp_unblank m.timestamp (32 ∷ y))) d1 in
     let (q, f, g) = row_head yearless_date (rest ∷ []) d2 in
-    begins_apart x2 (λ c a b. omega arith) (stamp_begins m.timestamp (32 ∷ y)) (subst (λ (x : Text). Begins IsLetter x) (sym f.whole) (month_date_begins f.piece q date (inl f.is)))
+    begins_apart x2 (λ c a b. omega arith) (stamp_begins m.timestamp (32 ∷ y))
+    (subst (λ (x : Text). Begins IsLetter x) (sym f.whole) (month_date_begins f.piece q date (inl f.is)))
 
-rfc3164_shows_none : (dating : Dating) (text : Text) (m : MessageValue) → IsRead3164 dash_rule dating text m → (date : MonthDate) → ShowsYearless (printed m) date → ⊥
+rfc3164_shows_none : (dating : Dating) (text : Text) (m : MessageValue) → IsRead3164 dash_rule dating text m
+    → (date : MonthDate) → ShowsYearless (printed m) date → ⊥
 rfc3164_shows_none dating text m r date h =
     let near = read_near dash_rule dating text m r in
     rfc3164_quiet m near.msg_end date (subst (λ (x : Text). ShowsYearless x date) (printed_is m near.protocol) h)
 
-strict_shows_none : (text : Text) (m : MessageValue) → IsRead5424 text m → (date : MonthDate) → ShowsYearless (printed m) date → ⊥
+strict_shows_none : (text : Text) (m : MessageValue) → IsRead5424 text m → (date : MonthDate)
+    → ShowsYearless (printed m) date → ⊥
 strict_shows_none text m r date h =
     let (again, same) = rfc5424.read_again text m r in
     shown_apart (printed m) date (shows_month_date (printed m) date h) again.values again.division
 
 -- the printed text of what was read asks for no year
-pub printed_quiet : (variant : Variant) (dating : Dating) (text : Text) (m : MessageValue) → IsRead variant dating text m → (date : MonthDate) → AsksYear variant (printed m) date → ⊥
+pub printed_quiet : (variant : Variant) (dating : Dating) (text : Text) (m : MessageValue)
+    → IsRead variant dating text m → (date : MonthDate) → AsksYear variant (printed m) date → ⊥
 printed_quiet RFC5424 dating text m r date asks = asks
 printed_quiet RFC3164 dating text m r date asks = rfc3164_shows_none dating text m r date asks
 printed_quiet Either dating text m (inl r) date asks = strict_shows_none text m r date asks

@@ -18,7 +18,8 @@ difference n (suc j) l = elim (leb_tells (suc j) (suc n)) [
 
 module _ (variant : Variant) (dating : Dating) where
   pub one_next : (t u x : Text) → IsNext variant dating t u → IsNext variant dating t x → u ≡ x
-  one_next t u x a b = a.is_printed ∙ ap printed (read_once variant dating t a.message b.message a.read b.read) ∙ sym b.is_printed
+  one_next t u x a b = a.is_printed ∙ ap printed (read_once variant dating t a.message b.message a.read b.read)
+      ∙ sym b.is_printed
 
   pub one_round : (t : Text) (n : ℕ) (u x : Text) → IsRound variant dating t n u → IsRound variant dating t n x → u ≡ x
   one_round t zero u x a b = a ∙ sym b
@@ -26,7 +27,8 @@ module _ (variant : Variant) (dating : Dating) where
       one_next z u x (subst (λ (q : Text). IsNext variant dating q u) (one_round t n y z r s) h) k
 
   -- a text that has a round n has all before it, and each of those a next one
-  before_round : (t : Text) (j n : ℕ) (u : Text) → j < n → IsRound variant dating t n u → (v : Text) × IsRound variant dating t j v × ((x : Text) × IsNext variant dating v x)
+  before_round : (t : Text) (j n : ℕ) (u : Text) → j < n → IsRound variant dating t n u
+      → (v : Text) × IsRound variant dating t j v × ((x : Text) × IsNext variant dating v x)
   before_round t j zero u l r = absurd (omega arith)
   before_round t j (suc n) u l (before, r, h) =
       elim (leb_tells n j) [
@@ -56,45 +58,59 @@ module _ (variant : Variant) (dating : Dating) where
   pub reached_first : (t u : Text) → IsNext variant dating t u → Reaches variant dating t 0 u
   reached_first t u h = record { round = (t, refl, h); none = λ k x l. absurd (omega arith) }
 
-  pub reached_next : (t : Text) (n : ℕ) (u x : Text) → Reaches variant dating t n u → (IsSettled variant dating u → ⊥) → IsNext variant dating u x → Reaches variant dating t (suc n) x
+  pub reached_next : (t : Text) (n : ℕ) (u x : Text) → Reaches variant dating t n u → (IsSettled variant dating u → ⊥)
+      → IsNext variant dating u x → Reaches variant dating t (suc n) x
   reached_next t n u x r never h = record {
     round = (u, r.round, h);
     none = λ k y l round settled. elim (leb_tells n k) [
       | inl a ↦ (
           let e : k ≡ n = (let b = a.1 in omega arith) in
-          never (subst (λ (q : Text). IsSettled variant dating q) (one_round t (suc n) y u (subst (λ (j : ℕ). IsRound variant dating t (suc j) y) e round) r.round) settled))
+          never (subst (λ (q : Text). IsSettled variant dating q)
+          (one_round t (suc n) y u (subst (λ (j : ℕ). IsRound variant dating t (suc j) y) e round) r.round) settled))
       | inr a ↦ r.none k y a.1 round settled
     ];
   }
 
   -- where it is settled, it is the first
-  pub reached_settled : (t : Text) (n : ℕ) (u : Text) → Reaches variant dating t n u → IsSettled variant dating u → IsFirstSettled variant dating t u
+  pub reached_settled : (t : Text) (n : ℕ) (u : Text) → Reaches variant dating t n u → IsSettled variant dating u
+      → IsFirstSettled variant dating t u
   reached_settled t n u r s = record { before = n; round = r.round; settled = s; none_before = r.none }
 
   -- where it is read as no message, none is settled
-  pub reached_last : (t : Text) (n : ℕ) (u y : Text) → Reaches variant dating t n u → IsUnreadable variant dating u → IsFirstSettled variant dating t y → ⊥
+  pub reached_last : (t : Text) (n : ℕ) (u y : Text) → Reaches variant dating t n u → IsUnreadable variant dating u
+      → IsFirstSettled variant dating t y → ⊥
   reached_last t n u y r never s =
       elim (leb_tells s.before n) [
         | inl a ↦ elim (leb_tells n s.before) [
           | inl b ↦ (
               let e : s.before ≡ n = (let c = a.1 in let d = b.1 in omega arith) in
-              let same = one_round t (suc n) y u (subst (λ (j : ℕ). IsRound variant dating t (suc j) y) e s.round) r.round in
-              never s.settled.message (subst (λ (q : Text). IsRead variant dating q s.settled.message) same s.settled.read))
+              let same =
+              one_round t (suc n) y u (subst (λ (j : ℕ). IsRound variant dating t (suc j) y) e s.round) r.round in
+              never s.settled.message
+              (subst (λ (q : Text). IsRead variant dating q s.settled.message) same s.settled.read))
           | inr b ↦ r.none s.before y b.1 s.round s.settled
         ]
         | inr a ↦ (
             let (v, round, (x, h)) = before_round t (suc n) (suc s.before) y (let b = a.1 in omega arith) s.round in
-            never h.message (subst (λ (q : Text). IsRead variant dating q h.message) (one_round t (suc n) v u round r.round) h.read))
+            never h.message (subst (λ (q : Text). IsRead variant dating q h.message)
+            (one_round t (suc n) v u round r.round) h.read))
       ]
 
   -- ---- where no round is settled first, none is settled
-  pub none_settled : (t : Text) → ((u : Text) → IsFirstSettled variant dating t u → ⊥) → (n : ℕ) → NoneSettled variant dating t n
+  pub none_settled : (t : Text) → ((u : Text) → IsFirstSettled variant dating t u → ⊥) → (n : ℕ)
+      → NoneSettled variant dating t n
   none_settled t never zero k u l round settled = omega arith
   none_settled t never (suc n) k u l round settled =
       elim (leb_tells n k) [
         | inl a ↦ (
             let e : n ≡ k = (let b = a.1 in omega arith) in
-            never u (record { before = k; round = round; settled = settled; none_before = subst (λ (j : ℕ). NoneSettled variant dating t j) e (none_settled t never n) }))
+            never u
+            (record {
+              before = k;
+              round = round;
+              settled = settled;
+              none_before = subst (λ (j : ℕ). NoneSettled variant dating t j) e (none_settled t never n);
+            }))
         | inr a ↦ none_settled t never n k u a.1 round settled
       ]
 
@@ -114,28 +130,38 @@ module _ (variant : Variant) (dating : Dating) where
   round_at : (t x : Text) (n k : ℕ) → n ≡ k → IsRound variant dating t n x → IsRound variant dating t k x
   round_at t x n k e r = subst (λ (j : ℕ). IsRound variant dating t j x) e r
 
-  round_join : (t u : Text) (n k : ℕ) (x : Text) → IsRound variant dating t n u → IsRound variant dating u k x → IsRound variant dating t (k + n) x
-  round_join t u n zero x r e = round_at t x n (0 + n) (omega arith) (subst (λ (q : Text). IsRound variant dating t n q) (sym e) r)
-  round_join t u n (suc k) x r (before, s, h) = round_at t x (suc (k + n)) (suc k + n) (omega arith) (before, round_join t u n k before r s, h)
+  round_join : (t u : Text) (n k : ℕ) (x : Text) → IsRound variant dating t n u → IsRound variant dating u k x
+      → IsRound variant dating t (k + n) x
+  round_join t u n zero x r e =
+      round_at t x n (0 + n) (omega arith) (subst (λ (q : Text). IsRound variant dating t n q) (sym e) r)
+  round_join t u n (suc k) x r (before, s, h) =
+      round_at t x (suc (k + n)) (suc k + n) (omega arith) (before, round_join t u n k before r s, h)
 
-  round_split : (t u : Text) (n k : ℕ) (x : Text) → IsRound variant dating t n u → IsRound variant dating t (k + n) x → IsRound variant dating u k x
+  round_split : (t u : Text) (n k : ℕ) (x : Text) → IsRound variant dating t n u → IsRound variant dating t (k + n) x
+      → IsRound variant dating u k x
   round_split t u n zero x r s = one_round t n x u (round_at t x (0 + n) n (omega arith) s) r
   round_split t u n (suc k) x r s =
-      let (before, q, h) = round_at t x (suc k + n) (suc (k + n)) (omega arith) s in (before, round_split t u n k before r q, h)
+      let (before, q, h) = round_at t x (suc k + n) (suc (k + n)) (omega arith) s in
+      (before, round_split t u n k before r q, h)
 
   -- what is reached from a round that is not settled
-  pub reached_further : (t : Text) (n : ℕ) (u : Text) (k : ℕ) (x : Text) → Reaches variant dating t n u → (IsSettled variant dating u → ⊥) → Reaches variant dating u k x
+  pub reached_further : (t : Text) (n : ℕ) (u : Text) (k : ℕ) (x : Text) → Reaches variant dating t n u
+      → (IsSettled variant dating u → ⊥) → Reaches variant dating u k x
       → Reaches variant dating t (k + suc n) x
   reached_further t n u k x r never s = record {
-    round = round_at t x (suc k + suc n) (suc (k + suc n)) (omega arith) (round_join t u (suc n) (suc k) x r.round s.round);
+    round =
+        round_at t x (suc k + suc n) (suc (k + suc n)) (omega arith) (round_join t u (suc n) (suc k) x r.round s.round);
     none = λ j y l round settled. elim (leb_tells n j) [
       | inl a ↦ elim (leb_tells j n) [
         | inl b ↦ (
             let e : j ≡ n = (let c = a.1 in let d = b.1 in omega arith) in
-            never (subst (λ (q : Text). IsSettled variant dating q) (one_round t (suc n) y u (round_at t y (suc j) (suc n) (ap suc e) round) r.round) settled))
+            never (subst (λ (q : Text). IsSettled variant dating q)
+            (one_round t (suc n) y u (round_at t y (suc j) (suc n) (ap suc e) round) r.round) settled))
         | inr b ↦ (
             let (i, e) = difference n j b.1 in
-            s.none i y (let c = e in omega arith) (round_split t u (suc n) (suc i) y r.round (round_at t y (suc j) (suc i + suc n) (let c = e in omega arith) round)) settled)
+            s.none i y (let c = e in omega arith)
+            (round_split t u (suc n) (suc i) y r.round
+            (round_at t y (suc j) (suc i + suc n) (let c = e in omega arith) round)) settled)
       ]
       | inr a ↦ r.none j y a.1 round settled
     ];

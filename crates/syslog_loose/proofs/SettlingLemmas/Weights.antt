@@ -1,5 +1,6 @@
 -- A message has one weight.
-use Rattle.std.proofs.Common.{◌≡◌, ◌≢◌, ℕ, ◌+◌, ◌%◌, inl, inr, Bool, true, false, List, [], ◌∷◌, length, Option, Some, None, IfSome, refl, sym, ap, ◌∙◌, arith}
+use Rattle.std.proofs.Common.{◌≡◌, ◌≢◌, ℕ, ◌+◌, ◌%◌, inl, inr, Bool, true, false, List, [], ◌∷◌}
+use Rattle.std.proofs.Common.{length, Option, Some, None, IfSome, refl, sym, ap, ◌∙◌, arith}
 use Rattle.std.proofs.lemmas.Bool.Decides.{leb_tells, eqb_tells}
 use Rattle.std.proofs.lemmas.Int.{ints, by_lt_z}
 use Rattle.std.specs.Prelude.{pos, unsigned_abs}
@@ -34,9 +35,12 @@ pub one_weight : (rule : DashRule) (m : MessageValue) (w v : ℕ) → Weighs rul
 one_weight rule m w v a b =
     let x = cost_once (IfSome m.timestamp IsCanonicalStamp) 1 a.stamp b.stamp a.stamp_is b.stamp_is in
     let y = colons_once m.hostname a.names_is.colons b.names_is.colons a.names_is.colons_is b.names_is.colons_is in
-    let z = cost_once (IfSome m.hostname (λ h. h ≢ dash)) 1 a.names_is.dashed b.names_is.dashed a.names_is.dashed_is b.names_is.dashed_is in
-    let u = cost_once (IfSome m.procid HasNoColon) 1 a.names_is.cut b.names_is.cut a.names_is.cut_is b.names_is.cut_is in
-    let t = cost_once (m.structured_data ≡ [] → BeginsNoList rule m.msg) (length m.msg) a.taken b.taken a.taken_is b.taken_is in
+    let z = cost_once (IfSome m.hostname (λ h. h ≢ dash)) 1 a.names_is.dashed b.names_is.dashed a.names_is.dashed_is
+    b.names_is.dashed_is in
+    let u =
+    cost_once (IfSome m.procid HasNoColon) 1 a.names_is.cut b.names_is.cut a.names_is.cut_is b.names_is.cut_is in
+    let t =
+    cost_once (m.structured_data ≡ [] → BeginsNoList rule m.msg) (length m.msg) a.taken b.taken a.taken_is b.taken_is in
     omega (arith, a.total, b.total, a.names_is.total, b.names_is.total)
 
 -- ---- some weight
@@ -47,8 +51,10 @@ cost A n (inr k) = (n, inr (k, refl))
 -- whether the timestamp is canonical can be decided
 canonical_decided : (s : OffsetTimestamp) → Decided (IsCanonicalStamp s)
 canonical_decided s =
-    by_lt_z {P = Decided (IsCanonicalStamp s)} (own_year s) (pos 0) (λ l. inr (λ k. let e = k.year_from in omega (arith, ints, e, l))) (λ from.
-    by_lt_z {P = Decided (IsCanonicalStamp s)} (pos 9999) (own_year s) (λ l. inr (λ k. let e = k.year_to in omega (arith, ints, e, l))) (λ to.
+    by_lt_z {P = Decided (IsCanonicalStamp s)} (own_year s) (pos 0)
+    (λ l. inr (λ k. let e = k.year_from in omega (arith, ints, e, l))) (λ from.
+    by_lt_z {P = Decided (IsCanonicalStamp s)} (pos 9999) (own_year s)
+    (λ l. inr (λ k. let e = k.year_to in omega (arith, ints, e, l))) (λ to.
     elim (eqb_tells (unsigned_abs s.offset.seconds % 60) 0) [
       | inl m ↦ elim (leb_tells 86_400 (unsigned_abs s.offset.seconds)) [
         | inl d ↦ inr (λ k. let e = k.day in let f = d.1 in omega (arith, e, f))
@@ -93,7 +99,8 @@ weight rule m =
     let (a, x) = cost (IfSome m.timestamp IsCanonicalStamp) 1 (stamp_decided m.timestamp) in
     let (b, y) = cost (IfSome m.hostname (λ h. h ≢ dash)) 1 (host_decided m.hostname) in
     let (c, z) = cost (IfSome m.procid HasNoColon) 1 (process_decided m.procid) in
-    let (d, u) = cost (m.structured_data ≡ [] → BeginsNoList rule m.msg) (length m.msg) (taken_decided rule m.structured_data m.msg) in
+    let (d, u) = cost (m.structured_data ≡ [] → BeginsNoList rule m.msg) (length m.msg)
+    (taken_decided rule m.structured_data m.msg) in
     let (h, k) = some_colons m.hostname in (
       a + ((h + (b + c)) + d),
       record {

@@ -27,36 +27,54 @@ module _ (variant : Variant) (tz : Option (Bor TimeZone)) (local : Bor TimeZone)
   abbrev In : Option ℤ → Dating
   In year = dating_of year tz local
 
-  next_in : (year other : Option ℤ) (t u : Text) → Quiet t → IsNext variant (In year) t u → IsNext variant (In other) t u
-  next_in year other t u quiet h = record { message = h.message; read = any_year variant t tz local year other h.message quiet h.read; is_printed = h.is_printed }
+  next_in : (year other : Option ℤ) (t u : Text) → Quiet t → IsNext variant (In year) t u
+      → IsNext variant (In other) t u
+  next_in year other t u quiet h = record {
+    message = h.message;
+    read = any_year variant t tz local year other h.message quiet h.read;
+    is_printed = h.is_printed;
+  }
 
   round_quiet : (year : Option ℤ) (t : Text) (n : ℕ) (u : Text) → Quiet t → IsRound variant (In year) t n u → Quiet u
   round_quiet year t zero u quiet e = subst Quiet (sym e) quiet
-  round_quiet year t (suc n) u quiet (before, round, h) = subst Quiet (sym h.is_printed) (printed_quiet variant (In year) before h.message h.read)
+  round_quiet year t (suc n) u quiet (before, round, h) =
+      subst Quiet (sym h.is_printed) (printed_quiet variant (In year) before h.message h.read)
 
-  round_in : (year other : Option ℤ) (t : Text) (n : ℕ) (u : Text) → Quiet t → IsRound variant (In year) t n u → IsRound variant (In other) t n u
+  round_in : (year other : Option ℤ) (t : Text) (n : ℕ) (u : Text) → Quiet t → IsRound variant (In year) t n u
+      → IsRound variant (In other) t n u
   round_in year other t zero u quiet e = e
-  round_in year other t (suc n) u quiet (before, round, h) =
-      (before, round_in year other t n before quiet round, next_in year other before u (round_quiet year t n before quiet round) h)
+  round_in year other t (suc n) u quiet (before, round, h) = (
+    before,
+    round_in year other t n before quiet round,
+    next_in year other before u (round_quiet year t n before quiet round) h,
+  )
 
-  first_in : (year other : Option ℤ) (t u : Text) → Quiet t → IsFirstSettled variant (In year) t u → IsFirstSettled variant (In other) t u
+  first_in : (year other : Option ℤ) (t u : Text) → Quiet t → IsFirstSettled variant (In year) t u
+      → IsFirstSettled variant (In other) t u
   first_in year other t u quiet s = record {
     before = s.before;
     round = round_in year other t (suc s.before) u quiet s.round;
     settled = next_in year other u u (round_quiet year t (suc s.before) u quiet s.round) s.settled;
     none_before = λ k x l round settled.
-        s.none_before k x l (round_in other year t (suc k) x quiet round) (next_in other year x x (round_quiet other t (suc k) x quiet round) settled);
+        s.none_before k x l (round_in other year t (suc k) x quiet round)
+        (next_in other year x x (round_quiet other t (suc k) x quiet round) settled);
   }
 
-  settles_in : (year other : Option ℤ) (t : Text) (result : Result (String Global) ParseFault) → Quiet t → Settles variant (In year) t result → Settles variant (In other) t result
-  settles_in year other t (Ok u) quiet s = settles_as variant (In other) t (chars (string_bytes u)) (first_in year other t (chars (string_bytes u)) quiet s.first)
-  settles_in year other t (Err Invalid) quiet (missing, none) = settles_not variant (In other) t (λ u s. none u (first_in other year t u quiet s))
-  settles_in year other t (Err Memory) quiet h = λ unreadable. h (λ m r. unreadable m (any_year variant t tz local year other m quiet r))
+  settles_in : (year other : Option ℤ) (t : Text) (result : Result (String Global) ParseFault) → Quiet t
+      → Settles variant (In year) t result → Settles variant (In other) t result
+  settles_in year other t (Ok u) quiet s = settles_as variant (In other) t (chars (string_bytes u))
+      (first_in year other t (chars (string_bytes u)) quiet s.first)
+  settles_in year other t (Err Invalid) quiet (missing, none) =
+      settles_not variant (In other) t (λ u s. none u (first_in other year t u quiet s))
+  settles_in year other t (Err Memory) quiet h =
+      λ unreadable. h (λ m r. unreadable m (any_year variant t tz local year other m quiet r))
 
   -- what is answered in the year that the closure answered
-  pub settles_answered : (post : IncompleteDate → ℤ → Type 0) (t : Text) (result : Result (String Global) ParseFault) (year : Option ℤ) → IsYearAnswered post variant t year → Settles variant (In year) t result
+  pub settles_answered : (post : IncompleteDate → ℤ → Type 0) (t : Text) (result : Result (String Global) ParseFault)
+      (year : Option ℤ) → IsYearAnswered post variant t year → Settles variant (In year) t result
       → InYear post variant t (λ y. Settles variant (In y) t result)
-  settles_answered post t result None quiet h = record { answered = None; is_answered = quiet; holds = λ other agrees. settles_in None other t result quiet h }
+  settles_answered post t result None quiet h =
+      record { answered = None; is_answered = quiet; holds = λ other agrees. settles_in None other t result quiet h }
   settles_answered post t result (Some year) is h = record {
     answered = Some year;
     is_answered = is;
@@ -64,7 +82,9 @@ module _ (variant : Variant) (tz : Option (Bor TimeZone)) (local : Bor TimeZone)
   }
 
 -- the message of the answer is canonical
-pub answer_canonical : (variant : Variant) (dating : Dating) (text : Text) (result : Result (String Global) ParseFault) → Settles variant dating text result
+pub answer_canonical : (variant : Variant) (dating : Dating) (text : Text) (result : Result (String Global) ParseFault)
+    → Settles variant dating text result
     → IfOk result (λ u. (m : MessageValue) → IsRead variant dating (chars (string_bytes u)) m → IsCanonical dash_rule m)
-answer_canonical variant dating text (Ok u) s = λ m r. settled_canonical variant dating (chars (string_bytes u)) m s.first.settled r
+answer_canonical variant dating text (Ok u) s =
+    λ m r. settled_canonical variant dating (chars (string_bytes u)) m s.first.settled r
 answer_canonical variant dating text (Err fault) s = tt

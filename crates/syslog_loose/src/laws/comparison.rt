@@ -13,11 +13,14 @@ use syslog_pieces::as_str::AsStr;
 /// The protocol has no part in it.
 pub fn messages_are_equal_but_for_the_protocol<S: AsStr>()
     ensures reflexive { (a : Message S) → IsTrue (⟦<Message<S> as PartialEq>⟧.eq a a) }
-    ensures symmetric { (a b : Message S) → IsTrue (⟦<Message<S> as PartialEq>⟧.eq a b) → IsTrue (⟦<Message<S> as PartialEq>⟧.eq b a) }
+    ensures symmetric { (a b : Message S) → IsTrue (⟦<Message<S> as PartialEq>⟧.eq a b)
+        → IsTrue (⟦<Message<S> as PartialEq>⟧.eq b a) }
     ensures transitive { (a b c : Message S) → IsTrue (⟦<Message<S> as PartialEq>⟧.eq a b)
         → IsTrue (⟦<Message<S> as PartialEq>⟧.eq b c) → IsTrue (⟦<Message<S> as PartialEq>⟧.eq a c) }
-    ensures same { (a b : Message S) → message_value (text_of S.text) a ≡ message_value (text_of S.text) b → IsTrue (⟦<Message<S> as PartialEq>⟧.eq a b) }
-    ensures protocol { (m n : MessageValue) (p q : Protocol) → message_eq (record m { protocol = p }) (record n { protocol = q }) ≡ message_eq m n }
+    ensures same { (a b : Message S) → message_value (text_of S.text) a ≡ message_value (text_of S.text) b
+        → IsTrue (⟦<Message<S> as PartialEq>⟧.eq a b) }
+    ensures protocol { (m n : MessageValue) (p q : Protocol)
+        → message_eq (record m { protocol = p }) (record n { protocol = q }) ≡ message_eq m n }
 {}
 
 /// Two protocols are equal exactly when they are one: both RFC 3164, or both RFC 5424 with one version.

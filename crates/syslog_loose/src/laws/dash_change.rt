@@ -1,5 +1,5 @@
-//! What the rule of the dash changed: a dash was a list of RFC 3164 before anything, and is one only at the end and before
-//! a blank.
+//! What the rule of the dash changed: a dash was a list of RFC 3164 before anything, and is one only at the end and
+//! before a blank.
 ghost use Rattle.std.specs.Prelude.{◌↔◌};
 ghost use Rattle.syslog_pieces.specs.Pieces.Class.{Text};
 ghost use Rattle.syslog_pieces.specs.Timestamp.Zone.{Dating};
@@ -17,10 +17,12 @@ pub fn what_was_canonical_is_so()
 /// A text is read differently exactly where it was read as RFC 3164 and, of that reading, the list's piece was `-` and
 /// what follows it begins with a character that is no blank.
 pub fn readings_differ_where_a_dash_is_dropped()
-    ensures { (variant : Variant) (dating : Dating) (text : Text) → ReadsDifferently variant dating text ↔ HasDashChange variant dating text }
+    ensures { (variant : Variant) (dating : Dating) (text : Text) → ReadsDifferently variant dating text
+        ↔ HasDashChange variant dating text }
 {}
 
 /// A text that was read is read, and one that was not is not.
 pub fn what_was_read_is_read()
-    ensures { (variant : Variant) (dating : Dating) (text : Text) → WasUnreadable variant dating text ↔ IsUnreadable variant dating text }
+    ensures { (variant : Variant) (dating : Dating) (text : Text) → WasUnreadable variant dating text
+        ↔ IsUnreadable variant dating text }
 {}

@@ -25,11 +25,12 @@ pub fn rfc5424_is_read_back_exactly()
 
 /// A text that is read as RFC 5424 with a facility gives a canonical message.
 pub fn read_rfc5424_is_canonical()
-    ensures { (rule : DashRule) (text : Text) (m : MessageValue) → IsRead5424 text m → IsSome m.facility → IsCanonical rule m }
+    ensures { (rule : DashRule) (text : Text) (m : MessageValue) → IsRead5424 text m → IsSome m.facility
+        → IsCanonical rule m }
 {}
 
-/// Whatever was read as RFC 5424, with a facility or without, prints as a text that is read as a message that prints the
-/// same.
+/// Whatever was read as RFC 5424, with a facility or without, prints as a text that is read as a message that prints
+/// the same.
 pub fn printed_rfc5424_prints_again()
     ensures { (text : Text) (m : MessageValue) → IsRead5424 text m
         → (n : MessageValue) × IsRead5424 (printed m) n × (printed n ≡ printed m) }
@@ -45,7 +46,8 @@ pub fn rfc3164_is_read_back_exactly()
 /// What is read as RFC 3164 meets the written condition but for its exceptions, where it has a facility; its facility
 /// and severity aside, always. A timestamp that isn't canonical is that of a month date that the text shows.
 pub fn read_rfc3164_has_exceptions_alone()
-    ensures near { (rule : DashRule) (dating : Dating) (text : Text) (m : MessageValue) → IsRead3164 rule dating text m → HasExceptionsAlone m }
+    ensures near { (rule : DashRule) (dating : Dating) (text : Text) (m : MessageValue) → IsRead3164 rule dating text m
+        → HasExceptionsAlone m }
     ensures nearly { (rule : DashRule) (dating : Dating) (text : Text) (m : MessageValue)
         → IsRead3164 rule dating text m → IsSome m.facility → IsNearlyCanonical m }
     ensures timestamp { (rule : DashRule) (dating : Dating) (text : Text) (m : MessageValue)
@@ -61,15 +63,18 @@ pub fn canonical_rfc3164_has_no_exception()
 /// The printed text of a message, read under `Either` or the message's own variant, is read as the message itself
 /// exactly where it meets the written condition, for every year and zone. So is the one message as which it is read.
 pub fn printed_is_read_back_exactly()
-    ensures read { (variant : Variant) (dating : Dating) (m : MessageValue) → ReadsProtocol variant m.protocol → IsBounded m
+    ensures read { (variant : Variant) (dating : Dating) (m : MessageValue) → ReadsProtocol variant m.protocol
+        → IsBounded m
         → IsRead variant dating (printed m) m ↔ IsCanonical dash_rule m }
-    ensures same { (variant : Variant) (dating : Dating) (m n : MessageValue) → ReadsProtocol variant m.protocol → IsBounded m
+    ensures same { (variant : Variant) (dating : Dating) (m n : MessageValue) → ReadsProtocol variant m.protocol
+        → IsBounded m
         → IsOnlyRead variant dating (printed m) n → (n ≡ m) ↔ IsCanonical dash_rule m }
 {}
 
-/// What is read of one line is printed as one line: where the text has no line feed, the printed text of its message has
-/// none.
+/// What is read of one line is printed as one line: where the text has no line feed, the printed text of its message
+/// has none.
 pub fn message_of_one_line_prints_as_one()
-    ensures { (variant : Variant) (dating : Dating) (text : Text) (m : MessageValue) → IsRead variant dating text m → IsOneLine text
+    ensures { (variant : Variant) (dating : Dating) (text : Text) (m : MessageValue) → IsRead variant dating text m
+        → IsOneLine text
         → IsOneLine (printed m) }
 {}

@@ -12,7 +12,8 @@ ghost use Rattle.syslog_loose.specs.declared.variant.Variant.{Variant};
 
 /// A text has at most one first settled round.
 pub fn one_first_settled_round()
-    ensures { (variant : Variant) (dating : Dating) (text u x : Text) → IsFirstSettled variant dating text u → IsFirstSettled variant dating text x → u ≡ x }
+    ensures { (variant : Variant) (dating : Dating) (text u x : Text) → IsFirstSettled variant dating text u
+        → IsFirstSettled variant dating text x → u ≡ x }
 {}
 
 /// The printed text of a message that was read asks for no year. So the year counts in round 1 alone.

@@ -3,7 +3,8 @@
 //! A month date never prints as it is written; a timestamp of RFC 3339, which some programs write in its place, mostly
 //! does. So does what programs write behind either, as ` host app[5]: message`, and the priority before it. So it is
 //! copied, without the fields in between.
-ghost use Rattle.std.specs.Prelude.{◌≡◌, ◌≢◌, ◌++◌, ◌∷◌, ◌<◌, IfOk, IfSome, IsOk, IsTrue, OnOk, Some, length, string_bytes};
+ghost use Rattle.std.specs.Prelude.{◌≡◌, ◌≢◌, ◌++◌, ◌∷◌, ◌<◌, IfOk, IfSome, IsOk};
+ghost use Rattle.std.specs.Prelude.{IsTrue, OnOk, Some, length, string_bytes};
 ghost use Rattle.std.specs.List.{AllByRecursion};
 ghost use Rattle.std.specs.Str.{chars, encode_utf8_all, IsUtf8};
 ghost use Rattle.syslog_pieces.specs.Bodies.VerbatimStamp.{zone_text};
@@ -31,15 +32,15 @@ use std::fmt::Write;
 use syslog_pieces::pri::verbatim_priority;
 use syslog_pieces::procid::verbatim_digits;
 use syslog_pieces::structured_data::rfc3164_list::{DASH_RULE, begins_list};
-use syslog_pieces::text::verbatim::{before, verbatim_host, one_space};
+use syslog_pieces::text::verbatim::{before, one_space, verbatim_host};
 use syslog_pieces::text::write_ascii::push_bytes;
 use syslog_pieces::text::{CharClass, blanks, literal, split_run};
 use syslog_pieces::timestamp::OffsetTimestamp;
 use syslog_pieces::timestamp::civil::month_text;
-use syslog_pieces::timestamp::verbatim::verbatim_stamp;
-use syslog_pieces::timestamp::rfc3164::rfc3164_stamp;
 use syslog_pieces::timestamp::month_date::MonthDate;
 use syslog_pieces::timestamp::month_date::standard::standard_date;
+use syslog_pieces::timestamp::rfc3164::rfc3164_stamp;
+use syslog_pieces::timestamp::verbatim::verbatim_stamp;
 use syslog_pieces::timestamp::zone::Dating;
 
 // A line, cut round its timestamp: the priority, and all from behind the timestamp on.
@@ -111,7 +112,8 @@ fn is_verbatim_behind(tail: &str) -> bool
 // The line, where all but its timestamp prints as it is written.
 #[inline(always)]
 fn rfc3164_line<'a>(text: &'a str, dating: &Dating<'_, '_>) -> Option<Rfc3164Line<'a>>
-    ensures verbatim { IfSome result (λ line. PrintsVerbatim3164 (dating_value dating.entry.now) (chars text.entry.now) (shown line.front) line.timestamp (shown line.tail)) }
+    ensures verbatim { IfSome result (λ line. PrintsVerbatim3164 (dating_value dating.entry.now) (chars text.entry.now)
+        (shown line.front) line.timestamp (shown line.tail)) }
     ensures utf8 { IfSome result (λ line. IsUtf8 line.front.now × IsUtf8 line.tail.now) }
 {
     let behind = verbatim_priority(text)?;
@@ -132,7 +134,8 @@ fn rfc3164_line<'a>(text: &'a str, dating: &Dating<'_, '_>) -> Option<Rfc3164Lin
 }
 
 impl fmt::Display for Rfc3164Line<'_> {
-    ghost output = { λ line. Some (line.front.now ++ ((32 ∷ encode_utf8_all (timestamp_text line.timestamp)) ++ line.tail.now)) };
+    ghost output = { λ line. Some
+        (line.front.now ++ ((32 ∷ encode_utf8_all (timestamp_text line.timestamp)) ++ line.tail.now)) };
 
     fn fmt<W: fmt::Write>(&self, f: &mut fmt::Formatter<W>) -> fmt::Result {
         f.write_str(self.front)?;
@@ -243,9 +246,12 @@ pub(crate) fn dated_text(
     dating: &Dating<'_, '_>,
 ) -> Result<bool, AllocError>
     requires { IsUtf8 line.front.now × IsUtf8 line.tail.now }
-    ensures text { (variant : Variant) (input : Text) → ShowsDated variant input (shown line.entry.front) line.entry.date (shown line.entry.tail)
-        → IfOk result (λ found. IsTrue found → PrintsAs3164 variant (dating_value dating.entry.now) input (string_bytes text.new)) }
-    ensures memory { (variant : Variant) (input : Text) → ShowsDated variant input (shown line.entry.front) line.entry.date (shown line.entry.tail)
+    ensures text { (variant : Variant) (input : Text)
+        → ShowsDated variant input (shown line.entry.front) line.entry.date (shown line.entry.tail)
+        → IfOk result (λ found. IsTrue found
+        → PrintsAs3164 variant (dating_value dating.entry.now) input (string_bytes text.new)) }
+    ensures memory { (variant : Variant) (input : Text)
+        → ShowsDated variant input (shown line.entry.front) line.entry.date (shown line.entry.tail)
         → IsUnreadable variant (dating_value dating.entry.now) input → IsOk result }
 {
     let Some(stamp) = month_text(line.date, dating) else {

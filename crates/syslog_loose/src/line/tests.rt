@@ -8,8 +8,10 @@ const COPIED: [(&str, &str); 17] = [
         "<34>1 2003-10-11T22:14:15.003+00:00 mymachine.example.com su - ID47 - message",
     ),
     (
-        "<13>1 2019-02-13T19:48:34+00:00 74794bfb6795 root 8449 - [meta sequenceId=\"1\" sysUpTime=\"37\" language=\"EN\"][origin ip=\"192.168.0.1\" software=\"test\"] i am foobar",
-        "<13>1 2019-02-13T19:48:34+00:00 74794bfb6795 root 8449 - [meta sequenceId=\"1\" sysUpTime=\"37\" language=\"EN\"][origin ip=\"192.168.0.1\" software=\"test\"] i am foobar",
+        "<13>1 2019-02-13T19:48:34+00:00 74794bfb6795 root 8449 - [meta sequenceId=\"1\" sysUpTime=\"37\" \
+         language=\"EN\"][origin ip=\"192.168.0.1\" software=\"test\"] i am foobar",
+        "<13>1 2019-02-13T19:48:34+00:00 74794bfb6795 root 8449 - [meta sequenceId=\"1\" sysUpTime=\"37\" \
+         language=\"EN\"][origin ip=\"192.168.0.1\" software=\"test\"] i am foobar",
     ),
     (
         "<75>1 1969-12-03T23:58:58+00:00 - - - - -",
@@ -67,8 +69,8 @@ fn copies_lines_that_print_as_written(rt: HostRuntime) -> Result<(), Fail> {
     Ok(())
 }
 
-// No priority, one past 191, leading zeros, a wide gap before the timestamp, a tab first, two wide gaps, signs, blanks in
-// elements, a broken element behind a wide gap, before a strict one or behind a broken one, and no message.
+// No priority, one past 191, leading zeros, a wide gap before the timestamp, a tab first, two wide gaps, signs, blanks
+// in elements, a broken element behind a wide gap, before a strict one or behind a broken one, and no message.
 const OTHERS: [&str; 22] = [
     "1 - - - - - -",
     "<200>1 - - - - - -",
@@ -94,8 +96,8 @@ const OTHERS: [&str; 22] = [
     "gobbledegook",
 ];
 
-// Timestamps that are left to be read: the last year, second 60, small letters, fractions that print otherwise, an offset
-// that does, and texts that aren't timestamps.
+// Timestamps that are left to be read: the last year, second 60, small letters, fractions that print otherwise, an
+// offset that does, and texts that aren't timestamps.
 const STAMPS: [&str; 14] = [
     "9999-01-01T00:00:00Z",
     "2020-12-31T23:59:60Z",

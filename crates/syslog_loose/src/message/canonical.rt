@@ -19,18 +19,18 @@ use crate::tag_form::tag_form;
 use syslog_pieces::as_str::AsStr;
 use syslog_pieces::procid::{ProcId, is_canonical_process, names_number};
 use syslog_pieces::structured_data::StructuredElement;
-use syslog_pieces::structured_data::rfc3164_list::{DASH_RULE, DashRule, begins_list};
 use syslog_pieces::structured_data::canonical::are_canonical_elements;
+use syslog_pieces::structured_data::rfc3164_list::{DASH_RULE, DashRule, begins_list};
 use syslog_pieces::text::CharClass;
 use syslog_pieces::text::canonical::{
-    begins_unblank, is_only, is_canonical_host, is_canonical_tag, is_canonical_word, is_some_of,
+    begins_unblank, is_canonical_host, is_canonical_tag, is_canonical_word, is_only, is_some_of,
 };
 use syslog_pieces::timestamp::OffsetTimestamp;
 use syslog_pieces::timestamp::canonical::is_canonical_stamp;
 
 impl<S: AsStr> Message<S> {
-    /// Whether the message is read back unchanged from its printed text, by its own protocol. It looks at the fields alone:
-    /// it prints nothing and takes no memory, and its time is linear in the message.
+    /// Whether the message is read back unchanged from its printed text, by its own protocol. It looks at the fields
+    /// alone: it prints nothing and takes no memory, and its time is linear in the message.
     pub fn is_canonical(&self) -> bool
         ensures { IsTrue result ↔ spec.IsCanonical dash_rule (message_value (text_of S.text) self.now) }
     {
@@ -163,8 +163,13 @@ fn is_absent<S: AsStr>(name: &Option<S>) -> bool
 }
 
 // Whether host, app name and process id are found again.
-fn are_canonical_names<S: AsStr>(host: &Option<S>, app: &Option<S>, process: &Option<ProcId<S>>) -> bool
-    ensures { IsTrue result ↔ spec.AreCanonicalNames (option_map (text_of S.text) host.now) (option_map (text_of S.text) app.now)
+fn are_canonical_names<S: AsStr>(
+    host: &Option<S>,
+    app: &Option<S>,
+    process: &Option<ProcId<S>>,
+) -> bool
+    ensures { IsTrue result ↔ spec.AreCanonicalNames (option_map (text_of S.text) host.now)
+        (option_map (text_of S.text) app.now)
         (option_map (procid_value (text_of S.text)) process.now) }
 {
     match app {
@@ -181,7 +186,8 @@ fn are_canonical_names<S: AsStr>(host: &Option<S>, app: &Option<S>, process: &Op
 
 // An app name and a process id that are printed as `app[process]`.
 fn is_program<S: AsStr>(app: &S, process: &ProcId<S>) -> bool
-    ensures { IsTrue result ↔ spec.AreCanonicalNames None (Some (text_of S.text app.now)) (Some (procid_value (text_of S.text) process.now)) }
+    ensures { IsTrue result ↔ spec.AreCanonicalNames None (Some (text_of S.text app.now))
+        (Some (procid_value (text_of S.text) process.now)) }
 {
     if !is_only(app.as_str(), CharClass::Label) {
         return false;
@@ -241,7 +247,8 @@ fn is_lone_host<S: AsStr>(host: &Option<S>) -> bool
 
 // Whether each element has a parameter.
 fn have_params<S: AsStr>(elements: &[StructuredElement<S>]) -> bool
-    ensures { IsTrue result ↔ AllByRecursion (λ e. 0 < length e.params) (map (element_value (text_of S.text)) elements.now) }
+    ensures { IsTrue result ↔ AllByRecursion (λ e. 0 < length e.params)
+        (map (element_value (text_of S.text)) elements.now) }
 {
     for element in elements {
         if !has_any(&element.params) {
@@ -263,7 +270,8 @@ pub(super) fn begins_no_list<S: AsStr>(
     msg: &str,
     rule: DashRule,
 ) -> bool
-    ensures { IsTrue result ↔ (map (element_value (text_of S.text)) elements.now ≡ [] → BeginsNoList rule (chars msg.now)) }
+    ensures { IsTrue result ↔ (map (element_value (text_of S.text)) elements.now ≡ []
+        → BeginsNoList rule (chars msg.now)) }
 {
     if has_any(elements) {
         return true;

@@ -49,7 +49,8 @@ fn clone_process<S: AsStr + Clone>(
     procid: &Option<ProcId<S>>,
 ) -> Result<Option<ProcId<S>>, AllocError>
     requires { ClonesKeepText S.is_clone S.text }
-    ensures { IfOk result (λ copy. option_map (procid_value (text_of S.text)) copy ≡ option_map (procid_value (text_of S.text)) procid.now) }
+    ensures { IfOk result (λ copy. option_map (procid_value (text_of S.text)) copy
+        ≡ option_map (procid_value (text_of S.text)) procid.now) }
 {
     match procid {
         Some(procid) => Ok(Some(procid.try_clone(alloc)?)),
@@ -62,7 +63,8 @@ fn clone_elements<S: AsStr + Clone>(
     elements: &[StructuredElement<S>],
 ) -> Result<Vec<StructuredElement<S>>, AllocError>
     requires { ClonesKeepText S.is_clone S.text }
-    ensures { IfOk result (λ copies. map (element_value (text_of S.text)) copies.items ≡ map (element_value (text_of S.text)) elements.now) }
+    ensures { IfOk result (λ copies. map (element_value (text_of S.text)) copies.items
+        ≡ map (element_value (text_of S.text)) elements.now) }
 {
     let mut copies = Vec::with_capacity(alloc, elements.len())?;
     for element in elements {
@@ -75,7 +77,8 @@ impl Message<&str> {
     /// The same message, with texts of its own, so that it can outlive the input: the same in each field, with elements
     /// and parameters in the same order. An `Err` is only for memory, and nothing has changed then.
     pub fn to_owned_text(&self, alloc: Global) -> Result<Message<String>, AllocError>
-        ensures { IfOk result (λ copy. message_value (text_of string_bytes) copy ≡ message_value (λ s. shown s) self.now) }
+        ensures { IfOk result (λ copy. message_value (text_of string_bytes) copy
+            ≡ message_value (λ s. shown s) self.now) }
     {
         Ok(Message {
             protocol: self.protocol,
@@ -105,7 +108,8 @@ fn own_process(
     alloc: Global,
     procid: &Option<ProcId<&str>>,
 ) -> Result<Option<ProcId<String>>, AllocError>
-    ensures { IfOk result (λ copy. option_map (procid_value (text_of string_bytes)) copy ≡ option_map (procid_value (λ s. shown s)) procid.now) }
+    ensures { IfOk result (λ copy. option_map (procid_value (text_of string_bytes)) copy
+        ≡ option_map (procid_value (λ s. shown s)) procid.now) }
 {
     match procid {
         Some(procid) => Ok(Some(procid.to_owned_text(alloc)?)),
@@ -117,7 +121,8 @@ fn own_elements(
     alloc: Global,
     elements: &[StructuredElement<&str>],
 ) -> Result<Vec<StructuredElement<String>>, AllocError>
-    ensures { IfOk result (λ copies. map (element_value (text_of string_bytes)) copies.items ≡ map (element_value (λ s. shown s)) elements.now) }
+    ensures { IfOk result (λ copies. map (element_value (text_of string_bytes)) copies.items
+        ≡ map (element_value (λ s. shown s)) elements.now) }
 {
     let mut copies = Vec::with_capacity(alloc, elements.len())?;
     for element in elements {

@@ -69,13 +69,15 @@ fn is_same_name<S: AsStr>(a: &Option<S>, b: &Option<S>) -> bool
 }
 
 fn is_same_process<S: AsStr>(a: &Option<ProcId<S>>, b: &Option<ProcId<S>>) -> bool
-    ensures { result ≡ option_eq procid_eq (option_map (procid_value (text_of S.text)) a.now) (option_map (procid_value (text_of S.text)) b.now) }
+    ensures { result ≡ option_eq procid_eq (option_map (procid_value (text_of S.text)) a.now)
+        (option_map (procid_value (text_of S.text)) b.now) }
 {
     *a == *b
 }
 
 fn are_same_elements<S: AsStr>(a: &[StructuredElement<S>], b: &[StructuredElement<S>]) -> bool
-    ensures { result ≡ pointwise element_eq (map (element_value (text_of S.text)) a.now) (map (element_value (text_of S.text)) b.now) }
+    ensures { result ≡ pointwise element_eq (map (element_value (text_of S.text)) a.now)
+        (map (element_value (text_of S.text)) b.now) }
 {
     a == b
 }

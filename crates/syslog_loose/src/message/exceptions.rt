@@ -42,7 +42,8 @@ pub(crate) fn has_no_name_exception(message: &Message<&str>) -> bool
 
 // Whether the host is neither the text of an absent one nor taken for the one behind the names.
 fn has_no_odd_host(host: Option<&str>) -> bool
-    ensures { IsTrue result ↔ (IfSome (seen host.entry) (λ h. h ≢ dash) × IfSome (seen host.entry) (λ h. EndsInColon h → ⊥)) }
+    ensures { IsTrue result ↔ (IfSome (seen host.entry) (λ h. h ≢ dash)
+        × IfSome (seen host.entry) (λ h. EndsInColon h → ⊥)) }
 {
     match host {
         Some(name) => is_no_odd_host(name),

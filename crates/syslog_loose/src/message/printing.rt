@@ -122,7 +122,8 @@ pub(crate) fn write_tag<S: AsStr, W: fmt::Write>(
     process: &Option<ProcId<S>>,
 ) -> fmt::Result
     ensures { WritesOnOk W.write_str_gives f.old result
-        (32 ∷ encode_utf8_all (spec.tag_text (option_map (text_of S.text) app.now) (option_map (procid_value (text_of S.text)) process.now))) f.new }
+        (32 ∷ encode_utf8_all (spec.tag_text (option_map (text_of S.text) app.now)
+        (option_map (procid_value (text_of S.text)) process.now))) f.new }
 {
     let Some(app) = app else {
         return f.write_str(" : ");

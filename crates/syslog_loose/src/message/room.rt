@@ -28,7 +28,8 @@ pub(crate) fn print(
     message: &Message<&str>,
     length: usize,
 ) -> Result<(), AllocError>
-    ensures { OnOk result (string_bytes text.new ≡ encode_utf8_all (printed (message_value (λ s. shown s) message.now))) }
+    ensures { OnOk result (string_bytes text.new
+        ≡ encode_utf8_all (printed (message_value (λ s. shown s) message.now))) }
 {
     make_room(text, length)?;
     write!(text, "{message}")?;

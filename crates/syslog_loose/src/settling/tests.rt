@@ -7,8 +7,8 @@ use std::test::Fail;
 use syslog_pieces::text::trimmed;
 use syslog_pieces::timestamp::zone::Dating;
 
-/// What a line begins with, what it repeats, and what stands behind that: host colons, and dashes, behind pieces that change
-/// first and before those that change then.
+/// What a line begins with, what it repeats, and what stands behind that: host colons, and dashes, behind pieces that
+/// change first and before those that change then.
 const REPEATS: [(&str, &str, &str); 16] = [
     ("- a", ":", ""),
     ("- a", ":", " x"),

@@ -34,8 +34,8 @@ fn left_out_a_dash_before_anything(rt: HostRuntime) -> Result<(), Fail> {
     Ok(())
 }
 
-// While a dash was a list before anything, one began this message part, and the message was read back without the dash. So
-// it was not canonical, as it is now.
+// While a dash was a list before anything, one began this message part, and the message was read back without the dash.
+// So it was not canonical, as it is now.
 #[test]
 fn was_not_canonical_with_a_dash_before_anything(rt: HostRuntime) -> Result<(), Fail> {
     let alloc = rt.alloc();

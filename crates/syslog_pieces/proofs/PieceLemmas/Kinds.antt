@@ -28,7 +28,8 @@ each_begins test (c ∷ p) l e = e.0
 abbrev pub Apart : (B : Type 0) → (P Q : Text → Text → B → Type 0) → Type 0
 Apart B P Q = (p q p' q' : Text) (v v' : B) → p ++ q ≡ p' ++ q' → P p q v → Q p' q' v' → ⊥
 
-pub either_det : (B : Type 0) (P Q : Text → Text → B → Type 0) → IsDeterministic (record { Value = B; Is = P }) → IsDeterministic (record { Value = B; Is = Q }) → Apart B P Q → IsDeterministic (either B P Q)
+pub either_det : (B : Type 0) (P Q : Text → Text → B → Type 0) → IsDeterministic (record { Value = B; Is = P })
+    → IsDeterministic (record { Value = B; Is = Q }) → Apart B P Q → IsDeterministic (either B P Q)
 either_det B P Q d d' n p q p' q' v v' e (inl h) (inl h') = d p q p' q' v v' e h h'
 either_det B P Q d d' n p q p' q' v v' e (inl h) (inr h') = absurd (n p q p' q' v v' e h h')
 either_det B P Q d d' n p q p' q' v v' e (inr h) (inl h') = absurd (n p' q' p q v' v (sym e) h' h)
@@ -41,6 +42,7 @@ module _ (B : Type 0) (P Q : Text → Text → B → Type 0) {t : Text} where
   pub second_kind : {q : Text} {v : B} → Front (record { Value = B; Is = Q }) t q v → Front (either B P Q) t q v
   second_kind f = record { piece = f.piece; whole = f.whole; is = inr f.is }
 
-  pub no_either : NoFront (record { Value = B; Is = P }) t → NoFront (record { Value = B; Is = Q }) t → NoFront (either B P Q) t
+  pub no_either : NoFront (record { Value = B; Is = P }) t → NoFront (record { Value = B; Is = Q }) t
+      → NoFront (either B P Q) t
   no_either n m p q v e (inl h) = n p q v e h
   no_either n m p q v e (inr h) = m p q v e h

@@ -1,5 +1,6 @@
 -- Lists of pieces of one class.
-use Rattle.std.proofs.Common.{◌≡◌, ◌≢◌, ℕ, zero, suc, ◌<◌, ◌≤◌, List, [], ◌∷◌, ◌++◌, length, arith, refl, sym, ap, subst, ◌∙◌, append_assoc, append-nil}
+use Rattle.std.proofs.Common.{◌≡◌, ◌≢◌, ℕ, zero, suc, ◌<◌, ◌≤◌, List, [], ◌∷◌, ◌++◌, length}
+use Rattle.std.proofs.Common.{arith, refl, sym, ap, subst, ◌∙◌, append_assoc, append-nil}
 use Rattle.std.proofs.lemmas.List.{length-append}
 use Rattle.syslog_pieces.specs.Pieces.Class.{Text, Class, Front, NoFront, IsDeterministic, Row, exactly}
 use Rattle.syslog_pieces.specs.Pieces.Lists.{many, HasRead, IsList, IsMore, list_before, more_before}
@@ -16,8 +17,10 @@ begins c t q f = f.whole ∙ ap (λ (x : Text). x ++ q) f.is
 -- ---- as many pieces as there are
 pub many_det : (C : Class) → IsDeterministic C → IsDeterministic (many C)
 many_det C d p q p' q' [] [] e h h' = (h.0 ∙ sym h'.0, refl)
-many_det C d p q p' q' [] (w ∷ ws) e h (a, b, i, k, more) = absurd (h.1 a (b ++ q') w (after_nil p q (p' ++ q') h.0 e ∙ behind p' a b q' i) k)
-many_det C d p q p' q' (v ∷ vs) [] e (a, b, i, k, more) h' = absurd (h'.1 a (b ++ q) v (after_nil p' q' (p ++ q) h'.0 (sym e) ∙ behind p a b q i) k)
+many_det C d p q p' q' [] (w ∷ ws) e h (a, b, i, k, more) =
+    absurd (h.1 a (b ++ q') w (after_nil p q (p' ++ q') h.0 e ∙ behind p' a b q' i) k)
+many_det C d p q p' q' (v ∷ vs) [] e (a, b, i, k, more) h' =
+    absurd (h'.1 a (b ++ q) v (after_nil p' q' (p ++ q) h'.0 (sym e) ∙ behind p a b q i) k)
 many_det C d p q p' q' (v ∷ vs) (w ∷ ws) e (a, b, i, k, more) (a', b', i', k', more') =
     let e1 : a ++ (b ++ q) ≡ a' ++ (b' ++ q') = sym (behind p a b q i) ∙ e ∙ behind p' a' b' q' i' in
     let r = d a (b ++ q) a' (b' ++ q') v w e1 k k' in
@@ -27,7 +30,8 @@ many_det C d p q p' q' (v ∷ vs) (w ∷ ws) e (a, b, i, k, more) (a', b', i', k
 pub many_here : (C : Class) (t : Text) → NoFront C t → Front (many C) t t []
 many_here C t n = record { piece = []; whole = refl; is = (refl, n) }
 
-pub many_cons : (C : Class) (t t' q : Text) (v : C.Value) (vs : List C.Value) → Front C t t' v → Front (many C) t' q vs → Front (many C) t q (v ∷ vs)
+pub many_cons : (C : Class) (t t' q : Text) (v : C.Value) (vs : List C.Value) → Front C t t' v → Front (many C) t' q vs
+    → Front (many C) t q (v ∷ vs)
 many_cons C t t' q v vs f g = record {
   piece = f.piece ++ g.piece;
   whole = f.whole ∙ ap (λ (x : Text). f.piece ++ x) g.whole ∙ sym (append_assoc f.piece g.piece q);
@@ -37,15 +41,20 @@ many_cons C t t' q v vs f g = record {
 pub has_read_none : (C : Class) (t : Text) → HasRead C t [] t
 has_read_none C t q ws f = f
 
-pub has_read_more : (C : Class) (t s s' : Text) (vs : List C.Value) (v : C.Value) → HasRead C t vs s → Front C s s' v → HasRead C t (vs ++ (v ∷ [])) s'
-has_read_more C t s s' vs v r f q ws g = subst (λ (x : List C.Value). Front (many C) t q x) (sym (append_assoc vs (v ∷ []) ws)) (r q (v ∷ ws) (many_cons C s s' q v ws f g))
+pub has_read_more : (C : Class) (t s s' : Text) (vs : List C.Value) (v : C.Value) → HasRead C t vs s → Front C s s' v
+    → HasRead C t (vs ++ (v ∷ [])) s'
+has_read_more C t s s' vs v r f q ws g = subst (λ (x : List C.Value). Front (many C) t q x)
+    (sym (append_assoc vs (v ∷ []) ws)) (r q (v ∷ ws) (many_cons C s s' q v ws f g))
 
 pub has_read_all : (C : Class) (t s : Text) (vs : List C.Value) → HasRead C t vs s → NoFront C s → Front (many C) t s vs
-has_read_all C t s vs r n = subst (λ (x : List C.Value). Front (many C) t s x) (append-nil vs) (r s [] (many_here C s n))
+has_read_all C t s vs r n =
+    subst (λ (x : List C.Value). Front (many C) t s x) (append-nil vs) (r s [] (many_here C s n))
 
 -- it can't be that no row of as many pieces as there are begins a text, where each piece has a character
-pub no_many_no : (C : Class) → ((t u : Text) (v : C.Value) → Front C t u v → length u < length t) → (n : ℕ) (t : Text) → length t ≤ n → ((q : Text) (vs : List C.Value) → Front (many C) t q vs → ⊥) → ⊥
-no_many_no C s zero t l k = k t [] (many_here C t (λ p q v e h. let a = s t q v (record { piece = p; whole = e; is = h }) in omega arith))
+pub no_many_no : (C : Class) → ((t u : Text) (v : C.Value) → Front C t u v → length u < length t) → (n : ℕ) (t : Text)
+    → length t ≤ n → ((q : Text) (vs : List C.Value) → Front (many C) t q vs → ⊥) → ⊥
+no_many_no C s zero t l k =
+    k t [] (many_here C t (λ p q v e h. let a = s t q v (record { piece = p; whole = e; is = h }) in omega arith))
 no_many_no C s (suc n) t l k = k t [] (many_here C t (λ p q v e h.
     let f : Front C t q v = record { piece = p; whole = e; is = h } in
     no_many_no C s n q (omega (arith, s t q v f)) (λ r vs g. k r (v ∷ vs) (many_cons C t q r v vs f g))))
@@ -53,13 +62,15 @@ no_many_no C s (suc n) t l k = k t [] (many_here C t (λ p q v e h.
 -- where no piece begins the text, there are none; and the other way
 pub no_many_first : (C : Class) (t q : Text) (vs : List C.Value) → NoFront C t → Front (many C) t q vs → vs ≡ []
 no_many_first C t q [] n f = refl
-no_many_first C t q (v ∷ vs) n f = let (a, b, e, h, more) = f.is in absurd (n a (b ++ q) v (f.whole ∙ behind f.piece a b q e) h)
+no_many_first C t q (v ∷ vs) n f = let (a, b, e, h, more) = f.is in
+    absurd (n a (b ++ q) v (f.whole ∙ behind f.piece a b q e) h)
 
 pub many_none : (C : Class) (t q : Text) → Front (many C) t q [] → NoFront C t
 many_none C t q f = subst (λ (x : Text). NoFront C x) (sym (f.whole ∙ ap (λ (x : Text). x ++ q) f.is.0)) f.is.1
 
 -- where a piece begins what is left, one begins the text
-pub read_some : (C : Class) → ((t u : Text) (v : C.Value) → Front C t u v → length u < length t) → (t s s' : Text) (vs : List C.Value) (v : C.Value) → HasRead C t vs s → Front C s s' v → NoFront C t → ⊥
+pub read_some : (C : Class) → ((t u : Text) (v : C.Value) → Front C t u v → length u < length t)
+    → (t s s' : Text) (vs : List C.Value) (v : C.Value) → HasRead C t vs s → Front C s s' v → NoFront C t → ⊥
 read_some C shrinks t s s' vs v h f n = no_many_no C shrinks (length s') s' (omega arith) (λ r ws g.
     let z = no_many_first C t r (vs ++ (v ∷ ws)) n (h r (v ∷ ws) (many_cons C s s' r v ws f g)) in
     omega (arith, ap length z, length-append vs (v ∷ ws)))
@@ -72,17 +83,20 @@ module _ (C : Class) (separator close : ℕ) where
   abbrev more : Class
   more = more_before C separator close
 
-  pub list_cons : (t t' q : Text) (v : C.Value) (vs : List C.Value) → Front C t t' v → Front more t' q vs → Front list t q (v ∷ vs)
+  pub list_cons : (t t' q : Text) (v : C.Value) (vs : List C.Value) → Front C t t' v → Front more t' q vs
+      → Front list t q (v ∷ vs)
   list_cons t t' q v vs f g = record {
     piece = f.piece ++ g.piece;
     whole = f.whole ∙ ap (λ (x : Text). f.piece ++ x) g.whole ∙ sym (append_assoc f.piece g.piece q);
     is = ((f.piece, g.piece, refl, subst (λ (x : Text). C.Is f.piece x v) g.whole f.is, g.is.0), g.is.1);
   }
 
-  pub more_cons : (t u t' q : Text) (v : C.Value) (vs : List C.Value) → t ≡ separator ∷ u → Front C u t' v → Front more t' q vs → Front more t q (v ∷ vs)
+  pub more_cons : (t u t' q : Text) (v : C.Value) (vs : List C.Value) → t ≡ separator ∷ u → Front C u t' v
+      → Front more t' q vs → Front more t q (v ∷ vs)
   more_cons t u t' q v vs e f g = record {
     piece = separator ∷ (f.piece ++ g.piece);
-    whole = e ∙ ap (λ (x : Text). separator ∷ x) (f.whole ∙ ap (λ (x : Text). f.piece ++ x) g.whole ∙ sym (append_assoc f.piece g.piece q));
+    whole = e ∙ ap (λ (x : Text). separator ∷ x) (f.whole ∙ ap (λ (x : Text). f.piece ++ x) g.whole
+        ∙ sym (append_assoc f.piece g.piece q));
     is = ((f.piece, g.piece, refl, subst (λ (x : Text). C.Is f.piece x v) g.whole f.is, g.is.0), g.is.1);
   }
 
@@ -98,9 +112,11 @@ module _ (C : Class) (separator close : ℕ) where
 
   pub no_more : (t : Text) → NoFront (exactly (close ∷ [])) t → NoFront (exactly (separator ∷ [])) t → NoFront more t
   no_more t m n p q [] e h = m (close ∷ []) h.1.0 tt (e ∙ ap (λ (x : Text). x ++ q) h.0 ∙ h.1.1) refl
-  no_more t m n p q (v ∷ vs) e ((a, b, i, k, others), z) = n (separator ∷ []) (a ++ b ++ q) tt (e ∙ ap (λ (x : Text). x ++ q) i) refl
+  no_more t m n p q (v ∷ vs) e ((a, b, i, k, others), z) =
+      n (separator ∷ []) (a ++ b ++ q) tt (e ∙ ap (λ (x : Text). x ++ q) i) refl
 
-  pub no_more_behind : (t u : Text) → NoFront (exactly (close ∷ [])) t → t ≡ separator ∷ u → NoFront C u → NoFront more t
+  pub no_more_behind : (t u : Text) → NoFront (exactly (close ∷ [])) t → t ≡ separator ∷ u → NoFront C u
+      → NoFront more t
   no_more_behind t u m f n p q [] e h = m (close ∷ []) h.1.0 tt (e ∙ ap (λ (x : Text). x ++ q) h.0 ∙ h.1.1) refl
   no_more_behind t u m f n p q (v ∷ vs) e ((a, b, i, k, others), z) =
       let g : separator ∷ u ≡ separator ∷ (a ++ b ++ q) = sym f ∙ e ∙ ap (λ (y : Text). y ++ q) i in
@@ -111,7 +127,8 @@ module _ (C : Class) (separator close : ℕ) where
   Parts t q = (v : C.Value) × (vs : List C.Value) × (u : Text) × Front C t u v × Front more u q vs
 
   list_parts : (t q : Text) (vs : List C.Value) → NoFront (exactly (close ∷ [])) t → Front list t q vs → Parts t q
-  list_parts t q [] n f = absurd (n (close ∷ []) f.is.1.0 tt (f.whole ∙ ap (λ (x : Text). x ++ q) f.is.0 ∙ f.is.1.1) refl)
+  list_parts t q [] n f =
+      absurd (n (close ∷ []) f.is.1.0 tt (f.whole ∙ ap (λ (x : Text). x ++ q) f.is.0 ∙ f.is.1.1) refl)
   list_parts t q (v ∷ vs) n f =
       let a = f.is.0.0 in let b = f.is.0.1 in (
         v,
@@ -122,7 +139,8 @@ module _ (C : Class) (separator close : ℕ) where
       )
 
   -- the first parameter of a list that isn't closed at once
-  pub list_goes : (Cs : List Class) (t : Text) → NoFront (exactly (close ∷ [])) t → Meets (Row (list ∷ Cs)) t (Row (C ∷ more ∷ Cs)) t
+  pub list_goes : (Cs : List Class) (t : Text) → NoFront (exactly (close ∷ [])) t
+      → Meets (Row (list ∷ Cs)) t (Row (C ∷ more ∷ Cs)) t
   list_goes Cs t n = record {
     forth = λ q vs g. (
         let r = row_head C (more ∷ Cs) g in
@@ -136,10 +154,12 @@ module _ (C : Class) (separator close : ℕ) where
 
   module _ (differ : separator ≢ close) where
     more_parts : (t u q : Text) (vs : List C.Value) → t ≡ separator ∷ u → Front more t q vs → Parts u q
-    more_parts t u q [] e f = absurd (heads_differ separator close u f.is.1.0 differ (sym e ∙ f.whole ∙ ap (λ (x : Text). x ++ q) f.is.0 ∙ f.is.1.1))
+    more_parts t u q [] e f = absurd
+        (heads_differ separator close u f.is.1.0 differ (sym e ∙ f.whole ∙ ap (λ (x : Text). x ++ q) f.is.0 ∙ f.is.1.1))
     more_parts t u q (v ∷ vs) e f =
         let a = f.is.0.0 in let b = f.is.0.1 in
-        let w : separator ∷ u ≡ separator ∷ (a ++ (b ++ q)) = sym e ∙ f.whole ∙ ap (λ (x : Text). x ++ q) f.is.0.2 ∙ ap (λ (x : Text). separator ∷ x) (append_assoc a b q) in (
+        let w : separator ∷ u ≡ separator ∷ (a ++ (b ++ q)) = sym e ∙ f.whole ∙ ap (λ (x : Text). x ++ q) f.is.0.2
+        ∙ ap (λ (x : Text). separator ∷ x) (append_assoc a b q) in (
           v,
           vs,
           b ++ q,
@@ -148,7 +168,8 @@ module _ (C : Class) (separator close : ℕ) where
         )
 
     -- a further piece behind the separator
-    pub more_goes : (Cs : List Class) (t u : Text) → t ≡ separator ∷ u → Meets (Row (more ∷ Cs)) t (Row (C ∷ more ∷ Cs)) u
+    pub more_goes : (Cs : List Class) (t u : Text) → t ≡ separator ∷ u
+        → Meets (Row (more ∷ Cs)) t (Row (C ∷ more ∷ Cs)) u
     more_goes Cs t u e = record {
       forth = λ q vs g. (
           let r = row_head C (more ∷ Cs) g in
@@ -161,60 +182,82 @@ module _ (C : Class) (separator close : ℕ) where
     }
 
     module _ (d : IsDeterministic C) where
-      more_same : (p r p' r' : Text) (vs vs' : List C.Value) → p ++ (close ∷ r) ≡ p' ++ (close ∷ r') → IsMore C separator p (close ∷ r) vs → IsMore C separator p' (close ∷ r') vs' → (p ≡ p') × (vs ≡ vs')
+      more_same : (p r p' r' : Text) (vs vs' : List C.Value) → p ++ (close ∷ r) ≡ p' ++ (close ∷ r')
+          → IsMore C separator p (close ∷ r) vs → IsMore C separator p' (close ∷ r') vs' → (p ≡ p') × (vs ≡ vs')
       more_same p r p' r' [] [] e h h' = (h ∙ sym h', refl)
-      more_same p r p' r' [] (w ∷ ws) e h (a, b, i, k, others) = absurd (heads_differ separator close _ _ differ (sym (ap (λ (x : Text). x ++ (close ∷ r')) i) ∙ sym (after_nil p (close ∷ r) _ h e)))
-      more_same p r p' r' (v ∷ vs) [] e (a, b, i, k, others) h' = absurd (heads_differ separator close _ _ differ (sym (ap (λ (x : Text). x ++ (close ∷ r)) i) ∙ sym (after_nil p' (close ∷ r') _ h' (sym e))))
+      more_same p r p' r' [] (w ∷ ws) e h (a, b, i, k, others) = absurd
+          (heads_differ separator close _ _ differ
+          (sym (ap (λ (x : Text). x ++ (close ∷ r')) i) ∙ sym (after_nil p (close ∷ r) _ h e)))
+      more_same p r p' r' (v ∷ vs) [] e (a, b, i, k, others) h' = absurd
+          (heads_differ separator close _ _ differ
+          (sym (ap (λ (x : Text). x ++ (close ∷ r)) i) ∙ sym (after_nil p' (close ∷ r') _ h' (sym e))))
       more_same p r p' r' (v ∷ vs) (w ∷ ws) e (a, b, i, k, others) (a', b', i', k', others') =
-          let e0 : separator ∷ (a ++ b ++ (close ∷ r)) ≡ separator ∷ (a' ++ b' ++ (close ∷ r')) = sym (ap (λ (x : Text). x ++ (close ∷ r)) i) ∙ e ∙ ap (λ (x : Text). x ++ (close ∷ r')) i' in
-          let e1 : a ++ (b ++ (close ∷ r)) ≡ a' ++ (b' ++ (close ∷ r')) = sym (append_assoc a b (close ∷ r)) ∙ (let u : a ++ b ++ (close ∷ r) ≡ a' ++ b' ++ (close ∷ r') = cc in u) ∙ append_assoc a' b' (close ∷ r') in
+          let e0 : separator ∷ (a ++ b ++ (close ∷ r)) ≡ separator ∷ (a' ++ b' ++ (close ∷ r')) =
+          sym (ap (λ (x : Text). x ++ (close ∷ r)) i) ∙ e ∙ ap (λ (x : Text). x ++ (close ∷ r')) i' in
+          let e1 : a ++ (b ++ (close ∷ r)) ≡ a' ++ (b' ++ (close ∷ r')) = sym (append_assoc a b (close ∷ r))
+          ∙ (let u : a ++ b ++ (close ∷ r) ≡ a' ++ b' ++ (close ∷ r') = cc in u) ∙ append_assoc a' b' (close ∷ r') in
           let s = d a (b ++ (close ∷ r)) a' (b' ++ (close ∷ r')) v w e1 k k' in
-          let t = more_same b r b' r' vs ws (rest_same a (b ++ (close ∷ r)) a' (b' ++ (close ∷ r')) e1 s.0) others others' in
+          let t =
+          more_same b r b' r' vs ws (rest_same a (b ++ (close ∷ r)) a' (b' ++ (close ∷ r')) e1 s.0) others others' in
           (let t0 = s.0 in let t1 = t.0 in cc, let t0 = s.1 in let t1 = t.1 in cc)
 
       -- where no piece begins with the character that closes the list
       module _ (apart : (p q : Text) (v : C.Value) (r : Text) → C.Is p q v → p ++ q ≡ close ∷ r → ⊥) where
-        list_same : (p r p' r' : Text) (vs vs' : List C.Value) → p ++ (close ∷ r) ≡ p' ++ (close ∷ r') → IsList C separator p (close ∷ r) vs → IsList C separator p' (close ∷ r') vs' → (p ≡ p') × (vs ≡ vs')
+        list_same : (p r p' r' : Text) (vs vs' : List C.Value) → p ++ (close ∷ r) ≡ p' ++ (close ∷ r')
+            → IsList C separator p (close ∷ r) vs → IsList C separator p' (close ∷ r') vs' → (p ≡ p') × (vs ≡ vs')
         list_same p r p' r' [] [] e h h' = (h ∙ sym h', refl)
-        list_same p r p' r' [] (w ∷ ws) e h (a, b, i, k, others) = absurd (apart a (b ++ (close ∷ r')) w r k (sym (behind p' a b (close ∷ r') i) ∙ sym (after_nil p (close ∷ r) _ h e)))
-        list_same p r p' r' (v ∷ vs) [] e (a, b, i, k, others) h' = absurd (apart a (b ++ (close ∷ r)) v r' k (sym (behind p a b (close ∷ r) i) ∙ sym (after_nil p' (close ∷ r') _ h' (sym e))))
+        list_same p r p' r' [] (w ∷ ws) e h (a, b, i, k, others) = absurd
+            (apart a (b ++ (close ∷ r')) w r k
+            (sym (behind p' a b (close ∷ r') i) ∙ sym (after_nil p (close ∷ r) _ h e)))
+        list_same p r p' r' (v ∷ vs) [] e (a, b, i, k, others) h' = absurd
+            (apart a (b ++ (close ∷ r)) v r' k
+            (sym (behind p a b (close ∷ r) i) ∙ sym (after_nil p' (close ∷ r') _ h' (sym e))))
         list_same p r p' r' (v ∷ vs) (w ∷ ws) e (a, b, i, k, others) (a', b', i', k', others') =
             let e1 = sym (behind p a b (close ∷ r) i) ∙ e ∙ behind p' a' b' (close ∷ r') i' in
             let s = d a (b ++ (close ∷ r)) a' (b' ++ (close ∷ r')) v w e1 k k' in
-            let t = more_same b r b' r' vs ws (rest_same a (b ++ (close ∷ r)) a' (b' ++ (close ∷ r')) e1 s.0) others others' in
+            let t =
+            more_same b r b' r' vs ws (rest_same a (b ++ (close ∷ r)) a' (b' ++ (close ∷ r')) e1 s.0) others others' in
             (let t0 = s.0 in let t1 = t.0 in cc, let t0 = s.1 in let t1 = t.1 in cc)
 
         pub list_before_det : IsDeterministic list
         list_before_det p q p' q' vs vs' e (h, (r, z)) (h', (r', z')) =
             list_same p r p' r' vs vs' (sym (ap (λ (x : Text). p ++ x) z) ∙ e ∙ ap (λ (x : Text). p' ++ x) z')
-            (subst (λ (x : Text). IsList C separator p x vs) z h) (subst (λ (x : Text). IsList C separator p' x vs') z' h')
+            (subst (λ (x : Text). IsList C separator p x vs) z h)
+            (subst (λ (x : Text). IsList C separator p' x vs') z' h')
 
 -- ---- collecting such a list
 
 -- the pieces vs have been read, and at t' the further ones are left
 pub record Collects (C : Class) (separator close : ℕ) (t : Text) (vs : List C.Value) (t' : Text) : Type 0 where
-  pub some : (q : Text) (ws : List C.Value) → Front (more_before C separator close) t' q ws → Front (list_before C separator close) t q (vs ++ ws)
+  pub some : (q : Text) (ws : List C.Value) → Front (more_before C separator close) t' q ws
+      → Front (list_before C separator close) t q (vs ++ ws)
   pub none : NoFront (more_before C separator close) t' → NoFront (list_before C separator close) t
 
 module _ (C : Class) (separator close : ℕ) (d : IsDeterministic C) where
-  pub collects_first : (t t' : Text) (v : C.Value) → NoFront (exactly (close ∷ [])) t → Front C t t' v → Collects C separator close t (v ∷ []) t'
+  pub collects_first : (t t' : Text) (v : C.Value) → NoFront (exactly (close ∷ [])) t → Front C t t' v
+      → Collects C separator close t (v ∷ []) t'
   collects_first t t' v m f = record { some = λ q ws g. list_cons C separator close t t' q v ws f g; none = fails }
     where
       fails : NoFront (more_before C separator close) t' → NoFront (list_before C separator close) t
       fails n p q [] e h = m (close ∷ []) h.1.0 tt (e ∙ ap (λ (x : Text). x ++ q) h.0 ∙ h.1.1) refl
       fails n p q (w ∷ ws) e ((a, b, i, k, others), z) =
-          let s = front_same C d (record { piece = a; whole = e ∙ behind p a b q i; is = k }) f in n b q ws (sym s.0) (others, z)
+          let s = front_same C d (record { piece = a; whole = e ∙ behind p a b q i; is = k }) f in
+          n b q ws (sym s.0) (others, z)
 
-  pub collects_more : (t s u s' : Text) (vs : List C.Value) (v : C.Value) → Collects C separator close t vs s → NoFront (exactly (close ∷ [])) s → s ≡ separator ∷ u → Front C u s' v → Collects C separator close t (vs ++ (v ∷ [])) s'
+  pub collects_more : (t s u s' : Text) (vs : List C.Value) (v : C.Value) → Collects C separator close t vs s
+      → NoFront (exactly (close ∷ [])) s → s ≡ separator ∷ u → Front C u s' v
+      → Collects C separator close t (vs ++ (v ∷ [])) s'
   collects_more t s u s' vs v c m e f = record {
-    some = λ q ws g. subst (λ (x : List C.Value). Front (list_before C separator close) t q x) (sym (append_assoc vs (v ∷ []) ws)) (c.some q (v ∷ ws) (more_cons C separator close s u s' q v ws e f g));
+    some = λ q ws g. subst (λ (x : List C.Value). Front (list_before C separator close) t q x)
+        (sym (append_assoc vs (v ∷ []) ws)) (c.some q (v ∷ ws) (more_cons C separator close s u s' q v ws e f g));
     none = λ n. c.none (fails n);
   }
     where
       fails : NoFront (more_before C separator close) s' → NoFront (more_before C separator close) s
       fails n p q [] w h = m (close ∷ []) h.1.0 tt (w ∙ ap (λ (x : Text). x ++ q) h.0 ∙ h.1.1) refl
       fails n p q (x ∷ xs) w ((a, b, i, k, others), z) =
-          let g : separator ∷ u ≡ separator ∷ (a ++ (b ++ q)) = sym e ∙ w ∙ ap (λ (y : Text). y ++ q) i ∙ ap (λ (y : Text). separator ∷ y) (append_assoc a b q) in
+          let g : separator ∷ u ≡ separator ∷ (a ++ (b ++ q)) = sym e ∙ w ∙ ap (λ (y : Text). y ++ q) i
+          ∙ ap (λ (y : Text). separator ∷ y) (append_assoc a b q) in
           let r = front_same C d (record { piece = a; whole = (let y : u ≡ a ++ (b ++ q) = cc in y); is = k }) f in
           n b q xs (sym r.0) (others, z)
 

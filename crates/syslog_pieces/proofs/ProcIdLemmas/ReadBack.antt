@@ -1,12 +1,15 @@
 -- Process ids are read back from their printed text, and what is read is canonical.
-use Rattle.std.proofs.Common.{◌≡◌, ℕ, ℤ, suc, pos, negsuc, neg_ℤ, ◌<◌, ◌^◌, inl, inr, Bool, true, false, not, List, FitsSigned, w32, [], ◌∷◌, length, Option, Some, None, IfSome, refl, sym, ap, subst, ◌∙◌, arith}
+use Rattle.std.proofs.Common.{◌≡◌, ℕ, ℤ, suc, pos, negsuc, neg_ℤ, ◌<◌, ◌^◌, inl, inr, Bool}
+use Rattle.std.proofs.Common.{true, false, not, List, FitsSigned, w32, [], ◌∷◌, length}
+use Rattle.std.proofs.Common.{Option, Some, None, IfSome, refl, sym, ap, subst, ◌∙◌, arith}
 use Rattle.std.proofs.lemmas.Fmt.{digits_value-decimal}
 use Rattle.std.specs.Char.{is_ascii_digit, is_not_whitespace}
 use Rattle.std.specs.Prelude.{◌↔◌, IsTrue}
 use Rattle.std.specs.Str.{chars}
 use Rattle.std.specs.Fmt.{decimal, signed_decimal}
 use Rattle.syslog_pieces.specs.Pieces.Class.{Text, Each, Ends}
-use Rattle.syslog_pieces.specs.ProcId.{IsI32Text, process_word, process_text, IsNoI32Text, IsCanonicalProcess, IsBoundedProcess}
+use Rattle.syslog_pieces.specs.ProcId.{IsI32Text, process_word, process_text}
+use Rattle.syslog_pieces.specs.ProcId.{IsNoI32Text, IsCanonicalProcess, IsBoundedProcess}
 use Rattle.syslog_pieces.specs.Text.{word}
 use Rattle.syslog_pieces.specs.Text.Canonical.{IsCanonicalWord}
 use Rattle.syslog_pieces.specs.declared.procid.ProcId.{ProcId}
@@ -35,14 +38,24 @@ signed_writes (pos n) h =
     let small = magnitude n h in
     (inl (decimal_digits n small, ap pos (sym (digits_value-decimal own n small))), h)
 signed_writes (negsuc n) h =
-    let small = negative n h in
-    (inr (inr (decimal (suc n), refl, decimal_digits (suc n) small, ap (λ (k : ℕ). neg_ℤ (pos k)) (sym (digits_value-decimal own (suc n) small)))), h)
+    let small = negative n h in (
+      inr (inr (
+        decimal (suc n),
+        refl,
+        decimal_digits (suc n) small,
+        ap (λ (k : ℕ). neg_ℤ (pos k)) (sym (digits_value-decimal own (suc n) small)),
+      )),
+      h,
+    )
 
 -- and is a canonical word
 pub signed_canonical : (n : ℤ) → FitsSigned w32 n → IsCanonicalWord (signed_decimal n)
 signed_canonical (pos n) h =
-    let (long, digits) = decimal_digits n (magnitude n h) in
-    ((long, digits_visible (decimal n) digits), digits_no_mark (decimal n) 45 digits refl, digits_no_mark (decimal n) 58 digits refl)
+    let (long, digits) = decimal_digits n (magnitude n h) in (
+      (long, digits_visible (decimal n) digits),
+      digits_no_mark (decimal n) 45 digits refl,
+      digits_no_mark (decimal n) 58 digits refl,
+    )
 signed_canonical (negsuc n) h =
     let (long, digits) = decimal_digits (suc n) (negative n h) in (
       (omega arith, (refl, digits_visible (decimal (suc n)) digits)),
@@ -56,9 +69,11 @@ canonical_word : (t q : Text) → IsCanonicalWord t → Ends is_not_whitespace q
 canonical_word t q h e = word_back (Some t) q h e
 
 -- a canonical process id, or none, is read back before the end or white space
-pub process_back : (v : Option (ProcId Text)) (q : Text) → IfSome v IsCanonicalProcess → IfSome v IsBoundedProcess → Ends is_not_whitespace q → process_word.Is (process_text v) q v
+pub process_back : (v : Option (ProcId Text)) (q : Text) → IfSome v IsCanonicalProcess → IfSome v IsBoundedProcess
+    → Ends is_not_whitespace q → process_word.Is (process_text v) q v
 process_back None q h b e = word_back None q tt e
-process_back (Some (PID n)) q h b e = (signed_decimal n, canonical_word (signed_decimal n) q (signed_canonical n b) e, signed_writes n b)
+process_back (Some (PID n)) q h b e =
+    (signed_decimal n, canonical_word (signed_decimal n) q (signed_canonical n b) e, signed_writes n b)
 process_back (Some (Name t)) q (canonical, no_number) b e = (t, canonical_word t q canonical e, (no_number, refl))
 
 -- what is read as a process id is canonical
@@ -75,15 +90,18 @@ process_bounded p q (Some (PID n)) (u, w, i) = i.1
 process_bounded p q (Some (Name t)) h = tt
 
 -- ---- what the test of a process name answers
-pub name_told : (bytes text : List ℕ) (process : ProcId Text) (w number : Bool) → bytes ≡ text → process ≡ Name (chars text) → IsTrue w ↔ IsCanonicalWord (chars bytes) → w ≡ true
+pub name_told : (bytes text : List ℕ) (process : ProcId Text) (w number : Bool) → bytes ≡ text
+    → process ≡ Name (chars text) → IsTrue w ↔ IsCanonicalWord (chars bytes) → w ≡ true
     → IsTrue number ↔ (IsNoI32Text (chars bytes) → ⊥) → IsTrue (not number) ↔ IsCanonicalProcess process
 name_told bytes text process w number e p canonical is number_told =
-    subst (λ (x : ProcId Text). IsTrue (not number) ↔ IsCanonicalProcess x) (sym (p ∙ ap (λ (x : List ℕ). Name (chars x)) (sym e))) (
+    subst (λ (x : ProcId Text). IsTrue (not number) ↔ IsCanonicalProcess x)
+    (sym (p ∙ ap (λ (x : List ℕ). Name (chars x)) (sym e))) (
       (λ h. (canonical.0 is, (λ n i. taken number h number_told (λ z. z n i)))),
       (λ h. untaken number number_told h.1),
     )
   where
-    taken : (b : Bool) → IsTrue (not b) → IsTrue b ↔ (IsNoI32Text (chars bytes) → ⊥) → (IsNoI32Text (chars bytes) → ⊥) → ⊥
+    taken : (b : Bool) → IsTrue (not b) → IsTrue b ↔ (IsNoI32Text (chars bytes) → ⊥) → (IsNoI32Text (chars bytes) → ⊥)
+        → ⊥
     taken true h t n = let u : false ≡ true = h in cc
     taken false h t n = let u : false ≡ true = t.1 n in cc
 

@@ -1,7 +1,9 @@
 -- A quoted value, cut from its text by bytes.
-use Rattle.std.proofs.Common.{◌≡◌, ℕ, ◌+◌, ◌-◌, ◌≤◌, List, [], ◌∷◌, ◌++◌, length, take, refl, sym, ap, subst, ◌∙◌, arith}
+use Rattle.std.proofs.Common.{◌≡◌, ℕ, ◌+◌, ◌-◌, ◌≤◌, List, [], ◌∷◌, ◌++◌}
+use Rattle.std.proofs.Common.{length, take, refl, sym, ap, subst, ◌∙◌, arith}
 use Rattle.std.proofs.lemmas.List.{length-append, append_cancel_right, take_at}
-use Rattle.std.proofs.lemmas.Str.{encodes-append, encodes-chars, chars-append, chars-IsAscii, IsUtf8-append, IsUtf8-from_ascii, IsUtf8-take, IsCharBoundary-at_seam}
+use Rattle.std.proofs.lemmas.Str.{encodes-append, encodes-chars, chars-append, chars-IsAscii}
+use Rattle.std.proofs.lemmas.Str.{IsUtf8-append, IsUtf8-from_ascii, IsUtf8-take, IsCharBoundary-at_seam}
 use Rattle.std.specs.Char.{encode_utf8}
 use Rattle.std.specs.Str.{chars, IsUtf8, IsCharBoundary, encode_utf8_all}
 use Rattle.syslog_pieces.specs.Pieces.Class.{Text, Front, Values, Row, exactly}
@@ -11,7 +13,8 @@ use Rattle.syslog_pieces.proofs.TextLemmas.Chars.{chars_cut, one_ascii}
 use Rattle.syslog_pieces.proofs.PieceLemmas.Class.{row_cons, row_head, nil_front}
 use Rattle.syslog_pieces.proofs.PieceLemmas.Lists.{begins}
 
-module _ (t r : List ℕ) (u : IsUtf8 t) (z : IsUtf8 r) (v : Values quoted_row) (f : Front quoted (chars t) (chars r) v) where
+module _ (t r : List ℕ) (u : IsUtf8 t) (z : IsUtf8 r) (v : Values quoted_row)
+    (f : Front quoted (chars t) (chars r) v) where
   first : (w : Text) × Front value (chars t) w v.0 × Front (Row (exactly (34 ∷ []) ∷ [])) w (chars r) v.1
   first = row_head value (exactly (34 ∷ []) ∷ []) f
 
@@ -28,7 +31,8 @@ module _ (t r : List ℕ) (u : IsUtf8 t) (z : IsUtf8 r) (v : Values quoted_row) 
 
   bytes : t ≡ piece_bytes ++ (34 ∷ r)
   unfolding piece_bytes encode_utf8
-  bytes = sym (encodes-chars t u) ∙ ap encode_utf8_all whole ∙ encodes-append first.1.piece (34 ∷ chars r) ∙ ap (λ (x : List ℕ). encode_utf8_all first.1.piece ++ (34 ∷ x)) (encodes-chars r z)
+  bytes = sym (encodes-chars t u) ∙ ap encode_utf8_all whole ∙ encodes-append first.1.piece (34 ∷ chars r)
+      ∙ ap (λ (x : List ℕ). encode_utf8_all first.1.piece ++ (34 ∷ x)) (encodes-chars r z)
 
   pub quoted_longer : length r + 1 ≤ length t
   quoted_longer = omega (arith, ap length bytes, length-append piece_bytes (34 ∷ r))
@@ -41,16 +45,27 @@ module _ (t r : List ℕ) (u : IsUtf8 t) (z : IsUtf8 r) (v : Values quoted_row) 
 
   -- the text may be cut before the closing quote
   pub quoted_cut : IsCharBoundary t (length t - length r - 1)
-  quoted_cut = subst (λ (n : ℕ). IsCharBoundary t n) place (IsCharBoundary-at_seam t piece_bytes (34 ∷ r) bytes behind_utf8)
+  quoted_cut =
+      subst (λ (n : ℕ). IsCharBoundary t n) place (IsCharBoundary-at_seam t piece_bytes (34 ∷ r) bytes behind_utf8)
 
   -- and the value is what stands before it
-  pub quoted_value : (xs : List ℕ) → xs ≡ take (length t - length r - 1) t → Front quoted (chars t) (chars r) (chars xs, (tt, tt))
+  pub quoted_value : (xs : List ℕ) → xs ≡ take (length t - length r - 1) t
+      → Front quoted (chars t) (chars r) (chars xs, (tt, tt))
   quoted_value xs e =
       let front_utf8 : IsUtf8 xs = subst IsUtf8 (sym e) (IsUtf8-take t (length t - length r - 1) u quoted_cut) in
-      let same : xs ≡ piece_bytes = e ∙ ap (λ (y : List ℕ). take (length t - length r - 1) y) bytes ∙ take_at piece_bytes (34 ∷ r) (length t - length r - 1) place in
+      let same : xs ≡ piece_bytes = e ∙ ap (λ (y : List ℕ). take (length t - length r - 1) y) bytes
+      ∙ take_at piece_bytes (34 ∷ r) (length t - length r - 1) place in
       let split : chars t ≡ chars xs ++ chars (34 ∷ r) = chars_cut t xs (34 ∷ r) (rw same bytes) front_utf8 in
-      let rest : chars (34 ∷ r) ≡ 34 ∷ chars r = chars-append (34 ∷ []) r (IsUtf8-from_ascii (34 ∷ []) (one_ascii 34 (omega arith))) ∙ ap (λ (y : List ℕ). y ++ chars r) (chars-IsAscii (34 ∷ []) (one_ascii 34 (omega arith))) in
-      let piece : first.1.piece ≡ chars xs = append_cancel_right first.1.piece (chars xs) (34 ∷ chars r) (sym whole ∙ split ∙ ap (λ (y : List ℕ). chars xs ++ y) rest) in
+      let rest : chars (34 ∷ r) ≡ 34 ∷ chars r =
+      chars-append (34 ∷ []) r (IsUtf8-from_ascii (34 ∷ []) (one_ascii 34 (omega arith)))
+      ∙ ap (λ (y : List ℕ). y ++ chars r) (chars-IsAscii (34 ∷ []) (one_ascii 34 (omega arith))) in
+      let piece : first.1.piece ≡ chars xs = append_cancel_right first.1.piece (chars xs) (34 ∷ chars r)
+      (sym whole ∙ split ∙ ap (λ (y : List ℕ). chars xs ++ y) rest) in
       let s = row_head (exactly (34 ∷ [])) [] first.2 in
-      row_cons value (exactly (34 ∷ []) ∷ []) (record { piece = chars xs; whole = first.1.whole ∙ ap (λ (y : Text). y ++ first.0) piece; is = (subst IsValue piece first.1.is.0, first.1.is.1, refl) })
+      row_cons value (exactly (34 ∷ []) ∷ [])
+      (record {
+        piece = chars xs;
+        whole = first.1.whole ∙ ap (λ (y : Text). y ++ first.0) piece;
+        is = (subst IsValue piece first.1.is.0, first.1.is.1, refl);
+      })
       (row_cons (exactly (34 ∷ [])) [] s.1 (s.2))

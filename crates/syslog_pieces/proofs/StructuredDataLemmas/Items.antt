@@ -1,5 +1,6 @@
 -- Items of a forgiving list, one after the other, and the strict elements among them.
-use Rattle.std.proofs.Common.{◌≡◌, ℕ, ◌≤◌, min, Bool, true, false, not, ◌||◌, inl, inr, List, [], ◌∷◌, ◌++◌, length, map, Option, Some, None, refl, sym, ap, subst, ◌∙◌, arith}
+use Rattle.std.proofs.Common.{◌≡◌, ℕ, ◌≤◌, min, Bool, true, false, not, ◌||◌, inl, inr, List, [], ◌∷◌}
+use Rattle.std.proofs.Common.{◌++◌, length, map, Option, Some, None, refl, sym, ap, subst, ◌∙◌, arith}
 use Rattle.std.proofs.lemmas.List.{length-append, map-append}
 use Rattle.std.proofs.lemmas.List.Folds.{list_any-append}
 use Rattle.std.specs.List.{list_any}
@@ -24,7 +25,8 @@ pub element_item : (t q : Text) (e : ElementValue) → Front element t q e → F
 element_item t q e f = record { piece = f.piece; whole = f.whole; is = f.is }
 
 pub bracketed_item : (t q : Text) → NoFront element t → Front bracketed t q (tt, (tt, (tt, tt))) → Front item t q None
-bracketed_item t q n f = record { piece = f.piece; whole = f.whole; is = (subst (λ (x : Text). NoFront element x) f.whole n, f.is) }
+bracketed_item t q n f =
+    record { piece = f.piece; whole = f.whole; is = (subst (λ (x : Text). NoFront element x) f.whole n, f.is) }
 
 -- ---- the number
 pub dead_least : (t : Text) (a b : ℕ) → IsDead t a → IsDead t b → IsDead t (min a b)
@@ -46,33 +48,41 @@ strict_push_none [] = refl
 strict_push_none (None ∷ vs) = strict_push_none vs
 strict_push_none (Some e ∷ vs) = ap (λ (x : List ElementValue). e ∷ x) (strict_push_none vs)
 
-pub strict_push_some : (vs : List (Option ElementValue)) (e : ElementValue) → strict (vs ++ (Some e ∷ [])) ≡ strict vs ++ (e ∷ [])
+pub strict_push_some : (vs : List (Option ElementValue)) (e : ElementValue)
+    → strict (vs ++ (Some e ∷ [])) ≡ strict vs ++ (e ∷ [])
 strict_push_some [] e = refl
 strict_push_some (None ∷ vs) e = strict_push_some vs e
 strict_push_some (Some d ∷ vs) e = ap (λ (x : List ElementValue). d ∷ x) (strict_push_some vs e)
 
 -- a test of items, one item more
-pub any_push : {X : Type 0} (test : X → Bool) (xs : List X) (x : X) (b c : Bool) → b ≡ list_any test xs → c ≡ test x → (b || c) ≡ list_any test (xs ++ (x ∷ []))
+pub any_push : {X : Type 0} (test : X → Bool) (xs : List X) (x : X) (b c : Bool) → b ≡ list_any test xs → c ≡ test x
+    → (b || c) ≡ list_any test (xs ++ (x ∷ []))
 any_push test xs x b c e f =
-    ap (λ (y : Bool). y || c) e ∙ ap (λ (y : Bool). list_any test xs || y) (f ∙ sym (or_false (test x))) ∙ sym (list_any-append test xs (x ∷ []))
+    ap (λ (y : Bool). y || c) e ∙ ap (λ (y : Bool). list_any test xs || y) (f ∙ sym (or_false (test x)))
+    ∙ sym (list_any-append test xs (x ∷ []))
 
 pub none_is_not_some : {A : Type 0} (v : Option A) (b : Bool) → b ≡ is_some v → not b ≡ is_none v
 none_is_not_some None b e = ap not e
 none_is_not_some (Some x) b e = ap not e
 
 -- ---- collecting the strict elements
-module _ {X : Type 0} (view : X → ElementValue) (old : List X) (vs : List (Option ElementValue)) (e : map view old ≡ strict vs) where
+module _ {X : Type 0} (view : X → ElementValue) (old : List X) (vs : List (Option ElementValue))
+    (e : map view old ≡ strict vs) where
   pub collected_broken : (v : Option ElementValue) → false ≡ is_some v → map view old ≡ strict (vs ++ (v ∷ []))
   collected_broken None f = e ∙ sym (strict_push_none vs)
   collected_broken (Some d) f = absurd (let t : false ≡ true = f in cc)
 
-  pub collected_strict : (s s' s'' : Text) (new : List X) (x : X) (v : Option ElementValue) → true ≡ is_some v → Front item s s' v → Front element s s'' (view x) → new ≡ old ++ (x ∷ []) → map view new ≡ strict (vs ++ (v ∷ []))
+  pub collected_strict : (s s' s'' : Text) (new : List X) (x : X) (v : Option ElementValue) → true ≡ is_some v
+      → Front item s s' v → Front element s s'' (view x) → new ≡ old ++ (x ∷ [])
+      → map view new ≡ strict (vs ++ (v ∷ []))
   collected_strict s s' s'' new x None f g h i = absurd (let t : true ≡ false = f in cc)
   collected_strict s s' s'' new x (Some d) f g h i =
       let r = front_same element element_det h (record { piece = g.piece; whole = g.whole; is = g.is }) in
-      ap (map view) i ∙ map-append view old (x ∷ []) ∙ ap (λ (z : List ElementValue). z ++ (view x ∷ [])) e ∙ ap (λ (z : ElementValue). strict vs ++ (z ∷ [])) r.1 ∙ sym (strict_push_some vs d)
+      ap (map view) i ∙ map-append view old (x ∷ []) ∙ ap (λ (z : List ElementValue). z ++ (view x ∷ [])) e
+      ∙ ap (λ (z : ElementValue). strict vs ++ (z ∷ [])) r.1 ∙ sym (strict_push_some vs d)
 
-pub strict_there : (s s' : Text) (v : Option ElementValue) → true ≡ is_some v → Front item s s' v → NoFront element s → ⊥
+pub strict_there : (s s' : Text) (v : Option ElementValue) → true ≡ is_some v → Front item s s' v → NoFront element s
+    → ⊥
 strict_there s s' None e f n = let t : true ≡ false = e in cc
 strict_there s s' (Some d) e f n = n f.piece s' d f.whole f.is
 
@@ -114,7 +124,8 @@ strict_asks t s s' vs (Some d) e h f n = element_asks t s s' vs d h
 
 -- ---- the list
 
-pub no_list : (t q : Text) (vs : List (Option ElementValue)) → NoFront (exactly dash) t → Front (many item) t q vs → vs ≡ [] → NoFront forgiving t
+pub no_list : (t q : Text) (vs : List (Option ElementValue)) → NoFront (exactly dash) t → Front (many item) t q vs
+    → vs ≡ [] → NoFront forgiving t
 no_list t q vs n f z p r es e (inl (g, h)) = n p r tt e g
 no_list t q vs n f z p r es e (inr (ws, l, m, g)) =
     let s = front_same (many item) (many_det item item_det) f (record { piece = p; whole = e; is = m }) in

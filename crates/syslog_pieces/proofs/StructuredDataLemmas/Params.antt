@@ -7,7 +7,9 @@ use Rattle.std.specs.Prelude.{Result, String}
 use Rattle.std.specs.declared.alloc.AllocError.{AllocError}
 use Rattle.syslog_pieces.specs.StructuredData.Params.{NextParam, AreParamItems}
 
-pub AreParamItems-Drains : {S : Type 0} (bytes : S → List ℕ) (params : List (S × S)) (items : List (Result (Bor S × String Global) AllocError)) → Drains (NextParam bytes) params items → AreParamItems bytes params items
+pub AreParamItems-Drains : {S : Type 0} (bytes : S → List ℕ) (params : List (S × S))
+    (items : List (Result (Bor S × String Global) AllocError)) → Drains (NextParam bytes) params items
+    → AreParamItems bytes params items
 AreParamItems-Drains bytes [] [] d = tt
 AreParamItems-Drains bytes [] (item ∷ items) d = let step = d.1.1.1.0 in absurd (cc)
 AreParamItems-Drains bytes (p ∷ ps) [] d = absurd (rw (← d.1.1) at d.1.2).0

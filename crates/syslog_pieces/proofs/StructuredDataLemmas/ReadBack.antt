@@ -1,11 +1,14 @@
 -- Canonical elements are read back from their printed text, and what is read is canonical.
-use Rattle.std.proofs.Common.{◌≡◌, ◌≢◌, ℕ, ◌<◌, inl, inr, List, [], ◌∷◌, ◌++◌, length, map, Option, Some, None, refl, sym, ap, subst, ◌∙◌, append_assoc, arith}
+use Rattle.std.proofs.Common.{◌≡◌, ◌≢◌, ℕ, ◌<◌, inl, inr, List, [], ◌∷◌, ◌++◌, length, map}
+use Rattle.std.proofs.Common.{Option, Some, None, refl, sym, ap, subst, ◌∙◌, append_assoc, arith}
 use Rattle.std.specs.List.{flat_map, AllByRecursion}
 use Rattle.syslog_pieces.specs.Bodies.Verbatim.{bare_param_text}
 use Rattle.syslog_pieces.specs.Pieces.Class.{Text, NoFront, Each, Ends, Values, run, some_run, exactly, texted}
 use Rattle.syslog_pieces.specs.Pieces.Lists.{IsMany, IsList, IsMore, list_before}
-use Rattle.syslog_pieces.specs.StructuredData.{IsValue, value, param_row, param, element_row, element_of, element, item, strict, forgiving}
-use Rattle.syslog_pieces.specs.StructuredData.Element.{ElementValue, param_text, element_text, joined_elements, elements_text}
+use Rattle.syslog_pieces.specs.StructuredData.{IsValue, value, param_row, param, element_row}
+use Rattle.syslog_pieces.specs.StructuredData.{element_of, element, item, strict, forgiving}
+use Rattle.syslog_pieces.specs.StructuredData.Element.{ElementValue, param_text, element_text}
+use Rattle.syslog_pieces.specs.StructuredData.Element.{joined_elements, elements_text}
 use Rattle.syslog_pieces.specs.StructuredData.Canonical.{IsCanonicalParam, BeginsUnblank, IsCanonicalElement}
 use Rattle.syslog_pieces.specs.Text.{is_blank}
 use Rattle.syslog_pieces.specs.Text.CharClass.{is_id_char, is_name_char}
@@ -31,15 +34,23 @@ param_back name v q (long, each, units) = (
 )
 
 -- further parameters, each behind its space
-more_back : (ps : List (Text × Text)) (q : Text) → AllByRecursion IsCanonicalParam ps → IsMore param 32 (flat_map param_text ps) q ps
+more_back : (ps : List (Text × Text)) (q : Text) → AllByRecursion IsCanonicalParam ps
+    → IsMore param 32 (flat_map param_text ps) q ps
 more_back [] q h = refl
-more_back ((name, v) ∷ ps) q (canonical, canonicals) =
-    (bare_param_text (name, v), flat_map param_text ps, refl, param_back name v (flat_map param_text ps ++ q) canonical, more_back ps q canonicals)
+more_back ((name, v) ∷ ps) q (canonical, canonicals) = (
+  bare_param_text (name, v),
+  flat_map param_text ps,
+  refl,
+  param_back name v (flat_map param_text ps ++ q) canonical,
+  more_back ps q canonicals,
+)
 
 -- what is read as a parameter is canonical
 param_canonical : (p q : Text) (v : Text × Text) → param.Is p q v → IsCanonicalParam v
 param_canonical p q v (vs, row, e) =
-    let g1 = row_head (texted (some_run is_name_char)) (exactly (61 ∷ []) ∷ run is_blank ∷ exactly (34 ∷ []) ∷ value ∷ exactly (34 ∷ []) ∷ []) (record { piece = p; whole = refl; is = row }) in
+    let g1 = row_head (texted (some_run is_name_char))
+    (exactly (61 ∷ []) ∷ run is_blank ∷ exactly (34 ∷ []) ∷ value ∷ exactly (34 ∷ []) ∷ [])
+    (record { piece = p; whole = refl; is = row }) in
     let g2 = row_head (exactly (61 ∷ [])) (run is_blank ∷ exactly (34 ∷ []) ∷ value ∷ exactly (34 ∷ []) ∷ []) g1.2 in
     let g3 = row_head (run is_blank) (exactly (34 ∷ []) ∷ value ∷ exactly (34 ∷ []) ∷ []) g2.2 in
     let g4 = row_head (exactly (34 ∷ [])) (value ∷ exactly (34 ∷ []) ∷ []) g3.2 in
@@ -66,7 +77,9 @@ abbrev element_values : Text → List (Text × Text) → Values element_row
 element_values id ps = (tt, (id, (tt, (ps, (tt, tt)))))
 
 -- a canonical element is read back, whatever follows it
-element_of_parts : (id : Text) (ps : List (Text × Text)) (q : Text) → IsCanonicalElement (record { id = id; params = ps }) → element.Is (element_text (record { id = id; params = ps })) q (record { id = id; params = ps })
+element_of_parts : (id : Text) (ps : List (Text × Text)) (q : Text)
+    → IsCanonicalElement (record { id = id; params = ps })
+    → element.Is (element_text (record { id = id; params = ps })) q (record { id = id; params = ps })
 element_of_parts id [] q (long, each, canonical, first) = (
   element_values id [],
   (
@@ -88,7 +101,19 @@ element_of_parts id ((name, v) ∷ ps) q (long, each, (canonical, canonicals), f
             (tt, (long, each, refl), refl),
             (
               ((refl, tt), begins_more name (61 ∷ 34 ∷ (v ++ (34 ∷ []))) more (93 ∷ []) q canonical.0 first),
-              (((bare_param_text (name, v), more, refl, param_back name v (more ++ (93 ∷ q)) canonical, more_back ps (93 ∷ q) canonicals), (q, refl)), (refl, tt)),
+              (
+                (
+                  (
+                    bare_param_text (name, v),
+                    more,
+                    refl,
+                    param_back name v (more ++ (93 ∷ q)) canonical,
+                    more_back ps (93 ∷ q) canonicals,
+                  ),
+                  (q, refl),
+                ),
+                (refl, tt),
+              ),
             ),
           ),
         ),
@@ -96,20 +121,25 @@ element_of_parts id ((name, v) ∷ ps) q (long, each, (canonical, canonicals), f
       refl,
     )
   where
-    begins_more : (name a b c d : Text) → 0 < length name → Ends is_blank name → Ends is_blank ((((name ++ a) ++ b) ++ c) ++ d)
+    begins_more : (name a b c d : Text) → 0 < length name → Ends is_blank name
+        → Ends is_blank ((((name ++ a) ++ b) ++ c) ++ d)
     begins_more [] a b c d l h = absurd (omega arith)
     begins_more (x ∷ name) a b c d l h = h
 
 pub element_back : (e : ElementValue) (q : Text) → IsCanonicalElement e → element.Is (element_text e) q e
 element_back e q h = element_of_parts e.id e.params q h
 
-first_canonical : (p q : Text) (vs : List (Text × Text)) → IsList param 32 p q vs → Ends is_blank (p ++ q) → BeginsUnblank vs
+first_canonical : (p q : Text) (vs : List (Text × Text)) → IsList param 32 p q vs → Ends is_blank (p ++ q)
+    → BeginsUnblank vs
 first_canonical p q [] h e = tt
 first_canonical p q (v ∷ vs) (a, b, w, (ws, row, same), more) e =
-    let g = row_head (texted (some_run is_name_char)) (exactly (61 ∷ []) ∷ run is_blank ∷ exactly (34 ∷ []) ∷ value ∷ exactly (34 ∷ []) ∷ []) {text = a ++ (b ++ q)} {r = b ++ q} (record { piece = a; whole = refl; is = row }) in
+    let g = row_head (texted (some_run is_name_char))
+    (exactly (61 ∷ []) ∷ run is_blank ∷ exactly (34 ∷ []) ∷ value ∷ exactly (34 ∷ [])
+    ∷ []) {text = a ++ (b ++ q)} {r = b ++ q} (record { piece = a; whole = refl; is = row }) in
     let (_, name, name_is) = g.1.is in
     let whole : p ++ q ≡ g.1.piece ++ g.0 = ap (λ (x : Text). x ++ q) w ∙ append_assoc a b q ∙ g.1.whole in
-    let ends : Ends is_blank g.1.piece = front_ends g.1.piece g.0 name.0 (subst (λ (x : Text). Ends is_blank x) whole e) in
+    let ends : Ends is_blank g.1.piece =
+    front_ends g.1.piece g.0 name.0 (subst (λ (x : Text). Ends is_blank x) whole e) in
     subst (λ (x : Text × Text). Ends is_blank x.0) (sym same) (subst (λ (x : Text). Ends is_blank x) (sym name_is) ends)
   where
     front_ends : (x y : Text) → 0 < length x → Ends is_blank (x ++ y) → Ends is_blank x
@@ -119,8 +149,10 @@ first_canonical p q (v ∷ vs) (a, b, w, (ws, row, same), more) e =
 -- what is read as an element is canonical
 pub element_canonical : (p q : Text) (e : ElementValue) → element.Is p q e → IsCanonicalElement e
 element_canonical p q e (vs, row, same) =
-    let g1 = row_head (exactly (91 ∷ [])) (texted (some_run is_id_char) ∷ run is_blank ∷ list_before param 32 93 ∷ exactly (93 ∷ []) ∷ []) (record { piece = p; whole = refl; is = row }) in
-    let g2 = row_head (texted (some_run is_id_char)) (run is_blank ∷ list_before param 32 93 ∷ exactly (93 ∷ []) ∷ []) g1.2 in
+    let g1 = row_head (exactly (91 ∷ [])) (texted (some_run is_id_char) ∷ run is_blank ∷ list_before param 32 93
+    ∷ exactly (93 ∷ []) ∷ []) (record { piece = p; whole = refl; is = row }) in
+    let g2 =
+    row_head (texted (some_run is_id_char)) (run is_blank ∷ list_before param 32 93 ∷ exactly (93 ∷ []) ∷ []) g1.2 in
     let g3 = row_head (run is_blank) (list_before param 32 93 ∷ exactly (93 ∷ []) ∷ []) g2.2 in
     let g4 = row_head (list_before param 32 93) (exactly (93 ∷ []) ∷ []) g3.2 in
     let (_, id, id_is) = g2.1.is in
@@ -129,7 +161,8 @@ element_canonical p q e (vs, row, same) =
       subst (λ (x : Text). 0 < length x) (sym id_is) id.0,
       subst (λ (x : Text). Each is_id_char x) (sym id_is) id.1,
       list_canonical g4.1.piece g4.0 (element_of vs).params params,
-      first_canonical g4.1.piece g4.0 (element_of vs).params params (subst (λ (x : Text). Ends is_blank x) g4.1.whole g3.1.is.1),
+      first_canonical g4.1.piece g4.0 (element_of vs).params params
+          (subst (λ (x : Text). Ends is_blank x) g4.1.whole g3.1.is.1),
     )
 
 -- ---- lists
@@ -141,22 +174,33 @@ no_item_nil p q v e h = let (r, w) = item_begins p q v h in let k = ap length (e
 pub no_item_before : (c : ℕ) (t : Text) → c ≢ 91 → NoFront item (c ∷ t)
 no_item_before c t n p q v e h = let (r, w) = item_begins p q v h in n (heads c 91 t r (e ∙ w))
 
-items_back : (es : List ElementValue) (q : Text) → AllByRecursion IsCanonicalElement es → NoFront item q → IsMany item (joined_elements es) q (map Some es)
+items_back : (es : List ElementValue) (q : Text) → AllByRecursion IsCanonicalElement es → NoFront item q
+    → IsMany item (joined_elements es) q (map Some es)
 items_back [] q h n = (refl, n)
-items_back (e ∷ es) q (canonical, canonicals) n =
-    (element_text e, joined_elements es, refl, element_back e (joined_elements es ++ q) canonical, items_back es q canonicals n)
+items_back (e ∷ es) q (canonical, canonicals) n = (
+  element_text e,
+  joined_elements es,
+  refl,
+  element_back e (joined_elements es ++ q) canonical,
+  items_back es q canonicals n,
+)
 
 -- canonical elements, or none, are read back where no item follows
-pub forgiving_back : (es : List ElementValue) (q : Text) → AllByRecursion IsCanonicalElement es → NoFront item q → forgiving.Is (elements_text es) q es
+pub forgiving_back : (es : List ElementValue) (q : Text) → AllByRecursion IsCanonicalElement es → NoFront item q
+    → forgiving.Is (elements_text es) q es
 forgiving_back [] q h n = inl (refl, refl)
 forgiving_back (e ∷ es) q h n = inr (map Some (e ∷ es), omega arith, items_back (e ∷ es) q h n, strict_some (e ∷ es))
 
-items_canonical : (p q : Text) (vs : List (Option ElementValue)) → IsMany item p q vs → AllByRecursion IsCanonicalElement (strict vs)
+items_canonical : (p q : Text) (vs : List (Option ElementValue)) → IsMany item p q vs
+    → AllByRecursion IsCanonicalElement (strict vs)
 items_canonical p q [] h = tt
 items_canonical p q (None ∷ vs) (a, b, e, h, more) = items_canonical b q vs more
 items_canonical p q (Some v ∷ vs) (a, b, e, h, more) = (element_canonical a (b ++ q) v h, items_canonical b q vs more)
 
 -- what is read as a list is canonical
-pub forgiving_canonical : (p q : Text) (es : List ElementValue) → forgiving.Is p q es → AllByRecursion IsCanonicalElement es
-forgiving_canonical p q es (inl (d, e)) = subst (λ (x : List ElementValue). AllByRecursion IsCanonicalElement x) (sym e) tt
-forgiving_canonical p q es (inr (vs, l, m, e)) = subst (λ (x : List ElementValue). AllByRecursion IsCanonicalElement x) (sym e) (items_canonical p q vs m)
+pub forgiving_canonical : (p q : Text) (es : List ElementValue) → forgiving.Is p q es
+    → AllByRecursion IsCanonicalElement es
+forgiving_canonical p q es (inl (d, e)) =
+    subst (λ (x : List ElementValue). AllByRecursion IsCanonicalElement x) (sym e) tt
+forgiving_canonical p q es (inr (vs, l, m, e)) =
+    subst (λ (x : List ElementValue). AllByRecursion IsCanonicalElement x) (sym e) (items_canonical p q vs m)

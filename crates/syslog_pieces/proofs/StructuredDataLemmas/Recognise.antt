@@ -1,25 +1,33 @@
 -- The steps of the walk over an element.
-use Rattle.std.proofs.Common.{◌≡◌, ◌≢◌, ℕ, ◌<◌, ◌≤◌, true, false, [], ◌∷◌, ◌++◌, length, Result, Ok, Err, refl, sym, ap, subst, ◌∙◌, append_assoc, arith}
+use Rattle.std.proofs.Common.{◌≡◌, ◌≢◌, ℕ, ◌<◌, ◌≤◌, true, false, [], ◌∷◌, ◌++◌, length}
+use Rattle.std.proofs.Common.{Result, Ok, Err, refl, sym, ap, subst, ◌∙◌, append_assoc, arith}
 use Rattle.std.proofs.lemmas.List.{length-append, nil_from_length}
 use Rattle.std.specs.Result.{MatchResult}
 use Rattle.std.specs.Str.{chars}
 use Rattle.syslog_pieces.specs.Text.CharClass.{is_inert_char}
 use Rattle.syslog_pieces.specs.Pieces.Class.{Text, Class, Front, NoFront, IsDeterministic, Values, Row, Each, exactly}
-use Rattle.syslog_pieces.specs.Bodies.Closing.{start_row, start, inside, opening_row, opening, quoted_row, quoted, tail_row, closing, byte_count, IsDead, last_char}
+use Rattle.syslog_pieces.specs.Bodies.Closing.{start_row, start, inside, opening_row, opening, quoted_row}
+use Rattle.syslog_pieces.specs.Bodies.Closing.{quoted, tail_row, closing, byte_count, IsDead, last_char}
 use Rattle.syslog_pieces.specs.StructuredData.Element.{ElementValue}
 use Rattle.syslog_pieces.specs.StructuredData.Escapes.{TextUnit, pair, single, unit_text}
 use Rattle.syslog_pieces.specs.Pieces.Lists.{list_before, more_before}
 use Rattle.syslog_pieces.specs.Bodies.Scan.{SplitsRun}
 use Rattle.syslog_pieces.specs.StructuredData.{IsValueUnit, value, param, element}
-use Rattle.syslog_pieces.proofs.PieceLemmas.Class.{heads, row_nil, row_cons, row_none_here, row_none_later, row_det, exactly_det}
-use Rattle.syslog_pieces.proofs.StructuredDataLemmas.Closing.{behind_bracket, value_closing, no_closing, dead_values, element_starts, list_enters, tail_enters, no_opening, Passes, passes_here, passes_shut, passes_space, passes_quoted, passes_dead, passes_dead_on, start_shut, opening_shut}
+use Rattle.syslog_pieces.proofs.PieceLemmas.Class.{heads, row_nil, row_cons, row_none_here}
+use Rattle.syslog_pieces.proofs.PieceLemmas.Class.{row_none_later, row_det, exactly_det}
+use Rattle.syslog_pieces.proofs.StructuredDataLemmas.Closing.{behind_bracket, value_closing, no_closing}
+use Rattle.syslog_pieces.proofs.StructuredDataLemmas.Closing.{dead_values, element_starts, list_enters, tail_enters}
+use Rattle.syslog_pieces.proofs.StructuredDataLemmas.Closing.{no_opening, Passes, passes_here, passes_shut}
+use Rattle.syslog_pieces.proofs.StructuredDataLemmas.Closing.{passes_space, passes_quoted, passes_dead}
+use Rattle.syslog_pieces.proofs.StructuredDataLemmas.Closing.{passes_dead_on, start_shut, opening_shut}
 use Rattle.syslog_pieces.proofs.StructuredDataLemmas.Elements.{value_det, value_here, unit_goes}
 use Rattle.syslog_pieces.proofs.PieceLemmas.Lists.{begins, list_here, more_here, no_list, no_more, no_more_behind}
 use Rattle.syslog_pieces.proofs.PieceLemmas.Meets.{Meets, meets_here, meets_on, meets_none, row_goes}
 
 -- ---- values
 pub no_value_empty : (t : Text) → t ≡ [] → NoFront value t
-no_value_empty t z p q v e ((us, f, h), (r, g), w) = let a = ap length (sym z ∙ e) in let b = ap length g in omega (arith, length-append p q)
+no_value_empty t z p q v e ((us, f, h), (r, g), w) = let a = ap length (sym z ∙ e) in let b = ap length g in
+    omega (arith, length-append p q)
 
 pub no_value_lone : (t : Text) (c : ℕ) → c ≢ 34 → t ≡ c ∷ [] → NoFront value t
 no_value_lone t c n z p q v e ((us, f, h), (r, g), w) =
@@ -29,11 +37,15 @@ no_value_lone t c n z p q v e ((us, f, h), (r, g), w) =
     n (heads c 34 [] r (sym z ∙ e ∙ ap (λ (x : Text). x ++ q) k ∙ g))
 
 inert_is_unit : (c : ℕ) → is_inert_char c ≡ true → IsValueUnit (single c)
-inert_is_unit c h = (λ e. (let t = ap is_inert_char e in let u : true ≡ false = sym h ∙ t in cc), λ e. (let t = ap is_inert_char e in let u : true ≡ false = sym h ∙ t in cc))
+inert_is_unit c h = (
+  λ e. (let t = ap is_inert_char e in let u : true ≡ false = sym h ∙ t in cc),
+  λ e. (let t = ap is_inert_char e in let u : true ≡ false = sym h ∙ t in cc),
+)
 
 run_goes : (w t : Text) → Each is_inert_char w → Meets value (w ++ t) value t
 run_goes [] t h = meets_here value t
-run_goes (c ∷ w) t h = meets_on value (c ∷ w ++ t) value (w ++ t) value t (unit_goes (single c) (c ∷ w ++ t) (w ++ t) (inert_is_unit c h.0) refl) (run_goes w t h.1)
+run_goes (c ∷ w) t h = meets_on value (c ∷ w ++ t) value (w ++ t) value t
+    (unit_goes (single c) (c ∷ w ++ t) (w ++ t) (inert_is_unit c h.0) refl) (run_goes w t h.1)
 
 unit_ends : (u : TextUnit) → last_char u ≡ 93 → (a : Text) × (unit_text u ≡ a ++ (93 ∷ []))
 unit_ends (pair c) e = (92 ∷ [], ap (λ (x : ℕ). 92 ∷ x ∷ []) e)
@@ -45,9 +57,11 @@ unit_some (single c) = omega arith
 
 module _ (text bs xs ys : Text) (s : SplitsRun is_inert_char bs xs ys) (m : Meets value text value (chars bs)) where
   to_end : Meets value text value (chars ys)
-  to_end = meets_on value text value (chars bs) value (chars ys) m (subst (λ (x : Text). Meets value x value (chars ys)) (sym s.characters) (run_goes (chars xs) (chars ys) s.each))
+  to_end = meets_on value text value (chars bs) value (chars ys) m
+      (subst (λ (x : Text). Meets value x value (chars ys)) (sym s.characters) (run_goes (chars xs) (chars ys) s.each))
 
-  pub value_quoted : (q : Text) → Front (exactly (34 ∷ [])) (chars ys) q tt → (v : Values quoted_row) × Front quoted text q v
+  pub value_quoted : (q : Text) → Front (exactly (34 ∷ [])) (chars ys) q tt → (v : Values quoted_row)
+      × Front quoted text q v
   value_quoted q f =
       let g = to_end.forth (chars ys) [] (value_here (chars ys) q (f.whole ∙ ap (λ (x : Text). x ++ q) f.is)) in
       ((g.0, (tt, tt)), row_cons value (exactly (34 ∷ []) ∷ []) g.1 (row_cons (exactly (34 ∷ [])) [] f (row_nil q)))
@@ -64,11 +78,14 @@ module _ (text bs xs ys : Text) (s : SplitsRun is_inert_char bs xs ys) (m : Meet
     pub text_on : (p : Text) × (text ≡ p ++ chars bs) → (p : Text) × (text ≡ p ++ q)
     text_on (p, w) = (
       p ++ (chars xs ++ unit_text u),
-      w ∙ ap (λ (x : Text). p ++ x) (s.characters ∙ ap (λ (x : Text). chars xs ++ x) e ∙ sym (append_assoc (chars xs) (unit_text u) q)) ∙ sym (append_assoc p (chars xs ++ unit_text u) q),
+      w ∙ ap (λ (x : Text). p ++ x) (s.characters ∙ ap (λ (x : Text). chars xs ++ x) e
+          ∙ sym (append_assoc (chars xs) (unit_text u) q)) ∙ sym (append_assoc p (chars xs ++ unit_text u) q),
     )
 
     pub shorter : length q < length (chars bs)
-    shorter = let k = unit_some u in omega (arith, ap length s.characters, ap length e, length-append (chars xs) (chars ys), length-append (unit_text u) q)
+    shorter = let k = unit_some u in
+        omega
+        (arith, ap length s.characters, ap length e, length-append (chars xs) (chars ys), length-append (unit_text u) q)
 
     module _ (p : Text) (w : text ≡ p ++ chars bs) (l : last_char u ≡ 93) where
       -- the bracket that ends the unit, in the text
@@ -79,7 +96,9 @@ module _ (text bs xs ys : Text) (s : SplitsRun is_inert_char bs xs ys) (m : Meet
       unfolding before
       bracket =
           let a = unit_ends u l in
-          w ∙ ap (λ (x : Text). p ++ x) (s.characters ∙ ap (λ (x : Text). chars xs ++ x) (e ∙ ap (λ (x : Text). x ++ q) a.1 ∙ append_assoc a.0 (93 ∷ []) q) ∙ sym (append_assoc (chars xs) a.0 (93 ∷ q))) ∙ sym (append_assoc p (chars xs ++ a.0) (93 ∷ q))
+          w ∙ ap (λ (x : Text). p ++ x) (s.characters
+          ∙ ap (λ (x : Text). chars xs ++ x) (e ∙ ap (λ (x : Text). x ++ q) a.1 ∙ append_assoc a.0 (93 ∷ []) q)
+          ∙ sym (append_assoc (chars xs) a.0 (93 ∷ q))) ∙ sym (append_assoc p (chars xs ++ a.0) (93 ∷ q))
 
       pub value_dead : (d : ℕ) → IsDead text d → d ≤ byte_count q → NoFront closing text
       value_dead d i k = meets_none closing text closing q (value_closing text q value_on) (i before q bracket k)
@@ -92,50 +111,67 @@ pub quoted_det : IsDeterministic quoted
 quoted_det = row_det quoted_row (value_det, (exactly_det (34 ∷ []), tt))
 
 -- up to the first value of an element
-pub opened_passes : (C : Class) (text params x : Text) (vs : Values start_row) (ws : Values opening_row) → Front start text params vs → Front opening params x ws → Passes C text x
-opened_passes C text params x vs ws f g = passes_shut C opening opening_shut text params x ws (passes_shut C start start_shut text text params vs (passes_here C text) f) g
+pub opened_passes : (C : Class) (text params x : Text) (vs : Values start_row) (ws : Values opening_row)
+    → Front start text params vs → Front opening params x ws → Passes C text x
+opened_passes C text params x vs ws f g = passes_shut C opening opening_shut text params x ws
+    (passes_shut C start start_shut text text params vs (passes_here C text) f) g
 
 module _ (text params : Text) (vs : Values start_row) (f : Front start text params vs) where
   pub element_bare : (q : Text) → Front (exactly (93 ∷ [])) params q tt → (v : ElementValue) × Front element text q v
   element_bare q g = (element_starts text params vs f).forth q ([], (tt, tt))
-      (row_cons (list_before param 32 93) (exactly (93 ∷ []) ∷ []) (list_here param 32 93 params q (begins 93 params q g)) (row_cons (exactly (93 ∷ [])) [] g (row_nil q)))
+      (row_cons (list_before param 32 93) (exactly (93 ∷ []) ∷ [])
+      (list_here param 32 93 params q (begins 93 params q g)) (row_cons (exactly (93 ∷ [])) [] g (row_nil q)))
 
   pub element_unopened : NoFront (exactly (93 ∷ [])) params → NoFront opening params → NoFront element text
   element_unopened n m = meets_none element text inside params (element_starts text params vs f)
-      (row_none_here (list_before param 32 93) (exactly (93 ∷ []) ∷ []) (no_list param 32 93 params n (no_opening params m)))
+      (row_none_here (list_before param 32 93) (exactly (93 ∷ []) ∷ [])
+      (no_list param 32 93 params n (no_opening params m)))
 
-  pub element_enters : (x : Text) (ws : Values opening_row) → NoFront (exactly (93 ∷ [])) params → Front opening params x ws → Passes element text x × Meets element text closing x
+  pub element_enters : (x : Text) (ws : Values opening_row) → NoFront (exactly (93 ∷ [])) params
+      → Front opening params x ws → Passes element text x × Meets element text closing x
   element_enters x ws n g = (
     opened_passes element text params x vs ws f g,
     meets_on element text inside params closing x (element_starts text params vs f) (list_enters params x ws n g),
   )
 
 -- from inside a value, in a class whose pieces go on from there
-module _ (C : Class) (text x y : Text) (p : Passes C text x) (m : Meets C text closing x) (vs : Values quoted_row) (f : Front quoted x y vs) where
+module _ (C : Class) (text x y : Text) (p : Passes C text x) (m : Meets C text closing x) (vs : Values quoted_row)
+    (f : Front quoted x y vs) where
   pub value_ends : (q : Text) → Front (exactly (93 ∷ [])) y q tt → (v : C.Value) × Front C text q v
   value_ends q g = m.forth q (vs, ([], (tt, tt)))
-      (row_cons quoted tail_row f (row_cons (more_before param 32 93) (exactly (93 ∷ []) ∷ []) (more_here param 32 93 y q (begins 93 y q g)) (row_cons (exactly (93 ∷ [])) [] g (row_nil q))))
+      (row_cons quoted tail_row f (row_cons (more_before param 32 93) (exactly (93 ∷ []) ∷ [])
+      (more_here param 32 93 y q (begins 93 y q g)) (row_cons (exactly (93 ∷ [])) [] g (row_nil q))))
 
   fails : NoFront (more_before param 32 93) y → (d : ℕ) → d ≡ byte_count y → NoFront C text × IsDead text d
   fails n d e =
-      let k = meets_none C text closing x m (row_none_later quoted tail_row quoted_det f (row_none_here (more_before param 32 93) (exactly (93 ∷ []) ∷ []) n)) in
+      let k = meets_none C text closing x m
+      (row_none_later quoted tail_row quoted_det f
+      (row_none_here (more_before param 32 93) (exactly (93 ∷ []) ∷ []) n)) in
       (k, passes_dead C text y d e (passes_quoted C text x y vs p m f) k)
 
-  pub value_breaks : NoFront (exactly (93 ∷ [])) y → NoFront (exactly (32 ∷ [])) y → (d : ℕ) → d ≡ byte_count y → NoFront C text × IsDead text d
+  pub value_breaks : NoFront (exactly (93 ∷ [])) y → NoFront (exactly (32 ∷ [])) y → (d : ℕ) → d ≡ byte_count y
+      → NoFront C text × IsDead text d
   value_breaks a b = fails (no_more param 32 93 y a b)
 
-  pub value_breaks_on : (z : Text) → NoFront (exactly (93 ∷ [])) y → Front (exactly (32 ∷ [])) y z tt → NoFront opening z → (d : ℕ) → d ≡ byte_count y → NoFront C text × IsDead text d
+  pub value_breaks_on : (z : Text) → NoFront (exactly (93 ∷ [])) y → Front (exactly (32 ∷ [])) y z tt
+      → NoFront opening z → (d : ℕ) → d ≡ byte_count y → NoFront C text × IsDead text d
   value_breaks_on z a g n = fails (no_more_behind param 32 93 y z a (begins 32 y z g) (no_opening z n))
 
-  pub value_goes : (z r : Text) (ws : Values opening_row) → Front (exactly (32 ∷ [])) y z tt → Front opening z r ws → Passes C text r × Meets C text closing r
+  pub value_goes : (z r : Text) (ws : Values opening_row) → Front (exactly (32 ∷ [])) y z tt → Front opening z r ws
+      → Passes C text r × Meets C text closing r
   value_goes z r ws g o = (
-    passes_shut C opening opening_shut text z r ws (passes_space C text y z (passes_quoted C text x y vs p m f) (begins 32 y z g)) o,
-    meets_on C text closing x closing r m (meets_on closing x (Row tail_row) y closing r (row_goes quoted tail_row quoted_det x y vs f) (tail_enters y z r ws (begins 32 y z g) o)),
+    passes_shut C opening opening_shut text z r ws
+        (passes_space C text y z (passes_quoted C text x y vs p m f) (begins 32 y z g)) o,
+    meets_on C text closing x closing r m
+        (meets_on closing x (Row tail_row) y closing r (row_goes quoted tail_row quoted_det x y vs f)
+        (tail_enters y z r ws (begins 32 y z g) o)),
   )
 
 -- what the scan from inside a value answers, of the text whose element it is in
-pub closing_answers : {X : Type 0} (C : Class) (text x : Text) → Passes C text x → Meets C text closing x → (to : X → Text) (r : Result X ℕ)
+pub closing_answers : {X : Type 0} (C : Class) (text x : Text) → Passes C text x → Meets C text closing x
+    → (to : X → Text) (r : Result X ℕ)
     → MatchResult r (λ q. (v : closing.Value) × Front closing x (to q) v) (λ d. NoFront closing x × IsDead x d)
     → MatchResult r (λ q. (v : C.Value) × Front C text (to q) v) (λ d. NoFront C text × IsDead text d)
 closing_answers C text x p m to (Ok q) (v, f) = m.forth (to q) v f
-closing_answers C text x p m to (Err d) (n, i) = let k = meets_none C text closing x m n in (k, passes_dead_on C text x d p k i)
+closing_answers C text x p m to (Err d) (n, i) = let k = meets_none C text closing x m n in
+    (k, passes_dead_on C text x d p k i)

@@ -1,5 +1,6 @@
 -- What the tests of canonical texts answer.
-use Rattle.std.proofs.Common.{◌≡◌, ℕ, ◌<◌, inl, inr, Bool, true, false, nat_eq, List, [], ◌∷◌, ◌++◌, length, Option, Some, None, refl, sym, ap, subst, ◌∙◌, arith, append-nil}
+use Rattle.std.proofs.Common.{◌≡◌, ℕ, ◌<◌, inl, inr, Bool, true, false, nat_eq, List, [], ◌∷◌, ◌++◌}
+use Rattle.std.proofs.Common.{length, Option, Some, None, refl, sym, ap, subst, ◌∙◌, arith, append-nil}
 use Rattle.std.specs.Prelude.{◌↔◌, IsTrue}
 use Rattle.std.specs.Borrow.{Bor}
 use Rattle.std.specs.Str.{chars, IsUtf8}
@@ -39,7 +40,8 @@ module _ (test : ℕ → Bool) (bs xs ys : List ℕ) (s : SplitsRun test bs xs y
   pub only_told : IsTrue b ↔ (chars ys ≡ []) → IsTrue b ↔ Each test (chars bs)
   only_told e = (
     (λ h. whole_run test (chars bs) (chars xs) (chars ys) s.characters s.each (e.0 h)),
-    (λ h. e.1 (let same = run_same test (chars xs) (chars ys) (chars bs) [] (sym s.characters ∙ sym (append-nil (chars bs))) s.each s.ends h tt in
+    (λ h. e.1 (let same = run_same test (chars xs) (chars ys) (chars bs) []
+        (sym s.characters ∙ sym (append-nil (chars bs))) s.each s.ends h tt in
         rest_same (chars xs) (chars ys) (chars bs) [] (sym s.characters ∙ sym (append-nil (chars bs))) same)),
   )
 
@@ -76,7 +78,8 @@ some_char (c ∷ t) n = omega arith
 
 -- ---- readers that take the whole of a text
 
-module _ (Is : Text → Text → Option Text → Type 0) (d : IsDeterministic (record { Value = Option Text; Is = Is })) (P : Text → Type 0) (t : Text)
+module _ (Is : Text → Text → Option Text → Type 0) (d : IsDeterministic (record { Value = Option Text; Is = Is }))
+    (P : Text → Type 0) (t : Text)
     (to : (p : Text) (v : Text) → Is p [] (Some v) → P p) (from : P t → Is t [] (Some t)) where
   abbrev C : Class
   C = record { Value = Option Text; Is = Is }
@@ -87,18 +90,22 @@ module _ (Is : Text → Text → Option Text → Type 0) (d : IsDeterministic (r
   pub unread_told : NoFront C t → IsTrue false ↔ P t
   unread_told n = false_is (λ h. no_front_no C n (known h))
 
-  pub absent_told : (q : Text) (name : Option (Bor (List ℕ))) → name ≡ None → Front C t q (seen name) → IsTrue false ↔ P t
+  pub absent_told : (q : Text) (name : Option (Bor (List ℕ))) → name ≡ None → Front C t q (seen name) → IsTrue false
+      ↔ P t
   absent_told q name e f = false_is (λ h.
       let g : Front C t q None = subst (λ (x : Option (Bor (List ℕ))). Front C t q (seen x)) e f in
       let r : None ≡ Some t = (front_same C d g (known h)).1 in cc)
 
-  pub present_told : (q : Text) (name : Option (Bor (List ℕ))) (x : Bor (List ℕ)) (b : Bool) → name ≡ Some x → Front C t q (seen name) → IsTrue b ↔ (q ≡ []) → IsTrue b ↔ P t
+  pub present_told : (q : Text) (name : Option (Bor (List ℕ))) (x : Bor (List ℕ)) (b : Bool) → name ≡ Some x
+      → Front C t q (seen name) → IsTrue b ↔ (q ≡ []) → IsTrue b ↔ P t
   present_told q name x b e f g =
-      let front : Front C t q (Some (chars x.now)) = subst (λ (y : Option (Bor (List ℕ))). Front C t q (seen y)) e f in (
+      let front : Front C t q (Some (chars x.now)) =
+      subst (λ (y : Option (Bor (List ℕ))). Front C t q (seen y)) e f in (
         (λ h.
             let z = g.0 h in
             let same : t ≡ front.piece = front.whole ∙ ap (λ (y : Text). front.piece ++ y) z ∙ append-nil front.piece in
-            subst P (sym same) (to front.piece (chars x.now) (subst (λ (y : Text). Is front.piece y (Some (chars x.now))) z front.is))),
+            subst P (sym same) (to front.piece (chars x.now)
+            (subst (λ (y : Text). Is front.piece y (Some (chars x.now))) z front.is))),
         (λ h. g.1 (front_same C d front (known h)).0),
       )
 
@@ -111,7 +118,8 @@ host_whole p v h = subst (λ (x : Text). IsCanonicalHost x) (same h) (host_canon
     same (long, visible, inr (r, z, e, s)) = absurd (let k = ap length z in omega arith)
 
 pub word_whole : (p v : Text) → word.Is p [] (Some v) → IsCanonicalWord p
-word_whole p v h = let (long, visible, e, no_colon, (same, no_dash)) = h in subst (λ (x : Text). IsCanonicalWord x) same (word_canonical p [] (Some v) h)
+word_whole p v h = let (long, visible, e, no_colon, (same, no_dash)) = h in
+    subst (λ (x : Text). IsCanonicalWord x) same (word_canonical p [] (Some v) h)
 
 pub tag_back : (t : Text) → IsCanonicalTag t → tag_word.Is t [] (Some t)
 tag_back t (long, each, no_dash) = (long, each, tt, (refl, no_dash))

@@ -1,10 +1,13 @@
 -- From the bytes of a text to its characters.
-use Rattle.std.proofs.Common.{◌≡◌, ◌≢◌, ℕ, ◌<◌, Bool, true, false, not, nat_eq, List, [], ◌∷◌, ◌++◌, length, take, drop, Some, None, inl, inr, refl, sym, ap, subst, ◌∙◌, arith}
+use Rattle.std.proofs.Common.{◌≡◌, ◌≢◌, ℕ, ◌<◌, Bool, true, false, not, nat_eq, List, [], ◌∷◌, ◌++◌}
+use Rattle.std.proofs.Common.{length, take, drop, Some, None, inl, inr, refl, sym, ap, subst, ◌∙◌, arith}
 use Rattle.std.proofs.lemmas.List.{take-append-drop, take_all, drop_all}
 use Rattle.std.proofs.lemmas.Bool.{eqb-true}
 use Rattle.std.proofs.lemmas.Bool.Decides.{nat_tests, eqb_tells}
 use Rattle.std.proofs.lemmas.Slice.Eq.{bytes_eq-Decides}
-use Rattle.std.proofs.lemmas.Str.{chars_from_encodes, chars_past_char, chars-append, chars-nil, encodes-chars, encodes-IsAscii, chars-IsAscii, IsUtf8-take, IsUtf8-drop, IsUtf8-nil, IsUtf8-from_ascii}
+use Rattle.std.proofs.lemmas.Str.{chars_from_encodes, chars_past_char, chars-append}
+use Rattle.std.proofs.lemmas.Str.{chars-nil, encodes-chars, encodes-IsAscii, chars-IsAscii}
+use Rattle.std.proofs.lemmas.Str.{IsUtf8-take, IsUtf8-drop, IsUtf8-nil, IsUtf8-from_ascii}
 use Rattle.std.proofs.lemmas.Str.Ascii.{IsAscii-nil, IsAscii-cons}
 use Rattle.std.specs.Char.{encode_utf8, is_ascii_digit}
 use Rattle.std.specs.Str.{chars, IsUtf8, IsAscii, NoCharPasses, NonePass, IsCharBoundary, encode_utf8_all, bytes_eq}
@@ -46,7 +49,11 @@ pub empty_is : (n : ℕ) → true ≡ nat_eq n 0 → n ≡ 0
 empty_is n h = eqb-true n 0 (sym h)
 
 pub nonempty_is : (n : ℕ) → false ≡ nat_eq n 0 → 0 < n
-nonempty_is n h = elim (eqb_tells n 0) [ inl r ↦ absurd (let t : true ≡ false = sym r.0 ∙ sym h in cc) | inr r ↦ (let t = r.1 in omega arith) ]
+nonempty_is n h = elim (eqb_tells n 0) [
+  | inl r ↦ absurd (let t : true ≡ false = sym r.0 ∙ sym h in cc)
+  | inr r ↦
+      (let t = r.1 in omega arith)
+]
 
 pub text_is : (bs : List ℕ) (w : Text) → IsAscii w → true ≡ bytes_eq bs w → chars bs ≡ w
 text_is bs w a h = ap chars ((bytes_eq-Decides bs w).0 (sym h)) ∙ chars-IsAscii w a
@@ -86,12 +93,16 @@ each_from_none test [] n = tt
 each_from_none test (c ∷ cs) n = (from_not_false (test c) n.0, each_from_none test cs n.1)
 
 each_of_text : (test : ℕ → Bool) (bs : List ℕ) → IsUtf8 bs → NoCharPasses (λ c. not (test c)) bs → Each test (chars bs)
-each_of_text test bs u (cs, e, n) = subst (λ (x : Text). Each test x) (chars_from_encodes cs bs u e) (each_from_none test cs n)
+each_of_text test bs u (cs, e, n) =
+    subst (λ (x : Text). Each test x) (chars_from_encodes cs bs u e) (each_from_none test cs n)
 
-ends_of_text : (test : ℕ → Bool) (bs more : List ℕ) (c : ℕ) → IsUtf8 bs → bs ≡ encode_utf8 c ++ more → not (test c) ≡ true → Ends test (chars bs)
-ends_of_text test bs more c u e n = subst (λ (x : Text). Ends test x) (sym (chars_past_char bs more c u e)) (from_not_true (test c) n)
+ends_of_text : (test : ℕ → Bool) (bs more : List ℕ) (c : ℕ) → IsUtf8 bs → bs ≡ encode_utf8 c ++ more
+    → not (test c) ≡ true → Ends test (chars bs)
+ends_of_text test bs more c u e n =
+    subst (λ (x : Text). Ends test x) (sym (chars_past_char bs more c u e)) (from_not_true (test c) n)
 
-pub found_run : (test : ℕ → Bool) (bs xs ys : List ℕ) (i j : ℕ) → IsUtf8 bs → IsCharBoundary bs i → FindsBy (λ c. not (test c)) bs (Some (i, j)) → xs ≡ take i bs → ys ≡ drop i bs → SplitsRun test bs xs ys
+pub found_run : (test : ℕ → Bool) (bs xs ys : List ℕ) (i j : ℕ) → IsUtf8 bs → IsCharBoundary bs i
+    → FindsBy (λ c. not (test c)) bs (Some (i, j)) → xs ≡ take i bs → ys ≡ drop i bs → SplitsRun test bs xs ys
 found_run test bs xs ys i j u b (none, (c, pass, at)) e f =
     let w = cut_at bs xs ys i e f in
     let ux : IsUtf8 xs = subst IsUtf8 (sym e) (IsUtf8-take bs i u b) in
@@ -105,7 +116,8 @@ found_run test bs xs ys i j u b (none, (c, pass, at)) e f =
       back_utf8 = uy;
     }
 
-pub found_none : (test : ℕ → Bool) (bs xs ys : List ℕ) → IsUtf8 bs → FindsBy (λ c. not (test c)) bs None → xs ≡ take (length bs) bs → ys ≡ drop (length bs) bs → SplitsRun test bs xs ys
+pub found_none : (test : ℕ → Bool) (bs xs ys : List ℕ) → IsUtf8 bs → FindsBy (λ c. not (test c)) bs None
+    → xs ≡ take (length bs) bs → ys ≡ drop (length bs) bs → SplitsRun test bs xs ys
 found_none test bs xs ys u none e f =
     let w = cut_at bs xs ys (length bs) e f in
     let ex : xs ≡ bs = e ∙ take_all (length bs) bs (omega arith) in

@@ -12,7 +12,8 @@ module _ (t r : List ℕ) (u : IsUtf8 t) (z : IsUtf8 r) (p : Text) (whole : char
 
   bytes : t ≡ front_bytes ++ r
   unfolding front_bytes
-  bytes = sym (encodes-chars t u) ∙ ap encode_utf8_all whole ∙ encodes-append p (chars r) ∙ ap (λ (x : List ℕ). encode_utf8_all p ++ x) (encodes-chars r z)
+  bytes = sym (encodes-chars t u) ∙ ap encode_utf8_all whole ∙ encodes-append p (chars r)
+      ∙ ap (λ (x : List ℕ). encode_utf8_all p ++ x) (encodes-chars r z)
 
   pub rest_shorter : length r ≤ length t
   rest_shorter = omega (arith, ap length bytes, length-append front_bytes r)
@@ -28,5 +29,6 @@ module _ (t r : List ℕ) (u : IsUtf8 t) (z : IsUtf8 r) (p : Text) (whole : char
   pub front_chars : (xs : List ℕ) → xs ≡ take (length t - length r) t → chars t ≡ chars xs ++ chars r
   front_chars xs e =
       let utf8 : IsUtf8 xs = subst IsUtf8 (sym e) (IsUtf8-take t (length t - length r) u front_cut) in
-      let same : xs ≡ front_bytes = e ∙ ap (λ (y : List ℕ). take (length t - length r) y) bytes ∙ take_at front_bytes r (length t - length r) place in
+      let same : xs ≡ front_bytes = e ∙ ap (λ (y : List ℕ). take (length t - length r) y) bytes
+      ∙ take_at front_bytes r (length t - length r) place in
       chars_cut t xs r (bytes ∙ ap (λ (y : List ℕ). y ++ r) (sym same)) utf8

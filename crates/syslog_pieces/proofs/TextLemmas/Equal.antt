@@ -11,5 +11,7 @@ same_bytes x y u v e = sym (encodes-chars x u) ∙ ap (λ (t : List ℕ). encode
 
 pub text_eq-chars : (x y : List ℕ) → IsUtf8 x → IsUtf8 y → pointwise nat_eq x y ≡ text_eq (chars x) (chars y)
 text_eq-chars x y u v =
-    one_answer _ _ (bytes_decides x y)
-    (λ e. same_bytes x y u v ((bytes_decides (chars x) (chars y)).0 e), λ e. (bytes_decides (chars x) (chars y)).1 (ap (λ (t : List ℕ). chars t) e))
+    one_answer _ _ (bytes_decides x y) (
+      λ e. same_bytes x y u v ((bytes_decides (chars x) (chars y)).0 e),
+      λ e. (bytes_decides (chars x) (chars y)).1 (ap (λ (t : List ℕ). chars t) e),
+    )

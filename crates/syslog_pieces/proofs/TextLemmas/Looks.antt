@@ -1,5 +1,6 @@
 -- What the first bytes of a text tell of its characters.
-use Rattle.std.proofs.Common.{◌≡◌, ◌≢◌, ℕ, suc, ◌+◌, ◌-◌, ◌<◌, ◌≤◌, false, List, [], ◌∷◌, ◌++◌, length, drop, get_or, None, refl, sym, ap, subst, ◌∙◌, arith, true}
+use Rattle.std.proofs.Common.{◌≡◌, ◌≢◌, ℕ, suc, ◌+◌, ◌-◌, ◌<◌, ◌≤◌, false, List, [], ◌∷◌, ◌++◌}
+use Rattle.std.proofs.Common.{length, drop, get_or, None, refl, sym, ap, subst, ◌∙◌, arith, true}
 use Rattle.std.proofs.lemmas.Bool.Decides.{nat_tests}
 use Rattle.std.proofs.lemmas.List.{length-append, drop_at}
 use Rattle.std.proofs.lemmas.Str.{encode_ascii, IsUtf8-past_char, IsCharBoundary-at_seam}
@@ -52,7 +53,8 @@ module _ (b : ℕ) (bs : List ℕ) (low : b < 128) (u : IsUtf8 bs) (e : bs ≡ b
   pub one_front : (ys : List ℕ) → ys ≡ drop 1 bs → Front (exactly (b ∷ [])) (chars bs) (chars ys) tt
   one_front ys f = record { piece = b ∷ []; whole = one_chars ys f; is = refl }
 
-pub no_one_front : (b : ℕ) (bs : List ℕ) → b < 128 → IsUtf8 bs → ((more : List ℕ) → bs ≢ b ∷ more) → NoFront (exactly (b ∷ [])) (chars bs)
+pub no_one_front : (b : ℕ) (bs : List ℕ) → b < 128 → IsUtf8 bs → ((more : List ℕ) → bs ≢ b ∷ more)
+    → NoFront (exactly (b ∷ [])) (chars bs)
 no_one_front b bs low u n =
     no_literal b bs u (λ more e. n more (e ∙ ap (λ (x : List ℕ). x ++ more) (encode_ascii b low)))
 
@@ -123,11 +125,13 @@ module _ (bs : List ℕ) (u : IsUtf8 bs) (g : BeginsWithNil bs) where
   pub nil_front : (ys : List ℕ) → ys ≡ drop 1 bs → Front word (chars bs) (chars ys) None
   nil_front ys f =
       let e : ys ≡ 32 ∷ drop 2 bs = f ∙ second_first bs g.0 ∙ ap (λ (x : ℕ). x ∷ drop 2 bs) g.2 in
-      let behind : chars ys ≡ 32 ∷ chars (drop 2 bs) = ascii_front (32 ∷ []) (drop 2 bs) ys (one_ascii 32 (omega arith)) e in
+      let behind : chars ys ≡ 32 ∷ chars (drop 2 bs) =
+      ascii_front (32 ∷ []) (drop 2 bs) ys (one_ascii 32 (omega arith)) e in
       record {
         piece = 45 ∷ [];
         whole = one_chars 45 bs (omega arith) u dash_first ys f;
-        is = (omega arith, (refl, tt), subst (λ (x : Text). Ends is_not_whitespace x) (sym behind) refl, no_colon, refl);
+        is =
+            (omega arith, (refl, tt), subst (λ (x : Text). Ends is_not_whitespace x) (sym behind) refl, no_colon, refl);
       }
     where
       no_colon : dash ≡ colon → ⊥
@@ -149,7 +153,8 @@ module _ (bs : List ℕ) (value limit : ℕ) (u : IsUtf8 bs) (g : BeginsWithDigi
       let next = get_or bs 1 0 in
       let small : next < 128 = (let h = g.3 in omega arith) in
       let e : ys ≡ next ∷ drop 2 bs = f ∙ second_first bs g.0 in
-      let behind : chars ys ≡ next ∷ chars (drop 2 bs) = ascii_front (next ∷ []) (drop 2 bs) ys (one_ascii next small) e in
+      let behind : chars ys ≡ next ∷ chars (drop 2 bs) =
+      ascii_front (next ∷ []) (drop 2 bs) ys (one_ascii next small) e in
       let d = digit_is value g.1 in
       record {
         piece = (48 + value) ∷ [];

@@ -1,5 +1,6 @@
 -- Printed texts, and the bytes that are written of them.
-use Rattle.std.proofs.Common.{◌≡◌, ℕ, ◌+◌, ◌<◌, List, [], ◌∷◌, ◌++◌, length, get_or, take, sym, ap, ◌∙◌, append_assoc, append-nil, refl, map}
+use Rattle.std.proofs.Common.{◌≡◌, ℕ, ◌+◌, ◌<◌, List, [], ◌∷◌, ◌++◌, length, get_or}
+use Rattle.std.proofs.Common.{take, sym, ap, ◌∙◌, append_assoc, append-nil, refl, map}
 use Rattle.std.proofs.lemmas.List.{take_more}
 use Rattle.std.proofs.lemmas.List.Concat.{flat_map-append}
 use Rattle.std.proofs.lemmas.Str.{encodes-append, encodes-chars}
@@ -14,12 +15,14 @@ pub encodes_shown : (bytes source : List ℕ) → IsUtf8 bytes → bytes ≡ sou
 encodes_shown bytes source u e = ap (λ (x : List ℕ). encode_utf8_all (chars x)) (sym e) ∙ encodes-chars bytes u
 
 -- one more item of a list whose texts are printed one after the other
-pub encodes_step : {X : Type 0} (f : X → Text) (head : Text) (xs : List X) (i : ℕ) (x : X) (bytes : List ℕ) → i < length xs → x ≡ get_or xs i x → encode_utf8_all (f x) ≡ bytes
+pub encodes_step : {X : Type 0} (f : X → Text) (head : Text) (xs : List X) (i : ℕ) (x : X) (bytes : List ℕ)
+    → i < length xs → x ≡ get_or xs i x → encode_utf8_all (f x) ≡ bytes
     → encode_utf8_all (head ++ flat_map f (take i xs)) ++ bytes ≡ encode_utf8_all (head ++ flat_map f (take (i + 1) xs))
 encodes_step f head xs i x bytes h at e =
     let before = flat_map f (take i xs) in
     let more : flat_map f (take (i + 1) xs) ≡ before ++ f x =
-    ap (flat_map f) (take_more xs i x h) ∙ flat_map-append f (take i xs) (get_or xs i x ∷ []) ∙ ap (λ (z : Text). before ++ z) (append-nil (f (get_or xs i x)) ∙ ap f (sym at)) in
+    ap (flat_map f) (take_more xs i x h) ∙ flat_map-append f (take i xs) (get_or xs i x ∷ [])
+    ∙ ap (λ (z : Text). before ++ z) (append-nil (f (get_or xs i x)) ∙ ap f (sym at)) in
     ap (λ (b : List ℕ). encode_utf8_all (head ++ before) ++ b) (sym e) ∙ sym (encodes-append (head ++ before) (f x))
     ∙ ap encode_utf8_all (append_assoc head before (f x) ∙ ap (λ (z : Text). head ++ z) (sym more))
 
@@ -38,10 +41,12 @@ unfolding encode_utf8
 encodes_opening id i e = ap (λ (x : List ℕ). 91 ∷ x) (ap encode_utf8_all (append-nil id) ∙ e)
 
 -- and those of a text and `]`
-pub encodes_closed : (text : Text) (all : Text) → all ≡ text ++ (93 ∷ []) → encode_utf8_all text ++ (93 ∷ []) ≡ encode_utf8_all all
+pub encodes_closed : (text : Text) (all : Text) → all ≡ text ++ (93 ∷ [])
+    → encode_utf8_all text ++ (93 ∷ []) ≡ encode_utf8_all all
 unfolding encode_utf8
 encodes_closed text all e = sym (encodes-append text (93 ∷ [])) ∙ ap encode_utf8_all (sym e)
 
-pub flat_map-map : {X Y : Type 0} (f : Y → Text) (g : X → Y) (xs : List X) → flat_map f (map g xs) ≡ flat_map (λ x. f (g x)) xs
+pub flat_map-map : {X Y : Type 0} (f : Y → Text) (g : X → Y) (xs : List X)
+    → flat_map f (map g xs) ≡ flat_map (λ x. f (g x)) xs
 flat_map-map f g [] = refl
 flat_map-map f g (x ∷ xs) = ap (λ (t : Text). f (g x) ++ t) (flat_map-map f g xs)

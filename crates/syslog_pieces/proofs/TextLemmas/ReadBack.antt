@@ -1,5 +1,6 @@
 -- Numbers, words and hosts are read back from their printed text, and what is read is canonical.
-use Rattle.std.proofs.Common.{◌≡◌, ℕ, ◌<◌, ◌≤◌, ◌^◌, inl, inr, true, false, nat_eq, [], ◌∷◌, ◌++◌, length, get_or, Option, Some, None, IfSome, refl, sym, ap, subst, ◌∙◌, arith}
+use Rattle.std.proofs.Common.{◌≡◌, ℕ, ◌<◌, ◌≤◌, ◌^◌, inl, inr, true, false, nat_eq, [], ◌∷◌, ◌++◌, length}
+use Rattle.std.proofs.Common.{get_or, Option, Some, None, IfSome, refl, sym, ap, subst, ◌∙◌, arith}
 use Rattle.std.proofs.lemmas.List.{length-append}
 use Rattle.std.proofs.lemmas.Bool.Decides.{nat_tests, eqb_tells}
 use Rattle.std.proofs.lemmas.Fmt.{decimal_nonempty, digits_decimal, digits_value-decimal}
@@ -16,7 +17,8 @@ pub decimal_digits : (n : ℕ) → n < 2 ^ 64 → (0 < length (decimal n)) × Ea
 decimal_digits n h = (decimal_nonempty n h, digits_decimal own n h)
 
 -- a number is read back before what begins with no digit
-pub number_back : (n limit : ℕ) (q : Text) → n ≤ limit → limit < 2 ^ 64 → Ends is_ascii_digit q → (number limit).Is (decimal n) q n
+pub number_back : (n limit : ℕ) (q : Text) → n ≤ limit → limit < 2 ^ 64 → Ends is_ascii_digit q
+    → (number limit).Is (decimal n) q n
 number_back n limit q l b z =
     let small : n < 2 ^ 64 = omega arith in
     let (long, digits) = decimal_digits n small in
@@ -43,7 +45,8 @@ pub dash_visible : IsVisible dash
 dash_visible = (omega arith, (refl, tt))
 
 -- a canonical word, or none, is read back before the end or white space
-pub word_back : (v : Option Text) (q : Text) → IfSome v IsCanonicalWord → Ends is_not_whitespace q → word.Is (name_text v) q v
+pub word_back : (v : Option Text) (q : Text) → IfSome v IsCanonicalWord → Ends is_not_whitespace q
+    → word.Is (name_text v) q v
 word_back None q h e = (dash_visible.0, dash_visible.1, e, dash_no_colon, refl)
 word_back (Some t) q ((long, visible), no_dash, no_colon) e = (long, visible, e, no_colon, (refl, no_dash))
 
@@ -56,7 +59,8 @@ word_canonical p q (Some t) (long, visible, e, no_colon, (same, no_dash)) =
 -- ---- hosts
 
 -- a canonical host, or none, is read back before the end or white space
-pub host_back : (v : Option Text) (q : Text) → IfSome v IsCanonicalHost → Ends is_not_whitespace q → IsHost (name_text v) q v
+pub host_back : (v : Option Text) (q : Text) → IfSome v IsCanonicalHost → Ends is_not_whitespace q
+    → IsHost (name_text v) q v
 host_back None q h e = (dash_visible.0, dash_visible.1, inl (dash_ends_not, e, refl))
 host_back (Some t) q ((long, visible), no_dash, no_end) e = (long, visible, inl (no_end, e, (refl, no_dash)))
 

@@ -1,9 +1,13 @@
 -- Runs: of bytes, and of the characters that they are.
-use Rattle.std.proofs.Common.{◌≡◌, ◌≤◌, ◌<◌, ◌+◌, ℕ, zero, suc, Bool, true, false, not, ◌&&◌, nat_lt, List, [], ◌∷◌, ◌++◌, length, get_or, take, drop, refl, sym, ap, subst, ◌∙◌, inl, inr, arith, length-take, get_or-take}
+use Rattle.std.proofs.Common.{◌≡◌, ◌≤◌, ◌<◌, ◌+◌, ℕ, zero, suc, Bool, true, false, not, ◌&&◌}
+use Rattle.std.proofs.Common.{nat_lt, List, [], ◌∷◌, ◌++◌, length, get_or, take, drop, refl}
+use Rattle.std.proofs.Common.{sym, ap, subst, ◌∙◌, inl, inr, arith, length-take, get_or-take}
 use Rattle.std.proofs.Math.Seq.{take-add}
 use Rattle.std.proofs.lemmas.List.{drop_more, drop_all, drop-drop, take-append-drop}
 use Rattle.std.proofs.lemmas.Bool.{cases_Bool, cases_lt, and_parts, ltb-true, lt-ltb}
-use Rattle.std.proofs.lemmas.Str.{chars-append, chars-nil, chars-IsAscii, chars_past_char, encode_ascii, encodes-chars, IsCharBoundary-start, IsCharBoundary-from_drop, IsCharBoundary-from_rest, IsUtf8-take, IsUtf8-drop, IsUtf8-past_char}
+use Rattle.std.proofs.lemmas.Str.{chars-append, chars-nil, chars-IsAscii, chars_past_char, encode_ascii}
+use Rattle.std.proofs.lemmas.Str.{encodes-chars, IsCharBoundary-start, IsCharBoundary-from_drop}
+use Rattle.std.proofs.lemmas.Str.{IsCharBoundary-from_rest, IsUtf8-take, IsUtf8-drop, IsUtf8-past_char}
 use Rattle.std.specs.Str.{chars, encode_utf8_all, IsUtf8, IsAscii, IsCharBoundary}
 use Rattle.std.specs.Char.{encode_utf8}
 use Rattle.syslog_pieces.specs.Pieces.Class.{Text, Front, NoFront, Each, Ends, run, some_run}
@@ -39,7 +43,8 @@ module _ (h : ℕ → Bool) (bs xs ys : List ℕ) (n : ℕ) (u : IsUtf8 bs) (r :
 
   place : (k : ℕ) → k < length xs → (get_or xs k 0 < 128) × (h (get_or xs k 0) ≡ true)
   place k lt =
-      let at : get_or xs k 0 ≡ get_or bs k 0 = ap (λ (l : List ℕ). get_or l k 0) front ∙ get_or-take n bs k 0 (omega (arith, long)) in
+      let at : get_or xs k 0 ≡ get_or bs k 0 = ap (λ (l : List ℕ). get_or l k 0) front
+      ∙ get_or-take n bs k 0 (omega (arith, long)) in
       subst (λ (b : ℕ). (b < 128) × (h b ≡ true)) (sym at) (below_of _ _ (r.pass k (omega (arith, long))))
 
   is_ascii : IsAscii xs
@@ -70,8 +75,10 @@ module _ (h : ℕ → Bool) (bs xs ys : List ℕ) (n : ℕ) (u : IsUtf8 bs) (r :
   pub ends_at_ascii : n < length bs → get_or bs n 0 < 128 → IsUtf8 ys → Ends h (chars ys)
   ends_at_ascii inside low uy =
       let b = get_or bs n 0 in
-      let e : ys ≡ encode_utf8 b ++ drop (n + 1) bs = back ∙ drop_more bs n 0 inside ∙ ap (λ (l : List ℕ). l ++ drop (n + 1) bs) (sym (encode_ascii b low)) in
-      subst (λ (l : List ℕ). Ends h l) (sym (chars_past_char ys (drop (n + 1) bs) b uy e)) (past_of b (h b) (r.stops inside) low)
+      let e : ys ≡ encode_utf8 b ++ drop (n + 1) bs = back ∙ drop_more bs n 0 inside
+      ∙ ap (λ (l : List ℕ). l ++ drop (n + 1) bs) (sym (encode_ascii b low)) in
+      subst (λ (l : List ℕ). Ends h l) (sym (chars_past_char ys (drop (n + 1) bs) b uy e))
+      (past_of b (h b) (r.stops inside) low)
 
   boundary_of : (n < length bs → get_or bs n 0 < 128) → IsCharBoundary bs n
   boundary_of low = (r.within, λ inside high. absurd (omega (arith, low inside)))
@@ -80,14 +87,20 @@ module _ (h : ℕ → Bool) (bs xs ys : List ℕ) (n : ℕ) (u : IsUtf8 bs) (r :
   ascii_split low =
       let boundary = boundary_of low in
       let uy : IsUtf8 ys = subst IsUtf8 (sym back) (IsUtf8-drop bs n u boundary) in
-      ascii_splits boundary (elim (cases_lt n (length bs)) [ inl inside ↦ ends_at_ascii inside (low inside) uy | inr past ↦ ends_at_end past ])
+      ascii_splits boundary (elim (cases_lt n (length bs)) [
+        | inl inside ↦
+            ends_at_ascii inside (low inside) uy
+        | inr past ↦ ends_at_end past
+      ])
 
   pub ascii_ends : (n < length bs → get_or bs n 0 < 128) → IsCharBoundary bs n × SplitsRun h bs xs ys
   ascii_ends low = (boundary_of low, ascii_split low)
 
 -- a split where the run ends
-pub split_at_end : (h : ℕ → Bool) (bs xs ys : List ℕ) (n : ℕ) → EndsRun h bs n → xs ≡ take n bs → ys ≡ drop n bs → SplitsRun h bs xs ys
-split_at_end h bs xs ys n e f g = subst (λ (x : List ℕ). SplitsRun h bs x ys) (sym f) (subst (λ (y : List ℕ). SplitsRun h bs (take n bs) y) (sym g) e.1)
+pub split_at_end : (h : ℕ → Bool) (bs xs ys : List ℕ) (n : ℕ) → EndsRun h bs n → xs ≡ take n bs → ys ≡ drop n bs
+    → SplitsRun h bs xs ys
+split_at_end h bs xs ys n e f g = subst (λ (x : List ℕ). SplitsRun h bs x ys) (sym f)
+    (subst (λ (y : List ℕ). SplitsRun h bs (take n bs) y) (sym g) e.1)
 
 -- ---- a run by its stretches: of ASCII, and past it
 behind_ascii : (bs : List ℕ) (n : ℕ) → IsUtf8 bs → n ≤ length bs → ((k : ℕ) → k < n → get_or bs k 0 < 128)
@@ -182,7 +195,8 @@ module _ (test : ℕ → Bool) (bs xs ys : List ℕ) (s : SplitsRun test bs xs y
   run_front = record { piece = chars xs; whole = s.characters; is = (s.each, s.ends) }
 
   pub some_run_front : 0 < length xs → Front (some_run test) (chars bs) (chars ys) tt
-  some_run_front l = record { piece = chars xs; whole = s.characters; is = (chars_nonempty xs s.front_utf8 l, s.each, s.ends) }
+  some_run_front l =
+      record { piece = chars xs; whole = s.characters; is = (chars_nonempty xs s.front_utf8 l, s.each, s.ends) }
 
   -- another run at the front is the same
   pub run_is : (p q : Text) → chars bs ≡ p ++ q → Each test p → Ends test q → p ≡ chars xs
@@ -195,6 +209,7 @@ module _ (test : ℕ → Bool) (bs xs ys : List ℕ) (s : SplitsRun test bs xs y
 pub some_front_run : (test : ℕ → Bool) (text : Text) → (q : Text) × Front (run test) text q tt
 some_front_run test [] = ([], record { piece = []; whole = refl; is = (tt, tt) })
 some_front_run test (c ∷ cs) = elim (cases_Bool (test c)) [
-  | inl passes ↦ (let (q, f) = some_front_run test cs in (q, record { piece = c ∷ f.piece; whole = ap (λ (x : Text). c ∷ x) f.whole; is = ((passes, f.is.0), f.is.1) }))
+  | inl passes ↦ (let (q, f) = some_front_run test cs in
+      (q, record { piece = c ∷ f.piece; whole = ap (λ (x : Text). c ∷ x) f.whole; is = ((passes, f.is.0), f.is.1) }))
   | inr fails ↦ (c ∷ cs, record { piece = []; whole = refl; is = (tt, fails) })
 ]

@@ -1,5 +1,6 @@
 -- `trim`, by characters.
-use Rattle.std.proofs.Common.{◌≡◌, ℕ, ◌<◌, Bool, true, false, cond, not, ◌&&◌, nat_eq, nat_lt, List, [], ◌∷◌, ◌++◌, length, take, get_or, refl, sym, ap, subst, ◌∙◌, arith, take_at}
+use Rattle.std.proofs.Common.{◌≡◌, ℕ, ◌<◌, Bool, true, false, cond, not, ◌&&◌, nat_eq, nat_lt, List, []}
+use Rattle.std.proofs.Common.{◌∷◌, ◌++◌, length, take, get_or, refl, sym, ap, subst, ◌∙◌, arith, take_at}
 use Rattle.std.proofs.lemmas.Bool.{and_parts, and_from}
 use Rattle.std.proofs.lemmas.Bool.{ltb-true}
 use Rattle.std.proofs.lemmas.Bool.Decides.{nat_tests}
@@ -7,7 +8,8 @@ use Rattle.std.proofs.lemmas.List.{length-append}
 use Rattle.std.proofs.lemmas.Str.{chars-append, chars-IsAscii, chars-encodes, scalars-chars, IsUtf8-take}
 use Rattle.std.proofs.Math.Seq.{get_or-append_seam}
 use Rattle.std.specs.Char.{is_whitespace}
-use Rattle.std.specs.Str.{chars, IsUtf8, IsCharBoundary, all_scalars, encode_utf8_all, trim, trim_start, trim_end, skip_leading_whitespace, drop_trailing_whitespace}
+use Rattle.std.specs.Str.{chars, IsUtf8, IsCharBoundary, all_scalars, encode_utf8_all, trim}
+use Rattle.std.specs.Str.{trim_start, trim_end, skip_leading_whitespace, drop_trailing_whitespace}
 use lib.Utf8.{scalar}
 use Rattle.syslog_pieces.specs.Pieces.Class.{Text}
 use Rattle.syslog_pieces.specs.Bodies.Scan.{IsBare}
@@ -21,24 +23,28 @@ either false xs ys h g = g
 skip_scalars : (cs : Text) → all_scalars cs ≡ true → all_scalars (skip_leading_whitespace cs) ≡ true
 skip_scalars [] h = refl
 skip_scalars (c ∷ cs) h =
-    either (is_whitespace c) (skip_leading_whitespace cs) (c ∷ cs) (skip_scalars cs (and_parts (scalar c) (all_scalars cs) h).1) h
+    either (is_whitespace c) (skip_leading_whitespace cs) (c ∷ cs)
+    (skip_scalars cs (and_parts (scalar c) (all_scalars cs) h).1) h
 
 drop_scalars : (cs : Text) → all_scalars cs ≡ true → all_scalars (drop_trailing_whitespace cs) ≡ true
 drop_scalars [] h = refl
 drop_scalars (c ∷ cs) h =
     let p = and_parts (scalar c) (all_scalars cs) h in
-    either (is_whitespace c && nat_eq (length (drop_trailing_whitespace cs)) 0) [] (c ∷ drop_trailing_whitespace cs) refl (and_from (scalar c) (all_scalars (drop_trailing_whitespace cs)) p.0 (drop_scalars cs p.1))
+    either (is_whitespace c && nat_eq (length (drop_trailing_whitespace cs)) 0) [] (c ∷ drop_trailing_whitespace cs)
+    refl (and_from (scalar c) (all_scalars (drop_trailing_whitespace cs)) p.0 (drop_scalars cs p.1))
 
 pub trimmed_chars : (bs : List ℕ) → IsUtf8 bs → chars (trim bs) ≡ trimmed (chars bs)
 unfolding trim_start trim_end
 trimmed_chars bs u =
     let s = skip_scalars (chars bs) (scalars-chars bs u) in
-    ap (λ (x : Text). chars (encode_utf8_all (drop_trailing_whitespace x))) (chars-encodes (skip_leading_whitespace (chars bs)) s)
+    ap (λ (x : Text). chars (encode_utf8_all (drop_trailing_whitespace x)))
+    (chars-encodes (skip_leading_whitespace (chars bs)) s)
     ∙ chars-encodes (trimmed (chars bs)) (drop_scalars (skip_leading_whitespace (chars bs)) s)
 
 pub end_trimmed_chars : (bs : List ℕ) → IsUtf8 bs → chars (trim_end bs) ≡ drop_trailing_whitespace (chars bs)
 unfolding trim_end
-end_trimmed_chars bs u = chars-encodes (drop_trailing_whitespace (chars bs)) (drop_scalars (chars bs) (scalars-chars bs u))
+end_trimmed_chars bs u =
+    chars-encodes (drop_trailing_whitespace (chars bs)) (drop_scalars (chars bs) (scalars-chars bs u))
 
 -- ---- texts with no white space at either end
 stays : (b t : Bool) (x : ℕ) (xs : Text) → t ≡ false → cond (b && t) [] (x ∷ xs) ≡ x ∷ xs
@@ -50,7 +56,8 @@ nonempty cs c = grind (arith, nat_tests, length-append cs (c ∷ []))
 
 end_stays : (cs : Text) (c : ℕ) → is_whitespace c ≡ false → drop_trailing_whitespace (cs ++ (c ∷ [])) ≡ cs ++ (c ∷ [])
 end_stays [] c h = rw h refl
-end_stays (d ∷ cs) c h = rw (end_stays cs c h) (stays (is_whitespace d) (nat_eq (length (cs ++ (c ∷ []))) 0) d (cs ++ (c ∷ [])) (nonempty cs c))
+end_stays (d ∷ cs) c h = rw (end_stays cs c h)
+    (stays (is_whitespace d) (nat_eq (length (cs ++ (c ∷ []))) 0) d (cs ++ (c ∷ [])) (nonempty cs c))
 
 start_stays : (c : ℕ) (cs : Text) → is_whitespace c ≡ false → skip_leading_whitespace (c ∷ cs) ≡ c ∷ cs
 start_stays c cs h = rw h refl
@@ -60,7 +67,8 @@ no_more true h = cc
 no_more false h = refl
 
 visible : (b : ℕ) → (nat_lt b 128 && not (is_whitespace b)) ≡ true → (b < 128) × (is_whitespace b ≡ false)
-visible b h = let p = and_parts (nat_lt b 128) (not (is_whitespace b)) h in (ltb-true b 128 p.0, no_more (is_whitespace b) p.1)
+visible b h = let p = and_parts (nat_lt b 128) (not (is_whitespace b)) h in
+    (ltb-true b 128 p.0, no_more (is_whitespace b) p.1)
 
 module _ (bs : List ℕ) (u : IsUtf8 bs) (h : IsBare bs) where
   head : (h.first < 128) × (is_whitespace h.first ≡ false)
@@ -74,7 +82,8 @@ module _ (bs : List ℕ) (u : IsUtf8 bs) (h : IsBare bs) where
 
   seam : get_or bs (length front) 0 ≡ h.last
   unfolding front
-  seam = ap (λ (x : List ℕ). get_or x (length (h.first ∷ h.middle)) 0) h.whole ∙ get_or-append_seam (h.first ∷ h.middle) h.last [] 0
+  seam = ap (λ (x : List ℕ). get_or x (length (h.first ∷ h.middle)) 0) h.whole
+      ∙ get_or-append_seam (h.first ∷ h.middle) h.last [] 0
 
   boundary : IsCharBoundary bs (length front)
   unfolding front
@@ -86,16 +95,19 @@ module _ (bs : List ℕ) (u : IsUtf8 bs) (h : IsBare bs) where
   front_utf8 : IsUtf8 front
   unfolding front
   front_utf8 =
-      subst IsUtf8 (ap (take (length (h.first ∷ h.middle))) h.whole ∙ take_at (h.first ∷ h.middle) (h.last ∷ []) (length (h.first ∷ h.middle)) refl)
+      subst IsUtf8 (ap (take (length (h.first ∷ h.middle))) h.whole
+      ∙ take_at (h.first ∷ h.middle) (h.last ∷ []) (length (h.first ∷ h.middle)) refl)
       (IsUtf8-take bs (length (h.first ∷ h.middle)) u boundary)
 
   text_is : chars bs ≡ (h.first ∷ chars h.middle) ++ (h.last ∷ [])
   unfolding front
   text_is =
       ap chars h.whole ∙ chars-append (h.first ∷ h.middle) (h.last ∷ []) front_utf8
-      ∙ ap (λ (x : Text). x ++ chars (h.last ∷ [])) (ascii_front (h.first ∷ []) h.middle (h.first ∷ h.middle) (one_ascii h.first head.0) refl)
+      ∙ ap (λ (x : Text). x ++ chars (h.last ∷ []))
+      (ascii_front (h.first ∷ []) h.middle (h.first ∷ h.middle) (one_ascii h.first head.0) refl)
       ∙ ap (λ (x : Text). (h.first ∷ chars h.middle) ++ x) (chars-IsAscii (h.last ∷ []) (one_ascii h.last last.0))
 
   pub bare_trimmed : chars bs ≡ trimmed (chars bs)
   bare_trimmed =
-      rw text_is (sym (ap drop_trailing_whitespace (start_stays h.first (chars h.middle ++ (h.last ∷ [])) head.1) ∙ end_stays (h.first ∷ chars h.middle) h.last last.1))
+      rw text_is (sym (ap drop_trailing_whitespace (start_stays h.first (chars h.middle ++ (h.last ∷ [])) head.1)
+      ∙ end_stays (h.first ∷ chars h.middle) h.last last.1))

@@ -12,14 +12,17 @@ use Rattle.syslog_pieces.proofs.TimestampLemmas.Fields.{civil_nanos-fields, civi
 use Rattle.syslog_pieces.proofs.TimestampLemmas.Reading.{rfc3339_fields-is, rfc3339_fields-of, some-inj, none-some}
 
 -- an answer to one question is one to another that asks the same
-pub answer_same : (P Q : OffsetTimestamp → Type 0) (answer : Option OffsetTimestamp) → ((s : OffsetTimestamp) → P s → Q s)
+pub answer_same : (P Q : OffsetTimestamp → Type 0) (answer : Option OffsetTimestamp)
+    → ((s : OffsetTimestamp) → P s → Q s)
     → ((s : OffsetTimestamp) → Q s → P s) → IsAnswer P answer → IsAnswer Q answer
 answer_same P Q None forth back h = λ s q. h s (back s q)
 answer_same P Q (Some s) forth back h = forth s h
 
 -- the stamp of the datetime is that of the numbers that name it
-pub answer_of_rfc3339 : (w : Rfc3339Fields) (dt : DateTime) (offset : Offset) (answer : Option OffsetTimestamp) → fields_of dt ≡ fields_of_rfc3339 w
-    → w.second < 61 → offset.seconds ≡ w.offset → IsAnswer (IsStampAt dt offset) answer → IsAnswer (IsStampOfRfc3339 w) answer
+pub answer_of_rfc3339 : (w : Rfc3339Fields) (dt : DateTime) (offset : Offset) (answer : Option OffsetTimestamp)
+    → fields_of dt ≡ fields_of_rfc3339 w
+    → w.second < 61 → offset.seconds ≡ w.offset → IsAnswer (IsStampAt dt offset) answer
+    → IsAnswer (IsStampOfRfc3339 w) answer
 answer_of_rfc3339 w dt offset answer e second same h =
     let nanos = civil_nanos-fields dt (fields_of_rfc3339 w) e in
     let P : OffsetTimestamp → Type 0 = IsStampAt dt offset in
@@ -38,7 +41,8 @@ answer_of_rfc3339 w dt offset answer e second same h =
     answer_same P Q answer forth back h
 
 -- the numbers that a text writes are the only ones
-pub answer_of_text : (text : List ℕ) (w : Rfc3339Fields) (answer : Option OffsetTimestamp) → rfc3339_fields text ≡ Some w
+pub answer_of_text : (text : List ℕ) (w : Rfc3339Fields) (answer : Option OffsetTimestamp)
+    → rfc3339_fields text ≡ Some w
     → IsAnswer (IsStampOfRfc3339 w) answer → IsAnswer (IsStampText text) answer
 answer_of_text text w answer e h =
     let P : OffsetTimestamp → Type 0 = IsStampOfRfc3339 w in
@@ -51,7 +55,8 @@ answer_of_text text w answer e h =
     answer_same P Q answer forth back h
 
 -- a text that writes no numbers is one of no timestamp
-pub no_answer_of_text : (text : List ℕ) (answer : Option OffsetTimestamp) → rfc3339_fields text ≡ None → answer ≡ None → IsAnswer (IsStampText text) answer
+pub no_answer_of_text : (text : List ℕ) (answer : Option OffsetTimestamp) → rfc3339_fields text ≡ None → answer ≡ None
+    → IsAnswer (IsStampText text) answer
 no_answer_of_text text answer e none = rw none (λ s q. none-some _ (sym e ∙ rfc3339_fields-of text q.0 q.1))
 
 -- a text has at most one stamp

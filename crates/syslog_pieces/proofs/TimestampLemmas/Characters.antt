@@ -1,5 +1,6 @@
 -- The characters of a text that has a stamp: ASCII, none of them white space, the first a digit.
-use Rattle.std.proofs.Common.{inl, inr, ℕ, ℤ, zero, suc, ◌/◌, ◌%◌, ◌<◌, ◌≤◌, List, [], ◌∷◌, ◌++◌, Option, sym, subst, ◌∙◌, arith}
+use Rattle.std.proofs.Common.{inl, inr, ℕ, ℤ, zero, suc, ◌/◌, ◌%◌, ◌<◌, ◌≤◌, List}
+use Rattle.std.proofs.Common.{[], ◌∷◌, ◌++◌, Option, sym, subst, ◌∙◌, arith}
 use Rattle.std.proofs.lemmas.List.Elements.{All-append}
 use Rattle.std.proofs.lemmas.Str.{IsUtf8-from_ascii, chars-IsAscii, encodes-IsAscii, encodes-chars}
 use Rattle.std.specs.Char.{IsAsciiDigit}
@@ -32,10 +33,12 @@ two_digits n h (suc (suc i)) d k = absurd (omega arith)
 
 pub four_digits : (n : ℕ) → n < 10_000 → All IsStampCharacter (pad4 n)
 four_digits n h =
-    All-append IsStampCharacter (pad2 (n / 100)) (pad2 (n % 100)) (two_digits (n / 100) (omega arith)) (two_digits (n % 100) (omega arith))
+    All-append IsStampCharacter (pad2 (n / 100)) (pad2 (n % 100)) (two_digits (n / 100) (omega arith))
+    (two_digits (n % 100) (omega arith))
 
 -- a character and two digits, and then more
-pub part : (c n : ℕ) (rest : List ℕ) → IsStampCharacter c → n < 100 → All IsStampCharacter rest → All IsStampCharacter (c ∷ pad2 n ++ rest)
+pub part : (c n : ℕ) (rest : List ℕ) → IsStampCharacter c → n < 100 → All IsStampCharacter rest
+    → All IsStampCharacter (c ∷ pad2 n ++ rest)
 part c n rest h small t = All-append IsStampCharacter (c ∷ pad2 n) rest (before c (pad2 n) h (two_digits n small)) t
 
 pub colon : IsStampCharacter 58
@@ -60,7 +63,8 @@ zone text z (inl (c, e, inr l, v)) = rw (e, l) (before 122 [] (omega arith, omeg
 zone text z (inr n) =
     let h = n.hours_in in
     let m = n.minutes_in in
-    let minutes : All IsStampCharacter (58 ∷ pad2 n.minutes) = before 58 (pad2 n.minutes) colon (two_digits n.minutes (omega arith)) in
+    let minutes : All IsStampCharacter (58 ∷ pad2 n.minutes) =
+    before 58 (pad2 n.minutes) colon (two_digits n.minutes (omega arith)) in
     elim n.written [
       | inl w ↦ rw w.0 (part 43 n.hours (58 ∷ pad2 n.minutes) plus (omega arith) minutes)
       | inr w ↦ rw w.0 (part 45 n.hours (58 ∷ pad2 n.minutes) dash (omega arith) minutes)
@@ -80,7 +84,8 @@ writes_characters text w h =
     let after_day = h.letter ∷ pad2 w.hour ++ after_hour in
     let after_month = 45 ∷ pad2 w.day ++ after_day in
     let after_year = 45 ∷ pad2 w.month ++ after_month in
-    let tail = All-append IsStampCharacter h.decimals h.zone (fraction h.decimals w.nanosecond h.fraction) (zone h.zone w.offset h.zone_is) in
+    let tail = All-append IsStampCharacter h.decimals h.zone (fraction h.decimals w.nanosecond h.fraction)
+    (zone h.zone w.offset h.zone_is) in
     let seconds = part 58 w.second after_second colon h.fits.second tail in
     let minutes = part 58 w.minute after_minute colon h.fits.minute seconds in
     let hours = part h.letter w.hour after_hour (letter h.letter h.is_letter) h.fits.hour minutes in

@@ -1,5 +1,6 @@
 -- The fields of a count of nanoseconds are those of the datetime that has it.
-use Rattle.std.proofs.Common.{◌≡◌, ℕ, ℤ, zero, suc, pos, ◌+ℤ◌, ◌-ℤ◌, ◌+◌, ◌-◌, ◌*◌, ◌/◌, ◌%◌, ◌<◌, ◌≤◌, inl, inr, refl, sym, ap, ◌∙◌, arith, unsigned_abs}
+use Rattle.std.proofs.Common.{◌≡◌, ℕ, ℤ, zero, suc, pos, ◌+ℤ◌, ◌-ℤ◌, ◌+◌, ◌-◌, ◌*◌, ◌/◌, ◌%◌}
+use Rattle.std.proofs.Common.{◌<◌, ◌≤◌, inl, inr, refl, sym, ap, ◌∙◌, arith, unsigned_abs}
 use Rattle.std.proofs.lemmas.Bool.Decides.{leb_tells}
 use Rattle.std.specs.Int.{int_div_euclid, int_rem_euclid}
 use Rattle.jiff.specs.Types.{DateTime, Date}
@@ -15,10 +16,12 @@ use Rattle.jiff_core.proofs.SignedLemmas.{signed_arith, int_rem_euclid-parts}
 use Rattle.jiff_tz.proofs.YearLemmas.{year_of_day-date}
 use Rattle.syslog_pieces.specs.declared.timestamp.fields.CivilFields.{CivilFields}
 use Rattle.syslog_pieces.specs.Timestamp.Fields.{fields_of}
-use Rattle.syslog_pieces.specs.Timestamp.Printed.{months_within, place_in_year, place_fields, day_fields, civil_fields, printed_stamp, fields_text}
+use Rattle.syslog_pieces.specs.Timestamp.Printed.{months_within, place_in_year, place_fields}
+use Rattle.syslog_pieces.specs.Timestamp.Printed.{day_fields, civil_fields, printed_stamp, fields_text}
 
 -- the months that fit are the ones whose days fit, up to the next month's
-months_within_is : (y : ℤ) (n k count : ℕ) → k ≤ n → days_of_months y k ≤ count → count < days_of_months y (suc k) → months_within y n count ≡ k
+months_within_is : (y : ℤ) (n k count : ℕ) → k ≤ n → days_of_months y k ≤ count → count < days_of_months y (suc k)
+    → months_within y n count ≡ k
 unfolding months_within
 months_within_is y zero k count h a b = omega arith
 months_within_is y (suc n) k count h a b = elim (leb_tells (days_of_months y (suc n)) count) [
@@ -48,13 +51,15 @@ place-date : (d : Date) → place_in_year d.year (epoch_day d) ≡ days_of_month
 place-date d =
     abs-diff (epoch_day d) _ _ (omega (arith, signed_arith, epoch_day-ordinal d, d.day_in.0))
 
-months-is : (y : ℤ) (m d : ℕ) → 1 ≤ m → m ≤ 12 → 1 ≤ d → d ≤ days_in_month y m → months_within y 11 (days_of_months y (m - 1) + (d - 1)) ≡ m - 1
+months-is : (y : ℤ) (m d : ℕ) → 1 ≤ m → m ≤ 12 → 1 ≤ d → d ≤ days_in_month y m
+    → months_within y 11 (days_of_months y (m - 1) + (d - 1)) ≡ m - 1
 months-is y m d a b low high =
     let next = days_of_months_more y m a in
     let back : suc (m - 1) ≡ m = omega arith in
     months_within_is y 11 (m - 1) _ (omega arith) (omega arith) (rw back (omega arith))
 
-place_fields-is : (f : CivilFields) (n : ℕ) → 1 ≤ f.month → f.month ≤ 12 → 1 ≤ f.day → f.day ≤ days_in_month f.year f.month → f.minute < 60 → f.second < 60
+place_fields-is : (f : CivilFields) (n : ℕ) → 1 ≤ f.month → f.month ≤ 12 → 1 ≤ f.day
+    → f.day ≤ days_in_month f.year f.month → f.minute < 60 → f.second < 60
     → f.nanosecond < 1_000_000_000 → n ≡ (f.hour * 3600 + f.minute * 60 + f.second) * 1_000_000_000 + f.nanosecond
     → place_fields f.year (days_of_months f.year (f.month - 1) + (f.day - 1)) n ≡ f
 unfolding place_fields
@@ -83,27 +88,38 @@ place_fields-is f n a b low high mi s ns e =
 days-is : (dt : DateTime) → int_div_euclid (civil_nanos dt) (pos 86_400_000_000_000) ≡ epoch_day dt.date
 days-is dt = sym (epoch_day-civil_nanos dt)
 
-nanos-is : (dt : DateTime) → unsigned_abs (int_rem_euclid (civil_nanos dt) (pos 86_400_000_000_000)) ≡ time_nanos dt.time
+nanos-is : (dt : DateTime) → unsigned_abs (int_rem_euclid (civil_nanos dt) (pos 86_400_000_000_000))
+    ≡ time_nanos dt.time
 nanos-is dt =
     let same : int_rem_euclid (civil_nanos dt) (pos 86_400_000_000_000) ≡ pos (time_nanos dt.time) =
-    omega (arith, signed_arith, civil_nanos-parts dt, time_nanos_bound dt.time, days-is dt, int_rem_euclid-parts (civil_nanos dt) 86_400_000_000_000 (omega arith)) in
+    omega (
+      arith,
+      signed_arith,
+      civil_nanos-parts dt,
+      time_nanos_bound dt.time,
+      days-is dt,
+      int_rem_euclid-parts (civil_nanos dt) 86_400_000_000_000 (omega arith),
+    ) in
     rw same
 
 day_fields-is : (dt : DateTime) → day_fields (epoch_day dt.date) (time_nanos dt.time) ≡ fields_of dt
 day_fields-is dt =
     let d = dt.date in
     let t = dt.time in
-    let there = place_fields-is (fields_of dt) (time_nanos t) d.month_in.0 d.month_in.1 d.day_in.0 d.day_in.1 t.minute_in t.second_in t.subsec_in refl in
+    let there = place_fields-is (fields_of dt)
+    (time_nanos t) d.month_in.0 d.month_in.1 d.day_in.0 d.day_in.1 t.minute_in t.second_in t.subsec_in refl in
     ap (λ y. place_fields y (place_in_year y (epoch_day d)) (time_nanos t)) (year_of_day-date d)
     ∙ ap (λ p. place_fields d.year p (time_nanos t)) (place-date d) ∙ there
 
 pub civil_fields-is : (dt : DateTime) (n : ℤ) → civil_nanos dt ≡ n → civil_fields n ≡ fields_of dt
 unfolding civil_fields
 civil_fields-is dt n e =
-    ap civil_fields (sym e) ∙ ap (λ day. day_fields day (unsigned_abs (int_rem_euclid (civil_nanos dt) (pos 86_400_000_000_000)))) (days-is dt)
+    ap civil_fields (sym e)
+    ∙ ap (λ day. day_fields day (unsigned_abs (int_rem_euclid (civil_nanos dt) (pos 86_400_000_000_000)))) (days-is dt)
     ∙ ap (λ k. day_fields (epoch_day dt.date) k) (nanos-is dt) ∙ day_fields-is dt
 
 -- what is printed, by the datetime that the clock at the offset shows
-pub printed_stamp-is : (dt : DateTime) (n o : ℤ) → civil_nanos dt ≡ n +ℤ nanos_of_seconds o → printed_stamp n o ≡ fields_text (fields_of dt) o
+pub printed_stamp-is : (dt : DateTime) (n o : ℤ) → civil_nanos dt ≡ n +ℤ nanos_of_seconds o
+    → printed_stamp n o ≡ fields_text (fields_of dt) o
 unfolding printed_stamp
 printed_stamp-is dt n o e = rw (civil_fields-is dt _ e)

@@ -2,7 +2,9 @@
 use Rattle.std.proofs.Common.{◌≡◌, ℤ, pos, neg_ℤ, ◌+ℤ◌, ◌≤ℤ◌, ◌<ℤ◌, refl, sym, ap, subst, arith, ◌%◌, ◌<◌, unsigned_abs}
 use Rattle.jiff.specs.Types.{DateTime, Offset}
 use Rattle.jiff.specs.Words.{civil_nanos, instant_of, nanos_of_seconds, IsTimestampNanos}
-use Rattle.jiff_core.proofs.CalendarLemmas.{days_from_civil-day_count, day_count-day_of_year, day_count-later_year, day_count-lt_year, day_count-min, day_count-end, day_count-next_year, days_in_year_bounds}
+use Rattle.jiff_core.proofs.CalendarLemmas.{days_from_civil-day_count, day_count-day_of_year}
+use Rattle.jiff_core.proofs.CalendarLemmas.{day_count-later_year, day_count-lt_year, day_count-min}
+use Rattle.jiff_core.proofs.CalendarLemmas.{day_count-end, day_count-next_year, days_in_year_bounds}
 use Rattle.jiff_core.proofs.DateLemmas.{civil}
 use Rattle.jiff_core.proofs.DateTimeLemmas.{civil_nanos-parts, time_nanos_bound}
 use Rattle.jiff_core.proofs.SignedLemmas.{signed_arith}
@@ -20,7 +22,8 @@ in_range-years dt offset from to =
     let d = dt.date in
     let there = civil d in
     let first = day_count-day_of_year d.year d.month d.day d.day_in.0 in
-    let low = day_count-later_year (neg_ℤ (pos 9999)) d.year (omega (arith, signed_arith)) (omega (arith, signed_arith, from)) in
+    let low =
+    day_count-later_year (neg_ℤ (pos 9999)) d.year (omega (arith, signed_arith)) (omega (arith, signed_arith, from)) in
     let least = day_count-min in
     let days = days_in_year_bounds (neg_ℤ (pos 9999)) in
     let high = day_count-lt_year d.year d.month d.day (pos 9999) 1 1 there (omega arith) to in
@@ -30,14 +33,23 @@ in_range-years dt offset from to =
     let number = days_from_civil-day_count d.year d.month d.day in
     let parts = civil_nanos-parts dt in
     let clock = time_nanos_bound dt.time in
-    let shift = offset.in_range in
-    (omega (arith, signed_arith, shift.0, shift.1, d.day_in.0), omega (arith, signed_arith, shift.0, shift.1, d.day_in.0))
+    let shift = offset.in_range in (
+      omega (arith, signed_arith, shift.0, shift.1, d.day_in.0),
+      omega (arith, signed_arith, shift.0, shift.1, d.day_in.0),
+    )
 
 -- the datetime of fields that there are
 abbrev pub datetime_of : (f : CivilFields) → AreCivil f → (dt : DateTime) × (fields_of dt ≡ f)
 datetime_of f h = (
   record {
-    date = record { year = f.year; month = f.month; day = f.day; year_in = h.date.0; month_in = h.date.1; day_in = h.date.2 };
+    date = record {
+      year = f.year;
+      month = f.month;
+      day = f.day;
+      year_in = h.date.0;
+      month_in = h.date.1;
+      day_in = h.date.2;
+    };
     time = record {
       hour = f.hour;
       minute = f.minute;
@@ -55,7 +67,10 @@ datetime_of f h = (
 module _ (dt : DateTime) (offset : Offset) (from : pos 0 ≤ℤ dt.date.year) (to : dt.date.year <ℤ pos 9999) where
   -- the timestamp that a clock at the offset shows
   abbrev pub stamp : OffsetTimestamp
-  stamp = record { instant = record { nanosecond = instant_of dt offset; in_range = in_range-years dt offset from to }; offset = offset }
+  stamp = record {
+    instant = record { nanosecond = instant_of dt offset; in_range = in_range-years dt offset from to };
+    offset = offset;
+  }
 
   pub at_offset : IsStampAt dt offset stamp
   at_offset = record { instant = refl; at_offset = refl }

@@ -1,5 +1,7 @@
 -- A timestamp in its standard form, read by bytes, is one of the text; and the stamps of dates that each month has.
-use Rattle.std.proofs.Common.{◌≡◌, ℕ, ℤ, ◌+◌, ◌-◌, ◌*◌, ◌/◌, ◌%◌, ◌<◌, ◌+ℤ◌, ◌-ℤ◌, ◌*ℤ◌, ◌≤ℤ◌, min, unsigned_abs, inl, inr, List, [], ◌∷◌, ◌++◌, length, drop, IfSome, Option, Some, None, pos, negsuc, neg_ℤ, refl, sym, ap, subst, ◌∙◌, append_assoc, arith}
+use Rattle.std.proofs.Common.{◌≡◌, ℕ, ℤ, ◌+◌, ◌-◌, ◌*◌, ◌/◌, ◌%◌, ◌<◌, ◌+ℤ◌, ◌-ℤ◌, ◌*ℤ◌, ◌≤ℤ◌, min}
+use Rattle.std.proofs.Common.{unsigned_abs, inl, inr, List, [], ◌∷◌, ◌++◌, length, drop, IfSome, Option}
+use Rattle.std.proofs.Common.{Some, None, pos, negsuc, neg_ℤ, refl, sym, ap, subst, ◌∙◌, append_assoc, arith}
 use Rattle.std.proofs.lemmas.List.Elements.{All-append}
 use Rattle.std.specs.Char.{IsAsciiDigit}
 use Rattle.std.specs.Str.{chars, IsUtf8, IsAscii, IsCharBoundary}
@@ -9,7 +11,8 @@ use Rattle.jiff_core.specs.Calendar.{day_count}
 use Rattle.jiff_core.proofs.CalendarLemmas.{days_from_civil-day_count}
 use Rattle.jiff_core.proofs.SignedLemmas.{signed_arith}
 use Rattle.jiff_fmt.specs.Text.{pad2, pad4}
-use Rattle.syslog_pieces.specs.Bodies.Early.{AreDecimalBytes, AreMinuteBytes, IsDayBytes, IsEarlyStamp, IsFractionBytes, IsOffsetBytes, fields_read}
+use Rattle.syslog_pieces.specs.Bodies.Early.{AreDecimalBytes, AreMinuteBytes, IsDayBytes, IsEarlyStamp}
+use Rattle.syslog_pieces.specs.Bodies.Early.{IsFractionBytes, IsOffsetBytes, fields_read}
 use Rattle.syslog_pieces.specs.Bodies.MonthText.{zone_of}
 use Rattle.syslog_pieces.specs.Bodies.Standard.{IsClockBytes}
 use Rattle.syslog_pieces.specs.Pieces.Class.{Front}
@@ -32,7 +35,8 @@ use Rattle.syslog_pieces.proofs.TimestampLemmas.Clocks.{datetime_of}
 use Rattle.syslog_pieces.proofs.TimestampLemmas.MonthText.{fixed_earlier, in_any}
 
 module _ (bs b1 b2 b3 b4 : List ℕ) (day : Day) (clock : Clock) (n : ℕ) (offset : Offset) (s : OffsetTimestamp)
-    (d : IsDayBytes bs day b1) (c : IsClockBytes b1 clock b2) (f : IsFractionBytes b2 n b3) (z : IsOffsetBytes b3 offset.seconds b4)
+    (d : IsDayBytes bs day b1) (c : IsClockBytes b1 clock b2) (f : IsFractionBytes b2 n b3)
+    (z : IsOffsetBytes b3 offset.seconds b4)
     (h : IsEarlyStamp (fields_read day clock n) offset s) where
   abbrev w : Rfc3339Fields
   w = record {
@@ -74,7 +78,9 @@ module _ (bs b1 b2 b3 b4 : List ℕ) (day : Day) (clock : Clock) (n : ℕ) (offs
   same_second = let k = h.civil.second_in in omega arith
 
   same_fields : fields_read day clock n ≡ fields_of_rfc3339 w
-  same_fields = ap (λ (x : ℕ). fields_read day (record { hour = clock.hour; minute = clock.minute; second = x }) n) (sym same_second)
+  same_fields =
+      ap (λ (x : ℕ). fields_read day (record { hour = clock.hour; minute = clock.minute; second = x }) n)
+      (sym same_second)
 
   is_stamp : IsStampText p s
   is_stamp = (
@@ -97,7 +103,8 @@ module _ (bs b1 b2 b3 b4 : List ℕ) (day : Day) (clock : Clock) (n : ℕ) (offs
 
   whole : bs ≡ p ++ b4
   whole = d.whole ∙ ap (λ (x : List ℕ). pad4 day.year ++ (45 ∷ (pad2 day.month ++ (45 ∷ (pad2 day.day ++ (84 ∷ x))))))
-      (c.whole ∙ ap (λ (x : List ℕ). pad2 clock.hour ++ (58 ∷ (pad2 clock.minute ++ (58 ∷ (pad2 clock.second ++ x))))) tail)
+      (c.whole ∙ ap (λ (x : List ℕ). pad2 clock.hour ++ (58 ∷ (pad2 clock.minute ++ (58 ∷ (pad2 clock.second ++ x)))))
+      tail)
 
   module _ (u : IsUtf8 bs) where
     pub stamp_cut : IsCharBoundary bs (length bs - length b4)
@@ -124,8 +131,10 @@ fixed_answer tz local f offset s fixed at h =
     } in
     (dt, same, in_any tz local dt offset s (fixed_earlier (zone_of tz local) offset dt fixed at) there)
 
-pub fixed_answers : (tz : Option TimeZone) (local zone : TimeZone) (f : CivilFields) (offset : Offset) (r : Option OffsetTimestamp)
-    → zone ≡ zone_of tz local → IsFixed zone → ((n : ℤ) → offset.seconds ≡ offset_at zone n) → IfSome r (IsEarlyStamp f offset)
+pub fixed_answers : (tz : Option TimeZone) (local zone : TimeZone) (f : CivilFields) (offset : Offset)
+    (r : Option OffsetTimestamp)
+    → zone ≡ zone_of tz local → IsFixed zone → ((n : ℤ) → offset.seconds ≡ offset_at zone n)
+    → IfSome r (IsEarlyStamp f offset)
     → IfSome r (IsStampOfFields tz local f)
 fixed_answers tz local zone f offset None e fixed at h = tt
 fixed_answers tz local zone f offset (Some s) e fixed at h =
@@ -149,7 +158,8 @@ early_instant f count off sec nan from days second nanos =
 
 -- ---- its fraction
 module _ (text : List ℕ) where
-  pub three_bytes : (a : ℕ) (rest : List ℕ) → a < 1_000 → text ≡ pad3 a ++ rest → AreDecimalBytes text (a * 1_000_000) rest
+  pub three_bytes : (a : ℕ) (rest : List ℕ) → a < 1_000 → text ≡ pad3 a ++ rest
+      → AreDecimalBytes text (a * 1_000_000) rest
   three_bytes a rest h e = record {
     digits = pad3 a;
     some = omega arith;
@@ -158,7 +168,8 @@ module _ (text : List ℕ) where
     whole = e;
   }
 
-  pub six_bytes : (a b : ℕ) (middle rest : List ℕ) → a < 1_000 → b < 1_000 → text ≡ pad3 a ++ middle → middle ≡ pad3 b ++ rest
+  pub six_bytes : (a b : ℕ) (middle rest : List ℕ) → a < 1_000 → b < 1_000 → text ≡ pad3 a ++ middle
+      → middle ≡ pad3 b ++ rest
       → AreDecimalBytes text (a * 1_000_000 + b * 1_000) rest
   six_bytes a b middle rest h k e f = record {
     digits = pad3 a ++ pad3 b;
@@ -168,7 +179,8 @@ module _ (text : List ℕ) where
     whole = e ∙ ap (λ (x : List ℕ). pad3 a ++ x) f;
   }
 
-  pub nine_bytes : (a b c : ℕ) (middle behind rest : List ℕ) → a < 1_000 → b < 1_000 → c < 1_000 → text ≡ pad3 a ++ middle
+  pub nine_bytes : (a b c : ℕ) (middle behind rest : List ℕ) → a < 1_000 → b < 1_000 → c < 1_000
+      → text ≡ pad3 a ++ middle
       → middle ≡ pad3 b ++ behind → behind ≡ pad3 c ++ rest → AreDecimalBytes text (a * 1_000_000 + b * 1_000 + c) rest
   nine_bytes a b c middle behind rest h k l e f g = record {
     digits = pad3 a ++ (pad3 b ++ pad3 c);
@@ -179,7 +191,8 @@ module _ (text : List ℕ) where
     whole = e ∙ ap (λ (x : List ℕ). pad3 a ++ x) (f ∙ ap (λ (x : List ℕ). pad3 b ++ x) g);
   }
 
-  pub fraction_bytes : (rest behind : List ℕ) (n : ℕ) → text ≡ 46 ∷ rest → AreDecimalBytes rest n behind → IsFractionBytes text n behind
+  pub fraction_bytes : (rest behind : List ℕ) (n : ℕ) → text ≡ 46 ∷ rest → AreDecimalBytes rest n behind
+      → IsFractionBytes text n behind
   fraction_bytes rest behind n e d = record {
     decimals = 46 ∷ d.digits;
     is = inr (d.digits, refl, d.some, d.each, d.value);

@@ -1,5 +1,6 @@
 -- A fold: the offset before it is ahead of the one behind it, so it gives the earlier instant.
-use Rattle.std.proofs.Common.{◌≡◌, ℤ, pos, ◌≤ℤ◌, ◌-ℤ◌, ◌-◌, Bool, true, false, Option, Some, None, if◌then◌else◌, int_lt, not, refl, subst, arith}
+use Rattle.std.proofs.Common.{◌≡◌, ℤ, pos, ◌≤ℤ◌, ◌-ℤ◌, ◌-◌, Bool, true, false, Option}
+use Rattle.std.proofs.Common.{Some, None, if◌then◌else◌, int_lt, not, refl, subst, arith}
 use Rattle.std.specs.Prelude.{⊤}
 use Rattle.jiff.specs.Types.{DateTime, Offset, TimeZone, AmbiguousOffset, Unambiguous, Gap, Fold}
 use Rattle.jiff.specs.Words.{ambiguous_at, civil_nanos, instant_of, nanos_of_seconds}
@@ -31,13 +32,15 @@ less a b e = grind arith
 not_less : (a b : ℤ) → int_lt a b ≡ false → b ≤ℤ a
 not_less a b e = grind arith
 
-behind : (std dst : Offset) (w : ℤ × ℤ) (at : ℤ) → dst.seconds ≤ℤ std.seconds → FoldsBack (Posix.ambiguous_behind std dst w at)
+behind : (std dst : Offset) (w : ℤ × ℤ) (at : ℤ) → dst.seconds ≤ℤ std.seconds
+    → FoldsBack (Posix.ambiguous_behind std dst w at)
 behind std dst w at h =
     either (Posix.in_window w at) _ _ (λ e. tt) (λ e.
     either (Posix.in_span (Posix.saturating_add w.0 (Posix.shift_between std dst)) w.0 at) _ _ (λ e. h) (λ e.
     either (Posix.in_span w.1 (Posix.saturating_sub w.1 (Posix.shift_between std dst)) at) _ _ (λ e. tt) (λ e. tt)))
 
-ahead : (std dst : Offset) (w : ℤ × ℤ) (at : ℤ) → std.seconds ≤ℤ dst.seconds → FoldsBack (Posix.ambiguous_ahead std dst w at)
+ahead : (std dst : Offset) (w : ℤ × ℤ) (at : ℤ) → std.seconds ≤ℤ dst.seconds
+    → FoldsBack (Posix.ambiguous_ahead std dst w at)
 ahead std dst w at h =
     either (not (Posix.in_window w at)) _ _ (λ e. tt) (λ e.
     either (Posix.in_span w.0 (Posix.saturating_add w.0 (Posix.shift_between std dst)) at) _ _ (λ e. tt) (λ e.
@@ -51,11 +54,13 @@ by_rule std dst w at =
 of_rule : (std : Offset) (dst : Option Dst) (dt : DateTime) → FoldsBack (Posix.ambiguous_at_by std dst dt)
 of_rule std None dt = tt
 of_rule std (Some d) dt = by_rule std d.offset
-    (Posix.rule_nanos dt.date.year d.rule.start (pos 0), Posix.rule_nanos dt.date.year d.rule.end (pos 0)) (civil_nanos dt)
+    (Posix.rule_nanos dt.date.year d.rule.start (pos 0), Posix.rule_nanos dt.date.year d.rule.end (pos 0))
+    (civil_nanos dt)
 
 of_transition : (t : Transition) → FoldsBack (Table.offsets_in t)
 of_transition t =
-    either (int_lt t.before.seconds t.after.offset.seconds) _ _ (λ e. tt) (λ e. not_less t.before.seconds t.after.offset.seconds e)
+    either (int_lt t.before.seconds t.after.offset.seconds) _ _ (λ e. tt)
+    (λ e. not_less t.before.seconds t.after.offset.seconds e)
 
 after_table : (rule : Option PosixZone) (offset : Offset) (dt : DateTime)
     → FoldsBack (match_some rule (Unambiguous offset) (λ tz. Posix.ambiguous_at tz dt))
@@ -84,7 +89,8 @@ scaled a b h = omega (arith, signed_arith)
 moved : (c a b : ℤ) → a ≤ℤ b → (c -ℤ b) ≤ℤ (c -ℤ a)
 moved c a b h = omega (arith, signed_arith)
 
-instants : (dt : DateTime) (before after : Offset) → after.seconds ≤ℤ before.seconds → instant_of dt before ≤ℤ instant_of dt after
+instants : (dt : DateTime) (before after : Offset) → after.seconds ≤ℤ before.seconds
+    → instant_of dt before ≤ℤ instant_of dt after
 instants dt before after h = moved (civil_nanos dt) (nanos_of_seconds after.seconds) (nanos_of_seconds before.seconds)
     (scaled after.seconds before.seconds h)
 

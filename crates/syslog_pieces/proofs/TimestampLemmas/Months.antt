@@ -1,5 +1,6 @@
 -- The names of the months, letter by letter.
-use Rattle.std.proofs.Common.{◌≡◌, inl, inr, ℕ, zero, suc, ◌+◌, ◌<◌, ◌≤◌, Bool, true, false, nat_eq, ◌==◌, ◌&&◌, if◌then◌else◌, [], ◌∷◌, ◌++◌, Option, Some, None, refl, sym, ap, subst, ◌∙◌, arith}
+use Rattle.std.proofs.Common.{◌≡◌, inl, inr, ℕ, zero, suc, ◌+◌, ◌<◌, ◌≤◌, Bool, true, false, nat_eq, ◌==◌, ◌&&◌}
+use Rattle.std.proofs.Common.{if◌then◌else◌, [], ◌∷◌, ◌++◌, Option, Some, None, refl, sym, ap, subst, ◌∙◌, arith}
 use Rattle.std.specs.Prelude.{map, slice_get}
 use Rattle.std.specs.Char.{to_ascii_lowercase}
 use Rattle.std.proofs.lemmas.Bool.{eqb-true, and_parts}
@@ -16,12 +17,14 @@ use Rattle.syslog_pieces.proofs.PieceLemmas.Kinds.{Begins, begins_with}
 abbrev IsNamed : ℕ → ℕ → ℕ → ℕ → Type 0
 IsNamed a b c n = (before : ℕ) × (n ≡ before + 1) × (slice_get month_names before ≡ Some (a ∷ b ∷ c ∷ []))
 
-picked : (t : Bool) (P : Type 0) (m n : ℕ) (others : Option ℕ) → (t ≡ true → m ≡ n → P) → (others ≡ Some n → P) → (if t then Some m else others) ≡ Some n → P
+picked : (t : Bool) (P : Type 0) (m n : ℕ) (others : Option ℕ) → (t ≡ true → m ≡ n → P) → (others ≡ Some n → P)
+    → (if t then Some m else others) ≡ Some n → P
 picked true P m n others f g e = f refl (let s : Some m ≡ Some n = e in cc)
 picked false P m n others f g e = g e
 
 -- one name, or one of the others
-tried : (k x y z a b c n : ℕ) (others : Option ℕ) → slice_get month_names k ≡ Some (x ∷ y ∷ z ∷ []) → (others ≡ Some n → IsNamed a b c n)
+tried : (k x y z a b c n : ℕ) (others : Option ℕ) → slice_get month_names k ≡ Some (x ∷ y ∷ z ∷ [])
+    → (others ≡ Some n → IsNamed a b c n)
     → (if a == x && (b == y && c == z) then Some (k + 1) else others) ≡ Some n → IsNamed a b c n
 tried k x y z a b c n others name more =
     picked (a == x && (b == y && c == z)) (IsNamed a b c n) (k + 1) n others
@@ -72,14 +75,19 @@ placed (suc (suc (suc (suc (suc zero))))) t e = subst (λ (x : Option Text). tol
 placed (suc (suc (suc (suc (suc (suc zero)))))) t e = subst (λ (x : Option Text). told x ≡ Some 7) e refl
 placed (suc (suc (suc (suc (suc (suc (suc zero))))))) t e = subst (λ (x : Option Text). told x ≡ Some 8) e refl
 placed (suc (suc (suc (suc (suc (suc (suc (suc zero)))))))) t e = subst (λ (x : Option Text). told x ≡ Some 9) e refl
-placed (suc (suc (suc (suc (suc (suc (suc (suc (suc zero))))))))) t e = subst (λ (x : Option Text). told x ≡ Some 10) e refl
-placed (suc (suc (suc (suc (suc (suc (suc (suc (suc (suc zero)))))))))) t e = subst (λ (x : Option Text). told x ≡ Some 11) e refl
-placed (suc (suc (suc (suc (suc (suc (suc (suc (suc (suc (suc zero))))))))))) t e = subst (λ (x : Option Text). told x ≡ Some 12) e refl
-placed (suc (suc (suc (suc (suc (suc (suc (suc (suc (suc (suc (suc k)))))))))))) t e = absurd (let s : None ≡ Some t = e in cc)
+placed (suc (suc (suc (suc (suc (suc (suc (suc (suc zero))))))))) t e =
+    subst (λ (x : Option Text). told x ≡ Some 10) e refl
+placed (suc (suc (suc (suc (suc (suc (suc (suc (suc (suc zero)))))))))) t e =
+    subst (λ (x : Option Text). told x ≡ Some 11) e refl
+placed (suc (suc (suc (suc (suc (suc (suc (suc (suc (suc (suc zero))))))))))) t e =
+    subst (λ (x : Option Text). told x ≡ Some 12) e refl
+placed (suc (suc (suc (suc (suc (suc (suc (suc (suc (suc (suc (suc k)))))))))))) t e =
+    absurd (let s : None ≡ Some t = e in cc)
 
 -- three letters, which in small letters name month n
 abbrev pub IsLetters : Text → ℕ → Type 0
-IsLetters p n = (a : ℕ) × (b : ℕ) × (c : ℕ) × (p ≡ a ∷ b ∷ c ∷ []) × (small_month (to_ascii_lowercase a) (to_ascii_lowercase b) (to_ascii_lowercase c) ≡ Some n)
+IsLetters p n = (a : ℕ) × (b : ℕ) × (c : ℕ) × (p ≡ a ∷ b ∷ c ∷ [])
+    × (small_month (to_ascii_lowercase a) (to_ascii_lowercase b) (to_ascii_lowercase c) ≡ Some n)
 
 spelt : (p : Text) (n : ℕ) → told (Some (map to_ascii_lowercase p)) ≡ Some n → IsLetters p n
 spelt [] n e = absurd (let s : None ≡ Some n = e in cc)
@@ -106,7 +114,16 @@ not_letter a k l m = elim (eqb_tells a k) [ inl r ↦ absurd (let t = r.1 in ome
 no_month : (a b c : ℕ) → a < 97 → small_month a b c ≡ None
 unfolding small_month
 no_month a b c l =
-    rw (not_letter a 106 l (omega arith), not_letter a 102 l (omega arith), not_letter a 109 l (omega arith), not_letter a 97 l (omega arith), not_letter a 115 l (omega arith), not_letter a 111 l (omega arith), not_letter a 110 l (omega arith), not_letter a 100 l (omega arith)) refl
+    rw (
+      not_letter a 106 l (omega arith),
+      not_letter a 102 l (omega arith),
+      not_letter a 109 l (omega arith),
+      not_letter a 97 l (omega arith),
+      not_letter a 115 l (omega arith),
+      not_letter a 111 l (omega arith),
+      not_letter a 110 l (omega arith),
+      not_letter a 100 l (omega arith),
+    ) refl
 
 -- a letter, or a character past the letters
 abbrev pub IsLetter : ℕ → Type 0
@@ -118,5 +135,6 @@ month_begins p q n h =
     begins_with IsLetter a p (b ∷ c ∷ []) w (elim (leb_tells 65 a) [
       | inl r ↦ r.1
       | inr r ↦ absurd (let e = (lowercase_is a).1 r.1 in
-          let s : None ≡ Some n = sym (no_month (to_ascii_lowercase a) (to_ascii_lowercase b) (to_ascii_lowercase c) (let t = r.1 in omega (arith, e))) ∙ m in cc)
+          let s : None ≡ Some n = sym (no_month (to_ascii_lowercase a) (to_ascii_lowercase b) (to_ascii_lowercase c)
+          (let t = r.1 in omega (arith, e))) ∙ m in cc)
     ])

@@ -1,5 +1,6 @@
 -- A printed stamp is ASCII, so that its characters are its bytes.
-use Rattle.std.proofs.Common.{◌≡◌, ℕ, ℤ, pos, negsuc, zero, suc, ◌+◌, ◌+ℤ◌, ◌/◌, ◌%◌, ◌<◌, ◌≤◌, ◌==◌, List, ◌∷◌, ◌++◌, arith, unsigned_abs}
+use Rattle.std.proofs.Common.{◌≡◌, ℕ, ℤ, pos, negsuc, zero, suc, ◌+◌, ◌+ℤ◌, ◌/◌, ◌%◌}
+use Rattle.std.proofs.Common.{◌<◌, ◌≤◌, ◌==◌, List, ◌∷◌, ◌++◌, arith, unsigned_abs}
 use Rattle.std.proofs.lemmas.List.Elements.{All-append}
 use Rattle.std.proofs.lemmas.Str.{encodes-IsAscii}
 use Rattle.std.specs.List.{All}
@@ -13,8 +14,10 @@ use Rattle.jiff_fmt.specs.Text.{pad2, pad4}
 use Rattle.syslog_pieces.specs.declared.timestamp.OffsetTimestamp.{OffsetTimestamp}
 use Rattle.syslog_pieces.specs.declared.timestamp.fields.CivilFields.{CivilFields}
 use Rattle.syslog_pieces.specs.Timestamp.Fields.{AreCivil}
-use Rattle.syslog_pieces.specs.Timestamp.Printed.{printed_stamp, civil_fields, date_time_text, year_sign, fraction_text, pad3, offset_text, offset_sign}
-use Rattle.syslog_pieces.proofs.TimestampLemmas.Characters.{IsStampCharacter, nothing, before, two_digits, four_digits, part, colon, dash, plus, ascii_from_characters}
+use Rattle.syslog_pieces.specs.Timestamp.Printed.{printed_stamp, civil_fields, date_time_text, year_sign}
+use Rattle.syslog_pieces.specs.Timestamp.Printed.{fraction_text, pad3, offset_text, offset_sign}
+use Rattle.syslog_pieces.proofs.TimestampLemmas.Characters.{IsStampCharacter, nothing, before, two_digits, four_digits}
+use Rattle.syslog_pieces.proofs.TimestampLemmas.Characters.{part, colon, dash, plus, ascii_from_characters}
 use Rattle.syslog_pieces.proofs.TimestampLemmas.Range.{civil_fields_exist, in_range-at_offset}
 
 three_digits : (n : ℕ) → n < 1_000 → All IsStampCharacter (pad3 n)
@@ -40,7 +43,8 @@ fraction n h =
     (λ f. by_bool (n % 1_000 == 0)
     (λ g. rw (e, f, g) (before 46 (milli ++ micro) dot (All-append IsStampCharacter milli micro milli_in micro_in)))
     (λ g. rw (e, f, g) (before 46 (milli ++ (micro ++ nano)) dot
-    (All-append IsStampCharacter milli (micro ++ nano) milli_in (All-append IsStampCharacter micro nano micro_in nano_in))))))
+    (All-append IsStampCharacter milli (micro ++ nano) milli_in
+    (All-append IsStampCharacter micro nano micro_in nano_in))))))
 
 -- a number from -k to k
 pub absolute : (z : ℤ) (k : ℕ) → IsWithin k z → unsigned_abs z ≤ k
@@ -85,16 +89,19 @@ date_time f there =
     let hours = part 84 f.hour after_hour (omega arith, omega arith) (omega arith) minutes in
     let dates = part 45 f.month after_month dash month (part 45 f.day after_day dash day hours) in
     let years = pad4 (unsigned_abs f.year) in
-    signed f.year (years ++ after_year) (All-append IsStampCharacter years after_year (four_digits (unsigned_abs f.year) (omega arith)) dates)
+    signed f.year (years ++ after_year)
+    (All-append IsStampCharacter years after_year (four_digits (unsigned_abs f.year) (omega arith)) dates)
 
 -- each character of a printed stamp in range is one from `+` to `z`
-pub printed_stamp-characters : (n o : ℤ) → IsTimestampNanos n → IsOffsetSeconds o → All IsStampCharacter (printed_stamp n o)
+pub printed_stamp-characters : (n o : ℤ) → IsTimestampNanos n → IsOffsetSeconds o
+    → All IsStampCharacter (printed_stamp n o)
 unfolding printed_stamp
 printed_stamp-characters n o h k =
     let there = (civil_fields_exist _ (in_range-at_offset n o h k)).0 in
     let f = civil_fields (n +ℤ nanos_of_seconds o) in
     All-append IsStampCharacter (date_time_text f) (fraction_text f.nanosecond ++ offset_text o) (date_time f there)
-    (All-append IsStampCharacter (fraction_text f.nanosecond) (offset_text o) (fraction f.nanosecond there.nanosecond_in) (offset o k))
+    (All-append IsStampCharacter (fraction_text f.nanosecond) (offset_text o)
+    (fraction f.nanosecond there.nanosecond_in) (offset o k))
 
 pub printed_stamp-ascii : (s : OffsetTimestamp) → IsAscii (printed_stamp s.instant.nanosecond s.offset.seconds)
 printed_stamp-ascii s =
@@ -102,5 +109,6 @@ printed_stamp-ascii s =
 
 -- the bytes of a printed stamp are its characters
 pub printed_stamp-bytes : (s : OffsetTimestamp)
-    → encode_utf8_all (printed_stamp s.instant.nanosecond s.offset.seconds) ≡ printed_stamp s.instant.nanosecond s.offset.seconds
+    → encode_utf8_all (printed_stamp s.instant.nanosecond s.offset.seconds)
+    ≡ printed_stamp s.instant.nanosecond s.offset.seconds
 printed_stamp-bytes s = encodes-IsAscii _ (printed_stamp-ascii s)

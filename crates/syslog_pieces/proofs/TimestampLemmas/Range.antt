@@ -1,10 +1,13 @@
 -- Every count of nanoseconds in range has civil fields, which the calendar has.
-use Rattle.std.proofs.Common.{◌≡◌, ℕ, ℤ, zero, suc, pos, negsuc, ◌+ℤ◌, ◌-ℤ◌, ◌*ℤ◌, ◌≤ℤ◌, ◌<ℤ◌, ◌+◌, ◌-◌, ◌*◌, ◌/◌, ◌%◌, ◌<◌, ◌≤◌, ◌≢◌, inl, inr, refl, ap, ◌∙◌, arith, unsigned_abs}
+use Rattle.std.proofs.Common.{◌≡◌, ℕ, ℤ, zero, suc, pos, negsuc, ◌+ℤ◌, ◌-ℤ◌, ◌*ℤ◌, ◌≤ℤ◌, ◌<ℤ◌, ◌+◌, ◌-◌}
+use Rattle.std.proofs.Common.{◌*◌, ◌/◌, ◌%◌, ◌<◌, ◌≤◌, ◌≢◌, inl, inr, refl, ap, ◌∙◌, arith, unsigned_abs}
 use Rattle.std.proofs.lemmas.Bool.Decides.{leb_tells}
 use Rattle.std.specs.Int.{int_div_euclid, int_rem_euclid}
 use Rattle.jiff.specs.Words.{nanos_of_seconds, IsTimestampNanos, IsOffsetSeconds, IsCivilNanos, IsEpochDay, IsYear}
-use Rattle.jiff_core.specs.Calendar.{days_of_months, days_of_years, days_from_civil, days_in_month, days_in_year, day_count, IsCivilDate}
-use Rattle.jiff_core.proofs.CalendarLemmas.{days_of_months_more, days_of_months_all, days_of_months-zero, days_in_year_bounds, days_from_civil-day_count, day_count-day_of_year}
+use Rattle.jiff_core.specs.Calendar.{days_of_months, days_of_years, days_from_civil}
+use Rattle.jiff_core.specs.Calendar.{days_in_month, days_in_year, day_count, IsCivilDate}
+use Rattle.jiff_core.proofs.CalendarLemmas.{days_of_months_more, days_of_months_all, days_of_months-zero}
+use Rattle.jiff_core.proofs.CalendarLemmas.{days_in_year_bounds, days_from_civil-day_count, day_count-day_of_year}
 use Rattle.jiff_core.proofs.MarchLemmas.{days_of_years-march_days}
 use Rattle.jiff_core.proofs.SignedLemmas.{signed_arith, int_rem_euclid-parts, int_div_euclid-parts}
 use Rattle.jiff_tz.specs.Year.{year_of_day, years_within}
@@ -16,7 +19,8 @@ use Rattle.syslog_pieces.specs.Timestamp.Printed.{months_within, place_in_year, 
 pub in_range-at_offset : (n o : ℤ) → IsTimestampNanos n → IsOffsetSeconds o → IsCivilNanos (n +ℤ nanos_of_seconds o)
 in_range-at_offset n o h k = omega (arith, signed_arith)
 
-months_fit : (y : ℤ) (n count : ℕ) → (days_of_months y (months_within y n count) ≤ count) × (months_within y n count ≤ n)
+months_fit : (y : ℤ) (n count : ℕ) → (days_of_months y (months_within y n count) ≤ count)
+    × (months_within y n count ≤ n)
     × (count < days_of_months y (suc n) → count < days_of_months y (suc (months_within y n count)))
 unfolding months_within
 months_fit y zero count = let none = days_of_months-zero y in (omega arith, omega arith, λ h. h)
@@ -64,14 +68,18 @@ from_start : (z : ℤ) → pos 0 ≤ℤ z → pos (unsigned_abs z) ≡ z
 from_start (pos n) h = refl
 from_start (negsuc n) h = absurd (omega (arith, signed_arith))
 
-year_placed : (day : ℤ) (count k : ℕ) → IsEpochDay day → pos count ≡ day +ℤ pos 4_371_953 → days_of_years k ≤ count → k ≤ 20000
-    → (count < days_of_years (suc 20000) → count < days_of_years (suc k)) → IsPlaced day (pos k -ℤ pos 10000) (count - days_of_years k)
+year_placed : (day : ℤ) (count k : ℕ) → IsEpochDay day → pos count ≡ day +ℤ pos 4_371_953 → days_of_years k ≤ count
+    → k ≤ 20000
+    → (count < days_of_years (suc 20000) → count < days_of_years (suc k))
+    → IsPlaced day (pos k -ℤ pos 10000) (count - days_of_years k)
 year_placed day count k range e low most next =
     let all = years_all in
     let more = days_of_years-next 20000 in
     let high : count < days_of_years (suc k) = next (omega (arith, signed_arith, range.1)) in
-    let below : k ≡ 20000 → ⊥ = λ same. let f : days_of_years k ≡ 7_304_850 = ap days_of_years same ∙ all in omega (arith, signed_arith, range.1) in
-    let above : k ≡ 0 → ⊥ = λ same. let f : days_of_years (suc k) ≡ 366 = ap (λ j. days_of_years (suc j)) same ∙ years_one in omega (arith, signed_arith, range.0) in
+    let below : k ≡ 20000 → ⊥ = λ same. let f : days_of_years k ≡ 7_304_850 = ap days_of_years same ∙ all in
+    omega (arith, signed_arith, range.1) in
+    let above : k ≡ 0 → ⊥ = λ same. let f : days_of_years (suc k) ≡ 366 = ap (λ j. days_of_years (suc j)) same
+    ∙ years_one in omega (arith, signed_arith, range.0) in
     let least : k ≢ 0 = above in
     let shifted : pos k -ℤ pos 10000 +ℤ pos 10000 ≡ pos k = omega (arith, signed_arith) in
     let first = day_count-first (pos k -ℤ pos 10000) k shifted in
@@ -89,13 +97,15 @@ day_placed day range =
     let e = from_start (day +ℤ pos 4_371_953) (omega (arith, signed_arith, range.0)) in
     let fit = years_fit 20000 count in
     let p = year_placed day count (years_within 20000 count) range e fit.0 fit.1 fit.2 in
-    let place : place_in_year (year_of_day day) day ≡ count - days_of_years (years_within 20000 count) = abs-diff day _ _ p.same in
+    let place : place_in_year (year_of_day day) day ≡ count - days_of_years (years_within 20000 count) =
+    abs-diff day _ _ p.same in
     rw place p
 
 -- the month and the day at a place in a year
 month_placed : (y : ℤ) (place j : ℕ) → place < days_in_year y → days_of_months y j ≤ place → j ≤ 11
     → (place < days_of_months y 12 → place < days_of_months y (suc j))
-    → (place - days_of_months y j + 1 ≤ days_in_month y (j + 1)) × (days_of_months y (j + 1 - 1) + (place - days_of_months y j + 1) ≡ place + 1)
+    → (place - days_of_months y j + 1 ≤ days_in_month y (j + 1))
+    × (days_of_months y (j + 1 - 1) + (place - days_of_months y j + 1) ≡ place + 1)
 month_placed y place j h low most next =
     let all = days_of_months_all y in
     let high = next (omega arith) in
@@ -108,7 +118,8 @@ month_placed y place j h low most next =
 -- the fields at a place in a year, on plain numbers
 place_exists : (y day : ℤ) (place j n : ℕ) → IsPlaced day y place → days_of_months y j ≤ place → j ≤ 11
     → (place < days_of_months y 12 → place < days_of_months y (suc j)) → n < 86_400_000_000_000
-    → IsCivilDate y (j + 1) (place - days_of_months y j + 1) × (days_from_civil y (j + 1) (place - days_of_months y j + 1) ≡ day)
+    → IsCivilDate y (j + 1) (place - days_of_months y j + 1)
+    × (days_from_civil y (j + 1) (place - days_of_months y j + 1) ≡ day)
 place_exists y day place j n p low most next small =
     let m = month_placed y place j p.place_in low most next in
     let d = place - days_of_months y j + 1 in
@@ -120,12 +131,15 @@ place_exists y day place j n p low most next small =
     ((year_in, (omega arith, omega arith), (omega arith, m.0)), omega (arith, signed_arith, m.1))
 
 clock_parts : (n : ℕ) → n < 86_400_000_000_000
-    → (n / 3_600_000_000_000 < 24) × (n / 60_000_000_000 % 60 < 60) × (n / 1_000_000_000 % 60 < 60) × (n % 1_000_000_000 < 1_000_000_000)
-    × ((n / 3_600_000_000_000 * 3600 + n / 60_000_000_000 % 60 * 60 + n / 1_000_000_000 % 60) * 1_000_000_000 + n % 1_000_000_000 ≡ n)
+    → (n / 3_600_000_000_000 < 24) × (n / 60_000_000_000 % 60 < 60) × (n / 1_000_000_000 % 60 < 60)
+    × (n % 1_000_000_000 < 1_000_000_000)
+    × ((n / 3_600_000_000_000 * 3600 + n / 60_000_000_000 % 60 * 60 + n / 1_000_000_000 % 60) * 1_000_000_000
+    + n % 1_000_000_000 ≡ n)
 clock_parts n h = (omega arith, omega arith, omega arith, omega arith, omega arith)
 
 fields_exist-place : (y day : ℤ) (place n : ℕ) → IsPlaced day y place → n < 86_400_000_000_000
-    → AreCivil (place_fields y place n) × (nanos_of_fields (place_fields y place n) ≡ day *ℤ pos 86_400_000_000_000 +ℤ pos n)
+    → AreCivil (place_fields y place n)
+    × (nanos_of_fields (place_fields y place n) ≡ day *ℤ pos 86_400_000_000_000 +ℤ pos n)
 unfolding place_fields
 fields_exist-place y day place n p small =
     let fit = months_fit y 11 place in
@@ -154,7 +168,8 @@ civil_fields_exist n h =
 days_of_years-most : (k : ℕ) → days_of_years k ≤ 366 * k
 unfolding days_of_years
 days_of_years-most zero = omega arith
-days_of_years-most (suc k) = let h = days_of_years-most k in let y = days_in_year_bounds (pos k -ℤ pos 10000) in omega arith
+days_of_years-most (suc k) = let h = days_of_years-most k in let y = days_in_year_bounds (pos k -ℤ pos 10000) in
+    omega arith
 
 -- a day from 1970 on is in no year before 0
 late_year : (day : ℤ) → IsEpochDay day → pos 0 ≤ℤ day → pos 0 ≤ℤ year_of_day day
@@ -170,9 +185,11 @@ late_year day range late =
     omega (arith, signed_arith)
 
 -- from the third day of 1970 on a clock at no offset shows a year before 0
-pub late_fields : (n o : ℤ) → IsTimestampNanos n → IsOffsetSeconds o → pos 172_800_000_000_000 <ℤ n → pos 0 ≤ℤ (civil_fields (n +ℤ nanos_of_seconds o)).year
+pub late_fields : (n o : ℤ) → IsTimestampNanos n → IsOffsetSeconds o → pos 172_800_000_000_000 <ℤ n
+    → pos 0 ≤ℤ (civil_fields (n +ℤ nanos_of_seconds o)).year
 unfolding civil_fields place_fields
 late_fields n o h k late =
     let at = in_range-at_offset n o h k in
     let quot = int_div_euclid-parts (n +ℤ nanos_of_seconds o) 86_400_000_000_000 (omega arith) in
-    late_year (int_div_euclid (n +ℤ nanos_of_seconds o) (pos 86_400_000_000_000)) (omega (arith, signed_arith, at.0, at.1)) (omega (arith, signed_arith, k.0))
+    late_year (int_div_euclid (n +ℤ nanos_of_seconds o) (pos 86_400_000_000_000))
+    (omega (arith, signed_arith, at.0, at.1)) (omega (arith, signed_arith, k.0))

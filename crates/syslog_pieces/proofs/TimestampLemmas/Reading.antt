@@ -1,6 +1,8 @@
 -- The readers of a text's pieces read what the text writes. `NAME-is` says that what is read stands
 -- there, `NAME-of` that what stands there is read.
-use Rattle.std.proofs.Common.{◌≡◌, inl, inr, ℕ, ℤ, pos, neg_ℤ, ◌+◌, ◌-◌, ◌*◌, ◌/◌, ◌%◌, ◌<◌, ◌≤◌, ◌&&◌, ◌||◌, ◌==◌, nat_lt, true, false, List, [], ◌∷◌, ◌++◌, length, take, Option, Some, None, refl, sym, ap, subst, arith}
+use Rattle.std.proofs.Common.{◌≡◌, inl, inr, ℕ, ℤ, pos, neg_ℤ, ◌+◌, ◌-◌, ◌*◌, ◌/◌, ◌%◌, ◌<◌}
+use Rattle.std.proofs.Common.{◌≤◌, ◌&&◌, ◌||◌, ◌==◌, nat_lt, true, false, List, [], ◌∷◌, ◌++◌}
+use Rattle.std.proofs.Common.{length, take, Option, Some, None, refl, sym, ap, subst, arith}
 use Rattle.std.specs.Prelude.{unwrap_or, option_and_then}
 use Rattle.std.proofs.lemmas.Bool.Decides.{nat_tests}
 use Rattle.std.specs.Char.{is_ascii_digit}
@@ -17,7 +19,8 @@ use Rattle.std.specs.Char.{IsAsciiDigit}
 use Rattle.jiff_fmt.specs.Reader.{fraction_value}
 use Rattle.jiff_fmt.proofs.RoundTrip.{two_digits-pad2, four_digits-pad4}
 use Rattle.syslog_pieces.specs.declared.timestamp.rfc3339_text.Rfc3339Fields.{Rfc3339Fields}
-use Rattle.syslog_pieces.specs.Bodies.StampReading.{after_byte, after_letter, date, clock, nanoseconds, fraction, offset_minutes, offset_seconds, rfc3339_fields, is_empty}
+use Rattle.syslog_pieces.specs.Bodies.StampReading.{after_byte, after_letter, date, clock, nanoseconds, fraction}
+use Rattle.syslog_pieces.specs.Bodies.StampReading.{offset_minutes, offset_seconds, rfc3339_fields, is_empty}
 use Rattle.syslog_pieces.proofs.TimestampLemmas.Fraction.{nanoseconds-of}
 use Rattle.syslog_pieces.specs.Timestamp.Rfc3339.{IsLetter, IsFraction, IsOffsetText, Writes}
 
@@ -28,13 +31,16 @@ by_option (Some x) n s = s x refl
 pub some-inj : {A : Type 0} (x y : A) → Some x ≡ Some y → x ≡ y
 some-inj x y e = ap (λ o. unwrap_or o x) e
 
-pub pair-inj : {A B : Type 0} (a c : A) (b d : B) → ◌≡◌ {A = Option (A × B)} (Some (a, b)) (Some (c, d)) → (a ≡ c) × (b ≡ d)
-pair-inj {A} {B} a c b d e = let k = some-inj {A = A × B} (a, b) (c, d) e in (ap (λ (p : A × B). p.0) k, ap (λ (p : A × B). p.1) k)
+pub pair-inj : {A B : Type 0} (a c : A) (b d : B) → ◌≡◌ {A = Option (A × B)} (Some (a, b)) (Some (c, d))
+    → (a ≡ c) × (b ≡ d)
+pair-inj {A} {B} a c b d e = let k = some-inj {A = A × B} (a, b) (c, d) e in
+    (ap (λ (p : A × B). p.0) k, ap (λ (p : A × B). p.1) k)
 
 pub none-some : {A P : Type 0} (x : A) → None ≡ Some x → P
 none-some x e = absurd (cc)
 
-two_digits-is : (text : List ℕ) (n : ℕ) (rest : List ℕ) → two_digits text ≡ Some (n, rest) → (n < 100) × (text ≡ pad2 n ++ rest)
+two_digits-is : (text : List ℕ) (n : ℕ) (rest : List ℕ) → two_digits text ≡ Some (n, rest)
+    → (n < 100) × (text ≡ pad2 n ++ rest)
 unfolding two_digits
 two_digits-is [] n rest h = none-some _ h
 two_digits-is (a ∷ []) n rest h = none-some _ h
@@ -54,17 +60,20 @@ after_byte-is : (byte : ℕ) (text rest : List ℕ) → after_byte byte text ≡
 after_byte-is byte [] rest h = none-some _ h
 after_byte-is byte (c ∷ more) rest h =
     by_bool (c == byte)
-    (λ t. let same : c ≡ byte = grind (arith, nat_tests, t) in let tail : more ≡ rest = some-inj _ _ (rw t at h) in rw (same, tail))
+    (λ t. let same : c ≡ byte = grind (arith, nat_tests, t) in let tail : more ≡ rest = some-inj _ _ (rw t at h) in
+    rw (same, tail))
     (λ t. none-some _ (rw t at h))
 
-after_letter-is : (upper : ℕ) (text rest : List ℕ) → after_letter upper text ≡ Some rest → (c : ℕ) × IsLetter upper c × (text ≡ c ∷ rest)
+after_letter-is : (upper : ℕ) (text rest : List ℕ) → after_letter upper text ≡ Some rest
+    → (c : ℕ) × IsLetter upper c × (text ≡ c ∷ rest)
 after_letter-is upper [] rest h = none-some _ h
 after_letter-is upper (c ∷ more) rest h =
     by_bool (c == upper || c == upper + 32)
     (λ t. let tail : more ≡ rest = some-inj _ _ (rw t at h) in (c, grind (arith, nat_tests, t), rw tail))
     (λ t. none-some _ (rw t at h))
 
-four_digits-is : (text : List ℕ) (n : ℕ) (rest : List ℕ) → four_digits text ≡ Some (n, rest) → (n < 10_000) × (text ≡ pad4 n ++ rest)
+four_digits-is : (text : List ℕ) (n : ℕ) (rest : List ℕ) → four_digits text ≡ Some (n, rest)
+    → (n < 10_000) × (text ≡ pad4 n ++ rest)
 unfolding four_digits
 four_digits-is text n rest h =
     by_option (two_digits text) (λ e. none-some _ (rw e at h))
@@ -79,7 +88,8 @@ four_digits-is text n rest h =
     (omega arith, rw (high, low, ← p.1, a.1, b.1))))
 
 -- the two steps of a chain that gives a value
-chained : {A B : Type 0} (o : Option A) (f : A → Option B) (y : B) → option_and_then f o ≡ Some y → (x : A) × (o ≡ Some x) × (f x ≡ Some y)
+chained : {A B : Type 0} (o : Option A) (f : A → Option B) (y : B) → option_and_then f o ≡ Some y
+    → (x : A) × (o ≡ Some x) × (f x ≡ Some y)
 chained None f y h = none-some _ h
 chained (Some x) f y h = (x, refl, h)
 
@@ -87,7 +97,8 @@ chained (Some x) f y h = (x, refl, h)
 abbrev IsPart : ℕ → List ℕ → ℕ × List ℕ → Type 0
 IsPart byte text r = (r.0 < 100) × (text ≡ byte ∷ pad2 r.0 ++ r.1)
 
-part-is : (byte : ℕ) (text : List ℕ) (r : ℕ × List ℕ) → option_and_then two_digits (after_byte byte text) ≡ Some r → IsPart byte text r
+part-is : (byte : ℕ) (text : List ℕ) (r : ℕ × List ℕ) → option_and_then two_digits (after_byte byte text) ≡ Some r
+    → IsPart byte text r
 part-is byte text r h =
     let (after, is_byte, is_number) = chained (after_byte byte text) two_digits r h in
     let number = two_digits-is after r.0 r.1 is_number in
@@ -118,8 +129,12 @@ date-is text r h =
     let months = part-is 45 year.1 month is_month in
     let days = part-is 45 month.1 day is_day in
     let P : (ℕ × ℕ × ℕ) × List ℕ → Type 0 = IsDate text in
-    subst P (some-inj _ r is_date)
-    (years.0, months.0, days.0, three-parts text year.1 month.1 day.1 (pad4 year.0) (45 ∷ pad2 month.0) (45 ∷ pad2 day.0) years.1 months.1 days.1)
+    subst P (some-inj _ r is_date) (
+      years.0,
+      months.0,
+      days.0,
+      three-parts text year.1 month.1 day.1 (pad4 year.0) (45 ∷ pad2 month.0) (45 ∷ pad2 day.0) years.1 months.1 days.1,
+    )
 
 clock-is : (text : List ℕ) (r : (ℕ × ℕ × ℕ) × List ℕ) → clock text ≡ Some r → IsClock text r
 unfolding clock
@@ -131,8 +146,13 @@ clock-is text r h =
     let minutes = part-is 58 hour.1 minute is_minute in
     let seconds = part-is 58 minute.1 second is_second in
     let P : (ℕ × ℕ × ℕ) × List ℕ → Type 0 = IsClock text in
-    subst P (some-inj _ r is_clock)
-    (hours.0, minutes.0, seconds.0, three-parts text hour.1 minute.1 second.1 (pad2 hour.0) (58 ∷ pad2 minute.0) (58 ∷ pad2 second.0) hours.1 minutes.1 seconds.1)
+    subst P (some-inj _ r is_clock) (
+      hours.0,
+      minutes.0,
+      seconds.0,
+      three-parts text hour.1 minute.1 second.1 (pad2 hour.0) (58 ∷ pad2 minute.0)
+          (58 ∷ pad2 second.0) hours.1 minutes.1 seconds.1,
+    )
 
 digits-front : (text : List ℕ) → All IsAsciiDigit (take (prefix_len is_ascii_digit text) text)
 digits-front text k d h =
@@ -143,7 +163,8 @@ digits-front text k d h =
     let test : is_in_range 48 57 (get_or text k d) ≡ true = prefix_len_passes is_ascii_digit text k d within in
     rw here (grind (arith, nat_tests, test))
 
-fraction-is : (text : List ℕ) (n : ℕ) (rest : List ℕ) → fraction text ≡ Some (n, rest) → (decimals : List ℕ) × IsFraction decimals n × (text ≡ decimals ++ rest)
+fraction-is : (text : List ℕ) (n : ℕ) (rest : List ℕ) → fraction text ≡ Some (n, rest)
+    → (decimals : List ℕ) × IsFraction decimals n × (text ≡ decimals ++ rest)
 unfolding fraction nanoseconds
 fraction-is [] n rest h = let e = pair-inj _ _ _ _ h in ([], inl (refl, sym e.0), rw (← e.1))
 fraction-is (c ∷ more) n rest h =
@@ -169,10 +190,12 @@ is_empty-is : (text : List ℕ) → is_empty text ≡ true → text ≡ []
 is_empty-is [] h = refl
 is_empty-is (c ∷ rest) h = absurd (cc)
 
-hours-joined : (text after rest : List ℕ) (h m : ℕ) → text ≡ pad2 h ++ after → after ≡ 58 ∷ pad2 m ++ rest → rest ≡ [] → text ≡ pad2 h ++ 58 ∷ pad2 m
+hours-joined : (text after rest : List ℕ) (h m : ℕ) → text ≡ pad2 h ++ after → after ≡ 58 ∷ pad2 m ++ rest → rest ≡ []
+    → text ≡ pad2 h ++ 58 ∷ pad2 m
 hours-joined text after rest h m e f g = rw (e, f, g)
 
-offset_minutes-is : (text : List ℕ) (n : ℕ) → offset_minutes text ≡ Some n → (h m : ℕ) × (h < 24) × (m < 60) × (n ≡ h * 60 + m) × (text ≡ pad2 h ++ 58 ∷ pad2 m)
+offset_minutes-is : (text : List ℕ) (n : ℕ) → offset_minutes text ≡ Some n → (h m : ℕ) × (h < 24) × (m < 60)
+    × (n ≡ h * 60 + m) × (text ≡ pad2 h ++ 58 ∷ pad2 m)
 unfolding offset_minutes
 offset_minutes-is text n h =
     let (hours, is_hours, after_hours) = chained (two_digits text) _ n h in
@@ -182,17 +205,25 @@ offset_minutes-is text n h =
     let value = some-inj _ _ (rw t at at_end) in
     let in_day : (hours.0 < 24) × (minutes.0 < 60) × (is_empty minutes.1 ≡ true) = grind (arith, nat_tests, t) in
     let front = two_digits-is text hours.0 hours.1 is_hours in
-    let back = part-is 58 hours.1 minutes is_minutes in
-    (hours.0, minutes.0, in_day.0, in_day.1, sym value, hours-joined text hours.1 minutes.1 hours.0 minutes.0 front.1 back.1 (is_empty-is minutes.1 in_day.2)))
+    let back = part-is 58 hours.1 minutes is_minutes in (
+      hours.0,
+      minutes.0,
+      in_day.0,
+      in_day.1,
+      sym value,
+      hours-joined text hours.1 minutes.1 hours.0 minutes.0 front.1 back.1 (is_empty-is minutes.1 in_day.2),
+    ))
     (λ t. none-some _ (rw t at at_end))
 
-signed-text : (c b h m : ℕ) (rest : List ℕ) → c ≡ b → rest ≡ pad2 h ++ 58 ∷ pad2 m → c ∷ rest ≡ b ∷ pad2 h ++ 58 ∷ pad2 m
+signed-text : (c b h m : ℕ) (rest : List ℕ) → c ≡ b → rest ≡ pad2 h ++ 58 ∷ pad2 m
+    → c ∷ rest ≡ b ∷ pad2 h ++ 58 ∷ pad2 m
 signed-text c b h m rest e f = rw (e, f)
 
 joined : (text after_date after_letter after_clock decimals zone : List ℕ) (y m d c h mi s : ℕ)
     → text ≡ pad4 y ++ (45 ∷ pad2 m ++ (45 ∷ pad2 d ++ after_date)) → after_date ≡ c ∷ after_letter
     → after_letter ≡ pad2 h ++ (58 ∷ pad2 mi ++ (58 ∷ pad2 s ++ after_clock)) → after_clock ≡ decimals ++ zone
-    → text ≡ pad4 y ++ (45 ∷ pad2 m ++ (45 ∷ pad2 d ++ (c ∷ pad2 h ++ (58 ∷ pad2 mi ++ (58 ∷ pad2 s ++ (decimals ++ zone))))))
+    → text ≡ pad4 y ++ (45 ∷ pad2 m
+    ++ (45 ∷ pad2 d ++ (c ∷ pad2 h ++ (58 ∷ pad2 mi ++ (58 ∷ pad2 s ++ (decimals ++ zone))))))
 joined text after_date after_letter after_clock decimals zone y m d c h mi s e1 e2 e3 e4 = rw (e1, e2, e3, e4)
 
 offset_seconds-is : (text : List ℕ) (z : ℤ) → offset_seconds text ≡ Some z → IsOffsetText text z
@@ -202,7 +233,8 @@ offset_seconds-is (c ∷ rest) z h =
     by_bool (c == 90 || c == 122)
     (λ t. let h1 = rw t at h in
     by_bool (is_empty rest)
-    (λ e. let value = some-inj _ _ (rw e at h1) in inl (c, ap (λ xs. c ∷ xs) (is_empty-is rest e), grind (arith, nat_tests, t), sym value))
+    (λ e. let value = some-inj _ _ (rw e at h1) in
+    inl (c, ap (λ xs. c ∷ xs) (is_empty-is rest e), grind (arith, nat_tests, t), sym value))
     (λ e. none-some _ (rw e at h1)))
     (λ t. let h1 = rw t at h in
     by_bool (c == 43)
@@ -263,17 +295,28 @@ rfc3339_fields-is text w h =
 -- and what a text writes, the reader reads
 
 after_letter-of : (upper c : ℕ) (rest : List ℕ) → IsLetter upper c → after_letter upper (c ∷ rest) ≡ Some rest
-after_letter-of upper c rest l = let same : (c == upper || c == upper + 32) ≡ true = grind (arith, nat_tests, l) in rw same
+after_letter-of upper c rest l = let same : (c == upper || c == upper + 32) ≡ true = grind (arith, nat_tests, l) in
+    rw same
 
-date-of : (y m d : ℕ) (rest : List ℕ) → y < 10_000 → m < 100 → d < 100 → date (pad4 y ++ (45 ∷ pad2 m ++ (45 ∷ pad2 d ++ rest))) ≡ Some ((y, m, d), rest)
+date-of : (y m d : ℕ) (rest : List ℕ) → y < 10_000 → m < 100 → d < 100
+    → date (pad4 y ++ (45 ∷ pad2 m ++ (45 ∷ pad2 d ++ rest))) ≡ Some ((y, m, d), rest)
 unfolding date
 date-of y m d rest a b c =
-    rw (four_digits-pad4 y (45 ∷ pad2 m ++ (45 ∷ pad2 d ++ rest)) a, two_digits-pad2 m (45 ∷ pad2 d ++ rest) b, two_digits-pad2 d rest c)
+    rw (
+      four_digits-pad4 y (45 ∷ pad2 m ++ (45 ∷ pad2 d ++ rest)) a,
+      two_digits-pad2 m (45 ∷ pad2 d ++ rest) b,
+      two_digits-pad2 d rest c,
+    )
 
-clock-of : (h m s : ℕ) (rest : List ℕ) → h < 100 → m < 100 → s < 100 → clock (pad2 h ++ (58 ∷ pad2 m ++ (58 ∷ pad2 s ++ rest))) ≡ Some ((h, m, s), rest)
+clock-of : (h m s : ℕ) (rest : List ℕ) → h < 100 → m < 100 → s < 100
+    → clock (pad2 h ++ (58 ∷ pad2 m ++ (58 ∷ pad2 s ++ rest))) ≡ Some ((h, m, s), rest)
 unfolding clock
 clock-of h m s rest a b c =
-    rw (two_digits-pad2 h (58 ∷ pad2 m ++ (58 ∷ pad2 s ++ rest)) a, two_digits-pad2 m (58 ∷ pad2 s ++ rest) b, two_digits-pad2 s rest c)
+    rw (
+      two_digits-pad2 h (58 ∷ pad2 m ++ (58 ∷ pad2 s ++ rest)) a,
+      two_digits-pad2 m (58 ∷ pad2 s ++ rest) b,
+      two_digits-pad2 s rest c,
+    )
 
 -- a text that begins with no digit and no dot
 abbrev Starts : List ℕ → Type 0
@@ -288,7 +331,8 @@ dot-of : (digits rest : List ℕ) → 0 < length digits → All IsAsciiDigit dig
 unfolding fraction
 dot-of digits rest long all stop = nanoseconds-of digits rest long all stop
 
-fraction-of : (decimals zone : List ℕ) (n : ℕ) → IsFraction decimals n → Starts zone → fraction (decimals ++ zone) ≡ Some (n, zone)
+fraction-of : (decimals zone : List ℕ) (n : ℕ) → IsFraction decimals n → Starts zone
+    → fraction (decimals ++ zone) ≡ Some (n, zone)
 fraction-of decimals zone n (inl none) start =
     let (c, rest, e, dot, digit) = start in
     rw (none.0, none.1, e) (fraction-start c rest dot)
@@ -312,7 +356,8 @@ offset_plus : (h m : ℕ) → h < 24 → m < 60 → offset_seconds (43 ∷ pad2 
 unfolding offset_seconds
 offset_plus h m a b = rw (offset_minutes-of h m a b)
 
-offset_minus : (h m : ℕ) → h < 24 → m < 60 → offset_seconds (45 ∷ pad2 h ++ 58 ∷ pad2 m) ≡ Some (neg_ℤ (pos ((h * 60 + m) * 60)))
+offset_minus : (h m : ℕ) → h < 24 → m < 60
+    → offset_seconds (45 ∷ pad2 h ++ 58 ∷ pad2 m) ≡ Some (neg_ℤ (pos ((h * 60 + m) * 60)))
 unfolding offset_seconds
 offset_minus h m a b = rw (offset_minutes-of h m a b)
 
@@ -338,7 +383,14 @@ unfolding rfc3339_fields
 rfc3339_fields-of text w h =
     let tail = h.decimals ++ h.zone in
     let clock_text = pad2 w.hour ++ (58 ∷ pad2 w.minute ++ (58 ∷ pad2 w.second ++ tail)) in
-    rw (h.whole, date-of w.year w.month w.day (h.letter ∷ clock_text) h.fits.year h.fits.month h.fits.day, after_letter-of 84 h.letter clock_text h.is_letter, clock-of w.hour w.minute w.second tail h.fits.hour h.fits.minute h.fits.second, fraction-of h.decimals h.zone w.nanosecond h.fraction (starts-of h.zone w.offset h.zone_is), offset_seconds-of h.zone w.offset h.zone_is)
+    rw (
+      h.whole,
+      date-of w.year w.month w.day (h.letter ∷ clock_text) h.fits.year h.fits.month h.fits.day,
+      after_letter-of 84 h.letter clock_text h.is_letter,
+      clock-of w.hour w.minute w.second tail h.fits.hour h.fits.minute h.fits.second,
+      fraction-of h.decimals h.zone w.nanosecond h.fraction (starts-of h.zone w.offset h.zone_is),
+      offset_seconds-of h.zone w.offset h.zone_is,
+    )
 
 -- no text is shorter than a date and a clock
 pub short-none : (text : List ℕ) → length text < 19 → rfc3339_fields text ≡ None

@@ -7,7 +7,8 @@ use Rattle.syslog_pieces.specs.Timestamp.Zone.{Dating, IsMonthStamp}
 use Rattle.syslog_pieces.specs.Timestamp.Rfc3164.{IsStampedDate, rfc3164_stamp}
 use Rattle.syslog_pieces.specs.declared.timestamp.OffsetTimestamp.{OffsetTimestamp}
 use Rattle.syslog_pieces.specs.declared.timestamp.month_date.MonthDate.{MonthDate}
-use Rattle.syslog_pieces.proofs.PieceLemmas.Kinds.{first_kind, second_kind, no_either, Apart, Begins, begins_apart, begins_more, begins_with, either_det}
+use Rattle.syslog_pieces.proofs.PieceLemmas.Kinds.{first_kind, second_kind, no_either, Apart, Begins}
+use Rattle.syslog_pieces.proofs.PieceLemmas.Kinds.{begins_apart, begins_more, begins_with, either_det}
 use Rattle.syslog_pieces.proofs.TimestampLemmas.MonthDate.{month_date_det, month_date_begins}
 use Rattle.syslog_pieces.proofs.TimestampLemmas.Months.{IsLetter}
 use Rattle.syslog_pieces.proofs.TimestampLemmas.Piece.{header_stamp_det}
@@ -25,7 +26,8 @@ header_stamp_begins p q (Some s) (h, z) =
     let (c, more, f, digit) = stamp_text-first p s h in
     begins_more IsLow p q (begins_with IsLow c p more f (let d = digit.1 in omega arith))
 
-pub stamped_date_begins : (dating : Dating) (p q : Text) (v : Option OffsetTimestamp) → IsStampedDate dating p q v → Begins IsLetter (p ++ q)
+pub stamped_date_begins : (dating : Dating) (p q : Text) (v : Option OffsetTimestamp) → IsStampedDate dating p q v
+    → Begins IsLetter (p ++ q)
 stamped_date_begins dating p q None h = absurd h
 stamped_date_begins dating p q (Some s) (d, h, k) = month_date_begins p q d h
 
@@ -41,19 +43,24 @@ stamped_date_det dating p q p' q' (Some s) (Some t) e (d, h, k) (d', h', k') =
 
 kinds_apart : (dating : Dating) → Apart (Option OffsetTimestamp) header_stamp.Is (IsStampedDate dating)
 kinds_apart dating p q p' q' v v' e h h' =
-    begins_apart (p ++ q) (λ c a b. omega arith) (header_stamp_begins p q v h) (subst (λ (x : Text). Begins IsLetter x) (sym e) (stamped_date_begins dating p' q' v' h'))
+    begins_apart (p ++ q) (λ c a b. omega arith) (header_stamp_begins p q v h)
+    (subst (λ (x : Text). Begins IsLetter x) (sym e) (stamped_date_begins dating p' q' v' h'))
 
 pub rfc3164_stamp_det : (dating : Dating) → IsDeterministic (rfc3164_stamp dating)
-rfc3164_stamp_det dating = either_det (Option OffsetTimestamp) header_stamp.Is (IsStampedDate dating) header_stamp_det (stamped_date_det dating) (kinds_apart dating)
+rfc3164_stamp_det dating = either_det (Option OffsetTimestamp) header_stamp.Is (IsStampedDate dating) header_stamp_det
+    (stamped_date_det dating) (kinds_apart dating)
 
 -- ---- what the reader answers
 module _ (dating : Dating) {t : Text} where
-  pub header_front : {q : Text} {v : Option OffsetTimestamp} → Front header_stamp t q v → Front (rfc3164_stamp dating) t q v
+  pub header_front : {q : Text} {v : Option OffsetTimestamp} → Front header_stamp t q v
+      → Front (rfc3164_stamp dating) t q v
   header_front f = first_kind (Option OffsetTimestamp) header_stamp.Is (IsStampedDate dating) f
 
-  pub date_front : {q : Text} {d : MonthDate} (s : OffsetTimestamp) → Front month_date t q d → IsMonthStamp dating d s → Front (rfc3164_stamp dating) t q (Some s)
+  pub date_front : {q : Text} {d : MonthDate} (s : OffsetTimestamp) → Front month_date t q d → IsMonthStamp dating d s
+      → Front (rfc3164_stamp dating) t q (Some s)
   date_front {d = d} s f h =
-      second_kind (Option OffsetTimestamp) header_stamp.Is (IsStampedDate dating) (record { piece = f.piece; whole = f.whole; is = (d, f.is, h) })
+      second_kind (Option OffsetTimestamp) header_stamp.Is (IsStampedDate dating)
+      (record { piece = f.piece; whole = f.whole; is = (d, f.is, h) })
 
   module _ (n : NoFront header_stamp t) where
     no_date_stamp : NoFront (stamped_date dating) t → NoFront (rfc3164_stamp dating) t
@@ -67,7 +74,8 @@ module _ (dating : Dating) {t : Text} where
         none (Some s) p q e (d, h, k) = m p q d e h
 
     -- the date that stands there has none
-    pub no_stamp_of_date : {r : Text} (d : MonthDate) → Front month_date t r d → IsAnswer (IsMonthStamp dating d) None → NoFront (rfc3164_stamp dating) t
+    pub no_stamp_of_date : {r : Text} (d : MonthDate) → Front month_date t r d → IsAnswer (IsMonthStamp dating d) None
+        → NoFront (rfc3164_stamp dating) t
     no_stamp_of_date {r = r} d f m = no_date_stamp (λ p q v e h. none v p q e h)
       where
         none : (v : Option OffsetTimestamp) (p q : Text) → t ≡ p ++ q → IsStampedDate dating p q v → ⊥

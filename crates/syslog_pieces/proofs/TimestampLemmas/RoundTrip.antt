@@ -1,5 +1,8 @@
--- A printed stamp and the texts of RFC 3339: what is printed of a canonical timestamp has it, and no other timestamp has a text.
-use Rattle.std.proofs.Common.{◌≡◌, ℕ, ℤ, zero, suc, pos, negsuc, neg_ℤ, ◌+ℤ◌, ◌-ℤ◌, ◌≤ℤ◌, ◌<ℤ◌, ◌+◌, ◌*◌, ◌/◌, ◌%◌, ◌<◌, ◌==◌, true, min, inl, inr, refl, sym, ap, subst, ◌∙◌, arith, unsigned_abs, List, ◌∷◌, ◌++◌, length, append_assoc}
+-- A printed stamp and the texts of RFC 3339: what is printed of a canonical timestamp has it, and no other timestamp
+-- has a text.
+use Rattle.std.proofs.Common.{◌≡◌, ℕ, ℤ, zero, suc, pos, negsuc, neg_ℤ, ◌+ℤ◌, ◌-ℤ◌, ◌≤ℤ◌, ◌<ℤ◌, ◌+◌}
+use Rattle.std.proofs.Common.{◌*◌, ◌/◌, ◌%◌, ◌<◌, ◌==◌, true, min, inl, inr, refl, sym, ap, subst}
+use Rattle.std.proofs.Common.{◌∙◌, arith, unsigned_abs, List, ◌∷◌, ◌++◌, length, append_assoc}
 use Rattle.std.proofs.lemmas.Bool.Decides.{nat_tests}
 use Rattle.std.proofs.lemmas.List.Elements.{All-append}
 use Rattle.std.specs.Char.{IsAsciiDigit, is_ascii_digit, is_not_whitespace}
@@ -17,7 +20,8 @@ use Rattle.syslog_pieces.specs.declared.timestamp.rfc3339_text.Rfc3339Fields.{Rf
 use Rattle.syslog_pieces.specs.Timestamp.{IsStampText}
 use Rattle.syslog_pieces.specs.Timestamp.Fields.{AreCivil, nanos_of_fields}
 use Rattle.syslog_pieces.specs.Timestamp.Canonical.{IsCanonicalStamp, BeginsWithYear, own_year}
-use Rattle.syslog_pieces.specs.Timestamp.Printed.{civil_fields, printed_stamp, date_time_text, year_sign, fraction_text, offset_text, pad3}
+use Rattle.syslog_pieces.specs.Timestamp.Printed.{civil_fields, printed_stamp, date_time_text}
+use Rattle.syslog_pieces.specs.Timestamp.Printed.{year_sign, fraction_text, offset_text, pad3}
 use Rattle.syslog_pieces.specs.Timestamp.Rfc3339.{HasStamp, IsFraction, IsOffsetText, fields_of_rfc3339}
 use Rattle.syslog_pieces.proofs.TimestampLemmas.Civil.{civil_fields-is}
 use Rattle.syslog_pieces.proofs.TimestampLemmas.Clocks.{datetime_of}
@@ -30,7 +34,8 @@ use Rattle.syslog_pieces.proofs.TimestampLemmas.Texts.{stamp_character-visible}
 
 -- ---- a printed fraction and a printed offset
 
-digits-from : (digits text : List ℕ) (n : ℕ) → text ≡ 46 ∷ digits → 0 < length digits → All IsAsciiDigit digits → fraction_value 9 digits ≡ n → IsFraction text n
+digits-from : (digits text : List ℕ) (n : ℕ) → text ≡ 46 ∷ digits → 0 < length digits → All IsAsciiDigit digits
+    → fraction_value 9 digits ≡ n → IsFraction text n
 digits-from digits text n e long all value = inr (digits, e, long, all, sym value)
 
 fraction_text-is : (n : ℕ) → n < 1_000_000_000 → IsFraction (fraction_text n) n
@@ -52,7 +57,8 @@ fraction_text-is n h =
     digits-from (pad3 a) _ n (rw (z, m)) (omega arith) da (three-value a a_in ∙ omega arith))
     (λ m. by_bool (n % 1_000 == 0)
     (λ k. let whole : n % 1_000 ≡ 0 = grind (arith, nat_tests, k) in
-    digits-from (pad3 a ++ pad3 b) _ n (rw (z, m, k)) (omega arith) (All-append IsAsciiDigit (pad3 a) (pad3 b) da db) (six-value a b a_in b_in ∙ omega arith))
+    digits-from (pad3 a ++ pad3 b) _ n (rw (z, m, k)) (omega arith) (All-append IsAsciiDigit (pad3 a) (pad3 b) da db)
+    (six-value a b a_in b_in ∙ omega arith))
     (λ k. digits-from (pad3 a ++ (pad3 b ++ pad3 c)) _ n (rw (z, m, k)) (omega arith)
     (All-append IsAsciiDigit (pad3 a) (pad3 b ++ pad3 c) da (All-append IsAsciiDigit (pad3 b) (pad3 c) db dc))
     (nine-value a b c a_in b_in c_in ∙ omega arith))))
@@ -95,7 +101,8 @@ year-from (pos n) h = (n, refl)
 year-from (negsuc n) h = absurd (omega (arith, signed_arith))
 
 -- fields as they print, and any text of the offset
-pub fields-read : (f : CivilFields) (y : ℕ) (n o : ℤ) (zone : List ℕ) → f.year ≡ pos y → AreCivil f → IsTimestampNanos n → nanos_of_fields f ≡ n +ℤ nanos_of_seconds o
+pub fields-read : (f : CivilFields) (y : ℕ) (n o : ℤ) (zone : List ℕ) → f.year ≡ pos y → AreCivil f → IsTimestampNanos n
+    → nanos_of_fields f ≡ n +ℤ nanos_of_seconds o
     → IsOffsetText zone o → HasStamp (date_time_text f ++ (fraction_text f.nanosecond ++ zone)) n o
 fields-read f y n o zone e there range nanos zone_is =
     let w : Rfc3339Fields = record {
@@ -150,20 +157,23 @@ fields-read f y n o zone e there range nanos zone_is =
       },
     )
 
-pub printed_stamp-back : (s : OffsetTimestamp) → IsCanonicalStamp s → IsStampText (printed_stamp s.instant.nanosecond s.offset.seconds) s
+pub printed_stamp-back : (s : OffsetTimestamp) → IsCanonicalStamp s
+    → IsStampText (printed_stamp s.instant.nanosecond s.offset.seconds) s
 unfolding printed_stamp
 printed_stamp-back s p =
     let n = s.instant.nanosecond in
     let o = s.offset.seconds in
     let fields = civil_fields_exist _ (in_range-at_offset n o s.instant.in_range s.offset.in_range) in
     let (y, e) = year-from _ p.year_from in
-    fields-read (civil_fields (n +ℤ nanos_of_seconds o)) y n o (offset_text o) e fields.0 s.instant.in_range fields.1 (offset_text-is o p.minutes p.day)
+    fields-read (civil_fields (n +ℤ nanos_of_seconds o)) y n o (offset_text o) e fields.0 s.instant.in_range fields.1
+    (offset_text-is o p.minutes p.day)
 
 -- ---- a timestamp that a text has is canonical
 
 -- the fields of a count are those that have it
 fields-back : (f : CivilFields) → AreCivil f → civil_fields (nanos_of_fields f) ≡ f
-fields-back f h = civil_fields-is (datetime_of f h).0 (nanos_of_fields f) (civil_nanos-fields (datetime_of f h).0 f refl)
+fields-back f h =
+    civil_fields-is (datetime_of f h).0 (nanos_of_fields f) (civil_nanos-fields (datetime_of f h).0 f refl)
 
 abs-neg : (k : ℕ) → unsigned_abs (neg_ℤ (pos k)) ≡ k
 abs-neg zero = refl
@@ -188,8 +198,10 @@ stamp_text-canonical text s (w, writes, stamp) =
     let offset = offset-canonical writes.zone w.offset writes.zone_is in
     let same = stamp.at_offset in
     let count : s.instant.nanosecond +ℤ nanos_of_seconds s.offset.seconds ≡ nanos_of_fields f =
-    back-count (nanos_of_fields f) (nanos_of_seconds w.offset) s.instant.nanosecond s.offset.seconds w.offset stamp.instant (ap nanos_of_seconds same) in
-    let year : own_year s ≡ pos w.year = ap (λ (z : ℤ). (civil_fields z).year) count ∙ ap (λ (g : CivilFields). g.year) (fields-back f stamp.civil) in
+    back-count (nanos_of_fields f) (nanos_of_seconds w.offset) s.instant.nanosecond s.offset.seconds w.offset
+    stamp.instant (ap nanos_of_seconds same) in
+    let year : own_year s ≡ pos w.year = ap (λ (z : ℤ). (civil_fields z).year) count
+    ∙ ap (λ (g : CivilFields). g.year) (fields-back f stamp.civil) in
     let fits = writes.fits.year in
     record {
       year_from = omega (arith, signed_arith);
@@ -201,7 +213,9 @@ stamp_text-canonical text s (w, writes, stamp) =
 -- ---- the printed text of any timestamp
 
 own_fields : (s : OffsetTimestamp) → AreCivil (civil_fields (s.instant.nanosecond +ℤ nanos_of_seconds s.offset.seconds))
-own_fields s = (civil_fields_exist _ (in_range-at_offset s.instant.nanosecond s.offset.seconds s.instant.in_range s.offset.in_range)).0
+own_fields s =
+    (civil_fields_exist _ (in_range-at_offset s.instant.nanosecond s.offset.seconds s.instant.in_range
+    s.offset.in_range)).0
 
 -- no timestamp lies past the year 9999 at its own offset
 pub own_year-to : (s : OffsetTimestamp) → own_year s ≤ℤ pos 9999
@@ -212,7 +226,8 @@ pub own_year-late : (s : OffsetTimestamp) → pos 172_800_000_000_000 <ℤ s.ins
 own_year-late s late = late_fields s.instant.nanosecond s.offset.seconds s.instant.in_range s.offset.in_range late
 
 -- no character of it is white space
-pub printed_stamp-visible : (s : OffsetTimestamp) → Each is_not_whitespace (printed_stamp s.instant.nanosecond s.offset.seconds)
+pub printed_stamp-visible : (s : OffsetTimestamp)
+    → Each is_not_whitespace (printed_stamp s.instant.nanosecond s.offset.seconds)
 printed_stamp-visible s =
     let all = printed_stamp-characters _ _ s.instant.in_range s.offset.in_range in
     each_visible _ (λ k d l. stamp_character-visible _ (all k d l))
@@ -220,7 +235,8 @@ printed_stamp-visible s =
 digit-is : (n : ℕ) → n < 10 → is_ascii_digit (48 + n) ≡ true
 digit-is n h = grind (arith, nat_tests)
 
-begins : (year : ℤ) (y : ℕ) (more tail : List ℕ) → y < 10_000 → BeginsWithYear ((year_sign year ++ (pad4 y ++ more)) ++ tail)
+begins : (year : ℤ) (y : ℕ) (more tail : List ℕ) → y < 10_000
+    → BeginsWithYear ((year_sign year ++ (pad4 y ++ more)) ++ tail)
 begins (pos n) y more tail h = (48 + y / 100 / 10, _, digit-is (y / 100 / 10) (omega arith), inl refl)
 begins (negsuc n) y more tail h = (48 + y / 100 / 10, _, digit-is (y / 100 / 10) (omega arith), inr refl)
 

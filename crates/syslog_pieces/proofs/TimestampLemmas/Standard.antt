@@ -1,5 +1,6 @@
 -- A month date in its standard form, read by bytes, is a month date of the text.
-use Rattle.std.proofs.Common.{◌≡◌, ℕ, ◌+◌, ◌/◌, ◌%◌, ◌<◌, inl, inr, List, [], ◌∷◌, ◌++◌, drop, None, refl, sym, ap, subst, ◌∙◌, arith}
+use Rattle.std.proofs.Common.{◌≡◌, ℕ, ◌+◌, ◌/◌, ◌%◌, ◌<◌, inl, inr, List, [], ◌∷◌}
+use Rattle.std.proofs.Common.{◌++◌, drop, None, refl, sym, ap, subst, ◌∙◌, arith}
 use Rattle.std.proofs.lemmas.Str.{chars-nil}
 use Rattle.std.proofs.lemmas.Str.Ascii.{IsAscii-nil, IsAscii-cons}
 use Rattle.std.specs.Char.{is_ascii_digit, to_ascii_lowercase}
@@ -58,7 +59,9 @@ module _ (b0 b1 b2 : List ℕ) (number : ℕ) (m : IsMonthBytes b0 number b1) (e
   month_front : Front month (chars b0) (chars b1) number
   month_front = record {
     piece = m.a ∷ m.b ∷ m.c ∷ [];
-    whole = ascii_front (m.a ∷ m.b ∷ m.c ∷ []) b1 b0 (IsAscii-cons m.a (m.b ∷ m.c ∷ []) m.a_in (IsAscii-cons m.b (m.c ∷ []) m.b_in (IsAscii-cons m.c [] m.c_in IsAscii-nil))) m.whole;
+    whole = ascii_front (m.a ∷ m.b ∷ m.c ∷ []) b1 b0
+        (IsAscii-cons m.a (m.b ∷ m.c ∷ []) m.a_in
+        (IsAscii-cons m.b (m.c ∷ []) m.b_in (IsAscii-cons m.c [] m.c_in IsAscii-nil))) m.whole;
     is = month_named (to_ascii_lowercase m.a) (to_ascii_lowercase m.b) (to_ascii_lowercase m.c) number m.named;
   }
 
@@ -66,24 +69,31 @@ module _ (b0 b1 b2 : List ℕ) (number : ℕ) (m : IsMonthBytes b0 number b1) (e
   one_space = IsAscii-cons 32 [] (omega arith) IsAscii-nil
 
   -- two digits
-  long : (d : ℕ) → d < 100 → b1 ≡ 32 ∷ (pad2 d ++ (32 ∷ b2)) → Front (Row (gap ∷ from_day)) (chars b1) (chars b2) (tt, (d, (tt, tt)))
+  long : (d : ℕ) → d < 100 → b1 ≡ 32 ∷ (pad2 d ++ (32 ∷ b2))
+      → Front (Row (gap ∷ from_day)) (chars b1) (chars b2) (tt, (d, (tt, tt)))
   long d h e =
       let w : chars b1 ≡ 32 ∷ (pad2 d ++ (32 ∷ chars b2)) =
-      ascii_front (32 ∷ (pad2 d ++ (32 ∷ []))) b2 b1 (IsAscii-cons 32 (pad2 d ++ (32 ∷ [])) (omega arith) (pair_ascii d h (32 ∷ []) one_space)) e in
-      row_cons gap from_day (space_front (chars b1) (pad2 d ++ (32 ∷ chars b2)) w (no_blank_ahead d h _ (32 ∷ chars b2) refl))
+      ascii_front (32 ∷ (pad2 d ++ (32 ∷ []))) b2 b1
+      (IsAscii-cons 32 (pad2 d ++ (32 ∷ [])) (omega arith) (pair_ascii d h (32 ∷ []) one_space)) e in
+      row_cons gap from_day (space_front (chars b1) (pad2 d ++ (32 ∷ chars b2)) w
+      (no_blank_ahead d h _ (32 ∷ chars b2) refl))
       (row_cons short_number (gap ∷ []) (pair_front d h (pad2 d ++ (32 ∷ chars b2)) (32 ∷ chars b2) refl refl)
       (row_cons gap [] (space_front (32 ∷ chars b2) (chars b2) refl ends) (row_nil (chars b2))))
 
   -- one digit
-  short : (d : ℕ) → d < 10 → b1 ≡ 32 ∷ 32 ∷ (48 + d) ∷ 32 ∷ b2 → Front (Row (gap ∷ from_day)) (chars b1) (chars b2) (tt, (d, (tt, tt)))
+  short : (d : ℕ) → d < 10 → b1 ≡ 32 ∷ 32 ∷ (48 + d) ∷ 32 ∷ b2
+      → Front (Row (gap ∷ from_day)) (chars b1) (chars b2) (tt, (d, (tt, tt)))
   short d h e =
       let low : 48 + d < 128 = omega arith in
       let k = digit_is d h in
       let value : d ≡ digits_value 10 ((48 + d) ∷ []) = rw k.2 (omega arith) in
       let w : chars b1 ≡ 32 ∷ 32 ∷ (48 + d) ∷ 32 ∷ chars b2 =
-      ascii_front (32 ∷ 32 ∷ (48 + d) ∷ 32 ∷ []) b2 b1 (IsAscii-cons 32 (32 ∷ (48 + d) ∷ 32 ∷ []) (omega arith) (IsAscii-cons 32 ((48 + d) ∷ 32 ∷ []) (omega arith) (IsAscii-cons (48 + d) (32 ∷ []) low one_space))) e in
+      ascii_front (32 ∷ 32 ∷ (48 + d) ∷ 32 ∷ []) b2 b1
+      (IsAscii-cons 32 (32 ∷ (48 + d) ∷ 32 ∷ []) (omega arith)
+      (IsAscii-cons 32 ((48 + d) ∷ 32 ∷ []) (omega arith) (IsAscii-cons (48 + d) (32 ∷ []) low one_space))) e in
       row_cons gap from_day (record { piece = 32 ∷ 32 ∷ []; whole = w; is = (omega arith, (refl, (refl, tt)), k.1) })
-      (row_cons short_number (gap ∷ []) (record { piece = (48 + d) ∷ []; whole = refl; is = (omega arith, (k.0, tt), refl, value, omega arith) })
+      (row_cons short_number (gap ∷ [])
+      (record { piece = (48 + d) ∷ []; whole = refl; is = (omega arith, (k.0, tt), refl, value, omega arith) })
       (row_cons gap [] (space_front (32 ∷ chars b2) (chars b2) refl ends) (row_nil (chars b2))))
 
   day_front : (d : ℕ) → IsDayBytes b1 d b2 → Front (Row day_row) (chars b0) (chars b2) (number, (tt, (d, (tt, tt))))
@@ -97,37 +107,47 @@ sign = exactly colon
 no_digit : (bs : List ℕ) → EndsClock bs → Ends is_ascii_digit (chars bs)
 no_digit [] h = subst (λ (x : Text). Ends is_ascii_digit x) (sym chars-nil) tt
 no_digit (b ∷ bs) h =
-    subst (λ (x : Text). Ends is_ascii_digit x) (sym (ascii_front (b ∷ []) bs (b ∷ bs) (IsAscii-cons b [] h.0 IsAscii-nil) refl)) h.1
+    subst (λ (x : Text). Ends is_ascii_digit x)
+    (sym (ascii_front (b ∷ []) bs (b ∷ bs) (IsAscii-cons b [] h.0 IsAscii-nil) refl)) h.1
 
 no_colon : (bs : List ℕ) → EndsClock bs → NoFront sign (chars bs)
 no_colon [] h p q v e f = let t : [] ≡ 58 ∷ q = sym chars-nil ∙ e ∙ ap (λ (x : Text). x ++ q) f in cc
 no_colon (b ∷ bs) h p q v e f =
-    let t : b ∷ chars bs ≡ 58 ∷ q = sym (ascii_front (b ∷ []) bs (b ∷ bs) (IsAscii-cons b [] h.0 IsAscii-nil) refl) ∙ e ∙ ap (λ (x : Text). x ++ q) f in
+    let t : b ∷ chars bs ≡ 58 ∷ q = sym (ascii_front (b ∷ []) bs (b ∷ bs) (IsAscii-cons b [] h.0 IsAscii-nil) refl) ∙ e
+    ∙ ap (λ (x : Text). x ++ q) f in
     let s : b ≡ 58 = cc in absurd (h.2 s)
 
 module _ (b2 b3 : List ℕ) (c : Clock) (k : IsClockBytes b2 c b3) (ends : EndsClock b3) where
   clock_text : chars b2 ≡ pad2 c.hour ++ (58 ∷ (pad2 c.minute ++ (58 ∷ (pad2 c.second ++ chars b3))))
   clock_text =
       ascii_front (pad2 c.hour ++ (58 ∷ (pad2 c.minute ++ (58 ∷ pad2 c.second)))) b3 b2
-      (pair_ascii c.hour k.hour_in (58 ∷ (pad2 c.minute ++ (58 ∷ pad2 c.second))) (IsAscii-cons 58 (pad2 c.minute ++ (58 ∷ pad2 c.second)) (omega arith)
-      (pair_ascii c.minute k.minute_in (58 ∷ pad2 c.second) (IsAscii-cons 58 (pad2 c.second) (omega arith) (pair_ascii c.second k.second_in [] IsAscii-nil)))))
+      (pair_ascii c.hour k.hour_in (58 ∷ (pad2 c.minute ++ (58 ∷ pad2 c.second)))
+      (IsAscii-cons 58 (pad2 c.minute ++ (58 ∷ pad2 c.second)) (omega arith)
+      (pair_ascii c.minute k.minute_in (58 ∷ pad2 c.second)
+      (IsAscii-cons 58 (pad2 c.second) (omega arith) (pair_ascii c.second k.second_in [] IsAscii-nil)))))
       k.whole
 
   clock_front : Front (Row clock_row) (chars b2) (chars b3) (clock_values c None)
   clock_front =
-      row_cons short_number (sign ∷ short_number ∷ sign ∷ short_number ∷ optional sign ∷ []) (pair_front c.hour k.hour_in _ _ clock_text refl)
-      (row_cons sign (short_number ∷ sign ∷ short_number ∷ optional sign ∷ []) (record { piece = 58 ∷ []; whole = refl; is = refl })
+      row_cons short_number (sign ∷ short_number ∷ sign ∷ short_number ∷ optional sign ∷ [])
+      (pair_front c.hour k.hour_in _ _ clock_text refl)
+      (row_cons sign (short_number ∷ sign ∷ short_number ∷ optional sign ∷ [])
+      (record { piece = 58 ∷ []; whole = refl; is = refl })
       (row_cons short_number (sign ∷ short_number ∷ optional sign ∷ []) (pair_front c.minute k.minute_in _ _ refl refl)
       (row_cons sign (short_number ∷ optional sign ∷ []) (record { piece = 58 ∷ []; whole = refl; is = refl })
       (row_cons short_number (optional sign ∷ []) (pair_front c.second k.second_in _ (chars b3) refl (no_digit b3 ends))
-      (row_cons (optional sign) [] (record { piece = []; whole = refl; is = (refl, no_colon b3 ends) }) (row_nil (chars b3)))))))
+      (row_cons (optional sign) [] (record { piece = []; whole = refl; is = (refl, no_colon b3 ends) })
+      (row_nil (chars b3)))))))
 
-  pub standard_front : (b0 b1 : List ℕ) (number d : ℕ) → IsMonthBytes b0 number b1 → IsDayBytes b1 d b2 → Front yearless_date (chars b0) (chars b3) (date_of None (record { month = number; day = d }) c)
+  pub standard_front : (b0 b1 : List ℕ) (number d : ℕ) → IsMonthBytes b0 number b1 → IsDayBytes b1 d b2
+      → Front yearless_date (chars b0) (chars b3) (date_of None (record { month = number; day = d }) c)
   standard_front b0 b1 number d m e =
-      yearless_front (record { month = number; day = d }) (day_front b0 b1 b2 number m (no_blank_ahead c.hour k.hour_in _ _ clock_text) d e) c None clock_front
+      yearless_front (record { month = number; day = d })
+      (day_front b0 b1 b2 number m (no_blank_ahead c.hour k.hour_in _ _ clock_text) d e) c None clock_front
 
 -- fifteen bytes on, behind month, day and clock
-pub standard_rest : (b0 b1 b2 b3 : List ℕ) (number d : ℕ) (c : Clock) → IsMonthBytes b0 number b1 → IsDayBytes b1 d b2 → IsClockBytes b2 c b3 → drop 15 b0 ≡ b3
+pub standard_rest : (b0 b1 b2 b3 : List ℕ) (number d : ℕ) (c : Clock) → IsMonthBytes b0 number b1 → IsDayBytes b1 d b2
+    → IsClockBytes b2 c b3 → drop 15 b0 ≡ b3
 standard_rest b0 b1 b2 b3 number d c m (inl (h, e)) k =
     ap (drop 15) m.whole ∙ ap (drop 12) e ∙ ap (drop 8) k.whole
 standard_rest b0 b1 b2 b3 number d c m (inr (h, e)) k =

@@ -18,7 +18,8 @@ pub stamp_character-visible : (c : ℕ) → IsStampCharacter c → is_whitespace
 stamp_character-visible c h = grind (arith, nat_tests)
 
 -- no character is white space
-pub stamp_text-visible : (text : List ℕ) (s : OffsetTimestamp) → IsStampText text s → All (λ c. is_whitespace c ≡ false) text
+pub stamp_text-visible : (text : List ℕ) (s : OffsetTimestamp) → IsStampText text s
+    → All (λ c. is_whitespace c ≡ false) text
 stamp_text-visible text s h k d l = stamp_character-visible _ (stamp_text-characters text s h k d l)
 
 -- the text begins with a digit
@@ -32,5 +33,12 @@ stamp_text-first text s (w, writes, stamp) =
 pub stamp_text-year : (text : List ℕ) (s : OffsetTimestamp) → IsStampText text s
     → (year : List ℕ) × (rest : List ℕ) × (text ≡ year ++ (45 ∷ rest)) × Each is_ascii_digit year
 stamp_text-year text s (w, writes, stamp) =
-    let fits = writes.fits.year in
-    (pad4 w.year, _, writes.whole, (grind (arith, nat_tests), (grind (arith, nat_tests), (grind (arith, nat_tests), (grind (arith, nat_tests), tt)))))
+    let fits = writes.fits.year in (
+      pad4 w.year,
+      _,
+      writes.whole,
+      (
+        grind (arith, nat_tests),
+        (grind (arith, nat_tests), (grind (arith, nat_tests), (grind (arith, nat_tests), tt))),
+      ),
+    )

@@ -21,7 +21,8 @@ same_offset a b e = λ i. record {
 }
 
 -- timestamps with the same two numbers are the same
-pub same_timestamp : (s t : OffsetTimestamp) → s.instant.nanosecond ≡ t.instant.nanosecond → s.offset.seconds ≡ t.offset.seconds → s ≡ t
+pub same_timestamp : (s t : OffsetTimestamp) → s.instant.nanosecond ≡ t.instant.nanosecond
+    → s.offset.seconds ≡ t.offset.seconds → s ≡ t
 same_timestamp s t e f = λ i. record {
   instant = same_instant s.instant t.instant e i;
   offset = same_offset s.offset t.offset f i;

@@ -1,5 +1,7 @@
 -- A timestamp that is copied is read as one that prints so.
-use Rattle.std.proofs.Common.{◌≡◌, ◌⊎◌, ℕ, suc, ℤ, pos, negsuc, ◌+ℤ◌, ◌+◌, ◌*◌, ◌-◌, ◌/◌, ◌%◌, ◌<◌, ◌≢◌, ◌==◌, Bool, true, false, None, Some, inl, inr, refl, sym, ap, subst, ◌∙◌, arith, unsigned_abs, List, [], ◌∷◌, ◌++◌, append_assoc, append-nil}
+use Rattle.std.proofs.Common.{◌≡◌, ◌⊎◌, ℕ, suc, ℤ, pos, negsuc, ◌+ℤ◌, ◌+◌, ◌*◌, ◌-◌, ◌/◌, ◌%◌, ◌<◌}
+use Rattle.std.proofs.Common.{◌≢◌, ◌==◌, Bool, true, false, None, Some, inl, inr, refl, sym, ap, subst}
+use Rattle.std.proofs.Common.{◌∙◌, arith, unsigned_abs, List, [], ◌∷◌, ◌++◌, append_assoc, append-nil}
 use Rattle.std.proofs.lemmas.Bool.Decides.{nat_tests}
 use Rattle.std.proofs.lemmas.Str.{IsUtf8-past_char, IsUtf8-from_ascii, IsUtf8-append}
 use Rattle.std.proofs.lemmas.Str.Ascii.{encode_ascii}
@@ -9,7 +11,8 @@ use Rattle.jiff.specs.Types.{DateTime, Offset}
 use Rattle.jiff.specs.Words.{IsOffsetSeconds, nanos_of_seconds}
 use Rattle.jiff_core.proofs.SignedLemmas.{signed_arith}
 use Rattle.jiff_fmt.specs.Text.{pad2}
-use Rattle.syslog_pieces.specs.Bodies.VerbatimStamp.{zone_text, IsVerbatimStamp, IsDateAndClock, IsVerbatimFraction, IsVerbatimOffset, IsBeforeSpace}
+use Rattle.syslog_pieces.specs.Bodies.VerbatimStamp.{zone_text, IsVerbatimStamp, IsDateAndClock}
+use Rattle.syslog_pieces.specs.Bodies.VerbatimStamp.{IsVerbatimFraction, IsVerbatimOffset, IsBeforeSpace}
 use Rattle.syslog_pieces.specs.Pieces.Class.{Text, Front, exactly}
 use Rattle.syslog_pieces.specs.Text.{dash}
 use Rattle.syslog_pieces.specs.Timestamp.{IsStampText, header_stamp}
@@ -38,9 +41,12 @@ nil_verbatim {q = q} f = record {
 -- ---- the pieces
 
 -- date and time, read in seven numbers of two digits
-pub date_and_clock_is : (text t1 t2 t3 t4 t5 t6 rest : List ℕ) (f : CivilFields) (century year : ℕ) → century < 100 → year < 100
-    → f.year ≡ pos (century * 100 + year) → text ≡ pad2 century ++ t1 → t1 ≡ pad2 year ++ t2 → t2 ≡ 45 ∷ (pad2 f.month ++ t3)
-    → t3 ≡ 45 ∷ (pad2 f.day ++ t4) → t4 ≡ 84 ∷ (pad2 f.hour ++ t5) → t5 ≡ 58 ∷ (pad2 f.minute ++ t6) → t6 ≡ 58 ∷ (pad2 f.second ++ rest)
+pub date_and_clock_is : (text t1 t2 t3 t4 t5 t6 rest : List ℕ) (f : CivilFields) (century year : ℕ) → century < 100
+    → year < 100
+    → f.year ≡ pos (century * 100 + year) → text ≡ pad2 century ++ t1 → t1 ≡ pad2 year ++ t2
+    → t2 ≡ 45 ∷ (pad2 f.month ++ t3)
+    → t3 ≡ 45 ∷ (pad2 f.day ++ t4) → t4 ≡ 84 ∷ (pad2 f.hour ++ t5) → t5 ≡ 58 ∷ (pad2 f.minute ++ t6)
+    → t6 ≡ 58 ∷ (pad2 f.second ++ rest)
     → text ≡ date_time_text f ++ rest
 date_and_clock_is text t1 t2 t3 t4 t5 t6 rest f century year a b e w1 w2 w3 w4 w5 w6 w7 =
     let high : (century * 100 + year) / 100 ≡ century = omega arith in
@@ -66,7 +72,8 @@ six_text n a b e small some =
     let r : n / 1_000 % 1_000 ≡ b = omega arith in
     rw (z, m, k, q, r) refl
 
-nine_text : (n a b c : ℕ) → n ≡ a * 1_000_000 + b * 1_000 + c → b < 1_000 → c < 1_000 → c ≢ 0 → fraction_text n ≡ 46 ∷ (pad3 a ++ (pad3 b ++ pad3 c))
+nine_text : (n a b c : ℕ) → n ≡ a * 1_000_000 + b * 1_000 + c → b < 1_000 → c < 1_000 → c ≢ 0
+    → fraction_text n ≡ 46 ∷ (pad3 a ++ (pad3 b ++ pad3 c))
 unfolding fraction_text
 nine_text n a b c e small little some =
     let z : (n == 0) ≡ false = grind (arith, nat_tests) in
@@ -91,7 +98,8 @@ module _ (text rest : List ℕ) (a : ℕ) (a_in : a < 1_000) where
         let n = a * 1_000_000 + b * 1_000 in
         (n, omega arith, rw (six_text n a b refl b_in some, e, e1) refl)
 
-    pub nine_verbatim : (t2 : List ℕ) (c : ℕ) → c < 1_000 → c ≢ 0 → t1 ≡ pad3 b ++ t2 → t2 ≡ pad3 c ++ rest → IsVerbatimFraction (46 ∷ text) rest
+    pub nine_verbatim : (t2 : List ℕ) (c : ℕ) → c < 1_000 → c ≢ 0 → t1 ≡ pad3 b ++ t2 → t2 ≡ pad3 c ++ rest
+        → IsVerbatimFraction (46 ∷ text) rest
     nine_verbatim t2 c c_in some e1 e2 =
         let n = a * 1_000_000 + b * 1_000 + c in
         (n, omega arith, rw (nine_text n a b c refl b_in c_in some, e, e1, e2) refl)
@@ -143,7 +151,8 @@ pub utf8_behind : (p rest bs : List ℕ) → IsAscii p → bs ≡ p ++ rest → 
 utf8_behind [] rest bs a e u = subst IsUtf8 e u
 utf8_behind (c ∷ p) rest bs a e u =
     let first : encode_utf8 c ≡ c ∷ [] = encode_ascii c (a 0) in
-    let behind : IsUtf8 (p ++ rest) = IsUtf8-past_char bs (p ++ rest) c u (e ∙ ap (λ (x : List ℕ). x ++ (p ++ rest)) (sym first)) in
+    let behind : IsUtf8 (p ++ rest) =
+    IsUtf8-past_char bs (p ++ rest) c u (e ∙ ap (λ (x : List ℕ). x ++ (p ++ rest)) (sym first)) in
     utf8_behind p rest (p ++ rest) (λ k. a (suc k)) refl behind
 
 offset_in : (o : ℤ) → unsigned_abs o < 86_400 → IsOffsetSeconds o
@@ -176,7 +185,8 @@ same_date_time : (f : CivilFields) (n : ℕ) → date_time_text f ≡ date_time_
 unfolding date_time_text
 same_date_time f n = refl
 
-module _ (bs behind zone : List ℕ) (u : IsUtf8 bs) (d : IsDateAndClock bs behind) (k : IsVerbatimFraction behind zone) where
+module _ (bs behind zone : List ℕ) (u : IsUtf8 bs) (d : IsDateAndClock bs behind)
+    (k : IsVerbatimFraction behind zone) where
   abbrev fields : CivilFields
   fields = with_fraction d.fields k.0
 
@@ -189,7 +199,8 @@ module _ (bs behind zone : List ℕ) (u : IsUtf8 bs) (d : IsDateAndClock bs behi
 
   front_whole : bs ≡ front ++ zone
   front_whole =
-      d.whole ∙ ap (λ (x : List ℕ). x ++ behind) (same_date_time d.fields k.0) ∙ ap (λ (x : List ℕ). date_time_text fields ++ x) k.2
+      d.whole ∙ ap (λ (x : List ℕ). x ++ behind) (same_date_time d.fields k.0)
+      ∙ ap (λ (x : List ℕ). date_time_text fields ++ x) k.2
       ∙ sym (append_assoc (date_time_text fields) (fraction_text k.0) zone)
 
   module _ (o : ℤ) (o_in : IsOffsetSeconds o) where
@@ -204,17 +215,21 @@ module _ (bs behind zone : List ℕ) (u : IsUtf8 bs) (d : IsDateAndClock bs behi
 
     -- it prints as the digits and the offset
     prints_so : front ++ offset_text o ≡ printed_stamp shows.instant.nanosecond o
-    prints_so = append_assoc (date_time_text fields) (fraction_text k.0) (offset_text o) ∙ sym (prints dt clock d.from d.to)
+    prints_so = append_assoc (date_time_text fields) (fraction_text k.0) (offset_text o)
+        ∙ sym (prints dt clock d.from d.to)
 
     -- and is read from them with any text of the offset
     reads_so : (text : List ℕ) → IsOffsetText text o → IsStampText (front ++ text) shows
     reads_so text h =
         let (y, e) = year-from fields.year d.from in
-        let count : nanos_of_fields fields ≡ shows.instant.nanosecond +ℤ nanos_of_seconds o = sym (civil_nanos-fields dt fields refl) ∙ shown dt clock d.from d.to in
-        subst (λ (x : List ℕ). IsStampText x shows) (sym (append_assoc (date_time_text fields) (fraction_text k.0) text))
+        let count : nanos_of_fields fields ≡ shows.instant.nanosecond +ℤ nanos_of_seconds o =
+        sym (civil_nanos-fields dt fields refl) ∙ shown dt clock d.from d.to in
+        subst (λ (x : List ℕ). IsStampText x shows)
+        (sym (append_assoc (date_time_text fields) (fraction_text k.0) text))
         (fields-read fields y shows.instant.nanosecond o text e there shows.instant.in_range count h)
 
-    module _ (text rest : List ℕ) (h : IsOffsetText text o) (whole : zone ≡ text ++ rest) (space : IsBeforeSpace rest) where
+    module _ (text rest : List ℕ) (h : IsOffsetText text o) (whole : zone ≡ text ++ rest)
+        (space : IsBeforeSpace rest) where
       piece_ascii : IsAscii (front ++ text)
       piece_ascii = stamp_ascii (front ++ text) shows.instant.nanosecond o (reads_so text h)
 
@@ -231,7 +246,8 @@ module _ (bs behind zone : List ℕ) (u : IsUtf8 bs) (d : IsDateAndClock bs behi
       rest_space = ascii_front (32 ∷ []) space.0 rest (one_ascii 32 (omega arith)) space.1
 
       stamp_there : Front header_stamp (chars bs) (chars rest) (Some shows)
-      stamp_there = record { piece = front ++ text; whole = piece_chars; is = (reads_so text h, (chars space.0, rest_space)) }
+      stamp_there =
+          record { piece = front ++ text; whole = piece_chars; is = (reads_so text h, (chars space.0, rest_space)) }
 
   -- ---- an offset that prints as it is written
   module _ (rest : List ℕ) (z : IsVerbatimOffset zone rest) where
@@ -267,8 +283,11 @@ module _ (bs behind zone : List ℕ) (u : IsUtf8 bs) (d : IsDateAndClock bs behi
 
     pub zulu_utf8 : IsUtf8 zone × IsUtf8 rest
     zulu_utf8 =
-        let behind = rest_utf8 (pos 0) z_in (90 ∷ []) rest z_is whole space in
-        (subst IsUtf8 (sym whole) (IsUtf8-append (90 ∷ []) rest (IsUtf8-from_ascii (90 ∷ []) (one_ascii 90 (omega arith))) behind), behind)
+        let behind = rest_utf8 (pos 0) z_in (90 ∷ []) rest z_is whole space in (
+          subst IsUtf8 (sym whole) (IsUtf8-append (90 ∷ []) rest
+              (IsUtf8-from_ascii (90 ∷ []) (one_ascii 90 (omega arith))) behind),
+          behind,
+        )
 
     pub zulu_verbatim : IsVerbatimStamp (chars bs) (chars zone) true (chars rest)
     zulu_verbatim = record {
@@ -282,5 +301,6 @@ module _ (bs behind zone : List ℕ) (u : IsUtf8 bs) (d : IsDateAndClock bs behi
 
 -- ---- what the reader answers
 pub cut_is : (text zone rest : List ℕ) (is_zulu : Bool) {z r : List ℕ} {b : Bool} → z ≡ zone → b ≡ is_zulu → r ≡ rest
-    → IsVerbatimStamp (chars text) (chars zone) is_zulu (chars rest) → IsVerbatimStamp (chars text) (chars z) b (chars r)
+    → IsVerbatimStamp (chars text) (chars zone) is_zulu (chars rest)
+    → IsVerbatimStamp (chars text) (chars z) b (chars r)
 cut_is text zone rest is_zulu e f g h = rw (e, f, g) h

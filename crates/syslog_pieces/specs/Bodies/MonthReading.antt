@@ -44,4 +44,5 @@ clock_values c more = (c.hour, (tt, (c.minute, (tt, (c.second, (more, tt))))))
 
 -- the month date of these parts
 abbrev pub date_of : Option ℕ → Day → Clock → MonthDate
-date_of year d c = record { year = year; month = d.month; day = d.day; hour = c.hour; minute = c.minute; second = c.second }
+date_of year d c =
+    record { year = year; month = d.month; day = d.day; hour = c.hour; minute = c.minute; second = c.second }

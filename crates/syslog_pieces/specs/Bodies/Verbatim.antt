@@ -31,10 +31,12 @@ bare_param_text p = p.0 ++ (61 ∷ 34 ∷ (p.1 ++ (34 ∷ [])))
 -- what stands before the rest, but for what is left out, is what is copied
 abbrev pub Copies : Text → Option Cut → Text → Text → Type 0
 Copies text cut rest copied = MatchOption cut (text ≡ copied ++ rest)
-    (λ c. (front : Text) × (behind : Text) × (text ≡ front ++ shown c.gap) × (shown c.next ≡ behind ++ rest) × (copied ≡ front ++ behind))
+    (λ c. (front : Text) × (behind : Text) × (text ≡ front ++ shown c.gap) × (shown c.next ≡ behind ++ rest)
+    × (copied ≡ front ++ behind))
 
 -- the text has a front of the class; behind what was copied before it, what it means is copied as it prints
-pub record CopiedOn (C : Class) (print : C.Value → Text) (text : Text) (cut : Option Cut) (follows : Text) (cut' : Option Cut) : Type 0 where
+pub record CopiedOn (C : Class) (print : C.Value → Text) (text : Text) (cut : Option Cut) (follows : Text)
+    (cut' : Option Cut) : Type 0 where
   pub value : C.Value
   pub is : Front C text follows value
   pub copies : (whole copied : Text) → Copies whole cut text copied → Copies whole cut' follows (copied ++ print value)
@@ -47,4 +49,5 @@ pub record ListPrints (text gap follows : Text) : Type 0 where
 
 -- strict elements that print as they are written have been read, up to s: what prints of a list's further items follows
 abbrev pub VerbatimItems : Text → Text → Type 0
-VerbatimItems t s = (q gap : Text) (items : List (Option ElementValue)) → Front (many item) s q items → s ≡ joined_elements (strict items) ++ gap → ListPrints t gap q
+VerbatimItems t s = (q gap : Text) (items : List (Option ElementValue)) → Front (many item) s q items
+    → s ≡ joined_elements (strict items) ++ gap → ListPrints t gap q

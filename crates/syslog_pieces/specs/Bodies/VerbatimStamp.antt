@@ -1,5 +1,6 @@
 -- Timestamps that print as they are written, but for a `Z`: 43 is `+`, 45 `-`, 58 `:`, 90 `Z`.
-use Rattle.std.specs.Prelude.{◌≡◌, ℕ, ℤ, pos, ◌<◌, ◌%◌, ◌≤ℤ◌, ◌<ℤ◌, ◌++◌, unsigned_abs, Bool, true, false, List, [], ◌∷◌, Option, MatchOption}
+use Rattle.std.specs.Prelude.{◌≡◌, ℕ, ℤ, pos, ◌<◌, ◌%◌, ◌≤ℤ◌, ◌<ℤ◌, ◌++◌, unsigned_abs}
+use Rattle.std.specs.Prelude.{Bool, true, false, List, [], ◌∷◌, Option, MatchOption}
 use Rattle.syslog_pieces.specs.Pieces.Class.{Text, Front}
 use Rattle.syslog_pieces.specs.Text.{dash}
 use Rattle.syslog_pieces.specs.Timestamp.{header_stamp}
@@ -13,13 +14,15 @@ abbrev pub zone_text : Bool → List ℕ
 zone_text true = 43 ∷ 48 ∷ 48 ∷ 58 ∷ 48 ∷ 48 ∷ []
 zone_text false = []
 
--- the text is what is copied, and then the zone; its timestamp, before the rest, prints as what is copied and the zone's text
+-- the text is what is copied, and then the zone; its timestamp, before the rest, prints as what is copied and the
+-- zone's text
 pub record IsVerbatimStamp (text zone : Text) (is_zulu : Bool) (rest : Text) : Type 0 where
   pub copied : Text
   pub value : Option OffsetTimestamp
   pub whole : text ≡ copied ++ zone
   pub is : Front header_stamp text rest value
-  pub prints : MatchOption value (copied ++ zone_text is_zulu ≡ dash) (λ s. copied ++ zone_text is_zulu ≡ printed_stamp s.instant.nanosecond s.offset.seconds)
+  pub prints : MatchOption value (copied ++ zone_text is_zulu ≡ dash)
+      (λ s. copied ++ zone_text is_zulu ≡ printed_stamp s.instant.nanosecond s.offset.seconds)
 
 -- date and time as they print, in a year from 0 to 9998, and the rest
 pub record IsDateAndClock (text rest : List ℕ) : Type 0 where

@@ -24,7 +24,8 @@ NoFront C text = (p q : Text) (v : C.Value) → text ≡ p ++ q → C.Is p q v �
 
 -- a text has at most one front of the class, and that has one meaning
 abbrev pub IsDeterministic : Class → Type 0
-IsDeterministic C = (p q p' q' : Text) (v v' : C.Value) → p ++ q ≡ p' ++ q' → C.Is p q v → C.Is p' q' v' → (p ≡ p') × (v ≡ v')
+IsDeterministic C = (p q p' q' : Text) (v v' : C.Value) → p ++ q ≡ p' ++ q' → C.Is p q v → C.Is p' q' v'
+    → (p ≡ p') × (v ≡ v')
 
 -- ---- several pieces in a row
 

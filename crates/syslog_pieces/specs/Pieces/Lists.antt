@@ -17,7 +17,8 @@ HasRead C t vs t' = (q : Text) (ws : List C.Value) → Front (many C) t' q ws �
 -- further pieces of the class, each behind one separator
 abbrev pub IsMore : (C : Class) (separator : ℕ) → Text → Text → List C.Value → Type 0
 IsMore C separator p q [] = p ≡ []
-IsMore C separator p q (v ∷ vs) = (a : Text) × (b : Text) × (p ≡ separator ∷ (a ++ b)) × C.Is a (b ++ q) v × IsMore C separator b q vs
+IsMore C separator p q (v ∷ vs) = (a : Text) × (b : Text) × (p ≡ separator ∷ (a ++ b)) × C.Is a (b ++ q) v
+    × IsMore C separator b q vs
 
 -- pieces of the class with exactly one separator between two; perhaps none
 abbrev pub IsList : (C : Class) (separator : ℕ) → Text → Text → List C.Value → Type 0
@@ -26,8 +27,10 @@ IsList C separator p q (v ∷ vs) = (a : Text) × (b : Text) × (p ≡ a ++ b) �
 
 -- such a list before the character that closes it
 abbrev pub list_before : (C : Class) (separator close : ℕ) → Class
-list_before C separator close = record { Value = List C.Value; Is = λ p q vs. IsList C separator p q vs × ((r : Text) × (q ≡ close ∷ r)) }
+list_before C separator close =
+    record { Value = List C.Value; Is = λ p q vs. IsList C separator p q vs × ((r : Text) × (q ≡ close ∷ r)) }
 
 -- its further pieces before that character
 abbrev pub more_before : (C : Class) (separator close : ℕ) → Class
-more_before C separator close = record { Value = List C.Value; Is = λ p q vs. IsMore C separator p q vs × ((r : Text) × (q ≡ close ∷ r)) }
+more_before C separator close =
+    record { Value = List C.Value; Is = λ p q vs. IsMore C separator p q vs × ((r : Text) × (q ≡ close ∷ r)) }

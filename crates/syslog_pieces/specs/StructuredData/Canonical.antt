@@ -18,4 +18,5 @@ BeginsUnblank (p ∷ ps) = Ends is_blank p.0
 
 -- the id is nonempty, without white space, `]` and `=`
 abbrev pub IsCanonicalElement : ElementValue → Type 0
-IsCanonicalElement e = (0 < length e.id) × Each is_id_char e.id × AllByRecursion IsCanonicalParam e.params × BeginsUnblank e.params
+IsCanonicalElement e = (0 < length e.id) × Each is_id_char e.id × AllByRecursion IsCanonicalParam e.params
+    × BeginsUnblank e.params

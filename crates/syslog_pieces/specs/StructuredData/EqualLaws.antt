@@ -6,11 +6,14 @@ use Rattle.std.specs.Cmp.Lexicographic.{nat_list_eq_equiv, bytes_decides}
 use Rattle.std.proofs.Common.{sym, ◌∙◌, arith, inl, inr, ap, subst, zero-add}
 use Rattle.std.proofs.lemmas.Bool.{and_parts, and_from, eqb-true, eq-eqb, cases_Bool, cases_lt}
 use Rattle.std.proofs.lemmas.List.Sums.{sum_by-cons, sum_by-append}
-use Rattle.std.proofs.lemmas.List.Sorted.{IsPermutation-refl, IsPermutation-sym, IsPermutation-trans, IsPermutation-cons, IsPermutation-middle, length_permutation, sum_by-IsPermutation}
+use Rattle.std.proofs.lemmas.List.Sorted.{IsPermutation-refl, IsPermutation-sym, IsPermutation-trans}
+use Rattle.std.proofs.lemmas.List.Sorted.{IsPermutation-cons, IsPermutation-middle}
+use Rattle.std.proofs.lemmas.List.Sorted.{length_permutation, sum_by-IsPermutation}
 use Rattle.syslog_pieces.specs.Pieces.Class.{Text}
 use Rattle.syslog_pieces.specs.Pieces.View.{text_eq}
 use Rattle.syslog_pieces.specs.StructuredData.Element.{ElementValue}
-use Rattle.syslog_pieces.specs.StructuredData.Equal.{IsSameInSomeOrder, element_eq, same_params, counts_agree, param_count, param_eq}
+use Rattle.syslog_pieces.specs.StructuredData.Equal.{IsSameInSomeOrder, element_eq, same_params}
+use Rattle.syslog_pieces.specs.StructuredData.Equal.{counts_agree, param_count, param_eq}
 
 abbrev pub Param : Type 0
 Param = Text × Text
@@ -27,7 +30,8 @@ pub param_eq-refl : (p : Param) → param_eq p p ≡ true
 param_eq-refl p = and_from _ _ (nat_list_eq_equiv.refl p.0) (nat_list_eq_equiv.refl p.1)
 
 -- the count of a list by its first parameter
-pub param_count-cons : (p x : Param) (ps : List Param) → param_count p (x ∷ ps) ≡ cond (param_eq p x) 1 0 + param_count p ps
+pub param_count-cons : (p x : Param) (ps : List Param)
+    → param_count p (x ∷ ps) ≡ cond (param_eq p x) 1 0 + param_count p ps
 param_count-cons p x ps = sum_by-cons (λ q. cond (param_eq p q) 1 0) x ps
 
 -- ---- a parameter that stands in a list can be taken out of it
@@ -52,7 +56,8 @@ abbrev rest_of : {p : Param} {qs : List Param} → IsTakenOut p qs → List Para
 rest_of t = t.before ++ t.after
 
 in_front : (p : Param) (qs : List Param) (t : IsTakenOut p qs) → IsPermutation (p ∷ rest_of t) qs
-in_front p qs t = subst (IsPermutation (p ∷ rest_of t)) (sym t.whole) (IsPermutation-sym _ _ (IsPermutation-middle t.before p t.after))
+in_front p qs t = subst (IsPermutation (p ∷ rest_of t)) (sym t.whole)
+    (IsPermutation-sym _ _ (IsPermutation-middle t.before p t.after))
 
 -- ---- permutations are the lists with the same counts
 
@@ -73,7 +78,8 @@ counts_agree-from [] ps qs same = refl
 counts_agree-from (x ∷ these) ps qs same = and_from _ _ (eq-eqb _ _ (same x)) (counts_agree-from these ps qs same)
 
 -- a parameter that stands in the list that was gone through stands equally often in both
-pub counts_agree-at : (these ps qs : List Param) (p : Param) → counts_agree these ps qs ≡ true → 0 < param_count p these → param_count p ps ≡ param_count p qs
+pub counts_agree-at : (these ps qs : List Param) (p : Param) → counts_agree these ps qs ≡ true → 0 < param_count p these
+    → param_count p ps ≡ param_count p qs
 counts_agree-at [] ps qs p e some = absurd (omega arith)
 counts_agree-at (x ∷ these) ps qs p e some =
     let both = and_parts (nat_eq (param_count x ps) (param_count x qs)) (counts_agree these ps qs) e in
@@ -87,7 +93,8 @@ first_counted : (x : Param) (ps : List Param) → 0 < param_count x (x ∷ ps)
 first_counted x ps = let one = param_count-cons x x ps in let same = param_eq-refl x in rw (one, same) (omega arith)
 
 -- taking the first parameter out of both lists leaves their counts in agreement
-agree_behind : (x : Param) (ps qs : List Param) (t : IsTakenOut x qs) → CountsAgree (x ∷ ps) qs → CountsAgree ps (rest_of t)
+agree_behind : (x : Param) (ps qs : List Param) (t : IsTakenOut x qs) → CountsAgree (x ∷ ps) qs
+    → CountsAgree ps (rest_of t)
 agree_behind x ps qs t agree p some =
     let one = param_count-cons p x ps in
     let other = param_count-cons p x (rest_of t) in
@@ -98,7 +105,8 @@ agree_behind x ps qs t agree p some =
 length_behind : (x : Param) (qs : List Param) (t : IsTakenOut x qs) → length qs ≡ length (x ∷ rest_of t)
 length_behind x qs t = length_permutation _ _ (in_front x qs t)
 
-put_in_front : (x : Param) (ps qs : List Param) (t : IsTakenOut x qs) → IsPermutation ps (rest_of t) → IsPermutation (x ∷ ps) qs
+put_in_front : (x : Param) (ps qs : List Param) (t : IsTakenOut x qs) → IsPermutation ps (rest_of t)
+    → IsPermutation (x ∷ ps) qs
 put_in_front x ps qs t h = IsPermutation-trans _ _ _ (IsPermutation-cons x _ _ h) (in_front x qs t)
 
 -- lists of one length are in agreement as soon as the first's parameters are
@@ -146,8 +154,10 @@ pub same_params-decides : (ps qs : List Param) → Decides (same_params ps qs) (
 same_params-decides ps qs = (same_params-counts ps qs, same_params-from ps qs)
 
 pub same_params-permutation : (ps qs : List Param) → Decides (same_params ps qs) (IsPermutation ps qs)
-same_params-permutation ps qs =
-    (λ e. permuted_by_counts ps qs (same_params-counts ps qs e), λ h. same_params-from ps qs (counts_of_permutation ps qs h))
+same_params-permutation ps qs = (
+  λ e. permuted_by_counts ps qs (same_params-counts ps qs e),
+  λ h. same_params-from ps qs (counts_of_permutation ps qs h),
+)
 
 pub same_params-equivalence : IsEquivalence same_params
 same_params-equivalence = record {
@@ -168,6 +178,7 @@ pub element_eq-decides : (a b : ElementValue) → Decides (element_eq a b) (IsSa
 element_eq-decides a b =
     let ids = bytes_decides a.id b.id in
     let params = same_params-permutation a.params b.params in (
-      λ e. let both = and_parts (text_eq a.id b.id) (same_params a.params b.params) e in (ids.0 both.0, params.0 both.1),
+      λ e. let both = and_parts (text_eq a.id b.id) (same_params a.params b.params) e in
+          (ids.0 both.0, params.0 both.1),
       λ same. and_from _ _ (ids.1 same.0) (params.1 same.1),
     )

@@ -21,7 +21,8 @@ IsDashBefore BeforeBlank (c ∷ cs) = is_blank c ≡ true
 
 -- `-` where the rule allows it, or one or more strict elements with parameters, as many as there are
 abbrev pub IsRfc3164List : DashRule → Text → Text → List ElementValue → Type 0
-IsRfc3164List rule p q es = ((p ≡ dash) × IsDashBefore rule q × (es ≡ [])) ⊎ ((0 < length es) × (many full_element).Is p q es)
+IsRfc3164List rule p q es = ((p ≡ dash) × IsDashBefore rule q × (es ≡ []))
+    ⊎ ((0 < length es) × (many full_element).Is p q es)
 
 -- the list of RFC 3164
 abbrev pub rfc3164_list : DashRule → Class
@@ -38,4 +39,5 @@ elements_or (Some es) = es
 
 -- whatever list begins the text, or none, has no elements
 abbrev pub ListsNoElements : DashRule → Text → Type 0
-ListsNoElements rule text = (q : Text) (es : Option (List ElementValue)) → Front (optional (rfc3164_list rule)) text q es → elements_or es ≡ []
+ListsNoElements rule text = (q : Text) (es : Option (List ElementValue))
+    → Front (optional (rfc3164_list rule)) text q es → elements_or es ≡ []

@@ -33,7 +33,8 @@ abbrev pub yearless_row : List Class
 yearless_row = month ∷ some_run is_blank ∷ short_number ∷ some_run is_blank ∷ clock_row
 
 abbrev pub yearless_of : Values yearless_row → MonthDate
-yearless_of (m, (_, (d, (_, (h, (_, (n, (_, (s, (_, _)))))))))) = record { year = None; month = m; day = d; hour = h; minute = n; second = s }
+yearless_of (m, (_, (d, (_, (h, (_, (n, (_, (s, (_, _)))))))))) =
+    record { year = None; month = m; day = d; hour = h; minute = n; second = s }
 
 -- a month date without a year
 abbrev pub yearless_date : Class
@@ -41,10 +42,12 @@ yearless_date = mapped (Row yearless_row) MonthDate yearless_of
 
 -- month, day, year and clock, with blanks between two
 abbrev pub dated_row : List Class
-dated_row = month ∷ some_run is_blank ∷ short_number ∷ some_run is_blank ∷ number 2147483647 ∷ some_run is_blank ∷ clock_row
+dated_row =
+    month ∷ some_run is_blank ∷ short_number ∷ some_run is_blank ∷ number 2147483647 ∷ some_run is_blank ∷ clock_row
 
 abbrev pub dated_of : Values dated_row → MonthDate
-dated_of (m, (_, (d, (_, (y, (_, (h, (_, (n, (_, (s, (_, _)))))))))))) = record { year = Some y; month = m; day = d; hour = h; minute = n; second = s }
+dated_of (m, (_, (d, (_, (y, (_, (h, (_, (n, (_, (s, (_, _)))))))))))) =
+    record { year = Some y; month = m; day = d; hour = h; minute = n; second = s }
 
 -- a month date with a year
 abbrev pub dated_date : Class

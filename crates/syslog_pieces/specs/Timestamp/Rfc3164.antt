@@ -26,7 +26,8 @@ showing_row date = optional priority ∷ run is_blank ∷ date ∷ rest ∷ []
 
 -- the text is such a row, with this date of the class
 abbrev pub BeginsWithDate : (date : Class) → Text → date.Value → Type 0
-BeginsWithDate date text d = (p : Option ℕ) × (more : Text) × Division (showing_row date) text (p, (tt, (d, (more, tt))))
+BeginsWithDate date text d =
+    (p : Option ℕ) × (more : Text) × Division (showing_row date) text (p, (tt, (d, (more, tt))))
 
 -- the trimmed text shows this date of the class
 abbrev pub ShowsOf : (date : Class) → Text → date.Value → Type 0

@@ -11,8 +11,8 @@ use Rattle.syslog_pieces.specs.declared.timestamp.month_date.MonthDate.{MonthDat
 use Rattle.syslog_pieces.specs.declared.timestamp.zone.Dating.{Dating as DatingHandle}
 use Rattle.syslog_pieces.specs.Timestamp.Fields.{fields_of, IsStampAt}
 
--- How a date without an offset gets a timestamp: the year of a date that has none (where that is absent too, such a date
--- has no timestamp), the zone that is given, and the local zone, which stands in where none is.
+-- How a date without an offset gets a timestamp: the year of a date that has none (where that is absent too, such a
+-- date has no timestamp), the zone that is given, and the local zone, which stands in where none is.
 pub record Dating : Type 0 where
   pub year : Option ℤ
   pub zone : Option TimeZone
@@ -82,14 +82,16 @@ civil_of date year = record {
   nanosecond = 0;
 }
 
--- the calendar has the date and the clock the time of the fields, and this is their timestamp, the instant being in range
+-- the calendar has the date and the clock the time of the fields, and this is their timestamp, the instant being in
+-- range
 abbrev pub IsStampOfFields : Option TimeZone → TimeZone → CivilFields → OffsetTimestamp → Type 0
 IsStampOfFields tz local f s = (dt : DateTime) × (fields_of dt ≡ f) × IsStampInAny tz local dt s
 
 -- this is the timestamp of the month date: it has a year, and its fields in that year have this timestamp
 abbrev pub IsMonthStamp : Dating → MonthDate → OffsetTimestamp → Type 0
 IsMonthStamp dating date s =
-    (year : ℤ) × (year_of date dating.year ≡ Some year) × IsStampOfFields dating.zone dating.local (civil_of date year) s
+    (year : ℤ) × (year_of date dating.year ≡ Some year)
+    × IsStampOfFields dating.zone dating.local (civil_of date year) s
 
 -- a clock in the zone shows the year at the instant
 pub record IsYearAt (tz : TimeZone) (nanosecond year : ℤ) : Type 0 where

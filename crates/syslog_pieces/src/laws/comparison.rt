@@ -21,10 +21,14 @@ use crate::timestamp::OffsetTimestamp;
 
 /// Facilities are equal and ordered by their numbers, and so are severities.
 pub fn parts_compare_by_number()
-    ensures facility_eq { (a b : SyslogFacility) → ⟦<SyslogFacility as PartialEq>⟧.eq a b ≡ nat_eq (facility_number a) (facility_number b) }
-    ensures facility_cmp { (a b : SyslogFacility) → ⟦<SyslogFacility as Ord>⟧.cmp a b ≡ nat_cmp (facility_number a) (facility_number b) }
-    ensures severity_eq { (a b : SyslogSeverity) → ⟦<SyslogSeverity as PartialEq>⟧.eq a b ≡ nat_eq (severity_number a) (severity_number b) }
-    ensures severity_cmp { (a b : SyslogSeverity) → ⟦<SyslogSeverity as Ord>⟧.cmp a b ≡ nat_cmp (severity_number a) (severity_number b) }
+    ensures facility_eq { (a b : SyslogFacility)
+        → ⟦<SyslogFacility as PartialEq>⟧.eq a b ≡ nat_eq (facility_number a) (facility_number b) }
+    ensures facility_cmp { (a b : SyslogFacility)
+        → ⟦<SyslogFacility as Ord>⟧.cmp a b ≡ nat_cmp (facility_number a) (facility_number b) }
+    ensures severity_eq { (a b : SyslogSeverity)
+        → ⟦<SyslogSeverity as PartialEq>⟧.eq a b ≡ nat_eq (severity_number a) (severity_number b) }
+    ensures severity_cmp { (a b : SyslogSeverity)
+        → ⟦<SyslogSeverity as Ord>⟧.cmp a b ≡ nat_cmp (severity_number a) (severity_number b) }
 {}
 
 /// Within facilities, and within severities, one name is one value, and so is one number.
@@ -37,9 +41,11 @@ pub fn name_is_of_one_value()
 
 /// Two process ids are equal exactly when they are one value over texts. So this is an equivalence.
 pub fn process_ids_are_equal_by_value<S: AsStr>()
-    ensures exact { (a b : ProcId S) → IsTrue (⟦<ProcId<S> as PartialEq>⟧.eq a b) ↔ (procid_value (text_of S.text) a ≡ procid_value (text_of S.text) b) }
+    ensures exact { (a b : ProcId S) → IsTrue (⟦<ProcId<S> as PartialEq>⟧.eq a b)
+        ↔ (procid_value (text_of S.text) a ≡ procid_value (text_of S.text) b) }
     ensures reflexive { (a : ProcId S) → IsTrue (⟦<ProcId<S> as PartialEq>⟧.eq a a) }
-    ensures symmetric { (a b : ProcId S) → IsTrue (⟦<ProcId<S> as PartialEq>⟧.eq a b) → IsTrue (⟦<ProcId<S> as PartialEq>⟧.eq b a) }
+    ensures symmetric { (a b : ProcId S) → IsTrue (⟦<ProcId<S> as PartialEq>⟧.eq a b)
+        → IsTrue (⟦<ProcId<S> as PartialEq>⟧.eq b a) }
     ensures transitive { (a b c : ProcId S) → IsTrue (⟦<ProcId<S> as PartialEq>⟧.eq a b)
         → IsTrue (⟦<ProcId<S> as PartialEq>⟧.eq b c) → IsTrue (⟦<ProcId<S> as PartialEq>⟧.eq a c) }
 {}
@@ -50,19 +56,25 @@ pub fn elements_are_equal_in_any_order<S: AsStr>()
     ensures exact { (a b : StructuredElement S) → IsTrue (⟦<StructuredElement<S> as PartialEq>⟧.eq a b)
         ↔ IsSameInSomeOrder (element_value (text_of S.text) a) (element_value (text_of S.text) b) }
     ensures reflexive { (a : StructuredElement S) → IsTrue (⟦<StructuredElement<S> as PartialEq>⟧.eq a a) }
-    ensures symmetric { (a b : StructuredElement S) → IsTrue (⟦<StructuredElement<S> as PartialEq>⟧.eq a b) → IsTrue (⟦<StructuredElement<S> as PartialEq>⟧.eq b a) }
+    ensures symmetric { (a b : StructuredElement S) → IsTrue (⟦<StructuredElement<S> as PartialEq>⟧.eq a b)
+        → IsTrue (⟦<StructuredElement<S> as PartialEq>⟧.eq b a) }
     ensures transitive { (a b c : StructuredElement S) → IsTrue (⟦<StructuredElement<S> as PartialEq>⟧.eq a b)
-        → IsTrue (⟦<StructuredElement<S> as PartialEq>⟧.eq b c) → IsTrue (⟦<StructuredElement<S> as PartialEq>⟧.eq a c) }
-    ensures same { (a b : StructuredElement S) → element_value (text_of S.text) a ≡ element_value (text_of S.text) b → IsTrue (⟦<StructuredElement<S> as PartialEq>⟧.eq a b) }
+        → IsTrue (⟦<StructuredElement<S> as PartialEq>⟧.eq b c)
+        → IsTrue (⟦<StructuredElement<S> as PartialEq>⟧.eq a c) }
+    ensures same { (a b : StructuredElement S) → element_value (text_of S.text) a ≡ element_value (text_of S.text) b
+        → IsTrue (⟦<StructuredElement<S> as PartialEq>⟧.eq a b) }
 {}
 
-/// Two timestamps are equal exactly when their instants are, whatever the offsets. So this is an equivalence, with which
-/// the order agrees.
+/// Two timestamps are equal exactly when their instants are, whatever the offsets. So this is an equivalence, with
+/// which the order agrees.
 pub fn timestamps_are_equal_by_instant()
-    ensures exact { (a b : OffsetTimestamp) → IsTrue (⟦<OffsetTimestamp as PartialEq>⟧.eq a b) ↔ (a.instant.nanosecond ≡ b.instant.nanosecond) }
+    ensures exact { (a b : OffsetTimestamp) → IsTrue (⟦<OffsetTimestamp as PartialEq>⟧.eq a b)
+        ↔ (a.instant.nanosecond ≡ b.instant.nanosecond) }
     ensures reflexive { (a : OffsetTimestamp) → IsTrue (⟦<OffsetTimestamp as PartialEq>⟧.eq a a) }
-    ensures symmetric { (a b : OffsetTimestamp) → IsTrue (⟦<OffsetTimestamp as PartialEq>⟧.eq a b) → IsTrue (⟦<OffsetTimestamp as PartialEq>⟧.eq b a) }
+    ensures symmetric { (a b : OffsetTimestamp) → IsTrue (⟦<OffsetTimestamp as PartialEq>⟧.eq a b)
+        → IsTrue (⟦<OffsetTimestamp as PartialEq>⟧.eq b a) }
     ensures transitive { (a b c : OffsetTimestamp) → IsTrue (⟦<OffsetTimestamp as PartialEq>⟧.eq a b)
         → IsTrue (⟦<OffsetTimestamp as PartialEq>⟧.eq b c) → IsTrue (⟦<OffsetTimestamp as PartialEq>⟧.eq a c) }
-    ensures order { (a b : OffsetTimestamp) → IsTrue (⟦<OffsetTimestamp as PartialEq>⟧.eq a b) ↔ (⟦<OffsetTimestamp as Ord>⟧.cmp a b ≡ Equal) }
+    ensures order { (a b : OffsetTimestamp) → IsTrue (⟦<OffsetTimestamp as PartialEq>⟧.eq a b)
+        ↔ (⟦<OffsetTimestamp as Ord>⟧.cmp a b ≡ Equal) }
 {}

@@ -14,22 +14,29 @@ ghost use Rattle.syslog_pieces.specs.declared.procid.ProcId.{ProcId};
 
 /// A number up to the limit is read back before what begins with no digit.
 pub fn decimal_is_read_back()
-    ensures { (n limit : ℕ) (q : Text) → n ≤ limit → limit < 2 ^ 64 → Ends is_ascii_digit q → (number limit).Is (decimal n) q n }
+    ensures { (n limit : ℕ) (q : Text) → n ≤ limit → limit < 2 ^ 64 → Ends is_ascii_digit q
+        → (number limit).Is (decimal n) q n }
 {}
 
-/// A canonical host, or none, is read back before the end or white space; what is read before a blank is a canonical host, or none.
+/// A canonical host, or none, is read back before the end or white space; what is read before a blank is a canonical
+/// host, or none.
 pub fn canonical_host_is_read_back()
-    ensures back { (v : Option Text) (q : Text) → IfSome v IsCanonicalHost → Ends is_not_whitespace q → host.Is (name_text v) q v }
-    ensures only { (p b q : Text) (v : Option Text) → 0 < length b → Each is_blank b → host.Is p (b ++ q) v → IfSome v IsCanonicalHost }
+    ensures back { (v : Option Text) (q : Text) → IfSome v IsCanonicalHost → Ends is_not_whitespace q
+        → host.Is (name_text v) q v }
+    ensures only { (p b q : Text) (v : Option Text) → 0 < length b → Each is_blank b → host.Is p (b ++ q) v
+        → IfSome v IsCanonicalHost }
 {}
 
-/// A canonical word, or none, is read back before the end or white space, and what is read is a canonical word, or none.
+/// A canonical word, or none, is read back before the end or white space, and what is read is a canonical word, or
+/// none.
 pub fn canonical_word_is_read_back()
-    ensures back { (v : Option Text) (q : Text) → IfSome v IsCanonicalWord → Ends is_not_whitespace q → word.Is (name_text v) q v }
+    ensures back { (v : Option Text) (q : Text) → IfSome v IsCanonicalWord → Ends is_not_whitespace q
+        → word.Is (name_text v) q v }
     ensures only { (p q : Text) (v : Option Text) → word.Is p q v → IfSome v IsCanonicalWord }
 {}
 
-/// A canonical process id, or none, is read back before the end or white space, and what is read is a canonical one, or none.
+/// A canonical process id, or none, is read back before the end or white space, and what is read is a canonical one, or
+/// none.
 pub fn canonical_process_is_read_back()
     ensures back { (v : Option (ProcId Text)) (q : Text) → IfSome v IsCanonicalProcess → IfSome v IsBoundedProcess
         → Ends is_not_whitespace q → process_word.Is (process_text v) q v }

@@ -1,4 +1,5 @@
-//! Which elements are read back from print as they stand: the scanners that read them are asked, and no memory is taken.
+//! Which elements are read back from print as they stand: the scanners that read them are asked, and no memory is
+//! taken.
 ghost use Rattle.std.specs.Prelude.{◌↔◌, ◌<◌, IsTrue, length, map};
 ghost use Rattle.std.specs.List.{AllByRecursion};
 ghost use Rattle.std.specs.Str.{chars};
@@ -80,7 +81,8 @@ pub fn is_canonical_element<S: AsStr>(element: &StructuredElement<S>) -> bool
 
 /// Whether each of the elements is.
 pub fn are_canonical_elements<S: AsStr>(elements: &[StructuredElement<S>]) -> bool
-    ensures { IsTrue result ↔ AllByRecursion spec.IsCanonicalElement (map (element_value (text_of S.text)) elements.now) }
+    ensures { IsTrue result ↔ AllByRecursion spec.IsCanonicalElement
+        (map (element_value (text_of S.text)) elements.now) }
 {
     for element in elements {
         if !is_canonical_element(element) {

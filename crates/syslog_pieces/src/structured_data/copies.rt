@@ -27,7 +27,8 @@ impl StructuredElement<&str> {
     /// The same element, with texts of its own: the same parameters in the same order. An `Err` is only for memory,
     /// and nothing has changed then.
     pub fn to_owned_text(&self, alloc: Global) -> Result<StructuredElement<String>, AllocError>
-        ensures { IfOk result (λ copy. element_value (text_of string_bytes) copy ≡ element_value (λ s. shown s) self.now) }
+        ensures { IfOk result (λ copy. element_value (text_of string_bytes) copy
+            ≡ element_value (λ s. shown s) self.now) }
     {
         let mut params = Vec::with_capacity(alloc, self.params.len())?;
         for (name, value) in &self.params {

@@ -28,7 +28,8 @@ impl<S: AsStr> Eq for StructuredElement<S> {
 // Whether both lists have the same parameters, each as often. Nearly always they stand in one order, and the first
 // pass is all; only behind the first difference are they counted.
 fn have_same_params<S: AsStr>(a: &[(S, S)], b: &[(S, S)]) -> bool
-    ensures { result ≡ same_params (map (param_value (text_of S.text)) a.now) (map (param_value (text_of S.text)) b.now) }
+    ensures { result ≡ same_params (map (param_value (text_of S.text)) a.now)
+        (map (param_value (text_of S.text)) b.now) }
 {
     if a.len() != b.len() {
         return false;
@@ -41,7 +42,8 @@ fn have_same_params<S: AsStr>(a: &[(S, S)], b: &[(S, S)]) -> bool
 fn first_difference<S: AsStr>(a: &[(S, S)], b: &[(S, S)]) -> usize
     requires { length a.now ≡ length b.now }
     ensures within { result ≤ length a.now }
-    ensures same { map (param_value (text_of S.text)) (take result a.now) ≡ map (param_value (text_of S.text)) (take result b.now) }
+    ensures same { map (param_value (text_of S.text)) (take result a.now)
+        ≡ map (param_value (text_of S.text)) (take result b.now) }
 {
     for at in 0..a.len() {
         if !is_same_param(&a[at], &b[at]) {
@@ -53,7 +55,8 @@ fn first_difference<S: AsStr>(a: &[(S, S)], b: &[(S, S)]) -> usize
 
 // Whether each parameter of the first list stands equally often in both.
 fn are_as_frequent<S: AsStr>(a: &[(S, S)], b: &[(S, S)]) -> bool
-    ensures { result ≡ counts_agree (map (param_value (text_of S.text)) a.now) (map (param_value (text_of S.text)) a.now) (map (param_value (text_of S.text)) b.now) }
+    ensures { result ≡ counts_agree (map (param_value (text_of S.text)) a.now)
+        (map (param_value (text_of S.text)) a.now) (map (param_value (text_of S.text)) b.now) }
 {
     for param in a {
         if !is_as_frequent(param, a, b) {
@@ -74,7 +77,8 @@ fn is_as_frequent<S: AsStr>(param: &(S, S), a: &[(S, S)], b: &[(S, S)]) -> bool
 
 // How often a parameter stands in a list.
 fn count_param<S: AsStr>(param: &(S, S), params: &[(S, S)]) -> usize
-    ensures { result ≡ count_by (λ q. param_eq (param_value (text_of S.text) param.now) (param_value (text_of S.text) q)) params.now }
+    ensures { result ≡ count_by (λ q. param_eq (param_value (text_of S.text) param.now)
+        (param_value (text_of S.text) q)) params.now }
 {
     let mut count = 0;
     for other in params {

@@ -38,7 +38,8 @@ struct Items<'a> {
 fn next_item(text: &str, dead: usize) -> Option<Item<'_>>
     requires { IsDead (chars text.now) dead }
     ensures { MatchOption result (NoFront item_class (chars text.now)) (λ found. IsUtf8 found.rest.now
-        × ((v : Option ElementValue) × Front item_class (chars text.now) (shown found.rest) v × (found.strict ≡ is_some v))
+        × ((v : Option ElementValue) × Front item_class (chars text.now) (shown found.rest) v
+        × (found.strict ≡ is_some v))
         × IsDead (shown found.rest) found.dead) }
 {
     match live_element(text, dead) {

@@ -4,16 +4,20 @@
 //! and each of the items behind it would be scanned as far again. But whatever scan passes a `]` alive does so inside a
 //! value, so all such scans have one future. A number `dead` keeps it: no element closes from behind a `]` that leaves
 //! `dead` bytes or more. A scan that passes such a `]` stops there.
-ghost use Rattle.std.specs.Prelude.{◌≡◌, ◌<◌, ◌≤◌, ◌++◌, [], ◌∷◌, IsTrue, MatchOption, MatchResult, length, slice_index};
+ghost use Rattle.std.specs.Prelude.{◌≡◌, ◌<◌, ◌≤◌, ◌++◌, [], ◌∷◌, IsTrue};
+ghost use Rattle.std.specs.Prelude.{MatchOption, MatchResult, length, slice_index};
 ghost use Rattle.std.specs.Str.{chars, IsUtf8};
 ghost use Rattle.syslog_pieces.specs.Bodies.Scan.{EndsRun, SplitsRun};
 ghost use Rattle.syslog_pieces.specs.Text.CharClass.{has};
 ghost use Rattle.syslog_pieces.specs.declared.text.CharClass.TheVariants.{Inert};
 ghost use Rattle.syslog_pieces.specs.Pieces.Class.{Class, Front, NoFront, exactly, some_run, texted};
-ghost use Rattle.syslog_pieces.specs.Bodies.Closing.{start as start_class, opening as opening_class, quoted as quoted_class, id_alone, name_alone, closing, byte_count, IsDead, last_char};
+ghost use Rattle.syslog_pieces.specs.Bodies.Closing.{start as start_class, opening as opening_class};
+ghost use Rattle.syslog_pieces.specs.Bodies.Closing.{quoted as quoted_class, id_alone, name_alone};
+ghost use Rattle.syslog_pieces.specs.Bodies.Closing.{closing, byte_count, IsDead, last_char};
 ghost use Rattle.syslog_pieces.specs.StructuredData.Escapes.{TextUnit, unit_text};
 ghost use Rattle.syslog_pieces.specs.StructuredData.Rfc3164List.{full_element};
-ghost use Rattle.syslog_pieces.specs.StructuredData.{value, element as element_class, bracketed as bracketed_class, IsValueUnit};
+ghost use Rattle.syslog_pieces.specs.StructuredData.{value, element as element_class};
+ghost use Rattle.syslog_pieces.specs.StructuredData.{bracketed as bracketed_class, IsValueUnit};
 ghost use Rattle.syslog_pieces.specs.Pieces.View.{shown, Reads, Recognises};
 
 use crate::text::{CharClass, blanks, first, literal, run_end, split_run};

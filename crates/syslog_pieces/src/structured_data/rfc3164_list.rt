@@ -6,7 +6,8 @@ ghost use Rattle.syslog_pieces.specs.Pieces.Class.{Text, Front, NoFront, optiona
 ghost use Rattle.syslog_pieces.specs.Pieces.Lists.{many};
 ghost use Rattle.syslog_pieces.specs.Pieces.View.{shown, Reads};
 ghost use Rattle.syslog_pieces.specs.StructuredData.Element.{element_value};
-ghost use Rattle.syslog_pieces.specs.StructuredData.Rfc3164List.{full_element, rfc3164_list, IsDashBefore, ListsNoElements};
+ghost use Rattle.syslog_pieces.specs.StructuredData.Rfc3164List.{full_element, rfc3164_list};
+ghost use Rattle.syslog_pieces.specs.StructuredData.Rfc3164List.{IsDashBefore, ListsNoElements};
 
 use super::StructuredElement;
 use super::element::{NOTED, collect_element, noted_element};
@@ -54,7 +55,8 @@ fn after_dash(text: &str, rule: DashRule) -> Option<&str>
 /// Whether a list of RFC 3164 begins the text. Takes no memory.
 #[inline(always)]
 pub fn begins_list(text: &str, rule: DashRule) -> bool
-    ensures { MatchBool result (NoFront (rfc3164_list rule) (chars text.now) → ⊥) (NoFront (rfc3164_list rule) (chars text.now)) }
+    ensures { MatchBool result (NoFront (rfc3164_list rule) (chars text.now) → ⊥)
+        (NoFront (rfc3164_list rule) (chars text.now)) }
 {
     after_dash(text, rule).is_some() || after_full_element(text).is_some()
 }

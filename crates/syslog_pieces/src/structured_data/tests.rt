@@ -1,9 +1,9 @@
 //! Worked rows and vectors: what no clause says of one text.
 mod copies;
 mod equality;
-mod rfc3164_list;
 mod refusals;
 mod refusals_copies;
+mod rfc3164_list;
 
 use super::{StructuredElement, forgiving_list, read_element};
 use std::alloc::{AllocError, Global};

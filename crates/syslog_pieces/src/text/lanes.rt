@@ -3,7 +3,8 @@
 //! Each compares sixteen bytes at once, and answers the place of the first that stops the run.
 ghost use Rattle.std.specs.Prelude.{◌≡◌, ◌+◌, ◌≤◌, length};
 ghost use Rattle.syslog_pieces.specs.Bodies.Scan.{IsRunIn, byte_in, first_set, is_zero};
-ghost use Rattle.syslog_pieces.specs.declared.text.CharClass.TheVariants.{Digit, Blank, Visible, Id, Name, Unescaped, Open, Inert, Bare, Tag, Label};
+ghost use Rattle.syslog_pieces.specs.declared.text.CharClass.TheVariants.{Digit, Blank, Visible, Id, Name};
+ghost use Rattle.syslog_pieces.specs.declared.text.CharClass.TheVariants.{Unescaped, Open, Inert, Bare, Tag, Label};
 
 use crate::text::CharClass;
 use std::simd::prelude::*;

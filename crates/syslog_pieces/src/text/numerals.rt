@@ -11,7 +11,8 @@ use crate::text::lanes::{LANES, zero_run};
 #[inline(always)]
 pub(crate) fn number_of_digits(digits: &str) -> Option<u32>
     requires { Each is_ascii_digit (chars digits.now) }
-    ensures { SomeIff result ((0 < length digits.now) × (digits_value 10 digits.now < 2 ^ 32)) (digits_value 10 digits.now) }
+    ensures { SomeIff result ((0 < length digits.now) × (digits_value 10 digits.now < 2 ^ 32))
+        (digits_value 10 digits.now) }
 {
     match few_digits(digits.as_bytes()) {
         Some(value) => Some(value),
@@ -64,7 +65,8 @@ pub(crate) fn few_digits(digits: &[u8]) -> Option<u32>
 #[inline(never)]
 fn any_digits(digits: &str) -> Option<u32>
     requires { Each is_ascii_digit (chars digits.now) }
-    ensures { SomeIff result ((0 < length digits.now) × (digits_value 10 digits.now < 2 ^ 32)) (digits_value 10 digits.now) }
+    ensures { SomeIff result ((0 < length digits.now) × (digits_value 10 digits.now < 2 ^ 32))
+        (digits_value 10 digits.now) }
 {
     let (_, rest) = digits.split_at(zeros_ahead(digits.as_bytes()));
     match rest.parse::<u32>() {

@@ -21,7 +21,8 @@ pub(crate) fn write_bytes<W: fmt::Write>(f: &mut fmt::Formatter<W>, bytes: &[u8]
 #[inline(always)]
 pub fn push_bytes(text: &mut String, bytes: &[u8]) -> Result<(), AllocError>
     requires { AllByRecursion (λ b. b < 128) bytes.now }
-    ensures { string_bytes text.new ≡ (if is_ok result then string_bytes text.old ++ bytes.now else string_bytes text.old) }
+    ensures { string_bytes text.new
+        ≡ (if is_ok result then string_bytes text.old ++ bytes.now else string_bytes text.old) }
 {
     text.push_str(unsafe { str::from_utf8_unchecked(bytes) })
 }

@@ -36,7 +36,8 @@ fn standard_stamp<'a>(
     text: &'a str,
     dating: &Dating<'_, '_>,
 ) -> Option<(Option<OffsetTimestamp>, &'a str)>
-    ensures { IfSome result (λ found. Front (spec.rfc3164_stamp (dating_value dating.entry.now)) (chars text.now) (shown found.1) found.0) }
+    ensures { IfSome result (λ found. Front (spec.rfc3164_stamp (dating_value dating.entry.now)) (chars text.now)
+        (shown found.1) found.0) }
 {
     let (date, rest) = standard_date(text)?;
     let stamp = month_stamp(date, dating)?;

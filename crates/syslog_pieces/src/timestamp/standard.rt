@@ -173,8 +173,8 @@ fn fields_read(day: Day, clock: Clock, nanosecond: u32) -> CivilFields
     }
 }
 
-/// The timestamp at the front of a header's text, where it has the standard form and a date that each month has, and the
-/// text behind it.
+/// The timestamp at the front of a header's text, where it has the standard form and a date that each month has, and
+/// the text behind it.
 #[inline(always)]
 pub(super) fn standard_stamp(text: &str) -> Option<(OffsetTimestamp, &str)>
     ensures { IfSome result (λ read. Front header_stamp (chars text.now) (shown read.1) (Some read.0)) }

@@ -1,8 +1,8 @@
 //! The timestamp of civil fields in a zone, and the year of a moment there.
 //!
 //! **Rule.** Where a clock in the zone shows the fields twice, the earlier instant counts. Where it never shows them, a
-//! zone that is given has no timestamp of them, and in the local zone they are taken as UTC. (This project's own choice,
-//! as the crate's documents have it.) No conversion here takes memory.
+//! zone that is given has no timestamp of them, and in the local zone they are taken as UTC. (This project's own
+//! choice, as the crate's documents have it.) No conversion here takes memory.
 ghost use Rattle.std.specs.Prelude.{◌≡◌, Some, pos, ◌<ℤ◌, IfSome, IsNone};
 ghost use Rattle.jiff.specs.Words.{plain_zone};
 ghost use Rattle.syslog_pieces.specs.Timestamp.{IsAnswer};
@@ -18,7 +18,8 @@ use jiff::Timestamp;
 use jiff::civil::DateTime;
 use jiff::tz::{AmbiguousOffset, Offset, TimeZone};
 
-/// The year of a date that shows none, and the zones of one without an offset: the one that is given, or else the local one.
+/// The year of a date that shows none, and the zones of one without an offset: the one that is given, or else the local
+/// one.
 #[derive(Clone, Copy)]
 pub struct Dating<'a, 'z> {
     /// The year, where there is one.

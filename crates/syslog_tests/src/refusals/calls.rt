@@ -59,14 +59,18 @@ fn called<'a>(
 /// Texts with elements under a variant, and how each prints.
 const LISTED: [(&str, Variant, &str); 6] = [
     (
-        "<13>1 2019-02-13T19:48:34+00:00 74794bfb6795 root 8449 - [meta sequenceId=\"1\" sysUpTime=\"37\" language=\"EN\"][origin ip=\"192.168.0.1\" software=\"test\"] i am foobar",
+        "<13>1 2019-02-13T19:48:34+00:00 74794bfb6795 root 8449 - [meta sequenceId=\"1\" sysUpTime=\"37\" \
+         language=\"EN\"][origin ip=\"192.168.0.1\" software=\"test\"] i am foobar",
         Variant::RFC5424,
-        "<13>1 2019-02-13T19:48:34+00:00 74794bfb6795 root 8449 - [meta sequenceId=\"1\" sysUpTime=\"37\" language=\"EN\"][origin ip=\"192.168.0.1\" software=\"test\"] i am foobar",
+        "<13>1 2019-02-13T19:48:34+00:00 74794bfb6795 root 8449 - [meta sequenceId=\"1\" sysUpTime=\"37\" \
+         language=\"EN\"][origin ip=\"192.168.0.1\" software=\"test\"] i am foobar",
     ),
     (
-        "<13>1 2019-02-13T19:48:34+00:00 74794bfb6795 root 8449 - [meta sequenceId=\"1\" sysUpTime=\"37\" language=\"EN\"][origin ip=\"192.168.0.1\" software=\"test\"] i am foobar",
+        "<13>1 2019-02-13T19:48:34+00:00 74794bfb6795 root 8449 - [meta sequenceId=\"1\" sysUpTime=\"37\" \
+         language=\"EN\"][origin ip=\"192.168.0.1\" software=\"test\"] i am foobar",
         Variant::Either,
-        "<13>1 2019-02-13T19:48:34+00:00 74794bfb6795 root 8449 - [meta sequenceId=\"1\" sysUpTime=\"37\" language=\"EN\"][origin ip=\"192.168.0.1\" software=\"test\"] i am foobar",
+        "<13>1 2019-02-13T19:48:34+00:00 74794bfb6795 root 8449 - [meta sequenceId=\"1\" sysUpTime=\"37\" \
+         language=\"EN\"][origin ip=\"192.168.0.1\" software=\"test\"] i am foobar",
     ),
     (
         "1 - - - - - [a b=\"x]y\"][c][d e=][f",
@@ -79,9 +83,11 @@ const LISTED: [(&str, Variant, &str); 6] = [
         "<47>1 - - - - - [a b=\"c\"] x",
     ),
     (
-        "<46>Jan  5 15:33:03 plertrood-ThinkPad-X220 rsyslogd:  [origin software=\"rsyslogd\" swVersion=\"8.32.0\"] start",
+        "<46>Jan  5 15:33:03 plertrood-ThinkPad-X220 rsyslogd:  [origin software=\"rsyslogd\" swVersion=\"8.32.0\"] \
+         start",
         Variant::Either,
-        "<46> 2020-01-05T15:33:03+01:00 plertrood-ThinkPad-X220 rsyslogd: [origin software=\"rsyslogd\" swVersion=\"8.32.0\"] start",
+        "<46> 2020-01-05T15:33:03+01:00 plertrood-ThinkPad-X220 rsyslogd: [origin software=\"rsyslogd\" \
+         swVersion=\"8.32.0\"] start",
     ),
     (
         "- h a: [a b=\"c\"][d e=\"f\"][g",

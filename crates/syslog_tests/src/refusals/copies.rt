@@ -5,10 +5,13 @@ use std::alloc::{AllocError, Global};
 use std::process::Abort;
 use syslog_loose::{Message, ParseFault, StructuredElement, Variant};
 
-/// Texts with two elements, which print as they are written: with the number of a process, and with names; and the elements.
+/// Texts with two elements, which print as they are written: with the number of a process, and with names; and the
+/// elements.
 const LISTED: [&str; 2] = [
-    "<13>1 2019-02-13T19:48:34+00:00 74794bfb6795 root 8449 - [meta sequenceId=\"1\" sysUpTime=\"37\" language=\"EN\"][origin ip=\"192.168.0.1\" software=\"test\"] i am foobar",
-    "<13>1 2019-02-13T19:48:34+00:00 74794bfb6795 root x:y m1 [meta sequenceId=\"1\" sysUpTime=\"37\" language=\"EN\"][origin ip=\"192.168.0.1\" software=\"test\"] i am foobar",
+    "<13>1 2019-02-13T19:48:34+00:00 74794bfb6795 root 8449 - [meta sequenceId=\"1\" sysUpTime=\"37\" \
+     language=\"EN\"][origin ip=\"192.168.0.1\" software=\"test\"] i am foobar",
+    "<13>1 2019-02-13T19:48:34+00:00 74794bfb6795 root x:y m1 [meta sequenceId=\"1\" sysUpTime=\"37\" \
+     language=\"EN\"][origin ip=\"192.168.0.1\" software=\"test\"] i am foobar",
 ];
 
 const META: &str = "[meta sequenceId=\"1\" sysUpTime=\"37\" language=\"EN\"]";

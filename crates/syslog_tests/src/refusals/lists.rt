@@ -7,7 +7,8 @@ use syslog_loose::{Message, ParseFault, Variant};
 
 /// A text with two elements, the elements with lines as in `Expected`, and the message behind them.
 const LISTED: (&str, &str, &str) = (
-    "<13>1 2019-02-13T19:48:34+00:00 74794bfb6795 root 8449 - [meta sequenceId=\"1\" sysUpTime=\"37\" language=\"EN\"][origin ip=\"192.168.0.1\" software=\"test\"] i am foobar",
+    "<13>1 2019-02-13T19:48:34+00:00 74794bfb6795 root 8449 - [meta sequenceId=\"1\" sysUpTime=\"37\" \
+     language=\"EN\"][origin ip=\"192.168.0.1\" software=\"test\"] i am foobar",
     "meta|sequenceId|1|sysUpTime|37|language|EN\norigin|ip|192.168.0.1|software|test",
     "i am foobar",
 );

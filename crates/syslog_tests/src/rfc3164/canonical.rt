@@ -63,8 +63,8 @@ fn check_reading(rt: &impl Abort, alloc: Global, want: &Expected) -> Result<(), 
     Ok(())
 }
 
-/// The message of `built` prints as `printed`, and that reads as the message of `other`. `built` and `other` are the cells
-/// of a row.
+/// The message of `built` prints as `printed`, and that reads as the message of `other`. `built` and `other` are the
+/// cells of a row.
 fn check_row(
     rt: &impl Abort,
     alloc: Global,

@@ -1,8 +1,8 @@
 //! The answers of the Rust crate `syslog_loose` 0.23.0 to texts of RFC 3164 chosen for this file.
 //!
 //! How it was made: the crate, built by rustc 1.95, read each text under its variant RFC3164 with UTC as both zones and
-//! 2019 as the year; its fields and its printed text were written down here, and are not made anew. There a dash is a list
-//! before anything; the texts that are read otherwise here for that stand in a test of their own.
+//! 2019 as the year; its fields and its printed text were written down here, and are not made anew. There a dash is a
+//! list before anything; the texts that are read otherwise here for that stand in a test of their own.
 use super::check_message;
 use crate::expected::{check_fields, check_timestamp, row_of};
 use crate::reading::{check_invalid, read};
@@ -29,17 +29,23 @@ fn agrees_on_names(rt: HostRuntime) -> Result<(), Fail> {
         rt.alloc(),
         &[
             "<189>Oct 11 22:14:15 router1 %LINK-3-UPDOWN: Interface GigabitEthernet0/1, changed state to up\
-             ¦at 2019-10-11T22:14:15+00:00¦host router1¦app %LINK-3-UPDOWN¦msg Interface GigabitEthernet0/1, changed state to up\
-             ¦prints <189> 2019-10-11T22:14:15+00:00 router1 %LINK-3-UPDOWN: Interface GigabitEthernet0/1, changed state to up",
+             ¦at 2019-10-11T22:14:15+00:00¦host router1¦app %LINK-3-UPDOWN¦msg Interface GigabitEthernet0/1, changed \
+             state to up\
+             ¦prints <189> 2019-10-11T22:14:15+00:00 router1 %LINK-3-UPDOWN: Interface GigabitEthernet0/1, changed \
+             state to up",
             "<166>Oct 11 2019 22:14:15 fw1 : %ASA-6-302013: Built inbound TCP connection 12 for outside:10.1.2.3/443\
-             ¦at 2019-10-11T22:14:15+00:00¦host fw1¦msg %ASA-6-302013: Built inbound TCP connection 12 for outside:10.1.2.3/443\
-             ¦prints <166> 2019-10-11T22:14:15+00:00 fw1 : %ASA-6-302013: Built inbound TCP connection 12 for outside:10.1.2.3/443",
+             ¦at 2019-10-11T22:14:15+00:00¦host fw1¦msg %ASA-6-302013: Built inbound TCP connection 12 for \
+             outside:10.1.2.3/443\
+             ¦prints <166> 2019-10-11T22:14:15+00:00 fw1 : %ASA-6-302013: Built inbound TCP connection 12 for \
+             outside:10.1.2.3/443",
             "<166>Oct 11 2019 22:14:15: %ASA-6-302013: Built inbound TCP connection 12\
              ¦at 2019-10-11T22:14:15+00:00¦host %ASA-6-302013¦msg Built inbound TCP connection 12\
              ¦prints <166> 2019-10-11T22:14:15+00:00 %ASA-6-302013 : Built inbound TCP connection 12",
             "<189>Oct 11 22:14:15 10.1.2.3 45: *Oct 11 22:14:14.123: %SYS-5-CONFIG_I: Configured from console\
-             ¦at 2019-10-11T22:14:15+00:00¦host 10.1.2.3¦app 45¦msg *Oct 11 22:14:14.123: %SYS-5-CONFIG_I: Configured from console\
-             ¦prints <189> 2019-10-11T22:14:15+00:00 10.1.2.3 45: *Oct 11 22:14:14.123: %SYS-5-CONFIG_I: Configured from console",
+             ¦at 2019-10-11T22:14:15+00:00¦host 10.1.2.3¦app 45¦msg *Oct 11 22:14:14.123: %SYS-5-CONFIG_I: Configured \
+             from console\
+             ¦prints <189> 2019-10-11T22:14:15+00:00 10.1.2.3 45: *Oct 11 22:14:14.123: %SYS-5-CONFIG_I: Configured \
+             from console",
             "<34>Oct 11 22:14:15 ::1 sshd[42]: Accepted publickey for deploy\
              ¦at 2019-10-11T22:14:15+00:00¦host ::1¦app sshd¦pid 42¦msg Accepted publickey for deploy\
              ¦prints <34> 2019-10-11T22:14:15+00:00 ::1 sshd[42]: Accepted publickey for deploy",
@@ -228,11 +234,15 @@ fn agrees_on_dates_and_lines(rt: HostRuntime) -> Result<(), Fail> {
              ¦at 2019-10-11T22:14:15+00:00¦host h¦app a¦msg no facility\
              ¦prints <40> 2019-10-11T22:14:15+00:00 h a: no facility",
             "<13>Oct 11 22:14:15 CRON[4211]: (root) CMD (   cd / && run-parts --report /etc/cron.hourly)\
-             ¦at 2019-10-11T22:14:15+00:00¦app CRON¦pid 4211¦msg (root) CMD (   cd / && run-parts --report /etc/cron.hourly)\
-             ¦prints <13> 2019-10-11T22:14:15+00:00 - CRON[4211]: (root) CMD (   cd / && run-parts --report /etc/cron.hourly)",
+             ¦at 2019-10-11T22:14:15+00:00¦app CRON¦pid 4211¦msg (root) CMD (   cd / && run-parts --report \
+             /etc/cron.hourly)\
+             ¦prints <13> 2019-10-11T22:14:15+00:00 - CRON[4211]: (root) CMD (   cd / && run-parts --report \
+             /etc/cron.hourly)",
             "<46>Oct 11 22:14:15 web rsyslogd: [origin software=\"rsyslogd\" swVersion=\"8.32.0\"] start\
-             ¦at 2019-10-11T22:14:15+00:00¦host web¦app rsyslogd¦list origin|software|rsyslogd|swVersion|8.32.0¦msg start\
-             ¦prints <46> 2019-10-11T22:14:15+00:00 web rsyslogd: [origin software=\"rsyslogd\" swVersion=\"8.32.0\"] start",
+             ¦at 2019-10-11T22:14:15+00:00¦host web¦app rsyslogd¦list origin|software|rsyslogd|swVersion|8.32.0¦msg \
+             start\
+             ¦prints <46> 2019-10-11T22:14:15+00:00 web rsyslogd: [origin software=\"rsyslogd\" swVersion=\"8.32.0\"] \
+             start",
         ],
     )
 }

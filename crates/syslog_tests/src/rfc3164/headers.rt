@@ -60,12 +60,18 @@ fn reads_odd_names(rt: HostRuntime) -> Result<(), Fail> {
 
 /// Lines of programs, of December 2019 and of 2020.
 const LINES: [&str; 9] = [
-    "<190>Dec 28 16:49:07 plertrood-thinkpad-x220 nginx: 127.0.0.1 - - [28/Dec/2019:16:49:07 +0000] \"GET / HTTP/1.1\" 304 0 \"-\"\
-     ¦host plertrood-thinkpad-x220¦app nginx¦msg 127.0.0.1 - - [28/Dec/2019:16:49:07 +0000] \"GET / HTTP/1.1\" 304 0 \"-\"\
-     ¦prints <190> 2019-12-28T16:49:07+00:00 plertrood-thinkpad-x220 nginx: 127.0.0.1 - - [28/Dec/2019:16:49:07 +0000] \"GET / HTTP/1.1\" 304 0 \"-\"",
-    "Dec 28 16:49:07 plertrood-thinkpad-x220 nginx: 127.0.0.1 - - [28/Dec/2019:16:49:07 +0000] \"GET / HTTP/1.1\" 304 0 \"-\"\
-     ¦host plertrood-thinkpad-x220¦app nginx¦msg 127.0.0.1 - - [28/Dec/2019:16:49:07 +0000] \"GET / HTTP/1.1\" 304 0 \"-\"\
-     ¦prints <47> 2019-12-28T16:49:07+00:00 plertrood-thinkpad-x220 nginx: 127.0.0.1 - - [28/Dec/2019:16:49:07 +0000] \"GET / HTTP/1.1\" 304 0 \"-\"",
+    "<190>Dec 28 16:49:07 plertrood-thinkpad-x220 nginx: 127.0.0.1 - - [28/Dec/2019:16:49:07 +0000] \"GET / HTTP/1.1\" \
+     304 0 \"-\"\
+     ¦host plertrood-thinkpad-x220¦app nginx¦msg 127.0.0.1 - - [28/Dec/2019:16:49:07 +0000] \"GET / HTTP/1.1\" 304 0 \
+     \"-\"\
+     ¦prints <190> 2019-12-28T16:49:07+00:00 plertrood-thinkpad-x220 nginx: 127.0.0.1 - - [28/Dec/2019:16:49:07 +0000] \
+     \"GET / HTTP/1.1\" 304 0 \"-\"",
+    "Dec 28 16:49:07 plertrood-thinkpad-x220 nginx: 127.0.0.1 - - [28/Dec/2019:16:49:07 +0000] \"GET / HTTP/1.1\" 304 \
+     0 \"-\"\
+     ¦host plertrood-thinkpad-x220¦app nginx¦msg 127.0.0.1 - - [28/Dec/2019:16:49:07 +0000] \"GET / HTTP/1.1\" 304 0 \
+     \"-\"\
+     ¦prints <47> 2019-12-28T16:49:07+00:00 plertrood-thinkpad-x220 nginx: 127.0.0.1 - - [28/Dec/2019:16:49:07 +0000] \
+     \"GET / HTTP/1.1\" 304 0 \"-\"",
     "<34>2020-10-11T22:14:15.00Z mymachine app[323]: a message\
      ¦host mymachine¦app app¦pid 323¦msg a message\
      ¦prints <34> 2020-10-11T22:14:15+00:00 mymachine app[323]: a message",

@@ -33,18 +33,23 @@ fn takes_a_dash_before_a_blank_as_an_empty_list(rt: HostRuntime) -> Result<(), F
 
 /// Lines of 2020 with elements, or with what is none.
 const LISTED: [&str; 4] = [
-    "<46>Jan  5 15:33:03 plertrood-ThinkPad-X220 rsyslogd:  [origin software=\"rsyslogd\" swVersion=\"8.32.0\" x-pid=\"20506\" x-info=\"http://www.rsyslog.com\"] start\
-     ¦host plertrood-ThinkPad-X220¦app rsyslogd¦list origin|software|rsyslogd|swVersion|8.32.0|x-pid|20506|x-info|http://www.rsyslog.com¦msg start¦year 2020\
-     ¦prints <46> 2020-01-05T15:33:03+00:00 plertrood-ThinkPad-X220 rsyslogd: [origin software=\"rsyslogd\" swVersion=\"8.32.0\" x-pid=\"20506\" x-info=\"http://www.rsyslog.com\"] start",
+    "<46>Jan  5 15:33:03 plertrood-ThinkPad-X220 rsyslogd:  [origin software=\"rsyslogd\" swVersion=\"8.32.0\" \
+     x-pid=\"20506\" x-info=\"http://www.rsyslog.com\"] start\
+     ¦host plertrood-ThinkPad-X220¦app rsyslogd¦list origin|software|rsyslogd|swVersion|8.32.0|x-pid|20506|x-info|\
+     http://www.rsyslog.com¦msg start¦year 2020\
+     ¦prints <46> 2020-01-05T15:33:03+00:00 plertrood-ThinkPad-X220 rsyslogd: [origin software=\"rsyslogd\" \
+     swVersion=\"8.32.0\" x-pid=\"20506\" x-info=\"http://www.rsyslog.com\"] start",
     "<46>Jan  5 15:33:03 plertrood-ThinkPad-X220 rsyslogd:  [software=\"rsyslogd\" swVersion=\"8.32.0\"] start\
      ¦host plertrood-ThinkPad-X220¦app rsyslogd¦msg [software=\"rsyslogd\" swVersion=\"8.32.0\"] start¦year 2020\
-     ¦prints <46> 2020-01-05T15:33:03+00:00 plertrood-ThinkPad-X220 rsyslogd: [software=\"rsyslogd\" swVersion=\"8.32.0\"] start",
+     ¦prints <46> 2020-01-05T15:33:03+00:00 plertrood-ThinkPad-X220 rsyslogd: [software=\"rsyslogd\" \
+     swVersion=\"8.32.0\"] start",
     "<46>Jan  5 15:33:03 plertrood-ThinkPad-X220  [software=\"rsyslogd\"] start\
      ¦host plertrood-ThinkPad-X220¦msg [software=\"rsyslogd\"] start¦year 2020\
      ¦prints <46> 2020-01-05T15:33:03+00:00 plertrood-ThinkPad-X220 : [software=\"rsyslogd\"] start",
     "<190>2019-02-13T21:53:30.605850+00:00 74794bfb6795 liblogging-stdlog:  [origin software=\"rsyslogd\"] start\
      ¦host 74794bfb6795¦app liblogging-stdlog¦list origin|software|rsyslogd¦msg start\
-     ¦prints <190> 2019-02-13T21:53:30.605850+00:00 74794bfb6795 liblogging-stdlog: [origin software=\"rsyslogd\"] start",
+     ¦prints <190> 2019-02-13T21:53:30.605850+00:00 74794bfb6795 liblogging-stdlog: [origin software=\"rsyslogd\"] \
+     start",
 ];
 
 #[test]
@@ -56,7 +61,8 @@ fn reads_elements_with_parameters_alone(rt: HostRuntime) -> Result<(), Fail> {
         &[
             "<131>Jun 8 11:54:08 master apache_error [Tue Jun 08 11:54:08.929301 2021] [php7:emerg] rest of message\
              ¦host master¦app apache_error¦msg [Tue Jun 08 11:54:08.929301 2021] [php7:emerg] rest of message¦year 2021\
-             ¦prints <131> 2021-06-08T11:54:08+00:00 master apache_error: [Tue Jun 08 11:54:08.929301 2021] [php7:emerg] rest of message",
+             ¦prints <131> 2021-06-08T11:54:08+00:00 master apache_error: [Tue Jun 08 11:54:08.929301 2021] \
+             [php7:emerg] rest of message",
             "- h a: [a b=\"c¦host h¦app a¦msg [a b=\"c¦prints <47> - h a: [a b=\"c",
         ],
     )

@@ -28,8 +28,8 @@ fn listed(
     Ok(message)
 }
 
-/// Whether the message is canonical, and in which cells that differ from `SAME` its printed text is read under `Either` and
-/// by RFC 5424.
+/// Whether the message is canonical, and in which cells that differ from `SAME` its printed text is read under `Either`
+/// and by RFC 5424.
 fn check(
     rt: &impl Abort,
     alloc: Global,

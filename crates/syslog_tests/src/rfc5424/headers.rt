@@ -12,11 +12,15 @@ fn reads_each_field(rt: HostRuntime) -> Result<(), Fail> {
         rt.alloc(),
         &[
             "<34>1 2003-10-11T22:14:15.003Z mymachine.example.com su - ID47 - message\
-             ¦facility auth¦severity crit¦at 2003-10-11T22:14:15.003+00:00¦host mymachine.example.com¦app su¦id ID47¦msg message\
+             ¦facility auth¦severity crit¦at 2003-10-11T22:14:15.003+00:00¦host mymachine.example.com¦app su¦id \
+             ID47¦msg message\
              ¦prints <34>1 2003-10-11T22:14:15.003+00:00 mymachine.example.com su - ID47 - message",
-            "<28>1 2020-05-22T14:59:09.250-03:00 OX-XXX-MX204 OX-XXX-CONTEUDO:rpd 6589 - - bgp_listen_accept: %DAEMON-4: x\
-             ¦facility daemon¦severity warning¦at 2020-05-22T14:59:09.250-03:00¦host OX-XXX-MX204¦app OX-XXX-CONTEUDO:rpd¦pid 6589¦msg bgp_listen_accept: %DAEMON-4: x\
-             ¦prints <28>1 2020-05-22T14:59:09.250-03:00 OX-XXX-MX204 OX-XXX-CONTEUDO:rpd 6589 - - bgp_listen_accept: %DAEMON-4: x",
+            "<28>1 2020-05-22T14:59:09.250-03:00 OX-XXX-MX204 OX-XXX-CONTEUDO:rpd 6589 - - bgp_listen_accept: \
+             %DAEMON-4: x\
+             ¦facility daemon¦severity warning¦at 2020-05-22T14:59:09.250-03:00¦host OX-XXX-MX204¦app \
+             OX-XXX-CONTEUDO:rpd¦pid 6589¦msg bgp_listen_accept: %DAEMON-4: x\
+             ¦prints <28>1 2020-05-22T14:59:09.250-03:00 OX-XXX-MX204 OX-XXX-CONTEUDO:rpd 6589 - - bgp_listen_accept: \
+             %DAEMON-4: x",
         ],
     )
 }
@@ -29,8 +33,10 @@ fn reads_a_text_without_a_priority(rt: HostRuntime) -> Result<(), Fail> {
         &[
             "1 - - - - - -¦prints <47>1 - - - - - - ",
             "1 2020-05-22T14:59:09.250-03:00 OX-XXX-MX204 OX-XXX-CONTEUDO:rpd 6589 - - bgp_listen_accept: %DAEMON-4: x\
-             ¦at 2020-05-22T14:59:09.250-03:00¦host OX-XXX-MX204¦app OX-XXX-CONTEUDO:rpd¦pid 6589¦msg bgp_listen_accept: %DAEMON-4: x\
-             ¦prints <47>1 2020-05-22T14:59:09.250-03:00 OX-XXX-MX204 OX-XXX-CONTEUDO:rpd 6589 - - bgp_listen_accept: %DAEMON-4: x",
+             ¦at 2020-05-22T14:59:09.250-03:00¦host OX-XXX-MX204¦app OX-XXX-CONTEUDO:rpd¦pid 6589¦msg \
+             bgp_listen_accept: %DAEMON-4: x\
+             ¦prints <47>1 2020-05-22T14:59:09.250-03:00 OX-XXX-MX204 OX-XXX-CONTEUDO:rpd 6589 - - bgp_listen_accept: \
+             %DAEMON-4: x",
         ],
     )
 }
@@ -57,7 +63,8 @@ fn reads_a_priority_and_a_version_up_to_their_limits(rt: HostRuntime) -> Result<
         &rt,
         rt.alloc(),
         &[
-            "<191>4294967295 - - - - - -¦version 4294967295¦facility local7¦severity debug¦prints <191>4294967295 - - - - - - ",
+            "<191>4294967295 - - - - - -¦version 4294967295¦facility local7¦severity debug¦prints <191>4294967295 - - \
+             - - - - ",
             "<0007>1 - - - - - -¦facility kern¦severity debug¦prints <7>1 - - - - - - ",
             "<200>1 - - - - - -¦severity emerg¦prints <40>1 - - - - - - ",
         ],

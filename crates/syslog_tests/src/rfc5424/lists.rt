@@ -28,7 +28,8 @@ fn keeps_blanks_in_names(rt: HostRuntime) -> Result<(), Fail> {
         rt.alloc(),
         &[
             "1 - - - - - [id ]¦list id¦prints <47>1 - - - - - [id] ",
-            "1 - - - - - [id a b=\"c\"  d=\"e\"]x¦list id|a b|c| d|e¦msg x¦prints <47>1 - - - - - [id a b=\"c\"  d=\"e\"] x",
+            "1 - - - - - [id a b=\"c\"  d=\"e\"]x¦list id|a b|c| d|e¦msg x¦prints <47>1 - - - - - [id a b=\"c\"  \
+             d=\"e\"] x",
         ],
     )
 }
@@ -39,14 +40,19 @@ fn reads_the_parameters_of_an_element(rt: HostRuntime) -> Result<(), Fail> {
         &rt,
         rt.alloc(),
         &[
-            "<165>1 2003-10-11T22:14:15.003Z mymachine.example.com evntslog - ID47 [exampleSDID@32473 iut=\"3\" eventSource=\"\" eventID=\"1011\"] BOMAn application event log entry...\
-             ¦facility local4¦severity notice¦at 2003-10-11T22:14:15.003+00:00¦host mymachine.example.com¦app evntslog¦id ID47\
+            "<165>1 2003-10-11T22:14:15.003Z mymachine.example.com evntslog - ID47 [exampleSDID@32473 iut=\"3\" \
+             eventSource=\"\" eventID=\"1011\"] BOMAn application event log entry...\
+             ¦facility local4¦severity notice¦at 2003-10-11T22:14:15.003+00:00¦host mymachine.example.com¦app \
+             evntslog¦id ID47\
              ¦list exampleSDID@32473|iut|3|eventSource||eventID|1011¦msg BOMAn application event log entry...\
-             ¦prints <165>1 2003-10-11T22:14:15.003+00:00 mymachine.example.com evntslog - ID47 [exampleSDID@32473 iut=\"3\" eventSource=\"\" eventID=\"1011\"] BOMAn application event log entry...",
-            "<165>1 2003-10-11T22:14:15.003Z h evntslog - ID47 [exampleSDID@32473 eventSource= \"Application\"][examplePriority@32473 class=\"high\"] BOMAn\
+             ¦prints <165>1 2003-10-11T22:14:15.003+00:00 mymachine.example.com evntslog - ID47 [exampleSDID@32473 \
+             iut=\"3\" eventSource=\"\" eventID=\"1011\"] BOMAn application event log entry...",
+            "<165>1 2003-10-11T22:14:15.003Z h evntslog - ID47 [exampleSDID@32473 eventSource= \
+             \"Application\"][examplePriority@32473 class=\"high\"] BOMAn\
              ¦facility local4¦severity notice¦at 2003-10-11T22:14:15.003+00:00¦host h¦app evntslog¦id ID47\
              ¦list exampleSDID@32473|eventSource|Application\nexamplePriority@32473|class|high¦msg BOMAn\
-             ¦prints <165>1 2003-10-11T22:14:15.003+00:00 h evntslog - ID47 [exampleSDID@32473 eventSource=\"Application\"][examplePriority@32473 class=\"high\"] BOMAn",
+             ¦prints <165>1 2003-10-11T22:14:15.003+00:00 h evntslog - ID47 [exampleSDID@32473 \
+             eventSource=\"Application\"][examplePriority@32473 class=\"high\"] BOMAn",
         ],
     )
 }
@@ -58,7 +64,8 @@ fn reads_a_text_without_elements(rt: HostRuntime) -> Result<(), Fail> {
         rt.alloc(),
         &[
             "<34>1 2003-10-11T22:14:15.003Z mymachine.example.com su - ID47 - BOM'su root' failed\
-             ¦facility auth¦severity crit¦at 2003-10-11T22:14:15.003+00:00¦host mymachine.example.com¦app su¦id ID47¦msg BOM'su root' failed\
+             ¦facility auth¦severity crit¦at 2003-10-11T22:14:15.003+00:00¦host mymachine.example.com¦app su¦id \
+             ID47¦msg BOM'su root' failed\
              ¦prints <34>1 2003-10-11T22:14:15.003+00:00 mymachine.example.com su - ID47 - BOM'su root' failed",
         ],
     )
@@ -74,9 +81,11 @@ const LOCAL_CELLS: &str =
 fn reads_two_elements_and_trims_the_text(rt: HostRuntime) -> Result<(), Fail> {
     let alloc = rt.alloc();
     let line =
-        "<13>1 2019-02-13T19:48:34+00:00 74794bfb6795 root 8449 - [meta sequenceId=\"1\" sysUpTime=\"37\" language=\"EN\"][origin ip=\"192.168.0.1\" software=\"test\"] i am foobar";
+        "<13>1 2019-02-13T19:48:34+00:00 74794bfb6795 root 8449 - [meta sequenceId=\"1\" sysUpTime=\"37\" \
+         language=\"EN\"][origin ip=\"192.168.0.1\" software=\"test\"] i am foobar";
     let cells = format!(in alloc;
-        "{LOCAL_CELLS}¦list meta|sequenceId|1|sysUpTime|37|language|EN\norigin|ip|192.168.0.1|software|test¦msg i am foobar¦prints {line}"
+        "{LOCAL_CELLS}¦list meta|sequenceId|1|sysUpTime|37|language|EN\norigin|ip|192.168.0.1|software|test¦msg i am \
+         foobar¦prints {line}"
     )?;
     let canonical = format!(in alloc; "{line}{cells}")?;
     let indented = format!(in alloc; "\n            {line}\n            {cells}")?;

@@ -1,7 +1,7 @@
 //! The lines that are read differently: worked lines, and readers and writers that fail.
 use super::{NEVER, Taker, Wrong, reader_of, writer_of};
-use crate::dash_change::dash_change;
 use crate::counts::DashChangeCounts;
+use crate::dash_change::dash_change;
 use crate::report::report_dash_change;
 use std::alloc::Global;
 use std::process::Abort;
@@ -114,7 +114,8 @@ fn failing_writes(rt: HostRuntime) {
     assert!(rt; writer.inner.written() == TWO_LINES.as_bytes());
 }
 
-/// Also run with each request for memory refused in turn: nothing is then written, or all lines before one that changed.
+/// Also run with each request for memory refused in turn: nothing is then written, or all lines before one that
+/// changed.
 #[test]
 fn refused_memory(rt: HostRuntime) {
     let mut reader = reader_of(THREE.as_bytes(), 1024, NEVER);
@@ -138,7 +139,12 @@ fn refused_memory(rt: HostRuntime) {
 }
 
 /// Reports the outcome, and expects this status and this text.
-fn expect_report(rt: &impl Abort, outcome: &Result<DashChangeCounts, RunFault>, status: u8, text: &str) {
+fn expect_report(
+    rt: &impl Abort,
+    outcome: &Result<DashChangeCounts, RunFault>,
+    status: u8,
+    text: &str,
+) {
     let mut errors = Taker::new(1024, NEVER, Wrong::Fails);
     assert!(rt; report_dash_change(outcome, &mut errors) == status);
     assert!(rt; errors.written() == text.as_bytes());

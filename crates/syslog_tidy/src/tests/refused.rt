@@ -59,7 +59,8 @@ fn fails_as_run_does(rt: HostRuntime) {
     assert!(rt; FOUR_LINES.starts_with(writer.inner.written()));
 }
 
-/// Also run with each request for memory refused in turn: nothing is then written, or all lines before one that was refused.
+/// Also run with each request for memory refused in turn: nothing is then written, or all lines before one that was
+/// refused.
 #[test]
 fn refused_memory(rt: HostRuntime) {
     let mut reader = reader_of(FIVE, 1024, NEVER);

@@ -13,6 +13,8 @@ returns-clause-ok c =
     let text : IsTextOf (view c.args.value.now) (string_bytes c.in_ok-text.text) = record {
       read_back = c.in_ok-text.ensures.reads_back c.requires.shallow;
       compact = compact;
-      printable = All-from_recursion (λ byte. 32 ≤ byte) _ (subst Printable (sym compact) (printable (view c.args.value.now)));
+      printable =
+          All-from_recursion (λ byte. 32 ≤ byte) _ (subst Printable (sym compact) (printable (view c.args.value.now)));
     } in
-    on_ok_weaker c.push_line.result (λ added. (string_bytes c.in_ok-text.text, text, rw c.as_bytes.ensures.value at added)) c.push_line.ensures.ok
+    on_ok_weaker c.push_line.result
+    (λ added. (string_bytes c.in_ok-text.text, text, rw c.as_bytes.ensures.value at added)) c.push_line.ensures.ok

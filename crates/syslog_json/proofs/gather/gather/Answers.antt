@@ -11,10 +11,13 @@ use Rattle.syslog_json.proofs.gather.gather.Goals as goal
 pub returns-clause-ok : goal.returns-clause-ok
 returns-clause-ok c =
     let name = c.in_ok-name.ensures.ok in
-    let added : members_view c.insert.new.self.entries ≡ put c.args.key.now (view Null) (members_view c.args.members.now.entries) =
-    ap members_view c.in_ok-before.ensures.entries ∙ members_view-insert_entry c.args.members.now.entries c.in_ok-name.name Null
+    let added : members_view c.insert.new.self.entries
+    ≡ put c.args.key.now (view Null) (members_view c.args.members.now.entries) =
+    ap members_view c.in_ok-before.ensures.entries
+    ∙ members_view-insert_entry c.args.members.now.entries c.in_ok-name.name Null
     ∙ ap (λ key. put key (view Null) (members_view c.args.members.now.entries)) name in
     let found = ap (option_map view) c.in_ok-before.ensures.old ∙ view-lookup _ c.args.members.now.entries in
     on_ok_weaker c.put.result (λ same pairs single gathers.
-    gathers_push pairs c.args.key.now (view c.in_ok-joined.joined) (view Null) (view c.args.value) (members_view c.args.members.now.entries) _ (rw added at same) single gathers
+    gathers_push pairs c.args.key.now (view c.in_ok-joined.joined) (view Null) (view c.args.value)
+    (members_view c.args.members.now.entries) _ (rw added at same) single gathers
     (λ values each there. c.in_ok-joined.ensures values each (found ∙ rw name there))) c.put.ensures.ok

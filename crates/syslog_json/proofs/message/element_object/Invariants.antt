@@ -12,5 +12,7 @@ abbrev pub invariant-loop-item : goal.invariant-loop-item
 invariant-loop-item l =
     (goal.iterator-loop-item).can_next l.item-iterator
     × (goal.iterator-loop-item).is_finite l.item-iterator
-    × ((done : List Pair) × AllByRecursion (λ (p : Pair). IsSingle p.1) done × Gathers done (members_view l.members.entries)
-    × Continues IsParamPair (element_value (λ s. shown s) l.element).params (map (param_value (λ s. shown s)) l.item-iterator) done)
+    × ((done : List Pair) × AllByRecursion (λ (p : Pair). IsSingle p.1) done
+    × Gathers done (members_view l.members.entries)
+    × Continues IsParamPair (element_value (λ s. shown s) l.element).params
+    (map (param_value (λ s. shown s)) l.item-iterator) done)

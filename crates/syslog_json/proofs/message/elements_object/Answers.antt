@@ -1,4 +1,5 @@
-use Rattle.std.proofs.Common.{◌≡◌, ◌+◌, [], ◌∷◌, ◌++◌, drop, map, sym, ap, ◌∙◌, suc, add-one, drop-cons, drop_of_length-le}
+use Rattle.std.proofs.Common.{◌≡◌, ◌+◌, [], ◌∷◌, ◌++◌, drop, map, sym, ap}
+use Rattle.std.proofs.Common.{◌∙◌, suc, add-one, drop-cons, drop_of_length-le}
 use Rattle.std.proofs.lemmas.Str.{encodes-chars}
 use Rattle.syslog_pieces.specs.Pieces.View.{shown}
 use Rattle.syslog_pieces.specs.StructuredData.Element.{element_value}
@@ -20,12 +21,14 @@ loop-element-preserved c =
     let at = c.loop-element.element-index in
     let inside = rw c.deref-element-items.ensures.value at c.loop-element-test.true in
     let here = rw c.deref-element-items.ensures.value at c.element-item.is in
-    let next : drop at items ≡ item ∷ drop (at + 1) items = rw add-one (drop-cons items at item inside ∙ ap (λ x. x ∷ drop (suc at) items) (sym here)) in
+    let next : drop at items ≡ item ∷ drop (at + 1) items =
+    rw add-one (drop-cons items at item inside ∙ ap (λ x. x ∷ drop (suc at) items) (sym here)) in
     let json = c.in_ok-value.ensures in (
       done ++ (item.id.now, view c.in_ok-value.value) ∷ [],
       single_push done _ (element_single _ _ json) single,
       c.in_ok-gather.ensures.ok done single gathered,
-      continues_next IsElementPair _ _ _ done _ _ (ap (map (element_value (λ s. shown s))) next) (sym (encodes-chars item.id.now c.gather.ensures.utf8), json) so_far,
+      continues_next IsElementPair _ _ _ done _ _ (ap (map (element_value (λ s. shown s))) next)
+          (sym (encodes-chars item.id.now c.gather.ensures.utf8), json) so_far,
     )
 
 pub returns : goal.returns
@@ -34,7 +37,8 @@ returns c =
     let past = rw c.deref-element-items.ensures.value at c.loop-element-test.false in
     record {
       pairs = done;
-      named = continues_end IsElementPair _ _ done (ap (map (element_value (λ s. shown s))) (drop_of_length-le c.args.elements.now.items past)) so_far;
+      named = continues_end IsElementPair _ _ done
+          (ap (map (element_value (λ s. shown s))) (drop_of_length-le c.args.elements.now.items past)) so_far;
       members = members_view c.loop-element.members.entries;
       gathered = gathered;
       whole = view-Object c.loop-element.members;

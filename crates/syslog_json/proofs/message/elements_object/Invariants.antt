@@ -10,5 +10,7 @@ use Rattle.syslog_json.proofs.message.elements_object.Given as goal
 -- the elements so far are gathered
 abbrev pub invariant-loop-element : goal.invariant-loop-element
 invariant-loop-element l =
-    (done : List Pair) × AllByRecursion (λ (p : Pair). IsSingle p.1) done × Gathers done (members_view l.members.entries)
-    × Continues IsElementPair (map (element_value (λ s. shown s)) l.elements.items) (map (element_value (λ s. shown s)) (drop l.element-index l.elements.items)) done
+    (done : List Pair) × AllByRecursion (λ (p : Pair). IsSingle p.1) done
+    × Gathers done (members_view l.members.entries)
+    × Continues IsElementPair (map (element_value (λ s. shown s)) l.elements.items)
+    (map (element_value (λ s. shown s)) (drop l.element-index l.elements.items)) done

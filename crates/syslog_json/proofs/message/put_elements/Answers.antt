@@ -8,5 +8,7 @@ use Rattle.syslog_json.proofs.message.put_elements.Goals as goal
 
 pub returns : goal.returns
 returns c =
-    let is = structured_some (element_value (λ s. shown s)) c.args.elements.now.items (view c.in_ok-value.value) (λ empty. (let zero : c.args.elements.now.len ≡ 0 = c.args.elements.now.ok.0 ∙ ap length empty in let none = rw zero at c.if-is_empty.ensures in cc)) c.in_ok-value.ensures in
+    let is = structured_some (element_value (λ s. shown s)) c.args.elements.now.items (view c.in_ok-value.value)
+    (λ empty. (let zero : c.args.elements.now.len ≡ 0 = c.args.elements.now.ok.0 ∙ ap length empty in
+    let none = rw zero at c.if-is_empty.ensures in cc)) c.in_ok-value.ensures in
     on_ok_weaker c.put.result (λ added. (Some (view c.in_ok-value.value), is, added)) c.put.ensures.ok

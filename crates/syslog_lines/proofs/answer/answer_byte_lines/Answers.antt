@@ -1,4 +1,5 @@
-use Rattle.syslog_lines.proofs.AnswerLemmas.{AnswersAll-end, AnswersBefore-end, AnswersSoFar-more, AnswersSoFar-start, OnErr-any, none_left, some_left}
+use Rattle.syslog_lines.proofs.AnswerLemmas.{AnswersAll-end, AnswersBefore-end, AnswersSoFar-more}
+use Rattle.syslog_lines.proofs.AnswerLemmas.{AnswersSoFar-start, OnErr-any, none_left, some_left}
 use Rattle.syslog_lines.proofs.answer.answer_byte_lines.Goals as goal
 
 pub loop-rest-init : goal.loop-rest-init
@@ -7,11 +8,14 @@ loop-rest-init g c = AnswersSoFar-start _ _ _ _
 pub returns-in_err-answer_bytes-clause-err : goal.returns-in_err-answer_bytes-clause-err
 returns-in_err-answer_bytes-clause-err g c =
     OnErr-any _ _
-    (AnswersBefore-end _ _ _ _ _ _ _ _ _ _ (some_left _ _ c.is_empty.ensures c.loop-rest-test.true) c.first_line.ensures c.in_err-answer_bytes.ensures.refusal c.in_err-answer_bytes.ensures.err c.loop-rest.invariant)
+    (AnswersBefore-end _ _ _ _ _ _ _ _ _ _ (some_left _ _ c.is_empty.ensures c.loop-rest-test.true) c.first_line.ensures
+    c.in_err-answer_bytes.ensures.refusal c.in_err-answer_bytes.ensures.err c.loop-rest.invariant)
 
 pub loop-rest-preserved : goal.loop-rest-preserved
 loop-rest-preserved g c =
-    AnswersSoFar-more _ _ _ _ _ _ _ _ _ _ _ (some_left _ _ c.is_empty.ensures c.loop-rest-test.true) c.first_line.ensures c.loop-rest.invariant c.in_ok-answer_bytes.ensures.ok
+    AnswersSoFar-more _ _ _ _ _ _ _ _ _ _ _ (some_left _ _ c.is_empty.ensures c.loop-rest-test.true)
+    c.first_line.ensures c.loop-rest.invariant c.in_ok-answer_bytes.ensures.ok
 
 pub returns-clause-ok : goal.returns-clause-ok
-returns-clause-ok g c = AnswersAll-end _ _ _ _ _ _ _ (none_left _ _ c.is_empty.ensures c.loop-rest-test.false) c.loop-rest.invariant
+returns-clause-ok g c =
+    AnswersAll-end _ _ _ _ _ _ _ (none_left _ _ c.is_empty.ensures c.loop-rest-test.false) c.loop-rest.invariant

@@ -5,7 +5,9 @@ use Rattle.syslog_lines.proofs.pump.pump.Given as goal
 
 abbrev pub invariant-loop-block : goal.invariant-loop-block
 invariant-loop-block g l = record {
-  so_far : PumpedSoFar (g.F.LineFilter.answers l.filter) (g.R.Read.remaining l.fn.reader.inner) (g.R.Read.remaining l.reader.inner) (g.W.Write.contents l.fn.writer.inner) (g.W.Write.contents l.writer.inner) (cut_bytes l.block) l.tally;
+  so_far : PumpedSoFar (g.F.LineFilter.answers l.filter) (g.R.Read.remaining l.fn.reader.inner)
+      (g.R.Read.remaining l.reader.inner) (g.W.Write.contents l.fn.writer.inner) (g.W.Write.contents l.writer.inner)
+      (cut_bytes l.block) l.tally;
   reader_well : l.reader.failed ≡ false;
   writer_well : l.writer.failed ≡ false;
 }

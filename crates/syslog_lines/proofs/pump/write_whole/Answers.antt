@@ -4,7 +4,8 @@ use Rattle.syslog_lines.proofs.pump.write_whole.Goals as goal
 
 pub loop-rest-preserved : goal.loop-rest-preserved
 loop-rest-preserved g c = record {
-  wrote = WroteSoFar-more _ _ _ _ _ c.in-Ok.count c.in-Ok.ensures.bound c.loop-rest.invariant.wrote c.in-Ok.ensures.bytes;
+  wrote =
+      WroteSoFar-more _ _ _ _ _ c.in-Ok.count c.in-Ok.ensures.bound c.loop-rest.invariant.wrote c.in-Ok.ensures.bytes;
   well = c.in-Ok.ensures.ok ∙ c.loop-rest.invariant.well;
 }
 

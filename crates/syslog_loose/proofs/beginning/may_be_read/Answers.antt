@@ -11,5 +11,6 @@ returns-in-empty c f =
 
 pub returns-else-byte-ge128 : goal.returns-else-byte-ge128
 returns-else-byte-ge128 c f =
-    let n = none_by_byte c.as_bytes.result.now c.is_first.result c.in-len1-up.len_at_least (omega (arith, c.if-byte-ge128.false)) c.is_first.ensures f in
+    let n = none_by_byte c.as_bytes.result.now c.is_first.result c.in-len1-up.len_at_least
+    (omega (arith, c.if-byte-ge128.false)) c.is_first.ensures f in
     subst (λ (x : List ℕ). BeginsNone (chars x)) c.as_bytes.ensures.value n

@@ -7,4 +7,5 @@ returns-in-RFC5424 c whole e = rw c.in-RFC5424.is (told_5424 (dating_value c.arg
 
 pub returns-in-Either : goal.returns-in-Either
 returns-in-Either c whole e =
-    rw c.in-Either.is (told_either (dating_value c.args.dating.now) whole c.has_dash_change_3164-in-Either.result (c.has_dash_change_3164-in-Either.ensures whole e))
+    rw c.in-Either.is (told_either (dating_value c.args.dating.now) whole c.has_dash_change_3164-in-Either.result
+    (c.has_dash_change_3164-in-Either.ensures whole e))

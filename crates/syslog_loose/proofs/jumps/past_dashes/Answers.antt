@@ -11,6 +11,8 @@ pub returns-then-are_none : goal.returns-then-are_none
 returns-then-are_none c = λ variant dating input r e.
     let (n, p) = c.last_dash-message.ensures in (
       n,
-      dashes_skipped variant dating input (message_value (λ s. shown s) c.args.message) n (shown c.last_dash-message.result) r e (c.if-has_no_name_exception.ensures.0 refl)
-          (map_none (element_value (λ s. shown s)) _ (empty_is _ (rw c.deref.ensures.value at c.if-are_none.ensures))) p,
+      dashes_skipped variant dating input (message_value (λ s. shown s) c.args.message) n
+          (shown c.last_dash-message.result) r e (c.if-has_no_name_exception.ensures.0 refl)
+          (map_none (element_value (λ s. shown s)) _ (empty_is _ (rw c.deref.ensures.value at c.if-are_none.ensures)))
+          p,
     )

@@ -7,4 +7,5 @@ pub returns-then-is_empty : goal.returns-then-is_empty
 returns-then-is_empty g c = rw (ends_empty c.args.msg.now c.utf8.msg (empty_is _ c.if-is_empty.ensures)) (search rules)
 
 pub returns-else-is_empty : goal.returns-else-is_empty
-returns-else-is_empty g c = rw (ends_some c.args.msg.now c.utf8.msg (nonempty_is _ c.if-is_empty.ensures)) c.write_spaced.ensures
+returns-else-is_empty g c =
+    rw (ends_some c.args.msg.now c.utf8.msg (nonempty_is _ c.if-is_empty.ensures)) c.write_spaced.ensures

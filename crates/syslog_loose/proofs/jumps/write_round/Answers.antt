@@ -9,9 +9,11 @@ pub returns-in-Some : goal.returns-in-Some
 returns-in-Some c = λ variant dating input r e.
     let (k, l) = c.in-Some.ensures in
     map_ok _ c.write_past_colons.ensures
-    (λ w. round_written variant dating input (message_value (λ s. shown s) c.args.message) (chars c.in-Some.host.now) c.in-Some.cut _ (IsUtf8-string_bytes c.write_past_colons.new.text) r e k l w)
+    (λ w. round_written variant dating input (message_value (λ s. shown s) c.args.message)
+    (chars c.in-Some.host.now) c.in-Some.cut _ (IsUtf8-string_bytes c.write_past_colons.new.text) r e k l w)
 
 pub returns-in-None : goal.returns-in-None
 returns-in-None c = λ variant dating input r e.
     map_ok _ c.print.ensures
-    (λ w. round_printed variant dating input (message_value (λ s. shown s) c.past_dashes.result) _ (IsUtf8-string_bytes c.print.new.text) (c.past_dashes.ensures variant dating input r e) w)
+    (λ w. round_printed variant dating input (message_value (λ s. shown s) c.past_dashes.result)
+    _ (IsUtf8-string_bytes c.print.new.text) (c.past_dashes.ensures variant dating input r e) w)

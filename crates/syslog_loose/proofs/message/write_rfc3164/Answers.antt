@@ -22,5 +22,7 @@ returns g c canonical ok =
     let rfc3164_list = c.in_ok-write_elements_before.ensures tag.plain refl in
     let rest = c.write_str.ensures.writes rfc3164_list.plain ok in
     put_five _ _ _ _ _ _ _ _ _ _ _ _ _ front origin tag rfc3164_list rest
-    (written_3164 _ (priority_of value) (timestamp_text value.timestamp) (name_text value.hostname) (tag_text value.appname value.procid)
-    (spaced_elements (map (element_value text) c.deref.result.now)) (spaced_elements value.structured_data) value.msg c.as_str-msg.result.now c.priority-priority.ensures elements msg)
+    (written_3164 _ (priority_of value) (timestamp_text value.timestamp) (name_text value.hostname)
+    (tag_text value.appname value.procid)
+    (spaced_elements (map (element_value text) c.deref.result.now))
+    (spaced_elements value.structured_data) value.msg c.as_str-msg.result.now c.priority-priority.ensures elements msg)

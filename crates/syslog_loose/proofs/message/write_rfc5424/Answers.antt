@@ -4,7 +4,8 @@ use Rattle.syslog_pieces.specs.StructuredData.Element.{element_value}
 use Rattle.syslog_pieces.specs.Pieces.View.{text_of}
 use Rattle.syslog_pieces.proofs.TextLemmas.Printed.{encodes_shown}
 use Rattle.syslog_loose.specs.Message.{message_value}
-use Rattle.syslog_loose.specs.Printed.{printed_5424, priority_of, timestamp_text, name_text, process_text, elements_text}
+use Rattle.syslog_loose.specs.Printed.{printed_5424, priority_of, timestamp_text}
+use Rattle.syslog_loose.specs.Printed.{name_text, process_text, elements_text}
 use Rattle.syslog_loose.proofs.PrintedLemmas.{written_5424}
 use Rattle.syslog_loose.proofs.message.write_rfc5424.Goals as goal
 
@@ -22,5 +23,7 @@ returns g c canonical ok =
     let rfc3164_list = c.in_ok-write_elements.ensures program.plain refl in
     let rest = c.write_spaced.ensures rfc3164_list.plain ok in
     put_five _ _ _ _ _ _ _ _ _ _ _ _ _ front origin program rfc3164_list rest
-    (written_5424 _ (priority_of value) c.args.version (timestamp_text value.timestamp) (name_text value.hostname) (name_text value.appname) (process_text value.procid) (name_text value.msgid)
-    (elements_text (map (element_value text) c.deref.result.now)) (elements_text value.structured_data) value.msg c.as_str-msg.result.now c.priority-priority.ensures elements msg)
+    (written_5424 _ (priority_of value) c.args.version (timestamp_text value.timestamp) (name_text value.hostname)
+    (name_text value.appname) (process_text value.procid) (name_text value.msgid)
+    (elements_text (map (element_value text) c.deref.result.now))
+    (elements_text value.structured_data) value.msg c.as_str-msg.result.now c.priority-priority.ensures elements msg)

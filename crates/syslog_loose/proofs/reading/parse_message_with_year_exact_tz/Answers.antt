@@ -21,9 +21,12 @@ returns g c =
     let whole = chars c.args.input.now in
     let trims = c.trimmed-text.ensures in
     let left = rw c.in-None.is at (c.in-Ok.ensures whole trims) in
-    let answers = left_answer c.args.variant (dating_of c.map-year.result c.args.tz c.args.local) whole c.read_rfc3164.result left (c.read_rfc3164.ensures whole trims) in
-    let answered = answered_to _ _ _ c.asked_date.result c.map-year.result (c.asked_date.ensures.asks whole trims) c.map-year.ensures.cases in
-    let reads = answers_in _ c.args.variant whole c.args.tz c.args.local c.read_rfc3164.result c.map-year.result answered answers in
+    let answers = left_answer c.args.variant (dating_of c.map-year.result c.args.tz c.args.local) whole
+    c.read_rfc3164.result left (c.read_rfc3164.ensures whole trims) in
+    let answered = answered_to _ _ _ c.asked_date.result c.map-year.result
+    (c.asked_date.ensures.asks whole trims) c.map-year.ensures.cases in
+    let reads =
+    answers_in _ c.args.variant whole c.args.tz c.args.local c.read_rfc3164.result c.map-year.result answered answers in
     record {
       reads = reads;
       itself = itself c.args.variant _ whole c.read_rfc3164.result answers;

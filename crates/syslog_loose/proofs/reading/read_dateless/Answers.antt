@@ -14,8 +14,10 @@ pub returns-in-Ok : goal.returns-in-Ok
 returns-in-Ok c whole e = rw c.in-RFC5424.is ((λ date asks. asks), c.in-Ok.ensures whole e)
 
 pub returns-in-Ok-read : goal.returns-in-Ok-read
-returns-in-Ok-read c whole e = rw c.in-Either.is (dateless_found whole c.in-Ok-read.found (c.in-Ok-read.ensures.read whole e))
+returns-in-Ok-read c whole e =
+    rw c.in-Either.is (dateless_found whole c.in-Ok-read.found (c.in-Ok-read.ensures.read whole e))
 
 pub returns-in-Err-read : goal.returns-in-Err-read
 returns-in-Err-read c whole e =
-    rw c.in-Either.is (dateless_refused whole (refused c.read.result _ c.in-Err-read.is (c.read.ensures.memory whole e)))
+    rw c.in-Either.is (dateless_refused whole
+    (refused c.read.result _ c.in-Err-read.is (c.read.ensures.memory whole e)))

@@ -17,21 +17,28 @@ use Rattle.syslog_loose.proofs.Rfc3164Lemmas.Reading.{behind_row, not_read, is_r
 use Rattle.syslog_loose.proofs.rfc3164.read.Goals as goal
 
 pub returns-in_default-clause-read : goal.returns-in_default-clause-read
-returns-in_default-clause-read c whole e = not_read c.args.rule (dating_value c.args.dating.now) whole _ e c.in_default.ensures
+returns-in_default-clause-read c whole e =
+    not_read c.args.rule (dating_value c.args.dating.now) whole _ e c.in_default.ensures
 
 pub returns-in_err-elements-clause-memory : goal.returns-in_err-elements-clause-memory
 returns-in_err-elements-clause-memory c whole e = λ none.
     let fields = c.read_names.ensures in
-    let needless = list_needs_none c.args.rule (dating_value c.args.dating.now) whole _ _ _ _ _ (names_value c.read_names.result.0)
+    let needless =
+    list_needs_none c.args.rule (dating_value c.args.dating.now) whole _ _ _ _ _ (names_value c.read_names.result.0)
     e none c.in-Some.ensures fields.front fields.means in
     let refused : false ≡ true = c.in_err-elements.ensures.memory needless in
     absurd (cc)
 
 -- the elements that were collected, none where there is no list
-elements_seen : (rfc3164_list : Option (Vec (StructuredElement (Bor (List ℕ))) Global)) (none found : Vec (StructuredElement (Bor (List ℕ))) Global) → none.items ≡ [] → found ≡ unwrap_or rfc3164_list none
-    → map (element_value (λ s. shown s)) found.items ≡ elements_or (option_map (λ elements. map (element_value (λ s. shown s)) elements.items) rfc3164_list)
-elements_seen None none found e f = ap (λ (v : Vec (StructuredElement (Bor (List ℕ))) Global). map (element_value (λ s. shown s)) v.items) f ∙ ap (λ (es : List (StructuredElement (Bor (List ℕ)))). map (element_value (λ s. shown s)) es) e
-elements_seen (Some elements) none found e f = ap (λ (v : Vec (StructuredElement (Bor (List ℕ))) Global). map (element_value (λ s. shown s)) v.items) f
+elements_seen : (rfc3164_list : Option (Vec (StructuredElement (Bor (List ℕ))) Global))
+    (none found : Vec (StructuredElement (Bor (List ℕ))) Global) → none.items ≡ [] → found ≡ unwrap_or rfc3164_list none
+    → map (element_value (λ s. shown s)) found.items
+    ≡ elements_or (option_map (λ elements. map (element_value (λ s. shown s)) elements.items) rfc3164_list)
+elements_seen None none found e f =
+    ap (λ (v : Vec (StructuredElement (Bor (List ℕ))) Global). map (element_value (λ s. shown s)) v.items) f
+    ∙ ap (λ (es : List (StructuredElement (Bor (List ℕ)))). map (element_value (λ s. shown s)) es) e
+elements_seen (Some elements) none found e f =
+    ap (λ (v : Vec (StructuredElement (Bor (List ℕ))) Global). map (element_value (λ s. shown s)) v.items) f
 
 pub returns-clause-read : goal.returns-clause-read
 returns-clause-read c whole e =
@@ -52,7 +59,8 @@ returns-clause-read c whole e =
         appname = seen names.appname;
         procid = option_map (procid_value (λ s. shown s)) names.procid;
         msgid = None;
-        structured_data = elements_seen c.in_ok-elements.elements c.new.result c.unwrap_or.result c.new.ensures.items c.unwrap_or.ensures i;
+        structured_data = elements_seen c.in_ok-elements.elements c.new.result c.unwrap_or.result c.new.ensures.items
+            c.unwrap_or.ensures i;
         msg = shown c.blanks-msg.result;
       }),
     )

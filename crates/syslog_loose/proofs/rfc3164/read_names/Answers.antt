@@ -8,8 +8,10 @@ use Rattle.syslog_loose.proofs.rfc3164.read_names.Goals as goal
 pub returns : goal.returns
 returns c =
     names_read
-    (row_cons (optional (spaced host)) (optional (spaced tag_word) ∷ run is_blank ∷ optional (exactly colon) ∷ run is_blank ∷ []) c.host_field.ensures
-    (row_cons (optional (spaced tag_word)) (run is_blank ∷ optional (exactly colon) ∷ run is_blank ∷ []) c.tag_field.ensures
+    (row_cons (optional (spaced host))
+    (optional (spaced tag_word) ∷ run is_blank ∷ optional (exactly colon) ∷ run is_blank ∷ []) c.host_field.ensures
+    (row_cons (optional (spaced tag_word))
+    (run is_blank ∷ optional (exactly colon) ∷ run is_blank ∷ []) c.tag_field.ensures
     (row_cons (run is_blank) (optional (exactly colon) ∷ run is_blank ∷ []) c.blanks.ensures
     (row_cons (optional (exactly colon)) (run is_blank ∷ []) c.past_colon.ensures.1
     (row_cons (run is_blank) [] c.blanks-2.ensures (row_nil _))))))

@@ -6,7 +6,8 @@ use Rattle.syslog_pieces.specs.Pri.{priority}
 use Rattle.syslog_pieces.specs.ProcId.{process_word}
 use Rattle.syslog_pieces.specs.Text.{is_blank, number, host, word}
 use Rattle.syslog_pieces.specs.Timestamp.{header_stamp}
-use Rattle.syslog_pieces.proofs.PieceLemmas.Class.{row_nil, row_cons, row_none_here, row_none_later, optional_det, some_run_det}
+use Rattle.syslog_pieces.proofs.PieceLemmas.Class.{row_nil, row_cons, row_none_here}
+use Rattle.syslog_pieces.proofs.PieceLemmas.Class.{row_none_later, optional_det, some_run_det}
 use Rattle.syslog_pieces.proofs.PriLemmas.{priority_det}
 use Rattle.syslog_pieces.proofs.ProcIdLemmas.{process_word_det}
 use Rattle.syslog_pieces.proofs.TimestampLemmas.Piece.{header_stamp_det}
@@ -53,14 +54,16 @@ from_priority = optional priority ∷ from_version
 pub returns-in_err-version : goal.returns-in_err-version
 returns-in_err-version c =
     let n : NoFront (Row header_row) (chars c.args.text.now) =
-    row_none_later (optional priority) from_version (optional_det priority priority_det) c.optional_priority-priority.ensures
+    row_none_later (optional priority) from_version
+    (optional_det priority priority_det) c.optional_priority-priority.ensures
     (row_none_here (number 4294967295) from_blanks1 c.in_err-version.ensures) in
     search rules
 
 pub returns-in_err-some_blanks : goal.returns-in_err-some_blanks
 returns-in_err-some_blanks c =
     let n : NoFront (Row header_row) (chars c.args.text.now) =
-    row_none_later (optional priority) from_version (optional_det priority priority_det) c.optional_priority-priority.ensures
+    row_none_later (optional priority) from_version
+    (optional_det priority priority_det) c.optional_priority-priority.ensures
     (row_none_later (number 4294967295) from_blanks1 (number_det 4294967295) c.in_ok-version.ensures
     (row_none_here (some_run is_blank) from_stamp c.in_err-some_blanks.ensures)) in
     search rules
@@ -68,7 +71,8 @@ returns-in_err-some_blanks c =
 pub returns-in_default : goal.returns-in_default
 returns-in_default c =
     let n : NoFront (Row header_row) (chars c.args.text.now) =
-    row_none_later (optional priority) from_version (optional_det priority priority_det) c.optional_priority-priority.ensures
+    row_none_later (optional priority) from_version
+    (optional_det priority priority_det) c.optional_priority-priority.ensures
     (row_none_later (number 4294967295) from_blanks1 (number_det 4294967295) c.in_ok-version.ensures
     (row_none_later (some_run is_blank) from_stamp (some_run_det is_blank) c.in_ok-some_blanks.ensures
     (row_none_here header_stamp from_blanks2 c.in_default.ensures))) in
@@ -77,7 +81,8 @@ returns-in_default c =
 pub returns-in_err-some_blanks-2 : goal.returns-in_err-some_blanks-2
 returns-in_err-some_blanks-2 c =
     let n : NoFront (Row header_row) (chars c.args.text.now) =
-    row_none_later (optional priority) from_version (optional_det priority priority_det) c.optional_priority-priority.ensures
+    row_none_later (optional priority) from_version
+    (optional_det priority priority_det) c.optional_priority-priority.ensures
     (row_none_later (number 4294967295) from_blanks1 (number_det 4294967295) c.in_ok-version.ensures
     (row_none_later (some_run is_blank) from_stamp (some_run_det is_blank) c.in_ok-some_blanks.ensures
     (row_none_later header_stamp from_blanks2 header_stamp_det c.in-Some.ensures
@@ -87,7 +92,8 @@ returns-in_err-some_blanks-2 c =
 pub returns-in_err-hostname : goal.returns-in_err-hostname
 returns-in_err-hostname c =
     let n : NoFront (Row header_row) (chars c.args.text.now) =
-    row_none_later (optional priority) from_version (optional_det priority priority_det) c.optional_priority-priority.ensures
+    row_none_later (optional priority) from_version
+    (optional_det priority priority_det) c.optional_priority-priority.ensures
     (row_none_later (number 4294967295) from_blanks1 (number_det 4294967295) c.in_ok-version.ensures
     (row_none_later (some_run is_blank) from_stamp (some_run_det is_blank) c.in_ok-some_blanks.ensures
     (row_none_later header_stamp from_blanks2 header_stamp_det c.in-Some.ensures
@@ -98,7 +104,8 @@ returns-in_err-hostname c =
 pub returns-in_err-some_blanks-3 : goal.returns-in_err-some_blanks-3
 returns-in_err-some_blanks-3 c =
     let n : NoFront (Row header_row) (chars c.args.text.now) =
-    row_none_later (optional priority) from_version (optional_det priority priority_det) c.optional_priority-priority.ensures
+    row_none_later (optional priority) from_version
+    (optional_det priority priority_det) c.optional_priority-priority.ensures
     (row_none_later (number 4294967295) from_blanks1 (number_det 4294967295) c.in_ok-version.ensures
     (row_none_later (some_run is_blank) from_stamp (some_run_det is_blank) c.in_ok-some_blanks.ensures
     (row_none_later header_stamp from_blanks2 header_stamp_det c.in-Some.ensures
@@ -110,7 +117,8 @@ returns-in_err-some_blanks-3 c =
 pub returns-in_err-appname : goal.returns-in_err-appname
 returns-in_err-appname c =
     let n : NoFront (Row header_row) (chars c.args.text.now) =
-    row_none_later (optional priority) from_version (optional_det priority priority_det) c.optional_priority-priority.ensures
+    row_none_later (optional priority) from_version
+    (optional_det priority priority_det) c.optional_priority-priority.ensures
     (row_none_later (number 4294967295) from_blanks1 (number_det 4294967295) c.in_ok-version.ensures
     (row_none_later (some_run is_blank) from_stamp (some_run_det is_blank) c.in_ok-some_blanks.ensures
     (row_none_later header_stamp from_blanks2 header_stamp_det c.in-Some.ensures
@@ -123,7 +131,8 @@ returns-in_err-appname c =
 pub returns-in_err-some_blanks-4 : goal.returns-in_err-some_blanks-4
 returns-in_err-some_blanks-4 c =
     let n : NoFront (Row header_row) (chars c.args.text.now) =
-    row_none_later (optional priority) from_version (optional_det priority priority_det) c.optional_priority-priority.ensures
+    row_none_later (optional priority) from_version
+    (optional_det priority priority_det) c.optional_priority-priority.ensures
     (row_none_later (number 4294967295) from_blanks1 (number_det 4294967295) c.in_ok-version.ensures
     (row_none_later (some_run is_blank) from_stamp (some_run_det is_blank) c.in_ok-some_blanks.ensures
     (row_none_later header_stamp from_blanks2 header_stamp_det c.in-Some.ensures
@@ -137,7 +146,8 @@ returns-in_err-some_blanks-4 c =
 pub returns-in_err-procid : goal.returns-in_err-procid
 returns-in_err-procid c =
     let n : NoFront (Row header_row) (chars c.args.text.now) =
-    row_none_later (optional priority) from_version (optional_det priority priority_det) c.optional_priority-priority.ensures
+    row_none_later (optional priority) from_version
+    (optional_det priority priority_det) c.optional_priority-priority.ensures
     (row_none_later (number 4294967295) from_blanks1 (number_det 4294967295) c.in_ok-version.ensures
     (row_none_later (some_run is_blank) from_stamp (some_run_det is_blank) c.in_ok-some_blanks.ensures
     (row_none_later header_stamp from_blanks2 header_stamp_det c.in-Some.ensures
@@ -152,7 +162,8 @@ returns-in_err-procid c =
 pub returns-in_err-some_blanks-5 : goal.returns-in_err-some_blanks-5
 returns-in_err-some_blanks-5 c =
     let n : NoFront (Row header_row) (chars c.args.text.now) =
-    row_none_later (optional priority) from_version (optional_det priority priority_det) c.optional_priority-priority.ensures
+    row_none_later (optional priority) from_version
+    (optional_det priority priority_det) c.optional_priority-priority.ensures
     (row_none_later (number 4294967295) from_blanks1 (number_det 4294967295) c.in_ok-version.ensures
     (row_none_later (some_run is_blank) from_stamp (some_run_det is_blank) c.in_ok-some_blanks.ensures
     (row_none_later header_stamp from_blanks2 header_stamp_det c.in-Some.ensures
@@ -168,7 +179,8 @@ returns-in_err-some_blanks-5 c =
 pub returns-in_err-msgid : goal.returns-in_err-msgid
 returns-in_err-msgid c =
     let n : NoFront (Row header_row) (chars c.args.text.now) =
-    row_none_later (optional priority) from_version (optional_det priority priority_det) c.optional_priority-priority.ensures
+    row_none_later (optional priority) from_version
+    (optional_det priority priority_det) c.optional_priority-priority.ensures
     (row_none_later (number 4294967295) from_blanks1 (number_det 4294967295) c.in_ok-version.ensures
     (row_none_later (some_run is_blank) from_stamp (some_run_det is_blank) c.in_ok-some_blanks.ensures
     (row_none_later header_stamp from_blanks2 header_stamp_det c.in-Some.ensures

@@ -18,33 +18,49 @@ returns-in_err-copied g c whole e =
     rw (f, same) (record {
       answered = None;
       is_answered = λ date asks. no_ok _ _ c.in_err-copied.was (c.verbatim_text.ensures.year whole e date asks);
-      holds = λ year agrees. (λ i. absurd (invalid_or_memory i), λ u. absurd (no_ok _ _ c.in_err-copied.was (c.verbatim_text.ensures.memory whole e _ u)));
+      holds =
+          λ year agrees. (
+            λ i. absurd (invalid_or_memory i),
+            λ u. absurd (no_ok _ _ c.in_err-copied.was (c.verbatim_text.ensures.memory whole e _ u)),
+          );
     })
 
 pub returns-then-copied : goal.returns-then-copied
 returns-then-copied g c whole e =
-    let k = found_text (PrintsAs5424 c.args.variant whole (string_bytes c.verbatim_text.new.text)) _ _ c.in_ok-copied.was c.if-copied.true (c.verbatim_text.ensures.text whole e) in
-    (k.asks_none, round_copied c.args.skips c.args.variant (dating_of None c.args.tz c.args.local) _ _ (IsUtf8-string_bytes c.verbatim_text.new.text) k)
+    let k = found_text (PrintsAs5424 c.args.variant whole (string_bytes c.verbatim_text.new.text))
+    _ _ c.in_ok-copied.was c.if-copied.true (c.verbatim_text.ensures.text whole e) in (
+      k.asks_none,
+      round_copied c.args.skips c.args.variant
+          (dating_of None c.args.tz c.args.local) _ _ (IsUtf8-string_bytes c.verbatim_text.new.text) k,
+    )
 
 pub map-year-requires : goal.map-year-requires
-map-year-requires g c = λ x e. c.requires x (asked_month c.in-Some.line.date _ x c.in-Some.ensures.month c.asked.ensures e)
+map-year-requires g c =
+    λ x e. c.requires x (asked_month c.in-Some.line.date _ x c.in-Some.ensures.month c.asked.ensures e)
 
 pub returns-in_err-settled-in-Some : goal.returns-in_err-settled-in-Some
 returns-in_err-settled-in-Some g c whole e =
-    let (_, f, same) = err_from_is_err_and c.from_residual-in_err-settled-in-Some.result c.from_residual-in_err-settled-in-Some.ensures.1 in
+    let (_, f, same) = err_from_is_err_and c.from_residual-in_err-settled-in-Some.result
+    c.from_residual-in_err-settled-in-Some.ensures.1 in
     rw (f, same) (fault_in _ c.args.variant whole c.args.tz c.args.local _ c.map-year.result
-    (dated_answered _ _ _ _ _ _ c.asked.result c.map-year.result (c.in-Some.ensures.shows whole e) c.asked.ensures c.map-year.ensures.cases) (c.in_err-settled-in-Some.ensures whole e))
+    (dated_answered _ _ _ _ _ _ c.asked.result c.map-year.result (c.in-Some.ensures.shows whole e) c.asked.ensures
+    c.map-year.ensures.cases) (c.in_err-settled-in-Some.ensures whole e))
 
 pub returns-in_err-settled-in-None : goal.returns-in_err-settled-in-None
 returns-in_err-settled-in-None g c whole e =
     let year = c.map-year-in-None in
-    let (_, f, same) = err_from_is_err_and c.from_residual-in_err-settled-in-None.result c.from_residual-in_err-settled-in-None.ensures.1 in
+    let (_, f, same) = err_from_is_err_and c.from_residual-in_err-settled-in-None.result
+    c.from_residual-in_err-settled-in-None.ensures.1 in
     rw (f, same) (fault_in _ c.args.variant whole c.args.tz c.args.local _ year.result
-    (answered_to _ _ _ c.asked_date.result year.result (c.asked_date.ensures.asks whole e) year.ensures.cases) (c.in_err-settled-in-None.ensures whole e))
+    (answered_to _ _ _ c.asked_date.result year.result (c.asked_date.ensures.asks whole e) year.ensures.cases)
+    (c.in_err-settled-in-None.ensures whole e))
 
 pub returns-in_ok-settled-in-Some : goal.returns-in_ok-settled-in-Some
-returns-in_ok-settled-in-Some g c whole e =
-    (dated_answered _ _ _ _ _ _ c.asked.result c.map-year.result (c.in-Some.ensures.shows whole e) c.asked.ensures c.map-year.ensures.cases, c.in_ok-settled-in-Some.ensures whole e)
+returns-in_ok-settled-in-Some g c whole e = (
+  dated_answered _ _ _ _ _ _ c.asked.result c.map-year.result
+      (c.in-Some.ensures.shows whole e) c.asked.ensures c.map-year.ensures.cases,
+  c.in_ok-settled-in-Some.ensures whole e,
+)
 
 pub returns-then-not-may_be_read : goal.returns-then-not-may_be_read
 returns-then-not-may_be_read g c whole e =
@@ -52,5 +68,9 @@ returns-then-not-may_be_read g c whole e =
     record {
       answered = None;
       is_answered = asks_no_year c.args.variant whole begins;
-      holds = λ year agrees. (λ i. no_reading c.args.variant (dating_of year c.args.tz c.args.local) whole begins, λ u. refl);
+      holds =
+          λ year agrees. (
+            λ i. no_reading c.args.variant (dating_of year c.args.tz c.args.local) whole begins,
+            λ u. refl,
+          );
     }

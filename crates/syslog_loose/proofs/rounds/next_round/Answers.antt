@@ -10,31 +10,41 @@ use Rattle.syslog_loose.proofs.rounds.next_round.Goals as goal
 pub returns-in_err-copied : goal.returns-in_err-copied
 returns-in_err-copied c whole e =
     let (_, f, same) = err_from_is_err_and c.from_residual.result c.from_residual.ensures.1 in
-    rw (f, same) (λ i. absurd (invalid_or_memory i), λ u. absurd (no_ok _ _ c.in_err-copied.was (c.rfc3164_text.ensures.memory whole e u)))
+    rw (f, same) (
+      λ i. absurd (invalid_or_memory i),
+      λ u. absurd (no_ok _ _ c.in_err-copied.was (c.rfc3164_text.ensures.memory whole e u)),
+    )
 
 pub returns-then-copied : goal.returns-then-copied
 returns-then-copied c whole e =
     let dating = dating_value c.args.dating.now in
-    let k = found_text (PrintsAs3164 c.args.variant dating whole (string_bytes c.rfc3164_text.new.text)) _ _ c.in_ok-copied.was c.if-copied.true (c.rfc3164_text.ensures.text whole e) in
+    let k = found_text (PrintsAs3164 c.args.variant dating whole (string_bytes c.rfc3164_text.new.text))
+    _ _ c.in_ok-copied.was c.if-copied.true (c.rfc3164_text.ensures.text whole e) in
     round_freely c.args.skips _ _ _ _ (IsUtf8-string_bytes c.rfc3164_text.new.text) k
 
 pub returns-in_err-message : goal.returns-in_err-message
 returns-in_err-message c whole e =
-    let (_, f, same) = err_from_is_err_and c.from_residual-in_err-message.result c.from_residual-in_err-message.ensures.1 in rw (f, same) (fault_tells _ _ _ _ (c.in_err-message.ensures whole e))
+    let (_, f, same) = err_from_is_err_and c.from_residual-in_err-message.result
+    c.from_residual-in_err-message.ensures.1 in rw (f, same) (fault_tells _ _ _ _ (c.in_err-message.ensures whole e))
 
 pub returns-in_err-print : goal.returns-in_err-print
 returns-in_err-print c whole e =
-    let (_, f, same) = err_from_is_err_and c.from_residual-in_err-print.result c.from_residual-in_err-print.ensures.1 in rw (f, same) (memory_tells _ _ _ _ (c.in_ok-message.ensures whole e))
+    let (_, f, same) = err_from_is_err_and c.from_residual-in_err-print.result c.from_residual-in_err-print.ensures.1 in
+    rw (f, same) (memory_tells _ _ _ _ (c.in_ok-message.ensures whole e))
 
 pub returns-then-settled : goal.returns-then-settled
 returns-then-settled c whole e =
-    round_printed _ _ _ _ (c.in_ok-message.ensures whole e).read c.args.skips c.is_at_rest-settled.result c.is_at_rest-settled.ensures _ (IsUtf8-string_bytes c.print.new.text) c.in_ok-print.ensures
+    round_printed _ _ _ _ (c.in_ok-message.ensures whole e).read c.args.skips c.is_at_rest-settled.result
+    c.is_at_rest-settled.ensures _ (IsUtf8-string_bytes c.print.new.text) c.in_ok-print.ensures
 
 pub returns-in_err-write_round : goal.returns-in_err-write_round
 returns-in_err-write_round c whole e =
-    let (_, f, same) = err_from_is_err_and c.from_residual-in_err-write_round.result c.from_residual-in_err-write_round.ensures.1 in rw (f, same) (memory_tells _ _ _ _ (c.in_ok-message.ensures whole e))
+    let (_, f, same) =
+    err_from_is_err_and c.from_residual-in_err-write_round.result c.from_residual-in_err-write_round.ensures.1 in
+    rw (f, same) (memory_tells _ _ _ _ (c.in_ok-message.ensures whole e))
 
 pub returns : goal.returns
 returns c whole e =
-    round_skipped _ _ _ _ (c.in_ok-message.ensures whole e).read c.args.skips c.is_at_rest-settled.result c.if-not-skips.false c.if-settled.false c.is_at_rest-settled.ensures _
+    round_skipped _ _ _ _ (c.in_ok-message.ensures whole e).read c.args.skips c.is_at_rest-settled.result
+    c.if-not-skips.false c.if-settled.false c.is_at_rest-settled.ensures _
     (c.in_ok-write_round.ensures _ _ _ (c.in_ok-message.ensures whole e).read)

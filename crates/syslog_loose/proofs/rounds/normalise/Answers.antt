@@ -12,7 +12,8 @@ returns-in_err-first_round-clause-reads g c =
     rw (e, same) (c.in_err-first_round.ensures (chars c.args.input.now) c.trimmed-left.ensures)
 
 pub returns-in_err-first_round-clause-again : goal.returns-in_err-first_round-clause-again
-returns-in_err-first_round-clause-again g c = again_in _ _ _ _ c.utf8.input _ (returns-in_err-first_round-clause-reads g c)
+returns-in_err-first_round-clause-again g c =
+    again_in _ _ _ _ c.utf8.input _ (returns-in_err-first_round-clause-reads g c)
 
 pub returns-clause-reads : goal.returns-clause-reads
 returns-clause-reads g c =
@@ -20,7 +21,8 @@ returns-clause-reads g c =
     let told = c.in_ok-first_round.ensures (chars c.args.input.now) c.trimmed-left.ensures in
     let text = c.first_round.new.text in
     normalised_in _ c.args.variant c.args.tz c.args.local c.args.input.now (Ok text) round.year told.0
-    (normalised c.args.variant (dating_of round.year c.args.tz c.args.local) (chars c.args.input.now) text (IsUtf8-string_bytes text) (told.1.next refl))
+    (normalised c.args.variant (dating_of round.year c.args.tz c.args.local) (chars c.args.input.now) text
+    (IsUtf8-string_bytes text) (told.1.next refl))
 
 pub returns-clause-again : goal.returns-clause-again
 returns-clause-again g c = again_in _ _ _ _ c.utf8.input _ (returns-clause-reads g c)

@@ -11,13 +11,16 @@ returns-in_err-rest c =
     search rules
 
 pub returns-then-is_empty : goal.returns-then-is_empty
-returns-then-is_empty c = no_id _ _ _ c.split_run.ensures _ _ _ c.in_ok-rest.ensures c.split_run-2.ensures (empty_is _ c.if-is_empty.ensures)
+returns-then-is_empty c =
+    no_id _ _ _ c.split_run.ensures _ _ _ c.in_ok-rest.ensures c.split_run-2.ensures (empty_is _ c.if-is_empty.ensures)
 
 pub returns-then-is_closing : goal.returns-then-is_closing
 returns-then-is_closing c =
-    is_form _ _ _ c.split_run.ensures _ _ _ c.in_ok-rest.ensures c.split_run-2.ensures (nonempty_is _ c.if-is_empty.ensures) (text_is _ (93 ∷ []) closing_ascii c.if-is_closing.ensures)
+    is_form _ _ _ c.split_run.ensures _ _ _ c.in_ok-rest.ensures c.split_run-2.ensures
+    (nonempty_is _ c.if-is_empty.ensures) (text_is _ (93 ∷ []) closing_ascii c.if-is_closing.ensures)
 
 pub returns-else-is_closing : goal.returns-else-is_closing
 returns-else-is_closing c =
-    no_closing _ _ _ c.split_run.ensures _ _ _ c.in_ok-rest.ensures c.split_run-2.ensures (nonempty_is _ c.if-is_empty.ensures)
+    no_closing _ _ _ c.split_run.ensures _ _ _ c.in_ok-rest.ensures c.split_run-2.ensures
+    (nonempty_is _ c.if-is_empty.ensures)
     (text_is_not _ (93 ∷ []) c.split_run-2.ensures.back_utf8 closing_ascii c.if-is_closing.ensures)

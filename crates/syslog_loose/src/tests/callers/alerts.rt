@@ -20,7 +20,8 @@ struct Rule<'a> {
 }
 
 fn is_named(name: &str, value: &str, rule: &Rule<'_>) -> bool
-    ensures { IsTrue result ↔ ((chars name.now ≡ chars rule.now.name.now) × (chars value.now ≡ chars rule.now.value.now)) }
+    ensures { IsTrue result ↔ ((chars name.now ≡ chars rule.now.name.now)
+        × (chars value.now ≡ chars rule.now.value.now)) }
 {
     if !is_same_text(&name, &rule.name) {
         return false;
@@ -34,7 +35,8 @@ fn fires(
     rule: &Rule<'_>,
     element: &StructuredElement<&str>,
 ) -> Result<bool, AllocError>
-    ensures { IfOk result (λ found. (found ≡ false) ↔ AllByRecursion (λ p. (p.0 ≡ chars rule.now.name.now) → IsUnescaped p.1 (chars rule.now.value.now) → ⊥)
+    ensures { IfOk result (λ found. (found ≡ false)
+        ↔ AllByRecursion (λ p. (p.0 ≡ chars rule.now.name.now) → IsUnescaped p.1 (chars rule.now.value.now) → ⊥)
         (element_value (λ s. shown s) element.now).params) }
 {
     for item in element.params(alloc) {

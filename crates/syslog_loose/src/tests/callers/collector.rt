@@ -6,7 +6,8 @@ ghost use Rattle.syslog_pieces.specs.Timestamp.Zone.{dating_of};
 ghost use Rattle.syslog_pieces.specs.declared.pri.SyslogFacility.TheVariants.{LOG_AUTH, LOG_AUTHPRIV};
 ghost use Rattle.syslog_loose.specs.Reading.{NeedsNoMemory, OnReading};
 ghost use Rattle.syslog_loose.specs.declared.variant.Variant.TheVariants.{Either};
-ghost use Rattle.syslog_loose.specs.declared.tests.callers.collector.Destination.TheVariants.{Security, Pager, Archive, Refused};
+ghost use Rattle.syslog_loose.specs.declared.tests.callers.collector.Destination.TheVariants.{Security, Pager};
+ghost use Rattle.syslog_loose.specs.declared.tests.callers.collector.Destination.TheVariants.{Archive, Refused};
 
 use crate::{
     IncompleteDate, ParseFault, SyslogFacility, SyslogSeverity, TimeZone, Variant,
@@ -30,8 +31,11 @@ enum Destination {
 
 fn destination_of(facility: Option<SyslogFacility>, severity: Option<SyslogSeverity>) -> Destination
     ensures pager { (result ≡ Pager) ↔ IsSomeAnd severity (λ s. severity_number s ≤ 2) }
-    ensures security { (result ≡ Security) ↔ (IfSome severity (λ s. 2 < severity_number s) × IsSomeAnd facility (λ f. (f ≡ LOG_AUTH) ⊎ (f ≡ LOG_AUTHPRIV))) }
-    ensures archive { (result ≡ Archive) ↔ (IfSome severity (λ s. 2 < severity_number s) × IfSome facility (λ f. (f ≢ LOG_AUTH) × (f ≢ LOG_AUTHPRIV))) }
+    ensures security { (result ≡ Security)
+        ↔ (IfSome severity (λ s. 2 < severity_number s)
+        × IsSomeAnd facility (λ f. (f ≡ LOG_AUTH) ⊎ (f ≡ LOG_AUTHPRIV))) }
+    ensures archive { (result ≡ Archive)
+        ↔ (IfSome severity (λ s. 2 < severity_number s) × IfSome facility (λ f. (f ≢ LOG_AUTH) × (f ≢ LOG_AUTHPRIV))) }
     ensures some { result ≢ Refused }
 {
     match severity {
@@ -44,18 +48,21 @@ fn destination_of(facility: Option<SyslogFacility>, severity: Option<SyslogSever
     }
 }
 
-/// Where the line goes, by the facility and the severity of its message. `year` is that of dates that have none. An `Err`
-/// is only for memory.
+/// Where the line goes, by the facility and the severity of its message. `year` is that of dates that have none. An
+/// `Err` is only for memory.
 fn route(
     alloc: Global,
     line: &str,
     year: i32,
     local: &TimeZone<'_>,
 ) -> Result<Destination, AllocError>
-    ensures sends { IfOk result (λ to. OnReading Either (dating_of (Some year) None local.entry) (chars line.now) (to ≡ Refused) (λ m.
+    ensures sends { IfOk result (λ to. OnReading Either (dating_of (Some year) None local.entry) (chars line.now)
+        (to ≡ Refused) (λ m.
         ((to ≡ Pager) ↔ IsSomeAnd m.severity (λ s. severity_number s ≤ 2))
-        × ((to ≡ Security) ↔ (IfSome m.severity (λ s. 2 < severity_number s) × IsSomeAnd m.facility (λ f. (f ≡ LOG_AUTH) ⊎ (f ≡ LOG_AUTHPRIV))))
-        × ((to ≡ Archive) ↔ (IfSome m.severity (λ s. 2 < severity_number s) × IfSome m.facility (λ f. (f ≢ LOG_AUTH) × (f ≢ LOG_AUTHPRIV))))
+        × ((to ≡ Security) ↔ (IfSome m.severity (λ s. 2 < severity_number s)
+        × IsSomeAnd m.facility (λ f. (f ≡ LOG_AUTH) ⊎ (f ≡ LOG_AUTHPRIV))))
+        × ((to ≡ Archive) ↔ (IfSome m.severity (λ s. 2 < severity_number s)
+        × IfSome m.facility (λ f. (f ≢ LOG_AUTH) × (f ≢ LOG_AUTHPRIV))))
         × (to ≢ Refused))) }
     ensures memory { NeedsNoMemory Either (dating_of (Some year) None local.entry) (chars line.now) → IsOk result }
 {

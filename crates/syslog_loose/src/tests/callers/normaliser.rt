@@ -20,9 +20,11 @@ fn normal_line(
     year: i32,
     local: &TimeZone<'_>,
 ) -> Result<String, AllocError>
-    ensures prints { IfOk result (λ text. OnReading Either (dating_of (Some year) None local.entry) (chars line.entry.now)
+    ensures prints { IfOk result (λ text. OnReading Either (dating_of (Some year) None local.entry)
+        (chars line.entry.now)
         (string_bytes text ≡ line.entry.now) (λ m. string_bytes text ≡ encode_utf8_all (printed m))) }
-    ensures again { IfOk result (λ text. (m : MessageValue) → IsFixed m → chars line.entry.now ≡ printed m → string_bytes text ≡ line.entry.now) }
+    ensures again { IfOk result (λ text. (m : MessageValue) → IsFixed m → chars line.entry.now ≡ printed m
+        → string_bytes text ≡ line.entry.now) }
 {
     let get_year = move |_: IncompleteDate| -> i32
         ensures { result ≡ year }

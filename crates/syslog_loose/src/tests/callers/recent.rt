@@ -1,4 +1,5 @@
-//! Instants of lines that were written within the last year, as a caller of this crate finds them. `CALLING.md` names it.
+//! Instants of lines that were written within the last year, as a caller of this crate finds them. `CALLING.md` names
+//! it.
 ghost use Rattle.std.specs.Prelude.{◌≡◌, ℤ, IfOk, None, Some};
 ghost use Rattle.std.specs.Str.{chars};
 ghost use Rattle.syslog_pieces.specs.Timestamp.Zone.{dating_of};
@@ -28,8 +29,10 @@ fn instant_of(
     last: i32,
     local: &TimeZone<'_>,
 ) -> Result<Option<OffsetTimestamp>, AllocError>
-    ensures { InYear (λ date year. (date.0 ≡ 12 → year ≡ last) × ((date.0 ≡ 12 → ⊥) → year ≡ now)) Either (chars line.now) (λ year. IfOk result (λ stamp.
-        OnReading Either (dating_of year None local.entry) (chars line.now) (stamp ≡ None) (λ m. stamp ≡ m.timestamp))) }
+    ensures { InYear (λ date year. (date.0 ≡ 12 → year ≡ last) × ((date.0 ≡ 12 → ⊥) → year ≡ now)) Either
+        (chars line.now) (λ year. IfOk result (λ stamp.
+        OnReading Either (dating_of year None local.entry) (chars line.now) (stamp ≡ None)
+        (λ m. stamp ≡ m.timestamp))) }
 {
     let get_year = move |date: IncompleteDate| -> i32
         ensures { (date.0 ≡ 12 → result ≡ last) × ((date.0 ≡ 12 → ⊥) → result ≡ now) }

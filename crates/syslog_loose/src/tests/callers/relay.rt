@@ -29,7 +29,8 @@ enum Sent {
 // The message printed anew, where it is canonical.
 fn printed_anew(alloc: Global, message: &Message<&str>) -> Result<Sent, AllocError>
     ensures prints { (text : String GlobalAllocator) → result ≡ Ok (Printed text)
-        → IsCanonical dash_rule (message_value (λ s. shown s) message.now) × (string_bytes text ≡ encode_utf8_all (printed (message_value (λ s. shown s) message.now))) }
+        → IsCanonical dash_rule (message_value (λ s. shown s) message.now)
+        × (string_bytes text ≡ encode_utf8_all (printed (message_value (λ s. shown s) message.now))) }
     ensures keeps { result ≡ Ok AsItCame → IsCanonical dash_rule (message_value (λ s. shown s) message.now) → ⊥ }
 {
     if !message.is_canonical() {
@@ -39,12 +40,16 @@ fn printed_anew(alloc: Global, message: &Message<&str>) -> Result<Sent, AllocErr
     Ok(Sent::Printed(text))
 }
 
-/// What is sent for the line. What is printed is read as the very message that the line was read as, by whatever year and
-/// zones; a line is sent as it came where it is no message, or one that print would change. An `Err` is only for memory.
+/// What is sent for the line. What is printed is read as the very message that the line was read as, by whatever year
+/// and zones; a line is sent as it came where it is no message, or one that print would change. An `Err` is only for
+/// memory.
 fn relay(alloc: Global, line: &str, year: i32, local: &TimeZone<'_>) -> Result<Sent, AllocError>
-    ensures prints { (text : String GlobalAllocator) → result ≡ Ok (Printed text) → OnReading Either (dating_of (Some year) None local.entry) (chars line.now) ⊥ (λ m.
-        (string_bytes text ≡ encode_utf8_all (printed m)) × ((receiver : Dating) → IsRead Either receiver (printed m) m)) }
-    ensures keeps { result ≡ Ok AsItCame → OnReading Either (dating_of (Some year) None local.entry) (chars line.now) ⊤ (λ m. IsCanonical dash_rule m → ⊥) }
+    ensures prints { (text : String GlobalAllocator) → result ≡ Ok (Printed text)
+        → OnReading Either (dating_of (Some year) None local.entry) (chars line.now) ⊥ (λ m.
+        (string_bytes text ≡ encode_utf8_all (printed m))
+        × ((receiver : Dating) → IsRead Either receiver (printed m) m)) }
+    ensures keeps { result ≡ Ok AsItCame → OnReading Either (dating_of (Some year) None local.entry) (chars line.now) ⊤
+        (λ m. IsCanonical dash_rule m → ⊥) }
 {
     let get_year = move |_: IncompleteDate| -> i32
         ensures { result ≡ year }

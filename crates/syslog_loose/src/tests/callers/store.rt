@@ -34,7 +34,8 @@ fn is_of_host(host: Option<&str>, asked: &str) -> bool
 }
 
 fn is_within(stamp: Option<OffsetTimestamp>, from: Timestamp, until: Timestamp) -> bool
-    ensures { IsTrue result ↔ IsSomeAnd stamp (λ s. (from.nanosecond ≤ℤ s.instant.nanosecond) × (s.instant.nanosecond <ℤ until.nanosecond)) }
+    ensures { IsTrue result ↔ IsSomeAnd stamp (λ s. (from.nanosecond ≤ℤ s.instant.nanosecond)
+        × (s.instant.nanosecond <ℤ until.nanosecond)) }
 {
     match stamp {
         Some(stamp) => from <= stamp.instant && stamp.instant < until,
@@ -43,8 +44,10 @@ fn is_within(stamp: Option<OffsetTimestamp>, from: Timestamp, until: Timestamp) 
 }
 
 fn answers(message: &Message<&str>, query: &Query<'_>) -> bool
-    ensures { IsTrue result ↔ (IsSomeAnd (message_value (λ s. shown s) message.now).hostname (λ h. h ≡ chars query.now.host.now)
-        × IsSomeAnd message.now.timestamp (λ s. (query.now.from.nanosecond ≤ℤ s.instant.nanosecond) × (s.instant.nanosecond <ℤ query.now.until.nanosecond))) }
+    ensures { IsTrue result ↔ (IsSomeAnd (message_value (λ s. shown s) message.now).hostname
+        (λ h. h ≡ chars query.now.host.now)
+        × IsSomeAnd message.now.timestamp (λ s. (query.now.from.nanosecond ≤ℤ s.instant.nanosecond)
+        × (s.instant.nanosecond <ℤ query.now.until.nanosecond))) }
 {
     if !is_of_host(message.hostname, query.host) {
         return false;
@@ -60,9 +63,11 @@ fn is_asked_for(
     year: i32,
     local: &TimeZone<'_>,
 ) -> Result<bool, AllocError>
-    ensures { IfOk result (λ found. OnReading Either (dating_of (Some year) None local.entry) (chars line.now) (found ≡ false) (λ m.
+    ensures { IfOk result (λ found. OnReading Either (dating_of (Some year) None local.entry) (chars line.now)
+        (found ≡ false) (λ m.
         IsTrue found ↔ (IsSomeAnd m.hostname (λ h. h ≡ chars query.now.host.now)
-        × IsSomeAnd m.timestamp (λ s. (query.now.from.nanosecond ≤ℤ s.instant.nanosecond) × (s.instant.nanosecond <ℤ query.now.until.nanosecond))))) }
+        × IsSomeAnd m.timestamp (λ s. (query.now.from.nanosecond ≤ℤ s.instant.nanosecond)
+        × (s.instant.nanosecond <ℤ query.now.until.nanosecond))))) }
 {
     let get_year = move |_: IncompleteDate| -> i32
         ensures { result ≡ year }

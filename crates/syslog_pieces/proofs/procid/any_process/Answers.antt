@@ -10,4 +10,7 @@ returns-in-Ok c =
     rw to_z-of_z h
 
 pub returns-in-Err : goal.returns-in-Err
-returns-in-Err c = (no_number_read c.args.text.now c.utf8.text c.parse.result c.in-Err.field-0 c.in-Err.is c.parse.ensures.value.0, refl)
+returns-in-Err c = (
+  no_number_read c.args.text.now c.utf8.text c.parse.result c.in-Err.field-0 c.in-Err.is c.parse.ensures.value.0,
+  refl,
+)

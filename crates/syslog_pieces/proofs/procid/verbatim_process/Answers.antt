@@ -9,10 +9,13 @@ use Rattle.syslog_pieces.proofs.procid.verbatim_process.Goals as goal
 
 pub returns-then-is_bare_word : goal.returns-then-is_bare_word
 returns-then-is_bare_word c =
-    let f = subst (λ (o : Option (Bor (List ℕ))). Front word (chars c.args.text.now) (shown c.in_ok-name.rest) (seen o)) c.in-Some.is c.in_ok-name.ensures in
-    process_verbatim (chars c.args.text.now) (shown c.in_ok-name.rest) (chars c.in-Some.name.now) f (c.if-is_bare_word.ensures refl)
+    let f = subst (λ (o : Option (Bor (List ℕ))). Front word (chars c.args.text.now) (shown c.in_ok-name.rest) (seen o))
+    c.in-Some.is c.in_ok-name.ensures in
+    process_verbatim (chars c.args.text.now) (shown c.in_ok-name.rest) (chars c.in-Some.name.now) f
+    (c.if-is_bare_word.ensures refl)
 
 pub returns-in-None : goal.returns-in-None
 returns-in-None c =
-    let f = subst (λ (o : Option (Bor (List ℕ))). Front word (chars c.args.text.now) (shown c.in_ok-name.rest) (seen o)) c.in-None.is c.in_ok-name.ensures in
+    let f = subst (λ (o : Option (Bor (List ℕ))). Front word (chars c.args.text.now) (shown c.in_ok-name.rest) (seen o))
+    c.in-None.is c.in_ok-name.ensures in
     absent_verbatim (chars c.args.text.now) (shown c.in_ok-name.rest) f

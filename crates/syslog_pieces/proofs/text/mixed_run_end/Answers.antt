@@ -1,11 +1,13 @@
-use Rattle.std.proofs.Common.{rules, ◌≡◌, ◌<◌, ℕ, ◌+◌, false, List, length, take, drop, get_or, refl, sym, ap, subst, ◌∙◌, arith}
+use Rattle.std.proofs.Common.{rules, ◌≡◌, ◌<◌, ℕ, ◌+◌, false, List, length, take}
+use Rattle.std.proofs.Common.{drop, get_or, refl, sym, ap, subst, ◌∙◌, arith}
 use Rattle.std.proofs.lemmas.List.{get_or-drop, length-drop}
 use Rattle.std.specs.Str.{chars, IsUtf8}
 use Rattle.syslog_pieces.specs.Bodies.Scan.{IsRun, byte_in}
 use Rattle.syslog_pieces.specs.Pieces.Class.{Ends}
 use Rattle.syslog_pieces.specs.Text.CharClass.{has}
 use Rattle.syslog_pieces.specs.declared.text.CharClass.{CharClass}
-use Rattle.syslog_pieces.proofs.TextLemmas.Runs.{HasPassed, ascii_each, ascii_boundary, ascii_ends, passed_none, passed_more, passed_ends, past_of_ascii, past_each, ends_at_both}
+use Rattle.syslog_pieces.proofs.TextLemmas.Runs.{HasPassed, ascii_each, ascii_boundary, ascii_ends, passed_none}
+use Rattle.syslog_pieces.proofs.TextLemmas.Runs.{passed_more, passed_ends, past_of_ascii, past_each, ends_at_both}
 use Rattle.syslog_pieces.proofs.text.mixed_run_end.Goals as goal
 
 -- behind the ASCII bytes at the front of what is left

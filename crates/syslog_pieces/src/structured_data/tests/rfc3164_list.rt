@@ -55,7 +55,8 @@ fn lists_of_elements_with_parameters(rt: HostRuntime) -> Result<(), Fail> {
         assert!(rt;
             is_rfc3164_list(
                 alloc,
-                "[origin software=\"rsyslogd\" swVersion=\"8.32.0\" x-pid=\"20506\" x-info=\"http://www.rsyslog.com\"] start",
+                "[origin software=\"rsyslogd\" swVersion=\"8.32.0\" x-pid=\"20506\" x-info=\"http://www.rsyslog.com\"] \
+                 start",
                 rule,
                 Some(&[(
                     "origin",
@@ -90,7 +91,10 @@ fn lists_that_are_a_dash(rt: HostRuntime) -> Result<(), Fail> {
     let alloc = rt.alloc();
     for (text, rest) in [("-", ""), ("- 5 degrees", " 5 degrees"), ("-\tx", "\tx")] {
         for rule in RULES {
-            assert!(rt; is_rfc3164_list(alloc, text, rule, Some(&[]), rest)?, "{text:?}");
+            assert!(rt;
+                is_rfc3164_list(alloc, text, rule, Some(&[]), rest)?,
+                "{text:?}"
+            );
         }
     }
     for (text, rest) in [

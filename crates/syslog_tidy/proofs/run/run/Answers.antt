@@ -11,17 +11,27 @@ pub returns-in_err-tally-clause-err : goal.returns-in_err-tally-clause-err
 returns-in_err-tally-clause-err g c =
     let fault = c.in_err-tally.field-0.0 in
     IfErr-passed _ fault _ c.from_residual.ensures.1
-    (EndsEarly-at tidying c.args.year _ (g.R.Read.remaining c.args.reader.now.inner) (g.R.Read.remaining c.pump.new.reader.inner) (g.W.Write.contents c.args.writer.now.inner) (g.W.Write.contents c.pump.new.writer.inner) fault
+    (EndsEarly-at tidying c.args.year _ (g.R.Read.remaining c.args.reader.now.inner)
+    (g.R.Read.remaining c.pump.new.reader.inner) (g.W.Write.contents c.args.writer.now.inner)
+    (g.W.Write.contents c.pump.new.writer.inner) fault
     (to_z-of_z _ _ c.ranges.year) c.in_err-tally.ensures.err)
 
 pub returns-clause-ok : goal.returns-clause-ok
 returns-clause-ok g c =
-    TidiesAll-pumped c.args.year _ (g.R.Read.remaining c.args.reader.now.inner) (g.R.Read.remaining c.pump.new.reader.inner) (g.W.Write.contents c.args.writer.now.inner) (g.W.Write.contents c.pump.new.writer.inner)
-    c.in_ok-tally.tally record { lines = c.lines.result; refused = c.in_ok-tally.tally.passed_over } (to_z-of_z _ _ c.ranges.year) c.in_ok-tally.ensures.ok c.lines.ensures refl
+    TidiesAll-pumped c.args.year _ (g.R.Read.remaining c.args.reader.now.inner)
+    (g.R.Read.remaining c.pump.new.reader.inner) (g.W.Write.contents c.args.writer.now.inner)
+    (g.W.Write.contents c.pump.new.writer.inner)
+    c.in_ok-tally.tally record { lines = c.lines.result; refused = c.in_ok-tally.tally.passed_over }
+    (to_z-of_z _ _ c.ranges.year) c.in_ok-tally.ensures.ok c.lines.ensures refl
 
 pub returns-clause-again : goal.returns-clause-again
 returns-clause-again g c =
-    TidiesAll-again c.args.year (g.R.Read.remaining c.args.reader.now.inner) (g.R.Read.remaining c.pump.new.reader.inner) (g.W.Write.contents c.args.writer.now.inner) (g.W.Write.contents c.pump.new.writer.inner)
+    TidiesAll-again c.args.year (g.R.Read.remaining c.args.reader.now.inner)
+    (g.R.Read.remaining c.pump.new.reader.inner) (g.W.Write.contents c.args.writer.now.inner)
+    (g.W.Write.contents c.pump.new.writer.inner)
     record { lines = c.lines.result; refused = c.in_ok-tally.tally.passed_over }
-    (TidiesAll-pumped c.args.year _ (g.R.Read.remaining c.args.reader.now.inner) (g.R.Read.remaining c.pump.new.reader.inner) (g.W.Write.contents c.args.writer.now.inner) (g.W.Write.contents c.pump.new.writer.inner)
-    c.in_ok-tally.tally record { lines = c.lines.result; refused = c.in_ok-tally.tally.passed_over } (to_z-of_z _ _ c.ranges.year) c.in_ok-tally.ensures.ok c.lines.ensures refl)
+    (TidiesAll-pumped c.args.year _ (g.R.Read.remaining c.args.reader.now.inner)
+    (g.R.Read.remaining c.pump.new.reader.inner) (g.W.Write.contents c.args.writer.now.inner)
+    (g.W.Write.contents c.pump.new.writer.inner)
+    c.in_ok-tally.tally record { lines = c.lines.result; refused = c.in_ok-tally.tally.passed_over }
+    (to_z-of_z _ _ c.ranges.year) c.in_ok-tally.ensures.ok c.lines.ensures refl)

@@ -21,11 +21,13 @@ returns-in_ok-push_value-in-Some-clause-ok c =
     let fits : SFits w32 c.args.self.now.year = search rules in
     let found = rw c.in-Some.is at c.in_ok-value.ensures in
     let (bytes, text, added) = c.in_ok-push_value-in-Some.ensures.ok in
-    AddsAnswer-read c.args.self.now.year _ c.args.line.now _ _ bytes found.0 (view c.in-Some.value) (to_z-of_z _ _ fits) c.utf8.line found.1 found.2 text added
+    AddsAnswer-read c.args.self.now.year _ c.args.line.now _ _ bytes found.0 (view c.in-Some.value)
+    (to_z-of_z _ _ fits) c.utf8.line found.1 found.2 text added
 
 pub returns-in_ok-push_value-in-None-clause-ok : goal.returns-in_ok-push_value-in-None-clause-ok
 returns-in_ok-push_value-in-None-clause-ok c =
     let fits : SFits w32 c.args.self.now.year = search rules in
     let none = rw c.in-None.is at c.in_ok-value.ensures in
     let (bytes, text, added) = c.in_ok-push_value-in-None.ensures.ok in
-    AddsAnswer-refused c.args.self.now.year _ c.args.line.now _ _ bytes (view c.in_ok-value-in-None.value) (to_z-of_z _ _ fits) c.utf8.line none c.in_ok-value-in-None.ensures text added
+    AddsAnswer-refused c.args.self.now.year _ c.args.line.now _ _ bytes (view c.in_ok-value-in-None.value)
+    (to_z-of_z _ _ fits) c.utf8.line none c.in_ok-value-in-None.ensures text added

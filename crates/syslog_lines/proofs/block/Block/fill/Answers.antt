@@ -9,7 +9,11 @@ returns-clause-ok g c =
     let room = c.make_room.new.self.bytes.items in
     let bytes = c.read_into.new.bytes.items in
     let piece = take c.in-Ok.count (drop at bytes) in
-    let moved : cut_bytes c.make_room.new.self ≡ take at room = ap (λ (n : ℕ). drop n (take at room)) (c.in_ok-make_room.ensures.complete ∙ c.keep_cut.ensures.complete) in
+    let moved : cut_bytes c.make_room.new.self ≡ take at room =
+    ap (λ (n : ℕ). drop n (take at room)) (c.in_ok-make_room.ensures.complete ∙ c.keep_cut.ensures.complete) in
     let cut : cut_bytes c.args.self.now ≡ take at bytes =
-    sym c.keep_cut.ensures.cut ∙ sym c.in_ok-make_room.ensures.cut ∙ moved ∙ sym c.in-Ok.ensures.front in
-    (piece, c.in-Ok.ensures.ok, ap (λ (l : List ℕ). l ++ piece) cut ∙ take-front bytes at c.in-Ok.count ∙ sym c.take_in.ensures)
+    sym c.keep_cut.ensures.cut ∙ sym c.in_ok-make_room.ensures.cut ∙ moved ∙ sym c.in-Ok.ensures.front in (
+      piece,
+      c.in-Ok.ensures.ok,
+      ap (λ (l : List ℕ). l ++ piece) cut ∙ take-front bytes at c.in-Ok.count ∙ sym c.take_in.ensures,
+    )

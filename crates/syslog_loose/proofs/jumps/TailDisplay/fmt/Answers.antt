@@ -14,4 +14,5 @@ returns-clause-writes g c = λ canonical ok.
     let some : 0 < length elements = nonempty_is _ c.if-is_empty.ensures in
     let first = c.in_ok-write_elements.ensures canonical refl in
     put_two _ _ _ _ _ _ _ first (c.write_end-2.ensures first.plain ok)
-    (tail_elements (map (element_value (λ s. shown s)) elements) (chars c.args.self.now.msg.now) (omega (arith, length-map elements (element_value (λ s. shown s)))))
+    (tail_elements (map (element_value (λ s. shown s)) elements) (chars c.args.self.now.msg.now)
+    (omega (arith, length-map elements (element_value (λ s. shown s)))))

@@ -13,6 +13,7 @@ returns-then-has_any g c =
 
 pub returns : goal.returns
 returns g c =
-    let none = no_items (element_value (text_of g.S.AsStr.text)) c.args.elements.now (λ h. no_truth (c.if-has_any.ensures.1 h)) in
+    let none =
+    no_items (element_value (text_of g.S.AsStr.text)) c.args.elements.now (λ h. no_truth (c.if-has_any.ensures.1 h)) in
     let list = no_list_told c.args.rule (chars c.args.msg.now) c.begins_list.result c.begins_list.ensures in
     ((λ h e. list.0 h), (λ h. list.1 (h none)))

@@ -5,4 +5,5 @@ use Rattle.syslog_pieces.specs.StructuredData.Element.{element_value}
 use Rattle.syslog_loose.proofs.message.canonical.have_params.Given as goal
 
 abbrev pub invariant-loop-element : goal.invariant-loop-element
-invariant-loop-element g l = AllByRecursion (λ e. 0 < length e.params) (map (element_value (text_of g.S.AsStr.text)) (take l.element-index l.elements))
+invariant-loop-element g l = AllByRecursion (λ e. 0 < length e.params)
+    (map (element_value (text_of g.S.AsStr.text)) (take l.element-index l.elements))

@@ -8,4 +8,5 @@ returns-then-not-is_only g c =
 
 pub returns : goal.returns
 returns g c =
-    let label = rw c.as_str.ensures at c.if-not-is_only.ensures in last_is c.is_bracketed.result (label.0 refl) c.is_bracketed.ensures
+    let label = rw c.as_str.ensures at c.if-not-is_only.ensures in
+    last_is c.is_bracketed.result (label.0 refl) c.is_bracketed.ensures

@@ -5,4 +5,5 @@ use Rattle.syslog_loose.proofs.message.copies.own_elements.Given as goal
 
 abbrev pub invariant-loop-element : goal.invariant-loop-element
 invariant-loop-element l =
-    map (element_value (text_of string_bytes)) l.copies.items ≡ map (element_value (λ s. shown s)) (take l.element-index l.elements)
+    map (element_value (text_of string_bytes)) l.copies.items
+    ≡ map (element_value (λ s. shown s)) (take l.element-index l.elements)

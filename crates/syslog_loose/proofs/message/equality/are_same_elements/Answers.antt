@@ -6,7 +6,8 @@ use Rattle.syslog_pieces.specs.StructuredData.Equal.{element_eq}
 use Rattle.syslog_loose.proofs.message.equality.are_same_elements.Goals as goal
 
 -- comparing by a function is comparing what it gives
-pointwise-map : {X Y : Type 0} (f : X → Y) (test : Y → Y → Bool) (xs ys : List X) → pointwise (λ x y. test (f x) (f y)) xs ys ≡ pointwise test (map f xs) (map f ys)
+pointwise-map : {X Y : Type 0} (f : X → Y) (test : Y → Y → Bool) (xs ys : List X)
+    → pointwise (λ x y. test (f x) (f y)) xs ys ≡ pointwise test (map f xs) (map f ys)
 pointwise-map f test [] [] = refl
 pointwise-map f test [] (y ∷ ys) = refl
 pointwise-map f test (x ∷ xs) [] = refl

@@ -13,4 +13,5 @@ returns g c canonical ok =
     let value = element_value (text_of g.S.AsStr.text) in
     let some : 0 < length elements = nonempty_is _ c.if-is_empty.ensures in
     let joined = c.in_ok-write_joined.ensures canonical refl in
-    put_two _ _ _ _ _ _ _ joined (c.write_str.ensures.writes joined.plain ok) (sym (encodes_spaced (map value elements) (omega (arith, length-map elements value))))
+    put_two _ _ _ _ _ _ _ joined (c.write_str.ensures.writes joined.plain ok)
+    (sym (encodes_spaced (map value elements) (omega (arith, length-map elements value))))

@@ -14,7 +14,8 @@ returns-in-Some c =
     let text = c.args.text.now in
     let n = c.in-Some.number in
     let read = c.in-Some.ensures.value in
-    let each : Each is_ascii_digit text = subst (λ (x : List ℕ). Each is_ascii_digit x) c.as_bytes.ensures.value c.in-Some.ensures.digits in
+    let each : Each is_ascii_digit text =
+    subst (λ (x : List ℕ). Each is_ascii_digit x) c.as_bytes.ensures.value c.in-Some.ensures.digits in
     let same : chars text ≡ text = chars-IsAscii text (digits_ascii text each) in
     let some : 0 < length text = subst (λ (x : List ℕ). 0 < length x) c.as_bytes.ensures.value read.0 in
     let value : n ≡ digits_value 10 text = read.2 ∙ ap (digits_value 10) c.as_bytes.ensures.value in

@@ -5,4 +5,5 @@ use Rattle.syslog_pieces.proofs.structured_data.StructuredElement.try_clone.Give
 
 abbrev pub invariant-loop-name : goal.invariant-loop-name
 invariant-loop-name g l =
-    map (param_value (text_of g.S.AsStr.text)) l.params.items ≡ map (param_value (text_of g.S.AsStr.text)) (take l.name-index l.name-items)
+    map (param_value (text_of g.S.AsStr.text)) l.params.items
+    ≡ map (param_value (text_of g.S.AsStr.text)) (take l.name-index l.name-items)

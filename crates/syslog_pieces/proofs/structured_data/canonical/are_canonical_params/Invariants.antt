@@ -6,4 +6,5 @@ use Rattle.syslog_pieces.specs.StructuredData.Canonical.{IsCanonicalParam}
 use Rattle.syslog_pieces.proofs.structured_data.canonical.are_canonical_params.Given as goal
 
 abbrev pub invariant-loop-param : goal.invariant-loop-param
-invariant-loop-param g l = AllByRecursion IsCanonicalParam (map (param_value (text_of g.S.AsStr.text)) (take l.param-index l.params))
+invariant-loop-param g l =
+    AllByRecursion IsCanonicalParam (map (param_value (text_of g.S.AsStr.text)) (take l.param-index l.params))

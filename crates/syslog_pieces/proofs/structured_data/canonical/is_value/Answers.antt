@@ -9,21 +9,26 @@ pub units-init : goal.units-init
 units-init c = (c.utf8.text, meets_here value (chars c.args.text.now ++ (34 ∷ [])))
 
 pub returns-in_default : goal.returns-in_default
-returns-in_default c = value_ends c.args.text.now c.units.rest.now c.split_run.result.0.now c.split_run.result.1.now c.split_run.ensures c.units.invariant.1 c.in_default.ensures
+returns-in_default c = value_ends c.args.text.now c.units.rest.now c.split_run.result.0.now c.split_run.result.1.now
+    c.split_run.ensures c.units.invariant.1 c.in_default.ensures
 
 pub returns-then-c-eq34 : goal.returns-then-c-eq34
 returns-then-c-eq34 c =
-    value_quoted c.args.text.now c.units.rest.now c.split_run.result.0.now c.split_run.result.1.now c.split_run.ensures c.units.invariant.1
+    value_quoted c.args.text.now c.units.rest.now c.split_run.result.0.now c.split_run.result.1.now c.split_run.ensures
+    c.units.invariant.1
     c.in-Some.c (chars c.in-Some.more.now) c.in-Some.ensures.0 c.if-c-eq34.true
 
 pub returns-in_default-first : goal.returns-in_default-first
 returns-in_default-first c =
-    value_lone c.args.text.now c.units.rest.now c.split_run.result.0.now c.split_run.result.1.now c.split_run.ensures c.units.invariant.1
+    value_lone c.args.text.now c.units.rest.now c.split_run.result.0.now c.split_run.result.1.now c.split_run.ensures
+    c.units.invariant.1
     c.in-Some.c (chars c.in-Some.more.now) c.in-Some.ensures.0 c.if-c-eq34.false c.in_default-first.ensures
 
 pub units-preserved : goal.units-preserved
 units-preserved c = (
   c.in-Some-first.ensures.1,
-  value_on c.args.text.now c.units.rest.now c.split_run.result.0.now c.split_run.result.1.now c.split_run.ensures c.units.invariant.1
-      c.in-Some.c (chars c.in-Some.more.now) c.in-Some.ensures.0 c.if-c-eq34.false _ (chars c.in-Some-first.behind.now) c.in-Some-first.ensures.0,
+  value_on c.args.text.now c.units.rest.now c.split_run.result.0.now c.split_run.result.1.now c.split_run.ensures
+      c.units.invariant.1
+      c.in-Some.c (chars c.in-Some.more.now) c.in-Some.ensures.0 c.if-c-eq34.false _ (chars c.in-Some-first.behind.now)
+      c.in-Some-first.ensures.0,
 )

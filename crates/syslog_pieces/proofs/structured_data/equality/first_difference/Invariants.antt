@@ -4,4 +4,5 @@ use Rattle.syslog_pieces.specs.StructuredData.Element.{param_value}
 use Rattle.syslog_pieces.proofs.structured_data.equality.first_difference.Given as goal
 
 abbrev pub invariant-loop-at : goal.invariant-loop-at
-invariant-loop-at g l = map (param_value (text_of g.S.AsStr.text)) (take l.at l.a) ≡ map (param_value (text_of g.S.AsStr.text)) (take l.at l.b)
+invariant-loop-at g l = map (param_value (text_of g.S.AsStr.text)) (take l.at l.a)
+    ≡ map (param_value (text_of g.S.AsStr.text)) (take l.at l.b)

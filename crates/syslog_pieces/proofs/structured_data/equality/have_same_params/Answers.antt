@@ -10,4 +10,5 @@ pub returns : goal.returns
 returns g c =
     let start = c.first_difference-start.result in
     rw (slice_to_end c.args.a.now start, slice_to_end c.args.b.now start) at c.are_as_frequent.ensures
-    ∙ counted_from (text_of g.S.AsStr.text) c.args.a.now c.args.b.now start c.if-a-b.false c.first_difference-start.ensures.same
+    ∙ counted_from (text_of g.S.AsStr.text) c.args.a.now c.args.b.now start c.if-a-b.false
+    c.first_difference-start.ensures.same

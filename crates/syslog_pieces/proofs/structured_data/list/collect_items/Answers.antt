@@ -7,10 +7,13 @@ use Rattle.syslog_pieces.specs.StructuredData.{item}
 use Rattle.syslog_pieces.specs.Pieces.View.{shown}
 use Rattle.syslog_pieces.proofs.StructuredDataLemmas.Closing.{byte_count_slice, dead_whole}
 use Rattle.syslog_pieces.proofs.StructuredDataLemmas.Elements.{item_shorter}
-use Rattle.syslog_pieces.proofs.StructuredDataLemmas.Items.{any_push, none_is_not_some, none_broken, strict_all, strict_asks, strict_there, collected_strict, collected_broken}
+use Rattle.syslog_pieces.proofs.StructuredDataLemmas.Items.{any_push, none_is_not_some, none_broken}
+use Rattle.syslog_pieces.proofs.StructuredDataLemmas.Items.{strict_all, strict_asks, strict_there}
+use Rattle.syslog_pieces.proofs.StructuredDataLemmas.Items.{collected_strict, collected_broken}
 use Rattle.syslog_pieces.proofs.PieceLemmas.Lists.{has_read_more, has_read_all}
 use Rattle.syslog_pieces.proofs.structured_data.list.collect_items.Goals as goal
-use Rattle.syslog_pieces.proofs.structured_data.list.collect_items.Goals.{then-item+in_ok-element+in-Some-2+in_ok-push, else-item}
+use Rattle.syslog_pieces.proofs.structured_data.list.collect_items.Goals.{then-item+in_ok-element+in-Some-2+in_ok-push}
+use Rattle.syslog_pieces.proofs.structured_data.list.collect_items.Goals.{else-item}
 
 pub returns-in_err-noted-clause-memory : goal.returns-in_err-noted-clause-memory
 returns-in_err-noted-clause-memory c n =
@@ -42,7 +45,8 @@ returns-in_err-element-clause-memory c n =
 pub returns-in_default-2-clause-items : goal.returns-in_default-2-clause-items
 returns-in_default-2-clause-items c =
     let found = c.in-Some.ensures.1 in
-    absurd (strict_there (chars c.items.rest.now) (chars c.in-Some.item.rest.now) found.0 (sym c.if-item.true ∙ found.2) found.1 (rw c.in_default-2.is at c.in_ok-element.ensures))
+    absurd (strict_there (chars c.items.rest.now) (chars c.in-Some.item.rest.now) found.0
+    (sym c.if-item.true ∙ found.2) found.1 (rw c.in_default-2.is at c.in_ok-element.ensures))
 
 pub returns-in_err-push-clause-memory : goal.returns-in_err-push-clause-memory
 returns-in_err-push-clause-memory c n =
@@ -60,7 +64,8 @@ items-preserved c =
       found.2,
       (
         i.0 ++ (found.1.0 ∷ []),
-        has_read_more item (chars c.args.text.now) (chars c.items.rest.now) (chars c.in-Some.item.rest.now) i.0 found.1.0 i.1 found.1.1,
+        has_read_more item (chars c.args.text.now) (chars c.items.rest.now)
+            (chars c.in-Some.item.rest.now) i.0 found.1.0 i.1 found.1.1,
         elim c.if-item.branch [
           | then-item+in_ok-element+in-Some-2+in_ok-push w ↦
               collected_strict view c.items.elements.items i.0 i.2 (chars c.items.rest.now)
@@ -76,4 +81,5 @@ items-preserved c =
     )
 
 pub items-smaller : goal.items-smaller
-items-smaller c = item_shorter (chars c.items.rest.now) (chars c.in-Some.item.rest.now) c.in-Some.ensures.1.0 c.in-Some.ensures.1.1
+items-smaller c =
+    item_shorter (chars c.items.rest.now) (chars c.in-Some.item.rest.now) c.in-Some.ensures.1.0 c.in-Some.ensures.1.1

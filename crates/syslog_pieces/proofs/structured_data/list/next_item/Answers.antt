@@ -16,7 +16,8 @@ returns-in-Ok c =
 
 pub returns-in_err-rest-in-Err : goal.returns-in_err-rest-in-Err
 returns-in_err-rest-in-Err c =
-    let n : NoFront item (chars c.args.text.now) = no_item (chars c.args.text.now) c.in-Err.ensures.0 c.in_err-rest-in-Err.ensures in search rules
+    let n : NoFront item (chars c.args.text.now) =
+    no_item (chars c.args.text.now) c.in-Err.ensures.0 c.in_err-rest-in-Err.ensures in search rules
 
 pub returns-in_ok-rest-in-Err : goal.returns-in_ok-rest-in-Err
 returns-in_ok-rest-in-Err c =
@@ -24,5 +25,6 @@ returns-in_ok-rest-in-Err c =
       search rules,
       (None, bracketed_item (chars c.args.text.now) (chars c.in_ok-rest-in-Err.rest.now) c.in-Err.ensures.0 f.1, refl),
       dead_on bracketed (chars c.args.text.now) (chars c.in_ok-rest-in-Err.rest.now) f.0 _ f.1
-          (subst (λ (x : ℕ). IsDead (chars c.args.text.now) x) (sym c.min.ensures) (dead_least (chars c.args.text.now) c.in-Err.failed c.args.dead c.in-Err.ensures.1 c.requires)),
+          (subst (λ (x : ℕ). IsDead (chars c.args.text.now) x) (sym c.min.ensures)
+          (dead_least (chars c.args.text.now) c.in-Err.failed c.args.dead c.in-Err.ensures.1 c.requires)),
     )

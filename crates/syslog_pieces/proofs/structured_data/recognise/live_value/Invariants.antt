@@ -7,7 +7,8 @@ use Rattle.syslog_pieces.proofs.PieceLemmas.Meets.{Meets}
 use Rattle.syslog_pieces.proofs.structured_data.recognise.live_value.Given as goal
 
 abbrev pub invariant-units : goal.invariant-units
-invariant-units l = shadow (Utf8 l.rest) × Meets value (chars l.text) value (chars l.rest) × ((p : List ℕ) × (chars l.text ≡ p ++ chars l.rest))
+invariant-units l = shadow (Utf8 l.rest) × Meets value (chars l.text) value (chars l.rest)
+    × ((p : List ℕ) × (chars l.text ≡ p ++ chars l.rest))
 
 abbrev pub decreases-units : goal.decreases-units
 decreases-units l = length (chars l.rest)

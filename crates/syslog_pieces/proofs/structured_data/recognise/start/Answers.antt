@@ -17,12 +17,15 @@ abbrev blanks : Class
 blanks = run is_blank
 
 pub returns-in_err-rest : goal.returns-in_err-rest
-returns-in_err-rest c = let n : NoFront start (chars c.args.text.now) = row_none_here bracket (id ∷ blanks ∷ []) c.in_err-rest.ensures in search rules
+returns-in_err-rest c = let n : NoFront start (chars c.args.text.now) = row_none_here bracket
+    (id ∷ blanks ∷ []) c.in_err-rest.ensures in search rules
 
 pub returns-in_err-id : goal.returns-in_err-id
 returns-in_err-id c =
-    let n : NoFront start (chars c.args.text.now) = row_none_later bracket (id ∷ blanks ∷ []) (exactly_det (91 ∷ [])) c.in_ok-rest.ensures (row_none_here id (blanks ∷ []) c.in_err-id.ensures) in
+    let n : NoFront start (chars c.args.text.now) = row_none_later bracket (id ∷ blanks ∷ [])
+    (exactly_det (91 ∷ [])) c.in_ok-rest.ensures (row_none_here id (blanks ∷ []) c.in_err-id.ensures) in
     search rules
 
 pub returns : goal.returns
-returns c = row_cons bracket (id ∷ blanks ∷ []) c.in_ok-rest.ensures (row_cons id (blanks ∷ []) c.in_ok-id.ensures (row_cons blanks [] c.blanks.ensures (row_nil _)))
+returns c = row_cons bracket (id ∷ blanks ∷ []) c.in_ok-rest.ensures
+    (row_cons id (blanks ∷ []) c.in_ok-id.ensures (row_cons blanks [] c.blanks.ensures (row_nil _)))

@@ -11,8 +11,12 @@ use Rattle.syslog_pieces.proofs.StructuredDataLemmas.Rfc3164List.{full_shorter}
 use Rattle.syslog_pieces.proofs.structured_data.rfc3164_list.full_elements.Goals as goal
 
 pub elements-init : goal.elements-init
-elements-init c =
-    (search rules, subst (λ (x : List ElementValue). HasRead full_element (chars c.args.text.now) x (chars c.args.text.now)) (sym (ap (map (element_value (λ (s : Bor (List ℕ)). shown s))) c.new-elements.ensures.items)) (has_read_none full_element (chars c.args.text.now)))
+elements-init c = (
+  search rules,
+  subst (λ (x : List ElementValue). HasRead full_element (chars c.args.text.now) x (chars c.args.text.now))
+      (sym (ap (map (element_value (λ (s : Bor (List ℕ)). shown s))) c.new-elements.ensures.items))
+      (has_read_none full_element (chars c.args.text.now)),
+)
 
 pub returns-in_err-element-clause-memory : goal.returns-in_err-element-clause-memory
 returns-in_err-element-clause-memory c n =
@@ -36,7 +40,8 @@ elements-preserved c =
     ∙ map-append (element_value (λ (s : Bor (List ℕ)). shown s)) c.elements.elements.items
     (c.in-Some.element ∷ []) in (
       search rules,
-      subst (λ (x : List ElementValue). HasRead full_element (chars c.args.text.now) x (chars c.in-Some.next.now)) (sym e)
+      subst (λ (x : List ElementValue). HasRead full_element (chars c.args.text.now) x (chars c.in-Some.next.now))
+          (sym e)
           (has_read_more full_element (chars c.args.text.now) (chars c.elements.rest.now)
           (chars c.in-Some.next.now) _ _ c.elements.invariant.1
           (rw c.in-Some.is at c.in_ok-element.ensures.element)),

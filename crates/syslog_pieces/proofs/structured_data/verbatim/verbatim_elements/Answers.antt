@@ -7,4 +7,8 @@ pub elements-init : goal.elements-init
 elements-init c = (search rules, list_first (chars c.args.text.now) (chars c.in_ok-rest.rest.now) c.in_ok-rest.ensures)
 
 pub elements-preserved : goal.elements-preserved
-elements-preserved c = (search rules, list_more (chars c.args.text.now) (chars c.elements.rest.now) (chars c.in-Some.next.now) c.elements.invariant.1 c.in-Some.ensures)
+elements-preserved c = (
+  search rules,
+  list_more (chars c.args.text.now) (chars c.elements.rest.now)
+      (chars c.in-Some.next.now) c.elements.invariant.1 c.in-Some.ensures,
+)

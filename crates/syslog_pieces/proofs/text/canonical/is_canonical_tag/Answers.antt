@@ -8,12 +8,14 @@ use Rattle.syslog_pieces.proofs.text.canonical.is_canonical_tag.Goals as goal
 pub returns-in-Some-name : goal.returns-in-Some-name
 returns-in-Some-name c =
     let t = chars c.args.text.now in
-    present_told tag_word.Is tag_word_det IsCanonicalTag t tag_whole (tag_back t) (chars c.in-Some.rest.now) c.in-Some.name c.in-Some-name.field-0 _ c.in-Some-name.is c.in-Some.ensures c.is_end.ensures
+    present_told tag_word.Is tag_word_det IsCanonicalTag t tag_whole (tag_back t) (chars c.in-Some.rest.now)
+    c.in-Some.name c.in-Some-name.field-0 _ c.in-Some-name.is c.in-Some.ensures c.is_end.ensures
 
 pub returns-in-None-name : goal.returns-in-None-name
 returns-in-None-name c =
     let t = chars c.args.text.now in
-    absent_told tag_word.Is tag_word_det IsCanonicalTag t tag_whole (tag_back t) (chars c.in-Some.rest.now) c.in-Some.name c.in-None-name.is c.in-Some.ensures
+    absent_told tag_word.Is tag_word_det IsCanonicalTag t tag_whole (tag_back t)
+    (chars c.in-Some.rest.now) c.in-Some.name c.in-None-name.is c.in-Some.ensures
 
 pub returns-in-None : goal.returns-in-None
 returns-in-None c =

@@ -11,4 +11,8 @@ returns c =
     let v = chunk c.args.at 16 c.args.bytes.now in
     let long = length-chunk c.args.at 16 c.args.bytes.now c.requires in
     run_in (byte_in Tag) c.args.bytes.now c.args.at _ _ c.requires c.type_inv.bytes c.first_set.ensures _
-    (joined _ _ _ v (joined _ _ _ v (joined _ _ _ v (joined (λ a b. cond (ltb a b) 255 0) _ _ v (zip2_splat {Y = ℕ} _ v 16 9 long) (splat_is v 16 5 long)) (zip2_splat {Y = ℕ} _ v 16 32 long)) (joined (λ a b. cond (leb a b) 255 0) _ _ v (splat_is v 16 128 long) (itself v))) (zip2_splat {Y = ℕ} _ v 16 58 long)) refl
+    (joined _ _ _ v (joined _ _ _ v
+    (joined _ _ _ v (joined (λ a b. cond (ltb a b) 255 0) _ _ v (zip2_splat {Y = ℕ} _ v 16 9 long)
+    (splat_is v 16 5 long)) (zip2_splat {Y = ℕ} _ v 16 32 long))
+    (joined (λ a b. cond (leb a b) 255 0) _ _ v (splat_is v 16 128 long) (itself v)))
+    (zip2_splat {Y = ℕ} _ v 16 58 long)) refl

@@ -8,4 +8,5 @@ pub split_at-requires : goal.split_at-requires
 split_at-requires c = front_cut c.args.text.now c.args.rest.now c.utf8.text c.utf8.rest c.requires.0 c.requires.1
 
 pub returns : goal.returns
-returns c = front_chars c.args.text.now c.args.rest.now c.utf8.text c.utf8.rest c.requires.0 c.requires.1 c.split_at.result.0.now c.split_at.ensures.front
+returns c = front_chars c.args.text.now c.args.rest.now c.utf8.text c.utf8.rest c.requires.0 c.requires.1
+    c.split_at.result.0.now c.split_at.ensures.front

@@ -32,8 +32,10 @@ returns-clause-value c =
     let l = c.digits in
     let front = c.split_at.result.0.now in
     let none = at_drop_all (fraction_value (9 - l.digit-index)) _ _ c.digits-test.false ∙ fraction_value-nil _ in
-    let cut : take c.min.result front ≡ take 9 front = rw (c.min.ensures, ← c.split_at.ensures.front_len, min_comm) (take_min 9 front) in
-    let value : l.nanosecond ≡ fraction_value 9 front = omega (arith, ap (fraction_value 9) cut, fraction_value-take 9 front) in
+    let cut : take c.min.result front ≡ take 9 front =
+    rw (c.min.ensures, ← c.split_at.ensures.front_len, min_comm) (take_min 9 front) in
+    let value : l.nanosecond ≡ fraction_value 9 front =
+    omega (arith, ap (fraction_value 9) cut, fraction_value-take 9 front) in
     grind (arith, nat_tests, common_steps)
 
 pub returns-clause-small : goal.returns-clause-small

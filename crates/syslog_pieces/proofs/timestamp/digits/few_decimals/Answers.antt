@@ -7,4 +7,5 @@ returns-then-not-begins_with_digit-clause-value c =
 
 pub returns-clause-value : goal.returns-clause-value
 returns-clause-value c =
-    six-read _ _ _ _ _ c.in_ok-milli.ensures.small c.in_ok-micro.ensures.small c.in_ok-milli.ensures.text c.in_ok-micro.ensures.text c.if-begins_with_digit.ensures
+    six-read _ _ _ _ _ c.in_ok-milli.ensures.small c.in_ok-micro.ensures.small c.in_ok-milli.ensures.text
+    c.in_ok-micro.ensures.text c.if-begins_with_digit.ensures

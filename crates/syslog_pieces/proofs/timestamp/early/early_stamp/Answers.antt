@@ -25,6 +25,7 @@ returns c =
       civil = c.if-not-is_early.ensures refl from to;
       from = from;
       to = to;
-      instant = instant ∙ early_instant f c.days-days.result c.args.offset.seconds c.second_at-second.result c.nanosecond_at.result from count (rw offset at second) nanos;
+      instant = instant ∙ early_instant f c.days-days.result c.args.offset.seconds c.second_at-second.result
+          c.nanosecond_at.result from count (rw offset at second) nanos;
       at_offset = refl;
     }

@@ -3,7 +3,8 @@ use Rattle.std.specs.Str.{chars}
 use Rattle.syslog_pieces.specs.Pieces.Class.{NoFront, Front}
 use Rattle.syslog_pieces.specs.Timestamp.MonthDate.{month_date}
 use Rattle.syslog_pieces.specs.declared.timestamp.month_date.MonthDate.{MonthDate}
-use Rattle.syslog_pieces.proofs.TimestampLemmas.MonthReading.{no_day, no_year, no_clock, month_date_yearless, month_date_dated}
+use Rattle.syslog_pieces.proofs.TimestampLemmas.MonthReading.{no_day, no_year, no_clock}
+use Rattle.syslog_pieces.proofs.TimestampLemmas.MonthReading.{month_date_yearless, month_date_dated}
 use Rattle.syslog_pieces.proofs.timestamp.month_date.any_date.Goals as goal
 
 pub returns-in_err-day : goal.returns-in_err-day
@@ -11,7 +12,8 @@ returns-in_err-day c = let n : NoFront month_date (chars c.args.text.now) = no_d
 
 pub returns-in-Some : goal.returns-in-Some
 returns-in-Some c =
-    subst (λ (x : MonthDate). Front month_date (chars c.args.text.now) (chars c.in-Some.after.now) x) (sym c.date_of.ensures)
+    subst (λ (x : MonthDate). Front month_date (chars c.args.text.now) (chars c.in-Some.after.now) x)
+    (sym c.date_of.ensures)
     (month_date_yearless c.in_ok-day.day c.in_ok-day.ensures c.in-Some.clock c.in-Some.ensures.0 c.in-Some.ensures.1)
 
 pub returns-in_err-year : goal.returns-in_err-year
@@ -22,9 +24,12 @@ returns-in_err-year c =
 pub returns-in_err-clock : goal.returns-in_err-clock
 returns-in_err-clock c =
     let n : NoFront month_date (chars c.args.text.now) =
-    no_clock c.in_ok-day.day c.in_ok-day.ensures c.in-None.ensures c.in_ok-year.year c.in_ok-year.ensures c.in_err-clock.ensures in search rules
+    no_clock c.in_ok-day.day c.in_ok-day.ensures c.in-None.ensures c.in_ok-year.year c.in_ok-year.ensures
+    c.in_err-clock.ensures in search rules
 
 pub returns : goal.returns
 returns c =
-    subst (λ (x : MonthDate). Front month_date (chars c.args.text.now) (chars c.in_ok-clock.rest.now) x) (sym c.date_of-2.ensures)
-    (month_date_dated c.in_ok-day.day c.in_ok-day.ensures c.in_ok-year.year c.in_ok-clock.clock c.in_ok-clock.ensures.0 c.in_ok-year.ensures c.in_ok-clock.ensures.1)
+    subst (λ (x : MonthDate). Front month_date (chars c.args.text.now) (chars c.in_ok-clock.rest.now) x)
+    (sym c.date_of-2.ensures)
+    (month_date_dated c.in_ok-day.day c.in_ok-day.ensures c.in_ok-year.year c.in_ok-clock.clock c.in_ok-clock.ensures.0
+    c.in_ok-year.ensures c.in_ok-clock.ensures.1)

@@ -17,7 +17,8 @@ returns-in_err-date c =
 pub returns-in_err-stamp : goal.returns-in_err-stamp
 returns-in_err-stamp c =
     let n : NoFront (rfc3164_stamp (dating_value c.args.dating.now)) (chars c.args.text.now) =
-    no_stamp_of_date (dating_value c.args.dating.now) c.in-None.ensures c.in_ok-date.date c.in_ok-date.ensures c.in_err-stamp.ensures in search rules
+    no_stamp_of_date (dating_value c.args.dating.now) c.in-None.ensures c.in_ok-date.date c.in_ok-date.ensures
+    c.in_err-stamp.ensures in search rules
 
 pub returns : goal.returns
 returns c = date_front (dating_value c.args.dating.now) c.in_ok-stamp.stamp c.in_ok-date.ensures c.in_ok-stamp.ensures

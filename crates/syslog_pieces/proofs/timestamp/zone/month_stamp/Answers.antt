@@ -13,8 +13,10 @@ returns-in_err-year c =
     no_such_year (dating_value c.args.dating.now) c.args.date (c.in_err-year.ensures.none refl) in search rules
 
 fields_are : (fields other : CivilFields) (dating : Dating) (r : Option OffsetTimestamp) → fields ≡ other
-    → IsAnswer (IsStampOfFields dating.zone dating.local fields) r → IsAnswer (IsStampOfFields dating.zone dating.local other) r
-fields_are fields other dating r e h = subst (λ (f : CivilFields). IsAnswer (IsStampOfFields dating.zone dating.local f) r) e h
+    → IsAnswer (IsStampOfFields dating.zone dating.local fields) r
+    → IsAnswer (IsStampOfFields dating.zone dating.local other) r
+fields_are fields other dating r e h =
+    subst (λ (f : CivilFields). IsAnswer (IsStampOfFields dating.zone dating.local f) r) e h
 
 pub returns-in-None : goal.returns-in-None
 returns-in-None c =

@@ -16,5 +16,7 @@ abbrev pub invariant-loop-item : goal.invariant-loop-item
 invariant-loop-item l =
     (goal.iterator-loop-item).can_next l.item-iterator
     × (goal.iterator-loop-item).is_finite l.item-iterator
-    × (AllByRecursion (IsOther (chars l.rule.name.now) (chars l.rule.value.now)) (map (param_value (λ s. shown s)) l.item-iterator)
-    ↔ AllByRecursion (IsOther (chars l.rule.name.now) (chars l.rule.value.now)) (element_value (λ s. shown s) l.element).params)
+    × (AllByRecursion (IsOther (chars l.rule.name.now) (chars l.rule.value.now))
+    (map (param_value (λ s. shown s)) l.item-iterator)
+    ↔ AllByRecursion (IsOther (chars l.rule.name.now) (chars l.rule.value.now))
+    (element_value (λ s. shown s) l.element).params)

@@ -10,7 +10,8 @@ returns-in-Ok c =
 
 pub returns-in-Err-Invalid : goal.returns-in-Err-Invalid
 returns-in-Err-Invalid c =
-    in_year_map (λ year u. inl (u, refl)) (in_year_told (rw c.in-Err-Invalid.field-0-is at c.in-Err-Invalid.ensures.reads)
+    in_year_map (λ year u. inl (u, refl))
+    (in_year_told (rw c.in-Err-Invalid.field-0-is at c.in-Err-Invalid.ensures.reads)
     (λ date y is. (λ e. is.1.0 e ∙ to_z-of_z w32 _ c.ranges.last, λ o. is.1.1 o ∙ to_z-of_z w32 _ c.ranges.now)))
 
 pub returns-in-Err-Memory : goal.returns-in-Err-Memory

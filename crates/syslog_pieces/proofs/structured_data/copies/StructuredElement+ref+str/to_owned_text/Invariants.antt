@@ -5,4 +5,5 @@ use Rattle.syslog_pieces.proofs.structured_data.copies.StructuredElement+ref+str
 
 abbrev pub invariant-loop-name : goal.invariant-loop-name
 invariant-loop-name l =
-    map (param_value (text_of string_bytes)) l.params.items ≡ map (param_value (λ s. shown s)) (take l.name-index l.name-items)
+    map (param_value (text_of string_bytes)) l.params.items
+    ≡ map (param_value (λ s. shown s)) (take l.name-index l.name-items)
