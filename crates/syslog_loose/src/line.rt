@@ -80,7 +80,7 @@ fn spaced_tail(text: &str) -> Option<(&str, Option<Cut<'_>>)>
     Some((rest, cut))
 }
 
-// The same where a gap may be wider. It stands apart, since what it carries along costs the others some thirty
+// The same where a gap may be wider. It stands apart, since what it carries along costs the others some twenty
 // instructions.
 #[cold]
 #[inline(never)]
