@@ -10,7 +10,7 @@ use Rattle.std.specs.Fmt.{decimal}
 use Rattle.std.specs.Option.{option_map_or}
 use Rattle.syslog_pieces.specs.Bodies.Verbatim.{Copies, CopiedOn}
 use Rattle.syslog_pieces.specs.Bodies.VerbatimStamp.{zone_text, IsVerbatimStamp}
-use Rattle.syslog_pieces.specs.Pieces.Class.{Text, Class, Front, run, some_run, optional, rest}
+use Rattle.syslog_pieces.specs.Pieces.Class.{Text, Class, Values, Front, run, some_run, optional, rest}
 use Rattle.syslog_pieces.specs.Pieces.Verbatim.{Verbatim}
 use Rattle.syslog_pieces.specs.Pieces.View.{seen}
 use Rattle.syslog_pieces.specs.Pri.{priority, priority_text, facility_of, severity_of, facility_number, severity_number}
@@ -304,12 +304,16 @@ module _ (t b c zone d n front head start end : Text) (left : Option Cut) (msg :
       ap₂ (λ (x y : Text). x ++ y) (stamp_prints z.value (z.copied ++ zone_text is_zulu) z.prints) (sym tail_is)
       ∙ append_assoc z.copied (zone_text is_zulu) (tail ++ (32 ∷ o))
 
+  abbrev behind_names : Values (process_word ∷ some_run is_blank ∷ word ∷ run is_blank ∷ forgiving ∷ run is_blank
+      ∷ rest ∷ [])
+  behind_names = (l.procid, (tt, (l.msgid, (tt, (l.elements, (tt, (o, tt)))))))
+
   -- the whole line
   pub line_verbatim : PrintsVerbatim5424 t front is_zulu (head ++ (end ++ spaced msg))
   unfolding printed_5424
   line_verbatim = record {
     values =
-        (Some k.pri, (k.version, (tt, (z.value, (tt, (l.hostname, (tt, (l.appname, (tt, (l.procid, (tt, (l.msgid, (tt, (l.elements, (tt, (o, tt))))))))))))))));
+        (Some k.pri, (k.version, (tt, (z.value, (tt, (l.hostname, (tt, (l.appname, (tt, behind_names)))))))));
     is = rows_join front_row (some_run is_blank ∷ header_stamp ∷ (tail_row ++ (run is_blank ∷ rest ∷ []))) k.is
         (row_cons (some_run is_blank) (header_stamp ∷ (tail_row ++ (run is_blank ∷ rest ∷ [])))
         (front_of (some_run is_blank) (λ _. 32 ∷ []) b c s)

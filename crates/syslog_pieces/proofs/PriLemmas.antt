@@ -1,6 +1,7 @@
 -- The priority, and its two parts.
 use Rattle.std.proofs.Common.{◌≡◌, ◌≤◌, ◌<◌, ◌-◌, ◌/◌, ◌%◌, ◌+◌, ℕ, zero, suc, inl, inr, List, [], ◌∷◌, ◌++◌, length}
-use Rattle.std.proofs.Common.{drop, Option, Some, None, MatchOption, refl, sym, ap, subst, ◌∙◌, append_assoc, arith}
+use Rattle.std.proofs.Common.{drop, map, Option, Some, None, MatchOption, refl, sym, ap, subst, ◌∙◌}
+use Rattle.std.proofs.Common.{append_assoc, arith}
 use Rattle.std.specs.Prelude.{slice_get}
 use Rattle.std.proofs.lemmas.List.{append_cancel_right}
 use Rattle.std.proofs.lemmas.Option.{slice_get_past}
@@ -164,30 +165,35 @@ facility_told n None h = sym (past n h)
 facility_told n (Some f) h = sym (ap (slice_get facilities) (sym h) ∙ facility_placed f)
 
 -- ---- a number below the list's length is that of the value at its place
-module _ {F : Type 0} (number : F → ℕ) where
-  abbrev AreNumbered : ℕ → List F → Type 0
-  AreNumbered first [] = Unit {0}
-  AreNumbered first (f ∷ fs) = (number f ≡ first) × AreNumbered (suc first) fs
+abbrev upward : ℕ → ℕ → List ℕ
+upward _ zero = []
+upward first (suc n) = first ∷ upward (suc first) n
 
-  numbered : (fs : List F) (first n : ℕ) → AreNumbered first fs → n < length fs → (f : F) × (slice_get fs n ≡ Some f)
-      × (number f ≡ first + n)
+abbrev first_of : List ℕ → ℕ
+first_of [] = 0
+first_of (x ∷ _) = x
+
+abbrev rest_of : List ℕ → List ℕ
+rest_of [] = []
+rest_of (_ ∷ xs) = xs
+
+module _ {F : Type 0} (number : F → ℕ) where
+  numbered : (fs : List F) (first n : ℕ) → map number fs ≡ upward first (length fs) → n < length fs
+      → (f : F) × (slice_get fs n ≡ Some f) × (number f ≡ first + n)
   numbered [] first n a h = absurd (omega arith)
-  numbered (f ∷ fs) first zero a h = (f, refl, a.0 ∙ omega arith)
-  numbered (f ∷ fs) first (suc n) a h = let (g, there, e) = numbered fs (suc first) n a.1 (omega arith) in
+  numbered (f ∷ fs) first zero a h = (f, refl, ap first_of a ∙ omega arith)
+  numbered (f ∷ fs) first (suc n) a h =
+      let (g, there, e) = numbered fs (suc first) n (ap rest_of a) (omega arith) in
       (g, there, e ∙ omega arith)
 
 numbered_facility : (n : ℕ) → n < 24 → (f : SyslogFacility) × (slice_get facilities n ≡ Some f)
     × (facility_number f ≡ n)
 numbered_facility n h =
-    let all : AreNumbered facility_number 0 facilities =
-    ((refl, (refl, (refl, (refl, (refl, (refl, (refl, (refl, (refl, (refl, (refl, (refl, (refl, (refl, (refl, (refl, (refl, (refl, (refl, (refl, (refl, (refl, (refl, (refl, tt))))))))))))))))))))))))) in
-    let (f, there, e) = numbered facility_number facilities 0 n all h in (f, there, e ∙ omega arith)
+    let (f, there, e) = numbered facility_number facilities 0 n refl h in (f, there, e ∙ omega arith)
 
 numbered_severity : (n : ℕ) → n < 8 → (s : SyslogSeverity) × (slice_get severities n ≡ Some s) × (severity_number s ≡ n)
 numbered_severity n h =
-    let all : AreNumbered severity_number 0 severities =
-    ((refl, (refl, (refl, (refl, (refl, (refl, (refl, (refl, tt))))))))) in
-    let (s, there, e) = numbered severity_number severities 0 n all h in (s, there, e ∙ omega arith)
+    let (s, there, e) = numbered severity_number severities 0 n refl h in (s, there, e ∙ omega arith)
 
 pub priority_composed : (pri : ℕ) → pri < 192 → (f : SyslogFacility) × (s : SyslogSeverity)
     × (facility_of pri ≡ Some f) × (severity_of pri ≡ Some s) × (composed f s ≡ pri)

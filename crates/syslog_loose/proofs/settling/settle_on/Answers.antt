@@ -3,8 +3,6 @@ use Rattle.std.proofs.lemmas.Result.{err_from_is_err_and}
 use Rattle.std.specs.Str.{chars}
 use Rattle.syslog_loose.proofs.SettlingLemmas.Settles.{round_fault, round_answer, round_more, too_many}
 use Rattle.syslog_loose.proofs.settling.settle_on.Goals as goal
-use Rattle.syslog_loose.proofs.settling.settle_on.Goals.{else-loop-done-test}
-use Rattle.syslog_loose.proofs.settling.settle_on.Goals.{then-loop-done-test+in_ok-settled+else-settled+else-done-done-end}
 
 pub loop-done-init : goal.loop-done-init
 loop-done-init c = c.requires
@@ -31,8 +29,8 @@ loop-done-preserved c =
 pub unreachable-requires : goal.unreachable-requires
 unreachable-requires c =
     elim c.loop-done-test.branch [
-      | else-loop-done-test w ↦ (let a = w.loop-done-test.false in let b = c.loop-done.auto.done-end in omega arith)
-      | then-loop-done-test+in_ok-settled+else-settled+else-done-done-end w ↦ (
+      | goal.else-loop-done-test w ↦ (let b = c.loop-done.auto.done-end in omega (w.loop-done-test.false, arith))
+      | goal.then-loop-done-test+in_ok-settled+else-settled+else-done-done-end w ↦ (
           let round = rw (w.as_str.ensures.value, w.swap.ensures.x_after) at
           (w.in_ok-settled.ensures (chars w.as_str.result.now) w.trimmed.ensures) in
           let reached = round_more _ _ _ _ _ _ _ c.loop-done.invariant w.if-settled.false round.told in
