@@ -26,8 +26,6 @@ mod rfc5424;
 mod rounds;
 mod settling;
 mod tag_form;
-#[cfg(test)]
-mod tests;
 mod variant;
 
 pub use dash_change::reads_differently;

@@ -17,8 +17,6 @@ mod list;
 mod params;
 mod recognise;
 pub mod rfc3164_list;
-#[cfg(test)]
-mod tests;
 mod verbatim;
 
 use crate::as_str::AsStr;

@@ -17,8 +17,6 @@ mod lanes;
 mod looks;
 mod numerals;
 mod scan;
-#[cfg(test)]
-mod tests;
 pub mod verbatim;
 pub mod write_ascii;
 

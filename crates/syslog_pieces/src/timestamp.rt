@@ -30,8 +30,6 @@ pub mod month_date;
 pub mod rfc3164;
 mod rfc3339_text;
 mod standard;
-#[cfg(test)]
-mod tests;
 pub mod verbatim;
 pub mod zone;
 

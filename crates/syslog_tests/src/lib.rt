@@ -1,12 +1,10 @@
-//! Tests of `syslog_loose` by its public calls, of what no contract says: worked texts with the messages that they read
-//! as, printed texts, rounds, and refused memory. They stand in a crate of their own so that the library is not proved
-//! once more with them.
+//! Tests of `syslog_loose` of what no contract says of a text: worked texts with the messages that they read as, printed
+//! texts, and messages that are compared and copied. They stand in a crate of their own so that the library is not
+//! proved once more with them. `syslog_calls_tests` has the tests of its calls.
 #![tactic(auto)]
 
 #[cfg(test)]
 mod built;
-#[cfg(test)]
-mod calls;
 #[cfg(test)]
 mod comparison;
 #[cfg(test)]
@@ -19,7 +17,3 @@ mod refusals;
 mod rfc3164;
 #[cfg(test)]
 mod rfc5424;
-#[cfg(test)]
-mod rounds;
-#[cfg(test)]
-mod sizes;

@@ -3,8 +3,7 @@ use jiff::tz::TimeZone;
 use std::alloc::Global;
 use std::process::Abort;
 use syslog_loose::{
-    IncompleteDate, Message, ParseFault, Variant, normalise, parse_message_with_year_exact_tz,
-    settle,
+    IncompleteDate, Message, ParseFault, Variant, parse_message_with_year_exact_tz,
 };
 
 /// A zone at +01:00 in winter and at +02:00 in summer.
@@ -57,40 +56,6 @@ pub(super) fn read_by_month<'a>(
     )
 }
 
-/// The text of the message, in this year where a date shows none.
-pub(super) fn normalised(
-    alloc: Global,
-    text: &str,
-    year: i32,
-    tz: Option<&TimeZone<'_>>,
-) -> Result<String, ParseFault> {
-    normalise(
-        alloc,
-        text,
-        move |_: IncompleteDate| year,
-        tz,
-        Variant::Either,
-        &TimeZone::UTC,
-    )
-}
-
-/// What the text settles as.
-pub(super) fn settled(
-    alloc: Global,
-    text: &str,
-    year: i32,
-    tz: Option<&TimeZone<'_>>,
-) -> Result<String, ParseFault> {
-    settle(
-        alloc,
-        text,
-        move |_: IncompleteDate| year,
-        tz,
-        Variant::Either,
-        &TimeZone::UTC,
-    )
-}
-
 /// No text has a division by the variant.
 pub(super) fn check_invalid(rt: &impl Abort, alloc: Global, variant: Variant, texts: &[&str]) {
     for text in texts {
@@ -98,13 +63,5 @@ pub(super) fn check_invalid(rt: &impl Abort, alloc: Global, variant: Variant, te
             Ok(_) => assert!(rt; false, "a message in {text:?}"),
             Err(fault) => assert_eq!(rt; fault, ParseFault::Invalid, "{text:?}"),
         }
-    }
-}
-
-/// The text was not printed, since it has no division.
-pub(super) fn check_no_text(rt: &impl Abort, answer: Result<String, ParseFault>, text: &str) {
-    match answer {
-        Ok(printed) => assert!(rt; false, "{text}: {printed}"),
-        Err(fault) => assert_eq!(rt; fault, ParseFault::Invalid, "{text}"),
     }
 }

@@ -1,62 +1,78 @@
-//! Refused memory: `tests/calls_refused`, in the gate, refuses each request of these tests in turn.
-//!
-//! Each test asks for no memory but by the calls that it is about. Those named `answers_..` pass whichever request is
-//! refused, those named `asks_..` make none, and those named `sees_no_refusal..` fail at each that is refused.
-mod calls;
-mod copies;
-mod lists;
-mod normalising;
-mod rounds;
-
-use std::fmt;
-use std::fmt::Write;
+//! Refused memory where a text has elements.
+use super::expected::check_elements;
+use super::reading::read;
+use std::alloc::Global;
 use std::process::Abort;
-use syslog_loose::{Message, ParseFault};
+use syslog_loose::{Message, ParseFault, Variant};
 
-/// Compares what is written with a text, and takes no memory.
-#[derive(Drop)]
-struct Comparison<'a> {
-    rest: &'a str,
-    differs: bool,
-}
+/// A text with two elements, the elements with lines as in `Expected`, and the message behind them.
+const LISTED: (&str, &str, &str) = (
+    "<13>1 2019-02-13T19:48:34+00:00 74794bfb6795 root 8449 - [meta sequenceId=\"1\" sysUpTime=\"37\" \
+     language=\"EN\"][origin ip=\"192.168.0.1\" software=\"test\"] i am foobar",
+    "meta|sequenceId|1|sysUpTime|37|language|EN\norigin|ip|192.168.0.1|software|test",
+    "i am foobar",
+);
 
-impl fmt::Write for Comparison<'_> {
-    fn write_str(&mut self, text: &str) -> fmt::Result {
-        match self.rest.strip_prefix(text) {
-            Some(rest) => self.rest = rest,
-            None => self.differs = true,
-        }
-        Ok(())
-    }
-}
+/// A text with one element.
+const SINGLE: (&str, &str, &str) = ("1 - - - - - [a b=\"c\"] x", "a|b|c", "x");
 
-/// Whether it prints as this text.
-fn prints<D: fmt::Display>(it: &D, want: &str) -> bool {
-    let mut comparison = Comparison {
-        rest: want,
-        differs: false,
-    };
-    let written = write!(comparison, "{it}");
-    written.is_ok() && !comparison.differs && comparison.rest.is_empty()
-}
-
-/// The answer is a message that prints so.
-fn check_reading(
+fn check_answer(
     rt: &impl Abort,
     answer: Result<Message<&str>, ParseFault>,
-    text: &str,
-    want: &str,
+    elements: &str,
+    msg: &str,
 ) {
     match answer {
-        Ok(message) => assert!(rt; prints(&message, want), "{message} in place of {want}"),
-        Err(fault) => assert!(rt; false, "{fault} in place of a message in {text}"),
+        Ok(message) => {
+            check_elements(rt, &message.structured_data, elements);
+            assert_eq!(rt; message.msg, msg);
+        }
+        Err(fault) => assert!(rt; false, "{fault} in place of a message"),
     }
 }
 
-/// The answer is this text.
-fn check_text(rt: &impl Abort, answer: Result<String, ParseFault>, want: &str) {
-    match answer {
-        Ok(printed) => assert_eq!(rt; printed.as_str(), want),
-        Err(fault) => assert!(rt; false, "{fault} in place of {want}"),
+fn read_again<'a>(
+    alloc: Global,
+    text: &'a str,
+    variant: Variant,
+) -> Result<Message<&'a str>, ParseFault> {
+    match read(alloc, text, variant) {
+        Err(ParseFault::Memory) => read(alloc, text, variant),
+        other => other,
+    }
+}
+
+#[test]
+fn answers_that_memory_for_elements_was_refused_and_then_as_ever(rt: HostRuntime) {
+    for variant in [Variant::Either, Variant::RFC5424] {
+        for (text, elements, msg) in [LISTED, SINGLE] {
+            check_answer(&rt, read_again(rt.alloc(), text, variant), elements, msg);
+        }
+    }
+}
+
+#[test]
+fn sees_no_refusal_for_elements(rt: HostRuntime) {
+    for variant in [Variant::Either, Variant::RFC5424] {
+        for (text, elements, msg) in [LISTED, SINGLE] {
+            check_answer(&rt, read(rt.alloc(), text, variant), elements, msg);
+        }
+    }
+}
+
+#[test]
+fn asks_for_no_memory_where_no_element_is_kept(rt: HostRuntime) {
+    for (text, msg) in [
+        ("1 - - - - - [a b=\"x]y\" ]z", "y\" ]z"),
+        (
+            "<13>1 2019-02-13T19:48:34+00:00 74794bfb6795 root 8449 - [incorrect x] qwerty",
+            "qwerty",
+        ),
+    ] {
+        check_answer(&rt, read(rt.alloc(), text, Variant::Either), "", msg);
+    }
+    match read(rt.alloc(), "1 - - - - - [a b=\"c", Variant::Either) {
+        Ok(_) => assert!(rt; false, "a message in a text that is cut"),
+        Err(fault) => assert_eq!(rt; fault, ParseFault::Invalid),
     }
 }

@@ -1,0 +1,77 @@
+//! Refused memory in copies of elements: see `refusals`.
+use super::is_element;
+use super::refusals::{ELEMENT, PARAMETERS, Tries, element_of};
+use std::alloc::{AllocError, Global};
+use std::process::Abort;
+use syslog_pieces::structured_data::StructuredElement;
+
+fn is_owned(element: &StructuredElement<String>) -> bool {
+    element.id.as_str() == "id"
+        && element.params.len() == PARAMETERS.len()
+        && element.params.iter().zip(PARAMETERS).all(|(own, want)| own.0.as_str() == want.0
+            && own.1.as_str() == want.1)
+}
+
+fn check_clone(rt: &impl Abort, alloc: Global, element: &StructuredElement<&str>, tries: Tries) {
+    let copy = match element.try_clone(alloc) {
+        Err(AllocError) if tries == Tries::Twice => element.try_clone(alloc),
+        other => other,
+    };
+    match copy {
+        Ok(copy) => assert!(rt; is_element(&copy, "id", &PARAMETERS)),
+        Err(_) => assert!(rt; false, "no copy"),
+    }
+    assert!(rt; is_element(element, "id", &PARAMETERS));
+}
+
+fn check_owned(rt: &impl Abort, alloc: Global, element: &StructuredElement<&str>, tries: Tries) {
+    let owned = match element.to_owned_text(alloc) {
+        Err(AllocError) if tries == Tries::Twice => element.to_owned_text(alloc),
+        other => other,
+    };
+    match owned {
+        Ok(owned) => {
+            assert!(rt; is_owned(&owned));
+            check_owned_clone(rt, alloc, &owned, tries);
+        }
+        Err(_) => assert!(rt; false, "no copy with texts of its own"),
+    }
+    assert!(rt; is_element(element, "id", &PARAMETERS));
+}
+
+fn check_owned_clone(
+    rt: &impl Abort,
+    alloc: Global,
+    owned: &StructuredElement<String>,
+    tries: Tries,
+) {
+    let copy = match owned.try_clone(alloc) {
+        Err(AllocError) if tries == Tries::Twice => owned.try_clone(alloc),
+        other => other,
+    };
+    match copy {
+        Ok(copy) => assert!(rt; is_owned(&copy)),
+        Err(_) => assert!(rt; false, "no copy of the copy"),
+    }
+    assert!(rt; is_owned(owned));
+}
+
+fn check_copies(rt: &impl Abort, alloc: Global, tries: Tries) {
+    match element_of(alloc, ELEMENT, tries) {
+        Ok(Some((element, _))) => {
+            check_clone(rt, alloc, &element, tries);
+            check_owned(rt, alloc, &element, tries);
+        }
+        _ => assert!(rt; false, "no element"),
+    }
+}
+
+#[test]
+fn answers_that_memory_for_a_copy_was_refused(rt: HostRuntime) {
+    check_copies(&rt, rt.alloc(), Tries::Twice);
+}
+
+#[test]
+fn sees_no_refusal_of_copies(rt: HostRuntime) {
+    check_copies(&rt, rt.alloc(), Tries::Once);
+}
