@@ -211,11 +211,13 @@ fn last_dash(text: &str) -> &str
     ensures { (n : ℕ) × PassesDashes n (chars text.now) (shown result) }
 {
     let mut from = past_many_dashes(text);
-    'dashes: while let Some(rest) = behind_dash(from) {
-        if behind_dash(rest).is_none() {
-            break 'dashes;
-        }
+    let Some(behind) = behind_dash(from) else {
+        return from;
+    };
+    let mut rest = behind;
+    'dashes: while let Some(next) = behind_dash(rest) {
         from = rest;
+        rest = next;
     }
     from
 }

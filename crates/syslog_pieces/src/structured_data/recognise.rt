@@ -115,9 +115,7 @@ pub(super) fn after_value(text: &str) -> Option<&str>
         if let Some(behind) = literal(after, '"') {
             return Some(behind);
         }
-        let Some((_, more)) = unit(after) else {
-            return None;
-        };
+        let (_, more) = unit(after)?;
         rest = more;
     }
 }

@@ -1,4 +1,7 @@
+use Rattle.std.proofs.Common.{rules}
 use Rattle.std.specs.Str.{chars}
+use Rattle.syslog_pieces.specs.Bodies.Closing.{quoted}
+use Rattle.syslog_pieces.specs.Pieces.Class.{NoFront}
 use Rattle.syslog_pieces.specs.Text.CharClass.{is_unescaped_char}
 use Rattle.syslog_pieces.proofs.StructuredDataLemmas.Recognise.{unescaped_plain, value_quoted, no_quoted, value_on}
 use Rattle.syslog_pieces.proofs.structured_data.recognise.after_value.Goals as goal
@@ -8,16 +11,18 @@ returns-in-Some c = value_quoted is_unescaped_char unescaped_plain (chars c.args
     c.split_plain.result.0.now c.split_plain.result.1.now
     c.split_plain.ensures c.units.invariant.1 (chars c.in-Some.behind.now) c.in-Some.ensures
 
-pub returns-in_default-unit : goal.returns-in_default-unit
-returns-in_default-unit c = no_quoted is_unescaped_char unescaped_plain (chars c.args.text.now) c.units.rest.now
+pub returns-in_err-more : goal.returns-in_err-more
+returns-in_err-more c = let n : NoFront quoted (chars c.args.text.now) =
+    no_quoted is_unescaped_char unescaped_plain (chars c.args.text.now) c.units.rest.now
     c.split_plain.result.0.now c.split_plain.result.1.now
-    c.split_plain.ensures c.units.invariant.1 c.in_default-unit.ensures
+    c.split_plain.ensures c.units.invariant.1 c.in_err-more.ensures in
+    search rules
 
 pub units-preserved : goal.units-preserved
 units-preserved c = (
-  c.in-Some-unit.ensures.0,
+  c.in_ok-more.ensures.0,
   value_on is_unescaped_char unescaped_plain (chars c.args.text.now) c.units.rest.now
       c.split_plain.result.0.now c.split_plain.result.1.now
-      c.split_plain.ensures c.units.invariant.1 _ c.in-Some-unit.ensures.1.1
-      (chars c.in-Some-unit.more.now) c.in-Some-unit.ensures.1.2,
+      c.split_plain.ensures c.units.invariant.1 _ c.in_ok-more.ensures.1.1
+      (chars c.in_ok-more.more.now) c.in_ok-more.ensures.1.2,
 )
