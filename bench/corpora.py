@@ -229,6 +229,7 @@ HOSTILE_LISTS = [
     ("open_values", lambda size: filled('[a b="]', size)),
     ("open_escapes", lambda size: filled('[a b="\\]', size)),
     ("open_value", lambda size: '[a b="' + filled("c", size)),
+    ("value_of_brackets", lambda size: '[a b="' + filled("]", size)),
     ("escaped_value", lambda size: '[a b="' + filled("\\c", size) + '"] x'),
     ("open_brackets", lambda size: filled("[", size)),
     ("closed_brackets", lambda size: "[" + filled("]", size)),

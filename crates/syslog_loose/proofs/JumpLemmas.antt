@@ -1,16 +1,18 @@
 -- What the readers of a skipped round tell.
 use Rattle.std.proofs.Common.{◌≡◌, ℕ, zero, suc, ◌+◌, ◌-◌, ◌<◌, true, false, map, Result, Ok, Err, subst, List}
-use Rattle.std.proofs.Common.{[], ◌∷◌, ◌++◌, length, Option, Some, None, refl, sym, ap, ◌∙◌, arith, append_assoc}
+use Rattle.std.proofs.Common.{[], ◌∷◌, ◌++◌, length, Option, Some, None, refl, sym, ap, ◌∙◌, arith, append_assoc, append-nil}
 use Rattle.std.proofs.lemmas.List.{length-append}
 use Rattle.std.specs.Borrow.{Bor}
 use Rattle.std.specs.Prelude.{MatchOption, OnOk}
 use Rattle.std.specs.Str.{chars, encode_utf8_all, IsUtf8}
+use Rattle.std.specs.Str.Pattern.{FindsTextPrefix, FindsTextSuffix, StripsPrefix, StripsSuffix}
 use Rattle.std.proofs.lemmas.Str.{chars_from_encodes, encodes-append, encodes-chars, length-le-encodes}
 use Rattle.std.specs.Option.{is_some}
-use Rattle.syslog_pieces.specs.Pieces.Class.{Text, Front, NoFront, exactly, some_run}
+use Rattle.syslog_pieces.specs.Pieces.Class.{Text, Ends, Front, NoFront, exactly, some_run}
 use Rattle.syslog_pieces.specs.Pieces.View.{shown, Skips}
-use Rattle.syslog_pieces.specs.Text.{is_blank, colon, name_text}
-use Rattle.syslog_loose.specs.Jumps.{colons_before, message_end, tail_text, past_colons, EndsColons, IsDashed, with_msg}
+use Rattle.syslog_pieces.specs.Text.{is_blank, EndsInColon, name_text}
+use Rattle.syslog_loose.specs.Jumps.{colons_before, message_end, tail_text, past_colons, CutsColons, EndsColons}
+use Rattle.syslog_loose.specs.Jumps.{IsDashed, PassesDashes, with_msg}
 use Rattle.syslog_loose.specs.Message.{MessageValue}
 use Rattle.syslog_loose.specs.Printed.{timestamp_text, tag_text, spaced_elements, priority_of, printed_3164, printed}
 use Rattle.std.specs.Fmt.{decimal}
@@ -47,6 +49,55 @@ dash_told t q f (Some x) g = record {
 pub dash_shorter : (t rest : Text) → IsDashed t rest → length rest < length t
 dash_shorter t rest d = omega (arith, ap length d.whole, length-append d.blanks rest)
 
+-- n dashes, each with a space behind it
+abbrev pub spaced_dashes : ℕ → Text
+spaced_dashes zero = []
+spaced_dashes (suc n) = 45 ∷ 32 ∷ spaced_dashes n
+
+dashes_more : (n : ℕ) (t : Text) → spaced_dashes (suc n) ++ t ≡ spaced_dashes n ++ (45 ∷ 32 ∷ t)
+dashes_more zero t = refl
+dashes_more (suc n) t = ap (λ (x : Text). 45 ∷ 32 ∷ x) (dashes_more n t)
+
+one_dashed : (t next : Text) → IsDashed t next → IsDashed (45 ∷ 32 ∷ t) t
+one_dashed t next d = record {
+  blanks = 32 ∷ [];
+  whole = refl;
+  some = omega arith;
+  each = (refl, tt);
+  no_more = subst (Ends is_blank) (sym d.whole) refl;
+}
+
+pub passes_spaced : (n : ℕ) (t next : Text) → IsDashed t next → PassesDashes n (spaced_dashes n ++ t) t
+passes_spaced zero t next d = refl
+passes_spaced (suc n) t next d =
+    let one = one_dashed t next d in (
+      45 ∷ 32 ∷ t,
+      subst (λ (x : Text). PassesDashes n x (45 ∷ 32 ∷ t)) (sym (dashes_more n t))
+          (passes_spaced n (45 ∷ 32 ∷ t) t one),
+      one,
+      next,
+      d,
+    )
+
+pub passes_both : (m n : ℕ) (a b t : Text) → PassesDashes m a b → PassesDashes n b t → (k : ℕ) × PassesDashes k a t
+passes_both m zero a b t p q = (m, subst (λ (x : Text). PassesDashes m a x) (sym q) p)
+passes_both m (suc n) a b t p (before, q, d, next, f) =
+    let (k, r) = passes_both m n a b before p q in (suc k, (before, r, d, next, f))
+
+dashes_alone : (n : ℕ) → encode_utf8_all (spaced_dashes n) ≡ spaced_dashes n
+unfolding encode_utf8
+dashes_alone zero = refl
+dashes_alone (suc n) = ap (λ (x : Text). 45 ∷ 32 ∷ x) (dashes_alone n)
+
+-- what `strip_prefix` of dashes tells
+pub dashes_front : (bytes rest : List ℕ) (n : ℕ) → IsUtf8 bytes → IsUtf8 rest
+    → StripsPrefix (FindsTextPrefix (spaced_dashes n)) bytes rest → chars bytes ≡ spaced_dashes n ++ chars rest
+dashes_front bytes rest n u v (k, (long, whole, cut), behind_is, fits) =
+    sym (chars_from_encodes (spaced_dashes n ++ chars rest) bytes u
+    (encodes-append (spaced_dashes n) (chars rest)
+    ∙ ap (λ (x : List ℕ). x ++ encode_utf8_all (chars rest)) (dashes_alone n)
+    ∙ ap (λ (x : List ℕ). spaced_dashes n ++ x) (encodes-chars rest v ∙ behind_is) ∙ sym whole))
+
 -- ---- the end of a line
 empty_end : (t : Text) (bytes : List ℕ) → encode_utf8_all t ≡ bytes → length bytes ≡ 0
     → encode_utf8_all (message_end t) ≡ []
@@ -81,12 +132,18 @@ tail_elements (e ∷ es) msg l =
     ap (λ (x : List ℕ). 32 ∷ x) (sym (encodes-append (joined_elements (e ∷ es)) (message_end msg)))
 
 -- ---- colons
-colons_suc : (n : ℕ) → colons_before (suc n) [] ≡ colons_before n [] ++ (32 ∷ 58 ∷ [])
-colons_suc zero = refl
-colons_suc (suc n) = ap (λ (x : Text). 32 ∷ 58 ∷ x) (colons_suc n)
+colons_both : (m n : ℕ) → colons_before (m + n) [] ≡ colons_before m [] ++ colons_before n []
+colons_both zero n = let z : zero + n ≡ n = omega arith in ap (λ (k : ℕ). colons_before k []) z
+colons_both (suc m) n =
+    let z : suc m + n ≡ suc (m + n) = omega arith in ap (λ (k : ℕ). colons_before k []) z
+    ∙ ap (λ (x : Text). 32 ∷ 58 ∷ x) (colons_both m n)
 
-pub colons_more : (n : ℕ) → colons_before (n + 1) [] ≡ colons_before n [] ++ (32 ∷ 58 ∷ [])
-colons_more n = let z : n + 1 ≡ suc n = omega arith in ap (λ (k : ℕ). colons_before k []) z ∙ colons_suc n
+-- what was pushed m times and then n times more
+pub colons_pushed : (old mid new : List ℕ) (m n k : ℕ) → mid ≡ old ++ colons_before m []
+    → new ≡ mid ++ colons_before n [] → m + n ≡ k → new ≡ old ++ colons_before k []
+colons_pushed old mid new m n k e f same =
+    f ∙ ap (λ (x : List ℕ). x ++ colons_before n []) e ∙ append_assoc old (colons_before m []) (colons_before n [])
+    ∙ ap (λ (x : List ℕ). old ++ x) (sym (colons_both m n) ∙ ap (λ (j : ℕ). colons_before j []) same)
 
 pub colons_apart : (n : ℕ) (t : Text) → colons_before n t ≡ colons_before n [] ++ t
 colons_apart zero t = refl
@@ -97,19 +154,51 @@ unfolding encode_utf8
 colons_encode zero = refl
 colons_encode (suc n) = ap (λ (x : Text). 32 ∷ 58 ∷ x) (colons_encode n)
 
-pub colons_cut : (name host shorter : Text) (n : ℕ) → name ≡ host ++ colons n → host ≡ shorter ++ colon
-    → name ≡ shorter ++ colons (n + 1)
-colons_cut name host shorter n e f =
-    e ∙ ap (λ (x : Text). x ++ colons n) f ∙ append_assoc shorter colon (colons n) ∙ ap (λ (k : ℕ). shorter ++ colons k)
-    (let z : suc n ≡ n + 1 = omega arith in z)
+colons_sum : (n c : ℕ) → colons n ++ colons c ≡ colons (c + n)
+colons_sum zero c = let z : c ≡ c + zero = omega arith in ap colons z
+colons_sum (suc n) c =
+    let z : suc (c + n) ≡ c + suc n = omega arith in ap (λ (x : Text). 58 ∷ x) (colons_sum n c) ∙ ap colons z
 
--- what `strip_suffix` of a colon tells
-pub suffix_some : (bytes short : List ℕ) → IsUtf8 bytes → IsUtf8 short → bytes ≡ short ++ (58 ∷ [])
-    → chars bytes ≡ chars short ++ colon
+pub colons_cut : (name host shorter : Text) (c n : ℕ) → name ≡ host ++ colons c → host ≡ shorter ++ colons n
+    → name ≡ shorter ++ colons (c + n)
+colons_cut name host shorter c n e f =
+    e ∙ ap (λ (x : Text). x ++ colons c) f ∙ append_assoc shorter (colons n) (colons c)
+    ∙ ap (λ (x : Text). shorter ++ x) (colons_sum n c)
+
+colons_alone : (n : ℕ) → encode_utf8_all (colons n) ≡ colons n
 unfolding encode_utf8
-suffix_some bytes short u v e =
-    sym (chars_from_encodes (chars short ++ colon) bytes u
-    (encodes-append (chars short) colon ∙ ap (λ (x : List ℕ). x ++ (58 ∷ [])) (encodes-chars short v) ∙ sym e))
+colons_alone zero = refl
+colons_alone (suc n) = ap (λ (x : Text). 58 ∷ x) (colons_alone n)
+
+-- what `strip_suffix` of a text tells
+pub suffix_bytes : (run bytes short : List ℕ) → StripsSuffix (FindsTextSuffix run) bytes short → bytes ≡ short ++ run
+suffix_bytes run bytes short (n, (long, whole, cut), front_is, fits) =
+    whole ∙ ap (λ (x : List ℕ). x ++ run) (sym front_is)
+
+-- the same by characters, of colons
+pub suffix_some : (bytes short : List ℕ) (n : ℕ) → IsUtf8 bytes → IsUtf8 short → bytes ≡ short ++ colons n
+    → chars bytes ≡ chars short ++ colons n
+suffix_some bytes short n u v e =
+    sym (chars_from_encodes (chars short ++ colons n) bytes u
+    (encodes-append (chars short) (colons n) ∙ ap (λ (x : List ℕ). x ++ encode_utf8_all (colons n)) (encodes-chars short v)
+    ∙ ap (λ (x : List ℕ). short ++ x) (colons_alone n) ∙ sym e))
+
+pub cut_on : (name host shorter : List ℕ) (c n : ℕ) → CutsColons name host c
+    → chars host ≡ chars shorter ++ colons n → (0 < c + n → EndsInColon (chars shorter)) → CutsColons name shorter (c + n)
+cut_on name host shorter c n k e o = record {
+  whole = colons_cut (chars name) (chars host) (chars shorter) c n k.whole e;
+  keeps = o;
+}
+
+pub cut_twice : (name host shorter : List ℕ) (c n : ℕ) → CutsColons name host c → CutsColons host shorter n
+    → CutsColons name shorter (c + n)
+cut_twice name host shorter c zero k l =
+    cut_on name host shorter c zero k l.whole (λ p.
+    let z : 0 < c = omega (arith, p) in
+    let same : chars host ≡ chars shorter = l.whole ∙ append-nil (chars shorter) in
+    subst EndsInColon same (k.keeps z))
+cut_twice name host shorter c (suc n) k l =
+    cut_on name host shorter c (suc n) k l.whole (λ p. let z : 0 < suc n = omega arith in l.keeps z)
 
 pub some_next : (t : Text) (A : Type 0) (r : Option (Bor (List ℕ))) → is_some r ≡ true
     → MatchOption r A (λ x. IsDashed t (shown x)) → (next : Text) × IsDashed t next

@@ -1,6 +1,7 @@
 -- Rounds whose texts are known before they are read: those in which a host loses a colon each time, and those in which
 -- a message part loses a dash. (All of it is this project's own.)
 use Rattle.std.specs.Prelude.{◌≡◌, ℕ, zero, suc, ◌<◌, List, [], ◌∷◌, ◌++◌, length, Some, None, IfSome}
+use Rattle.std.specs.Str.{chars}
 use Rattle.syslog_pieces.specs.Pieces.Class.{Text, Each, Ends}
 use Rattle.syslog_pieces.specs.Pri.{facility_of, severity_of}
 use Rattle.syslog_pieces.specs.StructuredData.Element.{ElementValue, joined_elements}
@@ -51,6 +52,11 @@ pub record EndsColons (m : MessageValue) (host : Text) (n : ℕ) : Type 0 where
   pub timestamp : IfSome m.timestamp IsCanonicalStamp
   pub hostname : m.hostname ≡ Some (host ++ colons n)
   pub keeps : EndsInColon host
+
+-- the host is the name, both by their bytes, less n colons at its end, of which it keeps one where n is not 0
+pub record CutsColons (name host : List ℕ) (n : ℕ) : Type 0 where
+  pub whole : chars name ≡ chars host ++ colons n
+  pub keeps : 0 < n → EndsInColon (chars host)
 
 -- ---- a message part of dashes
 

@@ -3,7 +3,7 @@
 //! A host of RFC 3164 that ends in colons is read with one fewer each time, and the colon stands in the message part
 //! behind it; of a message part of dashes each reading takes one for an empty list. Each of these rounds is known from
 //! the one before it, so the last of them is written at once.
-ghost use Rattle.std.specs.Prelude.{◌≡◌, ◌+◌, ◌-◌, ◌↔◌, ◌++◌, ◌<◌, ℕ, [], IfSome, IsTrue};
+ghost use Rattle.std.specs.Prelude.{◌≡◌, ◌+◌, ◌*◌, ◌-◌, ◌↔◌, ◌++◌, ◌<◌, ◌≤◌, ℕ, [], IfSome, IsTrue};
 ghost use Rattle.std.specs.Prelude.{MatchOption, OnOk, Some, length, map, string_bytes};
 ghost use Rattle.std.specs.Bool.{◌==◌};
 ghost use Rattle.std.specs.Fmt.{WritesOnOk};
@@ -11,9 +11,8 @@ ghost use Rattle.std.specs.Str.{chars, encode_utf8_all};
 ghost use Rattle.syslog_pieces.specs.Pieces.Class.{Text};
 ghost use Rattle.syslog_pieces.specs.Pieces.View.{shown};
 ghost use Rattle.syslog_pieces.specs.StructuredData.Element.{element_value};
-ghost use Rattle.syslog_pieces.specs.Text.{EndsInColon};
 ghost use Rattle.syslog_pieces.specs.Timestamp.Zone.{Dating};
-ghost use Rattle.syslog_loose.specs.Jumps.{EndsColons, IsDashed, PassesDashes, colons_before};
+ghost use Rattle.syslog_loose.specs.Jumps.{CutsColons, EndsColons, IsDashed, PassesDashes, colons_before};
 ghost use Rattle.syslog_loose.specs.Jumps.{message_end, past_colons, tail_text};
 ghost use Rattle.syslog_loose.specs.Message.{message_value};
 ghost use Rattle.syslog_loose.specs.Printed.{printed};
@@ -31,6 +30,13 @@ use std::fmt;
 use std::fmt::Write;
 use syslog_pieces::structured_data::StructuredElement;
 use syslog_pieces::text::{literal, some_blanks};
+
+// What is passed or written at once of a long run, thirty-two bytes each.
+const COLONS: &str = "::::::::::::::::::::::::::::::::";
+
+const SPACED_COLONS: &str = " : : : : : : : : : : : : : : : :";
+
+const SPACED_DASHES: &str = "- - - - - - - - - - - - - - - - ";
 
 /// Writes a round of the text that was read as this message of RFC 3164: the next one, or the last of those that are
 /// known from it. None before it is settled.
@@ -63,18 +69,31 @@ fn last_colons<'a>(message: &Message<&'a str>) -> Option<(&'a str, usize)>
     if cut == 0 { None } else { Some((host, cut)) }
 }
 
-// The name without all but one of the colons that it ends in, and how many were cut.
+// The name without all but one of the colons that it ends in, and how many were cut: by thirty-two, then one by one.
 fn cut_colons(name: &str) -> (&str, usize)
-    ensures { (chars name.now ≡ shown result.0 ++ colons result.1) × (0 < result.1 → EndsInColon (shown result.0)) }
+    ensures { CutsColons name.now result.0.now result.1 }
+{
+    let (shorter, many) = cut_runs(name, COLONS);
+    let (host, few) = cut_runs(shorter, ":");
+    (host, many + few)
+}
+
+// The same, cut by a run of colons, as often as a colon stands before it.
+#[inline(always)]
+fn cut_runs<'a>(name: &'a str, run: &str) -> (&'a str, usize)
+    requires some { 0 < length run.now }
+    requires colons { run.now ≡ colons (length run.now) }
+    ensures cuts { CutsColons name.now result.0.now result.1 }
+    ensures within { result.1 + length result.0.now ≤ length name.now }
 {
     let mut host = name;
     let mut cut = 0;
-    'cuts: while let Some(shorter) = host.strip_suffix(':') {
+    'cuts: while let Some(shorter) = host.strip_suffix(run) {
         let Some(_front) = shorter.strip_suffix(':') else {
             break 'cuts;
         };
         host = shorter;
-        cut += 1;
+        cut += run.len();
     }
     (host, cut)
 }
@@ -114,12 +133,22 @@ fn write_past_colons(
     Ok(())
 }
 
-// Appends so many times a space and a colon.
+// Appends so many times a space and a colon: by sixteen, then one by one.
 fn push_colons(text: &mut String, count: usize) -> Result<(), AllocError>
     ensures { OnOk result (string_bytes text.new ≡ string_bytes text.old ++ colons_before count []) }
 {
+    push_runs(text, SPACED_COLONS, count / 16)?;
+    push_runs(text, " :", count % 16)
+}
+
+// Appends so many times this text, of spaces and colons.
+#[inline(always)]
+fn push_runs(text: &mut String, run: &str, count: usize) -> Result<(), AllocError>
+    ensures { (each : ℕ) → run.now ≡ colons_before each []
+        → OnOk result (string_bytes text.new ≡ string_bytes text.old ++ colons_before (count * each) []) }
+{
     for done in 0..count {
-        text.push_str(" :")?;
+        text.push_str(run)?;
     }
     Ok(())
 }
@@ -177,14 +206,30 @@ fn are_none(elements: &[StructuredElement<&str>]) -> bool
 }
 
 // The text from the last dash on of those that it begins with, each with blanks behind it; the text itself where none
-// does.
+// does. Dashes with a space behind each are passed by sixteen, the others one by one.
 fn last_dash(text: &str) -> &str
     ensures { (n : ℕ) × PassesDashes n (chars text.now) (shown result) }
 {
+    let mut from = past_many_dashes(text);
+    let Some(behind) = behind_dash(from) else {
+        return from;
+    };
+    let mut rest = behind;
+    'dashes: while let Some(next) = behind_dash(rest) {
+        from = rest;
+        rest = next;
+    }
+    from
+}
+
+// The text behind sixteen dashes with a space each, again and again as long as a further dash follows.
+fn past_many_dashes(text: &str) -> &str
+    ensures { (n : ℕ) × PassesDashes n (chars text.now) (shown result) }
+{
     let mut from = text;
-    'dashes: while let Some(rest) = behind_dash(from) {
+    'many: while let Some(rest) = from.strip_prefix(SPACED_DASHES) {
         if behind_dash(rest).is_none() {
-            break 'dashes;
+            break 'many;
         }
         from = rest;
     }

@@ -1,10 +1,10 @@
 -- The steps of the walk over an element.
-use Rattle.std.proofs.Common.{◌≡◌, ◌≢◌, ℕ, ◌<◌, ◌≤◌, true, false, [], ◌∷◌, ◌++◌, length}
+use Rattle.std.proofs.Common.{◌≡◌, ◌≢◌, ℕ, ◌<◌, ◌≤◌, Bool, true, false, [], ◌∷◌, ◌++◌, length}
 use Rattle.std.proofs.Common.{Result, Ok, Err, refl, sym, ap, subst, ◌∙◌, append_assoc, arith}
 use Rattle.std.proofs.lemmas.List.{length-append, nil_from_length}
 use Rattle.std.specs.Result.{MatchResult}
 use Rattle.std.specs.Str.{chars}
-use Rattle.syslog_pieces.specs.Text.CharClass.{is_inert_char}
+use Rattle.syslog_pieces.specs.Text.CharClass.{is_unescaped_char, is_inert_char}
 use Rattle.syslog_pieces.specs.Pieces.Class.{Text, Class, Front, NoFront, IsDeterministic, Values, Row, Each, exactly}
 use Rattle.syslog_pieces.specs.Bodies.Closing.{start_row, start, inside, opening_row, opening, quoted_row}
 use Rattle.syslog_pieces.specs.Bodies.Closing.{quoted, tail_row, closing, byte_count, IsDead, last_char}
@@ -13,16 +13,16 @@ use Rattle.syslog_pieces.specs.StructuredData.Escapes.{TextUnit, pair, single, u
 use Rattle.syslog_pieces.specs.Pieces.Lists.{list_before, more_before}
 use Rattle.syslog_pieces.specs.Bodies.Scan.{SplitsRun}
 use Rattle.syslog_pieces.specs.StructuredData.{IsValueUnit, value, param, element}
-use Rattle.syslog_pieces.proofs.PieceLemmas.Class.{heads, row_nil, row_cons, row_none_here}
+use Rattle.syslog_pieces.proofs.PieceLemmas.Class.{heads, no_front_no, row_nil, row_cons, row_none_here}
 use Rattle.syslog_pieces.proofs.PieceLemmas.Class.{row_none_later, row_det, exactly_det}
-use Rattle.syslog_pieces.proofs.StructuredDataLemmas.Closing.{behind_bracket, value_closing, no_closing}
+use Rattle.syslog_pieces.proofs.StructuredDataLemmas.Closing.{value_closing, no_closing}
 use Rattle.syslog_pieces.proofs.StructuredDataLemmas.Closing.{dead_values, element_starts, list_enters, tail_enters}
 use Rattle.syslog_pieces.proofs.StructuredDataLemmas.Closing.{no_opening, Passes, passes_here, passes_shut}
 use Rattle.syslog_pieces.proofs.StructuredDataLemmas.Closing.{passes_space, passes_quoted, passes_dead}
 use Rattle.syslog_pieces.proofs.StructuredDataLemmas.Closing.{passes_dead_on, start_shut, opening_shut}
 use Rattle.syslog_pieces.proofs.StructuredDataLemmas.Elements.{value_det, value_here, unit_goes}
 use Rattle.syslog_pieces.proofs.PieceLemmas.Lists.{begins, list_here, more_here, no_list, no_more, no_more_behind}
-use Rattle.syslog_pieces.proofs.PieceLemmas.Meets.{Meets, meets_here, meets_on, meets_none, row_goes}
+use Rattle.syslog_pieces.proofs.PieceLemmas.Meets.{Meets, meets_here, meets_on, meets_none, row_goes, row_first}
 
 -- ---- values
 pub no_value_empty : (t : Text) → t ≡ [] → NoFront value t
@@ -36,16 +36,26 @@ no_value_lone t c n z p q v e ((us, f, h), (r, g), w) =
     let k : p ≡ [] = nil_from_length p (omega (arith, length-append p q)) in
     n (heads c 34 [] r (sym z ∙ e ∙ ap (λ (x : Text). x ++ q) k ∙ g))
 
-inert_is_unit : (c : ℕ) → is_inert_char c ≡ true → IsValueUnit (single c)
-inert_is_unit c h = (
+-- each character of the class is a unit of a value
+abbrev pub AllPlain : (ℕ → Bool) → Type 0
+AllPlain test = (c : ℕ) → test c ≡ true → IsValueUnit (single c)
+
+pub unescaped_plain : AllPlain is_unescaped_char
+unescaped_plain c h = (
+  λ e. (let t = ap is_unescaped_char e in let u : true ≡ false = sym h ∙ t in cc),
+  λ e. (let t = ap is_unescaped_char e in let u : true ≡ false = sym h ∙ t in cc),
+)
+
+pub inert_plain : AllPlain is_inert_char
+inert_plain c h = (
   λ e. (let t = ap is_inert_char e in let u : true ≡ false = sym h ∙ t in cc),
   λ e. (let t = ap is_inert_char e in let u : true ≡ false = sym h ∙ t in cc),
 )
 
-run_goes : (w t : Text) → Each is_inert_char w → Meets value (w ++ t) value t
-run_goes [] t h = meets_here value t
-run_goes (c ∷ w) t h = meets_on value (c ∷ w ++ t) value (w ++ t) value t
-    (unit_goes (single c) (c ∷ w ++ t) (w ++ t) (inert_is_unit c h.0) refl) (run_goes w t h.1)
+run_goes : (test : ℕ → Bool) → AllPlain test → (w t : Text) → Each test w → Meets value (w ++ t) value t
+run_goes test a [] t h = meets_here value t
+run_goes test a (c ∷ w) t h = meets_on value (c ∷ w ++ t) value (w ++ t) value t
+    (unit_goes (single c) (c ∷ w ++ t) (w ++ t) (a c h.0) refl) (run_goes test a w t h.1)
 
 unit_ends : (u : TextUnit) → last_char u ≡ 93 → (a : Text) × (unit_text u ≡ a ++ (93 ∷ []))
 unit_ends (pair c) e = (92 ∷ [], ap (λ (x : ℕ). 92 ∷ x ∷ []) e)
@@ -55,10 +65,11 @@ unit_some : (u : TextUnit) → 0 < length (unit_text u)
 unit_some (pair c) = omega arith
 unit_some (single c) = omega arith
 
-module _ (text bs xs ys : Text) (s : SplitsRun is_inert_char bs xs ys) (m : Meets value text value (chars bs)) where
+module _ (test : ℕ → Bool) (a : AllPlain test) (text bs xs ys : Text) (s : SplitsRun test bs xs ys)
+    (m : Meets value text value (chars bs)) where
   to_end : Meets value text value (chars ys)
   to_end = meets_on value text value (chars bs) value (chars ys) m
-      (subst (λ (x : Text). Meets value x value (chars ys)) (sym s.characters) (run_goes (chars xs) (chars ys) s.each))
+      (subst (λ (x : Text). Meets value x value (chars ys)) (sym s.characters) (run_goes test a (chars xs) (chars ys) s.each))
 
   pub value_quoted : (q : Text) → Front (exactly (34 ∷ [])) (chars ys) q tt → (v : Values quoted_row)
       × Front quoted text q v
@@ -66,10 +77,14 @@ module _ (text bs xs ys : Text) (s : SplitsRun is_inert_char bs xs ys) (m : Meet
       let g = to_end.forth (chars ys) [] (value_here (chars ys) q (f.whole ∙ ap (λ (x : Text). x ++ q) f.is)) in
       ((g.0, (tt, tt)), row_cons value (exactly (34 ∷ []) ∷ []) g.1 (row_cons (exactly (34 ∷ [])) [] f (row_nil q)))
 
-  pub value_missing : NoFront value (chars ys) → NoFront closing text × IsDead text 0 × NoFront quoted text
-  value_missing n =
-      let k = meets_none value text value (chars ys) to_end n in
-      (no_closing text k, dead_values text k, row_none_here value (exactly (34 ∷ []) ∷ []) k)
+  none : NoFront value (chars ys) → NoFront value text
+  none = meets_none value text value (chars ys) to_end
+
+  pub no_quoted : NoFront value (chars ys) → NoFront quoted text
+  no_quoted n = row_none_here value (exactly (34 ∷ []) ∷ []) (none n)
+
+  pub value_missing : NoFront value (chars ys) → NoFront closing text × IsDead text 0
+  value_missing n = let k = none n in (no_closing text k, dead_values text k)
 
   module _ (u : TextUnit) (h : IsValueUnit u) (q : Text) (e : chars ys ≡ unit_text u ++ q) where
     pub value_on : Meets value text value q
@@ -103,8 +118,21 @@ module _ (text bs xs ys : Text) (s : SplitsRun is_inert_char bs xs ys) (m : Meet
       pub value_dead : (d : ℕ) → IsDead text d → d ≤ byte_count q → NoFront closing text
       value_dead d i k = meets_none closing text closing q (value_closing text q value_on) (i before q bracket k)
 
-      pub value_past : (d : ℕ) → d ≤ byte_count q → byte_count text ≤ d → ⊥
-      value_past d k b = let m = ap byte_count bracket in let n = behind_bracket before q in omega (arith, m, n)
+-- what a scan that heeds no number answers, further on in a value
+pub value_further : (text t q : Text) (v : Values quoted_row) → Meets value text value t → Front quoted t q v
+    → (w : Values quoted_row) × Front quoted text q w
+value_further text t q v m f = (row_first value value (exactly (34 ∷ []) ∷ []) text t m).forth q v f
+
+unquoted : (t : Text) → NoFront quoted t → NoFront value t
+unquoted t n p q v e (is, (r, g), w) =
+    no_front_no quoted n (row_cons value (exactly (34 ∷ []) ∷ [])
+    (record { piece = p; whole = e; is = (is, (r, g), w) })
+    (row_cons (exactly (34 ∷ [])) [] (record { piece = 34 ∷ []; whole = g; is = refl }) (row_nil r)))
+
+pub missing_further : (text t : Text) → Meets value text value t → NoFront quoted t
+    → NoFront closing text × IsDead text 0
+missing_further text t m n =
+    let k = meets_none value text value t m (unquoted t n) in (no_closing text k, dead_values text k)
 
 -- ---- an element
 pub quoted_det : IsDeterministic quoted

@@ -9,7 +9,7 @@ ghost use Rattle.syslog_pieces.specs.StructuredData.Rfc3164List.{full_element};
 ghost use Rattle.syslog_pieces.specs.Pieces.View.{shown, Reads};
 
 use super::StructuredElement;
-use super::recognise::{after_element, live_value, opening, start};
+use super::recognise::{after_element, after_value, opening, start};
 use crate::text::literal;
 use std::alloc::{AllocError, Global};
 
@@ -18,13 +18,9 @@ use std::alloc::{AllocError, Global};
 pub(super) fn quoted(text: &str) -> Option<(&str, &str)>
     ensures { Reads quoted_class (λ v. (shown v, (tt, tt))) (chars text.now) result }
 {
-    match live_value(text, text.len()) {
-        Ok(behind) => {
-            let (value, _) = text.split_at(text.len() - behind.len() - 1);
-            Some((value, behind))
-        }
-        Err(_) => None,
-    }
+    let behind = after_value(text)?;
+    let (value, _) = text.split_at(text.len() - behind.len() - 1);
+    Some((value, behind))
 }
 
 // The name and the value of the parameter at the front, and the text behind it.

@@ -4,16 +4,15 @@
 //! and each of the items behind it would be scanned as far again. But whatever scan passes a `]` alive does so inside a
 //! value, so all such scans have one future. A number `dead` keeps it: no element closes from behind a `]` that leaves
 //! `dead` bytes or more. A scan that passes such a `]` stops there.
-ghost use Rattle.std.specs.Prelude.{◌≡◌, ◌<◌, ◌≤◌, ◌++◌, [], ◌∷◌, IsTrue};
+ghost use Rattle.std.specs.Prelude.{◌≡◌, ◌<◌, ◌++◌, [], ◌∷◌, IsTrue, false};
 ghost use Rattle.std.specs.Prelude.{MatchOption, MatchResult, length, slice_index};
 ghost use Rattle.std.specs.Str.{chars, IsUtf8};
 ghost use Rattle.syslog_pieces.specs.Bodies.Scan.{EndsRun, SplitsRun};
 ghost use Rattle.syslog_pieces.specs.Text.CharClass.{has};
-ghost use Rattle.syslog_pieces.specs.declared.text.CharClass.TheVariants.{Inert};
 ghost use Rattle.syslog_pieces.specs.Pieces.Class.{Class, Front, NoFront, exactly, some_run, texted};
 ghost use Rattle.syslog_pieces.specs.Bodies.Closing.{start as start_class, opening as opening_class};
 ghost use Rattle.syslog_pieces.specs.Bodies.Closing.{quoted as quoted_class, id_alone, name_alone};
-ghost use Rattle.syslog_pieces.specs.Bodies.Closing.{closing, byte_count, IsDead, last_char};
+ghost use Rattle.syslog_pieces.specs.Bodies.Closing.{closing, IsDead, last_char};
 ghost use Rattle.syslog_pieces.specs.StructuredData.Escapes.{TextUnit, unit_text};
 ghost use Rattle.syslog_pieces.specs.StructuredData.Rfc3164List.{full_element};
 ghost use Rattle.syslog_pieces.specs.StructuredData.{value, element as element_class};
@@ -82,40 +81,56 @@ fn begins_escape(bytes: &[u8]) -> bool
     }
 }
 
-// Where the run of characters that mean nothing in a value ends. Behind an escape there often stands another one, for
-// which sixteen bytes need not be looked at.
+// Where the run of characters of a class that is without backslashes ends. Behind an escape there often stands another
+// one, for which sixteen bytes need not be looked at.
 #[inline(always)]
-fn inert_end(text: &str) -> usize
-    ensures { EndsRun (has Inert) text.now result }
+fn plain_end(text: &str, class: CharClass) -> usize
+    requires { has class 92 ≡ false }
+    ensures { EndsRun (has class) text.now result }
 {
     if begins_escape(text.as_bytes()) {
         0
     } else {
-        run_end(text, CharClass::Inert)
+        run_end(text, class)
     }
 }
 
 // That run, and the text behind it.
 #[inline(always)]
-fn split_inert(text: &str) -> (&str, &str)
-    ensures { SplitsRun (has Inert) text.now result.0.now result.1.now }
+fn split_plain(text: &str, class: CharClass) -> (&str, &str)
+    requires { has class 92 ≡ false }
+    ensures { SplitsRun (has class) text.now result.0.now result.1.now }
 {
-    text.split_at(inert_end(text))
+    text.split_at(plain_end(text, class))
 }
 
-// The text behind the value at the front and its closing quote. A refusal says that no element closes from here, and
-// gives such a number for the text; under a number past the text it says that no value closes.
+// The text behind the value at the front and its closing quote.
 #[inline(always)]
-pub(super) fn live_value(text: &str, dead: usize) -> Result<&str, usize>
-    requires { IsDead (chars text.now) dead }
-    ensures { MatchResult result
-        (λ behind. (v : quoted_class.Value) × Front quoted_class (chars text.now) (shown behind) v)
-        (λ d. NoFront closing (chars text.now) × IsDead (chars text.now) d
-        × (byte_count (chars text.now) ≤ dead → NoFront quoted_class (chars text.now))) }
+pub(super) fn after_value(text: &str) -> Option<&str>
+    ensures { Recognises quoted_class (chars text.now) result }
 {
     let mut rest = text;
     'units: loop {
-        let (_, after) = split_inert(rest);
+        let (_, after) = split_plain(rest, CharClass::Unescaped);
+        if let Some(behind) = literal(after, '"') {
+            return Some(behind);
+        }
+        let (_, more) = unit(after)?;
+        rest = more;
+    }
+}
+
+// The same. A refusal says that no element closes from here, and gives such a number for the text.
+#[inline(always)]
+fn live_value(text: &str, dead: usize) -> Result<&str, usize>
+    requires { IsDead (chars text.now) dead }
+    ensures { MatchResult result
+        (λ behind. (v : quoted_class.Value) × Front quoted_class (chars text.now) (shown behind) v)
+        (λ d. NoFront closing (chars text.now) × IsDead (chars text.now) d) }
+{
+    let mut rest = text;
+    'units: while rest.len() > dead {
+        let (_, after) = split_plain(rest, CharClass::Inert);
         if let Some(behind) = literal(after, '"') {
             return Ok(behind);
         }
@@ -126,6 +141,11 @@ pub(super) fn live_value(text: &str, dead: usize) -> Result<&str, usize>
             return Err(dead);
         }
         rest = more;
+    }
+    // (From here on no `]` leaves that many bytes.)
+    match after_value(rest) {
+        Some(behind) => Ok(behind),
+        None => Err(0),
     }
 }
 

@@ -2,11 +2,12 @@ use Rattle.std.proofs.Common.{ℕ, length}
 use denote.Shadow.{shadow}
 use denote.Text.{Utf8}
 use Rattle.std.specs.Str.{chars}
-use Rattle.syslog_loose.specs.Jumps.{PassesDashes}
+use Rattle.syslog_loose.specs.Jumps.{IsDashed, PassesDashes}
 use Rattle.syslog_loose.proofs.jumps.last_dash.Given as goal
 
 abbrev pub invariant-dashes : goal.invariant-dashes
-invariant-dashes l = shadow (Utf8 l.from) × ((n : ℕ) × PassesDashes n (chars l.text) (chars l.from))
+invariant-dashes l = shadow (Utf8 l.from) × shadow (Utf8 l.rest)
+    × ((n : ℕ) × PassesDashes n (chars l.text) (chars l.from)) × IsDashed (chars l.from) (chars l.rest)
 
 abbrev pub decreases-dashes : goal.decreases-dashes
-decreases-dashes l = length (chars l.from)
+decreases-dashes l = length (chars l.rest)

@@ -1,11 +1,12 @@
-use Rattle.std.proofs.Common.{[], ◌∷◌, ap, ◌++◌, ◌∙◌, sym, List, ℕ, append_assoc, string_bytes}
-use Rattle.syslog_loose.specs.Jumps.{colons_before}
-use Rattle.syslog_loose.proofs.JumpLemmas.{colons_more}
+use Rattle.std.proofs.Common.{◌≡◌, ◌+◌, ◌*◌, ◌/◌, ◌%◌, refl, arith, string_bytes}
+use Rattle.syslog_loose.proofs.JumpLemmas.{colons_pushed, map_ok}
 use Rattle.syslog_loose.proofs.jumps.push_colons.Goals as goal
 
-pub loop-done-preserved : goal.loop-done-preserved
-loop-done-preserved c =
-    let old = string_bytes c.args.text.now in
-    c.in_ok-push_str.ensures.bytes ∙ ap (λ (x : List ℕ). x ++ (32 ∷ 58 ∷ [])) c.loop-done.invariant
-    ∙ append_assoc old (colons_before c.loop-done.done []) (32 ∷ 58 ∷ [])
-    ∙ ap (λ (x : List ℕ). old ++ x) (sym (colons_more c.loop-done.done))
+pub returns : goal.returns
+returns c =
+    let n = c.args.count in
+    let same : (n / 16) * 16 + (n % 16) * 1 ≡ n = omega arith in
+    let first = c.in_ok-push_runs.ensures 16 refl in
+    let second = c.push_runs-2.ensures 1 refl in
+    map_ok c.push_runs-2.result second (λ e.
+    colons_pushed (string_bytes c.args.text.now) _ _ ((n / 16) * 16) ((n % 16) * 1) n first e same)

@@ -1,0 +1,12 @@
+use Rattle.std.proofs.Common.{ℕ, length}
+use denote.Shadow.{shadow}
+use denote.Text.{Utf8}
+use Rattle.std.specs.Str.{chars}
+use Rattle.syslog_loose.specs.Jumps.{PassesDashes}
+use Rattle.syslog_loose.proofs.jumps.past_many_dashes.Given as goal
+
+abbrev pub invariant-many : goal.invariant-many
+invariant-many l = shadow (Utf8 l.from) × ((n : ℕ) × PassesDashes n (chars l.text) (chars l.from))
+
+abbrev pub decreases-many : goal.decreases-many
+decreases-many l = length l.from
