@@ -61,11 +61,10 @@ module _ (t r : List ℕ) (u : IsUtf8 t) (z : IsUtf8 r) (v : Values quoted_row)
       ∙ ap (λ (y : List ℕ). y ++ chars r) (chars-IsAscii (34 ∷ []) (one_ascii 34 (omega arith))) in
       let piece : first.1.piece ≡ chars xs = append_cancel_right first.1.piece (chars xs) (34 ∷ chars r)
       (sym whole ∙ split ∙ ap (λ (y : List ℕ). chars xs ++ y) rest) in
-      let s = row_head (exactly (34 ∷ [])) [] first.2 in
       row_cons value (exactly (34 ∷ []) ∷ [])
       (record {
         piece = chars xs;
         whole = first.1.whole ∙ ap (λ (y : Text). y ++ first.0) piece;
         is = (subst IsValue piece first.1.is.0, first.1.is.1, refl);
       })
-      (row_cons (exactly (34 ∷ [])) [] s.1 (s.2))
+      first.2

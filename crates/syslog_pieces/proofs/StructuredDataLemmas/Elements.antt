@@ -8,11 +8,12 @@ use Rattle.syslog_pieces.specs.Pieces.Class.{Text, join, Front, IsDeterministic,
 use Rattle.syslog_pieces.specs.StructuredData.Element.{ElementValue}
 use Rattle.syslog_pieces.specs.StructuredData.Escapes.{TextUnit, pair, single, unit_text}
 use Rattle.syslog_pieces.specs.Pieces.Lists.{many, list_before}
+use Rattle.syslog_pieces.specs.Pieces.Class.{Class}
 use Rattle.syslog_pieces.specs.StructuredData.{IsValueUnit, value, param_row, param_of, param, element_row}
 use Rattle.syslog_pieces.specs.StructuredData.{element_of, element, bracketed, item, strict, forgiving}
 use Rattle.syslog_pieces.specs.Text.{is_blank, dash}
-use Rattle.syslog_pieces.proofs.PieceLemmas.Class.{heads, run_det, some_run_det, exactly_det}
-use Rattle.syslog_pieces.proofs.PieceLemmas.Class.{row_det, mapped_det, texted_det}
+use Rattle.syslog_pieces.proofs.PieceLemmas.Class.{heads, run_det, some_run_det, exactly_det, AllDeterministic}
+use Rattle.syslog_pieces.proofs.PieceLemmas.Class.{row_det, mapped_det, texted_det, ◌also◌}
 use Rattle.syslog_pieces.proofs.PieceLemmas.Lists.{many_det, list_before_det}
 use Rattle.syslog_pieces.proofs.PieceLemmas.Meets.{Meets}
 
@@ -127,9 +128,14 @@ element_det = mapped_det (Row element_row) ElementValue element_of (row_det elem
 ))
 
 -- ---- forgiving lists
+abbrev pub bracketed_row : List Class
+bracketed_row = exactly (91 ∷ []) ∷ run is_open_char ∷ exactly (93 ∷ []) ∷ []
+
+pub bracketed_row_det : AllDeterministic bracketed_row
+bracketed_row_det = exactly_det (91 ∷ []) also run_det is_open_char also exactly_det (93 ∷ []) also tt
+
 pub bracketed_det : IsDeterministic bracketed
-bracketed_det = row_det (exactly (91 ∷ []) ∷ run is_open_char ∷ exactly (93 ∷ []) ∷ [])
-    (exactly_det (91 ∷ []), (run_det is_open_char, (exactly_det (93 ∷ []), tt)))
+bracketed_det = row_det bracketed_row bracketed_row_det
 
 pub item_det : IsDeterministic item
 item_det p q p' q' (Some v) (Some v') e h h' = let r = element_det p q p' q' v v' e h h' in (r.0, ap Some r.1)
