@@ -295,7 +295,6 @@ module _ (C : Class) where
       → Passes C t y
   passes_quoted t x y vs p m f =
       let r = row_head value (exactly (34 ∷ []) ∷ []) f in
-      let s = row_head (exactly (34 ∷ [])) [] r.2 in
       let value_passed : Passes C t r.0 = passes_on t x r.1.piece r.0 p r.1.whole (λ a b e n.
       meets_none_on closing x closing (b ++ r.0)
       (value_closing x (b ++ r.0) (subst (λ (z : Text). Meets value z value (b ++ r.0)) (sym r.1.whole)

@@ -12,6 +12,7 @@ use Rattle.syslog_pieces.specs.StructuredData.{IsValue, value}
 use Rattle.syslog_pieces.proofs.TextLemmas.Chars.{chars_cut, one_ascii}
 use Rattle.syslog_pieces.proofs.PieceLemmas.Class.{row_cons, row_head, nil_front}
 use Rattle.syslog_pieces.proofs.PieceLemmas.Lists.{begins}
+use Rattle.syslog_pieces.proofs.PieceLemmas.Rows.{row_pieces}
 
 module _ (t r : List ℕ) (u : IsUtf8 t) (z : IsUtf8 r) (v : Values quoted_row)
     (f : Front quoted (chars t) (chars r) v) where
@@ -20,8 +21,8 @@ module _ (t r : List ℕ) (u : IsUtf8 t) (z : IsUtf8 r) (v : Values quoted_row)
 
   behind : first.0 ≡ 34 ∷ chars r
   behind =
-      let s = row_head (exactly (34 ∷ [])) [] first.2 in
-      begins 34 first.0 s.0 s.1 ∙ ap (λ (x : Text). 34 ∷ x) (nil_front s.2)
+      let (s, quote, end) = row_pieces (exactly (34 ∷ []) ∷ []) first.2 in
+      begins 34 first.0 s quote ∙ ap (λ (x : Text). 34 ∷ x) end
 
   whole : chars t ≡ first.1.piece ++ (34 ∷ chars r)
   whole = first.1.whole ∙ ap (λ (x : Text). first.1.piece ++ x) behind

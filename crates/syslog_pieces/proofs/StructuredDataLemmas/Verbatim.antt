@@ -5,7 +5,7 @@ use Rattle.std.specs.List.{flat_map}
 use Rattle.std.specs.Prelude.{is_some}
 use Rattle.syslog_pieces.specs.Bodies.Closing.{opening, name_alone, quoted, start, id_alone, inside, inside_row}
 use Rattle.syslog_pieces.specs.Bodies.Verbatim.{bare_param_text, CopiedOn, VerbatimItems, ListPrints}
-use Rattle.syslog_pieces.specs.Bodies.Closing.{opening_row, start_row}
+use Rattle.syslog_pieces.specs.Bodies.Closing.{opening_row, start_row, quoted_row}
 use Rattle.syslog_pieces.specs.Pieces.Class.{Text, Front, NoFront, Ends, Divides, Row}
 use Rattle.syslog_pieces.specs.Pieces.Class.{join, exactly, run, some_run, texted}
 use Rattle.syslog_pieces.specs.Pieces.Verbatim.{Verbatim}
@@ -21,26 +21,18 @@ use Rattle.syslog_pieces.proofs.PieceLemmas.Class.{row_nil, row_cons, row_head}
 use Rattle.syslog_pieces.proofs.PieceLemmas.Verbatim.{verbatim_by_text, front_of}
 use Rattle.syslog_pieces.proofs.PieceLemmas.Lists.{many_here, many_cons, begins, list_here}
 use Rattle.syslog_pieces.proofs.PieceLemmas.Lists.{list_cons, more_here, more_cons}
-use Rattle.syslog_pieces.proofs.PieceLemmas.Rows.{row_of, ◌then◌}
+use Rattle.syslog_pieces.proofs.PieceLemmas.Rows.{row_of, ◌then◌, row_pieces}
 use Rattle.syslog_pieces.proofs.StructuredDataLemmas.Closing.{param_read, element_read}
 use Rattle.syslog_pieces.proofs.StructuredDataLemmas.Elements.{item_begins}
 use Rattle.syslog_pieces.proofs.StructuredDataLemmas.Items.{bracketed_item}
 use Rattle.syslog_pieces.proofs.TextLemmas.Copied.{verbatim_on, extended, left_out}
 
-nil_row : (t u : Text) → Front (Row []) t u tt → t ≡ u
-nil_row t u f = f.whole ∙ ap (λ (x : Text). x ++ u) (nothing f.piece f.is.0 f.is.1 f.is.2)
-  where
-    nothing : (p : Text) (ps : List Text) → p ≡ join ps → Divides [] ps u tt → p ≡ []
-    nothing p [] e d = e
-    nothing p (x ∷ ps) e d = absurd d
-
 -- a value and its quote
 quoted_text : (t u v : Text) → Front quoted t u (v, (tt, tt)) → t ≡ v ++ (34 ∷ u)
 quoted_text t u v f =
-    let h = row_head value (exactly (34 ∷ []) ∷ []) f in
-    let k = row_head (exactly (34 ∷ [])) [] h.2 in
-    let e : h.0 ≡ 34 ∷ u = begins 34 h.0 k.0 k.1 ∙ ap (λ (x : Text). 34 ∷ x) (nil_row k.0 u k.2) in
-    h.1.whole ∙ ap (λ (x : Text). x ++ h.0) (sym h.1.is.2) ∙ ap (λ (x : Text). v ++ x) e
+    let (r, g, (s, quote, end)) = row_pieces quoted_row f in
+    g.whole ∙ ap (λ (x : Text). x ++ r) (sym g.is.2)
+    ∙ ap (λ (x : Text). v ++ x) (begins 34 r s quote ∙ ap (λ (x : Text). 34 ∷ x) end)
 
 -- a parameter with no blank behind its equals sign
 pub param_verbatim : (t a b c u name v : Text) → Front (texted (some_run is_name_char)) t a name
