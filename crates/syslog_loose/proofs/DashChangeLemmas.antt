@@ -32,7 +32,7 @@ use Rattle.syslog_loose.specs.DashChange.{ReadsDifferently, BeginsDashChange}
 use Rattle.syslog_loose.specs.DashChange.{HasDashChange3164, HasDashChange, WasUnreadable}
 use Rattle.syslog_loose.specs.Message.{MessageValue}
 use Rattle.syslog_loose.specs.Rfc3164.{Names3164, Resolves, stamped_row, fields_row, rfc3164_row, Means3164, IsRead3164}
-use Rattle.syslog_loose.proofs.Rfc3164Lemmas.Rows.{from_gap, from_list}
+use Rattle.syslog_loose.proofs.Rfc3164Lemmas.Rows.{from_gap, from_list, gap_back}
 use Rattle.syslog_loose.proofs.Rfc3164Lemmas.Unique as rfc3164
 use Rattle.syslog_loose.proofs.Rfc5424Lemmas as strict
 use Rattle.syslog_loose.proofs.Rfc3164Lemmas.Unique.{stamped_det, fields_det}
@@ -226,11 +226,8 @@ dash_no_list c q b = (
   λ p r v e h. let s = full_begins p r v h in let n = heads 45 91 (c ∷ q) s.0 (e ∙ s.1) in omega (arith, n),
 )
 
-no_gap : (t : Text) → Ends is_blank t → Front (run is_blank) t t tt
-no_gap t h = record { piece = []; whole = refl; is = (tt, h) }
-
 gap_row : (t : Text) → Ends is_blank t → Front (Row from_gap) t [] (tt, (t, tt))
-gap_row t h = row_cons (run is_blank) (rest ∷ []) (no_gap t h) (row_cons rest [] (rest_front t) (row_nil []))
+gap_row t h = gap_back t t (record { piece = []; whole = refl; is = (tt, h) })
 
 -- the values of the row with these at its front, this list and this message
 abbrev with_list : (dating : Dating) → Values (before_list dating) → Option (List ElementValue) → Text

@@ -1,11 +1,13 @@
 -- The pieces of RFC 3164 from each one on.
-use Rattle.std.proofs.Common.{List, [], ◌∷◌}
-use Rattle.syslog_pieces.specs.Pieces.Class.{Class, run, rest, exactly, optional, spaced}
+use Rattle.std.proofs.Common.{List, [], ◌∷◌, refl}
+use Rattle.syslog_pieces.specs.Pieces.Class.{Text, Class, Front, Row, run, rest, exactly, optional, spaced}
 use Rattle.syslog_pieces.specs.StructuredData.Rfc3164List.{rfc3164_list}
 use Rattle.syslog_pieces.specs.Text.{is_blank, colon, tag_word}
 use Rattle.syslog_pieces.specs.Timestamp.Rfc3164.{rfc3164_stamp}
 use Rattle.syslog_pieces.specs.Timestamp.Zone.{Dating}
 use Rattle.syslog_pieces.specs.declared.structured_data.rfc3164_list.DashRule.{DashRule}
+use Rattle.syslog_pieces.proofs.PieceLemmas.Class.{rest_front}
+use Rattle.syslog_pieces.proofs.PieceLemmas.Rows.{row_of, ◌then◌}
 use Rattle.syslog_loose.specs.Rfc3164.{body_row}
 
 -- the blanks behind the list, and the message
@@ -35,3 +37,6 @@ from_stamp rule dating = rfc3164_stamp dating ∷ body_row rule
 -- the blanks behind the priority
 abbrev pub from_priority_end : DashRule → Dating → List Class
 from_priority_end rule dating = run is_blank ∷ from_stamp rule dating
+
+pub gap_back : (t msg : Text) → Front (run is_blank) t msg tt → Front (Row from_gap) t [] (tt, (msg, tt))
+gap_back t msg f = row_of from_gap (f then rest_front msg then refl)

@@ -17,6 +17,7 @@ use Rattle.syslog_pieces.proofs.PieceLemmas.Class.{AllDeterministic, run_same, r
 use Rattle.syslog_pieces.proofs.PieceLemmas.Class.{row_head, row_det, front_same, division_front, rest_front}
 use Rattle.syslog_pieces.proofs.PieceLemmas.Class.{optional_det, optional_some, optional_none, exactly_det, run_det}
 use Rattle.syslog_pieces.proofs.PieceLemmas.Class.{spaced_det, spaced_front, no_spaced_space, no_spaced_piece}
+use Rattle.syslog_pieces.proofs.PieceLemmas.Lists.{begins}
 use Rattle.syslog_pieces.proofs.PieceLemmas.Steps.{piece_front, step, step_value}
 use Rattle.syslog_pieces.proofs.StructuredDataLemmas.Rfc3164List.{no_rfc3164_list}
 use Rattle.syslog_pieces.proofs.TextLemmas.ReadBack.{dash_ends_not}
@@ -31,6 +32,7 @@ use Rattle.syslog_loose.proofs.Rfc3164Lemmas.{resolves_once}
 use Rattle.syslog_loose.proofs.Rfc3164Lemmas.Exceptions.{no_colon_names, canonical_names}
 use Rattle.syslog_pieces.proofs.PieceLemmas.Each.{each_both, each_left, each_right}
 use Rattle.syslog_pieces.proofs.PieceLemmas.Each.{each_front, each_behind, each_append}
+use Rattle.syslog_pieces.proofs.PieceLemmas.Rows.{row_pieces, row_of, ◌then◌}
 use Rattle.syslog_loose.proofs.Rfc3164Lemmas.ReadBack.{program_field, resolved, no_tag_colon}
 use Rattle.syslog_loose.proofs.Rfc3164Lemmas.ReadBack.{tagged, tag_back, host_field_back}
 use Rattle.syslog_loose.proofs.Rfc3164Lemmas.Rows.{from_gap, from_list, from_blanks, from_colon, from_tag_end, from_tag}
@@ -62,11 +64,9 @@ one_space t b = piece_front (run is_blank) (32 ∷ []) t tt ((refl, tt), b)
 message_read : (t msg : Text) → Front (run is_blank) t msg tt → Ends is_blank msg → BeginsNoList BeforeBlank msg
     → Front (Row (from_blanks BeforeBlank)) t [] (tt, (None, (tt, (msg, tt))))
 message_read t msg f b n =
-    row_cons (run is_blank) (from_list BeforeBlank) f
-    (row_cons (optional (rfc3164_list BeforeBlank)) from_gap
-    (optional_none (rfc3164_list BeforeBlank) (no_rfc3164_list BeforeBlank msg n))
-    (row_cons (run is_blank) (rest ∷ []) (no_blanks msg b)
-    (row_cons rest [] (rest_front msg) (row_nil []))))
+    row_of (from_blanks BeforeBlank)
+    (f then optional_none (rfc3164_list BeforeBlank) (no_rfc3164_list BeforeBlank msg n) then no_blanks msg b
+    then rest_front msg then refl)
 
 pub msg_read : (t : Text) → Ends is_blank t → BeginsNoList BeforeBlank t
     → Front (Row (from_blanks BeforeBlank)) t [] (tt, (None, (tt, (t, tt))))
@@ -155,20 +155,15 @@ dash_stays h t n vs v e y r d =
 -- `app[` and no bracket that closes it is not of the form
 no_form_open : (a x : Text) → Each is_label_char a → Each is_open_char x → IsNoForm (a ++ (91 ∷ x))
 no_form_open a x h k vs d =
-    let g1 = row_head (texted (run is_label_char))
-    (exactly (91 ∷ []) ∷ texted (some_run is_open_char) ∷ exactly (93 ∷ []) ∷ []) (division_front form_row d) in
-    let g2 = row_head (exactly (91 ∷ [])) (texted (some_run is_open_char) ∷ exactly (93 ∷ []) ∷ []) g1.2 in
-    let g3 = row_head (texted (some_run is_open_char)) (exactly (93 ∷ []) ∷ []) g2.2 in
-    let g4 = row_head (exactly (93 ∷ [])) [] g3.2 in
-    let s1 = run_same is_label_char g1.1.piece g1.0 a (91 ∷ x) (sym g1.1.whole) g1.1.is.1.0 g1.1.is.1.1 h refl in
-    let e1 : g1.0 ≡ 91 ∷ x = rest_same g1.1.piece g1.0 a (91 ∷ x) (sym g1.1.whole) s1 in
-    let e2 : g2.0 ≡ x =
-    (let u : 91 ∷ g2.0 ≡ 91 ∷ x = sym (g2.1.whole ∙ ap (λ (y : Text). y ++ g2.0) g2.1.is) ∙ e1 in cc) in
-    let e3 : g3.1.piece ++ g3.0 ≡ x ++ [] = sym g3.1.whole ∙ e2 ∙ sym (append-nil x) in
-    let s3 = run_same is_open_char g3.1.piece g3.0 x [] e3 g3.1.is.1.1 g3.1.is.1.2 k tt in
-    let e4 : g3.0 ≡ [] = rest_same g3.1.piece g3.0 x [] e3 s3 in
-    let e5 : g3.0 ≡ 93 ∷ g4.0 = g4.1.whole ∙ ap (λ (y : Text). y ++ g4.0) g4.1.is in
-    (let u : [] ≡ 93 ∷ g4.0 = sym e4 ∙ e5 in cc)
+    let (t1, f1, (t2, f2, (t3, f3, (t4, f4, _)))) = row_pieces form_row (division_front form_row d) in
+    let s1 = run_same is_label_char f1.piece t1 a (91 ∷ x) (sym f1.whole) f1.is.1.0 f1.is.1.1 h refl in
+    let e1 : t1 ≡ 91 ∷ x = rest_same f1.piece t1 a (91 ∷ x) (sym f1.whole) s1 in
+    let e2 : t2 ≡ x = (let u : 91 ∷ t2 ≡ 91 ∷ x = sym (begins 91 t1 t2 f2) ∙ e1 in cc) in
+    let e3 : f3.piece ++ t3 ≡ x ++ [] = sym f3.whole ∙ e2 ∙ sym (append-nil x) in
+    let s3 = run_same is_open_char f3.piece t3 x [] e3 f3.is.1.1 f3.is.1.2 k tt in
+    let e4 : t3 ≡ [] = rest_same f3.piece t3 x [] e3 s3 in
+    let e5 : t3 ≡ 93 ∷ t4 = begins 93 t3 t4 f4 in
+    (let u : [] ≡ 93 ∷ t4 = sym e4 ∙ e5 in cc)
 
 open_no_dash : (a x : Text) → a ++ (91 ∷ x) ≢ dash
 open_no_dash [] x e = let u : ◌≡◌ {A = ℕ} 91 45 = heads 91 45 x [] e in omega arith
@@ -202,12 +197,10 @@ cut_bare a x z t n vs v h k l m y r d =
     let none = no_list_inner z (58 ∷ t) m in
     let c : Each is_tag_char w = each_append is_tag_char a (91 ∷ x) (each_left is_tag_char (λ c. not (nat_eq c 91)) a h)
     (refl, inner_tag x l k) in
-    let written = row_cons (optional (spaced host)) (from_tag BeforeBlank) (host_field_back None (w ++ (58 ∷ q)) tt)
-    (row_cons (optional (spaced tag_word)) (from_tag_end BeforeBlank)
-    (tagged w q (omega (arith, length-append a (91 ∷ x))) c (open_no_dash a x))
-    (row_cons (run is_blank) (from_colon BeforeBlank) (no_blanks (58 ∷ q) refl)
-    (row_cons (optional (exactly colon)) (from_blanks BeforeBlank) (colon_front q)
-    (msg_read q (no_blank_inner z (58 ∷ t) m) none)))) in
+    let written = row_of (body_row BeforeBlank)
+    (host_field_back None (w ++ (58 ∷ q)) tt
+    then tagged w q (omega (arith, length-append a (91 ∷ x))) c (open_no_dash a x) then no_blanks (58 ∷ q) refl
+    then colon_front q then row_pieces (from_blanks BeforeBlank) (msg_read q (no_blank_inner z (58 ∷ t) m) none)) in
     let e = same_values (body_row BeforeBlank) (body_det BeforeBlank) (32 ∷ (dash ++ (32 ∷ (w ++ (58 ∷ q))))) vs
     (Some None, (Some (Some w), (tt, (Some tt, (tt, (None, (tt, (q, tt)))))))) d written in
     let r1 : Resolves (Some None) (Some (Some w)) n =
@@ -254,22 +247,20 @@ pub host_left : (h t : Text) → IsVisible h
     → Front (Row (body_row BeforeBlank)) (32 ∷ (h ++ (58 ∷ 32 ∷ 58 ∷ t))) [] (colon_values (Some (Some h)) t)
 host_left h t (l, a) =
     let behind : Text = 58 ∷ 32 ∷ 58 ∷ t in
-    row_cons (optional (spaced host)) (from_tag BeforeBlank)
+    row_of (body_row BeforeBlank)
     (optional_some (spaced host) (spaced_front host (space_front (h ++ behind))
-    (piece_front host h behind (Some h) (l, a, inr (32 ∷ 58 ∷ t, refl, refl, refl)))))
-    (row_cons (optional (spaced tag_word)) (from_tag_end BeforeBlank)
-    (optional_none (spaced tag_word) (no_spaced_space tag_word (no_space (32 ∷ 58 ∷ t))))
-    (row_cons (run is_blank) (from_colon BeforeBlank) (no_blanks behind refl) (colon_left t)))
+    (piece_front host h behind (Some h) (l, a, inr (32 ∷ 58 ∷ t, refl, refl, refl))))
+    then optional_none (spaced tag_word) (no_spaced_space tag_word (no_space (32 ∷ 58 ∷ t)))
+    then no_blanks behind refl then row_pieces (from_colon BeforeBlank) (colon_left t))
 
 -- a host that is no more than its colon
 host_alone : (t : Text) → Front (Row (body_row BeforeBlank)) (32 ∷ 58 ∷ 32 ∷ 58 ∷ t) [] (colon_values None t)
 host_alone t =
     let behind : Text = 58 ∷ 32 ∷ 58 ∷ t in
-    row_cons (optional (spaced host)) (from_tag BeforeBlank)
-    (optional_none (spaced host) (no_spaced_piece host (space_front behind) (no_host_alone (58 ∷ t))))
-    (row_cons (optional (spaced tag_word)) (from_tag_end BeforeBlank)
-    (optional_none (spaced tag_word) (no_spaced_piece tag_word (space_front behind) (no_tag_colon (32 ∷ 58 ∷ t))))
-    (row_cons (run is_blank) (from_colon BeforeBlank) (one_space behind refl) (colon_left t)))
+    row_of (body_row BeforeBlank)
+    (optional_none (spaced host) (no_spaced_piece host (space_front behind) (no_host_alone (58 ∷ t)))
+    then optional_none (spaced tag_word) (no_spaced_piece tag_word (space_front behind) (no_tag_colon (32 ∷ 58 ∷ t)))
+    then one_space behind refl then row_pieces (from_colon BeforeBlank) (colon_left t))
 
 -- what a host weighs with one colon fewer
 fewer : (h : Text) (w a b : ℕ) → ColonsCost (Some (h ++ colon)) w → ColonsCost (Some h) a → Costs (h ≢ dash) 1 b
