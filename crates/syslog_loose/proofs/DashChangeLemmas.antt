@@ -4,7 +4,7 @@ use Rattle.std.proofs.Common.{IsTrue, List, [], ◌∷◌, ◌++◌, length, Opt
 use Rattle.std.proofs.Common.{sym, ap, subst, ◌∙◌, arith, append_assoc, append-nil}
 use Rattle.std.proofs.lemmas.Bool.Decides.{eqb_tells}
 use Rattle.syslog_pieces.specs.Pieces.Class.{Text, Class, Values, Front, NoFront, join}
-use Rattle.syslog_pieces.specs.Pieces.Class.{Divides, Row, Ends, run, rest, exactly, optional}
+use Rattle.syslog_pieces.specs.Pieces.Class.{Divides, Row, Ends, exactly, optional}
 use Rattle.syslog_pieces.specs.StructuredData.Element.{ElementValue}
 use Rattle.syslog_pieces.specs.StructuredData.Rfc3164List.{IsRfc3164List, rfc3164_list, BeginsNoList}
 use Rattle.syslog_pieces.specs.Text.{trimmed, is_blank, dash}
@@ -19,7 +19,7 @@ use Rattle.syslog_loose.proofs.Rfc3164Lemmas.Years.{other_read}
 use Rattle.syslog_pieces.specs.declared.structured_data.rfc3164_list.DashRule.{DashRule}
 use Rattle.syslog_pieces.specs.declared.structured_data.rfc3164_list.DashRule.TheVariants.{BeforeAnything, BeforeBlank}
 use Rattle.syslog_pieces.proofs.PieceLemmas.Class.{AllDeterministic, heads, front_same, row_det, optional_none}
-use Rattle.syslog_pieces.proofs.PieceLemmas.Class.{optional_some, rest_front, row_nil, row_cons, row_head}
+use Rattle.syslog_pieces.proofs.PieceLemmas.Class.{optional_some, row_cons, row_head}
 use Rattle.syslog_pieces.proofs.PieceLemmas.Class.{rows_join, division_front, front_division, both_values}
 use Rattle.syslog_pieces.proofs.PieceLemmas.Class.{all_joined, firsts, lasts, rows_split}
 use Rattle.syslog_pieces.proofs.StructuredDataLemmas.Rfc3164List.{dash_rfc3164_list, full_begins, no_rfc3164_list}

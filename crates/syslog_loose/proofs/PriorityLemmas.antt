@@ -11,7 +11,6 @@ use Rattle.syslog_pieces.specs.Pri.{priority_row, priority, facility_number, sev
 use Rattle.syslog_pieces.specs.Text.{number}
 use Rattle.syslog_pieces.specs.declared.pri.SyslogFacility.{SyslogFacility}
 use Rattle.syslog_pieces.specs.declared.pri.SyslogSeverity.{SyslogSeverity}
-use Rattle.syslog_pieces.proofs.PieceLemmas.Class.{row_nil, row_cons}
 use Rattle.syslog_pieces.proofs.PieceLemmas.Steps.{piece_front}
 use Rattle.syslog_pieces.proofs.PieceLemmas.Rows.{row_of, ◌then◌}
 use Rattle.syslog_pieces.proofs.PriLemmas.{as_priority, facility_low, severity_low}

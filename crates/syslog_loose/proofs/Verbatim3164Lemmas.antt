@@ -11,12 +11,12 @@ use Rattle.syslog_pieces.specs.Bodies.Verbatim.{VerbatimDigits}
 use Rattle.syslog_pieces.specs.Bodies.VerbatimStamp.{zone_text, IsVerbatimStamp}
 use Rattle.syslog_pieces.specs.Bodies.Scan.{SplitsRun}
 use Rattle.syslog_pieces.specs.Pieces.Class.{Text, Values, Front, NoFront, Row, Each, Ends}
-use Rattle.syslog_pieces.specs.Pieces.Class.{run, some_run, exactly, optional, spaced, rest}
+use Rattle.syslog_pieces.specs.Pieces.Class.{run, some_run, exactly}
 use Rattle.syslog_pieces.specs.Pieces.Verbatim.{Verbatim}
 use Rattle.syslog_pieces.specs.Pri.{priority, priority_text}
 use Rattle.syslog_pieces.specs.ProcId.{NamesProcess, procid_text, IsBoundedProcess}
 use Rattle.syslog_pieces.specs.StructuredData.Rfc3164List.{rfc3164_list}
-use Rattle.syslog_pieces.specs.Text.{trimmed, is_blank, is_tag_char, dash, colon, host, tag_word, name_text}
+use Rattle.syslog_pieces.specs.Text.{trimmed, is_blank, is_tag_char, dash, colon, host, name_text}
 use Rattle.syslog_pieces.specs.Text.CharClass.{is_label_char}
 use Rattle.syslog_pieces.specs.Timestamp.{header_stamp}
 use Rattle.syslog_pieces.specs.Timestamp.Rfc3164.{rfc3164_stamp, showing_row, ShowsYearless}
@@ -30,7 +30,7 @@ use Rattle.syslog_pieces.specs.declared.timestamp.OffsetTimestamp.{OffsetTimesta
 use Rattle.syslog_pieces.proofs.TimestampLemmas.Printing.{printed_stamp-bytes}
 use Rattle.syslog_pieces.proofs.TimestampLemmas.RoundTrip.{stamp_text-canonical}
 use Rattle.syslog_pieces.specs.declared.timestamp.month_date.MonthDate.{MonthDate}
-use Rattle.syslog_pieces.proofs.PieceLemmas.Class.{row_nil, row_cons, rest_front, rows_join}
+use Rattle.syslog_pieces.proofs.PieceLemmas.Class.{rest_front, rows_join}
 use Rattle.syslog_pieces.proofs.PieceLemmas.Class.{front_division, optional_some, optional_none}
 use Rattle.syslog_pieces.proofs.PieceLemmas.Verbatim.{front_of}
 use Rattle.syslog_pieces.proofs.PieceLemmas.Steps.{piece_front}
@@ -59,8 +59,6 @@ use Rattle.syslog_loose.proofs.Rfc3164Lemmas.Near.{read_near}
 use Rattle.syslog_loose.proofs.Rfc3164Lemmas.ReadBack.{digit_inside, program_field}
 use Rattle.syslog_loose.proofs.Rfc3164Lemmas.ReadBack.{resolved, tag_back, host_field_back}
 use Rattle.syslog_loose.proofs.Rfc3164Lemmas.Reading.{is_read}
-use Rattle.syslog_loose.proofs.Rfc3164Lemmas.Rows.{from_gap, from_list, from_blanks, from_colon}
-use Rattle.syslog_loose.proofs.Rfc3164Lemmas.Rows.{from_tag_end, from_tag, from_stamp, from_priority_end}
 use Rattle.syslog_loose.proofs.Rfc3164Lemmas.Unique.{told}
 use Rattle.syslog_loose.proofs.Rfc3164Lemmas.Whole.{printed_whole}
 use Rattle.syslog_loose.proofs.TagFormLemmas.{no_opening}

@@ -10,7 +10,7 @@ use Rattle.std.specs.Fmt.{decimal}
 use Rattle.std.specs.Option.{option_map_or}
 use Rattle.syslog_pieces.specs.Bodies.Verbatim.{Copies, CopiedOn}
 use Rattle.syslog_pieces.specs.Bodies.VerbatimStamp.{zone_text, IsVerbatimStamp}
-use Rattle.syslog_pieces.specs.Pieces.Class.{Text, Class, Front, run, some_run, optional, rest}
+use Rattle.syslog_pieces.specs.Pieces.Class.{Text, Front, run, some_run, rest}
 use Rattle.syslog_pieces.specs.Pieces.Verbatim.{Verbatim}
 use Rattle.syslog_pieces.specs.Pieces.View.{seen}
 use Rattle.syslog_pieces.specs.Pri.{priority, priority_text, facility_of, severity_of, facility_number, severity_number}
@@ -24,7 +24,7 @@ use Rattle.syslog_pieces.specs.Text.{is_blank, dash, number, host, word, name_te
 use Rattle.syslog_pieces.specs.Timestamp.{header_stamp}
 use Rattle.syslog_pieces.specs.Timestamp.Printed.{printed_stamp}
 use Rattle.syslog_pieces.specs.declared.timestamp.OffsetTimestamp.{OffsetTimestamp}
-use Rattle.syslog_pieces.proofs.PieceLemmas.Class.{row_nil, row_cons, rows_join, rest_front, optional_some}
+use Rattle.syslog_pieces.proofs.PieceLemmas.Class.{rows_join, optional_some}
 use Rattle.syslog_pieces.proofs.PieceLemmas.Verbatim.{front_of}
 use Rattle.syslog_pieces.proofs.PieceLemmas.Rows.{row_pieces, row_of, ◌then◌}
 use Rattle.syslog_pieces.proofs.PriLemmas.{priority_composed}

@@ -8,7 +8,7 @@ use Rattle.std.specs.Char.{is_ascii_digit, is_not_whitespace}
 use Rattle.std.specs.Fmt.{decimal}
 use Rattle.std.specs.List.{AllByRecursion}
 use Rattle.std.specs.Option.{option_map_or}
-use Rattle.syslog_pieces.specs.Pieces.Class.{Text, Values, Front, NoFront, Row, Each, Ends, run, exactly, rest}
+use Rattle.syslog_pieces.specs.Pieces.Class.{Text, Values, Front, NoFront, Row, Each, Ends, run, exactly}
 use Rattle.syslog_pieces.specs.Pieces.Class.{optional, spaced}
 use Rattle.syslog_pieces.specs.Pieces.Lists.{IsMany}
 use Rattle.syslog_pieces.specs.Pri.{priority, facility_number, severity_number, facility_of, severity_of}
@@ -26,7 +26,7 @@ use Rattle.syslog_pieces.specs.declared.procid.ProcId.{ProcId}
 use Rattle.syslog_pieces.specs.declared.procid.ProcId.TheVariants.{PID, Name}
 use Rattle.syslog_pieces.specs.declared.structured_data.rfc3164_list.DashRule.{DashRule}
 use Rattle.syslog_pieces.specs.declared.timestamp.OffsetTimestamp.{OffsetTimestamp}
-use Rattle.syslog_pieces.proofs.PieceLemmas.Class.{heads, row_nil, row_cons, front_division, optional_some}
+use Rattle.syslog_pieces.proofs.PieceLemmas.Class.{heads, front_division, optional_some}
 use Rattle.syslog_pieces.proofs.PieceLemmas.Class.{optional_none, rest_front, spaced_front, no_spaced_piece}
 use Rattle.syslog_pieces.proofs.PieceLemmas.Steps.{piece_front}
 use Rattle.syslog_pieces.proofs.PriLemmas.{facility_composed, severity_composed}
@@ -44,7 +44,7 @@ use Rattle.syslog_loose.specs.Canonical.{IsCanonical}
 use Rattle.syslog_loose.specs.Exceptions.{is_no_colon}
 use Rattle.syslog_loose.specs.Message.{MessageValue}
 use Rattle.syslog_loose.specs.Printed.{timestamp_text, priority_of, printed_3164}
-use Rattle.syslog_loose.specs.Rfc3164.{names, Resolves, body_row, rfc3164_row, IsRead3164}
+use Rattle.syslog_loose.specs.Rfc3164.{names, Resolves, rfc3164_row, IsRead3164}
 use Rattle.syslog_loose.specs.TagForm.{IsForm}
 use Rattle.syslog_loose.specs.declared.message.Protocol.{Protocol}
 use Rattle.syslog_loose.specs.declared.message.Protocol.TheVariants.{RFC3164}
@@ -52,8 +52,7 @@ use Rattle.syslog_loose.proofs.PriorityLemmas.{priority_low, priority_front}
 use Rattle.syslog_loose.proofs.Rfc3164Lemmas.Apart.{digit_range}
 use Rattle.syslog_pieces.proofs.PieceLemmas.Each.{each_map, each_left, each_right, each_append}
 use Rattle.syslog_pieces.proofs.PieceLemmas.Rows.{row_pieces, row_of, ◌then◌}
-use Rattle.syslog_loose.proofs.Rfc3164Lemmas.Rows.{from_gap, from_list, from_blanks, from_colon, from_tag_end, from_tag}
-use Rattle.syslog_loose.proofs.Rfc3164Lemmas.Rows.{from_stamp, from_priority_end}
+use Rattle.syslog_loose.proofs.Rfc3164Lemmas.Rows.{from_blanks}
 use Rattle.syslog_loose.proofs.Rfc3164Lemmas.Unique.{told}
 use Rattle.syslog_loose.proofs.Rfc3164Lemmas.Whole.{bracketed, program_text, whole, tail_text, trimmed_whole}
 use Rattle.syslog_loose.proofs.TrimLemmas.{stamp_unblank, message_end, message_blanks}

@@ -1,11 +1,11 @@
 -- What the reader's answers say of a text of RFC 3164.
-use Rattle.std.proofs.Common.{◌≡◌, List, [], ◌∷◌, refl, subst}
-use Rattle.syslog_pieces.specs.Pieces.Class.{Text, Class, Values, Division, Front, NoFront, Row, run, rest, optional}
-use Rattle.syslog_pieces.specs.StructuredData.Rfc3164List.{rfc3164_list, ListsNoElements}
+use Rattle.std.proofs.Common.{◌≡◌, [], refl, subst}
+use Rattle.syslog_pieces.specs.Pieces.Class.{Text, Values, Division, Front, NoFront, Row}
+use Rattle.syslog_pieces.specs.StructuredData.Rfc3164List.{ListsNoElements}
 use Rattle.syslog_pieces.specs.Text.{trimmed, is_blank}
 use Rattle.syslog_pieces.specs.Timestamp.Zone.{Dating}
 use Rattle.syslog_pieces.specs.declared.structured_data.rfc3164_list.DashRule.{DashRule}
-use Rattle.syslog_pieces.proofs.PieceLemmas.Class.{front_division, no_row_division, row_nil, row_cons}
+use Rattle.syslog_pieces.proofs.PieceLemmas.Class.{front_division, no_row_division}
 use Rattle.syslog_pieces.proofs.PieceLemmas.Class.{rows_join, rows_none_here, rest_front, both_values}
 use Rattle.syslog_pieces.proofs.PieceLemmas.Rows.{row_of, ◌then◌}
 use Rattle.syslog_pieces.proofs.TextLemmas.Runs.{some_front_run}

@@ -1,15 +1,14 @@
 -- A date that a text shows has one of twelve months, and numbers of 32 bits.
-use Rattle.std.proofs.Common.{ℕ, ◌≤◌, ◌<◌, [], ◌∷◌, inl, arith, map, subst, sym}
+use Rattle.std.proofs.Common.{ℕ, ◌≤◌, ◌<◌, ◌∷◌, inl, arith, map, subst, sym}
 use Rattle.std.proofs.lemmas.Option.{slice_get_within}
 use Rattle.std.specs.Char.{to_ascii_lowercase}
-use Rattle.syslog_pieces.specs.Pieces.Class.{Text, Values, Front, Row, run, some_run, rest, optional}
-use Rattle.syslog_pieces.specs.Pri.{priority}
+use Rattle.syslog_pieces.specs.Pieces.Class.{Text, Values, Front, Row, some_run}
 use Rattle.syslog_pieces.specs.Text.{is_blank}
 use Rattle.syslog_pieces.specs.Timestamp.Rfc3164.{showing_row, BeginsWithDate, ShowsYearless, ShowsMonthDate}
 use Rattle.syslog_pieces.specs.Timestamp.MonthDate.{month_names, IsMonthName, month, short_number, clock_row}
 use Rattle.syslog_pieces.specs.Timestamp.MonthDate.{yearless_row, yearless_of, yearless_date, month_date}
 use Rattle.syslog_pieces.specs.declared.timestamp.month_date.MonthDate.{MonthDate}
-use Rattle.syslog_pieces.proofs.PieceLemmas.Class.{division_front, front_division, row_cons, row_head}
+use Rattle.syslog_pieces.proofs.PieceLemmas.Class.{division_front, front_division}
 use Rattle.syslog_loose.specs.Reading.{incomplete, HasMonth}
 use Rattle.syslog_pieces.proofs.PieceLemmas.Rows.{row_pieces, row_of, ◌then◌}
 
@@ -46,6 +45,9 @@ pub shows_month_date : (text : Text) (d : MonthDate) → ShowsYearless text d �
 shows_month_date text d (p, more, division) =
     let pieces = row_pieces (showing_row yearless_date) (division_front (showing_row yearless_date) division) in
     let (_, pri, (t, gap, (u, shown, behind))) = pieces in
-    let date : Front month_date t u d = record { piece = shown.piece; whole = shown.whole; is = inl shown.is } in
-    (p, more, front_division (showing_row month_date) (row_of (showing_row month_date)
-    (pri then gap then date then behind)))
+    let date : Front month_date t u d = record { piece = shown.piece; whole = shown.whole; is = inl shown.is } in (
+      p,
+      more,
+      front_division (showing_row month_date) (row_of (showing_row month_date)
+          (pri then gap then date then behind)),
+    )

@@ -6,15 +6,15 @@ use Rattle.std.proofs.lemmas.Bool.Decides.{eqb_tells}
 use Rattle.std.proofs.lemmas.List.{length-append}
 use Rattle.std.specs.Char.{is_not_whitespace}
 use Rattle.syslog_pieces.specs.Pieces.Class.{Text, Class, Values, Front, NoFront, IsDeterministic, Row, Each}
-use Rattle.syslog_pieces.specs.Pieces.Class.{Ends, run, some_run, exactly, rest, optional, spaced, texted}
+use Rattle.syslog_pieces.specs.Pieces.Class.{Ends, run, exactly, optional, spaced}
 use Rattle.syslog_pieces.specs.StructuredData.Rfc3164List.{BeginsNoList, rfc3164_list, elements_or}
 use Rattle.syslog_pieces.specs.Text.{is_blank, is_tag_char, dash, colon, EndsInColon, name_text, host, tag_word}
 use Rattle.syslog_pieces.specs.Text.CharClass.{is_label_char, is_open_char}
 use Rattle.syslog_pieces.specs.declared.procid.ProcId.{ProcId}
 use Rattle.syslog_pieces.specs.declared.procid.ProcId.TheVariants.{PID, Name}
 use Rattle.syslog_pieces.specs.declared.structured_data.rfc3164_list.DashRule.TheVariants.{BeforeBlank}
-use Rattle.syslog_pieces.proofs.PieceLemmas.Class.{AllDeterministic, run_same, rest_same, heads, row_nil, row_cons}
-use Rattle.syslog_pieces.proofs.PieceLemmas.Class.{row_head, row_det, front_same, division_front, rest_front}
+use Rattle.syslog_pieces.proofs.PieceLemmas.Class.{AllDeterministic, run_same, rest_same, heads, row_cons}
+use Rattle.syslog_pieces.proofs.PieceLemmas.Class.{row_det, front_same, division_front, rest_front}
 use Rattle.syslog_pieces.proofs.PieceLemmas.Class.{optional_det, optional_some, optional_none, exactly_det, run_det}
 use Rattle.syslog_pieces.proofs.PieceLemmas.Class.{spaced_det, spaced_front, no_spaced_space, no_spaced_piece}
 use Rattle.syslog_pieces.proofs.PieceLemmas.Lists.{begins}
@@ -35,7 +35,7 @@ use Rattle.syslog_pieces.proofs.PieceLemmas.Each.{each_front, each_behind, each_
 use Rattle.syslog_pieces.proofs.PieceLemmas.Rows.{row_pieces, row_of, ◌then◌}
 use Rattle.syslog_loose.proofs.Rfc3164Lemmas.ReadBack.{program_field, resolved, no_tag_colon}
 use Rattle.syslog_loose.proofs.Rfc3164Lemmas.ReadBack.{tagged, tag_back, host_field_back}
-use Rattle.syslog_loose.proofs.Rfc3164Lemmas.Rows.{from_gap, from_list, from_blanks, from_colon, from_tag_end, from_tag}
+use Rattle.syslog_loose.proofs.Rfc3164Lemmas.Rows.{from_blanks, from_colon, from_tag_end, from_tag}
 use Rattle.syslog_loose.proofs.Rfc3164Lemmas.Unique.{body_det}
 use Rattle.syslog_loose.proofs.Rfc3164Lemmas.Whole.{program_text}
 use Rattle.syslog_loose.proofs.SettlingLemmas.Costs.{free, at_most, paid, ends_colon, one_fewer, no_colon_count}

@@ -1,15 +1,13 @@
-use Rattle.std.proofs.Common.{◌≡◌, ℕ, [], ◌∷◌, List, Option, Some, None, Vec, Global, true, false, map, ap, ◌∙◌, refl}
+use Rattle.std.proofs.Common.{◌≡◌, ℕ, [], List, Option, Some, None, Vec, Global, true, false, map, ap, ◌∙◌, refl}
 use Rattle.std.specs.Borrow.{Bor}
 use Rattle.std.specs.Option.{option_map, unwrap_or}
-use Rattle.syslog_pieces.specs.Pieces.Class.{run, rest, optional}
 use Rattle.syslog_pieces.specs.Pieces.View.{seen, shown}
 use Rattle.syslog_pieces.specs.ProcId.{procid_value}
 use Rattle.syslog_pieces.specs.StructuredData.Element.{element_value}
-use Rattle.syslog_pieces.specs.StructuredData.Rfc3164List.{rfc3164_list, elements_or}
+use Rattle.syslog_pieces.specs.StructuredData.Rfc3164List.{elements_or}
 use Rattle.syslog_pieces.specs.declared.structured_data.StructuredElement.{StructuredElement}
-use Rattle.syslog_pieces.specs.Text.{is_blank}
 use Rattle.syslog_pieces.specs.Timestamp.Zone.{dating_value}
-use Rattle.syslog_pieces.proofs.PieceLemmas.Class.{row_nil, row_cons, rows_join, rest_front}
+use Rattle.syslog_pieces.proofs.PieceLemmas.Class.{rows_join, rest_front}
 use Rattle.syslog_pieces.proofs.PieceLemmas.Rows.{row_of, ◌then◌}
 use Rattle.syslog_loose.specs.Rfc3164.{stamped_row, fields_row, body_row}
 use Rattle.syslog_loose.specs.View3164.{names_value}

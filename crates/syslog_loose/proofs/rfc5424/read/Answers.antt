@@ -1,13 +1,10 @@
-use Rattle.std.proofs.Common.{◌≡◌, [], ◌∷◌, List, true, false, map, refl, inl}
+use Rattle.std.proofs.Common.{◌≡◌, true, false, map, refl, inl}
 use Rattle.std.specs.Option.{option_map}
-use Rattle.syslog_pieces.specs.Pieces.Class.{Class, run, rest}
 use Rattle.syslog_pieces.specs.StructuredData.Element.{element_value}
 use Rattle.syslog_pieces.specs.ProcId.{procid_value}
-use Rattle.syslog_pieces.specs.StructuredData.{forgiving}
-use Rattle.syslog_pieces.specs.Text.{is_blank}
 use Rattle.syslog_pieces.specs.Pieces.View.{seen, shown}
-use Rattle.syslog_pieces.proofs.PieceLemmas.Class.{row_nil, row_cons, row_none_here, row_none_later, rows_join}
-use Rattle.syslog_pieces.proofs.PieceLemmas.Class.{rows_none_here, rows_none_later, rest_front, run_det}
+use Rattle.syslog_pieces.proofs.PieceLemmas.Class.{rows_join}
+use Rattle.syslog_pieces.proofs.PieceLemmas.Class.{rows_none_here, rows_none_later, rest_front}
 use Rattle.syslog_pieces.proofs.PieceLemmas.Rows.{row_of, ◌then◌, no_row, ◌past◌}
 use Rattle.syslog_loose.specs.Rfc5424.{header_row, data_row}
 use Rattle.syslog_loose.specs.declared.message.Protocol.TheVariants.{RFC5424}
