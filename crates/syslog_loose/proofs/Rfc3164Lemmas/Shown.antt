@@ -45,9 +45,6 @@ pub shows_month_date : (text : Text) (d : MonthDate) â†’ ShowsYearless text d â†
 shows_month_date text d (p, more, division) =
     let pieces = row_pieces (showing_row yearless_date) (division_front (showing_row yearless_date) division) in
     let (_, pri, (t, gap, (u, shown, behind))) = pieces in
-    let date : Front month_date t u d = record { piece = shown.piece; whole = shown.whole; is = inl shown.is } in (
-      p,
-      more,
-      front_division (showing_row month_date) (row_of (showing_row month_date)
-          (pri then gap then date then behind)),
-    )
+    let date : Front month_date t u d = record { piece = shown.piece; whole = shown.whole; is = inl shown.is } in
+    let row = row_of (showing_row month_date) (pri then gap then date then behind) in
+    (p, more, front_division (showing_row month_date) row)

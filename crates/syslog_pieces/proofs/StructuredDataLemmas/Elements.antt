@@ -92,11 +92,13 @@ pub value_here : (t r : Text) → t ≡ 34 ∷ r → Front value t t []
 value_here t r e = record { piece = []; whole = refl; is = (([], refl, tt), (r, e), refl) }
 
 -- ---- parameters and elements
+pub param_row_det : AllDeterministic param_row
+param_row_det =
+    texted_det (some_run is_name_char) (some_run_det is_name_char) also exactly_det (61 ∷ []) also run_det is_blank
+    also exactly_det (34 ∷ []) also value_det also exactly_det (34 ∷ []) also tt
+
 pub param_det : IsDeterministic param
-param_det = mapped_det (Row param_row) (Text × Text) param_of (row_det param_row (
-  texted_det (some_run is_name_char) (some_run_det is_name_char),
-  (exactly_det (61 ∷ []), (run_det is_blank, (exactly_det (34 ∷ []), (value_det, (exactly_det (34 ∷ []), tt))))),
-))
+param_det = mapped_det (Row param_row) (Text × Text) param_of (row_det param_row param_row_det)
 
 name_char_is_no_close : (c : ℕ) → is_name_char c ≡ true → c ≡ 93 → ⊥
 name_char_is_no_close c h e = let t = ap is_name_char e in let u : true ≡ false = sym h ∙ t in cc
@@ -118,14 +120,13 @@ space_is_no_close e = omega arith
 pub params_det : IsDeterministic (list_before param 32 93)
 params_det = list_before_det param 32 93 space_is_no_close param_det param_apart
 
+pub element_row_det : AllDeterministic element_row
+element_row_det =
+    exactly_det (91 ∷ []) also texted_det (some_run is_id_char) (some_run_det is_id_char) also run_det is_blank
+    also params_det also exactly_det (93 ∷ []) also tt
+
 pub element_det : IsDeterministic element
-element_det = mapped_det (Row element_row) ElementValue element_of (row_det element_row (
-  exactly_det (91 ∷ []),
-  (
-    texted_det (some_run is_id_char) (some_run_det is_id_char),
-    (run_det is_blank, (params_det, (exactly_det (93 ∷ []), tt))),
-  ),
-))
+element_det = mapped_det (Row element_row) ElementValue element_of (row_det element_row element_row_det)
 
 -- ---- forgiving lists
 abbrev pub bracketed_row : List Class
