@@ -56,11 +56,12 @@ use Rattle.syslog_loose.proofs.Rfc3164Lemmas.Exceptions.{no_dash_host, no_colon_
 use Rattle.syslog_pieces.proofs.PieceLemmas.Each.{each_map, each_left}
 use Rattle.syslog_pieces.proofs.PieceLemmas.Rows.{row_of, ◌then◌}
 use Rattle.syslog_loose.proofs.Rfc3164Lemmas.Near.{read_near}
-use Rattle.syslog_loose.proofs.Rfc3164Lemmas.ReadBack.{digit_inside, program_field}
+use Rattle.syslog_loose.proofs.Rfc3164Lemmas.ReadBack.{digit_inside, program_field, names_back}
 use Rattle.syslog_loose.proofs.Rfc3164Lemmas.ReadBack.{resolved, tag_back, host_field_back}
 use Rattle.syslog_loose.proofs.Rfc3164Lemmas.Reading.{is_read}
 use Rattle.syslog_loose.proofs.Rfc3164Lemmas.Unique.{told}
 use Rattle.syslog_loose.proofs.Rfc3164Lemmas.Whole.{printed_whole}
+use Rattle.syslog_loose.proofs.Rfc3164Lemmas.Rows.{to_colon, from_blanks}
 use Rattle.syslog_loose.proofs.TagFormLemmas.{no_opening}
 
 -- ---- the names
@@ -190,14 +191,12 @@ module _ (dating : Dating) (t b d front tail msg : Text) (stamp : Option OffsetT
 
   names_row : Front (Row (body_row dash_rule)) tail [] values.1.1.1
   names_row =
-      let u : Text = program_text (Some n.appname) n.procid ++ (58 ∷ 32 ∷ msg) in
-      let (q, tag, behind) = tag_back n.hostname (Some n.appname) n.procid (32 ∷ msg) n.canonical n.bounded in
       subst (λ (x : Text). Front (Row (body_row dash_rule)) x [] values.1.1.1) (sym n.whole)
-      (row_of (body_row dash_rule) (host_field_back n.hostname u n.host then tag then behind
-      then optional_some (exactly colon) (piece_front (exactly colon) colon (32 ∷ msg) tt refl)
-      then piece_front (run is_blank) (32 ∷ []) msg tt ((refl, tt), n.unblank)
+      (rows_join to_colon (from_blanks dash_rule)
+      (names_back n.hostname (Some n.appname) n.procid (32 ∷ msg) n.host n.canonical n.bounded)
+      (row_of (from_blanks dash_rule) (piece_front (run is_blank) (32 ∷ []) msg tt ((refl, tt), n.unblank)
       then optional_none (rfc3164_list dash_rule) no_list
-      then piece_front (run is_blank) [] msg tt (tt, n.unblank) then rest_front msg then refl))
+      then piece_front (run is_blank) [] msg tt (tt, n.unblank) then rest_front msg then refl)))
 
   front_is : (q : Text) → 60 ∷ (decimal k.value ++ (62 ∷ q)) ≡ front ++ q
   front_is q =

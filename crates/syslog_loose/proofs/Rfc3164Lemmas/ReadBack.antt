@@ -26,7 +26,7 @@ use Rattle.syslog_pieces.specs.declared.procid.ProcId.{ProcId}
 use Rattle.syslog_pieces.specs.declared.procid.ProcId.TheVariants.{PID, Name}
 use Rattle.syslog_pieces.specs.declared.structured_data.rfc3164_list.DashRule.{DashRule}
 use Rattle.syslog_pieces.specs.declared.timestamp.OffsetTimestamp.{OffsetTimestamp}
-use Rattle.syslog_pieces.proofs.PieceLemmas.Class.{heads, front_division, optional_some}
+use Rattle.syslog_pieces.proofs.PieceLemmas.Class.{heads, front_division, optional_some, row_cons, rows_join}
 use Rattle.syslog_pieces.proofs.PieceLemmas.Class.{optional_none, rest_front, spaced_front, no_spaced_piece}
 use Rattle.syslog_pieces.proofs.PieceLemmas.Steps.{piece_front}
 use Rattle.syslog_pieces.proofs.PriLemmas.{facility_composed, severity_composed}
@@ -44,7 +44,7 @@ use Rattle.syslog_loose.specs.Canonical.{IsCanonical}
 use Rattle.syslog_loose.specs.Exceptions.{is_no_colon}
 use Rattle.syslog_loose.specs.Message.{MessageValue}
 use Rattle.syslog_loose.specs.Printed.{timestamp_text, priority_of, printed_3164}
-use Rattle.syslog_loose.specs.Rfc3164.{names, Resolves, rfc3164_row, IsRead3164}
+use Rattle.syslog_loose.specs.Rfc3164.{names, Resolves, body_row, rfc3164_row, IsRead3164}
 use Rattle.syslog_loose.specs.TagForm.{IsForm}
 use Rattle.syslog_loose.specs.declared.message.Protocol.{Protocol}
 use Rattle.syslog_loose.specs.declared.message.Protocol.TheVariants.{RFC3164}
@@ -52,7 +52,7 @@ use Rattle.syslog_loose.proofs.PriorityLemmas.{priority_low, priority_front}
 use Rattle.syslog_loose.proofs.Rfc3164Lemmas.Apart.{digit_range}
 use Rattle.syslog_pieces.proofs.PieceLemmas.Each.{each_map, each_left, each_right, each_append}
 use Rattle.syslog_pieces.proofs.PieceLemmas.Rows.{row_pieces, row_of, ◌then◌}
-use Rattle.syslog_loose.proofs.Rfc3164Lemmas.Rows.{from_blanks}
+use Rattle.syslog_loose.proofs.Rfc3164Lemmas.Rows.{from_blanks, to_stamp, to_colon, from_stamp}
 use Rattle.syslog_loose.proofs.Rfc3164Lemmas.Unique.{told}
 use Rattle.syslog_loose.proofs.Rfc3164Lemmas.Whole.{bracketed, program_text, whole, tail_text, trimmed_whole}
 use Rattle.syslog_loose.proofs.TrimLemmas.{stamp_unblank, message_end, message_blanks}
@@ -220,7 +220,26 @@ stamp_back dating (Some s) q h =
     piece_front (rfc3164_stamp dating) (timestamp_text (Some s)) (32 ∷ q) (Some s)
     (inl (printed_stamp-back s h, (q, refl)))
 
+-- the names up to the colon, as they are printed
+pub names_back : (h a : Option Text) (p : Option (ProcId Text)) (t : Text) → IfSome h IsCanonicalHost
+    → AreCanonicalNames h a p → IfSome p IsBoundedProcess
+    → Front (Row to_colon) (32 ∷ (name_text h ++ (32 ∷ (program_text a p ++ (58 ∷ t))))) t
+    (Some h, (program_field a p, (tt, (Some tt, tt))))
+names_back h a p t k c b =
+    let (q, tag, gap) = tag_back h a p t c b in
+    row_of to_colon (host_field_back h (program_text a p ++ (58 ∷ t)) k then tag then gap
+    then optional_some (exactly colon) (piece_front (exactly colon) colon t tt refl) then refl)
+
 -- ---- the priority
+
+-- the priority and the space before the timestamp, as they are printed
+pub to_stamp_back : (m : MessageValue) (y : Text)
+    → Front (Row to_stamp) (60 ∷ (decimal (priority_of m) ++ (62 ∷ 32 ∷ (timestamp_text m.timestamp ++ (32 ∷ y)))))
+    (timestamp_text m.timestamp ++ (32 ∷ y)) (Some (priority_of m), (tt, tt))
+to_stamp_back m y = row_of to_stamp
+    (optional_some priority (priority_front (priority_of m) _ (priority_low m))
+    then piece_front (run is_blank) (32 ∷ []) _ tt ((refl, tt), stamp_unblank m.timestamp (32 ∷ y)) then refl)
+
 pub parts_back : (f : Option SyslogFacility) (s : Option SyslogSeverity) → IsSome f → IsSome s
     → (f ≡ facility_of (option_map_or facility_number f 5 * 8 + option_map_or severity_number s 7))
     × (s ≡ severity_of (option_map_or facility_number f 5 * 8 + option_map_or severity_number s 7))
@@ -257,13 +276,11 @@ module _ (rule : DashRule) (dating : Dating) (m : MessageValue) (e : m.protocol 
       let t : Text = tail_text m.structured_data m.msg in
       let u : Text = program_text m.appname m.procid ++ (58 ∷ t) in
       let y : Text = name_text m.hostname ++ (32 ∷ u) in
-      let (q, tag, gap) = tag_back m.hostname m.appname m.procid t own.names b.procid in
       let body = body_back rule m.structured_data m.msg canonical.elements own.elements canonical.msg_front own.no_list in
-      row_of (rfc3164_row rule dating) (optional_some priority (priority_front (priority_of m) _ (priority_low m))
-      then piece_front (run is_blank) (32 ∷ []) _ tt ((refl, tt), stamp_unblank m.timestamp (32 ∷ y))
-      then stamp_back dating m.timestamp y canonical.timestamp then host_field_back m.hostname u canonical.hostname
-      then tag then gap then optional_some (exactly colon) (piece_front (exactly colon) colon t tt refl)
-      then row_pieces (from_blanks rule) body)
+      rows_join to_stamp (from_stamp rule dating) (to_stamp_back m y)
+      (row_cons (rfc3164_stamp dating) (body_row rule) (stamp_back dating m.timestamp y canonical.timestamp)
+      (rows_join to_colon (from_blanks rule)
+      (names_back m.hostname m.appname m.procid t canonical.hostname own.names b.procid) body))
 
   means_back : m ≡ told rule dating values (names m.hostname m.appname m.procid)
   means_back =

@@ -18,7 +18,7 @@ use Rattle.syslog_pieces.proofs.PieceLemmas.Class.{row_det, front_same, division
 use Rattle.syslog_pieces.proofs.PieceLemmas.Class.{optional_det, optional_some, optional_none, exactly_det, run_det}
 use Rattle.syslog_pieces.proofs.PieceLemmas.Class.{spaced_det, spaced_front, no_spaced_space, no_spaced_piece}
 use Rattle.syslog_pieces.proofs.PieceLemmas.Lists.{begins}
-use Rattle.syslog_pieces.proofs.PieceLemmas.Steps.{piece_front, step, step_value}
+use Rattle.syslog_pieces.proofs.PieceLemmas.Steps.{piece_front, step, step_value, rows_step}
 use Rattle.syslog_pieces.proofs.StructuredDataLemmas.Rfc3164List.{no_rfc3164_list}
 use Rattle.syslog_pieces.proofs.TextLemmas.ReadBack.{dash_ends_not}
 use Rattle.syslog_pieces.proofs.TextLemmas.Words.{host_det, tag_word_det}
@@ -33,11 +33,12 @@ use Rattle.syslog_loose.proofs.Rfc3164Lemmas.Exceptions.{no_colon_names, canonic
 use Rattle.syslog_pieces.proofs.PieceLemmas.Each.{each_both, each_left, each_right}
 use Rattle.syslog_pieces.proofs.PieceLemmas.Each.{each_front, each_behind, each_append}
 use Rattle.syslog_pieces.proofs.PieceLemmas.Rows.{row_pieces, row_of, ◌then◌}
-use Rattle.syslog_loose.proofs.Rfc3164Lemmas.ReadBack.{program_field, resolved, no_tag_colon}
+use Rattle.syslog_loose.proofs.Rfc3164Lemmas.ReadBack.{program_field, resolved, no_tag_colon, names_back}
 use Rattle.syslog_loose.proofs.Rfc3164Lemmas.ReadBack.{tagged, tag_back, host_field_back}
-use Rattle.syslog_loose.proofs.Rfc3164Lemmas.Rows.{from_blanks, from_colon, from_tag_end, from_tag}
+use Rattle.syslog_loose.proofs.Rfc3164Lemmas.Rows.{from_blanks, from_colon, from_tag_end, from_tag, to_colon}
 use Rattle.syslog_loose.proofs.Rfc3164Lemmas.Unique.{body_det}
 use Rattle.syslog_loose.proofs.Rfc3164Lemmas.Whole.{program_text}
+use Rattle.syslog_loose.proofs.Rfc3164Lemmas.Rows.{to_colon_det}
 use Rattle.syslog_loose.proofs.SettlingLemmas.Costs.{free, at_most, paid, ends_colon, one_fewer, no_colon_count}
 use Rattle.syslog_loose.proofs.SettlingLemmas.Costs.{counts_once, ends_in, is_dash, bare_zero, bare_one}
 use Rattle.syslog_loose.proofs.SettlingLemmas.NoList.{no_list_by, no_blank_inner, no_list_inner}
@@ -120,25 +121,15 @@ canonical_stays : (h a : Option Text) (p : Option (ProcId Text)) (t : Text) (n :
     → NamesWeigh n.hostname n.procid v → Resolves vs.0 vs.1.0 n
     → Front (Row (body_row BeforeBlank)) (names_text h a p t) [] vs → Stays h a p t n vs v
 canonical_stays h a p t n vs v k c b y r d =
-    let u : Text = program_text a p ++ (58 ∷ t) in
-    let d1 = move (optional (spaced host)) (from_tag BeforeBlank)
-    (optional_det (spaced host) (spaced_det host host_det)) (names_text h a p t) (32 ∷ u) (Some h) vs
-    (host_field_back h u k) d in
-    let (q, tag, gap) = tag_back h a p t c b in
-    let d2 = move (optional (spaced tag_word)) (from_tag_end BeforeBlank)
-    (optional_det (spaced tag_word) (spaced_det tag_word tag_word_det)) (32 ∷ u) q (program_field a p) vs.1 tag d1.1 in
-    let d3 = move (run is_blank) (from_colon BeforeBlank) (run_det is_blank) q (58 ∷ t) tt vs.1.1 gap d2.1 in
-    let d4 = move (optional (exactly colon)) (from_blanks BeforeBlank)
-    (optional_det (exactly colon) (exactly_det colon)) (58 ∷ t) t (Some tt) vs.1.1.1 (colon_front t) d3.1 in
-    let r1 : Resolves (Some h) vs.1.0 n = subst (λ (x : Option (Option Text)). Resolves x vs.1.0 n) d1.0 r in
-    let r2 : Resolves (Some h) (program_field a p) n =
-    subst (λ (x : Option (Option Text)). Resolves (Some h) x n) d2.0 r1 in
-    let e : n ≡ names h a p = resolves_once (Some h) (program_field a p) n (names h a p) r2 (resolved h a p c b) in
+    let (same, behind) = rows_step to_colon (from_blanks BeforeBlank) to_colon_det {vs = vs} (names_back h a p t k c b)
+    d in
+    let r1 : Resolves (Some h) (program_field a p) n = subst (λ (x : Values to_colon). Resolves x.0 x.1.0 n) same r in
+    let e : n ≡ names h a p = resolves_once (Some h) (program_field a p) n (names h a p) r1 (resolved h a p c b) in
     record {
       light = canonical_zero h a p v k c (subst (λ (x : Names3164). NamesWeigh x.hostname x.procid v) e y);
       host_is = ap (λ (x : Names3164). name_text x.hostname) e;
       tag_is = ap (λ (x : Names3164). tag_text x.appname x.procid) e;
-      behind = d4.1;
+      behind = behind;
     }
 
 -- a host that is a dash is read as none
