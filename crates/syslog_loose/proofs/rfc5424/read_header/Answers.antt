@@ -9,58 +9,50 @@ use Rattle.syslog_loose.proofs.rfc5424.read_header.Goals as goal
 
 pub returns-in_err-version : goal.returns-in_err-version
 returns-in_err-version c =
-    let n : NoFront (Row header_row) (chars c.args.text.now) =
-    no_row header_row header_det
+    let n = no_row header_row header_det
     (c.optional_priority-priority.ensures past inl c.in_err-version.ensures) in search rules
 
 pub returns-in_err-some_blanks : goal.returns-in_err-some_blanks
 returns-in_err-some_blanks c =
-    let n : NoFront (Row header_row) (chars c.args.text.now) =
-    no_row header_row header_det
+    let n = no_row header_row header_det
     (c.optional_priority-priority.ensures past c.in_ok-version.ensures past inl c.in_err-some_blanks.ensures)
     in search rules
 
 pub returns-in_default : goal.returns-in_default
 returns-in_default c =
-    let n : NoFront (Row header_row) (chars c.args.text.now) =
-    no_row header_row header_det
+    let n = no_row header_row header_det
     (c.optional_priority-priority.ensures past c.in_ok-version.ensures past c.in_ok-some_blanks.ensures past
     inl c.in_default.ensures) in search rules
 
 pub returns-in_err-some_blanks-2 : goal.returns-in_err-some_blanks-2
 returns-in_err-some_blanks-2 c =
-    let n : NoFront (Row header_row) (chars c.args.text.now) =
-    no_row header_row header_det
+    let n = no_row header_row header_det
     (c.optional_priority-priority.ensures past c.in_ok-version.ensures past c.in_ok-some_blanks.ensures past
     c.in-Some.ensures past inl c.in_err-some_blanks-2.ensures) in search rules
 
 pub returns-in_err-hostname : goal.returns-in_err-hostname
 returns-in_err-hostname c =
-    let n : NoFront (Row header_row) (chars c.args.text.now) =
-    no_row header_row header_det
+    let n = no_row header_row header_det
     (c.optional_priority-priority.ensures past c.in_ok-version.ensures past c.in_ok-some_blanks.ensures past
     c.in-Some.ensures past c.in_ok-some_blanks-2.ensures past inl c.in_err-hostname.ensures) in search rules
 
 pub returns-in_err-some_blanks-3 : goal.returns-in_err-some_blanks-3
 returns-in_err-some_blanks-3 c =
-    let n : NoFront (Row header_row) (chars c.args.text.now) =
-    no_row header_row header_det
+    let n = no_row header_row header_det
     (c.optional_priority-priority.ensures past c.in_ok-version.ensures past c.in_ok-some_blanks.ensures past
     c.in-Some.ensures past c.in_ok-some_blanks-2.ensures past c.in_ok-hostname.ensures past
     inl c.in_err-some_blanks-3.ensures) in search rules
 
 pub returns-in_err-appname : goal.returns-in_err-appname
 returns-in_err-appname c =
-    let n : NoFront (Row header_row) (chars c.args.text.now) =
-    no_row header_row header_det
+    let n = no_row header_row header_det
     (c.optional_priority-priority.ensures past c.in_ok-version.ensures past c.in_ok-some_blanks.ensures past
     c.in-Some.ensures past c.in_ok-some_blanks-2.ensures past c.in_ok-hostname.ensures past
     c.in_ok-some_blanks-3.ensures past inl c.in_err-appname.ensures) in search rules
 
 pub returns-in_err-some_blanks-4 : goal.returns-in_err-some_blanks-4
 returns-in_err-some_blanks-4 c =
-    let n : NoFront (Row header_row) (chars c.args.text.now) =
-    no_row header_row header_det
+    let n = no_row header_row header_det
     (c.optional_priority-priority.ensures past c.in_ok-version.ensures past c.in_ok-some_blanks.ensures past
     c.in-Some.ensures past c.in_ok-some_blanks-2.ensures past c.in_ok-hostname.ensures past
     c.in_ok-some_blanks-3.ensures past c.in_ok-appname.ensures past inl c.in_err-some_blanks-4.ensures)
@@ -68,8 +60,7 @@ returns-in_err-some_blanks-4 c =
 
 pub returns-in_err-procid : goal.returns-in_err-procid
 returns-in_err-procid c =
-    let n : NoFront (Row header_row) (chars c.args.text.now) =
-    no_row header_row header_det
+    let n = no_row header_row header_det
     (c.optional_priority-priority.ensures past c.in_ok-version.ensures past c.in_ok-some_blanks.ensures past
     c.in-Some.ensures past c.in_ok-some_blanks-2.ensures past c.in_ok-hostname.ensures past
     c.in_ok-some_blanks-3.ensures past c.in_ok-appname.ensures past c.in_ok-some_blanks-4.ensures past
@@ -77,8 +68,7 @@ returns-in_err-procid c =
 
 pub returns-in_err-some_blanks-5 : goal.returns-in_err-some_blanks-5
 returns-in_err-some_blanks-5 c =
-    let n : NoFront (Row header_row) (chars c.args.text.now) =
-    no_row header_row header_det
+    let n = no_row header_row header_det
     (c.optional_priority-priority.ensures past c.in_ok-version.ensures past c.in_ok-some_blanks.ensures past
     c.in-Some.ensures past c.in_ok-some_blanks-2.ensures past c.in_ok-hostname.ensures past
     c.in_ok-some_blanks-3.ensures past c.in_ok-appname.ensures past c.in_ok-some_blanks-4.ensures past
@@ -86,8 +76,7 @@ returns-in_err-some_blanks-5 c =
 
 pub returns-in_err-msgid : goal.returns-in_err-msgid
 returns-in_err-msgid c =
-    let n : NoFront (Row header_row) (chars c.args.text.now) =
-    no_row header_row header_det
+    let n = no_row header_row header_det
     (c.optional_priority-priority.ensures past c.in_ok-version.ensures past c.in_ok-some_blanks.ensures past
     c.in-Some.ensures past c.in_ok-some_blanks-2.ensures past c.in_ok-hostname.ensures past
     c.in_ok-some_blanks-3.ensures past c.in_ok-appname.ensures past c.in_ok-some_blanks-4.ensures past
