@@ -20,9 +20,8 @@ returns-else-value-limit c = number_read c.args.text.now c.split_run.result.0.no
 
 pub returns-in_err-value : goal.returns-in_err-value
 returns-in_err-value c =
-    let n : NoFront (number c.args.limit) (chars c.args.text.now) =
-    number_bad c.args.text.now c.split_run.result.0.now c.split_run.result.1.now c.split_run.ensures c.args.limit
-    c.in_err-value.ensures (omega arith) in search rules
+    let n = number_bad c.args.text.now c.split_run.result.0.now c.split_run.result.1.now c.split_run.ensures
+    c.args.limit c.in_err-value.ensures (omega arith) in search rules
 
 pub returns-then-not-begins_with_digit : goal.returns-then-not-begins_with_digit
 returns-then-not-begins_with_digit c =

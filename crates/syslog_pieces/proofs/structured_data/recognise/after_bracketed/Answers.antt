@@ -10,8 +10,7 @@ use Rattle.syslog_pieces.proofs.structured_data.recognise.after_bracketed.Goals 
 use Rattle.syslog_pieces.proofs.TextLemmas.Runs.{run_front}
 
 pub returns-in_err-rest : goal.returns-in_err-rest
-returns-in_err-rest c = let n : NoFront bracketed (chars c.args.text.now) = no_row bracketed_row bracketed_row_det
-    (inl c.in_err-rest.ensures) in search rules
+returns-in_err-rest c = let n = no_row bracketed_row bracketed_row_det (inl c.in_err-rest.ensures) in search rules
 
 pub returns : goal.returns
 returns c =

@@ -9,14 +9,12 @@ use Rattle.syslog_pieces.proofs.StructuredDataLemmas.Recognise.{opened_passes, c
 use Rattle.syslog_pieces.proofs.structured_data.recognise.after_full_element.Goals as goal
 
 pub returns-in_err-inside : goal.returns-in_err-inside
-returns-in_err-inside c = let n : NoFront full_element (chars c.args.text.now) = no_full_start
-    (chars c.args.text.now) c.in_err-inside.ensures in search rules
+returns-in_err-inside c = let n = no_full_start (chars c.args.text.now) c.in_err-inside.ensures in search rules
 
 pub returns-in_err-value : goal.returns-in_err-value
 returns-in_err-value c =
-    let n : NoFront full_element (chars c.args.text.now) = no_full_opening (chars c.args.text.now)
-    (chars c.in_ok-inside.inside.now) _ c.in_ok-inside.ensures c.in_err-value.ensures in
-    search rules
+    let n = no_full_opening (chars c.args.text.now) (chars c.in_ok-inside.inside.now) _ c.in_ok-inside.ensures
+    c.in_err-value.ensures in search rules
 
 pub live_closing-requires : goal.live_closing-requires
 live_closing-requires c =

@@ -7,19 +7,16 @@ use Rattle.syslog_pieces.proofs.StructuredDataLemmas.Closing.{opening_det}
 use Rattle.syslog_pieces.proofs.structured_data.recognise.opening.Goals as goal
 
 pub returns-in_err-name : goal.returns-in_err-name
-returns-in_err-name c = let n : NoFront opening (chars c.args.text.now) = no_row opening_row opening_det
-    (inl c.in_err-name.ensures) in search rules
+returns-in_err-name c = let n = no_row opening_row opening_det (inl c.in_err-name.ensures) in search rules
 
 pub returns-in_err-rest : goal.returns-in_err-rest
 returns-in_err-rest c =
-    let n : NoFront opening (chars c.args.text.now) = no_row opening_row opening_det
-    (c.in_ok-name.ensures past inl c.in_err-rest.ensures) in search rules
+    let n = no_row opening_row opening_det (c.in_ok-name.ensures past inl c.in_err-rest.ensures) in search rules
 
 pub returns-in_err-rest-2 : goal.returns-in_err-rest-2
 returns-in_err-rest-2 c =
-    let n : NoFront opening (chars c.args.text.now) = no_row opening_row opening_det
-    (c.in_ok-name.ensures past c.in_ok-rest.ensures past c.blanks.ensures past inl c.in_err-rest-2.ensures)
-    in search rules
+    let n = no_row opening_row opening_det (c.in_ok-name.ensures past c.in_ok-rest.ensures past c.blanks.ensures past
+    inl c.in_err-rest-2.ensures) in search rules
 
 pub returns : goal.returns
 returns c = row_of opening_row

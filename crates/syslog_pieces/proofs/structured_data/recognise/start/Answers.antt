@@ -7,8 +7,7 @@ use Rattle.syslog_pieces.proofs.StructuredDataLemmas.Closing.{start_det}
 use Rattle.syslog_pieces.proofs.structured_data.recognise.start.Goals as goal
 
 pub returns-in_err-rest : goal.returns-in_err-rest
-returns-in_err-rest c = let n : NoFront start (chars c.args.text.now) = no_row start_row start_det
-    (inl c.in_err-rest.ensures) in search rules
+returns-in_err-rest c = let n = no_row start_row start_det (inl c.in_err-rest.ensures) in search rules
 
 pub returns-in_err-id : goal.returns-in_err-id
 returns-in_err-id c = let n : NoFront start (chars c.args.text.now) = no_row start_row start_det

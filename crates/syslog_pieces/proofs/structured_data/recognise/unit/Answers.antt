@@ -11,8 +11,7 @@ no_quote : (c : ℕ) → c ≡ 92 → c ≢ 34
 no_quote c e f = let t : ◌≡◌ {A = ℕ} 92 34 = sym e ∙ f in omega arith
 
 pub returns-in_err-c : goal.returns-in_err-c
-returns-in_err-c c = let n : NoFront value (chars c.args.text.now) = no_value_empty
-    (chars c.args.text.now) c.in_err-c.ensures in search rules
+returns-in_err-c c = let n = no_value_empty (chars c.args.text.now) c.in_err-c.ensures in search rules
 
 pub returns-then-c-eq92 : goal.returns-then-c-eq92
 returns-then-c-eq92 c =

@@ -18,13 +18,11 @@ returns-in-Some c =
 
 pub returns-in_err-year : goal.returns-in_err-year
 returns-in_err-year c =
-    let n : NoFront month_date (chars c.args.text.now) =
-    no_year c.in_ok-day.day c.in_ok-day.ensures c.in-None.ensures c.in_err-year.ensures in search rules
+    let n = no_year c.in_ok-day.day c.in_ok-day.ensures c.in-None.ensures c.in_err-year.ensures in search rules
 
 pub returns-in_err-clock : goal.returns-in_err-clock
 returns-in_err-clock c =
-    let n : NoFront month_date (chars c.args.text.now) =
-    no_clock c.in_ok-day.day c.in_ok-day.ensures c.in-None.ensures c.in_ok-year.year c.in_ok-year.ensures
+    let n = no_clock c.in_ok-day.day c.in_ok-day.ensures c.in-None.ensures c.in_ok-year.year c.in_ok-year.ensures
     c.in_err-clock.ensures in search rules
 
 pub returns : goal.returns

@@ -12,8 +12,7 @@ returns-in_err-day c =
 
 pub returns-in_err-clock : goal.returns-in_err-clock
 returns-in_err-clock c =
-    let n : NoFront yearless_date (chars c.args.text.now) =
-    yearless_none_later c.in_ok-day.day c.in_ok-day.ensures c.in_err-clock.ensures in search rules
+    let n = yearless_none_later c.in_ok-day.day c.in_ok-day.ensures c.in_err-clock.ensures in search rules
 
 pub returns : goal.returns
 returns c =
