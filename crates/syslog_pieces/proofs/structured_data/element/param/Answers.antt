@@ -10,11 +10,8 @@ returns-in_err-name c = let n = no_opening (chars c.args.text.now) c.in_err-name
 
 pub returns-in_err-value : goal.returns-in_err-value
 returns-in_err-value c =
-    let n = no_param_opens (chars c.args.text.now) (chars c.in_ok-name.rest.now) _ c.in_ok-name.ensures
-    c.in_err-value.ensures in search rules
+    let n = no_param_opens _ _ _ c.in_ok-name.ensures c.in_err-value.ensures in search rules
 
 pub returns : goal.returns
 returns c =
-    param_read (chars c.args.text.now) (chars c.in_ok-name.rest.now) (chars c.in_ok-value.rest.now)
-    (chars c.in_ok-name.name.now) (chars c.in_ok-value.value.now)
-    c.in_ok-name.ensures c.in_ok-value.ensures
+    param_read _ _ _ _ _ c.in_ok-name.ensures c.in_ok-value.ensures

@@ -13,8 +13,7 @@ returns-in_err-inside c = let n = no_full_start (chars c.args.text.now) c.in_err
 
 pub returns-in_err-value : goal.returns-in_err-value
 returns-in_err-value c =
-    let n = no_full_opening (chars c.args.text.now) (chars c.in_ok-inside.inside.now) _ c.in_ok-inside.ensures
-    c.in_err-value.ensures in search rules
+    let n = no_full_opening _ _ _ c.in_ok-inside.ensures c.in_err-value.ensures in search rules
 
 pub live_closing-requires : goal.live_closing-requires
 live_closing-requires c =

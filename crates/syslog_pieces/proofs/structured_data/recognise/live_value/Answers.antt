@@ -22,23 +22,20 @@ returns-then-more-dead c =
     let i = c.units.invariant in
     let past : c.args.dead ≤ byte_count (chars c.in-Some-unit.more.now) = (let e =
     byte_count_slice c.in-Some-unit.more.now c.in-Some-unit.ensures.0 in omega (arith, e, c.if-more-dead.true)) in (
-      value_dead (chars c.args.text.now) c.units.rest.now c.split_inert.result.0.now c.split_inert.result.1.now
-          c.split_inert.ensures i.1
-          u.0 u.1 (chars c.in-Some-unit.more.now) u.2 i.2.0 i.2.1
-          (u.3 ∙ c.if-last-eq93.true) c.args.dead c.requires past,
+      value_dead _ c.units.rest.now c.split_inert.result.0.now c.split_inert.result.1.now
+          c.split_inert.ensures i.1 u.0 u.1 _ u.2 i.2.0 i.2.1 (u.3 ∙ c.if-last-eq93.true) c.args.dead c.requires past,
       c.requires,
-      λ short. absurd (value_past (chars c.args.text.now) c.units.rest.now c.split_inert.result.0.now
+      λ short. absurd (value_past _ c.units.rest.now c.split_inert.result.0.now
           c.split_inert.result.1.now c.split_inert.ensures i.1
-          u.0 u.1 (chars c.in-Some-unit.more.now) u.2 i.2.0 i.2.1 (u.3 ∙ c.if-last-eq93.true) c.args.dead past short),
+          u.0 u.1 _ u.2 i.2.0 i.2.1 (u.3 ∙ c.if-last-eq93.true) c.args.dead past short),
     )
 
 pub units-preserved : goal.units-preserved
 units-preserved c = (
   c.in-Some-unit.ensures.0,
-  value_on (chars c.args.text.now) c.units.rest.now c.split_inert.result.0.now c.split_inert.result.1.now
+  value_on _ c.units.rest.now c.split_inert.result.0.now c.split_inert.result.1.now
+      c.split_inert.ensures c.units.invariant.1 _ c.in-Some-unit.ensures.1.1 _ c.in-Some-unit.ensures.1.2,
+  text_on _ c.units.rest.now c.split_inert.result.0.now c.split_inert.result.1.now
       c.split_inert.ensures c.units.invariant.1 _ c.in-Some-unit.ensures.1.1
-      (chars c.in-Some-unit.more.now) c.in-Some-unit.ensures.1.2,
-  text_on (chars c.args.text.now) c.units.rest.now c.split_inert.result.0.now c.split_inert.result.1.now
-      c.split_inert.ensures c.units.invariant.1 _ c.in-Some-unit.ensures.1.1
-      (chars c.in-Some-unit.more.now) c.in-Some-unit.ensures.1.2 c.units.invariant.2,
+      _ c.in-Some-unit.ensures.1.2 c.units.invariant.2,
 )
