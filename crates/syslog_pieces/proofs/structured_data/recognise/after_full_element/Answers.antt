@@ -21,11 +21,10 @@ live_closing-requires c =
 
 pub returns : goal.returns
 returns c =
-    let text = chars c.args.text.now in
-    let inside = chars c.in_ok-inside.inside.now in
-    let value = chars c.in_ok-value.value.now in
-    let answers = closing_answers full_element text value
-    (opened_passes full_element text inside value _ _ c.in_ok-inside.ensures c.in_ok-value.ensures)
-    (full_goes text inside _ c.in_ok-inside.ensures value _ c.in_ok-value.ensures)
-    (λ s. shown s) c.live_closing.result c.live_closing.ensures in
+    let text = chars _ in
+    let inside = chars _ in
+    let value = chars _ in
+    let answers = closing_answers full_element text value (opened_passes full_element text inside value _ _
+    c.in_ok-inside.ensures c.in_ok-value.ensures) (full_goes text inside _ c.in_ok-inside.ensures value _
+    c.in_ok-value.ensures) (λ s. shown s) _ c.live_closing.ensures in
     search rules

@@ -12,8 +12,7 @@ returns-in-Some c = value_quoted (chars c.args.text.now) c.units.rest.now c.spli
 
 pub returns-in_default-unit : goal.returns-in_default-unit
 returns-in_default-unit c =
-    let m = value_missing (chars c.args.text.now) c.units.rest.now c.split_inert.result.0.now c.split_inert.result.1.now
-    c.split_inert.ensures c.units.invariant.1 c.in_default-unit.ensures in
+    let m = value_missing _ _ _ _ c.split_inert.ensures c.units.invariant.1 c.in_default-unit.ensures in
     (m.0, m.1, λ _. m.2)
 
 pub returns-then-more-dead : goal.returns-then-more-dead

@@ -8,5 +8,4 @@ split_at-requires c = c.inert_end.ensures.0
 
 pub returns : goal.returns
 returns c =
-    split_at_end (has Inert) c.args.text.now c.split_at.result.0.now c.split_at.result.1.now c.inert_end.result
-    c.inert_end.ensures c.split_at.ensures.front c.split_at.ensures.back
+    split_at_end (has Inert) _ _ _ _ c.inert_end.ensures c.split_at.ensures.front c.split_at.ensures.back
