@@ -17,6 +17,5 @@ end_stays-requires c =
 
 pub returns-clause-verbatim : goal.returns-clause-verbatim
 returns-clause-verbatim c =
-    line_verbatim _ _ _ _ _ _ _ _ _ _ c.in_ok-rest.cut (seen c.end_stays.result.1) c.in_ok-stamp.stamp.is_zulu
-    c.in_ok-gap.ensures c.in_ok-start.ensures c.in_ok-stamp.ensures c.in_ok-rest.ensures c.past_cut.ensures
-    c.end_stays.ensures.ends c.before-front.ensures
+    line_verbatim _ _ _ _ _ _ _ _ _ _ _ (seen _) _ c.in_ok-gap.ensures c.in_ok-start.ensures c.in_ok-stamp.ensures
+    c.in_ok-rest.ensures c.past_cut.ensures c.end_stays.ensures.ends c.before-front.ensures
