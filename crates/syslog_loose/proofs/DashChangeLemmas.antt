@@ -374,28 +374,21 @@ is_read dating text m r = elim (old_turns dating text m r) [
 ]
 
 module _ (dating : Dating) (text : Text) where
-  unread_now : (variant : Variant) → WasUnreadable variant dating text → IsUnreadable variant dating text
-  unread_now RFC5424 h = λ m r. h m r
-  unread_now RFC3164 h = λ m r. let (n, s) = was_read dating text m r in h n s
-  unread_now Either h =
-      λ m r. elim r [
-        | inl s ↦ h m (inl s)
-        | inr (none, s) ↦ let (n, k) = was_read dating text m s in
-            h n (inr (none, k))
-      ]
-
-  unread_before : (variant : Variant) → IsUnreadable variant dating text → WasUnreadable variant dating text
-  unread_before RFC5424 h = λ m r. h m r
-  unread_before RFC3164 h = λ m r. let (n, s) = is_read dating text m r in h n s
-  unread_before Either h =
-      λ m r. elim r [
-        | inl s ↦ h m (inl s)
-        | inr (none, s) ↦ let (n, k) = is_read dating text m s in
-            h n (inr (none, k))
-      ]
+  -- where each message read under one rule is one under the other, a text unreadable under the other is so under it
+  unread_too : (rule other : DashRule) → ((m : MessageValue) → IsRead3164 rule dating text m
+      → (n : MessageValue) × IsRead3164 other dating text n)
+      → (variant : Variant) → ((m : MessageValue) → IsReadUnder other variant dating text m → ⊥)
+      → (m : MessageValue) → IsReadUnder rule variant dating text m → ⊥
+  unread_too rule other turn RFC5424 h m r = h m r
+  unread_too rule other turn RFC3164 h m r = let (n, s) = turn m r in h n s
+  unread_too rule other turn Either h m (inl s) = h m (inl s)
+  unread_too rule other turn Either h m (inr (none, s)) = let (n, k) = turn m s in h n (inr (none, k))
 
   pub unread_alike : (variant : Variant) → WasUnreadable variant dating text ↔ IsUnreadable variant dating text
-  unread_alike variant = (unread_now variant, unread_before variant)
+  unread_alike variant = (
+    unread_too BeforeBlank BeforeAnything (was_read dating text) variant,
+    unread_too BeforeAnything BeforeBlank (is_read dating text) variant,
+  )
 
 -- ---- what the call finds
 

@@ -89,29 +89,19 @@ stamp_field = record {
   Before = λ q. (r : Text) × (q ≡ 32 ∷ r);
 }
 
+-- a name before a blank
+abbrev name_field : (C : Class) → (C.Value → Text) → (C.Value → Type 0) → Format
+name_field C print P = record { reads = C; print = print; ReadsBack = P; Before = λ q. Ends is_not_whitespace q }
+
 abbrev host_field : Format
-host_field = record {
-  reads = host;
-  print = name_text;
-  ReadsBack = λ v. IfSome v IsCanonicalHost;
-  Before = λ q. Ends is_not_whitespace q;
-}
+host_field = name_field host name_text (λ v. IfSome v IsCanonicalHost)
 
 abbrev word_field : Format
-word_field = record {
-  reads = word;
-  print = name_text;
-  ReadsBack = λ v. IfSome v IsCanonicalWord;
-  Before = λ q. Ends is_not_whitespace q;
-}
+word_field = name_field word name_text (λ v. IfSome v IsCanonicalWord)
 
 abbrev process_field : Format
-process_field = record {
-  reads = process_word;
-  print = process_text;
-  ReadsBack = λ v. IfSome v IsCanonicalProcess × IfSome v IsBoundedProcess;
-  Before = λ q. Ends is_not_whitespace q;
-}
+process_field =
+    name_field process_word process_text (λ v. IfSome v IsCanonicalProcess × IfSome v IsBoundedProcess)
 
 -- from the version up to the space before the elements
 abbrev pub fields : List Format

@@ -9,5 +9,6 @@ returns-then-a-b g c = unlike_lists (text_of g.S.AsStr.text) c.args.a.now c.args
 pub returns : goal.returns
 returns g c =
     let start = c.first_difference-start.result in
-    rw (slice_to_end _ start, slice_to_end _ start) at c.are_as_frequent.ensures
-    ∙ counted_from (text_of g.S.AsStr.text) _ _ start c.if-a-b.false c.first_difference-start.ensures.same
+    rw (slice_to_end c.args.a.now start, slice_to_end c.args.b.now start) at c.are_as_frequent.ensures
+    ∙ counted_from (text_of g.S.AsStr.text) c.args.a.now c.args.b.now start c.if-a-b.false
+    c.first_difference-start.ensures.same

@@ -21,10 +21,7 @@ live_closing-requires c =
 
 pub returns : goal.returns
 returns c =
-    let text = chars _ in
-    let inside = chars _ in
-    let value = chars _ in
-    let answers = closing_answers full_element text value (opened_passes full_element text inside value _ _
-    c.in_ok-inside.ensures c.in_ok-value.ensures) (full_goes text inside _ c.in_ok-inside.ensures value _
-    c.in_ok-value.ensures) (λ s. shown s) _ c.live_closing.ensures in
+    let answers = closing_answers full_element _ _
+    (opened_passes full_element _ _ _ _ _ c.in_ok-inside.ensures c.in_ok-value.ensures)
+    (full_goes _ _ _ c.in_ok-inside.ensures _ _ c.in_ok-value.ensures) (λ s. shown s) _ c.live_closing.ensures in
     search rules

@@ -24,9 +24,9 @@ refused S T (Err x) d h t = subst T (sym h) t
 
 pub returns-in_err-behind : goal.returns-in_err-behind
 returns-in_err-behind c =
-    let n = meets_none closing _ closing _ c.params.invariant.2 c.in_err-behind.ensures.0 in let dead : IsDead _ _ =
-    passes_dead_on closing _ _ _ c.params.invariant.1 n c.in_err-behind.ensures.1 in refused _
-    (λ d. NoFront closing _ × IsDead _ d) c.from_residual.result _ c.from_residual.ensures.1 (n, dead)
+    let n = meets_none closing _ closing _ c.params.invariant.2 c.in_err-behind.ensures.0 in
+    let dead = passes_dead_on closing _ _ _ c.params.invariant.1 n c.in_err-behind.ensures.1 in
+    refused _ (λ d. NoFront closing _ × IsDead _ d) c.from_residual.result _ c.from_residual.ensures.1 (n, dead)
 
 pub returns-in-Some : goal.returns-in-Some
 returns-in-Some c =
