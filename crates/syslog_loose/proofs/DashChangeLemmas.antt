@@ -4,7 +4,7 @@ use Rattle.std.proofs.Common.{IsTrue, List, [], ◌∷◌, ◌++◌, length, Opt
 use Rattle.std.proofs.Common.{sym, ap, subst, ◌∙◌, arith, append_assoc, append-nil}
 use Rattle.std.proofs.lemmas.Bool.Decides.{eqb_tells}
 use Rattle.syslog_pieces.specs.Pieces.Class.{Text, Class, Values, Front, NoFront, join}
-use Rattle.syslog_pieces.specs.Pieces.Class.{Divides, Row, Ends, run, rest, exactly, optional}
+use Rattle.syslog_pieces.specs.Pieces.Class.{Divides, Row, Ends, exactly, optional}
 use Rattle.syslog_pieces.specs.StructuredData.Element.{ElementValue}
 use Rattle.syslog_pieces.specs.StructuredData.Rfc3164List.{IsRfc3164List, rfc3164_list, BeginsNoList}
 use Rattle.syslog_pieces.specs.Text.{trimmed, is_blank, dash}
@@ -19,7 +19,7 @@ use Rattle.syslog_loose.proofs.Rfc3164Lemmas.Years.{other_read}
 use Rattle.syslog_pieces.specs.declared.structured_data.rfc3164_list.DashRule.{DashRule}
 use Rattle.syslog_pieces.specs.declared.structured_data.rfc3164_list.DashRule.TheVariants.{BeforeAnything, BeforeBlank}
 use Rattle.syslog_pieces.proofs.PieceLemmas.Class.{AllDeterministic, heads, front_same, row_det, optional_none}
-use Rattle.syslog_pieces.proofs.PieceLemmas.Class.{optional_some, rest_front, row_nil, row_cons, row_head}
+use Rattle.syslog_pieces.proofs.PieceLemmas.Class.{optional_some, row_cons, row_head}
 use Rattle.syslog_pieces.proofs.PieceLemmas.Class.{rows_join, division_front, front_division, both_values}
 use Rattle.syslog_pieces.proofs.PieceLemmas.Class.{all_joined, firsts, lasts, rows_split}
 use Rattle.syslog_pieces.proofs.StructuredDataLemmas.Rfc3164List.{dash_rfc3164_list, full_begins, no_rfc3164_list}
@@ -32,7 +32,7 @@ use Rattle.syslog_loose.specs.DashChange.{ReadsDifferently, BeginsDashChange}
 use Rattle.syslog_loose.specs.DashChange.{HasDashChange3164, HasDashChange, WasUnreadable}
 use Rattle.syslog_loose.specs.Message.{MessageValue}
 use Rattle.syslog_loose.specs.Rfc3164.{Names3164, Resolves, stamped_row, fields_row, rfc3164_row, Means3164, IsRead3164}
-use Rattle.syslog_loose.proofs.Rfc3164Lemmas.Rows.{from_gap, from_list}
+use Rattle.syslog_loose.proofs.Rfc3164Lemmas.Rows.{from_gap, from_list, gap_back}
 use Rattle.syslog_loose.proofs.Rfc3164Lemmas.Unique as rfc3164
 use Rattle.syslog_loose.proofs.Rfc5424Lemmas as strict
 use Rattle.syslog_loose.proofs.Rfc3164Lemmas.Unique.{stamped_det, fields_det}
@@ -226,11 +226,8 @@ dash_no_list c q b = (
   λ p r v e h. let s = full_begins p r v h in let n = heads 45 91 (c ∷ q) s.0 (e ∙ s.1) in omega (arith, n),
 )
 
-no_gap : (t : Text) → Ends is_blank t → Front (run is_blank) t t tt
-no_gap t h = record { piece = []; whole = refl; is = (tt, h) }
-
 gap_row : (t : Text) → Ends is_blank t → Front (Row from_gap) t [] (tt, (t, tt))
-gap_row t h = row_cons (run is_blank) (rest ∷ []) (no_gap t h) (row_cons rest [] (rest_front t) (row_nil []))
+gap_row t h = gap_back t t (record { piece = []; whole = refl; is = (tt, h) })
 
 -- the values of the row with these at its front, this list and this message
 abbrev with_list : (dating : Dating) → Values (before_list dating) → Option (List ElementValue) → Text
@@ -377,28 +374,21 @@ is_read dating text m r = elim (old_turns dating text m r) [
 ]
 
 module _ (dating : Dating) (text : Text) where
-  unread_now : (variant : Variant) → WasUnreadable variant dating text → IsUnreadable variant dating text
-  unread_now RFC5424 h = λ m r. h m r
-  unread_now RFC3164 h = λ m r. let (n, s) = was_read dating text m r in h n s
-  unread_now Either h =
-      λ m r. elim r [
-        | inl s ↦ h m (inl s)
-        | inr (none, s) ↦ let (n, k) = was_read dating text m s in
-            h n (inr (none, k))
-      ]
-
-  unread_before : (variant : Variant) → IsUnreadable variant dating text → WasUnreadable variant dating text
-  unread_before RFC5424 h = λ m r. h m r
-  unread_before RFC3164 h = λ m r. let (n, s) = is_read dating text m r in h n s
-  unread_before Either h =
-      λ m r. elim r [
-        | inl s ↦ h m (inl s)
-        | inr (none, s) ↦ let (n, k) = is_read dating text m s in
-            h n (inr (none, k))
-      ]
+  -- where each message read under one rule is one under the other, a text unreadable under the other is so under it
+  unread_too : (rule other : DashRule) → ((m : MessageValue) → IsRead3164 rule dating text m
+      → (n : MessageValue) × IsRead3164 other dating text n)
+      → (variant : Variant) → ((m : MessageValue) → IsReadUnder other variant dating text m → ⊥)
+      → (m : MessageValue) → IsReadUnder rule variant dating text m → ⊥
+  unread_too rule other turn RFC5424 h m r = h m r
+  unread_too rule other turn RFC3164 h m r = let (n, s) = turn m r in h n s
+  unread_too rule other turn Either h m (inl s) = h m (inl s)
+  unread_too rule other turn Either h m (inr (none, s)) = let (n, k) = turn m s in h n (inr (none, k))
 
   pub unread_alike : (variant : Variant) → WasUnreadable variant dating text ↔ IsUnreadable variant dating text
-  unread_alike variant = (unread_now variant, unread_before variant)
+  unread_alike variant = (
+    unread_too BeforeBlank BeforeAnything (was_read dating text) variant,
+    unread_too BeforeAnything BeforeBlank (is_read dating text) variant,
+  )
 
 -- ---- what the call finds
 

@@ -7,12 +7,12 @@ use Rattle.std.specs.Fmt.{decimal}
 use Rattle.std.specs.Option.{option_map_or}
 use Rattle.std.specs.Str.{drop_trailing_whitespace}
 use Rattle.syslog_pieces.specs.Pieces.Class.{Text, Front, Ends, exactly}
-use Rattle.syslog_pieces.specs.Pri.{priority, facility_number, severity_number}
+use Rattle.syslog_pieces.specs.Pri.{priority_row, priority, facility_number, severity_number}
 use Rattle.syslog_pieces.specs.Text.{number}
 use Rattle.syslog_pieces.specs.declared.pri.SyslogFacility.{SyslogFacility}
 use Rattle.syslog_pieces.specs.declared.pri.SyslogSeverity.{SyslogSeverity}
-use Rattle.syslog_pieces.proofs.PieceLemmas.Class.{row_nil, row_cons}
 use Rattle.syslog_pieces.proofs.PieceLemmas.Steps.{piece_front}
+use Rattle.syslog_pieces.proofs.PieceLemmas.Rows.{row_of, ◌then◌}
 use Rattle.syslog_pieces.proofs.PriLemmas.{as_priority, facility_low, severity_low}
 use Rattle.syslog_pieces.proofs.TextLemmas.Words.{own}
 use Rattle.syslog_loose.specs.Message.{MessageValue}
@@ -45,10 +45,9 @@ priority_low m = let h = priority_small m in omega arith
 pub priority_front : (n : ℕ) (q : Text) → n ≤ 255 → Front priority (60 ∷ (decimal n ++ (62 ∷ q))) q n
 priority_front n q l =
     as_priority
-    (row_cons (exactly (60 ∷ [])) (number 255 ∷ exactly (62 ∷ []) ∷ [])
-    (piece_front (exactly (60 ∷ [])) (60 ∷ []) _ tt refl)
-    (row_cons (number 255) (exactly (62 ∷ []) ∷ []) (number_front n 255 _ l (omega arith) refl)
-    (row_cons (exactly (62 ∷ [])) [] (piece_front (exactly (62 ∷ [])) (62 ∷ []) q tt refl) (row_nil q))))
+    (row_of priority_row
+    (piece_front (exactly (60 ∷ [])) (60 ∷ []) _ tt refl then number_front n 255 _ l (omega arith) refl
+    then piece_front (exactly (62 ∷ [])) (62 ∷ []) q tt refl then refl))
 
 -- trimming leaves it
 pub priority_trimmed : (n : ℕ) (q : Text)

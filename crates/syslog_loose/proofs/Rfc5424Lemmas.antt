@@ -17,6 +17,7 @@ use Rattle.syslog_pieces.proofs.StructuredDataLemmas.Elements.{forgiving_det}
 use Rattle.syslog_pieces.proofs.StructuredDataLemmas.ElementParts.{forgiving_quotes}
 use Rattle.syslog_pieces.proofs.PieceLemmas.Parts.{Quoted, row_quotes, silent, rest_quotes, host_quotes, word_quotes}
 use Rattle.syslog_pieces.proofs.PieceLemmas.Parts.{process_quotes}
+use Rattle.syslog_pieces.proofs.PieceLemmas.Rows.{row_of, ◌then◌}
 use Rattle.syslog_pieces.proofs.PriLemmas.{priority_det}
 use Rattle.syslog_pieces.proofs.ProcIdLemmas.{process_word_det}
 use Rattle.syslog_pieces.proofs.TimestampLemmas.Piece.{header_stamp_det}
@@ -31,10 +32,11 @@ header_det =
     also some_run_det is_blank also host_det also some_run_det is_blank also word_det also some_run_det is_blank
     also process_word_det also some_run_det is_blank also word_det also tt
 
+pub data_det : AllDeterministic data_row
+data_det = run_det is_blank also forgiving_det also run_det is_blank also rest_det also tt
+
 pub rfc5424_det : AllDeterministic rfc5424_row
-rfc5424_det =
-    all_joined header_row data_row header_det
-    (run_det is_blank also forgiving_det also run_det is_blank also rest_det also tt)
+rfc5424_det = all_joined header_row data_row header_det data_det
 
 -- a text is read as one message
 pub one_message : (text : Text) (m n : MessageValue) → IsRead5424 text m → IsRead5424 text n → m ≡ n
@@ -60,10 +62,7 @@ pub list_needs_none : (text t u w : Text) (vs : Values header_row) → t ≡ tri
 list_needs_none text t u w vs e none header gap q es list =
     let (r, behind) = some_front_run is_blank q in
     let row = rows_join header_row data_row header
-    (row_cons (run is_blank) (forgiving ∷ run is_blank ∷ rest ∷ []) gap
-    (row_cons forgiving (run is_blank ∷ rest ∷ []) list
-    (row_cons (run is_blank) (rest ∷ []) behind
-    (row_cons rest [] (rest_front r) (row_nil []))))) in
+    (row_of data_row (gap then list then behind then rest_front r then refl)) in
     none _ (is_read text t _ _ e refl row)
 
 -- ---- the texts of a message are in the pieces

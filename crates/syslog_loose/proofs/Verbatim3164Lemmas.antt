@@ -11,12 +11,12 @@ use Rattle.syslog_pieces.specs.Bodies.Verbatim.{VerbatimDigits}
 use Rattle.syslog_pieces.specs.Bodies.VerbatimStamp.{zone_text, IsVerbatimStamp}
 use Rattle.syslog_pieces.specs.Bodies.Scan.{SplitsRun}
 use Rattle.syslog_pieces.specs.Pieces.Class.{Text, Values, Front, NoFront, Row, Each, Ends}
-use Rattle.syslog_pieces.specs.Pieces.Class.{run, some_run, exactly, optional, spaced, rest}
+use Rattle.syslog_pieces.specs.Pieces.Class.{run, some_run, exactly}
 use Rattle.syslog_pieces.specs.Pieces.Verbatim.{Verbatim}
 use Rattle.syslog_pieces.specs.Pri.{priority, priority_text}
 use Rattle.syslog_pieces.specs.ProcId.{NamesProcess, procid_text, IsBoundedProcess}
 use Rattle.syslog_pieces.specs.StructuredData.Rfc3164List.{rfc3164_list}
-use Rattle.syslog_pieces.specs.Text.{trimmed, is_blank, is_tag_char, dash, colon, host, tag_word, name_text}
+use Rattle.syslog_pieces.specs.Text.{trimmed, is_blank, is_tag_char, dash, colon, host, name_text}
 use Rattle.syslog_pieces.specs.Text.CharClass.{is_label_char}
 use Rattle.syslog_pieces.specs.Timestamp.{header_stamp}
 use Rattle.syslog_pieces.specs.Timestamp.Rfc3164.{rfc3164_stamp, showing_row, ShowsYearless}
@@ -30,7 +30,7 @@ use Rattle.syslog_pieces.specs.declared.timestamp.OffsetTimestamp.{OffsetTimesta
 use Rattle.syslog_pieces.proofs.TimestampLemmas.Printing.{printed_stamp-bytes}
 use Rattle.syslog_pieces.proofs.TimestampLemmas.RoundTrip.{stamp_text-canonical}
 use Rattle.syslog_pieces.specs.declared.timestamp.month_date.MonthDate.{MonthDate}
-use Rattle.syslog_pieces.proofs.PieceLemmas.Class.{row_nil, row_cons, rest_front}
+use Rattle.syslog_pieces.proofs.PieceLemmas.Class.{rest_front, rows_join}
 use Rattle.syslog_pieces.proofs.PieceLemmas.Class.{front_division, optional_some, optional_none}
 use Rattle.syslog_pieces.proofs.PieceLemmas.Verbatim.{front_of}
 use Rattle.syslog_pieces.proofs.PieceLemmas.Steps.{piece_front}
@@ -45,7 +45,7 @@ use Rattle.syslog_loose.specs.Printed.{timestamp_text, printed_3164}
 use Rattle.syslog_loose.specs.ReadBack.{ReadsProtocol}
 use Rattle.syslog_loose.specs.Reading.{dash_rule, IsRead, AsksYear, IncompleteDate}
 use Rattle.syslog_loose.specs.Reading.{incomplete, HasMonth, IsYearAnswered}
-use Rattle.syslog_loose.specs.Rfc3164.{names, body_row, rfc3164_row, IsRead3164}
+use Rattle.syslog_loose.specs.Rfc3164.{names, stamped_row, body_row, rfc3164_row, IsRead3164}
 use Rattle.syslog_loose.specs.declared.message.Protocol.TheVariants as protocol
 use Rattle.syslog_loose.specs.declared.variant.Variant.{Variant}
 use Rattle.syslog_loose.specs.declared.variant.Variant.TheVariants.{Either, RFC3164, RFC5424}
@@ -54,14 +54,14 @@ use Rattle.syslog_loose.proofs.ReadingLemmas.{answered_to}
 use Rattle.syslog_loose.proofs.Rfc3164Lemmas.Apart.{not_both}
 use Rattle.syslog_loose.proofs.Rfc3164Lemmas.Exceptions.{no_dash_host, no_colon_host, no_colon_names}
 use Rattle.syslog_pieces.proofs.PieceLemmas.Each.{each_map, each_left}
+use Rattle.syslog_pieces.proofs.PieceLemmas.Rows.{row_of, ◌then◌}
 use Rattle.syslog_loose.proofs.Rfc3164Lemmas.Near.{read_near}
-use Rattle.syslog_loose.proofs.Rfc3164Lemmas.ReadBack.{digit_inside, gap_back, program_field}
+use Rattle.syslog_loose.proofs.Rfc3164Lemmas.ReadBack.{digit_inside, program_field, names_back}
 use Rattle.syslog_loose.proofs.Rfc3164Lemmas.ReadBack.{resolved, tag_back, host_field_back}
 use Rattle.syslog_loose.proofs.Rfc3164Lemmas.Reading.{is_read}
-use Rattle.syslog_loose.proofs.Rfc3164Lemmas.Rows.{from_gap, from_list, from_blanks, from_colon}
-use Rattle.syslog_loose.proofs.Rfc3164Lemmas.Rows.{from_tag_end, from_tag, from_stamp, from_priority_end}
 use Rattle.syslog_loose.proofs.Rfc3164Lemmas.Unique.{told}
 use Rattle.syslog_loose.proofs.Rfc3164Lemmas.Whole.{printed_whole}
+use Rattle.syslog_loose.proofs.Rfc3164Lemmas.Rows.{to_colon, from_blanks}
 use Rattle.syslog_loose.proofs.TagFormLemmas.{no_opening}
 
 -- ---- the names
@@ -191,18 +191,12 @@ module _ (dating : Dating) (t b d front tail msg : Text) (stamp : Option OffsetT
 
   names_row : Front (Row (body_row dash_rule)) tail [] values.1.1.1
   names_row =
-      let u : Text = program_text (Some n.appname) n.procid ++ (58 ∷ 32 ∷ msg) in
-      let (q, tag, behind) = tag_back n.hostname (Some n.appname) n.procid (32 ∷ msg) n.canonical n.bounded in
       subst (λ (x : Text). Front (Row (body_row dash_rule)) x [] values.1.1.1) (sym n.whole)
-      (row_cons (optional (spaced host)) (from_tag dash_rule) (host_field_back n.hostname u n.host)
-      (row_cons (optional (spaced tag_word)) (from_tag_end dash_rule) tag
-      (row_cons (run is_blank) (from_colon dash_rule) behind
-      (row_cons (optional (exactly colon)) (from_blanks dash_rule)
-      (optional_some (exactly colon) (piece_front (exactly colon) colon (32 ∷ msg) tt refl))
-      (row_cons (run is_blank) (from_list dash_rule)
-      (piece_front (run is_blank) (32 ∷ []) msg tt ((refl, tt), n.unblank))
-      (row_cons (optional (rfc3164_list dash_rule)) from_gap (optional_none (rfc3164_list dash_rule) no_list)
-      (gap_back msg msg (record { piece = []; whole = refl; is = (tt, n.unblank) }))))))))
+      (rows_join to_colon (from_blanks dash_rule)
+      (names_back n.hostname (Some n.appname) n.procid (32 ∷ msg) n.host n.canonical n.bounded)
+      (row_of (from_blanks dash_rule) (piece_front (run is_blank) (32 ∷ []) msg tt ((refl, tt), n.unblank)
+      then optional_none (rfc3164_list dash_rule) no_list
+      then piece_front (run is_blank) [] msg tt (tt, n.unblank) then rest_front msg then refl)))
 
   front_is : (q : Text) → 60 ∷ (decimal k.value ++ (62 ∷ q)) ≡ front ++ q
   front_is q =
@@ -226,10 +220,9 @@ module _ (dating : Dating) (t b d front tail msg : Text) (stamp : Option OffsetT
   verbatim_rfc3164 = record {
     values = values;
     message = message;
-    is = row_cons (optional priority) (from_priority_end dash_rule dating)
-        (optional_some priority (front_of priority priority_text t b k))
-        (row_cons (run is_blank) (from_stamp dash_rule dating) gap
-        (row_cons (rfc3164_stamp dating) (body_row dash_rule) s names_row));
+    is = rows_join (stamped_row dating) (body_row dash_rule)
+        (row_of (stamped_row dating) (optional_some priority (front_of priority priority_text t b k) then gap then s
+        then refl)) names_row;
     means = (
       names n.hostname (Some n.appname) n.procid,
       resolved n.hostname (Some n.appname) n.procid n.canonical n.bounded,
@@ -308,10 +301,9 @@ dated_shows variant text front date tail shows = (
   Some shows.verbatim.value,
   tail,
   front_division (showing_row yearless_date)
-      (row_cons (optional priority) (run is_blank ∷ yearless_date ∷ rest ∷ [])
-      (optional_some priority (front_of priority priority_text (trimmed text) shows.behind shows.verbatim))
-      (row_cons (run is_blank) (yearless_date ∷ rest ∷ []) shows.gap
-      (row_cons yearless_date (rest ∷ []) shows.dated (row_cons rest [] (rest_front tail) (row_nil []))))),
+      (row_of (showing_row yearless_date)
+      (optional_some priority (front_of priority priority_text (trimmed text) shows.behind shows.verbatim)
+      then shows.gap then shows.dated then rest_front tail then refl)),
 )
 
 asks_shown : (variant : Variant) (text : Text) (date : MonthDate) → ReadsProtocol variant protocol.RFC3164

@@ -10,7 +10,7 @@ use Rattle.std.specs.Fmt.{decimal}
 use Rattle.std.specs.Option.{option_map_or}
 use Rattle.syslog_pieces.specs.Bodies.Verbatim.{Copies, CopiedOn}
 use Rattle.syslog_pieces.specs.Bodies.VerbatimStamp.{zone_text, IsVerbatimStamp}
-use Rattle.syslog_pieces.specs.Pieces.Class.{Text, Class, Values, Front, run, some_run, optional, rest}
+use Rattle.syslog_pieces.specs.Pieces.Class.{Text, Values, Front, run, some_run, rest}
 use Rattle.syslog_pieces.specs.Pieces.Verbatim.{Verbatim}
 use Rattle.syslog_pieces.specs.Pieces.View.{seen}
 use Rattle.syslog_pieces.specs.Pri.{priority, priority_text, facility_of, severity_of, facility_number, severity_number}
@@ -24,12 +24,14 @@ use Rattle.syslog_pieces.specs.Text.{is_blank, dash, number, host, word, name_te
 use Rattle.syslog_pieces.specs.Timestamp.{header_stamp}
 use Rattle.syslog_pieces.specs.Timestamp.Printed.{printed_stamp}
 use Rattle.syslog_pieces.specs.declared.timestamp.OffsetTimestamp.{OffsetTimestamp}
-use Rattle.syslog_pieces.proofs.PieceLemmas.Class.{row_nil, row_cons, rows_join, rest_front}
+use Rattle.syslog_pieces.proofs.PieceLemmas.Class.{rows_join, optional_some}
 use Rattle.syslog_pieces.proofs.PieceLemmas.Verbatim.{front_of}
+use Rattle.syslog_pieces.proofs.PieceLemmas.Rows.{row_pieces, row_of, ◌then◌}
 use Rattle.syslog_pieces.proofs.PriLemmas.{priority_composed}
 use Rattle.syslog_pieces.proofs.TextLemmas.Copied.{extended, verbatim_on}
 use Rattle.syslog_loose.proofs.ReadingLemmas.{only_read}
 use Rattle.syslog_loose.proofs.Rfc3164Lemmas.Apart.{shown_apart}
+use Rattle.syslog_loose.proofs.Rfc3164Lemmas.Rows.{from_gap, gap_back}
 use Rattle.syslog_loose.proofs.Rfc3164Lemmas.Shown.{shows_month_date}
 use Rattle.syslog_loose.specs.VerbatimLine.{front_row, tail_row, spaced, bytes_of, VerbatimFront}
 use Rattle.syslog_loose.specs.VerbatimLine.{VerbatimTail, VerbatimEnd, PrintsVerbatim5424, PrintsAs5424}
@@ -65,38 +67,10 @@ front_verbatim t a b k small v = record {
   pri = k.value;
   composes = small;
   version = v.value;
-  is = row_cons (optional priority) (number 4294967295 ∷ [])
-      (record { piece = priority_text k.value; whole = k.whole; is = k.is })
-      (row_cons (number 4294967295) [] (front_of (number 4294967295) decimal a b v) (row_nil b));
+  is = row_of front_row (optional_some priority (front_of priority priority_text t a k)
+      then front_of (number 4294967295) decimal a b v then refl);
   whole = k.whole ∙ ap (λ (x : Text). priority_text k.value ++ x) v.whole;
 }
-
-abbrev from_list : List Class
-from_list = forgiving ∷ []
-
-abbrev from_gap5 : List Class
-from_gap5 = run is_blank ∷ from_list
-
-abbrev from_msgid : List Class
-from_msgid = word ∷ from_gap5
-
-abbrev from_gap4 : List Class
-from_gap4 = some_run is_blank ∷ from_msgid
-
-abbrev from_process : List Class
-from_process = process_word ∷ from_gap4
-
-abbrev from_gap3 : List Class
-from_gap3 = some_run is_blank ∷ from_process
-
-abbrev from_appname : List Class
-from_appname = word ∷ from_gap3
-
-abbrev from_gap2 : List Class
-from_gap2 = some_run is_blank ∷ from_appname
-
-abbrev from_hostname : List Class
-from_hostname = host ∷ from_gap2
 
 -- five pieces, each behind a space
 abbrev five : Text → Text → Text → Text → Text → Text
@@ -179,16 +153,9 @@ module _ (t a b c d e f g h i q : Text) (x1 x2 x3 x4 x5 x6 : Option Cut)
     procid = k3.value;
     msgid = k4.value;
     elements = k5.value;
-    is = row_cons (some_run is_blank) from_hostname s1.is
-        (row_cons host from_gap2 (front_of host name_text a b k1)
-        (row_cons (some_run is_blank) from_appname s2.is
-        (row_cons word from_gap3 (front_of word name_text c d k2)
-        (row_cons (some_run is_blank) from_process s3.is
-        (row_cons process_word from_gap4 (front_of process_word process_text e f k3)
-        (row_cons (some_run is_blank) from_msgid s4.is
-        (row_cons word from_gap5 (front_of word name_text g h k4)
-        (row_cons (run is_blank) from_list (gap_run h i x4 x5 s5)
-        (row_cons forgiving [] k5.is (row_nil q))))))))));
+    is = row_of tail_row (s1.is then front_of host name_text a b k1 then s2.is then front_of word name_text c d k2
+        then s3.is then front_of process_word process_text e f k3 then s4.is then front_of word name_text g h k4
+        then gap_run h i x4 x5 s5 then k5.is then refl);
     copies = subst (λ (p : Text). Copies t x6 q p) in_order up_to_list;
   }
 
@@ -314,12 +281,10 @@ module _ (t b c zone d n front head start end : Text) (left : Option Cut) (msg :
   line_verbatim = record {
     values =
         (Some k.pri, (k.version, (tt, (z.value, (tt, (l.hostname, (tt, (l.appname, (tt, behind_names)))))))));
-    is = rows_join front_row (some_run is_blank ∷ header_stamp ∷ (tail_row ++ (run is_blank ∷ rest ∷ []))) k.is
-        (row_cons (some_run is_blank) (header_stamp ∷ (tail_row ++ (run is_blank ∷ rest ∷ [])))
-        (front_of (some_run is_blank) (λ _. 32 ∷ []) b c s)
-        (row_cons header_stamp (tail_row ++ (run is_blank ∷ rest ∷ [])) z.is
-        (rows_join tail_row (run is_blank ∷ rest ∷ []) l.is
-        (row_cons (run is_blank) (rest ∷ []) e.gap (row_cons rest [] (rest_front o) (row_nil []))))));
+    is = rows_join front_row (some_run is_blank ∷ header_stamp ∷ (tail_row ++ from_gap)) k.is
+        (row_of (some_run is_blank ∷ header_stamp ∷ (tail_row ++ from_gap))
+        (front_of (some_run is_blank) (λ _. 32 ∷ []) b c s then z.is
+        then row_pieces (tail_row ++ from_gap) (rows_join tail_row from_gap l.is (gap_back n o e.gap))));
     prints = ap₂ (λ (x : ℕ) (y : Text). 60 ∷ (decimal x ++ (62 ∷ (decimal k.version ++ (32 ∷ y)))))
         (composes k.pri k.composes) stamp_is
         ∙ front_prints t b c z.copied zone front

@@ -258,8 +258,7 @@ priority_verbatim t a b q f k g =
       whole = k.whole;
       is = (k.is.0, k.is.1, k.is.2, k.is.3, (let h = k.is.4 in omega arith));
     } in
-    let p : Front priority t q n = as_priority (row_cons (exactly (60 ∷ [])) (number 255 ∷ exactly (62 ∷ []) ∷ []) f
-    (row_cons (number 255) (exactly (62 ∷ []) ∷ []) m (row_cons (exactly (62 ∷ [])) [] g (row_nil q)))) in
+    let p : Front priority t q n = as_priority (row_of priority_row (f then m then g then refl)) in
     let e : t ≡ priority_text n ++ q =
     begins 60 t a f ∙ ap (λ (x : Text). 60 ∷ x) (k.whole ∙ ap (λ (x : Text). decimal n ++ x) (begins 62 b q g)
     ∙ sym (append_assoc (decimal n) (62 ∷ []) q)) in

@@ -21,7 +21,7 @@ use Rattle.syslog_pieces.proofs.PieceLemmas.Class.{run_same, rest_same, heads, r
 use Rattle.syslog_pieces.proofs.PieceLemmas.Class.{optional_det, optional_some, exactly_det, run_det}
 use Rattle.syslog_pieces.proofs.PieceLemmas.Class.{spaced_det, spaced_parts, rest_whole}
 use Rattle.syslog_pieces.proofs.PieceLemmas.Kinds.{Begins, begins_apart, begins_more, begins_with}
-use Rattle.syslog_pieces.proofs.PieceLemmas.Steps.{piece_front, step, step_value}
+use Rattle.syslog_pieces.proofs.PieceLemmas.Steps.{piece_front, step, step_value, rows_step}
 use Rattle.syslog_pieces.proofs.PieceLemmas.Steps.{front_longer, absent_none, present_front}
 use Rattle.syslog_pieces.proofs.PriLemmas.{priority_det, priority_composed}
 use Rattle.syslog_pieces.proofs.StructuredDataLemmas.Rfc3164List.{begins_no_list}
@@ -43,12 +43,13 @@ use Rattle.syslog_pieces.proofs.PieceLemmas.Each.{each_right, each_append}
 use Rattle.syslog_loose.proofs.Rfc3164Lemmas.Near.{TagField, tag_field, form_parts, no_colon_process}
 use Rattle.syslog_loose.proofs.Rfc3164Lemmas.Near.{severity_beside, read_near, some_same}
 use Rattle.syslog_loose.proofs.Rfc3164Lemmas.Printed.{printed_is}
-use Rattle.syslog_loose.proofs.Rfc3164Lemmas.ReadBack.{canonical_back, tag_back, program_field}
-use Rattle.syslog_loose.proofs.Rfc3164Lemmas.ReadBack.{host_field_back, stamp_back}
-use Rattle.syslog_loose.proofs.Rfc3164Lemmas.Rows.{from_gap, from_list, from_blanks, from_colon}
+use Rattle.syslog_loose.proofs.Rfc3164Lemmas.ReadBack.{canonical_back, tag_back, program_field, to_stamp_back}
+use Rattle.syslog_loose.proofs.Rfc3164Lemmas.ReadBack.{host_field_back, stamp_back, names_back}
+use Rattle.syslog_loose.proofs.Rfc3164Lemmas.Rows.{from_gap, from_list, from_blanks, from_colon, to_stamp, to_colon}
 use Rattle.syslog_loose.proofs.Rfc3164Lemmas.Rows.{from_tag_end, from_tag, from_stamp, from_priority_end}
 use Rattle.syslog_loose.proofs.Rfc3164Lemmas.Unique.{told}
 use Rattle.syslog_loose.proofs.Rfc3164Lemmas.Whole.{program_text, whole, tail_text, trimmed_whole}
+use Rattle.syslog_loose.proofs.Rfc3164Lemmas.Rows.{to_stamp_det, to_colon_det}
 use Rattle.syslog_loose.proofs.TrimLemmas.{message_end, message_blanks, stamp_unblank}
 use Rattle.syslog_pieces.proofs.PieceLemmas.Rows.{row_pieces}
 
@@ -228,15 +229,8 @@ module _ (rule : DashRule) (dating : Dating) (m : MessageValue) (b : IsBounded m
         let y : Text = name_text m.hostname ++ (32 ∷ u) in
         let x2 : Text = timestamp_text m.timestamp ++ (32 ∷ y) in
         let p = priority_of m in
-        let pri : Front (optional priority) (whole m t) (32 ∷ x2) (Some p) =
-        optional_some priority (priority_front p (32 ∷ x2) (priority_low m)) in
-        let pri_is : v.0 ≡ Some p =
-        step_value (optional priority) (from_priority_end rule dating) (optional_det priority priority_det) pri d in
-        let d2 : Front (Row (from_priority_end rule dating)) (32 ∷ x2) [] v.1 =
-        step (optional priority) (from_priority_end rule dating) (optional_det priority priority_det) pri d in
-        let d3 : Front (Row (from_stamp rule dating)) x2 [] v.1.1 = step (run is_blank) (from_stamp rule dating)
-        (run_det is_blank) {t = 32 ∷ x2} {q = x2} {v = tt}
-        (piece_front (run is_blank) (32 ∷ []) x2 tt ((refl, tt), stamp_unblank m.timestamp (32 ∷ y))) d2 in
+        let (first, d3) = rows_step to_stamp (from_stamp rule dating) to_stamp_det {vs = v} (to_stamp_back m y) d in
+        let pri_is : v.0 ≡ Some p = ap (λ (x : Values to_stamp). x.0) first in
         let g3 = row_head (rfc3164_stamp dating) (body_row rule) d3 in
         let stamp : m.timestamp ≡ v.1.1.0 = ap (λ (x : MessageValue). x.timestamp) means in
         let canonical : IfSome m.timestamp IsCanonicalStamp = stamp_canonical dating m.timestamp g3.0 y
@@ -263,15 +257,8 @@ module _ (rule : DashRule) (dating : Dating) (m : MessageValue) (b : IsBounded m
         ] in
         let named : AreCanonicalNames m.hostname m.appname m.procid =
         canonical_names m.hostname m.appname m.procid near.names no_colon in
-        let (q, tag, gap) = tag_back m.hostname m.appname m.procid t named b.procid in
-        let d6 : Front (Row (from_tag_end rule)) q [] v.1.1.1.1.1 = step (optional (spaced tag_word))
-        (from_tag_end rule) (optional_det (spaced tag_word)
-        (spaced_det tag_word tag_word_det)) {t = 32 ∷ u} {q = q} {v = program_field m.appname m.procid} tag d5 in
-        let d7 : Front (Row (from_colon rule)) (58 ∷ t) [] v.1.1.1.1.1.1 =
-        step (run is_blank) (from_colon rule) (run_det is_blank) {t = q} {q = 58 ∷ t} {v = tt} gap d6 in
-        let d8 : Front (Row (from_blanks rule)) t [] v.1.1.1.1.1.1.1 = step (optional (exactly colon))
-        (from_blanks rule) (optional_det (exactly colon) (exactly_det colon)) {t = 58 ∷ t} {q = t} {v = Some tt}
-        (optional_some (exactly colon) (piece_front (exactly colon) colon t tt refl)) d7 in
+        let (_, d8) = rows_step to_colon (from_blanks rule) to_colon_det {vs = v.1.1.1}
+        (names_back m.hostname m.appname m.procid t stays named b.procid) d4 in
         let own : IsCanonical3164 rule m = record {
           msgid = near.msgid;
           names = named;

@@ -5,7 +5,7 @@ use Rattle.std.specs.Char.{is_not_whitespace}
 use Rattle.std.specs.List.{AllByRecursion}
 use Rattle.std.specs.Option.{option_and_then}
 use Rattle.std.specs.Str.{skip_leading_whitespace}
-use Rattle.syslog_pieces.specs.Pieces.Class.{Text, Front, Each, Ends, run, rest, optional, spaced}
+use Rattle.syslog_pieces.specs.Pieces.Class.{Text, Front, Each, Ends, run, optional, spaced}
 use Rattle.syslog_pieces.specs.Pieces.Lists.{IsMany}
 use Rattle.syslog_pieces.specs.Pri.{priority, facility_of, severity_of}
 use Rattle.syslog_pieces.specs.ProcId.{NamesProcess}
@@ -13,7 +13,7 @@ use Rattle.syslog_pieces.specs.StructuredData.Element.{ElementValue}
 use Rattle.syslog_pieces.specs.StructuredData.Rfc3164List.{IsRfc3164List, full_element, rfc3164_list, elements_or}
 use Rattle.syslog_pieces.specs.Text.{trimmed, is_blank, is_tag_char, dash, IsHost, host, tag_word}
 use Rattle.syslog_pieces.specs.Text.CharClass.{is_label_char, is_open_char}
-use Rattle.syslog_pieces.specs.Timestamp.Rfc3164.{rfc3164_stamp}
+use Rattle.syslog_pieces.specs.Timestamp.Rfc3164.{rfc3164_stamp, showing_row}
 use Rattle.syslog_pieces.specs.Timestamp.MonthDate.{month_date}
 use Rattle.syslog_pieces.specs.Timestamp.Canonical.{IsCanonicalStamp}
 use Rattle.syslog_pieces.specs.Timestamp.Zone.{Dating}
@@ -22,7 +22,7 @@ use Rattle.syslog_pieces.specs.declared.procid.ProcId.{ProcId}
 use Rattle.syslog_pieces.specs.declared.procid.ProcId.TheVariants.{PID, Name}
 use Rattle.syslog_pieces.specs.declared.structured_data.rfc3164_list.DashRule.{DashRule}
 use Rattle.syslog_pieces.specs.declared.timestamp.OffsetTimestamp.{OffsetTimestamp}
-use Rattle.syslog_pieces.proofs.PieceLemmas.Class.{heads, row_nil, row_cons, division_front, front_division, rest_front}
+use Rattle.syslog_pieces.proofs.PieceLemmas.Class.{heads, division_front, front_division, rest_front}
 use Rattle.syslog_pieces.proofs.PieceLemmas.Class.{spaced_parts, rest_whole}
 use Rattle.syslog_pieces.proofs.PieceLemmas.Steps.{present_front}
 use Rattle.syslog_pieces.proofs.PriLemmas.{severity_there}
@@ -37,7 +37,7 @@ use Rattle.syslog_loose.specs.Rfc3164.{stamped_row, fields_row}
 use Rattle.syslog_loose.specs.TagForm.{form_row, IsForm}
 use Rattle.syslog_loose.proofs.TrimLemmas.{drop_ends, last_ends}
 use Rattle.syslog_pieces.proofs.PieceLemmas.Each.{each_behind, each_both, each_left, each_front, each_right}
-use Rattle.syslog_pieces.proofs.PieceLemmas.Rows.{row_pieces}
+use Rattle.syslog_pieces.proofs.PieceLemmas.Rows.{row_pieces, row_of, ◌then◌}
 
 -- ---- runs of characters that pass two tests
 
@@ -237,11 +237,8 @@ module _ (rule : DashRule) (dating : Dating) (text : Text) where
       kind (inl k) = inl (stamp_text-canonical h.piece s k.0)
       kind (inr (date, k, stamp)) =
           let d : Front month_date u q date = record { piece = h.piece; whole = h.whole; is = k } in
-          let row = row_cons (optional priority) (run is_blank ∷ month_date ∷ rest ∷ []) f
-          (row_cons (run is_blank) (month_date ∷ rest ∷ []) g
-          (row_cons month_date (rest ∷ []) d
-          (row_cons rest [] (rest_front q) (row_nil [])))) in
-          inr (date, (p, q, front_division (optional priority ∷ run is_blank ∷ month_date ∷ rest ∷ []) row), stamp)
+          let row = row_of (showing_row month_date) (f then g then d then rest_front q then refl) in
+          inr (date, (p, q, front_division (showing_row month_date) row), stamp)
 
   pub stamp_read : (m : MessageValue) → IsRead3164 rule dating text m → IfSome m.timestamp IsOfKind
   stamp_read m r =

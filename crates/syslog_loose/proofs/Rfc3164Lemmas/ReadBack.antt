@@ -8,7 +8,7 @@ use Rattle.std.specs.Char.{is_ascii_digit, is_not_whitespace}
 use Rattle.std.specs.Fmt.{decimal}
 use Rattle.std.specs.List.{AllByRecursion}
 use Rattle.std.specs.Option.{option_map_or}
-use Rattle.syslog_pieces.specs.Pieces.Class.{Text, Values, Front, NoFront, Row, Each, Ends, run, exactly, rest}
+use Rattle.syslog_pieces.specs.Pieces.Class.{Text, Values, Front, NoFront, Row, Each, Ends, run, exactly}
 use Rattle.syslog_pieces.specs.Pieces.Class.{optional, spaced}
 use Rattle.syslog_pieces.specs.Pieces.Lists.{IsMany}
 use Rattle.syslog_pieces.specs.Pri.{priority, facility_number, severity_number, facility_of, severity_of}
@@ -26,7 +26,7 @@ use Rattle.syslog_pieces.specs.declared.procid.ProcId.{ProcId}
 use Rattle.syslog_pieces.specs.declared.procid.ProcId.TheVariants.{PID, Name}
 use Rattle.syslog_pieces.specs.declared.structured_data.rfc3164_list.DashRule.{DashRule}
 use Rattle.syslog_pieces.specs.declared.timestamp.OffsetTimestamp.{OffsetTimestamp}
-use Rattle.syslog_pieces.proofs.PieceLemmas.Class.{heads, row_nil, row_cons, front_division, optional_some}
+use Rattle.syslog_pieces.proofs.PieceLemmas.Class.{heads, front_division, optional_some, row_cons, rows_join}
 use Rattle.syslog_pieces.proofs.PieceLemmas.Class.{optional_none, rest_front, spaced_front, no_spaced_piece}
 use Rattle.syslog_pieces.proofs.PieceLemmas.Steps.{piece_front}
 use Rattle.syslog_pieces.proofs.PriLemmas.{facility_composed, severity_composed}
@@ -51,8 +51,8 @@ use Rattle.syslog_loose.specs.declared.message.Protocol.TheVariants.{RFC3164}
 use Rattle.syslog_loose.proofs.PriorityLemmas.{priority_low, priority_front}
 use Rattle.syslog_loose.proofs.Rfc3164Lemmas.Apart.{digit_range}
 use Rattle.syslog_pieces.proofs.PieceLemmas.Each.{each_map, each_left, each_right, each_append}
-use Rattle.syslog_loose.proofs.Rfc3164Lemmas.Rows.{from_gap, from_list, from_blanks, from_colon, from_tag_end, from_tag}
-use Rattle.syslog_loose.proofs.Rfc3164Lemmas.Rows.{from_stamp, from_priority_end}
+use Rattle.syslog_pieces.proofs.PieceLemmas.Rows.{row_pieces, row_of, ◌then◌}
+use Rattle.syslog_loose.proofs.Rfc3164Lemmas.Rows.{from_blanks, to_stamp, to_colon, from_stamp}
 use Rattle.syslog_loose.proofs.Rfc3164Lemmas.Unique.{told}
 use Rattle.syslog_loose.proofs.Rfc3164Lemmas.Whole.{bracketed, program_text, whole, tail_text, trimmed_whole}
 use Rattle.syslog_loose.proofs.TrimLemmas.{stamp_unblank, message_end, message_blanks}
@@ -87,25 +87,20 @@ pub list_same : (es : List ElementValue) → es ≡ elements_or (list_field es)
 list_same [] = refl
 list_same (e ∷ es) = refl
 
-pub gap_back : (t msg : Text) → Front (run is_blank) t msg tt → Front (Row from_gap) t [] (tt, (msg, tt))
-gap_back t msg f = row_cons (run is_blank) (rest ∷ []) f (row_cons rest [] (rest_front msg) (row_nil []))
-
 pub body_back : (rule : DashRule) (es : List ElementValue) (msg : Text) → AllByRecursion IsCanonicalElement es
     → AllByRecursion (λ e. 0 < length e.params) es → Ends is_blank msg → (es ≡ [] → BeginsNoList rule msg)
     → Front (Row (from_blanks rule)) (tail_text es msg) [] (tt, (list_field es, (tt, (msg, tt))))
 body_back rule [] msg h k b n =
-    row_cons (run is_blank) (from_list rule) (message_blanks msg b)
-    (row_cons (optional (rfc3164_list rule)) from_gap
-    (optional_none (rfc3164_list rule) (no_rfc3164_list rule msg (n refl)))
-    (gap_back msg msg (record { piece = []; whole = refl; is = (tt, b) })))
+    row_of (from_blanks rule)
+    (message_blanks msg b then optional_none (rfc3164_list rule) (no_rfc3164_list rule msg (n refl))
+    then piece_front (run is_blank) [] msg tt (tt, b) then rest_front msg then refl)
 body_back rule (e ∷ es) msg h k b n =
-    row_cons (run is_blank) (from_list rule)
-    (piece_front (run is_blank) (32 ∷ []) (joined_elements (e ∷ es) ++ message_end msg) tt ((refl, tt), refl))
-    (row_cons (optional (rfc3164_list rule)) from_gap
-    (optional_some (rfc3164_list rule)
+    row_of (from_blanks rule)
+    (piece_front (run is_blank) (32 ∷ []) (joined_elements (e ∷ es) ++ message_end msg) tt ((refl, tt), refl)
+    then optional_some (rfc3164_list rule)
     (piece_front (rfc3164_list rule) (joined_elements (e ∷ es)) (message_end msg) (e ∷ es)
-    (inr (omega arith, many_back (e ∷ es) (message_end msg) h k (no_full_end msg)))))
-    (gap_back (message_end msg) msg (message_blanks msg b)))
+    (inr (omega arith, many_back (e ∷ es) (message_end msg) h k (no_full_end msg))))
+    then message_blanks msg b then rest_front msg then refl)
 
 -- ---- the process
 pub digit_inside : (c : ℕ) → is_ascii_digit c ≡ true → is_process_char c ≡ true
@@ -225,7 +220,26 @@ stamp_back dating (Some s) q h =
     piece_front (rfc3164_stamp dating) (timestamp_text (Some s)) (32 ∷ q) (Some s)
     (inl (printed_stamp-back s h, (q, refl)))
 
+-- the names up to the colon, as they are printed
+pub names_back : (h a : Option Text) (p : Option (ProcId Text)) (t : Text) → IfSome h IsCanonicalHost
+    → AreCanonicalNames h a p → IfSome p IsBoundedProcess
+    → Front (Row to_colon) (32 ∷ (name_text h ++ (32 ∷ (program_text a p ++ (58 ∷ t))))) t
+    (Some h, (program_field a p, (tt, (Some tt, tt))))
+names_back h a p t k c b =
+    let (q, tag, gap) = tag_back h a p t c b in
+    row_of to_colon (host_field_back h (program_text a p ++ (58 ∷ t)) k then tag then gap
+    then optional_some (exactly colon) (piece_front (exactly colon) colon t tt refl) then refl)
+
 -- ---- the priority
+
+-- the priority and the space before the timestamp, as they are printed
+pub to_stamp_back : (m : MessageValue) (y : Text)
+    → Front (Row to_stamp) (60 ∷ (decimal (priority_of m) ++ (62 ∷ 32 ∷ (timestamp_text m.timestamp ++ (32 ∷ y)))))
+    (timestamp_text m.timestamp ++ (32 ∷ y)) (Some (priority_of m), (tt, tt))
+to_stamp_back m y = row_of to_stamp
+    (optional_some priority (priority_front (priority_of m) _ (priority_low m))
+    then piece_front (run is_blank) (32 ∷ []) _ tt ((refl, tt), stamp_unblank m.timestamp (32 ∷ y)) then refl)
+
 pub parts_back : (f : Option SyslogFacility) (s : Option SyslogSeverity) → IsSome f → IsSome s
     → (f ≡ facility_of (option_map_or facility_number f 5 * 8 + option_map_or severity_number s 7))
     × (s ≡ severity_of (option_map_or facility_number f 5 * 8 + option_map_or severity_number s 7))
@@ -262,18 +276,11 @@ module _ (rule : DashRule) (dating : Dating) (m : MessageValue) (e : m.protocol 
       let t : Text = tail_text m.structured_data m.msg in
       let u : Text = program_text m.appname m.procid ++ (58 ∷ t) in
       let y : Text = name_text m.hostname ++ (32 ∷ u) in
-      let (q, tag, gap) = tag_back m.hostname m.appname m.procid t own.names b.procid in
-      row_cons (optional priority) (from_priority_end rule dating)
-      (optional_some priority (priority_front (priority_of m) _ (priority_low m)))
-      (row_cons (run is_blank) (from_stamp rule dating)
-      (piece_front (run is_blank) (32 ∷ []) _ tt ((refl, tt), stamp_unblank m.timestamp (32 ∷ y)))
+      let body = body_back rule m.structured_data m.msg canonical.elements own.elements canonical.msg_front own.no_list in
+      rows_join to_stamp (from_stamp rule dating) (to_stamp_back m y)
       (row_cons (rfc3164_stamp dating) (body_row rule) (stamp_back dating m.timestamp y canonical.timestamp)
-      (row_cons (optional (spaced host)) (from_tag rule) (host_field_back m.hostname u canonical.hostname)
-      (row_cons (optional (spaced tag_word)) (from_tag_end rule) tag
-      (row_cons (run is_blank) (from_colon rule) gap
-      (row_cons (optional (exactly colon)) (from_blanks rule)
-      (optional_some (exactly colon) (piece_front (exactly colon) colon t tt refl))
-      (body_back rule m.structured_data m.msg canonical.elements own.elements canonical.msg_front own.no_list)))))))
+      (rows_join to_colon (from_blanks rule)
+      (names_back m.hostname m.appname m.procid t canonical.hostname own.names b.procid) body))
 
   means_back : m ≡ told rule dating values (names m.hostname m.appname m.procid)
   means_back =

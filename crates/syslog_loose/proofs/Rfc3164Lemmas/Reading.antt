@@ -1,16 +1,18 @@
 -- What the reader's answers say of a text of RFC 3164.
-use Rattle.std.proofs.Common.{◌≡◌, List, [], ◌∷◌, refl, subst}
-use Rattle.syslog_pieces.specs.Pieces.Class.{Text, Class, Values, Division, Front, NoFront, Row, run, rest, optional}
-use Rattle.syslog_pieces.specs.StructuredData.Rfc3164List.{rfc3164_list, ListsNoElements}
+use Rattle.std.proofs.Common.{◌≡◌, [], refl, subst}
+use Rattle.syslog_pieces.specs.Pieces.Class.{Text, Values, Division, Front, NoFront, Row}
+use Rattle.syslog_pieces.specs.StructuredData.Rfc3164List.{ListsNoElements}
 use Rattle.syslog_pieces.specs.Text.{trimmed, is_blank}
 use Rattle.syslog_pieces.specs.Timestamp.Zone.{Dating}
 use Rattle.syslog_pieces.specs.declared.structured_data.rfc3164_list.DashRule.{DashRule}
-use Rattle.syslog_pieces.proofs.PieceLemmas.Class.{front_division, no_row_division, row_nil, row_cons}
+use Rattle.syslog_pieces.proofs.PieceLemmas.Class.{front_division, no_row_division}
 use Rattle.syslog_pieces.proofs.PieceLemmas.Class.{rows_join, rows_none_here, rest_front, both_values}
+use Rattle.syslog_pieces.proofs.PieceLemmas.Rows.{row_of, ◌then◌}
 use Rattle.syslog_pieces.proofs.TextLemmas.Runs.{some_front_run}
 use Rattle.syslog_loose.specs.Message.{MessageValue}
 use Rattle.syslog_loose.specs.Rfc3164.{Names3164, Resolves, stamped_row, fields_row, ReadsNames, body_row}
 use Rattle.syslog_loose.specs.Rfc3164.{rfc3164_row, Means3164, IsRead3164, IsNot3164, NeedsNoMemory3164}
+use Rattle.syslog_loose.proofs.Rfc3164Lemmas.Rows.{from_list}
 use Rattle.syslog_loose.proofs.Rfc3164Lemmas.Unique.{told}
 
 -- ---- from the row of the trimmed text
@@ -34,10 +36,6 @@ pub names_read : {text behind : Text} {ws : Values fields_row} {n : Names3164} �
     → Resolves ws.0 ws.1.0 n → ReadsNames text behind n
 names_read {ws = ws} f h = record { values = ws; front = f; means = h }
 
--- the blanks behind the list, and the message
-abbrev pub behind_row : List Class
-behind_row = run is_blank ∷ rest ∷ []
-
 -- Behind a timestamp and fields, a list with elements gives a message with elements.
 pub list_needs_none : (rule : DashRule) (dating : Dating) (text t u w : Text) (vs : Values (stamped_row dating))
     (ws : Values fields_row) (n : Names3164)
@@ -46,10 +44,8 @@ pub list_needs_none : (rule : DashRule) (dating : Dating) (text t u w : Text) (v
 list_needs_none rule dating text t u w vs ws n e none stamped fields means q es list =
     let (r, gap) = some_front_run is_blank q in
     let all = both_values (stamped_row dating) (body_row rule) vs
-    (both_values fields_row (optional (rfc3164_list rule) ∷ behind_row) ws (es, (tt, (r, tt)))) in
+    (both_values fields_row (from_list rule) ws (es, (tt, (r, tt)))) in
     let row = rows_join (stamped_row dating) (body_row rule) stamped
-    (rows_join fields_row (optional (rfc3164_list rule) ∷ behind_row) fields
-    (row_cons (optional (rfc3164_list rule)) behind_row list
-    (row_cons (run is_blank) (rest ∷ []) gap
-    (row_cons rest [] (rest_front r) (row_nil []))))) in
+    (rows_join fields_row (from_list rule) fields
+    (row_of (from_list rule) (list then gap then rest_front r then refl))) in
     none (told rule dating all n) (is_read rule dating text t all (told rule dating all n) e (n, means, refl) row)

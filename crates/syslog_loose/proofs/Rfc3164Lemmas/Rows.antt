@@ -1,12 +1,35 @@
 -- The pieces of RFC 3164 from each one on.
-use Rattle.std.proofs.Common.{List, [], ◌∷◌}
-use Rattle.syslog_pieces.specs.Pieces.Class.{Class, run, rest, exactly, optional, spaced}
+use Rattle.std.proofs.Common.{List, [], ◌∷◌, refl}
+use Rattle.syslog_pieces.specs.Pieces.Class.{Text, Class, Front, Row, run, rest, exactly, optional, spaced}
 use Rattle.syslog_pieces.specs.StructuredData.Rfc3164List.{rfc3164_list}
-use Rattle.syslog_pieces.specs.Text.{is_blank, colon, tag_word}
+use Rattle.syslog_pieces.specs.Text.{is_blank, colon, host, tag_word}
+use Rattle.syslog_pieces.specs.Pri.{priority}
 use Rattle.syslog_pieces.specs.Timestamp.Rfc3164.{rfc3164_stamp}
 use Rattle.syslog_pieces.specs.Timestamp.Zone.{Dating}
 use Rattle.syslog_pieces.specs.declared.structured_data.rfc3164_list.DashRule.{DashRule}
+use Rattle.syslog_pieces.proofs.PieceLemmas.Class.{AllDeterministic, ◌also◌, rest_front, optional_det, exactly_det}
+use Rattle.syslog_pieces.proofs.PieceLemmas.Class.{run_det, spaced_det}
+use Rattle.syslog_pieces.proofs.PriLemmas.{priority_det}
+use Rattle.syslog_pieces.proofs.TextLemmas.Words.{host_det, tag_word_det}
+use Rattle.syslog_pieces.proofs.PieceLemmas.Rows.{row_of, ◌then◌}
 use Rattle.syslog_loose.specs.Rfc3164.{body_row}
+
+-- the priority and the blanks behind it
+abbrev pub to_stamp : List Class
+to_stamp = optional priority ∷ run is_blank ∷ []
+
+pub to_stamp_det : AllDeterministic to_stamp
+to_stamp_det = optional_det priority priority_det also run_det is_blank also tt
+
+-- the names, up to the colon
+abbrev pub to_colon : List Class
+to_colon = optional (spaced host) ∷ optional (spaced tag_word) ∷ run is_blank ∷ optional (exactly colon) ∷ []
+
+pub to_colon_det : AllDeterministic to_colon
+to_colon_det =
+    optional_det (spaced host) (spaced_det host host_det)
+    also optional_det (spaced tag_word) (spaced_det tag_word tag_word_det) also run_det is_blank
+    also optional_det (exactly colon) (exactly_det colon) also tt
 
 -- the blanks behind the list, and the message
 abbrev pub from_gap : List Class
@@ -35,3 +58,6 @@ from_stamp rule dating = rfc3164_stamp dating ∷ body_row rule
 -- the blanks behind the priority
 abbrev pub from_priority_end : DashRule → Dating → List Class
 from_priority_end rule dating = run is_blank ∷ from_stamp rule dating
+
+pub gap_back : (t msg : Text) → Front (run is_blank) t msg tt → Front (Row from_gap) t [] (tt, (msg, tt))
+gap_back t msg f = row_of from_gap (f then rest_front msg then refl)

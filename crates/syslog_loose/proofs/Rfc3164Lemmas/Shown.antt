@@ -1,17 +1,16 @@
 -- A date that a text shows has one of twelve months, and numbers of 32 bits.
-use Rattle.std.proofs.Common.{ℕ, ◌≤◌, ◌<◌, [], ◌∷◌, inl, arith, map, subst, sym}
+use Rattle.std.proofs.Common.{ℕ, ◌≤◌, ◌<◌, ◌∷◌, inl, arith, map, subst, sym}
 use Rattle.std.proofs.lemmas.Option.{slice_get_within}
 use Rattle.std.specs.Char.{to_ascii_lowercase}
-use Rattle.syslog_pieces.specs.Pieces.Class.{Text, Values, Front, Row, run, some_run, rest, optional}
-use Rattle.syslog_pieces.specs.Pri.{priority}
+use Rattle.syslog_pieces.specs.Pieces.Class.{Text, Values, Front, Row, some_run}
 use Rattle.syslog_pieces.specs.Text.{is_blank}
 use Rattle.syslog_pieces.specs.Timestamp.Rfc3164.{showing_row, BeginsWithDate, ShowsYearless, ShowsMonthDate}
 use Rattle.syslog_pieces.specs.Timestamp.MonthDate.{month_names, IsMonthName, month, short_number, clock_row}
 use Rattle.syslog_pieces.specs.Timestamp.MonthDate.{yearless_row, yearless_of, yearless_date, month_date}
 use Rattle.syslog_pieces.specs.declared.timestamp.month_date.MonthDate.{MonthDate}
-use Rattle.syslog_pieces.proofs.PieceLemmas.Class.{division_front, front_division, row_cons, row_head}
+use Rattle.syslog_pieces.proofs.PieceLemmas.Class.{division_front, front_division}
 use Rattle.syslog_loose.specs.Reading.{incomplete, HasMonth}
-use Rattle.syslog_pieces.proofs.PieceLemmas.Rows.{row_pieces}
+use Rattle.syslog_pieces.proofs.PieceLemmas.Rows.{row_pieces, row_of, ◌then◌}
 
 month_range : (p : Text) (n : ℕ) → IsMonthName p n → (1 ≤ n) × (n ≤ 12)
 month_range p n (before, e, at) =
@@ -44,15 +43,8 @@ shown_has_month text d (p, more, division) =
 -- a date without a year is a month date
 pub shows_month_date : (text : Text) (d : MonthDate) → ShowsYearless text d → ShowsMonthDate text d
 shows_month_date text d (p, more, division) =
-    let f1 =
-    row_head (optional priority) (run is_blank ∷ yearless_date ∷ rest ∷ [])
-    (division_front (showing_row yearless_date) division) in
-    let f2 = row_head (run is_blank) (yearless_date ∷ rest ∷ []) f1.2 in
-    let f3 = row_head yearless_date (rest ∷ []) f2.2 in
-    let date : Front month_date f2.0 f3.0 d = record { piece = f3.1.piece; whole = f3.1.whole; is = inl f3.1.is } in (
-      p,
-      more,
-      front_division (showing_row month_date)
-          (row_cons (optional priority) (run is_blank ∷ month_date ∷ rest ∷ []) f1.1
-          (row_cons (run is_blank) (month_date ∷ rest ∷ []) f2.1 (row_cons month_date (rest ∷ []) date f3.2))),
-    )
+    let pieces = row_pieces (showing_row yearless_date) (division_front (showing_row yearless_date) division) in
+    let (_, pri, (t, gap, (u, shown, behind))) = pieces in
+    let date : Front month_date t u d = record { piece = shown.piece; whole = shown.whole; is = inl shown.is } in
+    let row = row_of (showing_row month_date) (pri then gap then date then behind) in
+    (p, more, front_division (showing_row month_date) row)

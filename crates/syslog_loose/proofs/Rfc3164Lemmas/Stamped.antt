@@ -1,5 +1,5 @@
 -- Behind the timestamp of RFC 3164 nothing can fail.
-use Rattle.std.proofs.Common.{List, [], ◌∷◌, Some, None, ◌↔◌}
+use Rattle.std.proofs.Common.{List, [], ◌∷◌, Some, None, ◌↔◌, refl}
 use Rattle.syslog_pieces.specs.Pieces.Class.{Text, Class, Values, NoDivision, Front, NoFront}
 use Rattle.syslog_pieces.specs.Pieces.Class.{Row, run, rest, exactly, optional, spaced}
 use Rattle.syslog_pieces.specs.StructuredData.Rfc3164List.{rfc3164_list}
@@ -8,8 +8,10 @@ use Rattle.syslog_pieces.specs.Timestamp.Zone.{Dating}
 use Rattle.syslog_pieces.specs.declared.structured_data.rfc3164_list.DashRule.{DashRule}
 use Rattle.syslog_pieces.proofs.PieceLemmas.Class.{optional_none, rest_front, row_nil, row_cons, rows_join}
 use Rattle.syslog_pieces.proofs.PieceLemmas.Class.{rows_none_here, no_row_division, front_division}
+use Rattle.syslog_pieces.proofs.PieceLemmas.Rows.{row_of, ◌then◌}
 use Rattle.syslog_pieces.proofs.TextLemmas.Runs.{some_front_run}
 use Rattle.syslog_loose.specs.Rfc3164.{stamped_row, body_row, rfc3164_row}
+use Rattle.syslog_loose.proofs.Rfc3164Lemmas.Rows.{from_gap, from_list, from_blanks, from_colon, from_tag_end, from_tag}
 
 -- it can't be that no row of this kind begins any text
 abbrev Stands : List Class → Type 0
@@ -25,22 +27,13 @@ optional_stands C Cs s t n =
     s q (λ ws k. n (Some v, ws) (row_cons (optional C) Cs (record { piece = p; whole = e; is = h }) k)))) g))
 
 rest_stands : Stands (rest ∷ [])
-rest_stands t n = n (t, tt) (row_cons rest [] (rest_front t) (row_nil []))
+rest_stands t n = n (t, tt) (row_of (rest ∷ []) (rest_front t then refl))
 
 pub body_stands : (rule : DashRule) → Stands (body_row rule)
 body_stands rule =
-    let message = run_stands (rest ∷ []) rest_stands in
-    let list = run_stands (optional (rfc3164_list rule) ∷ run is_blank ∷ rest ∷ [])
-    (optional_stands (rfc3164_list rule) (run is_blank ∷ rest ∷ []) message) in
-    let mark =
-    optional_stands (exactly colon) (run is_blank ∷ optional (rfc3164_list rule) ∷ run is_blank ∷ rest ∷ []) list in
-    let behind = run_stands (optional (exactly colon) ∷ run is_blank ∷ optional (rfc3164_list rule) ∷ run is_blank
-    ∷ rest ∷ []) mark in
-    let program = optional_stands (spaced tag_word)
-    (run is_blank ∷ optional (exactly colon) ∷ run is_blank ∷ optional (rfc3164_list rule) ∷ run is_blank ∷ rest ∷ [])
-    behind in
-    optional_stands (spaced host) (optional (spaced tag_word) ∷ run is_blank ∷ optional (exactly colon) ∷ run is_blank
-    ∷ optional (rfc3164_list rule) ∷ run is_blank ∷ rest ∷ []) program
+    optional_stands (spaced host) (from_tag rule) (optional_stands (spaced tag_word) (from_tag_end rule)
+    (run_stands (from_colon rule) (optional_stands (exactly colon) (from_blanks rule)
+    (run_stands (from_list rule) (optional_stands (rfc3164_list rule) from_gap (run_stands (rest ∷ []) rest_stands))))))
 
 -- a text has no division exactly where no priority, blanks and timestamp begin it
 pub division_is_stamped : (rule : DashRule) (dating : Dating) (text : Text) → NoDivision (rfc3164_row rule dating) text

@@ -81,17 +81,5 @@ module _ (dating other : Dating) (zone : dating.zone ≡ other.zone) (local : da
     }
 
     pub other_quotes : (m : MessageValue) → Quotes3164 rule dating text m → Quotes3164 rule other text m
-    other_quotes m k =
-        let r = k.read in
-        record {
-          read = record {
-            values = r.values;
-            division = record {
-              pieces = r.division.pieces;
-              whole = r.division.whole;
-              each = other_pieces r.division.pieces r.values r.division.whole r.division.each;
-            };
-            means = r.means;
-          };
-          each = k.each;
-        }
+    unfolding other_read
+    other_quotes m k = record { read = other_read m k.read; each = k.each }

@@ -30,7 +30,7 @@ use Rattle.syslog_pieces.specs.declared.timestamp.OffsetTimestamp.{OffsetTimesta
 use Rattle.syslog_pieces.proofs.PieceLemmas.Class.{row_nil, row_cons, row_head, rows_join, both_values, front_division}
 use Rattle.syslog_pieces.proofs.PieceLemmas.Class.{division_front, rest_front, rest_whole, optional_some, front_same}
 use Rattle.syslog_pieces.proofs.PieceLemmas.Class.{optional_det, ◌also◌}
-use Rattle.syslog_pieces.proofs.PieceLemmas.Rows.{row_pieces}
+use Rattle.syslog_pieces.proofs.PieceLemmas.Rows.{row_pieces, row_of, ◌then◌}
 use Rattle.syslog_pieces.proofs.PieceLemmas.Formats.{AllSound, row_back}
 use Rattle.syslog_pieces.proofs.PieceLemmas.Steps.{piece_front}
 use Rattle.syslog_pieces.proofs.PriLemmas.{priority_det, priority_composed, facility_composed, severity_composed}
@@ -89,29 +89,19 @@ stamp_field = record {
   Before = λ q. (r : Text) × (q ≡ 32 ∷ r);
 }
 
+-- a name before a blank
+abbrev name_field : (C : Class) → (C.Value → Text) → (C.Value → Type 0) → Format
+name_field C print P = record { reads = C; print = print; ReadsBack = P; Before = λ q. Ends is_not_whitespace q }
+
 abbrev host_field : Format
-host_field = record {
-  reads = host;
-  print = name_text;
-  ReadsBack = λ v. IfSome v IsCanonicalHost;
-  Before = λ q. Ends is_not_whitespace q;
-}
+host_field = name_field host name_text (λ v. IfSome v IsCanonicalHost)
 
 abbrev word_field : Format
-word_field = record {
-  reads = word;
-  print = name_text;
-  ReadsBack = λ v. IfSome v IsCanonicalWord;
-  Before = λ q. Ends is_not_whitespace q;
-}
+word_field = name_field word name_text (λ v. IfSome v IsCanonicalWord)
 
 abbrev process_field : Format
-process_field = record {
-  reads = process_word;
-  print = process_text;
-  ReadsBack = λ v. IfSome v IsCanonicalProcess × IfSome v IsBoundedProcess;
-  Before = λ q. Ends is_not_whitespace q;
-}
+process_field =
+    name_field process_word process_text (λ v. IfSome v IsCanonicalProcess × IfSome v IsBoundedProcess)
 
 -- from the version up to the space before the elements
 abbrev pub fields : List Format
@@ -194,11 +184,9 @@ module _ (version : ℕ) (m : MessageValue) (bounded : version ≤ 4294967295) (
   line_divided =
       let es = m.structured_data in
       let end : Text = message_end m.msg in
-      let body = row_cons (run is_blank) (forgiving ∷ run is_blank ∷ rest ∷ []) (gap_front _ (elements_unblank es end))
-      (row_cons forgiving (run is_blank ∷ rest ∷ [])
-      (piece_front forgiving (elements_text es) end es (forgiving_back es end p.elements (no_item_end m.msg)))
-      (row_cons (run is_blank) (rest ∷ []) (message_blanks m.msg p.msg_front)
-      (row_cons rest [] (rest_front m.msg) (row_nil [])))) in
+      let body = row_of data_row (gap_front _ (elements_unblank es end)
+      then piece_front forgiving (elements_text es) end es (forgiving_back es end p.elements (no_item_end m.msg))
+      then message_blanks m.msg p.msg_front then rest_front m.msg then refl) in
       let header = row_back fields fields_sound (values_of version m) _ (fields_back (elements_text es ++ end)) in
       front_division rfc5424_row
       (subst (λ (x : Text). Front (Row rfc5424_row) x [] (line_values version m))
@@ -273,27 +261,8 @@ values_canonical rule text v d =
     let row = division_front rfc5424_row d in
     let (t1, pri, (t2, number, (t3, s1, (t4, stamp, (t5, s2, (t6, name, (t7, s3, more))))))) =
     row_pieces rfc5424_row row in
-    let (
-      t8,
-      app,
-      (
-        t9,
-        s4,
-        (
-          t10,
-          process,
-          (
-            t11,
-            s5,
-            (
-              t12,
-              id,
-              (t13, s6, (t14, list, (t15, s7, (t16, msg, _)))),
-            ),
-          ),
-        ),
-      ),
-    ) = more in
+    let (t8, app, (t9, s4, (t10, process, (t11, s5, behind)))) = more in
+    let (t12, id, (t13, s6, (t14, list, (t15, s7, (t16, msg, _))))) = behind in
     let m = message_of v in
     let no_colon : NoColonNext t6 =
     subst (λ (x : Text). NoColonNext x) (sym s3.whole) (blanks_next s3.piece t7 s3.is.0 s3.is.1) in (

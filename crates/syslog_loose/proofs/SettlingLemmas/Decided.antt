@@ -22,8 +22,9 @@ use Rattle.syslog_pieces.proofs.PieceLemmas.Lists.{begins, list_here, list_cons,
 use Rattle.syslog_pieces.proofs.PieceLemmas.Lists.{more_here, more_cons, no_more, no_more_behind, more_goes}
 use Rattle.syslog_pieces.proofs.PieceLemmas.Meets.{Meets, meets_none}
 use Rattle.syslog_pieces.proofs.PieceLemmas.Steps.{front_longer}
+use Rattle.syslog_pieces.proofs.PieceLemmas.Class.{AllDeterministic, ◌also◌}
 use Rattle.syslog_pieces.proofs.StructuredDataLemmas.Elements.{value_det, value_here, unit_goes, param_det}
-use Rattle.syslog_pieces.proofs.StructuredDataLemmas.Elements.{params_det, element_det, space_is_no_close}
+use Rattle.syslog_pieces.proofs.StructuredDataLemmas.Elements.{param_row_det, element_row_det, element_det, space_is_no_close}
 use Rattle.syslog_pieces.proofs.StructuredDataLemmas.Units.{decide}
 
 -- it holds, or it does not
@@ -71,15 +72,19 @@ find_texted : (C : Class) (t : Text) → Finds C t → Finds (texted C) t
 find_texted C t (inl (q, v, g)) = inl (q, g.piece, texted_front C g)
 find_texted C t (inr n) = inr (no_texted C n)
 
-find_nil : (t : Text) → Finds (Row []) t
-find_nil t = inl (t, tt, row_nil t)
+-- of each class of a row
+abbrev AllFind : List Class → Type 0
+AllFind [] = Unit {0}
+AllFind (C ∷ Cs) = ((t : Text) → Finds C t) × AllFind Cs
 
-find_row : (C : Class) (Cs : List Class) (t : Text) → IsDeterministic C → Finds C t → ((q : Text) → Finds (Row Cs) q)
-    → Finds (Row (C ∷ Cs)) t
-find_row C Cs t d (inr n) k = inr (row_none_here C Cs n)
-find_row C Cs t d (inl (q, v, f)) k = elim (k q) [
-  | inl (r, vs, g) ↦ inl (r, (v, vs), row_cons C Cs f g)
-  | inr n ↦ inr (row_none_later C Cs d f n)
+find_row : (Cs : List Class) → AllDeterministic Cs → AllFind Cs → (t : Text) → Finds (Row Cs) t
+find_row [] d k t = inl (t, tt, row_nil t)
+find_row (C ∷ Cs) d k t = elim (k.0 t) [
+  | inl (q, v, f) ↦ elim (find_row Cs d.1 k.1 q) [
+    | inl (r, vs, g) ↦ inl (r, (v, vs), row_cons C Cs f g)
+    | inr n ↦ inr (row_none_later C Cs d.0 f n)
+  ]
+  | inr n ↦ inr (row_none_here C Cs n)
 ]
 
 find_moved : (C : Class) (t : Text) (D : Class) (u : Text) → Meets C t D u → Finds D u → Finds C t
@@ -116,21 +121,11 @@ find_value (suc n) (c ∷ d ∷ t) l = elim (eqb_tells c 34) [
 ]
 
 -- ---- parameters
-find_quote : (t : Text) → Finds (Row (exactly (34 ∷ []) ∷ [])) t
-find_quote t = find_row (exactly (34 ∷ [])) [] t (exactly_det (34 ∷ [])) (find_char 34 t) find_nil
-
 find_param : (t : Text) → Finds param t
 find_param t = find_mapped (Row param_row) (Text × Text) param_of t
-    (find_row (texted (some_run is_name_char))
-    (exactly (61 ∷ []) ∷ run is_blank ∷ exactly (34 ∷ []) ∷ value ∷ exactly (34 ∷ []) ∷ []) t
-    (texted_det (some_run is_name_char) (some_run_det is_name_char))
-    (find_texted (some_run is_name_char) t (find_some is_name_char t)) (λ u.
-    find_row (exactly (61 ∷ [])) (run is_blank ∷ exactly (34 ∷ []) ∷ value ∷ exactly (34 ∷ []) ∷ []) u
-    (exactly_det (61 ∷ [])) (find_char 61 u) (λ w.
-    find_row (run is_blank) (exactly (34 ∷ []) ∷ value ∷ exactly (34 ∷ []) ∷ []) w (run_det is_blank)
-    (find_blanks is_blank w) (λ x.
-    find_row (exactly (34 ∷ [])) (value ∷ exactly (34 ∷ []) ∷ []) x (exactly_det (34 ∷ [])) (find_char 34 x) (λ y.
-    find_row value (exactly (34 ∷ []) ∷ []) y value_det (find_value (length y) y (omega arith)) find_quote)))))
+    (find_row param_row param_row_det
+    ((λ u. find_texted (some_run is_name_char) u (find_some is_name_char u)) also find_char 61 also find_blanks is_blank
+    also find_char 34 also (λ u. find_value (length u) u (omega arith)) also find_char 34 also tt) t)
 
 abbrev more : Class
 more = more_before param 32 93
@@ -185,14 +180,9 @@ find_params t = elim (find_char 93 t) [
 -- ---- elements
 find_element : (t : Text) → Finds element t
 find_element t = find_mapped (Row element_row) ElementValue element_of t
-    (find_row (exactly (91 ∷ [])) (texted (some_run is_id_char) ∷ run is_blank ∷ params ∷ exactly (93 ∷ []) ∷ []) t
-    (exactly_det (91 ∷ [])) (find_char 91 t) (λ u.
-    find_row (texted (some_run is_id_char)) (run is_blank ∷ params ∷ exactly (93 ∷ []) ∷ []) u
-    (texted_det (some_run is_id_char) (some_run_det is_id_char))
-    (find_texted (some_run is_id_char) u (find_some is_id_char u)) (λ w.
-    find_row (run is_blank) (params ∷ exactly (93 ∷ []) ∷ []) w (run_det is_blank) (find_blanks is_blank w) (λ x.
-    find_row params (exactly (93 ∷ []) ∷ []) x params_det (find_params x) (λ y.
-    find_row (exactly (93 ∷ [])) [] y (exactly_det (93 ∷ [])) (find_char 93 y) find_nil)))))
+    (find_row element_row element_row_det
+    (find_char 91 also (λ u. find_texted (some_run is_id_char) u (find_some is_id_char u)) also find_blanks is_blank
+    also find_params also find_char 93 also tt) t)
 
 -- with a parameter
 full_found : (t q : Text) (v : ElementValue) → Front element t q v → Finds full_element t

@@ -23,7 +23,7 @@ use Rattle.syslog_pieces.proofs.PieceLemmas.Class.{run_same, rest_same, heads, b
 use Rattle.syslog_pieces.proofs.PieceLemmas.Class.{row_cons, division_front, optional_det, optional_some}
 use Rattle.syslog_pieces.proofs.PieceLemmas.Class.{optional_none, run_det, no_spaced_space}
 use Rattle.syslog_pieces.proofs.PieceLemmas.Kinds.{Begins, begins_apart, begins_more, begins_with}
-use Rattle.syslog_pieces.proofs.PieceLemmas.Steps.{piece_front, front_longer, absent_none}
+use Rattle.syslog_pieces.proofs.PieceLemmas.Steps.{piece_front, front_longer, absent_none, rows_step}
 use Rattle.syslog_pieces.proofs.PriLemmas.{priority_det, priority_composed}
 use Rattle.syslog_pieces.proofs.StructuredDataLemmas.Rfc3164List.{full_shorter, begins_no_list}
 use Rattle.syslog_pieces.proofs.TimestampLemmas.Rfc3164.{IsLow, rfc3164_stamp_det, stamped_date_begins}
@@ -42,17 +42,18 @@ use Rattle.syslog_loose.proofs.Rfc3164Lemmas.Bounded.{read_bounded}
 use Rattle.syslog_loose.proofs.Rfc3164Lemmas.Exact.{stamp_low}
 use Rattle.syslog_loose.proofs.Rfc3164Lemmas.Near.{read_near}
 use Rattle.syslog_loose.proofs.Rfc3164Lemmas.Printed.{printed_is}
-use Rattle.syslog_loose.proofs.Rfc3164Lemmas.ReadBack.{list_field, list_same, body_back, stamp_back}
-use Rattle.syslog_loose.proofs.Rfc3164Lemmas.Rows.{from_gap, from_list, from_blanks, from_colon}
+use Rattle.syslog_loose.proofs.Rfc3164Lemmas.ReadBack.{list_field, list_same, body_back, stamp_back, to_stamp_back}
+use Rattle.syslog_loose.proofs.Rfc3164Lemmas.Rows.{from_gap, from_list, from_blanks, from_colon, to_stamp}
 use Rattle.syslog_loose.proofs.Rfc3164Lemmas.Rows.{from_tag_end, from_tag, from_stamp, from_priority_end}
 use Rattle.syslog_loose.proofs.Rfc3164Lemmas.Unique.{body_det, told}
 use Rattle.syslog_loose.proofs.Rfc3164Lemmas.Whole.{program_text, whole, tail_text, trimmed_whole}
+use Rattle.syslog_loose.proofs.Rfc3164Lemmas.Rows.{to_stamp_det}
 use Rattle.syslog_loose.proofs.SettlingLemmas.Costs.{free, at_most, bare_zero}
 use Rattle.syslog_loose.proofs.SettlingLemmas.Names.{move, same_values, no_blanks, msg_read}
 use Rattle.syslog_loose.proofs.SettlingLemmas.Names.{names_text, Stays, Moved, names_step}
 use Rattle.syslog_loose.proofs.SettlingLemmas.NoList.{no_list_digit}
 use Rattle.syslog_loose.proofs.TrimLemmas.{message_end, message_blanks, stamp_unblank}
-use Rattle.syslog_pieces.proofs.PieceLemmas.Rows.{row_pieces}
+use Rattle.syslog_pieces.proofs.PieceLemmas.Rows.{row_pieces, row_of, ◌then◌}
 
 -- ---- elements and the message behind the colon: read as the same, or as a lighter message
 
@@ -181,14 +182,11 @@ digit_read : (t : Text) → Begins IsDigit t
     → Front (Row (body_row BeforeBlank)) t [] (None, (None, (tt, (None, (tt, (None, (tt, (t, tt))))))))
 digit_read t b =
     let no_space : NoFront (exactly (32 ∷ [])) t = λ p q v e h. other_than 32 t p q b (inl (omega arith)) e h in
-    row_cons (optional (spaced host)) (from_tag BeforeBlank)
-    (optional_none (spaced host) (no_spaced_space host no_space))
-    (row_cons (optional (spaced tag_word)) (from_tag_end BeforeBlank)
-    (optional_none (spaced tag_word) (no_spaced_space tag_word no_space))
-    (row_cons (run is_blank) (from_colon BeforeBlank) (no_blanks t (digit_no_blank t b))
-    (row_cons (optional (exactly colon)) (from_blanks BeforeBlank)
-    (optional_none (exactly colon) (λ p q v e h. other_than 58 t p q b (inr (omega arith)) e h))
-    (msg_read t (digit_no_blank t b) (no_list_digit BeforeBlank t b)))))
+    row_of (body_row BeforeBlank)
+    (optional_none (spaced host) (no_spaced_space host no_space)
+    then optional_none (spaced tag_word) (no_spaced_space tag_word no_space) then no_blanks t (digit_no_blank t b)
+    then optional_none (exactly colon) (λ p q v e h. other_than 58 t p q b (inr (omega arith)) e h)
+    then row_pieces (from_blanks BeforeBlank) (msg_read t (digit_no_blank t b) (no_list_digit BeforeBlank t b)))
 
 digit_tail : (t : Text) (vs : Values (body_row BeforeBlank)) (n : Names3164) (v1 v2 : ℕ) → Begins IsDigit t
     → Front (Row (body_row BeforeBlank)) t [] vs → Tail vs n v1 v2 → v1 + v2 ≡ 0
@@ -322,14 +320,9 @@ module _ (dating : Dating) (m : MessageValue) (w v : ℕ) (near : HasExceptionsA
 
   row_lighter : Front (Row (rfc3164_row BeforeBlank dating)) (whole m (tail_of m)) [] vs → Lighter
   row_lighter d =
-      let text : Text = timestamp_text m.timestamp ++ behind_stamp m in
-      let p = priority_of m in
-      let d1 = move (optional priority) (from_priority_end BeforeBlank dating) (optional_det priority priority_det)
-      (whole m (tail_of m)) (32 ∷ text) (Some p) vs
-      (optional_some priority (priority_front p (32 ∷ text) (priority_low m))) d in
-      let d2 = move (run is_blank) (from_stamp BeforeBlank dating) (run_det is_blank) (32 ∷ text) text tt vs.1
-      (piece_front (run is_blank) (32 ∷ []) text tt ((refl, tt), stamp_unblank m.timestamp (behind_stamp m))) d1.1 in
-      stamp_lighter d2.1 d1.0 x.stamp_is
+      let (first, behind) = rows_step to_stamp (from_stamp BeforeBlank dating) to_stamp_det {vs = vs}
+      (to_stamp_back m behind_space) d in
+      stamp_lighter behind (ap (λ (u : Values to_stamp). u.0) first) x.stamp_is
 
 -- ---- what was read
 

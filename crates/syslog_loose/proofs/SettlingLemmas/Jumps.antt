@@ -40,9 +40,9 @@ use Rattle.syslog_loose.proofs.Rfc3164Lemmas.Near.{read_near}
 use Rattle.syslog_loose.proofs.Rfc3164Lemmas.Printed.{printed_is, printed_apart}
 use Rattle.syslog_loose.proofs.TrimLemmas.{stamp_unblank}
 use Rattle.syslog_loose.proofs.Rfc3164Lemmas.ReadBack.{stamp_back, program_field, resolved}
-use Rattle.syslog_loose.proofs.Rfc3164Lemmas.ReadBack.{tag_back, host_field_back, gap_back}
+use Rattle.syslog_loose.proofs.Rfc3164Lemmas.ReadBack.{tag_back, host_field_back}
 use Rattle.syslog_loose.proofs.Rfc3164Lemmas.Rows.{from_gap, from_list, from_blanks, from_colon}
-use Rattle.syslog_loose.proofs.Rfc3164Lemmas.Rows.{from_tag_end, from_tag, from_stamp, from_priority_end}
+use Rattle.syslog_loose.proofs.Rfc3164Lemmas.Rows.{from_tag_end, from_tag, from_stamp, from_priority_end, gap_back}
 use Rattle.syslog_loose.proofs.Rfc3164Lemmas.Whole.{program_text, whole, trimmed_whole}
 use Rattle.syslog_loose.proofs.SettlingLemmas.Costs.{colons_last}
 use Rattle.syslog_loose.proofs.SettlingLemmas.Falls.{priority_again, printed_same}

@@ -6,18 +6,19 @@ use Rattle.std.proofs.lemmas.Bool.Decides.{eqb_tells}
 use Rattle.std.proofs.lemmas.List.{length-append}
 use Rattle.std.specs.Char.{is_not_whitespace}
 use Rattle.syslog_pieces.specs.Pieces.Class.{Text, Class, Values, Front, NoFront, IsDeterministic, Row, Each}
-use Rattle.syslog_pieces.specs.Pieces.Class.{Ends, run, some_run, exactly, rest, optional, spaced, texted}
+use Rattle.syslog_pieces.specs.Pieces.Class.{Ends, run, exactly, optional, spaced}
 use Rattle.syslog_pieces.specs.StructuredData.Rfc3164List.{BeginsNoList, rfc3164_list, elements_or}
 use Rattle.syslog_pieces.specs.Text.{is_blank, is_tag_char, dash, colon, EndsInColon, name_text, host, tag_word}
 use Rattle.syslog_pieces.specs.Text.CharClass.{is_label_char, is_open_char}
 use Rattle.syslog_pieces.specs.declared.procid.ProcId.{ProcId}
 use Rattle.syslog_pieces.specs.declared.procid.ProcId.TheVariants.{PID, Name}
 use Rattle.syslog_pieces.specs.declared.structured_data.rfc3164_list.DashRule.TheVariants.{BeforeBlank}
-use Rattle.syslog_pieces.proofs.PieceLemmas.Class.{AllDeterministic, run_same, rest_same, heads, row_nil, row_cons}
-use Rattle.syslog_pieces.proofs.PieceLemmas.Class.{row_head, row_det, front_same, division_front, rest_front}
+use Rattle.syslog_pieces.proofs.PieceLemmas.Class.{AllDeterministic, run_same, rest_same, heads, row_cons}
+use Rattle.syslog_pieces.proofs.PieceLemmas.Class.{row_det, front_same, division_front, rest_front}
 use Rattle.syslog_pieces.proofs.PieceLemmas.Class.{optional_det, optional_some, optional_none, exactly_det, run_det}
 use Rattle.syslog_pieces.proofs.PieceLemmas.Class.{spaced_det, spaced_front, no_spaced_space, no_spaced_piece}
-use Rattle.syslog_pieces.proofs.PieceLemmas.Steps.{piece_front, step, step_value}
+use Rattle.syslog_pieces.proofs.PieceLemmas.Lists.{begins}
+use Rattle.syslog_pieces.proofs.PieceLemmas.Steps.{piece_front, step, step_value, rows_step}
 use Rattle.syslog_pieces.proofs.StructuredDataLemmas.Rfc3164List.{no_rfc3164_list}
 use Rattle.syslog_pieces.proofs.TextLemmas.ReadBack.{dash_ends_not}
 use Rattle.syslog_pieces.proofs.TextLemmas.Words.{host_det, tag_word_det}
@@ -31,11 +32,13 @@ use Rattle.syslog_loose.proofs.Rfc3164Lemmas.{resolves_once}
 use Rattle.syslog_loose.proofs.Rfc3164Lemmas.Exceptions.{no_colon_names, canonical_names}
 use Rattle.syslog_pieces.proofs.PieceLemmas.Each.{each_both, each_left, each_right}
 use Rattle.syslog_pieces.proofs.PieceLemmas.Each.{each_front, each_behind, each_append}
-use Rattle.syslog_loose.proofs.Rfc3164Lemmas.ReadBack.{program_field, resolved, no_tag_colon}
+use Rattle.syslog_pieces.proofs.PieceLemmas.Rows.{row_pieces, row_of, ◌then◌}
+use Rattle.syslog_loose.proofs.Rfc3164Lemmas.ReadBack.{program_field, resolved, no_tag_colon, names_back}
 use Rattle.syslog_loose.proofs.Rfc3164Lemmas.ReadBack.{tagged, tag_back, host_field_back}
-use Rattle.syslog_loose.proofs.Rfc3164Lemmas.Rows.{from_gap, from_list, from_blanks, from_colon, from_tag_end, from_tag}
+use Rattle.syslog_loose.proofs.Rfc3164Lemmas.Rows.{from_blanks, from_colon, from_tag_end, from_tag, to_colon}
 use Rattle.syslog_loose.proofs.Rfc3164Lemmas.Unique.{body_det}
 use Rattle.syslog_loose.proofs.Rfc3164Lemmas.Whole.{program_text}
+use Rattle.syslog_loose.proofs.Rfc3164Lemmas.Rows.{to_colon_det}
 use Rattle.syslog_loose.proofs.SettlingLemmas.Costs.{free, at_most, paid, ends_colon, one_fewer, no_colon_count}
 use Rattle.syslog_loose.proofs.SettlingLemmas.Costs.{counts_once, ends_in, is_dash, bare_zero, bare_one}
 use Rattle.syslog_loose.proofs.SettlingLemmas.NoList.{no_list_by, no_blank_inner, no_list_inner}
@@ -62,11 +65,9 @@ one_space t b = piece_front (run is_blank) (32 ∷ []) t tt ((refl, tt), b)
 message_read : (t msg : Text) → Front (run is_blank) t msg tt → Ends is_blank msg → BeginsNoList BeforeBlank msg
     → Front (Row (from_blanks BeforeBlank)) t [] (tt, (None, (tt, (msg, tt))))
 message_read t msg f b n =
-    row_cons (run is_blank) (from_list BeforeBlank) f
-    (row_cons (optional (rfc3164_list BeforeBlank)) from_gap
-    (optional_none (rfc3164_list BeforeBlank) (no_rfc3164_list BeforeBlank msg n))
-    (row_cons (run is_blank) (rest ∷ []) (no_blanks msg b)
-    (row_cons rest [] (rest_front msg) (row_nil []))))
+    row_of (from_blanks BeforeBlank)
+    (f then optional_none (rfc3164_list BeforeBlank) (no_rfc3164_list BeforeBlank msg n) then no_blanks msg b
+    then rest_front msg then refl)
 
 pub msg_read : (t : Text) → Ends is_blank t → BeginsNoList BeforeBlank t
     → Front (Row (from_blanks BeforeBlank)) t [] (tt, (None, (tt, (t, tt))))
@@ -120,25 +121,15 @@ canonical_stays : (h a : Option Text) (p : Option (ProcId Text)) (t : Text) (n :
     → NamesWeigh n.hostname n.procid v → Resolves vs.0 vs.1.0 n
     → Front (Row (body_row BeforeBlank)) (names_text h a p t) [] vs → Stays h a p t n vs v
 canonical_stays h a p t n vs v k c b y r d =
-    let u : Text = program_text a p ++ (58 ∷ t) in
-    let d1 = move (optional (spaced host)) (from_tag BeforeBlank)
-    (optional_det (spaced host) (spaced_det host host_det)) (names_text h a p t) (32 ∷ u) (Some h) vs
-    (host_field_back h u k) d in
-    let (q, tag, gap) = tag_back h a p t c b in
-    let d2 = move (optional (spaced tag_word)) (from_tag_end BeforeBlank)
-    (optional_det (spaced tag_word) (spaced_det tag_word tag_word_det)) (32 ∷ u) q (program_field a p) vs.1 tag d1.1 in
-    let d3 = move (run is_blank) (from_colon BeforeBlank) (run_det is_blank) q (58 ∷ t) tt vs.1.1 gap d2.1 in
-    let d4 = move (optional (exactly colon)) (from_blanks BeforeBlank)
-    (optional_det (exactly colon) (exactly_det colon)) (58 ∷ t) t (Some tt) vs.1.1.1 (colon_front t) d3.1 in
-    let r1 : Resolves (Some h) vs.1.0 n = subst (λ (x : Option (Option Text)). Resolves x vs.1.0 n) d1.0 r in
-    let r2 : Resolves (Some h) (program_field a p) n =
-    subst (λ (x : Option (Option Text)). Resolves (Some h) x n) d2.0 r1 in
-    let e : n ≡ names h a p = resolves_once (Some h) (program_field a p) n (names h a p) r2 (resolved h a p c b) in
+    let (same, behind) = rows_step to_colon (from_blanks BeforeBlank) to_colon_det {vs = vs} (names_back h a p t k c b)
+    d in
+    let r1 : Resolves (Some h) (program_field a p) n = subst (λ (x : Values to_colon). Resolves x.0 x.1.0 n) same r in
+    let e : n ≡ names h a p = resolves_once (Some h) (program_field a p) n (names h a p) r1 (resolved h a p c b) in
     record {
       light = canonical_zero h a p v k c (subst (λ (x : Names3164). NamesWeigh x.hostname x.procid v) e y);
       host_is = ap (λ (x : Names3164). name_text x.hostname) e;
       tag_is = ap (λ (x : Names3164). tag_text x.appname x.procid) e;
-      behind = d4.1;
+      behind = behind;
     }
 
 -- a host that is a dash is read as none
@@ -155,20 +146,15 @@ dash_stays h t n vs v e y r d =
 -- `app[` and no bracket that closes it is not of the form
 no_form_open : (a x : Text) → Each is_label_char a → Each is_open_char x → IsNoForm (a ++ (91 ∷ x))
 no_form_open a x h k vs d =
-    let g1 = row_head (texted (run is_label_char))
-    (exactly (91 ∷ []) ∷ texted (some_run is_open_char) ∷ exactly (93 ∷ []) ∷ []) (division_front form_row d) in
-    let g2 = row_head (exactly (91 ∷ [])) (texted (some_run is_open_char) ∷ exactly (93 ∷ []) ∷ []) g1.2 in
-    let g3 = row_head (texted (some_run is_open_char)) (exactly (93 ∷ []) ∷ []) g2.2 in
-    let g4 = row_head (exactly (93 ∷ [])) [] g3.2 in
-    let s1 = run_same is_label_char g1.1.piece g1.0 a (91 ∷ x) (sym g1.1.whole) g1.1.is.1.0 g1.1.is.1.1 h refl in
-    let e1 : g1.0 ≡ 91 ∷ x = rest_same g1.1.piece g1.0 a (91 ∷ x) (sym g1.1.whole) s1 in
-    let e2 : g2.0 ≡ x =
-    (let u : 91 ∷ g2.0 ≡ 91 ∷ x = sym (g2.1.whole ∙ ap (λ (y : Text). y ++ g2.0) g2.1.is) ∙ e1 in cc) in
-    let e3 : g3.1.piece ++ g3.0 ≡ x ++ [] = sym g3.1.whole ∙ e2 ∙ sym (append-nil x) in
-    let s3 = run_same is_open_char g3.1.piece g3.0 x [] e3 g3.1.is.1.1 g3.1.is.1.2 k tt in
-    let e4 : g3.0 ≡ [] = rest_same g3.1.piece g3.0 x [] e3 s3 in
-    let e5 : g3.0 ≡ 93 ∷ g4.0 = g4.1.whole ∙ ap (λ (y : Text). y ++ g4.0) g4.1.is in
-    (let u : [] ≡ 93 ∷ g4.0 = sym e4 ∙ e5 in cc)
+    let (t1, f1, (t2, f2, (t3, f3, (t4, f4, _)))) = row_pieces form_row (division_front form_row d) in
+    let s1 = run_same is_label_char f1.piece t1 a (91 ∷ x) (sym f1.whole) f1.is.1.0 f1.is.1.1 h refl in
+    let e1 : t1 ≡ 91 ∷ x = rest_same f1.piece t1 a (91 ∷ x) (sym f1.whole) s1 in
+    let e2 : t2 ≡ x = (let u : 91 ∷ t2 ≡ 91 ∷ x = sym (begins 91 t1 t2 f2) ∙ e1 in cc) in
+    let e3 : f3.piece ++ t3 ≡ x ++ [] = sym f3.whole ∙ e2 ∙ sym (append-nil x) in
+    let s3 = run_same is_open_char f3.piece t3 x [] e3 f3.is.1.1 f3.is.1.2 k tt in
+    let e4 : t3 ≡ [] = rest_same f3.piece t3 x [] e3 s3 in
+    let e5 : t3 ≡ 93 ∷ t4 = begins 93 t3 t4 f4 in
+    (let u : [] ≡ 93 ∷ t4 = sym e4 ∙ e5 in cc)
 
 open_no_dash : (a x : Text) → a ++ (91 ∷ x) ≢ dash
 open_no_dash [] x e = let u : ◌≡◌ {A = ℕ} 91 45 = heads 91 45 x [] e in omega arith
@@ -202,12 +188,10 @@ cut_bare a x z t n vs v h k l m y r d =
     let none = no_list_inner z (58 ∷ t) m in
     let c : Each is_tag_char w = each_append is_tag_char a (91 ∷ x) (each_left is_tag_char (λ c. not (nat_eq c 91)) a h)
     (refl, inner_tag x l k) in
-    let written = row_cons (optional (spaced host)) (from_tag BeforeBlank) (host_field_back None (w ++ (58 ∷ q)) tt)
-    (row_cons (optional (spaced tag_word)) (from_tag_end BeforeBlank)
-    (tagged w q (omega (arith, length-append a (91 ∷ x))) c (open_no_dash a x))
-    (row_cons (run is_blank) (from_colon BeforeBlank) (no_blanks (58 ∷ q) refl)
-    (row_cons (optional (exactly colon)) (from_blanks BeforeBlank) (colon_front q)
-    (msg_read q (no_blank_inner z (58 ∷ t) m) none)))) in
+    let written = row_of (body_row BeforeBlank)
+    (host_field_back None (w ++ (58 ∷ q)) tt
+    then tagged w q (omega (arith, length-append a (91 ∷ x))) c (open_no_dash a x) then no_blanks (58 ∷ q) refl
+    then colon_front q then row_pieces (from_blanks BeforeBlank) (msg_read q (no_blank_inner z (58 ∷ t) m) none)) in
     let e = same_values (body_row BeforeBlank) (body_det BeforeBlank) (32 ∷ (dash ++ (32 ∷ (w ++ (58 ∷ q))))) vs
     (Some None, (Some (Some w), (tt, (Some tt, (tt, (None, (tt, (q, tt)))))))) d written in
     let r1 : Resolves (Some None) (Some (Some w)) n =
@@ -254,22 +238,20 @@ pub host_left : (h t : Text) → IsVisible h
     → Front (Row (body_row BeforeBlank)) (32 ∷ (h ++ (58 ∷ 32 ∷ 58 ∷ t))) [] (colon_values (Some (Some h)) t)
 host_left h t (l, a) =
     let behind : Text = 58 ∷ 32 ∷ 58 ∷ t in
-    row_cons (optional (spaced host)) (from_tag BeforeBlank)
+    row_of (body_row BeforeBlank)
     (optional_some (spaced host) (spaced_front host (space_front (h ++ behind))
-    (piece_front host h behind (Some h) (l, a, inr (32 ∷ 58 ∷ t, refl, refl, refl)))))
-    (row_cons (optional (spaced tag_word)) (from_tag_end BeforeBlank)
-    (optional_none (spaced tag_word) (no_spaced_space tag_word (no_space (32 ∷ 58 ∷ t))))
-    (row_cons (run is_blank) (from_colon BeforeBlank) (no_blanks behind refl) (colon_left t)))
+    (piece_front host h behind (Some h) (l, a, inr (32 ∷ 58 ∷ t, refl, refl, refl))))
+    then optional_none (spaced tag_word) (no_spaced_space tag_word (no_space (32 ∷ 58 ∷ t)))
+    then no_blanks behind refl then row_pieces (from_colon BeforeBlank) (colon_left t))
 
 -- a host that is no more than its colon
 host_alone : (t : Text) → Front (Row (body_row BeforeBlank)) (32 ∷ 58 ∷ 32 ∷ 58 ∷ t) [] (colon_values None t)
 host_alone t =
     let behind : Text = 58 ∷ 32 ∷ 58 ∷ t in
-    row_cons (optional (spaced host)) (from_tag BeforeBlank)
-    (optional_none (spaced host) (no_spaced_piece host (space_front behind) (no_host_alone (58 ∷ t))))
-    (row_cons (optional (spaced tag_word)) (from_tag_end BeforeBlank)
-    (optional_none (spaced tag_word) (no_spaced_piece tag_word (space_front behind) (no_tag_colon (32 ∷ 58 ∷ t))))
-    (row_cons (run is_blank) (from_colon BeforeBlank) (one_space behind refl) (colon_left t)))
+    row_of (body_row BeforeBlank)
+    (optional_none (spaced host) (no_spaced_piece host (space_front behind) (no_host_alone (58 ∷ t)))
+    then optional_none (spaced tag_word) (no_spaced_piece tag_word (space_front behind) (no_tag_colon (32 ∷ 58 ∷ t)))
+    then one_space behind refl then row_pieces (from_colon BeforeBlank) (colon_left t))
 
 -- what a host weighs with one colon fewer
 fewer : (h : Text) (w a b : ℕ) → ColonsCost (Some (h ++ colon)) w → ColonsCost (Some h) a → Costs (h ≢ dash) 1 b

@@ -13,7 +13,9 @@ use Rattle.syslog_pieces.specs.Text.CharClass.{is_id_char, is_name_char}
 use Rattle.syslog_pieces.specs.declared.structured_data.rfc3164_list.DashRule.{DashRule}
 use Rattle.syslog_pieces.specs.declared.structured_data.rfc3164_list.DashRule.TheVariants.{BeforeBlank}
 use Rattle.syslog_pieces.proofs.PieceLemmas.Class.{heads, behind, row_head}
+use Rattle.syslog_pieces.proofs.PieceLemmas.Lists.{begins}
 use Rattle.syslog_pieces.proofs.PieceLemmas.Kinds.{Begins, begins_apart, begins_more, each_begins}
+use Rattle.syslog_pieces.proofs.PieceLemmas.Rows.{row_pieces}
 use Rattle.syslog_pieces.proofs.StructuredDataLemmas.Rfc3164List.{full_begins}
 use Rattle.syslog_loose.specs.Exceptions.{is_inner_char}
 use Rattle.syslog_loose.proofs.Rfc3164Lemmas.Apart.{IsDigit, digit_range}
@@ -65,8 +67,7 @@ stops_stay (c ∷ p) k a b = absurd (let t : true ≡ false = sym a.0 ∙ b.1 in
 param_begins : (p q : Text) (v : Text × Text) → param.Is p q v → Begins (λ c. is_name_char c ≡ true) (p ++ q)
 param_begins p q v h =
     let row : Front (Row param_row) (p ++ q) q h.0 = record { piece = p; whole = refl; is = h.1 } in
-    let g = row_head (texted (some_run is_name_char))
-    (exactly (61 ∷ []) ∷ run is_blank ∷ exactly (34 ∷ []) ∷ value ∷ exactly (34 ∷ []) ∷ []) row in
+    let g = row_pieces param_row row in
     begins_front g.1.piece g.0 g.1.whole g.1.is.1.0 g.1.is.1.1
   where
     begins_front : {t : Text} (n r : Text) → t ≡ n ++ r → 0 < length n → Each is_name_char n
@@ -84,19 +85,12 @@ no_params p q (v ∷ vs) l b ((a, c, i, k, more), z) =
 no_full_open : (z s t r : Text) (vs : Values element_row) → 0 < length vs.1.1.1.0 → Each is_inner_char z
     → t ≡ 91 ∷ (z ++ (93 ∷ s)) → Front (Row element_row) t r vs → ⊥
 no_full_open z s t r vs l h e f =
-    let from_close = exactly (93 ∷ []) ∷ [] in
-    let from_params = list_before param 32 93 ∷ from_close in
-    let from_blanks = run is_blank ∷ from_params in
-    let g1 = row_head (exactly (91 ∷ [])) (texted (some_run is_id_char) ∷ from_blanks) f in
-    let e1 : z ++ (93 ∷ s) ≡ g1.0 =
-    (let u : 91 ∷ (z ++ (93 ∷ s)) ≡ 91 ∷ g1.0 = sym e ∙ g1.1.whole ∙ ap (λ (x : Text). x ++ g1.0) g1.1.is in cc) in
-    let g2 = row_head (texted (some_run is_id_char)) from_blanks g1.2 in
-    let b = id_ends z s g2.1.piece g2.0 h (e1 ∙ g2.1.whole) g2.1.is.1.1 g2.1.is.1.2 in
-    let g3 = row_head (run is_blank) from_params g2.2 in
-    let y = stops_stay g3.1.piece g3.0 g3.1.is.0 (subst (λ (x : Text). Begins Stops x) g3.1.whole b) in
-    let c : Begins Stops g3.0 = subst (λ (x : Text). Begins Stops x) (g3.1.whole ∙ ap (λ (x : Text). x ++ g3.0) y) b in
-    let g4 = row_head (list_before param 32 93) from_close g3.2 in
-    no_params g4.1.piece g4.0 vs.1.1.1.0 l (subst (λ (x : Text). Begins Stops x) g4.1.whole c) g4.1.is
+    let (t1, f1, (t2, f2, (t3, f3, (t4, f4, _)))) = row_pieces element_row f in
+    let e1 : z ++ (93 ∷ s) ≡ t1 = (let u : 91 ∷ (z ++ (93 ∷ s)) ≡ 91 ∷ t1 = sym e ∙ begins 91 t t1 f1 in cc) in
+    let b = id_ends z s f2.piece t2 h (e1 ∙ f2.whole) f2.is.1.1 f2.is.1.2 in
+    let y = stops_stay f3.piece t3 f3.is.0 (subst (λ (x : Text). Begins Stops x) f3.whole b) in
+    let c : Begins Stops t3 = subst (λ (x : Text). Begins Stops x) (f3.whole ∙ ap (λ (x : Text). x ++ t3) y) b in
+    no_params f4.piece t4 vs.1.1.1.0 l (subst (λ (x : Text). Begins Stops x) f4.whole c) f4.is
 
 inner_no_full : (z s : Text) → Each is_inner_char z → NoFront full_element (z ++ (93 ∷ s))
 inner_no_full [] s h p q v e k = let b = full_begins p q v k in

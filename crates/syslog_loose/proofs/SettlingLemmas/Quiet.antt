@@ -10,7 +10,8 @@ use Rattle.syslog_pieces.specs.declared.timestamp.OffsetTimestamp.{OffsetTimesta
 use Rattle.syslog_pieces.specs.declared.timestamp.month_date.MonthDate.{MonthDate}
 use Rattle.syslog_pieces.proofs.PieceLemmas.Class.{row_head, division_front, optional_some, optional_det, run_det}
 use Rattle.syslog_pieces.proofs.PieceLemmas.Kinds.{Begins, begins_apart, begins_more}
-use Rattle.syslog_pieces.proofs.PieceLemmas.Steps.{piece_front, step}
+use Rattle.syslog_pieces.proofs.PieceLemmas.Steps.{piece_front, step, rows_step}
+use Rattle.syslog_pieces.proofs.PieceLemmas.Rows.{row_pieces}
 use Rattle.syslog_pieces.proofs.PriLemmas.{priority_det}
 use Rattle.syslog_pieces.proofs.TimestampLemmas.Rfc3164.{IsLow}
 use Rattle.syslog_pieces.proofs.TimestampLemmas.MonthDate.{month_date_begins}
@@ -33,6 +34,8 @@ use Rattle.syslog_loose.proofs.Rfc3164Lemmas.Printed.{printed_is}
 use Rattle.syslog_loose.proofs.TrimLemmas.{stamp_unblank}
 use Rattle.syslog_loose.proofs.Rfc3164Lemmas.Shown.{shows_month_date}
 use Rattle.syslog_loose.proofs.Rfc3164Lemmas.Whole.{program_text, whole, tail_text, trimmed_whole}
+use Rattle.syslog_loose.proofs.Rfc3164Lemmas.Rows.{to_stamp, to_stamp_det}
+use Rattle.syslog_loose.proofs.Rfc3164Lemmas.ReadBack.{to_stamp_back}
 use Rattle.syslog_loose.proofs.Rfc5424Lemmas.ReadBack as rfc5424
 
 -- ---- the protocol of a message that was read is one that the variant reads
@@ -56,12 +59,9 @@ rfc3164_quiet m visible date (p, more, k) =
     let x2 : Text = timestamp_text m.timestamp ++ (32 ∷ y) in
     let d = subst (λ (x : Text). Front (Row (showing_row yearless_date)) x [] (p, (tt, (date, (more, tt)))))
     (trimmed_whole m visible) (division_front (showing_row yearless_date) k) in
-    let d1 = step (optional priority) (run is_blank ∷ yearless_date ∷ rest ∷ [])
-    (optional_det priority priority_det) {t = whole m t} {q = 32 ∷ x2} {v = Some (priority_of m)}
-    (optional_some priority (priority_front (priority_of m) (32 ∷ x2) (priority_low m))) d in
-    let d2 = step (run is_blank) (yearless_date ∷ rest ∷ []) (run_det is_blank) {t = 32 ∷ x2} {q = x2} {v = tt}
-    (piece_front (run is_blank) (32 ∷ []) x2 tt ((refl, tt), stamp_unblank m.timestamp (32 ∷ y))) d1 in
-    let (q, f, g) = row_head yearless_date (rest ∷ []) d2 in
+    let (_, behind) = rows_step to_stamp (yearless_date ∷ rest ∷ []) to_stamp_det
+    {vs = (p, (tt, (date, (more, tt))))} (to_stamp_back m y) d in
+    let (q, f, _) = row_pieces (yearless_date ∷ rest ∷ []) behind in
     begins_apart x2 (λ c a b. omega arith) (stamp_begins m.timestamp (32 ∷ y))
     (subst (λ (x : Text). Begins IsLetter x) (sym f.whole) (month_date_begins f.piece q date (inl f.is)))
 

@@ -2,7 +2,7 @@
 use Rattle.std.proofs.Common.{◌≡◌, ◌≤◌, List, ◌∷◌, ◌++◌, length, Some, None, refl, sym, ap, subst, ◌∙◌, arith}
 use Rattle.std.proofs.lemmas.List.{length-append}
 use Rattle.syslog_pieces.specs.Pieces.Class.{Text, Class, Front, NoFront, IsDeterministic, Values, Row, optional}
-use Rattle.syslog_pieces.proofs.PieceLemmas.Class.{front_same, row_head}
+use Rattle.syslog_pieces.proofs.PieceLemmas.Class.{AllDeterministic, front_same, row_head, row_det, firsts, lasts, rows_split}
 
 -- ---- a front at a known place
 
@@ -21,6 +21,15 @@ step C Cs d {r = r} {vs = vs} g f =
 pub step_value : (C : Class) (Cs : List Class) → IsDeterministic C → {t q r : Text} {v : C.Value} {vs : Values (C ∷ Cs)}
     → Front C t q v → Front (Row (C ∷ Cs)) t r vs → vs.0 ≡ v
 step_value C Cs d g f = let h = row_head C Cs f in (front_same C d h.1 g).1
+
+-- the same behind several known fronts
+pub rows_step : (As Bs : List Class) → AllDeterministic As → {t q r : Text} {us : Values As} {vs : Values (As ++ Bs)}
+    → Front (Row As) t q us → Front (Row (As ++ Bs)) t r vs
+    → (firsts As Bs vs ≡ us) × Front (Row Bs) q r (lasts As Bs vs)
+rows_step As Bs d {r = r} {vs = vs} g f =
+    let (u, a, b) = rows_split As Bs f in
+    let (e, same) = front_same (Row As) (row_det As d) a g in
+    (same, subst (λ (x : Text). Front (Row Bs) x r (lasts As Bs vs)) e b)
 
 -- what follows a front is no longer than the text
 pub front_longer : (C : Class) {t q : Text} {v : C.Value} → Front C t q v → length q ≤ length t

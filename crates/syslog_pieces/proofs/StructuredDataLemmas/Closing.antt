@@ -9,7 +9,7 @@ use Rattle.std.specs.List.{flat_map, AllByRecursion}
 use Rattle.std.specs.Str.{chars, IsUtf8, encode_utf8_all}
 use Rattle.syslog_pieces.specs.Text.CharClass.{is_name_char, is_id_char, is_open_char}
 use Rattle.syslog_pieces.specs.Pieces.Class.{Text, Class, Front, NoFront, Values, Divides}
-use Rattle.syslog_pieces.specs.Pieces.Class.{join, Row, Each, run, some_run, exactly, texted}
+use Rattle.syslog_pieces.specs.Pieces.Class.{IsDeterministic, join, Row, Each, run, some_run, exactly, texted}
 use Rattle.syslog_pieces.specs.Bodies.Closing.{start_row, start, id_alone, inside_row, inside, opening_row, opening}
 use Rattle.syslog_pieces.specs.Bodies.Closing.{name_alone, quoted_row, quoted, tail_row, closing, byte_count, IsDead}
 use Rattle.syslog_pieces.specs.StructuredData.Element.{ElementValue}
@@ -18,12 +18,13 @@ use Rattle.syslog_pieces.specs.StructuredData.{IsValueUnit, IsValue, value, para
 use Rattle.syslog_pieces.specs.StructuredData.{param, element, element_row, element_of}
 use Rattle.syslog_pieces.specs.Text.{is_blank}
 use Rattle.syslog_pieces.proofs.PieceLemmas.Class.{AllDeterministic, heads, run_det, some_run_det}
-use Rattle.syslog_pieces.proofs.PieceLemmas.Class.{exactly_det, texted_det, mapped_front, row_cons}
-use Rattle.syslog_pieces.proofs.PieceLemmas.Class.{row_head, row_none_here, nil_front, rows_none_here}
-use Rattle.syslog_pieces.proofs.StructuredDataLemmas.Elements.{unit_goes, space_is_no_close}
+use Rattle.syslog_pieces.proofs.PieceLemmas.Class.{◌also◌, exactly_det, texted_det, mapped_front, rows_join}
+use Rattle.syslog_pieces.proofs.PieceLemmas.Class.{row_det, row_head, row_none_here, nil_front, rows_none_here}
+use Rattle.syslog_pieces.proofs.StructuredDataLemmas.Elements.{unit_goes, space_is_no_close, value_det}
 use Rattle.syslog_pieces.proofs.PieceLemmas.Lists.{list_goes, more_goes}
 use Rattle.syslog_pieces.proofs.PieceLemmas.Meets.{Meets, meets_on, meets_none, meets_none_on}
 use Rattle.syslog_pieces.proofs.PieceLemmas.Meets.{mapped_meets, row_first, rows_go}
+use Rattle.syslog_pieces.proofs.PieceLemmas.Rows.{no_row}
 
 -- ---- bytes, and where a bracket stands in two joined texts
 pub byte_count-append : (a b : Text) → byte_count (a ++ b) ≡ byte_count a + byte_count b
@@ -60,27 +61,20 @@ pub dead_whole : (t : Text) (d : ℕ) → d ≡ byte_count t → IsDead t d
 dead_whole t d e a b f l = absurd (let k = behind_bracket a b in let m = ap byte_count f in omega (arith, k, m))
 
 -- ---- the steps of an element
-abbrev equals : Class
-equals = exactly (61 ∷ [])
-
-abbrev blanks : Class
-blanks = run is_blank
-
-abbrev quote : Class
-quote = exactly (34 ∷ [])
-
-abbrev bracket : Class
-bracket = exactly (91 ∷ [])
-
 pub start_det : AllDeterministic start_row
 start_det =
-    (exactly_det (91 ∷ []), (texted_det (some_run is_id_char) (some_run_det is_id_char), (run_det is_blank, tt)))
+    exactly_det (91 ∷ []) also texted_det (some_run is_id_char) (some_run_det is_id_char) also run_det is_blank also tt
 
 pub opening_det : AllDeterministic opening_row
-opening_det = (
-  texted_det (some_run is_name_char) (some_run_det is_name_char),
-  (exactly_det (61 ∷ []), (run_det is_blank, (exactly_det (34 ∷ []), tt))),
-)
+opening_det =
+    texted_det (some_run is_name_char) (some_run_det is_name_char) also exactly_det (61 ∷ []) also run_det is_blank
+    also exactly_det (34 ∷ []) also tt
+
+pub quoted_row_det : AllDeterministic quoted_row
+quoted_row_det = value_det also exactly_det (34 ∷ []) also tt
+
+pub quoted_det : IsDeterministic quoted
+quoted_det = row_det quoted_row quoted_row_det
 
 pub element_starts : (t u : Text) (vs : Values start_row) → Front start t u vs → Meets element t inside u
 element_starts t u vs f = meets_on element t (Row element_row) t inside u
@@ -92,14 +86,7 @@ no_element_starts t u vs f n = meets_none element t inside u (element_starts t u
 pub element_read : (t u r : Text) (id : Text) (ps : List (Text × Text)) → Front start t u (id_alone id)
     → Front inside u r (ps, (tt, tt)) → Front element t r (record { id = id; params = ps })
 element_read t u r id ps f g =
-    let a = row_head bracket (texted (some_run is_id_char) ∷ blanks ∷ []) f in
-    let b = row_head (texted (some_run is_id_char)) (blanks ∷ []) a.2 in
-    let c = row_head blanks [] b.2 in
-    mapped_front (Row element_row) ElementValue element_of
-    (row_cons bracket (texted (some_run is_id_char) ∷ blanks ∷ inside_row) a.1
-    (row_cons (texted (some_run is_id_char)) (blanks ∷ inside_row) b.1
-    (row_cons blanks inside_row c.1
-    (subst (λ (x : Text). Front inside x r (ps, (tt, tt))) (sym (nil_front c.2)) g))))
+    mapped_front (Row element_row) ElementValue element_of (rows_join start_row inside_row f g)
 
 pub no_start : (t : Text) → NoFront start t → NoFront element t
 no_start t n = meets_none element t (Row element_row) t (mapped_meets (Row element_row) ElementValue element_of t)
@@ -119,16 +106,7 @@ no_param_opens t u vs f = meets_none param t quoted u (param_opens t u vs f)
 pub param_read : (t u q : Text) (name v : Text) → Front opening t u (name_alone name) → Front quoted u q (v, (tt, tt))
     → Front param t q (name, v)
 param_read t u q name v f g =
-    let a = row_head (texted (some_run is_name_char)) (equals ∷ blanks ∷ quote ∷ []) f in
-    let b = row_head equals (blanks ∷ quote ∷ []) a.2 in
-    let c = row_head blanks (quote ∷ []) b.2 in
-    let d = row_head quote [] c.2 in
-    mapped_front (Row param_row) (Text × Text) param_of
-    (row_cons (texted (some_run is_name_char)) (equals ∷ blanks ∷ quote ∷ quoted_row) a.1
-    (row_cons equals (blanks ∷ quote ∷ quoted_row) b.1
-    (row_cons blanks (quote ∷ quoted_row) c.1
-    (row_cons quote quoted_row d.1
-    (subst (λ (x : Text). Front quoted x q (v, (tt, tt))) (sym (nil_front d.2)) g)))))
+    mapped_front (Row param_row) (Text × Text) param_of (rows_join opening_row quoted_row f g)
 
 -- into the first value
 pub list_enters : (t u : Text) (vs : Values opening_row) → NoFront (exactly (93 ∷ [])) t → Front opening t u vs
@@ -211,7 +189,7 @@ no_value_behind t a b e n p q v w h =
     value_before a b q v (record { piece = p; whole = w; is = h }) (subst (λ (x : Text). NoFront value x) e n)
 
 pub no_closing : (t : Text) → NoFront value t → NoFront closing t
-no_closing t n = row_none_here quoted tail_row (row_none_here value (exactly (34 ∷ []) ∷ []) n)
+no_closing t n = row_none_here quoted tail_row (no_row quoted_row quoted_row_det (inl n))
 
 pub dead_values : (t : Text) → NoFront value t → IsDead t 0
 dead_values t n a b e l = no_closing b (no_value_behind t a b e n)
@@ -267,19 +245,14 @@ one_shut : (c : ℕ) → is_open_char c ≡ true → IsShut (exactly (c ∷ []))
 one_shut c h p q v e = subst (λ (x : Text). Each is_open_char x) (sym e) (h, tt)
 
 pub start_shut : IsShut start
-start_shut = row_shut start_row (
-  one_shut 91 refl,
-  (
-    (λ p q v i. each_from is_id_char is_open_char id_open p i.1.1),
-    ((λ p q v i. each_from is_blank is_open_char blank_open p i.0), tt),
-  ),
-)
+start_shut = row_shut start_row
+    (one_shut 91 refl also (λ p q v i. each_from is_id_char is_open_char id_open p i.1.1)
+    also (λ p q v i. each_from is_blank is_open_char blank_open p i.0) also tt)
 
 pub opening_shut : IsShut opening
-opening_shut = row_shut opening_row (
-  (λ p q v i. each_from is_name_char is_open_char name_open p i.1.1),
-  (one_shut 61 refl, ((λ p q v i. each_from is_blank is_open_char blank_open p i.0), (one_shut 34 refl, tt))),
-)
+opening_shut = row_shut opening_row
+    ((λ p q v i. each_from is_name_char is_open_char name_open p i.1.1) also one_shut 61 refl
+    also (λ p q v i. each_from is_blank is_open_char blank_open p i.0) also one_shut 34 refl also tt)
 
 no_bracket : (w a b : Text) → Each is_open_char w → w ≡ a ++ (93 ∷ b) → ⊥
 no_bracket [] [] b h e = let k = ap length e in omega arith
@@ -322,7 +295,6 @@ module _ (C : Class) where
       → Passes C t y
   passes_quoted t x y vs p m f =
       let r = row_head value (exactly (34 ∷ []) ∷ []) f in
-      let s = row_head (exactly (34 ∷ [])) [] r.2 in
       let value_passed : Passes C t r.0 = passes_on t x r.1.piece r.0 p r.1.whole (λ a b e n.
       meets_none_on closing x closing (b ++ r.0)
       (value_closing x (b ++ r.0) (subst (λ (z : Text). Meets value z value (b ++ r.0)) (sym r.1.whole)

@@ -12,6 +12,7 @@ use Rattle.syslog_pieces.specs.StructuredData.{IsValue, value}
 use Rattle.syslog_pieces.proofs.TextLemmas.Chars.{chars_cut, one_ascii}
 use Rattle.syslog_pieces.proofs.PieceLemmas.Class.{row_cons, row_head, nil_front}
 use Rattle.syslog_pieces.proofs.PieceLemmas.Lists.{begins}
+use Rattle.syslog_pieces.proofs.PieceLemmas.Rows.{row_pieces}
 
 module _ (t r : List ℕ) (u : IsUtf8 t) (z : IsUtf8 r) (v : Values quoted_row)
     (f : Front quoted (chars t) (chars r) v) where
@@ -20,8 +21,8 @@ module _ (t r : List ℕ) (u : IsUtf8 t) (z : IsUtf8 r) (v : Values quoted_row)
 
   behind : first.0 ≡ 34 ∷ chars r
   behind =
-      let s = row_head (exactly (34 ∷ [])) [] first.2 in
-      begins 34 first.0 s.0 s.1 ∙ ap (λ (x : Text). 34 ∷ x) (nil_front s.2)
+      let (s, quote, end) = row_pieces (exactly (34 ∷ []) ∷ []) first.2 in
+      begins 34 first.0 s quote ∙ ap (λ (x : Text). 34 ∷ x) end
 
   whole : chars t ≡ first.1.piece ++ (34 ∷ chars r)
   whole = first.1.whole ∙ ap (λ (x : Text). first.1.piece ++ x) behind
@@ -61,11 +62,10 @@ module _ (t r : List ℕ) (u : IsUtf8 t) (z : IsUtf8 r) (v : Values quoted_row)
       ∙ ap (λ (y : List ℕ). y ++ chars r) (chars-IsAscii (34 ∷ []) (one_ascii 34 (omega arith))) in
       let piece : first.1.piece ≡ chars xs = append_cancel_right first.1.piece (chars xs) (34 ∷ chars r)
       (sym whole ∙ split ∙ ap (λ (y : List ℕ). chars xs ++ y) rest) in
-      let s = row_head (exactly (34 ∷ [])) [] first.2 in
       row_cons value (exactly (34 ∷ []) ∷ [])
       (record {
         piece = chars xs;
         whole = first.1.whole ∙ ap (λ (y : Text). y ++ first.0) piece;
         is = (subst IsValue piece first.1.is.0, first.1.is.1, refl);
       })
-      (row_cons (exactly (34 ∷ [])) [] s.1 (s.2))
+      first.2

@@ -8,11 +8,12 @@ use Rattle.syslog_pieces.specs.Pieces.Class.{Text, join, Front, IsDeterministic,
 use Rattle.syslog_pieces.specs.StructuredData.Element.{ElementValue}
 use Rattle.syslog_pieces.specs.StructuredData.Escapes.{TextUnit, pair, single, unit_text}
 use Rattle.syslog_pieces.specs.Pieces.Lists.{many, list_before}
+use Rattle.syslog_pieces.specs.Pieces.Class.{Class}
 use Rattle.syslog_pieces.specs.StructuredData.{IsValueUnit, value, param_row, param_of, param, element_row}
 use Rattle.syslog_pieces.specs.StructuredData.{element_of, element, bracketed, item, strict, forgiving}
 use Rattle.syslog_pieces.specs.Text.{is_blank, dash}
-use Rattle.syslog_pieces.proofs.PieceLemmas.Class.{heads, run_det, some_run_det, exactly_det}
-use Rattle.syslog_pieces.proofs.PieceLemmas.Class.{row_det, mapped_det, texted_det}
+use Rattle.syslog_pieces.proofs.PieceLemmas.Class.{heads, run_det, some_run_det, exactly_det, AllDeterministic}
+use Rattle.syslog_pieces.proofs.PieceLemmas.Class.{row_det, mapped_det, texted_det, ◌also◌}
 use Rattle.syslog_pieces.proofs.PieceLemmas.Lists.{many_det, list_before_det}
 use Rattle.syslog_pieces.proofs.PieceLemmas.Meets.{Meets}
 
@@ -91,11 +92,13 @@ pub value_here : (t r : Text) → t ≡ 34 ∷ r → Front value t t []
 value_here t r e = record { piece = []; whole = refl; is = (([], refl, tt), (r, e), refl) }
 
 -- ---- parameters and elements
+pub param_row_det : AllDeterministic param_row
+param_row_det =
+    texted_det (some_run is_name_char) (some_run_det is_name_char) also exactly_det (61 ∷ []) also run_det is_blank
+    also exactly_det (34 ∷ []) also value_det also exactly_det (34 ∷ []) also tt
+
 pub param_det : IsDeterministic param
-param_det = mapped_det (Row param_row) (Text × Text) param_of (row_det param_row (
-  texted_det (some_run is_name_char) (some_run_det is_name_char),
-  (exactly_det (61 ∷ []), (run_det is_blank, (exactly_det (34 ∷ []), (value_det, (exactly_det (34 ∷ []), tt))))),
-))
+param_det = mapped_det (Row param_row) (Text × Text) param_of (row_det param_row param_row_det)
 
 name_char_is_no_close : (c : ℕ) → is_name_char c ≡ true → c ≡ 93 → ⊥
 name_char_is_no_close c h e = let t = ap is_name_char e in let u : true ≡ false = sym h ∙ t in cc
@@ -117,19 +120,23 @@ space_is_no_close e = omega arith
 pub params_det : IsDeterministic (list_before param 32 93)
 params_det = list_before_det param 32 93 space_is_no_close param_det param_apart
 
+pub element_row_det : AllDeterministic element_row
+element_row_det =
+    exactly_det (91 ∷ []) also texted_det (some_run is_id_char) (some_run_det is_id_char) also run_det is_blank
+    also params_det also exactly_det (93 ∷ []) also tt
+
 pub element_det : IsDeterministic element
-element_det = mapped_det (Row element_row) ElementValue element_of (row_det element_row (
-  exactly_det (91 ∷ []),
-  (
-    texted_det (some_run is_id_char) (some_run_det is_id_char),
-    (run_det is_blank, (params_det, (exactly_det (93 ∷ []), tt))),
-  ),
-))
+element_det = mapped_det (Row element_row) ElementValue element_of (row_det element_row element_row_det)
 
 -- ---- forgiving lists
+abbrev pub bracketed_row : List Class
+bracketed_row = exactly (91 ∷ []) ∷ run is_open_char ∷ exactly (93 ∷ []) ∷ []
+
+pub bracketed_row_det : AllDeterministic bracketed_row
+bracketed_row_det = exactly_det (91 ∷ []) also run_det is_open_char also exactly_det (93 ∷ []) also tt
+
 pub bracketed_det : IsDeterministic bracketed
-bracketed_det = row_det (exactly (91 ∷ []) ∷ run is_open_char ∷ exactly (93 ∷ []) ∷ [])
-    (exactly_det (91 ∷ []), (run_det is_open_char, (exactly_det (93 ∷ []), tt)))
+bracketed_det = row_det bracketed_row bracketed_row_det
 
 pub item_det : IsDeterministic item
 item_det p q p' q' (Some v) (Some v') e h h' = let r = element_det p q p' q' v v' e h h' in (r.0, ap Some r.1)

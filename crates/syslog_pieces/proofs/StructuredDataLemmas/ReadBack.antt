@@ -13,6 +13,7 @@ use Rattle.syslog_pieces.specs.StructuredData.Canonical.{IsCanonicalParam, Begin
 use Rattle.syslog_pieces.specs.Text.{is_blank}
 use Rattle.syslog_pieces.specs.Text.CharClass.{is_id_char, is_name_char}
 use Rattle.syslog_pieces.proofs.PieceLemmas.Class.{heads, row_head}
+use Rattle.syslog_pieces.proofs.PieceLemmas.Rows.{row_pieces}
 use Rattle.syslog_pieces.proofs.StructuredDataLemmas.Elements.{item_begins}
 use Rattle.syslog_pieces.proofs.StructuredDataLemmas.Verbatim.{strict_some}
 
@@ -48,15 +49,9 @@ more_back ((name, v) ∷ ps) q (canonical, canonicals) = (
 -- what is read as a parameter is canonical
 param_canonical : (p q : Text) (v : Text × Text) → param.Is p q v → IsCanonicalParam v
 param_canonical p q v (vs, row, e) =
-    let g1 = row_head (texted (some_run is_name_char))
-    (exactly (61 ∷ []) ∷ run is_blank ∷ exactly (34 ∷ []) ∷ value ∷ exactly (34 ∷ []) ∷ [])
-    (record { piece = p; whole = refl; is = row }) in
-    let g2 = row_head (exactly (61 ∷ [])) (run is_blank ∷ exactly (34 ∷ []) ∷ value ∷ exactly (34 ∷ []) ∷ []) g1.2 in
-    let g3 = row_head (run is_blank) (exactly (34 ∷ []) ∷ value ∷ exactly (34 ∷ []) ∷ []) g2.2 in
-    let g4 = row_head (exactly (34 ∷ [])) (value ∷ exactly (34 ∷ []) ∷ []) g3.2 in
-    let g5 = row_head value (exactly (34 ∷ []) ∷ []) g4.2 in
-    let (_, name, name_is) = g1.1.is in
-    let (units, _, value_is) = g5.1.is in
+    let g = row_pieces param_row (record { piece = p; whole = refl; is = row }) in
+    let (_, name, name_is) = g.1.is in
+    let (units, _, value_is) = g.2.2.2.2.1.is in
     subst (λ (x : Text × Text). IsCanonicalParam x) (sym e) (
       subst (λ (x : Text). 0 < length x) (sym name_is) name.0,
       subst (λ (x : Text). Each is_name_char x) (sym name_is) name.1,
@@ -133,9 +128,7 @@ first_canonical : (p q : Text) (vs : List (Text × Text)) → IsList param 32 p 
     → BeginsUnblank vs
 first_canonical p q [] h e = tt
 first_canonical p q (v ∷ vs) (a, b, w, (ws, row, same), more) e =
-    let g = row_head (texted (some_run is_name_char))
-    (exactly (61 ∷ []) ∷ run is_blank ∷ exactly (34 ∷ []) ∷ value ∷ exactly (34 ∷ [])
-    ∷ []) {text = a ++ (b ++ q)} {r = b ++ q} (record { piece = a; whole = refl; is = row }) in
+    let g = row_pieces param_row {t = a ++ (b ++ q)} {q = b ++ q} (record { piece = a; whole = refl; is = row }) in
     let (_, name, name_is) = g.1.is in
     let whole : p ++ q ≡ g.1.piece ++ g.0 = ap (λ (x : Text). x ++ q) w ∙ append_assoc a b q ∙ g.1.whole in
     let ends : Ends is_blank g.1.piece =
@@ -149,20 +142,16 @@ first_canonical p q (v ∷ vs) (a, b, w, (ws, row, same), more) e =
 -- what is read as an element is canonical
 pub element_canonical : (p q : Text) (e : ElementValue) → element.Is p q e → IsCanonicalElement e
 element_canonical p q e (vs, row, same) =
-    let g1 = row_head (exactly (91 ∷ [])) (texted (some_run is_id_char) ∷ run is_blank ∷ list_before param 32 93
-    ∷ exactly (93 ∷ []) ∷ []) (record { piece = p; whole = refl; is = row }) in
-    let g2 =
-    row_head (texted (some_run is_id_char)) (run is_blank ∷ list_before param 32 93 ∷ exactly (93 ∷ []) ∷ []) g1.2 in
-    let g3 = row_head (run is_blank) (list_before param 32 93 ∷ exactly (93 ∷ []) ∷ []) g2.2 in
-    let g4 = row_head (list_before param 32 93) (exactly (93 ∷ []) ∷ []) g3.2 in
-    let (_, id, id_is) = g2.1.is in
-    let params = g4.1.is.0 in
+    let (_, _, (_, named, (_, gap, (after, list, _)))) = row_pieces element_row
+    (record { piece = p; whole = refl; is = row }) in
+    let (_, id, id_is) = named.is in
+    let params = list.is.0 in
     subst (λ (x : ElementValue). IsCanonicalElement x) (sym same) (
       subst (λ (x : Text). 0 < length x) (sym id_is) id.0,
       subst (λ (x : Text). Each is_id_char x) (sym id_is) id.1,
-      list_canonical g4.1.piece g4.0 (element_of vs).params params,
-      first_canonical g4.1.piece g4.0 (element_of vs).params params
-          (subst (λ (x : Text). Ends is_blank x) g4.1.whole g3.1.is.1),
+      list_canonical list.piece after (element_of vs).params params,
+      first_canonical list.piece after (element_of vs).params params
+          (subst (λ (x : Text). Ends is_blank x) list.whole gap.is.1),
     )
 
 -- ---- lists

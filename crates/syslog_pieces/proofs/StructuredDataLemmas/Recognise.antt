@@ -1,12 +1,12 @@
 -- The steps of the walk over an element.
-use Rattle.std.proofs.Common.{◌≡◌, ◌≢◌, ℕ, ◌<◌, ◌≤◌, Bool, true, false, [], ◌∷◌, ◌++◌, length}
+use Rattle.std.proofs.Common.{◌≡◌, ◌≢◌, ℕ, ◌<◌, ◌≤◌, Bool, true, false, [], ◌∷◌, ◌++◌, length, inl}
 use Rattle.std.proofs.Common.{Result, Ok, Err, refl, sym, ap, subst, ◌∙◌, append_assoc, arith}
 use Rattle.std.proofs.lemmas.List.{length-append, nil_from_length}
 use Rattle.std.specs.Result.{MatchResult}
 use Rattle.std.specs.Str.{chars}
 use Rattle.syslog_pieces.specs.Text.CharClass.{is_unescaped_char, is_inert_char}
 use Rattle.syslog_pieces.specs.Pieces.Class.{Text, Class, Front, NoFront, IsDeterministic, Values, Row, Each, exactly}
-use Rattle.syslog_pieces.specs.Bodies.Closing.{start_row, start, inside, opening_row, opening, quoted_row}
+use Rattle.syslog_pieces.specs.Bodies.Closing.{start_row, start, inside, opening_row, opening, quoted_row, inside_row}
 use Rattle.syslog_pieces.specs.Bodies.Closing.{quoted, tail_row, closing, byte_count, IsDead, last_char}
 use Rattle.syslog_pieces.specs.StructuredData.Element.{ElementValue}
 use Rattle.syslog_pieces.specs.StructuredData.Escapes.{TextUnit, pair, single, unit_text}
@@ -20,9 +20,11 @@ use Rattle.syslog_pieces.proofs.StructuredDataLemmas.Closing.{dead_values, eleme
 use Rattle.syslog_pieces.proofs.StructuredDataLemmas.Closing.{no_opening, Passes, passes_here, passes_shut}
 use Rattle.syslog_pieces.proofs.StructuredDataLemmas.Closing.{passes_space, passes_quoted, passes_dead}
 use Rattle.syslog_pieces.proofs.StructuredDataLemmas.Closing.{passes_dead_on, start_shut, opening_shut}
+use Rattle.syslog_pieces.proofs.StructuredDataLemmas.Closing.{quoted_row_det, quoted_det}
 use Rattle.syslog_pieces.proofs.StructuredDataLemmas.Elements.{value_det, value_here, unit_goes}
 use Rattle.syslog_pieces.proofs.PieceLemmas.Lists.{begins, list_here, more_here, no_list, no_more, no_more_behind}
 use Rattle.syslog_pieces.proofs.PieceLemmas.Meets.{Meets, meets_here, meets_on, meets_none, row_goes, row_first}
+use Rattle.syslog_pieces.proofs.PieceLemmas.Rows.{row_of, ◌then◌, no_row}
 
 -- ---- values
 pub no_value_empty : (t : Text) → t ≡ [] → NoFront value t
@@ -75,13 +77,13 @@ module _ (test : ℕ → Bool) (a : AllPlain test) (text bs xs ys : Text) (s : S
       × Front quoted text q v
   value_quoted q f =
       let g = to_end.forth (chars ys) [] (value_here (chars ys) q (f.whole ∙ ap (λ (x : Text). x ++ q) f.is)) in
-      ((g.0, (tt, tt)), row_cons value (exactly (34 ∷ []) ∷ []) g.1 (row_cons (exactly (34 ∷ [])) [] f (row_nil q)))
+      ((g.0, (tt, tt)), row_of quoted_row (g.1 then f then refl))
 
   none : NoFront value (chars ys) → NoFront value text
   none = meets_none value text value (chars ys) to_end
 
   pub no_quoted : NoFront value (chars ys) → NoFront quoted text
-  no_quoted n = row_none_here value (exactly (34 ∷ []) ∷ []) (none n)
+  no_quoted n = no_row quoted_row quoted_row_det (inl (none n))
 
   pub value_missing : NoFront value (chars ys) → NoFront closing text × IsDead text 0
   value_missing n = let k = none n in (no_closing text k, dead_values text k)
@@ -135,9 +137,6 @@ missing_further text t m n =
     let k = meets_none value text value t m (unquoted t n) in (no_closing text k, dead_values text k)
 
 -- ---- an element
-pub quoted_det : IsDeterministic quoted
-quoted_det = row_det quoted_row (value_det, (exactly_det (34 ∷ []), tt))
-
 -- up to the first value of an element
 pub opened_passes : (C : Class) (text params x : Text) (vs : Values start_row) (ws : Values opening_row)
     → Front start text params vs → Front opening params x ws → Passes C text x
@@ -147,13 +146,11 @@ opened_passes C text params x vs ws f g = passes_shut C opening opening_shut tex
 module _ (text params : Text) (vs : Values start_row) (f : Front start text params vs) where
   pub element_bare : (q : Text) → Front (exactly (93 ∷ [])) params q tt → (v : ElementValue) × Front element text q v
   element_bare q g = (element_starts text params vs f).forth q ([], (tt, tt))
-      (row_cons (list_before param 32 93) (exactly (93 ∷ []) ∷ [])
-      (list_here param 32 93 params q (begins 93 params q g)) (row_cons (exactly (93 ∷ [])) [] g (row_nil q)))
+      (row_of inside_row (list_here param 32 93 params q (begins 93 params q g) then g then refl))
 
   pub element_unopened : NoFront (exactly (93 ∷ [])) params → NoFront opening params → NoFront element text
   element_unopened n m = meets_none element text inside params (element_starts text params vs f)
-      (row_none_here (list_before param 32 93) (exactly (93 ∷ []) ∷ [])
-      (no_list param 32 93 params n (no_opening params m)))
+      (row_none_here _ (exactly (93 ∷ []) ∷ []) (no_list param 32 93 params n (no_opening params m)))
 
   pub element_enters : (x : Text) (ws : Values opening_row) → NoFront (exactly (93 ∷ [])) params
       → Front opening params x ws → Passes element text x × Meets element text closing x
@@ -167,14 +164,12 @@ module _ (C : Class) (text x y : Text) (p : Passes C text x) (m : Meets C text c
     (f : Front quoted x y vs) where
   pub value_ends : (q : Text) → Front (exactly (93 ∷ [])) y q tt → (v : C.Value) × Front C text q v
   value_ends q g = m.forth q (vs, ([], (tt, tt)))
-      (row_cons quoted tail_row f (row_cons (more_before param 32 93) (exactly (93 ∷ []) ∷ [])
-      (more_here param 32 93 y q (begins 93 y q g)) (row_cons (exactly (93 ∷ [])) [] g (row_nil q))))
+      (row_of (quoted ∷ tail_row) (f then more_here param 32 93 y q (begins 93 y q g) then g then refl))
 
   fails : NoFront (more_before param 32 93) y → (d : ℕ) → d ≡ byte_count y → NoFront C text × IsDead text d
   fails n d e =
       let k = meets_none C text closing x m
-      (row_none_later quoted tail_row quoted_det f
-      (row_none_here (more_before param 32 93) (exactly (93 ∷ []) ∷ []) n)) in
+      (row_none_later quoted tail_row quoted_det f (row_none_here _ (exactly (93 ∷ []) ∷ []) n)) in
       (k, passes_dead C text y d e (passes_quoted C text x y vs p m f) k)
 
   pub value_breaks : NoFront (exactly (93 ∷ [])) y → NoFront (exactly (32 ∷ [])) y → (d : ℕ) → d ≡ byte_count y

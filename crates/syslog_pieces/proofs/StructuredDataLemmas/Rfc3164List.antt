@@ -16,9 +16,10 @@ use Rattle.syslog_pieces.specs.Text.{is_blank, dash}
 use Rattle.syslog_pieces.specs.Text.CharClass.{is_id_char, is_name_char}
 use Rattle.syslog_pieces.specs.declared.structured_data.rfc3164_list.DashRule.{DashRule}
 use Rattle.syslog_pieces.proofs.PieceLemmas.Class.{behind, front_same, no_front_no, optional_none}
-use Rattle.syslog_pieces.proofs.PieceLemmas.Class.{optional_some, row_det, row_nil, row_cons, row_head}
+use Rattle.syslog_pieces.proofs.PieceLemmas.Class.{optional_some, row_det, row_nil, row_cons, rows_split, row_head}
 use Rattle.syslog_pieces.proofs.PieceLemmas.Lists.{many_det, many_cons, many_none, no_many_no}
 use Rattle.syslog_pieces.proofs.PieceLemmas.Meets.{Meets}
+use Rattle.syslog_pieces.proofs.PieceLemmas.Rows.{row_pieces}
 use Rattle.syslog_pieces.proofs.StructuredDataLemmas.Closing.{start_det, no_start, no_opening}
 use Rattle.syslog_pieces.proofs.StructuredDataLemmas.Elements.{element_det, element_shorter, item_begins}
 use Rattle.syslog_pieces.proofs.StructuredDataLemmas.Elements.{dash_is_no_list, run_no_close}
@@ -167,18 +168,9 @@ element_inside : (t q : Text) (v : ElementValue) → Front element t q v → (u 
     × Front start t u vs × (r : Text) × Front (list_before param 32 93) u r v.params
 element_inside t q v f =
     let row : Front (Row element_row) t q f.is.0 = record { piece = f.piece; whole = f.whole; is = f.is.1 } in
-    let a = row_head (exactly (91 ∷ [])) (texted (some_run is_id_char) ∷ run is_blank ∷ inside_row) row in
-    let b = row_head (texted (some_run is_id_char)) (run is_blank ∷ inside_row) a.2 in
-    let c = row_head (run is_blank) inside_row b.2 in
-    let d = row_head (list_before param 32 93) (exactly (93 ∷ []) ∷ []) c.2 in (
-      c.0,
-      (tt, (f.is.0.1.0, (tt, tt))),
-      row_cons (exactly (91 ∷ [])) (texted (some_run is_id_char) ∷ run is_blank ∷ []) a.1
-          (row_cons (texted (some_run is_id_char)) (run is_blank ∷ []) b.1
-          (row_cons (run is_blank) [] c.1 (row_nil c.0))),
-      d.0,
-      subst (λ (x : ElementValue). Front (list_before param 32 93) c.0 d.0 x.params) (sym f.is.2) d.1,
-    )
+    let (u, first, behind) = rows_split start_row inside_row row in
+    let (r, list, _) = row_pieces inside_row behind in
+    (u, _, first, r, subst (λ (x : ElementValue). Front (list_before param 32 93) u r x.params) (sym f.is.2) list)
 
 -- the same behind a known start
 element_params : (t u q : Text) (vs : Values start_row) (v : ElementValue) → Front start t u vs → Front element t q v
@@ -203,8 +195,8 @@ first_param t r (p ∷ ps) n l f = let (a, b, i, k, more) = f.is.0 in n a (b ++ 
 -- no parameter begins with a bracket
 opening_open : (t u : Text) (ws : Values opening_row) → Front opening t u ws → NoFront (exactly (93 ∷ [])) t
 opening_open t u ws f p q v e h =
-    let a = row_head (texted (some_run is_name_char)) (exactly (61 ∷ []) ∷ run is_blank ∷ exactly (34 ∷ []) ∷ []) f in
-    run_no_close a.1.piece a.0 q a.1.is.1.0 a.1.is.1.1 (sym a.1.whole ∙ e ∙ ap (λ (x : Text). x ++ q) h)
+    let (r, name, _) = row_pieces opening_row f in
+    run_no_close name.piece r q name.is.1.0 name.is.1.1 (sym name.whole ∙ e ∙ ap (λ (x : Text). x ++ q) h)
 
 pub no_full_start : (t : Text) → NoFront start t → NoFront full_element t
 no_full_start t n p q v e h = no_start t n p q v e h.0

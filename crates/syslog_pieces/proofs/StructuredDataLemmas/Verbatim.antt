@@ -3,8 +3,9 @@ use Rattle.std.proofs.Common.{◌≡◌, false, List, [], ◌∷◌, ◌++◌, m
 use Rattle.std.proofs.Common.{inl, inr, refl, sym, ap, subst, ◌∙◌, append_assoc, arith}
 use Rattle.std.specs.List.{flat_map}
 use Rattle.std.specs.Prelude.{is_some}
-use Rattle.syslog_pieces.specs.Bodies.Closing.{opening, name_alone, quoted, start, id_alone, inside}
+use Rattle.syslog_pieces.specs.Bodies.Closing.{opening, name_alone, quoted, start, id_alone, inside, inside_row}
 use Rattle.syslog_pieces.specs.Bodies.Verbatim.{bare_param_text, CopiedOn, VerbatimItems, ListPrints}
+use Rattle.syslog_pieces.specs.Bodies.Closing.{opening_row, start_row, quoted_row}
 use Rattle.syslog_pieces.specs.Pieces.Class.{Text, Front, NoFront, Ends, Divides, Row}
 use Rattle.syslog_pieces.specs.Pieces.Class.{join, exactly, run, some_run, texted}
 use Rattle.syslog_pieces.specs.Pieces.Verbatim.{Verbatim}
@@ -20,25 +21,18 @@ use Rattle.syslog_pieces.proofs.PieceLemmas.Class.{row_nil, row_cons, row_head}
 use Rattle.syslog_pieces.proofs.PieceLemmas.Verbatim.{verbatim_by_text, front_of}
 use Rattle.syslog_pieces.proofs.PieceLemmas.Lists.{many_here, many_cons, begins, list_here}
 use Rattle.syslog_pieces.proofs.PieceLemmas.Lists.{list_cons, more_here, more_cons}
+use Rattle.syslog_pieces.proofs.PieceLemmas.Rows.{row_of, ◌then◌, row_pieces}
 use Rattle.syslog_pieces.proofs.StructuredDataLemmas.Closing.{param_read, element_read}
 use Rattle.syslog_pieces.proofs.StructuredDataLemmas.Elements.{item_begins}
 use Rattle.syslog_pieces.proofs.StructuredDataLemmas.Items.{bracketed_item}
 use Rattle.syslog_pieces.proofs.TextLemmas.Copied.{verbatim_on, extended, left_out}
 
-nil_row : (t u : Text) → Front (Row []) t u tt → t ≡ u
-nil_row t u f = f.whole ∙ ap (λ (x : Text). x ++ u) (nothing f.piece f.is.0 f.is.1 f.is.2)
-  where
-    nothing : (p : Text) (ps : List Text) → p ≡ join ps → Divides [] ps u tt → p ≡ []
-    nothing p [] e d = e
-    nothing p (x ∷ ps) e d = absurd d
-
 -- a value and its quote
 quoted_text : (t u v : Text) → Front quoted t u (v, (tt, tt)) → t ≡ v ++ (34 ∷ u)
 quoted_text t u v f =
-    let h = row_head value (exactly (34 ∷ []) ∷ []) f in
-    let k = row_head (exactly (34 ∷ [])) [] h.2 in
-    let e : h.0 ≡ 34 ∷ u = begins 34 h.0 k.0 k.1 ∙ ap (λ (x : Text). 34 ∷ x) (nil_row k.0 u k.2) in
-    h.1.whole ∙ ap (λ (x : Text). x ++ h.0) (sym h.1.is.2) ∙ ap (λ (x : Text). v ++ x) e
+    let (r, g, (s, quote, end)) = row_pieces quoted_row f in
+    g.whole ∙ ap (λ (x : Text). x ++ r) (sym g.is.2)
+    ∙ ap (λ (x : Text). v ++ x) (begins 34 r s quote ∙ ap (λ (x : Text). 34 ∷ x) end)
 
 -- a parameter with no blank behind its equals sign
 pub param_verbatim : (t a b c u name v : Text) → Front (texted (some_run is_name_char)) t a name
@@ -49,10 +43,7 @@ param_verbatim t a b c u name v f g h q =
     let none : Front (run is_blank) b b tt =
     record { piece = []; whole = refl; is = (tt, subst (λ (x : Text). Ends is_blank x) (sym eb) refl) } in
     let o : Front opening t c (name_alone name) =
-    row_cons (texted (some_run is_name_char)) (exactly (61 ∷ []) ∷ run is_blank ∷ exactly (34 ∷ []) ∷ []) f
-    (row_cons (exactly (61 ∷ [])) (run is_blank ∷ exactly (34 ∷ []) ∷ []) g
-    (row_cons (run is_blank) (exactly (34 ∷ []) ∷ []) none
-    (row_cons (exactly (34 ∷ [])) [] h (row_nil c)))) in
+    row_of opening_row (f then g then none then h then refl) in
     let e : t ≡ name ++ (61 ∷ 34 ∷ (v ++ (34 ∷ u))) =
     f.whole ∙ ap (λ (x : Text). x ++ a) (sym f.is.2)
     ∙ ap (λ (x : Text). name ++ x)
@@ -74,9 +65,7 @@ closes q = record { piece = 93 ∷ []; whole = refl; is = refl }
 
 start_of : (t r i u id : Text) → Front (exactly (91 ∷ [])) t r tt → Front (texted (some_run is_id_char)) r i id
     → Front (run is_blank) i u tt → Front start t u (id_alone id)
-start_of t r i u id f g h =
-    row_cons (exactly (91 ∷ [])) (texted (some_run is_id_char) ∷ run is_blank ∷ []) f
-    (row_cons (texted (some_run is_id_char)) (run is_blank ∷ []) g (row_cons (run is_blank) [] h (row_nil u)))
+start_of t r i u id f g h = row_of start_row (f then g then h then refl)
 
 start_text : (t r i id : Text) → Front (exactly (91 ∷ [])) t r tt → Front (texted (some_run is_id_char)) r i id
     → t ≡ 91 ∷ (id ++ i)
@@ -89,8 +78,7 @@ bare_verbatim t r i q id f g h =
     let e : i ≡ 93 ∷ q = begins 93 i q h in
     let none : Front (run is_blank) i i tt =
     record { piece = []; whole = refl; is = (tt, subst (λ (x : Text). Ends is_blank x) (sym e) refl) } in
-    let inner : Front inside i q ([], (tt, tt)) = row_cons (list_before param 32 93) (exactly (93 ∷ []) ∷ [])
-    (list_here param 32 93 i q e) (row_cons (exactly (93 ∷ [])) [] h (row_nil q)) in
+    let inner = row_of inside_row (list_here param 32 93 i q e then h then refl) in
     verbatim_by_text element element_text t q (record { id = id; params = [] })
     (element_read t i q id [] (start_of t r i i id f g none) inner)
     (start_text t r i id f g ∙ ap (λ (x : Text). 91 ∷ x) (ap (λ (x : Text). id ++ x) e
@@ -105,8 +93,7 @@ verbatim_first t r i u s id f g b k q ps more e =
     let gap : Front (run is_blank) i u tt = record { piece = 32 ∷ []; whole = b.whole; is = (b.is.1, b.is.2) } in
     let list : Front (list_before param 32 93) u (93 ∷ q) (v ∷ ps) =
     list_cons param 32 93 u s (93 ∷ q) v ps (front_of param bare_param_text u s k) more in
-    let inner : Front inside u q ((v ∷ ps), (tt, tt)) = row_cons (list_before param 32 93) (exactly (93 ∷ []) ∷ []) list
-    (row_cons (exactly (93 ∷ [])) [] (closes q) (row_nil q)) in
+    let inner = row_of inside_row (list then closes q then refl) in
     let w : i ≡ param_text v ++ (flat_map param_text ps ++ (93 ∷ q)) =
     b.whole ∙ ap (λ (x : Text). 32 ∷ x) (k.whole ∙ ap (λ (x : Text). bare_param_text v ++ x) e) in
     let z : (id ++ (flat_map param_text (v ∷ ps) ++ (93 ∷ []))) ++ q ≡ id

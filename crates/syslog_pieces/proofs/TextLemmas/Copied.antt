@@ -58,10 +58,6 @@ wide_gap t u (a ∷ xs) (Some d) c n e each ends g x = absurd (cc)
 
 -- ---- past what is left out
 
--- what stands before it
-pub before_gap : (w u p : Text) (c : Cut) → Copies w (Some c) u p → (front : Text) × (w ≡ front ++ shown c.gap)
-before_gap w u p c (a, b, f, g, h) = (a, f)
-
 -- and what is copied behind it
 pub behind_gap : (w u p x : Text) (c : Cut) → w ≡ x ++ shown c.gap → Copies w (Some c) u p
     → (behind : Text) × (shown c.next ≡ behind ++ u) × (p ≡ x ++ behind)

@@ -15,6 +15,7 @@ use Rattle.syslog_pieces.proofs.PieceLemmas.Class.{run_det, rest_det, exactly_de
 use Rattle.syslog_pieces.proofs.PieceLemmas.Class.{row_det, row_head, front_same, unique_division}
 use Rattle.syslog_pieces.proofs.PieceLemmas.Kinds.{Apart, Begins, begins_apart, begins_more}
 use Rattle.syslog_pieces.proofs.PieceLemmas.Kinds.{begins_with, each_begins, either_det}
+use Rattle.syslog_pieces.proofs.PieceLemmas.Rows.{row_pieces}
 use Rattle.syslog_pieces.proofs.PriLemmas.{priority_det}
 use Rattle.syslog_pieces.proofs.TextLemmas.Words.{number_det}
 use Rattle.syslog_pieces.proofs.TimestampLemmas.Months.{IsLetter, month_det, month_begins}
@@ -88,19 +89,14 @@ blank_low c h = elim (or_true (nat_eq c 32) (nat_eq c 9) h) [
       (let u = eqb-true c 9 a in omega arith)
 ]
 
-abbrev after_hour : List Class
-after_hour = sign ∷ short_number ∷ sign ∷ short_number ∷ optional sign ∷ []
-
 abbrev from_year : List Class
 from_year = year_number ∷ blanks ∷ clock_row
 
 clock_apart : (t q q' : Text) (vs : Values clock_row) (ws : Values from_year) → Front (Row clock_row) t q vs
     → Front (Row from_year) t q' ws → ⊥
 clock_apart t q q' vs ws f g =
-    let (u, f1, f2) = row_head short_number after_hour f in
-    let (u', g1, g2) = row_head year_number (blanks ∷ clock_row) g in
-    let (w, f3, f4) = row_head sign (short_number ∷ sign ∷ short_number ∷ optional sign ∷ []) f2 in
-    let (w', g3, g4) = row_head blanks clock_row g2 in
+    let (u, f1, (w, f3, _)) = row_pieces clock_row f in
+    let (u', g1, (_, g3, _)) = row_pieces from_year g in
     begins_apart u (λ c h k. let z = blank_low c k in omega arith) (colon_begins u w f3)
     (subst (λ (x : Text). Begins IsBlank x) (sym (number_ends 4294967295 2147483647 u u' f1 g1)) (blanks_begin g3))
 

@@ -13,7 +13,8 @@ use Rattle.syslog_pieces.specs.Pieces.Class.{Text, Class, Front, NoFront, Row, E
 use Rattle.syslog_pieces.specs.Text.{is_blank, colon}
 use Rattle.syslog_pieces.specs.Timestamp.MonthDate.{month, short_number, clock_row, yearless_date}
 use Rattle.syslog_pieces.specs.declared.timestamp.month_date.Clock.{Clock}
-use Rattle.syslog_pieces.proofs.PieceLemmas.Class.{row_nil, row_cons}
+use Rattle.syslog_pieces.proofs.PieceLemmas.Class.{row_nil, row_cons, optional_none}
+use Rattle.syslog_pieces.proofs.PieceLemmas.Rows.{row_of, ◌then◌}
 use Rattle.syslog_pieces.proofs.TextLemmas.Chars.{ascii_front}
 use Rattle.syslog_pieces.proofs.TextLemmas.Decimals.{digit_is}
 use Rattle.syslog_pieces.proofs.TimestampLemmas.MonthReading.{yearless_front}
@@ -75,10 +76,10 @@ module _ (b0 b1 b2 : List ℕ) (number : ℕ) (m : IsMonthBytes b0 number b1) (e
       let w : chars b1 ≡ 32 ∷ (pad2 d ++ (32 ∷ chars b2)) =
       ascii_front (32 ∷ (pad2 d ++ (32 ∷ []))) b2 b1
       (IsAscii-cons 32 (pad2 d ++ (32 ∷ [])) (omega arith) (pair_ascii d h (32 ∷ []) one_space)) e in
-      row_cons gap from_day (space_front (chars b1) (pad2 d ++ (32 ∷ chars b2)) w
-      (no_blank_ahead d h _ (32 ∷ chars b2) refl))
-      (row_cons short_number (gap ∷ []) (pair_front d h (pad2 d ++ (32 ∷ chars b2)) (32 ∷ chars b2) refl refl)
-      (row_cons gap [] (space_front (32 ∷ chars b2) (chars b2) refl ends) (row_nil (chars b2))))
+      row_of (gap ∷ from_day)
+      (space_front (chars b1) (pad2 d ++ (32 ∷ chars b2)) w (no_blank_ahead d h _ (32 ∷ chars b2) refl)
+      then pair_front d h (pad2 d ++ (32 ∷ chars b2)) (32 ∷ chars b2) refl refl
+      then space_front (32 ∷ chars b2) (chars b2) refl ends then refl)
 
   -- one digit
   short : (d : ℕ) → d < 10 → b1 ≡ 32 ∷ 32 ∷ (48 + d) ∷ 32 ∷ b2
@@ -94,7 +95,7 @@ module _ (b0 b1 b2 : List ℕ) (number : ℕ) (m : IsMonthBytes b0 number b1) (e
       row_cons gap from_day (record { piece = 32 ∷ 32 ∷ []; whole = w; is = (omega arith, (refl, (refl, tt)), k.1) })
       (row_cons short_number (gap ∷ [])
       (record { piece = (48 + d) ∷ []; whole = refl; is = (omega arith, (k.0, tt), refl, value, omega arith) })
-      (row_cons gap [] (space_front (32 ∷ chars b2) (chars b2) refl ends) (row_nil (chars b2))))
+      (row_of (gap ∷ []) (space_front (32 ∷ chars b2) (chars b2) refl ends then refl)))
 
   day_front : (d : ℕ) → IsDayBytes b1 d b2 → Front (Row day_row) (chars b0) (chars b2) (number, (tt, (d, (tt, tt))))
   day_front d (inl (h, e)) = row_cons month (gap ∷ from_day) month_front (long d h e)
@@ -117,6 +118,9 @@ no_colon (b ∷ bs) h p q v e f =
     ∙ ap (λ (x : Text). x ++ q) f in
     let s : b ≡ 58 = cc in absurd (h.2 s)
 
+colon_front : (q : Text) → Front sign (58 ∷ q) q tt
+colon_front q = record { piece = colon; whole = refl; is = refl }
+
 module _ (b2 b3 : List ℕ) (c : Clock) (k : IsClockBytes b2 c b3) (ends : EndsClock b3) where
   clock_text : chars b2 ≡ pad2 c.hour ++ (58 ∷ (pad2 c.minute ++ (58 ∷ (pad2 c.second ++ chars b3))))
   clock_text =
@@ -129,15 +133,11 @@ module _ (b2 b3 : List ℕ) (c : Clock) (k : IsClockBytes b2 c b3) (ends : EndsC
 
   clock_front : Front (Row clock_row) (chars b2) (chars b3) (clock_values c None)
   clock_front =
-      row_cons short_number (sign ∷ short_number ∷ sign ∷ short_number ∷ optional sign ∷ [])
-      (pair_front c.hour k.hour_in _ _ clock_text refl)
-      (row_cons sign (short_number ∷ sign ∷ short_number ∷ optional sign ∷ [])
-      (record { piece = 58 ∷ []; whole = refl; is = refl })
-      (row_cons short_number (sign ∷ short_number ∷ optional sign ∷ []) (pair_front c.minute k.minute_in _ _ refl refl)
-      (row_cons sign (short_number ∷ optional sign ∷ []) (record { piece = 58 ∷ []; whole = refl; is = refl })
-      (row_cons short_number (optional sign ∷ []) (pair_front c.second k.second_in _ (chars b3) refl (no_digit b3 ends))
-      (row_cons (optional sign) [] (record { piece = []; whole = refl; is = (refl, no_colon b3 ends) })
-      (row_nil (chars b3)))))))
+      row_of clock_row
+      (pair_front c.hour k.hour_in _ _ clock_text refl then colon_front _
+      then pair_front c.minute k.minute_in _ _ refl refl then colon_front _
+      then pair_front c.second k.second_in _ (chars b3) refl (no_digit b3 ends)
+      then optional_none sign (no_colon b3 ends) then refl)
 
   pub standard_front : (b0 b1 : List ℕ) (number d : ℕ) → IsMonthBytes b0 number b1 → IsDayBytes b1 d b2
       → Front yearless_date (chars b0) (chars b3) (date_of None (record { month = number; day = d }) c)

@@ -28,16 +28,6 @@ use Rattle.syslog_pieces.proofs.TimestampLemmas.Fields.{civil_nanos-fields}
 use Rattle.syslog_pieces.proofs.TimestampLemmas.Piece.{dash_front}
 use Rattle.syslog_pieces.proofs.TimestampLemmas.RoundTrip.{text-shape, fields-read, year-from, offset_text-is}
 
--- an absent timestamp
-pub nil_verbatim : {t q : Text} → Front (exactly dash) t q tt → IsVerbatimStamp t q false q
-nil_verbatim {q = q} f = record {
-  copied = dash;
-  value = None;
-  whole = f.whole ∙ ap (λ (x : Text). x ++ q) f.is;
-  is = dash_front f;
-  prints = refl;
-}
-
 -- ---- the pieces
 
 -- date and time, read in seven numbers of two digits

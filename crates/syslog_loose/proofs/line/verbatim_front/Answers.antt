@@ -4,5 +4,4 @@ use Rattle.syslog_loose.proofs.line.verbatim_front.Goals as goal
 
 pub returns : goal.returns
 returns c =
-    front_verbatim (chars c.args.text.now) (chars c.in_ok-behind.behind.now)
-    (chars c.in_ok-rest.rest.now) c.in_ok-behind.ensures.0 c.in_ok-behind.ensures.1 c.in_ok-rest.ensures
+    front_verbatim _ _ _ c.in_ok-behind.ensures.0 c.in_ok-behind.ensures.1 c.in_ok-rest.ensures

@@ -5,9 +5,7 @@ use Rattle.syslog_loose.proofs.line.verbatim_line.Goals as goal
 
 pub before-front-requires : goal.before-front-requires
 before-front-requires c =
-    before_zone (chars c.args.text.now) (chars c.in_ok-gap.gap.now) (chars c.in_ok-start.start.now)
-    (chars c.in_ok-stamp.stamp.zone.now) (chars c.in_ok-stamp.stamp.rest.now)
-    c.in_ok-stamp.stamp.is_zulu c.in_ok-gap.ensures c.in_ok-start.ensures c.in_ok-stamp.ensures
+    before_zone _ _ _ _ _ c.in_ok-stamp.stamp.is_zulu c.in_ok-gap.ensures c.in_ok-start.ensures c.in_ok-stamp.ensures
 
 pub past_cut-requires : goal.past_cut-requires
 past_cut-requires c =
@@ -15,16 +13,9 @@ past_cut-requires c =
 
 pub end_stays-requires : goal.end_stays-requires
 end_stays-requires c =
-    some_behind (chars c.in_ok-stamp.stamp.rest.now) c.in_ok-rest.cut (chars c.in_ok-rest.rest.now)
-    (chars c.past_cut.result.0.now) (chars c.past_cut.result.1.now)
-    c.in_ok-rest.ensures c.past_cut.ensures
+    some_behind _ c.in_ok-rest.cut _ _ _ c.in_ok-rest.ensures c.past_cut.ensures
 
 pub returns-clause-verbatim : goal.returns-clause-verbatim
 returns-clause-verbatim c =
-    line_verbatim (chars c.args.text.now) (chars c.in_ok-gap.gap.now) (chars c.in_ok-start.start.now)
-    (chars c.in_ok-stamp.stamp.zone.now) (chars c.in_ok-stamp.stamp.rest.now)
-    (chars c.in_ok-rest.rest.now) (chars c.before-front.result.now) (chars c.past_cut.result.0.now)
-    (chars c.past_cut.result.1.now) (chars c.end_stays.result.0.now)
-    c.in_ok-rest.cut (seen c.end_stays.result.1) c.in_ok-stamp.stamp.is_zulu c.in_ok-gap.ensures c.in_ok-start.ensures
-    c.in_ok-stamp.ensures c.in_ok-rest.ensures
-    c.past_cut.ensures c.end_stays.ensures.ends c.before-front.ensures
+    line_verbatim _ _ _ _ _ _ _ _ _ _ _ (seen _) _ c.in_ok-gap.ensures c.in_ok-start.ensures c.in_ok-stamp.ensures
+    c.in_ok-rest.ensures c.past_cut.ensures c.end_stays.ensures.ends c.before-front.ensures

@@ -4,16 +4,7 @@ use Rattle.syslog_loose.proofs.line.wide_tail.Goals as goal
 
 pub returns : goal.returns
 returns c =
-    tail_verbatim (chars c.args.text.now) (chars c.in_ok-hostname.hostname.now)
-    (chars c.in_ok-behind_hostname.behind_hostname.now)
-    (chars c.in_ok-appname.appname.now) (chars c.in_ok-behind_appname.behind_appname.now)
-    (chars c.in_ok-procid.procid.now)
-    (chars c.in_ok-behind_procid.behind_procid.now) (chars c.in_ok-msgid.msgid.now)
-    (chars c.in_ok-behind_msgid.behind_msgid.now)
-    (chars c.in_ok-elements.elements.now) (chars c.in_ok-rest.rest.now)
-    c.in_ok-hostname.first c.in_ok-appname.second c.in_ok-procid.third c.in_ok-msgid.fourth c.in_ok-elements.fifth
-    c.in_ok-rest.cut
-    c.in_ok-hostname.ensures c.in_ok-behind_hostname.ensures c.in_ok-appname.ensures c.in_ok-behind_appname.ensures
-    c.in_ok-procid.ensures
+    tail_verbatim _ _ _ _ _ _ _ _ _ _ _ _ _ _ _ _ _ c.in_ok-hostname.ensures
+    c.in_ok-behind_hostname.ensures c.in_ok-appname.ensures c.in_ok-behind_appname.ensures c.in_ok-procid.ensures
     c.in_ok-behind_procid.ensures c.in_ok-msgid.ensures c.in_ok-behind_msgid.ensures c.in_ok-elements.ensures
     c.in_ok-rest.ensures

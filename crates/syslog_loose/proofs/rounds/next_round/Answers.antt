@@ -45,6 +45,5 @@ returns-in_err-write_round c whole e =
 
 pub returns : goal.returns
 returns c whole e =
-    round_skipped _ _ _ _ (c.in_ok-message.ensures whole e).read c.args.skips c.is_at_rest-settled.result
-    c.if-not-skips.false c.if-settled.false c.is_at_rest-settled.ensures _
-    (c.in_ok-write_round.ensures _ _ _ (c.in_ok-message.ensures whole e).read)
+    round_skipped _ _ _ _ (c.in_ok-message.ensures whole e).read _ _ c.if-not-skips.false c.if-settled.false
+    c.is_at_rest-settled.ensures _ (c.in_ok-write_round.ensures _ _ _ (c.in_ok-message.ensures whole e).read)

@@ -11,9 +11,8 @@ use Rattle.syslog_loose.proofs.settling.settle_into.Goals as goal
 pub returns-in_err-round-clause-settles : goal.returns-in_err-round-clause-settles
 returns-in_err-round-clause-settles g c =
     let (_, e, same) = err_from_is_err_and c.from_residual.result c.from_residual.ensures.1 in
-    rw (e, same) (in_year_map (λ year h. first_fault c.args.variant (dating_of year c.args.tz c.args.local)
-    (chars c.args.input.now) _ h)
-    (c.in_err-round.ensures (chars c.args.input.now) c.trimmed-left.ensures))
+    rw (e, same) (in_year_map (λ year h. first_fault c.args.variant (dating_of year c.args.tz c.args.local) _ _ h)
+    (c.in_err-round.ensures _ c.trimmed-left.ensures))
 
 pub returns-in_err-round-clause-canonical : goal.returns-in_err-round-clause-canonical
 returns-in_err-round-clause-canonical g c = in_year_map
@@ -23,11 +22,10 @@ returns-in_err-round-clause-canonical g c = in_year_map
 pub returns-then-round-clause-settles : goal.returns-then-round-clause-settles
 returns-then-round-clause-settles g c =
     let round = c.in_ok-round.round in
-    let told = c.in_ok-round.ensures (chars c.args.input.now) c.trimmed-left.ensures in
-    settles_answered c.args.variant c.args.tz c.args.local _ (chars c.args.input.now)
-    (Ok c.first_round.new.text) round.year told.0
-    (first_answer c.args.variant (dating_of round.year c.args.tz c.args.local)
-    (chars c.args.input.now) _ round.settled c.if-round.true told.1.told)
+    let told = c.in_ok-round.ensures _ c.trimmed-left.ensures in
+    settles_answered c.args.variant c.args.tz c.args.local _ _ (Ok c.first_round.new.text) round.year told.0
+    (first_answer c.args.variant (dating_of round.year c.args.tz c.args.local) _ _ round.settled c.if-round.true
+    told.1.told)
 
 pub returns-then-round-clause-canonical : goal.returns-then-round-clause-canonical
 returns-then-round-clause-canonical g c = in_year_map

@@ -8,19 +8,16 @@ use Rattle.syslog_pieces.proofs.pri.any_priority.Goals as goal
 
 pub returns-in_err-rest : goal.returns-in_err-rest
 returns-in_err-rest c =
-    let n : NoFront priority (chars c.args.text.now) =
-    no_priority (no_row priority_row priority_row_det (inl c.in_err-rest.ensures)) in search rules
+    let n = no_priority (no_row priority_row priority_row_det (inl c.in_err-rest.ensures)) in search rules
 
 pub returns-in_err-value : goal.returns-in_err-value
 returns-in_err-value c =
-    let n : NoFront priority (chars c.args.text.now) =
-    no_priority (no_row priority_row priority_row_det (c.in_ok-rest.ensures
-    past inl c.in_err-value.ensures)) in search rules
+    let n = no_priority (no_row priority_row priority_row_det (c.in_ok-rest.ensures past inl c.in_err-value.ensures)) in
+    search rules
 
 pub returns-in_err-rest-2 : goal.returns-in_err-rest-2
 returns-in_err-rest-2 c =
-    let n : NoFront priority (chars c.args.text.now) =
-    no_priority (no_row priority_row priority_row_det
+    let n = no_priority (no_row priority_row priority_row_det
     (c.in_ok-rest.ensures past c.in_ok-value.ensures past inl c.in_err-rest-2.ensures)) in search rules
 
 pub returns : goal.returns

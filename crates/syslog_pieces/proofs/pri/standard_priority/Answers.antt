@@ -5,13 +5,11 @@ use Rattle.syslog_pieces.proofs.pri.standard_priority.Goals as goal
 
 pub split_at-requires : goal.split_at-requires
 split_at-requires c =
-    priority_cut c.args.text.now c.in_ok-number.number c.in_ok-number.behind.now c.utf8.text
-    (subst (λ (x : List ℕ). IsPriorityBytes x c.in_ok-number.number c.in_ok-number.behind.now) c.as_bytes.ensures.value
-    c.in_ok-number.ensures)
+    priority_cut _ _ _ c.utf8.text (subst (λ (x : List ℕ). IsPriorityBytes x c.in_ok-number.number
+    c.in_ok-number.behind.now) c.as_bytes.ensures.value c.in_ok-number.ensures)
 
 pub returns : goal.returns
 returns c =
-    priority_read c.args.text.now c.in_ok-number.number c.in_ok-number.behind.now c.utf8.text
-    (subst (λ (x : List ℕ). IsPriorityBytes x c.in_ok-number.number c.in_ok-number.behind.now) c.as_bytes.ensures.value
-    c.in_ok-number.ensures)
-    c.split_at.result.1.now c.split_at.ensures.back
+    priority_read _ _ _ c.utf8.text (subst (λ (x : List ℕ). IsPriorityBytes x c.in_ok-number.number
+    c.in_ok-number.behind.now) c.as_bytes.ensures.value c.in_ok-number.ensures) c.split_at.result.1.now
+    c.split_at.ensures.back

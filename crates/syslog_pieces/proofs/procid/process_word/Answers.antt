@@ -9,8 +9,7 @@ use Rattle.syslog_pieces.proofs.ProcIdLemmas.{no_process, process_front, absent_
 use Rattle.syslog_pieces.proofs.procid.process_word.Goals as goal
 
 pub returns-in_err-name : goal.returns-in_err-name
-returns-in_err-name c = let n : NoFront process_word (chars c.args.text.now) = no_process c.in_err-name.ensures in
-    search rules
+returns-in_err-name c = let n = no_process c.in_err-name.ensures in search rules
 
 pub returns-in-Some : goal.returns-in-Some
 returns-in-Some c =

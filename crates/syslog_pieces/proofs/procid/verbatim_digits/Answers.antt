@@ -4,5 +4,4 @@ use Rattle.syslog_pieces.proofs.procid.verbatim_digits.Goals as goal
 
 pub returns : goal.returns
 returns c =
-    digits_verbatim c.args.text.now c.split_run.result.0.now c.split_run.result.1.now c.split_run.ensures
-    (nonempty_is _ c.if-is_empty.ensures) c.if-has_zero_ahead.ensures
+    digits_verbatim _ _ _ c.split_run.ensures (nonempty_is _ c.if-is_empty.ensures) c.if-has_zero_ahead.ensures

@@ -20,12 +20,9 @@ returns-else-value-limit c = number_read c.args.text.now c.split_run.result.0.no
 
 pub returns-in_err-value : goal.returns-in_err-value
 returns-in_err-value c =
-    let n : NoFront (number c.args.limit) (chars c.args.text.now) =
-    number_bad c.args.text.now c.split_run.result.0.now c.split_run.result.1.now c.split_run.ensures c.args.limit
-    c.in_err-value.ensures (omega arith) in search rules
+    let n = number_bad _ _ _ c.split_run.ensures c.args.limit c.in_err-value.ensures (omega arith) in search rules
 
 pub returns-then-not-begins_with_digit : goal.returns-then-not-begins_with_digit
 returns-then-not-begins_with_digit c =
-    no_number c.args.limit c.args.text.now c.utf8.text
-    (subst (λ (x : List ℕ). 0 < length x → is_ascii_digit (get_or x 0 0) ≡ false) c.as_bytes.ensures.value
-    c.if-not-begins_with_digit.ensures)
+    no_number _ _ c.utf8.text (subst (λ (x : List ℕ). 0 < length x → is_ascii_digit (get_or x 0 0) ≡ false)
+    c.as_bytes.ensures.value c.if-not-begins_with_digit.ensures)

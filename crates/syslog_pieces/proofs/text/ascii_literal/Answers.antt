@@ -9,9 +9,8 @@ split_at-requires c =
 
 pub returns-then-begins_with : goal.returns-then-begins_with
 returns-then-begins_with c =
-    one_front c.args.byte c.args.text.now c.requires c.utf8.text
-    (subst (λ (x : List ℕ). x ≡ c.args.byte ∷ drop 1 x) c.as_bytes.ensures.value c.if-begins_with.ensures)
-    c.split_at.result.1.now c.split_at.ensures.back
+    one_front _ _ c.requires c.utf8.text (subst (λ (x : List ℕ). x ≡ c.args.byte ∷ drop 1 x) c.as_bytes.ensures.value
+    c.if-begins_with.ensures) c.split_at.result.1.now c.split_at.ensures.back
 
 pub returns-else-begins_with : goal.returns-else-begins_with
 returns-else-begins_with c =

@@ -5,16 +5,13 @@ use Rattle.syslog_pieces.proofs.text.few_blanks.Goals as goal
 
 pub returns-then-begins_visibly : goal.returns-then-begins_visibly
 returns-then-begins_visibly c =
-    no_blanks c.args.text.now c.utf8.text
-    (subst BeginsVisibly c.as_bytes.ensures.value (c.if-begins_visibly.ensures refl))
+    no_blanks _ c.utf8.text (subst BeginsVisibly c.as_bytes.ensures.value (c.if-begins_visibly.ensures refl))
 
 pub split_at-requires : goal.split_at-requires
 split_at-requires c =
-    gap_cut c.args.text.now c.utf8.text
-    (subst BeginsWithGap c.as_bytes-2.ensures.value (c.if-begins_with_gap.ensures refl))
+    gap_cut _ c.utf8.text (subst BeginsWithGap c.as_bytes-2.ensures.value (c.if-begins_with_gap.ensures refl))
 
 pub returns-then-begins_with_gap : goal.returns-then-begins_with_gap
 returns-then-begins_with_gap c =
-    gap_run c.args.text.now c.utf8.text
-    (subst BeginsWithGap c.as_bytes-2.ensures.value (c.if-begins_with_gap.ensures refl))
+    gap_run _ c.utf8.text (subst BeginsWithGap c.as_bytes-2.ensures.value (c.if-begins_with_gap.ensures refl))
     c.split_at.result.1.now c.split_at.ensures.back

@@ -23,10 +23,9 @@ returns-then-not-ends_in_colon c = host_front c.args.text.now c.split_run.result
     (ends_not _ _ c.as_bytes.ensures.value c.if-not-ends_in_colon.ensures) c.named.ensures
 
 pub returns-then-is_empty-2 : goal.returns-then-is_empty-2
-returns-then-is_empty-2 c = no_host_colon_read c.args.text.now c.split_run.result.0.now c.split_run.result.1.now
-    c.split_run.ensures c.split_at.result.0.now c.split_at.result.1.now
-    (ends _ _ c.as_bytes.ensures.value c.if-not-ends_in_colon.ensures) c.split_at.ensures.front c.split_at.ensures.back
-    (empty_is _ c.if-is_empty-2.ensures)
+returns-then-is_empty-2 c = no_host_colon_read _ _ _
+    c.split_run.ensures _ _ (ends _ _ c.as_bytes.ensures.value c.if-not-ends_in_colon.ensures) c.split_at.ensures.front
+    c.split_at.ensures.back (empty_is _ c.if-is_empty-2.ensures)
 
 pub returns : goal.returns
 returns c = host_colon_read c.args.text.now c.split_run.result.0.now c.split_run.result.1.now c.split_run.ensures

@@ -10,6 +10,5 @@ split_at-requires c =
 
 pub returns : goal.returns
 returns c =
-    digit_front c.args.text.now c.in_ok-value.value c.args.limit c.utf8.text
-    (subst (λ (x : List ℕ). BeginsWithDigit x c.in_ok-value.value) c.as_bytes.ensures.value c.in_ok-value.ensures)
-    (omega arith) c.split_at.result.1.now c.split_at.ensures.back
+    digit_front _ _ _ c.utf8.text (subst (λ (x : List ℕ). BeginsWithDigit x c.in_ok-value.value)
+    c.as_bytes.ensures.value c.in_ok-value.ensures) (omega arith) c.split_at.result.1.now c.split_at.ensures.back

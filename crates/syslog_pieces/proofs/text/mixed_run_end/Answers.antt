@@ -45,9 +45,8 @@ returns-then-is_cut c =
     let r = subst (λ (l : List ℕ). IsRun (byte_in c.args.class) l k)
     c.as_bytes-bytes.ensures.value c.ascii_run-run.ensures in
     let e = ascii_ends (has c.args.class) rest _ _ k c.stretches.invariant.0 r refl refl (search rules) in
-    passed_ends (has c.args.class) c.args.text.now c.utf8.text (drop k rest) (c.stretches.end + k)
-    (over_ascii c.args.class c.args.text.now rest c.stretches.end k c.utf8.text
-    c.stretches.invariant.0 c.stretches.invariant.1 r) e.1.ends
+    passed_ends (has _) _ c.utf8.text (drop k rest) (c.stretches.end + k)
+    (over_ascii _ _ rest _ k c.utf8.text c.stretches.invariant.0 c.stretches.invariant.1 r) e.1.ends
 
 pub returns-then-more-eq0 : goal.returns-then-more-eq0
 returns-then-more-eq0 c =
@@ -56,15 +55,14 @@ returns-then-more-eq0 c =
     let past = c.split_at.result.1.now in
     let r = subst (λ (l : List ℕ). IsRun (byte_in c.args.class) l k)
     c.as_bytes-bytes.ensures.value c.ascii_run-run.ensures in
-    let p = over_ascii c.args.class c.args.text.now rest c.stretches.end k c.utf8.text
-    c.stretches.invariant.0 c.stretches.invariant.1 r in
+    let p = over_ascii _ _ rest _ k c.utf8.text c.stretches.invariant.0 c.stretches.invariant.1 r in
     let none : Ends (past_of_ascii (has c.args.class)) (chars past) = subst
     (λ (n : ℕ). Ends (past_of_ascii (has c.args.class)) (chars (drop n past)))
     c.if-more-eq0.true c.past_run_end-more.ensures.1.ends in
     let u : IsUtf8 past = search rules in
-    passed_ends (has c.args.class) c.args.text.now c.utf8.text (drop k rest) (c.stretches.end + k) p
+    passed_ends (has _) _ c.utf8.text (drop k rest) (c.stretches.end + k) p
     (subst (λ (x : List ℕ). Ends (has c.args.class) (chars x)) c.split_at.ensures.back
-    (ends_at_both (has c.args.class) past u (behind_run c.args.class rest past k r c.split_at.ensures.back) none))
+    (ends_at_both (has _) past u (behind_run _ rest past k r c.split_at.ensures.back) none))
 
 pub stretches-preserved : goal.stretches-preserved
 stretches-preserved c =
@@ -72,14 +70,12 @@ stretches-preserved c =
     let k = c.ascii_run-run.result in
     let r = subst (λ (l : List ℕ). IsRun (byte_in c.args.class) l k)
     c.as_bytes-bytes.ensures.value c.ascii_run-run.ensures in
-    let p = over_ascii c.args.class c.args.text.now rest c.stretches.end k c.utf8.text
-    c.stretches.invariant.0 c.stretches.invariant.1 r in
+    let p = over_ascii _ _ rest _ k c.utf8.text c.stretches.invariant.0 c.stretches.invariant.1 r in
     let q = subst (λ (x : List ℕ). HasPassed (has c.args.class) c.args.text.now x (c.stretches.end + k))
     (sym c.split_at.ensures.back) p in
     let e = c.past_run_end-more.ensures in (
       search rules,
-      passed_more (has c.args.class)
-          c.args.text.now c.utf8.text c.split_at.result.1.now c.split_at-in-stretches.result.1.now
-          (c.stretches.end + k) c.past_run_end-more.result q e.0
-          (past_each (has c.args.class) _ e.1.each) c.split_at-in-stretches.ensures.back,
+      passed_more (has _)
+          c.args.text.now c.utf8.text _ _ (c.stretches.end + k) _ q e.0 (past_each (has _) _ e.1.each)
+          c.split_at-in-stretches.ensures.back,
     )

@@ -5,11 +5,9 @@ use Rattle.syslog_pieces.proofs.text.past_space.Goals as goal
 
 pub split_at-requires : goal.split_at-requires
 split_at-requires c =
-    gap_cut c.args.text.now c.utf8.text
-    (subst BeginsWithGap c.as_bytes.ensures.value (c.if-begins_with_gap.ensures refl))
+    gap_cut _ c.utf8.text (subst BeginsWithGap c.as_bytes.ensures.value (c.if-begins_with_gap.ensures refl))
 
 pub returns-then-begins_with_gap : goal.returns-then-begins_with_gap
 returns-then-begins_with_gap c =
-    gap_some c.args.text.now c.utf8.text
-    (subst BeginsWithGap c.as_bytes.ensures.value (c.if-begins_with_gap.ensures refl))
+    gap_some _ c.utf8.text (subst BeginsWithGap c.as_bytes.ensures.value (c.if-begins_with_gap.ensures refl))
     c.split_at.result.1.now c.split_at.ensures.back

@@ -6,7 +6,5 @@ use Rattle.syslog_pieces.proofs.text.run_end.Goals as goal
 
 pub returns-then-is_cut : goal.returns-then-is_cut
 returns-then-is_cut c =
-    ascii_ends (has c.args.class) c.args.text.now _ _ c.ascii_run-end.result c.utf8.text
-    (subst (λ (l : List ℕ). IsRun (byte_in c.args.class) l c.ascii_run-end.result) c.as_bytes-bytes.ensures.value
-    c.ascii_run-end.ensures)
-    refl refl (search rules)
+    ascii_ends (has _) _ _ _ _ c.utf8.text (subst (λ (l : List ℕ). IsRun (byte_in c.args.class) l
+    c.ascii_run-end.result) c.as_bytes-bytes.ensures.value c.ascii_run-end.ensures) refl refl (search rules)

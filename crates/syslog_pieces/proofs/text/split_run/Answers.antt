@@ -4,5 +4,4 @@ use Rattle.syslog_pieces.proofs.text.split_run.Goals as goal
 
 pub returns : goal.returns
 returns c =
-    split_at_end (has c.args.class) c.args.text.now c.split_at.result.0.now c.split_at.result.1.now c.run_end.result
-    c.run_end.ensures c.split_at.ensures.front c.split_at.ensures.back
+    split_at_end (has _) _ _ _ _ c.run_end.ensures c.split_at.ensures.front c.split_at.ensures.back

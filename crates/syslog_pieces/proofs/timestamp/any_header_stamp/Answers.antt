@@ -10,17 +10,12 @@ returns-in-Some c = dash_front c.in-Some.ensures
 
 pub returns-in_err-literal : goal.returns-in_err-literal
 returns-in_err-literal c =
-    let n : NoFront header_stamp (chars c.args.text.now) =
-    no_space_front c.args.text.now c.split_run.result.0.now c.split_run.result.1.now c.split_run.ensures
-    c.in-None.ensures c.in_err-literal.ensures in search rules
+    let n = no_space_front _ _ _ c.split_run.ensures c.in-None.ensures c.in_err-literal.ensures in search rules
 
 pub returns-in_err-stamp : goal.returns-in_err-stamp
 returns-in_err-stamp c =
-    let n : NoFront header_stamp (chars c.args.text.now) =
-    no_stamp_front c.args.text.now c.split_run.result.0.now c.split_run.result.1.now c.split_run.ensures
-    c.in-None.ensures c.in_err-stamp.ensures in search rules
+    let n = no_stamp_front _ _ _ c.split_run.ensures c.in-None.ensures c.in_err-stamp.ensures in search rules
 
 pub returns : goal.returns
 returns c =
-    stamp_front c.args.text.now c.split_run.result.0.now c.split_run.result.1.now c.split_run.ensures
-    c.in_ok-stamp.stamp c.in_ok-stamp.ensures c.in_ok-literal.ensures
+    stamp_front _ _ _ c.split_run.ensures c.in_ok-stamp.stamp c.in_ok-stamp.ensures c.in_ok-literal.ensures

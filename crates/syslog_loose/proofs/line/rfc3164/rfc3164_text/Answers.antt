@@ -23,8 +23,7 @@ returns-in-Some-clause-text c whole e found =
     let line = c.in-Some.line in
     let written : string_bytes c.write.new.self ≡ line.front.now
     ++ ((32 ∷ line.stamp.now) ++ (zone_text line.is_zulu ++ line.tail.now)) = search rules in
-    freely c.args.variant (dating_value c.args.dating.now) whole (chars c.args.input.now) (chars line.front.now) k.value
-    (chars line.tail.now)
+    freely c.args.variant (dating_value c.args.dating.now) whole _ (chars line.front.now) k.value (chars line.tail.now)
     (c.if-not-reads_rfc3164.ensures refl) e k.as_rfc3164 (string_bytes c.write.new.self)
     (written ∙ stamped_bytes line.front.now line.stamp.now line.tail.now (timestamp_text k.value) line.is_zulu u.0 u.1
     u.2 k.stamped)

@@ -12,8 +12,5 @@ before-stamp-requires c = (c.in_ok-verbatim.ensures.copied, c.in_ok-verbatim.ens
 
 pub returns-then-is_verbatim_behind-clause-verbatim : goal.returns-then-is_verbatim_behind-clause-verbatim
 returns-then-is_verbatim_behind-clause-verbatim c dating =
-    stamped_verbatim dating (chars c.args.text.now) (chars c.in_ok-behind.behind.now) (chars c.blanks-start.result.now)
-    (chars c.in_ok-verbatim.verbatim.zone.now) (chars c.before-front.result.now)
-    (chars c.before-stamp.result.now) (chars c.in_ok-verbatim.verbatim.rest.now) c.in_ok-verbatim.verbatim.is_zulu
-    c.in_ok-behind.ensures.0 c.in_ok-behind.ensures.1 c.blanks-start.ensures
+    stamped_verbatim dating _ _ _ _ _ _ _ _ c.in_ok-behind.ensures.0 c.in_ok-behind.ensures.1 c.blanks-start.ensures
     c.in_ok-verbatim.ensures (c.if-is_verbatim_behind.ensures refl) c.before-front.ensures c.before-stamp.ensures

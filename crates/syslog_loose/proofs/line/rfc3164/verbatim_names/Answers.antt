@@ -4,6 +4,4 @@ use Rattle.syslog_loose.proofs.line.rfc3164.verbatim_names.Goals as goal
 
 pub returns : goal.returns
 returns c =
-    names_verbatim (chars c.args.text.now) (chars c.in_ok-program.program.now) (chars c.in_ok-colon.colon.now)
-    (chars c.in_ok-gap.gap.now) (chars c.in_ok-rest.rest.now) c.in_ok-program.ensures c.in_ok-colon.ensures
-    c.in_ok-gap.ensures c.in_ok-rest.ensures
+    names_verbatim _ _ _ _ _ c.in_ok-program.ensures c.in_ok-colon.ensures c.in_ok-gap.ensures c.in_ok-rest.ensures

@@ -4,5 +4,4 @@ use Rattle.syslog_loose.proofs.line.rfc3164.verbatim_origin.Goals as goal
 
 pub returns : goal.returns
 returns c =
-    origin_verbatim (chars c.args.text.now) (chars c.in_ok-hostname.hostname.now) (chars c.in_ok-behind.behind.now)
-    (chars c.in_ok-rest.rest.now) c.in_ok-hostname.ensures c.in_ok-behind.ensures c.in_ok-rest.ensures
+    origin_verbatim _ _ _ _ c.in_ok-hostname.ensures c.in_ok-behind.ensures c.in_ok-rest.ensures

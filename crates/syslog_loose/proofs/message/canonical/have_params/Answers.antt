@@ -8,9 +8,7 @@ use Rattle.syslog_loose.proofs.message.canonical.have_params.Goals as goal
 
 pub returns-then-not-has_any : goal.returns-then-not-has_any
 returns-then-not-has_any g c =
-    let at = all_at (element_value (text_of g.S.AsStr.text)) (λ e. 0 < length e.params) c.args.elements.now
-    c.loop-element.element-index c.element-item.result c.loop-element-test.true c.element-item.is in
+    let at = all_at (element_value (text_of g.S.AsStr.text)) (λ e. 0 < length e.params) _
+    c.loop-element.element-index _ c.loop-element-test.true c.element-item.is in
     let any = rw c.deref.ensures.value at c.if-not-has_any.ensures in
-    false_is
-    (λ h. no_truth
-    (any.1 (some_params (param_value (text_of g.S.AsStr.text)) c.element-item.result.params.items (at h))))
+    false_is (λ h. no_truth (any.1 (some_params (param_value (text_of g.S.AsStr.text)) _ (at h))))

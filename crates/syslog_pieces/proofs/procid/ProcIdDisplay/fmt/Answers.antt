@@ -7,8 +7,7 @@ use Rattle.syslog_pieces.proofs.procid.ProcIdDisplay.fmt.Goals as goal
 
 pub returns-in-PID-clause-writes : goal.returns-in-PID-clause-writes
 returns-in-PID-clause-writes g c canonical ok =
-    rw c.in-PID.is (has_written_of_eq _ _ _ _ _ (sym (encodes-signed c.in-PID.number))
-    (c.write_signed.ensures canonical ok))
+    rw c.in-PID.is (has_written_of_eq _ _ _ _ _ (sym (encodes-signed _)) (c.write_signed.ensures canonical ok))
 
 pub returns-in-Name-clause-writes : goal.returns-in-Name-clause-writes
 returns-in-Name-clause-writes g c canonical ok =

@@ -14,21 +14,16 @@ returns-in_default c = value_ends c.args.text.now c.units.rest.now c.split_run.r
 
 pub returns-then-c-eq34 : goal.returns-then-c-eq34
 returns-then-c-eq34 c =
-    value_quoted c.args.text.now c.units.rest.now c.split_run.result.0.now c.split_run.result.1.now c.split_run.ensures
-    c.units.invariant.1
-    c.in-Some.c (chars c.in-Some.more.now) c.in-Some.ensures.0 c.if-c-eq34.true
+    value_quoted _ _ _ _ c.split_run.ensures c.units.invariant.1 _ _ c.in-Some.ensures.0 c.if-c-eq34.true
 
 pub returns-in_default-first : goal.returns-in_default-first
 returns-in_default-first c =
     value_lone c.args.text.now c.units.rest.now c.split_run.result.0.now c.split_run.result.1.now c.split_run.ensures
-    c.units.invariant.1
-    c.in-Some.c (chars c.in-Some.more.now) c.in-Some.ensures.0 c.if-c-eq34.false c.in_default-first.ensures
+    c.units.invariant.1 c.in-Some.c _ c.in-Some.ensures.0 c.if-c-eq34.false c.in_default-first.ensures
 
 pub units-preserved : goal.units-preserved
 units-preserved c = (
   c.in-Some-first.ensures.1,
   value_on c.args.text.now c.units.rest.now c.split_run.result.0.now c.split_run.result.1.now c.split_run.ensures
-      c.units.invariant.1
-      c.in-Some.c (chars c.in-Some.more.now) c.in-Some.ensures.0 c.if-c-eq34.false _ (chars c.in-Some-first.behind.now)
-      c.in-Some-first.ensures.0,
+      c.units.invariant.1 c.in-Some.c _ c.in-Some.ensures.0 c.if-c-eq34.false _ _ c.in-Some-first.ensures.0,
 )

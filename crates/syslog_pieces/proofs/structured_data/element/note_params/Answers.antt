@@ -1,20 +1,18 @@
-use Rattle.std.proofs.Common.{rules, ◌≡◌, ℕ, ◌+◌, ◌<◌, List, [], ◌∷◌, ◌++◌, length}
+use Rattle.std.proofs.Common.{rules, ◌≡◌, ℕ, ◌+◌, ◌<◌, List, [], ◌∷◌, ◌++◌, length, refl}
 use Rattle.std.proofs.Common.{map, take, slice_set, sym, ap, subst, ◌∙◌, arith}
 use Rattle.std.proofs.lemmas.List.{map-append, take_more_set, length-set}
 use Rattle.std.specs.Borrow.{Bor}
 use Rattle.std.specs.Str.{chars}
 use Rattle.syslog_pieces.specs.Pieces.Class.{Text, Class, Front, exactly}
-use Rattle.syslog_pieces.specs.Bodies.Closing.{inside}
+use Rattle.syslog_pieces.specs.Bodies.Closing.{inside, inside_row}
 use Rattle.syslog_pieces.specs.StructuredData.Element.{param_value}
 use Rattle.syslog_pieces.specs.Pieces.Lists.{list_before}
 use Rattle.syslog_pieces.specs.StructuredData.{param}
 use Rattle.syslog_pieces.specs.Pieces.View.{shown}
 use Rattle.syslog_pieces.proofs.PieceLemmas.Class.{row_nil, row_cons}
 use Rattle.syslog_pieces.proofs.PieceLemmas.Lists.{Leaves, begins, leaves_all, leaves_less, leaves_last, list_here}
+use Rattle.syslog_pieces.proofs.PieceLemmas.Rows.{row_of, ◌then◌}
 use Rattle.syslog_pieces.proofs.structured_data.element.note_params.Goals as goal
-
-abbrev bracket : Class
-bracket = exactly (93 ∷ [])
 
 abbrev seen : List (Bor (List ℕ) × Bor (List ℕ)) → List (Text × Text)
 seen = map (param_value (λ s. shown s))
@@ -29,10 +27,8 @@ noted notes count x h = ap seen (take_more_set notes count x h)
 pub returns-in-Some : goal.returns-in-Some
 returns-in-Some c = (
   omega arith,
-  row_cons (list_before param 32 93) (bracket ∷ [])
-      (list_here param 32 93 (chars c.args.text.now) (chars c.in-Some.end.now)
-      (begins 93 (chars c.args.text.now) (chars c.in-Some.end.now) c.in-Some.ensures))
-      (row_cons bracket [] c.in-Some.ensures (row_nil (chars c.in-Some.end.now))),
+  row_of inside_row
+      (list_here param 32 93 _ _ (begins 93 _ _ c.in-Some.ensures) then c.in-Some.ensures then refl),
 )
 
 pub params-init : goal.params-init
@@ -41,14 +37,12 @@ params-init c = (search rules, omega arith, leaves_all param 32 93 (chars c.args
 pub returns-in-Some-literal : goal.returns-in-Some-literal
 returns-in-Some-literal c =
     let within : c.params.count < length c.params.notes = search rules in
-    let left = leaves_last param 32 93 (chars c.args.text.now) (chars c.params.next.now) (chars c.in_ok-found.rest.now)
-    (chars c.in-Some-literal.end.now) _ _ c.params.invariant.2 c.in_ok-found.ensures
-    (begins 93 (chars c.in_ok-found.rest.now) (chars c.in-Some-literal.end.now) c.in-Some-literal.ensures) in (
+    let left = leaves_last param 32 93 _ _ _ _ _ _ c.params.invariant.2 c.in_ok-found.ensures
+    (begins 93 _ _ c.in-Some-literal.ensures) in (
       omega (arith, within, length-set c.params.notes c.params.count c.in_ok-found.found),
       subst (λ (x : List (Text × Text)). Front inside (chars c.args.text.now) (chars c.in-Some-literal.end.now)
           (x, (tt, tt))) (sym (noted c.params.notes c.params.count c.in_ok-found.found within))
-          (row_cons (list_before param 32 93) (bracket ∷ []) left
-          (row_cons bracket [] c.in-Some-literal.ensures (row_nil (chars c.in-Some-literal.end.now)))),
+          (row_of inside_row (left then c.in-Some-literal.ensures then refl)),
     )
 
 pub params-preserved : goal.params-preserved
@@ -58,7 +52,6 @@ params-preserved c =
       omega (arith, within, length-set c.params.notes c.params.count c.in_ok-found.found),
       subst (λ (x : List (Text × Text)). Leaves param 32 93 (chars c.args.text.now) x (chars c.in_ok-next.next.now))
           (sym (noted c.params.notes c.params.count c.in_ok-found.found within))
-          (leaves_less param 32 93 (chars c.args.text.now) (chars c.params.next.now) (chars c.in_ok-found.rest.now)
-          (chars c.in_ok-next.next.now) _ _ c.params.invariant.2 c.in_ok-found.ensures
-          (begins 32 (chars c.in_ok-found.rest.now) (chars c.in_ok-next.next.now) c.in_ok-next.ensures)),
+          (leaves_less param 32 93 _ _ _ _ _ _ c.params.invariant.2 c.in_ok-found.ensures
+          (begins 32 _ _ c.in_ok-next.ensures)),
     )

@@ -25,11 +25,9 @@ some_seen notes count h l = omega (
 pub returns-in_err-params-clause-memory : goal.returns-in_err-params-clause-memory
 returns-in_err-params-clause-memory c n =
     let r = c.in-Some-note_params.ensures in
-    let f = element_read (chars c.args.text.now) (chars c.in-Some.inside.now) (chars c.in-Some-note_params.rest.now)
-    _ _ c.in-Some.ensures r.1 in
+    let f = element_read _ _ _ _ _ c.in-Some.ensures r.1 in
     let some : 0 < c.in-Some-note_params.count = search rules in
-    absurd (n f.piece (chars c.in-Some-note_params.rest.now) _ f.whole
-    (f.is, some_seen c.note_params.new.notes c.in-Some-note_params.count some r.0))
+    absurd (n f.piece _ _ f.whole (f.is, some_seen c.note_params.new.notes c.in-Some-note_params.count some r.0))
 
 pub returns-clause-element : goal.returns-clause-element
 returns-clause-element c =

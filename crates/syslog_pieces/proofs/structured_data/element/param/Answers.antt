@@ -6,17 +6,12 @@ use Rattle.syslog_pieces.proofs.StructuredDataLemmas.Closing.{no_opening, no_par
 use Rattle.syslog_pieces.proofs.structured_data.element.param.Goals as goal
 
 pub returns-in_err-name : goal.returns-in_err-name
-returns-in_err-name c = let n : NoFront param (chars c.args.text.now) = no_opening
-    (chars c.args.text.now) c.in_err-name.ensures in search rules
+returns-in_err-name c = let n = no_opening (chars c.args.text.now) c.in_err-name.ensures in search rules
 
 pub returns-in_err-value : goal.returns-in_err-value
 returns-in_err-value c =
-    let n : NoFront param (chars c.args.text.now) = no_param_opens (chars c.args.text.now)
-    (chars c.in_ok-name.rest.now) _ c.in_ok-name.ensures c.in_err-value.ensures in
-    search rules
+    let n = no_param_opens _ _ _ c.in_ok-name.ensures c.in_err-value.ensures in search rules
 
 pub returns : goal.returns
 returns c =
-    param_read (chars c.args.text.now) (chars c.in_ok-name.rest.now) (chars c.in_ok-value.rest.now)
-    (chars c.in_ok-name.name.now) (chars c.in_ok-value.value.now)
-    c.in_ok-name.ensures c.in_ok-value.ensures
+    param_read _ _ _ _ _ c.in_ok-name.ensures c.in_ok-value.ensures

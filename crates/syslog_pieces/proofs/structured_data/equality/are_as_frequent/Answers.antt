@@ -12,9 +12,8 @@ returns-then-not-is_as_frequent g c =
 
 pub loop-param-preserved : goal.loop-param-preserved
 loop-param-preserved g c =
-    list_all-more_true _ c.args.a.now c.loop-param.param-index c.param-item.result c.loop-param-test.true
-    c.param-item.is
-    c.loop-param.invariant (sym c.is_as_frequent.ensures ∙ c.if-not-is_as_frequent.false)
+    list_all-more_true _ _ _ _ c.loop-param-test.true c.param-item.is c.loop-param.invariant
+    (sym c.is_as_frequent.ensures ∙ c.if-not-is_as_frequent.false)
 
 pub returns : goal.returns
 returns g c =

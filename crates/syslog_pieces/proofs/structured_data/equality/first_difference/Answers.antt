@@ -5,6 +5,5 @@ use Rattle.syslog_pieces.proofs.structured_data.equality.first_difference.Goals 
 
 pub loop-at-preserved : goal.loop-at-preserved
 loop-at-preserved g c =
-    front-more (text_of g.S.AsStr.text) c.args.a.now c.args.b.now c.loop-at.at c.index-a-at.result c.index-b-at.result
-    (omega arith) (omega (arith, c.requires)) c.index-a-at.is c.index-b-at.is c.loop-at.invariant
-    (sym c.is_same_param.ensures ∙ c.if-not-is_same_param.false)
+    front-more (text_of g.S.AsStr.text) _ _ _ _ _ (omega arith) (omega (arith, c.requires)) c.index-a-at.is
+    c.index-b-at.is c.loop-at.invariant (sym c.is_same_param.ensures ∙ c.if-not-is_same_param.false)

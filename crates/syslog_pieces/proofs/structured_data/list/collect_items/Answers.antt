@@ -39,8 +39,7 @@ pub returns-in_err-element-clause-memory : goal.returns-in_err-element-clause-me
 returns-in_err-element-clause-memory c n =
     let i = c.items.invariant.2 in
     let found = c.in-Some.ensures.1 in
-    absurd (strict_asks (chars c.args.text.now) (chars c.items.rest.now) (chars c.in-Some.item.rest.now) i.0 found.0
-    (sym c.if-item.true ∙ found.2) i.1 found.1 n)
+    absurd (strict_asks _ _ _ i.0 found.0 (sym c.if-item.true ∙ found.2) i.1 found.1 n)
 
 pub returns-in_default-2-clause-items : goal.returns-in_default-2-clause-items
 returns-in_default-2-clause-items c =
@@ -52,8 +51,7 @@ pub returns-in_err-push-clause-memory : goal.returns-in_err-push-clause-memory
 returns-in_err-push-clause-memory c n =
     let i = c.items.invariant.2 in
     let found = c.in-Some.ensures.1 in
-    absurd (strict_asks (chars c.args.text.now) (chars c.items.rest.now) (chars c.in-Some.item.rest.now) i.0 found.0
-    (sym c.if-item.true ∙ found.2) i.1 found.1 n)
+    absurd (strict_asks _ _ _ i.0 found.0 (sym c.if-item.true ∙ found.2) i.1 found.1 n)
 
 pub items-preserved : goal.items-preserved
 items-preserved c =
@@ -64,13 +62,12 @@ items-preserved c =
       found.2,
       (
         i.0 ++ (found.1.0 ∷ []),
-        has_read_more item (chars c.args.text.now) (chars c.items.rest.now)
-            (chars c.in-Some.item.rest.now) i.0 found.1.0 i.1 found.1.1,
+        has_read_more item _ _
+            _ i.0 found.1.0 i.1 found.1.1,
         elim c.if-item.branch [
           | then-item+in_ok-element+in-Some-2+in_ok-push w ↦
-              collected_strict view c.items.elements.items i.0 i.2 (chars c.items.rest.now)
-              (chars c.in-Some.item.rest.now) _ c.if-item.elements.items w.in-Some-2.element found.1.0
-              (sym w.if-item.true ∙ found.1.2) found.1.1 (rw w.in-Some-2.is at w.in_ok-element.ensures)
+              collected_strict view c.items.elements.items i.0 i.2 _ _ _ c.if-item.elements.items w.in-Some-2.element
+              found.1.0 (sym w.if-item.true ∙ found.1.2) found.1.1 (rw w.in-Some-2.is at w.in_ok-element.ensures)
               (ap (λ x. x.items) w.elements-is ∙ w.in_ok-push.ensures.items)
           | else-item w ↦ ap (λ x. map view x.items) w.elements-is
               ∙ collected_broken view c.items.elements.items i.0 i.2 found.1.0 (sym w.if-item.false ∙ found.1.2)

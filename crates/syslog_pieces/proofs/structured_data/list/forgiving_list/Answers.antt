@@ -12,7 +12,6 @@ pub returns-then-not-items-clause-list : goal.returns-then-not-items-clause-list
 returns-then-not-items-clause-list c =
     let s = c.in_ok-items.ensures.items in
     let none : length c.in_ok-items.items.elements.items ≡ 0 = search rules in
-    no_list (chars c.args.text.now) _ s.0 c.in_default.ensures s.1
-    (no_items s.0 (nothing (strict s.0)
+    no_list _ _ s.0 c.in_default.ensures s.1 (no_items s.0 (nothing (strict s.0)
     (sym (ap length s.2) ∙ length-map c.in_ok-items.items.elements.items
     (element_value (λ (s : Bor (List ℕ)). shown s)) ∙ none)) (sym s.3 ∙ c.if-not-items.true))

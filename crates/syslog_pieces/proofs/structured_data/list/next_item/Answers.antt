@@ -16,8 +16,7 @@ returns-in-Ok c =
 
 pub returns-in_err-rest-in-Err : goal.returns-in_err-rest-in-Err
 returns-in_err-rest-in-Err c =
-    let n : NoFront item (chars c.args.text.now) =
-    no_item (chars c.args.text.now) c.in-Err.ensures.0 c.in_err-rest-in-Err.ensures in search rules
+    let n = no_item (chars c.args.text.now) c.in-Err.ensures.0 c.in_err-rest-in-Err.ensures in search rules
 
 pub returns-in_ok-rest-in-Err : goal.returns-in_ok-rest-in-Err
 returns-in_ok-rest-in-Err c =

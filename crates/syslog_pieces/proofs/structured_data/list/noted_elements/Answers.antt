@@ -34,14 +34,12 @@ elements-init c = (
 pub returns-in_err-element-clause-memory : goal.returns-in_err-element-clause-memory
 returns-in_err-element-clause-memory c n =
     let asked : ◌≡◌ {A = Bool} false true = c.in_err-element.ensures.memory
-    (λ p q e w h. none_asks (chars c.args.text.now)
-    (chars c.elements.rest.now) _ c.elements.invariant.1 n p q e w h.0) in
+    (λ p q e w h. none_asks _ _ _ c.elements.invariant.1 n p q e w h.0) in
     absurd (cc)
 
 pub returns-in_err-push-clause-memory : goal.returns-in_err-push-clause-memory
 returns-in_err-push-clause-memory c n =
-    absurd (element_asks (chars c.args.text.now) (chars c.elements.rest.now)
-    (chars c.in-Some.next.now) _ _ c.elements.invariant.1 (rw c.in-Some.is at c.in_ok-element.ensures.element) n)
+    absurd (element_asks _ _ _ _ _ c.elements.invariant.1 (rw c.in-Some.is at c.in_ok-element.ensures.element) n)
 
 pub elements-preserved : goal.elements-preserved
 elements-preserved c =

@@ -9,14 +9,11 @@ use Rattle.syslog_pieces.proofs.StructuredDataLemmas.Recognise.{opened_passes, c
 use Rattle.syslog_pieces.proofs.structured_data.recognise.after_full_element.Goals as goal
 
 pub returns-in_err-inside : goal.returns-in_err-inside
-returns-in_err-inside c = let n : NoFront full_element (chars c.args.text.now) = no_full_start
-    (chars c.args.text.now) c.in_err-inside.ensures in search rules
+returns-in_err-inside c = let n = no_full_start (chars c.args.text.now) c.in_err-inside.ensures in search rules
 
 pub returns-in_err-value : goal.returns-in_err-value
 returns-in_err-value c =
-    let n : NoFront full_element (chars c.args.text.now) = no_full_opening (chars c.args.text.now)
-    (chars c.in_ok-inside.inside.now) _ c.in_ok-inside.ensures c.in_err-value.ensures in
-    search rules
+    let n = no_full_opening _ _ _ c.in_ok-inside.ensures c.in_err-value.ensures in search rules
 
 pub live_closing-requires : goal.live_closing-requires
 live_closing-requires c =
@@ -24,11 +21,7 @@ live_closing-requires c =
 
 pub returns : goal.returns
 returns c =
-    let text = chars c.args.text.now in
-    let inside = chars c.in_ok-inside.inside.now in
-    let value = chars c.in_ok-value.value.now in
-    let answers = closing_answers full_element text value
-    (opened_passes full_element text inside value _ _ c.in_ok-inside.ensures c.in_ok-value.ensures)
-    (full_goes text inside _ c.in_ok-inside.ensures value _ c.in_ok-value.ensures)
-    (λ s. shown s) c.live_closing.result c.live_closing.ensures in
+    let answers = closing_answers full_element _ _
+    (opened_passes full_element _ _ _ _ _ c.in_ok-inside.ensures c.in_ok-value.ensures)
+    (full_goes _ _ _ c.in_ok-inside.ensures _ _ c.in_ok-value.ensures) (λ s. shown s) _ c.live_closing.ensures in
     search rules

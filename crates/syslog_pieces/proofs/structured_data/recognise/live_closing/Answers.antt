@@ -24,36 +24,27 @@ refused S T (Err x) d h t = subst T (sym h) t
 
 pub returns-in_err-behind : goal.returns-in_err-behind
 returns-in_err-behind c =
-    let n : NoFront closing (chars c.args.text.now) = meets_none closing (chars c.args.text.now) closing
-    (chars c.params.rest.now) c.params.invariant.2 c.in_err-behind.ensures.0 in
-    let dead : IsDead (chars c.args.text.now) c.in_err-behind.field-0.0 = passes_dead_on closing (chars c.args.text.now)
-    (chars c.params.rest.now) c.in_err-behind.field-0.0 c.params.invariant.1 n c.in_err-behind.ensures.1 in
-    refused _ (λ d. NoFront closing (chars c.args.text.now) × IsDead (chars c.args.text.now) d) c.from_residual.result
-    c.in_err-behind.field-0.0 c.from_residual.ensures.1 (n, dead)
+    let n = meets_none closing _ closing _ c.params.invariant.2 c.in_err-behind.ensures.0 in
+    let dead = passes_dead_on closing _ _ _ c.params.invariant.1 n c.in_err-behind.ensures.1 in
+    refused _ (λ d. NoFront closing _ × IsDead _ d) c.from_residual.result _ c.from_residual.ensures.1 (n, dead)
 
 pub returns-in-Some : goal.returns-in-Some
 returns-in-Some c =
-    value_ends closing (chars c.args.text.now) (chars c.params.rest.now) (chars c.in_ok-behind.behind.now)
-    c.params.invariant.1 c.params.invariant.2 _ c.in_ok-behind.ensures.1 (chars c.in-Some.end.now) c.in-Some.ensures
+    value_ends closing _ _ _ c.params.invariant.1 c.params.invariant.2 _ c.in_ok-behind.ensures.1 _ c.in-Some.ensures
 
 pub returns-in_default-literal : goal.returns-in_default-literal
 returns-in_default-literal c =
-    value_breaks closing (chars c.args.text.now) (chars c.params.rest.now)
-    (chars c.in_ok-behind.behind.now) c.params.invariant.1 c.params.invariant.2 _ c.in_ok-behind.ensures.1
-    c.in_default.ensures c.in_default-literal.ensures
-    _ (sym (byte_count_slice c.in_ok-behind.behind.now (search rules)))
+    value_breaks closing _ _ _ c.params.invariant.1 c.params.invariant.2 _ c.in_ok-behind.ensures.1 c.in_default.ensures
+    c.in_default-literal.ensures _ (sym (byte_count_slice c.in_ok-behind.behind.now (search rules)))
 
 pub returns-in_default-opening : goal.returns-in_default-opening
 returns-in_default-opening c =
-    value_breaks_on closing (chars c.args.text.now) (chars c.params.rest.now)
-    (chars c.in_ok-behind.behind.now) c.params.invariant.1 c.params.invariant.2 _ c.in_ok-behind.ensures.1
-    (chars c.in-Some-literal.next.now) c.in_default.ensures c.in-Some-literal.ensures c.in_default-opening.ensures
-    _ (sym (byte_count_slice c.in_ok-behind.behind.now (search rules)))
+    value_breaks_on closing _ _ _ c.params.invariant.1 c.params.invariant.2 _ c.in_ok-behind.ensures.1 _
+    c.in_default.ensures c.in-Some-literal.ensures c.in_default-opening.ensures _
+    (sym (byte_count_slice c.in_ok-behind.behind.now (search rules)))
 
 pub params-preserved : goal.params-preserved
 params-preserved c =
-    let r = value_goes closing (chars c.args.text.now) (chars c.params.rest.now)
-    (chars c.in_ok-behind.behind.now) c.params.invariant.1 c.params.invariant.2 _ c.in_ok-behind.ensures.1
-    (chars c.in-Some-literal.next.now)
-    (chars c.in-Some-opening.value.now) _ c.in-Some-literal.ensures c.in-Some-opening.ensures in
+    let r = value_goes closing _ _ _ c.params.invariant.1 c.params.invariant.2 _ c.in_ok-behind.ensures.1 _ _ _
+    c.in-Some-literal.ensures c.in-Some-opening.ensures in
     (search rules, r.0, r.1)

@@ -22,13 +22,10 @@ returns-in_default-opening c = (
 
 pub live_closing-requires : goal.live_closing-requires
 live_closing-requires c =
-    let r = element_enters (chars c.args.text.now) (chars c.in-Some.inside.now) _ c.in-Some.ensures
-    (chars c.in-Some-opening.value.now) _ c.in_default-literal.ensures c.in-Some-opening.ensures in
-    dead_suffix (chars c.args.text.now) r.0.piece (chars c.in-Some-opening.value.now) c.args.dead r.0.whole c.requires
+    let r = element_enters _ _ _ c.in-Some.ensures _ _ c.in_default-literal.ensures c.in-Some-opening.ensures in
+    dead_suffix _ r.0.piece _ c.args.dead r.0.whole c.requires
 
 pub returns : goal.returns
 returns c =
-    let r = element_enters (chars c.args.text.now) (chars c.in-Some.inside.now) _ c.in-Some.ensures
-    (chars c.in-Some-opening.value.now) _ c.in_default-literal.ensures c.in-Some-opening.ensures in
-    closing_answers element (chars c.args.text.now) (chars c.in-Some-opening.value.now) r.0 r.1
-    (λ s. shown s) c.live_closing.result c.live_closing.ensures
+    let r = element_enters _ _ _ c.in-Some.ensures _ _ c.in_default-literal.ensures c.in-Some-opening.ensures in
+    closing_answers element _ _ r.0 r.1 (λ s. shown s) c.live_closing.result c.live_closing.ensures

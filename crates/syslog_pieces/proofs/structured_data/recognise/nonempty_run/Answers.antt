@@ -9,9 +9,7 @@ use Rattle.syslog_pieces.proofs.structured_data.recognise.nonempty_run.Goals as 
 
 pub returns-then-is_empty : goal.returns-then-is_empty
 returns-then-is_empty c =
-    no_texted (some_run (has c.args.class))
-    (no_some_run (has c.args.class) c.args.text.now c.split_run.result.0.now c.split_run.result.1.now
-    c.split_run.ensures (empty_is _ c.if-is_empty.ensures))
+    no_texted (some_run (has _)) (no_some_run (has _) _ _ _ c.split_run.ensures (empty_is _ c.if-is_empty.ensures))
 
 pub returns-else-is_empty : goal.returns-else-is_empty
 returns-else-is_empty c =

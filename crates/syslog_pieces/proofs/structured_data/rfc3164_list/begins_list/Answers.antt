@@ -9,7 +9,5 @@ returns-then-is_some c = told_by_dash c.args.rule (chars c.args.text.now)
 
 pub returns-else-is_some : goal.returns-else-is_some
 returns-else-is_some c =
-    told_by_element c.args.rule (chars c.args.text.now)
-    (λ s. shown s) c.after_dash.result c.after_dash.ensures c.is_some-else-is_some.result c.is_some.result
-    c.is_some.ensures c.if-is_some.false c.after_full_element.result c.after_full_element.ensures
-    c.is_some-else-is_some.ensures
+    told_by_element _ _ (λ s. shown s) _ c.after_dash.ensures _ c.is_some.result c.is_some.ensures c.if-is_some.false _
+    c.after_full_element.ensures c.is_some-else-is_some.ensures

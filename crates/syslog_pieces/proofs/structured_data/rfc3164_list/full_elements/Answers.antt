@@ -21,8 +21,7 @@ elements-init c = (
 pub returns-in_err-element-clause-memory : goal.returns-in_err-element-clause-memory
 returns-in_err-element-clause-memory c n =
     let asked : ◌≡◌ {A = Bool} false true = c.in_err-element.ensures.memory (λ p q e w h.
-    read_some full_element full_shorter (chars c.args.text.now)
-    (chars c.elements.rest.now) q _ e c.elements.invariant.1 (record { piece = p; whole = w; is = h }) n) in
+    read_some full_element full_shorter _ _ q _ e c.elements.invariant.1 (record { piece = p; whole = w; is = h }) n) in
     absurd (cc)
 
 pub returns-in_default-clause-elements : goal.returns-in_default-clause-elements
@@ -37,13 +36,10 @@ returns-in_err-push-clause-memory c n =
 pub elements-preserved : goal.elements-preserved
 elements-preserved c =
     let e = ap (map (element_value (λ (s : Bor (List ℕ)). shown s))) c.in_ok-push.ensures.items
-    ∙ map-append (element_value (λ (s : Bor (List ℕ)). shown s)) c.elements.elements.items
-    (c.in-Some.element ∷ []) in (
+    ∙ map-append (element_value (λ (s : Bor (List ℕ)). shown s)) c.elements.elements.items (c.in-Some.element ∷ []) in (
       search rules,
       subst (λ (x : List ElementValue). HasRead full_element (chars c.args.text.now) x (chars c.in-Some.next.now))
-          (sym e)
-          (has_read_more full_element (chars c.args.text.now) (chars c.elements.rest.now)
-          (chars c.in-Some.next.now) _ _ c.elements.invariant.1
+          (sym e) (has_read_more full_element _ _ _ _ _ c.elements.invariant.1
           (rw c.in-Some.is at c.in_ok-element.ensures.element)),
     )
 

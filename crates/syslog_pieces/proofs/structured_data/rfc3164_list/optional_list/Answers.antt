@@ -33,6 +33,5 @@ returns-then-is_empty-clause-list c =
 
 pub returns-in_default-literal-clause-list : goal.returns-in_default-literal-clause-list
 returns-in_default-literal-clause-list c =
-    list_absent c.args.rule (chars c.args.text.now) _ _ c.in_default.ensures
-    (many_here full_element (chars c.args.text.now)
-    (no_full_unopened (chars c.args.text.now) c.in_default-literal.ensures)) refl
+    list_absent c.args.rule _ _ _ c.in_default.ensures (many_here full_element _
+    (no_full_unopened _ c.in_default-literal.ensures)) refl

@@ -6,16 +6,13 @@ use Rattle.syslog_pieces.proofs.StructuredDataLemmas.Verbatim.{verbatim_more, ve
 
 pub returns-in-Some : goal.returns-in-Some
 returns-in-Some c =
-    bare_verbatim (chars c.args.text.now) (chars c.in_ok-opened.opened.now) (chars c.in_ok-inner.inner.now)
-    (chars c.in-Some.end.now) (chars c.in_ok-inner.field-0-0.now)
-    c.in_ok-opened.ensures c.in_ok-inner.ensures c.in-Some.ensures
+    bare_verbatim _ _ _ _ _ c.in_ok-opened.ensures c.in_ok-inner.ensures c.in-Some.ensures
 
 pub params-init : goal.params-init
 params-init c = (
   search rules,
-  verbatim_first (chars c.args.text.now) (chars c.in_ok-opened.opened.now) (chars c.in_ok-inner.inner.now)
-      (chars c.in_ok-first.first.now) (chars c.in_ok-rest.rest.now) (chars c.in_ok-inner.field-0-0.now)
-      c.in_ok-opened.ensures c.in_ok-inner.ensures c.in_ok-first.ensures c.in_ok-rest.ensures,
+  verbatim_first _ _ _
+      _ _ _ c.in_ok-opened.ensures c.in_ok-inner.ensures c.in_ok-first.ensures c.in_ok-rest.ensures,
 )
 
 pub returns-in-Some-literal : goal.returns-in-Some-literal

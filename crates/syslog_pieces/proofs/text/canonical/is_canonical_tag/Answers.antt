@@ -13,11 +13,8 @@ returns-in-Some-name c =
 
 pub returns-in-None-name : goal.returns-in-None-name
 returns-in-None-name c =
-    let t = chars c.args.text.now in
-    absent_told tag_word.Is tag_word_det IsCanonicalTag t tag_whole (tag_back t)
-    (chars c.in-Some.rest.now) c.in-Some.name c.in-None-name.is c.in-Some.ensures
+    absent_told tag_word.Is tag_word_det IsCanonicalTag _ tag_whole (tag_back _) _ _ c.in-None-name.is c.in-Some.ensures
 
 pub returns-in-None : goal.returns-in-None
 returns-in-None c =
-    let t = chars c.args.text.now in
-    unread_told tag_word.Is tag_word_det IsCanonicalTag t tag_whole (tag_back t) c.in-None.ensures
+    unread_told tag_word.Is tag_word_det IsCanonicalTag _ tag_whole (tag_back _) c.in-None.ensures

@@ -10,9 +10,8 @@ use Rattle.syslog_pieces.proofs.text.canonical.is_canonical_word.Goals as goal
 pub returns-in-Some-name : goal.returns-in-Some-name
 returns-in-Some-name c =
     let t = chars c.args.text.now in
-    present_told word.Is word_det IsCanonicalWord t word_whole (λ h. word_back (Some t) [] h tt)
-    (chars c.in-Some.rest.now) c.in-Some.name c.in-Some-name.field-0 _ c.in-Some-name.is c.in-Some.ensures
-    c.is_end.ensures
+    present_told word.Is word_det IsCanonicalWord t word_whole (λ h. word_back (Some t) [] h tt) _ c.in-Some.name
+    c.in-Some-name.field-0 _ c.in-Some-name.is c.in-Some.ensures c.is_end.ensures
 
 pub returns-in-None-name : goal.returns-in-None-name
 returns-in-None-name c =

@@ -35,19 +35,17 @@ split_at-requires c =
 pub returns-in-Ok : goal.returns-in-Ok
 returns-in-Ok c =
     let rest = c.split_at.result.1.now in
-    let s = left c.args.digits.now c.as_bytes.result.now rest c.zeros_ahead.result
-    c.utf8.digits c.requires c.as_bytes.ensures.value c.zeros_ahead.ensures.within c.zeros_ahead.ensures.others
-    c.zeros_ahead.ensures.zeros c.split_at.ensures.back in
+    let s = left _ _ rest _ c.utf8.digits c.requires c.as_bytes.ensures.value c.zeros_ahead.ensures.within
+    c.zeros_ahead.ensures.others c.zeros_ahead.ensures.zeros c.split_at.ensures.back in
     let u : IsUtf8 rest = search rules in
-    let p = rw (c.in-Ok.is) at (parsed_digits rest u s.each _ c.parse.result c.parse.ensures.value.0) in
+    let p = rw (c.in-Ok.is) at (parsed_digits rest u s.each _ _ c.parse.ensures.value.0) in
     ((s.less p.0.0, subst (λ (x : ℕ). x < 2 ^ 32) s.same p.0.1), p.1 ∙ s.same)
 
 pub returns-in-Err : goal.returns-in-Err
 returns-in-Err c =
     let rest = c.split_at.result.1.now in
-    let s = left c.args.digits.now c.as_bytes.result.now rest c.zeros_ahead.result
-    c.utf8.digits c.requires c.as_bytes.ensures.value c.zeros_ahead.ensures.within c.zeros_ahead.ensures.others
-    c.zeros_ahead.ensures.zeros c.split_at.ensures.back in
+    let s = left _ _ rest _ c.utf8.digits c.requires c.as_bytes.ensures.value c.zeros_ahead.ensures.within
+    c.zeros_ahead.ensures.others c.zeros_ahead.ensures.zeros c.split_at.ensures.back in
     let u : IsUtf8 rest = search rules in
-    let p = rw (c.in-Err.is) at (parsed_digits rest u s.each _ c.parse.result c.parse.ensures.value.0) in
+    let p = rw (c.in-Err.is) at (parsed_digits rest u s.each _ _ c.parse.ensures.value.0) in
     λ h. p (s.some h.0, subst (λ (x : ℕ). x < 2 ^ 32) (sym s.same) h.1)

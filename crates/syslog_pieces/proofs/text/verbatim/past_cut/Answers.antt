@@ -5,8 +5,7 @@ use Rattle.syslog_pieces.proofs.TextLemmas.Copied.{behind_gap}
 
 pub returns-in-Some : goal.returns-in-Some
 returns-in-Some c = rw c.in-Some.is (λ copied h.
-    behind_gap (chars c.args.text.now) (chars c.args.rest.now) copied
-    (chars c.before-in-Some.result.now) c.in-Some.cut c.before-in-Some.ensures h)
+    behind_gap _ _ copied _ c.in-Some.cut c.before-in-Some.ensures h)
 
 pub returns-in-None : goal.returns-in-None
 unfolding chars

@@ -12,8 +12,7 @@ pub returns-then-is_byte : goal.returns-then-is_byte
 returns-then-is_byte c =
     let e : chars c.split_run.result.0.now ≡ 32 ∷ [] =
     text_is c.split_run.result.0.now (32 ∷ []) (one_ascii 32 (omega arith)) c.if-is_byte.ensures in
-    verbatim_on (some_run is_blank) (λ _. 32 ∷ []) (chars c.args.text.now) (chars c.split_run.result.1.now) c.args.cut
-    (record {
+    verbatim_on (some_run is_blank) (λ _. 32 ∷ []) _ _ c.args.cut (record {
       value = tt;
       whole = c.split_run.ensures.characters ∙ ap (λ (x : List ℕ). x ++ chars c.split_run.result.1.now) e;
       is = (omega arith, (refl, tt), c.split_run.ensures.ends);
@@ -24,6 +23,4 @@ returns c =
     let none : is_some c.args.cut ≡ false = search rules in
     let t = chars c.args.text.now in
     let s = c.split_run.ensures in
-    wide_gap t (chars c.split_run.result.1.now)
-    (chars c.split_run.result.0.now) c.args.cut _ none s.characters s.each s.ends
-    (begins 32 t (chars c.in_ok-gap.gap.now) c.in_ok-gap.ensures) refl
+    wide_gap t _ _ c.args.cut _ none s.characters s.each s.ends (begins 32 t _ c.in_ok-gap.ensures) refl

@@ -8,8 +8,6 @@ number_of_digits-requires c = c.split_run.ensures.each
 
 pub returns-else-value-limit : goal.returns-else-value-limit
 returns-else-value-limit c =
-    digits_verbatim c.args.limit c.args.text.now c.split_run.result.0.now c.split_run.result.1.now c.split_run.ensures
-    c.in_ok-value.value
-    (number_read c.args.text.now c.split_run.result.0.now c.split_run.result.1.now c.split_run.ensures
-    c.in_ok-value.value c.args.limit c.in_ok-value.ensures (omega arith))
+    digits_verbatim _ _ _ _ c.split_run.ensures c.in_ok-value.value
+    (number_read _ _ _ c.split_run.ensures c.in_ok-value.value c.args.limit c.in_ok-value.ensures (omega arith))
     (omega arith) c.if-has_zero_ahead.ensures

@@ -13,23 +13,19 @@ returns-in_err-day c = let n : NoFront month_date (chars c.args.text.now) = no_d
 pub returns-in-Some : goal.returns-in-Some
 returns-in-Some c =
     subst (λ (x : MonthDate). Front month_date (chars c.args.text.now) (chars c.in-Some.after.now) x)
-    (sym c.date_of.ensures)
-    (month_date_yearless c.in_ok-day.day c.in_ok-day.ensures c.in-Some.clock c.in-Some.ensures.0 c.in-Some.ensures.1)
+    (sym c.date_of.ensures) (month_date_yearless _ c.in_ok-day.ensures _ c.in-Some.ensures.0 c.in-Some.ensures.1)
 
 pub returns-in_err-year : goal.returns-in_err-year
 returns-in_err-year c =
-    let n : NoFront month_date (chars c.args.text.now) =
-    no_year c.in_ok-day.day c.in_ok-day.ensures c.in-None.ensures c.in_err-year.ensures in search rules
+    let n = no_year c.in_ok-day.day c.in_ok-day.ensures c.in-None.ensures c.in_err-year.ensures in search rules
 
 pub returns-in_err-clock : goal.returns-in_err-clock
 returns-in_err-clock c =
-    let n : NoFront month_date (chars c.args.text.now) =
-    no_clock c.in_ok-day.day c.in_ok-day.ensures c.in-None.ensures c.in_ok-year.year c.in_ok-year.ensures
+    let n = no_clock c.in_ok-day.day c.in_ok-day.ensures c.in-None.ensures c.in_ok-year.year c.in_ok-year.ensures
     c.in_err-clock.ensures in search rules
 
 pub returns : goal.returns
 returns c =
     subst (λ (x : MonthDate). Front month_date (chars c.args.text.now) (chars c.in_ok-clock.rest.now) x)
-    (sym c.date_of-2.ensures)
-    (month_date_dated c.in_ok-day.day c.in_ok-day.ensures c.in_ok-year.year c.in_ok-clock.clock c.in_ok-clock.ensures.0
-    c.in_ok-year.ensures c.in_ok-clock.ensures.1)
+    (sym c.date_of-2.ensures) (month_date_dated _ c.in_ok-day.ensures _ _ c.in_ok-clock.ensures.0 c.in_ok-year.ensures
+    c.in_ok-clock.ensures.1)

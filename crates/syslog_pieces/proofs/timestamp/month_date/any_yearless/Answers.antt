@@ -12,12 +12,9 @@ returns-in_err-day c =
 
 pub returns-in_err-clock : goal.returns-in_err-clock
 returns-in_err-clock c =
-    let n : NoFront yearless_date (chars c.args.text.now) =
-    yearless_none_later c.in_ok-day.day c.in_ok-day.ensures c.in_err-clock.ensures in search rules
+    let n = yearless_none_later c.in_ok-day.day c.in_ok-day.ensures c.in_err-clock.ensures in search rules
 
 pub returns : goal.returns
 returns c =
     subst (λ (x : MonthDate). Front yearless_date (chars c.args.text.now) (chars c.in_ok-clock.rest.now) x)
-    (sym c.date_of.ensures)
-    (yearless_front c.in_ok-day.day c.in_ok-day.ensures c.in_ok-clock.clock c.in_ok-clock.ensures.0
-    c.in_ok-clock.ensures.1)
+    (sym c.date_of.ensures) (yearless_front _ c.in_ok-day.ensures _ c.in_ok-clock.ensures.0 c.in_ok-clock.ensures.1)

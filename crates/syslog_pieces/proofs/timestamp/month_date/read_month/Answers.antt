@@ -10,8 +10,7 @@ returns-in_err-a c = let n : NoFront month (chars c.args.text.now) = no_first _ 
 
 pub returns-in_err-b : goal.returns-in_err-b
 returns-in_err-b c =
-    let n : NoFront month (chars c.args.text.now) = no_second _ _ c.in_ok-a.a c.in_ok-a.ensures.0 c.in_err-b.ensures in
-    search rules
+    let n = no_second _ _ c.in_ok-a.a c.in_ok-a.ensures.0 c.in_err-b.ensures in search rules
 
 pub returns-in_err-c : goal.returns-in_err-c
 returns-in_err-c c =
@@ -20,11 +19,9 @@ returns-in_err-c c =
 
 pub returns-in_err-number : goal.returns-in_err-number
 returns-in_err-number c =
-    let n : NoFront month (chars c.args.text.now) =
-    no_month_read _ _ _ _ c.in_ok-a.a c.in_ok-b.b c.in_ok-c.c c.in_ok-a.ensures.0 c.in_ok-b.ensures.0
-    c.in_ok-c.ensures.0
-    _ _ _ c.to_ascii_lowercase.ensures.value c.to_ascii_lowercase-2.ensures.value c.to_ascii_lowercase-3.ensures.value
-    _ c.small_month.ensures c.in_err-number.was in search rules
+    let n = no_month_read _ _ _ _ c.in_ok-a.a c.in_ok-b.b c.in_ok-c.c c.in_ok-a.ensures.0 c.in_ok-b.ensures.0
+    c.in_ok-c.ensures.0 _ _ _ c.to_ascii_lowercase.ensures.value c.to_ascii_lowercase-2.ensures.value
+    c.to_ascii_lowercase-3.ensures.value _ c.small_month.ensures c.in_err-number.was in search rules
 
 pub returns : goal.returns
 returns c =

@@ -8,13 +8,11 @@ use Rattle.syslog_pieces.proofs.timestamp.month_date.read_year.Goals as goal
 
 pub returns-in_err-year : goal.returns-in_err-year
 returns-in_err-year c =
-    let n : NoFront (Row year_row) (chars c.args.text.now) =
-    no_row year_row year_det (inl c.in_err-year.ensures) in search rules
+    let n = no_row year_row year_det (inl c.in_err-year.ensures) in search rules
 
 pub returns-in_err-rest : goal.returns-in_err-rest
 returns-in_err-rest c =
-    let n : NoFront (Row year_row) (chars c.args.text.now) =
-    no_row year_row year_det (c.in_ok-year.ensures past inl c.in_err-rest.ensures) in search rules
+    let n = no_row year_row year_det (c.in_ok-year.ensures past inl c.in_err-rest.ensures) in search rules
 
 pub returns : goal.returns
 returns c = row_of year_row (c.in_ok-year.ensures then c.in_ok-rest.ensures then refl)

@@ -19,6 +19,5 @@ returns-in_err-date c =
 
 pub returns : goal.returns
 returns c =
-    shown_some _ c.in_ok-date.date _
-    (row_of (showing_row yearless_date)
-    (c.optional_priority.ensures then c.blanks-rest.ensures then c.in_ok-date.ensures then rest_front _ then refl))
+    shown_some _ _ _ (row_of (showing_row yearless_date) (c.optional_priority.ensures then c.blanks-rest.ensures then
+    c.in_ok-date.ensures then rest_front _ then refl))

@@ -11,13 +11,11 @@ returns-in-Some c = header_front (dating_value c.args.dating.now) c.in-Some.ensu
 
 pub returns-in_err-date : goal.returns-in_err-date
 returns-in_err-date c =
-    let n : NoFront (rfc3164_stamp (dating_value c.args.dating.now)) (chars c.args.text.now) =
-    no_date (dating_value c.args.dating.now) c.in-None.ensures c.in_err-date.ensures in search rules
+    let n = no_date (dating_value c.args.dating.now) c.in-None.ensures c.in_err-date.ensures in search rules
 
 pub returns-in_err-stamp : goal.returns-in_err-stamp
 returns-in_err-stamp c =
-    let n : NoFront (rfc3164_stamp (dating_value c.args.dating.now)) (chars c.args.text.now) =
-    no_stamp_of_date (dating_value c.args.dating.now) c.in-None.ensures c.in_ok-date.date c.in_ok-date.ensures
+    let n = no_stamp_of_date (dating_value c.args.dating.now) c.in-None.ensures c.in_ok-date.date c.in_ok-date.ensures
     c.in_err-stamp.ensures in search rules
 
 pub returns : goal.returns

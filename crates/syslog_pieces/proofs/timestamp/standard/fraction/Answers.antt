@@ -3,5 +3,4 @@ use Rattle.syslog_pieces.proofs.timestamp.standard.fraction.Goals as goal
 
 pub returns-in_ok-nanosecond-in-Some : goal.returns-in_ok-nanosecond-in-Some
 returns-in_ok-nanosecond-in-Some c =
-    fraction_bytes c.args.text.now c.in-Some.rest.now c.in_ok-nanosecond-in-Some.behind.now
-    c.in_ok-nanosecond-in-Some.nanosecond c.in-Some.ensures c.in_ok-nanosecond-in-Some.ensures
+    fraction_bytes _ _ _ c.in_ok-nanosecond-in-Some.nanosecond c.in-Some.ensures c.in_ok-nanosecond-in-Some.ensures

@@ -9,13 +9,9 @@ returns-in-Some c = utc_bytes c.args.text.now c.in-Some.rest.now c.in-Some.ensur
 pub returns-in-Some-past : goal.returns-in-Some-past
 returns-in-Some-past c =
     let fits : FitsSigned w32 c.ahead.result = search rules in
-    rw to_z-of_z (ahead_bytes c.args.text.now c.in-Some-past.rest.now c.in_ok-minutes.end.now c.in_ok-minutes.minutes
-    c.ahead.result
-    c.in-Some-past.ensures c.in_ok-minutes.ensures c.ahead.ensures)
+    rw to_z-of_z (ahead_bytes _ _ _ _ c.ahead.result c.in-Some-past.ensures c.in_ok-minutes.ensures c.ahead.ensures)
 
 pub returns : goal.returns
 returns c =
     let fits : FitsSigned w32 c.behind.result = search rules in
-    rw to_z-of_z (behind_bytes c.args.text.now c.in_ok-rest.rest.now c.in_ok-minutes-2.end.now c.in_ok-minutes-2.minutes
-    c.behind.result
-    c.in_ok-rest.ensures c.in_ok-minutes-2.ensures c.behind.ensures)
+    rw to_z-of_z (behind_bytes _ _ _ _ c.behind.result c.in_ok-rest.ensures c.in_ok-minutes-2.ensures c.behind.ensures)

@@ -7,13 +7,10 @@ returns-else-milli-eq0 c =
 
 pub returns-else-micro-eq0 : goal.returns-else-micro-eq0
 returns-else-micro-eq0 c =
-    six_verbatim _ _ c.in_ok-milli.milli c.in_ok-milli.ensures.small _ c.in_ok-milli.ensures.text c.in_ok-micro.micro
-    c.in_ok-micro.ensures.small
+    six_verbatim _ _ _ c.in_ok-milli.ensures.small _ c.in_ok-milli.ensures.text _ c.in_ok-micro.ensures.small
     c.if-micro-eq0.false c.in_ok-micro.ensures.text
 
 pub returns-else-nano-eq0 : goal.returns-else-nano-eq0
 returns-else-nano-eq0 c =
-    nine_verbatim _ _ c.in_ok-milli.milli c.in_ok-milli.ensures.small _ c.in_ok-milli.ensures.text c.in_ok-micro.micro
-    c.in_ok-micro.ensures.small
-    _ c.in_ok-nano.nano c.in_ok-nano.ensures.small c.if-nano-eq0.false c.in_ok-micro.ensures.text
-    c.in_ok-nano.ensures.text
+    nine_verbatim _ _ _ c.in_ok-milli.ensures.small _ c.in_ok-milli.ensures.text _ c.in_ok-micro.ensures.small _ _
+    c.in_ok-nano.ensures.small c.if-nano-eq0.false c.in_ok-micro.ensures.text c.in_ok-nano.ensures.text

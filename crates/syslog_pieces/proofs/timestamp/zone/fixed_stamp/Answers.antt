@@ -6,8 +6,5 @@ use Rattle.syslog_pieces.proofs.timestamp.zone.fixed_stamp.Goals as goal
 
 pub returns-in-Ok : goal.returns-in-Ok
 returns-in-Ok c =
-    fixed_answers (given_zone c.args.dating.now.tz) (plain_zone c.args.dating.now.local.now)
-    (plain_zone c.zone_of.result.now)
-    c.args.fields c.in-Ok.offset c.early_stamp.result c.zone_of.ensures
-    (c.in-Ok.ensures.succeeds.0 refl) c.in-Ok.ensures.value
-    c.early_stamp.ensures
+    fixed_answers (given_zone _) (plain_zone _) (plain_zone _) c.args.fields _ _ c.zone_of.ensures
+    (c.in-Ok.ensures.succeeds.0 refl) c.in-Ok.ensures.value c.early_stamp.ensures

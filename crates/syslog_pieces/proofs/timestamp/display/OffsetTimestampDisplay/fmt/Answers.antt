@@ -5,6 +5,5 @@ use Rattle.syslog_pieces.proofs.timestamp.display.OffsetTimestampDisplay.fmt.Goa
 
 pub returns-clause-writes : goal.returns-clause-writes
 returns-clause-writes g c canonical ok =
-    let same = printed_stamp-is c.to_datetime-dt.result c.args.self.now.instant.nanosecond
-    c.args.self.now.offset.seconds c.to_datetime-dt.ensures in
+    let same = printed_stamp-is _ _ c.args.self.now.offset.seconds c.to_datetime-dt.ensures in
     has_written_of_eq _ _ _ _ _ (sym same) (c.write_stamp.ensures canonical ok)

@@ -16,9 +16,7 @@ returns c =
     let m : IsMonthBytes b0 c.in_ok-month.month b1 =
     subst (λ (x : List ℕ). IsMonthBytes x c.in_ok-month.month b1) c.as_bytes.ensures.value c.in_ok-month.ensures in
     let cut : c.split_at.result.1.now ≡ b3 =
-    c.split_at.ensures.back ∙ standard_rest b0 b1 b2 b3 c.in_ok-month.month c.in_ok-day.day c.in_ok-clock.clock m
-    c.in_ok-day.ensures c.in_ok-clock.ensures in
+    c.split_at.ensures.back ∙ standard_rest b0 b1 b2 b3 _ _ _ m c.in_ok-day.ensures c.in_ok-clock.ensures in
     subst (λ (x : Text). Front yearless_date (chars b0) x c.date_of.result) (sym (ap chars cut))
     (subst (λ (x : MonthDate). Front yearless_date (chars b0) (chars b3) x) (sym c.date_of.ensures)
-    (standard_front b2 b3 c.in_ok-clock.clock c.in_ok-clock.ensures
-    (c.if-not-ends_clock.ensures refl) b0 b1 c.in_ok-month.month c.in_ok-day.day m c.in_ok-day.ensures))
+    (standard_front b2 b3 _ c.in_ok-clock.ensures (c.if-not-ends_clock.ensures refl) b0 b1 _ _ m c.in_ok-day.ensures))
