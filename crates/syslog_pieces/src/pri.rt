@@ -16,7 +16,6 @@ ghost use Rattle.syslog_pieces.specs.Pri as spec;
 ghost use Rattle.syslog_pieces.specs.Pieces.View.{shown, Reads};
 ghost use Rattle.syslog_pieces.specs.Timestamp.Printed.{pad3};
 
-
 use crate::text::verbatim::verbatim_number;
 use crate::text::write_ascii::{digit, write_bytes};
 use crate::text::{literal, number};

@@ -15,7 +15,6 @@ ghost use Rattle.syslog_pieces.specs.ProcId.Equal.{procid_eq};
 ghost use Rattle.syslog_pieces.specs.ProcId.EqualLaws.{procid_equivalence};
 ghost use Rattle.syslog_pieces.specs.Pieces.View.{shown, text_of, ClonesKeepText, Reads};
 
-
 use crate::as_str::{AsStr, is_same_text};
 use crate::text::canonical::is_canonical_word;
 use crate::text::verbatim::has_zero_ahead;
