@@ -9,6 +9,8 @@ mod pri;
 #[cfg(test)]
 mod procid;
 #[cfg(test)]
+mod rows;
+#[cfg(test)]
 mod structured_data;
 #[cfg(test)]
 mod text;

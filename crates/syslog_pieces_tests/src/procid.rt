@@ -1,6 +1,8 @@
 mod refusals;
 
-use std::alloc::{AllocError, Global};
+use super::rows::{answer_of, left_of, text_of};
+use std::alloc::Global;
+use std::process::Abort;
 use std::test::Fail;
 use syslog_pieces::as_str::AsStr;
 use syslog_pieces::procid::{ProcId, process_word};
@@ -20,31 +22,45 @@ fn name<'a>(procid: &ProcId<&'a str>) -> Option<&'a str> {
     }
 }
 
-fn printed<S: AsStr>(alloc: Global, procid: &ProcId<S>) -> Result<String, AllocError> {
-    format!(in alloc; "{procid}")
+// The cell of a process id is `pid` and a number, or `name` and a name.
+fn check_process(rt: &impl Abort, row: &str, procid: &ProcId<&str>) {
+    let (kind, want) = answer_of(row)
+        .unwrap_or("")
+        .split_once(' ')
+        .expect(rt, "no process id");
+    match procid {
+        ProcId::PID(number) => {
+            assert!(rt; kind == "pid", "{row:?}");
+            assert!(rt; want.parse() == Ok(*number), "{row:?}");
+        }
+        ProcId::Name(name) => {
+            assert!(rt; kind == "name", "{row:?}");
+            assert!(rt; want == *name, "{row:?}");
+        }
+    }
 }
 
 #[test]
 fn takes_a_text_of_thirty_two_bits_as_a_number(rt: HostRuntime) {
-    for (text, want) in [
-        ("0", 0),
-        ("323", 323),
-        ("+5", 5),
-        ("-5", -5),
-        ("007", 7),
-        ("-0", 0),
-        ("+0", 0),
-        ("-2147483648", i32::MIN),
-        ("2147483647", i32::MAX),
-        ("-00002147483648", i32::MIN),
+    for row in &[
+        "0¦pid 0",
+        "323¦pid 323",
+        "+5¦pid 5",
+        "-5¦pid -5",
+        "007¦pid 7",
+        "-0¦pid 0",
+        "+0¦pid 0",
+        "-2147483648¦pid -2147483648",
+        "2147483647¦pid 2147483647",
+        "-00002147483648¦pid -2147483648",
     ] {
-        assert_eq!(rt; number(&ProcId::from(text)), Some(want), "{text}");
+        check_process(&rt, row, &ProcId::from(text_of(row)));
     }
 }
 
 #[test]
 fn takes_any_other_text_as_a_name(rt: HostRuntime) {
-    for text in [
+    for text in &[
         "",
         "-",
         "+",
@@ -63,75 +79,71 @@ fn takes_any_other_text_as_a_name(rt: HostRuntime) {
         "\u{2212}1",
         "x:y",
     ] {
-        assert_eq!(rt; name(&ProcId::from(text)), Some(text), "{text}");
+        assert!(rt; name(&ProcId::from(*text)) == Some(*text), "{text:?}");
     }
 }
 
+fn check_printed<S: AsStr>(rt: &impl Abort, alloc: Global, procid: &ProcId<S>, want: &str) {
+    let printed = format!(in alloc; "{procid}").expect(rt, "no memory");
+    assert!(rt; printed.as_str() == want, "{printed}");
+}
+
 #[test]
-fn prints_the_number_or_the_name(rt: HostRuntime) -> Result<(), Fail> {
-    let alloc = rt.alloc();
-    for (text, want) in [
-        ("+5", "5"),
-        ("-0", "0"),
-        ("-007", "-7"),
-        ("2147483648", "2147483648"),
-    ] {
-        assert_eq!(rt; printed(alloc, &ProcId::from(text))?.as_str(), want);
-    }
-    for text in ["", "x:y", "\u{663}", "größe"] {
-        let borrowed = ProcId::Name(text);
-        assert_eq!(rt; printed(alloc, &borrowed)?.as_str(), text);
-        let owned = ProcId::Name(String::from_str(alloc, text)?);
-        assert_eq!(rt; number(&owned), None);
-        assert_eq!(rt; printed(alloc, &owned)?.as_str(), text);
+fn prints_the_number(rt: HostRuntime) {
+    for row in &["+5¦5", "-0¦0", "-007¦-7", "2147483648¦2147483648"] {
+        let want = answer_of(row).unwrap_or("");
+        check_printed(&rt, rt.alloc(), &ProcId::from(text_of(row)), want);
     }
     let least: ProcId<String> = ProcId::PID(i32::MIN);
-    assert_eq!(rt; number(&least), Some(i32::MIN));
-    assert_eq!(rt; printed(alloc, &least)?.as_str(), "-2147483648");
-    Ok(())
+    assert!(rt; number(&least) == Some(i32::MIN));
+    check_printed(&rt, rt.alloc(), &least, "-2147483648");
+}
+
+fn check_name(rt: &impl Abort, alloc: Global, text: &str) {
+    check_printed(rt, alloc, &ProcId::Name(text), text);
+    let owned = ProcId::Name(String::from_str(alloc, text).expect(rt, "no memory"));
+    assert!(rt; number(&owned).is_none());
+    check_printed(rt, alloc, &owned, text);
+}
+
+#[test]
+fn prints_the_name(rt: HostRuntime) {
+    for text in &["", "x:y", "\u{663}", "größe"] {
+        check_name(&rt, rt.alloc(), text);
+    }
+}
+
+fn check_process_word(rt: &impl Abort, row: &str) {
+    match process_word(text_of(row)) {
+        Some((procid, rest)) => {
+            match procid {
+                Some(procid) => check_process(rt, row, &procid),
+                None => assert!(rt; answer_of(row) == Some(""), "{row:?}"),
+            }
+            assert!(rt; rest == left_of(row), "{row:?}");
+        }
+        None => assert!(rt; answer_of(row) == None, "{row:?}"),
+    }
 }
 
 #[test]
 fn reads_a_process_word(rt: HostRuntime) {
-    for (text, want, left) in [
-        ("8449\t-", 8449, "\t-"),
-        ("+5 ID47", 5, " ID47"),
-        ("0", 0, ""),
+    for row in &[
+        "8449\t-¦pid 8449¦\t-",
+        "+5 ID47¦pid 5¦ ID47",
+        "0¦pid 0¦",
+        "-- x¦name --¦ x",
+        "a:¦name a:¦",
+        "5:\u{85}¦name 5:¦\u{85}",
     ] {
-        match process_word(text) {
-            Some((Some(procid), rest)) => {
-                assert_eq!(rt; number(&procid), Some(want));
-                assert_eq!(rt; rest, left);
-            }
-            _ => assert!(rt; false, "no process id in {text}"),
-        }
-    }
-    for (text, want, left) in [
-        ("-- x", "--", " x"),
-        ("a:", "a:", ""),
-        ("5:\u{85}", "5:", "\u{85}"),
-    ] {
-        match process_word(text) {
-            Some((Some(procid), rest)) => {
-                assert_eq!(rt; name(&procid), Some(want));
-                assert_eq!(rt; rest, left);
-            }
-            _ => assert!(rt; false, "no process id in {text}"),
-        }
+        check_process_word(&rt, row);
     }
 }
 
 #[test]
 fn takes_one_dash_for_an_absent_process(rt: HostRuntime) {
-    match process_word("- ID47") {
-        Some((procid, rest)) => {
-            assert!(rt; procid.is_none());
-            assert_eq!(rt; rest, " ID47");
-        }
-        None => assert!(rt; false, "no word"),
-    }
-    for text in ["", " 1", ":", ": x"] {
-        assert!(rt; process_word(text).is_none(), "{text}");
+    for row in &["- ID47¦¦ ID47", "", " 1", ":", ": x"] {
+        check_process_word(&rt, row);
     }
 }
 
@@ -146,21 +158,23 @@ fn a_number_is_equal_to_no_name(rt: HostRuntime) {
     assert!(rt; ProcId::Name("größe") != ProcId::Name("große"));
 }
 
+fn check_copies(rt: &impl Abort, alloc: Global, text: &str) -> Result<(), Fail> {
+    let procid = ProcId::from(text);
+    let copy = procid.try_clone(alloc)?;
+    assert!(rt; copy == procid, "{text}");
+    let owned = procid.to_owned_text(alloc)?;
+    assert!(rt; number(&owned) == number(&procid), "{text}");
+    check_printed(rt, alloc, &procid, text);
+    check_printed(rt, alloc, &owned, text);
+    let again = owned.try_clone(alloc)?;
+    assert!(rt; again == owned, "{text}");
+    Ok(())
+}
+
 #[test]
 fn copies_a_number_and_a_name(rt: HostRuntime) -> Result<(), Fail> {
-    let alloc = rt.alloc();
-    for text in ["323", "-2147483648", "x:y", "", "größe"] {
-        let procid = ProcId::from(text);
-        let copy = procid.try_clone(alloc)?;
-        assert!(rt; copy == procid, "{text}");
-        let owned = procid.to_owned_text(alloc)?;
-        assert_eq!(rt; number(&owned), number(&procid));
-        assert_eq!(rt;
-            printed(alloc, &owned)?.as_str(),
-            printed(alloc, &procid)?.as_str()
-        );
-        let again = owned.try_clone(alloc)?;
-        assert!(rt; again == owned, "{text}");
+    for text in &["323", "-2147483648", "x:y", "", "größe"] {
+        check_copies(&rt, rt.alloc(), text)?;
     }
     Ok(())
 }

@@ -1,3 +1,4 @@
+use super::rows::{answer_of, check_word, left_of, text_of};
 use std::alloc::{AllocError, Global};
 use std::process::Abort;
 use std::test::Fail;
@@ -9,45 +10,37 @@ use syslog_pieces::text::{
 /// The longest text that is cut.
 const LONGEST: usize = 70;
 
-/// A class with a character of it and characters that stop its runs.
-type Cutting = (CharClass, char, &'static [char]);
+/// A class, and a text of a character of it and then of those that stop its runs.
+type Cutting = (CharClass, &'static str);
 
 /// Each class with ASCII characters that stop it.
 const ASCII_STOPS: [Cutting; 11] = [
-    (CharClass::Digit, '7', &['x', '/', ':']),
-    (CharClass::Blank, ' ', &['x', '\n', '\u{b}']),
-    (CharClass::Visible, 'v', &[' ', '\t', '\u{b}', '\r']),
-    (CharClass::Id, 'i', &[' ', '\u{c}', ']', '=']),
-    (CharClass::Name, ' ', &[']', '=']),
-    (CharClass::Unescaped, ']', &['\\', '"']),
-    (CharClass::Open, '[', &[']']),
-    (CharClass::Inert, '=', &['\\', '"', ']']),
-    (CharClass::Bare, '"', &['\\']),
-    (CharClass::Tag, '[', &[' ', '\t', '\u{c}', ':']),
-    (CharClass::Label, ']', &[' ', '\r', ':', '[']),
+    (CharClass::Digit, "7x/:"),
+    (CharClass::Blank, " x\n\u{b}"),
+    (CharClass::Visible, "v \t\u{b}\r"),
+    (CharClass::Id, "i \u{c}]="),
+    (CharClass::Name, " ]="),
+    (CharClass::Unescaped, "]\\\""),
+    (CharClass::Open, "[]"),
+    (CharClass::Inert, "=\\\"]"),
+    (CharClass::Bare, "\"\\"),
+    (CharClass::Tag, "[ \t\u{c}:"),
+    (CharClass::Label, "] \r:["),
 ];
 
 /// The same with fillers or stops past ASCII.
 const WIDE_STOPS: [Cutting; 11] = [
-    (CharClass::Digit, '0', &['\u{663}', '\u{3000}']),
-    (CharClass::Blank, '\t', &['\u{85}', '\u{2003}', '\u{3000}']),
-    (CharClass::Visible, 'v', &['\u{85}', '\u{2003}', '\u{3000}']),
-    (
-        CharClass::Visible,
-        'ü',
-        &['\u{85}', '\u{2003}', '\u{3000}', ' '],
-    ),
-    (CharClass::Id, '"', &['\u{85}', '\u{2003}', '\u{3000}']),
-    (CharClass::Name, '\u{2003}', &[']', '=']),
-    (CharClass::Unescaped, '局', &['\\', '"']),
-    (CharClass::Open, '\u{85}', &[']']),
-    (CharClass::Inert, 'ß', &['\\', '"', ']']),
-    (
-        CharClass::Tag,
-        'ß',
-        &['\u{85}', '\u{2003}', '\u{3000}', ':'],
-    ),
-    (CharClass::Label, '"', &['\u{85}', '\u{a0}', '\u{3000}']),
+    (CharClass::Digit, "0\u{663}\u{3000}"),
+    (CharClass::Blank, "\t\u{85}\u{2003}\u{3000}"),
+    (CharClass::Visible, "v\u{85}\u{2003}\u{3000}"),
+    (CharClass::Visible, "ü\u{85}\u{2003}\u{3000} "),
+    (CharClass::Id, "\"\u{85}\u{2003}\u{3000}"),
+    (CharClass::Name, "\u{2003}]="),
+    (CharClass::Unescaped, "局\\\""),
+    (CharClass::Open, "\u{85}]"),
+    (CharClass::Inert, "ß\\\"]"),
+    (CharClass::Tag, "ß\u{85}\u{2003}\u{3000}:"),
+    (CharClass::Label, "\"\u{85}\u{a0}\u{3000}"),
 ];
 
 // The filler up to the longest length on both sides of the stop.
@@ -63,180 +56,211 @@ fn around(alloc: Global, filler: char, stop: char) -> Result<String, AllocError>
     Ok(text)
 }
 
+fn part<'a>(rt: &impl Abort, text: &'a str, start: usize, end: usize) -> &'a str {
+    text.get(start..end).expect(rt, "no such part")
+}
+
 // Cuts each text of up to the longest length with the stop at each of its places, and each that has none.
-fn check_each_place(
-    rt: &impl Abort,
-    alloc: Global,
-    class: CharClass,
-    filler: char,
-    stop: char,
-) -> Result<(), Fail> {
-    let text = around(alloc, filler, stop)?;
+fn check_each_place(rt: &impl Abort, class: CharClass, text: &str, filler: char, stop: char) {
     let width = filler.len_utf8();
     let middle = LONGEST * width;
     for before in 0..=LONGEST {
         let start = middle - before * width;
-        let run = text.get(start..middle).ok_or("no run")?;
-        assert_eq!(rt; split_run(run, class), (run, ""), "{filler:?}");
+        let run = part(rt, text, start, middle);
+        assert!(rt; split_run(run, class) == (run, ""), "{run:?}");
         for after in 0..LONGEST - before {
             let end = middle + stop.len_utf8() + after * width;
-            let whole = text.get(start..end).ok_or("no text")?;
-            let rest = text.get(middle..end).ok_or("no rest")?;
-            assert_eq!(rt; split_run(whole, class), (run, rest), "{filler:?} {stop:?}");
-            assert_eq!(rt; run_end(whole, class), run.len(), "{filler:?} {stop:?}");
+            let whole = part(rt, text, start, end);
+            let rest = part(rt, text, middle, end);
+            assert!(rt; split_run(whole, class) == (run, rest), "{whole:?}");
+            assert!(rt; run_end(whole, class) == run.len(), "{whole:?}");
         }
     }
-    Ok(())
 }
 
-fn check_classes(rt: &impl Abort, alloc: Global, rows: &[Cutting]) -> Result<(), Fail> {
-    for (class, filler, stops) in rows {
-        assert!(rt; class.has(*filler), "{filler:?}");
-        for stop in *stops {
-            assert!(rt; !class.has(*stop), "{stop:?}");
-            check_each_place(rt, alloc, *class, *filler, *stop)?;
-        }
+// The filler is the first character of the text, and the others stop its runs.
+fn check_class(rt: &impl Abort, alloc: Global, class: CharClass, characters: &str) {
+    let (filler, stops) = first(characters).expect(rt, "no filler");
+    assert!(rt; class.has(filler), "{filler:?}");
+    for stop in stops.chars() {
+        assert!(rt; !class.has(stop), "{stop:?}");
+        let text = around(alloc, filler, stop).expect(rt, "no memory");
+        check_each_place(rt, class, text.as_str(), filler, stop);
     }
-    Ok(())
 }
 
 #[test]
-fn cuts_at_an_ascii_character_at_each_place(rt: HostRuntime) -> Result<(), Fail> {
-    check_classes(&rt, rt.alloc(), &ASCII_STOPS)
+fn cuts_at_an_ascii_character_at_each_place(rt: HostRuntime) {
+    for (class, characters) in &ASCII_STOPS {
+        check_class(&rt, rt.alloc(), *class, characters);
+    }
 }
 
 #[test]
-fn cuts_past_ascii_at_each_place(rt: HostRuntime) -> Result<(), Fail> {
-    check_classes(&rt, rt.alloc(), &WIDE_STOPS)
+fn cuts_past_ascii_at_each_place(rt: HostRuntime) {
+    for (class, characters) in &WIDE_STOPS {
+        check_class(&rt, rt.alloc(), *class, characters);
+    }
 }
 
 #[test]
 fn reads_a_host(rt: HostRuntime) {
-    for (text, name, left) in [
-        ("zork ", "zork", " "),
-        ("zork: ", "zork", ": "),
-        ("192.168.0.1 ", "192.168.0.1", " "),
-        ("::13.1.68.3 ", "::13.1.68.3", " "),
-        (
-            "2001:0db8:85a3:0000:0000:8a2e:0370:7334 ",
-            "2001:0db8:85a3:0000:0000:8a2e:0370:7334",
-            " ",
-        ),
-        ("-:", "-", ":"),
-        ("zork::", "zork:", ":"),
-        ("::", ":", ":"),
-        ("--\n", "--", "\n"),
-        ("größe\u{a0}x", "größe", "\u{a0}x"),
-        (
-            "a\u{1c}b\u{1d}c\u{1e}d\u{1f} x",
-            "a\u{1c}b\u{1d}c\u{1e}d\u{1f}",
-            " x",
-        ),
+    for row in &[
+        "zork ¦zork¦ ",
+        "zork: ¦zork¦: ",
+        "192.168.0.1 ¦192.168.0.1¦ ",
+        "::13.1.68.3 ¦::13.1.68.3¦ ",
+        "2001:0db8:85a3:0000:0000:8a2e:0370:7334 ¦2001:0db8:85a3:0000:0000:8a2e:0370:7334¦ ",
+        "-:¦-¦:",
+        "zork::¦zork:¦:",
+        "::¦:¦:",
+        "--\n¦--¦\n",
+        "größe\u{a0}x¦größe¦\u{a0}x",
+        "a\u{1c}b\u{1d}c\u{1e}d\u{1f} x¦a\u{1c}b\u{1d}c\u{1e}d\u{1f}¦ x",
+        "- x¦¦ x",
+        "",
+        " zork",
+        ":",
+        ": zork",
+        "\u{b}zork",
+        "\u{3000}zork",
     ] {
-        assert_eq!(rt; host(text), Some((Some(name), left)), "{text}");
-    }
-    assert_eq!(rt; host("- x"), Some((None, " x")));
-    for text in ["", " zork", ":", ": zork", "\u{b}zork", "\u{3000}zork"] {
-        assert_eq!(rt; host(text), None, "{text}");
+        check_word(&rt, row, host(text_of(row)));
     }
 }
 
 #[test]
 fn reads_a_word(rt: HostRuntime) {
-    for (text, name, left) in [
-        ("OX-XXX-CONTEUDO:rpd", "OX-XXX-CONTEUDO:rpd", ""),
-        ("!!!", "!!!", ""),
-        ("zork: ", "zork:", " "),
-        (":: x", "::", " x"),
-        ("-- x", "--", " x"),
-        ("-:", "-:", ""),
-        ("ID47\u{85}", "ID47", "\u{85}"),
+    for row in &[
+        "OX-XXX-CONTEUDO:rpd¦OX-XXX-CONTEUDO:rpd¦",
+        "!!!¦!!!¦",
+        "zork: ¦zork:¦ ",
+        ":: x¦::¦ x",
+        "-- x¦--¦ x",
+        "-:¦-:¦",
+        "ID47\u{85}¦ID47¦\u{85}",
+        "-\t¦¦\t",
+        "",
+        " x",
+        ":",
+        ":\tx",
+        "\u{2003}x",
     ] {
-        assert_eq!(rt; word(text), Some((Some(name), left)), "{text}");
-    }
-    assert_eq!(rt; word("-\t"), Some((None, "\t")));
-    for text in ["", " x", ":", ":\tx", "\u{2003}x"] {
-        assert_eq!(rt; word(text), None, "{text}");
+        check_word(&rt, row, word(text_of(row)));
     }
 }
 
 #[test]
 fn reads_a_tag_word(rt: HostRuntime) {
-    for (text, name, left) in [
-        ("su: 'su root'", "su", ": 'su root'"),
-        ("app[323]: a message", "app[323]", ": a message"),
-        ("[323]: hi", "[323]", ": hi"),
-        ("app[x:y]: hi", "app[x", ":y]: hi"),
-        ("%ASA-6-302013: Built", "%ASA-6-302013", ": Built"),
-        ("zork:: hi", "zork", ":: hi"),
-        ("-- x", "--", " x"),
-        ("cron", "cron", ""),
-        ("außerplanmäßig\u{a0}x", "außerplanmäßig", "\u{a0}x"),
+    for row in &[
+        "su: 'su root'¦su¦: 'su root'",
+        "app[323]: a message¦app[323]¦: a message",
+        "[323]: hi¦[323]¦: hi",
+        "app[x:y]: hi¦app[x¦:y]: hi",
+        "%ASA-6-302013: Built¦%ASA-6-302013¦: Built",
+        "zork:: hi¦zork¦:: hi",
+        "-- x¦--¦ x",
+        "cron¦cron¦",
+        "außerplanmäßig\u{a0}x¦außerplanmäßig¦\u{a0}x",
+        "-: hi¦¦: hi",
+        "-¦¦",
+        "",
+        ":",
+        ": a message",
+        " su:",
+        "\tsu",
+        "\u{3000}su",
     ] {
-        assert_eq!(rt; tag_word(text), Some((Some(name), left)), "{text}");
+        check_word(&rt, row, tag_word(text_of(row)));
     }
-    assert_eq!(rt; tag_word("-: hi"), Some((None, ": hi")));
-    assert_eq!(rt; tag_word("-"), Some((None, "")));
-    for text in ["", ":", ": a message", " su:", "\tsu", "\u{3000}su"] {
-        assert_eq!(rt; tag_word(text), None, "{text}");
+}
+
+// The text of a row without a field stays whole.
+fn check_field(rt: &impl Abort, row: &str, read: (Option<Option<&str>>, &str)) {
+    match read {
+        (Some(field), left) => check_word(rt, row, Some((field, left))),
+        (None, left) => assert!(rt; left == row, "{row:?}"),
     }
 }
 
 #[test]
-fn reads_the_fields_behind_a_space(rt: HostRuntime) {
-    for (text, field, left) in [
-        (" mymachine app[323]: x", Some("mymachine"), " app[323]: x"),
-        (" mymachine: a message", Some("mymachine"), ": a message"),
-        (" zork:: hi", Some("zork:"), ": hi"),
-        (" -: hi", Some("-"), ": hi"),
-        (" - app: hi", None, " app: hi"),
-        (" fe80::1%eth0 x", Some("fe80::1%eth0"), " x"),
+fn reads_the_host_behind_a_space(rt: HostRuntime) {
+    for row in &[
+        " mymachine app[323]: x¦mymachine¦ app[323]: x",
+        " mymachine: a message¦mymachine¦: a message",
+        " zork:: hi¦zork:¦: hi",
+        " -: hi¦-¦: hi",
+        " - app: hi¦¦ app: hi",
+        " fe80::1%eth0 x¦fe80::1%eth0¦ x",
+        "",
+        "mymachine",
+        "  opsaudit",
+        "\tmymachine",
+        " ",
+        " : x",
     ] {
-        assert_eq!(rt; host_field(text), (Some(field), left), "{text}");
-    }
-    for text in ["", "mymachine", "  opsaudit", "\tmymachine", " ", " : x"] {
-        assert_eq!(rt; host_field(text), (None, text), "{text}");
-    }
-    for (text, field, left) in [
-        (" app[323] :", Some("app[323]"), " :"),
-        (" su: x", Some("su"), ": x"),
-        (" -: hi", None, ": hi"),
-        (" -", None, ""),
-    ] {
-        assert_eq!(rt; tag_field(text), (Some(field), left), "{text}");
-    }
-    for text in ["", " :", ": hi", "  x", "\tsu", " \u{a0}su"] {
-        assert_eq!(rt; tag_field(text), (None, text), "{text}");
+        check_field(&rt, row, host_field(text_of(row)));
     }
 }
 
+#[test]
+fn reads_the_tag_behind_a_space(rt: HostRuntime) {
+    for row in &[
+        " app[323] :¦app[323]¦ :",
+        " su: x¦su¦: x",
+        " -: hi¦¦: hi",
+        " -¦¦",
+        "",
+        " :",
+        ": hi",
+        "  x",
+        "\tsu",
+        " \u{a0}su",
+    ] {
+        check_field(&rt, row, tag_field(text_of(row)));
+    }
+}
+
+fn parsed(rt: &impl Abort, digits: &str) -> u32 {
+    digits.parse().expect(rt, "no number")
+}
+
+fn check_number(rt: &impl Abort, row: &str, limit: u32) {
+    match number(text_of(row), limit) {
+        Some((value, rest)) => {
+            let want = answer_of(row).expect(rt, "a number");
+            assert!(rt; value == parsed(rt, want), "{row:?}");
+            assert!(rt; rest == left_of(row), "{row:?}");
+        }
+        None => assert!(rt; answer_of(row).is_none(), "{row:?}"),
+    }
+}
+
+// Each row stands behind its limit.
 #[test]
 fn reads_a_number_up_to_its_limit(rt: HostRuntime) {
-    for (text, limit, value, left) in [
-        ("0", 0, 0, ""),
-        ("34>", 255, 34, ">"),
-        ("255", 255, 255, ""),
-        ("00255 ", 255, 255, " "),
-        ("007", 7, 7, ""),
-        ("999 ", 999, 999, " "),
-        ("1000", 1000, 1000, ""),
-        ("4294967295 -", u32::MAX, u32::MAX, " -"),
-        ("1\u{663}", 9, 1, "\u{663}"),
+    for row in &[
+        "0 0¦0¦",
+        "255 34>¦34¦>",
+        "255 255¦255¦",
+        "255 00255 ¦255¦ ",
+        "7 007¦7¦",
+        "999 999 ¦999¦ ",
+        "1000 1000¦1000¦",
+        "4294967295 4294967295 -¦4294967295¦ -",
+        "9 1\u{663}¦1¦\u{663}",
+        "255 ",
+        "255 256",
+        "0 1",
+        "4294967295 4294967296",
+        "4294967295 99999999999999999999",
+        "9 +1",
+        "9 -1",
+        "9  1",
+        "9 \u{663}",
     ] {
-        assert_eq!(rt; number(text, limit), Some((value, left)), "{text}");
-    }
-    for (text, limit) in [
-        ("", 255),
-        ("256", 255),
-        ("1", 0),
-        ("4294967296", u32::MAX),
-        ("99999999999999999999", u32::MAX),
-        ("+1", 9),
-        ("-1", 9),
-        (" 1", 9),
-        ("\u{663}", 9),
-    ] {
-        assert_eq!(rt; number(text, limit), None, "{text}");
+        let (limit, row) = row.split_once(' ').expect(&rt, "no limit");
+        check_number(&rt, row, parsed(&rt, limit));
     }
 }
 
@@ -244,49 +268,58 @@ fn reads_a_number_up_to_its_limit(rt: HostRuntime) {
 fn passes_over_a_thousand_leading_zeros(rt: HostRuntime) -> Result<(), Fail> {
     let mut text = "0".repeat(rt.alloc(), 1000)?;
     text.push_str("34>")?;
-    assert_eq!(rt; number(text.as_str(), 255), Some((34, ">")));
+    assert!(rt; number(text.as_str(), 255) == Some((34, ">")));
     text.push_str("x")?;
-    assert_eq!(rt; number(text.as_str(), 33), None);
+    assert!(rt; number(text.as_str(), 33) == None);
     let nines = "9".repeat(rt.alloc(), 1000)?;
-    assert_eq!(rt; number(nines.as_str(), u32::MAX), None);
+    assert!(rt; number(nines.as_str(), u32::MAX) == None);
     Ok(())
+}
+
+// What is left of the text, if anything is skipped.
+fn check_left(rt: &impl Abort, row: &str, left: Option<&str>) {
+    assert!(rt; left == answer_of(row), "{row:?}");
 }
 
 #[test]
 fn trims_white_space_alone(rt: HostRuntime) {
-    for (text, want) in [
-        ("", ""),
-        (" \t\r\n\u{b}\u{c}", ""),
-        ("x", "x"),
-        ("a b", "a b"),
-        ("x\u{85}", "x"),
-        ("\u{3000}x", "x"),
-        ("\u{fc}", "\u{fc}"),
-        ("  a b \n", "a b"),
-        (
-            "\u{85}\u{a0}\u{1680}\u{2003}x\u{2028}\u{2029}\u{202f}\u{205f}\u{3000}",
-            "x",
-        ),
-        ("\u{1c}x\u{1d}", "\u{1c}x\u{1d}"),
-        ("\u{1e} x \u{1f}", "\u{1e} x \u{1f}"),
-        ("\u{feff}x\u{feff}", "\u{feff}x\u{feff}"),
-        ("\u{200b}x\u{180e}", "\u{200b}x\u{180e}"),
+    for row in &[
+        "¦",
+        " \t\r\n\u{b}\u{c}¦",
+        "x¦x",
+        "a b¦a b",
+        "x\u{85}¦x",
+        "\u{3000}x¦x",
+        "\u{fc}¦\u{fc}",
+        "  a b \n¦a b",
+        "\u{85}\u{a0}\u{1680}\u{2003}x\u{2028}\u{2029}\u{202f}\u{205f}\u{3000}¦x",
+        "\u{1c}x\u{1d}¦\u{1c}x\u{1d}",
+        "\u{1e} x \u{1f}¦\u{1e} x \u{1f}",
+        "\u{feff}x\u{feff}¦\u{feff}x\u{feff}",
+        "\u{200b}x\u{180e}¦\u{200b}x\u{180e}",
     ] {
-        assert_eq!(rt; trimmed(text), want, "{text:?}");
+        check_left(&rt, row, Some(trimmed(text_of(row))));
     }
 }
 
 #[test]
-fn skips_single_characters_and_runs(rt: HostRuntime) {
-    assert_eq!(rt; first("üx"), Some(('ü', "x")));
-    assert_eq!(rt; first(""), None);
-    assert_eq!(rt; literal("<34>", '<'), Some("34>"));
-    assert_eq!(rt; literal("34>", '<'), None);
-    assert_eq!(rt; literal("", '<'), None);
-    assert_eq!(rt; blanks(" \t \u{a0}x"), "\u{a0}x");
-    assert_eq!(rt; blanks("\n x"), "\n x");
-    assert_eq!(rt; some_blanks("\tx "), Some("x "));
-    assert_eq!(rt; some_blanks("x"), None);
-    assert_eq!(rt; skip_some("12x", CharClass::Digit), Some("x"));
-    assert_eq!(rt; skip_some("x12", CharClass::Digit), None);
+fn skips_single_characters(rt: HostRuntime) {
+    assert!(rt; first("üx") == Some(('ü', "x")));
+    assert!(rt; first("") == None);
+    for row in &["<34>¦34>", "34>", ""] {
+        check_left(&rt, row, literal(text_of(row), '<'));
+    }
+}
+
+#[test]
+fn skips_runs(rt: HostRuntime) {
+    for row in &[" \t \u{a0}x¦\u{a0}x", "\n x¦\n x"] {
+        check_left(&rt, row, Some(blanks(text_of(row))));
+    }
+    for row in &["\tx ¦x ", "x"] {
+        check_left(&rt, row, some_blanks(text_of(row)));
+    }
+    for row in &["12x¦x", "x12"] {
+        check_left(&rt, row, skip_some(text_of(row), CharClass::Digit));
+    }
 }

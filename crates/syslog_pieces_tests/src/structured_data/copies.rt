@@ -1,33 +1,54 @@
 //! Copies keep the order of the parameters.
 use super::{element_of, is_element};
+use crate::rows::{answer_of, text_of};
+use std::alloc::Global;
+use std::process::Abort;
 use std::test::Fail;
+use syslog_pieces::structured_data::StructuredElement;
+
+// Two copies of the element, the second made of the first, which own their texts.
+fn check_owned(
+    rt: &impl Abort,
+    alloc: Global,
+    element: &StructuredElement<&str>,
+    printed: &str,
+) -> Result<(), Fail> {
+    let owned = element.to_owned_text(alloc)?;
+    assert!(rt;
+        owned.params.capacity() == element.params.len(),
+        "{printed}"
+    );
+    assert!(rt; owned.to_string(alloc)?.as_str() == printed);
+    let again = owned.try_clone(alloc)?;
+    assert!(rt; again == owned, "{printed}");
+    assert!(rt; again.to_string(alloc)?.as_str() == printed);
+    Ok(())
+}
+
+fn check_copies(rt: &impl Abort, alloc: Global, line: &str, printed: &str) -> Result<(), Fail> {
+    let element = element_of(alloc, line)?;
+    assert!(rt; element.to_string(alloc)?.as_str() == printed);
+    let copy = element.try_clone(alloc)?;
+    assert!(rt; is_element(&copy, line), "{line}");
+    assert!(rt; copy == element, "{line}");
+    assert!(rt; copy.params.capacity() == element.params.len(), "{line}");
+    check_owned(rt, alloc, &element, printed)
+}
 
 #[test]
 fn copies_parameters_in_order(rt: HostRuntime) -> Result<(), Fail> {
-    let alloc = rt.alloc();
-    for params in [
-        [("b", "2"), ("a", "1")].as_slice(),
-        &[("a", "1"), ("a", "1"), ("a", "")],
-        &[("größe", "\\]")],
-        &[],
+    for row in &[
+        "x|b|2|a|1¦[x b=\"2\" a=\"1\"]",
+        "x|a|1|a|1|a|¦[x a=\"1\" a=\"1\" a=\"\"]",
+        "x|größe|\\]¦[x größe=\"\\]\"]",
+        "x¦[x]",
     ] {
-        let element = element_of(alloc, params)?;
-        let copy = element.try_clone(alloc)?;
-        assert!(rt; is_element(&copy, "x", params));
-        assert!(rt; copy == element);
-        assert!(rt; copy.params.capacity() == params.len());
-        let owned = element.to_owned_text(alloc)?;
-        assert_eq!(rt;
-            owned.to_string(alloc)?.as_str(),
-            element.to_string(alloc)?.as_str()
-        );
-        assert!(rt; owned.params.capacity() == params.len());
-        let again = owned.try_clone(alloc)?;
-        assert!(rt; again == owned);
-        assert_eq!(rt;
-            again.to_string(alloc)?.as_str(),
-            element.to_string(alloc)?.as_str()
-        );
+        check_copies(
+            &rt,
+            rt.alloc(),
+            text_of(row),
+            answer_of(row).expect(&rt, row),
+        )?;
     }
     Ok(())
 }

@@ -2,7 +2,8 @@
 //!
 //! Each test asks for no memory but by the calls that it is about. Those named `answers_..` pass whichever request is
 //! refused, those named `asks_..` make none, and those named `sees_no_refusal..` fail at each that is refused.
-use super::is_element;
+use super::{are_elements, is_element};
+use crate::rows::{answer_of, text_of};
 use std::alloc::{AllocError, Global};
 use std::process::Abort;
 use syslog_pieces::structured_data::rfc3164_list::{DashRule, optional_list};
@@ -11,7 +12,8 @@ use syslog_pieces::structured_data::{StructuredElement, forgiving_list, read_ele
 /// An element with its id and parameters, the last of which has an escape.
 pub(super) const ELEMENT: &str = "[id a=\"b\" c=\"\" d=\"\\]\"]";
 
-pub(super) const PARAMETERS: [(&str, &str); 3] = [("a", "b"), ("c", ""), ("d", "\\]")];
+/// The line of that element.
+pub(super) const LINE: &str = "id|a|b|c||d|\\]";
 
 /// How often a call is made until it is not refused.
 #[derive(Clone, Copy, PartialEq, Eq)]
@@ -55,8 +57,8 @@ fn rfc3164_list_of(
 fn check_read(rt: &impl Abort, alloc: Global, tries: Tries) {
     match element_of(alloc, ELEMENT, tries) {
         Ok(Some((element, rest))) => {
-            assert!(rt; is_element(&element, "id", &PARAMETERS));
-            assert_eq!(rt; rest, "");
+            assert!(rt; is_element(&element, LINE));
+            assert!(rt; rest == "");
         }
         Ok(None) => assert!(rt; false, "no element"),
         Err(_) => assert!(rt; false, "refused"),
@@ -73,21 +75,14 @@ fn sees_no_refusal_of_an_element(rt: HostRuntime) {
     check_read(&rt, rt.alloc(), Tries::Once);
 }
 
-// The two elements of the lists that are tried.
-fn are_both(elements: &[StructuredElement<&str>]) -> bool {
-    match elements {
-        [first, second] => {
-            is_element(first, "a", &[("b", "x]y")]) && is_element(second, "c", &[("d", "e")])
-        }
-        _ => false,
-    }
-}
+/// The lines of the two elements of the lists that are tried.
+const BOTH: &str = "a|b|x]y\nc|d|e";
 
 fn check_list(rt: &impl Abort, alloc: Global, text: &str, behind: &str, tries: Tries) {
     match list_of(alloc, text, tries) {
         Ok(Some((elements, rest))) => {
-            assert!(rt; are_both(&elements), "{text}");
-            assert_eq!(rt; rest, behind);
+            assert!(rt; are_elements(&elements, BOTH), "{text}");
+            assert!(rt; rest == behind, "{text}");
         }
         Ok(None) => assert!(rt; false, "no list in {text}"),
         Err(_) => assert!(rt; false, "refused for {text}"),
@@ -115,16 +110,23 @@ fn sees_no_refusal_of_a_list(rt: HostRuntime) {
     check_lists(&rt, rt.alloc(), Tries::Once);
 }
 
-fn check_rfc3164_lists(rt: &impl Abort, alloc: Global, tries: Tries) {
-    for rule in [DashRule::BeforeAnything, DashRule::BeforeBlank] {
-        match rfc3164_list_of(alloc, "[a b=\"x]y\"][c d=\"e\"][f]", rule, tries) {
-            Ok((elements, rest)) => {
-                assert!(rt; elements.is_some_and(|elements| are_both(&elements)));
-                assert_eq!(rt; rest, "[f]");
+fn check_rfc3164_list(rt: &impl Abort, alloc: Global, rule: DashRule, tries: Tries) {
+    let text = "[a b=\"x]y\"][c d=\"e\"][f]";
+    match rfc3164_list_of(alloc, text, rule, tries) {
+        Ok((elements, rest)) => {
+            match elements {
+                Some(elements) => assert!(rt; are_elements(&elements, BOTH)),
+                None => assert!(rt; false, "no list"),
             }
-            Err(_) => assert!(rt; false, "refused"),
+            assert!(rt; rest == "[f]");
         }
+        Err(_) => assert!(rt; false, "refused"),
     }
+}
+
+fn check_rfc3164_lists(rt: &impl Abort, alloc: Global, tries: Tries) {
+    check_rfc3164_list(rt, alloc, DashRule::BeforeAnything, tries);
+    check_rfc3164_list(rt, alloc, DashRule::BeforeBlank, tries);
 }
 
 #[test]
@@ -137,61 +139,70 @@ fn sees_no_refusal_of_a_list_of_rfc_3164(rt: HostRuntime) {
     check_rfc3164_lists(&rt, rt.alloc(), Tries::Once);
 }
 
+fn check_no_element(rt: &impl Abort, alloc: Global, text: &str) {
+    match read_element(alloc, text) {
+        Ok(read) => assert!(rt; read.is_none(), "{text}"),
+        Err(_) => assert!(rt; false, "refused for {text}"),
+    }
+}
+
+// A row is a text and what is left behind its list, which has no element; or the text of no list.
+fn check_empty_list(rt: &impl Abort, alloc: Global, row: &str) {
+    match forgiving_list(alloc, text_of(row)) {
+        Ok(Some((elements, rest))) => {
+            assert!(rt; elements.is_empty(), "{row}");
+            assert!(rt; Some(rest) == answer_of(row), "{row}");
+        }
+        Ok(None) => assert!(rt; answer_of(row).is_none(), "{row}"),
+        Err(_) => assert!(rt; false, "refused for {row}"),
+    }
+}
+
+fn check_empty_rfc3164_list(rt: &impl Abort, alloc: Global, rule: DashRule, row: &str) {
+    match optional_list(alloc, text_of(row), rule) {
+        Ok((elements, rest)) => {
+            if let Some(elements) = elements {
+                assert!(rt; elements.is_empty(), "{row}");
+            }
+            assert!(rt; Some(rest) == answer_of(row), "{row}");
+        }
+        Err(_) => assert!(rt; false, "refused for {row}"),
+    }
+}
+
+#[test]
+fn asks_for_no_memory_without_an_element(rt: HostRuntime) {
+    for text in &["", "x", "[id", "[id a=\"b\" ]", "[id a=\"b", "[=]"] {
+        check_no_element(&rt, rt.alloc(), text);
+    }
+}
+
 #[test]
 fn asks_for_no_memory_without_elements(rt: HostRuntime) {
-    let alloc = rt.alloc();
-    for text in ["", "x", "[id", "[id a=\"b\" ]", "[id a=\"b", "[=]"] {
-        match read_element(alloc, text) {
-            Ok(read) => assert!(rt; read.is_none(), "{text}"),
-            Err(_) => assert!(rt; false, "refused for {text}"),
-        }
+    for row in &["- x¦ x", "[a b=\"c]d¦d", "[a =][b =]¦", "", "x", "[a b=\"c"] {
+        check_empty_list(&rt, rt.alloc(), row);
     }
-    for (text, behind) in [("- x", " x"), ("[a b=\"c]d", "d"), ("[a =][b =]", "")] {
-        match forgiving_list(alloc, text) {
-            Ok(Some((elements, rest))) => {
-                assert!(rt; elements.is_empty(), "{text}");
-                assert_eq!(rt; rest, behind);
-            }
-            Ok(None) => assert!(rt; false, "no list in {text}"),
-            Err(_) => assert!(rt; false, "refused for {text}"),
-        }
-    }
-    for text in ["", "x", "[a b=\"c"] {
-        match forgiving_list(alloc, text) {
-            Ok(list) => assert!(rt; list.is_none(), "{text}"),
-            Err(_) => assert!(rt; false, "refused for {text}"),
-        }
-    }
-    for rule in [DashRule::BeforeAnything, DashRule::BeforeBlank] {
-        for (text, behind) in [
-            ("- x", " x"),
-            ("-", ""),
-            ("[a] x", "[a] x"),
-            ("x", "x"),
-            ("", ""),
-        ] {
-            match optional_list(alloc, text, rule) {
-                Ok((elements, rest)) => {
-                    assert!(rt;
-                        elements.is_none_or(|elements| elements.is_empty()),
-                        "{text}"
-                    );
-                    assert_eq!(rt; rest, behind);
-                }
-                Err(_) => assert!(rt; false, "refused for {text}"),
-            }
-        }
+}
+
+#[test]
+fn asks_for_no_memory_without_elements_of_rfc_3164(rt: HostRuntime) {
+    for row in &["- x¦ x", "-¦", "[a] x¦[a] x", "x¦x", "¦"] {
+        check_empty_rfc3164_list(&rt, rt.alloc(), DashRule::BeforeAnything, row);
+        check_empty_rfc3164_list(&rt, rt.alloc(), DashRule::BeforeBlank, row);
     }
 }
 
 // How many values were refused. Each other one is right, with its name, and stands in its place.
 fn refused_values(rt: &impl Abort, alloc: Global, element: &StructuredElement<&str>) -> usize {
-    let mut wanted = [("a", "b"), ("c", ""), ("d", "]")].iter();
+    let mut wanted = "a|b|c||d|]".split('|');
     let mut refused = 0usize;
     for item in element.params(alloc) {
-        let want = wanted.next();
+        let name = wanted.next();
+        let plain = wanted.next();
         match item {
-            Ok((name, value)) => assert!(rt; want == Some(&(*name, value.as_str()))),
+            Ok((found, value)) => {
+                assert!(rt; name == Some(*found) && plain == Some(value.as_str()));
+            }
             Err(_) => refused = refused.saturating_add(1),
         }
     }
@@ -205,7 +216,7 @@ fn answers_for_one_value_that_memory_was_refused(rt: HostRuntime) {
     match element_of(alloc, ELEMENT, Tries::Twice) {
         Ok(Some((element, _))) => {
             if refused_values(&rt, alloc, &element) != 0 {
-                assert_eq!(rt; refused_values(&rt, alloc, &element), 0);
+                assert!(rt; refused_values(&rt, alloc, &element) == 0);
             }
         }
         _ => assert!(rt; false, "no element"),
@@ -216,7 +227,7 @@ fn answers_for_one_value_that_memory_was_refused(rt: HostRuntime) {
 fn sees_no_refusal_of_values(rt: HostRuntime) {
     let alloc = rt.alloc();
     match element_of(alloc, ELEMENT, Tries::Once) {
-        Ok(Some((element, _))) => assert_eq!(rt; refused_values(&rt, alloc, &element), 0),
+        Ok(Some((element, _))) => assert!(rt; refused_values(&rt, alloc, &element) == 0),
         _ => assert!(rt; false, "no element"),
     }
 }

@@ -1,15 +1,22 @@
 //! Refused memory in copies of elements: see `refusals`.
 use super::is_element;
-use super::refusals::{ELEMENT, PARAMETERS, Tries, element_of};
+use super::refusals::{ELEMENT, LINE, Tries, element_of};
 use std::alloc::{AllocError, Global};
 use std::process::Abort;
 use syslog_pieces::structured_data::StructuredElement;
 
-fn is_owned(element: &StructuredElement<String>) -> bool {
-    element.id.as_str() == "id"
-        && element.params.len() == PARAMETERS.len()
-        && element.params.iter().zip(PARAMETERS).all(|(own, want)| own.0.as_str() == want.0
-            && own.1.as_str() == want.1)
+// The element of the line, over texts of its own.
+fn is_owned(element: &StructuredElement<String>, line: &str) -> bool {
+    let mut texts = line.split('|');
+    if texts.next() != Some(element.id.as_str()) {
+        return false;
+    }
+    for (name, value) in &element.params {
+        if texts.next() != Some(name.as_str()) || texts.next() != Some(value.as_str()) {
+            return false;
+        }
+    }
+    texts.next().is_none()
 }
 
 fn check_clone(rt: &impl Abort, alloc: Global, element: &StructuredElement<&str>, tries: Tries) {
@@ -18,10 +25,10 @@ fn check_clone(rt: &impl Abort, alloc: Global, element: &StructuredElement<&str>
         other => other,
     };
     match copy {
-        Ok(copy) => assert!(rt; is_element(&copy, "id", &PARAMETERS)),
+        Ok(copy) => assert!(rt; is_element(&copy, LINE)),
         Err(_) => assert!(rt; false, "no copy"),
     }
-    assert!(rt; is_element(element, "id", &PARAMETERS));
+    assert!(rt; is_element(element, LINE));
 }
 
 fn check_owned(rt: &impl Abort, alloc: Global, element: &StructuredElement<&str>, tries: Tries) {
@@ -31,12 +38,12 @@ fn check_owned(rt: &impl Abort, alloc: Global, element: &StructuredElement<&str>
     };
     match owned {
         Ok(owned) => {
-            assert!(rt; is_owned(&owned));
+            assert!(rt; is_owned(&owned, LINE));
             check_owned_clone(rt, alloc, &owned, tries);
         }
         Err(_) => assert!(rt; false, "no copy with texts of its own"),
     }
-    assert!(rt; is_element(element, "id", &PARAMETERS));
+    assert!(rt; is_element(element, LINE));
 }
 
 fn check_owned_clone(
@@ -50,10 +57,10 @@ fn check_owned_clone(
         other => other,
     };
     match copy {
-        Ok(copy) => assert!(rt; is_owned(&copy)),
+        Ok(copy) => assert!(rt; is_owned(&copy, LINE)),
         Err(_) => assert!(rt; false, "no copy of the copy"),
     }
-    assert!(rt; is_owned(owned));
+    assert!(rt; is_owned(owned, LINE));
 }
 
 fn check_copies(rt: &impl Abort, alloc: Global, tries: Tries) {

@@ -1,89 +1,104 @@
+use crate::rows::{answer_of, left_of, text_of};
+use std::alloc::Global;
 use std::process::Abort;
+use std::str::Split;
 use std::test::Fail;
 use syslog_pieces::text::trimmed;
 use syslog_pieces::timestamp::month_date::standard::standard_date;
 use syslog_pieces::timestamp::month_date::{MonthDate, month_date};
 use syslog_pieces::timestamp::shown_date;
 
-/// Year, month, day, hour, minute and second.
-type Numbers = (Option<u32>, u32, u32, u32, u32, u32);
-
-const DECEMBER: Numbers = (None, 12, 28, 16, 49, 7);
-
-const SEPTEMBER: Numbers = (None, 9, 5, 7, 8, 9);
-
-const OCTOBER: Numbers = (None, 10, 11, 22, 14, 15);
-
-fn numbers(date: MonthDate) -> Numbers {
-    (
-        date.year,
-        date.month,
-        date.day,
-        date.hour,
-        date.minute,
-        date.second,
-    )
+// The next word is the number.
+fn is_next<'a>(words: &mut Split<'a, char>, number: u32) -> bool {
+    match words.next() {
+        Some(word) => word.parse() == Ok(number),
+        None => false,
+    }
 }
 
-fn check_read(rt: &impl Abort, text: &str, date: Numbers, left: &str) -> Result<(), Fail> {
-    let (read, rest) = month_date(text).ok_or("no date")?;
-    assert_eq!(rt; numbers(read), date, "{text:?}");
-    assert_eq!(rt; rest, left, "{text:?}");
-    Ok(())
+// The date of the words: the year, where it has one, then month, day, hour, minute and second.
+fn is_date(date: &MonthDate, want: &str) -> bool {
+    let mut words = want.split(' ');
+    if let Some(year) = date.year
+        && !is_next(&mut words, year)
+    {
+        return false;
+    }
+    is_next(&mut words, date.month)
+        && is_next(&mut words, date.day)
+        && is_next(&mut words, date.hour)
+        && is_next(&mut words, date.minute)
+        && is_next(&mut words, date.second)
+        && words.next().is_none()
 }
 
-fn check_refused(rt: &impl Abort, texts: &[&'static str]) {
-    for text in texts {
-        assert!(rt; month_date(text).is_none(), "{text:?}");
+// A row is a text, the date at its front, and what is left; or the text of no date.
+fn check_date(rt: &impl Abort, row: &str, read: Option<(MonthDate, &str)>) {
+    match read {
+        Some((date, rest)) => {
+            assert!(rt; is_date(&date, answer_of(row).expect(rt, row)), "{row:?}");
+            assert!(rt; rest == left_of(row), "{row:?}");
+        }
+        None => assert!(rt; answer_of(row).is_none(), "{row:?}"),
+    }
+}
+
+fn check_read(rt: &impl Abort, rows: &[&str]) {
+    for row in rows {
+        check_date(rt, row, month_date(text_of(row)));
     }
 }
 
 #[test]
-fn reads_a_month_date(rt: HostRuntime) -> Result<(), Fail> {
-    for (text, date, left) in [
-        ("Dec 28 16:49:07 ", DECEMBER, " "),
-        ("Dec 28 16:49:07:", DECEMBER, ""),
-        ("Dec 28 16:49:07", DECEMBER, ""),
-        ("Dec 28 16:49:07.5", DECEMBER, ".5"),
-        ("Dec 28 16:49:07Z", DECEMBER, "Z"),
-        (
-            "Dec 28 2008 16:49:07 ",
-            (Some(2008), 12, 28, 16, 49, 7),
-            " ",
-        ),
-        (
-            "Aug 4 2020 16:49:07: h",
-            (Some(2020), 8, 4, 16, 49, 7),
-            " h",
-        ),
-    ] {
-        check_read(&rt, text, date, left)?;
+fn reads_a_month_date(rt: HostRuntime) {
+    check_read(
+        &rt,
+        &[
+            "Dec 28 16:49:07 ¦12 28 16 49 7¦ ",
+            "Dec 28 16:49:07:¦12 28 16 49 7¦",
+            "Dec 28 16:49:07¦12 28 16 49 7¦",
+            "Dec 28 16:49:07.5¦12 28 16 49 7¦.5",
+            "Dec 28 16:49:07Z¦12 28 16 49 7¦Z",
+            "Dec 28 2008 16:49:07 ¦2008 12 28 16 49 7¦ ",
+            "Aug 4 2020 16:49:07: h¦2020 8 4 16 49 7¦ h",
+        ],
+    );
+}
+
+// A row is the number of a month and its names.
+fn check_month(rt: &impl Abort, alloc: Global, row: &str) -> Result<(), Fail> {
+    let (number, names) = row.split_once(' ').expect(rt, row);
+    for name in names.split(' ') {
+        let row = format!(in alloc; "{name} 5 07:08:09¦{number} 5 7 8 9¦")?;
+        check_date(rt, row.as_str(), month_date(text_of(row.as_str())));
     }
     Ok(())
 }
 
 #[test]
 fn takes_the_month_in_letters_of_either_case(rt: HostRuntime) -> Result<(), Fail> {
-    for (month, names) in [
-        (1, ["Jan", "JAN", "jaN"]),
-        (2, ["Feb", "FEB", "fEb"]),
-        (3, ["Mar", "MAR", "mAR"]),
-        (4, ["Apr", "APR", "apr"]),
-        (5, ["May", "MAY", "MaY"]),
-        (6, ["Jun", "JUN", "JUn"]),
-        (7, ["Jul", "JUL", "jul"]),
-        (8, ["Aug", "AUG", "aUg"]),
-        (9, ["Sep", "SEP", "sEp"]),
-        (10, ["Oct", "OCT", "ocT"]),
-        (11, ["Nov", "NOV", "nov"]),
-        (12, ["Dec", "DEC", "dEC"]),
+    for row in &[
+        "1 Jan JAN jaN",
+        "2 Feb FEB fEb",
+        "3 Mar MAR mAR",
+        "4 Apr APR apr",
+        "5 May MAY MaY",
+        "6 Jun JUN JUn",
+        "7 Jul JUL jul",
+        "8 Aug AUG aUg",
+        "9 Sep SEP sEp",
+        "10 Oct OCT ocT",
+        "11 Nov NOV nov",
+        "12 Dec DEC dEC",
     ] {
-        for name in names {
-            let text = format!(in rt.alloc(); "{name} 5 07:08:09")?;
-            check_read(&rt, &text, (None, month, 5, 7, 8, 9), "")?;
-        }
+        check_month(&rt, rt.alloc(), row)?;
     }
-    check_refused(
+    Ok(())
+}
+
+#[test]
+fn takes_the_letters_of_a_month_alone(rt: HostRuntime) {
+    check_read(
         &rt,
         &[
             "",
@@ -98,32 +113,22 @@ fn takes_the_month_in_letters_of_either_case(rt: HostRuntime) -> Result<(), Fail
             "\u{17f}ep 5 07:08:09",
         ],
     );
-    Ok(())
 }
 
 #[test]
-fn takes_some_blanks_between_the_numbers(rt: HostRuntime) -> Result<(), Fail> {
-    for text in [
-        "Sep 5 07:08:09",
-        "Sep  5 07:08:09",
-        "Sep\t5 07:08:09",
-        "SEP 5 07:08:09",
-        "sEp  5 07:08:09",
-        "Sep \t 5\t\t07:08:09",
-        "Sep 05 7:8:9",
-        "Sep 0000000000005 000000000007:0008:0000000000000009",
-    ] {
-        check_read(&rt, text, SEPTEMBER, "")?;
-    }
+fn takes_some_blanks_between_the_numbers(rt: HostRuntime) {
     check_read(
         &rt,
-        "Sep\t5 \t 2020  07:08:09",
-        (Some(2020), 9, 5, 7, 8, 9),
-        "",
-    )?;
-    check_refused(
-        &rt,
         &[
+            "Sep 5 07:08:09¦9 5 7 8 9¦",
+            "Sep  5 07:08:09¦9 5 7 8 9¦",
+            "Sep\t5 07:08:09¦9 5 7 8 9¦",
+            "SEP 5 07:08:09¦9 5 7 8 9¦",
+            "sEp  5 07:08:09¦9 5 7 8 9¦",
+            "Sep \t 5\t\t07:08:09¦9 5 7 8 9¦",
+            "Sep 05 7:8:9¦9 5 7 8 9¦",
+            "Sep 0000000000005 000000000007:0008:0000000000000009¦9 5 7 8 9¦",
+            "Sep\t5 \t 2020  07:08:09¦2020 9 5 7 8 9¦",
             "Sep5 07:08:09",
             "Sep 5",
             "Sep 5 ",
@@ -139,40 +144,31 @@ fn takes_some_blanks_between_the_numbers(rt: HostRuntime) -> Result<(), Fail> {
             "Sep 5 2020 2020 07:08:09",
         ],
     );
-    Ok(())
 }
 
 #[test]
-fn takes_one_colon_behind_the_second(rt: HostRuntime) -> Result<(), Fail> {
-    check_read(&rt, "Sep 5 07:08:09:", SEPTEMBER, "")?;
-    check_read(&rt, "Sep 5 07:08:09::", SEPTEMBER, ":")?;
-    check_read(&rt, "Sep 5 07:08:09 :", SEPTEMBER, " :")?;
+fn takes_one_colon_behind_the_second(rt: HostRuntime) {
     check_read(
         &rt,
-        "Sep 5 2020 07:08:09:: h",
-        (Some(2020), 9, 5, 7, 8, 9),
-        ": h",
-    )
+        &[
+            "Sep 5 07:08:09:¦9 5 7 8 9¦",
+            "Sep 5 07:08:09::¦9 5 7 8 9¦:",
+            "Sep 5 07:08:09 :¦9 5 7 8 9¦ :",
+            "Sep 5 2020 07:08:09:: h¦2020 9 5 7 8 9¦: h",
+        ],
+    );
 }
 
 #[test]
-fn takes_numbers_up_to_their_limits(rt: HostRuntime) -> Result<(), Fail> {
-    let most = 4_294_967_295;
-    for (text, date) in [
-        ("Jan 4294967295 00:00:00", (None, 1, most, 0, 0, 0)),
-        ("Jan 1 4294967295:00:00", (None, 1, 1, most, 0, 0)),
-        ("Jan 1 00:4294967295:00", (None, 1, 1, 0, most, 0)),
-        ("Jan 1 00:00:4294967295", (None, 1, 1, 0, 0, most)),
-        (
-            "Jan 1 2147483647 00:00:00",
-            (Some(2_147_483_647), 1, 1, 0, 0, 0),
-        ),
-    ] {
-        check_read(&rt, text, date, "")?;
-    }
-    check_refused(
+fn takes_numbers_up_to_their_limits(rt: HostRuntime) {
+    check_read(
         &rt,
         &[
+            "Jan 4294967295 00:00:00¦1 4294967295 0 0 0¦",
+            "Jan 1 4294967295:00:00¦1 1 4294967295 0 0¦",
+            "Jan 1 00:4294967295:00¦1 1 0 4294967295 0¦",
+            "Jan 1 00:00:4294967295¦1 1 0 0 4294967295¦",
+            "Jan 1 2147483647 00:00:00¦2147483647 1 1 0 0 0¦",
             "Jan 4294967296 00:00:00",
             "Jan 1 4294967296:00:00",
             "Jan 1 00:4294967296:00",
@@ -187,31 +183,28 @@ fn takes_numbers_up_to_their_limits(rt: HostRuntime) -> Result<(), Fail> {
             "Jan -1 00:00:00",
         ],
     );
-    Ok(())
 }
 
+// That there is such a date isn't asked.
 #[test]
-fn shows_a_date_without_a_year(rt: HostRuntime) -> Result<(), Fail> {
-    for text in [
-        "Oct 11 22:14:15",
-        "<34>Oct 11 22:14:15 mymachine su: m",
-        "<34>  \tOct 11 22:14:15:",
-        "\n \u{2003}<34> Oct 11 22:14:15 \u{85}",
-        "   OCT\t11 22:14:15x",
-        "<255>Oct 11 22:14:15",
+fn shows_a_date_without_a_year(rt: HostRuntime) {
+    for row in &[
+        "Oct 11 22:14:15¦10 11 22 14 15",
+        "<34>Oct 11 22:14:15 mymachine su: m¦10 11 22 14 15",
+        "<34>  \tOct 11 22:14:15:¦10 11 22 14 15",
+        "\n \u{2003}<34> Oct 11 22:14:15 \u{85}¦10 11 22 14 15",
+        "   OCT\t11 22:14:15x¦10 11 22 14 15",
+        "<255>Oct 11 22:14:15¦10 11 22 14 15",
+        "Feb 99 24:60:60¦2 99 24 60 60",
     ] {
-        let date = shown_date(trimmed(text)).ok_or("no date")?;
-        assert_eq!(rt; numbers(date), OCTOBER, "{text:?}");
+        let date = shown_date(trimmed(text_of(row))).expect(&rt, row);
+        assert!(rt; is_date(&date, answer_of(row).expect(&rt, row)), "{row:?}");
     }
-    // That there is such a date isn't asked.
-    let date = shown_date("Feb 99 24:60:60").ok_or("no date")?;
-    assert_eq!(rt; numbers(date), (None, 2, 99, 24, 60, 60));
-    Ok(())
 }
 
 #[test]
 fn shows_no_date_elsewhere(rt: HostRuntime) {
-    for text in [
+    for text in &[
         "",
         " ",
         "-",
@@ -233,17 +226,11 @@ fn shows_no_date_elsewhere(rt: HostRuntime) {
 
 // No clause says which dates are read at one look: a reader that finds none meets its contract.
 #[test]
-fn reads_the_standard_form_at_one_look(rt: HostRuntime) -> Result<(), Fail> {
-    for (text, date, left) in [
-        ("Dec 28 16:49:07 h", DECEMBER, " h"),
-        ("Dec 28 16:49:07", DECEMBER, ""),
-        ("Sep  5 07:08:09-", SEPTEMBER, "-"),
-    ] {
-        let (read, rest) = standard_date(text).ok_or("no usual date")?;
-        assert_eq!(rt; numbers(read), date, "{text:?}");
-        assert_eq!(rt; rest, left, "{text:?}");
-    }
-    for text in [
+fn reads_the_standard_form_at_one_look(rt: HostRuntime) {
+    for row in &[
+        "Dec 28 16:49:07 h¦12 28 16 49 7¦ h",
+        "Dec 28 16:49:07¦12 28 16 49 7¦",
+        "Sep  5 07:08:09-¦9 5 7 8 9¦-",
         "Dec 28 16:49:07:",
         "Dec 28 16:49:070",
         "Dec 28 16:49:07\u{fc}",
@@ -257,7 +244,6 @@ fn reads_the_standard_form_at_one_look(rt: HostRuntime) -> Result<(), Fail> {
         "dEC 28 16:49:07",
         "",
     ] {
-        assert!(rt; standard_date(text).is_none(), "{text:?}");
+        check_date(&rt, row, standard_date(text_of(row)));
     }
-    Ok(())
 }
