@@ -6,9 +6,6 @@ use Rattle.syslog_loose.proofs.settling.settle_on.Goals as goal
 use Rattle.syslog_loose.proofs.settling.settle_on.Goals.{else-loop-done-test}
 use Rattle.syslog_loose.proofs.settling.settle_on.Goals.{then-loop-done-test+in_ok-settled+else-settled+else-done-done-end}
 
-pub loop-done-init : goal.loop-done-init
-loop-done-init c = c.requires
-
 pub returns-in_err-settled : goal.returns-in_err-settled
 returns-in_err-settled c =
     let (_, e, same) = err_from_is_err_and c.from_residual.result c.from_residual.ensures.1 in

@@ -15,6 +15,3 @@ returns-then-begins_escape c =
     let first : slice_index c.args.text.now 0 ≡ 92 =
     subst (λ (x : List ℕ). slice_index x 0 ≡ 92) c.as_bytes.ensures.value (c.if-begins_escape.ensures refl).1 in
     ascii_ends (has Inert) _ _ _ 0 c.utf8.text (escape_stops _ first) refl refl (λ l. omega (arith, first))
-
-pub returns-else-begins_escape : goal.returns-else-begins_escape
-returns-else-begins_escape c = c.run_end.ensures
