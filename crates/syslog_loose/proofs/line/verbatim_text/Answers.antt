@@ -24,9 +24,6 @@ returns-in-Either-clause-memory c whole e =
     rw c.in-Either.is (λ dating none. c.copied-in-Either.ensures.memory whole e
     (no_division whole (λ m r. none m (inl r))))
 
-pub returns-in-RFC5424-clause-year : goal.returns-in-RFC5424-clause-year
-returns-in-RFC5424-clause-year c whole e = rw c.in-RFC5424.is (λ date asks. absurd asks)
-
 pub returns-in-Either-clause-year : goal.returns-in-Either-clause-year
 returns-in-Either-clause-year c whole e =
     rw c.in-Either.is (λ date asks. c.copied-in-Either.ensures.memory whole e

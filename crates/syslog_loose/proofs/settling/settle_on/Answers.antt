@@ -4,9 +4,6 @@ use Rattle.std.specs.Str.{chars}
 use Rattle.syslog_loose.proofs.SettlingLemmas.Settles.{round_fault, round_answer, round_more, too_many}
 use Rattle.syslog_loose.proofs.settling.settle_on.Goals as goal
 
-pub loop-done-init : goal.loop-done-init
-loop-done-init c = c.requires
-
 pub returns-in_err-settled : goal.returns-in_err-settled
 returns-in_err-settled c =
     let (_, e, same) = err_from_is_err_and c.from_residual.result c.from_residual.ensures.1 in

@@ -7,9 +7,6 @@ use Rattle.syslog_loose.proofs.line.rfc3164.stamped_line.Goals as goal
 pub before-front-requires : goal.before-front-requires
 before-front-requires c = (priority_text c.in_ok-behind.ensures.0.value, c.in_ok-behind.ensures.0.whole)
 
-pub before-stamp-requires : goal.before-stamp-requires
-before-stamp-requires c = (c.in_ok-verbatim.ensures.copied, c.in_ok-verbatim.ensures.whole)
-
 pub returns-then-is_verbatim_behind-clause-verbatim : goal.returns-then-is_verbatim_behind-clause-verbatim
 returns-then-is_verbatim_behind-clause-verbatim c dating =
     stamped_verbatim dating _ _ _ _ _ _ _ _ c.in_ok-behind.ensures.0 c.in_ok-behind.ensures.1 c.blanks-start.ensures

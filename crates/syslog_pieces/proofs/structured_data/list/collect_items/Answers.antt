@@ -15,11 +15,6 @@ use Rattle.syslog_pieces.proofs.structured_data.list.collect_items.Goals as goal
 use Rattle.syslog_pieces.proofs.structured_data.list.collect_items.Goals.{then-item+in_ok-element+in-Some-2+in_ok-push}
 use Rattle.syslog_pieces.proofs.structured_data.list.collect_items.Goals.{else-item}
 
-pub returns-in_err-noted-clause-memory : goal.returns-in_err-noted-clause-memory
-returns-in_err-noted-clause-memory c n =
-    let asked : ◌≡◌ {A = Bool} false true = c.in_err-noted.ensures.memory n in
-    absurd (cc)
-
 pub items-init : goal.items-init
 items-init c =
     let f = c.in_ok-noted.ensures.elements in

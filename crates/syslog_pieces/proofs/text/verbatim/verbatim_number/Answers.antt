@@ -3,9 +3,6 @@ use Rattle.syslog_pieces.proofs.text.verbatim.verbatim_number.Goals as goal
 use Rattle.syslog_pieces.proofs.TextLemmas.Verbatim.{digits_verbatim}
 use Rattle.syslog_pieces.proofs.TextLemmas.Words.{number_read}
 
-pub number_of_digits-requires : goal.number_of_digits-requires
-number_of_digits-requires c = c.split_run.ensures.each
-
 pub returns-else-value-limit : goal.returns-else-value-limit
 returns-else-value-limit c =
     digits_verbatim _ _ _ _ c.split_run.ensures c.in_ok-value.value
