@@ -1,6 +1,7 @@
 -- What the readers of a skipped round tell.
 use Rattle.std.proofs.Common.{◌≡◌, ℕ, zero, suc, ◌+◌, ◌-◌, ◌<◌, true, false, map, Result, Ok, Err, subst, List}
-use Rattle.std.proofs.Common.{[], ◌∷◌, ◌++◌, length, Option, Some, None, refl, sym, ap, ◌∙◌, arith, append_assoc, append-nil}
+use Rattle.std.proofs.Common.{[], ◌∷◌, ◌++◌, length, Option, Some, None, refl, sym, ap, ◌∙◌, arith}
+use Rattle.std.proofs.Common.{append_assoc, append-nil}
 use Rattle.std.proofs.lemmas.List.{length-append}
 use Rattle.std.specs.Borrow.{Bor}
 use Rattle.std.specs.Prelude.{MatchOption, OnOk}
@@ -180,11 +181,13 @@ pub suffix_some : (bytes short : List ℕ) (n : ℕ) → IsUtf8 bytes → IsUtf8
     → chars bytes ≡ chars short ++ colons n
 suffix_some bytes short n u v e =
     sym (chars_from_encodes (chars short ++ colons n) bytes u
-    (encodes-append (chars short) (colons n) ∙ ap (λ (x : List ℕ). x ++ encode_utf8_all (colons n)) (encodes-chars short v)
+    (encodes-append (chars short) (colons n)
+    ∙ ap (λ (x : List ℕ). x ++ encode_utf8_all (colons n)) (encodes-chars short v)
     ∙ ap (λ (x : List ℕ). short ++ x) (colons_alone n) ∙ sym e))
 
 pub cut_on : (name host shorter : List ℕ) (c n : ℕ) → CutsColons name host c
-    → chars host ≡ chars shorter ++ colons n → (0 < c + n → EndsInColon (chars shorter)) → CutsColons name shorter (c + n)
+    → chars host ≡ chars shorter ++ colons n → (0 < c + n → EndsInColon (chars shorter))
+    → CutsColons name shorter (c + n)
 cut_on name host shorter c n k e o = record {
   whole = colons_cut (chars name) (chars host) (chars shorter) c n k.whole e;
   keeps = o;

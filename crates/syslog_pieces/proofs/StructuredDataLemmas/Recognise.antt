@@ -71,7 +71,8 @@ module _ (test : ℕ → Bool) (a : AllPlain test) (text bs xs ys : Text) (s : S
     (m : Meets value text value (chars bs)) where
   to_end : Meets value text value (chars ys)
   to_end = meets_on value text value (chars bs) value (chars ys) m
-      (subst (λ (x : Text). Meets value x value (chars ys)) (sym s.characters) (run_goes test a (chars xs) (chars ys) s.each))
+      (subst (λ (x : Text). Meets value x value (chars ys)) (sym s.characters)
+      (run_goes test a (chars xs) (chars ys) s.each))
 
   pub value_quoted : (q : Text) → Front (exactly (34 ∷ [])) (chars ys) q tt → (v : Values quoted_row)
       × Front quoted text q v
