@@ -1,10 +1,10 @@
 -- A text has one month date at its front, and shows one.
 use Rattle.std.proofs.Common.{◌≡◌, ◌⊎◌, inl, inr, ℕ, ◌≤◌, Bool, true, false, nat_eq, ◌||◌}
-use Rattle.std.proofs.Common.{List, [], ◌∷◌, ◌++◌, refl, sym, ap, subst, ◌∙◌, arith}
+use Rattle.std.proofs.Common.{List, ◌∷◌, ◌++◌, refl, sym, ap, subst, ◌∙◌, arith}
 use Rattle.std.proofs.lemmas.Bool.{eqb-true}
 use Rattle.std.specs.Char.{is_ascii_digit}
 use Rattle.syslog_pieces.specs.Pieces.Class.{Text, Class, Values, Front, Row}
-use Rattle.syslog_pieces.specs.Pieces.Class.{IsDeterministic, some_run, exactly, optional}
+use Rattle.syslog_pieces.specs.Pieces.Class.{IsDeterministic, some_run, exactly}
 use Rattle.syslog_pieces.specs.Text.{number, is_blank, colon}
 use Rattle.syslog_pieces.specs.Timestamp.MonthDate.{month, short_number, clock_row, yearless_row, yearless_of}
 use Rattle.syslog_pieces.specs.Timestamp.MonthDate.{yearless_date, dated_row, dated_of, dated_date, month_date}

@@ -2,13 +2,12 @@ use Rattle.std.proofs.Common.{rules, ℕ, List, [], ◌∷◌, ◌++◌, map, sy
 use Rattle.std.proofs.lemmas.List.{append-nil, map-append}
 use Rattle.std.specs.Borrow.{Bor}
 use Rattle.std.specs.Str.{chars}
-use Rattle.syslog_pieces.specs.Pieces.Class.{Text, Class, Front, exactly}
+use Rattle.syslog_pieces.specs.Pieces.Class.{Text, Front, exactly}
 use Rattle.syslog_pieces.specs.Bodies.Closing.{inside, inside_row}
 use Rattle.syslog_pieces.specs.StructuredData.Element.{param_value}
-use Rattle.syslog_pieces.specs.Pieces.Lists.{list_before}
 use Rattle.syslog_pieces.specs.StructuredData.{param}
 use Rattle.syslog_pieces.specs.Pieces.View.{shown}
-use Rattle.syslog_pieces.proofs.PieceLemmas.Class.{row_nil, row_cons, row_none_here}
+use Rattle.syslog_pieces.proofs.PieceLemmas.Class.{row_none_here}
 use Rattle.syslog_pieces.proofs.StructuredDataLemmas.Elements.{param_det}
 use Rattle.syslog_pieces.proofs.PieceLemmas.Lists.{Collects, collects_first, collects_more, begins}
 use Rattle.syslog_pieces.proofs.PieceLemmas.Lists.{list_here, more_here, no_list, no_more, no_more_behind}
