@@ -276,7 +276,8 @@ module _ (rule : DashRule) (dating : Dating) (m : MessageValue) (e : m.protocol 
       let t : Text = tail_text m.structured_data m.msg in
       let u : Text = program_text m.appname m.procid ++ (58 ∷ t) in
       let y : Text = name_text m.hostname ++ (32 ∷ u) in
-      let body = body_back rule m.structured_data m.msg canonical.elements own.elements canonical.msg_front own.no_list in
+      let body =
+      body_back rule m.structured_data m.msg canonical.elements own.elements canonical.msg_front own.no_list in
       rows_join to_stamp (from_stamp rule dating) (to_stamp_back m y)
       (row_cons (rfc3164_stamp dating) (body_row rule) (stamp_back dating m.timestamp y canonical.timestamp)
       (rows_join to_colon (from_blanks rule)

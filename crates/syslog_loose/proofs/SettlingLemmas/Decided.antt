@@ -24,7 +24,8 @@ use Rattle.syslog_pieces.proofs.PieceLemmas.Meets.{Meets, meets_none}
 use Rattle.syslog_pieces.proofs.PieceLemmas.Steps.{front_longer}
 use Rattle.syslog_pieces.proofs.PieceLemmas.Class.{AllDeterministic, ◌also◌}
 use Rattle.syslog_pieces.proofs.StructuredDataLemmas.Elements.{value_here, unit_goes, param_det}
-use Rattle.syslog_pieces.proofs.StructuredDataLemmas.Elements.{param_row_det, element_row_det, element_det, space_is_no_close}
+use Rattle.syslog_pieces.proofs.StructuredDataLemmas.Elements.{param_row_det, element_row_det, element_det}
+use Rattle.syslog_pieces.proofs.StructuredDataLemmas.Elements.{space_is_no_close}
 use Rattle.syslog_pieces.proofs.StructuredDataLemmas.Units.{decide}
 
 -- it holds, or it does not

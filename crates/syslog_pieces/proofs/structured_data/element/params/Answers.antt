@@ -25,7 +25,8 @@ returns-in-Some c =
     (list_here param 32 93 _ _ (begins 93 _ _ c.in-Some.ensures) then c.in-Some.ensures then refl))
 
 pub returns-in_default-param : goal.returns-in_default-param
-returns-in_default-param c = row_none_here _ (exactly (93 ∷ []) ∷ []) (no_list param 32 93 _ c.in_default.ensures c.in_default-param.ensures)
+returns-in_default-param c =
+    row_none_here _ (exactly (93 ∷ []) ∷ []) (no_list param 32 93 _ c.in_default.ensures c.in_default-param.ensures)
 
 pub params-init : goal.params-init
 params-init c =
@@ -53,8 +54,9 @@ returns-in_default-literal-2 c =
 
 pub returns-in_default-param-2 : goal.returns-in_default-param-2
 returns-in_default-param-2 c =
-    row_none_here _ (exactly (93 ∷ []) ∷ []) (c.params.invariant.1.none (no_more_behind param 32 93 _ _ c.in_default-literal.ensures
-    (begins 32 _ _ c.in-Some-literal-2.ensures) c.in_default-param-2.ensures))
+    row_none_here _ (exactly (93 ∷ []) ∷ []) (c.params.invariant.1.none
+    (no_more_behind param 32 93 _ _ c.in_default-literal.ensures (begins 32 _ _ c.in-Some-literal-2.ensures)
+    c.in_default-param-2.ensures))
 
 pub params-preserved : goal.params-preserved
 params-preserved c =
