@@ -16,7 +16,7 @@ use Rattle.syslog_pieces.specs.Pieces.Verbatim.{Verbatim}
 use Rattle.syslog_pieces.specs.Pri.{priority, priority_text}
 use Rattle.syslog_pieces.specs.ProcId.{NamesProcess, procid_text, IsBoundedProcess}
 use Rattle.syslog_pieces.specs.StructuredData.Rfc3164List.{rfc3164_list}
-use Rattle.syslog_pieces.specs.Text.{trimmed, is_blank, is_tag_char, dash, colon, host, name_text}
+use Rattle.syslog_pieces.specs.Text.{trimmed, is_blank, is_tag_char, dash, host, name_text}
 use Rattle.syslog_pieces.specs.Text.CharClass.{is_label_char}
 use Rattle.syslog_pieces.specs.Timestamp.{header_stamp}
 use Rattle.syslog_pieces.specs.Timestamp.Rfc3164.{rfc3164_stamp, showing_row, ShowsYearless}
@@ -57,7 +57,7 @@ use Rattle.syslog_pieces.proofs.PieceLemmas.Each.{each_map, each_left}
 use Rattle.syslog_pieces.proofs.PieceLemmas.Rows.{row_of, ◌then◌}
 use Rattle.syslog_loose.proofs.Rfc3164Lemmas.Near.{read_near}
 use Rattle.syslog_loose.proofs.Rfc3164Lemmas.ReadBack.{digit_inside, program_field, names_back}
-use Rattle.syslog_loose.proofs.Rfc3164Lemmas.ReadBack.{resolved, tag_back, host_field_back}
+use Rattle.syslog_loose.proofs.Rfc3164Lemmas.ReadBack.{resolved}
 use Rattle.syslog_loose.proofs.Rfc3164Lemmas.Reading.{is_read}
 use Rattle.syslog_loose.proofs.Rfc3164Lemmas.Unique.{told}
 use Rattle.syslog_loose.proofs.Rfc3164Lemmas.Whole.{printed_whole}

@@ -28,7 +28,7 @@ use Rattle.syslog_pieces.specs.declared.pri.SyslogFacility.TheVariants.{LOG_LOCA
 use Rattle.syslog_pieces.specs.declared.pri.SyslogSeverity.{SyslogSeverity}
 use Rattle.syslog_pieces.specs.declared.pri.SyslogSeverity.TheVariants.{SEV_EMERG, SEV_ALERT, SEV_CRIT, SEV_ERR}
 use Rattle.syslog_pieces.specs.declared.pri.SyslogSeverity.TheVariants.{SEV_WARNING, SEV_NOTICE, SEV_INFO, SEV_DEBUG}
-use Rattle.syslog_pieces.proofs.PieceLemmas.Class.{AllDeterministic, exactly_det, row_det, row_nil, row_cons}
+use Rattle.syslog_pieces.proofs.PieceLemmas.Class.{AllDeterministic, exactly_det, row_det}
 use Rattle.syslog_pieces.specs.Timestamp.Printed.{pad3}
 use Rattle.syslog_pieces.proofs.PieceLemmas.Lists.{begins}
 use Rattle.syslog_pieces.proofs.PieceLemmas.Rows.{row_of, ◌then◌}

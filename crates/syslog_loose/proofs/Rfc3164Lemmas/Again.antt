@@ -1,9 +1,12 @@
 -- What was read as RFC 3164 without an exception prints as a text that is read as a message that prints the same.
-use Rattle.std.proofs.Common.{◌≡◌, ℕ, ◌∷◌, ◌++◌, refl, sym, ap, ◌∙◌}
+use Rattle.std.proofs.Common.{◌≡◌, ℕ, ◌∷◌, ◌++◌, Some, refl, sym, ap, ◌∙◌}
 use Rattle.std.specs.Fmt.{decimal}
+use Rattle.std.specs.Prelude.{unwrap_or}
 use Rattle.syslog_pieces.specs.Pieces.Class.{Text}
 use Rattle.syslog_pieces.specs.Text.{name_text}
 use Rattle.syslog_pieces.specs.Timestamp.Zone.{Dating}
+use Rattle.syslog_pieces.specs.declared.pri.SyslogFacility.TheVariants.{LOG_SYSLOG}
+use Rattle.syslog_pieces.specs.declared.pri.SyslogSeverity.TheVariants.{SEV_DEBUG}
 use Rattle.syslog_pieces.specs.declared.structured_data.rfc3164_list.DashRule.{DashRule}
 use Rattle.syslog_loose.specs.Canonical.{IsBounded, IsCanonical}
 use Rattle.syslog_loose.specs.Exceptions.{HasNoException}
@@ -12,7 +15,7 @@ use Rattle.syslog_loose.specs.Printed.{printed, printed_3164, timestamp_text, ta
 use Rattle.syslog_loose.specs.Rfc3164.{IsRead3164}
 use Rattle.syslog_loose.specs.declared.message.Protocol.TheVariants.{RFC3164}
 use Rattle.syslog_loose.proofs.Rfc3164Lemmas.Bounded.{read_bounded}
-use Rattle.syslog_loose.proofs.Rfc3164Lemmas.Exceptions.{near_canonical}
+use Rattle.syslog_loose.proofs.Rfc3164Lemmas.Exceptions.{near_completed}
 use Rattle.syslog_loose.proofs.Rfc3164Lemmas.Near.{read_near}
 use Rattle.syslog_loose.proofs.Rfc3164Lemmas.Printed.{printed_is}
 use Rattle.syslog_loose.proofs.Rfc5424Lemmas.ReadBack.{completed, priority_same}
@@ -20,32 +23,8 @@ use Rattle.syslog_loose.proofs.Rfc5424Lemmas.ReadBack.{completed, priority_same}
 completed_canonical : (rule : DashRule) (dating : Dating) (text : Text) (m : MessageValue)
     → IsRead3164 rule dating text m → HasNoException rule m → IsCanonical rule (completed m)
 completed_canonical rule dating text m r none =
-    let near = read_near rule dating text m r in
-    near_canonical rule (completed m) (
-      record {
-        facility = refl;
-        severity = refl;
-        rest = record {
-          protocol = near.protocol;
-          hostname = near.hostname;
-          odd_host = near.odd_host;
-          names = near.names;
-          colon_process = near.colon_process;
-          msgid = near.msgid;
-          elements = near.elements;
-          parameters = near.parameters;
-          msg_front = near.msg_front;
-          msg_end = near.msg_end;
-        };
-      },
-      record {
-        canonical_timestamp = none.canonical_timestamp;
-        host_is_no_dash = none.host_is_no_dash;
-        host_ends_in_no_colon = none.host_ends_in_no_colon;
-        process_has_no_colon = none.process_has_no_colon;
-        message_is_no_list = none.message_is_no_list;
-      },
-    )
+    near_completed rule m (Some (unwrap_or m.facility LOG_SYSLOG)) (Some (unwrap_or m.severity SEV_DEBUG)) refl refl
+    (read_near rule dating text m r) none
 
 completed_bounded : (m : MessageValue) → IsBounded m → IsBounded (completed m)
 completed_bounded m b = record { protocol = b.protocol; procid = b.procid }

@@ -5,8 +5,8 @@ use Rattle.std.proofs.Common.{None, IfSome, IsSome, refl, sym, ap, subst, ◌∙
 use Rattle.std.proofs.lemmas.List.{length-append}
 use Rattle.std.specs.Char.{is_not_whitespace}
 use Rattle.std.specs.Option.{option_and_then}
-use Rattle.syslog_pieces.specs.Pieces.Class.{Text, Values, Front, NoFront, Row, Ends, run, exactly, optional, spaced}
-use Rattle.syslog_pieces.specs.Pri.{priority, facility_of}
+use Rattle.syslog_pieces.specs.Pieces.Class.{Text, Values, Front, NoFront, Row, Ends, run, optional, spaced}
+use Rattle.syslog_pieces.specs.Pri.{facility_of}
 use Rattle.syslog_pieces.specs.StructuredData.Element.{ElementValue}
 use Rattle.syslog_pieces.specs.StructuredData.Rfc3164List.{IsRfc3164List, BeginsNoList, rfc3164_list, elements_or}
 use Rattle.syslog_pieces.specs.Text.{is_blank, is_tag_char, dash, colon, name_text, IsHost, host, tag_word}
@@ -18,14 +18,14 @@ use Rattle.syslog_pieces.specs.declared.procid.ProcId.{ProcId}
 use Rattle.syslog_pieces.specs.declared.structured_data.rfc3164_list.DashRule.{DashRule}
 use Rattle.syslog_pieces.specs.declared.timestamp.OffsetTimestamp.{OffsetTimestamp}
 use Rattle.syslog_pieces.proofs.PieceLemmas.Class.{run_same, rest_same, heads, row_head, division_front}
-use Rattle.syslog_pieces.proofs.PieceLemmas.Class.{optional_det, optional_some, exactly_det, run_det}
+use Rattle.syslog_pieces.proofs.PieceLemmas.Class.{optional_det, run_det}
 use Rattle.syslog_pieces.proofs.PieceLemmas.Class.{spaced_det, spaced_parts, rest_whole}
 use Rattle.syslog_pieces.proofs.PieceLemmas.Kinds.{Begins, begins_apart, begins_more, begins_with}
-use Rattle.syslog_pieces.proofs.PieceLemmas.Steps.{piece_front, step, step_value, rows_step}
+use Rattle.syslog_pieces.proofs.PieceLemmas.Steps.{step, rows_step}
 use Rattle.syslog_pieces.proofs.PieceLemmas.Steps.{front_longer, absent_none, present_front}
-use Rattle.syslog_pieces.proofs.PriLemmas.{priority_det, priority_composed}
+use Rattle.syslog_pieces.proofs.PriLemmas.{priority_composed}
 use Rattle.syslog_pieces.proofs.StructuredDataLemmas.Rfc3164List.{begins_no_list}
-use Rattle.syslog_pieces.proofs.TextLemmas.Words.{host_det, tag_word_det}
+use Rattle.syslog_pieces.proofs.TextLemmas.Words.{host_det}
 use Rattle.syslog_pieces.proofs.TimestampLemmas.Rfc3164.{IsLow, rfc3164_stamp_det, stamped_date_begins}
 use Rattle.syslog_pieces.proofs.TimestampLemmas.RoundTrip.{stamp_text-canonical, printed_stamp-begins}
 use Rattle.syslog_loose.specs.Canonical.{IsBounded, IsCanonicalHost, AreCanonicalNames}
@@ -36,21 +36,21 @@ use Rattle.syslog_loose.specs.Printed.{timestamp_text, priority_of, printed_3164
 use Rattle.syslog_loose.specs.Rfc3164.{Names3164, names, NamesProgram, Resolves, body_row, rfc3164_row, IsRead3164}
 use Rattle.syslog_loose.specs.declared.message.Protocol.{Protocol}
 use Rattle.syslog_loose.specs.declared.message.Protocol.TheVariants.{RFC3164}
-use Rattle.syslog_loose.proofs.PriorityLemmas.{priority_low, priority_front, priority_small}
+use Rattle.syslog_loose.proofs.PriorityLemmas.{priority_small}
 use Rattle.syslog_loose.proofs.Rfc3164Lemmas.Apart.{digit_range}
 use Rattle.syslog_loose.proofs.Rfc3164Lemmas.Exceptions.{canonical_names}
 use Rattle.syslog_pieces.proofs.PieceLemmas.Each.{each_right, each_append}
 use Rattle.syslog_loose.proofs.Rfc3164Lemmas.Near.{TagField, tag_field, form_parts, no_colon_process}
 use Rattle.syslog_loose.proofs.Rfc3164Lemmas.Near.{severity_beside, read_near, some_same}
 use Rattle.syslog_loose.proofs.Rfc3164Lemmas.Printed.{printed_is}
-use Rattle.syslog_loose.proofs.Rfc3164Lemmas.ReadBack.{canonical_back, tag_back, program_field, to_stamp_back}
+use Rattle.syslog_loose.proofs.Rfc3164Lemmas.ReadBack.{canonical_back, to_stamp_back}
 use Rattle.syslog_loose.proofs.Rfc3164Lemmas.ReadBack.{host_field_back, stamp_back, names_back}
-use Rattle.syslog_loose.proofs.Rfc3164Lemmas.Rows.{from_gap, from_list, from_blanks, from_colon, to_stamp, to_colon}
-use Rattle.syslog_loose.proofs.Rfc3164Lemmas.Rows.{from_tag_end, from_tag, from_stamp, from_priority_end}
+use Rattle.syslog_loose.proofs.Rfc3164Lemmas.Rows.{from_gap, from_list, from_blanks, to_stamp, to_colon}
+use Rattle.syslog_loose.proofs.Rfc3164Lemmas.Rows.{from_tag_end, from_tag, from_stamp}
 use Rattle.syslog_loose.proofs.Rfc3164Lemmas.Unique.{told}
 use Rattle.syslog_loose.proofs.Rfc3164Lemmas.Whole.{program_text, whole, tail_text, trimmed_whole}
 use Rattle.syslog_loose.proofs.Rfc3164Lemmas.Rows.{to_stamp_det, to_colon_det}
-use Rattle.syslog_loose.proofs.TrimLemmas.{message_end, message_blanks, stamp_unblank}
+use Rattle.syslog_loose.proofs.TrimLemmas.{message_end, message_blanks}
 use Rattle.syslog_pieces.proofs.PieceLemmas.Rows.{row_pieces}
 
 -- ---- the host

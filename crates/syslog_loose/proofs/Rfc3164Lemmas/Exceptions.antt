@@ -1,5 +1,6 @@
 -- The condition for RFC 3164 is the exceptions' absence, beside all that they leave.
 use Rattle.std.proofs.Common.{◌≡◌, inl, inr, Option, Some, None, IfSome, sym, subst}
+use Rattle.std.proofs.Common.{IsSome}
 use Rattle.std.specs.Char.{is_not_whitespace}
 use Rattle.syslog_pieces.specs.Pieces.Class.{Text}
 use Rattle.syslog_pieces.specs.Text.{is_tag_char, dash, EndsInColon}
@@ -12,9 +13,11 @@ use Rattle.syslog_loose.specs.declared.message.Protocol.TheVariants.{RFC3164}
 use Rattle.syslog_loose.specs.Canonical.{IsVisible, IsCanonicalHost, IsBracketedProcess}
 use Rattle.syslog_loose.specs.Canonical.{AreCanonicalNames, IsCanonical3164, IsCanonicalFor, IsCanonical}
 use Rattle.syslog_loose.specs.Exceptions.{is_no_colon, HasNoColon, HasNoException, IsOddHost}
-use Rattle.syslog_loose.specs.Exceptions.{IsInnerProcess, AreNamesButExceptions, IsNearlyCanonical}
+use Rattle.syslog_loose.specs.Exceptions.{IsInnerProcess, AreNamesButExceptions, HasExceptionsAlone, IsNearlyCanonical}
 use Rattle.syslog_loose.specs.Message.{MessageValue}
 use Rattle.syslog_pieces.proofs.PieceLemmas.Each.{each_both, each_left, each_right}
+use Rattle.syslog_pieces.specs.declared.pri.SyslogFacility.{SyslogFacility}
+use Rattle.syslog_pieces.specs.declared.pri.SyslogSeverity.{SyslogSeverity}
 
 -- ---- the host
 visible_host : (host : Option Text) → IfSome host IsCanonicalHost → IfSome host IsVisible
@@ -114,24 +117,30 @@ canonical_near rule m e (canonical, other) =
       },
     )
 
+-- the same with a facility and a severity in place of its own
+pub near_completed : (rule : DashRule) (m : MessageValue) (f : Option SyslogFacility) (s : Option SyslogSeverity)
+    → IsSome f → IsSome s → HasExceptionsAlone m → HasNoException rule m
+    → IsCanonical rule (record m { facility = f; severity = s })
+near_completed rule m f s facility severity near none = (
+  record {
+    facility = facility;
+    severity = severity;
+    timestamp = none.canonical_timestamp;
+    hostname = canonical_host m.hostname near.hostname none.host_is_no_dash none.host_ends_in_no_colon;
+    elements = near.elements;
+    msg_front = near.msg_front;
+    msg_end = near.msg_end;
+  },
+  subst (λ (x : Protocol). IsCanonicalFor rule x (record m { facility = f; severity = s })) (sym near.protocol)
+      (record {
+        msgid = near.msgid;
+        names = canonical_names m.hostname m.appname m.procid near.names none.process_has_no_colon;
+        elements = near.parameters;
+        no_list = none.message_is_no_list;
+      }),
+)
+
 pub near_canonical : (rule : DashRule) (m : MessageValue) → IsNearlyCanonical m × HasNoException rule m
     → IsCanonical rule m
 near_canonical rule m (nearly, none) =
-    let near = nearly.rest in
-    let own : IsCanonical3164 rule m = record {
-      msgid = near.msgid;
-      names = canonical_names m.hostname m.appname m.procid near.names none.process_has_no_colon;
-      elements = near.parameters;
-      no_list = none.message_is_no_list;
-    } in (
-      record {
-        facility = nearly.facility;
-        severity = nearly.severity;
-        timestamp = none.canonical_timestamp;
-        hostname = canonical_host m.hostname near.hostname none.host_is_no_dash none.host_ends_in_no_colon;
-        elements = near.elements;
-        msg_front = near.msg_front;
-        msg_end = near.msg_end;
-      },
-      subst (λ (x : Protocol). IsCanonicalFor rule x m) (sym near.protocol) own,
-    )
+    near_completed rule m m.facility m.severity nearly.facility nearly.severity nearly.rest none

@@ -6,7 +6,7 @@ use Rattle.syslog_pieces.specs.StructuredData.Rfc3164List.{rfc3164_list}
 use Rattle.syslog_pieces.specs.Text.{is_blank, colon, host, tag_word}
 use Rattle.syslog_pieces.specs.Timestamp.Zone.{Dating}
 use Rattle.syslog_pieces.specs.declared.structured_data.rfc3164_list.DashRule.{DashRule}
-use Rattle.syslog_pieces.proofs.PieceLemmas.Class.{optional_none, rest_front, row_nil, row_cons, rows_join}
+use Rattle.syslog_pieces.proofs.PieceLemmas.Class.{optional_none, rest_front, row_cons, rows_join}
 use Rattle.syslog_pieces.proofs.PieceLemmas.Class.{rows_none_here, no_row_division, front_division}
 use Rattle.syslog_pieces.proofs.PieceLemmas.Rows.{row_of, ◌then◌}
 use Rattle.syslog_pieces.proofs.TextLemmas.Runs.{some_front_run}

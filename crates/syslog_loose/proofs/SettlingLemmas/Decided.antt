@@ -4,7 +4,7 @@ use Rattle.std.proofs.Common.{◌≡◌, ℕ, zero, suc, ◌≤◌, ◌⊎◌, i
 use Rattle.std.proofs.Common.{List, [], ◌∷◌, ◌++◌, length, refl, sym, ap, subst, ◌∙◌, arith}
 use Rattle.std.proofs.lemmas.Bool.Decides.{leb_tells, eqb_tells}
 use Rattle.std.proofs.lemmas.List.{length-append}
-use Rattle.syslog_pieces.specs.Pieces.Class.{Text, Class, Front, NoFront, IsDeterministic, Row}
+use Rattle.syslog_pieces.specs.Pieces.Class.{Text, Class, Front, NoFront, Row}
 use Rattle.syslog_pieces.specs.Pieces.Class.{Each, Ends, run, some_run, exactly, mapped, texted}
 use Rattle.syslog_pieces.specs.Pieces.Lists.{list_before, more_before}
 use Rattle.syslog_pieces.specs.StructuredData.{value, param_row, param_of, param, element_row, element_of, element}
@@ -15,7 +15,7 @@ use Rattle.syslog_pieces.specs.Text.{is_blank}
 use Rattle.syslog_pieces.specs.Text.CharClass.{is_id_char, is_name_char}
 use Rattle.syslog_pieces.specs.declared.structured_data.rfc3164_list.DashRule.{DashRule}
 use Rattle.syslog_pieces.specs.declared.structured_data.rfc3164_list.DashRule.TheVariants.{BeforeAnything, BeforeBlank}
-use Rattle.syslog_pieces.proofs.PieceLemmas.Class.{heads, run_same, run_det, some_run_det, exactly_det, texted_det}
+use Rattle.syslog_pieces.proofs.PieceLemmas.Class.{heads, run_same}
 use Rattle.syslog_pieces.proofs.PieceLemmas.Class.{front_same, no_front_no, mapped_front, no_mapped, texted_front}
 use Rattle.syslog_pieces.proofs.PieceLemmas.Class.{no_texted, row_nil, row_cons, row_none_here, row_none_later}
 use Rattle.syslog_pieces.proofs.PieceLemmas.Lists.{begins, list_here, list_cons, no_list, list_goes}
@@ -23,7 +23,7 @@ use Rattle.syslog_pieces.proofs.PieceLemmas.Lists.{more_here, more_cons, no_more
 use Rattle.syslog_pieces.proofs.PieceLemmas.Meets.{Meets, meets_none}
 use Rattle.syslog_pieces.proofs.PieceLemmas.Steps.{front_longer}
 use Rattle.syslog_pieces.proofs.PieceLemmas.Class.{AllDeterministic, ◌also◌}
-use Rattle.syslog_pieces.proofs.StructuredDataLemmas.Elements.{value_det, value_here, unit_goes, param_det}
+use Rattle.syslog_pieces.proofs.StructuredDataLemmas.Elements.{value_here, unit_goes, param_det}
 use Rattle.syslog_pieces.proofs.StructuredDataLemmas.Elements.{param_row_det, element_row_det, element_det}
 use Rattle.syslog_pieces.proofs.StructuredDataLemmas.Elements.{space_is_no_close}
 use Rattle.syslog_pieces.proofs.StructuredDataLemmas.Units.{decide}

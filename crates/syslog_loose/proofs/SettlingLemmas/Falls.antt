@@ -7,7 +7,7 @@ use Rattle.std.specs.Char.{is_not_whitespace}
 use Rattle.std.specs.List.{AllByRecursion}
 use Rattle.std.specs.Option.{option_map_or, option_and_then}
 use Rattle.syslog_pieces.specs.Pieces.Class.{Text, Values, Front, NoFront, Row, Ends, run, exactly, optional, spaced}
-use Rattle.syslog_pieces.specs.Pri.{priority, facility_number, severity_number, facility_of, severity_of}
+use Rattle.syslog_pieces.specs.Pri.{facility_number, severity_number, facility_of, severity_of}
 use Rattle.syslog_pieces.specs.StructuredData.Element.{ElementValue}
 use Rattle.syslog_pieces.specs.StructuredData.Rfc3164List.{IsRfc3164List, BeginsNoList, rfc3164_list, elements_or}
 use Rattle.syslog_pieces.specs.Text.{trimmed, is_blank, colon, name_text, host, tag_word}
@@ -20,11 +20,11 @@ use Rattle.syslog_pieces.specs.declared.procid.ProcId.{ProcId}
 use Rattle.syslog_pieces.specs.declared.structured_data.rfc3164_list.DashRule.TheVariants.{BeforeBlank}
 use Rattle.syslog_pieces.specs.declared.timestamp.OffsetTimestamp.{OffsetTimestamp}
 use Rattle.syslog_pieces.proofs.PieceLemmas.Class.{run_same, rest_same, heads, behind, row_head}
-use Rattle.syslog_pieces.proofs.PieceLemmas.Class.{row_cons, division_front, optional_det, optional_some}
+use Rattle.syslog_pieces.proofs.PieceLemmas.Class.{division_front}
 use Rattle.syslog_pieces.proofs.PieceLemmas.Class.{optional_none, run_det, no_spaced_space}
 use Rattle.syslog_pieces.proofs.PieceLemmas.Kinds.{Begins, begins_apart, begins_more, begins_with}
-use Rattle.syslog_pieces.proofs.PieceLemmas.Steps.{piece_front, front_longer, absent_none, rows_step}
-use Rattle.syslog_pieces.proofs.PriLemmas.{priority_det, priority_composed}
+use Rattle.syslog_pieces.proofs.PieceLemmas.Steps.{front_longer, absent_none, rows_step}
+use Rattle.syslog_pieces.proofs.PriLemmas.{priority_composed}
 use Rattle.syslog_pieces.proofs.StructuredDataLemmas.Rfc3164List.{full_shorter, begins_no_list}
 use Rattle.syslog_pieces.proofs.TimestampLemmas.Rfc3164.{IsLow, rfc3164_stamp_det, stamped_date_begins}
 use Rattle.syslog_pieces.proofs.TimestampLemmas.Piece.{stamp_each, space_ends}
@@ -36,15 +36,15 @@ use Rattle.syslog_loose.specs.Message.{MessageValue}
 use Rattle.syslog_loose.specs.Printed.{timestamp_text, tag_text, priority_of, printed_3164, printed}
 use Rattle.syslog_loose.specs.Rfc3164.{Names3164, Resolves, body_row, rfc3164_row, IsRead3164}
 use Rattle.syslog_loose.specs.Settling.{Costs, NamesWeigh, Weighs}
-use Rattle.syslog_loose.proofs.PriorityLemmas.{priority_low, priority_front, priority_small}
+use Rattle.syslog_loose.proofs.PriorityLemmas.{priority_small}
 use Rattle.syslog_loose.proofs.Rfc3164Lemmas.Apart.{IsDigit, digit_range}
 use Rattle.syslog_loose.proofs.Rfc3164Lemmas.Bounded.{read_bounded}
 use Rattle.syslog_loose.proofs.Rfc3164Lemmas.Exact.{stamp_low}
 use Rattle.syslog_loose.proofs.Rfc3164Lemmas.Near.{read_near}
 use Rattle.syslog_loose.proofs.Rfc3164Lemmas.Printed.{printed_is}
 use Rattle.syslog_loose.proofs.Rfc3164Lemmas.ReadBack.{list_field, list_same, body_back, stamp_back, to_stamp_back}
-use Rattle.syslog_loose.proofs.Rfc3164Lemmas.Rows.{from_gap, from_list, from_blanks, from_colon, to_stamp}
-use Rattle.syslog_loose.proofs.Rfc3164Lemmas.Rows.{from_tag_end, from_tag, from_stamp, from_priority_end}
+use Rattle.syslog_loose.proofs.Rfc3164Lemmas.Rows.{from_gap, from_list, from_blanks, to_stamp}
+use Rattle.syslog_loose.proofs.Rfc3164Lemmas.Rows.{from_stamp}
 use Rattle.syslog_loose.proofs.Rfc3164Lemmas.Unique.{body_det, told}
 use Rattle.syslog_loose.proofs.Rfc3164Lemmas.Whole.{program_text, whole, tail_text, trimmed_whole}
 use Rattle.syslog_loose.proofs.Rfc3164Lemmas.Rows.{to_stamp_det}
@@ -52,7 +52,7 @@ use Rattle.syslog_loose.proofs.SettlingLemmas.Costs.{free, at_most, bare_zero}
 use Rattle.syslog_loose.proofs.SettlingLemmas.Names.{move, same_values, no_blanks, msg_read}
 use Rattle.syslog_loose.proofs.SettlingLemmas.Names.{names_text, Stays, Moved, names_step}
 use Rattle.syslog_loose.proofs.SettlingLemmas.NoList.{no_list_digit}
-use Rattle.syslog_loose.proofs.TrimLemmas.{message_end, message_blanks, stamp_unblank}
+use Rattle.syslog_loose.proofs.TrimLemmas.{message_end, message_blanks}
 use Rattle.syslog_pieces.proofs.PieceLemmas.Rows.{row_pieces, row_of, ◌then◌}
 
 -- ---- elements and the message behind the colon: read as the same, or as a lighter message

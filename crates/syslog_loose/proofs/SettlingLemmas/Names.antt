@@ -15,13 +15,12 @@ use Rattle.syslog_pieces.specs.declared.procid.ProcId.TheVariants.{PID, Name}
 use Rattle.syslog_pieces.specs.declared.structured_data.rfc3164_list.DashRule.TheVariants.{BeforeBlank}
 use Rattle.syslog_pieces.proofs.PieceLemmas.Class.{AllDeterministic, run_same, rest_same, heads, row_cons}
 use Rattle.syslog_pieces.proofs.PieceLemmas.Class.{row_det, front_same, division_front, rest_front}
-use Rattle.syslog_pieces.proofs.PieceLemmas.Class.{optional_det, optional_some, optional_none, exactly_det, run_det}
-use Rattle.syslog_pieces.proofs.PieceLemmas.Class.{spaced_det, spaced_front, no_spaced_space, no_spaced_piece}
+use Rattle.syslog_pieces.proofs.PieceLemmas.Class.{optional_some, optional_none}
+use Rattle.syslog_pieces.proofs.PieceLemmas.Class.{spaced_front, no_spaced_space, no_spaced_piece}
 use Rattle.syslog_pieces.proofs.PieceLemmas.Lists.{begins}
 use Rattle.syslog_pieces.proofs.PieceLemmas.Steps.{piece_front, step, step_value, rows_step}
 use Rattle.syslog_pieces.proofs.StructuredDataLemmas.Rfc3164List.{no_rfc3164_list}
 use Rattle.syslog_pieces.proofs.TextLemmas.ReadBack.{dash_ends_not}
-use Rattle.syslog_pieces.proofs.TextLemmas.Words.{host_det, tag_word_det}
 use Rattle.syslog_loose.specs.Canonical.{IsVisible, IsCanonicalHost, IsBoundedProcess, AreCanonicalNames}
 use Rattle.syslog_loose.specs.Exceptions.{is_no_colon, HasNoColon, IsOddHost, is_inner_char, AreNamesButExceptions}
 use Rattle.syslog_loose.specs.Printed.{tag_text}
@@ -34,8 +33,8 @@ use Rattle.syslog_pieces.proofs.PieceLemmas.Each.{each_both, each_left, each_rig
 use Rattle.syslog_pieces.proofs.PieceLemmas.Each.{each_front, each_behind, each_append}
 use Rattle.syslog_pieces.proofs.PieceLemmas.Rows.{row_pieces, row_of, ◌then◌}
 use Rattle.syslog_loose.proofs.Rfc3164Lemmas.ReadBack.{program_field, resolved, no_tag_colon, names_back}
-use Rattle.syslog_loose.proofs.Rfc3164Lemmas.ReadBack.{tagged, tag_back, host_field_back}
-use Rattle.syslog_loose.proofs.Rfc3164Lemmas.Rows.{from_blanks, from_colon, from_tag_end, from_tag, to_colon}
+use Rattle.syslog_loose.proofs.Rfc3164Lemmas.ReadBack.{tagged, host_field_back}
+use Rattle.syslog_loose.proofs.Rfc3164Lemmas.Rows.{from_blanks, from_colon, to_colon}
 use Rattle.syslog_loose.proofs.Rfc3164Lemmas.Unique.{body_det}
 use Rattle.syslog_loose.proofs.Rfc3164Lemmas.Whole.{program_text}
 use Rattle.syslog_loose.proofs.Rfc3164Lemmas.Rows.{to_colon_det}

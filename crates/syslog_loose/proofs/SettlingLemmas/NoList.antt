@@ -4,15 +4,15 @@ use Rattle.std.proofs.Common.{[], ◌∷◌, ◌++◌, length, refl, sym, ap, su
 use Rattle.std.proofs.lemmas.Bool.{and_parts}
 use Rattle.std.specs.Char.{is_not_whitespace}
 use Rattle.syslog_pieces.specs.Pieces.Class.{Text, Front, NoFront, Row, Values, Each}
-use Rattle.syslog_pieces.specs.Pieces.Class.{Ends, run, some_run, exactly, texted}
+use Rattle.syslog_pieces.specs.Pieces.Class.{Ends}
 use Rattle.syslog_pieces.specs.Pieces.Lists.{list_before}
-use Rattle.syslog_pieces.specs.StructuredData.{value, param, param_row, element_row}
+use Rattle.syslog_pieces.specs.StructuredData.{param, param_row, element_row}
 use Rattle.syslog_pieces.specs.StructuredData.Rfc3164List.{full_element, IsDashBefore, BeginsNoList}
 use Rattle.syslog_pieces.specs.Text.{is_blank}
 use Rattle.syslog_pieces.specs.Text.CharClass.{is_id_char, is_name_char}
 use Rattle.syslog_pieces.specs.declared.structured_data.rfc3164_list.DashRule.{DashRule}
 use Rattle.syslog_pieces.specs.declared.structured_data.rfc3164_list.DashRule.TheVariants.{BeforeBlank}
-use Rattle.syslog_pieces.proofs.PieceLemmas.Class.{heads, behind, row_head}
+use Rattle.syslog_pieces.proofs.PieceLemmas.Class.{heads, behind}
 use Rattle.syslog_pieces.proofs.PieceLemmas.Lists.{begins}
 use Rattle.syslog_pieces.proofs.PieceLemmas.Kinds.{Begins, begins_apart, begins_more, each_begins}
 use Rattle.syslog_pieces.proofs.PieceLemmas.Rows.{row_pieces}

@@ -1,24 +1,22 @@
 -- The printed text of a message that was read shows no month date, and the variant reads its protocol.
-use Rattle.std.proofs.Common.{inl, inr, [], ◌∷◌, ◌++◌, Option, Some, None, refl, sym, ap, subst, arith}
-use Rattle.syslog_pieces.specs.Pieces.Class.{Text, Front, Row, run, rest, optional}
-use Rattle.syslog_pieces.specs.Pri.{priority}
-use Rattle.syslog_pieces.specs.Text.{is_blank, name_text}
+use Rattle.std.proofs.Common.{inl, inr, [], ◌∷◌, ◌++◌, Option, Some, None, sym, ap, subst, arith}
+use Rattle.syslog_pieces.specs.Pieces.Class.{Text, Front, Row, rest}
+use Rattle.syslog_pieces.specs.Text.{name_text}
 use Rattle.syslog_pieces.specs.Timestamp.Rfc3164.{showing_row, ShowsYearless}
 use Rattle.syslog_pieces.specs.Timestamp.MonthDate.{yearless_date}
 use Rattle.syslog_pieces.specs.Timestamp.Zone.{Dating}
 use Rattle.syslog_pieces.specs.declared.timestamp.OffsetTimestamp.{OffsetTimestamp}
 use Rattle.syslog_pieces.specs.declared.timestamp.month_date.MonthDate.{MonthDate}
-use Rattle.syslog_pieces.proofs.PieceLemmas.Class.{row_head, division_front, optional_some, optional_det, run_det}
+use Rattle.syslog_pieces.proofs.PieceLemmas.Class.{division_front}
 use Rattle.syslog_pieces.proofs.PieceLemmas.Kinds.{Begins, begins_apart, begins_more}
-use Rattle.syslog_pieces.proofs.PieceLemmas.Steps.{piece_front, step, rows_step}
+use Rattle.syslog_pieces.proofs.PieceLemmas.Steps.{rows_step}
 use Rattle.syslog_pieces.proofs.PieceLemmas.Rows.{row_pieces}
-use Rattle.syslog_pieces.proofs.PriLemmas.{priority_det}
 use Rattle.syslog_pieces.proofs.TimestampLemmas.Rfc3164.{IsLow}
 use Rattle.syslog_pieces.proofs.TimestampLemmas.MonthDate.{month_date_begins}
 use Rattle.syslog_pieces.proofs.TimestampLemmas.Months.{IsLetter}
 use Rattle.syslog_loose.specs.Canonical.{EndsVisibly}
 use Rattle.syslog_loose.specs.Message.{MessageValue}
-use Rattle.syslog_loose.specs.Printed.{timestamp_text, priority_of, printed_3164, printed}
+use Rattle.syslog_loose.specs.Printed.{timestamp_text, printed_3164, printed}
 use Rattle.syslog_loose.specs.ReadBack.{ReadsProtocol}
 use Rattle.syslog_loose.specs.Reading.{dash_rule, IsRead, AsksYear}
 use Rattle.syslog_loose.specs.Rfc3164.{IsRead3164}
@@ -26,14 +24,12 @@ use Rattle.syslog_loose.specs.Rfc5424.{IsRead5424}
 use Rattle.syslog_loose.specs.declared.message.Protocol.{Protocol}
 use Rattle.syslog_loose.specs.declared.variant.Variant.{Variant}
 use Rattle.syslog_loose.specs.declared.variant.Variant.TheVariants.{Either, RFC3164, RFC5424}
-use Rattle.syslog_loose.proofs.PriorityLemmas.{priority_low, priority_front}
 use Rattle.syslog_loose.proofs.Rfc3164Lemmas.Apart.{shown_apart}
 use Rattle.syslog_loose.proofs.Rfc3164Lemmas.Exact.{stamp_low}
 use Rattle.syslog_loose.proofs.Rfc3164Lemmas.Near.{read_near}
 use Rattle.syslog_loose.proofs.Rfc3164Lemmas.Printed.{printed_is}
-use Rattle.syslog_loose.proofs.TrimLemmas.{stamp_unblank}
 use Rattle.syslog_loose.proofs.Rfc3164Lemmas.Shown.{shows_month_date}
-use Rattle.syslog_loose.proofs.Rfc3164Lemmas.Whole.{program_text, whole, tail_text, trimmed_whole}
+use Rattle.syslog_loose.proofs.Rfc3164Lemmas.Whole.{program_text, tail_text, trimmed_whole}
 use Rattle.syslog_loose.proofs.Rfc3164Lemmas.Rows.{to_stamp, to_stamp_det}
 use Rattle.syslog_loose.proofs.Rfc3164Lemmas.ReadBack.{to_stamp_back}
 use Rattle.syslog_loose.proofs.Rfc5424Lemmas.ReadBack as rfc5424

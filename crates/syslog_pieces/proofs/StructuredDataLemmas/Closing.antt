@@ -9,7 +9,7 @@ use Rattle.std.specs.List.{flat_map, AllByRecursion}
 use Rattle.std.specs.Str.{chars, IsUtf8, encode_utf8_all}
 use Rattle.syslog_pieces.specs.Text.CharClass.{is_name_char, is_id_char, is_open_char}
 use Rattle.syslog_pieces.specs.Pieces.Class.{Text, Class, Front, NoFront, Values, Divides}
-use Rattle.syslog_pieces.specs.Pieces.Class.{IsDeterministic, join, Row, Each, run, some_run, exactly, texted}
+use Rattle.syslog_pieces.specs.Pieces.Class.{IsDeterministic, join, Row, Each, some_run, exactly}
 use Rattle.syslog_pieces.specs.Bodies.Closing.{start_row, start, id_alone, inside_row, inside, opening_row, opening}
 use Rattle.syslog_pieces.specs.Bodies.Closing.{name_alone, quoted_row, quoted, tail_row, closing, byte_count, IsDead}
 use Rattle.syslog_pieces.specs.StructuredData.Element.{ElementValue}
@@ -19,7 +19,7 @@ use Rattle.syslog_pieces.specs.StructuredData.{param, element, element_row, elem
 use Rattle.syslog_pieces.specs.Text.{is_blank}
 use Rattle.syslog_pieces.proofs.PieceLemmas.Class.{AllDeterministic, heads, run_det, some_run_det}
 use Rattle.syslog_pieces.proofs.PieceLemmas.Class.{◌also◌, exactly_det, texted_det, mapped_front, rows_join}
-use Rattle.syslog_pieces.proofs.PieceLemmas.Class.{row_det, row_head, row_none_here, nil_front, rows_none_here}
+use Rattle.syslog_pieces.proofs.PieceLemmas.Class.{row_det, row_head, row_none_here, rows_none_here}
 use Rattle.syslog_pieces.proofs.StructuredDataLemmas.Elements.{unit_goes, space_is_no_close, value_det}
 use Rattle.syslog_pieces.proofs.PieceLemmas.Lists.{list_goes, more_goes}
 use Rattle.syslog_pieces.proofs.PieceLemmas.Meets.{Meets, meets_on, meets_none, meets_none_on}

@@ -10,7 +10,7 @@ use Rattle.syslog_pieces.specs.Pieces.Class.{Text, Front, Values, Row, exactly}
 use Rattle.syslog_pieces.specs.Bodies.Closing.{quoted_row, quoted}
 use Rattle.syslog_pieces.specs.StructuredData.{IsValue, value}
 use Rattle.syslog_pieces.proofs.TextLemmas.Chars.{chars_cut, one_ascii}
-use Rattle.syslog_pieces.proofs.PieceLemmas.Class.{row_cons, row_head, nil_front}
+use Rattle.syslog_pieces.proofs.PieceLemmas.Class.{row_cons, row_head}
 use Rattle.syslog_pieces.proofs.PieceLemmas.Lists.{begins}
 use Rattle.syslog_pieces.proofs.PieceLemmas.Rows.{row_pieces}
 

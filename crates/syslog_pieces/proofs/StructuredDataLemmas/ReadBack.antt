@@ -3,16 +3,16 @@ use Rattle.std.proofs.Common.{◌≡◌, ◌≢◌, ℕ, ◌<◌, inl, inr, List
 use Rattle.std.proofs.Common.{Option, Some, None, refl, sym, ap, subst, ◌∙◌, append_assoc, arith}
 use Rattle.std.specs.List.{flat_map, AllByRecursion}
 use Rattle.syslog_pieces.specs.Bodies.Verbatim.{bare_param_text}
-use Rattle.syslog_pieces.specs.Pieces.Class.{Text, NoFront, Each, Ends, Values, run, some_run, exactly, texted}
-use Rattle.syslog_pieces.specs.Pieces.Lists.{IsMany, IsList, IsMore, list_before}
-use Rattle.syslog_pieces.specs.StructuredData.{IsValue, value, param_row, param, element_row}
+use Rattle.syslog_pieces.specs.Pieces.Class.{Text, NoFront, Each, Ends, Values}
+use Rattle.syslog_pieces.specs.Pieces.Lists.{IsMany, IsList, IsMore}
+use Rattle.syslog_pieces.specs.StructuredData.{IsValue, param_row, param, element_row}
 use Rattle.syslog_pieces.specs.StructuredData.{element_of, element, item, strict, forgiving}
 use Rattle.syslog_pieces.specs.StructuredData.Element.{ElementValue, param_text, element_text}
 use Rattle.syslog_pieces.specs.StructuredData.Element.{joined_elements, elements_text}
 use Rattle.syslog_pieces.specs.StructuredData.Canonical.{IsCanonicalParam, BeginsUnblank, IsCanonicalElement}
 use Rattle.syslog_pieces.specs.Text.{is_blank}
 use Rattle.syslog_pieces.specs.Text.CharClass.{is_id_char, is_name_char}
-use Rattle.syslog_pieces.proofs.PieceLemmas.Class.{heads, row_head}
+use Rattle.syslog_pieces.proofs.PieceLemmas.Class.{heads}
 use Rattle.syslog_pieces.proofs.PieceLemmas.Rows.{row_pieces}
 use Rattle.syslog_pieces.proofs.StructuredDataLemmas.Elements.{item_begins}
 use Rattle.syslog_pieces.proofs.StructuredDataLemmas.Verbatim.{strict_some}

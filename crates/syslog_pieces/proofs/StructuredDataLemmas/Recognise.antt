@@ -5,23 +5,23 @@ use Rattle.std.proofs.lemmas.List.{length-append, nil_from_length}
 use Rattle.std.specs.Result.{MatchResult}
 use Rattle.std.specs.Str.{chars}
 use Rattle.syslog_pieces.specs.Text.CharClass.{is_unescaped_char, is_inert_char}
-use Rattle.syslog_pieces.specs.Pieces.Class.{Text, Class, Front, NoFront, IsDeterministic, Values, Row, Each, exactly}
+use Rattle.syslog_pieces.specs.Pieces.Class.{Text, Class, Front, NoFront, Values, Row, Each, exactly}
 use Rattle.syslog_pieces.specs.Bodies.Closing.{start_row, start, inside, opening_row, opening, quoted_row, inside_row}
 use Rattle.syslog_pieces.specs.Bodies.Closing.{quoted, tail_row, closing, byte_count, IsDead, last_char}
 use Rattle.syslog_pieces.specs.StructuredData.Element.{ElementValue}
 use Rattle.syslog_pieces.specs.StructuredData.Escapes.{TextUnit, pair, single, unit_text}
-use Rattle.syslog_pieces.specs.Pieces.Lists.{list_before, more_before}
+use Rattle.syslog_pieces.specs.Pieces.Lists.{more_before}
 use Rattle.syslog_pieces.specs.Bodies.Scan.{SplitsRun}
 use Rattle.syslog_pieces.specs.StructuredData.{IsValueUnit, value, param, element}
 use Rattle.syslog_pieces.proofs.PieceLemmas.Class.{heads, no_front_no, row_nil, row_cons, row_none_here}
-use Rattle.syslog_pieces.proofs.PieceLemmas.Class.{row_none_later, row_det, exactly_det}
+use Rattle.syslog_pieces.proofs.PieceLemmas.Class.{row_none_later}
 use Rattle.syslog_pieces.proofs.StructuredDataLemmas.Closing.{value_closing, no_closing}
 use Rattle.syslog_pieces.proofs.StructuredDataLemmas.Closing.{dead_values, element_starts, list_enters, tail_enters}
 use Rattle.syslog_pieces.proofs.StructuredDataLemmas.Closing.{no_opening, Passes, passes_here, passes_shut}
 use Rattle.syslog_pieces.proofs.StructuredDataLemmas.Closing.{passes_space, passes_quoted, passes_dead}
 use Rattle.syslog_pieces.proofs.StructuredDataLemmas.Closing.{passes_dead_on, start_shut, opening_shut}
 use Rattle.syslog_pieces.proofs.StructuredDataLemmas.Closing.{quoted_row_det, quoted_det}
-use Rattle.syslog_pieces.proofs.StructuredDataLemmas.Elements.{value_det, value_here, unit_goes}
+use Rattle.syslog_pieces.proofs.StructuredDataLemmas.Elements.{value_here, unit_goes}
 use Rattle.syslog_pieces.proofs.PieceLemmas.Lists.{begins, list_here, more_here, no_list, no_more, no_more_behind}
 use Rattle.syslog_pieces.proofs.PieceLemmas.Meets.{Meets, meets_here, meets_on, meets_none, row_goes, row_first}
 use Rattle.syslog_pieces.proofs.PieceLemmas.Rows.{row_of, ◌then◌, no_row}

@@ -5,18 +5,17 @@ use Rattle.std.specs.Prelude.{is_some}
 use Rattle.std.specs.Borrow.{Bor}
 use Rattle.syslog_pieces.specs.Bodies.Closing.{start_row, start, inside_row, opening_row, opening, closing}
 use Rattle.syslog_pieces.specs.Pieces.Class.{Text, Front, NoFront, IsDeterministic, optional}
-use Rattle.syslog_pieces.specs.Pieces.Class.{Values, Row, run, some_run, exactly, texted}
+use Rattle.syslog_pieces.specs.Pieces.Class.{Values, Row, exactly}
 use Rattle.syslog_pieces.specs.Pieces.Lists.{many, list_before}
 use Rattle.syslog_pieces.specs.Pieces.View.{Reads}
 use Rattle.syslog_pieces.specs.StructuredData.{param, element_row, element}
 use Rattle.syslog_pieces.specs.StructuredData.Element.{ElementValue}
 use Rattle.syslog_pieces.specs.StructuredData.Rfc3164List.{full_element, IsDashBefore, BeginsNoList}
 use Rattle.syslog_pieces.specs.StructuredData.Rfc3164List.{rfc3164_list, ListsNoElements}
-use Rattle.syslog_pieces.specs.Text.{is_blank, dash}
-use Rattle.syslog_pieces.specs.Text.CharClass.{is_id_char, is_name_char}
+use Rattle.syslog_pieces.specs.Text.{dash}
 use Rattle.syslog_pieces.specs.declared.structured_data.rfc3164_list.DashRule.{DashRule}
 use Rattle.syslog_pieces.proofs.PieceLemmas.Class.{behind, front_same, no_front_no, optional_none}
-use Rattle.syslog_pieces.proofs.PieceLemmas.Class.{optional_some, row_det, row_nil, row_cons, rows_split, row_head}
+use Rattle.syslog_pieces.proofs.PieceLemmas.Class.{optional_some, row_det, rows_split}
 use Rattle.syslog_pieces.proofs.PieceLemmas.Lists.{many_det, many_cons, many_none, no_many_no}
 use Rattle.syslog_pieces.proofs.PieceLemmas.Meets.{Meets}
 use Rattle.syslog_pieces.proofs.PieceLemmas.Rows.{row_pieces}

@@ -3,21 +3,20 @@ use Rattle.std.proofs.Common.{◌≡◌, false, List, [], ◌∷◌, ◌++◌, m
 use Rattle.std.proofs.Common.{inl, inr, refl, sym, ap, subst, ◌∙◌, append_assoc, arith}
 use Rattle.std.specs.List.{flat_map}
 use Rattle.std.specs.Prelude.{is_some}
-use Rattle.syslog_pieces.specs.Bodies.Closing.{opening, name_alone, quoted, start, id_alone, inside, inside_row}
+use Rattle.syslog_pieces.specs.Bodies.Closing.{opening, name_alone, quoted, start, id_alone, inside_row}
 use Rattle.syslog_pieces.specs.Bodies.Verbatim.{bare_param_text, CopiedOn, VerbatimItems, ListPrints}
 use Rattle.syslog_pieces.specs.Bodies.Closing.{opening_row, start_row, quoted_row}
-use Rattle.syslog_pieces.specs.Pieces.Class.{Text, Front, NoFront, Ends, Divides, Row}
-use Rattle.syslog_pieces.specs.Pieces.Class.{join, exactly, run, some_run, texted}
+use Rattle.syslog_pieces.specs.Pieces.Class.{Text, Front, NoFront, Ends}
+use Rattle.syslog_pieces.specs.Pieces.Class.{exactly, run, some_run, texted}
 use Rattle.syslog_pieces.specs.Pieces.Verbatim.{Verbatim}
 use Rattle.syslog_pieces.specs.Pieces.Lists.{many, list_before, more_before}
 use Rattle.syslog_pieces.specs.Pieces.View.{shown}
-use Rattle.syslog_pieces.specs.StructuredData.{value, param, bracketed, element, item, strict, forgiving}
+use Rattle.syslog_pieces.specs.StructuredData.{param, bracketed, element, item, strict, forgiving}
 use Rattle.syslog_pieces.specs.StructuredData.Element.{ElementValue, element_text, param_text}
 use Rattle.syslog_pieces.specs.StructuredData.Element.{joined_elements, elements_text}
 use Rattle.syslog_pieces.specs.Text.{is_blank}
 use Rattle.syslog_pieces.specs.Text.CharClass.{is_name_char, is_id_char}
 use Rattle.syslog_pieces.specs.declared.text.verbatim.Cut.{Cut}
-use Rattle.syslog_pieces.proofs.PieceLemmas.Class.{row_nil, row_cons, row_head}
 use Rattle.syslog_pieces.proofs.PieceLemmas.Verbatim.{verbatim_by_text, front_of}
 use Rattle.syslog_pieces.proofs.PieceLemmas.Lists.{many_here, many_cons, begins, list_here}
 use Rattle.syslog_pieces.proofs.PieceLemmas.Lists.{list_cons, more_here, more_cons}

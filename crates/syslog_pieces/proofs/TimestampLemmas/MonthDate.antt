@@ -1,10 +1,10 @@
 -- A text has one month date at its front, and shows one.
 use Rattle.std.proofs.Common.{◌≡◌, ◌⊎◌, inl, inr, ℕ, ◌≤◌, Bool, true, false, nat_eq, ◌||◌}
-use Rattle.std.proofs.Common.{List, [], ◌∷◌, ◌++◌, refl, sym, ap, subst, ◌∙◌, arith}
+use Rattle.std.proofs.Common.{List, ◌∷◌, ◌++◌, refl, sym, ap, subst, ◌∙◌, arith}
 use Rattle.std.proofs.lemmas.Bool.{eqb-true}
 use Rattle.std.specs.Char.{is_ascii_digit}
 use Rattle.syslog_pieces.specs.Pieces.Class.{Text, Class, Values, Front, Row}
-use Rattle.syslog_pieces.specs.Pieces.Class.{IsDeterministic, some_run, exactly, optional}
+use Rattle.syslog_pieces.specs.Pieces.Class.{IsDeterministic, some_run, exactly}
 use Rattle.syslog_pieces.specs.Text.{number, is_blank, colon}
 use Rattle.syslog_pieces.specs.Timestamp.MonthDate.{month, short_number, clock_row, yearless_row, yearless_of}
 use Rattle.syslog_pieces.specs.Timestamp.MonthDate.{yearless_date, dated_row, dated_of, dated_date, month_date}
@@ -135,23 +135,16 @@ pub month_date_det : IsDeterministic month_date
 month_date_det = either_det MonthDate yearless_date.Is dated_date.Is yearless_det dated_det dates_apart
 
 -- ---- a month date begins with a letter
-yearless_begins : (p q : Text) (v : MonthDate) → yearless_date.Is p q v → Begins IsLetter (p ++ q)
-yearless_begins p q v (vs, h, i) =
-    let f : Front (Row yearless_row) (p ++ q) q vs = record { piece = p; whole = refl; is = h } in
-    let f1 = row_head month (blanks ∷ from_day) f in
-    subst (λ (x : Text). Begins IsLetter x) (sym f1.1.whole)
-    (begins_more IsLetter f1.1.piece f1.0 (month_begins f1.1.piece f1.0 vs.0 f1.1.is))
-
-dated_begins : (p q : Text) (v : MonthDate) → dated_date.Is p q v → Begins IsLetter (p ++ q)
-dated_begins p q v (vs, h, i) =
-    let f : Front (Row dated_row) (p ++ q) q vs = record { piece = p; whole = refl; is = h } in
-    let f1 = row_head month (blanks ∷ from_dated_day) f in
-    subst (λ (x : Text). Begins IsLetter x) (sym f1.1.whole)
-    (begins_more IsLetter f1.1.piece f1.0 (month_begins f1.1.piece f1.0 vs.0 f1.1.is))
+row_begins : (Cs : List Class) (p q : Text) (vs : Values (month ∷ Cs)) → (Row (month ∷ Cs)).Is p q vs
+    → Begins IsLetter (p ++ q)
+row_begins Cs p q vs h =
+    let f = row_head month Cs {text = p ++ q} (record { piece = p; whole = refl; is = h }) in
+    subst (λ (x : Text). Begins IsLetter x) (sym f.1.whole)
+    (begins_more IsLetter f.1.piece f.0 (month_begins f.1.piece f.0 vs.0 f.1.is))
 
 pub month_date_begins : (p q : Text) (v : MonthDate) → month_date.Is p q v → Begins IsLetter (p ++ q)
-month_date_begins p q v (inl h) = yearless_begins p q v h
-month_date_begins p q v (inr h) = dated_begins p q v h
+month_date_begins p q v (inl (vs, h, i)) = row_begins (blanks ∷ from_day) p q vs h
+month_date_begins p q v (inr (vs, h, i)) = row_begins (blanks ∷ from_dated_day) p q vs h
 
 -- ---- a text shows one date without a year
 pub shown_once : (text : Text) (d d' : MonthDate) → ShowsYearless text d → ShowsYearless text d' → d ≡ d'

@@ -9,11 +9,11 @@ use Rattle.std.specs.Str.Parse.{digits_value}
 use Rattle.jiff_fmt.specs.Text.{pad2}
 use Rattle.syslog_pieces.specs.Bodies.MonthReading.{day_row, clock_values, date_of}
 use Rattle.syslog_pieces.specs.Bodies.Standard.{IsMonthBytes, IsDayBytes, IsClockBytes, EndsClock}
-use Rattle.syslog_pieces.specs.Pieces.Class.{Text, Class, Front, NoFront, Row, Ends, some_run, exactly, optional}
+use Rattle.syslog_pieces.specs.Pieces.Class.{Text, Class, Front, NoFront, Row, Ends, some_run, exactly}
 use Rattle.syslog_pieces.specs.Text.{is_blank, colon}
 use Rattle.syslog_pieces.specs.Timestamp.MonthDate.{month, short_number, clock_row, yearless_date}
 use Rattle.syslog_pieces.specs.declared.timestamp.month_date.Clock.{Clock}
-use Rattle.syslog_pieces.proofs.PieceLemmas.Class.{row_nil, row_cons, optional_none}
+use Rattle.syslog_pieces.proofs.PieceLemmas.Class.{row_cons, optional_none}
 use Rattle.syslog_pieces.proofs.PieceLemmas.Rows.{row_of, ◌then◌}
 use Rattle.syslog_pieces.proofs.TextLemmas.Chars.{ascii_front}
 use Rattle.syslog_pieces.proofs.TextLemmas.Decimals.{digit_is}

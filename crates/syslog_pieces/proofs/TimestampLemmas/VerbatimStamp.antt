@@ -1,6 +1,6 @@
 -- A timestamp that is copied is read as one that prints so.
 use Rattle.std.proofs.Common.{◌≡◌, ◌⊎◌, ℕ, suc, ℤ, pos, negsuc, ◌+ℤ◌, ◌+◌, ◌*◌, ◌-◌, ◌/◌, ◌%◌, ◌<◌}
-use Rattle.std.proofs.Common.{◌≢◌, ◌==◌, Bool, true, false, None, Some, inl, inr, refl, sym, ap, subst}
+use Rattle.std.proofs.Common.{◌≢◌, ◌==◌, Bool, true, false, Some, inl, inr, refl, sym, ap, subst}
 use Rattle.std.proofs.Common.{◌∙◌, arith, unsigned_abs, List, [], ◌∷◌, ◌++◌, append_assoc, append-nil}
 use Rattle.std.proofs.lemmas.Bool.Decides.{nat_tests}
 use Rattle.std.proofs.lemmas.Str.{IsUtf8-past_char, IsUtf8-from_ascii, IsUtf8-append}
@@ -13,8 +13,7 @@ use Rattle.jiff_core.proofs.SignedLemmas.{signed_arith}
 use Rattle.jiff_fmt.specs.Text.{pad2}
 use Rattle.syslog_pieces.specs.Bodies.VerbatimStamp.{zone_text, IsVerbatimStamp, IsDateAndClock}
 use Rattle.syslog_pieces.specs.Bodies.VerbatimStamp.{IsVerbatimFraction, IsVerbatimOffset, IsBeforeSpace}
-use Rattle.syslog_pieces.specs.Pieces.Class.{Text, Front, exactly}
-use Rattle.syslog_pieces.specs.Text.{dash}
+use Rattle.syslog_pieces.specs.Pieces.Class.{Text, Front}
 use Rattle.syslog_pieces.specs.Timestamp.{IsStampText, header_stamp}
 use Rattle.syslog_pieces.specs.Timestamp.Fields.{AreCivil, nanos_of_fields}
 use Rattle.syslog_pieces.specs.Timestamp.Printed.{pad3, printed_stamp, date_time_text, fraction_text, offset_text}
@@ -25,7 +24,6 @@ use Rattle.syslog_pieces.proofs.TextLemmas.Chars.{ascii_front, one_ascii}
 use Rattle.syslog_pieces.proofs.TimestampLemmas.Characters.{stamp_ascii}
 use Rattle.syslog_pieces.proofs.TimestampLemmas.Clocks.{datetime_of, stamp, shown, prints}
 use Rattle.syslog_pieces.proofs.TimestampLemmas.Fields.{civil_nanos-fields}
-use Rattle.syslog_pieces.proofs.TimestampLemmas.Piece.{dash_front}
 use Rattle.syslog_pieces.proofs.TimestampLemmas.RoundTrip.{text-shape, fields-read, year-from, offset_text-is}
 
 -- ---- the pieces

@@ -1,5 +1,4 @@
 use Rattle.std.proofs.Common.{None}
-use Rattle.std.specs.Str.{chars}
 use Rattle.syslog_loose.proofs.VerbatimLineLemmas.{tail_verbatim, space_on}
 use Rattle.syslog_loose.proofs.line.spaced_tail.Goals as goal
 

@@ -1,4 +1,3 @@
-use Rattle.std.specs.Str.{chars}
 use Rattle.syslog_loose.proofs.VerbatimLineLemmas.{front_verbatim}
 use Rattle.syslog_loose.proofs.line.verbatim_front.Goals as goal
 

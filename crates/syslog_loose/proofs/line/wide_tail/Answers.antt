@@ -1,4 +1,3 @@
-use Rattle.std.specs.Str.{chars}
 use Rattle.syslog_loose.proofs.VerbatimLineLemmas.{tail_verbatim}
 use Rattle.syslog_loose.proofs.line.wide_tail.Goals as goal
 

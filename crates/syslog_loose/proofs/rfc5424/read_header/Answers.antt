@@ -1,7 +1,5 @@
 -- Each exit says that the row fails at its piece, behind the pieces that were read; the return joins them.
 use Rattle.std.proofs.Common.{inl, refl, rules}
-use Rattle.std.specs.Str.{chars}
-use Rattle.syslog_pieces.specs.Pieces.Class.{NoFront, Row}
 use Rattle.syslog_pieces.proofs.PieceLemmas.Rows.{row_of, no_row, ◌then◌, ◌past◌}
 use Rattle.syslog_loose.specs.Rfc5424.{header_row}
 use Rattle.syslog_loose.proofs.Rfc5424Lemmas.{header_det}

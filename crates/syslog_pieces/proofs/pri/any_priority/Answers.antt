@@ -1,7 +1,5 @@
 use Rattle.std.proofs.Common.{inl, refl, rules}
-use Rattle.std.specs.Str.{chars}
-use Rattle.syslog_pieces.specs.Pieces.Class.{NoFront}
-use Rattle.syslog_pieces.specs.Pri.{priority, priority_row}
+use Rattle.syslog_pieces.specs.Pri.{priority_row}
 use Rattle.syslog_pieces.proofs.PieceLemmas.Rows.{row_of, no_row, ◌then◌, ◌past◌}
 use Rattle.syslog_pieces.proofs.PriLemmas.{as_priority, no_priority, priority_row_det}
 use Rattle.syslog_pieces.proofs.pri.any_priority.Goals as goal

@@ -1,4 +1,3 @@
-use Rattle.std.specs.Str.{chars}
 use Rattle.syslog_pieces.proofs.pri.verbatim_priority.Goals as goal
 use Rattle.syslog_pieces.proofs.PriLemmas.{priority_verbatim}
 

@@ -1,8 +1,7 @@
 use Rattle.std.proofs.Common.{List, ℕ, Option, subst, rules}
 use Rattle.std.specs.Borrow.{Bor}
 use Rattle.std.specs.Str.{chars}
-use Rattle.syslog_pieces.specs.Pieces.Class.{NoFront, Front}
-use Rattle.syslog_pieces.specs.ProcId.{process_word}
+use Rattle.syslog_pieces.specs.Pieces.Class.{Front}
 use Rattle.syslog_pieces.specs.Text.{word}
 use Rattle.syslog_pieces.specs.Pieces.View.{seen, shown}
 use Rattle.syslog_pieces.proofs.ProcIdLemmas.{no_process, process_front, absent_front}

@@ -1,8 +1,5 @@
 use Rattle.std.proofs.Common.{◌≡◌, ◌<◌, ℕ, List, false, length, get_or, arith, rules, subst}
 use Rattle.std.specs.Char.{is_ascii_digit}
-use Rattle.std.specs.Str.{chars}
-use Rattle.syslog_pieces.specs.Pieces.Class.{NoFront}
-use Rattle.syslog_pieces.specs.Text.{number}
 use Rattle.syslog_pieces.proofs.text.any_number.Goals as goal
 use Rattle.syslog_pieces.proofs.TextLemmas.Looks.{no_number}
 use Rattle.syslog_pieces.proofs.TextLemmas.Words.{number_read, number_past, number_bad}

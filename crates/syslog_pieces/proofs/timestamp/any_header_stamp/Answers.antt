@@ -1,7 +1,4 @@
 use Rattle.std.proofs.Common.{rules}
-use Rattle.std.specs.Str.{chars}
-use Rattle.syslog_pieces.specs.Pieces.Class.{NoFront}
-use Rattle.syslog_pieces.specs.Timestamp.{header_stamp}
 use Rattle.syslog_pieces.proofs.TimestampLemmas.Piece.{dash_front, stamp_front, no_stamp_front, no_space_front}
 use Rattle.syslog_pieces.proofs.timestamp.any_header_stamp.Goals as goal
 

@@ -1,5 +1,4 @@
 use Rattle.std.proofs.Common.{refl}
-use Rattle.std.specs.Str.{chars}
 use Rattle.syslog_pieces.specs.Pri.{priority_text}
 use Rattle.syslog_loose.proofs.Verbatim3164Lemmas.{stamped_verbatim}
 use Rattle.syslog_loose.proofs.line.rfc3164.stamped_line.Goals as goal

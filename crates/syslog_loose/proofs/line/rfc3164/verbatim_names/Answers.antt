@@ -1,4 +1,3 @@
-use Rattle.std.specs.Str.{chars}
 use Rattle.syslog_loose.proofs.Verbatim3164Lemmas.{names_verbatim}
 use Rattle.syslog_loose.proofs.line.rfc3164.verbatim_names.Goals as goal
 

@@ -1,4 +1,3 @@
-use Rattle.std.specs.Str.{chars}
 use Rattle.syslog_loose.proofs.Verbatim3164Lemmas.{origin_verbatim}
 use Rattle.syslog_loose.proofs.line.rfc3164.verbatim_origin.Goals as goal
 

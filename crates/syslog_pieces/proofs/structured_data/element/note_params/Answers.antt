@@ -3,13 +3,11 @@ use Rattle.std.proofs.Common.{map, take, slice_set, sym, ap, subst, ◌∙◌, a
 use Rattle.std.proofs.lemmas.List.{map-append, take_more_set, length-set}
 use Rattle.std.specs.Borrow.{Bor}
 use Rattle.std.specs.Str.{chars}
-use Rattle.syslog_pieces.specs.Pieces.Class.{Text, Class, Front, exactly}
+use Rattle.syslog_pieces.specs.Pieces.Class.{Text, Front}
 use Rattle.syslog_pieces.specs.Bodies.Closing.{inside, inside_row}
 use Rattle.syslog_pieces.specs.StructuredData.Element.{param_value}
-use Rattle.syslog_pieces.specs.Pieces.Lists.{list_before}
 use Rattle.syslog_pieces.specs.StructuredData.{param}
 use Rattle.syslog_pieces.specs.Pieces.View.{shown}
-use Rattle.syslog_pieces.proofs.PieceLemmas.Class.{row_nil, row_cons}
 use Rattle.syslog_pieces.proofs.PieceLemmas.Lists.{Leaves, begins, leaves_all, leaves_less, leaves_last, list_here}
 use Rattle.syslog_pieces.proofs.PieceLemmas.Rows.{row_of, ◌then◌}
 use Rattle.syslog_pieces.proofs.structured_data.element.note_params.Goals as goal

@@ -1,7 +1,5 @@
 use Rattle.std.proofs.Common.{rules}
 use Rattle.std.specs.Str.{chars}
-use Rattle.syslog_pieces.specs.Pieces.Class.{NoFront}
-use Rattle.syslog_pieces.specs.StructuredData.{param}
 use Rattle.syslog_pieces.proofs.StructuredDataLemmas.Closing.{no_opening, no_param_opens, param_read}
 use Rattle.syslog_pieces.proofs.structured_data.element.param.Goals as goal
 

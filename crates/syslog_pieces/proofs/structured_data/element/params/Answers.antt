@@ -2,13 +2,12 @@ use Rattle.std.proofs.Common.{rules, ℕ, List, [], ◌∷◌, ◌++◌, map, sy
 use Rattle.std.proofs.lemmas.List.{append-nil, map-append}
 use Rattle.std.specs.Borrow.{Bor}
 use Rattle.std.specs.Str.{chars}
-use Rattle.syslog_pieces.specs.Pieces.Class.{Text, Class, Front, exactly}
+use Rattle.syslog_pieces.specs.Pieces.Class.{Text, Front, exactly}
 use Rattle.syslog_pieces.specs.Bodies.Closing.{inside, inside_row}
 use Rattle.syslog_pieces.specs.StructuredData.Element.{param_value}
-use Rattle.syslog_pieces.specs.Pieces.Lists.{list_before}
 use Rattle.syslog_pieces.specs.StructuredData.{param}
 use Rattle.syslog_pieces.specs.Pieces.View.{shown}
-use Rattle.syslog_pieces.proofs.PieceLemmas.Class.{row_nil, row_cons, row_none_here}
+use Rattle.syslog_pieces.proofs.PieceLemmas.Class.{row_none_here}
 use Rattle.syslog_pieces.proofs.StructuredDataLemmas.Elements.{param_det}
 use Rattle.syslog_pieces.proofs.PieceLemmas.Lists.{Collects, collects_first, collects_more, begins}
 use Rattle.syslog_pieces.proofs.PieceLemmas.Lists.{list_here, more_here, no_list, no_more, no_more_behind}
@@ -27,8 +26,7 @@ returns-in-Some c =
 
 pub returns-in_default-param : goal.returns-in_default-param
 returns-in_default-param c =
-    row_none_here _ (exactly (93 ∷ []) ∷ [])
-    (no_list param 32 93 _ c.in_default.ensures c.in_default-param.ensures)
+    row_none_here _ (exactly (93 ∷ []) ∷ []) (no_list param 32 93 _ c.in_default.ensures c.in_default-param.ensures)
 
 pub params-init : goal.params-init
 params-init c =
@@ -56,9 +54,9 @@ returns-in_default-literal-2 c =
 
 pub returns-in_default-param-2 : goal.returns-in_default-param-2
 returns-in_default-param-2 c =
-    row_none_here _ (exactly (93 ∷ []) ∷ [])
-    (c.params.invariant.1.none (no_more_behind param 32 93 _ _ c.in_default-literal.ensures
-    (begins 32 _ _ c.in-Some-literal-2.ensures) c.in_default-param-2.ensures))
+    row_none_here _ (exactly (93 ∷ []) ∷ []) (c.params.invariant.1.none
+    (no_more_behind param 32 93 _ _ c.in_default-literal.ensures (begins 32 _ _ c.in-Some-literal-2.ensures)
+    c.in_default-param-2.ensures))
 
 pub params-preserved : goal.params-preserved
 params-preserved c =

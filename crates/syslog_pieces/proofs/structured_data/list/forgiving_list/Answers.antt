@@ -1,7 +1,6 @@
 use Rattle.std.proofs.Common.{rules, ◌≡◌, ℕ, List, length, sym, ap, ◌∙◌}
 use Rattle.std.proofs.lemmas.List.{length-map}
 use Rattle.std.specs.Borrow.{Bor}
-use Rattle.std.specs.Str.{chars}
 use Rattle.syslog_pieces.specs.StructuredData.Element.{element_value}
 use Rattle.syslog_pieces.specs.StructuredData.{strict}
 use Rattle.syslog_pieces.specs.Pieces.View.{shown}

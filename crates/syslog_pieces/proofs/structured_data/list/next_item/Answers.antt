@@ -1,8 +1,7 @@
 use Rattle.std.proofs.Common.{rules, ℕ, Some, None, refl, sym, subst}
 use Rattle.std.specs.Str.{chars}
-use Rattle.syslog_pieces.specs.Pieces.Class.{NoFront}
 use Rattle.syslog_pieces.specs.Bodies.Closing.{IsDead}
-use Rattle.syslog_pieces.specs.StructuredData.{element, bracketed, item}
+use Rattle.syslog_pieces.specs.StructuredData.{element, bracketed}
 use Rattle.syslog_pieces.proofs.StructuredDataLemmas.Items.{no_item, element_item, bracketed_item, dead_least, dead_on}
 use Rattle.syslog_pieces.proofs.structured_data.list.next_item.Goals as goal
 

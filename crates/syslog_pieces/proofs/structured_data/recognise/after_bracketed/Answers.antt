@@ -1,7 +1,4 @@
 use Rattle.std.proofs.Common.{inl, refl, rules}
-use Rattle.std.specs.Str.{chars}
-use Rattle.syslog_pieces.specs.Pieces.Class.{NoFront}
-use Rattle.syslog_pieces.specs.StructuredData.{bracketed}
 use Rattle.syslog_pieces.specs.Text.CharClass.{is_open_char}
 use Rattle.syslog_pieces.proofs.PieceLemmas.Meets.{match_map}
 use Rattle.syslog_pieces.proofs.PieceLemmas.Rows.{row_of, no_row, ◌then◌, ◌past◌}

@@ -1,6 +1,5 @@
 use Rattle.std.proofs.Common.{rules, sym}
 use Rattle.std.specs.Str.{chars}
-use Rattle.syslog_pieces.specs.Pieces.Class.{NoFront}
 use Rattle.syslog_pieces.specs.StructuredData.Rfc3164List.{full_element}
 use Rattle.syslog_pieces.specs.Pieces.View.{shown}
 use Rattle.syslog_pieces.proofs.StructuredDataLemmas.Closing.{byte_count_slice, dead_whole}

@@ -1,7 +1,5 @@
 use Rattle.std.proofs.Common.{inl, refl, rules}
-use Rattle.std.specs.Str.{chars}
-use Rattle.syslog_pieces.specs.Pieces.Class.{NoFront}
-use Rattle.syslog_pieces.specs.Bodies.Closing.{opening_row, opening}
+use Rattle.syslog_pieces.specs.Bodies.Closing.{opening_row}
 use Rattle.syslog_pieces.proofs.PieceLemmas.Rows.{row_of, no_row, ◌then◌, ◌past◌}
 use Rattle.syslog_pieces.proofs.StructuredDataLemmas.Closing.{opening_det}
 use Rattle.syslog_pieces.proofs.structured_data.recognise.opening.Goals as goal

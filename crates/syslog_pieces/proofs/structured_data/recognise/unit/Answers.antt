@@ -1,7 +1,5 @@
 use Rattle.std.proofs.Common.{rules, arith, ◌≡◌, ◌≢◌, ℕ, List, [], ◌∷◌, refl, sym, ap, ◌∙◌}
 use Rattle.std.specs.Str.{chars}
-use Rattle.syslog_pieces.specs.Pieces.Class.{NoFront}
-use Rattle.syslog_pieces.specs.StructuredData.{value}
 use Rattle.syslog_pieces.specs.StructuredData.Escapes.{pair, single}
 use Rattle.syslog_pieces.proofs.PieceLemmas.Meets.{match_map}
 use Rattle.syslog_pieces.proofs.StructuredDataLemmas.Recognise.{no_value_empty, no_value_lone}

@@ -1,4 +1,3 @@
-use Rattle.std.specs.Str.{chars}
 use Rattle.syslog_pieces.proofs.structured_data.verbatim.verbatim_param.Goals as goal
 use Rattle.syslog_pieces.proofs.StructuredDataLemmas.Verbatim.{param_verbatim}
 

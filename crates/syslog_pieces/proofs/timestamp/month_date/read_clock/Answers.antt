@@ -1,6 +1,4 @@
 use Rattle.std.proofs.Common.{inl, refl, rules}
-use Rattle.std.specs.Str.{chars}
-use Rattle.syslog_pieces.specs.Pieces.Class.{NoFront, Row}
 use Rattle.syslog_pieces.specs.Timestamp.MonthDate.{clock_row}
 use Rattle.syslog_pieces.proofs.PieceLemmas.Rows.{row_of, no_row, ◌then◌, ◌past◌}
 use Rattle.syslog_pieces.proofs.TimestampLemmas.MonthDate.{clock_det}

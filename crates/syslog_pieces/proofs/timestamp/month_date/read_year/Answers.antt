@@ -1,7 +1,5 @@
 use Rattle.std.proofs.Common.{inl, refl, rules}
-use Rattle.std.specs.Str.{chars}
 use Rattle.syslog_pieces.specs.Bodies.MonthReading.{year_row}
-use Rattle.syslog_pieces.specs.Pieces.Class.{NoFront, Row}
 use Rattle.syslog_pieces.proofs.PieceLemmas.Rows.{row_of, no_row, ◌then◌, ◌past◌}
 use Rattle.syslog_pieces.proofs.TimestampLemmas.MonthReading.{year_det}
 use Rattle.syslog_pieces.proofs.timestamp.month_date.read_year.Goals as goal

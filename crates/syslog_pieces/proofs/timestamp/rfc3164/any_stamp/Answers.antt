@@ -1,7 +1,4 @@
 use Rattle.std.proofs.Common.{rules}
-use Rattle.std.specs.Str.{chars}
-use Rattle.syslog_pieces.specs.Pieces.Class.{NoFront}
-use Rattle.syslog_pieces.specs.Timestamp.Rfc3164.{rfc3164_stamp}
 use Rattle.syslog_pieces.specs.Timestamp.Zone.{dating_value}
 use Rattle.syslog_pieces.proofs.TimestampLemmas.Rfc3164.{header_front, date_front, no_date, no_stamp_of_date}
 use Rattle.syslog_pieces.proofs.timestamp.rfc3164.any_stamp.Goals as goal

@@ -12,30 +12,26 @@ zone seconds offset b3 b4 e z = subst (λ (s : ℤ). IsOffsetBytes b3 s b4) (sym
 
 pub split_at-requires : goal.split_at-requires
 split_at-requires c =
-    stamp_cut c.args.text.now c.in_ok-day.behind.now c.in_ok-clock.behind.now c.in_ok-nanosecond.behind.now
-    c.in_ok-seconds.end.now
-    c.in_ok-day.day c.in_ok-clock.clock c.in_ok-nanosecond.nanosecond c.in_ok-offset.offset c.in_ok-stamp.stamp
+    stamp_cut c.args.text.now _ _ _ _ _ _ _ c.in_ok-offset.offset _
     (subst (λ (x : List ℕ). IsDayBytes x c.in_ok-day.day c.in_ok-day.behind.now) c.as_bytes-bytes.ensures.value
     c.in_ok-day.ensures)
     c.in_ok-clock.ensures c.in_ok-nanosecond.ensures
-    (zone c.in_ok-seconds.seconds c.in_ok-offset.offset
-    _ _ ((let fits : FitsSigned w32 c.in_ok-seconds.seconds = search rules in
-    simp to_z-of_z at c.in_ok-offset.ensures.value)) c.in_ok-seconds.ensures)
+    (zone c.in_ok-seconds.seconds c.in_ok-offset.offset _ _
+    (let fits : FitsSigned w32 c.in_ok-seconds.seconds = search rules in simp to_z-of_z at c.in_ok-offset.ensures.value)
+    c.in_ok-seconds.ensures)
     (subst (λ (f : CivilFields). IsEarlyStamp f c.in_ok-offset.offset c.in_ok-stamp.stamp) c.fields_read.ensures
     c.in_ok-stamp.ensures)
     c.utf8.text
 
 pub returns : goal.returns
 returns c =
-    standard_stamp_front c.args.text.now c.in_ok-day.behind.now c.in_ok-clock.behind.now c.in_ok-nanosecond.behind.now
-    c.in_ok-seconds.end.now
-    c.in_ok-day.day c.in_ok-clock.clock c.in_ok-nanosecond.nanosecond c.in_ok-offset.offset c.in_ok-stamp.stamp
+    standard_stamp_front c.args.text.now _ _ _ _ _ _ _ c.in_ok-offset.offset _
     (subst (λ (x : List ℕ). IsDayBytes x c.in_ok-day.day c.in_ok-day.behind.now) c.as_bytes-bytes.ensures.value
     c.in_ok-day.ensures)
     c.in_ok-clock.ensures c.in_ok-nanosecond.ensures
-    (zone c.in_ok-seconds.seconds c.in_ok-offset.offset
-    _ _ ((let fits : FitsSigned w32 c.in_ok-seconds.seconds = search rules in
-    simp to_z-of_z at c.in_ok-offset.ensures.value)) c.in_ok-seconds.ensures)
+    (zone c.in_ok-seconds.seconds c.in_ok-offset.offset _ _
+    (let fits : FitsSigned w32 c.in_ok-seconds.seconds = search rules in simp to_z-of_z at c.in_ok-offset.ensures.value)
+    c.in_ok-seconds.ensures)
     (subst (λ (f : CivilFields). IsEarlyStamp f c.in_ok-offset.offset c.in_ok-stamp.stamp) c.fields_read.ensures
     c.in_ok-stamp.ensures)
     c.utf8.text _ c.split_at.result.1.now c.in_ok-past.ensures c.split_at.ensures.back
