@@ -3,7 +3,7 @@
 //! One scanner cuts the maximal run of a class of characters from the front of a text; every reader of a word stands on
 //! it. A reader answers what its class in `specs/Text.antt` means and the text behind it, or nothing where no front of
 //! the text is of the class. Nothing here takes memory, and no text is copied.
-ghost use Rattle.std.specs.Prelude.{◌≡◌, ◌<◌, ◌++◌, [], ◌∷◌, IfSome, IsTrue, None, Option, MatchOption};
+ghost use Rattle.std.specs.Prelude.{◌≡◌, ◌<◌, ◌++◌, [], ◌∷◌, IfSome, IsTrue, Option, MatchOption};
 ghost use Rattle.std.specs.Str.{bytes_eq, chars, IsUtf8};
 ghost use Rattle.syslog_pieces.specs.Text.CharClass.{has};
 ghost use Rattle.syslog_pieces.specs.Pieces.Class.{Front, NoFront, exactly, optional, run, some_run};
@@ -24,8 +24,7 @@ pub mod write_ascii;
 
 pub use fields::{host_field, tag_field};
 use looks::{
-    begins_visibly, begins_with, begins_with_digit, begins_with_gap, begins_with_nil,
-    ends_in_colon, first_digit,
+    begins_visibly, begins_with, begins_with_digit, begins_with_gap, ends_in_colon, first_digit,
 };
 pub(crate) use numerals::{few_digits, number_of_digits};
 use scan::{ascii_run, is_cut, is_in};
@@ -334,30 +333,6 @@ fn named(run: &str) -> Option<&str>
 /// The word of RFC 5424 at the front (app name, process id or message id), absent for `-`, and the text behind it.
 #[inline(always)]
 pub fn word(text: &str) -> Option<(Option<&str>, &str)>
-    ensures { Reads spec.word seen (chars text.now) result }
-{
-    match past_nil(text) {
-        Some(rest) => Some((None, rest)),
-        None => any_word(text),
-    }
-}
-
-// The text behind a lone `-` before a space: an absent word.
-#[inline(always)]
-fn past_nil(text: &str) -> Option<&str>
-    ensures { IfSome result (λ rest. Front spec.word (chars text.now) (shown rest) None) }
-{
-    if begins_with_nil(text.as_bytes()) {
-        let (_, rest) = text.split_at(1);
-        Some(rest)
-    } else {
-        None
-    }
-}
-
-// The same of any word.
-#[inline(always)]
-fn any_word(text: &str) -> Option<(Option<&str>, &str)>
     ensures { Reads spec.word seen (chars text.now) result }
 {
     let (run, rest) = split_run(text, CharClass::Visible);

@@ -38,14 +38,6 @@ pub(crate) fn begins_with_gap(bytes: &[u8]) -> bool
     }
 }
 
-/// Whether `-` and a space begin the bytes.
-#[inline(always)]
-pub(crate) fn begins_with_nil(bytes: &[u8]) -> bool
-    ensures { IsTrue result → spec.BeginsWithNil bytes.now }
-{
-    matches!(bytes, [b'-', b' ', ..])
-}
-
 /// Whether the last byte is that of a colon.
 #[inline(always)]
 pub(crate) fn ends_in_colon(bytes: &[u8]) -> bool
