@@ -6,6 +6,7 @@
 ghost use Rattle.std.specs.Prelude.{◌≡◌, ◌<◌, ◌++◌, [], ◌∷◌, IfSome, IsTrue, Option, MatchOption};
 ghost use Rattle.std.specs.Str.{bytes_eq, chars, IsUtf8};
 ghost use Rattle.syslog_pieces.specs.Text.CharClass.{has};
+ghost use Rattle.syslog_pieces.specs.declared.text.CharClass.TheVariants.{Blank};
 ghost use Rattle.syslog_pieces.specs.Pieces.Class.{Front, NoFront, exactly, optional, run, some_run};
 ghost use Rattle.syslog_pieces.specs.Bodies.Scan.{EndsRun, IsBare, SplitsRun, past_in};
 ghost use Rattle.syslog_pieces.specs.Text as spec;
@@ -220,12 +221,30 @@ fn few_blanks(text: &str) -> Option<&str>
 }
 
 // The same of any number of blanks.
-#[inline(never)]
+#[inline(always)]
 fn any_blanks(text: &str) -> &str
     ensures { Front (run spec.is_blank) (chars text.now) (shown result) tt }
 {
-    let (_, rest) = split_run(text, CharClass::Blank);
+    let (_, rest) = split_blanks(text);
     rest
+}
+
+// The blanks at the front, perhaps none, and the text behind them.
+#[inline(always)]
+fn split_blanks(text: &str) -> (&str, &str)
+    ensures { SplitsRun (has Blank) text.now result.0.now result.1.now }
+{
+    text.split_at(blanks_end(text))
+}
+
+// The place behind them. It stands apart, since few gaps need a scan; a place, not a text, so that none goes through
+// memory.
+#[cold]
+#[inline(never)]
+fn blanks_end(text: &str) -> usize
+    ensures { EndsRun (has Blank) text.now result }
+{
+    run_end(text, CharClass::Blank)
 }
 
 /// The text behind the nonempty run of the class at the front.
@@ -262,11 +281,11 @@ fn past_space(text: &str) -> Option<&str>
 }
 
 // The text behind any number of blanks but none.
-#[inline(never)]
+#[inline(always)]
 fn many_blanks(text: &str) -> Option<&str>
     ensures { Skips (some_run spec.is_blank) tt (chars text.now) result }
 {
-    let (front, rest) = split_run(text, CharClass::Blank);
+    let (front, rest) = split_blanks(text);
     if front.is_empty() { None } else { Some(rest) }
 }
 
