@@ -27,10 +27,10 @@ use Rattle.syslog_loose.proofs.Rfc3164Lemmas.Unique as rfc3164_unique
 use Rattle.syslog_loose.proofs.Rfc3164Lemmas.Years.{other_read}
 use Rattle.syslog_loose.proofs.Rfc5424Lemmas as strict
 
-abbrev Found : Type 0
+abbrev pub Found : Type 0
 Found = Message (Bor (List ℕ))
 
-abbrev value : Found → MessageValue
+abbrev pub value : Found → MessageValue
 value m = message_value (λ s. shown s) m
 
 -- ---- one reading

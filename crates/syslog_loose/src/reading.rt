@@ -3,11 +3,13 @@
 //! Each call trims its text once, and the steps behind it are given what is left. A date without a year is looked for
 //! before RFC 3164 is tried, and the closure asked for its year. The calls with `exact` in their names refuse a text
 //! that has no reading; the others answer the fallback.
-ghost use Rattle.std.specs.Prelude.{◌≡◌, ◌↔◌, Err, IfOk, IfSome, MatchOption};
+ghost use Rattle.std.specs.Prelude.{◌≡◌, ◌↔◌, Err, IfOk, IfSome, IsSome, MatchOption};
 ghost use Rattle.std.specs.Prelude.{MatchResult, None, Ok, OnOk, string_bytes};
 ghost use Rattle.std.specs.Str.{chars, encode_utf8_all, IsUtf8};
 ghost use Rattle.jiff.specs.Words.{plain_zone};
 ghost use Rattle.syslog_pieces.specs.Pieces.View.{shown};
+ghost use Rattle.syslog_pieces.specs.Timestamp.{header_stamp};
+ghost use Rattle.syslog_pieces.specs.Timestamp.MonthDate.{month_date};
 ghost use Rattle.syslog_pieces.specs.Timestamp.Rfc3164.{ShowsYearless};
 ghost use Rattle.syslog_pieces.specs.Timestamp.Zone as zone;
 ghost use Rattle.syslog_pieces.specs.Timestamp.Zone.{IsYearAt, dating_of, dating_value};
@@ -20,6 +22,7 @@ ghost use Rattle.syslog_loose.specs.Reading as spec;
 ghost use Rattle.syslog_loose.specs.Reading.{Answers, AnswersDateless, AnswersEachMonth};
 ghost use Rattle.syslog_loose.specs.Reading.{AnswersOrWhole, AsksYear, HasMonth, InYear, IsLeftTo3164};
 ghost use Rattle.syslog_loose.specs.Reading.{IsOnlyRead, IsUnreadable, OfTrimmed, incomplete};
+ghost use Rattle.syslog_loose.specs.Start.{BeginsWith, BeginsWithout};
 ghost use Rattle.syslog_loose.specs.declared.fault.ParseFault.TheVariants.{Invalid};
 ghost use Rattle.syslog_loose.specs.declared.variant.Variant.{Variant};
 ghost use Rattle.syslog_loose.specs.declared.variant.Variant.TheVariants as variants;
@@ -27,16 +30,18 @@ ghost use Rattle.syslog_loose.specs.declared.variant.Variant.TheVariants as vari
 use crate::beginning::may_be_read;
 use crate::fault::ParseFault;
 use crate::message::{Message, Protocol};
+use crate::rfc3164::Stamped;
 use crate::variant::{IncompleteDate, Variant};
 use crate::{rfc3164, rfc5424};
 use jiff::Timestamp;
 use jiff::tz::TimeZone;
 use std::alloc::{AllocError, Global};
+use syslog_pieces::pri::optional_priority;
 use syslog_pieces::structured_data::rfc3164_list::DASH_RULE;
-use syslog_pieces::text::trimmed;
-use syslog_pieces::timestamp::month_date::shown_date;
-use syslog_pieces::timestamp::year_at;
-use syslog_pieces::timestamp::zone::Dating;
+use syslog_pieces::text::{blanks, trimmed};
+use syslog_pieces::timestamp::month_date::{MonthDate, month_date, shown_date};
+use syslog_pieces::timestamp::zone::{Dating, month_stamp};
+use syslog_pieces::timestamp::{OffsetTimestamp, header_stamp, year_at};
 
 /// The message of the text, read by the variant, with the year of `now` in the local zone for a date that has none.
 ///
@@ -180,16 +185,74 @@ pub fn parse_message_with_year_exact_tz<'a, F: FnOnce(IncompleteDate) -> i32>(
         (message_value (λ s. shown s) m))) }
 {
     let text = trimmed(input);
-    let found = match read_dateless(alloc, text, variant) {
-        Ok(found) => found,
-        Err(fault) => return Err(fault),
-    };
-    match found {
-        Some(message) => return Ok(message),
-        None => {}
+    if !may_be_read(text) {
+        return Err(ParseFault::Invalid);
     }
-    let year = asked_date(text, variant).map(get_year);
-    read_rfc3164(alloc, text, &Dating { year, tz, local })
+    let (priority, rest) = optional_priority(text);
+    let (timestamp, behind) = match front_date(rest, variant) {
+        Some((date, behind)) => {
+            let year = asked_numbers(date).map(get_year);
+            let Some(stamp) = month_stamp(date, &Dating { year, tz, local }) else {
+                return Err(ParseFault::Invalid);
+            };
+            (Some(stamp), behind)
+        }
+        None => {
+            if variant.reads_rfc5424() {
+                match rfc5424::read_behind(alloc, priority, rest) {
+                    Ok(Some(message)) => return Ok(message),
+                    Ok(None) => {}
+                    Err(_) => return Err(ParseFault::Memory),
+                }
+            }
+            let Some(found) = front_stamp(rest, variant) else {
+                return Err(ParseFault::Invalid);
+            };
+            found
+        }
+    };
+    let stamped = Stamped { priority, timestamp };
+    match rfc3164::read_behind(alloc, stamped, behind, DASH_RULE) {
+        Ok(message) => Ok(message),
+        Err(_) => Err(ParseFault::Memory),
+    }
+}
+
+// The month date behind a priority, where the variant reads such dates, and the text behind it.
+#[inline(always)]
+fn front_date(text: &str, variant: Variant) -> Option<(MonthDate, &str)>
+    ensures { MatchOption result (BeginsWithout month_date variant (chars text.now))
+        (λ x. BeginsWith month_date variant (chars text.now) x.0 (shown x.1)) }
+{
+    if variant.reads_rfc3164() {
+        month_date(blanks(text))
+    } else {
+        None
+    }
+}
+
+// A timestamp that is no month date, in the same way.
+#[inline(always)]
+fn front_stamp(text: &str, variant: Variant) -> Option<(Option<OffsetTimestamp>, &str)>
+    ensures { MatchOption result (BeginsWithout header_stamp variant (chars text.now))
+        (λ x. BeginsWith header_stamp variant (chars text.now) x.0 (shown x.1)) }
+{
+    if variant.reads_rfc3164() {
+        header_stamp(blanks(text))
+    } else {
+        None
+    }
+}
+
+// The numbers of a date whose year is asked for.
+#[inline(always)]
+fn asked_numbers(date: MonthDate) -> Option<IncompleteDate>
+    ensures { MatchOption result (IsSome date.year) (λ d. (date.year ≡ None) × (d ≡ incomplete date)) }
+{
+    match date.year {
+        Some(_) => None,
+        None => Some((date.month, date.day, date.hour, date.minute, date.second)),
+    }
 }
 
 // The date without a year that the trimmed text shows, where the variant reads it.
