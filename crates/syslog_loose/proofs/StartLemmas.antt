@@ -57,6 +57,13 @@ pub front_read : (C : Class) (variant : Variant) (t start : Text) (r : Option (C
 front_read C variant t start None reads gap none = without_at C variant gap none
 front_read C variant t start (Some x) reads gap f = record { reads = reads; start = start; gap = gap; front = f }
 
+-- where RFC 5424 has no reading, RFC 3164 is left to try
+pub left_to_try : (variant : Variant) (text : Text) → ReadsProtocol variant protocol.RFC3164
+    → (variant ≢ RFC3164 → IsNot5424 text) → IsLeftTo3164 variant text
+left_to_try RFC5424 text reads strict = absurd reads
+left_to_try RFC3164 text reads strict = tt
+left_to_try Either text reads strict = strict (λ e. cc)
+
 -- ---- the timestamp
 module _ {text follows start : Text} {p : Option ℕ} (f : IsBehindPriority text p follows)
     (gap : Front (run is_blank) follows start tt) (dating : Dating) where
@@ -179,12 +186,7 @@ module _ (variant : Variant) (text : Text) {follows : Text} {p : Option ℕ}
     dated_unread = shown_apart text d shows_date
 
     dated_left : IsLeftTo3164 variant text
-    dated_left = left_of variant b.reads
-      where
-        left_of : (variant : Variant) → ReadsProtocol variant protocol.RFC3164 → IsLeftTo3164 variant text
-        left_of RFC5424 reads = absurd reads
-        left_of RFC3164 reads = tt
-        left_of Either reads = dated_unread
+    dated_left = left_to_try variant text b.reads (λ n. dated_unread)
 
     -- the date has no timestamp
     pub dated_invalid : (dating : Dating) → IsAnswer (IsMonthStamp dating d) None
@@ -260,21 +262,20 @@ module _ (variant : Variant) (text : Text) {follows : Text} {p : Option ℕ}
         record {
           year = None;
           answered = asks_none;
-          left = other_left variant b.reads strict;
+          left = left_to_try variant text b.reads strict;
           front = stamped_front f b.gap dating (header_front dating b.front);
         }
-      where
-        other_left : (variant : Variant) → ReadsProtocol variant protocol.RFC3164
-            → (variant ≢ RFC3164 → IsNot5424 text) → IsLeftTo3164 variant text
-        other_left RFC5424 reads strict = absurd reads
-        other_left RFC3164 reads strict = tt
-        other_left Either reads strict = strict (λ e. cc)
 
 -- ---- what the readers of the two protocols answer
 pub stamped_read : (variant : Variant) (dating : Dating) (text : Text) (m : Found) → IsLeftTo3164 variant text
     → IsRead3164 dash_rule dating text (value m) → Answers variant dating text (Ok m)
 stamped_read variant dating text m left r =
     left_answer variant dating text (Ok m) left (only_read RFC3164 dating text (value m) r)
+
+pub stamped_unread : (variant : Variant) (dating : Dating) (text : Text) → IsLeftTo3164 variant text
+    → IsNot3164 dash_rule dating text → Answers variant dating text (Err Invalid)
+stamped_unread variant dating text left none =
+    left_answer variant dating text (Err Invalid) left (λ m r. none r.values r.division)
 
 pub stamped_refused : (variant : Variant) (dating : Dating) (text : Text) → IsLeftTo3164 variant text
     → (NeedsNoMemory3164 dash_rule dating text → ⊥) → Answers variant dating text (Err Memory)
@@ -285,6 +286,13 @@ pub strict_read : (variant : Variant) → variant ≢ RFC3164 → (dating : Dati
 strict_read RFC5424 not dating text m r = only_read RFC5424 dating text (value m) r
 strict_read RFC3164 not dating text m r = absurd (not refl)
 strict_read Either not dating text m r = either_read dating text (value m) r
+
+-- and none where RFC 3164 isn't read
+pub strict_unread : (variant : Variant) → (ReadsProtocol variant protocol.RFC3164 → ⊥) → (dating : Dating) (text : Text)
+    → (variant ≢ RFC3164 → IsNot5424 text) → Answers variant dating text (Err Invalid)
+strict_unread RFC5424 not dating text none = λ m r. none (λ e. cc) r.values r.division
+strict_unread RFC3164 not dating text none = absurd (not tt)
+strict_unread Either not dating text none = absurd (not tt)
 
 pub strict_refused : (variant : Variant) → variant ≢ RFC3164 → (dating : Dating) (text : Text)
     → (NeedsNoMemory5424 text → ⊥) → Answers variant dating text (Err Memory)

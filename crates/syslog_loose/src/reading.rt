@@ -19,8 +19,8 @@ ghost use Rattle.syslog_loose.specs.Message.{MessageValue, message_value};
 ghost use Rattle.syslog_loose.specs.Printed.{printed};
 ghost use Rattle.syslog_loose.specs.ReadBack.{AnswersAgain, AnswersItself, FieldsAsRead};
 ghost use Rattle.syslog_loose.specs.Reading as spec;
-ghost use Rattle.syslog_loose.specs.Reading.{Answers, AnswersDateless, AnswersEachMonth};
-ghost use Rattle.syslog_loose.specs.Reading.{AnswersOrWhole, AsksYear, HasMonth, InYear, IsLeftTo3164};
+ghost use Rattle.syslog_loose.specs.Reading.{Answers, AnswersEachMonth};
+ghost use Rattle.syslog_loose.specs.Reading.{AnswersOrWhole, AsksYear, HasMonth, InYear};
 ghost use Rattle.syslog_loose.specs.Reading.{IsOnlyRead, IsUnreadable, OfTrimmed, incomplete};
 ghost use Rattle.syslog_loose.specs.Start.{BeginsWith, BeginsWithout};
 ghost use Rattle.syslog_loose.specs.declared.fault.ParseFault.TheVariants.{Invalid};
@@ -58,17 +58,10 @@ pub fn parse_message<'a>(
         (chars input.entry.now)
         (λ year. AnswersOrWhole variant (dating_of year None local.entry) (chars input.entry.now) result) }
 {
-    let text = trimmed(input);
-    let year = match asked_date(text, variant) {
-        Some(_) => Some(year_at(now, local)),
-        None => None,
-    };
-    let dating = Dating {
-        year,
-        tz: None,
-        local,
-    };
-    or_fallback(alloc, input, read(alloc, text, &dating, variant))
+    let get_year = |_: IncompleteDate| -> i32
+        ensures { IsYearAt (plain_zone local.entry.now) now.nanosecond result }
+    { year_at(now, local) };
+    parse_message_with_year_tz(alloc, input, get_year, None, variant, local)
 }
 
 /// The message of the text, read by the variant, or the fallback. `get_year` gives the year of a date that has none,
@@ -284,7 +277,7 @@ fn incomplete_date(input: &str) -> Option<IncompleteDate>
     }
 }
 
-// The message of the trimmed text, read by the variant in a year.
+/// The message of the trimmed text, read by the variant in a year.
 pub(crate) fn read<'a>(
     alloc: Global,
     input: &'a str,
@@ -294,71 +287,22 @@ pub(crate) fn read<'a>(
     ensures { OfTrimmed (chars input.entry.now)
         (λ whole. Answers variant (dating_value dating.entry.now) whole result) }
 {
-    match read_dateless(alloc, input, variant) {
-        Ok(found) => match found {
-            Some(message) => Ok(message),
-            None => read_rfc3164(alloc, input, dating),
-        },
-        Err(fault) => Err(fault),
-    }
-}
-
-// The answer that no date counts for: where the first byte begins no reading, and where the variant reads RFC 5424.
-// None where RFC 3164 is left to try.
-#[inline(always)]
-fn read_dateless(
-    alloc: Global,
-    input: &str,
-    variant: Variant,
-) -> Result<Option<Message<&str>>, ParseFault>
-    ensures { OfTrimmed (chars input.now) (λ whole. MatchResult result
-        (λ found. MatchOption found (IsLeftTo3164 variant whole) (λ m. AnswersDateless variant whole (Ok m)))
-        (λ fault. AnswersDateless variant whole (Err fault))) }
-{
     if !may_be_read(input) {
         return Err(ParseFault::Invalid);
     }
-    match variant {
-        Variant::RFC5424 => match read_rfc5424(alloc, input) {
-            Ok(message) => Ok(Some(message)),
-            Err(fault) => Err(fault),
-        },
-        Variant::RFC3164 => Ok(None),
-        Variant::Either => match rfc5424::read(alloc, input) {
-            Ok(found) => Ok(found),
-            Err(_) => Err(ParseFault::Memory),
-        },
+    if variant.reads_rfc5424() {
+        match rfc5424::read(alloc, input) {
+            Ok(Some(message)) => return Ok(message),
+            Ok(None) => {}
+            Err(_) => return Err(ParseFault::Memory),
+        }
     }
-}
-
-#[inline(always)]
-fn read_rfc5424(alloc: Global, input: &str) -> Result<Message<&str>, ParseFault>
-    ensures { OfTrimmed (chars input.now)
-        (λ whole. (dating : zone.Dating) → Answers variants.RFC5424 dating whole result) }
-{
-    match rfc5424::read(alloc, input) {
-        Ok(found) => match found {
-            Some(message) => Ok(message),
-            None => Err(ParseFault::Invalid),
-        },
-        Err(_) => Err(ParseFault::Memory),
+    if !variant.reads_rfc3164() {
+        return Err(ParseFault::Invalid);
     }
-}
-
-#[inline(always)]
-fn read_rfc3164<'a>(
-    alloc: Global,
-    input: &'a str,
-    dating: &Dating<'_, '_>,
-) -> Result<Message<&'a str>, ParseFault>
-    ensures { OfTrimmed (chars input.entry.now) (λ whole.
-        Answers variants.RFC3164 (dating_value dating.entry.now) whole result) }
-{
     match rfc3164::read(alloc, input, DASH_RULE, dating) {
-        Ok(found) => match found {
-            Some(message) => Ok(message),
-            None => Err(ParseFault::Invalid),
-        },
+        Ok(Some(message)) => Ok(message),
+        Ok(None) => Err(ParseFault::Invalid),
         Err(_) => Err(ParseFault::Memory),
     }
 }
