@@ -58,10 +58,10 @@ pub fn parse_message<'a>(
         (chars input.entry.now)
         (λ year. AnswersOrWhole variant (dating_of year None local.entry) (chars input.entry.now) result) }
 {
-    let get_year = |_: IncompleteDate| -> i32
+    let current_year = |_: IncompleteDate| -> i32
         ensures { IsYearAt (plain_zone local.entry.now) now.nanosecond result }
     { year_at(now, local) };
-    parse_message_with_year_tz(alloc, input, get_year, None, variant, local)
+    parse_message_with_year_tz(alloc, input, current_year, None, variant, local)
 }
 
 /// The message of the text, read by the variant, or the fallback. `get_year` gives the year of a date that has none,
