@@ -1,6 +1,6 @@
 -- What the pieces at the front of a text tell of its readings.
-use Rattle.std.proofs.Common.{◌≡◌, ◌≢◌, inl, inr, ℕ, ℤ, ◌≤◌, [], ◌∷◌, ◌++◌, List, Option, Some, None}
-use Rattle.std.proofs.Common.{Result, Ok, Err, refl, sym, ap, subst, ◌∙◌, arith}
+use Rattle.std.proofs.Common.{◌≡◌, ◌≢◌, inl, inr, ℕ, ℤ, [], ◌∷◌, List, Option, Some, None}
+use Rattle.std.proofs.Common.{Ok, Err, refl, sym, ap, subst, ◌∙◌, arith}
 use Rattle.std.specs.Borrow.{Bor}
 use Rattle.std.specs.Prelude.{MatchOption, IsSome, IsSomeAnd}
 use Rattle.syslog_pieces.specs.Pieces.View.{shown, Reads}
@@ -11,7 +11,6 @@ use Rattle.syslog_pieces.specs.Timestamp.{IsAnswer, header_stamp}
 use Rattle.syslog_pieces.specs.Timestamp.Rfc3164.{rfc3164_stamp, showing_row, ShowsYearless, ShowsMonthDate}
 use Rattle.syslog_pieces.specs.Timestamp.MonthDate.{dated_row, dated_of, yearless_date, month_date}
 use Rattle.syslog_pieces.specs.Timestamp.Zone.{Dating, IsMonthStamp, dating_of}
-use Rattle.syslog_pieces.specs.declared.structured_data.rfc3164_list.DashRule.{DashRule}
 use Rattle.syslog_pieces.specs.declared.timestamp.OffsetTimestamp.{OffsetTimestamp}
 use Rattle.syslog_pieces.specs.declared.timestamp.month_date.MonthDate.{MonthDate}
 use Rattle.syslog_pieces.proofs.PieceLemmas.Class.{front_same, front_division, division_front, optional_det, run_det}
@@ -32,14 +31,14 @@ use Rattle.syslog_loose.specs.Rfc3164.{stamped_row, IsRead3164, IsNot3164, Needs
 use Rattle.syslog_loose.specs.Rfc5424.{IsRead5424, IsNot5424, NeedsNoMemory5424}
 use Rattle.syslog_loose.specs.Start.{IsBehindPriority, BeginsWith, BeginsWithout}
 use Rattle.syslog_loose.specs.View3164.{IsBehindStamp}
-use Rattle.syslog_loose.specs.declared.fault.ParseFault.{ParseFault}
 use Rattle.syslog_loose.specs.declared.fault.ParseFault.TheVariants.{Invalid, Memory}
 use Rattle.syslog_loose.specs.declared.message.Protocol.TheVariants as protocol
 use Rattle.jiff.specs.declared.tz.timezone.TimeZone.{TimeZone}
 use Rattle.syslog_loose.specs.declared.rfc3164.Stamped.{Stamped}
 use Rattle.syslog_loose.specs.declared.variant.Variant.{Variant}
 use Rattle.syslog_loose.specs.declared.variant.Variant.TheVariants.{Either, RFC3164, RFC5424}
-use Rattle.syslog_loose.proofs.ReadingLemmas.{Found, answered_to, value, either_read, either_refused, left_answer, only_read}
+use Rattle.syslog_loose.proofs.ReadingLemmas.{Found, answered_to, value, either_read, either_refused}
+use Rattle.syslog_loose.proofs.ReadingLemmas.{left_answer, only_read}
 use Rattle.syslog_loose.proofs.Rfc3164Lemmas.Apart.{shown_apart}
 use Rattle.syslog_loose.proofs.Rfc3164Lemmas.Reading.{not_read}
 use Rattle.syslog_loose.proofs.Rfc3164Lemmas.Shown.{date_has_month, shows_month_date}
@@ -76,7 +75,8 @@ module _ {text follows start : Text} {p : Option ℕ} (f : IsBehindPriority text
 
   no_stamp : NoFront (rfc3164_stamp dating) start → NoFront (Row (stamped_row dating)) text
   no_stamp none =
-      row_none_later (optional priority) (run is_blank ∷ rfc3164_stamp dating ∷ []) (optional_det priority priority_det) f
+      row_none_later (optional priority) (run is_blank ∷ rfc3164_stamp dating ∷ [])
+      (optional_det priority priority_det) f
       (row_none_later (run is_blank) (rfc3164_stamp dating ∷ []) (run_det is_blank) gap
       (row_none_here (rfc3164_stamp dating) [] none))
 
@@ -157,8 +157,8 @@ module _ (variant : Variant) (text : Text) {follows : Text} {p : Option ℕ}
         let shows = asked_shows variant text other asks in
         let (p', more, division) = shows_month_date text other shows in
         let (_, _, division') = shows_date in
-        let same = (unique_division (showing_row month_date)
-        (optional_det priority priority_det, (run_det is_blank, (month_date_det, (rest_det, tt)))) division' division).1 in
+        let each = (optional_det priority priority_det, (run_det is_blank, (month_date_det, (rest_det, tt)))) in
+        let same = (unique_division (showing_row month_date) each division' division).1 in
         let there : d ≡ other = ap (λ (x : Values (showing_row month_date)). x.1.1.0) same in
         let (_, _, (_, _, (_, date, _))) = row_pieces (showing_row yearless_date)
         (division_front (showing_row yearless_date) shows.2) in
@@ -175,7 +175,8 @@ module _ (variant : Variant) (text : Text) {follows : Text} {p : Option ℕ}
         shown_year None h = cc
         shown_year (Some y) h = (y, refl)
 
-        tells : (asked : Option IncompleteDate) → MatchOption asked (IsSome d.year) (λ x. (d.year ≡ None) × (x ≡ incomplete d))
+        tells : (asked : Option IncompleteDate)
+            → MatchOption asked (IsSome d.year) (λ x. (d.year ≡ None) × (x ≡ incomplete d))
             → MatchOption asked ((date : MonthDate) → AsksYear variant text date → ⊥)
             (λ x. (date : MonthDate) × AsksYear variant text date × (x ≡ incomplete date))
         tells None h = λ other asks. let (y, e) = shown_year d.year h in asks_no_other y e other asks
@@ -200,7 +201,8 @@ module _ (variant : Variant) (text : Text) {follows : Text} {p : Option ℕ}
         no_header p q v e h =
             begins_apart b.start (λ c a l. omega arith)
             (subst (λ (x : Text). Begins IsLow x) (sym e) (header_stamp_begins p q v h))
-            (subst (λ (x : Text). Begins IsLetter x) (sym b.front.whole) (month_date_begins b.front.piece _ d b.front.is))
+            (subst (λ (x : Text). Begins IsLetter x) (sym b.front.whole)
+            (month_date_begins b.front.piece _ d b.front.is))
 
     -- or one
     pub dated_known : (post : IncompleteDate → ℤ → Type 0) (tz : Option (Bor TimeZone)) (local : Bor TimeZone)

@@ -1,11 +1,11 @@
 //! The calls that read a text.
 //!
-//! Each call trims its text once, and the steps behind it are given what is left. A date without a year is looked for
-//! before RFC 3164 is tried, and the closure asked for its year. The calls with `exact` in their names refuse a text
-//! that has no reading; the others answer the fallback.
-ghost use Rattle.std.specs.Prelude.{◌≡◌, ◌↔◌, Err, IfOk, IfSome, IsSome, MatchOption};
-ghost use Rattle.std.specs.Prelude.{MatchResult, None, Ok, OnOk, string_bytes};
-ghost use Rattle.std.specs.Str.{chars, encode_utf8_all, IsUtf8};
+//! Each call trims its text once, and reads its priority and its month date once: behind a month date RFC 5424 is not
+//! tried, and where the date has no year the closure is asked. The calls with `exact` in their names refuse a text that
+//! has no reading; the others answer the fallback.
+ghost use Rattle.std.specs.Prelude.{◌≡◌, Err, IfOk, IfSome, IsSome, MatchOption};
+ghost use Rattle.std.specs.Prelude.{None, Ok};
+ghost use Rattle.std.specs.Str.{chars};
 ghost use Rattle.jiff.specs.Words.{plain_zone};
 ghost use Rattle.syslog_pieces.specs.Pieces.View.{shown};
 ghost use Rattle.syslog_pieces.specs.Timestamp.{header_stamp};
@@ -14,18 +14,15 @@ ghost use Rattle.syslog_pieces.specs.Timestamp.Rfc3164.{ShowsYearless};
 ghost use Rattle.syslog_pieces.specs.Timestamp.Zone as zone;
 ghost use Rattle.syslog_pieces.specs.Timestamp.Zone.{IsYearAt, dating_of, dating_value};
 ghost use Rattle.syslog_pieces.specs.declared.timestamp.month_date.MonthDate.{MonthDate};
-ghost use Rattle.syslog_loose.specs.Verbatim3164.{ShowsDated};
-ghost use Rattle.syslog_loose.specs.Message.{MessageValue, message_value};
-ghost use Rattle.syslog_loose.specs.Printed.{printed};
-ghost use Rattle.syslog_loose.specs.ReadBack.{AnswersAgain, AnswersItself, FieldsAsRead};
+ghost use Rattle.syslog_loose.specs.Message.{message_value};
+ghost use Rattle.syslog_loose.specs.ReadBack.{AnswersItself, FieldsAsRead};
 ghost use Rattle.syslog_loose.specs.Reading as spec;
 ghost use Rattle.syslog_loose.specs.Reading.{Answers, AnswersEachMonth};
 ghost use Rattle.syslog_loose.specs.Reading.{AnswersOrWhole, AsksYear, HasMonth, InYear};
-ghost use Rattle.syslog_loose.specs.Reading.{IsOnlyRead, IsUnreadable, OfTrimmed, incomplete};
+ghost use Rattle.syslog_loose.specs.Reading.{OfTrimmed, incomplete};
 ghost use Rattle.syslog_loose.specs.Start.{BeginsWith, BeginsWithout};
 ghost use Rattle.syslog_loose.specs.declared.fault.ParseFault.TheVariants.{Invalid};
 ghost use Rattle.syslog_loose.specs.declared.variant.Variant.{Variant};
-ghost use Rattle.syslog_loose.specs.declared.variant.Variant.TheVariants as variants;
 
 use crate::beginning::may_be_read;
 use crate::fault::ParseFault;
@@ -204,7 +201,10 @@ pub fn parse_message_with_year_exact_tz<'a, F: FnOnce(IncompleteDate) -> i32>(
             found
         }
     };
-    let stamped = Stamped { priority, timestamp };
+    let stamped = Stamped {
+        priority,
+        timestamp,
+    };
     match rfc3164::read_behind(alloc, stamped, behind, DASH_RULE) {
         Ok(message) => Ok(message),
         Err(_) => Err(ParseFault::Memory),

@@ -13,7 +13,6 @@ ghost use Rattle.syslog_pieces.specs.Timestamp.Zone.{Dating as AnyDating, dating
 ghost use Rattle.syslog_loose.specs.Message.{message_value};
 ghost use Rattle.syslog_loose.specs.Reading.{OfTrimmed};
 ghost use Rattle.syslog_loose.specs.Rfc3164 as spec;
-ghost use Rattle.syslog_loose.specs.TagForm.{IsForm, IsNoForm};
 ghost use Rattle.syslog_loose.specs.View3164.{IsBehindStamp, names_value, stamped_values};
 
 use crate::message::{Message, Protocol};

@@ -3,10 +3,8 @@
 //! `read` answers the message of the one division of a trimmed text, or that there is none. What it reads it takes from
 //! the readers of `syslog_pieces`, piece by piece from the left; a header that fails takes no memory.
 ghost use Rattle.std.specs.Prelude.{◌≡◌, IfOk, IsOk, MatchOption, Some, None};
-ghost use Rattle.std.specs.Option.{option_map, option_and_then};
 ghost use Rattle.std.specs.Str.{chars};
 ghost use Rattle.syslog_pieces.specs.Pieces.Class.{Row, Text};
-ghost use Rattle.syslog_pieces.specs.Pri.{facility_of, severity_of};
 ghost use Rattle.syslog_pieces.specs.Pieces.View.{shown, Reads};
 ghost use Rattle.syslog_pieces.specs.Text.{trimmed};
 ghost use Rattle.syslog_loose.specs.Message.{message_value};

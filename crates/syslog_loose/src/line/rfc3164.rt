@@ -15,9 +15,7 @@ ghost use Rattle.syslog_pieces.specs.Timestamp.Zone.{Dating as AnyDating, dating
 ghost use Rattle.syslog_loose.specs.Verbatim3164.{VerbatimBehind, VerbatimNames, VerbatimOrigin, VerbatimProgram};
 ghost use Rattle.syslog_loose.specs.Verbatim3164.{PrintsAs3164, PrintsVerbatim3164, PrintsStamped, ShowsDated};
 ghost use Rattle.syslog_loose.specs.Printed.{timestamp_text};
-ghost use Rattle.syslog_loose.specs.ReadBack.{ReadsProtocol};
 ghost use Rattle.syslog_loose.specs.Reading.{HasMonth, IsUnreadable, OfTrimmed, incomplete};
-ghost use Rattle.syslog_loose.specs.declared.message.Protocol.TheVariants.{RFC3164};
 ghost use Rattle.syslog_loose.specs.declared.variant.Variant.{Variant};
 
 #[cfg(test)]

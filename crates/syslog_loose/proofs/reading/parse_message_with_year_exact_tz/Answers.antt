@@ -1,12 +1,10 @@
-use Rattle.std.proofs.Common.{◌≢◌, None, Ok, Err, refl, subst}
+use Rattle.std.proofs.Common.{None, Ok, Err, refl, subst}
 use Rattle.std.specs.Str.{chars}
 use Rattle.syslog_pieces.specs.Pieces.Class.{Text}
 use Rattle.syslog_pieces.specs.Pieces.View.{shown}
 use Rattle.syslog_pieces.specs.Timestamp.Zone.{dating_of}
 use Rattle.syslog_loose.specs.Beginning.{BeginsNone}
-use Rattle.syslog_loose.specs.Rfc5424.{IsNot5424}
 use Rattle.syslog_loose.specs.Start.{IsBehindPriority}
-use Rattle.syslog_loose.specs.declared.variant.Variant.TheVariants.{RFC3164}
 use Rattle.syslog_loose.specs.declared.fault.ParseFault.TheVariants.{Invalid, Memory}
 use Rattle.syslog_loose.proofs.BeginningLemmas.{asks_no_year, no_reading}
 use Rattle.syslog_loose.proofs.ReadBackLemmas.{itself, fields_answered}
@@ -14,7 +12,10 @@ use Rattle.syslog_loose.proofs.ReadingLemmas.{answers_in, in_year_map, refused}
 use Rattle.syslog_loose.proofs.StartLemmas.{IsStamped, asked_month, asks_none, date_answered, dated_invalid}
 use Rattle.syslog_loose.proofs.StartLemmas.{dated_known, other_known, stamped_read}
 use Rattle.syslog_loose.proofs.StartLemmas.{stamped_refused, strict_read, strict_refused, undated_invalid}
-use Rattle.syslog_loose.proofs.reading.parse_message_with_year_exact_tz.Goals.{in-Some+in-Some-month_stamp, in-None+in-Some-front_stamp, then-reads_rfc5424+in-Ok-None, else-reads_rfc5424}
+use Rattle.syslog_loose.proofs.reading.parse_message_with_year_exact_tz.Goals.{in-Some+in-Some-month_stamp}
+use Rattle.syslog_loose.proofs.reading.parse_message_with_year_exact_tz.Goals.{in-None+in-Some-front_stamp}
+use Rattle.syslog_loose.proofs.reading.parse_message_with_year_exact_tz.Goals.{then-reads_rfc5424+in-Ok-None}
+use Rattle.syslog_loose.proofs.reading.parse_message_with_year_exact_tz.Goals.{else-reads_rfc5424}
 use Rattle.syslog_loose.proofs.reading.parse_message_with_year_exact_tz.Goals as goal
 
 pub returns-then-not-may_be_read : goal.returns-then-not-may_be_read
@@ -115,17 +116,18 @@ returns-in-Ok g c =
     let k : IsStamped (λ d year. g.F.FnOnce.post c.args.get_year (d, tt) year) c.args.variant whole c.args.tz
     c.args.local (record { priority = found.0; timestamp = at.0 }) (shown at.1) = elim c.match-front_date.branch [
       | in-Some+in-Some-month_stamp w ↦ rw w.timestamp-is (dated_known c.args.variant whole f w.in-Some.date
-      w.in-Some.ensures _ _ _ w.asked_numbers.result w.map-year.result w.in-Some-month_stamp.stamp
-      w.asked_numbers.ensures w.map-year.ensures.cases w.in-Some-month_stamp.ensures)
+          w.in-Some.ensures _ _ _ w.asked_numbers.result w.map-year.result w.in-Some-month_stamp.stamp
+          w.asked_numbers.ensures w.map-year.ensures.cases w.in-Some-month_stamp.ensures)
       | in-None+in-Some-front_stamp w ↦ rw w.timestamp-is (other_known c.args.variant whole f w.in-None.ensures _ _ _
-      w.in-Some-front_stamp.ensures (λ n. elim w.if-reads_rfc5424.branch [
-        | then-reads_rfc5424+in-Ok-None v ↦ rw v.in-Ok-None.field-0-is at (v.in-Ok-None.ensures.read whole f)
-        | else-reads_rfc5424 v ↦ absurd (n v.if-reads_rfc5424.ensures)
-      ]))
+          w.in-Some-front_stamp.ensures (λ n. elim w.if-reads_rfc5424.branch [
+            | then-reads_rfc5424+in-Ok-None v ↦ rw v.in-Ok-None.field-0-is at (v.in-Ok-None.ensures.read whole f)
+            | else-reads_rfc5424 v ↦ absurd (n v.if-reads_rfc5424.ensures)
+          ]))
     ] in
     let answers = stamped_read c.args.variant (dating_of k.year c.args.tz c.args.local) whole c.in-Ok.message k.left
     (c.in-Ok.ensures.read _ whole k.front) in
-    let reads = answers_in _ c.args.variant whole c.args.tz c.args.local (Ok c.in-Ok.message) k.year k.answered answers in
+    let reads = answers_in _ c.args.variant whole c.args.tz c.args.local (Ok c.in-Ok.message) k.year k.answered
+    answers in
     record {
       reads = reads;
       itself = itself c.args.variant _ whole (Ok c.in-Ok.message) answers;
@@ -142,13 +144,13 @@ returns g c =
     let k : IsStamped (λ d year. g.F.FnOnce.post c.args.get_year (d, tt) year) c.args.variant whole c.args.tz
     c.args.local (record { priority = found.0; timestamp = at.0 }) (shown at.1) = elim c.match-front_date.branch [
       | in-Some+in-Some-month_stamp w ↦ rw w.timestamp-is (dated_known c.args.variant whole f w.in-Some.date
-      w.in-Some.ensures _ _ _ w.asked_numbers.result w.map-year.result w.in-Some-month_stamp.stamp
-      w.asked_numbers.ensures w.map-year.ensures.cases w.in-Some-month_stamp.ensures)
+          w.in-Some.ensures _ _ _ w.asked_numbers.result w.map-year.result w.in-Some-month_stamp.stamp
+          w.asked_numbers.ensures w.map-year.ensures.cases w.in-Some-month_stamp.ensures)
       | in-None+in-Some-front_stamp w ↦ rw w.timestamp-is (other_known c.args.variant whole f w.in-None.ensures _ _ _
-      w.in-Some-front_stamp.ensures (λ n. elim w.if-reads_rfc5424.branch [
-        | then-reads_rfc5424+in-Ok-None v ↦ rw v.in-Ok-None.field-0-is at (v.in-Ok-None.ensures.read whole f)
-        | else-reads_rfc5424 v ↦ absurd (n v.if-reads_rfc5424.ensures)
-      ]))
+          w.in-Some-front_stamp.ensures (λ n. elim w.if-reads_rfc5424.branch [
+            | then-reads_rfc5424+in-Ok-None v ↦ rw v.in-Ok-None.field-0-is at (v.in-Ok-None.ensures.read whole f)
+            | else-reads_rfc5424 v ↦ absurd (n v.if-reads_rfc5424.ensures)
+          ]))
     ] in
     let answers = stamped_refused c.args.variant (dating_of k.year c.args.tz c.args.local) whole k.left
     (refused c.read_behind-2.result _ c.in-Err-read_behind.is (c.read_behind-2.ensures.memory _ whole k.front)) in

@@ -1,4 +1,3 @@
-use Rattle.std.proofs.Common.{refl}
 use Rattle.std.specs.Str.{chars}
 use Rattle.syslog_pieces.specs.Pri.{priority_text}
 use Rattle.syslog_loose.proofs.Verbatim3164Lemmas.{shown_dated}
