@@ -13,7 +13,8 @@ use Rattle.syslog_pieces.specs.Timestamp.MonthDate.{dated_row, dated_of, yearles
 use Rattle.syslog_pieces.specs.Timestamp.Zone.{Dating, IsMonthStamp, dating_of}
 use Rattle.syslog_pieces.specs.declared.timestamp.OffsetTimestamp.{OffsetTimestamp}
 use Rattle.syslog_pieces.specs.declared.timestamp.month_date.MonthDate.{MonthDate}
-use Rattle.syslog_pieces.proofs.PieceLemmas.Class.{front_same, front_division, division_front, optional_det, run_det}
+use Rattle.syslog_pieces.proofs.PieceLemmas.Class.{AllDeterministic, front_same, front_division, division_front}
+use Rattle.syslog_pieces.proofs.PieceLemmas.Class.{optional_det, run_det}
 use Rattle.syslog_pieces.proofs.PieceLemmas.Class.{rest_det, rest_front, row_cons, row_nil, row_none_here}
 use Rattle.syslog_pieces.proofs.PieceLemmas.Class.{row_none_later, unique_division}
 use Rattle.syslog_pieces.proofs.PieceLemmas.Kinds.{Begins, begins_apart}
@@ -157,7 +158,8 @@ module _ (variant : Variant) (text : Text) {follows : Text} {p : Option ℕ}
         let shows = asked_shows variant text other asks in
         let (p', more, division) = shows_month_date text other shows in
         let (_, _, division') = shows_date in
-        let each = (optional_det priority priority_det, (run_det is_blank, (month_date_det, (rest_det, tt)))) in
+        let each : AllDeterministic (showing_row month_date) =
+        (optional_det priority priority_det, (run_det is_blank, (month_date_det, (rest_det, tt)))) in
         let same = (unique_division (showing_row month_date) each division' division).1 in
         let there : d ≡ other = ap (λ (x : Values (showing_row month_date)). x.1.1.0) same in
         let (_, _, (_, _, (_, date, _))) = row_pieces (showing_row yearless_date)
