@@ -3,10 +3,11 @@
 //! One scanner cuts the maximal run of a class of characters from the front of a text; every reader of a word stands on
 //! it. A reader answers what its class in `specs/Text.antt` means and the text behind it, or nothing where no front of
 //! the text is of the class. Nothing here takes memory, and no text is copied.
-ghost use Rattle.std.specs.Prelude.{◌≡◌, ◌<◌, ◌++◌, [], ◌∷◌, IfSome, IsTrue, None, Option, MatchOption};
+ghost use Rattle.std.specs.Prelude.{◌≡◌, ◌<◌, [], ◌∷◌, IfSome, IsTrue, Option, MatchOption};
 ghost use Rattle.std.specs.Str.{bytes_eq, chars, IsUtf8};
 ghost use Rattle.syslog_pieces.specs.Text.CharClass.{has};
-ghost use Rattle.syslog_pieces.specs.Pieces.Class.{Front, NoFront, exactly, optional, run, some_run};
+ghost use Rattle.syslog_pieces.specs.declared.text.CharClass.TheVariants.{Blank};
+ghost use Rattle.syslog_pieces.specs.Pieces.Class.{Front, exactly, optional, run, some_run};
 ghost use Rattle.syslog_pieces.specs.Bodies.Scan.{EndsRun, IsBare, SplitsRun, past_in};
 ghost use Rattle.syslog_pieces.specs.Text as spec;
 ghost use Rattle.syslog_pieces.specs.Pieces.View.{seen, shown, Reads, Skips};
@@ -21,9 +22,9 @@ pub mod verbatim;
 pub mod write_ascii;
 
 pub use fields::{host_field, tag_field};
+pub(crate) use looks::begins_with_letter;
 use looks::{
-    begins_visibly, begins_with, begins_with_digit, begins_with_gap, begins_with_nil,
-    ends_in_colon, first_digit,
+    begins_visibly, begins_with, begins_with_digit, begins_with_gap, ends_in_colon, first_digit,
 };
 pub(crate) use numerals::{few_digits, number_of_digits};
 use scan::{ascii_run, is_cut, is_in};
@@ -219,12 +220,30 @@ fn few_blanks(text: &str) -> Option<&str>
 }
 
 // The same of any number of blanks.
-#[inline(never)]
+#[inline(always)]
 fn any_blanks(text: &str) -> &str
     ensures { Front (run spec.is_blank) (chars text.now) (shown result) tt }
 {
-    let (_, rest) = split_run(text, CharClass::Blank);
+    let (_, rest) = split_blanks(text);
     rest
+}
+
+// The blanks at the front, perhaps none, and the text behind them.
+#[inline(always)]
+fn split_blanks(text: &str) -> (&str, &str)
+    ensures { SplitsRun (has Blank) text.now result.0.now result.1.now }
+{
+    text.split_at(blanks_end(text))
+}
+
+// The place behind them. It stands apart, since few gaps need a scan; a place, not a text, so that none goes through
+// memory.
+#[cold]
+#[inline(never)]
+fn blanks_end(text: &str) -> usize
+    ensures { EndsRun (has Blank) text.now result }
+{
+    run_end(text, CharClass::Blank)
 }
 
 /// The text behind the nonempty run of the class at the front.
@@ -261,11 +280,11 @@ fn past_space(text: &str) -> Option<&str>
 }
 
 // The text behind any number of blanks but none.
-#[inline(never)]
+#[inline(always)]
 fn many_blanks(text: &str) -> Option<&str>
     ensures { Skips (some_run spec.is_blank) tt (chars text.now) result }
 {
-    let (front, rest) = split_run(text, CharClass::Blank);
+    let (front, rest) = split_blanks(text);
     if front.is_empty() { None } else { Some(rest) }
 }
 
@@ -332,30 +351,6 @@ fn named(run: &str) -> Option<&str>
 /// The word of RFC 5424 at the front (app name, process id or message id), absent for `-`, and the text behind it.
 #[inline(always)]
 pub fn word(text: &str) -> Option<(Option<&str>, &str)>
-    ensures { Reads spec.word seen (chars text.now) result }
-{
-    match past_nil(text) {
-        Some(rest) => Some((None, rest)),
-        None => any_word(text),
-    }
-}
-
-// The text behind a lone `-` before a space: an absent word.
-#[inline(always)]
-fn past_nil(text: &str) -> Option<&str>
-    ensures { IfSome result (λ rest. Front spec.word (chars text.now) (shown rest) None) }
-{
-    if begins_with_nil(text.as_bytes()) {
-        let (_, rest) = text.split_at(1);
-        Some(rest)
-    } else {
-        None
-    }
-}
-
-// The same of any word.
-#[inline(always)]
-fn any_word(text: &str) -> Option<(Option<&str>, &str)>
     ensures { Reads spec.word seen (chars text.now) result }
 {
     let (run, rest) = split_run(text, CharClass::Visible);

@@ -1,14 +1,14 @@
 -- What the first bytes of a text tell of its characters.
 use Rattle.std.proofs.Common.{◌≡◌, ◌≢◌, ℕ, suc, ◌+◌, ◌-◌, ◌<◌, ◌≤◌, false, List, [], ◌∷◌, ◌++◌}
-use Rattle.std.proofs.Common.{length, drop, get_or, None, refl, sym, ap, subst, ◌∙◌, arith, true}
+use Rattle.std.proofs.Common.{length, drop, get_or, refl, sym, ap, subst, ◌∙◌, arith, true}
 use Rattle.std.proofs.lemmas.Bool.Decides.{nat_tests}
 use Rattle.std.proofs.lemmas.List.{length-append, drop_at}
 use Rattle.std.proofs.lemmas.Str.{encode_ascii, IsUtf8-past_char, IsCharBoundary-at_seam}
-use Rattle.std.specs.Char.{is_ascii_digit, is_not_whitespace}
+use Rattle.std.specs.Char.{is_ascii_digit}
 use Rattle.std.specs.Str.{chars, IsUtf8, IsAscii, IsCharBoundary}
-use Rattle.syslog_pieces.specs.Bodies.Looks.{BeginsVisibly, BeginsWithDigit, BeginsWithGap, BeginsWithNil}
+use Rattle.syslog_pieces.specs.Bodies.Looks.{BeginsVisibly, BeginsWithDigit, BeginsWithGap}
 use Rattle.syslog_pieces.specs.Pieces.Class.{Text, Front, NoFront, Ends, exactly, run, some_run}
-use Rattle.syslog_pieces.specs.Text.{colon, dash, is_blank, number, word}
+use Rattle.syslog_pieces.specs.Text.{is_blank, number}
 use Rattle.syslog_pieces.proofs.TextLemmas.Chars.{ascii_front, one_ascii}
 use Rattle.syslog_pieces.proofs.TextLemmas.Decimals.{digit_is}
 use Rattle.syslog_pieces.proofs.TextLemmas.Runs.{ascii_of, past_of_ascii, ends_at_both}
@@ -113,29 +113,6 @@ module _ (bs : List ℕ) (u : IsUtf8 bs) (g : BeginsWithGap bs) where
       whole = one_chars 32 bs (omega arith) u space_first ys f;
       is = ((refl, tt), gap_each);
     }
-
--- ---- the absent word
-module _ (bs : List ℕ) (u : IsUtf8 bs) (g : BeginsWithNil bs) where
-  dash_first : bs ≡ 45 ∷ drop 1 bs
-  dash_first = first_of_two bs 45 g.0 g.1
-
-  pub nil_cut : IsCharBoundary bs 1
-  nil_cut = one_cut 45 bs (omega arith) u dash_first
-
-  pub nil_front : (ys : List ℕ) → ys ≡ drop 1 bs → Front word (chars bs) (chars ys) None
-  nil_front ys f =
-      let e : ys ≡ 32 ∷ drop 2 bs = f ∙ second_first bs g.0 ∙ ap (λ (x : ℕ). x ∷ drop 2 bs) g.2 in
-      let behind : chars ys ≡ 32 ∷ chars (drop 2 bs) =
-      ascii_front (32 ∷ []) (drop 2 bs) ys (one_ascii 32 (omega arith)) e in
-      record {
-        piece = 45 ∷ [];
-        whole = one_chars 45 bs (omega arith) u dash_first ys f;
-        is =
-            (omega arith, (refl, tt), subst (λ (x : Text). Ends is_not_whitespace x) (sym behind) refl, no_colon, refl);
-      }
-    where
-      no_colon : dash ≡ colon → ⊥
-      no_colon h = let t = ap (λ (x : List ℕ). get_or x 0 0) h in omega (arith, t)
 
 -- ---- one digit
 module _ (bs : List ℕ) (value limit : ℕ) (u : IsUtf8 bs) (g : BeginsWithDigit bs value) where

@@ -11,10 +11,6 @@ BeginsVisibly bytes = (0 < length bytes) × (32 < slice_index bytes 0)
 abbrev pub BeginsWithGap : List ℕ → Type 0
 BeginsWithGap bytes = (1 < length bytes) × (slice_index bytes 0 ≡ 32) × (32 < slice_index bytes 1)
 
--- `-`, and a space
-abbrev pub BeginsWithNil : List ℕ → Type 0
-BeginsWithNil bytes = (1 < length bytes) × (slice_index bytes 0 ≡ 45) × (slice_index bytes 1 ≡ 32)
-
 -- a digit, and then a byte before the digits
 abbrev pub BeginsWithDigit : List ℕ → ℕ → Type 0
 BeginsWithDigit bytes value =

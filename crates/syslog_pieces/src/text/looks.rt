@@ -38,14 +38,6 @@ pub(crate) fn begins_with_gap(bytes: &[u8]) -> bool
     }
 }
 
-/// Whether `-` and a space begin the bytes.
-#[inline(always)]
-pub(crate) fn begins_with_nil(bytes: &[u8]) -> bool
-    ensures { IsTrue result → spec.BeginsWithNil bytes.now }
-{
-    matches!(bytes, [b'-', b' ', ..])
-}
-
 /// Whether the last byte is that of a colon.
 #[inline(always)]
 pub(crate) fn ends_in_colon(bytes: &[u8]) -> bool
@@ -61,6 +53,17 @@ pub(crate) fn begins_with_digit(bytes: &[u8]) -> bool
     ensures { OnFalse result (0 < length bytes.now → is_ascii_digit (slice_index bytes.now 0) ≡ false) }
 {
     matches!(bytes, [b'0'..=b'9', ..])
+}
+
+/// Whether a byte from `A` on begins the bytes, as each letter is.
+#[inline(always)]
+pub(crate) fn begins_with_letter(bytes: &[u8]) -> bool
+    ensures { OnFalse result (0 < length bytes.now → slice_index bytes.now 0 < 65) }
+{
+    match bytes {
+        [first, ..] => *first >= b'A',
+        [] => false,
+    }
 }
 
 /// The digit that begins the bytes, where none stands behind it but a byte before the digits.

@@ -4,9 +4,10 @@ use Rattle.syslog_pieces.proofs.TextLemmas.Runs.{some_run_front, no_some_run}
 use Rattle.syslog_pieces.proofs.TextLemmas.Chars.{empty_is, nonempty_is}
 
 pub returns-then-is_empty : goal.returns-then-is_empty
-returns-then-is_empty c = no_some_run is_blank c.args.text.now c.split_run.result.0.now c.split_run.result.1.now
-    c.split_run.ensures (empty_is _ c.if-is_empty.ensures)
+returns-then-is_empty c = no_some_run is_blank c.args.text.now c.split_blanks.result.0.now c.split_blanks.result.1.now
+    c.split_blanks.ensures (empty_is _ c.if-is_empty.ensures)
 
 pub returns-else-is_empty : goal.returns-else-is_empty
-returns-else-is_empty c = some_run_front is_blank c.args.text.now c.split_run.result.0.now c.split_run.result.1.now
-    c.split_run.ensures (nonempty_is _ c.if-is_empty.ensures)
+returns-else-is_empty c =
+    some_run_front is_blank c.args.text.now c.split_blanks.result.0.now c.split_blanks.result.1.now
+    c.split_blanks.ensures (nonempty_is _ c.if-is_empty.ensures)

@@ -1,6 +1,6 @@
 use Rattle.syslog_pieces.specs.Pieces.View.{seen}
 use Rattle.syslog_pieces.specs.Text.{colon}
-use Rattle.syslog_pieces.proofs.text.any_word.Goals as goal
+use Rattle.syslog_pieces.proofs.text.word.Goals as goal
 use Rattle.syslog_pieces.proofs.TextLemmas.Chars.{empty_is, nonempty_is, text_is, text_is_not}
 use Rattle.syslog_pieces.proofs.TextLemmas.Words.{word_front, no_word_empty, no_word_colon, colon_ascii}
 
