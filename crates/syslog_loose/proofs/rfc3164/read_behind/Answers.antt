@@ -1,18 +1,18 @@
-use Rattle.std.proofs.Common.{◌≡◌, ℕ, [], ◌∷◌, List, Option, Some, None, Vec, Global, true, false, map, refl, ap, ◌∙◌}
+use Rattle.std.proofs.Common.{◌≡◌, ℕ, [], List, Option, Some, None, Vec, Global, true, false, map, refl, ap, ◌∙◌}
 use Rattle.std.specs.Borrow.{Bor}
 use Rattle.std.specs.Option.{option_map, unwrap_or}
-use Rattle.syslog_pieces.specs.Pieces.Class.{run, rest, optional}
 use Rattle.syslog_pieces.specs.Pieces.View.{seen, shown}
 use Rattle.syslog_pieces.specs.ProcId.{procid_value}
 use Rattle.syslog_pieces.specs.StructuredData.Element.{element_value}
-use Rattle.syslog_pieces.specs.StructuredData.Rfc3164List.{rfc3164_list, elements_or}
+use Rattle.syslog_pieces.specs.StructuredData.Rfc3164List.{elements_or}
 use Rattle.syslog_pieces.specs.declared.structured_data.StructuredElement.{StructuredElement}
-use Rattle.syslog_pieces.specs.Text.{is_blank}
-use Rattle.syslog_pieces.proofs.PieceLemmas.Class.{row_nil, row_cons, rows_join, rest_front}
+use Rattle.syslog_pieces.proofs.PieceLemmas.Class.{rows_join, rest_front}
+use Rattle.syslog_pieces.proofs.PieceLemmas.Rows.{row_of, ◌then◌}
 use Rattle.syslog_loose.specs.Rfc3164.{stamped_row, fields_row, body_row}
 use Rattle.syslog_loose.specs.View3164.{names_value}
 use Rattle.syslog_loose.specs.declared.message.Protocol.TheVariants.{RFC3164}
-use Rattle.syslog_loose.proofs.Rfc3164Lemmas.Reading.{behind_row, is_read, list_needs_none}
+use Rattle.syslog_loose.proofs.Rfc3164Lemmas.Reading.{is_read, list_needs_none}
+use Rattle.syslog_loose.proofs.Rfc3164Lemmas.Rows.{from_list}
 use Rattle.syslog_loose.proofs.rfc3164.read_behind.Goals as goal
 
 pub returns-in_err-elements-clause-memory : goal.returns-in_err-elements-clause-memory
@@ -59,7 +59,6 @@ returns-clause-read c dating whole f =
       }),
     )
     (rows_join (stamped_row dating) (body_row rule) f
-    (rows_join fields_row (optional (rfc3164_list rule) ∷ behind_row) fields.front
-    (row_cons (optional (rfc3164_list rule)) behind_row c.in_ok-elements.ensures.list
-    (row_cons (run is_blank) (rest ∷ []) c.blanks-msg.ensures
-    (row_cons rest [] (rest_front _) (row_nil []))))))
+    (rows_join fields_row (from_list rule) fields.front
+    (row_of (from_list rule)
+    (c.in_ok-elements.ensures.list then c.blanks-msg.ensures then rest_front _ then refl))))
