@@ -1,6 +1,8 @@
 //! Messages built by hand.
+use super::expected::{Expected, Process};
 use std::alloc::{AllocError, Global};
-use syslog_loose::{Message, Protocol, StructuredElement, SyslogFacility, SyslogSeverity};
+use std::str::Split;
+use syslog_loose::{Message, ProcId, Protocol, StructuredElement, SyslogFacility, SyslogSeverity};
 
 /// From LOG_AUTH and of SEV_CRIT, with this message and nothing else.
 pub(super) fn small<'a>(alloc: Global, protocol: Protocol, msg: &'a str) -> Message<&'a str> {
@@ -18,15 +20,57 @@ pub(super) fn small<'a>(alloc: Global, protocol: Protocol, msg: &'a str) -> Mess
     }
 }
 
-/// An element with these names and values.
+// The names and the values that are left of a line.
+fn params_of<'a>(
+    alloc: Global,
+    mut texts: Split<'a, char>,
+) -> Result<Vec<(&'a str, &'a str)>, AllocError> {
+    let mut params = Vec::new(alloc);
+    while let Some(name) = texts.next() {
+        params.push((name, texts.next().unwrap_or("")))?;
+    }
+    Ok(params)
+}
+
+/// The element of a line: its id, then the name and the value of each parameter, with bars between.
 pub(super) fn element<'a>(
     alloc: Global,
-    id: &'a str,
-    pairs: &[(&'a str, &'a str)],
+    line: &'a str,
 ) -> Result<StructuredElement<&'a str>, AllocError> {
-    let mut params = Vec::new(alloc);
-    for pair in pairs {
-        params.push(*pair)?;
+    let mut texts = line.split('|');
+    Ok(StructuredElement {
+        id: texts.next().unwrap_or(""),
+        params: params_of(alloc, texts)?,
+    })
+}
+
+/// The elements of the lines.
+pub(super) fn elements<'a>(
+    alloc: Global,
+    lines: &'a str,
+) -> Result<Vec<StructuredElement<&'a str>>, AllocError> {
+    let mut elements = Vec::new(alloc);
+    for line in lines.lines() {
+        elements.push(element(alloc, line)?)?;
     }
-    Ok(StructuredElement { id, params })
+    Ok(elements)
+}
+
+/// The names, the elements and the message of a row, from LOG_AUTH, of SEV_CRIT and without a timestamp.
+pub(super) fn message<'a>(
+    alloc: Global,
+    protocol: Protocol,
+    fields: &Expected<'a>,
+) -> Result<Message<&'a str>, AllocError> {
+    let mut message = small(alloc, protocol, fields.msg);
+    message.hostname = fields.hostname;
+    message.appname = fields.appname;
+    message.procid = match fields.process {
+        Process::Absent => None,
+        Process::Number(number) => Some(ProcId::PID(number)),
+        Process::Name(name) => Some(ProcId::Name(name)),
+    };
+    message.msgid = fields.msgid;
+    message.structured_data = elements(alloc, fields.elements)?;
+    Ok(message)
 }

@@ -21,8 +21,7 @@
 //! backslash at its end, which takes the blanks before the next one away.
 use std::alloc::Global;
 use std::process::Abort;
-use std::test::Fail;
-use syslog_loose::{Message, ProcId, StructuredElement, SyslogFacility, SyslogSeverity};
+use syslog_loose::{AsStr, Message, ProcId, StructuredElement, SyslogFacility, SyslogSeverity};
 
 /// A process id.
 #[derive(Clone, Copy, Debug, PartialEq, Eq)]
@@ -115,22 +114,32 @@ fn process_of<'a>(procid: &Option<ProcId<&'a str>>) -> Process<'a> {
     }
 }
 
-/// Compares element by element, with lines as in `Expected`, and takes no memory.
-pub(super) fn check_elements(rt: &impl Abort, elements: &[StructuredElement<&str>], want: &str) {
-    let mut lines = want.split('\n');
-    if want.is_empty() {
-        lines.next();
+fn is_param(param: &(&str, &str), name: Option<&str>, value: Option<&str>) -> bool {
+    Some(param.0) == name && Some(param.1) == value
+}
+
+fn is_element(element: &StructuredElement<&str>, line: &str) -> bool {
+    let mut texts = line.split('|');
+    if texts.next() != Some(element.id) {
+        return false;
     }
-    for element in elements {
-        let mut texts = lines.next().unwrap_or("").split('|');
-        assert_eq!(rt; texts.next(), Some(element.id), "{want}");
-        for (name, value) in &element.params {
-            assert_eq!(rt; texts.next(), Some(*name), "{want}");
-            assert_eq!(rt; texts.next(), Some(*value), "{want}");
+    for param in &element.params {
+        if !is_param(param, texts.next(), texts.next()) {
+            return false;
         }
-        assert_eq!(rt; texts.next(), None, "{want}");
     }
-    assert_eq!(rt; lines.next(), None);
+    texts.next().is_none()
+}
+
+/// Compares element by element, with lines as in `Expected`, and takes no memory.
+pub(super) fn are_elements(elements: &[StructuredElement<&str>], lines: &str) -> bool {
+    let mut lines = lines.lines();
+    for element in elements {
+        if !is_element(element, lines.next().unwrap_or("")) {
+            return false;
+        }
+    }
+    lines.next().is_none()
 }
 
 pub(super) fn check_timestamp(
@@ -138,15 +147,14 @@ pub(super) fn check_timestamp(
     alloc: Global,
     message: &Message<&str>,
     want: Option<&str>,
-) -> Result<(), Fail> {
+) {
     match message.timestamp {
         Some(stamp) => {
-            let stamp = format!(in alloc; "{stamp}")?;
-            assert_eq!(rt; Some(stamp.as_str()), want);
+            let stamp = format!(in alloc; "{stamp}").expect(rt, "no memory");
+            assert!(rt; Some(stamp.as_str()) == want, "{stamp}");
         }
-        None => assert_eq!(rt; None, want),
+        None => assert!(rt; want.is_none(), "no timestamp"),
     }
-    Ok(())
 }
 
 fn check_field(
@@ -156,7 +164,7 @@ fn check_field(
     found: Option<&str>,
     wanted: Option<&str>,
 ) {
-    assert_eq!(rt; found, wanted, "{field} of {}", want.text);
+    assert!(rt; found == wanted, "{field} of {}: {found:?}", want.text);
 }
 
 pub(super) fn check_priority(rt: &impl Abort, message: &Message<&str>, want: &Expected) {
@@ -170,19 +178,24 @@ pub(super) fn check_priority(rt: &impl Abort, message: &Message<&str>, want: &Ex
 pub(super) fn check_fields(rt: &impl Abort, message: &Message<&str>, want: &Expected) {
     check_field(rt, want, "host", message.hostname, want.hostname);
     check_field(rt, want, "app", message.appname, want.appname);
-    assert_eq!(rt; process_of(&message.procid), want.process, "{}", want.text);
+    let process = process_of(&message.procid);
+    assert!(rt;
+        process == want.process,
+        "process of {}: {process:?}",
+        want.text
+    );
     check_field(rt, want, "id", message.msgid, want.msgid);
-    check_elements(rt, &message.structured_data, want.elements);
+    let same = are_elements(&message.structured_data, want.elements);
+    assert!(rt; same, "elements of {}", want.text);
     check_field(rt, want, "msg", Some(message.msg), Some(want.msg));
 }
 
-pub(super) fn check_printed(
+pub(super) fn check_printed<S: AsStr>(
     rt: &impl Abort,
     alloc: Global,
-    message: &Message<&str>,
-    want: &Expected,
-) -> Result<(), Fail> {
-    let printed = format!(in alloc; "{message}")?;
-    assert_eq!(rt; printed.as_str(), want.printed);
-    Ok(())
+    message: &Message<S>,
+    want: &str,
+) {
+    let printed = format!(in alloc; "{message}").expect(rt, "no memory");
+    assert!(rt; printed.as_str() == want, "{printed}");
 }

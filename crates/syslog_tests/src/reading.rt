@@ -61,7 +61,7 @@ pub(super) fn check_invalid(rt: &impl Abort, alloc: Global, variant: Variant, te
     for text in texts {
         match read(alloc, text, variant) {
             Ok(_) => assert!(rt; false, "a message in {text:?}"),
-            Err(fault) => assert_eq!(rt; fault, ParseFault::Invalid, "{text:?}"),
+            Err(fault) => assert!(rt; fault == ParseFault::Invalid, "{fault} in {text:?}"),
         }
     }
 }

@@ -13,37 +13,34 @@ use super::expected::{
 use super::reading::{IN_JANUARY, read, read_by_month};
 use std::alloc::Global;
 use std::process::Abort;
-use std::test::Fail;
 use syslog_loose::{Message, Protocol, Variant};
 
 /// It is the message of the row, field by field, and it prints so.
-fn check_message(
-    rt: &impl Abort,
-    alloc: Global,
-    message: &Message<&str>,
-    want: &Expected,
-) -> Result<(), Fail> {
-    assert_eq!(rt; message.protocol, Protocol::RFC5424(want.version));
+fn check_message(rt: &impl Abort, alloc: Global, message: &Message<&str>, want: &Expected) {
+    assert!(rt;
+        message.protocol == Protocol::RFC5424(want.version),
+        "{}",
+        want.text
+    );
     check_priority(rt, message, want);
-    check_timestamp(rt, alloc, message, want.timestamp)?;
+    check_timestamp(rt, alloc, message, want.timestamp);
     check_fields(rt, message, want);
-    check_printed(rt, alloc, message, want)
+    check_printed(rt, alloc, message, want.printed);
 }
 
 /// The text reads as its message, as RFC 5424 and under `Either`, in a given zone and without one.
-fn check_text(rt: &impl Abort, alloc: Global, want: &Expected) -> Result<(), Fail> {
-    for variant in [Variant::Either, Variant::RFC5424] {
-        check_message(rt, alloc, &read(alloc, want.text, variant)?, want)?;
-        let message = read_by_month(alloc, want.text, IN_JANUARY, variant)?;
-        check_message(rt, alloc, &message, want)?;
+fn check_text(rt: &impl Abort, alloc: Global, want: &Expected) {
+    for variant in &[Variant::Either, Variant::RFC5424] {
+        let message = read(alloc, want.text, *variant).expect(rt, want.text);
+        check_message(rt, alloc, &message, want);
+        let message = read_by_month(alloc, want.text, IN_JANUARY, *variant).expect(rt, want.text);
+        check_message(rt, alloc, &message, want);
     }
-    Ok(())
 }
 
 /// The text of each row reads so.
-fn check_table(rt: &impl Abort, alloc: Global, rows: &[&str]) -> Result<(), Fail> {
+fn check_table(rt: &impl Abort, alloc: Global, rows: &[&str]) {
     for row in rows {
-        check_text(rt, alloc, &row_of(rt, row))?;
+        check_text(rt, alloc, &row_of(rt, row));
     }
-    Ok(())
 }

@@ -1,26 +1,16 @@
 //! The reading calls on dates: zones, the closure, the fallback and the year of a moment.
+use crate::expected::{check_fields, check_printed, check_priority, row_of};
 use crate::reading::{RULE, check_invalid};
 use std::alloc::Global;
 use std::process::Abort;
 use std::test::Fail;
 use syslog_loose::{
-    IncompleteDate, Message, Offset, ParseFault, Protocol, SyslogFacility, SyslogSeverity,
-    TimeZone, Timestamp, Variant, parse_message, parse_message_with_year,
-    parse_message_with_year_exact, parse_message_with_year_exact_tz, parse_message_with_year_tz,
+    IncompleteDate, Message, Offset, ParseFault, Protocol, TimeZone, Timestamp, Variant,
+    parse_message, parse_message_with_year, parse_message_with_year_exact,
+    parse_message_with_year_exact_tz, parse_message_with_year_tz,
 };
 
-fn check_printed(
-    rt: &impl Abort,
-    alloc: Global,
-    message: &Message<&str>,
-    want: &str,
-) -> Result<(), Fail> {
-    let printed = format!(in alloc; "{message}")?;
-    assert_eq!(rt; printed.as_str(), want);
-    Ok(())
-}
-
-// The printed text of the message in this year, which is read so under `Either` and as RFC 3164.
+// What the text prints as, read in this year under `Either` and as RFC 3164.
 fn check_reading(
     rt: &impl Abort,
     alloc: Global,
@@ -29,19 +19,18 @@ fn check_reading(
     tz: Option<&TimeZone<'_>>,
     local: &TimeZone<'_>,
     want: &str,
-) -> Result<(), Fail> {
-    for variant in [Variant::Either, Variant::RFC3164] {
+) {
+    for variant in &[Variant::Either, Variant::RFC3164] {
         let message = parse_message_with_year_exact_tz(
             alloc,
             text,
             move |_: IncompleteDate| year,
             tz,
-            variant,
+            *variant,
             local,
-        )?;
-        check_printed(rt, alloc, &message, want)?;
+        );
+        check_printed(rt, alloc, &message.expect(rt, text), want);
     }
-    Ok(())
 }
 
 #[test]
@@ -55,59 +44,58 @@ fn reads_the_earlier_instant_of_a_fold(rt: HostRuntime) -> Result<(), Fail> {
         Some(&rule),
         &TimeZone::UTC,
         "<47> 2020-10-25T02:30:00+02:00 h a: m",
-    )
+    );
+    Ok(())
+}
+
+// A date in the gap of this zone has no reading where it is given, and one where it is the local zone.
+fn check_gap(rt: &impl Abort, alloc: Global, rule: &TimeZone<'_>, variant: Variant) {
+    let text = "Mar 29 02:30:00 h a: m";
+    let year = |_: IncompleteDate| 2020;
+    let utc = TimeZone::UTC;
+    match parse_message_with_year_exact_tz(alloc, text, year, Some(rule), variant, &utc) {
+        Ok(_) => assert!(rt; false, "a message in a gap"),
+        Err(fault) => assert!(rt; fault == ParseFault::Invalid),
+    }
+    let message = parse_message_with_year_exact(alloc, text, year, variant, rule);
+    let want = "<47> 2020-03-29T04:30:00+02:00 h a: m";
+    check_printed(rt, alloc, &message.expect(rt, text), want);
 }
 
 #[test]
 fn refuses_a_gap_of_a_given_zone_alone(rt: HostRuntime) -> Result<(), Fail> {
-    let alloc = rt.alloc();
     let rule = TimeZone::posix(RULE)?;
-    let text = "Mar 29 02:30:00 h a: m";
-    for variant in [Variant::Either, Variant::RFC3164] {
-        match parse_message_with_year_exact_tz(
-            alloc,
-            text,
-            |_: IncompleteDate| 2020,
-            Some(&rule),
-            variant,
-            &TimeZone::UTC,
-        ) {
-            Ok(_) => assert!(rt; false, "a message in a gap"),
-            Err(fault) => assert_eq!(rt; fault, ParseFault::Invalid),
-        }
-        let message = parse_message_with_year_exact(
-            alloc,
-            text,
-            |_: IncompleteDate| 2020,
-            variant,
-            &rule,
-        )?;
-        let printed = "<47> 2020-03-29T04:30:00+02:00 h a: m";
-        check_printed(&rt, alloc, &message, printed)?;
-    }
+    check_gap(&rt, rt.alloc(), &rule, Variant::Either);
+    check_gap(&rt, rt.alloc(), &rule, Variant::RFC3164);
     Ok(())
+}
+
+fn check_winter(rt: &impl Abort, alloc: Global, rule: &TimeZone<'_>, variant: Variant) {
+    let want = row_of(
+        rt,
+        "<46>Jan  5 15:33:03 plertrood-ThinkPad-X220 rsyslogd: start\
+         ¦facility syslog¦severity info¦host plertrood-ThinkPad-X220¦app rsyslogd¦msg start\
+         ¦prints <46> 2020-01-05T15:33:03+01:00 plertrood-ThinkPad-X220 rsyslogd: start",
+    );
+    let message = parse_message_with_year_exact_tz(
+        alloc,
+        want.text,
+        |date: IncompleteDate| if date.0 == 12 { 2019 } else { 2020 },
+        Some(rule),
+        variant,
+        &TimeZone::UTC,
+    )
+    .expect(rt, want.text);
+    check_priority(rt, &message, &want);
+    check_fields(rt, &message, &want);
+    check_printed(rt, alloc, &message, want.printed);
 }
 
 #[test]
 fn reads_a_date_in_winter(rt: HostRuntime) -> Result<(), Fail> {
-    let alloc = rt.alloc();
     let rule = TimeZone::posix(RULE)?;
-    for variant in [Variant::Either, Variant::RFC3164] {
-        let message = parse_message_with_year_exact_tz(
-            alloc,
-            "<46>Jan  5 15:33:03 plertrood-ThinkPad-X220 rsyslogd: start",
-            |date: IncompleteDate| if date.0 == 12 { 2019 } else { 2020 },
-            Some(&rule),
-            variant,
-            &TimeZone::UTC,
-        )?;
-        assert_eq!(rt; message.facility, Some(SyslogFacility::LOG_SYSLOG));
-        assert_eq!(rt; message.severity, Some(SyslogSeverity::SEV_INFO));
-        assert_eq!(rt; message.appname, Some("rsyslogd"));
-        assert_eq!(rt; message.msg, "start");
-        let printed = "<46> 2020-01-05T15:33:03+01:00 plertrood-ThinkPad-X220 rsyslogd: start";
-        check_printed(&rt, alloc, &message, printed)?;
-    }
+    check_winter(&rt, rt.alloc(), &rule, Variant::Either);
+    check_winter(&rt, rt.alloc(), &rule, Variant::RFC3164);
     Ok(())
 }
 
@@ -137,7 +125,7 @@ fn asks_for_a_year_only_where_a_date_shows_none(rt: HostRuntime) -> Result<(), F
             variant,
             &TimeZone::UTC,
         );
-        assert_eq!(rt; called, asked, "{text}");
+        assert!(rt; called == asked, "{text}");
         let _ = answer;
     }
     check_reading(
@@ -148,44 +136,37 @@ fn asks_for_a_year_only_where_a_date_shows_none(rt: HostRuntime) -> Result<(), F
         Some(&ahead),
         &TimeZone::UTC,
         "<34> 2008-12-28T16:49:07+01:00 h a: m",
-    )
+    );
+    Ok(())
+}
+
+/// 2019-12-31T23:30:00Z, in seconds.
+const NOW: i64 = 1_577_835_000;
+
+fn check_now(rt: &impl Abort, alloc: Global, local: &TimeZone<'_>, want: &str) -> Result<(), Fail> {
+    let now = Timestamp::from_second(NOW)?;
+    let message = parse_message(alloc, "Oct 11 22:14:15 h a: m", Variant::Either, now, local)?;
+    check_printed(rt, alloc, &message, want);
+    Ok(())
 }
 
 #[test]
 fn takes_the_year_of_now_in_the_local_zone(rt: HostRuntime) -> Result<(), Fail> {
-    let alloc = rt.alloc();
-    let text = "Oct 11 22:14:15 h a: m";
-    // 2019-12-31T23:30:00Z
-    let now = Timestamp::from_second(1_577_835_000)?;
-    let message = parse_message(alloc, text, Variant::Either, now, &TimeZone::UTC)?;
-    check_printed(
-        &rt,
-        alloc,
-        &message,
-        "<47> 2019-10-11T22:14:15+00:00 h a: m",
-    )?;
     let ahead = TimeZone::fixed(Offset::from_hours(1)?);
-    let message = parse_message(alloc, text, Variant::Either, now, &ahead)?;
-    check_printed(
-        &rt,
-        alloc,
-        &message,
-        "<47> 2020-10-11T22:14:15+01:00 h a: m",
-    )
+    let want = "<47> 2019-10-11T22:14:15+00:00 h a: m";
+    check_now(&rt, rt.alloc(), &TimeZone::UTC, want)?;
+    let want = "<47> 2020-10-11T22:14:15+01:00 h a: m";
+    check_now(&rt, rt.alloc(), &ahead, want)
 }
 
 // A message of RFC 3164 with this for `msg` and nothing in another field.
 fn check_bare(rt: &impl Abort, message: &Message<&str>, msg: &str) {
-    assert_eq!(rt; message.protocol, Protocol::RFC3164);
-    assert_eq!(rt; message.facility, None);
-    assert_eq!(rt; message.severity, None);
-    assert!(rt; message.timestamp.is_none());
-    assert_eq!(rt; message.hostname, None);
-    assert_eq!(rt; message.appname, None);
-    assert!(rt; message.procid.is_none());
-    assert_eq!(rt; message.msgid, None);
-    assert_eq!(rt; message.structured_data.len(), 0);
-    assert_eq!(rt; message.msg, msg);
+    let mut want = row_of(rt, "");
+    want.msg = msg;
+    assert!(rt; message.protocol == Protocol::RFC3164, "{msg}");
+    check_priority(rt, message, &want);
+    assert!(rt; message.timestamp.is_none(), "{msg}");
+    check_fields(rt, message, &want);
 }
 
 /// Texts without a reading.
@@ -208,8 +189,7 @@ fn check_fallback_calls(
 ) -> Result<(), Fail> {
     let utc = TimeZone::UTC;
     let year = |_: IncompleteDate| 2019;
-    // 2019-12-31T23:30:00Z
-    let now = Timestamp::from_second(1_577_835_000)?;
+    let now = Timestamp::from_second(NOW)?;
     let message = parse_message(alloc, text, variant, now, &utc)?;
     check_bare(rt, &message, msg);
     let message = parse_message_with_year(alloc, text, year, variant, &utc)?;

@@ -8,22 +8,20 @@ use crate::expected::{check_fields, check_timestamp, row_of};
 use crate::reading::{check_invalid, read};
 use std::alloc::Global;
 use std::process::Abort;
-use std::test::Fail;
 use syslog_loose::Variant;
 
 /// Each text reads as its message; the priority is seen in the printed text.
-fn check(rt: &impl Abort, alloc: Global, rows: &[&str]) -> Result<(), Fail> {
+fn check(rt: &impl Abort, alloc: Global, rows: &[&str]) {
     for row in rows {
         let want = row_of(rt, row);
-        let message = read(alloc, want.text, Variant::RFC3164)?;
-        check_timestamp(rt, alloc, &message, want.timestamp)?;
-        check_message(rt, alloc, &message, &want)?;
+        let message = read(alloc, want.text, Variant::RFC3164).expect(rt, want.text);
+        check_timestamp(rt, alloc, &message, want.timestamp);
+        check_message(rt, alloc, &message, &want);
     }
-    Ok(())
 }
 
 #[test]
-fn agrees_on_names(rt: HostRuntime) -> Result<(), Fail> {
+fn agrees_on_names(rt: HostRuntime) {
     check(
         &rt,
         rt.alloc(),
@@ -59,11 +57,11 @@ fn agrees_on_names(rt: HostRuntime) -> Result<(), Fail> {
              ¦at 2019-10-11T22:14:15+00:00¦host host:¦msg odd\
              ¦prints <34> 2019-10-11T22:14:15+00:00 host: : odd",
         ],
-    )
+    );
 }
 
 #[test]
-fn agrees_on_forms(rt: HostRuntime) -> Result<(), Fail> {
+fn agrees_on_forms(rt: HostRuntime) {
     check(
         &rt,
         rt.alloc(),
@@ -105,11 +103,11 @@ fn agrees_on_forms(rt: HostRuntime) -> Result<(), Fail> {
              ¦at 2019-10-11T22:14:15+00:00¦app host¦pid 1¦msg a lone form with a tag\
              ¦prints <34> 2019-10-11T22:14:15+00:00 - host[1]: a lone form with a tag",
         ],
-    )
+    );
 }
 
 #[test]
-fn agrees_on_blanks(rt: HostRuntime) -> Result<(), Fail> {
+fn agrees_on_blanks(rt: HostRuntime) {
     check(
         &rt,
         rt.alloc(),
@@ -163,11 +161,11 @@ fn agrees_on_blanks(rt: HostRuntime) -> Result<(), Fail> {
              ¦at 2019-10-11T22:14:15+00:00\
              ¦prints <34> 2019-10-11T22:14:15+00:00 - : ",
         ],
-    )
+    );
 }
 
 #[test]
-fn agrees_on_dashes(rt: HostRuntime) -> Result<(), Fail> {
+fn agrees_on_dashes(rt: HostRuntime) {
     check(
         &rt,
         rt.alloc(),
@@ -178,11 +176,11 @@ fn agrees_on_dashes(rt: HostRuntime) -> Result<(), Fail> {
             "<34>- - - -¦prints <34> - - : ",
             "<34>- h a: -¦host h¦app a¦prints <34> - h a: ",
         ],
-    )
+    );
 }
 
 #[test]
-fn agrees_on_elements(rt: HostRuntime) -> Result<(), Fail> {
+fn agrees_on_elements(rt: HostRuntime) {
     check(
         &rt,
         rt.alloc(),
@@ -206,11 +204,11 @@ fn agrees_on_elements(rt: HostRuntime) -> Result<(), Fail> {
             "- h [x y=\"z\"] m¦host h¦app [x¦msg y=\"z\"] m¦prints <47> - h [x: y=\"z\"] m",
             "- [x y=\"z\"] m¦host [x¦app y=\"z\"]¦msg m¦prints <47> - [x y=\"z\"]: m",
         ],
-    )
+    );
 }
 
 #[test]
-fn agrees_on_dates_and_lines(rt: HostRuntime) -> Result<(), Fail> {
+fn agrees_on_dates_and_lines(rt: HostRuntime) {
     check(
         &rt,
         rt.alloc(),
@@ -244,37 +242,29 @@ fn agrees_on_dates_and_lines(rt: HostRuntime) -> Result<(), Fail> {
              ¦prints <46> 2019-10-11T22:14:15+00:00 web rsyslogd: [origin software=\"rsyslogd\" swVersion=\"8.32.0\"] \
              start",
         ],
-    )
+    );
 }
 
-// The crate's message, and that which is read here. The other fields are the same.
+// A row is a text, the crate's message, and that which is read here. The other fields are the same.
+fn check_dash(rt: &impl Abort, alloc: Global, row: &str) {
+    let (text, messages) = row.split_once('|').expect(rt, row);
+    let (there, here) = messages.split_once('|').expect(rt, row);
+    let row = format!(in alloc; "{text}¦host host¦app app¦msg {here}").expect(rt, "no memory");
+    let message = read(alloc, text, Variant::RFC3164).expect(rt, text);
+    check_fields(rt, &message, &row_of(rt, row.as_str()));
+    assert!(rt; message.msg.strip_prefix('-') == Some(there), "{text}");
+}
+
 #[test]
-fn differs_where_a_dash_stands_before_no_blank(rt: HostRuntime) -> Result<(), Fail> {
-    let alloc = rt.alloc();
-    for (text, there, here) in [
-        (
-            "<34>Oct 11 22:14:15 host app: -- two dashes",
-            "- two dashes",
-            "-- two dashes",
-        ),
-        (
-            "<34>Oct 11 22:14:15 host app: -5 degrees",
-            "5 degrees",
-            "-5 degrees",
-        ),
-        ("- host app: -\u{a0}x", "\u{a0}x", "-\u{a0}x"),
-        (
-            "- host app: -[x y=\"z\"] m",
-            "[x y=\"z\"] m",
-            "-[x y=\"z\"] m",
-        ),
+fn differs_where_a_dash_stands_before_no_blank(rt: HostRuntime) {
+    for row in &[
+        "<34>Oct 11 22:14:15 host app: -- two dashes|- two dashes|-- two dashes",
+        "<34>Oct 11 22:14:15 host app: -5 degrees|5 degrees|-5 degrees",
+        "- host app: -\u{a0}x|\u{a0}x|-\u{a0}x",
+        "- host app: -[x y=\"z\"] m|[x y=\"z\"] m|-[x y=\"z\"] m",
     ] {
-        let row = format!(in alloc; "{text}¦host host¦app app¦msg {here}")?;
-        let message = read(alloc, text, Variant::RFC3164)?;
-        check_fields(&rt, &message, &row_of(&rt, row.as_str()));
-        assert_eq!(rt; message.msg.strip_prefix('-'), Some(there), "{text}");
+        check_dash(&rt, rt.alloc(), row);
     }
-    Ok(())
 }
 
 #[test]

@@ -1,9 +1,8 @@
 //! Worked texts of RFC 3164: the names of a header.
 use super::{check_by_month, check_table};
-use std::test::Fail;
 
 #[test]
-fn reads_host_program_and_process(rt: HostRuntime) -> Result<(), Fail> {
+fn reads_host_program_and_process(rt: HostRuntime) {
     check_table(
         &rt,
         rt.alloc(),
@@ -30,11 +29,11 @@ fn reads_host_program_and_process(rt: HostRuntime) -> Result<(), Fail> {
              ¦host mymachine¦app su¦msg 'su root' failed for lonvick on /dev/pts/8\
              ¦prints <34> 2019-10-11T22:14:15+00:00 mymachine su: 'su root' failed for lonvick on /dev/pts/8",
         ],
-    )
+    );
 }
 
 #[test]
-fn reads_odd_names(rt: HostRuntime) -> Result<(), Fail> {
+fn reads_odd_names(rt: HostRuntime) {
     check_table(
         &rt,
         rt.alloc(),
@@ -55,7 +54,7 @@ fn reads_odd_names(rt: HostRuntime) -> Result<(), Fail> {
              ¦prints <34> 2019-10-11T22:14:15+00:00 mymachine : a message",
             "-¦prints <47> - - : ",
         ],
-    )
+    );
 }
 
 /// Lines of programs, of December 2019 and of 2020.
@@ -94,11 +93,11 @@ const LINES: [&str; 9] = [
 ];
 
 #[test]
-fn reads_lines_of_programs(rt: HostRuntime) -> Result<(), Fail> {
-    check_table(&rt, rt.alloc(), &LINES)
+fn reads_lines_of_programs(rt: HostRuntime) {
+    check_table(&rt, rt.alloc(), &LINES);
 }
 
 #[test]
-fn reads_lines_in_the_year_of_their_month(rt: HostRuntime) -> Result<(), Fail> {
-    check_by_month(&rt, rt.alloc(), &LINES)
+fn reads_lines_in_the_year_of_their_month(rt: HostRuntime) {
+    check_by_month(&rt, rt.alloc(), &LINES);
 }

@@ -25,7 +25,8 @@ fn passes_over_a_thousand_zeros_in_a_date(rt: HostRuntime) -> Result<(), Fail> {
         &rt,
         alloc,
         &[priority.as_str(), process.as_str(), date.as_str()],
-    )
+    );
+    Ok(())
 }
 
 #[test]
@@ -50,7 +51,8 @@ fn takes_a_thousand_nines_for_no_number_of_a_date(rt: HostRuntime) -> Result<(),
     let process = format!(in alloc;
         "- h a[{nines}]: x¦host h¦app a¦name {nines}¦msg x¦prints <47> - h a[{nines}]: x"
     )?;
-    check_table(&rt, alloc, &[process.as_str()])
+    check_table(&rt, alloc, &[process.as_str()]);
+    Ok(())
 }
 
 #[test]
@@ -61,11 +63,12 @@ fn cuts_a_thousand_decimals_of_a_timestamp(rt: HostRuntime) -> Result<(), Fail> 
         "2020-01-01T00:00:00.{ones}Z h a: x\
          ¦host h¦app a¦msg x¦prints <47> 2020-01-01T00:00:00.111111111+00:00 h a: x"
     )?;
-    check_table(&rt, alloc, &[row.as_str()])
+    check_table(&rt, alloc, &[row.as_str()]);
+    Ok(())
 }
 
 #[test]
-fn trims_white_space_and_splits_names_at_it(rt: HostRuntime) -> Result<(), Fail> {
+fn trims_white_space_and_splits_names_at_it(rt: HostRuntime) {
     check_table(
         &rt,
         rt.alloc(),
@@ -74,13 +77,12 @@ fn trims_white_space_and_splits_names_at_it(rt: HostRuntime) -> Result<(), Fail>
             "- h a: \u{a0}m¦host h¦app a¦msg \u{a0}m¦prints <47> - h a: \u{a0}m",
             "- h\u{a0}a: m¦host h¦msg \u{a0}a: m¦prints <47> - h : \u{a0}a: m",
         ],
-    )?;
+    );
     check_invalid(&rt, rt.alloc(), Variant::Either, &["\u{feff}- h a: m"]);
-    Ok(())
 }
 
 #[test]
-fn ends_a_value_at_a_quote_alone(rt: HostRuntime) -> Result<(), Fail> {
+fn ends_a_value_at_a_quote_alone(rt: HostRuntime) {
     check_table(
         &rt,
         rt.alloc(),
@@ -89,28 +91,29 @@ fn ends_a_value_at_a_quote_alone(rt: HostRuntime) -> Result<(), Fail> {
             "- h a: [a b=\"c\\\\\"]d¦host h¦app a¦list a|b|c\\\\¦msg d¦prints <47> - h a: [a b=\"c\\\\\"] d",
             "- h a: [a b=\"c\\\"]d¦host h¦app a¦msg [a b=\"c\\\"]d¦prints <47> - h a: [a b=\"c\\\"]d",
         ],
-    )
+    );
 }
 
 // Behind a host and a tag, the whole of this is the message.
-fn check_left(rt: &impl Abort, alloc: Global, msg: &str) -> Result<(), Fail> {
-    let row = format!(in alloc; "- h a: {msg}¦host h¦app a¦msg {msg}¦prints <47> - h a: {msg}")?;
-    check_table(rt, alloc, &[row.as_str()])
+fn check_left(rt: &impl Abort, alloc: Global, msg: &str) {
+    let row = format!(in alloc; "- h a: {msg}¦host h¦app a¦msg {msg}¦prints <47> - h a: {msg}");
+    check_table(rt, alloc, &[row.expect(rt, "no memory").as_str()]);
 }
 
 #[test]
 fn leaves_brackets_and_open_elements_in_the_message(rt: HostRuntime) -> Result<(), Fail> {
     let alloc = rt.alloc();
-    for part in ["[", "]", "[]", "[a\" b=\"]", "[a b=\"\\]"] {
+    for part in &["[", "]", "[]", "[a\" b=\"]", "[a b=\"\\]"] {
         let many = part.repeat(alloc, 10_000)?;
-        check_left(&rt, alloc, many.as_str())?;
+        check_left(&rt, alloc, many.as_str());
     }
     let open = "[".repeat(alloc, 10_000)?;
     let closed = format!(in alloc; "{open}]")?;
-    check_left(&rt, alloc, closed.as_str())?;
+    check_left(&rt, alloc, closed.as_str());
     let letters = "c".repeat(alloc, 10_000)?;
     let value = format!(in alloc; "[a b=\"{letters}]")?;
-    check_left(&rt, alloc, value.as_str())
+    check_left(&rt, alloc, value.as_str());
+    Ok(())
 }
 
 #[test]
@@ -123,7 +126,8 @@ fn reads_ten_thousand_brackets_as_names(rt: HostRuntime) -> Result<(), Fail> {
     let form = format!(in alloc;
         "- h [{fewer}]: x¦host h¦app ¦name {fewer}¦msg x¦prints <47> - h [{fewer}]: x"
     )?;
-    check_table(&rt, alloc, &[tag.as_str(), form.as_str()])
+    check_table(&rt, alloc, &[tag.as_str(), form.as_str()]);
+    Ok(())
 }
 
 #[test]
@@ -131,7 +135,8 @@ fn reads_a_host_of_ten_thousand_colons(rt: HostRuntime) -> Result<(), Fail> {
     let alloc = rt.alloc();
     let colons = ":".repeat(alloc, 9_999)?;
     let row = format!(in alloc; "- {colons}: x¦host {colons}¦msg x¦prints <47> - {colons} : x")?;
-    check_table(&rt, alloc, &[row.as_str()])
+    check_table(&rt, alloc, &[row.as_str()]);
+    Ok(())
 }
 
 #[test]
@@ -142,5 +147,6 @@ fn reads_a_thousand_elements_of_rfc_3164(rt: HostRuntime) -> Result<(), Fail> {
     let row = format!(in alloc;
         "- h a: {list} x¦host h¦app a¦list {lines}e|k|v¦msg x¦prints <47> - h a: {list} x"
     )?;
-    check_table(&rt, alloc, &[row.as_str()])
+    check_table(&rt, alloc, &[row.as_str()]);
+    Ok(())
 }

@@ -1,56 +1,38 @@
 //! Messages built by hand, and what they print as.
-use crate::built::{self, element};
+use crate::built::message;
+use crate::expected::{check_printed, row_of};
 use std::alloc::Global;
-use std::test::Fail;
-use syslog_loose::{Message, ProcId, Protocol};
+use std::process::Abort;
+use syslog_loose::Protocol;
 
-/// With the app name `a` and the message `hi`.
-fn small(alloc: Global) -> Message<&'static str> {
-    Message {
-        appname: Some("a"),
-        ..built::small(alloc, Protocol::RFC3164, "hi")
-    }
+/// A row is a printed text and the cells of the message that it is printed of.
+fn check(rt: &impl Abort, alloc: Global, row: &str) {
+    let fields = row_of(rt, row);
+    let message = message(alloc, Protocol::RFC3164, &fields).expect(rt, "no memory");
+    check_printed(rt, alloc, &message, fields.text);
 }
 
 #[test]
-fn prints_the_tag_of_rfc3164(rt: HostRuntime) -> Result<(), Fail> {
-    let alloc = rt.alloc();
-    for (appname, procid, printed) in [
-        (Some("a"), None, "<34> - - a: hi"),
-        (None, None, "<34> - - : hi"),
-        (None, Some(5), "<34> - - : hi"),
-        (Some(""), None, "<34> - - : hi"),
-        (Some(""), Some(-5), "<34> - - [-5]: hi"),
-        (Some("a[b]"), None, "<34> - - a[b]: hi"),
-        (Some("x:y"), None, "<34> - - x:y: hi"),
+fn prints_the_tag_of_rfc3164(rt: HostRuntime) {
+    for row in &[
+        "<34> - - a: hi¦app a¦msg hi",
+        "<34> - - : hi¦msg hi",
+        "<34> - - : hi¦pid 5¦msg hi",
+        "<34> - - : hi¦app ¦msg hi",
+        "<34> - - [-5]: hi¦app ¦pid -5¦msg hi",
+        "<34> - - a[b]: hi¦app a[b]¦msg hi",
+        "<34> - - x:y: hi¦app x:y¦msg hi",
     ] {
-        let message = Message {
-            appname,
-            procid: procid.map(|number| ProcId::PID(number)),
-            ..small(alloc)
-        };
-        let text = format!(in alloc; "{message}")?;
-        assert_eq!(rt; text.as_str(), printed);
+        check(&rt, rt.alloc(), row);
     }
-    Ok(())
 }
 
 #[test]
-fn prints_the_rest_of_rfc3164(rt: HostRuntime) -> Result<(), Fail> {
-    let alloc = rt.alloc();
-    let mut message = small(alloc);
-    message.msgid = Some("m");
-    message.hostname = Some("a[b]");
-    message.procid = Some(ProcId::Name("-"));
-    let text = format!(in alloc; "{message}")?;
-    assert_eq!(rt; text.as_str(), "<34> - a[b] a[-]: hi");
-
-    let mut listed = small(alloc);
-    listed.msg = "-5";
-    listed
-        .structured_data
-        .push(element(alloc, "e", &[("k", "v")])?)?;
-    let text = format!(in alloc; "{listed}")?;
-    assert_eq!(rt; text.as_str(), "<34> - - a: [e k=\"v\"] -5");
-    Ok(())
+fn prints_the_rest_of_rfc3164(rt: HostRuntime) {
+    for row in &[
+        "<34> - a[b] a[-]: hi¦host a[b]¦app a¦name -¦id m¦msg hi",
+        "<34> - - a: [e k=\"v\"] -5¦app a¦list e|k|v¦msg -5",
+    ] {
+        check(&rt, rt.alloc(), row);
+    }
 }

@@ -1,11 +1,11 @@
 //! Messages built by hand: whether they are canonical, and what their printed text is read as.
 use super::check_table;
-use crate::built::{self, element};
+use crate::built::{self, message};
+use crate::expected::row_of;
 use crate::reading::check_invalid;
-use std::alloc::{AllocError, Global};
+use std::alloc::Global;
 use std::process::Abort;
-use std::test::Fail;
-use syslog_loose::{Message, Offset, OffsetTimestamp, ProcId, Protocol, Timestamp, Variant};
+use syslog_loose::{Message, Offset, OffsetTimestamp, Protocol, Timestamp, Variant};
 
 fn small(alloc: Global) -> Message<&'static str> {
     built::small(alloc, Protocol::RFC5424(1), "x")
@@ -14,245 +14,174 @@ fn small(alloc: Global) -> Message<&'static str> {
 /// The cells of that message as it is read.
 const SAME: &str = "¦facility auth¦severity crit¦msg x¦prints <34>1 - - - - - - x";
 
-/// That message with one element, which has one parameter.
-fn listed(
-    alloc: Global,
-    id: &'static str,
-    name: &'static str,
-    value: &'static str,
-) -> Result<Message<&'static str>, AllocError> {
-    let mut message = small(alloc);
-    message
-        .structured_data
-        .push(element(alloc, id, &[(name, value)])?)?;
-    Ok(message)
-}
-
 /// Whether the message is canonical, and in which cells that differ from `SAME` its printed text is read under `Either`
 /// and by RFC 5424.
-fn check(
-    rt: &impl Abort,
-    alloc: Global,
-    message: &Message<&str>,
-    canonical: bool,
-    cells: &str,
-) -> Result<(), Fail> {
-    let text = format!(in alloc; "{message}")?;
-    assert_eq!(rt; message.is_canonical(), canonical, "{text}");
-    let row = format!(in alloc; "{text}{SAME}{cells}")?;
-    check_table(rt, alloc, &[row.as_str()])
+fn check(rt: &impl Abort, alloc: Global, message: &Message<&str>, canonical: bool, cells: &str) {
+    let text = format!(in alloc; "{message}").expect(rt, "no memory");
+    assert!(rt; message.is_canonical() == canonical, "{text}");
+    let row = format!(in alloc; "{text}{SAME}{cells}").expect(rt, "no memory");
+    check_table(rt, alloc, &[row.as_str()]);
 }
 
 /// The message is not canonical, and its printed text has no reading.
-fn check_unread(rt: &impl Abort, alloc: Global, message: &Message<&str>) -> Result<(), Fail> {
-    let text = format!(in alloc; "{message}")?;
+fn check_unread(rt: &impl Abort, alloc: Global, message: &Message<&str>) {
+    let text = format!(in alloc; "{message}").expect(rt, "no memory");
     assert!(rt; !message.is_canonical(), "{text}");
     check_invalid(rt, alloc, Variant::RFC5424, &[text.as_str()]);
-    Ok(())
 }
 
-#[test]
-fn reads_canonical_messages_back(rt: HostRuntime) -> Result<(), Fail> {
-    let alloc = rt.alloc();
-    check(&rt, alloc, &small(alloc), true, "")?;
-    for msg in ["", "-", "[f", "\nx"] {
-        let message = Message {
-            msg,
-            ..small(alloc)
-        };
-        let cells = format!(in alloc; "¦msg {msg}¦prints <34>1 - - - - - - {msg}")?;
-        check(&rt, alloc, &message, true, cells.as_str())?;
+/// The small message with these cells in place of its own.
+fn with<'a>(rt: &impl Abort, alloc: Global, cells: &'a str) -> Message<&'a str> {
+    message(alloc, Protocol::RFC5424(1), &row_of(rt, cells)).expect(rt, "no memory")
+}
+
+/// A row is the cells of a message with its `msg`, and those that differ from `SAME` as it is read.
+fn check_rows(rt: &impl Abort, alloc: Global, canonical: bool, rows: &[&str]) {
+    for row in rows {
+        let (built, read) = row.split_once(" → ").expect(rt, row);
+        check(rt, alloc, &with(rt, alloc, built), canonical, read);
     }
-    Ok(())
 }
 
 #[test]
-fn reads_values_back_as_they_stand(rt: HostRuntime) -> Result<(), Fail> {
-    let alloc = rt.alloc();
-    check(
+fn reads_canonical_messages_back(rt: HostRuntime) {
+    check_rows(
         &rt,
-        alloc,
-        &listed(alloc, "a", "b", "x]")?,
+        rt.alloc(),
         true,
-        "¦list a|b|x]¦prints <34>1 - - - - - [a b=\"x]\"] x",
-    )?;
-    check(
-        &rt,
-        alloc,
-        &listed(alloc, "a", "b", "\\\"")?,
-        true,
-        "¦list a|b|\\\"¦prints <34>1 - - - - - [a b=\"\\\"\"] x",
-    )
+        &[
+            "¦msg x → ",
+            "¦msg  → ¦msg ¦prints <34>1 - - - - - - ",
+            "¦msg - → ¦msg -¦prints <34>1 - - - - - - -",
+            "¦msg [f → ¦msg [f¦prints <34>1 - - - - - - [f",
+            "¦msg \nx → ¦msg \nx¦prints <34>1 - - - - - - \nx",
+        ],
+    );
 }
 
 #[test]
-fn loses_broken_elements(rt: HostRuntime) -> Result<(), Fail> {
-    let alloc = rt.alloc();
-    for (id, name, value) in [
-        ("a", "b", "x\""),
-        ("a", "b", "x\\"),
-        ("a", "", "c"),
-        ("a", "b=", "c"),
-        ("", "b", "c"),
-        ("a=", "b", "c"),
+fn reads_values_back_as_they_stand(rt: HostRuntime) {
+    check_rows(
+        &rt,
+        rt.alloc(),
+        true,
+        &[
+            "¦msg x¦list a|b|x] → ¦list a|b|x]¦prints <34>1 - - - - - [a b=\"x]\"] x",
+            "¦msg x¦list a|b|\\\" → ¦list a|b|\\\"¦prints <34>1 - - - - - [a b=\"\\\"\"] x",
+        ],
+    );
+}
+
+#[test]
+fn loses_broken_elements(rt: HostRuntime) {
+    check_rows(
+        &rt,
+        rt.alloc(),
+        false,
+        &[
+            "¦msg x¦list a|b|x\" → ",
+            "¦msg x¦list a|b|x\\ → ",
+            "¦msg x¦list a||c → ",
+            "¦msg x¦list a|b=|c → ",
+            "¦msg x¦list |b|c → ",
+            "¦msg x¦list a=|b|c → ",
+            "¦msg x¦list a| b|c → ¦list a|b|c¦prints <34>1 - - - - - [a b=\"c\"] x",
+        ],
+    );
+}
+
+#[test]
+fn loses_the_id_before_its_blank(rt: HostRuntime) {
+    check_rows(
+        &rt,
+        rt.alloc(),
+        false,
+        &["¦msg x¦list a b|c|d → ¦list a|b c|d¦prints <34>1 - - - - - [a b c=\"d\"] x"],
+    );
+}
+
+#[test]
+fn reads_absent_parts_of_a_priority(rt: HostRuntime) {
+    let mut message = small(rt.alloc());
+    message.severity = None;
+    let cells = "¦severity debug¦prints <39>1 - - - - - - x";
+    check(&rt, rt.alloc(), &message, false, cells);
+    let mut message = small(rt.alloc());
+    message.facility = None;
+    let cells = "¦facility syslog¦prints <42>1 - - - - - - x";
+    check(&rt, rt.alloc(), &message, false, cells);
+}
+
+#[test]
+fn reads_other_names(rt: HostRuntime) {
+    check_rows(
+        &rt,
+        rt.alloc(),
+        false,
+        &[
+            "¦msg x¦host - → ",
+            "¦msg x¦host a b → ¦host a¦app b¦msg - x¦prints <34>1 - a b - - - - x",
+            "¦msg x¦name - → ",
+            "¦msg x¦name +5 → ¦pid 5¦prints <34>1 - - - 5 - - x",
+        ],
+    );
+}
+
+#[test]
+fn has_no_reading_of_other_names(rt: HostRuntime) {
+    for cells in &[
+        "¦msg x¦host ",
+        "¦msg x¦host a:",
+        "¦msg x¦app ",
+        "¦msg x¦app :",
     ] {
-        check(&rt, alloc, &listed(alloc, id, name, value)?, false, "")?;
+        check_unread(&rt, rt.alloc(), &with(&rt, rt.alloc(), cells));
     }
-    check(
-        &rt,
-        alloc,
-        &listed(alloc, "a", " b", "c")?,
-        false,
-        "¦list a|b|c¦prints <34>1 - - - - - [a b=\"c\"] x",
-    )
 }
 
 #[test]
-fn loses_the_id_before_its_blank(rt: HostRuntime) -> Result<(), Fail> {
-    let alloc = rt.alloc();
-    check(
+fn trims_the_ends_of_the_message(rt: HostRuntime) {
+    check_rows(
         &rt,
-        alloc,
-        &listed(alloc, "a b", "c", "d")?,
+        rt.alloc(),
         false,
-        "¦list a|b c|d¦prints <34>1 - - - - - [a b c=\"d\"] x",
-    )
-}
-
-#[test]
-fn reads_absent_parts_of_a_priority(rt: HostRuntime) -> Result<(), Fail> {
-    let alloc = rt.alloc();
-    let message = Message {
-        severity: None,
-        ..small(alloc)
-    };
-    check(
-        &rt,
-        alloc,
-        &message,
-        false,
-        "¦severity debug¦prints <39>1 - - - - - - x",
-    )?;
-    let message = Message {
-        facility: None,
-        ..small(alloc)
-    };
-    check(
-        &rt,
-        alloc,
-        &message,
-        false,
-        "¦facility syslog¦prints <42>1 - - - - - - x",
-    )
-}
-
-#[test]
-fn reads_other_hosts(rt: HostRuntime) -> Result<(), Fail> {
-    let alloc = rt.alloc();
-    let message = Message {
-        hostname: Some("-"),
-        ..small(alloc)
-    };
-    check(&rt, alloc, &message, false, "")?;
-    let message = Message {
-        hostname: Some("a b"),
-        ..small(alloc)
-    };
-    check(
-        &rt,
-        alloc,
-        &message,
-        false,
-        "¦host a¦app b¦msg - x¦prints <34>1 - a b - - - - x",
-    )?;
-    for hostname in ["", "a:"] {
-        let message = Message {
-            hostname: Some(hostname),
-            ..small(alloc)
-        };
-        check_unread(&rt, alloc, &message)?;
-    }
-    for appname in ["", ":"] {
-        let message = Message {
-            appname: Some(appname),
-            ..small(alloc)
-        };
-        check_unread(&rt, alloc, &message)?;
-    }
-    Ok(())
-}
-
-#[test]
-fn reads_other_process_ids(rt: HostRuntime) -> Result<(), Fail> {
-    let alloc = rt.alloc();
-    let message = Message {
-        procid: Some(ProcId::Name("-")),
-        ..small(alloc)
-    };
-    check(&rt, alloc, &message, false, "")?;
-    let message = Message {
-        procid: Some(ProcId::Name("+5")),
-        ..small(alloc)
-    };
-    check(
-        &rt,
-        alloc,
-        &message,
-        false,
-        "¦pid 5¦prints <34>1 - - - 5 - - x",
-    )
-}
-
-#[test]
-fn trims_the_ends_of_the_message(rt: HostRuntime) -> Result<(), Fail> {
-    let alloc = rt.alloc();
-    for msg in [" x", "\tx", "x ", "x\n", "x\u{a0}"] {
-        let message = Message {
-            msg,
-            ..small(alloc)
-        };
-        check(&rt, alloc, &message, false, "")?;
-    }
-    Ok(())
+        &[
+            "¦msg  x → ",
+            "¦msg \tx → ",
+            "¦msg x  → ",
+            "¦msg x\n → ",
+            "¦msg x\u{a0} → ",
+        ],
+    );
 }
 
 /// The message at this instant, in seconds, and at this offset.
-fn stamped(alloc: Global, seconds: i64, offset: i32) -> Result<Message<&'static str>, Fail> {
-    Ok(Message {
-        timestamp: Some(OffsetTimestamp {
-            instant: Timestamp::from_second(seconds)?,
-            offset: Offset::from_seconds(offset)?,
-        }),
-        ..small(alloc)
-    })
+fn stamped(rt: &impl Abort, alloc: Global, seconds: i64, offset: i32) -> Message<&'static str> {
+    let mut message = small(alloc);
+    message.timestamp = Some(OffsetTimestamp {
+        instant: Timestamp::from_second(seconds).expect(rt, "no instant"),
+        offset: Offset::from_seconds(offset).expect(rt, "no offset"),
+    });
+    message
 }
 
 /// When the year 0 begins, in seconds.
 const YEAR_ZERO: i64 = -62_167_219_200;
 
 #[test]
-fn rounds_an_offset_to_minutes(rt: HostRuntime) -> Result<(), Fail> {
-    let alloc = rt.alloc();
-    check(
-        &rt,
-        alloc,
-        &stamped(alloc, 0, 30)?,
-        false,
-        "¦at 1970-01-01T00:00:30+00:01¦prints <34>1 1970-01-01T00:00:30+00:01 - - - - - x",
-    )
+fn rounds_an_offset_to_minutes(rt: HostRuntime) {
+    let message = stamped(&rt, rt.alloc(), 0, 30);
+    let cells = "¦at 1970-01-01T00:00:30+00:01¦prints <34>1 1970-01-01T00:00:30+00:01 - - - - - x";
+    check(&rt, rt.alloc(), &message, false, cells);
 }
 
 #[test]
-fn reads_years_from_zero_on_at_their_offset(rt: HostRuntime) -> Result<(), Fail> {
+fn reads_years_from_zero_on_at_their_offset(rt: HostRuntime) {
     let alloc = rt.alloc();
-    for (seconds, offset) in [(YEAR_ZERO - 1, 0), (YEAR_ZERO, -3600), (0, 86_400)] {
-        check_unread(&rt, alloc, &stamped(alloc, seconds, offset)?)?;
-    }
-    check(
-        &rt,
-        alloc,
-        &stamped(alloc, YEAR_ZERO - 1, 3600)?,
-        true,
-        "¦at 0000-01-01T00:59:59+01:00¦prints <34>1 0000-01-01T00:59:59+01:00 - - - - - x",
-    )
+    check_unread(&rt, alloc, &stamped(&rt, alloc, YEAR_ZERO - 1, 0));
+    check_unread(&rt, alloc, &stamped(&rt, alloc, YEAR_ZERO, -3600));
+    check_unread(&rt, alloc, &stamped(&rt, alloc, 0, 86_400));
+    let message = stamped(&rt, alloc, YEAR_ZERO - 1, 3600);
+    let cells = "¦at 0000-01-01T00:59:59+01:00¦prints <34>1 0000-01-01T00:59:59+01:00 - - - - - x";
+    check(&rt, alloc, &message, true, cells);
 }

@@ -4,11 +4,10 @@
 //! zone; its fields and its printed text were written down here, and are not made anew.
 use super::check_table;
 use crate::reading::check_invalid;
-use std::test::Fail;
 use syslog_loose::Variant;
 
 #[test]
-fn agrees_on_white_space(rt: HostRuntime) -> Result<(), Fail> {
+fn agrees_on_white_space(rt: HostRuntime) {
     check_table(
         &rt,
         rt.alloc(),
@@ -29,11 +28,11 @@ fn agrees_on_white_space(rt: HostRuntime) -> Result<(), Fail> {
              ¦at 2019-02-13T19:48:34.000001-00:30¦host [h]¦app \"a\"¦name =1¦id m=¦msg x\
              ¦prints <47>1 2019-02-13T19:48:34.000001-00:30 [h] \"a\" =1 m= - x",
         ],
-    )
+    );
 }
 
 #[test]
-fn agrees_on_dashes(rt: HostRuntime) -> Result<(), Fail> {
+fn agrees_on_dashes(rt: HostRuntime) {
     check_table(
         &rt,
         rt.alloc(),
@@ -43,11 +42,11 @@ fn agrees_on_dashes(rt: HostRuntime) -> Result<(), Fail> {
             "1 - -- --- -- -x - -¦host --¦app ---¦name --¦id -x¦msg -¦prints <47>1 - -- --- -- -x - -",
             "1 - - - - - - - - -¦msg - - -¦prints <47>1 - - - - - - - - -",
         ],
-    )
+    );
 }
 
 #[test]
-fn agrees_on_numbers(rt: HostRuntime) -> Result<(), Fail> {
+fn agrees_on_numbers(rt: HostRuntime) {
     check_table(
         &rt,
         rt.alloc(),
@@ -66,11 +65,11 @@ fn agrees_on_numbers(rt: HostRuntime) -> Result<(), Fail> {
              ¦prints <47>1 - h a +2147483648 m - x",
             "1 - h a +-5 m - x¦host h¦app a¦name +-5¦id m¦msg x¦prints <47>1 - h a +-5 m - x",
         ],
-    )
+    );
 }
 
 #[test]
-fn agrees_on_colons_and_brackets(rt: HostRuntime) -> Result<(), Fail> {
+fn agrees_on_colons_and_brackets(rt: HostRuntime) {
     check_table(
         &rt,
         rt.alloc(),
@@ -86,7 +85,7 @@ fn agrees_on_colons_and_brackets(rt: HostRuntime) -> Result<(), Fail> {
              ¦host h¦app a¦pid 1¦id m¦msg [a b=\"c\"]\
              ¦prints <47>1 - h a 1 m - [a b=\"c\"]",
         ],
-    )
+    );
 }
 
 #[test]

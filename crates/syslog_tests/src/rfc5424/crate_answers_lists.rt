@@ -4,11 +4,10 @@
 //! zone; its fields and its printed text were written down here, and are not made anew.
 use super::check_table;
 use crate::reading::check_invalid;
-use std::test::Fail;
 use syslog_loose::Variant;
 
 #[test]
-fn agrees_on_elements_with_parameters(rt: HostRuntime) -> Result<(), Fail> {
+fn agrees_on_elements_with_parameters(rt: HostRuntime) {
     check_table(
         &rt,
         rt.alloc(),
@@ -29,11 +28,11 @@ fn agrees_on_elements_with_parameters(rt: HostRuntime) -> Result<(), Fail> {
              ¦prints <47>1 - - - - - [局 域=\"网\\n\" \u{a0}=\"\\ü\"] ü",
             "1 - - - - - [a=\"b\"][c d=\"e\"]x¦list c|d|e¦msg x¦prints <47>1 - - - - - [c d=\"e\"] x",
         ],
-    )
+    );
 }
 
 #[test]
-fn agrees_on_elements_that_are_broken_or_without_parameters(rt: HostRuntime) -> Result<(), Fail> {
+fn agrees_on_elements_that_are_broken_or_without_parameters(rt: HostRuntime) {
     check_table(
         &rt,
         rt.alloc(),
@@ -46,7 +45,7 @@ fn agrees_on_elements_that_are_broken_or_without_parameters(rt: HostRuntime) -> 
             "1 - - - - - [[[a]]]x¦list [[a¦msg ]]x¦prints <47>1 - - - - - [[[a] ]]x",
             "1 - - - - - [\"] [a]¦list \"¦msg [a]¦prints <47>1 - - - - - [\"] [a]",
         ],
-    )
+    );
 }
 
 #[test]

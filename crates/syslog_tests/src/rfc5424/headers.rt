@@ -1,12 +1,13 @@
 //! Worked texts of RFC 5424 without elements.
 use super::{check_message, check_table, check_text};
+use crate::built::small;
 use crate::expected::row_of;
 use crate::reading::{check_invalid, read};
 use std::test::Fail;
-use syslog_loose::{Message, Protocol, SyslogFacility, SyslogSeverity, Variant};
+use syslog_loose::{Protocol, SyslogFacility, SyslogSeverity, Variant};
 
 #[test]
-fn reads_each_field(rt: HostRuntime) -> Result<(), Fail> {
+fn reads_each_field(rt: HostRuntime) {
     check_table(
         &rt,
         rt.alloc(),
@@ -22,11 +23,11 @@ fn reads_each_field(rt: HostRuntime) -> Result<(), Fail> {
              ¦prints <28>1 2020-05-22T14:59:09.250-03:00 OX-XXX-MX204 OX-XXX-CONTEUDO:rpd 6589 - - bgp_listen_accept: \
              %DAEMON-4: x",
         ],
-    )
+    );
 }
 
 #[test]
-fn reads_a_text_without_a_priority(rt: HostRuntime) -> Result<(), Fail> {
+fn reads_a_text_without_a_priority(rt: HostRuntime) {
     check_table(
         &rt,
         rt.alloc(),
@@ -38,11 +39,11 @@ fn reads_a_text_without_a_priority(rt: HostRuntime) -> Result<(), Fail> {
              ¦prints <47>1 2020-05-22T14:59:09.250-03:00 OX-XXX-MX204 OX-XXX-CONTEUDO:rpd 6589 - - bgp_listen_accept: \
              %DAEMON-4: x",
         ],
-    )
+    );
 }
 
 #[test]
-fn reads_second_sixty_and_cuts_decimals(rt: HostRuntime) -> Result<(), Fail> {
+fn reads_second_sixty_and_cuts_decimals(rt: HostRuntime) {
     check_table(
         &rt,
         rt.alloc(),
@@ -54,11 +55,11 @@ fn reads_second_sixty_and_cuts_decimals(rt: HostRuntime) -> Result<(), Fail> {
              ¦facility auth¦severity crit¦at 2020-01-01T00:00:00.123456789+00:00¦host h¦app a¦pid 1¦id m¦msg x\
              ¦prints <34>1 2020-01-01T00:00:00.123456789+00:00 h a 1 m - x",
         ],
-    )
+    );
 }
 
 #[test]
-fn reads_a_priority_and_a_version_up_to_their_limits(rt: HostRuntime) -> Result<(), Fail> {
+fn reads_a_priority_and_a_version_up_to_their_limits(rt: HostRuntime) {
     check_table(
         &rt,
         rt.alloc(),
@@ -68,11 +69,11 @@ fn reads_a_priority_and_a_version_up_to_their_limits(rt: HostRuntime) -> Result<
             "<0007>1 - - - - - -¦facility kern¦severity debug¦prints <7>1 - - - - - - ",
             "<200>1 - - - - - -¦severity emerg¦prints <40>1 - - - - - - ",
         ],
-    )
+    );
 }
 
 #[test]
-fn reads_a_process_id_as_a_number_or_a_name(rt: HostRuntime) -> Result<(), Fail> {
+fn reads_a_process_id_as_a_number_or_a_name(rt: HostRuntime) {
     check_table(
         &rt,
         rt.alloc(),
@@ -80,7 +81,7 @@ fn reads_a_process_id_as_a_number_or_a_name(rt: HostRuntime) -> Result<(), Fail>
             "1 - h a +5 m - x¦host h¦app a¦pid 5¦id m¦msg x¦prints <47>1 - h a 5 m - x",
             "1 - h a 2147483648 m - x¦host h¦app a¦name 2147483648¦id m¦msg x¦prints <47>1 - h a 2147483648 m - x",
         ],
-    )
+    );
 }
 
 #[test]
@@ -107,20 +108,14 @@ fn reads_a_printed_message_back(rt: HostRuntime) -> Result<(), Fail> {
          ¦facility cron¦severity err¦at 1969-12-03T23:58:58+00:00\
          ¦prints <75>1 1969-12-03T23:58:58+00:00 - - - - - ",
     );
-    let message = Message {
-        protocol: Protocol::RFC5424(1),
-        facility: Some(SyslogFacility::LOG_CRON),
-        severity: Some(SyslogSeverity::SEV_ERR),
-        timestamp: read(alloc, "1 1969-12-03T23:58:58Z - - - - -", Variant::RFC5424)?.timestamp,
-        hostname: None,
-        appname: None,
-        procid: None,
-        msgid: None,
-        structured_data: Vec::new(alloc),
-        msg: "",
-    };
-    check_message(&rt, alloc, &message, &want)?;
-    assert_eq!(rt; want.text.len(), 42);
-    assert_eq!(rt; want.text, want.printed);
-    check_text(&rt, alloc, &want)
+    let stamp = read(alloc, "1 1969-12-03T23:58:58Z - - - - -", Variant::RFC5424)?.timestamp;
+    let mut message = small(alloc, Protocol::RFC5424(1), "");
+    message.facility = Some(SyslogFacility::LOG_CRON);
+    message.severity = Some(SyslogSeverity::SEV_ERR);
+    message.timestamp = stamp;
+    check_message(&rt, alloc, &message, &want);
+    assert!(rt; want.text.len() == 42);
+    assert!(rt; want.text == want.printed);
+    check_text(&rt, alloc, &want);
+    Ok(())
 }

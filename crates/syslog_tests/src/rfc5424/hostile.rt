@@ -19,7 +19,8 @@ fn passes_over_a_thousand_zeros(rt: HostRuntime) -> Result<(), Fail> {
         &rt,
         alloc,
         &[priority.as_str(), version.as_str(), process.as_str()],
-    )
+    );
+    Ok(())
 }
 
 #[test]
@@ -31,7 +32,8 @@ fn takes_a_thousand_nines_for_no_number(rt: HostRuntime) -> Result<(), Fail> {
     let process = format!(in alloc;
         "1 - h a {nines} m - x¦host h¦app a¦name {nines}¦id m¦msg x¦prints <47>1 - h a {nines} m - x"
     )?;
-    check_table(&rt, alloc, &[process.as_str()])
+    check_table(&rt, alloc, &[process.as_str()]);
+    Ok(())
 }
 
 #[test]
@@ -43,7 +45,8 @@ fn cuts_a_thousand_decimals(rt: HostRuntime) -> Result<(), Fail> {
          ¦at 2020-01-01T00:00:00.111111111+00:00¦host h¦app a¦pid 1¦id m¦msg x\
          ¦prints <47>1 2020-01-01T00:00:00.111111111+00:00 h a 1 m - x"
     )?;
-    check_table(&rt, alloc, &[row.as_str()])
+    check_table(&rt, alloc, &[row.as_str()]);
+    Ok(())
 }
 
 #[test]
@@ -53,11 +56,12 @@ fn reads_a_long_host_past_ascii(rt: HostRuntime) -> Result<(), Fail> {
     let row = format!(in alloc;
         "1 - {host} a 1 m - y¦host {host}¦app a¦pid 1¦id m¦msg y¦prints <47>1 - {host} a 1 m - y"
     )?;
-    check_table(&rt, alloc, &[row.as_str()])
+    check_table(&rt, alloc, &[row.as_str()]);
+    Ok(())
 }
 
 #[test]
-fn trims_white_space_and_nothing_else(rt: HostRuntime) -> Result<(), Fail> {
+fn trims_white_space_and_nothing_else(rt: HostRuntime) {
     check_table(
         &rt,
         rt.alloc(),
@@ -66,7 +70,7 @@ fn trims_white_space_and_nothing_else(rt: HostRuntime) -> Result<(), Fail> {
             "1 - - - - - -\u{a0}x¦msg \u{a0}x¦prints <47>1 - - - - - - \u{a0}x",
             "1 - h\u{1f}x a 1 m - y¦host h\u{1f}x¦app a¦pid 1¦id m¦msg y¦prints <47>1 - h\u{1f}x a 1 m - y",
         ],
-    )?;
+    );
     check_invalid(
         &rt,
         rt.alloc(),
@@ -77,5 +81,4 @@ fn trims_white_space_and_nothing_else(rt: HostRuntime) -> Result<(), Fail> {
             "1 - h\u{a0}x a 1 m - y",
         ],
     );
-    Ok(())
 }

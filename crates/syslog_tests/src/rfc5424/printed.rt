@@ -1,5 +1,7 @@
 //! Messages built by hand, and what they print as.
-use crate::built::{element, small};
+use crate::built::{elements, small};
+use crate::expected::check_printed;
+use std::alloc::{AllocError, Global};
 use std::test::Fail;
 use syslog_loose::{
     Message, Offset, OffsetTimestamp, ProcId, Protocol, StructuredElement, Timestamp,
@@ -7,47 +9,55 @@ use syslog_loose::{
 
 #[test]
 fn prints_values_as_they_stand(rt: HostRuntime) -> Result<(), Fail> {
-    let alloc = rt.alloc();
-    let mut message = small(alloc, Protocol::RFC5424(1), "hi");
-    message.structured_data.push(element(alloc, "x", &[])?)?;
-    message
-        .structured_data
-        .push(element(alloc, "a", &[("b", "x\""), ("", "c\\")])?)?;
-    let text = format!(in alloc; "{message}")?;
-    assert_eq!(rt;
-        text.as_str(),
-        "<34>1 - - - - - [x][a b=\"x\"\" =\"c\\\"] hi"
-    );
+    let mut message = small(rt.alloc(), Protocol::RFC5424(1), "hi");
+    message.structured_data = elements(rt.alloc(), "x\na|b|x\"||c\\")?;
+    let want = "<34>1 - - - - - [x][a b=\"x\"\" =\"c\\\"] hi";
+    check_printed(&rt, rt.alloc(), &message, want);
     Ok(())
+}
+
+fn string(alloc: Global, text: &str) -> Result<String, AllocError> {
+    String::from_str(alloc, text)
+}
+
+/// One element, with one parameter.
+fn list_of_strings(alloc: Global) -> Result<Vec<StructuredElement<String>>, AllocError> {
+    let mut params = Vec::new(alloc);
+    params.push((string(alloc, "b")?, string(alloc, "]")?))?;
+    let mut list = Vec::new(alloc);
+    list.push(StructuredElement {
+        id: string(alloc, "größe")?,
+        params,
+    })?;
+    Ok(list)
+}
+
+fn message_over_strings(
+    alloc: Global,
+    timestamp: OffsetTimestamp,
+) -> Result<Message<String>, AllocError> {
+    Ok(Message {
+        protocol: Protocol::RFC5424(0),
+        facility: None,
+        severity: None,
+        timestamp: Some(timestamp),
+        hostname: Some(string(alloc, "h")?),
+        appname: None,
+        procid: Some(ProcId::Name(string(alloc, "+5")?)),
+        msgid: Some(String::new(alloc)),
+        structured_data: list_of_strings(alloc)?,
+        msg: string(alloc, "局")?,
+    })
 }
 
 #[test]
 fn prints_a_message_over_strings(rt: HostRuntime) -> Result<(), Fail> {
-    let alloc = rt.alloc();
-    let mut params = Vec::new(alloc);
-    params.push((String::from_str(alloc, "b")?, String::from_str(alloc, "]")?))?;
-    let id = String::from_str(alloc, "größe")?;
-    let mut structured_data = Vec::new(alloc);
-    structured_data.push(StructuredElement { id, params })?;
-    let message = Message {
-        protocol: Protocol::RFC5424(0),
-        facility: None,
-        severity: None,
-        timestamp: Some(OffsetTimestamp {
-            instant: Timestamp::from_nanosecond(0)?,
-            offset: Offset::from_seconds(-3600)?,
-        }),
-        hostname: Some(String::from_str(alloc, "h")?),
-        appname: None,
-        procid: Some(ProcId::Name(String::from_str(alloc, "+5")?)),
-        msgid: Some(String::new(alloc)),
-        structured_data,
-        msg: String::from_str(alloc, "局")?,
+    let timestamp = OffsetTimestamp {
+        instant: Timestamp::from_nanosecond(0)?,
+        offset: Offset::from_seconds(-3600)?,
     };
-    let text = format!(in alloc; "{message}")?;
-    assert_eq!(rt;
-        text.as_str(),
-        "<47>0 1969-12-31T23:00:00-01:00 h - +5  [größe b=\"]\"] 局"
-    );
+    let message = message_over_strings(rt.alloc(), timestamp)?;
+    let want = "<47>0 1969-12-31T23:00:00-01:00 h - +5  [größe b=\"]\"] 局";
+    check_printed(&rt, rt.alloc(), &message, want);
     Ok(())
 }
