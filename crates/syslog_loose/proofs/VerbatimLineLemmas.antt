@@ -134,14 +134,10 @@ module _ (t a b c d e f g h i q : Text) (x1 x2 x3 x4 x5 x6 : Option Cut)
         (k5.copies t ((three ++ (32 ∷ msgid_text)) ++ (32 ∷ [])) (s5.copies t (three ++ (32 ∷ msgid_text)) up_to_msgid));
   }
 
--- a piece behind a space, before more
-spaced_on : (p x r y : Text) → x ++ r ≡ y → (32 ∷ (p ++ x)) ++ r ≡ 32 ∷ (p ++ y)
-spaced_on p x r y e = ap (λ (z : Text). 32 ∷ z) (append_assoc p x r ∙ ap (λ (z : Text). p ++ z) e)
-
 -- the five pieces before more
 five_before : (a b c d e r : Text)
     → five a b c d e ++ r ≡ 32 ∷ (a ++ (32 ∷ (b ++ (32 ∷ (c ++ (32 ∷ (d ++ (32 ∷ (e ++ r)))))))))
-five_before a b c d e r = spaced_on a _ r _ (spaced_on b _ r _ (spaced_on c _ r _ (spaced_on d _ r _ refl)))
+five_before a b c d e r = simp append_assoc
 
 -- what is copied before a rest
 pub some_copied : (t : Text) (cut : Option Cut) (q : Text) → VerbatimTail t cut q
@@ -184,9 +180,7 @@ front_prints t b c copied zone front q pri version e w s z =
     let first = priority_text pri ++ decimal version in
     let on : (r : Text) → 60 ∷ (decimal pri ++ (62 ∷ (decimal version ++ (32 ∷ (copied ++ r)))))
     ≡ (first ++ (32 ∷ copied)) ++ r =
-    λ r. sym (append_assoc first (32 ∷ copied) r
-    ∙ append_assoc (priority_text pri) (decimal version) (32 ∷ (copied ++ r))
-    ∙ ap (λ (x : Text). 60 ∷ x) (append_assoc (decimal pri) (62 ∷ []) (decimal version ++ (32 ∷ (copied ++ r))))) in
+    λ r. simp append_assoc in
     let whole : t ≡ 60 ∷ (decimal pri ++ (62 ∷ (decimal version ++ (32 ∷ (copied ++ zone))))) =
     w ∙ ap (λ (x : Text). priority_text pri ++ (decimal version ++ x)) (s ∙ ap (λ (x : Text). 32 ∷ x) z)
     ∙ ap (λ (x : Text). 60 ∷ x) (append_assoc (decimal pri) (62 ∷ []) (decimal version ++ (32 ∷ (copied ++ zone)))) in
