@@ -44,12 +44,8 @@ joined_5424 : (pri version stamp host app process id elements msg : List ℕ)
     → (60 ∷ (pri ++ (62 ∷ version)))
     ++ (((32 ∷ stamp) ++ (32 ∷ host))
     ++ (((32 ∷ app) ++ ((32 ∷ process) ++ (32 ∷ id))) ++ ((32 ∷ elements) ++ (32 ∷ msg))))
-    ≡ 60
-    ∷ (pri
-    ++ (62
-    ∷ (version
-    ++ (32
-    ∷ (stamp ++ (32 ∷ (host ++ (32 ∷ (app ++ (32 ∷ (process ++ (32 ∷ (id ++ (32 ∷ (elements ++ (32 ∷ msg))))))))))))))))
+    ≡ 60 ∷ (pri ++ (62 ∷ (version ++ (32 ∷ (stamp ++ (32 ∷ (host ++ (32 ∷ (app ++ (32 ∷ (process
+    ++ (32 ∷ (id ++ (32 ∷ (elements ++ (32 ∷ msg))))))))))))))))
 joined_5424 pri version stamp host app process id elements msg =
     let rest : List ℕ = (32 ∷ elements) ++ (32 ∷ msg) in
     let program : List ℕ = (32 ∷ app) ++ ((32 ∷ process) ++ (32 ∷ id)) in

@@ -79,11 +79,6 @@ left_answer RFC5424 dating text r left h = absurd left
 left_answer RFC3164 dating text r left h = h
 left_answer Either dating text r left h = either_rfc3164 dating text r left h
 
--- an `Err` is no `Ok`
-pub refused : {X : Type 0} (r : Result X AllocError) (e : AllocError) {P : Type 0} → r ≡ Err e → (P → IsOk r) → P → ⊥
-refused (Ok x) e is h p = cc
-refused (Err x) e is h p = let t = h p in cc
-
 -- what is said of a value that was found
 pub found_text : (P : Type 0) (r : Result Bool AllocError) (found : Bool) → r ≡ Ok found → found ≡ true
     → IfOk r (λ found. IsTrue found → P) → P
@@ -93,6 +88,9 @@ found_text P r found e f h = subst (λ (x : Result Bool AllocError). IfOk x (λ 
 pub no_ok : {X : Type 0} (r : Result X AllocError) (e : AllocError) → r ≡ Err e → IsOk r → ⊥
 no_ok (Ok x) e is h = cc
 no_ok (Err x) e is h = cc
+
+pub refused : {X : Type 0} (r : Result X AllocError) (e : AllocError) {P : Type 0} → r ≡ Err e → (P → IsOk r) → P → ⊥
+refused r e is h p = no_ok r e is (h p)
 
 -- ---- the year
 

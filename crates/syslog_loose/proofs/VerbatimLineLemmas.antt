@@ -76,17 +76,15 @@ front_verbatim t a b k small v = record {
 abbrev five : Text → Text → Text → Text → Text → Text
 five a b c d e = 32 ∷ (a ++ (32 ∷ (b ++ (32 ∷ (c ++ (32 ∷ (d ++ (32 ∷ e))))))))
 
--- and the same, put together from the front, before more
-five_on : (a b c d e r : Text) → ((((32 ∷ a) ++ (32 ∷ b)) ++ (32 ∷ c)) ++ (32 ∷ d)) ++ (32 ∷ (e ++ r))
-    ≡ 32 ∷ (a ++ (32 ∷ (b ++ (32 ∷ (c ++ (32 ∷ (d ++ (32 ∷ (e ++ r)))))))))
-five_on a b c d e r =
-    append_assoc (((32 ∷ a) ++ (32 ∷ b)) ++ (32 ∷ c)) (32 ∷ d) (32 ∷ (e ++ r))
-    ∙ append_assoc ((32 ∷ a) ++ (32 ∷ b)) (32 ∷ c) (32 ∷ (d ++ (32 ∷ (e ++ r))))
-    ∙ append_assoc (32 ∷ a) (32 ∷ b) (32 ∷ (c ++ (32 ∷ (d ++ (32 ∷ (e ++ r))))))
-
 -- a space and a piece behind what was copied
 step : (p x : Text) → (p ++ (32 ∷ [])) ++ x ≡ p ++ (32 ∷ x)
 step p x = append_assoc p (32 ∷ []) x
+
+-- a gap and a name behind what was copied
+name_on : (t b c d name p : Text) (x y : Option Cut) → Gap b x c y → c ≡ name ++ d → Copies t x b p
+    → Copies t y d (p ++ (32 ∷ name))
+name_on t b c d name p x y s w k = subst (λ (q : Text). Copies t y d q) (step p name)
+    (extended t c d name (p ++ (32 ∷ [])) y w (s.copies t p k))
 
 module _ (t a b c d e f g h i q : Text) (x1 x2 x3 x4 x5 x6 : Option Cut)
     (s1 : Gap t None a x1) (k1 : Verbatim host name_text a b) (s2 : Gap b x1 c x2) (k2 : Verbatim word name_text c d)
@@ -105,46 +103,22 @@ module _ (t a b c d e f g h i q : Text) (x1 x2 x3 x4 x5 x6 : Option Cut)
   abbrev msgid_text : Text
   msgid_text = name_text k4.value
 
-  -- up to behind each name
-  up_to_hostname : Copies t x1 b (32 ∷ hostname_text)
-  up_to_hostname = extended t a b hostname_text (32 ∷ []) x1 k1.whole (s1.copies t [] refl)
-
-  up_to_appname : Copies t x2 d ((32 ∷ hostname_text) ++ (32 ∷ appname_text))
-  up_to_appname =
-      subst (λ (p : Text). Copies t x2 d p) (step (32 ∷ hostname_text) appname_text)
-      (extended t c d appname_text ((32 ∷ hostname_text) ++ (32 ∷ [])) x2 k2.whole
-      (s2.copies t (32 ∷ hostname_text) up_to_hostname))
-
   abbrev two : Text
   two = (32 ∷ hostname_text) ++ (32 ∷ appname_text)
-
-  up_to_procid : Copies t x3 f (two ++ (32 ∷ procid_text))
-  up_to_procid =
-      subst (λ (p : Text). Copies t x3 f p) (step two procid_text)
-      (extended t e f procid_text (two ++ (32 ∷ [])) x3 k3.whole (s3.copies t two up_to_appname))
 
   abbrev three : Text
   three = two ++ (32 ∷ procid_text)
 
+  -- up to behind each name
   up_to_msgid : Copies t x4 h (three ++ (32 ∷ msgid_text))
   up_to_msgid =
-      subst (λ (p : Text). Copies t x4 h p) (step three msgid_text)
-      (extended t g h msgid_text (three ++ (32 ∷ [])) x4 k4.whole (s4.copies t three up_to_procid))
+      name_on t f g h msgid_text three x3 x4 s4 k4.whole (name_on t d e f procid_text two x2 x3 s3 k3.whole
+      (name_on t b c d appname_text (32 ∷ hostname_text) x1 x2 s2 k2.whole
+      (name_on t t a b hostname_text [] None x1 s1 k1.whole refl)))
 
-  abbrev four : Text
-  four = three ++ (32 ∷ msgid_text)
-
-  up_to_list : Copies t x6 q (four ++ (32 ∷ elements_text k5.value))
-  up_to_list = subst (λ (p : Text). Copies t x6 q p) (step four (elements_text k5.value))
-      (k5.copies t (four ++ (32 ∷ [])) (s5.copies t four up_to_msgid))
-
-  in_order : four ++ (32 ∷ elements_text k5.value)
+  in_order : ((three ++ (32 ∷ msgid_text)) ++ (32 ∷ [])) ++ elements_text k5.value
       ≡ five hostname_text appname_text procid_text msgid_text (elements_text k5.value)
-  in_order =
-      ap (λ (x : Text). four ++ (32 ∷ x)) (sym (append-nil (elements_text k5.value)))
-      ∙ five_on hostname_text appname_text procid_text msgid_text (elements_text k5.value) []
-      ∙ ap (λ (x : Text). five hostname_text appname_text procid_text msgid_text x)
-      (append-nil (elements_text k5.value))
+  in_order = simp append_assoc
 
   pub tail_verbatim : VerbatimTail t x6 q
   tail_verbatim = record {
@@ -156,17 +130,14 @@ module _ (t a b c d e f g h i q : Text) (x1 x2 x3 x4 x5 x6 : Option Cut)
     is = row_of tail_row (s1.is then front_of host name_text a b k1 then s2.is then front_of word name_text c d k2
         then s3.is then front_of process_word process_text e f k3 then s4.is then front_of word name_text g h k4
         then gap_run h i x4 x5 s5 then k5.is then refl);
-    copies = subst (λ (p : Text). Copies t x6 q p) in_order up_to_list;
+    copies = subst (λ (p : Text). Copies t x6 q p) in_order
+        (k5.copies t ((three ++ (32 ∷ msgid_text)) ++ (32 ∷ [])) (s5.copies t (three ++ (32 ∷ msgid_text)) up_to_msgid));
   }
-
--- a piece behind a space, before more
-spaced_on : (p x r y : Text) → x ++ r ≡ y → (32 ∷ (p ++ x)) ++ r ≡ 32 ∷ (p ++ y)
-spaced_on p x r y e = ap (λ (z : Text). 32 ∷ z) (append_assoc p x r ∙ ap (λ (z : Text). p ++ z) e)
 
 -- the five pieces before more
 five_before : (a b c d e r : Text)
     → five a b c d e ++ r ≡ 32 ∷ (a ++ (32 ∷ (b ++ (32 ∷ (c ++ (32 ∷ (d ++ (32 ∷ (e ++ r)))))))))
-five_before a b c d e r = spaced_on a _ r _ (spaced_on b _ r _ (spaced_on c _ r _ (spaced_on d _ r _ refl)))
+five_before a b c d e r = simp append_assoc
 
 -- what is copied before a rest
 pub some_copied : (t : Text) (cut : Option Cut) (q : Text) → VerbatimTail t cut q
@@ -209,9 +180,7 @@ front_prints t b c copied zone front q pri version e w s z =
     let first = priority_text pri ++ decimal version in
     let on : (r : Text) → 60 ∷ (decimal pri ++ (62 ∷ (decimal version ++ (32 ∷ (copied ++ r)))))
     ≡ (first ++ (32 ∷ copied)) ++ r =
-    λ r. sym (append_assoc first (32 ∷ copied) r
-    ∙ append_assoc (priority_text pri) (decimal version) (32 ∷ (copied ++ r))
-    ∙ ap (λ (x : Text). 60 ∷ x) (append_assoc (decimal pri) (62 ∷ []) (decimal version ++ (32 ∷ (copied ++ r))))) in
+    λ r. simp append_assoc in
     let whole : t ≡ 60 ∷ (decimal pri ++ (62 ∷ (decimal version ++ (32 ∷ (copied ++ zone))))) =
     w ∙ ap (λ (x : Text). priority_text pri ++ (decimal version ++ x)) (s ∙ ap (λ (x : Text). 32 ∷ x) z)
     ∙ ap (λ (x : Text). 60 ∷ x) (append_assoc (decimal pri) (62 ∷ []) (decimal version ++ (32 ∷ (copied ++ zone)))) in

@@ -29,12 +29,7 @@ tag_is : (app : Option Text) (process : Option (ProcId Text)) (r : Text)
     → tag_text app process ++ r ≡ program_text app process ++ (58 ∷ 32 ∷ r)
 tag_is None p r = refl
 tag_is (Some a) None r = append_assoc a (58 ∷ 32 ∷ []) r
-tag_is (Some a) (Some p) r =
-    let i = procid_text p in
-    append_assoc a (91 ∷ (i ++ (93 ∷ 58 ∷ 32 ∷ []))) r
-    ∙ ap (λ (x : Text). a ++ (91 ∷ x)) (append_assoc i (93 ∷ 58 ∷ 32 ∷ []) r)
-    ∙ sym (append_assoc a (91 ∷ (i ++ (93 ∷ []))) (58 ∷ 32 ∷ r)
-    ∙ ap (λ (x : Text). a ++ (91 ∷ x)) (append_assoc i (93 ∷ []) (58 ∷ 32 ∷ r)))
+tag_is (Some a) (Some p) r = simp append_assoc
 
 body_is : (es : List ElementValue) (msg : Text) → spaced_elements es ++ msg ≡ body_text es msg
 body_is [] msg = refl

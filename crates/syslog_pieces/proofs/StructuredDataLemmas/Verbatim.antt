@@ -47,9 +47,7 @@ param_verbatim t a b c u name v f g h q =
     f.whole ∙ ap (λ (x : Text). x ++ a) (sym f.is.2)
     ∙ ap (λ (x : Text). name ++ x)
     (begins 61 a b g ∙ ap (λ (x : Text). 61 ∷ x) (eb ∙ ap (λ (x : Text). 34 ∷ x) (quoted_text c u v q))) in
-    let r : bare_param_text (name, v) ++ u ≡ name ++ (61 ∷ 34 ∷ (v ++ (34 ∷ u))) =
-    append_assoc name (61 ∷ 34 ∷ (v ++ (34 ∷ []))) u
-    ∙ ap (λ (x : Text). name ++ (61 ∷ 34 ∷ x)) (append_assoc v (34 ∷ []) u) in
+    let r : bare_param_text (name, v) ++ u ≡ name ++ (61 ∷ 34 ∷ (v ++ (34 ∷ u))) = simp append_assoc in
     verbatim_by_text param bare_param_text t u (name, v) (param_read t c u name v o q) (e ∙ sym r)
 
 -- ---- elements
@@ -97,9 +95,7 @@ verbatim_first t r i u s id f g b k q ps more e =
     b.whole ∙ ap (λ (x : Text). 32 ∷ x) (k.whole ∙ ap (λ (x : Text). bare_param_text v ++ x) e) in
     let z : (id ++ (flat_map param_text (v ∷ ps) ++ (93 ∷ []))) ++ q ≡ id
     ++ (param_text v ++ (flat_map param_text ps ++ (93 ∷ q))) =
-    append_assoc id (flat_map param_text (v ∷ ps) ++ (93 ∷ [])) q
-    ∙ ap (λ (x : Text). id ++ x) (append_assoc (flat_map param_text (v ∷ ps)) (93 ∷ []) q
-    ∙ append_assoc (param_text v) (flat_map param_text ps) (93 ∷ q)) in
+    simp append_assoc in
     verbatim_by_text element element_text t q (record { id = id; params = v ∷ ps })
     (element_read t u q id (v ∷ ps) (start_of t r i u id f g gap) inner)
     (start_text t r i id f g ∙ ap (λ (x : Text). 91 ∷ x) (ap (λ (x : Text). id ++ x) w ∙ sym z))
