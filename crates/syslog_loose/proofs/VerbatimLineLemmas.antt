@@ -131,7 +131,8 @@ module _ (t a b c d e f g h i q : Text) (x1 x2 x3 x4 x5 x6 : Option Cut)
         then s3.is then front_of process_word process_text e f k3 then s4.is then front_of word name_text g h k4
         then gap_run h i x4 x5 s5 then k5.is then refl);
     copies = subst (λ (p : Text). Copies t x6 q p) in_order
-        (k5.copies t ((three ++ (32 ∷ msgid_text)) ++ (32 ∷ [])) (s5.copies t (three ++ (32 ∷ msgid_text)) up_to_msgid));
+        (k5.copies t ((three ++ (32 ∷ msgid_text)) ++ (32 ∷ [])) (s5.copies t (three ++ (32 ∷ msgid_text))
+        up_to_msgid));
   }
 
 -- the five pieces before more

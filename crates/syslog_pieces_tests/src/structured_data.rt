@@ -101,7 +101,8 @@ fn quoted_values(rt: HostRuntime) {
     for row in &[
         "[e v=\"Some \\\"lovely\\\" string\"]¦e|v|Some \\\"lovely\\\" string¦",
         "[e v=\"\"]¦e|v|¦",
-        "[e v=\"Here are some escaped characters -> \\\"\\\\\\]\"]¦e|v|Here are some escaped characters -> \\\"\\\\\\]¦",
+        "[e v=\"Here are some escaped characters -> \\\"\\\\\\]\"]\
+         ¦e|v|Here are some escaped characters -> \\\"\\\\\\]¦",
         "[e v=\"These should not be escaped -> \\n\\m\\o\"]¦e|v|These should not be escaped -> \\n\\m\\o¦",
     ] {
         check_element(&rt, rt.alloc(), row);
