@@ -2,7 +2,8 @@
 ghost use Rattle.std.specs.Prelude.{◌≡◌};
 
 use jiff::tz::TimeZone;
-use std::alloc::AllocError;
+use std::alloc::{AllocError, Global};
+use std::process::Abort;
 use std::test::Fail;
 use syslog_loose::{
     IncompleteDate, ParseFault, Protocol, SyslogFacility, SyslogSeverity, Variant, decompose_pri,
@@ -11,25 +12,22 @@ use syslog_loose::{
 
 const TEXT: &str = "<200>1 - - - - - -";
 
-#[test]
-fn normalises_a_text(rt: HostRuntime) -> Result<(), Fail> {
-    let alloc = rt.alloc();
+// The text as it is normalised once, and again.
+fn check_normalised(rt: &impl Abort, alloc: Global, variant: Variant, want: &str) {
     let utc = TimeZone::UTC;
-    for variant in [Variant::Either, Variant::RFC5424] {
-        let once = normalise(alloc, TEXT, |_: IncompleteDate| 2019, None, variant, &utc)?;
-        assert_eq!(rt; once.as_str(), "<40>1 - - - - - - ");
-        assert_eq!(rt; once.len(), 18);
-        let twice = normalise(
-            alloc,
-            once.as_str(),
-            |_: IncompleteDate| 2019,
-            Some(&utc),
-            variant,
-            &utc,
-        )?;
-        assert_eq!(rt; twice.as_str(), once.as_str());
-    }
-    Ok(())
+    let year = |_: IncompleteDate| 2019;
+    let once = normalise(alloc, TEXT, year, None, variant, &utc).expect(rt, TEXT);
+    assert!(rt; once.as_str() == want, "{once}");
+    let twice = normalise(alloc, want, year, Some(&utc), variant, &utc).expect(rt, want);
+    assert!(rt; twice.as_str() == want, "{twice}");
+}
+
+#[test]
+fn normalises_a_text(rt: HostRuntime) {
+    let want = "<40>1 - - - - - - ";
+    assert!(rt; want.len() == 18);
+    check_normalised(&rt, rt.alloc(), Variant::Either, want);
+    check_normalised(&rt, rt.alloc(), Variant::RFC5424, want);
 }
 
 #[test]
@@ -44,7 +42,7 @@ fn normalises_no_text_without_a_division(rt: HostRuntime) {
         &utc,
     ) {
         Ok(text) => assert!(rt; false, "{text}"),
-        Err(fault) => assert_eq!(rt; fault, ParseFault::Invalid),
+        Err(fault) => assert!(rt; fault == ParseFault::Invalid, "{fault}"),
     }
 }
 
@@ -64,7 +62,7 @@ fn takes_a_closure_with_a_clause_and_one_without(rt: HostRuntime) -> Result<(), 
         Variant::Either,
         &utc,
     )?;
-    assert_eq!(rt; message.severity, Some(SyslogSeverity::SEV_EMERG));
+    assert!(rt; message.severity == Some(SyslogSeverity::SEV_EMERG));
     let message = parse_message_with_year_exact_tz(
         alloc,
         TEXT,
@@ -73,8 +71,8 @@ fn takes_a_closure_with_a_clause_and_one_without(rt: HostRuntime) -> Result<(), 
         Variant::RFC5424,
         &utc,
     )?;
-    assert_eq!(rt; message.protocol, Protocol::RFC5424(1));
-    assert_eq!(rt; message.facility, None);
+    assert!(rt; message.protocol == Protocol::RFC5424(1));
+    assert!(rt; message.facility == None);
     Ok(())
 }
 
@@ -89,22 +87,27 @@ fn decomposes_a_priority(rt: HostRuntime) {
     );
 }
 
+fn check_shown(rt: &impl Abort, alloc: Global, fault: ParseFault, want: &str) {
+    let shown = format!(in alloc; "{fault}").expect(rt, "no memory");
+    assert!(rt; shown.as_str() == want, "{shown}");
+}
+
 #[test]
-fn says_what_the_fault_is(rt: HostRuntime) -> Result<(), Fail> {
-    let alloc = rt.alloc();
-    for (fault, text) in [
-        (
-            ParseFault::Invalid,
-            "unable to parse input as valid syslog message",
-        ),
-        (ParseFault::Memory, "out of memory"),
-        (ParseFault::from(AllocError), "out of memory"),
-    ] {
-        let shown = format!(in alloc; "{fault}")?;
-        assert_eq!(rt; shown.as_str(), text);
-    }
-    assert_ne!(rt; ParseFault::Invalid, ParseFault::Memory);
-    assert_eq!(rt; ParseFault::Invalid as i32, 1);
-    assert_eq!(rt; ParseFault::Memory as i32, 2);
-    Ok(())
+fn says_what_the_fault_is(rt: HostRuntime) {
+    let want = "unable to parse input as valid syslog message";
+    check_shown(&rt, rt.alloc(), ParseFault::Invalid, want);
+    check_shown(&rt, rt.alloc(), ParseFault::Memory, "out of memory");
+    check_shown(
+        &rt,
+        rt.alloc(),
+        ParseFault::from(AllocError),
+        "out of memory",
+    );
+}
+
+#[test]
+fn numbers_the_faults(rt: HostRuntime) {
+    assert!(rt; ParseFault::Invalid != ParseFault::Memory);
+    assert!(rt; ParseFault::Invalid as i32 == 1);
+    assert!(rt; ParseFault::Memory as i32 == 2);
 }

@@ -65,6 +65,6 @@ pub(super) fn settled(
 pub(super) fn check_no_text(rt: &impl Abort, answer: Result<String, ParseFault>, text: &str) {
     match answer {
         Ok(printed) => assert!(rt; false, "{text}: {printed}"),
-        Err(fault) => assert_eq!(rt; fault, ParseFault::Invalid, "{text}"),
+        Err(fault) => assert!(rt; fault == ParseFault::Invalid, "{text}: {fault}"),
     }
 }

@@ -55,7 +55,7 @@ fn check_reading(
 /// The answer is this text.
 fn check_text(rt: &impl Abort, answer: Result<String, ParseFault>, want: &str) {
     match answer {
-        Ok(printed) => assert_eq!(rt; printed.as_str(), want),
+        Ok(printed) => assert!(rt; printed.as_str() == want, "{printed} in place of {want}"),
         Err(fault) => assert!(rt; false, "{fault} in place of {want}"),
     }
 }

@@ -3,54 +3,80 @@ use super::reading::{normalised, read};
 use std::alloc::Global;
 use std::process::Abort;
 use std::test::Fail;
-use syslog_loose::Variant;
+use syslog_loose::{StructuredElement, Variant};
 
 /// What stands before a list, in each protocol, as it prints behind the priority.
 const FRONTS: [&str; 2] = ["1 - - - - - ", " - h a: "];
 
 /// Expects this text with the priority in front that it prints, and so that printing changed nothing else.
-fn expect_printed(rt: &impl Abort, alloc: Global, text: &str) -> Result<(), Fail> {
-    let printed = normalised(alloc, text, 2019, None)?;
+fn expect_printed(rt: &impl Abort, alloc: Global, text: &str) {
+    let printed = normalised(alloc, text, 2019, None).expect(rt, "no text");
     assert!(rt; printed.as_str().strip_prefix("<47>") == Some(text));
-    Ok(())
+}
+
+// Elements of this id, each with the parameter `k` of this value and no other.
+fn are_alike(elements: &[StructuredElement<&str>], value: &str) -> bool {
+    for element in elements {
+        if element.id != "e" || element.params.as_slice() != [("k", value)].as_slice() {
+            return false;
+        }
+    }
+    true
+}
+
+fn check_elements(rt: &impl Abort, alloc: Global, text: &str) {
+    let message = read(alloc, text, Variant::Either).expect(rt, "no message");
+    assert!(rt; message.structured_data.len() == 5000);
+    assert!(rt; are_alike(&message.structured_data, "v"));
+    assert!(rt; message.msg == "x");
+    expect_printed(rt, alloc, text);
 }
 
 #[test]
 fn reads_five_thousand_elements(rt: HostRuntime) -> Result<(), Fail> {
-    let alloc = rt.alloc();
-    let elements = "[e k=\"v\"]".repeat(alloc, 5000)?;
-    for front in FRONTS {
-        let text = format!(in alloc; "{front}{elements} x")?;
-        let message = read(alloc, text.as_str(), Variant::Either)?;
-        assert_eq!(rt; message.structured_data.len(), 5000);
-        for element in &message.structured_data {
-            assert_eq!(rt; element.id, "e");
-            assert!(rt; element.params.as_slice() == [("k", "v")].as_slice());
-        }
-        assert_eq!(rt; message.msg, "x");
-        expect_printed(&rt, alloc, text.as_str())?;
+    let elements = "[e k=\"v\"]".repeat(rt.alloc(), 5000)?;
+    for front in &FRONTS {
+        let text = format!(in rt.alloc(); "{front}{elements} x")?;
+        check_elements(&rt, rt.alloc(), text.as_str());
     }
     Ok(())
 }
 
+// The parameters are this many, all of them alike, and so are their values without escapes.
+fn check_params(
+    rt: &impl Abort,
+    alloc: Global,
+    element: &StructuredElement<&str>,
+    param: (&str, &str),
+    plain: &str,
+) {
+    for found in &element.params {
+        assert!(rt; *found == param);
+    }
+    for found in element.params(alloc) {
+        let (name, value) = found.expect(rt, "no memory");
+        assert!(rt; *name == param.0 && value.as_str() == plain);
+    }
+}
+
+// The text reads as a message with one element of this many parameters.
+fn check_one(rt: &impl Abort, alloc: Global, text: &str, count: usize, value: &str, plain: &str) {
+    let message = read(alloc, text, Variant::Either).expect(rt, "no message");
+    assert!(rt; message.structured_data.len() == 1);
+    for element in &message.structured_data {
+        assert!(rt; element.params.len() == count);
+        check_params(rt, alloc, element, ("k", value), plain);
+    }
+    assert!(rt; message.msg == "x");
+    expect_printed(rt, alloc, text);
+}
+
 #[test]
 fn reads_two_thousand_parameters(rt: HostRuntime) -> Result<(), Fail> {
-    let alloc = rt.alloc();
-    let params = " k=\"v\"".repeat(alloc, 2000)?;
-    for front in FRONTS {
-        let text = format!(in alloc; "{front}[e{params}] x")?;
-        let message = read(alloc, text.as_str(), Variant::Either)?;
-        assert_eq!(rt; message.structured_data.len(), 1);
-        for element in &message.structured_data {
-            assert_eq!(rt; element.params.len(), 2000);
-            assert!(rt; element.params.iter().all(|param| *param == ("k", "v")));
-            for param in element.params(alloc) {
-                let (name, value) = param?;
-                assert_eq!(rt; *name, "k");
-                assert_eq!(rt; value.as_str(), "v");
-            }
-        }
-        expect_printed(&rt, alloc, text.as_str())?;
+    let params = " k=\"v\"".repeat(rt.alloc(), 2000)?;
+    for front in &FRONTS {
+        let text = format!(in rt.alloc(); "{front}[e{params}] x")?;
+        check_one(&rt, rt.alloc(), text.as_str(), 2000, "v", "v");
     }
     Ok(())
 }
@@ -58,33 +84,35 @@ fn reads_two_thousand_parameters(rt: HostRuntime) -> Result<(), Fail> {
 /// A value of 100 KB, three escapes in each eight bytes.
 #[test]
 fn removes_many_escapes(rt: HostRuntime) -> Result<(), Fail> {
-    let alloc = rt.alloc();
-    let value = "ab\\\"\\\\\\]".repeat(alloc, 12_500)?;
-    let unescaped = "ab\"\\]".repeat(alloc, 12_500)?;
-    assert_eq!(rt; value.len(), 100_000);
-    let text = format!(in alloc; "1 - - - - - [e k=\"{value}\"] x")?;
-    let message = read(alloc, text.as_str(), Variant::Either)?;
-    assert_eq!(rt; message.structured_data.len(), 1);
-    for element in &message.structured_data {
-        assert!(rt; element.params.as_slice() == [("k", value.as_str())].as_slice());
-        for param in element.params(alloc) {
-            assert!(rt; param?.1.as_str() == unescaped.as_str());
-        }
-    }
-    expect_printed(&rt, alloc, text.as_str())
+    let value = "ab\\\"\\\\\\]".repeat(rt.alloc(), 12_500)?;
+    let plain = "ab\"\\]".repeat(rt.alloc(), 12_500)?;
+    assert!(rt; value.len() == 100_000);
+    let text = format!(in rt.alloc(); "1 - - - - - [e k=\"{value}\"] x")?;
+    check_one(
+        &rt,
+        rt.alloc(),
+        text.as_str(),
+        1,
+        value.as_str(),
+        plain.as_str(),
+    );
+    Ok(())
 }
 
-/// Behind a list of one element, for which memory is taken.
+// The text reads as this message behind a list of one element, for which memory is taken.
+fn check_body(rt: &impl Abort, alloc: Global, text: &str, body: &str) {
+    let message = read(alloc, text, Variant::Either).expect(rt, "no message");
+    assert!(rt; message.structured_data.len() == 1);
+    assert!(rt; message.msg == body);
+}
+
 #[test]
 fn reads_a_message_of_two_megabytes(rt: HostRuntime) -> Result<(), Fail> {
-    let alloc = rt.alloc();
-    let body = "1234567890".repeat(alloc, 200_000)?;
-    for front in FRONTS {
-        let text = format!(in alloc; "{front}[e k=\"v\"] {body}")?;
-        let message = read(alloc, text.as_str(), Variant::Either)?;
-        assert_eq!(rt; message.structured_data.len(), 1);
-        assert!(rt; message.msg == body.as_str());
-        expect_printed(&rt, alloc, text.as_str())?;
+    let body = "1234567890".repeat(rt.alloc(), 200_000)?;
+    for front in &FRONTS {
+        let text = format!(in rt.alloc(); "{front}[e k=\"v\"] {body}")?;
+        check_body(&rt, rt.alloc(), text.as_str(), body.as_str());
+        expect_printed(&rt, rt.alloc(), text.as_str());
     }
     Ok(())
 }
@@ -92,13 +120,10 @@ fn reads_a_message_of_two_megabytes(rt: HostRuntime) -> Result<(), Fail> {
 /// A million blanks at each end, and characters that are white space past ASCII among them.
 #[test]
 fn trims_a_million_blanks(rt: HostRuntime) -> Result<(), Fail> {
-    let alloc = rt.alloc();
-    let blanks = " ".repeat(alloc, 1_000_000)?;
-    for front in FRONTS {
-        let text = format!(in alloc; "{blanks}\u{a0}{front}[e k=\"v\"] x\u{3000}{blanks}")?;
-        let message = read(alloc, text.as_str(), Variant::Either)?;
-        assert_eq!(rt; message.structured_data.len(), 1);
-        assert_eq!(rt; message.msg, "x");
+    let blanks = " ".repeat(rt.alloc(), 1_000_000)?;
+    for front in &FRONTS {
+        let text = format!(in rt.alloc(); "{blanks}\u{a0}{front}[e k=\"v\"] x\u{3000}{blanks}")?;
+        check_body(&rt, rt.alloc(), text.as_str(), "x");
     }
     Ok(())
 }

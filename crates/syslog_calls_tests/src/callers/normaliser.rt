@@ -9,7 +9,7 @@ ghost use Rattle.syslog_loose.specs.Reading.{OnReading};
 ghost use Rattle.syslog_loose.specs.declared.variant.Variant.TheVariants.{Either};
 
 use std::alloc::{AllocError, Global};
-use std::test::Fail;
+use std::process::Abort;
 use syslog_loose::{IncompleteDate, ParseFault, TimeZone, Variant, normalise};
 
 /// The line in printed form, and as it came where it is no message. A line that was printed of a message that is fixed
@@ -36,23 +36,23 @@ fn normal_line(
     }
 }
 
+fn check_normal(rt: &impl Abort, alloc: Global, row: &str) {
+    let (line, want) = row.split_once('¦').expect(rt, row);
+    let text = normal_line(alloc, line, 2019, &TimeZone::UTC).expect(rt, line);
+    assert!(rt; text.as_str() == want, "{text}");
+    let again = normal_line(alloc, want, 2019, &TimeZone::UTC).expect(rt, want);
+    assert!(rt; again.as_str() == want, "{again}");
+}
+
 #[test]
-fn normalises_lines(rt: HostRuntime) -> Result<(), Fail> {
-    for (line, want) in [
-        (
-            "<34>1 2003-10-11T22:14:15.003Z mymachine.example.com su - ID47 - message",
-            "<34>1 2003-10-11T22:14:15.003+00:00 mymachine.example.com su - ID47 - message",
-        ),
-        (
-            "<34>Oct 11 22:14:15 mymachine app[323]: a message",
-            "<34> 2019-10-11T22:14:15+00:00 mymachine app[323]: a message",
-        ),
-        ("gobbledegook", "gobbledegook"),
+fn normalises_lines(rt: HostRuntime) {
+    for row in &[
+        "<34>1 2003-10-11T22:14:15.003Z mymachine.example.com su - ID47 - message\
+         ¦<34>1 2003-10-11T22:14:15.003+00:00 mymachine.example.com su - ID47 - message",
+        "<34>Oct 11 22:14:15 mymachine app[323]: a message\
+         ¦<34> 2019-10-11T22:14:15+00:00 mymachine app[323]: a message",
+        "gobbledegook¦gobbledegook",
     ] {
-        let text = normal_line(rt.alloc(), line, 2019, &TimeZone::UTC)?;
-        assert_eq!(rt; text.as_str(), want);
-        let again = normal_line(rt.alloc(), want, 2019, &TimeZone::UTC)?;
-        assert_eq!(rt; again.as_str(), want);
+        check_normal(&rt, rt.alloc(), row);
     }
-    Ok(())
 }

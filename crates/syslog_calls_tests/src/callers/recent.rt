@@ -7,7 +7,7 @@ ghost use Rattle.syslog_loose.specs.Reading.{InYear, OnReading};
 ghost use Rattle.syslog_loose.specs.declared.variant.Variant.TheVariants.{Either};
 
 use std::alloc::{AllocError, Global};
-use std::test::Fail;
+use std::process::Abort;
 use syslog_loose::{
     IncompleteDate, OffsetTimestamp, ParseFault, TimeZone, Timestamp, Variant,
     parse_message_with_year_exact_tz,
@@ -44,25 +44,34 @@ fn instant_of(
     }
 }
 
-#[test]
-fn takes_december_for_last_year(rt: HostRuntime) -> Result<(), Fail> {
-    for (line, second) in [
-        ("<34>Dec 31 23:59:59 h su: one", Some(1_577_836_799)),
-        ("<34>Jan  1 00:00:00 h su: one", Some(1_577_836_800)),
-        ("<34>Dec 31 2018 23:59:59 h su: one", Some(1_546_300_799)),
-        (
-            "<34>1 2003-10-11T22:14:15Z h su - - - one",
-            Some(1_065_910_455),
-        ),
-        ("<34>1 - h su - - - one", None),
-        ("gobbledegook", None),
-    ] {
-        let found = instant_of(rt.alloc(), line, 2020, 2019, &TimeZone::UTC)?;
-        let second = second.map(|it| Timestamp::from_second(it));
-        match (found, second) {
-            (Some(found), Some(want)) => assert_eq!(rt; found.instant, want?, "{line}"),
-            (found, want) => assert!(rt; found.is_none() && want.is_none(), "{line}"),
+// A row is a line and the second of its instant, or a line without one.
+fn check_instant(rt: &impl Abort, alloc: Global, row: &str) {
+    let mut cells = row.split('¦');
+    let line = cells.next().unwrap_or("");
+    match instant_of(alloc, line, 2020, 2019, &TimeZone::UTC).expect(rt, line) {
+        Some(found) => {
+            let second = cells
+                .next()
+                .expect(rt, line)
+                .parse::<i64>()
+                .expect(rt, line);
+            let want = Timestamp::from_second(second).expect(rt, line);
+            assert!(rt; found.instant == want, "{line}");
         }
+        None => assert!(rt; cells.next() == None, "{line}"),
     }
-    Ok(())
+}
+
+#[test]
+fn takes_december_for_last_year(rt: HostRuntime) {
+    for row in &[
+        "<34>Dec 31 23:59:59 h su: one¦1577836799",
+        "<34>Jan  1 00:00:00 h su: one¦1577836800",
+        "<34>Dec 31 2018 23:59:59 h su: one¦1546300799",
+        "<34>1 2003-10-11T22:14:15Z h su - - - one¦1065910455",
+        "<34>1 - h su - - - one",
+        "gobbledegook",
+    ] {
+        check_instant(&rt, rt.alloc(), row);
+    }
 }

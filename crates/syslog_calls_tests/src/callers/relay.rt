@@ -12,7 +12,7 @@ ghost use Rattle.syslog_loose.specs.declared.variant.Variant.TheVariants.{Either
 ghost use Rattle.syslog_calls_tests.specs.declared.callers.relay.Sent.TheVariants.{AsItCame, Printed};
 
 use std::alloc::{AllocError, Global};
-use std::test::Fail;
+use std::process::Abort;
 use syslog_loose::{
     IncompleteDate, Message, ParseFault, TimeZone, Variant, parse_message_with_year_exact_tz,
 };
@@ -61,25 +61,29 @@ fn relay(alloc: Global, line: &str, year: i32, local: &TimeZone<'_>) -> Result<S
     }
 }
 
-#[test]
-fn relays_lines(rt: HostRuntime) -> Result<(), Fail> {
-    for (line, printed) in [
-        (
-            "<34>1 2003-10-11T22:14:15.003Z h su - ID47 - message",
-            Some("<34>1 2003-10-11T22:14:15.003+00:00 h su - ID47 - message"),
-        ),
-        ("<34>- h app[323]:  hi", Some("<34> - h app[323]: hi")),
-        // Printed, these are read as other messages.
-        ("<34>- app[x:y]: hi", None),
-        ("<34>- zork:: hi", None),
-        // This has no facility.
-        ("1 - - - - - - hi", None),
-        ("gobbledegook", None),
-    ] {
-        match relay(rt.alloc(), line, 2019, &TimeZone::UTC)? {
-            Sent::Printed(text) => assert_eq!(rt; Some(text.as_str()), printed),
-            Sent::AsItCame => assert_eq!(rt; None, printed, "{line}"),
-        }
+// A row is a line and what is printed of it, or a line that is sent as it came.
+fn check_relayed(rt: &impl Abort, alloc: Global, row: &str) {
+    let mut cells = row.split('¦');
+    let line = cells.next().unwrap_or("");
+    match relay(alloc, line, 2019, &TimeZone::UTC).expect(rt, line) {
+        Sent::Printed(text) => assert!(rt; cells.next() == Some(text.as_str()), "{text}"),
+        Sent::AsItCame => assert!(rt; cells.next() == None, "{line}"),
     }
-    Ok(())
+}
+
+#[test]
+fn relays_lines(rt: HostRuntime) {
+    for row in &[
+        "<34>1 2003-10-11T22:14:15.003Z h su - ID47 - message\
+         ¦<34>1 2003-10-11T22:14:15.003+00:00 h su - ID47 - message",
+        "<34>- h app[323]:  hi¦<34> - h app[323]: hi",
+        // Printed, these are read as other messages.
+        "<34>- app[x:y]: hi",
+        "<34>- zork:: hi",
+        // This has no facility.
+        "1 - - - - - - hi",
+        "gobbledegook",
+    ] {
+        check_relayed(&rt, rt.alloc(), row);
+    }
 }

@@ -4,6 +4,7 @@ use crate::reading::RULE;
 use jiff::Timestamp;
 use jiff::tz::TimeZone;
 use std::alloc::Global;
+use std::process::Abort;
 use std::test::Fail;
 use syslog_loose::{
     IncompleteDate, Message, ParseFault, Variant, parse_message, parse_message_with_year,
@@ -56,117 +57,110 @@ fn called<'a>(
     }
 }
 
-/// Texts with elements under a variant, and how each prints.
-const LISTED: [(&str, Variant, &str); 6] = [
+/// Lines with elements under a variant, and how each prints.
+const LISTED: [(Variant, &str); 6] = [
     (
-        "<13>1 2019-02-13T19:48:34+00:00 74794bfb6795 root 8449 - [meta sequenceId=\"1\" sysUpTime=\"37\" \
-         language=\"EN\"][origin ip=\"192.168.0.1\" software=\"test\"] i am foobar",
         Variant::RFC5424,
         "<13>1 2019-02-13T19:48:34+00:00 74794bfb6795 root 8449 - [meta sequenceId=\"1\" sysUpTime=\"37\" \
+         language=\"EN\"][origin ip=\"192.168.0.1\" software=\"test\"] i am foobar\
+         ¦<13>1 2019-02-13T19:48:34+00:00 74794bfb6795 root 8449 - [meta sequenceId=\"1\" sysUpTime=\"37\" \
          language=\"EN\"][origin ip=\"192.168.0.1\" software=\"test\"] i am foobar",
     ),
     (
-        "<13>1 2019-02-13T19:48:34+00:00 74794bfb6795 root 8449 - [meta sequenceId=\"1\" sysUpTime=\"37\" \
-         language=\"EN\"][origin ip=\"192.168.0.1\" software=\"test\"] i am foobar",
         Variant::Either,
         "<13>1 2019-02-13T19:48:34+00:00 74794bfb6795 root 8449 - [meta sequenceId=\"1\" sysUpTime=\"37\" \
+         language=\"EN\"][origin ip=\"192.168.0.1\" software=\"test\"] i am foobar\
+         ¦<13>1 2019-02-13T19:48:34+00:00 74794bfb6795 root 8449 - [meta sequenceId=\"1\" sysUpTime=\"37\" \
          language=\"EN\"][origin ip=\"192.168.0.1\" software=\"test\"] i am foobar",
     ),
     (
-        "1 - - - - - [a b=\"x]y\"][c][d e=][f",
         Variant::Either,
-        "<47>1 - - - - - [a b=\"x]y\"][c] [f",
+        "1 - - - - - [a b=\"x]y\"][c][d e=][f¦<47>1 - - - - - [a b=\"x]y\"][c] [f",
     ),
     (
-        "1 - - - - - [a b=\"c\"] x",
         Variant::Either,
-        "<47>1 - - - - - [a b=\"c\"] x",
+        "1 - - - - - [a b=\"c\"] x¦<47>1 - - - - - [a b=\"c\"] x",
     ),
     (
+        Variant::Either,
         "<46>Jan  5 15:33:03 plertrood-ThinkPad-X220 rsyslogd:  [origin software=\"rsyslogd\" swVersion=\"8.32.0\"] \
-         start",
-        Variant::Either,
-        "<46> 2020-01-05T15:33:03+01:00 plertrood-ThinkPad-X220 rsyslogd: [origin software=\"rsyslogd\" \
+         start\
+         ¦<46> 2020-01-05T15:33:03+01:00 plertrood-ThinkPad-X220 rsyslogd: [origin software=\"rsyslogd\" \
          swVersion=\"8.32.0\"] start",
     ),
     (
-        "- h a: [a b=\"c\"][d e=\"f\"][g",
         Variant::RFC3164,
-        "<47> - h a: [a b=\"c\"][d e=\"f\"] [g",
+        "- h a: [a b=\"c\"][d e=\"f\"][g¦<47> - h a: [a b=\"c\"][d e=\"f\"] [g",
     ),
 ];
+
+fn check_listed_again(rt: &impl Abort, alloc: Global, call: Call, rule: &TimeZone<'_>) {
+    for (variant, row) in &LISTED {
+        let (text, printed) = row.split_once('¦').expect(rt, row);
+        let answer = match called(alloc, call, text, *variant, rule) {
+            Err(ParseFault::Memory) => called(alloc, call, text, *variant, rule),
+            other => other,
+        };
+        check_reading(rt, answer, text, printed);
+    }
+}
 
 #[test]
 fn answers_in_each_call_that_memory_was_refused(rt: HostRuntime) -> Result<(), Fail> {
     let rule = TimeZone::posix(RULE)?;
-    for call in CALLS {
-        for (text, variant, printed) in LISTED {
-            let answer = match called(rt.alloc(), call, text, variant, &rule) {
-                Err(ParseFault::Memory) => called(rt.alloc(), call, text, variant, &rule),
-                other => other,
-            };
-            check_reading(&rt, answer, text, printed);
-        }
+    for call in &CALLS {
+        check_listed_again(&rt, rt.alloc(), *call, &rule);
     }
     Ok(())
+}
+
+fn check_listed(rt: &impl Abort, alloc: Global, call: Call, rule: &TimeZone<'_>) {
+    for (variant, row) in &LISTED {
+        let (text, printed) = row.split_once('¦').expect(rt, row);
+        check_reading(rt, called(alloc, call, text, *variant, rule), text, printed);
+    }
 }
 
 #[test]
 fn sees_no_refusal_in_any_call(rt: HostRuntime) -> Result<(), Fail> {
     let rule = TimeZone::posix(RULE)?;
-    for call in CALLS {
-        for (text, variant, printed) in LISTED {
-            let answer = called(rt.alloc(), call, text, variant, &rule);
-            check_reading(&rt, answer, text, printed);
-        }
+    for call in &CALLS {
+        check_listed(&rt, rt.alloc(), *call, &rule);
     }
     Ok(())
 }
 
 /// Texts without elements, and how each prints.
-const UNLISTED: [(&str, &str); 14] = [
-    (
-        "<34>1 2003-10-11T22:14:15.003Z mymachine.example.com su - ID47 - message",
-        "<34>1 2003-10-11T22:14:15.003+00:00 mymachine.example.com su - ID47 - message",
-    ),
-    ("1 - - - - - [a b=\"x]y\" ]z", "<47>1 - - - - - - y\" ]z"),
-    ("<200>1 - - - - - -", "<40>1 - - - - - - "),
-    ("1 - h a +5 m - x", "<47>1 - h a 5 m - x"),
-    ("1 - h a 2147483648 m - x", "<47>1 - h a 2147483648 m - x"),
-    (
-        "<13>1 2019-02-13T19:48:34+00:00 74794bfb6795 root 8449 - [incorrect x] qwerty",
-        "<13>1 2019-02-13T19:48:34+00:00 74794bfb6795 root 8449 - - qwerty",
-    ),
-    (
-        "<13>1 2019-02-13T19:48:34+00:00 74794bfb6795 root 8449 - [incorrect x=] qwerty",
-        "<13>1 2019-02-13T19:48:34+00:00 74794bfb6795 root 8449 - - qwerty",
-    ),
-    ("- h a: m", "<47> - h a: m"),
-    ("- h a: [abc] m", "<47> - h a: [abc] m"),
-    ("- h a: [a b=\"c", "<47> - h a: [a b=\"c"),
-    ("- h a: - m", "<47> - h a: m"),
-    (
-        "Oct 25 02:30:00 h a: m",
-        "<47> 2020-10-25T02:30:00+02:00 h a: m",
-    ),
-    (
-        "Oct 11 22:14:15 h a: m",
-        "<47> 2020-10-11T22:14:15+02:00 h a: m",
-    ),
-    (
-        "<34>Dec 28 2008 16:49:07 h a[x]: m",
-        "<34> 2008-12-28T16:49:07+01:00 h a[x]: m",
-    ),
+const UNLISTED: [&str; 14] = [
+    "<34>1 2003-10-11T22:14:15.003Z mymachine.example.com su - ID47 - message¦<34>1 2003-10-11T22:14:15.003+00:00 mymachine.example.com su - ID47 - message",
+    "1 - - - - - [a b=\"x]y\" ]z¦<47>1 - - - - - - y\" ]z",
+    "<200>1 - - - - - -¦<40>1 - - - - - - ",
+    "1 - h a +5 m - x¦<47>1 - h a 5 m - x",
+    "1 - h a 2147483648 m - x¦<47>1 - h a 2147483648 m - x",
+    "<13>1 2019-02-13T19:48:34+00:00 74794bfb6795 root 8449 - [incorrect x] qwerty¦<13>1 2019-02-13T19:48:34+00:00 74794bfb6795 root 8449 - - qwerty",
+    "<13>1 2019-02-13T19:48:34+00:00 74794bfb6795 root 8449 - [incorrect x=] qwerty¦<13>1 2019-02-13T19:48:34+00:00 74794bfb6795 root 8449 - - qwerty",
+    "- h a: m¦<47> - h a: m",
+    "- h a: [abc] m¦<47> - h a: [abc] m",
+    "- h a: [a b=\"c¦<47> - h a: [a b=\"c",
+    "- h a: - m¦<47> - h a: m",
+    "Oct 25 02:30:00 h a: m¦<47> 2020-10-25T02:30:00+02:00 h a: m",
+    "Oct 11 22:14:15 h a: m¦<47> 2020-10-11T22:14:15+02:00 h a: m",
+    "<34>Dec 28 2008 16:49:07 h a[x]: m¦<34> 2008-12-28T16:49:07+01:00 h a[x]: m",
 ];
+
+fn check_unlisted(rt: &impl Abort, alloc: Global, call: Call, rule: &TimeZone<'_>) {
+    for row in &UNLISTED {
+        let (text, printed) = row.split_once('¦').expect(rt, row);
+        let answer = called(alloc, call, text, Variant::Either, rule);
+        check_reading(rt, answer, text, printed);
+    }
+}
 
 #[test]
 fn asks_for_no_memory_in_any_call_without_elements(rt: HostRuntime) -> Result<(), Fail> {
     let rule = TimeZone::posix(RULE)?;
-    for call in CALLS {
-        for (text, printed) in UNLISTED {
-            let answer = called(rt.alloc(), call, text, Variant::Either, &rule);
-            check_reading(&rt, answer, text, printed);
-        }
+    for call in &CALLS {
+        check_unlisted(&rt, rt.alloc(), *call, &rule);
     }
     Ok(())
 }
@@ -178,51 +172,60 @@ fn is_exact(call: Call) -> bool {
     }
 }
 
+/// Texts without a reading.
+const UNREADABLE: [&str; 7] = [
+    "",
+    "gobbledegook",
+    "<256>1 - - - - - -",
+    "1 - h: a 1 m - x",
+    "1 - - - - - [a b=\"c",
+    "1 - h: a 1 m [a b=\"c\"] x",
+    "<34>Feb 30 10:00:00 h a: [a b=\"c\"] m",
+];
+
+fn check_unreadable(rt: &impl Abort, alloc: Global, call: Call, text: &str, rule: &TimeZone<'_>) {
+    match called(alloc, call, text, Variant::Either, rule) {
+        Ok(message) => {
+            assert!(rt; !is_exact(call), "{call:?}: a message in {text}");
+            assert!(rt; message.msg == text, "{text}");
+        }
+        Err(fault) => {
+            assert!(rt; is_exact(call), "{call:?}: {fault} for {text}");
+            assert!(rt; fault == ParseFault::Invalid, "{text}");
+        }
+    }
+}
+
 #[test]
 fn asks_for_no_memory_in_any_call_without_a_reading(rt: HostRuntime) -> Result<(), Fail> {
     let rule = TimeZone::posix(RULE)?;
-    for call in CALLS {
-        for text in [
-            "",
-            "gobbledegook",
-            "<256>1 - - - - - -",
-            "1 - h: a 1 m - x",
-            "1 - - - - - [a b=\"c",
-            "1 - h: a 1 m [a b=\"c\"] x",
-            "<34>Feb 30 10:00:00 h a: [a b=\"c\"] m",
-        ] {
-            let answer = called(rt.alloc(), call, text, Variant::Either, &rule);
-            match answer {
-                Ok(message) => {
-                    assert!(rt; !is_exact(call), "{call:?}: a message in {text}");
-                    assert_eq!(rt; message.msg, text);
-                }
-                Err(fault) => {
-                    assert!(rt; is_exact(call), "{call:?}: {fault} for {text}");
-                    assert_eq!(rt; fault, ParseFault::Invalid, "{text}");
-                }
-            }
+    for call in &CALLS {
+        for text in &UNREADABLE {
+            check_unreadable(&rt, rt.alloc(), *call, text, &rule);
         }
     }
     Ok(())
 }
 
-#[test]
-fn asks_for_no_memory_to_tell_differences(rt: HostRuntime) -> Result<(), Fail> {
-    let utc = TimeZone::UTC;
-    for (text, want) in [
-        ("- h a: -5", true),
-        ("Oct 11 22:14:15 h a: -5", true),
-        ("- h a: - x", false),
-        ("Oct 11 22:14:15 h a: [a b=\"c\"] -5", false),
-        ("1 - - - - - [a b=\"c\"] -5", false),
-        ("gobbledegook", false),
-    ] {
-        let year = |_: IncompleteDate| 2019;
-        match reads_differently(rt.alloc(), text, year, None, Variant::Either, &utc) {
-            Ok(differs) => assert_eq!(rt; differs, want, "{text}"),
-            Err(_) => assert!(rt; false, "refused for {text}"),
-        }
+fn check_differs(rt: &impl Abort, alloc: Global, text: &str, want: bool) {
+    let year = |_: IncompleteDate| 2019;
+    match reads_differently(alloc, text, year, None, Variant::Either, &TimeZone::UTC) {
+        Ok(differs) => assert!(rt; differs == want, "{text}"),
+        Err(_) => assert!(rt; false, "refused for {text}"),
     }
-    Ok(())
+}
+
+#[test]
+fn asks_for_no_memory_to_tell_differences(rt: HostRuntime) {
+    for text in &["- h a: -5", "Oct 11 22:14:15 h a: -5"] {
+        check_differs(&rt, rt.alloc(), text, true);
+    }
+    for text in &[
+        "- h a: - x",
+        "Oct 11 22:14:15 h a: [a b=\"c\"] -5",
+        "1 - - - - - [a b=\"c\"] -5",
+        "gobbledegook",
+    ] {
+        check_differs(&rt, rt.alloc(), text, false);
+    }
 }

@@ -6,89 +6,80 @@ use std::process::Abort;
 use syslog_loose::{ParseFault, Variant};
 
 /// Texts with what each normalises to: plain and with elements, some of them broken, of both protocols.
-const NORMALISED: [(&str, &str); 7] = [
-    ("<200>1 - - - - - -", "<40>1 - - - - - - "),
-    ("1 - h a +5 m - x", "<47>1 - h a 5 m - x"),
-    (
-        "<34>1 2003-10-11T22:14:15.003Z mymachine.example.com su - ID47 - message",
-        "<34>1 2003-10-11T22:14:15.003+00:00 mymachine.example.com su - ID47 - message",
-    ),
-    (
-        "<13>1 2019-02-13T19:48:34+00:00 74794bfb6795 root 8449 - [meta sequenceId=\"1\" sysUpTime=\"37\" \
+const NORMALISED: [&str; 7] = [
+    "<200>1 - - - - - -¦<40>1 - - - - - - ",
+    "1 - h a +5 m - x¦<47>1 - h a 5 m - x",
+    "<34>1 2003-10-11T22:14:15.003Z mymachine.example.com su - ID47 - message¦<34>1 2003-10-11T22:14:15.003+00:00 mymachine.example.com su - ID47 - message",
+    "<13>1 2019-02-13T19:48:34+00:00 74794bfb6795 root 8449 - [meta sequenceId=\"1\" sysUpTime=\"37\" \
+         language=\"EN\"][origin ip=\"192.168.0.1\" software=\"test\"] i am foobar¦<13>1 2019-02-13T19:48:34+00:00 74794bfb6795 root 8449 - [meta sequenceId=\"1\" sysUpTime=\"37\" \
          language=\"EN\"][origin ip=\"192.168.0.1\" software=\"test\"] i am foobar",
-        "<13>1 2019-02-13T19:48:34+00:00 74794bfb6795 root 8449 - [meta sequenceId=\"1\" sysUpTime=\"37\" \
-         language=\"EN\"][origin ip=\"192.168.0.1\" software=\"test\"] i am foobar",
-    ),
-    (
-        "1 - - - - - [a b=\"x]y\"][c][d e=][f",
-        "<47>1 - - - - - [a b=\"x]y\"][c] [f",
-    ),
-    (
-        "Oct 11 22:14:15 h a: m",
-        "<47> 2019-10-11T22:14:15+00:00 h a: m",
-    ),
-    (
-        "- h a: [a b=\"c\"][d e=\"f\"][g",
-        "<47> - h a: [a b=\"c\"][d e=\"f\"] [g",
-    ),
+    "1 - - - - - [a b=\"x]y\"][c][d e=][f¦<47>1 - - - - - [a b=\"x]y\"][c] [f",
+    "Oct 11 22:14:15 h a: m¦<47> 2019-10-11T22:14:15+00:00 h a: m",
+    "- h a: [a b=\"c\"][d e=\"f\"][g¦<47> - h a: [a b=\"c\"][d e=\"f\"] [g",
 ];
 
-// The text as it is read at once, with no request that could be refused.
-fn check_at_once(rt: &impl Abort, alloc: Global, text: &str, msg: &str) {
-    match read(alloc, text, Variant::Either) {
-        Ok(message) => {
-            assert_eq!(rt; message.structured_data.len(), 0, "{text}");
-            assert_eq!(rt; message.msg, msg, "{text}");
-        }
-        Err(fault) => assert!(rt; false, "{fault} in place of a message in {text}"),
-    }
+fn check_again(rt: &impl Abort, alloc: Global, row: &str) {
+    let (text, want) = row.split_once('¦').expect(rt, row);
+    let answer = match normalised(alloc, text, 2019, None) {
+        Err(ParseFault::Memory) => normalised(alloc, text, 2019, None),
+        other => other,
+    };
+    check_text(rt, answer, want);
 }
 
 #[test]
 fn answers_that_memory_was_refused_and_then_as_ever(rt: HostRuntime) {
-    let alloc = rt.alloc();
-    for (text, want) in NORMALISED {
-        let answer = match normalised(alloc, text, 2019, None) {
-            Err(ParseFault::Memory) => normalised(alloc, text, 2019, None),
-            other => other,
-        };
-        check_text(&rt, answer, want);
+    for row in &NORMALISED {
+        check_again(&rt, rt.alloc(), row);
     }
+}
+
+fn check_once(rt: &impl Abort, alloc: Global, row: &str) {
+    let (text, want) = row.split_once('¦').expect(rt, row);
+    check_text(rt, normalised(alloc, text, 2019, None), want);
 }
 
 #[test]
 fn sees_no_refusal(rt: HostRuntime) {
-    let alloc = rt.alloc();
-    for (text, want) in NORMALISED {
-        check_text(&rt, normalised(alloc, text, 2019, None), want);
+    for row in &NORMALISED {
+        check_once(&rt, rt.alloc(), row);
+    }
+}
+
+// A row is a text and its message, which are read at once, with no request that could be refused; or a text without a
+// reading.
+fn check_at_once(rt: &impl Abort, alloc: Global, row: &str) {
+    let mut cells = row.split('¦');
+    let text = cells.next().unwrap_or("");
+    match read(alloc, text, Variant::Either) {
+        Ok(message) => {
+            assert!(rt; message.structured_data.is_empty(), "{text}");
+            assert!(rt; cells.next() == Some(message.msg), "{text}");
+        }
+        Err(fault) => {
+            assert!(rt; fault == ParseFault::Invalid, "{fault} in {text}");
+            assert!(rt; cells.next() == None, "{fault} in {text}");
+        }
     }
 }
 
 #[test]
 fn asks_for_no_memory_without_elements(rt: HostRuntime) {
-    let alloc = rt.alloc();
-    for (text, msg) in [
-        (
-            "<34>1 2003-10-11T22:14:15.003Z mymachine.example.com su - ID47 - message",
-            "message",
-        ),
-        ("<200>1 - - - - - -", ""),
-        ("1 - h a +5 m - x", "x"),
-        ("1 - h a 2147483648 m - x", "x"),
+    for row in &[
+        "<34>1 2003-10-11T22:14:15.003Z mymachine.example.com su - ID47 - message¦message",
+        "<200>1 - - - - - -¦",
+        "1 - h a +5 m - x¦x",
+        "1 - h a 2147483648 m - x¦x",
+        "<256>1 - - - - - -",
+        "1 - h: a 1 m - x",
     ] {
-        check_at_once(&rt, alloc, text, msg);
-    }
-    for text in ["<256>1 - - - - - -", "1 - h: a 1 m - x"] {
-        match read(alloc, text, Variant::Either) {
-            Ok(_) => assert!(rt; false, "a message in {text}"),
-            Err(fault) => assert_eq!(rt; fault, ParseFault::Invalid, "{text}"),
-        }
+        check_at_once(&rt, rt.alloc(), row);
     }
 }
 
 #[test]
 fn asks_for_no_memory_to_normalise_nothing(rt: HostRuntime) {
-    for text in [
+    for text in &[
         "",
         "gobbledegook",
         "<256>1 - - - - - -",

@@ -13,84 +13,94 @@ fn expect_settled(
     text: &str,
     year: i32,
     tz: &TimeZone<'_>,
-    want: (&str, usize),
-) -> Result<(), Fail> {
-    let (by_hand, rounds) = by_hand(alloc, text, year, tz)?;
-    assert_eq!(rt; by_hand.as_str(), want.0, "{text}");
-    assert_eq!(rt; rounds, want.1, "{text}");
-    let settled = settled(alloc, text, year, Some(tz))?;
-    assert_eq!(rt; settled.as_str(), want.0, "{text}");
-    Ok(())
+    round: usize,
+    want: &str,
+) {
+    let (by_hand, rounds) = by_hand(alloc, text, year, tz).expect(rt, text);
+    assert!(rt; by_hand.as_str() == want, "{text}: {by_hand}");
+    assert!(rt; rounds == round, "{text}: {rounds}");
+    let settled = settled(alloc, text, year, Some(tz)).expect(rt, text);
+    assert!(rt; settled.as_str() == want, "{text}: {settled}");
+}
+
+// So the text is normalised.
+fn expect_normalised(
+    rt: &impl Abort,
+    alloc: Global,
+    text: &str,
+    year: i32,
+    tz: &TimeZone<'_>,
+    want: &str,
+) {
+    let once = normalised(alloc, text, year, Some(tz)).expect(rt, text);
+    assert!(rt; once.as_str() == want, "{text}: {once}");
 }
 
 #[test]
-fn settles_in_round_one(rt: HostRuntime) -> Result<(), Fail> {
-    let alloc = rt.alloc();
-    for (text, want) in [
-        (
-            "<34>1 2003-10-11T22:14:15.003Z mymachine.example.com su - ID47 - message",
-            "<34>1 2003-10-11T22:14:15.003+00:00 mymachine.example.com su - ID47 - message",
-        ),
-        ("<200>1 - - - - - -", "<40>1 - - - - - - "),
-        (
-            "<34>Oct 11 22:14:15 mymachine app[323]: a message",
-            "<34> 2019-10-11T22:14:15+00:00 mymachine app[323]: a message",
-        ),
+fn settles_in_round_one(rt: HostRuntime) {
+    for row in &[
+        "<34>1 2003-10-11T22:14:15.003Z mymachine.example.com su - ID47 - message\
+         ¦<34>1 2003-10-11T22:14:15.003+00:00 mymachine.example.com su - ID47 - message",
+        "<200>1 - - - - - -¦<40>1 - - - - - - ",
+        "<34>Oct 11 22:14:15 mymachine app[323]: a message\
+         ¦<34> 2019-10-11T22:14:15+00:00 mymachine app[323]: a message",
     ] {
-        expect_settled(&rt, alloc, text, 2019, &TimeZone::UTC, (want, 1))?;
+        let (text, want) = row.split_once('¦').expect(&rt, row);
+        expect_settled(&rt, rt.alloc(), text, 2019, &TimeZone::UTC, 1, want);
     }
-    Ok(())
+}
+
+// A row is a text, as what it is normalised, and as what it settles.
+fn check_rounds(rt: &impl Abort, alloc: Global, round: usize, row: &str) {
+    let (text, rest) = row.split_once('¦').expect(rt, row);
+    let (first, last) = rest.split_once('¦').expect(rt, row);
+    expect_normalised(rt, alloc, text, 2019, &TimeZone::UTC, first);
+    expect_settled(rt, alloc, text, 2019, &TimeZone::UTC, round, last);
 }
 
 #[test]
-fn settles_in_later_rounds(rt: HostRuntime) -> Result<(), Fail> {
-    let alloc = rt.alloc();
-    for (text, first, last, round) in [
-        (
-            "<34>- zork::: hi",
-            "<34> - zork:: : hi",
-            "<34> - zork : : : hi",
-            3,
-        ),
-        (
-            "<34>- app[x:y]: hi",
-            "<34> - - app[x:y]: hi",
-            "<34> - - app[x: y]: hi",
-            2,
-        ),
-        ("- h a: - - x", "<47> - h a: - x", "<47> - h a: x", 2),
-    ] {
-        let once = normalised(alloc, text, 2019, Some(&TimeZone::UTC))?;
-        assert_eq!(rt; once.as_str(), first);
-        expect_settled(&rt, alloc, text, 2019, &TimeZone::UTC, (last, round))?;
-    }
-    Ok(())
+fn settles_in_later_rounds(rt: HostRuntime) {
+    let row = "<34>- zork::: hi¦<34> - zork:: : hi¦<34> - zork : : : hi";
+    check_rounds(&rt, rt.alloc(), 3, row);
+    let row = "<34>- app[x:y]: hi¦<34> - - app[x:y]: hi¦<34> - - app[x: y]: hi";
+    check_rounds(&rt, rt.alloc(), 2, row);
+    let row = "- h a: - - x¦<47> - h a: - x¦<47> - h a: x";
+    check_rounds(&rt, rt.alloc(), 2, row);
 }
 
 #[test]
-fn settles_dates_that_print_as_others(rt: HostRuntime) -> Result<(), Fail> {
-    let alloc = rt.alloc();
-    let before = "Jan 1 00:00:00 h a: m";
-    let once = normalised(alloc, before, -1, Some(&TimeZone::UTC))?;
-    assert_eq!(rt; once.as_str(), "<47> -0001-01-01T00:00:00+00:00 h a: m");
+fn settles_a_year_before_zero_that_prints_as_a_dash(rt: HostRuntime) {
+    let text = "Jan 1 00:00:00 h a: m";
+    let once = "<47> -0001-01-01T00:00:00+00:00 h a: m";
+    expect_normalised(&rt, rt.alloc(), text, -1, &TimeZone::UTC, once);
     let want = "<47> - - : 0001-01-01T00:00:00+00:00 h a: m";
-    expect_settled(&rt, alloc, before, -1, &TimeZone::UTC, (want, 2))?;
-    let text = "Oct 11 22:14:15 h a: m";
+    expect_settled(&rt, rt.alloc(), text, -1, &TimeZone::UTC, 2, want);
+}
+
+const OCTOBER: &str = "Oct 11 22:14:15 h a: m";
+
+#[test]
+fn settles_an_offset_that_prints_as_another(rt: HostRuntime) -> Result<(), Fail> {
     let seconds = TimeZone::fixed(Offset::from_seconds(-20)?);
-    let once = normalised(alloc, text, 2019, Some(&seconds))?;
-    assert_eq!(rt; once.as_str(), "<47> 2019-10-11T22:14:15-00:00 h a: m");
+    let once = "<47> 2019-10-11T22:14:15-00:00 h a: m";
+    expect_normalised(&rt, rt.alloc(), OCTOBER, 2019, &seconds, once);
     let want = "<47> 2019-10-11T22:14:15+00:00 h a: m";
-    expect_settled(&rt, alloc, text, 2019, &seconds, (want, 2))?;
+    expect_settled(&rt, rt.alloc(), OCTOBER, 2019, &seconds, 2, want);
+    Ok(())
+}
+
+#[test]
+fn settles_no_offset_of_a_day(rt: HostRuntime) -> Result<(), Fail> {
     let day = TimeZone::fixed(Offset::from_seconds(86_400)?);
-    let once = normalised(alloc, text, 2019, Some(&day))?;
-    assert_eq!(rt; once.as_str(), "<47> 2019-10-11T22:14:15+24:00 h a: m");
-    check_no_text(&rt, settled(alloc, text, 2019, Some(&day)), text);
+    let once = "<47> 2019-10-11T22:14:15+24:00 h a: m";
+    expect_normalised(&rt, rt.alloc(), OCTOBER, 2019, &day, once);
+    check_no_text(&rt, settled(rt.alloc(), OCTOBER, 2019, Some(&day)), OCTOBER);
     Ok(())
 }
 
 #[test]
 fn settles_no_text_without_a_division(rt: HostRuntime) {
-    for text in ["", "  ", "<256>1 - - - - - -", "<34>Feb 30 10:00:00 h a: m"] {
+    for text in &["", "  ", "<256>1 - - - - - -", "<34>Feb 30 10:00:00 h a: m"] {
         check_no_text(
             &rt,
             settled(rt.alloc(), text, 2019, Some(&TimeZone::UTC)),
@@ -99,39 +109,31 @@ fn settles_no_text_without_a_division(rt: HostRuntime) {
     }
 }
 
+// A row is a text and as what it settles.
+fn check_asked(rt: &impl Abort, alloc: Global, row: &str, asked: bool) {
+    let (text, want) = row.split_once('¦').expect(rt, row);
+    let mut called = false;
+    let year = |_: IncompleteDate| {
+        called = true;
+        -1
+    };
+    let settled = settle(alloc, text, year, None, Variant::Either, &TimeZone::UTC);
+    let settled = settled.expect(rt, text);
+    assert!(rt; settled.as_str() == want, "{text}: {settled}");
+    assert!(rt; called == asked, "{text}");
+}
+
 #[test]
-fn asks_for_a_year_in_round_one_alone(rt: HostRuntime) -> Result<(), Fail> {
-    let alloc = rt.alloc();
-    for (text, want, asked) in [
-        (
-            "Jan 1 00:00:00 h a: m",
-            "<47> - - : 0001-01-01T00:00:00+00:00 h a: m",
-            true,
-        ),
-        (
-            "<34>Dec 28 2008 16:49:07 zork:: Jan 1 00:00:00",
-            "<34> 2008-12-28T16:49:07+00:00 zork : : Jan 1 00:00:00",
-            false,
-        ),
-        ("<34>- zork::: hi", "<34> - zork : : : hi", false),
-        ("<34>1 - h a 1 m - x", "<34>1 - h a 1 m - x", false),
+fn asks_for_a_year_in_round_one_alone(rt: HostRuntime) {
+    let row = "Jan 1 00:00:00 h a: m¦<47> - - : 0001-01-01T00:00:00+00:00 h a: m";
+    check_asked(&rt, rt.alloc(), row, true);
+    for row in &[
+        "<34>Dec 28 2008 16:49:07 zork:: Jan 1 00:00:00¦<34> 2008-12-28T16:49:07+00:00 zork : : Jan 1 00:00:00",
+        "<34>- zork::: hi¦<34> - zork : : : hi",
+        "<34>1 - h a 1 m - x¦<34>1 - h a 1 m - x",
     ] {
-        let mut called = false;
-        let settled = settle(
-            alloc,
-            text,
-            |_: IncompleteDate| {
-                called = true;
-                -1
-            },
-            None,
-            Variant::Either,
-            &TimeZone::UTC,
-        )?;
-        assert_eq!(rt; settled.as_str(), want, "{text}");
-        assert_eq!(rt; called, asked, "{text}");
+        check_asked(&rt, rt.alloc(), row, false);
     }
-    Ok(())
 }
 
 /// Hard texts: hosts of colons, dashes and brackets, names of processes with colons, lists of each kind, odd dates.
@@ -166,15 +168,18 @@ const HARD: [&str; 28] = [
     "\t- [:--]\t",
 ];
 
+fn expect_hard_texts(rt: &impl Abort, alloc: Global, year: i32, tz: &TimeZone<'_>) {
+    for text in &HARD {
+        expect_as_by_hand(rt, alloc, text, year, tz);
+    }
+}
+
 #[test]
 fn settles_hard_texts_as_normalising_by_hand_does(rt: HostRuntime) -> Result<(), Fail> {
-    let alloc = rt.alloc();
-    for seconds in [0, 20, -20, 30, 5400, -86_370, 86_399] {
-        let zone = TimeZone::fixed(Offset::from_seconds(seconds)?);
-        for year in [2019, 0, -1, 9999] {
-            for text in HARD {
-                expect_as_by_hand(&rt, alloc, text, year, &zone)?;
-            }
+    for seconds in &[0, 20, -20, 30, 5400, -86_370, 86_399] {
+        let zone = TimeZone::fixed(Offset::from_seconds(*seconds)?);
+        for year in &[2019, 0, -1, 9999] {
+            expect_hard_texts(&rt, rt.alloc(), *year, &zone);
         }
     }
     Ok(())
