@@ -109,14 +109,17 @@ module _ (t a b c d e f g h i q : Text) (x1 x2 x3 x4 x5 x6 : Option Cut)
   abbrev three : Text
   three = two ++ (32 ∷ procid_text)
 
+  abbrev four : Text
+  four = three ++ (32 ∷ msgid_text)
+
   -- up to behind each name
-  up_to_msgid : Copies t x4 h (three ++ (32 ∷ msgid_text))
+  up_to_msgid : Copies t x4 h four
   up_to_msgid =
       name_on t f g h msgid_text three x3 x4 s4 k4.whole (name_on t d e f procid_text two x2 x3 s3 k3.whole
       (name_on t b c d appname_text (32 ∷ hostname_text) x1 x2 s2 k2.whole
       (name_on t t a b hostname_text [] None x1 s1 k1.whole refl)))
 
-  in_order : ((three ++ (32 ∷ msgid_text)) ++ (32 ∷ [])) ++ elements_text k5.value
+  in_order : (four ++ (32 ∷ [])) ++ elements_text k5.value
       ≡ five hostname_text appname_text procid_text msgid_text (elements_text k5.value)
   in_order = simp append_assoc
 
@@ -131,8 +134,7 @@ module _ (t a b c d e f g h i q : Text) (x1 x2 x3 x4 x5 x6 : Option Cut)
         then s3.is then front_of process_word process_text e f k3 then s4.is then front_of word name_text g h k4
         then gap_run h i x4 x5 s5 then k5.is then refl);
     copies = subst (λ (p : Text). Copies t x6 q p) in_order
-        (k5.copies t ((three ++ (32 ∷ msgid_text)) ++ (32 ∷ [])) (s5.copies t (three ++ (32 ∷ msgid_text))
-        up_to_msgid));
+        (k5.copies t (four ++ (32 ∷ [])) (s5.copies t four up_to_msgid));
   }
 
 -- the five pieces before more
