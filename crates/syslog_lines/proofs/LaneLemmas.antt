@@ -1,4 +1,4 @@
--- From the mask of one load of thirty-two bytes to the bytes before the first line feed.
+-- From the mask of one load of sixty-four bytes to the bytes before the first line feed.
 use Rattle.std.proofs.Common.{◌≡◌, ◌≢◌, ℕ, ◌+◌, ◌-◌, ◌%◌, ◌^◌, ◌<◌, ◌≤◌, eqb, cond, Bool, true, false}
 use Rattle.std.proofs.Common.{not, List, map, length, get_or, sym, ap, ◌∙◌, subst, arith, inl, inr}
 use Rattle.std.proofs.lemmas.Bool.{not-true, not-false, cases_eq, eq-eqb, ne_eqb, cond-true, cond-false}
@@ -17,7 +17,7 @@ compared byte = cond (eqb byte 10) 255 0
 abbrev stops : ℕ → Bool
 stops byte = top 7 (compared byte)
 
-run_is : (v : List ℕ) → length v ≡ 32 → first_set (mask_l (map stops v)) ≡ prefix_len (λ byte. not (stops byte)) v
+run_is : (v : List ℕ) → length v ≡ 64 → first_set (mask_l (map stops v)) ≡ prefix_len (λ byte. not (stops byte)) v
 run_is v long =
     elim (cases_eq (mask_l (map stops v)) 0) [
       | inl none ↦ cond-true _ _ _ (eq-eqb _ _ none) ∙ sym (leading_from_mask_l stops v none ∙ long)
@@ -35,15 +35,15 @@ stops_at_feed byte stop = elim (cases_eq byte 10) [
 goes_past_others : (byte : ℕ) → stops byte ≡ false → byte ≢ 10
 goes_past_others byte pass feed = let some : stops byte ≡ true = ap stops feed in cc
 
-module _ (bytes : List ℕ) (at run : ℕ) (lanes : List ℕ) (room : at + 32 ≤ length bytes)
+module _ (bytes : List ℕ) (at run : ℕ) (lanes : List ℕ) (room : at + 64 ≤ length bytes)
     (found : run ≡ first_set (mask_l (map (top 7) lanes) % 2 ^ 64))
-    (compares : lanes ≡ map compared (chunk at 32 bytes)) where
-  long : length (chunk at 32 bytes) ≡ 32
-  long = length-chunk at 32 bytes room
+    (compares : lanes ≡ map compared (chunk at 64 bytes)) where
+  long : length (chunk at 64 bytes) ≡ 64
+  long = length-chunk at 64 bytes room
 
-  counted : run ≡ prefix_len (λ byte. not (stops byte)) (chunk at 32 bytes)
+  counted : run ≡ prefix_len (λ byte. not (stops byte)) (chunk at 64 bytes)
   counted =
-      let v = chunk at 32 bytes in
+      let v = chunk at 64 bytes in
       let mask = ap (λ l. mask_l l % 2 ^ 64) (ap (map (top 7)) compares ∙ map-map (top 7) compared v)
       ∙ mask_l-mod (map stops v) 64 (omega (arith, length-map v stops, long)) in
       found ∙ ap first_set mask ∙ run_is v long
@@ -51,22 +51,22 @@ module _ (bytes : List ℕ) (at run : ℕ) (lanes : List ℕ) (room : at + 32 �
   goes_on : (k : ℕ) → at ≤ k → k < at + run → stops (get_or bytes k 0) ≡ false
   goes_on k from to =
       let back : at + (k - at) ≡ k = omega arith in
-      let bound = prefix_len-le-length (λ byte. not (stops byte)) (chunk at 32 bytes) in
-      let place = get_or-chunk at 32 bytes (k - at) 0 (omega (arith, counted, long))
+      let bound = prefix_len-le-length (λ byte. not (stops byte)) (chunk at 64 bytes) in
+      let place = get_or-chunk at 64 bytes (k - at) 0 (omega (arith, counted, long))
       ∙ ap (λ j. get_or bytes j 0) back in
       subst (λ byte. stops byte ≡ false) place
-      (not-true _ (prefix_len_passes (λ byte. not (stops byte)) (chunk at 32 bytes) (k - at) 0
+      (not-true _ (prefix_len_passes (λ byte. not (stops byte)) (chunk at 64 bytes) (k - at) 0
       (omega (arith, counted))))
 
   -- the place of the lowest bit is how many bytes stand before the first line feed
   pub run_from_mask : IsRun bytes at run
   run_from_mask = record {
-    within = omega (arith, counted, long, prefix_len-le-length (λ byte. not (stops byte)) (chunk at 32 bytes));
+    within = omega (arith, counted, long, prefix_len-le-length (λ byte. not (stops byte)) (chunk at 64 bytes));
     before = λ k from to. goes_past_others _ (goes_on k from to);
     stops = λ short.
-        let place = ap (λ j. get_or (chunk at 32 bytes) j 0) (sym counted) ∙ get_or-chunk at 32 bytes run 0 short in
+        let place = ap (λ j. get_or (chunk at 64 bytes) j 0) (sym counted) ∙ get_or-chunk at 64 bytes run 0 short in
         let set = subst (λ byte. stops byte ≡ true) place
-        (not-false _ (prefix_len_stops (λ byte. not (stops byte)) (chunk at 32 bytes) 0
+        (not-false _ (prefix_len_stops (λ byte. not (stops byte)) (chunk at 64 bytes) 0
         (omega (arith, counted, long)))) in
         stops_at_feed _ set;
   }

@@ -2,15 +2,15 @@
 use Rattle.std.specs.Int.{w64, trailing_zeros}
 use Rattle.std.specs.Prelude.{◌≡◌, ◌≢◌, ◌+◌, ◌-◌, ◌<◌, ◌≤◌, ◌==◌, if◌then◌else◌, ℕ, List, length, slice_index}
 
--- the place of the lowest bit that is set, or 32
+-- the place of the lowest bit that is set, or 64
 abbrev pub first_set : ℕ → ℕ
-first_set mask = if mask == 0 then 32 else trailing_zeros w64 mask
+first_set mask = if mask == 0 then 64 else trailing_zeros w64 mask
 
--- of the thirty-two bytes from a place on, this many stand before the first line feed
+-- of the sixty-four bytes from a place on, this many stand before the first line feed
 pub record IsRun (bytes : List ℕ) (at run : ℕ) : Type 0 where
-  pub within : run ≤ 32
+  pub within : run ≤ 64
   pub before : (k : ℕ) → at ≤ k → k < at + run → slice_index bytes k ≢ 10
-  pub stops : run < 32 → slice_index bytes (at + run) ≡ 10
+  pub stops : run < 64 → slice_index bytes (at + run) ≡ 10
 
 -- the first line feed from a place on, or the end
 pub record IsNextFeed (bytes : List ℕ) (from end : ℕ) : Type 0 where

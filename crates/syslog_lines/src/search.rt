@@ -1,10 +1,10 @@
-//! Where line feeds stand, thirty-two bytes at a time.
+//! Where line feeds stand, sixty-four bytes at a time.
 ghost use Rattle.std.specs.Prelude.{◌≡◌, ◌+◌, ◌≤◌, length, take};
 ghost use Rattle.syslog_lines.specs.Search.{IsNextFeed, IsPastLastFeed, IsRun, first_set};
 
 use std::simd::prelude::*;
 
-const LANES: usize = 32;
+const LANES: usize = 64;
 
 /// The place of the first line feed, or the length where there is none.
 #[inline(always)]
@@ -60,18 +60,18 @@ fn past_last_feed_by_one(bytes: &[u8], from: usize, end: usize) -> usize
     past
 }
 
-// How many of the thirty-two bytes from a place on stand before the first line feed.
+// How many of the sixty-four bytes from a place on stand before the first line feed.
 #[inline(always)]
 fn feedless_run(bytes: &[u8], at: usize) -> usize
     requires { at + LANES ≤ length bytes.now }
     ensures { IsRun bytes.now at result }
 {
-    let lanes = u8x32::from_slice(&bytes[at..]);
-    let feeds = lanes.simd_eq(u8x32::splat(b'\n'));
+    let lanes = u8x64::from_slice(&bytes[at..]);
+    let feeds = lanes.simd_eq(u8x64::splat(b'\n'));
     first_set(feeds.to_bitmask())
 }
 
-// The place of the lowest bit that is set, or 32.
+// The place of the lowest bit that is set, or 64.
 #[inline(always)]
 fn first_set(mask: u64) -> usize
     ensures { result ≡ first_set mask }

@@ -6,6 +6,6 @@ use Rattle.syslog_lines.proofs.search.feedless_run.Goals as goal
 
 pub returns : goal.returns
 returns c =
-    let v = chunk c.args.at 32 c.args.bytes.now in
-    let long = length-chunk c.args.at 32 c.args.bytes.now c.requires in
-    run_from_mask c.args.bytes.now c.args.at _ _ c.requires c.first_set.ensures (zip2_splat {Y = ℕ} _ v 32 10 long)
+    let v = chunk c.args.at 64 c.args.bytes.now in
+    let long = length-chunk c.args.at 64 c.args.bytes.now c.requires in
+    run_from_mask c.args.bytes.now c.args.at _ _ c.requires c.first_set.ensures (zip2_splat {Y = ℕ} _ v 64 10 long)
