@@ -14,5 +14,6 @@ pub mod ReadingLemmas
 pub mod Rfc3164Lemmas
 pub mod Rfc5424Lemmas
 pub mod SettlingLemmas
+pub mod StartLemmas
 pub mod TagFormLemmas
 pub mod TrimLemmas

@@ -12,7 +12,7 @@ use Rattle.syslog_pieces.specs.Timestamp.Zone.{Dating, dating_of}
 use Rattle.syslog_pieces.specs.declared.timestamp.month_date.MonthDate.{MonthDate}
 use Rattle.syslog_loose.specs.Message.{MessageValue, message_value}
 use Rattle.syslog_loose.specs.Reading.{dash_rule, IsRead, IsOnlyRead, IsUnreadable, IsQuoted, IsFault}
-use Rattle.syslog_loose.specs.Reading.{Answers, AnswersDateless, AnswersOrWhole, IncompleteDate}
+use Rattle.syslog_loose.specs.Reading.{Answers, AnswersOrWhole, IncompleteDate}
 use Rattle.syslog_loose.specs.Reading.{incomplete, AsksYear, IsLeftTo3164, IsYearAnswered, InYear}
 use Rattle.syslog_loose.specs.Rfc5424.{IsRead5424, IsNot5424, NeedsNoMemory5424}
 use Rattle.syslog_loose.specs.declared.message.Message.{Message}
@@ -20,17 +20,15 @@ use Rattle.syslog_loose.specs.declared.fault.ParseFault.{ParseFault}
 use Rattle.syslog_loose.specs.declared.fault.ParseFault.TheVariants.{Invalid, Memory}
 use Rattle.syslog_loose.specs.declared.variant.Variant.{Variant}
 use Rattle.syslog_loose.specs.declared.variant.Variant.TheVariants.{Either, RFC3164, RFC5424}
-use Rattle.syslog_loose.proofs.Rfc3164Lemmas.Apart.{shown_apart}
 use Rattle.syslog_loose.proofs.Rfc3164Lemmas.Quoting as rfc3164
-use Rattle.syslog_loose.proofs.Rfc3164Lemmas.Shown.{shows_month_date}
 use Rattle.syslog_loose.proofs.Rfc3164Lemmas.Unique as rfc3164_unique
 use Rattle.syslog_loose.proofs.Rfc3164Lemmas.Years.{other_read}
 use Rattle.syslog_loose.proofs.Rfc5424Lemmas as strict
 
-abbrev Found : Type 0
+abbrev pub Found : Type 0
 Found = Message (Bor (List ℕ))
 
-abbrev value : Found → MessageValue
+abbrev pub value : Found → MessageValue
 value m = message_value (λ s. shown s) m
 
 -- ---- one reading
@@ -72,24 +70,6 @@ either_rfc3164 dating text (Err Memory) none h = λ needless. h (λ m s. needles
 -- memory was refused to RFC 5424
 pub either_refused : (dating : Dating) (text : Text) → (NeedsNoMemory5424 text → ⊥) → IsFault Either dating text Memory
 either_refused dating text wanted needless = wanted (λ m r. needless m (inl r))
-
--- a division of RFC 5424 leaves no date to ask a year of
-dateless_divided : (text : Text) (m : MessageValue) → IsRead5424 text m → (date : MonthDate) → AsksYear Either text date
-    → ⊥
-dateless_divided text m r date asks = shown_apart text date (shows_month_date text date asks) r.values r.division
-
--- what RFC 5424 answers where RFC 3164 would be next
-pub dateless_found : (text : Text) (found : Option Found)
-    → MatchOption found (IsNot5424 text) (λ m. IsRead5424 text (value m))
-    → MatchOption found (IsLeftTo3164 Either text) (λ m. AnswersDateless Either text (Ok m))
-dateless_found text None h = h
-dateless_found text (Some m) h = (dateless_divided text (value m) h, λ dating. either_read dating text (value m) h)
-
-pub dateless_refused : (text : Text) → (NeedsNoMemory5424 text → ⊥) → AnswersDateless Either text (Err Memory)
-dateless_refused text wanted = (
-  (λ date asks. wanted (λ m r. absurd (dateless_divided text m r date asks))),
-  (λ dating. either_refused dating text wanted),
-)
 
 -- what RFC 3164 answers where it is left to try
 pub left_answer : (variant : Variant) (dating : Dating) (text : Text) (r : Result Found ParseFault)
@@ -167,13 +147,6 @@ pub answers_in : (post : IncompleteDate → ℤ → Type 0) (variant : Variant) 
 answers_in post variant text tz local r year is h =
     in_answered_year post variant text (λ y. Answers variant (dating_of y tz local) text r) year is
     (λ never other a. any_answer variant text tz local None other r never a) h
-
--- an answer that no date counts for, in whatever year
-pub dateless_in : (post : IncompleteDate → ℤ → Type 0) (variant : Variant) (text : Text) (tz : Option (Bor TimeZone))
-    (local : Bor TimeZone) (r : Result Found ParseFault)
-    → AnswersDateless variant text r → InYear post variant text (λ y. Answers variant (dating_of y tz local) text r)
-dateless_in post variant text tz local r (never, h) =
-    record { answered = None; is_answered = never; holds = λ year agrees. h (dating_of year tz local) }
 
 -- the answer to the date that the text asks a year of
 pub answered_to : (post : IncompleteDate → ℤ → Type 0) (variant : Variant) (text : Text) (asked : Option IncompleteDate)

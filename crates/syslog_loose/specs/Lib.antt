@@ -15,6 +15,7 @@ pub mod Reading
 pub mod Rfc3164
 pub mod Rfc5424
 pub mod Settling
+pub mod Start
 pub mod TagForm
 pub mod View3164
 pub mod View5424

@@ -115,11 +115,6 @@ abbrev pub Answers : Variant → Dating → Text → Result (Message (Bor (List 
 Answers variant dating text result = MatchResult result
     (λ m. IsOnlyRead variant dating text (message_value (λ s. shown s) m)) (λ fault. IsFault variant dating text fault)
 
--- this answer, whatever the year and the zones: the text shows no date that a year would be asked for
-abbrev pub AnswersDateless : Variant → Text → Result (Message (Bor (List ℕ))) ParseFault → Type 0
-AnswersDateless variant text result = ((date : MonthDate) → AsksYear variant text date → ⊥)
-    × ((dating : Dating) → Answers variant dating text result)
-
 -- the text is read as RFC 3164 says, if at all
 abbrev pub IsLeftTo3164 : Variant → Text → Type 0
 IsLeftTo3164 RFC5424 text = ⊥

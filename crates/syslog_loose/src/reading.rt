@@ -1,42 +1,44 @@
 //! The calls that read a text.
 //!
-//! Each call trims its text once, and the steps behind it are given what is left. A date without a year is looked for
-//! before RFC 3164 is tried, and the closure asked for its year. The calls with `exact` in their names refuse a text
-//! that has no reading; the others answer the fallback.
-ghost use Rattle.std.specs.Prelude.{◌≡◌, ◌↔◌, Err, IfOk, IfSome, MatchOption};
-ghost use Rattle.std.specs.Prelude.{MatchResult, None, Ok, OnOk, string_bytes};
-ghost use Rattle.std.specs.Str.{chars, encode_utf8_all, IsUtf8};
+//! Each call trims its text once, and reads its priority and its month date once: behind a month date RFC 5424 is not
+//! tried, and where the date has no year the closure is asked. The calls with `exact` in their names refuse a text that
+//! has no reading; the others answer the fallback.
+ghost use Rattle.std.specs.Prelude.{◌≡◌, Err, IfOk, IfSome, IsSome, MatchOption};
+ghost use Rattle.std.specs.Prelude.{None, Ok};
+ghost use Rattle.std.specs.Str.{chars};
 ghost use Rattle.jiff.specs.Words.{plain_zone};
 ghost use Rattle.syslog_pieces.specs.Pieces.View.{shown};
+ghost use Rattle.syslog_pieces.specs.Timestamp.{header_stamp};
+ghost use Rattle.syslog_pieces.specs.Timestamp.MonthDate.{month_date};
 ghost use Rattle.syslog_pieces.specs.Timestamp.Rfc3164.{ShowsYearless};
 ghost use Rattle.syslog_pieces.specs.Timestamp.Zone as zone;
 ghost use Rattle.syslog_pieces.specs.Timestamp.Zone.{IsYearAt, dating_of, dating_value};
 ghost use Rattle.syslog_pieces.specs.declared.timestamp.month_date.MonthDate.{MonthDate};
-ghost use Rattle.syslog_loose.specs.Verbatim3164.{ShowsDated};
-ghost use Rattle.syslog_loose.specs.Message.{MessageValue, message_value};
-ghost use Rattle.syslog_loose.specs.Printed.{printed};
-ghost use Rattle.syslog_loose.specs.ReadBack.{AnswersAgain, AnswersItself, FieldsAsRead};
+ghost use Rattle.syslog_loose.specs.Message.{message_value};
+ghost use Rattle.syslog_loose.specs.ReadBack.{AnswersItself, FieldsAsRead};
 ghost use Rattle.syslog_loose.specs.Reading as spec;
-ghost use Rattle.syslog_loose.specs.Reading.{Answers, AnswersDateless, AnswersEachMonth};
-ghost use Rattle.syslog_loose.specs.Reading.{AnswersOrWhole, AsksYear, HasMonth, InYear, IsLeftTo3164};
-ghost use Rattle.syslog_loose.specs.Reading.{IsOnlyRead, IsUnreadable, OfTrimmed, incomplete};
+ghost use Rattle.syslog_loose.specs.Reading.{Answers, AnswersEachMonth};
+ghost use Rattle.syslog_loose.specs.Reading.{AnswersOrWhole, AsksYear, HasMonth, InYear};
+ghost use Rattle.syslog_loose.specs.Reading.{OfTrimmed, incomplete};
+ghost use Rattle.syslog_loose.specs.Start.{BeginsWith, BeginsWithout};
 ghost use Rattle.syslog_loose.specs.declared.fault.ParseFault.TheVariants.{Invalid};
 ghost use Rattle.syslog_loose.specs.declared.variant.Variant.{Variant};
-ghost use Rattle.syslog_loose.specs.declared.variant.Variant.TheVariants as variants;
 
 use crate::beginning::may_be_read;
 use crate::fault::ParseFault;
 use crate::message::{Message, Protocol};
+use crate::rfc3164::Stamped;
 use crate::variant::{IncompleteDate, Variant};
 use crate::{rfc3164, rfc5424};
 use jiff::Timestamp;
 use jiff::tz::TimeZone;
 use std::alloc::{AllocError, Global};
+use syslog_pieces::pri::optional_priority;
 use syslog_pieces::structured_data::rfc3164_list::DASH_RULE;
-use syslog_pieces::text::trimmed;
-use syslog_pieces::timestamp::month_date::shown_date;
-use syslog_pieces::timestamp::year_at;
-use syslog_pieces::timestamp::zone::Dating;
+use syslog_pieces::text::{blanks, trimmed};
+use syslog_pieces::timestamp::month_date::{MonthDate, month_date, shown_date};
+use syslog_pieces::timestamp::zone::{Dating, month_stamp};
+use syslog_pieces::timestamp::{OffsetTimestamp, header_stamp, year_at};
 
 /// The message of the text, read by the variant, with the year of `now` in the local zone for a date that has none.
 ///
@@ -53,17 +55,10 @@ pub fn parse_message<'a>(
         (chars input.entry.now)
         (λ year. AnswersOrWhole variant (dating_of year None local.entry) (chars input.entry.now) result) }
 {
-    let text = trimmed(input);
-    let year = match asked_date(text, variant) {
-        Some(_) => Some(year_at(now, local)),
-        None => None,
-    };
-    let dating = Dating {
-        year,
-        tz: None,
-        local,
-    };
-    or_fallback(alloc, input, read(alloc, text, &dating, variant))
+    let current_year = |_: IncompleteDate| -> i32
+        ensures { IsYearAt (plain_zone local.entry.now) now.nanosecond result }
+    { year_at(now, local) };
+    parse_message_with_year_tz(alloc, input, current_year, None, variant, local)
 }
 
 /// The message of the text, read by the variant, or the fallback. `get_year` gives the year of a date that has none,
@@ -180,16 +175,77 @@ pub fn parse_message_with_year_exact_tz<'a, F: FnOnce(IncompleteDate) -> i32>(
         (message_value (λ s. shown s) m))) }
 {
     let text = trimmed(input);
-    let found = match read_dateless(alloc, text, variant) {
-        Ok(found) => found,
-        Err(fault) => return Err(fault),
-    };
-    match found {
-        Some(message) => return Ok(message),
-        None => {}
+    if !may_be_read(text) {
+        return Err(ParseFault::Invalid);
     }
-    let year = asked_date(text, variant).map(get_year);
-    read_rfc3164(alloc, text, &Dating { year, tz, local })
+    let (priority, rest) = optional_priority(text);
+    let (timestamp, behind) = match front_date(rest, variant) {
+        Some((date, behind)) => {
+            let year = asked_numbers(date).map(get_year);
+            let Some(stamp) = month_stamp(date, &Dating { year, tz, local }) else {
+                return Err(ParseFault::Invalid);
+            };
+            (Some(stamp), behind)
+        }
+        None => {
+            if variant.reads_rfc5424() {
+                match rfc5424::read_behind(alloc, priority, rest) {
+                    Ok(Some(message)) => return Ok(message),
+                    Ok(None) => {}
+                    Err(_) => return Err(ParseFault::Memory),
+                }
+            }
+            let Some(found) = front_stamp(rest, variant) else {
+                return Err(ParseFault::Invalid);
+            };
+            found
+        }
+    };
+    let stamped = Stamped {
+        priority,
+        timestamp,
+    };
+    match rfc3164::read_behind(alloc, stamped, behind, DASH_RULE) {
+        Ok(message) => Ok(message),
+        Err(_) => Err(ParseFault::Memory),
+    }
+}
+
+// The month date behind a priority, where the variant reads such dates, and the text behind it.
+#[inline(always)]
+fn front_date(text: &str, variant: Variant) -> Option<(MonthDate, &str)>
+    ensures { MatchOption result (BeginsWithout month_date variant (chars text.now))
+        (λ x. BeginsWith month_date variant (chars text.now) x.0 (shown x.1)) }
+{
+    if variant.reads_rfc3164() {
+        month_date(blanks(text))
+    } else {
+        None
+    }
+}
+
+// A timestamp that is no month date, in the same way.
+#[inline(always)]
+fn front_stamp(text: &str, variant: Variant) -> Option<(Option<OffsetTimestamp>, &str)>
+    ensures { MatchOption result (BeginsWithout header_stamp variant (chars text.now))
+        (λ x. BeginsWith header_stamp variant (chars text.now) x.0 (shown x.1)) }
+{
+    if variant.reads_rfc3164() {
+        header_stamp(blanks(text))
+    } else {
+        None
+    }
+}
+
+// The numbers of a date whose year is asked for.
+#[inline(always)]
+fn asked_numbers(date: MonthDate) -> Option<IncompleteDate>
+    ensures { MatchOption result (IsSome date.year) (λ d. (date.year ≡ None) × (d ≡ incomplete date)) }
+{
+    match date.year {
+        Some(_) => None,
+        None => Some((date.month, date.day, date.hour, date.minute, date.second)),
+    }
 }
 
 // The date without a year that the trimmed text shows, where the variant reads it.
@@ -221,7 +277,7 @@ fn incomplete_date(input: &str) -> Option<IncompleteDate>
     }
 }
 
-// The message of the trimmed text, read by the variant in a year.
+/// The message of the trimmed text, read by the variant in a year.
 pub(crate) fn read<'a>(
     alloc: Global,
     input: &'a str,
@@ -231,71 +287,22 @@ pub(crate) fn read<'a>(
     ensures { OfTrimmed (chars input.entry.now)
         (λ whole. Answers variant (dating_value dating.entry.now) whole result) }
 {
-    match read_dateless(alloc, input, variant) {
-        Ok(found) => match found {
-            Some(message) => Ok(message),
-            None => read_rfc3164(alloc, input, dating),
-        },
-        Err(fault) => Err(fault),
-    }
-}
-
-// The answer that no date counts for: where the first byte begins no reading, and where the variant reads RFC 5424.
-// None where RFC 3164 is left to try.
-#[inline(always)]
-fn read_dateless(
-    alloc: Global,
-    input: &str,
-    variant: Variant,
-) -> Result<Option<Message<&str>>, ParseFault>
-    ensures { OfTrimmed (chars input.now) (λ whole. MatchResult result
-        (λ found. MatchOption found (IsLeftTo3164 variant whole) (λ m. AnswersDateless variant whole (Ok m)))
-        (λ fault. AnswersDateless variant whole (Err fault))) }
-{
     if !may_be_read(input) {
         return Err(ParseFault::Invalid);
     }
-    match variant {
-        Variant::RFC5424 => match read_rfc5424(alloc, input) {
-            Ok(message) => Ok(Some(message)),
-            Err(fault) => Err(fault),
-        },
-        Variant::RFC3164 => Ok(None),
-        Variant::Either => match rfc5424::read(alloc, input) {
-            Ok(found) => Ok(found),
-            Err(_) => Err(ParseFault::Memory),
-        },
+    if variant.reads_rfc5424() {
+        match rfc5424::read(alloc, input) {
+            Ok(Some(message)) => return Ok(message),
+            Ok(None) => {}
+            Err(_) => return Err(ParseFault::Memory),
+        }
     }
-}
-
-#[inline(always)]
-fn read_rfc5424(alloc: Global, input: &str) -> Result<Message<&str>, ParseFault>
-    ensures { OfTrimmed (chars input.now)
-        (λ whole. (dating : zone.Dating) → Answers variants.RFC5424 dating whole result) }
-{
-    match rfc5424::read(alloc, input) {
-        Ok(found) => match found {
-            Some(message) => Ok(message),
-            None => Err(ParseFault::Invalid),
-        },
-        Err(_) => Err(ParseFault::Memory),
+    if !variant.reads_rfc3164() {
+        return Err(ParseFault::Invalid);
     }
-}
-
-#[inline(always)]
-fn read_rfc3164<'a>(
-    alloc: Global,
-    input: &'a str,
-    dating: &Dating<'_, '_>,
-) -> Result<Message<&'a str>, ParseFault>
-    ensures { OfTrimmed (chars input.entry.now) (λ whole.
-        Answers variants.RFC3164 (dating_value dating.entry.now) whole result) }
-{
     match rfc3164::read(alloc, input, DASH_RULE, dating) {
-        Ok(found) => match found {
-            Some(message) => Ok(message),
-            None => Err(ParseFault::Invalid),
-        },
+        Ok(Some(message)) => Ok(message),
+        Ok(None) => Err(ParseFault::Invalid),
         Err(_) => Err(ParseFault::Memory),
     }
 }

@@ -6,14 +6,14 @@
 //! together.
 ghost use Rattle.std.specs.Prelude.{◌≡◌, IfOk, IsOk, MatchOption, None};
 ghost use Rattle.std.specs.Str.{chars};
-ghost use Rattle.syslog_pieces.specs.Pieces.Class.{Row};
+ghost use Rattle.syslog_pieces.specs.Pieces.Class.{Row, Text};
 ghost use Rattle.syslog_pieces.specs.Pieces.View.{seen, shown, field_seen, Reads};
-ghost use Rattle.syslog_pieces.specs.Timestamp.Zone.{dating_value};
+ghost use Rattle.syslog_pieces.specs.Text.{trimmed};
+ghost use Rattle.syslog_pieces.specs.Timestamp.Zone.{Dating as AnyDating, dating_value};
 ghost use Rattle.syslog_loose.specs.Message.{message_value};
 ghost use Rattle.syslog_loose.specs.Reading.{OfTrimmed};
 ghost use Rattle.syslog_loose.specs.Rfc3164 as spec;
-ghost use Rattle.syslog_loose.specs.TagForm.{IsForm, IsNoForm};
-ghost use Rattle.syslog_loose.specs.View3164.{names_value, stamped_values};
+ghost use Rattle.syslog_loose.specs.View3164.{IsBehindStamp, names_value, stamped_values};
 
 use crate::message::{Message, Protocol};
 use crate::tag_form::tag_form;
@@ -155,11 +155,28 @@ pub(crate) fn read<'a>(
     let Some((stamped, rest)) = read_stamped(text, dating) else {
         return Ok(None);
     };
-    let (names, rest) = read_names(rest);
+    let message = read_behind(alloc, stamped, rest, rule)?;
+    Ok(Some(message))
+}
+
+/// The message of a text, from what stands behind its timestamp on: there nothing can fail but memory.
+#[inline(always)]
+pub(crate) fn read_behind(
+    alloc: Global,
+    stamped: Stamped,
+    text: &str,
+    rule: DashRule,
+) -> Result<Message<&str>, AllocError>
+    ensures read { (dating : AnyDating) (whole : Text) → IsBehindStamp dating (trimmed whole) stamped (chars text.now)
+        → IfOk result (λ m. spec.IsRead3164 rule dating whole (message_value (λ s. shown s) m)) }
+    ensures memory { (dating : AnyDating) (whole : Text) → IsBehindStamp dating (trimmed whole) stamped (chars text.now)
+        → spec.NeedsNoMemory3164 rule dating whole → IsOk result }
+{
+    let (names, rest) = read_names(text);
     let (elements, rest) = optional_list(alloc, rest, rule)?;
     let msg = blanks(rest);
     let (facility, severity) = parts(stamped.priority);
-    Ok(Some(Message {
+    Ok(Message {
         protocol: Protocol::RFC3164,
         facility,
         severity,
@@ -170,5 +187,5 @@ pub(crate) fn read<'a>(
         msgid: None,
         structured_data: elements.unwrap_or(Vec::new(alloc)),
         msg,
-    }))
+    })
 }

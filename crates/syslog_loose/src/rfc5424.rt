@@ -3,14 +3,14 @@
 //! `read` answers the message of the one division of a trimmed text, or that there is none. What it reads it takes from
 //! the readers of `syslog_pieces`, piece by piece from the left; a header that fails takes no memory.
 ghost use Rattle.std.specs.Prelude.{◌≡◌, IfOk, IsOk, MatchOption, Some, None};
-ghost use Rattle.std.specs.Option.{option_map, option_and_then};
 ghost use Rattle.std.specs.Str.{chars};
-ghost use Rattle.syslog_pieces.specs.Pieces.Class.{Row};
-ghost use Rattle.syslog_pieces.specs.Pri.{facility_of, severity_of};
+ghost use Rattle.syslog_pieces.specs.Pieces.Class.{Row, Text};
 ghost use Rattle.syslog_pieces.specs.Pieces.View.{shown, Reads};
+ghost use Rattle.syslog_pieces.specs.Text.{trimmed};
 ghost use Rattle.syslog_loose.specs.Message.{message_value};
 ghost use Rattle.syslog_loose.specs.Reading.{OfTrimmed};
 ghost use Rattle.syslog_loose.specs.Rfc5424 as spec;
+ghost use Rattle.syslog_loose.specs.Start.{IsBehindPriority};
 ghost use Rattle.syslog_loose.specs.View5424.{header_values};
 
 use crate::message::{Message, Protocol};
@@ -33,13 +33,13 @@ pub(crate) struct Header<'a> {
     pub(crate) msgid: Option<&'a str>,
 }
 
-// The fields at the front of the text, and the text behind them.
+// The fields at the front of a text, from what stands behind its priority on, and the text behind them.
 #[inline(always)]
-fn read_header(text: &str) -> Option<(Header<'_>, &str)>
-    ensures { Reads (Row spec.header_row) header_values (chars text.now) result }
+fn read_header(priority: Option<u8>, text: &str) -> Option<(Header<'_>, &str)>
+    ensures { (whole : Text) → IsBehindPriority whole priority (chars text.now)
+        → Reads (Row spec.header_row) header_values whole result }
 {
-    let (priority, rest) = optional_priority(text);
-    let (version, rest) = number(rest, u32::MAX)?;
+    let (version, rest) = number(text, u32::MAX)?;
     let Some((timestamp, rest)) = header_stamp(some_blanks(rest)?) else {
         return None;
     };
@@ -69,7 +69,24 @@ pub(crate) fn read(alloc: Global, text: &str) -> Result<Option<Message<&str>>, A
         (λ m. spec.IsRead5424 whole (message_value (λ s. shown s) m)))) }
     ensures memory { OfTrimmed (chars text.now) (λ whole. spec.NeedsNoMemory5424 whole → IsOk result) }
 {
-    let Some((header, rest)) = read_header(text) else {
+    let (priority, rest) = optional_priority(text);
+    read_behind(alloc, priority, rest)
+}
+
+/// The same, from what stands behind the priority on.
+#[inline(always)]
+pub(crate) fn read_behind(
+    alloc: Global,
+    priority: Option<u8>,
+    text: &str,
+) -> Result<Option<Message<&str>>, AllocError>
+    ensures read { (whole : Text) → IsBehindPriority (trimmed whole) priority (chars text.now)
+        → IfOk result (λ found. MatchOption found (spec.IsNot5424 whole)
+        (λ m. spec.IsRead5424 whole (message_value (λ s. shown s) m))) }
+    ensures memory { (whole : Text) → IsBehindPriority (trimmed whole) priority (chars text.now)
+        → spec.NeedsNoMemory5424 whole → IsOk result }
+{
+    let Some((header, rest)) = read_header(priority, text) else {
         return Ok(None);
     };
     let Some((elements, rest)) = forgiving_list(alloc, blanks(rest))? else {

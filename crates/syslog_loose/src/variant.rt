@@ -1,4 +1,8 @@
 //! What a caller says of how a text is to be read: by which protocol, and what a date without a year looks like to it.
+ghost use Rattle.std.specs.Prelude.{◌≡◌, ◌≢◌, MatchBool};
+ghost use Rattle.syslog_loose.specs.ReadBack.{ReadsProtocol};
+ghost use Rattle.syslog_loose.specs.declared.message.Protocol.TheVariants as protocol;
+ghost use Rattle.syslog_loose.specs.declared.variant.Variant.TheVariants as variants;
 
 /// By which protocol a text is read.
 #[derive(Clone, Copy, Debug)]
@@ -9,6 +13,32 @@ pub enum Variant {
     RFC3164,
     /// RFC 5424.
     RFC5424,
+}
+
+impl Variant {
+    /// Whether it reads texts by RFC 5424.
+    #[inline(always)]
+    pub(crate) fn reads_rfc5424(self) -> bool
+        ensures { MatchBool result (self ≢ variants.RFC3164) (self ≡ variants.RFC3164) }
+    {
+        match self {
+            Variant::Either => true,
+            Variant::RFC3164 => false,
+            Variant::RFC5424 => true,
+        }
+    }
+
+    /// Whether it reads texts by RFC 3164.
+    #[inline(always)]
+    pub(crate) fn reads_rfc3164(self) -> bool
+        ensures { MatchBool result (ReadsProtocol self protocol.RFC3164) (ReadsProtocol self protocol.RFC3164 → ⊥) }
+    {
+        match self {
+            Variant::Either => true,
+            Variant::RFC3164 => true,
+            Variant::RFC5424 => false,
+        }
+    }
 }
 
 /// The month, day, hour, minute and second of a date without a year.

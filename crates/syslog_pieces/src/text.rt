@@ -3,11 +3,11 @@
 //! One scanner cuts the maximal run of a class of characters from the front of a text; every reader of a word stands on
 //! it. A reader answers what its class in `specs/Text.antt` means and the text behind it, or nothing where no front of
 //! the text is of the class. Nothing here takes memory, and no text is copied.
-ghost use Rattle.std.specs.Prelude.{◌≡◌, ◌<◌, ◌++◌, [], ◌∷◌, IfSome, IsTrue, Option, MatchOption};
+ghost use Rattle.std.specs.Prelude.{◌≡◌, ◌<◌, [], ◌∷◌, IfSome, IsTrue, Option, MatchOption};
 ghost use Rattle.std.specs.Str.{bytes_eq, chars, IsUtf8};
 ghost use Rattle.syslog_pieces.specs.Text.CharClass.{has};
 ghost use Rattle.syslog_pieces.specs.declared.text.CharClass.TheVariants.{Blank};
-ghost use Rattle.syslog_pieces.specs.Pieces.Class.{Front, NoFront, exactly, optional, run, some_run};
+ghost use Rattle.syslog_pieces.specs.Pieces.Class.{Front, exactly, optional, run, some_run};
 ghost use Rattle.syslog_pieces.specs.Bodies.Scan.{EndsRun, IsBare, SplitsRun, past_in};
 ghost use Rattle.syslog_pieces.specs.Text as spec;
 ghost use Rattle.syslog_pieces.specs.Pieces.View.{seen, shown, Reads, Skips};
@@ -24,6 +24,7 @@ pub mod verbatim;
 pub mod write_ascii;
 
 pub use fields::{host_field, tag_field};
+pub(crate) use looks::begins_with_letter;
 use looks::{
     begins_visibly, begins_with, begins_with_digit, begins_with_gap, ends_in_colon, first_digit,
 };

@@ -15,9 +15,7 @@ ghost use Rattle.syslog_pieces.specs.Timestamp.Zone.{Dating as AnyDating, dating
 ghost use Rattle.syslog_loose.specs.Verbatim3164.{VerbatimBehind, VerbatimNames, VerbatimOrigin, VerbatimProgram};
 ghost use Rattle.syslog_loose.specs.Verbatim3164.{PrintsAs3164, PrintsVerbatim3164, PrintsStamped, ShowsDated};
 ghost use Rattle.syslog_loose.specs.Printed.{timestamp_text};
-ghost use Rattle.syslog_loose.specs.ReadBack.{ReadsProtocol};
 ghost use Rattle.syslog_loose.specs.Reading.{HasMonth, IsUnreadable, OfTrimmed, incomplete};
-ghost use Rattle.syslog_loose.specs.declared.message.Protocol.TheVariants.{RFC3164};
 ghost use Rattle.syslog_loose.specs.declared.variant.Variant.{Variant};
 
 #[cfg(test)]
@@ -189,17 +187,6 @@ impl fmt::Display for StampedLine<'_> {
     }
 }
 
-// Whether the variant reads texts by RFC 3164.
-fn reads_rfc3164(variant: Variant) -> bool
-    ensures { IsTrue result → ReadsProtocol variant RFC3164 }
-{
-    match variant {
-        Variant::RFC5424 => false,
-        Variant::RFC3164 => true,
-        Variant::Either => true,
-    }
-}
-
 /// A line cut round its month date without a year: the priority, and all from behind the date on.
 #[derive(Clone, Copy)]
 pub(crate) struct DatedLine<'a> {
@@ -228,7 +215,7 @@ pub(crate) fn dated_line(input: &str, variant: Variant) -> Option<DatedLine<'_>>
     ensures month { IfSome result (λ line. HasMonth (incomplete line.date)) }
     ensures utf8 { IfSome result (λ line. IsUtf8 line.front.now × IsUtf8 line.tail.now) }
 {
-    if !reads_rfc3164(variant) {
+    if !variant.reads_rfc3164() {
         return None;
     }
     let behind = verbatim_priority(input)?;
@@ -294,7 +281,7 @@ pub(crate) fn rfc3164_text(
     ensures memory { OfTrimmed (chars input.entry.now) (λ whole.
         IsUnreadable variant (dating_value dating.entry.now) whole → IsOk result) }
 {
-    if !reads_rfc3164(variant) {
+    if !variant.reads_rfc3164() {
         return Ok(false);
     }
     if let Some(line) = stamped_line(input) {

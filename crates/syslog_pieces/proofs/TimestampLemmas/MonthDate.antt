@@ -1,9 +1,11 @@
 -- A text has one month date at its front, and shows one.
-use Rattle.std.proofs.Common.{◌≡◌, ◌⊎◌, inl, inr, ℕ, ◌≤◌, Bool, true, false, nat_eq, ◌||◌}
+use Rattle.std.proofs.Common.{◌≡◌, ◌⊎◌, inl, inr, ℕ, ◌≤◌, ◌<◌, length, get_or, Bool, true, false, nat_eq, ◌||◌}
 use Rattle.std.proofs.Common.{List, [], ◌∷◌, ◌++◌, refl, sym, ap, subst, ◌∙◌, arith}
 use Rattle.std.proofs.lemmas.Bool.{eqb-true}
+use Rattle.std.proofs.lemmas.Str.{chars-nil}
 use Rattle.std.specs.Char.{is_ascii_digit}
-use Rattle.syslog_pieces.specs.Pieces.Class.{Text, Class, Values, Front, Row}
+use Rattle.std.specs.Str.{chars}
+use Rattle.syslog_pieces.specs.Pieces.Class.{Text, Class, Values, Front, NoFront, Row}
 use Rattle.syslog_pieces.specs.Pieces.Class.{IsDeterministic, some_run, exactly, optional}
 use Rattle.syslog_pieces.specs.Text.{number, is_blank, colon}
 use Rattle.syslog_pieces.specs.Timestamp.MonthDate.{month, short_number, clock_row, yearless_row, yearless_of}
@@ -16,6 +18,7 @@ use Rattle.syslog_pieces.proofs.PieceLemmas.Class.{row_det, row_head, front_same
 use Rattle.syslog_pieces.proofs.PieceLemmas.Kinds.{Apart, Begins, begins_apart, begins_more}
 use Rattle.syslog_pieces.proofs.PieceLemmas.Kinds.{begins_with, each_begins, either_det}
 use Rattle.syslog_pieces.proofs.PriLemmas.{priority_det}
+use Rattle.syslog_pieces.proofs.TextLemmas.Chars.{ascii_front, one_ascii}
 use Rattle.syslog_pieces.proofs.TextLemmas.Words.{number_det}
 use Rattle.syslog_pieces.proofs.TimestampLemmas.Months.{IsLetter, month_det, month_begins}
 use Rattle.syslog_pieces.specs.Pri.{priority}
@@ -156,6 +159,16 @@ dated_begins p q v (vs, h, i) =
 pub month_date_begins : (p q : Text) (v : MonthDate) → month_date.Is p q v → Begins IsLetter (p ++ q)
 month_date_begins p q v (inl h) = yearless_begins p q v h
 month_date_begins p q v (inr h) = dated_begins p q v h
+
+-- so none stands where a byte before the letters does
+pub no_letter_no_date : (bs : List ℕ) → (0 < length bs → get_or bs 0 0 < 65) → NoFront month_date (chars bs)
+no_letter_no_date [] low p q d e h =
+    subst (λ (x : Text). Begins IsLetter x) (sym e ∙ chars-nil) (month_date_begins p q d h)
+no_letter_no_date (b ∷ bs) low p q d e h =
+    let l : b < 65 = low (omega arith) in
+    let whole = ascii_front (b ∷ []) bs (b ∷ bs) (one_ascii b (omega arith)) refl in
+    let k : 65 ≤ b = subst (λ (x : Text). Begins IsLetter x) (sym e ∙ whole) (month_date_begins p q d h) in
+    absurd (omega arith)
 
 -- ---- a text shows one date without a year
 pub shown_once : (text : Text) (d d' : MonthDate) → ShowsYearless text d → ShowsYearless text d' → d ≡ d'

@@ -13,7 +13,7 @@ ghost use Rattle.syslog_pieces.specs.declared.timestamp.month_date.MonthDate.{Mo
 pub mod standard;
 
 use crate::pri::optional_priority;
-use crate::text::{blanks, first, literal, number, past_colon, some_blanks};
+use crate::text::{begins_with_letter, blanks, first, literal, number, past_colon, some_blanks};
 use standard::standard_date;
 
 /// The numbers of a month date, of which there may be no such date.
@@ -46,10 +46,15 @@ pub(super) struct Clock {
     pub(super) second: u32,
 }
 
-/// The month date at the front, with a year or without one, and the text behind it.
+/// The month date at the front, with a year or without one, and the text behind it. A text that begins with no letter
+/// has none, by one look.
+#[inline(always)]
 pub fn month_date(text: &str) -> Option<(MonthDate, &str)>
     ensures { Reads spec.month_date (λ d. d) (chars text.now) result }
 {
+    if !begins_with_letter(text.as_bytes()) {
+        return None;
+    }
     match standard_date(text) {
         Some(found) => Some(found),
         None => any_date(text),
@@ -57,6 +62,7 @@ pub fn month_date(text: &str) -> Option<(MonthDate, &str)>
 }
 
 // The same, piece by piece.
+#[inline(never)]
 fn any_date(text: &str) -> Option<(MonthDate, &str)>
     ensures { Reads spec.month_date (λ d. d) (chars text.now) result }
 {

@@ -1,58 +1,17 @@
-use Rattle.std.proofs.Common.{◌≡◌, [], ◌∷◌, List, true, false, map}
-use Rattle.std.specs.Option.{option_map}
-use Rattle.syslog_pieces.specs.Pieces.Class.{Class, run, rest}
-use Rattle.syslog_pieces.specs.StructuredData.Element.{element_value}
-use Rattle.syslog_pieces.specs.ProcId.{procid_value}
-use Rattle.syslog_pieces.specs.StructuredData.{forgiving}
-use Rattle.syslog_pieces.specs.Text.{is_blank}
-use Rattle.syslog_pieces.specs.Pieces.View.{seen, shown}
-use Rattle.syslog_pieces.proofs.PieceLemmas.Class.{row_nil, row_cons, row_none_here, row_none_later, rows_join}
-use Rattle.syslog_pieces.proofs.PieceLemmas.Class.{rows_none_here, rows_none_later, rest_front, run_det}
-use Rattle.syslog_loose.specs.Rfc5424.{header_row, data_row}
-use Rattle.syslog_loose.specs.declared.message.Protocol.TheVariants.{RFC5424}
-use Rattle.syslog_loose.proofs.Rfc5424Lemmas.{header_det, not_read, is_read, list_needs_none}
+use Rattle.std.proofs.Common.{subst}
+use Rattle.syslog_pieces.specs.Pieces.Class.{Text}
+use Rattle.syslog_pieces.specs.Pieces.View.{shown}
+use Rattle.syslog_loose.specs.Start.{IsBehindPriority}
 use Rattle.syslog_loose.proofs.rfc5424.read.Goals as goal
-
-abbrev from_elements : List Class
-from_elements = forgiving ∷ run is_blank ∷ rest ∷ []
-
-pub returns-in_default-clause-read : goal.returns-in_default-clause-read
-returns-in_default-clause-read c whole e = not_read whole _ e (rows_none_here header_row data_row c.in_default.ensures)
-
-pub returns-in_err-elements-clause-memory : goal.returns-in_err-elements-clause-memory
-returns-in_err-elements-clause-memory c whole e = λ none.
-    let needless = list_needs_none whole _ _ _ _ e none c.in-Some.ensures c.blanks.ensures in
-    let refused : false ≡ true = c.in_err-elements.ensures.memory needless in
-    absurd (cc)
-
-pub returns-in_default-2-clause-read : goal.returns-in_default-2-clause-read
-returns-in_default-2-clause-read c whole e =
-    let no_list = rw c.in_default-2.is at c.in_ok-elements.ensures.list in
-    not_read whole _ e
-    (rows_none_later header_row data_row header_det c.in-Some.ensures
-    (row_none_later (run is_blank) from_elements (run_det is_blank) c.blanks.ensures
-    (row_none_here forgiving (run is_blank ∷ rest ∷ []) no_list)))
 
 pub returns-clause-read : goal.returns-clause-read
 returns-clause-read c whole e =
-    let h = c.in-Some.header in
-    let parts = c.parts-facility.ensures in
-    let list = rw c.in-Some-2.is at c.in_ok-elements.ensures.list in
-    is_read whole _ _ _ e
-    (λ i. record {
-      protocol = RFC5424 h.version;
-      facility = parts.facility i;
-      severity = parts.severity i;
-      timestamp = h.timestamp;
-      hostname = seen h.hostname;
-      appname = seen h.appname;
-      procid = option_map (procid_value (λ s. shown s)) h.procid;
-      msgid = seen h.msgid;
-      structured_data = map (element_value (λ s. shown s)) c.in-Some-2.elements.items;
-      msg = shown c.blanks-msg.result;
-    })
-    (rows_join header_row data_row c.in-Some.ensures
-    (row_cons (run is_blank) from_elements c.blanks.ensures
-    (row_cons forgiving (run is_blank ∷ rest ∷ []) list
-    (row_cons (run is_blank) (rest ∷ []) c.blanks-msg.ensures
-    (row_cons rest [] (rest_front _) (row_nil []))))))
+    let found = c.optional_priority-priority.result in
+    c.read_behind.ensures.read whole (subst (λ (x : Text). IsBehindPriority x found.0 (shown found.1)) e
+    c.optional_priority-priority.ensures)
+
+pub returns-clause-memory : goal.returns-clause-memory
+returns-clause-memory c whole e =
+    let found = c.optional_priority-priority.result in
+    c.read_behind.ensures.memory whole (subst (λ (x : Text). IsBehindPriority x found.0 (shown found.1)) e
+    c.optional_priority-priority.ensures)

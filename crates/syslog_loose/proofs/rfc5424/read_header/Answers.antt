@@ -1,6 +1,5 @@
 -- Each exit says that the row fails at its piece, behind the pieces that were read; the return joins them.
 use Rattle.std.proofs.Common.{rules, List, [], ◌∷◌}
-use Rattle.std.specs.Str.{chars}
 use Rattle.syslog_pieces.specs.Pieces.Class.{Class, NoFront, Row, optional, some_run}
 use Rattle.syslog_pieces.specs.Pri.{priority}
 use Rattle.syslog_pieces.specs.ProcId.{process_word}
@@ -52,37 +51,37 @@ abbrev from_priority : List Class
 from_priority = optional priority ∷ from_version
 
 pub returns-in_err-version : goal.returns-in_err-version
-returns-in_err-version c =
-    let n : NoFront (Row header_row) (chars c.args.text.now) =
+returns-in_err-version c whole f =
+    let n : NoFront (Row header_row) whole =
     row_none_later (optional priority) from_version
-    (optional_det priority priority_det) c.optional_priority-priority.ensures
+    (optional_det priority priority_det) f
     (row_none_here (number 4294967295) from_blanks1 c.in_err-version.ensures) in
     search rules
 
 pub returns-in_err-some_blanks : goal.returns-in_err-some_blanks
-returns-in_err-some_blanks c =
-    let n : NoFront (Row header_row) (chars c.args.text.now) =
+returns-in_err-some_blanks c whole f =
+    let n : NoFront (Row header_row) whole =
     row_none_later (optional priority) from_version
-    (optional_det priority priority_det) c.optional_priority-priority.ensures
+    (optional_det priority priority_det) f
     (row_none_later (number 4294967295) from_blanks1 (number_det 4294967295) c.in_ok-version.ensures
     (row_none_here (some_run is_blank) from_stamp c.in_err-some_blanks.ensures)) in
     search rules
 
 pub returns-in_default : goal.returns-in_default
-returns-in_default c =
-    let n : NoFront (Row header_row) (chars c.args.text.now) =
+returns-in_default c whole f =
+    let n : NoFront (Row header_row) whole =
     row_none_later (optional priority) from_version
-    (optional_det priority priority_det) c.optional_priority-priority.ensures
+    (optional_det priority priority_det) f
     (row_none_later (number 4294967295) from_blanks1 (number_det 4294967295) c.in_ok-version.ensures
     (row_none_later (some_run is_blank) from_stamp (some_run_det is_blank) c.in_ok-some_blanks.ensures
     (row_none_here header_stamp from_blanks2 c.in_default.ensures))) in
     search rules
 
 pub returns-in_err-some_blanks-2 : goal.returns-in_err-some_blanks-2
-returns-in_err-some_blanks-2 c =
-    let n : NoFront (Row header_row) (chars c.args.text.now) =
+returns-in_err-some_blanks-2 c whole f =
+    let n : NoFront (Row header_row) whole =
     row_none_later (optional priority) from_version
-    (optional_det priority priority_det) c.optional_priority-priority.ensures
+    (optional_det priority priority_det) f
     (row_none_later (number 4294967295) from_blanks1 (number_det 4294967295) c.in_ok-version.ensures
     (row_none_later (some_run is_blank) from_stamp (some_run_det is_blank) c.in_ok-some_blanks.ensures
     (row_none_later header_stamp from_blanks2 header_stamp_det c.in-Some.ensures
@@ -90,10 +89,10 @@ returns-in_err-some_blanks-2 c =
     search rules
 
 pub returns-in_err-hostname : goal.returns-in_err-hostname
-returns-in_err-hostname c =
-    let n : NoFront (Row header_row) (chars c.args.text.now) =
+returns-in_err-hostname c whole f =
+    let n : NoFront (Row header_row) whole =
     row_none_later (optional priority) from_version
-    (optional_det priority priority_det) c.optional_priority-priority.ensures
+    (optional_det priority priority_det) f
     (row_none_later (number 4294967295) from_blanks1 (number_det 4294967295) c.in_ok-version.ensures
     (row_none_later (some_run is_blank) from_stamp (some_run_det is_blank) c.in_ok-some_blanks.ensures
     (row_none_later header_stamp from_blanks2 header_stamp_det c.in-Some.ensures
@@ -102,10 +101,10 @@ returns-in_err-hostname c =
     search rules
 
 pub returns-in_err-some_blanks-3 : goal.returns-in_err-some_blanks-3
-returns-in_err-some_blanks-3 c =
-    let n : NoFront (Row header_row) (chars c.args.text.now) =
+returns-in_err-some_blanks-3 c whole f =
+    let n : NoFront (Row header_row) whole =
     row_none_later (optional priority) from_version
-    (optional_det priority priority_det) c.optional_priority-priority.ensures
+    (optional_det priority priority_det) f
     (row_none_later (number 4294967295) from_blanks1 (number_det 4294967295) c.in_ok-version.ensures
     (row_none_later (some_run is_blank) from_stamp (some_run_det is_blank) c.in_ok-some_blanks.ensures
     (row_none_later header_stamp from_blanks2 header_stamp_det c.in-Some.ensures
@@ -115,10 +114,10 @@ returns-in_err-some_blanks-3 c =
     search rules
 
 pub returns-in_err-appname : goal.returns-in_err-appname
-returns-in_err-appname c =
-    let n : NoFront (Row header_row) (chars c.args.text.now) =
+returns-in_err-appname c whole f =
+    let n : NoFront (Row header_row) whole =
     row_none_later (optional priority) from_version
-    (optional_det priority priority_det) c.optional_priority-priority.ensures
+    (optional_det priority priority_det) f
     (row_none_later (number 4294967295) from_blanks1 (number_det 4294967295) c.in_ok-version.ensures
     (row_none_later (some_run is_blank) from_stamp (some_run_det is_blank) c.in_ok-some_blanks.ensures
     (row_none_later header_stamp from_blanks2 header_stamp_det c.in-Some.ensures
@@ -129,10 +128,10 @@ returns-in_err-appname c =
     search rules
 
 pub returns-in_err-some_blanks-4 : goal.returns-in_err-some_blanks-4
-returns-in_err-some_blanks-4 c =
-    let n : NoFront (Row header_row) (chars c.args.text.now) =
+returns-in_err-some_blanks-4 c whole f =
+    let n : NoFront (Row header_row) whole =
     row_none_later (optional priority) from_version
-    (optional_det priority priority_det) c.optional_priority-priority.ensures
+    (optional_det priority priority_det) f
     (row_none_later (number 4294967295) from_blanks1 (number_det 4294967295) c.in_ok-version.ensures
     (row_none_later (some_run is_blank) from_stamp (some_run_det is_blank) c.in_ok-some_blanks.ensures
     (row_none_later header_stamp from_blanks2 header_stamp_det c.in-Some.ensures
@@ -144,10 +143,10 @@ returns-in_err-some_blanks-4 c =
     search rules
 
 pub returns-in_err-procid : goal.returns-in_err-procid
-returns-in_err-procid c =
-    let n : NoFront (Row header_row) (chars c.args.text.now) =
+returns-in_err-procid c whole f =
+    let n : NoFront (Row header_row) whole =
     row_none_later (optional priority) from_version
-    (optional_det priority priority_det) c.optional_priority-priority.ensures
+    (optional_det priority priority_det) f
     (row_none_later (number 4294967295) from_blanks1 (number_det 4294967295) c.in_ok-version.ensures
     (row_none_later (some_run is_blank) from_stamp (some_run_det is_blank) c.in_ok-some_blanks.ensures
     (row_none_later header_stamp from_blanks2 header_stamp_det c.in-Some.ensures
@@ -160,10 +159,10 @@ returns-in_err-procid c =
     search rules
 
 pub returns-in_err-some_blanks-5 : goal.returns-in_err-some_blanks-5
-returns-in_err-some_blanks-5 c =
-    let n : NoFront (Row header_row) (chars c.args.text.now) =
+returns-in_err-some_blanks-5 c whole f =
+    let n : NoFront (Row header_row) whole =
     row_none_later (optional priority) from_version
-    (optional_det priority priority_det) c.optional_priority-priority.ensures
+    (optional_det priority priority_det) f
     (row_none_later (number 4294967295) from_blanks1 (number_det 4294967295) c.in_ok-version.ensures
     (row_none_later (some_run is_blank) from_stamp (some_run_det is_blank) c.in_ok-some_blanks.ensures
     (row_none_later header_stamp from_blanks2 header_stamp_det c.in-Some.ensures
@@ -177,10 +176,10 @@ returns-in_err-some_blanks-5 c =
     search rules
 
 pub returns-in_err-msgid : goal.returns-in_err-msgid
-returns-in_err-msgid c =
-    let n : NoFront (Row header_row) (chars c.args.text.now) =
+returns-in_err-msgid c whole f =
+    let n : NoFront (Row header_row) whole =
     row_none_later (optional priority) from_version
-    (optional_det priority priority_det) c.optional_priority-priority.ensures
+    (optional_det priority priority_det) f
     (row_none_later (number 4294967295) from_blanks1 (number_det 4294967295) c.in_ok-version.ensures
     (row_none_later (some_run is_blank) from_stamp (some_run_det is_blank) c.in_ok-some_blanks.ensures
     (row_none_later header_stamp from_blanks2 header_stamp_det c.in-Some.ensures
@@ -195,8 +194,8 @@ returns-in_err-msgid c =
     search rules
 
 pub returns : goal.returns
-returns c =
-    row_cons (optional priority) from_version c.optional_priority-priority.ensures
+returns c whole f =
+    row_cons (optional priority) from_version f
     (row_cons (number 4294967295) from_blanks1 c.in_ok-version.ensures
     (row_cons (some_run is_blank) from_stamp c.in_ok-some_blanks.ensures
     (row_cons header_stamp from_blanks2 c.in-Some.ensures

@@ -8,5 +8,6 @@ returns-then-is_empty c = no_some_run is_blank c.args.text.now c.split_blanks.re
     c.split_blanks.ensures (empty_is _ c.if-is_empty.ensures)
 
 pub returns-else-is_empty : goal.returns-else-is_empty
-returns-else-is_empty c = some_run_front is_blank c.args.text.now c.split_blanks.result.0.now c.split_blanks.result.1.now
+returns-else-is_empty c =
+    some_run_front is_blank c.args.text.now c.split_blanks.result.0.now c.split_blanks.result.1.now
     c.split_blanks.ensures (nonempty_is _ c.if-is_empty.ensures)

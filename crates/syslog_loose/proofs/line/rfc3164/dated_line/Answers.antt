@@ -1,4 +1,3 @@
-use Rattle.std.proofs.Common.{refl}
 use Rattle.std.specs.Str.{chars}
 use Rattle.syslog_pieces.specs.Pri.{priority_text}
 use Rattle.syslog_loose.proofs.Verbatim3164Lemmas.{shown_dated}
@@ -12,7 +11,7 @@ pub returns-clause-shows : goal.returns-clause-shows
 returns-clause-shows c whole e =
     shown_dated c.args.variant whole (chars c.args.input.now) (chars c.in_ok-behind.behind.now)
     (chars c.blanks.result.now) _ _ _
-    e (c.if-not-reads_rfc3164.ensures refl) c.in_ok-behind.ensures.0 c.in_ok-behind.ensures.1 c.before-front.ensures
+    e c.if-not-reads_rfc3164.ensures c.in_ok-behind.ensures.0 c.in_ok-behind.ensures.1 c.before-front.ensures
     c.blanks.ensures c.in_ok-date.ensures
 
 pub returns-clause-month : goal.returns-clause-month

@@ -1,0 +1,305 @@
+-- What the pieces at the front of a text tell of its readings.
+use Rattle.std.proofs.Common.{◌≡◌, ◌≢◌, inl, inr, ℕ, ℤ, [], ◌∷◌, List, Option, Some, None}
+use Rattle.std.proofs.Common.{Ok, Err, refl, sym, ap, subst, ◌∙◌, arith}
+use Rattle.std.specs.Borrow.{Bor}
+use Rattle.std.specs.Prelude.{MatchOption, IsSome, IsSomeAnd}
+use Rattle.syslog_pieces.specs.Pieces.View.{shown, Reads}
+use Rattle.syslog_pieces.specs.Pieces.Class.{Text, Class, Values, Front, NoFront, Row, run, rest, optional}
+use Rattle.syslog_pieces.specs.Pri.{priority}
+use Rattle.syslog_pieces.specs.Text.{trimmed, is_blank}
+use Rattle.syslog_pieces.specs.Timestamp.{IsAnswer, header_stamp}
+use Rattle.syslog_pieces.specs.Timestamp.Rfc3164.{rfc3164_stamp, showing_row, ShowsYearless, ShowsMonthDate}
+use Rattle.syslog_pieces.specs.Timestamp.MonthDate.{dated_row, dated_of, yearless_date, month_date}
+use Rattle.syslog_pieces.specs.Timestamp.Zone.{Dating, IsMonthStamp, dating_of}
+use Rattle.syslog_pieces.specs.declared.timestamp.OffsetTimestamp.{OffsetTimestamp}
+use Rattle.syslog_pieces.specs.declared.timestamp.month_date.MonthDate.{MonthDate}
+use Rattle.syslog_pieces.proofs.PieceLemmas.Class.{AllDeterministic, front_same, front_division, division_front}
+use Rattle.syslog_pieces.proofs.PieceLemmas.Class.{optional_det, run_det}
+use Rattle.syslog_pieces.proofs.PieceLemmas.Class.{rest_det, rest_front, row_cons, row_nil, row_none_here}
+use Rattle.syslog_pieces.proofs.PieceLemmas.Class.{row_none_later, unique_division}
+use Rattle.syslog_pieces.proofs.PieceLemmas.Kinds.{Begins, begins_apart}
+use Rattle.syslog_pieces.proofs.PieceLemmas.Rows.{row_pieces}
+use Rattle.syslog_pieces.proofs.PriLemmas.{priority_det}
+use Rattle.syslog_pieces.proofs.TextLemmas.Runs.{some_front_run}
+use Rattle.syslog_pieces.proofs.TimestampLemmas.MonthDate.{month_date_begins, month_date_det}
+use Rattle.syslog_pieces.proofs.TimestampLemmas.Months.{IsLetter}
+use Rattle.syslog_pieces.proofs.TimestampLemmas.Rfc3164.{IsLow, date_front, header_front, header_stamp_begins}
+use Rattle.syslog_pieces.proofs.TimestampLemmas.Rfc3164.{no_date, no_stamp_of_date}
+use Rattle.syslog_loose.specs.ReadBack.{ReadsProtocol}
+use Rattle.syslog_loose.specs.Reading.{dash_rule, incomplete, Answers, AsksYear, IncompleteDate, IsLeftTo3164}
+use Rattle.syslog_loose.specs.Reading.{HasMonth, IsYearAnswered}
+use Rattle.syslog_loose.specs.Rfc3164.{stamped_row, IsRead3164, IsNot3164, NeedsNoMemory3164}
+use Rattle.syslog_loose.specs.Rfc5424.{IsRead5424, IsNot5424, NeedsNoMemory5424}
+use Rattle.syslog_loose.specs.Start.{IsBehindPriority, BeginsWith, BeginsWithout}
+use Rattle.syslog_loose.specs.View3164.{IsBehindStamp}
+use Rattle.syslog_loose.specs.declared.fault.ParseFault.TheVariants.{Invalid, Memory}
+use Rattle.syslog_loose.specs.declared.message.Protocol.TheVariants as protocol
+use Rattle.jiff.specs.declared.tz.timezone.TimeZone.{TimeZone}
+use Rattle.syslog_loose.specs.declared.rfc3164.Stamped.{Stamped}
+use Rattle.syslog_loose.specs.declared.variant.Variant.{Variant}
+use Rattle.syslog_loose.specs.declared.variant.Variant.TheVariants.{Either, RFC3164, RFC5424}
+use Rattle.syslog_loose.proofs.ReadingLemmas.{Found, answered_to, value, either_read, either_refused}
+use Rattle.syslog_loose.proofs.ReadingLemmas.{left_answer, only_read}
+use Rattle.syslog_loose.proofs.Rfc3164Lemmas.Apart.{shown_apart}
+use Rattle.syslog_loose.proofs.Rfc3164Lemmas.Reading.{not_read}
+use Rattle.syslog_loose.proofs.Rfc3164Lemmas.Shown.{date_has_month, shows_month_date}
+
+-- no piece behind these blanks is none behind any
+without_at : (C : Class) (variant : Variant) {t start : Text} → Front (run is_blank) t start tt → NoFront C start
+    → BeginsWithout C variant t
+without_at C variant gap none reads other same =
+    subst (λ (x : Text). NoFront C x) (front_same (run is_blank) (run_det is_blank) gap same).0 none
+
+-- what a reader of such pieces answers
+pub front_read : (C : Class) (variant : Variant) (t start : Text) (r : Option (C.Value × Bor (List ℕ)))
+    → ReadsProtocol variant protocol.RFC3164 → Front (run is_blank) t start tt → Reads C (λ v. v) start r
+    → MatchOption r (BeginsWithout C variant t) (λ x. BeginsWith C variant t x.0 (shown x.1))
+front_read C variant t start None reads gap none = without_at C variant gap none
+front_read C variant t start (Some x) reads gap f = record { reads = reads; start = start; gap = gap; front = f }
+
+-- where RFC 5424 has no reading, RFC 3164 is left to try
+pub left_to_try : (variant : Variant) (text : Text) → ReadsProtocol variant protocol.RFC3164
+    → (variant ≢ RFC3164 → IsNot5424 text) → IsLeftTo3164 variant text
+left_to_try RFC5424 text reads strict = absurd reads
+left_to_try RFC3164 text reads strict = tt
+left_to_try Either text reads strict = strict (λ e. cc)
+
+-- ---- the timestamp
+module _ {text follows start : Text} {p : Option ℕ} (f : IsBehindPriority text p follows)
+    (gap : Front (run is_blank) follows start tt) (dating : Dating) where
+  stamped_front : {q : Text} {v : Option OffsetTimestamp} → Front (rfc3164_stamp dating) start q v
+      → IsBehindStamp dating text (record { priority = p; timestamp = v }) q
+  stamped_front s =
+      row_cons (optional priority) (run is_blank ∷ rfc3164_stamp dating ∷ []) f
+      (row_cons (run is_blank) (rfc3164_stamp dating ∷ []) gap
+      (row_cons (rfc3164_stamp dating) [] s (row_nil _)))
+
+  no_stamp : NoFront (rfc3164_stamp dating) start → NoFront (Row (stamped_row dating)) text
+  no_stamp none =
+      row_none_later (optional priority) (run is_blank ∷ rfc3164_stamp dating ∷ [])
+      (optional_det priority priority_det) f
+      (row_none_later (run is_blank) (rfc3164_stamp dating ∷ []) (run_det is_blank) gap
+      (row_none_here (rfc3164_stamp dating) [] none))
+
+-- ---- the year
+asked_reads : (variant : Variant) (text : Text) (d : MonthDate) → AsksYear variant text d
+    → ReadsProtocol variant protocol.RFC3164
+asked_reads RFC5424 text d asks = asks
+asked_reads RFC3164 text d asks = tt
+asked_reads Either text d asks = tt
+
+asked_shows : (variant : Variant) (text : Text) (d : MonthDate) → AsksYear variant text d → ShowsYearless text d
+asked_shows RFC5424 text d asks = absurd asks
+asked_shows RFC3164 text d asks = asks
+asked_shows Either text d asks = asks
+
+shown_asks : (variant : Variant) (text : Text) (d : MonthDate) → ReadsProtocol variant protocol.RFC3164
+    → ShowsYearless text d → AsksYear variant text d
+shown_asks RFC5424 text d reads h = absurd reads
+shown_asks RFC3164 text d reads h = h
+shown_asks Either text d reads h = h
+
+-- a month date that shows no year is one without a year
+has_year : (vs : Values dated_row) (d : MonthDate) → d ≡ dated_of vs → d.year ≡ Some vs.1.1.1.1.0
+has_year vs d e = ap (λ (x : MonthDate). x.year) e
+
+yearless : {t q : Text} (d : MonthDate) → Front month_date t q d → d.year ≡ None → Front yearless_date t q d
+yearless {q = q} d f none = record { piece = f.piece; whole = f.whole; is = kind f.is }
+  where
+    kind : month_date.Is f.piece q d → yearless_date.Is f.piece q d
+    kind (inl h) = h
+    kind (inr (vs, h, e)) = absurd (let y : None ≡ Some vs.1.1.1.1.0 = sym none ∙ has_year vs d e in cc)
+
+-- and the numbers that a closure is asked with are those of one of twelve months
+pub asked_month : {t q : Text} (d : MonthDate) (asked : Option IncompleteDate) (x : IncompleteDate)
+    → Front month_date t q d → MatchOption asked (IsSome d.year) (λ y. (d.year ≡ None) × (y ≡ incomplete d))
+    → asked ≡ Some x → HasMonth x
+asked_month d None x f h is = cc
+asked_month d (Some y) x f (none, e) is =
+    let same : y ≡ x = cc in subst HasMonth (sym e ∙ same) (date_has_month d (yearless d f none))
+
+-- What is known where a timestamp was read: the year that was answered, that RFC 3164 is left to try, and what is read.
+pub record IsStamped (post : IncompleteDate → ℤ → Type 0) (variant : Variant) (text : Text)
+    (tz : Option (Bor TimeZone)) (local : Bor TimeZone) (stamped : Stamped) (follows : Text) : Type 0 where
+  pub year : Option ℤ
+  pub answered : IsYearAnswered post variant text year
+  pub left : IsLeftTo3164 variant text
+  pub front : IsBehindStamp (dating_of year tz local) (trimmed text) stamped follows
+
+module _ (variant : Variant) (text : Text) {follows : Text} {p : Option ℕ}
+    (f : IsBehindPriority (trimmed text) p follows) where
+  module _ {q : Text} (d : MonthDate) (b : BeginsWith month_date variant follows d q) where
+    shows_date : ShowsMonthDate text d
+    shows_date = (
+      p,
+      q,
+      front_division (showing_row month_date)
+          (row_cons (optional priority) (run is_blank ∷ month_date ∷ rest ∷ []) f
+          (row_cons (run is_blank) (month_date ∷ rest ∷ []) b.gap
+          (row_cons month_date (rest ∷ []) b.front (row_cons rest [] (rest_front q) (row_nil []))))),
+    )
+
+    -- its year is asked for where it shows none
+    asks_year : d.year ≡ None → AsksYear variant text d
+    asks_year none =
+        shown_asks variant text d b.reads (
+          p,
+          q,
+          front_division (showing_row yearless_date)
+              (row_cons (optional priority) (run is_blank ∷ yearless_date ∷ rest ∷ []) f
+              (row_cons (run is_blank) (yearless_date ∷ rest ∷ []) b.gap
+              (row_cons yearless_date (rest ∷ []) (yearless d b.front none)
+              (row_cons rest [] (rest_front q) (row_nil []))))),
+        )
+
+    -- and no year is where it shows one
+    asks_no_other : (year : ℕ) → d.year ≡ Some year → (other : MonthDate) → AsksYear variant text other → ⊥
+    asks_no_other year e other asks =
+        let shows = asked_shows variant text other asks in
+        let (p', more, division) = shows_month_date text other shows in
+        let (_, _, division') = shows_date in
+        let each : AllDeterministic (showing_row month_date) =
+        (optional_det priority priority_det, (run_det is_blank, (month_date_det, (rest_det, tt)))) in
+        let same = (unique_division (showing_row month_date) each division' division).1 in
+        let there : d ≡ other = ap (λ (x : Values (showing_row month_date)). x.1.1.0) same in
+        let (_, _, (_, _, (_, date, _))) = row_pieces (showing_row yearless_date)
+        (division_front (showing_row yearless_date) shows.2) in
+        let none : other.year ≡ None = ap (λ (x : MonthDate). x.year) date.is.2 in
+        let y : Some year ≡ None = sym e ∙ ap (λ (x : MonthDate). x.year) there ∙ none in cc
+
+    -- so the year is the one that was answered, if one was asked for
+    pub date_answered : (post : IncompleteDate → ℤ → Type 0) (asked : Option IncompleteDate) (year : Option ℤ)
+        → MatchOption asked (IsSome d.year) (λ x. (d.year ≡ None) × (x ≡ incomplete d))
+        → MatchOption asked (year ≡ None) (λ x. IsSomeAnd year (λ y. post x y)) → IsYearAnswered post variant text year
+    date_answered post asked year told is = answered_to post variant text asked year (tells asked told) is
+      where
+        shown_year : (o : Option ℕ) → IsSome o → (y : ℕ) × (o ≡ Some y)
+        shown_year None h = cc
+        shown_year (Some y) h = (y, refl)
+
+        tells : (asked : Option IncompleteDate)
+            → MatchOption asked (IsSome d.year) (λ x. (d.year ≡ None) × (x ≡ incomplete d))
+            → MatchOption asked ((date : MonthDate) → AsksYear variant text date → ⊥)
+            (λ x. (date : MonthDate) × AsksYear variant text date × (x ≡ incomplete date))
+        tells None h = λ other asks. let (y, e) = shown_year d.year h in asks_no_other y e other asks
+        tells (Some x) (none, e) = (d, asks_year none, e)
+
+    -- the text is none of RFC 5424
+    dated_unread : IsNot5424 text
+    dated_unread = shown_apart text d shows_date
+
+    dated_left : IsLeftTo3164 variant text
+    dated_left = left_to_try variant text b.reads (λ n. dated_unread)
+
+    -- the date has no timestamp
+    pub dated_invalid : (dating : Dating) → IsAnswer (IsMonthStamp dating d) None
+        → Answers variant dating text (Err Invalid)
+    dated_invalid dating none =
+        left_answer variant dating text (Err Invalid) dated_left
+        (λ m r. not_read dash_rule dating text (trimmed text) refl
+        (no_stamp f b.gap dating (no_stamp_of_date dating no_header d b.front none)) r.values r.division)
+      where
+        no_header : NoFront header_stamp b.start
+        no_header p q v e h =
+            begins_apart b.start (λ c a l. omega arith)
+            (subst (λ (x : Text). Begins IsLow x) (sym e) (header_stamp_begins p q v h))
+            (subst (λ (x : Text). Begins IsLetter x) (sym b.front.whole)
+            (month_date_begins b.front.piece _ d b.front.is))
+
+    -- or one
+    pub dated_known : (post : IncompleteDate → ℤ → Type 0) (tz : Option (Bor TimeZone)) (local : Bor TimeZone)
+        (asked : Option IncompleteDate) (year : Option ℤ) (s : OffsetTimestamp)
+        → MatchOption asked (IsSome d.year) (λ x. (d.year ≡ None) × (x ≡ incomplete d))
+        → MatchOption asked (year ≡ None) (λ x. IsSomeAnd year (λ y. post x y))
+        → IsMonthStamp (dating_of year tz local) d s
+        → IsStamped post variant text tz local (record { priority = p; timestamp = Some s }) q
+    dated_known post tz local asked year s told is h =
+        let dating = dating_of year tz local in
+        record {
+          year = year;
+          answered = date_answered post asked year told is;
+          left = dated_left;
+          front = stamped_front f b.gap dating (date_front dating s b.front h);
+        }
+
+  -- no month date stands there
+  module _ (without : BeginsWithout month_date variant follows) where
+    pub asks_none : (d : MonthDate) → AsksYear variant text d → ⊥
+    asks_none d asks =
+        let (_, _, division) = asked_shows variant text d asks in
+        let (_, g1, (u2, g2, (u3, g3, _))) = row_pieces (showing_row yearless_date)
+        (division_front (showing_row yearless_date) division) in
+        let same = (front_same (optional priority) (optional_det priority priority_det) g1 f).0 in
+        without (asked_reads variant text d asks) u2 (subst (λ (x : Text). Front (run is_blank) x u2 tt) same g2)
+        g3.piece u3 d g3.whole (inl g3.is)
+
+    -- and no other timestamp
+    pub undated_invalid : BeginsWithout header_stamp variant follows → (variant ≢ RFC3164 → IsNot5424 text)
+        → (dating : Dating) → Answers variant dating text (Err Invalid)
+    undated_invalid header strict dating = invalid variant without header strict
+      where
+        not_rfc3164 : (variant : Variant) → ReadsProtocol variant protocol.RFC3164
+            → BeginsWithout month_date variant follows → BeginsWithout header_stamp variant follows
+            → IsNot3164 dash_rule dating text
+        not_rfc3164 variant reads month header =
+            let (start, gap) = some_front_run is_blank follows in
+            not_read dash_rule dating text (trimmed text) refl
+            (no_stamp f gap dating (no_date dating (header reads start gap) (month reads start gap)))
+
+        invalid : (variant : Variant) → BeginsWithout month_date variant follows
+            → BeginsWithout header_stamp variant follows → (variant ≢ RFC3164 → IsNot5424 text)
+            → Answers variant dating text (Err Invalid)
+        invalid RFC5424 month header strict = λ m r. strict (λ e. cc) r.values r.division
+        invalid RFC3164 month header strict = λ m r. not_rfc3164 RFC3164 tt month header r.values r.division
+        invalid Either month header strict = λ m r. elim r [
+          | inl s ↦ strict (λ e. cc) s.values s.division
+          | inr (also, s) ↦ not_rfc3164 Either tt month header s.values s.division
+        ]
+
+    -- or another one
+    pub other_known : (post : IncompleteDate → ℤ → Type 0) (tz : Option (Bor TimeZone)) (local : Bor TimeZone)
+        {q : Text} {v : Option OffsetTimestamp}
+        → BeginsWith header_stamp variant follows v q → (variant ≢ RFC3164 → IsNot5424 text)
+        → IsStamped post variant text tz local (record { priority = p; timestamp = v }) q
+    other_known post tz local b strict =
+        let dating = dating_of None tz local in
+        record {
+          year = None;
+          answered = asks_none;
+          left = left_to_try variant text b.reads strict;
+          front = stamped_front f b.gap dating (header_front dating b.front);
+        }
+
+-- ---- what the readers of the two protocols answer
+pub stamped_read : (variant : Variant) (dating : Dating) (text : Text) (m : Found) → IsLeftTo3164 variant text
+    → IsRead3164 dash_rule dating text (value m) → Answers variant dating text (Ok m)
+stamped_read variant dating text m left r =
+    left_answer variant dating text (Ok m) left (only_read RFC3164 dating text (value m) r)
+
+pub stamped_unread : (variant : Variant) (dating : Dating) (text : Text) → IsLeftTo3164 variant text
+    → IsNot3164 dash_rule dating text → Answers variant dating text (Err Invalid)
+stamped_unread variant dating text left none =
+    left_answer variant dating text (Err Invalid) left (λ m r. none r.values r.division)
+
+pub stamped_refused : (variant : Variant) (dating : Dating) (text : Text) → IsLeftTo3164 variant text
+    → (NeedsNoMemory3164 dash_rule dating text → ⊥) → Answers variant dating text (Err Memory)
+stamped_refused variant dating text left wanted = left_answer variant dating text (Err Memory) left wanted
+
+pub strict_read : (variant : Variant) → variant ≢ RFC3164 → (dating : Dating) (text : Text) (m : Found)
+    → IsRead5424 text (value m) → Answers variant dating text (Ok m)
+strict_read RFC5424 not dating text m r = only_read RFC5424 dating text (value m) r
+strict_read RFC3164 not dating text m r = absurd (not refl)
+strict_read Either not dating text m r = either_read dating text (value m) r
+
+-- and none where RFC 3164 isn't read
+pub strict_unread : (variant : Variant) → (ReadsProtocol variant protocol.RFC3164 → ⊥) → (dating : Dating) (text : Text)
+    → (variant ≢ RFC3164 → IsNot5424 text) → Answers variant dating text (Err Invalid)
+strict_unread RFC5424 not dating text none = λ m r. none (λ e. cc) r.values r.division
+strict_unread RFC3164 not dating text none = absurd (not tt)
+strict_unread Either not dating text none = absurd (not tt)
+
+pub strict_refused : (variant : Variant) → variant ≢ RFC3164 → (dating : Dating) (text : Text)
+    → (NeedsNoMemory5424 text → ⊥) → Answers variant dating text (Err Memory)
+strict_refused RFC5424 not dating text wanted = wanted
+strict_refused RFC3164 not dating text wanted = absurd (not refl)
+strict_refused Either not dating text wanted = either_refused dating text wanted

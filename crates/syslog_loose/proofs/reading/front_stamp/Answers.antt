@@ -1,0 +1,9 @@
+use Rattle.std.specs.Str.{chars}
+use Rattle.syslog_pieces.specs.Timestamp.{header_stamp}
+use Rattle.syslog_loose.proofs.StartLemmas.{front_read}
+use Rattle.syslog_loose.proofs.reading.front_stamp.Goals as goal
+
+pub returns-then-reads_rfc3164 : goal.returns-then-reads_rfc3164
+returns-then-reads_rfc3164 c =
+    front_read header_stamp c.args.variant (chars c.args.text.now) (chars c.blanks.result.now) c.header_stamp.result
+    c.if-reads_rfc3164.ensures c.blanks.ensures c.header_stamp.ensures
