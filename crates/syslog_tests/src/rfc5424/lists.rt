@@ -112,7 +112,8 @@ fn drops_broken_elements_and_keeps_empty_ones(rt: HostRuntime) {
         "[non_empty x=\"1\"][empty]¦non_empty|x|1\nempty¦[non_empty x=\"1\"][empty]",
         "[empty]¦empty¦[empty]",
         "[empty][non_empty x=\"1\"]¦empty\nnon_empty|x|1¦[empty][non_empty x=\"1\"]",
-        "[empty not_really=\"testing the test\"]¦empty|not_really|testing the test¦[empty not_really=\"testing the test\"]",
+        "[empty not_really=\"testing the test\"]\
+         ¦empty|not_really|testing the test¦[empty not_really=\"testing the test\"]",
     ] {
         check_local(&rt, rt.alloc(), row);
     }
