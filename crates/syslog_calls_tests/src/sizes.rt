@@ -42,7 +42,7 @@ fn reads_five_thousand_elements(rt: HostRuntime) -> Result<(), Fail> {
     Ok(())
 }
 
-// The parameters are this many, all of them alike, and so are their values without escapes.
+// Each parameter is this one, with this value without escapes.
 fn check_params(
     rt: &impl Abort,
     alloc: Global,
@@ -59,7 +59,7 @@ fn check_params(
     }
 }
 
-// The text reads as a message with one element of this many parameters.
+// The text reads as a message with one element of this many parameters, all of them alike.
 fn check_one(rt: &impl Abort, alloc: Global, text: &str, count: usize, value: &str, plain: &str) {
     let message = read(alloc, text, Variant::Either).expect(rt, "no message");
     assert!(rt; message.structured_data.len() == 1);

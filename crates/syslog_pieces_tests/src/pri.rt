@@ -93,8 +93,11 @@ fn check_parts(rt: &impl Abort, row: &str) {
     let (facility, severity) = decompose_pri(pri);
     let facility = facility.map_or("", SyslogFacility::as_str);
     let severity = severity.map_or("", SyslogSeverity::as_str);
-    assert!(rt; Some(facility) == answer_of(row), "facility of {pri}");
-    assert!(rt; severity == left_of(row), "severity of {pri}");
+    assert!(rt;
+        Some(facility) == answer_of(row),
+        "facility of {pri}: {facility}"
+    );
+    assert!(rt; severity == left_of(row), "severity of {pri}: {severity}");
 }
 
 #[test]

@@ -31,11 +31,11 @@ fn check_process(rt: &impl Abort, row: &str, procid: &ProcId<&str>) {
     match procid {
         ProcId::PID(number) => {
             assert!(rt; kind == "pid", "{row:?}");
-            assert!(rt; want.parse() == Ok(*number), "{row:?}");
+            assert!(rt; want.parse() == Ok(*number), "{row:?} reads as {number}");
         }
         ProcId::Name(name) => {
             assert!(rt; kind == "name", "{row:?}");
-            assert!(rt; want == *name, "{row:?}");
+            assert!(rt; want == *name, "{row:?} reads as {name:?}");
         }
     }
 }
@@ -120,7 +120,7 @@ fn check_process_word(rt: &impl Abort, row: &str) {
                 Some(procid) => check_process(rt, row, &procid),
                 None => assert!(rt; answer_of(row) == Some(""), "{row:?}"),
             }
-            assert!(rt; rest == left_of(row), "{row:?}");
+            assert!(rt; rest == left_of(row), "{row:?} leaves {rest:?}");
         }
         None => assert!(rt; answer_of(row) == None, "{row:?}"),
     }

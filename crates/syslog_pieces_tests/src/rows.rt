@@ -23,11 +23,9 @@ pub(super) fn left_of(row: &str) -> &str {
 
 /// The text reads as the word of the row, which is empty where a dash stands for no word.
 pub(super) fn check_word(rt: &impl Abort, row: &str, read: Option<(Option<&str>, &str)>) {
-    match read {
-        Some((word, rest)) => {
-            assert!(rt; answer_of(row) == Some(word.unwrap_or("")), "{row:?}");
-            assert!(rt; rest == left_of(row), "{row:?}");
-        }
-        None => assert!(rt; answer_of(row) == None, "{row:?}"),
-    }
+    let same = match read {
+        Some((word, rest)) => answer_of(row) == Some(word.unwrap_or("")) && rest == left_of(row),
+        None => answer_of(row) == None,
+    };
+    assert!(rt; same, "{row:?} reads as {read:?}");
 }

@@ -71,7 +71,7 @@ fn check_element(rt: &impl Abort, alloc: Global, row: &str) {
                 is_element(&element, answer_of(row).expect(rt, row)),
                 "{row}"
             );
-            assert!(rt; rest == left_of(row), "{row}");
+            assert!(rt; rest == left_of(row), "{row} leaves {rest:?}");
         }
         None => assert!(rt; answer_of(row).is_none(), "{row}"),
     }
@@ -219,7 +219,7 @@ fn check_list(rt: &impl Abort, alloc: Global, row: &str) {
                 are_elements(&elements, answer_of(row).expect(rt, row)),
                 "{row}"
             );
-            assert!(rt; rest == left_of(row), "{row}");
+            assert!(rt; rest == left_of(row), "{row} leaves {rest:?}");
         }
         None => assert!(rt; answer_of(row).is_none(), "{row}"),
     }

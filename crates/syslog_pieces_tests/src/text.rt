@@ -229,8 +229,8 @@ fn check_number(rt: &impl Abort, row: &str, limit: u32) {
     match number(text_of(row), limit) {
         Some((value, rest)) => {
             let want = answer_of(row).expect(rt, "a number");
-            assert!(rt; value == parsed(rt, want), "{row:?}");
-            assert!(rt; rest == left_of(row), "{row:?}");
+            assert!(rt; value == parsed(rt, want), "{row:?} reads as {value}");
+            assert!(rt; rest == left_of(row), "{row:?} leaves {rest:?}");
         }
         None => assert!(rt; answer_of(row).is_none(), "{row:?}"),
     }
@@ -278,7 +278,7 @@ fn passes_over_a_thousand_leading_zeros(rt: HostRuntime) -> Result<(), Fail> {
 
 // What is left of the text, if anything is skipped.
 fn check_left(rt: &impl Abort, row: &str, left: Option<&str>) {
-    assert!(rt; left == answer_of(row), "{row:?}");
+    assert!(rt; left == answer_of(row), "{row:?} leaves {left:?}");
 }
 
 #[test]

@@ -206,7 +206,7 @@ fn check_header_stamp(rt: &impl Abort, alloc: Global, row: &str) {
                 Some(stamp) => check_printed(rt, alloc, stamp, want),
                 None => assert!(rt; want.is_empty(), "{row:?}"),
             }
-            assert!(rt; rest == left_of(row), "{row:?}");
+            assert!(rt; rest == left_of(row), "{row:?} leaves {rest:?}");
         }
         None => assert!(rt; answer_of(row).is_none(), "{row:?}"),
     }

@@ -132,13 +132,16 @@ fn sees_no_refusal_in_any_call(rt: HostRuntime) -> Result<(), Fail> {
 
 /// Texts without elements, and how each prints.
 const UNLISTED: [&str; 14] = [
-    "<34>1 2003-10-11T22:14:15.003Z mymachine.example.com su - ID47 - message¦<34>1 2003-10-11T22:14:15.003+00:00 mymachine.example.com su - ID47 - message",
+    "<34>1 2003-10-11T22:14:15.003Z mymachine.example.com su - ID47 - message\
+     ¦<34>1 2003-10-11T22:14:15.003+00:00 mymachine.example.com su - ID47 - message",
     "1 - - - - - [a b=\"x]y\" ]z¦<47>1 - - - - - - y\" ]z",
     "<200>1 - - - - - -¦<40>1 - - - - - - ",
     "1 - h a +5 m - x¦<47>1 - h a 5 m - x",
     "1 - h a 2147483648 m - x¦<47>1 - h a 2147483648 m - x",
-    "<13>1 2019-02-13T19:48:34+00:00 74794bfb6795 root 8449 - [incorrect x] qwerty¦<13>1 2019-02-13T19:48:34+00:00 74794bfb6795 root 8449 - - qwerty",
-    "<13>1 2019-02-13T19:48:34+00:00 74794bfb6795 root 8449 - [incorrect x=] qwerty¦<13>1 2019-02-13T19:48:34+00:00 74794bfb6795 root 8449 - - qwerty",
+    "<13>1 2019-02-13T19:48:34+00:00 74794bfb6795 root 8449 - [incorrect x] qwerty\
+     ¦<13>1 2019-02-13T19:48:34+00:00 74794bfb6795 root 8449 - - qwerty",
+    "<13>1 2019-02-13T19:48:34+00:00 74794bfb6795 root 8449 - [incorrect x=] qwerty\
+     ¦<13>1 2019-02-13T19:48:34+00:00 74794bfb6795 root 8449 - - qwerty",
     "- h a: m¦<47> - h a: m",
     "- h a: [abc] m¦<47> - h a: [abc] m",
     "- h a: [a b=\"c¦<47> - h a: [a b=\"c",

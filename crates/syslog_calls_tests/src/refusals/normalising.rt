@@ -9,9 +9,11 @@ use syslog_loose::{ParseFault, Variant};
 const NORMALISED: [&str; 7] = [
     "<200>1 - - - - - -¦<40>1 - - - - - - ",
     "1 - h a +5 m - x¦<47>1 - h a 5 m - x",
-    "<34>1 2003-10-11T22:14:15.003Z mymachine.example.com su - ID47 - message¦<34>1 2003-10-11T22:14:15.003+00:00 mymachine.example.com su - ID47 - message",
+    "<34>1 2003-10-11T22:14:15.003Z mymachine.example.com su - ID47 - message\
+     ¦<34>1 2003-10-11T22:14:15.003+00:00 mymachine.example.com su - ID47 - message",
     "<13>1 2019-02-13T19:48:34+00:00 74794bfb6795 root 8449 - [meta sequenceId=\"1\" sysUpTime=\"37\" \
-         language=\"EN\"][origin ip=\"192.168.0.1\" software=\"test\"] i am foobar¦<13>1 2019-02-13T19:48:34+00:00 74794bfb6795 root 8449 - [meta sequenceId=\"1\" sysUpTime=\"37\" \
+         language=\"EN\"][origin ip=\"192.168.0.1\" software=\"test\"] i am foobar\
+          ¦<13>1 2019-02-13T19:48:34+00:00 74794bfb6795 root 8449 - [meta sequenceId=\"1\" sysUpTime=\"37\" \
          language=\"EN\"][origin ip=\"192.168.0.1\" software=\"test\"] i am foobar",
     "1 - - - - - [a b=\"x]y\"][c][d e=][f¦<47>1 - - - - - [a b=\"x]y\"][c] [f",
     "Oct 11 22:14:15 h a: m¦<47> 2019-10-11T22:14:15+00:00 h a: m",

@@ -37,7 +37,7 @@ fn check_date(rt: &impl Abort, row: &str, read: Option<(MonthDate, &str)>) {
     match read {
         Some((date, rest)) => {
             assert!(rt; is_date(&date, answer_of(row).expect(rt, row)), "{row:?}");
-            assert!(rt; rest == left_of(row), "{row:?}");
+            assert!(rt; rest == left_of(row), "{row:?} leaves {rest:?}");
         }
         None => assert!(rt; answer_of(row).is_none(), "{row:?}"),
     }
