@@ -2,10 +2,10 @@
 use Rattle.std.proofs.Common.{◌≡◌, ◌∙◌, refl, sym, ap, subst, ℕ, suc, ◌+◌, ◌-◌, ◌<◌, ◌≤◌, List, [], ◌∷◌, ◌++◌}
 use Rattle.std.proofs.Common.{length, get_or, set, take, drop, arith, add-one, append-nil, length-append}
 use Rattle.std.proofs.Common.{length-drop, drop_of_length-le, length-take-le, take_all, drop-cons, map, min, ◌^◌}
+use Rattle.std.proofs.Math.Seq.{drop-append-add, take-append-add}
 use Rattle.std.specs.List.{AllZip, flat_map}
 use Rattle.std.proofs.lemmas.Grind.{flat_map-append}
 use Rattle.std.proofs.lemmas.List.{length-map, map-append, take_more, take_more_set, drop-set-lt, drop-drop}
-use Rattle.std.proofs.lemmas.List.{take-append-le, drop-append-le}
 use Rattle.syslog_pieces.specs.Pieces.Class.{Text}
 use Rattle.syslog_pieces.specs.StructuredData.Element.{element_value, param_value}
 use Rattle.syslog_pieces.specs.declared.structured_data.StructuredElement.{StructuredElement}
@@ -19,9 +19,6 @@ zip_append R [] ys (u ∷ us) vs t z = absurd t
 zip_append R (x ∷ xs) ys [] vs t z = absurd t
 zip_append R (x ∷ xs) ys (u ∷ us) vs t z = (t.0, zip_append R xs ys us vs t.1 z)
 
-take_next : {B : Type 0} (l : List B) (i : ℕ) (d : B) → i < length l → take (i + 1) l ≡ take i l ++ (get_or l i d ∷ [])
-take_next l i d lt = take_more l i d lt
-
 drop_next : {A : Type 0} (xs old : List A) (i n : ℕ) → drop i xs ≡ drop i old → drop (i + n) xs ≡ drop (i + n) old
 drop_next xs old i n e = sym (drop-drop n i xs) ∙ ap (drop n) e ∙ drop-drop n i old
 
@@ -32,20 +29,10 @@ pub begun_next : {A B : Type 0} (R : A → B → Type 0) (xs old : List A) (ys :
     → AllZip R (take (i + 1) (set xs i x)) (take (i + 1) ys) × (drop (i + 1) (set xs i x) ≡ drop (i + 1) old)
 begun_next R xs old ys i x d l m z e r =
     let below : i < i + 1 = omega arith in (
-      rw (take_more_set xs i x l) (rw (take_next ys i d m)
+      rw (take_more_set xs i x l) (rw (take_more ys i d m)
           (zip_append R (take i xs) (x ∷ []) (take i ys) (get_or ys i d ∷ []) z (r, tt))),
       drop-set-lt (i + 1) xs i x below ∙ drop_next xs old i 1 e,
     )
-
-take_past : {A : Type 0} (p q : List A) (n m : ℕ) → m ≡ length p + n → take m (p ++ q) ≡ p ++ take n q
-take_past [] q n m e = let same : m ≡ n = omega arith in ap (λ k. take k q) same
-take_past (x ∷ p) q n m e = let next : m ≡ suc (length p + n) = omega arith in ap (λ k. take k (x ∷ (p ++ q))) next
-    ∙ ap (λ l. x ∷ l) (take_past p q n _ refl)
-
-drop_past : {A : Type 0} (p q : List A) (n m : ℕ) → m ≡ length p + n → drop m (p ++ q) ≡ drop n q
-drop_past [] q n m e = let same : m ≡ n = omega arith in ap (λ k. drop k q) same
-drop_past (x ∷ p) q n m e = let next : m ≡ suc (length p + n) = omega arith in ap (λ k. drop k (x ∷ (p ++ q))) next
-    ∙ drop_past p q n _ refl
 
 -- the values of one more item are written behind those of the items before it
 pub begun_part : {A B C : Type 0} (R : A → B → Type 0) (f : C → List B) (xs sub old : List A)
@@ -60,42 +47,37 @@ pub begun_part : {A B C : Type 0} (R : A → B → Type 0) (f : C → List B) (x
     × (drop (at + n) (put_mid at (length xs - at) xs sub) ≡ drop (at + n) old)
 begun_part {A = A} {B = B} R f xs sub old es e i at n lt is counted before fits zip behind begun same =
     let p = take at xs in
-    let post = post_of at (length xs - at) xs in
     let front : flat_map f (take (i + 1) es) ≡ flat_map f (take i es) ++ f e =
     ap (flat_map f) (take_more es i e lt) ∙ flat_map-append f (take i es) (get_or es i e ∷ [])
     ∙ ap (λ l. flat_map f (take i es) ++ l) (append-nil (f (get_or es i e)) ∙ ap f (sym is)) in
     let rest : drop i es ≡ e ∷ drop (i + 1) es =
     rw add-one (drop-cons es i e lt ∙ ap (λ x. x ∷ drop (suc i) es) (sym is)) in
-    let long_front : length (flat_map f (take (i + 1) es)) ≡ length (flat_map f (take i es)) + length (f e) =
-    ap length front ∙ length-append _ _ in
-    let long_rest : length (flat_map f (drop i es)) ≡ length (f e) + length (flat_map f (drop (i + 1) es)) = ap
-    (λ l. length (flat_map f l)) rest ∙ length-append _ _ in
+    let long_front = ap length front ∙ length-append (flat_map f (take i es)) (f e) in
+    let long_rest : length (flat_map f (drop i es)) ≡ length (f e) + length (flat_map f (drop (i + 1) es)) =
+    ap (λ l. length (flat_map f l)) rest ∙ length-append _ _ in
+    let long_behind = length-drop at xs in
     let within : at ≤ length xs = omega arith in
     let long_p : length p ≡ at = length-take-le at xs within in
-    let long : length (p ++ (sub ++ post)) ≡ length p + (length sub + length post) = length-append _ _ ∙ ap
-    (λ m. length p + m) (length-append _ _) in
-    let mid : mid_of at (length xs - at) xs ≡ drop at xs = take_all _ _ (let l = length-drop at xs in omega arith) in
-    let long_sub : length sub ≡ length xs - at = same ∙ (ap length mid ∙ length-drop at xs) in
-    let short : n ≤ length sub = omega arith in
-    let taken : take (at + n) (p ++ (sub ++ post)) ≡ p ++ take n sub =
-    take_past p (sub ++ post) n (at + n) (omega arith)
-    ∙ ap (λ l. p ++ l) (take-append-le n sub post short) in
-    let begins : AllZip R (take n sub) (f e) = subst
-    (λ (m : ℕ). AllZip R (take m sub) (f e)) (sym counted) begun.begins in
-    let none : post ≡ [] = drop_of_length-le (drop at xs) {i = length xs - at} (let l =
-    length-drop at xs in omega arith) in
-    let stays : drop n sub ≡ drop n (drop at xs) = subst
-    (λ (m : ℕ). drop m sub ≡ drop m (mid_of at (length xs - at) xs)) (sym counted) begun.behind ∙ ap (drop n) mid in
-    let dropped : drop (at + n) (p ++ (sub ++ post)) ≡ drop n (drop at xs) =
-    drop_past p (sub ++ post) n (at + n) (omega arith)
-    ∙ drop-append-le n sub post short ∙ ap (λ l. l ++ post) stays ∙ ap (λ l. drop n (drop at xs) ++ l) none
-    ∙ append-nil _ in (
+    let mid : mid_of at (length xs - at) xs ≡ drop at xs = take_all _ _ (omega arith) in
+    let long_sub : length sub ≡ length xs - at = same ∙ ap length mid ∙ long_behind in
+    let none : post_of at (length xs - at) xs ≡ [] =
+    drop_of_length-le (drop at xs) {i = length xs - at} (omega arith) in
+    let whole : put_mid at (length xs - at) xs sub ≡ p ++ sub =
+    ap (λ l. p ++ (sub ++ l)) none ∙ ap (λ l. p ++ l) (append-nil sub) in
+    let long : length (put_mid at (length xs - at) xs sub) ≡ length p + length sub =
+    ap length whole ∙ length-append p sub in
+    let taken : take (at + n) (put_mid at (length xs - at) xs sub) ≡ p ++ take n sub =
+    ap (take (at + n)) whole ∙ ap (λ m. take (m + n) (p ++ sub)) (sym long_p) ∙ take-append-add p sub n in
+    let begins : AllZip R (take n sub) (f e) =
+    subst (λ (m : ℕ). AllZip R (take m sub) (f e)) (sym counted) begun.begins in
+    let stays : drop n sub ≡ drop n (drop at xs) =
+    subst (λ (m : ℕ). drop m sub ≡ drop m (mid_of at (length xs - at) xs)) (sym counted) begun.behind
+    ∙ ap (drop n) mid in (
       omega arith,
       omega arith,
-      subst (λ (l : List B). AllZip R (take (at + n) (p ++ (sub ++ post))) l) (sym front) (subst
-          (λ (l : List A). AllZip R l (flat_map f (take i es) ++ f e)) (sym taken)
-          (zip_append R p (take n sub) (flat_map f (take i es)) (f e) zip begins)),
-      dropped ∙ drop-drop n at xs ∙ drop_next xs old at n behind,
+      rw (front, taken) (zip_append R p (take n sub) (flat_map f (take i es)) (f e) zip begins),
+      ap (drop (at + n)) whole ∙ ap (λ m. drop (m + n) (p ++ sub)) (sym long_p) ∙ drop-append-add p sub n ∙ stays
+          ∙ drop-drop n at xs ∙ drop_next xs old at n behind,
     )
 
 -- ---- what is told of values through a view

@@ -1,25 +1,27 @@
 -- A line that is read.
-use Rattle.std.proofs.Common.{ℕ, List, ◌≡◌, inl, inr, subst}
+use Rattle.std.proofs.Common.{ℕ, ℤ, List, ◌≡◌, inl, inr, subst}
 use Rattle.std.specs.Str.{chars, IsUtf8}
 use Rattle.jiff.specs.Types.{TimeZone}
+use Rattle.jiff_core.specs.Calendar.{IsYear}
 use Rattle.syslog_pieces.specs.Pieces.Class.{Text}
 use Rattle.syslog_pieces.specs.Timestamp.Zone.{Dating}
-use Rattle.syslog_loose.specs.Reading.{InYear}
+use Rattle.syslog_loose.specs.Reading.{IncompleteDate, InYear}
 use Rattle.syslog_loose.specs.declared.variant.Variant.{Variant}
-use Rattle.syslog_loose.proofs.ReadingLemmas.{in_year_map}
+use Rattle.syslog_loose.proofs.ReadingLemmas.{in_year_map, in_year_told}
 use Rattle.syslog_c.specs.Line.{IsTried, OnLine}
 use Rattle.syslog_c.specs.Options.{AreInRange, IsReckoned, IsZoneAt, dating_in, variant_number}
 use Rattle.syslog_c.specs.declared.options.Options.{Options}
 use Rattle.syslog_c.specs.declared.outcome.Outcome.{Outcome}
 
--- what holds of the text that the line's bytes are
-pub tried_line : (Holds : Variant → Dating → Text → Type 0) (options : Options) (line bytes : List ℕ)
-    (variant : Variant) (zone : TimeZone)
-    → options.variant ≡ variant_number variant → AreInRange options → IsZoneAt options.offset zone → bytes ≡ line
-    → IsUtf8 line
-    → InYear (IsReckoned options) variant (chars bytes) (λ year. Holds variant (dating_in zone year) (chars bytes))
+-- what holds of the text that the line's bytes are, in the year that the options' rules answer
+pub tried_line : {post : IncompleteDate → ℤ → Type 0} (Holds : Variant → Dating → Text → Type 0) (options : Options)
+    (line bytes : List ℕ) (variant : Variant) (zone : TimeZone)
+    → (options.variant ≡ variant_number variant) × AreInRange options × IsZoneAt options.offset zone
+    → (bytes ≡ line) × IsUtf8 line
+    → ((date : IncompleteDate) (year : ℤ) → post date year → IsYear options.year → IsReckoned options date year)
+    → InYear post variant (chars bytes) (λ year. Holds variant (dating_in zone year) (chars bytes))
     → IsTried options line Holds
-tried_line Holds options line bytes variant zone named in_range ahead same utf8 holds = record {
+tried_line Holds options line bytes variant zone (named, in_range, ahead) (same, utf8) tells holds = record {
   variant = variant;
   zone = zone;
   named = named;
@@ -27,7 +29,8 @@ tried_line Holds options line bytes variant zone named in_range ahead same utf8 
   ahead = ahead;
   utf8 = utf8;
   holds = subst (λ (bs : List ℕ). InYear (IsReckoned options) variant (chars bs)
-      (λ year. Holds variant (dating_in zone year) (chars bs))) same holds;
+      (λ year. Holds variant (dating_in zone year) (chars bs))) same
+      (in_year_told holds (λ date year is. tells date year is in_range.year));
 }
 
 -- what holds of a line that is read holds of one that is read so

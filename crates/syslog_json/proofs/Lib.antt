@@ -2,5 +2,4 @@ pub mod ArgumentLemmas
 pub mod MemberLemmas
 pub mod TextLemmas
 pub mod MessageLemmas
-pub mod FilterLemmas
 pub mod UniqueLemmas

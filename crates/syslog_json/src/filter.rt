@@ -61,6 +61,33 @@ struct Objects {
     year: i32,
 }
 
+impl Objects {
+    // The object of the line's message, where it is one.
+    fn read_line(&self, alloc: Global, line: &str) -> Result<Option<Value>, AllocError>
+        ensures { IfOk result (λ found. MatchOption found
+            (IsUnreadable Either (in_utc self.now.year) (chars line.now))
+            (λ value. (m : MessageValue) × IsOnlyRead Either (in_utc self.now.year) (chars line.now) m
+            × IsMessageJson m (view value))) }
+    {
+        let year = self.year;
+        let answer_year = move |_: IncompleteDate| -> i32
+            ensures { result ≡ year }
+        { year };
+        match parse_message_with_year_exact_tz(
+            alloc,
+            line,
+            answer_year,
+            None,
+            Variant::Either,
+            &TimeZone::UTC,
+        ) {
+            Ok(message) => Ok(Some(message_object(alloc, &message)?)),
+            Err(ParseFault::Invalid) => Ok(None),
+            Err(ParseFault::Memory) => Err(AllocError),
+        }
+    }
+}
+
 impl LineFilter for Objects {
     ghost answers = { λ filter. objects filter.year };
 
@@ -71,7 +98,7 @@ impl LineFilter for Objects {
         _: &mut String,
         output: &mut Vec<u8>,
     ) -> Result<bool, AllocError> {
-        match read_line(alloc, line, self.year)? {
+        match self.read_line(alloc, line)? {
             Some(value) => {
                 push_value(alloc, output, &value)?;
                 Ok(true)
@@ -106,29 +133,6 @@ fn push_value(alloc: Global, output: &mut Vec<u8>, value: &Value) -> Result<(), 
 {
     let text = value.to_string(alloc)?;
     push_line(output, text.as_bytes())
-}
-
-// The object of the line's message, read in a year, where it is one.
-fn read_line(alloc: Global, line: &str, year: i32) -> Result<Option<Value>, AllocError>
-    ensures { IfOk result (λ found. MatchOption found (IsUnreadable Either (in_utc year) (chars line.now))
-        (λ value. (m : MessageValue) × IsOnlyRead Either (in_utc year) (chars line.now) m
-        × IsMessageJson m (view value))) }
-{
-    let answer_year = move |_: IncompleteDate| -> i32
-        ensures { result ≡ year }
-    { year };
-    match parse_message_with_year_exact_tz(
-        alloc,
-        line,
-        answer_year,
-        None,
-        Variant::Either,
-        &TimeZone::UTC,
-    ) {
-        Ok(message) => Ok(Some(message_object(alloc, &message)?)),
-        Err(ParseFault::Invalid) => Ok(None),
-        Err(ParseFault::Memory) => Err(AllocError),
-    }
 }
 
 // The object of a line that is no message.

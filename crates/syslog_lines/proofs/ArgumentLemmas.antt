@@ -15,10 +15,6 @@ word_alone (x ∷ []) d wanted one = (
 )
 word_alone (x ∷ (y ∷ ys)) d wanted one = absurd (omega (arith, one))
 
--- the second of two words is the only one that may name a year
-second_names : (first second word : List ℕ) → first ∷ (second ∷ []) ≡ end_word ∷ (word ∷ []) → second ≡ word
-second_names first second word same = ap (λ (words : List (List ℕ)). get_or words 1 []) same
-
 -- two words, of which the first is `--`, name the year that the second names
 pub year_behind : (args : List (Bor (List ℕ))) (d e : Bor (List ℕ)) (year : Option ℤ) → length args ≡ 2
     → pointwise nat_eq (get_or args 0 d).now end_word ≡ true
@@ -33,6 +29,7 @@ year_behind (x ∷ (y ∷ [])) d e (Some year) two same named =
 year_behind (x ∷ (y ∷ [])) d e None two same named = λ year words.
     elim words.1 [
       | inl alone ↦ absurd (let more = ap length alone in omega (arith, more))
-      | inr behind ↦ named (subst IsYear (sym (second_names x.now y.now words.0 behind)) words.2.0)
+      | inr behind ↦
+          named (subst IsYear (sym (ap (λ (ws : List (List ℕ)). get_or ws 1 []) behind)) words.2.0)
     ]
 year_behind (x ∷ (y ∷ (z ∷ zs))) d e year two same named = absurd (omega (arith, two))

@@ -1,12 +1,13 @@
 -- Bytes that are written in several steps.
 use Rattle.std.proofs.Common.{◌≡◌, ℕ, Bool, true, subst, ◌-◌, ◌≤◌, List, [], ◌∷◌, ◌++◌, length, length-drop, take, drop}
-use Rattle.std.proofs.Common.{Option, Result, Ok, Err, OnOk, OnErr, sym, ◌∙◌, ap, append_assoc, append-nil, arith, refl}
+use Rattle.std.proofs.Common.{Option, Some, Result, Ok, Err, OnOk, OnErr, sym, ◌∙◌}
+use Rattle.std.proofs.Common.{ap, append_assoc, append-nil, arith, refl}
 use Rattle.std.proofs.KnownBytes.{Appends-kept, Appends-trans}
 use Rattle.std.proofs.lemmas.List.{take_all, take_at, take-append-drop}
 use Rattle.std.specs.Io.KnownBytes.{Appends, Keeps}
 use Rattle.syslog_lines.specs.Lines.{IsLines}
-use Rattle.syslog_lines.specs.Output.{AnswersAll, AnswersBefore, Filter, output_of}
-use Rattle.syslog_lines.specs.Write.{WritesFirst, WroteBefore, WroteCut}
+use Rattle.syslog_lines.specs.Output.{Filter, output_of}
+use Rattle.syslog_lines.specs.Write.{AnswersAll, AnswersBefore, WritesFirst, Wrote, WroteCut}
 use Rattle.syslog_lines.specs.declared.summary.Tally.{Tally}
 use Rattle.syslog_lines.specs.declared.summary.RunFault.{RunFault}
 use Rattle.syslog_lines.specs.declared.summary.RunFault.TheVariants.{Write}
@@ -39,70 +40,77 @@ WroteSoFar-front old mid new bytes rest so_far unchanged = (
       (Appends-kept old mid new so_far.written so_far.appended unchanged),
 )
 
--- the write of the output failed, whether all lines were answered or those before one that has an answer
-WroteCut-either : {X E : Type 0} (r : Result X E) (filter : Filter) (bytes output : List ℕ) (was is : Tally)
-    (out_before out_after : Option (List ℕ)) → OnOk r (AnswersAll filter bytes [] output was is)
-    → OnErr r (AnswersBefore filter bytes [] output)
-    → (size : ℕ) × Appends out_before out_after (take size output) → (lines : List (List ℕ)) × IsLines bytes lines
-    × WroteCut filter lines out_before out_after
-WroteCut-either (Ok x) filter bytes output was is out_before out_after all first wrote = (
-  all.lines,
-  all.cut,
-  record {
-    before = all.lines;
-    after = [];
-    listed = sym (append-nil all.lines);
-    answers = all.answers;
-    answered = all.answered;
-    size = wrote.0;
-    written = subst (λ (l : List ℕ). Appends out_before out_after (take wrote.0 l)) all.added wrote.1;
-  },
-)
-WroteCut-either (Err e) filter bytes output was is out_before out_after all first wrote = (
-  first.before ++ first.line ∷ first.after,
-  first.cut,
-  record {
-    before = first.before;
-    after = first.line ∷ first.after;
-    listed = refl;
-    answers = first.answers;
-    answered = first.answered;
-    size = wrote.0;
-    written = subst (λ (l : List ℕ). Appends out_before out_after (take wrote.0 l)) first.added wrote.1;
-  },
-)
+-- ---- what was written to one writer, as written to another
 
-pub WritesFirst-cut : {X E : Type 0} (r : Result X E) (filter : Filter) (bytes cleared output : List ℕ) (was is : Tally)
-    (out_before out_after : Option (List ℕ)) (failed : Bool) (fault : RunFault) → cleared ≡ []
-    → OnOk r (AnswersAll filter bytes cleared output was is) → OnErr r (AnswersBefore filter bytes cleared output)
-    → (fault ≡ Write) × (failed ≡ true) → (size : ℕ) × Appends out_before out_after (take size output)
-    → WritesFirst filter bytes out_before out_after failed fault
-WritesFirst-cut r filter bytes cleared output was is out_before out_after failed fault empty all first failure wrote =
-    let all_here : OnOk r (AnswersAll filter bytes [] output was is) =
-    subst (λ (l : List ℕ). OnOk r (AnswersAll filter bytes l output was is)) empty all in
-    let first_here : OnErr r (AnswersBefore filter bytes [] output) =
-    subst (λ (l : List ℕ). OnErr r (AnswersBefore filter bytes l output)) empty first in
-    let cut = WroteCut-either r filter bytes output was is out_before out_after all_here first_here wrote in
-    subst (WritesFirst filter bytes out_before out_after failed) (sym failure.0) (failure.1, cut)
+-- output that was collected, and is then written
+pub appends_collected : (old all : List ℕ) (out_before out_after : Option (List ℕ)) → old ≡ []
+    → Appends out_before out_after all → (output : List ℕ) → Appends (Some old) (Some all) output
+    → Appends out_before out_after output
+appends_collected old all out_before out_after empty written output added =
+    subst (Appends out_before out_after) (rw empty at added) written
 
--- the output of the lines before one that has an answer was written
-pub WroteBefore-all : (filter : Filter) (bytes old output : List ℕ) (out_before out_after : Option (List ℕ)) → old ≡ []
-    → AnswersBefore filter bytes old output → Appends out_before out_after output
-    → (lines : List (List ℕ)) × IsLines bytes lines × WroteBefore filter lines out_before out_after
-WroteBefore-all filter bytes old output out_before out_after empty first wrote = (
-  first.before ++ first.line ∷ first.after,
-  first.cut,
-  record {
-    before = first.before;
-    line = first.line;
-    after = first.after;
-    listed = refl;
-    wanted = first.wanted;
-    wrote = record {
-      answers = first.answers;
-      answered = first.answered;
-      written = subst (λ (o : List ℕ). Appends out_before out_after o)
-          (first.added ∙ ap (λ (o : List ℕ). o ++ output_of first.answers) empty) wrote;
-    };
-  },
-)
+pub begins_collected : (old all : List ℕ) (out_before out_after : Option (List ℕ)) → old ≡ []
+    → (size : ℕ) × Appends out_before out_after (take size all) → (output : List ℕ)
+    → Appends (Some old) (Some all) output → (size : ℕ) × Appends out_before out_after (take size output)
+begins_collected old all out_before out_after empty (size, written) output added =
+    (size, subst (λ (l : List ℕ). Appends out_before out_after (take size l)) (rw empty at added) written)
+
+module _ (filter : Filter) (bytes : List ℕ) (old mid out_before out_after : Option (List ℕ))
+    (moves : (output : List ℕ) → Appends old mid output → Appends out_before out_after output) where
+  Wrote-moved : (lines : List (List ℕ)) → Wrote filter lines old mid → Wrote filter lines out_before out_after
+  Wrote-moved lines wrote = record {
+    answers = wrote.answers;
+    answered = wrote.answered;
+    written = moves (output_of wrote.answers) wrote.written;
+  }
+
+  pub AnswersAll-moved : (was is : Tally) → AnswersAll filter bytes old mid was is
+      → AnswersAll filter bytes out_before out_after was is
+  unfolding Wrote-moved
+  AnswersAll-moved was is (lines, cut, all) =
+      (lines, cut, record { wrote = Wrote-moved lines all.wrote; counted = all.counted })
+
+  pub AnswersBefore-moved : AnswersBefore filter bytes old mid → AnswersBefore filter bytes out_before out_after
+  AnswersBefore-moved (lines, cut, first) = (
+    lines,
+    cut,
+    record {
+      before = first.before;
+      line = first.line;
+      after = first.after;
+      listed = first.listed;
+      wanted = first.wanted;
+      wrote = Wrote-moved first.before first.wrote;
+    },
+  )
+
+-- a beginning of it
+module _ (filter : Filter) (bytes : List ℕ) (old mid out_before out_after : Option (List ℕ))
+    (begins : (output : List ℕ) → Appends old mid output
+    → (size : ℕ) × Appends out_before out_after (take size output)) where
+  WroteCut-begun : (lines before after : List (List ℕ)) → lines ≡ before ++ after → Wrote filter before old mid
+      → WroteCut filter lines out_before out_after
+  WroteCut-begun lines before after listed wrote =
+      let (size, written) = begins (output_of wrote.answers) wrote.written in record {
+        before = before;
+        after = after;
+        listed = listed;
+        answers = wrote.answers;
+        answered = wrote.answered;
+        size = size;
+        written = written;
+      }
+
+  pub AnswersAll-begun : (was is : Tally) → AnswersAll filter bytes old mid was is
+      → (lines : List (List ℕ)) × IsLines bytes lines × WroteCut filter lines out_before out_after
+  AnswersAll-begun was is (lines, cut, all) =
+      (lines, cut, WroteCut-begun lines lines [] (sym (append-nil lines)) all.wrote)
+
+  -- whether all lines were answered or those before one that wants memory
+  pub WritesFirst-begun : {X E : Type 0} (r : Result X E) (was is : Tally) (failed : Bool) (fault : RunFault)
+      → OnOk r (AnswersAll filter bytes old mid was is) → OnErr r (AnswersBefore filter bytes old mid)
+      → (fault ≡ Write) × (failed ≡ true) → WritesFirst filter bytes out_before out_after failed fault
+  WritesFirst-begun (Ok x) was is failed fault all first (named, failure) =
+      rw named (failure, AnswersAll-begun was is all)
+  WritesFirst-begun (Err e) was is failed fault all (lines, cut, first) (named, failure) = rw named
+      (failure, (lines, cut, WroteCut-begun lines first.before (first.line ∷ first.after) first.listed first.wrote))

@@ -3,7 +3,6 @@ use Rattle.std.specs.Prelude.{◌≡◌, ◌+◌, ℕ, Bool, true, false, not, L
 use Rattle.std.specs.List.{AllZip, flat_map}
 use Rattle.syslog_lines.specs.declared.summary.Tally.{Tally}
 use Rattle.syslog_lines.specs.Count.{held_count}
-use Rattle.syslog_lines.specs.Lines.{IsLines}
 
 -- the answer to a line: these bytes are written for it; or they are, and the line counts as passed over; or nothing is
 pub data Answer : Type 0 where
@@ -52,30 +51,3 @@ Counts was is answers = (answered passed_over : ℕ) → HasCounted was answered
 abbrev pub AddsAnswer : Filter → List ℕ → List ℕ → List ℕ → Bool → Type 0
 AddsAnswer filter line old new answered = (answer : Answer) × filter.Answers line answer
     × (new ≡ old ++ answer_bytes answer) × (answered ≡ is_answered answer)
-
--- one line was answered, its output added, and the line counted
-pub record AnswersLine (filter : Filter) (line old new : List ℕ) (was is : Tally) : Type 0 where
-  pub answer : Answer
-  pub answered : filter.Answers line answer
-  pub added : new ≡ old ++ answer_bytes answer
-  pub counted : Counts was is (answer ∷ [])
-
--- all lines of the bytes were answered, their output added, and the lines counted
-pub record AnswersAll (filter : Filter) (bytes old new : List ℕ) (was is : Tally) : Type 0 where
-  pub lines : List (List ℕ)
-  pub answers : List Answer
-  pub cut : IsLines bytes lines
-  pub answered : AreAnswers filter lines answers
-  pub added : new ≡ old ++ output_of answers
-  pub counted : Counts was is answers
-
--- the lines of the bytes before one for which memory may be wanted were answered, and their output added
-pub record AnswersBefore (filter : Filter) (bytes old new : List ℕ) : Type 0 where
-  pub before : List (List ℕ)
-  pub line : List ℕ
-  pub after : List (List ℕ)
-  pub cut : IsLines bytes (before ++ line ∷ after)
-  pub wanted : filter.Wants line
-  pub answers : List Answer
-  pub answered : AreAnswers filter before answers
-  pub added : new ≡ old ++ output_of answers

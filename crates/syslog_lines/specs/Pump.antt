@@ -1,7 +1,8 @@
 -- What a filter reads and writes, and how it ends: this project's own choice.
-use Rattle.std.specs.Prelude.{◌≡◌, ◌≤◌, ℕ, Bool, true, false, List, [], ◌++◌, ◌⊎◌}
+use Rattle.std.specs.Prelude.{◌≡◌, ◌+◌, ◌≤◌, ℕ, Bool, true, false, List, [], ◌++◌, ◌⊎◌}
 use Rattle.std.specs.Prelude.{Option, Result, Ok, Err, length, count_by, All}
 use Rattle.std.specs.Io.KnownBytes.{Appends, Consumes, IsAtEnd}
+use Rattle.syslog_lines.specs.Count.{held_count}
 use Rattle.syslog_lines.specs.Lines.{IsLines, NoFeed, with_feeds}
 use Rattle.syslog_lines.specs.Output.{Answer, AreAnswers, Filter, HasCounted, is_answered, is_passed_over, output_of}
 use Rattle.syslog_lines.specs.Size.{block_size}
@@ -38,11 +39,12 @@ pub record FiltersAll (filter : Filter) (in_before in_after out_before out_after
   pub answered : AreAnswers filter lines answers
   pub written : Appends out_before out_after (output_of answers)
 
--- the same, and the tally counts the answers
+-- the same, and the tally counts the answers; so it counts the lines
 abbrev pub PumpsAll : Filter → Option (List ℕ) → Option (List ℕ) → Option (List ℕ) → Option (List ℕ) → Tally → Type 0
 PumpsAll filter in_before in_after out_before out_after tally = (answers : List Answer)
-    × FiltersAll filter in_before in_after out_before out_after answers
+    × (all : FiltersAll filter in_before in_after out_before out_after answers)
     × HasCounted tally (count_by is_answered answers) (count_by is_passed_over answers)
+    × (held_count (tally.answered + tally.passed_over) ≡ held_count (length all.lines))
 
 -- the output of all complete lines of what was read was written
 abbrev pub LosesNothing : Filter → Option (List ℕ) → Option (List ℕ) → Option (List ℕ) → Option (List ℕ) → Type 0

@@ -1,8 +1,8 @@
 -- What is written for some lines.
-use Rattle.std.specs.Prelude.{◌≡◌, ℕ, Bool, true, false, List, [], ◌∷◌, ◌++◌, Option, take}
+use Rattle.std.specs.Prelude.{◌≡◌, ℕ, Bool, true, false, List, ◌∷◌, ◌++◌, Option, take}
 use Rattle.std.specs.Io.KnownBytes.{Appends}
 use Rattle.syslog_lines.specs.Lines.{IsLines}
-use Rattle.syslog_lines.specs.Output.{Answer, AnswersAll, AreAnswers, Filter, output_of}
+use Rattle.syslog_lines.specs.Output.{Answer, AreAnswers, Counts, Filter, output_of}
 use Rattle.syslog_lines.specs.declared.summary.Tally.{Tally}
 use Rattle.syslog_lines.specs.declared.summary.RunFault.{RunFault}
 use Rattle.syslog_lines.specs.declared.summary.RunFault.TheVariants.{Read, Write, Memory}
@@ -32,10 +32,21 @@ pub record WroteCut (filter : Filter) (lines : List (List ℕ)) (out_before out_
   pub size : ℕ
   pub written : Appends out_before out_after (take size (output_of answers))
 
--- the output of all lines of the bytes was written, and the lines counted
-abbrev pub WritesAll : Filter → List ℕ → Option (List ℕ) → Option (List ℕ) → Tally → Tally → Type 0
-WritesAll filter bytes out_before out_after was is = (output : List ℕ) × AnswersAll filter bytes [] output was is
-    × Appends out_before out_after output
+-- the output of the lines was written, and the lines counted
+pub record Answered (filter : Filter) (lines : List (List ℕ)) (out_before out_after : Option (List ℕ)) (was is : Tally)
+    : Type 0 where
+  pub wrote : Wrote filter lines out_before out_after
+  pub counted : Counts was is wrote.answers
+
+-- that of all lines of the bytes
+abbrev pub AnswersAll : Filter → List ℕ → Option (List ℕ) → Option (List ℕ) → Tally → Tally → Type 0
+AnswersAll filter bytes out_before out_after was is = (lines : List (List ℕ)) × IsLines bytes lines
+    × Answered filter lines out_before out_after was is
+
+-- that of their lines before one for which memory may be wanted
+abbrev pub AnswersBefore : Filter → List ℕ → Option (List ℕ) → Option (List ℕ) → Type 0
+AnswersBefore filter bytes out_before out_after = (lines : List (List ℕ)) × IsLines bytes lines
+    × WroteBefore filter lines out_before out_after
 
 -- by the fault: what was written of the output of the bytes' lines, and whether the writer failed
 abbrev pub WritesFirst : Filter → List ℕ → Option (List ℕ) → Option (List ℕ) → Bool → RunFault → Type 0
@@ -43,4 +54,4 @@ WritesFirst filter bytes out_before out_after failed Read = ⊥
 WritesFirst filter bytes out_before out_after failed Write = (failed ≡ true)
     × ((lines : List (List ℕ)) × IsLines bytes lines × WroteCut filter lines out_before out_after)
 WritesFirst filter bytes out_before out_after failed Memory = (failed ≡ false)
-    × ((lines : List (List ℕ)) × IsLines bytes lines × WroteBefore filter lines out_before out_after)
+    × AnswersBefore filter bytes out_before out_after

@@ -1,6 +1,6 @@
 //! The answers of a filter to lines.
-ghost use Rattle.std.specs.Prelude.{◌≡◌, OnOk, OnErr};
-ghost use Rattle.syslog_lines.specs.Output.{AnswersAll, AnswersBefore, AnswersLine};
+ghost use Rattle.std.specs.Prelude.{◌≡◌, ◌∷◌, [], OnOk, OnErr, Some};
+ghost use Rattle.syslog_lines.specs.Write.{Answered, AnswersAll, AnswersBefore};
 
 use crate::filter::LineFilter;
 use crate::lines::{first_line, first_text_line};
@@ -19,8 +19,10 @@ pub fn answer_lines<F: LineFilter>(
     tally: &mut Tally,
 ) -> Result<(), AllocError>
     ensures ok { OnOk result
-        (AnswersAll (F.answers filter.now) lines.now output.old.items output.new.items tally.old tally.new) }
-    ensures err { OnErr result (AnswersBefore (F.answers filter.now) lines.now output.old.items output.new.items) }
+        (AnswersAll (F.answers filter.now) lines.now (Some output.old.items) (Some output.new.items)
+        tally.old tally.new) }
+    ensures err { OnErr result
+        (AnswersBefore (F.answers filter.now) lines.now (Some output.old.items) (Some output.new.items)) }
 {
     match str::from_utf8(lines) {
         Ok(valid) => answer_text_lines(alloc, filter, valid, text, output, tally),
@@ -38,8 +40,10 @@ fn answer_text_lines<F: LineFilter>(
     tally: &mut Tally,
 ) -> Result<(), AllocError>
     ensures ok { OnOk result
-        (AnswersAll (F.answers filter.now) lines.now output.old.items output.new.items tally.old tally.new) }
-    ensures err { OnErr result (AnswersBefore (F.answers filter.now) lines.now output.old.items output.new.items) }
+        (AnswersAll (F.answers filter.now) lines.now (Some output.old.items) (Some output.new.items)
+        tally.old tally.new) }
+    ensures err { OnErr result
+        (AnswersBefore (F.answers filter.now) lines.now (Some output.old.items) (Some output.new.items)) }
 {
     let mut rest = lines;
     while !rest.is_empty() {
@@ -60,8 +64,10 @@ fn answer_byte_lines<F: LineFilter>(
     tally: &mut Tally,
 ) -> Result<(), AllocError>
     ensures ok { OnOk result
-        (AnswersAll (F.answers filter.now) lines.now output.old.items output.new.items tally.old tally.new) }
-    ensures err { OnErr result (AnswersBefore (F.answers filter.now) lines.now output.old.items output.new.items) }
+        (AnswersAll (F.answers filter.now) lines.now (Some output.old.items) (Some output.new.items)
+        tally.old tally.new) }
+    ensures err { OnErr result
+        (AnswersBefore (F.answers filter.now) lines.now (Some output.old.items) (Some output.new.items)) }
 {
     let mut rest = lines;
     while !rest.is_empty() {
@@ -83,7 +89,8 @@ fn answer_bytes<F: LineFilter>(
     tally: &mut Tally,
 ) -> Result<(), AllocError>
     ensures ok { OnOk result
-        (AnswersLine (F.answers filter.now) line.now output.old.items output.new.items tally.old tally.new) }
+        (Answered (F.answers filter.now) (line.now ∷ []) (Some output.old.items) (Some output.new.items)
+        tally.old tally.new) }
     ensures err { OnErr result (output.new.items ≡ output.old.items) }
     ensures refusal { OnErr result ((F.answers filter.now).Wants line.now) }
 {
@@ -98,6 +105,7 @@ fn answer_bytes<F: LineFilter>(
 }
 
 // The same, of a text.
+#[inline(always)]
 fn answer_text<F: LineFilter>(
     alloc: Global,
     filter: &F,
@@ -107,7 +115,8 @@ fn answer_text<F: LineFilter>(
     tally: &mut Tally,
 ) -> Result<(), AllocError>
     ensures ok { OnOk result
-        (AnswersLine (F.answers filter.now) line.now output.old.items output.new.items tally.old tally.new) }
+        (Answered (F.answers filter.now) (line.now ∷ []) (Some output.old.items) (Some output.new.items)
+        tally.old tally.new) }
     ensures err { OnErr result (output.new.items ≡ output.old.items) }
     ensures refusal { OnErr result ((F.answers filter.now).Wants line.now) }
 {

@@ -1,8 +1,9 @@
 -- What the tests of the written condition answer.
-use Rattle.std.proofs.Common.{◌≡◌, ℕ, ◌<◌, Bool, true, false, not, List, [], ◌∷◌, length, map, refl, sym, ap, subst}
+use Rattle.std.proofs.Common.{◌≡◌, ℕ, ◌<◌, Bool, true, false, not, List, [], length, map, refl, sym, ap, subst}
 use Rattle.std.proofs.Common.{◌∙◌, arith}
 use Rattle.std.specs.Prelude.{◌↔◌, IsTrue, MatchBool}
 use Rattle.std.specs.Str.{chars, IsUtf8, trim_end, bytes_eq, drop_trailing_whitespace}
+use Rattle.std.proofs.lemmas.List.{length-map, nil_from_length}
 use Rattle.std.proofs.lemmas.Slice.Eq.{bytes_eq-Decides}
 use Rattle.syslog_pieces.specs.Pieces.Class.{Text, NoFront}
 use Rattle.syslog_pieces.specs.StructuredData.Rfc3164List.{BeginsNoList, rfc3164_list}
@@ -26,16 +27,13 @@ visible_told bs ts b u v e f =
 
 -- a list that is there, seen through a function
 pub some_params : {X Y : Type 0} (f : X → Y) (xs : List X) → 0 < length (map f xs) → 0 < length xs
-some_params f [] h = h
-some_params f (x ∷ xs) h = omega arith
+some_params f xs h = omega (arith, length-map xs f)
 
 pub no_items : {X Y : Type 0} (f : X → Y) (xs : List X) → (0 < length xs → ⊥) → map f xs ≡ []
-no_items f [] n = refl
-no_items f (x ∷ xs) n = absurd (n (omega arith))
+no_items f xs n = ap (map f) (nil_from_length xs (omega (arith, n)))
 
 pub some_items : {X Y : Type 0} (f : X → Y) (xs : List X) → 0 < length xs → map f xs ≡ [] → ⊥
-some_items f [] h e = omega arith
-some_items f (x ∷ xs) h e = let k = ap length e in omega arith
+some_items f xs h e = omega (arith, length-map xs f, ap length e)
 
 -- a message that begins no list
 pub no_list_told : (rule : DashRule) (t : Text) (b : Bool)

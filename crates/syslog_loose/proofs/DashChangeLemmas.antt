@@ -1,10 +1,10 @@
 -- Which texts are read differently since the rule of the dash changed, and that the condition only grew.
-use Rattle.std.proofs.Common.{◌≡◌, ◌↔◌, ◌⊎◌, inl, inr, ℕ, suc, ℤ, Bool, true, false, MatchBool}
-use Rattle.std.proofs.Common.{IsTrue, List, [], ◌∷◌, ◌++◌, length, Option, Some, None, refl}
-use Rattle.std.proofs.Common.{sym, ap, subst, ◌∙◌, arith, append_assoc, append-nil}
+use Rattle.std.proofs.Common.{◌≡◌, ◌↔◌, ◌⊎◌, inl, inr, ℕ, suc, ℤ, Bool, true, false, MatchBool, IsTrue, List, [], ◌∷◌}
+use Rattle.std.proofs.Common.{◌++◌, length, Option, Some, None, refl, sym, ap, subst, ◌∙◌, arith, append_assoc}
+use Rattle.std.proofs.Common.{append-nil}
 use Rattle.std.proofs.lemmas.Bool.Decides.{eqb_tells}
-use Rattle.syslog_pieces.specs.Pieces.Class.{Text, Class, Values, Front, NoFront, join}
-use Rattle.syslog_pieces.specs.Pieces.Class.{Divides, Row, Ends, exactly, optional}
+use Rattle.syslog_pieces.specs.Pieces.Class.{Text, Class, Values, Front, NoFront, join, Divides, Row, Ends, exactly}
+use Rattle.syslog_pieces.specs.Pieces.Class.{optional}
 use Rattle.syslog_pieces.specs.StructuredData.Element.{ElementValue}
 use Rattle.syslog_pieces.specs.StructuredData.Rfc3164List.{IsRfc3164List, rfc3164_list, BeginsNoList}
 use Rattle.syslog_pieces.specs.Text.{trimmed, is_blank, dash}
@@ -13,23 +13,24 @@ use Rattle.jiff.specs.declared.tz.timezone.TimeZone.{TimeZone}
 use Rattle.syslog_pieces.specs.Timestamp.Zone.{Dating, dating_of}
 use Rattle.syslog_pieces.specs.declared.timestamp.month_date.MonthDate.{MonthDate}
 use Rattle.syslog_loose.specs.Reading.{IsReadUnder, IsUnreadable, IncompleteDate, AsksYear, IsYearAnswered, InYear}
+use Rattle.syslog_loose.proofs.ReadingLemmas.{in_answered_year}
 use Rattle.syslog_loose.proofs.Rfc3164Lemmas.Apart.{not_both}
 use Rattle.syslog_loose.proofs.Rfc3164Lemmas.Stamped.{division_is_stamped}
 use Rattle.syslog_loose.proofs.Rfc3164Lemmas.Years.{other_read}
 use Rattle.syslog_pieces.specs.declared.structured_data.rfc3164_list.DashRule.{DashRule}
 use Rattle.syslog_pieces.specs.declared.structured_data.rfc3164_list.DashRule.TheVariants.{BeforeAnything, BeforeBlank}
 use Rattle.syslog_pieces.proofs.PieceLemmas.Class.{AllDeterministic, heads, front_same, row_det, optional_none}
-use Rattle.syslog_pieces.proofs.PieceLemmas.Class.{optional_some, row_cons, row_head}
-use Rattle.syslog_pieces.proofs.PieceLemmas.Class.{rows_join, division_front, front_division, both_values}
-use Rattle.syslog_pieces.proofs.PieceLemmas.Class.{all_joined, firsts, lasts, rows_split}
+use Rattle.syslog_pieces.proofs.PieceLemmas.Class.{optional_some, row_cons, row_head, rows_join, division_front}
+use Rattle.syslog_pieces.proofs.PieceLemmas.Class.{front_division, both_values, all_joined, firsts, lasts, rows_split}
+use Rattle.syslog_pieces.proofs.StructuredDataLemmas.Units.{decide}
 use Rattle.syslog_pieces.proofs.StructuredDataLemmas.Rfc3164List.{dash_rfc3164_list, full_begins, no_rfc3164_list}
 use Rattle.syslog_loose.specs.declared.message.Protocol.{Protocol}
 use Rattle.syslog_loose.specs.declared.message.Protocol.TheVariants as protocol
 use Rattle.syslog_loose.specs.declared.variant.Variant.{Variant}
 use Rattle.syslog_loose.specs.declared.variant.Variant.TheVariants.{Either, RFC3164, RFC5424}
 use Rattle.syslog_loose.specs.Canonical.{IsCanonicalFor, IsCanonical}
-use Rattle.syslog_loose.specs.DashChange.{ReadsDifferently, BeginsDashChange}
-use Rattle.syslog_loose.specs.DashChange.{HasDashChange3164, HasDashChange, WasUnreadable}
+use Rattle.syslog_loose.specs.DashChange.{ReadsDifferently, BeginsDashChange, HasDashChange3164, HasDashChange}
+use Rattle.syslog_loose.specs.DashChange.{WasUnreadable}
 use Rattle.syslog_loose.specs.Message.{MessageValue}
 use Rattle.syslog_loose.specs.Rfc3164.{Names3164, Resolves, stamped_row, fields_row, rfc3164_row, Means3164, IsRead3164}
 use Rattle.syslog_loose.proofs.Rfc3164Lemmas.Rows.{from_gap, from_list, gap_back}
@@ -77,17 +78,14 @@ dropped_dash_change p q d =
       no_blank = d.no_blank;
     }
 
-dash_turns : (p : Text) (c : ℕ) (q : Text) (es : List ElementValue) (b : Bool) → is_blank c ≡ b → p ≡ dash → es ≡ []
-    → IsDropped p (c ∷ q) ⊎ IsRfc3164List BeforeBlank p (c ∷ q) es
-dash_turns p c q es true e f g = inr (inl (f, e, g))
-dash_turns p c q es false e f g = inl (record { is_dash = f; next = c; more = q; follows = refl; no_blank = e })
-
 some_turns : (p q : Text) (es : List ElementValue) → IsRfc3164List BeforeAnything p q es
     → IsDropped p q ⊎ IsRfc3164List BeforeBlank p q es
+some_turns p q es (inr h) = inr (inr h)
 some_turns p [] es (inl (f, u, g)) = inr (inl (f, tt, g))
-some_turns p (c ∷ q) es (inl (f, u, g)) = dash_turns p c q es (is_blank c) refl f g
-some_turns p [] es (inr h) = inr (inr h)
-some_turns p (c ∷ q) es (inr h) = inr (inr h)
+some_turns p (c ∷ q) es (inl (f, u, g)) = elim (decide (is_blank c)) [
+  | inl b ↦ inr (inl (f, b, g))
+  | inr b ↦ inl (record { is_dash = f; next = c; more = q; follows = refl; no_blank = b })
+]
 
 wider : (p q : Text) (es : List ElementValue) → IsRfc3164List BeforeBlank p q es → IsRfc3164List BeforeAnything p q es
 wider p q es (inl (f, u, g)) = inl (f, tt, g)
@@ -300,30 +298,16 @@ module _ (dating : Dating) (text : Text) where
 
 -- ---- a text was read exactly where it is
 
-same_behind : (xs ys : Text) → 45 ∷ xs ≡ 45 ∷ ys → xs ≡ ys
-same_behind xs ys e = cc
-
--- a lone dash is the end
-pub dash_ends : (t : Text) → t ≡ 45 ∷ [] → BeginsDashChange t → ⊥
-dash_ends t e h = let k : [] ≡ h.next ∷ h.behind = same_behind _ _ (sym e ∙ h.is) in cc
-
-dash_change_next : (c : ℕ) (q : Text) (b : Bool) → is_blank c ≡ b → BeginsDashChange (45 ∷ (c ∷ q))
-    ⊎ (BeginsDashChange (45 ∷ (c ∷ q)) → ⊥)
-dash_change_next c q false e = inl (record { next = c; behind = q; is = refl; no_blank = e })
-dash_change_next c q true e = inr (λ h. let k : c ∷ q ≡ h.next ∷ h.behind = same_behind _ _ h.is in
-    let l : is_blank c ≡ false = ap is_blank (heads c h.next q h.behind k) ∙ h.no_blank in cc)
-
-dash_change_head : (c : ℕ) (t : Text) → c ≡ 45 → BeginsDashChange (c ∷ t) ⊎ (BeginsDashChange (c ∷ t) → ⊥)
-dash_change_head c [] e = inr (λ h. dash_ends (c ∷ []) (ap (λ (x : ℕ). x ∷ []) e) h)
-dash_change_head c (d ∷ q) e = subst (λ (x : ℕ). BeginsDashChange (x ∷ (d ∷ q)) ⊎ (BeginsDashChange (x ∷ (d ∷ q)) → ⊥))
-    (sym e) (dash_change_next d q (is_blank d) refl)
-
 dash_change_or_not : (t : Text) → BeginsDashChange t ⊎ (BeginsDashChange t → ⊥)
 dash_change_or_not [] = inr (λ h. let k : [] ≡ 45 ∷ (h.next ∷ h.behind) = h.is in cc)
-dash_change_or_not (c ∷ t) = elim (eqb_tells c 45) [
-  | inl (_, e) ↦ dash_change_head c t e
-  | inr (_, n) ↦
-      inr (λ h. n (heads c 45 t (h.next ∷ h.behind) h.is))
+dash_change_or_not (c ∷ []) = inr (λ h. let k : c ∷ [] ≡ 45 ∷ (h.next ∷ h.behind) = h.is in cc)
+dash_change_or_not (c ∷ d ∷ q) = elim (eqb_tells c 45) [
+  | inl (_, e) ↦ elim (decide (is_blank d)) [
+    | inl b ↦ inr (λ h. let k : c ∷ d ∷ q ≡ 45 ∷ (h.next ∷ h.behind) = h.is in let same : d ≡ h.next = cc in
+        let t : true ≡ false = sym b ∙ ap is_blank same ∙ h.no_blank in cc)
+    | inr b ↦ inl (record { next = d; behind = q; is = ap (λ (x : ℕ). x ∷ d ∷ q) e; no_blank = b })
+  ]
+  | inr (_, n) ↦ inr (λ h. n (heads c 45 (d ∷ q) (h.next ∷ h.behind) h.is))
 ]
 
 list_returns : (t q : Text) (es : Option (List ElementValue)) → Front (optional (rfc3164_list BeforeBlank)) t q es
@@ -409,13 +393,11 @@ pub told_by_list : (dating : Dating) (text t list : Text) (vs : Values (before_l
     → MatchBool b (BeginsDashChange list) (BeginsDashChange list → ⊥)
     → MatchBool b (ReadsDifferently RFC3164 dating text) (ReadsDifferently RFC3164 dating text → ⊥)
 told_by_list dating text t list vs n true e f means h =
-    let g = subst (λ (x : Text). Front (Row (before_list dating)) (trimmed text) x vs) h.is
-    (subst (λ (x : Text). Front (Row (before_list dating)) x list vs) e f) in
+    let g = rw (e, h.is) at f in
     differ_of_dash_change dating text vs n h.next h.behind g means h.no_blank
 told_by_list dating text t list vs n false e f means h = λ k.
     let d = forth dating text RFC3164 k.before k.now k.was_read k.is_read k.differ in
-    let g = subst (λ (x : Text). Front (Row (before_list dating)) x list vs) e f in
-    let same = (front_same (Row (before_list dating)) (row_det (before_list dating) (before_det dating)) g
+    let same = (front_same (Row (before_list dating)) (row_det (before_list dating) (before_det dating)) (rw e at f)
     (dropped_at dating text d)).0 in
     h (record { next = d.next; behind = d.more; is = same; no_blank = d.no_blank })
 
@@ -459,34 +441,26 @@ pub told_in : (post : IncompleteDate → ℤ → Type 0) (variant : Variant) (te
     (local : Bor TimeZone) (b : Bool) (year : Option ℤ) → IsYearAnswered post variant text year
     → IsTrue b ↔ ReadsDifferently variant (dating_of year tz local) text
     → InYear post variant text (λ y. IsTrue b ↔ ReadsDifferently variant (dating_of y tz local) text)
-told_in post variant text tz local b None is h = record {
-  answered = None;
-  is_answered = is;
-  holds = λ other agrees. (
-    λ t. dash_change_in_any variant (dating_of None tz local) (dating_of other tz local) text refl refl is (h.0 t),
-    λ r. h.1 (dash_change_in_any variant (dating_of other tz local) (dating_of None tz local) text refl refl is r),
-  );
-}
-told_in post variant text tz local b (Some year) is h = record {
-  answered = Some year;
-  is_answered = is;
-  holds = λ other agrees. subst (λ (y : Option ℤ). IsTrue b ↔ ReadsDifferently variant (dating_of y tz local) text)
-      (sym (agrees is.0 is.1)) h;
-}
+told_in post variant text tz local b year is h =
+    in_answered_year post variant text (λ y. IsTrue b ↔ ReadsDifferently variant (dating_of y tz local) text) year is
+    (λ never other told. (
+      λ t. dash_change_in_any variant (dating_of None tz local) (dating_of other tz local) text refl refl never
+          (told.0 t),
+      λ r. told.1 (dash_change_in_any variant (dating_of other tz local) (dating_of None tz local) text refl refl never
+          r),
+    )) h
 
 -- ---- the answer under each variant
 
-never_5424 : (dating : Dating) (text : Text) → ReadsDifferently RFC5424 dating text → ⊥
-never_5424 dating text r = r.differ (strict.one_message text r.before r.now r.was_read r.is_read)
-
 pub told_5424 : (dating : Dating) (text : Text) → IsTrue false ↔ ReadsDifferently RFC5424 dating text
-told_5424 dating text = (λ t. absurd (let k : false ≡ true = t in cc), λ r. absurd (never_5424 dating text r))
+told_5424 dating text =
+    (λ t. cc, λ r. absurd (r.differ (strict.one_message text r.before r.now r.was_read r.is_read)))
 
 pub told_3164 : (dating : Dating) (text : Text) (b : Bool)
     → MatchBool b (ReadsDifferently RFC3164 dating text) (ReadsDifferently RFC3164 dating text → ⊥) → IsTrue b
     ↔ ReadsDifferently RFC3164 dating text
 told_3164 dating text true h = (λ t. h, λ r. refl)
-told_3164 dating text false h = (λ t. absurd (let k : false ≡ true = t in cc), λ r. absurd (h r))
+told_3164 dating text false h = (λ t. cc, λ r. absurd (h r))
 
 pub told_either : (dating : Dating) (text : Text) (b : Bool)
     → MatchBool b (ReadsDifferently RFC3164 dating text) (ReadsDifferently RFC3164 dating text → ⊥) → IsTrue b

@@ -1,18 +1,18 @@
 -- What the readers of a skipped round tell.
-use Rattle.std.proofs.Common.{◌≡◌, ℕ, zero, suc, ◌+◌, ◌-◌, ◌<◌, true, false, map, Result, Ok, Err, subst, List}
-use Rattle.std.proofs.Common.{[], ◌∷◌, ◌++◌, length, Option, Some, None, refl, sym, ap, ◌∙◌, arith}
-use Rattle.std.proofs.Common.{append_assoc, append-nil}
-use Rattle.std.proofs.lemmas.List.{length-append}
+use Rattle.std.proofs.Common.{◌≡◌, ℕ, zero, suc, ◌+◌, ◌-◌, ◌<◌, true, false, Result, Ok, Err, subst, List, [], ◌∷◌}
+use Rattle.std.proofs.Common.{◌++◌, length, Option, Some, None, refl, sym, ap, ◌∙◌, arith, append_assoc, append-nil}
+use Rattle.std.proofs.Common.{zero-add, suc-add, add-zero, add-suc}
+use Rattle.std.proofs.lemmas.List.{nil_from_length}
 use Rattle.std.specs.Borrow.{Bor}
 use Rattle.std.specs.Prelude.{MatchOption, OnOk}
 use Rattle.std.specs.Str.{chars, encode_utf8_all, IsUtf8}
 use Rattle.std.specs.Str.Pattern.{FindsTextPrefix, FindsTextSuffix, StripsPrefix, StripsSuffix}
-use Rattle.std.proofs.lemmas.Str.{chars_from_encodes, encodes-append, encodes-chars, length-le-encodes}
+use Rattle.std.proofs.lemmas.Str.{chars_from_encodes, encodes-append, encodes-chars}
 use Rattle.std.specs.Option.{is_some}
 use Rattle.syslog_pieces.specs.Pieces.Class.{Text, Ends, Front, NoFront, exactly, some_run}
 use Rattle.syslog_pieces.specs.Pieces.View.{shown, Skips}
 use Rattle.syslog_pieces.specs.Text.{is_blank, EndsInColon, name_text}
-use Rattle.syslog_loose.specs.Jumps.{colons_before, message_end, tail_text, past_colons, CutsColons, EndsColons}
+use Rattle.syslog_loose.specs.Jumps.{colons, colons_before, message_end, tail_text, past_colons, CutsColons, EndsColons}
 use Rattle.syslog_loose.specs.Jumps.{IsDashed, PassesDashes, with_msg}
 use Rattle.syslog_loose.specs.Message.{MessageValue}
 use Rattle.syslog_loose.specs.Printed.{timestamp_text, tag_text, spaced_elements, priority_of, printed_3164, printed}
@@ -21,23 +21,23 @@ use Rattle.syslog_loose.specs.Reading.{IsRead}
 use Rattle.syslog_loose.specs.declared.message.Protocol.TheVariants.{RFC3164}
 use Rattle.syslog_loose.specs.declared.variant.Variant.{Variant}
 use Rattle.syslog_pieces.specs.Timestamp.Zone.{Dating}
+use Rattle.syslog_pieces.proofs.TextLemmas.Chars.{chars_empty}
 use Rattle.syslog_loose.proofs.PriorityLemmas.{priority_small}
 use Rattle.syslog_loose.proofs.SettlingLemmas.Falls.{priority_again, printed_same}
 use Rattle.syslog_loose.proofs.SettlingLemmas.Jumps.{colons_skipped}
-use Rattle.syslog_loose.specs.Settling.{Reaches, colons}
+use Rattle.syslog_loose.specs.Settling.{Reaches}
 use Rattle.syslog_pieces.specs.StructuredData.Element.{ElementValue, joined_elements, elements_text}
 use Rattle.std.specs.Char.{encode_utf8}
 
 pub no_dash : (t : Text) → NoFront (exactly (45 ∷ [])) t → (rest : Text) → IsDashed t rest → ⊥
 no_dash t n rest d = n (45 ∷ []) (d.blanks ++ rest) tt d.whole refl
 
-behind : (t q p : Text) (f : Front (exactly (45 ∷ [])) t q tt) (r : Text) → t ≡ 45 ∷ (p ++ r) → q ≡ p ++ r
-behind t q p f r e = let u : 45 ∷ q ≡ 45 ∷ (p ++ r) = sym (f.whole ∙ ap (λ (x : Text). x ++ q) f.is) ∙ e in cc
-
 pub dash_told : (t q : Text) (f : Front (exactly (45 ∷ [])) t q tt) (r : Option (Bor (List ℕ)))
     → Skips (some_run is_blank) tt q r
     → MatchOption r ((rest : Text) → IsDashed t rest → ⊥) (λ x. IsDashed t (shown x))
-dash_told t q f None n = λ rest d. n d.blanks rest tt (behind t q d.blanks f rest d.whole) (d.some, d.each, d.no_more)
+dash_told t q f None n = λ rest d.
+    let u : 45 ∷ q ≡ 45 ∷ (d.blanks ++ rest) = sym (f.whole ∙ ap (λ (x : Text). x ++ q) f.is) ∙ d.whole in
+    n d.blanks rest tt (cc) (d.some, d.each, d.no_more)
 dash_told t q f (Some x) g = record {
   blanks = g.piece;
   whole = f.whole ∙ ap (λ (y : Text). y ++ q) f.is ∙ ap (λ (y : Text). 45 ∷ y) g.whole;
@@ -45,10 +45,6 @@ dash_told t q f (Some x) g = record {
   each = g.is.1;
   no_more = g.is.2;
 }
-
--- what is behind a dash is shorter
-pub dash_shorter : (t rest : Text) → IsDashed t rest → length rest < length t
-dash_shorter t rest d = omega (arith, ap length d.whole, length-append d.blanks rest)
 
 -- n dashes, each with a space behind it
 abbrev pub spaced_dashes : ℕ → Text
@@ -100,31 +96,21 @@ dashes_front bytes rest n u v (k, (long, whole, cut), behind_is, fits) =
     ∙ ap (λ (x : List ℕ). spaced_dashes n ++ x) (encodes-chars rest v ∙ behind_is) ∙ sym whole))
 
 -- ---- the end of a line
-empty_end : (t : Text) (bytes : List ℕ) → encode_utf8_all t ≡ bytes → length bytes ≡ 0
-    → encode_utf8_all (message_end t) ≡ []
-unfolding message_end
-empty_end [] bytes e l = refl
-empty_end (c ∷ cs) bytes e l =
-    absurd (let k = ap length e in let m = length-le-encodes (c ∷ cs) in omega (arith, k, m, l))
-
 some_end : (t : Text) (bytes : List ℕ) → encode_utf8_all t ≡ bytes → 0 < length bytes
     → encode_utf8_all (message_end t) ≡ 32 ∷ bytes
 unfolding message_end encode_utf8
 some_end [] bytes e l = absurd (let k = ap length e in omega (arith, k, l))
 some_end (c ∷ cs) bytes e l = ap (λ (x : List ℕ). 32 ∷ x) e
 
-pub ends_empty : (bytes : List ℕ) → IsUtf8 bytes → length bytes ≡ 0 → encode_utf8_all (message_end (chars bytes)) ≡ []
-ends_empty bytes u l = empty_end (chars bytes) bytes (encodes-chars bytes u) l
+pub ends_empty : (bytes : List ℕ) → length bytes ≡ 0 → encode_utf8_all (message_end (chars bytes)) ≡ []
+unfolding message_end
+ends_empty bytes l = rw (nil_from_length (chars bytes) (chars_empty bytes l)) refl
 
 pub ends_some : (bytes : List ℕ) → IsUtf8 bytes → 0 < length bytes
     → encode_utf8_all (message_end (chars bytes)) ≡ 32 ∷ bytes
 ends_some bytes u l = some_end (chars bytes) bytes (encodes-chars bytes u) l
 
 -- ---- a tail of elements and a message part
-pub tail_without_elements : (es : List ElementValue) (msg : Text) → length es ≡ 0 → tail_text es msg ≡ message_end msg
-tail_without_elements [] msg l = refl
-tail_without_elements (e ∷ es) msg l = absurd (omega (arith, l))
-
 pub tail_elements : (es : List ElementValue) (msg : Text) → 0 < length es → (32 ∷ encode_utf8_all (elements_text es))
     ++ encode_utf8_all (message_end msg) ≡ encode_utf8_all (tail_text es msg)
 unfolding encode_utf8
@@ -134,10 +120,8 @@ tail_elements (e ∷ es) msg l =
 
 -- ---- colons
 colons_both : (m n : ℕ) → colons_before (m + n) [] ≡ colons_before m [] ++ colons_before n []
-colons_both zero n = let z : zero + n ≡ n = omega arith in ap (λ (k : ℕ). colons_before k []) z
-colons_both (suc m) n =
-    let z : suc m + n ≡ suc (m + n) = omega arith in ap (λ (k : ℕ). colons_before k []) z
-    ∙ ap (λ (x : Text). 32 ∷ 58 ∷ x) (colons_both m n)
+colons_both zero n = simp zero-add refl
+colons_both (suc m) n = simp (suc-add, colons_both m n) refl
 
 -- what was pushed m times and then n times more
 pub colons_pushed : (old mid new : List ℕ) (m n k : ℕ) → mid ≡ old ++ colons_before m []
@@ -156,9 +140,8 @@ colons_encode zero = refl
 colons_encode (suc n) = ap (λ (x : Text). 32 ∷ 58 ∷ x) (colons_encode n)
 
 colons_sum : (n c : ℕ) → colons n ++ colons c ≡ colons (c + n)
-colons_sum zero c = let z : c ≡ c + zero = omega arith in ap colons z
-colons_sum (suc n) c =
-    let z : suc (c + n) ≡ c + suc n = omega arith in ap (λ (x : Text). 58 ∷ x) (colons_sum n c) ∙ ap colons z
+colons_sum zero c = simp add-zero refl
+colons_sum (suc n) c = simp (add-suc, colons_sum n c) refl
 
 pub colons_cut : (name host shorter : Text) (c n : ℕ) → name ≡ host ++ colons c → host ≡ shorter ++ colons n
     → name ≡ shorter ++ colons (c + n)
@@ -188,20 +171,15 @@ suffix_some bytes short n u v e =
 pub cut_on : (name host shorter : List ℕ) (c n : ℕ) → CutsColons name host c
     → chars host ≡ chars shorter ++ colons n → (0 < c + n → EndsInColon (chars shorter))
     → CutsColons name shorter (c + n)
-cut_on name host shorter c n k e o = record {
-  whole = colons_cut (chars name) (chars host) (chars shorter) c n k.whole e;
-  keeps = o;
-}
+cut_on name host shorter c n k e o =
+    record { whole = colons_cut (chars name) (chars host) (chars shorter) c n k.whole e; keeps = o }
 
 pub cut_twice : (name host shorter : List ℕ) (c n : ℕ) → CutsColons name host c → CutsColons host shorter n
     → CutsColons name shorter (c + n)
 cut_twice name host shorter c zero k l =
-    cut_on name host shorter c zero k l.whole (λ p.
-    let z : 0 < c = omega (arith, p) in
-    let same : chars host ≡ chars shorter = l.whole ∙ append-nil (chars shorter) in
-    subst EndsInColon same (k.keeps z))
-cut_twice name host shorter c (suc n) k l =
-    cut_on name host shorter c (suc n) k l.whole (λ p. let z : 0 < suc n = omega arith in l.keeps z)
+    cut_on name host shorter c zero k l.whole
+    (λ p. subst EndsInColon (l.whole ∙ append-nil (chars shorter)) (k.keeps (omega (arith, p))))
+cut_twice name host shorter c (suc n) k l = cut_on name host shorter c (suc n) k l.whole (λ p. l.keeps (omega arith))
 
 pub some_next : (t : Text) (A : Type 0) (r : Option (Bor (List ℕ))) → is_some r ≡ true
     → MatchOption r A (λ x. IsDashed t (shown x)) → (next : Text) × IsDashed t next
@@ -209,10 +187,6 @@ some_next t A None h m = absurd (let u : false ≡ true = h in cc)
 some_next t A (Some x) h m = (shown x, m)
 
 -- ---- what was written
-pub map_none : {A B : Type 0} (f : A → B) (xs : List A) → length xs ≡ 0 → map f xs ≡ []
-map_none f [] l = refl
-map_none f (x ∷ xs) l = absurd (omega (arith, l))
-
 pub map_ok : {T E A B : Type 0} (r : Result T E) → OnOk r A → (A → B) → OnOk r B
 map_ok (Ok x) a f = f a
 map_ok (Err e) a f = tt
@@ -228,7 +202,7 @@ module _ (variant : Variant) (dating : Dating) (input : Text) where
         suc n,
         subst (λ (x : Text). Reaches variant dating input (suc n) x)
             (chars_from_encodes (printed (past_colons m h n)) bytes u (sym w))
-            (colons_skipped variant dating input m h n r e (subst (λ (j : ℕ). EndsColons m h j) same k)),
+            (colons_skipped variant dating input m r e k.timestamp h n (subst (λ (j : ℕ). EndsColons m h j) same k)),
       )
 
   pub round_printed : (m : MessageValue) (bytes : List ℕ) → IsUtf8 bytes

@@ -34,7 +34,7 @@ use Rattle.syslog_loose.specs.Reading.{dash_rule, IsRead}
 use Rattle.syslog_loose.specs.Rfc3164.{IsRead3164}
 use Rattle.syslog_loose.specs.Rfc5424.{IsRead5424}
 use Rattle.syslog_loose.specs.declared.variant.Variant.{Variant}
-use Rattle.syslog_loose.specs.declared.variant.Variant.TheVariants.{Either, RFC3164, RFC5424}
+use Rattle.syslog_loose.proofs.BoundLemmas.{read_as}
 use Rattle.syslog_loose.proofs.PriorityLemmas.{priority_small}
 use Rattle.syslog_loose.proofs.Rfc3164Lemmas.Apart.{digit_range}
 use Rattle.syslog_loose.proofs.Rfc3164Lemmas.Bounded.{read_bounded}
@@ -125,13 +125,8 @@ module _ (test : ℕ → Bool) (ascii : (c : ℕ) → is_ascii_print c ≡ true 
   tag_line None process b h k = (ascii 58 refl, (ascii 32 refl, tt))
   tag_line (Some a) None b h k = join_lines a (58 ∷ 32 ∷ []) h.0 (ascii 58 refl, (ascii 32 refl, tt))
   tag_line (Some a) (Some p) b h k =
-      join_lines a (91 ∷ (procid_text p ++ (93 ∷ 58 ∷ 32 ∷ []))) h.0 (
-        ascii 91 refl,
-        join_lines (procid_text p) (93 ∷ 58 ∷ 32 ∷ []) (procid_line p b k) (
-          ascii 93 refl,
-          (ascii 58 refl, (ascii 32 refl, tt)),
-        ),
-      )
+      let end : Passes (93 ∷ 58 ∷ 32 ∷ []) = (ascii 93 refl, (ascii 58 refl, (ascii 32 refl, tt))) in
+      join_lines a _ h.0 (ascii 91 refl, join_lines (procid_text p) _ (procid_line p b k) end)
 
   timestamp_line : (stamp : Option OffsetTimestamp) → Passes (timestamp_text stamp)
   timestamp_line None = (ascii 45 refl, tt)
@@ -142,29 +137,20 @@ module _ (test : ℕ → Bool) (ascii : (c : ℕ) → is_ascii_print c ≡ true 
       → Passes (flat_map param_text ps)
   params_line [] h = tt
   params_line (p ∷ ps) h =
-      join_lines (param_text p) (flat_map param_text ps) (
-        ascii 32 refl,
-        join_lines p.0 (61 ∷ 34 ∷ (p.1 ++ (34 ∷ []))) h.0 (
-          ascii 61 refl,
-          (ascii 34 refl, join_lines p.1 (34 ∷ []) h.1.0 (ascii 34 refl, tt)),
-        ),
-      )
+      let value : Passes (p.1 ++ (34 ∷ [])) = join_lines p.1 _ h.1.0 (ascii 34 refl, tt) in
+      join_lines (param_text p) _ (ascii 32 refl, join_lines p.0 _ h.0 (ascii 61 refl, (ascii 34 refl, value)))
       (params_line ps h.1.1)
 
   element_line : (e : ElementValue) → AllByRecursion Passes (element_texts e) → Passes (element_text e)
-  element_line e h = (
-    ascii 91 refl,
-    join_lines e.id (flat_map param_text e.params ++ (93 ∷ [])) h.0
-        (join_lines (flat_map param_text e.params) (93 ∷ []) (params_line e.params h.1) (ascii 93 refl, tt)),
-  )
+  element_line e h =
+      (ascii 91 refl, join_lines e.id _ h.0 (join_lines _ (93 ∷ []) (params_line e.params h.1) (ascii 93 refl, tt)))
 
   joined_line : (es : List ElementValue) → AllByRecursion Passes (flat_map element_texts es)
       → Passes (joined_elements es)
   joined_line [] h = tt
   joined_line (e ∷ es) h =
-      join_lines (element_text e) (joined_elements es)
-      (element_line e (all_left Passes (element_texts e) (flat_map element_texts es) h))
-      (joined_line es (all_right Passes (element_texts e) (flat_map element_texts es) h))
+      join_lines (element_text e) _ (element_line e (all_left Passes (element_texts e) _ h))
+      (joined_line es (all_right Passes (element_texts e) _ h))
 
   elements_line : (es : List ElementValue) → AllByRecursion Passes (flat_map element_texts es)
       → Passes (elements_text es)
@@ -187,22 +173,17 @@ module _ (test : ℕ → Bool) (ascii : (c : ℕ) → is_ascii_print c ≡ true 
 
   texts_lines : (m : MessageValue) → AllByRecursion Passes (message_texts m) → AreLines m
   texts_lines m h =
-      let P = Passes in
-      let end : List Text = flat_map element_texts m.structured_data ++ (m.msg ∷ []) in
-      let from_id : List Text = text_list m.msgid ++ end in
-      let from_process : List Text = process_texts m.procid ++ from_id in
-      let from_app : List Text = text_list m.appname ++ from_process in
-      let h1 = all_right P (text_list m.hostname) from_app h in
-      let h2 = all_right P (text_list m.appname) from_process h1 in
-      let h3 = all_right P (process_texts m.procid) from_id h2 in
-      let h4 = all_right P (text_list m.msgid) end h3 in
+      let h1 = all_right Passes (text_list m.hostname) _ h in
+      let h2 = all_right Passes (text_list m.appname) _ h1 in
+      let h3 = all_right Passes (process_texts m.procid) _ h2 in
+      let h4 = all_right Passes (text_list m.msgid) _ h3 in
       record {
-        host = all_left P (text_list m.hostname) from_app h;
-        app = all_left P (text_list m.appname) from_process h1;
-        process = all_left P (process_texts m.procid) from_id h2;
-        id = all_left P (text_list m.msgid) end h3;
-        elements = all_left P (flat_map element_texts m.structured_data) (m.msg ∷ []) h4;
-        msg = (all_right P (flat_map element_texts m.structured_data) (m.msg ∷ []) h4).0;
+        host = all_left Passes (text_list m.hostname) _ h;
+        app = all_left Passes (text_list m.appname) _ h1;
+        process = all_left Passes (process_texts m.procid) _ h2;
+        id = all_left Passes (text_list m.msgid) _ h3;
+        elements = all_left Passes (flat_map element_texts m.structured_data) _ h4;
+        msg = (all_right Passes (flat_map element_texts m.structured_data) (m.msg ∷ []) h4).0;
       }
 
   -- a text, a space, and more
@@ -215,19 +196,16 @@ module _ (test : ℕ → Bool) (ascii : (c : ℕ) → is_ascii_print c ≡ true 
   rfc3164_line : (m : MessageValue) → IfSome m.procid IsBoundedProcess → AreLines m → Passes (printed_3164 m)
   unfolding printed_3164
   rfc3164_line m b h =
-      let body : Text = spaced_elements m.structured_data ++ m.msg in
-      let tag : Text = tag_text m.appname m.procid ++ body in
-      let host : Text = name_text m.hostname ++ (32 ∷ tag) in (
+      let body : Passes (tag_text m.appname m.procid ++ (spaced_elements m.structured_data ++ m.msg)) =
+      join_lines _ _ (tag_line m.appname m.procid b h.app h.process)
+      (join_lines _ m.msg (spaced_line m.structured_data h.elements) h.msg) in (
         ascii 60 refl,
-        join_lines (decimal (priority_of m)) (62 ∷ 32 ∷ (timestamp_text m.timestamp ++ (32 ∷ host))) (priority_line m) (
+        join_lines _ _ (priority_line m) (
           ascii 62 refl,
           (
             ascii 32 refl,
-            and_more (timestamp_text m.timestamp) host (timestamp_line m.timestamp)
-                (and_more (name_text m.hostname) tag (name_line m.hostname h.host)
-                (join_lines (tag_text m.appname m.procid) body (tag_line m.appname m.procid b h.app h.process)
-                (join_lines (spaced_elements m.structured_data) m.msg
-                (spaced_line m.structured_data h.elements) h.msg))),
+            and_more _ _ (timestamp_line m.timestamp)
+                (and_more _ _ (name_line m.hostname h.host) body),
           ),
         ),
       )
@@ -243,44 +221,37 @@ module _ (test : ℕ → Bool) (ascii : (c : ℕ) → is_ascii_print c ≡ true 
       also name_line m.hostname h.host
       also space also name_line m.appname h.app also space also process_line m.procid b h.process also space
       also name_line m.msgid h.id also tt in
-      let end : Passes (32 ∷ body) = (
-        ascii 32 refl,
-        and_more (elements_text m.structured_data) m.msg (elements_line m.structured_data h.elements) h.msg,
-      ) in (
+      let end : Passes (32 ∷ body) =
+      (ascii 32 refl, and_more _ m.msg (elements_line m.structured_data h.elements) h.msg) in (
         ascii 60 refl,
-        join_lines (decimal (priority_of m)) (62 ∷ printed_row fields (values_of version m) (32 ∷ body))
-            (priority_line m)
+        join_lines _ (62 ∷ printed_row fields (values_of version m) (32 ∷ body)) (priority_line m)
             (ascii 62 refl, row_passes test fields (values_of version m) (32 ∷ body) header end),
       )
 
   -- ---- what is read
   rfc3164_printed : (dating : Dating) (text : Text) (m : MessageValue) → IsRead3164 dash_rule dating text m
-      → Passes text
-      → Passes (printed m)
+      → Passes text → Passes (printed m)
   rfc3164_printed dating text m r h =
       let q = quotes dash_rule dating text m r in
-      let lines =
-      texts_lines m (pieces_line text q.read.division.pieces (message_texts m) h q.read.division.whole q.each) in
       subst Passes (sym (rfc3164.printed_is m (read_near dash_rule dating text m r).protocol))
-      (rfc3164_line m (read_bounded dash_rule dating text m r).procid lines)
+      (rfc3164_line m (read_bounded dash_rule dating text m r).procid
+      (texts_lines m (pieces_line text q.read.division.pieces (message_texts m) h q.read.division.whole q.each)))
 
   strict_printed : (text : Text) (m : MessageValue) → IsRead5424 text m → Passes text → Passes (printed m)
   strict_printed text m r h =
       let q = strict.quotes text m r in
-      let version = r.values.1.0 in
       let e = ap (λ (x : MessageValue). x.protocol) r.means in
       let b = (read_completed dash_rule text m r).1 in
-      let lines =
-      texts_lines m (pieces_line text q.read.division.pieces (message_texts m) h q.read.division.whole q.each) in
-      subst Passes (sym (printed_is version m e))
-      (strict_line version m (subst IsBoundedProtocol e b.protocol) b.procid lines)
+      subst Passes (sym (printed_is r.values.1.0 m e))
+      (strict_line r.values.1.0 m (subst IsBoundedProtocol e b.protocol) b.procid
+      (texts_lines m (pieces_line text q.read.division.pieces (message_texts m) h q.read.division.whole q.each)))
 
   pub printed_passes : (variant : Variant) (dating : Dating) (text : Text) (m : MessageValue)
       → IsRead variant dating text m → Passes text → Passes (printed m)
-  printed_passes RFC5424 dating text m r h = strict_printed text m r h
-  printed_passes RFC3164 dating text m r h = rfc3164_printed dating text m r h
-  printed_passes Either dating text m (inl r) h = strict_printed text m r h
-  printed_passes Either dating text m (inr (none, r)) h = rfc3164_printed dating text m r h
+  printed_passes variant dating text m r h = elim (read_as variant dating text m r) [
+    | inl s ↦ strict_printed text m s h
+    | inr s ↦ rfc3164_printed dating text m s h
+  ]
 
 -- ---- one line
 no_feed : (c : ℕ) → is_ascii_print c ≡ true → is_no_feed c ≡ true

@@ -1,7 +1,6 @@
 -- The priority that each printed text begins with.
 use Rattle.std.proofs.Common.{◌≡◌, ℕ, ◌<◌, ◌≤◌, ◌^◌, [], ◌∷◌, ◌++◌, Option, Some}
 use Rattle.std.proofs.Common.{None, refl, sym, ap, ◌∙◌, arith, append_assoc}
-use Rattle.std.proofs.lemmas.Fmt.{decimal_nonempty, digits_decimal, digits_value-decimal}
 use Rattle.std.specs.Char.{is_ascii_digit}
 use Rattle.std.specs.Fmt.{decimal}
 use Rattle.std.specs.Option.{option_map_or}
@@ -14,7 +13,7 @@ use Rattle.syslog_pieces.specs.declared.pri.SyslogSeverity.{SyslogSeverity}
 use Rattle.syslog_pieces.proofs.PieceLemmas.Steps.{piece_front}
 use Rattle.syslog_pieces.proofs.PieceLemmas.Rows.{row_of, ◌then◌}
 use Rattle.syslog_pieces.proofs.PriLemmas.{as_priority, facility_low, severity_low}
-use Rattle.syslog_pieces.proofs.TextLemmas.Words.{own}
+use Rattle.syslog_pieces.proofs.TextLemmas.ReadBack.{number_back}
 use Rattle.syslog_loose.specs.Message.{MessageValue}
 use Rattle.syslog_loose.specs.Printed.{priority_of}
 use Rattle.syslog_loose.proofs.TrimLemmas.{LastVisible, last_append, drop_after}
@@ -23,9 +22,7 @@ use Rattle.syslog_loose.proofs.TrimLemmas.{LastVisible, last_append, drop_after}
 pub number_front : (n limit : ℕ) (q : Text) → n ≤ limit → limit < 2 ^ 64 → Ends is_ascii_digit q
     → Front (number limit) (decimal n ++ q) q n
 number_front n limit q l b z =
-    let small : n < 2 ^ 64 = omega arith in
-    piece_front (number limit) (decimal n) q n
-    (decimal_nonempty n small, digits_decimal own n small, z, sym (digits_value-decimal own n small), l)
+    piece_front (number limit) (decimal n) q n (number_back n limit q l b z)
 
 facility_or : (f : Option SyslogFacility) → option_map_or facility_number f 5 < 24
 facility_or None = omega arith

@@ -6,12 +6,11 @@ use Rattle.std.specs.Str.{chars, IsUtf8, encode_utf8_all}
 use Rattle.std.specs.Global.{Global}
 use Rattle.std.specs.Borrow.{Bor}
 use Rattle.jiff.specs.declared.tz.timezone.TimeZone.{TimeZone}
-use Rattle.syslog_pieces.specs.Pieces.View.{shown}
 use Rattle.syslog_pieces.specs.Pieces.Class.{Text}
 use Rattle.syslog_pieces.specs.Timestamp.Zone.{Dating, dating_of}
 use Rattle.syslog_pieces.specs.declared.timestamp.month_date.MonthDate.{MonthDate}
 use Rattle.syslog_loose.specs.Canonical.{IsBounded, IsCanonical}
-use Rattle.syslog_loose.specs.Message.{MessageValue, message_value}
+use Rattle.syslog_loose.specs.Message.{MessageValue}
 use Rattle.syslog_loose.specs.Printed.{printed}
 use Rattle.syslog_loose.specs.ReadBack.{ReadsProtocol, AnswersItself, FieldsAsRead, IsFixed, AnswersAgain}
 use Rattle.syslog_loose.specs.Reading.{dash_rule, IsRead, IsOnlyRead, IsUnreadable, Answers}
@@ -21,12 +20,12 @@ use Rattle.syslog_loose.specs.Rfc5424.{IsRead5424, IsNot5424}
 use Rattle.syslog_loose.specs.Settling.{IsNext}
 use Rattle.syslog_loose.specs.declared.fault.ParseFault.{ParseFault}
 use Rattle.syslog_loose.specs.declared.fault.ParseFault.TheVariants.{Invalid, Memory}
-use Rattle.syslog_loose.specs.declared.message.Message.{Message}
 use Rattle.syslog_loose.specs.declared.message.Protocol.{Protocol}
 use Rattle.syslog_loose.specs.declared.message.Protocol.TheVariants as protocol
 use Rattle.syslog_loose.specs.declared.variant.Variant.{Variant}
 use Rattle.syslog_loose.specs.declared.variant.Variant.TheVariants.{Either, RFC3164, RFC5424}
-use Rattle.syslog_loose.proofs.ReadingLemmas.{only_read, any_year, in_answered_year}
+use Rattle.syslog_loose.proofs.ReadingLemmas.{Found, value, only_read, any_year, in_answered_year, answers_in}
+use Rattle.syslog_loose.proofs.ReadingLemmas.{in_year_map}
 use Rattle.syslog_loose.proofs.Rfc3164Lemmas.Exact.{rfc3164_exact}
 use Rattle.syslog_loose.proofs.Rfc3164Lemmas.Near.{read_near, read_nearly, stamp_read}
 use Rattle.syslog_loose.proofs.Rfc3164Lemmas.Printed.{printed_is, printed_apart}
@@ -78,11 +77,11 @@ module _ (dating : Dating) (m : MessageValue) (b : IsBounded m) where
 
 -- ---- what the calls answer
 
-pub itself : (variant : Variant) (dating : Dating) (text : Text) (r : Result (Message (Bor (List ℕ))) ParseFault)
+itself : (variant : Variant) (dating : Dating) (text : Text) (r : Result Found ParseFault)
     → Answers variant dating text r → AnswersItself variant text r
 itself variant dating text (Ok found) a m b h e n =
-    only_read_exact dating m b variant (message_value (λ s. shown s) found) h
-    (subst (λ (x : Text). IsOnlyRead variant dating x (message_value (λ s. shown s) found)) e a)
+    only_read_exact dating m b variant (value found) h
+    (subst (λ (x : Text). IsOnlyRead variant dating x (value found)) e a)
 itself variant dating text (Err Invalid) a m b h e n = (
   λ no. absurd no,
   λ c. absurd
@@ -109,12 +108,30 @@ fields RFC3164 dating text m r = rfc3164_fields dating text m r
 fields Either dating text m (inl r) = strict_fields dating text m r
 fields Either dating text m (inr (n, r)) = rfc3164_fields dating text m r
 
-pub fields_answered : (variant : Variant) (dating : Dating) (text : Text)
-    (r : Result (Message (Bor (List ℕ))) ParseFault) → Answers variant dating text r
-    → IfOk r (λ found. FieldsAsRead found.protocol dating text (message_value (λ s. shown s) found))
+fields_answered : (variant : Variant) (dating : Dating) (text : Text)
+    (r : Result Found ParseFault) → Answers variant dating text r
+    → IfOk r (λ found. FieldsAsRead found.protocol dating text (value found))
 fields_answered variant dating text (Ok found) a =
-    fields variant dating text (message_value (λ s. shown s) found) a.read
+    fields variant dating text (value found) a.read
 fields_answered variant dating text (Err fault) a = tt
+
+-- an answer in the year that was asked for, or in none
+pub answered : (post : IncompleteDate → ℤ → Type 0) (variant : Variant) (text : Text) (tz : Option (Bor TimeZone))
+    (local : Bor TimeZone) (r : Result Found ParseFault) (year : Option ℤ)
+    → IsYearAnswered post variant text year → Answers variant (dating_of year tz local) text r
+    → record {
+      reads : InYear post variant text (λ y. Answers variant (dating_of y tz local) text r);
+      itself : AnswersItself variant text r;
+      fields : InYear post variant text (λ y. IfOk r (λ m.
+          FieldsAsRead m.protocol (dating_of y tz local) text (value m)));
+    }
+answered post variant text tz local r year is a =
+    let reads = answers_in post variant text tz local r year is a in
+    record {
+      reads = reads;
+      itself = itself variant (dating_of year tz local) text r a;
+      fields = in_year_map (λ y b. fields_answered variant (dating_of y tz local) text r b) reads;
+    }
 
 strictly_read : (variant : Variant) (dating : Dating) (version : ℕ) (m n : MessageValue) (text : Text)
     → m.protocol ≡ protocol.RFC5424 version → ReadsProtocol variant m.protocol → IsRead5424 text n

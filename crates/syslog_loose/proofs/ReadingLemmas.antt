@@ -12,7 +12,7 @@ use Rattle.syslog_pieces.specs.Timestamp.Zone.{Dating, dating_of}
 use Rattle.syslog_pieces.specs.declared.timestamp.month_date.MonthDate.{MonthDate}
 use Rattle.syslog_loose.specs.Message.{MessageValue, message_value}
 use Rattle.syslog_loose.specs.Reading.{dash_rule, IsRead, IsOnlyRead, IsUnreadable, IsQuoted, IsFault}
-use Rattle.syslog_loose.specs.Reading.{Answers, AnswersOrWhole, IncompleteDate}
+use Rattle.syslog_loose.specs.Reading.{Answers, IncompleteDate}
 use Rattle.syslog_loose.specs.Reading.{incomplete, AsksYear, IsLeftTo3164, IsYearAnswered, InYear}
 use Rattle.syslog_loose.specs.Rfc5424.{IsRead5424, IsNot5424, NeedsNoMemory5424}
 use Rattle.syslog_loose.specs.declared.message.Message.{Message}
@@ -171,19 +171,13 @@ year_same : (post : IncompleteDate → ℤ → Type 0) (variant : Variant) (text
 year_same post variant text year same None never date asks = absurd (never date asks)
 year_same post variant text year same (Some y) (d, a, p) date asks = ap Some (sym (same (incomplete d) y p))
 
--- what holds in the one year that a closure may answer
-pub in_one_year : {post : IncompleteDate → ℤ → Type 0} {variant : Variant} {text : Text} {Holds : Option ℤ → Type 0}
-    → InYear post variant text Holds
-    → (year : ℤ) → ((date : IncompleteDate) (y : ℤ) → post date y → y ≡ year) → Holds (Some year)
-in_one_year {post = post} {variant = variant} {text = text} h year same = h.holds (Some year)
-    (year_same post variant text year same h.answered h.is_answered)
-
 -- For callers: what holds in the year of a closure that always answers this one, an `i32`.
 pub in_this_year : {post : IncompleteDate → ℤ → Type 0} {variant : Variant} {text : Text} {Holds : Option ℤ → Type 0}
     → InYear post variant text Holds
     → (year : ℤ) → SFits w32 year → ((date : IncompleteDate) (y : ℤ) → post date y → y ≡ to_z w32 (of_z w32 year))
     → Holds (Some year)
-in_this_year h year fits same = in_one_year h year (λ date y is. same date y is ∙ to_z-of_z w32 year fits)
+in_this_year {post = post} {variant = variant} {text = text} h year fits same = h.holds (Some year)
+    (year_same post variant text year (λ date y is. same date y is ∙ to_z-of_z w32 year fits) h.answered h.is_answered)
 
 told_answered : (post told : IncompleteDate → ℤ → Type 0) (variant : Variant) (text : Text)
     → ((date : IncompleteDate) (year : ℤ) → post date year → told date year)
@@ -216,14 +210,3 @@ fault_tells variant dating text Memory wanted =
 pub memory_tells : (variant : Variant) (dating : Dating) (text : Text) (m : MessageValue)
     → IsOnlyRead variant dating text m → (Memory ≡ Invalid) ↔ IsUnreadable variant dating text
 memory_tells variant dating text m r = (λ e. absurd (invalid_or_memory e), λ u. absurd (u m r.read))
-
--- ---- the calls with a fallback
--- what is answered in the year that stands in for one, where the text asks for it, and in none where it does not
-pub or_whole_in : (post : IncompleteDate → ℤ → Type 0) (variant : Variant) (text : Text) (tz : Option (Bor TimeZone))
-    (local : Bor TimeZone) (r : Result Found ParseFault) (s : Result Found AllocError) (year : Option ℤ)
-    → IsYearAnswered post variant text year
-    → ((dating : Dating) → Answers variant dating text r → AnswersOrWhole variant dating text s)
-    → Answers variant (dating_of year tz local) text r
-    → InYear post variant text (λ y. AnswersOrWhole variant (dating_of y tz local) text s)
-or_whole_in post variant text tz local r s year is turn h =
-    in_year_map (λ y a. turn (dating_of y tz local) a) (answers_in post variant text tz local r year is h)

@@ -2,15 +2,15 @@
 pub mod ReadBack
 use Rattle.std.proofs.Common.{◌≡◌, [], ◌∷◌, refl, sym, ap, subst, ◌∙◌}
 use Rattle.std.specs.List.{flat_map}
-use Rattle.syslog_pieces.specs.Pieces.Class.{Text, Values, Division, Front, NoFront, Row, run, some_run, optional, rest}
-use Rattle.syslog_pieces.specs.StructuredData.{forgiving, NeedsNoMemory}
+use Rattle.syslog_pieces.specs.Pieces.Class.{Text, Values, Division, Front, NoFront, Row, run, some_run, optional}
+use Rattle.syslog_pieces.specs.StructuredData.{NeedsNoMemory}
 use Rattle.syslog_pieces.specs.Text.{trimmed, is_blank, number}
 use Rattle.syslog_pieces.specs.Pieces.Parts.{AreInPieces, text_list, process_texts}
 use Rattle.syslog_pieces.specs.Timestamp.{header_stamp}
 use Rattle.syslog_pieces.specs.StructuredData.Element.{element_texts}
 use Rattle.syslog_pieces.specs.Pri.{priority}
 use Rattle.syslog_pieces.proofs.PieceLemmas.Class.{AllDeterministic, unique_division, front_division, no_row_division}
-use Rattle.syslog_pieces.proofs.PieceLemmas.Class.{optional_det, some_run_det, run_det, rest_det, row_nil, row_cons}
+use Rattle.syslog_pieces.proofs.PieceLemmas.Class.{optional_det, some_run_det, run_det, rest_det}
 use Rattle.syslog_pieces.proofs.PieceLemmas.Class.{rows_join, rest_front, ◌also◌, all_joined}
 use Rattle.syslog_pieces.proofs.TextLemmas.Runs.{some_front_run}
 use Rattle.syslog_pieces.proofs.StructuredDataLemmas.Elements.{forgiving_det}

@@ -1,33 +1,31 @@
 -- What the pieces at the front of a text tell of its readings.
-use Rattle.std.proofs.Common.{◌≡◌, ◌≢◌, inl, inr, ℕ, ℤ, [], ◌∷◌, List, Option, Some, None}
-use Rattle.std.proofs.Common.{Ok, Err, refl, sym, ap, subst, ◌∙◌, arith}
+use Rattle.std.proofs.Common.{◌≡◌, ◌≢◌, inl, inr, ℕ, ℤ, List, Option, Some, None, Ok, Err, refl, sym, ap, subst, ◌∙◌}
+use Rattle.std.proofs.Common.{arith}
 use Rattle.std.specs.Borrow.{Bor}
-use Rattle.std.specs.Prelude.{MatchOption, IsSome, IsSomeAnd}
+use Rattle.std.specs.Prelude.{◌↔◌, MatchOption, IsSome, IsSomeAnd}
 use Rattle.syslog_pieces.specs.Pieces.View.{shown, Reads}
-use Rattle.syslog_pieces.specs.Pieces.Class.{Text, Class, Values, Front, NoFront, Row, run, rest, optional}
+use Rattle.syslog_pieces.specs.Pieces.Class.{Text, Class, Values, Front, NoFront, Row, run, optional}
 use Rattle.syslog_pieces.specs.Pri.{priority}
 use Rattle.syslog_pieces.specs.Text.{trimmed, is_blank}
 use Rattle.syslog_pieces.specs.Timestamp.{IsAnswer, header_stamp}
 use Rattle.syslog_pieces.specs.Timestamp.Rfc3164.{rfc3164_stamp, showing_row, ShowsYearless, ShowsMonthDate}
-use Rattle.syslog_pieces.specs.Timestamp.MonthDate.{dated_row, dated_of, yearless_date, month_date}
+use Rattle.syslog_pieces.specs.Timestamp.MonthDate.{yearless_date, month_date}
 use Rattle.syslog_pieces.specs.Timestamp.Zone.{Dating, IsMonthStamp, dating_of}
 use Rattle.syslog_pieces.specs.declared.timestamp.OffsetTimestamp.{OffsetTimestamp}
 use Rattle.syslog_pieces.specs.declared.timestamp.month_date.MonthDate.{MonthDate}
 use Rattle.syslog_pieces.proofs.PieceLemmas.Class.{AllDeterministic, front_same, front_division, division_front}
-use Rattle.syslog_pieces.proofs.PieceLemmas.Class.{optional_det, run_det}
-use Rattle.syslog_pieces.proofs.PieceLemmas.Class.{rest_det, rest_front, row_cons, row_nil, row_none_here}
-use Rattle.syslog_pieces.proofs.PieceLemmas.Class.{row_none_later, unique_division}
+use Rattle.syslog_pieces.proofs.PieceLemmas.Class.{optional_det, run_det, rest_det, rest_front, unique_division}
 use Rattle.syslog_pieces.proofs.PieceLemmas.Kinds.{Begins, begins_apart}
-use Rattle.syslog_pieces.proofs.PieceLemmas.Rows.{row_pieces}
+use Rattle.syslog_pieces.proofs.PieceLemmas.Rows.{row_pieces, row_of, ◌then◌, no_row, ◌past◌}
 use Rattle.syslog_pieces.proofs.PriLemmas.{priority_det}
 use Rattle.syslog_pieces.proofs.TextLemmas.Runs.{some_front_run}
 use Rattle.syslog_pieces.proofs.TimestampLemmas.MonthDate.{month_date_begins, month_date_det}
 use Rattle.syslog_pieces.proofs.TimestampLemmas.Months.{IsLetter}
-use Rattle.syslog_pieces.proofs.TimestampLemmas.Rfc3164.{IsLow, date_front, header_front, header_stamp_begins}
-use Rattle.syslog_pieces.proofs.TimestampLemmas.Rfc3164.{no_date, no_stamp_of_date}
+use Rattle.syslog_pieces.proofs.TimestampLemmas.Rfc3164.{IsLow, date_front, header_front, header_stamp_begins, no_date}
+use Rattle.syslog_pieces.proofs.TimestampLemmas.Rfc3164.{no_stamp_of_date}
 use Rattle.syslog_loose.specs.ReadBack.{ReadsProtocol}
-use Rattle.syslog_loose.specs.Reading.{dash_rule, incomplete, Answers, AsksYear, IncompleteDate, IsLeftTo3164}
-use Rattle.syslog_loose.specs.Reading.{HasMonth, IsYearAnswered}
+use Rattle.syslog_loose.specs.Reading.{dash_rule, incomplete, Answers, AsksYear, IncompleteDate, IsLeftTo3164, HasMonth}
+use Rattle.syslog_loose.specs.Reading.{IsYearAnswered}
 use Rattle.syslog_loose.specs.Rfc3164.{stamped_row, IsRead3164, IsNot3164, NeedsNoMemory3164}
 use Rattle.syslog_loose.specs.Rfc5424.{IsRead5424, IsNot5424, NeedsNoMemory5424}
 use Rattle.syslog_loose.specs.Start.{IsBehindPriority, BeginsWith, BeginsWithout}
@@ -38,23 +36,19 @@ use Rattle.jiff.specs.declared.tz.timezone.TimeZone.{TimeZone}
 use Rattle.syslog_loose.specs.declared.rfc3164.Stamped.{Stamped}
 use Rattle.syslog_loose.specs.declared.variant.Variant.{Variant}
 use Rattle.syslog_loose.specs.declared.variant.Variant.TheVariants.{Either, RFC3164, RFC5424}
-use Rattle.syslog_loose.proofs.ReadingLemmas.{Found, answered_to, value, either_read, either_refused}
-use Rattle.syslog_loose.proofs.ReadingLemmas.{left_answer, only_read}
+use Rattle.syslog_loose.proofs.ReadingLemmas.{Found, answered_to, value, either_read, either_refused, left_answer}
+use Rattle.syslog_loose.proofs.ReadingLemmas.{only_read}
 use Rattle.syslog_loose.proofs.Rfc3164Lemmas.Apart.{shown_apart}
 use Rattle.syslog_loose.proofs.Rfc3164Lemmas.Reading.{not_read}
 use Rattle.syslog_loose.proofs.Rfc3164Lemmas.Shown.{date_has_month, shows_month_date}
+use Rattle.syslog_loose.proofs.Rfc3164Lemmas.Unique.{stamped_det}
 
--- no piece behind these blanks is none behind any
-without_at : (C : Class) (variant : Variant) {t start : Text} → Front (run is_blank) t start tt → NoFront C start
-    → BeginsWithout C variant t
-without_at C variant gap none reads other same =
-    subst (λ (x : Text). NoFront C x) (front_same (run is_blank) (run_det is_blank) gap same).0 none
-
--- what a reader of such pieces answers
+-- what a reader of pieces behind blanks answers
 pub front_read : (C : Class) (variant : Variant) (t start : Text) (r : Option (C.Value × Bor (List ℕ)))
     → ReadsProtocol variant protocol.RFC3164 → Front (run is_blank) t start tt → Reads C (λ v. v) start r
     → MatchOption r (BeginsWithout C variant t) (λ x. BeginsWith C variant t x.0 (shown x.1))
-front_read C variant t start None reads gap none = without_at C variant gap none
+front_read C variant t start None reads gap none = λ r other same.
+    subst (λ (x : Text). NoFront C x) (front_same (run is_blank) (run_det is_blank) gap same).0 none
 front_read C variant t start (Some x) reads gap f = record { reads = reads; start = start; gap = gap; front = f }
 
 -- where RFC 5424 has no reading, RFC 3164 is left to try
@@ -70,45 +64,25 @@ module _ {text follows start : Text} {p : Option ℕ} (f : IsBehindPriority text
   stamped_front : {q : Text} {v : Option OffsetTimestamp} → Front (rfc3164_stamp dating) start q v
       → IsBehindStamp dating text (record { priority = p; timestamp = v }) q
   stamped_front s =
-      row_cons (optional priority) (run is_blank ∷ rfc3164_stamp dating ∷ []) f
-      (row_cons (run is_blank) (rfc3164_stamp dating ∷ []) gap
-      (row_cons (rfc3164_stamp dating) [] s (row_nil _)))
+      row_of (stamped_row dating) (f then gap then s then refl)
 
   no_stamp : NoFront (rfc3164_stamp dating) start → NoFront (Row (stamped_row dating)) text
-  no_stamp none =
-      row_none_later (optional priority) (run is_blank ∷ rfc3164_stamp dating ∷ [])
-      (optional_det priority priority_det) f
-      (row_none_later (run is_blank) (rfc3164_stamp dating ∷ []) (run_det is_blank) gap
-      (row_none_here (rfc3164_stamp dating) [] none))
+  no_stamp none = no_row (stamped_row dating) (stamped_det dating) (f past gap past inl none)
 
 -- ---- the year
-asked_reads : (variant : Variant) (text : Text) (d : MonthDate) → AsksYear variant text d
-    → ReadsProtocol variant protocol.RFC3164
-asked_reads RFC5424 text d asks = asks
-asked_reads RFC3164 text d asks = tt
-asked_reads Either text d asks = tt
-
-asked_shows : (variant : Variant) (text : Text) (d : MonthDate) → AsksYear variant text d → ShowsYearless text d
-asked_shows RFC5424 text d asks = absurd asks
-asked_shows RFC3164 text d asks = asks
-asked_shows Either text d asks = asks
-
-shown_asks : (variant : Variant) (text : Text) (d : MonthDate) → ReadsProtocol variant protocol.RFC3164
-    → ShowsYearless text d → AsksYear variant text d
-shown_asks RFC5424 text d reads h = absurd reads
-shown_asks RFC3164 text d reads h = h
-shown_asks Either text d reads h = h
+asks_is : (variant : Variant) (text : Text) (d : MonthDate)
+    → AsksYear variant text d ↔ (ReadsProtocol variant protocol.RFC3164 × ShowsYearless text d)
+asks_is RFC5424 text d = (λ asks. absurd asks, λ k. k.0)
+asks_is RFC3164 text d = (λ h. (tt, h), λ k. k.1)
+asks_is Either text d = (λ h. (tt, h), λ k. k.1)
 
 -- a month date that shows no year is one without a year
-has_year : (vs : Values dated_row) (d : MonthDate) → d ≡ dated_of vs → d.year ≡ Some vs.1.1.1.1.0
-has_year vs d e = ap (λ (x : MonthDate). x.year) e
-
 yearless : {t q : Text} (d : MonthDate) → Front month_date t q d → d.year ≡ None → Front yearless_date t q d
-yearless {q = q} d f none = record { piece = f.piece; whole = f.whole; is = kind f.is }
-  where
-    kind : month_date.Is f.piece q d → yearless_date.Is f.piece q d
-    kind (inl h) = h
-    kind (inr (vs, h, e)) = absurd (let y : None ≡ Some vs.1.1.1.1.0 = sym none ∙ has_year vs d e in cc)
+yearless d f none = elim f.is [
+  | inl h ↦ record { piece = f.piece; whole = f.whole; is = h }
+  | inr (vs, h, e) ↦
+      absurd (let y : None ≡ Some vs.1.1.1.1.0 = sym none ∙ ap (λ (x : MonthDate). x.year) e in cc)
+]
 
 -- and the numbers that a closure is asked with are those of one of twelve months
 pub asked_month : {t q : Text} (d : MonthDate) (asked : Option IncompleteDate) (x : IncompleteDate)
@@ -134,28 +108,27 @@ module _ (variant : Variant) (text : Text) {follows : Text} {p : Option ℕ}
       p,
       q,
       front_division (showing_row month_date)
-          (row_cons (optional priority) (run is_blank ∷ month_date ∷ rest ∷ []) f
-          (row_cons (run is_blank) (month_date ∷ rest ∷ []) b.gap
-          (row_cons month_date (rest ∷ []) b.front (row_cons rest [] (rest_front q) (row_nil []))))),
+          (row_of (showing_row month_date) (f then b.gap then b.front then rest_front q then refl)),
     )
 
     -- its year is asked for where it shows none
     asks_year : d.year ≡ None → AsksYear variant text d
     asks_year none =
-        shown_asks variant text d b.reads (
-          p,
-          q,
-          front_division (showing_row yearless_date)
-              (row_cons (optional priority) (run is_blank ∷ yearless_date ∷ rest ∷ []) f
-              (row_cons (run is_blank) (yearless_date ∷ rest ∷ []) b.gap
-              (row_cons yearless_date (rest ∷ []) (yearless d b.front none)
-              (row_cons rest [] (rest_front q) (row_nil []))))),
+        (asks_is variant text d).1 (
+          b.reads,
+          (
+            p,
+            q,
+            front_division (showing_row yearless_date)
+                (row_of (showing_row yearless_date)
+                (f then b.gap then yearless d b.front none then rest_front q then refl)),
+          ),
         )
 
     -- and no year is where it shows one
     asks_no_other : (year : ℕ) → d.year ≡ Some year → (other : MonthDate) → AsksYear variant text other → ⊥
     asks_no_other year e other asks =
-        let shows = asked_shows variant text other asks in
+        let shows = ((asks_is variant text other).0 asks).1 in
         let (p', more, division) = shows_month_date text other shows in
         let (_, _, division') = shows_date in
         let each : AllDeterministic (showing_row month_date) =
@@ -226,11 +199,11 @@ module _ (variant : Variant) (text : Text) {follows : Text} {p : Option ℕ}
   module _ (without : BeginsWithout month_date variant follows) where
     pub asks_none : (d : MonthDate) → AsksYear variant text d → ⊥
     asks_none d asks =
-        let (_, _, division) = asked_shows variant text d asks in
+        let (reads, (_, _, division)) = (asks_is variant text d).0 asks in
         let (_, g1, (u2, g2, (u3, g3, _))) = row_pieces (showing_row yearless_date)
         (division_front (showing_row yearless_date) division) in
         let same = (front_same (optional priority) (optional_det priority priority_det) g1 f).0 in
-        without (asked_reads variant text d asks) u2 (subst (λ (x : Text). Front (run is_blank) x u2 tt) same g2)
+        without reads u2 (subst (λ (x : Text). Front (run is_blank) x u2 tt) same g2)
         g3.piece u3 d g3.whole (inl g3.is)
 
     -- and no other timestamp

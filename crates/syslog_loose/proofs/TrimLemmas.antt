@@ -1,9 +1,9 @@
 -- What trimming leaves of a text: all of it but white space at its end.
-use Rattle.std.proofs.Common.{◌≡◌, ℕ, ◌<◌, inl, inr, Bool, true, false, cond, not, ◌&&◌, ◌||◌, nat_eq, Option, Some}
+use Rattle.std.proofs.Common.{◌≡◌, ℕ, ◌<◌, inl, inr, Bool, true, false, cond, not, ◌&&◌, nat_eq, Option, Some}
 use Rattle.std.proofs.Common.{None}
 use Rattle.std.proofs.Common.{List, [], ◌∷◌, ◌++◌, length, refl, sym, ap, subst, ◌∙◌, arith, append_assoc, append-nil}
 use Rattle.std.specs.List.{flat_map}
-use Rattle.std.proofs.lemmas.Bool.Decides.{eqb_tells}
+use Rattle.std.proofs.lemmas.Bool.Decides.{nat_tests}
 use Rattle.std.specs.Char.{is_whitespace, is_not_whitespace}
 use Rattle.std.specs.Str.{drop_trailing_whitespace}
 use Rattle.syslog_pieces.specs.Pieces.Class.{Text, Class, Values, Front, Row, Each, Ends, run, rest}
@@ -19,54 +19,26 @@ use Rattle.syslog_pieces.proofs.TimestampLemmas.RoundTrip.{printed_stamp-visible
 use Rattle.syslog_loose.specs.Printed.{timestamp_text}
 use Rattle.syslog_pieces.specs.Text.{is_blank}
 use Rattle.syslog_loose.specs.Canonical.{EndsVisibly}
-use Rattle.syslog_pieces.proofs.TextLemmas.Chars.{from_not_true}
 unfoldable pub use Rattle.syslog_loose.specs.Jumps.{message_end}
 
 -- ---- characters
 
-pub or_false : (a b : Bool) → a ≡ false → b ≡ false → (a || b) ≡ false
-or_false true b h g = h
-or_false false b h g = g
-
-other_char : (k c : ℕ) → is_not_whitespace k ≡ false → is_not_whitespace c ≡ true → nat_eq c k ≡ false
-other_char k c w h =
-    elim (eqb_tells c k) [
-      | inl r ↦ absurd (let t = ap is_not_whitespace r.1 in let u : true ≡ false = sym h ∙ t ∙ w in cc)
-      | inr r ↦ r.0
-    ]
-
 -- what is no white space is no blank
 pub visible_no_blank : (c : ℕ) → is_not_whitespace c ≡ true → is_blank c ≡ false
-visible_no_blank c h = or_false (nat_eq c 32) (nat_eq c 9) (other_char 32 c refl h) (other_char 9 c refl h)
+visible_no_blank c h = grind (arith, nat_tests)
 
 pub visible_ends_blanks : (t q : Text) → 0 < length t → Each is_not_whitespace t → Ends is_blank (t ++ q)
 visible_ends_blanks [] q l h = absurd (omega arith)
 visible_ends_blanks (c ∷ t) q l h = visible_no_blank c h.0
 
 -- ---- a visible last character keeps all before it
-cond_left : (b e : Bool) (xs ys : Text) → b ≡ false → cond (b && e) xs ys ≡ ys
-cond_left true e xs ys h = cc
-cond_left false e xs ys h = refl
-
-cond_right : (b e : Bool) (xs ys : Text) → e ≡ false → cond (b && e) xs ys ≡ ys
-cond_right true true xs ys h = cc
-cond_right true false xs ys h = refl
-cond_right false e xs ys h = refl
-
-some_length : (n : ℕ) → 0 < n → nat_eq n 0 ≡ false
-some_length n h = elim (eqb_tells n 0) [ inl r ↦ absurd (let t = r.1 in omega arith) | inr r ↦ r.0 ]
-
 drop_visible : (c : ℕ) (cs : Text) → is_not_whitespace c ≡ true
     → drop_trailing_whitespace (c ∷ cs) ≡ c ∷ drop_trailing_whitespace cs
-drop_visible c cs h =
-    cond_left (is_whitespace c) (nat_eq (length (drop_trailing_whitespace cs)) 0) [] (c ∷ drop_trailing_whitespace cs)
-    (from_not_true (is_whitespace c) h)
+drop_visible c cs h = grind (arith, nat_tests)
 
 drop_before : (c : ℕ) (cs : Text) → 0 < length (drop_trailing_whitespace cs)
     → drop_trailing_whitespace (c ∷ cs) ≡ c ∷ drop_trailing_whitespace cs
-drop_before c cs h =
-    cond_right (is_whitespace c) (nat_eq (length (drop_trailing_whitespace cs)) 0) [] (c ∷ drop_trailing_whitespace cs)
-    (some_length (length (drop_trailing_whitespace cs)) h)
+drop_before c cs h = grind (arith, nat_tests)
 
 -- the text has a last character, which is no white space
 abbrev pub LastVisible : Text → Type 0
@@ -100,10 +72,6 @@ drop_none (c ∷ d ∷ xs) h =
     drop_before c (d ∷ xs) (subst (λ (x : Text). 0 < length x) (sym r) (omega arith)) ∙ ap (λ (x : Text). c ∷ x) r
 
 -- ---- what is left ends visibly
-visible_from : (b : Bool) → b ≡ false → not b ≡ true
-visible_from true h = cc
-visible_from false h = refl
-
 ends_case : (t n : Bool) (d : ℕ) (ds : Text) → is_whitespace d ≡ t → nat_eq (length ds) 0 ≡ n → EndsVisibly ds
     → EndsVisibly (cond (t && n) [] (d ∷ ds))
 ends_case true true d ds a b h [] c e = cc
@@ -112,7 +80,7 @@ ends_case true false d ds a b h [] c e =
     absurd (let z : ds ≡ [] = cc in let y : nat_eq (length ds) 0 ≡ true = ap
     (λ (x : Text). nat_eq (length x) 0) z in let u : true ≡ false = sym y ∙ b in cc)
 ends_case true false d ds a b h (x ∷ front) c e = h front c cc
-ends_case false n d ds a b h [] c e = let z : c ≡ d = cc in ap is_not_whitespace z ∙ visible_from (is_whitespace d) a
+ends_case false n d ds a b h [] c e = let z : c ≡ d = cc in ap is_not_whitespace z ∙ ap not a
 ends_case false n d ds a b h (x ∷ front) c e = h front c cc
 
 nil_ends : EndsVisibly []

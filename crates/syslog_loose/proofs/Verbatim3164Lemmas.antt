@@ -1,16 +1,17 @@
 -- Lines of RFC 3164 that print as they are written but for their timestamp, put together from their pieces.
-use Rattle.std.proofs.Common.{◌≡◌, ◌≢◌, ℕ, ℤ, ◌<◌, Bool, not, nat_eq, List, [], ◌∷◌, ◌++◌, length, Option, Some, None}
-use Rattle.std.proofs.Common.{IfSome, inl, inr, refl, sym, ap, ap₂, subst, ◌∙◌, arith, append_assoc, append-nil}
+use Rattle.std.proofs.Common.{◌≡◌, ◌≢◌, ℕ, ℤ, ◌<◌, Bool, true, false, not, nat_eq, List, [], ◌∷◌, ◌++◌, length}
+use Rattle.std.proofs.Common.{Option, Some, None}
+use Rattle.std.proofs.Common.{IfSome, inl, inr, refl, sym, ap, ap₂, subst, ◌∙◌, append_assoc}
 use Rattle.std.proofs.lemmas.List.{append_cancel_right}
 use Rattle.std.proofs.lemmas.Str.{encodes-append, encodes-chars}
 use Rattle.std.specs.Char.{encode_utf8, is_ascii_digit}
 use Rattle.std.specs.Fmt.{decimal}
 use Rattle.std.specs.Prelude.{MatchOption, IsSomeAnd}
-use Rattle.std.specs.Str.{chars, IsUtf8, IsAscii, encode_utf8_all}
+use Rattle.std.specs.Str.{chars, IsUtf8, encode_utf8_all}
 use Rattle.syslog_pieces.specs.Bodies.Verbatim.{VerbatimDigits}
 use Rattle.syslog_pieces.specs.Bodies.VerbatimStamp.{zone_text, IsVerbatimStamp}
 use Rattle.syslog_pieces.specs.Bodies.Scan.{SplitsRun}
-use Rattle.syslog_pieces.specs.Pieces.Class.{Text, Values, Front, NoFront, Row, Each, Ends}
+use Rattle.syslog_pieces.specs.Pieces.Class.{Text, Values, Front, Row, Each, Ends}
 use Rattle.syslog_pieces.specs.Pieces.Class.{run, some_run, exactly}
 use Rattle.syslog_pieces.specs.Pieces.Verbatim.{Verbatim}
 use Rattle.syslog_pieces.specs.Pri.{priority, priority_text}
@@ -18,7 +19,6 @@ use Rattle.syslog_pieces.specs.ProcId.{NamesProcess, procid_text, IsBoundedProce
 use Rattle.syslog_pieces.specs.StructuredData.Rfc3164List.{rfc3164_list}
 use Rattle.syslog_pieces.specs.Text.{trimmed, is_blank, is_tag_char, dash, host, name_text}
 use Rattle.syslog_pieces.specs.Text.CharClass.{is_label_char}
-use Rattle.syslog_pieces.specs.Timestamp.{header_stamp}
 use Rattle.syslog_pieces.specs.Timestamp.Rfc3164.{rfc3164_stamp, showing_row, ShowsYearless}
 use Rattle.syslog_pieces.specs.Timestamp.MonthDate.{yearless_date}
 use Rattle.syslog_pieces.specs.Timestamp.Canonical.{IsCanonicalStamp}
@@ -28,17 +28,23 @@ use Rattle.syslog_pieces.specs.declared.procid.ProcId.TheVariants.{PID, Name}
 use Rattle.syslog_pieces.specs.Timestamp.Printed.{printed_stamp}
 use Rattle.syslog_pieces.specs.declared.timestamp.OffsetTimestamp.{OffsetTimestamp}
 use Rattle.syslog_pieces.proofs.TimestampLemmas.Printing.{printed_stamp-bytes}
-use Rattle.syslog_pieces.proofs.TimestampLemmas.RoundTrip.{stamp_text-canonical}
+use Rattle.syslog_loose.proofs.Rfc5424Lemmas.ReadBack.{stamp_canonical}
+use Rattle.syslog_loose.proofs.ExceptionLemmas.{dash_bytes}
+use Rattle.syslog_loose.specs.TagForm.{form_row, IsNoForm}
+use Rattle.syslog_pieces.proofs.PieceLemmas.Class.{both_values, division_front}
+use Rattle.syslog_pieces.proofs.PieceLemmas.Each.{each_behind}
+use Rattle.syslog_pieces.proofs.PieceLemmas.Lists.{begins}
+use Rattle.syslog_pieces.proofs.PieceLemmas.Rows.{row_pieces}
 use Rattle.syslog_pieces.specs.declared.timestamp.month_date.MonthDate.{MonthDate}
 use Rattle.syslog_pieces.proofs.PieceLemmas.Class.{rest_front, rows_join}
 use Rattle.syslog_pieces.proofs.PieceLemmas.Class.{front_division, optional_some, optional_none}
 use Rattle.syslog_pieces.proofs.PieceLemmas.Verbatim.{front_of}
 use Rattle.syslog_pieces.proofs.PieceLemmas.Steps.{piece_front}
 use Rattle.syslog_pieces.proofs.StructuredDataLemmas.Rfc3164List.{begins_no_list}
-use Rattle.syslog_pieces.proofs.TextLemmas.Chars.{chars_nonempty, ascii_chars, one_ascii}
+use Rattle.syslog_pieces.proofs.TextLemmas.Chars.{chars_nonempty}
 use Rattle.syslog_pieces.proofs.TextLemmas.ReadBack.{host_canonical}
-use Rattle.syslog_loose.specs.Canonical.{is_process_char, IsBracketedProcess, IsLoneTag, AreCanonicalNames}
-use Rattle.syslog_loose.specs.Verbatim3164.{program_text, VerbatimOrigin, VerbatimProgram, VerbatimNames}
+use Rattle.syslog_loose.specs.Canonical.{is_process_char, IsBracketedProcess, AreCanonicalNames}
+use Rattle.syslog_loose.specs.Verbatim3164.{VerbatimProgram, VerbatimNames}
 use Rattle.syslog_loose.specs.Verbatim3164.{VerbatimBehind, ShowsDated, PrintsVerbatim3164, PrintsStamped, PrintsAs3164}
 use Rattle.syslog_loose.specs.Message.{MessageValue}
 use Rattle.syslog_loose.specs.Printed.{timestamp_text, printed_3164}
@@ -62,85 +68,52 @@ use Rattle.syslog_loose.proofs.Rfc3164Lemmas.Reading.{is_read}
 use Rattle.syslog_loose.proofs.Rfc3164Lemmas.Unique.{told}
 use Rattle.syslog_loose.proofs.Rfc3164Lemmas.Whole.{printed_whole}
 use Rattle.syslog_loose.proofs.Rfc3164Lemmas.Rows.{to_colon, from_blanks}
-use Rattle.syslog_loose.proofs.TagFormLemmas.{no_opening}
 
 -- ---- the names
 
-pub origin_verbatim : (text hostname behind follows : Text) → Front (exactly (32 ∷ [])) text hostname tt
-    → (k : Verbatim host name_text hostname behind) → Front (exactly (32 ∷ [])) behind follows tt
-    → VerbatimOrigin text follows
-origin_verbatim text hostname behind follows s k f =
-    let e : behind ≡ 32 ∷ follows = f.whole ∙ ap (λ (x : Text). x ++ follows) f.is in
-    record {
-      hostname = k.value;
-      canonical = host_canonical (name_text k.value) behind k.value (subst (Ends (λ c. nat_eq c 58)) (sym e) refl) k.is;
-      whole = s.whole ∙ ap (λ (x : Text). x ++ hostname) s.is
-          ∙ ap (λ (x : Text). 32 ∷ x) (k.whole ∙ ap (λ (x : Text). name_text k.value ++ x) e);
-    }
+-- a text without a `[` is of no form `tag[id]`
+no_form : (t : Text) → Each is_label_char t → IsNoForm t
+no_form t h vs d =
+    let (t1, tag, (t2, bracket, _)) = row_pieces form_row (division_front form_row d) in
+    let behind : Each is_label_char (91 ∷ t2) = subst (Each is_label_char) (begins 91 t1 t2 bracket)
+    (each_behind is_label_char tag.piece t1 (subst (Each is_label_char) tag.whole h)) in
+    let not : false ≡ true = behind.0 in absurd (cc)
 
 -- a tag that stands alone
-lone_split : (xs : List ℕ) → IsUtf8 xs → Each is_label_char (chars xs) → SplitsRun is_label_char xs xs []
-unfolding chars
-lone_split xs u
-    e = record {
-      whole = sym (append-nil xs);
-      characters = sym (append-nil (chars xs));
-      each = e;
-      ends = tt;
-      front_utf8 = u;
-      back_utf8 = ([], (refl, refl));
-    }
-
-no_bracket : NoFront (exactly (91 ∷ [])) (chars [])
-unfolding chars
-no_bracket [] q v e h = cc
-no_bracket (c ∷ p) q v e h = cc
-
-lone_tag : (xs : List ℕ) → IsUtf8 xs → Each is_label_char (chars xs) → 0 < length xs → xs ≢ dash → IsLoneTag (chars xs)
-lone_tag xs u e l n = (
-  chars_nonempty xs u l,
-  each_left is_tag_char (λ c. not (nat_eq c 91)) (chars xs) e,
-  (λ same. n (sym (ascii_chars xs u (subst IsAscii (sym same) (one_ascii 45 (omega arith)))) ∙ same)),
-  no_opening xs xs [] (lone_split xs u e) no_bracket,
-)
-
 pub lone_verbatim : (bs xs ys : List ℕ) → SplitsRun is_label_char bs xs ys → (0 < length xs) × (xs ≢ dash)
     → VerbatimProgram (chars bs) (chars ys)
-lone_verbatim bs xs ys s
-    (l, n) = record {
-      appname = chars xs;
-      procid = None;
-      canonical = lone_tag xs s.front_utf8 s.each l n;
-      bounded = tt;
-      whole = s.characters;
-    }
+lone_verbatim bs xs ys s (l, n) = record {
+  appname = chars xs;
+  procid = None;
+  canonical = (
+    chars_nonempty xs s.front_utf8 l,
+    each_left is_tag_char (λ c. not (nat_eq c 91)) (chars xs) s.each,
+    (λ same. n (dash_bytes xs s.front_utf8 same)),
+    no_form (chars xs) s.each,
+  );
+  bounded = tt;
+  whole = s.characters;
+}
 
 -- digits in brackets behind a tag
 digits_bracketed : (p : ProcId Text) → 0 < length (procid_text p) → Each is_ascii_digit (procid_text p)
-    → NamesProcess (procid_text p) p → IsBracketedProcess p
-digits_bracketed (PID n) l e h = tt
-digits_bracketed (Name t) l e h = (l, each_map is_ascii_digit is_process_char digit_inside t e, h.0)
-
-named_bounded : (t : Text) (p : ProcId Text) → NamesProcess t p → IsBoundedProcess p
-named_bounded t (PID n) h = h.1
-named_bounded t (Name s) h = tt
+    → NamesProcess (procid_text p) p → IsBracketedProcess p × IsBoundedProcess p
+digits_bracketed (PID n) l e h = (tt, h.1)
+digits_bracketed (Name t) l e h = ((l, each_map is_ascii_digit is_process_char digit_inside t e, h.0), tt)
 
 pub numbered_verbatim : (bs xs ys is cs rs : List ℕ) → SplitsRun is_label_char bs xs ys
     → Front (exactly (91 ∷ [])) (chars ys) (chars is) tt → VerbatimDigits (chars is) (chars cs)
     → Front (exactly (93 ∷ [])) (chars cs) (chars rs) tt → VerbatimProgram (chars bs) (chars rs)
 numbered_verbatim bs xs ys is cs rs s o k c =
-    let i = procid_text k.process in
-    let closed : chars cs ≡ 93 ∷ chars rs = c.whole ∙ ap (λ (x : Text). x ++ chars rs) c.is in
-    let opened : chars ys ≡ 91 ∷ (i ++ (93 ∷ chars rs)) = o.whole ∙ ap (λ (x : Text). x ++ chars is) o.is
-    ∙ ap (λ (x : Text). 91 ∷ x) (k.whole ∙ ap (λ (x : Text). i ++ x) closed) in
+    let inside = digits_bracketed k.process k.some k.digits k.names in
+    let opened = begins 91 (chars ys) (chars is) o in
+    let closed = begins 93 (chars cs) (chars rs) c in
     record {
       appname = chars xs;
       procid = Some k.process;
-      canonical = (s.each, digits_bracketed k.process k.some k.digits k.names);
-      bounded = named_bounded i k.process k.names;
-      whole = s.characters ∙ ap (λ (x : Text). chars xs ++ x) opened
-          ∙ sym (append_assoc (chars xs) (91 ∷ (i ++ (93 ∷ []))) (chars rs)
-          ∙ ap (λ (x : Text). chars xs ++ (91 ∷ x)) (append_assoc i (93 ∷ []) (chars rs)));
+      canonical = (s.each, inside.0);
+      bounded = inside.1;
+      whole = simp append_assoc (cc (s.characters, opened, k.whole, closed));
     }
 
 -- the host does not matter beside an app name
@@ -149,42 +122,42 @@ any_host : (h : Option Text) (app : Text) (process : Option (ProcId Text)) → A
 any_host h app None canonical = canonical
 any_host h app (Some p) canonical = canonical
 
-pub names_verbatim : (text program colon_on gap follows : Text) → (k : VerbatimOrigin text program)
-    → (p : VerbatimProgram program colon_on) → Front (exactly (58 ∷ [])) colon_on gap tt
-    → Verbatim (some_run is_blank) (λ _. 32 ∷ []) gap follows → VerbatimNames text follows
-names_verbatim text program colon_on gap follows k p c s =
-    let e : colon_on ≡ 58 ∷ 32 ∷ follows = c.whole ∙ ap (λ (x : Text). x ++ gap) c.is
-    ∙ ap (λ (x : Text). 58 ∷ x) s.whole in
+pub names_verbatim : (text hostname behind program colon_on gap follows : Text)
+    → Front (exactly (32 ∷ [])) text hostname tt → (k : Verbatim host name_text hostname behind)
+    → Front (exactly (32 ∷ [])) behind program tt → (p : VerbatimProgram program colon_on)
+    → Front (exactly (58 ∷ [])) colon_on gap tt → Verbatim (some_run is_blank) (λ _. 32 ∷ []) gap follows
+    → VerbatimNames text follows
+names_verbatim text hostname behind program colon_on gap follows before k between p colon space =
+    let e1 = begins 32 text hostname before in
+    let e2 = begins 32 behind program between in
+    let e3 = begins 58 colon_on gap colon in
     record {
-      hostname = k.hostname;
+      hostname = k.value;
       appname = p.appname;
       procid = p.procid;
-      host = k.canonical;
-      canonical = any_host k.hostname p.appname p.procid p.canonical;
+      host = host_canonical (name_text k.value) behind k.value (subst (Ends (λ c. nat_eq c 58)) (sym e2) refl) k.is;
+      canonical = any_host k.value p.appname p.procid p.canonical;
       bounded = p.bounded;
-      unblank = s.is.2;
-      whole = k.whole ∙ ap (λ (x : Text). 32 ∷ (name_text k.hostname ++ (32 ∷ x)))
-          (p.whole ∙ ap (λ (x : Text). program_text (Some p.appname) p.procid ++ x) e);
+      unblank = space.is.2;
+      whole = cc (k.whole, p.whole, space.whole);
     }
 
 -- ---- the line
 
-module _ (dating : Dating) (t b d front tail msg : Text) (stamp : Option OffsetTimestamp)
+module _ (dating : Dating) (t b d front tail : Text) (stamp : Option OffsetTimestamp)
     (k : Verbatim priority priority_text t b) (small : k.value < 192)
     (gap : Front (run is_blank) b d tt) (s : Front (rfc3164_stamp dating) d tail stamp)
-    (canonical : IfSome stamp IsCanonicalStamp) (n : VerbatimNames tail msg)
-    (no_list : NoFront (rfc3164_list dash_rule) msg) (cut : t ≡ front ++ b) where
+    (canonical : IfSome stamp IsCanonicalStamp) (h : VerbatimBehind tail) (cut : t ≡ front ++ b) where
+  abbrev msg : Text
+  msg = h.msg
+
+  abbrev n : VerbatimNames tail msg
+  n = h.names
+
   abbrev values : Values (rfc3164_row dash_rule dating)
-  values = (
-    Some k.value,
-    (
-      tt,
-      (
-        stamp,
-        (Some n.hostname, (program_field (Some n.appname) n.procid, (tt, (Some tt, (tt, (None, (tt, (msg, tt)))))))),
-      ),
-    ),
-  )
+  values = both_values (stamped_row dating) (body_row dash_rule) (Some k.value, (tt, (stamp, tt)))
+      (both_values to_colon (from_blanks dash_rule)
+      (Some n.hostname, (program_field (Some n.appname) n.procid, (tt, (Some tt, tt)))) (tt, (None, (tt, (msg, tt)))))
 
   abbrev message : MessageValue
   message = told dash_rule dating values (names n.hostname (Some n.appname) n.procid)
@@ -195,29 +168,20 @@ module _ (dating : Dating) (t b d front tail msg : Text) (stamp : Option OffsetT
       (rows_join to_colon (from_blanks dash_rule)
       (names_back n.hostname (Some n.appname) n.procid (32 ∷ msg) n.host n.canonical n.bounded)
       (row_of (from_blanks dash_rule) (piece_front (run is_blank) (32 ∷ []) msg tt ((refl, tt), n.unblank)
-      then optional_none (rfc3164_list dash_rule) no_list
+      then optional_none (rfc3164_list dash_rule) h.no_list
       then piece_front (run is_blank) [] msg tt (tt, n.unblank) then rest_front msg then refl)))
-
-  front_is : (q : Text) → 60 ∷ (decimal k.value ++ (62 ∷ q)) ≡ front ++ q
-  front_is q =
-      let same : priority_text k.value ≡ front =
-      append_cancel_right (priority_text k.value) front b (sym k.whole ∙ cut) in
-      sym (ap (λ (x : Text). 60 ∷ x) (append_assoc (decimal k.value) (62 ∷ []) q)) ∙ ap (λ (x : Text). x ++ q) same
 
   prints : printed_3164 message ≡ front ++ (32 ∷ (timestamp_text stamp ++ tail))
   prints =
       printed_whole message
-      ∙ ap
-      (λ (x : ℕ). 60
-      ∷ (decimal x
-      ++ (62 ∷ 32 ∷ (timestamp_text stamp
-      ++ (32 ∷ (name_text n.hostname ++ (32 ∷ (program_text (Some n.appname) n.procid ++ (58 ∷ 32 ∷ msg)))))))))
-      (composes k.value small)
-      ∙ ap (λ (x : Text). 60 ∷ (decimal k.value ++ (62 ∷ 32 ∷ (timestamp_text stamp ++ x)))) (sym n.whole)
-      ∙ front_is (32 ∷ (timestamp_text stamp ++ tail))
+      ∙ ap₂ (λ (x : ℕ) (y : Text). 60 ∷ (decimal x ++ (62 ∷ 32 ∷ (timestamp_text stamp ++ y))))
+      (composes k.value small) (sym n.whole)
+      ∙ sym (append_assoc (60 ∷ decimal k.value) (62 ∷ []) _)
+      ∙ ap (λ (x : Text). x ++ (32 ∷ (timestamp_text stamp ++ tail)))
+      (append_cancel_right (priority_text k.value) front b (sym k.whole ∙ cut))
 
-  pub verbatim_rfc3164 : PrintsVerbatim3164 dating t front stamp tail
-  verbatim_rfc3164 = record {
+  pub line_verbatim : PrintsVerbatim3164 dating t front stamp tail
+  line_verbatim = record {
     values = values;
     message = message;
     is = rows_join (stamped_row dating) (body_row dash_rule)
@@ -233,24 +197,10 @@ module _ (dating : Dating) (t b d front tail msg : Text) (stamp : Option OffsetT
       host_is_no_dash = no_dash_host n.hostname n.host;
       host_ends_in_no_colon = no_colon_host n.hostname n.host;
       process_has_no_colon = no_colon_names n.hostname (Some n.appname) n.procid n.canonical;
-      message_is_no_list = λ none. begins_no_list dash_rule msg no_list;
+      message_is_no_list = λ none. begins_no_list dash_rule msg h.no_list;
     };
     prints = prints;
   }
-
--- the same, from what stands behind the timestamp
-pub line_verbatim : (dating : Dating) (t b d front tail : Text) (stamp : Option OffsetTimestamp)
-    (k : Verbatim priority priority_text t b) → k.value < 192 → Front (run is_blank) b d tt
-    → Front (rfc3164_stamp dating) d tail stamp
-    → IfSome stamp IsCanonicalStamp → VerbatimBehind tail → t ≡ front ++ b
-    → PrintsVerbatim3164 dating t front stamp tail
-line_verbatim dating t b d front tail stamp k small gap s canonical h cut =
-    verbatim_rfc3164 dating t b d front tail h.msg stamp k small gap s canonical h.names h.no_list cut
-
--- a timestamp of RFC 3339 is read back from print
-header_canonical : (p q : Text) (v : Option OffsetTimestamp) → header_stamp.Is p q v → IfSome v IsCanonicalStamp
-header_canonical p q None h = tt
-header_canonical p q (Some s) h = stamp_text-canonical p s h.0
 
 -- the same, where the timestamp prints as it is written
 pub stamped_verbatim : (dating : Dating) (t b d zone front stamp tail : Text) (is_zulu : Bool)
@@ -264,7 +214,7 @@ stamped_verbatim dating t b d zone front stamp tail is_zulu k small gap z h cut 
     record {
       value = z.value;
       as_rfc3164 = line_verbatim dating t b d front tail z.value k small gap s
-          (header_canonical f.piece tail z.value f.is) h cut;
+          (stamp_canonical f.piece tail z.value f.is) h cut;
       stamped = stamp_prints z.value (z.copied ++ zone_text is_zulu) z.prints
           ∙ ap (λ (x : Text). x ++ zone_text is_zulu) same;
     }
@@ -294,10 +244,10 @@ shown_dated variant text t b d front date tail e reads k small cut gap dated = r
   dated = dated;
 }
 
--- and it shows the date
-pub dated_shows : (variant : Variant) (text front : Text) (date : MonthDate) (tail : Text)
-    → ShowsDated variant text front date tail → ShowsYearless text date
-dated_shows variant text front date tail shows = (
+-- so its year is asked for
+pub dated_asks : (variant : Variant) (text front : Text) (date : MonthDate) (tail : Text)
+    → ShowsDated variant text front date tail → AsksYear variant text date
+dated_asks variant text front date tail shows = asked variant shows.reads (
   Some shows.verbatim.value,
   tail,
   front_division (showing_row yearless_date)
@@ -305,18 +255,12 @@ dated_shows variant text front date tail shows = (
       (optional_some priority (front_of priority priority_text (trimmed text) shows.behind shows.verbatim)
       then shows.gap then shows.dated then rest_front tail then refl)),
 )
-
-asks_shown : (variant : Variant) (text : Text) (date : MonthDate) → ReadsProtocol variant protocol.RFC3164
-    → ShowsYearless text date → AsksYear variant text date
-asks_shown RFC5424 text date reads h = absurd reads
-asks_shown RFC3164 text date reads h = h
-asks_shown Either text date reads h = h
-
--- so its year is asked for
-pub dated_asks : (variant : Variant) (text front : Text) (date : MonthDate) (tail : Text)
-    → ShowsDated variant text front date tail → AsksYear variant text date
-dated_asks variant text front date tail shows =
-    asks_shown variant text date shows.reads (dated_shows variant text front date tail shows)
+  where
+    asked : (variant : Variant) → ReadsProtocol variant protocol.RFC3164 → ShowsYearless text date
+        → AsksYear variant text date
+    asked RFC5424 reads h = absurd reads
+    asked RFC3164 reads h = h
+    asked Either reads h = h
 
 -- a date of one of twelve months, as the closure takes it
 pub asked_month : (date : MonthDate) (asked : Option IncompleteDate) (x : IncompleteDate) → HasMonth (incomplete date)
@@ -340,23 +284,23 @@ dated_answered post variant text front date tail asked year shows e k =
 pub rfc3164_bytes : (front stamp tail : List ℕ) → IsUtf8 front → IsUtf8 tail
     → front ++ ((32 ∷ encode_utf8_all stamp) ++ tail) ≡ encode_utf8_all (chars front ++ (32 ∷ (stamp ++ chars tail)))
 unfolding encode_utf8
-rfc3164_bytes front stamp tail u v =
-    sym (encodes-append (chars front) (32 ∷ (stamp ++ chars tail))
-    ∙ ap₂ (λ (x y : List ℕ). x ++ (32 ∷ y)) (encodes-chars front u)
-    (encodes-append stamp (chars tail) ∙ ap (λ (x : List ℕ). encode_utf8_all stamp ++ x) (encodes-chars tail v)))
+rfc3164_bytes front stamp tail u v = simp (encodes-append, encodes-chars front u, encodes-chars tail v)
 
 -- and of one whose timestamp prints as it is written
 pub stamped_bytes : (front stamp tail : List ℕ) (value : Text) (is_zulu : Bool) → IsUtf8 front → IsUtf8 stamp
     → IsUtf8 tail → value ≡ chars stamp ++ zone_text is_zulu
     → front ++ ((32 ∷ stamp) ++ (zone_text is_zulu ++ tail))
     ≡ encode_utf8_all (chars front ++ (32 ∷ (value ++ chars tail)))
-stamped_bytes front stamp tail value is_zulu u v w e =
-    let text : encode_utf8_all value ≡ stamp ++ zone_text is_zulu =
-    ap encode_utf8_all e ∙ encodes-append (chars stamp) (zone_text is_zulu)
-    ∙ ap₂ (λ (x y : List ℕ). x ++ y) (encodes-chars stamp v) (zone_bytes is_zulu) in
-    ap (λ (x : List ℕ). front ++ (32 ∷ x))
-    (sym (append_assoc stamp (zone_text is_zulu) tail) ∙ ap (λ (x : List ℕ). x ++ tail) (sym text))
-    ∙ rfc3164_bytes front value tail u w
+unfolding encode_utf8
+stamped_bytes front stamp tail value is_zulu u v w e = simp (
+  e,
+  append_assoc,
+  encodes-append,
+  encodes-chars front u,
+  encodes-chars stamp v,
+  encodes-chars tail w,
+  zone_bytes is_zulu,
+)
 
 -- what is written of a timestamp that prints so
 pub stamp_bytes : (stamp : OffsetTimestamp) (text : List ℕ)

@@ -10,10 +10,13 @@ use Rattle.syslog_pieces.specs.Timestamp.Canonical.{IsCanonicalStamp}
 use Rattle.syslog_loose.specs.Exceptions.{HasNoColon}
 use Rattle.syslog_loose.specs.Message.{MessageValue}
 use Rattle.syslog_loose.specs.Printed.{priority_of}
-use Rattle.syslog_loose.specs.Settling.{colons}
 use Rattle.syslog_loose.specs.declared.message.Protocol.TheVariants.{RFC3164}
 
 -- ---- a host that ends in colons
+
+abbrev pub colons : ℕ → Text
+colons zero = []
+colons (suc n) = 58 ∷ colons n
 
 -- n times ` :`, and then the text
 abbrev pub colons_before : ℕ → Text → Text

@@ -7,6 +7,7 @@ pub mod Jumps
 pub mod VerbatimLine
 pub mod Verbatim3164
 pub mod Exceptions
+pub mod Formats
 pub mod Message
 pub mod OneLine
 pub mod Printed

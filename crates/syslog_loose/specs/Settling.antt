@@ -1,17 +1,22 @@
 -- Rounds: a text is read and printed, and what was printed is read and printed again, until it no longer changes. And
 -- the weight of a message of RFC 3164, which falls from round to round until then. (All of it is this project's own.)
-use Rattle.std.specs.Prelude.{◌≡◌, ◌≢◌, ◌⊎◌, ℕ, zero, suc, ◌+◌, ◌<◌, ◌≤◌, [], ◌∷◌, ◌++◌, length, Bool, false, MatchBool}
-use Rattle.std.specs.Prelude.{⊤, Option, Some, None, IfSome, Result, Ok, Err, MatchResult, String, string_bytes}
+use Rattle.std.specs.Prelude.{◌≡◌, ◌⊎◌, ℕ, zero, suc, ◌+◌, ◌<◌, ◌≤◌, List, [], length, nat_eq}
+use Rattle.std.specs.Prelude.{if◌then◌else◌, ⊤, Bool, false, MatchBool, Option, IfSome, Result, Ok, Err, MatchResult}
+use Rattle.std.specs.Prelude.{String, string_bytes}
 use Rattle.std.specs.Global.{Global}
-use Rattle.std.specs.Str.{chars}
+use Rattle.std.specs.List.{list_any, suffix_len}
+use Rattle.std.specs.Option.{option_map_or}
+use Rattle.std.specs.Str.{chars, bytes_eq}
 use Rattle.syslog_pieces.specs.Pieces.Class.{Text}
+use Rattle.syslog_pieces.specs.StructuredData.Element.{ElementValue}
 use Rattle.syslog_pieces.specs.StructuredData.Rfc3164List.{BeginsNoList}
-use Rattle.syslog_pieces.specs.Text.{dash, EndsInColon}
+use Rattle.syslog_pieces.specs.Text.{dash}
 use Rattle.syslog_pieces.specs.Timestamp.Canonical.{IsCanonicalStamp}
 use Rattle.syslog_pieces.specs.Timestamp.Zone.{Dating}
 use Rattle.syslog_pieces.specs.declared.procid.ProcId.{ProcId}
+use Rattle.syslog_pieces.specs.declared.procid.ProcId.TheVariants.{PID, Name}
 use Rattle.syslog_pieces.specs.declared.structured_data.rfc3164_list.DashRule.{DashRule}
-use Rattle.syslog_loose.specs.Exceptions.{HasNoColon, HasNoException}
+use Rattle.syslog_loose.specs.Exceptions.{HasNoException}
 use Rattle.syslog_loose.specs.Message.{MessageValue}
 use Rattle.syslog_loose.specs.Printed.{printed}
 use Rattle.syslog_loose.specs.Reading.{dash_rule, IsRead, IsUnreadable}
@@ -116,43 +121,36 @@ pub record ReachesFrom (variant : Variant) (dating : Dating) (t : Text) (least :
 abbrev pub Costs : Type 0 → ℕ → ℕ → Type 0
 Costs Holds n w = (Holds × (w ≡ 0)) ⊎ ((Holds → ⊥) × (w ≡ n))
 
-abbrev pub colons : ℕ → Text
-colons zero = []
-colons (suc n) = 58 ∷ colons n
-
--- the text ends in n colons and no more
-pub record EndsInColons (text : Text) (n : ℕ) : Type 0 where
-  pub front : Text
-  pub whole : text ≡ front ++ colons n
-  pub no_more : EndsInColon front → ⊥
+-- how many colons the text ends in
+abbrev pub end_colons : Text → ℕ
+end_colons text = suffix_len (λ c. nat_eq c 58) text
 
 -- nothing for no colon, else one more than the colons
-abbrev pub colons_cost : ℕ → ℕ
-colons_cost zero = 0
-colons_cost (suc n) = suc n + 1
+abbrev pub colons_weight : ℕ → ℕ
+colons_weight zero = 0
+colons_weight (suc n) = suc n + 1
 
--- the term for the colons that a host ends in
-abbrev pub ColonsCost : Option Text → ℕ → Type 0
-ColonsCost None w = w ≡ 0
-ColonsCost (Some host) w = (n : ℕ) × EndsInColons host n × (w ≡ colons_cost n)
+-- the terms for a host: one for `-`, and that for the colons that it ends in
+abbrev pub host_weight : Text → ℕ
+host_weight host = (if bytes_eq host dash then 1 else 0) + colons_weight (end_colons host)
 
--- the terms for the host and the process: the colons at the host's end, a host `-`, a colon in the name of a process
-pub record NamesWeigh (host : Option Text) (process : Option (ProcId Text)) (w : ℕ) : Type 0 where
-  pub colons : ℕ
-  pub dashed : ℕ
-  pub cut : ℕ
-  pub colons_is : ColonsCost host colons
-  pub dashed_is : Costs (IfSome host (λ h. h ≢ dash)) 1 dashed
-  pub cut_is : Costs (IfSome process HasNoColon) 1 cut
-  pub total : w ≡ colons + (dashed + cut)
+-- the term for a process: one for a name with a colon
+abbrev pub process_weight : ProcId Text → ℕ
+process_weight (PID n) = 0
+process_weight (Name t) = if list_any (λ c. nat_eq c 58) t then 1 else 0
 
--- The message weighs w: one for a timestamp that its printed text does not have, the terms for its names, and the
--- characters of the message part where that begins with a list although there is no element.
+-- the terms for the host and the process
+abbrev pub names_weight : Option Text → Option (ProcId Text) → ℕ
+names_weight host process = option_map_or host_weight host 0 + option_map_or process_weight process 0
+
+-- the term for the message part: its characters, where it begins with a list although there is no element
+abbrev pub ListWeighs : DashRule → List ElementValue → Text → ℕ → Type 0
+ListWeighs rule elements msg w = Costs (elements ≡ [] → BeginsNoList rule msg) (length msg) w
+
+-- the message weighs w: one for a timestamp that its printed text does not have, and the other terms
 pub record Weighs (rule : DashRule) (m : MessageValue) (w : ℕ) : Type 0 where
   pub stamp : ℕ
-  pub names : ℕ
   pub taken : ℕ
   pub stamp_is : Costs (IfSome m.timestamp IsCanonicalStamp) 1 stamp
-  pub names_is : NamesWeigh m.hostname m.procid names
-  pub taken_is : Costs (m.structured_data ≡ [] → BeginsNoList rule m.msg) (length m.msg) taken
-  pub total : w ≡ stamp + (names + taken)
+  pub taken_is : ListWeighs rule m.structured_data m.msg taken
+  pub total : w ≡ stamp + (names_weight m.hostname m.procid + taken)

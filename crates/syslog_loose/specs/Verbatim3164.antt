@@ -33,12 +33,6 @@ program_text None p = []
 program_text (Some a) None = a
 program_text (Some a) (Some p) = bracketed a (procid_text p)
 
--- the text is a host as it prints, behind one space and before another, and then what follows
-pub record VerbatimOrigin (text follows : Text) : Type 0 where
-  pub hostname : Option Text
-  pub canonical : IfSome hostname IsCanonicalHost
-  pub whole : text ≡ 32 ∷ (name_text hostname ++ (32 ∷ follows))
-
 -- the text is an app name, alone or with a process id, as both print, and then what follows
 pub record VerbatimProgram (text follows : Text) : Type 0 where
   pub appname : Text

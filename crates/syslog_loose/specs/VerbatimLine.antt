@@ -1,20 +1,15 @@
 -- Lines of RFC 5424 that print as they are written, but for the `Z` of their timestamp and one piece that is left out.
 -- (Words of the bodies alone.)
-use Rattle.std.specs.Prelude.{◌≡◌, ℕ, ◌<◌, List, [], ◌∷◌, ◌++◌, Bool, Option, None, Some}
+use Rattle.std.specs.Prelude.{◌≡◌, ℕ, List, [], ◌∷◌, ◌++◌, Bool, Option, None, Some}
 use Rattle.std.specs.Borrow.{Bor}
-use Rattle.std.specs.Fmt.{decimal}
 use Rattle.std.specs.Option.{option_map}
 use Rattle.std.specs.Str.{encode_utf8_all}
-use Rattle.syslog_pieces.specs.Bodies.Verbatim.{Copies}
+use Rattle.syslog_pieces.specs.Bodies.Verbatim.{CopiedOn}
 use Rattle.syslog_pieces.specs.Bodies.VerbatimStamp.{zone_text}
-use Rattle.syslog_pieces.specs.Pieces.Class.{Text, Class, Front, Row, Values, run, some_run, optional}
-use Rattle.syslog_pieces.specs.Pri.{priority, priority_text}
-use Rattle.syslog_pieces.specs.ProcId.{process_word, process_text}
-use Rattle.syslog_pieces.specs.StructuredData.{forgiving}
-use Rattle.syslog_pieces.specs.StructuredData.Element.{ElementValue, elements_text}
-use Rattle.syslog_pieces.specs.Text.{is_blank, number, host, word, name_text}
+use Rattle.syslog_pieces.specs.Pieces.Class.{Text, Front, Row, Values, run}
+use Rattle.syslog_pieces.specs.Pieces.Format.{Format, classes, printed_row}
+use Rattle.syslog_pieces.specs.Text.{is_blank}
 use Rattle.syslog_pieces.specs.Timestamp.Zone.{Dating}
-use Rattle.syslog_pieces.specs.declared.procid.ProcId.{ProcId}
 use Rattle.syslog_pieces.specs.declared.text.verbatim.Cut.{Cut}
 use Rattle.syslog_pieces.specs.declared.timestamp.month_date.MonthDate.{MonthDate}
 use Rattle.syslog_loose.specs.Message.{MessageValue}
@@ -23,36 +18,9 @@ use Rattle.syslog_loose.specs.Reading.{AsksYear, IsOnlyRead}
 use Rattle.syslog_loose.specs.Rfc5424.{rfc5424_row, message_of, IsRead5424}
 use Rattle.syslog_loose.specs.declared.variant.Variant.{Variant}
 
--- priority and version
-abbrev pub front_row : List Class
-front_row = optional priority ∷ number 4294967295 ∷ []
-
--- they print as they are written
-pub record VerbatimFront (text follows : Text) : Type 0 where
-  pub pri : ℕ
-  pub composes : pri < 192
-  pub version : ℕ
-  pub is : Front (Row front_row) text follows (Some pri, (version, tt))
-  pub whole : text ≡ priority_text pri ++ (decimal version ++ follows)
-
--- from behind the timestamp to behind the list
-abbrev pub tail_row : List Class
-tail_row =
-    some_run is_blank ∷ host ∷ some_run is_blank ∷ word ∷ some_run is_blank ∷ process_word ∷ some_run is_blank ∷ word
-    ∷ run is_blank ∷ forgiving ∷ []
-
--- the names and the elements, each behind one space, are copied as they print, but for what is left out
-pub record VerbatimTail (text : Text) (cut : Option Cut) (follows : Text) : Type 0 where
-  pub hostname : Option Text
-  pub appname : Option Text
-  pub procid : Option (ProcId Text)
-  pub msgid : Option Text
-  pub elements : List ElementValue
-  pub is : Front (Row tail_row) text follows
-      (tt, (hostname, (tt, (appname, (tt, (procid, (tt, (msgid, (tt, (elements, tt))))))))))
-  pub copies : Copies text cut follows
-      (32 ∷ (name_text hostname ++ (32 ∷ (name_text appname ++ (32 ∷ (process_text procid
-      ++ (32 ∷ (name_text msgid ++ (32 ∷ elements_text elements)))))))))
+-- the text has a front of the row; behind what was copied before it, the row is copied as it prints
+abbrev pub RowCopied : List Format → Text → Option Cut → Text → Option Cut → Type 0
+RowCopied Fs text cut follows left = CopiedOn (Row (classes Fs)) (λ vs. printed_row Fs vs []) text cut follows left
 
 -- a space and a message, or nothing
 abbrev pub spaced : Option Text → Text

@@ -1,42 +1,60 @@
 //! What each text that has a reading begins with, so that most of the others are refused by one look.
-ghost use Rattle.std.specs.Prelude.{◌≡◌, IsFalse, IsTrue};
+//!
+//! A log that isn't syslog has lines of any text, so one look at two bytes takes no branch but the last: which byte
+//! comes can't be foretold, and a branch that is told wrongly costs more than all else of such a line.
+ghost use Rattle.std.specs.Prelude.{◌≡◌, IsFalse};
 ghost use Rattle.std.specs.Str.{chars};
 ghost use Rattle.syslog_loose.specs.Beginning as spec;
 
-// Whether the byte is `<`, a blank, `-`, a digit, or the first letter of a month's name.
+// What must stand behind each first byte: 1 is anything, 2 a digit, 4 the second letter of a month's name. A text
+// with a reading begins with none that has 0.
+static FIRST: [u8; 256] = [
+    0, 0, 0, 0, 0, 0, 0, 0, 0, 1, 0, 0, 0, 0, 0, 0, 0, 0, 0, 0, 0, 0, 0, 0, 0, 0, 0, 0, 0, 0, 0, 0,
+    1, 0, 0, 0, 0, 0, 0, 0, 0, 0, 0, 0, 0, 1, 0, 0, 1, 1, 1, 1, 1, 1, 1, 1, 1, 1, 0, 0, 2, 0, 0, 0,
+    0, 4, 0, 0, 4, 0, 4, 0, 0, 0, 4, 0, 0, 4, 4, 4, 0, 0, 0, 4, 0, 0, 0, 0, 0, 0, 0, 0, 0, 0, 0, 0,
+    0, 4, 0, 0, 4, 0, 4, 0, 0, 0, 4, 0, 0, 4, 4, 4, 0, 0, 0, 4, 0, 0, 0, 0, 0, 0, 0, 0, 0, 0, 0, 0,
+    1, 1, 1, 1, 1, 1, 1, 1, 1, 1, 1, 1, 1, 1, 1, 1, 1, 1, 1, 1, 1, 1, 1, 1, 1, 1, 1, 1, 1, 1, 1, 1,
+    1, 1, 1, 1, 1, 1, 1, 1, 1, 1, 1, 1, 1, 1, 1, 1, 1, 1, 1, 1, 1, 1, 1, 1, 1, 1, 1, 1, 1, 1, 1, 1,
+    1, 1, 1, 1, 1, 1, 1, 1, 1, 1, 1, 1, 1, 1, 1, 1, 1, 1, 1, 1, 1, 1, 1, 1, 1, 1, 1, 1, 1, 1, 1, 1,
+    1, 1, 1, 1, 1, 1, 1, 1, 1, 1, 1, 1, 1, 1, 1, 1, 1, 1, 1, 1, 1, 1, 1, 1, 1, 1, 1, 1, 1, 1, 1, 1,
+];
+
+// Which of these each byte is, added up.
+static SECOND: [u8; 256] = [
+    1, 1, 1, 1, 1, 1, 1, 1, 1, 1, 1, 1, 1, 1, 1, 1, 1, 1, 1, 1, 1, 1, 1, 1, 1, 1, 1, 1, 1, 1, 1, 1,
+    1, 1, 1, 1, 1, 1, 1, 1, 1, 1, 1, 1, 1, 1, 1, 1, 3, 3, 3, 3, 3, 3, 3, 3, 3, 3, 1, 1, 1, 1, 1, 1,
+    1, 5, 1, 5, 1, 5, 1, 1, 1, 1, 1, 1, 1, 1, 1, 5, 5, 1, 1, 1, 1, 5, 1, 1, 1, 1, 1, 1, 1, 1, 1, 1,
+    1, 5, 1, 5, 1, 5, 1, 1, 1, 1, 1, 1, 1, 1, 1, 5, 5, 1, 1, 1, 1, 5, 1, 1, 1, 1, 1, 1, 1, 1, 1, 1,
+    7, 7, 7, 7, 7, 7, 7, 7, 7, 7, 7, 7, 7, 7, 7, 7, 7, 7, 7, 7, 7, 7, 7, 7, 7, 7, 7, 7, 7, 7, 7, 7,
+    7, 7, 7, 7, 7, 7, 7, 7, 7, 7, 7, 7, 7, 7, 7, 7, 7, 7, 7, 7, 7, 7, 7, 7, 7, 7, 7, 7, 7, 7, 7, 7,
+    7, 7, 7, 7, 7, 7, 7, 7, 7, 7, 7, 7, 7, 7, 7, 7, 7, 7, 7, 7, 7, 7, 7, 7, 7, 7, 7, 7, 7, 7, 7, 7,
+    7, 7, 7, 7, 7, 7, 7, 7, 7, 7, 7, 7, 7, 7, 7, 7, 7, 7, 7, 7, 7, 7, 7, 7, 7, 7, 7, 7, 7, 7, 7, 7,
+];
+
+// What must stand behind this byte, where it is the first.
 #[inline(always)]
-fn is_first(byte: u8) -> bool
-    ensures { result ≡ spec.is_first byte }
+fn wanted(byte: u8) -> u8
+    ensures { result ≡ spec.wanted byte }
 {
-    matches!(
-        byte,
-        b'<' | b' ' | b'\t' | b'-' | b'0'..=b'9'
-            | b'A'
-            | b'D'
-            | b'F'
-            | b'J'
-            | b'M'
-            | b'N'
-            | b'O'
-            | b'S'
-            | b'a'
-            | b'd'
-            | b'f'
-            | b'j'
-            | b'm'
-            | b'n'
-            | b'o'
-            | b's'
-    )
+    FIRST[byte as usize]
 }
 
-/// Whether the trimmed text may have a reading, by its first byte.
+// Which of these this byte is.
+#[inline(always)]
+fn given(byte: u8) -> u8
+    ensures { result ≡ spec.given byte }
+{
+    SECOND[byte as usize]
+}
+
+/// Whether the trimmed text may have a reading, by its first two bytes.
 #[inline(always)]
 pub(crate) fn may_be_read(input: &str) -> bool
     ensures { IsFalse result → spec.BeginsNone (chars input.now) }
 {
     match input.as_bytes() {
-        [byte, ..] => *byte >= 128 || is_first(*byte),
+        [first, second, ..] => wanted(*first) & given(*second) != 0,
+        [_] => true,
         [] => false,
     }
 }

@@ -12,12 +12,12 @@ ghost use Rattle.syslog_pieces.specs.Pieces.Class.{Text};
 ghost use Rattle.syslog_pieces.specs.Pieces.View.{shown};
 ghost use Rattle.syslog_pieces.specs.StructuredData.Element.{element_value};
 ghost use Rattle.syslog_pieces.specs.Timestamp.Zone.{Dating};
-ghost use Rattle.syslog_loose.specs.Jumps.{CutsColons, EndsColons, IsDashed, PassesDashes, colons_before};
+ghost use Rattle.syslog_loose.specs.Jumps.{CutsColons, EndsColons, IsDashed, PassesDashes, colons, colons_before};
 ghost use Rattle.syslog_loose.specs.Jumps.{message_end, past_colons, tail_text};
 ghost use Rattle.syslog_loose.specs.Message.{message_value};
 ghost use Rattle.syslog_loose.specs.Printed.{printed};
 ghost use Rattle.syslog_loose.specs.Reading.{IsRead};
-ghost use Rattle.syslog_loose.specs.Settling.{Reaches, colons};
+ghost use Rattle.syslog_loose.specs.Settling.{Reaches};
 ghost use Rattle.syslog_loose.specs.declared.message.Protocol.TheVariants.{RFC3164};
 ghost use Rattle.syslog_loose.specs.declared.variant.Variant.{Variant};
 

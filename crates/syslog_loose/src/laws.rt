@@ -40,6 +40,7 @@ pub fn one_form()
 {}
 
 /// The host field and the tag field of RFC 3164 mean one thing together.
+#[tactic(auto, using(crate::proofs::Rfc3164Lemmas::resolves_once))]
 pub fn one_resolution()
     ensures { (host tag : Option (Option Text)) (r s : Names3164) → Resolves host tag r → Resolves host tag s → r ≡ s }
 {}
@@ -95,6 +96,7 @@ pub fn printed_rfc3164_is_no_rfc5424()
 {}
 
 /// A text is read as at most one message under each variant, in one year and by the same zones.
+#[tactic(auto, using(crate::proofs::ReadingLemmas::read_once))]
 pub fn one_message()
     ensures { (variant : Variant) (dating : Dating) (text : Text) (m n : MessageValue) → IsRead variant dating text m
         → IsRead variant dating text n → m ≡ n }

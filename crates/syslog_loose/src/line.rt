@@ -6,14 +6,15 @@
 //! that piece is left out of the copy. Each reader here answers the text behind its piece where that piece prints as it
 //! is written, and may always answer nothing, since the line is then read and printed as any other. So no contract
 //! above speaks of this way.
-ghost use Rattle.std.specs.Prelude.{◌≡◌, ◌++◌, ◌∷◌, [], IfOk, IfSome, IsOk, IsTrue, Some, string_bytes};
+ghost use Rattle.std.specs.Prelude.{◌≡◌, ◌++◌, ◌∷◌, [], IfOk, IfSome, IsOk, IsTrue, None, Some, string_bytes};
 ghost use Rattle.std.specs.Fmt.{WritesOnOk};
 ghost use Rattle.std.specs.Str.{chars, encode_utf8_all, IsUtf8};
 ghost use Rattle.syslog_pieces.specs.Pieces.Class.{Text};
 ghost use Rattle.syslog_pieces.specs.Pieces.View.{seen, shown};
 ghost use Rattle.syslog_pieces.specs.Bodies.VerbatimStamp.{zone_text};
 ghost use Rattle.syslog_pieces.specs.Timestamp.Zone.{Dating};
-ghost use Rattle.syslog_loose.specs.VerbatimLine.{VerbatimEnd, VerbatimFront, VerbatimTail};
+ghost use Rattle.syslog_loose.specs.Formats.{front_fields, tail_fields};
+ghost use Rattle.syslog_loose.specs.VerbatimLine.{RowCopied, VerbatimEnd};
 ghost use Rattle.syslog_loose.specs.VerbatimLine.{PrintsAs5424, PrintsVerbatim5424, bytes_of, spaced};
 ghost use Rattle.syslog_loose.specs.Message.{MessageValue};
 ghost use Rattle.syslog_loose.specs.Printed.{printed};
@@ -22,8 +23,6 @@ ghost use Rattle.syslog_loose.specs.Reading.{AsksYear, IsUnreadable, OfTrimmed};
 ghost use Rattle.syslog_loose.specs.Rfc5424.{IsNot5424, IsRead5424};
 
 mod rfc3164;
-#[cfg(test)]
-mod tests;
 
 use crate::message::{make_room, write_spaced};
 use crate::variant::Variant;
@@ -52,20 +51,21 @@ struct VerbatimLine<'a> {
     msg: Option<&'a str>,
 }
 
-// The text behind priority and version.
+// The text behind priority, version and one space.
 #[inline(always)]
 fn verbatim_front(text: &str) -> Option<&str>
-    ensures { IfSome result (λ rest. VerbatimFront (chars text.now) (shown rest)) }
+    ensures { IfSome result (λ rest. RowCopied front_fields (chars text.now) None (shown rest) None) }
 {
-    let behind = verbatim_priority(text)?;
-    let rest = verbatim_number(behind, u32::MAX)?;
+    let version = verbatim_priority(text)?;
+    let gap = verbatim_number(version, u32::MAX)?;
+    let rest = one_space(gap)?;
     Some(rest)
 }
 
 // The text behind the names and the elements, and what is left out of the list, where one space stands in each gap.
 #[inline(always)]
 fn spaced_tail(text: &str) -> Option<(&str, Option<Cut<'_>>)>
-    ensures { IfSome result (λ x. VerbatimTail (chars text.now) x.1 (shown x.0)) }
+    ensures { IfSome result (λ x. RowCopied tail_fields (chars text.now) None (shown x.0) x.1) }
 {
     let hostname = one_space(text)?;
     let behind_hostname = verbatim_host(hostname)?;
@@ -85,7 +85,7 @@ fn spaced_tail(text: &str) -> Option<(&str, Option<Cut<'_>>)>
 #[cold]
 #[inline(never)]
 fn wide_tail(text: &str) -> Option<(&str, Option<Cut<'_>>)>
-    ensures { IfSome result (λ x. VerbatimTail (chars text.now) x.1 (shown x.0)) }
+    ensures { IfSome result (λ x. RowCopied tail_fields (chars text.now) None (shown x.0) x.1) }
 {
     let (hostname, first) = verbatim_gap(text, None)?;
     let behind_hostname = verbatim_host(hostname)?;
@@ -103,7 +103,7 @@ fn wide_tail(text: &str) -> Option<(&str, Option<Cut<'_>>)>
 // The text behind the names and the elements, and what is left out of them.
 #[inline(always)]
 fn verbatim_tail(text: &str) -> Option<(&str, Option<Cut<'_>>)>
-    ensures { IfSome result (λ x. VerbatimTail (chars text.now) x.1 (shown x.0)) }
+    ensures { IfSome result (λ x. RowCopied tail_fields (chars text.now) None (shown x.0) x.1) }
 {
     match spaced_tail(text) {
         Some(found) => Some(found),
@@ -133,8 +133,7 @@ fn verbatim_line(text: &str) -> Option<VerbatimLine<'_>>
     ensures utf8 { IfSome result (λ line. IsUtf8 line.front.now × IsUtf8 line.head.now × IsUtf8 line.tail.now
         × IfSome line.msg (λ msg. IsUtf8 msg.now)) }
 {
-    let gap = verbatim_front(text)?;
-    let start = one_space(gap)?;
+    let start = verbatim_front(text)?;
     let stamp = verbatim_stamp(start)?;
     let front = before(text, stamp.zone);
     let (rest, cut) = verbatim_tail(stamp.rest)?;
@@ -232,9 +231,8 @@ pub(crate) fn verbatim_text(
     ensures year { OfTrimmed (chars input.now) (λ whole. (date : MonthDate)
         → AsksYear variant whole date → IsOk result) }
 {
-    match variant {
-        Variant::RFC3164 => Ok(false),
-        Variant::RFC5424 => copied(text, input),
-        Variant::Either => copied(text, input),
+    if !variant.reads_rfc5424() {
+        return Ok(false);
     }
+    copied(text, input)
 }

@@ -7,7 +7,9 @@ ghost use Rattle.std.specs.Prelude.{◌≡◌, Err, IfOk, IfSome, IsSome, MatchO
 ghost use Rattle.std.specs.Prelude.{None, Ok};
 ghost use Rattle.std.specs.Str.{chars};
 ghost use Rattle.jiff.specs.Words.{plain_zone};
+ghost use Rattle.syslog_pieces.specs.Pieces.Class.{Text};
 ghost use Rattle.syslog_pieces.specs.Pieces.View.{shown};
+ghost use Rattle.syslog_pieces.specs.Text.{trimmed};
 ghost use Rattle.syslog_pieces.specs.Timestamp.{header_stamp};
 ghost use Rattle.syslog_pieces.specs.Timestamp.MonthDate.{month_date};
 ghost use Rattle.syslog_pieces.specs.Timestamp.Rfc3164.{ShowsYearless};
@@ -22,7 +24,9 @@ ghost use Rattle.syslog_loose.specs.Reading.{AnswersOrWhole, AsksYear, HasMonth,
 ghost use Rattle.syslog_loose.specs.Reading.{OfTrimmed, incomplete};
 ghost use Rattle.syslog_loose.specs.Start.{BeginsWith, BeginsWithout};
 ghost use Rattle.syslog_loose.specs.declared.fault.ParseFault.TheVariants.{Invalid};
+ghost use Rattle.syslog_loose.specs.View3164.{IsBehindStamp};
 ghost use Rattle.syslog_loose.specs.declared.variant.Variant.{Variant};
+ghost use Rattle.syslog_loose.specs.declared.variant.Variant.TheVariants as variants;
 
 use crate::beginning::may_be_read;
 use crate::fault::ParseFault;
@@ -205,6 +209,20 @@ pub fn parse_message_with_year_exact_tz<'a, F: FnOnce(IncompleteDate) -> i32>(
         priority,
         timestamp,
     };
+    stamped_message(alloc, stamped, behind)
+}
+
+// The message of a text of RFC 3164, from what stands behind its timestamp on.
+#[inline(always)]
+fn stamped_message(
+    alloc: Global,
+    stamped: Stamped,
+    behind: &str,
+) -> Result<Message<&str>, ParseFault>
+    ensures { (dating : zone.Dating) → (whole : Text)
+        → IsBehindStamp dating (trimmed whole) stamped (chars behind.now)
+        → Answers variants.RFC3164 dating whole result }
+{
     match rfc3164::read_behind(alloc, stamped, behind, DASH_RULE) {
         Ok(message) => Ok(message),
         Err(_) => Err(ParseFault::Memory),
@@ -300,6 +318,19 @@ pub(crate) fn read<'a>(
     if !variant.reads_rfc3164() {
         return Err(ParseFault::Invalid);
     }
+    read_rfc3164(alloc, input, dating)
+}
+
+// The message of the trimmed text by RFC 3164.
+#[inline(always)]
+fn read_rfc3164<'a>(
+    alloc: Global,
+    input: &'a str,
+    dating: &Dating<'_, '_>,
+) -> Result<Message<&'a str>, ParseFault>
+    ensures { OfTrimmed (chars input.entry.now)
+        (λ whole. Answers variants.RFC3164 (dating_value dating.entry.now) whole result) }
+{
     match rfc3164::read(alloc, input, DASH_RULE, dating) {
         Ok(Some(message)) => Ok(message),
         Ok(None) => Err(ParseFault::Invalid),

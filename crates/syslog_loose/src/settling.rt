@@ -10,9 +10,6 @@ ghost use Rattle.syslog_loose.specs.Message.{MessageValue};
 ghost use Rattle.syslog_loose.specs.Reading.{AnswersEachMonth, InYear, IsRead, dash_rule};
 ghost use Rattle.syslog_loose.specs.Settling.{ReachesFrom, Settles, answer_in};
 
-#[cfg(test)]
-mod tests;
-
 use crate::fault::ParseFault;
 use crate::rounds::{first_round, next_round};
 use crate::variant::{IncompleteDate, Variant};

@@ -5,9 +5,6 @@ ghost use Rattle.std.specs.Str.{bytes_eq, chars};
 ghost use Rattle.syslog_pieces.specs.Pieces.View.{shown};
 ghost use Rattle.syslog_loose.specs.TagForm.{IsForm, IsNoForm};
 
-#[cfg(test)]
-mod tests;
-
 use syslog_pieces::text::{CharClass, literal, split_run};
 
 // Whether the text is `]` alone.

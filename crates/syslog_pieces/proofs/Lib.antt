@@ -1,3 +1,4 @@
+pub mod Names
 pub mod PieceLemmas
 pub mod PriLemmas
 pub mod ProcIdLemmas

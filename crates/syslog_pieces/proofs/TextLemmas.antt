@@ -3,7 +3,6 @@ pub mod Chars
 pub mod Copied
 pub mod Cuts
 pub mod Decimals
-pub mod Equal
 pub mod Verbatim
 pub mod Canonical
 pub mod Lanes

@@ -33,6 +33,7 @@ pub mod read_back;
 use crate::as_str::AsStr;
 
 /// A priority below 192 is composed of its two parts.
+#[tactic(auto, using(crate::proofs::PriLemmas::priority_composed))]
 pub fn priority_is_composed()
     ensures { (pri : ℕ) → pri < 192 → (facility : SyslogFacility) × (severity : SyslogSeverity)
         × (facility_of pri ≡ Some facility) × (severity_of pri ≡ Some severity) × (composed facility severity ≡ pri) }
@@ -96,6 +97,7 @@ pub fn text_has_one_split()
 {}
 
 /// A value is a text whose split has no lone backslash and no single quote.
+#[tactic(auto, using(crate::proofs::StructuredDataLemmas::Units::value_split))]
 pub fn value_is_unquoted_split()
     ensures { (text : Text) → IsValue text
         ↔ ((units : List TextUnit) × SplitsUnits text units false × AllByRecursion IsUnquoted units) }

@@ -8,7 +8,7 @@ ghost use Rattle.std.specs.Str.{bytes_eq, chars, IsUtf8};
 ghost use Rattle.syslog_pieces.specs.Text.CharClass.{has};
 ghost use Rattle.syslog_pieces.specs.declared.text.CharClass.TheVariants.{Blank};
 ghost use Rattle.syslog_pieces.specs.Pieces.Class.{Front, exactly, optional, run, some_run};
-ghost use Rattle.syslog_pieces.specs.Bodies.Scan.{EndsRun, IsBare, SplitsRun, past_in};
+ghost use Rattle.syslog_pieces.specs.Bodies.Scan.{EndsRun, IsBare, SplitsRun, byte_in, past_in};
 ghost use Rattle.syslog_pieces.specs.Text as spec;
 ghost use Rattle.syslog_pieces.specs.Pieces.View.{seen, shown, Reads, Skips};
 
@@ -23,9 +23,7 @@ pub mod write_ascii;
 
 pub use fields::{host_field, tag_field};
 pub(crate) use looks::begins_with_letter;
-use looks::{
-    begins_visibly, begins_with, begins_with_digit, begins_with_gap, ends_in_colon, first_digit,
-};
+use looks::{begins_visibly, begins_with, begins_with_digit, begins_with_gap, ends_in_colon};
 pub(crate) use numerals::{few_digits, number_of_digits};
 use scan::{ascii_run, is_cut, is_in};
 
@@ -91,13 +89,20 @@ pub fn split_run(text: &str, class: CharClass) -> (&str, &str)
 pub fn run_end(text: &str, class: CharClass) -> usize
     ensures { EndsRun (has class) text.now result }
 {
-    let bytes = text.as_bytes();
-    let end = ascii_run(bytes, class);
-    if is_cut(bytes, end) {
+    let end = ascii_end(text, class);
+    if is_cut(text.as_bytes(), end) {
         end
     } else {
         mixed_run_end(text, class)
     }
+}
+
+// The place behind the run of ASCII characters of the class.
+#[inline(always)]
+fn ascii_end(text: &str, class: CharClass) -> usize
+    ensures { EndsRun (byte_in class) text.now result }
+{
+    ascii_run(text.as_bytes(), class)
 }
 
 // The same of a run that reaches a character past ASCII: those are looked at one by one, and the bytes between and
@@ -110,9 +115,8 @@ fn mixed_run_end(text: &str, class: CharClass) -> usize
     let mut end = 0;
     let mut rest = text;
     'stretches: loop {
-        let bytes = rest.as_bytes();
-        let run = ascii_run(bytes, class);
-        if is_cut(bytes, run) {
+        let run = ascii_end(rest, class);
+        if is_cut(rest.as_bytes(), run) {
             return end + run;
         }
         let (_, past) = rest.split_at(run);
@@ -157,6 +161,7 @@ pub fn first(text: &str) -> Option<(char, &str)>
 }
 
 /// The text behind this character, where it begins the text.
+#[tactic(auto, using(crate::proofs::TextLemmas::Words::stripped))]
 #[inline(always)]
 pub fn literal(text: &str, c: char) -> Option<&str>
     ensures { Skips (exactly (c ∷ [])) tt (chars text.now) result }
@@ -210,13 +215,10 @@ fn few_blanks(text: &str) -> Option<&str>
     ensures { IfSome result (λ rest. Front (run spec.is_blank) (chars text.now) (shown rest) tt) }
 {
     if begins_visibly(text.as_bytes()) {
-        return Some(text);
+        Some(text)
+    } else {
+        past_space(text)
     }
-    if begins_with_gap(text.as_bytes()) {
-        let (_, rest) = text.split_at(1);
-        return Some(rest);
-    }
-    None
 }
 
 // The same of any number of blanks.
@@ -291,30 +293,6 @@ fn many_blanks(text: &str) -> Option<&str>
 /// The number at the front, up to a limit, and the text behind it. Leading zeros are allowed.
 #[inline(always)]
 pub fn number(text: &str, limit: u32) -> Option<(u32, &str)>
-    ensures { Reads (spec.number limit) (λ n. n) (chars text.now) result }
-{
-    match lone_digit(text, limit) {
-        Some(found) => Some(found),
-        None => any_number(text, limit),
-    }
-}
-
-// The same of one digit before what is none, as versions are: it needs no scan.
-#[inline(always)]
-fn lone_digit(text: &str, limit: u32) -> Option<(u32, &str)>
-    ensures { IfSome result (λ read. Front (spec.number limit) (chars text.now) (shown read.1) read.0) }
-{
-    let value = first_digit(text.as_bytes())?;
-    if limit < value {
-        return None;
-    }
-    let (_, rest) = text.split_at(1);
-    Some((value, rest))
-}
-
-// The same of any number.
-#[inline(always)]
-fn any_number(text: &str, limit: u32) -> Option<(u32, &str)>
     ensures { Reads (spec.number limit) (λ n. n) (chars text.now) result }
 {
     if !begins_with_digit(text.as_bytes()) {

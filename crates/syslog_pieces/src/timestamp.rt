@@ -14,11 +14,12 @@ ghost use Rattle.std.proofs.Common.{rules};
 ghost use Rattle.std.specs.Cmp.{partial_order_from_own_ties};
 ghost use Rattle.std.specs.Cmp.Rules.{comparing};
 ghost use Rattle.std.specs.Ordering.{on, int_eq, int_cmp, as_partial_cmp};
-ghost use Rattle.std.specs.Prelude.{MatchOption};
+ghost use Rattle.std.specs.Prelude.{IfSome, MatchOption, Some};
 ghost use Rattle.std.specs.Str.{chars};
 ghost use Rattle.syslog_pieces.specs.Timestamp as spec;
 ghost use Rattle.syslog_pieces.specs.Timestamp.{IsStampText, HasNoStamp};
-ghost use Rattle.syslog_pieces.specs.Pieces.View.{Reads};
+ghost use Rattle.syslog_pieces.specs.Pieces.Class.{Front};
+ghost use Rattle.syslog_pieces.specs.Pieces.View.{Reads, shown};
 
 pub mod canonical;
 pub mod civil;
@@ -29,16 +30,15 @@ mod fields;
 pub mod month_date;
 pub mod rfc3164;
 mod rfc3339_text;
-mod standard;
 pub mod verbatim;
 pub mod zone;
 
-use crate::text::{CharClass, literal, split_run};
+use crate::text::canonical::is_end;
+use crate::text::literal;
 use jiff::Timestamp;
 use jiff::tz::Offset;
 pub use month_date::{MonthDate, shown_date};
 pub use rfc3164::rfc3164_stamp;
-use standard::standard_stamp;
 use std::cmp::Ordering;
 pub use zone::year_at;
 
@@ -65,7 +65,12 @@ pub struct OffsetTimestamp {
 pub fn rfc3339(text: &str) -> Option<OffsetTimestamp>
     ensures { MatchOption result (HasNoStamp (chars text.now)) (IsStampText (chars text.now)) }
 {
-    rfc3339_text::stamp(rfc3339_text::read(text.as_bytes())?)
+    let (written, rest) = rfc3339_text::read(text)?;
+    if is_end(rest) {
+        rfc3339_text::stamp(written)
+    } else {
+        None
+    }
 }
 
 /// The timestamp at the front of a header's text, absent for `-`, and the text behind it. A text
@@ -80,19 +85,33 @@ pub fn header_stamp(text: &str) -> Option<(Option<OffsetTimestamp>, &str)>
     }
 }
 
-// The same, whatever its form.
+// The same of a date that each month has, as most are.
+#[inline(always)]
+fn standard_stamp(text: &str) -> Option<(OffsetTimestamp, &str)>
+    ensures { IfSome result (λ read. Front spec.header_stamp (chars text.now) (shown read.1) (Some read.0)) }
+{
+    let (written, rest) = rfc3339_text::read(text)?;
+    let _ = literal(rest, ' ')?;
+    let stamp = rfc3339_text::standard_stamp(written)?;
+    Some((stamp, rest))
+}
+
+// The same, whatever it is.
 #[inline(never)]
 fn any_header_stamp(text: &str) -> Option<(Option<OffsetTimestamp>, &str)>
     ensures { Reads spec.header_stamp (λ s. s) (chars text.now) result }
 {
-    match literal(text, '-') {
-        Some(rest) => return Some((None, rest)),
-        None => {}
+    match rfc3339_text::read(text) {
+        Some((written, rest)) => {
+            let _ = literal(rest, ' ')?;
+            let stamp = rfc3339_text::stamp(written)?;
+            Some((Some(stamp), rest))
+        }
+        None => {
+            let rest = literal(text, '-')?;
+            Some((None, rest))
+        }
     }
-    let (run, rest) = split_run(text, CharClass::Visible);
-    literal(rest, ' ')?;
-    let stamp = rfc3339(run)?;
-    Some((Some(stamp), rest))
 }
 
 impl PartialEq for OffsetTimestamp {

@@ -1,25 +1,22 @@
 -- The program's arguments as words.
 use Rattle.std.proofs.Common.{◌≡◌, ℕ, ℤ, ◌-◌, ◌<◌, ◌≤◌, Bor, Bool, false, ◌↔◌, List, [], ◌∷◌, ◌++◌, length, map}
-use Rattle.std.proofs.Common.{take, drop, get_or, IsTrue, ap, inl, inr, nat_eq, refl, sym, subst, true, ◌∙◌, arith}
+use Rattle.std.proofs.Common.{take, drop, get_or, IsTrue, ap, inl, inr, nat_eq, refl, sym, true, ◌∙◌, arith}
 use Rattle.std.specs.Cmp.Lexicographic.{bytes_decides, pointwise}
 use Rattle.std.proofs.lemmas.Bool.{false≢true}
 use Rattle.std.proofs.lemmas.List.{take_all}
-use Rattle.syslog_lines.specs.Arguments.{AreYearWords, end_word, help_word, version_word}
+use Rattle.syslog_lines.specs.Arguments.{AreYearWords, help_word, version_word}
 use Rattle.syslog_tidy.specs.Arguments.{AreArguments, AsksFor, OnlyFlag, changed_word, flags_of, refused_word}
 use Rattle.syslog_tidy.specs.declared.args.Output.{Output}
 use Rattle.syslog_tidy.specs.declared.args.Output.TheVariants.{Settled, DashChange, Refused}
 use Rattle.syslog_tidy.specs.declared.args.Task.{Task}
 use Rattle.syslog_tidy.specs.declared.args.Task.TheVariants.{Help, Version, Lines}
 
-first_word : (word other : List ℕ) (behind more : List (List ℕ)) → word ∷ behind ≡ other ∷ more → word ≡ other
-first_word word other behind more same = ap (λ (words : List (List ℕ)). get_or words 0 []) same
-
 -- a flag is longer than a year and `--`
 no_year : (flag : List ℕ) (behind : List (List ℕ)) (year : ℤ) → 4 < length flag → AreYearWords (flag ∷ behind) year → ⊥
-no_year flag behind year long (word, inl alone, named) = let same = ap length (first_word flag word behind [] alone) in
-    omega (arith, same, named.0.1)
+no_year flag behind year long (word, inl alone, named) =
+    let same = ap (λ (words : List (List ℕ)). length (get_or words 0 [])) alone in omega (arith, same, named.0.1)
 no_year flag behind year long (word, inr dashed, named) =
-    let same = ap length (first_word flag end_word behind (word ∷ []) dashed) in omega (arith, same)
+    let same = ap (λ (words : List (List ℕ)). length (get_or words 0 [])) dashed in omega (arith, same)
 
 behind_flag : (output : Output) (behind more : List (List ℕ)) → flags_of output ++ behind ≡ flags_of output ++ more
     → behind ≡ more
@@ -28,14 +25,13 @@ behind_flag DashChange behind more same = cc
 behind_flag Refused behind more same = cc
 
 -- so words that begin with one name no year
-no_settled : (words behind more : List (List ℕ)) (output : Output) → words ≡ flags_of output ++ behind
-    → ((year : ℤ) → ¬ (AreYearWords behind year)) → (year : ℤ) → words ≡ more → AreYearWords more year → ⊥
-no_settled words behind more Settled split none year same named =
-    none year (subst (λ (l : List (List ℕ)). AreYearWords l year) (sym same ∙ split) named)
-no_settled words behind more DashChange split none year same named = no_year changed_word behind year (omega arith)
-    (subst (λ (l : List (List ℕ)). AreYearWords l year) (sym same ∙ split) named)
-no_settled words behind more Refused split none year same named = no_year refused_word behind year (omega arith)
-    (subst (λ (l : List (List ℕ)). AreYearWords l year) (sym same ∙ split) named)
+no_settled : (words behind : List (List ℕ)) (output : Output) → words ≡ flags_of output ++ behind
+    → ((year : ℤ) → ¬ (AreYearWords behind year)) → (year : ℤ) → ¬ (AreYearWords words year)
+no_settled words behind Settled split none year named = none year (rw split at named)
+no_settled words behind DashChange split none year named =
+    no_year changed_word behind year (omega arith) (rw split at named)
+no_settled words behind Refused split none year named =
+    no_year refused_word behind year (omega arith) (rw split at named)
 
 -- words whose flag was read, and that name no year behind it, are no arguments
 pub no_arguments : (words behind : List (List ℕ)) (output : Output) → words ≡ flags_of output ++ behind
@@ -43,12 +39,8 @@ pub no_arguments : (words behind : List (List ℕ)) (output : Output) → words 
     → (other : Output) (year : ℤ) → ¬ (AreArguments words other year)
 no_arguments words behind output split only none other year (more, same, named) =
     elim (only other more same) [
-      | inl here ↦
-          none year (subst (λ (l : List (List ℕ)). AreYearWords l year)
-          (behind_flag output more behind (sym (subst (λ (o : Output). words ≡ flags_of o ++ more) here same) ∙ split))
-          named)
-      | inr settled ↦ no_settled words behind more output split none year
-          (subst (λ (o : Output). words ≡ flags_of o ++ more) settled same) named
+      | inl here ↦ none year (rw (behind_flag output more behind (sym (rw here at same) ∙ split)) at named)
+      | inr settled ↦ no_settled words behind output split none year (rw (← (rw settled at same)) at named)
     ]
 
 -- the words behind a first one

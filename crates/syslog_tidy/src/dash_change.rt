@@ -49,6 +49,27 @@ struct DashChanges {
     year: i32,
 }
 
+impl DashChanges {
+    // Whether the line is read differently. It is never refused.
+    fn has_dash_change(&self, alloc: Global, line: &str) -> Result<bool, AllocError>
+        ensures { IsOkAnd result (λ differs. IsTrue differs
+            ↔ ReadsDifferently Either (in_utc self.now.year) (chars line.now)) }
+    {
+        let year = self.year;
+        let answer_year = move |_: IncompleteDate| -> i32
+            ensures { result ≡ year }
+        { year };
+        reads_differently(
+            alloc,
+            line,
+            answer_year,
+            None,
+            Variant::Either,
+            &TimeZone::UTC,
+        )
+    }
+}
+
 impl LineFilter for DashChanges {
     ghost answers = { λ filter. finding_dash_changes filter.year };
 
@@ -59,7 +80,7 @@ impl LineFilter for DashChanges {
         _: &mut String,
         output: &mut Vec<u8>,
     ) -> Result<bool, AllocError> {
-        let is_dash_change = has_dash_change(alloc, line, self.year)?;
+        let is_dash_change = self.has_dash_change(alloc, line)?;
         if is_dash_change {
             push_line(output, line.as_bytes())?;
         }
@@ -69,21 +90,4 @@ impl LineFilter for DashChanges {
     fn answer_other(&self, _: Global, _: &[u8], _: &mut Vec<u8>) -> Result<bool, AllocError> {
         Ok(false)
     }
-}
-
-// Whether the line is read differently in a year. It is never refused.
-fn has_dash_change(alloc: Global, line: &str, year: i32) -> Result<bool, AllocError>
-    ensures { IsOkAnd result (λ differs. IsTrue differs ↔ ReadsDifferently Either (in_utc year) (chars line.now)) }
-{
-    let answer_year = move |_: IncompleteDate| -> i32
-        ensures { result ≡ year }
-    { year };
-    reads_differently(
-        alloc,
-        line,
-        answer_year,
-        None,
-        Variant::Either,
-        &TimeZone::UTC,
-    )
 }

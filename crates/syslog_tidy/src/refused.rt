@@ -3,7 +3,7 @@ ghost use Rattle.std.specs.Prelude.{◌≡◌, false, IfOk, IfErr};
 ghost use Rattle.syslog_tidy.specs.Filters.{RefusesAll, refusing};
 ghost use Rattle.syslog_lines.specs.Pump.{EndsEarly, FailedAs};
 
-use crate::run::settle_line;
+use crate::run::Tidy;
 use std::alloc::{AllocError, Global};
 use std::io::{Read, Write};
 use syslog_lines::pump::pump;
@@ -30,21 +30,24 @@ pub fn refused<R: Read, W: Write>(
         (W.contents writer.old.inner) (W.contents writer.new.inner) fault) }
     ensures failed { FailedAs result reader.new.failed writer.new.failed }
 {
-    let tally = pump(alloc, &Refusals { year }, reader, writer)?;
+    let refusals = Refusals {
+        tidy: Tidy { year },
+    };
+    let tally = pump(alloc, &refusals, reader, writer)?;
     Ok(Summary {
         lines: tally.lines(),
         refused: tally.answered,
     })
 }
 
-/// Writes each line that has no settled text in this year, as it came.
+/// Writes each line for which this filter writes nothing, as it came.
 #[derive(Drop)]
 struct Refusals {
-    year: i32,
+    tidy: Tidy,
 }
 
 impl LineFilter for Refusals {
-    ghost answers = { λ refusals. refusing refusals.year };
+    ghost answers = { λ refusals. refusing refusals.tidy.year };
 
     fn answer(
         &self,
@@ -53,7 +56,7 @@ impl LineFilter for Refusals {
         text: &mut String,
         output: &mut Vec<u8>,
     ) -> Result<bool, AllocError> {
-        match settle_line(alloc, line, self.year, text) {
+        match self.tidy.settle_line(alloc, line, text) {
             Ok(()) => Ok(false),
             Err(ParseFault::Invalid) => {
                 push_line(output, line.as_bytes())?;

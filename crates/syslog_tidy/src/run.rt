@@ -49,13 +49,44 @@ pub fn run<R: Read, W: Write>(
 
 /// Writes the settled text of each line that has one in this year.
 #[derive(Drop)]
-struct Tidy {
-    year: i32,
+pub struct Tidy {
+    pub year: i32,
+}
+
+impl Tidy {
+    /// Writes the first settled round of a line into `text`.
+    #[inline(always)]
+    pub fn settle_line(
+        &self,
+        alloc: Global,
+        line: &str,
+        text: &mut String,
+    ) -> Result<(), ParseFault>
+        ensures settles { MatchResult result
+            (λ _. IsTidied self.now.year (chars line.now) (Some (chars (string_bytes text.new))))
+            (λ fault. fault ≡ Invalid → IsTidied self.now.year (chars line.now) None) }
+        ensures refusal { IsUnreadable Either (in_utc self.now.year) (chars line.now) → result ≡ Err Invalid }
+    {
+        let year = self.year;
+        let answer_year = move |_: IncompleteDate| -> i32
+            ensures { result ≡ year }
+        { year };
+        settle_into(
+            alloc,
+            text,
+            line,
+            answer_year,
+            None,
+            Variant::Either,
+            &TimeZone::UTC,
+        )
+    }
 }
 
 impl LineFilter for Tidy {
     ghost answers = { λ tidy. tidying tidy.year };
 
+    #[inline(always)]
     fn answer(
         &self,
         alloc: Global,
@@ -63,7 +94,7 @@ impl LineFilter for Tidy {
         text: &mut String,
         output: &mut Vec<u8>,
     ) -> Result<bool, AllocError> {
-        match settle_line(alloc, line, self.year, text) {
+        match self.settle_line(alloc, line, text) {
             Ok(()) => {
                 push_line(output, text.as_bytes())?;
                 Ok(true)
@@ -76,30 +107,4 @@ impl LineFilter for Tidy {
     fn answer_other(&self, _: Global, _: &[u8], _: &mut Vec<u8>) -> Result<bool, AllocError> {
         Ok(false)
     }
-}
-
-/// Writes the first settled round of a line, in a year, into `text`.
-pub fn settle_line(
-    alloc: Global,
-    line: &str,
-    year: i32,
-    text: &mut String,
-) -> Result<(), ParseFault>
-    ensures settles { MatchResult result
-        (λ _. IsTidied year (chars line.now) (Some (chars (string_bytes text.new))))
-        (λ fault. fault ≡ Invalid → IsTidied year (chars line.now) None) }
-    ensures refusal { IsUnreadable Either (in_utc year) (chars line.now) → result ≡ Err Invalid }
-{
-    let answer_year = move |_: IncompleteDate| -> i32
-        ensures { result ≡ year }
-    { year };
-    settle_into(
-        alloc,
-        text,
-        line,
-        answer_year,
-        None,
-        Variant::Either,
-        &TimeZone::UTC,
-    )
 }

@@ -20,15 +20,6 @@ use Rattle.syslog_loose.proofs.Rfc3164Lemmas.Near.{read_near}
 use Rattle.syslog_loose.proofs.Rfc3164Lemmas.Printed.{printed_is}
 use Rattle.syslog_loose.proofs.Rfc5424Lemmas.ReadBack.{completed, priority_same}
 
-completed_canonical : (rule : DashRule) (dating : Dating) (text : Text) (m : MessageValue)
-    → IsRead3164 rule dating text m → HasNoException rule m → IsCanonical rule (completed m)
-completed_canonical rule dating text m r none =
-    near_completed rule m (Some (unwrap_or m.facility LOG_SYSLOG)) (Some (unwrap_or m.severity SEV_DEBUG)) refl refl
-    (read_near rule dating text m r) none
-
-completed_bounded : (m : MessageValue) → IsBounded m → IsBounded (completed m)
-completed_bounded m b = record { protocol = b.protocol; procid = b.procid }
-
 pub printed_again : (m : MessageValue) → m.protocol ≡ RFC3164 → printed (completed m) ≡ printed m
 unfolding printed_3164
 printed_again m e =
@@ -41,8 +32,11 @@ printed_again m e =
 pub read_again : (rule : DashRule) (dating : Dating) (text : Text) (m : MessageValue) → IsRead3164 rule dating text m
     → HasNoException rule m
     → IsCanonical rule (completed m) × IsBounded (completed m) × (printed (completed m) ≡ printed m)
-read_again rule dating text m r none = (
-  completed_canonical rule dating text m r none,
-  completed_bounded m (read_bounded rule dating text m r),
-  printed_again m (read_near rule dating text m r).protocol,
-)
+read_again rule dating text m r none =
+    let near = read_near rule dating text m r in
+    let bounded = read_bounded rule dating text m r in (
+      near_completed rule m (Some (unwrap_or m.facility LOG_SYSLOG)) (Some (unwrap_or m.severity SEV_DEBUG)) refl refl
+          near none,
+      record { protocol = bounded.protocol; procid = bounded.procid },
+      printed_again m near.protocol,
+    )

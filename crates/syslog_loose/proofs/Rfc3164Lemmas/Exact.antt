@@ -29,19 +29,18 @@ use Rattle.syslog_pieces.proofs.TextLemmas.Words.{host_det}
 use Rattle.syslog_pieces.proofs.TimestampLemmas.Rfc3164.{IsLow, rfc3164_stamp_det, stamped_date_begins}
 use Rattle.syslog_pieces.proofs.TimestampLemmas.RoundTrip.{stamp_text-canonical, printed_stamp-begins}
 use Rattle.syslog_loose.specs.Canonical.{IsBounded, IsCanonicalHost, AreCanonicalNames}
-use Rattle.syslog_loose.specs.Canonical.{IsCanonical3164, IsCanonicalFor, IsCanonical}
+use Rattle.syslog_loose.specs.Canonical.{IsCanonical}
 use Rattle.syslog_loose.specs.Exceptions.{is_no_colon, HasNoColon, HasExceptionsAlone}
 use Rattle.syslog_loose.specs.Message.{MessageValue}
 use Rattle.syslog_loose.specs.Printed.{timestamp_text, priority_of, printed_3164, printed}
 use Rattle.syslog_loose.specs.Rfc3164.{Names3164, names, NamesProgram, Resolves, body_row, rfc3164_row, IsRead3164}
-use Rattle.syslog_loose.specs.declared.message.Protocol.{Protocol}
 use Rattle.syslog_loose.specs.declared.message.Protocol.TheVariants.{RFC3164}
 use Rattle.syslog_loose.proofs.PriorityLemmas.{priority_small}
 use Rattle.syslog_loose.proofs.Rfc3164Lemmas.Apart.{digit_range}
-use Rattle.syslog_loose.proofs.Rfc3164Lemmas.Exceptions.{canonical_names}
+use Rattle.syslog_loose.proofs.Rfc3164Lemmas.Exceptions.{canonical_names, near_canonical, no_dash_host, no_colon_host}
 use Rattle.syslog_pieces.proofs.PieceLemmas.Each.{each_right, each_append}
 use Rattle.syslog_loose.proofs.Rfc3164Lemmas.Near.{TagField, tag_field, form_parts, no_colon_process}
-use Rattle.syslog_loose.proofs.Rfc3164Lemmas.Near.{severity_beside, read_near, some_same}
+use Rattle.syslog_loose.proofs.Rfc3164Lemmas.Near.{read_near, read_nearly, some_same}
 use Rattle.syslog_loose.proofs.Rfc3164Lemmas.Printed.{printed_is}
 use Rattle.syslog_loose.proofs.Rfc3164Lemmas.ReadBack.{canonical_back, to_stamp_back}
 use Rattle.syslog_loose.proofs.Rfc3164Lemmas.ReadBack.{host_field_back, stamp_back, names_back}
@@ -220,7 +219,8 @@ facility_there pri h = let (f, s, there, told, whole) = priority_composed pri h 
 -- ---- the message
 module _ (rule : DashRule) (dating : Dating) (m : MessageValue) (b : IsBounded m) where
   module _ (v : Values (rfc3164_row rule dating)) (n : Names3164) (resolves : Resolves v.1.1.1.0 v.1.1.1.1.0 n)
-      (means : m ≡ told rule dating v n) (near : HasExceptionsAlone m) where
+      (means : m ≡ told rule dating v n) (r : IsRead3164 rule dating (printed_3164 m) m)
+      (near : HasExceptionsAlone m) where
     fields_canonical : Front (Row (rfc3164_row rule dating)) (whole m (tail_text m.structured_data m.msg)) [] v
         → IsCanonical rule m
     fields_canonical d =
@@ -259,27 +259,19 @@ module _ (rule : DashRule) (dating : Dating) (m : MessageValue) (b : IsBounded m
         canonical_names m.hostname m.appname m.procid near.names no_colon in
         let (_, d8) = rows_step to_colon (from_blanks rule) to_colon_det {vs = v.1.1.1}
         (names_back m.hostname m.appname m.procid t stays named b.procid) d4 in
-        let own : IsCanonical3164 rule m = record {
-          msgid = near.msgid;
-          names = named;
-          elements = near.parameters;
-          no_list = λ e. end_list rule m.structured_data m.msg v.1.1.1.1.1.1.1 e near.msg_front
-              (ap (λ (x : MessageValue). x.structured_data) means) (ap (λ (x : MessageValue). x.msg) means) d8;
-        } in (
+        let facility = subst (λ (x : MessageValue). IsSome x.facility) (sym means)
+        (subst (λ (x : Option ℕ). IsSome (option_and_then facility_of x)) (sym pri_is)
+        (facility_there p (priority_small m))) in
+        near_canonical rule m (
+          read_nearly rule dating (printed_3164 m) m r facility,
           record {
-            facility = subst (λ (x : MessageValue). IsSome x.facility) (sym means)
-                (subst (λ (x : Option ℕ). IsSome (option_and_then facility_of x)) (sym pri_is)
-                (facility_there p (priority_small m)));
-            severity = subst (λ (x : MessageValue). IsSome x.severity) (sym means)
-                (severity_beside v.0 (subst (λ (x : Option ℕ). IsSome (option_and_then facility_of x)) (sym pri_is)
-                (facility_there p (priority_small m))));
-            timestamp = canonical;
-            hostname = stays;
-            elements = near.elements;
-            msg_front = near.msg_front;
-            msg_end = near.msg_end;
+            canonical_timestamp = canonical;
+            host_is_no_dash = no_dash_host m.hostname stays;
+            host_ends_in_no_colon = no_colon_host m.hostname stays;
+            process_has_no_colon = no_colon;
+            message_is_no_list = λ e. end_list rule m.structured_data m.msg v.1.1.1.1.1.1.1 e near.msg_front
+                (ap (λ (x : MessageValue). x.structured_data) means) (ap (λ (x : MessageValue). x.msg) means) d8;
           },
-          subst (λ (x : Protocol). IsCanonicalFor rule x m) (sym near.protocol) own,
         )
 
   pub read_is_canonical : IsRead3164 rule dating (printed_3164 m) m → IsCanonical rule m
@@ -287,7 +279,7 @@ module _ (rule : DashRule) (dating : Dating) (m : MessageValue) (b : IsBounded m
       let (n, resolves, means) = r.means in
       let near = read_near rule dating (printed_3164 m) m r in
       let d = division_front (rfc3164_row rule dating) r.division in
-      fields_canonical r.values n resolves means near
+      fields_canonical r.values n resolves means r near
       (subst (λ (x : Text). Front (Row (rfc3164_row rule dating)) x [] r.values) (trimmed_whole m near.msg_end) d)
 
 -- read back from the printed text exactly where it is canonical

@@ -1,21 +1,20 @@
 -- The condition for RFC 3164 is the exceptions' absence, beside all that they leave.
 use Rattle.std.proofs.Common.{◌≡◌, inl, inr, Option, Some, None, IfSome, sym, subst}
-use Rattle.std.proofs.Common.{IsSome}
-use Rattle.std.specs.Char.{is_not_whitespace}
+use Rattle.std.proofs.Common.{IsSome, ◌&&◌, arith}
 use Rattle.syslog_pieces.specs.Pieces.Class.{Text}
-use Rattle.syslog_pieces.specs.Text.{is_tag_char, dash, EndsInColon}
-use Rattle.syslog_pieces.specs.Text.CharClass.{is_open_char}
+use Rattle.syslog_pieces.specs.Text.{dash, EndsInColon}
 use Rattle.syslog_pieces.specs.declared.procid.ProcId.{ProcId}
 use Rattle.syslog_pieces.specs.declared.procid.ProcId.TheVariants.{PID, Name}
 use Rattle.syslog_pieces.specs.declared.structured_data.rfc3164_list.DashRule.{DashRule}
 use Rattle.syslog_loose.specs.declared.message.Protocol.{Protocol}
 use Rattle.syslog_loose.specs.declared.message.Protocol.TheVariants.{RFC3164}
-use Rattle.syslog_loose.specs.Canonical.{IsVisible, IsCanonicalHost, IsBracketedProcess}
+use Rattle.syslog_loose.specs.Canonical.{IsVisible, IsCanonicalHost, IsBracketedProcess, is_process_char}
 use Rattle.syslog_loose.specs.Canonical.{AreCanonicalNames, IsCanonical3164, IsCanonicalFor, IsCanonical}
-use Rattle.syslog_loose.specs.Exceptions.{is_no_colon, HasNoColon, HasNoException, IsOddHost}
+use Rattle.syslog_loose.specs.Exceptions.{is_no_colon, is_inner_char, HasNoColon, HasNoException, IsOddHost}
 use Rattle.syslog_loose.specs.Exceptions.{IsInnerProcess, AreNamesButExceptions, HasExceptionsAlone, IsNearlyCanonical}
 use Rattle.syslog_loose.specs.Message.{MessageValue}
-use Rattle.syslog_pieces.proofs.PieceLemmas.Each.{each_both, each_left, each_right}
+use Rattle.syslog_pieces.proofs.PieceLemmas.Each.{each_both, each_map}
+use Rattle.std.proofs.lemmas.Bool.Decides.{nat_tests}
 use Rattle.syslog_pieces.specs.declared.pri.SyslogFacility.{SyslogFacility}
 use Rattle.syslog_pieces.specs.declared.pri.SyslogSeverity.{SyslogSeverity}
 
@@ -44,25 +43,19 @@ canonical_host (Some x) v d c = (v, d, c)
 -- ---- the process
 inner_of : (process : ProcId Text) → IsBracketedProcess process → IsInnerProcess process
 inner_of (PID n) h = tt
-inner_of (Name t) (l, a, none) = (
-  l,
-  each_both is_not_whitespace is_open_char t
-      (each_left is_not_whitespace is_no_colon t (each_left is_tag_char is_open_char t a))
-      (each_right is_tag_char is_open_char t a),
-  none,
-)
+inner_of (Name t) (l, a, none) =
+    (l, each_map is_process_char is_inner_char (λ c h. grind (arith, nat_tests)) t a, none)
 
 no_colon_of : (process : ProcId Text) → IsBracketedProcess process → HasNoColon process
 no_colon_of (PID n) h = tt
-no_colon_of (Name t) (l, a, none) = each_right is_not_whitespace is_no_colon t (each_left is_tag_char is_open_char t a)
+no_colon_of (Name t) (l, a, none) = each_map is_process_char is_no_colon (λ c h. grind (arith, nat_tests)) t a
 
 pub bracketed_of : (process : ProcId Text) → IsInnerProcess process → HasNoColon process → IsBracketedProcess process
 bracketed_of (PID n) h k = tt
 bracketed_of (Name t) (l, a, none) k = (
   l,
-  each_both is_tag_char is_open_char t
-      (each_both is_not_whitespace is_no_colon t (each_left is_not_whitespace is_open_char t a) k)
-      (each_right is_not_whitespace is_open_char t a),
+  each_map (λ c. is_inner_char c && is_no_colon c) is_process_char (λ c h. grind (arith, nat_tests)) t
+      (each_both is_inner_char is_no_colon t a k),
   none,
 )
 

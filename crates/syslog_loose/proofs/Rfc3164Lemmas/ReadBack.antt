@@ -2,9 +2,9 @@
 use Rattle.std.proofs.Common.{◌≡◌, ◌≢◌, ℕ, suc, pos, negsuc, ◌+◌, ◌*◌, ◌<◌, inl, inr, true, false, not, nat_eq, List}
 use Rattle.std.proofs.Common.{[], ◌∷◌, ◌++◌, length, Option, Some, None, IfSome, IsSome, refl, sym, ap, subst, ◌∙◌}
 use Rattle.std.proofs.Common.{arith}
-use Rattle.std.proofs.lemmas.Bool.{and_from, ne_eqb}
+use Rattle.std.proofs.lemmas.Bool.Decides.{nat_tests}
 use Rattle.std.proofs.lemmas.List.{length-append}
-use Rattle.std.specs.Char.{is_ascii_digit, is_not_whitespace}
+use Rattle.std.specs.Char.{is_ascii_digit}
 use Rattle.std.specs.Fmt.{decimal}
 use Rattle.std.specs.List.{AllByRecursion}
 use Rattle.std.specs.Option.{option_map_or}
@@ -26,6 +26,7 @@ use Rattle.syslog_pieces.specs.declared.procid.ProcId.{ProcId}
 use Rattle.syslog_pieces.specs.declared.procid.ProcId.TheVariants.{PID, Name}
 use Rattle.syslog_pieces.specs.declared.structured_data.rfc3164_list.DashRule.{DashRule}
 use Rattle.syslog_pieces.specs.declared.timestamp.OffsetTimestamp.{OffsetTimestamp}
+use Rattle.syslog_pieces.proofs.PieceLemmas.Class.{both_values}
 use Rattle.syslog_pieces.proofs.PieceLemmas.Class.{heads, front_division, optional_some, row_cons, rows_join}
 use Rattle.syslog_pieces.proofs.PieceLemmas.Class.{optional_none, rest_front, spaced_front, no_spaced_piece}
 use Rattle.syslog_pieces.proofs.PieceLemmas.Steps.{piece_front}
@@ -35,13 +36,11 @@ use Rattle.syslog_pieces.proofs.StructuredDataLemmas.ReadBack.{element_back}
 use Rattle.syslog_pieces.proofs.TextLemmas.ReadBack.{host_back, decimal_digits}
 use Rattle.syslog_pieces.proofs.StructuredDataLemmas.Rfc3164List.{full_begins, no_full_nil, no_rfc3164_list}
 use Rattle.syslog_pieces.proofs.TimestampLemmas.RoundTrip.{printed_stamp-back}
-use Rattle.syslog_pieces.proofs.TimestampLemmas.Texts.{stamp_character-visible}
 use Rattle.syslog_loose.specs.Canonical.{IsBoundedProcess, IsBounded, IsCanonicalHost}
 use Rattle.syslog_loose.specs.Canonical.{IsCanonicalElement, is_process_char}
 use Rattle.syslog_loose.specs.Canonical.{IsBracketedProcess, AreCanonicalNames}
 use Rattle.syslog_loose.specs.Canonical.{IsCanonicalInBoth, IsCanonical3164, IsCanonicalFor}
 use Rattle.syslog_loose.specs.Canonical.{IsCanonical}
-use Rattle.syslog_loose.specs.Exceptions.{is_no_colon}
 use Rattle.syslog_loose.specs.Message.{MessageValue}
 use Rattle.syslog_loose.specs.Printed.{timestamp_text, priority_of, printed_3164}
 use Rattle.syslog_loose.specs.Rfc3164.{names, Resolves, body_row, rfc3164_row, IsRead3164}
@@ -49,7 +48,6 @@ use Rattle.syslog_loose.specs.TagForm.{IsForm}
 use Rattle.syslog_loose.specs.declared.message.Protocol.{Protocol}
 use Rattle.syslog_loose.specs.declared.message.Protocol.TheVariants.{RFC3164}
 use Rattle.syslog_loose.proofs.PriorityLemmas.{priority_low, priority_front}
-use Rattle.syslog_loose.proofs.Rfc3164Lemmas.Apart.{digit_range}
 use Rattle.syslog_pieces.proofs.PieceLemmas.Each.{each_map, each_left, each_right, each_append}
 use Rattle.syslog_pieces.proofs.PieceLemmas.Rows.{row_of, ◌then◌}
 use Rattle.syslog_loose.proofs.Rfc3164Lemmas.Rows.{from_blanks, to_stamp, to_colon, from_stamp}
@@ -104,12 +102,7 @@ body_back rule (e ∷ es) msg h k b n =
 
 -- ---- the process
 pub digit_inside : (c : ℕ) → is_ascii_digit c ≡ true → is_process_char c ≡ true
-digit_inside c h =
-    let (from, to) = digit_range c h in
-    let visible = ap not (stamp_character-visible c (omega arith, omega arith)) in
-    and_from (is_tag_char c) (is_open_char c)
-    (and_from (is_not_whitespace c) (is_no_colon c) visible (ap not (ne_eqb c 58 (λ e. omega arith))))
-    (ap not (ne_eqb c 93 (λ e. omega arith)))
+digit_inside c h = grind (arith, nat_tests)
 
 pub process_chars : (process : ProcId Text) → IsBracketedProcess process → IsBoundedProcess process
     → (0 < length (procid_text process)) × Each is_process_char (procid_text process)
@@ -257,18 +250,11 @@ module _ (rule : DashRule) (dating : Dating) (m : MessageValue) (e : m.protocol 
   own = subst (λ (x : Protocol). IsCanonicalFor rule x m) e c.1
 
   abbrev values : Values (rfc3164_row rule dating)
-  values = (
-    Some (priority_of m),
-    (
-      tt,
-      (
-        m.timestamp,
-        (
-          Some m.hostname,
-          (program_field m.appname m.procid, (tt, (Some tt, (tt, (list_field m.structured_data, (tt, (m.msg, tt))))))),
-        ),
-      ),
-    ),
+  values = both_values to_stamp (from_stamp rule dating) (Some (priority_of m), (tt, tt)) (
+    m.timestamp,
+    both_values to_colon (from_blanks rule)
+        (Some m.hostname, (program_field m.appname m.procid, (tt, (Some tt, tt))))
+        (tt, (list_field m.structured_data, (tt, (m.msg, tt)))),
   )
 
   row_back : Front (Row (rfc3164_row rule dating)) (whole m (tail_text m.structured_data m.msg)) [] values
@@ -286,21 +272,12 @@ module _ (rule : DashRule) (dating : Dating) (m : MessageValue) (e : m.protocol 
   means_back : m ≡ told rule dating values (names m.hostname m.appname m.procid)
   means_back =
       let parts = parts_back m.facility m.severity canonical.facility canonical.severity in
-      let facility = parts.0 in
-      let severity = parts.1 in
-      let msgid = own.msgid in
-      let items = list_same m.structured_data in
-      λ i. record {
+      λ i. record m {
         protocol = e i;
-        facility = facility i;
-        severity = severity i;
-        timestamp = m.timestamp;
-        hostname = m.hostname;
-        appname = m.appname;
-        procid = m.procid;
-        msgid = msgid i;
-        structured_data = items i;
-        msg = m.msg;
+        facility = parts.0 i;
+        severity = parts.1 i;
+        msgid = own.msgid i;
+        structured_data = list_same m.structured_data i;
       }
 
   pub canonical_back : IsRead3164 rule dating (printed_3164 m) m

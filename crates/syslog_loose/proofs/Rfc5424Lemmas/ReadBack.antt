@@ -7,15 +7,14 @@ use Rattle.std.specs.Option.{option_map_or, option_and_then}
 use Rattle.std.specs.Prelude.{unwrap_or}
 use Rattle.std.specs.Fmt.{decimal}
 use Rattle.std.specs.Str.{skip_leading_whitespace, drop_trailing_whitespace}
-use Rattle.std.specs.Char.{is_ascii_digit, is_not_whitespace}
-use Rattle.syslog_pieces.specs.Pieces.Class.{Text, Class, Values, Front, NoFront, Row, Ends, Division, run, some_run}
+use Rattle.syslog_pieces.specs.Pieces.Class.{Text, Class, Values, Front, NoFront, Row, Ends, Division, run}
 use Rattle.syslog_pieces.specs.Pieces.Class.{optional}
-use Rattle.syslog_pieces.specs.Pieces.Format.{Format, IsSound, classes, printed_row, RowReadsBack}
+use Rattle.syslog_pieces.specs.Pieces.Format.{IsSound, classes, printed_row, RowReadsBack}
 use Rattle.syslog_pieces.specs.Pri.{priority, composed, facility_of, severity_of, facility_number, severity_number}
-use Rattle.syslog_pieces.specs.ProcId.{process_word, process_text, IsCanonicalProcess, IsBoundedProcess}
+use Rattle.syslog_pieces.specs.ProcId.{process_word, process_text}
 use Rattle.syslog_pieces.specs.StructuredData.{forgiving, item}
 use Rattle.syslog_pieces.specs.StructuredData.Element.{ElementValue, elements_text}
-use Rattle.syslog_pieces.specs.Text.{trimmed, is_blank, number, host, word, name_text}
+use Rattle.syslog_pieces.specs.Text.{trimmed, is_blank, number, name_text}
 use Rattle.syslog_pieces.specs.Text.Canonical.{IsVisible, IsCanonicalHost, IsCanonicalWord, EndsVisibly}
 use Rattle.syslog_pieces.specs.Timestamp.{header_stamp}
 use Rattle.syslog_pieces.specs.Timestamp.Canonical.{IsCanonicalStamp}
@@ -45,6 +44,8 @@ use Rattle.syslog_loose.specs.declared.message.Protocol.TheVariants.{RFC5424}
 use Rattle.syslog_loose.specs.declared.message.Protocol.{Protocol}
 use Rattle.syslog_loose.specs.Canonical.{IsBoundedProtocol, IsBounded, IsCanonicalInBoth}
 use Rattle.syslog_loose.specs.Canonical.{IsCanonical5424, IsCanonicalFor, IsCanonical}
+use Rattle.syslog_loose.specs.Formats.{space, stamp_field}
+pub use Rattle.syslog_loose.specs.Formats.{fields}
 use Rattle.syslog_loose.specs.Message.{MessageValue}
 use Rattle.syslog_loose.specs.Printed.{printed, printed_5424, priority_of, timestamp_text}
 use Rattle.syslog_loose.specs.Rfc5424.{header_row, data_row, rfc5424_row, message_of, IsRead5424}
@@ -54,60 +55,10 @@ use Rattle.syslog_loose.proofs.TrimLemmas.{last_ends, drop_ends, message_end, me
 
 -- ---- the printed fields, as formats
 
-gap_front : (t : Text) → Ends is_blank t → Front (run is_blank) (32 ∷ t) t tt
-gap_front t h = record { piece = 32 ∷ []; whole = refl; is = ((refl, tt), h) }
-
 -- what is read of a timestamp is canonical
-stamp_canonical : (p q : Text) (v : Option OffsetTimestamp) → header_stamp.Is p q v → IfSome v IsCanonicalStamp
+pub stamp_canonical : (p q : Text) (v : Option OffsetTimestamp) → header_stamp.Is p q v → IfSome v IsCanonicalStamp
 stamp_canonical p q None h = tt
 stamp_canonical p q (Some s) h = stamp_text-canonical p s h.0
-
--- a version
-abbrev version_number : Format
-version_number = record {
-  reads = number 4294967295;
-  print = decimal;
-  ReadsBack = λ n. n ≤ 4294967295;
-  Before = λ q. Ends is_ascii_digit q;
-}
-
--- blanks, printed as one space
-abbrev space : Format
-space = record {
-  reads = some_run is_blank;
-  print = λ v. 32 ∷ [];
-  ReadsBack = λ v. Unit {0};
-  Before = λ q. Ends is_blank q;
-}
-
--- a timestamp, or `-`
-abbrev stamp_field : Format
-stamp_field = record {
-  reads = header_stamp;
-  print = timestamp_text;
-  ReadsBack = λ v. IfSome v IsCanonicalStamp;
-  Before = λ q. (r : Text) × (q ≡ 32 ∷ r);
-}
-
--- a name before a blank
-abbrev name_field : (C : Class) → (C.Value → Text) → (C.Value → Type 0) → Format
-name_field C print P = record { reads = C; print = print; ReadsBack = P; Before = λ q. Ends is_not_whitespace q }
-
-abbrev host_field : Format
-host_field = name_field host name_text (λ v. IfSome v IsCanonicalHost)
-
-abbrev word_field : Format
-word_field = name_field word name_text (λ v. IfSome v IsCanonicalWord)
-
-abbrev process_field : Format
-process_field =
-    name_field process_word process_text (λ v. IfSome v IsCanonicalProcess × IfSome v IsBoundedProcess)
-
--- from the version up to the space before the elements
-abbrev pub fields : List Format
-fields =
-    version_number ∷ space ∷ stamp_field ∷ space ∷ host_field ∷ space ∷ word_field ∷ space ∷ process_field ∷ space
-    ∷ word_field ∷ []
 
 stamp_sound : IsSound stamp_field
 stamp_sound None q h b = refl
@@ -184,7 +135,7 @@ module _ (version : ℕ) (m : MessageValue) (bounded : version ≤ 4294967295) (
   line_divided =
       let es = m.structured_data in
       let end : Text = message_end m.msg in
-      let body = row_of data_row (gap_front _ (elements_unblank es end)
+      let body = row_of data_row (piece_front (run is_blank) (32 ∷ []) _ tt ((refl, tt), elements_unblank es end)
       then piece_front forgiving (elements_text es) end es (forgiving_back es end p.elements (no_item_end m.msg))
       then message_blanks m.msg p.msg_front then rest_front m.msg then refl) in
       let header = row_back fields fields_sound (values_of version m) _ (fields_back (elements_text es ++ end)) in
@@ -219,17 +170,10 @@ canonical_read rule version m e b c =
     subst (λ (x : Text). IsRead5424 x m) (sym (printed_is version m e)) (record {
       values = line_values version m;
       division = line_divided version m (omega arith) b c.0 own;
-      means = λ i. record {
+      means = λ i. record m {
         protocol = e i;
         facility = (ef ∙ sym (facility_composed f s) ∙ sym (ap facility_of same)) i;
         severity = (es ∙ sym (severity_composed f s) ∙ sym (ap severity_of same)) i;
-        timestamp = m.timestamp;
-        hostname = m.hostname;
-        appname = m.appname;
-        procid = m.procid;
-        msgid = m.msgid;
-        structured_data = m.structured_data;
-        msg = m.msg;
       };
     })
 
@@ -237,17 +181,9 @@ canonical_read rule version m e b c =
 
 -- the message with what stands in print for an absent facility and severity, so that it prints the same
 abbrev pub completed : MessageValue → MessageValue
-completed m = record {
-  protocol = m.protocol;
+completed m = record m {
   facility = Some (unwrap_or m.facility LOG_SYSLOG);
   severity = Some (unwrap_or m.severity SEV_DEBUG);
-  timestamp = m.timestamp;
-  hostname = m.hostname;
-  appname = m.appname;
-  procid = m.procid;
-  msgid = m.msgid;
-  structured_data = m.structured_data;
-  msg = m.msg;
 }
 
 -- the pieces before the message part
@@ -298,17 +234,9 @@ read_completed rule text m r =
 
 pub completed_same : (m : MessageValue) (f : SyslogFacility) (s : SyslogSeverity) → m.facility ≡ Some f
     → m.severity ≡ Some s → completed m ≡ m
-completed_same m f s e g = λ i. record {
-  protocol = m.protocol;
+completed_same m f s e g = λ i. record m {
   facility = (ap (λ (x : Option SyslogFacility). Some (unwrap_or x LOG_SYSLOG)) e ∙ sym e) i;
   severity = (ap (λ (x : Option SyslogSeverity). Some (unwrap_or x SEV_DEBUG)) g ∙ sym g) i;
-  timestamp = m.timestamp;
-  hostname = m.hostname;
-  appname = m.appname;
-  procid = m.procid;
-  msgid = m.msgid;
-  structured_data = m.structured_data;
-  msg = m.msg;
 }
 
 severity_too : (pri : Option ℕ) (f : SyslogFacility) → option_and_then facility_of pri ≡ Some f

@@ -1,31 +1,29 @@
--- Whether a list begins a text can be decided: of each class of which a strict element is made, a piece begins the
--- text or none does.
-use Rattle.std.proofs.Common.{◌≡◌, ℕ, zero, suc, ◌≤◌, ◌⊎◌, inl, inr, Bool, true, false}
-use Rattle.std.proofs.Common.{List, [], ◌∷◌, ◌++◌, length, refl, sym, ap, subst, ◌∙◌, arith}
-use Rattle.std.proofs.lemmas.Bool.Decides.{leb_tells, eqb_tells}
-use Rattle.std.proofs.lemmas.List.{length-append}
-use Rattle.syslog_pieces.specs.Pieces.Class.{Text, Class, Front, NoFront, Row}
-use Rattle.syslog_pieces.specs.Pieces.Class.{Each, Ends, run, some_run, exactly, mapped, texted}
-use Rattle.syslog_pieces.specs.Pieces.Lists.{list_before, more_before}
-use Rattle.syslog_pieces.specs.StructuredData.{value, param_row, param_of, param, element_row, element_of, element}
-use Rattle.syslog_pieces.specs.StructuredData.Element.{ElementValue}
+-- Whether a list begins a text can be decided: of an element's start, of the openings of its parameters and of what
+-- closes them, a piece begins the text or none does.
+use Rattle.std.proofs.Common.{◌≡◌, ℕ, zero, suc, ◌≤◌, ◌⊎◌, inl, inr, Bool, true, false, List, [], ◌∷◌, ◌++◌, length}
+use Rattle.std.proofs.Common.{refl, sym, ap, subst, ◌∙◌, arith}
+use Rattle.std.proofs.lemmas.Bool.Decides.{eqb_tells}
+use Rattle.syslog_pieces.specs.Bodies.Closing.{start_row, start, opening_row, opening, quoted_row, quoted, closing}
+use Rattle.syslog_pieces.specs.Pieces.Class.{Text, Class, Front, NoFront, Row, Each, Ends, run, some_run}
+use Rattle.syslog_pieces.specs.Pieces.Class.{exactly, texted}
 use Rattle.syslog_pieces.specs.StructuredData.Escapes.{pair, single}
 use Rattle.syslog_pieces.specs.StructuredData.Rfc3164List.{full_element, IsDashBefore, BeginsNoList}
 use Rattle.syslog_pieces.specs.Text.{is_blank}
 use Rattle.syslog_pieces.specs.Text.CharClass.{is_id_char, is_name_char}
 use Rattle.syslog_pieces.specs.declared.structured_data.rfc3164_list.DashRule.{DashRule}
 use Rattle.syslog_pieces.specs.declared.structured_data.rfc3164_list.DashRule.TheVariants.{BeforeAnything, BeforeBlank}
-use Rattle.syslog_pieces.proofs.PieceLemmas.Class.{heads, run_same}
-use Rattle.syslog_pieces.proofs.PieceLemmas.Class.{front_same, no_front_no, mapped_front, no_mapped, texted_front}
-use Rattle.syslog_pieces.proofs.PieceLemmas.Class.{no_texted, row_nil, row_cons, row_none_here, row_none_later}
-use Rattle.syslog_pieces.proofs.PieceLemmas.Lists.{begins, list_here, list_cons, no_list, list_goes}
-use Rattle.syslog_pieces.proofs.PieceLemmas.Lists.{more_here, more_cons, no_more, no_more_behind, more_goes}
-use Rattle.syslog_pieces.proofs.PieceLemmas.Meets.{Meets, meets_none}
+use Rattle.syslog_pieces.proofs.PieceLemmas.Class.{AllDeterministic, ◌also◌, heads, run_same, row_nil, row_cons}
+use Rattle.syslog_pieces.proofs.PieceLemmas.Class.{row_none_here, row_none_later, texted_front, no_texted}
+use Rattle.syslog_pieces.proofs.PieceLemmas.Meets.{Meets, meets_here, meets_none}
+use Rattle.syslog_pieces.proofs.PieceLemmas.Rows.{row_of, ◌then◌}
 use Rattle.syslog_pieces.proofs.PieceLemmas.Steps.{front_longer}
-use Rattle.syslog_pieces.proofs.PieceLemmas.Class.{AllDeterministic, ◌also◌}
-use Rattle.syslog_pieces.proofs.StructuredDataLemmas.Elements.{value_here, unit_goes, param_det}
-use Rattle.syslog_pieces.proofs.StructuredDataLemmas.Elements.{param_row_det, element_row_det, element_det}
-use Rattle.syslog_pieces.proofs.StructuredDataLemmas.Elements.{space_is_no_close}
+use Rattle.syslog_pieces.proofs.PieceLemmas.Lists.{begins, no_more, no_more_behind}
+use Rattle.syslog_pieces.proofs.StructuredDataLemmas.Closing.{start_det, opening_det, no_closing, closing_goes}
+use Rattle.syslog_pieces.proofs.StructuredDataLemmas.Closing.{quoted_goes, no_opening, no_quoted_short, passes_here}
+use Rattle.syslog_pieces.proofs.StructuredDataLemmas.Closing.{value_ends, value_breaks, value_goes}
+use Rattle.syslog_pieces.proofs.StructuredDataLemmas.Elements.{value_here, unit_goes}
+use Rattle.syslog_pieces.specs.StructuredData.{param}
+use Rattle.syslog_pieces.proofs.StructuredDataLemmas.Rfc3164List.{no_full_start, no_full_opening, full_goes}
 use Rattle.syslog_pieces.proofs.StructuredDataLemmas.Units.{decide}
 
 -- it holds, or it does not
@@ -36,7 +34,11 @@ Decided A = A ⊎ (A → ⊥)
 abbrev Finds : Class → Text → Type 0
 Finds C t = ((q : Text) × (v : C.Value) × Front C t q v) ⊎ NoFront C t
 
--- ---- one character, and runs
+find_moved : (C : Class) (t : Text) (D : Class) (u : Text) → Meets C t D u → Finds D u → Finds C t
+find_moved C t D u m (inl (q, v, f)) = (let (w, g) = m.forth q v f in inl (q, w, g))
+find_moved C t D u m (inr n) = inr (meets_none C t D u m n)
+
+-- ---- one character, runs, and rows of them
 find_char : (c : ℕ) (t : Text) → Finds (exactly (c ∷ [])) t
 find_char c [] = inr (λ p q v e h. let k : [] ≡ c ∷ q = e ∙ ap (λ (x : Text). x ++ q) h in cc)
 find_char c (d ∷ t) = elim (eqb_tells d c) [
@@ -51,27 +53,17 @@ find_run test (c ∷ t) = elim (decide (test c)) [
   | inr h ↦ ([], c ∷ t, refl, tt, h)
 ]
 
-some_found : (test : ℕ → Bool) (t : Text) → (p : Text) × (q : Text) × (t ≡ p ++ q) × Each test p × Ends test q
-    → Finds (some_run test) t
-some_found test t ([], q, e, a, b) = inr
-    (λ p r v f h. let s = ap length (run_same test p r [] q (sym f ∙ e) h.1 h.2 a b) in let l = h.0 in
-    omega (arith, s, l))
-some_found test t (c ∷ p, q, e, a, b) = inl (q, tt, record { piece = c ∷ p; whole = e; is = (omega arith, a, b) })
+find_blanks : (t : Text) → Finds (run is_blank) t
+find_blanks t = let (p, q, e, a, b) = find_run is_blank t in inl (q, tt, record { piece = p; whole = e; is = (a, b) })
 
-find_some : (test : ℕ → Bool) (t : Text) → Finds (some_run test) t
-find_some test t = some_found test t (find_run test t)
-
-find_blanks : (test : ℕ → Bool) (t : Text) → Finds (run test) t
-find_blanks test t = let (p, q, e, a, b) = find_run test t in inl (q, tt, record { piece = p; whole = e; is = (a, b) })
-
--- ---- another meaning, rows, and another place
-find_mapped : (C : Class) (B : Type 0) (f : C.Value → B) (t : Text) → Finds C t → Finds (mapped C B f) t
-find_mapped C B f t (inl (q, v, g)) = inl (q, f v, mapped_front C B f g)
-find_mapped C B f t (inr n) = inr (no_mapped C B f n)
-
-find_texted : (C : Class) (t : Text) → Finds C t → Finds (texted C) t
-find_texted C t (inl (q, v, g)) = inl (q, g.piece, texted_front C g)
-find_texted C t (inr n) = inr (no_texted C n)
+find_text : (test : ℕ → Bool) (t : Text) → Finds (texted (some_run test)) t
+find_text test t = let (p, q, e, a, b) = find_run test t in by p q e a b
+  where
+    by : (p q : Text) → t ≡ p ++ q → Each test p → Ends test q → Finds (texted (some_run test)) t
+    by [] q e a b = inr (no_texted (some_run test) (λ p r v f h.
+        let s = ap length (run_same test p r [] q (sym f ∙ e) h.1 h.2 a b) in let l = h.0 in omega (arith, s, l)))
+    by (c ∷ p) q e a b =
+        inl (q, _, texted_front (some_run test) (record { piece = c ∷ p; whole = e; is = (omega arith, a, b) }))
 
 -- of each class of a row
 abbrev AllFind : List Class → Type 0
@@ -88,117 +80,66 @@ find_row (C ∷ Cs) d k t = elim (k.0 t) [
   | inr n ↦ inr (row_none_here C Cs n)
 ]
 
-find_moved : (C : Class) (t : Text) (D : Class) (u : Text) → Meets C t D u → Finds D u → Finds C t
-find_moved C t D u m (inl (q, v, f)) = let g = m.forth q v f in inl (q, g.0, g.1)
-find_moved C t D u m (inr n) = inr (meets_none C t D u m n)
+find_start : (t : Text) → Finds start t
+find_start t = find_row start_row start_det (find_char 91 also find_text is_id_char also find_blanks also tt) t
 
-no_lone : (C : Class) (t : Text) → NoFront (Row (C ∷ [])) t → NoFront C t
-no_lone C t n p q v e h =
-    no_front_no (Row (C ∷ [])) n (row_cons C [] (record { piece = p; whole = e; is = h }) (row_nil q))
+find_opening : (t : Text) → Finds opening t
+find_opening t = find_row opening_row opening_det
+    (find_text is_name_char also find_char 61 also find_blanks also find_char 34 also tt) t
 
--- ---- values
-no_value_nil : NoFront value []
-no_value_nil p q v e h = omega (arith, ap length e, length-append p q, ap length h.1.1)
+-- ---- from inside a value to the end of its element
 
-no_value_lone : (c : ℕ) → (c ≡ 34 → ⊥) → NoFront value (c ∷ [])
-no_value_lone c n [] q v e h = n (heads c 34 [] h.1.0 (e ∙ h.1.1))
-no_value_lone c n (x ∷ p) q v e h = omega (arith, ap length e, length-append p q, ap length h.1.1)
+-- from a quote that closes the value
+find_behind : (t y : Text) → t ≡ 34 ∷ y → ((s : Text) → length s ≤ length y → Finds closing s) → Finds closing t
+find_behind t y e next =
+    let here = passes_here closing t in
+    let same = meets_here closing t in
+    let quote : Front (exactly (34 ∷ [])) t y tt = record { piece = 34 ∷ []; whole = e; is = refl } in
+    let f : Front quoted t y ([], (tt, tt)) = row_of quoted_row (value_here t y e then quote then refl) in
+    elim (find_char 93 y) [
+      | inl (q, _, g) ↦ (let (v, whole) = value_ends here same f q g in inl (q, v, whole))
+      | inr m ↦ elim (find_char 32 y) [
+        | inl (z, _, g) ↦ elim (find_opening z) [
+          | inl (r, ws, o) ↦ find_moved closing t closing r (value_goes here same f z r ws g o).1
+              (next r (omega (arith, front_longer _ g, front_longer _ o)))
+          | inr k ↦ inr (value_breaks here same f
+              (no_more_behind param 32 93 y z m (begins 32 y z g) (no_opening k)) _ refl).0
+        ]
+        | inr k ↦ inr (value_breaks here same f (no_more param 32 93 y m k) _ refl).0
+      ]
+    ]
 
-find_value : (n : ℕ) (t : Text) → length t ≤ n → Finds value t
-find_value n [] l = inr no_value_nil
-find_value zero (c ∷ t) l = absurd (omega arith)
-find_value (suc n) (c ∷ []) l = elim (eqb_tells c 34) [
-  | inl a ↦ inl (c ∷ [], [], value_here (c ∷ []) [] (ap (λ (x : ℕ). x ∷ []) a.1))
-  | inr a ↦ inr (no_value_lone c a.1)
-]
-find_value (suc n) (c ∷ d ∷ t) l = elim (eqb_tells c 34) [
-  | inl a ↦ inl (c ∷ d ∷ t, [], value_here (c ∷ d ∷ t) (d ∷ t) (ap (λ (x : ℕ). x ∷ d ∷ t) a.1))
-  | inr a ↦ elim (eqb_tells c 92) [
-    | inl b ↦ find_moved value (c ∷ d ∷ t) value t (unit_goes (pair d) (c ∷ d ∷ t) t tt (ap (λ (x : ℕ). x ∷ d ∷ t) b.1))
-        (find_value n t (omega arith))
-    | inr b ↦ find_moved value (c ∷ d ∷ t) value (d ∷ t) (unit_goes (single c) (c ∷ d ∷ t) (d ∷ t) (b.1, a.1) refl)
-        (find_value n (d ∷ t) (omega arith))
-  ]
-]
+-- from a backslash
+find_escaped : (c : ℕ) (t : Text) → c ≡ 92 → ((s : Text) → length s ≤ length t → Finds closing s)
+    → Finds closing (c ∷ t)
+find_escaped c [] e next = inr (no_closing (c ∷ []) (no_quoted_short (c ∷ []) refl (omega arith)
+    (λ r k. let q : c ≡ 34 = cc in omega (arith, e, q))))
+find_escaped c (d ∷ t) e next = find_moved closing _ closing t
+    (closing_goes (quoted_goes (unit_goes (pair d) (c ∷ d ∷ t) t tt (ap (λ (x : ℕ). x ∷ d ∷ t) e))))
+    (next t (omega arith))
 
--- ---- parameters
-find_param : (t : Text) → Finds param t
-find_param t = find_mapped (Row param_row) (Text × Text) param_of t
-    (find_row param_row param_row_det
-    ((λ u. find_texted (some_run is_name_char) u (find_some is_name_char u)) also find_char 61 also find_blanks is_blank
-    also find_char 34 also (λ u. find_value (length u) u (omega arith)) also find_char 34 also tt) t)
-
-abbrev more : Class
-more = more_before param 32 93
-
-abbrev params : Class
-params = list_before param 32 93
-
-more_found : (t u : Text) → NoFront (exactly (93 ∷ [])) t → t ≡ 32 ∷ u → Finds param u
-    → ((s : Text) → length s ≤ length u → Finds more s) → Finds more t
-more_found t u m e (inr k) next = inr (no_more_behind param 32 93 t u m e k)
-more_found t u m e (inl (s, v, g)) next = elim (next s (front_longer param g)) [
-  | inl (q, vs, h) ↦ inl (q, v ∷ vs, more_cons param 32 93 t u s q v vs e g h)
-  | inr k ↦
-      inr (no_lone more t (meets_none (Row (more ∷ [])) t (Row (param ∷ more ∷ [])) u
-      (more_goes param 32 93 space_is_no_close [] t u e)
-      (row_none_later param (more ∷ []) param_det g (row_none_here more [] k))))
-]
-
-find_more : (n : ℕ) (t : Text) → length t ≤ n → Finds more t
-find_more zero t l = elim (find_char 93 t) [
-  | inl (r, v, f) ↦ inl (t, [], more_here param 32 93 t r (begins 93 t r f))
-  | inr m ↦ elim (find_char 32 t) [
-    | inl (u, v, f) ↦ absurd (let k = ap length (begins 32 t u f) in omega (arith, k))
-    | inr k ↦ inr (no_more param 32 93 t m k)
-  ]
-]
-find_more (suc n) t l = elim (find_char 93 t) [
-  | inl (r, v, f) ↦ inl (t, [], more_here param 32 93 t r (begins 93 t r f))
-  | inr m ↦ elim (find_char 32 t) [
-    | inl (u, v, f) ↦ (
-        let e = begins 32 t u f in
-        more_found t u m e (find_param u) (λ s k. find_more n s (let i = ap length e in omega (arith, i, k))))
-    | inr k ↦ inr (no_more param 32 93 t m k)
-  ]
-]
-
-params_found : (t : Text) → NoFront (exactly (93 ∷ [])) t → Finds param t → Finds params t
-params_found t m (inr k) = inr (no_list param 32 93 t m k)
-params_found t m (inl (s, v, g)) = elim (find_more (length s) s (omega arith)) [
-  | inl (q, vs, h) ↦ inl (q, v ∷ vs, list_cons param 32 93 t s q v vs g h)
-  | inr k ↦
-      inr (no_lone params t (meets_none (Row (params ∷ [])) t (Row (param ∷ more ∷ [])) t (list_goes param 32 93 [] t m)
-      (row_none_later param (more ∷ []) param_det g (row_none_here more [] k))))
-]
-
-find_params : (t : Text) → Finds params t
-find_params t = elim (find_char 93 t) [
-  | inl (r, v, f) ↦ inl (t, [], list_here param 32 93 t r (begins 93 t r f))
-  | inr m ↦ params_found t m (find_param t)
-]
-
--- ---- elements
-find_element : (t : Text) → Finds element t
-find_element t = find_mapped (Row element_row) ElementValue element_of t
-    (find_row element_row element_row_det
-    (find_char 91 also (λ u. find_texted (some_run is_id_char) u (find_some is_id_char u)) also find_blanks is_blank
-    also find_params also find_char 93 also tt) t)
-
--- with a parameter
-full_found : (t q : Text) (v : ElementValue) → Front element t q v → Finds full_element t
-full_found t q v f = elim (leb_tells 1 (length v.params)) [
-  | inl l ↦ inl (q, v, record { piece = f.piece; whole = f.whole; is = (f.is, (let k = l.1 in omega (arith, k))) })
-  | inr l ↦ inr (λ p r w e h.
-      let g : Front element t r w = record { piece = p; whole = e; is = h.0 } in
-      let s = ap (λ (x : ElementValue). length x.params) (front_same element element_det f g).1 in
-      let k = l.1 in let i = h.1 in omega (arith, s, k, i))
-]
+find_closing : (n : ℕ) (t : Text) → length t ≤ n → Finds closing t
+find_closing n [] l = inr (no_closing [] (no_quoted_short [] refl (omega arith) (λ r k. cc)))
+find_closing zero (c ∷ t) l = absurd (omega arith)
+find_closing (suc n) (c ∷ t) l =
+    let next : (s : Text) → length s ≤ length t → Finds closing s = λ s k. find_closing n s (omega arith) in
+    elim (eqb_tells c 34) [
+      | inl a ↦ find_behind (c ∷ t) t (ap (λ (x : ℕ). x ∷ t) a.1) next
+      | inr a ↦ elim (eqb_tells c 92) [
+        | inl b ↦ find_escaped c t b.1 next
+        | inr b ↦ find_moved closing _ closing t
+            (closing_goes (quoted_goes (unit_goes (single c) (c ∷ t) t (b.1, a.1) refl))) (next t (omega arith))
+      ]
+    ]
 
 find_full : (t : Text) → Finds full_element t
-find_full t = elim (find_element t) [
-  | inl (q, v, f) ↦ full_found t q v f
-  | inr n ↦ inr (λ p q v e h. n p q v e h.0)
+find_full t = elim (find_start t) [
+  | inl (u, vs, f) ↦ elim (find_opening u) [
+    | inl (x, ws, g) ↦ find_moved full_element t closing x (full_goes t u vs f x ws g)
+        (find_closing (length x) x (omega arith))
+    | inr n ↦ inr (no_full_opening t u vs f n)
+  ]
+  | inr n ↦ inr (no_full_start t n)
 ]
 
 -- ---- lists
@@ -208,21 +149,18 @@ dash_before BeforeBlank [] = inl tt
 dash_before BeforeBlank (c ∷ q) =
     elim (decide (is_blank c)) [ inl h ↦ inl h | inr h ↦ inr (λ k. let t : true ≡ false = sym k ∙ h in cc) ]
 
-same_behind : (c : ℕ) (xs ys : Text) → c ∷ xs ≡ c ∷ ys → xs ≡ ys
-same_behind c xs ys e = cc
-
-dash_decided : (rule : DashRule) (t : Text) → NoFront full_element t → Decided (BeginsNoList rule t)
-dash_decided rule t n = elim (find_char 45 t) [
-  | inl (q, v, f) ↦ elim (dash_before rule q) [
-    | inl a ↦ inr (λ k. k.0 q (begins 45 t q f) a)
-    | inr b ↦
-        inl (λ r e a. b (subst (λ (x : Text). IsDashBefore rule x) (same_behind 45 r q (sym e ∙ begins 45 t q f)) a), n)
+dash_decided : (rule : DashRule) (t : Text) → Decided ((q : Text) → t ≡ 45 ∷ q → IsDashBefore rule q → ⊥)
+dash_decided rule [] = inl (λ q e a. cc)
+dash_decided rule (c ∷ t) = elim (eqb_tells c 45) [
+  | inl h ↦ elim (dash_before rule t) [
+    | inl a ↦ inr (λ k. k t (ap (λ (x : ℕ). x ∷ t) h.1) a)
+    | inr b ↦ inl (λ q e a. b (subst (λ (x : Text). IsDashBefore rule x) (let same : q ≡ t = cc in same) a))
   ]
-  | inr m ↦ inl (λ q e a. m (45 ∷ []) q tt e refl, n)
+  | inr m ↦ inl (λ q e a. m.1 (heads c 45 t q e))
 ]
 
 pub list_decided : (rule : DashRule) (t : Text) → Decided (BeginsNoList rule t)
 list_decided rule t = elim (find_full t) [
   | inl (q, v, f) ↦ inr (λ k. k.1 f.piece q v f.whole f.is)
-  | inr n ↦ dash_decided rule t n
+  | inr n ↦ elim (dash_decided rule t) [ inl d ↦ inl (d, n) | inr d ↦ inr (λ k. d k.0) ]
 ]

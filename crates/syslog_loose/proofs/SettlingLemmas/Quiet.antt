@@ -1,7 +1,6 @@
 -- The printed text of a message that was read shows no month date, and the variant reads its protocol.
 use Rattle.std.proofs.Common.{inl, inr, [], ◌∷◌, ◌++◌, Option, Some, None, sym, ap, subst, arith}
 use Rattle.syslog_pieces.specs.Pieces.Class.{Text, Front, Row, rest}
-use Rattle.syslog_pieces.specs.Text.{name_text}
 use Rattle.syslog_pieces.specs.Timestamp.Rfc3164.{showing_row, ShowsYearless}
 use Rattle.syslog_pieces.specs.Timestamp.MonthDate.{yearless_date}
 use Rattle.syslog_pieces.specs.Timestamp.Zone.{Dating}
@@ -21,7 +20,6 @@ use Rattle.syslog_loose.specs.ReadBack.{ReadsProtocol}
 use Rattle.syslog_loose.specs.Reading.{dash_rule, IsRead, AsksYear}
 use Rattle.syslog_loose.specs.Rfc3164.{IsRead3164}
 use Rattle.syslog_loose.specs.Rfc5424.{IsRead5424}
-use Rattle.syslog_loose.specs.declared.message.Protocol.{Protocol}
 use Rattle.syslog_loose.specs.declared.variant.Variant.{Variant}
 use Rattle.syslog_loose.specs.declared.variant.Variant.TheVariants.{Either, RFC3164, RFC5424}
 use Rattle.syslog_loose.proofs.Rfc3164Lemmas.Apart.{shown_apart}
@@ -29,18 +27,17 @@ use Rattle.syslog_loose.proofs.Rfc3164Lemmas.Exact.{stamp_low}
 use Rattle.syslog_loose.proofs.Rfc3164Lemmas.Near.{read_near}
 use Rattle.syslog_loose.proofs.Rfc3164Lemmas.Printed.{printed_is}
 use Rattle.syslog_loose.proofs.Rfc3164Lemmas.Shown.{shows_month_date}
-use Rattle.syslog_loose.proofs.Rfc3164Lemmas.Whole.{program_text, tail_text, trimmed_whole}
+use Rattle.syslog_loose.proofs.Rfc3164Lemmas.Whole.{trimmed_whole}
 use Rattle.syslog_loose.proofs.Rfc3164Lemmas.Rows.{to_stamp, to_stamp_det}
 use Rattle.syslog_loose.proofs.Rfc3164Lemmas.ReadBack.{to_stamp_back}
 use Rattle.syslog_loose.proofs.Rfc5424Lemmas.ReadBack as rfc5424
+use Rattle.syslog_loose.proofs.SettlingLemmas.Falls.{behind_space}
 
 -- ---- the protocol of a message that was read is one that the variant reads
 pub read_protocol : (variant : Variant) (dating : Dating) (text : Text) (m : MessageValue)
     → IsRead variant dating text m → ReadsProtocol variant m.protocol
-read_protocol RFC5424 dating text m r =
-    subst (λ (p : Protocol). ReadsProtocol RFC5424 p) (sym (ap (λ (x : MessageValue). x.protocol) r.means)) tt
-read_protocol RFC3164 dating text m r =
-    subst (λ (p : Protocol). ReadsProtocol RFC3164 p) (sym (read_near dash_rule dating text m r).protocol) tt
+read_protocol RFC5424 dating text m r = rw (ap (λ (x : MessageValue). x.protocol) r.means) tt
+read_protocol RFC3164 dating text m r = rw (read_near dash_rule dating text m r).protocol tt
 read_protocol Either dating text m r = tt
 
 -- ---- no month date
@@ -50,15 +47,13 @@ stamp_begins (Some s) q = begins_more IsLow (timestamp_text (Some s)) q (stamp_l
 
 rfc3164_quiet : (m : MessageValue) → EndsVisibly m.msg → (date : MonthDate) → ShowsYearless (printed_3164 m) date → ⊥
 rfc3164_quiet m visible date (p, more, k) =
-    let t : Text = tail_text m.structured_data m.msg in
-    let y : Text = name_text m.hostname ++ (32 ∷ (program_text m.appname m.procid ++ (58 ∷ t))) in
-    let x2 : Text = timestamp_text m.timestamp ++ (32 ∷ y) in
     let d = subst (λ (x : Text). Front (Row (showing_row yearless_date)) x [] (p, (tt, (date, (more, tt)))))
     (trimmed_whole m visible) (division_front (showing_row yearless_date) k) in
     let (_, behind) = rows_step to_stamp (yearless_date ∷ rest ∷ []) to_stamp_det
-    {vs = (p, (tt, (date, (more, tt))))} (to_stamp_back m y) d in
+    {vs = (p, (tt, (date, (more, tt))))} (to_stamp_back m (behind_space m)) d in
     let (q, f, _) = row_pieces (yearless_date ∷ rest ∷ []) behind in
-    begins_apart x2 (λ c a b. omega arith) (stamp_begins m.timestamp (32 ∷ y))
+    begins_apart (timestamp_text m.timestamp ++ (32 ∷ behind_space m)) (λ c a b. omega arith)
+    (stamp_begins m.timestamp (32 ∷ behind_space m))
     (subst (λ (x : Text). Begins IsLetter x) (sym f.whole) (month_date_begins f.piece q date (inl f.is)))
 
 rfc3164_shows_none : (dating : Dating) (text : Text) (m : MessageValue) → IsRead3164 dash_rule dating text m

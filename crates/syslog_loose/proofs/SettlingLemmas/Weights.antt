@@ -1,52 +1,60 @@
--- A message has one weight.
-use Rattle.std.proofs.Common.{◌≡◌, ◌≢◌, ℕ, ◌+◌, ◌%◌, inl, inr, Bool, true, false, List, [], ◌∷◌}
-use Rattle.std.proofs.Common.{length, Option, Some, None, IfSome, refl, sym, ap, ◌∙◌, arith}
+-- A message has one weight, and what the terms of a weight are where a text is read.
+use Rattle.std.proofs.Common.{◌≡◌, ℕ, zero, suc, ◌+◌, ◌<◌, ◌≤◌, ◌%◌, ◌⊎◌, inl, inr, List, [], ◌∷◌, ◌++◌, length}
+use Rattle.std.proofs.Common.{nat_eq, Option, Some, None, IfSome, refl, sym, ap, subst, ◌∙◌, arith}
 use Rattle.std.proofs.lemmas.Bool.Decides.{leb_tells, eqb_tells}
 use Rattle.std.proofs.lemmas.Int.{ints, by_lt_z}
+use Rattle.std.proofs.lemmas.List.{length-append, reverse-append}
+use Rattle.std.proofs.lemmas.List.Sums.{suffix_len-le-length}
+use Rattle.std.proofs.lemmas.Slice.Eq.{bytes_eq-Decides}
+use Rattle.std.specs.List.{prefix_len}
+use Rattle.std.specs.Option.{option_map_or}
 use Rattle.std.specs.Prelude.{pos, unsigned_abs}
-use Rattle.syslog_pieces.specs.Pieces.Class.{Text, Each}
+use Rattle.std.specs.Str.{bytes_eq}
+use Rattle.syslog_pieces.specs.Pieces.Class.{Text, Values, Front, Row, Ends, optional, run}
 use Rattle.syslog_pieces.specs.StructuredData.Element.{ElementValue}
-use Rattle.syslog_pieces.specs.StructuredData.Rfc3164List.{BeginsNoList}
-use Rattle.syslog_pieces.specs.Text.{dash}
+use Rattle.syslog_pieces.specs.StructuredData.Rfc3164List.{full_element, BeginsNoList, IsRfc3164List, rfc3164_list}
+use Rattle.syslog_pieces.specs.StructuredData.Rfc3164List.{elements_or}
+use Rattle.syslog_pieces.specs.Text.{dash, colon, is_blank}
 use Rattle.syslog_pieces.specs.Timestamp.Canonical.{IsCanonicalStamp, own_year}
 use Rattle.syslog_pieces.specs.declared.procid.ProcId.{ProcId}
 use Rattle.syslog_pieces.specs.declared.procid.ProcId.TheVariants.{PID, Name}
 use Rattle.syslog_pieces.specs.declared.structured_data.rfc3164_list.DashRule.{DashRule}
 use Rattle.syslog_pieces.specs.declared.timestamp.OffsetTimestamp.{OffsetTimestamp}
+use Rattle.syslog_pieces.proofs.PieceLemmas.Class.{front_same, no_front_no, rest_whole, row_head, run_det}
+use Rattle.syslog_pieces.proofs.PieceLemmas.Rows.{row_pieces}
+use Rattle.syslog_pieces.proofs.PieceLemmas.Steps.{absent_none, absent_stays, front_longer, piece_front, present_front}
+use Rattle.syslog_pieces.proofs.PieceLemmas.Steps.{step}
+use Rattle.syslog_pieces.proofs.StructuredDataLemmas.Rfc3164List.{begins_no_list, full_shorter, no_rfc3164_list}
 use Rattle.syslog_pieces.proofs.StructuredDataLemmas.Units.{decide}
-use Rattle.syslog_loose.specs.Exceptions.{is_no_colon, HasNoColon}
 use Rattle.syslog_loose.specs.Message.{MessageValue}
-use Rattle.syslog_loose.specs.Settling.{Costs, colons_cost, ColonsCost, Weighs}
-use Rattle.syslog_loose.proofs.SettlingLemmas.Costs.{counts_once, count, is_dash}
+use Rattle.syslog_loose.specs.Rfc3164.{Names3164, NamesHost, NamesProgram, Resolves}
+use Rattle.syslog_loose.specs.Settling.{Costs, end_colons, colons_weight, host_weight, process_weight, names_weight}
+use Rattle.syslog_loose.specs.Settling.{ListWeighs, Weighs}
+use Rattle.syslog_loose.proofs.Rfc3164Lemmas.Rows.{from_list, from_blanks}
 use Rattle.syslog_loose.proofs.SettlingLemmas.Decided.{Decided, list_decided}
 
 -- ---- one weight
-cost_once : (A : Type 0) (n w v : ℕ) → Costs A n w → Costs A n v → w ≡ v
-cost_once A n w v (inl (a, e)) (inl (b, f)) = e ∙ sym f
-cost_once A n w v (inl (a, e)) (inr (b, f)) = absurd (b a)
-cost_once A n w v (inr (a, e)) (inl (b, f)) = absurd (a b)
-cost_once A n w v (inr (a, e)) (inr (b, f)) = e ∙ sym f
+cost_once : {A : Type 0} {n w v : ℕ} → Costs A n w → Costs A n v → w ≡ v
+cost_once (inl (a, e)) (inl (b, f)) = e ∙ sym f
+cost_once (inl (a, e)) (inr (b, f)) = absurd (b a)
+cost_once (inr (a, e)) (inl (b, f)) = absurd (a b)
+cost_once (inr (a, e)) (inr (b, f)) = e ∙ sym f
 
-colons_once : (h : Option Text) (w v : ℕ) → ColonsCost h w → ColonsCost h v → w ≡ v
-colons_once None w v a b = a ∙ sym b
-colons_once (Some h) w v (c, k, e) (d, l, f) = e ∙ ap colons_cost (counts_once h c d k l) ∙ sym f
+pub free : {A : Type 0} {n w : ℕ} → Costs A n w → A → w ≡ 0
+free c a = cost_once c (inl (a, refl))
+
+pub paid : {A : Type 0} {n w : ℕ} → Costs A n w → (A → ⊥) → w ≡ n
+paid c k = cost_once c (inr (k, refl))
+
+pub at_most : {A : Type 0} {n w : ℕ} → Costs A n w → w ≤ n
+at_most (inl (a, e)) = omega arith
+at_most (inr (k, e)) = omega arith
 
 pub one_weight : (rule : DashRule) (m : MessageValue) (w v : ℕ) → Weighs rule m w → Weighs rule m v → w ≡ v
 one_weight rule m w v a b =
-    let x = cost_once (IfSome m.timestamp IsCanonicalStamp) 1 a.stamp b.stamp a.stamp_is b.stamp_is in
-    let y = colons_once m.hostname a.names_is.colons b.names_is.colons a.names_is.colons_is b.names_is.colons_is in
-    let z = cost_once (IfSome m.hostname (λ h. h ≢ dash)) 1 a.names_is.dashed b.names_is.dashed a.names_is.dashed_is
-    b.names_is.dashed_is in
-    let u =
-    cost_once (IfSome m.procid HasNoColon) 1 a.names_is.cut b.names_is.cut a.names_is.cut_is b.names_is.cut_is in
-    let t =
-    cost_once (m.structured_data ≡ [] → BeginsNoList rule m.msg) (length m.msg) a.taken b.taken a.taken_is b.taken_is in
-    omega (arith, a.total, b.total, a.names_is.total, b.names_is.total)
+    omega (arith, a.total, b.total, cost_once a.stamp_is b.stamp_is, cost_once a.taken_is b.taken_is)
 
 -- ---- some weight
-cost : (A : Type 0) (n : ℕ) → Decided A → (w : ℕ) × Costs A n w
-cost A n (inl a) = (0, inl (a, refl))
-cost A n (inr k) = (n, inr (k, refl))
 
 -- whether the timestamp is canonical can be decided
 canonical_decided : (s : OffsetTimestamp) → Decided (IsCanonicalStamp s)
@@ -67,49 +75,131 @@ stamp_decided : (s : Option OffsetTimestamp) → Decided (IfSome s IsCanonicalSt
 stamp_decided None = inl tt
 stamp_decided (Some s) = canonical_decided s
 
--- so can whether the host is a dash
-host_decided : (h : Option Text) → Decided (IfSome h (λ x. x ≢ dash))
-host_decided None = inl tt
-host_decided (Some h) = elim (is_dash h) [ inl e ↦ inr (λ k. k e) | inr n ↦ inl n ]
+-- so can whether the message begins with a list although there is no element
+list_free : (rule : DashRule) (es : List ElementValue) (msg : Text) → Decided (es ≡ [] → BeginsNoList rule msg)
+list_free rule [] msg = elim (list_decided rule msg) [ inl b ↦ inl (λ e. b) | inr n ↦ inr (λ k. n (k refl)) ]
+list_free rule (e ∷ es) msg = inl (λ z. absurd (cc))
 
--- and whether the process has a colon
-each_decided : (test : ℕ → Bool) (t : Text) → Decided (Each test t)
-each_decided test [] = inl tt
-each_decided test (c ∷ t) = elim (decide (test c)) [
-  | inl h ↦ elim (each_decided test t) [ inl k ↦ inl (h, k) | inr n ↦ inr (λ x. n x.1) ]
-  | inr h ↦ inr (λ x. let e : true ≡ false = sym x.0 ∙ h in cc)
-]
-
-process_decided : (p : Option (ProcId Text)) → Decided (IfSome p HasNoColon)
-process_decided None = inl tt
-process_decided (Some (PID n)) = inl tt
-process_decided (Some (Name t)) = each_decided is_no_colon t
-
--- and whether the message begins with a list although there is no element
-taken_decided : (rule : DashRule) (es : List ElementValue) (msg : Text) → Decided (es ≡ [] → BeginsNoList rule msg)
-taken_decided rule [] msg = elim (list_decided rule msg) [ inl b ↦ inl (λ e. b) | inr n ↦ inr (λ k. n (k refl)) ]
-taken_decided rule (e ∷ es) msg = inl (λ z. absurd (cc))
-
-some_colons : (h : Option Text) → (w : ℕ) × ColonsCost h w
-some_colons None = (0, refl)
-some_colons (Some h) = let (n, ends) = count h in (colons_cost n, (n, ends, refl))
+cost : (A : Type 0) (n : ℕ) → Decided A → (w : ℕ) × Costs A n w
+cost A n (inl a) = (0, inl (a, refl))
+cost A n (inr k) = (n, inr (k, refl))
 
 pub weight : (rule : DashRule) (m : MessageValue) → (w : ℕ) × Weighs rule m w
 weight rule m =
-    let (a, x) = cost (IfSome m.timestamp IsCanonicalStamp) 1 (stamp_decided m.timestamp) in
-    let (b, y) = cost (IfSome m.hostname (λ h. h ≢ dash)) 1 (host_decided m.hostname) in
-    let (c, z) = cost (IfSome m.procid HasNoColon) 1 (process_decided m.procid) in
-    let (d, u) = cost (m.structured_data ≡ [] → BeginsNoList rule m.msg) (length m.msg)
-    (taken_decided rule m.structured_data m.msg) in
-    let (h, k) = some_colons m.hostname in (
-      a + ((h + (b + c)) + d),
-      record {
-        stamp = a;
-        names = h + (b + c);
-        taken = d;
-        stamp_is = x;
-        names_is = record { colons = h; dashed = b; cut = c; colons_is = k; dashed_is = y; cut_is = z; total = refl };
-        taken_is = u;
-        total = refl;
-      },
-    )
+    let (a, x) = cost _ 1 (stamp_decided m.timestamp) in
+    let (b, y) = cost _ (length m.msg) (list_free rule m.structured_data m.msg) in
+    (_, record { stamp = a; taken = b; stamp_is = x; taken_is = y; total = refl })
+
+-- ---- the names weigh no more than the fields that they stand in
+colons_short : (h : Text) → end_colons h ≤ length h
+colons_short h = suffix_len-le-length (λ c. nat_eq c 58) h
+
+colons_light : (n : ℕ) → colons_weight n ≤ n + 1
+colons_light zero = omega arith
+colons_light (suc n) = omega arith
+
+-- a dash does not end in a colon
+host_light : (h : Text) → host_weight h ≤ end_colons h + 1
+host_light h = elim (decide (bytes_eq h dash)) [
+  | inl e ↦ rw ((bytes_eq-Decides h dash).0 e) (omega arith)
+  | inr e ↦ rw e (omega (arith, colons_light (end_colons h)))
+]
+
+pub colon_weight : (h : Text) → end_colons h + 2 ≤ host_weight (h ++ colon)
+colon_weight h =
+    let e : end_colons (h ++ colon) ≡ 1 + end_colons h = ap (prefix_len (λ c. nat_eq c 58)) (reverse-append h colon) in
+    let more : end_colons (h ++ colon) ≡ suc (end_colons h) = omega arith in omega (arith, ap colons_weight more)
+
+process_light : (p : ProcId Text) → process_weight p ≤ 1
+process_light (PID n) = omega arith
+process_light (Name t) = grind arith
+
+-- the space before a text, and the text
+abbrev pub field_length : Option (Option Text) → ℕ
+field_length None = 0
+field_length (Some None) = 0
+field_length (Some (Some t)) = suc (length t)
+
+host_short : (h : Option Text) → option_map_or host_weight h 0 ≤ field_length (Some h)
+host_short None = omega arith
+host_short (Some h) = omega (arith, host_light h, colons_short h)
+
+program_light : (host : Option Text) (text : Text) (n : Names3164) → NamesProgram host text n
+    → names_weight n.hostname n.procid ≤ field_length (Some host) + suc (length text)
+program_light host text n (inl (tag, id, p, f, h, e)) = rw e (omega (arith, host_short host, process_light p))
+program_light host text n (inr (none, e)) = rw e (omega (arith, host_short host))
+
+pub lone_light : (h : Text) (n : Names3164) → NamesHost h n
+    → names_weight n.hostname n.procid ≤ end_colons h + 1
+lone_light h n (inl (tag, id, p, f, k, e)) = rw e (omega (arith, process_light p))
+lone_light h n (inr (none, e)) = rw e (omega (arith, host_light h))
+
+pub fields_light : (v t : Option (Option Text)) (n : Names3164) → Resolves v t n
+    → names_weight n.hostname n.procid ≤ field_length v + field_length t
+fields_light None None n e = rw e (omega arith)
+fields_light (Some None) None n e = rw e (omega arith)
+fields_light (Some (Some h)) None n k = omega (arith, lone_light h n k, colons_short h)
+fields_light None (Some None) n e = rw e (omega arith)
+fields_light (Some h) (Some None) n e = rw e (omega arith)
+fields_light None (Some (Some t)) n h = program_light None t n h
+fields_light (Some origin) (Some (Some t)) n h = program_light origin t n h
+
+-- ---- the message part
+module _ (rule : DashRule) where
+  list_some : (p q : Text) (es : List ElementValue) → IsRfc3164List rule p q es → 0 < length p
+  list_some p q es (inl (d, a, e)) = omega (arith, ap length d)
+  list_some p q [] (inr (l, h)) = absurd (omega arith)
+  list_some p q (e ∷ es) (inr (l, (a, b, i, k, more))) = omega (
+    arith,
+    full_shorter (a ++ (b ++ q)) (b ++ q) e (piece_front full_element a (b ++ q) e k),
+    length-append a (b ++ q),
+    length-append a b,
+    ap length i,
+  )
+
+  -- what is left of a text from which a list may be taken: less, where one begins it, else all of it
+  abbrev Leaves : Text → Option (List ElementValue) → Text → Type 0
+  Leaves t v left = ((BeginsNoList rule t → ⊥) × (length left < length t))
+      ⊎ (BeginsNoList rule t × (v ≡ None) × (left ≡ t))
+
+  leaves : {t q : Text} (v : Option (List ElementValue)) (left : Text) → Ends is_blank t
+      → Front (optional (rfc3164_list rule)) t q v → Front (run is_blank) q left tt → Leaves t v left
+  leaves {t = t} None left b g gap = inr (
+    begins_no_list rule t (absent_none (rfc3164_list rule) g),
+    refl,
+    (front_same (run is_blank) (run_det is_blank) (rw (← absent_stays (rfc3164_list rule) g) at gap)
+        (piece_front (run is_blank) [] t tt (tt, b))).0,
+  )
+  leaves {t = t} {q = q} (Some es) left b g gap = inl (
+    λ n. no_front_no (rfc3164_list rule) (no_rfc3164_list rule t n) (present_front (rfc3164_list rule) g),
+    omega (
+      arith,
+      list_some g.piece q es g.is,
+      front_longer _ gap,
+      ap length g.whole,
+      length-append g.piece q,
+    ),
+  )
+
+  module _ (t u : Text) (vs : Values (from_blanks rule)) (gap : Front (run is_blank) t u tt)
+      (d : Front (Row (from_blanks rule)) t [] vs) where
+    -- what is read behind blanks
+    pub list_read : Leaves u vs.1.0 vs.1.1.1.0
+    list_read =
+        let (q, list, (_, more, (_, end, _))) =
+        row_pieces (from_list rule) (step (run is_blank) (from_list rule) (run_det is_blank) gap d) in
+        leaves vs.1.0 vs.1.1.1.0 gap.is.1 list (subst (λ (x : Text). Front (run is_blank) q x tt) (rest_whole end) more)
+
+    -- a message that begins with no list weighs nothing
+    pub left_free : (w : ℕ) → BeginsNoList rule u → ListWeighs rule (elements_or vs.1.0) vs.1.1.1.0 w → w ≡ 0
+    left_free w n y =
+        elim list_read [ inl (began, short) ↦ absurd (began n) | inr (_, none, same) ↦ free y (λ e. rw same n) ]
+
+  pub message_short : (t : Text) (vs : Values (from_blanks rule)) → Front (Row (from_blanks rule)) t [] vs
+      → length vs.1.1.1.0 ≤ length t
+  message_short t vs d =
+      let (u, gap, _) = row_head (run is_blank) (from_list rule) d in
+      elim (list_read t u vs gap d) [
+        | inl (_, l) ↦ omega (arith, l, front_longer _ gap)
+        | inr (_, _, e) ↦ omega (arith, ap length e, front_longer _ gap)
+      ]

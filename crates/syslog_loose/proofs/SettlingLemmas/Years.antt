@@ -1,5 +1,5 @@
 -- The year counts in round 1 alone: what `settle` answers in one year it answers in each, where the text asks for none.
-use Rattle.std.proofs.Common.{ℕ, ℤ, zero, suc, Option, Some, None, Result, Ok, Err, sym, subst}
+use Rattle.std.proofs.Common.{ℕ, ℤ, zero, suc, Option, None, Result, Ok, Err, sym, subst}
 use Rattle.std.specs.Prelude.{IfOk, String, string_bytes}
 use Rattle.std.specs.Borrow.{Bor}
 use Rattle.std.specs.Global.{Global}
@@ -15,7 +15,7 @@ use Rattle.syslog_loose.specs.Settling.{IsNext, IsRound, IsFirstSettled, Settles
 use Rattle.syslog_loose.specs.declared.fault.ParseFault.{ParseFault}
 use Rattle.syslog_loose.specs.declared.fault.ParseFault.TheVariants.{Invalid, Memory}
 use Rattle.syslog_loose.specs.declared.variant.Variant.{Variant}
-use Rattle.syslog_loose.proofs.ReadingLemmas.{any_year}
+use Rattle.syslog_loose.proofs.ReadingLemmas.{any_year, in_answered_year}
 use Rattle.syslog_loose.proofs.SettlingLemmas.Quiet.{printed_quiet}
 use Rattle.syslog_loose.proofs.SettlingLemmas.Settles.{settled_canonical, settles_as, settles_not}
 
@@ -73,13 +73,9 @@ module _ (variant : Variant) (tz : Option (Bor TimeZone)) (local : Bor TimeZone)
   pub settles_answered : (post : IncompleteDate → ℤ → Type 0) (t : Text) (result : Result (String Global) ParseFault)
       (year : Option ℤ) → IsYearAnswered post variant t year → Settles variant (In year) t result
       → InYear post variant t (λ y. Settles variant (In y) t result)
-  settles_answered post t result None quiet h =
-      record { answered = None; is_answered = quiet; holds = λ other agrees. settles_in None other t result quiet h }
-  settles_answered post t result (Some year) is h = record {
-    answered = Some year;
-    is_answered = is;
-    holds = λ other agrees. subst (λ (y : Option ℤ). Settles variant (In y) t result) (sym (agrees is.0 is.1)) h;
-  }
+  settles_answered post t result year is h =
+      in_answered_year post variant t (λ y. Settles variant (In y) t result) year is
+      (λ quiet other s. settles_in None other t result quiet s) h
 
 -- the message of the answer is canonical
 pub answer_canonical : (variant : Variant) (dating : Dating) (text : Text) (result : Result (String Global) ParseFault)

@@ -10,6 +10,7 @@ ghost use Rattle.syslog_loose.specs.Reading.{dash_rule, IsUnreadable};
 ghost use Rattle.syslog_loose.specs.declared.variant.Variant.{Variant};
 
 /// A message that was canonical is so.
+#[tactic(auto, using(crate::proofs::DashChangeLemmas::condition_grows))]
 pub fn what_was_canonical_is_so()
     ensures { (m : MessageValue) → WasCanonical m → IsCanonical dash_rule m }
 {}

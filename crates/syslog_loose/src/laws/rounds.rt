@@ -17,12 +17,14 @@ pub fn one_first_settled_round()
 {}
 
 /// The printed text of a message that was read asks for no year. So the year counts in round 1 alone.
+#[tactic(auto, using(crate::proofs::SettlingLemmas::Quiet::printed_quiet))]
 pub fn printed_text_asks_for_no_year()
     ensures { (variant : Variant) (dating : Dating) (text : Text) (m : MessageValue) → IsRead variant dating text m
         → (date : MonthDate) → AsksYear variant (printed m) date → ⊥ }
 {}
 
 /// The message of a settled text is canonical.
+#[tactic(auto, using(crate::proofs::SettlingLemmas::Settles::settled_canonical))]
 pub fn settled_text_is_of_a_canonical_message()
     ensures { (variant : Variant) (dating : Dating) (text : Text) (m : MessageValue) → IsSettled variant dating text
         → IsRead variant dating text m → IsCanonical dash_rule m }
@@ -30,6 +32,7 @@ pub fn settled_text_is_of_a_canonical_message()
 
 /// Of the rounds 1 to n + 1 of a text of n characters one is settled, or the text has no round n + 2: so rounds come to
 /// rest, or one is missing.
+#[tactic(auto, using(crate::proofs::SettlingLemmas::Settles::rests))]
 pub fn rounds_come_to_rest()
     ensures { (variant : Variant) (dating : Dating) (text u : Text) → NoneSettled variant dating text (length text + 1)
         → IsRound variant dating text (length text + 2) u → ⊥ }

@@ -12,14 +12,11 @@ ghost use Rattle.syslog_pieces.specs.Pieces.Class.{Text};
 ghost use Rattle.syslog_pieces.specs.Pieces.View.{shown};
 ghost use Rattle.syslog_pieces.specs.Text.{dash};
 ghost use Rattle.syslog_pieces.specs.Timestamp.Zone.{Dating as AnyDating, dating_value};
-ghost use Rattle.syslog_loose.specs.Verbatim3164.{VerbatimBehind, VerbatimNames, VerbatimOrigin, VerbatimProgram};
+ghost use Rattle.syslog_loose.specs.Verbatim3164.{VerbatimBehind, VerbatimNames, VerbatimProgram};
 ghost use Rattle.syslog_loose.specs.Verbatim3164.{PrintsAs3164, PrintsVerbatim3164, PrintsStamped, ShowsDated};
 ghost use Rattle.syslog_loose.specs.Printed.{timestamp_text};
 ghost use Rattle.syslog_loose.specs.Reading.{HasMonth, IsUnreadable, OfTrimmed, incomplete};
 ghost use Rattle.syslog_loose.specs.declared.variant.Variant.{Variant};
-
-#[cfg(test)]
-mod tests;
 
 use super::write_zone;
 use crate::message::{is_canonical_time, make_room, write_spaced, write_timestamp};
@@ -47,17 +44,6 @@ struct Rfc3164Line<'a> {
     front: &'a str,
     timestamp: Option<OffsetTimestamp>,
     tail: &'a str,
-}
-
-// The text behind a host between two spaces.
-#[inline(always)]
-fn verbatim_origin(text: &str) -> Option<&str>
-    ensures { IfSome result (λ rest. VerbatimOrigin (chars text.now) (shown rest)) }
-{
-    let hostname = literal(text, ' ')?;
-    let behind = verbatim_host(hostname)?;
-    let rest = literal(behind, ' ')?;
-    Some(rest)
 }
 
 // Whether an app name may stand alone: it is neither empty nor `-`.
@@ -89,7 +75,9 @@ fn verbatim_program(text: &str) -> Option<&str>
 fn verbatim_names(text: &str) -> Option<&str>
     ensures { IfSome result (λ rest. VerbatimNames (chars text.now) (shown rest)) }
 {
-    let program = verbatim_origin(text)?;
+    let hostname = literal(text, ' ')?;
+    let behind = verbatim_host(hostname)?;
+    let program = literal(behind, ' ')?;
     let colon = verbatim_program(program)?;
     let gap = literal(colon, ':')?;
     let rest = one_space(gap)?;

@@ -1,6 +1,6 @@
 //! The exceptions, tested on the fields. What was read as RFC 3164 meets all else of the written condition but for an
 //! absent facility and severity, so without an exception its printed text is settled. The tests look at a few bytes.
-ghost use Rattle.std.specs.Prelude.{◌≢◌, ◌↔◌, IfSome, IsTrue};
+ghost use Rattle.std.specs.Prelude.{◌≡◌, ◌≢◌, ◌↔◌, ◌++◌, ◌∷◌, [], ℕ, List, IfSome, IsTrue, MatchBool};
 ghost use Rattle.std.specs.Option.{option_map};
 ghost use Rattle.std.specs.Str.{chars};
 ghost use Rattle.syslog_pieces.specs.Pieces.Class.{Each};
@@ -54,10 +54,27 @@ fn has_no_odd_host(host: Option<&str>) -> bool
 fn is_no_odd_host(name: &str) -> bool
     ensures { IsTrue result ↔ ((chars name.now ≢ dash) × (EndsInColon (chars name.now) → ⊥)) }
 {
-    match name.as_bytes() {
-        [.., last] => *last != b':' && (*last != b'-' || name.len() != 1),
-        [] => true,
+    if ends_in_colon(name) {
+        return false;
     }
+    is_no_dash(name)
+}
+
+// Whether the last byte is that of a colon.
+#[inline(always)]
+fn ends_in_colon(name: &str) -> bool
+    ensures { MatchBool result ((front : List ℕ) × (name.now ≡ front ++ (58 ∷ [])))
+        ((front : List ℕ) → name.now ≢ front ++ (58 ∷ [])) }
+{
+    matches!(name.as_bytes(), [.., b':'])
+}
+
+// Whether the bytes are not those of `-`.
+#[inline(always)]
+fn is_no_dash(name: &str) -> bool
+    ensures { MatchBool result (name.now ≢ dash) (name.now ≡ dash) }
+{
+    !matches!(name.as_bytes(), [b'-'])
 }
 
 // Whether the process is a number, or a name at which no other is cut.

@@ -49,9 +49,7 @@ exactly_det t p q p' q' v v' e h h' = (h ∙ sym h', refl)
 
 pub rest_det : IsDeterministic rest
 rest_det p q p' q' v v' e h h' =
-    let s : p ≡ p' =
-    sym (append-nil p) ∙ (ap (λ (x : Text). p ++ x) (sym h.0) ∙ e ∙ ap (λ (x : Text). p' ++ x) h'.0) ∙ append-nil p' in
-    (s, h.1 ∙ s ∙ sym h'.1)
+    let s = rw (h.0, h'.0, append-nil p, append-nil p') at e in (s, h.1 ∙ s ∙ sym h'.1)
 
 pub optional_det : (C : Class) → IsDeterministic C → IsDeterministic (optional C)
 optional_det C d p q p' q' None None e h h' = (h.0 ∙ sym h'.0, refl)

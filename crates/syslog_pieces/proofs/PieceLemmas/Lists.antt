@@ -4,7 +4,8 @@ use Rattle.std.proofs.Common.{arith, refl, sym, ap, subst, ◌∙◌, append_ass
 use Rattle.std.proofs.lemmas.List.{length-append}
 use Rattle.syslog_pieces.specs.Pieces.Class.{Text, Class, Front, NoFront, IsDeterministic, Row, exactly}
 use Rattle.syslog_pieces.specs.Pieces.Lists.{many, HasRead, IsList, IsMore, list_before, more_before}
-use Rattle.syslog_pieces.proofs.PieceLemmas.Class.{rest_same, after_nil, behind, heads, front_same, row_cons, row_head}
+use Rattle.syslog_pieces.proofs.PieceLemmas.Class.{rest_same, after_nil, behind, heads, front_same}
+use Rattle.syslog_pieces.proofs.PieceLemmas.Class.{no_front_no, row_cons, row_head}
 use Rattle.syslog_pieces.proofs.PieceLemmas.Meets.{Meets}
 
 heads_differ : (c d : ℕ) (xs ys : Text) → c ≢ d → c ∷ xs ≡ d ∷ ys → ⊥
@@ -106,9 +107,36 @@ module _ (C : Class) (separator close : ℕ) where
   pub more_here : (t r : Text) → t ≡ close ∷ r → Front more t t []
   more_here t r e = record { piece = []; whole = refl; is = (refl, (r, e)) }
 
+  -- the first piece of a list that is not closed at once, and the further ones
+  abbrev Parts : Text → Text → Type 0
+  Parts t q = (v : C.Value) × (vs : List C.Value) × (u : Text) × Front C t u v × Front more u q vs
+
+  list_parts : (t p q : Text) (vs : List C.Value) → NoFront (exactly (close ∷ [])) t → t ≡ p ++ q → list.Is p q vs
+      → Parts t q
+  list_parts t p q [] n e h = absurd (n (close ∷ []) h.1.0 tt (e ∙ ap (λ (x : Text). x ++ q) h.0 ∙ h.1.1) refl)
+  list_parts t p q (v ∷ vs) n e ((a, b, i, k, others), z) = (
+    v,
+    vs,
+    b ++ q,
+    record { piece = a; whole = e ∙ behind p a b q i; is = k },
+    record { piece = b; whole = refl; is = (others, z) },
+  )
+
+  -- the same behind a separator
+  more_parts : (t u p q : Text) (vs : List C.Value) → NoFront (exactly (close ∷ [])) t → t ≡ separator ∷ u → t ≡ p ++ q
+      → more.Is p q vs → Parts u q
+  more_parts t u p q [] n f e h = absurd (n (close ∷ []) h.1.0 tt (e ∙ ap (λ (x : Text). x ++ q) h.0 ∙ h.1.1) refl)
+  more_parts t u p q (v ∷ vs) n f e ((a, b, i, k, others), z) =
+      let w : separator ∷ u ≡ separator ∷ (a ++ b ++ q) = sym f ∙ e ∙ ap (λ (x : Text). x ++ q) i in (
+        v,
+        vs,
+        b ++ q,
+        record { piece = a; whole = (let y : u ≡ a ++ b ++ q = cc in y) ∙ append_assoc a b q; is = k },
+        record { piece = b; whole = refl; is = (others, z) },
+      )
+
   pub no_list : (t : Text) → NoFront (exactly (close ∷ [])) t → NoFront C t → NoFront list t
-  no_list t m n p q [] e h = m (close ∷ []) h.1.0 tt (e ∙ ap (λ (x : Text). x ++ q) h.0 ∙ h.1.1) refl
-  no_list t m n p q (v ∷ vs) e ((a, b, i, k, others), z) = n a (b ++ q) v (e ∙ behind p a b q i) k
+  no_list t m n p q vs e h = let (v, ws, u, f, g) = list_parts t p q vs m e h in no_front_no C n f
 
   pub no_more : (t : Text) → NoFront (exactly (close ∷ [])) t → NoFront (exactly (separator ∷ [])) t → NoFront more t
   no_more t m n p q [] e h = m (close ∷ []) h.1.0 tt (e ∙ ap (λ (x : Text). x ++ q) h.0 ∙ h.1.1) refl
@@ -117,26 +145,7 @@ module _ (C : Class) (separator close : ℕ) where
 
   pub no_more_behind : (t u : Text) → NoFront (exactly (close ∷ [])) t → t ≡ separator ∷ u → NoFront C u
       → NoFront more t
-  no_more_behind t u m f n p q [] e h = m (close ∷ []) h.1.0 tt (e ∙ ap (λ (x : Text). x ++ q) h.0 ∙ h.1.1) refl
-  no_more_behind t u m f n p q (v ∷ vs) e ((a, b, i, k, others), z) =
-      let g : separator ∷ u ≡ separator ∷ (a ++ b ++ q) = sym f ∙ e ∙ ap (λ (y : Text). y ++ q) i in
-      n a (b ++ q) v ((let y : u ≡ a ++ b ++ q = cc in y) ∙ append_assoc a b q) k
-
-  -- the first piece of a list, and the further ones
-  abbrev Parts : Text → Text → Type 0
-  Parts t q = (v : C.Value) × (vs : List C.Value) × (u : Text) × Front C t u v × Front more u q vs
-
-  list_parts : (t q : Text) (vs : List C.Value) → NoFront (exactly (close ∷ [])) t → Front list t q vs → Parts t q
-  list_parts t q [] n f =
-      absurd (n (close ∷ []) f.is.1.0 tt (f.whole ∙ ap (λ (x : Text). x ++ q) f.is.0 ∙ f.is.1.1) refl)
-  list_parts t q (v ∷ vs) n f =
-      let a = f.is.0.0 in let b = f.is.0.1 in (
-        v,
-        vs,
-        b ++ q,
-        record { piece = a; whole = f.whole ∙ behind f.piece a b q f.is.0.2; is = f.is.0.3 },
-        record { piece = b; whole = refl; is = (f.is.0.4, f.is.1) },
-      )
+  no_more_behind t u m f n p q vs e h = let (v, ws, r, g, k) = more_parts t u p q vs m f e h in no_front_no C n g
 
   -- the first parameter of a list that isn't closed at once
   pub list_goes : (Cs : List Class) (t : Text) → NoFront (exactly (close ∷ [])) t
@@ -148,24 +157,14 @@ module _ (C : Class) (separator close : ℕ) where
         ((vs.0 ∷ vs.1.0, vs.1.1), row_cons list Cs (list_cons t r.0 s.0 vs.0 vs.1.0 r.1 s.1) s.2));
     back = λ q vs g. (
         let r = row_head list Cs g in
-        let s = list_parts t r.0 vs.0 n r.1 in
+        let s = list_parts t r.1.piece r.0 vs.0 n r.1.whole r.1.is in
         ((s.0, (s.1, vs.1)), row_cons C (more ∷ Cs) s.3 (row_cons more Cs s.4 r.2)));
   }
 
   module _ (differ : separator ≢ close) where
-    more_parts : (t u q : Text) (vs : List C.Value) → t ≡ separator ∷ u → Front more t q vs → Parts u q
-    more_parts t u q [] e f = absurd
-        (heads_differ separator close u f.is.1.0 differ (sym e ∙ f.whole ∙ ap (λ (x : Text). x ++ q) f.is.0 ∙ f.is.1.1))
-    more_parts t u q (v ∷ vs) e f =
-        let a = f.is.0.0 in let b = f.is.0.1 in
-        let w : separator ∷ u ≡ separator ∷ (a ++ (b ++ q)) = sym e ∙ f.whole ∙ ap (λ (x : Text). x ++ q) f.is.0.2
-        ∙ ap (λ (x : Text). separator ∷ x) (append_assoc a b q) in (
-          v,
-          vs,
-          b ++ q,
-          record { piece = a; whole = (let y : u ≡ a ++ (b ++ q) = cc in y); is = f.is.0.3 },
-          record { piece = b; whole = refl; is = (f.is.0.4, f.is.1) },
-        )
+    not_closed : (t u : Text) → t ≡ separator ∷ u → NoFront (exactly (close ∷ [])) t
+    not_closed t u e p q v f h =
+        heads_differ separator close u q differ (sym e ∙ f ∙ ap (λ (x : Text). x ++ q) h)
 
     -- a further piece behind the separator
     pub more_goes : (Cs : List Class) (t u : Text) → t ≡ separator ∷ u
@@ -177,7 +176,7 @@ module _ (C : Class) (separator close : ℕ) where
           ((vs.0 ∷ vs.1.0, vs.1.1), row_cons more Cs (more_cons t u r.0 s.0 vs.0 vs.1.0 e r.1 s.1) s.2));
       back = λ q vs g. (
           let r = row_head more Cs g in
-          let s = more_parts t u r.0 vs.0 e r.1 in
+          let s = more_parts t u r.1.piece r.0 vs.0 (not_closed t u e) e r.1.whole r.1.is in
           ((s.0, (s.1, vs.1)), row_cons C (more ∷ Cs) s.3 (row_cons more Cs s.4 r.2)));
     }
 
@@ -213,17 +212,14 @@ module _ (C : Class) (separator close : ℕ) where
             (apart a (b ++ (close ∷ r)) v r' k
             (sym (behind p a b (close ∷ r) i) ∙ sym (after_nil p' (close ∷ r') _ h' (sym e))))
         list_same p r p' r' (v ∷ vs) (w ∷ ws) e (a, b, i, k, others) (a', b', i', k', others') =
-            let e1 = sym (behind p a b (close ∷ r) i) ∙ e ∙ behind p' a' b' (close ∷ r') i' in
-            let s = d a (b ++ (close ∷ r)) a' (b' ++ (close ∷ r')) v w e1 k k' in
-            let t =
-            more_same b r b' r' vs ws (rest_same a (b ++ (close ∷ r)) a' (b' ++ (close ∷ r')) e1 s.0) others others' in
-            (let t0 = s.0 in let t1 = t.0 in cc, let t0 = s.1 in let t1 = t.1 in cc)
+            let s = more_same (separator ∷ p) r (separator ∷ p') r' (v ∷ vs) (w ∷ ws)
+            (ap (λ (x : Text). separator ∷ x) e) (a, b, ap (λ (x : Text). separator ∷ x) i, k, others)
+            (a', b', ap (λ (x : Text). separator ∷ x) i', k', others') in
+            (let t = s.0 in cc, s.1)
 
         pub list_before_det : IsDeterministic list
         list_before_det p q p' q' vs vs' e (h, (r, z)) (h', (r', z')) =
-            list_same p r p' r' vs vs' (sym (ap (λ (x : Text). p ++ x) z) ∙ e ∙ ap (λ (x : Text). p' ++ x) z')
-            (subst (λ (x : Text). IsList C separator p x vs) z h)
-            (subst (λ (x : Text). IsList C separator p' x vs') z' h')
+            list_same p r p' r' vs vs' (rw (z, z') at e) (rw z at h) (rw z' at h')
 
 -- ---- collecting such a list
 
@@ -236,13 +232,11 @@ pub record Collects (C : Class) (separator close : ℕ) (t : Text) (vs : List C.
 module _ (C : Class) (separator close : ℕ) (d : IsDeterministic C) where
   pub collects_first : (t t' : Text) (v : C.Value) → NoFront (exactly (close ∷ [])) t → Front C t t' v
       → Collects C separator close t (v ∷ []) t'
-  collects_first t t' v m f = record { some = λ q ws g. list_cons C separator close t t' q v ws f g; none = fails }
-    where
-      fails : NoFront (more_before C separator close) t' → NoFront (list_before C separator close) t
-      fails n p q [] e h = m (close ∷ []) h.1.0 tt (e ∙ ap (λ (x : Text). x ++ q) h.0 ∙ h.1.1) refl
-      fails n p q (w ∷ ws) e ((a, b, i, k, others), z) =
-          let s = front_same C d (record { piece = a; whole = e ∙ behind p a b q i; is = k }) f in
-          n b q ws (sym s.0) (others, z)
+  collects_first t t' v m f = record {
+    some = λ q ws g. list_cons C separator close t t' q v ws f g;
+    none = λ n p q vs e h. (let (w, ws, u, g, others) = list_parts C separator close t p q vs m e h in
+        no_front_no (more_before C separator close) n (rw (front_same C d g f).0 at others));
+  }
 
   pub collects_more : (t s u s' : Text) (vs : List C.Value) (v : C.Value) → Collects C separator close t vs s
       → NoFront (exactly (close ∷ [])) s → s ≡ separator ∷ u → Front C u s' v
@@ -250,16 +244,9 @@ module _ (C : Class) (separator close : ℕ) (d : IsDeterministic C) where
   collects_more t s u s' vs v c m e f = record {
     some = λ q ws g. subst (λ (x : List C.Value). Front (list_before C separator close) t q x)
         (sym (append_assoc vs (v ∷ []) ws)) (c.some q (v ∷ ws) (more_cons C separator close s u s' q v ws e f g));
-    none = λ n. c.none (fails n);
+    none = λ n. c.none (λ p q xs w h. (let (x, ys, r, g, others) = more_parts C separator close s u p q xs m e w h in
+        no_front_no (more_before C separator close) n (rw (front_same C d g f).0 at others)));
   }
-    where
-      fails : NoFront (more_before C separator close) s' → NoFront (more_before C separator close) s
-      fails n p q [] w h = m (close ∷ []) h.1.0 tt (w ∙ ap (λ (x : Text). x ++ q) h.0 ∙ h.1.1) refl
-      fails n p q (x ∷ xs) w ((a, b, i, k, others), z) =
-          let g : separator ∷ u ≡ separator ∷ (a ++ (b ++ q)) = sym e ∙ w ∙ ap (λ (y : Text). y ++ q) i
-          ∙ ap (λ (y : Text). separator ∷ y) (append_assoc a b q) in
-          let r = front_same C d (record { piece = a; whole = (let y : u ≡ a ++ (b ++ q) = cc in y); is = k }) f in
-          n b q xs (sym r.0) (others, z)
 
 -- the pieces vs have been read, and at t' a further one is left, and then the ones behind it
 abbrev pub Leaves : (C : Class) (separator close : ℕ) → Text → List C.Value → Text → Type 0

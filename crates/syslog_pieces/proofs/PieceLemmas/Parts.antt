@@ -1,6 +1,6 @@
 -- The texts that a piece's meaning holds are parts of the piece.
-use Rattle.std.proofs.Common.{◌≡◌, inl, inr, List, [], ◌∷◌, ◌++◌, Option, Some, None, sym, ap, subst, ◌∙◌, append_assoc}
-use Rattle.std.proofs.Common.{append-nil}
+use Rattle.std.proofs.Common.{◌≡◌, inl, inr, List, [], ◌∷◌, ◌++◌, Option, Some, None}
+use Rattle.std.proofs.Common.{refl, sym, subst, ◌∙◌, append_assoc, append-nil}
 use Rattle.std.specs.List.{AllByRecursion}
 use Rattle.syslog_pieces.specs.Pieces.Class.{Text, Class, Values, join, Divides, rest, optional, spaced, texted}
 use Rattle.syslog_pieces.specs.Pieces.Parts.{IsPart, IsInPieces, AreInPieces, text_list, process_texts}
@@ -14,14 +14,10 @@ pub part_same : (p t : Text) → t ≡ p → IsPart p t
 part_same p t e = ([], [], sym e ∙ sym (append-nil t))
 
 pub part_left : (p q t : Text) → IsPart p t → IsPart (p ++ q) t
-part_left p q t (a, b, e) = (
-  a,
-  b ++ q,
-  ap (λ (x : Text). x ++ q) e ∙ append_assoc a (t ++ b) q ∙ ap (λ (x : Text). a ++ x) (append_assoc t b q),
-)
+part_left p q t (a, b, e) = (a, b ++ q, rw (e, append_assoc, append_assoc))
 
 pub part_right : (p q t : Text) → IsPart q t → IsPart (p ++ q) t
-part_right p q t (a, b, e) = (p ++ a, b, ap (λ (x : Text). p ++ x) e ∙ sym (append_assoc p a (t ++ b)))
+part_right p q t (a, b, e) = (p ++ a, b, rw (e, append_assoc))
 
 -- what is in the pieces is a part of what they join to
 pub part_joined : (ps : List Text) (t : Text) → IsInPieces ps t → IsPart (join ps) t
@@ -73,13 +69,9 @@ names_quotes p (Some t) h = (part_same p t h.0, tt)
 pub word_quotes : Quotes word text_list
 word_quotes p q v h = names_quotes p v h.4
 
-some_is : (v : Option Text) (p : Text) → v ≡ Some p → AllByRecursion (λ t. IsPart p t) (text_list v)
-some_is None p e = tt
-some_is (Some t) p e = (part_same p t (let z : t ≡ p = cc in z), tt)
-
 pub host_quotes : Quotes host text_list
 host_quotes p q v (l, a, inl (n, b, m)) = names_quotes p v m
-host_quotes p q v (l, a, inr (r, f, b, m)) = some_is v p m
+host_quotes p q v (l, a, inr (r, f, b, m)) = rw m (part_same p p refl, tt)
 
 pub process_quotes : Quotes process_word process_texts
 process_quotes p q None h = tt

@@ -1,7 +1,6 @@
 -- Process ids are read back from their printed text, and what is read is canonical.
-use Rattle.std.proofs.Common.{◌≡◌, ℕ, ℤ, suc, pos, negsuc, neg_ℤ, ◌<◌, ◌^◌, inl, inr, Bool}
-use Rattle.std.proofs.Common.{true, false, not, List, FitsSigned, w32, [], ◌∷◌, length}
-use Rattle.std.proofs.Common.{Option, Some, None, IfSome, refl, sym, ap, subst, ◌∙◌, arith}
+use Rattle.std.proofs.Common.{◌≡◌, ℕ, ℤ, suc, pos, negsuc, neg_ℤ, ◌<◌, ◌^◌, inl, inr, Bool, true, false, not, List}
+use Rattle.std.proofs.Common.{FitsSigned, w32, [], ◌∷◌, length, Option, Some, None, IfSome, refl, sym, ap, arith}
 use Rattle.std.proofs.lemmas.Fmt.{digits_value-decimal}
 use Rattle.std.specs.Char.{is_ascii_digit, is_not_whitespace}
 use Rattle.std.specs.Prelude.{◌↔◌, IsTrue}
@@ -10,11 +9,11 @@ use Rattle.std.specs.Fmt.{decimal, signed_decimal}
 use Rattle.syslog_pieces.specs.Pieces.Class.{Text, Each, Ends}
 use Rattle.syslog_pieces.specs.ProcId.{IsI32Text, process_word, process_text}
 use Rattle.syslog_pieces.specs.ProcId.{IsNoI32Text, IsCanonicalProcess, IsBoundedProcess}
-use Rattle.syslog_pieces.specs.Text.{word}
 use Rattle.syslog_pieces.specs.Text.Canonical.{IsCanonicalWord}
 use Rattle.syslog_pieces.specs.declared.procid.ProcId.{ProcId}
 use Rattle.syslog_pieces.specs.declared.procid.ProcId.TheVariants.{PID, Name}
 use Rattle.syslog_pieces.proofs.PieceLemmas.Class.{heads}
+use Rattle.syslog_pieces.proofs.TextLemmas.Canonical.{false_is, last_is}
 use Rattle.syslog_pieces.proofs.TextLemmas.Words.{own}
 use Rattle.syslog_pieces.proofs.TextLemmas.ReadBack.{decimal_digits, digits_visible, word_back, word_canonical}
 
@@ -22,23 +21,15 @@ use Rattle.syslog_pieces.proofs.TextLemmas.ReadBack.{decimal_digits, digits_visi
 
 digits_no_mark : (t : Text) (c : ℕ) → Each is_ascii_digit t → is_ascii_digit c ≡ false → t ≡ c ∷ [] → ⊥
 digits_no_mark [] c h n e = let k = ap length e in omega arith
-digits_no_mark (d ∷ t) c h n e =
-    let k : d ≡ c = heads d c t [] e in
-    let u : true ≡ false = sym h.0 ∙ ap is_ascii_digit k ∙ n in cc
-
-magnitude : (n : ℕ) → FitsSigned w32 (pos n) → n < 2 ^ 64
-magnitude n h = omega (arith, h)
-
-negative : (n : ℕ) → FitsSigned w32 (negsuc n) → suc n < 2 ^ 64
-negative n h = omega (arith, h)
+digits_no_mark (d ∷ t) c h n e = let a = h.0 in let k = rw (← heads d c t [] e) at n in cc
 
 -- it writes the number
 pub signed_writes : (n : ℤ) → FitsSigned w32 n → IsI32Text (signed_decimal n) n
 signed_writes (pos n) h =
-    let small = magnitude n h in
+    let small : n < 2 ^ 64 = omega (arith, h) in
     (inl (decimal_digits n small, ap pos (sym (digits_value-decimal own n small))), h)
 signed_writes (negsuc n) h =
-    let small = negative n h in (
+    let small : suc n < 2 ^ 64 = omega (arith, h) in (
       inr (inr (
         decimal (suc n),
         refl,
@@ -51,13 +42,13 @@ signed_writes (negsuc n) h =
 -- and is a canonical word
 pub signed_canonical : (n : ℤ) → FitsSigned w32 n → IsCanonicalWord (signed_decimal n)
 signed_canonical (pos n) h =
-    let (long, digits) = decimal_digits n (magnitude n h) in (
+    let (long, digits) = decimal_digits n (omega (arith, h)) in (
       (long, digits_visible (decimal n) digits),
       digits_no_mark (decimal n) 45 digits refl,
       digits_no_mark (decimal n) 58 digits refl,
     )
 signed_canonical (negsuc n) h =
-    let (long, digits) = decimal_digits (suc n) (negative n h) in (
+    let (long, digits) = decimal_digits (suc n) (omega (arith, h)) in (
       (omega arith, (refl, digits_visible (decimal (suc n)) digits)),
       (λ e. let k = ap length e in omega arith),
       (λ e. let k = ap length e in omega arith),
@@ -65,23 +56,23 @@ signed_canonical (negsuc n) h =
 
 -- ---- process ids
 
-canonical_word : (t q : Text) → IsCanonicalWord t → Ends is_not_whitespace q → word.Is t q (Some t)
-canonical_word t q h e = word_back (Some t) q h e
-
 -- a canonical process id, or none, is read back before the end or white space
 pub process_back : (v : Option (ProcId Text)) (q : Text) → IfSome v IsCanonicalProcess → IfSome v IsBoundedProcess
     → Ends is_not_whitespace q → process_word.Is (process_text v) q v
 process_back None q h b e = word_back None q tt e
 process_back (Some (PID n)) q h b e =
-    (signed_decimal n, canonical_word (signed_decimal n) q (signed_canonical n b) e, signed_writes n b)
-process_back (Some (Name t)) q (canonical, no_number) b e = (t, canonical_word t q canonical e, (no_number, refl))
+    (signed_decimal n, word_back (Some (signed_decimal n)) q (signed_canonical n b) e, signed_writes n b)
+process_back (Some (Name t)) q (canonical, no_number) b e = (t, word_back (Some t) q canonical e, (no_number, refl))
 
 -- what is read as a process id is canonical
 pub process_canonical : (p q : Text) (v : Option (ProcId Text)) → process_word.Is p q v → IfSome v IsCanonicalProcess
 process_canonical p q None h = tt
 process_canonical p q (Some (PID n)) h = tt
 process_canonical p q (Some (Name t)) (u, w, (no_number, same)) =
-    subst (λ (x : Text). IsCanonicalProcess (Name x)) (sym same) (word_canonical p q (Some u) w, no_number)
+    rw same (word_canonical p q (Some u) w, no_number)
+
+-- what the law of process ids rests on
+pub ruleset processes = (process_back, process_canonical)
 
 -- and its number has 32 bits
 pub process_bounded : (p q : Text) (v : Option (ProcId Text)) → process_word.Is p q v → IfSome v IsBoundedProcess
@@ -90,26 +81,14 @@ process_bounded p q (Some (PID n)) (u, w, i) = i.1
 process_bounded p q (Some (Name t)) h = tt
 
 -- ---- what the test of a process name answers
+
+-- the text is one of no number where the test of one fails
+pub no_number_told : (t : Text) (b : Bool) → IsTrue b ↔ (IsNoI32Text t → ⊥) → IsTrue (not b) ↔ IsNoI32Text t
+no_number_told t true e = false_is (λ n. e.0 refl n)
+no_number_told t false e = ((λ h n i. (let u : false ≡ true = e.1 (λ z. z n i) in cc)), (λ n. refl))
+
 pub name_told : (bytes text : List ℕ) (process : ProcId Text) (w number : Bool) → bytes ≡ text
     → process ≡ Name (chars text) → IsTrue w ↔ IsCanonicalWord (chars bytes) → w ≡ true
     → IsTrue number ↔ (IsNoI32Text (chars bytes) → ⊥) → IsTrue (not number) ↔ IsCanonicalProcess process
 name_told bytes text process w number e p canonical is number_told =
-    subst (λ (x : ProcId Text). IsTrue (not number) ↔ IsCanonicalProcess x)
-    (sym (p ∙ ap (λ (x : List ℕ). Name (chars x)) (sym e))) (
-      (λ h. (canonical.0 is, (λ n i. taken number h number_told (λ z. z n i)))),
-      (λ h. untaken number number_told h.1),
-    )
-  where
-    taken : (b : Bool) → IsTrue (not b) → IsTrue b ↔ (IsNoI32Text (chars bytes) → ⊥) → (IsNoI32Text (chars bytes) → ⊥)
-        → ⊥
-    taken true h t n = let u : false ≡ true = h in cc
-    taken false h t n = let u : false ≡ true = t.1 n in cc
-
-    untaken : (b : Bool) → IsTrue b ↔ (IsNoI32Text (chars bytes) → ⊥) → IsNoI32Text (chars bytes) → IsTrue (not b)
-    untaken true t z = absurd (t.0 refl z)
-    untaken false t z = refl
-
--- the text is one of no number where the test of one fails
-pub no_number_told : (t : Text) (b : Bool) → IsTrue b ↔ (IsNoI32Text t → ⊥) → IsTrue (not b) ↔ IsNoI32Text t
-no_number_told t true e = ((λ h. absurd (let u : false ≡ true = h in cc)), (λ n. absurd (e.0 refl n)))
-no_number_told t false e = ((λ h n i. (let u : false ≡ true = e.1 (λ z. z n i) in cc)), (λ n. refl))
+    rw (p, ← e) (last_is (not number) (canonical.0 is) (no_number_told (chars bytes) number number_told))

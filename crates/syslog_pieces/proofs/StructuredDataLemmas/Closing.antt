@@ -1,44 +1,46 @@
--- Why a bracket inside a value decides an element.
-use Rattle.std.proofs.Common.{◌≡◌, ◌≢◌, ℕ, ◌+◌, ◌<◌, ◌⊎◌, inl, inr, Bool, true, false, not, nat_eq, ◌&&◌}
-use Rattle.std.proofs.Common.{List, [], ◌∷◌, ◌++◌, length, refl, sym, ap, subst, ◌∙◌, append_assoc, arith}
-use Rattle.std.proofs.lemmas.Bool.Decides.{eqb_tells}
-use Rattle.std.proofs.lemmas.List.{length-append}
-use Rattle.std.proofs.lemmas.Str.{encodes-append, encodes-chars}
-use Rattle.std.specs.Char.{encode_utf8}
-use Rattle.std.specs.List.{flat_map, AllByRecursion}
-use Rattle.std.specs.Str.{chars, IsUtf8, encode_utf8_all}
-use Rattle.syslog_pieces.specs.Text.CharClass.{is_name_char, is_id_char, is_open_char}
-use Rattle.syslog_pieces.specs.Pieces.Class.{Text, Class, Front, NoFront, Values, Divides}
-use Rattle.syslog_pieces.specs.Pieces.Class.{IsDeterministic, join, Row, Each, some_run, exactly}
-use Rattle.syslog_pieces.specs.Bodies.Closing.{start_row, start, id_alone, inside_row, inside, opening_row, opening}
-use Rattle.syslog_pieces.specs.Bodies.Closing.{name_alone, quoted_row, quoted, tail_row, closing, byte_count, IsDead}
-use Rattle.syslog_pieces.specs.StructuredData.Element.{ElementValue}
-use Rattle.syslog_pieces.specs.StructuredData.Escapes.{TextUnit, pair, single, unit_text}
-use Rattle.syslog_pieces.specs.StructuredData.{IsValueUnit, IsValue, value, param_row, param_of}
-use Rattle.syslog_pieces.specs.StructuredData.{param, element, element_row, element_of}
-use Rattle.syslog_pieces.specs.Text.{is_blank}
-use Rattle.syslog_pieces.proofs.PieceLemmas.Class.{AllDeterministic, heads, run_det, some_run_det}
-use Rattle.syslog_pieces.proofs.PieceLemmas.Class.{◌also◌, exactly_det, texted_det, mapped_front, rows_join}
-use Rattle.syslog_pieces.proofs.PieceLemmas.Class.{row_det, row_head, row_none_here, rows_none_here}
-use Rattle.syslog_pieces.proofs.StructuredDataLemmas.Elements.{unit_goes, space_is_no_close, value_det}
+-- The walk over an element: its steps, why a bracket inside a value decides it, and a value cut from its text by bytes.
+use Rattle.syslog_pieces.proofs.Names.{◌≡◌, ◌≢◌, ℕ, ◌<◌, ◌⊎◌, inl, inr, Bool, true, false, List, [], ◌∷◌, ◌++◌, length}
+use Rattle.syslog_pieces.proofs.Names.{refl, sym, ap, subst, ◌∙◌, append_assoc, arith, and_parts, eqb_tells, nat_tests}
+use Rattle.syslog_pieces.proofs.Names.{length-append, encodes-append, encodes-chars, flat_map, AllByRecursion, chars}
+use Rattle.syslog_pieces.proofs.Names.{IsUtf8, encode_utf8_all, is_name_char, is_id_char, is_open_char, Text, Class}
+use Rattle.syslog_pieces.proofs.Names.{Front, NoFront, Values, IsDeterministic, Row, Each, some_run, exactly, start_row}
+use Rattle.syslog_pieces.proofs.Names.{start, id_alone, inside_row, inside, opening_row, opening, name_alone}
+use Rattle.syslog_pieces.proofs.Names.{quoted_row, quoted, tail_row, closing, byte_count, IsDead, ElementValue}
+use Rattle.syslog_pieces.proofs.Names.{TextUnit, pair, single, unit_text, escaped, IsValueUnit, IsValue, value}
+use Rattle.syslog_pieces.proofs.Names.{param_row, param_of, param, element, element_row, element_of, is_blank}
+use Rattle.syslog_pieces.proofs.Names.{AllDeterministic, run_det, some_run_det, ◌also◌, exactly_det, texted_det}
+use Rattle.syslog_pieces.proofs.Names.{row_det, row_head, row_none_here, row_cons, no_front_no, Meets, meets_on}
+use Rattle.syslog_pieces.proofs.Names.{meets_none, row_first, row_goes, row_of, ◌then◌, ◌≤◌, Result, Ok, Err}
+use Rattle.syslog_pieces.proofs.Names.{MatchResult, is_unescaped_char, more_before, SplitsRun, begins, list_here}
+use Rattle.syslog_pieces.proofs.Names.{more_here, no_list, meets_here, ◌+◌, ◌-◌, take, append_cancel_right}
+use Rattle.syslog_pieces.proofs.Names.{chars_past_char, row_pieces}
+use Rattle.std.specs.Char.{is_not_whitespace, encode_utf8}
+use Rattle.syslog_pieces.proofs.PieceLemmas.Class.{mapped_front, rows_join, rows_none_here, no_mapped, nil_front}
+use Rattle.syslog_pieces.proofs.PieceLemmas.Class.{row_none_later}
+use Rattle.syslog_pieces.proofs.PieceLemmas.Each.{each_map, each_right, each_behind}
+use Rattle.syslog_pieces.proofs.StructuredDataLemmas.Elements.{unit_goes, value_here, space_is_no_close, value_det}
 use Rattle.syslog_pieces.proofs.PieceLemmas.Lists.{list_goes, more_goes}
-use Rattle.syslog_pieces.proofs.PieceLemmas.Meets.{Meets, meets_on, meets_none, meets_none_on}
-use Rattle.syslog_pieces.proofs.PieceLemmas.Meets.{mapped_meets, row_first, rows_go}
-use Rattle.syslog_pieces.proofs.PieceLemmas.Rows.{no_row}
+use Rattle.syslog_pieces.proofs.PieceLemmas.Meets.{meets_none_on, mapped_meets, rows_go}
+use Rattle.syslog_pieces.specs.Text.CharClass.{is_inert_char}
+use Rattle.syslog_pieces.specs.Bodies.Closing.{last_char}
+use Rattle.std.proofs.Common.{min}
+use Rattle.std.proofs.lemmas.Str.{IsUtf8-append, IsUtf8-from_ascii}
+use Rattle.std.specs.Str.{IsCharBoundary}
+use Rattle.syslog_pieces.proofs.TextLemmas.Chars.{one_ascii}
+use Rattle.syslog_pieces.proofs.TextLemmas.Cuts.{rest_shorter, front_chars, front_cut}
 
 -- ---- bytes, and where a bracket stands in two joined texts
-pub byte_count-append : (a b : Text) → byte_count (a ++ b) ≡ byte_count a + byte_count b
-byte_count-append a b = ap length (encodes-append a b) ∙ length-append (encode_utf8_all a) (encode_utf8_all b)
-
 pub byte_count_slice : (bs : Text) → IsUtf8 bs → byte_count (chars bs) ≡ length bs
 byte_count_slice bs u = ap length (encodes-chars bs u)
 
-bracket_byte_count : (b : Text) → byte_count (93 ∷ b) ≡ 1 + byte_count b
+behind_bracket : (a b : Text) → byte_count b < byte_count (a ++ (93 ∷ b))
 unfolding encode_utf8
-bracket_byte_count b = length-append (93 ∷ []) (encode_utf8_all b)
-
-pub behind_bracket : (a b : Text) → byte_count b < byte_count (a ++ (93 ∷ b))
-behind_bracket a b = omega (arith, byte_count-append a (93 ∷ b), bracket_byte_count b)
+behind_bracket a b = omega (
+  arith,
+  ap length (encodes-append a (93 ∷ b)),
+  length-append (encode_utf8_all a) (encode_utf8_all (93 ∷ b)),
+  length-append (93 ∷ []) (encode_utf8_all b),
+)
 
 pub split_bracket : (p w a b : Text) → p ++ w ≡ a ++ (93 ∷ b) → ((c : Text) × (p ≡ a ++ (93 ∷ c)) × (b ≡ c ++ w))
     ⊎ ((c : Text) × (w ≡ c ++ (93 ∷ b)))
@@ -60,6 +62,12 @@ dead_suffix t p x d e h a b f l = h (p ++ a) b (e ∙ ap (λ (y : Text). p ++ y)
 pub dead_whole : (t : Text) (d : ℕ) → d ≡ byte_count t → IsDead t d
 dead_whole t d e a b f l = absurd (let k = behind_bracket a b in let m = ap byte_count f in omega (arith, k, m))
 
+pub dead_least : (t : Text) (a b : ℕ) → IsDead t a → IsDead t b → IsDead t (min a b)
+dead_least t a b i j p q e l x y v w h =
+    let na : a ≤ byte_count q → ⊥ = λ k. i p q e k x y v w h in
+    let nb : b ≤ byte_count q → ⊥ = λ k. j p q e k x y v w h in
+    omega (arith, na, nb, l)
+
 -- ---- the steps of an element
 pub start_det : AllDeterministic start_row
 start_det =
@@ -76,190 +84,130 @@ quoted_row_det = value_det also exactly_det (34 ∷ []) also tt
 pub quoted_det : IsDeterministic quoted
 quoted_det = row_det quoted_row quoted_row_det
 
-pub element_starts : (t u : Text) (vs : Values start_row) → Front start t u vs → Meets element t inside u
-element_starts t u vs f = meets_on element t (Row element_row) t inside u
-    (mapped_meets (Row element_row) ElementValue element_of t) (rows_go start_row inside_row start_det t u vs f)
+pub element_starts : {t u : Text} {vs : Values start_row} → Front start t u vs → Meets element t inside u
+element_starts {t = t} {u = u} {vs = vs} f =
+    meets_on _ _ _ _ _ _ (mapped_meets (Row element_row) ElementValue element_of t)
+    (rows_go start_row inside_row start_det t u vs f)
 
-pub no_element_starts : (t u : Text) (vs : Values start_row) → Front start t u vs → NoFront inside u → NoFront element t
-no_element_starts t u vs f n = meets_none element t inside u (element_starts t u vs f) n
-
-pub element_read : (t u r : Text) (id : Text) (ps : List (Text × Text)) → Front start t u (id_alone id)
+pub element_read : {t u r id : Text} {ps : List (Text × Text)} → Front start t u (id_alone id)
     → Front inside u r (ps, (tt, tt)) → Front element t r (record { id = id; params = ps })
-element_read t u r id ps f g =
-    mapped_front (Row element_row) ElementValue element_of (rows_join start_row inside_row f g)
+element_read f g = mapped_front (Row element_row) ElementValue element_of (rows_join start_row inside_row f g)
 
-pub no_start : (t : Text) → NoFront start t → NoFront element t
-no_start t n = meets_none element t (Row element_row) t (mapped_meets (Row element_row) ElementValue element_of t)
-    (rows_none_here start_row inside_row n)
+pub no_start : {t : Text} → NoFront start t → NoFront element t
+no_start n = no_mapped (Row element_row) ElementValue element_of (rows_none_here start_row inside_row n)
 
-pub param_opens : (t u : Text) (vs : Values opening_row) → Front opening t u vs → Meets param t quoted u
-param_opens t u vs f = meets_on param t (Row param_row) t quoted u
-    (mapped_meets (Row param_row) (Text × Text) param_of t) (rows_go opening_row quoted_row opening_det t u vs f)
+pub param_opens : {t u : Text} {vs : Values opening_row} → Front opening t u vs → Meets param t quoted u
+param_opens {t = t} {u = u} {vs = vs} f =
+    meets_on _ _ _ _ _ _ (mapped_meets (Row param_row) (Text × Text) param_of t)
+    (rows_go opening_row quoted_row opening_det t u vs f)
 
-pub no_opening : (t : Text) → NoFront opening t → NoFront param t
-no_opening t n = meets_none param t (Row param_row) t (mapped_meets (Row param_row) (Text × Text) param_of t)
-    (rows_none_here opening_row quoted_row n)
-
-pub no_param_opens : (t u : Text) (vs : Values opening_row) → Front opening t u vs → NoFront quoted u → NoFront param t
-no_param_opens t u vs f = meets_none param t quoted u (param_opens t u vs f)
-
-pub param_read : (t u q : Text) (name v : Text) → Front opening t u (name_alone name) → Front quoted u q (v, (tt, tt))
+pub param_read : {t u q name v : Text} → Front opening t u (name_alone name) → Front quoted u q (v, (tt, tt))
     → Front param t q (name, v)
-param_read t u q name v f g =
-    mapped_front (Row param_row) (Text × Text) param_of (rows_join opening_row quoted_row f g)
+param_read f g = mapped_front (Row param_row) (Text × Text) param_of (rows_join opening_row quoted_row f g)
+
+pub no_opening : {t : Text} → NoFront opening t → NoFront param t
+no_opening n = no_mapped (Row param_row) (Text × Text) param_of (rows_none_here opening_row quoted_row n)
 
 -- into the first value
 pub list_enters : (t u : Text) (vs : Values opening_row) → NoFront (exactly (93 ∷ [])) t → Front opening t u vs
     → Meets inside t closing u
 list_enters t u vs n f = meets_on inside t (Row (param ∷ tail_row)) t closing u
-    (list_goes param 32 93 (exactly (93 ∷ []) ∷ []) t n) (row_first param quoted tail_row t u (param_opens t u vs f))
+    (list_goes param 32 93 (exactly (93 ∷ []) ∷ []) t n) (row_first param quoted tail_row t u (param_opens f))
 
 -- into a further value
 pub tail_enters : (t s u : Text) (vs : Values opening_row) → t ≡ 32 ∷ s → Front opening s u vs
     → Meets (Row tail_row) t closing u
 tail_enters t s u vs e f = meets_on (Row tail_row) t (Row (param ∷ tail_row)) s closing u
     (more_goes param 32 93 space_is_no_close (exactly (93 ∷ []) ∷ []) t s e)
-    (row_first param quoted tail_row s u (param_opens s u vs f))
+    (row_first param quoted tail_row s u (param_opens f))
 
 -- ---- values
-pub value_closing : (t u : Text) → Meets value t value u → Meets closing t closing u
-value_closing t u m = row_first quoted quoted tail_row t u (row_first value value (exactly (34 ∷ []) ∷ []) t u m)
+pub quoted_goes : {t u : Text} → Meets value t value u → Meets quoted t quoted u
+quoted_goes m = row_first value value (exactly (34 ∷ []) ∷ []) _ _ m
 
--- behind a bracket inside a value
-bracket_is : ◌≢◌ {A = ℕ} 93 92
-bracket_is e = omega arith
+pub closing_goes : {t u : Text} → Meets quoted t quoted u → Meets closing t closing u
+closing_goes m = row_first quoted quoted tail_row _ _ m
 
-bracket_is_no_quote : ◌≢◌ {A = ℕ} 93 34
-bracket_is_no_quote e = omega arith
+-- what stands behind a bracket inside a value is a value
+value_end : (us : List TextUnit) (a b : Text) → AllByRecursion IsValueUnit us → flat_map unit_text us ≡ a ++ (93 ∷ b)
+    → IsValue b
+value_end [] a b h e = absurd (omega (arith, ap length e, length-append a (93 ∷ b)))
+value_end (pair c ∷ us) [] b h e = absurd (let i : ◌≡◌ {A = ℕ} 92 93 = cc in omega arith)
+value_end (pair c ∷ us) (x ∷ []) b h e = (us, cc, h.1)
+value_end (pair c ∷ us) (x ∷ y ∷ a) b h e = value_end us a b h.1 (cc)
+value_end (single c ∷ us) [] b h e = (us, cc, h.1)
+value_end (single c ∷ us) (x ∷ a) b h e = value_end us a b h.1 (cc)
 
-units_seam : (us : List TextUnit) (a b q : Text) → AllByRecursion IsValueUnit us → flat_map unit_text us ≡ a ++ (93 ∷ b)
-    → Meets value (flat_map unit_text us ++ q) value (b ++ q)
-units_seam [] [] b q h e = absurd (let k = ap length e in omega arith)
-units_seam [] (x ∷ a) b q h e = absurd (let k = ap length e in omega arith)
-units_seam (pair c ∷ us) [] b q h e = absurd (bracket_is (sym (heads 92 93 _ b e)))
-units_seam (pair c ∷ us) (x ∷ []) b q h e =
-    let f : flat_map unit_text us ≡ b = cc in
-    subst (λ (y : Text). Meets value (92 ∷ c ∷ flat_map unit_text us ++ q) value (y ++ q)) f
-    (unit_goes (pair c) _ _ tt refl)
-units_seam (pair c ∷ us) (x ∷ y ∷ a) b q h e =
-    let f : flat_map unit_text us ≡ a ++ (93 ∷ b) = cc in
-    meets_on value _ value (flat_map unit_text us ++ q) value (b ++ q) (unit_goes (pair c) _ _ tt refl)
-    (units_seam us a b q h.1 f)
-units_seam (single c ∷ us) [] b q h e =
-    let f : flat_map unit_text us ≡ b = cc in
-    subst (λ (y : Text). Meets value (c ∷ flat_map unit_text us ++ q) value (y ++ q)) f
-    (unit_goes (single c) _ _ h.0 refl)
-units_seam (single c ∷ us) (x ∷ a) b q h e =
-    let f : flat_map unit_text us ≡ a ++ (93 ∷ b) = cc in
-    meets_on value _ value (flat_map unit_text us ++ q) value (b ++ q) (unit_goes (single c) _ _ h.0 refl)
-    (units_seam us a b q h.1 f)
+-- a value and its quote begin the text
+abbrev HasQuoted : Text → Type 0
+HasQuoted t = (q : Text) × (v : Values quoted_row) × Front quoted t q v
 
-value_seam : (p a b q : Text) → IsValue p → p ≡ a ++ (93 ∷ b) → Meets value (p ++ q) value (b ++ q)
-value_seam p a b q (us, f, h) e =
-    subst (λ (x : Text). Meets value (x ++ q) value (b ++ q)) (sym f) (units_seam us a b q h (sym f ∙ e))
+quoted_behind : (u : TextUnit) (t : Text) → IsValueUnit u → HasQuoted t → HasQuoted (unit_text u ++ t)
+quoted_behind u t h (q, v, f) =
+    let g = (quoted_goes (unit_goes u (unit_text u ++ t) t h refl)).forth q v f in (q, g.0, g.1)
 
--- a value goes on from behind no bracket where it goes on from nowhere
-quote_here : (c : ℕ) (t : Text) → c ≡ 34 → NoFront value (c ∷ t) → ⊥
-quote_here c t e n = n [] (c ∷ t) [] refl (([], refl, tt), (t, ap (λ (x : ℕ). x ∷ t) e), refl)
+-- where they stand behind a bracket, they do before it, whether or not a backslash stands before that text
+quoted_before : (a b : Text) → HasQuoted b → HasQuoted (a ++ (93 ∷ b)) × HasQuoted (92 ∷ a ++ (93 ∷ b))
+quoted_before [] b h =
+    (quoted_behind (single 93) b ((λ e. omega arith), (λ e. omega arith)) h, quoted_behind (pair 93) b tt h)
+quoted_before (c ∷ a) b h =
+    let (plain, escaped) = quoted_before a b h in (
+      elim (eqb_tells c 34) [
+        | inl r ↦ (
+          _,
+          _,
+          row_of quoted_row (value_here _ _ (ap (λ (x : ℕ). x ∷ a ++ (93 ∷ b)) r.1) then
+              record { piece = 34 ∷ []; whole = ap (λ (x : ℕ). x ∷ a ++ (93 ∷ b)) r.1; is = refl } then refl),
+        )
+        | inr r ↦ elim (eqb_tells c 92) [
+          | inl s ↦ subst (λ (x : ℕ). HasQuoted (x ∷ a ++ (93 ∷ b))) (sym s.1) escaped
+          | inr s ↦ quoted_behind (single c) _ (s.1, r.1) plain
+        ]
+      ],
+      quoted_behind (pair c) _ tt plain,
+    )
 
-value_before : (a b q v : Text) → Front value b q v → NoFront value (a ++ (93 ∷ b)) → ⊥
-value_before [] b q v f n = let m = unit_goes (single 93) (93 ∷ b) b (bracket_is, bracket_is_no_quote) refl in
-    let g = m.forth q v f in n g.1.piece q g.0 g.1.whole g.1.is
-value_before (c ∷ []) b q v f n = elim (eqb_tells c 34) [
-  | inl r ↦ quote_here c (93 ∷ b) r.1 n
-  | inr r ↦ elim (eqb_tells c 92) [
-    | inl s ↦ (let m = unit_goes (pair 93) (c ∷ 93 ∷ b) b tt (ap (λ (x : ℕ). x ∷ 93 ∷ b) s.1) in
-        let g = m.forth q v f in n g.1.piece q g.0 g.1.whole g.1.is)
-    | inr s ↦ value_before [] b q v f
-        (meets_none_on value (c ∷ 93 ∷ b) value (93 ∷ b) (unit_goes (single c) (c ∷ 93 ∷ b) (93 ∷ b) (s.1, r.1) refl) n)
-  ]
-]
-value_before (c ∷ d ∷ a) b q v f n = elim (eqb_tells c 34) [
-  | inl r ↦ quote_here c (d ∷ a ++ (93 ∷ b)) r.1 n
-  | inr r ↦ elim (eqb_tells c 92) [
-    | inl s ↦ value_before a b q v f (meets_none_on value (c ∷ d ∷ a ++ (93 ∷ b)) value (a ++ (93 ∷ b))
-        (unit_goes (pair d) (c ∷ d ∷ a ++ (93 ∷ b)) (a ++ (93 ∷ b)) tt (ap (λ (x : ℕ). x ∷ d ∷ a ++ (93 ∷ b)) s.1)) n)
-    | inr s ↦ value_before (d ∷ a) b q v f (meets_none_on value (c ∷ d ∷ a ++ (93 ∷ b)) value (d ∷ a ++ (93 ∷ b))
-        (unit_goes (single c) (c ∷ d ∷ a ++ (93 ∷ b)) (d ∷ a ++ (93 ∷ b)) (s.1, r.1) refl) n)
-  ]
-]
+pub no_closing : (t : Text) → NoFront quoted t → NoFront closing t
+no_closing t n = row_none_here quoted tail_row n
 
-pub no_value_behind : (t a b : Text) → t ≡ a ++ (93 ∷ b) → NoFront value t → NoFront value b
-no_value_behind t a b e n p q v w h =
-    value_before a b q v (record { piece = p; whole = w; is = h }) (subst (λ (x : Text). NoFront value x) e n)
-
-pub no_closing : (t : Text) → NoFront value t → NoFront closing t
-no_closing t n = row_none_here quoted tail_row (no_row quoted_row quoted_row_det (inl n))
-
-pub dead_values : (t : Text) → NoFront value t → IsDead t 0
-dead_values t n a b e l = no_closing b (no_value_behind t a b e n)
+pub dead_unquoted : (t : Text) → NoFront quoted t → IsDead t 0
+dead_unquoted t n a b e l p q v w h =
+    let first = row_head quoted tail_row (record { piece = p; whole = w; is = h }) in
+    let (r, x, f) = (quoted_before a b (first.0, v.0, first.1)).0 in
+    no_front_no quoted (subst (λ (y : Text). NoFront quoted y) e n) f
 
 -- ---- pieces without a bracket
-each_on : (h : ℕ → Bool) (p q : Text) → Each h p → Each h q → Each h (p ++ q)
-each_on h [] q a b = b
-each_on h (c ∷ p) q a b = (a.0, each_on h p q a.1 b)
-
-abbrev pub IsShut : Class → Type 0
+abbrev IsShut : Class → Type 0
 IsShut C = (p q : Text) (v : C.Value) → C.Is p q v → Each is_open_char p
 
-abbrev pub AllShut : List Class → Type 0
+abbrev AllShut : List Class → Type 0
 AllShut [] = Unit {0}
 AllShut (C ∷ Cs) = IsShut C × AllShut Cs
 
-join_shut : (Cs : List Class) → AllShut Cs → (ps : List (Text)) (q : Text) (vs : Values Cs) → Divides Cs ps q vs
-    → Each is_open_char (join ps)
-join_shut [] s [] q vs d = tt
-join_shut [] s (p ∷ ps) q vs d = absurd d
-join_shut (C ∷ Cs) s [] q vs d = absurd d
-join_shut (C ∷ Cs) s (p ∷ ps) q vs d =
-    each_on is_open_char p (join ps) (s.0 p (join ps ++ q) vs.0 d.0) (join_shut Cs s.1 ps q vs.1 d.1)
-
-pub row_shut : (Cs : List Class) → AllShut Cs → IsShut (Row Cs)
-row_shut Cs s p q vs (ps, e, d) = subst (λ (x : Text). Each is_open_char x) (sym e) (join_shut Cs s ps q vs d)
-
-each_from : (h k : ℕ → Bool) → ((c : ℕ) → h c ≡ true → k c ≡ true) → (p : Text) → Each h p → Each k p
-each_from h k f [] a = tt
-each_from h k f (c ∷ p) a = (f c a.0, each_from h k f p a.1)
-
-left_true : (a b : Bool) → (a && b) ≡ true → a ≡ true
-left_true true b e = refl
-left_true false b e = absurd (let t : false ≡ true = e in cc)
-
-right_true : (a b : Bool) → (a && b) ≡ true → b ≡ true
-right_true true b e = e
-right_true false b e = absurd (let t : false ≡ true = e in cc)
+blank_open : (c : ℕ) → is_blank c ≡ true → is_open_char c ≡ true
+blank_open c e = grind (arith, nat_tests)
 
 name_open : (c : ℕ) → is_name_char c ≡ true → is_open_char c ≡ true
-name_open c e = left_true (not (nat_eq c 93)) (not (nat_eq c 61)) e
-
-id_open : (c : ℕ) → is_id_char c ≡ true → is_open_char c ≡ true
-id_open c e = name_open c (right_true _ (is_name_char c) e)
-
-blank_open : (c : ℕ) → is_blank c ≡ true → is_open_char c ≡ true
-blank_open c e = elim (eqb_tells c 93) [
-  | inl r ↦ absurd (let t : is_blank 93 ≡ true = ap is_blank (sym r.1) ∙ e in let u : false ≡ true = t in cc)
-  | inr r ↦ ap not r.0
-]
+name_open c e = (and_parts (is_open_char c) _ e).0
 
 one_shut : (c : ℕ) → is_open_char c ≡ true → IsShut (exactly (c ∷ []))
 one_shut c h p q v e = subst (λ (x : Text). Each is_open_char x) (sym e) (h, tt)
 
-pub start_shut : IsShut start
-start_shut = row_shut start_row
-    (one_shut 91 refl also (λ p q v i. each_from is_id_char is_open_char id_open p i.1.1)
-    also (λ p q v i. each_from is_blank is_open_char blank_open p i.0) also tt)
+start_shut : AllShut start_row
+start_shut =
+    one_shut 91 refl
+    also (λ p q v i. each_map is_name_char is_open_char name_open p (each_right is_not_whitespace is_name_char p i.1.1))
+    also (λ p q v i. each_map is_blank is_open_char blank_open p i.0) also tt
 
-pub opening_shut : IsShut opening
-opening_shut = row_shut opening_row
-    ((λ p q v i. each_from is_name_char is_open_char name_open p i.1.1) also one_shut 61 refl
-    also (λ p q v i. each_from is_blank is_open_char blank_open p i.0) also one_shut 34 refl also tt)
+opening_shut : AllShut opening_row
+opening_shut =
+    (λ p q v i. each_map is_name_char is_open_char name_open p i.1.1) also one_shut 61 refl
+    also (λ p q v i. each_map is_blank is_open_char blank_open p i.0) also one_shut 34 refl also tt
 
 no_bracket : (w a b : Text) → Each is_open_char w → w ≡ a ++ (93 ∷ b) → ⊥
-no_bracket [] [] b h e = let k = ap length e in omega arith
-no_bracket [] (x ∷ a) b h e = let k = ap length e in omega arith
-no_bracket (c ∷ w) [] b h e = let k : c ≡ 93 = heads c 93 w b e in let t = ap is_open_char k in
-    let u : true ≡ false = sym h.0 ∙ t in cc
-no_bracket (c ∷ w) (x ∷ a) b h e = no_bracket w a b h.1 (let t : w ≡ a ++ (93 ∷ b) = cc in t)
+no_bracket w a b h e =
+    let closed = each_behind is_open_char a (93 ∷ b) (subst (λ (x : Text). Each is_open_char x) e h) in
+    let f : false ≡ true = closed.0 in cc
 
 -- ---- what a scan from t to x has passed, where it fails no piece of the class begins t
 pub record Passes (C : Class) (t x : Text) : Type 0 where
@@ -283,9 +231,23 @@ module _ (C : Class) where
     ];
   }
 
-  pub passes_shut : (D : Class) → IsShut D → (t x y : Text) (v : D.Value) → Passes C t x → Front D x y v → Passes C t y
+  passes_shut : (D : Class) → IsShut D → (t x y : Text) (v : D.Value) → Passes C t x → Front D x y v → Passes C t y
   passes_shut D s t x y v p f =
       passes_on t x f.piece y p f.whole (λ a b e n. absurd (no_bracket f.piece a b (s f.piece y v f.is) e))
+
+  passes_row : (Ds : List Class) → AllShut Ds → {t x y : Text} {vs : Values Ds} → Passes C t x → Front (Row Ds) x y vs
+      → Passes C t y
+  passes_row [] s {t = t} p f = subst (λ (z : Text). Passes C t z) (nil_front f) p
+  passes_row (D ∷ Ds) s {t = t} {x = x} {vs = vs} p f =
+      let r = row_head D Ds f in passes_row Ds s.1 (passes_shut D s.0 t x r.0 vs.0 p r.1) r.2
+
+  pub passes_opening : {t x y : Text} {vs : Values opening_row} → Passes C t x → Front opening x y vs → Passes C t y
+  passes_opening = passes_row opening_row opening_shut
+
+  -- up to the first value of an element
+  pub passes_start : {t u x : Text} {vs : Values start_row} {ws : Values opening_row} → Front start t u vs
+      → Front opening u x ws → Passes C t x
+  passes_start {t = t} f g = passes_opening (passes_row start_row start_shut (passes_here t) f) g
 
   pub passes_space : (t x y : Text) → Passes C t x → x ≡ 32 ∷ y → Passes C t y
   passes_space t x y p e = passes_on t x (32 ∷ []) y p e (λ a b f n. absurd (no_bracket (32 ∷ []) a b (refl, tt) f))
@@ -294,26 +256,166 @@ module _ (C : Class) where
   pub passes_quoted : (t x y : Text) (vs : Values quoted_row) → Passes C t x → Meets C t closing x → Front quoted x y vs
       → Passes C t y
   passes_quoted t x y vs p m f =
-      let r = row_head value (exactly (34 ∷ []) ∷ []) f in
-      let value_passed : Passes C t r.0 = passes_on t x r.1.piece r.0 p r.1.whole (λ a b e n.
-      meets_none_on closing x closing (b ++ r.0)
-      (value_closing x (b ++ r.0) (subst (λ (z : Text). Meets value z value (b ++ r.0)) (sym r.1.whole)
-      (value_seam r.1.piece a b r.0 r.1.is.0 e)))
-      (meets_none_on C t closing x m n)) in
-      passes_shut (Row (exactly (34 ∷ []) ∷ []))
-      (row_shut (exactly (34 ∷ []) ∷ []) (one_shut 34 refl, tt)) t r.0 y vs.1 value_passed r.2
+      let (r, v, quote) = row_head value (exactly (34 ∷ []) ∷ []) f in
+      passes_row (exactly (34 ∷ []) ∷ []) (one_shut 34 refl, tt) (passes_on t x v.piece r p v.whole (λ a b e n.
+      let (us, same, units) = v.is.0 in
+      let inner : Front value (b ++ r) r b =
+      record { piece = b; whole = refl; is = (value_end us a b units (sym same ∙ e), v.is.1, refl) } in
+      let outer : Front quoted (b ++ r) y (b, vs.1) = row_cons value (exactly (34 ∷ []) ∷ []) inner quote in
+      meets_none _ _ _ _ (row_goes quoted tail_row quoted_det _ _ _ outer)
+      (meets_none_on _ _ _ _ (row_goes quoted tail_row quoted_det x y vs f) (meets_none_on _ _ _ _ m n)))) quote
 
-  -- a scan that fails leaves dead brackets behind it
-  pub passes_dead : (t x : Text) (d : ℕ) → d ≡ byte_count x → Passes C t x → NoFront C t → IsDead t d
-  passes_dead t x d e s n a b f l =
-      elim (split_bracket s.piece x a b (sym s.whole ∙ f)) [
-        | inl (c, i, j) ↦ subst (λ (z : Text). NoFront closing z) (sym j) (s.each a c i n)
-        | inr (c, i) ↦ absurd (let k = behind_bracket c b in let m = ap byte_count i in omega (arith, k, m))
-      ]
-
-  pub passes_dead_on : (t x : Text) (d : ℕ) → Passes C t x → NoFront C t → IsDead x d → IsDead t d
-  passes_dead_on t x d s n h a b f l =
+  pub passes_dead : (t x : Text) (d : ℕ) → Passes C t x → NoFront C t → IsDead x d → IsDead t d
+  passes_dead t x d s n h a b f l =
       elim (split_bracket s.piece x a b (sym s.whole ∙ f)) [
         | inl (c, i, j) ↦ subst (λ (z : Text). NoFront closing z) (sym j) (s.each a c i n)
         | inr (c, i) ↦ h c b i l
       ]
+
+-- ---- values
+
+-- none begins a text of at most one character, if that is no quote
+pub no_quoted_short : {t : Text} (s : Text) → t ≡ s → length s ≤ 1 → ((r : Text) → s ≢ 34 ∷ r) → NoFront quoted t
+no_quoted_short {t = t} s z l n = row_none_here value (exactly (34 ∷ []) ∷ []) none
+  where
+    none : NoFront value t
+    none [] q v e (is, (r, g), w) = n r (sym z ∙ e ∙ g)
+    none (x ∷ p) q v e (is, (r, g), w) = omega (arith, ap length (sym z ∙ e), ap length g, length-append p q)
+
+-- each character of the class is a unit of a value
+abbrev pub AllPlain : (ℕ → Bool) → Type 0
+AllPlain test = (c : ℕ) → test c ≡ true → IsValueUnit (single c)
+
+pub unescaped_plain : AllPlain is_unescaped_char
+unescaped_plain c h = (grind (arith, nat_tests), grind (arith, nat_tests))
+
+pub inert_plain : AllPlain is_inert_char
+inert_plain c h = unescaped_plain c (and_parts (is_unescaped_char c) _ h).0
+
+run_goes : (test : ℕ → Bool) → AllPlain test → (w t : Text) → Each test w → Meets value (w ++ t) value t
+run_goes test a [] t h = meets_here value t
+run_goes test a (c ∷ w) t h = meets_on value (c ∷ w ++ t) value (w ++ t) value t
+    (unit_goes (single c) (c ∷ w ++ t) (w ++ t) (a c h.0) refl) (run_goes test a w t h.1)
+
+unit_ends : (u : TextUnit) → last_char u ≡ 93 → (a : Text) × (unit_text u ≡ a ++ (93 ∷ []))
+unit_ends (pair c) e = (92 ∷ [], ap (λ (x : ℕ). 92 ∷ x ∷ []) e)
+unit_ends (single c) e = ([], ap (λ (x : ℕ). x ∷ []) e)
+
+-- past a run of such characters
+pub run_on : (test : ℕ → Bool) → AllPlain test → (text t w u : Text) → t ≡ w ++ u → Each test w
+    → Meets value text value t → Meets value text value u
+run_on test a text t w u e h m =
+    meets_on _ _ _ _ _ _ m (subst (λ (x : Text). Meets value x value u) (sym e) (run_goes test a w u h))
+
+module _ (test : ℕ → Bool) (a : AllPlain test) (text bs xs ys : Text) (s : SplitsRun test bs xs ys)
+    (m : Meets quoted text quoted (chars bs)) where
+  pub past_run : Meets quoted text quoted (chars ys)
+  past_run =
+      meets_on _ _ _ _ _ _ m (quoted_goes (run_on test a _ _ _ _ s.characters s.each (meets_here value (chars bs))))
+
+  pub value_quoted : (q : Text) → Front (exactly (34 ∷ [])) (chars ys) q tt → (v : Values quoted_row)
+      × Front quoted text q v
+  value_quoted q f =
+      past_run.forth q ([], (tt, tt)) (row_of quoted_row (value_here (chars ys) q (begins 34 _ q f) then f then refl))
+
+  module _ (u : TextUnit) (h : IsValueUnit u) (q : Text) (e : chars ys ≡ unit_text u ++ q) where
+    pub value_on : Meets quoted text quoted q
+    value_on = meets_on _ _ _ _ _ _ past_run (quoted_goes (unit_goes u (chars ys) q h e))
+
+    pub dead_on : (d : ℕ) → IsDead (chars bs) d → IsDead q d
+    dead_on d = dead_suffix (chars bs) (chars xs ++ unit_text u) q d
+        (s.characters ∙ ap (λ (x : Text). chars xs ++ x) e ∙ sym (append_assoc (chars xs) (unit_text u) q))
+
+    -- the bracket that ends the unit, in the text
+    pub value_dead : last_char u ≡ 93 → (d : ℕ) → IsDead (chars bs) d → d ≤ byte_count q → NoFront closing text
+    value_dead l d i k =
+        let (a, f) = unit_ends u l in
+        let before : chars bs ≡ (chars xs ++ a) ++ (93 ∷ q) =
+        cc (s.characters, e, f, append_assoc a (93 ∷ []) q, append_assoc (chars xs) a (93 ∷ q)) in
+        meets_none _ _ _ _ (closing_goes value_on) (i (chars xs ++ a) q before k)
+
+-- where no quote ends the value
+pub value_missing : (text t : Text) → Meets quoted text quoted t → NoFront quoted t
+    → NoFront closing text × IsDead text 0
+value_missing text t m n = let k = meets_none _ _ _ _ m n in (no_closing text k, dead_unquoted text k)
+
+-- ---- an element
+module _ {text params : Text} {vs : Values start_row} (f : Front start text params vs) where
+  pub element_bare : (q : Text) → Front (exactly (93 ∷ [])) params q tt → (v : ElementValue) × Front element text q v
+  element_bare q g = (element_starts f).forth q ([], (tt, tt))
+      (row_of inside_row (list_here param 32 93 params q (begins 93 params q g) then g then refl))
+
+  pub element_unopened : NoFront (exactly (93 ∷ [])) params → NoFront opening params → NoFront element text
+  element_unopened n m = meets_none _ _ _ _ (element_starts f)
+      (row_none_here _ (exactly (93 ∷ []) ∷ []) (no_list param 32 93 params n (no_opening m)))
+
+  pub element_enters : (x : Text) (ws : Values opening_row) → NoFront (exactly (93 ∷ [])) params
+      → Front opening params x ws → Passes element text x × Meets element text closing x
+  element_enters x ws n g =
+      (passes_start element f g, meets_on _ _ _ _ _ _ (element_starts f) (list_enters params x ws n g))
+
+-- from inside a value, in a class whose pieces go on from there
+module _ {C : Class} {text x y : Text} {vs : Values quoted_row} (p : Passes C text x) (m : Meets C text closing x)
+    (f : Front quoted x y vs) where
+  pub value_ends : (q : Text) → Front (exactly (93 ∷ [])) y q tt → (v : C.Value) × Front C text q v
+  value_ends q g = m.forth q (vs, ([], (tt, tt)))
+      (row_of (quoted ∷ tail_row) (f then more_here param 32 93 y q (begins 93 y q g) then g then refl))
+
+  pub value_breaks : NoFront (more_before param 32 93) y → (d : ℕ) → d ≡ byte_count y → NoFront C text × IsDead text d
+  value_breaks n d e =
+      let k = meets_none _ _ _ _ m
+      (row_none_later quoted tail_row quoted_det f (row_none_here _ (exactly (93 ∷ []) ∷ []) n)) in
+      (k, passes_dead C text y d (passes_quoted C text x y vs p m f) k (dead_whole y d e))
+
+  pub value_goes : (z r : Text) (ws : Values opening_row) → Front (exactly (32 ∷ [])) y z tt → Front opening z r ws
+      → Passes C text r × Meets C text closing r
+  value_goes z r ws g o = (
+    passes_opening C (passes_space C text y z (passes_quoted C text x y vs p m f) (begins 32 y z g)) o,
+    meets_on _ _ _ _ _ _ m (meets_on _ _ _ _ _ _ (row_goes quoted tail_row quoted_det x y vs f)
+        (tail_enters y z r ws (begins 32 y z g) o)),
+  )
+
+-- what the scan from inside a value answers, of the text whose element it is in
+pub closing_answers : {X : Type 0} (C : Class) (text x : Text) → Passes C text x → Meets C text closing x
+    → (to : X → Text) (r : Result X ℕ)
+    → MatchResult r (λ q. (v : closing.Value) × Front closing x (to q) v) (λ d. NoFront closing x × IsDead x d)
+    → MatchResult r (λ q. (v : C.Value) × Front C text (to q) v) (λ d. NoFront C text × IsDead text d)
+closing_answers C text x p m to (Ok q) (v, f) = m.forth (to q) v f
+closing_answers C text x p m to (Err d) (n, i) = let k = meets_none _ _ _ _ m n in (k, passes_dead C text x d p k i)
+
+-- ---- a quoted value, cut from its text by bytes
+module _ (t r : List ℕ) (u : IsUtf8 t) (z : IsUtf8 r) (v : Values quoted_row)
+    (f : Front quoted (chars t) (chars r) v) where
+  first : (w : Text) × Front value (chars t) w v.0 × Front (Row (exactly (34 ∷ []) ∷ [])) w (chars r) v.1
+  first = row_head value (exactly (34 ∷ []) ∷ []) f
+
+  behind_utf8 : IsUtf8 (34 ∷ r)
+  behind_utf8 = IsUtf8-append (34 ∷ []) r (IsUtf8-from_ascii (34 ∷ []) (one_ascii 34 (omega arith))) z
+
+  whole : chars t ≡ first.1.piece ++ chars (34 ∷ r)
+  unfolding encode_utf8
+  whole =
+      let (s, quote, end) = row_pieces (exactly (34 ∷ []) ∷ []) first.2 in
+      first.1.whole ∙ ap (λ (x : Text). first.1.piece ++ x) (begins 34 first.0 s quote ∙ ap (λ (x : Text). 34 ∷ x) end
+      ∙ sym (chars_past_char (34 ∷ r) r 34 behind_utf8 refl))
+
+  pub quoted_longer : length r + 1 ≤ length t
+  quoted_longer = omega (arith, rest_shorter t (34 ∷ r) u behind_utf8 first.1.piece whole)
+
+  place : length t - length (34 ∷ r) ≡ length t - length r - 1
+  place = omega arith
+
+  -- the text may be cut before the closing quote
+  pub quoted_cut : IsCharBoundary t (length t - length r - 1)
+  quoted_cut =
+      subst (λ (n : ℕ). IsCharBoundary t n) place (front_cut t (34 ∷ r) u behind_utf8 first.1.piece whole)
+
+  -- and the value is what stands before it
+  pub quoted_value : (xs : List ℕ) → xs ≡ take (length t - length r - 1) t
+      → Front quoted (chars t) (chars r) (chars xs, (tt, tt))
+  quoted_value xs e =
+      let split = front_chars t (34 ∷ r) u behind_utf8 first.1.piece whole xs
+      (e ∙ ap (λ (n : ℕ). take n t) (sym place)) in
+      let piece = append_cancel_right first.1.piece (chars xs) (chars (34 ∷ r)) (sym whole ∙ split) in
+      row_cons value (exactly (34 ∷ []) ∷ [])
+      (subst (λ (y : Text). Front value (chars t) first.0 y) (first.1.is.2 ∙ piece) first.1) first.2

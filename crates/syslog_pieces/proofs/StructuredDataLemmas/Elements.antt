@@ -1,74 +1,44 @@
--- Values, parameters, elements and forgiving lists: a text has one of each at its front.
-use Rattle.std.proofs.Common.{◌≡◌, ◌≢◌, ℕ, ◌<◌, inl, inr, true, false, List, [], ◌∷◌, ◌++◌}
-use Rattle.std.proofs.Common.{length, Option, Some, None, refl, sym, ap, ◌∙◌, append_assoc, arith}
-use Rattle.std.proofs.lemmas.List.{length-append}
-use Rattle.std.specs.List.{flat_map, AllByRecursion}
-use Rattle.syslog_pieces.specs.Text.CharClass.{is_name_char, is_id_char, is_open_char}
-use Rattle.syslog_pieces.specs.Pieces.Class.{Text, join, Front, IsDeterministic, Row, Each, run, some_run, exactly}
-use Rattle.syslog_pieces.specs.StructuredData.Element.{ElementValue}
-use Rattle.syslog_pieces.specs.StructuredData.Escapes.{TextUnit, pair, single, unit_text}
-use Rattle.syslog_pieces.specs.Pieces.Lists.{many, list_before}
-use Rattle.syslog_pieces.specs.Pieces.Class.{Class}
-use Rattle.syslog_pieces.specs.StructuredData.{IsValueUnit, value, param_row, param_of, param, element_row}
-use Rattle.syslog_pieces.specs.StructuredData.{element_of, element, bracketed, item, strict, forgiving}
-use Rattle.syslog_pieces.specs.Text.{is_blank, dash}
-use Rattle.syslog_pieces.proofs.PieceLemmas.Class.{heads, run_det, some_run_det, exactly_det, AllDeterministic}
-use Rattle.syslog_pieces.proofs.PieceLemmas.Class.{row_det, mapped_det, texted_det, ◌also◌}
-use Rattle.syslog_pieces.proofs.PieceLemmas.Lists.{many_det, list_before_det}
-use Rattle.syslog_pieces.proofs.PieceLemmas.Meets.{Meets}
+-- Values, parameters, elements and forgiving lists: a text has one of each at its front; and items of a list, one after
+-- the other.
+use Rattle.syslog_pieces.proofs.Names.{◌≡◌, ◌≢◌, ℕ, ◌<◌, inl, inr, true, false, List, [], ◌∷◌, ◌++◌, length, Option}
+use Rattle.syslog_pieces.proofs.Names.{Some, None, refl, sym, ap, ◌∙◌, append_assoc, arith, nat_tests, length-append}
+use Rattle.syslog_pieces.proofs.Names.{flat_map, AllByRecursion, is_name_char, is_id_char, is_open_char, Text, join}
+use Rattle.syslog_pieces.proofs.Names.{Front, IsDeterministic, Row, Each, run, some_run, exactly, Class, ElementValue}
+use Rattle.syslog_pieces.proofs.Names.{TextUnit, pair, single, unit_text, many, list_before, IsValueUnit, value}
+use Rattle.syslog_pieces.proofs.Names.{param_row, param_of, param, element_row, element_of, element, bracketed, item}
+use Rattle.syslog_pieces.proofs.Names.{strict, forgiving, is_blank, dash, heads, behind, run_det, some_run_det}
+use Rattle.syslog_pieces.proofs.Names.{exactly_det, AllDeterministic, row_det, texted_det, ◌also◌, many_det, begins}
+use Rattle.syslog_pieces.proofs.Names.{Meets, Bool, not, map, subst, append-nil, MatchBool, map-append, list_any}
+use Rattle.syslog_pieces.proofs.Names.{is_some, is_none, NoFront, HasRead, front_same, many_cons, no_many_no}
+use Rattle.syslog_pieces.proofs.PieceLemmas.Class.{mapped_det}
+use Rattle.syslog_pieces.proofs.PieceLemmas.Lists.{list_before_det}
+use Rattle.syslog_pieces.proofs.StructuredDataLemmas.Units.{unit_same, units_same}
+use Rattle.std.proofs.Common.{◌||◌}
+use Rattle.std.proofs.lemmas.List.Folds.{list_any-append}
+use Rattle.syslog_pieces.specs.StructuredData.{NeedsNoMemory}
 
 -- ---- values
-pub quote_is_no_backslash : (xs ys : Text) → 34 ∷ xs ≡ 92 ∷ ys → ⊥
-quote_is_no_backslash xs ys e = let t : ◌≡◌ {A = ℕ} 34 92 = heads 34 92 xs ys e in omega arith
 
-units_same : (us : List TextUnit) (r : Text) (us' : List TextUnit) (r' : Text) → AllByRecursion IsValueUnit us
-    → AllByRecursion IsValueUnit us' → flat_map unit_text us ++ (34 ∷ r) ≡ flat_map unit_text us' ++ (34 ∷ r')
-    → us ≡ us'
-units_same [] r [] r' h h' e = refl
-units_same [] r (pair c ∷ us') r' h h' e = absurd (quote_is_no_backslash _ _ e)
-units_same [] r (single c ∷ us') r' h h' e = absurd (h'.0.1 (let t : c ≡ 34 = cc in t))
-units_same (pair c ∷ us) r [] r' h h' e = absurd (quote_is_no_backslash _ _ (sym e))
-units_same (single c ∷ us) r [] r' h h' e = absurd (h.0.1 (let t : c ≡ 34 = cc in t))
-units_same (pair c ∷ us) r (pair d ∷ us') r' h h' e =
-    let t = units_same us r us' r' h.1 h'.1
-    (let u : flat_map unit_text us ++ (34 ∷ r) ≡ flat_map unit_text us' ++ (34 ∷ r') = cc in u) in
-    let u : c ≡ d = cc in cc
-units_same (pair c ∷ us) r (single d ∷ us') r' h h' e = absurd (h'.0.0 (let t : d ≡ 92 = cc in t))
-units_same (single c ∷ us) r (pair d ∷ us') r' h h' e = absurd (h.0.0 (let t : c ≡ 92 = cc in t))
-units_same (single c ∷ us) r (single d ∷ us') r' h h' e =
-    let t = units_same us r us' r' h.1 h'.1
-    (let u : flat_map unit_text us ++ (34 ∷ r) ≡ flat_map unit_text us' ++ (34 ∷ r') = cc in u) in
-    let u : c ≡ d = cc in cc
+-- the text begins with a quote
+abbrev BeginsQuote : Text → Type 0
+BeginsQuote t = (r : Text) × (t ≡ 34 ∷ r)
+
+no_quote_unit : (u : TextUnit) (t : Text) → IsValueUnit u → BeginsQuote (unit_text u ++ t) → ⊥
+no_quote_unit (pair c) t h (r, e) = let i : ◌≡◌ {A = ℕ} 92 34 = cc in omega arith
+no_quote_unit (single c) t h (r, e) = h.1 (cc)
 
 pub value_det : IsDeterministic value
-value_det p q p' q' v v' e ((us, f, h), (r, z), w) ((us', f', h'), (r', z'), w') =
-    let s = units_same us r us' r' h h' (sym (ap (λ (x : Text). x ++ (34 ∷ r)) f) ∙ sym (ap (λ (x : Text). p ++ x) z)
-    ∙ e ∙ ap (λ (x : Text). p' ++ x) z' ∙ ap (λ (x : Text). x ++ (34 ∷ r')) f') in
-    let t = f ∙ ap (flat_map unit_text) s ∙ sym f' in (t, w ∙ t ∙ sym w')
+value_det p q p' q' v v' e ((us, f, h), z, w) ((us', f', h'), z', w') =
+    let same = units_same IsValueUnit (λ c i. i.0) BeginsQuote no_quote_unit us us' q q' h h' z z' (cc) in
+    let t = f ∙ ap (flat_map unit_text) same.0 ∙ sym f' in (t, w ∙ t ∙ sym w')
 
 -- the value behind a unit
-unit_back : (u : TextUnit) (t' q : Text) (us : List TextUnit) (r : Text) → IsValueUnit u → AllByRecursion IsValueUnit us
-    → unit_text u ++ t' ≡ flat_map unit_text us ++ q → q ≡ 34 ∷ r → (v : Text) × Front value t' q v
-unit_back (pair c) t' q [] r h a e z = absurd (quote_is_no_backslash _ _ (sym (e ∙ z)))
-unit_back (single c) t' q [] r h a e z = absurd (h.1 (heads c 34 t' r (e ∙ z)))
-unit_back (pair c) t' q (pair d ∷ us) r h a e z = (
-  flat_map unit_text us,
-  record {
-    piece = flat_map unit_text us;
-    whole = (let g : t' ≡ flat_map unit_text us ++ q = cc in g);
-    is = ((us, refl, a.1), (r, z), refl);
-  },
-)
-unit_back (pair c) t' q (single d ∷ us) r h a e z = absurd (a.0.0 (let g : d ≡ 92 = cc in g))
-unit_back (single c) t' q (pair d ∷ us) r h a e z = absurd (h.0 (let g : c ≡ 92 = cc in g))
-unit_back (single c) t' q (single d ∷ us) r h a e z = (
-  flat_map unit_text us,
-  record {
-    piece = flat_map unit_text us;
-    whole = (let g : t' ≡ flat_map unit_text us ++ q = cc in g);
-    is = ((us, refl, a.1), (r, z), refl);
-  },
-)
+value_behind : (u : TextUnit) (t q : Text) (us : List TextUnit) → IsValueUnit u → AllByRecursion IsValueUnit us
+    → BeginsQuote q → unit_text u ++ t ≡ flat_map unit_text us ++ q → (v : Text) × Front value t q v
+value_behind u t q [] h a z e = absurd (no_quote_unit u t h (z.0, e ∙ z.1))
+value_behind u t q (w ∷ us) h a z e =
+    let rest = unit_same IsValueUnit (λ c i. i.0) u w t _ h a.0 (e ∙ append_assoc (unit_text w) _ q) in
+    (flat_map unit_text us, record { piece = flat_map unit_text us; whole = rest.1; is = ((us, refl, a.1), z, refl) })
 
 pub unit_goes : (u : TextUnit) (t t' : Text) → IsValueUnit u → t ≡ unit_text u ++ t' → Meets value t value t'
 unit_goes u t t' h e = record {
@@ -84,8 +54,8 @@ unit_goes u t t' h e = record {
       );
     },
   );
-  back = λ q v f. unit_back u t' q f.is.0.0 f.is.1.0 h f.is.0.2
-      (sym e ∙ f.whole ∙ ap (λ (x : Text). x ++ q) f.is.0.1) f.is.1.1;
+  back = λ q v f. value_behind u t' q f.is.0.0 h f.is.0.2 f.is.1
+      (sym e ∙ f.whole ∙ ap (λ (x : Text). x ++ q) f.is.0.1);
 }
 
 pub value_here : (t r : Text) → t ≡ 34 ∷ r → Front value t t []
@@ -100,13 +70,13 @@ param_row_det =
 pub param_det : IsDeterministic param
 param_det = mapped_det (Row param_row) (Text × Text) param_of (row_det param_row param_row_det)
 
-name_char_is_no_close : (c : ℕ) → is_name_char c ≡ true → c ≡ 93 → ⊥
-name_char_is_no_close c h e = let t = ap is_name_char e in let u : true ≡ false = sym h ∙ t in cc
+name_no_close : (c : ℕ) → is_name_char c ≡ true → c ≢ 93
+name_no_close c h = grind (arith, nat_tests)
 
 -- a nonempty run of such characters doesn't begin with a bracket
 pub run_no_close : (w q r : Text) → 0 < length w → Each is_name_char w → w ++ q ≡ 93 ∷ r → ⊥
 run_no_close [] q r l h e = omega arith
-run_no_close (c ∷ w) q r l h e = name_char_is_no_close c h.0 (heads c 93 (w ++ q) r e)
+run_no_close (c ∷ w) q r l h e = name_no_close c h.0 (cc)
 
 param_apart : (p q : Text) (v : Text × Text) (r : Text) → param.Is p q v → p ++ q ≡ 93 ∷ r → ⊥
 param_apart p q v r (vs, ([], f, h), g) e = h
@@ -146,43 +116,118 @@ item_det p q p' q' None None e (n, h) (n', h') =
     ((bracketed_det p q p' q' (tt, (tt, (tt, tt))) (tt, (tt, (tt, tt))) e h h').0, refl)
 
 -- an item begins with a bracket
+item_piece : (p q : Text) (v : Option ElementValue) → item.Is p q v → (r : Text) × (p ≡ 91 ∷ r)
+item_piece p q (Some v) (vs, ([], f, h), g) = absurd h
+item_piece p q (Some v) (vs, (a ∷ ps, f, h), g) = (join ps, f ∙ ap (λ (x : Text). x ++ join ps) h.0)
+item_piece p q None (n, ([], f, h)) = absurd h
+item_piece p q None (n, (a ∷ ps, f, h)) = (join ps, f ∙ ap (λ (x : Text). x ++ join ps) h.0)
+
 pub item_begins : (p q : Text) (v : Option ElementValue) → item.Is p q v → (r : Text) × (p ++ q ≡ 91 ∷ r)
-item_begins p q (Some v) (vs, ([], f, h), g) = absurd h
-item_begins p q (Some v) (vs, (a ∷ ps, f, h), g) =
-    (join ps ++ q, ap (λ (x : Text). x ++ q) (f ∙ ap (λ (x : Text). x ++ join ps) h.0))
-item_begins p q None (n, ([], f, h)) = absurd h
-item_begins p q None (n, (a ∷ ps, f, h)) =
-    (join ps ++ q, ap (λ (x : Text). x ++ q) (f ∙ ap (λ (x : Text). x ++ join ps) h.0))
+item_begins p q v h = let (r, e) = item_piece p q v h in (r ++ q, ap (λ (x : Text). x ++ q) e)
 
-many_begins : (p q : Text) (vs : List (Option ElementValue)) → 0 < length vs → (many item).Is p q vs
-    → (r : Text) × (p ++ q ≡ 91 ∷ r)
-many_begins p q [] l h = absurd (omega arith)
-many_begins p q (v ∷ vs) l (a, b, i, k, more) =
-    let s = item_begins a (b ++ q) v k in (s.0, ap (λ (x : Text). x ++ q) i ∙ append_assoc a b q ∙ s.1)
-
-pub dash_is_no_list : (p q r : Text) → p ≡ dash → p ++ q ≡ 91 ∷ r → ⊥
-dash_is_no_list p q r f e = let t : ◌≡◌ {A = ℕ} 45 91 = heads 45 91 q r (sym (ap (λ (x : Text). x ++ q) f) ∙ e) in
-    omega arith
+-- no text begins with a dash and with pieces that begin with a bracket
+pub dash_apart : (C : Class) → ((p q : Text) (v : C.Value) → C.Is p q v → (r : Text) × (p ++ q ≡ 91 ∷ r))
+    → (p q p' q' : Text) (vs : List C.Value) → p ≡ dash → 0 < length vs → (many C).Is p' q' vs → p ++ q ≡ p' ++ q' → ⊥
+dash_apart C begins p q p' q' [] f l m e = omega arith
+dash_apart C begins p q p' q' (v ∷ vs) f l (a, b, i, k, more) e =
+    let (r, s) = begins a (b ++ q') v k in
+    let t = heads 45 91 q r (sym (ap (λ (x : Text). x ++ q) f) ∙ e ∙ behind p' a b q' i ∙ s) in omega arith
 
 pub forgiving_det : IsDeterministic forgiving
 forgiving_det p q p' q' es es' e (inl (f, g)) (inl (f', g')) = (f ∙ sym f', g ∙ sym g')
-forgiving_det p q p' q' es es' e (inl (f, g)) (inr (vs, l, m, g')) = let s = many_begins p' q' vs l m in
-    absurd (dash_is_no_list p q s.0 f (e ∙ s.1))
-forgiving_det p q p' q' es es' e (inr (vs, l, m, g)) (inl (f, g')) = let s = many_begins p q vs l m in
-    absurd (dash_is_no_list p' q' s.0 f (sym e ∙ s.1))
+forgiving_det p q p' q' es es' e (inl (f, g)) (inr (vs, l, m, g')) =
+    absurd (dash_apart item item_begins p q p' q' vs f l m e)
+forgiving_det p q p' q' es es' e (inr (vs, l, m, g)) (inl (f, g')) =
+    absurd (dash_apart item item_begins p' q' p q vs f l m (sym e))
 forgiving_det p q p' q' es es' e (inr (vs, l, m, g)) (inr (vs', l', m', g')) =
     let s = many_det item item_det p q p' q' vs vs' e m m' in (s.0, g ∙ ap strict s.1 ∙ sym g')
 
--- every item has a character
-item_has_some : (p q : Text) (v : Option ElementValue) → item.Is p q v → 0 < length p
-item_has_some p q (Some v) (vs, ([], f, h), g) = absurd h
-item_has_some p q (Some v) (vs, (a ∷ ps, f, h), g) =
-    omega (arith, ap length f, ap length h.0, length-append a (join ps))
-item_has_some p q None (n, ([], f, h)) = absurd h
-item_has_some p q None (n, (a ∷ ps, f, h)) = omega (arith, ap length f, ap length h.0, length-append a (join ps))
-
+-- what follows an item is shorter than the text
 pub item_shorter : (t u : Text) (v : Option ElementValue) → Front item t u v → length u < length t
-item_shorter t u v f = omega (arith, item_has_some f.piece u v f.is, ap length f.whole, length-append f.piece u)
+item_shorter t u v f =
+    let (r, e) = item_piece f.piece u v f.is in
+    omega (arith, ap length e, ap length f.whole, length-append f.piece u)
+
+pub element_item : (t q : Text) (e : ElementValue) → Front element t q e → Front item t q (Some e)
+element_item t q e f = record { piece = f.piece; whole = f.whole; is = f.is }
 
 pub element_shorter : (t u : Text) (e : ElementValue) → Front element t u e → length u < length t
-element_shorter t u e f = item_shorter t u (Some e) (record { piece = f.piece; whole = f.whole; is = f.is })
+element_shorter t u e f = item_shorter t u (Some e) (element_item t u e f)
+
+-- ---- one item
+pub no_item : (t : Text) → NoFront element t → NoFront bracketed t → NoFront item t
+no_item t n m p q (Some e) w h = n p q e w h
+no_item t n m p q None w h = m p q (tt, (tt, (tt, tt))) w h.1
+
+pub bracketed_item : (t q : Text) → NoFront element t → Front bracketed t q (tt, (tt, (tt, tt))) → Front item t q None
+bracketed_item t q n f =
+    record { piece = f.piece; whole = f.whole; is = (subst (λ (x : Text). NoFront element x) f.whole n, f.is) }
+
+-- ---- the strict elements among items
+strict_append : (vs ws : List (Option ElementValue)) → strict (vs ++ ws) ≡ strict vs ++ strict ws
+strict_append [] ws = refl
+strict_append (None ∷ vs) ws = strict_append vs ws
+strict_append (Some e ∷ vs) ws = ap (λ (x : List ElementValue). e ∷ x) (strict_append vs ws)
+
+-- strict elements, as items
+pub strict_some : (es : List ElementValue) → es ≡ strict (map Some es)
+strict_some [] = refl
+strict_some (e ∷ es) = ap (λ (x : List ElementValue). e ∷ x) (strict_some es)
+
+-- the elements that were collected are the strict ones among the items, one item more
+module _ {X : Type 0} (view : X → ElementValue) (old : List X) (vs : List (Option ElementValue))
+    (e : map view old ≡ strict vs) where
+  pub collected_broken : map view old ≡ strict (vs ++ (None ∷ []))
+  collected_broken = e ∙ sym (strict_append vs (None ∷ []) ∙ append-nil (strict vs))
+
+  pub collected_strict : (new : List X) (x : X) (d : ElementValue) → view x ≡ d → new ≡ old ++ (x ∷ [])
+      → map view new ≡ strict (vs ++ (Some d ∷ []))
+  collected_strict new x d f i = rw (strict_append vs (Some d ∷ []), i, map-append view old (x ∷ []), e, f)
+
+pub none_broken : (es : List ElementValue) → false ≡ list_any is_none (map Some es)
+none_broken [] = refl
+none_broken (e ∷ es) = none_broken es
+
+-- the mark that one is broken, one item more
+pub marked : (b strict : Bool) (vs : List (Option ElementValue)) (v : Option ElementValue) → b ≡ list_any is_none vs
+    → strict ≡ is_some v → (b || not strict) ≡ list_any is_none (vs ++ (v ∷ []))
+marked b strict vs None e f = rw (list_any-append is_none vs (None ∷ []), e, f)
+marked b strict vs (Some d) e f = rw (list_any-append is_none vs (Some d ∷ []), e, f)
+
+-- the front that an item is, strict or broken
+pub either_item : {t q : Text} (b : Bool) → MatchBool b ((e : ElementValue) × Front element t q e) (Front item t q None)
+    → (v : Option ElementValue) × Front item t q v
+either_item true (e, f) = (Some e, element_item _ _ e f)
+either_item false f = (None, f)
+
+-- ---- what needs memory: an element among the items
+pub element_asks : (t s s' : Text) (vs : List (Option ElementValue)) (e : ElementValue) → HasRead item t vs s
+    → Front element s s' e → NeedsNoMemory t → ⊥
+element_asks t s s' vs e h f n = no_many_no item item_shorter (length s') s' (omega arith) (λ r ws g.
+    let all = h r (Some e ∷ ws) (many_cons item s s' r (Some e) ws (element_item s s' e f) g) in
+    let none = n r (strict (vs ++ (Some e ∷ ws))) (record {
+      piece = all.piece;
+      whole = all.whole;
+      is = inr (vs ++ (Some e ∷ ws), omega (arith, length-append vs (Some e ∷ ws)), all.is, refl);
+    }) in
+    omega (arith, ap length (sym (strict_append vs (Some e ∷ ws)) ∙ none), length-append (strict vs) (e ∷ strict ws)))
+
+-- no element is left, where no memory is needed
+pub none_asks : (t s : Text) (vs : List (Option ElementValue)) → HasRead item t vs s → NeedsNoMemory t
+    → NoFront element s
+none_asks t s vs h n p q e w i = element_asks t s q vs e h (record { piece = p; whole = w; is = i }) n
+
+-- ---- the list
+
+pub no_list : (t q : Text) (vs : List (Option ElementValue)) → NoFront (exactly dash) t → Front (many item) t q vs
+    → vs ≡ [] → NoFront forgiving t
+no_list t q vs n f z p r es e (inl (g, h)) = n p r tt e g
+no_list t q vs n f z p r es e (inr (ws, l, m, g)) =
+    let s = front_same (many item) (many_det item item_det) f (record { piece = p; whole = e; is = m }) in
+    let k = ap length (sym z ∙ s.1) in omega arith
+
+-- items of which none is strict and none is broken
+pub no_items : (vs : List (Option ElementValue)) → [] ≡ strict vs → false ≡ list_any is_none vs → vs ≡ []
+no_items [] e f = refl
+no_items (None ∷ vs) e f = cc
+no_items (Some d ∷ vs) e f = cc

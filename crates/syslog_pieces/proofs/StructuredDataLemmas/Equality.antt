@@ -1,16 +1,14 @@
 -- Counting parameters of any type of texts is counting them over texts, and where counting may begin.
-use Rattle.std.proofs.Common.{◌≡◌, ℕ, ◌+◌, Bool, cond, List, [], ◌∷◌, ◌++◌, ◌<◌, ◌≤◌, map}
-use Rattle.std.proofs.Common.{take, drop, length, get_or, refl, sym, ◌∙◌, ap, nat_eq, count_by}
-use Rattle.std.proofs.Common.{false, true, zero, suc, ◌≢◌, ◌-◌, inl, inr, arith, length-drop}
-use Rattle.std.proofs.lemmas.Bool.{and_right, and_left, and_from, cases_Bool}
-use Rattle.std.proofs.lemmas.List.{take_all, take-append-drop, take_more, take-map, drop-map, length-map, map-append}
+use Rattle.syslog_pieces.proofs.Names.{◌≡◌, ℕ, ◌+◌, cond, List, [], ◌∷◌, ◌++◌, ◌<◌, map, take, length, get_or, refl}
+use Rattle.syslog_pieces.proofs.Names.{sym, ◌∙◌, ap, nat_eq, count_by, false, true, ◌≢◌, ◌-◌, inl, inr, arith, take_all}
+use Rattle.syslog_pieces.proofs.Names.{length-map, map-append, list_all, Text, param_value, param_eq}
+use Rattle.std.proofs.Common.{drop, length-drop}
+use Rattle.std.proofs.lemmas.Bool.{cases_Bool}
+use Rattle.std.proofs.lemmas.List.{take-append-drop, take_more, take-map, drop-map}
 use Rattle.std.proofs.lemmas.List.Sums.{sum_by-cons, sum_by-append}
-use Rattle.std.proofs.lemmas.List.Folds.{list_all-map, list_all_more}
+use Rattle.std.proofs.lemmas.List.Folds.{list_all-map}
 use Rattle.std.specs.Bool.{one_answer}
-use Rattle.std.specs.List.{list_all}
-use Rattle.syslog_pieces.specs.Pieces.Class.{Text}
-use Rattle.syslog_pieces.specs.StructuredData.Element.{param_value}
-use Rattle.syslog_pieces.specs.StructuredData.Equal.{param_eq, param_count, counts_agree, same_params}
+use Rattle.syslog_pieces.specs.StructuredData.Equal.{param_count, counts_agree, same_params}
 use Rattle.syslog_pieces.specs.StructuredData.EqualLaws.{Param, param_eq-same, counts_agree-at, counts_agree-from}
 use Rattle.syslog_pieces.specs.StructuredData.EqualLaws.{same_params-counts, same_params-from, same_params-decides}
 use Rattle.syslog_pieces.specs.StructuredData.EqualLaws.{counts_of_permutation, permuted, length_of_counts}
@@ -31,26 +29,6 @@ pub counts_agree-map : {S : Type 0} (text : S → Text) (these ps qs : List (S �
     (count_by (λ q. param_eq (param_value text p) (param_value text q)) qs)) these
 counts_agree-map text these ps qs = simp (list_all-map, param_count-map text)
 
-module _ {X : Type 0} (p : X → Bool) where
-  -- one element that does not pass
-  pub list_all-false : (xs : List X) (i : ℕ) (x : X) → i < length xs → x ≡ get_or xs i x → p x ≡ false
-      → list_all p xs ≡ false
-  list_all-false xs i x h at fails = go xs i x h (rw (← at) fails)
-    where
-      go : (xs : List X) (i : ℕ) (d : X) → i < length xs → p (get_or xs i d) ≡ false → list_all p xs ≡ false
-      go [] i d h e = absurd (omega arith)
-      go (x ∷ xs) zero d h e = and_left _ _ e
-      go (x ∷ xs) (suc i) d h e = and_right _ _ (go xs i d (omega arith) e)
-
-  -- one element more
-  pub list_all-more_true : (xs : List X) (i : ℕ) (x : X) → i < length xs → x ≡ get_or xs i x
-      → list_all p (take i xs) ≡ true → p x ≡ true → list_all p (take (i + 1) xs) ≡ true
-  list_all-more_true xs i x h at before passes = list_all_more p xs i x h ∙ and_from _ _ before (rw (← at) passes)
-
-  -- all of them
-  pub list_all-end : (xs : List X) (i : ℕ) → length xs ≤ i → list_all p (take i xs) ≡ true → list_all p xs ≡ true
-  list_all-end xs i h before = rw (take_all i xs h) at before
-
 -- ---- lists of one length are compared by the counts of the first's parameters
 
 pub counted_once : (ps qs : List Param) → length ps ≡ length qs → counts_agree ps ps qs ≡ same_params ps qs
@@ -61,23 +39,13 @@ counted_once ps qs long =
     )
     (same_params-decides ps qs)
 
--- lists of different lengths are not equal
-pub unlike_lengths : (ps qs : List Param) → length ps ≢ length qs → false ≡ same_params ps qs
-unlike_lengths ps qs differ = elim (cases_Bool (same_params ps qs)) [
-  | inl same ↦ absurd (differ (length_of_counts ps qs (same_params-counts ps qs same)))
-  | inr unlike ↦ sym unlike
-]
-
 -- what stands in front of both lists in one order changes nothing
 pub same_params-behind : (zs ps qs : List Param) → same_params ps qs ≡ same_params (zs ++ ps) (zs ++ qs)
 same_params-behind zs ps qs =
+    let more = λ (ls : List Param) (p : Param). sum_by-append (λ q. cond (param_eq p q) 1 0) zs ls in
     one_answer _ _ (
-      λ e p. let same = same_params-counts ps qs e p in
-          let one = sum_by-append (λ q. cond (param_eq p q) 1 0) zs ps in
-          let other = sum_by-append (λ q. cond (param_eq p q) 1 0) zs qs in omega (arith, same, one, other),
-      λ same. same_params-from ps qs (λ p. let whole = same p in
-          let one = sum_by-append (λ q. cond (param_eq p q) 1 0) zs ps in
-          let other = sum_by-append (λ q. cond (param_eq p q) 1 0) zs qs in omega (arith, whole, one, other)),
+      λ e p. let same = same_params-counts ps qs e p in omega (arith, same, more ps p, more qs p),
+      λ same. same_params-from ps qs (λ p. omega (arith, same p, more ps p, more qs p)),
     )
     (same_params-decides (zs ++ ps) (zs ++ qs))
 
@@ -85,11 +53,9 @@ same_params-behind zs ps qs =
 counted_behind : (ps qs : List Param) (i : ℕ) → length ps ≡ length qs → take i ps ≡ take i qs
     → counts_agree (drop i ps) (drop i ps) (drop i qs) ≡ same_params ps qs
 counted_behind ps qs i long front =
-    let other : take i ps ++ drop i qs ≡ qs = ap (λ (l : List Param). l ++ drop i qs) front ∙ take-append-drop i qs in
     counted_once (drop i ps) (drop i qs) (length-drop i ps ∙ ap (λ (n : ℕ). n - i) long ∙ sym (length-drop i qs))
     ∙ same_params-behind (take i ps) (drop i ps) (drop i qs)
-    ∙ ap (λ (l : List Param). same_params l (take i ps ++ drop i qs)) (take-append-drop i ps)
-    ∙ ap (λ (l : List Param). same_params ps l) other
+    ∙ rw (take-append-drop i ps, front, take-append-drop i qs)
 
 pub counted_from : {S : Type 0} (text : S → Text) (xs ys : List (S × S)) (i : ℕ) → length xs ≡ length ys
     → map (param_value text) (take i xs) ≡ map (param_value text) (take i ys)
@@ -98,24 +64,23 @@ pub counted_from : {S : Type 0} (text : S → Text) (xs ys : List (S × S)) (i :
     ≡ same_params (map (param_value text) xs) (map (param_value text) ys)
 counted_from text xs ys i long front =
     let view = param_value text in
-    let left : map view (drop i xs) ≡ drop i (map view xs) = sym (drop-map view i xs) in
-    let right : map view (drop i ys) ≡ drop i (map view ys) = sym (drop-map view i ys) in
-    let same : counts_agree (map view (drop i xs)) (map view (drop i xs)) (map view (drop i ys))
-    ≡ counts_agree (drop i (map view xs)) (drop i (map view xs)) (drop i (map view ys)) =
-    λ k. counts_agree (left k) (left k) (right k) in
-    same ∙ counted_behind (map view xs) (map view ys) i
-    (length-map xs view ∙ long ∙ sym (length-map ys view))
-    (take-map view i xs ∙ front ∙ sym (take-map view i ys))
+    rw (← drop-map view i xs, ← drop-map view i ys) (counted_behind (map view xs) (map view ys) i
+    (length-map xs view ∙ long ∙ sym (length-map ys view)) (take-map view i xs ∙ front ∙ sym (take-map view i ys)))
 
 -- a slice to its end
 pub slice_to_end : {X : Type 0} (xs : List X) (i : ℕ) → take (length xs - i) (drop i xs) ≡ drop i xs
 slice_to_end xs i = let long = length-drop i xs in take_all (length xs - i) (drop i xs) (omega (arith, long))
 
+-- lists of different lengths are not equal
 pub unlike_lists : {S : Type 0} (text : S → Text) (xs ys : List (S × S)) → length xs ≢ length ys
     → false ≡ same_params (map (param_value text) xs) (map (param_value text) ys)
 unlike_lists text xs ys differ =
     let view = param_value text in
-    unlike_lengths (map view xs) (map view ys) (λ e. differ (sym (length-map xs view) ∙ e ∙ length-map ys view))
+    elim (cases_Bool (same_params (map view xs) (map view ys))) [
+      | inl same ↦ absurd (differ (sym (length-map xs view)
+          ∙ length_of_counts _ _ (same_params-counts (map view xs) (map view ys) same) ∙ length-map ys view))
+      | inr unlike ↦ sym unlike
+    ]
 
 -- one parameter more that is the same in both
 pub front-more : {S : Type 0} (text : S → Text) (xs ys : List (S × S)) (i : ℕ) (x y : S × S) → i < length xs
@@ -123,14 +88,6 @@ pub front-more : {S : Type 0} (text : S → Text) (xs ys : List (S × S)) (i : �
     → map (param_value text) (take i xs) ≡ map (param_value text) (take i ys)
     → param_eq (param_value text x) (param_value text y) ≡ true
     → map (param_value text) (take (i + 1) xs) ≡ map (param_value text) (take (i + 1) ys)
-front-more {S} text xs ys i x y h k at there front same =
-    let view = param_value text in
-    let more : map view (take (i + 1) xs) ≡ map view (take i xs) ++ view x ∷ [] =
-    ap (map view) (take_more xs i x h) ∙ map-append view (take i xs) (get_or xs i x ∷ [])
-    ∙ ap (λ (z : S × S). map view (take i xs) ++ view z ∷ []) (sym at) in
-    let other : map view (take (i + 1) ys) ≡ map view (take i ys) ++ view y ∷ [] =
-    ap (map view) (take_more ys i y k) ∙ map-append view (take i ys) (get_or ys i y ∷ [])
-    ∙ ap (λ (z : S × S). map view (take i ys) ++ view z ∷ []) (sym there) in
-    let equal : view x ≡ view y = param_eq-same (view x) (view y) same in
-    more ∙ ap (λ (l : List Param). l ++ view x ∷ []) front ∙ ap (λ (p : Param). map view (take i ys) ++ p ∷ []) equal
-    ∙ sym other
+front-more text xs ys i x y h k at there front same =
+    let equal = param_eq-same (param_value text x) (param_value text y) same in
+    rw (take_more xs i x h, take_more ys i y k, ← at, ← there) (simp map-append (cc))

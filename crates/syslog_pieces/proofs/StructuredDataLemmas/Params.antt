@@ -1,6 +1,5 @@
 -- What an iterator over parameters gives in all.
-use Rattle.std.proofs.Common.{ℕ, List, [], ◌∷◌}
-use Rattle.std.specs.Borrow.{Bor}
+use Rattle.syslog_pieces.proofs.Names.{ℕ, List, [], ◌∷◌, Bor, item}
 use Rattle.std.specs.Global.{Global}
 use Rattle.std.specs.Iterator.{Drains}
 use Rattle.std.specs.Prelude.{Result, String}

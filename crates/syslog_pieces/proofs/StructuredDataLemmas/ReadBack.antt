@@ -1,21 +1,24 @@
--- Canonical elements are read back from their printed text, and what is read is canonical.
-use Rattle.std.proofs.Common.{◌≡◌, ◌≢◌, ℕ, ◌<◌, inl, inr, List, [], ◌∷◌, ◌++◌, length, map}
-use Rattle.std.proofs.Common.{Option, Some, None, refl, sym, ap, subst, ◌∙◌, append_assoc, arith}
-use Rattle.std.specs.List.{flat_map, AllByRecursion}
-use Rattle.syslog_pieces.specs.Bodies.Verbatim.{bare_param_text}
-use Rattle.syslog_pieces.specs.Pieces.Class.{Text, NoFront, Each, Ends, Values}
-use Rattle.syslog_pieces.specs.Pieces.Lists.{IsMany, IsList, IsMore}
-use Rattle.syslog_pieces.specs.StructuredData.{IsValue, param_row, param, element_row}
-use Rattle.syslog_pieces.specs.StructuredData.{element_of, element, item, strict, forgiving}
-use Rattle.syslog_pieces.specs.StructuredData.Element.{ElementValue, param_text, element_text}
-use Rattle.syslog_pieces.specs.StructuredData.Element.{joined_elements, elements_text}
-use Rattle.syslog_pieces.specs.StructuredData.Canonical.{IsCanonicalParam, BeginsUnblank, IsCanonicalElement}
-use Rattle.syslog_pieces.specs.Text.{is_blank}
-use Rattle.syslog_pieces.specs.Text.CharClass.{is_id_char, is_name_char}
-use Rattle.syslog_pieces.proofs.PieceLemmas.Class.{heads}
-use Rattle.syslog_pieces.proofs.PieceLemmas.Rows.{row_pieces}
-use Rattle.syslog_pieces.proofs.StructuredDataLemmas.Elements.{item_begins}
-use Rattle.syslog_pieces.proofs.StructuredDataLemmas.Verbatim.{strict_some}
+-- Elements and their print: canonical elements are read back from it, what is read is canonical, and which elements and
+-- lists print as they are written.
+use Rattle.syslog_pieces.proofs.Names.{◌≡◌, ◌≢◌, ℕ, ◌<◌, inl, inr, List, [], ◌∷◌, ◌++◌, length, map, Option, Some, None}
+use Rattle.syslog_pieces.proofs.Names.{refl, sym, ap, subst, ◌∙◌, append_assoc, arith, flat_map, AllByRecursion}
+use Rattle.syslog_pieces.proofs.Names.{bare_param_text, Text, NoFront, Ends, Values, IsMany, IsList, IsMore, param_row}
+use Rattle.syslog_pieces.proofs.Names.{param, element_row, element_of, element, item, strict, forgiving, ElementValue}
+use Rattle.syslog_pieces.proofs.Names.{param_text, element_text, joined_elements, elements_text, IsCanonicalParam}
+use Rattle.syslog_pieces.proofs.Names.{IsCanonicalElement, is_blank, is_id_char, is_name_char, heads, ◌also◌}
+use Rattle.syslog_pieces.proofs.Names.{row_pieces, false, is_some, quoted, inside_row, opening_row, start_row}
+use Rattle.syslog_pieces.proofs.Names.{quoted_row, VerbatimItems, Front, exactly, run, some_run, more_before, shown}
+use Rattle.syslog_pieces.proofs.Names.{bracketed, many_here, many_cons, begins, list_here, more_here, row_of, ◌then◌}
+use Rattle.syslog_pieces.specs.StructuredData.Canonical.{BeginsUnblank}
+use Rattle.syslog_pieces.proofs.StructuredDataLemmas.Elements.{item_begins, strict_some, bracketed_item}
+use Rattle.syslog_pieces.specs.Bodies.Verbatim.{CopiedOn, ListPrints}
+use Rattle.syslog_pieces.specs.Pieces.Class.{texted}
+use Rattle.syslog_pieces.specs.Pieces.Verbatim.{Verbatim}
+use Rattle.syslog_pieces.specs.declared.text.verbatim.Cut.{Cut}
+use Rattle.syslog_pieces.proofs.PieceLemmas.Verbatim.{verbatim_by_text, front_of}
+use Rattle.syslog_pieces.proofs.PieceLemmas.Lists.{list_cons, more_cons}
+use Rattle.syslog_pieces.proofs.StructuredDataLemmas.Closing.{param_read, element_read}
+use Rattle.syslog_pieces.proofs.TextLemmas.Copied.{verbatim_on, extended, left_out}
 
 -- ---- parameters
 
@@ -29,7 +32,7 @@ param_back name v q (long, each, units) = (
   (
     name ∷ (61 ∷ []) ∷ [] ∷ (34 ∷ []) ∷ v ∷ (34 ∷ []) ∷ [],
     refl,
-    ((tt, (long, each, refl), refl), (refl, ((tt, refl), (refl, ((units, (_, refl), refl), (refl, tt)))))),
+    (tt, (long, each, refl), refl) also refl also (tt, refl) also refl also (units, (_, refl), refl) also refl also tt,
   ),
   refl,
 )
@@ -52,11 +55,7 @@ param_canonical p q v (vs, row, e) =
     let g = row_pieces param_row (record { piece = p; whole = refl; is = row }) in
     let (_, name, name_is) = g.1.is in
     let (units, _, value_is) = g.2.2.2.2.1.is in
-    subst (λ (x : Text × Text). IsCanonicalParam x) (sym e) (
-      subst (λ (x : Text). 0 < length x) (sym name_is) name.0,
-      subst (λ (x : Text). Each is_name_char x) (sym name_is) name.1,
-      subst (λ (x : Text). IsValue x) (sym value_is) units,
-    )
+    rw e (rw name_is name.0, rw name_is name.1, rw value_is units)
 
 more_canonical : (p q : Text) (vs : List (Text × Text)) → IsMore param 32 p q vs → AllByRecursion IsCanonicalParam vs
 more_canonical p q [] h = tt
@@ -80,38 +79,21 @@ element_of_parts id [] q (long, each, canonical, first) = (
   (
     (91 ∷ []) ∷ id ∷ [] ∷ [] ∷ (93 ∷ []) ∷ [],
     refl,
-    (refl, ((tt, (long, each, refl), refl), ((tt, refl), ((refl, (_, refl)), (refl, tt))))),
+    refl also (tt, (long, each, refl), refl) also (tt, refl) also (refl, (_, refl)) also refl also tt,
   ),
   refl,
 )
 element_of_parts id ((name, v) ∷ ps) q (long, each, (canonical, canonicals), first) =
-    let more : Text = flat_map param_text ps in (
+    let more : Text = flat_map param_text ps in
+    let gap = begins_more name (61 ∷ 34 ∷ (v ++ (34 ∷ []))) more (93 ∷ []) q canonical.0 first in
+    let param = param_back name v (more ++ (93 ∷ q)) canonical in (
       element_values id ((name, v) ∷ ps),
       (
         (91 ∷ []) ∷ id ∷ (32 ∷ []) ∷ (bare_param_text (name, v) ++ more) ∷ (93 ∷ []) ∷ [],
         refl,
-        (
-          refl,
-          (
-            (tt, (long, each, refl), refl),
-            (
-              ((refl, tt), begins_more name (61 ∷ 34 ∷ (v ++ (34 ∷ []))) more (93 ∷ []) q canonical.0 first),
-              (
-                (
-                  (
-                    bare_param_text (name, v),
-                    more,
-                    refl,
-                    param_back name v (more ++ (93 ∷ q)) canonical,
-                    more_back ps (93 ∷ q) canonicals,
-                  ),
-                  (q, refl),
-                ),
-                (refl, tt),
-              ),
-            ),
-          ),
-        ),
+        refl also (tt, (long, each, refl), refl) also ((refl, tt), gap)
+            also ((bare_param_text (name, v), more, refl, param, more_back ps (93 ∷ q) canonicals), (q, refl))
+            also refl also tt,
       ),
       refl,
     )
@@ -133,7 +115,7 @@ first_canonical p q (v ∷ vs) (a, b, w, (ws, row, same), more) e =
     let whole : p ++ q ≡ g.1.piece ++ g.0 = ap (λ (x : Text). x ++ q) w ∙ append_assoc a b q ∙ g.1.whole in
     let ends : Ends is_blank g.1.piece =
     front_ends g.1.piece g.0 name.0 (subst (λ (x : Text). Ends is_blank x) whole e) in
-    subst (λ (x : Text × Text). Ends is_blank x.0) (sym same) (subst (λ (x : Text). Ends is_blank x) (sym name_is) ends)
+    rw (same, name_is) ends
   where
     front_ends : (x y : Text) → 0 < length x → Ends is_blank (x ++ y) → Ends is_blank x
     front_ends [] y l h = tt
@@ -146,9 +128,9 @@ element_canonical p q e (vs, row, same) =
     (record { piece = p; whole = refl; is = row }) in
     let (_, id, id_is) = named.is in
     let params = list.is.0 in
-    subst (λ (x : ElementValue). IsCanonicalElement x) (sym same) (
-      subst (λ (x : Text). 0 < length x) (sym id_is) id.0,
-      subst (λ (x : Text). Each is_id_char x) (sym id_is) id.1,
+    rw (same, id_is) (
+      id.0,
+      id.1,
       list_canonical list.piece after (element_of vs).params params,
       first_canonical list.piece after (element_of vs).params params
           (subst (λ (x : Text). Ends is_blank x) list.whole gap.is.1),
@@ -189,7 +171,142 @@ items_canonical p q (Some v ∷ vs) (a, b, e, h, more) = (element_canonical a (b
 -- what is read as a list is canonical
 pub forgiving_canonical : (p q : Text) (es : List ElementValue) → forgiving.Is p q es
     → AllByRecursion IsCanonicalElement es
-forgiving_canonical p q es (inl (d, e)) =
-    subst (λ (x : List ElementValue). AllByRecursion IsCanonicalElement x) (sym e) tt
-forgiving_canonical p q es (inr (vs, l, m, e)) =
-    subst (λ (x : List ElementValue). AllByRecursion IsCanonicalElement x) (sym e) (items_canonical p q vs m)
+forgiving_canonical p q es (inl (d, e)) = rw e tt
+forgiving_canonical p q es (inr (vs, l, m, e)) = rw e (items_canonical p q vs m)
+
+-- a value and its quote
+quoted_text : {t u v : Text} → Front quoted t u (v, (tt, tt)) → t ≡ v ++ (34 ∷ u)
+quoted_text f =
+    let (r, g, (s, quote, end)) = row_pieces quoted_row f in cc (g.whole, g.is.2, begins 34 r s quote, end)
+
+-- no blank stands before another character
+no_blanks : {t q : Text} (c : ℕ) → is_blank c ≡ false → t ≡ c ∷ q → Front (run is_blank) t t tt
+no_blanks c h e = record { piece = []; whole = refl; is = (tt, subst (λ (x : Text). Ends is_blank x) (sym e) h) }
+
+-- a parameter with no blank behind its equals sign
+pub param_verbatim : {t a b c u name v : Text} → Front (texted (some_run is_name_char)) t a name
+    → Front (exactly (61 ∷ [])) a b tt → Front (exactly (34 ∷ [])) b c tt → Front quoted c u (v, (tt, tt))
+    → Verbatim param bare_param_text t u
+param_verbatim {t = t} {a = a} {b = b} {c = c} {u = u} {name = name} {v = v} f g h q =
+    let quote : b ≡ 34 ∷ c = begins 34 b c h in
+    let whole : t ≡ name ++ (61 ∷ 34 ∷ (v ++ (34 ∷ u))) =
+    cc (f.whole, f.is.2, begins 61 a b g, quote, quoted_text q) in
+    let prints : bare_param_text (name, v) ++ u ≡ name ++ (61 ∷ 34 ∷ (v ++ (34 ∷ u))) = simp append_assoc in
+    verbatim_by_text param bare_param_text t u (name, v)
+    (param_read (row_of opening_row (f then g then no_blanks 34 refl quote then h then refl)) q) (whole ∙ sym prints)
+
+-- ---- elements
+
+-- an element of the front that has been read prints as it is written, where its further parameters do
+abbrev pub VerbatimSoFar : Text → Text → Type 0
+VerbatimSoFar t s = (q : Text) (ps : List (Text × Text)) → Front (more_before param 32 93) s (93 ∷ q) ps
+    → s ≡ flat_map param_text ps ++ (93 ∷ q) → Verbatim element element_text t q
+
+start_text : {t r i id : Text} → Front (exactly (91 ∷ [])) t r tt → Front (texted (some_run is_id_char)) r i id
+    → t ≡ 91 ∷ (id ++ i)
+start_text {t = t} {r = r} f g = cc (begins 91 t r f, g.whole, g.is.2)
+
+-- an element without parameters
+pub bare_verbatim : {t r i q id : Text} → Front (exactly (91 ∷ [])) t r tt → Front (texted (some_run is_id_char)) r i id
+    → Front (exactly (93 ∷ [])) i q tt → Verbatim element element_text t q
+bare_verbatim {t = t} {i = i} {q = q} {id = id} f g h =
+    let close : i ≡ 93 ∷ q = begins 93 i q h in
+    verbatim_by_text element element_text t q (record { id = id; params = [] })
+    (element_read (row_of start_row (f then g then no_blanks 93 refl close then refl))
+    (row_of inside_row (list_here param 32 93 i q close then h then refl)))
+    (start_text f g ∙ ap (λ (x : Text). 91 ∷ x) (ap (λ (x : Text). id ++ x) close ∙ sym (append_assoc id (93 ∷ []) q)))
+
+-- the first parameter has been read
+pub verbatim_first : {t r i u s id : Text} → Front (exactly (91 ∷ [])) t r tt
+    → Front (texted (some_run is_id_char)) r i id → Verbatim (some_run is_blank) (λ _. 32 ∷ []) i u
+    → Verbatim param bare_param_text u s → VerbatimSoFar t s
+verbatim_first {t = t} {i = i} {u = u} {s = s} {id = id} f g b k q ps more e =
+    let v = k.value in
+    let gap : Front (run is_blank) i u tt = record { piece = 32 ∷ []; whole = b.whole; is = (b.is.1, b.is.2) } in
+    let list = list_cons param 32 93 u s (93 ∷ q) v ps (front_of param bare_param_text u s k) more in
+    let close : Front (exactly (93 ∷ [])) (93 ∷ q) q tt = record { piece = 93 ∷ []; whole = refl; is = refl } in
+    let w : i ≡ param_text v ++ (flat_map param_text ps ++ (93 ∷ q)) = cc (b.whole, k.whole, e) in
+    let z : (id ++ (flat_map param_text (v ∷ ps) ++ (93 ∷ []))) ++ q ≡ id
+    ++ (param_text v ++ (flat_map param_text ps ++ (93 ∷ q))) =
+    simp append_assoc in
+    verbatim_by_text element element_text t q (record { id = id; params = v ∷ ps })
+    (element_read (row_of start_row (f then g then gap then refl)) (row_of inside_row (list then close then refl)))
+    (start_text f g ∙ ap (λ (x : Text). 91 ∷ x) (ap (λ (x : Text). id ++ x) w ∙ sym z))
+
+-- a further one
+pub verbatim_more : {t s u s' : Text} → VerbatimSoFar t s → Front (exactly (32 ∷ [])) s u tt
+    → Verbatim param bare_param_text u s' → VerbatimSoFar t s'
+verbatim_more {s = s} {u = u} {s' = s'} on f k q ps more e =
+    let v = k.value in
+    on q (v ∷ ps) (more_cons param 32 93 s u s' (93 ∷ q) v ps (begins 32 s u f)
+    (front_of param bare_param_text u s' k) more)
+    (begins 32 s u f ∙ ap (λ (x : Text). 32 ∷ x) (k.whole ∙ ap (λ (x : Text). bare_param_text v ++ x) e)
+    ∙ sym (append_assoc (param_text v) (flat_map param_text ps) (93 ∷ q)))
+
+-- the bracket that closes the element
+pub verbatim_end : (t s q : Text) → VerbatimSoFar t s → Front (exactly (93 ∷ [])) s q tt
+    → Verbatim element element_text t q
+verbatim_end t s q on f =
+    let e : s ≡ 93 ∷ q = begins 93 s q f in on q [] (rw e (more_here param 32 93 (93 ∷ q) q refl)) e
+
+-- ---- lists
+
+item_of : {t s : Text} (k : Verbatim element element_text t s) → Front item t s (Some k.value)
+item_of k = record { piece = element_text k.value; whole = k.whole; is = k.is }
+
+joined : {t s : Text} (q : Text) (k : Verbatim element element_text t s) (es : List ElementValue)
+    → s ≡ joined_elements es ++ q → t ≡ joined_elements (k.value ∷ es) ++ q
+joined q k es g = k.whole ∙ ap (λ (x : Text). element_text k.value ++ x) g
+    ∙ sym (append_assoc (element_text k.value) (joined_elements es) q)
+
+pub list_first : {t s : Text} → Verbatim element element_text t s → VerbatimItems t s
+list_first {t = t} {s = s} k q gap items f e =
+    let m = many_cons item t s q (Some k.value) items (item_of k) f in
+    record {
+      elements = k.value ∷ strict items;
+      is = record { piece = m.piece; whole = m.whole; is = inr (Some k.value ∷ items, omega arith, m.is, refl) };
+      prints = joined gap k (strict items) e;
+    }
+
+pub list_more : {t s s' : Text} → VerbatimItems t s → Verbatim element element_text s s' → VerbatimItems t s'
+list_more {s = s} {s' = s'} on k q gap items f e =
+    on q gap (Some k.value ∷ items) (many_cons item s s' q (Some k.value) items (item_of k) f)
+    (joined gap k (strict items) e)
+
+-- where no bracket stands, no item does
+no_bracket : (s : Text) → NoFront (exactly (91 ∷ [])) s → NoFront item s
+no_bracket s n p q v e h = let b = item_begins p q v h in n (91 ∷ []) b.0 tt (e ∙ b.1) refl
+
+pub list_end : (t s : Text) → VerbatimItems t s → NoFront (exactly (91 ∷ [])) s → ListPrints t s s
+list_end t s on n = on s s [] (many_here item s (no_bracket s n)) refl
+
+-- a broken element behind them, and no further one
+pub broken_end : (t s q : Text) → VerbatimItems t s → NoFront element s → Front bracketed s q (tt, (tt, (tt, tt)))
+    → NoFront (exactly (91 ∷ [])) q → ListPrints t s q
+broken_end t s q on n b m =
+    on q s (None ∷ []) (many_cons item s q q None [] (bracketed_item s q n b) (many_here item q (no_bracket q m))) refl
+
+-- ---- lists that are copied
+
+pub dash_on : (t s : Text) (cut : Option Cut) → Front (exactly (45 ∷ [])) t s tt
+    → CopiedOn forgiving elements_text t cut s cut
+dash_on t s cut f =
+    verbatim_on forgiving elements_text t s cut (record { value = []; whole = begins 45 t s f; is = inl (refl, refl) })
+
+pub list_on : (t s : Text) (cut : Option Cut) → ListPrints t s s → CopiedOn forgiving elements_text t cut s cut
+list_on t s cut l =
+    record {
+      value = l.elements;
+      is = l.is;
+      copies = λ w p c. extended w t s (elements_text l.elements) p cut l.prints c;
+    }
+
+pub list_cut : (t q : Text) (cut : Option Cut) (c : Cut) → is_some cut ≡ false → ListPrints t (shown c.gap) q
+    → shown c.next ≡ q → CopiedOn forgiving elements_text t cut q (Some c)
+list_cut t q None c n l e =
+    record {
+      value = l.elements;
+      is = l.is;
+      copies = λ w p d. left_out w t q (elements_text l.elements) p c l.prints e d;
+    }
+list_cut t q (Some d) c n l e = absurd (cc)

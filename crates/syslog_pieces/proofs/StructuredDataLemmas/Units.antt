@@ -1,65 +1,63 @@
 -- Texts split into units in one way, and the removal of escapes.
-use Rattle.std.proofs.Common.{◌≡◌, ◌≢◌, ℕ, Bool, true, false, not, nat_eq, cond, ◌⊎◌, inl, inr, List, []}
-use Rattle.std.proofs.Common.{◌∷◌, ◌++◌, length, refl, sym, ap, subst, ◌∙◌, append_assoc, append-nil, arith}
+use Rattle.syslog_pieces.proofs.Names.{◌≡◌, ◌≢◌, ℕ, Bool, true, false, cond, ◌⊎◌, inl, inr, List, [], ◌∷◌, ◌++◌, refl}
+use Rattle.syslog_pieces.proofs.Names.{sym, ap, subst, ◌∙◌, append_assoc, append-nil, arith, eqb_tells, nat_tests}
+use Rattle.syslog_pieces.proofs.Names.{flat_map, AllByRecursion, chars, ◌↔◌, Text, Each, Ends, TextUnit, pair, single}
+use Rattle.syslog_pieces.proofs.Names.{unit_text, escaped, SplitsRun, IsValueUnit, IsValue, all_append, Err}
+use Rattle.syslog_pieces.proofs.Names.{chars-append, Result, Ok, IsUtf8, IfOk, is_ok}
 use Rattle.std.proofs.lemmas.Grind.{flat_map-append}
-use Rattle.std.proofs.lemmas.Bool.Decides.{eqb_tells}
-use Rattle.std.specs.List.{flat_map, AllByRecursion}
-use Rattle.std.specs.Str.{chars}
-use Rattle.std.specs.Prelude.{◌↔◌}
 use Rattle.syslog_pieces.specs.Text.CharClass.{is_bare_char}
-use Rattle.syslog_pieces.specs.Pieces.Class.{Text, Each, Ends}
-use Rattle.syslog_pieces.specs.StructuredData.Escapes.{TextUnit, pair, single, unit_text, IsUnit, IsUnquoted}
-use Rattle.syslog_pieces.specs.StructuredData.Escapes.{lone_backslash, SplitsUnits, is_escaped, pair_meaning}
-use Rattle.syslog_pieces.specs.StructuredData.Escapes.{unit_meaning, IsUnescaped, escaped_char, escaped}
-use Rattle.syslog_pieces.specs.Bodies.Scan.{SplitsRun}
-use Rattle.syslog_pieces.specs.StructuredData.{IsValueUnit, IsValue}
-use Rattle.syslog_pieces.proofs.PieceLemmas.Class.{heads}
-use Rattle.syslog_pieces.proofs.PieceLemmas.Each.{all_append}
+use Rattle.syslog_pieces.specs.StructuredData.Escapes.{IsUnit, IsUnquoted, lone_backslash, SplitsUnits, is_escaped}
+use Rattle.syslog_pieces.specs.StructuredData.Escapes.{pair_meaning, unit_meaning, IsUnescaped, escaped_char}
 
 -- ---- a text has one split
+
+-- a text begins with one unit at most, where no backslash is a single character
+module _ (P : TextUnit → Type 0) (bare : (c : ℕ) → P (single c) → c ≢ 92) where
+  pub unit_same : (u v : TextUnit) (s t : Text) → P u → P v → unit_text u ++ s ≡ unit_text v ++ t → (u ≡ v) × (s ≡ t)
+  unit_same (pair c) (pair d) s t h k e = (let i : c ≡ d = cc in cc, cc)
+  unit_same (pair c) (single d) s t h k e = absurd (bare d k (cc))
+  unit_same (single c) (pair d) s t h k e = absurd (bare c h (cc))
+  unit_same (single c) (single d) s t h k e = (let i : c ≡ d = cc in cc, cc)
+
+  -- and with one list of units, where what follows it begins with none
+  module _ (E : Text → Type 0) (ends : (u : TextUnit) (t : Text) → P u → E (unit_text u ++ t) → ⊥) where
+    pub units_same : (us vs : List TextUnit) (s t : Text) → AllByRecursion P us → AllByRecursion P vs → E s → E t
+        → flat_map unit_text us ++ s ≡ flat_map unit_text vs ++ t → (us ≡ vs) × (s ≡ t)
+    units_same [] [] s t h k x y e = (refl, e)
+    units_same [] (v ∷ vs) s t h k x y e = absurd (ends v _ k.0 (subst E (e ∙ append_assoc (unit_text v) _ t) x))
+    units_same (u ∷ us) [] s t h k x y e = absurd (ends u _ h.0 (subst E (sym e ∙ append_assoc (unit_text u) _ s) y))
+    units_same (u ∷ us) (v ∷ vs) s t h k x y e =
+        let i = unit_same u v (flat_map unit_text us ++ s) (flat_map unit_text vs ++ t) h.0 k.0
+        (sym (append_assoc (unit_text u) _ s) ∙ e ∙ append_assoc (unit_text v) _ t) in
+        let j = units_same us vs s t h.1 k.1 x y i.1 in
+        (let a = i.0 in let b = j.0 in cc, j.1)
+
 lone_same : (k l : Bool) → lone_backslash k ≡ lone_backslash l → k ≡ l
 lone_same true true e = refl
 lone_same false false e = refl
-lone_same true false e = absurd (let t = ap length e in omega arith)
-lone_same false true e = absurd (let t = ap length e in omega arith)
+lone_same true false e = cc
+lone_same false true e = cc
 
-lone_no_pair : (k : Bool) (c : ℕ) (t : Text) → lone_backslash k ≡ 92 ∷ c ∷ t → ⊥
-lone_no_pair true c t e = let n = ap length e in omega arith
-lone_no_pair false c t e = let n = ap length e in omega arith
+abbrev IsLone : Text → Type 0
+IsLone t = (k : Bool) × (t ≡ lone_backslash k)
 
-lone_no_single : (k : Bool) (c : ℕ) (t : Text) → c ≢ 92 → lone_backslash k ≡ c ∷ t → ⊥
-lone_no_single true c t n e = n (sym (heads 92 c [] t e))
-lone_no_single false c t n e = let m = ap length e in omega arith
-
-units_same : (us : List TextUnit) (k : Bool) (vs : List TextUnit) (l : Bool) → AllByRecursion IsUnit us
-    → AllByRecursion IsUnit vs → flat_map unit_text us ++ lone_backslash k ≡ flat_map unit_text vs ++ lone_backslash l
-    → (us ≡ vs) × (k ≡ l)
-units_same [] k [] l h h' e = (refl, lone_same k l e)
-units_same [] k (pair c ∷ vs) l h h' e = absurd (lone_no_pair k c _ e)
-units_same [] k (single c ∷ vs) l h h' e = absurd (lone_no_single k c _ h'.0 e)
-units_same (pair c ∷ us) k [] l h h' e = absurd (lone_no_pair l c _ (sym e))
-units_same (single c ∷ us) k [] l h h' e = absurd (lone_no_single l c _ h.0 (sym e))
-units_same (pair c ∷ us) k (pair d ∷ vs) l h h' e =
-    let t = units_same us k vs l h.1 h'.1
-    (let u : flat_map unit_text us ++ lone_backslash k ≡ flat_map unit_text vs ++ lone_backslash l = cc in u) in
-    let a = t.0 in
-    let u : c ≡ d = cc in (cc, t.1)
-units_same (pair c ∷ us) k (single d ∷ vs) l h h' e = absurd (h'.0 (let t : d ≡ 92 = cc in t))
-units_same (single c ∷ us) k (pair d ∷ vs) l h h' e = absurd (h.0 (let t : c ≡ 92 = cc in t))
-units_same (single c ∷ us) k (single d ∷ vs) l h h' e =
-    let t = units_same us k vs l h.1 h'.1
-    (let u : flat_map unit_text us ++ lone_backslash k ≡ flat_map unit_text vs ++ lone_backslash l = cc in u) in
-    let a = t.0 in
-    let u : c ≡ d = cc in (cc, t.1)
+no_lone_unit : (u : TextUnit) (t : Text) → IsUnit u → IsLone (unit_text u ++ t) → ⊥
+no_lone_unit (pair c) t h (true, e) = cc
+no_lone_unit (pair c) t h (false, e) = cc
+no_lone_unit (single c) t h (true, e) = h (cc)
+no_lone_unit (single c) t h (false, e) = cc
 
 pub split_one : (text : Text) (us vs : List TextUnit) (k l : Bool) → SplitsUnits text us k → SplitsUnits text vs l
     → (us ≡ vs) × (k ≡ l)
-split_one text us vs k l s t = units_same us k vs l s.each t.each (sym s.whole ∙ t.whole)
+split_one text us vs k l s t =
+    let (units, rest) = units_same IsUnit (λ c h. h) IsLone no_lone_unit us vs _ _ s.each t.each (k, refl) (l, refl)
+    (sym s.whole ∙ t.whole) in
+    (units, lone_same k l rest)
 
-split_cons : (u : TextUnit) (text : Text) (us : List TextUnit) (k : Bool) → IsUnit u → SplitsUnits text us k
-    → SplitsUnits (unit_text u ++ text) (u ∷ us) k
-split_cons u text us k h s = record {
-  whole = ap (λ (x : Text). unit_text u ++ x) s.whole
+split_cons : (u : TextUnit) (text whole : Text) (us : List TextUnit) (k : Bool) → IsUnit u → whole ≡ unit_text u ++ text
+    → SplitsUnits text us k → SplitsUnits whole (u ∷ us) k
+split_cons u text whole us k h e s = record {
+  whole = e ∙ ap (λ (x : Text). unit_text u ++ x) s.whole
       ∙ sym (append_assoc (unit_text u) (flat_map unit_text us) (lone_backslash k));
   each = (h, s.each);
 }
@@ -68,8 +66,7 @@ abbrev HasSplit : Text → Type 0
 HasSplit text = (us : List TextUnit) × (lone : Bool) × SplitsUnits text us lone
 
 split_on : (u : TextUnit) (text whole : Text) → IsUnit u → whole ≡ unit_text u ++ text → HasSplit text → HasSplit whole
-split_on u text whole h e (us, k, s) =
-    (u ∷ us, k, subst (λ (x : Text). SplitsUnits x (u ∷ us) k) (sym e) (split_cons u text us k h s))
+split_on u text whole h e (us, k, s) = (u ∷ us, k, split_cons u text whole us k h e s)
 
 pub split_there : (text : Text) → HasSplit text
 split_there [] = ([], false, record { whole = refl; each = tt })
@@ -87,33 +84,25 @@ pub decide : (b : Bool) → (b ≡ true) ⊎ (b ≡ false)
 decide true = inl refl
 decide false = inr refl
 
-not_n : (c : ℕ) → is_escaped c ≡ true → nat_eq c 110 ≡ false
-not_n c e = elim (eqb_tells c 110) [
-  | inl r ↦ absurd (let t : is_escaped 110 ≡ true = ap is_escaped (sym r.1) ∙ e in let u : false ≡ true = t in cc)
-  | inr r ↦ r.0
-]
-
 not_backslash : (c : ℕ) → is_escaped c ≡ false → c ≢ 92
-not_backslash c e f = let t : is_escaped 92 ≡ false = ap is_escaped (sym f) ∙ e in let u : true ≡ false = t in cc
+not_backslash c e = grind (arith, nat_tests)
 
-pub pair_char : (c : ℕ) → nat_eq c 110 ≡ false → is_escaped c ≡ true → pair_meaning c ≡ c ∷ []
-pair_char c e f = ap (λ (b : Bool). cond b (10 ∷ []) (cond (is_escaped c) (c ∷ []) (92 ∷ c ∷ []))) e
-    ∙ ap (λ (b : Bool). cond b (c ∷ []) (92 ∷ c ∷ [])) f
+escaped_pair : (c : ℕ) → is_escaped c ≡ true → pair_meaning c ≡ c ∷ []
+escaped_pair c e = grind (arith, nat_tests)
 
 escaped_on : (u : TextUnit) (c : ℕ) (t : Text) → IsUnit u → escaped_char c ≡ unit_text u → unit_meaning u ≡ c ∷ []
     → IsUnescaped (escaped t) t → IsUnescaped (escaped (c ∷ t)) (c ∷ t)
 escaped_on u c t h e f i = record {
   units = u ∷ i.units;
   lone = i.lone;
-  split = subst (λ (x : Text). SplitsUnits x (u ∷ i.units) i.lone) (ap (λ (x : Text). x ++ escaped t) (sym e))
-      (split_cons u (escaped t) i.units i.lone h i.split);
+  split = split_cons u (escaped t) _ i.units i.lone h (ap (λ (x : Text). x ++ escaped t) e) i.split;
   means = ap (λ (x : Text). c ∷ x) i.means ∙ ap (λ (x : Text). x ++ flat_map unit_meaning i.units) (sym f);
 }
 
 pub escaped_there : (t : Text) → IsUnescaped (escaped t) t
 escaped_there [] = record { units = []; lone = false; split = record { whole = refl; each = tt }; means = refl }
 escaped_there (c ∷ t) = elim (decide (is_escaped c)) [
-  | inl e ↦ escaped_on (pair c) c t tt (ap (λ (b : Bool). cond b (92 ∷ c ∷ []) (c ∷ [])) e) (pair_char c (not_n c e) e)
+  | inl e ↦ escaped_on (pair c) c t tt (ap (λ (b : Bool). cond b (92 ∷ c ∷ []) (c ∷ [])) e) (escaped_pair c e)
       (escaped_there t)
   | inr e ↦ escaped_on (single c) c t (not_backslash c e) (ap (λ (b : Bool). cond b (92 ∷ c ∷ []) (c ∷ [])) e) refl
       (escaped_there t)
@@ -122,6 +111,12 @@ escaped_there (c ∷ t) = elim (decide (is_escaped c)) [
 pub unescaped_one : (t v w : Text) → IsUnescaped t v → IsUnescaped t w → v ≡ w
 unescaped_one t v w i j =
     i.means ∙ ap (flat_map unit_meaning) (split_one t i.units j.units i.lone j.lone i.split j.split).0 ∙ sym j.means
+
+-- ---- a text that grows by bytes, where there is memory
+pub pushed : {T E : Type 0} (r : Result T E) (bytes old now : List ℕ) → IsUtf8 old
+    → now ≡ cond (is_ok r) (old ++ bytes) old → IfOk r (λ x. chars now ≡ chars old ++ chars bytes)
+pushed (Ok x) bytes old now u e = ap chars e ∙ chars-append old bytes u
+pushed (Err x) bytes old now u e = tt
 
 -- ---- values
 each_piece : (us : List TextUnit) → AllByRecursion IsValueUnit us → AllByRecursion IsUnit us
@@ -171,39 +166,36 @@ abbrev singles : Text → List TextUnit
 singles [] = []
 singles (c ∷ w) = single c ∷ singles w
 
-singles_text : (w : Text) → flat_map unit_text (singles w) ≡ w
-singles_text [] = refl
-singles_text (c ∷ w) = ap (λ (x : Text). c ∷ x) (singles_text w)
-
-singles_mean : (w : Text) → flat_map unit_meaning (singles w) ≡ w
-singles_mean [] = refl
-singles_mean (c ∷ w) = ap (λ (x : Text). c ∷ x) (singles_mean w)
+-- a character alone is its text, and stands for itself
+each_single : (f : TextUnit → Text) → ((c : ℕ) → f (single c) ≡ c ∷ []) → (w : Text) → w ≡ flat_map f (singles w)
+each_single f h [] = refl
+each_single f h (c ∷ w) = let e = each_single f h w in let g = h c in rw g (cc)
 
 bare_is : (c : ℕ) → is_bare_char c ≡ true → c ≢ 92
-bare_is c e f = let t : is_bare_char 92 ≡ true = ap is_bare_char (sym f) ∙ e in let u : false ≡ true = t in cc
+bare_is c e = grind (arith, nat_tests)
+
+bare_not : (c : ℕ) → is_bare_char c ≡ false → c ≡ 92
+bare_not c e = grind (arith, nat_tests)
 
 singles_each : (w : Text) → Each is_bare_char w → AllByRecursion IsUnit (singles w)
 singles_each [] h = tt
 singles_each (c ∷ w) h = (bare_is c h.0, singles_each w h.1)
 
-bare_not : (c : ℕ) → is_bare_char c ≡ false → c ≡ 92
-bare_not c e =
-    elim (eqb_tells c 92) [ inl r ↦ r.1 | inr r ↦ absurd (let t : true ≡ false = ap not (sym r.0) ∙ e in cc) ]
-
 module _ (t bs xs ys out out' : Text) (s : SplitsRun is_bare_char bs xs ys) (r : Removes t out (chars bs))
     (f : out' ≡ out ++ chars xs) where
   pub removes_run : Removes t out' (chars ys)
   removes_run = removes_on t out (chars bs) (chars ys) out' (chars xs) (singles (chars xs)) r
-      (s.characters ∙ ap (λ (x : Text). x ++ chars ys) (sym (singles_text (chars xs))))
-      (singles_each (chars xs) s.each) f (sym (singles_mean (chars xs)))
+      (s.characters ∙ ap (λ (x : Text). x ++ chars ys) (each_single unit_text (λ c. refl) (chars xs)))
+      (singles_each (chars xs) s.each) f (each_single unit_meaning (λ c. refl) (chars xs))
 
-  backslash : (c : ℕ) (q : Text) → chars ys ≡ c ∷ q → c ≡ 92
-  backslash c q e = bare_not c (subst (λ (x : Text). Ends is_bare_char x) e s.ends)
+  -- what stands behind the run begins with a backslash
+  pub backslash : (c : ℕ) (q w : Text) → chars ys ≡ c ∷ q → q ≡ w → chars ys ≡ 92 ∷ w
+  backslash c q w e g = let b = bare_not c (subst (λ (x : Text). Ends is_bare_char x) e s.ends) in cc
 
-  pub removes_end : chars ys ≡ [] → IsUnescaped t out'
-  removes_end e = record {
+  pub removes_end : (lone : Bool) → chars ys ≡ lone_backslash lone → IsUnescaped t out'
+  removes_end lone e = record {
     units = removes_run.units;
-    lone = false;
+    lone = lone;
     split = record {
       whole = removes_run.whole ∙ ap (λ (x : Text). flat_map unit_text removes_run.units ++ x) e;
       each = removes_run.each;
@@ -211,20 +203,8 @@ module _ (t bs xs ys out out' : Text) (s : SplitsRun is_bare_char bs xs ys) (r :
     means = removes_run.means;
   }
 
-  pub removes_lone : (c : ℕ) (q : Text) → chars ys ≡ c ∷ q → q ≡ [] → IsUnescaped t out'
-  removes_lone c q e z = record {
-    units = removes_run.units;
-    lone = true;
-    split = record {
-      whole = removes_run.whole ∙ ap (λ (x : Text). flat_map unit_text removes_run.units ++ x)
-          (e ∙ ap (λ (x : ℕ). x ∷ q) (backslash c q e) ∙ ap (λ (x : Text). 92 ∷ x) z);
-      each = removes_run.each;
-    };
-    means = removes_run.means;
-  }
-
   pub removes_pair : (c d : ℕ) (q q' out'' : Text) → chars ys ≡ c ∷ q → q ≡ d ∷ q' → out'' ≡ out' ++ pair_meaning d
       → Removes t out'' q'
-  removes_pair c d q q' out'' e g h = removes_on t out' (chars ys) q' out'' (pair_meaning d) (pair d ∷ []) removes_run
-      (e ∙ ap (λ (x : ℕ). x ∷ q) (backslash c q e) ∙ ap (λ (x : Text). 92 ∷ x) g) (tt, tt) h
-      (sym (append-nil (pair_meaning d)))
+  removes_pair c d q q' out'' e g h =
+      removes_on t out' (chars ys) q' out'' (pair_meaning d) (pair d ∷ []) removes_run
+      (backslash c q (d ∷ q') e g) (tt, tt) h (sym (append-nil (pair_meaning d)))

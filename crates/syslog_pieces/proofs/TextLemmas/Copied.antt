@@ -1,6 +1,6 @@
 -- What is copied of a text, where one piece may be left out.
 use Rattle.std.proofs.Common.{◌≡◌, true, false, [], ◌∷◌, ◌++◌, Option, None, Some}
-use Rattle.std.proofs.Common.{sym, ap, subst, ◌∙◌, append_assoc, append-nil, arith}
+use Rattle.std.proofs.Common.{sym, ◌∙◌, append_assoc, append-nil, arith}
 use Rattle.std.proofs.lemmas.List.{append_cancel_right}
 use Rattle.std.specs.Prelude.{is_some}
 use Rattle.syslog_pieces.specs.Bodies.Verbatim.{Copies, CopiedOn}
@@ -14,25 +14,14 @@ use Rattle.syslog_pieces.proofs.PieceLemmas.Verbatim.{front_of}
 -- a piece that prints as it is written is copied, whatever was left out before it
 pub extended : (w t u piece p : Text) (cut : Option Cut) → t ≡ piece ++ u → Copies w cut t p
     → Copies w cut u (p ++ piece)
-extended w t u piece p None e c = c ∙ ap (λ (x : Text). p ++ x) e ∙ sym (append_assoc p piece u)
-extended w t u piece p (Some c) e (a, b, f, g, h) = (
-  a,
-  b ++ piece,
-  f,
-  g ∙ ap (λ (x : Text). b ++ x) e ∙ sym (append_assoc b piece u),
-  ap (λ (x : Text). x ++ piece) h ∙ append_assoc a b piece,
-)
+extended w t u piece p None e c = rw (c, e, append_assoc)
+extended w t u piece p (Some c) e (a, b, f, g, h) =
+    (a, b ++ piece, f, rw (g, e, append_assoc), rw (h, append_assoc))
 
 -- what stands behind the piece is left out
 pub left_out : (w t u piece p : Text) (c : Cut) → t ≡ piece ++ shown c.gap → shown c.next ≡ u → Copies w None t p
     → Copies w (Some c) u (p ++ piece)
-left_out w t u piece p c e f d = (
-  p ++ piece,
-  [],
-  d ∙ ap (λ (x : Text). p ++ x) e ∙ sym (append_assoc p piece (shown c.gap)),
-  f,
-  sym (append-nil (p ++ piece)),
-)
+left_out w t u piece p c e f d = (p ++ piece, [], rw (d, e, append_assoc), f, sym (append-nil (p ++ piece)))
 
 pub verbatim_on : (C : Class) (print : C.Value → Text) (t u : Text) (cut : Option Cut) → Verbatim C print t u
     → CopiedOn C print t cut u cut
@@ -48,7 +37,7 @@ pub wide_gap : (t u front : Text) (cut : Option Cut) (c : Cut) → is_some cut �
     → Each is_blank front → Ends is_blank u
     → t ≡ 32 ∷ shown c.gap → shown c.next ≡ u → CopiedOn (some_run is_blank) (λ _. 32 ∷ []) t cut u (Some c)
 wide_gap t u [] cut c n e each ends g x =
-    absurd (let z : true ≡ false = subst (λ (y : Text). Ends is_blank y) (sym e ∙ g) ends in cc)
+    absurd (let z : true ≡ false = rw (sym e ∙ g) at ends in cc)
 wide_gap t u (a ∷ xs) None c n e each ends g x = record {
   value = tt;
   is = record { piece = a ∷ xs; whole = e; is = (omega arith, each, ends) };
@@ -62,4 +51,4 @@ wide_gap t u (a ∷ xs) (Some d) c n e each ends g x = absurd (cc)
 pub behind_gap : (w u p x : Text) (c : Cut) → w ≡ x ++ shown c.gap → Copies w (Some c) u p
     → (behind : Text) × (shown c.next ≡ behind ++ u) × (p ≡ x ++ behind)
 behind_gap w u p x c e (a, b, f, g, h) =
-    (b, g, h ∙ ap (λ (y : Text). y ++ b) (append_cancel_right a x (shown c.gap) (sym f ∙ e)))
+    (b, g, rw (h, append_cancel_right a x (shown c.gap) (sym f ∙ e)))

@@ -1,20 +1,17 @@
 -- The decimal text of a number is ASCII, so its bytes are its characters.
 use Rattle.std.proofs.Common.{◌≡◌, ℕ, ℤ, zero, suc, pos, negsuc, ◌+◌, ◌/◌, ◌%◌, ◌^◌, ◌<◌, ◌≤◌, inl, inr}
-use Rattle.std.proofs.Common.{true, false, List, [], ◌∷◌, length, get_or, refl, sym, ap, subst, ◌∙◌, arith}
+use Rattle.std.proofs.Common.{true, false, List, [], ◌∷◌, ◌++◌, ap, ◌∙◌, arith}
 use Rattle.std.proofs.lemmas.Bool.{lt-ltb}
-use Rattle.std.proofs.lemmas.Bool.Decides.{eqb_tells}
-use Rattle.std.proofs.lemmas.Fmt.{decimal-digits_value}
-use Rattle.std.proofs.lemmas.Str.{encodes-IsAscii}
+use Rattle.std.proofs.lemmas.Bool.Decides.{eqb_tells, nat_tests}
+use Rattle.std.proofs.lemmas.Fmt.{decimal_digit, decimal_step}
+use Rattle.std.proofs.lemmas.Str.{encodes-IsAscii, digit_value_digit}
 use Rattle.std.proofs.lemmas.Str.Ascii.{IsAscii-nil, IsAscii-cons}
 use Rattle.std.specs.Fmt.{digits, digits_onto, digit_glyph, decimal, signed_decimal}
 use Rattle.std.specs.Char.{is_ascii_digit, digit_value}
 use Rattle.std.specs.Str.{IsAscii, encode_utf8_all}
-use Rattle.std.specs.Str.Parse.{digits_value}
 use Rattle.jiff_fmt.specs.Text.{pad2, pad4}
-use Rattle.syslog_pieces.specs.Pieces.Class.{Each}
 use Rattle.syslog_pieces.specs.Text.{is_blank}
 use Rattle.syslog_pieces.specs.Timestamp.Printed.{pad3}
-use Rattle.syslog_pieces.proofs.TextLemmas.Words.{own}
 
 digit_ascii : (d : ℕ) → d < 10 → digit_glyph false d < 128
 digit_ascii d h = rw (lt-ltb d 10 h) (omega arith)
@@ -45,57 +42,43 @@ encodes-signed z = encodes-IsAscii (signed_decimal z) (signed_ascii z)
 -- ---- digits
 pub digit_is : (d : ℕ) → d < 10 → (is_ascii_digit (48 + d) ≡ true) × (is_blank (48 + d) ≡ false)
     × (digit_value (48 + d) ≡ d)
-digit_is zero h = (refl, refl, refl)
-digit_is (suc zero) h = (refl, refl, refl)
-digit_is (suc (suc zero)) h = (refl, refl, refl)
-digit_is (suc (suc (suc zero))) h = (refl, refl, refl)
-digit_is (suc (suc (suc (suc zero)))) h = (refl, refl, refl)
-digit_is (suc (suc (suc (suc (suc zero))))) h = (refl, refl, refl)
-digit_is (suc (suc (suc (suc (suc (suc zero)))))) h = (refl, refl, refl)
-digit_is (suc (suc (suc (suc (suc (suc (suc zero))))))) h = (refl, refl, refl)
-digit_is (suc (suc (suc (suc (suc (suc (suc (suc zero)))))))) h = (refl, refl, refl)
-digit_is (suc (suc (suc (suc (suc (suc (suc (suc (suc zero))))))))) h = (refl, refl, refl)
-digit_is (suc (suc (suc (suc (suc (suc (suc (suc (suc (suc d)))))))))) h = absurd (omega arith)
+digit_is d h = (
+  grind (arith, nat_tests),
+  grind (arith, nat_tests),
+  omega (arith, digit_value_digit (48 + d) (omega arith, omega arith)),
+)
 
 -- ---- the decimal text of a number, digit by digit
-decimal_is : (n : ℕ) (ds : List ℕ) → Each is_ascii_digit ds → 0 < length ds → (get_or ds 0 0 ≡ 48 → length ds ≡ 1)
-    → digits_value 10 ds ≡ n → n < 2 ^ 64 → decimal n ≡ ds
-decimal_is n ds a l lead e small =
-    ap decimal (sym e) ∙ decimal-digits_value own ds a l lead (subst (λ (x : ℕ). x < 2 ^ 64) (sym e) small)
+last_digit : (n : ℕ) (ds : List ℕ) → 10 ≤ n → n < 2 ^ 64 → decimal (n / 10) ≡ ds
+    → decimal n ≡ ds ++ ((48 + n % 10) ∷ [])
+last_digit n ds l h e = decimal_step n l h ∙ ap (λ (x : List ℕ). x ++ ((48 + n % 10) ∷ [])) e
 
-module _ (n : ℕ) where
-  pub one_digit : n < 10 → decimal n ≡ (48 + n) ∷ []
-  one_digit h =
-      let d = digit_is n h in
-      decimal_is n ((48 + n) ∷ []) (d.0, tt) (omega arith) (λ z. refl) (rw d.2 (omega arith)) (omega arith)
+pub one_digit : (n : ℕ) → n < 10 → decimal n ≡ (48 + n) ∷ []
+one_digit = decimal_digit
 
-  pub two_digits : 10 ≤ n → n < 100 → decimal n ≡ pad2 n
-  two_digits l h =
-      let a = digit_is (n / 10) (omega arith) in let b = digit_is (n % 10) (omega arith) in
-      decimal_is n (pad2 n) (a.0, (b.0, tt)) (omega arith) (λ z. absurd (omega (arith, z)))
-      (rw (a.2, b.2) (omega arith)) (omega arith)
+pub two_digits : (n : ℕ) → 10 ≤ n → n < 100 → decimal n ≡ pad2 n
+two_digits n l h = last_digit n _ l (omega arith) (one_digit (n / 10) (omega arith))
 
-  pub three_digits : 100 ≤ n → n < 1_000 → decimal n ≡ pad3 n
-  three_digits l h =
-      let a = digit_is (n / 100) (omega arith) in let b = digit_is (n / 10 % 10) (omega arith) in
-      let c = digit_is (n % 10) (omega arith) in
-      decimal_is n (pad3 n) (a.0, (b.0, (c.0, tt))) (omega arith) (λ z. absurd (omega (arith, z)))
-      (rw (a.2, b.2, c.2) (omega arith)) (omega arith)
+pub three_digits : (n : ℕ) → 100 ≤ n → n < 1_000 → decimal n ≡ pad3 n
+three_digits n l h =
+    let e : n / 10 / 10 ≡ n / 100 = omega arith in
+    rw e at (last_digit n _ (omega arith) (omega arith) (two_digits (n / 10) (omega arith) (omega arith)))
 
-  pub four_digits : 1_000 ≤ n → n < 10_000 → decimal n ≡ pad4 n
-  four_digits l h =
-      let a = digit_is (n / 100 / 10) (omega arith) in let b = digit_is (n / 100 % 10) (omega arith) in
-      let c = digit_is (n % 100 / 10) (omega arith) in let d = digit_is (n % 100 % 10) (omega arith) in
-      decimal_is n (pad4 n) (a.0, (b.0, (c.0, (d.0, tt)))) (omega arith) (λ z. absurd (omega (arith, z)))
-      (rw (a.2, b.2, c.2, d.2) (omega arith)) (omega arith)
+pub four_digits : (n : ℕ) → 1_000 ≤ n → n < 10_000 → decimal n ≡ pad4 n
+four_digits n l h =
+    let a : n / 10 / 100 ≡ n / 100 / 10 = omega arith in
+    let b : n / 10 / 10 % 10 ≡ n / 100 % 10 = omega arith in
+    let c : n / 10 % 10 ≡ n % 100 / 10 = omega arith in
+    let d : n % 10 ≡ n % 100 % 10 = omega arith in
+    rw (a, b, c, d) at (last_digit n _ (omega arith) (omega arith) (three_digits (n / 10) (omega arith) (omega arith)))
 
-  pub five_digits : 10_000 ≤ n → n < 100_000 → decimal n ≡ (48 + n / 10_000) ∷ pad4 (n % 10_000)
-  five_digits l h =
-      let k = n % 10_000 in
-      let e = digit_is (n / 10_000) (omega arith) in
-      let a = digit_is (n % 10_000 / 100 / 10) (omega arith) in
-      let b = digit_is (n % 10_000 / 100 % 10) (omega arith) in
-      let c = digit_is (n % 10_000 % 100 / 10) (omega arith) in
-      let d = digit_is (n % 10_000 % 100 % 10) (omega arith) in
-      decimal_is n ((48 + n / 10_000) ∷ pad4 (n % 10_000)) (e.0, (a.0, (b.0, (c.0, (d.0, tt))))) (omega arith)
-      (λ z. absurd (omega (arith, z))) (rw (e.2, a.2, b.2, c.2, d.2) (omega arith)) (omega arith)
+pub five_digits : (n : ℕ) → 10_000 ≤ n → n < 100_000 → decimal n ≡ (48 + n / 10_000) ∷ pad4 (n % 10_000)
+five_digits n l h =
+    let m = n % 10_000 in
+    let a : n / 10 / 100 / 10 ≡ n / 10_000 = omega arith in
+    let b : n / 10 / 100 % 10 ≡ m / 100 / 10 = omega arith in
+    let c : n / 10 % 100 / 10 ≡ m / 100 % 10 = omega arith in
+    let d : n / 10 % 100 % 10 ≡ m % 100 / 10 = omega arith in
+    let e : n % 10 ≡ m % 100 % 10 = omega arith in
+    rw (a, b, c, d, e) at (last_digit n _ (omega arith) (omega arith)
+    (four_digits (n / 10) (omega arith) (omega arith)))

@@ -1,32 +1,43 @@
 -- From the mask of one load to the bytes that pass a test.
-use Rattle.std.proofs.Common.{◌≡◌, ℕ, ◌+◌, ◌-◌, ◌%◌, ◌^◌, ◌<◌, ◌≤◌, Bool, true, false, not, List, [], ◌∷◌, map}
-use Rattle.std.proofs.Common.{length, get_or, replicate, Fits, w8, refl, sym, ap, ap₂, ◌∙◌, subst, arith, inl, inr}
+use Rattle.std.proofs.Common.{◌≡◌, ℕ, ◌+◌, ◌-◌, ◌%◌, ◌^◌, ◌<◌, ◌≤◌, Bool, true, false, not, List, map, cond, leb, ltb}
+use Rattle.std.proofs.Common.{length, get_or, replicate, Fits, w8, sym, ap, ◌∙◌, subst, arith, inl, inr}
 use Rattle.std.proofs.lemmas.Bool.{agree_below, agree_below_at, not-true, not-false}
 use Rattle.std.proofs.lemmas.Bool.{cases_eq, eq-eqb, ne_eqb, cond-true, cond-false}
 use Rattle.std.proofs.lemmas.Simd.{map-map, mask_l-mod, length-chunk, get_or-chunk}
-use Rattle.std.proofs.lemmas.Simd.{leading_from_mask_l, trailing_mask_l}
-use Rattle.std.proofs.lemmas.List.{length-map}
+use Rattle.std.proofs.lemmas.Simd.{leading_from_mask_l, trailing_mask_l, zip2_of_maps, zip2_splat, splat_is_map}
+use Rattle.std.proofs.lemmas.List.{length-map, map-id}
 use Rattle.std.proofs.lemmas.List.Sums.{prefix_len-le-length, prefix_len_passes, prefix_len_stops}
 use Rattle.std.specs.List.{prefix_len}
 use lib.Lanes.{chunk, zip2, mask_l, top}
 use Rattle.syslog_pieces.specs.Bodies.Scan.{IsRunIn, first_set}
 
-zip2-map : (h : ℕ → ℕ → ℕ) (f g : ℕ → ℕ) (xs : List ℕ) → zip2 h (map f xs) (map g xs) ≡ map (λ x. h (f x) (g x)) xs
-zip2-map h f g [] = refl
-zip2-map h f g (x ∷ xs) = ap (λ r. h (f x) (g x) ∷ r) (zip2-map h f g xs)
+-- ---- vectors that are computed lane by lane from a load v of sixteen bytes
+pub record IsLanes (v z : List ℕ) (f : ℕ → ℕ) : Type 0 where
+  pub same : length v ≡ 16 → z ≡ map f v
 
--- an operation on two vectors that were computed lane by lane from v
-pub joined : (h : ℕ → ℕ → ℕ) (f g : ℕ → ℕ) (v : List ℕ) {a b : List ℕ} → a ≡ map f v → b ≡ map g v
-    → zip2 h a b ≡ map (λ x. h (f x) (g x)) v
-joined h f g v p q = ap₂ (zip2 h) p q ∙ zip2-map h f g v
+module _ {v : List ℕ} where
+  -- each lane with one number
+  pub lanes : (h : ℕ → ℕ → ℕ) (n : ℕ) → IsLanes v (zip2 h v (replicate 16 n)) (λ x. h x n)
+  lanes h n = record { same = λ long. zip2_splat h v 16 n long }
 
-pub splat_is : (v : List ℕ) (n y : ℕ) → length v ≡ n → replicate n y ≡ map (λ _. y) v
-splat_is [] n y e = ap (λ k. replicate k y) (sym e)
-splat_is (x ∷ xs) n y e = ap (λ k. replicate k y) (sym e) ∙ ap (λ r. y ∷ r) (splat_is xs (length xs) y refl)
+  pub joined : (h : ℕ → ℕ → ℕ) {y z : List ℕ} {f g : ℕ → ℕ} → IsLanes v y f → IsLanes v z g
+      → IsLanes v (zip2 h y z) (λ x. h (f x) (g x))
+  joined h {f = f} {g = g} a b = record { same = λ long. zip2_of_maps h f g v (a.same long) (b.same long) }
 
-pub itself : (v : List ℕ) → v ≡ map (λ x. x) v
-itself [] = refl
-itself (x ∷ xs) = ap (λ r. x ∷ r) (itself xs)
+  splat : (n : ℕ) → IsLanes v (replicate 16 n) (λ _. n)
+  splat n = record { same = splat_is_map v 16 n }
+
+  pub at_least : {z : List ℕ} {f : ℕ → ℕ} (n : ℕ) → IsLanes v z f
+      → IsLanes v (zip2 (λ a b. cond (leb a b) 255 0) (replicate 16 n) z) (λ x. cond (leb n (f x)) 255 0)
+  at_least n a = joined (λ a b. cond (leb a b) 255 0) (splat n) a
+
+  pub below : {z : List ℕ} {f : ℕ → ℕ} (n : ℕ) → IsLanes v z f
+      → IsLanes v (zip2 (λ a b. cond (ltb a b) 255 0) z (replicate 16 n)) (λ x. cond (ltb (f x) n) 255 0)
+  below n a = joined (λ a b. cond (ltb a b) 255 0) a (splat n)
+
+  -- bytes past ASCII
+  pub past : IsLanes v (zip2 (λ a b. cond (leb a b) 255 0) (replicate 16 128) v) (λ x. cond (leb 128 x) 255 0)
+  past = at_least 128 (record { same = λ long. sym (map-id v) })
 
 run_is : (p : ℕ → Bool) (v : List ℕ) → length v ≡ 16 → first_set (mask_l (map p v)) ≡ prefix_len (λ x. not (p x)) v
 run_is p v long =
@@ -35,9 +46,9 @@ run_is p v long =
       | inr some ↦ cond-false _ _ _ (ne_eqb _ _ some) ∙ trailing_mask_l p 64 v (omega arith) (omega arith)
     ]
 
-module _ (q : ℕ → Bool) (d : List ℕ) (i r : ℕ) (z : List ℕ) (room : i + 16 ≤ length d)
+module _ (q : ℕ → Bool) (d : List ℕ) (i r : ℕ) (z : List ℕ) (f : ℕ → ℕ) (room : i + 16 ≤ length d)
     (fits : (k : ℕ) → Fits w8 (get_or d k 0)) (found : r ≡ first_set (mask_l (map (top 7) z) % 2 ^ 64))
-    (f : ℕ → ℕ) (lanes : z ≡ map f (chunk i 16 d)) where
+    (by_lanes : IsLanes (chunk i 16 d) z f) where
   abbrev stops : ℕ → Bool
   stops x = top 7 (f x)
 
@@ -47,7 +58,7 @@ module _ (q : ℕ → Bool) (d : List ℕ) (i r : ℕ) (z : List ℕ) (room : i 
   counted : r ≡ prefix_len (λ x. not (stops x)) (chunk i 16 d)
   counted =
       let v = chunk i 16 d in
-      let mask = ap (λ l. mask_l l % 2 ^ 64) (ap (map (top 7)) lanes ∙ map-map (top 7) f v)
+      let mask = ap (λ l. mask_l l % 2 ^ 64) (ap (map (top 7)) (by_lanes.same long) ∙ map-map (top 7) f v)
       ∙ mask_l-mod (map stops v) 64 (omega (arith, length-map v stops, long)) in
       found ∙ ap first_set mask ∙ run_is stops v long
 
@@ -59,9 +70,8 @@ module _ (q : ℕ → Bool) (d : List ℕ) (i r : ℕ) (z : List ℕ) (room : i 
       subst (λ x. stops x ≡ false) at
       (not-true _ (prefix_len_passes (λ x. not (stops x)) (chunk i 16 d) (k - i) 0 (omega (arith, counted))))
 
-  -- a lane stops just where q fails
-  pub run_in : agree_below stops (λ x. not (q x)) 256 ≡ true → IsRunIn q d i r
-  run_in all = record {
+  run : agree_below stops (λ x. not (q x)) 256 ≡ true → IsRunIn q d i r
+  run all = record {
     within = omega (arith, counted, long, prefix_len-le-length (λ x. not (stops x)) (chunk i 16 d));
     pass = λ k from to. not-false _ (sym (agree_below_at stops (λ x. not (q x)) 256 (get_or d k 0) all (fits k).fits)
         ∙ goes_on k from to);
@@ -71,3 +81,9 @@ module _ (q : ℕ → Bool) (d : List ℕ) (i r : ℕ) (z : List ℕ) (room : i 
         (not-false _ (prefix_len_stops (λ x. not (stops x)) (chunk i 16 d) 0 (omega (arith, counted, long)))) in
         not-true _ (sym (agree_below_at stops (λ x. not (q x)) 256 (get_or d (i + r) 0) all (fits (i + r)).fits) ∙ set);
   }
+
+-- a lane stops just where q fails
+pub run_in : {q : ℕ → Bool} {d : List ℕ} {i r : ℕ} {z : List ℕ} {f : ℕ → ℕ} → i + 16 ≤ length d
+    → ((k : ℕ) → Fits w8 (get_or d k 0)) → r ≡ first_set (mask_l (map (top 7) z) % 2 ^ 64)
+    → IsLanes (chunk i 16 d) z f → agree_below (λ x. top 7 (f x)) (λ x. not (q x)) 256 ≡ true → IsRunIn q d i r
+run_in {q = q} {d = d} {i = i} {r = r} {z = z} {f = f} = run q d i r z f

@@ -31,9 +31,7 @@ pub encodes_param : (name value : Text) (n v : List ℕ) → encode_utf8_all nam
     → encode_utf8_all (param_text (name, value)) ≡ 32 ∷ (n ++ (61 ∷ 34 ∷ (v ++ (34 ∷ []))))
 unfolding encode_utf8
 encodes_param name value n v e f =
-    ap (λ (x : List ℕ). 32 ∷ x) (encodes-append name (61 ∷ 34 ∷ (value ++ (34 ∷ [])))
-    ∙ ap (λ (x : List ℕ). x ++ encode_utf8_all (61 ∷ 34 ∷ (value ++ (34 ∷ [])))) e
-    ∙ ap (λ (x : List ℕ). n ++ (61 ∷ 34 ∷ x)) (encodes-append value (34 ∷ []) ∙ ap (λ (x : List ℕ). x ++ (34 ∷ [])) f))
+    rw (encodes-append name (61 ∷ 34 ∷ (value ++ (34 ∷ []))), encodes-append value (34 ∷ []), e, f)
 
 -- the bytes of `[id`
 pub encodes_opening : (id : Text) (i : List ℕ) → encode_utf8_all id ≡ i → encode_utf8_all (91 ∷ (id ++ [])) ≡ 91 ∷ i

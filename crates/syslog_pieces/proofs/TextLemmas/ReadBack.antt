@@ -1,14 +1,15 @@
 -- Numbers, words and hosts are read back from their printed text, and what is read is canonical.
 use Rattle.std.proofs.Common.{◌≡◌, ℕ, ◌<◌, ◌≤◌, ◌^◌, inl, inr, true, false, nat_eq, [], ◌∷◌, ◌++◌, length}
-use Rattle.std.proofs.Common.{get_or, Option, Some, None, IfSome, refl, sym, ap, subst, ◌∙◌, arith}
+use Rattle.std.proofs.Common.{get_or, Option, Some, None, IfSome, refl, sym, ap, arith}
 use Rattle.std.proofs.lemmas.List.{length-append}
-use Rattle.std.proofs.lemmas.Bool.Decides.{nat_tests, eqb_tells}
+use Rattle.std.proofs.lemmas.Bool.Decides.{nat_tests}
 use Rattle.std.proofs.lemmas.Fmt.{decimal_nonempty, digits_decimal, digits_value-decimal}
 use Rattle.std.specs.Char.{is_ascii_digit, is_not_whitespace}
 use Rattle.std.specs.Fmt.{decimal}
 use Rattle.syslog_pieces.specs.Pieces.Class.{Text, Each, Ends}
 use Rattle.syslog_pieces.specs.Text.{number, dash, colon, word, EndsInColon, IsHost, name_text, is_blank}
 use Rattle.syslog_pieces.specs.Text.Canonical.{IsVisible, IsCanonicalHost, IsCanonicalWord}
+use Rattle.syslog_pieces.proofs.PieceLemmas.Each.{each_map}
 use Rattle.syslog_pieces.proofs.TextLemmas.Words.{own}
 
 -- ---- numbers
@@ -29,8 +30,7 @@ digit_visible : (c : ℕ) → is_ascii_digit c ≡ true → is_not_whitespace c 
 digit_visible c h = grind (arith, nat_tests)
 
 pub digits_visible : (t : Text) → Each is_ascii_digit t → Each is_not_whitespace t
-digits_visible [] h = tt
-digits_visible (c ∷ t) h = (digit_visible c h.0, digits_visible t h.1)
+digits_visible = each_map is_ascii_digit is_not_whitespace digit_visible
 
 -- ---- words
 
@@ -54,7 +54,7 @@ word_back (Some t) q ((long, visible), no_dash, no_colon) e = (long, visible, e,
 pub word_canonical : (p q : Text) (v : Option Text) → word.Is p q v → IfSome v IsCanonicalWord
 word_canonical p q None h = tt
 word_canonical p q (Some t) (long, visible, e, no_colon, (same, no_dash)) =
-    subst (λ (x : Text). IsCanonicalWord x) (sym same) ((long, visible), no_dash, no_colon)
+    rw same ((long, visible), no_dash, no_colon)
 
 -- ---- hosts
 
@@ -72,17 +72,19 @@ NoColonNext q = Ends (λ c. nat_eq c 58) q
 pub host_canonical : (p q : Text) (v : Option Text) → NoColonNext q → IsHost p q v → IfSome v IsCanonicalHost
 host_canonical p q None n h = tt
 host_canonical p q (Some t) n (long, visible, inl (no_end, e, (same, no_dash))) =
-    subst (λ (x : Text). IsCanonicalHost x) (sym same) ((long, visible), no_dash, no_end)
+    rw same ((long, visible), no_dash, no_end)
 host_canonical p q (Some t) n (long, visible, inr (r, z, e, same)) =
-    absurd (let t = subst (λ (x : Text). NoColonNext x) z n in let u : true ≡ false = t in cc)
+    absurd (let u : true ≡ false = rw z at n in cc)
 
 blank_no_colon : (c : ℕ) → is_blank c ≡ true → nat_eq c 58 ≡ false
-blank_no_colon c h = elim (eqb_tells c 58) [
-  | inl r ↦ absurd (let t : is_blank 58 ≡ true = ap is_blank (sym r.1) ∙ h in let u : false ≡ true = t in cc)
-  | inr r ↦ r.0
-]
+blank_no_colon c h = grind (arith, nat_tests)
 
 -- blanks are no colon
 pub blanks_next : (p q : Text) → 0 < length p → Each is_blank p → NoColonNext (p ++ q)
 blanks_next [] q l h = absurd (omega arith)
 blanks_next (c ∷ p) q l h = blank_no_colon c h.0
+
+-- what the laws of words and of hosts rest on
+pub ruleset words = (word_back, word_canonical)
+
+pub ruleset hosts = (host_back, host_canonical, blanks_next)

@@ -1,14 +1,14 @@
 -- `trim`, by characters.
 use Rattle.std.proofs.Common.{◌≡◌, ℕ, ◌<◌, Bool, true, false, cond, not, ◌&&◌, nat_eq, nat_lt, List, []}
-use Rattle.std.proofs.Common.{◌∷◌, ◌++◌, length, take, get_or, refl, sym, ap, subst, ◌∙◌, arith, take_at}
-use Rattle.std.proofs.lemmas.Bool.{and_parts, and_from}
-use Rattle.std.proofs.lemmas.Bool.{ltb-true}
+use Rattle.std.proofs.Common.{◌∷◌, ◌++◌, length, take, refl, sym, ap, subst, ◌∙◌, arith}
+use Rattle.std.proofs.lemmas.Bool.{and_parts, and_from, ltb-true, not-true}
 use Rattle.std.proofs.lemmas.Bool.Decides.{nat_tests}
 use Rattle.std.proofs.lemmas.List.{length-append}
 use Rattle.std.proofs.lemmas.Str.{chars-append, chars-IsAscii, chars-encodes, scalars-chars, IsUtf8-take}
-use Rattle.std.proofs.Math.Seq.{get_or-append_seam}
+use Rattle.std.proofs.lemmas.Str.{IsUtf8-from_ascii, IsCharBoundary-at_seam}
+use Rattle.std.proofs.Math.Seq.{take-append_seam}
 use Rattle.std.specs.Char.{is_whitespace}
-use Rattle.std.specs.Str.{chars, IsUtf8, IsCharBoundary, all_scalars, encode_utf8_all, trim}
+use Rattle.std.specs.Str.{chars, IsUtf8, all_scalars, encode_utf8_all, trim}
 use Rattle.std.specs.Str.{trim_start, trim_end, skip_leading_whitespace, drop_trailing_whitespace}
 use lib.Utf8.{scalar}
 use Rattle.syslog_pieces.specs.Pieces.Class.{Text}
@@ -62,13 +62,9 @@ end_stays (d ∷ cs) c h = rw (end_stays cs c h)
 start_stays : (c : ℕ) (cs : Text) → is_whitespace c ≡ false → skip_leading_whitespace (c ∷ cs) ≡ c ∷ cs
 start_stays c cs h = rw h refl
 
-no_more : (x : Bool) → not x ≡ true → x ≡ false
-no_more true h = cc
-no_more false h = refl
-
 visible : (b : ℕ) → (nat_lt b 128 && not (is_whitespace b)) ≡ true → (b < 128) × (is_whitespace b ≡ false)
 visible b h = let p = and_parts (nat_lt b 128) (not (is_whitespace b)) h in
-    (ltb-true b 128 p.0, no_more (is_whitespace b) p.1)
+    (ltb-true b 128 p.0, not-true (is_whitespace b) p.1)
 
 module _ (bs : List ℕ) (u : IsUtf8 bs) (h : IsBare bs) where
   head : (h.first < 128) × (is_whitespace h.first ≡ false)
@@ -77,35 +73,20 @@ module _ (bs : List ℕ) (u : IsUtf8 bs) (h : IsBare bs) where
   last : (h.last < 128) × (is_whitespace h.last ≡ false)
   last = visible h.last h.last_in
 
-  front : List ℕ
-  front = h.first ∷ h.middle
-
-  seam : get_or bs (length front) 0 ≡ h.last
-  unfolding front
-  seam = ap (λ (x : List ℕ). get_or x (length (h.first ∷ h.middle)) 0) h.whole
-      ∙ get_or-append_seam (h.first ∷ h.middle) h.last [] 0
-
-  boundary : IsCharBoundary bs (length front)
-  unfolding front
-  boundary = (
-    omega (arith, ap length h.whole, length-append (h.first ∷ h.middle) (h.last ∷ [])),
-    λ inside high. absurd (let l = last.0 in let s = seam in omega arith),
-  )
-
-  front_utf8 : IsUtf8 front
-  unfolding front
+  front_utf8 : IsUtf8 (h.first ∷ h.middle)
   front_utf8 =
-      subst IsUtf8 (ap (take (length (h.first ∷ h.middle))) h.whole
-      ∙ take_at (h.first ∷ h.middle) (h.last ∷ []) (length (h.first ∷ h.middle)) refl)
-      (IsUtf8-take bs (length (h.first ∷ h.middle)) u boundary)
+      let front = h.first ∷ h.middle in
+      let cut = IsCharBoundary-at_seam bs front (h.last ∷ []) h.whole
+      (IsUtf8-from_ascii (h.last ∷ []) (one_ascii h.last last.0)) in
+      subst IsUtf8 (ap (take (length front)) h.whole ∙ take-append_seam front (h.last ∷ []))
+      (IsUtf8-take bs (length front) u cut)
 
   text_is : chars bs ≡ (h.first ∷ chars h.middle) ++ (h.last ∷ [])
-  unfolding front
   text_is =
-      ap chars h.whole ∙ chars-append (h.first ∷ h.middle) (h.last ∷ []) front_utf8
-      ∙ ap (λ (x : Text). x ++ chars (h.last ∷ []))
-      (ascii_front (h.first ∷ []) h.middle (h.first ∷ h.middle) (one_ascii h.first head.0) refl)
-      ∙ ap (λ (x : Text). (h.first ∷ chars h.middle) ++ x) (chars-IsAscii (h.last ∷ []) (one_ascii h.last last.0))
+      let front = h.first ∷ h.middle in
+      ap chars h.whole ∙ chars-append front (h.last ∷ []) front_utf8
+      ∙ rw (chars-IsAscii (h.last ∷ []) (one_ascii h.last last.0)) (ap (λ (x : Text). x ++ (h.last ∷ []))
+      (ascii_front (h.first ∷ []) h.middle front (one_ascii h.first head.0) refl))
 
   pub bare_trimmed : chars bs ≡ trimmed (chars bs)
   bare_trimmed =

@@ -1,9 +1,9 @@
 -- A fold: the offset before it is ahead of the one behind it, so it gives the earlier instant.
-use Rattle.std.proofs.Common.{◌≡◌, ℤ, pos, ◌≤ℤ◌, ◌-ℤ◌, ◌-◌, Bool, true, false, Option}
-use Rattle.std.proofs.Common.{Some, None, if◌then◌else◌, int_lt, not, refl, subst, arith}
+use Rattle.std.proofs.Common.{◌≡◌, ℤ, pos, ◌≤ℤ◌, ◌-◌, Bool, true, false, Option}
+use Rattle.std.proofs.Common.{Some, None, if◌then◌else◌, int_lt, not, refl, arith}
 use Rattle.std.specs.Prelude.{⊤}
 use Rattle.jiff.specs.Types.{DateTime, Offset, TimeZone, AmbiguousOffset, Unambiguous, Gap, Fold}
-use Rattle.jiff.specs.Words.{ambiguous_at, civil_nanos, instant_of, nanos_of_seconds}
+use Rattle.jiff.specs.Words.{ambiguous_at, civil_nanos, instant_of}
 use Rattle.jiff_core.proofs.SignedLemmas.{signed_arith}
 use Rattle.jiff_core.specs.DateTime.{civil_seconds}
 use Rattle.jiff_tz.specs.PosixReader.{match_some}
@@ -83,19 +83,8 @@ zone_folds_back (Fixed offset) dt = tt
 zone_folds_back (InPosix tz) dt = of_rule tz.std_offset tz.dst dt
 zone_folds_back (InTable z) dt = of_table z.now dt
 
-scaled : (a b : ℤ) → a ≤ℤ b → nanos_of_seconds a ≤ℤ nanos_of_seconds b
-scaled a b h = omega (arith, signed_arith)
-
-moved : (c a b : ℤ) → a ≤ℤ b → (c -ℤ b) ≤ℤ (c -ℤ a)
-moved c a b h = omega (arith, signed_arith)
-
-instants : (dt : DateTime) (before after : Offset) → after.seconds ≤ℤ before.seconds
-    → instant_of dt before ≤ℤ instant_of dt after
-instants dt before after h = moved (civil_nanos dt) (nanos_of_seconds after.seconds) (nanos_of_seconds before.seconds)
-    (scaled after.seconds before.seconds h)
-
 -- the instant before a fold is the earlier of its two
 pub earlier_in_fold : (tz : TimeZone) (dt : DateTime) (before after : Offset) → ambiguous_at tz dt ≡ Fold before after
     → instant_of dt before ≤ℤ instant_of dt after
 earlier_in_fold tz dt before after e =
-    instants dt before after (subst (λ (x : AmbiguousOffset). FoldsBack x) e (zone_folds_back tz dt))
+    let back : after.seconds ≤ℤ before.seconds = rw e at (zone_folds_back tz dt) in omega (arith, signed_arith)

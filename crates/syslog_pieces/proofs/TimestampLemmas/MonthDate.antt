@@ -1,66 +1,60 @@
--- A text has one month date at its front, and shows one.
-use Rattle.std.proofs.Common.{◌≡◌, ◌⊎◌, inl, inr, ℕ, ◌≤◌, ◌<◌, length, get_or, Bool, true, false, nat_eq, ◌||◌}
-use Rattle.std.proofs.Common.{List, [], ◌∷◌, ◌++◌, refl, sym, ap, subst, ◌∙◌, arith}
-use Rattle.std.proofs.lemmas.Bool.{eqb-true}
+-- A text has one month date at its front, and shows one; and what the readers of month dates answer.
+use Rattle.std.proofs.Common.{◌≡◌, inl, inr, ℕ, ◌≤◌, ◌<◌, length, get_or, true}
+use Rattle.std.proofs.Common.{List, [], ◌∷◌, ◌++◌, Option, Some, None, refl, sym, ap, subst, ◌∙◌, arith}
+use Rattle.std.proofs.lemmas.Bool.Decides.{nat_tests}
+use Rattle.std.proofs.lemmas.List.{length-append}
 use Rattle.std.proofs.lemmas.Str.{chars-nil}
-use Rattle.std.specs.Char.{is_ascii_digit}
+use Rattle.std.specs.Char.{is_ascii_digit, to_ascii_lowercase}
 use Rattle.std.specs.Str.{chars}
+use Rattle.syslog_pieces.specs.Bodies.MonthReading.{IsNamed, small_month, day_row, day_values, year_row}
+use Rattle.syslog_pieces.specs.Bodies.MonthReading.{year_values, clock_values, date_of}
 use Rattle.syslog_pieces.specs.Pieces.Class.{Text, Class, Values, Front, NoFront, Row}
-use Rattle.syslog_pieces.specs.Pieces.Class.{IsDeterministic, some_run, exactly, optional}
+use Rattle.syslog_pieces.specs.Pieces.Class.{IsDeterministic, some_run, exactly}
+use Rattle.syslog_pieces.specs.Pri.{priority}
 use Rattle.syslog_pieces.specs.Text.{number, is_blank, colon}
 use Rattle.syslog_pieces.specs.Timestamp.MonthDate.{month, short_number, clock_row, yearless_row, yearless_of}
 use Rattle.syslog_pieces.specs.Timestamp.MonthDate.{yearless_date, dated_row, dated_of, dated_date, month_date}
-use Rattle.syslog_pieces.specs.Timestamp.Rfc3164.{ShowsYearless, showing_row}
+use Rattle.syslog_pieces.specs.Timestamp.Rfc3164.{BeginsWithDate, ShowsYearless, showing_row}
+use Rattle.syslog_pieces.specs.declared.timestamp.month_date.Clock.{Clock}
+use Rattle.syslog_pieces.specs.declared.timestamp.month_date.Day.{Day}
 use Rattle.syslog_pieces.specs.declared.timestamp.month_date.MonthDate.{MonthDate}
-use Rattle.syslog_pieces.proofs.PieceLemmas.Class.{AllDeterministic, run_same, rest_same, some_run_det}
-use Rattle.syslog_pieces.proofs.PieceLemmas.Class.{run_det, rest_det, exactly_det, optional_det, mapped_det}
-use Rattle.syslog_pieces.proofs.PieceLemmas.Class.{row_det, row_head, front_same, unique_division}
-use Rattle.syslog_pieces.proofs.PieceLemmas.Kinds.{Apart, Begins, begins_apart, begins_more}
-use Rattle.syslog_pieces.proofs.PieceLemmas.Kinds.{begins_with, each_begins, either_det}
+use Rattle.syslog_pieces.proofs.PieceLemmas.Class.{AllDeterministic, ◌also◌, all_joined, run_same, rest_same}
+use Rattle.syslog_pieces.proofs.PieceLemmas.Class.{some_run_det, run_det, rest_det, exactly_det, optional_det}
+use Rattle.syslog_pieces.proofs.PieceLemmas.Class.{mapped_det, row_det, row_head, unique_division, mapped_front}
+use Rattle.syslog_pieces.proofs.PieceLemmas.Class.{no_mapped, lasts, rows_split, rows_join, rows_none_here}
+use Rattle.syslog_pieces.proofs.PieceLemmas.Class.{rows_none_later, division_front, front_division, no_front_no}
+use Rattle.syslog_pieces.proofs.PieceLemmas.Kinds.{Apart, Begins, begins_apart, begins_more, begins_with}
+use Rattle.syslog_pieces.proofs.PieceLemmas.Kinds.{each_begins, either_det, first_kind, second_kind, no_either}
 use Rattle.syslog_pieces.proofs.PieceLemmas.Rows.{row_pieces}
+use Rattle.syslog_pieces.proofs.PieceLemmas.Steps.{rows_step}
 use Rattle.syslog_pieces.proofs.PriLemmas.{priority_det}
 use Rattle.syslog_pieces.proofs.TextLemmas.Chars.{ascii_front, one_ascii}
 use Rattle.syslog_pieces.proofs.TextLemmas.Words.{number_det}
-use Rattle.syslog_pieces.proofs.TimestampLemmas.Months.{IsLetter, month_det, month_begins}
-use Rattle.syslog_pieces.specs.Pri.{priority}
-
-abbrev blanks : Class
-blanks = some_run is_blank
-
-abbrev sign : Class
-sign = exactly colon
-
-abbrev year_number : Class
-year_number = number 2147483647
+use Rattle.syslog_pieces.proofs.TimestampLemmas.Months.{IsLetter, month_det, month_begins, month_letters, month_named}
 
 pub clock_det : AllDeterministic clock_row
-clock_det = (
-  number_det 4294967295,
-  (
-    exactly_det colon,
-    (number_det 4294967295, (exactly_det colon, (number_det 4294967295, (optional_det sign (exactly_det colon), tt)))),
-  ),
-)
+clock_det =
+    number_det 4294967295 also exactly_det colon also number_det 4294967295 also exactly_det colon
+    also number_det 4294967295 also optional_det _ (exactly_det colon) also tt
 
-pub yearless_row_det : AllDeterministic yearless_row
-yearless_row_det = (month_det, (some_run_det is_blank, (number_det 4294967295, (some_run_det is_blank, clock_det))))
+pub day_det : AllDeterministic day_row
+day_det = month_det also some_run_det is_blank also number_det 4294967295 also some_run_det is_blank also tt
 
-pub dated_row_det : AllDeterministic dated_row
-dated_row_det = (
-  month_det,
-  (
-    some_run_det is_blank,
-    (number_det 4294967295, (some_run_det is_blank, (number_det 2147483647, (some_run_det is_blank, clock_det)))),
-  ),
-)
+pub year_det : AllDeterministic year_row
+year_det = number_det 2147483647 also some_run_det is_blank also tt
+
+abbrev from_year : List Class
+from_year = year_row ++ clock_row
 
 -- a text has one date without a year at its front
 pub yearless_det : IsDeterministic yearless_date
-yearless_det = mapped_det (Row yearless_row) MonthDate yearless_of (row_det yearless_row yearless_row_det)
+yearless_det = mapped_det (Row yearless_row) MonthDate yearless_of
+    (row_det yearless_row (all_joined day_row clock_row day_det clock_det))
 
 -- and one with a year
 pub dated_det : IsDeterministic dated_date
-dated_det = mapped_det (Row dated_row) MonthDate dated_of (row_det dated_row dated_row_det)
+dated_det = mapped_det (Row dated_row) MonthDate dated_of
+    (row_det dated_row (all_joined day_row from_year day_det (all_joined year_row clock_row year_det clock_det)))
 
 -- ---- it has not both: behind the day, the one has a number before a colon, the other a number before a blank
 
@@ -81,19 +75,8 @@ blanks_begin {q = q} f = subst (λ (x : Text). Begins IsBlank x) (sym f.whole)
 colon_begins : (t q : Text) → Front (exactly colon) t q tt → Begins (λ c. c ≡ 58) t
 colon_begins t q f = begins_with (λ c. c ≡ 58) 58 t q (f.whole ∙ ap (λ (x : Text). x ++ q) f.is) refl
 
-or_true : (a b : Bool) → (a || b) ≡ true → (a ≡ true) ⊎ (b ≡ true)
-or_true true b h = inl refl
-or_true false b h = inr h
-
 pub blank_low : (c : ℕ) → is_blank c ≡ true → c ≤ 32
-blank_low c h = elim (or_true (nat_eq c 32) (nat_eq c 9) h) [
-  | inl a ↦ (let u = eqb-true c 32 a in omega arith)
-  | inr a ↦
-      (let u = eqb-true c 9 a in omega arith)
-]
-
-abbrev from_year : List Class
-from_year = year_number ∷ blanks ∷ clock_row
+blank_low c h = grind (arith, nat_tests, h)
 
 clock_apart : (t q q' : Text) (vs : Values clock_row) (ws : Values from_year) → Front (Row clock_row) t q vs
     → Front (Row from_year) t q' ws → ⊥
@@ -103,30 +86,13 @@ clock_apart t q q' vs ws f g =
     begins_apart u (λ c h k. let z = blank_low c k in omega arith) (colon_begins u w f3)
     (subst (λ (x : Text). Begins IsBlank x) (sym (number_ends 4294967295 2147483647 u u' f1 g1)) (blanks_begin g3))
 
--- behind a piece that both rows begin with
-both_behind : (C : Class) (As Bs : List Class) → IsDeterministic C → (t q q' : Text) (vs : Values (C ∷ As))
-    (ws : Values (C ∷ Bs)) → Front (Row (C ∷ As)) t q vs → Front (Row (C ∷ Bs)) t q' ws
-    → (u : Text) × Front (Row As) u q vs.1 × Front (Row Bs) u q' ws.1
-both_behind C As Bs d t q q' vs ws f g =
-    let (u, f1, f2) = row_head C As f in
-    let (u', g1, g2) = row_head C Bs g in
-    (u, f2, subst (λ (x : Text). Front (Row Bs) x q' ws.1) (sym (front_same C d f1 g1).0) g2)
-
-abbrev from_day : List Class
-from_day = short_number ∷ blanks ∷ clock_row
-
-abbrev from_dated_day : List Class
-from_dated_day = short_number ∷ blanks ∷ from_year
-
+-- behind the day, with which both begin
 rows_apart : (t q q' : Text) (vs : Values yearless_row) (ws : Values dated_row) → Front (Row yearless_row) t q vs
     → Front (Row dated_row) t q' ws → ⊥
 rows_apart t q q' vs ws f g =
-    let (u1, f1, g1) = both_behind month (blanks ∷ from_day) (blanks ∷ from_dated_day) month_det t q q' vs ws f g in
-    let (u2, f2, g2) = both_behind blanks from_day from_dated_day (some_run_det is_blank) u1 q q' vs.1 ws.1 f1 g1 in
-    let (u3, f3, g3) = both_behind short_number (blanks ∷ clock_row) (blanks ∷ from_year)
-    (number_det 4294967295) u2 q q' vs.1.1 ws.1.1 f2 g2 in
-    let (u4, f4, g4) = both_behind blanks clock_row from_year (some_run_det is_blank) u3 q q' vs.1.1.1 ws.1.1.1 f3 g3 in
-    clock_apart u4 q q' vs.1.1.1.1 ws.1.1.1.1 f4 g4
+    let (u, day, clock) = rows_split day_row clock_row f in
+    clock_apart u q q' (lasts day_row clock_row vs) (lasts day_row from_year ws) clock
+    (rows_step day_row from_year day_det day g).1
 
 dates_apart : Apart MonthDate yearless_date.Is dated_date.Is
 dates_apart p q p' q' v v' e (vs, h, i) (ws, h', i') =
@@ -145,9 +111,12 @@ row_begins Cs p q vs h =
     subst (λ (x : Text). Begins IsLetter x) (sym f.1.whole)
     (begins_more IsLetter f.1.piece f.0 (month_begins f.1.piece f.0 vs.0 f.1.is))
 
+abbrev behind_month : List Class
+behind_month = some_run is_blank ∷ short_number ∷ some_run is_blank ∷ []
+
 pub month_date_begins : (p q : Text) (v : MonthDate) → month_date.Is p q v → Begins IsLetter (p ++ q)
-month_date_begins p q v (inl (vs, h, i)) = row_begins (blanks ∷ from_day) p q vs h
-month_date_begins p q v (inr (vs, h, i)) = row_begins (blanks ∷ from_dated_day) p q vs h
+month_date_begins p q v (inl (vs, h, i)) = row_begins (behind_month ++ clock_row) p q vs h
+month_date_begins p q v (inr (vs, h, i)) = row_begins (behind_month ++ from_year) p q vs h
 
 -- so none stands where a byte before the letters does
 pub no_letter_no_date : (bs : List ℕ) → (0 < length bs → get_or bs 0 0 < 65) → NoFront month_date (chars bs)
@@ -162,6 +131,89 @@ no_letter_no_date (b ∷ bs) low p q d e h =
 -- ---- a text shows one date without a year
 pub shown_once : (text : Text) (d d' : MonthDate) → ShowsYearless text d → ShowsYearless text d' → d ≡ d'
 shown_once text d d' (p, more, h) (p', more', h') =
-    ap (λ (x : Values (showing_row yearless_date)). x.1.1.0)
-    (unique_division (showing_row yearless_date)
-    (optional_det priority priority_det, (run_det is_blank, (yearless_det, (rest_det, tt)))) h h').1
+    ap (λ (x : Values (showing_row yearless_date)). x.1.1.0) (unique_division (showing_row yearless_date)
+    (optional_det priority priority_det also run_det is_blank also yearless_det also rest_det also tt) h h').1
+
+-- ---- the name of a month
+module _ (t t1 t2 t3 : Text) (a b c : ℕ) (e : t ≡ a ∷ t1) (f : t1 ≡ b ∷ t2) (g : t2 ≡ c ∷ t3)
+    (x y z : ℕ) (i : x ≡ to_ascii_lowercase a) (j : y ≡ to_ascii_lowercase b) (k : z ≡ to_ascii_lowercase c)
+    (n : Option ℕ) (m : n ≡ small_month x y z) where
+  three : t ≡ (a ∷ b ∷ c ∷ []) ++ t3
+  three = cc
+
+  small : n ≡ small_month (to_ascii_lowercase a) (to_ascii_lowercase b) (to_ascii_lowercase c)
+  small = cc
+
+  pub month_read : (v : ℕ) → IsNamed x y z v → Front month t t3 v
+  month_read v h = record { piece = a ∷ b ∷ c ∷ []; whole = three; is = month_named (rw (i, j, k) at h) }
+
+  pub no_month_read : n ≡ None → NoFront month t
+  no_month_read s p q v w h =
+      let (a', b', c', w', m') = month_letters p v h in
+      let u : a ∷ b ∷ c ∷ t3 ≡ a' ∷ b' ∷ c' ∷ q = sym three ∙ w ∙ ap (λ (u : Text). u ++ q) w' in
+      let ha : a ≡ a' = cc in let hb : b ≡ b' = cc in let hc : c ≡ c' = cc in
+      let r : None ≡ Some v = sym s ∙ small ∙ (rw (ha, hb, hc) refl) ∙ m' in cc
+
+-- fewer than three characters
+pub no_short : (t : Text) → length t < 3 → NoFront month t
+no_short t short p q v w h =
+    let (a, b, c, w', m) = month_letters p v h in absurd (omega (arith, ap length w, ap length w', length-append p q))
+
+-- ---- the date of its parts
+module _ {t : Text} where
+  pub yearless_is : {q : Text} {d : MonthDate} → Front yearless_date t q d → Front month_date t q d
+  yearless_is f = first_kind MonthDate yearless_date.Is dated_date.Is f
+
+  pub yearless_none_here : NoFront (Row day_row) t → NoFront yearless_date t
+  yearless_none_here n = no_mapped (Row yearless_row) MonthDate yearless_of (rows_none_here day_row clock_row n)
+
+  pub dated_none_here : NoFront (Row day_row) t → NoFront dated_date t
+  dated_none_here n = no_mapped (Row dated_row) MonthDate dated_of (rows_none_here day_row from_year n)
+
+  pub no_day : NoFront (Row day_row) t → NoFront month_date t
+  no_day n = no_either MonthDate yearless_date.Is dated_date.Is (yearless_none_here n) (dated_none_here n)
+
+  module _ {u : Text} (d : Day) (f : Front (Row day_row) t u (day_values d)) where
+    pub yearless_front : {q : Text} (c : Clock) (more : Option (Unit {0}))
+        → Front (Row clock_row) u q (clock_values c more) → Front yearless_date t q (date_of None d c)
+    yearless_front c more g = mapped_front (Row yearless_row) MonthDate yearless_of (rows_join day_row clock_row f g)
+
+    pub yearless_none_later : NoFront (Row clock_row) u → NoFront yearless_date t
+    yearless_none_later n =
+        no_mapped (Row yearless_row) MonthDate yearless_of (rows_none_later day_row clock_row day_det f n)
+
+    pub month_date_yearless : {q : Text} (c : Clock) (more : Option (Unit {0}))
+        → Front (Row clock_row) u q (clock_values c more) → Front month_date t q (date_of None d c)
+    month_date_yearless c more g = yearless_is (yearless_front c more g)
+
+    -- no clock stands behind the day
+    module _ (n : NoFront (Row clock_row) u) where
+      dated_none_later : NoFront (Row from_year) u → NoFront month_date t
+      dated_none_later m =
+          no_either MonthDate yearless_date.Is dated_date.Is (yearless_none_later n)
+          (no_mapped (Row dated_row) MonthDate dated_of (rows_none_later day_row from_year day_det f m))
+
+      pub no_year : NoFront (Row year_row) u → NoFront month_date t
+      no_year m = dated_none_later (rows_none_here year_row clock_row m)
+
+      pub no_clock : {w : Text} (y : ℕ) → Front (Row year_row) u w (year_values y) → NoFront (Row clock_row) w
+          → NoFront month_date t
+      no_clock y g m = dated_none_later (rows_none_later year_row clock_row year_det g m)
+
+    pub month_date_dated : {w q : Text} (y : ℕ) (c : Clock) (more : Option (Unit {0}))
+        → Front (Row year_row) u w (year_values y) → Front (Row clock_row) w q (clock_values c more)
+        → Front month_date t q (date_of (Some y) d c)
+    month_date_dated y c more g h =
+        second_kind MonthDate yearless_date.Is dated_date.Is
+        (mapped_front (Row dated_row) MonthDate dated_of
+        (rows_join day_row from_year f (rows_join year_row clock_row g h)))
+
+-- ---- what a text shows
+pub shown_none : {t : Text} → NoFront (Row (showing_row yearless_date)) t → (d : MonthDate)
+    → BeginsWithDate yearless_date t d → ⊥
+shown_none n d (p, more, v) =
+    no_front_no (Row (showing_row yearless_date)) n (division_front (showing_row yearless_date) v)
+
+pub shown_some : {t : Text} (p : Option ℕ) (d : MonthDate) (more : Text)
+    → Front (Row (showing_row yearless_date)) t [] (p, (tt, (d, (more, tt)))) → BeginsWithDate yearless_date t d
+shown_some p d more f = (p, more, front_division (showing_row yearless_date) f)

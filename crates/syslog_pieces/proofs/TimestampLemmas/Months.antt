@@ -1,68 +1,26 @@
 -- The names of the months, letter by letter.
-use Rattle.std.proofs.Common.{◌≡◌, inl, inr, ℕ, zero, suc, ◌+◌, ◌<◌, ◌≤◌, Bool, true, false, nat_eq, ◌==◌, ◌&&◌}
-use Rattle.std.proofs.Common.{if◌then◌else◌, [], ◌∷◌, ◌++◌, Option, Some, None, refl, sym, ap, subst, ◌∙◌, arith}
+use Rattle.std.proofs.Common.{◌≡◌, inl, inr, ℕ, zero, suc, ◌+◌, ◌-◌, ◌<◌, ◌≤◌, false, nat_eq}
+use Rattle.std.proofs.Common.{[], ◌∷◌, ◌++◌, Option, Some, None, refl, sym, ap, subst, ◌∙◌, arith}
 use Rattle.std.specs.Prelude.{map, slice_get}
 use Rattle.std.specs.Char.{to_ascii_lowercase}
-use Rattle.std.proofs.lemmas.Bool.{eqb-true, and_parts}
 use Rattle.std.proofs.lemmas.Bool.Decides.{eqb_tells, leb_tells}
 use Rattle.std.proofs.lemmas.Str.Ascii.{lowercase_is}
 use Rattle.syslog_pieces.specs.Pieces.Class.{Text, IsDeterministic}
-use Rattle.syslog_pieces.specs.Bodies.MonthReading.{small_month}
+use Rattle.syslog_pieces.specs.Bodies.MonthReading.{IsNamed, small_month}
 use Rattle.syslog_pieces.specs.Timestamp.MonthDate.{month_names, IsMonthName, month}
 use Rattle.syslog_pieces.proofs.PieceLemmas.Kinds.{Begins, begins_with}
 
--- ---- from the number to the name
-
--- these small letters are the name of month n
-abbrev IsNamed : ℕ → ℕ → ℕ → ℕ → Type 0
-IsNamed a b c n = (before : ℕ) × (n ≡ before + 1) × (slice_get month_names before ≡ Some (a ∷ b ∷ c ∷ []))
-
-picked : (t : Bool) (P : Type 0) (m n : ℕ) (others : Option ℕ) → (t ≡ true → m ≡ n → P) → (others ≡ Some n → P)
-    → (if t then Some m else others) ≡ Some n → P
-picked true P m n others f g e = f refl (let s : Some m ≡ Some n = e in cc)
-picked false P m n others f g e = g e
-
--- one name, or one of the others
-tried : (k x y z a b c n : ℕ) (others : Option ℕ) → slice_get month_names k ≡ Some (x ∷ y ∷ z ∷ [])
-    → (others ≡ Some n → IsNamed a b c n)
-    → (if a == x && (b == y && c == z) then Some (k + 1) else others) ≡ Some n → IsNamed a b c n
-tried k x y z a b c n others name more =
-    picked (a == x && (b == y && c == z)) (IsNamed a b c n) (k + 1) n others
-    (λ t e. (
-    let u = and_parts (nat_eq a x) (b == y && c == z) t in
-    let v = and_parts (nat_eq b y) (nat_eq c z) u.1 in
-    let ha = eqb-true a x u.0 in let hb = eqb-true b y v.0 in let hc = eqb-true c z v.1 in
-    (k, sym e, name ∙ (rw (ha, hb, hc) refl))
-    ))
-    more
-
-pub month_named : (a b c n : ℕ) → small_month a b c ≡ Some n → IsNamed a b c n
-unfolding small_month
-month_named a b c n =
-    (tried 0 106 97 110 a b c n _ refl
-    (tried 1 102 101 98 a b c n _ refl
-    (tried 2 109 97 114 a b c n _ refl
-    (tried 3 97 112 114 a b c n _ refl
-    (tried 4 109 97 121 a b c n _ refl
-    (tried 5 106 117 110 a b c n _ refl
-    (tried 6 106 117 108 a b c n _ refl
-    (tried 7 97 117 103 a b c n _ refl
-    (tried 8 115 101 112 a b c n _ refl
-    (tried 9 111 99 116 a b c n _ refl
-    (tried 10 110 111 118 a b c n _ refl
-    (tried 11 100 101 99 a b c n _ refl
-    (λ e. absurd (let s : None ≡ Some n = e in cc))))))))))))))
+-- the name of a month, by its number
+pub month_named : {a b c n : ℕ} → IsNamed a b c n
+    → (before : ℕ) × (n ≡ before + 1) × (slice_get month_names before ≡ Some (a ∷ b ∷ c ∷ []))
+month_named {n = n} h = let l = h.from in (n - 1, omega arith, h.name)
 
 -- ---- from the name to the number
 
 -- the number that small letters tell
 abbrev told : Option Text → Option ℕ
-told None = None
-told (Some []) = None
-told (Some (a ∷ [])) = None
-told (Some (a ∷ b ∷ [])) = None
 told (Some (a ∷ b ∷ c ∷ [])) = small_month a b c
-told (Some (a ∷ b ∷ c ∷ d ∷ t)) = None
+told _ = None
 
 placed : (k : ℕ) (t : Text) → slice_get month_names k ≡ Some t → told (Some t) ≡ Some (k + 1)
 unfolding small_month

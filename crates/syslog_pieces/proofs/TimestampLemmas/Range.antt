@@ -7,17 +7,21 @@ use Rattle.jiff.specs.Words.{nanos_of_seconds, IsTimestampNanos, IsOffsetSeconds
 use Rattle.jiff_core.specs.Calendar.{days_of_months, days_of_years, days_from_civil}
 use Rattle.jiff_core.specs.Calendar.{days_in_month, days_in_year, day_count, IsCivilDate}
 use Rattle.jiff_core.proofs.CalendarLemmas.{days_of_months_more, days_of_months_all, days_of_months-zero}
-use Rattle.jiff_core.proofs.CalendarLemmas.{days_in_year_bounds, days_from_civil-day_count, day_count-day_of_year}
+use Rattle.jiff_core.proofs.CalendarLemmas.{days_from_civil-day_count, day_count-day_of_year}
+use Rattle.jiff_core.proofs.CalendarLemmas.{day_count-epoch, day_count-lt_year}
 use Rattle.jiff_core.proofs.MarchLemmas.{days_of_years-march_days}
 use Rattle.jiff_core.proofs.SignedLemmas.{signed_arith, int_rem_euclid-parts, int_div_euclid-parts}
 use Rattle.jiff_tz.specs.Year.{year_of_day, years_within}
-use Rattle.syslog_pieces.proofs.TimestampLemmas.Civil.{abs-diff}
+use Rattle.syslog_pieces.specs.declared.timestamp.fields.CivilFields.{CivilFields}
 use Rattle.syslog_pieces.specs.Timestamp.Fields.{AreCivil, nanos_of_fields}
 use Rattle.syslog_pieces.specs.Timestamp.Printed.{months_within, place_in_year, place_fields, civil_fields}
 
 -- an instant has civil nanoseconds at every offset
 pub in_range-at_offset : (n o : ℤ) → IsTimestampNanos n → IsOffsetSeconds o → IsCivilNanos (n +ℤ nanos_of_seconds o)
 in_range-at_offset n o h k = omega (arith, signed_arith)
+
+abs-diff : (a b : ℤ) (k : ℕ) → a ≡ b +ℤ pos k → unsigned_abs (a -ℤ b) ≡ k
+abs-diff a b k e = let same : a -ℤ b ≡ pos k = omega (arith, signed_arith) in rw same
 
 months_fit : (y : ℤ) (n count : ℕ) → (days_of_months y (months_within y n count) ≤ count)
     × (months_within y n count ≤ n)
@@ -64,7 +68,7 @@ pub record IsPlaced (day year : ℤ) (place : ℕ) : Type 0 where
   pub place_in : place < days_in_year year
   pub same : day ≡ days_from_civil year 1 1 +ℤ pos place
 
-from_start : (z : ℤ) → pos 0 ≤ℤ z → pos (unsigned_abs z) ≡ z
+pub from_start : (z : ℤ) → pos 0 ≤ℤ z → pos (unsigned_abs z) ≡ z
 from_start (pos n) h = refl
 from_start (negsuc n) h = absurd (omega (arith, signed_arith))
 
@@ -78,15 +82,14 @@ year_placed day count k range e low most next =
     let high : count < days_of_years (suc k) = next (omega (arith, signed_arith, range.1)) in
     let below : k ≡ 20000 → ⊥ = λ same. let f : days_of_years k ≡ 7_304_850 = ap days_of_years same ∙ all in
     omega (arith, signed_arith, range.1) in
-    let above : k ≡ 0 → ⊥ = λ same. let f : days_of_years (suc k) ≡ 366 = ap (λ j. days_of_years (suc j)) same
+    let above : k ≢ 0 = λ same. let f : days_of_years (suc k) ≡ 366 = ap (λ j. days_of_years (suc j)) same
     ∙ years_one in omega (arith, signed_arith, range.0) in
-    let least : k ≢ 0 = above in
     let shifted : pos k -ℤ pos 10000 +ℤ pos 10000 ≡ pos k = omega (arith, signed_arith) in
     let first = day_count-first (pos k -ℤ pos 10000) k shifted in
     let number = days_from_civil-day_count (pos k -ℤ pos 10000) 1 1 in
     let step = days_of_years-next k in
     record {
-      year_in = omega (arith, signed_arith, below, least);
+      year_in = omega (arith, signed_arith, below, above);
       place_in = omega arith;
       same = omega (arith, signed_arith);
     }
@@ -165,31 +168,32 @@ civil_fields_exist n h =
 
 -- ---- late instants
 
-days_of_years-most : (k : ℕ) → days_of_years k ≤ 366 * k
-unfolding days_of_years
-days_of_years-most zero = omega arith
-days_of_years-most (suc k) = let h = days_of_years-most k in let y = days_in_year_bounds (pos k -ℤ pos 10000) in
-    omega arith
-
--- a day from 1970 on is in no year before 0
-late_year : (day : ℤ) → IsEpochDay day → pos 0 ≤ℤ day → pos 0 ≤ℤ year_of_day day
-late_year day range late =
-    let count = unsigned_abs (day +ℤ pos 4_371_953) in
-    let e = from_start (day +ℤ pos 4_371_953) (omega (arith, signed_arith, range.0)) in
-    let fit = years_fit 20000 count in
-    let all = years_all in
-    let more = days_of_years-next 20000 in
-    let k = years_within 20000 count in
-    let high : count < days_of_years (suc k) = fit.2 (omega (arith, signed_arith, range.1)) in
-    let most = days_of_years-most (suc k) in
-    omega (arith, signed_arith)
+-- fields that count from 1970 on are in no year before 0
+not_early : (f : CivilFields) (y : ℤ) → f.year ≡ y → AreCivil f → pos 0 ≤ℤ nanos_of_fields f → pos 0 ≤ℤ y
+not_early f (pos n) e there late = omega (arith, signed_arith)
+not_early f (negsuc n) e there late =
+    let early = day_count-lt_year f.year f.month f.day (pos 1970) 1 1 there.date (omega arith)
+    (rw e (omega (arith, signed_arith))) in
+    let number = days_from_civil-day_count f.year f.month f.day in
+    let epoch = day_count-epoch in
+    let hour = there.hour_in in let minute = there.minute_in in let second = there.second_in in
+    let nanosecond = there.nanosecond_in in
+    absurd (omega (arith, signed_arith))
 
 -- from the third day of 1970 on a clock at no offset shows a year before 0
 pub late_fields : (n o : ℤ) → IsTimestampNanos n → IsOffsetSeconds o → pos 172_800_000_000_000 <ℤ n
     → pos 0 ≤ℤ (civil_fields (n +ℤ nanos_of_seconds o)).year
-unfolding civil_fields place_fields
 late_fields n o h k late =
-    let at = in_range-at_offset n o h k in
-    let quot = int_div_euclid-parts (n +ℤ nanos_of_seconds o) 86_400_000_000_000 (omega arith) in
-    late_year (int_div_euclid (n +ℤ nanos_of_seconds o) (pos 86_400_000_000_000))
-    (omega (arith, signed_arith, at.0, at.1)) (omega (arith, signed_arith, k.0))
+    let (there, same) = civil_fields_exist (n +ℤ nanos_of_seconds o) (in_range-at_offset n o h k) in
+    not_early (civil_fields (n +ℤ nanos_of_seconds o)) _ refl there (omega (arith, signed_arith, same, k.0))
+
+-- the instant of fields by the days and seconds that they count
+pub early_instant : (f : CivilFields) (count : ℕ) (off sec nan : ℤ) → pos 0 ≤ℤ f.year
+    → count ≡ day_count (pos (unsigned_abs f.year)) f.month f.day
+    → sec +ℤ off +ℤ pos 377_736_739_200 ≡ pos (count * 86_400 + (f.hour * 3_600 + f.minute * 60 + f.second))
+    → nan ≡ sec *ℤ pos 1_000_000_000 +ℤ pos f.nanosecond → nan ≡ nanos_of_fields f -ℤ nanos_of_seconds off
+early_instant f count off sec nan from days second nanos =
+    let same : pos (unsigned_abs f.year) ≡ f.year = from_start f.year from in
+    let counted : count ≡ day_count f.year f.month f.day = days ∙ ap (λ (y : ℤ). day_count y f.month f.day) same in
+    let number = days_from_civil-day_count f.year f.month f.day in
+    omega (arith, signed_arith, counted, number, second, nanos)

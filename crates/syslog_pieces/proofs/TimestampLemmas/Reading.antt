@@ -1,398 +1,442 @@
--- The readers of a text's pieces read what the text writes. `NAME-is` says that what is read stands
--- there, `NAME-of` that what stands there is read.
-use Rattle.std.proofs.Common.{◌≡◌, inl, inr, ℕ, ℤ, pos, neg_ℤ, ◌+◌, ◌-◌, ◌*◌, ◌/◌, ◌%◌, ◌<◌}
-use Rattle.std.proofs.Common.{◌≤◌, ◌&&◌, ◌||◌, ◌==◌, nat_lt, true, false, List, [], ◌∷◌, ◌++◌}
-use Rattle.std.proofs.Common.{length, take, Option, Some, None, refl, sym, ap, subst, arith}
-use Rattle.std.specs.Prelude.{unwrap_or, option_and_then}
-use Rattle.std.proofs.lemmas.Bool.Decides.{nat_tests}
-use Rattle.std.specs.Char.{is_ascii_digit}
+-- What the reader of RFC 3339 texts reads stands there, and what stands there it reads: first of the digits of a
+-- fraction, then of a text. And from what a text wrote to the answer, of which there is one.
+use Rattle.std.proofs.Common.{◌≡◌, ℕ, zero, suc, ◌+◌, ◌-◌, ◌*◌, ◌/◌, ◌%◌, ◌^◌, ◌<◌, ◌==◌, true, false, List, [], ◌∷◌}
+use Rattle.std.proofs.Common.{◌++◌, length, take, Some, inl, inr, refl, sym, ap, ◌∙◌, arith, get_or, get_or-take}
+use Rattle.std.proofs.Common.{take_at, drop_at, ◌⊎◌, ℤ, pos, neg_ℤ, ◌&&◌, ◌||◌, nat_lt, ◌≤◌, drop, None, subst}
+use Rattle.std.proofs.Common.{append_assoc, ◌≢◌, ◌-ℤ◌, Option}
+use Rattle.std.proofs.Props.{props}
+use Rattle.std.proofs.lemmas.Bool.Decides.{nat_tests, eqb_tells}
+use Rattle.std.proofs.lemmas.List.{take-append-drop, append_cancel_right, length-append, append-nil}
+use Rattle.std.proofs.lemmas.List.Elements.{All-append, All-from_recursion}
+use Rattle.std.proofs.lemmas.List.Folds.{length-prefix_len, prefix_len-append}
+use Rattle.std.proofs.lemmas.List.Sums.{prefix_len_is, prefix_len_passes}
+use Rattle.std.proofs.lemmas.Str.{encodes-append, encodes-chars, encodes-IsAscii, IsUtf8-drop}
+use Rattle.std.specs.Char.{is_ascii_digit, IsAsciiDigit}
 use Rattle.std.specs.Int.{is_in_range}
-use Rattle.jiff_fmt.proofs.Cases.{by_bool}
-use Rattle.jiff_fmt.specs.Reader.{two_digits, four_digits}
-use Rattle.jiff_fmt.specs.Text.{pad2, pad4}
-use Rattle.std.proofs.Common.{get_or, get_or-take}
-use Rattle.std.proofs.lemmas.List.{take-append-drop}
-use Rattle.std.proofs.lemmas.List.Sums.{prefix_len_passes}
-use Rattle.std.proofs.lemmas.List.Folds.{length-prefix_len}
 use Rattle.std.specs.List.{All, prefix_len}
-use Rattle.std.specs.Char.{IsAsciiDigit}
-use Rattle.jiff_fmt.specs.Reader.{fraction_value}
+use Rattle.std.specs.Str.{chars, IsAscii, IsUtf8, IsCharBoundary, encode_utf8_all}
+use mathlib.Core.HLevel.{is_prop→PathP}
+use Rattle.jiff.specs.Types.{DateTime, Offset, Timestamp}
+use Rattle.jiff.specs.Words.{IsOffsetSeconds, IsTimestampNanos, nanos_of_seconds}
 use Rattle.jiff_fmt.proofs.RoundTrip.{two_digits-pad2, four_digits-pad4}
+use Rattle.jiff_fmt.specs.Reader.{fraction_value}
+use Rattle.jiff_fmt.specs.Text.{pad2, pad4}
+use Rattle.syslog_pieces.specs.Bodies.StampReading.{Read, nanoseconds, IsClockBytes, IsDayBytes, IsLetterBytes}
+use Rattle.syslog_pieces.specs.Bodies.StampReading.{IsOffsetBytes, after_letter, clock, date, fraction, minutes}
+use Rattle.syslog_pieces.specs.Bodies.StampReading.{numbers, written, ◌or◌, offset, seconds, stamp_text}
+use Rattle.syslog_pieces.specs.Pieces.Class.{Text, Front, NoFront, IsDeterministic}
+use Rattle.syslog_pieces.specs.Timestamp.{IsAnswer, IsStampText, HasNoStamp, IsStampOfRfc3339}
+use Rattle.syslog_pieces.specs.Timestamp.Fields.{fields_of, nanos_of_fields, IsStampAt}
+use Rattle.syslog_pieces.specs.Timestamp.Printed.{fraction_text, pad3}
+use Rattle.syslog_pieces.specs.Timestamp.Rfc3339.{IsFraction, IsLetter, IsOffsetText, Writes, HasStamp}
+use Rattle.syslog_pieces.specs.Timestamp.Rfc3339.{fields_of_rfc3339}
+use Rattle.syslog_pieces.specs.declared.timestamp.OffsetTimestamp.{OffsetTimestamp}
+use Rattle.syslog_pieces.specs.declared.timestamp.month_date.Clock.{Clock}
+use Rattle.syslog_pieces.specs.declared.timestamp.rfc3339_text.Day.{Day}
 use Rattle.syslog_pieces.specs.declared.timestamp.rfc3339_text.Rfc3339Fields.{Rfc3339Fields}
-use Rattle.syslog_pieces.specs.Bodies.StampReading.{after_byte, after_letter, date, clock, nanoseconds, fraction}
-use Rattle.syslog_pieces.specs.Bodies.StampReading.{offset_minutes, offset_seconds, rfc3339_fields, is_empty}
-use Rattle.syslog_pieces.proofs.TimestampLemmas.Fraction.{nanoseconds-of}
-use Rattle.syslog_pieces.specs.Timestamp.Rfc3339.{IsLetter, IsFraction, IsOffsetText, Writes}
+use Rattle.syslog_pieces.proofs.PieceLemmas.Class.{front_same}
+use Rattle.syslog_pieces.proofs.TextLemmas.Looks.{behind_chars, behind_cut, behind_is}
+use Rattle.syslog_pieces.proofs.TimestampLemmas.Characters.{date_and_clock, writes_ascii}
+use Rattle.syslog_pieces.proofs.TimestampLemmas.Civil.{civil_nanos-fields, civil-fields}
 
-pub by_option : {A P : Type 0} (o : Option A) → (o ≡ None → P) → ((x : A) → o ≡ Some x → P) → P
-by_option None n s = n refl
-by_option (Some x) n s = s x refl
+-- one or more digits, worth so many nanoseconds
+pub record AreDecimals (digits : List ℕ) (n : ℕ) : Type 0 where
+  pub some : 0 < length digits
+  pub each : All IsAsciiDigit digits
+  pub value : fraction_value 9 digits ≡ n
 
-pub some-inj : {A : Type 0} (x y : A) → Some x ≡ Some y → x ≡ y
-some-inj x y e = ap (λ o. unwrap_or o x) e
+pub dotted : (digits : List ℕ) (n : ℕ) → AreDecimals digits n → IsFraction (46 ∷ digits) n
+dotted digits n d = inr (digits, refl, d.some, d.each, sym d.value)
 
-pub pair-inj : {A B : Type 0} (a c : A) (b d : B) → ◌≡◌ {A = Option (A × B)} (Some (a, b)) (Some (c, d))
-    → (a ≡ c) × (b ≡ d)
-pair-inj {A} {B} a c b d e = let k = some-inj {A = A × B} (a, b) (c, d) e in
-    (ap (λ (p : A × B). p.0) k, ap (λ (p : A × B). p.1) k)
+-- ---- three, six or nine digits
+pad3-digits : (n : ℕ) → n < 1_000 → All IsAsciiDigit (pad3 n)
+pad3-digits n h = All-from_recursion IsAsciiDigit (pad3 n) (omega arith)
 
-pub none-some : {A P : Type 0} (x : A) → None ≡ Some x → P
-none-some x e = absurd (cc)
+pad3-value : (n : ℕ) → n < 1_000 → (48 + n / 100 - 48) * 100 + (48 + n / 10 % 10 - 48) * 10 + (48 + n % 10 - 48) ≡ n
+pad3-value n h = omega arith
 
-two_digits-is : (text : List ℕ) (n : ℕ) (rest : List ℕ) → two_digits text ≡ Some (n, rest)
-    → (n < 100) × (text ≡ pad2 n ++ rest)
-unfolding two_digits
-two_digits-is [] n rest h = none-some _ h
-two_digits-is (a ∷ []) n rest h = none-some _ h
-two_digits-is (a ∷ b ∷ more) n rest h =
-    by_bool (is_in_range 48 57 a && is_in_range 48 57 b)
-    (λ t.
-    let e = pair-inj _ _ _ _ (rw t at h) in
-    let value : (a - 48) * 10 + (b - 48) ≡ n = e.0 in
-    let same : more ≡ rest = e.1 in
-    let bounds : (48 ≤ a) × (a ≤ 57) × (48 ≤ b) × (b ≤ 57) = grind (arith, nat_tests, t) in
-    let high : a ≡ 48 + n / 10 = omega arith in
-    let low : b ≡ 48 + n % 10 = omega arith in
-    (omega arith, rw (← high, ← low, same)))
-    (λ t. none-some _ (rw t at h))
+module _ (a : ℕ) (a_in : a < 1_000) where
+  pub three : AreDecimals (pad3 a) (a * 1_000_000)
+  unfolding fraction_value
+  three = record { some = omega arith; each = pad3-digits a a_in; value = omega (arith, pad3-value a a_in) }
 
-after_byte-is : (byte : ℕ) (text rest : List ℕ) → after_byte byte text ≡ Some rest → text ≡ byte ∷ rest
-after_byte-is byte [] rest h = none-some _ h
-after_byte-is byte (c ∷ more) rest h =
-    by_bool (c == byte)
-    (λ t. let same : c ≡ byte = grind (arith, nat_tests, t) in let tail : more ≡ rest = some-inj _ _ (rw t at h) in
-    rw (same, tail))
-    (λ t. none-some _ (rw t at h))
+  module _ (b : ℕ) (b_in : b < 1_000) where
+    pub six : AreDecimals (pad3 a ++ pad3 b) (a * 1_000_000 + b * 1_000)
+    unfolding fraction_value
+    six = record {
+      some = omega arith;
+      each = All-append IsAsciiDigit (pad3 a) (pad3 b) (pad3-digits a a_in) (pad3-digits b b_in);
+      value = omega (arith, pad3-value a a_in, pad3-value b b_in);
+    }
 
-after_letter-is : (upper : ℕ) (text rest : List ℕ) → after_letter upper text ≡ Some rest
-    → (c : ℕ) × IsLetter upper c × (text ≡ c ∷ rest)
-after_letter-is upper [] rest h = none-some _ h
-after_letter-is upper (c ∷ more) rest h =
-    by_bool (c == upper || c == upper + 32)
-    (λ t. let tail : more ≡ rest = some-inj _ _ (rw t at h) in (c, grind (arith, nat_tests, t), rw tail))
-    (λ t. none-some _ (rw t at h))
+    pub nine : (c : ℕ) → c < 1_000 → AreDecimals (pad3 a ++ (pad3 b ++ pad3 c)) (a * 1_000_000 + b * 1_000 + c)
+    unfolding fraction_value
+    nine c c_in = record {
+      some = omega arith;
+      each = All-append IsAsciiDigit (pad3 a ++ pad3 b) (pad3 c) six.each (pad3-digits c c_in);
+      value = omega (arith, pad3-value a a_in, pad3-value b b_in, pad3-value c c_in);
+    }
 
-four_digits-is : (text : List ℕ) (n : ℕ) (rest : List ℕ) → four_digits text ≡ Some (n, rest)
-    → (n < 10_000) × (text ≡ pad4 n ++ rest)
-unfolding four_digits
-four_digits-is text n rest h =
-    by_option (two_digits text) (λ e. none-some _ (rw e at h))
-    (λ c e. let h1 = rw e at h in
-    by_option (two_digits c.1) (λ f. none-some _ (rw f at h1))
-    (λ y f.
-    let p = pair-inj _ _ _ _ (rw f at h1) in
-    let a = two_digits-is text c.0 c.1 e in
-    let b = two_digits-is c.1 y.0 y.1 f in
-    let high : n / 100 ≡ c.0 = omega arith in
-    let low : n % 100 ≡ y.0 = omega arith in
-    (omega arith, rw (high, low, ← p.1, a.1, b.1))))
+-- a printed fraction
+pub fraction_text-is : (n : ℕ) → n < 1_000_000_000 → IsFraction (fraction_text n) n
+unfolding fraction_text
+fraction_text-is n h =
+    let a = n / 1_000_000 in
+    let b = n / 1_000 % 1_000 in
+    let c = n % 1_000 in
+    let a_in : a < 1_000 = omega arith in
+    let b_in : b < 1_000 = omega arith in
+    let c_in : c < 1_000 = omega arith in
+    elim (eqb_tells n 0) [
+      | inl z ↦ let none = z.1 in inl (rw z.0, none)
+      | inr z ↦ elim (eqb_tells (n % 1_000_000) 0) [
+        | inl m ↦ let whole = m.1 in let same : a * 1_000_000 ≡ n = omega arith in
+            rw (z.0, m.0) (dotted (pad3 a) n (rw same at (three a a_in)))
+        | inr m ↦ elim (eqb_tells c 0) [
+          | inl k ↦ let whole = k.1 in let same : a * 1_000_000 + b * 1_000 ≡ n = omega arith in
+              rw (z.0, m.0, k.0) (dotted (pad3 a ++ pad3 b) n (rw same at (six a a_in b b_in)))
+          | inr k ↦ let same : a * 1_000_000 + b * 1_000 + c ≡ n = omega arith in
+              rw (z.0, m.0, k.0) (dotted (pad3 a ++ (pad3 b ++ pad3 c)) n (rw same at (nine a a_in b b_in c c_in)))
+        ]
+      ]
+    ]
 
--- the two steps of a chain that gives a value
-chained : {A B : Type 0} (o : Option A) (f : A → Option B) (y : B) → option_and_then f o ≡ Some y
-    → (x : A) × (o ≡ Some x) × (f x ≡ Some y)
-chained None f y h = none-some _ h
-chained (Some x) f y h = (x, refl, h)
+-- ---- how digits are read
 
--- a byte and two digits
-abbrev IsPart : ℕ → List ℕ → ℕ × List ℕ → Type 0
-IsPart byte text r = (r.0 < 100) × (text ≡ byte ∷ pad2 r.0 ++ r.1)
+-- digits past the places count nothing
+pub fraction_value-take : (k : ℕ) (ds : List ℕ) → fraction_value k (take k ds) ≡ fraction_value k ds
+unfolding fraction_value
+fraction_value-take zero ds = refl
+fraction_value-take (suc k) [] = refl
+fraction_value-take (suc k) (d ∷ ds) = ap (λ n. (d - 48) * 10 ^ k + n) (fraction_value-take k ds)
 
-part-is : (byte : ℕ) (text : List ℕ) (r : ℕ × List ℕ) → option_and_then two_digits (after_byte byte text) ≡ Some r
-    → IsPart byte text r
-part-is byte text r h =
-    let (after, is_byte, is_number) = chained (after_byte byte text) two_digits r h in
-    let number = two_digits-is after r.0 r.1 is_number in
-    (number.0, rw (after_byte-is byte text after is_byte) (ap (λ xs. byte ∷ xs) number.1))
+-- a digit of the front of a front
+pub front-digit : (text front : List ℕ) (len n i : ℕ) → front ≡ take len text → i < len → i < n
+    → get_or (take n front) i 0 ≡ get_or text i 0
+front-digit text front len n i e h k =
+    get_or-take n front i 0 k ∙ ap (λ (xs : List ℕ). get_or xs i 0) e ∙ get_or-take len text i 0 h
 
-abbrev IsDate : List ℕ → (ℕ × ℕ × ℕ) × List ℕ → Type 0
-IsDate text r =
-    (r.0.0 < 10_000) × (r.0.1 < 100) × (r.0.2 < 100)
-    × (text ≡ pad4 r.0.0 ++ (45 ∷ pad2 r.0.1 ++ (45 ∷ pad2 r.0.2 ++ r.1)))
+-- the digits in front of what begins with none
+digits-all : (digits rest : List ℕ) → All IsAsciiDigit digits → prefix_len is_ascii_digit rest ≡ 0
+    → prefix_len is_ascii_digit (digits ++ rest) ≡ length digits
+digits-all digits rest all stop =
+    let whole : prefix_len is_ascii_digit digits ≡ length digits =
+    prefix_len_is is_ascii_digit digits (length digits) 0 (omega arith)
+    (λ k h. let digit = all k 0 h in grind (arith, nat_tests, digit)) (λ h. absurd (omega arith)) in
+    let same : (prefix_len is_ascii_digit digits == length digits) ≡ true = grind (arith, nat_tests, whole) in
+    rw (prefix_len-append, same, stop) (omega arith)
 
-abbrev IsClock : List ℕ → (ℕ × ℕ × ℕ) × List ℕ → Type 0
-IsClock text r =
-    (r.0.0 < 100) × (r.0.1 < 100) × (r.0.2 < 100)
-    × (text ≡ pad2 r.0.0 ++ (58 ∷ pad2 r.0.1 ++ (58 ∷ pad2 r.0.2 ++ r.1)))
-
--- three pieces in a row
-three-parts : (text first second rest a b c : List ℕ) → text ≡ a ++ first → first ≡ b ++ second → second ≡ c ++ rest
-    → text ≡ a ++ (b ++ (c ++ rest))
-three-parts text first second rest a b c e f g = rw (e, f, g)
-
-date-is : (text : List ℕ) (r : (ℕ × ℕ × ℕ) × List ℕ) → date text ≡ Some r → IsDate text r
-unfolding date
-date-is text r h =
-    let (year, is_year, after_year) = chained (four_digits text) _ r h in
-    let (month, is_month, after_month) = chained _ _ r after_year in
-    let (day, is_day, is_date) = chained _ _ r after_month in
-    let years = four_digits-is text year.0 year.1 is_year in
-    let months = part-is 45 year.1 month is_month in
-    let days = part-is 45 month.1 day is_day in
-    let P : (ℕ × ℕ × ℕ) × List ℕ → Type 0 = IsDate text in
-    subst P (some-inj _ r is_date) (
-      years.0,
-      months.0,
-      days.0,
-      three-parts text year.1 month.1 day.1 (pad4 year.0) (45 ∷ pad2 month.0) (45 ∷ pad2 day.0) years.1 months.1 days.1,
+-- digits are read whole where none follows
+pub decimals-of : {digits : List ℕ} {n : ℕ} (rest : List ℕ) → AreDecimals digits n → prefix_len is_ascii_digit rest ≡ 0
+    → nanoseconds (digits ++ rest) ≡ Some (n, rest)
+unfolding nanoseconds
+decimals-of {digits = digits} rest d stop =
+    let long = d.some in
+    let some : (length digits == 0) ≡ false = grind (arith, nat_tests) in
+    rw (
+      digits-all digits rest d.each stop,
+      some,
+      take_at digits rest (length digits) refl,
+      drop_at digits rest (length digits) refl,
+      d.value,
     )
 
-clock-is : (text : List ℕ) (r : (ℕ × ℕ × ℕ) × List ℕ) → clock text ≡ Some r → IsClock text r
-unfolding clock
-clock-is text r h =
-    let (hour, is_hour, after_hour) = chained (two_digits text) _ r h in
-    let (minute, is_minute, after_minute) = chained _ _ r after_hour in
-    let (second, is_second, is_clock) = chained _ _ r after_minute in
-    let hours = two_digits-is text hour.0 hour.1 is_hour in
-    let minutes = part-is 58 hour.1 minute is_minute in
-    let seconds = part-is 58 minute.1 second is_second in
-    let P : (ℕ × ℕ × ℕ) × List ℕ → Type 0 = IsClock text in
-    subst P (some-inj _ r is_clock) (
-      hours.0,
-      minutes.0,
-      seconds.0,
-      three-parts text hour.1 minute.1 second.1 (pad2 hour.0) (58 ∷ pad2 minute.0)
-          (58 ∷ pad2 second.0) hours.1 minutes.1 seconds.1,
-    )
+-- what is read is a value and a rest
+pub read_same : {A : Type 0} (a b : A) (q r : List ℕ) → ◌≡◌ {A = Read A} (Some (a, q)) (Some (b, r)) → (a ≡ b) × (q ≡ r)
+read_same {A} a b q r e =
+    let same : ◌≡◌ {A = A × List ℕ} (a, q) (b, r) = cc in
+    (ap (λ (x : A × List ℕ). x.0) same, ap (λ (x : A × List ℕ). x.1) same)
 
 digits-front : (text : List ℕ) → All IsAsciiDigit (take (prefix_len is_ascii_digit text) text)
 digits-front text k d h =
     let n = prefix_len is_ascii_digit text in
     let len = length-prefix_len is_ascii_digit text in
     let within : k < n = omega arith in
-    let here : get_or (take n text) k d ≡ get_or text k d = get_or-take n text k d within in
     let test : is_in_range 48 57 (get_or text k d) ≡ true = prefix_len_passes is_ascii_digit text k d within in
-    rw here (grind (arith, nat_tests, test))
+    rw (get_or-take n text k d within) (grind (arith, nat_tests, test))
 
-fraction-is : (text : List ℕ) (n : ℕ) (rest : List ℕ) → fraction text ≡ Some (n, rest)
-    → (decimals : List ℕ) × IsFraction decimals n × (text ≡ decimals ++ rest)
-unfolding fraction nanoseconds
-fraction-is [] n rest h = let e = pair-inj _ _ _ _ h in ([], inl (refl, sym e.0), rw (← e.1))
-fraction-is (c ∷ more) n rest h =
-    by_bool (c == 46)
-    (λ t.
-    let h1 = rw t at h in
-    let len = prefix_len is_ascii_digit more in
-    by_bool (len == 0)
-    (λ z. none-some _ (rw z at h1))
-    (λ z.
-    let e = pair-inj _ _ _ _ (rw z at h1) in
-    let digits = take len more in
-    let dot : c ≡ 46 = grind (arith, nat_tests, t) in
-    let some : 0 < len = grind (arith, nat_tests, z) in
-    let count = length-prefix_len is_ascii_digit more in
-    let long : 0 < length digits = omega arith in
-    let whole : digits ++ rest ≡ more = rw (← e.1) (take-append-drop len more) in
-    let same : (46 ∷ digits) ++ rest ≡ c ∷ more = rw (whole, dot) in
-    (46 ∷ digits, inr (digits, refl, long, digits-front more, sym e.0), sym same)))
-    (λ t. let e = pair-inj _ _ _ _ (rw t at h) in ([], inl (refl, sym e.0), rw (← e.1)))
+-- and what is read is digits
+pub decimals-is : (text : List ℕ) (n : ℕ) (rest : List ℕ) → nanoseconds text ≡ Some (n, rest)
+    → (digits : List ℕ) × AreDecimals digits n × (text ≡ digits ++ rest)
+unfolding nanoseconds
+decimals-is text n rest h =
+    let len = prefix_len is_ascii_digit text in
+    let count = length-prefix_len is_ascii_digit text in
+    elim (eqb_tells len 0) [
+      | inl z ↦ absurd (let e = rw z.0 at h in cc)
+      | inr z ↦
+          let some = z.1 in
+          let (value, left) = read_same _ _ _ _ (rw z.0 at h) in (
+            take len text,
+            record { some = omega arith; each = digits-front text; value = value },
+            rw (← left) (sym (take-append-drop len text)),
+          )
+    ]
 
-is_empty-is : (text : List ℕ) → is_empty text ≡ true → text ≡ []
-is_empty-is [] h = refl
-is_empty-is (c ∷ rest) h = absurd (cc)
+-- ---- what is read stands there
 
-hours-joined : (text after rest : List ℕ) (h m : ℕ) → text ≡ pad2 h ++ after → after ≡ 58 ∷ pad2 m ++ rest → rest ≡ []
-    → text ≡ pad2 h ++ 58 ∷ pad2 m
-hours-joined text after rest h m e f g = rw (e, f, g)
+-- a fraction, and the rest
+abbrev pub IsFractionBytes : List ℕ → ℕ → List ℕ → Type 0
+IsFractionBytes text n rest = (decimals : List ℕ) × IsFraction decimals n × (text ≡ decimals ++ rest)
 
-offset_minutes-is : (text : List ℕ) (n : ℕ) → offset_minutes text ≡ Some n → (h m : ℕ) × (h < 24) × (m < 60)
-    × (n ≡ h * 60 + m) × (text ≡ pad2 h ++ 58 ∷ pad2 m)
-unfolding offset_minutes
-offset_minutes-is text n h =
-    let (hours, is_hours, after_hours) = chained (two_digits text) _ n h in
-    let (minutes, is_minutes, at_end) = chained _ _ n after_hours in
-    by_bool (nat_lt hours.0 24 && nat_lt minutes.0 60 && is_empty minutes.1)
-    (λ t.
-    let value = some-inj _ _ (rw t at at_end) in
-    let in_day : (hours.0 < 24) × (minutes.0 < 60) × (is_empty minutes.1 ≡ true) = grind (arith, nat_tests, t) in
-    let front = two_digits-is text hours.0 hours.1 is_hours in
-    let back = part-is 58 hours.1 minutes is_minutes in (
-      hours.0,
-      minutes.0,
-      in_day.0,
-      in_day.1,
-      sym value,
-      hours-joined text hours.1 minutes.1 hours.0 minutes.0 front.1 back.1 (is_empty-is minutes.1 in_day.2),
-    ))
-    (λ t. none-some _ (rw t at at_end))
+pub fraction-is : (text : List ℕ) (n : ℕ) (rest : List ℕ) → fraction text ≡ Some (n, rest) → IsFractionBytes text n rest
+unfolding fraction
+fraction-is [] n rest h = let (worth, left) = read_same _ _ _ _ h in ([], inl (refl, sym worth), left)
+fraction-is (c ∷ more) n rest h = elim (eqb_tells c 46) [
+  | inl dot ↦
+      let (digits, d, e) = decimals-is more n rest (rw dot.0 at h) in
+      let same = dot.1 in (46 ∷ digits, dotted digits n d, (cc))
+  | inr none ↦ let (worth, left) = read_same _ _ _ _ (rw none.0 at h) in ([], inl (refl, sym worth), left)
+]
 
-signed-text : (c b h m : ℕ) (rest : List ℕ) → c ≡ b → rest ≡ pad2 h ++ 58 ∷ pad2 m
-    → c ∷ rest ≡ b ∷ pad2 h ++ 58 ∷ pad2 m
-signed-text c b h m rest e f = rw (e, f)
-
-joined : (text after_date after_letter after_clock decimals zone : List ℕ) (y m d c h mi s : ℕ)
-    → text ≡ pad4 y ++ (45 ∷ pad2 m ++ (45 ∷ pad2 d ++ after_date)) → after_date ≡ c ∷ after_letter
-    → after_letter ≡ pad2 h ++ (58 ∷ pad2 mi ++ (58 ∷ pad2 s ++ after_clock)) → after_clock ≡ decimals ++ zone
-    → text ≡ pad4 y ++ (45 ∷ pad2 m
-    ++ (45 ∷ pad2 d ++ (c ∷ pad2 h ++ (58 ∷ pad2 mi ++ (58 ∷ pad2 s ++ (decimals ++ zone))))))
-joined text after_date after_letter after_clock decimals zone y m d c h mi s e1 e2 e3 e4 = rw (e1, e2, e3, e4)
-
-offset_seconds-is : (text : List ℕ) (z : ℤ) → offset_seconds text ≡ Some z → IsOffsetText text z
-unfolding offset_seconds
-offset_seconds-is [] z h = none-some _ h
-offset_seconds-is (c ∷ rest) z h =
-    by_bool (c == 90 || c == 122)
-    (λ t. let h1 = rw t at h in
-    by_bool (is_empty rest)
-    (λ e. let value = some-inj _ _ (rw e at h1) in
-    inl (c, ap (λ xs. c ∷ xs) (is_empty-is rest e), grind (arith, nat_tests, t), sym value))
-    (λ e. none-some _ (rw e at h1)))
-    (λ t. let h1 = rw t at h in
-    by_bool (c == 43)
-    (λ p. let h2 = rw p at h1 in
-    let plus : c ≡ 43 = grind (arith, nat_tests, p) in
-    by_option (offset_minutes rest) (λ e. none-some _ (rw e at h2)) (λ n e.
-    let value = some-inj _ _ (rw e at h2) in
-    let m = offset_minutes-is rest n e in
+-- a sign and `HH:MM` of so many minutes
+pub signed_is : (sign m : ℕ) → m < 1440 → (sign ≡ 43) ⊎ (sign ≡ 45)
+    → IsOffsetText (sign ∷ (pad2 (m / 60) ++ (58 ∷ pad2 (m % 60)))) (seconds sign m)
+signed_is sign m small s =
+    let same : (m / 60 * 60 + m % 60) * 60 ≡ m * 60 = omega arith in
     inr (record {
-      hours = m.0;
-      minutes = m.1;
-      hours_in = m.2;
-      minutes_in = m.3;
-      written = inl (signed-text c 43 m.0 m.1 rest plus m.5, rw (← m.4) (sym value));
-    })))
-    (λ p. let h2 = rw p at h1 in
-    by_bool (c == 45)
-    (λ d. let h3 = rw d at h2 in
-    let dash : c ≡ 45 = grind (arith, nat_tests, d) in
-    by_option (offset_minutes rest) (λ e. none-some _ (rw e at h3)) (λ n e.
-    let value = some-inj _ _ (rw e at h3) in
-    let m = offset_minutes-is rest n e in
-    inr (record {
-      hours = m.0;
-      minutes = m.1;
-      hours_in = m.2;
-      minutes_in = m.3;
-      written = inr (signed-text c 45 m.0 m.1 rest dash m.5, rw (← m.4) (sym value));
-    })))
-    (λ d. none-some _ (rw d at h2))))
-
--- what the reader reads is what the text writes
-pub rfc3339_fields-is : (text : List ℕ) (w : Rfc3339Fields) → rfc3339_fields text ≡ Some w → Writes text w
-unfolding rfc3339_fields
-rfc3339_fields-is text w h =
-    let (date, is_date, after_date) = chained (date text) _ w h in
-    let (clock, is_clock, after_clock) = chained _ _ w after_date in
-    let (decimals, is_decimals, after_decimals) = chained _ _ w after_clock in
-    let (offset, is_offset, is_written) = chained _ _ w after_decimals in
-    let (after_letter, is_letter, is_after_letter) = chained (after_letter 84 date.1) _ clock is_clock in
-    let d = date-is text date is_date in
-    let l = after_letter-is 84 date.1 after_letter is_letter in
-    let c = clock-is after_letter clock is_after_letter in
-    let f = fraction-is clock.1 decimals.0 decimals.1 is_decimals in
-    let P : Rfc3339Fields → Type 0 = Writes text in
-    subst P (some-inj _ w is_written)
-    (record {
-      letter = l.0;
-      is_letter = l.1;
-      decimals = f.0;
-      zone = decimals.1;
-      whole = joined _ _ _ _ f.0 decimals.1 _ _ _ _ _ _ _ d.3 l.2 c.3 f.2;
-      fits = record { year = d.0; month = d.1; day = d.2; hour = c.0; minute = c.1; second = c.2 };
-      fraction = f.1;
-      zone_is = offset_seconds-is decimals.1 offset is_offset;
+      hours = m / 60;
+      minutes = m % 60;
+      hours_in = omega arith;
+      minutes_in = omega arith;
+      written = elim s [
+        | inl e ↦ inl (rw e (refl, ap pos (sym same)))
+        | inr e ↦ inr (rw e (refl, ap (λ k. neg_ℤ (pos k)) (sym same)))
+      ];
     })
 
--- and what a text writes, the reader reads
+pub signed_bytes : (bs behind rest : List ℕ) (sign m : ℕ) → m < 1440
+    → ((sign ≡ 43) ⊎ (sign ≡ 45)) × (bs ≡ sign ∷ behind)
+    → behind ≡ pad2 (m / 60) ++ (58 ∷ (pad2 (m % 60) ++ rest)) → IsOffsetBytes bs (seconds sign m) rest
+signed_bytes bs behind rest sign m small (s, e) f =
+    record { zone = _; is = signed_is sign m small s; whole = rw (e, f) }
+
+-- the pieces of a text, one behind the other
+pub writes-of : (letter : ℕ) (day : Day) (time : Clock) (n : ℕ) (o : ℤ) (decimals zone : List ℕ) → IsLetter 84 letter
+    → day.year < 10_000 → day.month < 100 → day.day < 100 → time.hour < 100 → time.minute < 100 → time.second < 100
+    → IsFraction decimals n → IsOffsetText zone o
+    → Writes (date_and_clock letter day.year day.month day.day time.hour time.minute time.second ++ (decimals ++ zone))
+    (written day time n o)
+writes-of letter day time n o decimals zone l y m d h mi s f z = record {
+  letter = letter;
+  is_letter = l;
+  decimals = decimals;
+  zone = zone;
+  whole = refl;
+  fits = record { year = y; month = m; day = d; hour = h; minute = mi; second = s };
+  fraction = f;
+  zone_is = z;
+}
+
+pub numbers-is : {bs b1 b2 b3 b4 b5 : List ℕ} {day : Day} {time : Clock} {n : ℕ} {o : ℤ} → IsDayBytes bs day b1
+    → IsLetterBytes 84 b1 b2 → IsClockBytes b2 time b3 → IsFractionBytes b3 n b4 → IsOffsetBytes b4 o b5
+    → Front stamp_text bs b5 (written day time n o)
+numbers-is {day = day} {time = time} {n = n} {o = o} d (letter, is_letter, l) c (decimals, f, e) z = record {
+  piece =
+      date_and_clock letter day.year day.month day.day time.hour time.minute time.second ++ (decimals ++ z.zone);
+  whole = rw (d.whole, l, c.whole, e, z.whole) (simp append_assoc);
+  is = writes-of letter day time n o decimals z.zone is_letter d.year_in d.month_in d.day_in c.hour_in c.minute_in
+      c.second_in f z.is;
+}
+
+-- ---- what stands there is read
 
 after_letter-of : (upper c : ℕ) (rest : List ℕ) → IsLetter upper c → after_letter upper (c ∷ rest) ≡ Some rest
-after_letter-of upper c rest l = let same : (c == upper || c == upper + 32) ≡ true = grind (arith, nat_tests, l) in
-    rw same
+after_letter-of upper c rest l =
+    let same : (c == upper || c == upper + 32) ≡ true = grind (arith, nat_tests, l) in rw same
 
-date-of : (y m d : ℕ) (rest : List ℕ) → y < 10_000 → m < 100 → d < 100
-    → date (pad4 y ++ (45 ∷ pad2 m ++ (45 ∷ pad2 d ++ rest))) ≡ Some ((y, m, d), rest)
+date-of : (d : Day) (rest : List ℕ) → d.year < 10_000 → d.month < 100 → d.day < 100
+    → date (pad4 d.year ++ (45 ∷ pad2 d.month ++ (45 ∷ pad2 d.day ++ rest))) ≡ Some (d, rest)
 unfolding date
-date-of y m d rest a b c =
-    rw (
-      four_digits-pad4 y (45 ∷ pad2 m ++ (45 ∷ pad2 d ++ rest)) a,
-      two_digits-pad2 m (45 ∷ pad2 d ++ rest) b,
-      two_digits-pad2 d rest c,
-    )
+date-of d rest y_in m_in d_in = rw (four_digits-pad4 d.year, two_digits-pad2 d.month, two_digits-pad2 d.day)
 
-clock-of : (h m s : ℕ) (rest : List ℕ) → h < 100 → m < 100 → s < 100
-    → clock (pad2 h ++ (58 ∷ pad2 m ++ (58 ∷ pad2 s ++ rest))) ≡ Some ((h, m, s), rest)
+clock-of : (c : Clock) (rest : List ℕ) → c.hour < 100 → c.minute < 100 → c.second < 100
+    → clock (pad2 c.hour ++ (58 ∷ pad2 c.minute ++ (58 ∷ pad2 c.second ++ rest))) ≡ Some (c, rest)
 unfolding clock
-clock-of h m s rest a b c =
-    rw (
-      two_digits-pad2 h (58 ∷ pad2 m ++ (58 ∷ pad2 s ++ rest)) a,
-      two_digits-pad2 m (58 ∷ pad2 s ++ rest) b,
-      two_digits-pad2 s rest c,
-    )
+clock-of c rest h_in m_in s_in = rw (two_digits-pad2 c.hour, two_digits-pad2 c.minute, two_digits-pad2 c.second)
 
 -- a text that begins with no digit and no dot
 abbrev Starts : List ℕ → Type 0
 Starts text = (c : ℕ) × (rest : List ℕ) × (text ≡ c ∷ rest) × ((c == 46) ≡ false) × (is_ascii_digit c ≡ false)
 
-fraction-start : (c : ℕ) (rest : List ℕ) → (c == 46) ≡ false → fraction (c ∷ rest) ≡ Some (0, c ∷ rest)
+fraction-of : (decimals text : List ℕ) (n : ℕ) → IsFraction decimals n → Starts text
+    → fraction (decimals ++ text) ≡ Some (n, text)
 unfolding fraction
-fraction-start c rest t = rw t
-
-dot-of : (digits rest : List ℕ) → 0 < length digits → All IsAsciiDigit digits → prefix_len is_ascii_digit rest ≡ 0
-    → fraction (46 ∷ (digits ++ rest)) ≡ Some (fraction_value 9 digits, rest)
-unfolding fraction
-dot-of digits rest long all stop = nanoseconds-of digits rest long all stop
-
-fraction-of : (decimals zone : List ℕ) (n : ℕ) → IsFraction decimals n → Starts zone
-    → fraction (decimals ++ zone) ≡ Some (n, zone)
-fraction-of decimals zone n (inl none) start =
-    let (c, rest, e, dot, digit) = start in
-    rw (none.0, none.1, e) (fraction-start c rest dot)
-fraction-of decimals zone n (inr some) start =
-    let (c, rest, e, dot, digit) = start in
-    let (digits, d, long, all, value) = some in
+fraction-of decimals text n (inl none) (c, rest, e, dot, digit) = rw (none.0, none.1, e, dot)
+fraction-of decimals text n (inr (digits, d, some, each, value)) (c, rest, e, dot, digit) =
     let stop : prefix_len is_ascii_digit (c ∷ rest) ≡ 0 = rw digit in
-    rw (d, value, e) (dot-of digits (c ∷ rest) long all stop)
+    rw (d, e) (decimals-of (c ∷ rest) (record { some = some; each = each; value = sym value }) stop)
 
-offset_minutes-of : (h m : ℕ) → h < 24 → m < 60 → offset_minutes (pad2 h ++ 58 ∷ pad2 m) ≡ Some (h * 60 + m)
-unfolding offset_minutes
-offset_minutes-of h m a b =
-    let test : (nat_lt h 24 && nat_lt m 60 && true) ≡ true = grind (arith, nat_tests) in
-    rw (two_digits-pad2 h (58 ∷ pad2 m) (omega arith), two_digits-pad2 m [] (omega arith), test)
+minutes-of : (h m : ℕ) (rest : List ℕ) → h < 24 → m < 60
+    → minutes (pad2 h ++ (58 ∷ pad2 m ++ rest)) ≡ Some (h * 60 + m, rest)
+unfolding minutes
+minutes-of h m rest a b =
+    let test : (nat_lt h 24 && nat_lt m 60) ≡ true = grind (arith, nat_tests) in
+    rw (two_digits-pad2 h (58 ∷ pad2 m ++ rest) (omega arith), two_digits-pad2 m rest (omega arith), test)
 
-offset_zulu : (c : ℕ) → IsLetter 90 c → offset_seconds (c ∷ []) ≡ Some (pos 0)
-unfolding offset_seconds
-offset_zulu c l = let same : (c == 90 || c == 122) ≡ true = grind (arith, nat_tests, l) in rw same
-
-offset_plus : (h m : ℕ) → h < 24 → m < 60 → offset_seconds (43 ∷ pad2 h ++ 58 ∷ pad2 m) ≡ Some (pos ((h * 60 + m) * 60))
-unfolding offset_seconds
-offset_plus h m a b = rw (offset_minutes-of h m a b)
-
-offset_minus : (h m : ℕ) → h < 24 → m < 60
-    → offset_seconds (45 ∷ pad2 h ++ 58 ∷ pad2 m) ≡ Some (neg_ℤ (pos ((h * 60 + m) * 60)))
-unfolding offset_seconds
-offset_minus h m a b = rw (offset_minutes-of h m a b)
-
-offset_seconds-of : (zone : List ℕ) (z : ℤ) → IsOffsetText zone z → offset_seconds zone ≡ Some z
-offset_seconds-of zone z (inl zulu) = let (c, e, l, v) = zulu in rw (e, v) (offset_zulu c l)
-offset_seconds-of zone z (inr n) =
+offset-of : (zone rest : List ℕ) (z : ℤ) → IsOffsetText zone z
+    → (offset (zone ++ rest) ≡ Some (z, rest)) × Starts (zone ++ rest)
+unfolding offset
+offset-of zone rest z (inl (c, e, l, v)) =
+    rw (e, v) (
+      rw (after_letter-of 90 c rest l, ◌or◌),
+      (c, rest, refl, grind (arith, nat_tests, l), grind (arith, nat_tests, l)),
+    )
+offset-of zone rest z (inr n) =
+    let read = minutes-of n.hours n.minutes rest n.hours_in n.minutes_in in
     elim n.written [
-      | inl w ↦ rw (w.0, w.1) (offset_plus n.hours n.minutes n.hours_in n.minutes_in)
-      | inr w ↦ rw (w.0, w.1) (offset_minus n.hours n.minutes n.hours_in n.minutes_in)
+      | inl w ↦ rw (w.0, w.1) (rw read, (43, pad2 n.hours ++ (58 ∷ pad2 n.minutes ++ rest), refl, refl, refl))
+      | inr w ↦ rw (w.0, w.1) (rw read, (45, pad2 n.hours ++ (58 ∷ pad2 n.minutes ++ rest), refl, refl, refl))
     ]
 
-starts-of : (zone : List ℕ) (z : ℤ) → IsOffsetText zone z → Starts zone
-starts-of zone z (inl zulu) =
-    let (c, e, l, v) = zulu in (c, [], e, grind (arith, nat_tests, l), grind (arith, nat_tests, l))
-starts-of zone z (inr n) =
-    elim n.written [
-      | inl w ↦ (43, pad2 n.hours ++ 58 ∷ pad2 n.minutes, w.0, refl, refl)
-      | inr w ↦ (45, pad2 n.hours ++ 58 ∷ pad2 n.minutes, w.0, refl, refl)
-    ]
-
-pub rfc3339_fields-of : (text : List ℕ) (w : Rfc3339Fields) → Writes text w → rfc3339_fields text ≡ Some w
-unfolding rfc3339_fields
-rfc3339_fields-of text w h =
-    let tail = h.decimals ++ h.zone in
-    let clock_text = pad2 w.hour ++ (58 ∷ pad2 w.minute ++ (58 ∷ pad2 w.second ++ tail)) in
+numbers-of : (text rest : List ℕ) (w : Rfc3339Fields) → Writes text w → numbers (text ++ rest) ≡ Some (w, rest)
+unfolding numbers
+numbers-of text rest w h =
+    let day : Day = record { year = w.year; month = w.month; day = w.day } in
+    let time : Clock = record { hour = w.hour; minute = w.minute; second = w.second } in
+    let tail = h.zone ++ rest in
+    let (read, start) = offset-of h.zone rest w.offset h.zone_is in
+    let clock_text = pad2 w.hour ++ (58 ∷ pad2 w.minute ++ (58 ∷ pad2 w.second ++ (h.decimals ++ tail))) in
     rw (
       h.whole,
-      date-of w.year w.month w.day (h.letter ∷ clock_text) h.fits.year h.fits.month h.fits.day,
+      append_assoc h.decimals h.zone rest,
+      date-of day (h.letter ∷ clock_text) h.fits.year h.fits.month h.fits.day,
       after_letter-of 84 h.letter clock_text h.is_letter,
-      clock-of w.hour w.minute w.second tail h.fits.hour h.fits.minute h.fits.second,
-      fraction-of h.decimals h.zone w.nanosecond h.fraction (starts-of h.zone w.offset h.zone_is),
-      offset_seconds-of h.zone w.offset h.zone_is,
+      clock-of time (h.decimals ++ tail) h.fits.hour h.fits.minute h.fits.second,
+      fraction-of h.decimals tail w.nanosecond h.fraction start,
+      read,
     )
 
--- no text is shorter than a date and a clock
-pub short-none : (text : List ℕ) → length text < 19 → rfc3339_fields text ≡ None
-short-none text h = by_option (rfc3339_fields text) (λ e. e)
-    (λ w e. let k = ap length (rfc3339_fields-is text w e).whole in absurd (omega arith))
+-- so a text has one RFC 3339 text at its front
+pub stamp_text_det : IsDeterministic stamp_text
+stamp_text_det p q p' q' w w' e h h' =
+    let same = sym (numbers-of p q w h) ∙ ap numbers e ∙ numbers-of p' q' w' h' in
+    let (numbers_same, rest_same) = read_same w w' q q' same in
+    (append_cancel_right p p' q (e ∙ ap (λ (x : Text). p' ++ x) (sym rest_same)), numbers_same)
+
+-- ---- bytes and characters
+module _ (bs : List ℕ) (u : IsUtf8 bs) where
+  module _ {rest : List ℕ} {w : Rfc3339Fields} (f : Front stamp_text bs rest w) where
+    pub ascii : IsAscii f.piece
+    ascii = writes_ascii f.piece w f.is
+
+    pub text_cut : IsCharBoundary bs (length bs - length rest)
+    text_cut = behind_cut f.piece bs rest ascii u f.whole
+
+    pub text_utf8 : IsUtf8 rest
+    text_utf8 =
+        subst IsUtf8 (behind_is f.piece bs rest ascii u f.whole _ refl) (IsUtf8-drop bs _ u text_cut)
+
+    abbrev pub text_chars : Front stamp_text (chars bs) (chars rest) w
+    text_chars = record { piece = f.piece; whole = behind_chars f.piece bs rest ascii u f.whole; is = f.is }
+
+    pub text_front : (ys : List ℕ) → ys ≡ drop (length bs - length rest) bs → Front stamp_text (chars bs) (chars ys) w
+    text_front ys e =
+        subst (λ (x : List ℕ). Front stamp_text (chars bs) (chars x) w)
+        (sym (behind_is f.piece bs rest ascii u f.whole ys e)) text_chars
+
+  module _ (p q : Text) (w : Rfc3339Fields) (e : chars bs ≡ p ++ q) (h : Writes p w) where
+    bytes : bs ≡ p ++ encode_utf8_all q
+    bytes = sym (encodes-chars bs u) ∙ ap encode_utf8_all e ∙ encodes-append p q
+        ∙ ap (λ (x : List ℕ). x ++ encode_utf8_all q) (encodes-IsAscii p (writes_ascii p w h))
+
+    text_read : numbers bs ≡ Some (w, encode_utf8_all q)
+    text_read = ap numbers bytes ∙ numbers-of p (encode_utf8_all q) w h
+
+    -- no text is shorter than a date, a clock and an offset
+    text_long : 20 ≤ length bs
+    text_long =
+        let tail = encode_utf8_all q in
+        let (c, more, start, _, _) = (offset-of h.zone tail w.offset h.zone_is).1 in
+        let whole = simp append_assoc at (ap length (bytes ∙ ap (λ (x : List ℕ). x ++ tail) h.whole)) in
+        omega (arith, whole, length-append h.decimals (h.zone ++ tail), ap length start)
+
+  pub no_short_text : length bs < 20 → NoFront stamp_text (chars bs)
+  no_short_text short p q w e h = let long = text_long p q w e h in absurd (omega arith)
+
+  pub no_text_read : numbers bs ≡ None → NoFront stamp_text (chars bs)
+  no_text_read none p q w e h = let read = text_read p q w e h in cc
+
+-- ---- from what a text wrote to the answer
+
+-- an answer to one question is one to another that asks the same
+pub answer_same : (P Q : OffsetTimestamp → Type 0) (answer : Option OffsetTimestamp)
+    → ((s : OffsetTimestamp) → P s → Q s)
+    → ((s : OffsetTimestamp) → Q s → P s) → IsAnswer P answer → IsAnswer Q answer
+answer_same P Q None forth back h = λ s q. h s (back s q)
+answer_same P Q (Some s) forth back h = forth s h
+
+-- the stamp of the datetime is that of the numbers that name it
+pub answer_of_rfc3339 : (w : Rfc3339Fields) (dt : DateTime) (offset : Offset) (answer : Option OffsetTimestamp)
+    → fields_of dt ≡ fields_of_rfc3339 w
+    → w.second < 61 → offset.seconds ≡ w.offset → IsAnswer (IsStampAt dt offset) answer
+    → IsAnswer (IsStampOfRfc3339 w) answer
+answer_of_rfc3339 w dt offset answer e second same h =
+    let nanos = civil_nanos-fields dt (fields_of_rfc3339 w) e in
+    answer_same (IsStampAt dt offset) (IsStampOfRfc3339 w) answer
+    (λ s p. record {
+      civil = civil-fields dt (fields_of_rfc3339 w) e;
+      second = second;
+      instant = rw (← nanos, ← same) p.instant;
+      at_offset = p.at_offset ∙ same;
+      in_range = s.instant.in_range;
+    })
+    (λ s q. record { instant = rw (nanos, same) q.instant; at_offset = q.at_offset ∙ sym same }) h
+
+-- ---- the stamp of a text
+whole_front : (t : Text) (w : Rfc3339Fields) → Writes t w → Front stamp_text t [] w
+whole_front t w h = record { piece = t; whole = sym (append-nil t); is = h }
+
+-- the numbers that a text writes are the only ones
+module _ {t q : Text} {w : Rfc3339Fields} (f : Front stamp_text t q w) where
+  same_numbers : (v : Rfc3339Fields) → Writes t v → ([] ≡ q) × (v ≡ w)
+  same_numbers v h = front_same stamp_text stamp_text_det (whole_front t v h) f
+
+  pub answer_of_text : (answer : Option OffsetTimestamp) → q ≡ [] → IsAnswer (IsStampOfRfc3339 w) answer
+      → IsAnswer (IsStampText t) answer
+  answer_of_text answer e h =
+      let whole : t ≡ f.piece = f.whole ∙ ap (λ (x : Text). f.piece ++ x) e ∙ append-nil f.piece in
+      answer_same (IsStampOfRfc3339 w) (IsStampText t) answer
+      (λ s p. (w, subst (λ (x : Text). Writes x w) (sym whole) f.is, p))
+      (λ s (v, k, p). subst (λ (x : Rfc3339Fields). IsStampOfRfc3339 x s) (same_numbers v k).1 p) h
+
+  -- a text that goes on is one of no timestamp
+  pub no_text_here : q ≢ [] → HasNoStamp t
+  no_text_here n s (v, k, p) = n (sym (same_numbers v k).0)
+
+pub no_text : {t : Text} → NoFront stamp_text t → HasNoStamp t
+no_text {t = t} n s (w, h, p) = n t [] w (sym (append-nil t)) h
+
+-- a text has at most one stamp
+pub one_stamp : (text : List ℕ) (n o m p : ℤ) → HasStamp text n o → HasStamp text m p → (n ≡ m) × (o ≡ p)
+one_stamp text n o m p (w, h, a) (v, k, b) =
+    let same = (same_numbers (whole_front text v k) w h).1 in (
+      a.instant ∙ ap (λ x. nanos_of_fields (fields_of_rfc3339 x) -ℤ nanos_of_seconds x.offset) same ∙ sym b.instant,
+      a.at_offset ∙ ap (λ x. x.offset) same ∙ sym b.at_offset,
+    )
+
+-- ---- a timestamp is its two numbers, which lie in their ranges
+pub same_instant : (a b : Timestamp) → a.nanosecond ≡ b.nanosecond → a ≡ b
+same_instant a b e = λ i. record {
+  nanosecond = e i;
+  in_range = is_prop→PathP (λ j. IsTimestampNanos (e j)) (λ j. hlevel props) a.in_range b.in_range i;
+}
+
+pub same_offset : (a b : Offset) → a.seconds ≡ b.seconds → a ≡ b
+same_offset a b e = λ i. record {
+  seconds = e i;
+  in_range = is_prop→PathP (λ j. IsOffsetSeconds (e j)) (λ j. hlevel props) a.in_range b.in_range i;
+}
+
+-- timestamps with the same two numbers are the same
+pub same_timestamp : (s t : OffsetTimestamp) → s.instant.nanosecond ≡ t.instant.nanosecond
+    → s.offset.seconds ≡ t.offset.seconds → s ≡ t
+same_timestamp s t e f = λ i. record {
+  instant = same_instant s.instant t.instant e i;
+  offset = same_offset s.offset t.offset f i;
+}
+
+-- a text is one of at most one timestamp
+pub one_timestamp : (text : List ℕ) (s t : OffsetTimestamp) → IsStampText text s → IsStampText text t → s ≡ t
+one_timestamp text s t h k =
+    let same = one_stamp text _ _ _ _ h k in same_timestamp s t same.0 same.1

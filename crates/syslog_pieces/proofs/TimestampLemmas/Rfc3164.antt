@@ -1,5 +1,5 @@
 -- A text has one timestamp of RFC 3164 at its front: the three kinds begin with `-`, with a digit and with a letter.
-use Rattle.std.proofs.Common.{◌≡◌, ◌∙◌, ℕ, ◌≤◌, ◌++◌, Option, Some, None, sym, ap, subst, arith}
+use Rattle.std.proofs.Common.{◌≡◌, ℕ, ◌≤◌, ◌++◌, Option, Some, None, sym, ap, subst, arith}
 use Rattle.syslog_pieces.specs.Pieces.Class.{Text, Class, Front, NoFront, IsDeterministic}
 use Rattle.syslog_pieces.specs.Timestamp.{IsAnswer, header_stamp}
 use Rattle.syslog_pieces.specs.Timestamp.MonthDate.{month_date}
@@ -7,6 +7,7 @@ use Rattle.syslog_pieces.specs.Timestamp.Zone.{Dating, IsMonthStamp}
 use Rattle.syslog_pieces.specs.Timestamp.Rfc3164.{IsStampedDate, rfc3164_stamp}
 use Rattle.syslog_pieces.specs.declared.timestamp.OffsetTimestamp.{OffsetTimestamp}
 use Rattle.syslog_pieces.specs.declared.timestamp.month_date.MonthDate.{MonthDate}
+use Rattle.syslog_pieces.proofs.PieceLemmas.Class.{front_same, no_front_no}
 use Rattle.syslog_pieces.proofs.PieceLemmas.Kinds.{first_kind, second_kind, no_either, Apart, Begins}
 use Rattle.syslog_pieces.proofs.PieceLemmas.Kinds.{begins_apart, begins_more, begins_with, either_det}
 use Rattle.syslog_pieces.proofs.TimestampLemmas.MonthDate.{month_date_det, month_date_begins}
@@ -63,23 +64,22 @@ module _ (dating : Dating) {t : Text} where
       (record { piece = f.piece; whole = f.whole; is = (d, f.is, h) })
 
   module _ (n : NoFront header_stamp t) where
-    no_date_stamp : NoFront (stamped_date dating) t → NoFront (rfc3164_stamp dating) t
-    no_date_stamp m = no_either (Option OffsetTimestamp) header_stamp.Is (IsStampedDate dating) n m
-
-    pub no_date : NoFront month_date t → NoFront (rfc3164_stamp dating) t
-    no_date m = no_date_stamp (λ p q v e h. none v p q e h)
+    -- no month date there has a timestamp
+    no_stamped : ((d : MonthDate) (s : OffsetTimestamp) (q : Text) → Front month_date t q d → IsMonthStamp dating d s
+        → ⊥)
+        → NoFront (rfc3164_stamp dating) t
+    no_stamped m = no_either (Option OffsetTimestamp) header_stamp.Is (IsStampedDate dating) n
+        (λ p q v e h. none v p q e h)
       where
         none : (v : Option OffsetTimestamp) (p q : Text) → t ≡ p ++ q → IsStampedDate dating p q v → ⊥
         none None p q e h = h
-        none (Some s) p q e (d, h, k) = m p q d e h
+        none (Some s) p q e (d, h, k) = m d s q (record { piece = p; whole = e; is = h }) k
+
+    pub no_date : NoFront month_date t → NoFront (rfc3164_stamp dating) t
+    no_date m = no_stamped (λ d s q f k. no_front_no month_date m f)
 
     -- the date that stands there has none
     pub no_stamp_of_date : {r : Text} (d : MonthDate) → Front month_date t r d → IsAnswer (IsMonthStamp dating d) None
         → NoFront (rfc3164_stamp dating) t
-    no_stamp_of_date {r = r} d f m = no_date_stamp (λ p q v e h. none v p q e h)
-      where
-        none : (v : Option OffsetTimestamp) (p q : Text) → t ≡ p ++ q → IsStampedDate dating p q v → ⊥
-        none None p q e h = h
-        none (Some s) p q e (d', h, k) =
-            let same = (month_date_det p q f.piece r d' d (sym e ∙ f.whole) h f.is).1 in
-            m s (subst (λ (x : MonthDate). IsMonthStamp dating x s) same k)
+    no_stamp_of_date d f m = no_stamped (λ d' s q g k. m s
+        (subst (λ (x : MonthDate). IsMonthStamp dating x s) (front_same month_date month_date_det g f).1 k))

@@ -1,91 +1,43 @@
 -- A printed stamp and the texts of RFC 3339: what is printed of a canonical timestamp has it, and no other timestamp
 -- has a text.
 use Rattle.std.proofs.Common.{◌≡◌, ℕ, ℤ, zero, suc, pos, negsuc, neg_ℤ, ◌+ℤ◌, ◌-ℤ◌, ◌≤ℤ◌, ◌<ℤ◌, ◌+◌}
-use Rattle.std.proofs.Common.{◌*◌, ◌/◌, ◌%◌, ◌<◌, ◌==◌, true, min, inl, inr, refl, sym, ap, subst}
-use Rattle.std.proofs.Common.{◌∙◌, arith, unsigned_abs, List, ◌∷◌, ◌++◌, length, append_assoc}
+use Rattle.std.proofs.Common.{◌*◌, ◌/◌, ◌%◌, ◌<◌, true, min, inl, inr, refl, ap}
+use Rattle.std.proofs.Common.{◌∙◌, arith, unsigned_abs, List, ◌∷◌, ◌++◌, append_assoc}
 use Rattle.std.proofs.lemmas.Bool.Decides.{nat_tests}
-use Rattle.std.proofs.lemmas.List.Elements.{All-append}
-use Rattle.std.specs.Char.{IsAsciiDigit, is_ascii_digit, is_not_whitespace}
-use Rattle.std.specs.List.{All}
+use Rattle.std.specs.Char.{is_ascii_digit, is_not_whitespace}
 use Rattle.jiff.specs.Words.{nanos_of_seconds, IsTimestampNanos}
 use Rattle.jiff_core.proofs.CalendarLemmas.{days_in_month_bounds}
 use Rattle.jiff_core.proofs.SignedLemmas.{signed_arith}
-use Rattle.jiff_fmt.proofs.Cases.{by_bool}
-use Rattle.jiff_fmt.specs.Reader.{fraction_value}
 use Rattle.jiff_fmt.specs.Text.{pad2, pad4}
 use Rattle.syslog_pieces.specs.Pieces.Class.{Each}
 use Rattle.syslog_pieces.specs.declared.timestamp.OffsetTimestamp.{OffsetTimestamp}
 use Rattle.syslog_pieces.specs.declared.timestamp.fields.CivilFields.{CivilFields}
-use Rattle.syslog_pieces.specs.declared.timestamp.rfc3339_text.Rfc3339Fields.{Rfc3339Fields}
+use Rattle.syslog_pieces.specs.Bodies.StampReading.{written}
+use Rattle.syslog_pieces.specs.declared.timestamp.month_date.Clock.{Clock}
+use Rattle.syslog_pieces.specs.declared.timestamp.rfc3339_text.Day.{Day}
 use Rattle.syslog_pieces.specs.Timestamp.{IsStampText}
 use Rattle.syslog_pieces.specs.Timestamp.Fields.{AreCivil, nanos_of_fields}
 use Rattle.syslog_pieces.specs.Timestamp.Canonical.{IsCanonicalStamp, BeginsWithYear, own_year}
 use Rattle.syslog_pieces.specs.Timestamp.Printed.{civil_fields, printed_stamp, date_time_text}
-use Rattle.syslog_pieces.specs.Timestamp.Printed.{year_sign, fraction_text, offset_text, pad3}
-use Rattle.syslog_pieces.specs.Timestamp.Rfc3339.{HasStamp, IsFraction, IsOffsetText, fields_of_rfc3339}
-use Rattle.syslog_pieces.proofs.TimestampLemmas.Civil.{civil_fields-is}
-use Rattle.syslog_pieces.proofs.TimestampLemmas.Clocks.{datetime_of}
-use Rattle.syslog_pieces.proofs.TimestampLemmas.Fields.{civil_nanos-fields}
-use Rattle.syslog_pieces.proofs.TimestampLemmas.Fraction.{pad3-digits, three-value, six-value, nine-value}
+use Rattle.syslog_pieces.specs.Timestamp.Printed.{year_sign, fraction_text, offset_text}
+use Rattle.syslog_pieces.specs.Timestamp.Rfc3339.{HasStamp, IsOffsetText, fields_of_rfc3339}
+use Rattle.syslog_pieces.proofs.TimestampLemmas.Civil.{civil_fields-is, datetime_of, civil_nanos-fields}
+use Rattle.syslog_pieces.proofs.TimestampLemmas.Reading.{fraction_text-is, signed_is, writes-of}
 use Rattle.syslog_pieces.proofs.TimestampLemmas.Piece.{each_visible}
 use Rattle.syslog_pieces.proofs.TimestampLemmas.Printing.{absolute, printed_stamp-characters}
 use Rattle.syslog_pieces.proofs.TimestampLemmas.Range.{late_fields, civil_fields_exist, in_range-at_offset}
-use Rattle.syslog_pieces.proofs.TimestampLemmas.Texts.{stamp_character-visible}
 
--- ---- a printed fraction and a printed offset
+-- ---- a printed offset
 
-digits-from : (digits text : List ℕ) (n : ℕ) → text ≡ 46 ∷ digits → 0 < length digits → All IsAsciiDigit digits
-    → fraction_value 9 digits ≡ n → IsFraction text n
-digits-from digits text n e long all value = inr (digits, e, long, all, sym value)
-
-fraction_text-is : (n : ℕ) → n < 1_000_000_000 → IsFraction (fraction_text n) n
-unfolding fraction_text
-fraction_text-is n h =
-    let a = n / 1_000_000 in
-    let b = n / 1_000 % 1_000 in
-    let c = n % 1_000 in
-    let a_in : a < 1_000 = omega arith in
-    let b_in : b < 1_000 = omega arith in
-    let c_in : c < 1_000 = omega arith in
-    let da = pad3-digits a a_in in
-    let db = pad3-digits b b_in in
-    let dc = pad3-digits c c_in in
-    by_bool (n == 0)
-    (λ z. let none : n ≡ 0 = grind (arith, nat_tests, z) in inl (rw z, none))
-    (λ z. by_bool (n % 1_000_000 == 0)
-    (λ m. let whole : n % 1_000_000 ≡ 0 = grind (arith, nat_tests, m) in
-    digits-from (pad3 a) _ n (rw (z, m)) (omega arith) da (three-value a a_in ∙ omega arith))
-    (λ m. by_bool (n % 1_000 == 0)
-    (λ k. let whole : n % 1_000 ≡ 0 = grind (arith, nat_tests, k) in
-    digits-from (pad3 a ++ pad3 b) _ n (rw (z, m, k)) (omega arith) (All-append IsAsciiDigit (pad3 a) (pad3 b) da db)
-    (six-value a b a_in b_in ∙ omega arith))
-    (λ k. digits-from (pad3 a ++ (pad3 b ++ pad3 c)) _ n (rw (z, m, k)) (omega arith)
-    (All-append IsAsciiDigit (pad3 a) (pad3 b ++ pad3 c) da (All-append IsAsciiDigit (pad3 b) (pad3 c) db dc))
-    (nine-value a b c a_in b_in c_in ∙ omega arith))))
-
-minutes-back : (n r : ℕ) → n % 60 ≡ 0 → r ≡ (n + 30) / 60 → (r / 60 * 60 + r % 60) * 60 ≡ n
-minutes-back n r whole e = omega arith
+minutes_back : (n : ℕ) → n % 60 ≡ 0 → (n + 30) / 60 * 60 ≡ n
+minutes_back n whole = omega arith
 
 pub offset_text-is : (o : ℤ) → unsigned_abs o % 60 ≡ 0 → unsigned_abs o < 86_400 → IsOffsetText (offset_text o) o
 unfolding offset_text
 offset_text-is (pos n) whole small =
-    let r = (n + 30) / 60 in
-    inr (record {
-      hours = r / 60;
-      minutes = r % 60;
-      hours_in = omega arith;
-      minutes_in = omega arith;
-      written = inl (refl, ap pos (sym (minutes-back n r whole refl)));
-    })
+    rw (minutes_back n whole) at (signed_is 43 ((n + 30) / 60) (omega arith) (inl refl))
 offset_text-is (negsuc n) whole small =
-    let r = (suc n + 30) / 60 in
-    inr (record {
-      hours = r / 60;
-      minutes = r % 60;
-      hours_in = omega arith;
-      minutes_in = omega arith;
-      written = inr (refl, ap (λ k. neg_ℤ (pos k)) (sym (minutes-back (suc n) r whole refl)));
-    })
+    rw (minutes_back (suc n) whole) at (signed_is 45 ((suc n + 30) / 60) (omega arith) (inr refl))
 
 -- ---- what is printed of a canonical timestamp has it
 
@@ -105,51 +57,22 @@ pub fields-read : (f : CivilFields) (y : ℕ) (n o : ℤ) (zone : List ℕ) → 
     → nanos_of_fields f ≡ n +ℤ nanos_of_seconds o
     → IsOffsetText zone o → HasStamp (date_time_text f ++ (fraction_text f.nanosecond ++ zone)) n o
 fields-read f y n o zone e there range nanos zone_is =
-    let w : Rfc3339Fields = record {
-      year = y;
-      month = f.month;
-      day = f.day;
-      hour = f.hour;
-      minute = f.minute;
-      second = f.second;
-      nanosecond = f.nanosecond;
-      offset = o;
-    } in
+    let day : Day = record { year = y; month = f.month; day = f.day } in
+    let time : Clock = record { hour = f.hour; minute = f.minute; second = f.second } in
+    let w = written day time f.nanosecond o in
     let date = there.date in
     let least : min f.second 59 ≡ f.second = omega (arith, there.second_in) in
-    let same : fields_of_rfc3339 w ≡ f = λ i. record {
-      year = sym e i;
-      month = f.month;
-      day = f.day;
-      hour = f.hour;
-      minute = f.minute;
-      second = least i;
-      nanosecond = f.nanosecond;
-    } in
+    let same : fields_of_rfc3339 w ≡ f = rw (← e, least) in
     let days = days_in_month_bounds f.year f.month in
-    let P : CivilFields → Type 0 = AreCivil in
-    let civil : AreCivil (fields_of_rfc3339 w) = subst P (sym same) there in
     let count : nanos_of_fields (fields_of_rfc3339 w) ≡ n +ℤ nanos_of_seconds o = ap nanos_of_fields same ∙ nanos in (
       w,
+      rw (text-shape f y (fraction_text f.nanosecond ++ zone) e)
+          (writes-of 84 day time f.nanosecond o (fraction_text f.nanosecond) zone (inl refl)
+          (omega (arith, signed_arith, date.0.1)) (omega (arith, date.1.1)) (omega (arith, date.2.1))
+          (omega (arith, there.hour_in)) (omega (arith, there.minute_in)) (omega (arith, there.second_in))
+          (fraction_text-is f.nanosecond there.nanosecond_in) zone_is),
       record {
-        letter = 84;
-        is_letter = inl refl;
-        decimals = fraction_text f.nanosecond;
-        zone = zone;
-        whole = text-shape f y (fraction_text f.nanosecond ++ zone) e;
-        fits = record {
-          year = omega (arith, signed_arith, date.0.1);
-          month = omega (arith, date.1.1);
-          day = omega (arith, date.2.1);
-          hour = omega (arith, there.hour_in);
-          minute = omega (arith, there.minute_in);
-          second = omega (arith, there.second_in);
-        };
-        fraction = fraction_text-is f.nanosecond there.nanosecond_in;
-        zone_is = zone_is;
-      },
-      record {
-        civil = civil;
+        civil = rw same there;
         second = omega (arith, there.second_in);
         instant = omega (arith, signed_arith, count);
         at_offset = refl;
@@ -179,7 +102,8 @@ abs-neg : (k : ℕ) → unsigned_abs (neg_ℤ (pos k)) ≡ k
 abs-neg zero = refl
 abs-neg (suc k) = refl
 
-offset-canonical : (zone : List ℕ) (o : ℤ) → IsOffsetText zone o → (unsigned_abs o % 60 ≡ 0) × (unsigned_abs o < 86_400)
+pub offset-canonical : (zone : List ℕ) (o : ℤ) → IsOffsetText zone o
+    → (unsigned_abs o % 60 ≡ 0) × (unsigned_abs o < 86_400)
 offset-canonical zone o (inl zulu) = rw zulu.3 (refl, omega arith)
 offset-canonical zone o (inr n) =
     let hours_in = n.hours_in in
@@ -228,9 +152,7 @@ own_year-late s late = late_fields s.instant.nanosecond s.offset.seconds s.insta
 -- no character of it is white space
 pub printed_stamp-visible : (s : OffsetTimestamp)
     → Each is_not_whitespace (printed_stamp s.instant.nanosecond s.offset.seconds)
-printed_stamp-visible s =
-    let all = printed_stamp-characters _ _ s.instant.in_range s.offset.in_range in
-    each_visible _ (λ k d l. stamp_character-visible _ (all k d l))
+printed_stamp-visible s = each_visible _ (printed_stamp-characters _ _ s.instant.in_range s.offset.in_range)
 
 digit-is : (n : ℕ) → n < 10 → is_ascii_digit (48 + n) ≡ true
 digit-is n h = grind (arith, nat_tests)

@@ -2,22 +2,23 @@
 use Rattle.std.proofs.Common.{◌≡◌, ℕ, ◌+◌, ◌/◌, ◌%◌, ◌<◌, inl, inr, List, [], ◌∷◌}
 use Rattle.std.proofs.Common.{◌++◌, drop, None, refl, sym, ap, subst, ◌∙◌, arith}
 use Rattle.std.proofs.lemmas.Str.{chars-nil}
-use Rattle.std.proofs.lemmas.Str.Ascii.{IsAscii-nil, IsAscii-cons}
-use Rattle.std.specs.Char.{is_ascii_digit, to_ascii_lowercase}
-use Rattle.std.specs.Str.{chars, IsAscii}
+use Rattle.std.specs.Char.{is_ascii_digit}
+use Rattle.std.specs.Str.{chars}
 use Rattle.std.specs.Str.Parse.{digits_value}
 use Rattle.jiff_fmt.specs.Text.{pad2}
 use Rattle.syslog_pieces.specs.Bodies.MonthReading.{day_row, clock_values, date_of}
-use Rattle.syslog_pieces.specs.Bodies.Standard.{IsMonthBytes, IsDayBytes, IsClockBytes, EndsClock}
+use Rattle.syslog_pieces.specs.Bodies.Standard.{IsMonthBytes, IsDayBytes, EndsClock}
+use Rattle.syslog_pieces.specs.Bodies.StampReading.{IsClockBytes}
 use Rattle.syslog_pieces.specs.Pieces.Class.{Text, Class, Front, NoFront, Row, Ends, some_run, exactly}
 use Rattle.syslog_pieces.specs.Text.{is_blank, colon}
 use Rattle.syslog_pieces.specs.Timestamp.MonthDate.{month, short_number, clock_row, yearless_date}
 use Rattle.syslog_pieces.specs.declared.timestamp.month_date.Clock.{Clock}
 use Rattle.syslog_pieces.proofs.PieceLemmas.Class.{row_cons, optional_none}
 use Rattle.syslog_pieces.proofs.PieceLemmas.Rows.{row_of, ◌then◌}
-use Rattle.syslog_pieces.proofs.TextLemmas.Chars.{ascii_front}
+use Rattle.syslog_pieces.proofs.TextLemmas.Chars.{ascii_front, one_ascii}
 use Rattle.syslog_pieces.proofs.TextLemmas.Decimals.{digit_is}
-use Rattle.syslog_pieces.proofs.TimestampLemmas.MonthReading.{yearless_front}
+use Rattle.syslog_pieces.proofs.TimestampLemmas.Characters.{low_ascii}
+use Rattle.syslog_pieces.proofs.TimestampLemmas.MonthDate.{yearless_front}
 use Rattle.syslog_pieces.proofs.TimestampLemmas.Months.{month_named}
 
 -- ---- digits
@@ -27,11 +28,6 @@ module _ (n : ℕ) (h : n < 100) where
 
   ones : n % 10 < 10
   ones = omega arith
-
-  pair_ascii : (rest : List ℕ) → IsAscii rest → IsAscii (pad2 n ++ rest)
-  pair_ascii rest a =
-      let t = tens in let o = ones in
-      IsAscii-cons (48 + n / 10) ((48 + n % 10) ∷ rest) (omega arith) (IsAscii-cons (48 + n % 10) rest (omega arith) a)
 
   pair_value : n ≡ digits_value 10 (pad2 n)
   pair_value = rw ((digit_is (n / 10) tens).2, (digit_is (n % 10) ones).2) (omega arith)
@@ -61,21 +57,16 @@ module _ (b0 b1 b2 : List ℕ) (number : ℕ) (m : IsMonthBytes b0 number b1) (e
   month_front = record {
     piece = m.a ∷ m.b ∷ m.c ∷ [];
     whole = ascii_front (m.a ∷ m.b ∷ m.c ∷ []) b1 b0
-        (IsAscii-cons m.a (m.b ∷ m.c ∷ []) m.a_in
-        (IsAscii-cons m.b (m.c ∷ []) m.b_in (IsAscii-cons m.c [] m.c_in IsAscii-nil))) m.whole;
-    is = month_named (to_ascii_lowercase m.a) (to_ascii_lowercase m.b) (to_ascii_lowercase m.c) number m.named;
+        (low_ascii (m.a ∷ m.b ∷ m.c ∷ []) (m.a_in, (m.b_in, (m.c_in, tt)))) m.whole;
+    is = month_named m.named;
   }
-
-  one_space : IsAscii (32 ∷ [])
-  one_space = IsAscii-cons 32 [] (omega arith) IsAscii-nil
 
   -- two digits
   long : (d : ℕ) → d < 100 → b1 ≡ 32 ∷ (pad2 d ++ (32 ∷ b2))
       → Front (Row (gap ∷ from_day)) (chars b1) (chars b2) (tt, (d, (tt, tt)))
   long d h e =
       let w : chars b1 ≡ 32 ∷ (pad2 d ++ (32 ∷ chars b2)) =
-      ascii_front (32 ∷ (pad2 d ++ (32 ∷ []))) b2 b1
-      (IsAscii-cons 32 (pad2 d ++ (32 ∷ [])) (omega arith) (pair_ascii d h (32 ∷ []) one_space)) e in
+      ascii_front (32 ∷ (pad2 d ++ (32 ∷ []))) b2 b1 (low_ascii (32 ∷ (pad2 d ++ (32 ∷ []))) (omega arith)) e in
       row_of (gap ∷ from_day)
       (space_front (chars b1) (pad2 d ++ (32 ∷ chars b2)) w (no_blank_ahead d h _ (32 ∷ chars b2) refl)
       then pair_front d h (pad2 d ++ (32 ∷ chars b2)) (32 ∷ chars b2) refl refl
@@ -85,13 +76,10 @@ module _ (b0 b1 b2 : List ℕ) (number : ℕ) (m : IsMonthBytes b0 number b1) (e
   short : (d : ℕ) → d < 10 → b1 ≡ 32 ∷ 32 ∷ (48 + d) ∷ 32 ∷ b2
       → Front (Row (gap ∷ from_day)) (chars b1) (chars b2) (tt, (d, (tt, tt)))
   short d h e =
-      let low : 48 + d < 128 = omega arith in
       let k = digit_is d h in
       let value : d ≡ digits_value 10 ((48 + d) ∷ []) = rw k.2 (omega arith) in
       let w : chars b1 ≡ 32 ∷ 32 ∷ (48 + d) ∷ 32 ∷ chars b2 =
-      ascii_front (32 ∷ 32 ∷ (48 + d) ∷ 32 ∷ []) b2 b1
-      (IsAscii-cons 32 (32 ∷ (48 + d) ∷ 32 ∷ []) (omega arith)
-      (IsAscii-cons 32 ((48 + d) ∷ 32 ∷ []) (omega arith) (IsAscii-cons (48 + d) (32 ∷ []) low one_space))) e in
+      ascii_front (32 ∷ 32 ∷ (48 + d) ∷ 32 ∷ []) b2 b1 (low_ascii (32 ∷ 32 ∷ (48 + d) ∷ 32 ∷ []) (omega arith)) e in
       row_cons gap from_day (record { piece = 32 ∷ 32 ∷ []; whole = w; is = (omega arith, (refl, (refl, tt)), k.1) })
       (row_cons short_number (gap ∷ [])
       (record { piece = (48 + d) ∷ []; whole = refl; is = (omega arith, (k.0, tt), refl, value, omega arith) })
@@ -108,13 +96,12 @@ sign = exactly colon
 no_digit : (bs : List ℕ) → EndsClock bs → Ends is_ascii_digit (chars bs)
 no_digit [] h = subst (λ (x : Text). Ends is_ascii_digit x) (sym chars-nil) tt
 no_digit (b ∷ bs) h =
-    subst (λ (x : Text). Ends is_ascii_digit x)
-    (sym (ascii_front (b ∷ []) bs (b ∷ bs) (IsAscii-cons b [] h.0 IsAscii-nil) refl)) h.1
+    subst (λ (x : Text). Ends is_ascii_digit x) (sym (ascii_front (b ∷ []) bs (b ∷ bs) (one_ascii b h.0) refl)) h.1
 
 no_colon : (bs : List ℕ) → EndsClock bs → NoFront sign (chars bs)
 no_colon [] h p q v e f = let t : [] ≡ 58 ∷ q = sym chars-nil ∙ e ∙ ap (λ (x : Text). x ++ q) f in cc
 no_colon (b ∷ bs) h p q v e f =
-    let t : b ∷ chars bs ≡ 58 ∷ q = sym (ascii_front (b ∷ []) bs (b ∷ bs) (IsAscii-cons b [] h.0 IsAscii-nil) refl) ∙ e
+    let t : b ∷ chars bs ≡ 58 ∷ q = sym (ascii_front (b ∷ []) bs (b ∷ bs) (one_ascii b h.0) refl) ∙ e
     ∙ ap (λ (x : Text). x ++ q) f in
     let s : b ≡ 58 = cc in absurd (h.2 s)
 
@@ -124,12 +111,9 @@ colon_front q = record { piece = colon; whole = refl; is = refl }
 module _ (b2 b3 : List ℕ) (c : Clock) (k : IsClockBytes b2 c b3) (ends : EndsClock b3) where
   clock_text : chars b2 ≡ pad2 c.hour ++ (58 ∷ (pad2 c.minute ++ (58 ∷ (pad2 c.second ++ chars b3))))
   clock_text =
-      ascii_front (pad2 c.hour ++ (58 ∷ (pad2 c.minute ++ (58 ∷ pad2 c.second)))) b3 b2
-      (pair_ascii c.hour k.hour_in (58 ∷ (pad2 c.minute ++ (58 ∷ pad2 c.second)))
-      (IsAscii-cons 58 (pad2 c.minute ++ (58 ∷ pad2 c.second)) (omega arith)
-      (pair_ascii c.minute k.minute_in (58 ∷ pad2 c.second)
-      (IsAscii-cons 58 (pad2 c.second) (omega arith) (pair_ascii c.second k.second_in [] IsAscii-nil)))))
-      k.whole
+      let p = pad2 c.hour ++ (58 ∷ (pad2 c.minute ++ (58 ∷ pad2 c.second))) in
+      let h = k.hour_in in let m = k.minute_in in let s = k.second_in in
+      ascii_front p b3 b2 (low_ascii p (omega arith)) k.whole
 
   clock_front : Front (Row clock_row) (chars b2) (chars b3) (clock_values c None)
   clock_front =

@@ -1,16 +1,15 @@
 -- A timestamp that is copied is read as one that prints so.
-use Rattle.std.proofs.Common.{◌≡◌, ◌⊎◌, ℕ, suc, ℤ, pos, negsuc, ◌+ℤ◌, ◌+◌, ◌*◌, ◌-◌, ◌/◌, ◌%◌, ◌<◌}
-use Rattle.std.proofs.Common.{◌≢◌, ◌==◌, Bool, true, false, Some, inl, inr, refl, sym, ap, subst}
-use Rattle.std.proofs.Common.{◌∙◌, arith, unsigned_abs, List, [], ◌∷◌, ◌++◌, append_assoc, append-nil}
-use Rattle.std.proofs.lemmas.Bool.Decides.{nat_tests}
-use Rattle.std.proofs.lemmas.Str.{IsUtf8-past_char, IsUtf8-from_ascii, IsUtf8-append}
-use Rattle.std.proofs.lemmas.Str.Ascii.{encode_ascii}
-use Rattle.std.specs.Char.{encode_utf8}
-use Rattle.std.specs.Str.{chars, IsAscii, IsUtf8}
+use Rattle.std.proofs.Common.{◌≡◌, ◌⊎◌, ℕ, suc, ℤ, pos, negsuc, ◌+ℤ◌, ◌+◌, ◌*◌, ◌-◌, ◌/◌, ◌%◌, ◌<◌, ◌≢◌, true, false}
+use Rattle.std.proofs.Common.{Some, inl, inr, refl, sym, ap, ◌∙◌, arith, List, [], ◌∷◌, ◌++◌, append_assoc}
+use Rattle.std.proofs.Common.{append-nil, unsigned_abs}
+use Rattle.std.proofs.lemmas.Bool.{eq-eqb, ne_eqb}
+use Rattle.std.proofs.lemmas.Str.{IsUtf8-from_ascii, IsUtf8-append}
+use Rattle.std.specs.Str.{chars, IsUtf8}
 use Rattle.jiff.specs.Types.{DateTime, Offset}
 use Rattle.jiff.specs.Words.{IsOffsetSeconds, nanos_of_seconds}
 use Rattle.jiff_core.proofs.SignedLemmas.{signed_arith}
 use Rattle.jiff_fmt.specs.Text.{pad2}
+use Rattle.syslog_pieces.specs.Bodies.StampReading.{IsDayBytes, seconds, stamp_text}
 use Rattle.syslog_pieces.specs.Bodies.VerbatimStamp.{zone_text, IsVerbatimStamp, IsDateAndClock}
 use Rattle.syslog_pieces.specs.Bodies.VerbatimStamp.{IsVerbatimFraction, IsVerbatimOffset, IsBeforeSpace}
 use Rattle.syslog_pieces.specs.Pieces.Class.{Text, Front}
@@ -20,129 +19,92 @@ use Rattle.syslog_pieces.specs.Timestamp.Printed.{pad3, printed_stamp, date_time
 use Rattle.syslog_pieces.specs.Timestamp.Rfc3339.{IsOffsetText}
 use Rattle.syslog_pieces.specs.declared.timestamp.OffsetTimestamp.{OffsetTimestamp}
 use Rattle.syslog_pieces.specs.declared.timestamp.fields.CivilFields.{CivilFields}
+use Rattle.syslog_pieces.specs.declared.timestamp.rfc3339_text.Day.{Day}
 use Rattle.syslog_pieces.proofs.TextLemmas.Chars.{ascii_front, one_ascii}
-use Rattle.syslog_pieces.proofs.TimestampLemmas.Characters.{stamp_ascii}
-use Rattle.syslog_pieces.proofs.TimestampLemmas.Clocks.{datetime_of, stamp, shown, prints}
-use Rattle.syslog_pieces.proofs.TimestampLemmas.Fields.{civil_nanos-fields}
-use Rattle.syslog_pieces.proofs.TimestampLemmas.RoundTrip.{text-shape, fields-read, year-from, offset_text-is}
+use Rattle.syslog_pieces.proofs.TimestampLemmas.Civil.{civil_nanos-fields, datetime_of, prints, shown, stamp}
+use Rattle.syslog_pieces.proofs.TimestampLemmas.Piece.{stamp_front}
+use Rattle.syslog_pieces.proofs.TimestampLemmas.Reading.{signed_is, text_chars, text_utf8}
+use Rattle.syslog_pieces.proofs.TimestampLemmas.RoundTrip.{text-shape, fields-read, year-from, offset-canonical}
 
 -- ---- the pieces
 
--- date and time, read in seven numbers of two digits
-pub date_and_clock_is : (text t1 t2 t3 t4 t5 t6 rest : List ℕ) (f : CivilFields) (century year : ℕ) → century < 100
-    → year < 100
-    → f.year ≡ pos (century * 100 + year) → text ≡ pad2 century ++ t1 → t1 ≡ pad2 year ++ t2
-    → t2 ≡ 45 ∷ (pad2 f.month ++ t3)
-    → t3 ≡ 45 ∷ (pad2 f.day ++ t4) → t4 ≡ 84 ∷ (pad2 f.hour ++ t5) → t5 ≡ 58 ∷ (pad2 f.minute ++ t6)
-    → t6 ≡ 58 ∷ (pad2 f.second ++ rest)
+-- date and time, read piece by piece
+pub date_and_clock_is : {text t1 t2 t3 rest : List ℕ} {day : Day} (f : CivilFields) → IsDayBytes text day t1
+    → f.year ≡ pos day.year → f.month ≡ day.month → f.day ≡ day.day → t1 ≡ 84 ∷ (pad2 f.hour ++ t2)
+    → t2 ≡ 58 ∷ (pad2 f.minute ++ t3)
+    → t3 ≡ 58 ∷ (pad2 f.second ++ rest)
     → text ≡ date_time_text f ++ rest
-date_and_clock_is text t1 t2 t3 t4 t5 t6 rest f century year a b e w1 w2 w3 w4 w5 w6 w7 =
-    let high : (century * 100 + year) / 100 ≡ century = omega arith in
-    let low : (century * 100 + year) % 100 ≡ year = omega arith in
-    sym (text-shape f (century * 100 + year) rest e ∙ rw (high, low, w1, w2, w3, w4, w5, w6, w7) refl)
+date_and_clock_is {rest = rest} {day = day} f d y m n e1 e2 e3 =
+    rw (d.whole, ← m, ← n, e1, e2, e3) (sym (text-shape f day.year rest y))
 
 -- three, six or nine decimals, the last three of which are not all zero
 three_text : (n a : ℕ) → n ≡ a * 1_000_000 → a ≢ 0 → fraction_text n ≡ 46 ∷ pad3 a
 unfolding fraction_text
 three_text n a e some =
-    let z : (n == 0) ≡ false = grind (arith, nat_tests) in
-    let m : (n % 1_000_000 == 0) ≡ true = grind (arith, nat_tests) in
     let q : n / 1_000_000 ≡ a = omega arith in
-    rw (z, m, q) refl
+    rw (ne_eqb n 0 (omega arith), eq-eqb (n % 1_000_000) 0 (omega arith), q)
 
 six_text : (n a b : ℕ) → n ≡ a * 1_000_000 + b * 1_000 → b < 1_000 → b ≢ 0 → fraction_text n ≡ 46 ∷ (pad3 a ++ pad3 b)
 unfolding fraction_text
 six_text n a b e small some =
-    let z : (n == 0) ≡ false = grind (arith, nat_tests) in
-    let m : (n % 1_000_000 == 0) ≡ false = grind (arith, nat_tests) in
-    let k : (n % 1_000 == 0) ≡ true = grind (arith, nat_tests) in
     let q : n / 1_000_000 ≡ a = omega arith in
     let r : n / 1_000 % 1_000 ≡ b = omega arith in
-    rw (z, m, k, q, r) refl
+    rw (ne_eqb n 0 (omega arith), ne_eqb (n % 1_000_000) 0 (omega arith), eq-eqb (n % 1_000) 0 (omega arith), q, r)
 
 nine_text : (n a b c : ℕ) → n ≡ a * 1_000_000 + b * 1_000 + c → b < 1_000 → c < 1_000 → c ≢ 0
     → fraction_text n ≡ 46 ∷ (pad3 a ++ (pad3 b ++ pad3 c))
 unfolding fraction_text
 nine_text n a b c e small little some =
-    let z : (n == 0) ≡ false = grind (arith, nat_tests) in
-    let m : (n % 1_000_000 == 0) ≡ false = grind (arith, nat_tests) in
-    let k : (n % 1_000 == 0) ≡ false = grind (arith, nat_tests) in
     let q : n / 1_000_000 ≡ a = omega arith in
     let r : n / 1_000 % 1_000 ≡ b = omega arith in
     let l : n % 1_000 ≡ c = omega arith in
-    rw (z, m, k, q, r, l) refl
+    rw (ne_eqb n 0 (omega arith), ne_eqb (n % 1_000_000) 0 (omega arith), ne_eqb (n % 1_000) 0 (omega arith), q, r, l)
 
 module _ (text rest : List ℕ) (a : ℕ) (a_in : a < 1_000) where
   pub three_verbatim : a ≢ 0 → text ≡ pad3 a ++ rest → IsVerbatimFraction (46 ∷ text) rest
-  three_verbatim some e = (
-    a * 1_000_000,
-    omega arith,
-    ap (λ (x : List ℕ). 46 ∷ x) e ∙ ap (λ (x : List ℕ). x ++ rest) (sym (three_text (a * 1_000_000) a refl some)),
-  )
+  three_verbatim some e = (a * 1_000_000, omega arith, rw (three_text (a * 1_000_000) a refl some, e))
 
   module _ (t1 : List ℕ) (e : text ≡ pad3 a ++ t1) (b : ℕ) (b_in : b < 1_000) where
     pub six_verbatim : b ≢ 0 → t1 ≡ pad3 b ++ rest → IsVerbatimFraction (46 ∷ text) rest
     six_verbatim some e1 =
         let n = a * 1_000_000 + b * 1_000 in
-        (n, omega arith, rw (six_text n a b refl b_in some, e, e1) refl)
+        (n, omega arith, rw (six_text n a b refl b_in some, e, e1))
 
     pub nine_verbatim : (t2 : List ℕ) (c : ℕ) → c < 1_000 → c ≢ 0 → t1 ≡ pad3 b ++ t2 → t2 ≡ pad3 c ++ rest
         → IsVerbatimFraction (46 ∷ text) rest
     nine_verbatim t2 c c_in some e1 e2 =
         let n = a * 1_000_000 + b * 1_000 + c in
-        (n, omega arith, rw (nine_text n a b c refl b_in c_in some, e, e1, e2) refl)
+        (n, omega arith, rw (nine_text n a b c refl b_in c_in some, e, e1, e2))
 
 pub no_fraction : (text : List ℕ) → IsVerbatimFraction text text
 unfolding fraction_text
 no_fraction text = (0, omega arith, refl)
 
 -- a sign and `HH:MM`, but for `-00:00`
-plus_text : (m : ℕ) → offset_text (pos (m * 60)) ≡ 43 ∷ (pad2 (m / 60) ++ (58 ∷ pad2 (m % 60)))
+offset_shown : (sign m : ℕ) → (sign ≡ 43) ⊎ (sign ≡ 45) → (sign ≡ 45 → m ≢ 0)
+    → offset_text (seconds sign m) ≡ sign ∷ (pad2 (m / 60) ++ (58 ∷ pad2 (m % 60)))
 unfolding offset_text
-plus_text m = let r : (m * 60 + 30) / 60 ≡ m = omega arith in rw r refl
+offset_shown sign m (inl e) some = let r : (m * 60 + 30) / 60 ≡ m = omega arith in rw (e, r)
+offset_shown sign m (inr e) some =
+    let j = m * 60 - 1 in
+    let one : m * 60 ≡ suc j = omega (arith, some e) in
+    let r : (suc j + 30) / 60 ≡ m = omega arith in
+    rw (e, one, r)
 
-minus_text : (m j : ℕ) → m * 60 ≡ suc j → offset_text (negsuc j) ≡ 45 ∷ (pad2 (m / 60) ++ (58 ∷ pad2 (m % 60)))
-unfolding offset_text
-minus_text m j e = let r : (suc j + 30) / 60 ≡ m = omega arith in rw r refl
-
-module _ (text behind rest : List ℕ) (sign m : ℕ) (small : m < 1440) (is : text ≡ sign ∷ behind)
-    (digits : behind ≡ pad2 (m / 60) ++ (58 ∷ (pad2 (m % 60) ++ rest))) (space : IsBeforeSpace rest) where
-  plus_verbatim : sign ≡ 43 → IsVerbatimOffset text rest
-  plus_verbatim e = record {
-    seconds = pos (m * 60);
-    minutes = omega arith;
-    day = omega arith;
-    whole = rw (is, e, digits, plus_text m) refl;
-    space = space;
-  }
-
-  minus_verbatim : sign ≡ 45 → m ≢ 0 → IsVerbatimOffset text rest
-  minus_verbatim e some =
-      let j = m * 60 - 1 in
-      let one : m * 60 ≡ suc j = omega arith in
-      record {
-        seconds = negsuc j;
-        minutes = omega arith;
-        day = omega arith;
-        whole = rw (is, e, digits, minus_text m j one) refl;
-        space = space;
-      }
-
-  pub signed_verbatim : (sign ≡ 43) ⊎ (sign ≡ 45) → (sign ≡ 45 → m ≢ 0) → IsVerbatimOffset text rest
-  signed_verbatim (inl e) some = plus_verbatim e
-  signed_verbatim (inr e) some = minus_verbatim e (some e)
+pub signed_verbatim : (text behind rest : List ℕ) (sign m : ℕ) → m < 1440
+    → ((sign ≡ 43) ⊎ (sign ≡ 45)) × (text ≡ sign ∷ behind)
+    → behind ≡ pad2 (m / 60) ++ (58 ∷ (pad2 (m % 60) ++ rest)) → (sign ≡ 45 → m ≢ 0) → IsBeforeSpace rest
+    → IsVerbatimOffset text rest
+signed_verbatim text behind rest sign m small (s, is) digits some space = record {
+  zone = sign ∷ (pad2 (m / 60) ++ (58 ∷ pad2 (m % 60)));
+  seconds = seconds sign m;
+  is = signed_is sign m small s;
+  prints = offset_shown sign m s some;
+  whole = rw (is, digits);
+  space = space;
+}
 
 -- ---- what stands behind
-
--- what stands behind ASCII in a text is a text
-pub utf8_behind : (p rest bs : List ℕ) → IsAscii p → bs ≡ p ++ rest → IsUtf8 bs → IsUtf8 rest
-utf8_behind [] rest bs a e u = subst IsUtf8 e u
-utf8_behind (c ∷ p) rest bs a e u =
-    let first : encode_utf8 c ≡ c ∷ [] = encode_ascii c (a 0) in
-    let behind : IsUtf8 (p ++ rest) =
-    IsUtf8-past_char bs (p ++ rest) c u (e ∙ ap (λ (x : List ℕ). x ++ (p ++ rest)) (sym first)) in
-    utf8_behind p rest (p ++ rest) (λ k. a (suc k)) refl behind
-
 offset_in : (o : ℤ) → unsigned_abs o < 86_400 → IsOffsetSeconds o
 offset_in (pos n) h = (omega (arith, signed_arith), omega (arith, signed_arith))
 offset_in (negsuc n) h = (omega (arith, signed_arith), omega (arith, signed_arith))
@@ -186,14 +148,12 @@ module _ (bs behind zone : List ℕ) (u : IsUtf8 bs) (d : IsDateAndClock bs behi
   front = date_time_text fields ++ fraction_text k.0
 
   front_whole : bs ≡ front ++ zone
-  front_whole =
-      d.whole ∙ ap (λ (x : List ℕ). x ++ behind) (same_date_time d.fields k.0)
-      ∙ ap (λ (x : List ℕ). date_time_text fields ++ x) k.2
-      ∙ sym (append_assoc (date_time_text fields) (fraction_text k.0) zone)
+  front_whole = rw (d.whole, same_date_time d.fields k.0, k.2) (simp append_assoc)
 
-  module _ (o : ℤ) (o_in : IsOffsetSeconds o) where
+  -- an offset of which this is a text
+  module _ (o : ℤ) (text : List ℕ) (h : IsOffsetText text o) where
     abbrev clock : Offset
-    clock = record { seconds = o; in_range = o_in }
+    clock = record { seconds = o; in_range = offset_in o (offset-canonical text o h).1 }
 
     abbrev dt : DateTime
     dt = (datetime_of fields there).0
@@ -206,62 +166,55 @@ module _ (bs behind zone : List ℕ) (u : IsUtf8 bs) (d : IsDateAndClock bs behi
     prints_so = append_assoc (date_time_text fields) (fraction_text k.0) (offset_text o)
         ∙ sym (prints dt clock d.from d.to)
 
-    -- and is read from them with any text of the offset
-    reads_so : (text : List ℕ) → IsOffsetText text o → IsStampText (front ++ text) shows
-    reads_so text h =
+    -- and is read from them with that text
+    reads_so : IsStampText (front ++ text) shows
+    reads_so =
         let (y, e) = year-from fields.year d.from in
         let count : nanos_of_fields fields ≡ shows.instant.nanosecond +ℤ nanos_of_seconds o =
         sym (civil_nanos-fields dt fields refl) ∙ shown dt clock d.from d.to in
-        subst (λ (x : List ℕ). IsStampText x shows)
-        (sym (append_assoc (date_time_text fields) (fraction_text k.0) text))
+        rw append_assoc
         (fields-read fields y shows.instant.nanosecond o text e there shows.instant.in_range count h)
 
-    module _ (text rest : List ℕ) (h : IsOffsetText text o) (whole : zone ≡ text ++ rest)
-        (space : IsBeforeSpace rest) where
-      piece_ascii : IsAscii (front ++ text)
-      piece_ascii = stamp_ascii (front ++ text) shows.instant.nanosecond o (reads_so text h)
-
-      piece_whole : bs ≡ (front ++ text) ++ rest
-      piece_whole = front_whole ∙ ap (λ (x : List ℕ). front ++ x) whole ∙ sym (append_assoc front text rest)
+    module _ (rest : List ℕ) (whole : zone ≡ text ++ rest) (space : IsBeforeSpace rest) where
+      abbrev written : Front stamp_text bs rest reads_so.0
+      written = record {
+        piece = front ++ text;
+        whole = front_whole ∙ ap (λ (x : List ℕ). front ++ x) whole ∙ sym (append_assoc front text rest);
+        is = reads_so.1;
+      }
 
       rest_utf8 : IsUtf8 rest
-      rest_utf8 = utf8_behind (front ++ text) rest bs piece_ascii piece_whole u
+      rest_utf8 = text_utf8 bs u written
 
       piece_chars : chars bs ≡ (front ++ text) ++ chars rest
-      piece_chars = ascii_front (front ++ text) rest bs piece_ascii piece_whole
-
-      rest_space : chars rest ≡ 32 ∷ chars space.0
-      rest_space = ascii_front (32 ∷ []) space.0 rest (one_ascii 32 (omega arith)) space.1
+      piece_chars = (text_chars bs u written).whole
 
       stamp_there : Front header_stamp (chars bs) (chars rest) (Some shows)
       stamp_there =
-          record { piece = front ++ text; whole = piece_chars; is = (reads_so text h, (chars space.0, rest_space)) }
+          stamp_front (text_chars bs u written) shows reads_so.2
+          (record {
+            piece = 32 ∷ [];
+            whole = ascii_front (32 ∷ []) space.0 rest (one_ascii 32 (omega arith)) space.1;
+            is = refl;
+          })
 
   -- ---- an offset that prints as it is written
   module _ (rest : List ℕ) (z : IsVerbatimOffset zone rest) where
-    o_in : IsOffsetSeconds z.seconds
-    o_in = offset_in z.seconds z.day
-
-    text_is : IsOffsetText (offset_text z.seconds) z.seconds
-    text_is = offset_text-is z.seconds z.minutes z.day
-
     pub offset_utf8 : IsUtf8 rest
-    offset_utf8 = rest_utf8 z.seconds o_in (offset_text z.seconds) rest text_is z.whole z.space
+    offset_utf8 = rest_utf8 z.seconds z.zone z.is rest z.whole z.space
 
     pub offset_verbatim : IsVerbatimStamp (chars bs) (chars rest) false (chars rest)
     offset_verbatim = record {
-      copied = front ++ offset_text z.seconds;
-      value = Some (shows z.seconds o_in);
-      whole = piece_chars z.seconds o_in (offset_text z.seconds) rest text_is z.whole z.space;
-      is = stamp_there z.seconds o_in (offset_text z.seconds) rest text_is z.whole z.space;
-      prints = append-nil (front ++ offset_text z.seconds) ∙ prints_so z.seconds o_in;
+      copied = front ++ z.zone;
+      value = Some (shows z.seconds z.zone z.is);
+      whole = piece_chars z.seconds z.zone z.is rest z.whole z.space;
+      is = stamp_there z.seconds z.zone z.is rest z.whole z.space;
+      prints = append-nil (front ++ z.zone) ∙ ap (λ (x : List ℕ). front ++ x) (sym z.prints)
+          ∙ prints_so z.seconds z.zone z.is;
     }
 
   -- ---- `Z`
   module _ (rest : List ℕ) (whole : zone ≡ 90 ∷ rest) (space : IsBeforeSpace rest) where
-    z_in : IsOffsetSeconds (pos 0)
-    z_in = offset_in (pos 0) (omega arith)
-
     z_is : IsOffsetText (90 ∷ []) (pos 0)
     z_is = inl (90, refl, inl refl, refl)
 
@@ -271,24 +224,16 @@ module _ (bs behind zone : List ℕ) (u : IsUtf8 bs) (d : IsDateAndClock bs behi
 
     pub zulu_utf8 : IsUtf8 zone × IsUtf8 rest
     zulu_utf8 =
-        let behind = rest_utf8 (pos 0) z_in (90 ∷ []) rest z_is whole space in (
-          subst IsUtf8 (sym whole) (IsUtf8-append (90 ∷ []) rest
-              (IsUtf8-from_ascii (90 ∷ []) (one_ascii 90 (omega arith))) behind),
-          behind,
-        )
+        let z = IsUtf8-from_ascii (90 ∷ []) (one_ascii 90 (omega arith)) in
+        let behind = rest_utf8 (pos 0) (90 ∷ []) z_is rest whole space in
+        (rw whole (IsUtf8-append (90 ∷ []) rest z behind), behind)
 
     pub zulu_verbatim : IsVerbatimStamp (chars bs) (chars zone) true (chars rest)
     zulu_verbatim = record {
       copied = front;
-      value = Some (shows (pos 0) z_in);
-      whole = piece_chars (pos 0) z_in (90 ∷ []) rest z_is whole space ∙ append_assoc front (90 ∷ []) (chars rest)
+      value = Some (shows (pos 0) (90 ∷ []) z_is);
+      whole = piece_chars (pos 0) (90 ∷ []) z_is rest whole space ∙ append_assoc front (90 ∷ []) (chars rest)
           ∙ ap (λ (x : Text). front ++ x) (sym (ascii_front (90 ∷ []) rest zone (one_ascii 90 (omega arith)) whole));
-      is = stamp_there (pos 0) z_in (90 ∷ []) rest z_is whole space;
-      prints = ap (λ (x : List ℕ). front ++ x) zero_text ∙ prints_so (pos 0) z_in;
+      is = stamp_there (pos 0) (90 ∷ []) z_is rest whole space;
+      prints = ap (λ (x : List ℕ). front ++ x) zero_text ∙ prints_so (pos 0) (90 ∷ []) z_is;
     }
-
--- ---- what the reader answers
-pub cut_is : (text zone rest : List ℕ) (is_zulu : Bool) {z r : List ℕ} {b : Bool} → z ≡ zone → b ≡ is_zulu → r ≡ rest
-    → IsVerbatimStamp (chars text) (chars zone) is_zulu (chars rest)
-    → IsVerbatimStamp (chars text) (chars z) b (chars r)
-cut_is text zone rest is_zulu e f g h = rw (e, f, g) h

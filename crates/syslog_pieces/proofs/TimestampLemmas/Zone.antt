@@ -1,22 +1,29 @@
--- The timestamp of civil fields in a zone: there is at most one, and what its readers answer.
-use Rattle.std.proofs.Common.{IfSome, ◌<ℤ◌, arith, ◌≡◌, pos, ℤ, Option, Some, None, sym, ap, subst, ◌∙◌}
-use Rattle.jiff_core.proofs.SignedLemmas.{signed_arith}
+-- The timestamp of civil fields in a zone: there is at most one, and what its readers answer. The printed text of a
+-- month date's timestamp, by what a clock at its offset shows.
+use Rattle.std.proofs.Common.{IfSome, ◌<ℤ◌, arith, ◌≡◌, pos, ℤ, Option, Some, None, sym, ap, subst, ◌∙◌, ℕ, ◌+◌, ◌-ℤ◌}
+use Rattle.std.proofs.Common.{◌≤ℤ◌, refl, List, [], ◌∷◌, ◌++◌, ◌/◌, ◌%◌, ◌<◌, negsuc, unsigned_abs}
 use Rattle.jiff.proofs.Family.{same_datetime}
-use Rattle.jiff.specs.Types.{DateTime, Offset, TimeZone, AmbiguousOffset, Unambiguous, Gap, Fold}
-use Rattle.jiff.specs.declared.tz.timezone.TimeZone.{TimeZone as ZoneHandle}
-use Rattle.jiff.specs.Words.{plain_zone, offset_at, ambiguous_at}
-use Rattle.std.specs.Borrow.{Bor}
+use Rattle.jiff.specs.Types.{DateTime, Offset, TimeZone, AmbiguousOffset, Unambiguous, Gap, Fold, UTC, Unknown}
+use Rattle.jiff.specs.Types.{Fixed as FixedZone, Posix, Tzif}
+use Rattle.jiff.specs.Words.{offset_at, ambiguous_at, nanos_of_seconds, IsFixed}
+use Rattle.jiff_core.proofs.SignedLemmas.{signed_arith}
+use Rattle.jiff_fmt.specs.Text.{pad2}
+use Rattle.jiff_tz.specs.Zone.{utc_offset}
+use Rattle.syslog_pieces.specs.Bodies.Early.{IsEarlyStamp}
+use Rattle.syslog_pieces.specs.Bodies.MonthText.{IsMonthText, zone_of}
 use Rattle.syslog_pieces.specs.Timestamp.{IsAnswer}
-use Rattle.syslog_pieces.specs.Timestamp.Fields.{fields_of, IsStampAt}
-use Rattle.syslog_pieces.specs.Timestamp.Zone.{Dating, earlier, given_zone, IsStampOf, IsStampIn}
-use Rattle.syslog_pieces.specs.Timestamp.Zone.{IsStampInGap, IsLocalStampOf, IsLocalStampIn, IsStampInAny}
-use Rattle.syslog_pieces.specs.Timestamp.Zone.{IsStampOfFields, IsMonthStamp, civil_of, year_of}
+use Rattle.syslog_pieces.specs.Timestamp.Fields.{fields_of, IsStampAt, AreCivil}
+use Rattle.syslog_pieces.specs.Timestamp.Printed.{fields_text, date_time_text, fraction_text, offset_text, offset_sign}
+use Rattle.syslog_pieces.specs.Timestamp.Printed.{rounded_minutes, unsigned_date_time, year_sign}
+use Rattle.syslog_pieces.specs.Timestamp.Zone.{Dating, earlier, IsStampOf, IsStampInGap}
+use Rattle.syslog_pieces.specs.Timestamp.Zone.{IsLocalStampOf, IsStampInAny, IsStampOfFields}
+use Rattle.syslog_pieces.specs.Timestamp.Zone.{IsMonthStamp, civil_of, year_of}
 use Rattle.syslog_pieces.specs.declared.timestamp.OffsetTimestamp.{OffsetTimestamp}
 use Rattle.syslog_pieces.specs.declared.timestamp.fields.CivilFields.{CivilFields}
 use Rattle.syslog_pieces.specs.declared.timestamp.month_date.MonthDate.{MonthDate}
-use Rattle.syslog_pieces.proofs.TimestampLemmas.Fields.{civil_nanos-fields, civil-fields}
-use Rattle.syslog_pieces.proofs.TimestampLemmas.Answers.{answer_same}
-use Rattle.syslog_pieces.proofs.TimestampLemmas.Values.{same_timestamp}
+use Rattle.syslog_pieces.proofs.TimestampLemmas.Reading.{answer_same, same_timestamp, same_offset}
+use Rattle.syslog_pieces.proofs.TimestampLemmas.Civil.{civil_nanos-fields, civil-fields, at_offset, canonical}
+use Rattle.syslog_pieces.proofs.TimestampLemmas.Civil.{datetime_of, prints, stamp}
 
 -- fields name one datetime
 pub one_datetime : (f : CivilFields) (a b : DateTime) → fields_of a ≡ f → fields_of b ≡ f → a ≡ b
@@ -32,21 +39,16 @@ in_gap_once tz dt s t h k =
     let e = h.instant ∙ sym k.instant in
     same_timestamp s t e (h.at_offset ∙ ap (λ (n : ℤ). offset_at tz n) e ∙ sym k.at_offset)
 
-once_of : (a : AmbiguousOffset) (dt : DateTime) (s t : OffsetTimestamp) → IsStampOf a dt s → IsStampOf a dt t → s ≡ t
-once_of (Unambiguous offset) dt s t h k = at_once dt offset s t h k
-once_of (Gap before after) dt s t h k = absurd h
-once_of (Fold before after) dt s t h k = at_once dt before s t h k
-
-local_once_of : (a : AmbiguousOffset) (tz : TimeZone) (dt : DateTime) (s t : OffsetTimestamp) → IsLocalStampOf a tz dt s
-    → IsLocalStampOf a tz dt t → s ≡ t
-local_once_of (Unambiguous offset) tz dt s t h k = at_once dt offset s t h k
-local_once_of (Gap before after) tz dt s t h k = in_gap_once tz dt s t h k
-local_once_of (Fold before after) tz dt s t h k = at_once dt before s t h k
+once_of : (a : AmbiguousOffset) (tz : TimeZone) (dt : DateTime) (s t : OffsetTimestamp)
+    → (IsStampOf a dt s → IsStampOf a dt t → s ≡ t) × (IsLocalStampOf a tz dt s → IsLocalStampOf a tz dt t → s ≡ t)
+once_of (Unambiguous offset) tz dt s t = (at_once dt offset s t, at_once dt offset s t)
+once_of (Gap before after) tz dt s t = (λ h k. absurd h, in_gap_once tz dt s t)
+once_of (Fold before after) tz dt s t = (at_once dt before s t, at_once dt before s t)
 
 in_any_once : (tz : Option TimeZone) (local : TimeZone) (dt : DateTime) (s t : OffsetTimestamp)
     → IsStampInAny tz local dt s → IsStampInAny tz local dt t → s ≡ t
-in_any_once (Some tz) local dt s t h k = once_of (ambiguous_at tz dt) dt s t h k
-in_any_once None local dt s t h k = local_once_of (ambiguous_at local dt) local dt s t h k
+in_any_once (Some tz) local dt s t = (once_of (ambiguous_at tz dt) tz dt s t).0
+in_any_once None local dt s t = (once_of (ambiguous_at local dt) local dt s t).1
 
 -- a month date has one timestamp
 pub month_stamp_once : (dating : Dating) (date : MonthDate) (s t : OffsetTimestamp) → IsMonthStamp dating date s
@@ -60,45 +62,21 @@ month_stamp_once dating date s t (year, y, (dt, f, h)) (year', y', (dt', f', h')
 
 -- ---- what the readers answer
 
-some_same : {a b : Offset} → Some a ≡ Some b → b ≡ a
-some_same e = cc
-
 -- at the one offset, or at the one before a fold
-pub answer_at : (a : AmbiguousOffset) (dt : DateTime) (offset : Offset) (r : Option OffsetTimestamp)
-    → earlier a ≡ Some offset → IsAnswer (IsStampAt dt offset) r → IsAnswer (IsStampOf a dt) r
-answer_at (Unambiguous o) dt offset r e h = subst (λ (x : Offset). IsAnswer (IsStampAt dt x) r) (some_same e) h
-answer_at (Gap before after) dt offset r e h = absurd (let s : None ≡ Some offset = e in cc)
-answer_at (Fold before after) dt offset r e h = subst (λ (x : Offset). IsAnswer (IsStampAt dt x) r) (some_same e) h
-
-pub local_answer_at : (a : AmbiguousOffset) (tz : TimeZone) (dt : DateTime) (offset : Offset)
-    (r : Option OffsetTimestamp)
-    → earlier a ≡ Some offset → IsAnswer (IsStampAt dt offset) r → IsAnswer (IsLocalStampOf a tz dt) r
-local_answer_at (Unambiguous o) tz dt offset r e h = subst (λ (x : Offset). IsAnswer (IsStampAt dt x) r) (some_same e) h
-local_answer_at (Gap before after) tz dt offset r e h = absurd (let s : None ≡ Some offset = e in cc)
-local_answer_at (Fold before after) tz dt offset r e h =
-    subst (λ (x : Offset). IsAnswer (IsStampAt dt x) r) (some_same e) h
+pub answer_at : (a : AmbiguousOffset) (tz : TimeZone) (dt : DateTime) (offset : Offset) (r : Option OffsetTimestamp)
+    → earlier a ≡ Some offset → IsAnswer (IsStampAt dt offset) r
+    → IsAnswer (IsStampOf a dt) r × IsAnswer (IsLocalStampOf a tz dt) r
+answer_at (Unambiguous o) tz dt offset r e h = let same : offset ≡ o = cc in let at = rw same at h in (at, at)
+answer_at (Gap before after) tz dt offset r e h = absurd (let s : None ≡ Some offset = e in cc)
+answer_at (Fold before after) tz dt offset r e h = let same : offset ≡ before = cc in let at = rw same at h in (at, at)
 
 -- fields that name a datetime have its timestamp
-answer_of_fields : (f : CivilFields) (dt : DateTime) (tz : Option TimeZone) (local : TimeZone)
+pub answer_of_fields : (f : CivilFields) (dt : DateTime) (tz : Option TimeZone) (local : TimeZone)
     (r : Option OffsetTimestamp) → fields_of dt ≡ f
     → IsAnswer (IsStampInAny tz local dt) r → IsAnswer (IsStampOfFields tz local f) r
 answer_of_fields f dt tz local r e h =
     answer_same (IsStampInAny tz local dt) (IsStampOfFields tz local f) r (λ s p. (dt, e, p))
     (λ s q. subst (λ (x : DateTime). IsStampInAny tz local x s) (one_datetime f q.0 dt q.1 e) q.2) h
-
-module _ (f : CivilFields) (dt : DateTime) (e : fields_of dt ≡ f) (local : TimeZone) (r : Option OffsetTimestamp)
-    (tz : Option (Bor ZoneHandle)) where
-  pub answer_given : (z : Bor ZoneHandle) → tz ≡ Some z → IsAnswer (IsStampIn (plain_zone z.now) dt) r
-      → IsAnswer (IsStampOfFields (given_zone tz) local f) r
-  answer_given z is h =
-      subst (λ (x : Option (Bor ZoneHandle)). IsAnswer (IsStampOfFields (given_zone x) local f) r) (sym is)
-      (answer_of_fields f dt (Some (plain_zone z.now)) local r e h)
-
-  pub answer_local : tz ≡ None → IsAnswer (IsLocalStampIn local dt) r
-      → IsAnswer (IsStampOfFields (given_zone tz) local f) r
-  answer_local is h =
-      subst (λ (x : Option (Bor ZoneHandle)). IsAnswer (IsStampOfFields (given_zone x) local f) r) (sym is)
-      (answer_of_fields f dt None local r e h)
 
 -- ---- the year of a month date
 module _ (dating : Dating) (date : MonthDate) where
@@ -118,3 +96,98 @@ module _ (dating : Dating) (date : MonthDate) where
       let past : pos 9999 <ℤ y = subst (λ (x : Option ℤ). IfSome x (λ y. pos 9999 <ℤ y)) e n in
       let in_range = (civil-fields dt (civil_of date y) f).date in
       omega (arith, signed_arith, past, in_range.0)
+
+-- ---- what a clock in the zone shows
+pub in_any : (tz : Option TimeZone) (local : TimeZone) (dt : DateTime) (offset : Offset) (s : OffsetTimestamp)
+    → earlier (ambiguous_at (zone_of tz local) dt) ≡ Some offset → IsStampAt dt offset s → IsStampInAny tz local dt s
+in_any (Some tz) local dt offset s e h = (answer_at (ambiguous_at tz dt) tz dt offset (Some s) e h).0
+in_any None local dt offset s e h = (answer_at (ambiguous_at local dt) local dt offset (Some s) e h).1
+
+-- a zone of one offset has it at each datetime
+pub fixed_earlier : (tz : TimeZone) (offset : Offset) (dt : DateTime) → IsFixed tz
+    → ((n : ℤ) → offset.seconds ≡ offset_at tz n) → earlier (ambiguous_at tz dt) ≡ Some offset
+unfolding ambiguous_at offset_at
+fixed_earlier UTC offset dt fixed h = ap Some (same_offset utc_offset offset (sym (h (pos 0))))
+fixed_earlier Unknown offset dt fixed h = ap Some (same_offset utc_offset offset (sym (h (pos 0))))
+fixed_earlier (FixedZone o) offset dt fixed h = ap Some (same_offset o offset (sym (h (pos 0))))
+fixed_earlier (Posix tz) offset dt fixed h = absurd fixed
+fixed_earlier (Tzif z) offset dt fixed h = absurd fixed
+
+-- fields name one datetime, so an offset at it is that of the fields
+pub earlier_at : (tz : TimeZone) (f : CivilFields) (at : DateTime) (r : Option Offset) → fields_of at ≡ f
+    → r ≡ earlier (ambiguous_at tz at)
+    → IfSome r (λ offset. (dt : DateTime) → fields_of dt ≡ f → earlier (ambiguous_at tz dt) ≡ Some offset)
+earlier_at tz f at None e h = tt
+earlier_at tz f at (Some offset) e h =
+    λ dt e'. ap (λ (x : DateTime). earlier (ambiguous_at tz x)) (one_datetime f dt at e' e) ∙ sym h
+
+-- ---- the text
+
+no_sign : (year : ℤ) → pos 0 ≤ℤ year → year_sign year ≡ []
+no_sign (pos n) h = refl
+no_sign (negsuc n) h = absurd (omega (arith, signed_arith))
+
+-- in a year from 0 on, and without a fraction
+whole_text : (f : CivilFields) (o : ℤ) → pos 0 ≤ℤ f.year → f.nanosecond ≡ 0
+    → unsigned_date_time (unsigned_abs f.year) f.month f.day f.hour f.minute f.second
+    ++ (offset_sign o ∷ (pad2 (rounded_minutes o / 60) ++ (58 ∷ pad2 (rounded_minutes o % 60)))) ≡ fields_text f o
+unfolding date_time_text fraction_text offset_text
+whole_text f o from whole = rw (no_sign f.year from, whole) refl
+
+pub whole_bytes : (f : CivilFields) (o : ℤ) (sign absolute : ℕ) (text : List ℕ) → pos 0 ≤ℤ f.year → f.nanosecond ≡ 0
+    → sign ≡ offset_sign o → absolute ≡ unsigned_abs o
+    → text ≡ 32 ∷ (unsigned_date_time (unsigned_abs f.year) f.month f.day f.hour f.minute f.second
+    ++ (sign ∷ (pad2 ((absolute + 30) / 60 / 60) ++ (58 ∷ pad2 ((absolute + 30) / 60 % 60)))))
+    → text ≡ 32 ∷ fields_text f o
+whole_bytes f o sign absolute text from whole e e' h =
+    rw (h, e, e') (ap (λ (x : List ℕ). 32 ∷ x) (whole_text f o from whole))
+
+-- the printed text of a month date's timestamp
+pub month_printed : (dating : Dating) (date : MonthDate) (year : ℤ) (f : CivilFields) (offset : Offset) (text : List ℕ)
+    → year_of date dating.year ≡ Some year → f ≡ civil_of date year → AreCivil f
+    → (pos 0 ≤ℤ f.year) × (f.year <ℤ pos 9999)
+    → ((dt : DateTime) → fields_of dt ≡ f → earlier (ambiguous_at (zone_of dating.zone dating.local) dt) ≡ Some offset)
+    → (unsigned_abs offset.seconds % 60 ≡ 0) × (unsigned_abs offset.seconds < 86_400)
+    → text ≡ 32 ∷ fields_text f offset.seconds → IsMonthText dating date text
+month_printed dating date year f offset text y e there (from, to) at (minutes, day) is =
+    let (dt, same) = datetime_of f there in
+    let low : pos 0 ≤ℤ dt.date.year = from in
+    let high : dt.date.year <ℤ pos 9999 = to in
+    record {
+      stamp = stamp dt offset low high;
+      is = (
+        year,
+        y,
+        (
+          dt,
+          same ∙ e,
+          in_any dating.zone dating.local dt offset (stamp dt offset low high) (at dt same)
+              (at_offset dt offset low high),
+        ),
+      );
+      canonical = canonical dt offset low high minutes day;
+      printed = is ∙ ap (λ (x : List ℕ). 32 ∷ x)
+          (ap (λ (x : CivilFields). fields_text x offset.seconds) (sym same) ∙ sym (prints dt offset low high));
+    }
+
+-- ---- in a zone of one offset
+fixed_answer : (tz : Option TimeZone) (local : TimeZone) (f : CivilFields) (offset : Offset) (s : OffsetTimestamp)
+    → IsFixed (zone_of tz local) → ((n : ℤ) → offset.seconds ≡ offset_at (zone_of tz local) n) → IsEarlyStamp f offset s
+    → IsStampOfFields tz local f s
+fixed_answer tz local f offset s fixed at h =
+    let (dt, same) = datetime_of f h.civil in
+    let there : IsStampAt dt offset s = record {
+      instant = h.instant ∙ ap (λ (x : ℤ). x -ℤ nanos_of_seconds offset.seconds) (sym (civil_nanos-fields dt f same));
+      at_offset = ap (λ (o : Offset). o.seconds) h.at_offset;
+    } in
+    (dt, same, in_any tz local dt offset s (fixed_earlier (zone_of tz local) offset dt fixed at) there)
+
+pub fixed_answers : (tz : Option TimeZone) (local zone : TimeZone) (f : CivilFields) (offset : Offset)
+    (r : Option OffsetTimestamp)
+    → zone ≡ zone_of tz local → IsFixed zone → ((n : ℤ) → offset.seconds ≡ offset_at zone n)
+    → IfSome r (IsEarlyStamp f offset)
+    → IfSome r (IsStampOfFields tz local f)
+fixed_answers tz local zone f offset None e fixed at h = tt
+fixed_answers tz local zone f offset (Some s) e fixed at h =
+    fixed_answer tz local f offset s (subst IsFixed e fixed)
+    (subst (λ (x : TimeZone). (n : ℤ) → offset.seconds ≡ offset_at x n) e at) h

@@ -11,11 +11,6 @@ BeginsVisibly bytes = (0 < length bytes) × (32 < slice_index bytes 0)
 abbrev pub BeginsWithGap : List ℕ → Type 0
 BeginsWithGap bytes = (1 < length bytes) × (slice_index bytes 0 ≡ 32) × (32 < slice_index bytes 1)
 
--- a digit, and then a byte before the digits
-abbrev pub BeginsWithDigit : List ℕ → ℕ → Type 0
-BeginsWithDigit bytes value =
-    (1 < length bytes) × (value < 10) × (slice_index bytes 0 ≡ 48 + value) × (slice_index bytes 1 < 48)
-
 -- `<`, a number of one to three digits, `>`, and the rest
 abbrev pub IsPriorityBytes : List ℕ → ℕ → List ℕ → Type 0
 IsPriorityBytes bytes n rest =

@@ -1,8 +1,8 @@
 -- In which parts a month date is read.
-use Rattle.std.specs.Prelude.{ℕ, ◌==◌, ◌&&◌, if◌then◌else◌, List, [], ◌∷◌, Option, Some, None}
+use Rattle.std.specs.Prelude.{◌≡◌, ℕ, ◌-◌, ◌≤◌, ◌==◌, ◌&&◌, if◌then◌else◌, List, [], ◌∷◌, Option, Some, None, slice_get}
 use Rattle.syslog_pieces.specs.Pieces.Class.{Class, Values, some_run}
 use Rattle.syslog_pieces.specs.Text.{is_blank, number}
-use Rattle.syslog_pieces.specs.Timestamp.MonthDate.{month, short_number, clock_row}
+use Rattle.syslog_pieces.specs.Timestamp.MonthDate.{month, month_names, short_number, clock_row}
 use Rattle.syslog_pieces.specs.declared.timestamp.month_date.Clock.{Clock}
 use Rattle.syslog_pieces.specs.declared.timestamp.month_date.Day.{Day}
 use Rattle.syslog_pieces.specs.declared.timestamp.month_date.MonthDate.{MonthDate}
@@ -23,6 +23,11 @@ small_month a b c =
     else if a == 110 && (b == 111 && c == 118) then Some 11
     else if a == 100 && (b == 101 && c == 99) then Some 12
     else None
+
+-- they are the name of this month
+pub record IsNamed (a b c month : ℕ) : Type 0 where
+  pub from : 1 ≤ month
+  pub name : slice_get month_names (month - 1) ≡ Some (a ∷ b ∷ c ∷ [])
 
 -- the month and the day, each before blanks
 abbrev pub day_row : List Class

@@ -1,11 +1,12 @@
 -- Timestamps that print as they are written, but for a `Z`: 43 is `+`, 45 `-`, 58 `:`, 90 `Z`.
-use Rattle.std.specs.Prelude.{◌≡◌, ℕ, ℤ, pos, ◌<◌, ◌%◌, ◌≤ℤ◌, ◌<ℤ◌, ◌++◌, unsigned_abs}
+use Rattle.std.specs.Prelude.{◌≡◌, ℕ, ℤ, pos, ◌<◌, ◌≤ℤ◌, ◌<ℤ◌, ◌++◌}
 use Rattle.std.specs.Prelude.{Bool, true, false, List, [], ◌∷◌, Option, MatchOption}
 use Rattle.syslog_pieces.specs.Pieces.Class.{Text, Front}
 use Rattle.syslog_pieces.specs.Text.{dash}
 use Rattle.syslog_pieces.specs.Timestamp.{header_stamp}
 use Rattle.syslog_pieces.specs.Timestamp.Fields.{AreCivil}
 use Rattle.syslog_pieces.specs.Timestamp.Printed.{date_time_text, fraction_text, offset_text, printed_stamp}
+use Rattle.syslog_pieces.specs.Timestamp.Rfc3339.{IsOffsetText}
 use Rattle.syslog_pieces.specs.declared.timestamp.OffsetTimestamp.{OffsetTimestamp}
 use Rattle.syslog_pieces.specs.declared.timestamp.fields.CivilFields.{CivilFields}
 
@@ -42,8 +43,9 @@ IsBeforeSpace text = (more : List ℕ) × (text ≡ 32 ∷ more)
 
 -- an offset as it prints, and the rest, which a space begins
 pub record IsVerbatimOffset (text rest : List ℕ) : Type 0 where
+  pub zone : List ℕ
   pub seconds : ℤ
-  pub minutes : unsigned_abs seconds % 60 ≡ 0
-  pub day : unsigned_abs seconds < 86_400
-  pub whole : text ≡ offset_text seconds ++ rest
+  pub is : IsOffsetText zone seconds
+  pub prints : offset_text seconds ≡ zone
+  pub whole : text ≡ zone ++ rest
   pub space : IsBeforeSpace rest

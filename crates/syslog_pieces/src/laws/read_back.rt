@@ -20,6 +20,7 @@ pub fn decimal_is_read_back()
 
 /// A canonical host, or none, is read back before the end or white space; what is read before a blank is a canonical
 /// host, or none.
+#[tactic(auto, using(crate::proofs::TextLemmas::ReadBack::hosts))]
 pub fn canonical_host_is_read_back()
     ensures back { (v : Option Text) (q : Text) → IfSome v IsCanonicalHost → Ends is_not_whitespace q
         → host.Is (name_text v) q v }
@@ -29,6 +30,7 @@ pub fn canonical_host_is_read_back()
 
 /// A canonical word, or none, is read back before the end or white space, and what is read is a canonical word, or
 /// none.
+#[tactic(auto, using(crate::proofs::TextLemmas::ReadBack::words))]
 pub fn canonical_word_is_read_back()
     ensures back { (v : Option Text) (q : Text) → IfSome v IsCanonicalWord → Ends is_not_whitespace q
         → word.Is (name_text v) q v }
@@ -37,6 +39,7 @@ pub fn canonical_word_is_read_back()
 
 /// A canonical process id, or none, is read back before the end or white space, and what is read is a canonical one, or
 /// none.
+#[tactic(auto, using(crate::proofs::ProcIdLemmas::ReadBack::processes))]
 pub fn canonical_process_is_read_back()
     ensures back { (v : Option (ProcId Text)) (q : Text) → IfSome v IsCanonicalProcess → IfSome v IsBoundedProcess
         → Ends is_not_whitespace q → process_word.Is (process_text v) q v }

@@ -83,8 +83,9 @@ pub(super) fn collect_element<'a>(
     Ok(Some((StructuredElement { id, params }, rest)))
 }
 
-/// How many parameters of an element are noted before memory is asked for them.
-pub(super) const NOTED: usize = 16;
+/// How many parameters of an element are noted before memory is asked for them. The room for them is cleared once for
+/// each list, at four instructions a parameter.
+pub(super) const NOTED: usize = 8;
 
 // Notes the parameters at the front, where there are no more than the notes have room for, and answers their number and
 // the text behind the bracket that closes their element.

@@ -1,12 +1,13 @@
 //! The forgiving list of RFC 5424: strict elements, and broken ones that are left out.
-ghost use Rattle.std.specs.Prelude.{◌≡◌, List, Option, Some, MatchOption, IfOk, IsOk, is_some, is_none, map};
+ghost use Rattle.std.specs.Prelude.{◌≡◌, List, Option, Some, None, MatchBool, MatchOption, IfOk, IsOk, is_none, map};
 ghost use Rattle.std.specs.List.{list_any};
 ghost use Rattle.std.specs.Str.{chars, IsUtf8};
 ghost use Rattle.syslog_pieces.specs.Pieces.Class.{Front, NoFront};
 ghost use Rattle.syslog_pieces.specs.Bodies.Closing.{IsDead};
 ghost use Rattle.syslog_pieces.specs.StructuredData.Element.{ElementValue, element_value};
 ghost use Rattle.syslog_pieces.specs.Pieces.Lists.{many, HasRead};
-ghost use Rattle.syslog_pieces.specs.StructuredData.{item as item_class, forgiving, strict as strict_of, NeedsNoMemory};
+ghost use Rattle.syslog_pieces.specs.StructuredData.{element as element_class, item as item_class};
+ghost use Rattle.syslog_pieces.specs.StructuredData.{forgiving, strict as strict_of, NeedsNoMemory};
 ghost use Rattle.syslog_pieces.specs.Pieces.View.{shown, Reads};
 
 use super::StructuredElement;
@@ -38,8 +39,9 @@ struct Items<'a> {
 fn next_item(text: &str, dead: usize) -> Option<Item<'_>>
     requires { IsDead (chars text.now) dead }
     ensures { MatchOption result (NoFront item_class (chars text.now)) (λ found. IsUtf8 found.rest.now
-        × ((v : Option ElementValue) × Front item_class (chars text.now) (shown found.rest) v
-        × (found.strict ≡ is_some v))
+        × MatchBool found.strict
+        ((e : ElementValue) × Front element_class (chars text.now) (shown found.rest) e)
+        (Front item_class (chars text.now) (shown found.rest) None)
         × IsDead (shown found.rest) found.dead) }
 {
     match live_element(text, dead) {

@@ -15,7 +15,7 @@ ghost use Rattle.syslog_pieces.specs.Bodies.Closing.{quoted as quoted_class, id_
 ghost use Rattle.syslog_pieces.specs.Bodies.Closing.{closing, IsDead, last_char};
 ghost use Rattle.syslog_pieces.specs.StructuredData.Escapes.{TextUnit, unit_text};
 ghost use Rattle.syslog_pieces.specs.StructuredData.Rfc3164List.{full_element};
-ghost use Rattle.syslog_pieces.specs.StructuredData.{value, element as element_class};
+ghost use Rattle.syslog_pieces.specs.StructuredData.{element as element_class};
 ghost use Rattle.syslog_pieces.specs.StructuredData.{bracketed as bracketed_class, IsValueUnit};
 ghost use Rattle.syslog_pieces.specs.Pieces.View.{shown, Reads, Recognises};
 
@@ -59,7 +59,7 @@ pub(super) fn opening(text: &str) -> Option<(&str, &str)>
 #[inline(always)]
 fn unit(text: &str) -> Option<(char, &str)>
     requires { NoFront (exactly (34 ∷ [])) (chars text.now) }
-    ensures { MatchOption result (NoFront value (chars text.now)) (λ x. IsUtf8 x.1.now
+    ensures { MatchOption result (NoFront quoted_class (chars text.now)) (λ x. IsUtf8 x.1.now
         × ((u : TextUnit) × IsValueUnit u × (chars text.now ≡ unit_text u ++ shown x.1) × (last_char u ≡ x.0))) }
 {
     let (c, more) = first(text)?;

@@ -58,7 +58,13 @@ pub fn begins_list(text: &str, rule: DashRule) -> bool
     ensures { MatchBool result (NoFront (rfc3164_list rule) (chars text.now) → ⊥)
         (NoFront (rfc3164_list rule) (chars text.now)) }
 {
-    after_dash(text, rule).is_some() || after_full_element(text).is_some()
+    if let Some(_) = after_dash(text, rule) {
+        return true;
+    }
+    if let Some(_) = after_full_element(text) {
+        return true;
+    }
+    false
 }
 
 // The element with parameters at the front, and the text behind it. It is recognised before memory is asked for it.

@@ -1,16 +1,18 @@
 //! Which texts are read back from print as they stand. Each asks the scanner or the reader that reads such a text, and
 //! takes no memory.
-ghost use Rattle.std.specs.Prelude.{◌≡◌, ◌↔◌, ◌<◌, IsTrue, [], length};
+ghost use Rattle.std.specs.Prelude.{◌≡◌, ◌↔◌, ◌<◌, IsSomeAnd, IsTrue, [], length};
 ghost use Rattle.std.specs.Str.{chars};
 ghost use Rattle.syslog_pieces.specs.Pieces.Class.{Each, Ends};
+ghost use Rattle.syslog_pieces.specs.Pieces.View.{shown};
 ghost use Rattle.syslog_pieces.specs.Text.{is_blank};
 ghost use Rattle.syslog_pieces.specs.Text.CharClass.{has};
 ghost use Rattle.syslog_pieces.specs.Text.Canonical.{IsCanonicalHost, IsCanonicalTag, IsCanonicalWord};
 
 use super::{CharClass, host, split_run, tag_word, word};
 
-// Whether no character is left.
-fn is_end(text: &str) -> bool
+/// Whether no character is left.
+#[tactic(auto, using(crate::proofs::TextLemmas::Canonical::end_told))]
+pub(crate) fn is_end(text: &str) -> bool
     ensures { IsTrue result ↔ (chars text.now ≡ []) }
 {
     text.is_empty()
@@ -34,11 +36,12 @@ pub fn is_some_of(text: &str, class: CharClass) -> bool
     is_only(text, class)
 }
 
-/// Whether the reader of hosts takes the whole text for a host.
-pub fn is_canonical_host(text: &str) -> bool
-    ensures { IsTrue result ↔ IsCanonicalHost (chars text.now) }
+// Whether a reader has taken the whole text for a name.
+#[inline(always)]
+fn is_whole(read: Option<(Option<&str>, &str)>) -> bool
+    ensures { IsTrue result ↔ IsSomeAnd read.entry (λ x. IsSomeAnd x.0 (λ _. shown x.1 ≡ [])) }
 {
-    match host(text) {
+    match read {
         Some((name, rest)) => match name {
             Some(_) => is_end(rest),
             None => false,
@@ -47,17 +50,18 @@ pub fn is_canonical_host(text: &str) -> bool
     }
 }
 
+/// Whether the reader of hosts takes the whole text for a host.
+pub fn is_canonical_host(text: &str) -> bool
+    ensures { IsTrue result ↔ IsCanonicalHost (chars text.now) }
+{
+    is_whole(host(text))
+}
+
 /// Whether the reader of words takes the whole text for a word.
 pub fn is_canonical_word(text: &str) -> bool
     ensures { IsTrue result ↔ IsCanonicalWord (chars text.now) }
 {
-    match word(text) {
-        Some((name, rest)) => match name {
-            Some(_) => is_end(rest),
-            None => false,
-        },
-        None => false,
-    }
+    is_whole(word(text))
 }
 
 /// Whether the text does not begin with a blank.
@@ -72,11 +76,5 @@ pub fn begins_unblank(text: &str) -> bool
 pub fn is_canonical_tag(text: &str) -> bool
     ensures { IsTrue result ↔ IsCanonicalTag (chars text.now) }
 {
-    match tag_word(text) {
-        Some((name, rest)) => match name {
-            Some(_) => is_end(rest),
-            None => false,
-        },
-        None => false,
-    }
+    is_whole(tag_word(text))
 }

@@ -65,14 +65,3 @@ pub(crate) fn begins_with_letter(bytes: &[u8]) -> bool
         [] => false,
     }
 }
-
-/// The digit that begins the bytes, where none stands behind it but a byte before the digits.
-#[inline(always)]
-pub(crate) fn first_digit(bytes: &[u8]) -> Option<u32>
-    ensures { IfSome result (λ value. spec.BeginsWithDigit bytes.now value) }
-{
-    match bytes {
-        [digit @ b'0'..=b'9', next, ..] if *next < b'0' => Some(u32::from(*digit - b'0')),
-        _ => None,
-    }
-}

@@ -9,6 +9,7 @@ use std::alloc::AllocError;
 use std::{fmt, str};
 
 /// Writes bytes that are ASCII.
+#[tactic(auto, using(crate::proofs::TimestampLemmas::Characters::low_utf8))]
 #[inline(always)]
 pub(crate) fn write_bytes<W: fmt::Write>(f: &mut fmt::Formatter<W>, bytes: &[u8]) -> fmt::Result
     requires { AllByRecursion (λ b. b < 128) bytes.now }
@@ -18,6 +19,7 @@ pub(crate) fn write_bytes<W: fmt::Write>(f: &mut fmt::Formatter<W>, bytes: &[u8]
 }
 
 /// Appends bytes that are ASCII.
+#[tactic(auto, using(crate::proofs::TimestampLemmas::Characters::low_utf8))]
 #[inline(always)]
 pub fn push_bytes(text: &mut String, bytes: &[u8]) -> Result<(), AllocError>
     requires { AllByRecursion (λ b. b < 128) bytes.now }

@@ -2,12 +2,13 @@
 //!
 //! Each reader takes the front of the text and gives its value, if it has one, and the rest.
 //! Nothing is copied. A text that has a stamp is ASCII, so its bytes are its characters.
-ghost use Rattle.std.specs.Prelude.{◌≡◌, ℕ, ◌<◌, ◌≤◌, ◌++◌, length, slice_index};
+ghost use Rattle.std.specs.Prelude.{◌≡◌, ℕ, ◌<◌, ◌≤◌, ◌++◌, ◌∷◌, length, slice_index};
 ghost use Rattle.std.specs.Prelude.{Some, IfSome, option_copied};
 ghost use Rattle.std.specs.Bool.{OnFalse};
 ghost use Rattle.std.specs.List.{prefix_len};
 ghost use Rattle.std.specs.Char.{is_ascii_digit, IsAsciiDigit};
-ghost use Rattle.jiff_fmt.specs.Reader.{two_digits as two_digits_of, four_digits as four_digits_of};
+ghost use Rattle.jiff_fmt.specs.Reader.{two_digits, four_digits as four_digits_of};
+ghost use Rattle.jiff_fmt.specs.Text.{pad2, pad4};
 ghost use Rattle.syslog_pieces.specs.Timestamp.Printed.{pad3};
 ghost use Rattle.syslog_pieces.specs.Bodies.StampReading as spec;
 
@@ -17,14 +18,29 @@ const MAX_DECIMALS: usize = 9;
 /// Two digits, as a number.
 #[tactic(auto, unfolding(jiff_fmt::specs::Reader::two_digits))]
 #[inline(always)]
-pub fn two_digits(text: &[u8]) -> Option<(u8, &[u8])>
-    ensures value { spec.read_of result ≡ two_digits_of text.now }
+pub fn pair(text: &[u8]) -> Option<(u32, &[u8])>
+    ensures value { spec.read_of result ≡ two_digits text.now }
     ensures small { IfSome result (λ read. read.0 < 100) }
+    ensures text { IfSome result (λ read. text.now ≡ pad2 read.0 ++ read.1.now) }
 {
     match text {
         [tens @ b'0'..=b'9', ones @ b'0'..=b'9', rest @ ..] => {
-            Some(((*tens - b'0') * 10 + (*ones - b'0'), rest))
+            let number = u32::from(*tens - b'0') * 10 + u32::from(*ones - b'0');
+            Some((number, rest))
         }
+        _ => None,
+    }
+}
+
+/// This byte and two digits.
+#[inline(always)]
+pub fn pair_behind(text: &[u8], byte: u8) -> Option<(u32, &[u8])>
+    ensures value { spec.read_of result ≡ spec.pair_behind byte text.now }
+    ensures small { IfSome result (λ read. read.0 < 100) }
+    ensures text { IfSome result (λ read. text.now ≡ byte ∷ (pad2 read.0 ++ read.1.now)) }
+{
+    match text {
+        [first, rest @ ..] if *first == byte => pair(rest),
         _ => None,
     }
 }
@@ -32,31 +48,22 @@ pub fn two_digits(text: &[u8]) -> Option<(u8, &[u8])>
 /// Four digits, as a number.
 #[tactic(auto, unfolding(jiff_fmt::specs::Reader::four_digits))]
 #[inline(always)]
-pub fn four_digits(text: &[u8]) -> Option<(u16, &[u8])>
+pub fn four_digits(text: &[u8]) -> Option<(u32, &[u8])>
     ensures value { spec.read_of result ≡ four_digits_of text.now }
     ensures small { IfSome result (λ read. read.0 < 10_000) }
+    ensures text { IfSome result (λ read. text.now ≡ pad4 read.0 ++ read.1.now) }
 {
-    let (century, text) = two_digits(text)?;
-    let (year, text) = two_digits(text)?;
-    Some((century as u16 * 100 + year as u16, text))
+    let (century, text) = pair(text)?;
+    let (year, text) = pair(text)?;
+    Some((century * 100 + year, text))
 }
 
-/// The text after this byte.
-#[inline(always)]
-pub fn after_byte(text: &[u8], byte: u8) -> Option<&[u8]>
-    ensures { option_copied result ≡ spec.after_byte byte text.now }
-{
-    match text {
-        [first, rest @ ..] if *first == byte => Some(rest),
-        _ => None,
-    }
-}
-
-/// The text after a letter in either case, of which this is the upper case.
+/// The text behind a letter in either case, of which this is the upper case.
 #[inline(always)]
 pub fn after_letter(text: &[u8], upper: u8) -> Option<&[u8]>
     requires { upper < 128 }
-    ensures { option_copied result ≡ spec.after_letter upper text.now }
+    ensures value { option_copied result ≡ spec.after_letter upper text.now }
+    ensures text { IfSome result (λ rest. spec.IsLetterBytes upper text.now rest.now) }
 {
     match text {
         [first, rest @ ..] if *first == upper || *first == upper + 32 => Some(rest),
@@ -68,8 +75,7 @@ pub fn after_letter(text: &[u8], upper: u8) -> Option<&[u8]>
 #[tactic(auto, unfolding(crate::specs::Bodies::StampReading::fraction))]
 #[inline(always)]
 pub fn fraction(text: &[u8]) -> Option<(u32, &[u8])>
-    ensures value { spec.read_of result ≡ spec.fraction text.now }
-    ensures small { IfSome result (λ read. read.0 < 1_000_000_000) }
+    ensures { spec.read_of result ≡ spec.fraction text.now }
 {
     match text {
         [b'.', rest @ ..] => nanoseconds(rest),
@@ -80,8 +86,7 @@ pub fn fraction(text: &[u8]) -> Option<(u32, &[u8])>
 // One or more digits as a fraction in nanoseconds.
 #[inline(always)]
 fn nanoseconds(text: &[u8]) -> Option<(u32, &[u8])>
-    ensures value { spec.read_of result ≡ spec.nanoseconds text.now }
-    ensures small { IfSome result (λ read. read.0 < 1_000_000_000) }
+    ensures { spec.read_of result ≡ spec.nanoseconds text.now }
 {
     match few_decimals(text) {
         Some(read) => Some(read),
@@ -89,21 +94,24 @@ fn nanoseconds(text: &[u8]) -> Option<(u32, &[u8])>
     }
 }
 
-// Exactly three or six digits, which most fractions have: they need no loop.
+// Exactly three, six or nine digits, which most fractions have: they need no loop.
 #[inline(always)]
 fn few_decimals(text: &[u8]) -> Option<(u32, &[u8])>
-    ensures value { IfSome result (λ read. spec.nanoseconds text.now ≡ Some (read.0, read.1.now)) }
-    ensures small { IfSome result (λ read. read.0 < 1_000_000_000) }
+    ensures { IfSome result (λ read. spec.nanoseconds text.now ≡ Some (read.0, read.1.now)) }
 {
     let (milli, rest) = three_digits(text)?;
     if !begins_with_digit(rest) {
         return Some((milli * 1_000_000, rest));
     }
     let (micro, rest) = three_digits(rest)?;
+    if !begins_with_digit(rest) {
+        return Some((milli * 1_000_000 + micro * 1_000, rest));
+    }
+    let (nano, rest) = three_digits(rest)?;
     if begins_with_digit(rest) {
         return None;
     }
-    Some((milli * 1_000_000 + micro * 1_000, rest))
+    Some((milli * 1_000_000 + micro * 1_000 + nano, rest))
 }
 
 #[inline(always)]
@@ -131,8 +139,7 @@ pub fn begins_with_digit(text: &[u8]) -> bool
 // One or more digits, of any number.
 #[tactic(auto, unfolding(crate::specs::Bodies::StampReading::nanoseconds))]
 fn decimals(text: &[u8]) -> Option<(u32, &[u8])>
-    ensures value { spec.read_of result ≡ spec.nanoseconds text.now }
-    ensures small { IfSome result (λ read. read.0 < 1_000_000_000) }
+    ensures { spec.read_of result ≡ spec.nanoseconds text.now }
 {
     let len = digits_len(text);
     if len == 0 {

@@ -1,7 +1,7 @@
 //! Month dates: the dates of RFC 3164.
 //!
 //! A date is recognised by its letters and digits alone, before anybody asks for its year. Nothing here takes memory.
-ghost use Rattle.std.specs.Prelude.{◌≡◌, Option, MatchOption};
+ghost use Rattle.std.specs.Prelude.{◌≡◌, IfSome, Option, MatchOption};
 ghost use Rattle.std.specs.Str.{chars};
 ghost use Rattle.syslog_pieces.specs.Bodies.MonthReading as parts;
 ghost use Rattle.syslog_pieces.specs.Pieces.Class.{Front, NoFront, Row};
@@ -184,7 +184,8 @@ fn read_month(text: &str) -> Option<(u32, &str)>
 // The number of the month that three small letters name.
 #[tactic(auto, unfolding(crate::specs::Bodies::MonthReading::small_month))]
 fn small_month(a: char, b: char, c: char) -> Option<u32>
-    ensures { result ≡ parts.small_month a b c }
+    ensures value { result ≡ parts.small_month a b c }
+    ensures name { IfSome result (λ n. parts.IsNamed a b c n) }
 {
     match (a, b, c) {
         ('j', 'a', 'n') => Some(1),

@@ -1,13 +1,20 @@
-//! What an RFC 3339 text writes, and the stamp that it has.
-ghost use Rattle.std.specs.Prelude.{◌≡◌, ◌<◌, IfSome, IsNone};
+//! What an RFC 3339 text writes, read at the front of a text, and the stamp that it has.
+ghost use Rattle.std.specs.Prelude.{◌≡◌, ◌<◌, ◌++◌, ◌∷◌, ◌/◌, ◌%◌, ◌⊎◌, IfSome, IsNone};
+ghost use Rattle.std.specs.Str.{chars};
 ghost use Rattle.jiff.specs.Words.{IsOffsetSeconds};
-ghost use Rattle.syslog_pieces.specs.Timestamp.{IsAnswer, IsStampOfRfc3339};
+ghost use Rattle.jiff_fmt.specs.Text.{pad2};
 ghost use Rattle.syslog_pieces.specs.Bodies.StampReading as spec;
+ghost use Rattle.syslog_pieces.specs.Pieces.Class.{Front};
+ghost use Rattle.syslog_pieces.specs.Pieces.View.{Reads};
+ghost use Rattle.syslog_pieces.specs.Timestamp.{IsAnswer, IsStampOfRfc3339};
 ghost use Rattle.syslog_pieces.specs.Timestamp.Rfc3339.{fields_of_rfc3339};
 
 use super::OffsetTimestamp;
-use super::digits::{after_byte, after_letter, four_digits, fraction, two_digits};
+use super::digits::{after_letter, four_digits, fraction, pair, pair_behind};
+use super::early::early_stamp;
 use super::fields::{CivilFields, at_offset};
+use super::month_date::Clock;
+use super::month_date::standard::clock;
 use jiff::tz::Offset;
 
 /// The numbers of an RFC 3339 text as they stand there, of which there may be no such date or time.
@@ -15,26 +22,55 @@ use jiff::tz::Offset;
 #[derive(Clone, Copy)]
 pub struct Rfc3339Fields {
     pub year: u16,
-    pub month: u8,
-    pub day: u8,
-    pub hour: u8,
-    pub minute: u8,
-    pub second: u8,
+    pub month: u32,
+    pub day: u32,
+    pub hour: u32,
+    pub minute: u32,
+    pub second: u32,
     pub nanosecond: u32,
     pub offset: i32,
+}
+
+#[derive(Clone, Copy)]
+pub(super) struct Day {
+    pub(super) year: u32,
+    pub(super) month: u32,
+    pub(super) day: u32,
 }
 
 /// The stamp of what was written.
 #[inline(always)]
 pub fn stamp(written: Rfc3339Fields) -> Option<OffsetTimestamp>
-    requires { IsOffsetSeconds written.offset }
     ensures { IsAnswer (IsStampOfRfc3339 written) result }
 {
     if written.second > 60 {
         return None;
     }
-    let dt = fields_of(written).datetime()?;
-    at_offset(dt, offset_of(written.offset)?)
+    let offset = offset_of(written.offset)?;
+    any_stamp(written, offset)
+}
+
+/// The stamp of what was written, where each month has such a day.
+#[inline(always)]
+pub fn standard_stamp(written: Rfc3339Fields) -> Option<OffsetTimestamp>
+    ensures { IfSome result (IsStampOfRfc3339 written) }
+{
+    if written.second > 59 {
+        return None;
+    }
+    let offset = offset_of(written.offset)?;
+    let stamp = early_stamp(fields_of(written), offset)?;
+    Some(stamp)
+}
+
+// The same at an offset.
+#[inline(always)]
+fn any_stamp(written: Rfc3339Fields, offset: Offset) -> Option<OffsetTimestamp>
+    requires second { written.second < 61 }
+    requires offset { offset.seconds ≡ written.offset }
+    ensures { IsAnswer (IsStampOfRfc3339 written) result }
+{
+    at_offset(fields_of(written).datetime()?, offset)
 }
 
 // A leap second has no place of its own on the clock, so it counts as the second before.
@@ -44,109 +80,131 @@ fn fields_of(written: Rfc3339Fields) -> CivilFields
 {
     CivilFields {
         year: i32::from(written.year),
-        month: u32::from(written.month),
-        day: u32::from(written.day),
-        hour: u32::from(written.hour),
-        minute: u32::from(written.minute),
-        second: u32::from(written.second.min(59)),
+        month: written.month,
+        day: written.day,
+        hour: written.hour,
+        minute: written.minute,
+        second: written.second.min(59),
         nanosecond: written.nanosecond,
     }
 }
 
 #[inline(always)]
-pub(super) fn offset_of(seconds: i32) -> Option<Offset>
+fn offset_of(seconds: i32) -> Option<Offset>
     ensures value { IfSome result (λ offset. offset.seconds ≡ seconds) }
     ensures none { IsNone result → ¬ (IsOffsetSeconds seconds) }
 {
     Offset::from_seconds(seconds).ok()
 }
 
-// The length of `YYYY-MM-DDTHH:MM:SS`, which each text has at its front.
-const FRONT: usize = 19;
+// The length of `YYYY-MM-DDTHH:MM:SSZ`: no text is shorter.
+const LEAST: usize = 20;
 
-/// What the whole text writes, if it has the form.
-#[tactic(auto, unfolding(crate::specs::Bodies::StampReading::rfc3339_fields))]
+/// What the front of the text writes, and the text behind it.
 #[inline(always)]
-pub fn read(text: &[u8]) -> Option<Rfc3339Fields>
-    ensures value { result ≡ spec.rfc3339_fields text.now }
-    ensures offset { IfSome result (λ written. IsOffsetSeconds written.offset) }
+pub fn read(text: &str) -> Option<(Rfc3339Fields, &str)>
+    ensures { Reads spec.stamp_text (λ written. written) (chars text.now) result }
 {
+    let bytes = text.as_bytes();
     // With the length known, no piece looks for its end.
-    if text.len() < FRONT {
+    if bytes.len() < LEAST {
         return None;
     }
-    let (date, text) = date(text)?;
+    let (written, end) = numbers(bytes)?;
+    let (_, rest) = text.split_at(text.len() - end.len());
+    Some((written, rest))
+}
+
+#[tactic(auto, unfolding(crate::specs::Bodies::StampReading::numbers))]
+#[inline(always)]
+fn numbers(text: &[u8]) -> Option<(Rfc3339Fields, &[u8])>
+    ensures value { spec.read_of result ≡ spec.numbers text.now }
+    ensures front { IfSome result (λ read. Front spec.stamp_text text.now read.1.now read.0) }
+{
+    let (day, text) = date(text)?;
     let (clock, text) = clock(after_letter(text, b'T')?)?;
     let (nanosecond, text) = fraction(text)?;
-    let offset = offset_seconds(text)?;
-    Some(Rfc3339Fields {
-        year: date.0,
-        month: date.1,
-        day: date.2,
-        hour: clock.0,
-        minute: clock.1,
-        second: clock.2,
+    let (offset, text) = offset(text)?;
+    let written = Rfc3339Fields {
+        year: day.year as u16,
+        month: day.month,
+        day: day.day,
+        hour: clock.hour,
+        minute: clock.minute,
+        second: clock.second,
         nanosecond,
         offset,
-    })
+    };
+    Some((written, text))
 }
 
-// `YYYY-MM-DD`.
+/// `YYYY-MM-DD`.
 #[tactic(auto, unfolding(crate::specs::Bodies::StampReading::date))]
 #[inline(always)]
-fn date(text: &[u8]) -> Option<((u16, u8, u8), &[u8])>
-    ensures { spec.read_of result ≡ spec.date text.now }
+pub(super) fn date(text: &[u8]) -> Option<(Day, &[u8])>
+    ensures value { spec.read_of result ≡ spec.date text.now }
+    ensures text { IfSome result (λ read. spec.IsDayBytes text.now read.0 read.1.now) }
 {
     let (year, text) = four_digits(text)?;
-    let (month, text) = two_digits(after_byte(text, b'-')?)?;
-    let (day, text) = two_digits(after_byte(text, b'-')?)?;
-    Some(((year, month, day), text))
+    let (month, text) = pair_behind(text, b'-')?;
+    let (day, text) = pair_behind(text, b'-')?;
+    Some((Day { year, month, day }, text))
 }
 
-// `HH:MM:SS`.
-#[tactic(auto, unfolding(crate::specs::Bodies::StampReading::clock))]
+// `Z`, or a sign and `HH:MM`, in seconds.
+#[tactic(auto, unfolding(crate::specs::Bodies::StampReading::offset))]
 #[inline(always)]
-fn clock(text: &[u8]) -> Option<((u8, u8, u8), &[u8])>
-    ensures { spec.read_of result ≡ spec.clock text.now }
+fn offset(text: &[u8]) -> Option<(i32, &[u8])>
+    ensures value { spec.read_of result ≡ spec.offset text.now }
+    ensures text { IfSome result (λ read. spec.IsOffsetBytes text.now read.0 read.1.now) }
 {
-    let (hour, text) = two_digits(text)?;
-    let (minute, text) = two_digits(after_byte(text, b':')?)?;
-    let (second, text) = two_digits(after_byte(text, b':')?)?;
-    Some(((hour, minute, second), text))
+    match after_letter(text, b'Z') {
+        Some(rest) => return Some((0, rest)),
+        None => {}
+    }
+    let (sign, behind) = sign(text)?;
+    let (minutes, rest) = minutes(behind)?;
+    Some((seconds(sign, minutes), rest))
 }
 
-// `Z`, or a sign and `HH:MM`, to the end, in seconds.
-#[tactic(auto, unfolding(crate::specs::Bodies::StampReading::offset_seconds))]
+// Minutes with this sign, in seconds.
 #[inline(always)]
-fn offset_seconds(text: &[u8]) -> Option<i32>
-    ensures value { result ≡ spec.offset_seconds text.now }
-    ensures in_range { IfSome result IsOffsetSeconds }
+fn seconds(sign: u8, minutes: u32) -> i32
+    requires { minutes < 1440 }
+    ensures { result ≡ spec.seconds sign minutes }
+{
+    if sign == b'-' {
+        -((minutes * 60) as i32)
+    } else {
+        (minutes * 60) as i32
+    }
+}
+
+/// `+` or `-`.
+#[inline(always)]
+pub(super) fn sign(text: &[u8]) -> Option<(u8, &[u8])>
+    ensures value { spec.read_of result ≡ spec.sign text.now }
+    ensures text { IfSome result (λ read. ((read.0 ≡ 43) ⊎ (read.0 ≡ 45)) × (text.now ≡ read.0 ∷ read.1.now)) }
 {
     match text {
-        [b'Z' | b'z'] => Some(0),
-        [b'+', rest @ ..] => {
-            let minutes = offset_minutes(rest)?;
-            Some(i32::from(minutes) * 60)
-        }
-        [b'-', rest @ ..] => {
-            let minutes = offset_minutes(rest)?;
-            Some(-(i32::from(minutes) * 60))
-        }
+        [first @ (b'+' | b'-'), rest @ ..] => Some((*first, rest)),
         _ => None,
     }
 }
 
-// `HH:MM` to the end, in minutes.
-#[tactic(auto, unfolding(crate::specs::Bodies::StampReading::offset_minutes))]
+/// `HH:MM`, in minutes.
+#[tactic(auto, unfolding(crate::specs::Bodies::StampReading::minutes))]
 #[inline(always)]
-fn offset_minutes(text: &[u8]) -> Option<u16>
-    ensures value { result ≡ spec.offset_minutes text.now }
-    ensures in_day { IfSome result (λ minutes. minutes < 1440) }
+pub(super) fn minutes(text: &[u8]) -> Option<(u32, &[u8])>
+    ensures value { spec.read_of result ≡ spec.minutes text.now }
+    ensures in_day { IfSome result (λ read. read.0 < 1440) }
+    ensures text { IfSome result (λ read.
+        text.now ≡ pad2 (read.0 / 60) ++ (58 ∷ (pad2 (read.0 % 60) ++ read.1.now))) }
 {
-    let (hours, text) = two_digits(text)?;
-    let (minutes, text) = two_digits(after_byte(text, b':')?)?;
-    if hours < 24 && minutes < 60 && text.is_empty() {
-        Some(u16::from(hours) * 60 + u16::from(minutes))
+    let (hours, rest) = pair(text)?;
+    let (minutes, rest) = pair_behind(rest, b':')?;
+    if hours < 24 && minutes < 60 {
+        Some((hours * 60 + minutes, rest))
     } else {
         None
     }

@@ -5,14 +5,13 @@
 //! forms (small letters, a fraction that ends in three zeros, second 60, `-00:00`) are left to `header_stamp`.
 ghost use Rattle.std.specs.Prelude.{◌≡◌, ◌≢◌, ◌<◌, ◌++◌, ◌∷◌, ◌/◌, ◌%◌, ◌⊎◌, IfSome, IsTrue};
 ghost use Rattle.std.specs.Str.{chars, IsUtf8};
-ghost use Rattle.jiff_fmt.specs.Text.{pad2};
 ghost use Rattle.syslog_pieces.specs.Bodies.VerbatimStamp as spec;
 ghost use Rattle.syslog_pieces.specs.Pieces.View.{shown};
 
 use super::civil::is_civil;
-use super::digits::{begins_with_digit, three_digits};
+use super::digits::{begins_with_digit, pair_behind, three_digits};
 use super::fields::CivilFields;
-use super::month_date::standard::pair;
+use super::rfc3339_text::{date, minutes, sign};
 use crate::text::literal;
 use std::str;
 
@@ -84,35 +83,20 @@ fn date_and_clock(text: &[u8]) -> Option<&[u8]>
     if text.len() < SHORTEST {
         return None;
     }
-    let (century, text) = pair(text)?;
-    let (year, text) = pair(text)?;
-    let (month, text) = pair_behind(text, b'-')?;
-    let (day, text) = pair_behind(text, b'-')?;
+    let (day, text) = date(text)?;
     let (hour, text) = pair_behind(text, b'T')?;
     let (minute, text) = pair_behind(text, b':')?;
     let (second, text) = pair_behind(text, b':')?;
     let fields = CivilFields {
-        year: (century * 100 + year) as i32,
-        month,
-        day,
+        year: day.year as i32,
+        month: day.month,
+        day: day.day,
         hour,
         minute,
         second,
         nanosecond: 0,
     };
     if is_civil(fields) { Some(text) } else { None }
-}
-
-// A sign and two digits.
-#[inline(always)]
-fn pair_behind(text: &[u8], sign: u8) -> Option<(u32, &[u8])>
-    ensures small { IfSome result (λ read. read.0 < 100) }
-    ensures text { IfSome result (λ read. text.now ≡ sign ∷ (pad2 read.0 ++ read.1.now)) }
-{
-    match text {
-        [first, rest @ ..] if *first == sign => pair(rest),
-        _ => None,
-    }
 }
 
 // The text behind a fraction: none, or three, six or nine decimals, the last three of which are not all zero.
@@ -173,33 +157,6 @@ fn prints_so(sign: u8, minutes: u32) -> bool
     ensures { IsTrue result → sign ≡ 45 → minutes ≢ 0 }
 {
     sign == b'+' || minutes > 0
-}
-
-// `+` or `-`.
-#[inline(always)]
-fn sign(text: &[u8]) -> Option<(u8, &[u8])>
-    ensures { IfSome result (λ read. ((read.0 ≡ 43) ⊎ (read.0 ≡ 45)) × (text.now ≡ read.0 ∷ read.1.now)) }
-{
-    match text {
-        [first @ (b'+' | b'-'), rest @ ..] => Some((*first, rest)),
-        _ => None,
-    }
-}
-
-// `HH:MM`, in minutes.
-#[inline(always)]
-fn minutes(text: &[u8]) -> Option<(u32, &[u8])>
-    ensures in_day { IfSome result (λ read. read.0 < 1440) }
-    ensures text { IfSome result (λ read.
-        text.now ≡ pad2 (read.0 / 60) ++ (58 ∷ (pad2 (read.0 % 60) ++ read.1.now))) }
-{
-    let (hours, rest) = pair(text)?;
-    let (minutes, rest) = pair_behind(rest, b':')?;
-    if hours < 24 && minutes < 60 {
-        Some((hours * 60 + minutes, rest))
-    } else {
-        None
-    }
 }
 
 #[inline(always)]

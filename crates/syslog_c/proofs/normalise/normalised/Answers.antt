@@ -1,13 +1,11 @@
 use Rattle.std.proofs.Common.{inr}
-use Rattle.syslog_loose.proofs.ReadingLemmas.{in_year_map, in_year_told}
+use Rattle.syslog_loose.proofs.ReadingLemmas.{in_year_map}
 use Rattle.syslog_c.proofs.LineLemmas.{tried_line}
 use Rattle.syslog_c.proofs.TextLemmas.{printed_answer}
 use Rattle.syslog_c.proofs.normalise.normalised.Goals as goal
 
 pub returns : goal.returns
 returns c =
-    let (same, utf8) = c.in-Ok.ensures.cases in
-    let (named, in_range, ahead) = c.in-Some.ensures in
-    let told = in_year_told c.normalise-answer.ensures.reads (λ date y is. is.1 in_range.year) in
-    let holds = in_year_map (λ year s. printed_answer _ _ _ _ _ _ _ _ s c.put_answer.ensures) told in
-    inr (inr (tried_line _ _ _ _ _ _ named in_range ahead same utf8 holds))
+    let holds = in_year_map (λ year s. printed_answer _ _ _ _ _ _ _ _ s c.put_answer.ensures)
+    c.normalise-answer.ensures.reads in
+    inr (inr (tried_line _ _ _ _ _ _ c.in-Some.ensures c.in-Ok.ensures.cases (λ date y is. is.1) holds))

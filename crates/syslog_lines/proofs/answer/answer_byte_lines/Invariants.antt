@@ -1,10 +1,10 @@
 use Rattle.std.proofs.Common.{length}
-use Rattle.syslog_lines.proofs.AnswerLemmas.{AnswersSoFar}
+use Rattle.syslog_lines.proofs.AnswerLemmas.{GoesOn}
 use Rattle.syslog_lines.proofs.answer.answer_byte_lines.Given as goal
 
 abbrev pub invariant-loop-rest : goal.invariant-loop-rest
 invariant-loop-rest g l =
-    AnswersSoFar (g.F.LineFilter.answers l.filter) l.lines l.rest l.fn.output.items l.output.items l.fn.tally l.tally
+    GoesOn (g.F.LineFilter.answers l.filter) l.lines l.rest l.fn.output.items l.output.items l.fn.tally l.tally
 
 abbrev pub decreases-loop-rest : goal.decreases-loop-rest
 decreases-loop-rest g l = length l.rest

@@ -1,19 +1,25 @@
 use Rattle.syslog_lines.proofs.AnswerLemmas.{IfErr-passed}
-use Rattle.syslog_lines.proofs.WriteLemmas.{WritesFirst-cut, WroteBefore-all}
+use Rattle.syslog_lines.proofs.WriteLemmas.{AnswersAll-moved, AnswersBefore-moved, WritesFirst-begun}
+use Rattle.syslog_lines.proofs.WriteLemmas.{appends_collected, begins_collected}
 use Rattle.syslog_lines.specs.declared.summary.RunFault.TheVariants.{Memory}
 use Rattle.syslog_lines.proofs.pump.write_answers.Goals as goal
 
 pub returns-in_err-write_whole-clause-err : goal.returns-in_err-write_whole-clause-err
 returns-in_err-write_whole-clause-err g c =
-    IfErr-passed _ _ _ c.from_residual.ensures.1
-    (WritesFirst-cut c.answer_lines-answered.result _ _ _ _ _ _ _ _ _ _ c.clear.ensures.items
-    c.answer_lines-answered.ensures.ok c.answer_lines-answered.ensures.err c.in_err-write_whole.ensures.fault
-    (rw c.deref.ensures.value at c.in_err-write_whole.ensures.err))
+    IfErr-passed _ _ _ c.from_residual.ensures.1 (WritesFirst-begun _ _ _ _ _ _
+    (begins_collected _ _ (g.W.Write.contents c.args.writer.now.inner)
+    (g.W.Write.contents c.write_whole.new.writer.inner) c.clear.ensures.items
+    (rw c.deref.ensures.value at c.in_err-write_whole.ensures.err)) c.answer_lines-answered.result _ _ _ _
+    c.answer_lines-answered.ensures.ok c.answer_lines-answered.ensures.err c.in_err-write_whole.ensures.fault)
 
 pub returns-in_err-answered-clause-err : goal.returns-in_err-answered-clause-err
 returns-in_err-answered-clause-err g c =
     IfErr-passed _ Memory _ c.from_residual-in_err-answered.ensures.1 (
       c.in_ok-write_whole.ensures.well,
-      WroteBefore-all _ c.args.lines.now _ _ _ _ c.clear.ensures.items c.in_err-answered.ensures.err
-          (rw c.deref.ensures.value at c.in_ok-write_whole.ensures.ok),
+      AnswersBefore-moved _ _ _ _ _ _ (appends_collected _ _ _ _ c.clear.ensures.items
+          (rw c.deref.ensures.value at c.in_ok-write_whole.ensures.ok)) c.in_err-answered.ensures.err,
     )
+
+pub returns-clause-ok : goal.returns-clause-ok
+returns-clause-ok g c = AnswersAll-moved _ _ _ _ _ _ (appends_collected _ _ _ _ c.clear.ensures.items
+    (rw c.deref.ensures.value at c.in_ok-write_whole.ensures.ok)) _ _ c.in_ok-answered.ensures.ok

@@ -1,14 +1,10 @@
-use Rattle.std.proofs.Common.{refl, sym, subst}
+use Rattle.std.proofs.Common.{sym, subst}
 use Rattle.std.specs.Str.{chars}
 use Rattle.syslog_pieces.specs.Pieces.Class.{Text}
 use Rattle.syslog_pieces.specs.Timestamp.Rfc3164.{BeginsWithDate}
 use Rattle.syslog_pieces.specs.Timestamp.MonthDate.{yearless_date}
 use Rattle.syslog_loose.proofs.Rfc3164Lemmas.Shown.{shown_has_month}
 use Rattle.syslog_loose.proofs.reading.incomplete_date.Goals as goal
-
-pub returns-in-Some-clause-asks : goal.returns-in-Some-clause-asks
-returns-in-Some-clause-asks c whole e =
-    (c.in-Some.date, subst (λ (x : Text). BeginsWithDate yearless_date x c.in-Some.date) e c.in-Some.ensures, refl)
 
 pub returns-in-None-clause-asks : goal.returns-in-None-clause-asks
 returns-in-None-clause-asks c whole e date shows =

@@ -4,14 +4,12 @@ use Rattle.syslog_pieces.specs.Pieces.Class.{Text}
 use Rattle.syslog_pieces.specs.Pieces.View.{shown}
 use Rattle.syslog_pieces.specs.Timestamp.Zone.{dating_of}
 use Rattle.syslog_loose.specs.Beginning.{BeginsNone}
-use Rattle.syslog_loose.specs.Start.{IsBehindPriority}
 use Rattle.syslog_loose.specs.declared.fault.ParseFault.TheVariants.{Invalid, Memory}
 use Rattle.syslog_loose.proofs.BeginningLemmas.{asks_no_year, no_reading}
-use Rattle.syslog_loose.proofs.ReadBackLemmas.{itself, fields_answered}
-use Rattle.syslog_loose.proofs.ReadingLemmas.{answers_in, in_year_map, refused}
+use Rattle.syslog_loose.proofs.ReadBackLemmas.{answered}
+use Rattle.syslog_loose.proofs.ReadingLemmas.{left_answer, refused}
 use Rattle.syslog_loose.proofs.StartLemmas.{IsStamped, asked_month, asks_none, date_answered, dated_invalid}
-use Rattle.syslog_loose.proofs.StartLemmas.{dated_known, other_known, stamped_read}
-use Rattle.syslog_loose.proofs.StartLemmas.{stamped_refused, strict_read, strict_refused, undated_invalid}
+use Rattle.syslog_loose.proofs.StartLemmas.{dated_known, other_known, strict_read, strict_refused, undated_invalid}
 use Rattle.syslog_loose.proofs.reading.parse_message_with_year_exact_tz.Goals.{in-Some+in-Some-month_stamp}
 use Rattle.syslog_loose.proofs.reading.parse_message_with_year_exact_tz.Goals.{in-None+in-Some-front_stamp}
 use Rattle.syslog_loose.proofs.reading.parse_message_with_year_exact_tz.Goals.{then-reads_rfc5424+in-Ok-None}
@@ -22,14 +20,8 @@ pub returns-then-not-may_be_read : goal.returns-then-not-may_be_read
 returns-then-not-may_be_read g c =
     let whole = chars c.args.input.now in
     let none = subst (λ (x : Text). BeginsNone x) c.trimmed-text.ensures (c.if-not-may_be_read.ensures refl) in
-    let answers = no_reading c.args.variant (dating_of None c.args.tz c.args.local) whole none in
-    let reads = answers_in _ c.args.variant whole c.args.tz c.args.local (Err Invalid) None
-    (asks_no_year c.args.variant whole none) answers in
-    record {
-      reads = reads;
-      itself = itself c.args.variant _ whole (Err Invalid) answers;
-      fields = in_year_map (λ year a. fields_answered c.args.variant _ whole (Err Invalid) a) reads;
-    }
+    answered _ c.args.variant whole c.args.tz c.args.local (Err Invalid) None (asks_no_year c.args.variant whole none)
+    (no_reading c.args.variant (dating_of None c.args.tz c.args.local) whole none)
 
 pub map-year-requires : goal.map-year-requires
 map-year-requires g c =
@@ -39,110 +31,51 @@ map-year-requires g c =
 pub returns-in_default : goal.returns-in_default
 returns-in_default g c =
     let whole = chars c.args.input.now in
-    let found = c.optional_priority-priority.result in
-    let f = subst (λ (x : Text). IsBehindPriority x found.0 (shown found.1)) c.trimmed-text.ensures
-    c.optional_priority-priority.ensures in
-    let answers = dated_invalid c.args.variant whole f c.in-Some.date c.in-Some.ensures
-    (dating_of c.map-year.result c.args.tz c.args.local) c.in_default.ensures in
-    let reads = answers_in _ c.args.variant whole c.args.tz c.args.local (Err Invalid) c.map-year.result
+    let f = rw c.trimmed-text.ensures at c.optional_priority-priority.ensures in
+    answered _ c.args.variant whole c.args.tz c.args.local (Err Invalid) c.map-year.result
     (date_answered c.args.variant whole f c.in-Some.date c.in-Some.ensures _ c.asked_numbers.result c.map-year.result
-    c.asked_numbers.ensures c.map-year.ensures.cases) answers in
-    record {
-      reads = reads;
-      itself = itself c.args.variant _ whole (Err Invalid) answers;
-      fields = in_year_map (λ year a. fields_answered c.args.variant _ whole (Err Invalid) a) reads;
-    }
+    c.asked_numbers.ensures c.map-year.ensures.cases)
+    (dated_invalid c.args.variant whole f c.in-Some.date c.in-Some.ensures
+    (dating_of c.map-year.result c.args.tz c.args.local) c.in_default.ensures)
 
 pub returns-in-Ok-Some : goal.returns-in-Ok-Some
 returns-in-Ok-Some g c =
     let whole = chars c.args.input.now in
-    let found = c.optional_priority-priority.result in
-    let f = subst (λ (x : Text). IsBehindPriority x found.0 (shown found.1)) c.trimmed-text.ensures
-    c.optional_priority-priority.ensures in
-    let answers = strict_read c.args.variant c.if-reads_rfc5424.ensures
-    (dating_of None c.args.tz c.args.local) whole c.in-Ok-Some.message
-    (rw c.in-Ok-Some.field-0-is at (c.in-Ok-Some.ensures.read whole f)) in
-    let reads = answers_in _ c.args.variant whole c.args.tz c.args.local (Ok c.in-Ok-Some.message) None
-    (asks_none c.args.variant whole f c.in-None.ensures) answers in
-    record {
-      reads = reads;
-      itself = itself c.args.variant _ whole (Ok c.in-Ok-Some.message) answers;
-      fields = in_year_map (λ year a. fields_answered c.args.variant _ whole (Ok c.in-Ok-Some.message) a) reads;
-    }
+    let f = rw c.trimmed-text.ensures at c.optional_priority-priority.ensures in
+    answered _ c.args.variant whole c.args.tz c.args.local (Ok c.in-Ok-Some.message) None
+    (asks_none c.args.variant whole f c.in-None.ensures)
+    (strict_read c.args.variant c.if-reads_rfc5424.ensures (dating_of None c.args.tz c.args.local) whole
+    c.in-Ok-Some.message (rw c.in-Ok-Some.field-0-is at (c.in-Ok-Some.ensures.read whole f)))
 
 pub returns-in-Err : goal.returns-in-Err
 returns-in-Err g c =
     let whole = chars c.args.input.now in
-    let found = c.optional_priority-priority.result in
-    let f = subst (λ (x : Text). IsBehindPriority x found.0 (shown found.1)) c.trimmed-text.ensures
-    c.optional_priority-priority.ensures in
-    let answers = strict_refused c.args.variant c.if-reads_rfc5424.ensures
-    (dating_of None c.args.tz c.args.local) whole
-    (refused c.read_behind.result _ c.in-Err.is (c.read_behind.ensures.memory whole f)) in
-    let reads = answers_in _ c.args.variant whole c.args.tz c.args.local (Err Memory) None
-    (asks_none c.args.variant whole f c.in-None.ensures) answers in
-    record {
-      reads = reads;
-      itself = itself c.args.variant _ whole (Err Memory) answers;
-      fields = in_year_map (λ year a. fields_answered c.args.variant _ whole (Err Memory) a) reads;
-    }
+    let f = rw c.trimmed-text.ensures at c.optional_priority-priority.ensures in
+    answered _ c.args.variant whole c.args.tz c.args.local (Err Memory) None
+    (asks_none c.args.variant whole f c.in-None.ensures)
+    (strict_refused c.args.variant c.if-reads_rfc5424.ensures (dating_of None c.args.tz c.args.local) whole
+    (refused c.read_behind.result _ c.in-Err.is (c.read_behind.ensures.memory whole f)))
 
 pub returns-in_default-front_stamp : goal.returns-in_default-front_stamp
 returns-in_default-front_stamp g c =
     let whole = chars c.args.input.now in
-    let found = c.optional_priority-priority.result in
-    let f = subst (λ (x : Text). IsBehindPriority x found.0 (shown found.1)) c.trimmed-text.ensures
-    c.optional_priority-priority.ensures in
-    let answers = undated_invalid c.args.variant whole f c.in-None.ensures c.in_default-front_stamp.ensures
+    let f = rw c.trimmed-text.ensures at c.optional_priority-priority.ensures in
+    answered _ c.args.variant whole c.args.tz c.args.local (Err Invalid) None
+    (asks_none c.args.variant whole f c.in-None.ensures)
+    (undated_invalid c.args.variant whole f c.in-None.ensures c.in_default-front_stamp.ensures
     (λ n. elim c.if-reads_rfc5424.branch [
       | then-reads_rfc5424+in-Ok-None w ↦ rw w.in-Ok-None.field-0-is at (w.in-Ok-None.ensures.read whole f)
       | else-reads_rfc5424 w ↦ absurd (n w.if-reads_rfc5424.ensures)
-    ]) (dating_of None c.args.tz c.args.local) in
-    let reads = answers_in _ c.args.variant whole c.args.tz c.args.local (Err Invalid) None
-    (asks_none c.args.variant whole f c.in-None.ensures) answers in
-    record {
-      reads = reads;
-      itself = itself c.args.variant _ whole (Err Invalid) answers;
-      fields = in_year_map (λ year a. fields_answered c.args.variant _ whole (Err Invalid) a) reads;
-    }
-
-pub returns-in-Ok : goal.returns-in-Ok
-returns-in-Ok g c =
-    let whole = chars c.args.input.now in
-    let found = c.optional_priority-priority.result in
-    let f = subst (λ (x : Text). IsBehindPriority x found.0 (shown found.1)) c.trimmed-text.ensures
-    c.optional_priority-priority.ensures in
-    let at = c.match-front_date.timestamp in
-    let k : IsStamped (λ d year. g.F.FnOnce.post c.args.get_year (d, tt) year) c.args.variant whole c.args.tz
-    c.args.local (record { priority = found.0; timestamp = at.0 }) (shown at.1) = elim c.match-front_date.branch [
-      | in-Some+in-Some-month_stamp w ↦ rw w.timestamp-is (dated_known c.args.variant whole f w.in-Some.date
-          w.in-Some.ensures _ _ _ w.asked_numbers.result w.map-year.result w.in-Some-month_stamp.stamp
-          w.asked_numbers.ensures w.map-year.ensures.cases w.in-Some-month_stamp.ensures)
-      | in-None+in-Some-front_stamp w ↦ rw w.timestamp-is (other_known c.args.variant whole f w.in-None.ensures _ _ _
-          w.in-Some-front_stamp.ensures (λ n. elim w.if-reads_rfc5424.branch [
-            | then-reads_rfc5424+in-Ok-None v ↦ rw v.in-Ok-None.field-0-is at (v.in-Ok-None.ensures.read whole f)
-            | else-reads_rfc5424 v ↦ absurd (n v.if-reads_rfc5424.ensures)
-          ]))
-    ] in
-    let answers = stamped_read c.args.variant (dating_of k.year c.args.tz c.args.local) whole c.in-Ok.message k.left
-    (c.in-Ok.ensures.read _ whole k.front) in
-    let reads = answers_in _ c.args.variant whole c.args.tz c.args.local (Ok c.in-Ok.message) k.year k.answered
-    answers in
-    record {
-      reads = reads;
-      itself = itself c.args.variant _ whole (Ok c.in-Ok.message) answers;
-      fields = in_year_map (λ year a. fields_answered c.args.variant _ whole (Ok c.in-Ok.message) a) reads;
-    }
+    ]) (dating_of None c.args.tz c.args.local))
 
 pub returns : goal.returns
 returns g c =
     let whole = chars c.args.input.now in
-    let found = c.optional_priority-priority.result in
-    let f = subst (λ (x : Text). IsBehindPriority x found.0 (shown found.1)) c.trimmed-text.ensures
-    c.optional_priority-priority.ensures in
+    let p = c.optional_priority-priority.result.0 in
+    let f = rw c.trimmed-text.ensures at c.optional_priority-priority.ensures in
     let at = c.match-front_date.timestamp in
     let k : IsStamped (λ d year. g.F.FnOnce.post c.args.get_year (d, tt) year) c.args.variant whole c.args.tz
-    c.args.local (record { priority = found.0; timestamp = at.0 }) (shown at.1) = elim c.match-front_date.branch [
+    c.args.local (record { priority = p; timestamp = at.0 }) (shown at.1) = elim c.match-front_date.branch [
       | in-Some+in-Some-month_stamp w ↦ rw w.timestamp-is (dated_known c.args.variant whole f w.in-Some.date
           w.in-Some.ensures _ _ _ w.asked_numbers.result w.map-year.result w.in-Some-month_stamp.stamp
           w.asked_numbers.ensures w.map-year.ensures.cases w.in-Some-month_stamp.ensures)
@@ -152,11 +85,6 @@ returns g c =
             | else-reads_rfc5424 v ↦ absurd (n v.if-reads_rfc5424.ensures)
           ]))
     ] in
-    let answers = stamped_refused c.args.variant (dating_of k.year c.args.tz c.args.local) whole k.left
-    (refused c.read_behind-2.result _ c.in-Err-read_behind.is (c.read_behind-2.ensures.memory _ whole k.front)) in
-    let reads = answers_in _ c.args.variant whole c.args.tz c.args.local (Err Memory) k.year k.answered answers in
-    record {
-      reads = reads;
-      itself = itself c.args.variant _ whole (Err Memory) answers;
-      fields = in_year_map (λ year a. fields_answered c.args.variant _ whole (Err Memory) a) reads;
-    }
+    answered _ c.args.variant whole c.args.tz c.args.local _ k.year k.answered
+    (left_answer c.args.variant (dating_of k.year c.args.tz c.args.local) whole _ k.left
+    (c.stamped_message.ensures _ whole k.front))

@@ -1,20 +1,15 @@
-use Rattle.std.proofs.Common.{◌≡◌, [], ◌∷◌, List, true, false, map, refl}
+use Rattle.std.proofs.Common.{◌≡◌, inl, true, false, map, refl}
 use Rattle.std.specs.Option.{option_map}
-use Rattle.syslog_pieces.specs.Pieces.Class.{Class, run, rest}
 use Rattle.syslog_pieces.specs.StructuredData.Element.{element_value}
 use Rattle.syslog_pieces.specs.ProcId.{procid_value}
-use Rattle.syslog_pieces.specs.StructuredData.{forgiving}
-use Rattle.syslog_pieces.specs.Text.{trimmed, is_blank}
+use Rattle.syslog_pieces.specs.Text.{trimmed}
 use Rattle.syslog_pieces.specs.Pieces.View.{seen, shown}
-use Rattle.syslog_pieces.proofs.PieceLemmas.Class.{row_nil, row_cons, row_none_here, row_none_later, rows_join}
-use Rattle.syslog_pieces.proofs.PieceLemmas.Class.{rows_none_here, rows_none_later, rest_front, run_det}
+use Rattle.syslog_pieces.proofs.PieceLemmas.Class.{rest_front, rows_join, rows_none_here, rows_none_later}
+use Rattle.syslog_pieces.proofs.PieceLemmas.Rows.{no_row, row_of, ◌past◌, ◌then◌}
 use Rattle.syslog_loose.specs.Rfc5424.{header_row, data_row}
 use Rattle.syslog_loose.specs.declared.message.Protocol.TheVariants.{RFC5424}
-use Rattle.syslog_loose.proofs.Rfc5424Lemmas.{header_det, not_read, is_read, list_needs_none}
+use Rattle.syslog_loose.proofs.Rfc5424Lemmas.{data_det, header_det, not_read, is_read, list_needs_none}
 use Rattle.syslog_loose.proofs.rfc5424.read_behind.Goals as goal
-
-abbrev from_elements : List Class
-from_elements = forgiving ∷ run is_blank ∷ rest ∷ []
 
 pub returns-in_default-clause-read : goal.returns-in_default-clause-read
 returns-in_default-clause-read c whole f =
@@ -31,8 +26,7 @@ returns-in_default-2-clause-read c whole f =
     let no_list = rw c.in_default-2.is at c.in_ok-elements.ensures.list in
     not_read whole _ refl
     (rows_none_later header_row data_row header_det (c.in-Some.ensures (trimmed whole) f)
-    (row_none_later (run is_blank) from_elements (run_det is_blank) c.blanks.ensures
-    (row_none_here forgiving (run is_blank ∷ rest ∷ []) no_list)))
+    (no_row data_row data_det (c.blanks.ensures past inl no_list)))
 
 pub returns-clause-read : goal.returns-clause-read
 returns-clause-read c whole f =
@@ -53,7 +47,4 @@ returns-clause-read c whole f =
       msg = shown c.blanks-msg.result;
     })
     (rows_join header_row data_row (c.in-Some.ensures (trimmed whole) f)
-    (row_cons (run is_blank) from_elements c.blanks.ensures
-    (row_cons forgiving (run is_blank ∷ rest ∷ []) list
-    (row_cons (run is_blank) (rest ∷ []) c.blanks-msg.ensures
-    (row_cons rest [] (rest_front _) (row_nil []))))))
+    (row_of data_row (c.blanks.ensures then list then c.blanks-msg.ensures then rest_front _ then refl)))

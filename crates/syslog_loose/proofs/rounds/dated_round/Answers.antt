@@ -20,4 +20,4 @@ returns-then-copied c whole e =
     let dating = dating_value c.args.dating.now in
     let k = found_text (PrintsAs3164 c.args.variant dating whole (string_bytes c.dated_text.new.text))
     _ _ c.in_ok-copied.was c.if-copied.true (c.dated_text.ensures.text _ _ (c.requires.shows whole e)) in
-    round_freely c.args.skips _ _ _ _ (IsUtf8-string_bytes c.dated_text.new.text) k
+    round_freely _ _ c.args.skips _ _ (IsUtf8-string_bytes c.dated_text.new.text) k

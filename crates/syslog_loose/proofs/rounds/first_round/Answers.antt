@@ -30,8 +30,8 @@ returns-then-copied g c whole e =
     let k = found_text (PrintsAs5424 c.args.variant whole (string_bytes c.verbatim_text.new.text))
     _ _ c.in_ok-copied.was c.if-copied.true (c.verbatim_text.ensures.text whole e) in (
       k.asks_none,
-      round_copied c.args.skips c.args.variant
-          (dating_of None c.args.tz c.args.local) _ _ (IsUtf8-string_bytes c.verbatim_text.new.text) k,
+      round_copied c.args.variant (dating_of None c.args.tz c.args.local) c.args.skips _ _
+          (IsUtf8-string_bytes c.verbatim_text.new.text) k,
     )
 
 pub map-year-requires : goal.map-year-requires

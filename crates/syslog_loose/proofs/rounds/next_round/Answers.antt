@@ -20,7 +20,7 @@ returns-then-copied c whole e =
     let dating = dating_value c.args.dating.now in
     let k = found_text (PrintsAs3164 c.args.variant dating whole (string_bytes c.rfc3164_text.new.text))
     _ _ c.in_ok-copied.was c.if-copied.true (c.rfc3164_text.ensures.text whole e) in
-    round_freely c.args.skips _ _ _ _ (IsUtf8-string_bytes c.rfc3164_text.new.text) k
+    round_freely _ _ c.args.skips _ _ (IsUtf8-string_bytes c.rfc3164_text.new.text) k
 
 pub returns-in_err-message : goal.returns-in_err-message
 returns-in_err-message c whole e =
@@ -34,8 +34,8 @@ returns-in_err-print c whole e =
 
 pub returns-then-settled : goal.returns-then-settled
 returns-then-settled c whole e =
-    round_printed _ _ _ _ (c.in_ok-message.ensures whole e).read c.args.skips c.is_at_rest-settled.result
-    c.is_at_rest-settled.ensures _ (IsUtf8-string_bytes c.print.new.text) c.in_ok-print.ensures
+    round_printed _ _ _ _ (c.in_ok-message.ensures whole e).read _ (IsUtf8-string_bytes c.print.new.text)
+    c.in_ok-print.ensures c.args.skips c.is_at_rest-settled.result c.is_at_rest-settled.ensures
 
 pub returns-in_err-write_round : goal.returns-in_err-write_round
 returns-in_err-write_round c whole e =

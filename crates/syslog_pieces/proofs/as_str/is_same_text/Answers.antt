@@ -1,11 +1,19 @@
-use Rattle.std.proofs.Common.{ap, ◌∙◌, ℕ, List}
-use Rattle.std.specs.Str.{chars}
+use Rattle.std.proofs.Common.{◌≡◌, ℕ, List, nat_eq, ap, ◌∙◌}
+use Rattle.std.specs.Bool.{one_answer}
+use Rattle.std.specs.Cmp.Lexicographic.{pointwise, bytes_decides}
+use Rattle.std.specs.Str.{chars, IsUtf8}
 use Rattle.syslog_pieces.specs.Pieces.View.{text_eq}
-use Rattle.syslog_pieces.proofs.TextLemmas.Equal.{text_eq-chars}
+use Rattle.syslog_pieces.proofs.TextLemmas.Chars.{same_chars}
 use Rattle.syslog_pieces.proofs.as_str.is_same_text.Goals as goal
 
+-- texts are equal as lists of characters exactly where their bytes are
+text_eq-chars : (x y : List ℕ) → IsUtf8 x → IsUtf8 y → pointwise nat_eq x y ≡ text_eq (chars x) (chars y)
+text_eq-chars x y u v =
+    one_answer _ _ (bytes_decides x y) (
+      λ e. same_chars x y u v ((bytes_decides (chars x) (chars y)).0 e),
+      λ e. (bytes_decides (chars x) (chars y)).1 (ap chars e),
+    )
+
 pub returns : goal.returns
-returns g c =
-    c.eq.ensures ∙ text_eq-chars _ _ c.as_str.utf8 c.as_str-2.utf8
-    ∙ ap (λ (x : List ℕ). text_eq (chars x) (chars c.as_str-2.result.now)) c.as_str.ensures
-    ∙ ap (λ (x : List ℕ). text_eq (chars (g.S.AsStr.text c.args.a.now)) (chars x)) c.as_str-2.ensures
+returns g c = rw (← c.as_str.ensures, ← c.as_str-2.ensures)
+    (c.eq.ensures ∙ text_eq-chars _ _ c.as_str.utf8 c.as_str-2.utf8)

@@ -1,22 +1,20 @@
 use Rattle.std.proofs.Common.{inl, refl, rules}
 use Rattle.syslog_pieces.specs.Pri.{priority_row}
-use Rattle.syslog_pieces.proofs.PieceLemmas.Rows.{row_of, no_row, ◌then◌, ◌past◌}
-use Rattle.syslog_pieces.proofs.PriLemmas.{as_priority, no_priority, priority_row_det}
+use Rattle.syslog_pieces.proofs.PieceLemmas.Rows.{row_of, ◌then◌, ◌past◌}
+use Rattle.syslog_pieces.proofs.PriLemmas.{as_priority, no_priority}
 use Rattle.syslog_pieces.proofs.pri.any_priority.Goals as goal
 
 pub returns-in_err-rest : goal.returns-in_err-rest
-returns-in_err-rest c =
-    let n = no_priority (no_row priority_row priority_row_det (inl c.in_err-rest.ensures)) in search rules
+returns-in_err-rest c = let n = no_priority (inl c.in_err-rest.ensures) in search rules
 
 pub returns-in_err-value : goal.returns-in_err-value
 returns-in_err-value c =
-    let n = no_priority (no_row priority_row priority_row_det (c.in_ok-rest.ensures past inl c.in_err-value.ensures)) in
-    search rules
+    let n = no_priority (c.in_ok-rest.ensures past inl c.in_err-value.ensures) in search rules
 
 pub returns-in_err-rest-2 : goal.returns-in_err-rest-2
 returns-in_err-rest-2 c =
-    let n = no_priority (no_row priority_row priority_row_det
-    (c.in_ok-rest.ensures past c.in_ok-value.ensures past inl c.in_err-rest-2.ensures)) in search rules
+    let n = no_priority (c.in_ok-rest.ensures past c.in_ok-value.ensures past inl c.in_err-rest-2.ensures) in
+    search rules
 
 pub returns : goal.returns
 returns c =

@@ -5,12 +5,9 @@ use Rattle.syslog_pieces.proofs.procid.any_process.Goals as goal
 
 pub returns-in-Ok : goal.returns-in-Ok
 returns-in-Ok c =
-    let h = number_read c.args.text.now c.utf8.text c.parse.result c.in-Ok.number c.in-Ok.is c.parse.ensures.value.0 in
+    let h = number_read _ c.utf8.text _ c.in-Ok.number c.in-Ok.is c.parse.ensures.value.0 in
     let fits = h.1 in
     rw to_z-of_z h
 
 pub returns-in-Err : goal.returns-in-Err
-returns-in-Err c = (
-  no_number_read c.args.text.now c.utf8.text c.parse.result c.in-Err.field-0 c.in-Err.is c.parse.ensures.value.0,
-  refl,
-)
+returns-in-Err c = (no_number_read _ c.utf8.text _ _ c.in-Err.is c.parse.ensures.value.0, refl)

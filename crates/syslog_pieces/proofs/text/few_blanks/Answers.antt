@@ -1,17 +1,12 @@
-use Rattle.std.proofs.Common.{refl, subst}
-use Rattle.syslog_pieces.specs.Bodies.Looks.{BeginsVisibly, BeginsWithGap}
-use Rattle.syslog_pieces.proofs.TextLemmas.Looks.{gap_cut, gap_run, no_blanks}
+use Rattle.std.proofs.Common.{refl}
+use Rattle.std.proofs.lemmas.Option.{IfSome_then}
+use Rattle.syslog_pieces.proofs.TextLemmas.Looks.{no_blanks}
 use Rattle.syslog_pieces.proofs.text.few_blanks.Goals as goal
 
 pub returns-then-begins_visibly : goal.returns-then-begins_visibly
 returns-then-begins_visibly c =
-    no_blanks _ c.utf8.text (subst BeginsVisibly c.as_bytes.ensures.value (c.if-begins_visibly.ensures refl))
+    no_blanks _ c.utf8.text (rw c.as_bytes.ensures.value at (c.if-begins_visibly.ensures refl))
 
-pub split_at-requires : goal.split_at-requires
-split_at-requires c =
-    gap_cut _ c.utf8.text (subst BeginsWithGap c.as_bytes-2.ensures.value (c.if-begins_with_gap.ensures refl))
-
-pub returns-then-begins_with_gap : goal.returns-then-begins_with_gap
-returns-then-begins_with_gap c =
-    gap_run _ c.utf8.text (subst BeginsWithGap c.as_bytes-2.ensures.value (c.if-begins_with_gap.ensures refl))
-    c.split_at.result.1.now c.split_at.ensures.back
+pub returns-else-begins_visibly : goal.returns-else-begins_visibly
+returns-else-begins_visibly c = IfSome_then c.past_space.result c.past_space.ensures
+    (λ rest f. record { piece = f.piece; whole = f.whole; is = (f.is.1, f.is.2) })

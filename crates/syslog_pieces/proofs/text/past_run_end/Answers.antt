@@ -1,23 +1,40 @@
-use Rattle.std.proofs.Common.{rules, refl, ℕ, Bool, not}
+use Rattle.std.proofs.Common.{rules, ℕ, Bool, not, List, [], ◌∷◌, length, take, drop, take_all, arith}
+use Rattle.std.proofs.lemmas.Bool.{not-true, not-false}
 use Rattle.std.proofs.lemmas.Fn.{always_returns_same}
-use Rattle.std.proofs.lemmas.Str.{IsCharBoundary-end}
+use Rattle.std.proofs.lemmas.List.{drop_all}
+use Rattle.std.proofs.lemmas.Str.{IsCharBoundary-end, IsUtf8-take, IsUtf8-drop}
+use Rattle.std.proofs.lemmas.Str.{chars_from_encodes, chars_past_char, chars-nil}
+use Rattle.std.specs.Str.{chars, IsUtf8, NoCharPasses, NonePass}
 use Rattle.syslog_pieces.specs.Bodies.Scan.{past_in}
-use Rattle.syslog_pieces.proofs.TextLemmas.Chars.{found_run, found_none}
+use Rattle.syslog_pieces.specs.Pieces.Class.{Each}
+use Rattle.syslog_pieces.proofs.TextLemmas.Runs.{ends_run}
 use Rattle.syslog_pieces.proofs.text.past_run_end.Goals as goal
+
+each_from_none : (test : ℕ → Bool) (cs : List ℕ) → NonePass (λ c. not (test c)) cs → Each test cs
+each_from_none test [] n = tt
+each_from_none test (c ∷ cs) n = (not-false (test c) n.0, each_from_none test cs n.1)
+
+each_of_text : (test : ℕ → Bool) (bs : List ℕ) → IsUtf8 bs → NoCharPasses (λ c. not (test c)) bs → Each test (chars bs)
+each_of_text test bs u (cs, e, n) = rw (← chars_from_encodes cs bs u e) (each_from_none test cs n)
 
 pub returns-in-Some : goal.returns-in-Some
 returns-in-Some c =
-    let h = c.in-Some.ensures.cases in
-    let t : ℕ → Bool = λ x. not (past_in c.args.class x) in (
-      h.3,
-      found_run (past_in c.args.class) c.args.text.now _ _ c.in-Some.end h.0 c.utf8.text h.3
-          (h.1 t (always_returns_same _ _ _ (λ a r f g. (search rules, search rules)))) refl refl,
-    )
+    let bs = c.args.text.now in
+    let i = c.in-Some.end in
+    let test : ℕ → Bool = past_in c.args.class in
+    let (j, find, le, cut, more) = c.in-Some.ensures.cases in
+    let (none, (x, pass, at)) = find (λ x. not (test x))
+    (always_returns_same _ _ _ (λ a r f g. (search rules, search rules))) in
+    ends_run test bs i c.utf8.text cut (each_of_text test (take i bs) (IsUtf8-take bs i c.utf8.text cut) none)
+    (rw (chars_past_char (drop i bs) (drop j bs) x (IsUtf8-drop bs i c.utf8.text cut) at.split)
+    (not-true (test x) pass))
 
 pub returns-in-None : goal.returns-in-None
 returns-in-None c =
-    let t : ℕ → Bool = λ x. not (past_in c.args.class x) in (
-      IsCharBoundary-end c.args.text.now,
-      found_none (past_in c.args.class) c.args.text.now _ _ c.utf8.text
-          (c.in-None.ensures.cases t (always_returns_same _ _ _ (λ a r f g. (search rules, search rules)))) refl refl,
-    )
+    let bs = c.args.text.now in
+    let test : ℕ → Bool = past_in c.args.class in
+    let none = c.in-None.ensures.cases (λ x. not (test x))
+    (always_returns_same _ _ _ (λ a r f g. (search rules, search rules))) in
+    ends_run test bs (length bs) c.utf8.text (IsCharBoundary-end bs)
+    (rw (take_all (length bs) bs (omega arith)) (each_of_text test bs c.utf8.text none))
+    (rw (drop_all (length bs) bs (omega arith), chars-nil) tt)

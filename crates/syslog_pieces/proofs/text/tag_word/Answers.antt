@@ -1,12 +1,14 @@
-use Rattle.syslog_pieces.specs.Pieces.View.{seen}
+use Rattle.syslog_pieces.specs.Text.{tag_word}
 use Rattle.syslog_pieces.proofs.text.tag_word.Goals as goal
-use Rattle.syslog_pieces.proofs.TextLemmas.Chars.{empty_is, nonempty_is}
-use Rattle.syslog_pieces.proofs.TextLemmas.Words.{tag_front, no_tag_empty}
+use Rattle.syslog_pieces.proofs.TextLemmas.Chars.{chars_nonempty, empty_is, nonempty_is}
+use Rattle.syslog_pieces.proofs.TextLemmas.Runs.{no_run_front}
 
 pub returns-then-is_empty : goal.returns-then-is_empty
-returns-then-is_empty c = no_tag_empty c.args.text.now c.split_run.result.0.now c.split_run.result.1.now
-    c.split_run.ensures (empty_is _ c.if-is_empty.ensures)
+returns-then-is_empty c =
+    no_run_front _ _ _ _ c.split_run.ensures (empty_is _ c.if-is_empty.ensures) tag_word (λ p q v h. (h.0, h.1))
 
 pub returns : goal.returns
-returns c = tag_front c.args.text.now c.split_run.result.0.now c.split_run.result.1.now c.split_run.ensures
-    (seen c.named.result) (nonempty_is _ c.if-is_empty.ensures) c.named.ensures
+returns c =
+    let s = c.split_run.ensures in
+    let long = chars_nonempty _ s.front_utf8 (nonempty_is _ c.if-is_empty.ensures) in
+    record { piece = _; whole = s.characters; is = (long, s.each, s.ends, c.named.ensures) }

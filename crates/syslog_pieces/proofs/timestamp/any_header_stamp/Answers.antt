@@ -1,18 +1,23 @@
-use Rattle.std.proofs.Common.{rules}
-use Rattle.syslog_pieces.proofs.TimestampLemmas.Piece.{dash_front, stamp_front, no_stamp_front, no_space_front}
+use Rattle.std.proofs.Common.{[], ◌∷◌, refl, rules}
+use Rattle.syslog_pieces.proofs.TimestampLemmas.Piece.{dash_front, no_header, no_stamp_front, stamp_front}
 use Rattle.syslog_pieces.proofs.timestamp.any_header_stamp.Goals as goal
 
-pub returns-in-Some : goal.returns-in-Some
-returns-in-Some c = dash_front c.in-Some.ensures
+pub returns-in_err-literal-in-Some : goal.returns-in_err-literal-in-Some
+returns-in_err-literal-in-Some c =
+    let n = no_header c.in-Some.ensures (λ v r e h. c.in_err-literal-in-Some.ensures (32 ∷ []) r tt e refl) in
+    search rules
 
-pub returns-in_err-literal : goal.returns-in_err-literal
-returns-in_err-literal c =
-    let n = no_space_front _ _ _ c.split_run.ensures c.in-None.ensures c.in_err-literal.ensures in search rules
+pub returns-in_err-stamp-in-Some : goal.returns-in_err-stamp-in-Some
+returns-in_err-stamp-in-Some c =
+    let n = no_header c.in-Some.ensures (λ v r e h. c.in_err-stamp-in-Some.ensures v h) in search rules
 
-pub returns-in_err-stamp : goal.returns-in_err-stamp
-returns-in_err-stamp c =
-    let n = no_stamp_front _ _ _ c.split_run.ensures c.in-None.ensures c.in_err-stamp.ensures in search rules
+pub returns-in_ok-stamp-in-Some : goal.returns-in_ok-stamp-in-Some
+returns-in_ok-stamp-in-Some c =
+    stamp_front c.in-Some.ensures c.in_ok-stamp-in-Some.stamp c.in_ok-stamp-in-Some.ensures
+    c.in_ok-literal-in-Some.ensures
 
-pub returns : goal.returns
-returns c =
-    stamp_front _ _ _ c.split_run.ensures c.in_ok-stamp.stamp c.in_ok-stamp.ensures c.in_ok-literal.ensures
+pub returns-in_err-rest-in-None : goal.returns-in_err-rest-in-None
+returns-in_err-rest-in-None c = let n = no_stamp_front c.in-None.ensures c.in_err-rest-in-None.ensures in search rules
+
+pub returns-in_ok-rest-in-None : goal.returns-in_ok-rest-in-None
+returns-in_ok-rest-in-None c = dash_front c.in_ok-rest-in-None.ensures

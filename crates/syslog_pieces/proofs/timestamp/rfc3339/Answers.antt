@@ -1,15 +1,12 @@
-use Rattle.std.proofs.Common.{ap, ◌∙◌, sym}
-use Rattle.syslog_pieces.specs.Bodies.StampReading.{rfc3339_fields}
-use Rattle.syslog_pieces.proofs.TimestampLemmas.Answers.{answer_of_text, no_answer_of_text}
-use Rattle.syslog_pieces.proofs.TimestampLemmas.Characters.{answer_of_characters}
+use Rattle.std.proofs.Common.{refl, rules}
+use Rattle.syslog_pieces.proofs.TimestampLemmas.Reading.{answer_of_text, no_text, no_text_here}
 use Rattle.syslog_pieces.proofs.timestamp.rfc3339.Goals as goal
 
-pub returns : goal.returns
-returns c =
-    let read = ap rfc3339_fields (sym c.as_bytes.ensures.value) ∙ sym c.in_ok-read.ensures.value in
-    answer_of_characters _ _ c.utf8.text (answer_of_text _ _ _ read c.stamp.ensures)
+pub returns-in_err-written : goal.returns-in_err-written
+returns-in_err-written c = let n = no_text c.in_err-written.ensures in search rules
 
-pub returns-in_err-read : goal.returns-in_err-read
-returns-in_err-read c =
-    let read = ap rfc3339_fields (sym c.as_bytes.ensures.value) ∙ sym c.read.ensures.value ∙ c.in_err-read.was in
-    answer_of_characters _ _ c.utf8.text (no_answer_of_text _ _ read c.from_residual.ensures)
+pub returns-then-is_end : goal.returns-then-is_end
+returns-then-is_end c = answer_of_text c.in_ok-written.ensures _ (c.if-is_end.ensures.0 refl) c.stamp.ensures
+
+pub returns-else-is_end : goal.returns-else-is_end
+returns-else-is_end c = no_text_here c.in_ok-written.ensures (λ e. let t = c.if-is_end.ensures.1 e in cc)

@@ -6,11 +6,13 @@ ghost use Rattle.std.specs.Prelude.{◌≡◌, ℕ, ◌+◌, ◌<◌, ◌++◌, 
 ghost use Rattle.std.specs.Str.{chars};
 ghost use Rattle.jiff_fmt.specs.Text.{pad2};
 ghost use Rattle.syslog_pieces.specs.Bodies.Standard as spec;
+ghost use Rattle.syslog_pieces.specs.Bodies.StampReading.{IsClockBytes, read_of, clock as clock_of};
 ghost use Rattle.syslog_pieces.specs.Pieces.Class.{Front};
 ghost use Rattle.syslog_pieces.specs.Pieces.View.{shown};
 ghost use Rattle.syslog_pieces.specs.Timestamp.MonthDate.{yearless_date};
 
 use super::{Clock, Day, MonthDate, date_of};
+use crate::timestamp::digits::{pair, pair_behind};
 
 const LENGTH: usize = 15;
 
@@ -29,7 +31,6 @@ fn month(text: &[u8]) -> Option<(u32, &[u8])>
 }
 
 // The number of the month that a capital and two small letters name.
-#[tactic(auto, unfolding(crate::specs::Bodies::MonthReading::small_month))]
 #[inline(always)]
 fn named_month(a: u8, b: u8, c: u8) -> Option<u32>
     ensures { IfSome result (λ month. spec.NamesMonth a b c month) }
@@ -47,33 +48,6 @@ fn named_month(a: u8, b: u8, c: u8) -> Option<u32>
         (b'O', b'c', b't') => Some(10),
         (b'N', b'o', b'v') => Some(11),
         (b'D', b'e', b'c') => Some(12),
-        _ => None,
-    }
-}
-
-// Two digits.
-#[inline(always)]
-pub(crate) fn pair(text: &[u8]) -> Option<(u32, &[u8])>
-    ensures small { IfSome result (λ read. read.0 < 100) }
-    ensures text { IfSome result (λ read. text.now ≡ pad2 read.0 ++ read.1.now) }
-{
-    match text {
-        [tens @ b'0'..=b'9', ones @ b'0'..=b'9', rest @ ..] => {
-            let number = u32::from(*tens - b'0') * 10 + u32::from(*ones - b'0');
-            Some((number, rest))
-        }
-        _ => None,
-    }
-}
-
-// A colon and two digits.
-#[inline(always)]
-fn colon_pair(text: &[u8]) -> Option<(u32, &[u8])>
-    ensures small { IfSome result (λ read. read.0 < 100) }
-    ensures text { IfSome result (λ read. text.now ≡ 58 ∷ (pad2 read.0 ++ read.1.now)) }
-{
-    match text {
-        [b':', rest @ ..] => pair(rest),
         _ => None,
     }
 }
@@ -124,14 +98,16 @@ fn day(text: &[u8]) -> Option<(u32, &[u8])>
     }
 }
 
-// Hour, minute and second.
+/// Hour, minute and second.
+#[tactic(auto, unfolding(crate::specs::Bodies::StampReading::clock))]
 #[inline(always)]
 pub(in crate::timestamp) fn clock(text: &[u8]) -> Option<(Clock, &[u8])>
-    ensures { IfSome result (λ read. spec.IsClockBytes text.now read.0 read.1.now) }
+    ensures value { read_of result ≡ clock_of text.now }
+    ensures text { IfSome result (λ read. IsClockBytes text.now read.0 read.1.now) }
 {
     let (hour, rest) = pair(text)?;
-    let (minute, rest) = colon_pair(rest)?;
-    let (second, rest) = colon_pair(rest)?;
+    let (minute, rest) = pair_behind(rest, b':')?;
+    let (second, rest) = pair_behind(rest, b':')?;
     Some((
         Clock {
             hour,

@@ -3,8 +3,5 @@ use Rattle.syslog_loose.proofs.SettlingLemmas.Falls.{falls}
 use Rattle.syslog_loose.proofs.laws.settling.read_again_weighs_less.Goals as goal
 
 pub returns : goal.returns
-returns c first second text m n w v r s k x y =
-    elim (falls first second text m n w v r s x y) [
-      | inl l ↦ l
-      | inr (l, e) ↦ absurd (k e)
-    ]
+returns c rule first second text m n w v dashes r s k x y =
+    elim (falls rule first second text m n w v dashes r s x y) [ inl l ↦ l | inr e ↦ absurd (k e) ]

@@ -8,9 +8,7 @@ use Rattle.syslog_pieces.proofs.laws.comparison.elements_are_equal_in_any_order.
 
 pub returns-clause-exact : goal.returns-clause-exact
 returns-clause-exact g c a b =
-    let exact =
-    element_eq-decides (element_value (text_of g.S.AsStr.text) a) (element_value (text_of g.S.AsStr.text) b) in
-    (λ e. exact.0 e, λ same. exact.1 same)
+    element_eq-decides (element_value (text_of g.S.AsStr.text) a) (element_value (text_of g.S.AsStr.text) b)
 
 pub returns-clause-reflexive : goal.returns-clause-reflexive
 returns-clause-reflexive g c a = element_equivalence.refl (element_value (text_of g.S.AsStr.text) a)

@@ -1,8 +1,4 @@
-use Rattle.std.proofs.Common.{map, take}
-use Rattle.std.specs.List.{AllByRecursion}
-use Rattle.syslog_pieces.specs.Pieces.View.{text_of}
-use Rattle.syslog_pieces.specs.StructuredData.Element.{element_value}
-use Rattle.syslog_pieces.specs.StructuredData.Canonical.{IsCanonicalElement}
+use Rattle.syslog_pieces.proofs.Names.{map, take, AllByRecursion, text_of, element_value, IsCanonicalElement}
 use Rattle.syslog_pieces.proofs.structured_data.canonical.are_canonical_elements.Given as goal
 
 abbrev pub invariant-loop-element : goal.invariant-loop-element

@@ -1,8 +1,4 @@
-use Rattle.std.proofs.Common.{map, take}
-use Rattle.std.specs.List.{AllByRecursion}
-use Rattle.syslog_pieces.specs.Pieces.View.{text_of}
-use Rattle.syslog_pieces.specs.StructuredData.Element.{param_value}
-use Rattle.syslog_pieces.specs.StructuredData.Canonical.{IsCanonicalParam}
+use Rattle.syslog_pieces.proofs.Names.{map, take, AllByRecursion, text_of, param_value, IsCanonicalParam}
 use Rattle.syslog_pieces.proofs.structured_data.canonical.are_canonical_params.Given as goal
 
 abbrev pub invariant-loop-param : goal.invariant-loop-param

@@ -1,5 +1,4 @@
-use Rattle.std.proofs.Common.{refl}
-use Rattle.syslog_pieces.proofs.TextLemmas.Canonical.{false_is, no_truth}
+use Rattle.syslog_pieces.proofs.Names.{refl, false_is, no_truth}
 use Rattle.syslog_pieces.proofs.structured_data.canonical.is_canonical_param.Goals as goal
 
 pub returns-then-not-is_some_of : goal.returns-then-not-is_some_of

@@ -1,7 +1,4 @@
-use Rattle.std.proofs.Common.{length}
-use denote.Shadow.{shadow}
-use denote.Text.{Utf8}
-use Rattle.std.specs.Str.{chars}
+use Rattle.syslog_pieces.proofs.Names.{length, shadow, Utf8, chars}
 use Rattle.syslog_pieces.proofs.StructuredDataLemmas.Canonical.{ExtendsValue}
 use Rattle.syslog_pieces.proofs.structured_data.canonical.is_value.Given as goal
 

@@ -1,10 +1,4 @@
-use Rattle.std.proofs.Common.{◌-◌, ◌≤◌, length, map, take}
-use denote.Shadow.{shadow}
-use denote.Text.{Utf8}
-use Rattle.std.specs.Str.{chars}
-use Rattle.syslog_pieces.specs.StructuredData.Element.{param_value}
-use Rattle.syslog_pieces.specs.StructuredData.{param}
-use Rattle.syslog_pieces.specs.Pieces.View.{shown}
+use Rattle.syslog_pieces.proofs.Names.{◌-◌, ◌≤◌, length, map, take, shadow, Utf8, chars, param_value, param, shown}
 use Rattle.syslog_pieces.proofs.PieceLemmas.Lists.{Leaves}
 use Rattle.syslog_pieces.proofs.structured_data.element.note_params.Given as goal
 

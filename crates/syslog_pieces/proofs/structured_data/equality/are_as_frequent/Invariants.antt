@@ -1,8 +1,4 @@
-use Rattle.std.proofs.Common.{◌≡◌, true, take, nat_eq, count_by}
-use Rattle.std.specs.List.{list_all}
-use Rattle.syslog_pieces.specs.Pieces.View.{text_of}
-use Rattle.syslog_pieces.specs.StructuredData.Element.{param_value}
-use Rattle.syslog_pieces.specs.StructuredData.Equal.{param_eq}
+use Rattle.syslog_pieces.proofs.Names.{◌≡◌, true, take, nat_eq, count_by, list_all, text_of, param_value, param_eq}
 use Rattle.syslog_pieces.proofs.structured_data.equality.are_as_frequent.Given as goal
 
 abbrev pub invariant-loop-param : goal.invariant-loop-param

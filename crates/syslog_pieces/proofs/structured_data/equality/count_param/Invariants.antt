@@ -1,7 +1,4 @@
-use Rattle.std.proofs.Common.{◌≡◌, ◌≤◌, take, count_by}
-use Rattle.syslog_pieces.specs.Pieces.View.{text_of}
-use Rattle.syslog_pieces.specs.StructuredData.Element.{param_value}
-use Rattle.syslog_pieces.specs.StructuredData.Equal.{param_eq}
+use Rattle.syslog_pieces.proofs.Names.{◌≡◌, ◌≤◌, take, count_by, text_of, param_value, param_eq}
 use Rattle.syslog_pieces.proofs.structured_data.equality.count_param.Given as goal
 
 abbrev pub invariant-loop-other : goal.invariant-loop-other

@@ -1,5 +1,4 @@
-use Rattle.std.proofs.Common.{arith, sym, ◌∙◌}
-use Rattle.syslog_pieces.specs.Pieces.View.{text_of}
+use Rattle.syslog_pieces.proofs.Names.{arith, sym, ◌∙◌, text_of}
 use Rattle.syslog_pieces.proofs.StructuredDataLemmas.Equality.{front-more}
 use Rattle.syslog_pieces.proofs.structured_data.equality.first_difference.Goals as goal
 

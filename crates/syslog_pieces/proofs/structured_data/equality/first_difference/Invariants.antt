@@ -1,6 +1,4 @@
-use Rattle.std.proofs.Common.{◌≡◌, map, take}
-use Rattle.syslog_pieces.specs.Pieces.View.{text_of}
-use Rattle.syslog_pieces.specs.StructuredData.Element.{param_value}
+use Rattle.syslog_pieces.proofs.Names.{◌≡◌, map, take, text_of, param_value}
 use Rattle.syslog_pieces.proofs.structured_data.equality.first_difference.Given as goal
 
 abbrev pub invariant-loop-at : goal.invariant-loop-at

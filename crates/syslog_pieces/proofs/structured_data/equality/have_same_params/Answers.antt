@@ -1,5 +1,4 @@
-use Rattle.std.proofs.Common.{◌∙◌}
-use Rattle.syslog_pieces.specs.Pieces.View.{text_of}
+use Rattle.syslog_pieces.proofs.Names.{◌∙◌, text_of}
 use Rattle.syslog_pieces.proofs.StructuredDataLemmas.Equality.{counted_from, slice_to_end, unlike_lists}
 use Rattle.syslog_pieces.proofs.structured_data.equality.have_same_params.Goals as goal
 

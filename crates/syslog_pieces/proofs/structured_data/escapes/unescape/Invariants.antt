@@ -1,7 +1,4 @@
-use Rattle.std.proofs.Common.{length}
-use denote.Shadow.{shadow}
-use denote.Text.{Utf8}
-use Rattle.std.specs.Str.{chars}
+use Rattle.syslog_pieces.proofs.Names.{length, shadow, Utf8, chars}
 use Rattle.std.specs.Prelude.{string_bytes}
 use Rattle.syslog_pieces.proofs.StructuredDataLemmas.Units.{Removes}
 use Rattle.syslog_pieces.proofs.structured_data.escapes.unescape.Given as goal

@@ -1,11 +1,4 @@
-use Rattle.std.proofs.Common.{Some, length, map}
-use denote.Shadow.{shadow}
-use denote.Text.{Utf8}
-use Rattle.std.specs.Str.{chars}
-use Rattle.syslog_pieces.specs.StructuredData.Element.{element_value}
-use Rattle.syslog_pieces.specs.StructuredData.{item}
-use Rattle.syslog_pieces.specs.Pieces.Lists.{HasRead}
-use Rattle.syslog_pieces.specs.Pieces.View.{shown}
+use Rattle.syslog_pieces.proofs.Names.{Some, length, map, shadow, Utf8, chars, element_value, item, HasRead, shown}
 use Rattle.syslog_pieces.proofs.structured_data.list.noted_elements.Given as goal
 
 abbrev pub invariant-elements : goal.invariant-elements

@@ -1,18 +1,14 @@
-use Rattle.std.proofs.Common.{inl, refl, rules}
-use Rattle.syslog_pieces.specs.Text.CharClass.{is_open_char}
-use Rattle.syslog_pieces.proofs.PieceLemmas.Meets.{match_map}
-use Rattle.syslog_pieces.proofs.PieceLemmas.Rows.{row_of, no_row, ◌then◌, ◌past◌}
+use Rattle.syslog_pieces.proofs.Names.{inl, refl, rules, is_open_char, match_map, row_of, no_row, ◌then◌, ◌past◌}
 use Rattle.syslog_pieces.proofs.StructuredDataLemmas.Elements.{bracketed_row, bracketed_row_det}
-use Rattle.syslog_pieces.proofs.structured_data.recognise.after_bracketed.Goals as goal
 use Rattle.syslog_pieces.proofs.TextLemmas.Runs.{run_front}
+use Rattle.syslog_pieces.proofs.structured_data.recognise.after_bracketed.Goals as goal
 
 pub returns-in_err-rest : goal.returns-in_err-rest
 returns-in_err-rest c = let n = no_row bracketed_row bracketed_row_det (inl c.in_err-rest.ensures) in search rules
 
 pub returns : goal.returns
 returns c =
-    let f = run_front is_open_char c.in_ok-rest.rest.now c.split_run.result.0.now c.split_run.result.1.now
-    c.split_run.ensures in
+    let f = run_front is_open_char _ _ _ c.split_run.ensures in
     match_map c.literal-2.result
     (λ n. no_row bracketed_row bracketed_row_det (c.in_ok-rest.ensures past f past inl n))
     (λ x g. (_, row_of bracketed_row (c.in_ok-rest.ensures then f then g then refl)))

@@ -1,5 +1,4 @@
-use Rattle.std.proofs.Common.{sym}
-use Rattle.std.specs.Str.{chars}
+use Rattle.syslog_pieces.proofs.Names.{sym, chars}
 use Rattle.syslog_pieces.proofs.StructuredDataLemmas.Closing.{byte_count_slice, dead_whole}
 use Rattle.syslog_pieces.proofs.structured_data.recognise.after_element.Goals as goal
 

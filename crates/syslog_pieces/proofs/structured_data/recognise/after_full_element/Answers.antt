@@ -1,10 +1,7 @@
-use Rattle.std.proofs.Common.{rules, sym}
-use Rattle.std.specs.Str.{chars}
-use Rattle.syslog_pieces.specs.StructuredData.Rfc3164List.{full_element}
-use Rattle.syslog_pieces.specs.Pieces.View.{shown}
-use Rattle.syslog_pieces.proofs.StructuredDataLemmas.Closing.{byte_count_slice, dead_whole}
+use Rattle.syslog_pieces.proofs.Names.{rules, sym, chars, full_element, shown}
+use Rattle.syslog_pieces.proofs.StructuredDataLemmas.Closing.{byte_count_slice, dead_whole, passes_start}
+use Rattle.syslog_pieces.proofs.StructuredDataLemmas.Closing.{closing_answers}
 use Rattle.syslog_pieces.proofs.StructuredDataLemmas.Rfc3164List.{no_full_start, no_full_opening, full_goes}
-use Rattle.syslog_pieces.proofs.StructuredDataLemmas.Recognise.{opened_passes, closing_answers}
 use Rattle.syslog_pieces.proofs.structured_data.recognise.after_full_element.Goals as goal
 
 pub returns-in_err-inside : goal.returns-in_err-inside
@@ -21,6 +18,6 @@ live_closing-requires c =
 pub returns : goal.returns
 returns c =
     let answers = closing_answers full_element _ _
-    (opened_passes full_element _ _ _ _ _ c.in_ok-inside.ensures c.in_ok-value.ensures)
+    (passes_start full_element c.in_ok-inside.ensures c.in_ok-value.ensures)
     (full_goes _ _ _ c.in_ok-inside.ensures _ _ c.in_ok-value.ensures) (λ s. shown s) _ c.live_closing.ensures in
     search rules

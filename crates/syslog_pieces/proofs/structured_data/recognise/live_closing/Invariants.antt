@@ -1,9 +1,4 @@
-use Rattle.std.proofs.Common.{length}
-use denote.Shadow.{shadow}
-use denote.Text.{Utf8}
-use Rattle.std.specs.Str.{chars}
-use Rattle.syslog_pieces.specs.Bodies.Closing.{closing}
-use Rattle.syslog_pieces.proofs.PieceLemmas.Meets.{Meets}
+use Rattle.syslog_pieces.proofs.Names.{length, shadow, Utf8, chars, closing, Meets}
 use Rattle.syslog_pieces.proofs.StructuredDataLemmas.Closing.{Passes}
 use Rattle.syslog_pieces.proofs.structured_data.recognise.live_closing.Given as goal
 

@@ -1,53 +1,37 @@
-use Rattle.std.proofs.Common.{arith, ◌≤◌, ◌∙◌}
-use Rattle.std.specs.Str.{chars}
-use Rattle.syslog_pieces.specs.Bodies.Closing.{byte_count}
-use Rattle.syslog_pieces.specs.Text.CharClass.{is_inert_char}
-use Rattle.syslog_pieces.proofs.StructuredDataLemmas.Closing.{byte_count_slice}
-use Rattle.syslog_pieces.proofs.StructuredDataLemmas.Recognise.{inert_plain, value_quoted, value_missing, value_on}
-use Rattle.syslog_pieces.proofs.StructuredDataLemmas.Recognise.{text_on, value_dead, value_further, missing_further}
+use Rattle.syslog_pieces.proofs.Names.{arith, ◌≤◌, ◌∙◌, chars, byte_count}
+use Rattle.syslog_pieces.proofs.StructuredDataLemmas.Closing.{byte_count_slice, inert_plain, past_run, value_quoted}
+use Rattle.syslog_pieces.proofs.StructuredDataLemmas.Closing.{value_missing, value_on, value_dead, dead_on}
 use Rattle.syslog_pieces.proofs.structured_data.recognise.live_value.Goals as goal
 
 pub returns-in-Some : goal.returns-in-Some
-returns-in-Some c = value_quoted is_inert_char inert_plain (chars c.args.text.now) c.units.rest.now
-    c.split_plain.result.0.now c.split_plain.result.1.now
-    c.split_plain.ensures c.units.invariant.1 (chars c.in-Some.behind.now) c.in-Some.ensures
+returns-in-Some c = value_quoted _ inert_plain _ _ _ _ c.split_plain.ensures c.units.invariant.1 _ c.in-Some.ensures
 
 pub returns-in_default-unit : goal.returns-in_default-unit
-returns-in_default-unit c = value_missing is_inert_char inert_plain (chars c.args.text.now) c.units.rest.now
-    c.split_plain.result.0.now c.split_plain.result.1.now
-    c.split_plain.ensures c.units.invariant.1 c.in_default-unit.ensures
+returns-in_default-unit c =
+    value_missing _ _ (past_run _ inert_plain _ _ _ _ c.split_plain.ensures c.units.invariant.1)
+    c.in_default-unit.ensures
 
 pub returns-then-more-dead : goal.returns-then-more-dead
 returns-then-more-dead c =
     let u = c.in-Some-unit.ensures.1 in
-    let i = c.units.invariant in
-    let past : c.args.dead ≤ byte_count (chars c.in-Some-unit.more.now) = (let e =
-    byte_count_slice c.in-Some-unit.more.now c.in-Some-unit.ensures.0 in omega (arith, e, c.if-more-dead.true)) in (
-      value_dead is_inert_char inert_plain (chars c.args.text.now) c.units.rest.now
-          c.split_plain.result.0.now c.split_plain.result.1.now c.split_plain.ensures i.1
-          u.0 u.1 (chars c.in-Some-unit.more.now) u.2 i.2.0 i.2.1
-          (u.3 ∙ c.if-last-eq93.true) c.args.dead c.requires past,
+    let e = byte_count_slice c.in-Some-unit.more.now c.in-Some-unit.ensures.0 in
+    let reaches : c.args.dead ≤ byte_count (chars c.in-Some-unit.more.now) = omega (arith, e, c.if-more-dead.true) in (
+      value_dead _ inert_plain _ _ _ _ c.split_plain.ensures c.units.invariant.1 u.0 u.1 _ u.2
+          (u.3 ∙ c.if-last-eq93.true) c.args.dead c.units.invariant.2 reaches,
       c.requires,
     )
 
 pub units-preserved : goal.units-preserved
-units-preserved c = (
-  c.in-Some-unit.ensures.0,
-  value_on is_inert_char inert_plain (chars c.args.text.now) c.units.rest.now
-      c.split_plain.result.0.now c.split_plain.result.1.now
-      c.split_plain.ensures c.units.invariant.1 _ c.in-Some-unit.ensures.1.1
-      (chars c.in-Some-unit.more.now) c.in-Some-unit.ensures.1.2,
-  text_on is_inert_char inert_plain (chars c.args.text.now) c.units.rest.now
-      c.split_plain.result.0.now c.split_plain.result.1.now
-      c.split_plain.ensures c.units.invariant.1 _ c.in-Some-unit.ensures.1.1
-      (chars c.in-Some-unit.more.now) c.in-Some-unit.ensures.1.2 c.units.invariant.2,
-)
+units-preserved c =
+    let u = c.in-Some-unit.ensures.1 in (
+      c.in-Some-unit.ensures.0,
+      value_on _ inert_plain _ _ _ _ c.split_plain.ensures c.units.invariant.1 u.0 u.1 _ u.2,
+      dead_on _ inert_plain _ _ _ _ c.split_plain.ensures c.units.invariant.1 u.0 u.1 _ u.2 _ c.units.invariant.2,
+    )
 
 pub returns-in-Some-after_value : goal.returns-in-Some-after_value
 returns-in-Some-after_value c =
-    value_further (chars c.args.text.now) (chars c.units.rest.now) (chars c.in-Some-after_value.behind.now)
-    c.in-Some-after_value.ensures.0 c.units.invariant.1 c.in-Some-after_value.ensures.1
+    c.units.invariant.1.forth _ c.in-Some-after_value.ensures.0 c.in-Some-after_value.ensures.1
 
 pub returns-in-None : goal.returns-in-None
-returns-in-None c =
-    missing_further (chars c.args.text.now) (chars c.units.rest.now) c.units.invariant.1 c.in-None.ensures
+returns-in-None c = value_missing _ _ c.units.invariant.1 c.in-None.ensures

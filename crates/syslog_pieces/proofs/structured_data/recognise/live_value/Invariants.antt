@@ -1,14 +1,9 @@
-use Rattle.std.proofs.Common.{◌≡◌, ℕ, List, ◌++◌, length}
-use denote.Shadow.{shadow}
-use denote.Text.{Utf8}
-use Rattle.std.specs.Str.{chars}
-use Rattle.syslog_pieces.specs.StructuredData.{value}
-use Rattle.syslog_pieces.proofs.PieceLemmas.Meets.{Meets}
+use Rattle.syslog_pieces.proofs.Names.{length, shadow, Utf8, chars, quoted, IsDead, Meets}
 use Rattle.syslog_pieces.proofs.structured_data.recognise.live_value.Given as goal
 
 abbrev pub invariant-units : goal.invariant-units
-invariant-units l = shadow (Utf8 l.rest) × Meets value (chars l.text) value (chars l.rest)
-    × ((p : List ℕ) × (chars l.text ≡ p ++ chars l.rest))
+invariant-units l =
+    shadow (Utf8 l.rest) × Meets quoted (chars l.text) quoted (chars l.rest) × IsDead (chars l.rest) l.dead
 
 abbrev pub decreases-units : goal.decreases-units
 decreases-units l = length (chars l.rest)

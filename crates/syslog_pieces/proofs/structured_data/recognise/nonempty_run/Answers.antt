@@ -1,7 +1,4 @@
-use Rattle.std.proofs.Common.{refl}
-use Rattle.std.specs.Str.{chars}
-use Rattle.syslog_pieces.specs.Text.CharClass.{has}
-use Rattle.syslog_pieces.specs.Pieces.Class.{some_run}
+use Rattle.syslog_pieces.proofs.Names.{refl, chars, has, some_run}
 use Rattle.syslog_pieces.proofs.TextLemmas.Chars.{empty_is, nonempty_is, chars_nonempty}
 use Rattle.syslog_pieces.proofs.PieceLemmas.Class.{no_texted}
 use Rattle.syslog_pieces.proofs.TextLemmas.Runs.{no_some_run}

@@ -1,6 +1,4 @@
-use Rattle.std.proofs.Common.{inl, refl, rules}
-use Rattle.syslog_pieces.specs.Bodies.Closing.{opening_row}
-use Rattle.syslog_pieces.proofs.PieceLemmas.Rows.{row_of, no_row, ◌then◌, ◌past◌}
+use Rattle.syslog_pieces.proofs.Names.{inl, refl, rules, opening_row, row_of, no_row, ◌then◌, ◌past◌}
 use Rattle.syslog_pieces.proofs.StructuredDataLemmas.Closing.{opening_det}
 use Rattle.syslog_pieces.proofs.structured_data.recognise.opening.Goals as goal
 

@@ -1,7 +1,7 @@
-use Rattle.std.proofs.Common.{◌≡◌, ℕ, List, Bool, false, ◌&&◌, nat_lt, refl, subst, ap, ◌∙◌, arith}
+use Rattle.syslog_pieces.proofs.Names.{◌≡◌, ℕ, List, Bool, false, ◌&&◌, refl, subst, ap, ◌∙◌, arith, has}
+use Rattle.std.proofs.Common.{nat_lt}
 use Rattle.std.specs.Prelude.{slice_index}
 use Rattle.syslog_pieces.specs.Bodies.Scan.{IsRun, byte_in}
-use Rattle.syslog_pieces.specs.Text.CharClass.{has}
 use Rattle.syslog_pieces.specs.declared.text.CharClass.{CharClass}
 use Rattle.syslog_pieces.proofs.TextLemmas.Runs.{ascii_ends}
 use Rattle.syslog_pieces.proofs.structured_data.recognise.plain_end.Goals as goal

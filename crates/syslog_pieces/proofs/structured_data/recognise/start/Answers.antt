@@ -1,8 +1,5 @@
-use Rattle.std.proofs.Common.{inl, refl, rules}
-use Rattle.std.specs.Str.{chars}
-use Rattle.syslog_pieces.specs.Pieces.Class.{NoFront}
-use Rattle.syslog_pieces.specs.Bodies.Closing.{start_row, start}
-use Rattle.syslog_pieces.proofs.PieceLemmas.Rows.{row_of, no_row, ◌then◌, ◌past◌}
+use Rattle.syslog_pieces.proofs.Names.{inl, refl, rules, chars, NoFront, start_row, start, row_of, no_row, ◌then◌}
+use Rattle.syslog_pieces.proofs.Names.{◌past◌}
 use Rattle.syslog_pieces.proofs.StructuredDataLemmas.Closing.{start_det}
 use Rattle.syslog_pieces.proofs.structured_data.recognise.start.Goals as goal
 

@@ -1,7 +1,4 @@
-use Rattle.std.proofs.Common.{rules, ◌≡◌, [], ◌∷◌, refl}
-use Rattle.std.specs.Str.{chars}
-use Rattle.syslog_pieces.specs.Pieces.Class.{Text}
-use Rattle.syslog_pieces.specs.StructuredData.Rfc3164List.{IsDashBefore}
+use Rattle.syslog_pieces.proofs.Names.{rules, ◌≡◌, [], ◌∷◌, refl, chars, Text, IsDashBefore}
 use Rattle.syslog_pieces.proofs.structured_data.rfc3164_list.after_dash.Goals as goal
 
 pub returns-in_err-rest : goal.returns-in_err-rest

@@ -1,13 +1,13 @@
-use Rattle.std.specs.Str.{chars}
-use Rattle.syslog_pieces.specs.Pieces.View.{shown}
-use Rattle.syslog_pieces.proofs.StructuredDataLemmas.Rfc3164List.{told_by_dash, told_by_element}
+use Rattle.syslog_pieces.proofs.StructuredDataLemmas.Rfc3164List.{begins_no_list, no_rfc3164_list}
 use Rattle.syslog_pieces.proofs.structured_data.rfc3164_list.begins_list.Goals as goal
 
-pub returns-then-is_some : goal.returns-then-is_some
-returns-then-is_some c = told_by_dash c.args.rule (chars c.args.text.now)
-    (λ s. shown s) c.after_dash.result c.after_dash.ensures c.is_some.result c.is_some.ensures c.if-is_some.true
+pub returns-in-Some : goal.returns-in-Some
+returns-in-Some c =
+    λ n. (begins_no_list c.args.rule _ n).0 _ c.in-Some.ensures.0 c.in-Some.ensures.1
 
-pub returns-else-is_some : goal.returns-else-is_some
-returns-else-is_some c =
-    told_by_element _ _ (λ s. shown s) _ c.after_dash.ensures _ c.is_some.result c.is_some.ensures c.if-is_some.false _
-    c.after_full_element.ensures c.is_some-else-is_some.ensures
+pub returns-in-Some-after_full_element : goal.returns-in-Some-after_full_element
+returns-in-Some-after_full_element c = λ n.
+    let (v, f) = c.in-Some-after_full_element.ensures in (begins_no_list c.args.rule _ n).1 f.piece _ v f.whole f.is
+
+pub returns : goal.returns
+returns c = no_rfc3164_list c.args.rule _ (c.in_default.ensures, c.in_default-after_full_element.ensures)

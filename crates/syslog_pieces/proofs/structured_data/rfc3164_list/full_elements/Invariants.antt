@@ -1,11 +1,4 @@
-use Rattle.std.proofs.Common.{length, map}
-use denote.Shadow.{shadow}
-use denote.Text.{Utf8}
-use Rattle.std.specs.Str.{chars}
-use Rattle.syslog_pieces.specs.StructuredData.Element.{element_value}
-use Rattle.syslog_pieces.specs.StructuredData.Rfc3164List.{full_element}
-use Rattle.syslog_pieces.specs.Pieces.View.{shown}
-use Rattle.syslog_pieces.specs.Pieces.Lists.{HasRead}
+use Rattle.syslog_pieces.proofs.Names.{length, map, shadow, Utf8, chars, element_value, full_element, shown, HasRead}
 use Rattle.syslog_pieces.proofs.structured_data.rfc3164_list.full_elements.Given as goal
 
 abbrev pub invariant-elements : goal.invariant-elements

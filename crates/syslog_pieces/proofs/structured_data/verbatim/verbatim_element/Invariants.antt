@@ -1,8 +1,5 @@
-use Rattle.std.proofs.Common.{length}
-use denote.Shadow.{shadow}
-use denote.Text.{Utf8}
-use Rattle.std.specs.Str.{chars}
-use Rattle.syslog_pieces.proofs.StructuredDataLemmas.Verbatim.{VerbatimSoFar}
+use Rattle.syslog_pieces.proofs.Names.{length, shadow, Utf8, chars}
+use Rattle.syslog_pieces.proofs.StructuredDataLemmas.ReadBack.{VerbatimSoFar}
 use Rattle.syslog_pieces.proofs.structured_data.verbatim.verbatim_element.Given as goal
 
 abbrev pub invariant-params : goal.invariant-params

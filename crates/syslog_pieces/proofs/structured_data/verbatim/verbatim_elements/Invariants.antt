@@ -1,8 +1,4 @@
-use Rattle.std.proofs.Common.{length}
-use denote.Shadow.{shadow}
-use denote.Text.{Utf8}
-use Rattle.std.specs.Str.{chars}
-use Rattle.syslog_pieces.specs.Bodies.Verbatim.{VerbatimItems}
+use Rattle.syslog_pieces.proofs.Names.{length, shadow, Utf8, chars, VerbatimItems}
 use Rattle.syslog_pieces.proofs.structured_data.verbatim.verbatim_elements.Given as goal
 
 abbrev pub invariant-elements : goal.invariant-elements

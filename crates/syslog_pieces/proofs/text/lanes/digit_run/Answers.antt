@@ -1,14 +1,7 @@
-use Rattle.std.proofs.Common.{ℕ, leb, cond, refl}
-use Rattle.std.proofs.lemmas.Simd.{zip2_splat, length-chunk}
-use lib.Lanes.{chunk}
-use Rattle.syslog_pieces.specs.Bodies.Scan.{byte_in}
-use Rattle.syslog_pieces.specs.declared.text.CharClass.TheVariants.{Digit}
-use Rattle.syslog_pieces.proofs.TextLemmas.Lanes.{joined, splat_is, run_in}
+use Rattle.std.proofs.Common.{refl}
+use Rattle.syslog_pieces.proofs.TextLemmas.Lanes.{lanes, at_least, run_in}
 use Rattle.syslog_pieces.proofs.text.lanes.digit_run.Goals as goal
 
 pub returns : goal.returns
 returns c =
-    let v = chunk c.args.at 16 c.args.bytes.now in
-    let long = length-chunk c.args.at 16 c.args.bytes.now c.requires in
-    run_in (byte_in Digit) c.args.bytes.now c.args.at _ _ c.requires c.type_inv.bytes c.first_set.ensures _
-    (joined (λ a b. cond (leb a b) 255 0) _ _ v (splat_is v 16 10 long) (zip2_splat {Y = ℕ} _ v 16 48 long)) refl
+    run_in c.requires c.type_inv.bytes c.first_set.ensures (at_least 10 (lanes _ 48)) refl

@@ -7,6 +7,5 @@ use Rattle.syslog_pieces.proofs.timestamp.canonical.own_year.Goals as goal
 pub returns-clause-value : goal.returns-clause-value
 returns-clause-value c =
     let dt = c.to_datetime.result in
-    let back = back_year dt.date.year dt.date.year_in in
-    let same = rw (← c.year.ensures) at back in
+    let same = rw (← c.year.ensures) at (back_year dt.date.year dt.date.year_in) in
     same ∙ c.year.ensures ∙ ap (λ (f : CivilFields). f.year) (sym (civil_fields-is dt _ c.to_datetime.ensures))

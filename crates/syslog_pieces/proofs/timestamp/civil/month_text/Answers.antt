@@ -3,7 +3,7 @@ use Rattle.jiff.specs.Types.{TimeZone}
 use Rattle.jiff.specs.Words.{ambiguous_at}
 use Rattle.std.proofs.lemmas.Int.{to_z-of_z}
 use Rattle.syslog_pieces.specs.Timestamp.Zone.{dating_value, earlier}
-use Rattle.syslog_pieces.proofs.TimestampLemmas.MonthText.{month_printed}
+use Rattle.syslog_pieces.proofs.TimestampLemmas.Zone.{month_printed}
 use Rattle.syslog_pieces.proofs.timestamp.civil.month_text.Goals as goal
 
 pub returns-clause-text : goal.returns-clause-text

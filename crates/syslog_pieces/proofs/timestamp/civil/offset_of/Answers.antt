@@ -1,5 +1,5 @@
 use Rattle.std.proofs.Common.{refl}
-use Rattle.syslog_pieces.proofs.TimestampLemmas.MonthText.{fixed_earlier, earlier_at}
+use Rattle.syslog_pieces.proofs.TimestampLemmas.Zone.{fixed_earlier, earlier_at}
 use Rattle.syslog_pieces.proofs.timestamp.civil.offset_of.Goals as goal
 
 pub returns-in-Ok : goal.returns-in-Ok

@@ -1,7 +1,7 @@
 use Rattle.std.proofs.Common.{rules, FitsSigned, w32, ap, ◌∙◌, unsigned_abs}
 use Rattle.std.proofs.lemmas.Int.{to_z-of_z}
 use Rattle.syslog_pieces.specs.Timestamp.Printed.{offset_sign}
-use Rattle.syslog_pieces.proofs.TimestampLemmas.MonthText.{whole_bytes}
+use Rattle.syslog_pieces.proofs.TimestampLemmas.Zone.{whole_bytes}
 use Rattle.syslog_pieces.proofs.timestamp.civil.text_of.Goals as goal
 
 pub returns-clause-text : goal.returns-clause-text

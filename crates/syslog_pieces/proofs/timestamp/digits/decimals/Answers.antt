@@ -4,9 +4,9 @@ use Rattle.std.proofs.lemmas.Bool.Decides.{nat_tests}
 use Rattle.std.proofs.lemmas.List.{at_drop_all, take_min}
 use Rattle.std.proofs.Math.Nat.{mul-le-mul_right, min_comm}
 use Rattle.jiff_fmt.specs.Reader.{fraction_value}
-use Rattle.jiff_fmt.proofs.ReaderLemmas.{fraction_value-nil, fraction_value-drop, tenth, ten_pow-pos}
+use Rattle.jiff_fmt.proofs.ReaderLemmas.{fraction_value-nil, fraction_value-drop, tenth}
 use Rattle.syslog_pieces.specs.Bodies.StampReading.{nanoseconds}
-use Rattle.syslog_pieces.proofs.TimestampLemmas.Fraction.{fraction_value-take, front-digit}
+use Rattle.syslog_pieces.proofs.TimestampLemmas.Reading.{fraction_value-take, front-digit}
 use Rattle.syslog_pieces.proofs.timestamp.digits.decimals.Goals as goal
 
 pub digits-preserved : goal.digits-preserved
@@ -26,9 +26,9 @@ digits-preserved c =
     let same : c.from.result * (l.place / 10) ≡ (get_or ds l.digit-index 0 - 48) * power = rw (place, c.from.ensures) in
     (place, omega arith, omega arith)
 
-pub returns-clause-value : goal.returns-clause-value
+pub returns : goal.returns
 unfolding nanoseconds
-returns-clause-value c =
+returns c =
     let l = c.digits in
     let front = c.split_at.result.0.now in
     let none = at_drop_all (fraction_value (9 - l.digit-index)) _ _ c.digits-test.false ∙ fraction_value-nil _ in
@@ -37,6 +37,3 @@ returns-clause-value c =
     let value : l.nanosecond ≡ fraction_value 9 front =
     omega (arith, ap (fraction_value 9) cut, fraction_value-take 9 front) in
     grind (arith, nat_tests, common_steps)
-
-pub returns-clause-small : goal.returns-clause-small
-returns-clause-small c = omega (arith, ten_pow-pos (9 - c.digits.digit-index))

@@ -1,11 +1,19 @@
-use Rattle.syslog_pieces.proofs.TimestampLemmas.Fraction.{three-read, six-read}
+use Rattle.syslog_pieces.proofs.TimestampLemmas.Reading.{decimals-of, three, six, nine}
 use Rattle.syslog_pieces.proofs.timestamp.digits.few_decimals.Goals as goal
 
-pub returns-then-not-begins_with_digit-clause-value : goal.returns-then-not-begins_with_digit-clause-value
-returns-then-not-begins_with_digit-clause-value c =
-    three-read _ _ _ c.in_ok-milli.ensures.small c.in_ok-milli.ensures.text c.if-not-begins_with_digit.ensures
+pub returns-then-not-begins_with_digit : goal.returns-then-not-begins_with_digit
+returns-then-not-begins_with_digit c =
+    rw c.in_ok-milli.ensures.text
+    (decimals-of _ (three _ c.in_ok-milli.ensures.small) c.if-not-begins_with_digit.ensures)
 
-pub returns-clause-value : goal.returns-clause-value
-returns-clause-value c =
-    six-read _ _ _ _ _ c.in_ok-milli.ensures.small c.in_ok-micro.ensures.small c.in_ok-milli.ensures.text
-    c.in_ok-micro.ensures.text c.if-begins_with_digit.ensures
+pub returns-then-not-begins_with_digit-2 : goal.returns-then-not-begins_with_digit-2
+returns-then-not-begins_with_digit-2 c =
+    rw (c.in_ok-milli.ensures.text, c.in_ok-micro.ensures.text)
+    (decimals-of _ (six _ c.in_ok-milli.ensures.small _ c.in_ok-micro.ensures.small)
+    c.if-not-begins_with_digit-2.ensures)
+
+pub returns : goal.returns
+returns c =
+    rw (c.in_ok-milli.ensures.text, c.in_ok-micro.ensures.text, c.in_ok-nano.ensures.text)
+    (decimals-of _ (nine _ c.in_ok-milli.ensures.small _ c.in_ok-micro.ensures.small _ c.in_ok-nano.ensures.small)
+    c.if-begins_with_digit.ensures)

@@ -5,16 +5,10 @@ use Rattle.syslog_pieces.proofs.timestamp.early.days.Goals as goal
 
 pub returns-then-month-le2-clause-value : goal.returns-then-month-le2-clause-value
 returns-then-month-le2-clause-value c =
-    omega (
-      arith,
-      day_count-early (pos c.args.year) (c.args.year + 9_999) c.args.month c.args.day (omega (arith, signed_arith))
-          (omega arith) (omega arith) (omega arith),
-    )
+    let e = day_count-early (pos c.args.year) (c.args.year + 9_999) c.args.month c.args.day
+    (omega (arith, signed_arith)) (omega arith) (omega arith) (omega arith) in omega arith
 
 pub returns-else-month-le2-clause-value : goal.returns-else-month-le2-clause-value
 returns-else-month-le2-clause-value c =
-    omega (
-      arith,
-      day_count-late (pos c.args.year) (c.args.year + 10_000) c.args.month c.args.day (omega (arith, signed_arith))
-          (omega arith) (omega arith) (omega arith),
-    )
+    let e = day_count-late (pos c.args.year) (c.args.year + 10_000) c.args.month c.args.day
+    (omega (arith, signed_arith)) (omega arith) (omega arith) (omega arith) in omega arith

@@ -3,7 +3,7 @@ use Rattle.std.specs.Int.{w128}
 use Rattle.std.proofs.lemmas.Int.{to_z-of_z}
 use Rattle.jiff_core.specs.Calendar.{day_count}
 use Rattle.jiff_core.proofs.SignedLemmas.{signed_arith}
-use Rattle.syslog_pieces.proofs.TimestampLemmas.Early.{early_instant}
+use Rattle.syslog_pieces.proofs.TimestampLemmas.Range.{early_instant}
 use Rattle.syslog_pieces.proofs.timestamp.early.early_stamp.Goals as goal
 
 pub returns : goal.returns
@@ -15,17 +15,16 @@ returns c =
     let fits_nanosecond : FitsSigned w128 c.nanosecond_at.result = search rules in
     let from : pos 0 ≤ℤ f.year = omega (arith, signed_arith) in
     let to : f.year <ℤ pos 9999 = omega (arith, signed_arith) in
-    let year = simp to_z-of_z at c.unsigned_abs.ensures.value in
-    let count = c.days-days.ensures.value ∙ ap (λ y. day_count (pos y) f.month f.day) year in
+    let count = c.days-days.ensures.value
+    ∙ ap (λ y. day_count (pos y) f.month f.day) (simp to_z-of_z at c.unsigned_abs.ensures.value) in
     let second = simp to_z-of_z at c.second_at-second.ensures in
     let nanos = simp to_z-of_z at c.nanosecond_at.ensures in
-    let instant = simp to_z-of_z at c.in_ok-instant.ensures in
-    let offset = c.seconds.ensures in
     record {
       civil = c.if-not-is_early.ensures refl from to;
       from = from;
       to = to;
-      instant = instant ∙ early_instant f c.days-days.result c.args.offset.seconds c.second_at-second.result
-          c.nanosecond_at.result from count (rw offset at second) nanos;
+      instant = (simp to_z-of_z at c.in_ok-instant.ensures)
+          ∙ early_instant f c.days-days.result c.args.offset.seconds c.second_at-second.result c.nanosecond_at.result
+          from count (rw c.seconds.ensures at second) nanos;
       at_offset = refl;
     }

@@ -1,19 +1,14 @@
-use Rattle.std.proofs.Common.{rules, sym, subst}
-use Rattle.std.specs.Str.{chars}
-use Rattle.syslog_pieces.specs.Pieces.Class.{NoFront, Front}
-use Rattle.syslog_pieces.specs.Timestamp.MonthDate.{month_date}
-use Rattle.syslog_pieces.specs.declared.timestamp.month_date.MonthDate.{MonthDate}
-use Rattle.syslog_pieces.proofs.TimestampLemmas.MonthReading.{no_day, no_year, no_clock}
-use Rattle.syslog_pieces.proofs.TimestampLemmas.MonthReading.{month_date_yearless, month_date_dated}
+use Rattle.std.proofs.Common.{rules}
+use Rattle.syslog_pieces.proofs.TimestampLemmas.MonthDate.{no_day, no_year, no_clock}
+use Rattle.syslog_pieces.proofs.TimestampLemmas.MonthDate.{month_date_yearless, month_date_dated}
 use Rattle.syslog_pieces.proofs.timestamp.month_date.any_date.Goals as goal
 
 pub returns-in_err-day : goal.returns-in_err-day
-returns-in_err-day c = let n : NoFront month_date (chars c.args.text.now) = no_day c.in_err-day.ensures in search rules
+returns-in_err-day c = let n = no_day c.in_err-day.ensures in search rules
 
 pub returns-in-Some : goal.returns-in-Some
 returns-in-Some c =
-    subst (λ (x : MonthDate). Front month_date (chars c.args.text.now) (chars c.in-Some.after.now) x)
-    (sym c.date_of.ensures) (month_date_yearless _ c.in_ok-day.ensures _ c.in-Some.ensures.0 c.in-Some.ensures.1)
+    rw c.date_of.ensures (month_date_yearless _ c.in_ok-day.ensures _ c.in-Some.ensures.0 c.in-Some.ensures.1)
 
 pub returns-in_err-year : goal.returns-in_err-year
 returns-in_err-year c =
@@ -26,6 +21,5 @@ returns-in_err-clock c =
 
 pub returns : goal.returns
 returns c =
-    subst (λ (x : MonthDate). Front month_date (chars c.args.text.now) (chars c.in_ok-clock.rest.now) x)
-    (sym c.date_of-2.ensures) (month_date_dated _ c.in_ok-day.ensures _ _ c.in_ok-clock.ensures.0 c.in_ok-year.ensures
+    rw c.date_of-2.ensures (month_date_dated _ c.in_ok-day.ensures _ _ c.in_ok-clock.ensures.0 c.in_ok-year.ensures
     c.in_ok-clock.ensures.1)

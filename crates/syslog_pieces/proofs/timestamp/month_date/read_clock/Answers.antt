@@ -5,8 +5,7 @@ use Rattle.syslog_pieces.proofs.TimestampLemmas.MonthDate.{clock_det}
 use Rattle.syslog_pieces.proofs.timestamp.month_date.read_clock.Goals as goal
 
 pub returns-in_err-hour : goal.returns-in_err-hour
-returns-in_err-hour c =
-    let n = no_row clock_row clock_det (inl c.in_err-hour.ensures) in search rules
+returns-in_err-hour c = let n = no_row clock_row clock_det (inl c.in_err-hour.ensures) in search rules
 
 pub returns-in_err-rest : goal.returns-in_err-rest
 returns-in_err-rest c =

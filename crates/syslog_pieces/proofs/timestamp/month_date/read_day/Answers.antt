@@ -1,12 +1,11 @@
 use Rattle.std.proofs.Common.{inl, refl, rules}
 use Rattle.syslog_pieces.specs.Bodies.MonthReading.{day_row}
 use Rattle.syslog_pieces.proofs.PieceLemmas.Rows.{row_of, no_row, ◌then◌, ◌past◌}
-use Rattle.syslog_pieces.proofs.TimestampLemmas.MonthReading.{day_det}
+use Rattle.syslog_pieces.proofs.TimestampLemmas.MonthDate.{day_det}
 use Rattle.syslog_pieces.proofs.timestamp.month_date.read_day.Goals as goal
 
 pub returns-in_err-month : goal.returns-in_err-month
-returns-in_err-month c =
-    let n = no_row day_row day_det (inl c.in_err-month.ensures) in search rules
+returns-in_err-month c = let n = no_row day_row day_det (inl c.in_err-month.ensures) in search rules
 
 pub returns-in_err-rest : goal.returns-in_err-rest
 returns-in_err-rest c =

@@ -1,30 +1,31 @@
-use Rattle.std.proofs.Common.{rules}
+use Rattle.std.proofs.Common.{ap, arith, length, rules}
 use Rattle.std.specs.Str.{chars}
-use Rattle.syslog_pieces.specs.Pieces.Class.{NoFront}
-use Rattle.syslog_pieces.specs.Timestamp.MonthDate.{month}
-use Rattle.syslog_pieces.proofs.TimestampLemmas.MonthReading.{month_read, no_month_read, no_first, no_second, no_third}
+use Rattle.syslog_pieces.proofs.TimestampLemmas.MonthDate.{month_read, no_month_read, no_short}
 use Rattle.syslog_pieces.proofs.timestamp.month_date.read_month.Goals as goal
 
 pub returns-in_err-a : goal.returns-in_err-a
-returns-in_err-a c = let n : NoFront month (chars c.args.text.now) = no_first _ c.in_err-a.ensures in search rules
+returns-in_err-a c =
+    let n = no_short (chars c.args.text.now) (omega (arith, ap length c.in_err-a.ensures)) in search rules
 
 pub returns-in_err-b : goal.returns-in_err-b
 returns-in_err-b c =
-    let n = no_second _ _ c.in_ok-a.a c.in_ok-a.ensures.0 c.in_err-b.ensures in search rules
+    let n = no_short (chars c.args.text.now)
+    (omega (arith, ap length c.in_ok-a.ensures.0, ap length c.in_err-b.ensures)) in search rules
 
 pub returns-in_err-c : goal.returns-in_err-c
 returns-in_err-c c =
-    let n : NoFront month (chars c.args.text.now) =
-    no_third _ _ _ c.in_ok-a.a c.in_ok-b.b c.in_ok-a.ensures.0 c.in_ok-b.ensures.0 c.in_err-c.ensures in search rules
+    let n = no_short (chars c.args.text.now)
+    (omega (arith, ap length c.in_ok-a.ensures.0, ap length c.in_ok-b.ensures.0, ap length c.in_err-c.ensures)) in
+    search rules
 
 pub returns-in_err-number : goal.returns-in_err-number
 returns-in_err-number c =
     let n = no_month_read _ _ _ _ c.in_ok-a.a c.in_ok-b.b c.in_ok-c.c c.in_ok-a.ensures.0 c.in_ok-b.ensures.0
     c.in_ok-c.ensures.0 _ _ _ c.to_ascii_lowercase.ensures.value c.to_ascii_lowercase-2.ensures.value
-    c.to_ascii_lowercase-3.ensures.value _ c.small_month.ensures c.in_err-number.was in search rules
+    c.to_ascii_lowercase-3.ensures.value _ c.small_month.ensures.value c.in_err-number.was in search rules
 
 pub returns : goal.returns
 returns c =
     month_read _ _ _ _ c.in_ok-a.a c.in_ok-b.b c.in_ok-c.c c.in_ok-a.ensures.0 c.in_ok-b.ensures.0 c.in_ok-c.ensures.0
     _ _ _ c.to_ascii_lowercase.ensures.value c.to_ascii_lowercase-2.ensures.value c.to_ascii_lowercase-3.ensures.value
-    _ c.small_month.ensures _ c.in_ok-number.was
+    _ c.small_month.ensures.value _ c.in_ok-number.ensures.name

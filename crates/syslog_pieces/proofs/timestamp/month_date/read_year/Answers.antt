@@ -1,12 +1,11 @@
 use Rattle.std.proofs.Common.{inl, refl, rules}
 use Rattle.syslog_pieces.specs.Bodies.MonthReading.{year_row}
 use Rattle.syslog_pieces.proofs.PieceLemmas.Rows.{row_of, no_row, ◌then◌, ◌past◌}
-use Rattle.syslog_pieces.proofs.TimestampLemmas.MonthReading.{year_det}
+use Rattle.syslog_pieces.proofs.TimestampLemmas.MonthDate.{year_det}
 use Rattle.syslog_pieces.proofs.timestamp.month_date.read_year.Goals as goal
 
 pub returns-in_err-year : goal.returns-in_err-year
-returns-in_err-year c =
-    let n = no_row year_row year_det (inl c.in_err-year.ensures) in search rules
+returns-in_err-year c = let n = no_row year_row year_det (inl c.in_err-year.ensures) in search rules
 
 pub returns-in_err-rest : goal.returns-in_err-rest
 returns-in_err-rest c =

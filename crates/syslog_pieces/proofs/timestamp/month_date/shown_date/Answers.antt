@@ -7,7 +7,7 @@ use Rattle.syslog_pieces.proofs.PieceLemmas.Class.{optional_det, run_det, rest_d
 use Rattle.syslog_pieces.proofs.PieceLemmas.Rows.{row_of, no_row, ◌then◌, ◌past◌}
 use Rattle.syslog_pieces.proofs.PriLemmas.{priority_det}
 use Rattle.syslog_pieces.proofs.TimestampLemmas.MonthDate.{yearless_det}
-use Rattle.syslog_pieces.proofs.TimestampLemmas.MonthReading.{shown_none, shown_some}
+use Rattle.syslog_pieces.proofs.TimestampLemmas.MonthDate.{shown_none, shown_some}
 use Rattle.syslog_pieces.proofs.timestamp.month_date.shown_date.Goals as goal
 
 pub returns-in_err-date : goal.returns-in_err-date

@@ -12,9 +12,7 @@ returns-then-is_civil c =
       civil = civil;
       from = year.0;
       to = year.1;
-      whole = date_and_clock_is _ _ _ _ _ _ _ _ _ _ _
-          c.in_ok-century.ensures.small c.in_ok-year.ensures.small
-          (to_z_pos w32 _ (omega (arith, c.in_ok-century.ensures.small, c.in_ok-year.ensures.small)))
-          c.in_ok-century.ensures.text c.in_ok-year.ensures.text c.in_ok-month.ensures.text c.in_ok-day.ensures.text
+      whole = date_and_clock_is _ c.in_ok-day.ensures.text
+          (to_z_pos w32 _ (omega (arith, c.in_ok-day.ensures.text.year_in))) refl refl
           c.in_ok-hour.ensures.text c.in_ok-minute.ensures.text c.in_ok-second.ensures.text;
     }

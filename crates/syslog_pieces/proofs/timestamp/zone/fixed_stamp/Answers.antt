@@ -1,7 +1,7 @@
 use Rattle.std.proofs.Common.{refl}
 use Rattle.jiff.specs.Words.{plain_zone}
 use Rattle.syslog_pieces.specs.Timestamp.Zone.{given_zone}
-use Rattle.syslog_pieces.proofs.TimestampLemmas.Early.{fixed_answers}
+use Rattle.syslog_pieces.proofs.TimestampLemmas.Zone.{fixed_answers}
 use Rattle.syslog_pieces.proofs.timestamp.zone.fixed_stamp.Goals as goal
 
 pub returns-in-Ok : goal.returns-in-Ok

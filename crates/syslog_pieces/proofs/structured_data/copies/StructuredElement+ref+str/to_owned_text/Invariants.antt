@@ -1,6 +1,4 @@
-use Rattle.std.proofs.Common.{◌≡◌, map, take, string_bytes}
-use Rattle.syslog_pieces.specs.Pieces.View.{shown, text_of}
-use Rattle.syslog_pieces.specs.StructuredData.Element.{param_value}
+use Rattle.syslog_pieces.proofs.Names.{◌≡◌, map, take, string_bytes, shown, text_of, param_value}
 use Rattle.syslog_pieces.proofs.structured_data.copies.StructuredElement+ref+str.to_owned_text.Given as goal
 
 abbrev pub invariant-loop-name : goal.invariant-loop-name

@@ -1,0 +1,96 @@
+-- The pieces of RFC 5424 as formats: how each is read, how it is printed, and what is read back from print.
+use Rattle.std.specs.Prelude.{◌≡◌, ℕ, ◌+◌, ◌*◌, ◌<◌, ◌≤◌, List, [], ◌∷◌, Option, IfSome}
+use Rattle.std.specs.Char.{is_ascii_digit, is_not_whitespace}
+use Rattle.std.specs.Fmt.{decimal}
+use Rattle.std.specs.List.{AllByRecursion}
+use Rattle.std.specs.Option.{option_and_then, option_map_or}
+use Rattle.syslog_pieces.specs.Pieces.Class.{Text, Class, Ends, NoFront, optional, run, some_run}
+use Rattle.syslog_pieces.specs.Pieces.Format.{Format}
+use Rattle.syslog_pieces.specs.Pri.{priority, priority_text, facility_of, severity_of, facility_number, severity_number}
+use Rattle.syslog_pieces.specs.ProcId.{process_word, process_text, IsCanonicalProcess, IsBoundedProcess}
+use Rattle.syslog_pieces.specs.StructuredData.{forgiving, item}
+use Rattle.syslog_pieces.specs.StructuredData.Canonical.{IsCanonicalElement}
+use Rattle.syslog_pieces.specs.StructuredData.Element.{elements_text}
+use Rattle.syslog_pieces.specs.Text.{is_blank, number, host, word, name_text}
+use Rattle.syslog_pieces.specs.Text.Canonical.{IsCanonicalHost, IsCanonicalWord}
+use Rattle.syslog_pieces.specs.Timestamp.{header_stamp}
+use Rattle.syslog_pieces.specs.Timestamp.Canonical.{IsCanonicalStamp}
+use Rattle.syslog_loose.specs.Printed.{timestamp_text}
+
+-- the composed priority, as a message prints that was read behind this one
+abbrev pub printed_number : Option ℕ → ℕ
+printed_number pri = option_map_or facility_number (option_and_then facility_of pri) 5 * 8
+    + option_map_or severity_number (option_and_then severity_of pri) 7
+
+-- a priority
+abbrev pub priority_field : Format
+priority_field = record {
+  reads = optional priority;
+  print = λ pri. priority_text (printed_number pri);
+  ReadsBack = λ pri. IfSome pri (λ n. n < 192);
+  Before = λ q. Unit {0};
+}
+
+-- a version
+abbrev pub version_number : Format
+version_number = record {
+  reads = number 4294967295;
+  print = decimal;
+  ReadsBack = λ n. n ≤ 4294967295;
+  Before = λ q. Ends is_ascii_digit q;
+}
+
+-- blanks, printed as one space
+abbrev pub blanks_field : Class → Format
+blanks_field C = record { reads = C; print = λ v. 32 ∷ []; ReadsBack = λ v. Unit {0}; Before = λ q. Ends is_blank q }
+
+abbrev pub space : Format
+space = blanks_field (some_run is_blank)
+
+-- a timestamp, or `-`
+abbrev pub stamp_field : Format
+stamp_field = record {
+  reads = header_stamp;
+  print = timestamp_text;
+  ReadsBack = λ v. IfSome v IsCanonicalStamp;
+  Before = λ q. (r : Text) × (q ≡ 32 ∷ r);
+}
+
+-- a name before a blank
+abbrev pub name_field : (C : Class) → (C.Value → Text) → (C.Value → Type 0) → Format
+name_field C print P = record { reads = C; print = print; ReadsBack = P; Before = λ q. Ends is_not_whitespace q }
+
+abbrev pub host_field : Format
+host_field = name_field host name_text (λ v. IfSome v IsCanonicalHost)
+
+abbrev pub word_field : Format
+word_field = name_field word name_text (λ v. IfSome v IsCanonicalWord)
+
+abbrev pub process_field : Format
+process_field =
+    name_field process_word process_text (λ v. IfSome v IsCanonicalProcess × IfSome v IsBoundedProcess)
+
+-- elements, or `-`
+abbrev pub elements_field : Format
+elements_field = record {
+  reads = forgiving;
+  print = elements_text;
+  ReadsBack = λ es. AllByRecursion IsCanonicalElement es;
+  Before = λ q. NoFront item q;
+}
+
+-- from the priority up to the timestamp
+abbrev pub front_fields : List Format
+front_fields = priority_field ∷ version_number ∷ space ∷ []
+
+-- from behind the timestamp to behind the elements, before which there may be no blank
+abbrev pub tail_fields : List Format
+tail_fields =
+    space ∷ host_field ∷ space ∷ word_field ∷ space ∷ process_field ∷ space ∷ word_field
+    ∷ blanks_field (run is_blank) ∷ elements_field ∷ []
+
+-- from the version up to the space before the elements
+abbrev pub fields : List Format
+fields =
+    version_number ∷ space ∷ stamp_field ∷ space ∷ host_field ∷ space ∷ word_field ∷ space ∷ process_field ∷ space
+    ∷ word_field ∷ []
