@@ -1,5 +1,5 @@
 //! The numbers that runs of digits write.
-ghost use Rattle.std.specs.Prelude.{◌≡◌, ◌<◌, ◌≤◌, ◌^◌, ℕ, IfSome, SomeIff, length, slice_index};
+ghost use Rattle.std.specs.Prelude.{◌≡◌, ◌+◌, ◌<◌, ◌≤◌, ◌^◌, ◌∷◌, [], ℕ, IfSome, IsTrue, SomeIff, length, slice_index};
 ghost use Rattle.std.specs.Char.{is_ascii_digit};
 ghost use Rattle.std.specs.Str.{chars};
 ghost use Rattle.std.specs.Str.Parse.{digits_value};
@@ -20,6 +20,29 @@ pub(crate) fn number_of_digits(digits: &str) -> Option<u32>
     }
 }
 
+// What a digit counts, and nothing of another byte.
+#[inline(always)]
+fn digit_value(byte: u8) -> Option<u32>
+    ensures { IfSome result (λ value. IsTrue (is_ascii_digit byte) × (byte ≡ value + 48) × (value < 10)) }
+{
+    if byte.is_ascii_digit() {
+        Some(u32::from(byte - b'0'))
+    } else {
+        None
+    }
+}
+
+// The number that two digits write.
+#[inline(always)]
+fn pair_value(tens: u8, ones: u8) -> Option<u32>
+    ensures { IfSome result (λ value. IsTrue (is_ascii_digit tens) × IsTrue (is_ascii_digit ones)
+        × (value ≡ digits_value 10 (tens ∷ ones ∷ [])) × (value < 100)) }
+{
+    let front = digit_value(tens)?;
+    let back = digit_value(ones)?;
+    Some(front * 10 + back)
+}
+
 /// One to five digits, which most numbers have: they need no loop.
 #[inline(always)]
 pub(crate) fn few_digits(digits: &[u8]) -> Option<u32>
@@ -28,34 +51,23 @@ pub(crate) fn few_digits(digits: &[u8]) -> Option<u32>
     ensures digits { IfSome result (λ _. Each is_ascii_digit digits.now) }
 {
     match digits {
-        [a @ b'0'..=b'9'] => Some(u32::from(*a - b'0')),
-        [a @ b'0'..=b'9', b @ b'0'..=b'9'] => {
-            Some(u32::from(*a - b'0') * 10 + u32::from(*b - b'0'))
+        [a] => digit_value(*a),
+        [a, b] => pair_value(*a, *b),
+        [a, b, c] => {
+            let front = pair_value(*a, *b)?;
+            let back = digit_value(*c)?;
+            Some(front * 10 + back)
         }
-        [a @ b'0'..=b'9', b @ b'0'..=b'9', c @ b'0'..=b'9'] => {
-            let tens = u32::from(*a - b'0') * 10 + u32::from(*b - b'0');
-            Some(tens * 10 + u32::from(*c - b'0'))
-        }
-        [
-            a @ b'0'..=b'9',
-            b @ b'0'..=b'9',
-            c @ b'0'..=b'9',
-            d @ b'0'..=b'9',
-        ] => {
-            let front = u32::from(*a - b'0') * 10 + u32::from(*b - b'0');
-            let back = u32::from(*c - b'0') * 10 + u32::from(*d - b'0');
+        [a, b, c, d] => {
+            let front = pair_value(*a, *b)?;
+            let back = pair_value(*c, *d)?;
             Some(front * 100 + back)
         }
-        [
-            a @ b'0'..=b'9',
-            b @ b'0'..=b'9',
-            c @ b'0'..=b'9',
-            d @ b'0'..=b'9',
-            e @ b'0'..=b'9',
-        ] => {
-            let front = u32::from(*a - b'0') * 10 + u32::from(*b - b'0');
-            let back = u32::from(*c - b'0') * 10 + u32::from(*d - b'0');
-            Some((front * 100 + back) * 10 + u32::from(*e - b'0'))
+        [a, b, c, d, e] => {
+            let front = pair_value(*a, *b)?;
+            let middle = pair_value(*c, *d)?;
+            let back = digit_value(*e)?;
+            Some((front * 100 + middle) * 10 + back)
         }
         _ => None,
     }
