@@ -66,10 +66,8 @@ module _ (test : ℕ → Bool) (ascii : (c : ℕ) → is_ascii_print c ≡ true 
 
   stamp_passes : (t : Text) → All IsStampCharacter t → Passes t
   stamp_passes [] h = tt
-  stamp_passes (c ∷ t) h = (
-    let r = h zero c (omega arith) in ascii c (in_print c (omega (arith, r.0)) (omega (arith, r.1))),
-    stamp_passes t (λ k d l. h (suc k) d (omega arith)),
-  )
+  stamp_passes (c ∷ t) h = let r = h zero c (omega arith) in
+      (ascii c (in_print c (omega (arith, r.0)) (omega (arith, r.1))), stamp_passes t (λ k d l. h (suc k) d (omega arith)))
 
   number_line : (n : ℕ) → n < 2 ^ 64 → Passes (decimal n)
   number_line n h = digits_pass (decimal n) (decimal_digits n h).1
@@ -122,11 +120,9 @@ module _ (test : ℕ → Bool) (ascii : (c : ℕ) → is_ascii_print c ≡ true 
   tag_line : (app : Option Text) (process : Option (ProcId Text)) → IfSome process IsBoundedProcess
       → AllByRecursion Passes (text_list app) → AllByRecursion Passes (process_texts process)
       → Passes (tag_text app process)
-  tag_line None process b h k = (ascii 58 refl, (ascii 32 refl, tt))
-  tag_line (Some a) None b h k = join_lines a (58 ∷ 32 ∷ []) h.0 (ascii 58 refl, (ascii 32 refl, tt))
-  tag_line (Some a) (Some p) b h k =
-      let end : Passes (93 ∷ 58 ∷ 32 ∷ []) = (ascii 93 refl, (ascii 58 refl, (ascii 32 refl, tt))) in
-      join_lines a _ h.0 (ascii 91 refl, join_lines (procid_text p) _ (procid_line p b k) end)
+  tag_line None process b h k = search ascii
+  tag_line (Some a) None b h k = search (each_append test, ascii)
+  tag_line (Some a) (Some p) b h k = search (each_append test, ascii, procid_line) depth 12
 
   timestamp_line : (stamp : Option OffsetTimestamp) → Passes (timestamp_text stamp)
   timestamp_line None = (ascii 45 refl, tt)
@@ -136,14 +132,10 @@ module _ (test : ℕ → Bool) (ascii : (c : ℕ) → is_ascii_print c ≡ true 
   params_line : (ps : List (Text × Text)) → AllByRecursion Passes (flat_map (λ p. p.0 ∷ p.1 ∷ []) ps)
       → Passes (flat_map param_text ps)
   params_line [] h = tt
-  params_line (p ∷ ps) h =
-      let value : Passes (p.1 ++ (34 ∷ [])) = join_lines p.1 _ h.1.0 (ascii 34 refl, tt) in
-      join_lines (param_text p) _ (ascii 32 refl, join_lines p.0 _ h.0 (ascii 61 refl, (ascii 34 refl, value)))
-      (params_line ps h.1.1)
+  params_line (p ∷ ps) h = search (each_append test, ascii, params_line ps h.1.1) depth 12
 
   element_line : (e : ElementValue) → AllByRecursion Passes (element_texts e) → Passes (element_text e)
-  element_line e h =
-      (ascii 91 refl, join_lines e.id _ h.0 (join_lines _ (93 ∷ []) (params_line e.params h.1) (ascii 93 refl, tt)))
+  element_line e h = search (each_append test, ascii, params_line) depth 12
 
   joined_line : (es : List ElementValue) → AllByRecursion Passes (flat_map element_texts es)
       → Passes (joined_elements es)
@@ -169,26 +161,10 @@ module _ (test : ℕ → Bool) (ascii : (c : ℕ) → is_ascii_print c ≡ true 
     process : AllByRecursion Passes (process_texts m.procid)
     id : AllByRecursion Passes (text_list m.msgid)
     elements : AllByRecursion Passes (flat_map element_texts m.structured_data)
-    msg : Passes m.msg
+    msg : AllByRecursion Passes (m.msg ∷ [])
 
   texts_lines : (m : MessageValue) → AllByRecursion Passes (message_texts m) → AreLines m
-  texts_lines m h =
-      let h1 = all_right Passes (text_list m.hostname) _ h in
-      let h2 = all_right Passes (text_list m.appname) _ h1 in
-      let h3 = all_right Passes (process_texts m.procid) _ h2 in
-      let h4 = all_right Passes (text_list m.msgid) _ h3 in
-      record {
-        host = all_left Passes (text_list m.hostname) _ h;
-        app = all_left Passes (text_list m.appname) _ h1;
-        process = all_left Passes (process_texts m.procid) _ h2;
-        id = all_left Passes (text_list m.msgid) _ h3;
-        elements = all_left Passes (flat_map element_texts m.structured_data) _ h4;
-        msg = (all_right Passes (flat_map element_texts m.structured_data) (m.msg ∷ []) h4).0;
-      }
-
-  -- a text, a space, and more
-  and_more : (p q : Text) → Passes p → Passes q → Passes (p ++ (32 ∷ q))
-  and_more p q h k = join_lines p (32 ∷ q) h (ascii 32 refl, k)
+  texts_lines m h = search (all_left Passes, all_right Passes) depth 8
 
   priority_line : (m : MessageValue) → Passes (decimal (priority_of m))
   priority_line m = let small = priority_small m in number_line (priority_of m) (omega arith)
@@ -196,37 +172,24 @@ module _ (test : ℕ → Bool) (ascii : (c : ℕ) → is_ascii_print c ≡ true 
   rfc3164_line : (m : MessageValue) → IfSome m.procid IsBoundedProcess → AreLines m → Passes (printed_3164 m)
   unfolding printed_3164
   rfc3164_line m b h =
-      let body : Passes (tag_text m.appname m.procid ++ (spaced_elements m.structured_data ++ m.msg)) =
-      join_lines _ _ (tag_line m.appname m.procid b h.app h.process)
-      (join_lines _ m.msg (spaced_line m.structured_data h.elements) h.msg) in (
-        ascii 60 refl,
-        join_lines _ _ (priority_line m) (
-          ascii 62 refl,
-          (
-            ascii 32 refl,
-            and_more _ _ (timestamp_line m.timestamp)
-                (and_more _ _ (name_line m.hostname h.host) body),
-          ),
-        ),
-      )
+      let stamp = timestamp_line m.timestamp in
+      let host = name_line m.hostname h.host in
+      let tag = tag_line m.appname m.procid b h.app h.process in
+      let elements = spaced_line m.structured_data h.elements in
+      search (each_append test, ascii, priority_line m) depth 20
 
   strict_line : (version : ℕ) (m : MessageValue) → version < 2 ^ 32 → IfSome m.procid IsBoundedProcess → AreLines m
       → Passes (printed_5424 version m)
   unfolding printed_5424
   strict_line version m v b h =
-      let space : Passes (32 ∷ []) = (ascii 32 refl, tt) in
-      let body : Text = elements_text m.structured_data ++ (32 ∷ m.msg) in
-      let header : EachPrints test fields (values_of version m) =
-      number_line version (omega arith) also space also timestamp_line m.timestamp also space
-      also name_line m.hostname h.host
-      also space also name_line m.appname h.app also space also process_line m.procid b h.process also space
-      also name_line m.msgid h.id also tt in
-      let end : Passes (32 ∷ body) =
-      (ascii 32 refl, and_more _ m.msg (elements_line m.structured_data h.elements) h.msg) in (
-        ascii 60 refl,
-        join_lines _ (62 ∷ printed_row fields (values_of version m) (32 ∷ body)) (priority_line m)
-            (ascii 62 refl, row_passes test fields (values_of version m) (32 ∷ body) header end),
-      )
+      let number = number_line version (omega arith) in
+      let stamp = timestamp_line m.timestamp in
+      let host = name_line m.hostname h.host in
+      let app = name_line m.appname h.app in
+      let process = process_line m.procid b h.process in
+      let id = name_line m.msgid h.id in
+      let elements = elements_line m.structured_data h.elements in
+      search (each_append test, ascii, priority_line m) depth 30
 
   -- ---- what is read
   rfc3164_printed : (dating : Dating) (text : Text) (m : MessageValue) → IsRead3164 dash_rule dating text m

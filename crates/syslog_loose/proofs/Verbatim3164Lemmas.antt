@@ -229,21 +229,6 @@ dated_verbatim dating variant text front date tail stamp shows is canonical h =
     line_verbatim dating (trimmed text) shows.behind shows.start front tail
     (Some stamp) shows.verbatim shows.small shows.gap s canonical h shows.cut
 
-pub shown_dated : (variant : Variant) (text t b d front : Text) (date : MonthDate) (tail : Text) → t ≡ trimmed text
-    → ReadsProtocol variant protocol.RFC3164
-    → (k : Verbatim priority priority_text t b) → k.value < 192 → t ≡ front ++ b → Front (run is_blank) b d tt
-    → Front yearless_date d tail date → ShowsDated variant text front date tail
-shown_dated variant text t b d front date tail e reads k small cut gap dated = record {
-  behind = b;
-  start = d;
-  reads = reads;
-  verbatim = record { value = k.value; whole = sym e ∙ k.whole; is = k.is };
-  small = small;
-  cut = sym e ∙ cut;
-  gap = gap;
-  dated = dated;
-}
-
 -- so its year is asked for
 pub dated_asks : (variant : Variant) (text front : Text) (date : MonthDate) (tail : Text)
     → ShowsDated variant text front date tail → AsksYear variant text date
@@ -265,10 +250,8 @@ dated_asks variant text front date tail shows = asked variant shows.reads (
 -- a date of one of twelve months, as the closure takes it
 pub asked_month : (date : MonthDate) (asked : Option IncompleteDate) (x : IncompleteDate) → HasMonth (incomplete date)
     → asked ≡ Some (incomplete date) → asked ≡ Some x → HasMonth x
-asked_month date asked x has e f = subst HasMonth (same (incomplete date) x (sym e ∙ f)) has
-  where
-    same : (a b : IncompleteDate) → Some a ≡ Some b → a ≡ b
-    same a b g = cc
+asked_month date asked x has e f =
+    let same : incomplete date ≡ x = (let g = sym e ∙ f in cc) in subst HasMonth same has
 
 -- the answer to that date
 pub dated_answered : (post : IncompleteDate → ℤ → Type 0) (variant : Variant) (text front : Text) (date : MonthDate)
@@ -317,8 +300,8 @@ rfc3164_read RFC3164 dating text m reads r = r
 rfc3164_read Either dating text m reads r =
     inr (λ vs d. not_both dash_rule dating (trimmed text) vs r.values d r.division, r)
 
-module _ (variant : Variant) (dating : Dating) (text t front : Text) (stamp : Option OffsetTimestamp) (tail : Text)
-    (reads : ReadsProtocol variant protocol.RFC3164) (e : t ≡ trimmed text)
+module _ (variant : Variant) (text : Text) {dating : Dating} {t front : Text} {stamp : Option OffsetTimestamp}
+    {tail : Text} (reads : ReadsProtocol variant protocol.RFC3164) (e : t ≡ trimmed text)
     (k : PrintsVerbatim3164 dating t front stamp tail) where
   own_read : IsRead3164 dash_rule dating text k.message
   own_read = is_read dash_rule dating text t k.values k.message e k.means k.is
@@ -328,9 +311,9 @@ module _ (variant : Variant) (dating : Dating) (text t front : Text) (stamp : Op
   readable = rfc3164_read variant dating text k.message reads own_read
 
   -- and what is written of it is the printed text of its message
-  pub freely : (bytes : List ℕ) → bytes ≡ encode_utf8_all (front ++ (32 ∷ (timestamp_text stamp ++ tail)))
+  pub freely : {bytes : List ℕ} → bytes ≡ encode_utf8_all (front ++ (32 ∷ (timestamp_text stamp ++ tail)))
       → PrintsAs3164 variant dating text bytes
-  freely bytes w = record {
+  freely w = record {
     message = k.message;
     read = readable;
     protocol = (read_near dash_rule dating text k.message own_read).protocol;
