@@ -75,8 +75,8 @@ use Rattle.syslog_loose.proofs.Rfc3164Lemmas.Rows.{to_colon, from_blanks}
 no_form : (t : Text) → Each is_label_char t → IsNoForm t
 no_form t h vs d =
     let (t1, tag, (t2, bracket, _)) = row_pieces form_row (division_front form_row d) in
-    let behind : Each is_label_char (91 ∷ t2) = subst (Each is_label_char) (begins 91 t1 t2 bracket)
-    (each_behind is_label_char tag.piece t1 (subst (Each is_label_char) tag.whole h)) in
+    let behind : Each is_label_char (91 ∷ t2) =
+    rw (begins 91 t1 t2 bracket) at (each_behind is_label_char tag.piece t1 (rw tag.whole at h)) in
     let not : false ≡ true = behind.0 in absurd (cc)
 
 -- a tag that stands alone
@@ -135,7 +135,7 @@ names_verbatim text hostname behind program colon_on gap follows before k betwee
       hostname = k.value;
       appname = p.appname;
       procid = p.procid;
-      host = host_canonical (name_text k.value) behind k.value (subst (Ends (λ c. nat_eq c 58)) (sym e2) refl) k.is;
+      host = host_canonical (name_text k.value) behind k.value (rw e2 refl) k.is;
       canonical = any_host k.value p.appname p.procid p.canonical;
       bounded = p.bounded;
       unblank = space.is.2;
@@ -144,7 +144,7 @@ names_verbatim text hostname behind program colon_on gap follows before k betwee
 
 -- ---- the line
 
-module _ (dating : Dating) (t b d front tail : Text) (stamp : Option OffsetTimestamp)
+module _ (dating : Dating) (front : Text) {t b d tail : Text} {stamp : Option OffsetTimestamp}
     (k : Verbatim priority priority_text t b) (small : k.value < 192)
     (gap : Front (run is_blank) b d tt) (s : Front (rfc3164_stamp dating) d tail stamp)
     (canonical : IfSome stamp IsCanonicalStamp) (h : VerbatimBehind tail) (cut : t ≡ front ++ b) where
@@ -213,8 +213,7 @@ stamped_verbatim dating t b d zone front stamp tail is_zulu k small gap z h cut 
     let same : z.copied ≡ stamp = append_cancel_right z.copied stamp zone (sym z.whole ∙ cut') in
     record {
       value = z.value;
-      as_rfc3164 = line_verbatim dating t b d front tail z.value k small gap s
-          (stamp_canonical f.piece tail z.value f.is) h cut;
+      as_rfc3164 = line_verbatim dating front k small gap s (stamp_canonical f.piece tail z.value f.is) h cut;
       stamped = stamp_prints z.value (z.copied ++ zone_text is_zulu) z.prints
           ∙ ap (λ (x : Text). x ++ zone_text is_zulu) same;
     }
@@ -226,8 +225,7 @@ pub dated_verbatim : (dating : Dating) (variant : Variant) (text front : Text) (
 dated_verbatim dating variant text front date tail stamp shows is canonical h =
     let s : Front (rfc3164_stamp dating) shows.start tail (Some stamp) =
     record { piece = shows.dated.piece; whole = shows.dated.whole; is = inr (date, inl shows.dated.is, is) } in
-    line_verbatim dating (trimmed text) shows.behind shows.start front tail
-    (Some stamp) shows.verbatim shows.small shows.gap s canonical h shows.cut
+    line_verbatim dating front shows.verbatim shows.small shows.gap s canonical h shows.cut
 
 -- so its year is asked for
 pub dated_asks : (variant : Variant) (text front : Text) (date : MonthDate) (tail : Text)
@@ -260,8 +258,7 @@ pub dated_answered : (post : IncompleteDate → ℤ → Type 0) (variant : Varia
     → MatchOption asked (year ≡ None) (λ d. IsSomeAnd year (λ y. post d y)) → IsYearAnswered post variant text year
 dated_answered post variant text front date tail asked year shows e k =
     answered_to post variant text (Some (incomplete date)) year
-    (date, dated_asks variant text front date tail shows, refl)
-    (subst (λ (x : Option IncompleteDate). MatchOption x (year ≡ None) (λ d. IsSomeAnd year (λ y. post d y))) e k)
+    (date, dated_asks variant text front date tail shows, refl) (rw e at k)
 
 -- what is written of such a line, by bytes
 pub rfc3164_bytes : (front stamp tail : List ℕ) → IsUtf8 front → IsUtf8 tail
