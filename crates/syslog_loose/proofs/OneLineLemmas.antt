@@ -3,7 +3,7 @@ use Rattle.std.proofs.Common.{◌≡◌, ℕ, suc, zero, pos, negsuc, ◌<◌, �
 use Rattle.std.proofs.Common.{nat_le, nat_lt, ◌&&◌, cond, List, [], ◌∷◌, ◌++◌, length, Option, Some, None, IfSome, refl}
 use Rattle.std.proofs.Common.{sym, ap, subst, arith}
 use Rattle.std.proofs.Math.Utf8.{scalar, scalars, low_scalar}
-use Rattle.std.proofs.lemmas.Bool.{and_from, and_parts}
+use Rattle.std.proofs.lemmas.Bool.{and_from, and_parts, cond_both}
 use Rattle.std.proofs.lemmas.Bool.Decides.{nat_tests}
 use Rattle.std.specs.Char.{is_ascii_digit, is_whitespace}
 use Rattle.std.specs.Fmt.{decimal}
@@ -42,10 +42,7 @@ use Rattle.syslog_loose.proofs.Rfc3164Lemmas.Near.{read_near}
 use Rattle.syslog_loose.proofs.Rfc3164Lemmas.Printed as rfc3164
 use Rattle.syslog_loose.proofs.Rfc3164Lemmas.Quoting.{quotes}
 use Rattle.syslog_loose.proofs.Rfc5424Lemmas as strict
-use Rattle.syslog_loose.proofs.Rfc5424Lemmas.ReadBack.{read_completed, printed_is, fields, values_of}
-use Rattle.syslog_pieces.proofs.PieceLemmas.Class.{◌also◌}
-use Rattle.syslog_pieces.proofs.PieceLemmas.Formats.{EachPrints, row_passes}
-use Rattle.syslog_pieces.specs.Pieces.Format.{printed_row}
+use Rattle.syslog_loose.proofs.Rfc5424Lemmas.ReadBack.{read_completed, printed_is}
 
 -- the characters of printable ASCII
 abbrev pub is_ascii_print : ℕ → Bool
@@ -60,34 +57,26 @@ module _ (test : ℕ → Bool) (ascii : (c : ℕ) → is_ascii_print c ≡ true 
   abbrev Passes : Text → Type 0
   Passes text = Each test text
 
-  digits_pass : (t : Text) → Each is_ascii_digit t → Passes t
-  digits_pass =
-      each_map is_ascii_digit test (λ c h. let r = digit_range c h in ascii c (in_print c (omega arith) (omega arith)))
-
   stamp_passes : (t : Text) → All IsStampCharacter t → Passes t
   stamp_passes [] h = tt
   stamp_passes (c ∷ t) h = let r = h zero c (omega arith) in
       (ascii c (in_print c (omega (arith, r.0)) (omega (arith, r.1))), stamp_passes t (λ k d l. h (suc k) d (omega arith)))
 
   number_line : (n : ℕ) → n < 2 ^ 64 → Passes (decimal n)
-  number_line n h = digits_pass (decimal n) (decimal_digits n h).1
-
-  join_lines : (p q : Text) → Passes p → Passes q → Passes (p ++ q)
-  join_lines = each_append test
-
-  cond_line : (b : Bool) (xs ys : Text) → Passes xs → Passes ys → Passes (cond b xs ys)
-  cond_line true xs ys h k = h
-  cond_line false xs ys h k = k
+  number_line n h =
+      each_map is_ascii_digit test (λ c d. let r = digit_range c d in ascii c (in_print c (omega arith) (omega arith)))
+      (decimal n) (decimal_digits n h).1
 
   skip_line : (t : Text) → Passes t → Passes (skip_leading_whitespace t)
   skip_line [] h = h
-  skip_line (c ∷ t) h = cond_line (is_whitespace c) (skip_leading_whitespace t) (c ∷ t) (skip_line t h.1) h
+  skip_line (c ∷ t) h =
+      cond_both (is_whitespace c) (skip_leading_whitespace t) (c ∷ t) Passes (λ _. skip_line t h.1) (λ _. h)
 
   drop_line : (t : Text) → Passes t → Passes (drop_trailing_whitespace t)
   drop_line [] h = h
   drop_line (c ∷ t) h =
-      cond_line (is_whitespace c && nat_eq (length (drop_trailing_whitespace t)) 0) []
-      (c ∷ drop_trailing_whitespace t) tt (h.0, drop_line t h.1)
+      cond_both (is_whitespace c && nat_eq (length (drop_trailing_whitespace t)) 0) []
+      (c ∷ drop_trailing_whitespace t) Passes (λ _. tt) (λ _. (h.0, drop_line t h.1))
 
   part_line : (p t : Text) → Passes p → IsPart p t → Passes t
   part_line p t h (before, after, e) =
@@ -106,23 +95,19 @@ module _ (test : ℕ → Bool) (ascii : (c : ℕ) → is_ascii_print c ≡ true 
   name_line None h = (ascii 45 refl, tt)
   name_line (Some t) h = h.0
 
-  procid_line : (process : ProcId Text) → IsBoundedProcess process
-      → AllByRecursion Passes (process_texts (Some process)) → Passes (procid_text process)
-  procid_line (PID (pos n)) b h = number_line n (omega (arith, b))
-  procid_line (PID (negsuc n)) b h = (ascii 45 refl, number_line (suc n) (omega (arith, b)))
-  procid_line (Name t) b h = h.0
-
   process_line : (process : Option (ProcId Text)) → IfSome process IsBoundedProcess
       → AllByRecursion Passes (process_texts process) → Passes (process_text process)
   process_line None b h = (ascii 45 refl, tt)
-  process_line (Some p) b h = procid_line p b h
+  process_line (Some (PID (pos n))) b h = number_line n (omega (arith, b))
+  process_line (Some (PID (negsuc n))) b h = (ascii 45 refl, number_line (suc n) (omega (arith, b)))
+  process_line (Some (Name t)) b h = h.0
 
   tag_line : (app : Option Text) (process : Option (ProcId Text)) → IfSome process IsBoundedProcess
       → AllByRecursion Passes (text_list app) → AllByRecursion Passes (process_texts process)
       → Passes (tag_text app process)
   tag_line None process b h k = search ascii
   tag_line (Some a) None b h k = search (each_append test, ascii)
-  tag_line (Some a) (Some p) b h k = search (each_append test, ascii, procid_line) depth 12
+  tag_line (Some a) (Some p) b h k = search (each_append test, ascii, process_line (Some p) b k) depth 12
 
   timestamp_line : (stamp : Option OffsetTimestamp) → Passes (timestamp_text stamp)
   timestamp_line None = (ascii 45 refl, tt)
@@ -141,7 +126,7 @@ module _ (test : ℕ → Bool) (ascii : (c : ℕ) → is_ascii_print c ≡ true 
       → Passes (joined_elements es)
   joined_line [] h = tt
   joined_line (e ∷ es) h =
-      join_lines (element_text e) _ (element_line e (all_left Passes (element_texts e) _ h))
+      each_append test (element_text e) _ (element_line e (all_left Passes (element_texts e) _ h))
       (joined_line es (all_right Passes (element_texts e) _ h))
 
   elements_line : (es : List ElementValue) → AllByRecursion Passes (flat_map element_texts es)
@@ -152,7 +137,7 @@ module _ (test : ℕ → Bool) (ascii : (c : ℕ) → is_ascii_print c ≡ true 
   spaced_line : (es : List ElementValue) → AllByRecursion Passes (flat_map element_texts es)
       → Passes (spaced_elements es)
   spaced_line [] h = tt
-  spaced_line (e ∷ es) h = join_lines (joined_elements (e ∷ es)) (32 ∷ []) (joined_line (e ∷ es) h) (ascii 32 refl, tt)
+  spaced_line (e ∷ es) h = each_append test (joined_elements (e ∷ es)) (32 ∷ []) (joined_line (e ∷ es) h) (ascii 32 refl, tt)
 
   -- ---- printed texts
   record AreLines (m : MessageValue) : Type 0 where

@@ -1,6 +1,6 @@
 -- What the reading calls answer.
-use Rattle.std.proofs.Common.{◌≡◌, ◌≢◌, ◌↔◌, inl, inr, ℕ, ℤ, List, Bool, true, Option, Some, None}
-use Rattle.std.proofs.Common.{Result, Ok, Err, w32, SFits, to_z, of_z, refl, sym, ap, subst, ◌∙◌}
+use Rattle.std.proofs.Common.{◌≡◌, ◌≢◌, ◌↔◌, inl, inr, ℕ, ℤ, List, Bool, true, Option, Some, None, Result, Ok, Err, w32}
+use Rattle.std.proofs.Common.{SFits, to_z, of_z, refl, sym, ap, subst, ◌∙◌}
 use Rattle.std.proofs.lemmas.Int.{to_z-of_z}
 use Rattle.std.specs.Prelude.{IsOk, IfOk, IsTrue, MatchOption, IsSomeAnd}
 use Rattle.std.specs.declared.alloc.AllocError.{AllocError}
@@ -11,9 +11,8 @@ use Rattle.syslog_pieces.specs.Pieces.View.{shown}
 use Rattle.syslog_pieces.specs.Timestamp.Zone.{Dating, dating_of}
 use Rattle.syslog_pieces.specs.declared.timestamp.month_date.MonthDate.{MonthDate}
 use Rattle.syslog_loose.specs.Message.{MessageValue, message_value}
-use Rattle.syslog_loose.specs.Reading.{dash_rule, IsRead, IsOnlyRead, IsUnreadable, IsQuoted, IsFault}
-use Rattle.syslog_loose.specs.Reading.{Answers, IncompleteDate}
-use Rattle.syslog_loose.specs.Reading.{incomplete, AsksYear, IsLeftTo3164, IsYearAnswered, InYear}
+use Rattle.syslog_loose.specs.Reading.{dash_rule, IsRead, IsOnlyRead, IsUnreadable, IsQuoted, IsFault, Answers}
+use Rattle.syslog_loose.specs.Reading.{IncompleteDate, incomplete, AsksYear, IsLeftTo3164, IsYearAnswered, InYear}
 use Rattle.syslog_loose.specs.Rfc5424.{IsRead5424, NeedsNoMemory5424}
 use Rattle.syslog_loose.specs.declared.message.Message.{Message}
 use Rattle.syslog_loose.specs.declared.fault.ParseFault.{ParseFault}

@@ -1,6 +1,5 @@
 -- What trimming leaves of a text: all of it but white space at its end.
-use Rattle.std.proofs.Common.{◌≡◌, ℕ, ◌<◌, inl, inr, Bool, true, false, cond, not, ◌&&◌, nat_eq, Option, Some}
-use Rattle.std.proofs.Common.{None}
+use Rattle.std.proofs.Common.{◌≡◌, ℕ, ◌<◌, inl, inr, Bool, true, false, cond, not, ◌&&◌, nat_eq, Option, Some, None}
 use Rattle.std.proofs.Common.{List, [], ◌∷◌, ◌++◌, length, refl, sym, ap, subst, ◌∙◌, arith, append_assoc, append-nil}
 use Rattle.std.specs.List.{flat_map}
 use Rattle.std.proofs.lemmas.Bool.Decides.{nat_tests}
@@ -10,7 +9,6 @@ use Rattle.syslog_pieces.specs.Pieces.Class.{Text, Class, Values, Front, Row, Ea
 use Rattle.syslog_pieces.specs.Pieces.Format.{Format, classes, printed_row}
 use Rattle.syslog_pieces.specs.StructuredData.Element.{ElementValue, param_text, element_text, joined_elements}
 use Rattle.syslog_pieces.specs.StructuredData.Element.{elements_text}
-use Rattle.syslog_pieces.specs.Timestamp.Printed.{printed_stamp}
 use Rattle.syslog_pieces.specs.declared.timestamp.OffsetTimestamp.{OffsetTimestamp}
 use Rattle.syslog_pieces.proofs.PieceLemmas.Class.{row_head, rest_whole}
 use Rattle.syslog_pieces.proofs.PieceLemmas.Rows.{row_pieces}

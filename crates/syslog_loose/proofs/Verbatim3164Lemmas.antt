@@ -1,7 +1,6 @@
 -- Lines of RFC 3164 that print as they are written but for their timestamp, put together from their pieces.
-use Rattle.std.proofs.Common.{◌≡◌, ◌≢◌, ℕ, ℤ, ◌<◌, Bool, true, false, not, nat_eq, List, [], ◌∷◌, ◌++◌, length}
-use Rattle.std.proofs.Common.{Option, Some, None}
-use Rattle.std.proofs.Common.{IfSome, inl, inr, refl, sym, ap, ap₂, subst, ◌∙◌, append_assoc}
+use Rattle.std.proofs.Common.{◌≡◌, ◌≢◌, ℕ, ℤ, ◌<◌, Bool, true, false, not, nat_eq, List, [], ◌∷◌, ◌++◌, length, Option}
+use Rattle.std.proofs.Common.{Some, None, IfSome, inl, inr, refl, sym, ap, ap₂, subst, ◌∙◌, append_assoc}
 use Rattle.std.proofs.lemmas.List.{append_cancel_right}
 use Rattle.std.proofs.lemmas.Str.{encodes-append, encodes-chars}
 use Rattle.std.specs.Char.{encode_utf8, is_ascii_digit}
@@ -11,8 +10,7 @@ use Rattle.std.specs.Str.{chars, IsUtf8, encode_utf8_all}
 use Rattle.syslog_pieces.specs.Bodies.Verbatim.{VerbatimDigits}
 use Rattle.syslog_pieces.specs.Bodies.VerbatimStamp.{zone_text, IsVerbatimStamp}
 use Rattle.syslog_pieces.specs.Bodies.Scan.{SplitsRun}
-use Rattle.syslog_pieces.specs.Pieces.Class.{Text, Values, Front, Row, Each, Ends}
-use Rattle.syslog_pieces.specs.Pieces.Class.{run, some_run, exactly}
+use Rattle.syslog_pieces.specs.Pieces.Class.{Text, Values, Front, Row, Each, run, some_run, exactly}
 use Rattle.syslog_pieces.specs.Pieces.Verbatim.{Verbatim}
 use Rattle.syslog_pieces.specs.Pri.{priority, priority_text}
 use Rattle.syslog_pieces.specs.ProcId.{NamesProcess, procid_text, IsBoundedProcess}
@@ -31,26 +29,25 @@ use Rattle.syslog_pieces.proofs.TimestampLemmas.Printing.{printed_stamp-bytes}
 use Rattle.syslog_loose.proofs.Rfc5424Lemmas.ReadBack.{stamp_canonical}
 use Rattle.syslog_loose.proofs.ExceptionLemmas.{dash_bytes}
 use Rattle.syslog_loose.specs.TagForm.{form_row, IsNoForm}
-use Rattle.syslog_pieces.proofs.PieceLemmas.Class.{both_values, division_front}
-use Rattle.syslog_pieces.proofs.PieceLemmas.Each.{each_behind}
+use Rattle.syslog_pieces.proofs.PieceLemmas.Class.{both_values, division_front, rest_front, rows_join, front_division}
+use Rattle.syslog_pieces.proofs.PieceLemmas.Class.{optional_some, optional_none}
+use Rattle.syslog_pieces.proofs.PieceLemmas.Each.{each_behind, each_map, each_left}
 use Rattle.syslog_pieces.proofs.PieceLemmas.Lists.{begins}
-use Rattle.syslog_pieces.proofs.PieceLemmas.Rows.{row_pieces}
+use Rattle.syslog_pieces.proofs.PieceLemmas.Rows.{row_pieces, row_of, ◌then◌}
 use Rattle.syslog_pieces.specs.declared.timestamp.month_date.MonthDate.{MonthDate}
-use Rattle.syslog_pieces.proofs.PieceLemmas.Class.{rest_front, rows_join}
-use Rattle.syslog_pieces.proofs.PieceLemmas.Class.{front_division, optional_some, optional_none}
 use Rattle.syslog_pieces.proofs.PieceLemmas.Verbatim.{front_of}
 use Rattle.syslog_pieces.proofs.PieceLemmas.Steps.{piece_front}
 use Rattle.syslog_pieces.proofs.StructuredDataLemmas.Rfc3164List.{begins_no_list}
 use Rattle.syslog_pieces.proofs.TextLemmas.Chars.{chars_nonempty}
 use Rattle.syslog_pieces.proofs.TextLemmas.ReadBack.{host_canonical}
 use Rattle.syslog_loose.specs.Canonical.{is_process_char, IsBracketedProcess, AreCanonicalNames}
-use Rattle.syslog_loose.specs.Verbatim3164.{VerbatimProgram, VerbatimNames}
-use Rattle.syslog_loose.specs.Verbatim3164.{VerbatimBehind, ShowsDated, PrintsVerbatim3164, PrintsStamped, PrintsAs3164}
+use Rattle.syslog_loose.specs.Verbatim3164.{VerbatimProgram, VerbatimNames, VerbatimBehind, ShowsDated}
+use Rattle.syslog_loose.specs.Verbatim3164.{PrintsVerbatim3164, PrintsStamped, PrintsAs3164}
 use Rattle.syslog_loose.specs.Message.{MessageValue}
 use Rattle.syslog_loose.specs.Printed.{timestamp_text, printed_3164}
 use Rattle.syslog_loose.specs.ReadBack.{ReadsProtocol}
-use Rattle.syslog_loose.specs.Reading.{dash_rule, IsRead, AsksYear, IncompleteDate}
-use Rattle.syslog_loose.specs.Reading.{incomplete, HasMonth, IsYearAnswered}
+use Rattle.syslog_loose.specs.Reading.{dash_rule, IsRead, AsksYear, IncompleteDate, incomplete, HasMonth}
+use Rattle.syslog_loose.specs.Reading.{IsYearAnswered}
 use Rattle.syslog_loose.specs.Rfc3164.{names, stamped_row, body_row, rfc3164_row, IsRead3164}
 use Rattle.syslog_loose.specs.declared.message.Protocol.TheVariants as protocol
 use Rattle.syslog_loose.specs.declared.variant.Variant.{Variant}
@@ -59,11 +56,8 @@ use Rattle.syslog_loose.proofs.VerbatimLineLemmas.{composes, stamp_prints, zone_
 use Rattle.syslog_loose.proofs.ReadingLemmas.{answered_to}
 use Rattle.syslog_loose.proofs.Rfc3164Lemmas.Apart.{not_both}
 use Rattle.syslog_loose.proofs.Rfc3164Lemmas.Exceptions.{no_dash_host, no_colon_host, no_colon_names}
-use Rattle.syslog_pieces.proofs.PieceLemmas.Each.{each_map, each_left}
-use Rattle.syslog_pieces.proofs.PieceLemmas.Rows.{row_of, ◌then◌}
 use Rattle.syslog_loose.proofs.Rfc3164Lemmas.Near.{read_near}
-use Rattle.syslog_loose.proofs.Rfc3164Lemmas.ReadBack.{digit_inside, program_field, names_back}
-use Rattle.syslog_loose.proofs.Rfc3164Lemmas.ReadBack.{resolved}
+use Rattle.syslog_loose.proofs.Rfc3164Lemmas.ReadBack.{digit_inside, program_field, names_back, resolved}
 use Rattle.syslog_loose.proofs.Rfc3164Lemmas.Reading.{is_read}
 use Rattle.syslog_loose.proofs.Rfc3164Lemmas.Unique.{told}
 use Rattle.syslog_loose.proofs.Rfc3164Lemmas.Whole.{printed_whole}

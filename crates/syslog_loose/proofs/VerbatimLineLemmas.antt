@@ -1,6 +1,6 @@
 -- Lines that print as they are written, put together from their pieces.
-use Rattle.std.proofs.Common.{◌≡◌, ◌≢◌, ℕ, ◌+◌, ◌*◌, ◌<◌, List, [], ◌∷◌, ◌++◌, Bool, true, false, Option, None, Some}
-use Rattle.std.proofs.Common.{Result, Ok, Err, IfSome, inl, refl, sym, ap, ap₂, subst, ◌∙◌, append_assoc, append-nil}
+use Rattle.std.proofs.Common.{◌≡◌, ◌≢◌, ℕ, ◌<◌, List, [], ◌∷◌, ◌++◌, Bool, true, false, Option, None, Some}
+use Rattle.std.proofs.Common.{Result, Ok, Err, IfSome, refl, sym, ap, ap₂, subst, ◌∙◌, append_assoc, append-nil}
 use Rattle.std.proofs.lemmas.List.{append_cancel_right}
 use Rattle.std.proofs.lemmas.Str.{encodes-append, encodes-chars}
 use Rattle.std.specs.Borrow.{Bor}
@@ -15,17 +15,14 @@ use Rattle.syslog_pieces.specs.Pieces.Class.{Text, Class, run, some_run}
 use Rattle.syslog_pieces.specs.Pieces.Format.{Format, classes, printed_row}
 use Rattle.syslog_pieces.specs.Pieces.Verbatim.{Verbatim}
 use Rattle.syslog_pieces.specs.Pieces.View.{seen}
-use Rattle.syslog_pieces.specs.Pri.{priority, priority_text, facility_number, severity_number}
+use Rattle.syslog_pieces.specs.Pri.{priority, priority_text}
 use Rattle.syslog_pieces.specs.Text.{is_blank, dash}
 use Rattle.syslog_pieces.specs.Timestamp.{header_stamp}
 use Rattle.syslog_pieces.specs.Timestamp.Printed.{printed_stamp}
 use Rattle.syslog_pieces.specs.Timestamp.Zone.{Dating}
 use Rattle.syslog_pieces.specs.declared.timestamp.month_date.MonthDate.{MonthDate}
-use Rattle.syslog_pieces.specs.declared.pri.SyslogFacility.{SyslogFacility}
-use Rattle.syslog_pieces.specs.declared.pri.SyslogSeverity.{SyslogSeverity}
 use Rattle.syslog_pieces.specs.declared.text.verbatim.Cut.{Cut}
 use Rattle.syslog_pieces.specs.declared.timestamp.OffsetTimestamp.{OffsetTimestamp}
-use Rattle.std.specs.Option.{option_map_or}
 use Rattle.syslog_pieces.proofs.PieceLemmas.Class.{both_values, optional_some, row_cons, row_nil, rows_join}
 use Rattle.syslog_pieces.proofs.PieceLemmas.Formats.{printed_more}
 use Rattle.syslog_pieces.proofs.PieceLemmas.Verbatim.{front_of, verbatim_by_text}

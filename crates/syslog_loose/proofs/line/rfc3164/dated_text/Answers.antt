@@ -1,7 +1,4 @@
-use Rattle.std.proofs.Common.{◌++◌, Some, List, ℕ, string_bytes, refl, ap, ◌∙◌}
-use Rattle.std.specs.Str.{chars}
-use Rattle.syslog_pieces.specs.Text.{trimmed}
-use Rattle.syslog_pieces.specs.Timestamp.Zone.{dating_value}
+use Rattle.std.proofs.Common.{◌++◌, Some, List, ℕ, refl, ap, ◌∙◌}
 use Rattle.syslog_loose.specs.Printed.{timestamp_text}
 use Rattle.syslog_loose.proofs.Verbatim3164Lemmas.{readable, freely, rfc3164_bytes, dated_verbatim, stamp_bytes}
 use Rattle.syslog_loose.proofs.line.rfc3164.dated_text.Goals as goal

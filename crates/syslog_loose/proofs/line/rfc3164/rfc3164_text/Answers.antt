@@ -1,5 +1,5 @@
 use Rattle.std.proofs.Common.{rules, ◌≡◌, ◌++◌, ◌∷◌, string_bytes, ◌∙◌}
-use Rattle.std.specs.Str.{chars, encode_utf8_all}
+use Rattle.std.specs.Str.{encode_utf8_all}
 use Rattle.syslog_pieces.specs.Bodies.VerbatimStamp.{zone_text}
 use Rattle.syslog_pieces.specs.Timestamp.Zone.{dating_value}
 use Rattle.syslog_loose.specs.Printed.{timestamp_text}
