@@ -45,21 +45,13 @@ Starts t = BeginsNone t → ⊥
 
 -- a character that begins anything may stand before any character
 one_given : (a b e : Bool) → nat_eq (bit_and 1 (cond a (1 + (cond b 2 0 + cond e 4 0)) 7)) 0 ≡ false
-one_given true true true = refl
-one_given true true false = refl
-one_given true false true = refl
-one_given true false false = refl
-one_given false b e = refl
+one_given a b e = grind arith
 
 digit_given : (a e : Bool) → nat_eq (bit_and 2 (cond a (1 + (2 + cond e 4 0)) 7)) 0 ≡ false
-digit_given true true = refl
-digit_given true false = refl
-digit_given false e = refl
+digit_given a e = grind arith
 
 letter_given : (a b : Bool) → nat_eq (bit_and 4 (cond a (1 + (cond b 2 0 + 4)) 7)) 0 ≡ false
-letter_given true true = refl
-letter_given true false = refl
-letter_given false b = refl
+letter_given a b = grind arith
 
 open_wants : (c : ℕ) → is_open c ≡ true → wanted c ≡ 1
 open_wants c h = rw h refl
@@ -194,10 +186,7 @@ second_at b l = eqb-true _ _ (agree_below_at (λ k. nat_eq (get_or SECOND k 0) (
 
 nothing_wanted : (a b e : Bool) → nat_eq (bit_and (cond a 1 (cond b 4 (cond e 2 0))) 7) 0 ≡ true
     → ◌≡◌ {A = ℕ} (cond a 1 (cond b 4 (cond e 2 0))) 0
-nothing_wanted true b e h = cc
-nothing_wanted false true e h = cc
-nothing_wanted false false true h = cc
-nothing_wanted false false false h = refl
+nothing_wanted a b e h = grind arith
 
 nothing_starts : (c : ℕ) (cs : Text) → wanted c ≡ 0 → BeginsNone (c ∷ cs)
 nothing_starts c [] e = rw e refl

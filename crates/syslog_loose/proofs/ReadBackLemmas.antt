@@ -32,39 +32,29 @@ use Rattle.syslog_loose.proofs.Rfc3164Lemmas.Printed.{printed_is, printed_apart}
 use Rattle.syslog_loose.proofs.Rfc3164Lemmas.Again as as_rfc3164
 use Rattle.syslog_loose.proofs.Rfc5424Lemmas.ReadBack as rfc5424
 
-no_protocol : (version : ℕ) → protocol.RFC3164 ≡ protocol.RFC5424 version → ⊥
-no_protocol version e = cc
-
 module _ (dating : Dating) (m : MessageValue) (b : IsBounded m) where
-  of_5424 : (version : ℕ) → m.protocol ≡ protocol.RFC5424 version → IsRead5424 (printed m) m ↔ IsCanonical dash_rule m
-  of_5424 version e = (rfc5424.read_is_canonical dash_rule version m e, rfc5424.canonical_read dash_rule version m e b)
-
-  either_5424 : (version : ℕ) → m.protocol ≡ protocol.RFC5424 version → IsRead Either dating (printed m) m
-      → IsCanonical dash_rule m
-  either_5424 version e (inl r) = (of_5424 version e).0 r
-  either_5424 version e (inr (n, r)) =
-      absurd (no_protocol version (sym (read_near dash_rule dating (printed m) m r).protocol ∙ e))
-
-  either_3164 : m.protocol ≡ protocol.RFC3164 → IsRead Either dating (printed m) m → IsCanonical dash_rule m
-  either_3164 e (inl r) = absurd (no_protocol r.values.1.0 (sym e ∙ ap (λ (x : MessageValue). x.protocol) r.means))
-  either_3164 e (inr (n, r)) = (rfc3164_exact dash_rule dating m e b).0 r
+  -- by whichever protocol, only a canonical message's printed text is read as the message
+  read_is_canonical : (variant : Variant) → IsRead variant dating (printed m) m → IsCanonical dash_rule m
+  read_is_canonical variant r = elim (read_as variant dating (printed m) m r) [
+    | inl s ↦ rfc5424.read_is_canonical dash_rule s.values.1.0 m (ap (λ (x : MessageValue). x.protocol) s.means) s
+    | inr s ↦ (rfc3164_exact dash_rule dating m (read_near dash_rule dating (printed m) m s).protocol b).0 s
+  ]
 
   no_5424 : m.protocol ≡ protocol.RFC3164 → IsNot5424 (printed m)
   no_5424 e = subst IsNot5424 (sym (printed_is m e)) (printed_apart m)
 
-  by_protocol : (variant : Variant) (p : Protocol) → m.protocol ≡ p → ReadsProtocol variant p
-      → IsRead variant dating (printed m) m ↔ IsCanonical dash_rule m
-  by_protocol Either protocol.RFC3164 e h =
-      (either_3164 e, λ c. inr (no_5424 e, (rfc3164_exact dash_rule dating m e b).1 c))
-  by_protocol Either (protocol.RFC5424 version) e h = (either_5424 version e, λ c. inl ((of_5424 version e).1 c))
-  by_protocol RFC3164 protocol.RFC3164 e h = rfc3164_exact dash_rule dating m e b
-  by_protocol RFC3164 (protocol.RFC5424 version) e h = absurd h
-  by_protocol RFC5424 protocol.RFC3164 e h = absurd h
-  by_protocol RFC5424 (protocol.RFC5424 version) e h = of_5424 version e
+  canonical_is_read : (variant : Variant) (p : Protocol) → m.protocol ≡ p → ReadsProtocol variant p
+      → IsCanonical dash_rule m → IsRead variant dating (printed m) m
+  canonical_is_read Either protocol.RFC3164 e h c = inr (no_5424 e, (rfc3164_exact dash_rule dating m e b).1 c)
+  canonical_is_read Either (protocol.RFC5424 version) e h c = inl (rfc5424.canonical_read dash_rule version m e b c)
+  canonical_is_read RFC3164 protocol.RFC3164 e h c = (rfc3164_exact dash_rule dating m e b).1 c
+  canonical_is_read RFC3164 (protocol.RFC5424 version) e h c = absurd h
+  canonical_is_read RFC5424 protocol.RFC3164 e h c = absurd h
+  canonical_is_read RFC5424 (protocol.RFC5424 version) e h c = rfc5424.canonical_read dash_rule version m e b c
 
   pub printed_exact : (variant : Variant) → ReadsProtocol variant m.protocol → IsRead variant dating (printed m) m
       ↔ IsCanonical dash_rule m
-  printed_exact variant h = by_protocol variant m.protocol refl h
+  printed_exact variant h = (read_is_canonical variant, canonical_is_read variant m.protocol refl h)
 
   -- so the one message as which the printed text is read is the message itself exactly where that is canonical
   pub only_read_exact : (variant : Variant) (n : MessageValue) → ReadsProtocol variant m.protocol
