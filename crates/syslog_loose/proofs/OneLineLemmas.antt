@@ -3,7 +3,7 @@ use Rattle.std.proofs.Common.{◌≡◌, ℕ, suc, zero, pos, negsuc, ◌<◌, �
 use Rattle.std.proofs.Common.{nat_le, nat_lt, ◌&&◌, cond, List, [], ◌∷◌, ◌++◌, length, Option, Some, None, IfSome, refl}
 use Rattle.std.proofs.Common.{sym, ap, subst, arith}
 use Rattle.std.proofs.Math.Utf8.{scalar, scalars, low_scalar}
-use Rattle.std.proofs.lemmas.Bool.{and_from, and_parts}
+use Rattle.std.proofs.lemmas.Bool.{and_from, and_parts, cond_both}
 use Rattle.std.proofs.lemmas.Bool.Decides.{nat_tests}
 use Rattle.std.specs.Char.{is_ascii_digit, is_whitespace}
 use Rattle.std.specs.Fmt.{decimal}
@@ -42,10 +42,7 @@ use Rattle.syslog_loose.proofs.Rfc3164Lemmas.Near.{read_near}
 use Rattle.syslog_loose.proofs.Rfc3164Lemmas.Printed as rfc3164
 use Rattle.syslog_loose.proofs.Rfc3164Lemmas.Quoting.{quotes}
 use Rattle.syslog_loose.proofs.Rfc5424Lemmas as strict
-use Rattle.syslog_loose.proofs.Rfc5424Lemmas.ReadBack.{read_completed, printed_is, fields, values_of}
-use Rattle.syslog_pieces.proofs.PieceLemmas.Class.{◌also◌}
-use Rattle.syslog_pieces.proofs.PieceLemmas.Formats.{EachPrints, row_passes}
-use Rattle.syslog_pieces.specs.Pieces.Format.{printed_row}
+use Rattle.syslog_loose.proofs.Rfc5424Lemmas.ReadBack.{read_completed, printed_is}
 
 -- the characters of printable ASCII
 abbrev pub is_ascii_print : ℕ → Bool
@@ -60,36 +57,26 @@ module _ (test : ℕ → Bool) (ascii : (c : ℕ) → is_ascii_print c ≡ true 
   abbrev Passes : Text → Type 0
   Passes text = Each test text
 
-  digits_pass : (t : Text) → Each is_ascii_digit t → Passes t
-  digits_pass =
-      each_map is_ascii_digit test (λ c h. let r = digit_range c h in ascii c (in_print c (omega arith) (omega arith)))
-
   stamp_passes : (t : Text) → All IsStampCharacter t → Passes t
   stamp_passes [] h = tt
-  stamp_passes (c ∷ t) h = (
-    let r = h zero c (omega arith) in ascii c (in_print c (omega (arith, r.0)) (omega (arith, r.1))),
-    stamp_passes t (λ k d l. h (suc k) d (omega arith)),
-  )
+  stamp_passes (c ∷ t) h = let r = h zero c (omega arith) in
+      (ascii c (in_print c (omega (arith, r.0)) (omega (arith, r.1))), stamp_passes t (λ k d l. h (suc k) d (omega arith)))
 
   number_line : (n : ℕ) → n < 2 ^ 64 → Passes (decimal n)
-  number_line n h = digits_pass (decimal n) (decimal_digits n h).1
-
-  join_lines : (p q : Text) → Passes p → Passes q → Passes (p ++ q)
-  join_lines = each_append test
-
-  cond_line : (b : Bool) (xs ys : Text) → Passes xs → Passes ys → Passes (cond b xs ys)
-  cond_line true xs ys h k = h
-  cond_line false xs ys h k = k
+  number_line n h =
+      each_map is_ascii_digit test (λ c d. let r = digit_range c d in ascii c (in_print c (omega arith) (omega arith)))
+      (decimal n) (decimal_digits n h).1
 
   skip_line : (t : Text) → Passes t → Passes (skip_leading_whitespace t)
   skip_line [] h = h
-  skip_line (c ∷ t) h = cond_line (is_whitespace c) (skip_leading_whitespace t) (c ∷ t) (skip_line t h.1) h
+  skip_line (c ∷ t) h =
+      cond_both (is_whitespace c) (skip_leading_whitespace t) (c ∷ t) Passes (λ _. skip_line t h.1) (λ _. h)
 
   drop_line : (t : Text) → Passes t → Passes (drop_trailing_whitespace t)
   drop_line [] h = h
   drop_line (c ∷ t) h =
-      cond_line (is_whitespace c && nat_eq (length (drop_trailing_whitespace t)) 0) []
-      (c ∷ drop_trailing_whitespace t) tt (h.0, drop_line t h.1)
+      cond_both (is_whitespace c && nat_eq (length (drop_trailing_whitespace t)) 0) []
+      (c ∷ drop_trailing_whitespace t) Passes (λ _. tt) (λ _. (h.0, drop_line t h.1))
 
   part_line : (p t : Text) → Passes p → IsPart p t → Passes t
   part_line p t h (before, after, e) =
@@ -108,25 +95,19 @@ module _ (test : ℕ → Bool) (ascii : (c : ℕ) → is_ascii_print c ≡ true 
   name_line None h = (ascii 45 refl, tt)
   name_line (Some t) h = h.0
 
-  procid_line : (process : ProcId Text) → IsBoundedProcess process
-      → AllByRecursion Passes (process_texts (Some process)) → Passes (procid_text process)
-  procid_line (PID (pos n)) b h = number_line n (omega (arith, b))
-  procid_line (PID (negsuc n)) b h = (ascii 45 refl, number_line (suc n) (omega (arith, b)))
-  procid_line (Name t) b h = h.0
-
   process_line : (process : Option (ProcId Text)) → IfSome process IsBoundedProcess
       → AllByRecursion Passes (process_texts process) → Passes (process_text process)
   process_line None b h = (ascii 45 refl, tt)
-  process_line (Some p) b h = procid_line p b h
+  process_line (Some (PID (pos n))) b h = number_line n (omega (arith, b))
+  process_line (Some (PID (negsuc n))) b h = (ascii 45 refl, number_line (suc n) (omega (arith, b)))
+  process_line (Some (Name t)) b h = h.0
 
   tag_line : (app : Option Text) (process : Option (ProcId Text)) → IfSome process IsBoundedProcess
       → AllByRecursion Passes (text_list app) → AllByRecursion Passes (process_texts process)
       → Passes (tag_text app process)
-  tag_line None process b h k = (ascii 58 refl, (ascii 32 refl, tt))
-  tag_line (Some a) None b h k = join_lines a (58 ∷ 32 ∷ []) h.0 (ascii 58 refl, (ascii 32 refl, tt))
-  tag_line (Some a) (Some p) b h k =
-      let end : Passes (93 ∷ 58 ∷ 32 ∷ []) = (ascii 93 refl, (ascii 58 refl, (ascii 32 refl, tt))) in
-      join_lines a _ h.0 (ascii 91 refl, join_lines (procid_text p) _ (procid_line p b k) end)
+  tag_line None process b h k = search ascii
+  tag_line (Some a) None b h k = search (each_append test, ascii)
+  tag_line (Some a) (Some p) b h k = search (each_append test, ascii, process_line (Some p) b k) depth 12
 
   timestamp_line : (stamp : Option OffsetTimestamp) → Passes (timestamp_text stamp)
   timestamp_line None = (ascii 45 refl, tt)
@@ -136,20 +117,16 @@ module _ (test : ℕ → Bool) (ascii : (c : ℕ) → is_ascii_print c ≡ true 
   params_line : (ps : List (Text × Text)) → AllByRecursion Passes (flat_map (λ p. p.0 ∷ p.1 ∷ []) ps)
       → Passes (flat_map param_text ps)
   params_line [] h = tt
-  params_line (p ∷ ps) h =
-      let value : Passes (p.1 ++ (34 ∷ [])) = join_lines p.1 _ h.1.0 (ascii 34 refl, tt) in
-      join_lines (param_text p) _ (ascii 32 refl, join_lines p.0 _ h.0 (ascii 61 refl, (ascii 34 refl, value)))
-      (params_line ps h.1.1)
+  params_line (p ∷ ps) h = search (each_append test, ascii, params_line ps h.1.1) depth 12
 
   element_line : (e : ElementValue) → AllByRecursion Passes (element_texts e) → Passes (element_text e)
-  element_line e h =
-      (ascii 91 refl, join_lines e.id _ h.0 (join_lines _ (93 ∷ []) (params_line e.params h.1) (ascii 93 refl, tt)))
+  element_line e h = search (each_append test, ascii, params_line) depth 12
 
   joined_line : (es : List ElementValue) → AllByRecursion Passes (flat_map element_texts es)
       → Passes (joined_elements es)
   joined_line [] h = tt
   joined_line (e ∷ es) h =
-      join_lines (element_text e) _ (element_line e (all_left Passes (element_texts e) _ h))
+      each_append test (element_text e) _ (element_line e (all_left Passes (element_texts e) _ h))
       (joined_line es (all_right Passes (element_texts e) _ h))
 
   elements_line : (es : List ElementValue) → AllByRecursion Passes (flat_map element_texts es)
@@ -160,7 +137,7 @@ module _ (test : ℕ → Bool) (ascii : (c : ℕ) → is_ascii_print c ≡ true 
   spaced_line : (es : List ElementValue) → AllByRecursion Passes (flat_map element_texts es)
       → Passes (spaced_elements es)
   spaced_line [] h = tt
-  spaced_line (e ∷ es) h = join_lines (joined_elements (e ∷ es)) (32 ∷ []) (joined_line (e ∷ es) h) (ascii 32 refl, tt)
+  spaced_line (e ∷ es) h = each_append test (joined_elements (e ∷ es)) (32 ∷ []) (joined_line (e ∷ es) h) (ascii 32 refl, tt)
 
   -- ---- printed texts
   record AreLines (m : MessageValue) : Type 0 where
@@ -169,26 +146,10 @@ module _ (test : ℕ → Bool) (ascii : (c : ℕ) → is_ascii_print c ≡ true 
     process : AllByRecursion Passes (process_texts m.procid)
     id : AllByRecursion Passes (text_list m.msgid)
     elements : AllByRecursion Passes (flat_map element_texts m.structured_data)
-    msg : Passes m.msg
+    msg : AllByRecursion Passes (m.msg ∷ [])
 
   texts_lines : (m : MessageValue) → AllByRecursion Passes (message_texts m) → AreLines m
-  texts_lines m h =
-      let h1 = all_right Passes (text_list m.hostname) _ h in
-      let h2 = all_right Passes (text_list m.appname) _ h1 in
-      let h3 = all_right Passes (process_texts m.procid) _ h2 in
-      let h4 = all_right Passes (text_list m.msgid) _ h3 in
-      record {
-        host = all_left Passes (text_list m.hostname) _ h;
-        app = all_left Passes (text_list m.appname) _ h1;
-        process = all_left Passes (process_texts m.procid) _ h2;
-        id = all_left Passes (text_list m.msgid) _ h3;
-        elements = all_left Passes (flat_map element_texts m.structured_data) _ h4;
-        msg = (all_right Passes (flat_map element_texts m.structured_data) (m.msg ∷ []) h4).0;
-      }
-
-  -- a text, a space, and more
-  and_more : (p q : Text) → Passes p → Passes q → Passes (p ++ (32 ∷ q))
-  and_more p q h k = join_lines p (32 ∷ q) h (ascii 32 refl, k)
+  texts_lines m h = search (all_left Passes, all_right Passes) depth 8
 
   priority_line : (m : MessageValue) → Passes (decimal (priority_of m))
   priority_line m = let small = priority_small m in number_line (priority_of m) (omega arith)
@@ -196,37 +157,24 @@ module _ (test : ℕ → Bool) (ascii : (c : ℕ) → is_ascii_print c ≡ true 
   rfc3164_line : (m : MessageValue) → IfSome m.procid IsBoundedProcess → AreLines m → Passes (printed_3164 m)
   unfolding printed_3164
   rfc3164_line m b h =
-      let body : Passes (tag_text m.appname m.procid ++ (spaced_elements m.structured_data ++ m.msg)) =
-      join_lines _ _ (tag_line m.appname m.procid b h.app h.process)
-      (join_lines _ m.msg (spaced_line m.structured_data h.elements) h.msg) in (
-        ascii 60 refl,
-        join_lines _ _ (priority_line m) (
-          ascii 62 refl,
-          (
-            ascii 32 refl,
-            and_more _ _ (timestamp_line m.timestamp)
-                (and_more _ _ (name_line m.hostname h.host) body),
-          ),
-        ),
-      )
+      let stamp = timestamp_line m.timestamp in
+      let host = name_line m.hostname h.host in
+      let tag = tag_line m.appname m.procid b h.app h.process in
+      let elements = spaced_line m.structured_data h.elements in
+      search (each_append test, ascii, priority_line m) depth 20
 
   strict_line : (version : ℕ) (m : MessageValue) → version < 2 ^ 32 → IfSome m.procid IsBoundedProcess → AreLines m
       → Passes (printed_5424 version m)
   unfolding printed_5424
   strict_line version m v b h =
-      let space : Passes (32 ∷ []) = (ascii 32 refl, tt) in
-      let body : Text = elements_text m.structured_data ++ (32 ∷ m.msg) in
-      let header : EachPrints test fields (values_of version m) =
-      number_line version (omega arith) also space also timestamp_line m.timestamp also space
-      also name_line m.hostname h.host
-      also space also name_line m.appname h.app also space also process_line m.procid b h.process also space
-      also name_line m.msgid h.id also tt in
-      let end : Passes (32 ∷ body) =
-      (ascii 32 refl, and_more _ m.msg (elements_line m.structured_data h.elements) h.msg) in (
-        ascii 60 refl,
-        join_lines _ (62 ∷ printed_row fields (values_of version m) (32 ∷ body)) (priority_line m)
-            (ascii 62 refl, row_passes test fields (values_of version m) (32 ∷ body) header end),
-      )
+      let number = number_line version (omega arith) in
+      let stamp = timestamp_line m.timestamp in
+      let host = name_line m.hostname h.host in
+      let app = name_line m.appname h.app in
+      let process = process_line m.procid b h.process in
+      let id = name_line m.msgid h.id in
+      let elements = elements_line m.structured_data h.elements in
+      search (each_append test, ascii, priority_line m) depth 30
 
   -- ---- what is read
   rfc3164_printed : (dating : Dating) (text : Text) (m : MessageValue) → IsRead3164 dash_rule dating text m

@@ -15,7 +15,6 @@ use Rattle.syslog_loose.specs.Printed.{printed}
 use Rattle.syslog_loose.specs.ReadBack.{ReadsProtocol, AnswersItself, FieldsAsRead, IsFixed, AnswersAgain}
 use Rattle.syslog_loose.specs.Reading.{dash_rule, IsRead, IsOnlyRead, IsUnreadable, Answers}
 use Rattle.syslog_loose.specs.Reading.{IncompleteDate, AsksYear, IsYearAnswered, InYear}
-use Rattle.syslog_loose.specs.Rfc3164.{IsRead3164}
 use Rattle.syslog_loose.specs.Rfc5424.{IsRead5424, IsNot5424}
 use Rattle.syslog_loose.specs.Settling.{IsNext}
 use Rattle.syslog_loose.specs.declared.fault.ParseFault.{ParseFault}
@@ -24,6 +23,7 @@ use Rattle.syslog_loose.specs.declared.message.Protocol.{Protocol}
 use Rattle.syslog_loose.specs.declared.message.Protocol.TheVariants as protocol
 use Rattle.syslog_loose.specs.declared.variant.Variant.{Variant}
 use Rattle.syslog_loose.specs.declared.variant.Variant.TheVariants.{Either, RFC3164, RFC5424}
+use Rattle.syslog_loose.proofs.BoundLemmas.{read_as}
 use Rattle.syslog_loose.proofs.ReadingLemmas.{Found, value, only_read, any_year, in_answered_year, answers_in}
 use Rattle.syslog_loose.proofs.ReadingLemmas.{in_year_map}
 use Rattle.syslog_loose.proofs.Rfc3164Lemmas.Exact.{rfc3164_exact}
@@ -32,81 +32,55 @@ use Rattle.syslog_loose.proofs.Rfc3164Lemmas.Printed.{printed_is, printed_apart}
 use Rattle.syslog_loose.proofs.Rfc3164Lemmas.Again as as_rfc3164
 use Rattle.syslog_loose.proofs.Rfc5424Lemmas.ReadBack as rfc5424
 
-no_protocol : (version : ℕ) → protocol.RFC3164 ≡ protocol.RFC5424 version → ⊥
-no_protocol version e = cc
-
 module _ (dating : Dating) (m : MessageValue) (b : IsBounded m) where
-  of_5424 : (version : ℕ) → m.protocol ≡ protocol.RFC5424 version → IsRead5424 (printed m) m ↔ IsCanonical dash_rule m
-  of_5424 version e = (rfc5424.read_is_canonical dash_rule version m e, rfc5424.canonical_read dash_rule version m e b)
-
-  either_5424 : (version : ℕ) → m.protocol ≡ protocol.RFC5424 version → IsRead Either dating (printed m) m
-      → IsCanonical dash_rule m
-  either_5424 version e (inl r) = (of_5424 version e).0 r
-  either_5424 version e (inr (n, r)) =
-      absurd (no_protocol version (sym (read_near dash_rule dating (printed m) m r).protocol ∙ e))
-
-  either_3164 : m.protocol ≡ protocol.RFC3164 → IsRead Either dating (printed m) m → IsCanonical dash_rule m
-  either_3164 e (inl r) = absurd (no_protocol r.values.1.0 (sym e ∙ ap (λ (x : MessageValue). x.protocol) r.means))
-  either_3164 e (inr (n, r)) = (rfc3164_exact dash_rule dating m e b).0 r
+  -- by whichever protocol, only a canonical message's printed text is read as the message
+  read_is_canonical : (variant : Variant) → IsRead variant dating (printed m) m → IsCanonical dash_rule m
+  read_is_canonical variant r = elim (read_as variant dating (printed m) m r) [
+    | inl s ↦ rfc5424.read_is_canonical dash_rule s.values.1.0 m (ap (λ (x : MessageValue). x.protocol) s.means) s
+    | inr s ↦ (rfc3164_exact dash_rule dating m (read_near dash_rule dating (printed m) m s).protocol b).0 s
+  ]
 
   no_5424 : m.protocol ≡ protocol.RFC3164 → IsNot5424 (printed m)
-  no_5424 e = subst (λ (x : Text). IsNot5424 x) (sym (printed_is m e)) (printed_apart m)
+  no_5424 e = subst IsNot5424 (sym (printed_is m e)) (printed_apart m)
 
-  by_protocol : (variant : Variant) (p : Protocol) → m.protocol ≡ p → ReadsProtocol variant p
-      → IsRead variant dating (printed m) m ↔ IsCanonical dash_rule m
-  by_protocol Either protocol.RFC3164 e h =
-      (either_3164 e, λ c. inr (no_5424 e, (rfc3164_exact dash_rule dating m e b).1 c))
-  by_protocol Either (protocol.RFC5424 version) e h = (either_5424 version e, λ c. inl ((of_5424 version e).1 c))
-  by_protocol RFC3164 protocol.RFC3164 e h = rfc3164_exact dash_rule dating m e b
-  by_protocol RFC3164 (protocol.RFC5424 version) e h = absurd h
-  by_protocol RFC5424 protocol.RFC3164 e h = absurd h
-  by_protocol RFC5424 (protocol.RFC5424 version) e h = of_5424 version e
+  canonical_is_read : (variant : Variant) (p : Protocol) → m.protocol ≡ p → ReadsProtocol variant p
+      → IsCanonical dash_rule m → IsRead variant dating (printed m) m
+  canonical_is_read Either protocol.RFC3164 e h c = inr (no_5424 e, (rfc3164_exact dash_rule dating m e b).1 c)
+  canonical_is_read Either (protocol.RFC5424 version) e h c = inl (rfc5424.canonical_read dash_rule version m e b c)
+  canonical_is_read RFC3164 protocol.RFC3164 e h c = (rfc3164_exact dash_rule dating m e b).1 c
+  canonical_is_read RFC3164 (protocol.RFC5424 version) e h c = absurd h
+  canonical_is_read RFC5424 protocol.RFC3164 e h c = absurd h
+  canonical_is_read RFC5424 (protocol.RFC5424 version) e h c = rfc5424.canonical_read dash_rule version m e b c
 
   pub printed_exact : (variant : Variant) → ReadsProtocol variant m.protocol → IsRead variant dating (printed m) m
       ↔ IsCanonical dash_rule m
-  printed_exact variant h = by_protocol variant m.protocol refl h
+  printed_exact variant h = (read_is_canonical variant, canonical_is_read variant m.protocol refl h)
 
   -- so the one message as which the printed text is read is the message itself exactly where that is canonical
   pub only_read_exact : (variant : Variant) (n : MessageValue) → ReadsProtocol variant m.protocol
       → IsOnlyRead variant dating (printed m) n → (n ≡ m) ↔ IsCanonical dash_rule m
   only_read_exact variant n h r =
-      let exact = printed_exact variant h in (
-        (λ e. exact.0 (subst (λ (x : MessageValue). IsRead variant dating (printed m) x) e r.read)),
-        (λ c. sym (r.only m (exact.1 c))),
-      )
+      let exact = printed_exact variant h in ((λ e. exact.0 (rw e at r.read)), (λ c. sym (r.only m (exact.1 c))))
 
 -- ---- what the calls answer
 
 itself : (variant : Variant) (dating : Dating) (text : Text) (r : Result Found ParseFault)
     → Answers variant dating text r → AnswersItself variant text r
-itself variant dating text (Ok found) a m b h e n =
-    only_read_exact dating m b variant (value found) h
-    (subst (λ (x : Text). IsOnlyRead variant dating x (value found)) e a)
-itself variant dating text (Err Invalid) a m b h e n = (
-  λ no. absurd no,
-  λ c. absurd
-      (a m (subst (λ (x : Text). IsRead variant dating x m) (sym e) ((printed_exact dating m b variant h).1 c))),
-)
+itself variant dating text (Ok found) a m b h e n = only_read_exact dating m b variant (value found) h (rw e at a)
+itself variant dating text (Err Invalid) a m b h e n =
+    (λ no. absurd no, λ c. absurd (a m (rw e ((printed_exact dating m b variant h).1 c))))
 itself variant dating text (Err Memory) a m b h e n = absurd (n refl)
-
-strict_fields : (dating : Dating) (text : Text) (m : MessageValue) → IsRead5424 text m
-    → FieldsAsRead m.protocol dating text m
-strict_fields dating text m r =
-    subst (λ (p : Protocol). FieldsAsRead p dating text m) (sym (ap (λ (x : MessageValue). x.protocol) r.means))
-    (λ f. rfc5424.read_canonical dash_rule text m r f)
-
-rfc3164_fields : (dating : Dating) (text : Text) (m : MessageValue) → IsRead3164 dash_rule dating text m
-    → FieldsAsRead m.protocol dating text m
-rfc3164_fields dating text m r =
-    subst (λ (p : Protocol). FieldsAsRead p dating text m) (sym (read_near dash_rule dating text m r).protocol)
-    ((λ f. read_nearly dash_rule dating text m r f), stamp_read dash_rule dating text m r)
 
 pub fields : (variant : Variant) (dating : Dating) (text : Text) (m : MessageValue) → IsRead variant dating text m
     → FieldsAsRead m.protocol dating text m
-fields RFC5424 dating text m r = strict_fields dating text m r
-fields RFC3164 dating text m r = rfc3164_fields dating text m r
-fields Either dating text m (inl r) = strict_fields dating text m r
-fields Either dating text m (inr (n, r)) = rfc3164_fields dating text m r
+fields variant dating text m r =
+    let of = λ (p : Protocol). FieldsAsRead p dating text m in
+    elim (read_as variant dating text m r) [
+      | inl s ↦ subst of (sym (ap (λ (x : MessageValue). x.protocol) s.means))
+          (λ f. rfc5424.read_canonical dash_rule text m s f)
+      | inr s ↦ subst of (sym (read_near dash_rule dating text m s).protocol)
+          ((λ f. read_nearly dash_rule dating text m s f), stamp_read dash_rule dating text m s)
+    ]
 
 fields_answered : (variant : Variant) (dating : Dating) (text : Text)
     (r : Result Found ParseFault) → Answers variant dating text r
@@ -133,32 +107,23 @@ answered post variant text tz local r year is a =
       fields = in_year_map (λ y b. fields_answered variant (dating_of y tz local) text r b) reads;
     }
 
-strictly_read : (variant : Variant) (dating : Dating) (version : ℕ) (m n : MessageValue) (text : Text)
-    → m.protocol ≡ protocol.RFC5424 version → ReadsProtocol variant m.protocol → IsRead5424 text n
-    → IsRead variant dating text n
-strictly_read Either dating version m n text e h r = inl r
-strictly_read RFC5424 dating version m n text e h r = r
-strictly_read RFC3164 dating version m n text e h r = absurd (subst (λ (p : Protocol). ReadsProtocol RFC3164 p) e h)
+-- a message's printed text, where a canonical message of its protocol prints the same
+read_like : (variant : Variant) (dating : Dating) (m n : MessageValue) → IsBounded n → IsCanonical dash_rule n
+    → ReadsProtocol variant n.protocol → printed n ≡ printed m → IsRead variant dating (printed m) n
+read_like variant dating m n b c h same = rw same at ((printed_exact dating n b variant h).1 c)
 
 -- a fixed message's printed text is read as one that prints the same
 pub fixed_again : (variant : Variant) (dating : Dating) (m : MessageValue) → IsFixed m
     → ReadsProtocol variant m.protocol → (n : MessageValue) × IsRead variant dating (printed m) n
     × (printed n ≡ printed m)
-fixed_again variant dating m (inl (b, c)) h = (m, (printed_exact dating m b variant h).1 c, refl)
+fixed_again variant dating m (inl (b, c)) h = (m, read_like variant dating m m b c h refl, refl)
 fixed_again variant dating m (inr (inl (text, r))) h =
-    let (s, e) = rfc5424.read_again text m r in (
-      rfc5424.completed m,
-      strictly_read variant dating r.values.1.0 m (rfc5424.completed m) (printed m)
-          (ap (λ (x : MessageValue). x.protocol) r.means) h s,
-      e,
-    )
+    let (c, b) = rfc5424.read_completed dash_rule text m r in
+    let same = (rfc5424.read_again text m r).1 in
+    (rfc5424.completed m, read_like variant dating m (rfc5424.completed m) b c h same, same)
 fixed_again variant dating m (inr (inr (text, own, r, none))) h =
-    let (canonical, bounded, same) = as_rfc3164.read_again dash_rule own text m r none in (
-      rfc5424.completed m,
-      subst (λ (x : Text). IsRead variant dating x (rfc5424.completed m)) same
-          ((printed_exact dating (rfc5424.completed m) bounded variant h).1 canonical),
-      same,
-    )
+    let (c, b, same) = as_rfc3164.read_again dash_rule own text m r none in
+    (rfc5424.completed m, read_like variant dating m (rfc5424.completed m) b c h same, same)
 
 pub again : (variant : Variant) (dating : Dating) (bytes : List ℕ) → IsUtf8 bytes
     → (r : Result (String Global) ParseFault)
@@ -168,11 +133,10 @@ pub again : (variant : Variant) (dating : Dating) (bytes : List ℕ) → IsUtf8 
     → AnswersAgain variant (chars bytes) bytes r
 again variant dating bytes u (Ok text) (found, only, written) m k h e n =
     let (other, r, same) = fixed_again variant dating m k h in
-    let is : other ≡ found = only.only other (subst (λ (x : Text). IsRead variant dating x other) (sym e) r) in
+    let is : other ≡ found = only.only other (rw e r) in
     written ∙ ap encode_utf8_all (ap printed (sym is) ∙ same ∙ sym e) ∙ encodes-chars bytes u
 again variant dating bytes u (Err Invalid) told m k h e n =
-    let (other, r, same) = fixed_again variant dating m k h in
-    absurd (told.0 refl other (subst (λ (x : Text). IsRead variant dating x other) (sym e) r))
+    let (other, r, same) = fixed_again variant dating m k h in absurd (told.0 refl other (rw e r))
 again variant dating bytes u (Err Memory) told m k h e n = absurd (n refl)
 
 -- what `normalise` answers in the year that the closure answered

@@ -1,6 +1,6 @@
 -- What the reading calls answer.
-use Rattle.std.proofs.Common.{◌≡◌, ◌↔◌, inl, inr, ℕ, ℤ, List, Bool, true, Option, Some, None}
-use Rattle.std.proofs.Common.{Result, Ok, Err, w32, SFits, to_z, of_z, refl, sym, ap, subst, ◌∙◌}
+use Rattle.std.proofs.Common.{◌≡◌, ◌≢◌, ◌↔◌, inl, inr, ℕ, ℤ, List, Bool, true, Option, Some, None, Result, Ok, Err, w32}
+use Rattle.std.proofs.Common.{SFits, to_z, of_z, refl, sym, ap, subst, ◌∙◌}
 use Rattle.std.proofs.lemmas.Int.{to_z-of_z}
 use Rattle.std.specs.Prelude.{IsOk, IfOk, IsTrue, MatchOption, IsSomeAnd}
 use Rattle.std.specs.declared.alloc.AllocError.{AllocError}
@@ -11,10 +11,9 @@ use Rattle.syslog_pieces.specs.Pieces.View.{shown}
 use Rattle.syslog_pieces.specs.Timestamp.Zone.{Dating, dating_of}
 use Rattle.syslog_pieces.specs.declared.timestamp.month_date.MonthDate.{MonthDate}
 use Rattle.syslog_loose.specs.Message.{MessageValue, message_value}
-use Rattle.syslog_loose.specs.Reading.{dash_rule, IsRead, IsOnlyRead, IsUnreadable, IsQuoted, IsFault}
-use Rattle.syslog_loose.specs.Reading.{Answers, IncompleteDate}
-use Rattle.syslog_loose.specs.Reading.{incomplete, AsksYear, IsLeftTo3164, IsYearAnswered, InYear}
-use Rattle.syslog_loose.specs.Rfc5424.{IsRead5424, IsNot5424, NeedsNoMemory5424}
+use Rattle.syslog_loose.specs.Reading.{dash_rule, IsRead, IsOnlyRead, IsUnreadable, IsQuoted, IsFault, Answers}
+use Rattle.syslog_loose.specs.Reading.{IncompleteDate, incomplete, AsksYear, IsLeftTo3164, IsYearAnswered, InYear}
+use Rattle.syslog_loose.specs.Rfc5424.{IsRead5424, NeedsNoMemory5424}
 use Rattle.syslog_loose.specs.declared.message.Message.{Message}
 use Rattle.syslog_loose.specs.declared.fault.ParseFault.{ParseFault}
 use Rattle.syslog_loose.specs.declared.fault.ParseFault.TheVariants.{Invalid, Memory}
@@ -59,13 +58,12 @@ pub either_read : (dating : Dating) (text : Text) (m : MessageValue) → IsRead5
     → IsOnlyRead Either dating text m
 either_read dating text m r = only_read Either dating text m (inl r)
 
--- what RFC 3164 answers where there is no division of RFC 5424
-pub either_rfc3164 : (dating : Dating) (text : Text) (r : Result Found ParseFault) → IsNot5424 text
-    → Answers RFC3164 dating text r → Answers Either dating text r
-either_rfc3164 dating text (Ok m) none h = only_read Either dating text (value m) (inr (none, h.read))
-either_rfc3164 dating text (Err Invalid) none h =
-    λ m r. elim r [ inl s ↦ none s.values s.division | inr (also, s) ↦ h m s ]
-either_rfc3164 dating text (Err Memory) none h = λ needless. h (λ m s. needless m (inr (none, s)))
+-- a reading by RFC 5424 is one by each variant that reads it
+pub strictly : (variant : Variant) (dating : Dating) {text : Text} {m : MessageValue} → variant ≢ RFC3164
+    → IsRead5424 text m → IsRead variant dating text m
+strictly RFC3164 dating n r = absurd (n refl)
+strictly RFC5424 dating n r = r
+strictly Either dating n r = inl r
 
 -- memory was refused to RFC 5424
 pub either_refused : (dating : Dating) (text : Text) → (NeedsNoMemory5424 text → ⊥) → IsFault Either dating text Memory
@@ -77,12 +75,15 @@ pub left_answer : (variant : Variant) (dating : Dating) (text : Text) (r : Resul
     → Answers RFC3164 dating text r → Answers variant dating text r
 left_answer RFC5424 dating text r left h = absurd left
 left_answer RFC3164 dating text r left h = h
-left_answer Either dating text r left h = either_rfc3164 dating text r left h
+left_answer Either dating text (Ok m) none h = only_read Either dating text (value m) (inr (none, h.read))
+left_answer Either dating text (Err Invalid) none h =
+    λ m r. elim r [ inl s ↦ none s.values s.division | inr (also, s) ↦ h m s ]
+left_answer Either dating text (Err Memory) none h = λ needless. h (λ m s. needless m (inr (none, s)))
 
 -- what is said of a value that was found
 pub found_text : (P : Type 0) (r : Result Bool AllocError) (found : Bool) → r ≡ Ok found → found ≡ true
     → IfOk r (λ found. IsTrue found → P) → P
-found_text P r found e f h = subst (λ (x : Result Bool AllocError). IfOk x (λ found. IsTrue found → P)) e h f
+found_text P r found e f h = (rw e at h) f
 
 -- an `Err` is not `Ok`
 pub no_ok : {X : Type 0} (r : Result X AllocError) (e : AllocError) → r ≡ Err e → IsOk r → ⊥
@@ -155,8 +156,7 @@ pub answered_to : (post : IncompleteDate → ℤ → Type 0) (variant : Variant)
 answered_to post variant text None None h k = h
 answered_to post variant text None (Some y) h k = cc
 answered_to post variant text (Some d) None h k = absurd k
-answered_to post variant text (Some d) (Some y) (date, asks, e) k =
-    (date, asks, subst (λ (x : IncompleteDate). post x y) e k)
+answered_to post variant text (Some d) (Some y) (date, asks, e) k = (date, asks, rw e at k)
 
 -- what holds in each year that agrees holds in that year
 pub in_year_map : {post : IncompleteDate → ℤ → Type 0} {variant : Variant} {text : Text} {Holds More : Option ℤ

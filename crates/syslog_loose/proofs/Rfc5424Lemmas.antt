@@ -45,16 +45,12 @@ one_message text m n r s =
 
 -- ---- from the row of the trimmed text
 pub not_read : (text t : Text) → t ≡ trimmed text → NoFront (Row rfc5424_row) t → IsNot5424 text
-not_read text t e n = no_row_division rfc5424_row (subst (λ (x : Text). NoFront (Row rfc5424_row) x) e n)
+not_read text t e n = no_row_division rfc5424_row (rw e at n)
 
 pub is_read : (text t : Text) (vs : Values rfc5424_row) (m : MessageValue) → t ≡ trimmed text → m ≡ message_of vs
     → Front (Row rfc5424_row) t [] vs → IsRead5424 text m
 is_read text t vs m e f g =
-    record {
-      values = vs;
-      division = subst (λ (x : Text). Division rfc5424_row x vs) e (front_division rfc5424_row g);
-      means = f;
-    }
+    record { values = vs; division = rw e at (front_division rfc5424_row g); means = f }
 
 -- Behind a header and blanks, a list with elements gives a message with elements.
 pub list_needs_none : (text t u w : Text) (vs : Values header_row) → t ≡ trimmed text → NeedsNoMemory5424 text

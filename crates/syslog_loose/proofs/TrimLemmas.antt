@@ -1,6 +1,5 @@
 -- What trimming leaves of a text: all of it but white space at its end.
-use Rattle.std.proofs.Common.{◌≡◌, ℕ, ◌<◌, inl, inr, Bool, true, false, cond, not, ◌&&◌, nat_eq, Option, Some}
-use Rattle.std.proofs.Common.{None}
+use Rattle.std.proofs.Common.{◌≡◌, ℕ, ◌<◌, inl, inr, Bool, true, false, cond, not, ◌&&◌, nat_eq, Option, Some, None}
 use Rattle.std.proofs.Common.{List, [], ◌∷◌, ◌++◌, length, refl, sym, ap, subst, ◌∙◌, arith, append_assoc, append-nil}
 use Rattle.std.specs.List.{flat_map}
 use Rattle.std.proofs.lemmas.Bool.Decides.{nat_tests}
@@ -10,7 +9,6 @@ use Rattle.syslog_pieces.specs.Pieces.Class.{Text, Class, Values, Front, Row, Ea
 use Rattle.syslog_pieces.specs.Pieces.Format.{Format, classes, printed_row}
 use Rattle.syslog_pieces.specs.StructuredData.Element.{ElementValue, param_text, element_text, joined_elements}
 use Rattle.syslog_pieces.specs.StructuredData.Element.{elements_text}
-use Rattle.syslog_pieces.specs.Timestamp.Printed.{printed_stamp}
 use Rattle.syslog_pieces.specs.declared.timestamp.OffsetTimestamp.{OffsetTimestamp}
 use Rattle.syslog_pieces.proofs.PieceLemmas.Class.{row_head, rest_whole}
 use Rattle.syslog_pieces.proofs.PieceLemmas.Rows.{row_pieces}
@@ -59,9 +57,7 @@ drop_after [] ys h = absurd h
 drop_after (c ∷ []) ys h = drop_visible c ys h
 drop_after (c ∷ d ∷ cs) ys h =
     let r = drop_after (d ∷ cs) ys h in
-    let l : 0 < length (drop_trailing_whitespace ((d ∷ cs) ++ ys)) =
-    subst (λ (x : Text). 0 < length x) (sym r) (omega arith) in
-    drop_before c ((d ∷ cs) ++ ys) l ∙ ap (λ (x : Text). c ∷ x) r
+    drop_before c ((d ∷ cs) ++ ys) (rw r (omega arith)) ∙ ap (λ (x : Text). c ∷ x) r
 
 -- a text that ends visibly is kept whole
 pub drop_none : (xs : Text) → EndsVisibly xs → drop_trailing_whitespace xs ≡ xs
@@ -69,7 +65,7 @@ drop_none [] h = refl
 drop_none (c ∷ []) h = drop_visible c [] (h [] c refl)
 drop_none (c ∷ d ∷ xs) h =
     let r = drop_none (d ∷ xs) (λ front e w. h (c ∷ front) e (ap (λ (x : Text). c ∷ x) w)) in
-    drop_before c (d ∷ xs) (subst (λ (x : Text). 0 < length x) (sym r) (omega arith)) ∙ ap (λ (x : Text). c ∷ x) r
+    drop_before c (d ∷ xs) (rw r (omega arith)) ∙ ap (λ (x : Text). c ∷ x) r
 
 -- ---- what is left ends visibly
 ends_case : (t n : Bool) (d : ℕ) (ds : Text) → is_whitespace d ≡ t → nat_eq (length ds) 0 ≡ n → EndsVisibly ds
@@ -77,8 +73,7 @@ ends_case : (t n : Bool) (d : ℕ) (ds : Text) → is_whitespace d ≡ t → nat
 ends_case true true d ds a b h [] c e = cc
 ends_case true true d ds a b h (x ∷ front) c e = cc
 ends_case true false d ds a b h [] c e =
-    absurd (let z : ds ≡ [] = cc in let y : nat_eq (length ds) 0 ≡ true = ap
-    (λ (x : Text). nat_eq (length x) 0) z in let u : true ≡ false = sym y ∙ b in cc)
+    absurd (let z : ds ≡ [] = cc in let u : true ≡ false = rw z at b in cc)
 ends_case true false d ds a b h (x ∷ front) c e = h front c cc
 ends_case false n d ds a b h [] c e = let z : c ≡ d = cc in ap is_not_whitespace z ∙ ap not a
 ends_case false n d ds a b h (x ∷ front) c e = h front c cc
@@ -105,7 +100,7 @@ unfolding message_end
 message_end_is [] h = refl
 message_end_is (c ∷ cs) h =
     let r = drop_none (c ∷ cs) h in
-    drop_before 32 (c ∷ cs) (subst (λ (x : Text). 0 < length x) (sym r) (omega arith)) ∙ ap (λ (x : Text). 32 ∷ x) r
+    drop_before 32 (c ∷ cs) (rw r (omega arith)) ∙ ap (λ (x : Text). 32 ∷ x) r
 
 -- blanks and the message stand there
 pub message_blanks : (msg : Text) → Ends is_blank msg → Front (run is_blank) (message_end msg) msg tt
@@ -145,14 +140,12 @@ elements_last [] = refl
 elements_last (e ∷ es) = joined_last e es
 
 -- a printed timestamp, or `-`, begins with no blank
-stamp_some : (s : OffsetTimestamp) → 0 < length (printed_stamp s.instant.nanosecond s.offset.seconds)
-stamp_some s =
-    let (c, more, digit, first) = printed_stamp-begins s in
-    elim first [ inl e ↦ (let k = ap length e in omega arith) | inr e ↦ (let k = ap length e in omega arith) ]
-
 pub stamp_unblank : (v : Option OffsetTimestamp) (q : Text) → Ends is_blank (timestamp_text v ++ q)
 stamp_unblank None q = refl
-stamp_unblank (Some s) q = visible_ends_blanks (timestamp_text (Some s)) q (stamp_some s) (printed_stamp-visible s)
+stamp_unblank (Some s) q =
+    let (c, more, digit, first) = printed_stamp-begins s in
+    let some : 0 < length (timestamp_text (Some s)) = elim first [ inl e ↦ (rw e (omega arith)) | inr e ↦ (rw e (omega arith)) ] in
+    visible_ends_blanks (timestamp_text (Some s)) q some (printed_stamp-visible s)
 
 -- ---- the last piece of a row
 

@@ -1,7 +1,6 @@
 -- Lines of RFC 3164 that print as they are written but for their timestamp, put together from their pieces.
-use Rattle.std.proofs.Common.{◌≡◌, ◌≢◌, ℕ, ℤ, ◌<◌, Bool, true, false, not, nat_eq, List, [], ◌∷◌, ◌++◌, length}
-use Rattle.std.proofs.Common.{Option, Some, None}
-use Rattle.std.proofs.Common.{IfSome, inl, inr, refl, sym, ap, ap₂, subst, ◌∙◌, append_assoc}
+use Rattle.std.proofs.Common.{◌≡◌, ◌≢◌, ℕ, ℤ, ◌<◌, Bool, true, false, not, nat_eq, List, [], ◌∷◌, ◌++◌, length, Option}
+use Rattle.std.proofs.Common.{Some, None, IfSome, inl, inr, refl, sym, ap, ap₂, subst, ◌∙◌, append_assoc}
 use Rattle.std.proofs.lemmas.List.{append_cancel_right}
 use Rattle.std.proofs.lemmas.Str.{encodes-append, encodes-chars}
 use Rattle.std.specs.Char.{encode_utf8, is_ascii_digit}
@@ -11,8 +10,7 @@ use Rattle.std.specs.Str.{chars, IsUtf8, encode_utf8_all}
 use Rattle.syslog_pieces.specs.Bodies.Verbatim.{VerbatimDigits}
 use Rattle.syslog_pieces.specs.Bodies.VerbatimStamp.{zone_text, IsVerbatimStamp}
 use Rattle.syslog_pieces.specs.Bodies.Scan.{SplitsRun}
-use Rattle.syslog_pieces.specs.Pieces.Class.{Text, Values, Front, Row, Each, Ends}
-use Rattle.syslog_pieces.specs.Pieces.Class.{run, some_run, exactly}
+use Rattle.syslog_pieces.specs.Pieces.Class.{Text, Values, Front, Row, Each, run, some_run, exactly}
 use Rattle.syslog_pieces.specs.Pieces.Verbatim.{Verbatim}
 use Rattle.syslog_pieces.specs.Pri.{priority, priority_text}
 use Rattle.syslog_pieces.specs.ProcId.{NamesProcess, procid_text, IsBoundedProcess}
@@ -31,26 +29,25 @@ use Rattle.syslog_pieces.proofs.TimestampLemmas.Printing.{printed_stamp-bytes}
 use Rattle.syslog_loose.proofs.Rfc5424Lemmas.ReadBack.{stamp_canonical}
 use Rattle.syslog_loose.proofs.ExceptionLemmas.{dash_bytes}
 use Rattle.syslog_loose.specs.TagForm.{form_row, IsNoForm}
-use Rattle.syslog_pieces.proofs.PieceLemmas.Class.{both_values, division_front}
-use Rattle.syslog_pieces.proofs.PieceLemmas.Each.{each_behind}
+use Rattle.syslog_pieces.proofs.PieceLemmas.Class.{both_values, division_front, rest_front, rows_join, front_division}
+use Rattle.syslog_pieces.proofs.PieceLemmas.Class.{optional_some, optional_none}
+use Rattle.syslog_pieces.proofs.PieceLemmas.Each.{each_behind, each_map, each_left}
 use Rattle.syslog_pieces.proofs.PieceLemmas.Lists.{begins}
-use Rattle.syslog_pieces.proofs.PieceLemmas.Rows.{row_pieces}
+use Rattle.syslog_pieces.proofs.PieceLemmas.Rows.{row_pieces, row_of, ◌then◌}
 use Rattle.syslog_pieces.specs.declared.timestamp.month_date.MonthDate.{MonthDate}
-use Rattle.syslog_pieces.proofs.PieceLemmas.Class.{rest_front, rows_join}
-use Rattle.syslog_pieces.proofs.PieceLemmas.Class.{front_division, optional_some, optional_none}
 use Rattle.syslog_pieces.proofs.PieceLemmas.Verbatim.{front_of}
 use Rattle.syslog_pieces.proofs.PieceLemmas.Steps.{piece_front}
 use Rattle.syslog_pieces.proofs.StructuredDataLemmas.Rfc3164List.{begins_no_list}
 use Rattle.syslog_pieces.proofs.TextLemmas.Chars.{chars_nonempty}
 use Rattle.syslog_pieces.proofs.TextLemmas.ReadBack.{host_canonical}
 use Rattle.syslog_loose.specs.Canonical.{is_process_char, IsBracketedProcess, AreCanonicalNames}
-use Rattle.syslog_loose.specs.Verbatim3164.{VerbatimProgram, VerbatimNames}
-use Rattle.syslog_loose.specs.Verbatim3164.{VerbatimBehind, ShowsDated, PrintsVerbatim3164, PrintsStamped, PrintsAs3164}
+use Rattle.syslog_loose.specs.Verbatim3164.{VerbatimProgram, VerbatimNames, VerbatimBehind, ShowsDated}
+use Rattle.syslog_loose.specs.Verbatim3164.{PrintsVerbatim3164, PrintsStamped, PrintsAs3164}
 use Rattle.syslog_loose.specs.Message.{MessageValue}
 use Rattle.syslog_loose.specs.Printed.{timestamp_text, printed_3164}
 use Rattle.syslog_loose.specs.ReadBack.{ReadsProtocol}
-use Rattle.syslog_loose.specs.Reading.{dash_rule, IsRead, AsksYear, IncompleteDate}
-use Rattle.syslog_loose.specs.Reading.{incomplete, HasMonth, IsYearAnswered}
+use Rattle.syslog_loose.specs.Reading.{dash_rule, IsRead, AsksYear, IncompleteDate, incomplete, HasMonth}
+use Rattle.syslog_loose.specs.Reading.{IsYearAnswered}
 use Rattle.syslog_loose.specs.Rfc3164.{names, stamped_row, body_row, rfc3164_row, IsRead3164}
 use Rattle.syslog_loose.specs.declared.message.Protocol.TheVariants as protocol
 use Rattle.syslog_loose.specs.declared.variant.Variant.{Variant}
@@ -59,11 +56,8 @@ use Rattle.syslog_loose.proofs.VerbatimLineLemmas.{composes, stamp_prints, zone_
 use Rattle.syslog_loose.proofs.ReadingLemmas.{answered_to}
 use Rattle.syslog_loose.proofs.Rfc3164Lemmas.Apart.{not_both}
 use Rattle.syslog_loose.proofs.Rfc3164Lemmas.Exceptions.{no_dash_host, no_colon_host, no_colon_names}
-use Rattle.syslog_pieces.proofs.PieceLemmas.Each.{each_map, each_left}
-use Rattle.syslog_pieces.proofs.PieceLemmas.Rows.{row_of, ◌then◌}
 use Rattle.syslog_loose.proofs.Rfc3164Lemmas.Near.{read_near}
-use Rattle.syslog_loose.proofs.Rfc3164Lemmas.ReadBack.{digit_inside, program_field, names_back}
-use Rattle.syslog_loose.proofs.Rfc3164Lemmas.ReadBack.{resolved}
+use Rattle.syslog_loose.proofs.Rfc3164Lemmas.ReadBack.{digit_inside, program_field, names_back, resolved}
 use Rattle.syslog_loose.proofs.Rfc3164Lemmas.Reading.{is_read}
 use Rattle.syslog_loose.proofs.Rfc3164Lemmas.Unique.{told}
 use Rattle.syslog_loose.proofs.Rfc3164Lemmas.Whole.{printed_whole}
@@ -75,8 +69,8 @@ use Rattle.syslog_loose.proofs.Rfc3164Lemmas.Rows.{to_colon, from_blanks}
 no_form : (t : Text) → Each is_label_char t → IsNoForm t
 no_form t h vs d =
     let (t1, tag, (t2, bracket, _)) = row_pieces form_row (division_front form_row d) in
-    let behind : Each is_label_char (91 ∷ t2) = subst (Each is_label_char) (begins 91 t1 t2 bracket)
-    (each_behind is_label_char tag.piece t1 (subst (Each is_label_char) tag.whole h)) in
+    let behind : Each is_label_char (91 ∷ t2) =
+    rw (begins 91 t1 t2 bracket) at (each_behind is_label_char tag.piece t1 (rw tag.whole at h)) in
     let not : false ≡ true = behind.0 in absurd (cc)
 
 -- a tag that stands alone
@@ -135,7 +129,7 @@ names_verbatim text hostname behind program colon_on gap follows before k betwee
       hostname = k.value;
       appname = p.appname;
       procid = p.procid;
-      host = host_canonical (name_text k.value) behind k.value (subst (Ends (λ c. nat_eq c 58)) (sym e2) refl) k.is;
+      host = host_canonical (name_text k.value) behind k.value (rw e2 refl) k.is;
       canonical = any_host k.value p.appname p.procid p.canonical;
       bounded = p.bounded;
       unblank = space.is.2;
@@ -144,7 +138,7 @@ names_verbatim text hostname behind program colon_on gap follows before k betwee
 
 -- ---- the line
 
-module _ (dating : Dating) (t b d front tail : Text) (stamp : Option OffsetTimestamp)
+module _ (dating : Dating) (front : Text) {t b d tail : Text} {stamp : Option OffsetTimestamp}
     (k : Verbatim priority priority_text t b) (small : k.value < 192)
     (gap : Front (run is_blank) b d tt) (s : Front (rfc3164_stamp dating) d tail stamp)
     (canonical : IfSome stamp IsCanonicalStamp) (h : VerbatimBehind tail) (cut : t ≡ front ++ b) where
@@ -213,8 +207,7 @@ stamped_verbatim dating t b d zone front stamp tail is_zulu k small gap z h cut 
     let same : z.copied ≡ stamp = append_cancel_right z.copied stamp zone (sym z.whole ∙ cut') in
     record {
       value = z.value;
-      as_rfc3164 = line_verbatim dating t b d front tail z.value k small gap s
-          (stamp_canonical f.piece tail z.value f.is) h cut;
+      as_rfc3164 = line_verbatim dating front k small gap s (stamp_canonical f.piece tail z.value f.is) h cut;
       stamped = stamp_prints z.value (z.copied ++ zone_text is_zulu) z.prints
           ∙ ap (λ (x : Text). x ++ zone_text is_zulu) same;
     }
@@ -226,23 +219,7 @@ pub dated_verbatim : (dating : Dating) (variant : Variant) (text front : Text) (
 dated_verbatim dating variant text front date tail stamp shows is canonical h =
     let s : Front (rfc3164_stamp dating) shows.start tail (Some stamp) =
     record { piece = shows.dated.piece; whole = shows.dated.whole; is = inr (date, inl shows.dated.is, is) } in
-    line_verbatim dating (trimmed text) shows.behind shows.start front tail
-    (Some stamp) shows.verbatim shows.small shows.gap s canonical h shows.cut
-
-pub shown_dated : (variant : Variant) (text t b d front : Text) (date : MonthDate) (tail : Text) → t ≡ trimmed text
-    → ReadsProtocol variant protocol.RFC3164
-    → (k : Verbatim priority priority_text t b) → k.value < 192 → t ≡ front ++ b → Front (run is_blank) b d tt
-    → Front yearless_date d tail date → ShowsDated variant text front date tail
-shown_dated variant text t b d front date tail e reads k small cut gap dated = record {
-  behind = b;
-  start = d;
-  reads = reads;
-  verbatim = record { value = k.value; whole = sym e ∙ k.whole; is = k.is };
-  small = small;
-  cut = sym e ∙ cut;
-  gap = gap;
-  dated = dated;
-}
+    line_verbatim dating front shows.verbatim shows.small shows.gap s canonical h shows.cut
 
 -- so its year is asked for
 pub dated_asks : (variant : Variant) (text front : Text) (date : MonthDate) (tail : Text)
@@ -265,10 +242,8 @@ dated_asks variant text front date tail shows = asked variant shows.reads (
 -- a date of one of twelve months, as the closure takes it
 pub asked_month : (date : MonthDate) (asked : Option IncompleteDate) (x : IncompleteDate) → HasMonth (incomplete date)
     → asked ≡ Some (incomplete date) → asked ≡ Some x → HasMonth x
-asked_month date asked x has e f = subst HasMonth (same (incomplete date) x (sym e ∙ f)) has
-  where
-    same : (a b : IncompleteDate) → Some a ≡ Some b → a ≡ b
-    same a b g = cc
+asked_month date asked x has e f =
+    let same : incomplete date ≡ x = (let g = sym e ∙ f in cc) in subst HasMonth same has
 
 -- the answer to that date
 pub dated_answered : (post : IncompleteDate → ℤ → Type 0) (variant : Variant) (text front : Text) (date : MonthDate)
@@ -277,8 +252,7 @@ pub dated_answered : (post : IncompleteDate → ℤ → Type 0) (variant : Varia
     → MatchOption asked (year ≡ None) (λ d. IsSomeAnd year (λ y. post d y)) → IsYearAnswered post variant text year
 dated_answered post variant text front date tail asked year shows e k =
     answered_to post variant text (Some (incomplete date)) year
-    (date, dated_asks variant text front date tail shows, refl)
-    (subst (λ (x : Option IncompleteDate). MatchOption x (year ≡ None) (λ d. IsSomeAnd year (λ y. post d y))) e k)
+    (date, dated_asks variant text front date tail shows, refl) (rw e at k)
 
 -- what is written of such a line, by bytes
 pub rfc3164_bytes : (front stamp tail : List ℕ) → IsUtf8 front → IsUtf8 tail
@@ -317,8 +291,8 @@ rfc3164_read RFC3164 dating text m reads r = r
 rfc3164_read Either dating text m reads r =
     inr (λ vs d. not_both dash_rule dating (trimmed text) vs r.values d r.division, r)
 
-module _ (variant : Variant) (dating : Dating) (text t front : Text) (stamp : Option OffsetTimestamp) (tail : Text)
-    (reads : ReadsProtocol variant protocol.RFC3164) (e : t ≡ trimmed text)
+module _ (variant : Variant) (text : Text) {dating : Dating} {t front : Text} {stamp : Option OffsetTimestamp}
+    {tail : Text} (reads : ReadsProtocol variant protocol.RFC3164) (e : t ≡ trimmed text)
     (k : PrintsVerbatim3164 dating t front stamp tail) where
   own_read : IsRead3164 dash_rule dating text k.message
   own_read = is_read dash_rule dating text t k.values k.message e k.means k.is
@@ -328,9 +302,9 @@ module _ (variant : Variant) (dating : Dating) (text t front : Text) (stamp : Op
   readable = rfc3164_read variant dating text k.message reads own_read
 
   -- and what is written of it is the printed text of its message
-  pub freely : (bytes : List ℕ) → bytes ≡ encode_utf8_all (front ++ (32 ∷ (timestamp_text stamp ++ tail)))
+  pub freely : {bytes : List ℕ} → bytes ≡ encode_utf8_all (front ++ (32 ∷ (timestamp_text stamp ++ tail)))
       → PrintsAs3164 variant dating text bytes
-  freely bytes w = record {
+  freely w = record {
     message = k.message;
     read = readable;
     protocol = (read_near dash_rule dating text k.message own_read).protocol;

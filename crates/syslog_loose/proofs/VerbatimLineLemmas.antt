@@ -1,6 +1,6 @@
 -- Lines that print as they are written, put together from their pieces.
-use Rattle.std.proofs.Common.{◌≡◌, ◌≢◌, ℕ, ◌+◌, ◌*◌, ◌<◌, List, [], ◌∷◌, ◌++◌, Bool, true, false, Option, None, Some}
-use Rattle.std.proofs.Common.{Result, Ok, Err, IfSome, inl, refl, sym, ap, ap₂, subst, ◌∙◌, append_assoc, append-nil}
+use Rattle.std.proofs.Common.{◌≡◌, ◌≢◌, ℕ, ◌<◌, List, [], ◌∷◌, ◌++◌, Bool, true, false, Option, None, Some}
+use Rattle.std.proofs.Common.{Result, Ok, Err, IfSome, refl, sym, ap, ap₂, subst, ◌∙◌, append_assoc, append-nil}
 use Rattle.std.proofs.lemmas.List.{append_cancel_right}
 use Rattle.std.proofs.lemmas.Str.{encodes-append, encodes-chars}
 use Rattle.std.specs.Borrow.{Bor}
@@ -15,23 +15,20 @@ use Rattle.syslog_pieces.specs.Pieces.Class.{Text, Class, run, some_run}
 use Rattle.syslog_pieces.specs.Pieces.Format.{Format, classes, printed_row}
 use Rattle.syslog_pieces.specs.Pieces.Verbatim.{Verbatim}
 use Rattle.syslog_pieces.specs.Pieces.View.{seen}
-use Rattle.syslog_pieces.specs.Pri.{priority, priority_text, facility_number, severity_number}
+use Rattle.syslog_pieces.specs.Pri.{priority, priority_text}
 use Rattle.syslog_pieces.specs.Text.{is_blank, dash}
 use Rattle.syslog_pieces.specs.Timestamp.{header_stamp}
 use Rattle.syslog_pieces.specs.Timestamp.Printed.{printed_stamp}
 use Rattle.syslog_pieces.specs.Timestamp.Zone.{Dating}
 use Rattle.syslog_pieces.specs.declared.timestamp.month_date.MonthDate.{MonthDate}
-use Rattle.syslog_pieces.specs.declared.pri.SyslogFacility.{SyslogFacility}
-use Rattle.syslog_pieces.specs.declared.pri.SyslogSeverity.{SyslogSeverity}
 use Rattle.syslog_pieces.specs.declared.text.verbatim.Cut.{Cut}
 use Rattle.syslog_pieces.specs.declared.timestamp.OffsetTimestamp.{OffsetTimestamp}
-use Rattle.std.specs.Option.{option_map_or}
 use Rattle.syslog_pieces.proofs.PieceLemmas.Class.{both_values, optional_some, row_cons, row_nil, rows_join}
 use Rattle.syslog_pieces.proofs.PieceLemmas.Formats.{printed_more}
 use Rattle.syslog_pieces.proofs.PieceLemmas.Verbatim.{front_of, verbatim_by_text}
 use Rattle.syslog_pieces.proofs.PriLemmas.{priority_composed}
 use Rattle.syslog_pieces.proofs.TextLemmas.Copied.{verbatim_on}
-use Rattle.syslog_loose.proofs.ReadingLemmas.{only_read}
+use Rattle.syslog_loose.proofs.ReadingLemmas.{only_read, strictly}
 use Rattle.syslog_loose.proofs.Rfc3164Lemmas.Apart.{shown_apart}
 use Rattle.syslog_loose.proofs.Rfc3164Lemmas.Rows.{from_gap, gap_back}
 use Rattle.syslog_loose.proofs.Rfc3164Lemmas.Shown.{shows_month_date}
@@ -88,10 +85,7 @@ gap_copied k = record {
 }
 
 pub composes : (pri : ℕ) → pri < 192 → printed_number (Some pri) ≡ pri
-composes pri small =
-    let c = priority_composed pri small in
-    ap₂ (λ (x : Option SyslogFacility) (y : Option SyslogSeverity). option_map_or facility_number x 5 * 8
-    + option_map_or severity_number y 7) c.2 c.3 ∙ c.4
+composes pri small = let (f, s, there, told, same) = priority_composed pri small in rw (there, told) same
 
 -- a priority prints as the message of one does
 pub priority_verbatim : (t u : Text) (k : Verbatim priority priority_text t u) → k.value < 192
@@ -148,10 +142,9 @@ module _ (t c zone d n front head start end : Text) (left : Option Cut) (msg : O
   names_are : names ≡ behind
   names_are =
       let (rest, s, p) = parts (printed_row tail_fields l.value []) (l.copies d [] refl) in
-      sym (printed_more tail_fields l.value [] (32 ∷ e.message))
-      ∙ ap (λ (x : Text). x ++ (32 ∷ e.message))
-      (p ∙ ap (λ (x : Text). head ++ x) (append_cancel_right rest e.names n (sym s ∙ e.whole)))
-      ∙ append_assoc head e.names (32 ∷ e.message) ∙ ap (λ (x : Text). head ++ x) (sym e.ends)
+      let same = append_cancel_right rest e.names n (sym s ∙ e.whole) in
+      sym (printed_more tail_fields l.value [] (32 ∷ e.message)) ∙ ap (λ (x : Text). x ++ (32 ∷ e.message)) p
+      ∙ (rw (same, e.ends, append_assoc))
 
   front_is : (q : Text) → printed_row front_fields k.value (z.copied ++ q) ≡ front ++ q
   unfolding before_zone
@@ -209,43 +202,29 @@ line_bytes front head tail msg is_zulu u h v w =
 
 -- ---- by a variant that reads RFC 5424
 
-prints_as : (variant : Variant) (text : Text) (m : MessageValue) (bytes : List ℕ) → variant ≢ RFC3164
-    → IsRead5424 text m → bytes ≡ encode_utf8_all (printed m) → PrintsAs5424 variant text bytes
-prints_as RFC3164 text m bytes n r e = absurd (n refl)
-prints_as RFC5424 text m bytes n r e = record {
-  message = m;
-  strict = r;
-  only = λ dating. only_read RFC5424 dating text m r;
-  asks_none = λ date asks. asks;
-  prints = e;
-}
-prints_as Either text m bytes n r e = record {
-  message = m;
-  strict = r;
-  only = λ dating. only_read Either dating text m (inl r);
-  asks_none = λ date asks. shown_apart text date (shows_month_date text date asks) r.values r.division;
-  prints = e;
-}
+-- a text of which a year is asked has none of their divisions
+pub asked_apart : (variant : Variant) (text : Text) (date : MonthDate) → variant ≢ RFC3164 → AsksYear variant text date
+    → IsNot5424 text
+asked_apart RFC3164 text date n asks = absurd (n refl)
+asked_apart RFC5424 text date n asks = absurd asks
+asked_apart Either text date n asks = shown_apart text date (shows_month_date text date asks)
 
 -- what was copied is the printed text of one message
 pub told : (variant : Variant) (text : Text) → variant ≢ RFC3164 → (r : Result Bool AllocError) (bytes : List ℕ)
     → IfOk r (λ found. IsTrue found → (m : MessageValue) × IsRead5424 text m × (bytes ≡ encode_utf8_all (printed m)))
     → IfOk r (λ found. IsTrue found → PrintsAs5424 variant text bytes)
-told variant text n (Ok found) bytes h = λ t. let (m, r, e) = h t in prints_as variant text m bytes n r e
+told variant text n (Ok found) bytes h = λ t. let (m, r, e) = h t in record {
+  message = m;
+  strict = r;
+  only = λ dating. only_read variant dating text m (strictly variant dating n r);
+  asks_none = λ date asks. asked_apart variant text date n asks r.values r.division;
+  prints = e;
+}
 told variant text n (Err e) bytes h = tt
 
 -- a text that no message is read from has no division
 pub no_division : (variant : Variant) (dating : Dating) (text : Text) → variant ≢ RFC3164
     → IsUnreadable variant dating text
     → IsNot5424 text
-no_division RFC3164 dating text n none vs d = absurd (n refl)
-no_division RFC5424 dating text n none vs d = none (message_of vs) (record { values = vs; division = d; means = refl })
-no_division Either dating text n none vs d =
-    none (message_of vs) (inl (record { values = vs; division = d; means = refl }))
-
--- nor has one of which a year is asked
-pub asked_apart : (variant : Variant) (text : Text) (date : MonthDate) → variant ≢ RFC3164 → AsksYear variant text date
-    → IsNot5424 text
-asked_apart RFC3164 text date n asks = absurd (n refl)
-asked_apart RFC5424 text date n asks = absurd asks
-asked_apart Either text date n asks = shown_apart text date (shows_month_date text date asks)
+no_division variant dating text n none vs d = none (message_of vs)
+    (strictly variant dating {text = text} {m = message_of vs} n (record { values = vs; division = d; means = refl }))

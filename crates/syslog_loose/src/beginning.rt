@@ -32,6 +32,7 @@ static SECOND: [u8; 256] = [
 ];
 
 // What must stand behind this byte, where it is the first.
+#[tactic(auto, using(crate::proofs::BeginningLemmas::first_at))]
 #[inline(always)]
 fn wanted(byte: u8) -> u8
     ensures { result ≡ spec.wanted byte }
@@ -40,6 +41,7 @@ fn wanted(byte: u8) -> u8
 }
 
 // Which of these this byte is.
+#[tactic(auto, using(crate::proofs::BeginningLemmas::second_at))]
 #[inline(always)]
 fn given(byte: u8) -> u8
     ensures { result ≡ spec.given byte }
@@ -48,6 +50,10 @@ fn given(byte: u8) -> u8
 }
 
 /// Whether the trimmed text may have a reading, by its first two bytes.
+#[tactic(auto, using(
+    crate::proofs::BeginningLemmas::none_by_bytes,
+    crate::proofs::BeginningLemmas::none_in_none,
+))]
 #[inline(always)]
 pub(crate) fn may_be_read(input: &str) -> bool
     ensures { IsFalse result → spec.BeginsNone (chars input.now) }

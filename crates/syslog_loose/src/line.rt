@@ -112,6 +112,7 @@ fn verbatim_tail(text: &str) -> Option<(&str, Option<Cut<'_>>)>
 }
 
 // The text up to the rest behind the elements, and the message, where that isn't behind one space: then it is one text.
+#[tactic(auto, using(crate::proofs::VerbatimLineLemmas::whole_end))]
 #[inline(always)]
 fn end_stays<'a>(text: &'a str, rest: &'a str) -> (&'a str, Option<&'a str>)
     requires { (front : Text) × (chars text.now ≡ front ++ chars rest.now) }
@@ -219,6 +220,7 @@ pub(crate) fn copied(text: &mut String, input: &str) -> Result<bool, AllocError>
 }
 
 /// The same, where the variant reads RFC 5424.
+#[tactic(auto, using(crate::proofs::VerbatimLineLemmas::told))]
 pub(crate) fn verbatim_text(
     text: &mut String,
     input: &str,

@@ -1,14 +1,12 @@
 -- A printed message of RFC 5424 is read back unchanged exactly where it is canonical, and what is read is canonical, up
--- to an
--- absent facility or severity.
+-- to an absent facility or severity.
 use Rattle.std.proofs.Common.{◌≡◌, ℕ, ◌<◌, ◌≤◌, ◌^◌, ◌+◌, ◌*◌, true, false, List, [], ◌∷◌, ◌++◌, Option, Some, None}
 use Rattle.std.proofs.Common.{IfSome, IsSome, refl, sym, ap, ap₂, subst, ◌∙◌, arith}
 use Rattle.std.specs.Option.{option_map_or, option_and_then}
 use Rattle.std.specs.Prelude.{unwrap_or}
 use Rattle.std.specs.Fmt.{decimal}
 use Rattle.std.specs.Str.{skip_leading_whitespace, drop_trailing_whitespace}
-use Rattle.syslog_pieces.specs.Pieces.Class.{Text, Class, Values, Front, NoFront, Row, Ends, Division, run}
-use Rattle.syslog_pieces.specs.Pieces.Class.{optional}
+use Rattle.syslog_pieces.specs.Pieces.Class.{Text, Class, Values, Front, NoFront, Ends, Division, run, optional}
 use Rattle.syslog_pieces.specs.Pieces.Format.{IsSound, classes, printed_row, RowReadsBack}
 use Rattle.syslog_pieces.specs.Pri.{priority, composed, facility_of, severity_of, facility_number, severity_number}
 use Rattle.syslog_pieces.specs.ProcId.{process_word, process_text}
@@ -42,12 +40,12 @@ use Rattle.syslog_pieces.proofs.TextLemmas.ReadBack.{NoColonNext, blanks_next}
 use Rattle.syslog_pieces.proofs.TimestampLemmas.RoundTrip.{printed_stamp-back, stamp_text-canonical}
 use Rattle.syslog_loose.specs.declared.message.Protocol.TheVariants.{RFC5424}
 use Rattle.syslog_loose.specs.declared.message.Protocol.{Protocol}
-use Rattle.syslog_loose.specs.Canonical.{IsBoundedProtocol, IsBounded, IsCanonicalInBoth}
-use Rattle.syslog_loose.specs.Canonical.{IsCanonical5424, IsCanonicalFor, IsCanonical}
+use Rattle.syslog_loose.specs.Canonical.{IsBoundedProtocol, IsBounded, IsCanonicalInBoth, IsCanonical5424}
+use Rattle.syslog_loose.specs.Canonical.{IsCanonicalFor, IsCanonical}
 use Rattle.syslog_loose.specs.Formats.{space, stamp_field}
 pub use Rattle.syslog_loose.specs.Formats.{fields}
 use Rattle.syslog_loose.specs.Message.{MessageValue}
-use Rattle.syslog_loose.specs.Printed.{printed, printed_5424, priority_of, timestamp_text}
+use Rattle.syslog_loose.specs.Printed.{printed, printed_5424, priority_of}
 use Rattle.syslog_loose.specs.Rfc5424.{header_row, data_row, rfc5424_row, message_of, IsRead5424}
 use Rattle.syslog_loose.proofs.PriorityLemmas.{priority_front, priority_trimmed, priority_small, priority_low}
 use Rattle.syslog_loose.proofs.TrimLemmas.{visible_ends_blanks, stamp_unblank, last_append, elements_last, row_trimmed}
@@ -70,8 +68,8 @@ space_sound v q h b = (omega arith, (refl, tt), b)
 fields_sound : AllSound fields
 fields_sound =
     (λ n q h b. number_back n 4294967295 q h (omega arith) b) also space_sound also stamp_sound also space_sound
-    also (λ v q h b. host_back v q h b) also space_sound also (λ v q h b. word_back v q h b) also space_sound
-    also (λ v q h b. process_back v q h.0 h.1 b) also space_sound also (λ v q h b. word_back v q h b) also tt
+    also host_back also space_sound also word_back also space_sound
+    also (λ v q h b. process_back v q h.0 h.1 b) also space_sound also word_back also tt
 
 -- a word, a host, a process id and elements begin with no blank
 name_unblank : (v : Option Text) (q : Text) (P : Text → Type 0) → ((t : Text) → P t → IsVisible t) → IfSome v P
@@ -139,9 +137,7 @@ module _ (version : ℕ) (m : MessageValue) (bounded : version ≤ 4294967295) (
       then piece_front forgiving (elements_text es) end es (forgiving_back es end p.elements (no_item_end m.msg))
       then message_blanks m.msg p.msg_front then rest_front m.msg then refl) in
       let header = row_back fields fields_sound (values_of version m) _ (fields_back (elements_text es ++ end)) in
-      front_division rfc5424_row
-      (subst (λ (x : Text). Front (Row rfc5424_row) x [] (line_values version m))
-      (sym (trimmed_5424 version m p.msg_end))
+      front_division rfc5424_row (rw (trimmed_5424 version m p.msg_end)
       (row_cons (optional priority) (classes fields ++ data_row)
       (optional_some priority (priority_front (priority_of m) _ (priority_low m)))
       (rows_join (classes fields) data_row header body)))
@@ -200,8 +196,7 @@ values_canonical rule text v d =
     let (t8, app, (t9, s4, (t10, process, (t11, s5, behind)))) = more in
     let (t12, id, (t13, s6, (t14, list, (t15, s7, (t16, msg, _))))) = behind in
     let m = message_of v in
-    let no_colon : NoColonNext t6 =
-    subst (λ (x : Text). NoColonNext x) (sym s3.whole) (blanks_next s3.piece t7 s3.is.0 s3.is.1) in (
+    let no_colon : NoColonNext t6 = rw s3.whole (blanks_next s3.piece t7 s3.is.0 s3.is.1) in (
       (
         record {
           facility = refl;
@@ -209,7 +204,7 @@ values_canonical rule text v d =
           timestamp = stamp_canonical stamp.piece t4 m.timestamp stamp.is;
           hostname = host_canonical name.piece t6 m.hostname no_colon name.is;
           elements = forgiving_canonical list.piece t14 m.structured_data list.is;
-          msg_front = subst (λ (x : Text). Ends is_blank x) (rest_whole msg) s7.is.1;
+          msg_front = subst (Ends is_blank) (rest_whole msg) s7.is.1;
           msg_end = last_ends front_row row (drop_ends (skip_leading_whitespace text));
         },
         record {
@@ -270,9 +265,7 @@ begun_read n more v small d =
     let g = row_head (optional priority) (classes fields ++ data_row) (division_front rfc5424_row d) in
     let known : Front (optional priority) (trimmed (60 ∷ (decimal n ++ (62 ∷ more)))) (drop_trailing_whitespace more)
     (Some n) =
-    subst (λ (x : Text). Front (optional priority) x (drop_trailing_whitespace more) (Some n))
-    (sym (priority_trimmed n more))
-    (optional_some priority (priority_front n (drop_trailing_whitespace more) (omega arith))) in
+    rw (priority_trimmed n more) (optional_some priority (priority_front n _ (omega arith))) in
     (front_same (optional priority) (optional_det priority priority_det) g.1 known).1
 
 pub read_is_canonical : (rule : DashRule) (version : ℕ) (m : MessageValue) → m.protocol ≡ RFC5424 version
@@ -285,19 +278,16 @@ read_is_canonical rule version m e r =
     let (f, sev, there, told, same) = priority_composed (priority_of m) small in
     let facility : m.facility ≡ Some f =
     ap (λ (x : MessageValue). x.facility) s.means ∙ ap (option_and_then facility_of) first ∙ there in
-    read_canonical rule (printed m) m r (subst (λ (x : Option SyslogFacility). IsSome x) (sym facility) refl)
+    read_canonical rule (printed m) m r (rw facility refl)
 
 -- ---- and the printed text of what was read is read as a message that prints the same
 
 pub printed_again : (version : ℕ) (m : MessageValue) → m.protocol ≡ RFC5424 version → printed (completed m) ≡ printed m
 unfolding printed_5424
 printed_again version m e =
-    printed_is version (completed m) e
-    ∙ ap (λ (n : ℕ). 60 ∷ (decimal n ++ (62 ∷ (decimal version ++ (32 ∷ (timestamp_text m.timestamp
-    ++ (32 ∷ (name_text m.hostname ++ (32 ∷ (name_text m.appname ++ (32 ∷ (process_text m.procid
-    ++ (32 ∷ (name_text m.msgid ++ (32 ∷ (elements_text m.structured_data ++ (32 ∷ m.msg)))))))))))))))))
-    (priority_same m.facility m.severity)
-    ∙ sym (printed_is version m e)
+    let same : printed_5424 version (completed m) ≡ printed_5424 version m =
+    rw (priority_same m.facility m.severity) refl in
+    printed_is version (completed m) e ∙ same ∙ sym (printed_is version m e)
 
 pub read_again : (text : Text) (m : MessageValue) → IsRead5424 text m
     → IsRead5424 (printed m) (completed m) × (printed (completed m) ≡ printed m)
@@ -307,4 +297,4 @@ read_again text m r =
     let (canonical, bounded) = read_completed BeforeAnything text m r in
     let same = printed_again version m e in
     let again = canonical_read BeforeAnything version (completed m) e bounded canonical in
-    (subst (λ (x : Text). IsRead5424 x (completed m)) same again, same)
+    (rw same at again, same)

@@ -55,6 +55,10 @@ fn is_name(tag: &str) -> bool
 }
 
 // The text behind an app name, or one and a number in brackets.
+#[tactic(auto, using(
+    crate::proofs::Verbatim3164Lemmas::lone_verbatim,
+    crate::proofs::Verbatim3164Lemmas::numbered_verbatim,
+))]
 #[inline(always)]
 fn verbatim_program(text: &str) -> Option<&str>
     ensures { IfSome result (λ rest. VerbatimProgram (chars text.now) (shown rest)) }
@@ -71,6 +75,7 @@ fn verbatim_program(text: &str) -> Option<&str>
 }
 
 // The text behind the names and their colon.
+#[tactic(auto, using(crate::proofs::Verbatim3164Lemmas::names_verbatim))]
 #[inline(always)]
 fn verbatim_names(text: &str) -> Option<&str>
     ensures { IfSome result (λ rest. VerbatimNames (chars text.now) (shown rest)) }

@@ -1,9 +1,5 @@
-use Rattle.syslog_loose.proofs.Rfc3164Lemmas.Years.{other_read, other_quotes}
+use Rattle.syslog_loose.proofs.Rfc3164Lemmas.Years.{other_quotes}
 use Rattle.syslog_loose.proofs.laws.year_counts_for_yearless_dates_alone.Goals as goal
-
-pub returns-clause-reads : goal.returns-clause-reads
-returns-clause-reads c rule text none dating other zone local m r =
-    other_read dating other zone local rule text none m r
 
 pub returns-clause-quotes : goal.returns-clause-quotes
 returns-clause-quotes c rule text none dating other zone local m r =

@@ -3,18 +3,15 @@ use Rattle.std.proofs.lemmas.Grind.{put_five}
 use Rattle.syslog_pieces.specs.StructuredData.Element.{element_value}
 use Rattle.syslog_pieces.specs.Pieces.View.{text_of}
 use Rattle.syslog_pieces.proofs.TextLemmas.Printed.{encodes_shown}
-use Rattle.syslog_loose.specs.Message.{message_value}
-use Rattle.syslog_loose.specs.Printed.{printed_3164, priority_of, timestamp_text, name_text, tag_text, spaced_elements}
+use Rattle.syslog_loose.specs.Printed.{printed_3164, spaced_elements}
 use Rattle.syslog_loose.proofs.PrintedLemmas.{written_3164}
 use Rattle.syslog_loose.proofs.message.write_rfc3164.Goals as goal
 
 pub returns : goal.returns
 unfolding printed_3164
 returns g c canonical ok =
-    let m = c.args.message.now in
     let text = text_of g.S.AsStr.text in
-    let value = message_value text m in
-    let msg = encodes_shown _ (g.S.AsStr.text m.msg) c.as_str-msg.utf8 c.as_str-msg.ensures in
+    let msg = encodes_shown _ (g.S.AsStr.text _) c.as_str-msg.utf8 c.as_str-msg.ensures in
     let elements = ap (λ es. spaced_elements (map (element_value text) es)) c.deref.ensures.value in
     let front = c.in_ok-write_priority.ensures canonical refl in
     let origin = c.in_ok-write_origin.ensures front.plain refl in
@@ -22,6 +19,4 @@ returns g c canonical ok =
     let rfc3164_list = c.in_ok-write_elements_before.ensures tag.plain refl in
     let rest = c.write_str.ensures.writes rfc3164_list.plain ok in
     put_five _ _ _ _ _ _ _ _ _ _ _ _ _ front origin tag rfc3164_list rest
-    (written_3164 _ (priority_of value) (timestamp_text value.timestamp) (name_text value.hostname)
-    (tag_text value.appname value.procid) (spaced_elements (map (element_value text) _))
-    (spaced_elements value.structured_data) value.msg _ c.priority-priority.ensures elements msg)
+    (written_3164 _ _ _ _ _ _ _ _ _ c.priority-priority.ensures elements msg)

@@ -3,19 +3,15 @@ use Rattle.std.proofs.lemmas.Grind.{put_five}
 use Rattle.syslog_pieces.specs.StructuredData.Element.{element_value}
 use Rattle.syslog_pieces.specs.Pieces.View.{text_of}
 use Rattle.syslog_pieces.proofs.TextLemmas.Printed.{encodes_shown}
-use Rattle.syslog_loose.specs.Message.{message_value}
-use Rattle.syslog_loose.specs.Printed.{printed_5424, priority_of, timestamp_text}
-use Rattle.syslog_loose.specs.Printed.{name_text, process_text, elements_text}
+use Rattle.syslog_loose.specs.Printed.{printed_5424, elements_text}
 use Rattle.syslog_loose.proofs.PrintedLemmas.{written_5424}
 use Rattle.syslog_loose.proofs.message.write_rfc5424.Goals as goal
 
 pub returns : goal.returns
 unfolding printed_5424
 returns g c canonical ok =
-    let m = c.args.message.now in
     let text = text_of g.S.AsStr.text in
-    let value = message_value text m in
-    let msg = encodes_shown c.as_str-msg.result.now (g.S.AsStr.text m.msg) c.as_str-msg.utf8 c.as_str-msg.ensures in
+    let msg = encodes_shown _ (g.S.AsStr.text _) c.as_str-msg.utf8 c.as_str-msg.ensures in
     let elements = ap (λ es. elements_text (map (element_value text) es)) c.deref.ensures.value in
     let front = c.in_ok-write.ensures.writes canonical refl in
     let origin = c.in_ok-write_origin.ensures front.plain refl in
@@ -23,7 +19,4 @@ returns g c canonical ok =
     let rfc3164_list = c.in_ok-write_elements.ensures program.plain refl in
     let rest = c.write_spaced.ensures rfc3164_list.plain ok in
     put_five _ _ _ _ _ _ _ _ _ _ _ _ _ front origin program rfc3164_list rest
-    (written_5424 _ (priority_of value) c.args.version (timestamp_text value.timestamp) (name_text value.hostname)
-    (name_text value.appname) (process_text value.procid) (name_text value.msgid)
-    (elements_text (map (element_value text) c.deref.result.now))
-    (elements_text value.structured_data) value.msg c.as_str-msg.result.now c.priority-priority.ensures elements msg)
+    (written_5424 _ _ _ _ _ _ _ _ _ _ _ _ c.priority-priority.ensures elements msg)

@@ -5,5 +5,4 @@ use Rattle.syslog_loose.proofs.reading.front_stamp.Goals as goal
 
 pub returns-then-reads_rfc3164 : goal.returns-then-reads_rfc3164
 returns-then-reads_rfc3164 c =
-    front_read header_stamp c.args.variant (chars c.args.text.now) (chars c.blanks.result.now) c.header_stamp.result
-    c.if-reads_rfc3164.ensures c.blanks.ensures c.header_stamp.ensures
+    front_read header_stamp _ _ _ _ c.if-reads_rfc3164.ensures c.blanks.ensures c.header_stamp.ensures

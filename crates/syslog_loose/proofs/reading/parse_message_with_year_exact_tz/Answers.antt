@@ -18,73 +18,64 @@ use Rattle.syslog_loose.proofs.reading.parse_message_with_year_exact_tz.Goals as
 
 pub returns-then-not-may_be_read : goal.returns-then-not-may_be_read
 returns-then-not-may_be_read g c =
-    let whole = chars c.args.input.now in
     let none = subst (λ (x : Text). BeginsNone x) c.trimmed-text.ensures (c.if-not-may_be_read.ensures refl) in
-    answered _ c.args.variant whole c.args.tz c.args.local (Err Invalid) None (asks_no_year c.args.variant whole none)
-    (no_reading c.args.variant (dating_of None c.args.tz c.args.local) whole none)
+    answered _ c.args.variant _ c.args.tz c.args.local (Err Invalid) None (asks_no_year c.args.variant _ none)
+    (no_reading c.args.variant (dating_of None c.args.tz c.args.local) _ none)
 
 pub map-year-requires : goal.map-year-requires
 map-year-requires g c =
-    λ x e. c.requires x (asked_month c.in-Some.date c.asked_numbers.result x c.in-Some.ensures.front
-    c.asked_numbers.ensures e)
+    λ x e. c.requires x (asked_month c.in-Some.date _ x c.in-Some.ensures.front c.asked_numbers.ensures e)
 
 pub returns-in_default : goal.returns-in_default
 returns-in_default g c =
-    let whole = chars c.args.input.now in
     let f = rw c.trimmed-text.ensures at c.optional_priority-priority.ensures in
-    answered _ c.args.variant whole c.args.tz c.args.local (Err Invalid) c.map-year.result
-    (date_answered c.args.variant whole f c.in-Some.date c.in-Some.ensures _ c.asked_numbers.result c.map-year.result
-    c.asked_numbers.ensures c.map-year.ensures.cases)
-    (dated_invalid c.args.variant whole f c.in-Some.date c.in-Some.ensures
-    (dating_of c.map-year.result c.args.tz c.args.local) c.in_default.ensures)
+    answered _ c.args.variant _ c.args.tz c.args.local (Err Invalid) c.map-year.result
+    (date_answered c.args.variant _ f _ c.in-Some.ensures _ _ _ c.asked_numbers.ensures c.map-year.ensures.cases)
+    (dated_invalid c.args.variant _ f _ c.in-Some.ensures _ c.in_default.ensures)
 
 pub returns-in-Ok-Some : goal.returns-in-Ok-Some
 returns-in-Ok-Some g c =
-    let whole = chars c.args.input.now in
     let f = rw c.trimmed-text.ensures at c.optional_priority-priority.ensures in
-    answered _ c.args.variant whole c.args.tz c.args.local (Ok c.in-Ok-Some.message) None
-    (asks_none c.args.variant whole f c.in-None.ensures)
-    (strict_read c.args.variant c.if-reads_rfc5424.ensures (dating_of None c.args.tz c.args.local) whole
-    c.in-Ok-Some.message (rw c.in-Ok-Some.field-0-is at (c.in-Ok-Some.ensures.read whole f)))
+    answered _ c.args.variant _ c.args.tz c.args.local (Ok c.in-Ok-Some.message) None
+    (asks_none c.args.variant _ f c.in-None.ensures)
+    (strict_read c.args.variant c.if-reads_rfc5424.ensures _ _ c.in-Ok-Some.message
+    (rw c.in-Ok-Some.field-0-is at (c.in-Ok-Some.ensures.read (chars c.args.input.now) f)))
 
 pub returns-in-Err : goal.returns-in-Err
 returns-in-Err g c =
-    let whole = chars c.args.input.now in
     let f = rw c.trimmed-text.ensures at c.optional_priority-priority.ensures in
-    answered _ c.args.variant whole c.args.tz c.args.local (Err Memory) None
-    (asks_none c.args.variant whole f c.in-None.ensures)
-    (strict_refused c.args.variant c.if-reads_rfc5424.ensures (dating_of None c.args.tz c.args.local) whole
-    (refused c.read_behind.result _ c.in-Err.is (c.read_behind.ensures.memory whole f)))
+    answered _ c.args.variant _ c.args.tz c.args.local (Err Memory) None
+    (asks_none c.args.variant _ f c.in-None.ensures)
+    (strict_refused c.args.variant c.if-reads_rfc5424.ensures _ _
+    (refused c.read_behind.result _ c.in-Err.is (c.read_behind.ensures.memory _ f)))
 
 pub returns-in_default-front_stamp : goal.returns-in_default-front_stamp
 returns-in_default-front_stamp g c =
     let whole = chars c.args.input.now in
     let f = rw c.trimmed-text.ensures at c.optional_priority-priority.ensures in
-    answered _ c.args.variant whole c.args.tz c.args.local (Err Invalid) None
-    (asks_none c.args.variant whole f c.in-None.ensures)
-    (undated_invalid c.args.variant whole f c.in-None.ensures c.in_default-front_stamp.ensures
+    answered _ c.args.variant _ c.args.tz c.args.local (Err Invalid) None
+    (asks_none c.args.variant _ f c.in-None.ensures)
+    (undated_invalid c.args.variant _ f c.in-None.ensures c.in_default-front_stamp.ensures
     (λ n. elim c.if-reads_rfc5424.branch [
       | then-reads_rfc5424+in-Ok-None w ↦ rw w.in-Ok-None.field-0-is at (w.in-Ok-None.ensures.read whole f)
       | else-reads_rfc5424 w ↦ absurd (n w.if-reads_rfc5424.ensures)
-    ]) (dating_of None c.args.tz c.args.local))
+    ]) _)
 
 pub returns : goal.returns
 returns g c =
     let whole = chars c.args.input.now in
-    let p = c.optional_priority-priority.result.0 in
     let f = rw c.trimmed-text.ensures at c.optional_priority-priority.ensures in
     let at = c.match-front_date.timestamp in
     let k : IsStamped (λ d year. g.F.FnOnce.post c.args.get_year (d, tt) year) c.args.variant whole c.args.tz
-    c.args.local (record { priority = p; timestamp = at.0 }) (shown at.1) = elim c.match-front_date.branch [
-      | in-Some+in-Some-month_stamp w ↦ rw w.timestamp-is (dated_known c.args.variant whole f w.in-Some.date
-          w.in-Some.ensures _ _ _ w.asked_numbers.result w.map-year.result w.in-Some-month_stamp.stamp
+    c.args.local (record { priority = c.optional_priority-priority.result.0; timestamp = at.0 }) (shown at.1) =
+    elim c.match-front_date.branch [
+      | in-Some+in-Some-month_stamp w ↦ rw w.timestamp-is (dated_known c.args.variant _ f _ w.in-Some.ensures _ _ _ _ _ _
           w.asked_numbers.ensures w.map-year.ensures.cases w.in-Some-month_stamp.ensures)
-      | in-None+in-Some-front_stamp w ↦ rw w.timestamp-is (other_known c.args.variant whole f w.in-None.ensures _ _ _
+      | in-None+in-Some-front_stamp w ↦ rw w.timestamp-is (other_known c.args.variant _ f w.in-None.ensures _ _ _
           w.in-Some-front_stamp.ensures (λ n. elim w.if-reads_rfc5424.branch [
             | then-reads_rfc5424+in-Ok-None v ↦ rw v.in-Ok-None.field-0-is at (v.in-Ok-None.ensures.read whole f)
             | else-reads_rfc5424 v ↦ absurd (n v.if-reads_rfc5424.ensures)
           ]))
     ] in
-    answered _ c.args.variant whole c.args.tz c.args.local _ k.year k.answered
-    (left_answer c.args.variant (dating_of k.year c.args.tz c.args.local) whole _ k.left
-    (c.stamped_message.ensures _ whole k.front))
+    answered _ c.args.variant _ c.args.tz c.args.local _ k.year k.answered
+    (left_answer c.args.variant _ _ _ k.left (c.stamped_message.ensures _ _ k.front))

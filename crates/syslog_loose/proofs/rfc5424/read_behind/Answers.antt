@@ -33,18 +33,6 @@ returns-clause-read c whole f =
     let h = c.in-Some.header in
     let parts = c.parts-facility.ensures in
     let list = rw c.in-Some-2.is at c.in_ok-elements.ensures.list in
-    is_read whole _ _ _ refl
-    (λ i. record {
-      protocol = RFC5424 h.version;
-      facility = parts.facility i;
-      severity = parts.severity i;
-      timestamp = h.timestamp;
-      hostname = seen h.hostname;
-      appname = seen h.appname;
-      procid = option_map (procid_value (λ s. shown s)) h.procid;
-      msgid = seen h.msgid;
-      structured_data = map (element_value (λ s. shown s)) c.in-Some-2.elements.items;
-      msg = shown c.blanks-msg.result;
-    })
+    is_read whole _ _ _ refl (rw (parts.facility, parts.severity) refl)
     (rows_join header_row data_row (c.in-Some.ensures (trimmed whole) f)
     (row_of data_row (c.blanks.ensures then list then c.blanks-msg.ensures then rest_front _ then refl)))

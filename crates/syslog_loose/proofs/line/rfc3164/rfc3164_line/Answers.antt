@@ -9,6 +9,6 @@ before-front-requires c = (priority_text c.in_ok-behind.ensures.0.value, c.in_ok
 
 pub returns-then-is_verbatim_behind-clause-verbatim : goal.returns-then-is_verbatim_behind-clause-verbatim
 returns-then-is_verbatim_behind-clause-verbatim c =
-    line_verbatim (dating_value c.args.dating.now) _ _ _ _ _ c.in-Some.timestamp c.in_ok-behind.ensures.0
+    line_verbatim (dating_value c.args.dating.now) _ c.in_ok-behind.ensures.0
     c.in_ok-behind.ensures.1 c.blanks.ensures c.in-Some.ensures (c.if-is_canonical_time.ensures.0 refl)
     (c.if-is_verbatim_behind.ensures refl) c.before-front.ensures
