@@ -26,7 +26,7 @@ mod rfc3164;
 
 use crate::message::{make_room, write_spaced};
 use crate::variant::Variant;
-pub(crate) use rfc3164::{DatedLine, dated_line, dated_text, rfc3164_text};
+pub(crate) use rfc3164::{DatedLine, dated_line, dated_text, stamped_text};
 use std::alloc::AllocError;
 use std::fmt;
 use std::fmt::Write;
@@ -62,29 +62,9 @@ fn verbatim_front(text: &str) -> Option<&str>
     Some(rest)
 }
 
-// The text behind the names and the elements, and what is left out of the list, where one space stands in each gap.
+// The text behind the names and the elements, and what is left out of them.
 #[inline(always)]
-fn spaced_tail(text: &str) -> Option<(&str, Option<Cut<'_>>)>
-    ensures { IfSome result (λ x. RowCopied tail_fields (chars text.now) None (shown x.0) x.1) }
-{
-    let hostname = one_space(text)?;
-    let behind_hostname = verbatim_host(hostname)?;
-    let appname = one_space(behind_hostname)?;
-    let behind_appname = verbatim_word(appname)?;
-    let procid = one_space(behind_appname)?;
-    let behind_procid = verbatim_process(procid)?;
-    let msgid = one_space(behind_procid)?;
-    let behind_msgid = verbatim_word(msgid)?;
-    let elements = one_space(behind_msgid)?;
-    let (rest, cut) = verbatim_list(elements, None)?;
-    Some((rest, cut))
-}
-
-// The same where a gap may be wider. It stands apart, since what it carries along costs the others some twenty
-// instructions.
-#[cold]
-#[inline(never)]
-fn wide_tail(text: &str) -> Option<(&str, Option<Cut<'_>>)>
+fn verbatim_tail(text: &str) -> Option<(&str, Option<Cut<'_>>)>
     ensures { IfSome result (λ x. RowCopied tail_fields (chars text.now) None (shown x.0) x.1) }
 {
     let (hostname, first) = verbatim_gap(text, None)?;
@@ -98,17 +78,6 @@ fn wide_tail(text: &str) -> Option<(&str, Option<Cut<'_>>)>
     let (elements, fifth) = verbatim_gap(behind_msgid, fourth)?;
     let (rest, cut) = verbatim_list(elements, fifth)?;
     Some((rest, cut))
-}
-
-// The text behind the names and the elements, and what is left out of them.
-#[inline(always)]
-fn verbatim_tail(text: &str) -> Option<(&str, Option<Cut<'_>>)>
-    ensures { IfSome result (λ x. RowCopied tail_fields (chars text.now) None (shown x.0) x.1) }
-{
-    match spaced_tail(text) {
-        Some(found) => Some(found),
-        None => wide_tail(text),
-    }
 }
 
 // The text up to the rest behind the elements, and the message, where that isn't behind one space: then it is one text.

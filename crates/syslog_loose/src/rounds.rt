@@ -19,7 +19,7 @@ ghost use Rattle.syslog_loose.specs.declared.fault.ParseFault.TheVariants.{Inval
 use crate::beginning::may_be_read;
 use crate::fault::ParseFault;
 use crate::jumps::write_round;
-use crate::line::{DatedLine, dated_line, dated_text, rfc3164_text, verbatim_text};
+use crate::line::{DatedLine, dated_line, dated_text, stamped_text, verbatim_text};
 use crate::message::{Message, Protocol, has_no_exception, print};
 use crate::reading::{asked_date, read};
 use crate::variant::{IncompleteDate, Variant};
@@ -146,7 +146,7 @@ pub(crate) fn next_round(
         (chars (string_bytes text.new)) settled)
         (λ fault. (fault ≡ Invalid) ↔ IsUnreadable variant (dating_value dating.entry.now) whole)) }
 {
-    let copied = rfc3164_text(text, input, dating, variant)?;
+    let copied = stamped_text(text, input, variant)?;
     if copied {
         return Ok(true);
     }

@@ -2,7 +2,7 @@
 //!
 //! A month date never prints as it is written; a timestamp of RFC 3339, which some programs write in its place, mostly
 //! does. So does what programs write behind either, as ` host app[5]: message`, and the priority before it. So it is
-//! copied, without the fields in between.
+//! copied, without the fields in between. A date with a year, and a timestamp that prints otherwise, are left to be read.
 ghost use Rattle.std.specs.Prelude.{◌≡◌, ◌≢◌, ◌++◌, ◌∷◌, ◌<◌, IfOk, IfSome, IsOk};
 ghost use Rattle.std.specs.Prelude.{IsTrue, OnOk, Some, length, string_bytes};
 ghost use Rattle.std.specs.List.{AllByRecursion};
@@ -13,13 +13,12 @@ ghost use Rattle.syslog_pieces.specs.Pieces.View.{shown};
 ghost use Rattle.syslog_pieces.specs.Text.{dash};
 ghost use Rattle.syslog_pieces.specs.Timestamp.Zone.{Dating as AnyDating, dating_value};
 ghost use Rattle.syslog_loose.specs.Verbatim3164.{VerbatimBehind, VerbatimNames, VerbatimProgram};
-ghost use Rattle.syslog_loose.specs.Verbatim3164.{PrintsAs3164, PrintsVerbatim3164, PrintsStamped, ShowsDated};
-ghost use Rattle.syslog_loose.specs.Printed.{timestamp_text};
+ghost use Rattle.syslog_loose.specs.Verbatim3164.{PrintsAs3164, PrintsStamped, ShowsDated};
 ghost use Rattle.syslog_loose.specs.Reading.{HasMonth, IsUnreadable, OfTrimmed, incomplete};
 ghost use Rattle.syslog_loose.specs.declared.variant.Variant.{Variant};
 
 use super::write_zone;
-use crate::message::{is_canonical_time, make_room, write_spaced, write_timestamp};
+use crate::message::{make_room, write_spaced};
 use crate::variant::{IncompleteDate, Variant};
 use std::alloc::AllocError;
 use std::fmt;
@@ -30,21 +29,11 @@ use syslog_pieces::structured_data::rfc3164_list::{DASH_RULE, begins_list};
 use syslog_pieces::text::verbatim::{before, one_space, verbatim_host};
 use syslog_pieces::text::write_ascii::push_bytes;
 use syslog_pieces::text::{CharClass, blanks, literal, split_run};
-use syslog_pieces::timestamp::OffsetTimestamp;
 use syslog_pieces::timestamp::civil::month_text;
 use syslog_pieces::timestamp::month_date::MonthDate;
 use syslog_pieces::timestamp::month_date::standard::standard_date;
-use syslog_pieces::timestamp::rfc3164::rfc3164_stamp;
 use syslog_pieces::timestamp::verbatim::verbatim_stamp;
 use syslog_pieces::timestamp::zone::Dating;
-
-// A line, cut round its timestamp: the priority, and all from behind the timestamp on.
-#[derive(Clone, Copy)]
-struct Rfc3164Line<'a> {
-    front: &'a str,
-    timestamp: Option<OffsetTimestamp>,
-    tail: &'a str,
-}
 
 // Whether an app name may stand alone: it is neither empty nor `-`.
 #[inline(always)]
@@ -55,10 +44,7 @@ fn is_name(tag: &str) -> bool
 }
 
 // The text behind an app name, or one and a number in brackets.
-#[tactic(auto, using(
-    crate::proofs::Verbatim3164Lemmas::lone_verbatim,
-    crate::proofs::Verbatim3164Lemmas::numbered_verbatim,
-))]
+#[tactic(auto, using(crate::proofs::Verbatim3164Lemmas::lone_verbatim, crate::proofs::Verbatim3164Lemmas::numbered_verbatim,))]
 #[inline(always)]
 fn verbatim_program(text: &str) -> Option<&str>
     ensures { IfSome result (λ rest. VerbatimProgram (chars text.now) (shown rest)) }
@@ -98,41 +84,6 @@ fn is_verbatim_behind(tail: &str) -> bool
         return false;
     };
     !begins_list(msg, DASH_RULE)
-}
-
-// The line, where all but its timestamp prints as it is written.
-#[inline(always)]
-fn rfc3164_line<'a>(text: &'a str, dating: &Dating<'_, '_>) -> Option<Rfc3164Line<'a>>
-    ensures verbatim { IfSome result (λ line. PrintsVerbatim3164 (dating_value dating.entry.now) (chars text.entry.now)
-        (shown line.front) line.timestamp (shown line.tail)) }
-    ensures utf8 { IfSome result (λ line. IsUtf8 line.front.now × IsUtf8 line.tail.now) }
-{
-    let behind = verbatim_priority(text)?;
-    let front = before(text, behind);
-    let Some((timestamp, tail)) = rfc3164_stamp(blanks(behind), dating) else {
-        return None;
-    };
-    let line = Rfc3164Line {
-        front,
-        timestamp,
-        tail,
-    };
-    if is_canonical_time(line.timestamp) && is_verbatim_behind(line.tail) {
-        Some(line)
-    } else {
-        None
-    }
-}
-
-impl fmt::Display for Rfc3164Line<'_> {
-    ghost output = { λ line. Some
-        (line.front.now ++ ((32 ∷ encode_utf8_all (timestamp_text line.timestamp)) ++ line.tail.now)) };
-
-    fn fmt<W: fmt::Write>(&self, f: &mut fmt::Formatter<W>) -> fmt::Result {
-        f.write_str(self.front)?;
-        write_timestamp(f, self.timestamp)?;
-        f.write_str(self.tail)
-    }
 }
 
 // A line whose timestamp prints as it is written, cut round it and before its `Z`, where it has one.
@@ -262,27 +213,22 @@ fn write_dated(
 }
 
 /// Writes the printed text of the message of the trimmed line into `text`, where the variant reads it by RFC 3164 and
-/// all but its timestamp prints as it is written, and tells whether it did. It asks for memory as `dated_text` does.
-pub(crate) fn rfc3164_text(
+/// all of it, its timestamp too, prints as it is written, and tells whether it did. It asks for memory as `dated_text`
+/// does.
+pub(crate) fn stamped_text(
     text: &mut String,
     input: &str,
-    dating: &Dating<'_, '_>,
     variant: Variant,
 ) -> Result<bool, AllocError>
-    ensures text { OfTrimmed (chars input.entry.now) (λ whole. IfOk result (λ found. IsTrue found
-        → PrintsAs3164 variant (dating_value dating.entry.now) whole (string_bytes text.new))) }
-    ensures memory { OfTrimmed (chars input.entry.now) (λ whole.
-        IsUnreadable variant (dating_value dating.entry.now) whole → IsOk result) }
+    ensures text { OfTrimmed (chars input.now) (λ whole. (dating : AnyDating) → IfOk result (λ found. IsTrue found
+        → PrintsAs3164 variant dating whole (string_bytes text.new))) }
+    ensures memory { OfTrimmed (chars input.now) (λ whole. (dating : AnyDating)
+        → IsUnreadable variant dating whole → IsOk result) }
 {
     if !variant.reads_rfc3164() {
         return Ok(false);
     }
-    if let Some(line) = stamped_line(input) {
-        make_room(text, input.len())?;
-        write!(text, "{line}")?;
-        return Ok(true);
-    }
-    let Some(line) = rfc3164_line(input, dating) else {
+    let Some(line) = stamped_line(input) else {
         return Ok(false);
     };
     make_room(text, input.len())?;

@@ -12,15 +12,15 @@ returns-in_err-copied c whole e =
     let (_, f, same) = err_from_is_err_and c.from_residual.result c.from_residual.ensures.1 in
     rw (f, same) (
       λ i. absurd (invalid_or_memory i),
-      λ u. absurd (no_ok _ _ c.in_err-copied.was (c.rfc3164_text.ensures.memory whole e u)),
+      λ u. absurd (no_ok _ _ c.in_err-copied.was (c.stamped_text.ensures.memory whole e _ u)),
     )
 
 pub returns-then-copied : goal.returns-then-copied
 returns-then-copied c whole e =
     let dating = dating_value c.args.dating.now in
-    let k = found_text (PrintsAs3164 c.args.variant dating whole (string_bytes c.rfc3164_text.new.text))
-    _ _ c.in_ok-copied.was c.if-copied.true (c.rfc3164_text.ensures.text whole e) in
-    round_freely _ _ c.args.skips _ _ (IsUtf8-string_bytes c.rfc3164_text.new.text) k
+    let k = found_text (PrintsAs3164 c.args.variant dating whole (string_bytes c.stamped_text.new.text))
+    _ _ c.in_ok-copied.was c.if-copied.true (c.stamped_text.ensures.text whole e dating) in
+    round_freely _ _ c.args.skips _ _ (IsUtf8-string_bytes c.stamped_text.new.text) k
 
 pub returns-in_err-message : goal.returns-in_err-message
 returns-in_err-message c whole e =

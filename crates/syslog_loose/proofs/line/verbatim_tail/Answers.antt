@@ -1,7 +1,7 @@
 use Rattle.std.proofs.Common.{refl}
 use Rattle.syslog_loose.specs.Formats.{tail_fields}
 use Rattle.syslog_loose.proofs.VerbatimLineLemmas.{as_written, gap_copied, row_copied, ◌onto◌}
-use Rattle.syslog_loose.proofs.line.wide_tail.Goals as goal
+use Rattle.syslog_loose.proofs.line.verbatim_tail.Goals as goal
 
 pub returns : goal.returns
 returns c = row_copied tail_fields
