@@ -1,7 +1,7 @@
 -- Every count of nanoseconds in range has civil fields, which the calendar has.
 use Rattle.std.proofs.Common.{◌≡◌, ℕ, ℤ, zero, suc, pos, negsuc, ◌+ℤ◌, ◌-ℤ◌, ◌*ℤ◌, ◌≤ℤ◌, ◌<ℤ◌, ◌+◌, ◌-◌}
-use Rattle.std.proofs.Common.{◌*◌, ◌/◌, ◌%◌, ◌<◌, ◌≤◌, ◌≢◌, inl, inr, refl, ap, ◌∙◌, arith, unsigned_abs}
-use Rattle.std.proofs.lemmas.Bool.Decides.{leb_tells}
+use Rattle.std.proofs.Common.{◌*◌, ◌/◌, ◌%◌, ◌<◌, ◌≤◌, ◌≢◌, refl, ap, ◌∙◌, arith, unsigned_abs}
+use Rattle.std.proofs.lemmas.Bool.Decides.{nat_tests}
 use Rattle.std.specs.Int.{int_div_euclid, int_rem_euclid}
 use Rattle.jiff.specs.Words.{nanos_of_seconds, IsTimestampNanos, IsOffsetSeconds, IsCivilNanos, IsEpochDay, IsYear}
 use Rattle.jiff_core.specs.Calendar.{days_of_months, days_of_years, days_from_civil}
@@ -28,25 +28,13 @@ months_fit : (y : ℤ) (n count : ℕ) → (days_of_months y (months_within y n 
     × (count < days_of_months y (suc n) → count < days_of_months y (suc (months_within y n count)))
 unfolding months_within
 months_fit y zero count = let none = days_of_months-zero y in (omega arith, omega arith, λ h. h)
-months_fit y (suc n) count = elim (leb_tells (days_of_months y (suc n)) count) [
-  | inl fits ↦ rw fits.0 (fits.1, omega arith, λ h. h)
-  | inr over ↦
-      let below = months_fit y n count in
-      let less = over.1 in
-      rw over.0 (below.0, omega (arith, below.1), λ h. below.2 (omega arith))
-]
+months_fit y (suc n) count = let below = months_fit y n count in grind (arith, nat_tests)
 
 years_fit : (n count : ℕ) → (days_of_years (years_within n count) ≤ count) × (years_within n count ≤ n)
     × (count < days_of_years (suc n) → count < days_of_years (suc (years_within n count)))
 unfolding years_within days_of_years
 years_fit zero count = (omega arith, omega arith, λ h. h)
-years_fit (suc n) count = elim (leb_tells (days_of_years (suc n)) count) [
-  | inl fits ↦ rw fits.0 (fits.1, omega arith, λ h. h)
-  | inr over ↦
-      let below = years_fit n count in
-      let less = over.1 in
-      rw over.0 (below.0, omega (arith, below.1), λ h. below.2 (omega arith))
-]
+years_fit (suc n) count = let below = years_fit n count in grind (arith, nat_tests)
 
 day_count-first : (y : ℤ) (k : ℕ) → y +ℤ pos 10000 ≡ pos k → day_count y 1 1 ≡ days_of_years k
 unfolding day_count

@@ -122,9 +122,8 @@ digits-all : (digits rest : List ℕ) → All IsAsciiDigit digits → prefix_len
 digits-all digits rest all stop =
     let whole : prefix_len is_ascii_digit digits ≡ length digits =
     prefix_len_is is_ascii_digit digits (length digits) 0 (omega arith)
-    (λ k h. let digit = all k 0 h in grind (arith, nat_tests, digit)) (λ h. absurd (omega arith)) in
-    let same : (prefix_len is_ascii_digit digits == length digits) ≡ true = grind (arith, nat_tests, whole) in
-    rw (prefix_len-append, same, stop) (omega arith)
+    (λ k h. grind (arith, nat_tests, all k 0 h)) (λ h. absurd (omega arith)) in
+    rw prefix_len-append (grind (arith, nat_tests))
 
 -- digits are read whole where none follows
 pub decimals-of : {digits : List ℕ} {n : ℕ} (rest : List ℕ) → AreDecimals digits n → prefix_len is_ascii_digit rest ≡ 0

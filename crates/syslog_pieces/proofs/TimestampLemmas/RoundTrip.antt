@@ -1,6 +1,6 @@
 -- A printed stamp and the texts of RFC 3339: what is printed of a canonical timestamp has it, and no other timestamp
 -- has a text.
-use Rattle.std.proofs.Common.{◌≡◌, ℕ, ℤ, zero, suc, pos, negsuc, neg_ℤ, ◌+ℤ◌, ◌-ℤ◌, ◌≤ℤ◌, ◌<ℤ◌, ◌+◌}
+use Rattle.std.proofs.Common.{◌≡◌, ℕ, ℤ, suc, pos, negsuc, neg_ℤ, ◌+ℤ◌, ◌-ℤ◌, ◌≤ℤ◌, ◌<ℤ◌, ◌+◌}
 use Rattle.std.proofs.Common.{◌*◌, ◌/◌, ◌%◌, ◌<◌, true, min, inl, inr, refl, ap}
 use Rattle.std.proofs.Common.{◌∙◌, arith, unsigned_abs, List, ◌∷◌, ◌++◌, append_assoc}
 use Rattle.std.proofs.lemmas.Bool.Decides.{nat_tests}
@@ -99,8 +99,7 @@ fields-back f h =
     civil_fields-is (datetime_of f h).0 (nanos_of_fields f) (civil_nanos-fields (datetime_of f h).0 f refl)
 
 abs-neg : (k : ℕ) → unsigned_abs (neg_ℤ (pos k)) ≡ k
-abs-neg zero = refl
-abs-neg (suc k) = refl
+abs-neg k = omega (arith, signed_arith)
 
 pub offset-canonical : (zone : List ℕ) (o : ℤ) → IsOffsetText zone o
     → (unsigned_abs o % 60 ≡ 0) × (unsigned_abs o < 86_400)
@@ -170,3 +169,6 @@ printed_stamp-begins s =
     let (year_in, _, _) = (own_fields s).date in
     let small = absolute f.year 9_999 year_in in
     begins f.year (unsigned_abs f.year) _ _ (omega arith)
+
+-- what the law of printed stamps rests on
+pub ruleset printed_word = (printed_stamp-begins, printed_stamp-visible)

@@ -1,7 +1,7 @@
 -- The timestamp of civil fields in a zone: there is at most one, and what its readers answer. The printed text of a
 -- month date's timestamp, by what a clock at its offset shows.
 use Rattle.std.proofs.Common.{IfSome, ◌<ℤ◌, arith, ◌≡◌, pos, ℤ, Option, Some, None, sym, ap, subst, ◌∙◌, ℕ, ◌+◌, ◌-ℤ◌}
-use Rattle.std.proofs.Common.{◌≤ℤ◌, refl, List, [], ◌∷◌, ◌++◌, ◌/◌, ◌%◌, ◌<◌, negsuc, unsigned_abs}
+use Rattle.std.proofs.Common.{◌≤ℤ◌, refl, List, [], ◌∷◌, ◌++◌, ◌/◌, ◌%◌, ◌<◌, unsigned_abs}
 use Rattle.jiff.proofs.Family.{same_datetime}
 use Rattle.jiff.specs.Types.{DateTime, Offset, TimeZone, AmbiguousOffset, Unambiguous, Gap, Fold, UTC, Unknown}
 use Rattle.jiff.specs.Types.{Fixed as FixedZone, Posix, Tzif}
@@ -124,8 +124,7 @@ earlier_at tz f at (Some offset) e h =
 -- ---- the text
 
 no_sign : (year : ℤ) → pos 0 ≤ℤ year → year_sign year ≡ []
-no_sign (pos n) h = refl
-no_sign (negsuc n) h = absurd (omega (arith, signed_arith))
+no_sign year h = grind (arith, signed_arith)
 
 -- in a year from 0 on, and without a fraction
 whole_text : (f : CivilFields) (o : ℤ) → pos 0 ≤ℤ f.year → f.nanosecond ≡ 0
@@ -187,7 +186,5 @@ pub fixed_answers : (tz : Option TimeZone) (local zone : TimeZone) (f : CivilFie
     → zone ≡ zone_of tz local → IsFixed zone → ((n : ℤ) → offset.seconds ≡ offset_at zone n)
     → IfSome r (IsEarlyStamp f offset)
     → IfSome r (IsStampOfFields tz local f)
-fixed_answers tz local zone f offset None e fixed at h = tt
-fixed_answers tz local zone f offset (Some s) e fixed at h =
-    fixed_answer tz local f offset s (subst IsFixed e fixed)
-    (subst (λ (x : TimeZone). (n : ℤ) → offset.seconds ≡ offset_at x n) e at) h
+fixed_answers tz local zone f offset r e fixed at h =
+    grind (arith, fixed_answer tz local f offset, subst IsFixed e fixed)
