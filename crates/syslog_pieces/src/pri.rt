@@ -231,6 +231,7 @@ fn priority_bytes(text: &[u8]) -> Option<(u8, &[u8])>
 }
 
 // The priority at the front, where it has one to three digits, and the text behind it.
+#[tactic(auto, using(crate::proofs::PriLemmas::priority_read))]
 #[inline(always)]
 fn standard_priority(text: &str) -> Option<(u8, &str)>
     ensures { IfSome result (λ read. Front spec.priority (chars text.now) (shown read.1) read.0) }

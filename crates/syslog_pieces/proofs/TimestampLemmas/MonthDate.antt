@@ -134,25 +134,19 @@ shown_once text d d' (p, more, h) (p', more', h') =
     ap (λ (x : Values (showing_row yearless_date)). x.1.1.0) (unique_division (showing_row yearless_date)
     (optional_det priority priority_det also run_det is_blank also yearless_det also rest_det also tt) h h').1
 
--- ---- the name of a month
-module _ (t t1 t2 t3 : Text) (a b c : ℕ) (e : t ≡ a ∷ t1) (f : t1 ≡ b ∷ t2) (g : t2 ≡ c ∷ t3)
-    (x y z : ℕ) (i : x ≡ to_ascii_lowercase a) (j : y ≡ to_ascii_lowercase b) (k : z ≡ to_ascii_lowercase c)
-    (n : Option ℕ) (m : n ≡ small_month x y z) where
-  three : t ≡ (a ∷ b ∷ c ∷ []) ++ t3
-  three = cc
+-- ---- the name of a month, in letters of either case
+module _ (t q : Text) (a b c : ℕ) (e : t ≡ a ∷ b ∷ c ∷ q) where
+  pub month_read : (n : ℕ) → IsNamed (to_ascii_lowercase a) (to_ascii_lowercase b) (to_ascii_lowercase c) n
+      → Front month t q n
+  month_read n h = record { piece = a ∷ b ∷ c ∷ []; whole = e; is = month_named h }
 
-  small : n ≡ small_month (to_ascii_lowercase a) (to_ascii_lowercase b) (to_ascii_lowercase c)
-  small = cc
-
-  pub month_read : (v : ℕ) → IsNamed x y z v → Front month t t3 v
-  month_read v h = record { piece = a ∷ b ∷ c ∷ []; whole = three; is = month_named (rw (i, j, k) at h) }
-
-  pub no_month_read : n ≡ None → NoFront month t
-  no_month_read s p q v w h =
-      let (a', b', c', w', m') = month_letters p v h in
-      let u : a ∷ b ∷ c ∷ t3 ≡ a' ∷ b' ∷ c' ∷ q = sym three ∙ w ∙ ap (λ (u : Text). u ++ q) w' in
+  pub no_month_read : small_month (to_ascii_lowercase a) (to_ascii_lowercase b) (to_ascii_lowercase c) ≡ None
+      → NoFront month t
+  no_month_read none p r n w h =
+      let (a', b', c', w', m) = month_letters p n h in
+      let u : a ∷ b ∷ c ∷ q ≡ a' ∷ b' ∷ c' ∷ r = sym e ∙ w ∙ ap (λ (u : Text). u ++ r) w' in
       let ha : a ≡ a' = cc in let hb : b ≡ b' = cc in let hc : c ≡ c' = cc in
-      let r : None ≡ Some v = sym s ∙ small ∙ (rw (ha, hb, hc) refl) ∙ m' in cc
+      let r : None ≡ Some n = sym none ∙ (rw (ha, hb, hc) refl) ∙ m in cc
 
 -- fewer than three characters
 pub no_short : (t : Text) → length t < 3 → NoFront month t
@@ -167,11 +161,10 @@ module _ {t : Text} where
   pub yearless_none_here : NoFront (Row day_row) t → NoFront yearless_date t
   yearless_none_here n = no_mapped (Row yearless_row) MonthDate yearless_of (rows_none_here day_row clock_row n)
 
-  pub dated_none_here : NoFront (Row day_row) t → NoFront dated_date t
-  dated_none_here n = no_mapped (Row dated_row) MonthDate dated_of (rows_none_here day_row from_year n)
-
   pub no_day : NoFront (Row day_row) t → NoFront month_date t
-  no_day n = no_either MonthDate yearless_date.Is dated_date.Is (yearless_none_here n) (dated_none_here n)
+  no_day n =
+      no_either MonthDate yearless_date.Is dated_date.Is (yearless_none_here n)
+      (no_mapped (Row dated_row) MonthDate dated_of (rows_none_here day_row from_year n))
 
   module _ {u : Text} (d : Day) (f : Front (Row day_row) t u (day_values d)) where
     pub yearless_front : {q : Text} (c : Clock) (more : Option (Unit {0}))
@@ -182,28 +175,16 @@ module _ {t : Text} where
     yearless_none_later n =
         no_mapped (Row yearless_row) MonthDate yearless_of (rows_none_later day_row clock_row day_det f n)
 
-    pub month_date_yearless : {q : Text} (c : Clock) (more : Option (Unit {0}))
-        → Front (Row clock_row) u q (clock_values c more) → Front month_date t q (date_of None d c)
-    month_date_yearless c more g = yearless_is (yearless_front c more g)
+    -- neither a clock nor a year and a clock stands behind the day
+    pub no_clock : NoFront (Row clock_row) u → NoFront (Row from_year) u → NoFront month_date t
+    no_clock n m =
+        no_either MonthDate yearless_date.Is dated_date.Is (yearless_none_later n)
+        (no_mapped (Row dated_row) MonthDate dated_of (rows_none_later day_row from_year day_det f m))
 
-    -- no clock stands behind the day
-    module _ (n : NoFront (Row clock_row) u) where
-      dated_none_later : NoFront (Row from_year) u → NoFront month_date t
-      dated_none_later m =
-          no_either MonthDate yearless_date.Is dated_date.Is (yearless_none_later n)
-          (no_mapped (Row dated_row) MonthDate dated_of (rows_none_later day_row from_year day_det f m))
-
-      pub no_year : NoFront (Row year_row) u → NoFront month_date t
-      no_year m = dated_none_later (rows_none_here year_row clock_row m)
-
-      pub no_clock : {w : Text} (y : ℕ) → Front (Row year_row) u w (year_values y) → NoFront (Row clock_row) w
-          → NoFront month_date t
-      no_clock y g m = dated_none_later (rows_none_later year_row clock_row year_det g m)
-
-    pub month_date_dated : {w q : Text} (y : ℕ) (c : Clock) (more : Option (Unit {0}))
+    pub dated_front : {w q : Text} (y : ℕ) (c : Clock) (more : Option (Unit {0}))
         → Front (Row year_row) u w (year_values y) → Front (Row clock_row) w q (clock_values c more)
         → Front month_date t q (date_of (Some y) d c)
-    month_date_dated y c more g h =
+    dated_front y c more g h =
         second_kind MonthDate yearless_date.Is dated_date.Is
         (mapped_front (Row dated_row) MonthDate dated_of
         (rows_join day_row from_year f (rows_join year_row clock_row g h)))

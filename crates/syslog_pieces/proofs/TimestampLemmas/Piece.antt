@@ -71,3 +71,6 @@ module _ {t q : Text} {w : Rfc3339Fields} (f : Front stamp_text t q w) where
   no_header n p q' (Some v) e ((w', h, k), (r, z)) =
       let (rest, same) = front_same stamp_text stamp_text_det (record { piece = p; whole = e; is = h }) f in
       n v r (sym rest ∙ z) (subst (λ (x : Rfc3339Fields). IsStampOfRfc3339 x v) same k)
+
+-- what the reader of such timestamps rests on
+pub ruleset header_fronts = (stamp_front, dash_front)

@@ -21,7 +21,7 @@ pub in_range-at_offset : (n o : ℤ) → IsTimestampNanos n → IsOffsetSeconds 
 in_range-at_offset n o h k = omega (arith, signed_arith)
 
 abs-diff : (a b : ℤ) (k : ℕ) → a ≡ b +ℤ pos k → unsigned_abs (a -ℤ b) ≡ k
-abs-diff a b k e = let same : a -ℤ b ≡ pos k = omega (arith, signed_arith) in rw same
+abs-diff a b k e = grind (arith, signed_arith)
 
 months_fit : (y : ℤ) (n count : ℕ) → (days_of_months y (months_within y n count) ≤ count)
     × (months_within y n count ≤ n)
@@ -65,15 +65,12 @@ year_placed : (day : ℤ) (count k : ℕ) → IsEpochDay day → pos count ≡ d
     → (count < days_of_years (suc 20000) → count < days_of_years (suc k))
     → IsPlaced day (pos k -ℤ pos 10000) (count - days_of_years k)
 year_placed day count k range e low most next =
-    let all = years_all in
-    let more = days_of_years-next 20000 in
-    let high : count < days_of_years (suc k) = next (omega (arith, signed_arith, range.1)) in
-    let below : k ≡ 20000 → ⊥ = λ same. let f : days_of_years k ≡ 7_304_850 = ap days_of_years same ∙ all in
-    omega (arith, signed_arith, range.1) in
-    let above : k ≢ 0 = λ same. let f : days_of_years (suc k) ≡ 366 = ap (λ j. days_of_years (suc j)) same
-    ∙ years_one in omega (arith, signed_arith, range.0) in
-    let shifted : pos k -ℤ pos 10000 +ℤ pos 10000 ≡ pos k = omega (arith, signed_arith) in
-    let first = day_count-first (pos k -ℤ pos 10000) k shifted in
+    let high : count < days_of_years (suc k) =
+    next (omega (arith, signed_arith, range.1, years_all, days_of_years-next 20000)) in
+    let below : k ≡ 20000 → ⊥ = λ s. let f = ap days_of_years s in omega (arith, signed_arith, range.1, years_all) in
+    let above : k ≢ 0 = λ s. let f = ap (λ j. days_of_years (suc j)) s in
+    omega (arith, signed_arith, range.0, years_one) in
+    let first = day_count-first (pos k -ℤ pos 10000) k (omega (arith, signed_arith)) in
     let number = days_from_civil-day_count (pos k -ℤ pos 10000) 1 1 in
     let step = days_of_years-next k in
     record {
@@ -102,7 +99,7 @@ month_placed y place j h low most next =
     let high = next (omega arith) in
     let more = days_of_months_more y (suc j) (omega arith) in
     let back : suc j - 1 ≡ j = omega arith in
-    let step : days_of_months y (suc j) ≡ days_of_months y j + days_in_month y (suc j) = rw back at more in
+    let step = rw back at more in
     let same : j + 1 ≡ suc j = omega arith in
     rw (same, back) (omega arith, omega arith)
 

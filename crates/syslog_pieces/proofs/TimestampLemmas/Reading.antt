@@ -439,3 +439,6 @@ same_timestamp s t e f = λ i. record {
 pub one_timestamp : (text : List ℕ) (s t : OffsetTimestamp) → IsStampText text s → IsStampText text t → s ≡ t
 one_timestamp text s t h k =
     let same = one_stamp text _ _ _ _ h k in same_timestamp s t same.0 same.1
+
+-- what the reader of texts rests on
+pub ruleset text_fronts = (text_cut, text_front)

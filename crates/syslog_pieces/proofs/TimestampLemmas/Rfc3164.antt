@@ -83,3 +83,6 @@ module _ (dating : Dating) {t : Text} where
         → NoFront (rfc3164_stamp dating) t
     no_stamp_of_date d f m = no_stamped (λ d' s q g k. m s
         (subst (λ (x : MonthDate). IsMonthStamp dating x s) (front_same month_date month_date_det g f).1 k))
+
+-- what the reader rests on
+pub ruleset fronts = (header_front, date_front)

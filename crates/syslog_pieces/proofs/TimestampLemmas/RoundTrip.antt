@@ -1,7 +1,7 @@
 -- A printed stamp and the texts of RFC 3339: what is printed of a canonical timestamp has it, and no other timestamp
 -- has a text.
 use Rattle.std.proofs.Common.{◌≡◌, ℕ, ℤ, suc, pos, negsuc, neg_ℤ, ◌+ℤ◌, ◌-ℤ◌, ◌≤ℤ◌, ◌<ℤ◌, ◌+◌}
-use Rattle.std.proofs.Common.{◌*◌, ◌/◌, ◌%◌, ◌<◌, true, min, inl, inr, refl, ap}
+use Rattle.std.proofs.Common.{◌*◌, ◌/◌, ◌%◌, ◌<◌, true, min, inl, inr, refl, sym, ap}
 use Rattle.std.proofs.Common.{◌∙◌, arith, unsigned_abs, List, ◌∷◌, ◌++◌, append_assoc}
 use Rattle.std.proofs.lemmas.Bool.Decides.{nat_tests}
 use Rattle.std.specs.Char.{is_ascii_digit, is_not_whitespace}
@@ -25,7 +25,7 @@ use Rattle.syslog_pieces.proofs.TimestampLemmas.Civil.{civil_fields-is, datetime
 use Rattle.syslog_pieces.proofs.TimestampLemmas.Reading.{fraction_text-is, signed_is, writes-of}
 use Rattle.syslog_pieces.proofs.TimestampLemmas.Piece.{each_visible}
 use Rattle.syslog_pieces.proofs.TimestampLemmas.Printing.{absolute, printed_stamp-characters}
-use Rattle.syslog_pieces.proofs.TimestampLemmas.Range.{late_fields, civil_fields_exist, in_range-at_offset}
+use Rattle.syslog_pieces.proofs.TimestampLemmas.Range.{late_fields, civil_fields_exist, in_range-at_offset, from_start}
 
 -- ---- a printed offset
 
@@ -48,15 +48,13 @@ pub text-shape : (f : CivilFields) (y : ℕ) (more : List ℕ) → f.year ≡ po
 unfolding date_time_text
 text-shape f y more e = rw e (simp append_assoc)
 
-pub year-from : (z : ℤ) → pos 0 ≤ℤ z → (y : ℕ) × (z ≡ pos y)
-year-from (pos n) h = (n, refl)
-year-from (negsuc n) h = absurd (omega (arith, signed_arith))
-
 -- fields as they print, and any text of the offset
-pub fields-read : (f : CivilFields) (y : ℕ) (n o : ℤ) (zone : List ℕ) → f.year ≡ pos y → AreCivil f → IsTimestampNanos n
+pub fields-read : (f : CivilFields) (n o : ℤ) (zone : List ℕ) → pos 0 ≤ℤ f.year → AreCivil f → IsTimestampNanos n
     → nanos_of_fields f ≡ n +ℤ nanos_of_seconds o
     → IsOffsetText zone o → HasStamp (date_time_text f ++ (fraction_text f.nanosecond ++ zone)) n o
-fields-read f y n o zone e there range nanos zone_is =
+fields-read f n o zone from there range nanos zone_is =
+    let y = unsigned_abs f.year in
+    let e : f.year ≡ pos y = sym (from_start f.year from) in
     let day : Day = record { year = y; month = f.month; day = f.day } in
     let time : Clock = record { hour = f.hour; minute = f.minute; second = f.second } in
     let w = written day time f.nanosecond o in
@@ -87,8 +85,7 @@ printed_stamp-back s p =
     let n = s.instant.nanosecond in
     let o = s.offset.seconds in
     let fields = civil_fields_exist _ (in_range-at_offset n o s.instant.in_range s.offset.in_range) in
-    let (y, e) = year-from _ p.year_from in
-    fields-read (civil_fields (n +ℤ nanos_of_seconds o)) y n o (offset_text o) e fields.0 s.instant.in_range fields.1
+    fields-read _ n o (offset_text o) p.year_from fields.0 s.instant.in_range fields.1
     (offset_text-is o p.minutes p.day)
 
 -- ---- a timestamp that a text has is canonical

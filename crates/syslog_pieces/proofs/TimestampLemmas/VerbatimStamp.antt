@@ -2,7 +2,7 @@
 use Rattle.std.proofs.Common.{◌≡◌, ◌⊎◌, ℕ, suc, ℤ, pos, ◌+ℤ◌, ◌+◌, ◌*◌, ◌-◌, ◌/◌, ◌%◌, ◌<◌, ◌≢◌, true, false}
 use Rattle.std.proofs.Common.{Some, inl, inr, refl, sym, ap, ◌∙◌, arith, List, [], ◌∷◌, ◌++◌, append_assoc}
 use Rattle.std.proofs.Common.{append-nil, unsigned_abs}
-use Rattle.std.proofs.lemmas.Bool.{eq-eqb, ne_eqb}
+use Rattle.std.proofs.lemmas.Bool.Decides.{nat_tests}
 use Rattle.std.proofs.lemmas.Str.{IsUtf8-from_ascii, IsUtf8-append}
 use Rattle.std.specs.Str.{chars, IsUtf8}
 use Rattle.jiff.specs.Types.{DateTime, Offset}
@@ -24,7 +24,7 @@ use Rattle.syslog_pieces.proofs.TextLemmas.Chars.{ascii_front, one_ascii}
 use Rattle.syslog_pieces.proofs.TimestampLemmas.Civil.{civil_nanos-fields, datetime_of, prints, shown, stamp}
 use Rattle.syslog_pieces.proofs.TimestampLemmas.Piece.{stamp_front}
 use Rattle.syslog_pieces.proofs.TimestampLemmas.Reading.{signed_is, text_chars, text_utf8}
-use Rattle.syslog_pieces.proofs.TimestampLemmas.RoundTrip.{text-shape, fields-read, year-from, offset-canonical}
+use Rattle.syslog_pieces.proofs.TimestampLemmas.RoundTrip.{text-shape, fields-read, offset-canonical}
 
 -- ---- the pieces
 
@@ -40,25 +40,16 @@ date_and_clock_is {rest = rest} {day = day} f d y m n e1 e2 e3 =
 -- three, six or nine decimals, the last three of which are not all zero
 three_text : (n a : ℕ) → n ≡ a * 1_000_000 → a ≢ 0 → fraction_text n ≡ 46 ∷ pad3 a
 unfolding fraction_text
-three_text n a e some =
-    let q : n / 1_000_000 ≡ a = omega arith in
-    rw (ne_eqb n 0 (omega arith), eq-eqb (n % 1_000_000) 0 (omega arith), q)
+three_text n a e some = grind (arith, nat_tests)
 
 six_text : (n a b : ℕ) → n ≡ a * 1_000_000 + b * 1_000 → b < 1_000 → b ≢ 0 → fraction_text n ≡ 46 ∷ (pad3 a ++ pad3 b)
 unfolding fraction_text
-six_text n a b e small some =
-    let q : n / 1_000_000 ≡ a = omega arith in
-    let r : n / 1_000 % 1_000 ≡ b = omega arith in
-    rw (ne_eqb n 0 (omega arith), ne_eqb (n % 1_000_000) 0 (omega arith), eq-eqb (n % 1_000) 0 (omega arith), q, r)
+six_text n a b e small some = grind (arith, nat_tests)
 
 nine_text : (n a b c : ℕ) → n ≡ a * 1_000_000 + b * 1_000 + c → b < 1_000 → c < 1_000 → c ≢ 0
     → fraction_text n ≡ 46 ∷ (pad3 a ++ (pad3 b ++ pad3 c))
 unfolding fraction_text
-nine_text n a b c e small little some =
-    let q : n / 1_000_000 ≡ a = omega arith in
-    let r : n / 1_000 % 1_000 ≡ b = omega arith in
-    let l : n % 1_000 ≡ c = omega arith in
-    rw (ne_eqb n 0 (omega arith), ne_eqb (n % 1_000_000) 0 (omega arith), ne_eqb (n % 1_000) 0 (omega arith), q, r, l)
+nine_text n a b c e small little some = grind (arith, nat_tests)
 
 module _ (text rest : List ℕ) (a : ℕ) (a_in : a < 1_000) where
   pub three_verbatim : a ≢ 0 → text ≡ pad3 a ++ rest → IsVerbatimFraction (46 ∷ text) rest
@@ -154,11 +145,10 @@ module _ (bs behind zone : List ℕ) (u : IsUtf8 bs) (d : IsDateAndClock bs behi
     -- and is read from them with that text
     reads_so : IsStampText (front ++ text) shows
     reads_so =
-        let (y, e) = year-from fields.year d.from in
         let count : nanos_of_fields fields ≡ shows.instant.nanosecond +ℤ nanos_of_seconds o =
         sym (civil_nanos-fields dt fields refl) ∙ shown dt clock d.from d.to in
         rw append_assoc
-        (fields-read fields y shows.instant.nanosecond o text e there shows.instant.in_range count h)
+        (fields-read fields shows.instant.nanosecond o text d.from there shows.instant.in_range count h)
 
     module _ (rest : List ℕ) (whole : zone ≡ text ++ rest) (space : IsBeforeSpace rest) where
       abbrev written : Front stamp_text bs rest reads_so.0
@@ -222,3 +212,6 @@ module _ (bs behind zone : List ℕ) (u : IsUtf8 bs) (d : IsDateAndClock bs behi
       is = stamp_there (pos 0) (90 ∷ []) z_is rest whole space;
       prints = ap (λ (x : List ℕ). front ++ x) zero_text ∙ prints_so (pos 0) (90 ∷ []) z_is;
     }
+
+-- what the reader of such stamps rests on
+pub ruleset verbatim_stamps = (offset_utf8, offset_verbatim, zulu_verbatim)

@@ -4,7 +4,7 @@ use Rattle.std.proofs.Common.{IfSome, ◌<ℤ◌, arith, ◌≡◌, pos, ℤ, Op
 use Rattle.std.proofs.Common.{◌≤ℤ◌, refl, List, [], ◌∷◌, ◌++◌, ◌/◌, ◌%◌, ◌<◌, unsigned_abs}
 use Rattle.jiff.proofs.Family.{same_datetime}
 use Rattle.jiff.specs.Types.{DateTime, Offset, TimeZone, AmbiguousOffset, Unambiguous, Gap, Fold, UTC, Unknown}
-use Rattle.jiff.specs.Types.{Fixed as FixedZone, Posix, Tzif}
+use Rattle.jiff.specs.Types.{Fixed as FixedZone}
 use Rattle.jiff.specs.Words.{offset_at, ambiguous_at, nanos_of_seconds, IsFixed}
 use Rattle.jiff_core.proofs.SignedLemmas.{signed_arith}
 use Rattle.jiff_fmt.specs.Text.{pad2}
@@ -31,13 +31,11 @@ one_datetime f a b e e' = same_datetime a b (civil_nanos-fields a f e ∙ sym (c
 
 at_once : (dt : DateTime) (offset : Offset) (s t : OffsetTimestamp) → IsStampAt dt offset s → IsStampAt dt offset t
     → s ≡ t
-at_once dt offset s t h k = same_timestamp s t (h.instant ∙ sym k.instant) (h.at_offset ∙ sym k.at_offset)
+at_once dt offset s t h k = same_timestamp s t (cc) (cc)
 
 in_gap_once : (tz : TimeZone) (dt : DateTime) (s t : OffsetTimestamp) → IsStampInGap tz dt s → IsStampInGap tz dt t
     → s ≡ t
-in_gap_once tz dt s t h k =
-    let e = h.instant ∙ sym k.instant in
-    same_timestamp s t e (h.at_offset ∙ ap (λ (n : ℤ). offset_at tz n) e ∙ sym k.at_offset)
+in_gap_once tz dt s t h k = same_timestamp s t (cc) (cc)
 
 once_of : (a : AmbiguousOffset) (tz : TimeZone) (dt : DateTime) (s t : OffsetTimestamp)
     → (IsStampOf a dt s → IsStampOf a dt t → s ≡ t) × (IsLocalStampOf a tz dt s → IsLocalStampOf a tz dt t → s ≡ t)
@@ -54,11 +52,9 @@ in_any_once None local dt s t = (once_of (ambiguous_at local dt) local dt s t).1
 pub month_stamp_once : (dating : Dating) (date : MonthDate) (s t : OffsetTimestamp) → IsMonthStamp dating date s
     → IsMonthStamp dating date t → s ≡ t
 month_stamp_once dating date s t (year, y, (dt, f, h)) (year', y', (dt', f', h')) =
-    let same_year : year ≡ year' = (let e : Some year ≡ Some year' = sym y ∙ y' in cc) in
-    let same : dt ≡ dt' =
-    one_datetime (civil_of date year') dt dt' (f ∙ ap (λ (x : ℤ). civil_of date x) same_year) f' in
-    in_any_once dating.zone dating.local dt' s t
-    (subst (λ (x : DateTime). IsStampInAny dating.zone dating.local x s) same h) h'
+    let same_year : year ≡ year' = cc in
+    let same : dt ≡ dt' = one_datetime (civil_of date year') dt dt' (cc) f' in
+    in_any_once dating.zone dating.local dt' s t (rw same at h) h'
 
 -- ---- what the readers answer
 
@@ -110,8 +106,7 @@ unfolding ambiguous_at offset_at
 fixed_earlier UTC offset dt fixed h = ap Some (same_offset utc_offset offset (sym (h (pos 0))))
 fixed_earlier Unknown offset dt fixed h = ap Some (same_offset utc_offset offset (sym (h (pos 0))))
 fixed_earlier (FixedZone o) offset dt fixed h = ap Some (same_offset o offset (sym (h (pos 0))))
-fixed_earlier (Posix tz) offset dt fixed h = absurd fixed
-fixed_earlier (Tzif z) offset dt fixed h = absurd fixed
+fixed_earlier _ offset dt fixed h = absurd fixed
 
 -- fields name one datetime, so an offset at it is that of the fields
 pub earlier_at : (tz : TimeZone) (f : CivilFields) (at : DateTime) (r : Option Offset) → fields_of at ≡ f
@@ -152,18 +147,10 @@ month_printed dating date year f offset text y e there (from, to) at (minutes, d
     let (dt, same) = datetime_of f there in
     let low : pos 0 ≤ℤ dt.date.year = from in
     let high : dt.date.year <ℤ pos 9999 = to in
+    let shown = in_any dating.zone dating.local dt offset _ (at dt same) (at_offset dt offset low high) in
     record {
       stamp = stamp dt offset low high;
-      is = (
-        year,
-        y,
-        (
-          dt,
-          same ∙ e,
-          in_any dating.zone dating.local dt offset (stamp dt offset low high) (at dt same)
-              (at_offset dt offset low high),
-        ),
-      );
+      is = (year, y, (dt, same ∙ e, shown));
       canonical = canonical dt offset low high minutes day;
       printed = is ∙ ap (λ (x : List ℕ). 32 ∷ x)
           (ap (λ (x : CivilFields). fields_text x offset.seconds) (sym same) ∙ sym (prints dt offset low high));
