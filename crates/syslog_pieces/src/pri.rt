@@ -312,6 +312,7 @@ fn three_digits(n: u32) -> [u8; 5]
 }
 
 /// Writes a priority as it prints. One below 1000, as that of each message is, is one piece.
+#[tactic(auto, using(crate::proofs::PriLemmas::decimals))]
 #[inline]
 pub fn write_priority<W: fmt::Write>(f: &mut fmt::Formatter<W>, number: u32) -> fmt::Result
     ensures { WritesOnOk W.write_str_gives f.old result (priority_text number) f.new }

@@ -6,8 +6,7 @@ use Rattle.std.proofs.lemmas.List.{length-append}
 use Rattle.std.proofs.lemmas.Str.{chars-nil}
 use Rattle.std.specs.Char.{is_ascii_digit, to_ascii_lowercase}
 use Rattle.std.specs.Str.{chars}
-use Rattle.syslog_pieces.specs.Bodies.MonthReading.{IsNamed, small_month, day_row, day_values, year_row}
-use Rattle.syslog_pieces.specs.Bodies.MonthReading.{year_values, clock_values, date_of}
+use Rattle.syslog_pieces.specs.Bodies.MonthReading.{IsNamed, small_month, day_row, year_row}
 use Rattle.syslog_pieces.specs.Pieces.Class.{Text, Class, Values, Front, NoFront, Row}
 use Rattle.syslog_pieces.specs.Pieces.Class.{IsDeterministic, some_run, exactly}
 use Rattle.syslog_pieces.specs.Pri.{priority}
@@ -15,8 +14,6 @@ use Rattle.syslog_pieces.specs.Text.{number, is_blank, colon}
 use Rattle.syslog_pieces.specs.Timestamp.MonthDate.{month, short_number, clock_row, yearless_row, yearless_of}
 use Rattle.syslog_pieces.specs.Timestamp.MonthDate.{yearless_date, dated_row, dated_of, dated_date, month_date}
 use Rattle.syslog_pieces.specs.Timestamp.Rfc3164.{BeginsWithDate, ShowsYearless, showing_row}
-use Rattle.syslog_pieces.specs.declared.timestamp.month_date.Clock.{Clock}
-use Rattle.syslog_pieces.specs.declared.timestamp.month_date.Day.{Day}
 use Rattle.syslog_pieces.specs.declared.timestamp.month_date.MonthDate.{MonthDate}
 use Rattle.syslog_pieces.proofs.PieceLemmas.Class.{AllDeterministic, ◌also◌, all_joined, run_same, rest_same}
 use Rattle.syslog_pieces.proofs.PieceLemmas.Class.{some_run_det, run_det, rest_det, exactly_det, optional_det}
@@ -129,10 +126,12 @@ no_letter_no_date (b ∷ bs) low p q d e h =
     absurd (omega arith)
 
 -- ---- a text shows one date without a year
+pub showing_det : AllDeterministic (showing_row yearless_date)
+showing_det = optional_det priority priority_det also run_det is_blank also yearless_det also rest_det also tt
+
 pub shown_once : (text : Text) (d d' : MonthDate) → ShowsYearless text d → ShowsYearless text d' → d ≡ d'
-shown_once text d d' (p, more, h) (p', more', h') =
-    ap (λ (x : Values (showing_row yearless_date)). x.1.1.0) (unique_division (showing_row yearless_date)
-    (optional_det priority priority_det also run_det is_blank also yearless_det also rest_det also tt) h h').1
+shown_once text d d' (p, more, h) (p', more', h') = ap (λ (x : Values (showing_row yearless_date)). x.1.1.0)
+    (unique_division (showing_row yearless_date) showing_det h h').1
 
 -- ---- the name of a month, in letters of either case
 module _ (t q : Text) (a b c : ℕ) (e : t ≡ a ∷ b ∷ c ∷ q) where
@@ -166,10 +165,11 @@ module _ {t : Text} where
       no_either MonthDate yearless_date.Is dated_date.Is (yearless_none_here n)
       (no_mapped (Row dated_row) MonthDate dated_of (rows_none_here day_row from_year n))
 
-  module _ {u : Text} (d : Day) (f : Front (Row day_row) t u (day_values d)) where
-    pub yearless_front : {q : Text} (c : Clock) (more : Option (Unit {0}))
-        → Front (Row clock_row) u q (clock_values c more) → Front yearless_date t q (date_of None d c)
-    yearless_front c more g = mapped_front (Row yearless_row) MonthDate yearless_of (rows_join day_row clock_row f g)
+  module _ {u : Text} {m d : ℕ} (f : Front (Row day_row) t u (m, (tt, (d, (tt, tt))))) where
+    pub yearless_front : {q : Text} {h n s : ℕ} {more : Option (Unit {0})}
+        → Front (Row clock_row) u q (h, (tt, (n, (tt, (s, (more, tt))))))
+        → Front yearless_date t q (record { year = None; month = m; day = d; hour = h; minute = n; second = s })
+    yearless_front g = mapped_front (Row yearless_row) MonthDate yearless_of (rows_join day_row clock_row f g)
 
     pub yearless_none_later : NoFront (Row clock_row) u → NoFront yearless_date t
     yearless_none_later n =
@@ -181,10 +181,10 @@ module _ {t : Text} where
         no_either MonthDate yearless_date.Is dated_date.Is (yearless_none_later n)
         (no_mapped (Row dated_row) MonthDate dated_of (rows_none_later day_row from_year day_det f m))
 
-    pub dated_front : {w q : Text} (y : ℕ) (c : Clock) (more : Option (Unit {0}))
-        → Front (Row year_row) u w (year_values y) → Front (Row clock_row) w q (clock_values c more)
-        → Front month_date t q (date_of (Some y) d c)
-    dated_front y c more g h =
+    pub dated_front : {w q : Text} {y h n s : ℕ} {more : Option (Unit {0})} → Front (Row year_row) u w (y, (tt, tt))
+        → Front (Row clock_row) w q (h, (tt, (n, (tt, (s, (more, tt))))))
+        → Front month_date t q (record { year = Some y; month = m; day = d; hour = h; minute = n; second = s })
+    dated_front g h =
         second_kind MonthDate yearless_date.Is dated_date.Is
         (mapped_front (Row dated_row) MonthDate dated_of
         (rows_join day_row from_year f (rows_join year_row clock_row g h)))

@@ -2,8 +2,9 @@
 -- fraction, then of a text. And from what a text wrote to the answer, of which there is one.
 use Rattle.std.proofs.Common.{◌≡◌, ℕ, zero, suc, ◌+◌, ◌-◌, ◌*◌, ◌/◌, ◌%◌, ◌^◌, ◌<◌, ◌==◌, true, false, List, [], ◌∷◌}
 use Rattle.std.proofs.Common.{◌++◌, length, take, Some, inl, inr, refl, sym, ap, ◌∙◌, arith, get_or, get_or-take}
-use Rattle.std.proofs.Common.{take_at, drop_at, ◌⊎◌, ℤ, pos, neg_ℤ, ◌&&◌, ◌||◌, nat_lt, ◌≤◌, drop, None, subst}
-use Rattle.std.proofs.Common.{append_assoc, ◌≢◌, ◌-ℤ◌, Option}
+use Rattle.std.proofs.Common.{◌⊎◌, ℤ, pos, neg_ℤ, ◌&&◌, ◌||◌, nat_lt, ◌≤◌, drop, None, subst}
+use Rattle.std.proofs.Common.{append_assoc, ◌≢◌, Option}
+use Rattle.std.proofs.Math.Seq.{take-append_seam, drop-append_seam}
 use Rattle.std.proofs.Props.{props}
 use Rattle.std.proofs.lemmas.Bool.Decides.{nat_tests, eqb_tells}
 use Rattle.std.proofs.lemmas.List.{take-append-drop, append_cancel_right, length-append, append-nil}
@@ -17,7 +18,7 @@ use Rattle.std.specs.List.{All, prefix_len}
 use Rattle.std.specs.Str.{chars, IsAscii, IsUtf8, IsCharBoundary, encode_utf8_all}
 use mathlib.Core.HLevel.{is_prop→PathP}
 use Rattle.jiff.specs.Types.{DateTime, Offset, Timestamp}
-use Rattle.jiff.specs.Words.{IsOffsetSeconds, IsTimestampNanos, nanos_of_seconds}
+use Rattle.jiff.specs.Words.{IsOffsetSeconds, IsTimestampNanos}
 use Rattle.jiff_fmt.proofs.RoundTrip.{two_digits-pad2, four_digits-pad4}
 use Rattle.jiff_fmt.specs.Reader.{fraction_value}
 use Rattle.jiff_fmt.specs.Text.{pad2, pad4}
@@ -26,7 +27,7 @@ use Rattle.syslog_pieces.specs.Bodies.StampReading.{IsOffsetBytes, after_letter,
 use Rattle.syslog_pieces.specs.Bodies.StampReading.{numbers, written, ◌or◌, offset, seconds, stamp_text}
 use Rattle.syslog_pieces.specs.Pieces.Class.{Text, Front, NoFront, IsDeterministic}
 use Rattle.syslog_pieces.specs.Timestamp.{IsAnswer, IsStampText, HasNoStamp, IsStampOfRfc3339}
-use Rattle.syslog_pieces.specs.Timestamp.Fields.{fields_of, nanos_of_fields, IsStampAt}
+use Rattle.syslog_pieces.specs.Timestamp.Fields.{fields_of, IsStampAt}
 use Rattle.syslog_pieces.specs.Timestamp.Printed.{fraction_text, pad3}
 use Rattle.syslog_pieces.specs.Timestamp.Rfc3339.{IsFraction, IsLetter, IsOffsetText, Writes, HasStamp}
 use Rattle.syslog_pieces.specs.Timestamp.Rfc3339.{fields_of_rfc3339}
@@ -132,13 +133,7 @@ unfolding nanoseconds
 decimals-of {digits = digits} rest d stop =
     let long = d.some in
     let some : (length digits == 0) ≡ false = grind (arith, nat_tests) in
-    rw (
-      digits-all digits rest d.each stop,
-      some,
-      take_at digits rest (length digits) refl,
-      drop_at digits rest (length digits) refl,
-      d.value,
-    )
+    rw (digits-all digits rest d.each stop, some, take-append_seam, drop-append_seam, d.value)
 
 -- what is read is a value and a rest
 pub read_same : {A : Type 0} (a b : A) (q r : List ℕ) → ◌≡◌ {A = Read A} (Some (a, q)) (Some (b, r)) → (a ≡ b) × (q ≡ r)
@@ -406,13 +401,13 @@ module _ {t q : Text} {w : Rfc3339Fields} (f : Front stamp_text t q w) where
 pub no_text : {t : Text} → NoFront stamp_text t → HasNoStamp t
 no_text {t = t} n s (w, h, p) = n t [] w (sym (append-nil t)) h
 
+-- a text writes the same numbers each time
+written_once : {t : Text} {v w : Rfc3339Fields} → Writes t v → Writes t w → v ≡ w
+written_once {t = t} {v = v} {w = w} h k = (same_numbers (whole_front t w k) v h).1
+
 -- a text has at most one stamp
 pub one_stamp : (text : List ℕ) (n o m p : ℤ) → HasStamp text n o → HasStamp text m p → (n ≡ m) × (o ≡ p)
-one_stamp text n o m p (w, h, a) (v, k, b) =
-    let same = (same_numbers (whole_front text v k) w h).1 in (
-      a.instant ∙ ap (λ x. nanos_of_fields (fields_of_rfc3339 x) -ℤ nanos_of_seconds x.offset) same ∙ sym b.instant,
-      a.at_offset ∙ ap (λ x. x.offset) same ∙ sym b.at_offset,
-    )
+one_stamp text n o m p (w, h, a) (v, k, b) = let same = written_once h k in (cc, cc)
 
 -- ---- a timestamp is its two numbers, which lie in their ranges
 pub same_instant : (a b : Timestamp) → a.nanosecond ≡ b.nanosecond → a ≡ b

@@ -126,8 +126,8 @@ module _ (b2 b3 : List ℕ) (c : Clock) (k : IsClockBytes b2 c b3) (ends : EndsC
   pub standard_front : (b0 b1 : List ℕ) (number d : ℕ) → IsMonthBytes b0 number b1 → IsDayBytes b1 d b2
       → Front yearless_date (chars b0) (chars b3) (date_of None (record { month = number; day = d }) c)
   standard_front b0 b1 number d m e =
-      yearless_front (record { month = number; day = d })
-      (day_front b0 b1 b2 number m (no_blank_ahead c.hour k.hour_in _ _ clock_text) d e) c None clock_front
+      yearless_front
+      (day_front b0 b1 b2 number m (no_blank_ahead c.hour k.hour_in _ _ clock_text) d e) clock_front
 
 -- fifteen bytes on, behind month, day and clock
 pub standard_rest : (b0 b1 b2 b3 : List ℕ) (number d : ℕ) (c : Clock) → IsMonthBytes b0 number b1 → IsDayBytes b1 d b2
