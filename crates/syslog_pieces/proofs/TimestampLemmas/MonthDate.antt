@@ -18,7 +18,7 @@ use Rattle.syslog_pieces.specs.declared.timestamp.month_date.MonthDate.{MonthDat
 use Rattle.syslog_pieces.proofs.PieceLemmas.Class.{AllDeterministic, ◌also◌, all_joined, run_same, rest_same}
 use Rattle.syslog_pieces.proofs.PieceLemmas.Class.{some_run_det, run_det, rest_det, exactly_det, optional_det}
 use Rattle.syslog_pieces.proofs.PieceLemmas.Class.{mapped_det, row_det, row_head, unique_division, mapped_front}
-use Rattle.syslog_pieces.proofs.PieceLemmas.Class.{no_mapped, lasts, rows_split, rows_join, rows_none_here}
+use Rattle.syslog_pieces.proofs.PieceLemmas.Class.{no_mapped, rows_split, rows_join, rows_none_here}
 use Rattle.syslog_pieces.proofs.PieceLemmas.Class.{rows_none_later, division_front, front_division, no_front_no}
 use Rattle.syslog_pieces.proofs.PieceLemmas.Kinds.{Apart, Begins, begins_apart, begins_more, begins_with}
 use Rattle.syslog_pieces.proofs.PieceLemmas.Kinds.{each_begins, either_det, first_kind, second_kind, no_either}
@@ -75,21 +75,15 @@ colon_begins t q f = begins_with (λ c. c ≡ 58) 58 t q (f.whole ∙ ap (λ (x 
 pub blank_low : (c : ℕ) → is_blank c ≡ true → c ≤ 32
 blank_low c h = grind (arith, nat_tests, h)
 
-clock_apart : (t q q' : Text) (vs : Values clock_row) (ws : Values from_year) → Front (Row clock_row) t q vs
-    → Front (Row from_year) t q' ws → ⊥
-clock_apart t q q' vs ws f g =
-    let (u, f1, (w, f3, _)) = row_pieces clock_row f in
-    let (u', g1, (_, g3, _)) = row_pieces from_year g in
-    begins_apart u (λ c h k. let z = blank_low c k in omega arith) (colon_begins u w f3)
-    (subst (λ (x : Text). Begins IsBlank x) (sym (number_ends 4294967295 2147483647 u u' f1 g1)) (blanks_begin g3))
-
 -- behind the day, with which both begin
 rows_apart : (t q q' : Text) (vs : Values yearless_row) (ws : Values dated_row) → Front (Row yearless_row) t q vs
     → Front (Row dated_row) t q' ws → ⊥
 rows_apart t q q' vs ws f g =
     let (u, day, clock) = rows_split day_row clock_row f in
-    clock_apart u q q' (lasts day_row clock_row vs) (lasts day_row from_year ws) clock
-    (rows_step day_row from_year day_det day g).1
+    let (v, f1, (w, f3, _)) = row_pieces clock_row clock in
+    let (v', g1, (_, g3, _)) = row_pieces from_year (rows_step day_row from_year day_det day g).1 in
+    begins_apart v (λ c h k. let z = blank_low c k in omega arith) (colon_begins v w f3)
+    (rw (number_ends 4294967295 2147483647 v v' f1 g1) (blanks_begin g3))
 
 dates_apart : Apart MonthDate yearless_date.Is dated_date.Is
 dates_apart p q p' q' v v' e (vs, h, i) (ws, h', i') =

@@ -44,12 +44,6 @@ days_of_years-next : (k : ℕ) → days_of_years (suc k) ≡ days_of_years k + d
 unfolding days_of_years
 days_of_years-next k = refl
 
-years_one : days_of_years 1 ≡ 366
-years_one = omega (arith, days_of_years-march_days 1)
-
-years_all : days_of_years 20000 ≡ 7_304_850
-years_all = omega (arith, days_of_years-march_days 20000)
-
 -- the year and the place in it of a day that the library has
 pub record IsPlaced (day year : ℤ) (place : ℕ) : Type 0 where
   pub year_in : IsYear year
@@ -66,10 +60,11 @@ year_placed : (day : ℤ) (count k : ℕ) → IsEpochDay day → pos count ≡ d
     → IsPlaced day (pos k -ℤ pos 10000) (count - days_of_years k)
 year_placed day count k range e low most next =
     let high : count < days_of_years (suc k) =
-    next (omega (arith, signed_arith, range.1, years_all, days_of_years-next 20000)) in
-    let below : k ≡ 20000 → ⊥ = λ s. let f = ap days_of_years s in omega (arith, signed_arith, range.1, years_all) in
+    next (omega (arith, signed_arith, range.1, days_of_years-march_days 20000, days_of_years-next 20000)) in
+    let below : k ≢ 20000 = λ s. let f = ap days_of_years s in
+    omega (arith, signed_arith, range.1, days_of_years-march_days 20000) in
     let above : k ≢ 0 = λ s. let f = ap (λ j. days_of_years (suc j)) s in
-    omega (arith, signed_arith, range.0, years_one) in
+    omega (arith, signed_arith, range.0, days_of_years-march_days 1) in
     let first = day_count-first (pos k -ℤ pos 10000) k (omega (arith, signed_arith)) in
     let number = days_from_civil-day_count (pos k -ℤ pos 10000) 1 1 in
     let step = days_of_years-next k in

@@ -13,7 +13,6 @@ use Rattle.std.proofs.lemmas.List.Folds.{length-prefix_len, prefix_len-append}
 use Rattle.std.proofs.lemmas.List.Sums.{prefix_len_is, prefix_len_passes}
 use Rattle.std.proofs.lemmas.Str.{encodes-append, encodes-chars, encodes-IsAscii, IsUtf8-drop}
 use Rattle.std.specs.Char.{is_ascii_digit, IsAsciiDigit}
-use Rattle.std.specs.Int.{is_in_range}
 use Rattle.std.specs.List.{All, prefix_len}
 use Rattle.std.specs.Str.{chars, IsAscii, IsUtf8, IsCharBoundary, encode_utf8_all}
 use mathlib.Core.HLevel.{is_prop→PathP}
@@ -56,25 +55,26 @@ pad3-digits n h = All-from_recursion IsAsciiDigit (pad3 n) (omega arith)
 pad3-value : (n : ℕ) → n < 1_000 → (48 + n / 100 - 48) * 100 + (48 + n / 10 % 10 - 48) * 10 + (48 + n % 10 - 48) ≡ n
 pad3-value n h = omega arith
 
-module _ (a : ℕ) (a_in : a < 1_000) where
-  pub three : AreDecimals (pad3 a) (a * 1_000_000)
+module _ {n : ℕ} (a : ℕ) (a_in : a < 1_000) where
+  pub three : n ≡ a * 1_000_000 → AreDecimals (pad3 a) n
   unfolding fraction_value
-  three = record { some = omega arith; each = pad3-digits a a_in; value = omega (arith, pad3-value a a_in) }
+  three e = record { some = omega arith; each = pad3-digits a a_in; value = omega (arith, pad3-value a a_in) }
 
   module _ (b : ℕ) (b_in : b < 1_000) where
-    pub six : AreDecimals (pad3 a ++ pad3 b) (a * 1_000_000 + b * 1_000)
+    pub six : n ≡ a * 1_000_000 + b * 1_000 → AreDecimals (pad3 a ++ pad3 b) n
     unfolding fraction_value
-    six = record {
+    six e = record {
       some = omega arith;
       each = All-append IsAsciiDigit (pad3 a) (pad3 b) (pad3-digits a a_in) (pad3-digits b b_in);
       value = omega (arith, pad3-value a a_in, pad3-value b b_in);
     }
 
-    pub nine : (c : ℕ) → c < 1_000 → AreDecimals (pad3 a ++ (pad3 b ++ pad3 c)) (a * 1_000_000 + b * 1_000 + c)
+    pub nine : (c : ℕ) → c < 1_000 → n ≡ a * 1_000_000 + b * 1_000 + c → AreDecimals (pad3 a ++ (pad3 b ++ pad3 c)) n
     unfolding fraction_value
-    nine c c_in = record {
+    nine c c_in e = record {
       some = omega arith;
-      each = All-append IsAsciiDigit (pad3 a ++ pad3 b) (pad3 c) six.each (pad3-digits c c_in);
+      each = All-append IsAsciiDigit (pad3 a) (pad3 b ++ pad3 c) (pad3-digits a a_in)
+          (All-append IsAsciiDigit (pad3 b) (pad3 c) (pad3-digits b b_in) (pad3-digits c c_in));
       value = omega (arith, pad3-value a a_in, pad3-value b b_in, pad3-value c c_in);
     }
 
@@ -82,22 +82,16 @@ module _ (a : ℕ) (a_in : a < 1_000) where
 pub fraction_text-is : (n : ℕ) → n < 1_000_000_000 → IsFraction (fraction_text n) n
 unfolding fraction_text
 fraction_text-is n h =
-    let a = n / 1_000_000 in
-    let b = n / 1_000 % 1_000 in
-    let c = n % 1_000 in
-    let a_in : a < 1_000 = omega arith in
-    let b_in : b < 1_000 = omega arith in
-    let c_in : c < 1_000 = omega arith in
+    let a_in : n / 1_000_000 < 1_000 = omega arith in
+    let b_in : n / 1_000 % 1_000 < 1_000 = omega arith in
+    let c_in : n % 1_000 < 1_000 = omega arith in
     elim (eqb_tells n 0) [
       | inl z ↦ let none = z.1 in inl (rw z.0, none)
       | inr z ↦ elim (eqb_tells (n % 1_000_000) 0) [
-        | inl m ↦ let whole = m.1 in let same : a * 1_000_000 ≡ n = omega arith in
-            rw (z.0, m.0) (dotted (pad3 a) n (rw same at (three a a_in)))
-        | inr m ↦ elim (eqb_tells c 0) [
-          | inl k ↦ let whole = k.1 in let same : a * 1_000_000 + b * 1_000 ≡ n = omega arith in
-              rw (z.0, m.0, k.0) (dotted (pad3 a ++ pad3 b) n (rw same at (six a a_in b b_in)))
-          | inr k ↦ let same : a * 1_000_000 + b * 1_000 + c ≡ n = omega arith in
-              rw (z.0, m.0, k.0) (dotted (pad3 a ++ (pad3 b ++ pad3 c)) n (rw same at (nine a a_in b b_in c c_in)))
+        | inl m ↦ let whole = m.1 in rw (z.0, m.0) (dotted _ n (three _ a_in (omega arith)))
+        | inr m ↦ elim (eqb_tells (n % 1_000) 0) [
+          | inl k ↦ let whole = k.1 in rw (z.0, m.0, k.0) (dotted _ n (six _ a_in _ b_in (omega arith)))
+          | inr k ↦ rw (z.0, m.0, k.0) (dotted _ n (nine _ a_in _ b_in _ c_in (omega arith)))
         ]
       ]
     ]
@@ -143,11 +137,10 @@ read_same {A} a b q r e =
 
 digits-front : (text : List ℕ) → All IsAsciiDigit (take (prefix_len is_ascii_digit text) text)
 digits-front text k d h =
-    let n = prefix_len is_ascii_digit text in
     let len = length-prefix_len is_ascii_digit text in
-    let within : k < n = omega arith in
-    let test : is_in_range 48 57 (get_or text k d) ≡ true = prefix_len_passes is_ascii_digit text k d within in
-    rw (get_or-take n text k d within) (grind (arith, nat_tests, test))
+    let within : k < prefix_len is_ascii_digit text = omega arith in
+    let test = prefix_len_passes is_ascii_digit text k d within in
+    rw (get_or-take _ text k d within) (grind (arith, nat_tests))
 
 -- and what is read is digits
 pub decimals-is : (text : List ℕ) (n : ℕ) (rest : List ℕ) → nanoseconds text ≡ Some (n, rest)
@@ -325,9 +318,7 @@ module _ (bs : List ℕ) (u : IsUtf8 bs) where
     text_chars = record { piece = f.piece; whole = behind_chars f.piece bs rest ascii u f.whole; is = f.is }
 
     pub text_front : (ys : List ℕ) → ys ≡ drop (length bs - length rest) bs → Front stamp_text (chars bs) (chars ys) w
-    text_front ys e =
-        subst (λ (x : List ℕ). Front stamp_text (chars bs) (chars x) w)
-        (sym (behind_is f.piece bs rest ascii u f.whole ys e)) text_chars
+    text_front ys e = rw (behind_is f.piece bs rest ascii u f.whole ys e) text_chars
 
   module _ (p q : Text) (w : Rfc3339Fields) (e : chars bs ≡ p ++ q) (h : Writes p w) where
     bytes : bs ≡ p ++ encode_utf8_all q

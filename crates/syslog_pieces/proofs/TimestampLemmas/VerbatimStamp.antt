@@ -10,7 +10,7 @@ use Rattle.jiff.specs.Words.{IsOffsetSeconds, nanos_of_seconds}
 use Rattle.jiff_core.proofs.SignedLemmas.{signed_arith}
 use Rattle.jiff_fmt.specs.Text.{pad2}
 use Rattle.syslog_pieces.specs.Bodies.StampReading.{IsDayBytes, seconds, stamp_text}
-use Rattle.syslog_pieces.specs.Bodies.VerbatimStamp.{zone_text, IsVerbatimStamp, IsDateAndClock}
+use Rattle.syslog_pieces.specs.Bodies.VerbatimStamp.{IsVerbatimStamp, IsDateAndClock}
 use Rattle.syslog_pieces.specs.Bodies.VerbatimStamp.{IsVerbatimFraction, IsVerbatimOffset, IsBeforeSpace}
 use Rattle.syslog_pieces.specs.Pieces.Class.{Text, Front}
 use Rattle.syslog_pieces.specs.Timestamp.{IsStampText, header_stamp}
@@ -103,28 +103,21 @@ offset_in o h = (omega (arith, signed_arith), omega (arith, signed_arith))
 abbrev with_fraction : CivilFields → ℕ → CivilFields
 with_fraction f n = record f { nanosecond = n }
 
-fraction_civil : (f : CivilFields) (n : ℕ) → AreCivil f → n < 1_000_000_000 → AreCivil (with_fraction f n)
-fraction_civil f n there small = assumption there
-
--- it counts nothing for date and time
-same_date_time : (f : CivilFields) (n : ℕ) → date_time_text f ≡ date_time_text (with_fraction f n)
-unfolding date_time_text
-same_date_time f n = refl
-
 module _ (bs behind zone : List ℕ) (u : IsUtf8 bs) (d : IsDateAndClock bs behind)
     (k : IsVerbatimFraction behind zone) where
   abbrev fields : CivilFields
   fields = with_fraction d.fields k.0
 
   there : AreCivil fields
-  there = fraction_civil d.fields k.0 d.civil k.1
+  there = assumption (d.civil, k.1)
 
   -- what stands before the offset
   abbrev front : List ℕ
   front = date_time_text fields ++ fraction_text k.0
 
   front_whole : bs ≡ front ++ zone
-  front_whole = rw (d.whole, same_date_time d.fields k.0, k.2) (simp append_assoc)
+  unfolding date_time_text
+  front_whole = rw (d.whole, k.2) (simp append_assoc)
 
   -- an offset of which this is a text
   module _ (o : ℤ) (text : List ℕ) (h : IsOffsetText text o) where
@@ -193,10 +186,6 @@ module _ (bs behind zone : List ℕ) (u : IsUtf8 bs) (d : IsDateAndClock bs behi
     z_is : IsOffsetText (90 ∷ []) (pos 0)
     z_is = inl (90, refl, inl refl, refl)
 
-    zero_text : zone_text true ≡ offset_text (pos 0)
-    unfolding offset_text
-    zero_text = refl
-
     pub zulu_utf8 : IsUtf8 zone × IsUtf8 rest
     zulu_utf8 =
         let z = IsUtf8-from_ascii (90 ∷ []) (one_ascii 90 (omega arith)) in
@@ -204,13 +193,14 @@ module _ (bs behind zone : List ℕ) (u : IsUtf8 bs) (d : IsDateAndClock bs behi
         (rw whole (IsUtf8-append (90 ∷ []) rest z behind), behind)
 
     pub zulu_verbatim : IsVerbatimStamp (chars bs) (chars zone) true (chars rest)
+    unfolding offset_text
     zulu_verbatim = record {
       copied = front;
       value = Some (shows (pos 0) (90 ∷ []) z_is);
       whole = piece_chars (pos 0) (90 ∷ []) z_is rest whole space ∙ append_assoc front (90 ∷ []) (chars rest)
           ∙ ap (λ (x : Text). front ++ x) (sym (ascii_front (90 ∷ []) rest zone (one_ascii 90 (omega arith)) whole));
       is = stamp_there (pos 0) (90 ∷ []) z_is rest whole space;
-      prints = ap (λ (x : List ℕ). front ++ x) zero_text ∙ prints_so (pos 0) (90 ∷ []) z_is;
+      prints = prints_so (pos 0) (90 ∷ []) z_is;
     }
 
 -- what the reader of such stamps rests on

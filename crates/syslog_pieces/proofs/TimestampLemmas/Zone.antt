@@ -72,7 +72,7 @@ pub answer_of_fields : (f : CivilFields) (dt : DateTime) (tz : Option TimeZone) 
     → IsAnswer (IsStampInAny tz local dt) r → IsAnswer (IsStampOfFields tz local f) r
 answer_of_fields f dt tz local r e h =
     answer_same (IsStampInAny tz local dt) (IsStampOfFields tz local f) r (λ s p. (dt, e, p))
-    (λ s q. subst (λ (x : DateTime). IsStampInAny tz local x s) (one_datetime f q.0 dt q.1 e) q.2) h
+    (λ s (dt', e', p). rw (one_datetime f dt' dt e' e) at p) h
 
 -- ---- the year of a month date
 module _ (dating : Dating) (date : MonthDate) where
@@ -80,11 +80,7 @@ module _ (dating : Dating) (date : MonthDate) where
       → IsAnswer (IsStampOfFields dating.zone dating.local (civil_of date y)) r → IsAnswer (IsMonthStamp dating date) r
   answer_in_year y r e h =
       answer_same (IsStampOfFields dating.zone dating.local (civil_of date y)) (IsMonthStamp dating date) r
-      (λ s p. (y, e, p))
-      (λ s q. (
-      let same : q.0 ≡ y = (let t : Some q.0 ≡ Some y = sym q.1 ∙ e in cc) in
-      subst (λ (x : ℤ). IsStampOfFields dating.zone dating.local (civil_of date x) s) same q.2
-      )) h
+      (λ s p. (y, e, p)) (λ s (y', e', p). (let same : y' ≡ y = cc in rw same at p)) h
 
   -- no year, or one past the calendar's
   pub no_such_year : IfSome (year_of date dating.year) (λ y. pos 9999 <ℤ y) → IsAnswer (IsMonthStamp dating date) None
