@@ -66,8 +66,8 @@ abbrev pub IsBlank : ℕ → Type 0
 IsBlank c = is_blank c ≡ true
 
 pub blanks_begin : {t q : Text} → Front (some_run is_blank) t q tt → Begins IsBlank t
-blanks_begin {q = q} f = subst (λ (x : Text). Begins IsBlank x) (sym f.whole)
-    (begins_more IsBlank f.piece q (each_begins is_blank f.piece f.is.0 f.is.1))
+blanks_begin {q = q} f =
+    rw f.whole (begins_more IsBlank f.piece q (each_begins is_blank f.piece f.is.0 f.is.1))
 
 colon_begins : (t q : Text) → Front (exactly colon) t q tt → Begins (λ c. c ≡ 58) t
 colon_begins t q f = begins_with (λ c. c ≡ 58) 58 t q (f.whole ∙ ap (λ (x : Text). x ++ q) f.is) refl
@@ -76,19 +76,15 @@ pub blank_low : (c : ℕ) → is_blank c ≡ true → c ≤ 32
 blank_low c h = grind (arith, nat_tests, h)
 
 -- behind the day, with which both begin
-rows_apart : (t q q' : Text) (vs : Values yearless_row) (ws : Values dated_row) → Front (Row yearless_row) t q vs
-    → Front (Row dated_row) t q' ws → ⊥
-rows_apart t q q' vs ws f g =
-    let (u, day, clock) = rows_split day_row clock_row f in
-    let (v, f1, (w, f3, _)) = row_pieces clock_row clock in
-    let (v', g1, (_, g3, _)) = row_pieces from_year (rows_step day_row from_year day_det day g).1 in
-    begins_apart v (λ c h k. let z = blank_low c k in omega arith) (colon_begins v w f3)
-    (rw (number_ends 4294967295 2147483647 v v' f1 g1) (blanks_begin g3))
-
 dates_apart : Apart MonthDate yearless_date.Is dated_date.Is
 dates_apart p q p' q' v v' e (vs, h, i) (ws, h', i') =
-    rows_apart (p ++ q) q q' vs ws (record { piece = p; whole = refl; is = h })
-    (record { piece = p'; whole = e; is = h' })
+    let f : Front (Row yearless_row) (p ++ q) q vs = record { piece = p; whole = refl; is = h } in
+    let g : Front (Row dated_row) (p ++ q) q' ws = record { piece = p'; whole = e; is = h' } in
+    let (u, day, clock) = rows_split day_row clock_row f in
+    let (t, f1, (w, f3, _)) = row_pieces clock_row clock in
+    let (t', g1, (_, g3, _)) = row_pieces from_year (rows_step day_row from_year day_det day g).1 in
+    begins_apart t (λ c h k. let z = blank_low c k in omega arith) (colon_begins t w f3)
+    (rw (number_ends 4294967295 2147483647 t t' f1 g1) (blanks_begin g3))
 
 -- a text has one month date at its front
 pub month_date_det : IsDeterministic month_date
@@ -99,8 +95,7 @@ row_begins : (Cs : List Class) (p q : Text) (vs : Values (month ∷ Cs)) → (Ro
     → Begins IsLetter (p ++ q)
 row_begins Cs p q vs h =
     let f = row_head month Cs {text = p ++ q} (record { piece = p; whole = refl; is = h }) in
-    subst (λ (x : Text). Begins IsLetter x) (sym f.1.whole)
-    (begins_more IsLetter f.1.piece f.0 (month_begins f.1.piece f.0 vs.0 f.1.is))
+    rw f.1.whole (begins_more IsLetter f.1.piece f.0 (month_begins f.1.piece f.0 vs.0 f.1.is))
 
 abbrev behind_month : List Class
 behind_month = some_run is_blank ∷ short_number ∷ some_run is_blank ∷ []

@@ -381,9 +381,8 @@ module _ {t q : Text} {w : Rfc3339Fields} (f : Front stamp_text t q w) where
       → IsAnswer (IsStampText t) answer
   answer_of_text answer e h =
       let whole : t ≡ f.piece = f.whole ∙ ap (λ (x : Text). f.piece ++ x) e ∙ append-nil f.piece in
-      answer_same (IsStampOfRfc3339 w) (IsStampText t) answer
-      (λ s p. (w, subst (λ (x : Text). Writes x w) (sym whole) f.is, p))
-      (λ s (v, k, p). subst (λ (x : Rfc3339Fields). IsStampOfRfc3339 x s) (same_numbers v k).1 p) h
+      answer_same (IsStampOfRfc3339 w) (IsStampText t) answer (λ s p. (w, rw whole f.is, p))
+      (λ s (v, k, p). rw (same_numbers v k).1 at p) h
 
   -- a text that goes on is one of no timestamp
   pub no_text_here : q ≢ [] → HasNoStamp t

@@ -38,34 +38,21 @@ date_and_clock_is {rest = rest} {day = day} f d y m n e1 e2 e3 =
     rw (d.whole, ← m, ← n, e1, e2, e3) (sym (text-shape f day.year rest y))
 
 -- three, six or nine decimals, the last three of which are not all zero
-three_text : (n a : ℕ) → n ≡ a * 1_000_000 → a ≢ 0 → fraction_text n ≡ 46 ∷ pad3 a
-unfolding fraction_text
-three_text n a e some = grind (arith, nat_tests)
-
-six_text : (n a b : ℕ) → n ≡ a * 1_000_000 + b * 1_000 → b < 1_000 → b ≢ 0 → fraction_text n ≡ 46 ∷ (pad3 a ++ pad3 b)
-unfolding fraction_text
-six_text n a b e small some = grind (arith, nat_tests)
-
-nine_text : (n a b c : ℕ) → n ≡ a * 1_000_000 + b * 1_000 + c → b < 1_000 → c < 1_000 → c ≢ 0
-    → fraction_text n ≡ 46 ∷ (pad3 a ++ (pad3 b ++ pad3 c))
-unfolding fraction_text
-nine_text n a b c e small little some = grind (arith, nat_tests)
-
 module _ (text rest : List ℕ) (a : ℕ) (a_in : a < 1_000) where
   pub three_verbatim : a ≢ 0 → text ≡ pad3 a ++ rest → IsVerbatimFraction (46 ∷ text) rest
-  three_verbatim some e = (a * 1_000_000, omega arith, rw (three_text (a * 1_000_000) a refl some, e))
+  unfolding fraction_text
+  three_verbatim some e = (a * 1_000_000, omega arith, grind (arith, nat_tests))
 
   module _ (t1 : List ℕ) (e : text ≡ pad3 a ++ t1) (b : ℕ) (b_in : b < 1_000) where
     pub six_verbatim : b ≢ 0 → t1 ≡ pad3 b ++ rest → IsVerbatimFraction (46 ∷ text) rest
-    six_verbatim some e1 =
-        let n = a * 1_000_000 + b * 1_000 in
-        (n, omega arith, rw (six_text n a b refl b_in some, e, e1))
+    unfolding fraction_text
+    six_verbatim some e1 = (a * 1_000_000 + b * 1_000, omega arith, grind (arith, nat_tests))
 
     pub nine_verbatim : (t2 : List ℕ) (c : ℕ) → c < 1_000 → c ≢ 0 → t1 ≡ pad3 b ++ t2 → t2 ≡ pad3 c ++ rest
         → IsVerbatimFraction (46 ∷ text) rest
+    unfolding fraction_text
     nine_verbatim t2 c c_in some e1 e2 =
-        let n = a * 1_000_000 + b * 1_000 + c in
-        (n, omega arith, rw (nine_text n a b c refl b_in c_in some, e, e1, e2))
+        (a * 1_000_000 + b * 1_000 + c, omega arith, grind (arith, nat_tests))
 
 pub no_fraction : (text : List ℕ) → IsVerbatimFraction text text
 unfolding fraction_text
