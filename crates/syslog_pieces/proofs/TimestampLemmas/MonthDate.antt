@@ -8,7 +8,7 @@ use Rattle.std.specs.Char.{is_ascii_digit, to_ascii_lowercase}
 use Rattle.std.specs.Str.{chars}
 use Rattle.syslog_pieces.specs.Bodies.MonthReading.{IsNamed, small_month, day_row, year_row}
 use Rattle.syslog_pieces.specs.Pieces.Class.{Text, Class, Values, Front, NoFront, Row}
-use Rattle.syslog_pieces.specs.Pieces.Class.{IsDeterministic, some_run, exactly}
+use Rattle.syslog_pieces.specs.Pieces.Class.{IsDeterministic, some_run}
 use Rattle.syslog_pieces.specs.Pri.{priority}
 use Rattle.syslog_pieces.specs.Text.{number, is_blank, colon}
 use Rattle.syslog_pieces.specs.Timestamp.MonthDate.{month, short_number, clock_row, yearless_row, yearless_of}
@@ -69,9 +69,6 @@ pub blanks_begin : {t q : Text} → Front (some_run is_blank) t q tt → Begins 
 blanks_begin {q = q} f =
     rw f.whole (begins_more IsBlank f.piece q (each_begins is_blank f.piece f.is.0 f.is.1))
 
-colon_begins : (t q : Text) → Front (exactly colon) t q tt → Begins (λ c. c ≡ 58) t
-colon_begins t q f = begins_with (λ c. c ≡ 58) 58 t q (f.whole ∙ ap (λ (x : Text). x ++ q) f.is) refl
-
 pub blank_low : (c : ℕ) → is_blank c ≡ true → c ≤ 32
 blank_low c h = grind (arith, nat_tests, h)
 
@@ -83,7 +80,8 @@ dates_apart p q p' q' v v' e (vs, h, i) (ws, h', i') =
     let (u, day, clock) = rows_split day_row clock_row f in
     let (t, f1, (w, f3, _)) = row_pieces clock_row clock in
     let (t', g1, (_, g3, _)) = row_pieces from_year (rows_step day_row from_year day_det day g).1 in
-    begins_apart t (λ c h k. let z = blank_low c k in omega arith) (colon_begins t w f3)
+    begins_apart t (λ c h k. let z = blank_low c k in omega arith)
+    (begins_with (λ c. c ≡ 58) 58 t w (f3.whole ∙ ap (λ (x : Text). x ++ w) f3.is) refl)
     (rw (number_ends 4294967295 2147483647 t t' f1 g1) (blanks_begin g3))
 
 -- a text has one month date at its front

@@ -81,8 +81,7 @@ module _ (dating : Dating) {t : Text} where
     -- the date that stands there has none
     pub no_stamp_of_date : {r : Text} (d : MonthDate) → Front month_date t r d → IsAnswer (IsMonthStamp dating d) None
         → NoFront (rfc3164_stamp dating) t
-    no_stamp_of_date d f m = no_stamped (λ d' s q g k. m s
-        (subst (λ (x : MonthDate). IsMonthStamp dating x s) (front_same month_date month_date_det g f).1 k))
+    no_stamp_of_date d f m = no_stamped (λ d' s q g k. m s (rw (front_same month_date month_date_det g f).1 at k))
 
 -- what the reader rests on
 pub ruleset fronts = (header_front, date_front)

@@ -114,15 +114,13 @@ earlier_at tz f at (Some offset) e h =
 
 -- ---- the text
 
-no_sign : (year : ℤ) → pos 0 ≤ℤ year → year_sign year ≡ []
-no_sign year h = grind (arith, signed_arith)
-
 -- in a year from 0 on, and without a fraction
 whole_text : (f : CivilFields) (o : ℤ) → pos 0 ≤ℤ f.year → f.nanosecond ≡ 0
     → unsigned_date_time (unsigned_abs f.year) f.month f.day f.hour f.minute f.second
     ++ (offset_sign o ∷ (pad2 (rounded_minutes o / 60) ++ (58 ∷ pad2 (rounded_minutes o % 60)))) ≡ fields_text f o
 unfolding date_time_text fraction_text offset_text
-whole_text f o from whole = rw (no_sign f.year from, whole) refl
+whole_text f o from whole =
+    let no_sign : year_sign f.year ≡ [] = grind (arith, signed_arith) in rw (no_sign, whole) refl
 
 pub whole_bytes : (f : CivilFields) (o : ℤ) (sign absolute : ℕ) (text : List ℕ) → pos 0 ≤ℤ f.year → f.nanosecond ≡ 0
     → sign ≡ offset_sign o → absolute ≡ unsigned_abs o
