@@ -31,7 +31,7 @@ pub fn rfc3164_stamp<'a>(
 }
 
 // The timestamp of a month date in its standard form, which neither `-` nor an RFC 3339 text looks like.
-#[tactic(auto, using(crate::proofs::TimestampLemmas::Rfc3164::date_front, crate::proofs::TimestampLemmas::MonthDate::yearless_is))]
+#[tactic(auto, using(crate::proofs::TimestampLemmas::Rfc3164::fronts))]
 #[inline(always)]
 fn standard_stamp<'a>(
     text: &'a str,
