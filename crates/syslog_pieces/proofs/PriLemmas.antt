@@ -25,7 +25,7 @@ use Rattle.syslog_pieces.specs.Timestamp.Printed.{pad3}
 use Rattle.syslog_pieces.proofs.PieceLemmas.Lists.{begins}
 use Rattle.syslog_pieces.proofs.PieceLemmas.Rows.{Fails, no_row}
 use Rattle.syslog_pieces.proofs.TextLemmas.Chars.{digits_ascii, one_ascii}
-use Rattle.syslog_pieces.proofs.TextLemmas.Decimals.{digit_is}
+use Rattle.syslog_pieces.proofs.TextLemmas.Decimals.{digit_is, one_digit, two_digits, three_digits}
 use Rattle.syslog_pieces.proofs.TextLemmas.Looks.{behind_cut, behind_is, behind_chars}
 use Rattle.syslog_pieces.proofs.TextLemmas.Words.{number_det}
 
@@ -155,3 +155,6 @@ priority_verbatim t a b q f k g =
       },
       omega arith,
     )
+
+-- what the printer rests on
+pub ruleset decimals = (one_digit, two_digits, three_digits)

@@ -60,6 +60,7 @@ pub fn text_has_one_rfc3164_stamp()
 
 /// Where a clock in a zone shows a datetime twice, the offset that jiff names first gives the earlier of the two
 /// instants.
+#[tactic(auto, using(crate::proofs::TimestampLemmas::Fold::earlier_in_fold))]
 pub fn fold_has_its_earlier_instant_first()
     ensures { (tz : TimeZone) (dt : DateTime) (before after : Offset) (s other : OffsetTimestamp)
         → ambiguous_at tz dt ≡ Fold before after → IsStampOf (Fold before after) dt s → IsStampAt dt after other
@@ -82,6 +83,7 @@ pub fn canonical_stamp_reads_back()
 
 /// The printed text of any timestamp begins with a digit, or with `-` and a digit, and no character of it is white
 /// space.
+#[tactic(auto, using(crate::proofs::TimestampLemmas::RoundTrip::printed_word))]
 pub fn printed_stamp_is_one_word()
     ensures begins { (stamp : OffsetTimestamp)
         → BeginsWithYear (printed_stamp stamp.instant.nanosecond stamp.offset.seconds) }
@@ -90,6 +92,7 @@ pub fn printed_stamp_is_one_word()
 {}
 
 /// A text has one split into units.
+#[tactic(auto, using(crate::proofs::StructuredDataLemmas::Units::split_one))]
 pub fn text_has_one_split()
     ensures there { (text : Text) → (units : List TextUnit) × (lone : Bool) × SplitsUnits text units lone }
     ensures one { (text : Text) (units others : List TextUnit) (lone last : Bool)
@@ -104,6 +107,7 @@ pub fn value_is_unquoted_split()
 {}
 
 /// Removing the escapes from an escaped text gives the text, and nothing else.
+#[tactic(auto, using(crate::proofs::StructuredDataLemmas::Units::escaped_there))]
 pub fn escapes_are_removed()
     ensures there { (text : Text) → IsUnescaped (escaped text) text }
     ensures one { (text other : Text) → IsUnescaped (escaped text) other → other ≡ text }

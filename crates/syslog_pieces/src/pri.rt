@@ -231,6 +231,7 @@ fn priority_bytes(text: &[u8]) -> Option<(u8, &[u8])>
 }
 
 // The priority at the front, where it has one to three digits, and the text behind it.
+#[tactic(auto, using(crate::proofs::PriLemmas::priority_read))]
 #[inline(always)]
 fn standard_priority(text: &str) -> Option<(u8, &str)>
     ensures { IfSome result (λ read. Front spec.priority (chars text.now) (shown read.1) read.0) }
@@ -311,6 +312,7 @@ fn three_digits(n: u32) -> [u8; 5]
 }
 
 /// Writes a priority as it prints. One below 1000, as that of each message is, is one piece.
+#[tactic(auto, using(crate::proofs::PriLemmas::decimals))]
 #[inline]
 pub fn write_priority<W: fmt::Write>(f: &mut fmt::Formatter<W>, number: u32) -> fmt::Result
     ensures { WritesOnOk W.write_str_gives f.old result (priority_text number) f.new }

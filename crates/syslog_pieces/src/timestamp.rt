@@ -62,6 +62,7 @@ pub struct OffsetTimestamp {
 ///
 /// There is none where the text has another form, where the calendar lacks its date or the clock
 /// its time, and where its instant is out of range. It takes no memory.
+#[tactic(auto, using(crate::proofs::TimestampLemmas::Reading::answer_of_text))]
 pub fn rfc3339(text: &str) -> Option<OffsetTimestamp>
     ensures { MatchOption result (HasNoStamp (chars text.now)) (IsStampText (chars text.now)) }
 {
@@ -86,6 +87,7 @@ pub fn header_stamp(text: &str) -> Option<(Option<OffsetTimestamp>, &str)>
 }
 
 // The same of a date that each month has, as most are.
+#[tactic(auto, using(crate::proofs::TimestampLemmas::Piece::stamp_front))]
 #[inline(always)]
 fn standard_stamp(text: &str) -> Option<(OffsetTimestamp, &str)>
     ensures { IfSome result (λ read. Front spec.header_stamp (chars text.now) (shown read.1) (Some read.0)) }
@@ -97,6 +99,7 @@ fn standard_stamp(text: &str) -> Option<(OffsetTimestamp, &str)>
 }
 
 // The same, whatever it is.
+#[tactic(auto, using(crate::proofs::TimestampLemmas::Piece::header_fronts))]
 #[inline(never)]
 fn any_header_stamp(text: &str) -> Option<(Option<OffsetTimestamp>, &str)>
     ensures { Reads spec.header_stamp (λ s. s) (chars text.now) result }

@@ -1,11 +1,10 @@
 -- A fold: the offset before it is ahead of the one behind it, so it gives the earlier instant.
-use Rattle.std.proofs.Common.{◌≡◌, ℤ, pos, ◌≤ℤ◌, ◌-◌, Bool, true, false, Option}
-use Rattle.std.proofs.Common.{Some, None, if◌then◌else◌, int_lt, not, refl, arith}
+use Rattle.std.proofs.Common.{◌≡◌, ℤ, pos, ◌≤ℤ◌, Bool, true, false, Option}
+use Rattle.std.proofs.Common.{Some, None, if◌then◌else◌, int_lt, arith}
 use Rattle.std.specs.Prelude.{⊤}
 use Rattle.jiff.specs.Types.{DateTime, Offset, TimeZone, AmbiguousOffset, Unambiguous, Gap, Fold}
 use Rattle.jiff.specs.Words.{ambiguous_at, civil_nanos, instant_of}
 use Rattle.jiff_core.proofs.SignedLemmas.{signed_arith}
-use Rattle.jiff_core.specs.DateTime.{civil_seconds}
 use Rattle.jiff_tz.specs.PosixReader.{match_some}
 use Rattle.jiff_tz.specs.PosixRule as Posix
 use Rattle.jiff_tz.specs.Tzif as Table
@@ -23,33 +22,23 @@ FoldsBack (Fold before after) = after.seconds ≤ℤ before.seconds
 
 either : (b : Bool) (x y : AmbiguousOffset) → (b ≡ true → FoldsBack x) → (b ≡ false → FoldsBack y)
     → FoldsBack (if b then x else y)
-either true x y h k = h refl
-either false x y h k = k refl
+either b x y h k = grind arith
 
 less : (a b : ℤ) → int_lt a b ≡ true → a ≤ℤ b
 less a b e = grind arith
 
-not_less : (a b : ℤ) → int_lt a b ≡ false → b ≤ℤ a
-not_less a b e = grind arith
-
 behind : (std dst : Offset) (w : ℤ × ℤ) (at : ℤ) → dst.seconds ≤ℤ std.seconds
     → FoldsBack (Posix.ambiguous_behind std dst w at)
-behind std dst w at h =
-    either (Posix.in_window w at) _ _ (λ e. tt) (λ e.
-    either (Posix.in_span (Posix.saturating_add w.0 (Posix.shift_between std dst)) w.0 at) _ _ (λ e. h) (λ e.
-    either (Posix.in_span w.1 (Posix.saturating_sub w.1 (Posix.shift_between std dst)) at) _ _ (λ e. tt) (λ e. tt)))
+behind std dst w at h = grind arith
 
 ahead : (std dst : Offset) (w : ℤ × ℤ) (at : ℤ) → std.seconds ≤ℤ dst.seconds
     → FoldsBack (Posix.ambiguous_ahead std dst w at)
-ahead std dst w at h =
-    either (not (Posix.in_window w at)) _ _ (λ e. tt) (λ e.
-    either (Posix.in_span w.0 (Posix.saturating_add w.0 (Posix.shift_between std dst)) at) _ _ (λ e. tt) (λ e.
-    either (Posix.in_span (Posix.saturating_sub w.1 (Posix.shift_between std dst)) w.1 at) _ _ (λ e. h) (λ e. tt)))
+ahead std dst w at h = grind arith
 
 by_rule : (std dst : Offset) (w : ℤ × ℤ) (at : ℤ) → FoldsBack (Posix.ambiguous_by std dst w at)
 by_rule std dst w at =
-    either (int_lt dst.seconds std.seconds) _ _ (λ e. behind std dst w at (less dst.seconds std.seconds e)) (λ e.
-    either (int_lt std.seconds dst.seconds) _ _ (λ e. ahead std dst w at (less std.seconds dst.seconds e)) (λ e. tt))
+    either (int_lt dst.seconds std.seconds) _ _ (λ e. behind std dst w at (less _ _ e))
+    (λ e. either (int_lt std.seconds dst.seconds) _ _ (λ e. ahead std dst w at (less _ _ e)) (λ e. tt))
 
 of_rule : (std : Offset) (dst : Option Dst) (dt : DateTime) → FoldsBack (Posix.ambiguous_at_by std dst dt)
 of_rule std None dt = tt
@@ -58,9 +47,7 @@ of_rule std (Some d) dt = by_rule std d.offset
     (civil_nanos dt)
 
 of_transition : (t : Transition) → FoldsBack (Table.offsets_in t)
-of_transition t =
-    either (int_lt t.before.seconds t.after.offset.seconds) _ _ (λ e. tt)
-    (λ e. not_less t.before.seconds t.after.offset.seconds e)
+of_transition t = grind arith
 
 after_table : (rule : Option PosixZone) (offset : Offset) (dt : DateTime)
     → FoldsBack (match_some rule (Unambiguous offset) (λ tz. Posix.ambiguous_at tz dt))
@@ -68,11 +55,7 @@ after_table None offset dt = tt
 after_table (Some tz) offset dt = of_rule tz.std_offset tz.dst dt
 
 of_table : (z : Tzif) (dt : DateTime) → FoldsBack (Table.ambiguous_at z dt)
-of_table z dt =
-    let count = Table.civil_count_at z (civil_seconds dt) in
-    either (Table.is_inside z count (civil_seconds dt)) (Table.offsets_in (Table.transition_at z (count - 1)))
-    (Table.ambiguous_after z count dt) (λ e. of_transition (Table.transition_at z (count - 1)))
-    (λ e. after_table (Table.rule_after z count) (Table.type_after z count).offset dt)
+of_table z dt = grind (arith, of_transition, after_table)
 
 -- a zone's fold goes back
 pub zone_folds_back : (tz : TimeZone) (dt : DateTime) → FoldsBack (ambiguous_at tz dt)

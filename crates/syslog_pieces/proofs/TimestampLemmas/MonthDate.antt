@@ -6,22 +6,19 @@ use Rattle.std.proofs.lemmas.List.{length-append}
 use Rattle.std.proofs.lemmas.Str.{chars-nil}
 use Rattle.std.specs.Char.{is_ascii_digit, to_ascii_lowercase}
 use Rattle.std.specs.Str.{chars}
-use Rattle.syslog_pieces.specs.Bodies.MonthReading.{IsNamed, small_month, day_row, day_values, year_row}
-use Rattle.syslog_pieces.specs.Bodies.MonthReading.{year_values, clock_values, date_of}
+use Rattle.syslog_pieces.specs.Bodies.MonthReading.{IsNamed, small_month, day_row, year_row}
 use Rattle.syslog_pieces.specs.Pieces.Class.{Text, Class, Values, Front, NoFront, Row}
-use Rattle.syslog_pieces.specs.Pieces.Class.{IsDeterministic, some_run, exactly}
+use Rattle.syslog_pieces.specs.Pieces.Class.{IsDeterministic, some_run}
 use Rattle.syslog_pieces.specs.Pri.{priority}
 use Rattle.syslog_pieces.specs.Text.{number, is_blank, colon}
 use Rattle.syslog_pieces.specs.Timestamp.MonthDate.{month, short_number, clock_row, yearless_row, yearless_of}
 use Rattle.syslog_pieces.specs.Timestamp.MonthDate.{yearless_date, dated_row, dated_of, dated_date, month_date}
 use Rattle.syslog_pieces.specs.Timestamp.Rfc3164.{BeginsWithDate, ShowsYearless, showing_row}
-use Rattle.syslog_pieces.specs.declared.timestamp.month_date.Clock.{Clock}
-use Rattle.syslog_pieces.specs.declared.timestamp.month_date.Day.{Day}
 use Rattle.syslog_pieces.specs.declared.timestamp.month_date.MonthDate.{MonthDate}
 use Rattle.syslog_pieces.proofs.PieceLemmas.Class.{AllDeterministic, ◌also◌, all_joined, run_same, rest_same}
 use Rattle.syslog_pieces.proofs.PieceLemmas.Class.{some_run_det, run_det, rest_det, exactly_det, optional_det}
 use Rattle.syslog_pieces.proofs.PieceLemmas.Class.{mapped_det, row_det, row_head, unique_division, mapped_front}
-use Rattle.syslog_pieces.proofs.PieceLemmas.Class.{no_mapped, lasts, rows_split, rows_join, rows_none_here}
+use Rattle.syslog_pieces.proofs.PieceLemmas.Class.{no_mapped, rows_split, rows_join, rows_none_here}
 use Rattle.syslog_pieces.proofs.PieceLemmas.Class.{rows_none_later, division_front, front_division, no_front_no}
 use Rattle.syslog_pieces.proofs.PieceLemmas.Kinds.{Apart, Begins, begins_apart, begins_more, begins_with}
 use Rattle.syslog_pieces.proofs.PieceLemmas.Kinds.{each_begins, either_det, first_kind, second_kind, no_either}
@@ -69,35 +66,23 @@ abbrev pub IsBlank : ℕ → Type 0
 IsBlank c = is_blank c ≡ true
 
 pub blanks_begin : {t q : Text} → Front (some_run is_blank) t q tt → Begins IsBlank t
-blanks_begin {q = q} f = subst (λ (x : Text). Begins IsBlank x) (sym f.whole)
-    (begins_more IsBlank f.piece q (each_begins is_blank f.piece f.is.0 f.is.1))
-
-colon_begins : (t q : Text) → Front (exactly colon) t q tt → Begins (λ c. c ≡ 58) t
-colon_begins t q f = begins_with (λ c. c ≡ 58) 58 t q (f.whole ∙ ap (λ (x : Text). x ++ q) f.is) refl
+blanks_begin {q = q} f =
+    rw f.whole (begins_more IsBlank f.piece q (each_begins is_blank f.piece f.is.0 f.is.1))
 
 pub blank_low : (c : ℕ) → is_blank c ≡ true → c ≤ 32
 blank_low c h = grind (arith, nat_tests, h)
 
-clock_apart : (t q q' : Text) (vs : Values clock_row) (ws : Values from_year) → Front (Row clock_row) t q vs
-    → Front (Row from_year) t q' ws → ⊥
-clock_apart t q q' vs ws f g =
-    let (u, f1, (w, f3, _)) = row_pieces clock_row f in
-    let (u', g1, (_, g3, _)) = row_pieces from_year g in
-    begins_apart u (λ c h k. let z = blank_low c k in omega arith) (colon_begins u w f3)
-    (subst (λ (x : Text). Begins IsBlank x) (sym (number_ends 4294967295 2147483647 u u' f1 g1)) (blanks_begin g3))
-
 -- behind the day, with which both begin
-rows_apart : (t q q' : Text) (vs : Values yearless_row) (ws : Values dated_row) → Front (Row yearless_row) t q vs
-    → Front (Row dated_row) t q' ws → ⊥
-rows_apart t q q' vs ws f g =
-    let (u, day, clock) = rows_split day_row clock_row f in
-    clock_apart u q q' (lasts day_row clock_row vs) (lasts day_row from_year ws) clock
-    (rows_step day_row from_year day_det day g).1
-
 dates_apart : Apart MonthDate yearless_date.Is dated_date.Is
 dates_apart p q p' q' v v' e (vs, h, i) (ws, h', i') =
-    rows_apart (p ++ q) q q' vs ws (record { piece = p; whole = refl; is = h })
-    (record { piece = p'; whole = e; is = h' })
+    let f : Front (Row yearless_row) (p ++ q) q vs = record { piece = p; whole = refl; is = h } in
+    let g : Front (Row dated_row) (p ++ q) q' ws = record { piece = p'; whole = e; is = h' } in
+    let (u, day, clock) = rows_split day_row clock_row f in
+    let (t, f1, (w, f3, _)) = row_pieces clock_row clock in
+    let (t', g1, (_, g3, _)) = row_pieces from_year (rows_step day_row from_year day_det day g).1 in
+    begins_apart t (λ c h k. let z = blank_low c k in omega arith)
+    (begins_with (λ c. c ≡ 58) 58 t w (f3.whole ∙ ap (λ (x : Text). x ++ w) f3.is) refl)
+    (rw (number_ends 4294967295 2147483647 t t' f1 g1) (blanks_begin g3))
 
 -- a text has one month date at its front
 pub month_date_det : IsDeterministic month_date
@@ -108,8 +93,7 @@ row_begins : (Cs : List Class) (p q : Text) (vs : Values (month ∷ Cs)) → (Ro
     → Begins IsLetter (p ++ q)
 row_begins Cs p q vs h =
     let f = row_head month Cs {text = p ++ q} (record { piece = p; whole = refl; is = h }) in
-    subst (λ (x : Text). Begins IsLetter x) (sym f.1.whole)
-    (begins_more IsLetter f.1.piece f.0 (month_begins f.1.piece f.0 vs.0 f.1.is))
+    rw f.1.whole (begins_more IsLetter f.1.piece f.0 (month_begins f.1.piece f.0 vs.0 f.1.is))
 
 abbrev behind_month : List Class
 behind_month = some_run is_blank ∷ short_number ∷ some_run is_blank ∷ []
@@ -129,30 +113,26 @@ no_letter_no_date (b ∷ bs) low p q d e h =
     absurd (omega arith)
 
 -- ---- a text shows one date without a year
+pub showing_det : AllDeterministic (showing_row yearless_date)
+showing_det = optional_det priority priority_det also run_det is_blank also yearless_det also rest_det also tt
+
 pub shown_once : (text : Text) (d d' : MonthDate) → ShowsYearless text d → ShowsYearless text d' → d ≡ d'
-shown_once text d d' (p, more, h) (p', more', h') =
-    ap (λ (x : Values (showing_row yearless_date)). x.1.1.0) (unique_division (showing_row yearless_date)
-    (optional_det priority priority_det also run_det is_blank also yearless_det also rest_det also tt) h h').1
+shown_once text d d' (p, more, h) (p', more', h') = ap (λ (x : Values (showing_row yearless_date)). x.1.1.0)
+    (unique_division (showing_row yearless_date) showing_det h h').1
 
--- ---- the name of a month
-module _ (t t1 t2 t3 : Text) (a b c : ℕ) (e : t ≡ a ∷ t1) (f : t1 ≡ b ∷ t2) (g : t2 ≡ c ∷ t3)
-    (x y z : ℕ) (i : x ≡ to_ascii_lowercase a) (j : y ≡ to_ascii_lowercase b) (k : z ≡ to_ascii_lowercase c)
-    (n : Option ℕ) (m : n ≡ small_month x y z) where
-  three : t ≡ (a ∷ b ∷ c ∷ []) ++ t3
-  three = cc
+-- ---- the name of a month, in letters of either case
+module _ (t q : Text) (a b c : ℕ) (e : t ≡ a ∷ b ∷ c ∷ q) where
+  pub month_read : (n : ℕ) → IsNamed (to_ascii_lowercase a) (to_ascii_lowercase b) (to_ascii_lowercase c) n
+      → Front month t q n
+  month_read n h = record { piece = a ∷ b ∷ c ∷ []; whole = e; is = month_named h }
 
-  small : n ≡ small_month (to_ascii_lowercase a) (to_ascii_lowercase b) (to_ascii_lowercase c)
-  small = cc
-
-  pub month_read : (v : ℕ) → IsNamed x y z v → Front month t t3 v
-  month_read v h = record { piece = a ∷ b ∷ c ∷ []; whole = three; is = month_named (rw (i, j, k) at h) }
-
-  pub no_month_read : n ≡ None → NoFront month t
-  no_month_read s p q v w h =
-      let (a', b', c', w', m') = month_letters p v h in
-      let u : a ∷ b ∷ c ∷ t3 ≡ a' ∷ b' ∷ c' ∷ q = sym three ∙ w ∙ ap (λ (u : Text). u ++ q) w' in
+  pub no_month_read : small_month (to_ascii_lowercase a) (to_ascii_lowercase b) (to_ascii_lowercase c) ≡ None
+      → NoFront month t
+  no_month_read none p r n w h =
+      let (a', b', c', w', m) = month_letters p n h in
+      let u : a ∷ b ∷ c ∷ q ≡ a' ∷ b' ∷ c' ∷ r = sym e ∙ w ∙ ap (λ (u : Text). u ++ r) w' in
       let ha : a ≡ a' = cc in let hb : b ≡ b' = cc in let hc : c ≡ c' = cc in
-      let r : None ≡ Some v = sym s ∙ small ∙ (rw (ha, hb, hc) refl) ∙ m' in cc
+      let r : None ≡ Some n = sym none ∙ (rw (ha, hb, hc) refl) ∙ m in cc
 
 -- fewer than three characters
 pub no_short : (t : Text) → length t < 3 → NoFront month t
@@ -167,43 +147,31 @@ module _ {t : Text} where
   pub yearless_none_here : NoFront (Row day_row) t → NoFront yearless_date t
   yearless_none_here n = no_mapped (Row yearless_row) MonthDate yearless_of (rows_none_here day_row clock_row n)
 
-  pub dated_none_here : NoFront (Row day_row) t → NoFront dated_date t
-  dated_none_here n = no_mapped (Row dated_row) MonthDate dated_of (rows_none_here day_row from_year n)
-
   pub no_day : NoFront (Row day_row) t → NoFront month_date t
-  no_day n = no_either MonthDate yearless_date.Is dated_date.Is (yearless_none_here n) (dated_none_here n)
+  no_day n =
+      no_either MonthDate yearless_date.Is dated_date.Is (yearless_none_here n)
+      (no_mapped (Row dated_row) MonthDate dated_of (rows_none_here day_row from_year n))
 
-  module _ {u : Text} (d : Day) (f : Front (Row day_row) t u (day_values d)) where
-    pub yearless_front : {q : Text} (c : Clock) (more : Option (Unit {0}))
-        → Front (Row clock_row) u q (clock_values c more) → Front yearless_date t q (date_of None d c)
-    yearless_front c more g = mapped_front (Row yearless_row) MonthDate yearless_of (rows_join day_row clock_row f g)
+  module _ {u : Text} {m d : ℕ} (f : Front (Row day_row) t u (m, (tt, (d, (tt, tt))))) where
+    pub yearless_front : {q : Text} {h n s : ℕ} {more : Option (Unit {0})}
+        → Front (Row clock_row) u q (h, (tt, (n, (tt, (s, (more, tt))))))
+        → Front yearless_date t q (record { year = None; month = m; day = d; hour = h; minute = n; second = s })
+    yearless_front g = mapped_front (Row yearless_row) MonthDate yearless_of (rows_join day_row clock_row f g)
 
     pub yearless_none_later : NoFront (Row clock_row) u → NoFront yearless_date t
     yearless_none_later n =
         no_mapped (Row yearless_row) MonthDate yearless_of (rows_none_later day_row clock_row day_det f n)
 
-    pub month_date_yearless : {q : Text} (c : Clock) (more : Option (Unit {0}))
-        → Front (Row clock_row) u q (clock_values c more) → Front month_date t q (date_of None d c)
-    month_date_yearless c more g = yearless_is (yearless_front c more g)
+    -- neither a clock nor a year and a clock stands behind the day
+    pub no_clock : NoFront (Row clock_row) u → NoFront (Row from_year) u → NoFront month_date t
+    no_clock n m =
+        no_either MonthDate yearless_date.Is dated_date.Is (yearless_none_later n)
+        (no_mapped (Row dated_row) MonthDate dated_of (rows_none_later day_row from_year day_det f m))
 
-    -- no clock stands behind the day
-    module _ (n : NoFront (Row clock_row) u) where
-      dated_none_later : NoFront (Row from_year) u → NoFront month_date t
-      dated_none_later m =
-          no_either MonthDate yearless_date.Is dated_date.Is (yearless_none_later n)
-          (no_mapped (Row dated_row) MonthDate dated_of (rows_none_later day_row from_year day_det f m))
-
-      pub no_year : NoFront (Row year_row) u → NoFront month_date t
-      no_year m = dated_none_later (rows_none_here year_row clock_row m)
-
-      pub no_clock : {w : Text} (y : ℕ) → Front (Row year_row) u w (year_values y) → NoFront (Row clock_row) w
-          → NoFront month_date t
-      no_clock y g m = dated_none_later (rows_none_later year_row clock_row year_det g m)
-
-    pub month_date_dated : {w q : Text} (y : ℕ) (c : Clock) (more : Option (Unit {0}))
-        → Front (Row year_row) u w (year_values y) → Front (Row clock_row) w q (clock_values c more)
-        → Front month_date t q (date_of (Some y) d c)
-    month_date_dated y c more g h =
+    pub dated_front : {w q : Text} {y h n s : ℕ} {more : Option (Unit {0})} → Front (Row year_row) u w (y, (tt, tt))
+        → Front (Row clock_row) w q (h, (tt, (n, (tt, (s, (more, tt))))))
+        → Front month_date t q (record { year = Some y; month = m; day = d; hour = h; minute = n; second = s })
+    dated_front g h =
         second_kind MonthDate yearless_date.Is dated_date.Is
         (mapped_front (Row dated_row) MonthDate dated_of
         (rows_join day_row from_year f (rows_join year_row clock_row g h)))

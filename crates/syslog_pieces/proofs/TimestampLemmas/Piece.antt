@@ -1,5 +1,5 @@
 -- The timestamp of a header, as a piece.
-use Rattle.std.proofs.Common.{◌≡◌, ℕ, true, [], ◌∷◌, ◌++◌}
+use Rattle.std.proofs.Common.{◌≡◌, [], ◌∷◌, ◌++◌}
 use Rattle.std.proofs.Common.{zero, suc, Some, None, refl, sym, ap, subst, ◌∙◌, arith}
 use Rattle.std.specs.Char.{is_not_whitespace}
 use Rattle.std.specs.List.{All}
@@ -15,12 +15,10 @@ use Rattle.syslog_pieces.proofs.TimestampLemmas.Characters.{IsStampCharacter, wr
 use Rattle.syslog_pieces.proofs.TimestampLemmas.Reading.{stamp_text_det, one_timestamp}
 use Rattle.syslog_pieces.proofs.TimestampLemmas.Texts.{stamp_character-visible, writes-first}
 
-visible : (c : ℕ) → IsStampCharacter c → is_not_whitespace c ≡ true
-visible c h = rw (stamp_character-visible c h)
-
 pub each_visible : (t : Text) → All IsStampCharacter t → Each is_not_whitespace t
 each_visible [] h = tt
-each_visible (c ∷ t) h = (visible c (h zero c (omega arith)), each_visible t (λ k d l. h (suc k) d (omega arith)))
+each_visible (c ∷ t) h =
+    (rw (stamp_character-visible c (h zero c (omega arith))), each_visible t (λ k d l. h (suc k) d (omega arith)))
 
 -- a stamp's text is a run that a space ends
 pub stamp_each : (t : Text) (s : OffsetTimestamp) → IsStampText t s → Each is_not_whitespace t
@@ -71,3 +69,6 @@ module _ {t q : Text} {w : Rfc3339Fields} (f : Front stamp_text t q w) where
   no_header n p q' (Some v) e ((w', h, k), (r, z)) =
       let (rest, same) = front_same stamp_text stamp_text_det (record { piece = p; whole = e; is = h }) f in
       n v r (sym rest ∙ z) (subst (λ (x : Rfc3339Fields). IsStampOfRfc3339 x v) same k)
+
+-- what the reader of such timestamps rests on
+pub ruleset header_fronts = (stamp_front, dash_front)

@@ -1,5 +1,5 @@
 -- A printed stamp is ASCII, so that its characters are its bytes.
-use Rattle.std.proofs.Common.{◌≡◌, ℕ, ℤ, pos, negsuc, ◌+ℤ◌, ◌/◌, ◌%◌, ◌≤◌, [], ◌∷◌, ◌++◌, arith, unsigned_abs}
+use Rattle.std.proofs.Common.{◌≡◌, ℕ, ℤ, pos, negsuc, ◌+ℤ◌, ◌≤◌, [], ◌∷◌, ◌++◌, arith, unsigned_abs}
 use Rattle.std.proofs.lemmas.List.Elements.{All-append, All-from_recursion}
 use Rattle.std.proofs.lemmas.Str.{encodes-IsAscii}
 use Rattle.std.specs.List.{All}
@@ -12,7 +12,7 @@ use Rattle.syslog_pieces.specs.declared.timestamp.OffsetTimestamp.{OffsetTimesta
 use Rattle.syslog_pieces.specs.declared.timestamp.fields.CivilFields.{CivilFields}
 use Rattle.syslog_pieces.specs.Timestamp.Fields.{AreCivil}
 use Rattle.syslog_pieces.specs.Timestamp.Printed.{printed_stamp, civil_fields, date_time_text, year_sign}
-use Rattle.syslog_pieces.specs.Timestamp.Printed.{fraction_text, offset_text, rounded_minutes}
+use Rattle.syslog_pieces.specs.Timestamp.Printed.{fraction_text, offset_text, offset_sign}
 use Rattle.syslog_pieces.proofs.TimestampLemmas.Characters.{IsStampCharacter, date_characters, fraction, signed}
 use Rattle.syslog_pieces.proofs.TimestampLemmas.Characters.{ascii_from_characters}
 use Rattle.syslog_pieces.proofs.TimestampLemmas.Reading.{fraction_text-is}
@@ -25,10 +25,9 @@ absolute (negsuc n) k h = omega (arith, signed_arith, h.0)
 
 offset : (o : ℤ) → IsOffsetSeconds o → All IsStampCharacter (offset_text o)
 unfolding offset_text
-offset (pos n) h = signed 43 (rounded_minutes (pos n) / 60) (rounded_minutes (pos n) % 60) (omega arith)
-    (omega (arith, absolute (pos n) 93_599 h)) (omega arith)
-offset (negsuc n) h = signed 45 (rounded_minutes (negsuc n) / 60) (rounded_minutes (negsuc n) % 60) (omega arith)
-    (omega (arith, absolute (negsuc n) 93_599 h)) (omega arith)
+offset o h =
+    let sign : IsStampCharacter (offset_sign o) = grind arith in
+    signed (offset_sign o) _ _ sign (omega (arith, absolute o 93_599 h)) (omega arith)
 
 year : (z : ℤ) → All IsStampCharacter (year_sign z)
 year (pos n) = All-from_recursion IsStampCharacter [] tt

@@ -1,7 +1,7 @@
 -- Every count of nanoseconds in range has civil fields, which the calendar has.
 use Rattle.std.proofs.Common.{◌≡◌, ℕ, ℤ, zero, suc, pos, negsuc, ◌+ℤ◌, ◌-ℤ◌, ◌*ℤ◌, ◌≤ℤ◌, ◌<ℤ◌, ◌+◌, ◌-◌}
-use Rattle.std.proofs.Common.{◌*◌, ◌/◌, ◌%◌, ◌<◌, ◌≤◌, ◌≢◌, inl, inr, refl, ap, ◌∙◌, arith, unsigned_abs}
-use Rattle.std.proofs.lemmas.Bool.Decides.{leb_tells}
+use Rattle.std.proofs.Common.{◌*◌, ◌/◌, ◌%◌, ◌<◌, ◌≤◌, ◌≢◌, refl, ap, ◌∙◌, arith, unsigned_abs}
+use Rattle.std.proofs.lemmas.Bool.Decides.{nat_tests}
 use Rattle.std.specs.Int.{int_div_euclid, int_rem_euclid}
 use Rattle.jiff.specs.Words.{nanos_of_seconds, IsTimestampNanos, IsOffsetSeconds, IsCivilNanos, IsEpochDay, IsYear}
 use Rattle.jiff_core.specs.Calendar.{days_of_months, days_of_years, days_from_civil}
@@ -21,32 +21,20 @@ pub in_range-at_offset : (n o : ℤ) → IsTimestampNanos n → IsOffsetSeconds 
 in_range-at_offset n o h k = omega (arith, signed_arith)
 
 abs-diff : (a b : ℤ) (k : ℕ) → a ≡ b +ℤ pos k → unsigned_abs (a -ℤ b) ≡ k
-abs-diff a b k e = let same : a -ℤ b ≡ pos k = omega (arith, signed_arith) in rw same
+abs-diff a b k e = grind (arith, signed_arith)
 
 months_fit : (y : ℤ) (n count : ℕ) → (days_of_months y (months_within y n count) ≤ count)
     × (months_within y n count ≤ n)
     × (count < days_of_months y (suc n) → count < days_of_months y (suc (months_within y n count)))
 unfolding months_within
 months_fit y zero count = let none = days_of_months-zero y in (omega arith, omega arith, λ h. h)
-months_fit y (suc n) count = elim (leb_tells (days_of_months y (suc n)) count) [
-  | inl fits ↦ rw fits.0 (fits.1, omega arith, λ h. h)
-  | inr over ↦
-      let below = months_fit y n count in
-      let less = over.1 in
-      rw over.0 (below.0, omega (arith, below.1), λ h. below.2 (omega arith))
-]
+months_fit y (suc n) count = let below = months_fit y n count in grind (arith, nat_tests)
 
 years_fit : (n count : ℕ) → (days_of_years (years_within n count) ≤ count) × (years_within n count ≤ n)
     × (count < days_of_years (suc n) → count < days_of_years (suc (years_within n count)))
 unfolding years_within days_of_years
 years_fit zero count = (omega arith, omega arith, λ h. h)
-years_fit (suc n) count = elim (leb_tells (days_of_years (suc n)) count) [
-  | inl fits ↦ rw fits.0 (fits.1, omega arith, λ h. h)
-  | inr over ↦
-      let below = years_fit n count in
-      let less = over.1 in
-      rw over.0 (below.0, omega (arith, below.1), λ h. below.2 (omega arith))
-]
+years_fit (suc n) count = let below = years_fit n count in grind (arith, nat_tests)
 
 day_count-first : (y : ℤ) (k : ℕ) → y +ℤ pos 10000 ≡ pos k → day_count y 1 1 ≡ days_of_years k
 unfolding day_count
@@ -55,12 +43,6 @@ day_count-first y k e = rw e (omega (arith, days_of_months-zero y))
 days_of_years-next : (k : ℕ) → days_of_years (suc k) ≡ days_of_years k + days_in_year (pos k -ℤ pos 10000)
 unfolding days_of_years
 days_of_years-next k = refl
-
-years_one : days_of_years 1 ≡ 366
-years_one = omega (arith, days_of_years-march_days 1)
-
-years_all : days_of_years 20000 ≡ 7_304_850
-years_all = omega (arith, days_of_years-march_days 20000)
 
 -- the year and the place in it of a day that the library has
 pub record IsPlaced (day year : ℤ) (place : ℕ) : Type 0 where
@@ -77,15 +59,13 @@ year_placed : (day : ℤ) (count k : ℕ) → IsEpochDay day → pos count ≡ d
     → (count < days_of_years (suc 20000) → count < days_of_years (suc k))
     → IsPlaced day (pos k -ℤ pos 10000) (count - days_of_years k)
 year_placed day count k range e low most next =
-    let all = years_all in
-    let more = days_of_years-next 20000 in
-    let high : count < days_of_years (suc k) = next (omega (arith, signed_arith, range.1)) in
-    let below : k ≡ 20000 → ⊥ = λ same. let f : days_of_years k ≡ 7_304_850 = ap days_of_years same ∙ all in
-    omega (arith, signed_arith, range.1) in
-    let above : k ≢ 0 = λ same. let f : days_of_years (suc k) ≡ 366 = ap (λ j. days_of_years (suc j)) same
-    ∙ years_one in omega (arith, signed_arith, range.0) in
-    let shifted : pos k -ℤ pos 10000 +ℤ pos 10000 ≡ pos k = omega (arith, signed_arith) in
-    let first = day_count-first (pos k -ℤ pos 10000) k shifted in
+    let high : count < days_of_years (suc k) =
+    next (omega (arith, signed_arith, range.1, days_of_years-march_days 20000, days_of_years-next 20000)) in
+    let below : k ≢ 20000 = λ s. let f = ap days_of_years s in
+    omega (arith, signed_arith, range.1, days_of_years-march_days 20000) in
+    let above : k ≢ 0 = λ s. let f = ap (λ j. days_of_years (suc j)) s in
+    omega (arith, signed_arith, range.0, days_of_years-march_days 1) in
+    let first = day_count-first (pos k -ℤ pos 10000) k (omega (arith, signed_arith)) in
     let number = days_from_civil-day_count (pos k -ℤ pos 10000) 1 1 in
     let step = days_of_years-next k in
     record {
@@ -114,7 +94,7 @@ month_placed y place j h low most next =
     let high = next (omega arith) in
     let more = days_of_months_more y (suc j) (omega arith) in
     let back : suc j - 1 ≡ j = omega arith in
-    let step : days_of_months y (suc j) ≡ days_of_months y j + days_in_month y (suc j) = rw back at more in
+    let step = rw back at more in
     let same : j + 1 ≡ suc j = omega arith in
     rw (same, back) (omega arith, omega arith)
 

@@ -2,8 +2,9 @@
 -- fraction, then of a text. And from what a text wrote to the answer, of which there is one.
 use Rattle.std.proofs.Common.{◌≡◌, ℕ, zero, suc, ◌+◌, ◌-◌, ◌*◌, ◌/◌, ◌%◌, ◌^◌, ◌<◌, ◌==◌, true, false, List, [], ◌∷◌}
 use Rattle.std.proofs.Common.{◌++◌, length, take, Some, inl, inr, refl, sym, ap, ◌∙◌, arith, get_or, get_or-take}
-use Rattle.std.proofs.Common.{take_at, drop_at, ◌⊎◌, ℤ, pos, neg_ℤ, ◌&&◌, ◌||◌, nat_lt, ◌≤◌, drop, None, subst}
-use Rattle.std.proofs.Common.{append_assoc, ◌≢◌, ◌-ℤ◌, Option}
+use Rattle.std.proofs.Common.{◌⊎◌, ℤ, pos, neg_ℤ, ◌&&◌, ◌||◌, nat_lt, ◌≤◌, drop, None, subst}
+use Rattle.std.proofs.Common.{append_assoc, ◌≢◌, Option}
+use Rattle.std.proofs.Math.Seq.{take-append_seam, drop-append_seam}
 use Rattle.std.proofs.Props.{props}
 use Rattle.std.proofs.lemmas.Bool.Decides.{nat_tests, eqb_tells}
 use Rattle.std.proofs.lemmas.List.{take-append-drop, append_cancel_right, length-append, append-nil}
@@ -12,12 +13,11 @@ use Rattle.std.proofs.lemmas.List.Folds.{length-prefix_len, prefix_len-append}
 use Rattle.std.proofs.lemmas.List.Sums.{prefix_len_is, prefix_len_passes}
 use Rattle.std.proofs.lemmas.Str.{encodes-append, encodes-chars, encodes-IsAscii, IsUtf8-drop}
 use Rattle.std.specs.Char.{is_ascii_digit, IsAsciiDigit}
-use Rattle.std.specs.Int.{is_in_range}
 use Rattle.std.specs.List.{All, prefix_len}
 use Rattle.std.specs.Str.{chars, IsAscii, IsUtf8, IsCharBoundary, encode_utf8_all}
 use mathlib.Core.HLevel.{is_prop→PathP}
 use Rattle.jiff.specs.Types.{DateTime, Offset, Timestamp}
-use Rattle.jiff.specs.Words.{IsOffsetSeconds, IsTimestampNanos, nanos_of_seconds}
+use Rattle.jiff.specs.Words.{IsOffsetSeconds, IsTimestampNanos}
 use Rattle.jiff_fmt.proofs.RoundTrip.{two_digits-pad2, four_digits-pad4}
 use Rattle.jiff_fmt.specs.Reader.{fraction_value}
 use Rattle.jiff_fmt.specs.Text.{pad2, pad4}
@@ -26,7 +26,7 @@ use Rattle.syslog_pieces.specs.Bodies.StampReading.{IsOffsetBytes, after_letter,
 use Rattle.syslog_pieces.specs.Bodies.StampReading.{numbers, written, ◌or◌, offset, seconds, stamp_text}
 use Rattle.syslog_pieces.specs.Pieces.Class.{Text, Front, NoFront, IsDeterministic}
 use Rattle.syslog_pieces.specs.Timestamp.{IsAnswer, IsStampText, HasNoStamp, IsStampOfRfc3339}
-use Rattle.syslog_pieces.specs.Timestamp.Fields.{fields_of, nanos_of_fields, IsStampAt}
+use Rattle.syslog_pieces.specs.Timestamp.Fields.{fields_of, IsStampAt}
 use Rattle.syslog_pieces.specs.Timestamp.Printed.{fraction_text, pad3}
 use Rattle.syslog_pieces.specs.Timestamp.Rfc3339.{IsFraction, IsLetter, IsOffsetText, Writes, HasStamp}
 use Rattle.syslog_pieces.specs.Timestamp.Rfc3339.{fields_of_rfc3339}
@@ -55,25 +55,26 @@ pad3-digits n h = All-from_recursion IsAsciiDigit (pad3 n) (omega arith)
 pad3-value : (n : ℕ) → n < 1_000 → (48 + n / 100 - 48) * 100 + (48 + n / 10 % 10 - 48) * 10 + (48 + n % 10 - 48) ≡ n
 pad3-value n h = omega arith
 
-module _ (a : ℕ) (a_in : a < 1_000) where
-  pub three : AreDecimals (pad3 a) (a * 1_000_000)
+module _ {n : ℕ} (a : ℕ) (a_in : a < 1_000) where
+  pub three : n ≡ a * 1_000_000 → AreDecimals (pad3 a) n
   unfolding fraction_value
-  three = record { some = omega arith; each = pad3-digits a a_in; value = omega (arith, pad3-value a a_in) }
+  three e = record { some = omega arith; each = pad3-digits a a_in; value = omega (arith, pad3-value a a_in) }
 
   module _ (b : ℕ) (b_in : b < 1_000) where
-    pub six : AreDecimals (pad3 a ++ pad3 b) (a * 1_000_000 + b * 1_000)
+    pub six : n ≡ a * 1_000_000 + b * 1_000 → AreDecimals (pad3 a ++ pad3 b) n
     unfolding fraction_value
-    six = record {
+    six e = record {
       some = omega arith;
       each = All-append IsAsciiDigit (pad3 a) (pad3 b) (pad3-digits a a_in) (pad3-digits b b_in);
       value = omega (arith, pad3-value a a_in, pad3-value b b_in);
     }
 
-    pub nine : (c : ℕ) → c < 1_000 → AreDecimals (pad3 a ++ (pad3 b ++ pad3 c)) (a * 1_000_000 + b * 1_000 + c)
+    pub nine : (c : ℕ) → c < 1_000 → n ≡ a * 1_000_000 + b * 1_000 + c → AreDecimals (pad3 a ++ (pad3 b ++ pad3 c)) n
     unfolding fraction_value
-    nine c c_in = record {
+    nine c c_in e = record {
       some = omega arith;
-      each = All-append IsAsciiDigit (pad3 a ++ pad3 b) (pad3 c) six.each (pad3-digits c c_in);
+      each = All-append IsAsciiDigit (pad3 a) (pad3 b ++ pad3 c) (pad3-digits a a_in)
+          (All-append IsAsciiDigit (pad3 b) (pad3 c) (pad3-digits b b_in) (pad3-digits c c_in));
       value = omega (arith, pad3-value a a_in, pad3-value b b_in, pad3-value c c_in);
     }
 
@@ -81,22 +82,16 @@ module _ (a : ℕ) (a_in : a < 1_000) where
 pub fraction_text-is : (n : ℕ) → n < 1_000_000_000 → IsFraction (fraction_text n) n
 unfolding fraction_text
 fraction_text-is n h =
-    let a = n / 1_000_000 in
-    let b = n / 1_000 % 1_000 in
-    let c = n % 1_000 in
-    let a_in : a < 1_000 = omega arith in
-    let b_in : b < 1_000 = omega arith in
-    let c_in : c < 1_000 = omega arith in
+    let a_in : n / 1_000_000 < 1_000 = omega arith in
+    let b_in : n / 1_000 % 1_000 < 1_000 = omega arith in
+    let c_in : n % 1_000 < 1_000 = omega arith in
     elim (eqb_tells n 0) [
       | inl z ↦ let none = z.1 in inl (rw z.0, none)
       | inr z ↦ elim (eqb_tells (n % 1_000_000) 0) [
-        | inl m ↦ let whole = m.1 in let same : a * 1_000_000 ≡ n = omega arith in
-            rw (z.0, m.0) (dotted (pad3 a) n (rw same at (three a a_in)))
-        | inr m ↦ elim (eqb_tells c 0) [
-          | inl k ↦ let whole = k.1 in let same : a * 1_000_000 + b * 1_000 ≡ n = omega arith in
-              rw (z.0, m.0, k.0) (dotted (pad3 a ++ pad3 b) n (rw same at (six a a_in b b_in)))
-          | inr k ↦ let same : a * 1_000_000 + b * 1_000 + c ≡ n = omega arith in
-              rw (z.0, m.0, k.0) (dotted (pad3 a ++ (pad3 b ++ pad3 c)) n (rw same at (nine a a_in b b_in c c_in)))
+        | inl m ↦ let whole = m.1 in rw (z.0, m.0) (dotted _ n (three _ a_in (omega arith)))
+        | inr m ↦ elim (eqb_tells (n % 1_000) 0) [
+          | inl k ↦ let whole = k.1 in rw (z.0, m.0, k.0) (dotted _ n (six _ a_in _ b_in (omega arith)))
+          | inr k ↦ rw (z.0, m.0, k.0) (dotted _ n (nine _ a_in _ b_in _ c_in (omega arith)))
         ]
       ]
     ]
@@ -122,9 +117,8 @@ digits-all : (digits rest : List ℕ) → All IsAsciiDigit digits → prefix_len
 digits-all digits rest all stop =
     let whole : prefix_len is_ascii_digit digits ≡ length digits =
     prefix_len_is is_ascii_digit digits (length digits) 0 (omega arith)
-    (λ k h. let digit = all k 0 h in grind (arith, nat_tests, digit)) (λ h. absurd (omega arith)) in
-    let same : (prefix_len is_ascii_digit digits == length digits) ≡ true = grind (arith, nat_tests, whole) in
-    rw (prefix_len-append, same, stop) (omega arith)
+    (λ k h. grind (arith, nat_tests, all k 0 h)) (λ h. absurd (omega arith)) in
+    rw prefix_len-append (grind (arith, nat_tests))
 
 -- digits are read whole where none follows
 pub decimals-of : {digits : List ℕ} {n : ℕ} (rest : List ℕ) → AreDecimals digits n → prefix_len is_ascii_digit rest ≡ 0
@@ -133,13 +127,7 @@ unfolding nanoseconds
 decimals-of {digits = digits} rest d stop =
     let long = d.some in
     let some : (length digits == 0) ≡ false = grind (arith, nat_tests) in
-    rw (
-      digits-all digits rest d.each stop,
-      some,
-      take_at digits rest (length digits) refl,
-      drop_at digits rest (length digits) refl,
-      d.value,
-    )
+    rw (digits-all digits rest d.each stop, some, take-append_seam, drop-append_seam, d.value)
 
 -- what is read is a value and a rest
 pub read_same : {A : Type 0} (a b : A) (q r : List ℕ) → ◌≡◌ {A = Read A} (Some (a, q)) (Some (b, r)) → (a ≡ b) × (q ≡ r)
@@ -149,11 +137,10 @@ read_same {A} a b q r e =
 
 digits-front : (text : List ℕ) → All IsAsciiDigit (take (prefix_len is_ascii_digit text) text)
 digits-front text k d h =
-    let n = prefix_len is_ascii_digit text in
     let len = length-prefix_len is_ascii_digit text in
-    let within : k < n = omega arith in
-    let test : is_in_range 48 57 (get_or text k d) ≡ true = prefix_len_passes is_ascii_digit text k d within in
-    rw (get_or-take n text k d within) (grind (arith, nat_tests, test))
+    let within : k < prefix_len is_ascii_digit text = omega arith in
+    let test = prefix_len_passes is_ascii_digit text k d within in
+    rw (get_or-take _ text k d within) (grind (arith, nat_tests))
 
 -- and what is read is digits
 pub decimals-is : (text : List ℕ) (n : ℕ) (rest : List ℕ) → nanoseconds text ≡ Some (n, rest)
@@ -331,9 +318,7 @@ module _ (bs : List ℕ) (u : IsUtf8 bs) where
     text_chars = record { piece = f.piece; whole = behind_chars f.piece bs rest ascii u f.whole; is = f.is }
 
     pub text_front : (ys : List ℕ) → ys ≡ drop (length bs - length rest) bs → Front stamp_text (chars bs) (chars ys) w
-    text_front ys e =
-        subst (λ (x : List ℕ). Front stamp_text (chars bs) (chars x) w)
-        (sym (behind_is f.piece bs rest ascii u f.whole ys e)) text_chars
+    text_front ys e = rw (behind_is f.piece bs rest ascii u f.whole ys e) text_chars
 
   module _ (p q : Text) (w : Rfc3339Fields) (e : chars bs ≡ p ++ q) (h : Writes p w) where
     bytes : bs ≡ p ++ encode_utf8_all q
@@ -396,9 +381,8 @@ module _ {t q : Text} {w : Rfc3339Fields} (f : Front stamp_text t q w) where
       → IsAnswer (IsStampText t) answer
   answer_of_text answer e h =
       let whole : t ≡ f.piece = f.whole ∙ ap (λ (x : Text). f.piece ++ x) e ∙ append-nil f.piece in
-      answer_same (IsStampOfRfc3339 w) (IsStampText t) answer
-      (λ s p. (w, subst (λ (x : Text). Writes x w) (sym whole) f.is, p))
-      (λ s (v, k, p). subst (λ (x : Rfc3339Fields). IsStampOfRfc3339 x s) (same_numbers v k).1 p) h
+      answer_same (IsStampOfRfc3339 w) (IsStampText t) answer (λ s p. (w, rw whole f.is, p))
+      (λ s (v, k, p). rw (same_numbers v k).1 at p) h
 
   -- a text that goes on is one of no timestamp
   pub no_text_here : q ≢ [] → HasNoStamp t
@@ -407,13 +391,13 @@ module _ {t q : Text} {w : Rfc3339Fields} (f : Front stamp_text t q w) where
 pub no_text : {t : Text} → NoFront stamp_text t → HasNoStamp t
 no_text {t = t} n s (w, h, p) = n t [] w (sym (append-nil t)) h
 
+-- a text writes the same numbers each time
+written_once : {t : Text} {v w : Rfc3339Fields} → Writes t v → Writes t w → v ≡ w
+written_once {t = t} {v = v} {w = w} h k = (same_numbers (whole_front t w k) v h).1
+
 -- a text has at most one stamp
 pub one_stamp : (text : List ℕ) (n o m p : ℤ) → HasStamp text n o → HasStamp text m p → (n ≡ m) × (o ≡ p)
-one_stamp text n o m p (w, h, a) (v, k, b) =
-    let same = (same_numbers (whole_front text v k) w h).1 in (
-      a.instant ∙ ap (λ x. nanos_of_fields (fields_of_rfc3339 x) -ℤ nanos_of_seconds x.offset) same ∙ sym b.instant,
-      a.at_offset ∙ ap (λ x. x.offset) same ∙ sym b.at_offset,
-    )
+one_stamp text n o m p (w, h, a) (v, k, b) = let same = written_once h k in (cc, cc)
 
 -- ---- a timestamp is its two numbers, which lie in their ranges
 pub same_instant : (a b : Timestamp) → a.nanosecond ≡ b.nanosecond → a ≡ b
@@ -440,3 +424,6 @@ same_timestamp s t e f = λ i. record {
 pub one_timestamp : (text : List ℕ) (s t : OffsetTimestamp) → IsStampText text s → IsStampText text t → s ≡ t
 one_timestamp text s t h k =
     let same = one_stamp text _ _ _ _ h k in same_timestamp s t same.0 same.1
+
+-- what the reader of texts rests on
+pub ruleset text_fronts = (text_cut, text_front)

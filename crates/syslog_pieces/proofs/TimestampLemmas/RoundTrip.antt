@@ -1,10 +1,10 @@
 -- A printed stamp and the texts of RFC 3339: what is printed of a canonical timestamp has it, and no other timestamp
 -- has a text.
-use Rattle.std.proofs.Common.{◌≡◌, ℕ, ℤ, zero, suc, pos, negsuc, neg_ℤ, ◌+ℤ◌, ◌-ℤ◌, ◌≤ℤ◌, ◌<ℤ◌, ◌+◌}
-use Rattle.std.proofs.Common.{◌*◌, ◌/◌, ◌%◌, ◌<◌, true, min, inl, inr, refl, ap}
+use Rattle.std.proofs.Common.{◌≡◌, ℕ, ℤ, suc, pos, negsuc, ◌+ℤ◌, ◌≤ℤ◌, ◌<ℤ◌, ◌+◌}
+use Rattle.std.proofs.Common.{◌*◌, ◌/◌, ◌%◌, ◌<◌, min, inl, inr, refl, sym, ap}
 use Rattle.std.proofs.Common.{◌∙◌, arith, unsigned_abs, List, ◌∷◌, ◌++◌, append_assoc}
 use Rattle.std.proofs.lemmas.Bool.Decides.{nat_tests}
-use Rattle.std.specs.Char.{is_ascii_digit, is_not_whitespace}
+use Rattle.std.specs.Char.{is_not_whitespace}
 use Rattle.jiff.specs.Words.{nanos_of_seconds, IsTimestampNanos}
 use Rattle.jiff_core.proofs.CalendarLemmas.{days_in_month_bounds}
 use Rattle.jiff_core.proofs.SignedLemmas.{signed_arith}
@@ -25,7 +25,7 @@ use Rattle.syslog_pieces.proofs.TimestampLemmas.Civil.{civil_fields-is, datetime
 use Rattle.syslog_pieces.proofs.TimestampLemmas.Reading.{fraction_text-is, signed_is, writes-of}
 use Rattle.syslog_pieces.proofs.TimestampLemmas.Piece.{each_visible}
 use Rattle.syslog_pieces.proofs.TimestampLemmas.Printing.{absolute, printed_stamp-characters}
-use Rattle.syslog_pieces.proofs.TimestampLemmas.Range.{late_fields, civil_fields_exist, in_range-at_offset}
+use Rattle.syslog_pieces.proofs.TimestampLemmas.Range.{late_fields, civil_fields_exist, in_range-at_offset, from_start}
 
 -- ---- a printed offset
 
@@ -48,15 +48,13 @@ pub text-shape : (f : CivilFields) (y : ℕ) (more : List ℕ) → f.year ≡ po
 unfolding date_time_text
 text-shape f y more e = rw e (simp append_assoc)
 
-pub year-from : (z : ℤ) → pos 0 ≤ℤ z → (y : ℕ) × (z ≡ pos y)
-year-from (pos n) h = (n, refl)
-year-from (negsuc n) h = absurd (omega (arith, signed_arith))
-
 -- fields as they print, and any text of the offset
-pub fields-read : (f : CivilFields) (y : ℕ) (n o : ℤ) (zone : List ℕ) → f.year ≡ pos y → AreCivil f → IsTimestampNanos n
+pub fields-read : (f : CivilFields) (n o : ℤ) (zone : List ℕ) → pos 0 ≤ℤ f.year → AreCivil f → IsTimestampNanos n
     → nanos_of_fields f ≡ n +ℤ nanos_of_seconds o
     → IsOffsetText zone o → HasStamp (date_time_text f ++ (fraction_text f.nanosecond ++ zone)) n o
-fields-read f y n o zone e there range nanos zone_is =
+fields-read f n o zone from there range nanos zone_is =
+    let y = unsigned_abs f.year in
+    let e : f.year ≡ pos y = sym (from_start f.year from) in
     let day : Day = record { year = y; month = f.month; day = f.day } in
     let time : Clock = record { hour = f.hour; minute = f.minute; second = f.second } in
     let w = written day time f.nanosecond o in
@@ -87,20 +85,10 @@ printed_stamp-back s p =
     let n = s.instant.nanosecond in
     let o = s.offset.seconds in
     let fields = civil_fields_exist _ (in_range-at_offset n o s.instant.in_range s.offset.in_range) in
-    let (y, e) = year-from _ p.year_from in
-    fields-read (civil_fields (n +ℤ nanos_of_seconds o)) y n o (offset_text o) e fields.0 s.instant.in_range fields.1
+    fields-read _ n o (offset_text o) p.year_from fields.0 s.instant.in_range fields.1
     (offset_text-is o p.minutes p.day)
 
 -- ---- a timestamp that a text has is canonical
-
--- the fields of a count are those that have it
-fields-back : (f : CivilFields) → AreCivil f → civil_fields (nanos_of_fields f) ≡ f
-fields-back f h =
-    civil_fields-is (datetime_of f h).0 (nanos_of_fields f) (civil_nanos-fields (datetime_of f h).0 f refl)
-
-abs-neg : (k : ℕ) → unsigned_abs (neg_ℤ (pos k)) ≡ k
-abs-neg zero = refl
-abs-neg (suc k) = refl
 
 pub offset-canonical : (zone : List ℕ) (o : ℤ) → IsOffsetText zone o
     → (unsigned_abs o % 60 ≡ 0) × (unsigned_abs o < 86_400)
@@ -110,11 +98,8 @@ offset-canonical zone o (inr n) =
     let minutes_in = n.minutes_in in
     elim n.written [
       | inl w ↦ rw w.1 (omega arith, omega arith)
-      | inr w ↦ rw (w.1, abs-neg) (omega arith, omega arith)
+      | inr w ↦ rw w.1 (omega (arith, signed_arith), omega (arith, signed_arith))
     ]
-
-back-count : (a b n o p : ℤ) → n ≡ a -ℤ b → nanos_of_seconds o ≡ b → n +ℤ nanos_of_seconds o ≡ a
-back-count a b n o p e f = omega (arith, signed_arith)
 
 pub stamp_text-canonical : (text : List ℕ) (s : OffsetTimestamp) → IsStampText text s → IsCanonicalStamp s
 stamp_text-canonical text s (w, writes, stamp) =
@@ -122,10 +107,10 @@ stamp_text-canonical text s (w, writes, stamp) =
     let offset = offset-canonical writes.zone w.offset writes.zone_is in
     let same = stamp.at_offset in
     let count : s.instant.nanosecond +ℤ nanos_of_seconds s.offset.seconds ≡ nanos_of_fields f =
-    back-count (nanos_of_fields f) (nanos_of_seconds w.offset) s.instant.nanosecond s.offset.seconds w.offset
-    stamp.instant (ap nanos_of_seconds same) in
-    let year : own_year s ≡ pos w.year = ap (λ (z : ℤ). (civil_fields z).year) count
-    ∙ ap (λ (g : CivilFields). g.year) (fields-back f stamp.civil) in
+    omega (arith, signed_arith, stamp.instant, ap nanos_of_seconds same) in
+    let dt = (datetime_of f stamp.civil).0 in
+    let year : own_year s ≡ pos w.year = ap (λ (g : CivilFields). g.year)
+    (civil_fields-is dt _ (civil_nanos-fields dt f refl ∙ sym count)) in
     let fits = writes.fits.year in
     record {
       year_from = omega (arith, signed_arith);
@@ -154,13 +139,10 @@ pub printed_stamp-visible : (s : OffsetTimestamp)
     → Each is_not_whitespace (printed_stamp s.instant.nanosecond s.offset.seconds)
 printed_stamp-visible s = each_visible _ (printed_stamp-characters _ _ s.instant.in_range s.offset.in_range)
 
-digit-is : (n : ℕ) → n < 10 → is_ascii_digit (48 + n) ≡ true
-digit-is n h = grind (arith, nat_tests)
-
 begins : (year : ℤ) (y : ℕ) (more tail : List ℕ) → y < 10_000
     → BeginsWithYear ((year_sign year ++ (pad4 y ++ more)) ++ tail)
-begins (pos n) y more tail h = (48 + y / 100 / 10, _, digit-is (y / 100 / 10) (omega arith), inl refl)
-begins (negsuc n) y more tail h = (48 + y / 100 / 10, _, digit-is (y / 100 / 10) (omega arith), inr refl)
+begins (pos n) y more tail h = (48 + y / 100 / 10, _, grind (arith, nat_tests), inl refl)
+begins (negsuc n) y more tail h = (48 + y / 100 / 10, _, grind (arith, nat_tests), inr refl)
 
 -- it begins with a digit, or with `-` and a digit
 pub printed_stamp-begins : (s : OffsetTimestamp) → BeginsWithYear (printed_stamp s.instant.nanosecond s.offset.seconds)
@@ -170,3 +152,6 @@ printed_stamp-begins s =
     let (year_in, _, _) = (own_fields s).date in
     let small = absolute f.year 9_999 year_in in
     begins f.year (unsigned_abs f.year) _ _ (omega arith)
+
+-- what the law of printed stamps rests on
+pub ruleset printed_word = (printed_stamp-begins, printed_stamp-visible)

@@ -1,6 +1,6 @@
 -- A month date in its standard form, read by bytes, is a month date of the text.
 use Rattle.std.proofs.Common.{◌≡◌, ℕ, ◌+◌, ◌/◌, ◌%◌, ◌<◌, inl, inr, List, [], ◌∷◌}
-use Rattle.std.proofs.Common.{◌++◌, drop, None, refl, sym, ap, subst, ◌∙◌, arith}
+use Rattle.std.proofs.Common.{◌++◌, drop, None, refl, sym, ap, ◌∙◌, arith}
 use Rattle.std.proofs.lemmas.Str.{chars-nil}
 use Rattle.std.specs.Char.{is_ascii_digit}
 use Rattle.std.specs.Str.{chars}
@@ -21,26 +21,17 @@ use Rattle.syslog_pieces.proofs.TimestampLemmas.Characters.{low_ascii}
 use Rattle.syslog_pieces.proofs.TimestampLemmas.MonthDate.{yearless_front}
 use Rattle.syslog_pieces.proofs.TimestampLemmas.Months.{month_named}
 
--- ---- digits
+-- ---- two digits
 module _ (n : ℕ) (h : n < 100) where
-  tens : n / 10 < 10
-  tens = omega arith
-
-  ones : n % 10 < 10
-  ones = omega arith
-
-  pair_value : n ≡ digits_value 10 (pad2 n)
-  pair_value = rw ((digit_is (n / 10) tens).2, (digit_is (n % 10) ones).2) (omega arith)
-
   pair_front : (t q : Text) → t ≡ pad2 n ++ q → Ends is_ascii_digit q → Front short_number t q n
-  pair_front t q e ends = record {
-    piece = pad2 n;
-    whole = e;
-    is = (omega arith, ((digit_is (n / 10) tens).0, ((digit_is (n % 10) ones).0, tt)), ends, pair_value, omega arith);
-  }
+  pair_front t q e ends =
+      let a = digit_is (n / 10) (omega arith) in
+      let b = digit_is (n % 10) (omega arith) in
+      let value : n ≡ digits_value 10 (pad2 n) = rw (a.2, b.2) (omega arith) in
+      record { piece = pad2 n; whole = e; is = (omega arith, (a.0, (b.0, tt)), ends, value, omega arith) }
 
   no_blank_ahead : (t q : Text) → t ≡ pad2 n ++ q → Ends is_blank t
-  no_blank_ahead t q e = subst (λ (x : Text). Ends is_blank x) (sym e) (digit_is (n / 10) tens).1
+  no_blank_ahead t q e = rw e (digit_is (n / 10) (omega arith)).1
 
 space_front : (t q : Text) → t ≡ 32 ∷ q → Ends is_blank q → Front (some_run is_blank) t q tt
 space_front t q e ends = record { piece = 32 ∷ []; whole = e; is = (omega arith, (refl, tt), ends) }
@@ -94,9 +85,8 @@ abbrev sign : Class
 sign = exactly colon
 
 no_digit : (bs : List ℕ) → EndsClock bs → Ends is_ascii_digit (chars bs)
-no_digit [] h = subst (λ (x : Text). Ends is_ascii_digit x) (sym chars-nil) tt
-no_digit (b ∷ bs) h =
-    subst (λ (x : Text). Ends is_ascii_digit x) (sym (ascii_front (b ∷ []) bs (b ∷ bs) (one_ascii b h.0) refl)) h.1
+no_digit [] h = rw chars-nil tt
+no_digit (b ∷ bs) h = rw (ascii_front (b ∷ []) bs (b ∷ bs) (one_ascii b h.0) refl) h.1
 
 no_colon : (bs : List ℕ) → EndsClock bs → NoFront sign (chars bs)
 no_colon [] h p q v e f = let t : [] ≡ 58 ∷ q = sym chars-nil ∙ e ∙ ap (λ (x : Text). x ++ q) f in cc
@@ -126,8 +116,8 @@ module _ (b2 b3 : List ℕ) (c : Clock) (k : IsClockBytes b2 c b3) (ends : EndsC
   pub standard_front : (b0 b1 : List ℕ) (number d : ℕ) → IsMonthBytes b0 number b1 → IsDayBytes b1 d b2
       → Front yearless_date (chars b0) (chars b3) (date_of None (record { month = number; day = d }) c)
   standard_front b0 b1 number d m e =
-      yearless_front (record { month = number; day = d })
-      (day_front b0 b1 b2 number m (no_blank_ahead c.hour k.hour_in _ _ clock_text) d e) c None clock_front
+      yearless_front
+      (day_front b0 b1 b2 number m (no_blank_ahead c.hour k.hour_in _ _ clock_text) d e) clock_front
 
 -- fifteen bytes on, behind month, day and clock
 pub standard_rest : (b0 b1 b2 b3 : List ℕ) (number d : ℕ) (c : Clock) → IsMonthBytes b0 number b1 → IsDayBytes b1 d b2

@@ -27,12 +27,4 @@ stamp_text-first text s (w, h, stamp) = writes-first text w h
 pub stamp_text-year : (text : List ℕ) (s : OffsetTimestamp) → IsStampText text s
     → (year : List ℕ) × (rest : List ℕ) × (text ≡ year ++ (45 ∷ rest)) × Each is_ascii_digit year
 stamp_text-year text s (w, writes, stamp) =
-    let fits = writes.fits.year in (
-      pad4 w.year,
-      _,
-      writes.whole,
-      (
-        grind (arith, nat_tests),
-        (grind (arith, nat_tests), (grind (arith, nat_tests), (grind (arith, nat_tests), tt))),
-      ),
-    )
+    let fits = writes.fits.year in (pad4 w.year, _, writes.whole, grind (arith, nat_tests))

@@ -1,8 +1,8 @@
 -- A timestamp that is copied is read as one that prints so.
-use Rattle.std.proofs.Common.{◌≡◌, ◌⊎◌, ℕ, suc, ℤ, pos, negsuc, ◌+ℤ◌, ◌+◌, ◌*◌, ◌-◌, ◌/◌, ◌%◌, ◌<◌, ◌≢◌, true, false}
+use Rattle.std.proofs.Common.{◌≡◌, ◌⊎◌, ℕ, suc, ℤ, pos, ◌+ℤ◌, ◌+◌, ◌*◌, ◌-◌, ◌/◌, ◌%◌, ◌<◌, ◌≢◌, true, false}
 use Rattle.std.proofs.Common.{Some, inl, inr, refl, sym, ap, ◌∙◌, arith, List, [], ◌∷◌, ◌++◌, append_assoc}
 use Rattle.std.proofs.Common.{append-nil, unsigned_abs}
-use Rattle.std.proofs.lemmas.Bool.{eq-eqb, ne_eqb}
+use Rattle.std.proofs.lemmas.Bool.Decides.{nat_tests}
 use Rattle.std.proofs.lemmas.Str.{IsUtf8-from_ascii, IsUtf8-append}
 use Rattle.std.specs.Str.{chars, IsUtf8}
 use Rattle.jiff.specs.Types.{DateTime, Offset}
@@ -10,7 +10,7 @@ use Rattle.jiff.specs.Words.{IsOffsetSeconds, nanos_of_seconds}
 use Rattle.jiff_core.proofs.SignedLemmas.{signed_arith}
 use Rattle.jiff_fmt.specs.Text.{pad2}
 use Rattle.syslog_pieces.specs.Bodies.StampReading.{IsDayBytes, seconds, stamp_text}
-use Rattle.syslog_pieces.specs.Bodies.VerbatimStamp.{zone_text, IsVerbatimStamp, IsDateAndClock}
+use Rattle.syslog_pieces.specs.Bodies.VerbatimStamp.{IsVerbatimStamp, IsDateAndClock}
 use Rattle.syslog_pieces.specs.Bodies.VerbatimStamp.{IsVerbatimFraction, IsVerbatimOffset, IsBeforeSpace}
 use Rattle.syslog_pieces.specs.Pieces.Class.{Text, Front}
 use Rattle.syslog_pieces.specs.Timestamp.{IsStampText, header_stamp}
@@ -24,7 +24,7 @@ use Rattle.syslog_pieces.proofs.TextLemmas.Chars.{ascii_front, one_ascii}
 use Rattle.syslog_pieces.proofs.TimestampLemmas.Civil.{civil_nanos-fields, datetime_of, prints, shown, stamp}
 use Rattle.syslog_pieces.proofs.TimestampLemmas.Piece.{stamp_front}
 use Rattle.syslog_pieces.proofs.TimestampLemmas.Reading.{signed_is, text_chars, text_utf8}
-use Rattle.syslog_pieces.proofs.TimestampLemmas.RoundTrip.{text-shape, fields-read, year-from, offset-canonical}
+use Rattle.syslog_pieces.proofs.TimestampLemmas.RoundTrip.{text-shape, fields-read, offset-canonical}
 
 -- ---- the pieces
 
@@ -38,43 +38,21 @@ date_and_clock_is {rest = rest} {day = day} f d y m n e1 e2 e3 =
     rw (d.whole, ← m, ← n, e1, e2, e3) (sym (text-shape f day.year rest y))
 
 -- three, six or nine decimals, the last three of which are not all zero
-three_text : (n a : ℕ) → n ≡ a * 1_000_000 → a ≢ 0 → fraction_text n ≡ 46 ∷ pad3 a
-unfolding fraction_text
-three_text n a e some =
-    let q : n / 1_000_000 ≡ a = omega arith in
-    rw (ne_eqb n 0 (omega arith), eq-eqb (n % 1_000_000) 0 (omega arith), q)
-
-six_text : (n a b : ℕ) → n ≡ a * 1_000_000 + b * 1_000 → b < 1_000 → b ≢ 0 → fraction_text n ≡ 46 ∷ (pad3 a ++ pad3 b)
-unfolding fraction_text
-six_text n a b e small some =
-    let q : n / 1_000_000 ≡ a = omega arith in
-    let r : n / 1_000 % 1_000 ≡ b = omega arith in
-    rw (ne_eqb n 0 (omega arith), ne_eqb (n % 1_000_000) 0 (omega arith), eq-eqb (n % 1_000) 0 (omega arith), q, r)
-
-nine_text : (n a b c : ℕ) → n ≡ a * 1_000_000 + b * 1_000 + c → b < 1_000 → c < 1_000 → c ≢ 0
-    → fraction_text n ≡ 46 ∷ (pad3 a ++ (pad3 b ++ pad3 c))
-unfolding fraction_text
-nine_text n a b c e small little some =
-    let q : n / 1_000_000 ≡ a = omega arith in
-    let r : n / 1_000 % 1_000 ≡ b = omega arith in
-    let l : n % 1_000 ≡ c = omega arith in
-    rw (ne_eqb n 0 (omega arith), ne_eqb (n % 1_000_000) 0 (omega arith), ne_eqb (n % 1_000) 0 (omega arith), q, r, l)
-
 module _ (text rest : List ℕ) (a : ℕ) (a_in : a < 1_000) where
   pub three_verbatim : a ≢ 0 → text ≡ pad3 a ++ rest → IsVerbatimFraction (46 ∷ text) rest
-  three_verbatim some e = (a * 1_000_000, omega arith, rw (three_text (a * 1_000_000) a refl some, e))
+  unfolding fraction_text
+  three_verbatim some e = (a * 1_000_000, omega arith, grind (arith, nat_tests))
 
   module _ (t1 : List ℕ) (e : text ≡ pad3 a ++ t1) (b : ℕ) (b_in : b < 1_000) where
     pub six_verbatim : b ≢ 0 → t1 ≡ pad3 b ++ rest → IsVerbatimFraction (46 ∷ text) rest
-    six_verbatim some e1 =
-        let n = a * 1_000_000 + b * 1_000 in
-        (n, omega arith, rw (six_text n a b refl b_in some, e, e1))
+    unfolding fraction_text
+    six_verbatim some e1 = (a * 1_000_000 + b * 1_000, omega arith, grind (arith, nat_tests))
 
     pub nine_verbatim : (t2 : List ℕ) (c : ℕ) → c < 1_000 → c ≢ 0 → t1 ≡ pad3 b ++ t2 → t2 ≡ pad3 c ++ rest
         → IsVerbatimFraction (46 ∷ text) rest
+    unfolding fraction_text
     nine_verbatim t2 c c_in some e1 e2 =
-        let n = a * 1_000_000 + b * 1_000 + c in
-        (n, omega arith, rw (nine_text n a b c refl b_in c_in some, e, e1, e2))
+        (a * 1_000_000 + b * 1_000 + c, omega arith, grind (arith, nat_tests))
 
 pub no_fraction : (text : List ℕ) → IsVerbatimFraction text text
 unfolding fraction_text
@@ -106,34 +84,11 @@ signed_verbatim text behind rest sign m small (s, is) digits some space = record
 
 -- ---- what stands behind
 offset_in : (o : ℤ) → unsigned_abs o < 86_400 → IsOffsetSeconds o
-offset_in (pos n) h = (omega (arith, signed_arith), omega (arith, signed_arith))
-offset_in (negsuc n) h = (omega (arith, signed_arith), omega (arith, signed_arith))
+offset_in o h = (omega (arith, signed_arith), omega (arith, signed_arith))
 
 -- the fields with a fraction
 abbrev with_fraction : CivilFields → ℕ → CivilFields
-with_fraction f n = record {
-  year = f.year;
-  month = f.month;
-  day = f.day;
-  hour = f.hour;
-  minute = f.minute;
-  second = f.second;
-  nanosecond = n;
-}
-
-fraction_civil : (f : CivilFields) (n : ℕ) → AreCivil f → n < 1_000_000_000 → AreCivil (with_fraction f n)
-fraction_civil f n there small = record {
-  date = there.date;
-  hour_in = there.hour_in;
-  minute_in = there.minute_in;
-  second_in = there.second_in;
-  nanosecond_in = small;
-}
-
--- it counts nothing for date and time
-same_date_time : (f : CivilFields) (n : ℕ) → date_time_text f ≡ date_time_text (with_fraction f n)
-unfolding date_time_text
-same_date_time f n = refl
+with_fraction f n = record f { nanosecond = n }
 
 module _ (bs behind zone : List ℕ) (u : IsUtf8 bs) (d : IsDateAndClock bs behind)
     (k : IsVerbatimFraction behind zone) where
@@ -141,14 +96,15 @@ module _ (bs behind zone : List ℕ) (u : IsUtf8 bs) (d : IsDateAndClock bs behi
   fields = with_fraction d.fields k.0
 
   there : AreCivil fields
-  there = fraction_civil d.fields k.0 d.civil k.1
+  there = assumption (d.civil, k.1)
 
   -- what stands before the offset
   abbrev front : List ℕ
   front = date_time_text fields ++ fraction_text k.0
 
   front_whole : bs ≡ front ++ zone
-  front_whole = rw (d.whole, same_date_time d.fields k.0, k.2) (simp append_assoc)
+  unfolding date_time_text
+  front_whole = rw (d.whole, k.2) (simp append_assoc)
 
   -- an offset of which this is a text
   module _ (o : ℤ) (text : List ℕ) (h : IsOffsetText text o) where
@@ -169,11 +125,10 @@ module _ (bs behind zone : List ℕ) (u : IsUtf8 bs) (d : IsDateAndClock bs behi
     -- and is read from them with that text
     reads_so : IsStampText (front ++ text) shows
     reads_so =
-        let (y, e) = year-from fields.year d.from in
         let count : nanos_of_fields fields ≡ shows.instant.nanosecond +ℤ nanos_of_seconds o =
         sym (civil_nanos-fields dt fields refl) ∙ shown dt clock d.from d.to in
         rw append_assoc
-        (fields-read fields y shows.instant.nanosecond o text e there shows.instant.in_range count h)
+        (fields-read fields shows.instant.nanosecond o text d.from there shows.instant.in_range count h)
 
     module _ (rest : List ℕ) (whole : zone ≡ text ++ rest) (space : IsBeforeSpace rest) where
       abbrev written : Front stamp_text bs rest reads_so.0
@@ -218,10 +173,6 @@ module _ (bs behind zone : List ℕ) (u : IsUtf8 bs) (d : IsDateAndClock bs behi
     z_is : IsOffsetText (90 ∷ []) (pos 0)
     z_is = inl (90, refl, inl refl, refl)
 
-    zero_text : zone_text true ≡ offset_text (pos 0)
-    unfolding offset_text
-    zero_text = refl
-
     pub zulu_utf8 : IsUtf8 zone × IsUtf8 rest
     zulu_utf8 =
         let z = IsUtf8-from_ascii (90 ∷ []) (one_ascii 90 (omega arith)) in
@@ -229,11 +180,15 @@ module _ (bs behind zone : List ℕ) (u : IsUtf8 bs) (d : IsDateAndClock bs behi
         (rw whole (IsUtf8-append (90 ∷ []) rest z behind), behind)
 
     pub zulu_verbatim : IsVerbatimStamp (chars bs) (chars zone) true (chars rest)
+    unfolding offset_text
     zulu_verbatim = record {
       copied = front;
       value = Some (shows (pos 0) (90 ∷ []) z_is);
       whole = piece_chars (pos 0) (90 ∷ []) z_is rest whole space ∙ append_assoc front (90 ∷ []) (chars rest)
           ∙ ap (λ (x : Text). front ++ x) (sym (ascii_front (90 ∷ []) rest zone (one_ascii 90 (omega arith)) whole));
       is = stamp_there (pos 0) (90 ∷ []) z_is rest whole space;
-      prints = ap (λ (x : List ℕ). front ++ x) zero_text ∙ prints_so (pos 0) (90 ∷ []) z_is;
+      prints = prints_so (pos 0) (90 ∷ []) z_is;
     }
+
+-- what the reader of such stamps rests on
+pub ruleset verbatim_stamps = (offset_utf8, offset_verbatim, zulu_verbatim)

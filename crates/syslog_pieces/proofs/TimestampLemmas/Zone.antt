@@ -1,10 +1,10 @@
 -- The timestamp of civil fields in a zone: there is at most one, and what its readers answer. The printed text of a
 -- month date's timestamp, by what a clock at its offset shows.
 use Rattle.std.proofs.Common.{IfSome, ◌<ℤ◌, arith, ◌≡◌, pos, ℤ, Option, Some, None, sym, ap, subst, ◌∙◌, ℕ, ◌+◌, ◌-ℤ◌}
-use Rattle.std.proofs.Common.{◌≤ℤ◌, refl, List, [], ◌∷◌, ◌++◌, ◌/◌, ◌%◌, ◌<◌, negsuc, unsigned_abs}
+use Rattle.std.proofs.Common.{◌≤ℤ◌, refl, List, [], ◌∷◌, ◌++◌, ◌/◌, ◌%◌, ◌<◌, unsigned_abs}
 use Rattle.jiff.proofs.Family.{same_datetime}
 use Rattle.jiff.specs.Types.{DateTime, Offset, TimeZone, AmbiguousOffset, Unambiguous, Gap, Fold, UTC, Unknown}
-use Rattle.jiff.specs.Types.{Fixed as FixedZone, Posix, Tzif}
+use Rattle.jiff.specs.Types.{Fixed as FixedZone}
 use Rattle.jiff.specs.Words.{offset_at, ambiguous_at, nanos_of_seconds, IsFixed}
 use Rattle.jiff_core.proofs.SignedLemmas.{signed_arith}
 use Rattle.jiff_fmt.specs.Text.{pad2}
@@ -31,13 +31,11 @@ one_datetime f a b e e' = same_datetime a b (civil_nanos-fields a f e ∙ sym (c
 
 at_once : (dt : DateTime) (offset : Offset) (s t : OffsetTimestamp) → IsStampAt dt offset s → IsStampAt dt offset t
     → s ≡ t
-at_once dt offset s t h k = same_timestamp s t (h.instant ∙ sym k.instant) (h.at_offset ∙ sym k.at_offset)
+at_once dt offset s t h k = same_timestamp s t (cc) (cc)
 
 in_gap_once : (tz : TimeZone) (dt : DateTime) (s t : OffsetTimestamp) → IsStampInGap tz dt s → IsStampInGap tz dt t
     → s ≡ t
-in_gap_once tz dt s t h k =
-    let e = h.instant ∙ sym k.instant in
-    same_timestamp s t e (h.at_offset ∙ ap (λ (n : ℤ). offset_at tz n) e ∙ sym k.at_offset)
+in_gap_once tz dt s t h k = same_timestamp s t (cc) (cc)
 
 once_of : (a : AmbiguousOffset) (tz : TimeZone) (dt : DateTime) (s t : OffsetTimestamp)
     → (IsStampOf a dt s → IsStampOf a dt t → s ≡ t) × (IsLocalStampOf a tz dt s → IsLocalStampOf a tz dt t → s ≡ t)
@@ -54,11 +52,9 @@ in_any_once None local dt s t = (once_of (ambiguous_at local dt) local dt s t).1
 pub month_stamp_once : (dating : Dating) (date : MonthDate) (s t : OffsetTimestamp) → IsMonthStamp dating date s
     → IsMonthStamp dating date t → s ≡ t
 month_stamp_once dating date s t (year, y, (dt, f, h)) (year', y', (dt', f', h')) =
-    let same_year : year ≡ year' = (let e : Some year ≡ Some year' = sym y ∙ y' in cc) in
-    let same : dt ≡ dt' =
-    one_datetime (civil_of date year') dt dt' (f ∙ ap (λ (x : ℤ). civil_of date x) same_year) f' in
-    in_any_once dating.zone dating.local dt' s t
-    (subst (λ (x : DateTime). IsStampInAny dating.zone dating.local x s) same h) h'
+    let same_year : year ≡ year' = cc in
+    let same : dt ≡ dt' = one_datetime (civil_of date year') dt dt' (cc) f' in
+    in_any_once dating.zone dating.local dt' s t (rw same at h) h'
 
 -- ---- what the readers answer
 
@@ -76,7 +72,7 @@ pub answer_of_fields : (f : CivilFields) (dt : DateTime) (tz : Option TimeZone) 
     → IsAnswer (IsStampInAny tz local dt) r → IsAnswer (IsStampOfFields tz local f) r
 answer_of_fields f dt tz local r e h =
     answer_same (IsStampInAny tz local dt) (IsStampOfFields tz local f) r (λ s p. (dt, e, p))
-    (λ s q. subst (λ (x : DateTime). IsStampInAny tz local x s) (one_datetime f q.0 dt q.1 e) q.2) h
+    (λ s (dt', e', p). rw (one_datetime f dt' dt e' e) at p) h
 
 -- ---- the year of a month date
 module _ (dating : Dating) (date : MonthDate) where
@@ -84,11 +80,7 @@ module _ (dating : Dating) (date : MonthDate) where
       → IsAnswer (IsStampOfFields dating.zone dating.local (civil_of date y)) r → IsAnswer (IsMonthStamp dating date) r
   answer_in_year y r e h =
       answer_same (IsStampOfFields dating.zone dating.local (civil_of date y)) (IsMonthStamp dating date) r
-      (λ s p. (y, e, p))
-      (λ s q. (
-      let same : q.0 ≡ y = (let t : Some q.0 ≡ Some y = sym q.1 ∙ e in cc) in
-      subst (λ (x : ℤ). IsStampOfFields dating.zone dating.local (civil_of date x) s) same q.2
-      )) h
+      (λ s p. (y, e, p)) (λ s (y', e', p). (let same : y' ≡ y = cc in rw same at p)) h
 
   -- no year, or one past the calendar's
   pub no_such_year : IfSome (year_of date dating.year) (λ y. pos 9999 <ℤ y) → IsAnswer (IsMonthStamp dating date) None
@@ -110,8 +102,7 @@ unfolding ambiguous_at offset_at
 fixed_earlier UTC offset dt fixed h = ap Some (same_offset utc_offset offset (sym (h (pos 0))))
 fixed_earlier Unknown offset dt fixed h = ap Some (same_offset utc_offset offset (sym (h (pos 0))))
 fixed_earlier (FixedZone o) offset dt fixed h = ap Some (same_offset o offset (sym (h (pos 0))))
-fixed_earlier (Posix tz) offset dt fixed h = absurd fixed
-fixed_earlier (Tzif z) offset dt fixed h = absurd fixed
+fixed_earlier _ offset dt fixed h = absurd fixed
 
 -- fields name one datetime, so an offset at it is that of the fields
 pub earlier_at : (tz : TimeZone) (f : CivilFields) (at : DateTime) (r : Option Offset) → fields_of at ≡ f
@@ -123,16 +114,13 @@ earlier_at tz f at (Some offset) e h =
 
 -- ---- the text
 
-no_sign : (year : ℤ) → pos 0 ≤ℤ year → year_sign year ≡ []
-no_sign (pos n) h = refl
-no_sign (negsuc n) h = absurd (omega (arith, signed_arith))
-
 -- in a year from 0 on, and without a fraction
 whole_text : (f : CivilFields) (o : ℤ) → pos 0 ≤ℤ f.year → f.nanosecond ≡ 0
     → unsigned_date_time (unsigned_abs f.year) f.month f.day f.hour f.minute f.second
     ++ (offset_sign o ∷ (pad2 (rounded_minutes o / 60) ++ (58 ∷ pad2 (rounded_minutes o % 60)))) ≡ fields_text f o
 unfolding date_time_text fraction_text offset_text
-whole_text f o from whole = rw (no_sign f.year from, whole) refl
+whole_text f o from whole =
+    let no_sign : year_sign f.year ≡ [] = grind (arith, signed_arith) in rw (no_sign, whole) refl
 
 pub whole_bytes : (f : CivilFields) (o : ℤ) (sign absolute : ℕ) (text : List ℕ) → pos 0 ≤ℤ f.year → f.nanosecond ≡ 0
     → sign ≡ offset_sign o → absolute ≡ unsigned_abs o
@@ -153,18 +141,10 @@ month_printed dating date year f offset text y e there (from, to) at (minutes, d
     let (dt, same) = datetime_of f there in
     let low : pos 0 ≤ℤ dt.date.year = from in
     let high : dt.date.year <ℤ pos 9999 = to in
+    let shown = in_any dating.zone dating.local dt offset _ (at dt same) (at_offset dt offset low high) in
     record {
       stamp = stamp dt offset low high;
-      is = (
-        year,
-        y,
-        (
-          dt,
-          same ∙ e,
-          in_any dating.zone dating.local dt offset (stamp dt offset low high) (at dt same)
-              (at_offset dt offset low high),
-        ),
-      );
+      is = (year, y, (dt, same ∙ e, shown));
       canonical = canonical dt offset low high minutes day;
       printed = is ∙ ap (λ (x : List ℕ). 32 ∷ x)
           (ap (λ (x : CivilFields). fields_text x offset.seconds) (sym same) ∙ sym (prints dt offset low high));
@@ -187,7 +167,5 @@ pub fixed_answers : (tz : Option TimeZone) (local zone : TimeZone) (f : CivilFie
     → zone ≡ zone_of tz local → IsFixed zone → ((n : ℤ) → offset.seconds ≡ offset_at zone n)
     → IfSome r (IsEarlyStamp f offset)
     → IfSome r (IsStampOfFields tz local f)
-fixed_answers tz local zone f offset None e fixed at h = tt
-fixed_answers tz local zone f offset (Some s) e fixed at h =
-    fixed_answer tz local f offset s (subst IsFixed e fixed)
-    (subst (λ (x : TimeZone). (n : ℤ) → offset.seconds ≡ offset_at x n) e at) h
+fixed_answers tz local zone f offset r e fixed at h =
+    grind (arith, fixed_answer tz local f offset, subst IsFixed e fixed)

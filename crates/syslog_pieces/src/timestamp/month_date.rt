@@ -48,6 +48,7 @@ pub(super) struct Clock {
 
 /// The month date at the front, with a year or without one, and the text behind it. A text that begins with no letter
 /// has none, by one look.
+#[tactic(auto, using(crate::proofs::TimestampLemmas::MonthDate::yearless_is))]
 #[inline(always)]
 pub fn month_date(text: &str) -> Option<(MonthDate, &str)>
     ensures { Reads spec.month_date (λ d. d) (chars text.now) result }
@@ -167,6 +168,7 @@ fn read_clock(text: &str) -> Option<(Clock, &str)>
 }
 
 // The number of the month that the text begins with the name of.
+#[tactic(auto, using(crate::proofs::TimestampLemmas::MonthDate::month_read))]
 fn read_month(text: &str) -> Option<(u32, &str)>
     ensures { Reads spec.month (λ n. n) (chars text.now) result }
 {

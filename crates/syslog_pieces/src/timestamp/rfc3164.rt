@@ -31,6 +31,7 @@ pub fn rfc3164_stamp<'a>(
 }
 
 // The timestamp of a month date in its standard form, which neither `-` nor an RFC 3339 text looks like.
+#[tactic(auto, using(crate::proofs::TimestampLemmas::Rfc3164::fronts))]
 #[inline(always)]
 fn standard_stamp<'a>(
     text: &'a str,
@@ -45,6 +46,7 @@ fn standard_stamp<'a>(
 }
 
 // The timestamp at the front, whatever its form.
+#[tactic(auto, using(crate::proofs::TimestampLemmas::Rfc3164::fronts))]
 fn any_stamp<'a>(
     text: &'a str,
     dating: &Dating<'_, '_>,

@@ -64,6 +64,7 @@ pub fn standard_stamp(written: Rfc3339Fields) -> Option<OffsetTimestamp>
 }
 
 // The same at an offset.
+#[tactic(auto, using(crate::proofs::TimestampLemmas::Reading::answer_of_rfc3339))]
 #[inline(always)]
 fn any_stamp(written: Rfc3339Fields, offset: Offset) -> Option<OffsetTimestamp>
     requires second { written.second < 61 }
@@ -101,6 +102,7 @@ fn offset_of(seconds: i32) -> Option<Offset>
 const LEAST: usize = 20;
 
 /// What the front of the text writes, and the text behind it.
+#[tactic(auto, using(crate::proofs::TimestampLemmas::Reading::text_fronts))]
 #[inline(always)]
 pub fn read(text: &str) -> Option<(Rfc3339Fields, &str)>
     ensures { Reads spec.stamp_text (λ written. written) (chars text.now) result }

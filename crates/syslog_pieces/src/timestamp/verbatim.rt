@@ -43,6 +43,7 @@ pub fn verbatim_stamp(text: &str) -> Option<VerbatimStamp<'_>>
 }
 
 // The same of a timestamp that is not absent.
+#[tactic(auto, using(crate::proofs::TimestampLemmas::VerbatimStamp::verbatim_stamps))]
 #[inline(always)]
 fn written_stamp(text: &str) -> Option<VerbatimStamp<'_>>
     ensures { IfSome result (λ stamp.
@@ -100,6 +101,7 @@ fn date_and_clock(text: &[u8]) -> Option<&[u8]>
 }
 
 // The text behind a fraction: none, or three, six or nine decimals, the last three of which are not all zero.
+#[tactic(auto, using(crate::proofs::TimestampLemmas::VerbatimStamp::no_fraction))]
 #[inline(always)]
 fn fraction(text: &[u8]) -> Option<&[u8]>
     ensures { IfSome result (λ rest. spec.IsVerbatimFraction text.now rest.now) }
@@ -139,6 +141,7 @@ fn zulu(text: &[u8]) -> Option<&[u8]>
 }
 
 // The text behind an offset that prints as it is written, where a space begins it. (`-00:00` prints otherwise.)
+#[tactic(auto, using(crate::proofs::TimestampLemmas::VerbatimStamp::signed_verbatim))]
 #[inline(always)]
 fn offset(text: &[u8]) -> Option<&[u8]>
     ensures { IfSome result (λ rest. spec.IsVerbatimOffset text.now rest.now) }

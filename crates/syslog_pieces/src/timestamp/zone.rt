@@ -57,6 +57,7 @@ pub(super) fn zone_of<'a, 'z>(dating: &Dating<'a, 'z>) -> &'a TimeZone<'z>
 }
 
 // The timestamp of a date that each month has, in a zone of one offset.
+#[tactic(auto, using(crate::proofs::TimestampLemmas::Zone::fixed_answers))]
 #[inline(always)]
 fn fixed_stamp(fields: CivilFields, dating: &Dating<'_, '_>) -> Option<OffsetTimestamp>
     ensures { IfSome result

@@ -1,5 +1,5 @@
 use Rattle.std.proofs.Common.{[], ◌∷◌, refl, rules}
-use Rattle.syslog_pieces.proofs.TimestampLemmas.Piece.{dash_front, no_header, no_stamp_front, stamp_front}
+use Rattle.syslog_pieces.proofs.TimestampLemmas.Piece.{no_header, no_stamp_front}
 use Rattle.syslog_pieces.proofs.timestamp.any_header_stamp.Goals as goal
 
 pub returns-in_err-literal-in-Some : goal.returns-in_err-literal-in-Some
@@ -11,13 +11,5 @@ pub returns-in_err-stamp-in-Some : goal.returns-in_err-stamp-in-Some
 returns-in_err-stamp-in-Some c =
     let n = no_header c.in-Some.ensures (λ v r e h. c.in_err-stamp-in-Some.ensures v h) in search rules
 
-pub returns-in_ok-stamp-in-Some : goal.returns-in_ok-stamp-in-Some
-returns-in_ok-stamp-in-Some c =
-    stamp_front c.in-Some.ensures c.in_ok-stamp-in-Some.stamp c.in_ok-stamp-in-Some.ensures
-    c.in_ok-literal-in-Some.ensures
-
 pub returns-in_err-rest-in-None : goal.returns-in_err-rest-in-None
 returns-in_err-rest-in-None c = let n = no_stamp_front c.in-None.ensures c.in_err-rest-in-None.ensures in search rules
-
-pub returns-in_ok-rest-in-None : goal.returns-in_ok-rest-in-None
-returns-in_ok-rest-in-None c = dash_front c.in_ok-rest-in-None.ensures

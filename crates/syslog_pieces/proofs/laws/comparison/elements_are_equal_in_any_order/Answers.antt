@@ -7,20 +7,19 @@ use Rattle.syslog_pieces.specs.StructuredData.EqualLaws.{element_equivalence, el
 use Rattle.syslog_pieces.proofs.laws.comparison.elements_are_equal_in_any_order.Goals as goal
 
 pub returns-clause-exact : goal.returns-clause-exact
-returns-clause-exact g c a b =
-    element_eq-decides (element_value (text_of g.S.AsStr.text) a) (element_value (text_of g.S.AsStr.text) b)
+returns-clause-exact g c a b = element_eq-decides _ _
 
 pub returns-clause-reflexive : goal.returns-clause-reflexive
 returns-clause-reflexive g c a = element_equivalence.refl (element_value (text_of g.S.AsStr.text) a)
 
 pub returns-clause-symmetric : goal.returns-clause-symmetric
-returns-clause-symmetric g c a b e = sym (element_equivalence.symm (element_value (text_of g.S.AsStr.text) a)
-    (element_value (text_of g.S.AsStr.text) b)) ∙ e
+returns-clause-symmetric g c a b e =
+    let value = element_value (text_of g.S.AsStr.text) in sym (element_equivalence.symm (value a) (value b)) ∙ e
 
 pub returns-clause-transitive : goal.returns-clause-transitive
 returns-clause-transitive g c a b d e f =
-    (partial_equiv_from_equiv element_equivalence).trans (element_value (text_of g.S.AsStr.text) a)
-    (element_value (text_of g.S.AsStr.text) b) (element_value (text_of g.S.AsStr.text) d) e f
+    let value = element_value (text_of g.S.AsStr.text) in
+    (partial_equiv_from_equiv element_equivalence).trans (value a) (value b) (value d) e f
 
 pub returns-clause-same : goal.returns-clause-same
 returns-clause-same g c a b e =

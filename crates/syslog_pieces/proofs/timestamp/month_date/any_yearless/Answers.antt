@@ -7,8 +7,7 @@ returns-in_err-day c = let n = yearless_none_here c.in_err-day.ensures in search
 
 pub returns-in_err-clock : goal.returns-in_err-clock
 returns-in_err-clock c =
-    let n = yearless_none_later c.in_ok-day.day c.in_ok-day.ensures c.in_err-clock.ensures in search rules
+    let n = yearless_none_later c.in_ok-day.ensures c.in_err-clock.ensures in search rules
 
 pub returns : goal.returns
-returns c =
-    rw c.date_of.ensures (yearless_front _ c.in_ok-day.ensures _ c.in_ok-clock.ensures.0 c.in_ok-clock.ensures.1)
+returns c = rw c.date_of.ensures (yearless_front c.in_ok-day.ensures c.in_ok-clock.ensures.1)

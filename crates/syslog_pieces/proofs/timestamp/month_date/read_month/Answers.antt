@@ -1,6 +1,6 @@
-use Rattle.std.proofs.Common.{ap, arith, length, rules}
+use Rattle.std.proofs.Common.{sym, ap, ◌∙◌, arith, length, rules}
 use Rattle.std.specs.Str.{chars}
-use Rattle.syslog_pieces.proofs.TimestampLemmas.MonthDate.{month_read, no_month_read, no_short}
+use Rattle.syslog_pieces.proofs.TimestampLemmas.MonthDate.{no_month_read, no_short}
 use Rattle.syslog_pieces.proofs.timestamp.month_date.read_month.Goals as goal
 
 pub returns-in_err-a : goal.returns-in_err-a
@@ -20,12 +20,7 @@ returns-in_err-c c =
 
 pub returns-in_err-number : goal.returns-in_err-number
 returns-in_err-number c =
-    let n = no_month_read _ _ _ _ c.in_ok-a.a c.in_ok-b.b c.in_ok-c.c c.in_ok-a.ensures.0 c.in_ok-b.ensures.0
-    c.in_ok-c.ensures.0 _ _ _ c.to_ascii_lowercase.ensures.value c.to_ascii_lowercase-2.ensures.value
-    c.to_ascii_lowercase-3.ensures.value _ c.small_month.ensures.value c.in_err-number.was in search rules
-
-pub returns : goal.returns
-returns c =
-    month_read _ _ _ _ c.in_ok-a.a c.in_ok-b.b c.in_ok-c.c c.in_ok-a.ensures.0 c.in_ok-b.ensures.0 c.in_ok-c.ensures.0
-    _ _ _ c.to_ascii_lowercase.ensures.value c.to_ascii_lowercase-2.ensures.value c.to_ascii_lowercase-3.ensures.value
-    _ c.small_month.ensures.value _ c.in_ok-number.ensures.name
+    let n = no_month_read (chars c.args.text.now) (chars c.in_ok-c.rest.now) c.in_ok-a.a c.in_ok-b.b c.in_ok-c.c
+    (rw (c.in_ok-a.ensures.0, c.in_ok-b.ensures.0, c.in_ok-c.ensures.0))
+    (rw (c.to_ascii_lowercase.ensures.value, c.to_ascii_lowercase-2.ensures.value, c.to_ascii_lowercase-3.ensures.value)
+    at (sym c.small_month.ensures.value ∙ c.in_err-number.was)) in search rules

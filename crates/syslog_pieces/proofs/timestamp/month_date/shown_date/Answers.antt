@@ -1,20 +1,14 @@
 use Rattle.std.proofs.Common.{inl, refl, rules}
-use Rattle.std.specs.Str.{chars}
-use Rattle.syslog_pieces.specs.Timestamp.Rfc3164.{BeginsWithDate, showing_row}
+use Rattle.syslog_pieces.specs.Timestamp.Rfc3164.{showing_row}
 use Rattle.syslog_pieces.specs.Timestamp.MonthDate.{yearless_date}
-use Rattle.syslog_pieces.specs.declared.timestamp.month_date.MonthDate.{MonthDate}
-use Rattle.syslog_pieces.proofs.PieceLemmas.Class.{optional_det, run_det, rest_det, rest_front, ◌also◌}
+use Rattle.syslog_pieces.proofs.PieceLemmas.Class.{rest_front}
 use Rattle.syslog_pieces.proofs.PieceLemmas.Rows.{row_of, no_row, ◌then◌, ◌past◌}
-use Rattle.syslog_pieces.proofs.PriLemmas.{priority_det}
-use Rattle.syslog_pieces.proofs.TimestampLemmas.MonthDate.{yearless_det}
-use Rattle.syslog_pieces.proofs.TimestampLemmas.MonthDate.{shown_none, shown_some}
+use Rattle.syslog_pieces.proofs.TimestampLemmas.MonthDate.{showing_det, shown_none, shown_some}
 use Rattle.syslog_pieces.proofs.timestamp.month_date.shown_date.Goals as goal
 
 pub returns-in_err-date : goal.returns-in_err-date
 returns-in_err-date c =
-    let n : (d : MonthDate) → BeginsWithDate yearless_date (chars c.args.text.now) d → ⊥ =
-    shown_none (no_row (showing_row yearless_date)
-    (optional_det _ priority_det also run_det _ also yearless_det also rest_det also tt)
+    let n = shown_none (no_row (showing_row yearless_date) showing_det
     (c.optional_priority.ensures past c.blanks-rest.ensures past inl c.in_err-date.ensures)) in search rules
 
 pub returns : goal.returns

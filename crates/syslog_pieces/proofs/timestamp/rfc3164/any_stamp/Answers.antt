@@ -1,10 +1,7 @@
 use Rattle.std.proofs.Common.{rules}
 use Rattle.syslog_pieces.specs.Timestamp.Zone.{dating_value}
-use Rattle.syslog_pieces.proofs.TimestampLemmas.Rfc3164.{header_front, date_front, no_date, no_stamp_of_date}
+use Rattle.syslog_pieces.proofs.TimestampLemmas.Rfc3164.{no_date, no_stamp_of_date}
 use Rattle.syslog_pieces.proofs.timestamp.rfc3164.any_stamp.Goals as goal
-
-pub returns-in-Some : goal.returns-in-Some
-returns-in-Some c = header_front (dating_value c.args.dating.now) c.in-Some.ensures
 
 pub returns-in_err-date : goal.returns-in_err-date
 returns-in_err-date c =
@@ -14,6 +11,3 @@ pub returns-in_err-stamp : goal.returns-in_err-stamp
 returns-in_err-stamp c =
     let n = no_stamp_of_date (dating_value c.args.dating.now) c.in-None.ensures c.in_ok-date.date c.in_ok-date.ensures
     c.in_err-stamp.ensures in search rules
-
-pub returns : goal.returns
-returns c = date_front (dating_value c.args.dating.now) c.in_ok-stamp.stamp c.in_ok-date.ensures c.in_ok-stamp.ensures
