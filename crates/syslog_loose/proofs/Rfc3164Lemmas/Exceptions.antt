@@ -1,6 +1,5 @@
 -- The condition for RFC 3164 is the exceptions' absence, beside all that they leave.
-use Rattle.std.proofs.Common.{◌≡◌, inl, inr, Option, Some, None, IfSome, sym, subst}
-use Rattle.std.proofs.Common.{IsSome, ◌&&◌, arith}
+use Rattle.std.proofs.Common.{◌≡◌, inl, inr, Option, Some, None, IfSome, sym, subst, IsSome, ◌&&◌, arith}
 use Rattle.syslog_pieces.specs.Pieces.Class.{Text}
 use Rattle.syslog_pieces.specs.Text.{dash, EndsInColon}
 use Rattle.syslog_pieces.specs.declared.procid.ProcId.{ProcId}

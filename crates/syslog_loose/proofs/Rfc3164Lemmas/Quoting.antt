@@ -1,6 +1,7 @@
 -- The texts of a message of RFC 3164 are in the pieces.
 use Rattle.std.proofs.Common.{inl, inr, List, [], ◌∷◌, ◌++◌, Option, Some, None, sym, subst}
 use Rattle.std.specs.List.{flat_map}
+use Rattle.std.specs.Option.{unwrap_or}
 use Rattle.syslog_pieces.specs.Pieces.Class.{Text, run, some_run, exactly, optional, spaced}
 use Rattle.syslog_pieces.specs.Pieces.Parts.{IsPart, IsInPieces, AreInPieces, text_list, process_texts}
 use Rattle.syslog_pieces.specs.Pri.{priority}
@@ -20,9 +21,9 @@ use Rattle.syslog_pieces.proofs.PieceLemmas.Parts.{tag_word_quotes, optional_quo
 use Rattle.syslog_pieces.proofs.PieceLemmas.Parts.{part_left, part_right, part_joined}
 use Rattle.syslog_pieces.proofs.StructuredDataLemmas.ElementParts.{optional_rfc3164_list_quotes}
 use Rattle.syslog_loose.specs.Message.{MessageValue, message_texts}
-use Rattle.syslog_loose.specs.Rfc3164.{Names3164, Resolves, NamesProgram, NamesHost, rfc3164_row, IsRead3164}
-use Rattle.syslog_loose.specs.Rfc3164.{Quotes3164}
+use Rattle.syslog_loose.specs.Rfc3164.{Names3164, names, Resolves, rfc3164_row, IsRead3164, Quotes3164}
 use Rattle.syslog_loose.specs.TagForm.{form_row, IsForm}
+use Rattle.syslog_loose.proofs.Rfc3164Lemmas.{of_names}
 use Rattle.syslog_pieces.proofs.PieceLemmas.Class.{◌also◌}
 
 -- ---- parts of texts in pieces
@@ -62,30 +63,25 @@ module _ (ps : List Text) where
   process_in id (PID number) h k = tt
   process_in id (Name name) h k = (subst (λ (x : Text). IsInPieces ps x) (sym h.1) k, tt)
 
-  program_in : (origin : Option Text) (text : Text) (n : Names3164) → NamesProgram origin text n
-      → AreIn (text_list origin) → IsInPieces ps text → NamesAreIn n
-  program_in origin text n (inl (tag, id, p, f, h, e)) k l =
-      let parts = form_parts text tag id f in
-      subst NamesAreIn (sym e)
-      (k, (part_in ps text tag l parts.0, tt), process_in id p h (part_in ps text id l parts.1))
-  program_in origin text n (inr (f, e)) k l = subst NamesAreIn (sym e) (k, (l, tt), tt)
+  form_in : (origin : Option Text) (t tag id : Text) (p : ProcId Text) → IsForm t tag id → NamesProcess id p
+      → AreIn (text_list origin) → IsInPieces ps t → NamesAreIn (names origin (Some tag) (Some p))
+  form_in origin t tag id p f g a b = let parts = form_parts t tag id f in
+      (a, (part_in ps t tag b parts.0, tt), process_in id p g (part_in ps t id b parts.1))
 
-  host_in : (text : Text) (n : Names3164) → NamesHost text n → IsInPieces ps text → NamesAreIn n
-  host_in text n (inl (tag, id, p, f, h, e)) l =
-      let parts = form_parts text tag id f in
-      subst NamesAreIn (sym e)
-      (tt, (part_in ps text tag l parts.0, tt), process_in id p h (part_in ps text id l parts.1))
-  host_in text n (inr (f, e)) l = subst NamesAreIn (sym e) ((l, tt), tt, tt)
+  host_in : (v : Option (Option Text)) → AreIn (optional_texts text_list v) → AreIn (text_list (unwrap_or v None))
+  host_in None a = tt
+  host_in (Some h) a = a
 
   resolved_in : (origin program : Option (Option Text)) (n : Names3164) → Resolves origin program n
       → AreIn (optional_texts text_list origin) → AreIn (optional_texts text_list program) → NamesAreIn n
-  resolved_in None None n e k l = subst NamesAreIn (sym e) (tt, tt, tt)
-  resolved_in (Some None) None n e k l = subst NamesAreIn (sym e) (tt, tt, tt)
-  resolved_in (Some (Some name)) None n h k l = host_in name n h k.0
-  resolved_in None (Some None) n e k l = subst NamesAreIn (sym e) (tt, tt, tt)
-  resolved_in (Some origin) (Some None) n e k l = subst NamesAreIn (sym e) (tt, tt, tt)
-  resolved_in None (Some (Some name)) n h k l = program_in None name n h tt l.0
-  resolved_in (Some origin) (Some (Some name)) n h k l = program_in origin name n h k l.0
+  resolved_in = of_names
+      (λ v t n. AreIn (optional_texts text_list v) → AreIn (optional_texts text_list t) → NamesAreIn n) (record {
+        nobody = λ v t a b. (tt, tt, tt);
+        host = λ h none a b. (a, tt, tt);
+        lone = λ h tag id p f g a b. form_in None h tag id p f g tt a.0;
+        app = λ v t none a b. (host_in v a, b, tt);
+        process = λ v t tag id p f g a b. form_in (unwrap_or v None) t tag id p f g (host_in v a) b.0;
+      })
 
 -- ---- all texts
 quoted_row : (rule : DashRule) (dating : Dating) → Quoted (rfc3164_row rule dating)

@@ -1,15 +1,14 @@
 -- A canonical message of RFC 3164 is read back: the division of its printed text, piece by piece.
-use Rattle.std.proofs.Common.{◌≡◌, ◌≢◌, ℕ, suc, pos, negsuc, ◌+◌, ◌*◌, ◌<◌, inl, inr, true, false, not, nat_eq, List}
-use Rattle.std.proofs.Common.{[], ◌∷◌, ◌++◌, length, Option, Some, None, IfSome, IsSome, refl, sym, ap, subst, ◌∙◌}
-use Rattle.std.proofs.Common.{arith}
+use Rattle.std.proofs.Common.{◌≡◌, ◌≢◌, ℕ, suc, pos, ◌+◌, ◌*◌, ◌<◌, inl, inr, not, ◌∷◌, Some, None, refl, sym, ap, ◌∙◌}
+use Rattle.std.proofs.Common.{negsuc, true, false, nat_eq, List, [], ◌++◌, length, Option, IfSome, IsSome, subst, arith}
 use Rattle.std.proofs.lemmas.Bool.Decides.{nat_tests}
 use Rattle.std.proofs.lemmas.List.{length-append}
 use Rattle.std.specs.Char.{is_ascii_digit}
 use Rattle.std.specs.Fmt.{decimal}
 use Rattle.std.specs.List.{AllByRecursion}
 use Rattle.std.specs.Option.{option_map_or}
-use Rattle.syslog_pieces.specs.Pieces.Class.{Text, Values, Front, NoFront, Row, Each, Ends, run, exactly}
-use Rattle.syslog_pieces.specs.Pieces.Class.{optional, spaced}
+use Rattle.syslog_pieces.specs.Pieces.Class.{Text, Values, Front, NoFront, Row, Each, Ends, run, exactly, optional}
+use Rattle.syslog_pieces.specs.Pieces.Class.{spaced}
 use Rattle.syslog_pieces.specs.Pieces.Lists.{IsMany}
 use Rattle.syslog_pieces.specs.Pri.{priority, facility_number, severity_number, facility_of, severity_of}
 use Rattle.syslog_pieces.specs.ProcId.{NamesProcess, procid_text}
@@ -26,9 +25,8 @@ use Rattle.syslog_pieces.specs.declared.procid.ProcId.{ProcId}
 use Rattle.syslog_pieces.specs.declared.procid.ProcId.TheVariants.{PID, Name}
 use Rattle.syslog_pieces.specs.declared.structured_data.rfc3164_list.DashRule.{DashRule}
 use Rattle.syslog_pieces.specs.declared.timestamp.OffsetTimestamp.{OffsetTimestamp}
-use Rattle.syslog_pieces.proofs.PieceLemmas.Class.{both_values}
-use Rattle.syslog_pieces.proofs.PieceLemmas.Class.{heads, front_division, optional_some, row_cons, rows_join}
-use Rattle.syslog_pieces.proofs.PieceLemmas.Class.{optional_none, rest_front, spaced_front, no_spaced_piece}
+use Rattle.syslog_pieces.proofs.PieceLemmas.Class.{both_values, heads, front_division, optional_some, row_cons}
+use Rattle.syslog_pieces.proofs.PieceLemmas.Class.{rows_join, optional_none, rest_front, spaced_front, no_spaced_piece}
 use Rattle.syslog_pieces.proofs.PieceLemmas.Steps.{piece_front}
 use Rattle.syslog_pieces.proofs.PriLemmas.{facility_composed, severity_composed}
 use Rattle.syslog_pieces.proofs.ProcIdLemmas.ReadBack.{signed_writes}
@@ -36,11 +34,9 @@ use Rattle.syslog_pieces.proofs.StructuredDataLemmas.ReadBack.{element_back}
 use Rattle.syslog_pieces.proofs.TextLemmas.ReadBack.{host_back, decimal_digits}
 use Rattle.syslog_pieces.proofs.StructuredDataLemmas.Rfc3164List.{full_begins, no_full_nil, no_rfc3164_list}
 use Rattle.syslog_pieces.proofs.TimestampLemmas.RoundTrip.{printed_stamp-back}
-use Rattle.syslog_loose.specs.Canonical.{IsBoundedProcess, IsBounded, IsCanonicalHost}
-use Rattle.syslog_loose.specs.Canonical.{IsCanonicalElement, is_process_char}
-use Rattle.syslog_loose.specs.Canonical.{IsBracketedProcess, AreCanonicalNames}
-use Rattle.syslog_loose.specs.Canonical.{IsCanonicalInBoth, IsCanonical3164, IsCanonicalFor}
-use Rattle.syslog_loose.specs.Canonical.{IsCanonical}
+use Rattle.syslog_loose.specs.Canonical.{IsBoundedProcess, IsBounded, IsCanonicalHost, IsCanonicalElement}
+use Rattle.syslog_loose.specs.Canonical.{is_process_char, IsBracketedProcess, AreCanonicalNames, IsCanonicalInBoth}
+use Rattle.syslog_loose.specs.Canonical.{IsCanonical3164, IsCanonicalFor, IsCanonical}
 use Rattle.syslog_loose.specs.Message.{MessageValue}
 use Rattle.syslog_loose.specs.Printed.{timestamp_text, priority_of, printed_3164}
 use Rattle.syslog_loose.specs.Rfc3164.{names, Resolves, body_row, rfc3164_row, IsRead3164}
