@@ -1,14 +1,13 @@
 -- The form `tag[id]`: a text is of it in one way, and what its reader finds.
 use Rattle.std.proofs.Common.{◌≡◌, ◌≢◌, ℕ, ◌<◌, List, [], ◌∷◌, ◌++◌, length, refl, ap, ◌∙◌, arith, inl}
 use Rattle.std.specs.Str.{chars, IsAscii}
-use Rattle.syslog_pieces.specs.Pieces.Class.{Text, Class, IsDeterministic, Values, Front}
-use Rattle.syslog_pieces.specs.Pieces.Class.{NoFront, Row, run, some_run, exactly, texted}
+use Rattle.syslog_pieces.specs.Pieces.Class.{Text, Class, Values, Front, NoFront, Row, run, some_run, exactly, texted}
 use Rattle.syslog_pieces.specs.Bodies.Scan.{SplitsRun}
 use Rattle.syslog_pieces.specs.Text.CharClass.{is_label_char, is_open_char}
-use Rattle.syslog_pieces.proofs.PieceLemmas.Class.{AllDeterministic, unique_division, division_front}
-use Rattle.syslog_pieces.proofs.PieceLemmas.Class.{front_division, exactly_det, run_det, some_run_det}
-use Rattle.syslog_pieces.proofs.PieceLemmas.Class.{texted_det, no_texted, no_row_division}
-use Rattle.syslog_pieces.proofs.PieceLemmas.Meets.{rows_go}
+use Rattle.syslog_pieces.proofs.PieceLemmas.Class.{AllDeterministic, unique_division, division_front, front_division}
+use Rattle.syslog_pieces.proofs.PieceLemmas.Class.{exactly_det, run_det, some_run_det, texted_det, no_texted}
+use Rattle.syslog_pieces.proofs.PieceLemmas.Class.{no_row_division, all_joined, ◌also◌}
+use Rattle.syslog_pieces.proofs.PieceLemmas.Steps.{rows_step}
 use Rattle.syslog_pieces.proofs.TextLemmas.Chars.{chars_nonempty, one_ascii}
 use Rattle.syslog_pieces.proofs.TextLemmas.Runs.{no_some_run}
 use Rattle.syslog_loose.specs.TagForm.{form_row, IsForm, IsNoForm}
@@ -29,17 +28,13 @@ closing = exactly (93 ∷ [])
 abbrev to_closing : List Class
 to_closing = label ∷ opening ∷ id_text ∷ []
 
-label_det : IsDeterministic label
-label_det = texted_det (run is_label_char) (run_det is_label_char)
-
-id_det : IsDeterministic id_text
-id_det = texted_det (some_run is_open_char) (some_run_det is_open_char)
-
 to_closing_det : AllDeterministic to_closing
-to_closing_det = (label_det, (exactly_det (91 ∷ []), (id_det, tt)))
+to_closing_det =
+    texted_det (run is_label_char) (run_det is_label_char) also exactly_det (91 ∷ [])
+    also texted_det (some_run is_open_char) (some_run_det is_open_char) also tt
 
 pub form_det : AllDeterministic form_row
-form_det = (label_det, (exactly_det (91 ∷ []), (id_det, (exactly_det (93 ∷ []), tt))))
+form_det = all_joined to_closing (closing ∷ []) to_closing_det (exactly_det (93 ∷ []) also tt)
 
 -- a text is of the form in one way
 pub one_form : (text tag id tag' id' : Text) → IsForm text tag id → IsForm text tag' id' → (tag ≡ tag') × (id ≡ id')
@@ -82,7 +77,7 @@ module _ (bs xs ys : List ℕ) (s : SplitsRun is_label_char bs xs ys) where
     -- something else than `]` is behind the id
     pub no_closing : 0 < length is → chars ks ≢ 93 ∷ [] → IsNoForm (chars bs)
     no_closing l n vs d =
-        let (v, f) = (rows_go to_closing (closing ∷ []) to_closing_det (chars bs) (chars ks) _ (to_id l)).back [] vs
+        let (_, f) = rows_step to_closing (closing ∷ []) to_closing_det {vs = vs} (to_id l)
         (division_front form_row d) in
         let (q, g, e) = row_pieces (closing ∷ []) f in
         n (g.whole ∙ ap (λ (x : Text). x ++ q) g.is ∙ ap (λ (x : Text). 93 ∷ x) e)

@@ -15,8 +15,8 @@ use Rattle.syslog_pieces.specs.Timestamp.Printed.{printed_stamp}
 use Rattle.syslog_pieces.specs.Timestamp.Zone.{Dating}
 use Rattle.syslog_pieces.specs.declared.structured_data.rfc3164_list.DashRule.{DashRule}
 use Rattle.syslog_pieces.specs.declared.timestamp.OffsetTimestamp.{OffsetTimestamp}
-use Rattle.syslog_pieces.proofs.PieceLemmas.Class.{run_same, row_head, division_front, front_division}
-use Rattle.syslog_pieces.proofs.PieceLemmas.Class.{run_det, spaced_parts, rest_whole}
+use Rattle.syslog_pieces.proofs.PieceLemmas.Class.{run_same, row_head, division_front, front_division, run_det}
+use Rattle.syslog_pieces.proofs.PieceLemmas.Class.{spaced_parts, rest_whole}
 use Rattle.syslog_pieces.proofs.PieceLemmas.Kinds.{Begins, begins_apart, begins_more, begins_with}
 use Rattle.syslog_pieces.proofs.PieceLemmas.Steps.{step, rows_step, front_longer, absent_none, present_front}
 use Rattle.syslog_pieces.proofs.PriLemmas.{priority_composed}
@@ -35,10 +35,9 @@ use Rattle.syslog_loose.proofs.Rfc3164Lemmas.Exceptions.{canonical_names, near_c
 use Rattle.syslog_pieces.proofs.PieceLemmas.Each.{each_append}
 use Rattle.syslog_loose.proofs.Rfc3164Lemmas.Near.{host_field, tag_field, near_names, severity_beside, read_near}
 use Rattle.syslog_loose.proofs.Rfc3164Lemmas.Printed.{printed_is}
-use Rattle.syslog_loose.proofs.Rfc3164Lemmas.ReadBack.{canonical_back, to_stamp_back, stamp_back}
-use Rattle.syslog_loose.proofs.Rfc3164Lemmas.ReadBack.{names_back}
-use Rattle.syslog_loose.proofs.Rfc3164Lemmas.Rows.{from_list, from_blanks, to_stamp, to_colon, from_tag_end}
-use Rattle.syslog_loose.proofs.Rfc3164Lemmas.Rows.{from_tag, from_stamp, to_stamp_det, to_colon_det}
+use Rattle.syslog_loose.proofs.Rfc3164Lemmas.ReadBack.{canonical_back, to_stamp_back, stamp_back, names_back}
+use Rattle.syslog_loose.proofs.Rfc3164Lemmas.Rows.{from_list, from_blanks, to_stamp, to_colon, from_tag_end, from_tag}
+use Rattle.syslog_loose.proofs.Rfc3164Lemmas.Rows.{from_stamp, to_stamp_det, to_colon_det}
 use Rattle.syslog_loose.proofs.Rfc3164Lemmas.Unique.{told}
 use Rattle.syslog_loose.proofs.Rfc3164Lemmas.Whole.{program_text, whole, tail_text, trimmed_whole}
 use Rattle.syslog_loose.proofs.TrimLemmas.{message_blanks}
@@ -160,7 +159,7 @@ module _ (rule : DashRule) (dating : Dating) (v : Values (rfc3164_row rule datin
       let d4 : Front (Row (body_row rule)) (32 ∷ y) [] v.1.1.1 = step (rfc3164_stamp dating) (body_row rule)
       (rfc3164_stamp_det dating) (stamp_back dating m.timestamp y canonical) d3 in
       let (q4, g4, d5) = row_head (optional (spaced host)) (from_tag rule) {text = 32 ∷ y} d4 in
-      let (q5, g5, _) = row_head (optional (spaced tag_word)) (from_tag_end rule) d5 in
+      let (q5, g5, _) = row_head (optional (spaced tag_word)) (from_tag_end rule) {text = q4} d5 in
       let named = near_names q4 v.1.1.1.0 v.1.1.1.1.0 n resolves (host_field (32 ∷ y) q4 v.1.1.1.0 g4)
       (tag_field q4 q5 v.1.1.1.1.0 g5) in
       let stays = host_canonical n.hostname v.1.1.1.0 q4 u named.visible named.host_is g4 in

@@ -13,31 +13,30 @@ use Rattle.syslog_pieces.specs.StructuredData.Element.{ElementValue}
 use Rattle.syslog_pieces.specs.StructuredData.Rfc3164List.{full_element, rfc3164_list, elements_or}
 use Rattle.syslog_pieces.specs.Text.{trimmed, is_blank, is_tag_char, dash, IsHost, host, tag_word}
 use Rattle.syslog_pieces.specs.Text.CharClass.{is_label_char, is_open_char}
-use Rattle.syslog_pieces.specs.Timestamp.Rfc3164.{rfc3164_stamp, showing_row}
+use Rattle.syslog_pieces.specs.Timestamp.Rfc3164.{rfc3164_stamp}
 use Rattle.syslog_pieces.specs.Timestamp.MonthDate.{month_date}
 use Rattle.syslog_pieces.specs.Timestamp.Canonical.{IsCanonicalStamp}
 use Rattle.syslog_pieces.specs.Timestamp.Zone.{Dating}
-use Rattle.syslog_pieces.specs.declared.pri.SyslogSeverity.{SyslogSeverity}
 use Rattle.syslog_pieces.specs.declared.procid.ProcId.{ProcId}
 use Rattle.syslog_pieces.specs.declared.procid.ProcId.TheVariants.{PID, Name}
 use Rattle.syslog_pieces.specs.declared.structured_data.rfc3164_list.DashRule.{DashRule}
 use Rattle.syslog_pieces.specs.declared.timestamp.OffsetTimestamp.{OffsetTimestamp}
-use Rattle.syslog_pieces.proofs.PieceLemmas.Class.{heads, division_front, front_division, rest_front}
-use Rattle.syslog_pieces.proofs.PieceLemmas.Class.{spaced_parts, rest_whole}
+use Rattle.syslog_pieces.proofs.PieceLemmas.Class.{heads, division_front, spaced_parts, rest_whole}
 use Rattle.syslog_pieces.proofs.PieceLemmas.Steps.{present_front}
 use Rattle.syslog_pieces.proofs.PriLemmas.{severity_there}
 use Rattle.syslog_pieces.proofs.StructuredDataLemmas.ReadBack.{element_canonical}
 use Rattle.syslog_pieces.proofs.TimestampLemmas.RoundTrip.{stamp_text-canonical}
-use Rattle.syslog_loose.specs.Canonical.{IsVisible, IsNoI32Text, IsCanonicalElement}
-use Rattle.syslog_loose.specs.Exceptions.{is_no_colon, HasNoColon, IsOddHost, is_inner_char, IsInnerProcess}
-use Rattle.syslog_loose.specs.Exceptions.{AreNamesButExceptions, HasExceptionsAlone, IsNearlyCanonical, IsOfMonthDate}
+use Rattle.syslog_loose.specs.Canonical.{IsVisible, IsCanonicalElement}
+use Rattle.syslog_loose.specs.Exceptions.{is_no_colon, HasNoColon, IsOddHost, IsInnerProcess, AreNamesButExceptions}
+use Rattle.syslog_loose.specs.Exceptions.{HasExceptionsAlone, IsNearlyCanonical, IsOfMonthDate}
 use Rattle.syslog_loose.specs.Message.{MessageValue}
 use Rattle.syslog_loose.specs.Rfc3164.{Names3164, Resolves, stamped_row, fields_row, rfc3164_row, IsRead3164}
 use Rattle.syslog_loose.specs.TagForm.{form_row, IsForm}
 use Rattle.syslog_loose.proofs.Rfc3164Lemmas.{of_names}
+use Rattle.syslog_loose.proofs.Rfc3164Lemmas.Shown.{shows}
 use Rattle.syslog_loose.proofs.TrimLemmas.{drop_ends, last_ends}
 use Rattle.syslog_pieces.proofs.PieceLemmas.Each.{each_behind, each_both, each_left, each_front, each_right}
-use Rattle.syslog_pieces.proofs.PieceLemmas.Rows.{row_pieces, row_of, ◌then◌}
+use Rattle.syslog_pieces.proofs.PieceLemmas.Rows.{row_pieces}
 
 -- ---- elements
 
@@ -65,8 +64,7 @@ HostField q (Some (Some h)) = IsVisible h × (IsOddHost h → (r : Text) × (q �
 host_text : (p q : Text) (v : Option Text) → IsHost p q v → HostField q (Some v)
 host_text p q None h = tt
 host_text p q (Some w) (l, a, inl (n, b, (e, d))) = rw e ((l, a), λ o. absurd (elim o [ inl x ↦ d x | inr x ↦ n x ]))
-host_text p q (Some w) (l, a, inr (r, f, b, e)) =
-    let same : w ≡ p = cc in rw same ((l, a), λ o. (r, f))
+host_text p q (Some w) (l, a, inr (r, f, b, e)) = let same : w ≡ p = cc in rw same ((l, a), λ o. (r, f))
 
 pub host_field : (t q : Text) (v : Option (Option Text)) → Front (optional (spaced host)) t q v → HostField q v
 host_field t q None f = tt
@@ -82,49 +80,44 @@ TagField t None = Unit {0}
 TagField t (Some None) = Unit {0}
 TagField t (Some (Some w)) = IsTagText w × ((r : Text) × (t ≡ 32 ∷ r))
 
-tag_text_of : (t p q r : Text) (v : Option Text) → t ≡ 32 ∷ r → tag_word.Is p q v → TagField t (Some v)
-tag_text_of t p q r None e h = tt
-tag_text_of t p q r (Some w) e (l, a, b, (i, d)) = (subst (λ (x : Text). IsTagText x) (sym i) (l, a, d), (r, e))
-
 pub tag_field : (t q : Text) (v : Option (Option Text)) → Front (optional (spaced tag_word)) t q v → TagField t v
 tag_field t q None f = tt
-tag_field t q (Some v) f =
-    let (r, e, g) = spaced_parts tag_word (present_front (spaced tag_word) f) in tag_text_of t g.piece q r v e g.is
+tag_field t q (Some None) f = tt
+tag_field t q (Some (Some w)) f =
+    let (r, e, g) = spaced_parts tag_word (present_front (spaced tag_word) f) in
+    let (l, a, b, (i, d)) = g.is in (rw i (l, a, d), (r, e))
 
 -- ---- the form
-pub record FormParts (text tag id : Text) : Type 0 where
-  pub label : Each is_label_char tag
-  pub some : 0 < length id
-  pub unclosed : Each is_open_char id
-  pub within : (f : ℕ → Bool) → Each f text → Each f id
+record FormParts (text tag id : Text) : Type 0 where
+  label : Each is_label_char tag
+  some : 0 < length id
+  unclosed : Each is_open_char id
+  within : (f : ℕ → Bool) → Each f text → Each f id
 
-pub form_parts : (text tag id : Text) → IsForm text tag id → FormParts text tag id
+form_parts : (text tag id : Text) → IsForm text tag id → FormParts text tag id
 form_parts text tag id d =
     let (t1, g1, (t2, g2, (t3, g3, _))) = row_pieces form_row (division_front form_row d) in
     let e : id ≡ g3.piece = g3.is.2 in
     record {
-      label = subst (λ (x : Text). Each is_label_char x) (sym g1.is.2) g1.is.1.0;
-      some = subst (λ (x : Text). 0 < length x) (sym e) g3.is.1.0;
-      unclosed = subst (λ (x : Text). Each is_open_char x) (sym e) g3.is.1.1;
+      label = rw g1.is.2 g1.is.1.0;
+      some = rw e g3.is.1.0;
+      unclosed = rw e g3.is.1.1;
       within = λ f h.
           let h1 = each_behind f g1.piece t1 (subst (λ (x : Text). Each f x) g1.whole h) in
           let h2 = each_behind f g2.piece t2 (subst (λ (x : Text). Each f x) g2.whole h1) in
-          subst (λ (x : Text). Each f x) (sym e)
-          (each_front f g3.piece t3 (subst (λ (x : Text). Each f x) g3.whole h2));
+          rw e (each_front f g3.piece t3 (subst (λ (x : Text). Each f x) g3.whole h2));
     }
 
 -- what an id names
 inner_process : (id : Text) (process : ProcId Text) → NamesProcess id process → 0 < length id
     → Each is_not_whitespace id → Each is_open_char id → IsInnerProcess process
 inner_process id (PID n) h l a o = tt
-inner_process id (Name t) (none, e) l a o =
-    subst (λ (x : Text). (0 < length x) × Each is_inner_char x × IsNoI32Text x) (sym e)
-    (l, each_both is_not_whitespace is_open_char id a o, none)
+inner_process id (Name t) (none, e) l a o = rw e (l, each_both is_not_whitespace is_open_char id a o, none)
 
-pub no_colon_process : (id : Text) (process : ProcId Text) → NamesProcess id process → Each is_no_colon id
+no_colon_process : (id : Text) (process : ProcId Text) → NamesProcess id process → Each is_no_colon id
     → HasNoColon process
 no_colon_process id (PID n) h a = tt
-no_colon_process id (Name t) (none, e) a = subst (λ (x : Text). Each is_no_colon x) (sym e) a
+no_colon_process id (Name t) (none, e) a = rw e a
 
 -- ---- what the two fields mean
 
@@ -192,7 +185,7 @@ pub severity_beside : (pri : Option ℕ) → IsSome (option_and_then facility_of
     → IsSome (option_and_then severity_of pri)
 severity_beside None h = h
 severity_beside (Some pri) h =
-    let (s, e) = severity_there pri in subst (λ (x : Option SyslogSeverity). IsSome x) (sym e) refl
+    let (s, e) = severity_there pri in rw e refl
 
 module _ (rule : DashRule) (dating : Dating) (text : Text) where
   pub read_near : (m : MessageValue) → IsRead3164 rule dating text m → HasExceptionsAlone m
@@ -202,11 +195,10 @@ module _ (rule : DashRule) (dating : Dating) (text : Text) where
       let row = division_front (rfc3164_row rule dating) r.division in
       let (_, _, more) = row_pieces (rfc3164_row rule dating) row in
       let (_, _, (t3, g3, (t4, g4, (t5, g5, (_, _, (_, _, (t8, _, (t9, g9, (_, g10, (_, g11, _)))))))))) = more in
-      let near =
-      near_names t4 v.1.1.1.0 v.1.1.1.1.0 n resolves (host_field t3 t4 v.1.1.1.0 g4)
+      let near = near_names t4 v.1.1.1.0 v.1.1.1.1.0 n resolves (host_field t3 t4 v.1.1.1.0 g4)
       (tag_field t4 t5 v.1.1.1.1.0 g5) in
       let canonical = field_canonical rule g9.piece t9 v.1.1.1.1.1.1.1.1.0 g9.is in
-      subst HasExceptionsAlone (sym means) (record {
+      rw means (record {
         protocol = refl;
         hostname = near.visible;
         odd_host = near.odd_host;
@@ -232,8 +224,7 @@ module _ (rule : DashRule) (dating : Dating) (text : Text) where
     | inl k ↦ inl (stamp_text-canonical h.piece s k.0)
     | inr (date, k, stamp) ↦
         let d : Front month_date u q date = record { piece = h.piece; whole = h.whole; is = k } in
-        let row = row_of (showing_row month_date) (f then g then d then rest_front q then refl) in
-        inr (date, (p, q, front_division (showing_row month_date) row), stamp)
+        inr (date, shows month_date f g d, stamp)
   ]
 
   pub stamp_read : (m : MessageValue) → IsRead3164 rule dating text m → IfSome m.timestamp IsOfKind

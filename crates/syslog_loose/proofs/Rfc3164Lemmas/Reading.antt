@@ -10,7 +10,7 @@ use Rattle.syslog_pieces.proofs.PieceLemmas.Class.{rows_join, rows_none_here, re
 use Rattle.syslog_pieces.proofs.PieceLemmas.Rows.{row_of, ◌then◌}
 use Rattle.syslog_pieces.proofs.TextLemmas.Runs.{some_front_run}
 use Rattle.syslog_loose.specs.Message.{MessageValue}
-use Rattle.syslog_loose.specs.Rfc3164.{Names3164, Resolves, stamped_row, fields_row, ReadsNames, body_row}
+use Rattle.syslog_loose.specs.Rfc3164.{Names3164, Resolves, stamped_row, fields_row, body_row}
 use Rattle.syslog_loose.specs.Rfc3164.{rfc3164_row, Means3164, IsRead3164, IsNot3164, NeedsNoMemory3164}
 use Rattle.syslog_loose.proofs.Rfc3164Lemmas.Rows.{from_list}
 use Rattle.syslog_loose.proofs.Rfc3164Lemmas.Unique.{told}
@@ -31,10 +31,6 @@ is_read rule dating text t vs m e means f = record {
       subst (λ (x : Text). Division (rfc3164_row rule dating) x vs) e (front_division (rfc3164_row rule dating) f);
   means = means;
 }
-
-pub names_read : {text behind : Text} {ws : Values fields_row} {n : Names3164} → Front (Row fields_row) text behind ws
-    → Resolves ws.0 ws.1.0 n → ReadsNames text behind n
-names_read {ws = ws} f h = record { values = ws; front = f; means = h }
 
 -- Behind a timestamp and fields, a list with elements gives a message with elements.
 pub list_needs_none : (rule : DashRule) (dating : Dating) (text t u w : Text) (vs : Values (stamped_row dating))
