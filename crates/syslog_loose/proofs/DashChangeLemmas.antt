@@ -6,7 +6,7 @@ use Rattle.std.proofs.lemmas.Bool.Decides.{eqb_tells}
 use Rattle.syslog_pieces.specs.Pieces.Class.{Text, Class, Values, Front, NoFront, join, Divides, Row, Ends, exactly}
 use Rattle.syslog_pieces.specs.Pieces.Class.{optional, run}
 use Rattle.syslog_pieces.specs.StructuredData.Element.{ElementValue}
-use Rattle.syslog_pieces.specs.StructuredData.Rfc3164List.{IsRfc3164List, rfc3164_list, BeginsNoList}
+use Rattle.syslog_pieces.specs.StructuredData.Rfc3164List.{IsDashBefore, IsRfc3164List, rfc3164_list, BeginsNoList}
 use Rattle.syslog_pieces.specs.Text.{trimmed, is_blank, dash}
 use Rattle.std.specs.Borrow.{Bor}
 use Rattle.jiff.specs.declared.tz.timezone.TimeZone.{TimeZone}
@@ -22,10 +22,10 @@ use Rattle.syslog_pieces.specs.declared.structured_data.rfc3164_list.DashRule.{D
 use Rattle.syslog_pieces.specs.declared.structured_data.rfc3164_list.DashRule.TheVariants.{BeforeAnything, BeforeBlank}
 use Rattle.syslog_pieces.proofs.PieceLemmas.Class.{AllDeterministic, heads, front_same, row_det, optional_none}
 use Rattle.syslog_pieces.proofs.PieceLemmas.Class.{optional_some, row_cons, row_head, rows_join, division_front}
-use Rattle.syslog_pieces.proofs.PieceLemmas.Class.{both_values, all_joined, firsts, lasts, rows_split}
+use Rattle.syslog_pieces.proofs.PieceLemmas.Class.{optional_det, both_values, all_joined, firsts, lasts, rows_split}
 use Rattle.syslog_pieces.proofs.PieceLemmas.Steps.{absent_stays, piece_front}
 use Rattle.syslog_pieces.proofs.StructuredDataLemmas.Units.{decide}
-use Rattle.syslog_pieces.proofs.StructuredDataLemmas.Rfc3164List.{dash_rfc3164_list, full_begins, no_rfc3164_list}
+use Rattle.syslog_pieces.proofs.StructuredDataLemmas.Rfc3164List.{dash_rfc3164_list, full_begins, no_rfc3164_list, rfc3164_list_det}
 use Rattle.syslog_loose.specs.declared.message.Protocol.{Protocol}
 use Rattle.syslog_loose.specs.declared.message.Protocol.TheVariants as protocol
 use Rattle.syslog_loose.specs.declared.variant.Variant.{Variant}
@@ -61,33 +61,42 @@ before_list dating = stamped_row dating ++ fields_row
 pub before_det : (dating : Dating) → AllDeterministic (before_list dating)
 before_det dating = all_joined (stamped_row dating) fields_row (stamped_det dating) fields_det
 
--- ---- a list under the old rule
+-- ---- lists under the two rules
 
--- the piece is a dash, and what follows it begins with a character that is no blank
-abbrev IsDropped : Text → Text → Type 0
-IsDropped p q = (p ≡ dash) × BeginsDashChange (p ++ q)
-
-some_turns : (p q : Text) (es : List ElementValue) → IsRfc3164List BeforeAnything p q es
-    → IsDropped p q ⊎ IsRfc3164List BeforeBlank p q es
-some_turns p q es (inr h) = inr (inr h)
-some_turns p [] es (inl (f, u, g)) = inr (inl (f, tt, g))
-some_turns p (c ∷ q) es (inl (f, u, g)) = elim (decide (is_blank c)) [
-  | inl b ↦ inr (inl (f, b, g))
-  | inr b ↦ inl (f, record { next = c; behind = q; is = ap (λ (x : Text). x ++ (c ∷ q)) f; no_blank = b })
+dash_change_or_not : (t : Text) → BeginsDashChange t ⊎ (BeginsDashChange t → ⊥)
+dash_change_or_not [] = inr (λ h. cc)
+dash_change_or_not (c ∷ []) = inr (λ h. cc)
+dash_change_or_not (c ∷ d ∷ q) = elim (eqb_tells c 45) [
+  | inl (_, e) ↦ elim (decide (is_blank d)) [
+    | inl b ↦ inr (λ h. cc)
+    | inr b ↦ inl (record { next = d; behind = q; is = ap (λ (x : ℕ). x ∷ d ∷ q) e; no_blank = b })
+  ]
+  | inr (_, n) ↦ inr (λ h. n cc)
 ]
 
-wider : (p q : Text) (es : List ElementValue) → IsRfc3164List BeforeBlank p q es → IsRfc3164List BeforeAnything p q es
-wider p q es (inl (f, u, g)) = inl (f, tt, g)
-wider p q es (inr h) = inr h
-
-list_turns : (t q : Text) (es : Option (List ElementValue)) (f : Front (optional (rfc3164_list BeforeAnything)) t q es)
-    → IsDropped f.piece q ⊎ Front (optional (rfc3164_list BeforeBlank)) t q es
-list_turns t q None f =
-    inr (record { piece = f.piece; whole = f.whole; is = (f.is.0, λ p r es e h. f.is.1 p r es e (wider p r es h)) })
-list_turns t q (Some es) f = elim (some_turns f.piece q es f.is) [
-  | inl d ↦ inl d
-  | inr h ↦ inr (record { piece = f.piece; whole = f.whole; is = h })
+-- where no such dash begins the text, the rules agree
+dash_before : (rule : DashRule) (q : Text) → (BeginsDashChange (45 ∷ q) → ⊥) → IsDashBefore rule q
+dash_before BeforeAnything q n = tt
+dash_before BeforeBlank [] n = tt
+dash_before BeforeBlank (c ∷ q) n = elim (decide (is_blank c)) [
+  | inl b ↦ b
+  | inr b ↦ absurd (n (record { next = c; behind = q; is = refl; no_blank = b }))
 ]
+
+list_stays : (rule other : DashRule) (p q : Text) (es : List ElementValue) → (BeginsDashChange (p ++ q) → ⊥)
+    → IsRfc3164List rule p q es → IsRfc3164List other p q es
+list_stays rule other p q es n (inl (f, u, g)) = inl (f, dash_before other q (rw f at n), g)
+list_stays rule other p q es n (inr h) = inr h
+
+field_stays : (rule other : DashRule) (t q : Text) (es : Option (List ElementValue)) → (BeginsDashChange t → ⊥)
+    → Front (optional (rfc3164_list rule)) t q es → Front (optional (rfc3164_list other)) t q es
+field_stays rule other t q None n f =
+    let e = absent_stays (rfc3164_list rule) f in
+    let still : (p r : Text) (es : List ElementValue) → q ≡ p ++ r → IsRfc3164List other p r es → ⊥ = λ p r es w h.
+    f.is.1 p r es w (list_stays other rule p r es (rw (e, w) at n) h) in
+    record { piece = f.piece; whole = f.whole; is = (f.is.0, still) }
+field_stays rule other t q (Some es) n f =
+    record { piece = f.piece; whole = f.whole; is = list_stays rule other f.piece q es (rw f.whole at n) f.is }
 
 -- ---- a reading under the old rule
 
@@ -108,33 +117,49 @@ rows_cut (A ∷ As) C Bs vs (a ∷ ps) {q = q} e d =
     (a ∷ before, p, behind, ap (λ (x : List Text). a ∷ x) is, omega (arith, l), row_cons A As first f, g, h)
 
 module _ (dating : Dating) (text : Text) where
-  -- where the list of a reading is no list now, it is a dash that is dropped
-  pub old_turns : (m : MessageValue) → IsRead3164 BeforeAnything dating text m
-      → HasDashChange3164 dating text ⊎ IsRead3164 BeforeBlank dating text m
-  old_turns m r =
+  -- such a dash begins the text from the list on, or the text is read under the other rule too
+  turn : (rule other : DashRule) (m : MessageValue) (r : IsRead3164 rule dating text m)
+      → ((u : Text) × Front (Row (before_list dating)) (trimmed text) u
+      (firsts (before_list dating) (from_list rule) r.values) × BeginsDashChange u)
+      ⊎ IsRead3164 other dating text m
+  turn rule other m r =
+      let (u, a, b) = rows_split (before_list dating) (from_list rule)
+      (division_front (rfc3164_row rule dating) r.division) in
+      let (q, list, gap) = row_head (optional (rfc3164_list rule)) from_gap b in
+      elim (dash_change_or_not u) [
+        | inl d ↦ inl (u, a, d)
+        | inr n ↦ inr (is_read other dating text _ _ m refl r.means
+            (rows_join (before_list dating) (from_list other) a
+            (row_cons (optional (rfc3164_list other)) from_gap (field_stays rule other u q _ n list) gap)))
+      ]
+
+  -- under the old rule the list was that dash
+  is_dropped : (m : MessageValue) (r : IsRead3164 BeforeAnything dating text m) (u : Text)
+      → Front (Row (before_list dating)) (trimmed text) u
+      (firsts (before_list dating) (from_list BeforeAnything) r.values) → BeginsDashChange u
+      → HasDashChange3164 dating text
+  is_dropped m r u a k =
       let (before, p, ps, e, l, f, list, gap) = rows_cut (before_list dating) (optional (rfc3164_list BeforeAnything))
       from_gap r.values r.division.pieces (r.division.whole ∙ sym (append-nil _)) r.division.each in
-      elim (list_turns _ _ _ (record { piece = p; whole = append_assoc p (join ps) []; is = list })) [
-        | inl (dash, k) ↦ inl (record {
-          message = m;
-          read = r;
-          before = before;
-          list = p;
-          behind = ps;
-          pieces = e;
-          place = l;
-          is_list = inl (dash, tt, refl);
-          is_dash = dash;
-          next = k.next;
-          more = k.behind;
-          follows = let e = append-nil (join ps) in let w = rw dash at k.is in cc;
-          no_blank = k.no_blank;
-        })
-        | inr g ↦ inr (is_read BeforeBlank dating text _ _ m refl r.means
-            (rows_join (before_list dating) (from_list BeforeBlank) f
-            (row_cons (optional (rfc3164_list BeforeBlank)) from_gap g
-            (record { piece = join ps; whole = refl; is = (ps, refl, gap) }))))
-      ]
+      let same = (front_same (Row (before_list dating)) (row_det (before_list dating) (before_det dating)) f a).0 in
+      let is_dash = (optional_det (rfc3164_list BeforeAnything) (rfc3164_list_det BeforeAnything) p (join ps ++ []) dash
+      (k.next ∷ k.behind) _ (Some []) (sym (append_assoc p (join ps) []) ∙ same ∙ k.is) list (inl (refl, tt, refl))).0
+      in
+      record {
+        message = m;
+        read = r;
+        before = before;
+        list = p;
+        behind = ps;
+        pieces = e;
+        place = l;
+        is_list = inl (is_dash, tt, refl);
+        is_dash = is_dash;
+        next = k.next;
+        more = k.behind;
+        follows = let w = append-nil (join ps) in let v = rw is_dash at same in let z = k.is in cc;
+        no_blank = k.no_blank;
+      }
 
   -- where such a dash is dropped, the text from it on
   dropped_at : (d : HasDashChange3164 dating text)
@@ -154,8 +179,8 @@ module _ (dating : Dating) (text : Text) where
 
   dash_change_of_differ : (m n : MessageValue) → IsRead3164 BeforeAnything dating text m
       → IsRead3164 BeforeBlank dating text n → (m ≡ n → ⊥) → HasDashChange3164 dating text
-  dash_change_of_differ m n r s d = elim (old_turns m r) [
-    | inl h ↦ h
+  dash_change_of_differ m n r s d = elim (turn BeforeAnything BeforeBlank m r) [
+    | inl (u, a, k) ↦ is_dropped m r u a k
     | inr t ↦ absurd (d (rfc3164.one_message BeforeBlank dating text m n t s))
   ]
 
@@ -235,58 +260,15 @@ module _ (dating : Dating) (text : Text) where
 
 -- ---- a text was read exactly where it is
 
-dash_change_or_not : (t : Text) → BeginsDashChange t ⊎ (BeginsDashChange t → ⊥)
-dash_change_or_not [] = inr (λ h. cc)
-dash_change_or_not (c ∷ []) = inr (λ h. cc)
-dash_change_or_not (c ∷ d ∷ q) = elim (eqb_tells c 45) [
-  | inl (_, e) ↦ elim (decide (is_blank d)) [
-    | inl b ↦ inr (λ h. cc)
-    | inr b ↦ inl (record { next = d; behind = q; is = ap (λ (x : ℕ). x ∷ d ∷ q) e; no_blank = b })
-  ]
-  | inr (_, n) ↦ inr (λ h. n cc)
-]
-
-list_returns : (t q : Text) (es : Option (List ElementValue)) → Front (optional (rfc3164_list BeforeBlank)) t q es
-    → BeginsDashChange t ⊎ Front (optional (rfc3164_list BeforeAnything)) t q es
-list_returns t q (Some es) f = inr (record { piece = f.piece; whole = f.whole; is = wider f.piece q es f.is })
-list_returns t q None f = elim (dash_change_or_not t) [
-  | inl d ↦ inl d
-  | inr n ↦ inr (record {
-    piece = f.piece;
-    whole = f.whole;
-    is = (
-      f.is.0,
-      λ p r es e h. elim (some_turns p r es h) [
-        | inl d ↦ n (subst BeginsDashChange (sym (absent_stays (rfc3164_list BeforeBlank) f ∙ e)) d.1)
-        | inr k ↦ f.is.1 p r es e k
-      ],
-    );
-  })
-]
-
-module _ (dating : Dating) (text : Text) (m : MessageValue) where
-  was_read : IsRead3164 BeforeBlank dating text m → (n : MessageValue) × IsRead3164 BeforeAnything dating text n
-  was_read r =
-      let (u, a, b) = rows_split (before_list dating) (from_list BeforeBlank)
-      (division_front (rfc3164_row BeforeBlank dating) r.division) in
-      let (q, list, gap) = row_head (optional (rfc3164_list BeforeBlank)) from_gap b in
+other_too : (dating : Dating) (text : Text) (rule other : DashRule)
+    → (ReadsDifferently RFC3164 dating text → (n : MessageValue) × IsRead3164 other dating text n) → (m : MessageValue)
+    → IsRead3164 rule dating text m → (n : MessageValue) × IsRead3164 other dating text n
+other_too dating text rule other of m r = elim (turn dating text rule other m r) [
+  | inl (u, a, d) ↦
       let (n, means, is) = r.means in
-      elim (list_returns u q _ list) [
-        | inl d ↦ let k = differ_of_dash_change dating text _ n means d.next d.behind (rw d.is at a) d.no_blank in
-            (k.before, k.was_read)
-        | inr f ↦ (
-          m,
-          is_read BeforeAnything dating text _ _ m refl r.means
-              (rows_join (before_list dating) (from_list BeforeAnything) a
-              (row_cons (optional (rfc3164_list BeforeAnything)) from_gap f gap)),
-        )
-      ]
-
-  read_now : IsRead3164 BeforeAnything dating text m → (n : MessageValue) × IsRead3164 BeforeBlank dating text n
-  read_now r = elim (old_turns dating text m r) [
-    | inl h ↦ let k = differs_by_dash_change dating text h in (k.now, k.is_read)
-    | inr t ↦ (m, t)
-  ]
+      of (differ_of_dash_change dating text _ n means d.next d.behind (rw d.is at a) d.no_blank)
+  | inr t ↦ (m, t)
+]
 
 module _ (dating : Dating) (text : Text) where
   -- where each message read under one rule is one under the other, a text unreadable under the other is so under it
@@ -301,8 +283,10 @@ module _ (dating : Dating) (text : Text) where
 
   pub unread_alike : (variant : Variant) → WasUnreadable variant dating text ↔ IsUnreadable variant dating text
   unread_alike variant = (
-    unread_too BeforeBlank BeforeAnything (was_read dating text) variant,
-    unread_too BeforeAnything BeforeBlank (read_now dating text) variant,
+    unread_too BeforeBlank BeforeAnything
+        (other_too dating text BeforeBlank BeforeAnything (λ d. (d.before, d.was_read))) variant,
+    unread_too BeforeAnything BeforeBlank
+        (other_too dating text BeforeAnything BeforeBlank (λ d. (d.now, d.is_read))) variant,
   )
 
 -- ---- what the call finds
