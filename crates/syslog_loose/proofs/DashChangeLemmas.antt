@@ -1,6 +1,6 @@
 -- Which texts are read differently since the rule of the dash changed, and that the condition only grew.
 use Rattle.std.proofs.Common.{◌≡◌, ◌↔◌, ◌⊎◌, inl, inr, ℕ, ℤ, Bool, true, false, MatchBool, IsTrue, List, [], ◌∷◌, ◌++◌}
-use Rattle.std.proofs.Common.{length, Option, Some, None, refl, sym, ap, subst, ◌∙◌, arith, append_assoc, append-nil}
+use Rattle.std.proofs.Common.{length, Option, Some, None, refl, sym, ap, ◌∙◌, arith, append_assoc, append-nil}
 use Rattle.std.proofs.Math.Seq.{drop-append_seam}
 use Rattle.std.proofs.lemmas.Bool.Decides.{eqb_tells}
 use Rattle.syslog_pieces.specs.Pieces.Class.{Text, Class, Values, Front, NoFront, join, Divides, Row, Ends, exactly}
@@ -25,7 +25,8 @@ use Rattle.syslog_pieces.proofs.PieceLemmas.Class.{optional_some, row_cons, row_
 use Rattle.syslog_pieces.proofs.PieceLemmas.Class.{optional_det, both_values, all_joined, firsts, lasts, rows_split}
 use Rattle.syslog_pieces.proofs.PieceLemmas.Steps.{absent_stays, piece_front}
 use Rattle.syslog_pieces.proofs.StructuredDataLemmas.Units.{decide}
-use Rattle.syslog_pieces.proofs.StructuredDataLemmas.Rfc3164List.{dash_rfc3164_list, full_begins, no_rfc3164_list, rfc3164_list_det}
+use Rattle.syslog_pieces.proofs.StructuredDataLemmas.Rfc3164List.{dash_rfc3164_list, full_begins, no_rfc3164_list}
+use Rattle.syslog_pieces.proofs.StructuredDataLemmas.Rfc3164List.{rfc3164_list_det}
 use Rattle.syslog_loose.specs.declared.message.Protocol.{Protocol}
 use Rattle.syslog_loose.specs.declared.message.Protocol.TheVariants as protocol
 use Rattle.syslog_loose.specs.declared.variant.Variant.{Variant}
@@ -319,9 +320,7 @@ told_by_list dating text t list vs n false e f means h = λ k.
 pub none_differs : (dating : Dating) (text t : Text) → t ≡ trimmed text → NoFront (Row (stamped_row dating)) t
     → ReadsDifferently RFC3164 dating text → ⊥
 none_differs dating text t e n r =
-    let none = (division_is_stamped BeforeAnything dating (trimmed text)).1
-    (subst (λ (x : Text). NoFront (Row (stamped_row dating)) x) e n) in
-    none r.was_read.values r.was_read.division
+    (division_is_stamped BeforeAnything dating (trimmed text)).1 (rw e at n) r.was_read.values r.was_read.division
 
 pub no_dash : (t : Text) → NoFront (exactly (45 ∷ [])) t → BeginsDashChange t → ⊥
 no_dash t n h = n (45 ∷ []) (h.next ∷ h.behind) tt h.is refl

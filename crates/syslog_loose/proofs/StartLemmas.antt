@@ -140,9 +140,6 @@ module _ (variant : Variant) (text : Text) {follows : Text} {p : Option ℕ}
     dated_unread : IsNot5424 text
     dated_unread = shown_apart text d shows_date
 
-    dated_left : IsLeftTo3164 variant text
-    dated_left = left_to_try variant text b.reads (λ n. dated_unread)
-
     -- the date has no timestamp
     pub dated_invalid : (dating : Dating) → IsAnswer (IsMonthStamp dating d) None
         → Answers variant dating text (Err Invalid)
@@ -152,10 +149,9 @@ module _ (variant : Variant) (text : Text) {follows : Text} {p : Option ℕ}
       where
         no_header : NoFront header_stamp b.start
         no_header p q v e h =
-            begins_apart b.start (λ c a l. omega arith)
-            (subst (λ (x : Text). Begins IsLow x) (sym e) (header_stamp_begins p q v h))
-            (subst (λ (x : Text). Begins IsLetter x) (sym b.front.whole)
-            (month_date_begins b.front.piece _ d b.front.is))
+            let low : Begins IsLow b.start = rw e (header_stamp_begins p q v h) in
+            let letter : Begins IsLetter b.start = rw b.front.whole (month_date_begins b.front.piece _ d b.front.is) in
+            begins_apart b.start (λ c a l. omega arith) low letter
 
     -- or one
     pub dated_known : (post : IncompleteDate → ℤ → Type 0) (tz : Option (Bor TimeZone)) (local : Bor TimeZone)
@@ -169,7 +165,7 @@ module _ (variant : Variant) (text : Text) {follows : Text} {p : Option ℕ}
         record {
           year = year;
           answered = date_answered post asked year told is;
-          left = dated_left;
+          left = left_to_try variant text b.reads (λ n. dated_unread);
           front = stamped_front f b.gap dating (date_front dating s b.front h);
         }
 

@@ -103,7 +103,7 @@ form_parts text tag id d =
       some = rw e g3.is.1.0;
       unclosed = rw e g3.is.1.1;
       within = λ f h.
-          let h1 = each_behind f g1.piece t1 (subst (λ (x : Text). Each f x) g1.whole h) in
+          let h1 = each_behind f g1.piece t1 (rw g1.whole at h) in
           let h2 = each_behind f g2.piece t2 (subst (λ (x : Text). Each f x) g2.whole h1) in
           rw e (each_front f g3.piece t3 (subst (λ (x : Text). Each f x) g3.whole h2));
     }

@@ -1,5 +1,5 @@
 -- The texts of a message of RFC 3164 are in the pieces.
-use Rattle.std.proofs.Common.{inl, inr, List, [], ◌∷◌, ◌++◌, Option, Some, None, sym, subst}
+use Rattle.std.proofs.Common.{inl, inr, List, [], ◌∷◌, ◌++◌, Option, Some, None}
 use Rattle.std.specs.List.{flat_map}
 use Rattle.std.specs.Option.{unwrap_or}
 use Rattle.syslog_pieces.specs.Pieces.Class.{Text, run, some_run, exactly, optional, spaced}
@@ -20,7 +20,7 @@ use Rattle.syslog_pieces.proofs.PieceLemmas.Parts.{Quoted, row_quotes, silent, t
 use Rattle.syslog_pieces.proofs.PieceLemmas.Parts.{tag_word_quotes, optional_quotes, optional_texts, spaced_quotes}
 use Rattle.syslog_pieces.proofs.PieceLemmas.Parts.{part_left, part_right, part_joined}
 use Rattle.syslog_pieces.proofs.StructuredDataLemmas.ElementParts.{optional_rfc3164_list_quotes}
-use Rattle.syslog_loose.specs.Message.{MessageValue, message_texts}
+use Rattle.syslog_loose.specs.Message.{MessageValue}
 use Rattle.syslog_loose.specs.Rfc3164.{Names3164, names, Resolves, rfc3164_row, IsRead3164, Quotes3164}
 use Rattle.syslog_loose.specs.TagForm.{form_row, IsForm}
 use Rattle.syslog_loose.proofs.Rfc3164Lemmas.{of_names}
@@ -29,7 +29,7 @@ use Rattle.syslog_pieces.proofs.PieceLemmas.Class.{◌also◌}
 -- ---- parts of texts in pieces
 part_on : (p t u : Text) → IsPart p t → IsPart t u → IsPart p u
 part_on p t u (before, after, e) h =
-    subst (λ (x : Text). IsPart x u) (sym e) (part_right before (t ++ after) u (part_left t after u h))
+    rw e (part_right before (t ++ after) u (part_left t after u h))
 
 part_in : (ps : List Text) (t u : Text) → IsInPieces ps t → IsPart t u → IsInPieces ps u
 part_in [] t u h k = absurd h
@@ -46,10 +46,8 @@ form_parts : (text tag id : Text) → IsForm text tag id → IsPart text tag × 
 unfolding quoted_form
 form_parts text tag id f =
     let all : AreInPieces f.pieces (tag ∷ id ∷ []) =
-    row_quotes form_row quoted_form f.pieces [] (tag, (tt, (id, (tt, tt)))) f.each in (
-      subst (λ (x : Text). IsPart x tag) (sym f.whole) (part_joined f.pieces tag all.0),
-      subst (λ (x : Text). IsPart x id) (sym f.whole) (part_joined f.pieces id all.1.0),
-    )
+    row_quotes form_row quoted_form f.pieces [] (tag, (tt, (id, (tt, tt)))) f.each in
+    (rw f.whole (part_joined f.pieces tag all.0), rw f.whole (part_joined f.pieces id all.1.0))
 
 -- ---- the names
 module _ (ps : List Text) where
@@ -61,7 +59,7 @@ module _ (ps : List Text) where
 
   process_in : (id : Text) (p : ProcId Text) → NamesProcess id p → IsInPieces ps id → AreIn (process_texts (Some p))
   process_in id (PID number) h k = tt
-  process_in id (Name name) h k = (subst (λ (x : Text). IsInPieces ps x) (sym h.1) k, tt)
+  process_in id (Name name) h k = (rw h.1 k, tt)
 
   form_in : (origin : Option Text) (t tag id : Text) (p : ProcId Text) → IsForm t tag id → NamesProcess id p
       → AreIn (text_list origin) → IsInPieces ps t → NamesAreIn (names origin (Some tag) (Some p))
@@ -111,12 +109,10 @@ quotes rule dating text m r =
     let body = flat_map element_texts (elements_or vs.1.1.1.1.1.1.1.1.0) ++ (vs.1.1.1.1.1.1.1.1.1.1.0 ∷ []) in
     let all : AreInPieces ps (origin ++ (program ++ body)) =
     row_quotes (rfc3164_row rule dating) (quoted_row rule dating) ps [] vs r.division.each in
+    let behind = all_right P origin (program ++ body) all in
     let (n, h, e) = r.means in
-    let (a, b, c) =
-    resolved_in ps vs.1.1.1.0 vs.1.1.1.1.0 n h (all_left P origin (program ++ body) all)
-    (all_left P program body (all_right P origin (program ++ body) all)) in
-    let others = all_right P program body (all_right P origin (program ++ body) all) in
-    let inner =
-    all_append P (text_list n.hostname) _ a
-    (all_append P (text_list n.appname) _ b (all_append P (process_texts n.procid) _ c others)) in
-    record { read = r; each = subst (λ (x : MessageValue). AreInPieces ps (message_texts x)) (sym e) inner }
+    let (a, b, c) = resolved_in ps vs.1.1.1.0 vs.1.1.1.1.0 n h (all_left P origin (program ++ body) all)
+    (all_left P program body behind) in
+    let inner = all_append P (text_list n.hostname) _ a (all_append P (text_list n.appname) _ b
+    (all_append P (process_texts n.procid) _ c (all_right P program body behind))) in
+    record { read = r; each = rw e inner }

@@ -64,14 +64,11 @@ many_back (e ∷ es) q h k n = (
   many_back es q h.1 k.1 n,
 )
 
-no_full_space : (t : Text) → NoFront full_element (32 ∷ t)
-no_full_space t p q v e h =
-    let (r, w) = full_begins p q v h in let u : ◌≡◌ {A = ℕ} 32 91 = heads 32 91 t r (e ∙ w) in omega arith
-
 no_full_end : (msg : Text) → NoFront full_element (message_end msg)
 unfolding message_end
 no_full_end [] = no_full_nil
-no_full_end (c ∷ cs) = no_full_space (c ∷ cs)
+no_full_end (c ∷ cs) = λ p q v e h.
+    let (r, w) = full_begins p q v h in let u : ◌≡◌ {A = ℕ} 32 91 = heads 32 91 (c ∷ cs) r (e ∙ w) in omega arith
 
 abbrev pub list_field : List ElementValue → Option (List ElementValue)
 list_field [] = None
@@ -103,12 +100,10 @@ digit_inside c h = grind (arith, nat_tests)
 pub process_chars : (process : ProcId Text) → IsBracketedProcess process → IsBoundedProcess process
     → (0 < length (procid_text process)) × Each is_process_char (procid_text process)
 process_chars (PID (pos n)) h b =
-    let (some, digits) =
-    decimal_digits n (omega (arith, b)) in
+    let (some, digits) = decimal_digits n (omega (arith, b)) in
     (some, each_map is_ascii_digit is_process_char digit_inside (decimal n) digits)
 process_chars (PID (negsuc n)) h b =
-    let (some, digits) =
-    decimal_digits (suc n) (omega (arith, b)) in
+    let (some, digits) = decimal_digits (suc n) (omega (arith, b)) in
     (omega arith, (refl, each_map is_ascii_digit is_process_char digit_inside (decimal (suc n)) digits))
 process_chars (Name t) (some, each, none) b = (some, each)
 
@@ -135,9 +130,6 @@ bracketed_form a i h l k = record {
   each = ((tt, (h, refl), refl), (refl, ((tt, (l, each_right is_tag_char is_open_char i k, refl), refl), (refl, tt))));
 }
 
-pub long_no_dash : (t : Text) → 1 < length t → t ≢ dash
-long_no_dash t l e = let w = ap length e in omega arith
-
 abbrev pub program_field : Option Text → Option (ProcId Text) → Option (Option Text)
 program_field None p = None
 program_field (Some a) None = Some (Some a)
@@ -150,16 +142,13 @@ resolved (Some o) None None h b = inr (h, refl)
 resolved origin None (Some p) h b = absurd h
 resolved origin (Some a) None (l, e, d, n) b = inr (n, refl)
 resolved origin (Some a) (Some p) (e, h) b =
-    let (some, each) =
-    process_chars p h b in inl
-    (a, procid_text p, p, bracketed_form a (procid_text p) e some each, process_named p h b, refl)
+    let (some, each) = process_chars p h b in
+    inl (a, procid_text p, p, bracketed_form a (procid_text p) e some each, process_named p h b, refl)
 
 pub no_tag_colon : (t : Text) → NoFront tag_word (58 ∷ t)
 no_tag_colon t [] q v e h = omega (arith, h.0)
 no_tag_colon t (c ∷ p) q v e h =
-    let u : 58 ≡ c = heads 58 c t (p ++ q) e in
-    let f : is_tag_char 58 ≡ false = refl in
-    let w : true ≡ false = sym h.1.0 ∙ ap is_tag_char (sym u) ∙ f in cc
+    let w : false ≡ true = ap is_tag_char (heads 58 c t (p ++ q) e) ∙ h.1.0 in cc
 
 -- a tag word before the colon, and the blanks behind it
 pub tagged : (w t : Text) → 0 < length w → Each is_tag_char w → w ≢ dash
@@ -189,7 +178,7 @@ tag_back origin (Some a) (Some p) t (e, h) b =
     let (some, each) = process_chars p h b in
     let long = bracketed_long a i in (
       58 ∷ t,
-      tagged (bracketed a i) t (omega arith) (bracketed_chars a i e each) (long_no_dash (bracketed a i) long),
+      tagged (bracketed a i) t (omega arith) (bracketed_chars a i e each) (λ w. omega (arith, long, ap length w)),
       piece_front (run is_blank) [] (58 ∷ t) tt (tt, refl),
     )
 
@@ -255,15 +244,11 @@ module _ (rule : DashRule) (dating : Dating) (m : MessageValue) (e : m.protocol 
 
   row_back : Front (Row (rfc3164_row rule dating)) (whole m (tail_text m.structured_data m.msg)) [] values
   row_back =
-      let t : Text = tail_text m.structured_data m.msg in
-      let u : Text = program_text m.appname m.procid ++ (58 ∷ t) in
-      let y : Text = name_text m.hostname ++ (32 ∷ u) in
-      let body =
-      body_back rule m.structured_data m.msg canonical.elements own.elements canonical.msg_front own.no_list in
-      rows_join to_stamp (from_stamp rule dating) (to_stamp_back m y)
-      (row_cons (rfc3164_stamp dating) (body_row rule) (stamp_back dating m.timestamp y canonical.timestamp)
+      rows_join to_stamp (from_stamp rule dating) (to_stamp_back m _)
+      (row_cons (rfc3164_stamp dating) (body_row rule) (stamp_back dating m.timestamp _ canonical.timestamp)
       (rows_join to_colon (from_blanks rule)
-      (names_back m.hostname m.appname m.procid t canonical.hostname own.names b.procid) body))
+      (names_back m.hostname m.appname m.procid _ canonical.hostname own.names b.procid)
+      (body_back rule m.structured_data m.msg canonical.elements own.elements canonical.msg_front own.no_list)))
 
   means_back : m ≡ told rule dating values (names m.hostname m.appname m.procid)
   means_back =

@@ -1,6 +1,6 @@
 -- What the reader's answers say of a text of RFC 3164.
-use Rattle.std.proofs.Common.{◌≡◌, [], refl, subst}
-use Rattle.syslog_pieces.specs.Pieces.Class.{Text, Values, Division, Front, NoFront, Row}
+use Rattle.std.proofs.Common.{◌≡◌, [], refl}
+use Rattle.syslog_pieces.specs.Pieces.Class.{Text, Values, Front, NoFront, Row}
 use Rattle.syslog_pieces.specs.StructuredData.Rfc3164List.{ListsNoElements}
 use Rattle.syslog_pieces.specs.Text.{trimmed, is_blank}
 use Rattle.syslog_pieces.specs.Timestamp.Zone.{Dating}
@@ -19,16 +19,14 @@ use Rattle.syslog_loose.proofs.Rfc3164Lemmas.Unique.{told}
 pub not_read : (rule : DashRule) (dating : Dating) (text t : Text) → t ≡ trimmed text
     → NoFront (Row (stamped_row dating)) t → IsNot3164 rule dating text
 not_read rule dating text t e n =
-    no_row_division (rfc3164_row rule dating) (subst (λ (x : Text). NoFront (Row (rfc3164_row rule dating)) x) e
-    (rows_none_here (stamped_row dating) (body_row rule) n))
+    no_row_division (rfc3164_row rule dating) (rows_none_here (stamped_row dating) (body_row rule) (rw e at n))
 
 pub is_read : (rule : DashRule) (dating : Dating) (text t : Text) (vs : Values (rfc3164_row rule dating))
     (m : MessageValue) → t ≡ trimmed text → Means3164 rule dating vs m
     → Front (Row (rfc3164_row rule dating)) t [] vs → IsRead3164 rule dating text m
 is_read rule dating text t vs m e means f = record {
   values = vs;
-  division =
-      subst (λ (x : Text). Division (rfc3164_row rule dating) x vs) e (front_division (rfc3164_row rule dating) f);
+  division = front_division (rfc3164_row rule dating) (rw e at f);
   means = means;
 }
 
