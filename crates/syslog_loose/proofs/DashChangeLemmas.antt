@@ -65,8 +65,6 @@ before_det dating = all_joined (stamped_row dating) fields_row (stamped_det dati
 -- ---- lists under the two rules
 
 dash_change_or_not : (t : Text) → BeginsDashChange t ⊎ (BeginsDashChange t → ⊥)
-dash_change_or_not [] = inr (λ h. cc)
-dash_change_or_not (c ∷ []) = inr (λ h. cc)
 dash_change_or_not (c ∷ d ∷ q) = elim (eqb_tells c 45) [
   | inl (_, e) ↦ elim (decide (is_blank d)) [
     | inl b ↦ inr (λ h. cc)
@@ -74,15 +72,15 @@ dash_change_or_not (c ∷ d ∷ q) = elim (eqb_tells c 45) [
   ]
   | inr (_, n) ↦ inr (λ h. n cc)
 ]
+dash_change_or_not t = inr (λ h. cc)
 
 -- where no such dash begins the text, the rules agree
 dash_before : (rule : DashRule) (q : Text) → (BeginsDashChange (45 ∷ q) → ⊥) → IsDashBefore rule q
-dash_before BeforeAnything q n = tt
-dash_before BeforeBlank [] n = tt
 dash_before BeforeBlank (c ∷ q) n = elim (decide (is_blank c)) [
   | inl b ↦ b
   | inr b ↦ absurd (n (record { next = c; behind = q; is = refl; no_blank = b }))
 ]
+dash_before rule q n = tt
 
 list_stays : (rule other : DashRule) (p q : Text) (es : List ElementValue) → (BeginsDashChange (p ++ q) → ⊥)
     → IsRfc3164List rule p q es → IsRfc3164List other p q es
@@ -107,15 +105,14 @@ rows_cut : (As : List Class) (C : Class) (Bs : List Class) (vs : Values (As ++ (
     → (before : List Text) × (p : Text) × (behind : List Text) × (ps ≡ before ++ (p ∷ behind))
     × (length before ≡ length As) × Front (Row As) t (join (p ∷ behind) ++ q) (firsts As (C ∷ Bs) vs)
     × C.Is p (join behind ++ q) (lasts As (C ∷ Bs) vs).0 × Divides Bs behind q (lasts As (C ∷ Bs) vs).1
-rows_cut [] C Bs vs [] e d = absurd d
 rows_cut [] C Bs vs (p ∷ ps) e d =
     ([], p, ps, refl, refl, record { piece = []; whole = e; is = ([], refl, tt) }, d.0, d.1)
-rows_cut (A ∷ As) C Bs vs [] e d = absurd d
 rows_cut (A ∷ As) C Bs vs (a ∷ ps) {q = q} e d =
     let (before, p, behind, is, l, f, g, h) = rows_cut As C Bs vs.1 ps {t = join ps ++ q} refl d.1 in
     let first : Front A _ (join ps ++ q) vs.0 =
     record { piece = a; whole = e ∙ append_assoc a (join ps) q; is = d.0 } in
     (a ∷ before, p, behind, ap (λ (x : List Text). a ∷ x) is, omega (arith, l), row_cons A As first f, g, h)
+rows_cut As C Bs vs ps e d = absurd d
 
 module _ (dating : Dating) (text : Text) where
   -- such a dash begins the text from the list on, or the text is read under the other rule too
@@ -327,27 +324,23 @@ no_dash t n h = n (45 ∷ []) (h.next ∷ h.behind) tt h.is refl
 
 -- ---- the year
 
-any_year : (variant : Variant) (dating other : Dating) (text : Text) (rule : DashRule) (m : MessageValue)
-    → dating.zone ≡ other.zone → dating.local ≡ other.local
-    → ((date : MonthDate) → AsksYear variant text date → ⊥) → IsReadUnder rule variant dating text m
-    → IsReadUnder rule variant other text m
-any_year RFC5424 dating other text rule m z l never r = r
-any_year RFC3164 dating other text rule m z l never r = other_read dating other z l rule text never m r
-any_year Either dating other text rule m z l never (inl r) = inl r
-any_year Either dating other text rule m z l never (inr (none, r)) =
-    inr (none, other_read dating other z l rule text never m r)
+module _ (text : Text) (dating other : Dating) (z : dating.zone ≡ other.zone) (l : dating.local ≡ other.local) where
+  any_year : (variant : Variant) → ((date : MonthDate) → AsksYear variant text date → ⊥) → (rule : DashRule)
+      (m : MessageValue) → IsReadUnder rule variant dating text m → IsReadUnder rule variant other text m
+  any_year RFC5424 never rule m r = r
+  any_year RFC3164 never rule m r = other_read dating other z l rule text never m r
+  any_year Either never rule m (inl r) = inl r
+  any_year Either never rule m (inr (none, r)) = inr (none, other_read dating other z l rule text never m r)
 
-dash_change_in_any : (variant : Variant) (dating other : Dating) (text : Text) → dating.zone ≡ other.zone
-    → dating.local ≡ other.local
-    → ((date : MonthDate) → AsksYear variant text date → ⊥) → ReadsDifferently variant dating text
-    → ReadsDifferently variant other text
-dash_change_in_any variant dating other text z l never r = record {
-  before = r.before;
-  now = r.now;
-  was_read = any_year variant dating other text BeforeAnything r.before z l never r.was_read;
-  is_read = any_year variant dating other text BeforeBlank r.now z l never r.is_read;
-  differ = r.differ;
-}
+  dash_change_in_any : (variant : Variant) → ((date : MonthDate) → AsksYear variant text date → ⊥)
+      → ReadsDifferently variant dating text → ReadsDifferently variant other text
+  dash_change_in_any variant never r = record {
+    before = r.before;
+    now = r.now;
+    was_read = any_year variant never BeforeAnything r.before r.was_read;
+    is_read = any_year variant never BeforeBlank r.now r.is_read;
+    differ = r.differ;
+  }
 
 -- what is told in the year that the closure answered
 pub told_in : (post : IncompleteDate → ℤ → Type 0) (variant : Variant) (text : Text) (tz : Option (Bor TimeZone))
@@ -356,12 +349,11 @@ pub told_in : (post : IncompleteDate → ℤ → Type 0) (variant : Variant) (te
     → InYear post variant text (λ y. IsTrue b ↔ ReadsDifferently variant (dating_of y tz local) text)
 told_in post variant text tz local b year is h =
     in_answered_year post variant text (λ y. IsTrue b ↔ ReadsDifferently variant (dating_of y tz local) text) year is
-    (λ never other told. (
-      λ t. dash_change_in_any variant (dating_of None tz local) (dating_of other tz local) text refl refl never
-          (told.0 t),
-      λ r. told.1 (dash_change_in_any variant (dating_of other tz local) (dating_of None tz local) text refl refl never
-          r),
-    )) h
+    (λ never other told.
+    let none : Dating = dating_of None tz local in
+    let some : Dating = dating_of other tz local in
+    (λ t. dash_change_in_any text none some refl refl variant never (told.0 t),
+    λ r. told.1 (dash_change_in_any text some none refl refl variant never r))) h
 
 -- ---- the answer under each variant
 

@@ -45,13 +45,10 @@ names_once host other text r s (inr (none, e)) (inr (none', e')) = e ∙ sym e'
 -- the two fields mean one thing
 pub resolves_once : (host tag : Option (Option Text)) (r s : Names3164) → Resolves host tag r → Resolves host tag s
     → r ≡ s
-resolves_once None None r s x y = x ∙ sym y
-resolves_once (Some None) None r s x y = x ∙ sym y
 resolves_once (Some (Some h)) None r s x y = names_once None (names (Some h) None None) h r s x y
-resolves_once None (Some None) r s x y = x ∙ sym y
-resolves_once (Some h) (Some None) r s x y = x ∙ sym y
 resolves_once None (Some (Some t)) r s x y = names_once None (names None (Some t) None) t r s x y
 resolves_once (Some h) (Some (Some t)) r s x y = names_once h (names h (Some t) None) t r s x y
+resolves_once v t r s x y = x ∙ sym y
 
 -- What holds of the names that a host field and a tag field mean, case by case: of no names, of a lone text (a host, or
 -- of a program's form), and of a program's text beside what the host field holds (of that form, or not).
@@ -67,13 +64,10 @@ pub record OfNames (P : Option (Option Text) → Option (Option Text) → Names3
 
 module _ (P : Option (Option Text) → Option (Option Text) → Names3164 → Type 0) (k : OfNames P) where
   pub of_names : (v t : Option (Option Text)) (n : Names3164) → Resolves v t n → P v t n
-  of_names None None n e = rw e (k.nobody None None)
-  of_names (Some None) None n e = rw e (k.nobody (Some None) None)
   of_names (Some (Some h)) None n (inl (tag, id, p, f, g, e)) = rw e (k.lone h tag id p f g)
   of_names (Some (Some h)) None n (inr (none, e)) = rw e (k.host h none)
-  of_names None (Some None) n e = rw e (k.nobody None (Some None))
-  of_names (Some h) (Some None) n e = rw e (k.nobody (Some h) (Some None))
   of_names None (Some (Some t)) n (inl (tag, id, p, f, g, e)) = rw e (k.process None t tag id p f g)
   of_names None (Some (Some t)) n (inr (none, e)) = rw e (k.app None t none)
   of_names (Some h) (Some (Some t)) n (inl (tag, id, p, f, g, e)) = rw e (k.process (Some h) t tag id p f g)
   of_names (Some h) (Some (Some t)) n (inr (none, e)) = rw e (k.app (Some h) t none)
+  of_names v t n e = rw e (k.nobody v t)

@@ -82,8 +82,7 @@ module _ {text follows start : Text} {p : Option ℕ} (f : IsBehindPriority text
 asks_is : (variant : Variant) (text : Text) (d : MonthDate)
     → AsksYear variant text d ↔ (ReadsProtocol variant protocol.RFC3164 × ShowsYearless text d)
 asks_is RFC5424 text d = (λ asks. absurd asks, λ k. k.0)
-asks_is RFC3164 text d = (λ h. (tt, h), λ k. k.1)
-asks_is Either text d = (λ h. (tt, h), λ k. k.1)
+asks_is variant text d = (λ h. (tt, h), λ k. k.1)
 
 -- a month date that shows no year is one without a year
 yearless : {t q : Text} (d : MonthDate) → Front month_date t q d → d.year ≡ None → Front yearless_date t q d

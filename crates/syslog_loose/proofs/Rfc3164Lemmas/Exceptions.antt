@@ -55,10 +55,8 @@ bracketed_of (Name t) (l, a, none) k = (
 -- ---- the names
 near_of : (host app : Option Text) (process : Option (ProcId Text)) → AreCanonicalNames host app process
     → AreNamesButExceptions host app process
-near_of host None None h = h
-near_of host None (Some p) h = h
-near_of host (Some a) None h = h
 near_of host (Some a) (Some p) h = (h.0, inner_of p h.1)
+near_of host app process h = h
 
 pub no_colon_names : (host app : Option Text) (process : Option (ProcId Text)) → AreCanonicalNames host app process
     → IfSome process HasNoColon
@@ -68,10 +66,8 @@ no_colon_names host (Some a) (Some p) h = no_colon_of p h.1
 
 pub canonical_names : (host app : Option Text) (process : Option (ProcId Text)) → AreNamesButExceptions host app process
     → IfSome process HasNoColon → AreCanonicalNames host app process
-canonical_names host None None h k = h
-canonical_names host None (Some p) h k = h
-canonical_names host (Some a) None h k = h
 canonical_names host (Some a) (Some p) h k = (h.0, bracketed_of p h.1 k)
+canonical_names host app process h k = h
 
 -- ---- the message
 pub canonical_near : (rule : DashRule) (m : MessageValue) → m.protocol ≡ RFC3164 → IsCanonical rule m

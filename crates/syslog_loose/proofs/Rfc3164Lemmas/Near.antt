@@ -57,9 +57,8 @@ field_canonical rule p q (Some es) (inr (l, h)) = many_canonical p q es h
 
 -- ---- the host field: only before a colon its text is `-`, or ends in a colon
 abbrev pub HostField : Text → Option (Option Text) → Type 0
-HostField q None = Unit {0}
-HostField q (Some None) = Unit {0}
 HostField q (Some (Some h)) = IsVisible h × (IsOddHost h → (r : Text) × (q ≡ 58 ∷ r))
+HostField q field = Unit {0}
 
 host_text : (p q : Text) (v : Option Text) → IsHost p q v → HostField q (Some v)
 host_text p q None h = tt
@@ -76,16 +75,14 @@ abbrev IsTagText : Text → Type 0
 IsTagText w = (0 < length w) × Each is_tag_char w × (w ≢ dash)
 
 abbrev pub TagField : Text → Option (Option Text) → Type 0
-TagField t None = Unit {0}
-TagField t (Some None) = Unit {0}
 TagField t (Some (Some w)) = IsTagText w × ((r : Text) × (t ≡ 32 ∷ r))
+TagField t field = Unit {0}
 
 pub tag_field : (t q : Text) (v : Option (Option Text)) → Front (optional (spaced tag_word)) t q v → TagField t v
-tag_field t q None f = tt
-tag_field t q (Some None) f = tt
 tag_field t q (Some (Some w)) f =
     let (r, e, g) = spaced_parts tag_word (present_front (spaced tag_word) f) in
     let (l, a, b, (i, d)) = g.is in (rw i (l, a, d), (r, e))
+tag_field t q field f = tt
 
 -- ---- the form
 record FormParts (text tag id : Text) : Type 0 where
@@ -136,13 +133,12 @@ CanonicalField v host app =
 -- before a space the host is not odd
 before_space : (q : Text) (v : Option (Option Text)) (app : Option Text) → HostField q v
     → ((r : Text) × (q ≡ 32 ∷ r)) → CanonicalField v (unwrap_or v None) app
-before_space q None app k s = (tt, tt, tt)
-before_space q (Some None) app k s = (tt, tt, tt)
 before_space q (Some (Some h)) app (v, o) (r, w) = (
   v,
   λ x. absurd (let (s, y) = o x in let t : ◌≡◌ {A = ℕ} 58 32 = heads 58 32 s r (sym y ∙ w) in omega arith),
   refl,
 )
+before_space q field app k s = (tt, tt, tt)
 
 pub near_names : (q : Text) (origin program : Option (Option Text)) (n : Names3164) → Resolves origin program n
     → HostField q origin → TagField q program → NearNames origin n

@@ -44,19 +44,8 @@ returns-clause-read c dating whole f =
     is_read rule dating whole _ _ _ refl (
       names_value names,
       fields.means,
-      (λ i. record {
-        protocol = RFC3164;
-        facility = parts.facility i;
-        severity = parts.severity i;
-        timestamp = c.args.stamped.timestamp;
-        hostname = seen names.hostname;
-        appname = seen names.appname;
-        procid = option_map (procid_value (λ s. shown s)) names.procid;
-        msgid = None;
-        structured_data = elements_seen c.in_ok-elements.elements c.new.result c.unwrap_or.result c.new.ensures.items
-            c.unwrap_or.ensures i;
-        msg = shown c.blanks-msg.result;
-      }),
+      simp (parts.facility, parts.severity, elements_seen c.in_ok-elements.elements c.new.result c.unwrap_or.result
+          c.new.ensures.items c.unwrap_or.ensures),
     )
     (rows_join (stamped_row dating) (body_row rule) f
     (rows_join fields_row (from_list rule) fields.front
