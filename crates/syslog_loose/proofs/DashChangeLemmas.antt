@@ -39,7 +39,6 @@ use Rattle.syslog_loose.specs.Rfc3164.{Names3164, Resolves, stamped_row, fields_
 use Rattle.syslog_loose.proofs.Rfc3164Lemmas.Rows.{from_gap, from_list, gap_back}
 use Rattle.syslog_loose.proofs.Rfc3164Lemmas.Unique as rfc3164
 use Rattle.syslog_loose.proofs.Rfc5424Lemmas as strict
-use Rattle.syslog_loose.proofs.Rfc3164Lemmas.Unique.{stamped_det, fields_det}
 
 -- ---- the condition
 
@@ -60,7 +59,7 @@ abbrev pub before_list : Dating → List Class
 before_list dating = stamped_row dating ++ fields_row
 
 pub before_det : (dating : Dating) → AllDeterministic (before_list dating)
-before_det dating = all_joined (stamped_row dating) fields_row (stamped_det dating) fields_det
+before_det dating = all_joined (stamped_row dating) fields_row (rfc3164.stamped_det dating) rfc3164.fields_det
 
 -- ---- lists under the two rules
 
@@ -351,9 +350,10 @@ told_in post variant text tz local b year is h =
     in_answered_year post variant text (λ y. IsTrue b ↔ ReadsDifferently variant (dating_of y tz local) text) year is
     (λ never other told.
     let none : Dating = dating_of None tz local in
-    let some : Dating = dating_of other tz local in
-    (λ t. dash_change_in_any text none some refl refl variant never (told.0 t),
-    λ r. told.1 (dash_change_in_any text some none refl refl variant never r))) h
+    let some : Dating = dating_of other tz local in (
+      λ t. dash_change_in_any text none some refl refl variant never (told.0 t),
+      λ r. told.1 (dash_change_in_any text some none refl refl variant never r),
+    )) h
 
 -- ---- the answer under each variant
 

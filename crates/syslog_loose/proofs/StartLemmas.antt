@@ -4,7 +4,7 @@ use Rattle.std.proofs.Common.{subst, ◌∙◌, arith}
 use Rattle.std.specs.Borrow.{Bor}
 use Rattle.std.specs.Prelude.{◌↔◌, MatchOption, IsSome, IsSomeAnd}
 use Rattle.syslog_pieces.specs.Pieces.View.{shown, Reads}
-use Rattle.syslog_pieces.specs.Pieces.Class.{Text, Class, Front, NoFront, Row, run, optional}
+use Rattle.syslog_pieces.specs.Pieces.Class.{Text, Class, Front, NoFront, run, optional}
 use Rattle.syslog_pieces.specs.Pri.{priority}
 use Rattle.syslog_pieces.specs.Text.{trimmed, is_blank}
 use Rattle.syslog_pieces.specs.Timestamp.{IsAnswer, header_stamp}
@@ -68,15 +68,12 @@ neither Either dating text strict loose = λ m r. elim r [
   | inr (also, s) ↦ loose tt s.values s.division
 ]
 
--- ---- the timestamp
-module _ {text follows start : Text} {p : Option ℕ} (f : IsBehindPriority text p follows)
-    (gap : Front (run is_blank) follows start tt) (dating : Dating) where
-  stamped_front : {q : Text} {v : Option OffsetTimestamp} → Front (rfc3164_stamp dating) start q v
-      → IsBehindStamp dating text (record { priority = p; timestamp = v }) q
-  stamped_front s = row_of (stamped_row dating) (f then gap then s then refl)
-
-  no_stamp : NoFront (rfc3164_stamp dating) start → NoFront (Row (stamped_row dating)) text
-  no_stamp none = no_row (stamped_row dating) (stamped_det dating) (f past gap past inl none)
+-- where no timestamp of RFC 3164 stands behind the blanks, the text has no division
+unstamped : (text : Text) {follows start : Text} {p : Option ℕ} → IsBehindPriority (trimmed text) p follows
+    → Front (run is_blank) follows start tt → (dating : Dating) → NoFront (rfc3164_stamp dating) start
+    → IsNot3164 dash_rule dating text
+unstamped text f gap dating none = not_read dash_rule dating text (trimmed text) refl
+    (no_row (stamped_row dating) (stamped_det dating) (f past gap past inl none))
 
 -- ---- the year
 asks_is : (variant : Variant) (text : Text) (d : MonthDate)
@@ -143,8 +140,8 @@ module _ (variant : Variant) (text : Text) {follows : Text} {p : Option ℕ}
     pub dated_invalid : (dating : Dating) → IsAnswer (IsMonthStamp dating d) None
         → Answers variant dating text (Err Invalid)
     dated_invalid dating none =
-        neither variant dating text (λ n. dated_unread) (λ reads. not_read dash_rule dating text (trimmed text) refl
-        (no_stamp f b.gap dating (no_stamp_of_date dating no_header d b.front none)))
+        neither variant dating text (λ n. dated_unread)
+        (λ reads. unstamped text f b.gap dating (no_stamp_of_date dating no_header d b.front none))
       where
         no_header : NoFront header_stamp b.start
         no_header p q v e h =
@@ -165,7 +162,7 @@ module _ (variant : Variant) (text : Text) {follows : Text} {p : Option ℕ}
           year = year;
           answered = date_answered post asked year told is;
           left = left_to_try variant text b.reads (λ n. dated_unread);
-          front = stamped_front f b.gap dating (date_front dating s b.front h);
+          front = row_of (stamped_row dating) (f then b.gap then date_front dating s b.front h then refl);
         }
 
   -- no month date stands there
@@ -182,8 +179,7 @@ module _ (variant : Variant) (text : Text) {follows : Text} {p : Option ℕ}
         → (dating : Dating) → Answers variant dating text (Err Invalid)
     undated_invalid header strict dating = neither variant dating text strict (λ reads.
         let (start, gap) = some_front_run is_blank follows in
-        not_read dash_rule dating text (trimmed text) refl
-        (no_stamp f gap dating (no_date dating (header reads start gap) (without reads start gap))))
+        unstamped text f gap dating (no_date dating (header reads start gap) (without reads start gap)))
 
     -- or another one
     pub other_known : (post : IncompleteDate → ℤ → Type 0) (tz : Option (Bor TimeZone)) (local : Bor TimeZone)
@@ -196,7 +192,7 @@ module _ (variant : Variant) (text : Text) {follows : Text} {p : Option ℕ}
           year = None;
           answered = asks_none;
           left = left_to_try variant text b.reads strict;
-          front = stamped_front f b.gap dating (header_front dating b.front);
+          front = row_of (stamped_row dating) (f then b.gap then header_front dating b.front then refl);
         }
 
 -- ---- what the readers of the two protocols answer

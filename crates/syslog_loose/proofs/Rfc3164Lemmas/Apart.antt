@@ -34,8 +34,7 @@ digit_range c h = grind (arith, nat_tests)
 
 pub number_begins : (limit : ℕ) {t q : Text} {n : ℕ} → Front (number limit) t q n → Begins IsDigit t
 number_begins limit {q = q} f =
-    subst (λ (x : Text). Begins IsDigit x) (sym f.whole)
-    (begins_more IsDigit f.piece q (each_begins is_ascii_digit f.piece f.is.0 f.is.1))
+    rw f.whole (begins_more IsDigit f.piece q (each_begins is_ascii_digit f.piece f.is.0 f.is.1))
 
 -- no blank stands before a digit
 no_blanks : (p q : Text) → Each is_blank p → Begins IsDigit (p ++ q) → p ≡ []
@@ -44,7 +43,7 @@ no_blanks (c ∷ p) q a b = absurd (let t = blank_low c a.0 in let u = digit_ran
 
 stays : {t q : Text} → Begins IsDigit t → Front (run is_blank) t q tt → t ≡ q
 stays {t = t} {q = q} b f =
-    f.whole ∙ ap (λ (x : Text). x ++ q) (no_blanks f.piece q f.is.0 (subst (λ (x : Text). Begins IsDigit x) f.whole b))
+    f.whole ∙ ap (λ (x : Text). x ++ q) (no_blanks f.piece q f.is.0 (rw f.whole at b))
 
 -- ---- a version, which no timestamp begins with
 

@@ -1,11 +1,10 @@
 -- A message of RFC 3164 that is read from its own printed text is canonical: its division, moved piece by piece to the
 -- places that the printed text has.
-use Rattle.std.proofs.Common.{◌≡◌, ◌↔◌, ◌⊎◌, ℕ, ◌<◌, ◌≤◌, inl, inr, List, [], ◌∷◌, ◌++◌, length, Option, Some, None}
+use Rattle.std.proofs.Common.{◌≡◌, ◌↔◌, ◌⊎◌, ◌<◌, ◌≤◌, inl, inr, List, [], ◌∷◌, ◌++◌, length, Option, Some, None}
 use Rattle.std.proofs.Common.{IfSome, IsSome, refl, sym, ap, subst, ◌∙◌, arith, append_assoc}
 use Rattle.std.proofs.lemmas.List.{length-append}
 use Rattle.std.specs.Char.{is_not_whitespace}
 use Rattle.syslog_pieces.specs.Pieces.Class.{Text, Values, Front, NoFront, Row, Each, Ends, run, optional, spaced}
-use Rattle.syslog_pieces.specs.Pri.{facility_of}
 use Rattle.syslog_pieces.specs.StructuredData.Element.{ElementValue}
 use Rattle.syslog_pieces.specs.StructuredData.Rfc3164List.{BeginsNoList, rfc3164_list, elements_or}
 use Rattle.syslog_pieces.specs.Text.{trimmed, is_blank, dash, colon, name_text, IsHost, host, tag_word}
@@ -39,7 +38,7 @@ use Rattle.syslog_loose.proofs.Rfc3164Lemmas.ReadBack.{canonical_back, to_stamp_
 use Rattle.syslog_loose.proofs.Rfc3164Lemmas.Rows.{from_list, from_blanks, to_stamp, to_colon, from_tag_end, from_tag}
 use Rattle.syslog_loose.proofs.Rfc3164Lemmas.Rows.{from_stamp, to_stamp_det, to_colon_det}
 use Rattle.syslog_loose.proofs.Rfc3164Lemmas.Unique.{told}
-use Rattle.syslog_loose.proofs.Rfc3164Lemmas.Whole.{program_text, whole, tail_text, trimmed_whole}
+use Rattle.syslog_loose.proofs.Rfc3164Lemmas.Whole.{program_text, tail_text, trimmed_whole}
 use Rattle.syslog_loose.proofs.TrimLemmas.{message_blanks}
 use Rattle.syslog_pieces.proofs.PieceLemmas.Rows.{row_pieces}
 
@@ -127,12 +126,6 @@ end_list rule vs n b d =
     begins_no_list rule msg (list_none rule msg t9 vs.1.0 g9 n
     (omega (arith, ap length (rest_whole g11), front_longer (run is_blank) g10)))
 
--- ---- the priority
-
--- each printed priority has a facility and a severity
-facility_there : (pri : ℕ) → pri < 192 → IsSome (facility_of pri)
-facility_there pri h = let (f, s, there, told, whole) = priority_composed pri h in subst IsSome (sym there) refl
-
 -- ---- the message
 
 -- the message of these pieces, read from its own printed text
@@ -170,8 +163,8 @@ module _ (rule : DashRule) (dating : Dating) (v : Values (rfc3164_row rule datin
       let names = canonical_names n.hostname n.appname n.procid named.names no_colon in
       let (_, d8) = rows_step to_colon (from_blanks rule) to_colon_det {vs = v.1.1.1}
       (names_back n.hostname n.appname n.procid t stays names b.procid) d4 in
-      let facility : IsSome m.facility = rw (ap (λ (x : Values to_stamp). x.0) first)
-      (facility_there (priority_of m) (priority_small m)) in
+      let (_, _, there, _, _) = priority_composed (priority_of m) (priority_small m) in
+      let facility : IsSome m.facility = rw (ap (λ (x : Values to_stamp). x.0) first, there) refl in
       near_canonical rule m (
         record { facility = facility; severity = severity_beside v.0 facility; rest = near },
         record {

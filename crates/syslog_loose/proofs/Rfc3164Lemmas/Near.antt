@@ -71,11 +71,8 @@ host_field t q (Some v) f =
     let (r, e, g) = spaced_parts host (present_front (spaced host) f) in host_text g.piece q v g.is
 
 -- ---- the tag field: a word behind a space
-abbrev IsTagText : Text → Type 0
-IsTagText w = (0 < length w) × Each is_tag_char w × (w ≢ dash)
-
 abbrev pub TagField : Text → Option (Option Text) → Type 0
-TagField t (Some (Some w)) = IsTagText w × ((r : Text) × (t ≡ 32 ∷ r))
+TagField t (Some (Some w)) = ((0 < length w) × Each is_tag_char w × (w ≢ dash)) × ((r : Text) × (t ≡ 32 ∷ r))
 TagField t field = Unit {0}
 
 pub tag_field : (t q : Text) (v : Option (Option Text)) → Front (optional (spaced tag_word)) t q v → TagField t v

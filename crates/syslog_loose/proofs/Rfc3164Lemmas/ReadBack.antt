@@ -35,7 +35,7 @@ use Rattle.syslog_pieces.proofs.TextLemmas.ReadBack.{host_back, decimal_digits}
 use Rattle.syslog_pieces.proofs.StructuredDataLemmas.Rfc3164List.{full_begins, no_full_nil, no_rfc3164_list}
 use Rattle.syslog_pieces.proofs.TimestampLemmas.RoundTrip.{printed_stamp-back}
 use Rattle.syslog_loose.specs.Canonical.{IsBoundedProcess, IsBounded, IsCanonicalHost, IsCanonicalElement}
-use Rattle.syslog_loose.specs.Canonical.{is_process_char, IsBracketedProcess, AreCanonicalNames, IsCanonicalInBoth}
+use Rattle.syslog_loose.specs.Canonical.{is_process_char, IsBracketedProcess, AreCanonicalNames}
 use Rattle.syslog_loose.specs.Canonical.{IsCanonical3164, IsCanonicalFor, IsCanonical}
 use Rattle.syslog_loose.specs.Message.{MessageValue}
 use Rattle.syslog_loose.specs.Printed.{timestamp_text, priority_of, printed_3164}
@@ -114,9 +114,6 @@ process_named (Name t) (some, each, none) b = (none, refl)
 
 -- ---- the names
 
-pub bracketed_long : (a i : Text) → 1 < length (bracketed a i)
-bracketed_long a i = omega (arith, length-append a (91 ∷ (i ++ (93 ∷ []))), length-append i (93 ∷ []))
-
 pub bracketed_chars : (a i : Text) → Each is_label_char a → Each is_process_char i → Each is_tag_char (bracketed a i)
 bracketed_chars a i h k =
     each_append is_tag_char a (91 ∷ (i ++ (93 ∷ []))) (each_left is_tag_char (λ c. not (nat_eq c 91)) a h)
@@ -176,7 +173,8 @@ tag_back origin (Some a) None t (l, e, d, n) b =
 tag_back origin (Some a) (Some p) t (e, h) b =
     let i = procid_text p in
     let (some, each) = process_chars p h b in
-    let long = bracketed_long a i in (
+    let long : 1 < length (bracketed a i) =
+    omega (arith, length-append a (91 ∷ (i ++ (93 ∷ []))), length-append i (93 ∷ [])) in (
       58 ∷ t,
       tagged (bracketed a i) t (omega arith) (bracketed_chars a i e each) (λ w. omega (arith, long, ap length w)),
       piece_front (run is_blank) [] (58 ∷ t) tt (tt, refl),
@@ -228,9 +226,6 @@ parts_back (Some f) (Some s) h k = (sym (facility_composed f s), sym (severity_c
 -- ---- the message
 module _ (rule : DashRule) (dating : Dating) (m : MessageValue) (e : m.protocol ≡ RFC3164) (b : IsBounded m)
     (c : IsCanonical rule m) where
-  canonical : IsCanonicalInBoth m
-  canonical = c.0
-
   own : IsCanonical3164 rule m
   own = subst (λ (x : Protocol). IsCanonicalFor rule x m) e c.1
 
@@ -245,14 +240,14 @@ module _ (rule : DashRule) (dating : Dating) (m : MessageValue) (e : m.protocol 
   row_back : Front (Row (rfc3164_row rule dating)) (whole m (tail_text m.structured_data m.msg)) [] values
   row_back =
       rows_join to_stamp (from_stamp rule dating) (to_stamp_back m _)
-      (row_cons (rfc3164_stamp dating) (body_row rule) (stamp_back dating m.timestamp _ canonical.timestamp)
+      (row_cons (rfc3164_stamp dating) (body_row rule) (stamp_back dating m.timestamp _ c.0.timestamp)
       (rows_join to_colon (from_blanks rule)
-      (names_back m.hostname m.appname m.procid _ canonical.hostname own.names b.procid)
-      (body_back rule m.structured_data m.msg canonical.elements own.elements canonical.msg_front own.no_list)))
+      (names_back m.hostname m.appname m.procid _ c.0.hostname own.names b.procid)
+      (body_back rule m.structured_data m.msg c.0.elements own.elements c.0.msg_front own.no_list)))
 
   means_back : m ≡ told rule dating values (names m.hostname m.appname m.procid)
   means_back =
-      let parts = parts_back m.facility m.severity canonical.facility canonical.severity in
+      let parts = parts_back m.facility m.severity c.0.facility c.0.severity in
       λ i. record m {
         protocol = e i;
         facility = parts.0 i;
@@ -266,7 +261,7 @@ module _ (rule : DashRule) (dating : Dating) (m : MessageValue) (e : m.protocol 
     values = values;
     division = front_division (rfc3164_row rule dating)
         (subst (λ (x : Text). Front (Row (rfc3164_row rule dating)) x [] values)
-        (sym (trimmed_whole m canonical.msg_end)) row_back);
+        (sym (trimmed_whole m c.0.msg_end)) row_back);
     means = (
       names m.hostname m.appname m.procid,
       resolved m.hostname m.appname m.procid own.names b.procid,

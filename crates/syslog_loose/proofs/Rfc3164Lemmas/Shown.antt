@@ -1,12 +1,12 @@
 -- What a text shows: a date has one of twelve months, and numbers of 32 bits.
-use Rattle.std.proofs.Common.{◌≡◌, ℕ, ◌≤◌, ◌<◌, ◌∷◌, Option, refl, ap, arith, map}
+use Rattle.std.proofs.Common.{◌≡◌, ℕ, ◌<◌, ◌∷◌, Option, refl, ap, arith, map}
 use Rattle.std.proofs.lemmas.Option.{slice_get_within}
 use Rattle.std.specs.Char.{to_ascii_lowercase}
 use Rattle.syslog_pieces.specs.Pieces.Class.{Text, Class, Values, Front, Row, some_run, run, optional}
 use Rattle.syslog_pieces.specs.Pri.{priority}
 use Rattle.syslog_pieces.specs.Text.{trimmed, is_blank}
 use Rattle.syslog_pieces.specs.Timestamp.Rfc3164.{showing_row, BeginsWithDate, ShowsYearless, ShowsMonthDate}
-use Rattle.syslog_pieces.specs.Timestamp.MonthDate.{month_names, IsMonthName, month, short_number, clock_row}
+use Rattle.syslog_pieces.specs.Timestamp.MonthDate.{month_names, month, short_number, clock_row}
 use Rattle.syslog_pieces.specs.Timestamp.MonthDate.{yearless_row, yearless_of, yearless_date, dated_date, month_date}
 use Rattle.syslog_pieces.specs.declared.timestamp.month_date.MonthDate.{MonthDate}
 use Rattle.syslog_pieces.proofs.PieceLemmas.Class.{division_front, front_division, rest_front, unique_division, ◌also◌}
@@ -17,18 +17,14 @@ use Rattle.syslog_pieces.proofs.PriLemmas.{priority_det}
 use Rattle.syslog_pieces.proofs.TimestampLemmas.MonthDate.{month_date_det}
 use Rattle.syslog_loose.specs.Reading.{incomplete, HasMonth}
 
-month_range : (p : Text) (n : ℕ) → IsMonthName p n → (1 ≤ n) × (n ≤ 12)
-month_range p n (before, e, at) =
-    let within : before < 12 = slice_get_within month_names before (map to_ascii_lowercase p) at in
-    (omega arith, omega arith)
-
 row_has_month : {t q : Text} (vs : Values yearless_row) → Front (Row yearless_row) t q vs
     → HasMonth (incomplete (yearless_of vs))
 row_has_month vs f =
     let (_, f1, more) = row_pieces (month ∷ some_run is_blank ∷ short_number ∷ some_run is_blank ∷ clock_row) f in
     let (_, _, (_, f3, (_, _, (_, f5, (_, _, (_, f7, (_, _, (_, f9, _)))))))) = more in
-    let (low, high) = month_range f1.piece vs.0 f1.is in
-    (low, high, omega (arith, f3.is.4), omega (arith, f5.is.4), omega (arith, f7.is.4), omega (arith, f9.is.4))
+    let (before, e, at) = f1.is in
+    let within : before < 12 = slice_get_within month_names before (map to_ascii_lowercase f1.piece) at in
+    (omega arith, omega arith, omega (arith, f3.is.4), omega (arith, f5.is.4), omega (arith, f7.is.4), omega (arith, f9.is.4))
 
 pub date_has_month : {t q : Text} (d : MonthDate) → Front yearless_date t q d → HasMonth (incomplete d)
 date_has_month {t} {q} d f =
