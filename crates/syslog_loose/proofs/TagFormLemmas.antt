@@ -16,9 +16,6 @@ use Rattle.syslog_pieces.proofs.PieceLemmas.Rows.{Fails, row_pieces, no_row}
 abbrev pub label : Class
 label = texted (run is_label_char)
 
-abbrev pub opening : Class
-opening = exactly (91 ∷ [])
-
 abbrev pub id_text : Class
 id_text = texted (some_run is_open_char)
 
@@ -26,7 +23,7 @@ abbrev pub closing : Class
 closing = exactly (93 ∷ [])
 
 abbrev pub to_closing : List Class
-to_closing = label ∷ opening ∷ id_text ∷ []
+to_closing = label ∷ exactly (91 ∷ []) ∷ id_text ∷ []
 
 to_closing_det : AllDeterministic to_closing
 to_closing_det =

@@ -186,8 +186,8 @@ module _ (rule : DashRule) (dating : Dating) (text : Text) where
       let v = r.values in
       let (n, resolves, means) = r.means in
       let row = division_front (rfc3164_row rule dating) r.division in
-      let (_, _, more) = row_pieces (rfc3164_row rule dating) row in
-      let (_, _, (t3, g3, (t4, g4, (t5, g5, (_, _, (_, _, (t8, _, (t9, g9, (_, g10, (_, g11, _)))))))))) = more in
+      let (_, _, (_, _, (t3, g3, (t4, g4, (t5, g5, (_, _, (_, _, (t8, _, (t9, g9, (_, g10, (_, g11, _))))))))))) =
+      row_pieces (rfc3164_row rule dating) row in
       let near = near_names t4 v.1.1.1.0 v.1.1.1.1.0 n resolves (host_field t3 t4 v.1.1.1.0 g4)
       (tag_field t4 t5 v.1.1.1.1.0 g5) in
       let canonical = field_canonical rule g9.piece t9 v.1.1.1.1.1.1.1.1.0 g9.is in
@@ -223,8 +223,8 @@ module _ (rule : DashRule) (dating : Dating) (text : Text) where
   pub stamp_read : (m : MessageValue) → IsRead3164 rule dating text m → IfSome m.timestamp IsOfKind
   stamp_read m r =
       let (n, resolves, means) = r.means in
-      let (t1, g1, more) = row_pieces (rfc3164_row rule dating) (division_front (rfc3164_row rule dating) r.division) in
-      let (t2, g2, (t3, g3, _)) = more in
+      let (t1, g1, (t2, g2, (t3, g3, _))) = row_pieces (rfc3164_row rule dating)
+      (division_front (rfc3164_row rule dating) r.division) in
       rw means (stamp_kind r.values.0 t1 t2 t3 r.values.1.1.0 g1 g2 g3)
 
   -- with a facility there is a severity

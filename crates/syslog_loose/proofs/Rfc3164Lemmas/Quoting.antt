@@ -85,12 +85,9 @@ module _ (ps : List Text) where
 quoted_row : (rule : DashRule) (dating : Dating) → Quoted (rfc3164_row rule dating)
 quoted_row rule dating =
     silent (optional priority) also silent (run is_blank) also silent (rfc3164_stamp dating)
+    also (optional_texts text_list, optional_quotes (spaced host) text_list (spaced_quotes host text_list host_quotes))
     also (
-      (λ v. optional_texts text_list v),
-      optional_quotes (spaced host) text_list (spaced_quotes host text_list host_quotes),
-    )
-    also (
-      (λ v. optional_texts text_list v),
+      optional_texts text_list,
       optional_quotes (spaced tag_word) text_list (spaced_quotes tag_word text_list tag_word_quotes),
     )
     also silent (run is_blank) also silent (optional (exactly colon)) also silent (run is_blank)
