@@ -3,7 +3,7 @@ use Rattle.std.proofs.Common.{◌≡◌, ◌↔◌, ◌⊎◌, inl, inr, ℕ, �
 use Rattle.std.proofs.Common.{length, Option, Some, None, refl, sym, ap, ◌∙◌, arith, append_assoc, append-nil}
 use Rattle.std.proofs.Math.Seq.{drop-append_seam}
 use Rattle.std.proofs.lemmas.Bool.Decides.{eqb_tells}
-use Rattle.syslog_pieces.specs.Pieces.Class.{Text, Class, Values, Front, NoFront, join, Divides, Row, Ends, exactly}
+use Rattle.syslog_pieces.specs.Pieces.Class.{Text, Class, Values, Front, NoFront, join, Divides, Row, Ends}
 use Rattle.syslog_pieces.specs.Pieces.Class.{optional, run}
 use Rattle.syslog_pieces.specs.StructuredData.Element.{ElementValue}
 use Rattle.syslog_pieces.specs.StructuredData.Rfc3164List.{IsDashBefore, IsRfc3164List, rfc3164_list, BeginsNoList}
@@ -317,9 +317,6 @@ pub none_differs : (dating : Dating) (text t : Text) → t ≡ trimmed text → 
     → ReadsDifferently RFC3164 dating text → ⊥
 none_differs dating text t e n r =
     (division_is_stamped BeforeAnything dating (trimmed text)).1 (rw e at n) r.was_read.values r.was_read.division
-
-pub no_dash : (t : Text) → NoFront (exactly (45 ∷ [])) t → BeginsDashChange t → ⊥
-no_dash t n h = n (45 ∷ []) (h.next ∷ h.behind) tt h.is refl
 
 -- ---- the year
 

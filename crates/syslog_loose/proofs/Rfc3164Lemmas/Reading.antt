@@ -31,15 +31,15 @@ is_read rule dating text t vs m e means f = record {
 }
 
 -- Behind a timestamp and fields, a list with elements gives a message with elements.
-pub list_needs_none : (rule : DashRule) (dating : Dating) (text t u w : Text) (vs : Values (stamped_row dating))
-    (ws : Values fields_row) (n : Names3164)
-    → t ≡ trimmed text → NeedsNoMemory3164 rule dating text → Front (Row (stamped_row dating)) t u vs
-    → Front (Row fields_row) u w ws → Resolves ws.0 ws.1.0 n → ListsNoElements rule w
-list_needs_none rule dating text t u w vs ws n e none stamped fields means q es list =
+pub list_needs_none : (rule : DashRule) (dating : Dating) (text : Text) {u w : Text} {vs : Values (stamped_row dating)}
+    {ws : Values fields_row} (n : Names3164) → NeedsNoMemory3164 rule dating text
+    → Front (Row (stamped_row dating)) (trimmed text) u vs → Front (Row fields_row) u w ws → Resolves ws.0 ws.1.0 n
+    → ListsNoElements rule w
+list_needs_none rule dating text {vs = vs} {ws = ws} n none stamped fields means q es list =
     let (r, gap) = some_front_run is_blank q in
     let all = both_values (stamped_row dating) (body_row rule) vs
     (both_values fields_row (from_list rule) ws (es, (tt, (r, tt)))) in
     let row = rows_join (stamped_row dating) (body_row rule) stamped
     (rows_join fields_row (from_list rule) fields
     (row_of (from_list rule) (list then gap then rest_front r then refl))) in
-    none (told rule dating all n) (is_read rule dating text t all (told rule dating all n) e (n, means, refl) row)
+    none _ (is_read rule dating text _ all (told rule dating all n) refl (n, means, refl) row)

@@ -16,8 +16,8 @@ use Rattle.syslog_loose.proofs.rfc3164.read_behind.Goals as goal
 pub returns-in_err-elements-clause-memory : goal.returns-in_err-elements-clause-memory
 returns-in_err-elements-clause-memory c dating whole f none =
     let fields = c.read_names.ensures in
-    let needless = list_needs_none c.args.rule dating whole _ _ _ _ _ (names_value c.read_names.result.0) refl none f
-    fields.front fields.means in
+    let needless = list_needs_none c.args.rule dating whole (names_value c.read_names.result.0) none f fields.front
+    fields.means in
     let refused : false ≡ true = c.in_err-elements.ensures.memory needless in absurd (cc)
 
 -- the elements that were collected, none where there is no list
