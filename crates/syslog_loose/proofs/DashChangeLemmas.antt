@@ -164,8 +164,8 @@ module _ (dating : Dating) (text : Text) where
       (firsts (before_list dating) (from_list BeforeAnything) d.read.values)
   dropped_at d =
       let r = d.read.division in
-      let (before, p, ps, e, l, f, _, _) = rows_cut (before_list dating) (optional (rfc3164_list BeforeAnything)) from_gap
-      d.read.values r.pieces (r.whole ∙ sym (append-nil _)) r.each in
+      let (before, p, ps, e, l, f, _, _) = rows_cut (before_list dating) (optional (rfc3164_list BeforeAnything))
+      from_gap d.read.values r.pieces (r.whole ∙ sym (append-nil _)) r.each in
       let place = d.place in
       let a = drop-append_seam before (p ∷ ps) in
       let b = drop-append_seam d.before (d.list ∷ d.behind) in

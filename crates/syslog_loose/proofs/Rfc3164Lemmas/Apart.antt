@@ -68,7 +68,8 @@ stamp_apart : (p q : Text) (v : Option OffsetTimestamp) → header_stamp.Is p q 
 stamp_apart p q None e v =
     begins_apart (p ++ q) (λ c h k. let t = digit_range c k in omega arith)
     (begins_with IsDash 45 (p ++ q) q (ap (λ (x : Text). x ++ q) e) refl) (number_begins 4294967295 v.number)
-stamp_apart p q (Some s) (h, z) v = let (y, r, e, digits) = stamp_text-year p s h in dated_apart y r q digits (rw e at v)
+stamp_apart p q (Some s) (h, z) v =
+    let (y, r, e, digits) = stamp_text-year p s h in dated_apart y r q digits (rw e at v)
 
 date_apart : (p q : Text) (d : MonthDate) → month_date.Is p q d → Versioned (p ++ q) → ⊥
 date_apart p q d h v =

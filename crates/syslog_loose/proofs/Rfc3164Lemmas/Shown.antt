@@ -23,8 +23,14 @@ row_has_month vs f =
     let (_, f1, more) = row_pieces (month ∷ some_run is_blank ∷ short_number ∷ some_run is_blank ∷ clock_row) f in
     let (_, _, (_, f3, (_, _, (_, f5, (_, _, (_, f7, (_, _, (_, f9, _)))))))) = more in
     let (before, e, at) = f1.is in
-    let within : before < 12 = slice_get_within month_names before (map to_ascii_lowercase f1.piece) at in
-    (omega arith, omega arith, omega (arith, f3.is.4), omega (arith, f5.is.4), omega (arith, f7.is.4), omega (arith, f9.is.4))
+    let within : before < 12 = slice_get_within month_names before (map to_ascii_lowercase f1.piece) at in (
+      omega arith,
+      omega arith,
+      omega (arith, f3.is.4),
+      omega (arith, f5.is.4),
+      omega (arith, f7.is.4),
+      omega (arith, f9.is.4),
+    )
 
 pub date_has_month : {t q : Text} (d : MonthDate) → Front yearless_date t q d → HasMonth (incomplete d)
 date_has_month {t} {q} d f =
