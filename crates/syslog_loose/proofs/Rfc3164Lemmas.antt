@@ -16,46 +16,58 @@ pub mod Stamped
 pub mod Unique
 pub mod Whole
 pub mod Years
-use Rattle.std.proofs.Common.{◌≡◌, inl, inr, Option, Some, None, refl, sym, ◌∙◌}
+use Rattle.std.proofs.Common.{◌≡◌, ◌⊎◌, inl, inr, Option, Some, None, sym, ◌∙◌}
+use Rattle.std.specs.Option.{unwrap_or}
 use Rattle.syslog_pieces.specs.Pieces.Class.{Text}
 use Rattle.syslog_pieces.specs.ProcId.{NamesProcess}
 use Rattle.syslog_pieces.specs.declared.procid.ProcId.{ProcId}
 use Rattle.syslog_pieces.proofs.ProcIdLemmas.{process_same}
-use Rattle.syslog_loose.specs.Rfc3164.{Names3164, names, NamesProgram, NamesHost, Resolves}
-use Rattle.syslog_loose.specs.TagForm.{IsForm}
+use Rattle.syslog_loose.specs.Rfc3164.{Names3164, names, Resolves}
+use Rattle.syslog_loose.specs.TagForm.{IsForm, IsNoForm}
 use Rattle.syslog_loose.proofs.TagFormLemmas.{one_form}
 
--- the tag and the process of a form are one pair
-form_names : (host : Option Text) (text tag id tag' id' : Text) (p p' : ProcId Text) → IsForm text tag id
-    → IsForm text tag' id' → NamesProcess id p → NamesProcess id' p'
-    → names host (Some tag) (Some p) ≡ names host (Some tag') (Some p')
-form_names host text tag id tag' id' p p' f f' n n' =
-    let e = one_form text tag id tag' id' f f' in
-    let same : p ≡ p' = process_same id' p p' (rw e.1 at n) n' in
-    rw (e.0, same) refl
+-- the text is of the form `tag[id]` and names that program beside this host, or it names these
+abbrev Names : Option Text → Names3164 → Text → Names3164 → Type 0
+Names host other text n =
+    ((tag : Text) × (id : Text) × (process : ProcId Text) × IsForm text tag id × NamesProcess id process
+    × (n ≡ names host (Some tag) (Some process)))
+    ⊎ (IsNoForm text × (n ≡ other))
 
-program_once : (host : Option Text) (text : Text) (r s : Names3164) → NamesProgram host text r
-    → NamesProgram host text s → r ≡ s
-program_once host text r s (inl (t, i, p, f, n, e)) (inl (t', i', p', f', n', e')) = e
-    ∙ form_names host text t i t' i' p p' f f' n n' ∙ sym e'
-program_once host text r s (inl (t, i, p, f, n, e)) (inr (none, e')) = absurd (none (t, (tt, (i, (tt, tt)))) f)
-program_once host text r s (inr (none, e)) (inl (t, i, p, f, n, e')) = absurd (none (t, (tt, (i, (tt, tt)))) f)
-program_once host text r s (inr (none, e)) (inr (none', e')) = e ∙ sym e'
-
-host_once : (text : Text) (r s : Names3164) → NamesHost text r → NamesHost text s → r ≡ s
-host_once text r s (inl (t, i, p, f, n, e)) (inl (t', i', p', f', n', e')) =
-    e ∙ form_names None text t i t' i' p p' f f' n n' ∙ sym e'
-host_once text r s (inl (t, i, p, f, n, e)) (inr (none, e')) = absurd (none (t, (tt, (i, (tt, tt)))) f)
-host_once text r s (inr (none, e)) (inl (t, i, p, f, n, e')) = absurd (none (t, (tt, (i, (tt, tt)))) f)
-host_once text r s (inr (none, e)) (inr (none', e')) = e ∙ sym e'
+names_once : (host : Option Text) (other : Names3164) (text : Text) (r s : Names3164) → Names host other text r
+    → Names host other text s → r ≡ s
+names_once host other text r s (inl (t, i, p, f, n, e)) (inl (t', i', p', f', n', e')) =
+    let (tag, id) = one_form text t i t' i' f f' in
+    let same = process_same i' p p' (rw id at n) n' in cc
+names_once host other text r s (inl (t, i, p, f, n, e)) (inr (none, e')) = absurd (none _ f)
+names_once host other text r s (inr (none, e)) (inl (t, i, p, f, n, e')) = absurd (none _ f)
+names_once host other text r s (inr (none, e)) (inr (none', e')) = e ∙ sym e'
 
 -- the two fields mean one thing
 pub resolves_once : (host tag : Option (Option Text)) (r s : Names3164) → Resolves host tag r → Resolves host tag s
     → r ≡ s
-resolves_once None None r s x y = x ∙ sym y
-resolves_once (Some None) None r s x y = x ∙ sym y
-resolves_once (Some (Some h)) None r s x y = host_once h r s x y
-resolves_once None (Some None) r s x y = x ∙ sym y
-resolves_once (Some h) (Some None) r s x y = x ∙ sym y
-resolves_once None (Some (Some t)) r s x y = program_once None t r s x y
-resolves_once (Some h) (Some (Some t)) r s x y = program_once h t r s x y
+resolves_once (Some (Some h)) None r s x y = names_once None (names (Some h) None None) h r s x y
+resolves_once None (Some (Some t)) r s x y = names_once None (names None (Some t) None) t r s x y
+resolves_once (Some h) (Some (Some t)) r s x y = names_once h (names h (Some t) None) t r s x y
+resolves_once v t r s x y = x ∙ sym y
+
+-- What holds of the names that a host field and a tag field mean, case by case: of no names, of a lone text (a host, or
+-- of a program's form), and of a program's text beside what the host field holds (of that form, or not).
+pub record OfNames (P : Option (Option Text) → Option (Option Text) → Names3164 → Type 0) : Type 0 where
+  pub nobody : (v t : Option (Option Text)) → P v t (names None None None)
+  pub host : (h : Text) → IsNoForm h → P (Some (Some h)) None (names (Some h) None None)
+  pub lone : (h tag id : Text) (p : ProcId Text) → IsForm h tag id → NamesProcess id p
+      → P (Some (Some h)) None (names None (Some tag) (Some p))
+  pub app : (v : Option (Option Text)) (t : Text) → IsNoForm t
+      → P v (Some (Some t)) (names (unwrap_or v None) (Some t) None)
+  pub process : (v : Option (Option Text)) (t tag id : Text) (p : ProcId Text) → IsForm t tag id → NamesProcess id p
+      → P v (Some (Some t)) (names (unwrap_or v None) (Some tag) (Some p))
+
+module _ (P : Option (Option Text) → Option (Option Text) → Names3164 → Type 0) (k : OfNames P) where
+  pub of_names : (v t : Option (Option Text)) (n : Names3164) → Resolves v t n → P v t n
+  of_names (Some (Some h)) None n (inl (tag, id, p, f, g, e)) = rw e (k.lone h tag id p f g)
+  of_names (Some (Some h)) None n (inr (none, e)) = rw e (k.host h none)
+  of_names None (Some (Some t)) n (inl (tag, id, p, f, g, e)) = rw e (k.process None t tag id p f g)
+  of_names None (Some (Some t)) n (inr (none, e)) = rw e (k.app None t none)
+  of_names (Some h) (Some (Some t)) n (inl (tag, id, p, f, g, e)) = rw e (k.process (Some h) t tag id p f g)
+  of_names (Some h) (Some (Some t)) n (inr (none, e)) = rw e (k.app (Some h) t none)
+  of_names v t n e = rw e (k.nobody v t)

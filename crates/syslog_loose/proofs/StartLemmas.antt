@@ -1,25 +1,24 @@
 -- What the pieces at the front of a text tell of its readings.
-use Rattle.std.proofs.Common.{◌≡◌, ◌≢◌, inl, inr, ℕ, ℤ, List, Option, Some, None, Ok, Err, refl, sym, ap, subst, ◌∙◌}
-use Rattle.std.proofs.Common.{arith}
+use Rattle.std.proofs.Common.{◌≡◌, ◌≢◌, inl, inr, ℕ, ℤ, List, Option, Some, None, Ok, Err, false, true, refl, sym, ap}
+use Rattle.std.proofs.Common.{subst, ◌∙◌, arith}
 use Rattle.std.specs.Borrow.{Bor}
 use Rattle.std.specs.Prelude.{◌↔◌, MatchOption, IsSome, IsSomeAnd}
 use Rattle.syslog_pieces.specs.Pieces.View.{shown, Reads}
-use Rattle.syslog_pieces.specs.Pieces.Class.{Text, Class, Values, Front, NoFront, Row, run, optional}
+use Rattle.syslog_pieces.specs.Pieces.Class.{Text, Class, Front, NoFront, run, optional}
 use Rattle.syslog_pieces.specs.Pri.{priority}
 use Rattle.syslog_pieces.specs.Text.{trimmed, is_blank}
 use Rattle.syslog_pieces.specs.Timestamp.{IsAnswer, header_stamp}
-use Rattle.syslog_pieces.specs.Timestamp.Rfc3164.{rfc3164_stamp, showing_row, ShowsYearless, ShowsMonthDate}
+use Rattle.syslog_pieces.specs.Timestamp.Rfc3164.{rfc3164_stamp, ShowsYearless, ShowsMonthDate}
 use Rattle.syslog_pieces.specs.Timestamp.MonthDate.{yearless_date, month_date}
 use Rattle.syslog_pieces.specs.Timestamp.Zone.{Dating, IsMonthStamp, dating_of}
 use Rattle.syslog_pieces.specs.declared.timestamp.OffsetTimestamp.{OffsetTimestamp}
 use Rattle.syslog_pieces.specs.declared.timestamp.month_date.MonthDate.{MonthDate}
-use Rattle.syslog_pieces.proofs.PieceLemmas.Class.{AllDeterministic, front_same, front_division, division_front}
-use Rattle.syslog_pieces.proofs.PieceLemmas.Class.{optional_det, run_det, rest_det, rest_front, unique_division}
+use Rattle.syslog_pieces.proofs.PieceLemmas.Class.{front_same, optional_det, run_det}
 use Rattle.syslog_pieces.proofs.PieceLemmas.Kinds.{Begins, begins_apart}
-use Rattle.syslog_pieces.proofs.PieceLemmas.Rows.{row_pieces, row_of, ◌then◌, no_row, ◌past◌}
+use Rattle.syslog_pieces.proofs.PieceLemmas.Rows.{row_of, ◌then◌, no_row, ◌past◌}
 use Rattle.syslog_pieces.proofs.PriLemmas.{priority_det}
 use Rattle.syslog_pieces.proofs.TextLemmas.Runs.{some_front_run}
-use Rattle.syslog_pieces.proofs.TimestampLemmas.MonthDate.{month_date_begins, month_date_det}
+use Rattle.syslog_pieces.proofs.TimestampLemmas.MonthDate.{month_date_begins}
 use Rattle.syslog_pieces.proofs.TimestampLemmas.Months.{IsLetter}
 use Rattle.syslog_pieces.proofs.TimestampLemmas.Rfc3164.{IsLow, date_front, header_front, header_stamp_begins, no_date}
 use Rattle.syslog_pieces.proofs.TimestampLemmas.Rfc3164.{no_stamp_of_date}
@@ -40,7 +39,7 @@ use Rattle.syslog_loose.proofs.ReadingLemmas.{Found, answered_to, value, either_
 use Rattle.syslog_loose.proofs.ReadingLemmas.{only_read}
 use Rattle.syslog_loose.proofs.Rfc3164Lemmas.Apart.{shown_apart}
 use Rattle.syslog_loose.proofs.Rfc3164Lemmas.Reading.{not_read}
-use Rattle.syslog_loose.proofs.Rfc3164Lemmas.Shown.{date_has_month, shows_month_date}
+use Rattle.syslog_loose.proofs.Rfc3164Lemmas.Shown.{date_has_month, shows_month_date, shown_once, shown_parts, shows}
 use Rattle.syslog_loose.proofs.Rfc3164Lemmas.Unique.{stamped_det}
 
 -- what a reader of pieces behind blanks answers
@@ -58,23 +57,29 @@ left_to_try RFC5424 text reads strict = absurd reads
 left_to_try RFC3164 text reads strict = tt
 left_to_try Either text reads strict = strict (λ e. cc)
 
--- ---- the timestamp
-module _ {text follows start : Text} {p : Option ℕ} (f : IsBehindPriority text p follows)
-    (gap : Front (run is_blank) follows start tt) (dating : Dating) where
-  stamped_front : {q : Text} {v : Option OffsetTimestamp} → Front (rfc3164_stamp dating) start q v
-      → IsBehindStamp dating text (record { priority = p; timestamp = v }) q
-  stamped_front s =
-      row_of (stamped_row dating) (f then gap then s then refl)
+-- where neither protocol has a division that the variant reads, the text is invalid
+neither : (variant : Variant) (dating : Dating) (text : Text) → (variant ≢ RFC3164 → IsNot5424 text)
+    → (ReadsProtocol variant protocol.RFC3164 → IsNot3164 dash_rule dating text)
+    → Answers variant dating text (Err Invalid)
+neither RFC5424 dating text strict loose = λ m r. strict (λ e. cc) r.values r.division
+neither RFC3164 dating text strict loose = λ m r. loose tt r.values r.division
+neither Either dating text strict loose = λ m r. elim r [
+  | inl s ↦ strict (λ e. cc) s.values s.division
+  | inr (also, s) ↦ loose tt s.values s.division
+]
 
-  no_stamp : NoFront (rfc3164_stamp dating) start → NoFront (Row (stamped_row dating)) text
-  no_stamp none = no_row (stamped_row dating) (stamped_det dating) (f past gap past inl none)
+-- where no timestamp of RFC 3164 stands behind the blanks, the text has no division
+unstamped : (text : Text) {follows start : Text} {p : Option ℕ} → IsBehindPriority (trimmed text) p follows
+    → Front (run is_blank) follows start tt → (dating : Dating) → NoFront (rfc3164_stamp dating) start
+    → IsNot3164 dash_rule dating text
+unstamped text f gap dating none = not_read dash_rule dating text (trimmed text) refl
+    (no_row (stamped_row dating) (stamped_det dating) (f past gap past inl none))
 
 -- ---- the year
 asks_is : (variant : Variant) (text : Text) (d : MonthDate)
     → AsksYear variant text d ↔ (ReadsProtocol variant protocol.RFC3164 × ShowsYearless text d)
 asks_is RFC5424 text d = (λ asks. absurd asks, λ k. k.0)
-asks_is RFC3164 text d = (λ h. (tt, h), λ k. k.1)
-asks_is Either text d = (λ h. (tt, h), λ k. k.1)
+asks_is variant text d = (λ h. (tt, h), λ k. k.1)
 
 -- a month date that shows no year is one without a year
 yearless : {t q : Text} (d : MonthDate) → Front month_date t q d → d.year ≡ None → Front yearless_date t q d
@@ -104,80 +109,45 @@ module _ (variant : Variant) (text : Text) {follows : Text} {p : Option ℕ}
     (f : IsBehindPriority (trimmed text) p follows) where
   module _ {q : Text} (d : MonthDate) (b : BeginsWith month_date variant follows d q) where
     shows_date : ShowsMonthDate text d
-    shows_date = (
-      p,
-      q,
-      front_division (showing_row month_date)
-          (row_of (showing_row month_date) (f then b.gap then b.front then rest_front q then refl)),
-    )
+    shows_date = shows month_date f b.gap b.front
 
     -- its year is asked for where it shows none
     asks_year : d.year ≡ None → AsksYear variant text d
-    asks_year none =
-        (asks_is variant text d).1 (
-          b.reads,
-          (
-            p,
-            q,
-            front_division (showing_row yearless_date)
-                (row_of (showing_row yearless_date)
-                (f then b.gap then yearless d b.front none then rest_front q then refl)),
-          ),
-        )
+    asks_year none = (asks_is variant text d).1 (b.reads, shows yearless_date f b.gap (yearless d b.front none))
 
     -- and no year is where it shows one
-    asks_no_other : (year : ℕ) → d.year ≡ Some year → (other : MonthDate) → AsksYear variant text other → ⊥
-    asks_no_other year e other asks =
-        let shows = ((asks_is variant text other).0 asks).1 in
-        let (p', more, division) = shows_month_date text other shows in
-        let (_, _, division') = shows_date in
-        let each : AllDeterministic (showing_row month_date) =
-        (optional_det priority priority_det, (run_det is_blank, (month_date_det, (rest_det, tt)))) in
-        let same = (unique_division (showing_row month_date) each division' division).1 in
-        let there : d ≡ other = ap (λ (x : Values (showing_row month_date)). x.1.1.0) same in
-        let (_, _, (_, _, (_, date, _))) = row_pieces (showing_row yearless_date)
-        (division_front (showing_row yearless_date) shows.2) in
-        let none : other.year ≡ None = ap (λ (x : MonthDate). x.year) date.is.2 in
-        let y : Some year ≡ None = sym e ∙ ap (λ (x : MonthDate). x.year) there ∙ none in cc
+    asks_no_other : IsSome d.year → (other : MonthDate) → AsksYear variant text other → ⊥
+    asks_no_other some other asks =
+        let shown = ((asks_is variant text other).0 asks).1 in
+        let (_, _, _, _, _, _, date) = shown_parts yearless_date (trimmed text) other shown in
+        let same = shown_once text d other shows_date (shows_month_date text other shown) in
+        let none : d.year ≡ None = ap (λ (x : MonthDate). x.year) (same ∙ date.is.2) in
+        let t : false ≡ true = rw none at some in cc
 
     -- so the year is the one that was answered, if one was asked for
     pub date_answered : (post : IncompleteDate → ℤ → Type 0) (asked : Option IncompleteDate) (year : Option ℤ)
         → MatchOption asked (IsSome d.year) (λ x. (d.year ≡ None) × (x ≡ incomplete d))
         → MatchOption asked (year ≡ None) (λ x. IsSomeAnd year (λ y. post x y)) → IsYearAnswered post variant text year
-    date_answered post asked year told is = answered_to post variant text asked year (tells asked told) is
-      where
-        shown_year : (o : Option ℕ) → IsSome o → (y : ℕ) × (o ≡ Some y)
-        shown_year None h = cc
-        shown_year (Some y) h = (y, refl)
-
-        tells : (asked : Option IncompleteDate)
-            → MatchOption asked (IsSome d.year) (λ x. (d.year ≡ None) × (x ≡ incomplete d))
-            → MatchOption asked ((date : MonthDate) → AsksYear variant text date → ⊥)
-            (λ x. (date : MonthDate) × AsksYear variant text date × (x ≡ incomplete date))
-        tells None h = λ other asks. let (y, e) = shown_year d.year h in asks_no_other y e other asks
-        tells (Some x) (none, e) = (d, asks_year none, e)
+    date_answered post None year some is = answered_to post variant text None year (asks_no_other some) is
+    date_answered post (Some x) year (none, e) is =
+        answered_to post variant text (Some x) year (d, asks_year none, e) is
 
     -- the text is none of RFC 5424
     dated_unread : IsNot5424 text
     dated_unread = shown_apart text d shows_date
 
-    dated_left : IsLeftTo3164 variant text
-    dated_left = left_to_try variant text b.reads (λ n. dated_unread)
-
     -- the date has no timestamp
     pub dated_invalid : (dating : Dating) → IsAnswer (IsMonthStamp dating d) None
         → Answers variant dating text (Err Invalid)
     dated_invalid dating none =
-        left_answer variant dating text (Err Invalid) dated_left
-        (λ m r. not_read dash_rule dating text (trimmed text) refl
-        (no_stamp f b.gap dating (no_stamp_of_date dating no_header d b.front none)) r.values r.division)
+        neither variant dating text (λ n. dated_unread)
+        (λ reads. unstamped text f b.gap dating (no_stamp_of_date dating no_header d b.front none))
       where
         no_header : NoFront header_stamp b.start
         no_header p q v e h =
-            begins_apart b.start (λ c a l. omega arith)
-            (subst (λ (x : Text). Begins IsLow x) (sym e) (header_stamp_begins p q v h))
-            (subst (λ (x : Text). Begins IsLetter x) (sym b.front.whole)
-            (month_date_begins b.front.piece _ d b.front.is))
+            let low : Begins IsLow b.start = rw e (header_stamp_begins p q v h) in
+            let letter : Begins IsLetter b.start = rw b.front.whole (month_date_begins b.front.piece _ d b.front.is) in
+            begins_apart b.start (λ c a l. omega arith) low letter
 
     -- or one
     pub dated_known : (post : IncompleteDate → ℤ → Type 0) (tz : Option (Bor TimeZone)) (local : Bor TimeZone)
@@ -191,43 +161,25 @@ module _ (variant : Variant) (text : Text) {follows : Text} {p : Option ℕ}
         record {
           year = year;
           answered = date_answered post asked year told is;
-          left = dated_left;
-          front = stamped_front f b.gap dating (date_front dating s b.front h);
+          left = left_to_try variant text b.reads (λ n. dated_unread);
+          front = row_of (stamped_row dating) (f then b.gap then date_front dating s b.front h then refl);
         }
 
   -- no month date stands there
   module _ (without : BeginsWithout month_date variant follows) where
     pub asks_none : (d : MonthDate) → AsksYear variant text d → ⊥
     asks_none d asks =
-        let (reads, (_, _, division)) = (asks_is variant text d).0 asks in
-        let (_, g1, (u2, g2, (u3, g3, _))) = row_pieces (showing_row yearless_date)
-        (division_front (showing_row yearless_date) division) in
-        let same = (front_same (optional priority) (optional_det priority priority_det) g1 f).0 in
-        without reads u2 (subst (λ (x : Text). Front (run is_blank) x u2 tt) same g2)
-        g3.piece u3 d g3.whole (inl g3.is)
+        let (reads, shown) = (asks_is variant text d).0 asks in
+        let (_, t, u, q, f', gap, g) = shown_parts yearless_date (trimmed text) d shown in
+        let same = (front_same (optional priority) (optional_det priority priority_det) f' f).0 in
+        without reads u (rw same at gap) g.piece q d g.whole (inl g.is)
 
     -- and no other timestamp
     pub undated_invalid : BeginsWithout header_stamp variant follows → (variant ≢ RFC3164 → IsNot5424 text)
         → (dating : Dating) → Answers variant dating text (Err Invalid)
-    undated_invalid header strict dating = invalid variant without header strict
-      where
-        not_rfc3164 : (variant : Variant) → ReadsProtocol variant protocol.RFC3164
-            → BeginsWithout month_date variant follows → BeginsWithout header_stamp variant follows
-            → IsNot3164 dash_rule dating text
-        not_rfc3164 variant reads month header =
-            let (start, gap) = some_front_run is_blank follows in
-            not_read dash_rule dating text (trimmed text) refl
-            (no_stamp f gap dating (no_date dating (header reads start gap) (month reads start gap)))
-
-        invalid : (variant : Variant) → BeginsWithout month_date variant follows
-            → BeginsWithout header_stamp variant follows → (variant ≢ RFC3164 → IsNot5424 text)
-            → Answers variant dating text (Err Invalid)
-        invalid RFC5424 month header strict = λ m r. strict (λ e. cc) r.values r.division
-        invalid RFC3164 month header strict = λ m r. not_rfc3164 RFC3164 tt month header r.values r.division
-        invalid Either month header strict = λ m r. elim r [
-          | inl s ↦ strict (λ e. cc) s.values s.division
-          | inr (also, s) ↦ not_rfc3164 Either tt month header s.values s.division
-        ]
+    undated_invalid header strict dating = neither variant dating text strict (λ reads.
+        let (start, gap) = some_front_run is_blank follows in
+        unstamped text f gap dating (no_date dating (header reads start gap) (without reads start gap)))
 
     -- or another one
     pub other_known : (post : IncompleteDate → ℤ → Type 0) (tz : Option (Bor TimeZone)) (local : Bor TimeZone)
@@ -240,7 +192,7 @@ module _ (variant : Variant) (text : Text) {follows : Text} {p : Option ℕ}
           year = None;
           answered = asks_none;
           left = left_to_try variant text b.reads strict;
-          front = stamped_front f b.gap dating (header_front dating b.front);
+          front = row_of (stamped_row dating) (f then b.gap then header_front dating b.front then refl);
         }
 
 -- ---- what the readers of the two protocols answer
@@ -267,9 +219,7 @@ strict_read Either not dating text m r = either_read dating text (value m) r
 -- and none where RFC 3164 isn't read
 pub strict_unread : (variant : Variant) → (ReadsProtocol variant protocol.RFC3164 → ⊥) → (dating : Dating) (text : Text)
     → (variant ≢ RFC3164 → IsNot5424 text) → Answers variant dating text (Err Invalid)
-strict_unread RFC5424 not dating text none = λ m r. none (λ e. cc) r.values r.division
-strict_unread RFC3164 not dating text none = absurd (not tt)
-strict_unread Either not dating text none = absurd (not tt)
+strict_unread variant not dating text none = neither variant dating text none (λ reads. absurd (not reads))
 
 pub strict_refused : (variant : Variant) → variant ≢ RFC3164 → (dating : Dating) (text : Text)
     → (NeedsNoMemory5424 text → ⊥) → Answers variant dating text (Err Memory)

@@ -1,9 +1,7 @@
 -- What was read as RFC 3164 without an exception prints as a text that is read as a message that prints the same.
-use Rattle.std.proofs.Common.{◌≡◌, ℕ, ◌∷◌, ◌++◌, Some, refl, sym, ap, ◌∙◌}
-use Rattle.std.specs.Fmt.{decimal}
+use Rattle.std.proofs.Common.{◌≡◌, Some, refl, sym, ◌∙◌}
 use Rattle.std.specs.Prelude.{unwrap_or}
 use Rattle.syslog_pieces.specs.Pieces.Class.{Text}
-use Rattle.syslog_pieces.specs.Text.{name_text}
 use Rattle.syslog_pieces.specs.Timestamp.Zone.{Dating}
 use Rattle.syslog_pieces.specs.declared.pri.SyslogFacility.TheVariants.{LOG_SYSLOG}
 use Rattle.syslog_pieces.specs.declared.pri.SyslogSeverity.TheVariants.{SEV_DEBUG}
@@ -11,7 +9,7 @@ use Rattle.syslog_pieces.specs.declared.structured_data.rfc3164_list.DashRule.{D
 use Rattle.syslog_loose.specs.Canonical.{IsBounded, IsCanonical}
 use Rattle.syslog_loose.specs.Exceptions.{HasNoException}
 use Rattle.syslog_loose.specs.Message.{MessageValue}
-use Rattle.syslog_loose.specs.Printed.{printed, printed_3164, timestamp_text, tag_text, spaced_elements}
+use Rattle.syslog_loose.specs.Printed.{printed, printed_3164}
 use Rattle.syslog_loose.specs.Rfc3164.{IsRead3164}
 use Rattle.syslog_loose.specs.declared.message.Protocol.TheVariants.{RFC3164}
 use Rattle.syslog_loose.proofs.Rfc3164Lemmas.Bounded.{read_bounded}
@@ -23,11 +21,7 @@ use Rattle.syslog_loose.proofs.Rfc5424Lemmas.ReadBack.{completed, priority_same}
 pub printed_again : (m : MessageValue) → m.protocol ≡ RFC3164 → printed (completed m) ≡ printed m
 unfolding printed_3164
 printed_again m e =
-    printed_is (completed m) e
-    ∙ ap (λ (n : ℕ). 60 ∷ (decimal n ++ (62 ∷ 32 ∷ (timestamp_text m.timestamp ++ (32 ∷ (name_text m.hostname
-    ++ (32 ∷ (tag_text m.appname m.procid ++ (spaced_elements m.structured_data ++ m.msg)))))))))
-    (priority_same m.facility m.severity)
-    ∙ sym (printed_is m e)
+    printed_is (completed m) e ∙ rw (priority_same m.facility m.severity) (sym (printed_is m e))
 
 pub read_again : (rule : DashRule) (dating : Dating) (text : Text) (m : MessageValue) → IsRead3164 rule dating text m
     → HasNoException rule m

@@ -7,7 +7,7 @@ use Rattle.syslog_pieces.specs.Pieces.Class.{Text, Values, Division, Front, Each
 use Rattle.syslog_pieces.specs.Pri.{priority}
 use Rattle.syslog_pieces.specs.Text.{trimmed, is_blank, number}
 use Rattle.syslog_pieces.specs.Timestamp.{header_stamp}
-use Rattle.syslog_pieces.specs.Timestamp.Rfc3164.{rfc3164_stamp, showing_row, ShowsMonthDate}
+use Rattle.syslog_pieces.specs.Timestamp.Rfc3164.{rfc3164_stamp, ShowsMonthDate}
 use Rattle.syslog_pieces.specs.Timestamp.MonthDate.{month_date}
 use Rattle.syslog_pieces.specs.Timestamp.Zone.{Dating}
 use Rattle.syslog_pieces.specs.declared.structured_data.rfc3164_list.DashRule.{DashRule}
@@ -21,6 +21,7 @@ use Rattle.syslog_pieces.proofs.TimestampLemmas.Texts.{stamp_text-year}
 use Rattle.syslog_loose.specs.Rfc3164.{rfc3164_row}
 use Rattle.syslog_loose.specs.Rfc5424.{rfc5424_row, IsNot5424}
 use Rattle.syslog_pieces.proofs.PieceLemmas.Rows.{row_pieces}
+use Rattle.syslog_loose.proofs.Rfc3164Lemmas.Shown.{shown_parts}
 
 -- ---- what a text begins with
 abbrev pub IsDigit : ℕ → Type 0
@@ -34,8 +35,7 @@ digit_range c h = grind (arith, nat_tests)
 
 pub number_begins : (limit : ℕ) {t q : Text} {n : ℕ} → Front (number limit) t q n → Begins IsDigit t
 number_begins limit {q = q} f =
-    subst (λ (x : Text). Begins IsDigit x) (sym f.whole)
-    (begins_more IsDigit f.piece q (each_begins is_ascii_digit f.piece f.is.0 f.is.1))
+    rw f.whole (begins_more IsDigit f.piece q (each_begins is_ascii_digit f.piece f.is.0 f.is.1))
 
 -- no blank stands before a digit
 no_blanks : (p q : Text) → Each is_blank p → Begins IsDigit (p ++ q) → p ≡ []
@@ -44,7 +44,7 @@ no_blanks (c ∷ p) q a b = absurd (let t = blank_low c a.0 in let u = digit_ran
 
 stays : {t q : Text} → Begins IsDigit t → Front (run is_blank) t q tt → t ≡ q
 stays {t = t} {q = q} b f =
-    f.whole ∙ ap (λ (x : Text). x ++ q) (no_blanks f.piece q f.is.0 (subst (λ (x : Text). Begins IsDigit x) f.whole b))
+    f.whole ∙ ap (λ (x : Text). x ++ q) (no_blanks f.piece q f.is.0 (rw f.whole at b))
 
 -- ---- a version, which no timestamp begins with
 
@@ -56,10 +56,9 @@ pub record Versioned (t : Text) : Type 0 where
   pub blank : Begins IsBlank after
 
 -- digits and a dash are no version
-dated_apart : (p y r q : Text) → p ≡ y ++ (45 ∷ r) → Each is_ascii_digit y → Versioned (p ++ q) → ⊥
-dated_apart p y r q e h v =
-    let w : y ++ (45 ∷ (r ++ q)) ≡ v.number.piece ++ v.after =
-    sym (append_assoc y (45 ∷ r) q) ∙ ap (λ (x : Text). x ++ q) (sym e) ∙ v.number.whole in
+dated_apart : (y r q : Text) → Each is_ascii_digit y → Versioned ((y ++ (45 ∷ r)) ++ q) → ⊥
+dated_apart y r q h v =
+    let w = sym (append_assoc y (45 ∷ r) q) ∙ v.number.whole in
     let same = run_same is_ascii_digit y (45 ∷ (r ++ q)) v.number.piece v.after w h refl v.number.is.1 v.number.is.2 in
     let a : 45 ∷ (r ++ q) ≡ v.after = rest_same y (45 ∷ (r ++ q)) v.number.piece v.after w same in
     begins_apart v.after (λ c d k. let t = blank_low c k in omega arith)
@@ -69,7 +68,8 @@ stamp_apart : (p q : Text) (v : Option OffsetTimestamp) → header_stamp.Is p q 
 stamp_apart p q None e v =
     begins_apart (p ++ q) (λ c h k. let t = digit_range c k in omega arith)
     (begins_with IsDash 45 (p ++ q) q (ap (λ (x : Text). x ++ q) e) refl) (number_begins 4294967295 v.number)
-stamp_apart p q (Some s) (h, z) v = let (y, r, e, digits) = stamp_text-year p s h in dated_apart p y r q e digits v
+stamp_apart p q (Some s) (h, z) v =
+    let (y, r, e, digits) = stamp_text-year p s h in dated_apart y r q digits (rw e at v)
 
 date_apart : (p q : Text) (d : MonthDate) → month_date.Is p q d → Versioned (p ++ q) → ⊥
 date_apart p q d h v =
@@ -93,7 +93,7 @@ versioned text q p vs d f =
     record {
       value = vs.1.0;
       after = t2;
-      number = subst (λ (x : Text). Front (number 4294967295) x t2 vs.1.0) e g2;
+      number = rw e at g2;
       blank = blanks_begin g3;
     }
 
@@ -105,15 +105,13 @@ pub not_both : (rule : DashRule) (dating : Dating) (text : Text) (vs : Values rf
     (ws : Values (rfc3164_row rule dating)) → Division rfc5424_row text vs → Division (rfc3164_row rule dating) text ws
     → ⊥
 not_both rule dating text vs ws d e =
-    let (t1, g1, (_, g2, more)) = row_pieces (rfc3164_row rule dating) (division_front (rfc3164_row rule dating) e) in
-    let (t3, g3, _) = more in
-    let v = moved g2 (versioned text t1 ws.0 vs d g1) in
-    rfc3164_apart dating g3.piece t3 ws.1.1.0 g3.is (subst Versioned g3.whole v)
+    let (t1, g1, (_, g2, (t3, g3, _))) = row_pieces (rfc3164_row rule dating)
+    (division_front (rfc3164_row rule dating) e) in
+    rfc3164_apart dating g3.piece t3 ws.1.1.0 g3.is
+    (subst Versioned g3.whole (moved g2 (versioned text t1 ws.0 vs d g1)))
 
 -- a text that shows a month date has no division of RFC 5424
 pub shown_apart : (text : Text) (d : MonthDate) → ShowsMonthDate text d → IsNot5424 text
-shown_apart text d (p, more, e) vs f =
-    let (u1, g1, (_, g2, more)) = row_pieces (showing_row month_date) (division_front (showing_row month_date) e) in
-    let (u3, g3, _) = more in
-    let v = moved g2 (versioned (trimmed text) u1 p vs f g1) in
-    date_apart g3.piece u3 d g3.is (subst Versioned g3.whole v)
+shown_apart text d shown vs f =
+    let (p, t, u, q, g1, g2, g3) = shown_parts month_date (trimmed text) d shown in
+    date_apart g3.piece q d g3.is (subst Versioned g3.whole (moved g2 (versioned (trimmed text) t p vs f g1)))

@@ -1,6 +1,5 @@
 -- The condition for RFC 3164 is the exceptions' absence, beside all that they leave.
-use Rattle.std.proofs.Common.{◌≡◌, inl, inr, Option, Some, None, IfSome, sym, subst}
-use Rattle.std.proofs.Common.{IsSome, ◌&&◌, arith}
+use Rattle.std.proofs.Common.{◌≡◌, inl, inr, Option, Some, None, IfSome, subst, IsSome, ◌&&◌, arith}
 use Rattle.syslog_pieces.specs.Pieces.Class.{Text}
 use Rattle.syslog_pieces.specs.Text.{dash, EndsInColon}
 use Rattle.syslog_pieces.specs.declared.procid.ProcId.{ProcId}
@@ -15,25 +14,19 @@ use Rattle.syslog_loose.specs.Exceptions.{IsInnerProcess, AreNamesButExceptions,
 use Rattle.syslog_loose.specs.Message.{MessageValue}
 use Rattle.syslog_pieces.proofs.PieceLemmas.Each.{each_both, each_map}
 use Rattle.std.proofs.lemmas.Bool.Decides.{nat_tests}
+use Rattle.std.proofs.lemmas.Option.{IfSome_then}
 use Rattle.syslog_pieces.specs.declared.pri.SyslogFacility.{SyslogFacility}
 use Rattle.syslog_pieces.specs.declared.pri.SyslogSeverity.{SyslogSeverity}
 
 -- ---- the host
-visible_host : (host : Option Text) → IfSome host IsCanonicalHost → IfSome host IsVisible
-visible_host None h = tt
-visible_host (Some x) h = h.0
-
 pub no_dash_host : (host : Option Text) → IfSome host IsCanonicalHost → IfSome host (λ x. x ≡ dash → ⊥)
-no_dash_host None h = tt
-no_dash_host (Some x) h = h.1
+no_dash_host host h = IfSome_then host h (λ x k. k.1)
 
 pub no_colon_host : (host : Option Text) → IfSome host IsCanonicalHost → IfSome host (λ x. EndsInColon x → ⊥)
-no_colon_host None h = tt
-no_colon_host (Some x) h = h.2
+no_colon_host host h = IfSome_then host h (λ x k. k.2)
 
 no_odd_host : (host app : Option Text) → IfSome host IsCanonicalHost → IfSome host (λ x. IsOddHost x → app ≡ None)
-no_odd_host None app h = tt
-no_odd_host (Some x) app h = λ o. absurd (elim o [ inl d ↦ h.1 d | inr c ↦ h.2 c ])
+no_odd_host host app h = IfSome_then host h (λ x k o. absurd (elim o [ inl d ↦ k.1 d | inr c ↦ k.2 c ]))
 
 pub canonical_host : (host : Option Text) → IfSome host IsVisible → IfSome host (λ x. x ≡ dash → ⊥)
     → IfSome host (λ x. EndsInColon x → ⊥) → IfSome host IsCanonicalHost
@@ -62,10 +55,8 @@ bracketed_of (Name t) (l, a, none) k = (
 -- ---- the names
 near_of : (host app : Option Text) (process : Option (ProcId Text)) → AreCanonicalNames host app process
     → AreNamesButExceptions host app process
-near_of host None None h = h
-near_of host None (Some p) h = h
-near_of host (Some a) None h = h
 near_of host (Some a) (Some p) h = (h.0, inner_of p h.1)
+near_of host app process h = h
 
 pub no_colon_names : (host app : Option Text) (process : Option (ProcId Text)) → AreCanonicalNames host app process
     → IfSome process HasNoColon
@@ -75,10 +66,8 @@ no_colon_names host (Some a) (Some p) h = no_colon_of p h.1
 
 pub canonical_names : (host app : Option Text) (process : Option (ProcId Text)) → AreNamesButExceptions host app process
     → IfSome process HasNoColon → AreCanonicalNames host app process
-canonical_names host None None h k = h
-canonical_names host None (Some p) h k = h
-canonical_names host (Some a) None h k = h
 canonical_names host (Some a) (Some p) h k = (h.0, bracketed_of p h.1 k)
+canonical_names host app process h k = h
 
 -- ---- the message
 pub canonical_near : (rule : DashRule) (m : MessageValue) → m.protocol ≡ RFC3164 → IsCanonical rule m
@@ -90,7 +79,7 @@ canonical_near rule m e (canonical, other) =
         severity = canonical.severity;
         rest = record {
           protocol = e;
-          hostname = visible_host m.hostname canonical.hostname;
+          hostname = IfSome_then m.hostname canonical.hostname (λ x k. k.0);
           odd_host = no_odd_host m.hostname m.appname canonical.hostname;
           names = near_of m.hostname m.appname m.procid own.names;
           colon_process = inl (no_colon_names m.hostname m.appname m.procid own.names);
@@ -124,13 +113,12 @@ near_completed rule m f s facility severity near none = (
     msg_front = near.msg_front;
     msg_end = near.msg_end;
   },
-  subst (λ (x : Protocol). IsCanonicalFor rule x (record m { facility = f; severity = s })) (sym near.protocol)
-      (record {
-        msgid = near.msgid;
-        names = canonical_names m.hostname m.appname m.procid near.names none.process_has_no_colon;
-        elements = near.parameters;
-        no_list = none.message_is_no_list;
-      }),
+  rw near.protocol (record {
+    msgid = near.msgid;
+    names = canonical_names m.hostname m.appname m.procid near.names none.process_has_no_colon;
+    elements = near.parameters;
+    no_list = none.message_is_no_list;
+  }),
 )
 
 pub near_canonical : (rule : DashRule) (m : MessageValue) → IsNearlyCanonical m × HasNoException rule m

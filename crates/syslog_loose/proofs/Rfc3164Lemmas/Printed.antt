@@ -1,13 +1,10 @@
 -- A printed message of RFC 3164 has no division of RFC 5424: a space stands where the version would begin.
-use Rattle.std.proofs.Common.{◌≡◌, ap, Bool, true, false, cond, [], ◌∷◌, ◌++◌, Some, sym, subst}
-use Rattle.std.specs.Str.{drop_trailing_whitespace}
-use Rattle.syslog_pieces.specs.Pieces.Class.{Text, Front, optional}
+use Rattle.std.proofs.Common.{◌≡◌, ap, Bool, true, false, cond, [], ◌∷◌}
+use Rattle.syslog_pieces.specs.Pieces.Class.{Text}
 use Rattle.syslog_pieces.specs.Pri.{priority}
-use Rattle.syslog_pieces.specs.Text.{trimmed}
 use Rattle.syslog_pieces.proofs.PieceLemmas.Class.{optional_some}
 use Rattle.syslog_pieces.proofs.PieceLemmas.Kinds.{Begins}
 use Rattle.syslog_loose.specs.Message.{MessageValue}
-use Rattle.syslog_loose.specs.Printed.{timestamp_text, name_text, tag_text, spaced_elements}
 use Rattle.syslog_loose.specs.Printed.{priority_of, printed_3164, printed_5424, printed}
 use Rattle.syslog_loose.specs.Rfc5424.{IsNot5424}
 use Rattle.syslog_loose.specs.declared.message.Protocol.{Protocol}
@@ -26,12 +23,5 @@ printed_is m e = ap (λ (x : Protocol). elim x [ RFC5424 version ↦ printed_542
 pub printed_apart : (m : MessageValue) → IsNot5424 (printed_3164 m)
 unfolding printed_3164
 printed_apart m vs d =
-    let n = priority_of m in
-    let more : Text = timestamp_text m.timestamp
-    ++ (32 ∷ (name_text m.hostname
-    ++ (32 ∷ (tag_text m.appname m.procid ++ (spaced_elements m.structured_data ++ m.msg))))) in
-    let q : Text = drop_trailing_whitespace (32 ∷ more) in
-    let f : Front (optional priority) (trimmed (printed_3164 m)) q (Some n) =
-    subst (λ (x : Text). Front (optional priority) x q (Some n)) (sym (priority_trimmed n (32 ∷ more)))
-    (optional_some priority (priority_front n q (priority_low m))) in
-    no_digit _ _ (number_begins 4294967295 (versioned (trimmed (printed_3164 m)) q (Some n) vs d f).number)
+    no_digit _ _ (number_begins 4294967295 (versioned _ _ _ vs (rw priority_trimmed at d)
+    (optional_some priority (priority_front (priority_of m) _ (priority_low m)))).number)

@@ -1,6 +1,7 @@
 -- The texts of a message of RFC 3164 are in the pieces.
-use Rattle.std.proofs.Common.{inl, inr, List, [], ◌∷◌, ◌++◌, Option, Some, None, sym, subst}
+use Rattle.std.proofs.Common.{inl, inr, List, [], ◌∷◌, ◌++◌, Option, Some, None}
 use Rattle.std.specs.List.{flat_map}
+use Rattle.std.specs.Option.{unwrap_or}
 use Rattle.syslog_pieces.specs.Pieces.Class.{Text, run, some_run, exactly, optional, spaced}
 use Rattle.syslog_pieces.specs.Pieces.Parts.{IsPart, IsInPieces, AreInPieces, text_list, process_texts}
 use Rattle.syslog_pieces.specs.Pri.{priority}
@@ -19,16 +20,16 @@ use Rattle.syslog_pieces.proofs.PieceLemmas.Parts.{Quoted, row_quotes, silent, t
 use Rattle.syslog_pieces.proofs.PieceLemmas.Parts.{tag_word_quotes, optional_quotes, optional_texts, spaced_quotes}
 use Rattle.syslog_pieces.proofs.PieceLemmas.Parts.{part_left, part_right, part_joined}
 use Rattle.syslog_pieces.proofs.StructuredDataLemmas.ElementParts.{optional_rfc3164_list_quotes}
-use Rattle.syslog_loose.specs.Message.{MessageValue, message_texts}
-use Rattle.syslog_loose.specs.Rfc3164.{Names3164, Resolves, NamesProgram, NamesHost, rfc3164_row, IsRead3164}
-use Rattle.syslog_loose.specs.Rfc3164.{Quotes3164}
+use Rattle.syslog_loose.specs.Message.{MessageValue}
+use Rattle.syslog_loose.specs.Rfc3164.{Names3164, names, Resolves, rfc3164_row, IsRead3164, Quotes3164}
 use Rattle.syslog_loose.specs.TagForm.{form_row, IsForm}
+use Rattle.syslog_loose.proofs.Rfc3164Lemmas.{of_names}
 use Rattle.syslog_pieces.proofs.PieceLemmas.Class.{◌also◌}
 
 -- ---- parts of texts in pieces
 part_on : (p t u : Text) → IsPart p t → IsPart t u → IsPart p u
 part_on p t u (before, after, e) h =
-    subst (λ (x : Text). IsPart x u) (sym e) (part_right before (t ++ after) u (part_left t after u h))
+    rw e (part_right before (t ++ after) u (part_left t after u h))
 
 part_in : (ps : List Text) (t u : Text) → IsInPieces ps t → IsPart t u → IsInPieces ps u
 part_in [] t u h k = absurd h
@@ -45,10 +46,8 @@ form_parts : (text tag id : Text) → IsForm text tag id → IsPart text tag × 
 unfolding quoted_form
 form_parts text tag id f =
     let all : AreInPieces f.pieces (tag ∷ id ∷ []) =
-    row_quotes form_row quoted_form f.pieces [] (tag, (tt, (id, (tt, tt)))) f.each in (
-      subst (λ (x : Text). IsPart x tag) (sym f.whole) (part_joined f.pieces tag all.0),
-      subst (λ (x : Text). IsPart x id) (sym f.whole) (part_joined f.pieces id all.1.0),
-    )
+    row_quotes form_row quoted_form f.pieces [] (tag, (tt, (id, (tt, tt)))) f.each in
+    (rw f.whole (part_joined f.pieces tag all.0), rw f.whole (part_joined f.pieces id all.1.0))
 
 -- ---- the names
 module _ (ps : List Text) where
@@ -60,43 +59,35 @@ module _ (ps : List Text) where
 
   process_in : (id : Text) (p : ProcId Text) → NamesProcess id p → IsInPieces ps id → AreIn (process_texts (Some p))
   process_in id (PID number) h k = tt
-  process_in id (Name name) h k = (subst (λ (x : Text). IsInPieces ps x) (sym h.1) k, tt)
+  process_in id (Name name) h k = (rw h.1 k, tt)
 
-  program_in : (origin : Option Text) (text : Text) (n : Names3164) → NamesProgram origin text n
-      → AreIn (text_list origin) → IsInPieces ps text → NamesAreIn n
-  program_in origin text n (inl (tag, id, p, f, h, e)) k l =
-      let parts = form_parts text tag id f in
-      subst NamesAreIn (sym e)
-      (k, (part_in ps text tag l parts.0, tt), process_in id p h (part_in ps text id l parts.1))
-  program_in origin text n (inr (f, e)) k l = subst NamesAreIn (sym e) (k, (l, tt), tt)
+  form_in : (origin : Option Text) (t tag id : Text) (p : ProcId Text) → IsForm t tag id → NamesProcess id p
+      → AreIn (text_list origin) → IsInPieces ps t → NamesAreIn (names origin (Some tag) (Some p))
+  form_in origin t tag id p f g a b = let parts = form_parts t tag id f in
+      (a, (part_in ps t tag b parts.0, tt), process_in id p g (part_in ps t id b parts.1))
 
-  host_in : (text : Text) (n : Names3164) → NamesHost text n → IsInPieces ps text → NamesAreIn n
-  host_in text n (inl (tag, id, p, f, h, e)) l =
-      let parts = form_parts text tag id f in
-      subst NamesAreIn (sym e)
-      (tt, (part_in ps text tag l parts.0, tt), process_in id p h (part_in ps text id l parts.1))
-  host_in text n (inr (f, e)) l = subst NamesAreIn (sym e) ((l, tt), tt, tt)
+  host_in : (v : Option (Option Text)) → AreIn (optional_texts text_list v) → AreIn (text_list (unwrap_or v None))
+  host_in None a = tt
+  host_in (Some h) a = a
 
   resolved_in : (origin program : Option (Option Text)) (n : Names3164) → Resolves origin program n
       → AreIn (optional_texts text_list origin) → AreIn (optional_texts text_list program) → NamesAreIn n
-  resolved_in None None n e k l = subst NamesAreIn (sym e) (tt, tt, tt)
-  resolved_in (Some None) None n e k l = subst NamesAreIn (sym e) (tt, tt, tt)
-  resolved_in (Some (Some name)) None n h k l = host_in name n h k.0
-  resolved_in None (Some None) n e k l = subst NamesAreIn (sym e) (tt, tt, tt)
-  resolved_in (Some origin) (Some None) n e k l = subst NamesAreIn (sym e) (tt, tt, tt)
-  resolved_in None (Some (Some name)) n h k l = program_in None name n h tt l.0
-  resolved_in (Some origin) (Some (Some name)) n h k l = program_in origin name n h k l.0
+  resolved_in = of_names
+      (λ v t n. AreIn (optional_texts text_list v) → AreIn (optional_texts text_list t) → NamesAreIn n) (record {
+        nobody = λ v t a b. (tt, tt, tt);
+        host = λ h none a b. (a, tt, tt);
+        lone = λ h tag id p f g a b. form_in None h tag id p f g tt a.0;
+        app = λ v t none a b. (host_in v a, b, tt);
+        process = λ v t tag id p f g a b. form_in (unwrap_or v None) t tag id p f g (host_in v a) b.0;
+      })
 
 -- ---- all texts
 quoted_row : (rule : DashRule) (dating : Dating) → Quoted (rfc3164_row rule dating)
 quoted_row rule dating =
     silent (optional priority) also silent (run is_blank) also silent (rfc3164_stamp dating)
+    also (optional_texts text_list, optional_quotes (spaced host) text_list (spaced_quotes host text_list host_quotes))
     also (
-      (λ v. optional_texts text_list v),
-      optional_quotes (spaced host) text_list (spaced_quotes host text_list host_quotes),
-    )
-    also (
-      (λ v. optional_texts text_list v),
+      optional_texts text_list,
       optional_quotes (spaced tag_word) text_list (spaced_quotes tag_word text_list tag_word_quotes),
     )
     also silent (run is_blank) also silent (optional (exactly colon)) also silent (run is_blank)
@@ -115,12 +106,10 @@ quotes rule dating text m r =
     let body = flat_map element_texts (elements_or vs.1.1.1.1.1.1.1.1.0) ++ (vs.1.1.1.1.1.1.1.1.1.1.0 ∷ []) in
     let all : AreInPieces ps (origin ++ (program ++ body)) =
     row_quotes (rfc3164_row rule dating) (quoted_row rule dating) ps [] vs r.division.each in
+    let behind = all_right P origin (program ++ body) all in
     let (n, h, e) = r.means in
-    let (a, b, c) =
-    resolved_in ps vs.1.1.1.0 vs.1.1.1.1.0 n h (all_left P origin (program ++ body) all)
-    (all_left P program body (all_right P origin (program ++ body) all)) in
-    let others = all_right P program body (all_right P origin (program ++ body) all) in
-    let inner =
-    all_append P (text_list n.hostname) _ a
-    (all_append P (text_list n.appname) _ b (all_append P (process_texts n.procid) _ c others)) in
-    record { read = r; each = subst (λ (x : MessageValue). AreInPieces ps (message_texts x)) (sym e) inner }
+    let (a, b, c) = resolved_in ps vs.1.1.1.0 vs.1.1.1.1.0 n h (all_left P origin (program ++ body) all)
+    (all_left P program body behind) in
+    let inner = all_append P (text_list n.hostname) _ a (all_append P (text_list n.appname) _ b
+    (all_append P (process_texts n.procid) _ c (all_right P program body behind))) in
+    record { read = r; each = rw e inner }

@@ -1,15 +1,14 @@
 -- A canonical message of RFC 3164 is read back: the division of its printed text, piece by piece.
-use Rattle.std.proofs.Common.{◌≡◌, ◌≢◌, ℕ, suc, pos, negsuc, ◌+◌, ◌*◌, ◌<◌, inl, inr, true, false, not, nat_eq, List}
-use Rattle.std.proofs.Common.{[], ◌∷◌, ◌++◌, length, Option, Some, None, IfSome, IsSome, refl, sym, ap, subst, ◌∙◌}
-use Rattle.std.proofs.Common.{arith}
+use Rattle.std.proofs.Common.{◌≡◌, ◌≢◌, ℕ, suc, pos, ◌+◌, ◌*◌, ◌<◌, inl, inr, not, ◌∷◌, Some, None, refl, sym, ap, ◌∙◌}
+use Rattle.std.proofs.Common.{negsuc, true, false, nat_eq, List, [], ◌++◌, length, Option, IfSome, IsSome, subst, arith}
 use Rattle.std.proofs.lemmas.Bool.Decides.{nat_tests}
 use Rattle.std.proofs.lemmas.List.{length-append}
 use Rattle.std.specs.Char.{is_ascii_digit}
 use Rattle.std.specs.Fmt.{decimal}
 use Rattle.std.specs.List.{AllByRecursion}
 use Rattle.std.specs.Option.{option_map_or}
-use Rattle.syslog_pieces.specs.Pieces.Class.{Text, Values, Front, NoFront, Row, Each, Ends, run, exactly}
-use Rattle.syslog_pieces.specs.Pieces.Class.{optional, spaced}
+use Rattle.syslog_pieces.specs.Pieces.Class.{Text, Values, Front, NoFront, Row, Each, Ends, run, exactly, optional}
+use Rattle.syslog_pieces.specs.Pieces.Class.{spaced}
 use Rattle.syslog_pieces.specs.Pieces.Lists.{IsMany}
 use Rattle.syslog_pieces.specs.Pri.{priority, facility_number, severity_number, facility_of, severity_of}
 use Rattle.syslog_pieces.specs.ProcId.{NamesProcess, procid_text}
@@ -26,9 +25,8 @@ use Rattle.syslog_pieces.specs.declared.procid.ProcId.{ProcId}
 use Rattle.syslog_pieces.specs.declared.procid.ProcId.TheVariants.{PID, Name}
 use Rattle.syslog_pieces.specs.declared.structured_data.rfc3164_list.DashRule.{DashRule}
 use Rattle.syslog_pieces.specs.declared.timestamp.OffsetTimestamp.{OffsetTimestamp}
-use Rattle.syslog_pieces.proofs.PieceLemmas.Class.{both_values}
-use Rattle.syslog_pieces.proofs.PieceLemmas.Class.{heads, front_division, optional_some, row_cons, rows_join}
-use Rattle.syslog_pieces.proofs.PieceLemmas.Class.{optional_none, rest_front, spaced_front, no_spaced_piece}
+use Rattle.syslog_pieces.proofs.PieceLemmas.Class.{both_values, heads, front_division, optional_some, row_cons}
+use Rattle.syslog_pieces.proofs.PieceLemmas.Class.{rows_join, optional_none, rest_front, spaced_front, no_spaced_piece}
 use Rattle.syslog_pieces.proofs.PieceLemmas.Steps.{piece_front}
 use Rattle.syslog_pieces.proofs.PriLemmas.{facility_composed, severity_composed}
 use Rattle.syslog_pieces.proofs.ProcIdLemmas.ReadBack.{signed_writes}
@@ -36,11 +34,9 @@ use Rattle.syslog_pieces.proofs.StructuredDataLemmas.ReadBack.{element_back}
 use Rattle.syslog_pieces.proofs.TextLemmas.ReadBack.{host_back, decimal_digits}
 use Rattle.syslog_pieces.proofs.StructuredDataLemmas.Rfc3164List.{full_begins, no_full_nil, no_rfc3164_list}
 use Rattle.syslog_pieces.proofs.TimestampLemmas.RoundTrip.{printed_stamp-back}
-use Rattle.syslog_loose.specs.Canonical.{IsBoundedProcess, IsBounded, IsCanonicalHost}
-use Rattle.syslog_loose.specs.Canonical.{IsCanonicalElement, is_process_char}
-use Rattle.syslog_loose.specs.Canonical.{IsBracketedProcess, AreCanonicalNames}
-use Rattle.syslog_loose.specs.Canonical.{IsCanonicalInBoth, IsCanonical3164, IsCanonicalFor}
-use Rattle.syslog_loose.specs.Canonical.{IsCanonical}
+use Rattle.syslog_loose.specs.Canonical.{IsBoundedProcess, IsBounded, IsCanonicalHost, IsCanonicalElement}
+use Rattle.syslog_loose.specs.Canonical.{is_process_char, IsBracketedProcess, AreCanonicalNames}
+use Rattle.syslog_loose.specs.Canonical.{IsCanonical3164, IsCanonicalFor, IsCanonical}
 use Rattle.syslog_loose.specs.Message.{MessageValue}
 use Rattle.syslog_loose.specs.Printed.{timestamp_text, priority_of, printed_3164}
 use Rattle.syslog_loose.specs.Rfc3164.{names, Resolves, body_row, rfc3164_row, IsRead3164}
@@ -68,14 +64,11 @@ many_back (e ∷ es) q h k n = (
   many_back es q h.1 k.1 n,
 )
 
-no_full_space : (t : Text) → NoFront full_element (32 ∷ t)
-no_full_space t p q v e h =
-    let (r, w) = full_begins p q v h in let u : ◌≡◌ {A = ℕ} 32 91 = heads 32 91 t r (e ∙ w) in omega arith
-
 no_full_end : (msg : Text) → NoFront full_element (message_end msg)
 unfolding message_end
 no_full_end [] = no_full_nil
-no_full_end (c ∷ cs) = no_full_space (c ∷ cs)
+no_full_end (c ∷ cs) = λ p q v e h.
+    let (r, w) = full_begins p q v h in let u : ◌≡◌ {A = ℕ} 32 91 = heads 32 91 (c ∷ cs) r (e ∙ w) in omega arith
 
 abbrev pub list_field : List ElementValue → Option (List ElementValue)
 list_field [] = None
@@ -107,12 +100,10 @@ digit_inside c h = grind (arith, nat_tests)
 pub process_chars : (process : ProcId Text) → IsBracketedProcess process → IsBoundedProcess process
     → (0 < length (procid_text process)) × Each is_process_char (procid_text process)
 process_chars (PID (pos n)) h b =
-    let (some, digits) =
-    decimal_digits n (omega (arith, b)) in
+    let (some, digits) = decimal_digits n (omega (arith, b)) in
     (some, each_map is_ascii_digit is_process_char digit_inside (decimal n) digits)
 process_chars (PID (negsuc n)) h b =
-    let (some, digits) =
-    decimal_digits (suc n) (omega (arith, b)) in
+    let (some, digits) = decimal_digits (suc n) (omega (arith, b)) in
     (omega arith, (refl, each_map is_ascii_digit is_process_char digit_inside (decimal (suc n)) digits))
 process_chars (Name t) (some, each, none) b = (some, each)
 
@@ -122,9 +113,6 @@ process_named (PID n) h b = signed_writes n b
 process_named (Name t) (some, each, none) b = (none, refl)
 
 -- ---- the names
-
-pub bracketed_long : (a i : Text) → 1 < length (bracketed a i)
-bracketed_long a i = omega (arith, length-append a (91 ∷ (i ++ (93 ∷ []))), length-append i (93 ∷ []))
 
 pub bracketed_chars : (a i : Text) → Each is_label_char a → Each is_process_char i → Each is_tag_char (bracketed a i)
 bracketed_chars a i h k =
@@ -139,9 +127,6 @@ bracketed_form a i h l k = record {
   each = ((tt, (h, refl), refl), (refl, ((tt, (l, each_right is_tag_char is_open_char i k, refl), refl), (refl, tt))));
 }
 
-pub long_no_dash : (t : Text) → 1 < length t → t ≢ dash
-long_no_dash t l e = let w = ap length e in omega arith
-
 abbrev pub program_field : Option Text → Option (ProcId Text) → Option (Option Text)
 program_field None p = None
 program_field (Some a) None = Some (Some a)
@@ -154,16 +139,13 @@ resolved (Some o) None None h b = inr (h, refl)
 resolved origin None (Some p) h b = absurd h
 resolved origin (Some a) None (l, e, d, n) b = inr (n, refl)
 resolved origin (Some a) (Some p) (e, h) b =
-    let (some, each) =
-    process_chars p h b in inl
-    (a, procid_text p, p, bracketed_form a (procid_text p) e some each, process_named p h b, refl)
+    let (some, each) = process_chars p h b in
+    inl (a, procid_text p, p, bracketed_form a (procid_text p) e some each, process_named p h b, refl)
 
 pub no_tag_colon : (t : Text) → NoFront tag_word (58 ∷ t)
 no_tag_colon t [] q v e h = omega (arith, h.0)
 no_tag_colon t (c ∷ p) q v e h =
-    let u : 58 ≡ c = heads 58 c t (p ++ q) e in
-    let f : is_tag_char 58 ≡ false = refl in
-    let w : true ≡ false = sym h.1.0 ∙ ap is_tag_char (sym u) ∙ f in cc
+    let w : false ≡ true = ap is_tag_char (heads 58 c t (p ++ q) e) ∙ h.1.0 in cc
 
 -- a tag word before the colon, and the blanks behind it
 pub tagged : (w t : Text) → 0 < length w → Each is_tag_char w → w ≢ dash
@@ -191,9 +173,10 @@ tag_back origin (Some a) None t (l, e, d, n) b =
 tag_back origin (Some a) (Some p) t (e, h) b =
     let i = procid_text p in
     let (some, each) = process_chars p h b in
-    let long = bracketed_long a i in (
+    let long : 1 < length (bracketed a i) =
+    omega (arith, length-append a (91 ∷ (i ++ (93 ∷ []))), length-append i (93 ∷ [])) in (
       58 ∷ t,
-      tagged (bracketed a i) t (omega arith) (bracketed_chars a i e each) (long_no_dash (bracketed a i) long),
+      tagged (bracketed a i) t (omega arith) (bracketed_chars a i e each) (λ w. omega (arith, long, ap length w)),
       piece_front (run is_blank) [] (58 ∷ t) tt (tt, refl),
     )
 
@@ -243,9 +226,6 @@ parts_back (Some f) (Some s) h k = (sym (facility_composed f s), sym (severity_c
 -- ---- the message
 module _ (rule : DashRule) (dating : Dating) (m : MessageValue) (e : m.protocol ≡ RFC3164) (b : IsBounded m)
     (c : IsCanonical rule m) where
-  canonical : IsCanonicalInBoth m
-  canonical = c.0
-
   own : IsCanonical3164 rule m
   own = subst (λ (x : Protocol). IsCanonicalFor rule x m) e c.1
 
@@ -259,19 +239,15 @@ module _ (rule : DashRule) (dating : Dating) (m : MessageValue) (e : m.protocol 
 
   row_back : Front (Row (rfc3164_row rule dating)) (whole m (tail_text m.structured_data m.msg)) [] values
   row_back =
-      let t : Text = tail_text m.structured_data m.msg in
-      let u : Text = program_text m.appname m.procid ++ (58 ∷ t) in
-      let y : Text = name_text m.hostname ++ (32 ∷ u) in
-      let body =
-      body_back rule m.structured_data m.msg canonical.elements own.elements canonical.msg_front own.no_list in
-      rows_join to_stamp (from_stamp rule dating) (to_stamp_back m y)
-      (row_cons (rfc3164_stamp dating) (body_row rule) (stamp_back dating m.timestamp y canonical.timestamp)
+      rows_join to_stamp (from_stamp rule dating) (to_stamp_back m _)
+      (row_cons (rfc3164_stamp dating) (body_row rule) (stamp_back dating m.timestamp _ c.0.timestamp)
       (rows_join to_colon (from_blanks rule)
-      (names_back m.hostname m.appname m.procid t canonical.hostname own.names b.procid) body))
+      (names_back m.hostname m.appname m.procid _ c.0.hostname own.names b.procid)
+      (body_back rule m.structured_data m.msg c.0.elements own.elements c.0.msg_front own.no_list)))
 
   means_back : m ≡ told rule dating values (names m.hostname m.appname m.procid)
   means_back =
-      let parts = parts_back m.facility m.severity canonical.facility canonical.severity in
+      let parts = parts_back m.facility m.severity c.0.facility c.0.severity in
       λ i. record m {
         protocol = e i;
         facility = parts.0 i;
@@ -285,7 +261,7 @@ module _ (rule : DashRule) (dating : Dating) (m : MessageValue) (e : m.protocol 
     values = values;
     division = front_division (rfc3164_row rule dating)
         (subst (λ (x : Text). Front (Row (rfc3164_row rule dating)) x [] values)
-        (sym (trimmed_whole m canonical.msg_end)) row_back);
+        (sym (trimmed_whole m c.0.msg_end)) row_back);
     means = (
       names m.hostname m.appname m.procid,
       resolved m.hostname m.appname m.procid own.names b.procid,

@@ -1,50 +1,73 @@
--- A date that a text shows has one of twelve months, and numbers of 32 bits.
-use Rattle.std.proofs.Common.{ℕ, ◌≤◌, ◌<◌, ◌∷◌, inl, arith, map, subst, sym}
+-- What a text shows: a date has one of twelve months, and numbers of 32 bits.
+use Rattle.std.proofs.Common.{◌≡◌, ℕ, ◌<◌, ◌∷◌, Option, refl, ap, arith, map}
 use Rattle.std.proofs.lemmas.Option.{slice_get_within}
 use Rattle.std.specs.Char.{to_ascii_lowercase}
-use Rattle.syslog_pieces.specs.Pieces.Class.{Text, Values, Front, Row, some_run}
-use Rattle.syslog_pieces.specs.Text.{is_blank}
+use Rattle.syslog_pieces.specs.Pieces.Class.{Text, Class, Values, Front, Row, some_run, run, optional}
+use Rattle.syslog_pieces.specs.Pri.{priority}
+use Rattle.syslog_pieces.specs.Text.{trimmed, is_blank}
 use Rattle.syslog_pieces.specs.Timestamp.Rfc3164.{showing_row, BeginsWithDate, ShowsYearless, ShowsMonthDate}
-use Rattle.syslog_pieces.specs.Timestamp.MonthDate.{month_names, IsMonthName, month, short_number, clock_row}
-use Rattle.syslog_pieces.specs.Timestamp.MonthDate.{yearless_row, yearless_of, yearless_date, month_date}
+use Rattle.syslog_pieces.specs.Timestamp.MonthDate.{month_names, month, short_number, clock_row}
+use Rattle.syslog_pieces.specs.Timestamp.MonthDate.{yearless_row, yearless_of, yearless_date, dated_date, month_date}
 use Rattle.syslog_pieces.specs.declared.timestamp.month_date.MonthDate.{MonthDate}
-use Rattle.syslog_pieces.proofs.PieceLemmas.Class.{division_front, front_division}
-use Rattle.syslog_loose.specs.Reading.{incomplete, HasMonth}
+use Rattle.syslog_pieces.proofs.PieceLemmas.Class.{division_front, front_division, rest_front, unique_division, ◌also◌}
+use Rattle.syslog_pieces.proofs.PieceLemmas.Class.{optional_det, run_det, rest_det}
+use Rattle.syslog_pieces.proofs.PieceLemmas.Kinds.{first_kind}
 use Rattle.syslog_pieces.proofs.PieceLemmas.Rows.{row_pieces, row_of, ◌then◌}
-
-month_range : (p : Text) (n : ℕ) → IsMonthName p n → (1 ≤ n) × (n ≤ 12)
-month_range p n (before, e, at) =
-    let within : before < 12 = slice_get_within month_names before (map to_ascii_lowercase p) at in
-    (omega arith, omega arith)
+use Rattle.syslog_pieces.proofs.PriLemmas.{priority_det}
+use Rattle.syslog_pieces.proofs.TimestampLemmas.MonthDate.{month_date_det}
+use Rattle.syslog_loose.specs.Reading.{incomplete, HasMonth}
 
 row_has_month : {t q : Text} (vs : Values yearless_row) → Front (Row yearless_row) t q vs
     → HasMonth (incomplete (yearless_of vs))
 row_has_month vs f =
     let (_, f1, more) = row_pieces (month ∷ some_run is_blank ∷ short_number ∷ some_run is_blank ∷ clock_row) f in
     let (_, _, (_, f3, (_, _, (_, f5, (_, _, (_, f7, (_, _, (_, f9, _)))))))) = more in
-    let m = month_range f1.piece vs.0 f1.is in
-    let day = f3.is.4 in
-    let hour = f5.is.4 in
-    let minute = f7.is.4 in
-    let second = f9.is.4 in
-    (m.0, m.1, omega arith, omega arith, omega arith, omega arith)
+    let (before, e, at) = f1.is in
+    let within : before < 12 = slice_get_within month_names before (map to_ascii_lowercase f1.piece) at in (
+      omega arith,
+      omega arith,
+      omega (arith, f3.is.4),
+      omega (arith, f5.is.4),
+      omega (arith, f7.is.4),
+      omega (arith, f9.is.4),
+    )
 
 pub date_has_month : {t q : Text} (d : MonthDate) → Front yearless_date t q d → HasMonth (incomplete d)
 date_has_month {t} {q} d f =
     let (vs, h, e) = f.is in
     let row : Front (Row yearless_row) t q vs = record { piece = f.piece; whole = f.whole; is = h } in
-    subst (λ (x : MonthDate). HasMonth (incomplete x)) (sym e) (row_has_month vs row)
+    rw e (row_has_month vs row)
+
+-- ---- what a text shows
+
+-- a priority, blanks and a date of the class show that date
+pub shows : (date : Class) {text t u q : Text} {p : Option ℕ} {d : date.Value} → Front (optional priority) text t p
+    → Front (run is_blank) t u tt → Front date u q d → BeginsWithDate date text d
+shows date {q = q} {p = p} f gap g = (
+  p,
+  q,
+  front_division (showing_row date) (row_of (showing_row date) (f then gap then g then rest_front q then refl)),
+)
+
+-- and back
+pub shown_parts : (date : Class) (text : Text) (d : date.Value) → BeginsWithDate date text d
+    → (p : Option ℕ) × (t : Text) × (u : Text) × (q : Text) × Front (optional priority) text t p
+    × Front (run is_blank) t u tt × Front date u q d
+shown_parts date text d (p, more, division) =
+    let (t, f, (u, gap, (q, g, _))) = row_pieces (showing_row date) (division_front (showing_row date) division) in
+    (p, t, u, q, f, gap, g)
 
 pub shown_has_month : (text : Text) (d : MonthDate) → BeginsWithDate yearless_date text d → HasMonth (incomplete d)
-shown_has_month text d (p, more, division) =
-    let (_, _, more) = row_pieces (showing_row yearless_date) (division_front (showing_row yearless_date) division) in
-    let (_, _, (_, date, _)) = more in date_has_month d date
+shown_has_month text d is = let (_, _, _, _, _, _, date) = shown_parts yearless_date text d is in date_has_month d date
 
 -- a date without a year is a month date
 pub shows_month_date : (text : Text) (d : MonthDate) → ShowsYearless text d → ShowsMonthDate text d
-shows_month_date text d (p, more, division) =
-    let pieces = row_pieces (showing_row yearless_date) (division_front (showing_row yearless_date) division) in
-    let (_, pri, (t, gap, (u, shown, behind))) = pieces in
-    let date : Front month_date t u d = record { piece = shown.piece; whole = shown.whole; is = inl shown.is } in
-    let row = row_of (showing_row month_date) (pri then gap then date then behind) in
-    (p, more, front_division (showing_row month_date) row)
+shows_month_date text d is =
+    let (p, t, u, q, f, gap, date) = shown_parts yearless_date (trimmed text) d is in
+    shows month_date f gap (first_kind MonthDate yearless_date.Is dated_date.Is date)
+
+-- a text shows one month date
+pub shown_once : (text : Text) (d e : MonthDate) → ShowsMonthDate text d → ShowsMonthDate text e → d ≡ e
+shown_once text d e (_, _, x) (_, _, y) =
+    ap (λ (z : Values (showing_row month_date)). z.1.1.0) (unique_division (showing_row month_date)
+    (optional_det priority priority_det also run_det is_blank also month_date_det also rest_det also tt) x y).1

@@ -1,31 +1,29 @@
 -- A text has one division into the pieces of RFC 3164, and is read as one message.
 use Rattle.std.specs.Option.{option_and_then}
 use Rattle.std.proofs.Common.{◌≡◌, None, sym, ap, subst, ◌∙◌, ◌∷◌, []}
-use Rattle.syslog_pieces.specs.Pieces.Class.{Text, Values, exactly, spaced, run, rest, optional}
-use Rattle.syslog_pieces.specs.Pri.{priority, facility_of, severity_of}
+use Rattle.syslog_pieces.specs.Pieces.Class.{Text, Values, run, rest, optional}
+use Rattle.syslog_pieces.specs.Pri.{facility_of, severity_of}
 use Rattle.syslog_pieces.specs.StructuredData.Rfc3164List.{rfc3164_list, elements_or}
-use Rattle.syslog_pieces.specs.Text.{is_blank, colon, host, tag_word}
+use Rattle.syslog_pieces.specs.Text.{is_blank}
+use Rattle.syslog_pieces.specs.Timestamp.Rfc3164.{rfc3164_stamp}
 use Rattle.syslog_pieces.specs.Timestamp.Zone.{Dating}
 use Rattle.syslog_pieces.specs.declared.structured_data.rfc3164_list.DashRule.{DashRule}
-use Rattle.syslog_pieces.proofs.PieceLemmas.Class.{AllDeterministic, unique_division, optional_det, exactly_det}
-use Rattle.syslog_pieces.proofs.PieceLemmas.Class.{run_det, rest_det, spaced_det, ◌also◌, all_joined}
-use Rattle.syslog_pieces.proofs.PriLemmas.{priority_det}
+use Rattle.syslog_pieces.proofs.PieceLemmas.Class.{AllDeterministic, unique_division, optional_det, run_det, rest_det}
+use Rattle.syslog_pieces.proofs.PieceLemmas.Class.{◌also◌, all_joined}
 use Rattle.syslog_pieces.proofs.StructuredDataLemmas.Rfc3164List.{rfc3164_list_det}
-use Rattle.syslog_pieces.proofs.TextLemmas.Words.{host_det, tag_word_det}
 use Rattle.syslog_pieces.proofs.TimestampLemmas.Rfc3164.{rfc3164_stamp_det}
 use Rattle.syslog_loose.specs.Message.{MessageValue}
 use Rattle.syslog_loose.specs.declared.message.Protocol.TheVariants.{RFC3164}
 use Rattle.syslog_loose.specs.Rfc3164.{Names3164, fields_row, stamped_row, body_row, rfc3164_row, Means3164, IsRead3164}
 use Rattle.syslog_loose.proofs.Rfc3164Lemmas.{resolves_once}
+use Rattle.syslog_loose.proofs.Rfc3164Lemmas.Rows.{to_stamp, to_stamp_det, to_colon, to_colon_det}
 
 pub fields_det : AllDeterministic fields_row
-fields_det =
-    optional_det (spaced host) (spaced_det host host_det)
-    also optional_det (spaced tag_word) (spaced_det tag_word tag_word_det)
-    also run_det is_blank also optional_det (exactly colon) (exactly_det colon) also run_det is_blank also tt
+fields_det = all_joined to_colon (run is_blank ∷ []) to_colon_det (run_det is_blank also tt)
 
 pub stamped_det : (dating : Dating) → AllDeterministic (stamped_row dating)
-stamped_det dating = optional_det priority priority_det also run_det is_blank also rfc3164_stamp_det dating also tt
+stamped_det dating =
+    all_joined to_stamp (rfc3164_stamp dating ∷ []) to_stamp_det (rfc3164_stamp_det dating also tt)
 
 pub body_det : (rule : DashRule) → AllDeterministic (body_row rule)
 body_det rule =
@@ -50,16 +48,12 @@ told rule dating (pri, (_, (stamp, (_, (_, (_, (_, (_, (es, (_, (m, _)))))))))))
   msg = m;
 }
 
--- pieces mean one message
-means_once : (rule : DashRule) (dating : Dating) (vs : Values (rfc3164_row rule dating)) (m n : MessageValue)
-    → Means3164 rule dating vs m → Means3164 rule dating vs n → m ≡ n
-means_once rule dating vs m n (x, h, e) (y, k, f) =
-    e ∙ ap (told rule dating vs) (resolves_once vs.1.1.1.0 vs.1.1.1.1.0 x y h k) ∙ sym f
-
 -- a text is read as one message
 pub one_message : (rule : DashRule) (dating : Dating) (text : Text) (m n : MessageValue) → IsRead3164 rule dating text m
     → IsRead3164 rule dating text n → m ≡ n
 one_message rule dating text m n r s =
     let same = (unique_division (rfc3164_row rule dating) (rfc3164_det rule dating) r.division s.division).1 in
-    means_once rule dating s.values m n
-    (subst (λ (vs : Values (rfc3164_row rule dating)). Means3164 rule dating vs m) same r.means) s.means
+    let (x, h, e) =
+    subst (λ (vs : Values (rfc3164_row rule dating)). Means3164 rule dating vs m) same r.means in
+    let (y, k, f) = s.means in
+    e ∙ ap (told rule dating s.values) (resolves_once s.values.1.1.1.0 s.values.1.1.1.1.0 x y h k) ∙ sym f

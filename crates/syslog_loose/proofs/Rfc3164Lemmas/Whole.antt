@@ -37,10 +37,7 @@ body_is (e ∷ es) msg = append_assoc (joined_elements (e ∷ es)) (32 ∷ []) m
 pub printed_whole : (m : MessageValue) → printed_3164 m ≡ whole m (32 ∷ body_text m.structured_data m.msg)
 unfolding printed_3164
 printed_whole m =
-    ap (λ (x : Text). 60 ∷ (decimal (priority_of m) ++ (62 ∷ 32 ∷
-    (timestamp_text m.timestamp ++ (32 ∷ (name_text m.hostname ++ (32 ∷ x)))))))
-    (tag_is m.appname m.procid (spaced_elements m.structured_data ++ m.msg)
-    ∙ ap (λ (x : Text). program_text m.appname m.procid ++ (58 ∷ 32 ∷ x)) (body_is m.structured_data m.msg))
+    rw (tag_is m.appname m.procid (spaced_elements m.structured_data ++ m.msg), body_is m.structured_data m.msg)
 
 -- ---- trimming
 whole_is : (m : MessageValue) (q : Text) → whole m [] ++ q ≡ whole m q
@@ -48,11 +45,8 @@ whole_is m q = simp append_assoc refl
 
 whole_last : (m : MessageValue) → LastVisible (whole m [])
 whole_last m =
-    let program : Text = 32 ∷ (program_text m.appname m.procid ++ (58 ∷ [])) in
-    let host : Text = 32 ∷ (name_text m.hostname ++ program) in
-    last_append (60 ∷ decimal (priority_of m)) (62 ∷ 32 ∷ (timestamp_text m.timestamp ++ host))
-    (last_append (62 ∷ 32 ∷ timestamp_text m.timestamp) host
-    (last_append (32 ∷ name_text m.hostname) program
+    last_append (60 ∷ decimal (priority_of m)) _ (last_append (62 ∷ 32 ∷ timestamp_text m.timestamp) _
+    (last_append (32 ∷ name_text m.hostname) _
     (last_append (32 ∷ program_text m.appname m.procid) (58 ∷ []) refl)))
 
 tail_is : (es : List ElementValue) (msg : Text) → EndsVisibly msg

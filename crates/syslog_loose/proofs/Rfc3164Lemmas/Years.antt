@@ -1,48 +1,31 @@
 -- Where a text shows no date without a year, the year that stands in for one counts for nothing.
-use Rattle.std.proofs.Common.{◌≡◌, inl, inr, Option, Some, None, refl, sym, subst}
-use Rattle.syslog_pieces.specs.Pieces.Class.{Text, Values, Front}
+use Rattle.std.proofs.Common.{◌≡◌, inl, inr, Option, Some, None, refl}
+use Rattle.syslog_pieces.specs.Pieces.Class.{Text, Front}
 use Rattle.syslog_pieces.specs.Text.{trimmed}
-use Rattle.syslog_pieces.specs.Timestamp.Rfc3164.{rfc3164_stamp, showing_row, ShowsYearless}
-use Rattle.syslog_pieces.specs.Timestamp.MonthDate.{yearless_date, dated_row, dated_of}
-use Rattle.syslog_pieces.specs.Timestamp.Zone.{Dating, IsStampInAny, IsMonthStamp}
-use Rattle.jiff.specs.Types.{TimeZone}
+use Rattle.syslog_pieces.specs.Timestamp.Rfc3164.{rfc3164_stamp, ShowsYearless}
+use Rattle.syslog_pieces.specs.Timestamp.MonthDate.{yearless_date}
+use Rattle.syslog_pieces.specs.Timestamp.Zone.{Dating}
 use Rattle.syslog_pieces.specs.declared.structured_data.rfc3164_list.DashRule.{DashRule}
 use Rattle.syslog_pieces.specs.declared.timestamp.OffsetTimestamp.{OffsetTimestamp}
 use Rattle.syslog_pieces.specs.declared.timestamp.month_date.MonthDate.{MonthDate}
-use Rattle.syslog_pieces.proofs.PieceLemmas.Class.{division_front, front_division, rest_front}
+use Rattle.syslog_pieces.proofs.PieceLemmas.Class.{division_front}
 use Rattle.syslog_pieces.proofs.PieceLemmas.Rows.{row_of, row_pieces, ◌then◌}
 use Rattle.syslog_loose.specs.Message.{MessageValue}
 use Rattle.syslog_loose.specs.Rfc3164.{rfc3164_row, IsRead3164, Quotes3164}
 use Rattle.syslog_loose.proofs.Rfc3164Lemmas.Quoting.{quotes}
 use Rattle.syslog_loose.proofs.Rfc3164Lemmas.Reading.{is_read}
+use Rattle.syslog_loose.proofs.Rfc3164Lemmas.Shown.{shows}
 
 module _ (dating other : Dating) (zone : dating.zone ≡ other.zone) (local : dating.local ≡ other.local) where
   -- a date that has its year has one timestamp under both
-  dated_stamp : (vs : Values dated_row) (s : OffsetTimestamp) → IsMonthStamp dating (dated_of vs) s
-      → IsMonthStamp other (dated_of vs) s
-  dated_stamp vs s (year, e, (dt, f, h)) = (
-    year,
-    e,
-    (
-      dt,
-      f,
-      subst (λ (x : TimeZone). IsStampInAny other.zone x dt s) local
-          (subst (λ (x : Option TimeZone). IsStampInAny x dating.local dt s) zone h),
-    ),
-  )
-
   other_stamp : (p q : Text) (v : Option OffsetTimestamp) → ((d : MonthDate) → yearless_date.Is p q d → ⊥)
       → (rfc3164_stamp dating).Is p q v → (rfc3164_stamp other).Is p q v
   other_stamp p q v n (inl h) = inl h
   other_stamp p q None n (inr h) = absurd h
   other_stamp p q (Some s) n (inr (d, inl h, k)) = absurd (n d h)
   other_stamp p q (Some s) n (inr (d, inr (vs, h, e), k)) =
-      inr (
-        d,
-        inr (vs, h, e),
-        subst (λ (x : MonthDate). IsMonthStamp other x s) (sym e)
-            (dated_stamp vs s (subst (λ (x : MonthDate). IsMonthStamp dating x s) e k)),
-      )
+      let (year, is, (dt, f, stamp)) = rw e at k in
+      inr (d, inr (vs, h, e), rw e (year, is, (dt, f, rw (zone, local) at stamp)))
 
   module _ (rule : DashRule) (text : Text) (none : (d : MonthDate) → ShowsYearless text d → ⊥) where
     -- so the pieces are the same, with the same meanings
@@ -50,15 +33,8 @@ module _ (dating other : Dating) (zone : dating.zone ≡ other.zone) (local : da
     other_read m r =
         let row = row_pieces (rfc3164_row rule dating) (division_front (rfc3164_row rule dating) r.division) in
         let (_, pri, (u, gap, (q, stamp, behind))) = row in
-        let date : (d : MonthDate) → yearless_date.Is stamp.piece q d → Front yearless_date u q d =
-        λ d k. record { piece = stamp.piece; whole = stamp.whole; is = k } in
         let undated : (d : MonthDate) → yearless_date.Is stamp.piece q d → ⊥ = λ d k.
-        none d (
-          r.values.0,
-          q,
-          front_division (showing_row yearless_date)
-              (row_of (showing_row yearless_date) (pri then gap then date d k then rest_front q then refl)),
-        ) in
+        none d (shows yearless_date pri gap (record { piece = stamp.piece; whole = stamp.whole; is = k })) in
         let same : Front (rfc3164_stamp other) u q r.values.1.1.0 = record {
           piece = stamp.piece;
           whole = stamp.whole;

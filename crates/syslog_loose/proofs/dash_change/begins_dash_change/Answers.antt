@@ -1,5 +1,5 @@
-use Rattle.syslog_loose.proofs.DashChangeLemmas.{no_dash}
+use Rattle.std.proofs.Common.{[], ◌∷◌, refl}
 use Rattle.syslog_loose.proofs.dash_change.begins_dash_change.Goals as goal
 
 pub returns-in_default : goal.returns-in_default
-returns-in_default c = no_dash _ c.in_default.ensures
+returns-in_default c = λ h. c.in_default.ensures (45 ∷ []) (h.next ∷ h.behind) tt h.is refl

@@ -1,8 +1,5 @@
-use Rattle.std.proofs.Common.{◌≡◌, true, false, subst}
-use Rattle.std.specs.Str.{chars}
-use Rattle.syslog_pieces.specs.Pieces.Class.{Text}
+use Rattle.std.proofs.Common.{◌≡◌, true, false}
 use Rattle.syslog_pieces.specs.Timestamp.Zone.{dating_value}
-use Rattle.syslog_loose.specs.View3164.{IsBehindStamp}
 use Rattle.syslog_loose.proofs.Rfc3164Lemmas.Reading.{not_read}
 use Rattle.syslog_loose.proofs.rfc3164.read.Goals as goal
 
@@ -13,12 +10,9 @@ returns-in_default-clause-read c whole e =
 pub returns-in_err-message-clause-memory : goal.returns-in_err-message-clause-memory
 returns-in_err-message-clause-memory c whole e none =
     let dating = dating_value c.args.dating.now in
-    let f = subst (λ (x : Text). IsBehindStamp dating x c.in-Some.stamped (chars c.in-Some.rest.now)) e
-    c.in-Some.ensures in
-    let refused : false ≡ true = c.in_err-message.ensures.memory dating whole f none in absurd (cc)
+    let refused : false ≡ true = c.in_err-message.ensures.memory dating whole (rw e at c.in-Some.ensures) none in
+    absurd (cc)
 
 pub returns-clause-read : goal.returns-clause-read
 returns-clause-read c whole e =
-    let dating = dating_value c.args.dating.now in
-    c.in_ok-message.ensures.read dating whole
-    (subst (λ (x : Text). IsBehindStamp dating x c.in-Some.stamped (chars c.in-Some.rest.now)) e c.in-Some.ensures)
+    c.in_ok-message.ensures.read (dating_value c.args.dating.now) whole (rw e at c.in-Some.ensures)
