@@ -46,7 +46,7 @@ find_char c (d ∷ t) = elim (eqb_tells d c) [
   | inr r ↦ inr (λ p q v e h. r.1 (heads d c t q (e ∙ ap (λ (x : Text). x ++ q) h)))
 ]
 
-find_run : (test : ℕ → Bool) (t : Text) → (p : Text) × (q : Text) × (t ≡ p ++ q) × Each test p × Ends test q
+pub find_run : (test : ℕ → Bool) (t : Text) → (p : Text) × (q : Text) × (t ≡ p ++ q) × Each test p × Ends test q
 find_run test [] = ([], [], refl, tt, tt)
 find_run test (c ∷ t) = elim (decide (test c)) [
   | inl h ↦ (let (p, q, e, a, b) = find_run test t in (c ∷ p, q, ap (λ (x : Text). c ∷ x) e, (h, a), b))

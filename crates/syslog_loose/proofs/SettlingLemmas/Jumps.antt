@@ -5,18 +5,18 @@ use Rattle.std.proofs.lemmas.List.{length-append}
 use Rattle.std.specs.Char.{is_not_whitespace}
 use Rattle.syslog_pieces.specs.Pieces.Class.{Text, Values, Front, Row, Each, run}
 use Rattle.syslog_pieces.specs.Pri.{facility_of, severity_of}
-use Rattle.syslog_pieces.specs.StructuredData.Rfc3164List.{IsDashBefore, rfc3164_list, BeginsNoList}
+use Rattle.syslog_pieces.specs.StructuredData.Rfc3164List.{IsDashBefore, rfc3164_list}
 use Rattle.syslog_pieces.specs.Text.{is_blank, colon, EndsInColon}
 use Rattle.syslog_pieces.specs.Timestamp.Rfc3164.{rfc3164_stamp}
 use Rattle.syslog_pieces.specs.Timestamp.Canonical.{IsCanonicalStamp}
 use Rattle.syslog_pieces.specs.Timestamp.Zone.{Dating}
 use Rattle.syslog_pieces.specs.declared.structured_data.rfc3164_list.DashRule.TheVariants.{BeforeBlank}
-use Rattle.syslog_pieces.proofs.PieceLemmas.Class.{heads, row_cons, rows_join, rest_front, front_division}
+use Rattle.syslog_pieces.proofs.PieceLemmas.Class.{row_cons, rows_join, rest_front, front_division}
 use Rattle.syslog_pieces.proofs.PieceLemmas.Class.{optional_some}
 use Rattle.syslog_pieces.proofs.PieceLemmas.Each.{each_front}
 use Rattle.syslog_pieces.proofs.PieceLemmas.Rows.{row_of, ◌then◌}
 use Rattle.syslog_pieces.proofs.PieceLemmas.Steps.{piece_front}
-use Rattle.syslog_pieces.proofs.StructuredDataLemmas.Rfc3164List.{dash_rfc3164_list, full_begins}
+use Rattle.syslog_pieces.proofs.StructuredDataLemmas.Rfc3164List.{dash_rfc3164_list}
 use Rattle.syslog_loose.specs.Canonical.{IsVisible, IsBoundedProcess}
 use Rattle.syslog_loose.specs.Exceptions.{HasExceptionsAlone}
 use Rattle.syslog_loose.specs.Jumps.{colons, colons_before, message_end, tail_text, past_colons, EndsColons}
@@ -41,6 +41,7 @@ use Rattle.syslog_loose.proofs.Rfc3164Lemmas.Unique.{told}
 use Rattle.syslog_loose.proofs.Rfc3164Lemmas.Whole.{trimmed_whole}
 use Rattle.syslog_loose.proofs.SettlingLemmas.Falls.{behind_space, priority_again, printed_same}
 use Rattle.syslog_loose.proofs.SettlingLemmas.Names.{host_left, no_form_open, names_text}
+use Rattle.syslog_loose.proofs.SettlingLemmas.NoList.{no_list_by}
 use Rattle.syslog_loose.proofs.SettlingLemmas.Rounds.{reached_first, reached_next}
 use Rattle.syslog_loose.proofs.SettlingLemmas.Settles.{no_protocol, as_rfc3164, odd_unsettled}
 
@@ -79,19 +80,10 @@ as_variant variants.RFC3164 dating text m n r e s = rw (printed_is m e) s
 as_variant variants.Either dating text m n r e s = rw (printed_is m e) (inr (printed_apart m, s))
 
 -- a text that begins with a dash and a blank begins with a list
-dash_before : (t next : Text) (d : IsDashed t next) → IsDashBefore BeforeBlank (d.blanks ++ next)
-dash_before t next d = before d.blanks d.some d.each
-  where
-    before : (blanks : Text) → 0 < length blanks → Each is_blank blanks → IsDashBefore BeforeBlank (blanks ++ next)
-    before [] l k = absurd (omega arith)
-    before (c ∷ cs) l k = k.0
-
--- and a colon with none
-no_list_colon : (t : Text) → BeginsNoList BeforeBlank (58 ∷ t)
-no_list_colon t = (
-  λ q e k. let u : ◌≡◌ {A = ℕ} 58 45 = heads 58 45 t q e in omega arith,
-  λ p q v e h. (let s = full_begins p q v h in let u : ◌≡◌ {A = ℕ} 58 91 = heads 58 91 t s.0 (e ∙ s.1) in omega arith),
-)
+dash_before : (blanks next : Text) → 0 < length blanks → Each is_blank blanks
+    → IsDashBefore BeforeBlank (blanks ++ next)
+dash_before [] next l k = absurd (omega arith)
+dash_before (c ∷ cs) next l k = k.0
 
 module _ (variant : Variant) (dating : Dating) (text : Text) (m : MessageValue) (r : IsRead variant dating text m)
     (e : m.protocol ≡ RFC3164) where
@@ -137,7 +129,7 @@ module _ (variant : Variant) (dating : Dating) (text : Text) (m : MessageValue) 
       behind_stamp vs (names (Some h) None None) k
       (subst (λ (x : Text). Front (Row (body_row BeforeBlank)) x [] vs) text_is
       (rows_join to_colon (from_blanks BeforeBlank) (host_left h tail visible)
-      (body_back BeforeBlank [] (58 ∷ tail) tt tt refl (λ _. no_list_colon tail))))
+      (body_back BeforeBlank [] (58 ∷ tail) tt tt refl (λ _. no_list_by BeforeBlank 58 tail (λ e. omega arith) (λ e. omega arith)))))
       (inr (rw o (no_form_open front 58 [] (refl, tt)), refl))
 
   -- a message part of dashes loses one, which is taken for an empty list
@@ -152,7 +144,7 @@ module _ (variant : Variant) (dating : Dating) (text : Text) (m : MessageValue) 
       row_of (from_blanks BeforeBlank)
       (piece_front (run is_blank) (32 ∷ []) (45 ∷ behind) tt ((refl, tt), refl)
       then optional_some (rfc3164_list BeforeBlank)
-      (dash_rfc3164_list BeforeBlank (45 ∷ behind) behind refl (dash_before m.msg rest d))
+      (dash_rfc3164_list BeforeBlank (45 ∷ behind) behind refl (dash_before d.blanks rest d.some d.each))
       then piece_front (run is_blank) d.blanks rest tt (d.each, d.no_more) then rest_front rest then refl) in
       let tail_is : 32 ∷ 45 ∷ behind ≡ tail = rw (es, d.whole) refl in
       let from : Values (from_blanks BeforeBlank) = (tt, (Some [], (tt, (rest, tt)))) in
@@ -216,7 +208,7 @@ module _ (variant : Variant) (dating : Dating) (input : Text) (m : MessageValue)
       let read = dash_read variant dating k.0 y k.1 p u none es d in
       next_known n y _ k read
       (odd_unsettled variant dating (printed y) _ read refl
-      (λ none. (none.message_is_no_list refl).0 (f.blanks ++ next) f.whole (dash_before u next f)))
+      (λ none. (none.message_is_no_list refl).0 (f.blanks ++ next) f.whole (dash_before f.blanks next f.some f.each)))
 
   module _ (none : HasNoNameException m) (es : m.structured_data ≡ []) where
     more_dashes : (n : ℕ) (before u next : Text) → Known (suc n) (read_with m (names_of m) before) → IsDashed before u

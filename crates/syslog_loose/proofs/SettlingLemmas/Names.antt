@@ -1,7 +1,9 @@
 -- What the printed names of a message are read as: names that print the same, or lighter ones.
 use Rattle.std.proofs.Common.{◌≡◌, ◌≢◌, ℕ, ◌<◌, ◌≤◌, ◌⊎◌, inl, inr, true, false, not, nat_eq, [], ◌∷◌, ◌++◌}
 use Rattle.std.proofs.Common.{length, Option, Some, None, IfSome, refl, sym, ap, subst, ◌∙◌, arith, append_assoc}
-use Rattle.std.proofs.lemmas.Bool.Decides.{eqb_tells}
+use Rattle.std.proofs.lemmas.Bool.Decides.{nat_tests}
+use Rattle.std.proofs.Common.{append-nil}
+use Rattle.syslog_loose.proofs.SettlingLemmas.Decided.{find_run}
 use Rattle.std.proofs.lemmas.List.{length-append}
 use Rattle.std.proofs.lemmas.Slice.Eq.{bytes_eq-Decides}
 use Rattle.std.specs.Char.{is_not_whitespace}
@@ -68,9 +70,7 @@ pub no_form_open : (a : Text) (c : ℕ) (x : Text) → Each is_open_char (c ∷ 
 no_form_open a c x h vs d =
     let (_, f1, (_, f2, (_, f3, (t4, f4, e)))) = row_pieces form_row (division_front form_row d) in
     by a (f1.piece ++ (f2.piece ++ f3.piece))
-    (f1.whole ∙ ap (λ (y : Text). f1.piece ++ y) (f2.whole ∙ ap (λ (y : Text). f2.piece ++ y) (f3.whole
-    ∙ ap (λ (y : Text). f3.piece ++ y) (f4.whole ∙ ap (λ (y : Text). y ++ t4) f4.is ∙ ap (λ (y : Text). 93 ∷ y) e)))
-    ∙ sym (simp append_assoc))
+    (simp (f1.whole, f2.whole, f3.whole, f4.whole, f4.is, e, append_assoc))
   where
     by : (a front : Text) → a ++ (c ∷ x) ≡ front ++ (93 ∷ []) → ⊥
     by [] front e = let k = each_behind is_open_char front (93 ∷ []) (subst (λ (y : Text). Each is_open_char y) e h) in
@@ -136,24 +136,16 @@ cut_text a x z t = simp append_assoc
 abbrev Cut : Option (ProcId Text) → Type 0
 Cut p = (before : Text) × (after : Text) × (p ≡ Some (Name (before ++ (58 ∷ after)))) × Each is_no_colon before
 
-first_colon : (i : Text) → Each is_no_colon i
-    ⊎ ((before : Text) × (after : Text) × (i ≡ before ++ (58 ∷ after)) × Each is_no_colon before)
-first_colon [] = inl tt
-first_colon (c ∷ i) = elim (eqb_tells c 58) [
-  | inl r ↦ inr ([], i, ap (λ (x : ℕ). x ∷ i) r.1, tt)
-  | inr r ↦ elim (first_colon i) [
-    | inl k ↦ inl (ap not r.0, k)
-    | inr (before, after, e, k) ↦ inr (c ∷ before, after, ap (λ (x : Text). c ∷ x) e, (ap not r.0, k))
-  ]
-]
-
 whole_or_cut : (p : Option (ProcId Text)) → IfSome p HasNoColon ⊎ Cut p
 whole_or_cut None = inl tt
 whole_or_cut (Some (PID i)) = inl tt
-whole_or_cut (Some (Name i)) = elim (first_colon i) [
-  | inl k ↦ inl k
-  | inr (before, after, e, k) ↦ inr (before, after, ap (λ (x : Text). Some (Name x)) e, k)
-]
+whole_or_cut (Some (Name i)) = let (before, q, e, k, ends) = find_run is_no_colon i in by before q e k ends
+  where
+    by : (before q : Text) → i ≡ before ++ q → Each is_no_colon before → Ends is_no_colon q
+        → Each is_no_colon i ⊎ Cut (Some (Name i))
+    by before [] e k ends = inl (subst (Each is_no_colon) (sym (e ∙ append-nil before)) k)
+    by before (c ∷ after) e k ends =
+        let is : c ≡ 58 = grind (arith, nat_tests) in inr (before, after, rw (e, is) refl, k)
 
 cut_colon : (p : Option (ProcId Text)) → Cut p → IfSome p HasNoColon → ⊥
 cut_colon p (x, z, is, none) h = let k = each_behind is_no_colon x (58 ∷ z) (rw is at h) in

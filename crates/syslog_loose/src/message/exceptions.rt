@@ -88,6 +88,7 @@ fn is_uncut_process(process: &Option<ProcId<&str>>) -> bool
     }
 }
 
+#[tactic(auto, using(crate::proofs::ExceptionLemmas::no_colon_told))]
 fn has_no_colon(name: &str) -> bool
     ensures { IsTrue result ↔ Each spec.is_no_colon (chars name.now) }
 {
