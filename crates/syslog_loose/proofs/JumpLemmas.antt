@@ -181,24 +181,18 @@ some_next t A (Some x) h m = (shown x, m)
 
 -- ---- what was written
 module _ (variant : Variant) (dating : Dating) (input : Text) where
+  pub round_printed : (t : Text) (bytes : List ℕ) → IsUtf8 bytes → bytes ≡ encode_utf8_all t
+      → (n : ℕ) × Reaches variant dating input n t → (n : ℕ) × Reaches variant dating input n (chars bytes)
+  round_printed t bytes u w reaches = rw (← chars_from_encodes t bytes u (sym w)) reaches
+
   pub round_written : (m : MessageValue) (h : Text) (cut : ℕ) (bytes : List ℕ) → IsUtf8 bytes
       → IsRead variant dating input m → m.protocol ≡ RFC3164 → EndsColons m h cut → 0 < cut
       → bytes ≡ encode_utf8_all (printed (past_colons m h (cut - 1)))
       → (n : ℕ) × Reaches variant dating input n (chars bytes)
   round_written m h cut bytes u r e k l w =
-      let n : ℕ = cut - 1 in
-      let same : cut ≡ suc n = omega (arith, l) in (
-        suc n,
-        subst (λ (x : Text). Reaches variant dating input (suc n) x)
-            (chars_from_encodes (printed (past_colons m h n)) bytes u (sym w))
-            (colons_skipped variant dating input m r e k.timestamp h n (subst (λ (j : ℕ). EndsColons m h j) same k)),
-      )
-
-  pub round_printed : (m : MessageValue) (bytes : List ℕ) → IsUtf8 bytes
-      → (n : ℕ) × Reaches variant dating input n (printed m) → bytes ≡ encode_utf8_all (printed m)
-      → (n : ℕ) × Reaches variant dating input n (chars bytes)
-  round_printed m bytes u (n, r) w =
-      (n, subst (λ (x : Text). Reaches variant dating input n x) (chars_from_encodes (printed m) bytes u (sym w)) r)
+      let same : cut ≡ suc (cut - 1) = omega (arith, l) in
+      round_printed (printed (past_colons m h (cut - 1))) bytes u w
+      (suc (cut - 1), colons_skipped variant dating input m r e k.timestamp h (cut - 1) (rw same at k))
 
 -- what the front, which is printed with a colon as its message part, prints with what is written behind it
 front_more : (m : MessageValue) (t : Text) → printed_3164 (with_msg m (m.msg ++ t)) ≡ printed_3164 m ++ t

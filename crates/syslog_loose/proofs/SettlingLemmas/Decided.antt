@@ -2,7 +2,8 @@
 -- closes them, a piece begins the text or none does.
 use Rattle.std.proofs.Common.{◌≡◌, ℕ, zero, suc, ◌≤◌, ◌⊎◌, inl, inr, Bool, true, false, List, [], ◌∷◌, ◌++◌, length}
 use Rattle.std.proofs.Common.{refl, sym, ap, subst, ◌∙◌, arith}
-use Rattle.std.proofs.lemmas.Bool.Decides.{eqb_tells}
+use Rattle.std.proofs.lemmas.Bool.Decides.{eqb_tells, not_from_Decides}
+use Rattle.std.specs.Bool.{Decides}
 use Rattle.syslog_pieces.specs.Bodies.Closing.{start_row, start, opening_row, opening, quoted_row, quoted, closing}
 use Rattle.syslog_pieces.specs.Pieces.Class.{Text, Class, Front, NoFront, Row, Each, Ends, run, some_run}
 use Rattle.syslog_pieces.specs.Pieces.Class.{exactly, texted}
@@ -29,6 +30,10 @@ use Rattle.syslog_pieces.proofs.StructuredDataLemmas.Units.{decide}
 -- it holds, or it does not
 abbrev pub Decided : Type 0 → Type 0
 Decided A = A ⊎ (A → ⊥)
+
+pub decided : {A : Type 0} (b : Bool) → Decides b A → Decided A
+decided true d = inl (d.0 refl)
+decided false d = inr (not_from_Decides false d refl)
 
 -- a piece of the class begins the text, or none does
 abbrev Finds : Class → Text → Type 0
@@ -146,8 +151,7 @@ find_full t = elim (find_start t) [
 dash_before : (rule : DashRule) (q : Text) → Decided (IsDashBefore rule q)
 dash_before BeforeAnything q = inl tt
 dash_before BeforeBlank [] = inl tt
-dash_before BeforeBlank (c ∷ q) =
-    elim (decide (is_blank c)) [ inl h ↦ inl h | inr h ↦ inr (λ k. let t : true ≡ false = sym k ∙ h in cc) ]
+dash_before BeforeBlank (c ∷ q) = decided (is_blank c) ((λ h. h), (λ h. h))
 
 dash_decided : (rule : DashRule) (t : Text) → Decided ((q : Text) → t ≡ 45 ∷ q → IsDashBefore rule q → ⊥)
 dash_decided rule [] = inl (λ q e a. cc)

@@ -159,10 +159,7 @@ stamp_step dating s q p r v e (inr h) =
 pub priority_again : (p : ℕ) → p < 192
     → option_map_or facility_number (facility_of p) 5 * 8 + option_map_or severity_number (severity_of p) 7 ≡ p
 priority_again p l =
-    let (f, s, e, g, h) = priority_composed p l in
-    ap (λ (x : Option SyslogFacility). option_map_or facility_number x 5 * 8
-    + option_map_or severity_number (severity_of p) 7) e
-    ∙ ap (λ (x : Option SyslogSeverity). facility_number f * 8 + option_map_or severity_number x 7) g ∙ h
+    let (f, s, e, g, h) = priority_composed p l in rw (e, g) h
 
 pub printed_same : (m n : MessageValue) → priority_of n ≡ priority_of m → n.timestamp ≡ m.timestamp
     → name_text n.hostname ≡ name_text m.hostname → tag_text n.appname n.procid ≡ tag_text m.appname m.procid
@@ -206,8 +203,7 @@ module _ (rule : DashRule) (dating : Dating) (m : MessageValue) (near : HasExcep
       let e = step_value (rfc3164_stamp dating) (body_row rule) (rfc3164_stamp_det dating) front d in
       let z = free y.stamp_is (rw e k) in
       let same : priority_of (told rule dating vs n) ≡ priority_of m =
-      ap (λ (u : Option ℕ). option_map_or facility_number (option_and_then facility_of u) 5 * 8 + option_map_or
-      severity_number (option_and_then severity_of u) 7) p ∙ priority_again (priority_of m) (priority_small m) in
+      rw p (priority_again (priority_of m) (priority_small m)) in
       elim (tail (step (rfc3164_stamp dating) (body_row rule) (rfc3164_stamp_det dating) front d)) [
         | inl l ↦ inl (omega (arith, x.total, y.total))
         | inr (l, s) ↦
@@ -224,9 +220,7 @@ falls rule first second text m n w v dashes r s x y =
     let (other, resolves, means) = s.means in
     let print = printed_is m near.protocol in
     let vs = s.values in
-    let d : Front (Row (rfc3164_row rule second)) (whole m (tail_text m.structured_data m.msg)) [] vs =
-    subst (λ (u : Text). Front (Row (rfc3164_row rule second)) u [] vs) (ap trimmed print
-    ∙ trimmed_whole m near.msg_end) (division_front (rfc3164_row rule second) s.division) in
+    let d = rw (print, trimmed_whole m near.msg_end) at (division_front (rfc3164_row rule second) s.division) in
     let (first, more) = rows_step to_stamp (from_stamp rule second) to_stamp_det {vs = vs}
     (to_stamp_back m (behind_space m)) d in
     let z = subst (λ (u : MessageValue). Weighs rule u v) means y in

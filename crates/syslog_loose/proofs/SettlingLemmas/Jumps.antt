@@ -101,12 +101,9 @@ module _ (variant : Variant) (dating : Dating) (text : Text) (m : MessageValue) 
       → Front (Row (body_row BeforeBlank)) (32 ∷ behind_space m) [] vs → Resolves vs.0 vs.1.0 n
       → IsRead variant dating (printed m) (told BeforeBlank dating (Some (priority_of m), (tt, (m.timestamp, vs))) n)
   behind_stamp vs n k f means =
-      let vs' : Values (rfc3164_row BeforeBlank dating) = (Some (priority_of m), (tt, (m.timestamp, vs))) in
       as_variant variant dating text m _ r e (record {
-        values = vs';
-        division = front_division (rfc3164_row BeforeBlank dating)
-            (subst (λ (x : Text). Front (Row (rfc3164_row BeforeBlank dating)) x [] vs')
-            (sym (trimmed_whole m near.msg_end))
+        values = (Some (priority_of m), (tt, (m.timestamp, vs)));
+        division = front_division (rfc3164_row BeforeBlank dating) (rw (trimmed_whole m near.msg_end)
             (rows_join to_stamp (from_stamp BeforeBlank dating) (to_stamp_back m (behind_space m))
             (row_cons (rfc3164_stamp dating) (body_row BeforeBlank)
             (stamp_back dating m.timestamp (behind_space m) k) f)));
@@ -123,12 +120,10 @@ module _ (variant : Variant) (dating : Dating) (text : Text) (m : MessageValue) 
         omega (arith, ap length o, length-append front colon),
         each_front is_not_whitespace h colon (rw is at near.hostname).1,
       ) in
-      let text_is : names_text (Some (h ++ colon)) None None tail ≡ 32 ∷ behind_space m = rw (is, alone) refl in
       let vs : Values (body_row BeforeBlank) =
       (Some (Some h), (None, (tt, (Some tt, (tt, (None, (tt, (58 ∷ tail, tt)))))))) in
       behind_stamp vs (names (Some h) None None) k
-      (subst (λ (x : Text). Front (Row (body_row BeforeBlank)) x [] vs) text_is
-      (rows_join to_colon (from_blanks BeforeBlank) (host_left h tail visible)
+      (rw (is, alone) (rows_join to_colon (from_blanks BeforeBlank) (host_left h tail visible)
       (body_back BeforeBlank [] (58 ∷ tail) tt tt refl (λ _. no_list_by BeforeBlank 58 tail (λ e. omega arith) (λ e. omega arith)))))
       (inr (rw o (no_form_open front 58 [] (refl, tt)), refl))
 
@@ -146,13 +141,12 @@ module _ (variant : Variant) (dating : Dating) (text : Text) (m : MessageValue) 
       then optional_some (rfc3164_list BeforeBlank)
       (dash_rfc3164_list BeforeBlank (45 ∷ behind) behind refl (dash_before d.blanks rest d.some d.each))
       then piece_front (run is_blank) d.blanks rest tt (d.each, d.no_more) then rest_front rest then refl) in
-      let tail_is : 32 ∷ 45 ∷ behind ≡ tail = rw (es, d.whole) refl in
       let from : Values (from_blanks BeforeBlank) = (tt, (Some [], (tt, (rest, tt)))) in
       behind_stamp (Some m.hostname, (program_field m.appname m.procid, (tt, (Some tt, from)))) (names_of m)
       none.timestamp
       (rows_join to_colon (from_blanks BeforeBlank) (names_back m.hostname m.appname m.procid tail
       (canonical_host m.hostname near.hostname none.no_dash none.no_last_colon) canonical bounded)
-      (subst (λ (x : Text). Front (Row (from_blanks BeforeBlank)) x [] (tt, (Some [], (tt, (rest, tt))))) tail_is list))
+      (rw (es, d.whole) list))
       (resolved m.hostname m.appname m.procid canonical bounded)
 
 module _ (variant : Variant) (dating : Dating) (input : Text) (m : MessageValue)
@@ -231,8 +225,5 @@ module _ (variant : Variant) (dating : Dating) (input : Text) (m : MessageValue)
         → Reaches variant dating input n (printed (with_msg m u))
     dashes_skipped zero u is = rw is known.2
     dashes_skipped (suc n) u p =
-        let same : printed_3164 (read_with m (names_of m) u) ≡ printed_3164 (with_msg m u) =
-        printed_same (with_msg m u) (read_with m (names_of m) u) (priority_again (priority_of m) (priority_small m))
-        refl refl refl (sym es) refl in
-        subst (λ (x : Text). Reaches variant dating input (suc n) x) (same ∙ sym (printed_is (with_msg m u) e))
-        (all_dashes n u p).2
+        rw (printed_is (with_msg m u) e, ← printed_same (with_msg m u) (read_with m (names_of m) u)
+        (priority_again (priority_of m) (priority_small m)) refl refl refl (sym es) refl) (all_dashes n u p).2

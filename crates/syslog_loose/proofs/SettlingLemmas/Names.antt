@@ -3,7 +3,10 @@ use Rattle.std.proofs.Common.{◌≡◌, ◌≢◌, ℕ, ◌<◌, ◌≤◌, ◌
 use Rattle.std.proofs.Common.{length, Option, Some, None, IfSome, refl, sym, ap, subst, ◌∙◌, arith, append_assoc}
 use Rattle.std.proofs.lemmas.Bool.Decides.{nat_tests}
 use Rattle.std.proofs.Common.{append-nil}
-use Rattle.syslog_loose.proofs.SettlingLemmas.Decided.{find_run}
+use Rattle.syslog_loose.proofs.SettlingLemmas.Decided.{Decided, decided, find_run}
+use Rattle.std.proofs.lemmas.List.Prefix.{end_rest}
+use Rattle.std.proofs.lemmas.List.{take-append-drop}
+use Rattle.std.proofs.Common.{take, drop, ◌-◌}
 use Rattle.std.proofs.lemmas.List.{length-append}
 use Rattle.std.proofs.lemmas.Slice.Eq.{bytes_eq-Decides}
 use Rattle.std.specs.Char.{is_not_whitespace}
@@ -42,21 +45,13 @@ use Rattle.syslog_loose.proofs.SettlingLemmas.Weights.{colon_weight, fields_ligh
 
 -- ---- what can be told of a text
 
-pub same_text : (xs ys : Text) → (xs ≡ ys) ⊎ (xs ≡ ys → ⊥)
-same_text xs ys = elim (decide (bytes_eq xs ys)) [
-  | inl h ↦ inl ((bytes_eq-Decides xs ys).0 h)
-  | inr h ↦ inr (λ e. let t : true ≡ false = sym ((bytes_eq-Decides xs ys).1 e) ∙ h in cc)
-]
+pub same_text : (xs ys : Text) → Decided (xs ≡ ys)
+same_text xs ys = decided (bytes_eq xs ys) (bytes_eq-Decides xs ys)
 
-ends_no_more : (c : ℕ) (t : Text) → (c ∷ t ≡ colon → ⊥) → (EndsInColon t → ⊥) → EndsInColon (c ∷ t) → ⊥
-ends_no_more c t m n ([], e) = m e
-ends_no_more c t m n (d ∷ front, e) = n (front, cc)
-
-ends_in : (h : Text) → EndsInColon h ⊎ (EndsInColon h → ⊥)
-ends_in [] = inr (λ k. let t = ap length k.1 in omega (arith, length-append k.0 colon))
-ends_in (c ∷ t) = elim (ends_in t) [
-  | inl (front, e) ↦ inl (c ∷ front, ap (λ (x : Text). c ∷ x) e)
-  | inr n ↦ elim (same_text (c ∷ t) colon) [ inl e ↦ inl ([], e) | inr m ↦ inr (ends_no_more c t m n) ]
+ends_in : (h : Text) → Decided (EndsInColon h)
+ends_in h = elim (same_text (drop (length h - 1) h) colon) [
+  | inl e ↦ inl (take (length h - 1) h, sym (rw e at (take-append-drop (length h - 1) h)))
+  | inr n ↦ inr (λ k. n (end_rest h colon k.0 k.1))
 ]
 
 canonical_or_odd : (h : Text) → IsVisible h → IsCanonicalHost h ⊎ IsOddHost h

@@ -45,33 +45,25 @@ stamp_begins : (v : Option OffsetTimestamp) (q : Text) → Begins IsLow (timesta
 stamp_begins None q = omega arith
 stamp_begins (Some s) q = begins_more IsLow (timestamp_text (Some s)) q (stamp_low s)
 
-rfc3164_quiet : (m : MessageValue) → EndsVisibly m.msg → (date : MonthDate) → ShowsYearless (printed_3164 m) date → ⊥
-rfc3164_quiet m visible date (p, more, k) =
-    let d = subst (λ (x : Text). Front (Row (showing_row yearless_date)) x [] (p, (tt, (date, (more, tt)))))
-    (trimmed_whole m visible) (division_front (showing_row yearless_date) k) in
+rfc3164_shows_none : (dating : Dating) (text : Text) (m : MessageValue) → IsRead3164 dash_rule dating text m
+    → (date : MonthDate) → ShowsYearless (printed m) date → ⊥
+rfc3164_shows_none dating text m r date h =
+    let near = read_near dash_rule dating text m r in
+    let (p, more, k) = rw (printed_is m near.protocol) at h in
+    let d = rw (trimmed_whole m near.msg_end) at (division_front (showing_row yearless_date) k) in
     let (_, behind) = rows_step to_stamp (yearless_date ∷ rest ∷ []) to_stamp_det
     {vs = (p, (tt, (date, (more, tt))))} (to_stamp_back m (behind_space m)) d in
     let (q, f, _) = row_pieces (yearless_date ∷ rest ∷ []) behind in
     begins_apart (timestamp_text m.timestamp ++ (32 ∷ behind_space m)) (λ c a b. omega arith)
     (stamp_begins m.timestamp (32 ∷ behind_space m))
-    (subst (λ (x : Text). Begins IsLetter x) (sym f.whole) (month_date_begins f.piece q date (inl f.is)))
-
-rfc3164_shows_none : (dating : Dating) (text : Text) (m : MessageValue) → IsRead3164 dash_rule dating text m
-    → (date : MonthDate) → ShowsYearless (printed m) date → ⊥
-rfc3164_shows_none dating text m r date h =
-    let near = read_near dash_rule dating text m r in
-    rfc3164_quiet m near.msg_end date (subst (λ (x : Text). ShowsYearless x date) (printed_is m near.protocol) h)
-
-strict_shows_none : (text : Text) (m : MessageValue) → IsRead5424 text m → (date : MonthDate)
-    → ShowsYearless (printed m) date → ⊥
-strict_shows_none text m r date h =
-    let (again, same) = rfc5424.read_again text m r in
-    shown_apart (printed m) date (shows_month_date (printed m) date h) again.values again.division
+    (subst (Begins IsLetter) (sym f.whole) (month_date_begins f.piece q date (inl f.is)))
 
 -- the printed text of what was read asks for no year
 pub printed_quiet : (variant : Variant) (dating : Dating) (text : Text) (m : MessageValue)
     → IsRead variant dating text m → (date : MonthDate) → AsksYear variant (printed m) date → ⊥
 printed_quiet RFC5424 dating text m r date asks = asks
 printed_quiet RFC3164 dating text m r date asks = rfc3164_shows_none dating text m r date asks
-printed_quiet Either dating text m (inl r) date asks = strict_shows_none text m r date asks
+printed_quiet Either dating text m (inl r) date asks =
+    let (again, same) = rfc5424.read_again text m r in
+    shown_apart (printed m) date (shows_month_date (printed m) date asks) again.values again.division
 printed_quiet Either dating text m (inr (none, r)) date asks = rfc3164_shows_none dating text m r date asks

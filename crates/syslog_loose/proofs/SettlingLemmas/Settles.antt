@@ -59,8 +59,7 @@ module _ (variant : Variant) (dating : Dating) (text : Text) (m : MessageValue) 
 stays_rfc3164 : (variant : Variant) (dating : Dating) (m n : MessageValue) → m.protocol ≡ protocol.RFC3164
     → IsRead variant dating (printed m) n → IsRead3164 dash_rule dating (printed m) n
 stays_rfc3164 variant dating m n e s = elim (read_as variant dating (printed m) n s) [
-  | inl k ↦ (
-      let k = subst (λ (x : Text). IsRead5424 x n) (printed_is m e) k in absurd (printed_apart m k.values k.division))
+  | inl k ↦ (let k = rw (printed_is m e) at k in absurd (printed_apart m k.values k.division))
   | inr k ↦ k
 ]
 
@@ -113,14 +112,11 @@ module _ (variant : Variant) (dating : Dating) where
   weighs_less : (t : Text) (n : ℕ) (u : Text) (m : MessageValue) (w : ℕ) → IsRound variant dating t n u
       → NoneSettled variant dating t n → IsRead variant dating u m → IsRead3164 dash_rule dating u m
       → Weighs dash_rule m w → w + n ≤ length t
-  weighs_less t zero u m w e none k r x = omega (
-    arith,
-    light dash_rule dating t m w (subst (λ (y : Text). IsRead3164 dash_rule dating y m) e r) x,
-  )
+  weighs_less t zero u m w e none k r x = omega (arith, light dash_rule dating t m w (rw e at r) x)
   weighs_less t (suc n) u m w (before, round, h) none k r x =
       let unsettled : IsSettled variant dating u → ⊥ = λ s. none n u (omega arith) (before, round, h) s in
       let first = unsettled_rfc3164 before u h unsettled in
-      let second = subst (λ (y : Text). IsRead3164 dash_rule dating y m) h.is_printed r in
+      let second = rw h.is_printed at r in
       let (v, y) = weight dash_rule h.message in
       elim (falls dash_rule dating dating before h.message m v w (inl refl) first second y x) [
         | inl less ↦ omega (
@@ -138,20 +134,15 @@ module _ (variant : Variant) (dating : Dating) where
       let (before, (earlier, round, h), k) = r.round in
       let first = unsettled_rfc3164 earlier before h (λ s. r.none n before (omega arith) (earlier, round, h) s) in
       let e = (read_near dash_rule dating earlier h.message first).protocol in
-      let read = subst (λ (x : Text). IsRead variant dating x k.message) h.is_printed k.read in
-      let rfc3164 = subst (λ (x : Text). IsRead3164 dash_rule dating x k.message) (sym h.is_printed)
-      (stays_rfc3164 variant dating h.message k.message e read) in
+      let rfc3164 = rw (← h.is_printed) at
+      (stays_rfc3164 variant dating h.message k.message e (rw h.is_printed at k.read)) in
       let (w, x) = weight dash_rule k.message in
       omega (arith, weighs_less t (suc n) before k.message w (earlier, round, h) r.none k.read rfc3164 x)
 
   pub rests : (t u : Text) → NoneSettled variant dating t (length t + 1) → IsRound variant dating t (length t + 2) u → ⊥
   rests t u none round =
-      ends t (length t + 1) u (omega arith)
-      (record {
-        round = subst (λ (n : ℕ). IsRound variant dating t n u)
-            (let e : length t + 2 ≡ suc (length t + 1) = omega arith in e) round;
-        none = none;
-      })
+      let e : length t + 2 ≡ suc (length t + 1) = omega arith in
+      ends t (length t + 1) u (omega arith) (record { round = rw e at round; none = none })
 
   -- ---- what is answered
 

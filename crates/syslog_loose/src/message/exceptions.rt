@@ -51,6 +51,7 @@ fn has_no_odd_host(host: Option<&str>) -> bool
     }
 }
 
+#[tactic(auto, using(crate::proofs::ExceptionLemmas::odd_told, crate::proofs::ExceptionLemmas::no_odd_told))]
 fn is_no_odd_host(name: &str) -> bool
     ensures { IsTrue result ↔ ((chars name.now ≢ dash) × (EndsInColon (chars name.now) → ⊥)) }
 {

@@ -14,10 +14,8 @@ cuts-preserved c =
     let front = c.in-Some-strip_suffix._front.now in
     let v : IsUtf8 short = search rules in
     let w : IsUtf8 front = search rules in
-    let s : c.cuts.host.now ≡ short ++ c.args.run.now =
-    suffix_bytes c.args.run.now c.cuts.host.now short (c.in-Some.ensures.cases) in
-    let z : short ≡ front ++ (58 ∷ []) =
-    strip_suffix_char 58 short (Some c.in-Some-strip_suffix._front) c.in-Some-strip_suffix.ensures.cases
+    let s = suffix_bytes c.args.run.now c.cuts.host.now short (c.in-Some.ensures.cases) in
+    let z = strip_suffix_char 58 short (Some c.in-Some-strip_suffix._front) c.in-Some-strip_suffix.ensures.cases
     (omega arith) in (
       v,
       omega (arith, fits, ap length s, length-append short c.args.run.now),

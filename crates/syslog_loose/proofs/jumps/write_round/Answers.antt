@@ -2,6 +2,7 @@ use Rattle.std.proofs.lemmas.Str.{IsUtf8-string_bytes}
 use Rattle.syslog_pieces.specs.Pieces.View.{shown}
 use Rattle.std.specs.Str.{chars}
 use Rattle.syslog_loose.specs.Message.{message_value}
+use Rattle.syslog_loose.specs.Printed.{printed}
 use Rattle.syslog_loose.proofs.JumpLemmas.{round_written, round_printed}
 use Rattle.std.proofs.lemmas.Result.{on_ok_weaker}
 use Rattle.syslog_loose.proofs.jumps.write_round.Goals as goal
@@ -15,6 +16,6 @@ returns-in-Some c = λ variant dating input r e.
 
 pub returns-in-None : goal.returns-in-None
 returns-in-None c = λ variant dating input r e.
-    on_ok_weaker _ (λ w. round_printed variant dating input (message_value (λ s. shown s) c.past_dashes.result)
-    _ (IsUtf8-string_bytes c.print.new.text) (c.past_dashes.ensures variant dating input r e) w)
+    on_ok_weaker _ (λ w. round_printed variant dating input (printed (message_value (λ s. shown s) c.past_dashes.result))
+    _ (IsUtf8-string_bytes c.print.new.text) w (c.past_dashes.ensures variant dating input r e))
     c.print.ensures
