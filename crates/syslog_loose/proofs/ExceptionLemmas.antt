@@ -1,12 +1,11 @@
 -- What the tests of the exceptions answer.
-use Rattle.std.proofs.Common.{◌≡◌, ◌≢◌, ℕ, ◌<◌, Bool, true, false, not, nat_eq, List, [], ◌∷◌}
-use Rattle.std.proofs.Common.{◌++◌, length, take, None, refl, sym, ap, subst, ◌∙◌, arith}
-use Rattle.std.proofs.Math.Seq.{get_or-append_seam, take-append_seam}
-use Rattle.std.proofs.lemmas.List.{length-append}
+use Rattle.std.proofs.Common.{◌≡◌, ◌≢◌, ℕ, Bool, true, false, not, nat_eq, List, [], ◌∷◌}
+use Rattle.std.proofs.Common.{◌++◌, length, None, refl, sym, ap, subst, ◌∙◌, arith}
+use Rattle.std.proofs.Math.Seq.{take-append_seam}
 use Rattle.std.proofs.lemmas.Str.{chars_from_encodes, chars-append, chars-IsAscii, encodes-append}
 use Rattle.std.proofs.lemmas.Str.{encodes-chars, encodes-IsAscii, IsCharBoundary-at_seam, IsUtf8-from_ascii, IsUtf8-take}
 use Rattle.std.proofs.lemmas.Str.Pattern.{contains_char, NoCharPasses-char}
-use Rattle.std.specs.Prelude.{◌↔◌, IsTrue, MatchBool, get_or}
+use Rattle.std.specs.Prelude.{◌↔◌, IsTrue, MatchBool}
 use Rattle.std.specs.Str.{chars, IsUtf8, NonePass, encode_utf8_all}
 use Rattle.std.specs.Str.Pattern.{FindsChar, HasMatch}
 use Rattle.syslog_pieces.specs.Pieces.Class.{Text, Each}

@@ -66,14 +66,8 @@ one_dashed t next d = record {
 pub passes_spaced : (n : ℕ) (t next : Text) → IsDashed t next → PassesDashes n (spaced_dashes n ++ t) t
 passes_spaced zero t next d = refl
 passes_spaced (suc n) t next d =
-    let one = one_dashed t next d in (
-      45 ∷ 32 ∷ t,
-      subst (λ (x : Text). PassesDashes n x (45 ∷ 32 ∷ t)) (sym (dashes_more n t))
-          (passes_spaced n (45 ∷ 32 ∷ t) t one),
-      one,
-      next,
-      d,
-    )
+    let one = one_dashed t next d in
+    (45 ∷ 32 ∷ t, rw (dashes_more n t) (passes_spaced n (45 ∷ 32 ∷ t) t one), one, next, d)
 
 pub passes_both : (m n : ℕ) (a b t : Text) → PassesDashes m a b → PassesDashes n b t → (k : ℕ) × PassesDashes k a t
 passes_both m zero a b t p q = (m, subst (λ (x : Text). PassesDashes m a x) (sym q) p)

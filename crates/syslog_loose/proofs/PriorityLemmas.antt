@@ -1,6 +1,6 @@
 -- The priority that each printed text begins with.
 use Rattle.std.proofs.Common.{◌≡◌, ℕ, ◌<◌, ◌≤◌, ◌^◌, [], ◌∷◌, ◌++◌, Option, Some}
-use Rattle.std.proofs.Common.{None, refl, sym, ap, ◌∙◌, arith, append_assoc}
+use Rattle.std.proofs.Common.{None, refl, arith, append_assoc}
 use Rattle.std.specs.Char.{is_ascii_digit}
 use Rattle.std.specs.Fmt.{decimal}
 use Rattle.std.specs.Option.{option_map_or}
@@ -16,7 +16,7 @@ use Rattle.syslog_pieces.proofs.PriLemmas.{as_priority, facility_low, severity_l
 use Rattle.syslog_pieces.proofs.TextLemmas.ReadBack.{number_back}
 use Rattle.syslog_loose.specs.Message.{MessageValue}
 use Rattle.syslog_loose.specs.Printed.{priority_of}
-use Rattle.syslog_loose.proofs.TrimLemmas.{LastVisible, last_append, drop_after}
+use Rattle.syslog_loose.proofs.TrimLemmas.{last_append, drop_after}
 
 -- a printed number
 pub number_front : (n limit : ℕ) (q : Text) → n ≤ limit → limit < 2 ^ 64 → Ends is_ascii_digit q
@@ -50,7 +50,5 @@ priority_front n q l =
 pub priority_trimmed : (n : ℕ) (q : Text)
     → drop_trailing_whitespace (60 ∷ (decimal n ++ (62 ∷ q))) ≡ 60 ∷ (decimal n ++ (62 ∷ drop_trailing_whitespace q))
 priority_trimmed n q =
-    let last : LastVisible (60 ∷ (decimal n ++ (62 ∷ []))) = last_append (60 ∷ decimal n) (62 ∷ []) refl in
-    ap (λ (x : Text). drop_trailing_whitespace (60 ∷ x)) (sym (append_assoc (decimal n) (62 ∷ []) q))
-    ∙ drop_after (60 ∷ (decimal n ++ (62 ∷ []))) q last
-    ∙ ap (λ (x : Text). 60 ∷ x) (append_assoc (decimal n) (62 ∷ []) (drop_trailing_whitespace q))
+    simp append_assoc at
+    (drop_after (60 ∷ (decimal n ++ (62 ∷ []))) q (last_append (60 ∷ decimal n) (62 ∷ []) refl))

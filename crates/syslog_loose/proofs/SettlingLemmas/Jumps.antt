@@ -1,6 +1,6 @@
 -- Rounds that are known from the one before: of a host that ends in colons, and of a message part of dashes.
 use Rattle.std.proofs.Common.{◌≡◌, ℕ, zero, suc, ◌<◌, inr, [], ◌∷◌, ◌++◌, length, Some, None, IfSome, refl, sym, ap}
-use Rattle.std.proofs.Common.{subst, ◌∙◌, arith, append_assoc}
+use Rattle.std.proofs.Common.{◌∙◌, arith, append_assoc}
 use Rattle.std.proofs.lemmas.List.{length-append}
 use Rattle.std.specs.Char.{is_not_whitespace}
 use Rattle.syslog_pieces.specs.Pieces.Class.{Text, Values, Front, Row, Each, run}
@@ -18,14 +18,15 @@ use Rattle.syslog_pieces.proofs.PieceLemmas.Rows.{row_of, ◌then◌}
 use Rattle.syslog_pieces.proofs.PieceLemmas.Steps.{piece_front}
 use Rattle.syslog_pieces.proofs.StructuredDataLemmas.Rfc3164List.{dash_rfc3164_list}
 use Rattle.syslog_loose.specs.Canonical.{IsVisible, IsBoundedProcess}
-use Rattle.syslog_loose.specs.Exceptions.{HasExceptionsAlone}
+use Rattle.syslog_loose.specs.Exceptions.{HasExceptionsAlone, HasNoException}
+use Rattle.syslog_loose.specs.Reading.{dash_rule}
 use Rattle.syslog_loose.specs.Jumps.{colons, colons_before, message_end, tail_text, past_colons, EndsColons}
 use Rattle.syslog_loose.specs.Jumps.{HasNoNameException, IsDashed, PassesDashes, with_msg}
 use Rattle.syslog_loose.specs.Message.{MessageValue}
 use Rattle.syslog_loose.specs.Printed.{priority_of, printed_3164, printed}
 use Rattle.syslog_loose.specs.Reading.{IsRead}
 use Rattle.syslog_loose.specs.Rfc3164.{Names3164, names, Resolves, body_row, rfc3164_row, IsRead3164}
-use Rattle.syslog_loose.specs.Settling.{IsSettled, Reaches}
+use Rattle.syslog_loose.specs.Settling.{IsNext, Reaches}
 use Rattle.syslog_loose.specs.declared.message.Protocol.TheVariants.{RFC3164}
 use Rattle.syslog_loose.specs.declared.variant.Variant.{Variant}
 use Rattle.syslog_loose.specs.declared.variant.Variant.TheVariants as variants
@@ -40,7 +41,7 @@ use Rattle.syslog_loose.proofs.Rfc3164Lemmas.Rows.{from_blanks, from_stamp, to_c
 use Rattle.syslog_loose.proofs.Rfc3164Lemmas.Unique.{told}
 use Rattle.syslog_loose.proofs.Rfc3164Lemmas.Whole.{trimmed_whole}
 use Rattle.syslog_loose.proofs.SettlingLemmas.Falls.{behind_space, priority_again, printed_same}
-use Rattle.syslog_loose.proofs.SettlingLemmas.Names.{host_left, no_form_open, names_text}
+use Rattle.syslog_loose.proofs.SettlingLemmas.Names.{host_left, no_form_open}
 use Rattle.syslog_loose.proofs.SettlingLemmas.NoList.{no_list_by}
 use Rattle.syslog_loose.proofs.SettlingLemmas.Rounds.{reached_first, reached_next}
 use Rattle.syslog_loose.proofs.SettlingLemmas.Settles.{no_protocol, as_rfc3164, odd_unsettled}
@@ -162,14 +163,14 @@ module _ (variant : Variant) (dating : Dating) (input : Text) (m : MessageValue)
     reached_first variant dating input (printed m) (record { message = m; read = r; is_printed = refl }),
   )
 
-  next_known : (n : ℕ) (y z : MessageValue) → Known n y → IsRead variant dating (printed y) z
-      → (IsSettled variant dating (printed y) → ⊥) → Known (suc n) z
-  next_known n y z (text, before, reaches) read never = (
-    printed y,
-    read,
-    reached_next variant dating input n (printed y) (printed z) reaches never
-        (record { message = z; read = read; is_printed = refl }),
-  )
+  -- the next round, which has an exception itself
+  next_known : (n : ℕ) (y z : MessageValue) → Known n y → z.protocol ≡ RFC3164 → IsRead variant dating (printed y) z
+      → (HasNoException dash_rule z → ⊥) → Known (suc n) z
+  next_known n y z (text, before, reaches) p read odd =
+      let never = odd_unsettled variant dating (printed y) z read p odd in
+      let next : IsNext variant dating (printed y) (printed z) =
+      record { message = z; read = read; is_printed = refl } in
+      (printed y, read, reached_next variant dating input n (printed y) (printed z) reaches never next)
 
   -- ---- rounds in which a host loses its colons
   module _ (stamp : IfSome m.timestamp IsCanonicalStamp) where
@@ -177,9 +178,8 @@ module _ (variant : Variant) (dating : Dating) (input : Text) (m : MessageValue)
         → IfSome y.timestamp IsCanonicalStamp → y.hostname ≡ Some (h ++ colon) → EndsInColon h
         → Known (suc n) (read_with y (names (Some h) None None) (58 ∷ tail_text y.structured_data y.msg))
     next_colons n y h k p s is o =
-        let read = colon_read variant dating k.0 y k.1 p h s is o in
-        next_known n y _ k read
-        (odd_unsettled variant dating (printed y) _ read refl (λ none. none.host_ends_in_no_colon o))
+        next_known n y _ k refl (colon_read variant dating k.0 y k.1 p h s is o)
+        (λ none. none.host_ends_in_no_colon o)
 
     all_colons : (h : Text) (n : ℕ) → m.hostname ≡ Some (h ++ colons (suc n)) → EndsInColon h
         → Known (suc n) (past_colons m h n)
@@ -199,10 +199,8 @@ module _ (variant : Variant) (dating : Dating) (input : Text) (m : MessageValue)
   next_dash : (n : ℕ) (y : MessageValue) (u next : Text) → Known n y → y.protocol ≡ RFC3164 → HasNoNameException y
       → y.structured_data ≡ [] → IsDashed y.msg u → IsDashed u next → Known (suc n) (read_with y (names_of y) u)
   next_dash n y u next k p none es d f =
-      let read = dash_read variant dating k.0 y k.1 p u none es d in
-      next_known n y _ k read
-      (odd_unsettled variant dating (printed y) _ read refl
-      (λ none. (none.message_is_no_list refl).0 (f.blanks ++ next) f.whole (dash_before f.blanks next f.some f.each)))
+      next_known n y _ k refl (dash_read variant dating k.0 y k.1 p u none es d)
+      (λ none. (none.message_is_no_list refl).0 (f.blanks ++ next) f.whole (dash_before f.blanks next f.some f.each))
 
   module _ (none : HasNoNameException m) (es : m.structured_data ≡ []) where
     more_dashes : (n : ℕ) (before u next : Text) → Known (suc n) (read_with m (names_of m) before) → IsDashed before u
@@ -225,5 +223,8 @@ module _ (variant : Variant) (dating : Dating) (input : Text) (m : MessageValue)
         → Reaches variant dating input n (printed (with_msg m u))
     dashes_skipped zero u is = rw is known.2
     dashes_skipped (suc n) u p =
-        rw (printed_is (with_msg m u) e, ← printed_same (with_msg m u) (read_with m (names_of m) u)
-        (priority_again (priority_of m) (priority_small m)) refl refl refl (sym es) refl) (all_dashes n u p).2
+        rw (
+          printed_is (with_msg m u) e,
+          ← printed_same (with_msg m u) (read_with m (names_of m) u)
+              (priority_again (priority_of m) (priority_small m)) refl refl refl (sym es) refl,
+        ) (all_dashes n u p).2

@@ -27,7 +27,6 @@ use Rattle.syslog_pieces.proofs.PieceLemmas.Each.{each_both, each_left, each_rig
 use Rattle.syslog_pieces.proofs.PieceLemmas.Each.{each_append}
 use Rattle.syslog_pieces.proofs.PieceLemmas.Rows.{row_pieces, row_of, ◌then◌}
 use Rattle.syslog_pieces.proofs.PieceLemmas.Steps.{piece_front, rows_step}
-use Rattle.syslog_pieces.proofs.StructuredDataLemmas.Units.{decide}
 use Rattle.syslog_loose.specs.Canonical.{IsVisible, IsCanonicalHost, IsBoundedProcess, AreCanonicalNames}
 use Rattle.syslog_loose.specs.Exceptions.{is_no_colon, HasNoColon, IsOddHost, is_inner_char, AreNamesButExceptions}
 use Rattle.syslog_loose.specs.Printed.{tag_text}

@@ -1,6 +1,6 @@
 -- The printed text of a message that was read shows no month date, and the variant reads its protocol.
 use Rattle.std.proofs.Common.{inl, inr, [], ◌∷◌, ◌++◌, Option, Some, None, sym, ap, subst, arith}
-use Rattle.syslog_pieces.specs.Pieces.Class.{Text, Front, Row, rest}
+use Rattle.syslog_pieces.specs.Pieces.Class.{Text, rest}
 use Rattle.syslog_pieces.specs.Timestamp.Rfc3164.{showing_row, ShowsYearless}
 use Rattle.syslog_pieces.specs.Timestamp.MonthDate.{yearless_date}
 use Rattle.syslog_pieces.specs.Timestamp.Zone.{Dating}
@@ -13,13 +13,11 @@ use Rattle.syslog_pieces.proofs.PieceLemmas.Rows.{row_pieces}
 use Rattle.syslog_pieces.proofs.TimestampLemmas.Rfc3164.{IsLow}
 use Rattle.syslog_pieces.proofs.TimestampLemmas.MonthDate.{month_date_begins}
 use Rattle.syslog_pieces.proofs.TimestampLemmas.Months.{IsLetter}
-use Rattle.syslog_loose.specs.Canonical.{EndsVisibly}
 use Rattle.syslog_loose.specs.Message.{MessageValue}
-use Rattle.syslog_loose.specs.Printed.{timestamp_text, printed_3164, printed}
+use Rattle.syslog_loose.specs.Printed.{timestamp_text, printed}
 use Rattle.syslog_loose.specs.ReadBack.{ReadsProtocol}
 use Rattle.syslog_loose.specs.Reading.{dash_rule, IsRead, AsksYear}
 use Rattle.syslog_loose.specs.Rfc3164.{IsRead3164}
-use Rattle.syslog_loose.specs.Rfc5424.{IsRead5424}
 use Rattle.syslog_loose.specs.declared.variant.Variant.{Variant}
 use Rattle.syslog_loose.specs.declared.variant.Variant.TheVariants.{Either, RFC3164, RFC5424}
 use Rattle.syslog_loose.proofs.Rfc3164Lemmas.Apart.{shown_apart}

@@ -4,7 +4,7 @@ use Rattle.std.proofs.lemmas.Bool.Decides.{leb_tells}
 use Rattle.syslog_pieces.specs.Pieces.Class.{Text}
 use Rattle.syslog_pieces.specs.Timestamp.Zone.{Dating}
 use Rattle.syslog_loose.specs.Printed.{printed}
-use Rattle.syslog_loose.specs.Reading.{IsRead, IsUnreadable}
+use Rattle.syslog_loose.specs.Reading.{IsUnreadable}
 use Rattle.syslog_loose.specs.Settling.{IsNext, IsRound, IsSettled, NoneSettled, Reaches, IsFirstSettled}
 use Rattle.syslog_loose.specs.declared.variant.Variant.{Variant}
 use Rattle.syslog_loose.proofs.ReadingLemmas.{read_once}

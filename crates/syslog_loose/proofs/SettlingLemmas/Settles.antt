@@ -244,11 +244,6 @@ module _ (variant : Variant) (dating : Dating) where
       (free_settled text k.message k.read k.protocol k.no_exception)
 
   -- ---- what the loop does
-  pub first_round : (t x : Text) (settled : Bool) → settled ≡ false → IsToldRound variant dating t x settled
-      → ReachesFrom variant dating t 0 x
-  first_round t x settled e h =
-      let (never, n, r) = rw e at h in record { before = n; far = omega arith; reaches = r }
-
   -- the round behind one that is not settled
   pub round_more : (t : Text) (n : ℕ) (u x : Text) (settled : Bool) → ReachesFrom variant dating t n u
       → settled ≡ false → IsToldRound variant dating u x settled → ReachesFrom variant dating t (n + 1) x

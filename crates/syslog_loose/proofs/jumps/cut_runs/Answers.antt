@@ -1,4 +1,4 @@
-use Rattle.std.proofs.Common.{◌≡◌, ◌++◌, ap, length, [], ◌∷◌, List, ℕ, ◌∙◌, rules, arith}
+use Rattle.std.proofs.Common.{◌++◌, ap, length, List, ℕ, ◌∙◌, rules, arith}
 use Rattle.std.proofs.lemmas.List.{length-append}
 use Rattle.std.proofs.lemmas.Str.Pattern.{strip_suffix_char}
 use Rattle.std.specs.Prelude.{Some}
