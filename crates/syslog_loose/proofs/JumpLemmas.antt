@@ -133,11 +133,6 @@ colons_sum : (n c : ℕ) → colons n ++ colons c ≡ colons (c + n)
 colons_sum zero c = simp add-zero refl
 colons_sum (suc n) c = simp (add-suc, colons_sum n c) refl
 
-pub colons_cut : (name host shorter : Text) (c n : ℕ) → name ≡ host ++ colons c → host ≡ shorter ++ colons n
-    → name ≡ shorter ++ colons (c + n)
-colons_cut name host shorter c n e f =
-    rw (e, f, append_assoc, colons_sum n c)
-
 colons_alone : (n : ℕ) → encode_utf8_all (colons n) ≡ colons n
 unfolding encode_utf8
 colons_alone zero = refl
@@ -159,7 +154,7 @@ pub cut_on : (name host shorter : List ℕ) (c n : ℕ) → CutsColons name host
     → chars host ≡ chars shorter ++ colons n → (0 < c + n → EndsInColon (chars shorter))
     → CutsColons name shorter (c + n)
 cut_on name host shorter c n k e o =
-    record { whole = colons_cut (chars name) (chars host) (chars shorter) c n k.whole e; keeps = o }
+    record { whole = rw (k.whole, e, append_assoc, colons_sum n c) refl; keeps = o }
 
 pub cut_twice : (name host shorter : List ℕ) (c n : ℕ) → CutsColons name host c → CutsColons host shorter n
     → CutsColons name shorter (c + n)

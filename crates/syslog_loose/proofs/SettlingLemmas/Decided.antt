@@ -44,11 +44,14 @@ find_moved C t D u m (inl (q, v, f)) = (let (w, g) = m.forth q v f in inl (q, w,
 find_moved C t D u m (inr n) = inr (meets_none C t D u m n)
 
 -- ---- one character, runs, and rows of them
+pub no_char : (c d : ℕ) (t : Text) → (d ≡ c → ⊥) → NoFront (exactly (c ∷ [])) (d ∷ t)
+no_char c d t k p q v e h = k (heads d c t q (e ∙ ap (λ (x : Text). x ++ q) h))
+
 find_char : (c : ℕ) (t : Text) → Finds (exactly (c ∷ [])) t
 find_char c [] = inr (λ p q v e h. let k : [] ≡ c ∷ q = e ∙ ap (λ (x : Text). x ++ q) h in cc)
 find_char c (d ∷ t) = elim (eqb_tells d c) [
   | inl r ↦ inl (t, tt, record { piece = c ∷ []; whole = ap (λ (x : ℕ). x ∷ t) r.1; is = refl })
-  | inr r ↦ inr (λ p q v e h. r.1 (heads d c t q (e ∙ ap (λ (x : Text). x ++ q) h)))
+  | inr r ↦ inr (no_char c d t r.1)
 ]
 
 pub find_run : (test : ℕ → Bool) (t : Text) → (p : Text) × (q : Text) × (t ≡ p ++ q) × Each test p × Ends test q

@@ -43,6 +43,7 @@ use Rattle.syslog_loose.proofs.Rfc3164Lemmas.Rows.{from_blanks, to_colon, to_sta
 use Rattle.syslog_loose.proofs.Rfc3164Lemmas.Unique.{body_det, told}
 use Rattle.syslog_loose.proofs.Rfc3164Lemmas.Whole.{program_text, tail_text, trimmed_whole}
 use Rattle.syslog_loose.proofs.SettlingLemmas.NoList.{no_list_by}
+use Rattle.syslog_loose.proofs.SettlingLemmas.Decided.{no_char}
 use Rattle.syslog_loose.proofs.SettlingLemmas.Names.{known, no_blanks, names_step}
 use Rattle.syslog_loose.proofs.SettlingLemmas.Weights.{free, paid, at_most, fields_light, list_read, left_free}
 use Rattle.syslog_loose.proofs.TrimLemmas.{message_blanks}
@@ -101,7 +102,7 @@ module _ (rule : DashRule) (vs : Values (body_row rule)) (n : Names3164) (r : Re
                     record { host_is = k.host_is; tag_is = k.tag_is; elements_are = e; msg_is = f },
                   )
             ]
-        | inr k ↦ inl (omega (arith, k.lighter, left_free rule k.left k.msg vs.1.1.1.1 k.gap k.behind v k.no_list y))
+        | inr (lighter, free) ↦ inl (omega (arith, lighter, free v y))
       ]
 
   -- where it begins with a digit, all of it is the message, without names
@@ -110,14 +111,12 @@ module _ (rule : DashRule) (vs : Values (body_row rule)) (n : Names3164) (r : Re
   digit_tail [] b d = absurd b
   digit_tail (c ∷ t) b d =
       let u = digit_range c b in
-      let other : (x : ℕ) → (x ≡ c → ⊥) → NoFront (exactly (x ∷ [])) (c ∷ t) =
-      λ x k p q v e h. k (sym (heads c x t q (e ∙ ap (λ (y : Text). y ++ q) h))) in
-      let no_space = other 32 (λ e. omega arith) in
+      let no_space = no_char 32 c t (λ e. omega arith) in
       let gap = no_blanks (c ∷ t) (grind (arith, nat_tests)) in
       let (means, behind) = known rule t n vs r
       (row_of to_colon (optional_none (spaced host) (no_spaced_space host no_space)
       then optional_none (spaced tag_word) (no_spaced_space tag_word no_space) then gap
-      then optional_none (exactly colon) (other 58 (λ e. omega arith)) then refl)) d in
+      then optional_none (exactly colon) (no_char 58 c t (λ e. omega arith)) then refl)) d in
       let none = no_list_by rule c t (λ e. omega arith) (λ e. omega arith) in
       omega (
         arith,

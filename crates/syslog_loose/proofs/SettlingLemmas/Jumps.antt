@@ -117,15 +117,14 @@ module _ (variant : Variant) (dating : Dating) (text : Text) (m : MessageValue) 
   unfolding message_end
   colon_read h k is (front, o) =
       let alone : m.appname ≡ None = (rw is at near.odd_host) (inr (h, refl)) in
-      let visible : IsVisible h = (
-        omega (arith, ap length o, length-append front colon),
-        each_front is_not_whitespace h colon (rw is at near.hostname).1,
-      ) in
+      let some : 0 < length h = omega (arith, ap length o, length-append front colon) in
+      let each = each_front is_not_whitespace h colon (rw is at near.hostname).1 in
       let vs : Values (body_row BeforeBlank) =
       (Some (Some h), (None, (tt, (Some tt, (tt, (None, (tt, (58 ∷ tail, tt)))))))) in
       behind_stamp vs (names (Some h) None None) k
-      (rw (is, alone) (rows_join to_colon (from_blanks BeforeBlank) (host_left h tail visible)
-      (body_back BeforeBlank [] (58 ∷ tail) tt tt refl (λ _. no_list_by BeforeBlank 58 tail (λ e. omega arith) (λ e. omega arith)))))
+      (rw (is, alone) (rows_join to_colon (from_blanks BeforeBlank) (host_left h tail (some, each))
+      (body_back BeforeBlank [] (58 ∷ tail) tt tt refl
+      (λ _. no_list_by BeforeBlank 58 tail (λ e. omega arith) (λ e. omega arith)))))
       (inr (rw o (no_form_open front 58 [] (refl, tt)), refl))
 
   -- a message part of dashes loses one, which is taken for an empty list

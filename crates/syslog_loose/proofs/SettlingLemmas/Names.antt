@@ -3,7 +3,7 @@ use Rattle.std.proofs.Common.{◌≡◌, ◌≢◌, ℕ, ◌<◌, ◌≤◌, ◌
 use Rattle.std.proofs.Common.{length, Option, Some, None, IfSome, refl, sym, ap, subst, ◌∙◌, arith, append_assoc}
 use Rattle.std.proofs.lemmas.Bool.Decides.{nat_tests}
 use Rattle.std.proofs.Common.{append-nil}
-use Rattle.syslog_loose.proofs.SettlingLemmas.Decided.{Decided, decided, find_run}
+use Rattle.syslog_loose.proofs.SettlingLemmas.Decided.{Decided, decided, find_run, no_char}
 use Rattle.std.proofs.lemmas.List.Prefix.{end_rest}
 use Rattle.std.proofs.lemmas.List.{take-append-drop}
 use Rattle.std.proofs.Common.{take, drop, ◌-◌}
@@ -31,7 +31,8 @@ use Rattle.syslog_loose.specs.Canonical.{IsVisible, IsCanonicalHost, IsBoundedPr
 use Rattle.syslog_loose.specs.Exceptions.{is_no_colon, HasNoColon, IsOddHost, is_inner_char, AreNamesButExceptions}
 use Rattle.syslog_loose.specs.Printed.{tag_text}
 use Rattle.syslog_loose.specs.Rfc3164.{Names3164, names, Resolves, body_row}
-use Rattle.syslog_loose.specs.Settling.{names_weight}
+use Rattle.syslog_loose.specs.Settling.{names_weight, ListWeighs}
+use Rattle.syslog_pieces.specs.StructuredData.Rfc3164List.{elements_or}
 use Rattle.syslog_loose.specs.TagForm.{form_row, IsNoForm}
 use Rattle.syslog_loose.proofs.Rfc3164Lemmas.{resolves_once}
 use Rattle.syslog_loose.proofs.Rfc3164Lemmas.Exceptions.{canonical_names}
@@ -40,7 +41,7 @@ use Rattle.syslog_loose.proofs.Rfc3164Lemmas.ReadBack.{host_field_back}
 use Rattle.syslog_loose.proofs.Rfc3164Lemmas.Rows.{from_blanks, to_colon, to_colon_det}
 use Rattle.syslog_loose.proofs.Rfc3164Lemmas.Whole.{program_text}
 use Rattle.syslog_loose.proofs.SettlingLemmas.NoList.{no_list_by, no_list_inner}
-use Rattle.syslog_loose.proofs.SettlingLemmas.Weights.{colon_weight, fields_light, lone_light}
+use Rattle.syslog_loose.proofs.SettlingLemmas.Weights.{left_free, colon_weight, fields_light, lone_light}
 
 -- ---- what can be told of a text
 
@@ -93,8 +94,7 @@ host_left h t (l, a) =
     rw (append_assoc h colon (32 ∷ 58 ∷ t)) (row_of to_colon
     (optional_some (spaced host) (spaced_front host (space_front (h ++ behind))
     (piece_front host h behind (Some h) (l, a, inr (32 ∷ 58 ∷ t, refl, refl, refl))))
-    then optional_none (spaced tag_word) (no_spaced_space tag_word
-    (λ p q v e k. let u : ◌≡◌ {A = ℕ} 58 32 = heads 58 32 _ q (e ∙ ap (λ (x : Text). x ++ q) k) in omega arith))
+    then optional_none (spaced tag_word) (no_spaced_space tag_word (no_char 32 58 _ (λ e. omega arith)))
     then no_blanks behind refl then colon_front (32 ∷ 58 ∷ t) then refl))
 
 -- a host that is no more than its colon
@@ -159,14 +159,10 @@ module _ (rule : DashRule) (t : Text) (n : Names3164) (vs : Values (body_row rul
     pub tag_is : tag_text n.appname n.procid ≡ tag_text a p
     pub behind : Front (Row (from_blanks rule)) t [] vs.1.1.1.1
 
-  -- lighter names, and what is left behind their colon is a message that begins with no list
-  pub record Moved (h : Option Text) (p : Option (ProcId Text)) : Type 0 where
-    pub left : Text
-    pub msg : Text
-    pub gap : Front (run is_blank) left msg tt
-    pub no_list : BeginsNoList rule msg
-    pub behind : Front (Row (from_blanks rule)) left [] vs.1.1.1.1
-    pub lighter : names_weight n.hostname n.procid < names_weight h p
+  -- lighter names, and a message part that costs nothing
+  abbrev pub Moved : Option Text → Option (ProcId Text) → Type 0
+  Moved h p = (names_weight n.hostname n.procid < names_weight h p)
+      × ((v : ℕ) → ListWeighs rule (elements_or vs.1.1.1.1.1.0) vs.1.1.1.1.1.1.1.0 v → v ≡ 0)
 
   abbrev pub Step : Option Text → Option Text → Option (ProcId Text) → Type 0
   Step h a p = Stays h a p ⊎ Moved h p
@@ -209,30 +205,19 @@ module _ (rule : DashRule) (t : Text) (n : Names3164) (vs : Values (body_row rul
       then tagged w q (omega (arith, length-append a (91 ∷ x))) tag (open_no_dash a x) then no_blanks (58 ∷ q) refl
       then colon_front q then refl)) (rw (is, cut_text a x z t) at d) in
       let (no_blank, no_list) = no_list_inner z (58 ∷ t) (each_behind is_inner_char x (58 ∷ z) inner).1 in
-      record {
-        left = q;
-        msg = q;
-        gap = no_blanks q no_blank;
-        no_list = rw blank no_list;
-        behind = behind;
-        lighter = elim means [
-          | inl (tag, id, p, f, g, e) ↦
-              absurd (no_form_open a 91 x (refl, each_right is_not_whitespace is_open_char x inner_x) _ f)
-          | inr (form, e) ↦ rw (is, e, has_colon x z) (omega arith)
-        ];
-      }
+      let lighter : names_weight n.hostname n.procid < names_weight None p = elim means [
+        | inl (tag, id, p, f, g, e) ↦
+            absurd (no_form_open a 91 x (refl, each_right is_not_whitespace is_open_char x inner_x) _ f)
+        | inr (form, e) ↦ rw (is, e, has_colon x z) (omega arith)
+      ] in
+      (lighter, λ v. left_free rule q q vs.1.1.1.1 (no_blanks q no_blank) behind v (rw blank no_list))
 
   -- a host that leaves its colon to the message
   colon_moved : (h : Text) → Front (Row (from_blanks rule)) (32 ∷ 58 ∷ t) [] vs.1.1.1.1
       → names_weight n.hostname n.procid < names_weight (Some h) None → Moved (Some h) None
-  colon_moved h d l = record {
-    left = _;
-    msg = 58 ∷ t;
-    gap = piece_front (run is_blank) (32 ∷ []) (58 ∷ t) tt ((refl, tt), refl);
-    no_list = no_list_by rule 58 t (λ e. omega arith) (λ e. omega arith);
-    behind = d;
-    lighter = l;
-  }
+  colon_moved h d l =
+      let gap = piece_front (run is_blank) (32 ∷ []) (58 ∷ t) tt ((refl, tt), refl) in
+      (l, λ v. left_free rule _ _ vs.1.1.1.1 gap d v (no_list_by rule 58 t (λ e. omega arith) (λ e. omega arith)))
 
   colons_moved : (h : Text) → Each is_not_whitespace (h ++ colon) → Reads (names_text (Some (h ++ colon)) None None t)
       → Moved (Some (h ++ colon)) None

@@ -71,17 +71,13 @@ module _ (variant : Variant) (dating : Dating) where
       let (n, again, same) = fixed_again variant dating m fixed (read_protocol variant dating text m r) in
       record { message = n; read = again; is_printed = sym same }
 
-  -- what was read as RFC 5424 prints as one
-  strict_settled : (text : Text) (m : MessageValue) (version : ℕ) → IsRead variant dating text m
-      → m.protocol ≡ protocol.RFC5424 version → IsSettled variant dating (printed m)
-  strict_settled text m version r e =
+  -- what was read prints as one, unless it was read as RFC 3164 and has an exception
+  rest_settled : (text : Text) (m : MessageValue) → IsRead variant dating text m → (p : Protocol) → m.protocol ≡ p
+      → IsAtRest p m → IsSettled variant dating (printed m)
+  rest_settled text m r (protocol.RFC5424 version) e h =
       fixed_settled text m r (inr (inl (text, as_rfc5424 variant dating text m r version e)))
-
-  -- so does what was read as RFC 3164 and has none of the exceptions
-  free_settled : (text : Text) (m : MessageValue) → IsRead variant dating text m → m.protocol ≡ protocol.RFC3164
-      → HasNoException dash_rule m → IsSettled variant dating (printed m)
-  free_settled text m r e none =
-      fixed_settled text m r (inr (inr (text, dating, as_rfc3164 variant dating text m r e, none)))
+  rest_settled text m r protocol.RFC3164 e h =
+      fixed_settled text m r (inr (inr (text, dating, as_rfc3164 variant dating text m r e, h)))
 
   -- and the message of a settled text is canonical
   pub settled_canonical : (text : Text) (m : MessageValue) → IsSettled variant dating text
@@ -180,10 +176,6 @@ module _ (variant : Variant) (dating : Dating) where
 
   -- ---- what the next round's reader answers
   module _ (text : Text) (m : MessageValue) (r : IsRead variant dating text m) where
-    rest_settled : (p : Protocol) → m.protocol ≡ p → IsAtRest p m → IsSettled variant dating (printed m)
-    rest_settled (protocol.RFC5424 version) e h = strict_settled text m version r e
-    rest_settled protocol.RFC3164 e h = free_settled text m r e h
-
     odd_rfc3164 : (p : Protocol) → m.protocol ≡ p → (IsAtRest p m → ⊥)
         → (m.protocol ≡ protocol.RFC3164) × (IsSettled variant dating text → ⊥)
     odd_rfc3164 (protocol.RFC5424 version) e odd = absurd (odd tt)
@@ -211,7 +203,7 @@ module _ (variant : Variant) (dating : Dating) where
       -- or whether it is at rest is told
       pub round_printed : (skips settled : Bool) → (IsTrue settled ↔ IsAtRest m.protocol m)
           → IsRoundAsTold skips variant dating text (chars bytes) settled
-      round_printed skips true rest = told_settled skips (rest_settled m.protocol refl (rest.0 refl))
+      round_printed skips true rest = told_settled skips (rest_settled text m r m.protocol refl (rest.0 refl))
       round_printed skips false rest = record {
         told = told_later (chars bytes) (λ at. let t : false ≡ true = rest.1 at in cc)
             (λ e. (0, reached_first variant dating text (chars bytes) is_next));
@@ -233,15 +225,15 @@ module _ (variant : Variant) (dating : Dating) where
       → IsRoundAsTold skips variant dating text (chars bytes) true
   round_copied skips text bytes u k =
       let r = (k.only dating).read in
-      told_settled text k.message r bytes u k.prints skips (strict_settled text k.message k.strict.values.1.0 r
-      (ap (λ (x : MessageValue). x.protocol) k.strict.means))
+      told_settled text k.message r bytes u k.prints skips (rest_settled text k.message r _
+      (ap (λ (x : MessageValue). x.protocol) k.strict.means) tt)
 
   -- and so is one that is copied behind its timestamp
   pub round_freely : (skips : Bool) (text : Text) (bytes : List ℕ) → IsUtf8 bytes
       → PrintsAs3164 variant dating text bytes → IsRoundAsTold skips variant dating text (chars bytes) true
   round_freely skips text bytes u k =
       told_settled text k.message k.read bytes u k.prints skips
-      (free_settled text k.message k.read k.protocol k.no_exception)
+      (rest_settled text k.message k.read protocol.RFC3164 k.protocol k.no_exception)
 
   -- ---- what the loop does
   -- the round behind one that is not settled
