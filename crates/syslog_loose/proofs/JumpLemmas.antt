@@ -21,6 +21,7 @@ use Rattle.syslog_loose.specs.declared.message.Protocol.TheVariants.{RFC3164}
 use Rattle.syslog_loose.specs.declared.variant.Variant.{Variant}
 use Rattle.syslog_pieces.specs.Timestamp.Zone.{Dating}
 use Rattle.syslog_pieces.proofs.TextLemmas.Chars.{chars_empty}
+use Rattle.syslog_pieces.proofs.PieceLemmas.Lists.{begins}
 use Rattle.syslog_loose.proofs.PriorityLemmas.{priority_small}
 use Rattle.syslog_loose.proofs.SettlingLemmas.Falls.{priority_again, printed_same}
 use Rattle.syslog_loose.proofs.SettlingLemmas.Jumps.{colons_skipped}
@@ -35,15 +36,10 @@ pub dash_told : (t q : Text) (f : Front (exactly (45 ∷ [])) t q tt) (r : Optio
     → Skips (some_run is_blank) tt q r
     → MatchOption r ((rest : Text) → IsDashed t rest → ⊥) (λ x. IsDashed t (shown x))
 dash_told t q f None n = λ rest d.
-    let u : 45 ∷ q ≡ 45 ∷ (d.blanks ++ rest) = sym (f.whole ∙ ap (λ (x : Text). x ++ q) f.is) ∙ d.whole in
-    n d.blanks rest tt (cc) (d.some, d.each, d.no_more)
-dash_told t q f (Some x) g = record {
-  blanks = g.piece;
-  whole = f.whole ∙ ap (λ (y : Text). y ++ q) f.is ∙ ap (λ (y : Text). 45 ∷ y) g.whole;
-  some = g.is.0;
-  each = g.is.1;
-  no_more = g.is.2;
-}
+    let b = begins 45 t q f in n d.blanks rest tt (cc) (d.some, d.each, d.no_more)
+dash_told t q f (Some x) g =
+    let b = begins 45 t q f in
+    record { blanks = g.piece; whole = cc; some = g.is.0; each = g.is.1; no_more = g.is.2 }
 
 -- n dashes, each with a space behind it
 abbrev pub spaced_dashes : ℕ → Text

@@ -5,7 +5,7 @@ use Rattle.std.proofs.lemmas.Bool.Decides.{nat_tests}
 use Rattle.std.specs.Char.{is_not_whitespace}
 use Rattle.std.specs.List.{AllByRecursion}
 use Rattle.std.specs.Option.{option_map_or}
-use Rattle.syslog_pieces.specs.Pieces.Class.{Text, Values, Front, NoFront, Row, Ends, exactly, spaced}
+use Rattle.syslog_pieces.specs.Pieces.Class.{Text, Values, Front, Row, Ends, exactly, spaced}
 use Rattle.syslog_pieces.specs.Pri.{facility_number, severity_number, facility_of, severity_of}
 use Rattle.syslog_pieces.specs.StructuredData.Element.{ElementValue}
 use Rattle.syslog_pieces.specs.StructuredData.Rfc3164List.{elements_or}
@@ -76,11 +76,9 @@ behind_space m =
 module _ (rule : DashRule) (vs : Values (body_row rule)) (n : Names3164) (r : Resolves vs.0 vs.1.0 n) (v : ℕ)
     (y : ListWeighs rule (elements_or vs.1.1.1.1.1.0) vs.1.1.1.1.1.1.1.0 v) where
   -- it prints as the message did
-  record Same (m : MessageValue) : Type 0 where
-    host_is : name_text n.hostname ≡ name_text m.hostname
-    tag_is : tag_text n.appname n.procid ≡ tag_text m.appname m.procid
-    elements_are : elements_or vs.1.1.1.1.1.0 ≡ m.structured_data
-    msg_is : vs.1.1.1.1.1.1.1.0 ≡ m.msg
+  abbrev Same : MessageValue → Type 0
+  Same m = (name_text n.hostname ≡ name_text m.hostname) × (tag_text n.appname n.procid ≡ tag_text m.appname m.procid)
+      × (elements_or vs.1.1.1.1.1.0 ≡ m.structured_data) × (vs.1.1.1.1.1.1.1.0 ≡ m.msg)
 
   -- it weighs less than the message, or no more, and then it prints the same
   abbrev Fallen : MessageValue → ℕ → Type 0
@@ -96,11 +94,7 @@ module _ (rule : DashRule) (vs : Values (body_row rule)) (n : Names3164) (r : Re
         | inl k ↦ elim (end_step rule m.structured_data m.msg near.elements near.parameters near.msg_front vs.1.1.1.1
             w v x y k.behind) [
               | inl l ↦ inl (omega (arith, k.light))
-              | inr (l, e, f) ↦
-                  inr (
-                    omega (arith, k.light),
-                    record { host_is = k.host_is; tag_is = k.tag_is; elements_are = e; msg_is = f },
-                  )
+              | inr (l, e, f) ↦ inr (omega (arith, k.light), (k.host_is, k.tag_is, e, f))
             ]
         | inr (lighter, free) ↦ inl (omega (arith, lighter, free v y))
       ]
@@ -203,8 +197,7 @@ module _ (rule : DashRule) (dating : Dating) (m : MessageValue) (near : HasExcep
       rw p (priority_again (priority_of m) (priority_small m)) in
       elim (tail (step (rfc3164_stamp dating) (body_row rule) (rfc3164_stamp_det dating) front d)) [
         | inl l ↦ inl (omega (arith, x.total, y.total))
-        | inr (l, s) ↦
-            inr (printed_same m (told rule dating vs n) same e s.host_is s.tag_is s.elements_are s.msg_is)
+        | inr (l, (host, tag, es, msg)) ↦ inr (printed_same m (told rule dating vs n) same e host tag es msg)
       ]
 
 -- The printed text of a message that was read is read as one that prints the same, or as a lighter one.

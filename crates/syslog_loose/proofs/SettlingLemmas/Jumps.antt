@@ -17,7 +17,7 @@ use Rattle.syslog_pieces.proofs.PieceLemmas.Each.{each_front}
 use Rattle.syslog_pieces.proofs.PieceLemmas.Rows.{row_of, ◌then◌}
 use Rattle.syslog_pieces.proofs.PieceLemmas.Steps.{piece_front}
 use Rattle.syslog_pieces.proofs.StructuredDataLemmas.Rfc3164List.{dash_rfc3164_list}
-use Rattle.syslog_loose.specs.Canonical.{IsVisible, IsBoundedProcess}
+use Rattle.syslog_loose.specs.Canonical.{IsBoundedProcess}
 use Rattle.syslog_loose.specs.Exceptions.{HasExceptionsAlone, HasNoException}
 use Rattle.syslog_loose.specs.Reading.{dash_rule}
 use Rattle.syslog_loose.specs.Jumps.{colons, colons_before, message_end, tail_text, past_colons, EndsColons}

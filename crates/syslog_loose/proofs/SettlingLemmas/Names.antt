@@ -14,7 +14,6 @@ use Rattle.std.specs.List.{list_any}
 use Rattle.std.specs.Str.{bytes_eq}
 use Rattle.syslog_pieces.specs.Pieces.Class.{Text, Values, Front, NoFront, Row, Each, Ends, run, exactly, optional}
 use Rattle.syslog_pieces.specs.Pieces.Class.{spaced}
-use Rattle.syslog_pieces.specs.StructuredData.Rfc3164List.{BeginsNoList}
 use Rattle.syslog_pieces.specs.Text.{is_blank, is_tag_char, dash, colon, EndsInColon, name_text, host, tag_word}
 use Rattle.syslog_pieces.specs.Text.CharClass.{is_open_char}
 use Rattle.syslog_pieces.specs.declared.procid.ProcId.{ProcId}

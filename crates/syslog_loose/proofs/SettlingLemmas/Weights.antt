@@ -57,8 +57,9 @@ one_weight rule m w v a b =
 -- ---- some weight
 
 -- whether the timestamp is canonical can be decided
-canonical_decided : (s : OffsetTimestamp) → Decided (IsCanonicalStamp s)
-canonical_decided s =
+stamp_decided : (s : Option OffsetTimestamp) → Decided (IfSome s IsCanonicalStamp)
+stamp_decided None = inl tt
+stamp_decided (Some s) =
     by_lt_z {P = Decided (IsCanonicalStamp s)} (own_year s) (pos 0)
     (λ l. inr (λ k. let e = k.year_from in omega (arith, ints, e, l))) (λ from.
     by_lt_z {P = Decided (IsCanonicalStamp s)} (pos 9999) (own_year s)
@@ -70,10 +71,6 @@ canonical_decided s =
       ]
       | inr m ↦ inr (λ k. m.1 k.minutes)
     ]))
-
-stamp_decided : (s : Option OffsetTimestamp) → Decided (IfSome s IsCanonicalStamp)
-stamp_decided None = inl tt
-stamp_decided (Some s) = canonical_decided s
 
 -- so can whether the message begins with a list although there is no element
 list_free : (rule : DashRule) (es : List ElementValue) (msg : Text) → Decided (es ≡ [] → BeginsNoList rule msg)

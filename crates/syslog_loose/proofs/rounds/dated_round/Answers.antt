@@ -1,8 +1,5 @@
-use Rattle.std.specs.Prelude.{string_bytes}
 use Rattle.std.proofs.lemmas.Result.{err_from_is_err_and}
 use Rattle.std.proofs.lemmas.Str.{IsUtf8-string_bytes}
-use Rattle.syslog_pieces.specs.Timestamp.Zone.{dating_value}
-use Rattle.syslog_loose.specs.Verbatim3164.{PrintsAs3164}
 use Rattle.syslog_loose.proofs.ReadingLemmas.{invalid_or_memory, no_ok, found_text}
 use Rattle.syslog_loose.proofs.SettlingLemmas.Settles.{round_freely}
 use Rattle.syslog_loose.proofs.rounds.dated_round.Goals as goal
@@ -17,7 +14,5 @@ returns-in_err-copied c whole e =
 
 pub returns-then-copied : goal.returns-then-copied
 returns-then-copied c whole e =
-    let dating = dating_value c.args.dating.now in
-    let k = found_text (PrintsAs3164 c.args.variant dating whole (string_bytes c.dated_text.new.text))
-    _ _ c.in_ok-copied.was c.if-copied.true (c.dated_text.ensures.text _ _ (c.requires.shows whole e)) in
+    let k = found_text _ _ _ c.in_ok-copied.was c.if-copied.true (c.dated_text.ensures.text _ _ (c.requires.shows whole e)) in
     round_freely _ _ c.args.skips _ _ (IsUtf8-string_bytes c.dated_text.new.text) k

@@ -1,11 +1,9 @@
 use Rattle.std.proofs.Common.{None, refl, subst}
-use Rattle.std.specs.Prelude.{string_bytes}
 use Rattle.std.proofs.lemmas.Result.{err_from_is_err_and}
 use Rattle.std.proofs.lemmas.Str.{IsUtf8-string_bytes}
 use Rattle.syslog_pieces.specs.Pieces.Class.{Text}
 use Rattle.syslog_pieces.specs.Timestamp.Zone.{dating_of}
 use Rattle.syslog_loose.specs.Beginning.{BeginsNone}
-use Rattle.syslog_loose.specs.VerbatimLine.{PrintsAs5424}
 use Rattle.syslog_loose.proofs.BeginningLemmas.{asks_no_year, no_reading}
 use Rattle.syslog_loose.proofs.Verbatim3164Lemmas.{dated_answered, asked_month}
 use Rattle.syslog_loose.proofs.ReadingLemmas.{answered_to, fault_in, invalid_or_memory, no_ok, found_text}
@@ -27,8 +25,7 @@ returns-in_err-copied g c whole e =
 
 pub returns-then-copied : goal.returns-then-copied
 returns-then-copied g c whole e =
-    let k = found_text (PrintsAs5424 c.args.variant whole (string_bytes c.verbatim_text.new.text))
-    _ _ c.in_ok-copied.was c.if-copied.true (c.verbatim_text.ensures.text whole e) in (
+    let k = found_text _ _ _ c.in_ok-copied.was c.if-copied.true (c.verbatim_text.ensures.text whole e) in (
       k.asks_none,
       round_copied c.args.variant (dating_of None c.args.tz c.args.local) c.args.skips _ _
           (IsUtf8-string_bytes c.verbatim_text.new.text) k,

@@ -1,8 +1,5 @@
-use Rattle.std.specs.Prelude.{string_bytes}
 use Rattle.std.proofs.lemmas.Result.{err_from_is_err_and}
 use Rattle.std.proofs.lemmas.Str.{IsUtf8-string_bytes}
-use Rattle.syslog_pieces.specs.Timestamp.Zone.{dating_value}
-use Rattle.syslog_loose.specs.Verbatim3164.{PrintsAs3164}
 use Rattle.syslog_loose.proofs.ReadingLemmas.{fault_tells, memory_tells, invalid_or_memory, no_ok, found_text}
 use Rattle.syslog_loose.proofs.SettlingLemmas.Settles.{round_freely, round_printed, round_skipped}
 use Rattle.syslog_loose.proofs.rounds.next_round.Goals as goal
@@ -17,9 +14,7 @@ returns-in_err-copied c whole e =
 
 pub returns-then-copied : goal.returns-then-copied
 returns-then-copied c whole e =
-    let dating = dating_value c.args.dating.now in
-    let k = found_text (PrintsAs3164 c.args.variant dating whole (string_bytes c.rfc3164_text.new.text))
-    _ _ c.in_ok-copied.was c.if-copied.true (c.rfc3164_text.ensures.text whole e) in
+    let k = found_text _ _ _ c.in_ok-copied.was c.if-copied.true (c.rfc3164_text.ensures.text whole e) in
     round_freely _ _ c.args.skips _ _ (IsUtf8-string_bytes c.rfc3164_text.new.text) k
 
 pub returns-in_err-message : goal.returns-in_err-message
