@@ -26,7 +26,10 @@ use Rattle.syslog_loose.specs.declared.message.Protocol.TheVariants as protocol
 use Rattle.syslog_loose.specs.declared.variant.Variant.{Variant}
 use Rattle.syslog_loose.proofs.BoundLemmas.{read_as, read_bounded}
 use Rattle.syslog_loose.proofs.ReadBackLemmas.{printed_exact, fixed_again}
-use Rattle.syslog_loose.proofs.ReadingLemmas.{read_once, invalid_or_memory}
+use Rattle.syslog_loose.proofs.ReadingLemmas.{read_once, invalid_or_memory, no_ok}
+use Rattle.std.proofs.Common.{Result, Err}
+use Rattle.std.specs.Prelude.{IsOk}
+use Rattle.std.specs.declared.alloc.AllocError.{AllocError}
 use Rattle.syslog_loose.proofs.Rfc3164Lemmas.Exceptions.{canonical_near}
 use Rattle.syslog_loose.proofs.Rfc3164Lemmas.Near.{read_near}
 use Rattle.syslog_loose.proofs.Rfc3164Lemmas.Printed.{printed_is, printed_apart}
@@ -154,6 +157,11 @@ module _ (variant : Variant) (dating : Dating) where
       → IsSettlingFault variant dating t Invalid
   settles_not t never = (λ u round. rests t u (none_settled variant dating t never (length t + 1)) round, never)
 
+  -- where a copy was refused, the text has a reading
+  pub copy_refused : (t : Text) (r : Result Bool AllocError) (fault : AllocError) → r ≡ Err fault
+      → (IsUnreadable variant dating t → IsOk r) → (Memory ≡ Invalid) ↔ IsUnreadable variant dating t
+  copy_refused t r fault e h = (λ i. absurd (invalid_or_memory i), λ u. absurd (no_ok r fault e (h u)))
+
   -- where round 1 was refused
   pub first_fault : (t : Text) (fault : ParseFault) → (fault ≡ Invalid) ↔ IsUnreadable variant dating t
       → IsSettlingFault variant dating t fault
@@ -176,17 +184,13 @@ module _ (variant : Variant) (dating : Dating) where
 
   -- ---- what the next round's reader answers
   module _ (text : Text) (m : MessageValue) (r : IsRead variant dating text m) where
-    odd_rfc3164 : (p : Protocol) → m.protocol ≡ p → (IsAtRest p m → ⊥)
-        → (m.protocol ≡ protocol.RFC3164) × (IsSettled variant dating text → ⊥)
-    odd_rfc3164 (protocol.RFC5424 version) e odd = absurd (odd tt)
-    odd_rfc3164 protocol.RFC3164 e odd = (e, odd_unsettled text m r e odd)
-
     -- a message of RFC 3164 that has an exception, and a round of which is written
-    told_later : (later : Text) → (IsAtRest m.protocol m → ⊥)
+    told_later : (later : Text) (p : Protocol) → m.protocol ≡ p → (IsAtRest p m → ⊥)
         → (m.protocol ≡ protocol.RFC3164 → (n : ℕ) × Reaches variant dating text n later)
         → IsToldRound variant dating text later false
-    told_later later odd reaches =
-        let (e, never) = odd_rfc3164 m.protocol refl odd in let (n, s) = reaches e in (never, n, s)
+    told_later later (protocol.RFC5424 version) e odd reaches = absurd (odd tt)
+    told_later later protocol.RFC3164 e odd reaches =
+        let (n, s) = reaches e in (odd_unsettled text m r e odd, n, s)
 
     module _ (bytes : List ℕ) (u : IsUtf8 bytes) (w : bytes ≡ encode_utf8_all (printed m)) where
       abbrev is_next : IsNext variant dating text (chars bytes)
@@ -205,7 +209,7 @@ module _ (variant : Variant) (dating : Dating) where
           → IsRoundAsTold skips variant dating text (chars bytes) settled
       round_printed skips true rest = told_settled skips (rest_settled text m r m.protocol refl (rest.0 refl))
       round_printed skips false rest = record {
-        told = told_later (chars bytes) (λ at. let t : false ≡ true = rest.1 at in cc)
+        told = told_later (chars bytes) m.protocol refl (λ at. let t : false ≡ true = rest.1 at in cc)
             (λ e. (0, reached_first variant dating text (chars bytes) is_next));
         next = λ e. is_next;
       }
@@ -216,7 +220,7 @@ module _ (variant : Variant) (dating : Dating) where
         → (m.protocol ≡ protocol.RFC3164 → (n : ℕ) × Reaches variant dating text n later)
         → IsRoundAsTold skips variant dating text later false
     round_skipped skips settled e f rest later reaches = record {
-      told = told_later later (λ at. let t : settled ≡ true = rest.1 at in cc) reaches;
+      told = told_later later m.protocol refl (λ at. let t : settled ≡ true = rest.1 at in cc) reaches;
       next = λ g. cc;
     }
 

@@ -6,8 +6,8 @@ use Rattle.syslog_pieces.specs.Timestamp.Zone.{dating_of}
 use Rattle.syslog_loose.specs.Beginning.{BeginsNone}
 use Rattle.syslog_loose.proofs.BeginningLemmas.{asks_no_year, no_reading}
 use Rattle.syslog_loose.proofs.Verbatim3164Lemmas.{dated_answered, asked_month}
-use Rattle.syslog_loose.proofs.ReadingLemmas.{answered_to, fault_in, invalid_or_memory, no_ok, found_text}
-use Rattle.syslog_loose.proofs.SettlingLemmas.Settles.{round_copied}
+use Rattle.syslog_loose.proofs.ReadingLemmas.{answered_to, fault_in, no_ok, found_text}
+use Rattle.syslog_loose.proofs.SettlingLemmas.Settles.{copy_refused, round_copied}
 use Rattle.syslog_loose.proofs.rounds.first_round.Goals as goal
 
 pub returns-in_err-copied : goal.returns-in_err-copied
@@ -16,11 +16,7 @@ returns-in_err-copied g c whole e =
     rw (f, same) (record {
       answered = None;
       is_answered = λ date asks. no_ok _ _ c.in_err-copied.was (c.verbatim_text.ensures.year whole e date asks);
-      holds =
-          λ year agrees. (
-            λ i. absurd (invalid_or_memory i),
-            λ u. absurd (no_ok _ _ c.in_err-copied.was (c.verbatim_text.ensures.memory whole e _ u)),
-          );
+      holds = λ year agrees. copy_refused _ _ _ _ _ c.in_err-copied.was (c.verbatim_text.ensures.memory whole e _);
     })
 
 pub returns-then-copied : goal.returns-then-copied

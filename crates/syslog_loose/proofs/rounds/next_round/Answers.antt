@@ -1,16 +1,13 @@
 use Rattle.std.proofs.lemmas.Result.{err_from_is_err_and}
 use Rattle.std.proofs.lemmas.Str.{IsUtf8-string_bytes}
-use Rattle.syslog_loose.proofs.ReadingLemmas.{fault_tells, memory_tells, invalid_or_memory, no_ok, found_text}
-use Rattle.syslog_loose.proofs.SettlingLemmas.Settles.{round_freely, round_printed, round_skipped}
+use Rattle.syslog_loose.proofs.ReadingLemmas.{fault_tells, memory_tells, found_text}
+use Rattle.syslog_loose.proofs.SettlingLemmas.Settles.{copy_refused, round_freely, round_printed, round_skipped}
 use Rattle.syslog_loose.proofs.rounds.next_round.Goals as goal
 
 pub returns-in_err-copied : goal.returns-in_err-copied
 returns-in_err-copied c whole e =
     let (_, f, same) = err_from_is_err_and c.from_residual.result c.from_residual.ensures.1 in
-    rw (f, same) (
-      λ i. absurd (invalid_or_memory i),
-      λ u. absurd (no_ok _ _ c.in_err-copied.was (c.rfc3164_text.ensures.memory whole e u)),
-    )
+    rw (f, same) (copy_refused _ _ _ _ _ c.in_err-copied.was (c.rfc3164_text.ensures.memory whole e))
 
 pub returns-then-copied : goal.returns-then-copied
 returns-then-copied c whole e =
