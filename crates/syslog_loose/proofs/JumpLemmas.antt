@@ -1,32 +1,25 @@
 -- What the readers of a skipped round tell.
-use Rattle.std.proofs.Common.{◌≡◌, ℕ, zero, suc, ◌+◌, ◌-◌, ◌<◌, true, false, subst, List, [], ◌∷◌}
-use Rattle.std.proofs.Common.{◌++◌, length, Option, Some, None, refl, sym, ap, ◌∙◌, arith, append_assoc, append-nil}
-use Rattle.std.proofs.Common.{zero-add, suc-add, add-zero, add-suc}
-use Rattle.std.proofs.lemmas.List.{nil_from_length}
-use Rattle.std.specs.Borrow.{Bor}
+use Rattle.syslog_loose.proofs.Names.{◌≡◌, ℕ, zero, suc, ◌+◌, ◌-◌, ◌<◌, true, false, subst, List, [], ◌∷◌, ◌++◌, length}
+use Rattle.syslog_loose.proofs.Names.{Option, None, refl, sym, ap, ◌∙◌, arith, append_assoc, append-nil}
+use Rattle.syslog_loose.proofs.Names.{nil_from_length, Bor, chars, encode_utf8_all, IsUtf8, chars_from_encodes}
+use Rattle.syslog_loose.proofs.Names.{encodes-append, encodes-chars, Text, Ends, Front, NoFront, exactly, some_run}
+use Rattle.syslog_loose.proofs.Names.{shown, is_blank, EndsInColon, name_text, colons, colons_before, past_colons}
+use Rattle.syslog_loose.proofs.Names.{CutsColons, EndsColons, IsDashed, PassesDashes, with_msg, MessageValue, tag_text}
+use Rattle.syslog_loose.proofs.Names.{priority_of, printed, IsRead, Variant, Dating, Reaches, ElementValue}
+use Rattle.std.proofs.Common.{Some, zero-add, suc-add, add-zero, add-suc}
 use Rattle.std.specs.Prelude.{MatchOption}
-use Rattle.std.specs.Str.{chars, encode_utf8_all, IsUtf8}
 use Rattle.std.specs.Str.Pattern.{FindsTextPrefix, FindsTextSuffix, StripsPrefix, StripsSuffix}
-use Rattle.std.proofs.lemmas.Str.{chars_from_encodes, encodes-append, encodes-chars}
 use Rattle.std.specs.Option.{is_some}
-use Rattle.syslog_pieces.specs.Pieces.Class.{Text, Ends, Front, NoFront, exactly, some_run}
-use Rattle.syslog_pieces.specs.Pieces.View.{shown, Skips}
-use Rattle.syslog_pieces.specs.Text.{is_blank, EndsInColon, name_text}
-use Rattle.syslog_loose.specs.Jumps.{colons, colons_before, message_end, tail_text, past_colons, CutsColons, EndsColons}
-use Rattle.syslog_loose.specs.Jumps.{IsDashed, PassesDashes, with_msg}
-use Rattle.syslog_loose.specs.Message.{MessageValue}
-use Rattle.syslog_loose.specs.Printed.{tag_text, priority_of, printed_3164, printed}
-use Rattle.syslog_loose.specs.Reading.{IsRead}
+use Rattle.syslog_pieces.specs.Pieces.View.{Skips}
+use Rattle.syslog_loose.specs.Jumps.{message_end, tail_text}
+use Rattle.syslog_loose.specs.Printed.{printed_3164}
 use Rattle.syslog_loose.specs.declared.message.Protocol.TheVariants.{RFC3164}
-use Rattle.syslog_loose.specs.declared.variant.Variant.{Variant}
-use Rattle.syslog_pieces.specs.Timestamp.Zone.{Dating}
 use Rattle.syslog_pieces.proofs.TextLemmas.Chars.{chars_empty}
 use Rattle.syslog_pieces.proofs.PieceLemmas.Lists.{begins}
 use Rattle.syslog_loose.proofs.PriorityLemmas.{priority_small}
 use Rattle.syslog_loose.proofs.SettlingLemmas.Falls.{priority_again, printed_same}
 use Rattle.syslog_loose.proofs.SettlingLemmas.Jumps.{colons_skipped}
-use Rattle.syslog_loose.specs.Settling.{Reaches}
-use Rattle.syslog_pieces.specs.StructuredData.Element.{ElementValue, joined_elements, elements_text}
+use Rattle.syslog_pieces.specs.StructuredData.Element.{joined_elements, elements_text}
 use Rattle.std.specs.Char.{encode_utf8}
 
 pub no_dash : (t : Text) → NoFront (exactly (45 ∷ [])) t → (rest : Text) → IsDashed t rest → ⊥

@@ -1,21 +1,16 @@
 -- The priority that each printed text begins with.
-use Rattle.std.proofs.Common.{◌≡◌, ℕ, ◌<◌, ◌≤◌, ◌^◌, [], ◌∷◌, ◌++◌, Option, Some}
-use Rattle.std.proofs.Common.{None, refl, arith, append_assoc}
+use Rattle.syslog_loose.proofs.Names.{◌≡◌, ℕ, ◌<◌, ◌≤◌, [], ◌∷◌, ◌++◌, Option, None, refl, arith, append_assoc}
+use Rattle.syslog_loose.proofs.Names.{option_map_or, drop_trailing_whitespace, Text, Front, Ends, exactly, piece_front}
+use Rattle.syslog_loose.proofs.Names.{row_of, ◌then◌, MessageValue, priority_of}
+use Rattle.std.proofs.Common.{◌^◌, Some}
 use Rattle.std.specs.Char.{is_ascii_digit}
 use Rattle.std.specs.Fmt.{decimal}
-use Rattle.std.specs.Option.{option_map_or}
-use Rattle.std.specs.Str.{drop_trailing_whitespace}
-use Rattle.syslog_pieces.specs.Pieces.Class.{Text, Front, Ends, exactly}
 use Rattle.syslog_pieces.specs.Pri.{priority_row, priority, facility_number, severity_number}
 use Rattle.syslog_pieces.specs.Text.{number}
 use Rattle.syslog_pieces.specs.declared.pri.SyslogFacility.{SyslogFacility}
 use Rattle.syslog_pieces.specs.declared.pri.SyslogSeverity.{SyslogSeverity}
-use Rattle.syslog_pieces.proofs.PieceLemmas.Steps.{piece_front}
-use Rattle.syslog_pieces.proofs.PieceLemmas.Rows.{row_of, ◌then◌}
 use Rattle.syslog_pieces.proofs.PriLemmas.{as_priority, facility_low, severity_low}
 use Rattle.syslog_pieces.proofs.TextLemmas.ReadBack.{number_back}
-use Rattle.syslog_loose.specs.Message.{MessageValue}
-use Rattle.syslog_loose.specs.Printed.{priority_of}
 use Rattle.syslog_loose.proofs.TrimLemmas.{last_append, drop_after}
 
 -- a printed number

@@ -1,37 +1,26 @@
 -- Where the printed text of a message is read as one that prints otherwise, the new one weighs less.
-use Rattle.std.proofs.Common.{◌≡◌, ℕ, ◌+◌, ◌*◌, ◌<◌, ◌≤◌, ◌⊎◌, inl, inr, List, [], ◌∷◌, ◌++◌, length, Option, Some}
-use Rattle.std.proofs.Common.{None, IfSome, refl, sym, ap, subst, ◌∙◌, arith}
-use Rattle.std.proofs.lemmas.Bool.Decides.{nat_tests}
-use Rattle.std.specs.Char.{is_not_whitespace}
+use Rattle.syslog_loose.proofs.Names.{◌≡◌, ℕ, ◌+◌, ◌*◌, ◌<◌, ◌≤◌, ◌⊎◌, inl, inr, List, [], ◌∷◌, ◌++◌, length, Option}
+use Rattle.syslog_loose.proofs.Names.{None, IfSome, refl, sym, ap, subst, ◌∙◌, arith, nat_tests, is_not_whitespace}
+use Rattle.syslog_loose.proofs.Names.{option_map_or, Text, Values, Front, Row, Ends, exactly, spaced, ElementValue}
+use Rattle.syslog_loose.proofs.Names.{elements_or, is_blank, colon, name_text, host, tag_word, rfc3164_stamp}
+use Rattle.syslog_loose.proofs.Names.{IsCanonicalStamp, Dating, DashRule, BeforeBlank, OffsetTimestamp, row_of, ◌then◌}
+use Rattle.syslog_loose.proofs.Names.{step, rows_step, IsBoundedProcess, HasNoColon, HasExceptionsAlone, MessageValue}
+use Rattle.syslog_loose.proofs.Names.{timestamp_text, tag_text, priority_of, printed, Names3164, Resolves, body_row}
+use Rattle.syslog_loose.proofs.Names.{rfc3164_row, IsRead3164, Costs, names_weight, ListWeighs, Weighs}
+use Rattle.std.proofs.Common.{Some}
 use Rattle.std.specs.List.{AllByRecursion}
-use Rattle.std.specs.Option.{option_map_or}
-use Rattle.syslog_pieces.specs.Pieces.Class.{Text, Values, Front, Row, Ends, exactly, spaced}
 use Rattle.syslog_pieces.specs.Pri.{facility_number, severity_number, facility_of, severity_of}
-use Rattle.syslog_pieces.specs.StructuredData.Element.{ElementValue}
-use Rattle.syslog_pieces.specs.StructuredData.Rfc3164List.{elements_or}
-use Rattle.syslog_pieces.specs.Text.{is_blank, colon, name_text, host, tag_word}
-use Rattle.syslog_pieces.specs.Timestamp.Rfc3164.{rfc3164_stamp}
-use Rattle.syslog_pieces.specs.Timestamp.Canonical.{IsCanonicalStamp}
-use Rattle.syslog_pieces.specs.Timestamp.Zone.{Dating}
-use Rattle.syslog_pieces.specs.declared.structured_data.rfc3164_list.DashRule.{DashRule}
-use Rattle.syslog_pieces.specs.declared.structured_data.rfc3164_list.DashRule.TheVariants.{BeforeBlank}
-use Rattle.syslog_pieces.specs.declared.timestamp.OffsetTimestamp.{OffsetTimestamp}
 use Rattle.syslog_pieces.proofs.PieceLemmas.Class.{run_same, rest_same, heads, row_head, front_same, row_det}
 use Rattle.syslog_pieces.proofs.PieceLemmas.Class.{division_front, optional_none, no_spaced_space}
 use Rattle.syslog_pieces.proofs.PieceLemmas.Kinds.{Begins, begins_apart, begins_more, begins_with}
-use Rattle.syslog_pieces.proofs.PieceLemmas.Rows.{row_of, ◌then◌}
-use Rattle.syslog_pieces.proofs.PieceLemmas.Steps.{step, step_value, rows_step}
+use Rattle.syslog_pieces.proofs.PieceLemmas.Steps.{step_value}
 use Rattle.syslog_pieces.proofs.PriLemmas.{priority_composed}
 use Rattle.syslog_pieces.proofs.TimestampLemmas.Rfc3164.{IsLow, rfc3164_stamp_det, stamped_date_begins}
 use Rattle.syslog_pieces.proofs.TimestampLemmas.Piece.{stamp_each, space_ends}
 use Rattle.syslog_pieces.proofs.TimestampLemmas.RoundTrip.{stamp_text-canonical, printed_stamp-visible}
 use Rattle.syslog_pieces.proofs.TimestampLemmas.RoundTrip.{printed_stamp-begins}
-use Rattle.syslog_loose.specs.Canonical.{IsBoundedProcess, IsCanonicalElement}
-use Rattle.syslog_loose.specs.Exceptions.{HasNoColon, HasExceptionsAlone}
-use Rattle.syslog_loose.specs.Message.{MessageValue}
-use Rattle.syslog_loose.specs.Printed.{timestamp_text, tag_text, priority_of, printed_3164, printed}
-use Rattle.syslog_loose.specs.Rfc3164.{Names3164, Resolves, body_row, rfc3164_row, IsRead3164}
-use Rattle.syslog_loose.specs.Settling.{Costs, names_weight, ListWeighs, Weighs}
+use Rattle.syslog_loose.specs.Canonical.{IsCanonicalElement}
+use Rattle.syslog_loose.specs.Printed.{printed_3164}
 use Rattle.syslog_loose.proofs.PriorityLemmas.{priority_small}
 use Rattle.syslog_loose.proofs.Rfc3164Lemmas.Apart.{IsDigit, digit_range}
 use Rattle.syslog_loose.proofs.Rfc3164Lemmas.Bounded.{read_bounded}

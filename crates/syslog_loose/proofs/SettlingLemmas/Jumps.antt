@@ -1,34 +1,19 @@
 -- Rounds that are known from the one before: of a host that ends in colons, and of a message part of dashes.
-use Rattle.std.proofs.Common.{◌≡◌, ℕ, zero, suc, ◌<◌, inr, [], ◌∷◌, ◌++◌, length, Some, None, IfSome, refl, sym, ap}
-use Rattle.std.proofs.Common.{◌∙◌, arith, append_assoc}
-use Rattle.std.proofs.lemmas.List.{length-append}
-use Rattle.std.specs.Char.{is_not_whitespace}
-use Rattle.syslog_pieces.specs.Pieces.Class.{Text, Values, Front, Row, Each, run}
+use Rattle.syslog_loose.proofs.Names.{◌≡◌, ℕ, zero, suc, ◌<◌, inr, [], ◌∷◌, ◌++◌, length, None, IfSome, refl, sym, ap}
+use Rattle.syslog_loose.proofs.Names.{◌∙◌, arith, append_assoc, length-append, is_not_whitespace, Text, Values, Front}
+use Rattle.syslog_loose.proofs.Names.{Row, Each, run, IsDashBefore, rfc3164_list, is_blank, colon, EndsInColon}
+use Rattle.syslog_loose.proofs.Names.{rfc3164_stamp, IsCanonicalStamp, Dating, BeforeBlank, each_front, row_of, ◌then◌}
+use Rattle.syslog_loose.proofs.Names.{piece_front, IsBoundedProcess, HasExceptionsAlone, HasNoException, dash_rule}
+use Rattle.syslog_loose.proofs.Names.{colons, colons_before, past_colons, EndsColons, IsDashed, PassesDashes, with_msg}
+use Rattle.syslog_loose.proofs.Names.{MessageValue, priority_of, printed, IsRead, Names3164, names, Resolves, body_row}
+use Rattle.syslog_loose.proofs.Names.{rfc3164_row, IsRead3164, IsNext, Reaches, Variant}
+use Rattle.std.proofs.Common.{Some}
 use Rattle.syslog_pieces.specs.Pri.{facility_of, severity_of}
-use Rattle.syslog_pieces.specs.StructuredData.Rfc3164List.{IsDashBefore, rfc3164_list}
-use Rattle.syslog_pieces.specs.Text.{is_blank, colon, EndsInColon}
-use Rattle.syslog_pieces.specs.Timestamp.Rfc3164.{rfc3164_stamp}
-use Rattle.syslog_pieces.specs.Timestamp.Canonical.{IsCanonicalStamp}
-use Rattle.syslog_pieces.specs.Timestamp.Zone.{Dating}
-use Rattle.syslog_pieces.specs.declared.structured_data.rfc3164_list.DashRule.TheVariants.{BeforeBlank}
-use Rattle.syslog_pieces.proofs.PieceLemmas.Class.{row_cons, rows_join, rest_front, front_division}
-use Rattle.syslog_pieces.proofs.PieceLemmas.Class.{optional_some}
-use Rattle.syslog_pieces.proofs.PieceLemmas.Each.{each_front}
-use Rattle.syslog_pieces.proofs.PieceLemmas.Rows.{row_of, ◌then◌}
-use Rattle.syslog_pieces.proofs.PieceLemmas.Steps.{piece_front}
+use Rattle.syslog_pieces.proofs.PieceLemmas.Class.{row_cons, rows_join, rest_front, front_division, optional_some}
 use Rattle.syslog_pieces.proofs.StructuredDataLemmas.Rfc3164List.{dash_rfc3164_list}
-use Rattle.syslog_loose.specs.Canonical.{IsBoundedProcess}
-use Rattle.syslog_loose.specs.Exceptions.{HasExceptionsAlone, HasNoException}
-use Rattle.syslog_loose.specs.Reading.{dash_rule}
-use Rattle.syslog_loose.specs.Jumps.{colons, colons_before, message_end, tail_text, past_colons, EndsColons}
-use Rattle.syslog_loose.specs.Jumps.{HasNoNameException, IsDashed, PassesDashes, with_msg}
-use Rattle.syslog_loose.specs.Message.{MessageValue}
-use Rattle.syslog_loose.specs.Printed.{priority_of, printed_3164, printed}
-use Rattle.syslog_loose.specs.Reading.{IsRead}
-use Rattle.syslog_loose.specs.Rfc3164.{Names3164, names, Resolves, body_row, rfc3164_row, IsRead3164}
-use Rattle.syslog_loose.specs.Settling.{IsNext, Reaches}
+use Rattle.syslog_loose.specs.Jumps.{message_end, tail_text, HasNoNameException}
+use Rattle.syslog_loose.specs.Printed.{printed_3164}
 use Rattle.syslog_loose.specs.declared.message.Protocol.TheVariants.{RFC3164}
-use Rattle.syslog_loose.specs.declared.variant.Variant.{Variant}
 use Rattle.syslog_loose.specs.declared.variant.Variant.TheVariants as variants
 use Rattle.syslog_loose.proofs.PriorityLemmas.{priority_small}
 use Rattle.syslog_loose.proofs.Rfc3164Lemmas.Bounded.{read_bounded}

@@ -1,37 +1,25 @@
 -- What the printed names of a message are read as: names that print the same, or lighter ones.
-use Rattle.std.proofs.Common.{◌≡◌, ◌≢◌, ℕ, ◌<◌, ◌≤◌, ◌⊎◌, inl, inr, true, false, not, nat_eq, [], ◌∷◌, ◌++◌}
-use Rattle.std.proofs.Common.{length, Option, Some, None, IfSome, refl, sym, ap, subst, ◌∙◌, arith, append_assoc}
-use Rattle.std.proofs.lemmas.Bool.Decides.{nat_tests}
-use Rattle.std.proofs.Common.{append-nil}
+use Rattle.syslog_loose.proofs.Names.{◌≡◌, ◌≢◌, ℕ, ◌<◌, ◌≤◌, ◌⊎◌, inl, inr, true, false, not, nat_eq, [], ◌∷◌, ◌++◌}
+use Rattle.syslog_loose.proofs.Names.{length, Option, None, IfSome, refl, sym, ap, subst, ◌∙◌, arith, append_assoc}
+use Rattle.syslog_loose.proofs.Names.{nat_tests, append-nil, ◌-◌, length-append, bytes_eq-Decides, is_not_whitespace}
+use Rattle.syslog_loose.proofs.Names.{bytes_eq, Text, Values, Front, NoFront, Row, Each, Ends, run, exactly, optional}
+use Rattle.syslog_loose.proofs.Names.{spaced, is_blank, dash, colon, EndsInColon, name_text, host, tag_word, ProcId}
+use Rattle.syslog_loose.proofs.Names.{PID, Name, DashRule, BeforeBlank, each_both, each_left, each_right, each_front}
+use Rattle.syslog_loose.proofs.Names.{row_pieces, row_of, ◌then◌, piece_front, rows_step, IsBoundedProcess, is_no_colon}
+use Rattle.syslog_loose.proofs.Names.{HasNoColon, is_inner_char, tag_text, Names3164, names, Resolves, body_row}
+use Rattle.syslog_loose.proofs.Names.{names_weight, ListWeighs, elements_or}
+use Rattle.std.proofs.Common.{Some, take, drop}
 use Rattle.syslog_loose.proofs.SettlingLemmas.Decided.{Decided, decided, find_run, no_char}
 use Rattle.std.proofs.lemmas.List.Prefix.{end_rest}
 use Rattle.std.proofs.lemmas.List.{take-append-drop}
-use Rattle.std.proofs.Common.{take, drop, ◌-◌}
-use Rattle.std.proofs.lemmas.List.{length-append}
-use Rattle.std.proofs.lemmas.Slice.Eq.{bytes_eq-Decides}
-use Rattle.std.specs.Char.{is_not_whitespace}
 use Rattle.std.specs.List.{list_any}
-use Rattle.std.specs.Str.{bytes_eq}
-use Rattle.syslog_pieces.specs.Pieces.Class.{Text, Values, Front, NoFront, Row, Each, Ends, run, exactly, optional}
-use Rattle.syslog_pieces.specs.Pieces.Class.{spaced}
-use Rattle.syslog_pieces.specs.Text.{is_blank, is_tag_char, dash, colon, EndsInColon, name_text, host, tag_word}
+use Rattle.syslog_pieces.specs.Text.{is_tag_char}
 use Rattle.syslog_pieces.specs.Text.CharClass.{is_open_char}
-use Rattle.syslog_pieces.specs.declared.procid.ProcId.{ProcId}
-use Rattle.syslog_pieces.specs.declared.procid.ProcId.TheVariants.{PID, Name}
-use Rattle.syslog_pieces.specs.declared.structured_data.rfc3164_list.DashRule.{DashRule}
-use Rattle.syslog_pieces.specs.declared.structured_data.rfc3164_list.DashRule.TheVariants.{BeforeBlank}
 use Rattle.syslog_pieces.proofs.PieceLemmas.Class.{run_same, heads, division_front, optional_some, optional_none}
 use Rattle.syslog_pieces.proofs.PieceLemmas.Class.{spaced_front, no_spaced_space, no_spaced_piece}
-use Rattle.syslog_pieces.proofs.PieceLemmas.Each.{each_both, each_left, each_right, each_front, each_behind}
-use Rattle.syslog_pieces.proofs.PieceLemmas.Each.{each_append}
-use Rattle.syslog_pieces.proofs.PieceLemmas.Rows.{row_pieces, row_of, ◌then◌}
-use Rattle.syslog_pieces.proofs.PieceLemmas.Steps.{piece_front, rows_step}
-use Rattle.syslog_loose.specs.Canonical.{IsVisible, IsCanonicalHost, IsBoundedProcess, AreCanonicalNames}
-use Rattle.syslog_loose.specs.Exceptions.{is_no_colon, HasNoColon, IsOddHost, is_inner_char, AreNamesButExceptions}
-use Rattle.syslog_loose.specs.Printed.{tag_text}
-use Rattle.syslog_loose.specs.Rfc3164.{Names3164, names, Resolves, body_row}
-use Rattle.syslog_loose.specs.Settling.{names_weight, ListWeighs}
-use Rattle.syslog_pieces.specs.StructuredData.Rfc3164List.{elements_or}
+use Rattle.syslog_pieces.proofs.PieceLemmas.Each.{each_behind, each_append}
+use Rattle.syslog_loose.specs.Canonical.{IsVisible, IsCanonicalHost, AreCanonicalNames}
+use Rattle.syslog_loose.specs.Exceptions.{IsOddHost, AreNamesButExceptions}
 use Rattle.syslog_loose.specs.TagForm.{form_row, IsNoForm}
 use Rattle.syslog_loose.proofs.Rfc3164Lemmas.{resolves_once}
 use Rattle.syslog_loose.proofs.Rfc3164Lemmas.Exceptions.{canonical_names}

@@ -1,24 +1,17 @@
 -- The printed text of a message that was read shows no month date, and the variant reads its protocol.
-use Rattle.std.proofs.Common.{inl, inr, [], ◌∷◌, ◌++◌, Option, Some, None, sym, ap, subst, arith}
-use Rattle.syslog_pieces.specs.Pieces.Class.{Text, rest}
+use Rattle.syslog_loose.proofs.Names.{inl, inr, [], ◌∷◌, ◌++◌, Option, None, sym, ap, subst, arith, Text, Dating}
+use Rattle.syslog_loose.proofs.Names.{OffsetTimestamp, MonthDate, rows_step, row_pieces, MessageValue, timestamp_text}
+use Rattle.syslog_loose.proofs.Names.{printed, dash_rule, IsRead, AsksYear, IsRead3164, Variant}
+use Rattle.std.proofs.Common.{Some}
+use Rattle.syslog_pieces.specs.Pieces.Class.{rest}
 use Rattle.syslog_pieces.specs.Timestamp.Rfc3164.{showing_row, ShowsYearless}
 use Rattle.syslog_pieces.specs.Timestamp.MonthDate.{yearless_date}
-use Rattle.syslog_pieces.specs.Timestamp.Zone.{Dating}
-use Rattle.syslog_pieces.specs.declared.timestamp.OffsetTimestamp.{OffsetTimestamp}
-use Rattle.syslog_pieces.specs.declared.timestamp.month_date.MonthDate.{MonthDate}
 use Rattle.syslog_pieces.proofs.PieceLemmas.Class.{division_front}
 use Rattle.syslog_pieces.proofs.PieceLemmas.Kinds.{Begins, begins_apart, begins_more}
-use Rattle.syslog_pieces.proofs.PieceLemmas.Steps.{rows_step}
-use Rattle.syslog_pieces.proofs.PieceLemmas.Rows.{row_pieces}
 use Rattle.syslog_pieces.proofs.TimestampLemmas.Rfc3164.{IsLow}
 use Rattle.syslog_pieces.proofs.TimestampLemmas.MonthDate.{month_date_begins}
 use Rattle.syslog_pieces.proofs.TimestampLemmas.Months.{IsLetter}
-use Rattle.syslog_loose.specs.Message.{MessageValue}
-use Rattle.syslog_loose.specs.Printed.{timestamp_text, printed}
 use Rattle.syslog_loose.specs.ReadBack.{ReadsProtocol}
-use Rattle.syslog_loose.specs.Reading.{dash_rule, IsRead, AsksYear}
-use Rattle.syslog_loose.specs.Rfc3164.{IsRead3164}
-use Rattle.syslog_loose.specs.declared.variant.Variant.{Variant}
 use Rattle.syslog_loose.specs.declared.variant.Variant.TheVariants.{Either, RFC3164, RFC5424}
 use Rattle.syslog_loose.proofs.Rfc3164Lemmas.Apart.{shown_apart}
 use Rattle.syslog_loose.proofs.Rfc3164Lemmas.Exact.{stamp_low}

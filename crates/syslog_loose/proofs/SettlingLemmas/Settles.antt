@@ -1,34 +1,22 @@
 -- A text comes to rest, or one of its rounds is missing.
-use Rattle.std.proofs.Common.{◌≡◌, ℕ, zero, suc, ◌+◌, ◌<◌, ◌≤◌, inl, inr, Bool, true, false, List, length, refl, sym}
-use Rattle.std.proofs.Common.{ap, subst, ◌∙◌, arith}
-use Rattle.std.proofs.lemmas.Bool.Decides.{leb_tells}
-use Rattle.std.proofs.lemmas.Str.{chars_from_encodes, encodes-chars, length-le-encodes}
-use Rattle.std.specs.Prelude.{◌↔◌, IsTrue}
-use Rattle.std.specs.Str.{chars, IsUtf8, encode_utf8_all}
-use Rattle.syslog_pieces.specs.Pieces.Class.{Text}
-use Rattle.syslog_pieces.specs.Timestamp.Zone.{Dating}
-use Rattle.syslog_loose.specs.Canonical.{IsCanonical}
+use Rattle.syslog_loose.proofs.Names.{◌≡◌, ℕ, zero, suc, ◌+◌, ◌<◌, ◌≤◌, inl, inr, Bool, true, false, List, length, refl}
+use Rattle.syslog_loose.proofs.Names.{sym, ap, subst, ◌∙◌, arith, leb_tells, chars_from_encodes, encodes-chars, chars}
+use Rattle.syslog_loose.proofs.Names.{IsUtf8, encode_utf8_all, Text, Dating, IsCanonical, HasNoException, MessageValue}
+use Rattle.syslog_loose.proofs.Names.{printed, dash_rule, IsRead, IsUnreadable, IsRead3164, IsNext, IsRound, IsSettled}
+use Rattle.syslog_loose.proofs.Names.{NoneSettled, Reaches, IsFirstSettled, ReachesFrom, Weighs, ParseFault, Invalid}
+use Rattle.syslog_loose.proofs.Names.{Memory, Variant, Result, Err}
+use Rattle.std.proofs.lemmas.Str.{length-le-encodes}
+use Rattle.std.specs.Prelude.{◌↔◌, IsTrue, IsOk}
 use Rattle.syslog_loose.specs.VerbatimLine.{PrintsAs5424}
 use Rattle.syslog_loose.specs.Verbatim3164.{PrintsAs3164}
-use Rattle.syslog_loose.specs.Exceptions.{HasNoException}
-use Rattle.syslog_loose.specs.Message.{MessageValue}
-use Rattle.syslog_loose.specs.Printed.{printed}
 use Rattle.syslog_loose.specs.ReadBack.{IsFixed}
-use Rattle.syslog_loose.specs.Reading.{dash_rule, IsRead, IsUnreadable}
-use Rattle.syslog_loose.specs.Rfc3164.{IsRead3164}
 use Rattle.syslog_loose.specs.Rfc5424.{IsRead5424}
-use Rattle.syslog_loose.specs.Settling.{IsNext, IsRound, IsSettled, NoneSettled, Reaches, IsFirstSettled, SettlesAs}
-use Rattle.syslog_loose.specs.Settling.{IsSettlingFault, IsAtRest, IsToldRound, IsRoundAsTold, ReachesFrom, Weighs}
-use Rattle.syslog_loose.specs.declared.fault.ParseFault.{ParseFault}
-use Rattle.syslog_loose.specs.declared.fault.ParseFault.TheVariants.{Invalid, Memory}
+use Rattle.syslog_loose.specs.Settling.{SettlesAs, IsSettlingFault, IsAtRest, IsToldRound, IsRoundAsTold}
 use Rattle.syslog_loose.specs.declared.message.Protocol.{Protocol}
 use Rattle.syslog_loose.specs.declared.message.Protocol.TheVariants as protocol
-use Rattle.syslog_loose.specs.declared.variant.Variant.{Variant}
 use Rattle.syslog_loose.proofs.BoundLemmas.{read_as, read_bounded}
 use Rattle.syslog_loose.proofs.ReadBackLemmas.{printed_exact, fixed_again}
 use Rattle.syslog_loose.proofs.ReadingLemmas.{read_once, invalid_or_memory, no_ok}
-use Rattle.std.proofs.Common.{Result, Err}
-use Rattle.std.specs.Prelude.{IsOk}
 use Rattle.std.specs.declared.alloc.AllocError.{AllocError}
 use Rattle.syslog_loose.proofs.Rfc3164Lemmas.Exceptions.{canonical_near}
 use Rattle.syslog_loose.proofs.Rfc3164Lemmas.Near.{read_near}

@@ -1,35 +1,25 @@
 -- A message has one weight, and what the terms of a weight are where a text is read.
-use Rattle.std.proofs.Common.{◌≡◌, ℕ, zero, suc, ◌+◌, ◌<◌, ◌≤◌, ◌%◌, ◌⊎◌, inl, inr, List, [], ◌∷◌, ◌++◌, length}
-use Rattle.std.proofs.Common.{nat_eq, Option, Some, None, IfSome, refl, sym, ap, subst, ◌∙◌, arith}
-use Rattle.std.proofs.lemmas.Bool.Decides.{leb_tells, eqb_tells}
+use Rattle.syslog_loose.proofs.Names.{◌≡◌, ℕ, zero, suc, ◌+◌, ◌<◌, ◌≤◌, ◌%◌, ◌⊎◌, inl, inr, List, [], ◌∷◌, ◌++◌, length}
+use Rattle.syslog_loose.proofs.Names.{nat_eq, Option, None, IfSome, refl, sym, ap, subst, ◌∙◌, arith, leb_tells}
+use Rattle.syslog_loose.proofs.Names.{eqb_tells, length-append, bytes_eq-Decides, option_map_or, bytes_eq, Text, Values}
+use Rattle.syslog_loose.proofs.Names.{Front, Row, Ends, optional, run, ElementValue, full_element, BeginsNoList}
+use Rattle.syslog_loose.proofs.Names.{rfc3164_list, elements_or, dash, colon, is_blank, IsCanonicalStamp, ProcId, PID}
+use Rattle.syslog_loose.proofs.Names.{Name, DashRule, OffsetTimestamp, row_pieces, front_longer, piece_front}
+use Rattle.syslog_loose.proofs.Names.{present_front, step, decide, MessageValue, Names3164, Resolves, Costs}
+use Rattle.syslog_loose.proofs.Names.{names_weight, ListWeighs, Weighs}
+use Rattle.std.proofs.Common.{Some}
 use Rattle.std.proofs.lemmas.Int.{ints, by_lt_z}
-use Rattle.std.proofs.lemmas.List.{length-append, reverse-append}
+use Rattle.std.proofs.lemmas.List.{reverse-append}
 use Rattle.std.proofs.lemmas.List.Sums.{suffix_len-le-length}
-use Rattle.std.proofs.lemmas.Slice.Eq.{bytes_eq-Decides}
 use Rattle.std.specs.List.{prefix_len}
-use Rattle.std.specs.Option.{option_map_or}
 use Rattle.std.specs.Prelude.{pos, unsigned_abs}
-use Rattle.std.specs.Str.{bytes_eq}
-use Rattle.syslog_pieces.specs.Pieces.Class.{Text, Values, Front, Row, Ends, optional, run}
-use Rattle.syslog_pieces.specs.StructuredData.Element.{ElementValue}
-use Rattle.syslog_pieces.specs.StructuredData.Rfc3164List.{full_element, BeginsNoList, IsRfc3164List, rfc3164_list}
-use Rattle.syslog_pieces.specs.StructuredData.Rfc3164List.{elements_or}
-use Rattle.syslog_pieces.specs.Text.{dash, colon, is_blank}
-use Rattle.syslog_pieces.specs.Timestamp.Canonical.{IsCanonicalStamp, own_year}
-use Rattle.syslog_pieces.specs.declared.procid.ProcId.{ProcId}
-use Rattle.syslog_pieces.specs.declared.procid.ProcId.TheVariants.{PID, Name}
-use Rattle.syslog_pieces.specs.declared.structured_data.rfc3164_list.DashRule.{DashRule}
-use Rattle.syslog_pieces.specs.declared.timestamp.OffsetTimestamp.{OffsetTimestamp}
+use Rattle.syslog_pieces.specs.StructuredData.Rfc3164List.{IsRfc3164List}
+use Rattle.syslog_pieces.specs.Timestamp.Canonical.{own_year}
 use Rattle.syslog_pieces.proofs.PieceLemmas.Class.{front_same, no_front_no, rest_whole, row_head, run_det}
-use Rattle.syslog_pieces.proofs.PieceLemmas.Rows.{row_pieces}
-use Rattle.syslog_pieces.proofs.PieceLemmas.Steps.{absent_none, absent_stays, front_longer, piece_front, present_front}
-use Rattle.syslog_pieces.proofs.PieceLemmas.Steps.{step}
+use Rattle.syslog_pieces.proofs.PieceLemmas.Steps.{absent_none, absent_stays}
 use Rattle.syslog_pieces.proofs.StructuredDataLemmas.Rfc3164List.{begins_no_list, full_shorter, no_rfc3164_list}
-use Rattle.syslog_pieces.proofs.StructuredDataLemmas.Units.{decide}
-use Rattle.syslog_loose.specs.Message.{MessageValue}
-use Rattle.syslog_loose.specs.Rfc3164.{Names3164, NamesHost, NamesProgram, Resolves}
-use Rattle.syslog_loose.specs.Settling.{Costs, end_colons, colons_weight, host_weight, process_weight, names_weight}
-use Rattle.syslog_loose.specs.Settling.{ListWeighs, Weighs}
+use Rattle.syslog_loose.specs.Rfc3164.{NamesHost, NamesProgram}
+use Rattle.syslog_loose.specs.Settling.{end_colons, colons_weight, host_weight, process_weight}
 use Rattle.syslog_loose.proofs.Rfc3164Lemmas.Rows.{from_list, from_blanks}
 use Rattle.syslog_loose.proofs.SettlingLemmas.Decided.{Decided, list_decided}
 

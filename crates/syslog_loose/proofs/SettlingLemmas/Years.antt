@@ -1,20 +1,13 @@
 -- The year counts in round 1 alone: what `settle` answers in one year it answers in each, where the text asks for none.
-use Rattle.std.proofs.Common.{ℕ, ℤ, zero, suc, Option, None, Result, Ok, Err, sym, subst}
+use Rattle.syslog_loose.proofs.Names.{ℕ, zero, suc, Option, None, Result, Ok, Err, sym, subst, Bor, chars, Text, Dating}
+use Rattle.syslog_loose.proofs.Names.{dating_of, MonthDate, IsCanonical, MessageValue, dash_rule, IsRead, AsksYear}
+use Rattle.syslog_loose.proofs.Names.{IsNext, IsRound, IsFirstSettled, ParseFault, Invalid, Memory, Variant}
+use Rattle.std.proofs.Common.{ℤ}
 use Rattle.std.specs.Prelude.{IfOk, String, string_bytes}
-use Rattle.std.specs.Borrow.{Bor}
 use Rattle.std.specs.Global.{Global}
-use Rattle.std.specs.Str.{chars}
 use Rattle.jiff.specs.declared.tz.timezone.TimeZone.{TimeZone}
-use Rattle.syslog_pieces.specs.Pieces.Class.{Text}
-use Rattle.syslog_pieces.specs.Timestamp.Zone.{Dating, dating_of}
-use Rattle.syslog_pieces.specs.declared.timestamp.month_date.MonthDate.{MonthDate}
-use Rattle.syslog_loose.specs.Canonical.{IsCanonical}
-use Rattle.syslog_loose.specs.Message.{MessageValue}
-use Rattle.syslog_loose.specs.Reading.{dash_rule, IsRead, AsksYear, IncompleteDate, IsYearAnswered, InYear}
-use Rattle.syslog_loose.specs.Settling.{IsNext, IsRound, IsFirstSettled, Settles}
-use Rattle.syslog_loose.specs.declared.fault.ParseFault.{ParseFault}
-use Rattle.syslog_loose.specs.declared.fault.ParseFault.TheVariants.{Invalid, Memory}
-use Rattle.syslog_loose.specs.declared.variant.Variant.{Variant}
+use Rattle.syslog_loose.specs.Reading.{IncompleteDate, IsYearAnswered, InYear}
+use Rattle.syslog_loose.specs.Settling.{Settles}
 use Rattle.syslog_loose.proofs.ReadingLemmas.{any_year, in_answered_year, in_year_map}
 use Rattle.syslog_loose.proofs.SettlingLemmas.Quiet.{printed_quiet}
 use Rattle.syslog_loose.proofs.SettlingLemmas.Settles.{settled_canonical, settles_as, settles_not}

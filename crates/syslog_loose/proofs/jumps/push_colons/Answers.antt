@@ -1,6 +1,6 @@
-use Rattle.std.proofs.Common.{◌≡◌, ◌+◌, ◌*◌, ◌/◌, ◌%◌, refl, arith, string_bytes}
+use Rattle.syslog_loose.proofs.Names.{◌≡◌, ◌+◌, ◌*◌, ◌%◌, refl, arith, on_ok_weaker}
+use Rattle.std.proofs.Common.{◌/◌, string_bytes}
 use Rattle.syslog_loose.proofs.JumpLemmas.{colons_pushed}
-use Rattle.std.proofs.lemmas.Result.{on_ok_weaker}
 use Rattle.syslog_loose.proofs.jumps.push_colons.Goals as goal
 
 pub returns : goal.returns

@@ -1,13 +1,7 @@
-use Rattle.std.proofs.Common.{[], ap, map, ◌∙◌, ◌++◌, ◌-◌, List, ℕ, refl}
-use Rattle.std.proofs.lemmas.Str.{chars-IsAscii}
-use Rattle.std.specs.Borrow.{Bor}
-use Rattle.std.specs.Str.{chars, encode_utf8_all}
-use Rattle.syslog_pieces.specs.Pieces.View.{shown}
-use Rattle.syslog_pieces.specs.StructuredData.Element.{element_value}
-use Rattle.syslog_pieces.specs.Text.{colon}
+use Rattle.syslog_loose.proofs.Names.{[], ap, map, ◌∙◌, ◌++◌, ◌-◌, List, ℕ, refl, chars-IsAscii, Bor, chars}
+use Rattle.syslog_loose.proofs.Names.{encode_utf8_all, shown, element_value, colon, colons_before, message_value}
 use Rattle.syslog_pieces.proofs.TextLemmas.Words.{colon_ascii}
-use Rattle.syslog_loose.specs.Jumps.{colons_before, tail_text}
-use Rattle.syslog_loose.specs.Message.{message_value}
+use Rattle.syslog_loose.specs.Jumps.{tail_text}
 use Rattle.syslog_loose.proofs.JumpLemmas.{past_written}
 use Rattle.syslog_loose.proofs.jumps.write_past_colons.Goals as goal
 

@@ -1,10 +1,5 @@
-use Rattle.std.proofs.lemmas.Str.{IsUtf8-string_bytes}
-use Rattle.syslog_pieces.specs.Pieces.View.{shown}
-use Rattle.std.specs.Str.{chars}
-use Rattle.syslog_loose.specs.Message.{message_value}
-use Rattle.syslog_loose.specs.Printed.{printed}
+use Rattle.syslog_loose.proofs.Names.{IsUtf8-string_bytes, shown, chars, message_value, printed, on_ok_weaker}
 use Rattle.syslog_loose.proofs.JumpLemmas.{round_written, round_printed}
-use Rattle.std.proofs.lemmas.Result.{on_ok_weaker}
 use Rattle.syslog_loose.proofs.jumps.write_round.Goals as goal
 
 pub returns-in-Some : goal.returns-in-Some

@@ -1,5 +1,4 @@
-use Rattle.std.proofs.lemmas.Result.{err_from_is_err_and}
-use Rattle.std.proofs.lemmas.Str.{IsUtf8-string_bytes}
+use Rattle.syslog_loose.proofs.Names.{err_from_is_err_and, IsUtf8-string_bytes}
 use Rattle.syslog_loose.proofs.ReadingLemmas.{found_text}
 use Rattle.syslog_loose.proofs.SettlingLemmas.Settles.{copy_refused, round_freely}
 use Rattle.syslog_loose.proofs.rounds.dated_round.Goals as goal

@@ -1,8 +1,4 @@
-use Rattle.std.proofs.Common.{None, refl, subst}
-use Rattle.std.proofs.lemmas.Result.{err_from_is_err_and}
-use Rattle.std.proofs.lemmas.Str.{IsUtf8-string_bytes}
-use Rattle.syslog_pieces.specs.Pieces.Class.{Text}
-use Rattle.syslog_pieces.specs.Timestamp.Zone.{dating_of}
+use Rattle.syslog_loose.proofs.Names.{None, refl, subst, err_from_is_err_and, IsUtf8-string_bytes, Text, dating_of}
 use Rattle.syslog_loose.specs.Beginning.{BeginsNone}
 use Rattle.syslog_loose.proofs.BeginningLemmas.{asks_no_year, no_reading}
 use Rattle.syslog_loose.proofs.Verbatim3164Lemmas.{dated_answered, asked_month}

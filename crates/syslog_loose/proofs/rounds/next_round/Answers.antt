@@ -1,5 +1,4 @@
-use Rattle.std.proofs.lemmas.Result.{err_from_is_err_and}
-use Rattle.std.proofs.lemmas.Str.{IsUtf8-string_bytes}
+use Rattle.syslog_loose.proofs.Names.{err_from_is_err_and, IsUtf8-string_bytes}
 use Rattle.syslog_loose.proofs.ReadingLemmas.{fault_tells, memory_tells, found_text}
 use Rattle.syslog_loose.proofs.SettlingLemmas.Settles.{copy_refused, round_freely, round_printed, round_skipped}
 use Rattle.syslog_loose.proofs.rounds.next_round.Goals as goal

@@ -1,7 +1,4 @@
-use Rattle.std.proofs.Common.{Ok}
-use Rattle.std.proofs.lemmas.Result.{err_from_is_err_and}
-use Rattle.std.specs.Str.{chars}
-use Rattle.syslog_pieces.specs.Timestamp.Zone.{dating_of}
+use Rattle.syslog_loose.proofs.Names.{Ok, err_from_is_err_and, chars, dating_of}
 use Rattle.syslog_loose.specs.Settling.{answer_in}
 use Rattle.syslog_loose.proofs.ReadingLemmas.{in_year_map}
 use Rattle.syslog_loose.proofs.SettlingLemmas.Settles.{first_answer, first_fault}
