@@ -13,21 +13,6 @@ use Rattle.syslog_pieces.proofs.TextLemmas.Chars.{from_not_true}
 use Rattle.syslog_pieces.proofs.TextLemmas.Canonical.{false_is}
 use Rattle.syslog_pieces.proofs.TextLemmas.Words.{colon_ascii, dash_ascii}
 
--- ---- the last byte of a text
-
-colon_text : (bs front : List ℕ) → IsUtf8 bs → bs ≡ front ++ colon → EndsInColon (chars bs)
-colon_text bs front u e =
-    let whole = rw (e, take-append_seam) at (IsUtf8-take bs (length front) u
-    (IsCharBoundary-at_seam bs front colon e (IsUtf8-from_ascii colon colon_ascii))) in
-    (chars front, rw (e, chars-append front colon whole, chars-IsAscii colon colon_ascii) refl)
-
-colon_bytes : (bs : List ℕ) → IsUtf8 bs → EndsInColon (chars bs) → (front : List ℕ) × (bs ≡ front ++ colon)
-colon_bytes bs u (f, w) = (
-  encode_utf8_all f,
-  sym (encodes-chars bs u) ∙ ap encode_utf8_all w ∙ encodes-append f colon
-      ∙ ap (λ (x : List ℕ). encode_utf8_all f ++ x) (encodes-IsAscii colon colon_ascii),
-)
-
 -- the bytes of a dash
 pub dash_bytes : (bs : List ℕ) → IsUtf8 bs → chars bs ≡ dash → bs ≡ dash
 dash_bytes bs u e = sym (encodes-chars bs u) ∙ ap encode_utf8_all e ∙ encodes-IsAscii dash dash_ascii
@@ -36,12 +21,17 @@ dash_bytes bs u e = sym (encodes-chars bs u) ∙ ap encode_utf8_all e ∙ encode
 
 pub odd_told : (bs : List ℕ) → IsUtf8 bs → (front : List ℕ) × (bs ≡ front ++ colon)
     → IsTrue false ↔ ((chars bs ≢ dash) × (EndsInColon (chars bs) → ⊥))
-odd_told bs u (front, e) = false_is (λ h. h.1 (colon_text bs front u e))
+odd_told bs u (front, e) =
+    let whole = rw (e, take-append_seam) at (IsUtf8-take bs (length front) u
+    (IsCharBoundary-at_seam bs front colon e (IsUtf8-from_ascii colon colon_ascii))) in
+    false_is (λ h. h.1 (chars front, rw (e, chars-append front colon whole, chars-IsAscii colon colon_ascii) refl))
 
 pub no_odd_told : (bs : List ℕ) (b : Bool) → IsUtf8 bs → ((front : List ℕ) → bs ≢ front ++ colon)
     → MatchBool b (bs ≢ dash) (bs ≡ dash) → IsTrue b ↔ ((chars bs ≢ dash) × (EndsInColon (chars bs) → ⊥))
 no_odd_told bs true u n m =
-    ((λ h. (λ e. m (dash_bytes bs u e), λ k. (let (front, e) = colon_bytes bs u k in n front e))), (λ k. refl))
+    let ends = λ (k : EndsInColon (chars bs)). n (encode_utf8_all k.0)
+    (rw (← encodes-chars bs u, k.1, encodes-append, encodes-IsAscii colon colon_ascii) refl) in
+    ((λ h. (λ e. m (dash_bytes bs u e), ends)), (λ k. refl))
 no_odd_told bs false u n m = false_is (λ k. k.0 (ap chars m ∙ chars-IsAscii dash dash_ascii))
 
 -- ---- a name without a colon

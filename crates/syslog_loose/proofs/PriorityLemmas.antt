@@ -1,9 +1,8 @@
 -- The priority that each printed text begins with.
 use Rattle.syslog_loose.proofs.Names.{◌≡◌, ℕ, ◌<◌, ◌≤◌, [], ◌∷◌, ◌++◌, Option, None, refl, arith, append_assoc}
-use Rattle.syslog_loose.proofs.Names.{option_map_or, drop_trailing_whitespace, Text, Front, Ends, exactly, piece_front}
+use Rattle.syslog_loose.proofs.Names.{option_map_or, drop_trailing_whitespace, Text, Front, exactly, piece_front}
 use Rattle.syslog_loose.proofs.Names.{row_of, ◌then◌, MessageValue, priority_of}
-use Rattle.std.proofs.Common.{◌^◌, Some}
-use Rattle.std.specs.Char.{is_ascii_digit}
+use Rattle.std.proofs.Common.{Some}
 use Rattle.std.specs.Fmt.{decimal}
 use Rattle.syslog_pieces.specs.Pri.{priority_row, priority, facility_number, severity_number}
 use Rattle.syslog_pieces.specs.Text.{number}
@@ -12,12 +11,6 @@ use Rattle.syslog_pieces.specs.declared.pri.SyslogSeverity.{SyslogSeverity}
 use Rattle.syslog_pieces.proofs.PriLemmas.{as_priority, facility_low, severity_low}
 use Rattle.syslog_pieces.proofs.TextLemmas.ReadBack.{number_back}
 use Rattle.syslog_loose.proofs.TrimLemmas.{last_append, drop_after}
-
--- a printed number
-pub number_front : (n limit : ℕ) (q : Text) → n ≤ limit → limit < 2 ^ 64 → Ends is_ascii_digit q
-    → Front (number limit) (decimal n ++ q) q n
-number_front n limit q l b z =
-    piece_front (number limit) (decimal n) q n (number_back n limit q l b z)
 
 facility_or : (f : Option SyslogFacility) → option_map_or facility_number f 5 < 24
 facility_or None = omega arith
@@ -38,7 +31,8 @@ pub priority_front : (n : ℕ) (q : Text) → n ≤ 255 → Front priority (60 �
 priority_front n q l =
     as_priority
     (row_of priority_row
-    (piece_front (exactly (60 ∷ [])) (60 ∷ []) _ tt refl then number_front n 255 _ l (omega arith) refl
+    (piece_front (exactly (60 ∷ [])) (60 ∷ []) _ tt refl
+    then piece_front (number 255) (decimal n) (62 ∷ q) n (number_back n 255 (62 ∷ q) l (omega arith) refl)
     then piece_front (exactly (62 ∷ [])) (62 ∷ []) q tt refl then refl))
 
 -- trimming leaves it

@@ -114,10 +114,9 @@ behind_dash : (s : OffsetTimestamp) (q r : Text) → timestamp_text (Some s) ++ 
 behind_dash s q r e =
     let (c, more, digit, first) = printed_stamp-begins s in
     elim first [
-      | inl f ↦ absurd (let u = heads c 45 (more ++ q) r (sym (ap (λ (y : Text). y ++ q) f) ∙ e) in
+      | inl f ↦ absurd (let u = heads c 45 (more ++ q) r (rw f at e) in
           let d = digit_range c digit in omega arith)
-      | inr f ↦ begins_with IsDigit c r (more ++ q)
-          (let u : 45 ∷ r ≡ 45 ∷ c ∷ (more ++ q) = sym e ∙ ap (λ (y : Text). y ++ q) f in cc) digit
+      | inr f ↦ begins_with IsDigit c r (more ++ q) (let u = rw f at e in cc) digit
     ]
 
 -- What is read where a timestamp was printed: a canonical one or none, and what follows is what was printed behind it,

@@ -89,11 +89,9 @@ no_host_alone : (t : Text) → NoFront host (58 ∷ 32 ∷ t)
 no_host_alone t p q v e (l, a, inl (n, b, w)) =
     n ([], run_same is_not_whitespace p q colon (32 ∷ t) (sym e) a b (refl, tt) refl)
 no_host_alone t p q v e (l, a, inr (r, w, b, z)) =
-    let e1 : (p ++ colon) ++ r ≡ colon ++ (32 ∷ t) = append_assoc p colon r ∙ ap (λ (x : Text). p ++ x) (sym w)
-    ∙ sym e in
-    let s = ap length (run_same is_not_whitespace (p ++ colon) r colon (32 ∷ t) e1
-    (each_append is_not_whitespace p colon a (refl, tt)) b (refl, tt) refl) in
-    omega (arith, length-append p colon)
+    let s = run_same is_not_whitespace (p ++ colon) r colon (32 ∷ t) (rw (append_assoc, ← w) (sym e))
+    (each_append is_not_whitespace p colon a (refl, tt)) b (refl, tt) refl in
+    omega (arith, ap length s, length-append p colon)
 
 host_alone : (t : Text) → Front (Row to_colon) (32 ∷ 58 ∷ 32 ∷ t) (32 ∷ t) (None, (None, (tt, (Some tt, tt))))
 host_alone t =

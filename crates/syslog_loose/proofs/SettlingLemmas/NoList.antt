@@ -71,4 +71,5 @@ pub no_list_inner : (z s : Text) → Each is_inner_char z
     → Ends is_blank (z ++ (93 ∷ s)) × BeginsNoList BeforeBlank (z ++ (93 ∷ s))
 no_list_inner z s h =
     let i = inner_name z s h in
-    (ends_blank (z ++ (93 ∷ s)) i, (λ q e a. no_dash q (inner_on (45 ∷ []) q e (refl, tt) i).1 a, no_full (z ++ (93 ∷ s)) i))
+    let none = no_full (z ++ (93 ∷ s)) i in
+    (ends_blank (z ++ (93 ∷ s)) i, (λ q e a. no_dash q (inner_on (45 ∷ []) q e (refl, tt) i).1 a, none))

@@ -78,9 +78,6 @@ weight rule m =
     (_, record { stamp = a; taken = b; stamp_is = x; taken_is = y; total = refl })
 
 -- ---- the names weigh no more than the fields that they stand in
-colons_short : (h : Text) → end_colons h ≤ length h
-colons_short h = suffix_len-le-length (λ c. nat_eq c 58) h
-
 colons_light : (n : ℕ) → colons_weight n ≤ n + 1
 colons_light zero = omega arith
 colons_light (suc n) = omega arith
@@ -109,7 +106,7 @@ field_length (Some (Some t)) = suc (length t)
 
 host_short : (h : Option Text) → option_map_or host_weight h 0 ≤ field_length (Some h)
 host_short None = omega arith
-host_short (Some h) = omega (arith, host_light h, colons_short h)
+host_short (Some h) = omega (arith, host_light h, suffix_len-le-length (λ c. nat_eq c 58) h)
 
 program_light : (host : Option Text) (text : Text) (n : Names3164) → NamesProgram host text n
     → names_weight n.hostname n.procid ≤ field_length (Some host) + suc (length text)
@@ -125,7 +122,7 @@ pub fields_light : (v t : Option (Option Text)) (n : Names3164) → Resolves v t
     → names_weight n.hostname n.procid ≤ field_length v + field_length t
 fields_light None None n e = rw e (omega arith)
 fields_light (Some None) None n e = rw e (omega arith)
-fields_light (Some (Some h)) None n k = omega (arith, lone_light h n k, colons_short h)
+fields_light (Some (Some h)) None n k = omega (arith, lone_light h n k, suffix_len-le-length (λ c. nat_eq c 58) h)
 fields_light None (Some None) n e = rw e (omega arith)
 fields_light (Some h) (Some None) n e = rw e (omega arith)
 fields_light None (Some (Some t)) n h = program_light None t n h

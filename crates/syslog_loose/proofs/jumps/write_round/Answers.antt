@@ -11,6 +11,6 @@ returns-in-Some c = λ variant dating input r e.
 
 pub returns-in-None : goal.returns-in-None
 returns-in-None c = λ variant dating input r e.
-    on_ok_weaker _ (λ w. round_printed variant dating input (printed (message_value (λ s. shown s) c.past_dashes.result))
-    _ (IsUtf8-string_bytes c.print.new.text) w (c.past_dashes.ensures variant dating input r e))
-    c.print.ensures
+    let text = printed (message_value (λ s. shown s) c.past_dashes.result) in
+    on_ok_weaker _ (λ w. round_printed variant dating input text _ (IsUtf8-string_bytes c.print.new.text) w
+    (c.past_dashes.ensures variant dating input r e)) c.print.ensures

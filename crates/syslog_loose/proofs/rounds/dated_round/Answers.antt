@@ -11,5 +11,6 @@ returns-in_err-copied c whole e =
 
 pub returns-then-copied : goal.returns-then-copied
 returns-then-copied c whole e =
-    let k = found_text _ _ _ c.in_ok-copied.was c.if-copied.true (c.dated_text.ensures.text _ _ (c.requires.shows whole e)) in
+    let text = c.dated_text.ensures.text _ _ (c.requires.shows whole e) in
+    let k = found_text _ _ _ c.in_ok-copied.was c.if-copied.true text in
     round_freely _ _ c.args.skips _ _ (IsUtf8-string_bytes c.dated_text.new.text) k

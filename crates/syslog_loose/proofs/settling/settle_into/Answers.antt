@@ -13,7 +13,8 @@ returns-in_err-round-clause-settles g c =
 
 pub returns-in_err-round-clause-canonical : goal.returns-in_err-round-clause-canonical
 returns-in_err-round-clause-canonical g c =
-    answer_canonical c.args.variant c.args.tz c.args.local _ (chars c.args.input.now) _ (returns-in_err-round-clause-settles g c)
+    answer_canonical c.args.variant c.args.tz c.args.local _ (chars c.args.input.now) _
+    (returns-in_err-round-clause-settles g c)
 
 pub returns-then-round-clause-settles : goal.returns-then-round-clause-settles
 returns-then-round-clause-settles g c =
@@ -25,7 +26,8 @@ returns-then-round-clause-settles g c =
 
 pub returns-then-round-clause-canonical : goal.returns-then-round-clause-canonical
 returns-then-round-clause-canonical g c =
-    answer_canonical c.args.variant c.args.tz c.args.local _ (chars c.args.input.now) (Ok c.first_round.new.text) (returns-then-round-clause-settles g c)
+    answer_canonical c.args.variant c.args.tz c.args.local _ (chars c.args.input.now) (Ok c.first_round.new.text)
+    (returns-then-round-clause-settles g c)
 
 pub returns-clause-settles : goal.returns-clause-settles
 returns-clause-settles g c =
@@ -34,4 +36,5 @@ returns-clause-settles g c =
     (answer_in c.settle_on.result c.settle_on.new.text) c.in_ok-round.round.year told.0 c.settle_on.ensures
 
 pub returns-clause-canonical : goal.returns-clause-canonical
-returns-clause-canonical g c = answer_canonical c.args.variant c.args.tz c.args.local _ (chars c.args.input.now) _ (returns-clause-settles g c)
+returns-clause-canonical g c =
+    answer_canonical c.args.variant c.args.tz c.args.local _ (chars c.args.input.now) _ (returns-clause-settles g c)
