@@ -5,13 +5,14 @@ use Rattle.syslog_loose.proofs.Names.{nil_from_length, Bor, chars, encode_utf8_a
 use Rattle.syslog_loose.proofs.Names.{encodes-append, encodes-chars, Text, Ends, Front, NoFront, exactly, some_run}
 use Rattle.syslog_loose.proofs.Names.{shown, is_blank, EndsInColon, name_text, colons, colons_before, past_colons}
 use Rattle.syslog_loose.proofs.Names.{CutsColons, EndsColons, IsDashed, PassesDashes, with_msg, MessageValue, tag_text}
-use Rattle.syslog_loose.proofs.Names.{priority_of, printed, IsRead, Variant, Dating, Reaches, ElementValue}
-use Rattle.std.proofs.Common.{Some, zero-add, suc-add, add-zero, add-suc}
+use Rattle.syslog_loose.proofs.Names.{priority_of, printed, IsRead, Variant, Dating, Reaches, ElementValue, Some}
+use Rattle.syslog_loose.proofs.Names.{tail_text}
+use Rattle.std.proofs.Common.{zero-add, suc-add, add-zero, add-suc}
 use Rattle.std.specs.Prelude.{MatchOption}
 use Rattle.std.specs.Str.Pattern.{FindsTextPrefix, FindsTextSuffix, StripsPrefix, StripsSuffix}
 use Rattle.std.specs.Option.{is_some}
 use Rattle.syslog_pieces.specs.Pieces.View.{Skips}
-use Rattle.syslog_loose.specs.Jumps.{message_end, tail_text}
+use Rattle.syslog_loose.specs.Jumps.{message_end}
 use Rattle.syslog_loose.specs.Printed.{printed_3164}
 use Rattle.syslog_loose.specs.declared.message.Protocol.TheVariants.{RFC3164}
 use Rattle.syslog_pieces.proofs.TextLemmas.Chars.{chars_empty}

@@ -1,7 +1,8 @@
 -- The names that most proofs about rounds and settling cite, passed on from one place. Declares nothing.
 pub use Rattle.std.proofs.Common.{ℕ, arith, refl, ◌++◌, ap, length, ◌≡◌, subst, [], sym, ◌∙◌, None, inr, ◌<◌, ◌∷◌, List}
-pub use Rattle.std.proofs.Common.{inl, suc, ◌+◌, Option, ◌≤◌, zero, false, true, ◌⊎◌, IfSome, Bool, append_assoc}
-pub use Rattle.std.proofs.Common.{nat_eq, ◌*◌, Ok, map, not, rules, ◌-◌, Err, Result, append-nil, ◌%◌, ◌≢◌}
+pub use Rattle.std.proofs.Common.{inl, Some, suc, ◌+◌, Option, ◌≤◌, zero, false, true, ◌⊎◌, IfSome, string_bytes, Bool}
+pub use Rattle.std.proofs.Common.{append_assoc, nat_eq, ◌*◌, Ok, map, not, rules, ◌-◌, Err, Result, append-nil, ◌%◌}
+pub use Rattle.std.proofs.Common.{◌≢◌}
 pub use Rattle.std.proofs.lemmas.Bool.Decides.{leb_tells, eqb_tells, nat_tests}
 pub use Rattle.std.proofs.lemmas.List.{length-append, nil_from_length}
 pub use Rattle.std.proofs.lemmas.Result.{err_from_is_err_and, on_ok_weaker}
@@ -37,14 +38,12 @@ pub use Rattle.syslog_pieces.proofs.StructuredDataLemmas.Units.{decide}
 pub use Rattle.syslog_loose.specs.Canonical.{IsBoundedProcess, IsCanonical}
 pub use Rattle.syslog_loose.specs.Exceptions.{HasExceptionsAlone, HasNoColon, HasNoException, is_inner_char}
 pub use Rattle.syslog_loose.specs.Exceptions.{is_no_colon}
-pub use Rattle.syslog_loose.specs.Jumps.{PassesDashes, colons_before, IsDashed, CutsColons, EndsColons, colons}
-pub use Rattle.syslog_loose.specs.Jumps.{past_colons, with_msg}
+pub use Rattle.syslog_loose.specs.Jumps.{PassesDashes, colons_before, tail_text, IsDashed, CutsColons, EndsColons}
+pub use Rattle.syslog_loose.specs.Jumps.{colons, past_colons, with_msg}
 pub use Rattle.syslog_loose.specs.Message.{MessageValue, message_value}
 pub use Rattle.syslog_loose.specs.Printed.{printed, priority_of, tag_text, timestamp_text}
 pub use Rattle.syslog_loose.specs.Reading.{IsRead, dash_rule, AsksYear, IsUnreadable}
 pub use Rattle.syslog_loose.specs.Rfc3164.{IsRead3164, Names3164, Resolves, body_row, rfc3164_row, names}
 pub use Rattle.syslog_loose.specs.Settling.{IsNext, Reaches, Weighs, names_weight, Costs, IsFirstSettled, IsRound}
 pub use Rattle.syslog_loose.specs.Settling.{ListWeighs, IsSettled, NoneSettled, ReachesFrom}
-pub use Rattle.syslog_loose.specs.declared.fault.ParseFault.{ParseFault}
-pub use Rattle.syslog_loose.specs.declared.fault.ParseFault.TheVariants.{Invalid, Memory}
 pub use Rattle.syslog_loose.specs.declared.variant.Variant.{Variant}

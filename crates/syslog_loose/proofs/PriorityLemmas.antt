@@ -1,8 +1,7 @@
 -- The priority that each printed text begins with.
 use Rattle.syslog_loose.proofs.Names.{◌≡◌, ℕ, ◌<◌, ◌≤◌, [], ◌∷◌, ◌++◌, Option, None, refl, arith, append_assoc}
 use Rattle.syslog_loose.proofs.Names.{option_map_or, drop_trailing_whitespace, Text, Front, exactly, piece_front}
-use Rattle.syslog_loose.proofs.Names.{row_of, ◌then◌, MessageValue, priority_of}
-use Rattle.std.proofs.Common.{Some}
+use Rattle.syslog_loose.proofs.Names.{row_of, ◌then◌, MessageValue, priority_of, Some}
 use Rattle.std.specs.Fmt.{decimal}
 use Rattle.syslog_pieces.specs.Pri.{priority_row, priority, facility_number, severity_number}
 use Rattle.syslog_pieces.specs.Text.{number}

@@ -6,8 +6,7 @@ use Rattle.syslog_loose.proofs.Names.{elements_or, is_blank, colon, name_text, h
 use Rattle.syslog_loose.proofs.Names.{IsCanonicalStamp, Dating, DashRule, BeforeBlank, OffsetTimestamp, row_of, ◌then◌}
 use Rattle.syslog_loose.proofs.Names.{step, rows_step, IsBoundedProcess, HasNoColon, HasExceptionsAlone, MessageValue}
 use Rattle.syslog_loose.proofs.Names.{timestamp_text, tag_text, priority_of, printed, Names3164, Resolves, body_row}
-use Rattle.syslog_loose.proofs.Names.{rfc3164_row, IsRead3164, Costs, names_weight, ListWeighs, Weighs}
-use Rattle.std.proofs.Common.{Some}
+use Rattle.syslog_loose.proofs.Names.{rfc3164_row, IsRead3164, Costs, names_weight, ListWeighs, Weighs, Some, tail_text}
 use Rattle.std.specs.List.{AllByRecursion}
 use Rattle.syslog_pieces.specs.Pri.{facility_number, severity_number, facility_of, severity_of}
 use Rattle.syslog_pieces.proofs.PieceLemmas.Class.{run_same, rest_same, heads, row_head, front_same, row_det}
@@ -30,7 +29,7 @@ use Rattle.syslog_loose.proofs.Rfc3164Lemmas.Printed.{printed_is}
 use Rattle.syslog_loose.proofs.Rfc3164Lemmas.ReadBack.{body_back, stamp_back, to_stamp_back}
 use Rattle.syslog_loose.proofs.Rfc3164Lemmas.Rows.{from_blanks, to_colon, to_stamp, to_stamp_det, from_stamp}
 use Rattle.syslog_loose.proofs.Rfc3164Lemmas.Unique.{body_det, told}
-use Rattle.syslog_loose.proofs.Rfc3164Lemmas.Whole.{program_text, tail_text, trimmed_whole}
+use Rattle.syslog_loose.proofs.Rfc3164Lemmas.Whole.{program_text, trimmed_whole}
 use Rattle.syslog_loose.proofs.SettlingLemmas.NoList.{no_list_by}
 use Rattle.syslog_loose.proofs.SettlingLemmas.Decided.{no_char}
 use Rattle.syslog_loose.proofs.SettlingLemmas.Names.{known, no_blanks, names_step}

@@ -6,12 +6,11 @@ use Rattle.syslog_loose.proofs.Names.{rfc3164_stamp, IsCanonicalStamp, Dating, B
 use Rattle.syslog_loose.proofs.Names.{piece_front, IsBoundedProcess, HasExceptionsAlone, HasNoException, dash_rule}
 use Rattle.syslog_loose.proofs.Names.{colons, colons_before, past_colons, EndsColons, IsDashed, PassesDashes, with_msg}
 use Rattle.syslog_loose.proofs.Names.{MessageValue, priority_of, printed, IsRead, Names3164, names, Resolves, body_row}
-use Rattle.syslog_loose.proofs.Names.{rfc3164_row, IsRead3164, IsNext, Reaches, Variant}
-use Rattle.std.proofs.Common.{Some}
+use Rattle.syslog_loose.proofs.Names.{rfc3164_row, IsRead3164, IsNext, Reaches, Variant, Some, tail_text}
 use Rattle.syslog_pieces.specs.Pri.{facility_of, severity_of}
 use Rattle.syslog_pieces.proofs.PieceLemmas.Class.{row_cons, rows_join, rest_front, front_division, optional_some}
 use Rattle.syslog_pieces.proofs.StructuredDataLemmas.Rfc3164List.{dash_rfc3164_list}
-use Rattle.syslog_loose.specs.Jumps.{message_end, tail_text, HasNoNameException}
+use Rattle.syslog_loose.specs.Jumps.{message_end, HasNoNameException}
 use Rattle.syslog_loose.specs.Printed.{printed_3164}
 use Rattle.syslog_loose.specs.declared.message.Protocol.TheVariants.{RFC3164}
 use Rattle.syslog_loose.specs.declared.variant.Variant.TheVariants as variants

@@ -4,8 +4,7 @@ use Rattle.syslog_loose.proofs.Names.{IfSome, ap, subst, arith, length-append, d
 use Rattle.syslog_loose.proofs.Names.{Values, Front, Row, run, exactly, optional, spaced, is_blank, colon, host}
 use Rattle.syslog_loose.proofs.Names.{tag_word, rfc3164_stamp, IsCanonicalStamp, Dating, DashRule, OffsetTimestamp}
 use Rattle.syslog_loose.proofs.Names.{MonthDate, front_longer, present_front, MessageValue, Names3164, Resolves}
-use Rattle.syslog_loose.proofs.Names.{body_row, rfc3164_row, IsRead3164, Costs, names_weight, Weighs}
-use Rattle.std.proofs.Common.{Some}
+use Rattle.syslog_loose.proofs.Names.{body_row, rfc3164_row, IsRead3164, Costs, names_weight, Weighs, Some}
 use Rattle.std.specs.Str.{skip_leading_whitespace}
 use Rattle.syslog_pieces.specs.Pieces.Class.{join}
 use Rattle.syslog_pieces.specs.Pri.{priority}

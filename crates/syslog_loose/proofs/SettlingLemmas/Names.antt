@@ -7,8 +7,8 @@ use Rattle.syslog_loose.proofs.Names.{spaced, is_blank, dash, colon, EndsInColon
 use Rattle.syslog_loose.proofs.Names.{PID, Name, DashRule, BeforeBlank, each_both, each_left, each_right, each_front}
 use Rattle.syslog_loose.proofs.Names.{row_pieces, row_of, ◌then◌, piece_front, rows_step, IsBoundedProcess, is_no_colon}
 use Rattle.syslog_loose.proofs.Names.{HasNoColon, is_inner_char, tag_text, Names3164, names, Resolves, body_row}
-use Rattle.syslog_loose.proofs.Names.{names_weight, ListWeighs, elements_or}
-use Rattle.std.proofs.Common.{Some, take, drop}
+use Rattle.syslog_loose.proofs.Names.{names_weight, ListWeighs, elements_or, Some}
+use Rattle.std.proofs.Common.{take, drop}
 use Rattle.syslog_loose.proofs.SettlingLemmas.Decided.{Decided, decided, find_run, no_char}
 use Rattle.std.proofs.lemmas.List.Prefix.{end_rest}
 use Rattle.std.proofs.lemmas.List.{take-append-drop}

@@ -1,8 +1,7 @@
 -- The printed text of a message that was read shows no month date, and the variant reads its protocol.
 use Rattle.syslog_loose.proofs.Names.{inl, inr, [], ◌∷◌, ◌++◌, Option, None, sym, ap, subst, arith, Text, Dating}
 use Rattle.syslog_loose.proofs.Names.{OffsetTimestamp, MonthDate, rows_step, row_pieces, MessageValue, timestamp_text}
-use Rattle.syslog_loose.proofs.Names.{printed, dash_rule, IsRead, AsksYear, IsRead3164, Variant}
-use Rattle.std.proofs.Common.{Some}
+use Rattle.syslog_loose.proofs.Names.{printed, dash_rule, IsRead, AsksYear, IsRead3164, Variant, Some}
 use Rattle.syslog_pieces.specs.Pieces.Class.{rest}
 use Rattle.syslog_pieces.specs.Timestamp.Rfc3164.{showing_row, ShowsYearless}
 use Rattle.syslog_pieces.specs.Timestamp.MonthDate.{yearless_date}

@@ -3,8 +3,9 @@ use Rattle.syslog_loose.proofs.Names.{◌≡◌, ℕ, zero, suc, ◌+◌, ◌<�
 use Rattle.syslog_loose.proofs.Names.{sym, ap, subst, ◌∙◌, arith, leb_tells, chars_from_encodes, encodes-chars, chars}
 use Rattle.syslog_loose.proofs.Names.{IsUtf8, encode_utf8_all, Text, Dating, IsCanonical, HasNoException, MessageValue}
 use Rattle.syslog_loose.proofs.Names.{printed, dash_rule, IsRead, IsUnreadable, IsRead3164, IsNext, IsRound, IsSettled}
-use Rattle.syslog_loose.proofs.Names.{NoneSettled, Reaches, IsFirstSettled, ReachesFrom, Weighs, ParseFault, Invalid}
-use Rattle.syslog_loose.proofs.Names.{Memory, Variant, Result, Err}
+use Rattle.syslog_loose.proofs.Names.{NoneSettled, Reaches, IsFirstSettled, ReachesFrom, Weighs, Variant, Result, Err}
+use Rattle.syslog_loose.specs.declared.fault.ParseFault.{ParseFault}
+use Rattle.syslog_loose.specs.declared.fault.ParseFault.TheVariants.{Invalid, Memory}
 use Rattle.std.proofs.lemmas.Str.{length-le-encodes}
 use Rattle.std.specs.Prelude.{◌↔◌, IsTrue, IsOk}
 use Rattle.syslog_loose.specs.VerbatimLine.{PrintsAs5424}

@@ -6,8 +6,7 @@ use Rattle.syslog_loose.proofs.Names.{Front, Row, Ends, optional, run, ElementVa
 use Rattle.syslog_loose.proofs.Names.{rfc3164_list, elements_or, dash, colon, is_blank, IsCanonicalStamp, ProcId, PID}
 use Rattle.syslog_loose.proofs.Names.{Name, DashRule, OffsetTimestamp, row_pieces, front_longer, piece_front}
 use Rattle.syslog_loose.proofs.Names.{present_front, step, decide, MessageValue, Names3164, Resolves, Costs}
-use Rattle.syslog_loose.proofs.Names.{names_weight, ListWeighs, Weighs}
-use Rattle.std.proofs.Common.{Some}
+use Rattle.syslog_loose.proofs.Names.{names_weight, ListWeighs, Weighs, Some}
 use Rattle.std.proofs.lemmas.Int.{ints, by_lt_z}
 use Rattle.std.proofs.lemmas.List.{reverse-append}
 use Rattle.std.proofs.lemmas.List.Sums.{suffix_len-le-length}

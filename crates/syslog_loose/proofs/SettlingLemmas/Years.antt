@@ -1,9 +1,11 @@
 -- The year counts in round 1 alone: what `settle` answers in one year it answers in each, where the text asks for none.
 use Rattle.syslog_loose.proofs.Names.{ℕ, zero, suc, Option, None, Result, Ok, Err, sym, subst, Bor, chars, Text, Dating}
 use Rattle.syslog_loose.proofs.Names.{dating_of, MonthDate, IsCanonical, MessageValue, dash_rule, IsRead, AsksYear}
-use Rattle.syslog_loose.proofs.Names.{IsNext, IsRound, IsFirstSettled, ParseFault, Invalid, Memory, Variant}
+use Rattle.syslog_loose.proofs.Names.{IsNext, IsRound, IsFirstSettled, Variant, string_bytes}
+use Rattle.syslog_loose.specs.declared.fault.ParseFault.{ParseFault}
+use Rattle.syslog_loose.specs.declared.fault.ParseFault.TheVariants.{Invalid, Memory}
 use Rattle.std.proofs.Common.{ℤ}
-use Rattle.std.specs.Prelude.{IfOk, String, string_bytes}
+use Rattle.std.specs.Prelude.{IfOk, String}
 use Rattle.std.specs.Global.{Global}
 use Rattle.jiff.specs.declared.tz.timezone.TimeZone.{TimeZone}
 use Rattle.syslog_loose.specs.Reading.{IncompleteDate, IsYearAnswered, InYear}

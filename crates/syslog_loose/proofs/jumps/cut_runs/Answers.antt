@@ -1,6 +1,5 @@
-use Rattle.syslog_loose.proofs.Names.{◌++◌, ap, length, List, ℕ, ◌∙◌, rules, arith, length-append, chars, IsUtf8}
+use Rattle.syslog_loose.proofs.Names.{◌++◌, ap, length, List, ℕ, ◌∙◌, rules, arith, length-append, chars, IsUtf8, Some}
 use Rattle.std.proofs.lemmas.Str.Pattern.{strip_suffix_char}
-use Rattle.std.proofs.Common.{Some}
 use Rattle.syslog_loose.proofs.JumpLemmas.{suffix_bytes, suffix_some, cut_on}
 use Rattle.syslog_loose.proofs.jumps.cut_runs.Goals as goal
 

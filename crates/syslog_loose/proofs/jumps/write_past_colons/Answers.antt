@@ -1,7 +1,7 @@
 use Rattle.syslog_loose.proofs.Names.{[], ap, map, ◌∙◌, ◌++◌, ◌-◌, List, ℕ, refl, chars-IsAscii, Bor, chars}
 use Rattle.syslog_loose.proofs.Names.{encode_utf8_all, shown, element_value, colon, colons_before, message_value}
+use Rattle.syslog_loose.proofs.Names.{tail_text}
 use Rattle.syslog_pieces.proofs.TextLemmas.Words.{colon_ascii}
-use Rattle.syslog_loose.specs.Jumps.{tail_text}
 use Rattle.syslog_loose.proofs.JumpLemmas.{past_written}
 use Rattle.syslog_loose.proofs.jumps.write_past_colons.Goals as goal
 

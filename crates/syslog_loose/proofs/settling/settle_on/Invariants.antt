@@ -1,5 +1,4 @@
-use Rattle.syslog_loose.proofs.Names.{chars, ReachesFrom}
-use Rattle.std.proofs.Common.{string_bytes}
+use Rattle.syslog_loose.proofs.Names.{chars, ReachesFrom, string_bytes}
 use Rattle.syslog_pieces.specs.Timestamp.Zone.{dating_value}
 use Rattle.syslog_loose.proofs.settling.settle_on.Given as goal
 
