@@ -52,7 +52,7 @@ pub no_form_open : (a : Text) (c : ℕ) (x : Text) → Each is_open_char (c ∷ 
 no_form_open a c x h vs d =
     let (_, f1, (_, f2, (_, f3, (t4, f4, e)))) = row_pieces form_row (division_front form_row d) in
     by a (f1.piece ++ (f2.piece ++ f3.piece))
-    (simp (f1.whole, f2.whole, f3.whole, f4.whole, f4.is, e, append_assoc))
+    (f1.whole ∙ simp (f2.whole, f3.whole, f4.whole, f4.is, e, append_assoc))
   where
     by : (a front : Text) → a ++ (c ∷ x) ≡ front ++ (93 ∷ []) → ⊥
     by [] front e = let k = each_behind is_open_char front (93 ∷ []) (subst (λ (y : Text). Each is_open_char y) e h) in

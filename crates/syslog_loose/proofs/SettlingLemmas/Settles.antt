@@ -146,7 +146,7 @@ module _ (variant : Variant) (dating : Dating) where
       → IsSettlingFault variant dating t Invalid
   settles_not t never = (λ u round. rests t u (none_settled variant dating t never (length t + 1)) round, never)
 
-  -- where a copy was refused, the text has a reading
+  -- where a copy was refused, the text has a reading, so the fault is not `Invalid`
   pub copy_refused : (t : Text) (r : Result Bool AllocError) (fault : AllocError) → r ≡ Err fault
       → (IsUnreadable variant dating t → IsOk r) → (Memory ≡ Invalid) ↔ IsUnreadable variant dating t
   copy_refused t r fault e h = (λ i. absurd (invalid_or_memory i), λ u. absurd (no_ok r fault e (h u)))
