@@ -39,8 +39,8 @@ pub at_most : {A : Type 0} {n w : ℕ} → Costs A n w → w ≤ n
 at_most (inl (a, e)) = omega arith
 at_most (inr (k, e)) = omega arith
 
-pub one_weight : (rule : DashRule) (m : MessageValue) (w v : ℕ) → Weighs rule m w → Weighs rule m v → w ≡ v
-one_weight rule m w v a b =
+pub once : (rule : DashRule) (m : MessageValue) (w v : ℕ) → Weighs rule m w → Weighs rule m v → w ≡ v
+once rule m w v a b =
     omega (arith, a.total, b.total, cost_once a.stamp_is b.stamp_is, cost_once a.taken_is b.taken_is)
 
 -- ---- some weight
