@@ -1,51 +1,38 @@
 -- What the tests of the exceptions answer.
-use Rattle.std.proofs.Common.{◌≡◌, ◌≢◌, ℕ, ◌<◌, Bool, true, false, not, nat_eq, List, [], ◌∷◌}
-use Rattle.std.proofs.Common.{◌++◌, length, take, None, ◌-◌, refl, sym, ap, subst, ◌∙◌, arith}
-use Rattle.std.proofs.Math.Seq.{get_or-append_seam, take-append_seam}
-use Rattle.std.proofs.lemmas.List.{length-append}
-use Rattle.std.proofs.lemmas.Str.{chars_from_encodes, chars-append, chars-IsAscii, encodes-append}
-use Rattle.std.proofs.lemmas.Str.{encodes-chars, encodes-IsAscii, IsCharBoundary-before_ascii, IsUtf8-take}
+use Rattle.syslog_loose.proofs.Names.{◌≡◌, ◌≢◌, ℕ, Bool, true, false, not, nat_eq, List, [], ◌∷◌, ◌++◌, length, None}
+use Rattle.syslog_loose.proofs.Names.{refl, sym, ap, subst, ◌∙◌, arith, chars_from_encodes, chars-IsAscii}
+use Rattle.syslog_loose.proofs.Names.{encodes-append, encodes-chars, chars, IsUtf8, encode_utf8_all, Text, Each, colon}
+use Rattle.syslog_loose.proofs.Names.{dash, EndsInColon, is_no_colon}
+use Rattle.std.proofs.Math.Seq.{take-append_seam}
+use Rattle.std.proofs.lemmas.Str.{chars-append, encodes-IsAscii, IsCharBoundary-at_seam, IsUtf8-from_ascii, IsUtf8-take}
 use Rattle.std.proofs.lemmas.Str.Pattern.{contains_char, NoCharPasses-char}
-use Rattle.std.specs.Prelude.{◌↔◌, IsTrue, MatchBool, get_or}
-use Rattle.std.specs.Str.{chars, IsUtf8, NonePass, encode_utf8_all}
+use Rattle.std.specs.Prelude.{◌↔◌, IsTrue, MatchBool}
+use Rattle.std.specs.Str.{NonePass}
 use Rattle.std.specs.Str.Pattern.{FindsChar, HasMatch}
-use Rattle.syslog_pieces.specs.Pieces.Class.{Text, Each}
-use Rattle.syslog_pieces.specs.Text.{colon, dash, EndsInColon}
 use Rattle.syslog_pieces.proofs.TextLemmas.Chars.{from_not_true}
 use Rattle.syslog_pieces.proofs.TextLemmas.Canonical.{false_is}
 use Rattle.syslog_pieces.proofs.TextLemmas.Words.{colon_ascii, dash_ascii}
-use Rattle.syslog_loose.specs.Exceptions.{is_no_colon}
-
--- ---- the last byte of a text
-
-pub colon_text : (bs front : List ℕ) → IsUtf8 bs → bs ≡ front ++ colon → EndsInColon (chars bs)
-colon_text bs front u e =
-    let at : get_or bs (length front) 0 ≡ 58 = ap (λ (x : List ℕ). get_or x (length front) 0) e
-    ∙ get_or-append_seam front 58 [] 0 in
-    let long : length front < length bs = omega (arith, ap length e, length-append front colon) in
-    let cut = IsUtf8-take bs (length front) u (IsCharBoundary-before_ascii bs (length front) long (omega arith)) in
-    let whole : IsUtf8 front = subst IsUtf8 (ap (λ (x : List ℕ). take (length front) x) e
-    ∙ take-append_seam front colon) cut in (
-      chars front,
-      ap chars e ∙ chars-append front colon whole
-          ∙ ap (λ (x : Text). chars front ++ x) (chars-IsAscii colon colon_ascii),
-    )
-
-pub colon_bytes : (bs : List ℕ) → IsUtf8 bs → EndsInColon (chars bs) → (front : List ℕ) × (bs ≡ front ++ colon)
-colon_bytes bs u (f, w) = (
-  encode_utf8_all f,
-  sym (encodes-chars bs u) ∙ ap encode_utf8_all w ∙ encodes-append f colon
-      ∙ ap (λ (x : List ℕ). encode_utf8_all f ++ x) (encodes-IsAscii colon colon_ascii),
-)
 
 -- the bytes of a dash
 pub dash_bytes : (bs : List ℕ) → IsUtf8 bs → chars bs ≡ dash → bs ≡ dash
 dash_bytes bs u e = sym (encodes-chars bs u) ∙ ap encode_utf8_all e ∙ encodes-IsAscii dash dash_ascii
 
-pub no_dash_told : (bs : List ℕ) (b : Bool) → IsUtf8 bs → MatchBool b (bs ≢ dash) (bs ≡ dash)
-    → IsTrue b ↔ (chars bs ≢ dash)
-no_dash_told bs true u n = ((λ h e. n (dash_bytes bs u e)), (λ k. refl))
-no_dash_told bs false u e = false_is (λ k. k (ap chars e ∙ chars-IsAscii dash dash_ascii))
+-- ---- what the test of a host tells
+
+pub odd_told : (bs : List ℕ) → IsUtf8 bs → (front : List ℕ) × (bs ≡ front ++ colon)
+    → IsTrue false ↔ ((chars bs ≢ dash) × (EndsInColon (chars bs) → ⊥))
+odd_told bs u (front, e) =
+    let whole = rw (e, take-append_seam) at (IsUtf8-take bs (length front) u
+    (IsCharBoundary-at_seam bs front colon e (IsUtf8-from_ascii colon colon_ascii))) in
+    false_is (λ h. h.1 (chars front, rw (e, chars-append front colon whole, chars-IsAscii colon colon_ascii) refl))
+
+pub no_odd_told : (bs : List ℕ) (b : Bool) → IsUtf8 bs → ((front : List ℕ) → bs ≢ front ++ colon)
+    → MatchBool b (bs ≢ dash) (bs ≡ dash) → IsTrue b ↔ ((chars bs ≢ dash) × (EndsInColon (chars bs) → ⊥))
+no_odd_told bs true u n m =
+    let ends = λ (k : EndsInColon (chars bs)). n (encode_utf8_all k.0)
+    (rw (← encodes-chars bs u, k.1, encodes-append, encodes-IsAscii colon colon_ascii) refl) in
+    ((λ h. (λ e. m (dash_bytes bs u e), ends)), (λ k. refl))
+no_odd_told bs false u n m = false_is (λ k. k.0 (ap chars m ∙ chars-IsAscii dash dash_ascii))
 
 -- ---- a name without a colon
 each_of : (cs : Text) → NonePass (λ d. nat_eq d 58) cs → Each is_no_colon cs

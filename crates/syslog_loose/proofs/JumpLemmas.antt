@@ -1,32 +1,26 @@
 -- What the readers of a skipped round tell.
-use Rattle.std.proofs.Common.{◌≡◌, ℕ, zero, suc, ◌+◌, ◌-◌, ◌<◌, true, false, Result, Ok, Err, subst, List, [], ◌∷◌}
-use Rattle.std.proofs.Common.{◌++◌, length, Option, Some, None, refl, sym, ap, ◌∙◌, arith, append_assoc, append-nil}
+use Rattle.syslog_loose.proofs.Names.{◌≡◌, ℕ, zero, suc, ◌+◌, ◌-◌, ◌<◌, true, false, subst, List, [], ◌∷◌, ◌++◌, length}
+use Rattle.syslog_loose.proofs.Names.{Option, None, refl, sym, ap, ◌∙◌, arith, append_assoc, append-nil}
+use Rattle.syslog_loose.proofs.Names.{nil_from_length, Bor, chars, encode_utf8_all, IsUtf8, chars_from_encodes}
+use Rattle.syslog_loose.proofs.Names.{encodes-append, encodes-chars, Text, Ends, Front, NoFront, exactly, some_run}
+use Rattle.syslog_loose.proofs.Names.{shown, is_blank, EndsInColon, name_text, colons, colons_before, past_colons}
+use Rattle.syslog_loose.proofs.Names.{CutsColons, EndsColons, IsDashed, PassesDashes, with_msg, MessageValue, tag_text}
+use Rattle.syslog_loose.proofs.Names.{priority_of, printed, IsRead, Variant, Dating, Reaches, ElementValue, Some}
+use Rattle.syslog_loose.proofs.Names.{tail_text}
 use Rattle.std.proofs.Common.{zero-add, suc-add, add-zero, add-suc}
-use Rattle.std.proofs.lemmas.List.{nil_from_length}
-use Rattle.std.specs.Borrow.{Bor}
-use Rattle.std.specs.Prelude.{MatchOption, OnOk}
-use Rattle.std.specs.Str.{chars, encode_utf8_all, IsUtf8}
+use Rattle.std.specs.Prelude.{MatchOption}
 use Rattle.std.specs.Str.Pattern.{FindsTextPrefix, FindsTextSuffix, StripsPrefix, StripsSuffix}
-use Rattle.std.proofs.lemmas.Str.{chars_from_encodes, encodes-append, encodes-chars}
 use Rattle.std.specs.Option.{is_some}
-use Rattle.syslog_pieces.specs.Pieces.Class.{Text, Ends, Front, NoFront, exactly, some_run}
-use Rattle.syslog_pieces.specs.Pieces.View.{shown, Skips}
-use Rattle.syslog_pieces.specs.Text.{is_blank, EndsInColon, name_text}
-use Rattle.syslog_loose.specs.Jumps.{colons, colons_before, message_end, tail_text, past_colons, CutsColons, EndsColons}
-use Rattle.syslog_loose.specs.Jumps.{IsDashed, PassesDashes, with_msg}
-use Rattle.syslog_loose.specs.Message.{MessageValue}
-use Rattle.syslog_loose.specs.Printed.{timestamp_text, tag_text, spaced_elements, priority_of, printed_3164, printed}
-use Rattle.std.specs.Fmt.{decimal}
-use Rattle.syslog_loose.specs.Reading.{IsRead}
+use Rattle.syslog_pieces.specs.Pieces.View.{Skips}
+use Rattle.syslog_loose.specs.Jumps.{message_end}
+use Rattle.syslog_loose.specs.Printed.{printed_3164}
 use Rattle.syslog_loose.specs.declared.message.Protocol.TheVariants.{RFC3164}
-use Rattle.syslog_loose.specs.declared.variant.Variant.{Variant}
-use Rattle.syslog_pieces.specs.Timestamp.Zone.{Dating}
 use Rattle.syslog_pieces.proofs.TextLemmas.Chars.{chars_empty}
+use Rattle.syslog_pieces.proofs.PieceLemmas.Lists.{begins}
 use Rattle.syslog_loose.proofs.PriorityLemmas.{priority_small}
 use Rattle.syslog_loose.proofs.SettlingLemmas.Falls.{priority_again, printed_same}
 use Rattle.syslog_loose.proofs.SettlingLemmas.Jumps.{colons_skipped}
-use Rattle.syslog_loose.specs.Settling.{Reaches}
-use Rattle.syslog_pieces.specs.StructuredData.Element.{ElementValue, joined_elements, elements_text}
+use Rattle.syslog_pieces.specs.StructuredData.Element.{joined_elements, elements_text}
 use Rattle.std.specs.Char.{encode_utf8}
 
 pub no_dash : (t : Text) → NoFront (exactly (45 ∷ [])) t → (rest : Text) → IsDashed t rest → ⊥
@@ -36,15 +30,10 @@ pub dash_told : (t q : Text) (f : Front (exactly (45 ∷ [])) t q tt) (r : Optio
     → Skips (some_run is_blank) tt q r
     → MatchOption r ((rest : Text) → IsDashed t rest → ⊥) (λ x. IsDashed t (shown x))
 dash_told t q f None n = λ rest d.
-    let u : 45 ∷ q ≡ 45 ∷ (d.blanks ++ rest) = sym (f.whole ∙ ap (λ (x : Text). x ++ q) f.is) ∙ d.whole in
-    n d.blanks rest tt (cc) (d.some, d.each, d.no_more)
-dash_told t q f (Some x) g = record {
-  blanks = g.piece;
-  whole = f.whole ∙ ap (λ (y : Text). y ++ q) f.is ∙ ap (λ (y : Text). 45 ∷ y) g.whole;
-  some = g.is.0;
-  each = g.is.1;
-  no_more = g.is.2;
-}
+    let b = begins 45 t q f in n d.blanks rest tt (cc) (d.some, d.each, d.no_more)
+dash_told t q f (Some x) g =
+    let b = begins 45 t q f in
+    record { blanks = g.piece; whole = cc; some = g.is.0; each = g.is.1; no_more = g.is.2 }
 
 -- n dashes, each with a space behind it
 abbrev pub spaced_dashes : ℕ → Text
@@ -67,14 +56,8 @@ one_dashed t next d = record {
 pub passes_spaced : (n : ℕ) (t next : Text) → IsDashed t next → PassesDashes n (spaced_dashes n ++ t) t
 passes_spaced zero t next d = refl
 passes_spaced (suc n) t next d =
-    let one = one_dashed t next d in (
-      45 ∷ 32 ∷ t,
-      subst (λ (x : Text). PassesDashes n x (45 ∷ 32 ∷ t)) (sym (dashes_more n t))
-          (passes_spaced n (45 ∷ 32 ∷ t) t one),
-      one,
-      next,
-      d,
-    )
+    let one = one_dashed t next d in
+    (45 ∷ 32 ∷ t, rw (dashes_more n t) (passes_spaced n (45 ∷ 32 ∷ t) t one), one, next, d)
 
 pub passes_both : (m n : ℕ) (a b t : Text) → PassesDashes m a b → PassesDashes n b t → (k : ℕ) × PassesDashes k a t
 passes_both m zero a b t p q = (m, subst (λ (x : Text). PassesDashes m a x) (sym q) p)
@@ -91,9 +74,7 @@ pub dashes_front : (bytes rest : List ℕ) (n : ℕ) → IsUtf8 bytes → IsUtf8
     → StripsPrefix (FindsTextPrefix (spaced_dashes n)) bytes rest → chars bytes ≡ spaced_dashes n ++ chars rest
 dashes_front bytes rest n u v (k, (long, whole, cut), behind_is, fits) =
     sym (chars_from_encodes (spaced_dashes n ++ chars rest) bytes u
-    (encodes-append (spaced_dashes n) (chars rest)
-    ∙ ap (λ (x : List ℕ). x ++ encode_utf8_all (chars rest)) (dashes_alone n)
-    ∙ ap (λ (x : List ℕ). spaced_dashes n ++ x) (encodes-chars rest v ∙ behind_is) ∙ sym whole))
+    (rw (encodes-append, dashes_alone n, encodes-chars rest v, behind_is) (sym whole)))
 
 -- ---- the end of a line
 some_end : (t : Text) (bytes : List ℕ) → encode_utf8_all t ≡ bytes → 0 < length bytes
@@ -127,8 +108,7 @@ colons_both (suc m) n = simp (suc-add, colons_both m n) refl
 pub colons_pushed : (old mid new : List ℕ) (m n k : ℕ) → mid ≡ old ++ colons_before m []
     → new ≡ mid ++ colons_before n [] → m + n ≡ k → new ≡ old ++ colons_before k []
 colons_pushed old mid new m n k e f same =
-    f ∙ ap (λ (x : List ℕ). x ++ colons_before n []) e ∙ append_assoc old (colons_before m []) (colons_before n [])
-    ∙ ap (λ (x : List ℕ). old ++ x) (sym (colons_both m n) ∙ ap (λ (j : ℕ). colons_before j []) same)
+    rw (f, e, ← same, colons_both m n, append_assoc)
 
 pub colons_apart : (n : ℕ) (t : Text) → colons_before n t ≡ colons_before n [] ++ t
 colons_apart zero t = refl
@@ -142,12 +122,6 @@ colons_encode (suc n) = ap (λ (x : Text). 32 ∷ 58 ∷ x) (colons_encode n)
 colons_sum : (n c : ℕ) → colons n ++ colons c ≡ colons (c + n)
 colons_sum zero c = simp add-zero refl
 colons_sum (suc n) c = simp (add-suc, colons_sum n c) refl
-
-pub colons_cut : (name host shorter : Text) (c n : ℕ) → name ≡ host ++ colons c → host ≡ shorter ++ colons n
-    → name ≡ shorter ++ colons (c + n)
-colons_cut name host shorter c n e f =
-    e ∙ ap (λ (x : Text). x ++ colons c) f ∙ append_assoc shorter (colons n) (colons c)
-    ∙ ap (λ (x : Text). shorter ++ x) (colons_sum n c)
 
 colons_alone : (n : ℕ) → encode_utf8_all (colons n) ≡ colons n
 unfolding encode_utf8
@@ -164,15 +138,13 @@ pub suffix_some : (bytes short : List ℕ) (n : ℕ) → IsUtf8 bytes → IsUtf8
     → chars bytes ≡ chars short ++ colons n
 suffix_some bytes short n u v e =
     sym (chars_from_encodes (chars short ++ colons n) bytes u
-    (encodes-append (chars short) (colons n)
-    ∙ ap (λ (x : List ℕ). x ++ encode_utf8_all (colons n)) (encodes-chars short v)
-    ∙ ap (λ (x : List ℕ). short ++ x) (colons_alone n) ∙ sym e))
+    (rw (encodes-append, encodes-chars short v, colons_alone n) (sym e)))
 
 pub cut_on : (name host shorter : List ℕ) (c n : ℕ) → CutsColons name host c
     → chars host ≡ chars shorter ++ colons n → (0 < c + n → EndsInColon (chars shorter))
     → CutsColons name shorter (c + n)
 cut_on name host shorter c n k e o =
-    record { whole = colons_cut (chars name) (chars host) (chars shorter) c n k.whole e; keeps = o }
+    record { whole = rw (k.whole, e, append_assoc, colons_sum n c) refl; keeps = o }
 
 pub cut_twice : (name host shorter : List ℕ) (c n : ℕ) → CutsColons name host c → CutsColons host shorter n
     → CutsColons name shorter (c + n)
@@ -187,84 +159,42 @@ some_next t A None h m = absurd (let u : false ≡ true = h in cc)
 some_next t A (Some x) h m = (shown x, m)
 
 -- ---- what was written
-pub map_ok : {T E A B : Type 0} (r : Result T E) → OnOk r A → (A → B) → OnOk r B
-map_ok (Ok x) a f = f a
-map_ok (Err e) a f = tt
-
 module _ (variant : Variant) (dating : Dating) (input : Text) where
+  pub round_printed : (t : Text) (bytes : List ℕ) → IsUtf8 bytes → bytes ≡ encode_utf8_all t
+      → (n : ℕ) × Reaches variant dating input n t → (n : ℕ) × Reaches variant dating input n (chars bytes)
+  round_printed t bytes u w reaches = rw (← chars_from_encodes t bytes u (sym w)) reaches
+
   pub round_written : (m : MessageValue) (h : Text) (cut : ℕ) (bytes : List ℕ) → IsUtf8 bytes
       → IsRead variant dating input m → m.protocol ≡ RFC3164 → EndsColons m h cut → 0 < cut
       → bytes ≡ encode_utf8_all (printed (past_colons m h (cut - 1)))
       → (n : ℕ) × Reaches variant dating input n (chars bytes)
   round_written m h cut bytes u r e k l w =
-      let n : ℕ = cut - 1 in
-      let same : cut ≡ suc n = omega (arith, l) in (
-        suc n,
-        subst (λ (x : Text). Reaches variant dating input (suc n) x)
-            (chars_from_encodes (printed (past_colons m h n)) bytes u (sym w))
-            (colons_skipped variant dating input m r e k.timestamp h n (subst (λ (j : ℕ). EndsColons m h j) same k)),
-      )
+      let same : cut ≡ suc (cut - 1) = omega (arith, l) in
+      round_printed (printed (past_colons m h (cut - 1))) bytes u w
+      (suc (cut - 1), colons_skipped variant dating input m r e k.timestamp h (cut - 1) (rw same at k))
 
-  pub round_printed : (m : MessageValue) (bytes : List ℕ) → IsUtf8 bytes
-      → (n : ℕ) × Reaches variant dating input n (printed m) → bytes ≡ encode_utf8_all (printed m)
-      → (n : ℕ) × Reaches variant dating input n (chars bytes)
-  round_printed m bytes u (n, r) w =
-      (n, subst (λ (x : Text). Reaches variant dating input n x) (chars_from_encodes (printed m) bytes u (sym w)) r)
-
--- the front of a message whose colons were cut, as it is written first
-abbrev pub front_with : MessageValue → Text → List ElementValue → Text → MessageValue
-front_with m h es msg = record {
-  protocol = RFC3164;
-  facility = m.facility;
-  severity = m.severity;
-  timestamp = m.timestamp;
-  hostname = Some h;
-  appname = None;
-  procid = None;
-  msgid = None;
-  structured_data = es;
-  msg = msg;
-}
-
-abbrev front_of : MessageValue → Text → MessageValue
-front_of m h = front_with m h [] (58 ∷ [])
-
-pub colon_chars : chars (58 ∷ []) ≡ 58 ∷ []
-unfolding encode_utf8
-colon_chars = sym (chars_from_encodes (58 ∷ []) (58 ∷ []) (58 ∷ [], (refl, refl)) refl)
-
-parts_more : (a b c d e f t : Text) → 60 ∷ (a ++ (62 ∷ 32 ∷ (b ++ (32 ∷ (c ++ (32 ∷ (d ++ (e ++ (f ++ t)))))))))
-    ≡ (60 ∷ (a ++ (62 ∷ 32 ∷ (b ++ (32 ∷ (c ++ (32 ∷ (d ++ (e ++ f))))))))) ++ t
-parts_more a b c d e f t = simp append_assoc refl
-
+-- what the front, which is printed with a colon as its message part, prints with what is written behind it
 front_more : (m : MessageValue) (t : Text) → printed_3164 (with_msg m (m.msg ++ t)) ≡ printed_3164 m ++ t
 unfolding printed_3164
-front_more m t =
-    parts_more (decimal (priority_of m)) (timestamp_text m.timestamp) (name_text m.hostname)
-    (tag_text m.appname m.procid) (spaced_elements m.structured_data) m.msg t
+front_more m t = simp append_assoc refl
 
-written_so : (m : MessageValue) (h : Text) (n : ℕ) (bytes : List ℕ)
-    → bytes ≡ (encode_utf8_all (printed_3164 (front_of m h)) ++ colons_before n [])
-    ++ encode_utf8_all (tail_text m.structured_data m.msg)
+pub past_written : (m front : MessageValue) (h : Text) (n : ℕ) (bytes : List ℕ)
+    → bytes ≡ (encode_utf8_all (printed_3164 front) ++ colons_before n [])
+    ++ encode_utf8_all (tail_text m.structured_data m.msg) → priority_of front ≡ priority_of m
+    → front.timestamp ≡ m.timestamp → name_text front.hostname ≡ h
+    → tag_text front.appname front.procid ≡ tag_text None None → front.structured_data ≡ [] → front.msg ≡ 58 ∷ []
     → bytes ≡ encode_utf8_all (printed_3164 (past_colons m h n))
-written_so m h n bytes e =
-    let t : Text = tail_text m.structured_data m.msg in
-    let same : printed_3164 (past_colons m h n) ≡ printed_3164 (with_msg (front_of m h) (58 ∷ colons_before n t)) =
-    printed_same (with_msg (front_of m h) (58 ∷ colons_before n t)) (past_colons m h n)
-    (priority_again (priority_of m) (priority_small m)) refl refl refl refl refl in
-    let apart = front_more (front_of m h) (colons_before n t) in
-    e ∙ append_assoc (encode_utf8_all (printed_3164 (front_of m h))) (colons_before n []) (encode_utf8_all t)
-    ∙ ap (λ (x : List ℕ). encode_utf8_all (printed_3164 (front_of m h)) ++ x)
-    (ap (λ (x : List ℕ). x ++ encode_utf8_all t) (sym (colons_encode n)) ∙ sym (encodes-append (colons_before n []) t)
-    ∙ ap encode_utf8_all (sym (colons_apart n t)))
-    ∙ sym (encodes-append (printed_3164 (front_of m h)) (colons_before n t)) ∙ ap encode_utf8_all (sym apart ∙ sym same)
-
-pub past_written : (m : MessageValue) (h : Text) (n : ℕ) (es : List ElementValue) (msg : Text) (bytes : List ℕ)
-    → es ≡ [] → msg ≡ 58 ∷ []
-    → bytes ≡ (encode_utf8_all (printed_3164 (front_with m h es msg)) ++ colons_before n [])
-    ++ encode_utf8_all (tail_text m.structured_data m.msg) → bytes ≡ encode_utf8_all (printed_3164 (past_colons m h n))
-past_written m h n es msg bytes e f w =
-    let same : front_with m h es msg ≡ front_of m h = ap (λ (x : List ElementValue). front_with m h x msg) e
-    ∙ ap (λ (x : Text). front_with m h [] x) f in
-    written_so m h n bytes (w ∙ ap (λ (x : MessageValue). (encode_utf8_all (printed_3164 x) ++ colons_before n [])
-    ++ encode_utf8_all (tail_text m.structured_data m.msg)) same)
+past_written m front h n bytes e p stamp host tag es msg =
+    let q : Text = colons_before n (tail_text m.structured_data m.msg) in
+    let same : printed_3164 (past_colons m h n) ≡ printed_3164 (with_msg front (front.msg ++ q)) =
+    printed_same (with_msg front (front.msg ++ q)) (past_colons m h n)
+    (priority_again (priority_of m) (priority_small m) ∙ sym p) (sym stamp) (sym host) (sym tag) (sym es)
+    (sym (ap (λ (x : Text). x ++ q) msg)) in
+    rw (
+      same,
+      front_more front q,
+      colons_apart n (tail_text m.structured_data m.msg),
+      encodes-append,
+      encodes-append,
+      colons_encode n,
+    ) (rw append_assoc at e)

@@ -4,6 +4,7 @@ pub mod CanonicalLemmas
 pub mod DashChangeLemmas
 pub mod VerbatimLineLemmas
 pub mod JumpLemmas
+pub mod Names
 pub mod ExceptionLemmas
 pub mod Verbatim3164Lemmas
 pub mod OneLineLemmas

@@ -1,28 +1,15 @@
 -- The priority that each printed text begins with.
-use Rattle.std.proofs.Common.{◌≡◌, ℕ, ◌<◌, ◌≤◌, ◌^◌, [], ◌∷◌, ◌++◌, Option, Some}
-use Rattle.std.proofs.Common.{None, refl, sym, ap, ◌∙◌, arith, append_assoc}
-use Rattle.std.specs.Char.{is_ascii_digit}
+use Rattle.syslog_loose.proofs.Names.{◌≡◌, ℕ, ◌<◌, ◌≤◌, [], ◌∷◌, ◌++◌, Option, None, refl, arith, append_assoc}
+use Rattle.syslog_loose.proofs.Names.{option_map_or, drop_trailing_whitespace, Text, Front, exactly, piece_front}
+use Rattle.syslog_loose.proofs.Names.{row_of, ◌then◌, MessageValue, priority_of, Some}
 use Rattle.std.specs.Fmt.{decimal}
-use Rattle.std.specs.Option.{option_map_or}
-use Rattle.std.specs.Str.{drop_trailing_whitespace}
-use Rattle.syslog_pieces.specs.Pieces.Class.{Text, Front, Ends, exactly}
 use Rattle.syslog_pieces.specs.Pri.{priority_row, priority, facility_number, severity_number}
 use Rattle.syslog_pieces.specs.Text.{number}
 use Rattle.syslog_pieces.specs.declared.pri.SyslogFacility.{SyslogFacility}
 use Rattle.syslog_pieces.specs.declared.pri.SyslogSeverity.{SyslogSeverity}
-use Rattle.syslog_pieces.proofs.PieceLemmas.Steps.{piece_front}
-use Rattle.syslog_pieces.proofs.PieceLemmas.Rows.{row_of, ◌then◌}
 use Rattle.syslog_pieces.proofs.PriLemmas.{as_priority, facility_low, severity_low}
 use Rattle.syslog_pieces.proofs.TextLemmas.ReadBack.{number_back}
-use Rattle.syslog_loose.specs.Message.{MessageValue}
-use Rattle.syslog_loose.specs.Printed.{priority_of}
-use Rattle.syslog_loose.proofs.TrimLemmas.{LastVisible, last_append, drop_after}
-
--- a printed number
-pub number_front : (n limit : ℕ) (q : Text) → n ≤ limit → limit < 2 ^ 64 → Ends is_ascii_digit q
-    → Front (number limit) (decimal n ++ q) q n
-number_front n limit q l b z =
-    piece_front (number limit) (decimal n) q n (number_back n limit q l b z)
+use Rattle.syslog_loose.proofs.TrimLemmas.{last_append, drop_after}
 
 facility_or : (f : Option SyslogFacility) → option_map_or facility_number f 5 < 24
 facility_or None = omega arith
@@ -43,14 +30,13 @@ pub priority_front : (n : ℕ) (q : Text) → n ≤ 255 → Front priority (60 �
 priority_front n q l =
     as_priority
     (row_of priority_row
-    (piece_front (exactly (60 ∷ [])) (60 ∷ []) _ tt refl then number_front n 255 _ l (omega arith) refl
+    (piece_front (exactly (60 ∷ [])) (60 ∷ []) _ tt refl
+    then piece_front (number 255) (decimal n) (62 ∷ q) n (number_back n 255 (62 ∷ q) l (omega arith) refl)
     then piece_front (exactly (62 ∷ [])) (62 ∷ []) q tt refl then refl))
 
 -- trimming leaves it
 pub priority_trimmed : (n : ℕ) (q : Text)
     → drop_trailing_whitespace (60 ∷ (decimal n ++ (62 ∷ q))) ≡ 60 ∷ (decimal n ++ (62 ∷ drop_trailing_whitespace q))
 priority_trimmed n q =
-    let last : LastVisible (60 ∷ (decimal n ++ (62 ∷ []))) = last_append (60 ∷ decimal n) (62 ∷ []) refl in
-    ap (λ (x : Text). drop_trailing_whitespace (60 ∷ x)) (sym (append_assoc (decimal n) (62 ∷ []) q))
-    ∙ drop_after (60 ∷ (decimal n ++ (62 ∷ []))) q last
-    ∙ ap (λ (x : Text). 60 ∷ x) (append_assoc (decimal n) (62 ∷ []) (drop_trailing_whitespace q))
+    simp append_assoc at
+    (drop_after (60 ∷ (decimal n ++ (62 ∷ []))) q (last_append (60 ∷ decimal n) (62 ∷ []) refl))

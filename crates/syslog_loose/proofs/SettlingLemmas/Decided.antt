@@ -1,22 +1,19 @@
 -- Whether a list begins a text can be decided: of an element's start, of the openings of its parameters and of what
 -- closes them, a piece begins the text or none does.
-use Rattle.std.proofs.Common.{◌≡◌, ℕ, zero, suc, ◌≤◌, ◌⊎◌, inl, inr, Bool, true, false, List, [], ◌∷◌, ◌++◌, length}
-use Rattle.std.proofs.Common.{refl, sym, ap, subst, ◌∙◌, arith}
-use Rattle.std.proofs.lemmas.Bool.Decides.{eqb_tells}
+use Rattle.syslog_loose.proofs.Names.{◌≡◌, ℕ, zero, suc, ◌≤◌, ◌⊎◌, inl, inr, Bool, true, false, List, [], ◌∷◌, ◌++◌}
+use Rattle.syslog_loose.proofs.Names.{length, refl, sym, ap, subst, ◌∙◌, arith, eqb_tells, Text, Class, Front, NoFront}
+use Rattle.syslog_loose.proofs.Names.{Row, Each, Ends, run, some_run, exactly, full_element, IsDashBefore, BeginsNoList}
+use Rattle.syslog_loose.proofs.Names.{is_blank, DashRule, BeforeBlank, row_of, ◌then◌, front_longer, decide}
+use Rattle.std.proofs.lemmas.Bool.Decides.{not_from_Decides}
+use Rattle.std.specs.Bool.{Decides}
 use Rattle.syslog_pieces.specs.Bodies.Closing.{start_row, start, opening_row, opening, quoted_row, quoted, closing}
-use Rattle.syslog_pieces.specs.Pieces.Class.{Text, Class, Front, NoFront, Row, Each, Ends, run, some_run}
-use Rattle.syslog_pieces.specs.Pieces.Class.{exactly, texted}
+use Rattle.syslog_pieces.specs.Pieces.Class.{texted}
 use Rattle.syslog_pieces.specs.StructuredData.Escapes.{pair, single}
-use Rattle.syslog_pieces.specs.StructuredData.Rfc3164List.{full_element, IsDashBefore, BeginsNoList}
-use Rattle.syslog_pieces.specs.Text.{is_blank}
 use Rattle.syslog_pieces.specs.Text.CharClass.{is_id_char, is_name_char}
-use Rattle.syslog_pieces.specs.declared.structured_data.rfc3164_list.DashRule.{DashRule}
-use Rattle.syslog_pieces.specs.declared.structured_data.rfc3164_list.DashRule.TheVariants.{BeforeAnything, BeforeBlank}
+use Rattle.syslog_pieces.specs.declared.structured_data.rfc3164_list.DashRule.TheVariants.{BeforeAnything}
 use Rattle.syslog_pieces.proofs.PieceLemmas.Class.{AllDeterministic, ◌also◌, heads, run_same, row_nil, row_cons}
 use Rattle.syslog_pieces.proofs.PieceLemmas.Class.{row_none_here, row_none_later, texted_front, no_texted}
 use Rattle.syslog_pieces.proofs.PieceLemmas.Meets.{Meets, meets_here, meets_none}
-use Rattle.syslog_pieces.proofs.PieceLemmas.Rows.{row_of, ◌then◌}
-use Rattle.syslog_pieces.proofs.PieceLemmas.Steps.{front_longer}
 use Rattle.syslog_pieces.proofs.PieceLemmas.Lists.{begins, no_more, no_more_behind}
 use Rattle.syslog_pieces.proofs.StructuredDataLemmas.Closing.{start_det, opening_det, no_closing, closing_goes}
 use Rattle.syslog_pieces.proofs.StructuredDataLemmas.Closing.{quoted_goes, no_opening, no_quoted_short, passes_here}
@@ -24,11 +21,14 @@ use Rattle.syslog_pieces.proofs.StructuredDataLemmas.Closing.{value_ends, value_
 use Rattle.syslog_pieces.proofs.StructuredDataLemmas.Elements.{value_here, unit_goes}
 use Rattle.syslog_pieces.specs.StructuredData.{param}
 use Rattle.syslog_pieces.proofs.StructuredDataLemmas.Rfc3164List.{no_full_start, no_full_opening, full_goes}
-use Rattle.syslog_pieces.proofs.StructuredDataLemmas.Units.{decide}
 
 -- it holds, or it does not
 abbrev pub Decided : Type 0 → Type 0
 Decided A = A ⊎ (A → ⊥)
+
+pub decided : {A : Type 0} (b : Bool) → Decides b A → Decided A
+decided true d = inl (d.0 refl)
+decided false d = inr (not_from_Decides false d refl)
 
 -- a piece of the class begins the text, or none does
 abbrev Finds : Class → Text → Type 0
@@ -39,14 +39,17 @@ find_moved C t D u m (inl (q, v, f)) = (let (w, g) = m.forth q v f in inl (q, w,
 find_moved C t D u m (inr n) = inr (meets_none C t D u m n)
 
 -- ---- one character, runs, and rows of them
+pub no_char : (c d : ℕ) (t : Text) → (d ≡ c → ⊥) → NoFront (exactly (c ∷ [])) (d ∷ t)
+no_char c d t k p q v e h = k (heads d c t q (e ∙ ap (λ (x : Text). x ++ q) h))
+
 find_char : (c : ℕ) (t : Text) → Finds (exactly (c ∷ [])) t
 find_char c [] = inr (λ p q v e h. let k : [] ≡ c ∷ q = e ∙ ap (λ (x : Text). x ++ q) h in cc)
 find_char c (d ∷ t) = elim (eqb_tells d c) [
   | inl r ↦ inl (t, tt, record { piece = c ∷ []; whole = ap (λ (x : ℕ). x ∷ t) r.1; is = refl })
-  | inr r ↦ inr (λ p q v e h. r.1 (heads d c t q (e ∙ ap (λ (x : Text). x ++ q) h)))
+  | inr r ↦ inr (no_char c d t r.1)
 ]
 
-find_run : (test : ℕ → Bool) (t : Text) → (p : Text) × (q : Text) × (t ≡ p ++ q) × Each test p × Ends test q
+pub find_run : (test : ℕ → Bool) (t : Text) → (p : Text) × (q : Text) × (t ≡ p ++ q) × Each test p × Ends test q
 find_run test [] = ([], [], refl, tt, tt)
 find_run test (c ∷ t) = elim (decide (test c)) [
   | inl h ↦ (let (p, q, e, a, b) = find_run test t in (c ∷ p, q, ap (λ (x : Text). c ∷ x) e, (h, a), b))
@@ -146,8 +149,7 @@ find_full t = elim (find_start t) [
 dash_before : (rule : DashRule) (q : Text) → Decided (IsDashBefore rule q)
 dash_before BeforeAnything q = inl tt
 dash_before BeforeBlank [] = inl tt
-dash_before BeforeBlank (c ∷ q) =
-    elim (decide (is_blank c)) [ inl h ↦ inl h | inr h ↦ inr (λ k. let t : true ≡ false = sym k ∙ h in cc) ]
+dash_before BeforeBlank (c ∷ q) = decided (is_blank c) ((λ h. h), (λ h. h))
 
 dash_decided : (rule : DashRule) (t : Text) → Decided ((q : Text) → t ≡ 45 ∷ q → IsDashBefore rule q → ⊥)
 dash_decided rule [] = inl (λ q e a. cc)

@@ -1,39 +1,25 @@
 -- Where the printed text of a message is read as one that prints otherwise, the new one weighs less.
-use Rattle.std.proofs.Common.{◌≡◌, ℕ, ◌+◌, ◌*◌, ◌<◌, ◌≤◌, ◌⊎◌, inl, inr, List, [], ◌∷◌, ◌++◌, length, Option, Some}
-use Rattle.std.proofs.Common.{None, IfSome, refl, sym, ap, subst, ◌∙◌, arith}
-use Rattle.std.proofs.lemmas.Bool.Decides.{nat_tests}
-use Rattle.std.specs.Char.{is_not_whitespace}
+use Rattle.syslog_loose.proofs.Names.{◌≡◌, ℕ, ◌+◌, ◌*◌, ◌<◌, ◌≤◌, ◌⊎◌, inl, inr, List, [], ◌∷◌, ◌++◌, length, Option}
+use Rattle.syslog_loose.proofs.Names.{None, IfSome, refl, sym, ap, subst, ◌∙◌, arith, nat_tests, is_not_whitespace}
+use Rattle.syslog_loose.proofs.Names.{option_map_or, Text, Values, Front, Row, Ends, exactly, spaced, ElementValue}
+use Rattle.syslog_loose.proofs.Names.{elements_or, is_blank, colon, name_text, host, tag_word, rfc3164_stamp}
+use Rattle.syslog_loose.proofs.Names.{IsCanonicalStamp, Dating, DashRule, BeforeBlank, OffsetTimestamp, row_of, ◌then◌}
+use Rattle.syslog_loose.proofs.Names.{step, rows_step, IsBoundedProcess, HasNoColon, HasExceptionsAlone, MessageValue}
+use Rattle.syslog_loose.proofs.Names.{timestamp_text, tag_text, priority_of, printed, Names3164, Resolves, body_row}
+use Rattle.syslog_loose.proofs.Names.{rfc3164_row, IsRead3164, Costs, names_weight, ListWeighs, Weighs, Some, tail_text}
 use Rattle.std.specs.List.{AllByRecursion}
-use Rattle.std.specs.Option.{option_map_or, option_and_then}
-use Rattle.syslog_pieces.specs.Pieces.Class.{Text, Values, Front, NoFront, Row, Ends, exactly, spaced}
 use Rattle.syslog_pieces.specs.Pri.{facility_number, severity_number, facility_of, severity_of}
-use Rattle.syslog_pieces.specs.StructuredData.Element.{ElementValue}
-use Rattle.syslog_pieces.specs.StructuredData.Rfc3164List.{elements_or}
-use Rattle.syslog_pieces.specs.Text.{trimmed, is_blank, colon, name_text, host, tag_word}
-use Rattle.syslog_pieces.specs.Timestamp.Rfc3164.{rfc3164_stamp}
-use Rattle.syslog_pieces.specs.Timestamp.Canonical.{IsCanonicalStamp}
-use Rattle.syslog_pieces.specs.Timestamp.Zone.{Dating}
-use Rattle.syslog_pieces.specs.declared.pri.SyslogFacility.{SyslogFacility}
-use Rattle.syslog_pieces.specs.declared.pri.SyslogSeverity.{SyslogSeverity}
-use Rattle.syslog_pieces.specs.declared.structured_data.rfc3164_list.DashRule.{DashRule}
-use Rattle.syslog_pieces.specs.declared.structured_data.rfc3164_list.DashRule.TheVariants.{BeforeBlank}
-use Rattle.syslog_pieces.specs.declared.timestamp.OffsetTimestamp.{OffsetTimestamp}
 use Rattle.syslog_pieces.proofs.PieceLemmas.Class.{run_same, rest_same, heads, row_head, front_same, row_det}
 use Rattle.syslog_pieces.proofs.PieceLemmas.Class.{division_front, optional_none, no_spaced_space}
 use Rattle.syslog_pieces.proofs.PieceLemmas.Kinds.{Begins, begins_apart, begins_more, begins_with}
-use Rattle.syslog_pieces.proofs.PieceLemmas.Rows.{row_of, ◌then◌}
-use Rattle.syslog_pieces.proofs.PieceLemmas.Steps.{step, step_value, rows_step}
+use Rattle.syslog_pieces.proofs.PieceLemmas.Steps.{step_value}
 use Rattle.syslog_pieces.proofs.PriLemmas.{priority_composed}
 use Rattle.syslog_pieces.proofs.TimestampLemmas.Rfc3164.{IsLow, rfc3164_stamp_det, stamped_date_begins}
 use Rattle.syslog_pieces.proofs.TimestampLemmas.Piece.{stamp_each, space_ends}
 use Rattle.syslog_pieces.proofs.TimestampLemmas.RoundTrip.{stamp_text-canonical, printed_stamp-visible}
 use Rattle.syslog_pieces.proofs.TimestampLemmas.RoundTrip.{printed_stamp-begins}
-use Rattle.syslog_loose.specs.Canonical.{IsBoundedProcess, IsCanonicalElement}
-use Rattle.syslog_loose.specs.Exceptions.{HasNoColon, HasExceptionsAlone}
-use Rattle.syslog_loose.specs.Message.{MessageValue}
-use Rattle.syslog_loose.specs.Printed.{timestamp_text, tag_text, priority_of, printed_3164, printed}
-use Rattle.syslog_loose.specs.Rfc3164.{Names3164, Resolves, body_row, rfc3164_row, IsRead3164}
-use Rattle.syslog_loose.specs.Settling.{Costs, names_weight, ListWeighs, Weighs}
+use Rattle.syslog_loose.specs.Canonical.{IsCanonicalElement}
+use Rattle.syslog_loose.specs.Printed.{printed_3164}
 use Rattle.syslog_loose.proofs.PriorityLemmas.{priority_small}
 use Rattle.syslog_loose.proofs.Rfc3164Lemmas.Apart.{IsDigit, digit_range}
 use Rattle.syslog_loose.proofs.Rfc3164Lemmas.Bounded.{read_bounded}
@@ -43,8 +29,9 @@ use Rattle.syslog_loose.proofs.Rfc3164Lemmas.Printed.{printed_is}
 use Rattle.syslog_loose.proofs.Rfc3164Lemmas.ReadBack.{body_back, stamp_back, to_stamp_back}
 use Rattle.syslog_loose.proofs.Rfc3164Lemmas.Rows.{from_blanks, to_colon, to_stamp, to_stamp_det, from_stamp}
 use Rattle.syslog_loose.proofs.Rfc3164Lemmas.Unique.{body_det, told}
-use Rattle.syslog_loose.proofs.Rfc3164Lemmas.Whole.{program_text, whole, tail_text, trimmed_whole}
+use Rattle.syslog_loose.proofs.Rfc3164Lemmas.Whole.{program_text, trimmed_whole}
 use Rattle.syslog_loose.proofs.SettlingLemmas.NoList.{no_list_by}
+use Rattle.syslog_loose.proofs.SettlingLemmas.Decided.{no_char}
 use Rattle.syslog_loose.proofs.SettlingLemmas.Names.{known, no_blanks, names_step}
 use Rattle.syslog_loose.proofs.SettlingLemmas.Weights.{free, paid, at_most, fields_light, list_read, left_free}
 use Rattle.syslog_loose.proofs.TrimLemmas.{message_blanks}
@@ -77,11 +64,9 @@ behind_space m =
 module _ (rule : DashRule) (vs : Values (body_row rule)) (n : Names3164) (r : Resolves vs.0 vs.1.0 n) (v : ℕ)
     (y : ListWeighs rule (elements_or vs.1.1.1.1.1.0) vs.1.1.1.1.1.1.1.0 v) where
   -- it prints as the message did
-  record Same (m : MessageValue) : Type 0 where
-    host_is : name_text n.hostname ≡ name_text m.hostname
-    tag_is : tag_text n.appname n.procid ≡ tag_text m.appname m.procid
-    elements_are : elements_or vs.1.1.1.1.1.0 ≡ m.structured_data
-    msg_is : vs.1.1.1.1.1.1.1.0 ≡ m.msg
+  abbrev Same : MessageValue → Type 0
+  Same m = (name_text n.hostname ≡ name_text m.hostname) × (tag_text n.appname n.procid ≡ tag_text m.appname m.procid)
+      × (elements_or vs.1.1.1.1.1.0 ≡ m.structured_data) × (vs.1.1.1.1.1.1.1.0 ≡ m.msg)
 
   -- it weighs less than the message, or no more, and then it prints the same
   abbrev Fallen : MessageValue → ℕ → Type 0
@@ -97,13 +82,9 @@ module _ (rule : DashRule) (vs : Values (body_row rule)) (n : Names3164) (r : Re
         | inl k ↦ elim (end_step rule m.structured_data m.msg near.elements near.parameters near.msg_front vs.1.1.1.1
             w v x y k.behind) [
               | inl l ↦ inl (omega (arith, k.light))
-              | inr (l, e, f) ↦
-                  inr (
-                    omega (arith, k.light),
-                    record { host_is = k.host_is; tag_is = k.tag_is; elements_are = e; msg_is = f },
-                  )
+              | inr (l, e, f) ↦ inr (omega (arith, k.light), (k.host_is, k.tag_is, e, f))
             ]
-        | inr k ↦ inl (omega (arith, k.lighter, left_free rule k.left k.msg vs.1.1.1.1 k.gap k.behind v k.no_list y))
+        | inr (lighter, free) ↦ inl (omega (arith, lighter, free v y))
       ]
 
   -- where it begins with a digit, all of it is the message, without names
@@ -112,14 +93,12 @@ module _ (rule : DashRule) (vs : Values (body_row rule)) (n : Names3164) (r : Re
   digit_tail [] b d = absurd b
   digit_tail (c ∷ t) b d =
       let u = digit_range c b in
-      let other : (x : ℕ) → (x ≡ c → ⊥) → NoFront (exactly (x ∷ [])) (c ∷ t) =
-      λ x k p q v e h. k (sym (heads c x t q (e ∙ ap (λ (y : Text). y ++ q) h))) in
-      let no_space = other 32 (λ e. omega arith) in
+      let no_space = no_char 32 c t (λ e. omega arith) in
       let gap = no_blanks (c ∷ t) (grind (arith, nat_tests)) in
       let (means, behind) = known rule t n vs r
       (row_of to_colon (optional_none (spaced host) (no_spaced_space host no_space)
       then optional_none (spaced tag_word) (no_spaced_space tag_word no_space) then gap
-      then optional_none (exactly colon) (other 58 (λ e. omega arith)) then refl)) d in
+      then optional_none (exactly colon) (no_char 58 c t (λ e. omega arith)) then refl)) d in
       let none = no_list_by rule c t (λ e. omega arith) (λ e. omega arith) in
       omega (
         arith,
@@ -134,10 +113,9 @@ behind_dash : (s : OffsetTimestamp) (q r : Text) → timestamp_text (Some s) ++ 
 behind_dash s q r e =
     let (c, more, digit, first) = printed_stamp-begins s in
     elim first [
-      | inl f ↦ absurd (let u = heads c 45 (more ++ q) r (sym (ap (λ (y : Text). y ++ q) f) ∙ e) in
+      | inl f ↦ absurd (let u = heads c 45 (more ++ q) r (rw f at e) in
           let d = digit_range c digit in omega arith)
-      | inr f ↦ begins_with IsDigit c r (more ++ q)
-          (let u : 45 ∷ r ≡ 45 ∷ c ∷ (more ++ q) = sym e ∙ ap (λ (y : Text). y ++ q) f in cc) digit
+      | inr f ↦ begins_with IsDigit c r (more ++ q) (let u = rw f at e in cc) digit
     ]
 
 -- What is read where a timestamp was printed: a canonical one or none, and what follows is what was printed behind it,
@@ -159,10 +137,7 @@ stamp_step dating s q p r v e (inr h) =
 pub priority_again : (p : ℕ) → p < 192
     → option_map_or facility_number (facility_of p) 5 * 8 + option_map_or severity_number (severity_of p) 7 ≡ p
 priority_again p l =
-    let (f, s, e, g, h) = priority_composed p l in
-    ap (λ (x : Option SyslogFacility). option_map_or facility_number x 5 * 8
-    + option_map_or severity_number (severity_of p) 7) e
-    ∙ ap (λ (x : Option SyslogSeverity). facility_number f * 8 + option_map_or severity_number x 7) g ∙ h
+    let (f, s, e, g, h) = priority_composed p l in rw (e, g) h
 
 pub printed_same : (m n : MessageValue) → priority_of n ≡ priority_of m → n.timestamp ≡ m.timestamp
     → name_text n.hostname ≡ name_text m.hostname → tag_text n.appname n.procid ≡ tag_text m.appname m.procid
@@ -206,12 +181,10 @@ module _ (rule : DashRule) (dating : Dating) (m : MessageValue) (near : HasExcep
       let e = step_value (rfc3164_stamp dating) (body_row rule) (rfc3164_stamp_det dating) front d in
       let z = free y.stamp_is (rw e k) in
       let same : priority_of (told rule dating vs n) ≡ priority_of m =
-      ap (λ (u : Option ℕ). option_map_or facility_number (option_and_then facility_of u) 5 * 8 + option_map_or
-      severity_number (option_and_then severity_of u) 7) p ∙ priority_again (priority_of m) (priority_small m) in
+      rw p (priority_again (priority_of m) (priority_small m)) in
       elim (tail (step (rfc3164_stamp dating) (body_row rule) (rfc3164_stamp_det dating) front d)) [
         | inl l ↦ inl (omega (arith, x.total, y.total))
-        | inr (l, s) ↦
-            inr (printed_same m (told rule dating vs n) same e s.host_is s.tag_is s.elements_are s.msg_is)
+        | inr (l, (host, tag, es, msg)) ↦ inr (printed_same m (told rule dating vs n) same e host tag es msg)
       ]
 
 -- The printed text of a message that was read is read as one that prints the same, or as a lighter one.
@@ -224,9 +197,7 @@ falls rule first second text m n w v dashes r s x y =
     let (other, resolves, means) = s.means in
     let print = printed_is m near.protocol in
     let vs = s.values in
-    let d : Front (Row (rfc3164_row rule second)) (whole m (tail_text m.structured_data m.msg)) [] vs =
-    subst (λ (u : Text). Front (Row (rfc3164_row rule second)) u [] vs) (ap trimmed print
-    ∙ trimmed_whole m near.msg_end) (division_front (rfc3164_row rule second) s.division) in
+    let d = rw (print, trimmed_whole m near.msg_end) at (division_front (rfc3164_row rule second) s.division) in
     let (first, more) = rows_step to_stamp (from_stamp rule second) to_stamp_det {vs = vs}
     (to_stamp_back m (behind_space m)) d in
     let z = subst (λ (u : MessageValue). Weighs rule u v) means y in

@@ -1,33 +1,18 @@
 -- Rounds that are known from the one before: of a host that ends in colons, and of a message part of dashes.
-use Rattle.std.proofs.Common.{◌≡◌, ℕ, zero, suc, ◌<◌, inr, [], ◌∷◌, ◌++◌, length, Some, None, IfSome, refl, sym, ap}
-use Rattle.std.proofs.Common.{subst, ◌∙◌, arith, append_assoc}
-use Rattle.std.proofs.lemmas.List.{length-append}
-use Rattle.std.specs.Char.{is_not_whitespace}
-use Rattle.syslog_pieces.specs.Pieces.Class.{Text, Values, Front, Row, Each, run}
+use Rattle.syslog_loose.proofs.Names.{◌≡◌, ℕ, zero, suc, ◌<◌, inr, [], ◌∷◌, ◌++◌, length, None, IfSome, refl, sym, ap}
+use Rattle.syslog_loose.proofs.Names.{◌∙◌, arith, append_assoc, length-append, is_not_whitespace, Text, Values, Front}
+use Rattle.syslog_loose.proofs.Names.{Row, Each, run, IsDashBefore, rfc3164_list, is_blank, colon, EndsInColon}
+use Rattle.syslog_loose.proofs.Names.{rfc3164_stamp, IsCanonicalStamp, Dating, BeforeBlank, each_front, row_of, ◌then◌}
+use Rattle.syslog_loose.proofs.Names.{piece_front, IsBoundedProcess, HasExceptionsAlone, HasNoException, dash_rule}
+use Rattle.syslog_loose.proofs.Names.{colons, colons_before, past_colons, EndsColons, IsDashed, PassesDashes, with_msg}
+use Rattle.syslog_loose.proofs.Names.{MessageValue, priority_of, printed, IsRead, Names3164, names, Resolves, body_row}
+use Rattle.syslog_loose.proofs.Names.{rfc3164_row, IsRead3164, IsNext, Reaches, Variant, Some, tail_text}
 use Rattle.syslog_pieces.specs.Pri.{facility_of, severity_of}
-use Rattle.syslog_pieces.specs.StructuredData.Rfc3164List.{IsDashBefore, rfc3164_list, BeginsNoList}
-use Rattle.syslog_pieces.specs.Text.{is_blank, colon, EndsInColon}
-use Rattle.syslog_pieces.specs.Timestamp.Rfc3164.{rfc3164_stamp}
-use Rattle.syslog_pieces.specs.Timestamp.Canonical.{IsCanonicalStamp}
-use Rattle.syslog_pieces.specs.Timestamp.Zone.{Dating}
-use Rattle.syslog_pieces.specs.declared.structured_data.rfc3164_list.DashRule.TheVariants.{BeforeBlank}
-use Rattle.syslog_pieces.proofs.PieceLemmas.Class.{heads, row_cons, rows_join, rest_front, front_division}
-use Rattle.syslog_pieces.proofs.PieceLemmas.Class.{optional_some}
-use Rattle.syslog_pieces.proofs.PieceLemmas.Each.{each_front}
-use Rattle.syslog_pieces.proofs.PieceLemmas.Rows.{row_of, ◌then◌}
-use Rattle.syslog_pieces.proofs.PieceLemmas.Steps.{piece_front}
-use Rattle.syslog_pieces.proofs.StructuredDataLemmas.Rfc3164List.{dash_rfc3164_list, full_begins}
-use Rattle.syslog_loose.specs.Canonical.{IsVisible, IsBoundedProcess}
-use Rattle.syslog_loose.specs.Exceptions.{HasExceptionsAlone}
-use Rattle.syslog_loose.specs.Jumps.{colons, colons_before, message_end, tail_text, past_colons, EndsColons}
-use Rattle.syslog_loose.specs.Jumps.{HasNoNameException, IsDashed, PassesDashes, with_msg}
-use Rattle.syslog_loose.specs.Message.{MessageValue}
-use Rattle.syslog_loose.specs.Printed.{priority_of, printed_3164, printed}
-use Rattle.syslog_loose.specs.Reading.{IsRead}
-use Rattle.syslog_loose.specs.Rfc3164.{Names3164, names, Resolves, body_row, rfc3164_row, IsRead3164}
-use Rattle.syslog_loose.specs.Settling.{IsSettled, Reaches}
+use Rattle.syslog_pieces.proofs.PieceLemmas.Class.{row_cons, rows_join, rest_front, front_division, optional_some}
+use Rattle.syslog_pieces.proofs.StructuredDataLemmas.Rfc3164List.{dash_rfc3164_list}
+use Rattle.syslog_loose.specs.Jumps.{message_end, HasNoNameException}
+use Rattle.syslog_loose.specs.Printed.{printed_3164}
 use Rattle.syslog_loose.specs.declared.message.Protocol.TheVariants.{RFC3164}
-use Rattle.syslog_loose.specs.declared.variant.Variant.{Variant}
 use Rattle.syslog_loose.specs.declared.variant.Variant.TheVariants as variants
 use Rattle.syslog_loose.proofs.PriorityLemmas.{priority_small}
 use Rattle.syslog_loose.proofs.Rfc3164Lemmas.Bounded.{read_bounded}
@@ -40,7 +25,8 @@ use Rattle.syslog_loose.proofs.Rfc3164Lemmas.Rows.{from_blanks, from_stamp, to_c
 use Rattle.syslog_loose.proofs.Rfc3164Lemmas.Unique.{told}
 use Rattle.syslog_loose.proofs.Rfc3164Lemmas.Whole.{trimmed_whole}
 use Rattle.syslog_loose.proofs.SettlingLemmas.Falls.{behind_space, priority_again, printed_same}
-use Rattle.syslog_loose.proofs.SettlingLemmas.Names.{host_left, no_form_open, names_text}
+use Rattle.syslog_loose.proofs.SettlingLemmas.Names.{host_left, no_form_open}
+use Rattle.syslog_loose.proofs.SettlingLemmas.NoList.{no_list_by}
 use Rattle.syslog_loose.proofs.SettlingLemmas.Rounds.{reached_first, reached_next}
 use Rattle.syslog_loose.proofs.SettlingLemmas.Settles.{no_protocol, as_rfc3164, odd_unsettled}
 
@@ -79,19 +65,10 @@ as_variant variants.RFC3164 dating text m n r e s = rw (printed_is m e) s
 as_variant variants.Either dating text m n r e s = rw (printed_is m e) (inr (printed_apart m, s))
 
 -- a text that begins with a dash and a blank begins with a list
-dash_before : (t next : Text) (d : IsDashed t next) → IsDashBefore BeforeBlank (d.blanks ++ next)
-dash_before t next d = before d.blanks d.some d.each
-  where
-    before : (blanks : Text) → 0 < length blanks → Each is_blank blanks → IsDashBefore BeforeBlank (blanks ++ next)
-    before [] l k = absurd (omega arith)
-    before (c ∷ cs) l k = k.0
-
--- and a colon with none
-no_list_colon : (t : Text) → BeginsNoList BeforeBlank (58 ∷ t)
-no_list_colon t = (
-  λ q e k. let u : ◌≡◌ {A = ℕ} 58 45 = heads 58 45 t q e in omega arith,
-  λ p q v e h. (let s = full_begins p q v h in let u : ◌≡◌ {A = ℕ} 58 91 = heads 58 91 t s.0 (e ∙ s.1) in omega arith),
-)
+dash_before : (blanks next : Text) → 0 < length blanks → Each is_blank blanks
+    → IsDashBefore BeforeBlank (blanks ++ next)
+dash_before [] next l k = absurd (omega arith)
+dash_before (c ∷ cs) next l k = k.0
 
 module _ (variant : Variant) (dating : Dating) (text : Text) (m : MessageValue) (r : IsRead variant dating text m)
     (e : m.protocol ≡ RFC3164) where
@@ -109,12 +86,9 @@ module _ (variant : Variant) (dating : Dating) (text : Text) (m : MessageValue) 
       → Front (Row (body_row BeforeBlank)) (32 ∷ behind_space m) [] vs → Resolves vs.0 vs.1.0 n
       → IsRead variant dating (printed m) (told BeforeBlank dating (Some (priority_of m), (tt, (m.timestamp, vs))) n)
   behind_stamp vs n k f means =
-      let vs' : Values (rfc3164_row BeforeBlank dating) = (Some (priority_of m), (tt, (m.timestamp, vs))) in
       as_variant variant dating text m _ r e (record {
-        values = vs';
-        division = front_division (rfc3164_row BeforeBlank dating)
-            (subst (λ (x : Text). Front (Row (rfc3164_row BeforeBlank dating)) x [] vs')
-            (sym (trimmed_whole m near.msg_end))
+        values = (Some (priority_of m), (tt, (m.timestamp, vs)));
+        division = front_division (rfc3164_row BeforeBlank dating) (rw (trimmed_whole m near.msg_end)
             (rows_join to_stamp (from_stamp BeforeBlank dating) (to_stamp_back m (behind_space m))
             (row_cons (rfc3164_stamp dating) (body_row BeforeBlank)
             (stamp_back dating m.timestamp (behind_space m) k) f)));
@@ -127,17 +101,14 @@ module _ (variant : Variant) (dating : Dating) (text : Text) (m : MessageValue) 
   unfolding message_end
   colon_read h k is (front, o) =
       let alone : m.appname ≡ None = (rw is at near.odd_host) (inr (h, refl)) in
-      let visible : IsVisible h = (
-        omega (arith, ap length o, length-append front colon),
-        each_front is_not_whitespace h colon (rw is at near.hostname).1,
-      ) in
-      let text_is : names_text (Some (h ++ colon)) None None tail ≡ 32 ∷ behind_space m = rw (is, alone) refl in
+      let some : 0 < length h = omega (arith, ap length o, length-append front colon) in
+      let each = each_front is_not_whitespace h colon (rw is at near.hostname).1 in
       let vs : Values (body_row BeforeBlank) =
       (Some (Some h), (None, (tt, (Some tt, (tt, (None, (tt, (58 ∷ tail, tt)))))))) in
       behind_stamp vs (names (Some h) None None) k
-      (subst (λ (x : Text). Front (Row (body_row BeforeBlank)) x [] vs) text_is
-      (rows_join to_colon (from_blanks BeforeBlank) (host_left h tail visible)
-      (body_back BeforeBlank [] (58 ∷ tail) tt tt refl (λ _. no_list_colon tail))))
+      (rw (is, alone) (rows_join to_colon (from_blanks BeforeBlank) (host_left h tail (some, each))
+      (body_back BeforeBlank [] (58 ∷ tail) tt tt refl
+      (λ _. no_list_by BeforeBlank 58 tail (λ e. omega arith) (λ e. omega arith)))))
       (inr (rw o (no_form_open front 58 [] (refl, tt)), refl))
 
   -- a message part of dashes loses one, which is taken for an empty list
@@ -152,15 +123,14 @@ module _ (variant : Variant) (dating : Dating) (text : Text) (m : MessageValue) 
       row_of (from_blanks BeforeBlank)
       (piece_front (run is_blank) (32 ∷ []) (45 ∷ behind) tt ((refl, tt), refl)
       then optional_some (rfc3164_list BeforeBlank)
-      (dash_rfc3164_list BeforeBlank (45 ∷ behind) behind refl (dash_before m.msg rest d))
+      (dash_rfc3164_list BeforeBlank (45 ∷ behind) behind refl (dash_before d.blanks rest d.some d.each))
       then piece_front (run is_blank) d.blanks rest tt (d.each, d.no_more) then rest_front rest then refl) in
-      let tail_is : 32 ∷ 45 ∷ behind ≡ tail = rw (es, d.whole) refl in
       let from : Values (from_blanks BeforeBlank) = (tt, (Some [], (tt, (rest, tt)))) in
       behind_stamp (Some m.hostname, (program_field m.appname m.procid, (tt, (Some tt, from)))) (names_of m)
       none.timestamp
       (rows_join to_colon (from_blanks BeforeBlank) (names_back m.hostname m.appname m.procid tail
       (canonical_host m.hostname near.hostname none.no_dash none.no_last_colon) canonical bounded)
-      (subst (λ (x : Text). Front (Row (from_blanks BeforeBlank)) x [] (tt, (Some [], (tt, (rest, tt))))) tail_is list))
+      (rw (es, d.whole) list))
       (resolved m.hostname m.appname m.procid canonical bounded)
 
 module _ (variant : Variant) (dating : Dating) (input : Text) (m : MessageValue)
@@ -176,14 +146,14 @@ module _ (variant : Variant) (dating : Dating) (input : Text) (m : MessageValue)
     reached_first variant dating input (printed m) (record { message = m; read = r; is_printed = refl }),
   )
 
-  next_known : (n : ℕ) (y z : MessageValue) → Known n y → IsRead variant dating (printed y) z
-      → (IsSettled variant dating (printed y) → ⊥) → Known (suc n) z
-  next_known n y z (text, before, reaches) read never = (
-    printed y,
-    read,
-    reached_next variant dating input n (printed y) (printed z) reaches never
-        (record { message = z; read = read; is_printed = refl }),
-  )
+  -- the next round, which has an exception itself
+  next_known : (n : ℕ) (y z : MessageValue) → Known n y → z.protocol ≡ RFC3164 → IsRead variant dating (printed y) z
+      → (HasNoException dash_rule z → ⊥) → Known (suc n) z
+  next_known n y z (text, before, reaches) p read odd =
+      let never = odd_unsettled variant dating (printed y) z read p odd in
+      let next : IsNext variant dating (printed y) (printed z) =
+      record { message = z; read = read; is_printed = refl } in
+      (printed y, read, reached_next variant dating input n (printed y) (printed z) reaches never next)
 
   -- ---- rounds in which a host loses its colons
   module _ (stamp : IfSome m.timestamp IsCanonicalStamp) where
@@ -191,9 +161,8 @@ module _ (variant : Variant) (dating : Dating) (input : Text) (m : MessageValue)
         → IfSome y.timestamp IsCanonicalStamp → y.hostname ≡ Some (h ++ colon) → EndsInColon h
         → Known (suc n) (read_with y (names (Some h) None None) (58 ∷ tail_text y.structured_data y.msg))
     next_colons n y h k p s is o =
-        let read = colon_read variant dating k.0 y k.1 p h s is o in
-        next_known n y _ k read
-        (odd_unsettled variant dating (printed y) _ read refl (λ none. none.host_ends_in_no_colon o))
+        next_known n y _ k refl (colon_read variant dating k.0 y k.1 p h s is o)
+        (λ none. none.host_ends_in_no_colon o)
 
     all_colons : (h : Text) (n : ℕ) → m.hostname ≡ Some (h ++ colons (suc n)) → EndsInColon h
         → Known (suc n) (past_colons m h n)
@@ -213,10 +182,8 @@ module _ (variant : Variant) (dating : Dating) (input : Text) (m : MessageValue)
   next_dash : (n : ℕ) (y : MessageValue) (u next : Text) → Known n y → y.protocol ≡ RFC3164 → HasNoNameException y
       → y.structured_data ≡ [] → IsDashed y.msg u → IsDashed u next → Known (suc n) (read_with y (names_of y) u)
   next_dash n y u next k p none es d f =
-      let read = dash_read variant dating k.0 y k.1 p u none es d in
-      next_known n y _ k read
-      (odd_unsettled variant dating (printed y) _ read refl
-      (λ none. (none.message_is_no_list refl).0 (f.blanks ++ next) f.whole (dash_before u next f)))
+      next_known n y _ k refl (dash_read variant dating k.0 y k.1 p u none es d)
+      (λ none. (none.message_is_no_list refl).0 (f.blanks ++ next) f.whole (dash_before f.blanks next f.some f.each))
 
   module _ (none : HasNoNameException m) (es : m.structured_data ≡ []) where
     more_dashes : (n : ℕ) (before u next : Text) → Known (suc n) (read_with m (names_of m) before) → IsDashed before u
@@ -239,8 +206,8 @@ module _ (variant : Variant) (dating : Dating) (input : Text) (m : MessageValue)
         → Reaches variant dating input n (printed (with_msg m u))
     dashes_skipped zero u is = rw is known.2
     dashes_skipped (suc n) u p =
-        let same : printed_3164 (read_with m (names_of m) u) ≡ printed_3164 (with_msg m u) =
-        printed_same (with_msg m u) (read_with m (names_of m) u) (priority_again (priority_of m) (priority_small m))
-        refl refl refl (sym es) refl in
-        subst (λ (x : Text). Reaches variant dating input (suc n) x) (same ∙ sym (printed_is (with_msg m u) e))
-        (all_dashes n u p).2
+        rw (
+          printed_is (with_msg m u) e,
+          ← printed_same (with_msg m u) (read_with m (names_of m) u)
+              (priority_again (priority_of m) (priority_small m)) refl refl refl (sym es) refl,
+        ) (all_dashes n u p).2

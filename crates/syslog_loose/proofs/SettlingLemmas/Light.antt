@@ -1,25 +1,18 @@
 -- A message that was read as RFC 3164 weighs no more than its text has characters: each term is paid by its own piece.
-use Rattle.std.proofs.Common.{ℕ, suc, ◌+◌, ◌<◌, ◌≤◌, inl, inr, List, [], ◌∷◌, ◌++◌, length}
-use Rattle.std.proofs.Common.{Option, Some, None, IfSome, ap, subst, arith}
-use Rattle.std.proofs.lemmas.List.{length-append}
-use Rattle.std.specs.Str.{skip_leading_whitespace, drop_trailing_whitespace}
-use Rattle.syslog_pieces.specs.Pieces.Class.{Text, Class, Values, Front, Row, join, run, exactly, optional, spaced}
+use Rattle.syslog_loose.proofs.Names.{ℕ, suc, ◌+◌, ◌<◌, ◌≤◌, inl, inr, List, [], ◌∷◌, ◌++◌, length, Option, None}
+use Rattle.syslog_loose.proofs.Names.{IfSome, ap, subst, arith, length-append, drop_trailing_whitespace, Text, Class}
+use Rattle.syslog_loose.proofs.Names.{Values, Front, Row, run, exactly, optional, spaced, is_blank, colon, host}
+use Rattle.syslog_loose.proofs.Names.{tag_word, rfc3164_stamp, IsCanonicalStamp, Dating, DashRule, OffsetTimestamp}
+use Rattle.syslog_loose.proofs.Names.{MonthDate, front_longer, present_front, MessageValue, Names3164, Resolves}
+use Rattle.syslog_loose.proofs.Names.{body_row, rfc3164_row, IsRead3164, Costs, names_weight, Weighs, Some}
+use Rattle.std.specs.Str.{skip_leading_whitespace}
+use Rattle.syslog_pieces.specs.Pieces.Class.{join}
 use Rattle.syslog_pieces.specs.Pri.{priority}
-use Rattle.syslog_pieces.specs.Text.{is_blank, colon, IsHost, host, tag_word}
-use Rattle.syslog_pieces.specs.Timestamp.Rfc3164.{rfc3164_stamp}
-use Rattle.syslog_pieces.specs.Timestamp.Canonical.{IsCanonicalStamp}
+use Rattle.syslog_pieces.specs.Text.{IsHost}
 use Rattle.syslog_pieces.specs.Timestamp.MonthDate.{month, month_date}
-use Rattle.syslog_pieces.specs.Timestamp.Zone.{Dating}
-use Rattle.syslog_pieces.specs.declared.structured_data.rfc3164_list.DashRule.{DashRule}
-use Rattle.syslog_pieces.specs.declared.timestamp.OffsetTimestamp.{OffsetTimestamp}
-use Rattle.syslog_pieces.specs.declared.timestamp.month_date.MonthDate.{MonthDate}
 use Rattle.syslog_pieces.proofs.PieceLemmas.Class.{row_head, division_front, spaced_parts}
-use Rattle.syslog_pieces.proofs.PieceLemmas.Steps.{front_longer, present_front}
 use Rattle.syslog_pieces.proofs.TimestampLemmas.Months.{month_begins}
 use Rattle.syslog_pieces.proofs.TimestampLemmas.RoundTrip.{stamp_text-canonical}
-use Rattle.syslog_loose.specs.Message.{MessageValue}
-use Rattle.syslog_loose.specs.Rfc3164.{Names3164, Resolves, body_row, rfc3164_row, IsRead3164}
-use Rattle.syslog_loose.specs.Settling.{Costs, names_weight, Weighs}
 use Rattle.syslog_loose.proofs.Rfc3164Lemmas.Rows.{from_blanks, from_colon, from_tag_end, from_tag, from_stamp}
 use Rattle.syslog_loose.proofs.Rfc3164Lemmas.Rows.{from_priority_end}
 use Rattle.syslog_loose.proofs.SettlingLemmas.Weights.{free, at_most, field_length, fields_light, message_short}

@@ -1,33 +1,25 @@
 -- What the printed names of a message are read as: names that print the same, or lighter ones.
-use Rattle.std.proofs.Common.{◌≡◌, ◌≢◌, ℕ, ◌<◌, ◌≤◌, ◌⊎◌, inl, inr, true, false, not, nat_eq, [], ◌∷◌, ◌++◌}
-use Rattle.std.proofs.Common.{length, Option, Some, None, IfSome, refl, sym, ap, subst, ◌∙◌, arith, append_assoc}
-use Rattle.std.proofs.lemmas.Bool.Decides.{eqb_tells}
-use Rattle.std.proofs.lemmas.List.{length-append}
-use Rattle.std.proofs.lemmas.Slice.Eq.{bytes_eq-Decides}
-use Rattle.std.specs.Char.{is_not_whitespace}
+use Rattle.syslog_loose.proofs.Names.{◌≡◌, ◌≢◌, ℕ, ◌<◌, ◌≤◌, ◌⊎◌, inl, inr, true, false, not, nat_eq, [], ◌∷◌, ◌++◌}
+use Rattle.syslog_loose.proofs.Names.{length, Option, None, IfSome, refl, sym, ap, subst, ◌∙◌, arith, append_assoc}
+use Rattle.syslog_loose.proofs.Names.{nat_tests, append-nil, ◌-◌, length-append, bytes_eq-Decides, is_not_whitespace}
+use Rattle.syslog_loose.proofs.Names.{bytes_eq, Text, Values, Front, NoFront, Row, Each, Ends, run, exactly, optional}
+use Rattle.syslog_loose.proofs.Names.{spaced, is_blank, dash, colon, EndsInColon, name_text, host, tag_word, ProcId}
+use Rattle.syslog_loose.proofs.Names.{PID, Name, DashRule, BeforeBlank, each_both, each_left, each_right, each_front}
+use Rattle.syslog_loose.proofs.Names.{row_pieces, row_of, ◌then◌, piece_front, rows_step, IsBoundedProcess, is_no_colon}
+use Rattle.syslog_loose.proofs.Names.{HasNoColon, is_inner_char, tag_text, Names3164, names, Resolves, body_row}
+use Rattle.syslog_loose.proofs.Names.{names_weight, ListWeighs, elements_or, Some}
+use Rattle.std.proofs.Common.{take, drop}
+use Rattle.syslog_loose.proofs.SettlingLemmas.Decided.{Decided, decided, find_run, no_char}
+use Rattle.std.proofs.lemmas.List.Prefix.{end_rest}
+use Rattle.std.proofs.lemmas.List.{take-append-drop}
 use Rattle.std.specs.List.{list_any}
-use Rattle.std.specs.Str.{bytes_eq}
-use Rattle.syslog_pieces.specs.Pieces.Class.{Text, Values, Front, NoFront, Row, Each, Ends, run, exactly, optional}
-use Rattle.syslog_pieces.specs.Pieces.Class.{spaced}
-use Rattle.syslog_pieces.specs.StructuredData.Rfc3164List.{BeginsNoList}
-use Rattle.syslog_pieces.specs.Text.{is_blank, is_tag_char, dash, colon, EndsInColon, name_text, host, tag_word}
+use Rattle.syslog_pieces.specs.Text.{is_tag_char}
 use Rattle.syslog_pieces.specs.Text.CharClass.{is_open_char}
-use Rattle.syslog_pieces.specs.declared.procid.ProcId.{ProcId}
-use Rattle.syslog_pieces.specs.declared.procid.ProcId.TheVariants.{PID, Name}
-use Rattle.syslog_pieces.specs.declared.structured_data.rfc3164_list.DashRule.{DashRule}
-use Rattle.syslog_pieces.specs.declared.structured_data.rfc3164_list.DashRule.TheVariants.{BeforeBlank}
 use Rattle.syslog_pieces.proofs.PieceLemmas.Class.{run_same, heads, division_front, optional_some, optional_none}
 use Rattle.syslog_pieces.proofs.PieceLemmas.Class.{spaced_front, no_spaced_space, no_spaced_piece}
-use Rattle.syslog_pieces.proofs.PieceLemmas.Each.{each_both, each_left, each_right, each_front, each_behind}
-use Rattle.syslog_pieces.proofs.PieceLemmas.Each.{each_append}
-use Rattle.syslog_pieces.proofs.PieceLemmas.Rows.{row_pieces, row_of, ◌then◌}
-use Rattle.syslog_pieces.proofs.PieceLemmas.Steps.{piece_front, rows_step}
-use Rattle.syslog_pieces.proofs.StructuredDataLemmas.Units.{decide}
-use Rattle.syslog_loose.specs.Canonical.{IsVisible, IsCanonicalHost, IsBoundedProcess, AreCanonicalNames}
-use Rattle.syslog_loose.specs.Exceptions.{is_no_colon, HasNoColon, IsOddHost, is_inner_char, AreNamesButExceptions}
-use Rattle.syslog_loose.specs.Printed.{tag_text}
-use Rattle.syslog_loose.specs.Rfc3164.{Names3164, names, Resolves, body_row}
-use Rattle.syslog_loose.specs.Settling.{names_weight}
+use Rattle.syslog_pieces.proofs.PieceLemmas.Each.{each_behind, each_append}
+use Rattle.syslog_loose.specs.Canonical.{IsVisible, IsCanonicalHost, AreCanonicalNames}
+use Rattle.syslog_loose.specs.Exceptions.{IsOddHost, AreNamesButExceptions}
 use Rattle.syslog_loose.specs.TagForm.{form_row, IsNoForm}
 use Rattle.syslog_loose.proofs.Rfc3164Lemmas.{resolves_once}
 use Rattle.syslog_loose.proofs.Rfc3164Lemmas.Exceptions.{canonical_names}
@@ -36,25 +28,17 @@ use Rattle.syslog_loose.proofs.Rfc3164Lemmas.ReadBack.{host_field_back}
 use Rattle.syslog_loose.proofs.Rfc3164Lemmas.Rows.{from_blanks, to_colon, to_colon_det}
 use Rattle.syslog_loose.proofs.Rfc3164Lemmas.Whole.{program_text}
 use Rattle.syslog_loose.proofs.SettlingLemmas.NoList.{no_list_by, no_list_inner}
-use Rattle.syslog_loose.proofs.SettlingLemmas.Weights.{colon_weight, fields_light, lone_light}
+use Rattle.syslog_loose.proofs.SettlingLemmas.Weights.{left_free, colon_weight, fields_light, lone_light}
 
 -- ---- what can be told of a text
 
-pub same_text : (xs ys : Text) → (xs ≡ ys) ⊎ (xs ≡ ys → ⊥)
-same_text xs ys = elim (decide (bytes_eq xs ys)) [
-  | inl h ↦ inl ((bytes_eq-Decides xs ys).0 h)
-  | inr h ↦ inr (λ e. let t : true ≡ false = sym ((bytes_eq-Decides xs ys).1 e) ∙ h in cc)
-]
+pub same_text : (xs ys : Text) → Decided (xs ≡ ys)
+same_text xs ys = decided (bytes_eq xs ys) (bytes_eq-Decides xs ys)
 
-ends_no_more : (c : ℕ) (t : Text) → (c ∷ t ≡ colon → ⊥) → (EndsInColon t → ⊥) → EndsInColon (c ∷ t) → ⊥
-ends_no_more c t m n ([], e) = m e
-ends_no_more c t m n (d ∷ front, e) = n (front, cc)
-
-ends_in : (h : Text) → EndsInColon h ⊎ (EndsInColon h → ⊥)
-ends_in [] = inr (λ k. let t = ap length k.1 in omega (arith, length-append k.0 colon))
-ends_in (c ∷ t) = elim (ends_in t) [
-  | inl (front, e) ↦ inl (c ∷ front, ap (λ (x : Text). c ∷ x) e)
-  | inr n ↦ elim (same_text (c ∷ t) colon) [ inl e ↦ inl ([], e) | inr m ↦ inr (ends_no_more c t m n) ]
+ends_in : (h : Text) → Decided (EndsInColon h)
+ends_in h = elim (same_text (drop (length h - 1) h) colon) [
+  | inl e ↦ inl (take (length h - 1) h, sym (rw e at (take-append-drop (length h - 1) h)))
+  | inr n ↦ inr (λ k. n (end_rest h colon k.0 k.1))
 ]
 
 canonical_or_odd : (h : Text) → IsVisible h → IsCanonicalHost h ⊎ IsOddHost h
@@ -68,9 +52,7 @@ pub no_form_open : (a : Text) (c : ℕ) (x : Text) → Each is_open_char (c ∷ 
 no_form_open a c x h vs d =
     let (_, f1, (_, f2, (_, f3, (t4, f4, e)))) = row_pieces form_row (division_front form_row d) in
     by a (f1.piece ++ (f2.piece ++ f3.piece))
-    (f1.whole ∙ ap (λ (y : Text). f1.piece ++ y) (f2.whole ∙ ap (λ (y : Text). f2.piece ++ y) (f3.whole
-    ∙ ap (λ (y : Text). f3.piece ++ y) (f4.whole ∙ ap (λ (y : Text). y ++ t4) f4.is ∙ ap (λ (y : Text). 93 ∷ y) e)))
-    ∙ sym (simp append_assoc))
+    (f1.whole ∙ simp (f2.whole, f3.whole, f4.whole, f4.is, e, append_assoc))
   where
     by : (a front : Text) → a ++ (c ∷ x) ≡ front ++ (93 ∷ []) → ⊥
     by [] front e = let k = each_behind is_open_char front (93 ∷ []) (subst (λ (y : Text). Each is_open_char y) e h) in
@@ -99,8 +81,7 @@ host_left h t (l, a) =
     rw (append_assoc h colon (32 ∷ 58 ∷ t)) (row_of to_colon
     (optional_some (spaced host) (spaced_front host (space_front (h ++ behind))
     (piece_front host h behind (Some h) (l, a, inr (32 ∷ 58 ∷ t, refl, refl, refl))))
-    then optional_none (spaced tag_word) (no_spaced_space tag_word
-    (λ p q v e k. let u : ◌≡◌ {A = ℕ} 58 32 = heads 58 32 _ q (e ∙ ap (λ (x : Text). x ++ q) k) in omega arith))
+    then optional_none (spaced tag_word) (no_spaced_space tag_word (no_char 32 58 _ (λ e. omega arith)))
     then no_blanks behind refl then colon_front (32 ∷ 58 ∷ t) then refl))
 
 -- a host that is no more than its colon
@@ -108,11 +89,9 @@ no_host_alone : (t : Text) → NoFront host (58 ∷ 32 ∷ t)
 no_host_alone t p q v e (l, a, inl (n, b, w)) =
     n ([], run_same is_not_whitespace p q colon (32 ∷ t) (sym e) a b (refl, tt) refl)
 no_host_alone t p q v e (l, a, inr (r, w, b, z)) =
-    let e1 : (p ++ colon) ++ r ≡ colon ++ (32 ∷ t) = append_assoc p colon r ∙ ap (λ (x : Text). p ++ x) (sym w)
-    ∙ sym e in
-    let s = ap length (run_same is_not_whitespace (p ++ colon) r colon (32 ∷ t) e1
-    (each_append is_not_whitespace p colon a (refl, tt)) b (refl, tt) refl) in
-    omega (arith, length-append p colon)
+    let s = run_same is_not_whitespace (p ++ colon) r colon (32 ∷ t) (rw (append_assoc, ← w) (sym e))
+    (each_append is_not_whitespace p colon a (refl, tt)) b (refl, tt) refl in
+    omega (arith, ap length s, length-append p colon)
 
 host_alone : (t : Text) → Front (Row to_colon) (32 ∷ 58 ∷ 32 ∷ t) (32 ∷ t) (None, (None, (tt, (Some tt, tt))))
 host_alone t =
@@ -136,24 +115,16 @@ cut_text a x z t = simp append_assoc
 abbrev Cut : Option (ProcId Text) → Type 0
 Cut p = (before : Text) × (after : Text) × (p ≡ Some (Name (before ++ (58 ∷ after)))) × Each is_no_colon before
 
-first_colon : (i : Text) → Each is_no_colon i
-    ⊎ ((before : Text) × (after : Text) × (i ≡ before ++ (58 ∷ after)) × Each is_no_colon before)
-first_colon [] = inl tt
-first_colon (c ∷ i) = elim (eqb_tells c 58) [
-  | inl r ↦ inr ([], i, ap (λ (x : ℕ). x ∷ i) r.1, tt)
-  | inr r ↦ elim (first_colon i) [
-    | inl k ↦ inl (ap not r.0, k)
-    | inr (before, after, e, k) ↦ inr (c ∷ before, after, ap (λ (x : Text). c ∷ x) e, (ap not r.0, k))
-  ]
-]
-
 whole_or_cut : (p : Option (ProcId Text)) → IfSome p HasNoColon ⊎ Cut p
 whole_or_cut None = inl tt
 whole_or_cut (Some (PID i)) = inl tt
-whole_or_cut (Some (Name i)) = elim (first_colon i) [
-  | inl k ↦ inl k
-  | inr (before, after, e, k) ↦ inr (before, after, ap (λ (x : Text). Some (Name x)) e, k)
-]
+whole_or_cut (Some (Name i)) = let (before, q, e, k, ends) = find_run is_no_colon i in by before q e k ends
+  where
+    by : (before q : Text) → i ≡ before ++ q → Each is_no_colon before → Ends is_no_colon q
+        → Each is_no_colon i ⊎ Cut (Some (Name i))
+    by before [] e k ends = inl (subst (Each is_no_colon) (sym (e ∙ append-nil before)) k)
+    by before (c ∷ after) e k ends =
+        let is : c ≡ 58 = grind (arith, nat_tests) in inr (before, after, rw (e, is) refl, k)
 
 cut_colon : (p : Option (ProcId Text)) → Cut p → IfSome p HasNoColon → ⊥
 cut_colon p (x, z, is, none) h = let k = each_behind is_no_colon x (58 ∷ z) (rw is at h) in
@@ -173,14 +144,10 @@ module _ (rule : DashRule) (t : Text) (n : Names3164) (vs : Values (body_row rul
     pub tag_is : tag_text n.appname n.procid ≡ tag_text a p
     pub behind : Front (Row (from_blanks rule)) t [] vs.1.1.1.1
 
-  -- lighter names, and what is left behind their colon is a message that begins with no list
-  pub record Moved (h : Option Text) (p : Option (ProcId Text)) : Type 0 where
-    pub left : Text
-    pub msg : Text
-    pub gap : Front (run is_blank) left msg tt
-    pub no_list : BeginsNoList rule msg
-    pub behind : Front (Row (from_blanks rule)) left [] vs.1.1.1.1
-    pub lighter : names_weight n.hostname n.procid < names_weight h p
+  -- lighter names, and a message part that costs nothing
+  abbrev pub Moved : Option Text → Option (ProcId Text) → Type 0
+  Moved h p = (names_weight n.hostname n.procid < names_weight h p)
+      × ((v : ℕ) → ListWeighs rule (elements_or vs.1.1.1.1.1.0) vs.1.1.1.1.1.1.1.0 v → v ≡ 0)
 
   abbrev pub Step : Option Text → Option Text → Option (ProcId Text) → Type 0
   Step h a p = Stays h a p ⊎ Moved h p
@@ -223,30 +190,19 @@ module _ (rule : DashRule) (t : Text) (n : Names3164) (vs : Values (body_row rul
       then tagged w q (omega (arith, length-append a (91 ∷ x))) tag (open_no_dash a x) then no_blanks (58 ∷ q) refl
       then colon_front q then refl)) (rw (is, cut_text a x z t) at d) in
       let (no_blank, no_list) = no_list_inner z (58 ∷ t) (each_behind is_inner_char x (58 ∷ z) inner).1 in
-      record {
-        left = q;
-        msg = q;
-        gap = no_blanks q no_blank;
-        no_list = rw blank no_list;
-        behind = behind;
-        lighter = elim means [
-          | inl (tag, id, p, f, g, e) ↦
-              absurd (no_form_open a 91 x (refl, each_right is_not_whitespace is_open_char x inner_x) _ f)
-          | inr (form, e) ↦ rw (is, e, has_colon x z) (omega arith)
-        ];
-      }
+      let lighter : names_weight n.hostname n.procid < names_weight None p = elim means [
+        | inl (tag, id, p, f, g, e) ↦
+            absurd (no_form_open a 91 x (refl, each_right is_not_whitespace is_open_char x inner_x) _ f)
+        | inr (form, e) ↦ rw (is, e, has_colon x z) (omega arith)
+      ] in
+      (lighter, λ v. left_free rule q q vs.1.1.1.1 (no_blanks q no_blank) behind v (rw blank no_list))
 
   -- a host that leaves its colon to the message
   colon_moved : (h : Text) → Front (Row (from_blanks rule)) (32 ∷ 58 ∷ t) [] vs.1.1.1.1
       → names_weight n.hostname n.procid < names_weight (Some h) None → Moved (Some h) None
-  colon_moved h d l = record {
-    left = _;
-    msg = 58 ∷ t;
-    gap = piece_front (run is_blank) (32 ∷ []) (58 ∷ t) tt ((refl, tt), refl);
-    no_list = no_list_by rule 58 t (λ e. omega arith) (λ e. omega arith);
-    behind = d;
-    lighter = l;
-  }
+  colon_moved h d l =
+      let gap = piece_front (run is_blank) (32 ∷ []) (58 ∷ t) tt ((refl, tt), refl) in
+      (l, λ v. left_free rule _ _ vs.1.1.1.1 gap d v (no_list_by rule 58 t (λ e. omega arith) (λ e. omega arith)))
 
   colons_moved : (h : Text) → Each is_not_whitespace (h ++ colon) → Reads (names_text (Some (h ++ colon)) None None t)
       → Moved (Some (h ++ colon)) None

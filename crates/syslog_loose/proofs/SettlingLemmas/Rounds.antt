@@ -1,12 +1,7 @@
 -- Rounds of a text: there is one of each number, and one that is settled first.
-use Rattle.std.proofs.Common.{◌≡◌, ℕ, zero, suc, ◌<◌, ◌⊎◌, inl, inr, refl, sym, ap, subst, ◌∙◌, arith}
-use Rattle.std.proofs.lemmas.Bool.Decides.{leb_tells}
-use Rattle.syslog_pieces.specs.Pieces.Class.{Text}
-use Rattle.syslog_pieces.specs.Timestamp.Zone.{Dating}
-use Rattle.syslog_loose.specs.Printed.{printed}
-use Rattle.syslog_loose.specs.Reading.{IsRead, IsUnreadable}
-use Rattle.syslog_loose.specs.Settling.{IsNext, IsRound, IsSettled, NoneSettled, Reaches, IsFirstSettled}
-use Rattle.syslog_loose.specs.declared.variant.Variant.{Variant}
+use Rattle.syslog_loose.proofs.Names.{◌≡◌, ℕ, zero, suc, ◌<◌, ◌⊎◌, inl, inr, refl, sym, ap, subst, ◌∙◌, arith}
+use Rattle.syslog_loose.proofs.Names.{leb_tells, Text, Dating, printed, IsUnreadable, IsNext, IsRound, IsSettled}
+use Rattle.syslog_loose.proofs.Names.{NoneSettled, Reaches, IsFirstSettled, Variant}
 use Rattle.syslog_loose.proofs.ReadingLemmas.{read_once}
 
 last_or_before : (k n : ℕ) → k < suc n → (k ≡ n) ⊎ (k < n)
@@ -20,15 +15,14 @@ module _ (variant : Variant) (dating : Dating) where
   one_round : (t : Text) (n : ℕ) (u x : Text) → IsRound variant dating t n u → IsRound variant dating t n x → u ≡ x
   one_round t zero u x a b = a ∙ sym b
   one_round t (suc n) u x (y, r, h) (z, s, k) =
-      one_next z u x (subst (λ (q : Text). IsNext variant dating q u) (one_round t n y z r s) h) k
+      one_next z u x (rw (one_round t n y z r s) at h) k
 
   -- behind a round that is not read stands none
   pub none_behind : (t : Text) (j : ℕ) (u : Text) → IsRound variant dating t j u → IsUnreadable variant dating u
       → (n : ℕ) (x : Text) → j < n → IsRound variant dating t n x → ⊥
   none_behind t j u r never zero x l s = omega arith
   none_behind t j u r never (suc n) x l (before, s, h) = elim (last_or_before j n l) [
-    | inl e ↦ never h.message (subst (λ (q : Text). IsRead variant dating q h.message)
-        (one_round t n before u s (subst (λ (k : ℕ). IsRound variant dating t k u) e r)) h.read)
+    | inl e ↦ never h.message (rw (one_round t n before u s (rw e at r)) at h.read)
     | inr a ↦ none_behind t j u r never n before a s
   ]
 
@@ -55,8 +49,7 @@ module _ (variant : Variant) (dating : Dating) where
   reached_next t n u x r never h = record {
     round = (u, r.round, h);
     none = λ k y l round settled. elim (last_or_before k n l) [
-      | inl e ↦ never (subst (λ (q : Text). IsSettled variant dating q)
-          (one_round t (suc n) y u (subst (λ (j : ℕ). IsRound variant dating t (suc j) y) e round) r.round) settled)
+      | inl e ↦ never (rw (one_round t (suc n) y u (rw e at round) r.round) at settled)
       | inr a ↦ r.none k y a round settled
     ];
   }
@@ -67,7 +60,7 @@ module _ (variant : Variant) (dating : Dating) where
       → (j : ℕ) × (n < j) × Reaches variant dating t j x
   reached_further t n u zero x r never s =
       let (b, e, h) = s.round in
-      (suc n, omega arith, reached_next t n u x r never (subst (λ (q : Text). IsNext variant dating q x) e h))
+      (suc n, omega arith, reached_next t n u x r never (rw e at h))
   reached_further t n u (suc k) x r never s =
       let (b, round, h) = s.round in
       let (j, l, more) = reached_further t n u k b r never
@@ -89,7 +82,7 @@ module _ (variant : Variant) (dating : Dating) where
   none_settled t never (suc n) k u l round settled = elim (last_or_before k n l) [
     | inl e ↦ never u (record {
       before = n;
-      round = subst (λ (j : ℕ). IsRound variant dating t (suc j) u) e round;
+      round = rw e at round;
       settled = settled;
       none_before = none_settled t never n;
     })

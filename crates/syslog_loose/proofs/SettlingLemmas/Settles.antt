@@ -1,32 +1,24 @@
 -- A text comes to rest, or one of its rounds is missing.
-use Rattle.std.proofs.Common.{◌≡◌, ℕ, zero, suc, ◌+◌, ◌<◌, ◌≤◌, inl, inr, Bool, true, false, List, length, refl, sym}
-use Rattle.std.proofs.Common.{ap, subst, ◌∙◌, arith}
-use Rattle.std.proofs.lemmas.Bool.Decides.{leb_tells}
-use Rattle.std.proofs.lemmas.Str.{chars_from_encodes, encodes-chars, length-le-encodes}
-use Rattle.std.specs.Prelude.{◌↔◌, IsTrue}
-use Rattle.std.specs.Str.{chars, IsUtf8, encode_utf8_all}
-use Rattle.syslog_pieces.specs.Pieces.Class.{Text}
-use Rattle.syslog_pieces.specs.Timestamp.Zone.{Dating}
-use Rattle.syslog_loose.specs.Canonical.{IsCanonical}
-use Rattle.syslog_loose.specs.VerbatimLine.{PrintsAs5424}
-use Rattle.syslog_loose.specs.Verbatim3164.{PrintsAs3164}
-use Rattle.syslog_loose.specs.Exceptions.{HasNoException}
-use Rattle.syslog_loose.specs.Message.{MessageValue}
-use Rattle.syslog_loose.specs.Printed.{printed}
-use Rattle.syslog_loose.specs.ReadBack.{IsFixed}
-use Rattle.syslog_loose.specs.Reading.{dash_rule, IsRead, IsUnreadable}
-use Rattle.syslog_loose.specs.Rfc3164.{IsRead3164}
-use Rattle.syslog_loose.specs.Rfc5424.{IsRead5424}
-use Rattle.syslog_loose.specs.Settling.{IsNext, IsRound, IsSettled, NoneSettled, Reaches, IsFirstSettled, SettlesAs}
-use Rattle.syslog_loose.specs.Settling.{IsSettlingFault, IsAtRest, IsToldRound, IsRoundAsTold, ReachesFrom, Weighs}
+use Rattle.syslog_loose.proofs.Names.{◌≡◌, ℕ, zero, suc, ◌+◌, ◌<◌, ◌≤◌, inl, inr, Bool, true, false, List, length, refl}
+use Rattle.syslog_loose.proofs.Names.{sym, ap, subst, ◌∙◌, arith, leb_tells, chars_from_encodes, encodes-chars, chars}
+use Rattle.syslog_loose.proofs.Names.{IsUtf8, encode_utf8_all, Text, Dating, IsCanonical, HasNoException, MessageValue}
+use Rattle.syslog_loose.proofs.Names.{printed, dash_rule, IsRead, IsUnreadable, IsRead3164, IsNext, IsRound, IsSettled}
+use Rattle.syslog_loose.proofs.Names.{NoneSettled, Reaches, IsFirstSettled, ReachesFrom, Weighs, Variant, Result, Err}
 use Rattle.syslog_loose.specs.declared.fault.ParseFault.{ParseFault}
 use Rattle.syslog_loose.specs.declared.fault.ParseFault.TheVariants.{Invalid, Memory}
+use Rattle.std.proofs.lemmas.Str.{length-le-encodes}
+use Rattle.std.specs.Prelude.{◌↔◌, IsTrue, IsOk}
+use Rattle.syslog_loose.specs.VerbatimLine.{PrintsAs5424}
+use Rattle.syslog_loose.specs.Verbatim3164.{PrintsAs3164}
+use Rattle.syslog_loose.specs.ReadBack.{IsFixed}
+use Rattle.syslog_loose.specs.Rfc5424.{IsRead5424}
+use Rattle.syslog_loose.specs.Settling.{SettlesAs, IsSettlingFault, IsAtRest, IsToldRound, IsRoundAsTold}
 use Rattle.syslog_loose.specs.declared.message.Protocol.{Protocol}
 use Rattle.syslog_loose.specs.declared.message.Protocol.TheVariants as protocol
-use Rattle.syslog_loose.specs.declared.variant.Variant.{Variant}
 use Rattle.syslog_loose.proofs.BoundLemmas.{read_as, read_bounded}
 use Rattle.syslog_loose.proofs.ReadBackLemmas.{printed_exact, fixed_again}
-use Rattle.syslog_loose.proofs.ReadingLemmas.{read_once, invalid_or_memory}
+use Rattle.syslog_loose.proofs.ReadingLemmas.{read_once, invalid_or_memory, no_ok}
+use Rattle.std.specs.declared.alloc.AllocError.{AllocError}
 use Rattle.syslog_loose.proofs.Rfc3164Lemmas.Exceptions.{canonical_near}
 use Rattle.syslog_loose.proofs.Rfc3164Lemmas.Near.{read_near}
 use Rattle.syslog_loose.proofs.Rfc3164Lemmas.Printed.{printed_is, printed_apart}
@@ -59,8 +51,7 @@ module _ (variant : Variant) (dating : Dating) (text : Text) (m : MessageValue) 
 stays_rfc3164 : (variant : Variant) (dating : Dating) (m n : MessageValue) → m.protocol ≡ protocol.RFC3164
     → IsRead variant dating (printed m) n → IsRead3164 dash_rule dating (printed m) n
 stays_rfc3164 variant dating m n e s = elim (read_as variant dating (printed m) n s) [
-  | inl k ↦ (
-      let k = subst (λ (x : Text). IsRead5424 x n) (printed_is m e) k in absurd (printed_apart m k.values k.division))
+  | inl k ↦ (let k = rw (printed_is m e) at k in absurd (printed_apart m k.values k.division))
   | inr k ↦ k
 ]
 
@@ -72,17 +63,13 @@ module _ (variant : Variant) (dating : Dating) where
       let (n, again, same) = fixed_again variant dating m fixed (read_protocol variant dating text m r) in
       record { message = n; read = again; is_printed = sym same }
 
-  -- what was read as RFC 5424 prints as one
-  strict_settled : (text : Text) (m : MessageValue) (version : ℕ) → IsRead variant dating text m
-      → m.protocol ≡ protocol.RFC5424 version → IsSettled variant dating (printed m)
-  strict_settled text m version r e =
+  -- what was read prints as one, unless it was read as RFC 3164 and has an exception
+  rest_settled : (text : Text) (m : MessageValue) → IsRead variant dating text m → (p : Protocol) → m.protocol ≡ p
+      → IsAtRest p m → IsSettled variant dating (printed m)
+  rest_settled text m r (protocol.RFC5424 version) e h =
       fixed_settled text m r (inr (inl (text, as_rfc5424 variant dating text m r version e)))
-
-  -- so does what was read as RFC 3164 and has none of the exceptions
-  free_settled : (text : Text) (m : MessageValue) → IsRead variant dating text m → m.protocol ≡ protocol.RFC3164
-      → HasNoException dash_rule m → IsSettled variant dating (printed m)
-  free_settled text m r e none =
-      fixed_settled text m r (inr (inr (text, dating, as_rfc3164 variant dating text m r e, none)))
+  rest_settled text m r protocol.RFC3164 e h =
+      fixed_settled text m r (inr (inr (text, dating, as_rfc3164 variant dating text m r e, h)))
 
   -- and the message of a settled text is canonical
   pub settled_canonical : (text : Text) (m : MessageValue) → IsSettled variant dating text
@@ -113,14 +100,11 @@ module _ (variant : Variant) (dating : Dating) where
   weighs_less : (t : Text) (n : ℕ) (u : Text) (m : MessageValue) (w : ℕ) → IsRound variant dating t n u
       → NoneSettled variant dating t n → IsRead variant dating u m → IsRead3164 dash_rule dating u m
       → Weighs dash_rule m w → w + n ≤ length t
-  weighs_less t zero u m w e none k r x = omega (
-    arith,
-    light dash_rule dating t m w (subst (λ (y : Text). IsRead3164 dash_rule dating y m) e r) x,
-  )
+  weighs_less t zero u m w e none k r x = omega (arith, light dash_rule dating t m w (rw e at r) x)
   weighs_less t (suc n) u m w (before, round, h) none k r x =
       let unsettled : IsSettled variant dating u → ⊥ = λ s. none n u (omega arith) (before, round, h) s in
       let first = unsettled_rfc3164 before u h unsettled in
-      let second = subst (λ (y : Text). IsRead3164 dash_rule dating y m) h.is_printed r in
+      let second = rw h.is_printed at r in
       let (v, y) = weight dash_rule h.message in
       elim (falls dash_rule dating dating before h.message m v w (inl refl) first second y x) [
         | inl less ↦ omega (
@@ -138,20 +122,15 @@ module _ (variant : Variant) (dating : Dating) where
       let (before, (earlier, round, h), k) = r.round in
       let first = unsettled_rfc3164 earlier before h (λ s. r.none n before (omega arith) (earlier, round, h) s) in
       let e = (read_near dash_rule dating earlier h.message first).protocol in
-      let read = subst (λ (x : Text). IsRead variant dating x k.message) h.is_printed k.read in
-      let rfc3164 = subst (λ (x : Text). IsRead3164 dash_rule dating x k.message) (sym h.is_printed)
-      (stays_rfc3164 variant dating h.message k.message e read) in
+      let rfc3164 = rw (← h.is_printed) at
+      (stays_rfc3164 variant dating h.message k.message e (rw h.is_printed at k.read)) in
       let (w, x) = weight dash_rule k.message in
       omega (arith, weighs_less t (suc n) before k.message w (earlier, round, h) r.none k.read rfc3164 x)
 
   pub rests : (t u : Text) → NoneSettled variant dating t (length t + 1) → IsRound variant dating t (length t + 2) u → ⊥
   rests t u none round =
-      ends t (length t + 1) u (omega arith)
-      (record {
-        round = subst (λ (n : ℕ). IsRound variant dating t n u)
-            (let e : length t + 2 ≡ suc (length t + 1) = omega arith in e) round;
-        none = none;
-      })
+      let e : length t + 2 ≡ suc (length t + 1) = omega arith in
+      ends t (length t + 1) u (omega arith) (record { round = rw e at round; none = none })
 
   -- ---- what is answered
 
@@ -166,6 +145,11 @@ module _ (variant : Variant) (dating : Dating) where
   pub settles_not : (t : Text) → ((u : Text) → IsFirstSettled variant dating t u → ⊥)
       → IsSettlingFault variant dating t Invalid
   settles_not t never = (λ u round. rests t u (none_settled variant dating t never (length t + 1)) round, never)
+
+  -- where a copy was refused, the text has a reading, so the fault is not `Invalid`
+  pub copy_refused : (t : Text) (r : Result Bool AllocError) (fault : AllocError) → r ≡ Err fault
+      → (IsUnreadable variant dating t → IsOk r) → (Memory ≡ Invalid) ↔ IsUnreadable variant dating t
+  copy_refused t r fault e h = (λ i. absurd (invalid_or_memory i), λ u. absurd (no_ok r fault e (h u)))
 
   -- where round 1 was refused
   pub first_fault : (t : Text) (fault : ParseFault) → (fault ≡ Invalid) ↔ IsUnreadable variant dating t
@@ -189,21 +173,13 @@ module _ (variant : Variant) (dating : Dating) where
 
   -- ---- what the next round's reader answers
   module _ (text : Text) (m : MessageValue) (r : IsRead variant dating text m) where
-    rest_settled : (p : Protocol) → m.protocol ≡ p → IsAtRest p m → IsSettled variant dating (printed m)
-    rest_settled (protocol.RFC5424 version) e h = strict_settled text m version r e
-    rest_settled protocol.RFC3164 e h = free_settled text m r e h
-
-    odd_rfc3164 : (p : Protocol) → m.protocol ≡ p → (IsAtRest p m → ⊥)
-        → (m.protocol ≡ protocol.RFC3164) × (IsSettled variant dating text → ⊥)
-    odd_rfc3164 (protocol.RFC5424 version) e odd = absurd (odd tt)
-    odd_rfc3164 protocol.RFC3164 e odd = (e, odd_unsettled text m r e odd)
-
     -- a message of RFC 3164 that has an exception, and a round of which is written
-    told_later : (later : Text) → (IsAtRest m.protocol m → ⊥)
+    told_later : (later : Text) (p : Protocol) → m.protocol ≡ p → (IsAtRest p m → ⊥)
         → (m.protocol ≡ protocol.RFC3164 → (n : ℕ) × Reaches variant dating text n later)
         → IsToldRound variant dating text later false
-    told_later later odd reaches =
-        let (e, never) = odd_rfc3164 m.protocol refl odd in let (n, s) = reaches e in (never, n, s)
+    told_later later (protocol.RFC5424 version) e odd reaches = absurd (odd tt)
+    told_later later protocol.RFC3164 e odd reaches =
+        let (n, s) = reaches e in (odd_unsettled text m r e odd, n, s)
 
     module _ (bytes : List ℕ) (u : IsUtf8 bytes) (w : bytes ≡ encode_utf8_all (printed m)) where
       abbrev is_next : IsNext variant dating text (chars bytes)
@@ -220,9 +196,9 @@ module _ (variant : Variant) (dating : Dating) where
       -- or whether it is at rest is told
       pub round_printed : (skips settled : Bool) → (IsTrue settled ↔ IsAtRest m.protocol m)
           → IsRoundAsTold skips variant dating text (chars bytes) settled
-      round_printed skips true rest = told_settled skips (rest_settled m.protocol refl (rest.0 refl))
+      round_printed skips true rest = told_settled skips (rest_settled text m r m.protocol refl (rest.0 refl))
       round_printed skips false rest = record {
-        told = told_later (chars bytes) (λ at. let t : false ≡ true = rest.1 at in cc)
+        told = told_later (chars bytes) m.protocol refl (λ at. let t : false ≡ true = rest.1 at in cc)
             (λ e. (0, reached_first variant dating text (chars bytes) is_next));
         next = λ e. is_next;
       }
@@ -233,7 +209,7 @@ module _ (variant : Variant) (dating : Dating) where
         → (m.protocol ≡ protocol.RFC3164 → (n : ℕ) × Reaches variant dating text n later)
         → IsRoundAsTold skips variant dating text later false
     round_skipped skips settled e f rest later reaches = record {
-      told = told_later later (λ at. let t : settled ≡ true = rest.1 at in cc) reaches;
+      told = told_later later m.protocol refl (λ at. let t : settled ≡ true = rest.1 at in cc) reaches;
       next = λ g. cc;
     }
 
@@ -242,22 +218,17 @@ module _ (variant : Variant) (dating : Dating) where
       → IsRoundAsTold skips variant dating text (chars bytes) true
   round_copied skips text bytes u k =
       let r = (k.only dating).read in
-      told_settled text k.message r bytes u k.prints skips (strict_settled text k.message k.strict.values.1.0 r
-      (ap (λ (x : MessageValue). x.protocol) k.strict.means))
+      told_settled text k.message r bytes u k.prints skips (rest_settled text k.message r _
+      (ap (λ (x : MessageValue). x.protocol) k.strict.means) tt)
 
   -- and so is one that is copied behind its timestamp
   pub round_freely : (skips : Bool) (text : Text) (bytes : List ℕ) → IsUtf8 bytes
       → PrintsAs3164 variant dating text bytes → IsRoundAsTold skips variant dating text (chars bytes) true
   round_freely skips text bytes u k =
       told_settled text k.message k.read bytes u k.prints skips
-      (free_settled text k.message k.read k.protocol k.no_exception)
+      (rest_settled text k.message k.read protocol.RFC3164 k.protocol k.no_exception)
 
   -- ---- what the loop does
-  pub first_round : (t x : Text) (settled : Bool) → settled ≡ false → IsToldRound variant dating t x settled
-      → ReachesFrom variant dating t 0 x
-  first_round t x settled e h =
-      let (never, n, r) = rw e at h in record { before = n; far = omega arith; reaches = r }
-
   -- the round behind one that is not settled
   pub round_more : (t : Text) (n : ℕ) (u x : Text) (settled : Bool) → ReachesFrom variant dating t n u
       → settled ≡ false → IsToldRound variant dating u x settled → ReachesFrom variant dating t (n + 1) x

@@ -1,35 +1,24 @@
 -- A message has one weight, and what the terms of a weight are where a text is read.
-use Rattle.std.proofs.Common.{◌≡◌, ℕ, zero, suc, ◌+◌, ◌<◌, ◌≤◌, ◌%◌, ◌⊎◌, inl, inr, List, [], ◌∷◌, ◌++◌, length}
-use Rattle.std.proofs.Common.{nat_eq, Option, Some, None, IfSome, refl, sym, ap, subst, ◌∙◌, arith}
-use Rattle.std.proofs.lemmas.Bool.Decides.{leb_tells, eqb_tells}
+use Rattle.syslog_loose.proofs.Names.{◌≡◌, ℕ, zero, suc, ◌+◌, ◌<◌, ◌≤◌, ◌%◌, ◌⊎◌, inl, inr, List, [], ◌∷◌, ◌++◌, length}
+use Rattle.syslog_loose.proofs.Names.{nat_eq, Option, None, IfSome, refl, sym, ap, subst, ◌∙◌, arith, leb_tells}
+use Rattle.syslog_loose.proofs.Names.{eqb_tells, length-append, bytes_eq-Decides, option_map_or, bytes_eq, Text, Values}
+use Rattle.syslog_loose.proofs.Names.{Front, Row, Ends, optional, run, ElementValue, full_element, BeginsNoList}
+use Rattle.syslog_loose.proofs.Names.{rfc3164_list, elements_or, dash, colon, is_blank, IsCanonicalStamp, ProcId, PID}
+use Rattle.syslog_loose.proofs.Names.{Name, DashRule, OffsetTimestamp, row_pieces, front_longer, piece_front}
+use Rattle.syslog_loose.proofs.Names.{present_front, step, decide, MessageValue, Names3164, Resolves, Costs}
+use Rattle.syslog_loose.proofs.Names.{names_weight, ListWeighs, Weighs, Some}
 use Rattle.std.proofs.lemmas.Int.{ints, by_lt_z}
-use Rattle.std.proofs.lemmas.List.{length-append, reverse-append}
+use Rattle.std.proofs.lemmas.List.{reverse-append}
 use Rattle.std.proofs.lemmas.List.Sums.{suffix_len-le-length}
-use Rattle.std.proofs.lemmas.Slice.Eq.{bytes_eq-Decides}
 use Rattle.std.specs.List.{prefix_len}
-use Rattle.std.specs.Option.{option_map_or}
 use Rattle.std.specs.Prelude.{pos, unsigned_abs}
-use Rattle.std.specs.Str.{bytes_eq}
-use Rattle.syslog_pieces.specs.Pieces.Class.{Text, Values, Front, Row, Ends, optional, run}
-use Rattle.syslog_pieces.specs.StructuredData.Element.{ElementValue}
-use Rattle.syslog_pieces.specs.StructuredData.Rfc3164List.{full_element, BeginsNoList, IsRfc3164List, rfc3164_list}
-use Rattle.syslog_pieces.specs.StructuredData.Rfc3164List.{elements_or}
-use Rattle.syslog_pieces.specs.Text.{dash, colon, is_blank}
-use Rattle.syslog_pieces.specs.Timestamp.Canonical.{IsCanonicalStamp, own_year}
-use Rattle.syslog_pieces.specs.declared.procid.ProcId.{ProcId}
-use Rattle.syslog_pieces.specs.declared.procid.ProcId.TheVariants.{PID, Name}
-use Rattle.syslog_pieces.specs.declared.structured_data.rfc3164_list.DashRule.{DashRule}
-use Rattle.syslog_pieces.specs.declared.timestamp.OffsetTimestamp.{OffsetTimestamp}
+use Rattle.syslog_pieces.specs.StructuredData.Rfc3164List.{IsRfc3164List}
+use Rattle.syslog_pieces.specs.Timestamp.Canonical.{own_year}
 use Rattle.syslog_pieces.proofs.PieceLemmas.Class.{front_same, no_front_no, rest_whole, row_head, run_det}
-use Rattle.syslog_pieces.proofs.PieceLemmas.Rows.{row_pieces}
-use Rattle.syslog_pieces.proofs.PieceLemmas.Steps.{absent_none, absent_stays, front_longer, piece_front, present_front}
-use Rattle.syslog_pieces.proofs.PieceLemmas.Steps.{step}
+use Rattle.syslog_pieces.proofs.PieceLemmas.Steps.{absent_none, absent_stays}
 use Rattle.syslog_pieces.proofs.StructuredDataLemmas.Rfc3164List.{begins_no_list, full_shorter, no_rfc3164_list}
-use Rattle.syslog_pieces.proofs.StructuredDataLemmas.Units.{decide}
-use Rattle.syslog_loose.specs.Message.{MessageValue}
-use Rattle.syslog_loose.specs.Rfc3164.{Names3164, NamesHost, NamesProgram, Resolves}
-use Rattle.syslog_loose.specs.Settling.{Costs, end_colons, colons_weight, host_weight, process_weight, names_weight}
-use Rattle.syslog_loose.specs.Settling.{ListWeighs, Weighs}
+use Rattle.syslog_loose.specs.Rfc3164.{NamesHost, NamesProgram}
+use Rattle.syslog_loose.specs.Settling.{end_colons, colons_weight, host_weight, process_weight}
 use Rattle.syslog_loose.proofs.Rfc3164Lemmas.Rows.{from_list, from_blanks}
 use Rattle.syslog_loose.proofs.SettlingLemmas.Decided.{Decided, list_decided}
 
@@ -50,15 +39,16 @@ pub at_most : {A : Type 0} {n w : ℕ} → Costs A n w → w ≤ n
 at_most (inl (a, e)) = omega arith
 at_most (inr (k, e)) = omega arith
 
-pub one_weight : (rule : DashRule) (m : MessageValue) (w v : ℕ) → Weighs rule m w → Weighs rule m v → w ≡ v
-one_weight rule m w v a b =
+pub once : (rule : DashRule) (m : MessageValue) (w v : ℕ) → Weighs rule m w → Weighs rule m v → w ≡ v
+once rule m w v a b =
     omega (arith, a.total, b.total, cost_once a.stamp_is b.stamp_is, cost_once a.taken_is b.taken_is)
 
 -- ---- some weight
 
 -- whether the timestamp is canonical can be decided
-canonical_decided : (s : OffsetTimestamp) → Decided (IsCanonicalStamp s)
-canonical_decided s =
+stamp_decided : (s : Option OffsetTimestamp) → Decided (IfSome s IsCanonicalStamp)
+stamp_decided None = inl tt
+stamp_decided (Some s) =
     by_lt_z {P = Decided (IsCanonicalStamp s)} (own_year s) (pos 0)
     (λ l. inr (λ k. let e = k.year_from in omega (arith, ints, e, l))) (λ from.
     by_lt_z {P = Decided (IsCanonicalStamp s)} (pos 9999) (own_year s)
@@ -70,10 +60,6 @@ canonical_decided s =
       ]
       | inr m ↦ inr (λ k. m.1 k.minutes)
     ]))
-
-stamp_decided : (s : Option OffsetTimestamp) → Decided (IfSome s IsCanonicalStamp)
-stamp_decided None = inl tt
-stamp_decided (Some s) = canonical_decided s
 
 -- so can whether the message begins with a list although there is no element
 list_free : (rule : DashRule) (es : List ElementValue) (msg : Text) → Decided (es ≡ [] → BeginsNoList rule msg)
@@ -91,9 +77,6 @@ weight rule m =
     (_, record { stamp = a; taken = b; stamp_is = x; taken_is = y; total = refl })
 
 -- ---- the names weigh no more than the fields that they stand in
-colons_short : (h : Text) → end_colons h ≤ length h
-colons_short h = suffix_len-le-length (λ c. nat_eq c 58) h
-
 colons_light : (n : ℕ) → colons_weight n ≤ n + 1
 colons_light zero = omega arith
 colons_light (suc n) = omega arith
@@ -122,7 +105,7 @@ field_length (Some (Some t)) = suc (length t)
 
 host_short : (h : Option Text) → option_map_or host_weight h 0 ≤ field_length (Some h)
 host_short None = omega arith
-host_short (Some h) = omega (arith, host_light h, colons_short h)
+host_short (Some h) = omega (arith, host_light h, suffix_len-le-length (λ c. nat_eq c 58) h)
 
 program_light : (host : Option Text) (text : Text) (n : Names3164) → NamesProgram host text n
     → names_weight n.hostname n.procid ≤ field_length (Some host) + suc (length text)
@@ -138,7 +121,7 @@ pub fields_light : (v t : Option (Option Text)) (n : Names3164) → Resolves v t
     → names_weight n.hostname n.procid ≤ field_length v + field_length t
 fields_light None None n e = rw e (omega arith)
 fields_light (Some None) None n e = rw e (omega arith)
-fields_light (Some (Some h)) None n k = omega (arith, lone_light h n k, colons_short h)
+fields_light (Some (Some h)) None n k = omega (arith, lone_light h n k, suffix_len-le-length (λ c. nat_eq c 58) h)
 fields_light None (Some None) n e = rw e (omega arith)
 fields_light (Some h) (Some None) n e = rw e (omega arith)
 fields_light None (Some (Some t)) n h = program_light None t n h

@@ -1,21 +1,16 @@
 -- The year counts in round 1 alone: what `settle` answers in one year it answers in each, where the text asks for none.
-use Rattle.std.proofs.Common.{ℕ, ℤ, zero, suc, Option, None, Result, Ok, Err, sym, subst}
-use Rattle.std.specs.Prelude.{IfOk, String, string_bytes}
-use Rattle.std.specs.Borrow.{Bor}
-use Rattle.std.specs.Global.{Global}
-use Rattle.std.specs.Str.{chars}
-use Rattle.jiff.specs.declared.tz.timezone.TimeZone.{TimeZone}
-use Rattle.syslog_pieces.specs.Pieces.Class.{Text}
-use Rattle.syslog_pieces.specs.Timestamp.Zone.{Dating, dating_of}
-use Rattle.syslog_pieces.specs.declared.timestamp.month_date.MonthDate.{MonthDate}
-use Rattle.syslog_loose.specs.Canonical.{IsCanonical}
-use Rattle.syslog_loose.specs.Message.{MessageValue}
-use Rattle.syslog_loose.specs.Reading.{dash_rule, IsRead, AsksYear, IncompleteDate, IsYearAnswered, InYear}
-use Rattle.syslog_loose.specs.Settling.{IsNext, IsRound, IsFirstSettled, Settles}
+use Rattle.syslog_loose.proofs.Names.{ℕ, zero, suc, Option, None, Result, Ok, Err, sym, subst, Bor, chars, Text, Dating}
+use Rattle.syslog_loose.proofs.Names.{dating_of, MonthDate, IsCanonical, MessageValue, dash_rule, IsRead, AsksYear}
+use Rattle.syslog_loose.proofs.Names.{IsNext, IsRound, IsFirstSettled, Variant, string_bytes}
 use Rattle.syslog_loose.specs.declared.fault.ParseFault.{ParseFault}
 use Rattle.syslog_loose.specs.declared.fault.ParseFault.TheVariants.{Invalid, Memory}
-use Rattle.syslog_loose.specs.declared.variant.Variant.{Variant}
-use Rattle.syslog_loose.proofs.ReadingLemmas.{any_year, in_answered_year}
+use Rattle.std.proofs.Common.{ℤ}
+use Rattle.std.specs.Prelude.{IfOk, String}
+use Rattle.std.specs.Global.{Global}
+use Rattle.jiff.specs.declared.tz.timezone.TimeZone.{TimeZone}
+use Rattle.syslog_loose.specs.Reading.{IncompleteDate, IsYearAnswered, InYear}
+use Rattle.syslog_loose.specs.Settling.{Settles}
+use Rattle.syslog_loose.proofs.ReadingLemmas.{any_year, in_answered_year, in_year_map}
 use Rattle.syslog_loose.proofs.SettlingLemmas.Quiet.{printed_quiet}
 use Rattle.syslog_loose.proofs.SettlingLemmas.Settles.{settled_canonical, settles_as, settles_not}
 
@@ -77,10 +72,10 @@ module _ (variant : Variant) (tz : Option (Bor TimeZone)) (local : Bor TimeZone)
       in_answered_year post variant t (λ y. Settles variant (In y) t result) year is
       (λ quiet other s. settles_in None other t result quiet s) h
 
--- the message of the answer is canonical
-pub answer_canonical : (variant : Variant) (dating : Dating) (text : Text) (result : Result (String Global) ParseFault)
-    → Settles variant dating text result
-    → IfOk result (λ u. (m : MessageValue) → IsRead variant dating (chars (string_bytes u)) m → IsCanonical dash_rule m)
-answer_canonical variant dating text (Ok u) s =
-    λ m r. settled_canonical variant dating (chars (string_bytes u)) m s.first.settled r
-answer_canonical variant dating text (Err fault) s = tt
+  -- and the message of the answer is canonical
+  pub answer_canonical : (post : IncompleteDate → ℤ → Type 0) (t : Text) (result : Result (String Global) ParseFault)
+      → InYear post variant t (λ y. Settles variant (In y) t result) → InYear post variant t (λ y. IfOk result
+      (λ u. (m : MessageValue) → IsRead variant (In y) (chars (string_bytes u)) m → IsCanonical dash_rule m))
+  answer_canonical post t (Ok u) s =
+      in_year_map (λ y k m r. settled_canonical variant (In y) (chars (string_bytes u)) m k.first.settled r) s
+  answer_canonical post t (Err fault) s = in_year_map (λ y k. tt) s

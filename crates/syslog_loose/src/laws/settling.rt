@@ -27,6 +27,7 @@ pub fn read_weighs_no_more_than_its_text()
 {}
 
 /// A message has one weight, and no more than one.
+#[tactic(auto, using(crate::proofs::SettlingLemmas::Weights::once, crate::proofs::SettlingLemmas::Weights::weight))]
 pub fn one_weight()
     ensures once { (rule : DashRule) (m : MessageValue) (w v : ℕ) → Weighs rule m w → Weighs rule m v → w ≡ v }
     ensures some { (rule : DashRule) (m : MessageValue) → (w : ℕ) × Weighs rule m w }

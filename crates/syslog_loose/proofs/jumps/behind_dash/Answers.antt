@@ -1,4 +1,4 @@
-use Rattle.std.specs.Str.{chars}
+use Rattle.syslog_loose.proofs.Names.{chars}
 use Rattle.syslog_loose.proofs.JumpLemmas.{no_dash, dash_told}
 use Rattle.syslog_loose.proofs.jumps.behind_dash.Goals as goal
 

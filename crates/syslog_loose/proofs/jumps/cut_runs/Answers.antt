@@ -1,8 +1,5 @@
-use Rattle.std.proofs.Common.{◌≡◌, ◌++◌, ap, length, [], ◌∷◌, List, ℕ, ◌∙◌, rules, arith}
-use Rattle.std.proofs.lemmas.List.{length-append}
+use Rattle.syslog_loose.proofs.Names.{◌++◌, ap, length, List, ℕ, ◌∙◌, rules, arith, length-append, chars, IsUtf8, Some}
 use Rattle.std.proofs.lemmas.Str.Pattern.{strip_suffix_char}
-use Rattle.std.specs.Prelude.{Some}
-use Rattle.std.specs.Str.{chars, IsUtf8}
 use Rattle.syslog_loose.proofs.JumpLemmas.{suffix_bytes, suffix_some, cut_on}
 use Rattle.syslog_loose.proofs.jumps.cut_runs.Goals as goal
 
@@ -14,10 +11,8 @@ cuts-preserved c =
     let front = c.in-Some-strip_suffix._front.now in
     let v : IsUtf8 short = search rules in
     let w : IsUtf8 front = search rules in
-    let s : c.cuts.host.now ≡ short ++ c.args.run.now =
-    suffix_bytes c.args.run.now c.cuts.host.now short (c.in-Some.ensures.cases) in
-    let z : short ≡ front ++ (58 ∷ []) =
-    strip_suffix_char 58 short (Some c.in-Some-strip_suffix._front) c.in-Some-strip_suffix.ensures.cases
+    let s = suffix_bytes c.args.run.now c.cuts.host.now short (c.in-Some.ensures.cases) in
+    let z = strip_suffix_char 58 short (Some c.in-Some-strip_suffix._front) c.in-Some-strip_suffix.ensures.cases
     (omega arith) in (
       v,
       omega (arith, fits, ap length s, length-append short c.args.run.now),

@@ -1,7 +1,4 @@
-use Rattle.std.proofs.Common.{◌+◌, ◌≤◌, length}
-use denote.Shadow.{shadow}
-use denote.Text.{Utf8}
-use Rattle.syslog_loose.specs.Jumps.{CutsColons}
+use Rattle.syslog_loose.proofs.Names.{◌+◌, ◌≤◌, length, shadow, Utf8, CutsColons}
 use Rattle.syslog_loose.proofs.jumps.cut_runs.Given as goal
 
 abbrev pub invariant-cuts : goal.invariant-cuts

@@ -1,5 +1,4 @@
-use Rattle.std.proofs.Common.{rules, suc}
-use Rattle.std.specs.Str.{chars}
+use Rattle.syslog_loose.proofs.Names.{rules, suc, chars}
 use Rattle.syslog_loose.proofs.jumps.last_dash.Goals as goal
 
 pub dashes-preserved : goal.dashes-preserved

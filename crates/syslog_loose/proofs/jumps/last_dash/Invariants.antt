@@ -1,8 +1,4 @@
-use Rattle.std.proofs.Common.{ℕ, length}
-use denote.Shadow.{shadow}
-use denote.Text.{Utf8}
-use Rattle.std.specs.Str.{chars}
-use Rattle.syslog_loose.specs.Jumps.{IsDashed, PassesDashes}
+use Rattle.syslog_loose.proofs.Names.{ℕ, length, shadow, Utf8, chars, IsDashed, PassesDashes}
 use Rattle.syslog_loose.proofs.jumps.last_dash.Given as goal
 
 abbrev pub invariant-dashes : goal.invariant-dashes

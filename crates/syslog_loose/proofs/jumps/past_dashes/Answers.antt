@@ -1,9 +1,5 @@
-use Rattle.std.proofs.Common.{refl, ap, map}
-use Rattle.std.proofs.lemmas.List.{nil_from_length}
-use Rattle.syslog_pieces.specs.Pieces.View.{shown}
-use Rattle.syslog_pieces.specs.StructuredData.Element.{element_value}
+use Rattle.syslog_loose.proofs.Names.{refl, ap, map, nil_from_length, shown, element_value, message_value}
 use Rattle.syslog_pieces.proofs.TextLemmas.Chars.{empty_is}
-use Rattle.syslog_loose.specs.Message.{message_value}
 use Rattle.syslog_loose.proofs.SettlingLemmas.Jumps.{dashes_skipped}
 use Rattle.syslog_loose.proofs.jumps.past_dashes.Goals as goal
 

@@ -1,8 +1,4 @@
-use Rattle.std.proofs.Common.{ℕ, length}
-use denote.Shadow.{shadow}
-use denote.Text.{Utf8}
-use Rattle.std.specs.Str.{chars}
-use Rattle.syslog_loose.specs.Jumps.{PassesDashes}
+use Rattle.syslog_loose.proofs.Names.{ℕ, length, shadow, Utf8, chars, PassesDashes}
 use Rattle.syslog_loose.proofs.jumps.past_many_dashes.Given as goal
 
 abbrev pub invariant-many : goal.invariant-many

@@ -1,5 +1,6 @@
-use Rattle.std.proofs.Common.{◌≡◌, ◌+◌, ◌*◌, ◌/◌, ◌%◌, refl, arith, string_bytes}
-use Rattle.syslog_loose.proofs.JumpLemmas.{colons_pushed, map_ok}
+use Rattle.syslog_loose.proofs.Names.{◌≡◌, ◌+◌, ◌*◌, ◌%◌, refl, arith, on_ok_weaker, string_bytes}
+use Rattle.std.proofs.Common.{◌/◌}
+use Rattle.syslog_loose.proofs.JumpLemmas.{colons_pushed}
 use Rattle.syslog_loose.proofs.jumps.push_colons.Goals as goal
 
 pub returns : goal.returns
@@ -7,6 +8,6 @@ returns c =
     let n = c.args.count in
     let same : (n / 16) * 16 + (n % 16) * 1 ≡ n = omega arith in
     let first = c.in_ok-push_runs.ensures 16 refl in
-    let second = c.push_runs-2.ensures 1 refl in
-    map_ok c.push_runs-2.result second (λ e.
-    colons_pushed (string_bytes c.args.text.now) _ _ ((n / 16) * 16) ((n % 16) * 1) n first e same)
+    on_ok_weaker c.push_runs-2.result
+    (λ e. colons_pushed (string_bytes c.args.text.now) _ _ ((n / 16) * 16) ((n % 16) * 1) n first e same)
+    (c.push_runs-2.ensures 1 refl)

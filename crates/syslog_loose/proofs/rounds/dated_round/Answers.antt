@@ -1,23 +1,16 @@
-use Rattle.std.specs.Prelude.{string_bytes}
-use Rattle.std.proofs.lemmas.Result.{err_from_is_err_and}
-use Rattle.std.proofs.lemmas.Str.{IsUtf8-string_bytes}
-use Rattle.syslog_pieces.specs.Timestamp.Zone.{dating_value}
-use Rattle.syslog_loose.specs.Verbatim3164.{PrintsAs3164}
-use Rattle.syslog_loose.proofs.ReadingLemmas.{invalid_or_memory, no_ok, found_text}
-use Rattle.syslog_loose.proofs.SettlingLemmas.Settles.{round_freely}
+use Rattle.syslog_loose.proofs.Names.{err_from_is_err_and, IsUtf8-string_bytes}
+use Rattle.syslog_loose.proofs.ReadingLemmas.{found_text}
+use Rattle.syslog_loose.proofs.SettlingLemmas.Settles.{copy_refused, round_freely}
 use Rattle.syslog_loose.proofs.rounds.dated_round.Goals as goal
 
 pub returns-in_err-copied : goal.returns-in_err-copied
 returns-in_err-copied c whole e =
     let (_, f, same) = err_from_is_err_and c.from_residual.result c.from_residual.ensures.1 in
-    rw (f, same) (
-      λ i. absurd (invalid_or_memory i),
-      λ u. absurd (no_ok _ _ c.in_err-copied.was (c.dated_text.ensures.memory _ _ (c.requires.shows whole e) u)),
-    )
+    rw (f, same)
+    (copy_refused _ _ _ _ _ c.in_err-copied.was (c.dated_text.ensures.memory _ _ (c.requires.shows whole e)))
 
 pub returns-then-copied : goal.returns-then-copied
 returns-then-copied c whole e =
-    let dating = dating_value c.args.dating.now in
-    let k = found_text (PrintsAs3164 c.args.variant dating whole (string_bytes c.dated_text.new.text))
-    _ _ c.in_ok-copied.was c.if-copied.true (c.dated_text.ensures.text _ _ (c.requires.shows whole e)) in
+    let text = c.dated_text.ensures.text _ _ (c.requires.shows whole e) in
+    let k = found_text _ _ _ c.in_ok-copied.was c.if-copied.true text in
     round_freely _ _ c.args.skips _ _ (IsUtf8-string_bytes c.dated_text.new.text) k

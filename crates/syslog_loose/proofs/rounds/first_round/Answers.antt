@@ -1,15 +1,9 @@
-use Rattle.std.proofs.Common.{None, refl, subst}
-use Rattle.std.specs.Prelude.{string_bytes}
-use Rattle.std.proofs.lemmas.Result.{err_from_is_err_and}
-use Rattle.std.proofs.lemmas.Str.{IsUtf8-string_bytes}
-use Rattle.syslog_pieces.specs.Pieces.Class.{Text}
-use Rattle.syslog_pieces.specs.Timestamp.Zone.{dating_of}
+use Rattle.syslog_loose.proofs.Names.{None, refl, subst, err_from_is_err_and, IsUtf8-string_bytes, Text, dating_of}
 use Rattle.syslog_loose.specs.Beginning.{BeginsNone}
-use Rattle.syslog_loose.specs.VerbatimLine.{PrintsAs5424}
 use Rattle.syslog_loose.proofs.BeginningLemmas.{asks_no_year, no_reading}
 use Rattle.syslog_loose.proofs.Verbatim3164Lemmas.{dated_answered, asked_month}
-use Rattle.syslog_loose.proofs.ReadingLemmas.{answered_to, fault_in, invalid_or_memory, no_ok, found_text}
-use Rattle.syslog_loose.proofs.SettlingLemmas.Settles.{round_copied}
+use Rattle.syslog_loose.proofs.ReadingLemmas.{answered_to, fault_in, no_ok, found_text}
+use Rattle.syslog_loose.proofs.SettlingLemmas.Settles.{copy_refused, round_copied}
 use Rattle.syslog_loose.proofs.rounds.first_round.Goals as goal
 
 pub returns-in_err-copied : goal.returns-in_err-copied
@@ -18,17 +12,12 @@ returns-in_err-copied g c whole e =
     rw (f, same) (record {
       answered = None;
       is_answered = λ date asks. no_ok _ _ c.in_err-copied.was (c.verbatim_text.ensures.year whole e date asks);
-      holds =
-          λ year agrees. (
-            λ i. absurd (invalid_or_memory i),
-            λ u. absurd (no_ok _ _ c.in_err-copied.was (c.verbatim_text.ensures.memory whole e _ u)),
-          );
+      holds = λ year agrees. copy_refused _ _ _ _ _ c.in_err-copied.was (c.verbatim_text.ensures.memory whole e _);
     })
 
 pub returns-then-copied : goal.returns-then-copied
 returns-then-copied g c whole e =
-    let k = found_text (PrintsAs5424 c.args.variant whole (string_bytes c.verbatim_text.new.text))
-    _ _ c.in_ok-copied.was c.if-copied.true (c.verbatim_text.ensures.text whole e) in (
+    let k = found_text _ _ _ c.in_ok-copied.was c.if-copied.true (c.verbatim_text.ensures.text whole e) in (
       k.asks_none,
       round_copied c.args.variant (dating_of None c.args.tz c.args.local) c.args.skips _ _
           (IsUtf8-string_bytes c.verbatim_text.new.text) k,

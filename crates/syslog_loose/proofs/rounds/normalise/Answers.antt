@@ -1,8 +1,4 @@
-use Rattle.std.proofs.Common.{Ok, refl}
-use Rattle.std.specs.Str.{chars}
-use Rattle.std.proofs.lemmas.Result.{err_from_is_err_and}
-use Rattle.std.proofs.lemmas.Str.{IsUtf8-string_bytes}
-use Rattle.syslog_pieces.specs.Timestamp.Zone.{dating_of}
+use Rattle.syslog_loose.proofs.Names.{Ok, refl, chars, err_from_is_err_and, IsUtf8-string_bytes, dating_of}
 use Rattle.syslog_loose.proofs.ReadBackLemmas.{again_in, normalised, normalised_in}
 use Rattle.syslog_loose.proofs.rounds.normalise.Goals as goal
 

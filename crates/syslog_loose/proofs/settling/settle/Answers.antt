@@ -1,4 +1,4 @@
-use Rattle.std.proofs.lemmas.Result.{err_from_is_err_and}
+use Rattle.syslog_loose.proofs.Names.{err_from_is_err_and}
 use Rattle.syslog_loose.proofs.settling.settle.Goals as goal
 
 pub returns-in_err-settle_into-clause-settles : goal.returns-in_err-settle_into-clause-settles

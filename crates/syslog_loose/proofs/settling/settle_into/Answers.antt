@@ -1,7 +1,4 @@
-use Rattle.std.proofs.Common.{Ok}
-use Rattle.std.proofs.lemmas.Result.{err_from_is_err_and}
-use Rattle.std.specs.Str.{chars}
-use Rattle.syslog_pieces.specs.Timestamp.Zone.{dating_of}
+use Rattle.syslog_loose.proofs.Names.{Ok, err_from_is_err_and, chars, dating_of}
 use Rattle.syslog_loose.specs.Settling.{answer_in}
 use Rattle.syslog_loose.proofs.ReadingLemmas.{in_year_map}
 use Rattle.syslog_loose.proofs.SettlingLemmas.Settles.{first_answer, first_fault}
@@ -15,8 +12,8 @@ returns-in_err-round-clause-settles g c =
     (c.in_err-round.ensures _ c.trimmed-left.ensures))
 
 pub returns-in_err-round-clause-canonical : goal.returns-in_err-round-clause-canonical
-returns-in_err-round-clause-canonical g c = in_year_map
-    (λ year s. answer_canonical c.args.variant (dating_of year c.args.tz c.args.local) (chars c.args.input.now) _ s)
+returns-in_err-round-clause-canonical g c =
+    answer_canonical c.args.variant c.args.tz c.args.local _ (chars c.args.input.now) _
     (returns-in_err-round-clause-settles g c)
 
 pub returns-then-round-clause-settles : goal.returns-then-round-clause-settles
@@ -28,9 +25,9 @@ returns-then-round-clause-settles g c =
     told.1.told)
 
 pub returns-then-round-clause-canonical : goal.returns-then-round-clause-canonical
-returns-then-round-clause-canonical g c = in_year_map
-    (λ year s. answer_canonical c.args.variant (dating_of year c.args.tz c.args.local) (chars c.args.input.now)
-    (Ok c.first_round.new.text) s) (returns-then-round-clause-settles g c)
+returns-then-round-clause-canonical g c =
+    answer_canonical c.args.variant c.args.tz c.args.local _ (chars c.args.input.now) (Ok c.first_round.new.text)
+    (returns-then-round-clause-settles g c)
 
 pub returns-clause-settles : goal.returns-clause-settles
 returns-clause-settles g c =
@@ -39,6 +36,5 @@ returns-clause-settles g c =
     (answer_in c.settle_on.result c.settle_on.new.text) c.in_ok-round.round.year told.0 c.settle_on.ensures
 
 pub returns-clause-canonical : goal.returns-clause-canonical
-returns-clause-canonical g c = in_year_map
-    (λ year s. answer_canonical c.args.variant (dating_of year c.args.tz c.args.local) (chars c.args.input.now)
-    (answer_in c.settle_on.result c.settle_on.new.text) s) (returns-clause-settles g c)
+returns-clause-canonical g c =
+    answer_canonical c.args.variant c.args.tz c.args.local _ (chars c.args.input.now) _ (returns-clause-settles g c)

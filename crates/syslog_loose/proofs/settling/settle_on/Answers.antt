@@ -1,6 +1,4 @@
-use Rattle.std.proofs.Common.{◌+◌, arith}
-use Rattle.std.proofs.lemmas.Result.{err_from_is_err_and}
-use Rattle.std.specs.Str.{chars}
+use Rattle.syslog_loose.proofs.Names.{◌+◌, arith, err_from_is_err_and, chars}
 use Rattle.syslog_loose.proofs.SettlingLemmas.Settles.{round_fault, round_answer, round_more, too_many}
 use Rattle.syslog_loose.proofs.settling.settle_on.Goals as goal
 

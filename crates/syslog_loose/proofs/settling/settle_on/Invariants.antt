@@ -1,7 +1,5 @@
-use Rattle.std.proofs.Common.{string_bytes}
-use Rattle.std.specs.Str.{chars}
+use Rattle.syslog_loose.proofs.Names.{chars, ReachesFrom, string_bytes}
 use Rattle.syslog_pieces.specs.Timestamp.Zone.{dating_value}
-use Rattle.syslog_loose.specs.Settling.{ReachesFrom}
 use Rattle.syslog_loose.proofs.settling.settle_on.Given as goal
 
 -- so many rounds or more are not settled, and the text is the one behind them

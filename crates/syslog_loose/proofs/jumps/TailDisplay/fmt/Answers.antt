@@ -1,9 +1,6 @@
-use Rattle.std.proofs.Common.{refl, length, map, ◌<◌, arith}
+use Rattle.syslog_loose.proofs.Names.{refl, length, map, ◌<◌, arith, chars, shown, element_value}
 use Rattle.std.proofs.lemmas.Grind.{put_two}
 use Rattle.std.proofs.lemmas.List.{length-map}
-use Rattle.std.specs.Str.{chars}
-use Rattle.syslog_pieces.specs.Pieces.View.{shown}
-use Rattle.syslog_pieces.specs.StructuredData.Element.{element_value}
 use Rattle.syslog_pieces.proofs.TextLemmas.Chars.{nonempty_is}
 use Rattle.syslog_loose.proofs.JumpLemmas.{tail_elements}
 use Rattle.syslog_loose.proofs.jumps.TailDisplay.fmt.Goals as goal

@@ -1,4 +1,4 @@
-use Rattle.std.proofs.Common.{inl, inr}
+use Rattle.syslog_loose.proofs.Names.{inl, inr}
 use Rattle.syslog_loose.proofs.SettlingLemmas.Falls.{falls}
 use Rattle.syslog_loose.proofs.laws.settling.read_again_weighs_less.Goals as goal
 

@@ -1,4 +1,4 @@
-use Rattle.std.proofs.Common.{refl}
+use Rattle.syslog_loose.proofs.Names.{refl}
 use Rattle.syslog_loose.proofs.message.exceptions.has_no_exception.Goals as goal
 
 pub returns : goal.returns
