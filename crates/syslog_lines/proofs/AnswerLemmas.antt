@@ -21,9 +21,8 @@ use Rattle.syslog_lines.proofs.LineLemmas.{IsLines-cons, IsLines-nil, some_lines
 AllZip-append : {X Y : Type 0} (R : X → Y → Type 0) (xs more : List X) (ys others : List Y) → AllZip R xs ys
     → AllZip R more others → AllZip R (xs ++ more) (ys ++ others)
 AllZip-append R [] more [] others first second = second
-AllZip-append R [] more (y ∷ ys) others first second = absurd first
-AllZip-append R (x ∷ xs) more [] others first second = absurd first
 AllZip-append R (x ∷ xs) more (y ∷ ys) others first second = (first.0, AllZip-append R xs more ys others first.1 second)
+AllZip-append R xs more ys others first second = absurd first
 
 pub Wrote-none : (filter : Filter) (old new : Option (List ℕ)) → Keeps old new → Wrote filter [] old new
 Wrote-none filter old new same =
