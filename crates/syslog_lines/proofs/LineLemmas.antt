@@ -18,8 +18,7 @@ IsOther byte = byte ≢ 10
 pub IsFirstLine-at_feed : (bytes : List ℕ) (end : ℕ) → IsNextFeed bytes 0 end → end < length bytes
     → IsFirstLine bytes (take end bytes) (drop (end + 1) bytes)
 IsFirstLine-at_feed bytes end next some =
-    let feed : drop end bytes ≡ 10 ∷ drop (end + 1) bytes = drop_more bytes end 0 some
-    ∙ ap (λ (byte : ℕ). byte ∷ drop (end + 1) bytes) (next.feed some) in (
+    let feed = rw (next.feed some) at (drop_more bytes end 0 some) in (
       All-from_get_or IsOther (take end bytes) 0
           (λ k below. let within : k < end = omega (arith, length-take end bytes) in
           rw (get_or-take end bytes k 0 within) (next.before k (omega arith) within)),
@@ -64,15 +63,11 @@ lines_after lines more bytes free (rest, inr lacks) = (
   },
 )
 
--- one line with no line feed, unless it is empty
-last_line : (line : List ℕ) → NoFeed line → (lines : List (List ℕ)) × IsLines line lines
-last_line [] free = ([], IsLines-nil)
-last_line (byte ∷ line) free = (
-  (byte ∷ line) ∷ [],
-  (
-    All-cons NoFeed (byte ∷ line) [] free (All-nil NoFeed),
-    inr record { before = []; last = byte ∷ line; some = omega arith; listed = refl; joined = refl },
-  ),
+-- one line with no line feed
+one_line : (line : List ℕ) → NoFeed line → 0 < length line → IsLines line (line ∷ [])
+one_line line free some = (
+  All-cons NoFeed line [] free (All-nil NoFeed),
+  inr record { before = []; last = line; some = some; listed = refl; joined = refl },
 )
 
 -- a first line, and the lines of what follows it
@@ -82,11 +77,7 @@ IsLines-cons bytes line rest more some (free, inl feed) cut =
     rw (feed, ← append_assoc line (10 ∷ []) rest)
     (lines_after (line ∷ []) more rest (All-cons NoFeed line [] free (All-nil NoFeed)) cut)
 IsLines-cons bytes line rest more some (free, inr (same, empty)) cut =
-    let none : more ≡ [] = only_nil more (rw empty at cut) in
-    rw none (
-      All-cons NoFeed line [] free (All-nil NoFeed),
-      inr record { before = []; last = line; some = rw same at some; listed = refl; joined = same },
-    )
+    rw (only_nil more (rw empty at cut), same) (one_line line free (rw same at some))
 
 -- the bytes of a last line with no line feed don't end in one
 ends_free : (front last : List ℕ) → 0 < length last → NoFeed last → EndsInFeed (front ++ last) → ⊥
@@ -109,7 +100,9 @@ closed_lines bytes lines closed (free, inr lacks) =
 
 -- the lines of bytes behind some of their first line
 lines_behind : (front bytes : List ℕ) → NoFeed front → (lines : List (List ℕ)) × IsLines (front ++ bytes) lines
-lines_behind front [] free = rw append-nil (last_line front free)
+lines_behind [] [] free = ([], IsLines-nil)
+lines_behind (byte ∷ front) [] free =
+    ((byte ∷ front) ∷ [], rw append-nil (one_line (byte ∷ front) free (omega arith)))
 lines_behind front (byte ∷ bytes) free = elim (cases_eq byte 10) [
   | inl feed ↦
       let (lines, cut) = lines_behind [] bytes (All-nil IsOther) in

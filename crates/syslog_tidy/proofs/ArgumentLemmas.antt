@@ -53,10 +53,8 @@ flag_first (x ∷ xs) d flag some same =
     rw (take_all (length (x ∷ xs) - 1) xs (omega arith), (bytes_decides x.now flag).0 same) refl
 
 -- where neither word stands alone and there are no arguments, nothing is asked for
-pub no_task : (words : List (List ℕ)) (helps versions : Bool) → IsTrue helps ↔ (words ≡ help_word ∷ [])
-    → IsTrue versions ↔ (words ≡ version_word ∷ []) → helps ≡ false → versions ≡ false
+pub no_task : (words : List (List ℕ)) → ¬ (words ≡ help_word ∷ []) → ¬ (words ≡ version_word ∷ [])
     → ((other : Output) (year : ℤ) → ¬ (AreArguments words other year)) → (task : Task) → ¬ (AsksFor words task)
-no_task words helps versions help version no_help no_version none Help asks = false≢true (sym no_help ∙ help.1 asks)
-no_task words helps versions help version no_help no_version none Version asks =
-    false≢true (sym no_version ∙ version.1 asks)
-no_task words helps versions help version no_help no_version none (Lines output year) asks = none output year asks
+no_task words no_help no_version none Help = no_help
+no_task words no_help no_version none Version = no_version
+no_task words no_help no_version none (Lines output year) = none output year
