@@ -15,7 +15,7 @@ use Rattle.std.specs.List.Sorted.{IsStrictlySortedBy}
 use Rattle.std.specs.Ordering.{match_ordering, ordering_reverse}
 use Rattle.std.specs.Prelude.{⊤}
 use Rattle.serde_json.specs.Data.{Data, array, object, Members, no_members, member, put, depth}
-use Rattle.serde_json.specs.Find.{as_array, get_member}
+use Rattle.serde_json.specs.Find.{get_member}
 use Rattle.serde_json.specs.View.{items_of, items_view, view}
 use Rattle.serde_json.specs.Written.{has_float}
 use Rattle.serde_json.specs.declared.value.Value.{Value}
@@ -26,20 +26,18 @@ use Rattle.syslog_json.specs.Json.{Gathers, IsSingle, Pair, member_keys, one_or_
 
 items_of-injective : (xs ys : List Data) → items_of xs ≡ items_of ys → xs ≡ ys
 items_of-injective [] [] same = refl
-items_of-injective [] (y ∷ ys) same = absurd cc
-items_of-injective (x ∷ xs) [] same = absurd cc
 items_of-injective (x ∷ xs) (y ∷ ys) same =
     let rest = items_of-injective xs ys cc in
     let first : x ≡ y = cc in
     rw (rest, first) refl
+items_of-injective xs ys same = absurd cc
 
 pub joined_array : (vs more : List Value) (v : Value) (values : List Data) → more ≡ vs ++ v ∷ []
     → AllByRecursion IsSingle values → Some (array (items_view vs)) ≡ one_or_all values
     → Some (array (items_view more)) ≡ one_or_all (values ++ view v ∷ [])
 joined_array vs more v [] added single found = absurd cc
-joined_array vs more v (d ∷ []) added single found = absurd
-    (let none = single.0 in let e : d ≡ array (items_view vs) = cc in
-    let some = subst (λ (x : Data). as_array x ≡ None) e none in cc)
+joined_array vs more v (d ∷ []) added single found =
+    let same : d ≡ array (items_view vs) = cc in absurd (let none = rw same at single.0 in cc)
 joined_array vs more v (d ∷ e ∷ ds) added single found =
     let listed : map view vs ≡ d ∷ e ∷ ds = items_of-injective (map view vs) (d ∷ e ∷ ds) cc in
     ap (λ (xs : List Data). Some (array (items_of xs)))
@@ -147,7 +145,8 @@ found_each P no_members ascends at = tt
 found_each P (member k d ms) ascends at = (
   at k d (rw (tied_itself nat_list_cmp_total k) refl),
   found_each P ms ascends.1 (λ key e found. at key e (each_picked (λ r. r ≡ Some e) (slice_cmp nat_cmp key k) _ _ _
-      (λ is. found) (λ is. absurd (let none = absent k ms ascends.0 in let same = tied_same key k is in cc)) (λ is. found))),
+      (λ is. found) (λ is. absurd (let none = absent k ms ascends.0 in let same = tied_same key k is in cc))
+      (λ is. found))),
 )
 
 pub flat_object : (n : ℕ) (ms : Members) → EachMember (IsFlat n) ms → IsFlat (suc n) (object ms)

@@ -104,7 +104,8 @@ each_pair Is P each xs pairs named = absurd (assumption named)
 
 flat_element : (element : ElementValue) (pair : Pair) → IsElementPair element pair → IsFlat 2 pair.1
 flat_element element pair (named, is) = rw (is.whole) (flat_gathered 0 is.pairs is.members is.gathered
-    (each_pair IsParamPair (λ p. IsFlat 0 p.1) (λ param p h. rw (h.1.2) (refl, omega arith)) element.params is.pairs is.named))
+    (each_pair IsParamPair (λ p. IsFlat 0 p.1) (λ param p h. rw (h.1.2) (refl, omega arith))
+    element.params is.pairs is.named))
 
 -- the value, if any, has no float and nests no deeper
 abbrev IsFlatField : Option Data → Type 0
@@ -140,5 +141,7 @@ each_fields ((key, Some value) ∷ fields) ms flat each =
     each_fields fields (put key value ms) flat.1 (each_put (IsFlat 4) key value ms flat.0 each)
 
 pub flat_message : (m : MessageValue) (value : Data) → IsMessageJson m value → IsFlat 5 value
-flat_message m value (structured, is, whole) = rw whole (flat_object 4 _ (each_fields (fields_of m structured) no_members
-    (search (rules, flat_optional, flat_version, flat_process, flat_structured m.structured_data structured is)) tt))
+flat_message m value (structured, is, whole) =
+    let flat = flat_structured m.structured_data structured is in
+    rw whole (flat_object 4 _ (each_fields (fields_of m structured) no_members
+    (search (rules, flat_optional, flat_version, flat_process, flat)) tt))

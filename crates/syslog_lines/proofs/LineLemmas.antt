@@ -11,7 +11,8 @@ use Rattle.std.specs.List.{All}
 use Rattle.syslog_lines.specs.Lines.{NoFeed, with_feeds, IsLines, IsFirstLine, EndsInFeed}
 use Rattle.syslog_lines.specs.Search.{IsNextFeed}
 
-abbrev IsOther : ℕ → Type 0
+-- the byte is no line feed
+abbrev pub IsOther : ℕ → Type 0
 IsOther byte = byte ≢ 10
 
 -- the bytes in two, at the first line feed

@@ -1,5 +1,5 @@
 -- What a run wrote is written again by a run in the same year: each of its lines is settled, and no other.
-use Rattle.std.proofs.Common.{◌≡◌, ◌≢◌, ℕ, zero, suc, ℤ, Bool, true, false, cond}
+use Rattle.std.proofs.Common.{◌≡◌, ◌≢◌, ℕ, zero, suc, ℤ, true}
 use Rattle.std.proofs.Common.{nat_lt, List, [], ◌∷◌, ◌++◌, length, length-append, Option}
 use Rattle.std.proofs.Common.{inl, inr, refl, sym, ap, subst, ◌∙◌, arith, append_assoc, append-nil}
 use Rattle.std.proofs.Math.Utf8.{scalars}
@@ -13,7 +13,7 @@ use Rattle.std.specs.Io.KnownBytes.{Appends}
 use Rattle.std.specs.List.{All, AllByRecursion}
 use Rattle.std.specs.Prelude.{IsUtf8, encode_utf8_all, count_by, not}
 use Rattle.std.specs.Str.{chars}
-use Rattle.syslog_loose.specs.OneLine.{is_no_feed, IsOneLine}
+use Rattle.syslog_loose.specs.OneLine.{IsOneLine}
 use Rattle.syslog_loose.specs.Message.{MessageValue}
 use Rattle.syslog_loose.specs.Printed.{printed}
 use Rattle.syslog_loose.specs.Reading.{IsRead, in_utc}
@@ -25,13 +25,10 @@ use Rattle.syslog_lines.specs.declared.summary.Summary.{Summary}
 use Rattle.syslog_lines.specs.Lines.{NoFeed, with_feeds, IsLines}
 use Rattle.syslog_lines.specs.Count.{held_count}
 use Rattle.syslog_lines.specs.Output.{Answer, AreAnswers, Marked, Omitted, Written, is_passed_over, output_of}
-use Rattle.syslog_lines.proofs.LineLemmas.{all_behind, all_front}
+use Rattle.syslog_lines.proofs.LineLemmas.{IsOther, all_behind, all_front}
 use Rattle.syslog_tidy.specs.Filters.{TidiesAll, WritesAgain, tidying}
 
 -- ---- line feeds in bytes and in characters
-abbrev IsOther : ℕ → Type 0
-IsOther byte = byte ≢ 10
-
 encoded_free : (c : ℕ) → c ≢ 10 → NoFeed (encode_utf8 c)
 unfolding encode_utf8
 encoded_free c other =

@@ -1,8 +1,7 @@
 -- The program's arguments as words.
-use Rattle.std.proofs.Common.{◌≡◌, ℕ, ℤ, ◌-◌, ◌<◌, ◌≤◌, Bor, Bool, false, ◌↔◌, List, [], ◌∷◌, ◌++◌, length, map}
-use Rattle.std.proofs.Common.{take, drop, get_or, IsTrue, ap, inl, inr, nat_eq, refl, sym, true, ◌∙◌, arith}
+use Rattle.std.proofs.Common.{◌≡◌, ℕ, ℤ, ◌-◌, ◌<◌, ◌≤◌, Bor, List, [], ◌∷◌, ◌++◌, length, map}
+use Rattle.std.proofs.Common.{take, drop, get_or, ap, inl, inr, nat_eq, refl, sym, true, ◌∙◌, arith}
 use Rattle.std.specs.Cmp.Lexicographic.{bytes_decides, pointwise}
-use Rattle.std.proofs.lemmas.Bool.{false≢true}
 use Rattle.std.proofs.lemmas.List.{take_all}
 use Rattle.syslog_lines.specs.Arguments.{AreYearWords, help_word, version_word}
 use Rattle.syslog_tidy.specs.Arguments.{AreArguments, AsksFor, OnlyFlag, changed_word, flags_of, refused_word}

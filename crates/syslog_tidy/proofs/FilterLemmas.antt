@@ -12,7 +12,7 @@ use Rattle.syslog_loose.specs.declared.fault.ParseFault.TheVariants.{Invalid, Me
 use Rattle.syslog_loose.specs.declared.variant.Variant.TheVariants.{Either}
 use Rattle.syslog_tidy.specs.Filters.{IsTidied, SharesOut}
 use Rattle.syslog_tidy.specs.Filters.{refusing, tidying}
-use Rattle.syslog_lines.specs.Output.{Answer, AreAnswers, Marked}
+use Rattle.syslog_lines.specs.Output.{Answer, AreAnswers}
 use Rattle.syslog_lines.specs.Output.{Omitted, Written, is_answered, is_passed_over}
 
 -- exactly one of two answers to a line is written
