@@ -1,7 +1,7 @@
 -- Arrays that are written from the front.
-use Rattle.std.proofs.Common.{◌≡◌, ◌∙◌, refl, sym, ap, subst, ℕ, suc, ◌+◌, ◌-◌, ◌<◌, ◌≤◌, List, [], ◌∷◌, ◌++◌}
-use Rattle.std.proofs.Common.{length, get_or, set, take, drop, arith, add-one, append-nil, length-append}
-use Rattle.std.proofs.Common.{length-drop, drop_of_length-le, length-take-le, take_all, drop-cons, map, min, ◌^◌}
+use Rattle.std.proofs.Common.{◌≡◌, ◌∙◌, refl, sym, ap, ℕ, ◌+◌, ◌-◌, ◌<◌, ◌≤◌, List, [], ◌∷◌, ◌++◌}
+use Rattle.std.proofs.Common.{length, get_or, set, take, drop, arith, append-nil, length-append}
+use Rattle.std.proofs.Common.{length-drop, drop_of_length-le, length-take-le, take_all, map, min, ◌^◌}
 use Rattle.std.proofs.Math.Seq.{drop-append-add, take-append-add}
 use Rattle.std.specs.List.{AllZip, flat_map}
 use Rattle.std.proofs.lemmas.Grind.{flat_map-append}

@@ -14,7 +14,7 @@ use Rattle.syslog_loose.proofs.ReadingLemmas.{invalid_or_memory}
 use Rattle.syslog_c.specs.Room.{IsLeftFor, Puts}
 use Rattle.syslog_c.specs.Texts.{IsPrintedLine, IsSettledText, Leaves, Normalised, PrintsNot, Settled, SettlesNot}
 use Rattle.syslog_c.specs.declared.outcome.Outcome.{Outcome}
-use Rattle.syslog_c.specs.declared.outcome.Outcome.TheVariants.{Done, NoReading, NotUtf8, NoMemory, NoRoom, BadArgument}
+use Rattle.syslog_c.specs.declared.outcome.Outcome.TheVariants.{Done, NoRoom}
 
 -- an answer that was put into the room
 pub put_leaves : (Is : List ℕ → Type 0) (Fails : Outcome → Type 0) (bytes old new : List ℕ) (needed : ℕ) → Is bytes

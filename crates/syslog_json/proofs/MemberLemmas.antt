@@ -1,7 +1,6 @@
 -- The members of objects: their order, and what is found at a key.
-use Rattle.std.proofs.Common.{◌≡◌, ℕ, suc, ◌≤◌, List, [], ◌∷◌, ◌++◌, map, Some, None, inl, inr}
-use Rattle.std.proofs.Common.{Ordering, Less, Equal, Greater, false}
-use Rattle.std.proofs.Common.{bytes_eq, nat_cmp, refl, sym, ap, subst, ◌∙◌, arith, append-nil}
+use Rattle.std.proofs.Common.{◌≡◌, ℕ, suc, ◌≤◌, List, [], ◌∷◌, ◌++◌, map, Some, None, inl, inr, Ordering, Less, Equal}
+use Rattle.std.proofs.Common.{Greater, false, bytes_eq, nat_cmp, refl, sym, ap, subst, ◌∙◌, arith, append-nil}
 use Rattle.std.proofs.lemmas.Bool.{cases_Bool, cond_both}
 use Rattle.std.proofs.lemmas.Bool.Decides.{not_from_Decides}
 use Rattle.std.proofs.lemmas.Cmp.{nat_list_cmp_total, tied_itself}

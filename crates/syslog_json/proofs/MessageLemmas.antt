@@ -1,7 +1,6 @@
 -- The JSON of messages: how elements are gathered, and that no value of it has a float or nests deep.
-use Rattle.std.proofs.Common.{◌≡◌, ℕ, pos, negsuc, List, [], ◌∷◌, ◌++◌, map, Option, Some}
-use Rattle.std.proofs.Common.{None, refl, sym, ap, ◌∙◌, arith, rules, append_assoc, append-nil}
-use Rattle.std.proofs.Common.{Result, Ok}
+use Rattle.std.proofs.Common.{◌≡◌, ℕ, pos, negsuc, List, [], ◌∷◌, ◌++◌, map, Option, Some, None, refl, sym, ap, ◌∙◌}
+use Rattle.std.proofs.Common.{arith, rules, append_assoc, append-nil, Result, Ok}
 use Rattle.std.specs.Borrow.{Bor}
 use Rattle.std.specs.Global.{Global}
 use Rattle.std.specs.Prelude.{IsUtf8, String, ⊤, encode_utf8_all, string_bytes}
@@ -20,9 +19,8 @@ use Rattle.syslog_loose.specs.declared.message.Protocol.{Protocol}
 use Rattle.syslog_loose.specs.declared.message.Protocol.TheVariants.{RFC3164, RFC5424}
 use Rattle.syslog_loose.specs.Message.{MessageValue}
 use Rattle.serde_json.specs.Data.{Data, string, Members, no_members, put}
-use Rattle.syslog_json.specs.Json.{Field, Gathers, IsElementPair, IsElementsJson, IsMessageJson, IsParamPair}
-use Rattle.syslog_json.specs.Json.{IsSingle, IsStructuredJson, Pair, fields_of, process_json}
-use Rattle.syslog_json.specs.Json.{version_json, with_fields}
+use Rattle.syslog_json.specs.Json.{Field, Gathers, IsElementPair, IsElementsJson, IsMessageJson, IsParamPair, IsSingle}
+use Rattle.syslog_json.specs.Json.{IsStructuredJson, Pair, fields_of, process_json, version_json, with_fields}
 use Rattle.syslog_json.proofs.MemberLemmas.{EachMember, IsFlat, each_put, flat_gathered, flat_object}
 
 -- ---- gathering

@@ -4,8 +4,7 @@ use Rattle.std.specs.Prelude.{count_by, not}
 use Rattle.std.proofs.lemmas.List.Sums.{sum_by-append}
 use Rattle.std.proofs.lemmas.Slice.Zip.{AllZip-long}
 use Rattle.syslog_lines.specs.Count.{held_count}
-use Rattle.syslog_lines.specs.Output.{Answer, AreAnswers, Counts, Filter, HasCounted}
-use Rattle.syslog_lines.specs.Output.{is_answered, is_passed_over}
+use Rattle.syslog_lines.specs.Output.{Answer, AreAnswers, Counts, Filter, HasCounted, is_answered, is_passed_over}
 use Rattle.syslog_lines.specs.declared.summary.Tally.{Tally}
 
 count-append : (keep : Answer → Bool) (xs ys : List Answer)

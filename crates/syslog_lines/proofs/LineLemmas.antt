@@ -106,9 +106,11 @@ lines_behind (byte ∷ front) [] free =
     ((byte ∷ front) ∷ [], rw append-nil (one_line (byte ∷ front) free (omega arith)))
 lines_behind front (byte ∷ bytes) free = elim (cases_eq byte 10) [
   | inl feed ↦
-      let (lines, cut) = lines_behind [] bytes (All-nil IsOther) in
-      (front ∷ lines, IsLines-cons _ front bytes lines (simp length-append (omega arith))
-      (free, inl (ap (λ b. front ++ b ∷ bytes) feed)) cut)
+      let (lines, cut) = lines_behind [] bytes (All-nil IsOther) in (
+        front ∷ lines,
+        IsLines-cons _ front bytes lines (simp length-append (omega arith))
+            (free, inl (ap (λ b. front ++ b ∷ bytes) feed)) cut,
+      )
   | inr other ↦ rw (← append_assoc front (byte ∷ []) bytes)
       (lines_behind (front ++ byte ∷ []) bytes (All-push IsOther front byte free other))
 ]

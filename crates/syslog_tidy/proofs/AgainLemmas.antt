@@ -1,7 +1,6 @@
 -- What a run wrote is written again by a run in the same year: each of its lines is settled, and no other.
-use Rattle.std.proofs.Common.{◌≡◌, ◌≢◌, ℕ, zero, suc, ℤ, true}
-use Rattle.std.proofs.Common.{nat_lt, List, [], ◌∷◌, ◌++◌, length, length-append, Option}
-use Rattle.std.proofs.Common.{inl, inr, refl, sym, ap, subst, ◌∙◌, arith, append_assoc, append-nil}
+use Rattle.std.proofs.Common.{◌≡◌, ◌≢◌, ℕ, zero, suc, ℤ, true, nat_lt, List, [], ◌∷◌, ◌++◌, length, length-append}
+use Rattle.std.proofs.Common.{Option, inl, inr, refl, sym, ap, subst, ◌∙◌, arith, append_assoc, append-nil}
 use Rattle.std.proofs.Math.Utf8.{scalars}
 use Rattle.std.proofs.lemmas.Bool.{cond_both, eqb-false, not-true}
 use Rattle.std.proofs.lemmas.Bool.Decides.{eqb_tells}
@@ -150,7 +149,6 @@ all_at_rest year (line ∷ lines) (Written bytes ∷ answers) free ((utf8, (text
   subst (IsAtRest year) (sym same) (at_rest year line text (All-head NoFeed line lines free) utf8 first),
   all_at_rest year lines answers (All-tail NoFeed line lines free) h,
 )
-
 all_at_rest year (line ∷ lines) (Marked bytes ∷ answers) free h = absurd h.0
 all_at_rest year lines answers free h = absurd h
 
@@ -161,7 +159,6 @@ answered_again year [] [] h k = (refl, refl)
 answered_again year (t ∷ ts) (a ∷ answers) h k =
     let (same, none) = answered_again year ts answers h.1 k.1 in
     rw (h.0.1 a k.0) (append_assoc t (10 ∷ []) (output_of answers) ∙ ap (λ (l : List ℕ). t ++ 10 ∷ l) same, none)
-
 answered_again year ts answers h k = absurd k
 
 -- ---- the run

@@ -10,10 +10,8 @@ use Rattle.syslog_loose.proofs.ReadingLemmas.{invalid_or_memory}
 use Rattle.syslog_loose.specs.declared.fault.ParseFault.{ParseFault}
 use Rattle.syslog_loose.specs.declared.fault.ParseFault.TheVariants.{Invalid, Memory}
 use Rattle.syslog_loose.specs.declared.variant.Variant.TheVariants.{Either}
-use Rattle.syslog_tidy.specs.Filters.{IsTidied, SharesOut}
-use Rattle.syslog_tidy.specs.Filters.{refusing, tidying}
-use Rattle.syslog_lines.specs.Output.{Answer, AreAnswers}
-use Rattle.syslog_lines.specs.Output.{Omitted, Written, is_answered, is_passed_over}
+use Rattle.syslog_tidy.specs.Filters.{IsTidied, SharesOut, refusing, tidying}
+use Rattle.syslog_lines.specs.Output.{Answer, AreAnswers, Omitted, Written, is_answered, is_passed_over}
 
 -- exactly one of two answers to a line is written
 one_written : (year : ℤ) (line : List ℕ) (settled refused : Answer) → (tidying year).Answers line settled
@@ -30,7 +28,6 @@ pub shared_out : (year : ℤ) (lines : List (List ℕ)) (refused : List Answer) 
 shared_out year [] [] r [] s = tt
 shared_out year (line ∷ lines) (a ∷ refused) r (x ∷ settled) s =
     (one_written year line x a s.0 r.0, shared_out year lines refused r.1 settled s.1)
-
 shared_out year lines refused r settled s = absurd (assumption (r, s))
 
 -- a text that has a round has a reading
