@@ -14,17 +14,14 @@ use Rattle.syslog_loose.proofs.ReadingLemmas.{invalid_or_memory}
 use Rattle.syslog_c.specs.Room.{IsLeftFor, Puts}
 use Rattle.syslog_c.specs.Texts.{IsPrintedLine, IsSettledText, Leaves, Normalised, PrintsNot, Settled, SettlesNot}
 use Rattle.syslog_c.specs.declared.outcome.Outcome.{Outcome}
-use Rattle.syslog_c.specs.declared.outcome.Outcome.TheVariants.{Done, NoReading, NotUtf8, NoMemory, NoRoom, BadArgument}
+use Rattle.syslog_c.specs.declared.outcome.Outcome.TheVariants.{Done, NoRoom}
 
 -- an answer that was put into the room
 pub put_leaves : (Is : List ℕ → Type 0) (Fails : Outcome → Type 0) (bytes old new : List ℕ) (needed : ℕ) → Is bytes
     → (outcome : Outcome) → Puts bytes old new needed outcome → Leaves Is Fails old new needed outcome
 put_leaves Is Fails bytes old new needed is Done puts = (bytes, is, puts)
 put_leaves Is Fails bytes old new needed is NoRoom puts = (bytes, is, puts)
-put_leaves Is Fails bytes old new needed is NoReading puts = absurd puts
-put_leaves Is Fails bytes old new needed is NotUtf8 puts = absurd puts
-put_leaves Is Fails bytes old new needed is NoMemory puts = absurd puts
-put_leaves Is Fails bytes old new needed is BadArgument puts = absurd puts
+put_leaves Is Fails bytes old new needed is outcome puts = absurd puts
 
 module _ (variant : Variant) (dating : Dating) (text : Text) (old new : List ℕ) (needed : ℕ) (outcome : Outcome) where
   pub settled_answer : (answer : Result (String Global) ParseFault) → Settles variant dating text answer

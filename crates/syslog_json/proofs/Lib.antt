@@ -1,4 +1,3 @@
-pub mod ArgumentLemmas
 pub mod MemberLemmas
 pub mod TextLemmas
 pub mod MessageLemmas

@@ -1,6 +1,7 @@
 -- The text of a value has no control character.
-use Rattle.std.proofs.Common.{◌≡◌, ℕ, zero, suc, ◌+◌, ◌<◌, ◌≤◌, ◌/◌, ◌%◌, negsuc, pos, List, [], ◌∷◌}
-use Rattle.std.proofs.Common.{◌++◌, cond, Bool, true, false, nat_lt, ◌==◌, decimal, refl, subst, arith}
+use Rattle.std.proofs.Common.{ℕ, zero, suc, ◌<◌, ◌≤◌, ◌/◌, ◌%◌, negsuc, pos, List, [], ◌∷◌}
+use Rattle.std.proofs.Common.{◌++◌, Bool, true, false, nat_lt, ◌==◌, decimal, subst, arith}
+use Rattle.std.proofs.lemmas.Bool.{cond_both}
 use Rattle.std.proofs.lemmas.Grind.{common_steps}
 use Rattle.std.proofs.DigitsParse.{digits_onto-nil}
 use Rattle.std.specs.Char.{digit_char}
@@ -21,26 +22,17 @@ joined (x ∷ xs) ys h k = (h.0, joined xs ys h.1 k)
 -- ---- strings
 
 hex : (d : ℕ) → 32 ≤ digit_char d
-hex d = at (nat_lt d 10)
-  where
-    at : (b : Bool) → 32 ≤ cond b (48 + d) (87 + d)
-    at true = omega arith
-    at false = omega arith
+hex d = cond_both (nat_lt d 10) _ _ (λ n. 32 ≤ n) (λ _. omega arith) (λ _. omega arith)
 
 letter : (x : ℕ) → 0 < escape_letter x → 32 ≤ escape_letter x
 letter x some = grind (arith, common_steps, some)
 
-byte_at : (short low : Bool) (x : ℕ) → nat_lt 0 (escape_letter x) ≡ short → nat_lt x 32 ≡ low
-    → Printable (cond short (92 ∷ escape_letter x ∷ [])
-    (cond low (92 ∷ 117 ∷ 48 ∷ 48 ∷ digit_char (x / 16) ∷ digit_char (x % 16) ∷ []) (x ∷ [])))
-byte_at true low x is below = (omega arith, (letter x (grind (arith, is)), tt))
-byte_at false true x is below =
-    (omega arith, (omega arith, (omega arith, (omega arith, (hex (x / 16), (hex (x % 16), tt))))))
-byte_at false false x is below = (grind (arith, below), tt)
-
 escaped_byte : (x : ℕ) → Printable (escape_byte x)
 unfolding escape_byte
-escaped_byte x = byte_at _ _ x refl refl
+escaped_byte x = cond_both (nat_lt 0 (escape_letter x)) _ _ Printable
+    (λ short. (omega arith, (letter x (grind (arith, short)), tt)))
+    (λ _. cond_both (nat_lt x 32) _ _ Printable
+    (λ _. omega (arith, hex (x / 16), hex (x % 16))) (λ high. (grind (arith, high), tt)))
 
 escaped : (s : List ℕ) → Printable (escape s)
 escaped [] = tt
@@ -51,18 +43,11 @@ in_quotes s = (omega arith, joined (escape s) (34 ∷ []) (escaped s) (omega ari
 
 -- ---- numbers
 
-glyph : (d : ℕ) → 32 ≤ digit_glyph false d
-glyph d = hex d
-
-onto_at : (last : Bool) (xs ys : List ℕ) → Printable xs → Printable ys → Printable (cond last xs ys)
-onto_at true xs ys h k = h
-onto_at false xs ys h k = k
-
 onto : (k n : ℕ) (acc : List ℕ) → Printable acc → Printable (digits_onto k 10 false n acc)
 onto zero n acc h = h
 onto (suc k) n acc h =
-    let more : Printable (digit_glyph false (n % 10) ∷ acc) = (glyph (n % 10), h) in
-    onto_at (n / 10 == 0) _ _ more (onto k (n / 10) _ more)
+    let more : Printable (digit_glyph false (n % 10) ∷ acc) = (hex (n % 10), h) in
+    cond_both (n / 10 == 0) _ _ Printable (λ _. more) (λ _. onto k (n / 10) _ more)
 
 in_decimal : (n : ℕ) → Printable (decimal n)
 in_decimal n = subst Printable (digits_onto-nil 10 false n) (onto 64 n [] tt)
@@ -79,14 +64,11 @@ comma : (later : Bool) → Printable (comma_if later)
 comma true = (omega arith, tt)
 comma false = tt
 
-boolean_text : (b : Bool) → Printable (compact_text (boolean b))
-boolean_text true = (omega arith, (omega arith, (omega arith, (omega arith, tt))))
-boolean_text false = (omega arith, (omega arith, (omega arith, (omega arith, (omega arith, tt)))))
-
 mutual
   pub printable : (d : Data) → Printable (compact_text d)
-  printable null = (omega arith, (omega arith, (omega arith, (omega arith, tt))))
-  printable (boolean b) = boolean_text b
+  printable null = omega arith
+  printable (boolean true) = omega arith
+  printable (boolean false) = omega arith
   printable (number n) = in_number n
   printable (string s) = in_quotes s
   printable (array ds) = (omega arith, items false ds)

@@ -6,6 +6,7 @@ use Rattle.std.specs.List.{AllZip}
 use Rattle.std.specs.Io.KnownBytes.{Keeps}
 use Rattle.std.proofs.KnownBytes.{Appends-kept, Appends-nil, Appends-trans}
 use Rattle.std.proofs.lemmas.Bool.{eqb-true}
+use Rattle.std.proofs.lemmas.Bool.Decides.{nat_tests}
 use Rattle.std.proofs.lemmas.List.Concat.{flat_map-append}
 use Rattle.std.proofs.Math.Seq.{take-append-add}
 use Rattle.syslog_lines.specs.Count.{held_count}
@@ -21,9 +22,8 @@ use Rattle.syslog_lines.proofs.LineLemmas.{IsLines-cons, IsLines-nil, some_lines
 AllZip-append : {X Y : Type 0} (R : X → Y → Type 0) (xs more : List X) (ys others : List Y) → AllZip R xs ys
     → AllZip R more others → AllZip R (xs ++ more) (ys ++ others)
 AllZip-append R [] more [] others first second = second
-AllZip-append R [] more (y ∷ ys) others first second = absurd first
-AllZip-append R (x ∷ xs) more [] others first second = absurd first
 AllZip-append R (x ∷ xs) more (y ∷ ys) others first second = (first.0, AllZip-append R xs more ys others first.1 second)
+AllZip-append R xs more ys others first second = absurd first
 
 pub Wrote-none : (filter : Filter) (old new : Option (List ℕ)) → Keeps old new → Wrote filter [] old new
 Wrote-none filter old new same =
@@ -98,18 +98,12 @@ Answered-one filter line old new was is answered (answer, given, added, same) mo
 -- nothing was added for a first line
 pub AnswersBefore-here : (filter : Filter) (bytes line rest : List ℕ) (old new : Option (List ℕ)) → 0 < length bytes
     → IsFirstLine bytes line rest → filter.Wants line → Keeps old new → AnswersBefore filter bytes old new
-AnswersBefore-here filter bytes line rest old new some first wanted same = let (lines, cut) = some_lines rest in (
-  line ∷ lines,
-  IsLines-cons bytes line rest lines some first cut,
-  record {
-    before = [];
-    line = line;
-    after = lines;
-    listed = refl;
-    wanted = wanted;
-    wrote = Wrote-none filter old new same;
-  },
-)
+AnswersBefore-here filter bytes line rest old new some first wanted same =
+    let (lines, cut) = some_lines rest in
+    let none = Wrote-none filter old new same in
+    let wrote : WroteBefore filter (line ∷ lines) old new =
+    record { before = []; line = line; after = lines; listed = refl; wanted = wanted; wrote = none } in
+    (line ∷ lines, IsLines-cons bytes line rest lines some first cut, wrote)
 
 -- what is done with the rest completes what was done with the bytes before it
 pub record GoesOn (filter : Filter) (bytes rest old mid : List ℕ) (was then : Tally) : Type 0 where
@@ -131,8 +125,7 @@ GoesOn-more filter bytes rest line after old mid out was then is some first so_f
 
 -- the tests that stand before a line and behind the last
 pub some_left : (rest : List ℕ) (empty : Bool) → empty ≡ eqb (length rest) 0 → empty ≡ false → 0 < length rest
-some_left [] empty is not_empty = cc
-some_left (byte ∷ rest) empty is not_empty = omega arith
+some_left rest empty is not_empty = grind (arith, nat_tests)
 
 pub AnswersAll-end : (filter : Filter) (bytes rest old mid : List ℕ) (was is : Tally) (empty : Bool)
     → empty ≡ eqb (length rest) 0 → empty ≡ true → GoesOn filter bytes rest old mid was is

@@ -8,12 +8,11 @@ use Rattle.syslog_lines.specs.Arguments.{AreYearWords, IsYear, end_word}
 -- one word, and whether it is this one
 pub word_alone : (args : List (Bor (List ℕ))) (d : Bor (List ℕ)) (wanted : List ℕ) → length args ≡ 1
     → (pointwise nat_eq (get_or args 0 d).now wanted ≡ true) ↔ (map (λ arg. arg.now) args ≡ wanted ∷ [])
-word_alone [] d wanted one = absurd (omega (arith, one))
 word_alone (x ∷ []) d wanted one = (
   λ same. ap (λ (word : List ℕ). word ∷ []) ((bytes_decides x.now wanted).0 same),
   λ same. (bytes_decides x.now wanted).1 (ap (λ (words : List (List ℕ)). get_or words 0 []) same),
 )
-word_alone (x ∷ (y ∷ ys)) d wanted one = absurd (omega (arith, one))
+word_alone args d wanted one = absurd (omega (arith, one))
 
 -- two words, of which the first is `--`, name the year that the second names
 pub year_behind : (args : List (Bor (List ℕ))) (d e : Bor (List ℕ)) (year : Option ℤ) → length args ≡ 2
@@ -22,8 +21,6 @@ pub year_behind : (args : List (Bor (List ℕ))) (d e : Bor (List ℕ)) (year : 
     (λ (y : ℤ). IsYear (get_or args 1 e).now × (y ≡ pos (digits_value 10 (get_or args 1 e).now)))
     → MatchOption year ((y : ℤ) → ¬ (AreYearWords (map (λ (arg : Bor (List ℕ)). arg.now) args) y))
     (λ (y : ℤ). AreYearWords (map (λ (arg : Bor (List ℕ)). arg.now) args) y)
-year_behind [] d e year two same named = absurd (omega (arith, two))
-year_behind (x ∷ []) d e year two same named = absurd (omega (arith, two))
 year_behind (x ∷ (y ∷ [])) d e (Some year) two same named =
     (y.now, inr (ap (λ (word : List ℕ). word ∷ (y.now ∷ [])) ((bytes_decides x.now end_word).0 same)), named)
 year_behind (x ∷ (y ∷ [])) d e None two same named = λ year words.
@@ -32,4 +29,4 @@ year_behind (x ∷ (y ∷ [])) d e None two same named = λ year words.
       | inr behind ↦
           named (subst IsYear (sym (ap (λ (ws : List (List ℕ)). get_or ws 1 []) behind)) words.2.0)
     ]
-year_behind (x ∷ (y ∷ (z ∷ zs))) d e year two same named = absurd (omega (arith, two))
+year_behind args d e year two same named = absurd (omega (arith, two))

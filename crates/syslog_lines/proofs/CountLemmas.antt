@@ -1,11 +1,10 @@
 -- Counts of lines.
 use Rattle.std.proofs.Common.{◌≡◌, ℕ, ◌+◌, List, [], ◌∷◌, ◌++◌, length, Bool, true, false, refl, cond, arith}
-use Rattle.std.specs.Prelude.{count_by}
+use Rattle.std.specs.Prelude.{count_by, not}
 use Rattle.std.proofs.lemmas.List.Sums.{sum_by-append}
 use Rattle.std.proofs.lemmas.Slice.Zip.{AllZip-long}
 use Rattle.syslog_lines.specs.Count.{held_count}
-use Rattle.syslog_lines.specs.Output.{Answer, AreAnswers, Counts, Filter, HasCounted, Marked, Omitted, Written}
-use Rattle.syslog_lines.specs.Output.{is_answered, is_passed_over}
+use Rattle.syslog_lines.specs.Output.{Answer, AreAnswers, Counts, Filter, HasCounted, is_answered, is_passed_over}
 use Rattle.syslog_lines.specs.declared.summary.Tally.{Tally}
 
 count-append : (keep : Answer → Bool) (xs ys : List Answer)
@@ -33,13 +32,12 @@ counted_all (answer ∷ answers) = omega (
   counted_all answers,
   count-append is_answered (answer ∷ []) answers,
   count-append is_passed_over (answer ∷ []) answers,
-  once answer,
+  once (is_answered answer),
 )
   where
-    once : (a : Answer) → count_by is_answered (a ∷ []) + count_by is_passed_over (a ∷ []) ≡ 1
-    once (Written bytes) = refl
-    once (Marked bytes) = refl
-    once Omitted = refl
+    once : (b : Bool) → cond b 1 0 + cond (not b) 1 0 ≡ 1
+    once true = refl
+    once false = refl
 
 -- so the tally's lines are those of the input
 pub lines_counted : (filter : Filter) (tally : Tally) (lines : List (List ℕ)) (answers : List Answer)

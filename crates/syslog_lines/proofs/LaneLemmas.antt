@@ -1,7 +1,8 @@
 -- From the mask of one load of sixty-four bytes to the bytes before the first line feed.
-use Rattle.std.proofs.Common.{◌≡◌, ◌≢◌, ℕ, ◌+◌, ◌-◌, ◌%◌, ◌^◌, ◌<◌, ◌≤◌, eqb, cond, Bool, true, false}
+use Rattle.std.proofs.Common.{◌≡◌, ℕ, ◌+◌, ◌-◌, ◌%◌, ◌^◌, ◌<◌, ◌≤◌, eqb, cond, Bool, true, false}
 use Rattle.std.proofs.Common.{not, List, map, length, get_or, sym, ap, ◌∙◌, subst, arith, inl, inr}
-use Rattle.std.proofs.lemmas.Bool.{not-true, not-false, cases_eq, eq-eqb, ne_eqb, cond-true, cond-false}
+use Rattle.std.proofs.lemmas.Bool.{not-true, not-false, cases_eq, eq-eqb, eqb-false, eqb-true, ne_eqb}
+use Rattle.std.proofs.lemmas.Bool.{cond-true, cond-false, cond_both}
 use Rattle.std.proofs.lemmas.Simd.{map-map, mask_l-mod, length-chunk, get_or-chunk}
 use Rattle.std.proofs.lemmas.Simd.{leading_from_mask_l, trailing_mask_l}
 use Rattle.std.proofs.lemmas.List.{length-map}
@@ -25,15 +26,8 @@ run_is v long =
     ]
 
 -- a lane stops just at a line feed
-stops_at_feed : (byte : ℕ) → stops byte ≡ true → byte ≡ 10
-stops_at_feed byte stop = elim (cases_eq byte 10) [
-  | inl feed ↦ feed
-  | inr other ↦
-      absurd (let none : stops byte ≡ false = ap (λ (b : Bool). top 7 (cond b 255 0)) (ne_eqb byte 10 other) in cc)
-]
-
-goes_past_others : (byte : ℕ) → stops byte ≡ false → byte ≢ 10
-goes_past_others byte pass feed = let some : stops byte ≡ true = ap stops feed in cc
+stops_is : (byte : ℕ) → stops byte ≡ eqb byte 10
+stops_is byte = cond_both (eqb byte 10) 255 0 (λ n. top 7 n ≡ eqb byte 10) sym sym
 
 module _ (bytes : List ℕ) (at run : ℕ) (lanes : List ℕ) (room : at + 64 ≤ length bytes)
     (found : run ≡ first_set (mask_l (map (top 7) lanes) % 2 ^ 64))
@@ -62,11 +56,11 @@ module _ (bytes : List ℕ) (at run : ℕ) (lanes : List ℕ) (room : at + 64 �
   pub run_from_mask : IsRun bytes at run
   run_from_mask = record {
     within = omega (arith, counted, long, prefix_len-le-length (λ byte. not (stops byte)) (chunk at 64 bytes));
-    before = λ k from to. goes_past_others _ (goes_on k from to);
+    before = λ k from to. eqb-false _ 10 (sym (stops_is _) ∙ goes_on k from to);
     stops = λ short.
         let place = ap (λ j. get_or (chunk at 64 bytes) j 0) (sym counted) ∙ get_or-chunk at 64 bytes run 0 short in
         let set = subst (λ byte. stops byte ≡ true) place
         (not-false _ (prefix_len_stops (λ byte. not (stops byte)) (chunk at 64 bytes) 0
         (omega (arith, counted, long)))) in
-        stops_at_feed _ set;
+        eqb-true _ 10 (sym (stops_is _) ∙ set);
   }

@@ -1,23 +1,26 @@
 -- Lines and the place of the first line feed.
 use Rattle.std.proofs.Common.{◌≡◌, ◌≢◌, ℕ, ◌+◌, ◌-◌, ◌<◌, List, [], ◌∷◌, ◌++◌, length, length-append}
-use Rattle.std.proofs.Common.{take, drop, refl, sym, ap, ◌∙◌, subst, arith, inl, inr}
+use Rattle.std.proofs.Common.{take, drop, refl, sym, ap, ◌∙◌, subst, arith, append-nil, inl, inr}
 use Rattle.std.proofs.Math.Seq.{drop-append_seam, take-append_seam}
 use Rattle.std.proofs.lemmas.Bool.{cases_eq}
 use Rattle.std.proofs.lemmas.List.{get_or-append-add, drop_more}
 use Rattle.std.proofs.lemmas.List.{take-append-drop, get_or-take, length-take, append_assoc}
 use Rattle.std.proofs.lemmas.List.Elements.{All-from_get_or, All-nil, All-cons, All-head}
-use Rattle.std.proofs.lemmas.List.Elements.{All-tail, All-append, All-drop, All-take}
+use Rattle.std.proofs.lemmas.List.Elements.{All-append, All-drop, All-push, All-take}
 use Rattle.std.specs.List.{All}
 use Rattle.syslog_lines.specs.Lines.{NoFeed, with_feeds, IsLines, IsFirstLine, EndsInFeed}
 use Rattle.syslog_lines.specs.Search.{IsNextFeed}
+
+-- the byte is no line feed
+abbrev pub IsOther : ℕ → Type 0
+IsOther byte = byte ≢ 10
 
 -- the bytes in two, at the first line feed
 pub IsFirstLine-at_feed : (bytes : List ℕ) (end : ℕ) → IsNextFeed bytes 0 end → end < length bytes
     → IsFirstLine bytes (take end bytes) (drop (end + 1) bytes)
 IsFirstLine-at_feed bytes end next some =
-    let feed : drop end bytes ≡ 10 ∷ drop (end + 1) bytes = drop_more bytes end 0 some
-    ∙ ap (λ (byte : ℕ). byte ∷ drop (end + 1) bytes) (next.feed some) in (
-      All-from_get_or (λ (byte : ℕ). byte ≢ 10) (take end bytes) 0
+    let feed = rw (next.feed some) at (drop_more bytes end 0 some) in (
+      All-from_get_or IsOther (take end bytes) 0
           (λ k below. let within : k < end = omega (arith, length-take end bytes) in
           rw (get_or-take end bytes k 0 within) (next.before k (omega arith) within)),
       inl (sym (take-append-drop end bytes) ∙ ap (λ (l : List ℕ). take end bytes ++ l) feed),
@@ -61,15 +64,11 @@ lines_after lines more bytes free (rest, inr lacks) = (
   },
 )
 
--- one line with no line feed, unless it is empty
-last_line : (line : List ℕ) → NoFeed line → (lines : List (List ℕ)) × IsLines line lines
-last_line [] free = ([], IsLines-nil)
-last_line (byte ∷ line) free = (
-  (byte ∷ line) ∷ [],
-  (
-    All-cons NoFeed (byte ∷ line) [] free (All-nil NoFeed),
-    inr record { before = []; last = byte ∷ line; some = omega arith; listed = refl; joined = refl },
-  ),
+-- one line with no line feed
+one_line : (line : List ℕ) → NoFeed line → 0 < length line → IsLines line (line ∷ [])
+one_line line free some = (
+  All-cons NoFeed line [] free (All-nil NoFeed),
+  inr record { before = []; last = line; some = some; listed = refl; joined = refl },
 )
 
 -- a first line, and the lines of what follows it
@@ -79,11 +78,7 @@ IsLines-cons bytes line rest more some (free, inl feed) cut =
     rw (feed, ← append_assoc line (10 ∷ []) rest)
     (lines_after (line ∷ []) more rest (All-cons NoFeed line [] free (All-nil NoFeed)) cut)
 IsLines-cons bytes line rest more some (free, inr (same, empty)) cut =
-    let none : more ≡ [] = only_nil more (rw empty at cut) in
-    rw none (
-      All-cons NoFeed line [] free (All-nil NoFeed),
-      inr record { before = []; last = line; some = rw same at some; listed = refl; joined = same },
-    )
+    rw (only_nil more (rw empty at cut), same) (one_line line free (rw same at some))
 
 -- the bytes of a last line with no line feed don't end in one
 ends_free : (front last : List ℕ) → 0 < length last → NoFeed last → EndsInFeed (front ++ last) → ⊥
@@ -104,43 +99,21 @@ closed_lines bytes lines closed (free, inr lacks) =
 
 -- ---- all bytes have lines
 
--- bytes as lines that have their line feeds, and what follows the last of these
-abbrev Pieces : List ℕ → Type 0
-Pieces bytes = (lines : List (List ℕ)) × (last : List ℕ) × All NoFeed lines × NoFeed last
-    × (bytes ≡ with_feeds lines ++ last)
-
-longer : (byte : ℕ) (bytes : List ℕ) → byte ≢ 10 → Pieces bytes → Pieces (byte ∷ bytes)
-longer byte bytes other ([], last, free, last_free, joined) = (
-  [],
-  byte ∷ last,
-  free,
-  All-cons (λ (b : ℕ). b ≢ 10) byte last other last_free,
-  ap (λ (l : List ℕ). byte ∷ l) joined,
-)
-longer byte bytes other (line ∷ lines, last, free, last_free, joined) = (
-  (byte ∷ line) ∷ lines,
-  last,
-  All-cons NoFeed (byte ∷ line) lines (All-cons (λ (b : ℕ). b ≢ 10) byte line other (All-head NoFeed line lines free))
-      (All-tail NoFeed line lines free),
-  last_free,
-  ap (λ (l : List ℕ). byte ∷ l) joined,
-)
-
-pieces : (bytes : List ℕ) → Pieces bytes
-pieces [] = ([], [], All-nil NoFeed, All-nil (λ (b : ℕ). b ≢ 10), refl)
-pieces (byte ∷ bytes) =
-    let (lines, last, free, last_free, joined) = pieces bytes in
-    elim (cases_eq byte 10) [
-      | inl feed ↦
-          ([] ∷ lines, last, All-cons NoFeed [] lines (All-nil (λ (b : ℕ). b ≢ 10)) free, last_free, rw (feed, joined))
-      | inr other ↦ longer byte bytes other (lines, last, free, last_free, joined)
-    ]
+-- the lines of bytes behind some of their first line
+lines_behind : (front bytes : List ℕ) → NoFeed front → (lines : List (List ℕ)) × IsLines (front ++ bytes) lines
+lines_behind [] [] free = ([], IsLines-nil)
+lines_behind (byte ∷ front) [] free =
+    ((byte ∷ front) ∷ [], rw append-nil (one_line (byte ∷ front) free (omega arith)))
+lines_behind front (byte ∷ bytes) free = elim (cases_eq byte 10) [
+  | inl feed ↦
+      let (lines, cut) = lines_behind [] bytes (All-nil IsOther) in (
+        front ∷ lines,
+        IsLines-cons _ front bytes lines (simp length-append (omega arith))
+            (free, inl (ap (λ b. front ++ b ∷ bytes) feed)) cut,
+      )
+  | inr other ↦ rw (← append_assoc front (byte ∷ []) bytes)
+      (lines_behind (front ++ byte ∷ []) bytes (All-push IsOther front byte free other))
+]
 
 pub some_lines : (bytes : List ℕ) → (lines : List (List ℕ)) × IsLines bytes lines
-some_lines bytes =
-    let (lines, last, free, last_free, joined) = pieces bytes in
-    let (more, cut) = last_line last last_free in (
-      lines ++ more,
-      subst (λ (l : List ℕ). IsLines l (lines ++ more)) (sym joined)
-          (lines_after lines more last free cut),
-    )
+some_lines bytes = lines_behind [] bytes (All-nil IsOther)

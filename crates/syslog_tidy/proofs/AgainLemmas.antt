@@ -1,18 +1,18 @@
 -- What a run wrote is written again by a run in the same year: each of its lines is settled, and no other.
-use Rattle.std.proofs.Common.{◌≡◌, ◌≢◌, ℕ, zero, suc, ℤ, Bool, true, false, cond}
-use Rattle.std.proofs.Common.{nat_lt, List, [], ◌∷◌, ◌++◌, length, length-append, Option}
-use Rattle.std.proofs.Common.{inl, inr, refl, sym, ap, subst, ◌∙◌, arith, append_assoc, append-nil}
+use Rattle.std.proofs.Common.{◌≡◌, ◌≢◌, ℕ, zero, suc, ℤ, true, nat_lt, List, [], ◌∷◌, ◌++◌, length, length-append}
+use Rattle.std.proofs.Common.{Option, inl, inr, refl, sym, ap, subst, ◌∙◌, arith, append_assoc, append-nil}
 use Rattle.std.proofs.Math.Utf8.{scalars}
+use Rattle.std.proofs.lemmas.Bool.{cond_both, eqb-false, not-true}
 use Rattle.std.proofs.lemmas.Bool.Decides.{eqb_tells}
 use Rattle.std.proofs.KnownBytes.{Consumes-whole}
-use Rattle.std.proofs.lemmas.List.Elements.{All-nil, All-cons, All-from_recursion, All-head, All-tail, All-append}
+use Rattle.std.proofs.lemmas.List.Elements.{All-nil, All-from_recursion, All-head, All-tail, All-append, All-weaker}
 use Rattle.std.proofs.lemmas.Str.{chars-encodes, encodes-chars, scalars-chars}
 use Rattle.std.specs.Char.{encode_utf8}
 use Rattle.std.specs.Io.KnownBytes.{Appends}
 use Rattle.std.specs.List.{All, AllByRecursion}
 use Rattle.std.specs.Prelude.{IsUtf8, encode_utf8_all, count_by, not}
 use Rattle.std.specs.Str.{chars}
-use Rattle.syslog_loose.specs.OneLine.{is_no_feed, IsOneLine}
+use Rattle.syslog_loose.specs.OneLine.{IsOneLine}
 use Rattle.syslog_loose.specs.Message.{MessageValue}
 use Rattle.syslog_loose.specs.Printed.{printed}
 use Rattle.syslog_loose.specs.Reading.{IsRead, in_utc}
@@ -24,30 +24,22 @@ use Rattle.syslog_lines.specs.declared.summary.Summary.{Summary}
 use Rattle.syslog_lines.specs.Lines.{NoFeed, with_feeds, IsLines}
 use Rattle.syslog_lines.specs.Count.{held_count}
 use Rattle.syslog_lines.specs.Output.{Answer, AreAnswers, Marked, Omitted, Written, is_passed_over, output_of}
-use Rattle.syslog_lines.proofs.LineLemmas.{all_behind, all_front}
+use Rattle.syslog_lines.proofs.LineLemmas.{IsOther, all_behind, all_front}
 use Rattle.syslog_tidy.specs.Filters.{TidiesAll, WritesAgain, tidying}
 
 -- ---- line feeds in bytes and in characters
-abbrev IsOther : ℕ → Type 0
-IsOther byte = byte ≢ 10
-
-either_free : (b : Bool) (xs ys : List ℕ) → AllByRecursion IsOther xs → AllByRecursion IsOther ys
-    → AllByRecursion IsOther (cond b xs ys)
-either_free true xs ys h k = h
-either_free false xs ys h k = k
-
 encoded_free : (c : ℕ) → c ≢ 10 → NoFeed (encode_utf8 c)
 unfolding encode_utf8
-encoded_free c other = All-from_recursion IsOther (encode_utf8 c) (either_free (nat_lt c 128) _ _ (omega arith)
-    (either_free (nat_lt c 2048) _ _ (omega arith) (either_free (nat_lt c 65536) _ _ (omega arith) (omega arith))))
-
-other_char : (c : ℕ) → is_no_feed c ≡ true → c ≢ 10
-other_char c h e = let t = ap is_no_feed e in let u : true ≡ false = sym h ∙ t in cc
+encoded_free c other =
+    let Free = AllByRecursion IsOther in
+    All-from_recursion IsOther (encode_utf8 c) (cond_both (nat_lt c 128) _ _ Free (λ _. omega arith)
+    (λ _. cond_both (nat_lt c 2048) _ _ Free (λ _. omega arith)
+    (λ _. cond_both (nat_lt c 65536) _ _ Free (λ _. omega arith) (λ _. omega arith))))
 
 encoded_line : (cs : List ℕ) → IsOneLine cs → NoFeed (encode_utf8_all cs)
 encoded_line [] h = All-nil IsOther
-encoded_line (c ∷ cs) h =
-    All-append IsOther (encode_utf8 c) (encode_utf8_all cs) (encoded_free c (other_char c h.0)) (encoded_line cs h.1)
+encoded_line (c ∷ cs) h = All-append IsOther (encode_utf8 c) (encode_utf8_all cs)
+    (encoded_free c (eqb-false c 10 (not-true _ h.0))) (encoded_line cs h.1)
 
 line_of_free : (cs : List ℕ) → NoFeed (encode_utf8_all cs) → IsOneLine cs
 unfolding encode_utf8
@@ -145,37 +137,29 @@ lines_of (Written bytes ∷ answers) = bytes ∷ lines_of answers
 output_fed : (answers : List Answer) → output_of answers ≡ with_feeds (lines_of answers)
 output_fed [] = refl
 output_fed (Omitted ∷ answers) = output_fed answers
-output_fed (Marked bytes ∷ answers) = append_assoc bytes (10 ∷ []) (output_of answers)
-    ∙ ap (λ (l : List ℕ). bytes ++ 10 ∷ l) (output_fed answers)
-output_fed (Written bytes ∷ answers) = append_assoc bytes (10 ∷ []) (output_of answers)
-    ∙ ap (λ (l : List ℕ). bytes ++ 10 ∷ l) (output_fed answers)
+output_fed (Marked bytes ∷ answers) = simp (append_assoc, output_fed answers)
+output_fed (Written bytes ∷ answers) = simp (append_assoc, output_fed answers)
 
 all_at_rest : (year : ℤ) (lines : List (List ℕ)) (answers : List Answer) → All NoFeed lines
     → AreAnswers (tidying year) lines answers → AllByRecursion (IsAtRest year) (lines_of answers)
 all_at_rest year [] [] free h = tt
-all_at_rest year [] (a ∷ answers) free h = absurd h
-all_at_rest year (line ∷ lines) [] free h = absurd h
 all_at_rest year (line ∷ lines) (Omitted ∷ answers) free h =
     all_at_rest year lines answers (All-tail NoFeed line lines free) h.1
-all_at_rest year (line ∷ lines) (Marked bytes ∷ answers) free h = absurd h.0
 all_at_rest year (line ∷ lines) (Written bytes ∷ answers) free ((utf8, (text, first, same)), h) = (
   subst (IsAtRest year) (sym same) (at_rest year line text (All-head NoFeed line lines free) utf8 first),
   all_at_rest year lines answers (All-tail NoFeed line lines free) h,
 )
-
-rest_free : (year : ℤ) (ts : List (List ℕ)) → AllByRecursion (IsAtRest year) ts → All NoFeed ts
-rest_free year [] h = All-nil NoFeed
-rest_free year (t ∷ ts) h = All-cons NoFeed t ts h.0.0 (rest_free year ts h.1)
+all_at_rest year (line ∷ lines) (Marked bytes ∷ answers) free h = absurd h.0
+all_at_rest year lines answers free h = absurd h
 
 -- each of them is answered by itself
 answered_again : (year : ℤ) (ts : List (List ℕ)) (answers : List Answer) → AllByRecursion (IsAtRest year) ts
     → AreAnswers (tidying year) ts answers → (output_of answers ≡ with_feeds ts) × (count_by is_passed_over answers ≡ 0)
 answered_again year [] [] h k = (refl, refl)
-answered_again year [] (a ∷ answers) h k = absurd k
-answered_again year (t ∷ ts) [] h k = absurd k
 answered_again year (t ∷ ts) (a ∷ answers) h k =
     let (same, none) = answered_again year ts answers h.1 k.1 in
     rw (h.0.1 a k.0) (append_assoc t (10 ∷ []) (output_of answers) ∙ ap (λ (l : List ℕ). t ++ 10 ∷ l) same, none)
+answered_again year ts answers h k = absurd k
 
 -- ---- the run
 pub TidiesAll-again : (year : ℤ) (in_before in_after out_before out_after : Option (List ℕ)) (summary : Summary)
@@ -188,7 +172,8 @@ TidiesAll-again year in_before in_after out_before out_after summary (found, all
     let fed : output ≡ with_feeds ts = is ∙ output_fed answers in
     let read : all.all.read ≡ output = rw e at (Consumes-whole in_before in_after all.all.read
     (λ (l : List ℕ). all.all.read ≡ l) all.all.consumed all.all.at_end refl) in
-    let same = fed_lines ts all.lines (rest_free year ts rests)
+    let free = All-weaker (IsAtRest year) NoFeed (λ line at. at.0) ts (All-from_recursion (IsAtRest year) ts rests) in
+    let same = fed_lines ts all.lines free
     (subst (λ (l : List ℕ). IsLines l all.lines) (read ∙ fed) all.all.cut) in
     let (again, none) = answered_again year ts found rests
     (subst (λ (l : List (List ℕ)). AreAnswers (tidying year) l found) same all.answered) in

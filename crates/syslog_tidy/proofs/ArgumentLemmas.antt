@@ -1,8 +1,7 @@
 -- The program's arguments as words.
-use Rattle.std.proofs.Common.{◌≡◌, ℕ, ℤ, ◌-◌, ◌<◌, ◌≤◌, Bor, Bool, false, ◌↔◌, List, [], ◌∷◌, ◌++◌, length, map}
-use Rattle.std.proofs.Common.{take, drop, get_or, IsTrue, ap, inl, inr, nat_eq, refl, sym, true, ◌∙◌, arith}
+use Rattle.std.proofs.Common.{◌≡◌, ℕ, ℤ, ◌-◌, ◌<◌, ◌≤◌, Bor, List, [], ◌∷◌, ◌++◌, length, map}
+use Rattle.std.proofs.Common.{take, drop, get_or, ap, inl, inr, nat_eq, refl, sym, true, ◌∙◌, arith}
 use Rattle.std.specs.Cmp.Lexicographic.{bytes_decides, pointwise}
-use Rattle.std.proofs.lemmas.Bool.{false≢true}
 use Rattle.std.proofs.lemmas.List.{take_all}
 use Rattle.syslog_lines.specs.Arguments.{AreYearWords, help_word, version_word}
 use Rattle.syslog_tidy.specs.Arguments.{AreArguments, AsksFor, OnlyFlag, changed_word, flags_of, refused_word}
@@ -53,10 +52,8 @@ flag_first (x ∷ xs) d flag some same =
     rw (take_all (length (x ∷ xs) - 1) xs (omega arith), (bytes_decides x.now flag).0 same) refl
 
 -- where neither word stands alone and there are no arguments, nothing is asked for
-pub no_task : (words : List (List ℕ)) (helps versions : Bool) → IsTrue helps ↔ (words ≡ help_word ∷ [])
-    → IsTrue versions ↔ (words ≡ version_word ∷ []) → helps ≡ false → versions ≡ false
+pub no_task : (words : List (List ℕ)) → ¬ (words ≡ help_word ∷ []) → ¬ (words ≡ version_word ∷ [])
     → ((other : Output) (year : ℤ) → ¬ (AreArguments words other year)) → (task : Task) → ¬ (AsksFor words task)
-no_task words helps versions help version no_help no_version none Help asks = false≢true (sym no_help ∙ help.1 asks)
-no_task words helps versions help version no_help no_version none Version asks =
-    false≢true (sym no_version ∙ version.1 asks)
-no_task words helps versions help version no_help no_version none (Lines output year) asks = none output year asks
+no_task words no_help no_version none Help = no_help
+no_task words no_help no_version none Version = no_version
+no_task words no_help no_version none (Lines output year) = none output year

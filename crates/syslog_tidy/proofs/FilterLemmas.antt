@@ -10,32 +10,25 @@ use Rattle.syslog_loose.proofs.ReadingLemmas.{invalid_or_memory}
 use Rattle.syslog_loose.specs.declared.fault.ParseFault.{ParseFault}
 use Rattle.syslog_loose.specs.declared.fault.ParseFault.TheVariants.{Invalid, Memory}
 use Rattle.syslog_loose.specs.declared.variant.Variant.TheVariants.{Either}
-use Rattle.syslog_tidy.specs.Filters.{IsTidied, SharesOut}
-use Rattle.syslog_tidy.specs.Filters.{refusing, tidying}
-use Rattle.syslog_lines.specs.Output.{Answer, AreAnswers, Marked}
-use Rattle.syslog_lines.specs.Output.{Omitted, Written, is_answered, is_passed_over}
+use Rattle.syslog_tidy.specs.Filters.{IsTidied, SharesOut, refusing, tidying}
+use Rattle.syslog_lines.specs.Output.{Answer, AreAnswers, Omitted, Written, is_answered, is_passed_over}
 
 -- exactly one of two answers to a line is written
 one_written : (year : ℤ) (line : List ℕ) (settled refused : Answer) → (tidying year).Answers line settled
     → (refusing year).Answers line refused → is_answered refused ≡ is_passed_over settled
 one_written year line (Written bytes) (Written other) (valid, (text, given, same)) (none, whole) =
     absurd (none valid text given)
-one_written year line (Written bytes) (Marked other) s r = absurd r
 one_written year line (Written bytes) Omitted s r = refl
-one_written year line (Marked bytes) refused s r = absurd s
 one_written year line Omitted (Written other) s r = refl
-one_written year line Omitted (Marked other) s r = absurd r
 one_written year line Omitted Omitted none (bytes, (valid, (text, given, same))) = absurd (none valid text given)
+one_written year line settled refused s r = absurd (assumption (s, r))
 
 pub shared_out : (year : ℤ) (lines : List (List ℕ)) (refused : List Answer) → AreAnswers (refusing year) lines refused
     → SharesOut year lines refused
 shared_out year [] [] r [] s = tt
-shared_out year [] [] r (x ∷ settled) s = absurd s
-shared_out year [] (a ∷ refused) r settled s = absurd r
-shared_out year (line ∷ lines) [] r settled s = absurd r
-shared_out year (line ∷ lines) (a ∷ refused) r [] s = absurd s
 shared_out year (line ∷ lines) (a ∷ refused) r (x ∷ settled) s =
     (one_written year line x a s.0 r.0, shared_out year lines refused r.1 settled s.1)
+shared_out year lines refused r settled s = absurd (assumption (r, s))
 
 -- a text that has a round has a reading
 has_message : (year : ℤ) (text u : List ℕ) (n : ℕ) → IsRound Either (in_utc year) text (suc n) u

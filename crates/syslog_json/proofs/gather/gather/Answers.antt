@@ -13,9 +13,7 @@ returns-clause-ok c =
     let name = c.in_ok-name.ensures.ok in
     let added : members_view c.insert.new.self.entries
     ≡ put c.args.key.now (view Null) (members_view c.args.members.now.entries) =
-    ap members_view c.in_ok-before.ensures.entries
-    ∙ members_view-insert_entry c.args.members.now.entries c.in_ok-name.name Null
-    ∙ ap (λ key. put key (view Null) (members_view c.args.members.now.entries)) name in
+    rw (c.in_ok-before.ensures.entries, members_view-insert_entry, name) in
     let found = ap (option_map view) c.in_ok-before.ensures.old ∙ view-lookup _ c.args.members.now.entries in
     on_ok_weaker c.put.result (λ same pairs single gathers.
     gathers_push pairs c.args.key.now (view c.in_ok-joined.joined) (view Null) (view c.args.value)

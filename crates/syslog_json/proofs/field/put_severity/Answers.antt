@@ -1,4 +1,0 @@
-use Rattle.syslog_json.proofs.field.put_severity.Goals as goal
-
-pub returns-in-Some : goal.returns-in-Some
-returns-in-Some c = rw (c.in-Some.is) (rw c.as_str.ensures at c.put_text.ensures.ok)
