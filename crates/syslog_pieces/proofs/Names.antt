@@ -47,4 +47,4 @@ pub use Rattle.syslog_pieces.proofs.PieceLemmas.Lists.{has_read_more, has_read_a
 pub use Rattle.syslog_pieces.proofs.PieceLemmas.Meets.{Meets, meets_here, meets_on, meets_none, row_goes, row_first}
 pub use Rattle.syslog_pieces.proofs.PieceLemmas.Meets.{match_map}
 pub use Rattle.syslog_pieces.proofs.PieceLemmas.Rows.{row_of, ◌then◌, row_pieces, no_row, ◌past◌}
-pub use Rattle.syslog_pieces.proofs.TextLemmas.Canonical.{false_is, no_truth}
+pub use Rattle.syslog_pieces.proofs.PieceLemmas.Tests.{false_is, no_truth}

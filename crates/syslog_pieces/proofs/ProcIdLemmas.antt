@@ -1,8 +1,7 @@
 -- Numbers and names as process ids.
 pub mod ReadBack
-use Rattle.std.proofs.Common.{◌≡◌, ◌≢◌, ℕ, ℤ, pos, neg_ℤ, ◌<◌, ◌^◌, ◌⊎◌, inl, inr, Bool, true}
-use Rattle.std.proofs.Common.{false, FitsSigned, w32, List, [], ◌∷◌, ◌++◌, length, get_or, nat_eq}
-use Rattle.std.proofs.Common.{Some, None, Result, Ok, Err, refl, sym, ap, subst, ◌∙◌, rules, arith}
+use Rattle.std.proofs.Common.{◌≡◌, ◌≢◌, ℕ, ℤ, pos, ◌<◌, ◌^◌, ◌⊎◌, inl, inr, w32, List, [], ◌∷◌, ◌++◌, length, get_or}
+use Rattle.std.proofs.Common.{Some, None, Result, Ok, Err, refl, sym, ap, ◌∙◌, rules, arith}
 use Rattle.std.specs.Char.{is_ascii_digit}
 use Rattle.std.specs.Str.{chars, IsUtf8, IsAscii}
 use Rattle.std.specs.Str.Parse.{digits_value, ParsesSigned, IsNumeral, without_leading_sign, signed_digits_value}
@@ -15,8 +14,8 @@ use Rattle.syslog_pieces.specs.Bodies.Scan.{SplitsRun}
 use Rattle.syslog_pieces.specs.Pieces.Class.{Text, Each, Front, NoFront, IsDeterministic}
 use Rattle.syslog_pieces.specs.Pieces.Verbatim.{Verbatim}
 use Rattle.syslog_pieces.specs.Text.{word}
-use Rattle.syslog_pieces.specs.ProcId.{IsDigits, WritesSigned, IsI32Text, NamesProcess}
-use Rattle.syslog_pieces.specs.ProcId.{process_word, process_text, procid_text}
+use Rattle.syslog_pieces.specs.ProcId.{IsDigits, WritesSigned, IsI32Text, NamesProcess, process_word, process_text}
+use Rattle.syslog_pieces.specs.ProcId.{procid_text}
 use Rattle.syslog_pieces.specs.declared.procid.ProcId.{ProcId}
 use Rattle.syslog_pieces.specs.declared.procid.ProcId.TheVariants.{PID, Name}
 use Rattle.syslog_pieces.proofs.PieceLemmas.Verbatim.{verbatim_of}

@@ -7,8 +7,8 @@ use Rattle.std.specs.Prelude.{◌↔◌, IsTrue}
 use Rattle.std.specs.Str.{chars}
 use Rattle.std.specs.Fmt.{decimal, signed_decimal}
 use Rattle.syslog_pieces.specs.Pieces.Class.{Text, Each, Ends}
-use Rattle.syslog_pieces.specs.ProcId.{IsI32Text, process_word, process_text}
-use Rattle.syslog_pieces.specs.ProcId.{IsNoI32Text, IsCanonicalProcess, IsBoundedProcess}
+use Rattle.syslog_pieces.specs.ProcId.{IsI32Text, process_word, process_text, IsNoI32Text, IsCanonicalProcess}
+use Rattle.syslog_pieces.specs.ProcId.{IsBoundedProcess}
 use Rattle.syslog_pieces.specs.Text.Canonical.{IsCanonicalWord}
 use Rattle.syslog_pieces.specs.declared.procid.ProcId.{ProcId}
 use Rattle.syslog_pieces.specs.declared.procid.ProcId.TheVariants.{PID, Name}

@@ -204,7 +204,7 @@ either_item false f = (None, f)
 pub element_asks : (t s s' : Text) (vs : List (Option ElementValue)) (e : ElementValue) → HasRead item t vs s
     → Front element s s' e → NeedsNoMemory t → ⊥
 element_asks t s s' vs e h f n = no_many_no item item_shorter (length s') s' (omega arith) (λ r ws g.
-    let all = h r (Some e ∷ ws) (many_cons item s s' r (Some e) ws (element_item s s' e f) g) in
+    let all = h r (Some e ∷ ws) (many_cons item (element_item s s' e f) g) in
     let none = n r (strict (vs ++ (Some e ∷ ws))) (record {
       piece = all.piece;
       whole = all.whole;

@@ -83,11 +83,14 @@ unlike_lists text xs ys differ =
     ]
 
 -- one parameter more that is the same in both
-pub front-more : {S : Type 0} (text : S → Text) (xs ys : List (S × S)) (i : ℕ) (x y : S × S) → i < length xs
+pub front_more : {S : Type 0} (text : S → Text) (xs ys : List (S × S)) (i : ℕ) (x y : S × S) → i < length xs
     → i < length ys → x ≡ get_or xs i x → y ≡ get_or ys i y
     → map (param_value text) (take i xs) ≡ map (param_value text) (take i ys)
     → param_eq (param_value text x) (param_value text y) ≡ true
     → map (param_value text) (take (i + 1) xs) ≡ map (param_value text) (take (i + 1) ys)
-front-more text xs ys i x y h k at there front same =
+front_more text xs ys i x y h k at there front same =
     let equal = param_eq-same (param_value text x) (param_value text y) same in
     rw (take_more xs i x h, take_more ys i y k, ← at, ← there) (simp map-append (cc))
+
+-- what the comparison of two lists rests on
+pub ruleset comparing = (counted_from, slice_to_end, unlike_lists)

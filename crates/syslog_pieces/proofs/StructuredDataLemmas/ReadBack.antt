@@ -223,7 +223,7 @@ pub verbatim_first : {t r i u s id : Text} → Front (exactly (91 ∷ [])) t r t
 verbatim_first {t = t} {i = i} {u = u} {s = s} {id = id} f g b k q ps more e =
     let v = k.value in
     let gap : Front (run is_blank) i u tt = record { piece = 32 ∷ []; whole = b.whole; is = (b.is.1, b.is.2) } in
-    let list = list_cons param 32 93 u s (93 ∷ q) v ps (front_of param bare_param_text u s k) more in
+    let list = list_cons param 32 93 (front_of param bare_param_text u s k) more in
     let close : Front (exactly (93 ∷ [])) (93 ∷ q) q tt = record { piece = 93 ∷ []; whole = refl; is = refl } in
     let w : i ≡ param_text v ++ (flat_map param_text ps ++ (93 ∷ q)) = cc (b.whole, k.whole, e) in
     let z : (id ++ (flat_map param_text (v ∷ ps) ++ (93 ∷ []))) ++ q ≡ id
@@ -238,8 +238,7 @@ pub verbatim_more : {t s u s' : Text} → VerbatimSoFar t s → Front (exactly (
     → Verbatim param bare_param_text u s' → VerbatimSoFar t s'
 verbatim_more {s = s} {u = u} {s' = s'} on f k q ps more e =
     let v = k.value in
-    on q (v ∷ ps) (more_cons param 32 93 s u s' (93 ∷ q) v ps (begins 32 s u f)
-    (front_of param bare_param_text u s' k) more)
+    on q (v ∷ ps) (more_cons param 32 93 (begins 32 s u f) (front_of param bare_param_text u s' k) more)
     (begins 32 s u f ∙ ap (λ (x : Text). 32 ∷ x) (k.whole ∙ ap (λ (x : Text). bare_param_text v ++ x) e)
     ∙ sym (append_assoc (param_text v) (flat_map param_text ps) (93 ∷ q)))
 
@@ -261,7 +260,7 @@ joined q k es g = k.whole ∙ ap (λ (x : Text). element_text k.value ++ x) g
 
 pub list_first : {t s : Text} → Verbatim element element_text t s → VerbatimItems t s
 list_first {t = t} {s = s} k q gap items f e =
-    let m = many_cons item t s q (Some k.value) items (item_of k) f in
+    let m = many_cons item (item_of k) f in
     record {
       elements = k.value ∷ strict items;
       is = record { piece = m.piece; whole = m.whole; is = inr (Some k.value ∷ items, omega arith, m.is, refl) };
@@ -270,8 +269,7 @@ list_first {t = t} {s = s} k q gap items f e =
 
 pub list_more : {t s s' : Text} → VerbatimItems t s → Verbatim element element_text s s' → VerbatimItems t s'
 list_more {s = s} {s' = s'} on k q gap items f e =
-    on q gap (Some k.value ∷ items) (many_cons item s s' q (Some k.value) items (item_of k) f)
-    (joined gap k (strict items) e)
+    on q gap (Some k.value ∷ items) (many_cons item (item_of k) f) (joined gap k (strict items) e)
 
 -- where no bracket stands, no item does
 no_bracket : (s : Text) → NoFront (exactly (91 ∷ [])) s → NoFront item s
@@ -284,7 +282,7 @@ list_end t s on n = on s s [] (many_here item s (no_bracket s n)) refl
 pub broken_end : (t s q : Text) → VerbatimItems t s → NoFront element s → Front bracketed s q (tt, (tt, (tt, tt)))
     → NoFront (exactly (91 ∷ [])) q → ListPrints t s q
 broken_end t s q on n b m =
-    on q s (None ∷ []) (many_cons item s q q None [] (bracketed_item s q n b) (many_here item q (no_bracket q m))) refl
+    on q s (None ∷ []) (many_cons item (bracketed_item s q n b) (many_here item q (no_bracket q m))) refl
 
 -- ---- lists that are copied
 
@@ -310,3 +308,6 @@ list_cut t q None c n l e =
       copies = λ w p d. left_out w t q (elements_text l.elements) p c l.prints e d;
     }
 list_cut t q (Some d) c n l e = absurd (cc)
+
+-- what the reader of a list that prints as it is written rests on
+pub ruleset copied_lists = (dash_on, list_end, list_on, list_cut, broken_end)

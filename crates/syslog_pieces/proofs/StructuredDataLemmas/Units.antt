@@ -1,9 +1,11 @@
 -- Texts split into units in one way, and the removal of escapes.
-use Rattle.syslog_pieces.proofs.Names.{◌≡◌, ◌≢◌, ℕ, Bool, true, false, cond, ◌⊎◌, inl, inr, List, [], ◌∷◌, ◌++◌, refl}
-use Rattle.syslog_pieces.proofs.Names.{sym, ap, subst, ◌∙◌, append_assoc, append-nil, arith, eqb_tells, nat_tests}
-use Rattle.syslog_pieces.proofs.Names.{flat_map, AllByRecursion, chars, ◌↔◌, Text, Each, Ends, TextUnit, pair, single}
-use Rattle.syslog_pieces.proofs.Names.{unit_text, escaped, SplitsRun, IsValueUnit, IsValue, all_append, Err}
-use Rattle.syslog_pieces.proofs.Names.{chars-append, Result, Ok, IsUtf8, IfOk, is_ok}
+use Rattle.syslog_pieces.proofs.Names.{◌≡◌, ◌≢◌, ℕ, Bool, true, false, cond, inl, inr, List, [], ◌∷◌, ◌++◌, refl, sym}
+use Rattle.syslog_pieces.proofs.Names.{ap, subst, ◌∙◌, append_assoc, append-nil, arith, eqb_tells, nat_tests, flat_map}
+use Rattle.syslog_pieces.proofs.Names.{AllByRecursion, chars, ◌↔◌, Text, Each, Ends, TextUnit, pair, single, unit_text}
+use Rattle.syslog_pieces.proofs.Names.{escaped, SplitsRun, IsValueUnit, IsValue, all_append, Err, chars-append, Result}
+use Rattle.syslog_pieces.proofs.Names.{Ok, IsUtf8, IfOk, is_ok}
+pub use Rattle.std.proofs.lemmas.Bool.{cases_Bool as decide}
+use Rattle.std.proofs.lemmas.Bool.{cases_Bool}
 use Rattle.std.proofs.lemmas.Grind.{flat_map-append}
 use Rattle.syslog_pieces.specs.Text.CharClass.{is_bare_char}
 use Rattle.syslog_pieces.specs.StructuredData.Escapes.{IsUnit, IsUnquoted, lone_backslash, SplitsUnits, is_escaped}
@@ -80,10 +82,6 @@ split_there (c ∷ d ∷ text) = elim (eqb_tells c 92) [
 ]
 
 -- ---- escaped texts
-pub decide : (b : Bool) → (b ≡ true) ⊎ (b ≡ false)
-decide true = inl refl
-decide false = inr refl
-
 not_backslash : (c : ℕ) → is_escaped c ≡ false → c ≢ 92
 not_backslash c e = grind (arith, nat_tests)
 
@@ -101,11 +99,9 @@ escaped_on u c t h e f i = record {
 
 pub escaped_there : (t : Text) → IsUnescaped (escaped t) t
 escaped_there [] = record { units = []; lone = false; split = record { whole = refl; each = tt }; means = refl }
-escaped_there (c ∷ t) = elim (decide (is_escaped c)) [
-  | inl e ↦ escaped_on (pair c) c t tt (ap (λ (b : Bool). cond b (92 ∷ c ∷ []) (c ∷ [])) e) (escaped_pair c e)
-      (escaped_there t)
-  | inr e ↦ escaped_on (single c) c t (not_backslash c e) (ap (λ (b : Bool). cond b (92 ∷ c ∷ []) (c ∷ [])) e) refl
-      (escaped_there t)
+escaped_there (c ∷ t) = elim (cases_Bool (is_escaped c)) [
+  | inl e ↦ escaped_on (pair c) c t tt (rw e refl) (escaped_pair c e) (escaped_there t)
+  | inr e ↦ escaped_on (single c) c t (not_backslash c e) (rw e refl) refl (escaped_there t)
 ]
 
 pub unescaped_one : (t v w : Text) → IsUnescaped t v → IsUnescaped t w → v ≡ w

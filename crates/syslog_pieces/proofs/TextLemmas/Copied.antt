@@ -1,6 +1,6 @@
 -- What is copied of a text, where one piece may be left out.
-use Rattle.std.proofs.Common.{◌≡◌, true, false, [], ◌∷◌, ◌++◌, Option, None, Some}
-use Rattle.std.proofs.Common.{sym, ◌∙◌, append_assoc, append-nil, arith}
+use Rattle.std.proofs.Common.{◌≡◌, true, false, [], ◌∷◌, ◌++◌, Option, None, Some, sym, ◌∙◌, append_assoc, append-nil}
+use Rattle.std.proofs.Common.{arith}
 use Rattle.std.proofs.lemmas.List.{append_cancel_right}
 use Rattle.std.specs.Prelude.{is_some}
 use Rattle.syslog_pieces.specs.Bodies.Verbatim.{Copies, CopiedOn}

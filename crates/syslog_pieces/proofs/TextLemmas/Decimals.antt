@@ -1,6 +1,6 @@
 -- The decimal text of a number is ASCII, so its bytes are its characters.
-use Rattle.std.proofs.Common.{◌≡◌, ℕ, ℤ, zero, suc, pos, negsuc, ◌+◌, ◌/◌, ◌%◌, ◌^◌, ◌<◌, ◌≤◌, inl, inr}
-use Rattle.std.proofs.Common.{true, false, List, [], ◌∷◌, ◌++◌, ap, ◌∙◌, arith}
+use Rattle.std.proofs.Common.{◌≡◌, ℕ, ℤ, zero, suc, pos, negsuc, ◌+◌, ◌/◌, ◌%◌, ◌^◌, ◌<◌, ◌≤◌, inl, inr, true, false}
+use Rattle.std.proofs.Common.{List, [], ◌∷◌, ◌++◌, ap, ◌∙◌, arith}
 use Rattle.std.proofs.lemmas.Bool.{lt-ltb}
 use Rattle.std.proofs.lemmas.Bool.Decides.{eqb_tells, nat_tests}
 use Rattle.std.proofs.lemmas.Fmt.{decimal_digit, decimal_step}
@@ -82,3 +82,6 @@ five_digits n l h =
     let e : n % 10 ≡ m % 100 % 10 = omega arith in
     rw (a, b, c, d, e) at (last_digit n _ (omega arith) (omega arith)
     (four_digits (n / 10) (omega arith) (omega arith)))
+
+-- the decimal text of a number below 100,000
+pub ruleset few_digits = (one_digit, two_digits, three_digits, four_digits, five_digits)

@@ -1,6 +1,7 @@
 -- Printed texts, and the bytes that are written of them.
-use Rattle.std.proofs.Common.{◌≡◌, ℕ, ◌+◌, ◌<◌, List, [], ◌∷◌, ◌++◌, length, get_or}
-use Rattle.std.proofs.Common.{take, sym, ap, ◌∙◌, append_assoc, append-nil, refl, map}
+use Rattle.std.proofs.Common.{◌≡◌, ℕ, ◌+◌, ◌<◌, List, [], ◌∷◌, ◌++◌, length, get_or, take, sym, ap, ◌∙◌, append_assoc}
+use Rattle.std.proofs.Common.{append-nil}
+pub use Rattle.std.proofs.lemmas.List.Folds.{flat_map-map}
 use Rattle.std.proofs.lemmas.List.{take_more}
 use Rattle.std.proofs.lemmas.List.Concat.{flat_map-append}
 use Rattle.std.proofs.lemmas.Str.{encodes-append, encodes-chars}
@@ -43,8 +44,3 @@ pub encodes_closed : (text : Text) (all : Text) → all ≡ text ++ (93 ∷ [])
     → encode_utf8_all text ++ (93 ∷ []) ≡ encode_utf8_all all
 unfolding encode_utf8
 encodes_closed text all e = sym (encodes-append text (93 ∷ [])) ∙ ap encode_utf8_all (sym e)
-
-pub flat_map-map : {X Y : Type 0} (f : Y → Text) (g : X → Y) (xs : List X)
-    → flat_map f (map g xs) ≡ flat_map (λ x. f (g x)) xs
-flat_map-map f g [] = refl
-flat_map-map f g (x ∷ xs) = ap (λ (t : Text). f (g x) ++ t) (flat_map-map f g xs)

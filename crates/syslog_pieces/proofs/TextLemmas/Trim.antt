@@ -1,6 +1,6 @@
 -- `trim`, by characters.
-use Rattle.std.proofs.Common.{◌≡◌, ℕ, ◌<◌, Bool, true, false, cond, not, ◌&&◌, nat_eq, nat_lt, List, []}
-use Rattle.std.proofs.Common.{◌∷◌, ◌++◌, length, take, refl, sym, ap, subst, ◌∙◌, arith}
+use Rattle.std.proofs.Common.{◌≡◌, ℕ, ◌<◌, Bool, true, false, cond, not, ◌&&◌, nat_eq, nat_lt, List, [], ◌∷◌, ◌++◌}
+use Rattle.std.proofs.Common.{length, take, refl, sym, ap, subst, ◌∙◌, arith}
 use Rattle.std.proofs.lemmas.Bool.{and_parts, and_from, ltb-true, not-true}
 use Rattle.std.proofs.lemmas.Bool.Decides.{nat_tests}
 use Rattle.std.proofs.lemmas.List.{length-append}
@@ -8,8 +8,8 @@ use Rattle.std.proofs.lemmas.Str.{chars-append, chars-IsAscii, chars-encodes, sc
 use Rattle.std.proofs.lemmas.Str.{IsUtf8-from_ascii, IsCharBoundary-at_seam}
 use Rattle.std.proofs.Math.Seq.{take-append_seam}
 use Rattle.std.specs.Char.{is_whitespace}
-use Rattle.std.specs.Str.{chars, IsUtf8, all_scalars, encode_utf8_all, trim}
-use Rattle.std.specs.Str.{trim_start, trim_end, skip_leading_whitespace, drop_trailing_whitespace}
+use Rattle.std.specs.Str.{chars, IsUtf8, all_scalars, encode_utf8_all, trim, trim_start, trim_end}
+use Rattle.std.specs.Str.{skip_leading_whitespace, drop_trailing_whitespace}
 use lib.Utf8.{scalar}
 use Rattle.syslog_pieces.specs.Pieces.Class.{Text}
 use Rattle.syslog_pieces.specs.Bodies.Scan.{IsBare}

@@ -1,12 +1,12 @@
 -- What the readers of numbers and words answer.
-use Rattle.std.proofs.Common.{◌≡◌, ◌≢◌, ℕ, zero, suc, get_or, ◌-◌, ◌<◌, ◌≤◌, ◌^◌, ◌⊎◌, inl, inr}
-use Rattle.std.proofs.Common.{List, [], ◌∷◌, ◌++◌, length, take, drop, Option, Some, None, Result, Ok, Err}
-use Rattle.std.proofs.Common.{MatchOption, refl, sym, ap, ◌∙◌, arith, append_assoc, rules}
+use Rattle.std.proofs.Common.{◌≡◌, ◌≢◌, ℕ, zero, suc, get_or, ◌-◌, ◌<◌, ◌≤◌, ◌^◌, ◌⊎◌, inl, inr, List, [], ◌∷◌, ◌++◌}
+use Rattle.std.proofs.Common.{length, take, drop, Option, Some, None, Result, Ok, Err, MatchOption, refl, sym, ap, ◌∙◌}
+use Rattle.std.proofs.Common.{arith, append_assoc, rules}
 use Rattle.std.proofs.Math.Seq.{take-append_seam, drop-append_seam}
 use Rattle.std.proofs.lemmas.List.{length-append, length-drop, take-append-drop, same_from_push}
-use Rattle.std.proofs.lemmas.Str.{IsCharBoundary-at_seam, IsCharBoundary-from_ascii}
-use Rattle.std.proofs.lemmas.Str.{chars_past_char, chars-append, encodes-chars, encodes-IsAscii}
-use Rattle.std.proofs.lemmas.Str.{chars-IsAscii, encodes-append, IsUtf8-take, IsUtf8-from_ascii}
+use Rattle.std.proofs.lemmas.Str.{IsCharBoundary-at_seam, IsCharBoundary-from_ascii, chars_past_char, chars-append}
+use Rattle.std.proofs.lemmas.Str.{encodes-chars, encodes-IsAscii, chars-IsAscii, encodes-append, IsUtf8-take}
+use Rattle.std.proofs.lemmas.Str.{IsUtf8-from_ascii}
 use Rattle.std.proofs.lemmas.Str.Parse.{IsNumeralModel, IsDigitsTest, numerals_by_value, parse_digits}
 use Rattle.std.specs.Str.{chars, IsUtf8, IsAscii, IsCharBoundary, encode_utf8_all}
 use Rattle.std.specs.Str.Parse.{digits_value, ParsesUnsigned}
@@ -17,8 +17,8 @@ use Rattle.std.specs.Char.{encode_utf8, is_ascii_digit, is_not_whitespace}
 use Rattle.syslog_pieces.specs.Pieces.Class.{Text, Front, NoFront, IsDeterministic, Each, Ends, exactly}
 use Rattle.syslog_pieces.specs.Bodies.Scan.{SplitsRun}
 use Rattle.syslog_pieces.specs.Text.{number, dash, colon, Names, word, EndsInColon, IsHost, host, is_tag_char, tag_word}
-use Rattle.syslog_pieces.proofs.TextLemmas.Chars.{ascii_front, chars_nonempty, chars_empty}
-use Rattle.syslog_pieces.proofs.TextLemmas.Chars.{digits_ascii, digit_chars, one_ascii}
+use Rattle.syslog_pieces.proofs.TextLemmas.Chars.{ascii_front, chars_nonempty, chars_empty, digits_ascii, digit_chars}
+use Rattle.syslog_pieces.proofs.TextLemmas.Chars.{one_ascii, text_is, text_is_not, nonempty_is}
 use Rattle.syslog_pieces.proofs.PieceLemmas.Class.{run_same}
 use Rattle.syslog_pieces.proofs.TextLemmas.Runs.{run_is}
 use Rattle.syslog_pieces.proofs.PieceLemmas.Each.{each_front, each_behind, each_append}
@@ -154,6 +154,9 @@ dash_ascii = one_ascii 45 (omega arith)
 pub colon_ascii : IsAscii colon
 colon_ascii = one_ascii 58 (omega arith)
 
+-- whether a run is a dash
+pub ruleset dash_told = (text_is, text_is_not, dash_ascii)
+
 -- ---- hosts
 
 -- a run that ends in no colon
@@ -214,3 +217,6 @@ module _ (bs xs ys front : List ℕ) (s : SplitsRun is_not_whitespace bs xs ys) 
           | inr (j, m) ↦
               omega (arith, ap length (sym j ∙ run), length-append p colon, length-append (chars front) colon)
         ]
+
+-- where a host begins the text
+pub ruleset host_reads = (host_front, host_colon_read, nonempty_is)

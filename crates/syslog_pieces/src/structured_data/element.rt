@@ -14,6 +14,7 @@ use crate::text::literal;
 use std::alloc::{AllocError, Global};
 
 // The value at the front, and the text behind the quote that closes it.
+#[tactic(auto, using(crate::proofs::StructuredDataLemmas::Closing::quoted_value))]
 #[inline(always)]
 pub(super) fn quoted(text: &str) -> Option<(&str, &str)>
     ensures { Reads quoted_class (λ v. (shown v, (tt, tt))) (chars text.now) result }
@@ -67,6 +68,7 @@ fn params<'a>(
 }
 
 // The strict element at the front, and the text behind it.
+#[tactic(auto, using(crate::proofs::StructuredDataLemmas::Closing::element_read))]
 #[inline(always)]
 pub(super) fn collect_element<'a>(
     alloc: Global,
@@ -114,6 +116,7 @@ fn note_params<'a>(text: &'a str, notes: &mut [(&'a str, &'a str)]) -> Option<(u
 
 /// The strict element at the front where it has few parameters, and the text behind it: walked once, and the memory for
 /// its parameters asked for once, behind its `]`. It may always answer nothing.
+#[tactic(auto, using(crate::proofs::StructuredDataLemmas::Closing::element_read))]
 #[inline(always)]
 pub(super) fn noted_element<'a>(
     alloc: Global,

@@ -2,8 +2,8 @@ use Rattle.std.proofs.Common.{rules, ℕ, Bool, not, List, [], ◌∷◌, length
 use Rattle.std.proofs.lemmas.Bool.{not-true, not-false}
 use Rattle.std.proofs.lemmas.Fn.{always_returns_same}
 use Rattle.std.proofs.lemmas.List.{drop_all}
-use Rattle.std.proofs.lemmas.Str.{IsCharBoundary-end, IsUtf8-take, IsUtf8-drop}
-use Rattle.std.proofs.lemmas.Str.{chars_from_encodes, chars_past_char, chars-nil}
+use Rattle.std.proofs.lemmas.Str.{IsCharBoundary-end, IsUtf8-take, IsUtf8-drop, chars_from_encodes, chars_past_char}
+use Rattle.std.proofs.lemmas.Str.{chars-nil}
 use Rattle.std.specs.Str.{chars, IsUtf8, NoCharPasses, NonePass}
 use Rattle.syslog_pieces.specs.Bodies.Scan.{past_in}
 use Rattle.syslog_pieces.specs.Pieces.Class.{Each}

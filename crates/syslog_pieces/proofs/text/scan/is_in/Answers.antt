@@ -3,8 +3,8 @@ use Rattle.std.proofs.Common.{◌≡◌, ℕ, Bool, true, not, nat_eq, get_or, b
 use Rattle.std.proofs.lemmas.Bool.{agree_below, agree_below_at}
 use Rattle.syslog_pieces.specs.declared.text.scan.TheConstants.{CLASSES}
 use Rattle.syslog_pieces.specs.declared.text.CharClass.{CharClass}
-use Rattle.syslog_pieces.specs.declared.text.CharClass.TheVariants.{Digit, Blank, Visible, Id, Name}
-use Rattle.syslog_pieces.specs.declared.text.CharClass.TheVariants.{Unescaped, Open, Inert, Bare, Tag, Label}
+use Rattle.syslog_pieces.specs.declared.text.CharClass.TheVariants.{Digit, Blank, Visible, Id, Name, Unescaped, Open}
+use Rattle.syslog_pieces.specs.declared.text.CharClass.TheVariants.{Inert, Bare, Tag, Label}
 use Rattle.syslog_pieces.specs.Bodies.Scan.{byte_in, bit_of}
 use Rattle.syslog_pieces.proofs.text.scan.is_in.Goals as goal
 
