@@ -191,9 +191,8 @@ param_verbatim {t = t} {a = a} {b = b} {c = c} {u = u} {name = name} {v = v} f g
     let quote : b ≡ 34 ∷ c = begins 34 b c h in
     let whole : t ≡ name ++ (61 ∷ 34 ∷ (v ++ (34 ∷ u))) =
     cc (f.whole, f.is.2, begins 61 a b g, quote, quoted_text q) in
-    let prints : bare_param_text (name, v) ++ u ≡ name ++ (61 ∷ 34 ∷ (v ++ (34 ∷ u))) = simp append_assoc in
     verbatim_by_text param bare_param_text t u (name, v)
-    (param_read (row_of opening_row (f then g then no_blanks 34 refl quote then h then refl)) q) (whole ∙ sym prints)
+    (param_read (row_of opening_row (f then g then no_blanks 34 refl quote then h then refl)) q) (simp append_assoc whole)
 
 -- ---- elements
 
@@ -226,12 +225,9 @@ verbatim_first {t = t} {i = i} {u = u} {s = s} {id = id} f g b k q ps more e =
     let list = list_cons param 32 93 (front_of param bare_param_text u s k) more in
     let close : Front (exactly (93 ∷ [])) (93 ∷ q) q tt = record { piece = 93 ∷ []; whole = refl; is = refl } in
     let w : i ≡ param_text v ++ (flat_map param_text ps ++ (93 ∷ q)) = cc (b.whole, k.whole, e) in
-    let z : (id ++ (flat_map param_text (v ∷ ps) ++ (93 ∷ []))) ++ q ≡ id
-    ++ (param_text v ++ (flat_map param_text ps ++ (93 ∷ q))) =
-    simp append_assoc in
     verbatim_by_text element element_text t q (record { id = id; params = v ∷ ps })
     (element_read (row_of start_row (f then g then gap then refl)) (row_of inside_row (list then close then refl)))
-    (start_text f g ∙ ap (λ (x : Text). 91 ∷ x) (ap (λ (x : Text). id ++ x) w ∙ sym z))
+    (simp append_assoc (start_text f g ∙ ap (λ (x : Text). 91 ∷ (id ++ x)) (simp append_assoc at w)))
 
 -- a further one
 pub verbatim_more : {t s u s' : Text} → VerbatimSoFar t s → Front (exactly (32 ∷ [])) s u tt

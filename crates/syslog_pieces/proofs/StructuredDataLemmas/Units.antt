@@ -35,10 +35,7 @@ module _ (P : TextUnit → Type 0) (bare : (c : ℕ) → P (single c) → c ≢ 
         (let a = i.0 in let b = j.0 in cc, j.1)
 
 lone_same : (k l : Bool) → lone_backslash k ≡ lone_backslash l → k ≡ l
-lone_same true true e = refl
-lone_same false false e = refl
-lone_same true false e = cc
-lone_same false true e = cc
+lone_same k l e = grind arith
 
 abbrev IsLone : Text → Type 0
 IsLone t = (k : Bool) × (t ≡ lone_backslash k)

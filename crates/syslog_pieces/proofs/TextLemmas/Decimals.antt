@@ -61,27 +61,15 @@ two_digits n l h = last_digit n _ l (omega arith) (one_digit (n / 10) (omega ari
 
 pub three_digits : (n : ℕ) → 100 ≤ n → n < 1_000 → decimal n ≡ pad3 n
 three_digits n l h =
-    let e : n / 10 / 10 ≡ n / 100 = omega arith in
-    rw e at (last_digit n _ (omega arith) (omega arith) (two_digits (n / 10) (omega arith) (omega arith)))
+    let e = last_digit n _ (omega arith) (omega arith) (two_digits (n / 10) (omega arith) (omega arith)) in grind arith
 
 pub four_digits : (n : ℕ) → 1_000 ≤ n → n < 10_000 → decimal n ≡ pad4 n
 four_digits n l h =
-    let a : n / 10 / 100 ≡ n / 100 / 10 = omega arith in
-    let b : n / 10 / 10 % 10 ≡ n / 100 % 10 = omega arith in
-    let c : n / 10 % 10 ≡ n % 100 / 10 = omega arith in
-    let d : n % 10 ≡ n % 100 % 10 = omega arith in
-    rw (a, b, c, d) at (last_digit n _ (omega arith) (omega arith) (three_digits (n / 10) (omega arith) (omega arith)))
+    let e = last_digit n _ (omega arith) (omega arith) (three_digits (n / 10) (omega arith) (omega arith)) in grind arith
 
 pub five_digits : (n : ℕ) → 10_000 ≤ n → n < 100_000 → decimal n ≡ (48 + n / 10_000) ∷ pad4 (n % 10_000)
 five_digits n l h =
-    let m = n % 10_000 in
-    let a : n / 10 / 100 / 10 ≡ n / 10_000 = omega arith in
-    let b : n / 10 / 100 % 10 ≡ m / 100 / 10 = omega arith in
-    let c : n / 10 % 100 / 10 ≡ m / 100 % 10 = omega arith in
-    let d : n / 10 % 100 % 10 ≡ m % 100 / 10 = omega arith in
-    let e : n % 10 ≡ m % 100 % 10 = omega arith in
-    rw (a, b, c, d, e) at (last_digit n _ (omega arith) (omega arith)
-    (four_digits (n / 10) (omega arith) (omega arith)))
+    let e = last_digit n _ (omega arith) (omega arith) (four_digits (n / 10) (omega arith) (omega arith)) in grind arith
 
 -- the decimal text of a number below 100,000
 pub ruleset few_digits = (one_digit, two_digits, three_digits, four_digits, five_digits)

@@ -60,10 +60,7 @@ past_blank c h = grind (arith, nat_tests)
 
 -- the byte, or a character past ASCII
 no_blank : (c byte : ℕ) → (c < 128 → byte ≡ c) → 32 < byte → is_blank c ≡ false
-no_blank c byte e h = elim (cases_lt c 128) [
-  | inl low ↦ past_blank c (omega (arith, e low))
-  | inr high ↦ past_blank c (omega arith)
-]
+no_blank c byte e h = past_blank c (grind arith)
 
 -- a text that begins past white space begins with no blank
 pub no_blanks : (bs : List ℕ) → IsUtf8 bs → BeginsVisibly bs → Front (run is_blank) (chars bs) (chars bs) tt
