@@ -1,9 +1,9 @@
 -- What the tests of canonical elements answer.
 use Rattle.syslog_pieces.proofs.Names.{◌≡◌, ◌≢◌, ℕ, ◌<◌, zero, suc, true, false, List, [], ◌∷◌, ◌++◌, length, map}
-use Rattle.syslog_pieces.proofs.Names.{get_or, refl, sym, ap, subst, ◌∙◌, arith, append_assoc, ◌↔◌, append_cancel_right}
-use Rattle.syslog_pieces.proofs.Names.{nat_tests, AllByRecursion, chars, SplitsRun, Text, Front, IsValue, value, pair}
-use Rattle.syslog_pieces.proofs.Names.{single, is_unescaped_char, front_same, Meets, meets_on, false_is}
-use Rattle.std.specs.Prelude.{IsTrue}
+use Rattle.syslog_pieces.proofs.Names.{get_or, refl, sym, ap, subst, ◌∙◌, arith, append_assoc, ◌↔◌, IsTrue}
+use Rattle.syslog_pieces.proofs.Names.{append_cancel_right, nat_tests, AllByRecursion, chars, SplitsRun, Text, Front}
+use Rattle.syslog_pieces.proofs.Names.{IsValue, value, pair, single, is_unescaped_char, front_same, Meets, meets_on}
+use Rattle.syslog_pieces.proofs.Names.{false_is}
 use Rattle.syslog_pieces.proofs.StructuredDataLemmas.Elements.{unit_goes, value_here, value_det}
 use Rattle.syslog_pieces.proofs.StructuredDataLemmas.Closing.{run_on, unescaped_plain}
 
@@ -27,9 +27,6 @@ value_same t u m = (
   (λ h. let (v, f) = m.back quote t (closed t h) in opened u v f),
   (λ h. let (v, f) = m.forth quote u (closed u h) in opened t v f),
 )
-
-other_is_backslash : (c : ℕ) → is_unescaped_char c ≡ false → c ≢ 34 → c ≡ 92
-other_is_backslash c h n = grind (arith, nat_tests)
 
 no_quote_value : (q : Text) → IsValue (34 ∷ q) → ⊥
 no_quote_value q h =
@@ -58,7 +55,7 @@ module _ (text bs xs ys : List ℕ) (s : SplitsRun is_unescaped_char bs xs ys)
 
     module _ (n : c ≢ 34) where
       is_backslash : c ≡ 92
-      is_backslash = other_is_backslash c (rw e at s.ends) n
+      is_backslash = let h : is_unescaped_char c ≡ false = rw e at s.ends in grind (arith, nat_tests)
 
       pub value_lone : q ≡ [] → IsTrue false ↔ IsValue (chars text)
       value_lone z = fails (λ h. no_lone_value (rw (z, is_backslash) at h))

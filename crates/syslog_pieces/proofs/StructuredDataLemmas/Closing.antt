@@ -1,31 +1,30 @@
 -- The walk over an element: its steps, why a bracket inside a value decides it, and a value cut from its text by bytes.
 use Rattle.syslog_pieces.proofs.Names.{◌≡◌, ◌≢◌, ℕ, ◌<◌, ◌⊎◌, inl, inr, Bool, true, false, List, [], ◌∷◌, ◌++◌, length}
-use Rattle.syslog_pieces.proofs.Names.{refl, sym, ap, subst, ◌∙◌, append_assoc, arith, and_parts, eqb_tells, nat_tests}
-use Rattle.syslog_pieces.proofs.Names.{length-append, encodes-append, encodes-chars, flat_map, AllByRecursion, chars}
-use Rattle.syslog_pieces.proofs.Names.{IsUtf8, encode_utf8_all, is_name_char, is_id_char, is_open_char, Text, Class}
-use Rattle.syslog_pieces.proofs.Names.{Front, NoFront, Values, IsDeterministic, Row, Each, some_run, exactly, start_row}
-use Rattle.syslog_pieces.proofs.Names.{start, id_alone, inside_row, inside, opening_row, opening, name_alone}
-use Rattle.syslog_pieces.proofs.Names.{quoted_row, quoted, tail_row, closing, byte_count, IsDead, ElementValue}
-use Rattle.syslog_pieces.proofs.Names.{TextUnit, pair, single, unit_text, escaped, IsValueUnit, IsValue, value}
-use Rattle.syslog_pieces.proofs.Names.{param_row, param_of, param, element, element_row, element_of, is_blank}
-use Rattle.syslog_pieces.proofs.Names.{AllDeterministic, run_det, some_run_det, ◌also◌, exactly_det, texted_det}
-use Rattle.syslog_pieces.proofs.Names.{row_det, row_head, row_none_here, row_cons, no_front_no, Meets, meets_on}
-use Rattle.syslog_pieces.proofs.Names.{meets_none, row_first, row_goes, row_of, ◌then◌, ◌≤◌, Result, Ok, Err}
-use Rattle.syslog_pieces.proofs.Names.{MatchResult, is_unescaped_char, more_before, SplitsRun, begins, list_here}
-use Rattle.syslog_pieces.proofs.Names.{more_here, no_list, meets_here, ◌+◌, ◌-◌, take, append_cancel_right}
-use Rattle.syslog_pieces.proofs.Names.{chars_past_char, row_pieces}
-use Rattle.std.specs.Char.{is_not_whitespace, encode_utf8}
-use Rattle.syslog_pieces.proofs.PieceLemmas.Class.{mapped_front, rows_join, rows_none_here, no_mapped, nil_front}
-use Rattle.syslog_pieces.proofs.PieceLemmas.Class.{row_none_later}
-use Rattle.syslog_pieces.proofs.PieceLemmas.Each.{each_map, each_right, each_behind}
-use Rattle.syslog_pieces.proofs.StructuredDataLemmas.Elements.{unit_goes, value_here, space_is_no_close, value_det}
-use Rattle.syslog_pieces.proofs.PieceLemmas.Lists.{list_goes, more_goes}
-use Rattle.syslog_pieces.proofs.PieceLemmas.Meets.{meets_none_on, mapped_meets, rows_go}
-use Rattle.syslog_pieces.specs.Text.CharClass.{is_inert_char}
-use Rattle.syslog_pieces.specs.Bodies.Closing.{last_char}
+use Rattle.syslog_pieces.proofs.Names.{refl, sym, ap, subst, ◌∙◌, append_assoc, arith, ◌≤◌, Result, Ok, Err, ◌+◌, ◌-◌}
+use Rattle.syslog_pieces.proofs.Names.{take, and_parts, eqb_tells, nat_tests, length-append, append_cancel_right}
+use Rattle.syslog_pieces.proofs.Names.{encodes-append, encodes-chars, chars_past_char, IsUtf8-from_ascii, flat_map}
+use Rattle.syslog_pieces.proofs.Names.{AllByRecursion, chars, IsUtf8, encode_utf8_all, IsCharBoundary, is_name_char}
+use Rattle.syslog_pieces.proofs.Names.{is_id_char, is_open_char, is_unescaped_char, Text, Class, Front, NoFront, Values}
+use Rattle.syslog_pieces.proofs.Names.{IsDeterministic, Row, Each, some_run, exactly, start_row, start, id_alone}
+use Rattle.syslog_pieces.proofs.Names.{inside_row, inside, opening_row, opening, quoted_row, quoted, closing}
+use Rattle.syslog_pieces.proofs.Names.{byte_count, IsDead, last_char, ElementValue, TextUnit, pair, single, unit_text}
+use Rattle.syslog_pieces.proofs.Names.{escaped, IsValueUnit, IsValue, value, param_row, param_of, param, element}
+use Rattle.syslog_pieces.proofs.Names.{element_row, element_of, is_blank, AllDeterministic, run_det, some_run_det}
+use Rattle.syslog_pieces.proofs.Names.{◌also◌, exactly_det, texted_det, row_det, row_none_here, no_front_no}
+use Rattle.syslog_pieces.proofs.Names.{mapped_front, nil_front, Meets, meets_on, meets_none, meets_here, mapped_meets}
+use Rattle.syslog_pieces.proofs.Names.{row_of, ◌then◌, row_pieces, MatchResult, more_before, SplitsRun, begins}
+use Rattle.syslog_pieces.proofs.Names.{list_here, more_here, no_list, is_not_whitespace, each_map, each_behind}
 use Rattle.std.proofs.Common.{min}
-use Rattle.std.proofs.lemmas.Str.{IsUtf8-append, IsUtf8-from_ascii}
-use Rattle.std.specs.Str.{IsCharBoundary}
+use Rattle.std.proofs.lemmas.Str.{IsUtf8-append}
+use Rattle.syslog_pieces.specs.Text.CharClass.{is_inert_char}
+use Rattle.syslog_pieces.specs.Bodies.Closing.{name_alone, tail_row}
+use Rattle.syslog_pieces.proofs.PieceLemmas.Class.{row_head, row_cons, rows_join, rows_none_here, no_mapped}
+use Rattle.syslog_pieces.proofs.PieceLemmas.Class.{row_none_later}
+use Rattle.syslog_pieces.proofs.PieceLemmas.Meets.{row_first, row_goes, meets_none_on, rows_go}
+use Rattle.syslog_pieces.proofs.PieceLemmas.Lists.{list_goes, more_goes}
+use Rattle.std.specs.Char.{encode_utf8}
+use Rattle.syslog_pieces.proofs.PieceLemmas.Each.{each_right}
+use Rattle.syslog_pieces.proofs.StructuredDataLemmas.Elements.{unit_goes, value_here, space_is_no_close, value_det}
 use Rattle.syslog_pieces.proofs.TextLemmas.Chars.{one_ascii}
 use Rattle.syslog_pieces.proofs.TextLemmas.Cuts.{rest_shorter, front_chars, front_cut}
 
@@ -402,8 +401,7 @@ module _ (t r : List ℕ) (u : IsUtf8 t) (z : IsUtf8 r) (v : Values quoted_row)
 
   -- the text may be cut before the closing quote
   pub quoted_cut : IsCharBoundary t (length t - length r - 1)
-  quoted_cut =
-      subst (λ (n : ℕ). IsCharBoundary t n) place (front_cut t (34 ∷ r) u behind_utf8 first.1.piece whole)
+  quoted_cut = rw place at (front_cut t (34 ∷ r) u behind_utf8 first.1.piece whole)
 
   -- and the value is what stands before it
   pub quoted_value : (xs : List ℕ) → xs ≡ take (length t - length r - 1) t

@@ -1,15 +1,13 @@
 -- The texts of elements are parts of their list.
 use Rattle.syslog_pieces.proofs.Names.{◌≡◌, inl, inr, ℕ, List, [], ◌∷◌, ◌++◌, Option, Some, None, refl, append-nil}
 use Rattle.syslog_pieces.proofs.Names.{flat_map, AllByRecursion, is_name_char, is_id_char, Text, Class, Values, Row}
-use Rattle.syslog_pieces.proofs.Names.{run, some_run, exactly, optional, ElementValue, IsMany, IsMore, IsList}
+use Rattle.syslog_pieces.proofs.Names.{run, some_run, exactly, optional, mapped, ElementValue, IsMany, IsMore, IsList}
 use Rattle.syslog_pieces.proofs.Names.{list_before, value, param_row, param, element_row, element_of, element, item}
 use Rattle.syslog_pieces.proofs.Names.{strict, forgiving, param_of, full_element, rfc3164_list, is_blank, DashRule}
-use Rattle.syslog_pieces.proofs.Names.{all_append, ◌also◌}
-use Rattle.syslog_pieces.specs.Pieces.Class.{mapped}
+use Rattle.syslog_pieces.proofs.Names.{all_append, all_map, ◌also◌}
 use Rattle.syslog_pieces.specs.StructuredData.Element.{element_texts}
-use Rattle.syslog_pieces.specs.Pieces.Parts.{IsPart}
 use Rattle.syslog_pieces.specs.StructuredData.Rfc3164List.{elements_or}
-use Rattle.syslog_pieces.proofs.PieceLemmas.Each.{all_map}
+use Rattle.syslog_pieces.specs.Pieces.Parts.{IsPart}
 use Rattle.syslog_pieces.proofs.PieceLemmas.Parts.{Quotes, Quoted, row_texts, row_quotes, part_same, part_left}
 use Rattle.syslog_pieces.proofs.PieceLemmas.Parts.{part_right, part_joined, silent, texted_quotes}
 

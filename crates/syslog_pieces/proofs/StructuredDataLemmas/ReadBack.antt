@@ -1,22 +1,19 @@
 -- Elements and their print: canonical elements are read back from it, what is read is canonical, and which elements and
 -- lists print as they are written.
 use Rattle.syslog_pieces.proofs.Names.{◌≡◌, ◌≢◌, ℕ, ◌<◌, inl, inr, List, [], ◌∷◌, ◌++◌, length, map, Option, Some, None}
-use Rattle.syslog_pieces.proofs.Names.{refl, sym, ap, subst, ◌∙◌, append_assoc, arith, flat_map, AllByRecursion}
-use Rattle.syslog_pieces.proofs.Names.{bare_param_text, Text, NoFront, Ends, Values, IsMany, IsList, IsMore, param_row}
-use Rattle.syslog_pieces.proofs.Names.{param, element_row, element_of, element, item, strict, forgiving, ElementValue}
-use Rattle.syslog_pieces.proofs.Names.{param_text, element_text, joined_elements, elements_text, IsCanonicalParam}
-use Rattle.syslog_pieces.proofs.Names.{IsCanonicalElement, is_blank, is_id_char, is_name_char, heads, ◌also◌}
-use Rattle.syslog_pieces.proofs.Names.{row_pieces, false, is_some, quoted, inside_row, opening_row, start_row}
-use Rattle.syslog_pieces.proofs.Names.{quoted_row, VerbatimItems, Front, exactly, run, some_run, more_before, shown}
-use Rattle.syslog_pieces.proofs.Names.{bracketed, many_here, many_cons, begins, list_here, more_here, row_of, ◌then◌}
-use Rattle.syslog_pieces.specs.StructuredData.Canonical.{BeginsUnblank}
-use Rattle.syslog_pieces.proofs.StructuredDataLemmas.Elements.{item_begins, strict_some, bracketed_item}
-use Rattle.syslog_pieces.specs.Bodies.Verbatim.{CopiedOn, ListPrints}
-use Rattle.syslog_pieces.specs.Pieces.Class.{texted}
-use Rattle.syslog_pieces.specs.Pieces.Verbatim.{Verbatim}
-use Rattle.syslog_pieces.specs.declared.text.verbatim.Cut.{Cut}
-use Rattle.syslog_pieces.proofs.PieceLemmas.Verbatim.{verbatim_by_text, front_of}
+use Rattle.syslog_pieces.proofs.Names.{refl, sym, ap, subst, ◌∙◌, append_assoc, arith, false, flat_map, AllByRecursion}
+use Rattle.syslog_pieces.proofs.Names.{VerbatimItems, CopiedOn, ListPrints, Text, NoFront, Ends, Values, Front, exactly}
+use Rattle.syslog_pieces.proofs.Names.{run, some_run, texted, IsMany, IsList, IsMore, more_before, param_row, param}
+use Rattle.syslog_pieces.proofs.Names.{element_row, element_of, element, item, strict, forgiving, bracketed}
+use Rattle.syslog_pieces.proofs.Names.{ElementValue, param_text, IsCanonicalParam, IsCanonicalElement, BeginsUnblank}
+use Rattle.syslog_pieces.proofs.Names.{is_blank, is_id_char, is_name_char, heads, ◌also◌, row_pieces, row_of, ◌then◌}
+use Rattle.syslog_pieces.proofs.Names.{is_some, quoted, inside_row, opening_row, start_row, quoted_row, shown}
+use Rattle.syslog_pieces.proofs.Names.{many_here, many_cons, begins, list_here, more_here, Verbatim, Cut}
+use Rattle.syslog_pieces.proofs.Names.{verbatim_by_text, front_of, behind}
+use Rattle.syslog_pieces.specs.Bodies.Verbatim.{bare_param_text}
+use Rattle.syslog_pieces.specs.StructuredData.Element.{element_text, joined_elements, elements_text}
 use Rattle.syslog_pieces.proofs.PieceLemmas.Lists.{list_cons, more_cons}
+use Rattle.syslog_pieces.proofs.StructuredDataLemmas.Elements.{item_begins, strict_some, bracketed_item}
 use Rattle.syslog_pieces.proofs.StructuredDataLemmas.Closing.{param_read, element_read}
 use Rattle.syslog_pieces.proofs.TextLemmas.Copied.{verbatim_on, extended, left_out}
 
@@ -112,10 +109,7 @@ first_canonical p q [] h e = tt
 first_canonical p q (v ∷ vs) (a, b, w, (ws, row, same), more) e =
     let g = row_pieces param_row {t = a ++ (b ++ q)} {q = b ++ q} (record { piece = a; whole = refl; is = row }) in
     let (_, name, name_is) = g.1.is in
-    let whole : p ++ q ≡ g.1.piece ++ g.0 = ap (λ (x : Text). x ++ q) w ∙ append_assoc a b q ∙ g.1.whole in
-    let ends : Ends is_blank g.1.piece =
-    front_ends g.1.piece g.0 name.0 (subst (λ (x : Text). Ends is_blank x) whole e) in
-    rw (same, name_is) ends
+    rw (same, name_is) (front_ends g.1.piece g.0 name.0 (rw (behind p a b q w ∙ g.1.whole) at e))
   where
     front_ends : (x y : Text) → 0 < length x → Ends is_blank (x ++ y) → Ends is_blank x
     front_ends [] y l h = tt

@@ -3,11 +3,10 @@ use Rattle.syslog_pieces.proofs.Names.{◌≡◌, ℕ, ◌<◌, Option, Some, No
 use Rattle.syslog_pieces.proofs.Names.{sym, ap, subst, ◌∙◌, arith, Bor, start_row, start, inside_row, opening_row}
 use Rattle.syslog_pieces.proofs.Names.{opening, closing, Text, Front, NoFront, IsDeterministic, optional, Values, Row}
 use Rattle.syslog_pieces.proofs.Names.{exactly, many, list_before, param, element_row, element, ElementValue}
-use Rattle.syslog_pieces.proofs.Names.{full_element, IsDashBefore, rfc3164_list, dash, DashRule, behind, front_same}
-use Rattle.syslog_pieces.proofs.Names.{no_front_no, optional_some, many_det, many_cons, no_many_no, Meets, row_pieces}
-use Rattle.std.proofs.Common.{◌↔◌}
-use Rattle.syslog_pieces.specs.Pieces.View.{Reads}
-use Rattle.syslog_pieces.specs.StructuredData.Rfc3164List.{BeginsNoList, ListsNoElements}
+use Rattle.syslog_pieces.proofs.Names.{full_element, IsDashBefore, rfc3164_list, BeginsNoList, dash, DashRule, behind}
+use Rattle.syslog_pieces.proofs.Names.{front_same, no_front_no, optional_some, many_det, many_cons, no_many_no, Meets}
+use Rattle.syslog_pieces.proofs.Names.{row_pieces, ◌↔◌, Reads}
+use Rattle.syslog_pieces.specs.StructuredData.Rfc3164List.{ListsNoElements}
 use Rattle.syslog_pieces.proofs.PieceLemmas.Class.{optional_none}
 use Rattle.syslog_pieces.proofs.PieceLemmas.Lists.{many_none}
 use Rattle.syslog_pieces.proofs.StructuredDataLemmas.Closing.{start_det, no_start, no_opening, element_enters}

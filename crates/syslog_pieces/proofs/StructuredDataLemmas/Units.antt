@@ -1,15 +1,13 @@
 -- Texts split into units in one way, and the removal of escapes.
 use Rattle.syslog_pieces.proofs.Names.{◌≡◌, ◌≢◌, ℕ, Bool, true, false, cond, inl, inr, List, [], ◌∷◌, ◌++◌, refl, sym}
-use Rattle.syslog_pieces.proofs.Names.{ap, subst, ◌∙◌, append_assoc, append-nil, arith, eqb_tells, nat_tests, flat_map}
-use Rattle.syslog_pieces.proofs.Names.{AllByRecursion, chars, ◌↔◌, Text, Each, Ends, TextUnit, pair, single, unit_text}
-use Rattle.syslog_pieces.proofs.Names.{escaped, SplitsRun, IsValueUnit, IsValue, all_append, Err, chars-append, Result}
-use Rattle.syslog_pieces.proofs.Names.{Ok, IsUtf8, IfOk, is_ok}
-pub use Rattle.std.proofs.lemmas.Bool.{cases_Bool as decide}
-use Rattle.std.proofs.lemmas.Bool.{cases_Bool}
-use Rattle.std.proofs.lemmas.Grind.{flat_map-append}
-use Rattle.syslog_pieces.specs.Text.CharClass.{is_bare_char}
+use Rattle.syslog_pieces.proofs.Names.{ap, subst, ◌∙◌, append_assoc, append-nil, arith, Err, Result, Ok, IfOk}
+use Rattle.syslog_pieces.proofs.Names.{eqb_tells, nat_tests, flat_map, AllByRecursion, chars, IsUtf8, ◌↔◌, is_ok, Text}
+use Rattle.syslog_pieces.proofs.Names.{Each, Ends, TextUnit, pair, single, unit_text, escaped, IsUnescaped, SplitsRun}
+use Rattle.syslog_pieces.proofs.Names.{IsValueUnit, IsValue, all_append, chars-append, cases_Bool, flat_map-append}
 use Rattle.syslog_pieces.specs.StructuredData.Escapes.{IsUnit, IsUnquoted, lone_backslash, SplitsUnits, is_escaped}
-use Rattle.syslog_pieces.specs.StructuredData.Escapes.{pair_meaning, unit_meaning, IsUnescaped, escaped_char}
+use Rattle.syslog_pieces.specs.StructuredData.Escapes.{pair_meaning, unit_meaning, escaped_char}
+use Rattle.syslog_pieces.specs.Text.CharClass.{is_bare_char}
+pub use Rattle.std.proofs.lemmas.Bool.{cases_Bool as decide}
 
 -- ---- a text has one split
 

@@ -1,18 +1,11 @@
 -- What the tests of canonical texts answer.
 pub use Rattle.syslog_pieces.proofs.PieceLemmas.Tests.{no_truth, false_is, last_is}
-use Rattle.std.proofs.Common.{◌≡◌, ℕ, ◌<◌, Bool, nat_eq, List, [], ◌∷◌, length, Option, Some, None, refl, sym, ◌∙◌, ap}
-use Rattle.std.proofs.Common.{arith, append-nil, inl, inr}
-use Rattle.std.specs.Prelude.{◌↔◌, IsTrue, IsSomeAnd}
-use Rattle.std.specs.Borrow.{Bor}
-use Rattle.std.specs.Str.{chars, IsUtf8}
-use Rattle.std.proofs.lemmas.Bool.{eqb-true}
-use Rattle.std.proofs.lemmas.Str.{chars-nil}
-use Rattle.syslog_pieces.specs.Bodies.Scan.{SplitsRun}
-use Rattle.syslog_pieces.specs.Pieces.Class.{Text, Class, Front, IsDeterministic, Each, Ends}
-use Rattle.syslog_pieces.specs.Pieces.View.{seen, shown, Reads}
-use Rattle.syslog_pieces.specs.Text.{IsHost, word, tag_word}
-use Rattle.syslog_pieces.specs.Text.Canonical.{IsCanonicalHost, IsCanonicalTag, IsCanonicalWord}
-use Rattle.syslog_pieces.proofs.PieceLemmas.Class.{rest_same, front_same, no_front_no}
+use Rattle.syslog_pieces.proofs.Names.{◌≡◌, ℕ, ◌<◌, Bool, nat_eq, List, [], ◌∷◌, length, Option, Some, None, refl, sym}
+use Rattle.syslog_pieces.proofs.Names.{◌∙◌, ap, arith, append-nil, inl, inr, ◌↔◌, IsTrue, IsSomeAnd, Bor, chars, IsUtf8}
+use Rattle.syslog_pieces.proofs.Names.{eqb-true, chars-nil, SplitsRun, Text, Class, Front, IsDeterministic, Each, Ends}
+use Rattle.syslog_pieces.proofs.Names.{seen, shown, Reads, IsHost, word, tag_word, IsCanonicalHost, IsCanonicalTag}
+use Rattle.syslog_pieces.proofs.Names.{IsCanonicalWord, front_same, no_front_no}
+use Rattle.syslog_pieces.proofs.PieceLemmas.Class.{rest_same}
 use Rattle.syslog_pieces.proofs.TextLemmas.Chars.{chars_nonempty}
 use Rattle.syslog_pieces.proofs.TextLemmas.ReadBack.{host_back, word_back}
 use Rattle.syslog_pieces.proofs.TextLemmas.Runs.{run_is}

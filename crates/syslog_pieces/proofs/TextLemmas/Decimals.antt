@@ -1,16 +1,14 @@
 -- The decimal text of a number is ASCII, so its bytes are its characters.
-use Rattle.std.proofs.Common.{◌≡◌, ℕ, ℤ, zero, suc, pos, negsuc, ◌+◌, ◌/◌, ◌%◌, ◌^◌, ◌<◌, ◌≤◌, inl, inr, true, false}
-use Rattle.std.proofs.Common.{List, [], ◌∷◌, ◌++◌, ap, ◌∙◌, arith}
-use Rattle.std.proofs.lemmas.Bool.{lt-ltb}
-use Rattle.std.proofs.lemmas.Bool.Decides.{eqb_tells, nat_tests}
-use Rattle.std.proofs.lemmas.Fmt.{decimal_digit, decimal_step}
-use Rattle.std.proofs.lemmas.Str.{encodes-IsAscii, digit_value_digit}
-use Rattle.std.proofs.lemmas.Str.Ascii.{IsAscii-nil, IsAscii-cons}
-use Rattle.std.specs.Fmt.{digits, digits_onto, digit_glyph, decimal, signed_decimal}
-use Rattle.std.specs.Char.{is_ascii_digit, digit_value}
-use Rattle.std.specs.Str.{IsAscii, encode_utf8_all}
+use Rattle.syslog_pieces.proofs.Names.{◌≡◌, ℕ, ℤ, zero, suc, pos, negsuc, ◌+◌, ◌%◌, ◌^◌, ◌<◌, ◌≤◌, inl, inr, true}
+use Rattle.syslog_pieces.proofs.Names.{false, List, [], ◌∷◌, ◌++◌, ap, ◌∙◌, arith, lt-ltb, eqb_tells, nat_tests}
+use Rattle.syslog_pieces.proofs.Names.{decimal_digit, encodes-IsAscii, IsAscii-nil, IsAscii-cons, digits_onto}
+use Rattle.syslog_pieces.proofs.Names.{digit_glyph, decimal, signed_decimal, is_ascii_digit, digit_value, IsAscii}
+use Rattle.syslog_pieces.proofs.Names.{encode_utf8_all, is_blank}
+use Rattle.std.proofs.Common.{◌/◌}
+use Rattle.std.proofs.lemmas.Fmt.{decimal_step}
+use Rattle.std.proofs.lemmas.Str.{digit_value_digit}
+use Rattle.std.specs.Fmt.{digits}
 use Rattle.jiff_fmt.specs.Text.{pad2, pad4}
-use Rattle.syslog_pieces.specs.Text.{is_blank}
 use Rattle.syslog_pieces.specs.Timestamp.Printed.{pad3}
 
 digit_ascii : (d : ℕ) → d < 10 → digit_glyph false d < 128

@@ -1,15 +1,15 @@
 -- From the mask of one load to the bytes that pass a test.
-use Rattle.std.proofs.Common.{◌≡◌, ℕ, ◌+◌, ◌-◌, ◌%◌, ◌^◌, ◌<◌, ◌≤◌, Bool, true, false, not, List, map, cond, leb}
-use Rattle.std.proofs.Common.{length, get_or, replicate, Fits, w8, sym, ap, ◌∙◌, subst, arith, inl, inr}
-use Rattle.std.proofs.lemmas.Bool.{agree_below, agree_below_at, not-true, not-false, cases_eq, eq-eqb, ne_eqb}
-use Rattle.std.proofs.lemmas.Bool.{cond-true, cond-false}
+use Rattle.syslog_pieces.proofs.Names.{◌≡◌, ℕ, ◌+◌, ◌-◌, ◌%◌, ◌^◌, ◌<◌, ◌≤◌, Bool, true, false, not, List, map, cond}
+use Rattle.syslog_pieces.proofs.Names.{length, get_or, Fits, sym, ap, ◌∙◌, subst, arith, inl, inr, agree_below}
+use Rattle.syslog_pieces.proofs.Names.{agree_below_at, not-true, not-false, cases_eq, ne_eqb, cond-false, length-map}
+use Rattle.syslog_pieces.proofs.Names.{map-id, prefix_len, IsRunIn}
+use Rattle.std.proofs.Common.{leb, replicate, w8}
+use Rattle.std.proofs.lemmas.Bool.{eq-eqb, cond-true}
 use Rattle.std.proofs.lemmas.Simd.{map-map, mask_l-mod, length-chunk, get_or-chunk, leading_from_mask_l}
 use Rattle.std.proofs.lemmas.Simd.{trailing_mask_l, zip2_of_maps, zip2_splat, splat_is_map}
-use Rattle.std.proofs.lemmas.List.{length-map, map-id}
 use Rattle.std.proofs.lemmas.List.Sums.{prefix_len-le-length, prefix_len_passes, prefix_len_stops}
-use Rattle.std.specs.List.{prefix_len}
 use lib.Lanes.{chunk, zip2, mask_l, top}
-use Rattle.syslog_pieces.specs.Bodies.Scan.{IsRunIn, first_set}
+use Rattle.syslog_pieces.specs.Bodies.Scan.{first_set}
 
 -- ---- vectors that are computed lane by lane from a load v of sixteen bytes
 pub record IsLanes (v z : List ℕ) (f : ℕ → ℕ) : Type 0 where

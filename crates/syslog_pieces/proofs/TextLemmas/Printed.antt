@@ -1,15 +1,9 @@
 -- Printed texts, and the bytes that are written of them.
-use Rattle.std.proofs.Common.{◌≡◌, ℕ, ◌+◌, ◌<◌, List, [], ◌∷◌, ◌++◌, length, get_or, take, sym, ap, ◌∙◌, append_assoc}
-use Rattle.std.proofs.Common.{append-nil}
-pub use Rattle.std.proofs.lemmas.List.Folds.{flat_map-map}
-use Rattle.std.proofs.lemmas.List.{take_more}
-use Rattle.std.proofs.lemmas.List.Concat.{flat_map-append}
-use Rattle.std.proofs.lemmas.Str.{encodes-append, encodes-chars}
+use Rattle.syslog_pieces.proofs.Names.{◌≡◌, ℕ, ◌+◌, ◌<◌, List, [], ◌∷◌, ◌++◌, length, get_or, take, sym, ap, ◌∙◌}
+use Rattle.syslog_pieces.proofs.Names.{append_assoc, append-nil, take_more, flat_map-append, encodes-append}
+use Rattle.syslog_pieces.proofs.Names.{encodes-chars, flat_map, chars, encode_utf8_all, IsUtf8, Text, param_text}
 use Rattle.std.specs.Char.{encode_utf8}
-use Rattle.std.specs.List.{flat_map}
-use Rattle.std.specs.Str.{chars, encode_utf8_all, IsUtf8}
-use Rattle.syslog_pieces.specs.Pieces.Class.{Text}
-use Rattle.syslog_pieces.specs.StructuredData.Element.{param_text}
+pub use Rattle.std.proofs.lemmas.List.Folds.{flat_map-map}
 
 -- the bytes of a text that a slice holds
 pub encodes_shown : (bytes source : List ℕ) → IsUtf8 bytes → bytes ≡ source → encode_utf8_all (chars source) ≡ bytes

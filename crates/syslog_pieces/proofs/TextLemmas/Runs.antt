@@ -1,20 +1,16 @@
 -- Runs: of bytes, and of the characters that they are.
-use Rattle.std.proofs.Common.{◌≡◌, ◌≤◌, ◌<◌, ◌+◌, ℕ, zero, suc, Bool, true, not, nat_lt, List, [], ◌∷◌, ◌++◌, length}
-use Rattle.std.proofs.Common.{get_or, take, drop, refl, sym, ap, subst, ◌∙◌, inl, inr, add-one, add-zero, arith}
-use Rattle.std.proofs.Common.{length-take, get_or-take, get_or-drop, length-drop}
-use Rattle.std.proofs.Math.Seq.{take-add}
-use Rattle.std.proofs.lemmas.List.{drop-drop, take-append-drop}
-use Rattle.std.proofs.lemmas.Bool.{cases_Bool, cases_lt, and_parts, and_left, ltb-true, lt-ltb, le-ltb, not_from_true}
-use Rattle.std.proofs.lemmas.Str.{chars-append, chars-nil, chars-IsAscii, IsCharBoundary-start}
-use Rattle.std.proofs.lemmas.Str.{IsCharBoundary-after_ascii, IsCharBoundary-from_rest, IsUtf8-take, IsUtf8-drop}
-use Rattle.std.specs.Str.{chars, IsUtf8, IsCharBoundary}
-use Rattle.syslog_pieces.specs.Pieces.Class.{Text, Class, Front, NoFront, Each, Ends, run, some_run}
-use Rattle.syslog_pieces.specs.Bodies.Scan.{IsRun, EndsRun, SplitsRun, byte_in, past_in}
-use Rattle.syslog_pieces.specs.Text.CharClass.{has}
-use Rattle.syslog_pieces.specs.declared.text.CharClass.{CharClass}
+use Rattle.syslog_pieces.proofs.Names.{◌≡◌, ◌≤◌, ◌<◌, ◌+◌, ℕ, zero, suc, Bool, true, not, nat_lt, List, [], ◌∷◌, ◌++◌}
+use Rattle.syslog_pieces.proofs.Names.{length, get_or, take, drop, refl, sym, ap, subst, ◌∙◌, inl, inr, add-one}
+use Rattle.syslog_pieces.proofs.Names.{add-zero, arith, length-drop, take-add, drop-drop, take-append-drop, cases_Bool}
+use Rattle.syslog_pieces.proofs.Names.{cases_lt, and_parts, and_left, ltb-true, lt-ltb, chars-append, chars-nil}
+use Rattle.syslog_pieces.proofs.Names.{chars-IsAscii, IsCharBoundary-after_ascii, IsUtf8-take, IsUtf8-drop, chars}
+use Rattle.syslog_pieces.proofs.Names.{IsUtf8, IsCharBoundary, Text, Class, Front, NoFront, Each, Ends, run, some_run}
+use Rattle.syslog_pieces.proofs.Names.{IsRun, EndsRun, SplitsRun, byte_in, past_in, has, CharClass, run_same}
+use Rattle.syslog_pieces.proofs.Names.{each_append, each_map}
+use Rattle.std.proofs.Common.{length-take, get_or-take, get_or-drop}
+use Rattle.std.proofs.lemmas.Bool.{le-ltb, not_from_true}
+use Rattle.std.proofs.lemmas.Str.{IsCharBoundary-start, IsCharBoundary-from_rest}
 use Rattle.syslog_pieces.proofs.TextLemmas.Chars.{chars_cut, chars_nonempty, chars_empty, ends_by_byte, low_ascii}
-use Rattle.syslog_pieces.proofs.PieceLemmas.Class.{run_same}
-use Rattle.syslog_pieces.proofs.PieceLemmas.Each.{each_append, each_map}
 
 -- ---- where a run ends
 

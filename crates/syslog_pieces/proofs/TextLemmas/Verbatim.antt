@@ -1,16 +1,8 @@
 -- Words, hosts and numbers that print as they are written.
-use Rattle.std.proofs.Common.{◌≡◌, ℕ, ◌<◌, ◌≤◌, true, [], ◌∷◌, refl, ◌^◌, List, length, get_or, Option, Some, None, inl}
-use Rattle.std.proofs.Common.{inr, sym, ap, ◌∙◌, arith}
-use Rattle.std.proofs.lemmas.Fmt.{decimal-digits_value}
-use Rattle.std.specs.Char.{is_ascii_digit}
-use Rattle.std.specs.Fmt.{decimal}
-use Rattle.std.specs.Str.{bytes_eq, chars}
-use Rattle.std.specs.Str.Parse.{digits_value}
-use Rattle.syslog_pieces.specs.Bodies.Scan.{SplitsRun}
-use Rattle.syslog_pieces.specs.Pieces.Class.{Text, Front, some_run}
-use Rattle.syslog_pieces.specs.Pieces.Verbatim.{Verbatim}
-use Rattle.syslog_pieces.specs.Text.{word, host, IsHost, number, name_text, Names, is_blank}
-use Rattle.syslog_pieces.proofs.PieceLemmas.Verbatim.{verbatim_of}
+use Rattle.syslog_pieces.proofs.Names.{◌≡◌, ℕ, ◌<◌, ◌≤◌, true, [], ◌∷◌, refl, ◌^◌, List, length, get_or, Option, Some}
+use Rattle.syslog_pieces.proofs.Names.{None, inl, inr, sym, ap, ◌∙◌, arith, decimal-digits_value, is_ascii_digit}
+use Rattle.syslog_pieces.proofs.Names.{decimal, bytes_eq, chars, digits_value, SplitsRun, Text, Front, some_run}
+use Rattle.syslog_pieces.proofs.Names.{Verbatim, word, host, IsHost, number, name_text, Names, is_blank, verbatim_of}
 use Rattle.syslog_pieces.proofs.TextLemmas.Chars.{digit_chars, one_ascii, text_is}
 use Rattle.syslog_pieces.proofs.TextLemmas.Runs.{run_is}
 use Rattle.syslog_pieces.proofs.TextLemmas.Words.{number_read, own}

@@ -1,4 +1,4 @@
-use Rattle.std.proofs.Common.{rules}
+use Rattle.syslog_pieces.proofs.Names.{rules}
 use Rattle.syslog_pieces.proofs.ProcIdLemmas.{no_process}
 use Rattle.syslog_pieces.proofs.procid.process_word.Goals as goal
 

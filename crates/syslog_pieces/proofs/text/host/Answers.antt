@@ -1,8 +1,8 @@
-use Rattle.syslog_pieces.specs.Text.{host}
-use Rattle.syslog_pieces.proofs.text.host.Goals as goal
+use Rattle.syslog_pieces.proofs.Names.{host}
 use Rattle.syslog_pieces.proofs.TextLemmas.Chars.{empty_is}
 use Rattle.syslog_pieces.proofs.TextLemmas.Runs.{no_run_front}
 use Rattle.syslog_pieces.proofs.TextLemmas.Words.{no_host_colon}
+use Rattle.syslog_pieces.proofs.text.host.Goals as goal
 
 pub returns-then-is_empty : goal.returns-then-is_empty
 returns-then-is_empty c =

@@ -1,4 +1,4 @@
-use Rattle.std.proofs.Common.{rules, ◌<◌, length, get_or, refl}
+use Rattle.syslog_pieces.proofs.Names.{rules, ◌<◌, length, get_or, refl}
 use Rattle.syslog_pieces.proofs.TextLemmas.Runs.{passed_none, passed_ascii, passed_past, passed_ends, ends_at_cut}
 use Rattle.syslog_pieces.proofs.text.mixed_run_end.Goals as goal
 

@@ -1,7 +1,7 @@
-use Rattle.std.proofs.Common.{◌<◌, ◌^◌, arith, rules}
-use Rattle.syslog_pieces.proofs.text.number.Goals as goal
+use Rattle.syslog_pieces.proofs.Names.{◌<◌, ◌^◌, arith, rules}
 use Rattle.syslog_pieces.proofs.TextLemmas.Looks.{no_number}
 use Rattle.syslog_pieces.proofs.TextLemmas.Words.{number_stuck}
+use Rattle.syslog_pieces.proofs.text.number.Goals as goal
 
 pub returns-then-value-limit : goal.returns-then-value-limit
 returns-then-value-limit c =

@@ -1,4 +1,4 @@
-use Rattle.std.proofs.Common.{rules}
+use Rattle.syslog_pieces.proofs.Names.{rules}
 use Rattle.syslog_pieces.proofs.TextLemmas.Runs.{all_end}
 use Rattle.syslog_pieces.proofs.text.run_end.Goals as goal
 

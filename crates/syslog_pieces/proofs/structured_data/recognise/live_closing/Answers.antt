@@ -1,6 +1,6 @@
-use Rattle.syslog_pieces.proofs.Names.{rules, ◌≡◌, ℕ, Result, Ok, Err, sym, subst, MatchResult, chars, NoFront, closing}
-use Rattle.syslog_pieces.proofs.Names.{IsDead, meets_here, meets_none, no_more, no_more_behind, begins, param}
-use Rattle.std.specs.Result.{IsErrAnd}
+use Rattle.syslog_pieces.proofs.Names.{rules, ◌≡◌, ℕ, Result, Ok, Err, sym, subst, MatchResult, IsErrAnd, chars}
+use Rattle.syslog_pieces.proofs.Names.{NoFront, closing, IsDead, meets_here, meets_none, no_more, no_more_behind}
+use Rattle.syslog_pieces.proofs.Names.{begins, param}
 use Rattle.syslog_pieces.proofs.StructuredDataLemmas.Closing.{byte_count_slice, dead_suffix, passes_here, no_opening}
 use Rattle.syslog_pieces.proofs.StructuredDataLemmas.Closing.{value_ends, value_breaks, value_goes}
 use Rattle.syslog_pieces.proofs.structured_data.recognise.live_closing.Goals as goal

@@ -1,8 +1,5 @@
-use Rattle.syslog_pieces.proofs.Names.{◌≡◌, ℕ, List, Bool, false, ◌&&◌, refl, subst, ap, ◌∙◌, arith, has}
-use Rattle.std.proofs.Common.{nat_lt}
-use Rattle.std.specs.Prelude.{slice_index}
-use Rattle.syslog_pieces.specs.Bodies.Scan.{IsRun, byte_in}
-use Rattle.syslog_pieces.specs.declared.text.CharClass.{CharClass}
+use Rattle.syslog_pieces.proofs.Names.{◌≡◌, ℕ, List, Bool, false, ◌&&◌, refl, subst, ap, ◌∙◌, arith, nat_lt, has}
+use Rattle.syslog_pieces.proofs.Names.{slice_index, IsRun, byte_in, CharClass}
 use Rattle.syslog_pieces.proofs.TextLemmas.Runs.{all_end, ascii_run}
 use Rattle.syslog_pieces.proofs.structured_data.recognise.plain_end.Goals as goal
 

@@ -1,6 +1,6 @@
 use Rattle.std.specs.Str.{chars}
-use Rattle.syslog_pieces.proofs.text.verbatim.past_cut.Goals as goal
 use Rattle.syslog_pieces.proofs.TextLemmas.Copied.{behind_gap}
+use Rattle.syslog_pieces.proofs.text.verbatim.past_cut.Goals as goal
 
 pub returns-in-Some : goal.returns-in-Some
 returns-in-Some c = rw c.in-Some.is (λ copied h.

@@ -1,11 +1,7 @@
-use Rattle.std.proofs.Common.{rules, [], ◌∷◌, ◌≡◌, false, refl}
-use Rattle.std.specs.Prelude.{is_some}
-use Rattle.syslog_pieces.specs.Pieces.Class.{some_run}
-use Rattle.syslog_pieces.specs.Text.{is_blank}
-use Rattle.syslog_pieces.proofs.text.verbatim.verbatim_gap.Goals as goal
-use Rattle.syslog_pieces.proofs.PieceLemmas.Lists.{begins}
+use Rattle.syslog_pieces.proofs.Names.{rules, [], ◌∷◌, ◌≡◌, false, refl, is_some, some_run, is_blank, begins}
 use Rattle.syslog_pieces.proofs.TextLemmas.Verbatim.{one_space}
 use Rattle.syslog_pieces.proofs.TextLemmas.Copied.{verbatim_on, wide_gap}
+use Rattle.syslog_pieces.proofs.text.verbatim.verbatim_gap.Goals as goal
 
 pub returns-then-is_byte : goal.returns-then-is_byte
 returns-then-is_byte c = verbatim_on (some_run is_blank) (λ _. 32 ∷ []) _ _ c.args.cut

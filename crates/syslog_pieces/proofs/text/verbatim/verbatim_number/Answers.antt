@@ -1,4 +1,4 @@
-use Rattle.std.proofs.Common.{arith}
+use Rattle.syslog_pieces.proofs.Names.{arith}
 use Rattle.syslog_pieces.proofs.TextLemmas.Verbatim.{digits_verbatim}
 use Rattle.syslog_pieces.proofs.text.verbatim.verbatim_number.Goals as goal
 
