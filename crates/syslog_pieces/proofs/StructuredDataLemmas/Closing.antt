@@ -301,7 +301,7 @@ pub run_on : (test : ℕ → Bool) → AllPlain test → (text t w u : Text) →
 run_on test a text t w u e h m =
     meets_on m (subst (λ (x : Text). Meets value x value u) (sym e) (run_goes test a w u h))
 
-module _ (test : ℕ → Bool) (a : AllPlain test) (text bs xs ys : Text) (s : SplitsRun test bs xs ys)
+module _ {test : ℕ → Bool} (a : AllPlain test) {text bs xs ys : Text} (s : SplitsRun test bs xs ys)
     (m : Meets quoted text quoted (chars bs)) where
   pub past_run : Meets quoted text quoted (chars ys)
   past_run =

@@ -265,9 +265,6 @@ list_more {s = s} {s' = s'} on k q gap items f e =
 no_bracket : (s : Text) → NoFront (exactly (91 ∷ [])) s → NoFront item s
 no_bracket s n p q v e h = let b = item_begins p q v h in n (91 ∷ []) b.0 tt (e ∙ b.1) refl
 
-pub list_end : (t s : Text) → VerbatimItems t s → NoFront (exactly (91 ∷ [])) s → ListPrints t s s
-list_end t s on n = on s s [] (many_here item s (no_bracket s n)) refl
-
 -- a broken element behind them, and no further one
 pub broken_end : (t s q : Text) → VerbatimItems t s → NoFront element s → Front bracketed s q (tt, (tt, (tt, tt)))
     → NoFront (exactly (91 ∷ [])) q → ListPrints t s q
@@ -281,8 +278,10 @@ pub dash_on : (t s : Text) (cut : Option Cut) → Front (exactly (45 ∷ [])) t 
 dash_on t s cut f =
     verbatim_on forgiving elements_text t s cut (record { value = []; whole = begins 45 t s f; is = inl (refl, refl) })
 
-pub list_on : (t s : Text) (cut : Option Cut) → ListPrints t s s → CopiedOn forgiving elements_text t cut s cut
-list_on t s cut l =
+pub list_on : (t s : Text) (cut : Option Cut) → VerbatimItems t s → NoFront (exactly (91 ∷ [])) s
+    → CopiedOn forgiving elements_text t cut s cut
+list_on t s cut on n =
+    let l = on s s [] (many_here item s (no_bracket s n)) refl in
     record {
       value = l.elements;
       is = l.is;
@@ -300,4 +299,4 @@ list_cut t q None c n l e =
 list_cut t q (Some d) c n l e = absurd (cc)
 
 -- what the reader of a list that prints as it is written rests on
-pub ruleset copied_lists = (dash_on, list_end, list_on, list_cut, broken_end)
+pub ruleset copied_lists = (dash_on, list_on, list_cut, broken_end)

@@ -172,7 +172,7 @@ singles_each : (w : Text) → Each is_bare_char w → AllByRecursion IsUnit (sin
 singles_each [] h = tt
 singles_each (c ∷ w) h = (bare_is c h.0, singles_each w h.1)
 
-module _ (t bs xs ys out out' : Text) (s : SplitsRun is_bare_char bs xs ys) (r : Removes t out (chars bs))
+module _ {t bs xs ys out out' : Text} (s : SplitsRun is_bare_char bs xs ys) (r : Removes t out (chars bs))
     (f : out' ≡ out ++ chars xs) where
   pub removes_run : Removes t out' (chars ys)
   removes_run = removes_on t out (chars bs) (chars ys) out' (chars xs) (singles (chars xs)) r

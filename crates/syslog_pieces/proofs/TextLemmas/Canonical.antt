@@ -11,12 +11,12 @@ use Rattle.syslog_pieces.proofs.TextLemmas.ReadBack.{host_back, word_back}
 use Rattle.syslog_pieces.proofs.TextLemmas.Runs.{run_is}
 use Rattle.syslog_pieces.proofs.TextLemmas.Words.{host_det, word_det, tag_word_det}
 
--- ---- several tests in turn
-
+-- ---- texts that are not empty
 pub some_char : (t : Text) → (t ≡ [] → ⊥) → 0 < length t
 some_char [] n = absurd (n refl)
 some_char (c ∷ t) n = omega arith
 
+-- what the test rests on whether a text has a character and each is of a class
 pub ruleset both_told = (false_is, last_is, some_char)
 
 -- ---- ends and runs

@@ -26,4 +26,5 @@ module _ (t r : List ℕ) (u : IsUtf8 t) (z : IsUtf8 r) (p : Text) (whole : char
       let same = e ∙ rw (← place) (ap (take n) bytes ∙ take-append_seam (encode_utf8_all p) r) in
       chars_cut t xs r (rw same bytes) (rw e (IsUtf8-take t (length t - length r) u front_cut))
 
+-- what the reader of that front rests on
 pub ruleset cuts = (rest_shorter, front_cut, front_chars)

@@ -11,13 +11,11 @@ use Rattle.std.specs.Fmt.{digits}
 use Rattle.jiff_fmt.specs.Text.{pad2, pad4}
 use Rattle.syslog_pieces.specs.Timestamp.Printed.{pad3}
 
-digit_ascii : (d : ℕ) → d < 10 → digit_glyph false d < 128
-digit_ascii d h = rw (lt-ltb d 10 h) (omega arith)
-
 digits_onto_ascii : (k n : ℕ) (acc : List ℕ) → IsAscii acc → IsAscii (digits_onto k 10 false n acc)
 digits_onto_ascii zero n acc h = h
 digits_onto_ascii (suc k) n acc h =
-    let more = IsAscii-cons (digit_glyph false (n % 10)) acc (digit_ascii (n % 10) (omega arith)) h in
+    let low : digit_glyph false (n % 10) < 128 = rw (lt-ltb (n % 10) 10 (omega arith)) (omega arith) in
+    let more = IsAscii-cons (digit_glyph false (n % 10)) acc low h in
     elim (eqb_tells (n / 10) 0) [
       | inl last ↦ rw last.0 more
       | inr some ↦ rw some.0 (digits_onto_ascii k (n / 10) (digit_glyph false (n % 10) ∷ acc) more)

@@ -117,7 +117,6 @@ fn note_params<'a>(text: &'a str, notes: &mut [(&'a str, &'a str)]) -> Option<(u
 
 /// The strict element at the front where it has few parameters, and the text behind it: walked once, and the memory for
 /// its parameters asked for once, behind its `]`. It may always answer nothing.
-#[tactic(auto, using(crate::proofs::StructuredDataLemmas::Closing::element_read))]
 #[inline(always)]
 pub(super) fn noted_element<'a>(
     alloc: Global,
