@@ -85,7 +85,8 @@ quoted_det = row_det quoted_row quoted_row_det
 
 pub element_starts : {t u : Text} {vs : Values start_row} → Front start t u vs → Meets element t inside u
 element_starts {t = t} {u = u} {vs = vs} f =
-    meets_on (mapped_meets (Row element_row) ElementValue element_of t) (rows_go start_row inside_row start_det t u vs f)
+    meets_on (mapped_meets (Row element_row) ElementValue element_of t)
+    (rows_go start_row inside_row start_det t u vs f)
 
 pub element_read : {t u r id : Text} {ps : List (Text × Text)} → Front start t u (id_alone id)
     → Front inside u r (ps, (tt, tt)) → Front element t r (record { id = id; params = ps })

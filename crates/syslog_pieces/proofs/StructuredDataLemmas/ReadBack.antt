@@ -186,7 +186,8 @@ param_verbatim {t = t} {a = a} {b = b} {c = c} {u = u} {name = name} {v = v} f g
     let whole : t ≡ name ++ (61 ∷ 34 ∷ (v ++ (34 ∷ u))) =
     cc (f.whole, f.is.2, begins 61 a b g, quote, quoted_text q) in
     verbatim_by_text param bare_param_text t u (name, v)
-    (param_read (row_of opening_row (f then g then no_blanks 34 refl quote then h then refl)) q) (simp append_assoc whole)
+    (param_read (row_of opening_row (f then g then no_blanks 34 refl quote then h then refl)) q)
+    (simp append_assoc whole)
 
 -- ---- elements
 

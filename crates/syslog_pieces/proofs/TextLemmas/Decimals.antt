@@ -61,7 +61,8 @@ three_digits n l h =
 
 pub four_digits : (n : ℕ) → 1_000 ≤ n → n < 10_000 → decimal n ≡ pad4 n
 four_digits n l h =
-    let e = last_digit n _ (omega arith) (omega arith) (three_digits (n / 10) (omega arith) (omega arith)) in grind arith
+    let e = last_digit n _ (omega arith) (omega arith) (three_digits (n / 10) (omega arith) (omega arith)) in
+    grind arith
 
 pub five_digits : (n : ℕ) → 10_000 ≤ n → n < 100_000 → decimal n ≡ (48 + n / 10_000) ∷ pad4 (n % 10_000)
 five_digits n l h =

@@ -100,7 +100,8 @@ module _ (class : CharClass) (bs : List ℕ) (u : IsUtf8 bs) where
   passed_none = record { boundary = IsCharBoundary-start bs u; left = refl; each = rw chars-nil tt }
 
   passed_more : (f : ℕ → Bool) → ((c : ℕ) → f c ≡ true → has class c ≡ true) → (rest rest' : List ℕ) (n k : ℕ)
-      → HasPassed (has class) bs rest n → EndsRun f rest k → rest' ≡ drop k rest → HasPassed (has class) bs rest' (n + k)
+      → HasPassed (has class) bs rest n → EndsRun f rest k → rest' ≡ drop k rest
+      → HasPassed (has class) bs rest' (n + k)
   passed_more f more rest rest' n k p (b, s) e =
       record {
         boundary = IsCharBoundary-from_rest bs n k p.boundary.0 (rw p.left at b);
