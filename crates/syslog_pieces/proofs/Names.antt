@@ -1,50 +1,71 @@
--- The names that most proofs about structured data cite, passed on from one place. Declares nothing.
+-- The names that most proofs about texts, process ids and structured data cite, passed on from one place.
+-- Declares nothing.
 pub use Rattle.std.proofs.Common.{◌≡◌, inl, inr, ℕ, List, [], ◌∷◌, ◌++◌, Option, Some, None, refl, sym, subst}
 pub use Rattle.std.proofs.Common.{append-nil, ◌≢◌, Bool, true, false, not, nat_eq, cond, ◌⊎◌, length, ap, ◌∙◌}
 pub use Rattle.std.proofs.Common.{append_assoc, arith, map, ◌+◌, ◌-◌, ◌≤◌, take, ◌<◌, zero, suc, ◌&&◌, get_or, Result}
-pub use Rattle.std.proofs.Common.{Ok, Err, count_by, MatchBool, rules, string_bytes, IfOk}
-pub use Rattle.std.proofs.lemmas.Bool.{and_parts, and_from}
+pub use Rattle.std.proofs.Common.{Ok, Err, count_by, MatchBool, rules, string_bytes, IfOk, Fits, FitsSigned, IfSome}
+pub use Rattle.std.proofs.Common.{MatchOption, add-one, add-zero, drop, length-drop, nat_lt, negsuc, pos, w32, ℤ, ◌%◌}
+pub use Rattle.std.proofs.Common.{◌^◌}
+pub use Rattle.std.proofs.Math.Seq.{drop-append_seam, take-add, take-append_seam}
+pub use Rattle.std.proofs.lemmas.Bool.{and_parts, and_from, agree_below, agree_below_at, and_left, cases_Bool, cases_eq}
+pub use Rattle.std.proofs.lemmas.Bool.{cases_lt, cond-false, eqb-true, lt-ltb, ltb-true, ne_eqb, not-false, not-true}
 pub use Rattle.std.proofs.lemmas.Bool.Decides.{eqb_tells, nat_tests}
+pub use Rattle.std.proofs.lemmas.Fmt.{decimal-digits_value, decimal_digit, decimal_nonempty, digits_value-decimal}
 pub use Rattle.std.proofs.lemmas.List.{length-append, append_cancel_right, nil_from_length, take_all, length-map}
-pub use Rattle.std.proofs.lemmas.List.{map-append}
-pub use Rattle.std.proofs.lemmas.List.Folds.{list_all_more}
+pub use Rattle.std.proofs.lemmas.List.{map-append, drop-drop, drop-map, drop_all, map-id, take-append-drop, take_more}
+pub use Rattle.std.proofs.lemmas.List.Concat.{flat_map-append}
+pub use Rattle.std.proofs.lemmas.Result.{IfOk-weaker}
 pub use Rattle.std.proofs.lemmas.Str.{encodes-append, encodes-chars, chars-append, chars_past_char, chars-nil}
-pub use Rattle.std.proofs.lemmas.Str.{IsUtf8-string_bytes}
+pub use Rattle.std.proofs.lemmas.Str.{IsUtf8-string_bytes, IsCharBoundary-after_ascii, IsCharBoundary-at_seam}
+pub use Rattle.std.proofs.lemmas.Str.{IsUtf8-drop, IsUtf8-from_ascii, IsUtf8-take, chars-IsAscii, encodes-IsAscii}
+pub use Rattle.std.proofs.lemmas.Str.Ascii.{IsAscii-cons, IsAscii-nil}
+pub use Rattle.std.specs.Bool.{one_answer}
 pub use Rattle.std.specs.Borrow.{Bor}
-pub use Rattle.std.specs.List.{flat_map, AllByRecursion, list_all, list_any}
-pub use Rattle.std.specs.Prelude.{◌↔◌, is_some, is_none, is_ok}
-pub use Rattle.std.specs.Result.{MatchResult}
-pub use Rattle.std.specs.Str.{chars, IsUtf8, encode_utf8_all}
-pub use Rattle.syslog_pieces.specs.Bodies.Closing.{opening, name_alone, quoted, start, id_alone, inside_row}
-pub use Rattle.syslog_pieces.specs.Bodies.Closing.{opening_row, start_row, quoted_row, inside, tail_row, closing}
-pub use Rattle.syslog_pieces.specs.Bodies.Closing.{byte_count, IsDead}
-pub use Rattle.syslog_pieces.specs.Bodies.Scan.{SplitsRun}
-pub use Rattle.syslog_pieces.specs.Bodies.Verbatim.{bare_param_text, VerbatimItems}
-pub use Rattle.syslog_pieces.specs.Pieces.Class.{Text, Class, Values, Row, run, some_run, exactly, optional, Each, Ends}
-pub use Rattle.syslog_pieces.specs.Pieces.Class.{Front, NoFront, IsDeterministic, join}
-pub use Rattle.syslog_pieces.specs.Pieces.Lists.{IsMany, IsMore, IsList, list_before, many, more_before, HasRead}
-pub use Rattle.syslog_pieces.specs.Pieces.View.{shown, text_of}
-pub use Rattle.syslog_pieces.specs.StructuredData.{value, param_row, param, element_row, element_of, element, item}
-pub use Rattle.syslog_pieces.specs.StructuredData.{strict, forgiving, param_of, IsValueUnit, IsValue, bracketed}
-pub use Rattle.syslog_pieces.specs.StructuredData.Canonical.{IsCanonicalParam, IsCanonicalElement}
-pub use Rattle.syslog_pieces.specs.StructuredData.Element.{ElementValue, element_text, param_text, joined_elements}
-pub use Rattle.syslog_pieces.specs.StructuredData.Element.{elements_text, param_value, element_value}
-pub use Rattle.syslog_pieces.specs.StructuredData.Equal.{param_eq}
-pub use Rattle.syslog_pieces.specs.StructuredData.Escapes.{TextUnit, pair, single, unit_text, escaped}
-pub use Rattle.syslog_pieces.specs.StructuredData.Rfc3164List.{full_element, rfc3164_list, IsDashBefore}
-pub use Rattle.syslog_pieces.specs.Text.{is_blank, dash}
-pub use Rattle.syslog_pieces.specs.Text.CharClass.{is_name_char, is_id_char, is_unescaped_char, is_open_char, has}
-pub use Rattle.syslog_pieces.specs.declared.structured_data.rfc3164_list.DashRule.{DashRule}
+pub use Rattle.std.specs.Char.{digit_value, is_ascii_digit, is_not_whitespace, is_whitespace}
+pub use Rattle.std.specs.Fmt.{HasWritten, IsPlainFormatter, decimal, digit_glyph, digits_onto, signed_decimal}
+pub use Rattle.std.specs.List.{flat_map, AllByRecursion, list_all, list_any, prefix_len}
+pub use Rattle.std.specs.Prelude.{◌↔◌, is_some, is_none, is_ok, IsSomeAnd, IsTrue, String, slice_index}
+pub use Rattle.std.specs.Result.{MatchResult, IsErrAnd, OkIff}
+pub use Rattle.std.specs.Str.{chars, IsUtf8, encode_utf8_all, IsAscii, IsCharBoundary, NoCharPasses, NonePass, bytes_eq}
+pub use Rattle.std.specs.Str.Parse.{IsNumeral, ParsesSigned, ParsesUnsigned, digits_value, signed_digits_value}
 pub use denote.Shadow.{shadow}
 pub use denote.Text.{Utf8}
-pub use Rattle.syslog_pieces.proofs.PieceLemmas.Class.{◌also◌, heads, row_cons, row_head, front_same, no_front_no}
-pub use Rattle.syslog_pieces.proofs.PieceLemmas.Class.{row_none_here, AllDeterministic, run_det, some_run_det}
-pub use Rattle.syslog_pieces.proofs.PieceLemmas.Class.{exactly_det, texted_det, row_det, behind, optional_some}
-pub use Rattle.syslog_pieces.proofs.PieceLemmas.Each.{all_append}
+pub use Rattle.syslog_pieces.specs.Bodies.Closing.{opening, quoted, start, id_alone, inside_row, opening_row, start_row}
+pub use Rattle.syslog_pieces.specs.Bodies.Closing.{quoted_row, inside, closing, byte_count, IsDead, last_char}
+pub use Rattle.syslog_pieces.specs.Bodies.Scan.{SplitsRun, EndsRun, IsBare, IsRun, IsRunIn, bit_of, byte_in, past_in}
+pub use Rattle.syslog_pieces.specs.Bodies.Verbatim.{VerbatimItems, CopiedOn, Copies, IsBareWord, ListPrints}
+pub use Rattle.syslog_pieces.specs.Pieces.Class.{Text, Class, Values, Row, run, some_run, exactly, optional, Each, Ends}
+pub use Rattle.syslog_pieces.specs.Pieces.Class.{Front, NoFront, IsDeterministic, join, mapped, texted}
+pub use Rattle.syslog_pieces.specs.Pieces.Lists.{IsMany, IsMore, IsList, list_before, many, more_before, HasRead}
+pub use Rattle.syslog_pieces.specs.Pieces.Verbatim.{Verbatim}
+pub use Rattle.syslog_pieces.specs.Pieces.View.{shown, text_of, Reads, seen, text_eq}
+pub use Rattle.syslog_pieces.specs.ProcId.{IsBoundedProcess, IsCanonicalProcess, IsI32Text, process_text, process_word}
+pub use Rattle.syslog_pieces.specs.StructuredData.{value, param_row, param, element_row, element_of, element, item}
+pub use Rattle.syslog_pieces.specs.StructuredData.{strict, forgiving, param_of, IsValueUnit, IsValue, bracketed}
+pub use Rattle.syslog_pieces.specs.StructuredData.Canonical.{IsCanonicalParam, IsCanonicalElement, BeginsUnblank}
+pub use Rattle.syslog_pieces.specs.StructuredData.Element.{ElementValue, param_text, param_value, element_value}
+pub use Rattle.syslog_pieces.specs.StructuredData.Equal.{param_eq, counts_agree, param_count, same_params}
+pub use Rattle.syslog_pieces.specs.StructuredData.Escapes.{TextUnit, pair, single, unit_text, escaped, IsUnescaped}
+pub use Rattle.syslog_pieces.specs.StructuredData.Rfc3164List.{full_element, rfc3164_list, IsDashBefore, BeginsNoList}
+pub use Rattle.syslog_pieces.specs.Text.{is_blank, dash, EndsInColon, IsHost, Names, colon, host, is_tag_char}
+pub use Rattle.syslog_pieces.specs.Text.{name_text, number, tag_word, trimmed, word}
+pub use Rattle.syslog_pieces.specs.Text.Canonical.{IsCanonicalHost, IsCanonicalTag, IsCanonicalWord, IsVisible}
+pub use Rattle.syslog_pieces.specs.Text.CharClass.{is_name_char, is_id_char, is_unescaped_char, is_open_char, has}
+pub use Rattle.syslog_pieces.specs.declared.procid.ProcId.{ProcId}
+pub use Rattle.syslog_pieces.specs.declared.procid.ProcId.TheVariants.{PID}
+pub use Rattle.syslog_pieces.specs.declared.structured_data.rfc3164_list.DashRule.{DashRule}
+pub use Rattle.syslog_pieces.specs.declared.text.CharClass.{CharClass}
+pub use Rattle.syslog_pieces.specs.declared.text.verbatim.Cut.{Cut}
+pub use Rattle.syslog_pieces.proofs.PieceLemmas.Class.{◌also◌, heads, front_same, no_front_no, row_none_here}
+pub use Rattle.syslog_pieces.proofs.PieceLemmas.Class.{AllDeterministic, run_det, some_run_det, exactly_det, texted_det}
+pub use Rattle.syslog_pieces.proofs.PieceLemmas.Class.{row_det, behind, optional_some, mapped_det, mapped_front}
+pub use Rattle.syslog_pieces.proofs.PieceLemmas.Class.{nil_front, no_spaced_piece, no_spaced_space, run_same}
+pub use Rattle.syslog_pieces.proofs.PieceLemmas.Class.{spaced_front}
+pub use Rattle.syslog_pieces.proofs.PieceLemmas.Each.{all_append, all_map, each_append, each_behind, each_map}
 pub use Rattle.syslog_pieces.proofs.PieceLemmas.Lists.{many_here, many_cons, begins, list_here, more_here, no_list}
 pub use Rattle.syslog_pieces.proofs.PieceLemmas.Lists.{no_more, no_more_behind, many_det, no_many_no, has_read_none}
-pub use Rattle.syslog_pieces.proofs.PieceLemmas.Lists.{has_read_more, has_read_all}
-pub use Rattle.syslog_pieces.proofs.PieceLemmas.Meets.{Meets, meets_here, meets_on, meets_none, row_goes, row_first}
-pub use Rattle.syslog_pieces.proofs.PieceLemmas.Meets.{match_map}
+pub use Rattle.syslog_pieces.proofs.PieceLemmas.Lists.{has_read_more, has_read_all, Collects, Leaves, collects_first}
+pub use Rattle.syslog_pieces.proofs.PieceLemmas.Meets.{Meets, meets_here, meets_on, meets_none, match_map, mapped_meets}
 pub use Rattle.syslog_pieces.proofs.PieceLemmas.Rows.{row_of, ◌then◌, row_pieces, no_row, ◌past◌}
-pub use Rattle.syslog_pieces.proofs.TextLemmas.Canonical.{false_is, no_truth}
+pub use Rattle.syslog_pieces.proofs.PieceLemmas.Tests.{false_is, no_truth}
+pub use Rattle.syslog_pieces.proofs.PieceLemmas.Verbatim.{front_of, verbatim_by_text, verbatim_of}

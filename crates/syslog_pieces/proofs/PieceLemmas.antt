@@ -9,3 +9,4 @@ pub mod Meets
 pub mod Parts
 pub mod Rows
 pub mod Steps
+pub mod Tests

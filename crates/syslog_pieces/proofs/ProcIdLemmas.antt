@@ -1,25 +1,16 @@
 -- Numbers and names as process ids.
 pub mod ReadBack
-use Rattle.std.proofs.Common.{◌≡◌, ◌≢◌, ℕ, ℤ, pos, neg_ℤ, ◌<◌, ◌^◌, ◌⊎◌, inl, inr, Bool, true}
-use Rattle.std.proofs.Common.{false, FitsSigned, w32, List, [], ◌∷◌, ◌++◌, length, get_or, nat_eq}
-use Rattle.std.proofs.Common.{Some, None, Result, Ok, Err, refl, sym, ap, subst, ◌∙◌, rules, arith}
-use Rattle.std.specs.Char.{is_ascii_digit}
-use Rattle.std.specs.Str.{chars, IsUtf8, IsAscii}
-use Rattle.std.specs.Str.Parse.{digits_value, ParsesSigned, IsNumeral, without_leading_sign, signed_digits_value}
-use Rattle.std.proofs.lemmas.Bool.{cases_Bool, cases_eq, cases_lt, ne_eqb}
-use Rattle.std.proofs.lemmas.Fmt.{decimal-digits_value}
-use Rattle.std.proofs.lemmas.Str.{chars-IsAscii}
-use Rattle.std.proofs.lemmas.Str.Ascii.{IsAscii-cons}
-use Rattle.syslog_pieces.specs.Bodies.Verbatim.{IsBareWord, VerbatimDigits}
-use Rattle.syslog_pieces.specs.Bodies.Scan.{SplitsRun}
-use Rattle.syslog_pieces.specs.Pieces.Class.{Text, Each, Front, NoFront, IsDeterministic}
-use Rattle.syslog_pieces.specs.Pieces.Verbatim.{Verbatim}
-use Rattle.syslog_pieces.specs.Text.{word}
-use Rattle.syslog_pieces.specs.ProcId.{IsDigits, WritesSigned, IsI32Text, NamesProcess}
-use Rattle.syslog_pieces.specs.ProcId.{process_word, process_text, procid_text}
-use Rattle.syslog_pieces.specs.declared.procid.ProcId.{ProcId}
-use Rattle.syslog_pieces.specs.declared.procid.ProcId.TheVariants.{PID, Name}
-use Rattle.syslog_pieces.proofs.PieceLemmas.Verbatim.{verbatim_of}
+use Rattle.syslog_pieces.proofs.Names.{◌≡◌, ◌≢◌, ℕ, ℤ, pos, ◌<◌, ◌^◌, ◌⊎◌, inl, inr, w32, List, [], ◌∷◌, ◌++◌, length}
+use Rattle.syslog_pieces.proofs.Names.{get_or, Some, None, Result, Ok, Err, refl, sym, ap, ◌∙◌, rules, arith}
+use Rattle.syslog_pieces.proofs.Names.{is_ascii_digit, chars, IsUtf8, IsAscii, digits_value, ParsesSigned, IsNumeral}
+use Rattle.syslog_pieces.proofs.Names.{signed_digits_value, cases_Bool, cases_eq, cases_lt, ne_eqb}
+use Rattle.syslog_pieces.proofs.Names.{decimal-digits_value, chars-IsAscii, IsAscii-cons, IsBareWord, SplitsRun, Text}
+use Rattle.syslog_pieces.proofs.Names.{Each, Front, NoFront, IsDeterministic, Verbatim, word, IsI32Text, process_word}
+use Rattle.syslog_pieces.proofs.Names.{process_text, ProcId, PID, verbatim_of}
+use Rattle.std.specs.Str.Parse.{without_leading_sign}
+use Rattle.syslog_pieces.specs.Bodies.Verbatim.{VerbatimDigits}
+use Rattle.syslog_pieces.specs.ProcId.{IsDigits, WritesSigned, NamesProcess, procid_text}
+use Rattle.syslog_pieces.specs.declared.procid.ProcId.TheVariants.{Name}
 use Rattle.syslog_pieces.proofs.TextLemmas.Chars.{digits_ascii, ascii_chars, digit_chars}
 use Rattle.syslog_pieces.proofs.TextLemmas.Words.{own, word_det}
 

@@ -119,6 +119,7 @@ fn any_process(text: &str) -> ProcId<&str>
 }
 
 /// The process id at the front of a header's text, absent for `-`, and the text behind it.
+#[tactic(auto, using(crate::proofs::ProcIdLemmas::process_front, crate::proofs::ProcIdLemmas::absent_front))]
 #[inline(always)]
 pub fn process_word(text: &str) -> Option<(Option<ProcId<&str>>, &str)>
     ensures { Reads spec.process_word (option_map (spec.procid_value (λ s. shown s))) (chars text.now) result }
@@ -131,6 +132,7 @@ pub fn process_word(text: &str) -> Option<(Option<ProcId<&str>>, &str)>
 }
 
 // Whether no sign and no zero stands before other characters.
+#[tactic(auto, using(crate::proofs::TextLemmas::Chars::chars_empty, crate::proofs::TextLemmas::Chars::empty_is))]
 #[inline(always)]
 fn is_bare_word(name: &str) -> bool
     ensures { IsTrue result → IsBareWord (chars name.now) }
@@ -142,6 +144,7 @@ fn is_bare_word(name: &str) -> bool
 }
 
 /// The text behind the process id at the front, where it prints as it is written.
+#[tactic(auto, using(crate::proofs::ProcIdLemmas::process_verbatim, crate::proofs::ProcIdLemmas::absent_verbatim))]
 #[inline(always)]
 pub fn verbatim_process(text: &str) -> Option<&str>
     ensures { IfSome result (λ rest. Verbatim spec.process_word process_text (chars text.now) (shown rest)) }
@@ -154,6 +157,7 @@ pub fn verbatim_process(text: &str) -> Option<&str>
 }
 
 /// The text behind the digits at the front, where as a process id they print as they are written.
+#[tactic(auto, using(crate::proofs::ProcIdLemmas::digits_verbatim, crate::proofs::TextLemmas::Chars::nonempty_is))]
 #[inline(always)]
 pub fn verbatim_digits(text: &str) -> Option<&str>
     ensures { IfSome result (λ rest. VerbatimDigits (chars text.now) (shown rest)) }

@@ -77,6 +77,7 @@ impl CharClass {
 }
 
 /// The maximal run of the class at the front, perhaps empty, and the text behind it.
+#[tactic(auto, using(crate::proofs::TextLemmas::Runs::split_at_end))]
 #[inline(always)]
 pub fn split_run(text: &str, class: CharClass) -> (&str, &str)
     ensures { SplitsRun (has class) text.now result.0.now result.1.now }
@@ -151,6 +152,7 @@ fn past_run_end(text: &str, class: CharClass) -> usize
 }
 
 /// The first character, and the text behind it.
+#[tactic(auto, using(std::proofs::lemmas::Str::chars_past_char))]
 #[inline(always)]
 pub fn first(text: &str) -> Option<(char, &str)>
     ensures { MatchOption result (chars text.now ≡ []) (λ x. (chars text.now ≡ x.0 ∷ shown x.1) × IsUtf8 x.1.now) }
@@ -210,6 +212,7 @@ pub fn blanks(text: &str) -> &str
 }
 
 // The same of no blank, or of one space, which most gaps are: they need no scan.
+#[tactic(auto, using(crate::proofs::TextLemmas::Looks::no_blanks))]
 #[inline(always)]
 fn few_blanks(text: &str) -> Option<&str>
     ensures { IfSome result (λ rest. Front (run spec.is_blank) (chars text.now) (shown rest) tt) }
@@ -231,6 +234,7 @@ fn any_blanks(text: &str) -> &str
 }
 
 // The blanks at the front, perhaps none, and the text behind them.
+#[tactic(auto, using(crate::proofs::TextLemmas::Runs::split_at_end))]
 #[inline(always)]
 fn split_blanks(text: &str) -> (&str, &str)
     ensures { SplitsRun (has Blank) text.now result.0.now result.1.now }
@@ -249,6 +253,7 @@ fn blanks_end(text: &str) -> usize
 }
 
 /// The text behind the nonempty run of the class at the front.
+#[tactic(auto, using(crate::proofs::TextLemmas::Runs::some_run_front, crate::proofs::TextLemmas::Chars::nonempty_is))]
 #[inline(always)]
 pub fn skip_some(text: &str, class: CharClass) -> Option<&str>
     ensures { Skips (some_run (has class)) tt (chars text.now) result }
@@ -269,6 +274,7 @@ pub fn some_blanks(text: &str) -> Option<&str>
 }
 
 // The text behind a space before no blank, which most gaps are: it needs no scan.
+#[tactic(auto, using(crate::proofs::TextLemmas::Looks::gap_cut, crate::proofs::TextLemmas::Looks::gap_some))]
 #[inline(always)]
 fn past_space(text: &str) -> Option<&str>
     ensures { IfSome result (λ rest. Front (some_run spec.is_blank) (chars text.now) (shown rest) tt) }
@@ -282,6 +288,7 @@ fn past_space(text: &str) -> Option<&str>
 }
 
 // The text behind any number of blanks but none.
+#[tactic(auto, using(crate::proofs::TextLemmas::Runs::some_run_front, crate::proofs::TextLemmas::Chars::nonempty_is))]
 #[inline(always)]
 fn many_blanks(text: &str) -> Option<&str>
     ensures { Skips (some_run spec.is_blank) tt (chars text.now) result }
@@ -291,6 +298,7 @@ fn many_blanks(text: &str) -> Option<&str>
 }
 
 /// The number at the front, up to a limit, and the text behind it. Leading zeros are allowed.
+#[tactic(auto, using(crate::proofs::TextLemmas::Words::number_read))]
 #[inline(always)]
 pub fn number(text: &str, limit: u32) -> Option<(u32, &str)>
     ensures { Reads (spec.number limit) (λ n. n) (chars text.now) result }
@@ -319,6 +327,7 @@ pub(crate) fn is_byte(text: &str, byte: u8) -> bool
 }
 
 // `-` stands for an absent name.
+#[tactic(auto, using(crate::proofs::TextLemmas::Words::dash_told))]
 #[inline(always)]
 fn named(run: &str) -> Option<&str>
     ensures { spec.Names (chars run.now) (seen result) }
@@ -342,6 +351,7 @@ pub fn word(text: &str) -> Option<(Option<&str>, &str)>
 }
 
 /// The host at the front, absent for `-`, and the text behind it. The last colon of a run is left to that text.
+#[tactic(auto, using(crate::proofs::TextLemmas::Words::host_reads))]
 #[inline(always)]
 pub fn host(text: &str) -> Option<(Option<&str>, &str)>
     ensures { Reads spec.host seen (chars text.now) result }
@@ -373,6 +383,7 @@ pub fn tag_word(text: &str) -> Option<(Option<&str>, &str)>
 }
 
 /// The text without the white space at its two ends.
+#[tactic(auto, using(crate::proofs::TextLemmas::Trim::trimmed_chars, crate::proofs::TextLemmas::Trim::bare_trimmed))]
 #[inline(always)]
 pub fn trimmed(text: &str) -> &str
     ensures { shown result ≡ spec.trimmed (chars text.now) }

@@ -1,11 +1,11 @@
 -- Lists of pieces of one class.
-use Rattle.std.proofs.Common.{◌≡◌, ◌≢◌, ℕ, zero, suc, ◌<◌, ◌≤◌, List, [], ◌∷◌, ◌++◌, length}
-use Rattle.std.proofs.Common.{arith, refl, sym, ap, subst, ◌∙◌, append_assoc, append-nil}
+use Rattle.std.proofs.Common.{◌≡◌, ◌≢◌, ℕ, zero, suc, ◌<◌, ◌≤◌, List, [], ◌∷◌, ◌++◌, length, arith, refl, sym, ap}
+use Rattle.std.proofs.Common.{subst, ◌∙◌, append_assoc, append-nil}
 use Rattle.std.proofs.lemmas.List.{length-append}
 use Rattle.syslog_pieces.specs.Pieces.Class.{Text, Class, Front, NoFront, IsDeterministic, Row, exactly}
-use Rattle.syslog_pieces.specs.Pieces.Lists.{many, HasRead, IsList, IsMore, list_before, more_before}
-use Rattle.syslog_pieces.proofs.PieceLemmas.Class.{rest_same, after_nil, behind, heads, front_same}
-use Rattle.syslog_pieces.proofs.PieceLemmas.Class.{no_front_no, row_cons, row_head}
+use Rattle.syslog_pieces.specs.Pieces.Lists.{IsMany, many, HasRead, IsList, IsMore, list_before, more_before}
+use Rattle.syslog_pieces.proofs.PieceLemmas.Class.{rest_same, after_nil, behind, heads, front_same, no_front_no}
+use Rattle.syslog_pieces.proofs.PieceLemmas.Class.{row_cons, row_head}
 use Rattle.syslog_pieces.proofs.PieceLemmas.Meets.{Meets}
 
 heads_differ : (c d : ℕ) (xs ys : Text) → c ≢ d → c ∷ xs ≡ d ∷ ys → ⊥
@@ -31,9 +31,9 @@ many_det C d p q p' q' (v ∷ vs) (w ∷ ws) e (a, b, i, k, more) (a', b', i', k
 pub many_here : (C : Class) (t : Text) → NoFront C t → Front (many C) t t []
 many_here C t n = record { piece = []; whole = refl; is = (refl, n) }
 
-pub many_cons : (C : Class) (t t' q : Text) (v : C.Value) (vs : List C.Value) → Front C t t' v → Front (many C) t' q vs
+pub many_cons : (C : Class) {t t' q : Text} {v : C.Value} {vs : List C.Value} → Front C t t' v → Front (many C) t' q vs
     → Front (many C) t q (v ∷ vs)
-many_cons C t t' q v vs f g = record {
+many_cons C {q = q} {v = v} f g = record {
   piece = f.piece ++ g.piece;
   whole = f.whole ∙ ap (λ (x : Text). f.piece ++ x) g.whole ∙ sym (append_assoc f.piece g.piece q);
   is = (f.piece, g.piece, refl, subst (λ (x : Text). C.Is f.piece x v) g.whole f.is, g.is);
@@ -45,7 +45,7 @@ has_read_none C t q ws f = f
 pub has_read_more : (C : Class) (t s s' : Text) (vs : List C.Value) (v : C.Value) → HasRead C t vs s → Front C s s' v
     → HasRead C t (vs ++ (v ∷ [])) s'
 has_read_more C t s s' vs v r f q ws g = subst (λ (x : List C.Value). Front (many C) t q x)
-    (sym (append_assoc vs (v ∷ []) ws)) (r q (v ∷ ws) (many_cons C s s' q v ws f g))
+    (sym (append_assoc vs (v ∷ []) ws)) (r q (v ∷ ws) (many_cons C f g))
 
 pub has_read_all : (C : Class) (t s : Text) (vs : List C.Value) → HasRead C t vs s → NoFront C s → Front (many C) t s vs
 has_read_all C t s vs r n =
@@ -58,7 +58,7 @@ no_many_no C s zero t l k =
     k t [] (many_here C t (λ p q v e h. let a = s t q v (record { piece = p; whole = e; is = h }) in omega arith))
 no_many_no C s (suc n) t l k = k t [] (many_here C t (λ p q v e h.
     let f : Front C t q v = record { piece = p; whole = e; is = h } in
-    no_many_no C s n q (omega (arith, s t q v f)) (λ r vs g. k r (v ∷ vs) (many_cons C t q r v vs f g))))
+    no_many_no C s n q (omega (arith, s t q v f)) (λ r vs g. k r (v ∷ vs) (many_cons C f g))))
 
 -- where no piece begins the text, there are none; and the other way
 pub no_many_first : (C : Class) (t q : Text) (vs : List C.Value) → NoFront C t → Front (many C) t q vs → vs ≡ []
@@ -73,7 +73,7 @@ many_none C t q f = subst (λ (x : Text). NoFront C x) (sym (f.whole ∙ ap (λ 
 pub read_some : (C : Class) → ((t u : Text) (v : C.Value) → Front C t u v → length u < length t)
     → (t s s' : Text) (vs : List C.Value) (v : C.Value) → HasRead C t vs s → Front C s s' v → NoFront C t → ⊥
 read_some C shrinks t s s' vs v h f n = no_many_no C shrinks (length s') s' (omega arith) (λ r ws g.
-    let z = no_many_first C t r (vs ++ (v ∷ ws)) n (h r (v ∷ ws) (many_cons C s s' r v ws f g)) in
+    let z = no_many_first C t r (vs ++ (v ∷ ws)) n (h r (v ∷ ws) (many_cons C f g)) in
     omega (arith, ap length z, length-append vs (v ∷ ws)))
 
 -- ---- pieces between separators
@@ -84,17 +84,17 @@ module _ (C : Class) (separator close : ℕ) where
   abbrev more : Class
   more = more_before C separator close
 
-  pub list_cons : (t t' q : Text) (v : C.Value) (vs : List C.Value) → Front C t t' v → Front more t' q vs
+  pub list_cons : {t t' q : Text} {v : C.Value} {vs : List C.Value} → Front C t t' v → Front more t' q vs
       → Front list t q (v ∷ vs)
-  list_cons t t' q v vs f g = record {
+  list_cons {q = q} {v = v} f g = record {
     piece = f.piece ++ g.piece;
     whole = f.whole ∙ ap (λ (x : Text). f.piece ++ x) g.whole ∙ sym (append_assoc f.piece g.piece q);
     is = ((f.piece, g.piece, refl, subst (λ (x : Text). C.Is f.piece x v) g.whole f.is, g.is.0), g.is.1);
   }
 
-  pub more_cons : (t u t' q : Text) (v : C.Value) (vs : List C.Value) → t ≡ separator ∷ u → Front C u t' v
+  pub more_cons : {t u t' q : Text} {v : C.Value} {vs : List C.Value} → t ≡ separator ∷ u → Front C u t' v
       → Front more t' q vs → Front more t q (v ∷ vs)
-  more_cons t u t' q v vs e f g = record {
+  more_cons {q = q} {v = v} e f g = record {
     piece = separator ∷ (f.piece ++ g.piece);
     whole = e ∙ ap (λ (x : Text). separator ∷ x) (f.whole ∙ ap (λ (x : Text). f.piece ++ x) g.whole
         ∙ sym (append_assoc f.piece g.piece q));
@@ -154,7 +154,7 @@ module _ (C : Class) (separator close : ℕ) where
     forth = λ q vs g. (
         let r = row_head C (more ∷ Cs) g in
         let s = row_head more Cs r.2 in
-        ((vs.0 ∷ vs.1.0, vs.1.1), row_cons list Cs (list_cons t r.0 s.0 vs.0 vs.1.0 r.1 s.1) s.2));
+        ((vs.0 ∷ vs.1.0, vs.1.1), row_cons list Cs (list_cons r.1 s.1) s.2));
     back = λ q vs g. (
         let r = row_head list Cs g in
         let s = list_parts t r.1.piece r.0 vs.0 n r.1.whole r.1.is in
@@ -173,7 +173,7 @@ module _ (C : Class) (separator close : ℕ) where
       forth = λ q vs g. (
           let r = row_head C (more ∷ Cs) g in
           let s = row_head more Cs r.2 in
-          ((vs.0 ∷ vs.1.0, vs.1.1), row_cons more Cs (more_cons t u r.0 s.0 vs.0 vs.1.0 e r.1 s.1) s.2));
+          ((vs.0 ∷ vs.1.0, vs.1.1), row_cons more Cs (more_cons e r.1 s.1) s.2));
       back = λ q vs g. (
           let r = row_head more Cs g in
           let s = more_parts t u r.1.piece r.0 vs.0 (not_closed t u e) e r.1.whole r.1.is in
@@ -181,24 +181,20 @@ module _ (C : Class) (separator close : ℕ) where
     }
 
     module _ (d : IsDeterministic C) where
-      more_same : (p r p' r' : Text) (vs vs' : List C.Value) → p ++ (close ∷ r) ≡ p' ++ (close ∷ r')
-          → IsMore C separator p (close ∷ r) vs → IsMore C separator p' (close ∷ r') vs' → (p ≡ p') × (vs ≡ vs')
-      more_same p r p' r' [] [] e h h' = (h ∙ sym h', refl)
-      more_same p r p' r' [] (w ∷ ws) e h (a, b, i, k, others) = absurd
-          (heads_differ separator close _ _ differ
-          (sym (ap (λ (x : Text). x ++ (close ∷ r')) i) ∙ sym (after_nil p (close ∷ r) _ h e)))
-      more_same p r p' r' (v ∷ vs) [] e (a, b, i, k, others) h' = absurd
-          (heads_differ separator close _ _ differ
-          (sym (ap (λ (x : Text). x ++ (close ∷ r)) i) ∙ sym (after_nil p' (close ∷ r') _ h' (sym e))))
-      more_same p r p' r' (v ∷ vs) (w ∷ ws) e (a, b, i, k, others) (a', b', i', k', others') =
-          let e0 : separator ∷ (a ++ b ++ (close ∷ r)) ≡ separator ∷ (a' ++ b' ++ (close ∷ r')) =
-          sym (ap (λ (x : Text). x ++ (close ∷ r)) i) ∙ e ∙ ap (λ (x : Text). x ++ (close ∷ r')) i' in
-          let e1 : a ++ (b ++ (close ∷ r)) ≡ a' ++ (b' ++ (close ∷ r')) = sym (append_assoc a b (close ∷ r))
-          ∙ (let u : a ++ b ++ (close ∷ r) ≡ a' ++ b' ++ (close ∷ r') = cc in u) ∙ append_assoc a' b' (close ∷ r') in
-          let s = d a (b ++ (close ∷ r)) a' (b' ++ (close ∷ r')) v w e1 k k' in
-          let t =
-          more_same b r b' r' vs ws (rest_same a (b ++ (close ∷ r)) a' (b' ++ (close ∷ r')) e1 s.0) others others' in
-          (let t0 = s.0 in let t1 = t.0 in cc, let t0 = s.1 in let t1 = t.1 in cc)
+      -- a further piece, behind its separator
+      abbrev further : Class
+      further = record { Value = C.Value; Is = λ p q v. (a : Text) × (p ≡ separator ∷ a) × C.Is a q v }
+
+      further_det : IsDeterministic further
+      further_det p q p' q' v v' e (a, i, h) (a', i', h') =
+          let w : separator ∷ (a ++ q) ≡ separator ∷ (a' ++ q') = rw (i, i') at e in
+          let r = d a q a' q' v v' (cc) h h' in (let t = r.0 in cc, r.1)
+
+      -- before the character that closes the list, they are as many as there are
+      all_further : (p r : Text) (vs : List C.Value) → IsMore C separator p (close ∷ r) vs
+          → IsMany further p (close ∷ r) vs
+      all_further p r [] h = (h, λ a b v e k. heads_differ separator close (k.0 ++ b) r differ (sym (rw k.1 at e)))
+      all_further p r (v ∷ vs) (a, b, i, k, others) = (separator ∷ a, b, i, (a, refl, k), all_further b r vs others)
 
       -- where no piece begins with the character that closes the list
       module _ (apart : (p q : Text) (v : C.Value) (r : Text) → C.Is p q v → p ++ q ≡ close ∷ r → ⊥) where
@@ -212,9 +208,10 @@ module _ (C : Class) (separator close : ℕ) where
             (apart a (b ++ (close ∷ r)) v r' k
             (sym (behind p a b (close ∷ r) i) ∙ sym (after_nil p' (close ∷ r') _ h' (sym e))))
         list_same p r p' r' (v ∷ vs) (w ∷ ws) e (a, b, i, k, others) (a', b', i', k', others') =
-            let s = more_same (separator ∷ p) r (separator ∷ p') r' (v ∷ vs) (w ∷ ws)
-            (ap (λ (x : Text). separator ∷ x) e) (a, b, ap (λ (x : Text). separator ∷ x) i, k, others)
-            (a', b', ap (λ (x : Text). separator ∷ x) i', k', others') in
+            let behind = λ (x : Text). separator ∷ x in
+            let s = many_det further further_det (separator ∷ p) (close ∷ r) (separator ∷ p') (close ∷ r') (v ∷ vs)
+            (w ∷ ws) (ap behind e) (separator ∷ a, b, ap behind i, (a, refl, k), all_further b r vs others)
+            (separator ∷ a', b', ap behind i', (a', refl, k'), all_further b' r' ws others') in
             (let t = s.0 in cc, s.1)
 
         pub list_before_det : IsDeterministic list
@@ -233,7 +230,7 @@ module _ (C : Class) (separator close : ℕ) (d : IsDeterministic C) where
   pub collects_first : (t t' : Text) (v : C.Value) → NoFront (exactly (close ∷ [])) t → Front C t t' v
       → Collects C separator close t (v ∷ []) t'
   collects_first t t' v m f = record {
-    some = λ q ws g. list_cons C separator close t t' q v ws f g;
+    some = λ q ws g. list_cons C separator close f g;
     none = λ n p q vs e h. (let (w, ws, u, g, others) = list_parts C separator close t p q vs m e h in
         no_front_no (more_before C separator close) n (rw (front_same C d g f).0 at others));
   }
@@ -243,7 +240,7 @@ module _ (C : Class) (separator close : ℕ) (d : IsDeterministic C) where
       → Collects C separator close t (vs ++ (v ∷ [])) s'
   collects_more t s u s' vs v c m e f = record {
     some = λ q ws g. subst (λ (x : List C.Value). Front (list_before C separator close) t q x)
-        (sym (append_assoc vs (v ∷ []) ws)) (c.some q (v ∷ ws) (more_cons C separator close s u s' q v ws e f g));
+        (sym (append_assoc vs (v ∷ []) ws)) (c.some q (v ∷ ws) (more_cons C separator close e f g));
     none = λ n. c.none (λ p q xs w h. (let (x, ys, r, g, others) = more_parts C separator close s u p q xs m e w h in
         no_front_no (more_before C separator close) n (rw (front_same C d g f).0 at others)));
   }
@@ -256,14 +253,14 @@ Leaves C separator close t vs t' =
 
 module _ (C : Class) (separator close : ℕ) where
   pub leaves_all : (t : Text) → Leaves C separator close t [] t
-  leaves_all t q u v ws f g = list_cons C separator close t u q v ws f g
+  leaves_all t q u v ws f g = list_cons C separator close f g
 
   pub leaves_less : (t s u s' : Text) (vs : List C.Value) (v : C.Value) → Leaves C separator close t vs s
       → Front C s u v → u ≡ separator ∷ s' → Leaves C separator close t (vs ++ (v ∷ [])) s'
   leaves_less t s u s' vs v c f e q u' v' ws f' g =
       subst (λ (x : List C.Value). Front (list_before C separator close) t q x)
       (sym (append_assoc vs (v ∷ []) (v' ∷ ws)))
-      (c q u v (v' ∷ ws) f (more_cons C separator close u s' u' q v' ws e f' g))
+      (c q u v (v' ∷ ws) f (more_cons C separator close e f' g))
 
   pub leaves_last : (t s u r : Text) (vs : List C.Value) (v : C.Value) → Leaves C separator close t vs s
       → Front C s u v → u ≡ close ∷ r → Front (list_before C separator close) t u (vs ++ (v ∷ []))

@@ -12,9 +12,8 @@ pub record Meets (C : Class) (t : Text) (D : Class) (u : Text) : Type 0 where
 pub meets_here : (C : Class) (t : Text) → Meets C t C t
 meets_here C t = record { forth = λ q v f. (v, f); back = λ q v f. (v, f) }
 
-pub meets_on : (C : Class) (t : Text) (D : Class) (u : Text) (E : Class) (s : Text) → Meets C t D u → Meets D u E s
-    → Meets C t E s
-meets_on C t D u E s m n = record {
+pub meets_on : {C D E : Class} {t u s : Text} → Meets C t D u → Meets D u E s → Meets C t E s
+meets_on m n = record {
   forth = λ q v f. (let g = n.forth q v f in m.forth q g.0 g.1);
   back = λ q w f. (let g = m.back q w f in n.back q g.0 g.1);
 }
@@ -33,17 +32,17 @@ mapped_meets C B f t = record {
 }
 
 -- behind the first piece of a row
-pub row_goes : (C : Class) (Cs : List Class) → IsDeterministic C → (t u : Text) (v : C.Value) → Front C t u v
+pub row_goes : (C : Class) (Cs : List Class) → IsDeterministic C → {t u : Text} {v : C.Value} → Front C t u v
     → Meets (Row (C ∷ Cs)) t (Row Cs) u
-row_goes C Cs d t u v f = record {
+row_goes C Cs d {v = v} f = record {
   forth = λ q vs g. ((v, vs), row_cons C Cs f g);
   back = λ q vs g. (let r = row_head C Cs g in let s = front_same C d r.1 f in
       (vs.1, subst (λ (x : Text). Front (Row Cs) x q vs.1) s.0 r.2));
 }
 
 -- another first piece of a row
-pub row_first : (C D : Class) (Cs : List Class) (t u : Text) → Meets C t D u → Meets (Row (C ∷ Cs)) t (Row (D ∷ Cs)) u
-row_first C D Cs t u m = record {
+pub row_first : (C D : Class) (Cs : List Class) {t u : Text} → Meets C t D u → Meets (Row (C ∷ Cs)) t (Row (D ∷ Cs)) u
+row_first C D Cs m = record {
   forth = λ q vs g. (let r = row_head D Cs g in let s = m.forth r.0 vs.0 r.1 in ((s.0, vs.1), row_cons C Cs s.1 r.2));
   back = λ q vs g. (let r = row_head C Cs g in let s = m.back r.0 vs.0 r.1 in ((s.0, vs.1), row_cons D Cs s.1 r.2));
 }
@@ -54,8 +53,7 @@ pub rows_go : (As Bs : List Class) → AllDeterministic As → (t u : Text) (vs 
 rows_go [] Bs d t u vs f = subst (λ (x : Text). Meets (Row Bs) t (Row Bs) x) (nil_front f) (meets_here (Row Bs) t)
 rows_go (C ∷ As) Bs d t u vs f =
     let r = row_head C As f in
-    meets_on (Row (C ∷ As ++ Bs)) t (Row (As ++ Bs)) r.0 (Row Bs) u (row_goes C (As ++ Bs) d.0 t r.0 vs.0 r.1)
-    (rows_go As Bs d.1 r.0 u vs.1 r.2)
+    meets_on (row_goes C (As ++ Bs) d.0 r.1) (rows_go As Bs d.1 r.0 u vs.1 r.2)
 
 -- ---- an answer with another meaning
 pub match_map : {X : Type 0} (r : Option X) {N M : Type 0} {S T : X → Type 0} → (N → M) → ((x : X) → S x → T x)

@@ -1,6 +1,6 @@
 -- The texts that a piece's meaning holds are parts of the piece.
-use Rattle.std.proofs.Common.{◌≡◌, inl, inr, List, [], ◌∷◌, ◌++◌, Option, Some, None}
-use Rattle.std.proofs.Common.{refl, sym, subst, ◌∙◌, append_assoc, append-nil}
+use Rattle.std.proofs.Common.{◌≡◌, inl, inr, List, [], ◌∷◌, ◌++◌, Option, Some, None, refl, sym, subst, ◌∙◌}
+use Rattle.std.proofs.Common.{append_assoc, append-nil}
 use Rattle.std.specs.List.{AllByRecursion}
 use Rattle.syslog_pieces.specs.Pieces.Class.{Text, Class, Values, join, Divides, rest, optional, spaced, texted}
 use Rattle.syslog_pieces.specs.Pieces.Parts.{IsPart, IsInPieces, AreInPieces, text_list, process_texts}
@@ -24,8 +24,6 @@ pub part_joined : (ps : List Text) (t : Text) → IsInPieces ps t → IsPart (jo
 part_joined [] t h = absurd h
 part_joined (p ∷ ps) t (inl h) = part_left p (join ps) t h
 part_joined (p ∷ ps) t (inr h) = part_right p (join ps) t (part_joined ps t h)
-
--- ---- lists of texts
 
 -- ---- the texts of a meaning
 

@@ -2,8 +2,8 @@
 use Rattle.std.proofs.Common.{◌≡◌, ◌≤◌, List, ◌∷◌, ◌++◌, length, Some, None, refl, sym, ap, subst, ◌∙◌, arith}
 use Rattle.std.proofs.lemmas.List.{length-append}
 use Rattle.syslog_pieces.specs.Pieces.Class.{Text, Class, Front, NoFront, IsDeterministic, Values, Row, optional}
-use Rattle.syslog_pieces.proofs.PieceLemmas.Class.{AllDeterministic, front_same, row_head, row_det}
-use Rattle.syslog_pieces.proofs.PieceLemmas.Class.{firsts, lasts, rows_split}
+use Rattle.syslog_pieces.proofs.PieceLemmas.Class.{AllDeterministic, front_same, row_head, row_det, firsts, lasts}
+use Rattle.syslog_pieces.proofs.PieceLemmas.Class.{rows_split}
 
 -- ---- a front at a known place
 

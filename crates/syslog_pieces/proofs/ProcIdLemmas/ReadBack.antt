@@ -1,18 +1,13 @@
 -- Process ids are read back from their printed text, and what is read is canonical.
-use Rattle.std.proofs.Common.{◌≡◌, ℕ, ℤ, suc, pos, negsuc, neg_ℤ, ◌<◌, ◌^◌, inl, inr, Bool, true, false, not, List}
-use Rattle.std.proofs.Common.{FitsSigned, w32, [], ◌∷◌, length, Option, Some, None, IfSome, refl, sym, ap, arith}
-use Rattle.std.proofs.lemmas.Fmt.{digits_value-decimal}
-use Rattle.std.specs.Char.{is_ascii_digit, is_not_whitespace}
-use Rattle.std.specs.Prelude.{◌↔◌, IsTrue}
-use Rattle.std.specs.Str.{chars}
-use Rattle.std.specs.Fmt.{decimal, signed_decimal}
-use Rattle.syslog_pieces.specs.Pieces.Class.{Text, Each, Ends}
-use Rattle.syslog_pieces.specs.ProcId.{IsI32Text, process_word, process_text}
-use Rattle.syslog_pieces.specs.ProcId.{IsNoI32Text, IsCanonicalProcess, IsBoundedProcess}
-use Rattle.syslog_pieces.specs.Text.Canonical.{IsCanonicalWord}
-use Rattle.syslog_pieces.specs.declared.procid.ProcId.{ProcId}
-use Rattle.syslog_pieces.specs.declared.procid.ProcId.TheVariants.{PID, Name}
-use Rattle.syslog_pieces.proofs.PieceLemmas.Class.{heads}
+use Rattle.syslog_pieces.proofs.Names.{◌≡◌, ℕ, ℤ, suc, pos, negsuc, ◌<◌, ◌^◌, inl, inr, Bool, true, false, not, List}
+use Rattle.syslog_pieces.proofs.Names.{FitsSigned, w32, [], ◌∷◌, length, Option, Some, None, IfSome, refl, sym, ap}
+use Rattle.syslog_pieces.proofs.Names.{arith, digits_value-decimal, is_ascii_digit, is_not_whitespace, ◌↔◌, IsTrue}
+use Rattle.syslog_pieces.proofs.Names.{chars, decimal, signed_decimal, Text, Each, Ends, IsI32Text, process_word}
+use Rattle.syslog_pieces.proofs.Names.{process_text, IsCanonicalProcess, IsBoundedProcess, IsCanonicalWord, ProcId, PID}
+use Rattle.syslog_pieces.proofs.Names.{heads}
+use Rattle.std.proofs.Common.{neg_ℤ}
+use Rattle.syslog_pieces.specs.ProcId.{IsNoI32Text}
+use Rattle.syslog_pieces.specs.declared.procid.ProcId.TheVariants.{Name}
 use Rattle.syslog_pieces.proofs.TextLemmas.Canonical.{false_is, last_is}
 use Rattle.syslog_pieces.proofs.TextLemmas.Words.{own}
 use Rattle.syslog_pieces.proofs.TextLemmas.ReadBack.{decimal_digits, digits_visible, word_back, word_canonical}

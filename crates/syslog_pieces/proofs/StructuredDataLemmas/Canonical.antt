@@ -1,9 +1,9 @@
 -- What the tests of canonical elements answer.
 use Rattle.syslog_pieces.proofs.Names.{◌≡◌, ◌≢◌, ℕ, ◌<◌, zero, suc, true, false, List, [], ◌∷◌, ◌++◌, length, map}
-use Rattle.syslog_pieces.proofs.Names.{get_or, refl, sym, ap, subst, ◌∙◌, arith, append_assoc, ◌↔◌, append_cancel_right}
-use Rattle.syslog_pieces.proofs.Names.{nat_tests, AllByRecursion, chars, SplitsRun, Text, Front, Ends, IsValue, value}
-use Rattle.syslog_pieces.proofs.Names.{pair, single, is_unescaped_char, front_same, Meets, meets_on, false_is}
-use Rattle.std.specs.Prelude.{IsTrue}
+use Rattle.syslog_pieces.proofs.Names.{get_or, refl, sym, ap, subst, ◌∙◌, arith, append_assoc, ◌↔◌, IsTrue}
+use Rattle.syslog_pieces.proofs.Names.{append_cancel_right, nat_tests, AllByRecursion, chars, SplitsRun, Text, Front}
+use Rattle.syslog_pieces.proofs.Names.{IsValue, value, pair, single, is_unescaped_char, front_same, Meets, meets_on}
+use Rattle.syslog_pieces.proofs.Names.{false_is}
 use Rattle.syslog_pieces.proofs.StructuredDataLemmas.Elements.{unit_goes, value_here, value_det}
 use Rattle.syslog_pieces.proofs.StructuredDataLemmas.Closing.{run_on, unescaped_plain}
 
@@ -28,9 +28,6 @@ value_same t u m = (
   (λ h. let (v, f) = m.forth quote u (closed u h) in opened t v f),
 )
 
-other_is_backslash : (c : ℕ) → is_unescaped_char c ≡ false → c ≢ 34 → c ≡ 92
-other_is_backslash c h n = grind (arith, nat_tests)
-
 no_quote_value : (q : Text) → IsValue (34 ∷ q) → ⊥
 no_quote_value q h =
     let empty = front_same value value_det (closed (34 ∷ q) h) (value_here ((34 ∷ q) ++ quote) (q ++ quote) refl) in cc
@@ -47,31 +44,30 @@ module _ (text bs xs ys : List ℕ) (s : SplitsRun is_unescaped_char bs xs ys)
       (ap (λ (x : Text). x ++ quote) s.characters ∙ append_assoc (chars xs) (chars ys) quote) s.each m
 
   pub value_ends : chars ys ≡ [] → IsTrue true ↔ IsValue (chars text)
-  value_ends e =
-      let empty : IsValue (chars ys) = subst (λ (x : Text). IsValue x) (sym e) ([], refl, tt) in
-      ((λ h. (value_same (chars text) (chars ys) to_end).1 empty), (λ h. refl))
+  value_ends e = ((λ h. (value_same (chars text) (chars ys) to_end).1 (rw e ([], refl, tt))), (λ h. refl))
 
   module _ (c : ℕ) (q : Text) (e : chars ys ≡ c ∷ q) where
     fails : (IsValue (c ∷ q) → ⊥) → IsTrue false ↔ IsValue (chars text)
-    fails n = false_is (λ h. n (subst (λ (x : Text). IsValue x) e ((value_same (chars text) (chars ys) to_end).0 h)))
+    fails n = false_is (λ h. n (rw e at ((value_same (chars text) (chars ys) to_end).0 h)))
 
     pub value_quoted : c ≡ 34 → IsTrue false ↔ IsValue (chars text)
-    value_quoted z = fails (λ h. no_quote_value q (subst (λ (x : ℕ). IsValue (x ∷ q)) z h))
+    value_quoted z = fails (λ h. no_quote_value q (rw z at h))
 
     module _ (n : c ≢ 34) where
       is_backslash : c ≡ 92
-      is_backslash = other_is_backslash c (subst (λ (x : Text). Ends is_unescaped_char x) e s.ends) n
+      is_backslash = let h : is_unescaped_char c ≡ false = rw e at s.ends in grind (arith, nat_tests)
 
       pub value_lone : q ≡ [] → IsTrue false ↔ IsValue (chars text)
-      value_lone z =
-          fails (λ h. no_lone_value (subst (λ (x : ℕ). IsValue (x ∷ [])) is_backslash
-          (subst (λ (x : Text). IsValue (c ∷ x)) z h)))
+      value_lone z = fails (λ h. no_lone_value (rw (z, is_backslash) at h))
 
       pub value_on : (d : ℕ) (r : Text) → q ≡ d ∷ r → ExtendsValue (chars text) r
       value_on d r z =
           let whole : chars ys ++ quote ≡ 92 ∷ d ∷ (r ++ quote) = (let b = is_backslash in
           ap (λ (x : Text). x ++ quote) (let w : chars ys ≡ 92 ∷ d ∷ r = cc in w)) in
-          meets_on _ _ _ _ _ _ to_end (unit_goes (pair d) (chars ys ++ quote) (r ++ quote) tt whole)
+          meets_on to_end (unit_goes (pair d) (chars ys ++ quote) (r ++ quote) tt whole)
+
+-- how the test of a value ends
+pub ruleset value_steps = (value_ends, value_quoted, value_lone)
 
 -- ---- lists of parameters and of elements
 

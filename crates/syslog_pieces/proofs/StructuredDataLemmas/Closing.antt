@@ -1,31 +1,30 @@
 -- The walk over an element: its steps, why a bracket inside a value decides it, and a value cut from its text by bytes.
 use Rattle.syslog_pieces.proofs.Names.{◌≡◌, ◌≢◌, ℕ, ◌<◌, ◌⊎◌, inl, inr, Bool, true, false, List, [], ◌∷◌, ◌++◌, length}
-use Rattle.syslog_pieces.proofs.Names.{refl, sym, ap, subst, ◌∙◌, append_assoc, arith, and_parts, eqb_tells, nat_tests}
-use Rattle.syslog_pieces.proofs.Names.{length-append, encodes-append, encodes-chars, flat_map, AllByRecursion, chars}
-use Rattle.syslog_pieces.proofs.Names.{IsUtf8, encode_utf8_all, is_name_char, is_id_char, is_open_char, Text, Class}
-use Rattle.syslog_pieces.proofs.Names.{Front, NoFront, Values, IsDeterministic, Row, Each, some_run, exactly, start_row}
-use Rattle.syslog_pieces.proofs.Names.{start, id_alone, inside_row, inside, opening_row, opening, name_alone}
-use Rattle.syslog_pieces.proofs.Names.{quoted_row, quoted, tail_row, closing, byte_count, IsDead, ElementValue}
-use Rattle.syslog_pieces.proofs.Names.{TextUnit, pair, single, unit_text, escaped, IsValueUnit, IsValue, value}
-use Rattle.syslog_pieces.proofs.Names.{param_row, param_of, param, element, element_row, element_of, is_blank}
-use Rattle.syslog_pieces.proofs.Names.{AllDeterministic, run_det, some_run_det, ◌also◌, exactly_det, texted_det}
-use Rattle.syslog_pieces.proofs.Names.{row_det, row_head, row_none_here, row_cons, no_front_no, Meets, meets_on}
-use Rattle.syslog_pieces.proofs.Names.{meets_none, row_first, row_goes, row_of, ◌then◌, ◌≤◌, Result, Ok, Err}
-use Rattle.syslog_pieces.proofs.Names.{MatchResult, is_unescaped_char, more_before, SplitsRun, begins, list_here}
-use Rattle.syslog_pieces.proofs.Names.{more_here, no_list, meets_here, ◌+◌, ◌-◌, take, append_cancel_right}
-use Rattle.syslog_pieces.proofs.Names.{chars_past_char, row_pieces}
-use Rattle.std.specs.Char.{is_not_whitespace, encode_utf8}
-use Rattle.syslog_pieces.proofs.PieceLemmas.Class.{mapped_front, rows_join, rows_none_here, no_mapped, nil_front}
-use Rattle.syslog_pieces.proofs.PieceLemmas.Class.{row_none_later}
-use Rattle.syslog_pieces.proofs.PieceLemmas.Each.{each_map, each_right, each_behind}
-use Rattle.syslog_pieces.proofs.StructuredDataLemmas.Elements.{unit_goes, value_here, space_is_no_close, value_det}
-use Rattle.syslog_pieces.proofs.PieceLemmas.Lists.{list_goes, more_goes}
-use Rattle.syslog_pieces.proofs.PieceLemmas.Meets.{meets_none_on, mapped_meets, rows_go}
-use Rattle.syslog_pieces.specs.Text.CharClass.{is_inert_char}
-use Rattle.syslog_pieces.specs.Bodies.Closing.{last_char}
+use Rattle.syslog_pieces.proofs.Names.{refl, sym, ap, subst, ◌∙◌, append_assoc, arith, ◌≤◌, Result, Ok, Err, ◌+◌, ◌-◌}
+use Rattle.syslog_pieces.proofs.Names.{take, and_parts, eqb_tells, nat_tests, length-append, append_cancel_right}
+use Rattle.syslog_pieces.proofs.Names.{encodes-append, encodes-chars, chars_past_char, IsUtf8-from_ascii, flat_map}
+use Rattle.syslog_pieces.proofs.Names.{AllByRecursion, chars, IsUtf8, encode_utf8_all, IsCharBoundary, is_name_char}
+use Rattle.syslog_pieces.proofs.Names.{is_id_char, is_open_char, is_unescaped_char, Text, Class, Front, NoFront, Values}
+use Rattle.syslog_pieces.proofs.Names.{IsDeterministic, Row, Each, some_run, exactly, start_row, start, id_alone}
+use Rattle.syslog_pieces.proofs.Names.{inside_row, inside, opening_row, opening, quoted_row, quoted, closing}
+use Rattle.syslog_pieces.proofs.Names.{byte_count, IsDead, last_char, ElementValue, TextUnit, pair, single, unit_text}
+use Rattle.syslog_pieces.proofs.Names.{escaped, IsValueUnit, IsValue, value, param_row, param_of, param, element}
+use Rattle.syslog_pieces.proofs.Names.{element_row, element_of, is_blank, AllDeterministic, run_det, some_run_det}
+use Rattle.syslog_pieces.proofs.Names.{◌also◌, exactly_det, texted_det, row_det, row_none_here, no_front_no}
+use Rattle.syslog_pieces.proofs.Names.{mapped_front, nil_front, Meets, meets_on, meets_none, meets_here, mapped_meets}
+use Rattle.syslog_pieces.proofs.Names.{row_of, ◌then◌, row_pieces, MatchResult, more_before, SplitsRun, begins}
+use Rattle.syslog_pieces.proofs.Names.{list_here, more_here, no_list, is_not_whitespace, each_map, each_behind}
 use Rattle.std.proofs.Common.{min}
-use Rattle.std.proofs.lemmas.Str.{IsUtf8-append, IsUtf8-from_ascii}
-use Rattle.std.specs.Str.{IsCharBoundary}
+use Rattle.std.proofs.lemmas.Str.{IsUtf8-append}
+use Rattle.syslog_pieces.specs.Text.CharClass.{is_inert_char}
+use Rattle.syslog_pieces.specs.Bodies.Closing.{name_alone, tail_row}
+use Rattle.syslog_pieces.proofs.PieceLemmas.Class.{row_head, row_cons, rows_join, rows_none_here, no_mapped}
+use Rattle.syslog_pieces.proofs.PieceLemmas.Class.{row_none_later}
+use Rattle.syslog_pieces.proofs.PieceLemmas.Meets.{row_first, row_goes, meets_none_on, rows_go}
+use Rattle.syslog_pieces.proofs.PieceLemmas.Lists.{list_goes, more_goes}
+use Rattle.std.specs.Char.{encode_utf8}
+use Rattle.syslog_pieces.proofs.PieceLemmas.Each.{each_right}
+use Rattle.syslog_pieces.proofs.StructuredDataLemmas.Elements.{unit_goes, value_here, space_is_no_close, value_det}
 use Rattle.syslog_pieces.proofs.TextLemmas.Chars.{one_ascii}
 use Rattle.syslog_pieces.proofs.TextLemmas.Cuts.{rest_shorter, front_chars, front_cut}
 
@@ -86,7 +85,7 @@ quoted_det = row_det quoted_row quoted_row_det
 
 pub element_starts : {t u : Text} {vs : Values start_row} → Front start t u vs → Meets element t inside u
 element_starts {t = t} {u = u} {vs = vs} f =
-    meets_on _ _ _ _ _ _ (mapped_meets (Row element_row) ElementValue element_of t)
+    meets_on (mapped_meets (Row element_row) ElementValue element_of t)
     (rows_go start_row inside_row start_det t u vs f)
 
 pub element_read : {t u r id : Text} {ps : List (Text × Text)} → Front start t u (id_alone id)
@@ -98,7 +97,7 @@ no_start n = no_mapped (Row element_row) ElementValue element_of (rows_none_here
 
 pub param_opens : {t u : Text} {vs : Values opening_row} → Front opening t u vs → Meets param t quoted u
 param_opens {t = t} {u = u} {vs = vs} f =
-    meets_on _ _ _ _ _ _ (mapped_meets (Row param_row) (Text × Text) param_of t)
+    meets_on (mapped_meets (Row param_row) (Text × Text) param_of t)
     (rows_go opening_row quoted_row opening_det t u vs f)
 
 pub param_read : {t u q name v : Text} → Front opening t u (name_alone name) → Front quoted u q (v, (tt, tt))
@@ -111,22 +110,21 @@ no_opening n = no_mapped (Row param_row) (Text × Text) param_of (rows_none_here
 -- into the first value
 pub list_enters : (t u : Text) (vs : Values opening_row) → NoFront (exactly (93 ∷ [])) t → Front opening t u vs
     → Meets inside t closing u
-list_enters t u vs n f = meets_on inside t (Row (param ∷ tail_row)) t closing u
-    (list_goes param 32 93 (exactly (93 ∷ []) ∷ []) t n) (row_first param quoted tail_row t u (param_opens f))
+list_enters t u vs n f =
+    meets_on (list_goes param 32 93 (exactly (93 ∷ []) ∷ []) t n) (row_first param quoted tail_row (param_opens f))
 
 -- into a further value
 pub tail_enters : (t s u : Text) (vs : Values opening_row) → t ≡ 32 ∷ s → Front opening s u vs
     → Meets (Row tail_row) t closing u
-tail_enters t s u vs e f = meets_on (Row tail_row) t (Row (param ∷ tail_row)) s closing u
-    (more_goes param 32 93 space_is_no_close (exactly (93 ∷ []) ∷ []) t s e)
-    (row_first param quoted tail_row s u (param_opens f))
+tail_enters t s u vs e f = meets_on (more_goes param 32 93 space_is_no_close (exactly (93 ∷ []) ∷ []) t s e)
+    (row_first param quoted tail_row (param_opens f))
 
 -- ---- values
 pub quoted_goes : {t u : Text} → Meets value t value u → Meets quoted t quoted u
-quoted_goes m = row_first value value (exactly (34 ∷ []) ∷ []) _ _ m
+quoted_goes m = row_first value value (exactly (34 ∷ []) ∷ []) m
 
 pub closing_goes : {t u : Text} → Meets quoted t quoted u → Meets closing t closing u
-closing_goes m = row_first quoted quoted tail_row _ _ m
+closing_goes m = row_first quoted quoted tail_row m
 
 -- what stands behind a bracket inside a value is a value
 value_end : (us : List TextUnit) (a b : Text) → AllByRecursion IsValueUnit us → flat_map unit_text us ≡ a ++ (93 ∷ b)
@@ -153,14 +151,14 @@ quoted_before [] b h =
 quoted_before (c ∷ a) b h =
     let (plain, escaped) = quoted_before a b h in (
       elim (eqb_tells c 34) [
-        | inl r ↦ (
+        | inl r ↦ rw r.1 (
           _,
           _,
-          row_of quoted_row (value_here _ _ (ap (λ (x : ℕ). x ∷ a ++ (93 ∷ b)) r.1) then
-              record { piece = 34 ∷ []; whole = ap (λ (x : ℕ). x ∷ a ++ (93 ∷ b)) r.1; is = refl } then refl),
+          row_of quoted_row (value_here _ _ refl then
+              record { piece = 34 ∷ []; whole = refl; is = refl } then refl),
         )
         | inr r ↦ elim (eqb_tells c 92) [
-          | inl s ↦ subst (λ (x : ℕ). HasQuoted (x ∷ a ++ (93 ∷ b))) (sym s.1) escaped
+          | inl s ↦ rw s.1 escaped
           | inr s ↦ quoted_behind (single c) _ (s.1, r.1) plain
         ]
       ],
@@ -209,26 +207,30 @@ no_bracket w a b h e =
     let closed = each_behind is_open_char a (93 ∷ b) (subst (λ (x : Text). Each is_open_char x) e h) in
     let f : false ≡ true = closed.0 in cc
 
--- ---- what a scan from t to x has passed, where it fails no piece of the class begins t
+-- ---- what a scan from t to x has passed: where no piece of the class begins t, what is dead at x is dead at t
 pub record Passes (C : Class) (t x : Text) : Type 0 where
   pub piece : Text
   pub whole : t ≡ piece ++ x
-  pub each : (a b : Text) → piece ≡ a ++ (93 ∷ b) → NoFront C t → NoFront closing (b ++ x)
+  pub dead : (d : ℕ) → NoFront C t → IsDead x d → IsDead t d
+
+-- no element closes behind a bracket of the front
+dead_front : (x w y : Text) (d : ℕ) → x ≡ w ++ y
+    → ((a b : Text) → w ≡ a ++ (93 ∷ b) → NoFront closing (b ++ y)) → IsDead y d → IsDead x d
+dead_front x w y d e h i a b f l = elim (split_bracket w y a b (sym e ∙ f)) [
+  | inl (c, j, k) ↦ subst (λ (z : Text). NoFront closing z) (sym k) (h a c j)
+  | inr (c, j) ↦ i c b j l
+]
 
 module _ (C : Class) where
   pub passes_here : (t : Text) → Passes C t t
-  passes_here t = record { piece = []; whole = refl; each = λ a b e n. absurd (no_bracket [] a b tt e) }
+  passes_here t = record { piece = []; whole = refl; dead = λ d n i. i }
 
   passes_on : (t x w y : Text) → Passes C t x → x ≡ w ++ y
       → ((a b : Text) → w ≡ a ++ (93 ∷ b) → NoFront C t → NoFront closing (b ++ y)) → Passes C t y
   passes_on t x w y s e h = record {
     piece = s.piece ++ w;
     whole = s.whole ∙ ap (λ (z : Text). s.piece ++ z) e ∙ sym (append_assoc s.piece w y);
-    each = λ a b f n. elim (split_bracket s.piece w a b f) [
-      | inl (c, i, j) ↦ subst (λ (z : Text). NoFront closing z)
-          (ap (λ (z : Text). c ++ z) e ∙ sym (append_assoc c w y) ∙ ap (λ (z : Text). z ++ y) (sym j)) (s.each a c i n)
-      | inr (c, i) ↦ h c b i n
-    ];
+    dead = λ d n i. s.dead d n (dead_front x w y d e (λ a b f. h a b f n) i);
   }
 
   passes_shut : (D : Class) → IsShut D → (t x y : Text) (v : D.Value) → Passes C t x → Front D x y v → Passes C t y
@@ -262,15 +264,8 @@ module _ (C : Class) where
       let inner : Front value (b ++ r) r b =
       record { piece = b; whole = refl; is = (value_end us a b units (sym same ∙ e), v.is.1, refl) } in
       let outer : Front quoted (b ++ r) y (b, vs.1) = row_cons value (exactly (34 ∷ []) ∷ []) inner quote in
-      meets_none _ _ _ _ (row_goes quoted tail_row quoted_det _ _ _ outer)
-      (meets_none_on _ _ _ _ (row_goes quoted tail_row quoted_det x y vs f) (meets_none_on _ _ _ _ m n)))) quote
-
-  pub passes_dead : (t x : Text) (d : ℕ) → Passes C t x → NoFront C t → IsDead x d → IsDead t d
-  passes_dead t x d s n h a b f l =
-      elim (split_bracket s.piece x a b (sym s.whole ∙ f)) [
-        | inl (c, i, j) ↦ subst (λ (z : Text). NoFront closing z) (sym j) (s.each a c i n)
-        | inr (c, i) ↦ h c b i l
-      ]
+      meets_none _ _ _ _ (row_goes quoted tail_row quoted_det outer)
+      (meets_none_on _ _ _ _ (row_goes quoted tail_row quoted_det f) (meets_none_on _ _ _ _ m n)))) quote
 
 -- ---- values
 
@@ -294,7 +289,7 @@ inert_plain c h = unescaped_plain c (and_parts (is_unescaped_char c) _ h).0
 
 run_goes : (test : ℕ → Bool) → AllPlain test → (w t : Text) → Each test w → Meets value (w ++ t) value t
 run_goes test a [] t h = meets_here value t
-run_goes test a (c ∷ w) t h = meets_on value (c ∷ w ++ t) value (w ++ t) value t
+run_goes test a (c ∷ w) t h = meets_on
     (unit_goes (single c) (c ∷ w ++ t) (w ++ t) (a c h.0) refl) (run_goes test a w t h.1)
 
 unit_ends : (u : TextUnit) → last_char u ≡ 93 → (a : Text) × (unit_text u ≡ a ++ (93 ∷ []))
@@ -305,13 +300,13 @@ unit_ends (single c) e = ([], ap (λ (x : ℕ). x ∷ []) e)
 pub run_on : (test : ℕ → Bool) → AllPlain test → (text t w u : Text) → t ≡ w ++ u → Each test w
     → Meets value text value t → Meets value text value u
 run_on test a text t w u e h m =
-    meets_on _ _ _ _ _ _ m (subst (λ (x : Text). Meets value x value u) (sym e) (run_goes test a w u h))
+    meets_on m (subst (λ (x : Text). Meets value x value u) (sym e) (run_goes test a w u h))
 
-module _ (test : ℕ → Bool) (a : AllPlain test) (text bs xs ys : Text) (s : SplitsRun test bs xs ys)
+module _ {test : ℕ → Bool} (a : AllPlain test) {text bs xs ys : Text} (s : SplitsRun test bs xs ys)
     (m : Meets quoted text quoted (chars bs)) where
   pub past_run : Meets quoted text quoted (chars ys)
   past_run =
-      meets_on _ _ _ _ _ _ m (quoted_goes (run_on test a _ _ _ _ s.characters s.each (meets_here value (chars bs))))
+      meets_on m (quoted_goes (run_on test a _ _ _ _ s.characters s.each (meets_here value (chars bs))))
 
   pub value_quoted : (q : Text) → Front (exactly (34 ∷ [])) (chars ys) q tt → (v : Values quoted_row)
       × Front quoted text q v
@@ -320,7 +315,7 @@ module _ (test : ℕ → Bool) (a : AllPlain test) (text bs xs ys : Text) (s : S
 
   module _ (u : TextUnit) (h : IsValueUnit u) (q : Text) (e : chars ys ≡ unit_text u ++ q) where
     pub value_on : Meets quoted text quoted q
-    value_on = meets_on _ _ _ _ _ _ past_run (quoted_goes (unit_goes u (chars ys) q h e))
+    value_on = meets_on past_run (quoted_goes (unit_goes u (chars ys) q h e))
 
     pub dead_on : (d : ℕ) → IsDead (chars bs) d → IsDead q d
     dead_on d = dead_suffix (chars bs) (chars xs ++ unit_text u) q d
@@ -352,7 +347,7 @@ module _ {text params : Text} {vs : Values start_row} (f : Front start text para
   pub element_enters : (x : Text) (ws : Values opening_row) → NoFront (exactly (93 ∷ [])) params
       → Front opening params x ws → Passes element text x × Meets element text closing x
   element_enters x ws n g =
-      (passes_start element f g, meets_on _ _ _ _ _ _ (element_starts f) (list_enters params x ws n g))
+      (passes_start element f g, meets_on (element_starts f) (list_enters params x ws n g))
 
 -- from inside a value, in a class whose pieces go on from there
 module _ {C : Class} {text x y : Text} {vs : Values quoted_row} (p : Passes C text x) (m : Meets C text closing x)
@@ -365,13 +360,13 @@ module _ {C : Class} {text x y : Text} {vs : Values quoted_row} (p : Passes C te
   value_breaks n d e =
       let k = meets_none _ _ _ _ m
       (row_none_later quoted tail_row quoted_det f (row_none_here _ (exactly (93 ∷ []) ∷ []) n)) in
-      (k, passes_dead C text y d (passes_quoted C text x y vs p m f) k (dead_whole y d e))
+      (k, (passes_quoted C text x y vs p m f).dead d k (dead_whole y d e))
 
   pub value_goes : (z r : Text) (ws : Values opening_row) → Front (exactly (32 ∷ [])) y z tt → Front opening z r ws
       → Passes C text r × Meets C text closing r
   value_goes z r ws g o = (
     passes_opening C (passes_space C text y z (passes_quoted C text x y vs p m f) (begins 32 y z g)) o,
-    meets_on _ _ _ _ _ _ m (meets_on _ _ _ _ _ _ (row_goes quoted tail_row quoted_det x y vs f)
+    meets_on m (meets_on (row_goes quoted tail_row quoted_det f)
         (tail_enters y z r ws (begins 32 y z g) o)),
   )
 
@@ -381,7 +376,7 @@ pub closing_answers : {X : Type 0} (C : Class) (text x : Text) → Passes C text
     → MatchResult r (λ q. (v : closing.Value) × Front closing x (to q) v) (λ d. NoFront closing x × IsDead x d)
     → MatchResult r (λ q. (v : C.Value) × Front C text (to q) v) (λ d. NoFront C text × IsDead text d)
 closing_answers C text x p m to (Ok q) (v, f) = m.forth (to q) v f
-closing_answers C text x p m to (Err d) (n, i) = let k = meets_none _ _ _ _ m n in (k, passes_dead C text x d p k i)
+closing_answers C text x p m to (Err d) (n, i) = let k = meets_none _ _ _ _ m n in (k, p.dead d k i)
 
 -- ---- a quoted value, cut from its text by bytes
 module _ (t r : List ℕ) (u : IsUtf8 t) (z : IsUtf8 r) (v : Values quoted_row)
@@ -407,8 +402,7 @@ module _ (t r : List ℕ) (u : IsUtf8 t) (z : IsUtf8 r) (v : Values quoted_row)
 
   -- the text may be cut before the closing quote
   pub quoted_cut : IsCharBoundary t (length t - length r - 1)
-  quoted_cut =
-      subst (λ (n : ℕ). IsCharBoundary t n) place (front_cut t (34 ∷ r) u behind_utf8 first.1.piece whole)
+  quoted_cut = rw place at (front_cut t (34 ∷ r) u behind_utf8 first.1.piece whole)
 
   -- and the value is what stands before it
   pub quoted_value : (xs : List ℕ) → xs ≡ take (length t - length r - 1) t

@@ -1,15 +1,13 @@
 -- The texts of elements are parts of their list.
 use Rattle.syslog_pieces.proofs.Names.{◌≡◌, inl, inr, ℕ, List, [], ◌∷◌, ◌++◌, Option, Some, None, refl, append-nil}
 use Rattle.syslog_pieces.proofs.Names.{flat_map, AllByRecursion, is_name_char, is_id_char, Text, Class, Values, Row}
-use Rattle.syslog_pieces.proofs.Names.{run, some_run, exactly, optional, ElementValue, IsMany, IsMore, IsList}
-use Rattle.syslog_pieces.proofs.Names.{list_before, value, param_row, param, element_row, element_of, element, item}
-use Rattle.syslog_pieces.proofs.Names.{strict, forgiving, param_of, full_element, rfc3164_list, is_blank, DashRule}
-use Rattle.syslog_pieces.proofs.Names.{all_append, ◌also◌}
-use Rattle.syslog_pieces.specs.Pieces.Class.{mapped}
+use Rattle.syslog_pieces.proofs.Names.{run, some_run, exactly, optional, mapped, ElementValue, IsMany, IsMore, IsList}
+use Rattle.syslog_pieces.proofs.Names.{param_row, param, element_row, element_of, element, item, strict, forgiving}
+use Rattle.syslog_pieces.proofs.Names.{param_of, full_element, rfc3164_list, is_blank, DashRule, all_append, all_map}
+use Rattle.syslog_pieces.proofs.Names.{◌also◌}
 use Rattle.syslog_pieces.specs.StructuredData.Element.{element_texts}
-use Rattle.syslog_pieces.specs.Pieces.Parts.{IsPart}
 use Rattle.syslog_pieces.specs.StructuredData.Rfc3164List.{elements_or}
-use Rattle.syslog_pieces.proofs.PieceLemmas.Each.{all_map}
+use Rattle.syslog_pieces.specs.Pieces.Parts.{IsPart}
 use Rattle.syslog_pieces.proofs.PieceLemmas.Parts.{Quotes, Quoted, row_texts, row_quotes, part_same, part_left}
 use Rattle.syslog_pieces.proofs.PieceLemmas.Parts.{part_right, part_joined, silent, texted_quotes}
 
@@ -38,13 +36,11 @@ module _ (C : Class) (f : C.Value → List Text) (g : Quotes C f) (sep : ℕ) wh
       two_parts p a b (f v) (flat_map f vs) e (g a (b ++ q) v h) (more_parts b q vs more)
 
 -- ---- parameters and elements
-value_quotes : Quotes value (λ v. v ∷ [])
-value_quotes p q v h = (part_same p v h.2, tt)
-
 abbrev param_quoted : Quoted param_row
 param_quoted =
     ((λ t. t ∷ []), texted_quotes (some_run is_name_char)) also silent (exactly (61 ∷ [])) also silent (run is_blank)
-    also silent (exactly (34 ∷ [])) also ((λ v. v ∷ []), value_quotes) also silent (exactly (34 ∷ [])) also tt
+    also silent (exactly (34 ∷ [])) also ((λ v. v ∷ []), λ p q v h. (part_same p v h.2, tt))
+    also silent (exactly (34 ∷ [])) also tt
 
 abbrev param_texts : Text × Text → List Text
 param_texts p = p.0 ∷ p.1 ∷ []
@@ -52,13 +48,11 @@ param_texts p = p.0 ∷ p.1 ∷ []
 param_quotes : Quotes param param_texts
 param_quotes = row_parts param_row param_quoted (Text × Text) param_of param_texts (λ vs. refl)
 
-params_quotes : Quotes (list_before param 32 93) (flat_map param_texts)
-params_quotes p q vs h = list_parts param param_texts param_quotes 32 p q vs h.0
-
 abbrev element_quoted : Quoted element_row
 element_quoted =
     silent (exactly (91 ∷ [])) also ((λ t. t ∷ []), texted_quotes (some_run is_id_char)) also silent (run is_blank)
-    also (flat_map param_texts, params_quotes) also silent (exactly (93 ∷ [])) also tt
+    also (flat_map param_texts, λ p q vs h. list_parts param param_texts param_quotes 32 p q vs h.0)
+    also silent (exactly (93 ∷ [])) also tt
 
 pub element_quotes : Quotes element element_texts
 element_quotes = row_parts element_row element_quoted ElementValue element_of element_texts

@@ -1,21 +1,21 @@
 -- Values, parameters, elements and forgiving lists: a text has one of each at its front; and items of a list, one after
 -- the other.
 use Rattle.syslog_pieces.proofs.Names.{◌≡◌, ◌≢◌, ℕ, ◌<◌, inl, inr, true, false, List, [], ◌∷◌, ◌++◌, length, Option}
-use Rattle.syslog_pieces.proofs.Names.{Some, None, refl, sym, ap, ◌∙◌, append_assoc, arith, nat_tests, length-append}
-use Rattle.syslog_pieces.proofs.Names.{flat_map, AllByRecursion, is_name_char, is_id_char, is_open_char, Text, join}
-use Rattle.syslog_pieces.proofs.Names.{Front, IsDeterministic, Row, Each, run, some_run, exactly, Class, ElementValue}
-use Rattle.syslog_pieces.proofs.Names.{TextUnit, pair, single, unit_text, many, list_before, IsValueUnit, value}
-use Rattle.syslog_pieces.proofs.Names.{param_row, param_of, param, element_row, element_of, element, bracketed, item}
-use Rattle.syslog_pieces.proofs.Names.{strict, forgiving, is_blank, dash, heads, behind, run_det, some_run_det}
-use Rattle.syslog_pieces.proofs.Names.{exactly_det, AllDeterministic, row_det, texted_det, ◌also◌, many_det, begins}
-use Rattle.syslog_pieces.proofs.Names.{Meets, Bool, not, map, subst, append-nil, MatchBool, map-append, list_any}
-use Rattle.syslog_pieces.proofs.Names.{is_some, is_none, NoFront, HasRead, front_same, many_cons, no_many_no}
-use Rattle.syslog_pieces.proofs.PieceLemmas.Class.{mapped_det}
+use Rattle.syslog_pieces.proofs.Names.{Some, None, refl, sym, ap, ◌∙◌, append_assoc, arith, Bool, not, map, subst}
+use Rattle.syslog_pieces.proofs.Names.{append-nil, MatchBool, nat_tests, length-append, map-append, flat_map}
+use Rattle.syslog_pieces.proofs.Names.{AllByRecursion, list_any, is_name_char, is_id_char, is_open_char, Text, join}
+use Rattle.syslog_pieces.proofs.Names.{Front, IsDeterministic, Row, Each, run, some_run, exactly, Class, NoFront}
+use Rattle.syslog_pieces.proofs.Names.{ElementValue, TextUnit, pair, single, unit_text, many, list_before, HasRead}
+use Rattle.syslog_pieces.proofs.Names.{IsValueUnit, value, param_row, param_of, param, element_row, element_of, element}
+use Rattle.syslog_pieces.proofs.Names.{bracketed, item, strict, forgiving, is_blank, dash, heads, behind, run_det}
+use Rattle.syslog_pieces.proofs.Names.{some_run_det, exactly_det, AllDeterministic, row_det, texted_det, ◌also◌}
+use Rattle.syslog_pieces.proofs.Names.{front_same, mapped_det, many_det, begins, many_cons, no_many_no, Meets, is_some}
+use Rattle.syslog_pieces.proofs.Names.{is_none}
+use Rattle.std.proofs.Common.{◌||◌}
+use Rattle.syslog_pieces.specs.StructuredData.{NeedsNoMemory}
 use Rattle.syslog_pieces.proofs.PieceLemmas.Lists.{list_before_det}
 use Rattle.syslog_pieces.proofs.StructuredDataLemmas.Units.{unit_same, units_same}
-use Rattle.std.proofs.Common.{◌||◌}
 use Rattle.std.proofs.lemmas.List.Folds.{list_any-append}
-use Rattle.syslog_pieces.specs.StructuredData.{NeedsNoMemory}
 
 -- ---- values
 
@@ -204,7 +204,7 @@ either_item false f = (None, f)
 pub element_asks : (t s s' : Text) (vs : List (Option ElementValue)) (e : ElementValue) → HasRead item t vs s
     → Front element s s' e → NeedsNoMemory t → ⊥
 element_asks t s s' vs e h f n = no_many_no item item_shorter (length s') s' (omega arith) (λ r ws g.
-    let all = h r (Some e ∷ ws) (many_cons item s s' r (Some e) ws (element_item s s' e f) g) in
+    let all = h r (Some e ∷ ws) (many_cons item (element_item s s' e f) g) in
     let none = n r (strict (vs ++ (Some e ∷ ws))) (record {
       piece = all.piece;
       whole = all.whole;

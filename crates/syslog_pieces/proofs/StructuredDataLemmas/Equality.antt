@@ -1,14 +1,12 @@
 -- Counting parameters of any type of texts is counting them over texts, and where counting may begin.
 use Rattle.syslog_pieces.proofs.Names.{◌≡◌, ℕ, ◌+◌, cond, List, [], ◌∷◌, ◌++◌, ◌<◌, map, take, length, get_or, refl}
-use Rattle.syslog_pieces.proofs.Names.{sym, ◌∙◌, ap, nat_eq, count_by, false, true, ◌≢◌, ◌-◌, inl, inr, arith, take_all}
-use Rattle.syslog_pieces.proofs.Names.{length-map, map-append, list_all, Text, param_value, param_eq}
-use Rattle.std.proofs.Common.{drop, length-drop}
-use Rattle.std.proofs.lemmas.Bool.{cases_Bool}
-use Rattle.std.proofs.lemmas.List.{take-append-drop, take_more, take-map, drop-map}
+use Rattle.syslog_pieces.proofs.Names.{sym, ◌∙◌, ap, nat_eq, count_by, false, true, ◌≢◌, ◌-◌, inl, inr, arith, drop}
+use Rattle.syslog_pieces.proofs.Names.{length-drop, take_all, length-map, map-append, take-append-drop, take_more}
+use Rattle.syslog_pieces.proofs.Names.{drop-map, list_all, Text, param_value, param_eq, param_count, counts_agree}
+use Rattle.syslog_pieces.proofs.Names.{same_params, cases_Bool, one_answer}
+use Rattle.std.proofs.lemmas.List.{take-map}
 use Rattle.std.proofs.lemmas.List.Sums.{sum_by-cons, sum_by-append}
 use Rattle.std.proofs.lemmas.List.Folds.{list_all-map}
-use Rattle.std.specs.Bool.{one_answer}
-use Rattle.syslog_pieces.specs.StructuredData.Equal.{param_count, counts_agree, same_params}
 use Rattle.syslog_pieces.specs.StructuredData.EqualLaws.{Param, param_eq-same, counts_agree-at, counts_agree-from}
 use Rattle.syslog_pieces.specs.StructuredData.EqualLaws.{same_params-counts, same_params-from, same_params-decides}
 use Rattle.syslog_pieces.specs.StructuredData.EqualLaws.{counts_of_permutation, permuted, length_of_counts}
@@ -83,11 +81,14 @@ unlike_lists text xs ys differ =
     ]
 
 -- one parameter more that is the same in both
-pub front-more : {S : Type 0} (text : S → Text) (xs ys : List (S × S)) (i : ℕ) (x y : S × S) → i < length xs
+pub front_more : {S : Type 0} (text : S → Text) (xs ys : List (S × S)) (i : ℕ) (x y : S × S) → i < length xs
     → i < length ys → x ≡ get_or xs i x → y ≡ get_or ys i y
     → map (param_value text) (take i xs) ≡ map (param_value text) (take i ys)
     → param_eq (param_value text x) (param_value text y) ≡ true
     → map (param_value text) (take (i + 1) xs) ≡ map (param_value text) (take (i + 1) ys)
-front-more text xs ys i x y h k at there front same =
+front_more text xs ys i x y h k at there front same =
     let equal = param_eq-same (param_value text x) (param_value text y) same in
     rw (take_more xs i x h, take_more ys i y k, ← at, ← there) (simp map-append (cc))
+
+-- what the comparison of two lists rests on
+pub ruleset comparing = (counted_from, slice_to_end, unlike_lists)

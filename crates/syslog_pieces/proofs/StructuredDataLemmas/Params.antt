@@ -1,8 +1,7 @@
 -- What an iterator over parameters gives in all.
-use Rattle.syslog_pieces.proofs.Names.{ℕ, List, [], ◌∷◌, Bor, item}
+use Rattle.syslog_pieces.proofs.Names.{ℕ, List, [], ◌∷◌, Result, Bor, item, String}
 use Rattle.std.specs.Global.{Global}
 use Rattle.std.specs.Iterator.{Drains}
-use Rattle.std.specs.Prelude.{Result, String}
 use Rattle.std.specs.declared.alloc.AllocError.{AllocError}
 use Rattle.syslog_pieces.specs.StructuredData.Params.{NextParam, AreParamItems}
 

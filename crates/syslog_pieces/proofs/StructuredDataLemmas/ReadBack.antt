@@ -1,22 +1,19 @@
 -- Elements and their print: canonical elements are read back from it, what is read is canonical, and which elements and
 -- lists print as they are written.
 use Rattle.syslog_pieces.proofs.Names.{◌≡◌, ◌≢◌, ℕ, ◌<◌, inl, inr, List, [], ◌∷◌, ◌++◌, length, map, Option, Some, None}
-use Rattle.syslog_pieces.proofs.Names.{refl, sym, ap, subst, ◌∙◌, append_assoc, arith, flat_map, AllByRecursion}
-use Rattle.syslog_pieces.proofs.Names.{bare_param_text, Text, NoFront, Ends, Values, IsMany, IsList, IsMore, param_row}
-use Rattle.syslog_pieces.proofs.Names.{param, element_row, element_of, element, item, strict, forgiving, ElementValue}
-use Rattle.syslog_pieces.proofs.Names.{param_text, element_text, joined_elements, elements_text, IsCanonicalParam}
-use Rattle.syslog_pieces.proofs.Names.{IsCanonicalElement, is_blank, is_id_char, is_name_char, heads, ◌also◌}
-use Rattle.syslog_pieces.proofs.Names.{row_pieces, false, is_some, quoted, inside_row, opening_row, start_row}
-use Rattle.syslog_pieces.proofs.Names.{quoted_row, VerbatimItems, Front, exactly, run, some_run, more_before, shown}
-use Rattle.syslog_pieces.proofs.Names.{bracketed, many_here, many_cons, begins, list_here, more_here, row_of, ◌then◌}
-use Rattle.syslog_pieces.specs.StructuredData.Canonical.{BeginsUnblank}
-use Rattle.syslog_pieces.proofs.StructuredDataLemmas.Elements.{item_begins, strict_some, bracketed_item}
-use Rattle.syslog_pieces.specs.Bodies.Verbatim.{CopiedOn, ListPrints}
-use Rattle.syslog_pieces.specs.Pieces.Class.{texted}
-use Rattle.syslog_pieces.specs.Pieces.Verbatim.{Verbatim}
-use Rattle.syslog_pieces.specs.declared.text.verbatim.Cut.{Cut}
-use Rattle.syslog_pieces.proofs.PieceLemmas.Verbatim.{verbatim_by_text, front_of}
+use Rattle.syslog_pieces.proofs.Names.{refl, sym, ap, subst, ◌∙◌, append_assoc, arith, false, flat_map, AllByRecursion}
+use Rattle.syslog_pieces.proofs.Names.{VerbatimItems, CopiedOn, ListPrints, Text, NoFront, Ends, Values, Front, exactly}
+use Rattle.syslog_pieces.proofs.Names.{run, some_run, texted, IsMany, IsList, IsMore, more_before, param_row, param}
+use Rattle.syslog_pieces.proofs.Names.{element_row, element_of, element, item, strict, forgiving, bracketed}
+use Rattle.syslog_pieces.proofs.Names.{ElementValue, param_text, IsCanonicalParam, IsCanonicalElement, BeginsUnblank}
+use Rattle.syslog_pieces.proofs.Names.{is_blank, is_id_char, is_name_char, heads, ◌also◌, row_pieces, row_of, ◌then◌}
+use Rattle.syslog_pieces.proofs.Names.{is_some, quoted, inside_row, opening_row, start_row, quoted_row, shown}
+use Rattle.syslog_pieces.proofs.Names.{many_here, many_cons, begins, list_here, more_here, Verbatim, Cut}
+use Rattle.syslog_pieces.proofs.Names.{verbatim_by_text, front_of, behind}
+use Rattle.syslog_pieces.specs.Bodies.Verbatim.{bare_param_text}
+use Rattle.syslog_pieces.specs.StructuredData.Element.{element_text, joined_elements, elements_text}
 use Rattle.syslog_pieces.proofs.PieceLemmas.Lists.{list_cons, more_cons}
+use Rattle.syslog_pieces.proofs.StructuredDataLemmas.Elements.{item_begins, strict_some, bracketed_item}
 use Rattle.syslog_pieces.proofs.StructuredDataLemmas.Closing.{param_read, element_read}
 use Rattle.syslog_pieces.proofs.TextLemmas.Copied.{verbatim_on, extended, left_out}
 
@@ -112,10 +109,7 @@ first_canonical p q [] h e = tt
 first_canonical p q (v ∷ vs) (a, b, w, (ws, row, same), more) e =
     let g = row_pieces param_row {t = a ++ (b ++ q)} {q = b ++ q} (record { piece = a; whole = refl; is = row }) in
     let (_, name, name_is) = g.1.is in
-    let whole : p ++ q ≡ g.1.piece ++ g.0 = ap (λ (x : Text). x ++ q) w ∙ append_assoc a b q ∙ g.1.whole in
-    let ends : Ends is_blank g.1.piece =
-    front_ends g.1.piece g.0 name.0 (subst (λ (x : Text). Ends is_blank x) whole e) in
-    rw (same, name_is) ends
+    rw (same, name_is) (front_ends g.1.piece g.0 name.0 (rw (behind p a b q w ∙ g.1.whole) at e))
   where
     front_ends : (x y : Text) → 0 < length x → Ends is_blank (x ++ y) → Ends is_blank x
     front_ends [] y l h = tt
@@ -191,9 +185,9 @@ param_verbatim {t = t} {a = a} {b = b} {c = c} {u = u} {name = name} {v = v} f g
     let quote : b ≡ 34 ∷ c = begins 34 b c h in
     let whole : t ≡ name ++ (61 ∷ 34 ∷ (v ++ (34 ∷ u))) =
     cc (f.whole, f.is.2, begins 61 a b g, quote, quoted_text q) in
-    let prints : bare_param_text (name, v) ++ u ≡ name ++ (61 ∷ 34 ∷ (v ++ (34 ∷ u))) = simp append_assoc in
     verbatim_by_text param bare_param_text t u (name, v)
-    (param_read (row_of opening_row (f then g then no_blanks 34 refl quote then h then refl)) q) (whole ∙ sym prints)
+    (param_read (row_of opening_row (f then g then no_blanks 34 refl quote then h then refl)) q)
+    (simp append_assoc whole)
 
 -- ---- elements
 
@@ -223,23 +217,19 @@ pub verbatim_first : {t r i u s id : Text} → Front (exactly (91 ∷ [])) t r t
 verbatim_first {t = t} {i = i} {u = u} {s = s} {id = id} f g b k q ps more e =
     let v = k.value in
     let gap : Front (run is_blank) i u tt = record { piece = 32 ∷ []; whole = b.whole; is = (b.is.1, b.is.2) } in
-    let list = list_cons param 32 93 u s (93 ∷ q) v ps (front_of param bare_param_text u s k) more in
+    let list = list_cons param 32 93 (front_of param bare_param_text u s k) more in
     let close : Front (exactly (93 ∷ [])) (93 ∷ q) q tt = record { piece = 93 ∷ []; whole = refl; is = refl } in
     let w : i ≡ param_text v ++ (flat_map param_text ps ++ (93 ∷ q)) = cc (b.whole, k.whole, e) in
-    let z : (id ++ (flat_map param_text (v ∷ ps) ++ (93 ∷ []))) ++ q ≡ id
-    ++ (param_text v ++ (flat_map param_text ps ++ (93 ∷ q))) =
-    simp append_assoc in
     verbatim_by_text element element_text t q (record { id = id; params = v ∷ ps })
     (element_read (row_of start_row (f then g then gap then refl)) (row_of inside_row (list then close then refl)))
-    (start_text f g ∙ ap (λ (x : Text). 91 ∷ x) (ap (λ (x : Text). id ++ x) w ∙ sym z))
+    (simp append_assoc (start_text f g ∙ ap (λ (x : Text). 91 ∷ (id ++ x)) (simp append_assoc at w)))
 
 -- a further one
 pub verbatim_more : {t s u s' : Text} → VerbatimSoFar t s → Front (exactly (32 ∷ [])) s u tt
     → Verbatim param bare_param_text u s' → VerbatimSoFar t s'
 verbatim_more {s = s} {u = u} {s' = s'} on f k q ps more e =
     let v = k.value in
-    on q (v ∷ ps) (more_cons param 32 93 s u s' (93 ∷ q) v ps (begins 32 s u f)
-    (front_of param bare_param_text u s' k) more)
+    on q (v ∷ ps) (more_cons param 32 93 (begins 32 s u f) (front_of param bare_param_text u s' k) more)
     (begins 32 s u f ∙ ap (λ (x : Text). 32 ∷ x) (k.whole ∙ ap (λ (x : Text). bare_param_text v ++ x) e)
     ∙ sym (append_assoc (param_text v) (flat_map param_text ps) (93 ∷ q)))
 
@@ -261,7 +251,7 @@ joined q k es g = k.whole ∙ ap (λ (x : Text). element_text k.value ++ x) g
 
 pub list_first : {t s : Text} → Verbatim element element_text t s → VerbatimItems t s
 list_first {t = t} {s = s} k q gap items f e =
-    let m = many_cons item t s q (Some k.value) items (item_of k) f in
+    let m = many_cons item (item_of k) f in
     record {
       elements = k.value ∷ strict items;
       is = record { piece = m.piece; whole = m.whole; is = inr (Some k.value ∷ items, omega arith, m.is, refl) };
@@ -270,21 +260,17 @@ list_first {t = t} {s = s} k q gap items f e =
 
 pub list_more : {t s s' : Text} → VerbatimItems t s → Verbatim element element_text s s' → VerbatimItems t s'
 list_more {s = s} {s' = s'} on k q gap items f e =
-    on q gap (Some k.value ∷ items) (many_cons item s s' q (Some k.value) items (item_of k) f)
-    (joined gap k (strict items) e)
+    on q gap (Some k.value ∷ items) (many_cons item (item_of k) f) (joined gap k (strict items) e)
 
 -- where no bracket stands, no item does
 no_bracket : (s : Text) → NoFront (exactly (91 ∷ [])) s → NoFront item s
 no_bracket s n p q v e h = let b = item_begins p q v h in n (91 ∷ []) b.0 tt (e ∙ b.1) refl
 
-pub list_end : (t s : Text) → VerbatimItems t s → NoFront (exactly (91 ∷ [])) s → ListPrints t s s
-list_end t s on n = on s s [] (many_here item s (no_bracket s n)) refl
-
 -- a broken element behind them, and no further one
 pub broken_end : (t s q : Text) → VerbatimItems t s → NoFront element s → Front bracketed s q (tt, (tt, (tt, tt)))
     → NoFront (exactly (91 ∷ [])) q → ListPrints t s q
 broken_end t s q on n b m =
-    on q s (None ∷ []) (many_cons item s q q None [] (bracketed_item s q n b) (many_here item q (no_bracket q m))) refl
+    on q s (None ∷ []) (many_cons item (bracketed_item s q n b) (many_here item q (no_bracket q m))) refl
 
 -- ---- lists that are copied
 
@@ -293,8 +279,10 @@ pub dash_on : (t s : Text) (cut : Option Cut) → Front (exactly (45 ∷ [])) t 
 dash_on t s cut f =
     verbatim_on forgiving elements_text t s cut (record { value = []; whole = begins 45 t s f; is = inl (refl, refl) })
 
-pub list_on : (t s : Text) (cut : Option Cut) → ListPrints t s s → CopiedOn forgiving elements_text t cut s cut
-list_on t s cut l =
+pub list_on : (t s : Text) (cut : Option Cut) → VerbatimItems t s → NoFront (exactly (91 ∷ [])) s
+    → CopiedOn forgiving elements_text t cut s cut
+list_on t s cut on n =
+    let l = on s s [] (many_here item s (no_bracket s n)) refl in
     record {
       value = l.elements;
       is = l.is;
@@ -310,3 +298,6 @@ list_cut t q None c n l e =
       copies = λ w p d. left_out w t q (elements_text l.elements) p c l.prints e d;
     }
 list_cut t q (Some d) c n l e = absurd (cc)
+
+-- what the reader of a list that prints as it is written rests on
+pub ruleset copied_lists = (dash_on, list_on, list_cut, broken_end)

@@ -3,11 +3,10 @@ use Rattle.syslog_pieces.proofs.Names.{◌≡◌, ℕ, ◌<◌, Option, Some, No
 use Rattle.syslog_pieces.proofs.Names.{sym, ap, subst, ◌∙◌, arith, Bor, start_row, start, inside_row, opening_row}
 use Rattle.syslog_pieces.proofs.Names.{opening, closing, Text, Front, NoFront, IsDeterministic, optional, Values, Row}
 use Rattle.syslog_pieces.proofs.Names.{exactly, many, list_before, param, element_row, element, ElementValue}
-use Rattle.syslog_pieces.proofs.Names.{full_element, IsDashBefore, rfc3164_list, dash, DashRule, behind, front_same}
-use Rattle.syslog_pieces.proofs.Names.{no_front_no, optional_some, many_det, many_cons, no_many_no, Meets, row_pieces}
-use Rattle.std.proofs.Common.{◌↔◌}
-use Rattle.syslog_pieces.specs.Pieces.View.{Reads}
-use Rattle.syslog_pieces.specs.StructuredData.Rfc3164List.{BeginsNoList, ListsNoElements}
+use Rattle.syslog_pieces.proofs.Names.{full_element, IsDashBefore, rfc3164_list, BeginsNoList, dash, DashRule, behind}
+use Rattle.syslog_pieces.proofs.Names.{front_same, no_front_no, optional_some, many_det, many_cons, no_many_no, Meets}
+use Rattle.syslog_pieces.proofs.Names.{row_pieces, ◌↔◌, Reads}
+use Rattle.syslog_pieces.specs.StructuredData.Rfc3164List.{ListsNoElements}
 use Rattle.syslog_pieces.proofs.PieceLemmas.Class.{optional_none}
 use Rattle.syslog_pieces.proofs.PieceLemmas.Lists.{many_none}
 use Rattle.syslog_pieces.proofs.StructuredDataLemmas.Closing.{start_det, no_start, no_opening, element_enters}
@@ -65,6 +64,9 @@ pub dash_rfc3164_list : (rule : DashRule) (t q : Text) → t ≡ 45 ∷ q → Is
     → Front (rfc3164_list rule) t q []
 dash_rfc3164_list rule t q e a = record { piece = dash; whole = e; is = inl (refl, a, refl) }
 
+-- what the reader of a list that is a dash cites
+pub ruleset dash_list = (dash_rfc3164_list, optional_some)
+
 -- no list begins the text where neither of its two kinds does
 pub no_rfc3164_list : (rule : DashRule) (t : Text) → BeginsNoList rule t → NoFront (rfc3164_list rule) t
 no_rfc3164_list rule t (n, m) p q es e (inl (f, u, g)) = n q (e ∙ ap (λ (x : Text). x ++ q) f) u
@@ -75,7 +77,7 @@ no_rfc3164_list rule t (n, m) p q (v ∷ vs) e (inr (l, (a, b, i, k, more))) = m
 pub full_rfc3164_list : (rule : DashRule) (t q : Text) (v : ElementValue) → Front full_element t q v
     → ((r : Text) (es : List ElementValue) → 0 < length es → Front (rfc3164_list rule) t r es → ⊥) → ⊥
 full_rfc3164_list rule t q v f k = no_many_no full_element full_shorter (length q) q (omega arith) (λ r vs g.
-    let all = many_cons full_element t q r v vs f g in
+    let all = many_cons full_element f g in
     k r (v ∷ vs) (omega arith) (record { piece = all.piece; whole = all.whole; is = inr (omega arith, all.is) }))
 
 pub begins_no_list : (rule : DashRule) (t : Text) → NoFront (rfc3164_list rule) t → BeginsNoList rule t
@@ -98,9 +100,7 @@ pub list_absent : (rule : DashRule) (t q : Text) (es : List ElementValue)
     → ((r : Text) → t ≡ 45 ∷ r → IsDashBefore rule r → ⊥) → Front (many full_element) t q es → es ≡ []
     → Front (optional (rfc3164_list rule)) t t None
 list_absent rule t q es n f z =
-    optional_none (rfc3164_list rule)
-    (no_rfc3164_list rule t
-    (n, many_none full_element t q (subst (λ (x : List ElementValue). Front (many full_element) t q x) z f)))
+    optional_none (rfc3164_list rule) (no_rfc3164_list rule t (n, many_none full_element t q (rw z at f)))
 
 -- ---- recognising an element with a parameter
 

@@ -1,13 +1,13 @@
 -- Texts split into units in one way, and the removal of escapes.
-use Rattle.syslog_pieces.proofs.Names.{◌≡◌, ◌≢◌, ℕ, Bool, true, false, cond, ◌⊎◌, inl, inr, List, [], ◌∷◌, ◌++◌, refl}
-use Rattle.syslog_pieces.proofs.Names.{sym, ap, subst, ◌∙◌, append_assoc, append-nil, arith, eqb_tells, nat_tests}
-use Rattle.syslog_pieces.proofs.Names.{flat_map, AllByRecursion, chars, ◌↔◌, Text, Each, Ends, TextUnit, pair, single}
-use Rattle.syslog_pieces.proofs.Names.{unit_text, escaped, SplitsRun, IsValueUnit, IsValue, all_append, Err}
-use Rattle.syslog_pieces.proofs.Names.{chars-append, Result, Ok, IsUtf8, IfOk, is_ok}
-use Rattle.std.proofs.lemmas.Grind.{flat_map-append}
-use Rattle.syslog_pieces.specs.Text.CharClass.{is_bare_char}
+use Rattle.syslog_pieces.proofs.Names.{◌≡◌, ◌≢◌, ℕ, Bool, true, false, cond, inl, inr, List, [], ◌∷◌, ◌++◌, refl, sym}
+use Rattle.syslog_pieces.proofs.Names.{ap, subst, ◌∙◌, append_assoc, append-nil, arith, Err, Result, Ok, IfOk}
+use Rattle.syslog_pieces.proofs.Names.{eqb_tells, nat_tests, flat_map, AllByRecursion, chars, IsUtf8, ◌↔◌, is_ok, Text}
+use Rattle.syslog_pieces.proofs.Names.{Each, Ends, TextUnit, pair, single, unit_text, escaped, IsUnescaped, SplitsRun}
+use Rattle.syslog_pieces.proofs.Names.{IsValueUnit, IsValue, all_append, chars-append, cases_Bool, flat_map-append}
 use Rattle.syslog_pieces.specs.StructuredData.Escapes.{IsUnit, IsUnquoted, lone_backslash, SplitsUnits, is_escaped}
-use Rattle.syslog_pieces.specs.StructuredData.Escapes.{pair_meaning, unit_meaning, IsUnescaped, escaped_char}
+use Rattle.syslog_pieces.specs.StructuredData.Escapes.{pair_meaning, unit_meaning, escaped_char}
+use Rattle.syslog_pieces.specs.Text.CharClass.{is_bare_char}
+pub use Rattle.std.proofs.lemmas.Bool.{cases_Bool as decide}
 
 -- ---- a text has one split
 
@@ -33,10 +33,7 @@ module _ (P : TextUnit → Type 0) (bare : (c : ℕ) → P (single c) → c ≢ 
         (let a = i.0 in let b = j.0 in cc, j.1)
 
 lone_same : (k l : Bool) → lone_backslash k ≡ lone_backslash l → k ≡ l
-lone_same true true e = refl
-lone_same false false e = refl
-lone_same true false e = cc
-lone_same false true e = cc
+lone_same k l e = grind arith
 
 abbrev IsLone : Text → Type 0
 IsLone t = (k : Bool) × (t ≡ lone_backslash k)
@@ -80,10 +77,6 @@ split_there (c ∷ d ∷ text) = elim (eqb_tells c 92) [
 ]
 
 -- ---- escaped texts
-pub decide : (b : Bool) → (b ≡ true) ⊎ (b ≡ false)
-decide true = inl refl
-decide false = inr refl
-
 not_backslash : (c : ℕ) → is_escaped c ≡ false → c ≢ 92
 not_backslash c e = grind (arith, nat_tests)
 
@@ -101,11 +94,9 @@ escaped_on u c t h e f i = record {
 
 pub escaped_there : (t : Text) → IsUnescaped (escaped t) t
 escaped_there [] = record { units = []; lone = false; split = record { whole = refl; each = tt }; means = refl }
-escaped_there (c ∷ t) = elim (decide (is_escaped c)) [
-  | inl e ↦ escaped_on (pair c) c t tt (ap (λ (b : Bool). cond b (92 ∷ c ∷ []) (c ∷ [])) e) (escaped_pair c e)
-      (escaped_there t)
-  | inr e ↦ escaped_on (single c) c t (not_backslash c e) (ap (λ (b : Bool). cond b (92 ∷ c ∷ []) (c ∷ [])) e) refl
-      (escaped_there t)
+escaped_there (c ∷ t) = elim (cases_Bool (is_escaped c)) [
+  | inl e ↦ escaped_on (pair c) c t tt (rw e refl) (escaped_pair c e) (escaped_there t)
+  | inr e ↦ escaped_on (single c) c t (not_backslash c e) (rw e refl) refl (escaped_there t)
 ]
 
 pub unescaped_one : (t v w : Text) → IsUnescaped t v → IsUnescaped t w → v ≡ w
@@ -181,7 +172,7 @@ singles_each : (w : Text) → Each is_bare_char w → AllByRecursion IsUnit (sin
 singles_each [] h = tt
 singles_each (c ∷ w) h = (bare_is c h.0, singles_each w h.1)
 
-module _ (t bs xs ys out out' : Text) (s : SplitsRun is_bare_char bs xs ys) (r : Removes t out (chars bs))
+module _ {t bs xs ys out out' : Text} (s : SplitsRun is_bare_char bs xs ys) (r : Removes t out (chars bs))
     (f : out' ≡ out ++ chars xs) where
   pub removes_run : Removes t out' (chars ys)
   removes_run = removes_on t out (chars bs) (chars ys) out' (chars xs) (singles (chars xs)) r

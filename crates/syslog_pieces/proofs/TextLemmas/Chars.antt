@@ -1,15 +1,11 @@
 -- From the bytes of a text to its characters.
-use Rattle.std.proofs.Common.{◌≡◌, ◌≢◌, ℕ, ◌<◌, Bool, true, false, nat_eq, List, [], ◌∷◌, ◌++◌}
-use Rattle.std.proofs.Common.{length, get_or, sym, ap, ◌∙◌, arith}
-use Rattle.std.proofs.lemmas.Bool.{eqb-true}
-use Rattle.std.proofs.lemmas.Bool.Decides.{nat_tests}
+use Rattle.syslog_pieces.proofs.Names.{◌≡◌, ◌≢◌, ℕ, ◌<◌, Bool, true, false, nat_eq, List, [], ◌∷◌, ◌++◌, length, get_or}
+use Rattle.syslog_pieces.proofs.Names.{sym, ap, ◌∙◌, arith, eqb-true, nat_tests, chars-append, chars-nil, encodes-chars}
+use Rattle.syslog_pieces.proofs.Names.{encodes-IsAscii, chars-IsAscii, IsUtf8-from_ascii, IsAscii-nil, IsAscii-cons}
+use Rattle.syslog_pieces.proofs.Names.{is_ascii_digit, chars, IsUtf8, IsAscii, encode_utf8_all, bytes_eq, Text, Each}
+use Rattle.syslog_pieces.proofs.Names.{Ends}
 use Rattle.std.proofs.lemmas.Slice.Eq.{bytes_eq-Decides}
-use Rattle.std.proofs.lemmas.Str.{chars-append, chars-nil, encodes-chars, encodes-IsAscii, chars-IsAscii}
-use Rattle.std.proofs.lemmas.Str.{IsUtf8-from_ascii, byte_from_char, char_from_byte}
-use Rattle.std.proofs.lemmas.Str.Ascii.{IsAscii-nil, IsAscii-cons}
-use Rattle.std.specs.Char.{is_ascii_digit}
-use Rattle.std.specs.Str.{chars, IsUtf8, IsAscii, encode_utf8_all, bytes_eq}
-use Rattle.syslog_pieces.specs.Pieces.Class.{Text, Each, Ends}
+use Rattle.std.proofs.lemmas.Str.{byte_from_char, char_from_byte}
 pub use Rattle.std.proofs.lemmas.Bool.{not-true as from_not_true}
 
 -- ---- texts and their bytes
@@ -35,11 +31,8 @@ pub low_ascii : (test : ℕ → Bool) (cs : Text) → ((c : ℕ) → test c ≡ 
 low_ascii test [] low h = IsAscii-nil
 low_ascii test (c ∷ cs) low h = IsAscii-cons c cs (low c h.0) (low_ascii test cs low h.1)
 
-digit_low : (c : ℕ) → is_ascii_digit c ≡ true → c < 128
-digit_low c h = grind (arith, nat_tests)
-
 pub digits_ascii : (cs : Text) → Each is_ascii_digit cs → IsAscii cs
-digits_ascii cs = low_ascii is_ascii_digit cs digit_low
+digits_ascii cs = low_ascii is_ascii_digit cs (λ c h. grind (arith, nat_tests))
 
 pub digit_chars : (bs : List ℕ) → IsUtf8 bs → Each is_ascii_digit (chars bs) → chars bs ≡ bs
 digit_chars bs u h = ascii_chars bs u (digits_ascii (chars bs) h)

@@ -1,15 +1,7 @@
 -- What is copied of a text, where one piece may be left out.
-use Rattle.std.proofs.Common.{◌≡◌, true, false, [], ◌∷◌, ◌++◌, Option, None, Some}
-use Rattle.std.proofs.Common.{sym, ◌∙◌, append_assoc, append-nil, arith}
-use Rattle.std.proofs.lemmas.List.{append_cancel_right}
-use Rattle.std.specs.Prelude.{is_some}
-use Rattle.syslog_pieces.specs.Bodies.Verbatim.{Copies, CopiedOn}
-use Rattle.syslog_pieces.specs.Pieces.Class.{Text, Class, Each, Ends, some_run}
-use Rattle.syslog_pieces.specs.Pieces.Verbatim.{Verbatim}
-use Rattle.syslog_pieces.specs.Pieces.View.{shown}
-use Rattle.syslog_pieces.specs.Text.{is_blank}
-use Rattle.syslog_pieces.specs.declared.text.verbatim.Cut.{Cut}
-use Rattle.syslog_pieces.proofs.PieceLemmas.Verbatim.{front_of}
+use Rattle.syslog_pieces.proofs.Names.{◌≡◌, true, false, [], ◌∷◌, ◌++◌, Option, None, Some, sym, ◌∙◌, append_assoc}
+use Rattle.syslog_pieces.proofs.Names.{append-nil, arith, append_cancel_right, is_some, Copies, CopiedOn, Text, Class}
+use Rattle.syslog_pieces.proofs.Names.{Each, Ends, some_run, Verbatim, shown, is_blank, Cut, front_of}
 
 -- a piece that prints as it is written is copied, whatever was left out before it
 pub extended : (w t u piece p : Text) (cut : Option Cut) → t ≡ piece ++ u → Copies w cut t p

@@ -1,10 +1,7 @@
 -- A text cut by bytes before a rest of it.
-use Rattle.std.proofs.Common.{◌≡◌, ℕ, ◌-◌, ◌≤◌, List, ◌++◌, length, take, sym, ap, ◌∙◌, arith}
-use Rattle.std.proofs.Math.Seq.{take-append_seam}
-use Rattle.std.proofs.lemmas.List.{length-append}
-use Rattle.std.proofs.lemmas.Str.{encodes-append, encodes-chars, IsUtf8-take, IsCharBoundary-at_seam}
-use Rattle.std.specs.Str.{chars, IsUtf8, IsCharBoundary, encode_utf8_all}
-use Rattle.syslog_pieces.specs.Pieces.Class.{Text}
+use Rattle.syslog_pieces.proofs.Names.{◌≡◌, ℕ, ◌-◌, ◌≤◌, List, ◌++◌, length, take, sym, ap, ◌∙◌, arith}
+use Rattle.syslog_pieces.proofs.Names.{take-append_seam, length-append, encodes-append, encodes-chars, IsUtf8-take}
+use Rattle.syslog_pieces.proofs.Names.{IsCharBoundary-at_seam, chars, IsUtf8, IsCharBoundary, encode_utf8_all, Text}
 use Rattle.syslog_pieces.proofs.TextLemmas.Chars.{chars_cut}
 
 module _ (t r : List ℕ) (u : IsUtf8 t) (z : IsUtf8 r) (p : Text) (whole : chars t ≡ p ++ chars r) where
@@ -28,3 +25,6 @@ module _ (t r : List ℕ) (u : IsUtf8 t) (z : IsUtf8 r) (p : Text) (whole : char
       let n = length (encode_utf8_all p) in
       let same = e ∙ rw (← place) (ap (take n) bytes ∙ take-append_seam (encode_utf8_all p) r) in
       chars_cut t xs r (rw same bytes) (rw e (IsUtf8-take t (length t - length r) u front_cut))
+
+-- what the reader of that front rests on
+pub ruleset cuts = (rest_shorter, front_cut, front_chars)

@@ -1,25 +1,21 @@
 -- The decimal text of a number is ASCII, so its bytes are its characters.
-use Rattle.std.proofs.Common.{◌≡◌, ℕ, ℤ, zero, suc, pos, negsuc, ◌+◌, ◌/◌, ◌%◌, ◌^◌, ◌<◌, ◌≤◌, inl, inr}
-use Rattle.std.proofs.Common.{true, false, List, [], ◌∷◌, ◌++◌, ap, ◌∙◌, arith}
-use Rattle.std.proofs.lemmas.Bool.{lt-ltb}
-use Rattle.std.proofs.lemmas.Bool.Decides.{eqb_tells, nat_tests}
-use Rattle.std.proofs.lemmas.Fmt.{decimal_digit, decimal_step}
-use Rattle.std.proofs.lemmas.Str.{encodes-IsAscii, digit_value_digit}
-use Rattle.std.proofs.lemmas.Str.Ascii.{IsAscii-nil, IsAscii-cons}
-use Rattle.std.specs.Fmt.{digits, digits_onto, digit_glyph, decimal, signed_decimal}
-use Rattle.std.specs.Char.{is_ascii_digit, digit_value}
-use Rattle.std.specs.Str.{IsAscii, encode_utf8_all}
+use Rattle.syslog_pieces.proofs.Names.{◌≡◌, ℕ, ℤ, zero, suc, pos, negsuc, ◌+◌, ◌%◌, ◌^◌, ◌<◌, ◌≤◌, inl, inr, true}
+use Rattle.syslog_pieces.proofs.Names.{false, List, [], ◌∷◌, ◌++◌, ap, ◌∙◌, arith, lt-ltb, eqb_tells, nat_tests}
+use Rattle.syslog_pieces.proofs.Names.{decimal_digit, encodes-IsAscii, IsAscii-nil, IsAscii-cons, digits_onto}
+use Rattle.syslog_pieces.proofs.Names.{digit_glyph, decimal, signed_decimal, is_ascii_digit, digit_value, IsAscii}
+use Rattle.syslog_pieces.proofs.Names.{encode_utf8_all, is_blank}
+use Rattle.std.proofs.Common.{◌/◌}
+use Rattle.std.proofs.lemmas.Fmt.{decimal_step}
+use Rattle.std.proofs.lemmas.Str.{digit_value_digit}
+use Rattle.std.specs.Fmt.{digits}
 use Rattle.jiff_fmt.specs.Text.{pad2, pad4}
-use Rattle.syslog_pieces.specs.Text.{is_blank}
 use Rattle.syslog_pieces.specs.Timestamp.Printed.{pad3}
-
-digit_ascii : (d : ℕ) → d < 10 → digit_glyph false d < 128
-digit_ascii d h = rw (lt-ltb d 10 h) (omega arith)
 
 digits_onto_ascii : (k n : ℕ) (acc : List ℕ) → IsAscii acc → IsAscii (digits_onto k 10 false n acc)
 digits_onto_ascii zero n acc h = h
 digits_onto_ascii (suc k) n acc h =
-    let more = IsAscii-cons (digit_glyph false (n % 10)) acc (digit_ascii (n % 10) (omega arith)) h in
+    let low : digit_glyph false (n % 10) < 128 = rw (lt-ltb (n % 10) 10 (omega arith)) (omega arith) in
+    let more = IsAscii-cons (digit_glyph false (n % 10)) acc low h in
     elim (eqb_tells (n / 10) 0) [
       | inl last ↦ rw last.0 more
       | inr some ↦ rw some.0 (digits_onto_ascii k (n / 10) (digit_glyph false (n % 10) ∷ acc) more)
@@ -61,24 +57,16 @@ two_digits n l h = last_digit n _ l (omega arith) (one_digit (n / 10) (omega ari
 
 pub three_digits : (n : ℕ) → 100 ≤ n → n < 1_000 → decimal n ≡ pad3 n
 three_digits n l h =
-    let e : n / 10 / 10 ≡ n / 100 = omega arith in
-    rw e at (last_digit n _ (omega arith) (omega arith) (two_digits (n / 10) (omega arith) (omega arith)))
+    let e = last_digit n _ (omega arith) (omega arith) (two_digits (n / 10) (omega arith) (omega arith)) in grind arith
 
 pub four_digits : (n : ℕ) → 1_000 ≤ n → n < 10_000 → decimal n ≡ pad4 n
 four_digits n l h =
-    let a : n / 10 / 100 ≡ n / 100 / 10 = omega arith in
-    let b : n / 10 / 10 % 10 ≡ n / 100 % 10 = omega arith in
-    let c : n / 10 % 10 ≡ n % 100 / 10 = omega arith in
-    let d : n % 10 ≡ n % 100 % 10 = omega arith in
-    rw (a, b, c, d) at (last_digit n _ (omega arith) (omega arith) (three_digits (n / 10) (omega arith) (omega arith)))
+    let e = last_digit n _ (omega arith) (omega arith) (three_digits (n / 10) (omega arith) (omega arith)) in
+    grind arith
 
 pub five_digits : (n : ℕ) → 10_000 ≤ n → n < 100_000 → decimal n ≡ (48 + n / 10_000) ∷ pad4 (n % 10_000)
 five_digits n l h =
-    let m = n % 10_000 in
-    let a : n / 10 / 100 / 10 ≡ n / 10_000 = omega arith in
-    let b : n / 10 / 100 % 10 ≡ m / 100 / 10 = omega arith in
-    let c : n / 10 % 100 / 10 ≡ m / 100 % 10 = omega arith in
-    let d : n / 10 % 100 % 10 ≡ m % 100 / 10 = omega arith in
-    let e : n % 10 ≡ m % 100 % 10 = omega arith in
-    rw (a, b, c, d, e) at (last_digit n _ (omega arith) (omega arith)
-    (four_digits (n / 10) (omega arith) (omega arith)))
+    let e = last_digit n _ (omega arith) (omega arith) (four_digits (n / 10) (omega arith) (omega arith)) in grind arith
+
+-- the decimal text of a number below 100,000
+pub ruleset few_digits = (one_digit, two_digits, three_digits, four_digits, five_digits)

@@ -1,15 +1,15 @@
 -- From the mask of one load to the bytes that pass a test.
-use Rattle.std.proofs.Common.{◌≡◌, ℕ, ◌+◌, ◌-◌, ◌%◌, ◌^◌, ◌<◌, ◌≤◌, Bool, true, false, not, List, map, cond, leb, ltb}
-use Rattle.std.proofs.Common.{length, get_or, replicate, Fits, w8, sym, ap, ◌∙◌, subst, arith, inl, inr}
-use Rattle.std.proofs.lemmas.Bool.{agree_below, agree_below_at, not-true, not-false}
-use Rattle.std.proofs.lemmas.Bool.{cases_eq, eq-eqb, ne_eqb, cond-true, cond-false}
-use Rattle.std.proofs.lemmas.Simd.{map-map, mask_l-mod, length-chunk, get_or-chunk}
-use Rattle.std.proofs.lemmas.Simd.{leading_from_mask_l, trailing_mask_l, zip2_of_maps, zip2_splat, splat_is_map}
-use Rattle.std.proofs.lemmas.List.{length-map, map-id}
+use Rattle.syslog_pieces.proofs.Names.{◌≡◌, ℕ, ◌+◌, ◌-◌, ◌%◌, ◌^◌, ◌<◌, ◌≤◌, Bool, true, false, not, List, map, cond}
+use Rattle.syslog_pieces.proofs.Names.{length, get_or, Fits, sym, ap, ◌∙◌, subst, arith, inl, inr, agree_below}
+use Rattle.syslog_pieces.proofs.Names.{agree_below_at, not-true, not-false, cases_eq, ne_eqb, cond-false, length-map}
+use Rattle.syslog_pieces.proofs.Names.{map-id, prefix_len, IsRunIn}
+use Rattle.std.proofs.Common.{leb, replicate, w8}
+use Rattle.std.proofs.lemmas.Bool.{eq-eqb, cond-true}
+use Rattle.std.proofs.lemmas.Simd.{map-map, mask_l-mod, length-chunk, get_or-chunk, leading_from_mask_l}
+use Rattle.std.proofs.lemmas.Simd.{trailing_mask_l, zip2_of_maps, zip2_splat, splat_is_map}
 use Rattle.std.proofs.lemmas.List.Sums.{prefix_len-le-length, prefix_len_passes, prefix_len_stops}
-use Rattle.std.specs.List.{prefix_len}
 use lib.Lanes.{chunk, zip2, mask_l, top}
-use Rattle.syslog_pieces.specs.Bodies.Scan.{IsRunIn, first_set}
+use Rattle.syslog_pieces.specs.Bodies.Scan.{first_set}
 
 -- ---- vectors that are computed lane by lane from a load v of sixteen bytes
 pub record IsLanes (v z : List ℕ) (f : ℕ → ℕ) : Type 0 where
@@ -24,16 +24,13 @@ module _ {v : List ℕ} where
       → IsLanes v (zip2 h y z) (λ x. h (f x) (g x))
   joined h {f = f} {g = g} a b = record { same = λ long. zip2_of_maps h f g v (a.same long) (b.same long) }
 
-  splat : (n : ℕ) → IsLanes v (replicate 16 n) (λ _. n)
+  -- one number in each lane
+  pub splat : (n : ℕ) → IsLanes v (replicate 16 n) (λ _. n)
   splat n = record { same = splat_is_map v 16 n }
 
   pub at_least : {z : List ℕ} {f : ℕ → ℕ} (n : ℕ) → IsLanes v z f
       → IsLanes v (zip2 (λ a b. cond (leb a b) 255 0) (replicate 16 n) z) (λ x. cond (leb n (f x)) 255 0)
   at_least n a = joined (λ a b. cond (leb a b) 255 0) (splat n) a
-
-  pub below : {z : List ℕ} {f : ℕ → ℕ} (n : ℕ) → IsLanes v z f
-      → IsLanes v (zip2 (λ a b. cond (ltb a b) 255 0) z (replicate 16 n)) (λ x. cond (ltb (f x) n) 255 0)
-  below n a = joined (λ a b. cond (ltb a b) 255 0) a (splat n)
 
   -- bytes past ASCII
   pub past : IsLanes v (zip2 (λ a b. cond (leb a b) 255 0) (replicate 16 128) v) (λ x. cond (leb 128 x) 255 0)

@@ -1,16 +1,12 @@
 -- What the first bytes of a text tell of its characters.
-use Rattle.std.proofs.Common.{◌≡◌, ◌≢◌, ℕ, ◌-◌, ◌<◌, ◌≤◌, false, List, [], ◌∷◌, ◌++◌}
-use Rattle.std.proofs.Common.{length, drop, get_or, inl, inr, refl, sym, ap, ◌∙◌, arith}
-use Rattle.std.proofs.Math.Seq.{drop-append_seam}
-use Rattle.std.proofs.lemmas.Bool.{cases_lt}
-use Rattle.std.proofs.lemmas.Bool.Decides.{nat_tests}
-use Rattle.std.proofs.lemmas.List.{length-append, drop_more, get_or_append_left}
-use Rattle.std.proofs.lemmas.Str.{encode_ascii, IsCharBoundary-after_ascii, IsUtf8-drop}
-use Rattle.std.specs.Char.{is_ascii_digit}
-use Rattle.std.specs.Str.{chars, IsUtf8, IsAscii, IsCharBoundary}
+use Rattle.syslog_pieces.proofs.Names.{◌≡◌, ◌≢◌, ℕ, ◌-◌, ◌<◌, ◌≤◌, false, List, [], ◌∷◌, ◌++◌, length, drop, get_or}
+use Rattle.syslog_pieces.proofs.Names.{inl, inr, refl, sym, ap, ◌∙◌, arith, drop-append_seam, cases_lt, nat_tests}
+use Rattle.syslog_pieces.proofs.Names.{length-append, IsCharBoundary-after_ascii, IsUtf8-drop, is_ascii_digit, chars}
+use Rattle.syslog_pieces.proofs.Names.{IsUtf8, IsAscii, IsCharBoundary, Front, NoFront, exactly, run, some_run}
+use Rattle.syslog_pieces.proofs.Names.{is_blank, number}
+use Rattle.std.proofs.lemmas.List.{drop_more, get_or_append_left}
+use Rattle.std.proofs.lemmas.Str.{encode_ascii}
 use Rattle.syslog_pieces.specs.Bodies.Looks.{BeginsVisibly, BeginsWithGap}
-use Rattle.syslog_pieces.specs.Pieces.Class.{Front, NoFront, exactly, run, some_run}
-use Rattle.syslog_pieces.specs.Text.{is_blank, number}
 use Rattle.syslog_pieces.proofs.TextLemmas.Chars.{ascii_front, one_ascii, ends_by_byte}
 use Rattle.syslog_pieces.proofs.TextLemmas.Runs.{ascii_cut, first_left, no_run}
 use Rattle.syslog_pieces.proofs.TextLemmas.Words.{no_literal}
@@ -55,15 +51,9 @@ module _ (b : ℕ) (bs : List ℕ) (low : b < 128) (u : IsUtf8 bs) where
   no_one_front n = no_literal b bs u (λ more e. n more (e ∙ ap (λ (x : List ℕ). x ++ more) (encode_ascii b low)))
 
 -- ---- gaps
-past_blank : (c : ℕ) → 32 < c → is_blank c ≡ false
-past_blank c h = grind (arith, nat_tests)
-
 -- the byte, or a character past ASCII
 no_blank : (c byte : ℕ) → (c < 128 → byte ≡ c) → 32 < byte → is_blank c ≡ false
-no_blank c byte e h = elim (cases_lt c 128) [
-  | inl low ↦ past_blank c (omega (arith, e low))
-  | inr high ↦ past_blank c (omega arith)
-]
+no_blank c byte e h = grind (arith, nat_tests)
 
 -- a text that begins past white space begins with no blank
 pub no_blanks : (bs : List ℕ) → IsUtf8 bs → BeginsVisibly bs → Front (run is_blank) (chars bs) (chars bs) tt

@@ -1,14 +1,9 @@
 -- Printed texts, and the bytes that are written of them.
-use Rattle.std.proofs.Common.{◌≡◌, ℕ, ◌+◌, ◌<◌, List, [], ◌∷◌, ◌++◌, length, get_or}
-use Rattle.std.proofs.Common.{take, sym, ap, ◌∙◌, append_assoc, append-nil, refl, map}
-use Rattle.std.proofs.lemmas.List.{take_more}
-use Rattle.std.proofs.lemmas.List.Concat.{flat_map-append}
-use Rattle.std.proofs.lemmas.Str.{encodes-append, encodes-chars}
+use Rattle.syslog_pieces.proofs.Names.{◌≡◌, ℕ, ◌+◌, ◌<◌, List, [], ◌∷◌, ◌++◌, length, get_or, take, sym, ap, ◌∙◌}
+use Rattle.syslog_pieces.proofs.Names.{append_assoc, append-nil, take_more, flat_map-append, encodes-append}
+use Rattle.syslog_pieces.proofs.Names.{encodes-chars, flat_map, chars, encode_utf8_all, IsUtf8, Text, param_text}
 use Rattle.std.specs.Char.{encode_utf8}
-use Rattle.std.specs.List.{flat_map}
-use Rattle.std.specs.Str.{chars, encode_utf8_all, IsUtf8}
-use Rattle.syslog_pieces.specs.Pieces.Class.{Text}
-use Rattle.syslog_pieces.specs.StructuredData.Element.{param_text}
+pub use Rattle.std.proofs.lemmas.List.Folds.{flat_map-map}
 
 -- the bytes of a text that a slice holds
 pub encodes_shown : (bytes source : List ℕ) → IsUtf8 bytes → bytes ≡ source → encode_utf8_all (chars source) ≡ bytes
@@ -43,8 +38,3 @@ pub encodes_closed : (text : Text) (all : Text) → all ≡ text ++ (93 ∷ [])
     → encode_utf8_all text ++ (93 ∷ []) ≡ encode_utf8_all all
 unfolding encode_utf8
 encodes_closed text all e = sym (encodes-append text (93 ∷ [])) ∙ ap encode_utf8_all (sym e)
-
-pub flat_map-map : {X Y : Type 0} (f : Y → Text) (g : X → Y) (xs : List X)
-    → flat_map f (map g xs) ≡ flat_map (λ x. f (g x)) xs
-flat_map-map f g [] = refl
-flat_map-map f g (x ∷ xs) = ap (λ (t : Text). f (g x) ++ t) (flat_map-map f g xs)

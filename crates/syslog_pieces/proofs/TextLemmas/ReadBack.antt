@@ -1,15 +1,11 @@
 -- Numbers, words and hosts are read back from their printed text, and what is read is canonical.
-use Rattle.std.proofs.Common.{◌≡◌, ℕ, ◌<◌, ◌≤◌, ◌^◌, inl, inr, true, false, nat_eq, [], ◌∷◌, ◌++◌, length}
-use Rattle.std.proofs.Common.{get_or, Option, Some, None, IfSome, refl, sym, ap, arith}
-use Rattle.std.proofs.lemmas.List.{length-append}
-use Rattle.std.proofs.lemmas.Bool.Decides.{nat_tests}
-use Rattle.std.proofs.lemmas.Fmt.{decimal_nonempty, digits_decimal, digits_value-decimal}
-use Rattle.std.specs.Char.{is_ascii_digit, is_not_whitespace}
-use Rattle.std.specs.Fmt.{decimal}
-use Rattle.syslog_pieces.specs.Pieces.Class.{Text, Each, Ends}
-use Rattle.syslog_pieces.specs.Text.{number, dash, colon, word, EndsInColon, IsHost, name_text, is_blank}
-use Rattle.syslog_pieces.specs.Text.Canonical.{IsVisible, IsCanonicalHost, IsCanonicalWord}
-use Rattle.syslog_pieces.proofs.PieceLemmas.Each.{each_map}
+use Rattle.syslog_pieces.proofs.Names.{◌≡◌, ℕ, ◌<◌, ◌≤◌, ◌^◌, inl, inr, true, false, nat_eq, [], ◌∷◌, ◌++◌, length}
+use Rattle.syslog_pieces.proofs.Names.{get_or, Option, Some, None, IfSome, refl, sym, ap, arith, length-append}
+use Rattle.syslog_pieces.proofs.Names.{nat_tests, decimal_nonempty, digits_value-decimal, is_ascii_digit}
+use Rattle.syslog_pieces.proofs.Names.{is_not_whitespace, decimal, Text, Each, Ends, number, dash, colon, word}
+use Rattle.syslog_pieces.proofs.Names.{EndsInColon, IsHost, name_text, is_blank, IsVisible, IsCanonicalHost}
+use Rattle.syslog_pieces.proofs.Names.{IsCanonicalWord, each_map}
+use Rattle.std.proofs.lemmas.Fmt.{digits_decimal}
 use Rattle.syslog_pieces.proofs.TextLemmas.Words.{own}
 
 -- ---- numbers
@@ -26,11 +22,8 @@ number_back n limit q l b z =
     (long, digits, z, sym (digits_value-decimal own n small), l)
 
 -- a digit is no white space
-digit_visible : (c : ℕ) → is_ascii_digit c ≡ true → is_not_whitespace c ≡ true
-digit_visible c h = grind (arith, nat_tests)
-
 pub digits_visible : (t : Text) → Each is_ascii_digit t → Each is_not_whitespace t
-digits_visible = each_map is_ascii_digit is_not_whitespace digit_visible
+digits_visible = each_map is_ascii_digit is_not_whitespace (λ c h. grind (arith, nat_tests))
 
 -- ---- words
 

@@ -1,18 +1,16 @@
 -- Runs: of bytes, and of the characters that they are.
-use Rattle.std.proofs.Common.{◌≡◌, ◌≤◌, ◌<◌, ◌+◌, ℕ, zero, suc, Bool, true, not, ◌&&◌, nat_lt}
-use Rattle.std.proofs.Common.{List, [], ◌∷◌, ◌++◌, length, get_or, take, drop, refl, sym, ap, subst, ◌∙◌}
-use Rattle.std.proofs.Common.{inl, inr, add-one, add-zero, arith, length-take, get_or-take, get_or-drop, length-drop}
-use Rattle.std.proofs.Math.Seq.{take-add}
-use Rattle.std.proofs.lemmas.List.{drop-drop, take-append-drop}
-use Rattle.std.proofs.lemmas.Bool.{cases_Bool, cases_lt, and_parts, and_left, ltb-true, lt-ltb, le-ltb, not_from_true}
-use Rattle.std.proofs.lemmas.Str.{chars-append, chars-nil, chars-IsAscii, IsCharBoundary-start}
-use Rattle.std.proofs.lemmas.Str.{IsCharBoundary-after_ascii, IsCharBoundary-from_rest, IsUtf8-take, IsUtf8-drop}
-use Rattle.std.specs.Str.{chars, IsUtf8, IsCharBoundary}
-use Rattle.syslog_pieces.specs.Pieces.Class.{Text, Class, Front, NoFront, Each, Ends, run, some_run}
-use Rattle.syslog_pieces.specs.Bodies.Scan.{IsRun, EndsRun, SplitsRun}
+use Rattle.syslog_pieces.proofs.Names.{◌≡◌, ◌≤◌, ◌<◌, ◌+◌, ℕ, zero, suc, Bool, true, not, nat_lt, List, [], ◌∷◌, ◌++◌}
+use Rattle.syslog_pieces.proofs.Names.{length, get_or, take, drop, refl, sym, ap, subst, ◌∙◌, inl, inr, add-one}
+use Rattle.syslog_pieces.proofs.Names.{add-zero, arith, length-drop, take-add, drop-drop, take-append-drop, cases_Bool}
+use Rattle.syslog_pieces.proofs.Names.{cases_lt, and_parts, and_left, ltb-true, lt-ltb, chars-append, chars-nil}
+use Rattle.syslog_pieces.proofs.Names.{chars-IsAscii, IsCharBoundary-after_ascii, IsUtf8-take, IsUtf8-drop, chars}
+use Rattle.syslog_pieces.proofs.Names.{IsUtf8, IsCharBoundary, Text, Class, Front, NoFront, Each, Ends, run, some_run}
+use Rattle.syslog_pieces.proofs.Names.{IsRun, EndsRun, SplitsRun, byte_in, past_in, has, CharClass, run_same}
+use Rattle.syslog_pieces.proofs.Names.{each_append, each_map}
+use Rattle.std.proofs.Common.{length-take, get_or-take, get_or-drop}
+use Rattle.std.proofs.lemmas.Bool.{le-ltb, not_from_true}
+use Rattle.std.proofs.lemmas.Str.{IsCharBoundary-start, IsCharBoundary-from_rest}
 use Rattle.syslog_pieces.proofs.TextLemmas.Chars.{chars_cut, chars_nonempty, chars_empty, ends_by_byte, low_ascii}
-use Rattle.syslog_pieces.proofs.PieceLemmas.Class.{run_same}
-use Rattle.syslog_pieces.proofs.PieceLemmas.Each.{each_append, each_map}
 
 -- ---- where a run ends
 
@@ -39,17 +37,6 @@ split_at_end h bs xs ys n e f g = rw (f, g) e.1
 
 -- ---- a run of ASCII bytes
 
--- the test of bytes: ASCII, and of the class of characters
-abbrev pub ascii_of : (ℕ → Bool) → ℕ → Bool
-ascii_of h b = nat_lt b 128 && h b
-
--- characters past ASCII that pass the test
-abbrev pub past_of_ascii : (ℕ → Bool) → ℕ → Bool
-past_of_ascii h c = not (nat_lt c 128) && h c
-
-ascii_parts : (h : ℕ → Bool) (b : ℕ) → ascii_of h b ≡ true → (b < 128) × (h b ≡ true)
-ascii_parts h b e = let p = and_parts (nat_lt b 128) (h b) e in (ltb-true b 128 p.0, p.1)
-
 each_by_place : (h : ℕ → Bool) (bs : List ℕ) → ((k : ℕ) → k < length bs → h (get_or bs k 0) ≡ true) → Each h bs
 each_by_place h [] f = tt
 each_by_place h (b ∷ bs) f = (f 0 (omega arith), each_by_place h bs (λ k lt. f (suc k) (omega arith)))
@@ -63,43 +50,42 @@ ascii_cut bs (suc n) u l f = rw add-one at (IsCharBoundary-after_ascii bs n u (o
 pub first_left : (n : ℕ) (bs : List ℕ) → get_or (drop n bs) 0 0 ≡ get_or bs n 0
 first_left n bs = rw add-zero at (get_or-drop n bs 0 0)
 
--- the characters of the run are its bytes, and no ASCII character of the class stands behind them
-pub ascii_run : (h : ℕ → Bool) (bs : List ℕ) (n : ℕ) → IsUtf8 bs → IsRun (ascii_of h) bs n → EndsRun (ascii_of h) bs n
-ascii_run h bs n u r =
-    let cut = ascii_cut bs n u r.within (λ k lt. (ascii_parts h _ (r.pass k lt)).0) in
-    let each : Each (ascii_of h) (take n bs) = each_by_place (ascii_of h) (take n bs) (λ k lt.
-    let less : k < n = omega (arith, lt, length-take n bs) in rw get_or-take (r.pass k less)) in
-    ends_run (ascii_of h) bs n u cut
-    (rw (chars-IsAscii (take n bs) (low_ascii (ascii_of h) (take n bs) (λ c e. (ascii_parts h c e).0) each)) each)
-    (ends_by_byte (ascii_of h) (drop n bs) (IsUtf8-drop bs n u cut) (λ l c byte char. elim (cases_lt c 128) [
-      | inl low ↦ rw (sym (byte low) ∙ first_left n bs) (r.stops (omega (arith, l, length-drop n bs)))
-      | inr high ↦ and_left (nat_lt c 128) (h c) (le-ltb c 128 high)
-    ]))
+module _ (class : CharClass) where
+  byte_parts : (b : ℕ) → byte_in class b ≡ true → (b < 128) × (has class b ≡ true)
+  byte_parts b e = let p = and_parts (nat_lt b 128) (has class b) e in (ltb-true b 128 p.0, p.1)
 
--- no character past ASCII stands behind the place, where an ASCII byte does, or nothing
-pub ends_at_cut : (h : ℕ → Bool) (bs : List ℕ) (n : ℕ) → IsUtf8 (drop n bs) → (n < length bs → get_or bs n 0 < 128)
-    → Ends (past_of_ascii h) (chars (drop n bs))
-ends_at_cut h bs n u low = ends_by_byte (past_of_ascii h) (drop n bs) u (λ l c byte char.
-    let small = low (omega (arith, l, length-drop n bs)) in
-    and_left (not (nat_lt c 128)) (h c) (not_from_true (nat_lt c 128)
-    (lt-ltb c 128 (omega (arith, char, first_left n bs, small)))))
+  -- the characters of the run are its bytes, and no ASCII character of the class stands behind them
+  pub ascii_run : (bs : List ℕ) (n : ℕ) → IsUtf8 bs → IsRun (byte_in class) bs n → EndsRun (byte_in class) bs n
+  ascii_run bs n u r =
+      let cut = ascii_cut bs n u r.within (λ k lt. (byte_parts _ (r.pass k lt)).0) in
+      let each : Each (byte_in class) (take n bs) = each_by_place (byte_in class) (take n bs) (λ k lt.
+      let less : k < n = omega (arith, lt, length-take n bs) in rw get_or-take (r.pass k less)) in
+      ends_run (byte_in class) bs n u cut
+      (rw (chars-IsAscii (take n bs) (low_ascii (byte_in class) (take n bs) (λ c e. (byte_parts c e).0) each)) each)
+      (ends_by_byte (byte_in class) (drop n bs) (IsUtf8-drop bs n u cut) (λ l c byte char. elim (cases_lt c 128) [
+        | inl low ↦ rw (sym (byte low) ∙ first_left n bs) (r.stops (omega (arith, l, length-drop n bs)))
+        | inr high ↦ and_left (nat_lt c 128) (has class c) (le-ltb c 128 high)
+      ]))
 
--- where neither an ASCII character nor one past ASCII passes the test, no character does
-pub ends_both : (h : ℕ → Bool) (t : Text) → Ends (ascii_of h) t → Ends (past_of_ascii h) t → Ends h t
-ends_both h [] f g = tt
-ends_both h (c ∷ t) f g = elim (cases_Bool (nat_lt c 128)) [ inl low ↦ rw low at f | inr high ↦ rw high at g ]
+  -- no character past ASCII stands behind the place, where an ASCII byte does, or nothing
+  pub ends_at_cut : (bs : List ℕ) (n : ℕ) → IsUtf8 (drop n bs) → (n < length bs → get_or bs n 0 < 128)
+      → Ends (past_in class) (chars (drop n bs))
+  ends_at_cut bs n u low = ends_by_byte (past_in class) (drop n bs) u (λ l c byte char.
+      let small = low (omega (arith, l, length-drop n bs)) in
+      and_left (not (nat_lt c 128)) (has class c) (not_from_true (nat_lt c 128)
+      (lt-ltb c 128 (omega (arith, char, first_left n bs, small)))))
 
--- such a run before an ASCII byte, or at the end, is one of all characters
-pub all_end : (h : ℕ → Bool) (bs : List ℕ) (n : ℕ) → IsUtf8 bs → EndsRun (ascii_of h) bs n
-    → (n < length bs → get_or bs n 0 < 128) → EndsRun h bs n
-all_end h bs n u (cut, s) low =
-    ends_run h bs n u cut (each_map (ascii_of h) h (λ c a. (ascii_parts h c a).1) (chars (take n bs)) s.each)
-    (ends_both h (chars (drop n bs)) s.ends (ends_at_cut h bs n s.back_utf8 low))
+  -- where neither an ASCII character nor one past ASCII is of the class, no character is
+  pub ends_both : (t : Text) → Ends (byte_in class) t → Ends (past_in class) t → Ends (has class) t
+  ends_both [] f g = tt
+  ends_both (c ∷ t) f g = elim (cases_Bool (nat_lt c 128)) [ inl low ↦ rw low at f | inr high ↦ rw high at g ]
 
-pub ascii_ends : (h : ℕ → Bool) (bs xs ys : List ℕ) (n : ℕ) → IsUtf8 bs → IsRun (ascii_of h) bs n → xs ≡ take n bs
-    → ys ≡ drop n bs → (n < length bs → get_or bs n 0 < 128) → IsCharBoundary bs n × SplitsRun h bs xs ys
-ascii_ends h bs xs ys n u r front back low =
-    let e = all_end h bs n u (ascii_run h bs n u r) low in (e.0, split_at_end h bs xs ys n e front back)
+  -- such a run before an ASCII byte, or at the end, is one of all characters
+  pub all_end : (bs : List ℕ) (n : ℕ) → IsUtf8 bs → EndsRun (byte_in class) bs n
+      → (n < length bs → get_or bs n 0 < 128) → EndsRun (has class) bs n
+  all_end bs n u (cut, s) low =
+      ends_run (has class) bs n u cut (each_map (byte_in class) (has class) (λ c a. (byte_parts c a).1) _ s.each)
+      (ends_both (chars (drop n bs)) s.ends (ends_at_cut bs n s.back_utf8 low))
 
 -- ---- a run by its stretches: of ASCII, and past it
 
@@ -109,33 +95,35 @@ pub record HasPassed (test : ℕ → Bool) (bs rest : List ℕ) (n : ℕ) : Type
   pub left : rest ≡ drop n bs
   pub each : Each test (chars (take n bs))
 
-module _ (test : ℕ → Bool) (bs : List ℕ) (u : IsUtf8 bs) where
-  pub passed_none : HasPassed test bs bs 0
+module _ (class : CharClass) (bs : List ℕ) (u : IsUtf8 bs) where
+  pub passed_none : HasPassed (has class) bs bs 0
   passed_none = record { boundary = IsCharBoundary-start bs u; left = refl; each = rw chars-nil tt }
 
-  passed_more : (f : ℕ → Bool) → ((c : ℕ) → f c ≡ true → test c ≡ true) → (rest rest' : List ℕ) (n k : ℕ)
-      → HasPassed test bs rest n → EndsRun f rest k → rest' ≡ drop k rest → HasPassed test bs rest' (n + k)
+  passed_more : (f : ℕ → Bool) → ((c : ℕ) → f c ≡ true → has class c ≡ true) → (rest rest' : List ℕ) (n k : ℕ)
+      → HasPassed (has class) bs rest n → EndsRun f rest k → rest' ≡ drop k rest
+      → HasPassed (has class) bs rest' (n + k)
   passed_more f more rest rest' n k p (b, s) e =
       record {
         boundary = IsCharBoundary-from_rest bs n k p.boundary.0 (rw p.left at b);
         left = e ∙ ap (drop k) p.left ∙ drop-drop k n bs;
         each = rw (take-add n k bs, chars-append (take n bs) (take k (drop n bs)) (IsUtf8-take bs n u p.boundary))
-            (each_append test (chars (take n bs)) (chars (take k (drop n bs))) p.each
-            (subst (λ (x : List ℕ). Each test (chars (take k x))) p.left
-            (each_map f test more (chars (take k rest)) s.each)));
+            (each_append (has class) (chars (take n bs)) (chars (take k (drop n bs))) p.each
+            (subst (λ (x : List ℕ). Each (has class) (chars (take k x))) p.left
+            (each_map f (has class) more (chars (take k rest)) s.each)));
       }
 
-  pub passed_ascii : (rest rest' : List ℕ) (n k : ℕ) → HasPassed test bs rest n → EndsRun (ascii_of test) rest k
-      → rest' ≡ drop k rest → HasPassed test bs rest' (n + k)
-  passed_ascii = passed_more (ascii_of test) (λ c e. (ascii_parts test c e).1)
+  pub passed_ascii : (rest rest' : List ℕ) (n k : ℕ) → HasPassed (has class) bs rest n → EndsRun (byte_in class) rest k
+      → rest' ≡ drop k rest → HasPassed (has class) bs rest' (n + k)
+  passed_ascii = passed_more (byte_in class) (λ c e. (byte_parts class c e).1)
 
-  pub passed_past : (rest rest' : List ℕ) (n k : ℕ) → HasPassed test bs rest n → EndsRun (past_of_ascii test) rest k
-      → rest' ≡ drop k rest → HasPassed test bs rest' (n + k)
-  passed_past = passed_more (past_of_ascii test) (λ c e. (and_parts (not (nat_lt c 128)) (test c) e).1)
+  pub passed_past : (rest rest' : List ℕ) (n k : ℕ) → HasPassed (has class) bs rest n → EndsRun (past_in class) rest k
+      → rest' ≡ drop k rest → HasPassed (has class) bs rest' (n + k)
+  passed_past = passed_more (past_in class) (λ c e. (and_parts (not (nat_lt c 128)) (has class c) e).1)
 
-  pub passed_ends : (rest : List ℕ) (n : ℕ) → HasPassed test bs rest n → Ends (ascii_of test) (chars rest)
-      → Ends (past_of_ascii test) (chars rest) → EndsRun test bs n
-  passed_ends rest n p f g = ends_run test bs n u p.boundary p.each (rw p.left at (ends_both test (chars rest) f g))
+  pub passed_ends : (rest : List ℕ) (n : ℕ) → HasPassed (has class) bs rest n → Ends (byte_in class) (chars rest)
+      → Ends (past_in class) (chars rest) → EndsRun (has class) bs n
+  passed_ends rest n p f g =
+      ends_run (has class) bs n u p.boundary p.each (rw p.left at (ends_both class (chars rest) f g))
 
 -- ---- the front of a run
 

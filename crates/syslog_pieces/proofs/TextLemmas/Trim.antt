@@ -1,37 +1,30 @@
 -- `trim`, by characters.
-use Rattle.std.proofs.Common.{◌≡◌, ℕ, ◌<◌, Bool, true, false, cond, not, ◌&&◌, nat_eq, nat_lt, List, []}
-use Rattle.std.proofs.Common.{◌∷◌, ◌++◌, length, take, refl, sym, ap, subst, ◌∙◌, arith}
-use Rattle.std.proofs.lemmas.Bool.{and_parts, and_from, ltb-true, not-true}
-use Rattle.std.proofs.lemmas.Bool.Decides.{nat_tests}
-use Rattle.std.proofs.lemmas.List.{length-append}
-use Rattle.std.proofs.lemmas.Str.{chars-append, chars-IsAscii, chars-encodes, scalars-chars, IsUtf8-take}
-use Rattle.std.proofs.lemmas.Str.{IsUtf8-from_ascii, IsCharBoundary-at_seam}
-use Rattle.std.proofs.Math.Seq.{take-append_seam}
-use Rattle.std.specs.Char.{is_whitespace}
-use Rattle.std.specs.Str.{chars, IsUtf8, all_scalars, encode_utf8_all, trim}
-use Rattle.std.specs.Str.{trim_start, trim_end, skip_leading_whitespace, drop_trailing_whitespace}
+use Rattle.syslog_pieces.proofs.Names.{◌≡◌, ℕ, ◌<◌, Bool, true, false, cond, not, ◌&&◌, nat_eq, nat_lt, List, [], ◌∷◌}
+use Rattle.syslog_pieces.proofs.Names.{◌++◌, length, take, refl, sym, ap, subst, ◌∙◌, arith, and_parts, and_from}
+use Rattle.syslog_pieces.proofs.Names.{ltb-true, not-true, nat_tests, length-append, chars-append, chars-IsAscii}
+use Rattle.syslog_pieces.proofs.Names.{IsUtf8-take, IsUtf8-from_ascii, IsCharBoundary-at_seam, take-append_seam}
+use Rattle.syslog_pieces.proofs.Names.{is_whitespace, chars, IsUtf8, encode_utf8_all, Text, IsBare, trimmed, cases_Bool}
+use Rattle.syslog_pieces.proofs.Names.{inl, inr}
+use Rattle.std.proofs.lemmas.Str.{chars-encodes, scalars-chars}
+use Rattle.std.specs.Str.{all_scalars, trim, trim_start, trim_end, skip_leading_whitespace, drop_trailing_whitespace}
 use lib.Utf8.{scalar}
-use Rattle.syslog_pieces.specs.Pieces.Class.{Text}
-use Rattle.syslog_pieces.specs.Bodies.Scan.{IsBare}
-use Rattle.syslog_pieces.specs.Text.{trimmed}
 use Rattle.syslog_pieces.proofs.TextLemmas.Chars.{ascii_front, one_ascii}
-
-either : (b : Bool) (xs ys : Text) → all_scalars xs ≡ true → all_scalars ys ≡ true → all_scalars (cond b xs ys) ≡ true
-either true xs ys h g = h
-either false xs ys h g = g
 
 skip_scalars : (cs : Text) → all_scalars cs ≡ true → all_scalars (skip_leading_whitespace cs) ≡ true
 skip_scalars [] h = refl
-skip_scalars (c ∷ cs) h =
-    either (is_whitespace c) (skip_leading_whitespace cs) (c ∷ cs)
-    (skip_scalars cs (and_parts (scalar c) (all_scalars cs) h).1) h
+skip_scalars (c ∷ cs) h = elim (cases_Bool (is_whitespace c)) [
+  | inl white ↦ rw white (skip_scalars cs (and_parts (scalar c) (all_scalars cs) h).1)
+  | inr other ↦ rw other h
+]
 
 drop_scalars : (cs : Text) → all_scalars cs ≡ true → all_scalars (drop_trailing_whitespace cs) ≡ true
 drop_scalars [] h = refl
 drop_scalars (c ∷ cs) h =
     let p = and_parts (scalar c) (all_scalars cs) h in
-    either (is_whitespace c && nat_eq (length (drop_trailing_whitespace cs)) 0) [] (c ∷ drop_trailing_whitespace cs)
-    refl (and_from (scalar c) (all_scalars (drop_trailing_whitespace cs)) p.0 (drop_scalars cs p.1))
+    elim (cases_Bool (is_whitespace c && nat_eq (length (drop_trailing_whitespace cs)) 0)) [
+      | inl white ↦ rw white refl
+      | inr other ↦ rw other (and_from (scalar c) (all_scalars (drop_trailing_whitespace cs)) p.0 (drop_scalars cs p.1))
+    ]
 
 pub trimmed_chars : (bs : List ℕ) → IsUtf8 bs → chars (trim bs) ≡ trimmed (chars bs)
 unfolding trim_start trim_end

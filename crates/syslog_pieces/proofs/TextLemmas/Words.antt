@@ -1,27 +1,23 @@
 -- What the readers of numbers and words answer.
-use Rattle.std.proofs.Common.{◌≡◌, ◌≢◌, ℕ, zero, suc, get_or, ◌-◌, ◌<◌, ◌≤◌, ◌^◌, ◌⊎◌, inl, inr}
-use Rattle.std.proofs.Common.{List, [], ◌∷◌, ◌++◌, length, take, drop, Option, Some, None, Result, Ok, Err}
-use Rattle.std.proofs.Common.{MatchOption, refl, sym, ap, ◌∙◌, arith, append_assoc, rules}
-use Rattle.std.proofs.Math.Seq.{take-append_seam, drop-append_seam}
-use Rattle.std.proofs.lemmas.List.{length-append, length-drop, take-append-drop, same_from_push}
-use Rattle.std.proofs.lemmas.Str.{IsCharBoundary-at_seam, IsCharBoundary-from_ascii}
-use Rattle.std.proofs.lemmas.Str.{chars_past_char, chars-append, encodes-chars, encodes-IsAscii}
-use Rattle.std.proofs.lemmas.Str.{chars-IsAscii, encodes-append, IsUtf8-take, IsUtf8-from_ascii}
-use Rattle.std.proofs.lemmas.Str.Parse.{IsNumeralModel, IsDigitsTest, numerals_by_value, parse_digits}
-use Rattle.std.specs.Str.{chars, IsUtf8, IsAscii, IsCharBoundary, encode_utf8_all}
-use Rattle.std.specs.Str.Parse.{digits_value, ParsesUnsigned}
+use Rattle.syslog_pieces.proofs.Names.{◌≡◌, ◌≢◌, ℕ, zero, suc, get_or, ◌-◌, ◌<◌, ◌≤◌, ◌^◌, ◌⊎◌, inl, inr, List, [], ◌∷◌}
+use Rattle.syslog_pieces.proofs.Names.{◌++◌, length, take, drop, Option, Some, None, Result, Ok, Err, MatchOption, refl}
+use Rattle.syslog_pieces.proofs.Names.{sym, ap, ◌∙◌, arith, append_assoc, rules, length-drop, take-append_seam}
+use Rattle.syslog_pieces.proofs.Names.{drop-append_seam, length-append, take-append-drop, IsCharBoundary-at_seam}
+use Rattle.syslog_pieces.proofs.Names.{chars_past_char, chars-append, encodes-chars, encodes-IsAscii, chars-IsAscii}
+use Rattle.syslog_pieces.proofs.Names.{encodes-append, IsUtf8-take, IsUtf8-from_ascii, chars, IsUtf8, IsAscii}
+use Rattle.syslog_pieces.proofs.Names.{IsCharBoundary, encode_utf8_all, digits_value, ParsesUnsigned, Bor, OkIff}
+use Rattle.syslog_pieces.proofs.Names.{is_ascii_digit, is_not_whitespace, Text, Front, NoFront, IsDeterministic, Each}
+use Rattle.syslog_pieces.proofs.Names.{Ends, exactly, SplitsRun, number, dash, colon, Names, word, EndsInColon, IsHost}
+use Rattle.syslog_pieces.proofs.Names.{host, is_tag_char, tag_word, run_same, each_behind, each_append}
+use Rattle.std.proofs.lemmas.List.{same_from_push}
+use Rattle.std.proofs.lemmas.Str.{IsCharBoundary-from_ascii}
+use Rattle.std.proofs.lemmas.Str.Parse.{IsNumeralModel, numerals_by_value, parse_digits}
 use Rattle.std.specs.Str.Pattern.{FindsCharPrefix, StripsPrefix}
-use Rattle.std.specs.Borrow.{Bor}
-use Rattle.std.specs.Result.{OkIff}
-use Rattle.std.specs.Char.{encode_utf8, is_ascii_digit, is_not_whitespace}
-use Rattle.syslog_pieces.specs.Pieces.Class.{Text, Front, NoFront, IsDeterministic, Each, Ends, exactly}
-use Rattle.syslog_pieces.specs.Bodies.Scan.{SplitsRun}
-use Rattle.syslog_pieces.specs.Text.{number, dash, colon, Names, word, EndsInColon, IsHost, host, is_tag_char, tag_word}
-use Rattle.syslog_pieces.proofs.TextLemmas.Chars.{ascii_front, chars_nonempty, chars_empty}
-use Rattle.syslog_pieces.proofs.TextLemmas.Chars.{digits_ascii, digit_chars, one_ascii}
-use Rattle.syslog_pieces.proofs.PieceLemmas.Class.{run_same}
+use Rattle.std.specs.Char.{encode_utf8}
+use Rattle.syslog_pieces.proofs.TextLemmas.Chars.{ascii_front, chars_nonempty, chars_empty, digits_ascii, digit_chars}
+use Rattle.syslog_pieces.proofs.TextLemmas.Chars.{one_ascii, text_is, text_is_not, nonempty_is}
 use Rattle.syslog_pieces.proofs.TextLemmas.Runs.{run_is}
-use Rattle.syslog_pieces.proofs.PieceLemmas.Each.{each_front, each_behind, each_append}
+use Rattle.syslog_pieces.proofs.PieceLemmas.Each.{each_front}
 
 -- ---- each is deterministic
 pub number_det : (limit : ℕ) → IsDeterministic (number limit)
@@ -76,11 +72,8 @@ host_det p q p' q' v v' e h h' =
     same_host w p w' p' v v' (run_same is_not_whitespace w r w' r' (sym f ∙ e ∙ f') a b a' b') k k'
 
 -- ---- numbers
-digits_test : IsDigitsTest (λ ds. Each is_ascii_digit ds)
-digits_test = search rules
-
 pub own : IsNumeralModel (λ ds. Each is_ascii_digit ds) (digits_value 10)
-own = numerals_by_value (λ ds. Each is_ascii_digit ds) digits_test
+own = numerals_by_value (λ ds. Each is_ascii_digit ds) (search rules)
 
 -- zeros ahead add nothing
 zeros_off : (ds : List ℕ) (n : ℕ) → ((k : ℕ) → k < n → get_or ds k 0 ≡ 48)
@@ -154,6 +147,9 @@ dash_ascii = one_ascii 45 (omega arith)
 pub colon_ascii : IsAscii colon
 colon_ascii = one_ascii 58 (omega arith)
 
+-- whether a run is a dash
+pub ruleset dash_told = (text_is, text_is_not, dash_ascii)
+
 -- ---- hosts
 
 -- a run that ends in no colon
@@ -214,3 +210,6 @@ module _ (bs xs ys front : List ℕ) (s : SplitsRun is_not_whitespace bs xs ys) 
           | inr (j, m) ↦
               omega (arith, ap length (sym j ∙ run), length-append p colon, length-append (chars front) colon)
         ]
+
+-- where a host begins the text
+pub ruleset host_reads = (host_front, host_colon_read, nonempty_is)

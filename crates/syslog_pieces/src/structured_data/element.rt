@@ -14,6 +14,7 @@ use crate::text::literal;
 use std::alloc::{AllocError, Global};
 
 // The value at the front, and the text behind the quote that closes it.
+#[tactic(auto, using(crate::proofs::StructuredDataLemmas::Closing::quoted_value))]
 #[inline(always)]
 pub(super) fn quoted(text: &str) -> Option<(&str, &str)>
     ensures { Reads quoted_class (λ v. (shown v, (tt, tt))) (chars text.now) result }
@@ -24,6 +25,7 @@ pub(super) fn quoted(text: &str) -> Option<(&str, &str)>
 }
 
 // The name and the value of the parameter at the front, and the text behind it.
+#[tactic(auto, using(crate::proofs::StructuredDataLemmas::Closing::param_read))]
 #[inline(always)]
 fn param(text: &str) -> Option<((&str, &str), &str)>
     ensures { Reads param_class (param_value (λ s. shown s)) (chars text.now) result }
@@ -67,6 +69,7 @@ fn params<'a>(
 }
 
 // The strict element at the front, and the text behind it.
+#[tactic(auto, using(crate::proofs::StructuredDataLemmas::Closing::element_read))]
 #[inline(always)]
 pub(super) fn collect_element<'a>(
     alloc: Global,

@@ -62,6 +62,7 @@ fn next_item(text: &str, dead: usize) -> Option<Item<'_>>
 }
 
 // The strict elements with few parameters at the front, up to the first item of another kind, and the text behind them.
+#[tactic(auto, using(crate::proofs::StructuredDataLemmas::Elements::element_shorter))]
 #[inline(never)]
 fn noted_elements<'a>(
     alloc: Global,

@@ -22,6 +22,7 @@ ghost use Rattle.syslog_pieces.specs.Pieces.View.{shown, Reads, Recognises};
 use crate::text::{CharClass, blanks, first, literal, run_end, split_run};
 
 // The nonempty run of the class at the front, and the text behind it.
+#[tactic(auto, using(crate::proofs::TextLemmas::Chars::chars_nonempty, crate::proofs::TextLemmas::Chars::nonempty_is))]
 #[inline(always)]
 pub(super) fn nonempty_run(text: &str, class: CharClass) -> Option<(&str, &str)>
     ensures { Reads (texted (some_run (has class))) (λ run. shown run) (chars text.now) result }
@@ -96,6 +97,7 @@ fn plain_end(text: &str, class: CharClass) -> usize
 }
 
 // That run, and the text behind it.
+#[tactic(auto, using(crate::proofs::TextLemmas::Runs::split_at_end))]
 #[inline(always)]
 fn split_plain(text: &str, class: CharClass) -> (&str, &str)
     requires { has class 92 ≡ false }
@@ -195,6 +197,7 @@ pub(super) fn live_element(text: &str, dead: usize) -> Result<&str, usize>
 }
 
 // The text behind the strict element at the front, where that has a parameter.
+#[tactic(auto, using(crate::proofs::StructuredDataLemmas::Rfc3164List::no_full_opening))]
 #[inline(always)]
 pub(super) fn after_full_element(text: &str) -> Option<&str>
     ensures { Recognises full_element (chars text.now) result }

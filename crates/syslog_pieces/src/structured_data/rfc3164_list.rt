@@ -90,6 +90,7 @@ fn read_full_element<'a>(
 }
 
 // The elements with parameters at the front, as many as there are, and the text behind them.
+#[tactic(auto, using(crate::proofs::StructuredDataLemmas::Rfc3164List::full_shorter))]
 #[inline(never)]
 fn full_elements<'a>(
     alloc: Global,
@@ -113,6 +114,7 @@ fn full_elements<'a>(
 
 /// The elements of the list of RFC 3164 where one begins the text, and the text behind it. An `Err` is only for memory,
 /// and none is asked for where there is no list, or one without elements. Takes time linear in the text.
+#[tactic(auto, using(crate::proofs::StructuredDataLemmas::Rfc3164List::dash_list))]
 pub fn optional_list<'a>(
     alloc: Global,
     text: &'a str,

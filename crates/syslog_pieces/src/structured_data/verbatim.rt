@@ -29,6 +29,7 @@ fn verbatim_param(text: &str) -> Option<&str>
 }
 
 // The text behind the strict element at the front, where it prints as it is written.
+#[tactic(auto, using(crate::proofs::StructuredDataLemmas::ReadBack::verbatim_end))]
 #[inline(always)]
 fn verbatim_element(text: &str) -> Option<&str>
     ensures { IfSome result (λ rest. Verbatim element_class element_text (chars text.now) (shown rest)) }
@@ -81,6 +82,7 @@ fn last_broken(text: &str) -> Option<&str>
 
 /// The text behind the list at the front, where its strict elements print as they are written, and what has been left
 /// out by then: a broken element may stand at its end, if nothing has been left out before. Takes no memory.
+#[tactic(auto, using(crate::proofs::StructuredDataLemmas::ReadBack::copied_lists))]
 #[inline(always)]
 pub fn verbatim_list<'a>(text: &'a str, cut: Option<Cut<'a>>) -> Option<(&'a str, Option<Cut<'a>>)>
     ensures { IfSome result (λ x. CopiedOn forgiving elements_text (chars text.now) cut.entry (shown x.0) x.1) }

@@ -27,6 +27,7 @@ pub fn is_only(text: &str, class: CharClass) -> bool
 }
 
 /// Whether the text has a character, and each is of the class.
+#[tactic(auto, using(crate::proofs::TextLemmas::Canonical::both_told))]
 pub fn is_some_of(text: &str, class: CharClass) -> bool
     ensures { IsTrue result ↔ ((0 < length (chars text.now)) × Each (has class) (chars text.now)) }
 {

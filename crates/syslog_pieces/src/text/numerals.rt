@@ -74,6 +74,7 @@ pub(crate) fn few_digits(digits: &[u8]) -> Option<u32>
 }
 
 // The same of any number of digits.
+#[tactic(auto, using(crate::proofs::TextLemmas::Words::digits_cut))]
 #[inline(never)]
 fn any_digits(digits: &str) -> Option<u32>
     requires { Each is_ascii_digit (chars digits.now) }

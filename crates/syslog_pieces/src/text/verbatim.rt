@@ -16,6 +16,7 @@ ghost use Rattle.syslog_pieces.specs.Text.{name_text};
 use crate::text::{CharClass, host, is_byte, literal, number_of_digits, split_run, word};
 
 /// The text behind the word at the front, which prints as it is written.
+#[tactic(auto, using(crate::proofs::TextLemmas::Verbatim::word_verbatim))]
 #[inline(always)]
 pub fn verbatim_word(text: &str) -> Option<&str>
     ensures { IfSome result (λ rest. Verbatim spec.word name_text (chars text.now) (shown rest)) }
@@ -86,6 +87,7 @@ pub fn verbatim_gap<'a>(text: &'a str, cut: Option<Cut<'a>>) -> Option<(&'a str,
 }
 
 /// The text behind the host at the front, which prints as it is written.
+#[tactic(auto, using(crate::proofs::TextLemmas::Verbatim::host_verbatim))]
 #[inline(always)]
 pub fn verbatim_host(text: &str) -> Option<&str>
     ensures { IfSome result (λ rest. Verbatim spec.host name_text (chars text.now) (shown rest)) }
@@ -95,6 +97,7 @@ pub fn verbatim_host(text: &str) -> Option<&str>
 }
 
 /// What stands in the text before a rest of it.
+#[tactic(auto, using(crate::proofs::TextLemmas::Cuts::cuts))]
 #[inline(always)]
 pub fn before<'a>(text: &'a str, rest: &str) -> &'a str
     requires { (front : Text) × (chars text.now ≡ front ++ chars rest.now) }

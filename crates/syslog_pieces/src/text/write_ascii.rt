@@ -90,6 +90,7 @@ fn five_digits(n: u32) -> [u8; 5]
 }
 
 /// Writes a number in decimal digits. Up to five digits, which nearly all have, it is one piece.
+#[tactic(auto, using(crate::proofs::TextLemmas::Decimals::few_digits))]
 #[inline]
 pub fn write_number<W: fmt::Write>(f: &mut fmt::Formatter<W>, number: u32) -> fmt::Result
     ensures { WritesOnOk W.write_str_gives f.old result (decimal number) f.new }

@@ -1,8 +1,5 @@
-use Rattle.std.proofs.Common.{◌≡◌, ℕ, List, nat_eq, ap, ◌∙◌}
-use Rattle.std.specs.Bool.{one_answer}
+use Rattle.syslog_pieces.proofs.Names.{◌≡◌, ℕ, List, nat_eq, ap, ◌∙◌, one_answer, chars, IsUtf8, text_eq}
 use Rattle.std.specs.Cmp.Lexicographic.{pointwise, bytes_decides}
-use Rattle.std.specs.Str.{chars, IsUtf8}
-use Rattle.syslog_pieces.specs.Pieces.View.{text_eq}
 use Rattle.syslog_pieces.proofs.TextLemmas.Chars.{same_chars}
 use Rattle.syslog_pieces.proofs.as_str.is_same_text.Goals as goal
 

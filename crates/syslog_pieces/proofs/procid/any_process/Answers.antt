@@ -1,4 +1,3 @@
-use Rattle.std.proofs.Common.{refl}
 use Rattle.std.proofs.lemmas.Int.{to_z-of_z}
 use Rattle.syslog_pieces.proofs.ProcIdLemmas.{number_read, no_number_read}
 use Rattle.syslog_pieces.proofs.procid.any_process.Goals as goal
@@ -10,4 +9,4 @@ returns-in-Ok c =
     rw to_z-of_z h
 
 pub returns-in-Err : goal.returns-in-Err
-returns-in-Err c = (no_number_read _ c.utf8.text _ _ c.in-Err.is c.parse.ensures.value.0, refl)
+returns-in-Err c = (no_number_read _ c.utf8.text _ _ c.in-Err.is c.parse.ensures.value.0, cc)

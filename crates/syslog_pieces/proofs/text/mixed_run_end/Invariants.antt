@@ -1,7 +1,4 @@
-use Rattle.std.proofs.Common.{length}
-use denote.Shadow.{shadow}
-use denote.Text.{Utf8}
-use Rattle.syslog_pieces.specs.Text.CharClass.{has}
+use Rattle.syslog_pieces.proofs.Names.{length, shadow, Utf8, has}
 use Rattle.syslog_pieces.proofs.TextLemmas.Runs.{HasPassed}
 use Rattle.syslog_pieces.proofs.text.mixed_run_end.Given as goal
 

@@ -1,19 +1,12 @@
-use Rattle.std.proofs.Common.{◌<◌, ◌^◌, arith, rules}
-use Rattle.syslog_pieces.proofs.text.number.Goals as goal
+use Rattle.syslog_pieces.proofs.Names.{◌<◌, ◌^◌, arith, rules}
 use Rattle.syslog_pieces.proofs.TextLemmas.Looks.{no_number}
-use Rattle.syslog_pieces.proofs.TextLemmas.Words.{number_read, number_stuck}
-
-pub number_of_digits-requires : goal.number_of_digits-requires
-number_of_digits-requires c = c.split_run.ensures.each
+use Rattle.syslog_pieces.proofs.TextLemmas.Words.{number_stuck}
+use Rattle.syslog_pieces.proofs.text.number.Goals as goal
 
 pub returns-then-value-limit : goal.returns-then-value-limit
 returns-then-value-limit c =
     let value = c.in_ok-value.ensures.1 in
     number_stuck _ _ _ c.split_run.ensures c.args.limit (λ some low. omega (arith, value))
-
-pub returns-else-value-limit : goal.returns-else-value-limit
-returns-else-value-limit c =
-    number_read _ _ _ c.split_run.ensures _ c.args.limit c.in_ok-value.ensures (omega arith)
 
 pub returns-in_err-value : goal.returns-in_err-value
 returns-in_err-value c =

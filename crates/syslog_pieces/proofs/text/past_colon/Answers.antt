@@ -1,7 +1,4 @@
-use Rattle.std.proofs.Common.{Some}
-use Rattle.syslog_pieces.specs.Pieces.Class.{exactly}
-use Rattle.syslog_pieces.specs.Text.{colon}
-use Rattle.syslog_pieces.proofs.PieceLemmas.Class.{optional_some}
+use Rattle.syslog_pieces.proofs.Names.{Some, exactly, colon, optional_some}
 use Rattle.syslog_pieces.proofs.text.past_colon.Goals as goal
 
 pub returns-in-Some : goal.returns-in-Some

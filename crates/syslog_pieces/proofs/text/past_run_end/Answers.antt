@@ -1,12 +1,8 @@
-use Rattle.std.proofs.Common.{rules, ℕ, Bool, not, List, [], ◌∷◌, length, take, drop, take_all, arith}
-use Rattle.std.proofs.lemmas.Bool.{not-true, not-false}
+use Rattle.syslog_pieces.proofs.Names.{rules, ℕ, Bool, not, List, [], ◌∷◌, length, take, drop, arith, take_all}
+use Rattle.syslog_pieces.proofs.Names.{drop_all, not-true, not-false, IsUtf8-take, IsUtf8-drop, chars_past_char}
+use Rattle.syslog_pieces.proofs.Names.{chars-nil, chars, IsUtf8, NoCharPasses, NonePass, past_in, Each}
 use Rattle.std.proofs.lemmas.Fn.{always_returns_same}
-use Rattle.std.proofs.lemmas.List.{drop_all}
-use Rattle.std.proofs.lemmas.Str.{IsCharBoundary-end, IsUtf8-take, IsUtf8-drop}
-use Rattle.std.proofs.lemmas.Str.{chars_from_encodes, chars_past_char, chars-nil}
-use Rattle.std.specs.Str.{chars, IsUtf8, NoCharPasses, NonePass}
-use Rattle.syslog_pieces.specs.Bodies.Scan.{past_in}
-use Rattle.syslog_pieces.specs.Pieces.Class.{Each}
+use Rattle.std.proofs.lemmas.Str.{IsCharBoundary-end, chars_from_encodes}
 use Rattle.syslog_pieces.proofs.TextLemmas.Runs.{ends_run}
 use Rattle.syslog_pieces.proofs.text.past_run_end.Goals as goal
 

@@ -1,7 +1,7 @@
-use Rattle.syslog_pieces.specs.Text.{tag_word}
-use Rattle.syslog_pieces.proofs.text.tag_word.Goals as goal
+use Rattle.syslog_pieces.proofs.Names.{tag_word}
 use Rattle.syslog_pieces.proofs.TextLemmas.Chars.{chars_nonempty, empty_is, nonempty_is}
 use Rattle.syslog_pieces.proofs.TextLemmas.Runs.{no_run_front}
+use Rattle.syslog_pieces.proofs.text.tag_word.Goals as goal
 
 pub returns-then-is_empty : goal.returns-then-is_empty
 returns-then-is_empty c =

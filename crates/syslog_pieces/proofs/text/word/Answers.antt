@@ -1,9 +1,8 @@
-use Rattle.std.proofs.Common.{◌∙◌}
-use Rattle.syslog_pieces.specs.Text.{word, colon}
-use Rattle.syslog_pieces.proofs.text.word.Goals as goal
+use Rattle.syslog_pieces.proofs.Names.{◌∙◌, word, colon}
 use Rattle.syslog_pieces.proofs.TextLemmas.Chars.{chars_nonempty, empty_is, nonempty_is, text_is, text_is_not}
 use Rattle.syslog_pieces.proofs.TextLemmas.Runs.{run_is, no_run_front}
 use Rattle.syslog_pieces.proofs.TextLemmas.Words.{colon_ascii}
+use Rattle.syslog_pieces.proofs.text.word.Goals as goal
 
 pub returns-then-is_empty : goal.returns-then-is_empty
 returns-then-is_empty c =

@@ -1,4 +1,4 @@
-use Rattle.std.proofs.lemmas.Str.{encodes-chars}
+use Rattle.syslog_pieces.proofs.Names.{encodes-chars}
 use Rattle.syslog_pieces.proofs.TextLemmas.Decimals.{encodes-signed}
 use Rattle.syslog_pieces.proofs.procid.ProcIdDisplay.fmt.Goals as goal
 

@@ -1,5 +1,5 @@
 use Rattle.syslog_pieces.proofs.Names.{◌∷◌, ◌++◌, take, flat_map, encode_utf8_all, param_text, param_value, text_of}
-use Rattle.std.specs.Fmt.{HasWritten, IsPlainFormatter}
+use Rattle.syslog_pieces.proofs.Names.{HasWritten, IsPlainFormatter}
 use Rattle.syslog_pieces.proofs.structured_data.StructuredElementDisplay.fmt.Given as goal
 
 abbrev pub invariant-loop-name : goal.invariant-loop-name

@@ -1,5 +1,5 @@
 use Rattle.syslog_pieces.proofs.Names.{◌-◌, ◌≤◌, length, map, take, shadow, Utf8, chars, param_value, param, shown}
-use Rattle.syslog_pieces.proofs.PieceLemmas.Lists.{Leaves}
+use Rattle.syslog_pieces.proofs.Names.{Leaves}
 use Rattle.syslog_pieces.proofs.structured_data.element.note_params.Given as goal
 
 abbrev pub invariant-params : goal.invariant-params

@@ -1,4 +1,4 @@
-use Rattle.syslog_pieces.proofs.Names.{rules, ◌≡◌, ◌<◌, take, arith, length-map}
+use Rattle.syslog_pieces.proofs.Names.{rules, ◌<◌, arith, length-map, ◌≡◌, take}
 use Rattle.std.proofs.lemmas.List.{length-take-le}
 use Rattle.syslog_pieces.proofs.StructuredDataLemmas.Closing.{element_read}
 use Rattle.syslog_pieces.proofs.structured_data.element.noted_element.Goals as goal

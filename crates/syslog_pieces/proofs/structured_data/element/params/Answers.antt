@@ -1,8 +1,8 @@
-use Rattle.syslog_pieces.proofs.Names.{rules, [], ◌∷◌, refl, map-append, exactly, inside_row, param, row_none_here}
-use Rattle.syslog_pieces.proofs.Names.{begins, list_here, more_here, no_list, no_more, no_more_behind, row_of, ◌then◌}
-use Rattle.std.proofs.lemmas.List.{append-nil}
+use Rattle.syslog_pieces.proofs.Names.{rules, [], ◌∷◌, refl, append-nil, map-append, exactly, inside_row, param}
+use Rattle.syslog_pieces.proofs.Names.{row_none_here, begins, list_here, more_here, no_list, no_more, no_more_behind}
+use Rattle.syslog_pieces.proofs.Names.{collects_first, row_of, ◌then◌}
+use Rattle.syslog_pieces.proofs.PieceLemmas.Lists.{collects_more}
 use Rattle.syslog_pieces.proofs.StructuredDataLemmas.Elements.{param_det}
-use Rattle.syslog_pieces.proofs.PieceLemmas.Lists.{collects_first, collects_more}
 use Rattle.syslog_pieces.proofs.structured_data.element.params.Goals as goal
 
 pub returns-in-Some : goal.returns-in-Some

@@ -1,5 +1,4 @@
-use Rattle.syslog_pieces.proofs.Names.{length, map, shadow, Utf8, chars, param_value, param, shown}
-use Rattle.syslog_pieces.proofs.PieceLemmas.Lists.{Collects}
+use Rattle.syslog_pieces.proofs.Names.{length, map, shadow, Utf8, chars, param_value, param, shown, Collects}
 use Rattle.syslog_pieces.proofs.structured_data.element.params.Given as goal
 
 abbrev pub invariant-params : goal.invariant-params

@@ -1,5 +1,5 @@
 use Rattle.syslog_pieces.proofs.Names.{rules, arith}
-use Rattle.syslog_pieces.proofs.StructuredDataLemmas.Closing.{quoted_longer, quoted_cut, quoted_value}
+use Rattle.syslog_pieces.proofs.StructuredDataLemmas.Closing.{quoted_longer, quoted_cut}
 use Rattle.syslog_pieces.proofs.structured_data.element.quoted.Goals as goal
 
 pub overflow_sub-text : goal.overflow_sub-text
@@ -10,6 +10,3 @@ overflow_sub-text-2 c = omega (arith, quoted_longer _ _ c.utf8.text (search rule
 
 pub split_at-requires : goal.split_at-requires
 split_at-requires c = quoted_cut _ _ c.utf8.text (search rules) _ c.in_ok-behind.ensures.1
-
-pub returns : goal.returns
-returns c = quoted_value _ _ c.utf8.text (search rules) _ c.in_ok-behind.ensures.1 _ c.split_at.ensures.front

@@ -1,5 +1,5 @@
-use Rattle.syslog_pieces.proofs.Names.{◌∙◌, sym, and_from, take_all, list_all_more, text_of}
-use Rattle.std.proofs.lemmas.List.Folds.{list_all_at}
+use Rattle.syslog_pieces.proofs.Names.{◌∙◌, sym, and_from, take_all, text_of}
+use Rattle.std.proofs.lemmas.List.Folds.{list_all_more, list_all_at}
 use Rattle.syslog_pieces.proofs.StructuredDataLemmas.Equality.{counts_agree-map}
 use Rattle.syslog_pieces.proofs.structured_data.equality.are_as_frequent.Goals as goal
 

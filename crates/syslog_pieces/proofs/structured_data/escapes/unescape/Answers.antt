@@ -7,17 +7,17 @@ units-init c = (search rules, removes_here _ _ (ap chars c.new-out.ensures.bytes
 
 pub returns-in_default : goal.returns-in_default
 returns-in_default c =
-    removes_end _ _ _ _ _ _ c.split_run.ensures c.units.invariant.1 c.in_ok-push_text.ensures false c.in_default.ensures
+    removes_end c.split_run.ensures c.units.invariant.1 c.in_ok-push_text.ensures false c.in_default.ensures
 
 pub returns-in_default-first : goal.returns-in_default-first
 returns-in_default-first c =
-    removes_end _ _ _ _ _ _ c.split_run.ensures c.units.invariant.1 c.in_ok-push_text.ensures true
-    (backslash _ _ _ _ _ _ c.split_run.ensures c.units.invariant.1 c.in_ok-push_text.ensures _ _ _
+    removes_end c.split_run.ensures c.units.invariant.1 c.in_ok-push_text.ensures true
+    (backslash c.split_run.ensures c.units.invariant.1 c.in_ok-push_text.ensures _ _ _
     c.in-Some.ensures.0 c.in_default-first.ensures)
 
 pub units-preserved : goal.units-preserved
 units-preserved c = (
   c.in-Some-first.ensures.1,
-  removes_pair _ _ _ _ _ _ c.split_run.ensures c.units.invariant.1 c.in_ok-push_text.ensures _ _ _ _ _
+  removes_pair c.split_run.ensures c.units.invariant.1 c.in_ok-push_text.ensures _ _ _ _ _
       c.in-Some.ensures.0 c.in-Some-first.ensures.0 c.in_ok-push_pair.ensures,
 )

@@ -1,5 +1,4 @@
-use Rattle.syslog_pieces.proofs.Names.{length, shadow, Utf8, chars}
-use Rattle.std.specs.Prelude.{string_bytes}
+use Rattle.syslog_pieces.proofs.Names.{length, string_bytes, shadow, Utf8, chars}
 use Rattle.syslog_pieces.proofs.StructuredDataLemmas.Units.{Removes}
 use Rattle.syslog_pieces.proofs.structured_data.escapes.unescape.Given as goal
 

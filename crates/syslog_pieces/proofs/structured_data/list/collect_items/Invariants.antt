@@ -1,6 +1,5 @@
 use Rattle.syslog_pieces.proofs.Names.{◌≡◌, List, Option, length, map, list_any, shadow, Utf8, chars, IsDead}
-use Rattle.syslog_pieces.proofs.Names.{ElementValue, element_value, item, strict, HasRead, shown}
-use Rattle.std.proofs.Common.{is_none}
+use Rattle.syslog_pieces.proofs.Names.{ElementValue, element_value, item, strict, HasRead, shown, is_none}
 use Rattle.syslog_pieces.proofs.structured_data.list.collect_items.Given as goal
 
 abbrev pub invariant-items : goal.invariant-items

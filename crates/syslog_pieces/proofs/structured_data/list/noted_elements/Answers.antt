@@ -1,5 +1,5 @@
 use Rattle.syslog_pieces.proofs.Names.{rules, map-append, item, has_read_none, has_read_more, no_truth}
-use Rattle.syslog_pieces.proofs.StructuredDataLemmas.Elements.{element_item, element_shorter, element_asks, none_asks}
+use Rattle.syslog_pieces.proofs.StructuredDataLemmas.Elements.{element_item, element_asks, none_asks}
 use Rattle.syslog_pieces.proofs.structured_data.list.noted_elements.Goals as goal
 
 pub elements-init : goal.elements-init
@@ -20,6 +20,3 @@ elements-preserved c =
       rw c.in_ok-push.ensures.items (simp map-append (has_read_more item _ _ _ _ _ c.elements.invariant.1
           (element_item _ _ _ f))),
     )
-
-pub elements-smaller : goal.elements-smaller
-elements-smaller c = element_shorter _ _ _ (rw c.in-Some.is at c.in_ok-element.ensures.element)

@@ -1,15 +1,11 @@
 use Rattle.syslog_pieces.proofs.Names.{rules, sym, chars, full_element, shown}
 use Rattle.syslog_pieces.proofs.StructuredDataLemmas.Closing.{byte_count_slice, dead_whole, passes_start}
 use Rattle.syslog_pieces.proofs.StructuredDataLemmas.Closing.{closing_answers}
-use Rattle.syslog_pieces.proofs.StructuredDataLemmas.Rfc3164List.{no_full_start, no_full_opening, full_goes}
+use Rattle.syslog_pieces.proofs.StructuredDataLemmas.Rfc3164List.{no_full_start, full_goes}
 use Rattle.syslog_pieces.proofs.structured_data.recognise.after_full_element.Goals as goal
 
 pub returns-in_err-inside : goal.returns-in_err-inside
 returns-in_err-inside c = let n = no_full_start (chars c.args.text.now) c.in_err-inside.ensures in search rules
-
-pub returns-in_err-value : goal.returns-in_err-value
-returns-in_err-value c =
-    let n = no_full_opening _ _ _ c.in_ok-inside.ensures c.in_err-value.ensures in search rules
 
 pub live_closing-requires : goal.live_closing-requires
 live_closing-requires c =

@@ -1,8 +1,8 @@
-use Rattle.syslog_pieces.proofs.Names.{rules, ◌≡◌, ℕ, Result, Ok, Err, sym, subst, MatchResult, chars, NoFront, closing}
-use Rattle.syslog_pieces.proofs.Names.{IsDead, meets_here, meets_none, no_more, no_more_behind, begins, param}
-use Rattle.std.specs.Result.{IsErrAnd}
-use Rattle.syslog_pieces.proofs.StructuredDataLemmas.Closing.{byte_count_slice, dead_suffix, passes_here, passes_dead}
-use Rattle.syslog_pieces.proofs.StructuredDataLemmas.Closing.{no_opening, value_ends, value_breaks, value_goes}
+use Rattle.syslog_pieces.proofs.Names.{rules, ◌≡◌, ℕ, Result, Ok, Err, sym, subst, MatchResult, IsErrAnd, chars}
+use Rattle.syslog_pieces.proofs.Names.{NoFront, closing, IsDead, meets_here, meets_none, no_more, no_more_behind}
+use Rattle.syslog_pieces.proofs.Names.{begins, param}
+use Rattle.syslog_pieces.proofs.StructuredDataLemmas.Closing.{byte_count_slice, dead_suffix, passes_here, no_opening}
+use Rattle.syslog_pieces.proofs.StructuredDataLemmas.Closing.{value_ends, value_breaks, value_goes}
 use Rattle.syslog_pieces.proofs.structured_data.recognise.live_closing.Goals as goal
 
 pub params-init : goal.params-init
@@ -21,7 +21,7 @@ refused S T (Err x) d h t = subst T (sym h) t
 pub returns-in_err-behind : goal.returns-in_err-behind
 returns-in_err-behind c =
     let n = meets_none _ _ _ _ c.params.invariant.2 c.in_err-behind.ensures.0 in
-    let dead = passes_dead closing _ _ _ c.params.invariant.1 n c.in_err-behind.ensures.1 in
+    let dead = c.params.invariant.1.dead _ n c.in_err-behind.ensures.1 in
     refused _ (λ d. NoFront closing _ × IsDead _ d) c.from_residual.result _ c.from_residual.ensures.1 (n, dead)
 
 pub returns-in-Some : goal.returns-in-Some

@@ -1,9 +1,6 @@
-use Rattle.syslog_pieces.proofs.Names.{◌≡◌, ℕ, List, Bool, false, ◌&&◌, refl, subst, ap, ◌∙◌, arith, has}
-use Rattle.std.proofs.Common.{nat_lt}
-use Rattle.std.specs.Prelude.{slice_index}
-use Rattle.syslog_pieces.specs.Bodies.Scan.{IsRun, byte_in}
-use Rattle.syslog_pieces.specs.declared.text.CharClass.{CharClass}
-use Rattle.syslog_pieces.proofs.TextLemmas.Runs.{ascii_ends}
+use Rattle.syslog_pieces.proofs.Names.{◌≡◌, ℕ, List, Bool, false, ◌&&◌, refl, subst, ap, ◌∙◌, arith, nat_lt, has}
+use Rattle.syslog_pieces.proofs.Names.{slice_index, IsRun, byte_in, CharClass}
+use Rattle.syslog_pieces.proofs.TextLemmas.Runs.{all_end, ascii_run}
 use Rattle.syslog_pieces.proofs.structured_data.recognise.plain_end.Goals as goal
 
 escape_stops : (class : CharClass) (bytes : List ℕ) → has class 92 ≡ false → slice_index bytes 0 ≡ 92
@@ -18,8 +15,5 @@ pub returns-then-begins_escape : goal.returns-then-begins_escape
 returns-then-begins_escape c =
     let first : slice_index c.args.text.now 0 ≡ 92 =
     subst (λ (x : List ℕ). slice_index x 0 ≡ 92) c.as_bytes.ensures.value (c.if-begins_escape.ensures refl).1 in
-    ascii_ends (has c.args.class) c.args.text.now _ _ 0 c.utf8.text
-    (escape_stops c.args.class c.args.text.now c.requires first) refl refl (λ l. omega (arith, first))
-
-pub returns-else-begins_escape : goal.returns-else-begins_escape
-returns-else-begins_escape c = c.run_end.ensures
+    all_end c.args.class c.args.text.now 0 c.utf8.text (ascii_run c.args.class c.args.text.now 0 c.utf8.text
+    (escape_stops c.args.class c.args.text.now c.requires first)) (λ l. omega (arith, first))

@@ -26,6 +26,3 @@ elements-preserved c =
       search rules,
       rw c.in_ok-push.ensures.items (simp map-append (has_read_more full_element _ _ _ _ _ c.elements.invariant.1 f)),
     )
-
-pub elements-smaller : goal.elements-smaller
-elements-smaller c = full_shorter _ _ _ (rw c.in-Some.is at c.in_ok-element.ensures.element)

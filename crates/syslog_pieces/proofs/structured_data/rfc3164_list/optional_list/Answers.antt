@@ -1,13 +1,7 @@
-use Rattle.syslog_pieces.proofs.Names.{nil_from_length, rules, map, refl, ap, element_value, full_element, rfc3164_list}
-use Rattle.syslog_pieces.proofs.Names.{shown, optional_some, many_here, no_truth}
-use Rattle.syslog_pieces.proofs.StructuredDataLemmas.Rfc3164List.{dash_rfc3164_list, no_full_unopened, lists_none}
-use Rattle.syslog_pieces.proofs.StructuredDataLemmas.Rfc3164List.{list_absent}
+use Rattle.syslog_pieces.proofs.Names.{nil_from_length, rules, map, refl, ap, element_value, full_element, shown}
+use Rattle.syslog_pieces.proofs.Names.{many_here, no_truth}
+use Rattle.syslog_pieces.proofs.StructuredDataLemmas.Rfc3164List.{no_full_unopened, lists_none, list_absent}
 use Rattle.syslog_pieces.proofs.structured_data.rfc3164_list.optional_list.Goals as goal
-
-pub returns-in-Some-clause-list : goal.returns-in-Some-clause-list
-returns-in-Some-clause-list c =
-    rw c.new.ensures.items (optional_some (rfc3164_list c.args.rule)
-    (dash_rfc3164_list c.args.rule _ _ c.in-Some.ensures.0 c.in-Some.ensures.1))
 
 pub returns-in_err-elements-clause-memory : goal.returns-in_err-elements-clause-memory
 returns-in_err-elements-clause-memory c n =

@@ -1,5 +1,5 @@
 use Rattle.syslog_pieces.proofs.Names.{rules, ◌≡◌, length, ◌∙◌, length-map, element_value, param_value, shown}
-use Rattle.std.proofs.lemmas.Result.{IfOk-weaker}
+use Rattle.syslog_pieces.proofs.Names.{IfOk-weaker}
 use Rattle.syslog_pieces.proofs.StructuredDataLemmas.Rfc3164List.{bare_is_not_full, full_read}
 use Rattle.syslog_pieces.proofs.structured_data.rfc3164_list.read_full_element.Goals as goal
 

@@ -1,6 +1,5 @@
 use Rattle.syslog_pieces.proofs.Names.{rules}
 use Rattle.syslog_pieces.proofs.StructuredDataLemmas.ReadBack.{bare_verbatim, verbatim_first, verbatim_more}
-use Rattle.syslog_pieces.proofs.StructuredDataLemmas.ReadBack.{verbatim_end}
 use Rattle.syslog_pieces.proofs.structured_data.verbatim.verbatim_element.Goals as goal
 
 pub returns-in-Some : goal.returns-in-Some
@@ -11,9 +10,6 @@ params-init c = (
   search rules,
   verbatim_first c.in_ok-opened.ensures c.in_ok-inner.ensures c.in_ok-first.ensures c.in_ok-rest.ensures,
 )
-
-pub returns-in-Some-literal : goal.returns-in-Some-literal
-returns-in-Some-literal c = verbatim_end _ _ _ c.params.invariant.1 c.in-Some-literal.ensures
 
 pub params-preserved : goal.params-preserved
 params-preserved c =

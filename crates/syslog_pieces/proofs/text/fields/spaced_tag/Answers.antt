@@ -1,7 +1,4 @@
-use Rattle.std.proofs.Common.{rules}
-use Rattle.syslog_pieces.specs.Text.{tag_word}
-use Rattle.syslog_pieces.proofs.PieceLemmas.Class.{spaced_front, no_spaced_space, no_spaced_piece}
-use Rattle.syslog_pieces.proofs.PieceLemmas.Meets.{match_map}
+use Rattle.syslog_pieces.proofs.Names.{rules, tag_word, spaced_front, no_spaced_space, no_spaced_piece, match_map}
 use Rattle.syslog_pieces.proofs.text.fields.spaced_tag.Goals as goal
 
 pub returns-in_err-rest : goal.returns-in_err-rest

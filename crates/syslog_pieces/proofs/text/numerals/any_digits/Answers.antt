@@ -1,10 +1,5 @@
-use Rattle.syslog_pieces.proofs.TextLemmas.Words.{digits_cut, parsed_digits}
+use Rattle.syslog_pieces.proofs.TextLemmas.Words.{parsed_digits}
 use Rattle.syslog_pieces.proofs.text.numerals.any_digits.Goals as goal
-
-pub split_at-requires : goal.split_at-requires
-split_at-requires c =
-    let z = rw c.as_bytes.ensures.value at c.zeros_ahead.ensures in
-    digits_cut c.args.digits.now _ c.utf8.digits c.requires z.within
 
 pub returns-in-Ok : goal.returns-in-Ok
 returns-in-Ok c =

@@ -1,4 +1,4 @@
-use Rattle.std.proofs.Common.{◌-◌, ◌<◌, ◌≡◌, ◌≤◌, ℕ, length, slice_index}
+use Rattle.syslog_pieces.proofs.Names.{◌-◌, ◌<◌, ◌≡◌, ◌≤◌, ℕ, length, slice_index}
 use Rattle.syslog_pieces.proofs.text.numerals.zeros_ahead.Given as goal
 
 abbrev pub invariant-blocks-2 : goal.invariant-blocks-2

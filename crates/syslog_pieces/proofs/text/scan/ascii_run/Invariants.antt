@@ -1,5 +1,4 @@
-use Rattle.std.proofs.Common.{◌-◌, ◌≤◌, ◌<◌, ◌≡◌, ℕ, true, slice_index}
-use Rattle.syslog_pieces.specs.Bodies.Scan.{byte_in}
+use Rattle.syslog_pieces.proofs.Names.{◌-◌, ◌≤◌, ◌<◌, ◌≡◌, ℕ, true, slice_index, byte_in}
 use Rattle.syslog_pieces.proofs.text.scan.ascii_run.Given as goal
 
 abbrev pub invariant-front : goal.invariant-front

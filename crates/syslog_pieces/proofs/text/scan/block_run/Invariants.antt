@@ -1,5 +1,4 @@
-use Rattle.std.proofs.Common.{◌-◌, ◌≤◌, ◌<◌, ◌≡◌, ℕ, true, length, slice_index}
-use Rattle.syslog_pieces.specs.Bodies.Scan.{byte_in}
+use Rattle.syslog_pieces.proofs.Names.{◌-◌, ◌≤◌, ◌<◌, ◌≡◌, ℕ, true, length, slice_index, byte_in}
 use Rattle.syslog_pieces.proofs.text.scan.block_run.Given as goal
 
 abbrev pub invariant-blocks-2 : goal.invariant-blocks-2

@@ -1,11 +1,10 @@
 -- The table is held against the classes at each of the 256 bytes, by computing.
-use Rattle.std.proofs.Common.{◌≡◌, ℕ, Bool, true, not, nat_eq, get_or, bit_and, refl, ap, ◌∙◌, arith}
-use Rattle.std.proofs.lemmas.Bool.{agree_below, agree_below_at}
+use Rattle.syslog_pieces.proofs.Names.{◌≡◌, ℕ, Bool, true, not, nat_eq, get_or, refl, ap, ◌∙◌, arith, agree_below}
+use Rattle.syslog_pieces.proofs.Names.{agree_below_at, CharClass, byte_in, bit_of}
+use Rattle.std.proofs.Common.{bit_and}
 use Rattle.syslog_pieces.specs.declared.text.scan.TheConstants.{CLASSES}
-use Rattle.syslog_pieces.specs.declared.text.CharClass.{CharClass}
-use Rattle.syslog_pieces.specs.declared.text.CharClass.TheVariants.{Digit, Blank, Visible, Id, Name}
-use Rattle.syslog_pieces.specs.declared.text.CharClass.TheVariants.{Unescaped, Open, Inert, Bare, Tag, Label}
-use Rattle.syslog_pieces.specs.Bodies.Scan.{byte_in, bit_of}
+use Rattle.syslog_pieces.specs.declared.text.CharClass.TheVariants.{Digit, Blank, Visible, Id, Name, Unescaped, Open}
+use Rattle.syslog_pieces.specs.declared.text.CharClass.TheVariants.{Inert, Bare, Tag, Label}
 use Rattle.syslog_pieces.proofs.text.scan.is_in.Goals as goal
 
 abbrev reads : CharClass → ℕ → Bool

@@ -1,7 +1,6 @@
-use Rattle.std.proofs.Common.{refl}
 use Rattle.std.specs.Str.{chars}
-use Rattle.syslog_pieces.proofs.text.verbatim.past_cut.Goals as goal
 use Rattle.syslog_pieces.proofs.TextLemmas.Copied.{behind_gap}
+use Rattle.syslog_pieces.proofs.text.verbatim.past_cut.Goals as goal
 
 pub returns-in-Some : goal.returns-in-Some
 returns-in-Some c = rw c.in-Some.is (λ copied h.
@@ -9,4 +8,4 @@ returns-in-Some c = rw c.in-Some.is (λ copied h.
 
 pub returns-in-None : goal.returns-in-None
 unfolding chars
-returns-in-None c = rw c.in-None.is (λ copied h. (copied, h, refl))
+returns-in-None c = rw c.in-None.is (λ copied h. (copied, h, cc))
