@@ -47,9 +47,6 @@ Starts t = BeginsNone t → ⊥
 one_given : (a b e : Bool) → nat_eq (bit_and 1 (cond a (1 + (cond b 2 0 + cond e 4 0)) 7)) 0 ≡ false
 one_given a b e = grind arith
 
-digit_given : (a e : Bool) → nat_eq (bit_and 2 (cond a (1 + (2 + cond e 4 0)) 7)) 0 ≡ false
-digit_given a e = grind arith
-
 letter_given : (a b : Bool) → nat_eq (bit_and 4 (cond a (1 + (cond b 2 0 + 4)) 7)) 0 ≡ false
 letter_given a b = grind arith
 
@@ -75,7 +72,7 @@ digits_start (c ∷ cs) h = open_starts c cs (digit_open c h)
 
 behind_lesser : (r : Text) → Begins (λ c. is_ascii_digit c ≡ true) r → Starts (60 ∷ r)
 behind_lesser [] b n = b
-behind_lesser (d ∷ r) b n = let g = digit_given (nat_lt d 128) (is_second (to_ascii_lowercase d)) in cc
+behind_lesser (d ∷ r) b n = let m : nat_eq (bit_and 2 (given d)) 0 ≡ true = n in grind arith
 
 -- ---- months
 

@@ -258,7 +258,7 @@ dated_answered post variant text front date tail asked year shows e k =
 pub rfc3164_bytes : (front stamp tail : List ℕ) → IsUtf8 front → IsUtf8 tail
     → front ++ ((32 ∷ encode_utf8_all stamp) ++ tail) ≡ encode_utf8_all (chars front ++ (32 ∷ (stamp ++ chars tail)))
 unfolding encode_utf8
-rfc3164_bytes front stamp tail u v = simp (encodes-append, encodes-chars front u, encodes-chars tail v)
+rfc3164_bytes front stamp tail u v = simp (encodes-append, encodes-chars)
 
 -- and of one whose timestamp prints as it is written
 pub stamped_bytes : (front stamp tail : List ℕ) (value : Text) (is_zulu : Bool) → IsUtf8 front → IsUtf8 stamp
@@ -266,15 +266,8 @@ pub stamped_bytes : (front stamp tail : List ℕ) (value : Text) (is_zulu : Bool
     → front ++ ((32 ∷ stamp) ++ (zone_text is_zulu ++ tail))
     ≡ encode_utf8_all (chars front ++ (32 ∷ (value ++ chars tail)))
 unfolding encode_utf8
-stamped_bytes front stamp tail value is_zulu u v w e = simp (
-  e,
-  append_assoc,
-  encodes-append,
-  encodes-chars front u,
-  encodes-chars stamp v,
-  encodes-chars tail w,
-  zone_bytes is_zulu,
-)
+stamped_bytes front stamp tail value is_zulu u v w e =
+    simp (e, append_assoc, encodes-append, encodes-chars, zone_bytes)
 
 -- what is written of a timestamp that prints so
 pub stamp_bytes : (stamp : OffsetTimestamp) (text : List ℕ)

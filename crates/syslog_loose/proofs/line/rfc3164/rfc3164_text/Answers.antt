@@ -24,8 +24,7 @@ returns-in-Some-clause-text c whole e found =
     let written : string_bytes c.write.new.self ≡ line.front.now
     ++ ((32 ∷ line.stamp.now) ++ (zone_text line.is_zulu ++ line.tail.now)) = search rules in
     freely c.args.variant whole c.if-not-reads_rfc3164.ensures e k.as_rfc3164
-    (written ∙ stamped_bytes line.front.now line.stamp.now line.tail.now (timestamp_text k.value) line.is_zulu u.0 u.1
-    u.2 k.stamped)
+    (written ∙ stamped_bytes _ _ _ _ _ u.0 u.1 u.2 k.stamped)
 
 pub returns-in_err-make_room-2-clause-memory : goal.returns-in_err-make_room-2-clause-memory
 returns-in_err-make_room-2-clause-memory c whole e none = absurd
@@ -42,4 +41,4 @@ returns-clause-text c whole e found =
     let written : string_bytes c.write-2.new.self ≡ line.front.now
     ++ ((32 ∷ encode_utf8_all (timestamp_text line.timestamp)) ++ line.tail.now) = search rules in
     freely c.args.variant whole c.if-not-reads_rfc3164.ensures e c.in-Some-rfc3164_line.ensures.verbatim
-    (written ∙ rfc3164_bytes line.front.now (timestamp_text line.timestamp) line.tail.now u.0 u.1)
+    (written ∙ rfc3164_bytes _ _ _ u.0 u.1)
