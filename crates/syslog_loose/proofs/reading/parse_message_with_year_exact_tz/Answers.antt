@@ -18,7 +18,7 @@ use Rattle.syslog_loose.proofs.reading.parse_message_with_year_exact_tz.Goals as
 
 pub returns-then-not-may_be_read : goal.returns-then-not-may_be_read
 returns-then-not-may_be_read g c =
-    let none = subst (λ (x : Text). BeginsNone x) c.trimmed-text.ensures (c.if-not-may_be_read.ensures refl) in
+    let none = rw c.trimmed-text.ensures at (c.if-not-may_be_read.ensures refl) in
     answered _ c.args.variant _ c.args.tz c.args.local (Err Invalid) None (asks_no_year c.args.variant _ none)
     (no_reading c.args.variant (dating_of None c.args.tz c.args.local) _ none)
 

@@ -10,7 +10,7 @@ use Rattle.syslog_loose.proofs.reading.read.Goals as goal
 
 pub returns-then-not-may_be_read : goal.returns-then-not-may_be_read
 returns-then-not-may_be_read c whole e =
-    no_reading c.args.variant _ whole (subst (λ (x : Text). BeginsNone x) e (c.if-not-may_be_read.ensures refl))
+    no_reading c.args.variant _ whole (rw e at (c.if-not-may_be_read.ensures refl))
 
 pub returns-in-Ok-Some : goal.returns-in-Ok-Some
 returns-in-Ok-Some c whole e =
