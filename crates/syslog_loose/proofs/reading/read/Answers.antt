@@ -1,7 +1,4 @@
-use Rattle.std.proofs.Common.{refl, subst}
-use Rattle.syslog_pieces.specs.Pieces.Class.{Text}
-use Rattle.syslog_pieces.specs.Timestamp.Zone.{dating_value}
-use Rattle.syslog_loose.specs.Beginning.{BeginsNone}
+use Rattle.std.proofs.Common.{refl}
 use Rattle.syslog_loose.proofs.BeginningLemmas.{no_reading}
 use Rattle.syslog_loose.proofs.ReadingLemmas.{left_answer, refused}
 use Rattle.syslog_loose.proofs.StartLemmas.{left_to_try, strict_read, strict_refused, strict_unread}

@@ -1,4 +1,3 @@
-use Rattle.syslog_pieces.specs.Timestamp.Zone.{dating_value}
 use Rattle.syslog_loose.specs.declared.variant.Variant.TheVariants.{RFC3164}
 use Rattle.syslog_loose.proofs.ReadingLemmas.{refused}
 use Rattle.syslog_loose.proofs.StartLemmas.{stamped_read, stamped_refused, stamped_unread}
