@@ -202,12 +202,9 @@ module _ (test : ℕ → Bool) (ascii : (c : ℕ) → is_ascii_print c ≡ true 
   ]
 
 -- ---- one line
-no_feed : (c : ℕ) → is_ascii_print c ≡ true → is_no_feed c ≡ true
-no_feed c h = grind (arith, nat_tests)
-
 pub printed_line : (variant : Variant) (dating : Dating) (text : Text) (m : MessageValue) → IsRead variant dating text m
     → IsOneLine text → IsOneLine (printed m)
-printed_line = printed_passes is_no_feed no_feed
+printed_line = printed_passes is_no_feed (λ c h. grind (arith, nat_tests))
 
 -- ---- characters, which the bytes of a text spell
 scalar_print : (c : ℕ) → is_ascii_print c ≡ true → scalar c ≡ true

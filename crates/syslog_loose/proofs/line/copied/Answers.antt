@@ -9,13 +9,11 @@ use Rattle.syslog_loose.proofs.line.copied.Goals as goal
 
 pub returns-in_err-make_room-clause-memory : goal.returns-in_err-make_room-clause-memory
 returns-in_err-make_room-clause-memory c whole e none =
-    let k = c.in-Some.ensures.verbatim in
-    absurd (none _ (is_read whole (chars c.args.input.now) k.values _ e refl k.is).division)
+    absurd (none _ (is_read whole (chars c.args.input.now) _ _ e refl c.in-Some.ensures.verbatim.is).division)
 
 pub returns-in_err-write-clause-memory : goal.returns-in_err-write-clause-memory
 returns-in_err-write-clause-memory c whole e none =
-    let k = c.in-Some.ensures.verbatim in
-    absurd (none _ (is_read whole (chars c.args.input.now) k.values _ e refl k.is).division)
+    absurd (none _ (is_read whole (chars c.args.input.now) _ _ e refl c.in-Some.ensures.verbatim.is).division)
 
 pub returns-clause-text : goal.returns-clause-text
 returns-clause-text c whole e found =

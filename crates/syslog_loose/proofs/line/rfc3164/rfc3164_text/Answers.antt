@@ -8,13 +8,11 @@ use Rattle.syslog_loose.proofs.line.rfc3164.rfc3164_text.Goals as goal
 
 pub returns-in_err-make_room-clause-memory : goal.returns-in_err-make_room-clause-memory
 returns-in_err-make_room-clause-memory c whole e none =
-    let k = c.in-Some.ensures.verbatim (dating_value c.args.dating.now) in
-    absurd (none _ (readable _ _ c.if-not-reads_rfc3164.ensures e k.as_rfc3164))
+    absurd (none _ (readable _ _ c.if-not-reads_rfc3164.ensures e (c.in-Some.ensures.verbatim _).as_rfc3164))
 
 pub returns-in_err-write-clause-memory : goal.returns-in_err-write-clause-memory
 returns-in_err-write-clause-memory c whole e none =
-    let k = c.in-Some.ensures.verbatim (dating_value c.args.dating.now) in
-    absurd (none _ (readable _ _ c.if-not-reads_rfc3164.ensures e k.as_rfc3164))
+    absurd (none _ (readable _ _ c.if-not-reads_rfc3164.ensures e (c.in-Some.ensures.verbatim _).as_rfc3164))
 
 pub returns-in-Some-clause-text : goal.returns-in-Some-clause-text
 returns-in-Some-clause-text c whole e found =

@@ -6,5 +6,4 @@ use Rattle.syslog_pieces.specs.StructuredData.Equal.{element_eq}
 use Rattle.syslog_loose.proofs.message.equality.are_same_elements.Goals as goal
 
 pub returns : goal.returns
-returns g c = c.eq.ensures
-    ∙ sym (pointwise-map (element_value (text_of g.S.AsStr.text)) element_eq c.args.a.now c.args.b.now)
+returns g c = c.eq.ensures ∙ sym (pointwise-map (element_value (text_of g.S.AsStr.text)) element_eq _ _)
