@@ -1,7 +1,7 @@
 -- What each text that has a reading begins with.
-use Rattle.std.proofs.Common.{◌≡◌, inl, inr, ℕ, ◌+◌, Bool, true, false, not, cond, nat_eq, nat_lt, bit_and, ◌&&◌}
-use Rattle.std.proofs.Common.{◌<◌, ◌≤◌, List, [], ◌∷◌, ◌++◌, length, get_or, map, Option, Some, None, refl, sym, ap, subst}
-use Rattle.std.proofs.Common.{arith}
+use Rattle.std.proofs.Common.{◌≡◌, inl, inr, ℕ, ◌+◌, Bool, true, false, not, cond, nat_eq, nat_lt, bit_and}
+use Rattle.std.proofs.Common.{◌&&◌, ◌<◌, ◌≤◌, List, [], ◌∷◌, ◌++◌, length, get_or, map, Option, Some, None, refl, sym}
+use Rattle.std.proofs.Common.{ap, subst, arith}
 use Rattle.std.proofs.lemmas.Bool.{cases_Bool, cases_lt, agree_below_at, and_parts, eqb-true, not-false}
 use Rattle.std.proofs.lemmas.Bool.Decides.{nat_tests}
 use Rattle.std.proofs.lemmas.Option.{get_or_from_slice_get, slice_get_within}
@@ -15,7 +15,8 @@ use Rattle.syslog_pieces.specs.Pri.{priority, priority_row}
 use Rattle.syslog_pieces.specs.Text.{trimmed, is_blank}
 use Rattle.syslog_pieces.specs.Timestamp.{header_stamp}
 use Rattle.syslog_pieces.specs.Timestamp.Rfc3164.{rfc3164_stamp, showing_row, ShowsYearless}
-use Rattle.syslog_pieces.specs.Timestamp.MonthDate.{month, month_names, month_date, yearless_date, yearless_row, dated_row}
+use Rattle.syslog_pieces.specs.Timestamp.MonthDate.{month, month_names, month_date}
+use Rattle.syslog_pieces.specs.Timestamp.MonthDate.{yearless_date, yearless_row, dated_row}
 use Rattle.syslog_pieces.specs.Timestamp.Zone.{Dating}
 use Rattle.syslog_pieces.specs.declared.structured_data.rfc3164_list.DashRule.{DashRule}
 use Rattle.syslog_pieces.specs.declared.timestamp.OffsetTimestamp.{OffsetTimestamp}
@@ -47,9 +48,6 @@ Starts t = BeginsNone t → ⊥
 one_given : (a b e : Bool) → nat_eq (bit_and 1 (cond a (1 + (cond b 2 0 + cond e 4 0)) 7)) 0 ≡ false
 one_given a b e = grind arith
 
-digit_given : (a e : Bool) → nat_eq (bit_and 2 (cond a (1 + (2 + cond e 4 0)) 7)) 0 ≡ false
-digit_given a e = grind arith
-
 letter_given : (a b : Bool) → nat_eq (bit_and 4 (cond a (1 + (cond b 2 0 + 4)) 7)) 0 ≡ false
 letter_given a b = grind arith
 
@@ -75,7 +73,7 @@ digits_start (c ∷ cs) h = open_starts c cs (digit_open c h)
 
 behind_lesser : (r : Text) → Begins (λ c. is_ascii_digit c ≡ true) r → Starts (60 ∷ r)
 behind_lesser [] b n = b
-behind_lesser (d ∷ r) b n = let g = digit_given (nat_lt d 128) (is_second (to_ascii_lowercase d)) in cc
+behind_lesser (d ∷ r) b n = let m : nat_eq (bit_and 2 (given d)) 0 ≡ true = n in grind arith
 
 -- ---- months
 

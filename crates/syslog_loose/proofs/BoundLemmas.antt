@@ -1,5 +1,4 @@
--- What was read, by whichever variant, was read as one of the two protocols, with numbers within the bounds of a
--- message.
+-- What was read, by whichever variant, was read as one of the protocols, with numbers within a message's bounds.
 use Rattle.std.proofs.Common.{◌⊎◌, inl, inr}
 use Rattle.syslog_pieces.specs.Pieces.Class.{Text}
 use Rattle.syslog_pieces.specs.Timestamp.Zone.{Dating}

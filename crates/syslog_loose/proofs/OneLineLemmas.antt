@@ -1,6 +1,6 @@
 -- What is read is printed in the characters of the text and of printable ASCII: what is read of one line, as one line.
-use Rattle.std.proofs.Common.{◌≡◌, ℕ, suc, zero, pos, negsuc, ◌<◌, ◌≤◌, ◌^◌, inl, inr, Bool, true, false, nat_eq}
-use Rattle.std.proofs.Common.{nat_le, nat_lt, ◌&&◌, cond, List, [], ◌∷◌, ◌++◌, length, Option, Some, None, IfSome, refl}
+use Rattle.std.proofs.Common.{◌≡◌, ℕ, suc, zero, pos, negsuc, ◌<◌, ◌≤◌, ◌^◌, inl, inr, Bool, true, nat_eq}
+use Rattle.std.proofs.Common.{nat_le, nat_lt, ◌&&◌, List, [], ◌∷◌, ◌++◌, length, Option, Some, None, IfSome, refl}
 use Rattle.std.proofs.Common.{sym, ap, subst, arith}
 use Rattle.std.proofs.Math.Utf8.{scalar, scalars, low_scalar}
 use Rattle.std.proofs.lemmas.Bool.{and_from, and_parts, cond_both}
@@ -11,7 +11,6 @@ use Rattle.std.specs.List.{All, flat_map, AllByRecursion}
 use Rattle.std.specs.Str.{skip_leading_whitespace, drop_trailing_whitespace}
 use Rattle.syslog_pieces.specs.Pieces.Class.{Text, join, Each}
 use Rattle.syslog_pieces.specs.Pieces.Parts.{IsPart, AreInPieces, text_list, process_texts}
-use Rattle.syslog_pieces.specs.ProcId.{procid_text}
 use Rattle.syslog_pieces.specs.StructuredData.Element.{ElementValue, param_text, element_text, joined_elements}
 use Rattle.syslog_pieces.specs.StructuredData.Element.{elements_text, element_texts}
 use Rattle.syslog_pieces.specs.Text.{trimmed, name_text}
@@ -60,7 +59,8 @@ module _ (test : ℕ → Bool) (ascii : (c : ℕ) → is_ascii_print c ≡ true 
   stamp_passes : (t : Text) → All IsStampCharacter t → Passes t
   stamp_passes [] h = tt
   stamp_passes (c ∷ t) h = let r = h zero c (omega arith) in
-      (ascii c (in_print c (omega (arith, r.0)) (omega (arith, r.1))), stamp_passes t (λ k d l. h (suc k) d (omega arith)))
+      let this = ascii c (in_print c (omega (arith, r.0)) (omega (arith, r.1))) in
+      (this, stamp_passes t (λ k d l. h (suc k) d (omega arith)))
 
   number_line : (n : ℕ) → n < 2 ^ 64 → Passes (decimal n)
   number_line n h =
@@ -137,7 +137,7 @@ module _ (test : ℕ → Bool) (ascii : (c : ℕ) → is_ascii_print c ≡ true 
   spaced_line : (es : List ElementValue) → AllByRecursion Passes (flat_map element_texts es)
       → Passes (spaced_elements es)
   spaced_line [] h = tt
-  spaced_line (e ∷ es) h = each_append test (joined_elements (e ∷ es)) (32 ∷ []) (joined_line (e ∷ es) h) (ascii 32 refl, tt)
+  spaced_line (e ∷ es) h = each_append test (joined_elements (e ∷ es)) _ (joined_line (e ∷ es) h) (ascii 32 refl, tt)
 
   -- ---- printed texts
   record AreLines (m : MessageValue) : Type 0 where
@@ -202,12 +202,9 @@ module _ (test : ℕ → Bool) (ascii : (c : ℕ) → is_ascii_print c ≡ true 
   ]
 
 -- ---- one line
-no_feed : (c : ℕ) → is_ascii_print c ≡ true → is_no_feed c ≡ true
-no_feed c h = grind (arith, nat_tests)
-
 pub printed_line : (variant : Variant) (dating : Dating) (text : Text) (m : MessageValue) → IsRead variant dating text m
     → IsOneLine text → IsOneLine (printed m)
-printed_line = printed_passes is_no_feed no_feed
+printed_line = printed_passes is_no_feed (λ c h. grind (arith, nat_tests))
 
 -- ---- characters, which the bytes of a text spell
 scalar_print : (c : ℕ) → is_ascii_print c ≡ true → scalar c ≡ true

@@ -2,7 +2,7 @@
 pub mod ReadBack
 use Rattle.std.proofs.Common.{◌≡◌, [], ◌∷◌, refl, sym, ap, subst, ◌∙◌}
 use Rattle.std.specs.List.{flat_map}
-use Rattle.syslog_pieces.specs.Pieces.Class.{Text, Values, Division, Front, NoFront, Row, run, some_run, optional}
+use Rattle.syslog_pieces.specs.Pieces.Class.{Text, Values, Front, NoFront, Row, run, some_run, optional}
 use Rattle.syslog_pieces.specs.StructuredData.{NeedsNoMemory}
 use Rattle.syslog_pieces.specs.Text.{trimmed, is_blank, number}
 use Rattle.syslog_pieces.specs.Pieces.Parts.{AreInPieces, text_list, process_texts}

@@ -144,7 +144,8 @@ pub stamp_unblank : (v : Option OffsetTimestamp) (q : Text) → Ends is_blank (t
 stamp_unblank None q = refl
 stamp_unblank (Some s) q =
     let (c, more, digit, first) = printed_stamp-begins s in
-    let some : 0 < length (timestamp_text (Some s)) = elim first [ inl e ↦ (rw e (omega arith)) | inr e ↦ (rw e (omega arith)) ] in
+    let some : 0 < length (timestamp_text (Some s)) =
+    elim first [ inl e ↦ (rw e (omega arith)) | inr e ↦ (rw e (omega arith)) ] in
     visible_ends_blanks (timestamp_text (Some s)) q some (printed_stamp-visible s)
 
 -- ---- the last piece of a row

@@ -23,9 +23,7 @@ use Rattle.syslog_pieces.specs.Timestamp.Canonical.{IsCanonicalStamp}
 use Rattle.syslog_pieces.specs.Timestamp.Zone.{Dating, IsMonthStamp}
 use Rattle.syslog_pieces.specs.declared.procid.ProcId.{ProcId}
 use Rattle.syslog_pieces.specs.declared.procid.ProcId.TheVariants.{PID, Name}
-use Rattle.syslog_pieces.specs.Timestamp.Printed.{printed_stamp}
 use Rattle.syslog_pieces.specs.declared.timestamp.OffsetTimestamp.{OffsetTimestamp}
-use Rattle.syslog_pieces.proofs.TimestampLemmas.Printing.{printed_stamp-bytes}
 use Rattle.syslog_loose.proofs.Rfc5424Lemmas.ReadBack.{stamp_canonical}
 use Rattle.syslog_loose.proofs.ExceptionLemmas.{dash_bytes}
 use Rattle.syslog_loose.specs.TagForm.{form_row, IsNoForm}
@@ -258,7 +256,7 @@ dated_answered post variant text front date tail asked year shows e k =
 pub rfc3164_bytes : (front stamp tail : List ℕ) → IsUtf8 front → IsUtf8 tail
     → front ++ ((32 ∷ encode_utf8_all stamp) ++ tail) ≡ encode_utf8_all (chars front ++ (32 ∷ (stamp ++ chars tail)))
 unfolding encode_utf8
-rfc3164_bytes front stamp tail u v = simp (encodes-append, encodes-chars front u, encodes-chars tail v)
+rfc3164_bytes front stamp tail u v = simp (encodes-append, encodes-chars)
 
 -- and of one whose timestamp prints as it is written
 pub stamped_bytes : (front stamp tail : List ℕ) (value : Text) (is_zulu : Bool) → IsUtf8 front → IsUtf8 stamp
@@ -266,21 +264,8 @@ pub stamped_bytes : (front stamp tail : List ℕ) (value : Text) (is_zulu : Bool
     → front ++ ((32 ∷ stamp) ++ (zone_text is_zulu ++ tail))
     ≡ encode_utf8_all (chars front ++ (32 ∷ (value ++ chars tail)))
 unfolding encode_utf8
-stamped_bytes front stamp tail value is_zulu u v w e = simp (
-  e,
-  append_assoc,
-  encodes-append,
-  encodes-chars front u,
-  encodes-chars stamp v,
-  encodes-chars tail w,
-  zone_bytes is_zulu,
-)
-
--- what is written of a timestamp that prints so
-pub stamp_bytes : (stamp : OffsetTimestamp) (text : List ℕ)
-    → text ≡ 32 ∷ printed_stamp stamp.instant.nanosecond stamp.offset.seconds
-    → text ≡ 32 ∷ encode_utf8_all (timestamp_text (Some stamp))
-stamp_bytes stamp text e = e ∙ ap (λ (x : List ℕ). 32 ∷ x) (sym (printed_stamp-bytes stamp))
+stamped_bytes front stamp tail value is_zulu u v w e =
+    simp (e, append_assoc, encodes-append, encodes-chars, zone_bytes)
 
 -- ---- by a variant that reads RFC 3164
 

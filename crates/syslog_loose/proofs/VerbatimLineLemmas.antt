@@ -190,15 +190,7 @@ pub line_bytes : (front head tail : List ℕ) (msg : Option (Bor (List ℕ))) (i
     → IsUtf8 tail → IfSome msg (λ m. IsUtf8 m.now)
     → front ++ (zone_text is_zulu ++ (head ++ (tail ++ spaced (bytes_of msg))))
     ≡ encode_utf8_all (chars front ++ (zone_text is_zulu ++ (chars head ++ (chars tail ++ spaced (seen msg)))))
-line_bytes front head tail msg is_zulu u h v w =
-    simp (
-      encodes-append,
-      encodes-chars front u,
-      encodes-chars head h,
-      encodes-chars tail v,
-      zone_bytes is_zulu,
-      spaced_bytes msg w,
-    )
+line_bytes front head tail msg is_zulu u h v w = simp (encodes-append, encodes-chars, zone_bytes, spaced_bytes)
 
 -- ---- by a variant that reads RFC 5424
 

@@ -50,7 +50,7 @@ fn given(byte: u8) -> u8
 }
 
 /// Whether the trimmed text may have a reading, by its first two bytes.
-#[tactic(auto, using(crate::proofs::BeginningLemmas::none_by_bytes, crate::proofs::BeginningLemmas::none_in_none,))]
+#[tactic(auto, using(crate::proofs::BeginningLemmas::none_by_bytes, crate::proofs::BeginningLemmas::none_in_none))]
 #[inline(always)]
 pub(crate) fn may_be_read(input: &str) -> bool
     ensures { IsFalse result → spec.BeginsNone (chars input.now) }

@@ -189,7 +189,6 @@ pub(crate) fn copied(text: &mut String, input: &str) -> Result<bool, AllocError>
 }
 
 /// The same, where the variant reads RFC 5424.
-#[tactic(auto, using(crate::proofs::VerbatimLineLemmas::told))]
 pub(crate) fn verbatim_text(
     text: &mut String,
     input: &str,

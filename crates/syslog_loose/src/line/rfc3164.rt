@@ -44,7 +44,7 @@ fn is_name(tag: &str) -> bool
 }
 
 // The text behind an app name, or one and a number in brackets.
-#[tactic(auto, using(crate::proofs::Verbatim3164Lemmas::lone_verbatim, crate::proofs::Verbatim3164Lemmas::numbered_verbatim,))]
+#[tactic(auto, using(crate::proofs::Verbatim3164Lemmas::lone_verbatim, crate::proofs::Verbatim3164Lemmas::numbered_verbatim))]
 #[inline(always)]
 fn verbatim_program(text: &str) -> Option<&str>
     ensures { IfSome result (λ rest. VerbatimProgram (chars text.now) (shown rest)) }

@@ -265,7 +265,7 @@ fn has_any<T>(items: &[T]) -> bool
 }
 
 // Whether the message is not taken for a list, where there is none before it.
-#[tactic(auto, using(crate::proofs::CanonicalLemmas::no_items, crate::proofs::CanonicalLemmas::some_items, crate::proofs::CanonicalLemmas::no_list_told,))]
+#[tactic(auto, using(crate::proofs::CanonicalLemmas::some_items))]
 pub(super) fn begins_no_list<S: AsStr>(
     elements: &[StructuredElement<S>],
     msg: &str,

@@ -9,13 +9,11 @@ use Rattle.syslog_loose.proofs.line.copied.Goals as goal
 
 pub returns-in_err-make_room-clause-memory : goal.returns-in_err-make_room-clause-memory
 returns-in_err-make_room-clause-memory c whole e none =
-    let k = c.in-Some.ensures.verbatim in
-    absurd (none _ (is_read whole (chars c.args.input.now) k.values _ e refl k.is).division)
+    absurd (none _ (is_read whole (chars c.args.input.now) _ _ e refl c.in-Some.ensures.verbatim.is).division)
 
 pub returns-in_err-write-clause-memory : goal.returns-in_err-write-clause-memory
 returns-in_err-write-clause-memory c whole e none =
-    let k = c.in-Some.ensures.verbatim in
-    absurd (none _ (is_read whole (chars c.args.input.now) k.values _ e refl k.is).division)
+    absurd (none _ (is_read whole (chars c.args.input.now) _ _ e refl c.in-Some.ensures.verbatim.is).division)
 
 pub returns-clause-text : goal.returns-clause-text
 returns-clause-text c whole e found =
@@ -24,8 +22,5 @@ returns-clause-text c whole e found =
     let line = c.in-Some.line in
     let written : string_bytes c.write.new.self ≡ line.front.now
     ++ (zone_text line.is_zulu ++ (line.head.now ++ (line.tail.now ++ spaced (bytes_of line.msg)))) = search rules in
-    let bytes = line_bytes line.front.now line.head.now line.tail.now line.msg line.is_zulu u.0 u.1 u.2 u.3 in (
-      message_of k.values,
-      is_read whole (chars c.args.input.now) k.values _ e refl k.is,
-      written ∙ bytes ∙ sym (ap encode_utf8_all k.prints),
-    )
+    let bytes = line_bytes _ _ _ line.msg line.is_zulu u.0 u.1 u.2 u.3 in
+    (message_of k.values, is_read whole _ k.values _ e refl k.is, written ∙ bytes ∙ sym (ap encode_utf8_all k.prints))

@@ -1,5 +1,9 @@
-use Rattle.syslog_loose.proofs.VerbatimLineLemmas.{no_division, asked_apart}
+use Rattle.syslog_loose.proofs.VerbatimLineLemmas.{told, no_division, asked_apart}
 use Rattle.syslog_loose.proofs.line.verbatim_text.Goals as goal
+
+pub returns-clause-text : goal.returns-clause-text
+returns-clause-text c whole e =
+    told c.args.variant whole c.if-not-reads_rfc5424.ensures _ _ (c.copied.ensures.text whole e)
 
 pub returns-clause-memory : goal.returns-clause-memory
 returns-clause-memory c whole e dating none =

@@ -1,4 +1,3 @@
-use Rattle.std.specs.Str.{chars}
 use Rattle.syslog_pieces.specs.Timestamp.MonthDate.{month_date}
 use Rattle.syslog_loose.proofs.StartLemmas.{front_read}
 use Rattle.syslog_loose.proofs.reading.front_date.Goals as goal

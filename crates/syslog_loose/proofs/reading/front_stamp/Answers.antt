@@ -1,4 +1,3 @@
-use Rattle.std.specs.Str.{chars}
 use Rattle.syslog_pieces.specs.Timestamp.{header_stamp}
 use Rattle.syslog_loose.proofs.StartLemmas.{front_read}
 use Rattle.syslog_loose.proofs.reading.front_stamp.Goals as goal

@@ -1,9 +1,7 @@
-use Rattle.std.proofs.Common.{None, Ok, Err, refl, subst}
+use Rattle.std.proofs.Common.{None, Ok, Err, refl}
 use Rattle.std.specs.Str.{chars}
-use Rattle.syslog_pieces.specs.Pieces.Class.{Text}
 use Rattle.syslog_pieces.specs.Pieces.View.{shown}
 use Rattle.syslog_pieces.specs.Timestamp.Zone.{dating_of}
-use Rattle.syslog_loose.specs.Beginning.{BeginsNone}
 use Rattle.syslog_loose.specs.declared.fault.ParseFault.TheVariants.{Invalid, Memory}
 use Rattle.syslog_loose.proofs.BeginningLemmas.{asks_no_year, no_reading}
 use Rattle.syslog_loose.proofs.ReadBackLemmas.{answered}
@@ -18,7 +16,7 @@ use Rattle.syslog_loose.proofs.reading.parse_message_with_year_exact_tz.Goals as
 
 pub returns-then-not-may_be_read : goal.returns-then-not-may_be_read
 returns-then-not-may_be_read g c =
-    let none = subst (λ (x : Text). BeginsNone x) c.trimmed-text.ensures (c.if-not-may_be_read.ensures refl) in
+    let none = rw c.trimmed-text.ensures at (c.if-not-may_be_read.ensures refl) in
     answered _ c.args.variant _ c.args.tz c.args.local (Err Invalid) None (asks_no_year c.args.variant _ none)
     (no_reading c.args.variant (dating_of None c.args.tz c.args.local) _ none)
 
@@ -69,8 +67,8 @@ returns g c =
     let k : IsStamped (λ d year. g.F.FnOnce.post c.args.get_year (d, tt) year) c.args.variant whole c.args.tz
     c.args.local (record { priority = c.optional_priority-priority.result.0; timestamp = at.0 }) (shown at.1) =
     elim c.match-front_date.branch [
-      | in-Some+in-Some-month_stamp w ↦ rw w.timestamp-is (dated_known c.args.variant _ f _ w.in-Some.ensures _ _ _ _ _ _
-          w.asked_numbers.ensures w.map-year.ensures.cases w.in-Some-month_stamp.ensures)
+      | in-Some+in-Some-month_stamp w ↦ rw w.timestamp-is (dated_known c.args.variant _ f _ w.in-Some.ensures _ _ _ _ _
+          _ w.asked_numbers.ensures w.map-year.ensures.cases w.in-Some-month_stamp.ensures)
       | in-None+in-Some-front_stamp w ↦ rw w.timestamp-is (other_known c.args.variant _ f w.in-None.ensures _ _ _
           w.in-Some-front_stamp.ensures (λ n. elim w.if-reads_rfc5424.branch [
             | then-reads_rfc5424+in-Ok-None v ↦ rw v.in-Ok-None.field-0-is at (v.in-Ok-None.ensures.read whole f)

@@ -1,7 +1,4 @@
-use Rattle.std.proofs.Common.{refl, subst}
-use Rattle.syslog_pieces.specs.Pieces.Class.{Text}
-use Rattle.syslog_pieces.specs.Timestamp.Zone.{dating_value}
-use Rattle.syslog_loose.specs.Beginning.{BeginsNone}
+use Rattle.std.proofs.Common.{refl}
 use Rattle.syslog_loose.proofs.BeginningLemmas.{no_reading}
 use Rattle.syslog_loose.proofs.ReadingLemmas.{left_answer, refused}
 use Rattle.syslog_loose.proofs.StartLemmas.{left_to_try, strict_read, strict_refused, strict_unread}
@@ -10,7 +7,7 @@ use Rattle.syslog_loose.proofs.reading.read.Goals as goal
 
 pub returns-then-not-may_be_read : goal.returns-then-not-may_be_read
 returns-then-not-may_be_read c whole e =
-    no_reading c.args.variant _ whole (subst (λ (x : Text). BeginsNone x) e (c.if-not-may_be_read.ensures refl))
+    no_reading c.args.variant _ whole (rw e at (c.if-not-may_be_read.ensures refl))
 
 pub returns-in-Ok-Some : goal.returns-in-Ok-Some
 returns-in-Ok-Some c whole e =

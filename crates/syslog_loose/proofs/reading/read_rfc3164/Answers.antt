@@ -1,12 +1,10 @@
-use Rattle.syslog_pieces.specs.Timestamp.Zone.{dating_value}
 use Rattle.syslog_loose.specs.declared.variant.Variant.TheVariants.{RFC3164}
 use Rattle.syslog_loose.proofs.ReadingLemmas.{refused}
 use Rattle.syslog_loose.proofs.StartLemmas.{stamped_read, stamped_refused, stamped_unread}
 use Rattle.syslog_loose.proofs.reading.read_rfc3164.Goals as goal
 
 pub returns-in-Ok-Some : goal.returns-in-Ok-Some
-returns-in-Ok-Some c whole e =
-    stamped_read RFC3164 _ whole c.in-Ok-Some.message tt
+returns-in-Ok-Some c whole e = stamped_read RFC3164 _ whole c.in-Ok-Some.message tt
     (rw c.in-Ok-Some.field-0-is at (c.in-Ok-Some.ensures.read whole e))
 
 pub returns-in-Ok-None : goal.returns-in-Ok-None

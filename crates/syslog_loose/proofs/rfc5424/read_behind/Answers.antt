@@ -1,13 +1,8 @@
-use Rattle.std.proofs.Common.{◌≡◌, inl, true, false, map, refl}
-use Rattle.std.specs.Option.{option_map}
-use Rattle.syslog_pieces.specs.StructuredData.Element.{element_value}
-use Rattle.syslog_pieces.specs.ProcId.{procid_value}
+use Rattle.std.proofs.Common.{◌≡◌, inl, true, false, refl}
 use Rattle.syslog_pieces.specs.Text.{trimmed}
-use Rattle.syslog_pieces.specs.Pieces.View.{seen, shown}
 use Rattle.syslog_pieces.proofs.PieceLemmas.Class.{rest_front, rows_join, rows_none_here, rows_none_later}
 use Rattle.syslog_pieces.proofs.PieceLemmas.Rows.{no_row, row_of, ◌past◌, ◌then◌}
 use Rattle.syslog_loose.specs.Rfc5424.{header_row, data_row}
-use Rattle.syslog_loose.specs.declared.message.Protocol.TheVariants.{RFC5424}
 use Rattle.syslog_loose.proofs.Rfc5424Lemmas.{data_det, header_det, not_read, is_read, list_needs_none}
 use Rattle.syslog_loose.proofs.rfc5424.read_behind.Goals as goal
 
@@ -30,7 +25,6 @@ returns-in_default-2-clause-read c whole f =
 
 pub returns-clause-read : goal.returns-clause-read
 returns-clause-read c whole f =
-    let h = c.in-Some.header in
     let parts = c.parts-facility.ensures in
     let list = rw c.in-Some-2.is at c.in_ok-elements.ensures.list in
     is_read whole _ _ _ refl (rw (parts.facility, parts.severity) refl)

@@ -1,5 +1,4 @@
 use Rattle.std.proofs.Common.{refl}
-use Rattle.std.specs.Str.{chars}
 use Rattle.syslog_pieces.proofs.ProcIdLemmas.ReadBack.{no_number_told}
 use Rattle.syslog_pieces.proofs.TextLemmas.Canonical.{false_is, no_truth}
 use Rattle.syslog_pieces.proofs.PieceLemmas.Each.{each_both, each_left, each_right}
@@ -19,7 +18,5 @@ pub returns : goal.returns
 returns c =
     let (long, tags) = c.if-not-is_some_of.ensures.0 refl in
     let unclosed = c.if-not-is_only.ensures.0 refl in
-    let number = no_number_told (chars c.args.name.now) c.names_number.result c.names_number.ensures in (
-      (λ h. (long, each_both is_tag_char is_open_char (chars c.args.name.now) tags unclosed, number.0 h)),
-      (λ h. number.1 h.2),
-    )
+    let number = no_number_told _ _ c.names_number.ensures in
+    ((λ h. (long, each_both is_tag_char is_open_char _ tags unclosed, number.0 h)), (λ h. number.1 h.2))
