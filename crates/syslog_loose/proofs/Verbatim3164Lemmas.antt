@@ -108,6 +108,9 @@ numbered_verbatim bs xs ys is cs rs s o k c =
       whole = simp append_assoc (cc (s.characters, opened, k.whole, closed));
     }
 
+-- the two forms of a program
+pub ruleset programs = (lone_verbatim, numbered_verbatim)
+
 -- the host does not matter beside an app name
 any_host : (h : Option Text) (app : Text) (process : Option (ProcId Text)) → AreCanonicalNames None (Some app) process
     → AreCanonicalNames h (Some app) process

@@ -125,3 +125,6 @@ pub near_canonical : (rule : DashRule) (m : MessageValue) → IsNearlyCanonical 
     → IsCanonical rule m
 near_canonical rule m (nearly, none) =
     near_completed rule m m.facility m.severity nearly.facility nearly.severity nearly.rest none
+
+-- the condition is the exceptions and the rest, both ways
+pub ruleset nearly = (canonical_near, near_canonical)

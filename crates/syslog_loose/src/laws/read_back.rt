@@ -55,7 +55,7 @@ pub fn read_rfc3164_has_exceptions_alone()
 {}
 
 /// The exceptions are all that a message of RFC 3164 can miss beside the rest of the condition.
-#[tactic(auto, using(crate::proofs::Rfc3164Lemmas::Exceptions::canonical_near, crate::proofs::Rfc3164Lemmas::Exceptions::near_canonical))]
+#[tactic(auto, using(crate::proofs::Rfc3164Lemmas::Exceptions::nearly))]
 pub fn canonical_rfc3164_has_no_exception()
     ensures { (rule : DashRule) (m : MessageValue) → m.protocol ≡ RFC3164
         → IsCanonical rule m ↔ (IsNearlyCanonical m × HasNoException rule m) }

@@ -2,7 +2,7 @@
 //!
 //! A month date never prints as it is written; a timestamp of RFC 3339, which some programs write in its place, mostly
 //! does. So does what programs write behind either, as ` host app[5]: message`, and the priority before it. So it is
-//! copied, without the fields in between. A date with a year, and a timestamp that prints otherwise, are left to be read.
+//! copied, without the fields in between. A date with a year, or a timestamp that prints otherwise, is left to be read.
 ghost use Rattle.std.specs.Prelude.{◌≡◌, ◌≢◌, ◌++◌, ◌∷◌, ◌<◌, IfOk, IfSome, IsOk};
 ghost use Rattle.std.specs.Prelude.{IsTrue, OnOk, Some, length, string_bytes};
 ghost use Rattle.std.specs.List.{AllByRecursion};
@@ -44,7 +44,7 @@ fn is_name(tag: &str) -> bool
 }
 
 // The text behind an app name, or one and a number in brackets.
-#[tactic(auto, using(crate::proofs::Verbatim3164Lemmas::lone_verbatim, crate::proofs::Verbatim3164Lemmas::numbered_verbatim))]
+#[tactic(auto, using(crate::proofs::Verbatim3164Lemmas::programs))]
 #[inline(always)]
 fn verbatim_program(text: &str) -> Option<&str>
     ensures { IfSome result (λ rest. VerbatimProgram (chars text.now) (shown rest)) }
