@@ -1,6 +1,7 @@
 //! Messages built by hand.
-use super::expected::{Expected, Process};
+use super::expected::{are_cells, cell, check, number_of};
 use std::alloc::{AllocError, Global};
+use std::process::Abort;
 use std::str::Split;
 use syslog_loose::{Message, ProcId, Protocol, StructuredElement, SyslogFacility, SyslogSeverity};
 
@@ -23,11 +24,18 @@ pub(super) fn small<'a>(alloc: Global, protocol: Protocol, msg: &'a str) -> Mess
 // The names and the values that are left of a line.
 fn params_of<'a>(
     alloc: Global,
-    mut texts: Split<'a, char>,
+    texts: Split<'a, char>,
 ) -> Result<Vec<(&'a str, &'a str)>, AllocError> {
     let mut params = Vec::new(alloc);
-    while let Some(name) = texts.next() {
-        params.push((name, texts.next().unwrap_or("")))?;
+    let mut name = None;
+    for text in texts {
+        match name {
+            None => name = Some(text),
+            Some(first) => {
+                params.push((first, text))?;
+                name = None;
+            }
+        }
     }
     Ok(params)
 }
@@ -56,21 +64,31 @@ pub(super) fn elements<'a>(
     Ok(elements)
 }
 
-/// The names, the elements and the message of a row, from LOG_AUTH, of SEV_CRIT and without a timestamp.
+fn process<'a>(cells: &'a str) -> Option<ProcId<&'a str>> {
+    let number = cell(cells, "pid");
+    if number.is_some() {
+        return Some(ProcId::PID(number_of(number, 0)));
+    }
+    match cell(cells, "name") {
+        Some(name) => Some(ProcId::Name(name)),
+        None => None,
+    }
+}
+
+/// The names, the elements and the message of the cells, from LOG_AUTH, of SEV_CRIT and without a timestamp.
 pub(super) fn message<'a>(
+    rt: &impl Abort,
     alloc: Global,
     protocol: Protocol,
-    fields: &Expected<'a>,
-) -> Result<Message<&'a str>, AllocError> {
-    let mut message = small(alloc, protocol, fields.msg);
-    message.hostname = fields.hostname;
-    message.appname = fields.appname;
-    message.procid = match fields.process {
-        Process::Absent => None,
-        Process::Number(number) => Some(ProcId::PID(number)),
-        Process::Name(name) => Some(ProcId::Name(name)),
-    };
-    message.msgid = fields.msgid;
-    message.structured_data = elements(alloc, fields.elements)?;
-    Ok(message)
+    cells: &'a str,
+) -> Message<&'a str> {
+    check(rt, are_cells(cells), "a cell of no field", cells);
+    let mut message = small(alloc, protocol, cell(cells, "msg").unwrap_or(""));
+    message.hostname = cell(cells, "host");
+    message.appname = cell(cells, "app");
+    message.procid = process(cells);
+    message.msgid = cell(cells, "id");
+    let lines = cell(cells, "list").unwrap_or("");
+    message.structured_data = elements(alloc, lines).expect(rt, "no memory");
+    message
 }

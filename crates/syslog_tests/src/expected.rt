@@ -21,106 +21,129 @@
 //! backslash at its end, which takes the blanks before the next one away.
 use std::alloc::Global;
 use std::process::Abort;
-use syslog_loose::{AsStr, Message, ProcId, StructuredElement, SyslogFacility, SyslogSeverity};
+use syslog_loose::{AsStr, Message, ProcId, StructuredElement};
 
-/// A process id.
-#[derive(Clone, Copy, Debug, PartialEq, Eq)]
-pub(super) enum Process<'a> {
-    Absent,
-    Number(i32),
-    Name(&'a str),
+/// The text of a row.
+pub(super) fn text_of(row: &str) -> &str {
+    row.split('¦').next().unwrap_or("")
 }
 
-/// A text and its message, with facility and severity by name, and the timestamp and the message itself as they print.
-#[derive(Clone, Copy)]
-pub(super) struct Expected<'a> {
-    pub(super) text: &'a str,
-    /// Of a date that has none in the text.
-    pub(super) year: i32,
-    pub(super) version: u32,
-    pub(super) facility: Option<&'a str>,
-    pub(super) severity: Option<&'a str>,
-    pub(super) timestamp: Option<&'a str>,
-    pub(super) hostname: Option<&'a str>,
-    pub(super) appname: Option<&'a str>,
-    pub(super) process: Process<'a>,
-    pub(super) msgid: Option<&'a str>,
-    /// One a line: its id, and the name and the raw value of each parameter, with bars between them.
-    pub(super) elements: &'a str,
-    pub(super) msg: &'a str,
-    pub(super) printed: &'a str,
-}
-
-fn empty<'a>() -> Expected<'a> {
-    Expected {
-        text: "1 - - - - - -",
-        year: 2019,
-        version: 1,
-        facility: None,
-        severity: None,
-        timestamp: None,
-        hostname: None,
-        appname: None,
-        process: Process::Absent,
-        msgid: None,
-        elements: "",
-        msg: "",
-        printed: "<47>1 - - - - - - ",
+/// The cells behind the text of a row.
+pub(super) fn cells_of(row: &str) -> &str {
+    match row.split_once('¦') {
+        Some((_, cells)) => cells,
+        None => "",
     }
 }
 
-/// What a row says. (A table of structs would be proved field by field, ten times as long.)
-pub(super) fn row_of<'a>(rt: &impl Abort, row: &'a str) -> Expected<'a> {
-    let mut cells = row.split('¦');
-    let mut want = empty();
-    want.text = cells.next().unwrap_or("");
-    for cell in cells {
-        let (field, value) = cell.split_once(' ').unwrap_or((cell, ""));
-        want = with_field(rt, want, field, value);
+/// What stands in a field's cell, and in the last one where it has several.
+pub(super) fn cell<'a>(cells: &'a str, field: &str) -> Option<&'a str> {
+    let mut found = None;
+    for cell in cells.split('¦') {
+        if let Some((name, value)) = cell.split_once(' ') {
+            if name == field {
+                found = Some(value);
+            }
+        }
     }
-    want
+    found
 }
 
-fn with_field<'a>(
-    rt: &impl Abort,
-    mut want: Expected<'a>,
-    field: &str,
-    value: &'a str,
-) -> Expected<'a> {
-    match field {
-        "year" => want.year = value.parse().unwrap_or(0),
-        "version" => want.version = value.parse().unwrap_or(0),
-        "facility" => want.facility = Some(value),
-        "severity" => want.severity = Some(value),
-        "at" => want.timestamp = Some(value),
-        "host" => want.hostname = Some(value),
-        "app" => want.appname = Some(value),
-        "pid" => want.process = Process::Number(value.parse().unwrap_or(0)),
-        "name" => want.process = Process::Name(value),
-        "id" => want.msgid = Some(value),
-        "list" => want.elements = value,
-        "msg" => want.msg = value,
-        "prints" => want.printed = value,
-        _ => assert!(rt; false, "no field is called {field:?}"),
+/// The number in a cell, and this one where there is no cell.
+pub(super) fn number_of(cell: Option<&str>, absent: i32) -> i32 {
+    match cell {
+        Some(number) => number.parse().unwrap_or(0),
+        None => absent,
     }
-    want
 }
 
-fn process_of<'a>(procid: &Option<ProcId<&'a str>>) -> Process<'a> {
-    match procid {
-        None => Process::Absent,
-        Some(ProcId::PID(number)) => Process::Number(*number),
-        Some(ProcId::Name(name)) => Process::Name(*name),
+/// The year of a date that shows none.
+pub(super) fn year_of(cells: &str) -> i32 {
+    number_of(cell(cells, "year"), 2019)
+}
+
+/// The version of RFC 5424.
+pub(super) fn version_of(cells: &str) -> u32 {
+    match cell(cells, "version") {
+        Some(version) => version.parse().unwrap_or(0),
+        None => 1,
+    }
+}
+
+/// What the message prints as.
+pub(super) fn printed_of(cells: &str) -> &str {
+    cell(cells, "prints").unwrap_or("<47>1 - - - - - - ")
+}
+
+/// The words of the cells, with blanks between.
+const FIELDS: &str = "year version facility severity at host app pid name id list msg prints";
+
+// It begins with the word of a field.
+fn is_cell(cell: &str) -> bool {
+    match cell.split_once(' ') {
+        Some((field, _)) => FIELDS.split(' ').any(|it| it == field),
+        None => false,
+    }
+}
+
+/// Each cell is of a field.
+pub(super) fn are_cells(cells: &str) -> bool {
+    if cells.is_empty() {
+        return true;
+    }
+    for cell in cells.split('¦') {
+        if !is_cell(cell) {
+            return false;
+        }
+    }
+    true
+}
+
+/// Each comparison of a row ends here, since a message with an assertion is dear to prove.
+pub(super) fn check(rt: &impl Abort, holds: bool, what: &str, row: &str) {
+    assert!(rt; holds, "{what}: {row}");
+}
+
+/// The row with the filling in place of each `…`.
+pub(super) fn filled(rt: &impl Abort, alloc: Global, row: &str, filling: &str) -> String {
+    let mut text = String::new(alloc);
+    for letter in row.chars() {
+        let pushed = match letter {
+            '…' => text.push_str(filling),
+            _ => text.push(letter),
+        };
+        pushed.expect(rt, "no memory");
+    }
+    text
+}
+
+/// Both are the same text, or none is there.
+pub(super) fn is_same(found: Option<&str>, want: Option<&str>) -> bool {
+    match found {
+        Some(found) => match want {
+            Some(want) => found == want,
+            None => false,
+        },
+        None => want.is_none(),
+    }
+}
+
+fn is_process(found: &Option<ProcId<&str>>, cells: &str) -> bool {
+    let (number, name) = (cell(cells, "pid"), cell(cells, "name"));
+    match found {
+        None => number.is_none() && name.is_none(),
+        Some(ProcId::PID(found)) => number.is_some() && number_of(number, 0) == *found,
+        Some(ProcId::Name(found)) => is_same(name, Some(*found)),
     }
 }
 
 fn is_param(param: &(&str, &str), name: Option<&str>, value: Option<&str>) -> bool {
-    Some(param.0) == name && Some(param.1) == value
+    is_same(name, Some(param.0)) && is_same(value, Some(param.1))
 }
 
 fn is_element(element: &StructuredElement<&str>, line: &str) -> bool {
     let mut texts = line.split('|');
-    if texts.next() != Some(element.id) {
+    if !is_same(texts.next(), Some(element.id)) {
         return false;
     }
     for param in &element.params {
@@ -131,7 +154,7 @@ fn is_element(element: &StructuredElement<&str>, line: &str) -> bool {
     texts.next().is_none()
 }
 
-/// Compares element by element, with lines as in `Expected`, and takes no memory.
+/// Compares element by element, with lines as in the cell of a list, and takes no memory.
 pub(super) fn are_elements(elements: &[StructuredElement<&str>], lines: &str) -> bool {
     let mut lines = lines.lines();
     for element in elements {
@@ -146,48 +169,76 @@ pub(super) fn check_timestamp(
     rt: &impl Abort,
     alloc: Global,
     message: &Message<&str>,
-    want: Option<&str>,
+    cells: &str,
 ) {
+    let want = cell(cells, "at");
     match message.timestamp {
         Some(stamp) => {
             let stamp = format!(in alloc; "{stamp}").expect(rt, "no memory");
-            assert!(rt; Some(stamp.as_str()) == want, "{stamp}");
+            check(
+                rt,
+                is_same(want, Some(stamp.as_str())),
+                stamp.as_str(),
+                cells,
+            );
         }
-        None => assert!(rt; want.is_none(), "no timestamp"),
+        None => check(rt, want.is_none(), "no timestamp", cells),
     }
 }
 
-fn check_field(
-    rt: &impl Abort,
-    want: &Expected,
-    field: &str,
-    found: Option<&str>,
-    wanted: Option<&str>,
-) {
-    assert!(rt; found == wanted, "{field} of {}: {found:?}", want.text);
+fn is_facility(message: &Message<&str>, want: Option<&str>) -> bool {
+    match message.facility {
+        Some(facility) => is_same(want, Some(facility.as_str())),
+        None => want.is_none(),
+    }
 }
 
-pub(super) fn check_priority(rt: &impl Abort, message: &Message<&str>, want: &Expected) {
-    let facility = message.facility.map(SyslogFacility::as_str);
-    let severity = message.severity.map(SyslogSeverity::as_str);
-    check_field(rt, want, "facility", facility, want.facility);
-    check_field(rt, want, "severity", severity, want.severity);
+fn is_severity(message: &Message<&str>, want: Option<&str>) -> bool {
+    match message.severity {
+        Some(severity) => is_same(want, Some(severity.as_str())),
+        None => want.is_none(),
+    }
+}
+
+pub(super) fn check_priority(rt: &impl Abort, message: &Message<&str>, cells: &str) {
+    check(
+        rt,
+        is_facility(message, cell(cells, "facility")),
+        "facility",
+        cells,
+    );
+    check(
+        rt,
+        is_severity(message, cell(cells, "severity")),
+        "severity",
+        cells,
+    );
+}
+
+fn are_names(message: &Message<&str>, cells: &str) -> bool {
+    is_same(message.hostname, cell(cells, "host"))
+        && is_same(message.appname, cell(cells, "app"))
+        && is_same(message.msgid, cell(cells, "id"))
 }
 
 /// Compares what follows the timestamp.
-pub(super) fn check_fields(rt: &impl Abort, message: &Message<&str>, want: &Expected) {
-    check_field(rt, want, "host", message.hostname, want.hostname);
-    check_field(rt, want, "app", message.appname, want.appname);
-    let process = process_of(&message.procid);
-    assert!(rt;
-        process == want.process,
-        "process of {}: {process:?}",
-        want.text
+pub(super) fn check_fields(rt: &impl Abort, message: &Message<&str>, text: &str, cells: &str) {
+    check(rt, are_cells(cells), "a cell of no field", text);
+    check(rt, are_names(message, cells), "names", text);
+    check(rt, is_process(&message.procid, cells), "process", text);
+    let elements = cell(cells, "list").unwrap_or("");
+    check(
+        rt,
+        are_elements(&message.structured_data, elements),
+        "elements",
+        text,
     );
-    check_field(rt, want, "id", message.msgid, want.msgid);
-    let same = are_elements(&message.structured_data, want.elements);
-    assert!(rt; same, "elements of {}", want.text);
-    check_field(rt, want, "msg", Some(message.msg), Some(want.msg));
+    check(
+        rt,
+        message.msg == cell(cells, "msg").unwrap_or(""),
+        "msg",
+        text,
+    );
 }
 
 pub(super) fn check_printed<S: AsStr>(
@@ -197,5 +248,5 @@ pub(super) fn check_printed<S: AsStr>(
     want: &str,
 ) {
     let printed = format!(in alloc; "{message}").expect(rt, "no memory");
-    assert!(rt; printed.as_str() == want, "{printed}");
+    check(rt, printed.as_str() == want, printed.as_str(), want);
 }

@@ -1,4 +1,5 @@
 //! The calls as tests make them, with UTC as the local zone.
+use super::expected::{check, filled};
 use jiff::tz::TimeZone;
 use std::alloc::Global;
 use std::process::Abort;
@@ -8,6 +9,28 @@ use syslog_loose::{
 
 /// A zone at +01:00 in winter and at +02:00 in summer.
 pub(super) const RULE: &str = "CET-1CEST,M3.5.0,M10.5.0/3";
+
+/// The years that a closure answers in January 2020: of a date in December, and of one in another month.
+pub(super) const IN_JANUARY: (i32, i32) = (2019, 2020);
+
+/// The message of the text in these zones, with a closure that answers the years by the month, as in `IN_JANUARY`.
+pub(super) fn read_in_zones<'a>(
+    alloc: Global,
+    text: &'a str,
+    years: (i32, i32),
+    tz: Option<&TimeZone<'_>>,
+    variant: Variant,
+    local: &TimeZone<'_>,
+) -> Result<Message<&'a str>, ParseFault> {
+    parse_message_with_year_exact_tz(
+        alloc,
+        text,
+        move |date: IncompleteDate| if date.0 == 12 { years.0 } else { years.1 },
+        tz,
+        variant,
+        local,
+    )
+}
 
 /// The message of the text, with UTC as both zones.
 pub(super) fn read<'a>(
@@ -26,18 +49,8 @@ pub(super) fn read_in_year<'a>(
     variant: Variant,
 ) -> Result<Message<&'a str>, ParseFault> {
     let utc = TimeZone::UTC;
-    parse_message_with_year_exact_tz(
-        alloc,
-        text,
-        move |_: IncompleteDate| year,
-        Some(&utc),
-        variant,
-        &utc,
-    )
+    read_in_zones(alloc, text, (year, year), Some(&utc), variant, &utc)
 }
-
-/// The years that a closure answers in January 2020: of a date in December, and of one in another month.
-pub(super) const IN_JANUARY: (i32, i32) = (2019, 2020);
 
 /// The message of the text, with no zone given, UTC as the local one, and a closure that answers by the month.
 pub(super) fn read_by_month<'a>(
@@ -46,22 +59,38 @@ pub(super) fn read_by_month<'a>(
     years: (i32, i32),
     variant: Variant,
 ) -> Result<Message<&'a str>, ParseFault> {
-    parse_message_with_year_exact_tz(
-        alloc,
-        text,
-        move |date: IncompleteDate| if date.0 == 12 { years.0 } else { years.1 },
-        None,
-        variant,
-        &TimeZone::UTC,
-    )
+    read_in_zones(alloc, text, years, None, variant, &TimeZone::UTC)
+}
+
+/// The answer is that the text has no division.
+pub(super) fn is_invalid(answer: Result<Message<&str>, ParseFault>) -> bool {
+    match answer {
+        Ok(_) => false,
+        Err(fault) => matches!(fault, ParseFault::Invalid),
+    }
 }
 
 /// No text has a division by the variant.
 pub(super) fn check_invalid(rt: &impl Abort, alloc: Global, variant: Variant, texts: &[&str]) {
     for text in texts {
-        match read(alloc, text, variant) {
-            Ok(_) => assert!(rt; false, "a message in {text:?}"),
-            Err(fault) => assert!(rt; fault == ParseFault::Invalid, "{fault} in {text:?}"),
-        }
+        check(
+            rt,
+            is_invalid(read(alloc, text, variant)),
+            "not refused as invalid",
+            text,
+        );
     }
+}
+
+/// Nor has this one with so many of the part in place of its `…`.
+pub(super) fn check_filled_invalid(
+    rt: &impl Abort,
+    alloc: Global,
+    part: &str,
+    times: usize,
+    text: &str,
+) {
+    let filling = part.repeat(alloc, times).expect(rt, "no memory");
+    let text = filled(rt, alloc, text, filling.as_str());
+    check_invalid(rt, alloc, Variant::Either, &[text.as_str()]);
 }

@@ -1,38 +1,29 @@
 //! Refused memory where a text has elements.
-use super::expected::are_elements;
-use super::reading::read;
+use super::expected::{are_elements, cell, cells_of, check, text_of};
+use super::reading::{is_invalid, read};
 use std::alloc::Global;
 use std::process::Abort;
 use syslog_loose::{Message, ParseFault, Variant};
 
-/// A text, its elements with lines as in `Expected`, and the message behind them.
-type Case = (&'static str, &'static str, &'static str);
-
-const LISTED: Case = (
+/// Rows as `expected.rt` says, each with a list or with none that is kept, and with the message behind it.
+const LISTED: [&str; 2] = [
     "<13>1 2019-02-13T19:48:34+00:00 74794bfb6795 root 8449 - [meta sequenceId=\"1\" sysUpTime=\"37\" \
-     language=\"EN\"][origin ip=\"192.168.0.1\" software=\"test\"] i am foobar",
-    "meta|sequenceId|1|sysUpTime|37|language|EN\norigin|ip|192.168.0.1|software|test",
-    "i am foobar",
-);
+     language=\"EN\"][origin ip=\"192.168.0.1\" software=\"test\"] i am foobar\
+     ¦list meta|sequenceId|1|sysUpTime|37|language|EN\norigin|ip|192.168.0.1|software|test¦msg i am foobar",
+    "1 - - - - - [a b=\"c\"] x¦list a|b|c¦msg x",
+];
 
-const SINGLE: Case = ("1 - - - - - [a b=\"c\"] x", "a|b|c", "x");
+fn is_answer(message: &Message<&str>, cells: &str) -> bool {
+    are_elements(&message.structured_data, cell(cells, "list").unwrap_or(""))
+        && message.msg == cell(cells, "msg").unwrap_or("")
+}
 
-fn check_answer(
-    rt: &impl Abort,
-    answer: Result<Message<&str>, ParseFault>,
-    elements: &str,
-    msg: &str,
-) {
-    match answer {
-        Ok(message) => {
-            assert!(rt;
-                are_elements(&message.structured_data, elements),
-                "{elements}"
-            );
-            assert!(rt; message.msg == msg);
-        }
-        Err(fault) => assert!(rt; false, "{fault} in place of a message"),
-    }
+fn check_answer(rt: &impl Abort, answer: Result<Message<&str>, ParseFault>, row: &str) {
+    let same = match answer {
+        Ok(message) => is_answer(&message, cells_of(row)),
+        Err(_) => false,
+    };
+    check(rt, same, "elements or message", row);
 }
 
 fn read_again<'a>(
@@ -46,45 +37,41 @@ fn read_again<'a>(
     }
 }
 
-fn check_again(rt: &impl Abort, alloc: Global, variant: Variant, case: &Case) {
-    check_answer(rt, read_again(alloc, case.0, variant), case.1, case.2);
-}
-
 #[test]
 fn answers_that_memory_for_elements_was_refused_and_then_as_ever(rt: HostRuntime) {
     for variant in &[Variant::Either, Variant::RFC5424] {
-        check_again(&rt, rt.alloc(), *variant, &LISTED);
-        check_again(&rt, rt.alloc(), *variant, &SINGLE);
+        for row in &LISTED {
+            check_answer(&rt, read_again(rt.alloc(), text_of(row), *variant), row);
+        }
     }
-}
-
-fn check_once(rt: &impl Abort, alloc: Global, variant: Variant, case: &Case) {
-    check_answer(rt, read(alloc, case.0, variant), case.1, case.2);
 }
 
 #[test]
 fn sees_no_refusal_for_elements(rt: HostRuntime) {
     for variant in &[Variant::Either, Variant::RFC5424] {
-        check_once(&rt, rt.alloc(), *variant, &LISTED);
-        check_once(&rt, rt.alloc(), *variant, &SINGLE);
+        for row in &LISTED {
+            check_answer(&rt, read(rt.alloc(), text_of(row), *variant), row);
+        }
     }
 }
 
 #[test]
 fn asks_for_no_memory_where_no_element_is_kept(rt: HostRuntime) {
     for row in &[
-        "1 - - - - - [a b=\"x]y\" ]z¦y\" ]z",
-        "<13>1 2019-02-13T19:48:34+00:00 74794bfb6795 root 8449 - [incorrect x] qwerty¦qwerty",
+        "1 - - - - - [a b=\"x]y\" ]z¦msg y\" ]z",
+        "<13>1 2019-02-13T19:48:34+00:00 74794bfb6795 root 8449 - [incorrect x] qwerty¦msg qwerty",
     ] {
-        let (text, msg) = row.split_once('¦').expect(&rt, row);
-        check_answer(&rt, read(rt.alloc(), text, Variant::Either), "", msg);
+        check_answer(&rt, read(rt.alloc(), text_of(row), Variant::Either), row);
     }
 }
 
 #[test]
 fn asks_for_no_memory_where_a_list_is_cut(rt: HostRuntime) {
-    match read(rt.alloc(), "1 - - - - - [a b=\"c", Variant::Either) {
-        Ok(_) => assert!(rt; false, "a message in a text that is cut"),
-        Err(fault) => assert!(rt; fault == ParseFault::Invalid, "{fault}"),
-    }
+    let text = "1 - - - - - [a b=\"c";
+    check(
+        &rt,
+        is_invalid(read(rt.alloc(), text, Variant::Either)),
+        "not refused as invalid",
+        text,
+    );
 }

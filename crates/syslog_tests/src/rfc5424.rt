@@ -8,39 +8,52 @@ mod lists;
 mod printed;
 
 use super::expected::{
-    Expected, check_fields, check_printed, check_priority, check_timestamp, row_of,
+    cells_of, check, check_fields, check_printed, check_priority, check_timestamp, filled,
+    printed_of, text_of, version_of,
 };
 use super::reading::{IN_JANUARY, read, read_by_month};
 use std::alloc::Global;
 use std::process::Abort;
 use syslog_loose::{Message, Protocol, Variant};
 
-/// It is the message of the row, field by field, and it prints so.
-fn check_message(rt: &impl Abort, alloc: Global, message: &Message<&str>, want: &Expected) {
-    assert!(rt;
-        message.protocol == Protocol::RFC5424(want.version),
-        "{}",
-        want.text
-    );
-    check_priority(rt, message, want);
-    check_timestamp(rt, alloc, message, want.timestamp);
-    check_fields(rt, message, want);
-    check_printed(rt, alloc, message, want.printed);
+fn is_version(message: &Message<&str>, version: u32) -> bool {
+    match message.protocol {
+        Protocol::RFC5424(found) => found == version,
+        Protocol::RFC3164 => false,
+    }
+}
+
+/// It is the message of the cells, field by field, and it prints so.
+fn check_message(rt: &impl Abort, alloc: Global, message: &Message<&str>, text: &str, cells: &str) {
+    check(rt, is_version(message, version_of(cells)), "protocol", text);
+    check_priority(rt, message, cells);
+    check_timestamp(rt, alloc, message, cells);
+    check_fields(rt, message, text, cells);
+    check_printed(rt, alloc, message, printed_of(cells));
 }
 
 /// The text reads as its message, as RFC 5424 and under `Either`, in a given zone and without one.
-fn check_text(rt: &impl Abort, alloc: Global, want: &Expected) {
+fn check_text(rt: &impl Abort, alloc: Global, text: &str, cells: &str) {
     for variant in &[Variant::Either, Variant::RFC5424] {
-        let message = read(alloc, want.text, *variant).expect(rt, want.text);
-        check_message(rt, alloc, &message, want);
-        let message = read_by_month(alloc, want.text, IN_JANUARY, *variant).expect(rt, want.text);
-        check_message(rt, alloc, &message, want);
+        let message = read(alloc, text, *variant);
+        check_message(rt, alloc, &message.expect(rt, text), text, cells);
+        let message = read_by_month(alloc, text, IN_JANUARY, *variant);
+        check_message(rt, alloc, &message.expect(rt, text), text, cells);
     }
 }
 
 /// The text of each row reads so.
 fn check_table(rt: &impl Abort, alloc: Global, rows: &[&str]) {
     for row in rows {
-        check_text(rt, alloc, &row_of(rt, row));
+        check_text(rt, alloc, text_of(row), cells_of(row));
+    }
+}
+
+/// The text of each row reads so with so many of the part in place of each `…`.
+fn check_filled(rt: &impl Abort, alloc: Global, part: &str, times: usize, rows: &[&str]) {
+    let filling = part.repeat(alloc, times).expect(rt, "no memory");
+    for row in rows {
+        let row = filled(rt, alloc, row, filling.as_str());
+        check_table(rt, alloc, &[row.as_str()]);
     }
 }

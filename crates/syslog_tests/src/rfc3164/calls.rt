@@ -1,13 +1,14 @@
 //! The reading calls on dates: zones, the closure, the fallback and the year of a moment.
-use crate::expected::{check_fields, check_printed, check_priority, row_of};
-use crate::reading::{RULE, check_invalid};
-use std::alloc::Global;
+use super::is_of_rfc3164;
+use crate::expected::{check, check_fields, check_printed, check_priority, printed_of};
+use crate::reading::{IN_JANUARY, RULE, check_invalid, is_invalid, read_in_zones};
+use std::alloc::{AllocError, Global};
 use std::process::Abort;
 use std::test::Fail;
 use syslog_loose::{
-    IncompleteDate, Message, Offset, ParseFault, Protocol, TimeZone, Timestamp, Variant,
-    parse_message, parse_message_with_year, parse_message_with_year_exact,
-    parse_message_with_year_exact_tz, parse_message_with_year_tz,
+    IncompleteDate, Message, Offset, TimeZone, Timestamp, Variant, parse_message,
+    parse_message_with_year, parse_message_with_year_exact, parse_message_with_year_exact_tz,
+    parse_message_with_year_tz,
 };
 
 // What the text prints as, read in this year under `Either` and as RFC 3164.
@@ -16,18 +17,17 @@ fn check_reading(
     alloc: Global,
     text: &str,
     year: i32,
-    tz: Option<&TimeZone<'_>>,
-    local: &TimeZone<'_>,
+    tz: &TimeZone<'_>,
     want: &str,
 ) {
     for variant in &[Variant::Either, Variant::RFC3164] {
-        let message = parse_message_with_year_exact_tz(
+        let message = read_in_zones(
             alloc,
             text,
-            move |_: IncompleteDate| year,
-            tz,
+            (year, year),
+            Some(tz),
             *variant,
-            local,
+            &TimeZone::UTC,
         );
         check_printed(rt, alloc, &message.expect(rt, text), want);
     }
@@ -36,27 +36,25 @@ fn check_reading(
 #[test]
 fn reads_the_earlier_instant_of_a_fold(rt: HostRuntime) -> Result<(), Fail> {
     let rule = TimeZone::posix(RULE)?;
-    check_reading(
-        &rt,
-        rt.alloc(),
-        "Oct 25 02:30:00 h a: m",
-        2020,
-        Some(&rule),
-        &TimeZone::UTC,
-        "<47> 2020-10-25T02:30:00+02:00 h a: m",
-    );
+    let text = "Oct 25 02:30:00 h a: m";
+    let want = "<47> 2020-10-25T02:30:00+02:00 h a: m";
+    check_reading(&rt, rt.alloc(), text, 2020, &rule, want);
     Ok(())
 }
 
 // A date in the gap of this zone has no reading where it is given, and one where it is the local zone.
 fn check_gap(rt: &impl Abort, alloc: Global, rule: &TimeZone<'_>, variant: Variant) {
     let text = "Mar 29 02:30:00 h a: m";
+    let given = read_in_zones(
+        alloc,
+        text,
+        (2020, 2020),
+        Some(rule),
+        variant,
+        &TimeZone::UTC,
+    );
+    check(rt, is_invalid(given), "a message in a gap", text);
     let year = |_: IncompleteDate| 2020;
-    let utc = TimeZone::UTC;
-    match parse_message_with_year_exact_tz(alloc, text, year, Some(rule), variant, &utc) {
-        Ok(_) => assert!(rt; false, "a message in a gap"),
-        Err(fault) => assert!(rt; fault == ParseFault::Invalid),
-    }
     let message = parse_message_with_year_exact(alloc, text, year, variant, rule);
     let want = "<47> 2020-03-29T04:30:00+02:00 h a: m";
     check_printed(rt, alloc, &message.expect(rt, text), want);
@@ -71,24 +69,15 @@ fn refuses_a_gap_of_a_given_zone_alone(rt: HostRuntime) -> Result<(), Fail> {
 }
 
 fn check_winter(rt: &impl Abort, alloc: Global, rule: &TimeZone<'_>, variant: Variant) {
-    let want = row_of(
-        rt,
-        "<46>Jan  5 15:33:03 plertrood-ThinkPad-X220 rsyslogd: start\
-         ¦facility syslog¦severity info¦host plertrood-ThinkPad-X220¦app rsyslogd¦msg start\
-         ¦prints <46> 2020-01-05T15:33:03+01:00 plertrood-ThinkPad-X220 rsyslogd: start",
-    );
-    let message = parse_message_with_year_exact_tz(
-        alloc,
-        want.text,
-        |date: IncompleteDate| if date.0 == 12 { 2019 } else { 2020 },
-        Some(rule),
-        variant,
-        &TimeZone::UTC,
-    )
-    .expect(rt, want.text);
-    check_priority(rt, &message, &want);
-    check_fields(rt, &message, &want);
-    check_printed(rt, alloc, &message, want.printed);
+    let text = "<46>Jan  5 15:33:03 plertrood-ThinkPad-X220 rsyslogd: start";
+    let cells = "facility syslog¦severity info¦host plertrood-ThinkPad-X220¦app rsyslogd¦msg start\
+         ¦prints <46> 2020-01-05T15:33:03+01:00 plertrood-ThinkPad-X220 rsyslogd: start";
+    let utc = TimeZone::UTC;
+    let message = read_in_zones(alloc, text, IN_JANUARY, Some(rule), variant, &utc);
+    let message = message.expect(rt, text);
+    check_priority(rt, &message, cells);
+    check_fields(rt, &message, text, cells);
+    check_printed(rt, alloc, &message, printed_of(cells));
 }
 
 #[test]
@@ -99,74 +88,100 @@ fn reads_a_date_in_winter(rt: HostRuntime) -> Result<(), Fail> {
     Ok(())
 }
 
+// Whether the call asks for a year.
+fn is_asked(alloc: Global, text: &str, variant: Variant, tz: &TimeZone<'_>) -> bool {
+    let mut called = false;
+    let answer = parse_message_with_year_exact_tz(
+        alloc,
+        text,
+        |_: IncompleteDate| {
+            called = true;
+            2019
+        },
+        Some(tz),
+        variant,
+        &TimeZone::UTC,
+    );
+    let _ = answer;
+    called
+}
+
+// The call asks for a year of each text, or of none.
+fn check_asked(rt: &impl Abort, alloc: Global, variant: Variant, asked: bool, texts: &[&str]) {
+    let ahead = TimeZone::fixed(Offset::from_hours(1).expect(rt, "no offset"));
+    for text in texts {
+        check(
+            rt,
+            is_asked(alloc, text, variant, &ahead) == asked,
+            "asked for a year",
+            text,
+        );
+    }
+}
+
 #[test]
 fn asks_for_a_year_only_where_a_date_shows_none(rt: HostRuntime) -> Result<(), Fail> {
     let alloc = rt.alloc();
-    let ahead = TimeZone::fixed(Offset::from_hours(1)?);
-    for (text, variant, asked) in [
-        ("<34>Dec 28 2008 16:49:07 h a: m", Variant::Either, false),
-        ("<34>Dec 28 2008 16:49:07 h a: m", Variant::RFC3164, false),
-        ("<34>2008-12-28T16:49:07Z h a: m", Variant::RFC3164, false),
-        ("<34>1 - h a 1 m - x", Variant::Either, false),
-        ("<34>Dec 28 16:49:07 h a: m", Variant::RFC5424, false),
-        ("gobbledegook", Variant::Either, false),
-        ("<34>Dec 28 16:49:07 h a: m", Variant::RFC3164, true),
-        ("  Feb 30 16:49:07 h a: m", Variant::Either, true),
-    ] {
-        let mut called = false;
-        let answer = parse_message_with_year_exact_tz(
-            alloc,
-            text,
-            |_: IncompleteDate| {
-                called = true;
-                2019
-            },
-            Some(&ahead),
-            variant,
-            &TimeZone::UTC,
-        );
-        assert!(rt; called == asked, "{text}");
-        let _ = answer;
-    }
-    check_reading(
+    let dated = "<34>Dec 28 2008 16:49:07 h a: m";
+    let undated = "<34>Dec 28 16:49:07 h a: m";
+    let stamped = "<34>2008-12-28T16:49:07Z h a: m";
+    let others = [dated, "<34>1 - h a 1 m - x", "gobbledegook"];
+    check_asked(&rt, alloc, Variant::Either, false, &others);
+    check_asked(&rt, alloc, Variant::RFC3164, false, &[dated, stamped]);
+    check_asked(&rt, alloc, Variant::RFC5424, false, &[undated]);
+    check_asked(&rt, alloc, Variant::RFC3164, true, &[undated]);
+    check_asked(
         &rt,
         alloc,
-        "<34>Dec 28 2008 16:49:07 h a: m",
-        2019,
-        Some(&ahead),
-        &TimeZone::UTC,
-        "<34> 2008-12-28T16:49:07+01:00 h a: m",
+        Variant::Either,
+        true,
+        &["  Feb 30 16:49:07 h a: m"],
     );
+    let ahead = TimeZone::fixed(Offset::from_hours(1)?);
+    let want = "<34> 2008-12-28T16:49:07+01:00 h a: m";
+    check_reading(&rt, alloc, dated, 2019, &ahead, want);
     Ok(())
 }
 
 /// 2019-12-31T23:30:00Z, in seconds.
 const NOW: i64 = 1_577_835_000;
 
-fn check_now(rt: &impl Abort, alloc: Global, local: &TimeZone<'_>, want: &str) -> Result<(), Fail> {
-    let now = Timestamp::from_second(NOW)?;
-    let message = parse_message(alloc, "Oct 11 22:14:15 h a: m", Variant::Either, now, local)?;
-    check_printed(rt, alloc, &message, want);
-    Ok(())
+fn now(rt: &impl Abort) -> Timestamp {
+    Timestamp::from_second(NOW).expect(rt, "no instant")
+}
+
+fn check_now(rt: &impl Abort, alloc: Global, local: &TimeZone<'_>, want: &str) {
+    let text = "Oct 11 22:14:15 h a: m";
+    let message = parse_message(alloc, text, Variant::Either, now(rt), local);
+    check_printed(rt, alloc, &message.expect(rt, text), want);
 }
 
 #[test]
 fn takes_the_year_of_now_in_the_local_zone(rt: HostRuntime) -> Result<(), Fail> {
     let ahead = TimeZone::fixed(Offset::from_hours(1)?);
     let want = "<47> 2019-10-11T22:14:15+00:00 h a: m";
-    check_now(&rt, rt.alloc(), &TimeZone::UTC, want)?;
+    check_now(&rt, rt.alloc(), &TimeZone::UTC, want);
     let want = "<47> 2020-10-11T22:14:15+01:00 h a: m";
-    check_now(&rt, rt.alloc(), &ahead, want)
+    check_now(&rt, rt.alloc(), &ahead, want);
+    Ok(())
+}
+
+fn has_no_field(message: &Message<&str>) -> bool {
+    message.facility.is_none()
+        && message.severity.is_none()
+        && message.timestamp.is_none()
+        && message.hostname.is_none()
+        && message.appname.is_none()
+        && message.procid.is_none()
+        && message.msgid.is_none()
+        && message.structured_data.is_empty()
 }
 
 // A message of RFC 3164 with this for `msg` and nothing in another field.
 fn check_bare(rt: &impl Abort, message: &Message<&str>, msg: &str) {
-    let mut want = row_of(rt, "");
-    want.msg = msg;
-    assert!(rt; message.protocol == Protocol::RFC3164, "{msg}");
-    check_priority(rt, message, &want);
-    assert!(rt; message.timestamp.is_none(), "{msg}");
-    check_fields(rt, message, &want);
+    check(rt, is_of_rfc3164(message), "protocol", msg);
+    check(rt, has_no_field(message), "a field", msg);
+    check(rt, message.msg == msg, "msg", msg);
 }
 
 /// Texts without a reading.
@@ -179,50 +194,52 @@ const UNREADABLE: [&str; 6] = [
     " complete and utter gobbledegook ",
 ];
 
-// Each call that answers the fallback answers a message with nothing but this in it.
-fn check_fallback_calls(
-    rt: &impl Abort,
+// What a call that answers the fallback answers, with UTC as the zone.
+fn answer_of<'a>(
     alloc: Global,
-    text: &str,
+    call: u8,
+    text: &'a str,
     variant: Variant,
-    msg: &str,
-) -> Result<(), Fail> {
+    now: Timestamp,
+) -> Result<Message<&'a str>, AllocError> {
     let utc = TimeZone::UTC;
     let year = |_: IncompleteDate| 2019;
-    let now = Timestamp::from_second(NOW)?;
-    let message = parse_message(alloc, text, variant, now, &utc)?;
-    check_bare(rt, &message, msg);
-    let message = parse_message_with_year(alloc, text, year, variant, &utc)?;
-    check_bare(rt, &message, msg);
-    for tz in [Some(&utc), None] {
-        let message = parse_message_with_year_tz(alloc, text, year, tz, variant, &utc)?;
-        check_bare(rt, &message, msg);
+    match call {
+        0 => parse_message(alloc, text, variant, now, &utc),
+        1 => parse_message_with_year(alloc, text, year, variant, &utc),
+        2 => parse_message_with_year_tz(alloc, text, year, Some(&utc), variant, &utc),
+        _ => parse_message_with_year_tz(alloc, text, year, None, variant, &utc),
     }
-    Ok(())
 }
 
+// Each call that answers the fallback answers a message with nothing but this in it.
+fn check_fallback_calls(rt: &impl Abort, alloc: Global, text: &str, variant: Variant, msg: &str) {
+    for call in 0..4 {
+        let message = answer_of(alloc, call, text, variant, now(rt));
+        check_bare(rt, &message.expect(rt, text), msg);
+    }
+}
+
+/// Each variant.
+const VARIANTS: [Variant; 3] = [Variant::Either, Variant::RFC3164, Variant::RFC5424];
+
 #[test]
-fn answers_the_fallback_where_there_is_no_reading(rt: HostRuntime) -> Result<(), Fail> {
-    let alloc = rt.alloc();
-    for text in UNREADABLE {
-        for variant in [Variant::Either, Variant::RFC3164, Variant::RFC5424] {
-            check_fallback_calls(&rt, alloc, text, variant, text)?;
+fn answers_the_fallback_where_there_is_no_reading(rt: HostRuntime) {
+    for variant in &VARIANTS {
+        for text in &UNREADABLE {
+            check_fallback_calls(&rt, rt.alloc(), text, *variant, text);
         }
+        check_invalid(&rt, rt.alloc(), *variant, &UNREADABLE);
     }
-    for variant in [Variant::Either, Variant::RFC3164, Variant::RFC5424] {
-        check_invalid(&rt, alloc, variant, &UNREADABLE);
-    }
-    Ok(())
 }
 
 // As RFC 5424 these have no reading, so there the whole text is left.
 #[test]
-fn answers_the_message_where_there_is_one(rt: HostRuntime) -> Result<(), Fail> {
-    let alloc = rt.alloc();
-    for (text, msg) in [("-", ""), ("--x", "-x")] {
-        check_fallback_calls(&rt, alloc, text, Variant::Either, msg)?;
-        check_fallback_calls(&rt, alloc, text, Variant::RFC3164, msg)?;
-        check_fallback_calls(&rt, alloc, text, Variant::RFC5424, text)?;
+fn answers_the_message_where_there_is_one(rt: HostRuntime) {
+    for row in &["-¦", "--x¦-x"] {
+        let (text, msg) = row.split_once('¦').expect(&rt, row);
+        check_fallback_calls(&rt, rt.alloc(), text, Variant::Either, msg);
+        check_fallback_calls(&rt, rt.alloc(), text, Variant::RFC3164, msg);
+        check_fallback_calls(&rt, rt.alloc(), text, Variant::RFC5424, text);
     }
-    Ok(())
 }

@@ -1,44 +1,46 @@
 //! Messages of RFC 3164 built by hand: whether they are canonical, how they print, and what that is read as.
+use super::is_of_rfc3164;
 use crate::built::message;
-use crate::expected::{Expected, check_fields, check_printed, row_of};
+use crate::expected::{cells_of, check, check_fields, check_printed};
 use crate::reading::read;
 use std::alloc::Global;
 use std::process::Abort;
 use syslog_loose::{Message, Protocol, SyslogFacility, SyslogSeverity, Variant};
 
 /// The message is from LOG_AUTH, of SEV_CRIT and without a timestamp.
-fn check_small(rt: &impl Abort, message: &Message<&str>, text: &str) {
-    assert!(rt; message.protocol == Protocol::RFC3164, "{text}");
-    assert!(rt;
-        message.facility == Some(SyslogFacility::LOG_AUTH),
-        "{text}"
-    );
-    assert!(rt;
-        message.severity == Some(SyslogSeverity::SEV_CRIT),
-        "{text}"
-    );
-    assert!(rt; message.timestamp.is_none(), "{text}");
+fn is_small(message: &Message<&str>) -> bool {
+    matches!(message.facility, Some(SyslogFacility::LOG_AUTH))
+        && matches!(message.severity, Some(SyslogSeverity::SEV_CRIT))
+        && message.timestamp.is_none()
 }
 
 /// Under `Either` and as RFC 3164.
-fn check_reading(rt: &impl Abort, alloc: Global, want: &Expected) {
+fn check_reading(rt: &impl Abort, alloc: Global, text: &str, cells: &str) {
     for variant in &[Variant::Either, Variant::RFC3164] {
-        let found = read(alloc, want.text, *variant).expect(rt, want.text);
-        check_small(rt, &found, want.text);
-        check_fields(rt, &found, want);
+        let found = read(alloc, text, *variant).expect(rt, text);
+        check(rt, is_of_rfc3164(&found), "protocol", text);
+        check(rt, is_small(&found), "priority or timestamp", text);
+        check_fields(rt, &found, text, cells);
     }
+}
+
+/// The message of the cells prints so, and tells whether it is canonical.
+fn check_built(rt: &impl Abort, alloc: Global, cells: &str, printed: &str, canonical: bool) {
+    let message = message(rt, alloc, Protocol::RFC3164, cells);
+    check(
+        rt,
+        message.is_canonical() == canonical,
+        "canonical",
+        printed,
+    );
+    check_printed(rt, alloc, &message, printed);
 }
 
 /// The message of `built` prints as `printed`, and that reads as the message of `other`. `built` and `other` are the
 /// cells of a row.
 fn check_row(rt: &impl Abort, alloc: Global, built: &str, printed: &str, other: &str) {
-    let row = format!(in alloc; "{printed}¦{built}").expect(rt, "no memory");
-    let fields = row_of(rt, row.as_str());
-    let message = message(alloc, Protocol::RFC3164, &fields).expect(rt, "no memory");
-    assert!(rt; message.is_canonical() == (built == other), "{printed}");
-    check_printed(rt, alloc, &message, printed);
-    let row = format!(in alloc; "{printed}¦{other}").expect(rt, "no memory");
-    check_reading(rt, alloc, &row_of(rt, row.as_str()));
+    check_built(rt, alloc, built, printed, built == other);
+    check_reading(rt, alloc, printed, other);
 }
 
 /// A row is the cells of a message that is canonical, and what it prints as.
@@ -82,11 +84,12 @@ fn reads_canonical_messages_back(rt: HostRuntime) {
 }
 
 #[test]
-fn reads_other_names(rt: HostRuntime) {
+fn reads_messages_that_are_not_canonical(rt: HostRuntime) {
     check_others(
         &rt,
         rt.alloc(),
         &[
+            // App names.
             "app a¦id m¦msg hi → <34> - - a: hi → app a¦msg hi",
             "app ¦msg hi → <34> - - : hi → msg hi",
             "app -¦msg hi → <34> - - -: hi → msg hi",
@@ -94,30 +97,12 @@ fn reads_other_names(rt: HostRuntime) {
             "app a b¦msg hi → <34> - - a b: hi → app a¦msg b: hi",
             "app a[b]¦msg hi → <34> - - a[b]: hi → app a¦name b¦msg hi",
             "host a[b]¦msg hi → <34> - a[b] : hi → app a¦name b¦msg hi",
-        ],
-    );
-}
-
-#[test]
-fn reads_other_hosts(rt: HostRuntime) {
-    check_others(
-        &rt,
-        rt.alloc(),
-        &[
+            // Hosts.
             "host -¦msg hi → <34> - - : hi → msg hi",
             "host zork:¦msg hi → <34> - zork: : hi → host zork¦msg : hi",
             "host a b¦app a¦msg hi → <34> - a b a: hi → host a¦app b¦msg a: hi",
             "host ¦app a¦msg hi → <34> -  a: hi → msg a: hi",
-        ],
-    );
-}
-
-#[test]
-fn reads_other_process_ids(rt: HostRuntime) {
-    check_others(
-        &rt,
-        rt.alloc(),
-        &[
+            // Process ids.
             "pid 5¦msg hi → <34> - - : hi → msg hi",
             "app a b¦pid 5¦msg hi → <34> - - a b[5]: hi → app a¦msg b[5]: hi",
             "app a:b¦pid 5¦msg hi → <34> - - a:b[5]: hi → app a¦msg b[5]: hi",
@@ -127,16 +112,7 @@ fn reads_other_process_ids(rt: HostRuntime) {
             "app a¦name b c¦msg hi → <34> - - a[b c]: hi → app a[b¦msg c]: hi",
             "app a¦name b]¦msg hi → <34> - - a[b]]: hi → app a[b]]¦msg hi",
             "app app¦name x:y¦msg hi → <34> - - app[x:y]: hi → app app[x¦msg y]: hi",
-        ],
-    );
-}
-
-#[test]
-fn takes_lists_from_the_message(rt: HostRuntime) {
-    check_others(
-        &rt,
-        rt.alloc(),
-        &[
+            // Lists, which are taken from the message.
             "app a¦list e¦msg hi → <34> - - a: [e] hi → app a¦msg [e] hi",
             "app a¦msg [e k=\"v\"] hi → <34> - - a: [e k=\"v\"] hi → app a¦list e|k|v¦msg hi",
             "app a¦msg - → <34> - - a: - → app a¦msg ",
@@ -147,8 +123,7 @@ fn takes_lists_from_the_message(rt: HostRuntime) {
 
 /// Whether the message of the row is canonical.
 fn is_canonical(rt: &impl Abort, alloc: Global, row: &str) -> bool {
-    let message = message(alloc, Protocol::RFC3164, &row_of(rt, row));
-    message.expect(rt, "no memory").is_canonical()
+    message(rt, alloc, Protocol::RFC3164, cells_of(row)).is_canonical()
 }
 
 #[test]
@@ -161,7 +136,7 @@ fn tells_canonical_names(rt: HostRuntime) {
         "¦host h¦msg hi",
         "¦host h[i]¦app a¦msg hi",
     ] {
-        assert!(rt; is_canonical(&rt, rt.alloc(), row), "{row}");
+        check(&rt, is_canonical(&rt, rt.alloc(), row), "canonical", row);
     }
 }
 
@@ -176,6 +151,11 @@ fn tells_names_that_are_not_canonical(rt: HostRuntime) {
         "¦name x¦msg hi",
         "¦host h[i]¦msg hi",
     ] {
-        assert!(rt; !is_canonical(&rt, rt.alloc(), row), "{row}");
+        check(
+            &rt,
+            !is_canonical(&rt, rt.alloc(), row),
+            "not canonical",
+            row,
+        );
     }
 }

@@ -4,25 +4,25 @@
 //! 2019 as the year; its fields and its printed text were written down here, and are not made anew. There a dash is a
 //! list before anything; the texts that are read otherwise here for that stand in a test of their own.
 use super::check_message;
-use crate::expected::{check_fields, check_timestamp, row_of};
+use crate::expected::{cells_of, check, check_fields, check_timestamp, is_same, text_of};
 use crate::reading::{check_invalid, read};
 use std::alloc::Global;
 use std::process::Abort;
 use syslog_loose::Variant;
 
 /// Each text reads as its message; the priority is seen in the printed text.
-fn check(rt: &impl Abort, alloc: Global, rows: &[&str]) {
+fn check_rows(rt: &impl Abort, alloc: Global, rows: &[&str]) {
     for row in rows {
-        let want = row_of(rt, row);
-        let message = read(alloc, want.text, Variant::RFC3164).expect(rt, want.text);
-        check_timestamp(rt, alloc, &message, want.timestamp);
-        check_message(rt, alloc, &message, &want);
+        let (text, cells) = (text_of(row), cells_of(row));
+        let message = read(alloc, text, Variant::RFC3164).expect(rt, text);
+        check_timestamp(rt, alloc, &message, cells);
+        check_message(rt, alloc, &message, text, cells);
     }
 }
 
 #[test]
 fn agrees_on_names(rt: HostRuntime) {
-    check(
+    check_rows(
         &rt,
         rt.alloc(),
         &[
@@ -62,7 +62,7 @@ fn agrees_on_names(rt: HostRuntime) {
 
 #[test]
 fn agrees_on_forms(rt: HostRuntime) {
-    check(
+    check_rows(
         &rt,
         rt.alloc(),
         &[
@@ -108,7 +108,7 @@ fn agrees_on_forms(rt: HostRuntime) {
 
 #[test]
 fn agrees_on_blanks(rt: HostRuntime) {
-    check(
+    check_rows(
         &rt,
         rt.alloc(),
         &[
@@ -166,7 +166,7 @@ fn agrees_on_blanks(rt: HostRuntime) {
 
 #[test]
 fn agrees_on_dashes(rt: HostRuntime) {
-    check(
+    check_rows(
         &rt,
         rt.alloc(),
         &[
@@ -181,7 +181,7 @@ fn agrees_on_dashes(rt: HostRuntime) {
 
 #[test]
 fn agrees_on_elements(rt: HostRuntime) {
-    check(
+    check_rows(
         &rt,
         rt.alloc(),
         &[
@@ -209,7 +209,7 @@ fn agrees_on_elements(rt: HostRuntime) {
 
 #[test]
 fn agrees_on_dates_and_lines(rt: HostRuntime) {
-    check(
+    check_rows(
         &rt,
         rt.alloc(),
         &[
@@ -251,8 +251,9 @@ fn check_dash(rt: &impl Abort, alloc: Global, row: &str) {
     let (there, here) = messages.split_once('|').expect(rt, row);
     let row = format!(in alloc; "{text}¦host host¦app app¦msg {here}").expect(rt, "no memory");
     let message = read(alloc, text, Variant::RFC3164).expect(rt, text);
-    check_fields(rt, &message, &row_of(rt, row.as_str()));
-    assert!(rt; message.msg.strip_prefix('-') == Some(there), "{text}");
+    check_fields(rt, &message, text, cells_of(row.as_str()));
+    let cut = message.msg.strip_prefix('-');
+    check(rt, is_same(cut, Some(there)), "msg of the crate", text);
 }
 
 #[test]

@@ -1,15 +1,14 @@
 //! Messages built by hand, and what they print as.
 use crate::built::message;
-use crate::expected::{check_printed, row_of};
+use crate::expected::{cells_of, check_printed, text_of};
 use std::alloc::Global;
 use std::process::Abort;
 use syslog_loose::Protocol;
 
 /// A row is a printed text and the cells of the message that it is printed of.
 fn check(rt: &impl Abort, alloc: Global, row: &str) {
-    let fields = row_of(rt, row);
-    let message = message(alloc, Protocol::RFC3164, &fields).expect(rt, "no memory");
-    check_printed(rt, alloc, &message, fields.text);
+    let message = message(rt, alloc, Protocol::RFC3164, cells_of(row));
+    check_printed(rt, alloc, &message, text_of(row));
 }
 
 #[test]

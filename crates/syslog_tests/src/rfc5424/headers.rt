@@ -1,7 +1,7 @@
 //! Worked texts of RFC 5424 without elements.
 use super::{check_message, check_table, check_text};
 use crate::built::small;
-use crate::expected::row_of;
+use crate::expected::{check, printed_of};
 use crate::reading::{check_invalid, read};
 use std::test::Fail;
 use syslog_loose::{Protocol, SyslogFacility, SyslogSeverity, Variant};
@@ -102,20 +102,17 @@ fn refuses_a_broken_header(rt: HostRuntime) {
 #[test]
 fn reads_a_printed_message_back(rt: HostRuntime) -> Result<(), Fail> {
     let alloc = rt.alloc();
-    let want = row_of(
-        &rt,
-        "<75>1 1969-12-03T23:58:58+00:00 - - - - - \
-         ¦facility cron¦severity err¦at 1969-12-03T23:58:58+00:00\
-         ¦prints <75>1 1969-12-03T23:58:58+00:00 - - - - - ",
-    );
+    let text = "<75>1 1969-12-03T23:58:58+00:00 - - - - - ";
+    let cells = "facility cron¦severity err¦at 1969-12-03T23:58:58+00:00\
+         ¦prints <75>1 1969-12-03T23:58:58+00:00 - - - - - ";
     let stamp = read(alloc, "1 1969-12-03T23:58:58Z - - - - -", Variant::RFC5424)?.timestamp;
     let mut message = small(alloc, Protocol::RFC5424(1), "");
     message.facility = Some(SyslogFacility::LOG_CRON);
     message.severity = Some(SyslogSeverity::SEV_ERR);
     message.timestamp = stamp;
-    check_message(&rt, alloc, &message, &want);
-    assert!(rt; want.text.len() == 42);
-    assert!(rt; want.text == want.printed);
-    check_text(&rt, alloc, &want);
+    check_message(&rt, alloc, &message, text, cells);
+    check(&rt, text.len() == 42, "length", text);
+    check(&rt, text == printed_of(cells), "another text", text);
+    check_text(&rt, alloc, text, cells);
     Ok(())
 }

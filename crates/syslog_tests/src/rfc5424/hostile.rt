@@ -1,63 +1,59 @@
 //! Long numbers and words, and characters that only look like white space.
-use super::check_table;
-use crate::reading::check_invalid;
-use std::test::Fail;
+use super::{check_filled, check_table};
+use crate::reading::{check_filled_invalid, check_invalid};
 use syslog_loose::Variant;
 
 #[test]
-fn passes_over_a_thousand_zeros(rt: HostRuntime) -> Result<(), Fail> {
-    let alloc = rt.alloc();
-    let zeros = "0".repeat(alloc, 1000)?;
-    let priority = format!(in alloc;
-        "<{zeros}34>1 - - - - - -¦facility auth¦severity crit¦prints <34>1 - - - - - - "
-    )?;
-    let version = format!(in alloc; "{zeros}1 - - - - - -¦prints <47>1 - - - - - - ")?;
-    let process = format!(in alloc;
-        "1 - h a {zeros}7 m - x¦host h¦app a¦pid 7¦id m¦msg x¦prints <47>1 - h a 7 m - x"
-    )?;
-    check_table(
+fn passes_over_a_thousand_zeros(rt: HostRuntime) {
+    check_filled(
         &rt,
-        alloc,
-        &[priority.as_str(), version.as_str(), process.as_str()],
+        rt.alloc(),
+        "0",
+        1000,
+        &[
+            "<…34>1 - - - - - -¦facility auth¦severity crit¦prints <34>1 - - - - - - ",
+            "…1 - - - - - -¦prints <47>1 - - - - - - ",
+            "1 - h a …7 m - x¦host h¦app a¦pid 7¦id m¦msg x¦prints <47>1 - h a 7 m - x",
+        ],
     );
-    Ok(())
 }
 
 #[test]
-fn takes_a_thousand_nines_for_no_number(rt: HostRuntime) -> Result<(), Fail> {
-    let alloc = rt.alloc();
-    let nines = "9".repeat(alloc, 1000)?;
-    let version = format!(in alloc; "{nines} - - - - - -")?;
-    check_invalid(&rt, alloc, Variant::Either, &[version.as_str()]);
-    let process = format!(in alloc;
-        "1 - h a {nines} m - x¦host h¦app a¦name {nines}¦id m¦msg x¦prints <47>1 - h a {nines} m - x"
-    )?;
-    check_table(&rt, alloc, &[process.as_str()]);
-    Ok(())
+fn takes_a_thousand_nines_for_no_number(rt: HostRuntime) {
+    check_filled_invalid(&rt, rt.alloc(), "9", 1000, "… - - - - - -");
+    check_filled(
+        &rt,
+        rt.alloc(),
+        "9",
+        1000,
+        &["1 - h a … m - x¦host h¦app a¦name …¦id m¦msg x¦prints <47>1 - h a … m - x"],
+    );
 }
 
 #[test]
-fn cuts_a_thousand_decimals(rt: HostRuntime) -> Result<(), Fail> {
-    let alloc = rt.alloc();
-    let ones = "1".repeat(alloc, 1000)?;
-    let row = format!(in alloc;
-        "1 2020-01-01T00:00:00.{ones}Z h a 1 m - x\
-         ¦at 2020-01-01T00:00:00.111111111+00:00¦host h¦app a¦pid 1¦id m¦msg x\
-         ¦prints <47>1 2020-01-01T00:00:00.111111111+00:00 h a 1 m - x"
-    )?;
-    check_table(&rt, alloc, &[row.as_str()]);
-    Ok(())
+fn cuts_a_thousand_decimals(rt: HostRuntime) {
+    check_filled(
+        &rt,
+        rt.alloc(),
+        "1",
+        1000,
+        &[
+            "1 2020-01-01T00:00:00.…Z h a 1 m - x\
+           ¦at 2020-01-01T00:00:00.111111111+00:00¦host h¦app a¦pid 1¦id m¦msg x\
+           ¦prints <47>1 2020-01-01T00:00:00.111111111+00:00 h a 1 m - x",
+        ],
+    );
 }
 
 #[test]
-fn reads_a_long_host_past_ascii(rt: HostRuntime) -> Result<(), Fail> {
-    let alloc = rt.alloc();
-    let host = "ü".repeat(alloc, 40)?;
-    let row = format!(in alloc;
-        "1 - {host} a 1 m - y¦host {host}¦app a¦pid 1¦id m¦msg y¦prints <47>1 - {host} a 1 m - y"
-    )?;
-    check_table(&rt, alloc, &[row.as_str()]);
-    Ok(())
+fn reads_a_long_host_past_ascii(rt: HostRuntime) {
+    check_filled(
+        &rt,
+        rt.alloc(),
+        "ü",
+        40,
+        &["1 - … a 1 m - y¦host …¦app a¦pid 1¦id m¦msg y¦prints <47>1 - … a 1 m - y"],
+    );
 }
 
 #[test]

@@ -1,6 +1,6 @@
 //! Worked texts whose lists have elements, whole or broken.
-use super::check_table;
-use crate::reading::check_invalid;
+use super::{check_filled, check_table};
+use crate::reading::{check_filled_invalid, check_invalid};
 use std::alloc::Global;
 use std::process::Abort;
 use std::test::Fail;
@@ -132,14 +132,15 @@ fn ends_a_value_at_a_quote_that_is_not_escaped(rt: HostRuntime) {
 }
 
 #[test]
-fn reads_ten_thousand_brackets(rt: HostRuntime) -> Result<(), Fail> {
-    let alloc = rt.alloc();
-    let fewer = "[".repeat(alloc, 9_999)?;
-    let open = format!(in alloc; "1 - - - - - [{fewer}")?;
-    check_invalid(&rt, alloc, Variant::Either, &[open.as_str()]);
-    let closed = format!(in alloc; "{open}]¦list {fewer}¦prints <47>{open}] ")?;
-    check_table(&rt, alloc, &[closed.as_str()]);
-    Ok(())
+fn reads_ten_thousand_brackets(rt: HostRuntime) {
+    check_filled_invalid(&rt, rt.alloc(), "[", 9_999, "1 - - - - - […");
+    check_filled(
+        &rt,
+        rt.alloc(),
+        "[",
+        9_999,
+        &["1 - - - - - […]¦list …¦prints <47>1 - - - - - […] "],
+    );
 }
 
 #[test]
@@ -156,10 +157,12 @@ fn reads_a_thousand_elements(rt: HostRuntime) -> Result<(), Fail> {
 
 // Each element is broken, and looks like a strict one up to the end of the text.
 #[test]
-fn reads_elements_that_fail_at_the_end_of_the_text(rt: HostRuntime) -> Result<(), Fail> {
-    let alloc = rt.alloc();
-    let list = "[a\" b=\"]".repeat(alloc, 16_000)?;
-    let row = format!(in alloc; "1 - - - - - {list}¦prints <47>1 - - - - - - ")?;
-    check_table(&rt, alloc, &[row.as_str()]);
-    Ok(())
+fn reads_elements_that_fail_at_the_end_of_the_text(rt: HostRuntime) {
+    check_filled(
+        &rt,
+        rt.alloc(),
+        "[a\" b=\"]",
+        16_000,
+        &["1 - - - - - …¦prints <47>1 - - - - - - "],
+    );
 }
