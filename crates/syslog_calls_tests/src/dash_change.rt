@@ -1,11 +1,14 @@
 //! Which texts are read differently since the rule of the dash changed.
+use super::checks::check;
+use super::reading::summer_rule;
 use jiff::tz::TimeZone;
 use std::alloc::{AllocError, Global};
 use std::process::Abort;
-use std::test::Fail;
 use syslog_loose::{IncompleteDate, Variant, parse_message_with_year_exact_tz, reads_differently};
 
 const DEGREES: &str = "<34>Oct 11 22:14:15 mymachine app: -5 degrees";
+
+const STANDARD: &str = "1 - - - - - -x";
 
 /// Texts of RFC 3164 that are read differently.
 const CHANGED: [&str; 4] = [DEGREES, "--x", "- h a: -\u{a0}x", "- h a: -[e k=\"v\"] x"];
@@ -23,38 +26,43 @@ const UNCHANGED: [&str; 9] = [
     "",
 ];
 
-pub(super) fn has_dash_change(
+/// Whether the text is read differently, in 2019 where a date shows no year.
+pub(super) fn check_dash_change(
+    rt: &impl Abort,
     alloc: Global,
     text: &str,
     variant: Variant,
-) -> Result<bool, AllocError> {
+    want: bool,
+) {
     let year = |_: IncompleteDate| 2019;
-    reads_differently(alloc, text, year, None, variant, &TimeZone::UTC)
+    let changed = reads_differently(alloc, text, year, None, variant, &TimeZone::UTC).expect(
+        rt, text,
+    );
+    check(rt, changed == want, text);
 }
 
-fn check(rt: &impl Abort, alloc: Global, variant: Variant, texts: &[&str], want: bool) {
+fn check_texts(rt: &impl Abort, alloc: Global, variant: Variant, texts: &[&str], want: bool) {
     for text in texts {
-        let changed = has_dash_change(alloc, text, variant).expect(rt, text);
-        assert!(rt; changed == want, "{text}");
+        check_dash_change(rt, alloc, text, variant, want);
     }
 }
 
 #[test]
 fn tells_a_dash_before_no_blank(rt: HostRuntime) {
-    for variant in &[Variant::Either, Variant::RFC3164] {
-        check(&rt, rt.alloc(), *variant, &CHANGED, true);
-        check(&rt, rt.alloc(), *variant, &UNCHANGED, false);
-    }
+    check_texts(&rt, rt.alloc(), Variant::Either, &CHANGED, true);
+    check_texts(&rt, rt.alloc(), Variant::Either, &UNCHANGED, false);
+    check_texts(&rt, rt.alloc(), Variant::RFC3164, &CHANGED, true);
+    check_texts(&rt, rt.alloc(), Variant::RFC3164, &UNCHANGED, false);
 }
 
 #[test]
 fn tells_no_text_of_rfc_5424(rt: HostRuntime) {
-    check(&rt, rt.alloc(), Variant::Either, &["1 - - - - - -x"], false);
-    check(
+    check_texts(&rt, rt.alloc(), Variant::Either, &[STANDARD], false);
+    check_texts(
         &rt,
         rt.alloc(),
         Variant::RFC5424,
-        &[DEGREES, "1 - - - - - -x"],
+        &[DEGREES, STANDARD],
         false,
     );
 }
@@ -70,8 +78,8 @@ fn check_in(
     want: bool,
 ) {
     let year = move |_: IncompleteDate| year;
-    let changed = reads_differently(alloc, text, year, tz, Variant::Either, local);
-    assert!(rt; changed.expect(rt, text) == want, "{text}");
+    let changed = reads_differently(alloc, text, year, tz, Variant::Either, local).expect(rt, text);
+    check(rt, changed == want, text);
 }
 
 #[test]
@@ -82,60 +90,81 @@ fn tells_no_leap_day_of_another_year(rt: HostRuntime) {
 }
 
 #[test]
-fn tells_no_time_in_a_gap(rt: HostRuntime) -> Result<(), Fail> {
+fn tells_no_time_in_a_gap(rt: HostRuntime) {
     let (alloc, utc) = (rt.alloc(), TimeZone::UTC);
-    let rule = TimeZone::posix("CET-1CEST,M3.5.0,M10.5.0/3")?;
+    let rule = summer_rule(&rt);
     let in_gap = "Mar 29 02:30:00 h a: -5";
     check_in(&rt, alloc, in_gap, 2020, Some(&rule), &utc, false);
     check_in(&rt, alloc, in_gap, 2019, Some(&rule), &utc, true);
     check_in(&rt, alloc, in_gap, 2020, None, &rule, true);
     let in_gap = "Mar 29 2020 02:30:00 h a: -5";
     check_in(&rt, alloc, in_gap, 2019, Some(&rule), &utc, false);
-    Ok(())
 }
 
-// The date that either call asks with, if it asks.
-fn check_asked(
-    rt: &impl Abort,
+// The date that `reads_differently` asks with, if it asks.
+fn asked_by_difference(
     alloc: Global,
     text: &str,
     variant: Variant,
-    want: Option<IncompleteDate>,
-) {
+) -> Result<Option<IncompleteDate>, AllocError> {
     let mut noted = None;
     let note = |date: IncompleteDate| {
         noted = Some(date);
         2019
     };
-    let _ = reads_differently(alloc, text, note, None, variant, &TimeZone::UTC).expect(rt, text);
-    assert!(rt; noted == want, "{text}");
+    let _ = reads_differently(alloc, text, note, None, variant, &TimeZone::UTC)?;
+    Ok(noted)
+}
+
+// And a reading call, whether the text has a reading or not.
+fn asked_by_reading(alloc: Global, text: &str, variant: Variant) -> Option<IncompleteDate> {
     let mut noted = None;
     let note = |date: IncompleteDate| {
         noted = Some(date);
         2019
     };
     let utc = TimeZone::UTC;
-    let answer = parse_message_with_year_exact_tz(alloc, text, note, None, variant, &utc);
-    assert!(rt; noted == want, "{text}");
-    let _ = answer;
+    let _ = parse_message_with_year_exact_tz(alloc, text, note, None, variant, &utc);
+    noted
+}
+
+fn is_date(noted: Option<IncompleteDate>, want: IncompleteDate) -> bool {
+    match noted {
+        Some(date) => date == want,
+        None => false,
+    }
+}
+
+fn check_asked(rt: &impl Abort, alloc: Global, text: &str, variant: Variant, want: IncompleteDate) {
+    let noted = asked_by_difference(alloc, text, variant).expect(rt, text);
+    check(rt, is_date(noted, want), text);
+    check(
+        rt,
+        is_date(asked_by_reading(alloc, text, variant), want),
+        text,
+    );
+}
+
+fn check_not_asked(rt: &impl Abort, alloc: Global, text: &str, variant: Variant) {
+    let noted = asked_by_difference(alloc, text, variant).expect(rt, text);
+    check(rt, noted.is_none(), text);
+    check(rt, asked_by_reading(alloc, text, variant).is_none(), text);
 }
 
 #[test]
 fn asks_for_a_year_as_the_reading_calls_do(rt: HostRuntime) {
     let alloc = rt.alloc();
-    let october = Some((10, 11, 22, 14, 15));
+    let october = (10, 11, 22, 14, 15);
     check_asked(&rt, alloc, DEGREES, Variant::Either, october);
     check_asked(&rt, alloc, DEGREES, Variant::RFC3164, october);
-    let february = Some((2, 30, 16, 49, 7));
-    check_asked(
-        &rt,
-        alloc,
-        "Feb 30 16:49:07 h a: m",
-        Variant::Either,
-        february,
-    );
-    check_asked(&rt, alloc, DEGREES, Variant::RFC5424, None);
-    for text in &["Oct 11 2019 22:14:15 h a: -5", "--x", "1 - - - - - -x"] {
-        check_asked(&rt, alloc, text, Variant::Either, None);
+    let text = "Feb 30 16:49:07 h a: m";
+    check_asked(&rt, alloc, text, Variant::Either, (2, 30, 16, 49, 7));
+}
+
+#[test]
+fn asks_for_no_year_of_a_text_with_a_year_or_no_date(rt: HostRuntime) {
+    check_not_asked(&rt, rt.alloc(), DEGREES, Variant::RFC5424);
+    for text in &["Oct 11 2019 22:14:15 h a: -5", "--x", STANDARD] {
+        check_not_asked(&rt, rt.alloc(), text, Variant::Either);
     }
 }

@@ -7,6 +7,8 @@ mod callers;
 #[cfg(test)]
 mod calls;
 #[cfg(test)]
+mod checks;
+#[cfg(test)]
 mod dash_change;
 #[cfg(test)]
 mod old_dash;

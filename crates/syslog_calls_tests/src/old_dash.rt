@@ -1,5 +1,6 @@
 //! How the lists of RFC 3164 were read while a dash was a list before anything.
-use super::dash_change::has_dash_change;
+use super::checks::{cells, check, check_same};
+use super::dash_change::check_dash_change;
 use super::reading::read;
 use std::alloc::Global;
 use std::process::Abort;
@@ -26,25 +27,24 @@ const ROWS: [&str; 11] = [
 
 // What is left for the message behind the list.
 fn check_left(rt: &impl Abort, alloc: Global, part: &str, rule: DashRule, want: &str) {
-    let (_, rest) = optional_list(alloc, part, rule).expect(rt, "no memory");
-    assert!(rt; blanks(rest) == want, "{part} {rule:?}");
+    let (_, rest) = optional_list(alloc, part, rule).expect(rt, part);
+    check_same(rt, blanks(rest), want, part);
 }
 
 fn check_message(rt: &impl Abort, alloc: Global, text: &str, msg: &str) {
     let message = read(alloc, text, Variant::Either).expect(rt, text);
-    assert!(rt; message.protocol == Protocol::RFC3164, "{text}");
-    assert!(rt; message.msg == msg, "{text}");
+    check(rt, matches!(message.protocol, Protocol::RFC3164), text);
+    check_same(rt, message.msg, msg, text);
 }
 
 fn check_row(rt: &impl Abort, alloc: Global, row: &str) {
-    let (text, rest) = row.split_once('¦').expect(rt, row);
-    let (part, messages) = rest.split_once('¦').expect(rt, row);
-    let (before, now) = messages.split_once('¦').expect(rt, row);
+    let (text, rest) = cells(rt, row);
+    let (part, messages) = cells(rt, rest);
+    let (before, now) = cells(rt, messages);
     check_left(rt, alloc, part, DashRule::BeforeAnything, before);
     check_left(rt, alloc, part, DASH_RULE, now);
     check_message(rt, alloc, text, now);
-    let differs = has_dash_change(alloc, text, Variant::Either).expect(rt, text);
-    assert!(rt; differs == (before != now), "{text}");
+    check_dash_change(rt, alloc, text, Variant::Either, before != now);
 }
 
 #[test]
@@ -54,23 +54,28 @@ fn left_out_a_dash_before_anything(rt: HostRuntime) {
     }
 }
 
+// Whether the message part `-5` begins with a list, and what is left behind it.
 fn check_degrees(rt: &impl Abort, alloc: Global, rule: DashRule, begins: bool, msg: &str) {
-    assert!(rt; begins_list("-5", rule) == begins, "{rule:?}");
-    let (list, rest) = optional_list(alloc, "-5", rule).expect(rt, "no memory");
-    assert!(rt; list.is_some() == begins, "{rule:?}");
-    assert!(rt; rest == msg, "{rule:?}");
+    check(rt, begins_list("-5", rule) == begins, msg);
+    let (list, rest) = optional_list(alloc, "-5", rule).expect(rt, msg);
+    check(rt, list.is_some() == begins, msg);
+    check_same(rt, rest, msg, "-5");
 }
 
 // While a dash was a list before anything, one began this message part, and the message was read back without the dash.
 // So it was not canonical, as it is now.
 #[test]
 fn was_not_canonical_with_a_dash_before_anything(rt: HostRuntime) {
-    let text = "<34> - - a: -5";
-    let message = read(rt.alloc(), text, Variant::RFC3164).expect(&rt, text);
-    assert!(rt; message.appname == Some("a"));
-    assert!(rt; message.structured_data.is_empty());
-    assert!(rt; message.msg == "-5");
-    assert!(rt; message.is_canonical());
+    check_canonical(&rt, rt.alloc(), "<34> - - a: -5");
     check_degrees(&rt, rt.alloc(), DashRule::BeforeAnything, true, "5");
     check_degrees(&rt, rt.alloc(), DASH_RULE, false, "-5");
+}
+
+// The message is `-5`, without a list.
+fn check_canonical(rt: &impl Abort, alloc: Global, text: &str) {
+    let message = read(alloc, text, Variant::RFC3164).expect(rt, text);
+    check_same(rt, message.appname.unwrap_or(""), "a", text);
+    check(rt, message.structured_data.is_empty(), text);
+    check_same(rt, message.msg, "-5", text);
+    check(rt, message.is_canonical(), text);
 }

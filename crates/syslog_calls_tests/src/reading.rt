@@ -8,7 +8,9 @@ use syslog_loose::{
 };
 
 /// A zone at +01:00 in winter and at +02:00 in summer.
-pub(super) const RULE: &str = "CET-1CEST,M3.5.0,M10.5.0/3";
+pub(super) fn summer_rule(rt: &impl Abort) -> TimeZone<'static> {
+    TimeZone::posix("CET-1CEST,M3.5.0,M10.5.0/3").expect(rt, "no such rule")
+}
 
 /// The message of the text, with UTC as both zones, in 2019 where a date shows no year.
 pub(super) fn read<'a>(
@@ -59,12 +61,4 @@ pub(super) fn settled(
         Variant::Either,
         &TimeZone::UTC,
     )
-}
-
-/// The text was not printed, since it has no division.
-pub(super) fn check_no_text(rt: &impl Abort, answer: Result<String, ParseFault>, text: &str) {
-    match answer {
-        Ok(printed) => assert!(rt; false, "{text}: {printed}"),
-        Err(fault) => assert!(rt; fault == ParseFault::Invalid, "{text}: {fault}"),
-    }
 }

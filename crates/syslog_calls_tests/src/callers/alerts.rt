@@ -6,8 +6,9 @@ ghost use Rattle.syslog_pieces.specs.Pieces.View.{shown};
 ghost use Rattle.syslog_pieces.specs.StructuredData.Element.{element_value};
 ghost use Rattle.syslog_pieces.specs.StructuredData.Escapes.{IsUnescaped};
 
+use crate::checks::check;
 use std::alloc::{AllocError, Global};
-use std::test::Fail;
+use std::process::Abort;
 use syslog_loose::{StructuredElement, TimeZone, Variant, parse_message_with_year};
 use syslog_pieces::as_str::is_same_text;
 
@@ -48,39 +49,41 @@ fn fires(
     Ok(false)
 }
 
-#[test]
-fn fires_on_a_parameter(rt: HostRuntime) -> Result<(), Fail> {
-    let alloc = rt.alloc();
+/// Whether an element of the line has the parameter of the rule.
+fn is_alerted(alloc: Global, rule: &Rule<'_>, line: &str) -> Result<bool, AllocError> {
+    let utc = TimeZone::UTC;
+    let message = parse_message_with_year(alloc, line, |_| 2019, Variant::Either, &utc)?;
+    for element in &message.structured_data {
+        if fires(alloc, rule, element)? {
+            return Ok(true);
+        }
+    }
+    Ok(false)
+}
+
+fn check_alerted(rt: &impl Abort, alloc: Global, line: &str, want: bool) {
     let rule = Rule {
         name: "state",
         value: "\"down\"",
     };
-    for (line, want) in [
-        ("<34>1 - h app - - [link state=\"\\\"down\\\"\"] a", true),
-        (
-            "<34>1 - h app - - [link a=\"b\" state=\"\\\"down\\\"\"] a",
-            true,
-        ),
-        ("<34>- h app: [link state=\"\\\"down\\\"\"] a", true),
-        ("<34>1 - h app - - [link state=\"down\"] a", false),
-        ("<34>1 - h app - - [link state2=\"\\\"down\\\"\"] a", false),
-        (
-            "<34>1 - h app - - [link state=\"\\\"down\\\"\" ] broken",
-            false,
-        ),
+    let found = is_alerted(alloc, &rule, line).expect(rt, line);
+    check(rt, found == want, line);
+}
+
+#[test]
+fn fires_on_a_parameter(rt: HostRuntime) {
+    for line in &[
+        "<34>1 - h app - - [link state=\"\\\"down\\\"\"] a",
+        "<34>1 - h app - - [link a=\"b\" state=\"\\\"down\\\"\"] a",
+        "<34>- h app: [link state=\"\\\"down\\\"\"] a",
     ] {
-        let message = parse_message_with_year(
-            alloc,
-            line,
-            |_| 2019,
-            Variant::Either,
-            &TimeZone::UTC,
-        )?;
-        let mut found = false;
-        for element in &message.structured_data {
-            found = found || fires(alloc, &rule, element)?;
-        }
-        assert_eq!(rt; found, want, "{line}");
+        check_alerted(&rt, rt.alloc(), line, true);
     }
-    Ok(())
+    for line in &[
+        "<34>1 - h app - - [link state=\"down\"] a",
+        "<34>1 - h app - - [link state2=\"\\\"down\\\"\"] a",
+        "<34>1 - h app - - [link state=\"\\\"down\\\"\" ] broken",
+    ] {
+        check_alerted(&rt, rt.alloc(), line, false);
+    }
 }

@@ -8,6 +8,7 @@ ghost use Rattle.syslog_loose.specs.ReadBack.{IsFixed};
 ghost use Rattle.syslog_loose.specs.Reading.{OnReading};
 ghost use Rattle.syslog_loose.specs.declared.variant.Variant.TheVariants.{Either};
 
+use crate::checks::{cells, check_same};
 use std::alloc::{AllocError, Global};
 use std::process::Abort;
 use syslog_loose::{IncompleteDate, ParseFault, TimeZone, Variant, normalise};
@@ -36,12 +37,16 @@ fn normal_line(
     }
 }
 
-fn check_normal(rt: &impl Abort, alloc: Global, row: &str) {
-    let (line, want) = row.split_once('¦').expect(rt, row);
+fn check_line(rt: &impl Abort, alloc: Global, line: &str, want: &str) {
     let text = normal_line(alloc, line, 2019, &TimeZone::UTC).expect(rt, line);
-    assert!(rt; text.as_str() == want, "{text}");
-    let again = normal_line(alloc, want, 2019, &TimeZone::UTC).expect(rt, want);
-    assert!(rt; again.as_str() == want, "{again}");
+    check_same(rt, text.as_str(), want, line);
+}
+
+// A row is a line and what becomes of it, which stays so.
+fn check_normal(rt: &impl Abort, alloc: Global, row: &str) {
+    let (line, want) = cells(rt, row);
+    check_line(rt, alloc, line, want);
+    check_line(rt, alloc, want, want);
 }
 
 #[test]

@@ -6,6 +6,7 @@ ghost use Rattle.syslog_pieces.specs.Timestamp.Zone.{dating_of};
 ghost use Rattle.syslog_loose.specs.Reading.{InYear, OnReading};
 ghost use Rattle.syslog_loose.specs.declared.variant.Variant.TheVariants.{Either};
 
+use crate::checks::check;
 use std::alloc::{AllocError, Global};
 use std::process::Abort;
 use syslog_loose::{
@@ -44,34 +45,37 @@ fn instant_of(
     }
 }
 
-// A row is a line and the second of its instant, or a line without one.
-fn check_instant(rt: &impl Abort, alloc: Global, row: &str) {
-    let mut cells = row.split('¦');
-    let line = cells.next().unwrap_or("");
-    match instant_of(alloc, line, 2020, 2019, &TimeZone::UTC).expect(rt, line) {
-        Some(found) => {
-            let second = cells
-                .next()
-                .expect(rt, line)
-                .parse::<i64>()
-                .expect(rt, line);
-            let want = Timestamp::from_second(second).expect(rt, line);
-            assert!(rt; found.instant == want, "{line}");
-        }
-        None => assert!(rt; cells.next() == None, "{line}"),
+// Early in 2020.
+fn instant_in_2020(alloc: Global, line: &str) -> Result<Option<OffsetTimestamp>, AllocError> {
+    instant_of(alloc, line, 2020, 2019, &TimeZone::UTC)
+}
+
+fn check_second(rt: &impl Abort, alloc: Global, line: &str, second: i64) {
+    let want = Timestamp::from_second(second).expect(rt, line);
+    match instant_in_2020(alloc, line).expect(rt, line) {
+        Some(found) => check(rt, found.instant == want, line),
+        None => check(rt, false, line),
     }
+}
+
+fn check_none(rt: &impl Abort, alloc: Global, line: &str) {
+    let found = instant_in_2020(alloc, line).expect(rt, line);
+    check(rt, found.is_none(), line);
 }
 
 #[test]
 fn takes_december_for_last_year(rt: HostRuntime) {
-    for row in &[
-        "<34>Dec 31 23:59:59 h su: one¦1577836799",
-        "<34>Jan  1 00:00:00 h su: one¦1577836800",
-        "<34>Dec 31 2018 23:59:59 h su: one¦1546300799",
-        "<34>1 2003-10-11T22:14:15Z h su - - - one¦1065910455",
-        "<34>1 - h su - - - one",
-        "gobbledegook",
-    ] {
-        check_instant(&rt, rt.alloc(), row);
-    }
+    let alloc = rt.alloc();
+    check_second(&rt, alloc, "<34>Dec 31 23:59:59 h su: one", 1_577_836_799);
+    check_second(&rt, alloc, "<34>Jan  1 00:00:00 h su: one", 1_577_836_800);
+    let dated = "<34>Dec 31 2018 23:59:59 h su: one";
+    check_second(&rt, alloc, dated, 1_546_300_799);
+    let dated = "<34>1 2003-10-11T22:14:15Z h su - - - one";
+    check_second(&rt, alloc, dated, 1_065_910_455);
+}
+
+#[test]
+fn finds_no_instant_without_a_timestamp(rt: HostRuntime) {
+    check_none(&rt, rt.alloc(), "<34>1 - h su - - - one");
+    check_none(&rt, rt.alloc(), "gobbledegook");
 }

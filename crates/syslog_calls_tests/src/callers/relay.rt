@@ -11,6 +11,7 @@ ghost use Rattle.syslog_loose.specs.Reading.{IsRead, OnReading, dash_rule};
 ghost use Rattle.syslog_loose.specs.declared.variant.Variant.TheVariants.{Either};
 ghost use Rattle.syslog_calls_tests.specs.declared.callers.relay.Sent.TheVariants.{AsItCame, Printed};
 
+use crate::checks::{cells, check, check_same};
 use std::alloc::{AllocError, Global};
 use std::process::Abort;
 use syslog_loose::{
@@ -61,14 +62,18 @@ fn relay(alloc: Global, line: &str, year: i32, local: &TimeZone<'_>) -> Result<S
     }
 }
 
-// A row is a line and what is printed of it, or a line that is sent as it came.
-fn check_relayed(rt: &impl Abort, alloc: Global, row: &str) {
-    let mut cells = row.split('¦');
-    let line = cells.next().unwrap_or("");
+// A row is a line and what is printed of it.
+fn check_printed(rt: &impl Abort, alloc: Global, row: &str) {
+    let (line, want) = cells(rt, row);
     match relay(alloc, line, 2019, &TimeZone::UTC).expect(rt, line) {
-        Sent::Printed(text) => assert!(rt; cells.next() == Some(text.as_str()), "{text}"),
-        Sent::AsItCame => assert!(rt; cells.next() == None, "{line}"),
+        Sent::Printed(text) => check_same(rt, text.as_str(), want, line),
+        Sent::AsItCame => check(rt, false, line),
     }
+}
+
+fn check_kept(rt: &impl Abort, alloc: Global, line: &str) {
+    let sent = relay(alloc, line, 2019, &TimeZone::UTC).expect(rt, line);
+    check(rt, matches!(sent, Sent::AsItCame), line);
 }
 
 #[test]
@@ -77,6 +82,10 @@ fn relays_lines(rt: HostRuntime) {
         "<34>1 2003-10-11T22:14:15.003Z h su - ID47 - message\
          ¦<34>1 2003-10-11T22:14:15.003+00:00 h su - ID47 - message",
         "<34>- h app[323]:  hi¦<34> - h app[323]: hi",
+    ] {
+        check_printed(&rt, rt.alloc(), row);
+    }
+    for line in &[
         // Printed, these are read as other messages.
         "<34>- app[x:y]: hi",
         "<34>- zork:: hi",
@@ -84,6 +93,6 @@ fn relays_lines(rt: HostRuntime) {
         "1 - - - - - - hi",
         "gobbledegook",
     ] {
-        check_relayed(&rt, rt.alloc(), row);
+        check_kept(&rt, rt.alloc(), line);
     }
 }

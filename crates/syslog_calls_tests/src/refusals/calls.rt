@@ -1,18 +1,18 @@
 //! Refused memory in each of the five reading calls and in `reads_differently`.
 use super::check_reading;
-use crate::reading::RULE;
+use crate::checks::{cells, check};
+use crate::dash_change::check_dash_change;
+use crate::reading::summer_rule;
 use jiff::Timestamp;
 use jiff::tz::TimeZone;
-use std::alloc::Global;
+use std::alloc::{AllocError, Global};
 use std::process::Abort;
-use std::test::Fail;
 use syslog_loose::{
     IncompleteDate, Message, ParseFault, Variant, parse_message, parse_message_with_year,
     parse_message_with_year_exact, parse_message_with_year_exact_tz, parse_message_with_year_tz,
-    reads_differently,
 };
 
-#[derive(Clone, Copy, Debug)]
+#[derive(Clone, Copy)]
 enum Call {
     Moment,
     Year,
@@ -29,6 +29,49 @@ const CALLS: [Call; 5] = [
     Call::ExactInZone,
 ];
 
+const YEAR: i32 = 2020;
+
+// The calls that answer the text itself where it has no reading.
+fn called_whole<'a>(
+    alloc: Global,
+    call: Call,
+    text: &'a str,
+    variant: Variant,
+    rule: &TimeZone<'_>,
+) -> Result<Message<&'a str>, AllocError> {
+    let year = |_: IncompleteDate| YEAR;
+    match call {
+        Call::Moment => {
+            // 2020-09-13T12:26:40Z
+            let now = Timestamp::from_second(1_600_000_000).unwrap_or(Timestamp::UNIX_EPOCH);
+            parse_message(alloc, text, variant, now, rule)
+        }
+        Call::Year => parse_message_with_year(alloc, text, year, variant, rule),
+        _ => {
+            let utc = TimeZone::UTC;
+            parse_message_with_year_tz(alloc, text, year, Some(rule), variant, &utc)
+        }
+    }
+}
+
+// The calls that answer none there.
+fn called_exact<'a>(
+    alloc: Global,
+    call: Call,
+    text: &'a str,
+    variant: Variant,
+    rule: &TimeZone<'_>,
+) -> Result<Message<&'a str>, ParseFault> {
+    let year = |_: IncompleteDate| YEAR;
+    match call {
+        Call::Exact => parse_message_with_year_exact(alloc, text, year, variant, rule),
+        _ => {
+            let utc = TimeZone::UTC;
+            parse_message_with_year_exact_tz(alloc, text, year, Some(rule), variant, &utc)
+        }
+    }
+}
+
 /// The message of the text in 2020 and by the rule, given or local. `Memory` stands for each call's refusal.
 fn called<'a>(
     alloc: Global,
@@ -37,24 +80,10 @@ fn called<'a>(
     variant: Variant,
     rule: &TimeZone<'_>,
 ) -> Result<Message<&'a str>, ParseFault> {
-    let year = |_: IncompleteDate| 2020;
-    match call {
-        Call::Moment => {
-            // 2020-09-13T12:26:40Z
-            let now = Timestamp::from_second(1_600_000_000).unwrap_or(Timestamp::UNIX_EPOCH);
-            Ok(parse_message(alloc, text, variant, now, rule)?)
-        }
-        Call::Year => Ok(parse_message_with_year(alloc, text, year, variant, rule)?),
-        Call::YearAndZone => {
-            let utc = TimeZone::UTC;
-            Ok(parse_message_with_year_tz(alloc, text, year, Some(rule), variant, &utc)?)
-        }
-        Call::Exact => parse_message_with_year_exact(alloc, text, year, variant, rule),
-        Call::ExactInZone => {
-            let utc = TimeZone::UTC;
-            parse_message_with_year_exact_tz(alloc, text, year, Some(rule), variant, &utc)
-        }
+    if is_exact(call) {
+        return called_exact(alloc, call, text, variant, rule);
     }
+    Ok(called_whole(alloc, call, text, variant, rule)?)
 }
 
 /// Lines with elements under a variant, and how each prints.
@@ -94,40 +123,49 @@ const LISTED: [(Variant, &str); 6] = [
     ),
 ];
 
+// The message of the text, at the second call where the first is refused.
+fn called_again<'a>(
+    alloc: Global,
+    call: Call,
+    text: &'a str,
+    variant: Variant,
+    rule: &TimeZone<'_>,
+) -> Result<Message<&'a str>, ParseFault> {
+    match called(alloc, call, text, variant, rule) {
+        Err(ParseFault::Memory) => called(alloc, call, text, variant, rule),
+        other => other,
+    }
+}
+
 fn check_listed_again(rt: &impl Abort, alloc: Global, call: Call, rule: &TimeZone<'_>) {
     for (variant, row) in &LISTED {
-        let (text, printed) = row.split_once('¦').expect(rt, row);
-        let answer = match called(alloc, call, text, *variant, rule) {
-            Err(ParseFault::Memory) => called(alloc, call, text, *variant, rule),
-            other => other,
-        };
+        let (text, printed) = cells(rt, row);
+        let answer = called_again(alloc, call, text, *variant, rule);
         check_reading(rt, answer, text, printed);
     }
 }
 
 #[test]
-fn answers_in_each_call_that_memory_was_refused(rt: HostRuntime) -> Result<(), Fail> {
-    let rule = TimeZone::posix(RULE)?;
+fn answers_in_each_call_that_memory_was_refused(rt: HostRuntime) {
+    let rule = summer_rule(&rt);
     for call in &CALLS {
         check_listed_again(&rt, rt.alloc(), *call, &rule);
     }
-    Ok(())
 }
 
 fn check_listed(rt: &impl Abort, alloc: Global, call: Call, rule: &TimeZone<'_>) {
     for (variant, row) in &LISTED {
-        let (text, printed) = row.split_once('¦').expect(rt, row);
+        let (text, printed) = cells(rt, row);
         check_reading(rt, called(alloc, call, text, *variant, rule), text, printed);
     }
 }
 
 #[test]
-fn sees_no_refusal_in_any_call(rt: HostRuntime) -> Result<(), Fail> {
-    let rule = TimeZone::posix(RULE)?;
+fn sees_no_refusal_in_any_call(rt: HostRuntime) {
+    let rule = summer_rule(&rt);
     for call in &CALLS {
         check_listed(&rt, rt.alloc(), *call, &rule);
     }
-    Ok(())
 }
 
 /// Texts without elements, and how each prints.
@@ -153,19 +191,18 @@ const UNLISTED: [&str; 14] = [
 
 fn check_unlisted(rt: &impl Abort, alloc: Global, call: Call, rule: &TimeZone<'_>) {
     for row in &UNLISTED {
-        let (text, printed) = row.split_once('¦').expect(rt, row);
+        let (text, printed) = cells(rt, row);
         let answer = called(alloc, call, text, Variant::Either, rule);
         check_reading(rt, answer, text, printed);
     }
 }
 
 #[test]
-fn asks_for_no_memory_in_any_call_without_elements(rt: HostRuntime) -> Result<(), Fail> {
-    let rule = TimeZone::posix(RULE)?;
+fn asks_for_no_memory_in_any_call_without_elements(rt: HostRuntime) {
+    let rule = summer_rule(&rt);
     for call in &CALLS {
         check_unlisted(&rt, rt.alloc(), *call, &rule);
     }
-    Ok(())
 }
 
 fn is_exact(call: Call) -> bool {
@@ -187,41 +224,28 @@ const UNREADABLE: [&str; 7] = [
 ];
 
 fn check_unreadable(rt: &impl Abort, alloc: Global, call: Call, text: &str, rule: &TimeZone<'_>) {
-    match called(alloc, call, text, Variant::Either, rule) {
-        Ok(message) => {
-            assert!(rt; !is_exact(call), "{call:?}: a message in {text}");
-            assert!(rt; message.msg == text, "{text}");
-        }
-        Err(fault) => {
-            assert!(rt; is_exact(call), "{call:?}: {fault} for {text}");
-            assert!(rt; fault == ParseFault::Invalid, "{text}");
-        }
+    let answer = called(alloc, call, text, Variant::Either, rule);
+    check(rt, answer.is_err() == is_exact(call), text);
+    match answer {
+        Ok(message) => check(rt, message.msg == text, text),
+        Err(fault) => check(rt, fault == ParseFault::Invalid, text),
     }
 }
 
 #[test]
-fn asks_for_no_memory_in_any_call_without_a_reading(rt: HostRuntime) -> Result<(), Fail> {
-    let rule = TimeZone::posix(RULE)?;
+fn asks_for_no_memory_in_any_call_without_a_reading(rt: HostRuntime) {
+    let rule = summer_rule(&rt);
     for call in &CALLS {
         for text in &UNREADABLE {
             check_unreadable(&rt, rt.alloc(), *call, text, &rule);
         }
-    }
-    Ok(())
-}
-
-fn check_differs(rt: &impl Abort, alloc: Global, text: &str, want: bool) {
-    let year = |_: IncompleteDate| 2019;
-    match reads_differently(alloc, text, year, None, Variant::Either, &TimeZone::UTC) {
-        Ok(differs) => assert!(rt; differs == want, "{text}"),
-        Err(_) => assert!(rt; false, "refused for {text}"),
     }
 }
 
 #[test]
 fn asks_for_no_memory_to_tell_differences(rt: HostRuntime) {
     for text in &["- h a: -5", "Oct 11 22:14:15 h a: -5"] {
-        check_differs(&rt, rt.alloc(), text, true);
+        check_dash_change(&rt, rt.alloc(), text, Variant::Either, true);
     }
     for text in &[
         "- h a: - x",
@@ -229,6 +253,6 @@ fn asks_for_no_memory_to_tell_differences(rt: HostRuntime) {
         "1 - - - - - [a b=\"c\"] -5",
         "gobbledegook",
     ] {
-        check_differs(&rt, rt.alloc(), text, false);
+        check_dash_change(&rt, rt.alloc(), text, Variant::Either, false);
     }
 }

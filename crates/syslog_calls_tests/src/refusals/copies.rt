@@ -1,5 +1,5 @@
 //! Refused memory in copies of messages and of elements, and in the values of parameters.
-use super::prints;
+use crate::checks::{check, check_param, prints};
 use crate::reading::read;
 use std::alloc::{AllocError, Global};
 use std::process::Abort;
@@ -38,30 +38,43 @@ fn source(alloc: Global, text: &str, tries: Tries) -> Result<Message<&str>, Pars
     }
 }
 
-// A copy of the message is the message again, and the message stays.
+// A copy of the message is the message again.
+fn is_cloned(alloc: Global, message: &Message<&str>, want: &str) -> Result<bool, AllocError> {
+    let copy = message.try_clone(alloc)?;
+    Ok(copy == *message && prints(&copy, want))
+}
+
 fn check_clone(rt: &impl Abort, alloc: Global, message: &Message<&str>, want: &str, tries: Tries) {
-    let copy = match message.try_clone(alloc) {
-        Err(AllocError) if tries == Tries::Twice => message.try_clone(alloc),
+    let holds = match is_cloned(alloc, message, want) {
+        Err(AllocError) if tries == Tries::Twice => is_cloned(alloc, message, want),
         other => other,
     };
-    match copy {
-        Ok(copy) => assert!(rt; copy == *message && prints(&copy, want)),
-        Err(_) => assert!(rt; false, "no copy"),
-    }
-    assert!(rt; prints(message, want));
+    check(rt, matches!(holds, Ok(true)), "a copy");
+    check(rt, prints(message, want), "the message that was copied");
 }
 
 // So is one over texts of its own, and a copy of that.
-fn check_owned(rt: &impl Abort, alloc: Global, message: &Message<&str>, want: &str, tries: Tries) {
-    let owned = match message.to_owned_text(alloc) {
+fn owned_of(
+    alloc: Global,
+    message: &Message<&str>,
+    tries: Tries,
+) -> Result<Message<String>, AllocError> {
+    match message.to_owned_text(alloc) {
         Err(AllocError) if tries == Tries::Twice => message.to_owned_text(alloc),
         other => other,
-    };
-    assert!(rt; prints(message, want));
-    match owned {
-        Ok(owned) => check_owned_clone(rt, alloc, &owned, want, tries),
-        Err(_) => assert!(rt; false, "no copy with texts of its own"),
     }
+}
+
+fn check_owned(rt: &impl Abort, alloc: Global, message: &Message<&str>, want: &str, tries: Tries) {
+    let owned = owned_of(alloc, message, tries).expect(rt, "a copy with texts of its own");
+    check(rt, prints(message, want), "the message that was copied");
+    check(rt, prints(&owned, want), "a copy with texts of its own");
+    check_owned_clone(rt, alloc, &owned, want, tries);
+}
+
+fn is_owned_cloned(alloc: Global, owned: &Message<String>, want: &str) -> Result<bool, AllocError> {
+    let copy = owned.try_clone(alloc)?;
+    Ok(copy == *owned && prints(&copy, want))
 }
 
 fn check_owned_clone(
@@ -71,16 +84,30 @@ fn check_owned_clone(
     want: &str,
     tries: Tries,
 ) {
-    assert!(rt; prints(owned, want));
-    let copy = match owned.try_clone(alloc) {
-        Err(AllocError) if tries == Tries::Twice => owned.try_clone(alloc),
+    let holds = match is_owned_cloned(alloc, owned, want) {
+        Err(AllocError) if tries == Tries::Twice => is_owned_cloned(alloc, owned, want),
         other => other,
     };
-    match copy {
-        Ok(copy) => assert!(rt; copy == *owned && prints(&copy, want)),
-        Err(_) => assert!(rt; false, "no copy of the copy"),
-    }
-    assert!(rt; prints(owned, want));
+    check(rt, matches!(holds, Ok(true)), "a copy of the copy");
+    check(rt, prints(owned, want), "the copy that was copied");
+}
+
+fn is_element_cloned(
+    alloc: Global,
+    element: &StructuredElement<&str>,
+    want: &str,
+) -> Result<bool, AllocError> {
+    let copy = element.try_clone(alloc)?;
+    Ok(copy == *element && prints(&copy, want))
+}
+
+fn is_element_owned(
+    alloc: Global,
+    element: &StructuredElement<&str>,
+    want: &str,
+) -> Result<bool, AllocError> {
+    let owned = element.to_owned_text(alloc)?;
+    Ok(prints(&owned, want))
 }
 
 // Both copies of an element that prints so.
@@ -91,50 +118,39 @@ fn check_element(
     want: &str,
     tries: Tries,
 ) {
-    let copy = match element.try_clone(alloc) {
-        Err(AllocError) if tries == Tries::Twice => element.try_clone(alloc),
+    let holds = match is_element_cloned(alloc, element, want) {
+        Err(AllocError) if tries == Tries::Twice => is_element_cloned(alloc, element, want),
         other => other,
     };
-    match copy {
-        Ok(copy) => assert!(rt; copy == *element && prints(&copy, want)),
-        Err(_) => assert!(rt; false, "no copy of {want}"),
-    }
-    check_owned_element(rt, alloc, element, want, tries);
-    assert!(rt; prints(element, want));
+    check(rt, matches!(holds, Ok(true)), want);
+    let holds = match is_element_owned(alloc, element, want) {
+        Err(AllocError) if tries == Tries::Twice => is_element_owned(alloc, element, want),
+        other => other,
+    };
+    check(rt, matches!(holds, Ok(true)), want);
+    check(rt, prints(element, want), want);
 }
 
-fn check_owned_element(
+fn check_elements(
     rt: &impl Abort,
     alloc: Global,
-    element: &StructuredElement<&str>,
-    want: &str,
+    elements: &[StructuredElement<&str>],
     tries: Tries,
 ) {
-    let owned = match element.to_owned_text(alloc) {
-        Err(AllocError) if tries == Tries::Twice => element.to_owned_text(alloc),
-        other => other,
-    };
-    match owned {
-        Ok(owned) => assert!(rt; prints(&owned, want)),
-        Err(_) => assert!(rt; false, "no copy of {want} with texts of its own"),
+    match elements {
+        [meta, origin] => {
+            check_element(rt, alloc, meta, META, tries);
+            check_element(rt, alloc, origin, ORIGIN, tries);
+        }
+        _ => check(rt, false, "not two elements"),
     }
 }
 
 fn check_copies(rt: &impl Abort, alloc: Global, text: &str, tries: Tries) {
-    match source(alloc, text, tries) {
-        Ok(message) => {
-            check_clone(rt, alloc, &message, text, tries);
-            check_owned(rt, alloc, &message, text, tries);
-            match message.structured_data.as_slice() {
-                [meta, origin] => {
-                    check_element(rt, alloc, meta, META, tries);
-                    check_element(rt, alloc, origin, ORIGIN, tries);
-                }
-                _ => assert!(rt; false, "not two elements in {text}"),
-            }
-        }
-        Err(fault) => assert!(rt; false, "{fault} in place of a message"),
-    }
+    let message = source(alloc, text, tries).expect(rt, text);
+    check_clone(rt, alloc, &message, text, tries);
+    check_owned(rt, alloc, &message, text, tries);
+    check_elements(rt, alloc, &message.structured_data, tries);
 }
 
 #[test]
@@ -156,32 +172,35 @@ fn refused_values(rt: &impl Abort, alloc: Global, element: &StructuredElement<&s
     let mut wanted = PARAMETERS.split('|');
     let mut refused = 0usize;
     for item in element.params(alloc) {
-        let name = wanted.next();
-        let plain = wanted.next();
+        let name = wanted.next().unwrap_or("");
+        let plain = wanted.next().unwrap_or("");
         match item {
-            Ok((found, value)) => {
-                assert!(rt; name == Some(*found) && plain == Some(value.as_str()));
-            }
+            Ok((found, value)) => check_param(rt, (*found, value.as_str()), name, plain),
             Err(_) => refused = refused.saturating_add(1),
         }
     }
-    assert!(rt; wanted.next().is_none());
+    check(rt, wanted.next().is_none(), PARAMETERS);
     refused
 }
 
+fn check_element_values(
+    rt: &impl Abort,
+    alloc: Global,
+    element: &StructuredElement<&str>,
+    tries: Tries,
+) {
+    let mut refused = refused_values(rt, alloc, element);
+    if tries == Tries::Twice && refused == 1 {
+        refused = refused_values(rt, alloc, element);
+    }
+    check(rt, refused == 0, VALUED);
+}
+
 fn check_values(rt: &impl Abort, alloc: Global, tries: Tries) {
-    match source(alloc, VALUED, tries) {
-        Ok(message) => {
-            for element in &message.structured_data {
-                let refused = refused_values(rt, alloc, element);
-                if tries == Tries::Twice && refused == 1 {
-                    assert!(rt; refused_values(rt, alloc, element) == 0);
-                } else {
-                    assert!(rt; refused == 0);
-                }
-            }
-        }
-        Err(fault) => assert!(rt; false, "{fault} in place of a message"),
+    let message = source(alloc, VALUED, tries).expect(rt, VALUED);
+    match message.structured_data.as_slice() {
+        [element] => check_element_values(rt, alloc, element, tries),
+        _ => check(rt, false, VALUED),
     }
 }
 

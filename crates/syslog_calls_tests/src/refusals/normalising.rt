@@ -1,6 +1,6 @@
 //! Refused memory where a text is read and normalised.
-use super::check_text;
-use crate::reading::{check_no_text, normalised, read};
+use crate::checks::{cells, check, check_no_text, check_text};
+use crate::reading::{normalised, read};
 use std::alloc::Global;
 use std::process::Abort;
 use syslog_loose::{ParseFault, Variant};
@@ -21,7 +21,7 @@ const NORMALISED: [&str; 7] = [
 ];
 
 fn check_again(rt: &impl Abort, alloc: Global, row: &str) {
-    let (text, want) = row.split_once('¦').expect(rt, row);
+    let (text, want) = cells(rt, row);
     let answer = match normalised(alloc, text, 2019, None) {
         Err(ParseFault::Memory) => normalised(alloc, text, 2019, None),
         other => other,
@@ -37,7 +37,7 @@ fn answers_that_memory_was_refused_and_then_as_ever(rt: HostRuntime) {
 }
 
 fn check_once(rt: &impl Abort, alloc: Global, row: &str) {
-    let (text, want) = row.split_once('¦').expect(rt, row);
+    let (text, want) = cells(rt, row);
     check_text(rt, normalised(alloc, text, 2019, None), want);
 }
 
@@ -48,21 +48,18 @@ fn sees_no_refusal(rt: HostRuntime) {
     }
 }
 
-// A row is a text and its message, which are read at once, with no request that could be refused; or a text without a
-// reading.
+// A row is a text and its message, which are read at once, with no request that could be refused.
 fn check_at_once(rt: &impl Abort, alloc: Global, row: &str) {
-    let mut cells = row.split('¦');
-    let text = cells.next().unwrap_or("");
-    match read(alloc, text, Variant::Either) {
-        Ok(message) => {
-            assert!(rt; message.structured_data.is_empty(), "{text}");
-            assert!(rt; cells.next() == Some(message.msg), "{text}");
-        }
-        Err(fault) => {
-            assert!(rt; fault == ParseFault::Invalid, "{fault} in {text}");
-            assert!(rt; cells.next() == None, "{fault} in {text}");
-        }
-    }
+    let (text, want) = cells(rt, row);
+    let message = read(alloc, text, Variant::Either).expect(rt, text);
+    check(rt, message.structured_data.is_empty(), text);
+    check(rt, message.msg == want, text);
+}
+
+// So is it found that a text has no reading.
+fn check_unread(rt: &impl Abort, alloc: Global, text: &str) {
+    let answer = read(alloc, text, Variant::Either);
+    check(rt, matches!(answer, Err(ParseFault::Invalid)), text);
 }
 
 #[test]
@@ -72,10 +69,11 @@ fn asks_for_no_memory_without_elements(rt: HostRuntime) {
         "<200>1 - - - - - -¦",
         "1 - h a +5 m - x¦x",
         "1 - h a 2147483648 m - x¦x",
-        "<256>1 - - - - - -",
-        "1 - h: a 1 m - x",
     ] {
         check_at_once(&rt, rt.alloc(), row);
+    }
+    for text in &["<256>1 - - - - - -", "1 - h: a 1 m - x"] {
+        check_unread(&rt, rt.alloc(), text);
     }
 }
 

@@ -1,6 +1,6 @@
 //! Refused memory in rounds.
-use super::check_text;
-use crate::reading::{check_no_text, settled};
+use crate::checks::{cells, check, check_no_text, check_same, check_text};
+use crate::reading::settled;
 use jiff::tz::TimeZone;
 use std::alloc::Global;
 use std::process::Abort;
@@ -17,7 +17,7 @@ const SETTLED: [&str; 5] = [
 ];
 
 fn check_again(rt: &impl Abort, alloc: Global, row: &str) {
-    let (text, want) = row.split_once('¦').expect(rt, row);
+    let (text, want) = cells(rt, row);
     let answer = match settled(alloc, text, 2019, None) {
         Err(ParseFault::Memory) => settled(alloc, text, 2019, None),
         other => other,
@@ -45,26 +45,34 @@ fn settled_into(alloc: Global, text: &mut String, line: &str) -> Result<(), Pars
     )
 }
 
+// At the second call where the first is refused.
+fn settled_into_again(alloc: Global, text: &mut String, line: &str) -> Result<(), ParseFault> {
+    match settled_into(alloc, text, line) {
+        Err(ParseFault::Memory) => settled_into(alloc, text, line),
+        other => other,
+    }
+}
+
 #[test]
 fn answers_line_after_line_in_one_text(rt: HostRuntime) {
-    let alloc = rt.alloc();
-    let mut text = String::new(alloc);
+    let mut text = String::new(rt.alloc());
     for row in &SETTLED {
-        let (line, want) = row.split_once('¦').expect(&rt, row);
-        let answer = match settled_into(alloc, &mut text, line) {
-            Err(ParseFault::Memory) => settled_into(alloc, &mut text, line),
-            other => other,
-        };
-        assert!(rt; answer.is_ok());
-        assert!(rt; text.as_str() == want, "{text} in place of {want}");
+        let (line, want) = cells(&rt, row);
+        let answer = settled_into_again(rt.alloc(), &mut text, line);
+        check(&rt, answer.is_ok(), line);
+        check_same(&rt, text.as_str(), want, line);
     }
+}
+
+fn check_once(rt: &impl Abort, alloc: Global, row: &str) {
+    let (text, want) = cells(rt, row);
+    check_text(rt, settled(alloc, text, 2019, None), want);
 }
 
 #[test]
 fn sees_no_refusal_of_a_round(rt: HostRuntime) {
     for row in &SETTLED {
-        let (text, want) = row.split_once('¦').expect(&rt, row);
-        check_text(&rt, settled(rt.alloc(), text, 2019, None), want);
+        check_once(&rt, rt.alloc(), row);
     }
 }
 

@@ -1,10 +1,10 @@
 //! Lines that settle: in which round, and with which text; and that it is what normalising by hand comes to.
-use super::{by_hand, expect_as_by_hand};
-use crate::reading::{check_no_text, normalised, settled};
+use super::{by_hand, expect_as_by_hand, expect_normalised, expect_settled_as, zone_at};
+use crate::checks::{cells, check, check_no_text, check_same};
+use crate::reading::settled;
 use std::alloc::Global;
 use std::process::Abort;
-use std::test::Fail;
-use syslog_loose::{IncompleteDate, Offset, TimeZone, Variant, settle};
+use syslog_loose::{IncompleteDate, ParseFault, TimeZone, Variant, settle};
 
 /// The text settles in this round, as this text.
 fn expect_settled(
@@ -17,23 +17,14 @@ fn expect_settled(
     want: &str,
 ) {
     let (by_hand, rounds) = by_hand(alloc, text, year, tz).expect(rt, text);
-    assert!(rt; by_hand.as_str() == want, "{text}: {by_hand}");
-    assert!(rt; rounds == round, "{text}: {rounds}");
-    let settled = settled(alloc, text, year, Some(tz)).expect(rt, text);
-    assert!(rt; settled.as_str() == want, "{text}: {settled}");
+    check_same(rt, by_hand.as_str(), want, text);
+    check(rt, rounds == round, text);
+    expect_settled_as(rt, alloc, text, year, tz, want);
 }
 
-// So the text is normalised.
-fn expect_normalised(
-    rt: &impl Abort,
-    alloc: Global,
-    text: &str,
-    year: i32,
-    tz: &TimeZone<'_>,
-    want: &str,
-) {
-    let once = normalised(alloc, text, year, Some(tz)).expect(rt, text);
-    assert!(rt; once.as_str() == want, "{text}: {once}");
+fn check_round_one(rt: &impl Abort, alloc: Global, row: &str) {
+    let (text, want) = cells(rt, row);
+    expect_settled(rt, alloc, text, 2019, &TimeZone::UTC, 1, want);
 }
 
 #[test]
@@ -45,15 +36,14 @@ fn settles_in_round_one(rt: HostRuntime) {
         "<34>Oct 11 22:14:15 mymachine app[323]: a message\
          ¦<34> 2019-10-11T22:14:15+00:00 mymachine app[323]: a message",
     ] {
-        let (text, want) = row.split_once('¦').expect(&rt, row);
-        expect_settled(&rt, rt.alloc(), text, 2019, &TimeZone::UTC, 1, want);
+        check_round_one(&rt, rt.alloc(), row);
     }
 }
 
 // A row is a text, as what it is normalised, and as what it settles.
 fn check_rounds(rt: &impl Abort, alloc: Global, round: usize, row: &str) {
-    let (text, rest) = row.split_once('¦').expect(rt, row);
-    let (first, last) = rest.split_once('¦').expect(rt, row);
+    let (text, rest) = cells(rt, row);
+    let (first, last) = cells(rt, rest);
     expect_normalised(rt, alloc, text, 2019, &TimeZone::UTC, first);
     expect_settled(rt, alloc, text, 2019, &TimeZone::UTC, round, last);
 }
@@ -80,47 +70,50 @@ fn settles_a_year_before_zero_that_prints_as_a_dash(rt: HostRuntime) {
 const OCTOBER: &str = "Oct 11 22:14:15 h a: m";
 
 #[test]
-fn settles_an_offset_that_prints_as_another(rt: HostRuntime) -> Result<(), Fail> {
-    let seconds = TimeZone::fixed(Offset::from_seconds(-20)?);
+fn settles_an_offset_that_prints_as_another(rt: HostRuntime) {
+    let seconds = zone_at(&rt, -20);
     let once = "<47> 2019-10-11T22:14:15-00:00 h a: m";
     expect_normalised(&rt, rt.alloc(), OCTOBER, 2019, &seconds, once);
     let want = "<47> 2019-10-11T22:14:15+00:00 h a: m";
     expect_settled(&rt, rt.alloc(), OCTOBER, 2019, &seconds, 2, want);
-    Ok(())
 }
 
 #[test]
-fn settles_no_offset_of_a_day(rt: HostRuntime) -> Result<(), Fail> {
-    let day = TimeZone::fixed(Offset::from_seconds(86_400)?);
+fn settles_no_offset_of_a_day(rt: HostRuntime) {
+    let day = zone_at(&rt, 86_400);
     let once = "<47> 2019-10-11T22:14:15+24:00 h a: m";
     expect_normalised(&rt, rt.alloc(), OCTOBER, 2019, &day, once);
-    check_no_text(&rt, settled(rt.alloc(), OCTOBER, 2019, Some(&day)), OCTOBER);
-    Ok(())
+    check_unsettled(&rt, rt.alloc(), OCTOBER, &day);
+}
+
+fn check_unsettled(rt: &impl Abort, alloc: Global, text: &str, tz: &TimeZone<'_>) {
+    check_no_text(rt, settled(alloc, text, 2019, Some(tz)), text);
 }
 
 #[test]
 fn settles_no_text_without_a_division(rt: HostRuntime) {
     for text in &["", "  ", "<256>1 - - - - - -", "<34>Feb 30 10:00:00 h a: m"] {
-        check_no_text(
-            &rt,
-            settled(rt.alloc(), text, 2019, Some(&TimeZone::UTC)),
-            text,
-        );
+        check_unsettled(&rt, rt.alloc(), text, &TimeZone::UTC);
     }
 }
 
-// A row is a text and as what it settles.
-fn check_asked(rt: &impl Abort, alloc: Global, row: &str, asked: bool) {
-    let (text, want) = row.split_once('¦').expect(rt, row);
+// What the text settles as, and whether a year was asked for.
+fn settled_asking(alloc: Global, text: &str) -> Result<(String, bool), ParseFault> {
     let mut called = false;
     let year = |_: IncompleteDate| {
         called = true;
         -1
     };
-    let settled = settle(alloc, text, year, None, Variant::Either, &TimeZone::UTC);
-    let settled = settled.expect(rt, text);
-    assert!(rt; settled.as_str() == want, "{text}: {settled}");
-    assert!(rt; called == asked, "{text}");
+    let text = settle(alloc, text, year, None, Variant::Either, &TimeZone::UTC)?;
+    Ok((text, called))
+}
+
+// A row is a text and as what it settles.
+fn check_asked(rt: &impl Abort, alloc: Global, row: &str, asked: bool) {
+    let (text, want) = cells(rt, row);
+    let (settled, called) = settled_asking(alloc, text).expect(rt, text);
+    check_same(rt, settled.as_str(), want, text);
+    check(rt, called == asked, text);
 }
 
 #[test]
@@ -174,13 +167,16 @@ fn expect_hard_texts(rt: &impl Abort, alloc: Global, year: i32, tz: &TimeZone<'_
     }
 }
 
-#[test]
-fn settles_hard_texts_as_normalising_by_hand_does(rt: HostRuntime) -> Result<(), Fail> {
-    for seconds in &[0, 20, -20, 30, 5400, -86_370, 86_399] {
-        let zone = TimeZone::fixed(Offset::from_seconds(*seconds)?);
-        for year in &[2019, 0, -1, 9999] {
-            expect_hard_texts(&rt, rt.alloc(), *year, &zone);
-        }
+fn expect_hard_years(rt: &impl Abort, alloc: Global, seconds: i32) {
+    let zone = zone_at(rt, seconds);
+    for year in &[2019, 0, -1, 9999] {
+        expect_hard_texts(rt, alloc, *year, &zone);
     }
-    Ok(())
+}
+
+#[test]
+fn settles_hard_texts_as_normalising_by_hand_does(rt: HostRuntime) {
+    for seconds in &[0, 20, -20, 30, 5400, -86_370, 86_399] {
+        expect_hard_years(&rt, rt.alloc(), *seconds);
+    }
 }

@@ -1,0 +1,66 @@
+//! What the tests assert. Each assertion stands here once, since the message of each is proved too.
+use std::fmt;
+use std::fmt::Write;
+use std::process::Abort;
+use syslog_loose::ParseFault;
+
+/// The row is as it should be.
+pub(super) fn check(rt: &impl Abort, holds: bool, row: &str) {
+    assert!(rt; holds, "{row}");
+}
+
+/// What came of the row is this text.
+pub(super) fn check_same(rt: &impl Abort, found: &str, want: &str, row: &str) {
+    assert!(rt; found == want, "{row}: {found}");
+}
+
+/// The parameter has this name and this value.
+pub(super) fn check_param(rt: &impl Abort, param: (&str, &str), name: &str, value: &str) {
+    check_same(rt, param.0, name, name);
+    check_same(rt, param.1, value, name);
+}
+
+/// The answer is this text.
+pub(super) fn check_text(rt: &impl Abort, answer: Result<String, ParseFault>, want: &str) {
+    match answer {
+        Ok(printed) => check_same(rt, printed.as_str(), want, want),
+        Err(_) => check(rt, false, want),
+    }
+}
+
+/// The text was not printed, since it has no division.
+pub(super) fn check_no_text(rt: &impl Abort, answer: Result<String, ParseFault>, text: &str) {
+    check(rt, matches!(answer, Err(ParseFault::Invalid)), text);
+}
+
+/// The first cell of a row, and those behind it.
+pub(super) fn cells<'a>(rt: &impl Abort, row: &'a str) -> (&'a str, &'a str) {
+    row.split_once('¦').expect(rt, row)
+}
+
+/// Compares what is written with a text, and takes no memory.
+#[derive(Drop)]
+struct Comparison<'a> {
+    rest: &'a str,
+    differs: bool,
+}
+
+impl fmt::Write for Comparison<'_> {
+    fn write_str(&mut self, text: &str) -> fmt::Result {
+        match self.rest.strip_prefix(text) {
+            Some(rest) => self.rest = rest,
+            None => self.differs = true,
+        }
+        Ok(())
+    }
+}
+
+/// Whether it prints as this text.
+pub(super) fn prints<D: fmt::Display>(it: &D, want: &str) -> bool {
+    let mut comparison = Comparison {
+        rest: want,
+        differs: false,
+    };
+    let written = write!(comparison, "{it}");
+    written.is_ok() && !comparison.differs && comparison.rest.is_empty()
+}
