@@ -196,6 +196,17 @@ fn is_value<S: AsStr>(name: &S, value: &str, want: Option<&str>, plain: Option<&
     is_text(want, name.as_str()) && is_text(plain, value)
 }
 
+fn is_item<S: AsStr>(
+    item: &Result<(&S, String), AllocError>,
+    want: Option<&str>,
+    plain: Option<&str>,
+) -> bool {
+    match item {
+        Ok((name, value)) => is_value(*name, value.as_str(), want, plain),
+        Err(_) => false,
+    }
+}
+
 // The values without their escapes are those of the line.
 fn has_values<S: AsStr>(alloc: Global, element: &StructuredElement<S>, line: &str) -> bool {
     let mut texts = line.split('|');
@@ -203,11 +214,7 @@ fn has_values<S: AsStr>(alloc: Global, element: &StructuredElement<S>, line: &st
         return false;
     }
     for item in element.params(alloc) {
-        let same = match item {
-            Ok((name, value)) => is_value(name, value.as_str(), texts.next(), texts.next()),
-            Err(_) => false,
-        };
-        if !same {
+        if !is_item(&item, texts.next(), texts.next()) {
             return false;
         }
     }

@@ -10,9 +10,9 @@ use syslog_pieces::structured_data::rfc3164_list::{DashRule, begins_list, option
 pub(super) type OptionalList<'a> = (Option<Vec<StructuredElement<&'a str>>>, &'a str);
 
 // The elements are those of the row, and what the row leaves stands behind them; or there is no list, and the text stays.
-fn is_optional_list(row: &str, list: Option<Vec<StructuredElement<&str>>>, rest: &str) -> bool {
+fn is_optional_list(row: &str, list: &Option<Vec<StructuredElement<&str>>>, rest: &str) -> bool {
     match list {
-        Some(elements) => has_elements(&elements, row) && rest == left_of(row),
+        Some(elements) => has_elements(elements, row) && rest == left_of(row),
         None => answer_of(row).is_none() && rest == row,
     }
 }
@@ -23,8 +23,8 @@ pub(super) fn check_read_optional(
     row: &str,
     read: Result<OptionalList<'_>, AllocError>,
 ) {
-    let same = match read {
-        Ok((list, rest)) => is_optional_list(row, list, rest),
+    let same = match &read {
+        Ok((list, rest)) => is_optional_list(row, list, *rest),
         Err(_) => false,
     };
     check(rt, same, row);
