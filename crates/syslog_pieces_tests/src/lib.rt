@@ -16,3 +16,5 @@ mod structured_data;
 mod text;
 #[cfg(test)]
 mod timestamp;
+#[cfg(test)]
+mod tries;

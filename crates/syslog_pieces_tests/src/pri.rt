@@ -1,5 +1,4 @@
-use super::rows::{answer_of, left_of, text_of};
-use std::process::Abort;
+use super::rows::{answer_of, check, is_text, left_of, reads_as, text_of};
 use syslog_pieces::pri::{
     SyslogFacility, SyslogSeverity, decompose_pri, optional_priority, priority,
 };
@@ -52,52 +51,90 @@ const SEVERITIES: [SyslogSeverity; 8] = [
 /// Their names in that order.
 const SEVERITY_NAMES: &str = "emerg alert crit err warning notice info debug";
 
-fn check_facility(rt: &impl Abort, facility: SyslogFacility, number: usize) {
-    assert!(rt; facility as usize == number, "{number}");
-    assert!(rt; i32::try_from(number) == Ok(facility as i32), "{number}");
-    let name = FACILITY_NAMES.split(' ').nth(number);
-    assert!(rt; name == Some(facility.as_str()), "{number}");
-    for before in FACILITIES.iter().take(number) {
-        assert!(rt; *before < facility && *before != facility, "{number}");
+fn is_number_of(number: usize, discriminant: i32) -> bool {
+    match i32::try_from(number) {
+        Ok(number) => number == discriminant,
+        Err(_) => false,
     }
 }
 
-fn check_severity(rt: &impl Abort, severity: SyslogSeverity, number: usize) {
-    assert!(rt; severity as usize == number, "{number}");
-    assert!(rt; i32::try_from(number) == Ok(severity as i32), "{number}");
-    let name = SEVERITY_NAMES.split(' ').nth(number);
-    assert!(rt; name == Some(severity.as_str()), "{number}");
-    for before in SEVERITIES.iter().take(number) {
-        assert!(rt; *before < severity && *before != severity, "{number}");
-    }
+fn is_facility(facility: SyslogFacility, number: usize) -> bool {
+    facility as usize == number
+        && is_number_of(number, facility as i32)
+        && is_text(FACILITY_NAMES.split(' ').nth(number), facility.as_str())
+}
+
+fn is_severity(severity: SyslogSeverity, number: usize) -> bool {
+    severity as usize == number
+        && is_number_of(number, severity as i32)
+        && is_text(SEVERITY_NAMES.split(' ').nth(number), severity.as_str())
+}
+
+// Derived orders are proved slowly: each is asked in one place.
+fn is_lesser_facility(one: &SyslogFacility, other: &SyslogFacility) -> bool {
+    *one < *other && *one != *other
+}
+
+fn is_lesser_severity(one: &SyslogSeverity, other: &SyslogSeverity) -> bool {
+    *one < *other && *one != *other
 }
 
 #[test]
-fn numbers_names_and_orders_each_facility(rt: HostRuntime) {
+fn numbers_and_names_each_facility(rt: HostRuntime) {
     for (number, facility) in FACILITIES.iter().enumerate() {
-        check_facility(&rt, *facility, number);
+        check(&rt, is_facility(*facility, number), facility.as_str());
     }
-    assert!(rt; SyslogFacility::LOG_CRON as i32 == 9);
+    check(&rt, SyslogFacility::LOG_CRON as i32 == 9, "cron");
 }
 
 #[test]
-fn numbers_names_and_orders_each_severity(rt: HostRuntime) {
+fn numbers_and_names_each_severity(rt: HostRuntime) {
     for (number, severity) in SEVERITIES.iter().enumerate() {
-        check_severity(&rt, *severity, number);
+        check(&rt, is_severity(*severity, number), severity.as_str());
+    }
+}
+
+#[test]
+fn orders_each_facility(rt: HostRuntime) {
+    for (number, facility) in FACILITIES.iter().enumerate() {
+        for before in FACILITIES.iter().take(number) {
+            check(&rt, is_lesser_facility(before, facility), facility.as_str());
+        }
+    }
+}
+
+#[test]
+fn orders_each_severity(rt: HostRuntime) {
+    for (number, severity) in SEVERITIES.iter().enumerate() {
+        for before in SEVERITIES.iter().take(number) {
+            check(&rt, is_lesser_severity(before, severity), severity.as_str());
+        }
+    }
+}
+
+fn facility_name(facility: Option<SyslogFacility>) -> &'static str {
+    match facility {
+        Some(facility) => facility.as_str(),
+        None => "",
+    }
+}
+
+fn severity_name(severity: Option<SyslogSeverity>) -> &'static str {
+    match severity {
+        Some(severity) => severity.as_str(),
+        None => "",
     }
 }
 
 // A row is a priority, the facility, which may be none, and the severity.
-fn check_parts(rt: &impl Abort, row: &str) {
-    let pri = text_of(row).parse::<u8>().expect(rt, "no priority");
-    let (facility, severity) = decompose_pri(pri);
-    let facility = facility.map_or("", SyslogFacility::as_str);
-    let severity = severity.map_or("", SyslogSeverity::as_str);
-    assert!(rt;
-        Some(facility) == answer_of(row),
-        "facility of {pri}: {facility}"
-    );
-    assert!(rt; severity == left_of(row), "severity of {pri}: {severity}");
+fn has_parts(row: &str) -> bool {
+    match text_of(row).parse::<u8>() {
+        Ok(pri) => {
+            let (facility, severity) = decompose_pri(pri);
+            reads_as(row, facility_name(facility), severity_name(severity))
+        }
+        Err(_) => false,
+    }
 }
 
 #[test]
@@ -110,7 +147,7 @@ fn decomposes_a_priority(rt: HostRuntime) {
         "192¦¦emerg",
         "255¦¦debug",
     ] {
-        check_parts(&rt, row);
+        check(&rt, has_parts(row), row);
     }
 }
 
@@ -118,23 +155,30 @@ fn decomposes_a_priority(rt: HostRuntime) {
 fn composes_what_it_decomposed(rt: HostRuntime) {
     match decompose_pri(165) {
         (Some(facility), Some(severity)) => {
-            assert!(rt; facility as u32 * 8 + severity as u32 == 165);
+            check(&rt, facility as u32 * 8 + severity as u32 == 165, "165");
         }
-        _ => assert!(rt; false, "no facility or no severity"),
+        _ => check(&rt, false, "no facility or no severity"),
+    }
+}
+
+fn is_number(digits: &str, number: u8) -> bool {
+    match digits.parse::<u8>() {
+        Ok(want) => want == number,
+        Err(_) => false,
     }
 }
 
 // A row is a text, the number of the priority at its front, and what is left; or the text of no priority.
-fn is_number(row: &str, number: u8, rest: &str) -> bool {
+fn has_number(row: &str, number: u8, rest: &str) -> bool {
     match answer_of(row) {
-        Some(want) => want.parse() == Ok(number) && rest == left_of(row),
+        Some(want) => is_number(want, number) && rest == left_of(row),
         None => false,
     }
 }
 
 fn is_priority(row: &str) -> bool {
     match priority(text_of(row)) {
-        Some((number, rest)) => is_number(row, number, rest),
+        Some((number, rest)) => has_number(row, number, rest),
         None => answer_of(row).is_none(),
     }
 }
@@ -142,7 +186,7 @@ fn is_priority(row: &str) -> bool {
 // What is no priority stays whole.
 fn is_optional_priority(row: &str) -> bool {
     match optional_priority(text_of(row)) {
-        (Some(number), rest) => is_number(row, number, rest),
+        (Some(number), rest) => has_number(row, number, rest),
         (None, rest) => answer_of(row).is_none() && rest == row,
     }
 }
@@ -156,7 +200,7 @@ fn reads_a_priority(rt: HostRuntime) {
         "<0034> x¦34¦ x",
         "<34><34>¦34¦<34>",
     ] {
-        assert!(rt; is_priority(row) && is_optional_priority(row), "{row}");
+        check(&rt, is_priority(row) && is_optional_priority(row), row);
     }
 }
 
@@ -177,6 +221,6 @@ fn leaves_a_text_without_a_priority(rt: HostRuntime) {
         "<\u{663}>",
         " <34>",
     ] {
-        assert!(rt; is_priority(row) && is_optional_priority(row), "{row}");
+        check(&rt, is_priority(row) && is_optional_priority(row), row);
     }
 }

@@ -1,9 +1,8 @@
 mod refusals;
 
-use super::rows::{answer_of, left_of, text_of};
+use super::rows::{answer_of, check, is_text, left_of, reads_as, text_of};
 use std::alloc::Global;
 use std::process::Abort;
-use std::test::Fail;
 use syslog_pieces::as_str::AsStr;
 use syslog_pieces::procid::{ProcId, process_word};
 
@@ -15,6 +14,21 @@ fn number<S: AsStr>(procid: &ProcId<S>) -> Option<i32> {
     }
 }
 
+fn is_pid_of<S: AsStr>(procid: &ProcId<S>, want: i32) -> bool {
+    match number(procid) {
+        Some(number) => number == want,
+        None => false,
+    }
+}
+
+fn is_same_number(one: Option<i32>, other: Option<i32>) -> bool {
+    match (one, other) {
+        (Some(one), Some(other)) => one == other,
+        (None, None) => true,
+        _ => false,
+    }
+}
+
 fn name<'a>(procid: &ProcId<&'a str>) -> Option<&'a str> {
     match procid {
         ProcId::PID(_) => None,
@@ -22,21 +36,30 @@ fn name<'a>(procid: &ProcId<&'a str>) -> Option<&'a str> {
     }
 }
 
+fn is_name(procid: &ProcId<&str>, want: &str) -> bool {
+    is_text(name(procid), want)
+}
+
+fn is_pid(digits: &str, number: i32) -> bool {
+    match digits.parse::<i32>() {
+        Ok(want) => want == number,
+        Err(_) => false,
+    }
+}
+
 // The cell of a process id is `pid` and a number, or `name` and a name.
-fn check_process(rt: &impl Abort, row: &str, procid: &ProcId<&str>) {
-    let (kind, want) = answer_of(row)
-        .unwrap_or("")
-        .split_once(' ')
-        .expect(rt, "no process id");
-    match procid {
-        ProcId::PID(number) => {
-            assert!(rt; kind == "pid", "{row:?}");
-            assert!(rt; want.parse() == Ok(*number), "{row:?} reads as {number}");
-        }
-        ProcId::Name(name) => {
-            assert!(rt; kind == "name", "{row:?}");
-            assert!(rt; want == *name, "{row:?} reads as {name:?}");
-        }
+fn is_process(procid: &ProcId<&str>, cell: &str) -> bool {
+    match (procid, cell.split_once(' ')) {
+        (ProcId::PID(number), Some(("pid", want))) => is_pid(want, *number),
+        (ProcId::Name(name), Some(("name", want))) => want == *name,
+        _ => false,
+    }
+}
+
+fn reads_as_process(row: &str, procid: &ProcId<&str>) -> bool {
+    match answer_of(row) {
+        Some(cell) => is_process(procid, cell),
+        None => false,
     }
 }
 
@@ -54,7 +77,7 @@ fn takes_a_text_of_thirty_two_bits_as_a_number(rt: HostRuntime) {
         "2147483647¦pid 2147483647",
         "-00002147483648¦pid -2147483648",
     ] {
-        check_process(&rt, row, &ProcId::from(text_of(row)));
+        check(&rt, reads_as_process(row, &ProcId::from(text_of(row))), row);
     }
 }
 
@@ -79,50 +102,63 @@ fn takes_any_other_text_as_a_name(rt: HostRuntime) {
         "\u{2212}1",
         "x:y",
     ] {
-        assert!(rt; name(&ProcId::from(*text)) == Some(*text), "{text:?}");
+        check(&rt, is_name(&ProcId::from(*text), text), text);
     }
 }
 
-fn check_printed<S: AsStr>(rt: &impl Abort, alloc: Global, procid: &ProcId<S>, want: &str) {
-    let printed = format!(in alloc; "{procid}").expect(rt, "no memory");
-    assert!(rt; printed.as_str() == want, "{printed}");
+fn prints_as<S: AsStr>(alloc: Global, procid: &ProcId<S>, want: &str) -> bool {
+    match format!(in alloc; "{procid}") {
+        Ok(printed) => printed.as_str() == want,
+        Err(_) => false,
+    }
 }
 
 #[test]
 fn prints_the_number(rt: HostRuntime) {
     for row in &["+5¦5", "-0¦0", "-007¦-7", "2147483648¦2147483648"] {
         let want = answer_of(row).unwrap_or("");
-        check_printed(&rt, rt.alloc(), &ProcId::from(text_of(row)), want);
+        check(
+            &rt,
+            prints_as(rt.alloc(), &ProcId::from(text_of(row)), want),
+            row,
+        );
     }
-    let least: ProcId<String> = ProcId::PID(i32::MIN);
-    assert!(rt; number(&least) == Some(i32::MIN));
-    check_printed(&rt, rt.alloc(), &least, "-2147483648");
 }
 
-fn check_name(rt: &impl Abort, alloc: Global, text: &str) {
-    check_printed(rt, alloc, &ProcId::Name(text), text);
-    let owned = ProcId::Name(String::from_str(alloc, text).expect(rt, "no memory"));
-    assert!(rt; number(&owned).is_none());
-    check_printed(rt, alloc, &owned, text);
+#[test]
+fn prints_the_number_of_an_owner(rt: HostRuntime) {
+    let least: ProcId<String> = ProcId::PID(i32::MIN);
+    check(&rt, is_pid_of(&least, i32::MIN), "the least");
+    check(
+        &rt,
+        prints_as(rt.alloc(), &least, "-2147483648"),
+        "prints the least",
+    );
+}
+
+fn prints_an_owned_name(alloc: Global, text: &str) -> bool {
+    match String::from_str(alloc, text) {
+        Ok(name) => {
+            let owned = ProcId::Name(name);
+            number(&owned).is_none() && prints_as(alloc, &owned, text)
+        }
+        Err(_) => false,
+    }
 }
 
 #[test]
 fn prints_the_name(rt: HostRuntime) {
     for text in &["", "x:y", "\u{663}", "größe"] {
-        check_name(&rt, rt.alloc(), text);
+        check(&rt, prints_as(rt.alloc(), &ProcId::Name(*text), text), text);
+        check(&rt, prints_an_owned_name(rt.alloc(), text), text);
     }
 }
 
-fn check_process_word(rt: &impl Abort, row: &str) {
+fn is_process_word(row: &str) -> bool {
     match process_word(text_of(row)) {
-        Some((procid, rest)) => {
-            match procid {
-                Some(procid) => check_process(rt, row, &procid),
-                None => assert!(rt; answer_of(row) == Some(""), "{row:?}"),
-            }
-            assert!(rt; rest == left_of(row), "{row:?} leaves {rest:?}");
-        }
-        None => assert!(rt; answer_of(row) == None, "{row:?}"),
+        Some((Some(procid), rest)) => reads_as_process(row, &procid) && rest == left_of(row),
+        Some((None, rest)) => reads_as(row, "", rest),
+        None => answer_of(row).is_none(),
     }
 }
 
@@ -136,45 +172,76 @@ fn reads_a_process_word(rt: HostRuntime) {
         "a:¦name a:¦",
         "5:\u{85}¦name 5:¦\u{85}",
     ] {
-        check_process_word(&rt, row);
+        check(&rt, is_process_word(row), row);
     }
 }
 
 #[test]
 fn takes_one_dash_for_an_absent_process(rt: HostRuntime) {
     for row in &["- ID47¦¦ ID47", "", " 1", ":", ": x"] {
-        check_process_word(&rt, row);
+        check(&rt, is_process_word(row), row);
     }
+}
+
+fn check_equal(rt: &impl Abort, one: &ProcId<&str>, other: &ProcId<&str>, row: &str) {
+    check(rt, *one == *other && !(*one != *other), row);
+}
+
+fn check_differ(rt: &impl Abort, one: &ProcId<&str>, other: &ProcId<&str>, row: &str) {
+    check(rt, *one != *other && !(*one == *other), row);
 }
 
 #[test]
 fn a_number_is_equal_to_no_name(rt: HostRuntime) {
-    assert!(rt; ProcId::from("5") == ProcId::from("+005"));
-    assert!(rt; ProcId::from("5") != ProcId::from("6"));
-    assert!(rt; ProcId::PID(5) != ProcId::Name("5"));
-    assert!(rt; ProcId::Name("5") != ProcId::PID(5));
-    assert!(rt; ProcId::from("x:y") == ProcId::Name("x:y"));
-    assert!(rt; ProcId::Name("") == ProcId::Name(""));
-    assert!(rt; ProcId::Name("größe") != ProcId::Name("große"));
-}
-
-fn check_copies(rt: &impl Abort, alloc: Global, text: &str) -> Result<(), Fail> {
-    let procid = ProcId::from(text);
-    let copy = procid.try_clone(alloc)?;
-    assert!(rt; copy == procid, "{text}");
-    let owned = procid.to_owned_text(alloc)?;
-    assert!(rt; number(&owned) == number(&procid), "{text}");
-    check_printed(rt, alloc, &procid, text);
-    check_printed(rt, alloc, &owned, text);
-    let again = owned.try_clone(alloc)?;
-    assert!(rt; again == owned, "{text}");
-    Ok(())
+    check_equal(&rt, &ProcId::from("5"), &ProcId::from("+005"), "5, +005");
+    check_differ(&rt, &ProcId::from("5"), &ProcId::from("6"), "5, 6");
+    check_differ(&rt, &ProcId::PID(5), &ProcId::Name("5"), "5, its name");
+    check_differ(&rt, &ProcId::Name("5"), &ProcId::PID(5), "a name, 5");
 }
 
 #[test]
-fn copies_a_number_and_a_name(rt: HostRuntime) -> Result<(), Fail> {
-    for text in &["323", "-2147483648", "x:y", "", "größe"] {
-        check_copies(&rt, rt.alloc(), text)?;
+fn names_are_equal_by_their_texts(rt: HostRuntime) {
+    check_equal(&rt, &ProcId::from("x:y"), &ProcId::Name("x:y"), "x:y");
+    check_equal(&rt, &ProcId::Name(""), &ProcId::Name(""), "empty");
+    check_differ(
+        &rt,
+        &ProcId::Name("größe"),
+        &ProcId::Name("große"),
+        "größe, große",
+    );
+}
+
+fn has_equal_copy(alloc: Global, procid: &ProcId<&str>) -> bool {
+    match procid.try_clone(alloc) {
+        Ok(copy) => copy == *procid,
+        Err(_) => false,
     }
-    Ok(())
+}
+
+fn has_equal_copy_owned(alloc: Global, owned: &ProcId<String>) -> bool {
+    match owned.try_clone(alloc) {
+        Ok(copy) => copy == *owned,
+        Err(_) => false,
+    }
+}
+
+fn has_owned_copy(alloc: Global, procid: &ProcId<&str>, text: &str) -> bool {
+    match procid.to_owned_text(alloc) {
+        Ok(owned) => {
+            is_same_number(number(&owned), number(procid))
+                && prints_as(alloc, &owned, text)
+                && has_equal_copy_owned(alloc, &owned)
+        }
+        Err(_) => false,
+    }
+}
+
+#[test]
+fn copies_a_number_and_a_name(rt: HostRuntime) {
+    for text in &["323", "-2147483648", "x:y", "", "größe"] {
+        let procid = ProcId::from(*text);
+        check(&rt, has_equal_copy(rt.alloc(), &procid), text);
+        check(&rt, has_owned_copy(rt.alloc(), &procid, text), text);
+        check(&rt, prints_as(rt.alloc(), &procid, text), text);
+    }
 }

@@ -3,7 +3,8 @@
 //! A row is one text of cells with `¦` between them: first the text that is read, then what it reads as, and last what
 //! is left of it, as in `zork: hi¦zork¦: hi`. A row of the text alone says that it doesn't read so.
 //!
-//! (Tables of tuples, and comparisons by closures, would be proved ten times as long.)
+//! (Tables of tuples, comparisons by closures, and a message at each comparison would be proved many times as long.)
+use std::alloc::{AllocError, Global};
 use std::process::Abort;
 
 /// The text that is read.
@@ -21,11 +22,42 @@ pub(super) fn left_of(row: &str) -> &str {
     row.split('¦').nth(2).unwrap_or("")
 }
 
+/// Whether the text is there, and is the one that is wanted.
+pub(super) fn is_text(text: Option<&str>, want: &str) -> bool {
+    match text {
+        Some(text) => text == want,
+        None => false,
+    }
+}
+
+/// Whether the row's text reads as this, and this is left.
+pub(super) fn reads_as(row: &str, read: &str, rest: &str) -> bool {
+    is_text(answer_of(row), read) && rest == left_of(row)
+}
+
+/// What a test asks of a row, which the message names.
+pub(super) fn check(rt: &impl Abort, holds: bool, row: &str) {
+    assert!(rt; holds, "{row:?}");
+}
+
 /// The text reads as the word of the row, which is empty where a dash stands for no word.
 pub(super) fn check_word(rt: &impl Abort, row: &str, read: Option<(Option<&str>, &str)>) {
     let same = match read {
-        Some((word, rest)) => answer_of(row) == Some(word.unwrap_or("")) && rest == left_of(row),
-        None => answer_of(row) == None,
+        Some((Some(word), rest)) => reads_as(row, word, rest),
+        Some((None, rest)) => reads_as(row, "", rest),
+        None => answer_of(row).is_none(),
     };
-    assert!(rt; same, "{row:?} reads as {read:?}");
+    check(rt, same, row);
+}
+
+/// A text many times, and then another: for rows too long to be written.
+pub(super) fn repeated(
+    alloc: Global,
+    text: &str,
+    count: usize,
+    end: &str,
+) -> Result<String, AllocError> {
+    let mut all = text.repeat(alloc, count)?;
+    all.push_str(end)?;
+    Ok(all)
 }

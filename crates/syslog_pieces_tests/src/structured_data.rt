@@ -5,7 +5,7 @@ mod refusals;
 mod refusals_copies;
 mod rfc3164_list;
 
-use super::rows::{answer_of, left_of, text_of};
+use super::rows::{answer_of, check, is_text, left_of, repeated, text_of};
 use std::alloc::{AllocError, Global};
 use std::process::Abort;
 use std::str::Split;
@@ -13,14 +13,18 @@ use std::test::Fail;
 use syslog_pieces::as_str::AsStr;
 use syslog_pieces::structured_data::{StructuredElement, forgiving_list, read_element};
 
+type Read<'a> = Option<(StructuredElement<&'a str>, &'a str)>;
+
+type List<'a> = Option<(Vec<StructuredElement<&'a str>>, &'a str)>;
+
 fn is_param(param: &(&str, &str), name: Option<&str>, value: Option<&str>) -> bool {
-    Some(param.0) == name && Some(param.1) == value
+    is_text(name, param.0) && is_text(value, param.1)
 }
 
 // The element of a line: its id, then the name and the raw value of each parameter, with bars between.
 fn is_element(element: &StructuredElement<&str>, line: &str) -> bool {
     let mut texts = line.split('|');
-    if texts.next() != Some(element.id) {
+    if !is_text(texts.next(), element.id) {
         return false;
     }
     for param in &element.params {
@@ -40,6 +44,20 @@ fn are_elements(elements: &[StructuredElement<&str>], lines: &str) -> bool {
         }
     }
     lines.next().is_none()
+}
+
+fn has_element(element: &StructuredElement<&str>, row: &str) -> bool {
+    match answer_of(row) {
+        Some(line) => is_element(element, line),
+        None => false,
+    }
+}
+
+fn has_elements(elements: &[StructuredElement<&str>], row: &str) -> bool {
+    match answer_of(row) {
+        Some(lines) => are_elements(elements, lines),
+        None => false,
+    }
 }
 
 // The parameters that are left of a line.
@@ -63,18 +81,18 @@ fn element_of<'a>(alloc: Global, line: &'a str) -> Result<StructuredElement<&'a 
     })
 }
 
-// A row is a text, the line of the element at its front, and what is left.
+// A row is a text, the line of the element at its front, and what is left; or the text of no element.
+fn check_read(rt: &impl Abort, row: &str, read: Result<Read<'_>, AllocError>) {
+    let same = match read {
+        Ok(Some((element, rest))) => has_element(&element, row) && rest == left_of(row),
+        Ok(None) => answer_of(row).is_none(),
+        Err(_) => false,
+    };
+    check(rt, same, row);
+}
+
 fn check_element(rt: &impl Abort, alloc: Global, row: &str) {
-    match read_element(alloc, text_of(row)).expect(rt, "no memory") {
-        Some((element, rest)) => {
-            assert!(rt;
-                is_element(&element, answer_of(row).expect(rt, row)),
-                "{row}"
-            );
-            assert!(rt; rest == left_of(row), "{row} leaves {rest:?}");
-        }
-        None => assert!(rt; answer_of(row).is_none(), "{row}"),
-    }
+    check_read(rt, row, read_element(alloc, text_of(row)));
 }
 
 #[test]
@@ -109,15 +127,20 @@ fn quoted_values(rt: HostRuntime) {
     }
 }
 
+fn prints_as<S: AsStr>(alloc: Global, element: &StructuredElement<S>, want: &str) -> bool {
+    match element.to_string(alloc) {
+        Ok(printed) => printed.as_str() == want,
+        Err(_) => false,
+    }
+}
+
 // The element at the front of the text prints so.
 fn check_printed(rt: &impl Abort, alloc: Global, text: &str, want: &str) {
-    match read_element(alloc, text).expect(rt, "no memory") {
-        Some((element, _)) => {
-            let printed = element.to_string(alloc).expect(rt, "no memory");
-            assert!(rt; printed.as_str() == want, "{printed}");
-        }
-        None => assert!(rt; false, "no element in {text}"),
-    }
+    let same = match read_element(alloc, text) {
+        Ok(Some((element, _))) => prints_as(alloc, &element, want),
+        _ => false,
+    };
+    check(rt, same, text);
 }
 
 #[test]
@@ -169,27 +192,39 @@ const PLAIN: &str = "x\
      |g|\
      |h|\u{e9}\\\u{e9}";
 
-// The values without their escapes are those of the line.
-fn check_values<S: AsStr>(
-    rt: &impl Abort,
-    alloc: Global,
-    element: &StructuredElement<S>,
-    line: &str,
-) {
-    let mut texts = line.split('|');
-    assert!(rt; texts.next() == Some(element.id.as_str()));
-    for item in element.params(alloc) {
-        let (name, value) = item.expect(rt, "no memory");
-        assert!(rt; texts.next() == Some(name.as_str()));
-        assert!(rt; texts.next() == Some(value.as_str()));
+fn is_value<S: AsStr>(name: &S, value: &str, want: Option<&str>, plain: Option<&str>) -> bool {
+    is_text(want, name.as_str()) && is_text(plain, value)
+}
+
+fn is_item<S: AsStr>(
+    item: &Result<(&S, String), AllocError>,
+    want: Option<&str>,
+    plain: Option<&str>,
+) -> bool {
+    match item {
+        Ok((name, value)) => is_value(*name, value.as_str(), want, plain),
+        Err(_) => false,
     }
-    assert!(rt; texts.next() == None);
+}
+
+// The values without their escapes are those of the line.
+fn has_values<S: AsStr>(alloc: Global, element: &StructuredElement<S>, line: &str) -> bool {
+    let mut texts = line.split('|');
+    if !is_text(texts.next(), element.id.as_str()) {
+        return false;
+    }
+    for item in element.params(alloc) {
+        if !is_item(&item, texts.next(), texts.next()) {
+            return false;
+        }
+    }
+    texts.next().is_none()
 }
 
 #[test]
 fn params_without_escapes(rt: HostRuntime) -> Result<(), Fail> {
     let element = element_of(rt.alloc(), ESCAPED)?;
-    check_values(&rt, rt.alloc(), &element, PLAIN);
+    check(&rt, has_values(rt.alloc(), &element, PLAIN), PLAIN);
     Ok(())
 }
 
@@ -205,24 +240,31 @@ fn element_of_strings(alloc: Global) -> Result<StructuredElement<String>, AllocE
 #[test]
 fn elements_of_strings(rt: HostRuntime) -> Result<(), Fail> {
     let element = element_of_strings(rt.alloc())?;
-    let printed = element.to_string(rt.alloc())?;
-    assert!(rt; printed.as_str() == "[id name=\"a \\\"value\\\"\"]");
-    check_values(&rt, rt.alloc(), &element, "id|name|a \"value\"");
+    check(
+        &rt,
+        prints_as(rt.alloc(), &element, "[id name=\"a \\\"value\\\"\"]"),
+        "prints",
+    );
+    check(
+        &rt,
+        has_values(rt.alloc(), &element, "id|name|a \"value\""),
+        "values",
+    );
     Ok(())
 }
 
-// A row is a text, the lines of the elements of the list at its front, and what is left.
+// A row is a text, the lines of the elements of the list at its front, and what is left; or the text of no list.
+fn check_read_list(rt: &impl Abort, row: &str, read: Result<List<'_>, AllocError>) {
+    let same = match read {
+        Ok(Some((elements, rest))) => has_elements(&elements, row) && rest == left_of(row),
+        Ok(None) => answer_of(row).is_none(),
+        Err(_) => false,
+    };
+    check(rt, same, row);
+}
+
 fn check_list(rt: &impl Abort, alloc: Global, row: &str) {
-    match forgiving_list(alloc, text_of(row)).expect(rt, "no memory") {
-        Some((elements, rest)) => {
-            assert!(rt;
-                are_elements(&elements, answer_of(row).expect(rt, row)),
-                "{row}"
-            );
-            assert!(rt; rest == left_of(row), "{row} leaves {rest:?}");
-        }
-        None => assert!(rt; answer_of(row).is_none(), "{row}"),
-    }
+    check_read_list(rt, row, forgiving_list(alloc, text_of(row)));
 }
 
 #[test]
@@ -249,13 +291,6 @@ fn forgiving_lists(rt: HostRuntime) {
     ] {
         check_list(&rt, rt.alloc(), row);
     }
-}
-
-// A text many times, and then another.
-fn repeated(alloc: Global, text: &str, count: usize, end: &str) -> Result<String, AllocError> {
-    let mut all = text.repeat(alloc, count)?;
-    all.push_str(end)?;
-    Ok(all)
 }
 
 #[test]

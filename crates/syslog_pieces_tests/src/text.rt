@@ -1,4 +1,4 @@
-use super::rows::{answer_of, check_word, left_of, text_of};
+use super::rows::{answer_of, check, check_word, is_text, left_of, repeated, text_of};
 use std::alloc::{AllocError, Global};
 use std::process::Abort;
 use std::test::Fail;
@@ -60,6 +60,11 @@ fn part<'a>(rt: &impl Abort, text: &'a str, start: usize, end: usize) -> &'a str
     text.get(start..end).expect(rt, "no such part")
 }
 
+fn is_cut(text: &str, class: CharClass, run: &str, rest: &str) -> bool {
+    let (front, behind) = split_run(text, class);
+    front == run && behind == rest && run_end(text, class) == run.len()
+}
+
 // Cuts each text of up to the longest length with the stop at each of its places, and each that has none.
 fn check_each_place(rt: &impl Abort, class: CharClass, text: &str, filler: char, stop: char) {
     let width = filler.len_utf8();
@@ -67,25 +72,36 @@ fn check_each_place(rt: &impl Abort, class: CharClass, text: &str, filler: char,
     for before in 0..=LONGEST {
         let start = middle - before * width;
         let run = part(rt, text, start, middle);
-        assert!(rt; split_run(run, class) == (run, ""), "{run:?}");
+        check(rt, is_cut(run, class, run, ""), run);
         for after in 0..LONGEST - before {
             let end = middle + stop.len_utf8() + after * width;
             let whole = part(rt, text, start, end);
             let rest = part(rt, text, middle, end);
-            assert!(rt; split_run(whole, class) == (run, rest), "{whole:?}");
-            assert!(rt; run_end(whole, class) == run.len(), "{whole:?}");
+            check(rt, is_cut(whole, class, run, rest), whole);
         }
+    }
+}
+
+fn check_stop(rt: &impl Abort, alloc: Global, class: CharClass, filler: char, stop: char) {
+    match around(alloc, filler, stop) {
+        Ok(text) => {
+            check(rt, !class.has(stop), text.as_str());
+            check_each_place(rt, class, text.as_str(), filler, stop);
+        }
+        Err(_) => check(rt, false, "no memory"),
     }
 }
 
 // The filler is the first character of the text, and the others stop its runs.
 fn check_class(rt: &impl Abort, alloc: Global, class: CharClass, characters: &str) {
-    let (filler, stops) = first(characters).expect(rt, "no filler");
-    assert!(rt; class.has(filler), "{filler:?}");
-    for stop in stops.chars() {
-        assert!(rt; !class.has(stop), "{stop:?}");
-        let text = around(alloc, filler, stop).expect(rt, "no memory");
-        check_each_place(rt, class, text.as_str(), filler, stop);
+    match first(characters) {
+        Some((filler, stops)) => {
+            check(rt, class.has(filler), characters);
+            for stop in stops.chars() {
+                check_stop(rt, alloc, class, filler, stop);
+            }
+        }
+        None => check(rt, false, "no filler"),
     }
 }
 
@@ -179,7 +195,7 @@ fn reads_a_tag_word(rt: HostRuntime) {
 fn check_field(rt: &impl Abort, row: &str, read: (Option<Option<&str>>, &str)) {
     match read {
         (Some(field), left) => check_word(rt, row, Some((field, left))),
-        (None, left) => assert!(rt; left == row, "{row:?}"),
+        (None, left) => check(rt, left == row, row),
     }
 }
 
@@ -221,22 +237,39 @@ fn reads_the_tag_behind_a_space(rt: HostRuntime) {
     }
 }
 
-fn parsed(rt: &impl Abort, digits: &str) -> u32 {
-    digits.parse().expect(rt, "no number")
-}
-
-fn check_number(rt: &impl Abort, row: &str, limit: u32) {
-    match number(text_of(row), limit) {
-        Some((value, rest)) => {
-            let want = answer_of(row).expect(rt, "a number");
-            assert!(rt; value == parsed(rt, want), "{row:?} reads as {value}");
-            assert!(rt; rest == left_of(row), "{row:?} leaves {rest:?}");
-        }
-        None => assert!(rt; answer_of(row).is_none(), "{row:?}"),
+fn is_number(digits: &str, number: u32) -> bool {
+    match digits.parse::<u32>() {
+        Ok(want) => want == number,
+        Err(_) => false,
     }
 }
 
-// Each row stands behind its limit.
+fn has_number(row: &str, value: u32, rest: &str) -> bool {
+    match answer_of(row) {
+        Some(want) => is_number(want, value) && rest == left_of(row),
+        None => false,
+    }
+}
+
+// What of the row is a number up to the limit.
+fn reads_number(row: &str, limit: u32) -> bool {
+    match number(text_of(row), limit) {
+        Some((value, rest)) => has_number(row, value, rest),
+        None => answer_of(row).is_none(),
+    }
+}
+
+// A row stands behind its limit.
+fn reads_behind_limit(row: &str) -> bool {
+    match row.split_once(' ') {
+        Some((limit, row)) => match limit.parse::<u32>() {
+            Ok(limit) => reads_number(row, limit),
+            Err(_) => false,
+        },
+        None => false,
+    }
+}
+
 #[test]
 fn reads_a_number_up_to_its_limit(rt: HostRuntime) {
     for row in &[
@@ -259,26 +292,31 @@ fn reads_a_number_up_to_its_limit(rt: HostRuntime) {
         "9  1",
         "9 \u{663}",
     ] {
-        let (limit, row) = row.split_once(' ').expect(&rt, "no limit");
-        check_number(&rt, row, parsed(&rt, limit));
+        check(&rt, reads_behind_limit(row), row);
     }
 }
 
 #[test]
 fn passes_over_a_thousand_leading_zeros(rt: HostRuntime) -> Result<(), Fail> {
-    let mut text = "0".repeat(rt.alloc(), 1000)?;
-    text.push_str("34>")?;
-    assert!(rt; number(text.as_str(), 255) == Some((34, ">")));
-    text.push_str("x")?;
-    assert!(rt; number(text.as_str(), 33) == None);
-    let nines = "9".repeat(rt.alloc(), 1000)?;
-    assert!(rt; number(nines.as_str(), u32::MAX) == None);
+    let row = repeated(rt.alloc(), "0", 1_000, "34>¦34¦>")?;
+    check(&rt, reads_number(row.as_str(), 255), "255");
+    let row = repeated(rt.alloc(), "0", 1_000, "34>x")?;
+    check(&rt, reads_number(row.as_str(), 33), "33");
+    let row = repeated(rt.alloc(), "9", 1_000, "")?;
+    check(&rt, reads_number(row.as_str(), u32::MAX), "nines");
     Ok(())
 }
 
 // What is left of the text, if anything is skipped.
+fn leaves(row: &str, left: Option<&str>) -> bool {
+    match left {
+        Some(left) => is_text(answer_of(row), left),
+        None => answer_of(row).is_none(),
+    }
+}
+
 fn check_left(rt: &impl Abort, row: &str, left: Option<&str>) {
-    assert!(rt; left == answer_of(row), "{row:?} leaves {left:?}");
+    check(rt, leaves(row, left), row);
 }
 
 #[test]
@@ -304,21 +342,29 @@ fn trims_white_space_alone(rt: HostRuntime) {
 
 #[test]
 fn skips_single_characters(rt: HostRuntime) {
-    assert!(rt; first("üx") == Some(('ü', "x")));
-    assert!(rt; first("") == None);
+    check(&rt, matches!(first("üx"), Some(('ü', "x"))), "üx");
+    check(&rt, first("").is_none(), "empty");
     for row in &["<34>¦34>", "34>", ""] {
         check_left(&rt, row, literal(text_of(row), '<'));
     }
 }
 
 #[test]
-fn skips_runs(rt: HostRuntime) {
+fn skips_blanks(rt: HostRuntime) {
     for row in &[" \t \u{a0}x¦\u{a0}x", "\n x¦\n x"] {
         check_left(&rt, row, Some(blanks(text_of(row))));
     }
+}
+
+#[test]
+fn skips_some_blanks(rt: HostRuntime) {
     for row in &["\tx ¦x ", "x"] {
         check_left(&rt, row, some_blanks(text_of(row)));
     }
+}
+
+#[test]
+fn skips_digits(rt: HostRuntime) {
     for row in &["12x¦x", "x12"] {
         check_left(&rt, row, skip_some(text_of(row), CharClass::Digit));
     }

@@ -1,15 +1,10 @@
 //! Refused memory in copies of process ids. The form of these tests is said in `structured_data::tests::refusals`.
-use super::{name, number};
+use super::{has_equal_copy, is_name, is_pid_of};
+use crate::rows::check;
+use crate::tries::Tries;
 use std::alloc::{AllocError, Global};
 use std::process::Abort;
 use syslog_pieces::procid::ProcId;
-
-/// How often a call is made until it is not refused.
-#[derive(Clone, Copy, PartialEq, Eq)]
-enum Tries {
-    Once,
-    Twice,
-}
 
 fn is_named(procid: &ProcId<String>, want: &str) -> bool {
     match procid {
@@ -26,12 +21,12 @@ fn check_copies(rt: &impl Abort, alloc: Global, tries: Tries) {
     };
     match owned {
         Ok(owned) => {
-            assert!(rt; is_named(&owned, "x:y"));
+            check(rt, is_named(&owned, "x:y"), "copy with a text of its own");
             check_owned_clone(rt, alloc, &owned, tries);
         }
-        Err(_) => assert!(rt; false, "no copy with a text of its own"),
+        Err(_) => check(rt, false, "no copy with a text of its own"),
     }
-    assert_eq!(rt; name(&source), Some("x:y"));
+    check(rt, is_name(&source, "x:y"), "source");
 }
 
 fn check_owned_clone(rt: &impl Abort, alloc: Global, owned: &ProcId<String>, tries: Tries) {
@@ -40,10 +35,10 @@ fn check_owned_clone(rt: &impl Abort, alloc: Global, owned: &ProcId<String>, tri
         other => other,
     };
     match copy {
-        Ok(copy) => assert!(rt; is_named(&copy, "x:y")),
-        Err(_) => assert!(rt; false, "no copy of the copy"),
+        Ok(copy) => check(rt, is_named(&copy, "x:y"), "copy of the copy"),
+        Err(_) => check(rt, false, "no copy of the copy"),
     }
-    assert!(rt; is_named(owned, "x:y"));
+    check(rt, is_named(owned, "x:y"), "copy");
 }
 
 #[test]
@@ -56,18 +51,18 @@ fn sees_no_refusal_of_a_name(rt: HostRuntime) {
     check_copies(&rt, rt.alloc(), Tries::Once);
 }
 
+fn has_number(owned: Result<ProcId<String>, AllocError>, want: i32) -> bool {
+    match owned {
+        Ok(owned) => is_pid_of(&owned, want),
+        Err(_) => false,
+    }
+}
+
 #[test]
 fn asks_for_no_memory_for_a_number_and_a_slice(rt: HostRuntime) {
-    let alloc = rt.alloc();
-    match ProcId::from("323").to_owned_text(alloc) {
-        Ok(owned) => assert_eq!(rt; number(&owned), Some(323)),
-        Err(_) => assert!(rt; false, "refused for a number"),
-    }
-    for text in ["323", "x:y"] {
-        let source = ProcId::from(text);
-        match source.try_clone(alloc) {
-            Ok(copy) => assert!(rt; copy == source),
-            Err(_) => assert!(rt; false, "refused for {text}"),
-        }
+    let owned = ProcId::from("323").to_owned_text(rt.alloc());
+    check(&rt, has_number(owned, 323), "323");
+    for text in &["323", "x:y"] {
+        check(&rt, has_equal_copy(rt.alloc(), &ProcId::from(*text)), text);
     }
 }

@@ -2,8 +2,10 @@
 //!
 //! Each test asks for no memory but by the calls that it is about. Those named `answers_..` pass whichever request is
 //! refused, those named `asks_..` make none, and those named `sees_no_refusal..` fail at each that is refused.
-use super::{are_elements, is_element};
-use crate::rows::{answer_of, text_of};
+use super::rfc3164_list::{OptionalList, check_read_optional};
+use super::{List, Read, check_read, check_read_list, is_item};
+use crate::rows::{check, text_of};
+use crate::tries::Tries;
 use std::alloc::{AllocError, Global};
 use std::process::Abort;
 use syslog_pieces::structured_data::rfc3164_list::{DashRule, optional_list};
@@ -15,18 +17,8 @@ pub(super) const ELEMENT: &str = "[id a=\"b\" c=\"\" d=\"\\]\"]";
 /// The line of that element.
 pub(super) const LINE: &str = "id|a|b|c||d|\\]";
 
-/// How often a call is made until it is not refused.
-#[derive(Clone, Copy, PartialEq, Eq)]
-pub(super) enum Tries {
-    Once,
-    Twice,
-}
-
-pub(super) type Read<'a> = Option<(StructuredElement<&'a str>, &'a str)>;
-
-type Rfc3164List<'a> = Option<(Vec<StructuredElement<&'a str>>, &'a str)>;
-
-type OptionalRfc3164List<'a> = (Option<Vec<StructuredElement<&'a str>>>, &'a str);
+/// The row of that element.
+const ROW: &str = "[id a=\"b\" c=\"\" d=\"\\]\"]¦id|a|b|c||d|\\]¦";
 
 pub(super) fn element_of(alloc: Global, text: &str, tries: Tries) -> Result<Read<'_>, AllocError> {
     match read_element(alloc, text) {
@@ -35,7 +27,7 @@ pub(super) fn element_of(alloc: Global, text: &str, tries: Tries) -> Result<Read
     }
 }
 
-fn list_of(alloc: Global, text: &str, tries: Tries) -> Result<Rfc3164List<'_>, AllocError> {
+fn list_of(alloc: Global, text: &str, tries: Tries) -> Result<List<'_>, AllocError> {
     match forgiving_list(alloc, text) {
         Err(AllocError) if tries == Tries::Twice => forgiving_list(alloc, text),
         other => other,
@@ -47,57 +39,33 @@ fn rfc3164_list_of(
     text: &str,
     rule: DashRule,
     tries: Tries,
-) -> Result<OptionalRfc3164List<'_>, AllocError> {
+) -> Result<OptionalList<'_>, AllocError> {
     match optional_list(alloc, text, rule) {
         Err(AllocError) if tries == Tries::Twice => optional_list(alloc, text, rule),
         other => other,
     }
 }
 
-fn check_read(rt: &impl Abort, alloc: Global, tries: Tries) {
-    match element_of(alloc, ELEMENT, tries) {
-        Ok(Some((element, rest))) => {
-            assert!(rt; is_element(&element, LINE));
-            assert!(rt; rest == "");
-        }
-        Ok(None) => assert!(rt; false, "no element"),
-        Err(_) => assert!(rt; false, "refused"),
-    }
-}
-
 #[test]
 fn answers_that_memory_for_an_element_was_refused(rt: HostRuntime) {
-    check_read(&rt, rt.alloc(), Tries::Twice);
+    check_read(&rt, ROW, element_of(rt.alloc(), ELEMENT, Tries::Twice));
 }
 
 #[test]
 fn sees_no_refusal_of_an_element(rt: HostRuntime) {
-    check_read(&rt, rt.alloc(), Tries::Once);
+    check_read(&rt, ROW, element_of(rt.alloc(), ELEMENT, Tries::Once));
 }
 
-/// The lines of the two elements of the lists that are tried.
-const BOTH: &str = "a|b|x]y\nc|d|e";
-
-fn check_list(rt: &impl Abort, alloc: Global, text: &str, behind: &str, tries: Tries) {
-    match list_of(alloc, text, tries) {
-        Ok(Some((elements, rest))) => {
-            assert!(rt; are_elements(&elements, BOTH), "{text}");
-            assert!(rt; rest == behind, "{text}");
-        }
-        Ok(None) => assert!(rt; false, "no list in {text}"),
-        Err(_) => assert!(rt; false, "refused for {text}"),
-    }
-}
+/// Lists of the same two elements.
+const LISTS: [&str; 2] = [
+    "[a b=\"x]y\"][c d=\"e\"] f¦a|b|x]y\nc|d|e¦ f",
+    "[a b=\"x]y\"][broken =][c d=\"e\"][f¦a|b|x]y\nc|d|e¦[f",
+];
 
 fn check_lists(rt: &impl Abort, alloc: Global, tries: Tries) {
-    check_list(rt, alloc, "[a b=\"x]y\"][c d=\"e\"] f", " f", tries);
-    check_list(
-        rt,
-        alloc,
-        "[a b=\"x]y\"][broken =][c d=\"e\"][f",
-        "[f",
-        tries,
-    );
+    for row in &LISTS {
+        check_read_list(rt, row, list_of(alloc, text_of(row), tries));
+    }
 }
 
 #[test]
@@ -111,17 +79,8 @@ fn sees_no_refusal_of_a_list(rt: HostRuntime) {
 }
 
 fn check_rfc3164_list(rt: &impl Abort, alloc: Global, rule: DashRule, tries: Tries) {
-    let text = "[a b=\"x]y\"][c d=\"e\"][f]";
-    match rfc3164_list_of(alloc, text, rule, tries) {
-        Ok((elements, rest)) => {
-            match elements {
-                Some(elements) => assert!(rt; are_elements(&elements, BOTH)),
-                None => assert!(rt; false, "no list"),
-            }
-            assert!(rt; rest == "[f]");
-        }
-        Err(_) => assert!(rt; false, "refused"),
-    }
+    let row = "[a b=\"x]y\"][c d=\"e\"][f]¦a|b|x]y\nc|d|e¦[f]";
+    check_read_optional(rt, row, rfc3164_list_of(alloc, text_of(row), rule, tries));
 }
 
 fn check_rfc3164_lists(rt: &impl Abort, alloc: Global, tries: Tries) {
@@ -139,95 +98,85 @@ fn sees_no_refusal_of_a_list_of_rfc_3164(rt: HostRuntime) {
     check_rfc3164_lists(&rt, rt.alloc(), Tries::Once);
 }
 
-fn check_no_element(rt: &impl Abort, alloc: Global, text: &str) {
-    match read_element(alloc, text) {
-        Ok(read) => assert!(rt; read.is_none(), "{text}"),
-        Err(_) => assert!(rt; false, "refused for {text}"),
-    }
-}
-
-// A row is a text and what is left behind its list, which has no element; or the text of no list.
-fn check_empty_list(rt: &impl Abort, alloc: Global, row: &str) {
-    match forgiving_list(alloc, text_of(row)) {
-        Ok(Some((elements, rest))) => {
-            assert!(rt; elements.is_empty(), "{row}");
-            assert!(rt; Some(rest) == answer_of(row), "{row}");
-        }
-        Ok(None) => assert!(rt; answer_of(row).is_none(), "{row}"),
-        Err(_) => assert!(rt; false, "refused for {row}"),
-    }
-}
-
-fn check_empty_rfc3164_list(rt: &impl Abort, alloc: Global, rule: DashRule, row: &str) {
-    match optional_list(alloc, text_of(row), rule) {
-        Ok((elements, rest)) => {
-            if let Some(elements) = elements {
-                assert!(rt; elements.is_empty(), "{row}");
-            }
-            assert!(rt; Some(rest) == answer_of(row), "{row}");
-        }
-        Err(_) => assert!(rt; false, "refused for {row}"),
-    }
-}
-
 #[test]
 fn asks_for_no_memory_without_an_element(rt: HostRuntime) {
     for text in &["", "x", "[id", "[id a=\"b\" ]", "[id a=\"b", "[=]"] {
-        check_no_element(&rt, rt.alloc(), text);
+        check_read(&rt, text, read_element(rt.alloc(), text));
     }
 }
 
 #[test]
 fn asks_for_no_memory_without_elements(rt: HostRuntime) {
-    for row in &["- x¦ x", "[a b=\"c]d¦d", "[a =][b =]¦", "", "x", "[a b=\"c"] {
-        check_empty_list(&rt, rt.alloc(), row);
+    for row in &[
+        "- x¦¦ x",
+        "[a b=\"c]d¦¦d",
+        "[a =][b =]¦¦",
+        "",
+        "x",
+        "[a b=\"c",
+    ] {
+        check_read_list(&rt, row, forgiving_list(rt.alloc(), text_of(row)));
     }
+}
+
+fn check_by_rule(rt: &impl Abort, alloc: Global, row: &str, rule: DashRule) {
+    check_read_optional(rt, row, optional_list(alloc, text_of(row), rule));
 }
 
 #[test]
 fn asks_for_no_memory_without_elements_of_rfc_3164(rt: HostRuntime) {
-    for row in &["- x¦ x", "-¦", "[a] x¦[a] x", "x¦x", "¦"] {
-        check_empty_rfc3164_list(&rt, rt.alloc(), DashRule::BeforeAnything, row);
-        check_empty_rfc3164_list(&rt, rt.alloc(), DashRule::BeforeBlank, row);
+    for row in &["- x¦¦ x", "-¦¦", "[a] x", "x", ""] {
+        check_by_rule(&rt, rt.alloc(), row, DashRule::BeforeAnything);
+        check_by_rule(&rt, rt.alloc(), row, DashRule::BeforeBlank);
     }
 }
 
-// How many values were refused. Each other one is right, with its name, and stands in its place.
-fn refused_values(rt: &impl Abort, alloc: Global, element: &StructuredElement<&str>) -> usize {
+// How many values were refused, where each other one is right, with its name, and stands in its place.
+fn refused_values(alloc: Global, element: &StructuredElement<&str>) -> Option<usize> {
     let mut wanted = "a|b|c||d|]".split('|');
     let mut refused = 0usize;
     for item in element.params(alloc) {
         let name = wanted.next();
         let plain = wanted.next();
-        match item {
-            Ok((found, value)) => {
-                assert!(rt; name == Some(*found) && plain == Some(value.as_str()));
-            }
-            Err(_) => refused = refused.saturating_add(1),
+        if item.is_err() {
+            refused = refused.saturating_add(1);
+        } else if !is_item(&item, name, plain) {
+            return None;
         }
     }
-    assert!(rt; wanted.next().is_none());
-    refused
+    if wanted.next().is_some() {
+        return None;
+    }
+    Some(refused)
+}
+
+fn refuses_none(alloc: Global, element: &StructuredElement<&str>) -> bool {
+    matches!(refused_values(alloc, element), Some(0))
+}
+
+// All are right, at once or at the second time.
+fn refuses_none_again(alloc: Global, element: &StructuredElement<&str>) -> bool {
+    match refused_values(alloc, element) {
+        Some(0) => true,
+        Some(_) => refuses_none(alloc, element),
+        None => false,
+    }
 }
 
 #[test]
 fn answers_for_one_value_that_memory_was_refused(rt: HostRuntime) {
-    let alloc = rt.alloc();
-    match element_of(alloc, ELEMENT, Tries::Twice) {
-        Ok(Some((element, _))) => {
-            if refused_values(&rt, alloc, &element) != 0 {
-                assert!(rt; refused_values(&rt, alloc, &element) == 0);
-            }
-        }
-        _ => assert!(rt; false, "no element"),
-    }
+    let same = match element_of(rt.alloc(), ELEMENT, Tries::Twice) {
+        Ok(Some((element, _))) => refuses_none_again(rt.alloc(), &element),
+        _ => false,
+    };
+    check(&rt, same, ELEMENT);
 }
 
 #[test]
 fn sees_no_refusal_of_values(rt: HostRuntime) {
-    let alloc = rt.alloc();
-    match element_of(alloc, ELEMENT, Tries::Once) {
-        Ok(Some((element, _))) => assert!(rt; refused_values(&rt, alloc, &element) == 0),
-        _ => assert!(rt; false, "no element"),
-    }
+    let same = match element_of(rt.alloc(), ELEMENT, Tries::Once) {
+        Ok(Some((element, _))) => refuses_none(rt.alloc(), &element),
+        _ => false,
+    };
+    check(&rt, same, ELEMENT);
 }

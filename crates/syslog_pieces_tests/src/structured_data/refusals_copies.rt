@@ -1,6 +1,8 @@
 //! Refused memory in copies of elements: see `refusals`.
-use super::is_element;
-use super::refusals::{ELEMENT, LINE, Tries, element_of};
+use super::refusals::{ELEMENT, LINE, element_of};
+use super::{is_element, is_value};
+use crate::rows::{check, is_text};
+use crate::tries::Tries;
 use std::alloc::{AllocError, Global};
 use std::process::Abort;
 use syslog_pieces::structured_data::StructuredElement;
@@ -8,11 +10,11 @@ use syslog_pieces::structured_data::StructuredElement;
 // The element of the line, over texts of its own.
 fn is_owned(element: &StructuredElement<String>, line: &str) -> bool {
     let mut texts = line.split('|');
-    if texts.next() != Some(element.id.as_str()) {
+    if !is_text(texts.next(), element.id.as_str()) {
         return false;
     }
     for (name, value) in &element.params {
-        if texts.next() != Some(name.as_str()) || texts.next() != Some(value.as_str()) {
+        if !is_value(name, value.as_str(), texts.next(), texts.next()) {
             return false;
         }
     }
@@ -25,10 +27,10 @@ fn check_clone(rt: &impl Abort, alloc: Global, element: &StructuredElement<&str>
         other => other,
     };
     match copy {
-        Ok(copy) => assert!(rt; is_element(&copy, LINE)),
-        Err(_) => assert!(rt; false, "no copy"),
+        Ok(copy) => check(rt, is_element(&copy, LINE), "copy"),
+        Err(_) => check(rt, false, "no copy"),
     }
-    assert!(rt; is_element(element, LINE));
+    check(rt, is_element(element, LINE), "source");
 }
 
 fn check_owned(rt: &impl Abort, alloc: Global, element: &StructuredElement<&str>, tries: Tries) {
@@ -38,12 +40,12 @@ fn check_owned(rt: &impl Abort, alloc: Global, element: &StructuredElement<&str>
     };
     match owned {
         Ok(owned) => {
-            assert!(rt; is_owned(&owned, LINE));
+            check(rt, is_owned(&owned, LINE), "copy with texts of its own");
             check_owned_clone(rt, alloc, &owned, tries);
         }
-        Err(_) => assert!(rt; false, "no copy with texts of its own"),
+        Err(_) => check(rt, false, "no copy with texts of its own"),
     }
-    assert!(rt; is_element(element, LINE));
+    check(rt, is_element(element, LINE), "source");
 }
 
 fn check_owned_clone(
@@ -57,10 +59,10 @@ fn check_owned_clone(
         other => other,
     };
     match copy {
-        Ok(copy) => assert!(rt; is_owned(&copy, LINE)),
-        Err(_) => assert!(rt; false, "no copy of the copy"),
+        Ok(copy) => check(rt, is_owned(&copy, LINE), "copy of the copy"),
+        Err(_) => check(rt, false, "no copy of the copy"),
     }
-    assert!(rt; is_owned(owned, LINE));
+    check(rt, is_owned(owned, LINE), "copied copy");
 }
 
 fn check_copies(rt: &impl Abort, alloc: Global, tries: Tries) {
@@ -69,7 +71,7 @@ fn check_copies(rt: &impl Abort, alloc: Global, tries: Tries) {
             check_clone(rt, alloc, &element, tries);
             check_owned(rt, alloc, &element, tries);
         }
-        _ => assert!(rt; false, "no element"),
+        _ => check(rt, false, "no element"),
     }
 }
 

@@ -1,32 +1,43 @@
 //! Worked lists of RFC 3164, under both rules of the dash.
-use super::{are_elements, repeated};
-use crate::rows::{answer_of, left_of, text_of};
-use std::alloc::Global;
+use super::has_elements;
+use crate::rows::{answer_of, check, left_of, repeated, text_of};
+use std::alloc::{AllocError, Global};
 use std::process::Abort;
 use std::test::Fail;
+use syslog_pieces::structured_data::StructuredElement;
 use syslog_pieces::structured_data::rfc3164_list::{DashRule, begins_list, optional_list};
 
-// The list of RFC 3164 at the front of the text is the elements of the row, and what the row leaves stands behind it;
-// or there is none, and the text stays. Whether there is one is told alike without memory.
-fn check_list(rt: &impl Abort, alloc: Global, row: &str, rule: DashRule) {
-    let (read, rest) = optional_list(alloc, text_of(row), rule).expect(rt, "no memory");
-    assert!(rt;
-        begins_list(text_of(row), rule) == answer_of(row).is_some(),
-        "{row:?}"
-    );
-    match read {
-        Some(elements) => {
-            assert!(rt;
-                are_elements(&elements, answer_of(row).expect(rt, row)),
-                "{row:?}"
-            );
-            assert!(rt; rest == left_of(row), "{row:?}");
-        }
-        None => {
-            assert!(rt; answer_of(row).is_none(), "{row:?}");
-            assert!(rt; rest == row, "{row:?}");
-        }
+pub(super) type OptionalList<'a> = (Option<Vec<StructuredElement<&'a str>>>, &'a str);
+
+// The elements are those of the row, and what the row leaves stands behind them; or there is no list, and the text stays.
+fn is_optional_list(row: &str, list: &Option<Vec<StructuredElement<&str>>>, rest: &str) -> bool {
+    match list {
+        Some(elements) => has_elements(elements, row) && rest == left_of(row),
+        None => answer_of(row).is_none() && rest == row,
     }
+}
+
+// A list of RFC 3164 that was read at the front of the text of the row.
+pub(super) fn check_read_optional(
+    rt: &impl Abort,
+    row: &str,
+    read: Result<OptionalList<'_>, AllocError>,
+) {
+    let same = match &read {
+        Ok((list, rest)) => is_optional_list(row, list, *rest),
+        Err(_) => false,
+    };
+    check(rt, same, row);
+}
+
+// Whether there is one is told alike without memory.
+fn check_list(rt: &impl Abort, alloc: Global, row: &str, rule: DashRule) {
+    check(
+        rt,
+        begins_list(text_of(row), rule) == answer_of(row).is_some(),
+        row,
+    );
+    check_read_optional(rt, row, optional_list(alloc, text_of(row), rule));
 }
 
 fn check_by_both_rules(rt: &impl Abort, alloc: Global, row: &str) {

@@ -1,8 +1,7 @@
-use crate::rows::{answer_of, left_of, text_of};
+use crate::rows::{answer_of, check, left_of, text_of};
 use std::alloc::Global;
 use std::process::Abort;
 use std::str::Split;
-use std::test::Fail;
 use syslog_pieces::text::trimmed;
 use syslog_pieces::timestamp::month_date::standard::standard_date;
 use syslog_pieces::timestamp::month_date::{MonthDate, month_date};
@@ -32,20 +31,24 @@ fn is_date(date: &MonthDate, want: &str) -> bool {
         && words.next().is_none()
 }
 
+fn has_date(row: &str, date: &MonthDate) -> bool {
+    match answer_of(row) {
+        Some(want) => is_date(date, want),
+        None => false,
+    }
+}
+
 // A row is a text, the date at its front, and what is left; or the text of no date.
-fn check_date(rt: &impl Abort, row: &str, read: Option<(MonthDate, &str)>) {
+fn reads_date(row: &str, read: Option<(MonthDate, &str)>) -> bool {
     match read {
-        Some((date, rest)) => {
-            assert!(rt; is_date(&date, answer_of(row).expect(rt, row)), "{row:?}");
-            assert!(rt; rest == left_of(row), "{row:?} leaves {rest:?}");
-        }
-        None => assert!(rt; answer_of(row).is_none(), "{row:?}"),
+        Some((date, rest)) => has_date(row, &date) && rest == left_of(row),
+        None => answer_of(row).is_none(),
     }
 }
 
 fn check_read(rt: &impl Abort, rows: &[&str]) {
     for row in rows {
-        check_date(rt, row, month_date(text_of(row)));
+        check(rt, reads_date(row, month_date(text_of(row))), row);
     }
 }
 
@@ -65,18 +68,23 @@ fn reads_a_month_date(rt: HostRuntime) {
     );
 }
 
-// A row is the number of a month and its names.
-fn check_month(rt: &impl Abort, alloc: Global, row: &str) -> Result<(), Fail> {
-    let (number, names) = row.split_once(' ').expect(rt, row);
-    for name in names.split(' ') {
-        let row = format!(in alloc; "{name} 5 07:08:09¦{number} 5 7 8 9¦")?;
-        check_date(rt, row.as_str(), month_date(text_of(row.as_str())));
+fn reads_month(alloc: Global, name: &str, number: &str) -> bool {
+    match format!(in alloc; "{name} 5 07:08:09¦{number} 5 7 8 9¦") {
+        Ok(row) => reads_date(row.as_str(), month_date(text_of(row.as_str()))),
+        Err(_) => false,
     }
-    Ok(())
+}
+
+// A row is the number of a month and its names.
+fn check_month(rt: &impl Abort, alloc: Global, row: &str) {
+    let (number, names) = row.split_once(' ').unwrap_or((row, ""));
+    for name in names.split(' ') {
+        check(rt, reads_month(alloc, name, number), row);
+    }
 }
 
 #[test]
-fn takes_the_month_in_letters_of_either_case(rt: HostRuntime) -> Result<(), Fail> {
+fn takes_the_month_in_letters_of_either_case(rt: HostRuntime) {
     for row in &[
         "1 Jan JAN jaN",
         "2 Feb FEB fEb",
@@ -91,9 +99,8 @@ fn takes_the_month_in_letters_of_either_case(rt: HostRuntime) -> Result<(), Fail
         "11 Nov NOV nov",
         "12 Dec DEC dEC",
     ] {
-        check_month(&rt, rt.alloc(), row)?;
+        check_month(&rt, rt.alloc(), row);
     }
-    Ok(())
 }
 
 #[test]
@@ -185,6 +192,13 @@ fn takes_numbers_up_to_their_limits(rt: HostRuntime) {
     );
 }
 
+fn shows_date(row: &str) -> bool {
+    match shown_date(trimmed(text_of(row))) {
+        Some(date) => has_date(row, &date),
+        None => false,
+    }
+}
+
 // That there is such a date isn't asked.
 #[test]
 fn shows_a_date_without_a_year(rt: HostRuntime) {
@@ -197,8 +211,7 @@ fn shows_a_date_without_a_year(rt: HostRuntime) {
         "<255>Oct 11 22:14:15¦10 11 22 14 15",
         "Feb 99 24:60:60¦2 99 24 60 60",
     ] {
-        let date = shown_date(trimmed(text_of(row))).expect(&rt, row);
-        assert!(rt; is_date(&date, answer_of(row).expect(&rt, row)), "{row:?}");
+        check(&rt, shows_date(row), row);
     }
 }
 
@@ -220,7 +233,7 @@ fn shows_no_date_elsewhere(rt: HostRuntime) {
         "Oct 11 22:14",
         "October 11 22:14:15",
     ] {
-        assert!(rt; shown_date(text).is_none(), "{text:?}");
+        check(&rt, shown_date(text).is_none(), text);
     }
 }
 
@@ -244,6 +257,6 @@ fn reads_the_standard_form_at_one_look(rt: HostRuntime) {
         "dEC 28 16:49:07",
         "",
     ] {
-        check_date(&rt, row, standard_date(text_of(row)));
+        check(&rt, reads_date(row, standard_date(text_of(row))), row);
     }
 }

@@ -1,9 +1,8 @@
-use super::check_printed;
-use crate::rows::{answer_of, left_of, text_of};
+use super::{has_stamp, is_same};
+use crate::rows::{answer_of, check, left_of, text_of};
 use jiff::tz::{Offset, TimeZone};
 use std::alloc::Global;
 use std::process::Abort;
-use std::test::Fail;
 use syslog_pieces::timestamp::zone::Dating;
 use syslog_pieces::timestamp::{OffsetTimestamp, rfc3164_stamp, rfc3339, year_at};
 
@@ -19,18 +18,15 @@ fn stamp_of(text: &str, dating: &Dating<'_, '_>) -> Option<OffsetTimestamp> {
     }
 }
 
+fn is_instant(stamp: &OffsetTimestamp, at_utc: &str) -> bool {
+    at_utc.is_empty() || is_same(rfc3339(at_utc), Some(*stamp))
+}
+
 // A row is a month date, what its timestamp prints as, and in some rows the instant at UTC; or a date without one.
-fn check_stamp(rt: &impl Abort, alloc: Global, row: &str, dating: &Dating<'_, '_>) {
+fn reads_stamp(alloc: Global, row: &str, dating: &Dating<'_, '_>) -> bool {
     match stamp_of(text_of(row), dating) {
-        Some(stamp) => {
-            check_printed(rt, alloc, stamp, answer_of(row).expect(rt, row));
-            let at_utc = left_of(row);
-            assert!(rt;
-                at_utc.is_empty() || rfc3339(at_utc) == Some(stamp),
-                "{row}"
-            );
-        }
-        None => assert!(rt; answer_of(row).is_none(), "{row}"),
+        Some(stamp) => is_instant(&stamp, left_of(row)) && has_stamp(alloc, row, &stamp),
+        None => answer_of(row).is_none(),
     }
 }
 
@@ -42,7 +38,7 @@ fn check_given(rt: &impl Abort, alloc: Global, year: i32, tz: &TimeZone<'_>, row
         local: &TimeZone::UTC,
     };
     for row in rows {
-        check_stamp(rt, alloc, row, &dating);
+        check(rt, reads_stamp(alloc, row, &dating), row);
     }
 }
 
@@ -54,8 +50,22 @@ fn check_local(rt: &impl Abort, alloc: Global, year: i32, local: &TimeZone<'_>, 
         local,
     };
     for row in rows {
-        check_stamp(rt, alloc, row, &dating);
+        check(rt, reads_stamp(alloc, row, &dating), row);
     }
+}
+
+// In a zone that is given, and in the local zone.
+fn check_both(rt: &impl Abort, alloc: Global, year: i32, zone: &TimeZone<'_>, rows: &[&str]) {
+    check_given(rt, alloc, year, zone, rows);
+    check_local(rt, alloc, year, zone, rows);
+}
+
+fn rule(rt: &impl Abort) -> TimeZone<'static> {
+    TimeZone::posix(RULE).expect(rt, RULE)
+}
+
+fn hour_ahead(rt: &impl Abort) -> TimeZone<'static> {
+    TimeZone::fixed(Offset::from_hours(1).expect(rt, "an hour"))
 }
 
 #[test]
@@ -89,16 +99,13 @@ fn takes_the_dates_of_the_calendar(rt: HostRuntime) {
         "Jan 1 2147483648 00:00:00",
         "Jan 1 -1 00:00:00",
     ];
-    let utc = TimeZone::UTC;
-    check_given(&rt, rt.alloc(), 2019, &utc, &rows);
-    check_local(&rt, rt.alloc(), 2019, &utc, &rows);
-    check_given(
-        &rt,
-        rt.alloc(),
-        2020,
-        &utc,
-        &["Feb 29 00:00:00¦2020-02-29T00:00:00+00:00"],
-    );
+    check_both(&rt, rt.alloc(), 2019, &TimeZone::UTC, &rows);
+}
+
+#[test]
+fn takes_a_leap_day_of_the_year(rt: HostRuntime) {
+    let rows = ["Feb 29 00:00:00¦2020-02-29T00:00:00+00:00"];
+    check_given(&rt, rt.alloc(), 2020, &TimeZone::UTC, &rows);
 }
 
 #[test]
@@ -121,8 +128,8 @@ fn check_year(rt: &impl Abort, year: Option<i32>, without: &str, with: &str) {
         tz: None,
         local: &TimeZone::UTC,
     };
-    assert!(rt; rfc3164_stamp(without, &dating).is_none());
-    assert!(rt; stamp_of(with, &dating).is_some());
+    check(rt, rfc3164_stamp(without, &dating).is_none(), without);
+    check(rt, stamp_of(with, &dating).is_some(), with);
 }
 
 #[test]
@@ -134,19 +141,24 @@ fn wants_a_year_in_its_range_where_none_is_shown(rt: HostRuntime) {
     check_year(&rt, None, "Aug 4 16:49:07", "Aug 4 2020 16:49:07");
 }
 
-// A row is a text, the timestamp at its front, which is empty where a dash stands for none, and what is left.
-fn check_front(rt: &impl Abort, row: &str) {
+// The cell of a timestamp is a text of RFC 3339, or empty where a dash stands for none.
+fn is_stamp_of(row: &str, stamp: Option<OffsetTimestamp>) -> bool {
+    match answer_of(row) {
+        Some(want) => is_same(stamp, rfc3339(want)),
+        None => false,
+    }
+}
+
+// A row is a text, the timestamp at its front, and what is left.
+fn reads_front(row: &str) -> bool {
     let dating = Dating {
         year: Some(2019),
         tz: None,
         local: &TimeZone::UTC,
     };
     match rfc3164_stamp(text_of(row), &dating) {
-        Some((stamp, rest)) => {
-            assert!(rt; stamp == rfc3339(answer_of(row).expect(rt, row)), "{row}");
-            assert!(rt; rest == left_of(row), "{row}");
-        }
-        None => assert!(rt; answer_of(row).is_none(), "{row}"),
+        Some((stamp, rest)) => is_stamp_of(row, stamp) && rest == left_of(row),
+        None => answer_of(row).is_none(),
     }
 }
 
@@ -169,29 +181,26 @@ fn leaves_the_text_behind_the_date(rt: HostRuntime) {
         "2003-10-11T22:14:15Z",
         "<34>Oct 11 22:14:15",
     ] {
-        check_front(&rt, row);
+        check(&rt, reads_front(row), row);
     }
 }
 
 #[test]
-fn reads_the_fields_at_a_given_offset(rt: HostRuntime) -> Result<(), Fail> {
-    let ahead = TimeZone::fixed(Offset::from_hours(1)?);
+fn reads_the_fields_at_a_given_offset(rt: HostRuntime) {
     check_given(
         &rt,
         rt.alloc(),
         2019,
-        &ahead,
+        &hour_ahead(&rt),
         &[
             "Dec 28 2008 16:49:07¦2008-12-28T16:49:07+01:00¦2008-12-28T15:49:07Z",
             "Dec 28 16:49:07¦2019-12-28T16:49:07+01:00",
         ],
     );
-    Ok(())
 }
 
 #[test]
-fn takes_the_earlier_instant_in_a_fold(rt: HostRuntime) -> Result<(), Fail> {
-    let rule = TimeZone::posix(RULE)?;
+fn takes_the_earlier_instant_in_a_fold(rt: HostRuntime) {
     let rows = [
         "Oct 25 01:59:59¦2020-10-25T01:59:59+02:00",
         "Oct 25 02:00:00¦2020-10-25T02:00:00+02:00",
@@ -208,19 +217,16 @@ fn takes_the_earlier_instant_in_a_fold(rt: HostRuntime) -> Result<(), Fail> {
         "Oct 25 2020 03:00:00¦2020-10-25T03:00:00+01:00",
         "Oct 25 2020 03:00:01¦2020-10-25T03:00:01+01:00",
     ];
-    check_given(&rt, rt.alloc(), 2020, &rule, &rows);
-    check_local(&rt, rt.alloc(), 2020, &rule, &rows);
-    Ok(())
+    check_both(&rt, rt.alloc(), 2020, &rule(&rt), &rows);
 }
 
 #[test]
-fn refuses_the_gap_of_a_given_zone(rt: HostRuntime) -> Result<(), Fail> {
-    let rule = TimeZone::posix(RULE)?;
+fn refuses_the_gap_of_a_given_zone(rt: HostRuntime) {
     check_given(
         &rt,
         rt.alloc(),
         2020,
-        &rule,
+        &rule(&rt),
         &[
             "Mar 29 01:59:59¦2020-03-29T01:59:59+01:00",
             "Mar 29 02:00:00",
@@ -238,17 +244,15 @@ fn refuses_the_gap_of_a_given_zone(rt: HostRuntime) -> Result<(), Fail> {
             "Mar 29 2020 03:00:01¦2020-03-29T03:00:01+02:00",
         ],
     );
-    Ok(())
 }
 
 #[test]
-fn takes_the_local_gap_as_utc(rt: HostRuntime) -> Result<(), Fail> {
-    let rule = TimeZone::posix(RULE)?;
+fn takes_the_local_gap_as_utc(rt: HostRuntime) {
     check_local(
         &rt,
         rt.alloc(),
         2020,
-        &rule,
+        &rule(&rt),
         &[
             "Mar 29 01:59:59¦2020-03-29T01:59:59+01:00",
             "Mar 29 02:00:00¦2020-03-29T04:00:00+02:00",
@@ -266,7 +270,6 @@ fn takes_the_local_gap_as_utc(rt: HostRuntime) -> Result<(), Fail> {
             "Mar 29 2020 03:00:01¦2020-03-29T03:00:01+02:00",
         ],
     );
-    Ok(())
 }
 
 // Instants reach from -9999-01-02T01:59:59Z to 9999-12-30T22:00:00.999999999Z, offsets to 25:59:59 either way.
@@ -290,8 +293,7 @@ fn refuses_instants_out_of_range_at_the_greatest_offset(rt: HostRuntime) {
         "Jan 3 03:59:57",
         "Jan 3 03:59:58¦-9999-01-03T03:59:58+26:00",
     ];
-    check_given(&rt, rt.alloc(), -9999, &ahead, &rows);
-    check_local(&rt, rt.alloc(), -9999, &ahead, &rows);
+    check_both(&rt, rt.alloc(), -9999, &ahead, &rows);
 }
 
 #[test]
@@ -304,17 +306,14 @@ fn refuses_instants_out_of_range_at_the_least_offset(rt: HostRuntime) {
         "Dec 31 9999 23:59:59",
         "Jan 1 00:00:00¦-9999-01-01T00:00:00-26:00",
     ];
-    check_given(&rt, rt.alloc(), -9999, &behind, &rows);
-    check_local(&rt, rt.alloc(), -9999, &behind, &rows);
+    check_both(&rt, rt.alloc(), -9999, &behind, &rows);
 }
 
 #[test]
-fn tells_the_year_of_a_moment(rt: HostRuntime) -> Result<(), Fail> {
+fn tells_the_year_of_a_moment(rt: HostRuntime) {
     let text = "2019-12-31T23:30:00Z";
     let now = rfc3339(text).expect(&rt, text).instant;
-    let ahead = TimeZone::fixed(Offset::from_hours(1)?);
-    assert!(rt; year_at(now, &TimeZone::UTC) == 2019);
-    assert!(rt; year_at(now, &ahead) == 2020);
-    assert!(rt; year_at(now, &TimeZone::posix(RULE)?) == 2020);
-    Ok(())
+    check(&rt, year_at(now, &TimeZone::UTC) == 2019, "UTC");
+    check(&rt, year_at(now, &hour_ahead(&rt)) == 2020, "an hour ahead");
+    check(&rt, year_at(now, &rule(&rt)) == 2020, RULE);
 }
