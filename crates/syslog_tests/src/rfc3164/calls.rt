@@ -194,10 +194,21 @@ const UNREADABLE: [&str; 6] = [
     " complete and utter gobbledegook ",
 ];
 
-// What a call that answers the fallback answers, with UTC as the zone.
+/// The calls that answer the fallback; the last two are one call, with a zone that is given and with none.
+#[derive(Clone, Copy)]
+enum Call {
+    Moment,
+    Year,
+    GivenZone,
+    LocalZone,
+}
+
+const CALLS: [Call; 4] = [Call::Moment, Call::Year, Call::GivenZone, Call::LocalZone];
+
+// What the call answers, with UTC as the zone.
 fn answer_of<'a>(
     alloc: Global,
-    call: u8,
+    call: Call,
     text: &'a str,
     variant: Variant,
     now: Timestamp,
@@ -205,17 +216,19 @@ fn answer_of<'a>(
     let utc = TimeZone::UTC;
     let year = |_: IncompleteDate| 2019;
     match call {
-        0 => parse_message(alloc, text, variant, now, &utc),
-        1 => parse_message_with_year(alloc, text, year, variant, &utc),
-        2 => parse_message_with_year_tz(alloc, text, year, Some(&utc), variant, &utc),
-        _ => parse_message_with_year_tz(alloc, text, year, None, variant, &utc),
+        Call::Moment => parse_message(alloc, text, variant, now, &utc),
+        Call::Year => parse_message_with_year(alloc, text, year, variant, &utc),
+        Call::GivenZone => {
+            parse_message_with_year_tz(alloc, text, year, Some(&utc), variant, &utc)
+        }
+        Call::LocalZone => parse_message_with_year_tz(alloc, text, year, None, variant, &utc),
     }
 }
 
 // Each call that answers the fallback answers a message with nothing but this in it.
 fn check_fallback_calls(rt: &impl Abort, alloc: Global, text: &str, variant: Variant, msg: &str) {
-    for call in 0..4 {
-        let message = answer_of(alloc, call, text, variant, now(rt));
+    for call in &CALLS {
+        let message = answer_of(alloc, *call, text, variant, now(rt));
         check_bare(rt, &message.expect(rt, text), msg);
     }
 }
