@@ -9,7 +9,8 @@ use syslog_pieces::structured_data::rfc3164_list::{DashRule, begins_list, option
 
 pub(super) type OptionalList<'a> = (Option<Vec<StructuredElement<&'a str>>>, &'a str);
 
-// The elements are those of the row, and what the row leaves stands behind them; or there is no list, and the text stays.
+// The elements are those of the row, and what the row leaves stands behind them; or there is no list, and the text
+// stays.
 fn is_optional_list(row: &str, list: &Option<Vec<StructuredElement<&str>>>, rest: &str) -> bool {
     match list {
         Some(elements) => has_elements(elements, row) && rest == left_of(row),
