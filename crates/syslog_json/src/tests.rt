@@ -106,6 +106,11 @@ impl Write for Taker {
     }
 }
 
+/// Each comparison ends here, since an assertion is dear to prove.
+fn check(rt: &impl Abort, holds: bool, what: &str) {
+    assert!(rt; holds, "{what}");
+}
+
 fn reader_of(bytes: &[u8], step: usize, fails_at: u64) -> Watched<Giver<'_>>
     ensures { result.failed ≡ false }
 {
@@ -136,8 +141,8 @@ fn expect_objects(
     let mut reader = reader_of(bytes, step, NEVER);
     let mut writer = writer_of(step, NEVER);
     let outcome = write_objects(alloc, &mut reader, &mut writer, 2019);
-    assert!(rt; outcome == Ok(Summary { lines, refused }));
-    assert!(rt; writer.inner.written() == output.as_bytes());
+    check(rt, outcome == Ok(Summary { lines, refused }), "counts");
+    check(rt, writer.inner.written() == output.as_bytes(), output);
 }
 
 #[test]
@@ -168,28 +173,42 @@ fn escapes_controls(rt: HostRuntime) {
     expect_objects(&rt, rt.alloc(), line.as_bytes(), 1024, object, 1, 0);
 }
 
+/// Whether this is the output of the first lines of those of which this is the output.
+fn is_first_output(bytes: &[u8], whole: &str) -> bool {
+    whole.as_bytes().starts_with(bytes) && matches!(bytes, [] | [.., b'\n'])
+}
+
+fn check_failing_read(rt: &impl Abort, alloc: Global, fails_at: u64) {
+    let mut reader = reader_of(DATED.as_bytes(), 8, fails_at);
+    let mut writer = writer_of(1024, NEVER);
+    let outcome = write_objects(alloc, &mut reader, &mut writer, 2019);
+    check(rt, outcome == Err(RunFault::Read), "no failed read");
+    let written = writer.inner.written();
+    check(rt, is_first_output(written, DATED_OBJECT), "cut output");
+    check(rt, reader.inner.calls == fails_at, "read on");
+}
+
 #[test]
 fn failing_reads(rt: HostRuntime) {
     for fails_at in 1..8u64 {
-        let mut reader = reader_of(DATED.as_bytes(), 8, fails_at);
-        let mut writer = writer_of(1024, NEVER);
-        let outcome = write_objects(rt.alloc(), &mut reader, &mut writer, 2019);
-        assert!(rt; outcome == Err(RunFault::Read), "at {fails_at}");
-        let written = writer.inner.written();
-        assert!(rt; written.is_empty() || written == DATED_OBJECT.as_bytes());
-        assert!(rt; reader.inner.calls == fails_at);
+        check_failing_read(&rt, rt.alloc(), fails_at);
     }
+}
+
+fn check_failing_write(rt: &impl Abort, alloc: Global, fails_at: u64) {
+    let mut reader = reader_of(DATED.as_bytes(), 1024, NEVER);
+    let mut writer = writer_of(16, fails_at);
+    let outcome = write_objects(alloc, &mut reader, &mut writer, 2019);
+    check(rt, outcome == Err(RunFault::Write), "no failed write");
+    let written = writer.inner.written();
+    check(rt, DATED_OBJECT.as_bytes().starts_with(written), "output");
+    check(rt, writer.inner.calls == fails_at, "wrote on");
 }
 
 #[test]
 fn failing_writes(rt: HostRuntime) {
     for fails_at in 1..8u64 {
-        let mut reader = reader_of(DATED.as_bytes(), 1024, NEVER);
-        let mut writer = writer_of(16, fails_at);
-        let outcome = write_objects(rt.alloc(), &mut reader, &mut writer, 2019);
-        assert!(rt; outcome == Err(RunFault::Write), "at {fails_at}");
-        assert!(rt; DATED_OBJECT.as_bytes().starts_with(writer.inner.written()));
-        assert!(rt; writer.inner.calls == fails_at);
+        check_failing_write(&rt, rt.alloc(), fails_at);
     }
 }
 
@@ -197,15 +216,12 @@ fn failing_writes(rt: HostRuntime) {
 fn check_refused(rt: &impl Abort, alloc: Global, bytes: &[u8], whole: &str) {
     let mut reader = reader_of(bytes, 1024, NEVER);
     let mut writer = writer_of(1024, NEVER);
-    match write_objects(alloc, &mut reader, &mut writer, 2019) {
-        Ok(_) => assert!(rt; writer.inner.written() == whole.as_bytes()),
-        Err(fault) => {
-            assert!(rt; fault == RunFault::Memory);
-            let written = writer.inner.written();
-            assert!(rt; whole.as_bytes().starts_with(written));
-            assert!(rt; written.is_empty() || written.ends_with(b"\n"));
-        }
-    }
+    let outcome = write_objects(alloc, &mut reader, &mut writer, 2019);
+    let all = outcome.is_ok();
+    check(rt, all || outcome == Err(RunFault::Memory), "outcome");
+    let written = writer.inner.written();
+    check(rt, is_first_output(written, whole), "cut output");
+    check(rt, !all || written == whole.as_bytes(), "output");
 }
 
 /// Also run with each request for memory refused in turn.
@@ -215,37 +231,66 @@ fn refused_memory(rt: HostRuntime) {
     check_refused(&rt, rt.alloc(), THREE.as_bytes(), THREE_OBJECTS);
 }
 
-#[test]
-fn tasks(rt: HostRuntime) {
-    assert!(rt; matches!(read_task(&["2019"]), Some(Task::Lines(2019))));
-    assert!(rt; matches!(read_task(&["--", "2019"]), Some(Task::Lines(2019))));
-    assert!(rt; matches!(read_task(&["--help"]), Some(Task::Help)));
-    assert!(rt; matches!(read_task(&["--version"]), Some(Task::Version)));
-    assert!(rt; read_task(&["--version", "2019"]).is_none());
-    assert!(rt; read_task(&["--", "--help"]).is_none());
-    assert!(rt; read_task(&["--refused", "2019"]).is_none());
-    assert!(rt; read_task(&["20190"]).is_none());
-    assert!(rt; read_task(&[]).is_none());
+// The words ask for the lines of the year 2019.
+fn asks_for_lines(words: &[&str]) -> bool {
+    matches!(read_task(words), Some(Task::Lines(2019)))
 }
 
 #[test]
-fn says_what_it_is(rt: HostRuntime) {
+fn tasks(rt: HostRuntime) {
+    check(&rt, asks_for_lines(&["2019"]), "a year");
+    check(&rt, asks_for_lines(&["--", "2019"]), "--");
+    let help = matches!(read_task(&["--help"]), Some(Task::Help));
+    check(&rt, help, "--help");
+    let version = matches!(read_task(&["--version"]), Some(Task::Version));
+    check(&rt, version, "--version");
+}
+
+fn check_no_task(rt: &impl Abort, words: &[&str]) {
+    check(rt, read_task(words).is_none(), "a task");
+}
+
+#[test]
+fn refused_arguments(rt: HostRuntime) {
+    check_no_task(&rt, &["--version", "2019"]);
+    check_no_task(&rt, &["--", "--help"]);
+    check_no_task(&rt, &["--refused", "2019"]);
+    check_no_task(&rt, &["20190"]);
+    check_no_task(&rt, &[]);
+}
+
+const USAGE: &str = "usage: syslog_json [--] YEAR, or --help, or --version\n";
+
+#[test]
+fn says_its_version(rt: HostRuntime) {
     let mut errors = Taker::new(1024, NEVER);
     let mut out = Taker::new(1024, NEVER);
-    assert!(rt; version(&mut out, &mut errors) == 0);
-    assert!(rt; out.written() == "syslog_json 0.1.0\n".as_bytes());
+    check(&rt, version(&mut out, &mut errors) == 0, "status");
+    check(
+        &rt,
+        out.written() == b"syslog_json 0.1.0\n".as_slice(),
+        "version",
+    );
+    check(&rt, errors.written().is_empty(), "errors");
+}
+
+#[test]
+fn says_how_it_is_called(rt: HostRuntime) {
+    let mut errors = Taker::new(1024, NEVER);
     let mut out = Taker::new(1024, NEVER);
-    assert!(rt; help(&mut out, &mut errors) == 0);
-    assert!(rt;
-        out.written().starts_with(b"usage: syslog_json [--] YEAR, or --help, or --version\n\n")
-    );
-    assert!(rt; errors.written().is_empty());
-    assert!(rt; usage(&mut errors) == 2);
-    assert!(rt;
-        errors.written() == "usage: syslog_json [--] YEAR, or --help, or --version\n".as_bytes()
-    );
+    check(&rt, help(&mut out, &mut errors) == 0, "status");
+    let line = b"usage: syslog_json [--] YEAR, or --help, or --version\n\n";
+    check(&rt, out.written().starts_with(line), "help");
+    check(&rt, errors.written().is_empty(), "errors");
+    check(&rt, usage(&mut errors) == 2, "status of a wrong call");
+    check(&rt, errors.written() == USAGE.as_bytes(), USAGE);
+}
+
+#[test]
+fn says_that_it_could_not_write(rt: HostRuntime) {
     let mut closed = Taker::new(1024, 1);
     let mut errors = Taker::new(1024, NEVER);
-    assert!(rt; help(&mut closed, &mut errors) == 2);
-    assert!(rt; errors.written() == "write failed\n".as_bytes());
+    check(&rt, help(&mut closed, &mut errors) == 2, "status");
+    let fault = b"write failed\n".as_slice();
+    check(&rt, errors.written() == fault, "fault");
 }

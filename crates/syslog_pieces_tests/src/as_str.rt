@@ -1,5 +1,4 @@
 use super::rows::check;
-use std::process::Abort;
 use std::test::Fail;
 use syslog_pieces::as_str::AsStr;
 
@@ -17,25 +16,27 @@ fn comes_first<S: AsStr>(one: &S, other: &S) -> bool {
 }
 
 // The texts are `Zork` and `größe`.
-fn check_two<S: AsStr>(rt: &impl Abort, zork: &S, size: &S) {
-    check(rt, has_text(zork, "Zork"), "Zork");
-    check(rt, has_text(size, "größe"), "größe");
-    check(rt, is_shorter_text(zork, size), "shorter");
-    check(rt, comes_first(zork, size), "before the other");
-    check(rt, !comes_first(size, zork), "behind the other");
-    check(rt, !comes_first(zork, zork), "before itself");
+fn are_texts<S: AsStr>(zork: &S, size: &S) -> bool {
+    has_text(zork, "Zork") && has_text(size, "größe") && is_shorter_text(zork, size)
+}
+
+fn are_in_order<S: AsStr>(zork: &S, size: &S) -> bool {
+    comes_first(zork, size) && !comes_first(size, zork) && !comes_first(zork, zork)
 }
 
 #[test]
 fn a_slice_is_a_text(rt: HostRuntime) {
-    check(&rt, has_text(&"", ""), "empty");
-    check_two(&rt, &"Zork", &"größe");
+    let (empty, zork, size) = ("", "Zork", "größe");
+    check(&rt, has_text(&empty, ""), "empty");
+    check(&rt, are_texts(&zork, &size), "texts");
+    check(&rt, are_in_order(&zork, &size), "order");
 }
 
 #[test]
 fn a_string_is_a_text(rt: HostRuntime) -> Result<(), Fail> {
     let zork = String::from_str(rt.alloc(), "Zork")?;
     let size = String::from_str(rt.alloc(), "größe")?;
-    check_two(&rt, &zork, &size);
+    check(&rt, are_texts(&zork, &size), "texts");
+    check(&rt, are_in_order(&zork, &size), "order");
     Ok(())
 }

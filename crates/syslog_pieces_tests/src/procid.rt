@@ -183,32 +183,33 @@ fn takes_one_dash_for_an_absent_process(rt: HostRuntime) {
     }
 }
 
-fn check_equal(rt: &impl Abort, one: &ProcId<&str>, other: &ProcId<&str>, row: &str) {
-    check(rt, *one == *other && !(*one != *other), row);
+fn is_equal(one: &ProcId<&str>, other: &ProcId<&str>) -> bool {
+    *one == *other && !(*one != *other)
 }
 
-fn check_differ(rt: &impl Abort, one: &ProcId<&str>, other: &ProcId<&str>, row: &str) {
-    check(rt, *one != *other && !(*one == *other), row);
+fn differs(one: &ProcId<&str>, other: &ProcId<&str>) -> bool {
+    *one != *other && !(*one == *other)
+}
+
+// The first two texts are read as one process id, and the third as another.
+fn compares(one: &str, same: &str, other: &str) -> bool {
+    let one = ProcId::from(one);
+    is_equal(&one, &ProcId::from(same)) && differs(&one, &ProcId::from(other))
+}
+
+// A number is not the name that prints so.
+fn number_differs_from_name(number: i32, name: &str) -> bool {
+    let (number, name) = (ProcId::PID(number), ProcId::Name(name));
+    differs(&number, &name) && differs(&name, &number)
 }
 
 #[test]
-fn a_number_is_equal_to_no_name(rt: HostRuntime) {
-    check_equal(&rt, &ProcId::from("5"), &ProcId::from("+005"), "5, +005");
-    check_differ(&rt, &ProcId::from("5"), &ProcId::from("6"), "5, 6");
-    check_differ(&rt, &ProcId::PID(5), &ProcId::Name("5"), "5, its name");
-    check_differ(&rt, &ProcId::Name("5"), &ProcId::PID(5), "a name, 5");
-}
-
-#[test]
-fn names_are_equal_by_their_texts(rt: HostRuntime) {
-    check_equal(&rt, &ProcId::from("x:y"), &ProcId::Name("x:y"), "x:y");
-    check_equal(&rt, &ProcId::Name(""), &ProcId::Name(""), "empty");
-    check_differ(
-        &rt,
-        &ProcId::Name("größe"),
-        &ProcId::Name("große"),
-        "größe, große",
-    );
+fn compares_numbers_and_names(rt: HostRuntime) {
+    check(&rt, compares("5", "+005", "6"), "numbers");
+    check(&rt, compares("x:y", "x:y", "x:z"), "names");
+    check(&rt, compares("", "", "x"), "the empty name");
+    check(&rt, compares("größe", "größe", "große"), "past ASCII");
+    check(&rt, number_differs_from_name(5, "5"), "a number and a name");
 }
 
 fn has_equal_copy(alloc: Global, procid: &ProcId<&str>) -> bool {
@@ -236,12 +237,17 @@ fn has_owned_copy(alloc: Global, procid: &ProcId<&str>, text: &str) -> bool {
     }
 }
 
+// The process id of the text prints so, and so do its copies.
+fn has_copies(alloc: Global, text: &str) -> bool {
+    let procid = ProcId::from(text);
+    has_equal_copy(alloc, &procid)
+        && has_owned_copy(alloc, &procid, text)
+        && prints_as(alloc, &procid, text)
+}
+
 #[test]
 fn copies_a_number_and_a_name(rt: HostRuntime) {
     for text in &["323", "-2147483648", "x:y", "", "größe"] {
-        let procid = ProcId::from(*text);
-        check(&rt, has_equal_copy(rt.alloc(), &procid), text);
-        check(&rt, has_owned_copy(rt.alloc(), &procid, text), text);
-        check(&rt, prints_as(rt.alloc(), &procid, text), text);
+        check(&rt, has_copies(rt.alloc(), text), text);
     }
 }

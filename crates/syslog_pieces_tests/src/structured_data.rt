@@ -293,29 +293,41 @@ fn forgiving_lists(rt: HostRuntime) {
     }
 }
 
-#[test]
-fn ten_thousand_brackets(rt: HostRuntime) -> Result<(), Fail> {
-    let open = repeated(rt.alloc(), "[", 10_000, "")?;
-    check_list(&rt, rt.alloc(), open.as_str());
-    let id = repeated(rt.alloc(), "[", 9_999, "")?;
-    let row = format!(in rt.alloc(); "{open}]¦{id}¦")?;
-    check_list(&rt, rt.alloc(), row.as_str());
-    Ok(())
+// The same of a row that was built.
+fn check_built_list(rt: &impl Abort, alloc: Global, row: Result<String, AllocError>) {
+    match row {
+        Ok(row) => check_list(rt, alloc, row.as_str()),
+        Err(_) => check(rt, false, "no memory"),
+    }
+}
+
+// An element whose id is so many brackets.
+fn brackets(alloc: Global, count: usize) -> Result<String, AllocError> {
+    let id = repeated(alloc, "[", count, "")?;
+    format!(in alloc; "[{id}]¦{id}¦")
 }
 
 #[test]
-fn a_thousand_elements(rt: HostRuntime) -> Result<(), Fail> {
-    let list = repeated(rt.alloc(), "[e k=\"v\"]", 1_000, " x")?;
-    let lines = repeated(rt.alloc(), "e|k|v\n", 1_000, "")?;
-    let row = format!(in rt.alloc(); "{list}¦{lines}¦ x")?;
-    check_list(&rt, rt.alloc(), row.as_str());
-    Ok(())
+fn ten_thousand_brackets(rt: HostRuntime) {
+    check_built_list(&rt, rt.alloc(), repeated(rt.alloc(), "[", 10_000, ""));
+    check_built_list(&rt, rt.alloc(), brackets(rt.alloc(), 9_999));
+}
+
+// So many elements.
+fn elements(alloc: Global, count: usize) -> Result<String, AllocError> {
+    let list = repeated(alloc, "[e k=\"v\"]", count, " x")?;
+    let lines = repeated(alloc, "e|k|v\n", count, "")?;
+    format!(in alloc; "{list}¦{lines}¦ x")
+}
+
+#[test]
+fn a_thousand_elements(rt: HostRuntime) {
+    check_built_list(&rt, rt.alloc(), elements(rt.alloc(), 1_000));
 }
 
 // A plain walk, quadratic in the text, takes minutes for this one.
 #[test]
-fn elements_that_fail_at_the_end_of_the_text(rt: HostRuntime) -> Result<(), Fail> {
-    let row = repeated(rt.alloc(), "[a\" b=\"]", 100_000, "¦¦")?;
-    check_list(&rt, rt.alloc(), row.as_str());
-    Ok(())
+fn elements_that_fail_at_the_end_of_the_text(rt: HostRuntime) {
+    let row = repeated(rt.alloc(), "[a\" b=\"]", 100_000, "¦¦");
+    check_built_list(&rt, rt.alloc(), row);
 }

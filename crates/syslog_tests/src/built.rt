@@ -24,18 +24,11 @@ pub(super) fn small<'a>(alloc: Global, protocol: Protocol, msg: &'a str) -> Mess
 // The names and the values that are left of a line.
 fn params_of<'a>(
     alloc: Global,
-    texts: Split<'a, char>,
+    mut texts: Split<'a, char>,
 ) -> Result<Vec<(&'a str, &'a str)>, AllocError> {
     let mut params = Vec::new(alloc);
-    let mut name = None;
-    for text in texts {
-        match name {
-            None => name = Some(text),
-            Some(first) => {
-                params.push((first, text))?;
-                name = None;
-            }
-        }
+    while let Some(name) = texts.next() {
+        params.push((name, texts.next().unwrap_or("")))?;
     }
     Ok(params)
 }
@@ -59,7 +52,8 @@ pub(super) fn elements<'a>(
 ) -> Result<Vec<StructuredElement<&'a str>>, AllocError> {
     let mut elements = Vec::new(alloc);
     for line in lines.lines() {
-        elements.push(element(alloc, line)?)?;
+        let element = element(alloc, line)?;
+        elements.push(element)?;
     }
     Ok(elements)
 }
@@ -83,12 +77,29 @@ pub(super) fn message<'a>(
     cells: &'a str,
 ) -> Message<&'a str> {
     check(rt, are_cells(cells), "a cell of no field", cells);
-    let mut message = small(alloc, protocol, cell(cells, "msg").unwrap_or(""));
-    message.hostname = cell(cells, "host");
-    message.appname = cell(cells, "app");
-    message.procid = process(cells);
-    message.msgid = cell(cells, "id");
     let lines = cell(cells, "list").unwrap_or("");
-    message.structured_data = elements(alloc, lines).expect(rt, "no memory");
-    message
+    of_cells(
+        protocol,
+        cells,
+        elements(alloc, lines).expect(rt, "no memory"),
+    )
+}
+
+fn of_cells<'a>(
+    protocol: Protocol,
+    cells: &'a str,
+    elements: Vec<StructuredElement<&'a str>>,
+) -> Message<&'a str> {
+    Message {
+        protocol,
+        facility: Some(SyslogFacility::LOG_AUTH),
+        severity: Some(SyslogSeverity::SEV_CRIT),
+        timestamp: None,
+        hostname: cell(cells, "host"),
+        appname: cell(cells, "app"),
+        procid: process(cells),
+        msgid: cell(cells, "id"),
+        structured_data: elements,
+        msg: cell(cells, "msg").unwrap_or(""),
+    }
 }

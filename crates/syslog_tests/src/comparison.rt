@@ -6,7 +6,6 @@ use jiff::Timestamp;
 use jiff::tz::Offset;
 use std::alloc::Global;
 use std::process::Abort;
-use std::test::Fail;
 use syslog_loose::{
     AsStr, Message, OffsetTimestamp, ProcId, Protocol, StructuredElement, SyslogFacility,
     SyslogSeverity, Variant,
@@ -36,19 +35,34 @@ fn are_equal(a: &Message<&str>, b: &Message<&str>) -> bool {
     a == b && b == a
 }
 
+// The message that is read from the text.
+fn is_read(alloc: Global, message: &Message<&str>) -> bool {
+    match read(alloc, FULL, Variant::Either) {
+        Ok(found) => are_equal(message, &found) && message.protocol == found.protocol,
+        Err(_) => false,
+    }
+}
+
+#[test]
+fn is_equal_to_what_is_read(rt: HostRuntime) {
+    let full = full(&rt, rt.alloc());
+    check(&rt, is_read(rt.alloc(), &full), "another", FULL);
+}
+
+// It is equal to the full message, and of another protocol.
 fn check_protocol(rt: &impl Abort, alloc: Global, protocol: Protocol) {
-    let a = full(rt, alloc);
-    let mut b = read(alloc, FULL, Variant::Either).expect(rt, FULL);
-    check(rt, are_equal(&a, &b), "one is not equal", FULL);
-    check(rt, a.protocol == b.protocol, "another protocol", FULL);
-    b.protocol = protocol;
-    check(
-        rt,
-        are_equal(&a, &b),
-        "one of another protocol is not equal",
-        FULL,
-    );
-    check(rt, a.protocol != b.protocol, "the same protocol", FULL);
+    let full = full(rt, alloc);
+    let other = of_protocol(rt, alloc, protocol);
+    check(rt, are_equal(&full, &other), "not equal", FULL);
+    let same = full.protocol == other.protocol;
+    check(rt, !same, "the same protocol", FULL);
+}
+
+// The full message, of this protocol.
+fn of_protocol<'a>(rt: &impl Abort, alloc: Global, protocol: Protocol) -> Message<&'a str> {
+    let mut message = full(rt, alloc);
+    message.protocol = protocol;
+    message
 }
 
 #[test]
@@ -65,22 +79,24 @@ fn stamped<'a>(rt: &impl Abort, alloc: Global, milliseconds: i64, offset: i32) -
 }
 
 #[test]
-fn compares_timestamps_by_instant(rt: HostRuntime) {
+fn prints_timestamps_at_their_offset(rt: HostRuntime) {
     let utc = stamped(&rt, rt.alloc(), 1_577_836_800_000, 0);
     let want = "<34>1 2020-01-01T00:00:00+00:00 mymachine.example.com su - ID47 - message";
     check_printed(&rt, rt.alloc(), &utc, want);
     let ahead = stamped(&rt, rt.alloc(), 1_577_836_800_000, 3600);
-    check(&rt, are_equal(&utc, &ahead), "not equal ahead", want);
-    check(
-        &rt,
-        utc.timestamp == ahead.timestamp,
-        "no timestamp equal ahead",
-        want,
-    );
     let want = "<34>1 2020-01-01T01:00:00+01:00 mymachine.example.com su - ID47 - message";
     check_printed(&rt, rt.alloc(), &ahead, want);
+}
+
+#[test]
+fn compares_timestamps_by_instant(rt: HostRuntime) {
+    let utc = stamped(&rt, rt.alloc(), 1_577_836_800_000, 0);
+    let ahead = stamped(&rt, rt.alloc(), 1_577_836_800_000, 3600);
+    check(&rt, are_equal(&utc, &ahead), "not equal", "an hour ahead");
+    let same = utc.timestamp == ahead.timestamp;
+    check(&rt, same, "no equal timestamp", "an hour ahead");
     let later = stamped(&rt, rt.alloc(), 1_577_836_801_000, 0);
-    check(&rt, utc != later, "equal a second later", want);
+    check(&rt, utc != later, "equal", "a second later");
 }
 
 // The full message with one field changed.
@@ -176,43 +192,52 @@ fn number<S: AsStr>(message: &Message<S>) -> Option<i32> {
     }
 }
 
-// The owned message and a clone of it are equal, and each prints so.
-fn check_clone(rt: &impl Abort, alloc: Global, owned: &Message<String>, printed: &str) {
-    check_printed(rt, alloc, owned, printed);
-    let again = owned.try_clone(alloc).expect(rt, "no memory");
-    check(rt, again == *owned, "not equal", printed);
-    check_printed(rt, alloc, &again, printed);
+fn prints_as<S: AsStr>(alloc: Global, message: &Message<S>, want: &str) -> bool {
+    match format!(in alloc; "{message}") {
+        Ok(printed) => printed.as_str() == want,
+        Err(_) => false,
+    }
 }
 
-fn check_owned(rt: &impl Abort, alloc: Global, message: &Message<&str>, printed: &str) {
-    let owned = message.to_owned_text(alloc).expect(rt, "no memory");
-    check(
-        rt,
-        owned.protocol == message.protocol,
-        "another protocol",
-        printed,
-    );
-    check(
-        rt,
-        number(&owned) == number(message),
-        "another process",
-        printed,
-    );
-    check_clone(rt, alloc, &owned, printed);
+// A clone of the owned message is equal to it, and prints so.
+fn has_clone(alloc: Global, owned: &Message<String>, printed: &str) -> bool {
+    match owned.try_clone(alloc) {
+        Ok(again) => again == *owned && prints_as(alloc, &again, printed),
+        Err(_) => false,
+    }
+}
+
+// The owned message has the protocol and the number of the other, and prints so.
+fn owns(owned: &Message<String>, message: &Message<&str>) -> bool {
+    owned.protocol == message.protocol && number(owned) == number(message)
+}
+
+fn has_owned(alloc: Global, message: &Message<&str>, printed: &str) -> bool {
+    match message.to_owned_text(alloc) {
+        Ok(owned) => {
+            owns(&owned, message)
+                && prints_as(alloc, &owned, printed)
+                && has_clone(alloc, &owned, printed)
+        }
+        Err(_) => false,
+    }
+}
+
+fn has_copy(alloc: Global, message: &Message<&str>, printed: &str) -> bool {
+    match message.try_clone(alloc) {
+        Ok(copy) => {
+            copy == *message
+                && copy.protocol == message.protocol
+                && prints_as(alloc, &copy, printed)
+        }
+        Err(_) => false,
+    }
 }
 
 // Copies of the message are equal to it, and each prints so.
 fn check_copies(rt: &impl Abort, alloc: Global, message: &Message<&str>, printed: &str) {
-    let copy = message.try_clone(alloc).expect(rt, "no memory");
-    check(rt, copy == *message, "not equal", printed);
-    check(
-        rt,
-        copy.protocol == message.protocol,
-        "another protocol",
-        printed,
-    );
-    check_printed(rt, alloc, &copy, printed);
-    check_owned(rt, alloc, message, printed);
+    check(rt, has_copy(alloc, message, printed), "a copy", printed);
+    check(rt, has_owned(alloc, message, printed), "owned", printed);
     check_printed(rt, alloc, message, printed);
 }
 
@@ -238,33 +263,40 @@ const LISTED: &str =
 #[test]
 fn copies_a_line_with_two_elements(rt: HostRuntime) {
     let message = read(rt.alloc(), LISTED, Variant::Either).expect(&rt, LISTED);
-    check(
-        &rt,
-        message.protocol == Protocol::RFC5424(1),
-        "protocol",
-        LISTED,
-    );
-    check(&rt, number(&message) == Some(8449), "process", LISTED);
+    let fields = message.protocol == Protocol::RFC5424(1) && number(&message) == Some(8449);
+    check(&rt, fields, "fields", LISTED);
     check_copies(&rt, rt.alloc(), &message, LISTED);
 }
 
-fn check_element_printed<S: AsStr>(
-    rt: &impl Abort,
-    alloc: Global,
-    element: &StructuredElement<S>,
-    want: &str,
-) {
-    let printed = element.to_string(alloc).expect(rt, "no memory");
-    check(rt, printed.as_str() == want, printed.as_str(), want);
+fn element_prints_as<S: AsStr>(alloc: Global, element: &StructuredElement<S>, want: &str) -> bool {
+    match element.to_string(alloc) {
+        Ok(printed) => printed.as_str() == want,
+        Err(_) => false,
+    }
+}
+
+fn has_element_copy(alloc: Global, element: &StructuredElement<&str>, want: &str) -> bool {
+    match element.try_clone(alloc) {
+        Ok(copy) => copy == *element && element_prints_as(alloc, &copy, want),
+        Err(_) => false,
+    }
+}
+
+fn has_owned_element(alloc: Global, element: &StructuredElement<&str>, want: &str) -> bool {
+    match element.to_owned_text(alloc) {
+        Ok(owned) => element_prints_as(alloc, &owned, want),
+        Err(_) => false,
+    }
 }
 
 fn check_element(rt: &impl Abort, alloc: Global, line: &str, want: &str) {
-    let element = element(alloc, line).expect(rt, "no memory");
-    let copy = element.try_clone(alloc).expect(rt, "no memory");
-    check(rt, copy == element, "not equal", want);
-    check_element_printed(rt, alloc, &copy, want);
-    let owned = element.to_owned_text(alloc).expect(rt, "no memory");
-    check_element_printed(rt, alloc, &owned, want);
+    match element(alloc, line) {
+        Ok(element) => {
+            check(rt, has_element_copy(alloc, &element, want), "a copy", want);
+            check(rt, has_owned_element(alloc, &element, want), "owned", want);
+        }
+        Err(_) => check(rt, false, "no memory", want),
+    }
 }
 
 #[test]
@@ -290,16 +322,24 @@ fn is_empty(name: &Option<String>) -> bool {
     }
 }
 
+// An empty app name, the process 323 and this message.
+fn has_fields(owned: &Message<String>, msg: &str) -> bool {
+    is_empty(&owned.appname) && number(owned) == Some(323) && owned.msg.as_str() == msg
+}
+
+fn owns_fields(alloc: Global, message: &Message<&str>, msg: &str, printed: &str) -> bool {
+    match message.to_owned_text(alloc) {
+        Ok(owned) => has_fields(&owned, msg) && prints_as(alloc, &owned, printed),
+        Err(_) => false,
+    }
+}
+
 #[test]
-fn owns_the_texts_of_a_message(rt: HostRuntime) -> Result<(), Fail> {
+fn owns_the_texts_of_a_message(rt: HostRuntime) {
     let row = "host host¦app ¦pid 323¦msg hi";
     let mut message = message(&rt, rt.alloc(), Protocol::RFC3164, row);
     message.timestamp = stamp(&rt, 1_570_832_055_000, 0);
-    let owned = message.to_owned_text(rt.alloc())?;
-    check(&rt, is_empty(&owned.appname), "app", row);
-    check(&rt, number(&owned) == Some(323), "process", row);
-    check(&rt, owned.msg.as_str() == "hi", "msg", row);
-    let want = "<34> 2019-10-11T22:14:15+00:00 host [323]: hi";
-    check_printed(&rt, rt.alloc(), &owned, want);
-    Ok(())
+    let printed = "<34> 2019-10-11T22:14:15+00:00 host [323]: hi";
+    let owned = owns_fields(rt.alloc(), &message, "hi", printed);
+    check(&rt, owned, "an owned message", row);
 }

@@ -13,6 +13,9 @@ pub(super) const RULE: &str = "CET-1CEST,M3.5.0,M10.5.0/3";
 /// The years that a closure answers in January 2020: of a date in December, and of one in another month.
 pub(super) const IN_JANUARY: (i32, i32) = (2019, 2020);
 
+/// What a reading call answers.
+pub(super) type Answer<'a> = Result<Message<&'a str>, ParseFault>;
+
 /// The message of the text in these zones, with a closure that answers the years by the month, as in `IN_JANUARY`.
 pub(super) fn read_in_zones<'a>(
     alloc: Global,
@@ -21,7 +24,7 @@ pub(super) fn read_in_zones<'a>(
     tz: Option<&TimeZone<'_>>,
     variant: Variant,
     local: &TimeZone<'_>,
-) -> Result<Message<&'a str>, ParseFault> {
+) -> Answer<'a> {
     parse_message_with_year_exact_tz(
         alloc,
         text,
@@ -33,11 +36,7 @@ pub(super) fn read_in_zones<'a>(
 }
 
 /// The message of the text, with UTC as both zones.
-pub(super) fn read<'a>(
-    alloc: Global,
-    text: &'a str,
-    variant: Variant,
-) -> Result<Message<&'a str>, ParseFault> {
+pub(super) fn read<'a>(alloc: Global, text: &'a str, variant: Variant) -> Answer<'a> {
     read_in_year(alloc, text, 2019, variant)
 }
 
@@ -47,7 +46,7 @@ pub(super) fn read_in_year<'a>(
     text: &'a str,
     year: i32,
     variant: Variant,
-) -> Result<Message<&'a str>, ParseFault> {
+) -> Answer<'a> {
     let utc = TimeZone::UTC;
     read_in_zones(alloc, text, (year, year), Some(&utc), variant, &utc)
 }
@@ -58,12 +57,12 @@ pub(super) fn read_by_month<'a>(
     text: &'a str,
     years: (i32, i32),
     variant: Variant,
-) -> Result<Message<&'a str>, ParseFault> {
+) -> Answer<'a> {
     read_in_zones(alloc, text, years, None, variant, &TimeZone::UTC)
 }
 
 /// The answer is that the text has no division.
-pub(super) fn is_invalid(answer: Result<Message<&str>, ParseFault>) -> bool {
+pub(super) fn is_invalid(answer: Answer<'_>) -> bool {
     match answer {
         Ok(_) => false,
         Err(fault) => matches!(fault, ParseFault::Invalid),

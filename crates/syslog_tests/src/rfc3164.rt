@@ -10,7 +10,7 @@ mod printed;
 use super::expected::{
     cells_of, check, check_fields, check_printed, filled, printed_of, text_of, year_of,
 };
-use super::reading::{IN_JANUARY, check_invalid, read_by_month, read_in_year};
+use super::reading::{Answer, IN_JANUARY, check_invalid, read_by_month, read_in_year};
 use std::alloc::Global;
 use std::process::Abort;
 use syslog_loose::{Message, Protocol, Variant};
@@ -28,13 +28,21 @@ fn check_message(rt: &impl Abort, alloc: Global, message: &Message<&str>, text: 
     check_printed(rt, alloc, message, printed_of(cells));
 }
 
+/// The answer is that message.
+fn check_answer(rt: &impl Abort, alloc: Global, answer: Answer<'_>, text: &str, cells: &str) {
+    match answer {
+        Ok(message) => check_message(rt, alloc, &message, text, cells),
+        Err(_) => check(rt, false, "no message", text),
+    }
+}
+
 /// The text reads so by the variant, in a given zone and without one.
 fn check_text(rt: &impl Abort, alloc: Global, text: &str, cells: &str, variant: Variant) {
     let year = year_of(cells);
-    let message = read_in_year(alloc, text, year, variant);
-    check_message(rt, alloc, &message.expect(rt, text), text, cells);
-    let message = read_by_month(alloc, text, (year, year), variant);
-    check_message(rt, alloc, &message.expect(rt, text), text, cells);
+    let answer = read_in_year(alloc, text, year, variant);
+    check_answer(rt, alloc, answer, text, cells);
+    let answer = read_by_month(alloc, text, (year, year), variant);
+    check_answer(rt, alloc, answer, text, cells);
 }
 
 /// The text of each row reads so as RFC 3164 and under `Either`, and not as RFC 5424.
@@ -61,8 +69,8 @@ fn check_by_month(rt: &impl Abort, alloc: Global, rows: &[&str]) {
     for row in rows {
         let (text, cells) = (text_of(row), cells_of(row));
         for variant in &[Variant::Either, Variant::RFC3164] {
-            let message = read_by_month(alloc, text, IN_JANUARY, *variant);
-            check_message(rt, alloc, &message.expect(rt, text), text, cells);
+            let answer = read_by_month(alloc, text, IN_JANUARY, *variant);
+            check_answer(rt, alloc, answer, text, cells);
         }
     }
 }

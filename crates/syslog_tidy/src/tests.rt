@@ -8,11 +8,10 @@ mod sizes;
 use crate::args::{Output, Task, read_args, read_task};
 use crate::report::{help, usage, version};
 use crate::run::run;
-use std::alloc::Global;
+use std::alloc::{AllocError, Global};
 use std::io;
 use std::io::{Error, ErrorKind, Read, Write};
 use std::process::Abort;
-use std::test::Fail;
 use syslog_lines::report::report;
 use syslog_lines::{RunFault, Summary, Watched, read_year};
 
@@ -130,6 +129,11 @@ impl Write for Taker {
     }
 }
 
+/// Each comparison ends here, since an assertion is dear to prove.
+fn check(rt: &impl Abort, holds: bool, what: &str) {
+    assert!(rt; holds, "{what}");
+}
+
 fn reader_of(bytes: &[u8], step: usize, fails_at: u64) -> Watched<Giver<'_>>
     ensures { result.failed ≡ false }
 {
@@ -160,9 +164,9 @@ fn expect_run(
     let mut reader = reader_of(bytes, step, NEVER);
     let mut writer = writer_of(step, NEVER, Wrong::Fails);
     let outcome = run(alloc, &mut reader, &mut writer, 2019);
-    assert!(rt; outcome == Ok(Summary { lines, refused }));
-    assert!(rt; writer.inner.written() == output.as_bytes());
-    assert!(rt; writer.inner.flushes == 1);
+    check(rt, outcome == Ok(Summary { lines, refused }), "counts");
+    check(rt, writer.inner.written() == output.as_bytes(), output);
+    check(rt, writer.inner.flushes == 1, "flushes");
 }
 
 #[test]
@@ -249,100 +253,97 @@ fn refuses_other_bytes(rt: HostRuntime) {
     expect_run(&rt, alloc, b"<200>1 - - - - - -\r\n", 1024, printed, 1, 0);
 }
 
-/// A line that takes several blocks, and blocks that cut lines.
-#[test]
-fn long_input(rt: HostRuntime) -> Result<(), Fail> {
-    let alloc = rt.alloc();
+// A long line, and many short ones.
+fn long_lines(alloc: Global) -> Result<String, AllocError> {
     let mut input = String::from_str(alloc, "<34>1 - h a 1 m - ")?;
-    for _ in 0..20000u32 {
-        input.push_str("1234567890")?;
-    }
+    let long = "1234567890".repeat(alloc, 20_000)?;
+    input.push_str(long.as_str())?;
     input.push_str("\n")?;
-    for _ in 0..2000u32 {
-        input.push_str("<34>1 2003-10-11T22:14:15.003+00:00 h a 1 m - x\n")?;
-    }
-    let mut reader = reader_of(input.as_bytes(), 1000000, NEVER);
-    let mut writer = Watched::new(Vec::new(alloc));
-    let outcome = run(alloc, &mut reader, &mut writer, 2019);
-    assert!(rt;
-        outcome
-            == Ok(Summary {
-                lines: 2001,
-                refused: 0
-            })
-    );
-    assert!(rt; writer.inner.as_slice() == input.as_bytes());
-    Ok(())
+    let short = "<34>1 2003-10-11T22:14:15.003+00:00 h a 1 m - x\n".repeat(alloc, 2000)?;
+    input.push_str(short.as_str())?;
+    Ok(input)
 }
 
-/// Whether this is the output of the first lines of `TWO`.
-fn is_first_output(bytes: &[u8]) -> bool {
-    bytes.is_empty() || bytes == MESSAGE_PRINTED.as_bytes() || bytes == TWO_PRINTED.as_bytes()
+/// A line that takes several blocks, and blocks that cut lines.
+#[test]
+fn long_input(rt: HostRuntime) {
+    let input = long_lines(rt.alloc()).expect(&rt, "no memory");
+    let lines = input.as_bytes();
+    sizes::expect_output(&rt, rt.alloc(), lines, 1_000_000, lines, 2001, 0);
+}
+
+/// Whether this is the output of the first lines of those of which this is the output.
+fn is_first_output(bytes: &[u8], whole: &str) -> bool {
+    whole.as_bytes().starts_with(bytes) && matches!(bytes, [] | [.., b'\n'])
+}
+
+fn check_failing_read(rt: &impl Abort, alloc: Global, fails_at: u64) {
+    let mut reader = reader_of(TWO.as_bytes(), 8, fails_at);
+    let mut writer = writer_of(1024, NEVER, Wrong::Fails);
+    let outcome = run(alloc, &mut reader, &mut writer, 2019);
+    check(rt, outcome == Err(RunFault::Read), "no failed read");
+    let written = writer.inner.written();
+    check(rt, is_first_output(written, TWO_PRINTED), "cut output");
+    check(rt, reader.inner.calls == fails_at, "read on");
 }
 
 #[test]
 fn failing_reads(rt: HostRuntime) {
     for fails_at in 1..14u64 {
-        let mut reader = reader_of(TWO.as_bytes(), 8, fails_at);
-        let mut writer = writer_of(1024, NEVER, Wrong::Fails);
-        let outcome = run(rt.alloc(), &mut reader, &mut writer, 2019);
-        assert!(rt; outcome == Err(RunFault::Read), "at {fails_at}");
-        assert!(rt; is_first_output(writer.inner.written()), "at {fails_at}");
-        assert!(rt; reader.inner.calls == fails_at);
+        check_failing_read(&rt, rt.alloc(), fails_at);
     }
+}
+
+#[test]
+fn ends_where_no_more_reads_are_counted(rt: HostRuntime) {
     let mut reader = reader_of(TWO.as_bytes(), 1024, NEVER);
     reader.calls = u64::MAX;
     let mut writer = writer_of(1024, NEVER, Wrong::Fails);
     let outcome = run(rt.alloc(), &mut reader, &mut writer, 2019);
-    assert!(rt; outcome == Err(RunFault::Read));
-    assert!(rt; writer.inner.written().is_empty());
-    assert!(rt; reader.inner.calls == 0);
+    check(&rt, outcome == Err(RunFault::Read), "no failed read");
+    check(&rt, writer.inner.written().is_empty(), "output");
+    check(&rt, reader.inner.calls == 0, "read");
+}
+
+fn check_failing_write(rt: &impl Abort, alloc: Global, wrong: Wrong, wrong_at: u64) {
+    let mut reader = reader_of(TWO.as_bytes(), 1024, NEVER);
+    let mut writer = writer_of(8, wrong_at, wrong);
+    let outcome = run(alloc, &mut reader, &mut writer, 2019);
+    check(rt, outcome == Err(RunFault::Write), "no failed write");
+    let written = writer.inner.written();
+    check(rt, TWO_PRINTED.as_bytes().starts_with(written), "output");
+    check(rt, writer.inner.calls == wrong_at, "wrote on");
 }
 
 #[test]
 fn failing_writes(rt: HostRuntime) {
-    for wrong in [Wrong::Fails, Wrong::TakesNothing] {
-        for wrong_at in 1..14u64 {
-            let mut reader = reader_of(TWO.as_bytes(), 1024, NEVER);
-            let mut writer = writer_of(8, wrong_at, wrong);
-            let outcome = run(rt.alloc(), &mut reader, &mut writer, 2019);
-            assert!(rt; outcome == Err(RunFault::Write), "at {wrong_at}");
-            assert!(rt;
-                TWO_PRINTED.as_bytes().starts_with(writer.inner.written()),
-                "at {wrong_at}"
-            );
-            assert!(rt; writer.inner.calls == wrong_at);
-        }
+    for wrong_at in 1..14u64 {
+        check_failing_write(&rt, rt.alloc(), Wrong::Fails, wrong_at);
+        check_failing_write(&rt, rt.alloc(), Wrong::TakesNothing, wrong_at);
     }
+}
+
+#[test]
+fn failing_flush(rt: HostRuntime) {
     let mut reader = reader_of(TWO.as_bytes(), 1024, NEVER);
     let mut writer = writer_of(1024, NEVER, Wrong::Fails);
     writer.inner.flush_fails = true;
     let outcome = run(rt.alloc(), &mut reader, &mut writer, 2019);
-    assert!(rt; outcome == Err(RunFault::Write));
-    assert!(rt; writer.inner.written() == TWO_PRINTED.as_bytes());
+    check(&rt, outcome == Err(RunFault::Write), "no failed flush");
+    let written = writer.inner.written();
+    check(&rt, written == TWO_PRINTED.as_bytes(), "output");
 }
 
 /// Either all of the output is written, or memory is refused, and then nothing is written or all of it.
 fn check_refused(rt: &impl Abort, alloc: Global, bytes: &[u8], whole: &[u8]) {
     let mut reader = reader_of(bytes, 1024, NEVER);
     let mut writer = writer_of(1024, NEVER, Wrong::Fails);
-    match run(alloc, &mut reader, &mut writer, 2019) {
-        Ok(summary) => {
-            assert!(rt;
-                summary
-                    == Summary {
-                        lines: 3,
-                        refused: 2
-                    }
-            );
-            assert!(rt; writer.inner.written() == whole);
-        }
-        Err(fault) => {
-            assert!(rt; fault == RunFault::Memory);
-            let written = writer.inner.written();
-            assert!(rt; written.is_empty() || written == whole);
-        }
-    }
+    let outcome = run(alloc, &mut reader, &mut writer, 2019);
+    let (lines, refused) = (3, 2);
+    let all = outcome == Ok(Summary { lines, refused });
+    check(rt, all || outcome == Err(RunFault::Memory), "outcome");
+    let written = writer.inner.written();
+    check(rt, written == whole || !all && written.is_empty(), "output");
 }
 
 /// Also run with each request for memory refused in turn: nothing is then written, or all of it.
@@ -361,52 +362,73 @@ fn numbers_each_fault(rt: HostRuntime) {
 
 #[test]
 fn years(rt: HostRuntime) {
-    assert_eq!(rt; read_year("2019"), Some(2019));
-    assert_eq!(rt; read_year("0007"), Some(7));
-    for text in ["", "+19", "20190", "x"] {
-        assert_eq!(rt; read_year(text), None, "{text}");
+    check(&rt, read_year("2019") == Some(2019), "2019");
+    check(&rt, read_year("0007") == Some(7), "0007");
+    for text in &["", "+19", "20190", "x"] {
+        check(&rt, read_year(text).is_none(), text);
     }
+}
+
+// The words before the year 2019 ask for this output.
+fn asks_for(words: &[&str], output: Output) -> bool {
+    read_args(words) == Some((output, 2019))
 }
 
 #[test]
 fn arguments(rt: HostRuntime) {
-    assert!(rt; read_args(&["2019"]) == Some((Output::Settled, 2019)));
-    assert!(rt; read_args(&["--", "2019"]) == Some((Output::Settled, 2019)));
-    assert!(rt; read_args(&["--changed", "2019"]) == Some((Output::DashChange, 2019)));
-    assert!(rt; read_args(&["--refused", "2019"]) == Some((Output::Refused, 2019)));
-    assert!(rt; read_args(&["--refused", "--", "2019"]) == Some((Output::Refused, 2019)));
-    assert!(rt; read_args(&[]).is_none());
-    assert!(rt; read_args(&["--changed"]).is_none());
-    assert!(rt; read_args(&["--changed", "x"]).is_none());
-    assert!(rt; read_args(&["--changed", "--refused", "2019"]).is_none());
-    assert!(rt; read_args(&["--Changed", "2019"]).is_none());
-    assert!(rt; read_args(&["2019", "--changed"]).is_none());
-    assert!(rt; read_args(&["--", "--changed", "2019"]).is_none());
-    assert!(rt; read_args(&["2019", "2019"]).is_none());
-    assert!(rt; read_args(&["--"]).is_none());
+    check(&rt, asks_for(&["2019"], Output::Settled), "a year");
+    check(&rt, asks_for(&["--", "2019"], Output::Settled), "--");
+    let changed = ["--changed", "2019"];
+    check(&rt, asks_for(&changed, Output::DashChange), "--changed");
+    let refused = ["--refused", "2019"];
+    check(&rt, asks_for(&refused, Output::Refused), "--refused");
+    let refused = ["--refused", "--", "2019"];
+    check(&rt, asks_for(&refused, Output::Refused), "--refused --");
+}
+
+fn check_no_arguments(rt: &impl Abort, words: &[&str]) {
+    check(rt, read_args(words).is_none(), "arguments");
+}
+
+#[test]
+fn refused_arguments(rt: HostRuntime) {
+    check_no_arguments(&rt, &[]);
+    check_no_arguments(&rt, &["--changed"]);
+    check_no_arguments(&rt, &["--changed", "x"]);
+    check_no_arguments(&rt, &["--changed", "--refused", "2019"]);
+    check_no_arguments(&rt, &["--Changed", "2019"]);
+    check_no_arguments(&rt, &["2019", "--changed"]);
+    check_no_arguments(&rt, &["--", "--changed", "2019"]);
+    check_no_arguments(&rt, &["2019", "2019"]);
+    check_no_arguments(&rt, &["--"]);
+}
+
+fn check_no_task(rt: &impl Abort, words: &[&str]) {
+    check(rt, read_task(words).is_none(), "a task");
+}
+
+fn asks_for_refused(words: &[&str]) -> bool {
+    matches!(read_task(words), Some(Task::Lines(Output::Refused, 2019)))
 }
 
 #[test]
 fn tasks(rt: HostRuntime) {
-    assert!(rt; matches!(read_task(&["--help"]), Some(Task::Help)));
-    assert!(rt; matches!(read_task(&["--version"]), Some(Task::Version)));
-    assert!(rt;
-        matches!(
-            read_task(&["--refused", "2019"]),
-            Some(Task::Lines(Output::Refused, 2019))
-        )
-    );
-    assert!(rt; read_task(&["--version", "2019"]).is_none());
-    assert!(rt; read_task(&["--", "--help"]).is_none());
-    assert!(rt; read_task(&["--Version"]).is_none());
-    assert!(rt; read_task(&[]).is_none());
+    let help = matches!(read_task(&["--help"]), Some(Task::Help));
+    check(&rt, help, "--help");
+    let version = matches!(read_task(&["--version"]), Some(Task::Version));
+    check(&rt, version, "--version");
+    check(&rt, asks_for_refused(&["--refused", "2019"]), "--refused");
+    check_no_task(&rt, &["--version", "2019"]);
+    check_no_task(&rt, &["--", "--help"]);
+    check_no_task(&rt, &["--Version"]);
+    check_no_task(&rt, &[]);
 }
 
 /// Reports the outcome, and expects this status and this text.
 fn expect_report(rt: &impl Abort, outcome: &Result<Summary, RunFault>, status: u8, text: &str) {
     let mut errors = Taker::new(1024, NEVER, Wrong::Fails);
-    assert!(rt; report(outcome, &mut errors) == status);
-    assert!(rt; errors.written() == text.as_bytes());
+    check(rt, report(outcome, &mut errors) == status, "status");
+    check(rt, errors.written() == text.as_bytes(), text);
 }
 
 #[test]
@@ -432,35 +454,63 @@ fn reports(rt: HostRuntime) {
     expect_report(&rt, &Err(RunFault::Read), 2, "read failed\n");
     expect_report(&rt, &Err(RunFault::Write), 2, "write failed\n");
     expect_report(&rt, &Err(RunFault::Memory), 2, "out of memory\n");
+}
+
+#[test]
+fn says_that_it_was_called_wrongly(rt: HostRuntime) {
     let mut errors = Taker::new(1024, NEVER, Wrong::Fails);
-    assert!(rt; usage(&mut errors) == 2);
-    assert!(rt;
-        errors.written().starts_with(b"usage: syslog_tidy [--changed | --refused] [--] YEAR, or ")
-    );
+    check(&rt, usage(&mut errors) == 2, "status");
+    let line = b"usage: syslog_tidy [--changed | --refused] [--] YEAR, or ";
+    check(&rt, errors.written().starts_with(line), "usage");
     let mut closed = Taker::new(1024, 1, Wrong::Fails);
-    assert!(rt; report(&Err(RunFault::Read), &mut closed) == 2);
+    let status = report(&Err(RunFault::Read), &mut closed);
+    check(&rt, status == 2, "status of a failed read");
 }
 
 #[test]
 fn says_its_version(rt: HostRuntime) {
     let mut errors = Taker::new(1024, NEVER, Wrong::Fails);
     let mut out = Taker::new(1024, NEVER, Wrong::Fails);
-    assert!(rt; version(&mut out, &mut errors) == 0);
-    assert!(rt; out.written() == "syslog_tidy 0.1.0\n".as_bytes());
-    assert!(rt; errors.written() == "".as_bytes());
-    let mut closed = Taker::new(1024, 1, Wrong::Fails);
-    assert!(rt; version(&mut closed, &mut errors) == 2);
-    assert!(rt; errors.written() == "write failed\n".as_bytes());
+    check(&rt, version(&mut out, &mut errors) == 0, "status");
+    check(
+        &rt,
+        out.written() == b"syslog_tidy 0.1.0\n".as_slice(),
+        "version",
+    );
+    check(&rt, errors.written().is_empty(), "errors");
 }
 
 #[test]
 fn says_how_it_is_called(rt: HostRuntime) {
     let mut errors = Taker::new(1024, NEVER, Wrong::Fails);
     let mut out = Taker::new(1024, NEVER, Wrong::Fails);
-    assert!(rt; help(&mut out, &mut errors) == 0);
-    assert!(rt; out.written().starts_with(b"usage: syslog_tidy "));
-    assert!(rt; errors.written() == "".as_bytes());
+    check(&rt, help(&mut out, &mut errors) == 0, "status");
+    check(
+        &rt,
+        out.written().starts_with(b"usage: syslog_tidy "),
+        "usage",
+    );
+    check(&rt, errors.written().is_empty(), "errors");
+}
+
+// A failed write is told.
+fn check_failed(rt: &impl Abort, status: u8, errors: &Taker) {
+    check(rt, status == 2, "status");
+    check(
+        rt,
+        errors.written() == b"write failed\n".as_slice(),
+        "fault",
+    );
+}
+
+#[test]
+fn says_that_it_could_not_write(rt: HostRuntime) {
+    let mut errors = Taker::new(1024, NEVER, Wrong::Fails);
     let mut closed = Taker::new(1024, 1, Wrong::Fails);
-    assert!(rt; help(&mut closed, &mut errors) == 2);
-    assert!(rt; errors.written() == "write failed\n".as_bytes());
+    let status = version(&mut closed, &mut errors);
+    check_failed(&rt, status, &errors);
+    let mut errors = Taker::new(1024, NEVER, Wrong::Fails);
+    let mut closed = Taker::new(1024, 1, Wrong::Fails);
+    let status = help(&mut closed, &mut errors);
+    check_failed(&rt, status, &errors);
 }

@@ -40,8 +40,10 @@ fn source(alloc: Global, text: &str, tries: Tries) -> Result<Message<&str>, Pars
 
 // A copy of the message is the message again.
 fn is_cloned(alloc: Global, message: &Message<&str>, want: &str) -> Result<bool, AllocError> {
-    let copy = message.try_clone(alloc)?;
-    Ok(copy == *message && prints(&copy, want))
+    match message.try_clone(alloc) {
+        Ok(copy) => Ok(copy == *message && prints(&copy, want)),
+        Err(refused) => Err(refused),
+    }
 }
 
 fn check_clone(rt: &impl Abort, alloc: Global, message: &Message<&str>, want: &str, tries: Tries) {
@@ -73,8 +75,10 @@ fn check_owned(rt: &impl Abort, alloc: Global, message: &Message<&str>, want: &s
 }
 
 fn is_owned_cloned(alloc: Global, owned: &Message<String>, want: &str) -> Result<bool, AllocError> {
-    let copy = owned.try_clone(alloc)?;
-    Ok(copy == *owned && prints(&copy, want))
+    match owned.try_clone(alloc) {
+        Ok(copy) => Ok(copy == *owned && prints(&copy, want)),
+        Err(refused) => Err(refused),
+    }
 }
 
 fn check_owned_clone(
@@ -97,8 +101,10 @@ fn is_element_cloned(
     element: &StructuredElement<&str>,
     want: &str,
 ) -> Result<bool, AllocError> {
-    let copy = element.try_clone(alloc)?;
-    Ok(copy == *element && prints(&copy, want))
+    match element.try_clone(alloc) {
+        Ok(copy) => Ok(copy == *element && prints(&copy, want)),
+        Err(refused) => Err(refused),
+    }
 }
 
 fn is_element_owned(
@@ -106,8 +112,10 @@ fn is_element_owned(
     element: &StructuredElement<&str>,
     want: &str,
 ) -> Result<bool, AllocError> {
-    let owned = element.to_owned_text(alloc)?;
-    Ok(prints(&owned, want))
+    match element.to_owned_text(alloc) {
+        Ok(owned) => Ok(prints(&owned, want)),
+        Err(refused) => Err(refused),
+    }
 }
 
 // Both copies of an element that prints so.

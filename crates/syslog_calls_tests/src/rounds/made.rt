@@ -25,9 +25,20 @@ fn joined(rt: &impl Abort, alloc: Global, front: &str, rest: &str) -> String {
 /// Each message behind the front of a line.
 fn expect_messages(rt: &impl Abort, alloc: Global, front: &str, year: i32, tz: &TimeZone<'_>) {
     for message in &MESSAGES {
-        let line = joined(rt, alloc, front, message);
-        expect_as_by_hand(rt, alloc, line.as_str(), year, tz);
+        expect_line(rt, alloc, front, message, year, tz);
     }
+}
+
+fn expect_line(
+    rt: &impl Abort,
+    alloc: Global,
+    front: &str,
+    message: &str,
+    year: i32,
+    tz: &TimeZone<'_>,
+) {
+    let line = joined(rt, alloc, front, message);
+    expect_as_by_hand(rt, alloc, line.as_str(), year, tz);
 }
 
 /// Each tag behind a host and a timestamp.

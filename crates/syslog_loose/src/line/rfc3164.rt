@@ -213,8 +213,8 @@ fn write_dated(
 }
 
 /// Writes the printed text of the message of the trimmed line into `text`, where the variant reads it by RFC 3164 and
-/// all of it, its timestamp too, prints as it is written, and tells whether it did. It asks for memory as `dated_text`
-/// does.
+/// all of it, its timestamp too but for a `Z`, prints as it is written, and tells whether it did. It asks for memory as
+/// `dated_text` does.
 pub(crate) fn stamped_text(
     text: &mut String,
     input: &str,

@@ -116,12 +116,18 @@ fn hostile_texts_that_are_no_list(rt: HostRuntime) {
     check_no_list(&rt, rt.alloc(), "x", 100_000, "[a b=\"c\"]");
 }
 
+// So many elements, and behind them a hundred thousand broken ones.
+fn elements_before_broken_ones(alloc: Global, count: usize) -> Result<String, AllocError> {
+    let elements = repeated(alloc, "[e k=\"v\"]", count, "")?;
+    let lines = repeated(alloc, "e|k|v\n", count, "")?;
+    let broken = repeated(alloc, "[a\" b=\"]", 100_000, "")?;
+    format!(in alloc; "{elements}{broken}¦{lines}¦{broken}")
+}
+
 #[test]
-fn a_thousand_elements_before_broken_ones(rt: HostRuntime) -> Result<(), Fail> {
-    let elements = repeated(rt.alloc(), "[e k=\"v\"]", 1_000, "")?;
-    let lines = repeated(rt.alloc(), "e|k|v\n", 1_000, "")?;
-    let broken = repeated(rt.alloc(), "[a\" b=\"]", 100_000, "")?;
-    let row = format!(in rt.alloc(); "{elements}{broken}¦{lines}¦{broken}")?;
-    check_list(&rt, rt.alloc(), row.as_str(), DashRule::BeforeBlank);
-    Ok(())
+fn a_thousand_elements_before_broken_ones(rt: HostRuntime) {
+    match elements_before_broken_ones(rt.alloc(), 1_000) {
+        Ok(row) => check_list(&rt, rt.alloc(), row.as_str(), DashRule::BeforeBlank),
+        Err(_) => check(&rt, false, "no memory"),
+    }
 }

@@ -78,15 +78,29 @@ fn takes_the_dates_of_the_calendar(rt: HostRuntime) {
         "Feb 29 1900 00:00:00",
         "Feb 29 2000 00:00:00¦2000-02-29T00:00:00+00:00",
         "Feb 30 2020 10:00:00",
-        "Dec 31 23:59:59¦2019-12-31T23:59:59+00:00",
-        "Dec 31 23:59:60",
-        "Dec 31 23:60:00",
-        "Dec 31 24:00:00",
-        "Dec 32 00:00:00",
         "Jan 0 00:00:00",
         "Jan 1 00:00:00¦2019-01-01T00:00:00+00:00",
         "Apr 30 00:00:00¦2019-04-30T00:00:00+00:00",
         "Apr 31 00:00:00",
+        "Dec 32 00:00:00",
+    ];
+    check_both(&rt, rt.alloc(), 2019, &TimeZone::UTC, &rows);
+}
+
+#[test]
+fn takes_the_times_of_a_day(rt: HostRuntime) {
+    let rows = [
+        "Dec 31 23:59:59¦2019-12-31T23:59:59+00:00",
+        "Dec 31 23:59:60",
+        "Dec 31 23:60:00",
+        "Dec 31 24:00:00",
+    ];
+    check_both(&rt, rt.alloc(), 2019, &TimeZone::UTC, &rows);
+}
+
+#[test]
+fn takes_no_number_that_is_too_large(rt: HostRuntime) {
+    let rows = [
         "Jan 4294967295 00:00:00",
         "Jan 257 00:00:00",
         "Jan 4294967296 00:00:00",

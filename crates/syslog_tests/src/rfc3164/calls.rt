@@ -1,7 +1,7 @@
 //! The reading calls on dates: zones, the closure, the fallback and the year of a moment.
 use super::is_of_rfc3164;
 use crate::expected::{check, check_fields, check_printed, check_priority, printed_of};
-use crate::reading::{IN_JANUARY, RULE, check_invalid, is_invalid, read_in_zones};
+use crate::reading::{Answer, IN_JANUARY, RULE, check_invalid, is_invalid, read_in_zones};
 use std::alloc::{AllocError, Global};
 use std::process::Abort;
 use std::test::Fail;
@@ -29,7 +29,15 @@ fn check_reading(
             *variant,
             &TimeZone::UTC,
         );
-        check_printed(rt, alloc, &message.expect(rt, text), want);
+        check_prints(rt, alloc, message, text, want);
+    }
+}
+
+// The answer is a message that prints so.
+fn check_prints(rt: &impl Abort, alloc: Global, answer: Answer<'_>, text: &str, want: &str) {
+    match answer {
+        Ok(message) => check_printed(rt, alloc, &message, want),
+        Err(_) => check(rt, false, "no message", text),
     }
 }
 
@@ -55,9 +63,9 @@ fn check_gap(rt: &impl Abort, alloc: Global, rule: &TimeZone<'_>, variant: Varia
     );
     check(rt, is_invalid(given), "a message in a gap", text);
     let year = |_: IncompleteDate| 2020;
-    let message = parse_message_with_year_exact(alloc, text, year, variant, rule);
+    let answer = parse_message_with_year_exact(alloc, text, year, variant, rule);
     let want = "<47> 2020-03-29T04:30:00+02:00 h a: m";
-    check_printed(rt, alloc, &message.expect(rt, text), want);
+    check_prints(rt, alloc, answer, text, want);
 }
 
 #[test]
@@ -119,28 +127,33 @@ fn check_asked(rt: &impl Abort, alloc: Global, variant: Variant, asked: bool, te
     }
 }
 
+const DATED: &str = "<34>Dec 28 2008 16:49:07 h a: m";
+
+const UNDATED: &str = "<34>Dec 28 16:49:07 h a: m";
+
 #[test]
-fn asks_for_a_year_only_where_a_date_shows_none(rt: HostRuntime) -> Result<(), Fail> {
+fn asks_for_no_year_where_a_date_shows_one(rt: HostRuntime) {
     let alloc = rt.alloc();
-    let dated = "<34>Dec 28 2008 16:49:07 h a: m";
-    let undated = "<34>Dec 28 16:49:07 h a: m";
-    let stamped = "<34>2008-12-28T16:49:07Z h a: m";
-    let others = [dated, "<34>1 - h a 1 m - x", "gobbledegook"];
+    let others = [DATED, "<34>1 - h a 1 m - x", "gobbledegook"];
     check_asked(&rt, alloc, Variant::Either, false, &others);
-    check_asked(&rt, alloc, Variant::RFC3164, false, &[dated, stamped]);
-    check_asked(&rt, alloc, Variant::RFC5424, false, &[undated]);
-    check_asked(&rt, alloc, Variant::RFC3164, true, &[undated]);
-    check_asked(
-        &rt,
-        alloc,
-        Variant::Either,
-        true,
-        &["  Feb 30 16:49:07 h a: m"],
-    );
-    let ahead = TimeZone::fixed(Offset::from_hours(1)?);
+    let dated = [DATED, "<34>2008-12-28T16:49:07Z h a: m"];
+    check_asked(&rt, alloc, Variant::RFC3164, false, &dated);
+    check_asked(&rt, alloc, Variant::RFC5424, false, &[UNDATED]);
+}
+
+#[test]
+fn asks_for_a_year_where_a_date_shows_none(rt: HostRuntime) {
+    let alloc = rt.alloc();
+    check_asked(&rt, alloc, Variant::RFC3164, true, &[UNDATED]);
+    let no_day = ["  Feb 30 16:49:07 h a: m"];
+    check_asked(&rt, alloc, Variant::Either, true, &no_day);
+}
+
+#[test]
+fn reads_a_date_with_a_year_in_the_zone(rt: HostRuntime) {
+    let ahead = TimeZone::fixed(Offset::from_hours(1).expect(&rt, "no offset"));
     let want = "<34> 2008-12-28T16:49:07+01:00 h a: m";
-    check_reading(&rt, alloc, dated, 2019, &ahead, want);
-    Ok(())
+    check_reading(&rt, rt.alloc(), DATED, 2019, &ahead, want);
 }
 
 /// 2019-12-31T23:30:00Z, in seconds.

@@ -46,17 +46,28 @@ fn check_row(rt: &impl Abort, alloc: Global, built: &str, printed: &str, other: 
 /// A row is the cells of a message that is canonical, and what it prints as.
 fn check_canonical(rt: &impl Abort, alloc: Global, rows: &[&str]) {
     for row in rows {
-        let (built, printed) = row.split_once(" → ").expect(rt, row);
-        check_row(rt, alloc, built, printed, built);
+        match row.split_once(" → ") {
+            Some((built, printed)) => check_row(rt, alloc, built, printed, built),
+            None => check(rt, false, "no printed text", row),
+        }
+    }
+}
+
+// The rest is the printed text, and the cells of the other message.
+fn check_other(rt: &impl Abort, alloc: Global, built: &str, rest: &str) {
+    match rest.split_once(" → ") {
+        Some((printed, other)) => check_row(rt, alloc, built, printed, other),
+        None => check(rt, false, "no other message", rest),
     }
 }
 
 /// A row is the cells of a message, what it prints as, and the cells of the other message that this is read as.
 fn check_others(rt: &impl Abort, alloc: Global, rows: &[&str]) {
     for row in rows {
-        let (built, rest) = row.split_once(" → ").expect(rt, row);
-        let (printed, other) = rest.split_once(" → ").expect(rt, row);
-        check_row(rt, alloc, built, printed, other);
+        match row.split_once(" → ") {
+            Some((built, rest)) => check_other(rt, alloc, built, rest),
+            None => check(rt, false, "no printed text", row),
+        }
     }
 }
 

@@ -1,7 +1,8 @@
 //! Worked texts whose lists have elements, whole or broken.
 use super::{check_filled, check_table};
+use crate::expected::{cells_of, check, text_of};
 use crate::reading::{check_filled_invalid, check_invalid};
-use std::alloc::Global;
+use std::alloc::{AllocError, Global};
 use std::process::Abort;
 use std::test::Fail;
 use syslog_loose::Variant;
@@ -76,32 +77,48 @@ const LOCAL_FRONT: &str = "<13>1 2019-02-13T19:48:34+00:00 74794bfb6795 root 844
 const LOCAL_CELLS: &str =
     "¦facility user¦severity notice¦at 2019-02-13T19:48:34+00:00¦host 74794bfb6795¦app root¦pid 8449";
 
+fn check_built(rt: &impl Abort, alloc: Global, row: Result<String, AllocError>) {
+    match row {
+        Ok(row) => check_table(rt, alloc, &[row.as_str()]),
+        Err(_) => check(rt, false, "no memory", "a row"),
+    }
+}
+
+/// A line with two elements, and the cells that differ from those above.
+const LISTED: &str =
+    "<13>1 2019-02-13T19:48:34+00:00 74794bfb6795 root 8449 - [meta sequenceId=\"1\" sysUpTime=\"37\" \
+     language=\"EN\"][origin ip=\"192.168.0.1\" software=\"test\"] i am foobar";
+
+const LISTED_CELLS: &str =
+    "¦list meta|sequenceId|1|sysUpTime|37|language|EN\norigin|ip|192.168.0.1|software|test¦msg i am foobar";
+
+// That line with this on both sides.
+fn listed_between(alloc: Global, blanks: &str) -> Result<String, AllocError> {
+    format!(in alloc; "{blanks}{LISTED}{blanks}{LOCAL_CELLS}{LISTED_CELLS}¦prints {LISTED}")
+}
+
 #[test]
-fn reads_two_elements_and_trims_the_text(rt: HostRuntime) -> Result<(), Fail> {
-    let alloc = rt.alloc();
-    let line =
-        "<13>1 2019-02-13T19:48:34+00:00 74794bfb6795 root 8449 - [meta sequenceId=\"1\" sysUpTime=\"37\" \
-         language=\"EN\"][origin ip=\"192.168.0.1\" software=\"test\"] i am foobar";
-    let cells = format!(in alloc;
-        "{LOCAL_CELLS}¦list meta|sequenceId|1|sysUpTime|37|language|EN\norigin|ip|192.168.0.1|software|test¦msg i am \
-         foobar¦prints {line}"
-    )?;
-    let canonical = format!(in alloc; "{line}{cells}")?;
-    let indented = format!(in alloc; "\n            {line}\n            {cells}")?;
-    check_table(&rt, alloc, &[canonical.as_str(), indented.as_str()]);
-    Ok(())
+fn reads_two_elements_and_trims_the_text(rt: HostRuntime) {
+    check_built(&rt, rt.alloc(), listed_between(rt.alloc(), ""));
+    check_built(
+        &rt,
+        rt.alloc(),
+        listed_between(rt.alloc(), "\n            "),
+    );
+}
+
+// A line with this list, the lines of its elements, and what the list prints as.
+fn local_row(alloc: Global, list: &str, elements: &str, left: &str) -> Result<String, AllocError> {
+    format!(in alloc;
+        "{LOCAL_FRONT}{list} qwerty{LOCAL_CELLS}¦list {elements}¦msg qwerty¦prints {LOCAL_FRONT}{left} qwerty"
+    )
 }
 
 // A row is a list, the lines of the elements that it reads as, and what it prints as.
 fn check_local(rt: &impl Abort, alloc: Global, row: &str) {
-    let mut cells = row.split('¦');
-    let list = cells.next().expect(rt, row);
-    let elements = cells.next().expect(rt, row);
-    let left = cells.next().expect(rt, row);
-    let row = format!(in alloc;
-        "{LOCAL_FRONT}{list} qwerty{LOCAL_CELLS}¦list {elements}¦msg qwerty¦prints {LOCAL_FRONT}{left} qwerty"
-    );
-    check_table(rt, alloc, &[row.expect(rt, "no memory").as_str()]);
+    let (list, cells) = (text_of(row), cells_of(row));
+    let row = local_row(alloc, list, text_of(cells), cells_of(cells));
+    check_built(rt, alloc, row);
 }
 
 #[test]

@@ -1,19 +1,17 @@
 //! Messages built by hand, and what they print as.
-use crate::built::{elements, small};
-use crate::expected::check_printed;
+use crate::built::message;
+use crate::expected::{check, check_printed};
 use std::alloc::{AllocError, Global};
-use std::test::Fail;
 use syslog_loose::{
     Message, Offset, OffsetTimestamp, ProcId, Protocol, StructuredElement, Timestamp,
 };
 
 #[test]
-fn prints_values_as_they_stand(rt: HostRuntime) -> Result<(), Fail> {
-    let mut message = small(rt.alloc(), Protocol::RFC5424(1), "hi");
-    message.structured_data = elements(rt.alloc(), "x\na|b|x\"||c\\")?;
+fn prints_values_as_they_stand(rt: HostRuntime) {
+    let cells = "list x\na|b|x\"||c\\¦msg hi";
+    let message = message(&rt, rt.alloc(), Protocol::RFC5424(1), cells);
     let want = "<34>1 - - - - - [x][a b=\"x\"\" =\"c\\\"] hi";
     check_printed(&rt, rt.alloc(), &message, want);
-    Ok(())
 }
 
 fn string(alloc: Global, text: &str) -> Result<String, AllocError> {
@@ -51,13 +49,14 @@ fn message_over_strings(
 }
 
 #[test]
-fn prints_a_message_over_strings(rt: HostRuntime) -> Result<(), Fail> {
+fn prints_a_message_over_strings(rt: HostRuntime) {
     let timestamp = OffsetTimestamp {
-        instant: Timestamp::from_nanosecond(0)?,
-        offset: Offset::from_seconds(-3600)?,
+        instant: Timestamp::from_nanosecond(0).expect(&rt, "no instant"),
+        offset: Offset::from_seconds(-3600).expect(&rt, "no offset"),
     };
-    let message = message_over_strings(rt.alloc(), timestamp)?;
     let want = "<47>0 1969-12-31T23:00:00-01:00 h - +5  [größe b=\"]\"] 局";
-    check_printed(&rt, rt.alloc(), &message, want);
-    Ok(())
+    match message_over_strings(rt.alloc(), timestamp) {
+        Ok(message) => check_printed(&rt, rt.alloc(), &message, want),
+        Err(_) => check(&rt, false, "no memory", want),
+    }
 }

@@ -1,5 +1,5 @@
 //! The lines that are read differently: worked lines, and readers and writers that fail.
-use super::{NEVER, Taker, Wrong, reader_of, writer_of};
+use super::{NEVER, Taker, Wrong, check, is_first_output, reader_of, writer_of};
 use crate::counts::DashChangeCounts;
 use crate::dash_change::dash_change;
 use crate::report::report_dash_change;
@@ -34,15 +34,13 @@ fn expect_dash_change(
     let mut reader = reader_of(bytes, step, NEVER);
     let mut writer = writer_of(step, NEVER, Wrong::Fails);
     let outcome = dash_change(alloc, &mut reader, &mut writer, 2019);
-    assert!(rt;
-        outcome
-            == Ok(DashChangeCounts {
-                lines,
-                dash_changes: count
-            })
-    );
-    assert!(rt; writer.inner.written() == output.as_bytes());
-    assert!(rt; writer.inner.flushes == 1);
+    let counts = DashChangeCounts {
+        lines,
+        dash_changes: count,
+    };
+    check(rt, outcome == Ok(counts), "counts");
+    check(rt, writer.inner.written() == output.as_bytes(), output);
+    check(rt, writer.inner.flushes == 1, "flushes");
 }
 
 #[test]
@@ -67,51 +65,61 @@ fn writes_lines_as_they_came(rt: HostRuntime) {
     expect_dash_change(&rt, alloc, b"--x\xff\n--x", 1, "--x\n", 2, 1);
 }
 
-/// Whether this is the output of the first lines of `TWO`.
-fn is_first_output(bytes: &[u8]) -> bool {
-    bytes.is_empty() || bytes == "--x\n".as_bytes() || bytes == TWO_LINES.as_bytes()
+fn check_failing_read(rt: &impl Abort, alloc: Global, fails_at: u64) {
+    let mut reader = reader_of(TWO.as_bytes(), 8, fails_at);
+    let mut writer = writer_of(1024, NEVER, Wrong::Fails);
+    let outcome = dash_change(alloc, &mut reader, &mut writer, 2019);
+    check(rt, outcome == Err(RunFault::Read), "no failed read");
+    let written = writer.inner.written();
+    check(rt, is_first_output(written, TWO_LINES), "cut output");
+    check(rt, reader.inner.calls == fails_at, "read on");
 }
 
 #[test]
 fn failing_reads(rt: HostRuntime) {
     for fails_at in 1..9u64 {
-        let mut reader = reader_of(TWO.as_bytes(), 8, fails_at);
-        let mut writer = writer_of(1024, NEVER, Wrong::Fails);
-        let outcome = dash_change(rt.alloc(), &mut reader, &mut writer, 2019);
-        assert!(rt; outcome == Err(RunFault::Read), "at {fails_at}");
-        assert!(rt; is_first_output(writer.inner.written()), "at {fails_at}");
-        assert!(rt; reader.inner.calls == fails_at);
+        check_failing_read(&rt, rt.alloc(), fails_at);
     }
+}
+
+#[test]
+fn ends_where_no_more_reads_are_counted(rt: HostRuntime) {
     let mut reader = reader_of(TWO.as_bytes(), 1024, NEVER);
     reader.calls = u64::MAX;
     let mut writer = writer_of(1024, NEVER, Wrong::Fails);
     let outcome = dash_change(rt.alloc(), &mut reader, &mut writer, 2019);
-    assert!(rt; outcome == Err(RunFault::Read));
-    assert!(rt; writer.inner.written().is_empty());
-    assert!(rt; reader.inner.calls == 0);
+    check(&rt, outcome == Err(RunFault::Read), "no failed read");
+    check(&rt, writer.inner.written().is_empty(), "output");
+    check(&rt, reader.inner.calls == 0, "read");
+}
+
+fn check_failing_write(rt: &impl Abort, alloc: Global, wrong: Wrong, wrong_at: u64) {
+    let mut reader = reader_of(TWO.as_bytes(), 1024, NEVER);
+    let mut writer = writer_of(8, wrong_at, wrong);
+    let outcome = dash_change(alloc, &mut reader, &mut writer, 2019);
+    check(rt, outcome == Err(RunFault::Write), "no failed write");
+    let written = writer.inner.written();
+    check(rt, TWO_LINES.as_bytes().starts_with(written), "output");
+    check(rt, writer.inner.calls == wrong_at, "wrote on");
 }
 
 #[test]
 fn failing_writes(rt: HostRuntime) {
-    for wrong in [Wrong::Fails, Wrong::TakesNothing] {
-        for wrong_at in 1..8u64 {
-            let mut reader = reader_of(TWO.as_bytes(), 1024, NEVER);
-            let mut writer = writer_of(8, wrong_at, wrong);
-            let outcome = dash_change(rt.alloc(), &mut reader, &mut writer, 2019);
-            assert!(rt; outcome == Err(RunFault::Write), "at {wrong_at}");
-            assert!(rt;
-                TWO_LINES.as_bytes().starts_with(writer.inner.written()),
-                "at {wrong_at}"
-            );
-            assert!(rt; writer.inner.calls == wrong_at);
-        }
+    for wrong_at in 1..8u64 {
+        check_failing_write(&rt, rt.alloc(), Wrong::Fails, wrong_at);
+        check_failing_write(&rt, rt.alloc(), Wrong::TakesNothing, wrong_at);
     }
+}
+
+#[test]
+fn failing_flush(rt: HostRuntime) {
     let mut reader = reader_of(TWO.as_bytes(), 1024, NEVER);
     let mut writer = writer_of(1024, NEVER, Wrong::Fails);
     writer.inner.flush_fails = true;
     let outcome = dash_change(rt.alloc(), &mut reader, &mut writer, 2019);
-    assert!(rt; outcome == Err(RunFault::Write));
-    assert!(rt; writer.inner.written() == TWO_LINES.as_bytes());
+    check(&rt, outcome == Err(RunFault::Write), "no failed flush");
+    let written = writer.inner.written();
+    check(&rt, written == TWO_LINES.as_bytes(), "output");
 }
 
 /// Also run with each request for memory refused in turn: nothing is then written, or all lines before one that
@@ -120,22 +128,15 @@ fn failing_writes(rt: HostRuntime) {
 fn refused_memory(rt: HostRuntime) {
     let mut reader = reader_of(THREE.as_bytes(), 1024, NEVER);
     let mut writer = writer_of(1024, NEVER, Wrong::Fails);
-    match dash_change(rt.alloc(), &mut reader, &mut writer, 2019) {
-        Ok(counts) => {
-            assert!(rt;
-                counts
-                    == DashChangeCounts {
-                        lines: 3,
-                        dash_changes: 1
-                    }
-            );
-            assert!(rt; writer.inner.written() == DASHED_LINE.as_bytes());
-        }
-        Err(fault) => {
-            assert!(rt; fault == RunFault::Memory);
-            assert!(rt; writer.inner.written().is_empty());
-        }
-    }
+    let outcome = dash_change(rt.alloc(), &mut reader, &mut writer, 2019);
+    let counts = DashChangeCounts {
+        lines: 3,
+        dash_changes: 1,
+    };
+    let all = outcome == Ok(counts);
+    check(&rt, all || outcome == Err(RunFault::Memory), "outcome");
+    let whole = if all { DASHED_LINE } else { "" };
+    check(&rt, writer.inner.written() == whole.as_bytes(), whole);
 }
 
 /// Reports the outcome, and expects this status and this text.
@@ -146,8 +147,9 @@ fn expect_report(
     text: &str,
 ) {
     let mut errors = Taker::new(1024, NEVER, Wrong::Fails);
-    assert!(rt; report_dash_change(outcome, &mut errors) == status);
-    assert!(rt; errors.written() == text.as_bytes());
+    let found = report_dash_change(outcome, &mut errors);
+    check(rt, found == status, "status");
+    check(rt, errors.written() == text.as_bytes(), text);
 }
 
 #[test]
@@ -178,5 +180,6 @@ fn reports(rt: HostRuntime) {
         lines: 1,
         dash_changes: 1,
     });
-    assert!(rt; report_dash_change(&outcome, &mut closed) == 1);
+    let status = report_dash_change(&outcome, &mut closed);
+    check(&rt, status == 1, "status of a report that can't be written");
 }
