@@ -1,6 +1,6 @@
 //! Messages built by hand, compared and copied.
 use super::built::{element, elements, message, small};
-use super::expected::{check, check_printed};
+use super::expected::{check, check_printed, prints_as};
 use super::reading::read;
 use jiff::Timestamp;
 use jiff::tz::Offset;
@@ -189,13 +189,6 @@ fn number<S: AsStr>(message: &Message<S>) -> Option<i32> {
     match &message.procid {
         Some(ProcId::PID(number)) => Some(*number),
         _ => None,
-    }
-}
-
-fn prints_as<S: AsStr>(alloc: Global, message: &Message<S>, want: &str) -> bool {
-    match format!(in alloc; "{message}") {
-        Ok(printed) => printed.as_str() == want,
-        Err(_) => false,
     }
 }
 

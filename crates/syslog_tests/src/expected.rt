@@ -241,12 +241,19 @@ pub(super) fn check_fields(rt: &impl Abort, message: &Message<&str>, text: &str,
     );
 }
 
+pub(super) fn prints_as<S: AsStr>(alloc: Global, message: &Message<S>, want: &str) -> bool {
+    match format!(in alloc; "{message}") {
+        Ok(printed) => printed.as_str() == want,
+        Err(_) => false,
+    }
+}
+
 pub(super) fn check_printed<S: AsStr>(
     rt: &impl Abort,
     alloc: Global,
     message: &Message<S>,
     want: &str,
 ) {
-    let printed = format!(in alloc; "{message}").expect(rt, "no memory");
-    check(rt, printed.as_str() == want, printed.as_str(), want);
+    let holds = prints_as(alloc, message, want);
+    check(rt, holds, "it prints otherwise", want);
 }

@@ -2,7 +2,7 @@
 //! like white space.
 use super::{check_filled, check_table};
 use crate::reading::{check_filled_invalid, check_invalid};
-use std::test::Fail;
+use std::alloc::{AllocError, Global};
 use syslog_loose::Variant;
 
 #[test]
@@ -120,13 +120,15 @@ fn reads_a_host_of_ten_thousand_colons(rt: HostRuntime) {
 }
 
 #[test]
-fn reads_a_thousand_elements_of_rfc_3164(rt: HostRuntime) -> Result<(), Fail> {
-    let alloc = rt.alloc();
+fn reads_a_thousand_elements_of_rfc_3164(rt: HostRuntime) {
+    let row = thousand_elements(rt.alloc()).expect(&rt, "no memory");
+    check_table(&rt, rt.alloc(), &[row.as_str()]);
+}
+
+fn thousand_elements(alloc: Global) -> Result<String, AllocError> {
     let lines = "e|k|v\n".repeat(alloc, 999)?;
     let list = "[e k=\"v\"]".repeat(alloc, 1000)?;
-    let row = format!(in alloc;
+    format!(in alloc;
         "- h a: {list} x¦host h¦app a¦list {lines}e|k|v¦msg x¦prints <47> - h a: {list} x"
-    )?;
-    check_table(&rt, alloc, &[row.as_str()]);
-    Ok(())
+    )
 }
