@@ -47,8 +47,9 @@ fn two_digits(n: u32) -> [u8; 2]
     [digit(n / 10), digit(n % 10)]
 }
 
+/// A number below 1000, in three digits.
 #[inline(always)]
-fn three_digits(n: u32) -> [u8; 3]
+pub(crate) fn three_digits(n: u32) -> [u8; 3]
     requires { n < 1_000 }
     ensures ascii { AllByRecursion (λ b. b < 128) result }
     ensures text { result ≡ pad3 n }

@@ -7,7 +7,7 @@ ghost use Rattle.syslog_pieces.specs.Timestamp.Fields.{fields_of};
 ghost use Rattle.syslog_pieces.specs.Timestamp.Printed as spec;
 
 use super::OffsetTimestamp;
-use crate::text::write_ascii::{digit, write_bytes};
+use crate::text::write_ascii::{digit, three_digits, write_bytes};
 use jiff::civil::DateTime;
 use jiff::tz::Offset;
 use std::fmt;
@@ -108,49 +108,16 @@ fn write_fraction<W: fmt::Write>(f: &mut fmt::Formatter<W>, nanosecond: u32) -> 
     if nanosecond == 0 {
         return Ok(());
     }
-    let milli = nanosecond / 1_000_000;
+    f.write_str(".")?;
+    write_bytes(f, &three_digits(nanosecond / 1_000_000))?;
     if nanosecond % 1_000_000 == 0 {
-        return write_bytes(
-            f,
-            &[
-                b'.',
-                digit(milli / 100),
-                digit(milli / 10 % 10),
-                digit(milli % 10),
-            ],
-        );
+        return Ok(());
     }
-    let micro = nanosecond / 1_000 % 1_000;
+    write_bytes(f, &three_digits(nanosecond / 1_000 % 1_000))?;
     if nanosecond % 1_000 == 0 {
-        return write_bytes(
-            f,
-            &[
-                b'.',
-                digit(milli / 100),
-                digit(milli / 10 % 10),
-                digit(milli % 10),
-                digit(micro / 100),
-                digit(micro / 10 % 10),
-                digit(micro % 10),
-            ],
-        );
+        return Ok(());
     }
-    let nano = nanosecond % 1_000;
-    write_bytes(
-        f,
-        &[
-            b'.',
-            digit(milli / 100),
-            digit(milli / 10 % 10),
-            digit(milli % 10),
-            digit(micro / 100),
-            digit(micro / 10 % 10),
-            digit(micro % 10),
-            digit(nano / 100),
-            digit(nano / 10 % 10),
-            digit(nano % 10),
-        ],
-    )
+    write_bytes(f, &three_digits(nanosecond % 1_000))
 }
 
 // A sign and `HH:MM`.
