@@ -5,7 +5,6 @@ pub mod Equal
 pub mod EqualLaws
 pub mod Jumps
 pub mod VerbatimLine
-pub mod Verbatim3164
 pub mod Exceptions
 pub mod Formats
 pub mod Message

@@ -22,11 +22,8 @@ ghost use Rattle.syslog_pieces.specs.declared.timestamp.month_date.MonthDate.{Mo
 ghost use Rattle.syslog_loose.specs.Reading.{AsksYear, IsUnreadable, OfTrimmed};
 ghost use Rattle.syslog_loose.specs.Rfc5424.{IsNot5424, IsRead5424};
 
-mod rfc3164;
-
 use crate::message::{make_room, write_spaced};
 use crate::variant::Variant;
-pub(crate) use rfc3164::{DatedLine, dated_line, dated_text, stamped_text};
 use std::alloc::AllocError;
 use std::fmt;
 use std::fmt::Write;

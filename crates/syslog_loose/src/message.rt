@@ -68,8 +68,9 @@ pub struct Message<S> {
     pub msg: S,
 }
 
-// The composed priority, with what stands for an absent part.
-fn priority(facility: Option<SyslogFacility>, severity: Option<SyslogSeverity>) -> u32
+/// The composed priority, with what stands for an absent part.
+#[inline]
+pub(crate) fn priority(facility: Option<SyslogFacility>, severity: Option<SyslogSeverity>) -> u32
     ensures { result ≡ option_map_or facility_number facility 5 * 8 + option_map_or severity_number severity 7 }
 {
     let facility = match facility {

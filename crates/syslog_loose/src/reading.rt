@@ -229,9 +229,9 @@ fn stamped_message(
     }
 }
 
-// The month date behind a priority, where the variant reads such dates, and the text behind it.
+/// The month date behind a priority, where the variant reads such dates, and the text behind it.
 #[inline(always)]
-fn front_date(text: &str, variant: Variant) -> Option<(MonthDate, &str)>
+pub(crate) fn front_date(text: &str, variant: Variant) -> Option<(MonthDate, &str)>
     ensures { MatchOption result (BeginsWithout month_date variant (chars text.now))
         (λ x. BeginsWith month_date variant (chars text.now) x.0 (shown x.1)) }
 {
@@ -255,9 +255,9 @@ fn front_stamp(text: &str, variant: Variant) -> Option<(Option<OffsetTimestamp>,
     }
 }
 
-// The numbers of a date whose year is asked for.
+/// The numbers of a date whose year is asked for.
 #[inline(always)]
-fn asked_numbers(date: MonthDate) -> Option<IncompleteDate>
+pub(crate) fn asked_numbers(date: MonthDate) -> Option<IncompleteDate>
     ensures { MatchOption result (IsSome date.year) (λ d. (date.year ≡ None) × (d ≡ incomplete date)) }
 {
     match date.year {

@@ -4,7 +4,7 @@
 //! `read` answers the message of the one division of a trimmed text, or that there is none. It takes each piece from
 //! the readers of `syslog_pieces`, from the left. `resolve` answers what the host field and the tag field mean
 //! together.
-ghost use Rattle.std.specs.Prelude.{◌≡◌, IfOk, IsOk, MatchOption, None};
+ghost use Rattle.std.specs.Prelude.{◌≡◌, ◌++◌, ◌∷◌, IfOk, IsOk, IsTrue, MatchOption, None};
 ghost use Rattle.std.specs.Str.{chars};
 ghost use Rattle.syslog_pieces.specs.Pieces.Class.{Row, Text};
 ghost use Rattle.syslog_pieces.specs.Pieces.View.{seen, shown, field_seen, Reads};
@@ -13,14 +13,16 @@ ghost use Rattle.syslog_pieces.specs.Timestamp.Zone.{Dating as AnyDating, dating
 ghost use Rattle.syslog_loose.specs.Message.{message_value};
 ghost use Rattle.syslog_loose.specs.Reading.{OfTrimmed};
 ghost use Rattle.syslog_loose.specs.Rfc3164 as spec;
-ghost use Rattle.syslog_loose.specs.View3164.{IsBehindStamp, names_value, stamped_values};
+ghost use Rattle.syslog_loose.specs.View3164.{IsBehindStamp, IsPlainProgram, PrintsNames, ReadsFields};
+ghost use Rattle.syslog_loose.specs.View3164.{names_value, stamped_values};
 
 use crate::message::{Message, Protocol};
 use crate::tag_form::tag_form;
 use std::alloc::{AllocError, Global};
 use syslog_pieces::pri::{optional_priority, parts};
-use syslog_pieces::procid::ProcId;
+use syslog_pieces::procid::{ProcId, is_bare_word};
 use syslog_pieces::structured_data::rfc3164_list::{DashRule, optional_list};
+use syslog_pieces::text::verbatim::before;
 use syslog_pieces::text::{blanks, host_field, past_colon, tag_field};
 use syslog_pieces::timestamp::OffsetTimestamp;
 use syslog_pieces::timestamp::rfc3164::rfc3164_stamp;
@@ -127,14 +129,74 @@ pub(crate) fn read_stamped<'a>(text: &'a str, dating: &Dating<'_, '_>) -> Option
     ))
 }
 
+/// The fields of names behind the timestamp: the text from their colon on, and the text behind that and its blanks.
+#[derive(Clone, Copy)]
+pub(crate) struct NameFields<'a> {
+    host: Option<Option<&'a str>>,
+    tag: Option<Option<&'a str>>,
+    colon: &'a str,
+    pub(crate) rest: &'a str,
+}
+
+/// The fields of names at the front.
+#[inline(always)]
+pub(crate) fn name_fields(text: &str) -> NameFields<'_>
+    ensures { ReadsFields (chars text.now) result }
+{
+    let (host, behind) = host_field(text);
+    let (tag, colon) = tag_field(behind);
+    let rest = blanks(past_colon(blanks(colon)));
+    NameFields {
+        host,
+        tag,
+        colon,
+        rest,
+    }
+}
+
+// Whether a program's name prints as it stands, by what it means.
+#[inline(always)]
+fn is_plain_program(name: &str) -> bool
+    ensures { IsTrue result → IsPlainProgram (chars name.now) }
+{
+    match tag_form(name) {
+        Some((_, id)) => is_bare_word(id),
+        None => true,
+    }
+}
+
+// Whether a colon and a space are all that stands before the rest.
+#[inline(always)]
+fn is_colon_gap(text: &str, rest: &str) -> bool
+    requires { (front : Text) × (chars text.now ≡ front ++ chars rest.now) }
+    ensures { IsTrue result → chars text.now ≡ 58 ∷ 32 ∷ chars rest.now }
+{
+    before(text, rest) == ": "
+}
+
+/// Whether the text behind the timestamp is what prints of the names there, and the rest. It may always answer no: then
+/// the names are printed.
+#[inline(always)]
+pub(crate) fn stand_as_printed(fields: &NameFields<'_>) -> bool
+    requires { (text : Text) × ReadsFields text fields.now }
+    ensures { IsTrue result → (text : Text) → ReadsFields text fields.now → PrintsNames text (shown fields.now.rest) }
+{
+    let Some(_) = fields.host else {
+        return false;
+    };
+    match fields.tag {
+        Some(Some(name)) => is_plain_program(name) && is_colon_gap(fields.colon, fields.rest),
+        _ => false,
+    }
+}
+
 /// The names that stand behind the timestamp, and the text behind their colon.
 #[inline(always)]
 pub(crate) fn read_names(text: &str) -> (Names<'_>, &str)
     ensures { spec.ReadsNames (chars text.now) (shown result.1) (names_value result.0) }
 {
-    let (host, rest) = host_field(text);
-    let (tag, rest) = tag_field(rest);
-    (resolve(host, tag), blanks(past_colon(blanks(rest))))
+    let fields = name_fields(text);
+    (resolve(fields.host, fields.tag), fields.rest)
 }
 
 /// The message of the one division of the trimmed text, and none where there is no division. `year` is that of a date

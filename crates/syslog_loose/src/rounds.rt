@@ -3,29 +3,42 @@
 //! `normalise` answers one round. What was read as RFC 5424 prints as a settled text, and so does what was read as
 //! RFC 3164 and has none of the exceptions. So nearly each line is settled by one round, and `settling` asks for more
 //! of the others alone.
-ghost use Rattle.std.specs.Prelude.{◌≡◌, ◌↔◌, IsFalse, IsTrue, MatchResult, OnOk, string_bytes};
-ghost use Rattle.std.specs.Str.{chars, encode_utf8_all, IsUtf8};
+ghost use Rattle.std.specs.Prelude.{◌≡◌, ◌↔◌, ◌<◌, ◌++◌, IsTrue, MatchResult, OnOk, Some, string_bytes};
+ghost use Rattle.std.specs.List.{AllByRecursion};
+ghost use Rattle.std.specs.Str.{chars, encode_utf8_all};
+ghost use Rattle.syslog_pieces.specs.Pieces.Class.{Text};
 ghost use Rattle.syslog_pieces.specs.Pieces.View.{shown};
+ghost use Rattle.syslog_pieces.specs.Pri.{priority_text};
+ghost use Rattle.syslog_pieces.specs.Timestamp.MonthDate.{month_date};
 ghost use Rattle.syslog_pieces.specs.Timestamp.Zone.{dating_of, dating_value};
-ghost use Rattle.syslog_loose.specs.Verbatim3164.{ShowsDated};
+ghost use Rattle.syslog_loose.specs.Formats.{printed_number};
 ghost use Rattle.syslog_loose.specs.Message.{MessageValue, message_value};
 ghost use Rattle.syslog_loose.specs.Printed.{printed};
 ghost use Rattle.syslog_loose.specs.ReadBack.{AnswersAgain};
 ghost use Rattle.syslog_loose.specs.Reading.{AnswersEachMonth, InYear, IsOnlyRead};
 ghost use Rattle.syslog_loose.specs.Reading.{IsUnreadable, IsYearAnswered, OfTrimmed};
 ghost use Rattle.syslog_loose.specs.Settling.{IsAtRest, IsRoundAsTold};
+ghost use Rattle.syslog_loose.specs.Start.{BeginsWith, IsBehindPriority};
 ghost use Rattle.syslog_loose.specs.declared.fault.ParseFault.TheVariants.{Invalid};
 
 use crate::beginning::may_be_read;
 use crate::fault::ParseFault;
 use crate::jumps::write_round;
-use crate::line::{DatedLine, dated_line, dated_text, stamped_text, verbatim_text};
-use crate::message::{Message, Protocol, has_no_exception, print};
-use crate::reading::{asked_date, read};
+use crate::line::verbatim_text;
+use crate::message::{Message, Protocol, has_no_exception, make_room, print, priority};
+use crate::reading::{asked_numbers, front_date, read};
+use crate::rfc3164::{name_fields, stand_as_printed};
 use crate::variant::{IncompleteDate, Variant};
 use jiff::tz::TimeZone;
-use std::alloc::Global;
+use std::alloc::{AllocError, Global};
+use std::fmt;
+use std::fmt::Write;
+use syslog_pieces::pri::{optional_priority, parts, write_priority};
+use syslog_pieces::structured_data::rfc3164_list::{DASH_RULE, begins_list};
 use syslog_pieces::text::trimmed;
+use syslog_pieces::text::write_ascii::push_bytes;
+use syslog_pieces::timestamp::civil::month_text;
+use syslog_pieces::timestamp::month_date::MonthDate;
 use syslog_pieces::timestamp::zone::Dating;
 
 /// The printed text of the message that `parse_message_with_year_exact_tz` answers, in memory of its own. A text that
@@ -86,49 +99,98 @@ pub(crate) fn first_round<F: FnOnce(IncompleteDate) -> i32>(
             year: None,
         });
     }
-    match dated_line(input, variant) {
-        Some(line) => {
-            let year = line.asked().map(get_year);
+    if !may_be_read(input) {
+        return Err(ParseFault::Invalid);
+    }
+    let (priority, rest) = optional_priority(input);
+    match front_date(rest, variant) {
+        Some((date, tail)) => {
+            let year = asked_numbers(date).map(get_year);
             let dating = Dating { year, tz, local };
-            let settled = dated_round(alloc, text, input, line, &dating, variant, skips)?;
+            let settled = dated_round(
+                alloc, text, input, priority, date, tail, &dating, variant, skips,
+            )?;
             Ok(Round { settled, year })
         }
         None => {
-            // (A text that begins so shows no date either.)
-            if !may_be_read(input) {
-                return Err(ParseFault::Invalid);
-            }
-            let year = asked_date(input, variant).map(get_year);
-            let dating = Dating { year, tz, local };
+            let dating = Dating {
+                year: None,
+                tz,
+                local,
+            };
             let settled = next_round(alloc, text, input, &dating, variant, skips)?;
-            Ok(Round { settled, year })
+            Ok(Round {
+                settled,
+                year: None,
+            })
         }
     }
 }
 
-// The same of a line that shows a month date, in a year.
+// The same of a line that shows a month date. A month date never prints as it is written, but what programs write
+// behind it mostly does, as ` host app[5]: message`. So that is copied, without the fields in between.
+#[inline(always)]
 fn dated_round(
     alloc: Global,
     text: &mut String,
     input: &str,
-    line: DatedLine<'_>,
+    priority: Option<u8>,
+    date: MonthDate,
+    tail: &str,
     dating: &Dating<'_, '_>,
     variant: Variant,
     skips: bool,
 ) -> Result<bool, ParseFault>
-    requires shows { OfTrimmed (chars input.now) (λ whole.
-        ShowsDated variant whole (shown line.front) line.date (shown line.tail)) }
-    requires utf8 { IsUtf8 line.front.now × IsUtf8 line.tail.now }
+    requires { (follows : Text) × IsBehindPriority (chars input.now) priority follows
+        × BeginsWith month_date variant follows date (shown tail) }
     ensures { OfTrimmed (chars input.entry.now) (λ whole. MatchResult result
         (λ settled. IsRoundAsTold skips variant (dating_value dating.entry.now) whole
         (chars (string_bytes text.new)) settled)
         (λ fault. (fault ≡ Invalid) ↔ IsUnreadable variant (dating_value dating.entry.now) whole)) }
 {
-    let copied = dated_text(text, line, input.len(), dating)?;
-    if copied {
-        return Ok(true);
+    let fields = name_fields(tail);
+    if stand_as_printed(&fields) && !begins_list(fields.rest, DASH_RULE) {
+        if let Some(stamp) = month_text(date, dating) {
+            write_dated(text, priority, &stamp, tail, input.len())?;
+            return Ok(true);
+        }
     }
     next_round(alloc, text, input, dating, variant, skips)
+}
+
+// A priority as the message behind it prints it.
+#[derive(Clone, Copy)]
+struct Front {
+    priority: Option<u8>,
+}
+
+impl fmt::Display for Front {
+    ghost output = { λ front. Some (priority_text (printed_number front.priority)) };
+
+    fn fmt<W: fmt::Write>(&self, f: &mut fmt::Formatter<W>) -> fmt::Result {
+        let (facility, severity) = parts(self.priority);
+        write_priority(f, priority(facility, severity))
+    }
+}
+
+// Writes a priority, the text of a date and all behind it, into a text that gets room for the input's length at once.
+#[inline(always)]
+fn write_dated(
+    text: &mut String,
+    priority: Option<u8>,
+    stamp: &[u8],
+    tail: &str,
+    length: usize,
+) -> Result<(), AllocError>
+    requires { AllByRecursion (λ b. b < 128) stamp.now }
+    ensures { OnOk result (string_bytes text.new
+        ≡ priority_text (printed_number priority) ++ (stamp.entry.now ++ tail.entry.now)) }
+{
+    make_room(text, length)?;
+    let front = Front { priority };
+    write!(text, "{front}")?;
+    push_bytes(text, stamp)?;
+    text.push_str(tail)
 }
 
 /// Writes a round of the trimmed input into `text`: the next one, where that is known to be settled, and tells so. Else
@@ -146,10 +208,6 @@ pub(crate) fn next_round(
         (chars (string_bytes text.new)) settled)
         (λ fault. (fault ≡ Invalid) ↔ IsUnreadable variant (dating_value dating.entry.now) whole)) }
 {
-    let copied = stamped_text(text, input, variant)?;
-    if copied {
-        return Ok(true);
-    }
     let message = read(alloc, input, dating, variant)?;
     let settled = is_at_rest(&message);
     if settled || !skips {

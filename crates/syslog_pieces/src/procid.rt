@@ -131,10 +131,10 @@ pub fn process_word(text: &str) -> Option<(Option<ProcId<&str>>, &str)>
     }
 }
 
-// Whether no sign and no zero stands before other characters.
+/// Whether no sign and no zero stands before other characters: then it prints as what it names.
 #[tactic(auto, using(crate::proofs::TextLemmas::Chars::chars_empty, crate::proofs::TextLemmas::Chars::empty_is))]
 #[inline(always)]
-fn is_bare_word(name: &str) -> bool
+pub fn is_bare_word(name: &str) -> bool
     ensures { IsTrue result → IsBareWord (chars name.now) }
 {
     match first(name) {

@@ -36,6 +36,7 @@ use Rattle.syslog_loose.proofs.Rfc3164Lemmas.{of_names}
 use Rattle.syslog_loose.proofs.Rfc3164Lemmas.Shown.{shows}
 use Rattle.syslog_loose.proofs.TrimLemmas.{drop_ends, last_ends}
 use Rattle.syslog_pieces.proofs.PieceLemmas.Each.{each_behind, each_both, each_left, each_front, each_right}
+use Rattle.syslog_pieces.proofs.PieceLemmas.Lists.{begins}
 use Rattle.syslog_pieces.proofs.PieceLemmas.Rows.{row_pieces}
 
 -- ---- elements
@@ -82,17 +83,21 @@ tag_field t q (Some (Some w)) f =
 tag_field t q field f = tt
 
 -- ---- the form
-record FormParts (text tag id : Text) : Type 0 where
-  label : Each is_label_char tag
-  some : 0 < length id
-  unclosed : Each is_open_char id
-  within : (f : ℕ → Bool) → Each f text → Each f id
+pub record FormParts (text tag id : Text) : Type 0 where
+  pub whole : text ≡ tag ++ (91 ∷ (id ++ (93 ∷ [])))
+  pub label : Each is_label_char tag
+  pub some : 0 < length id
+  pub unclosed : Each is_open_char id
+  pub within : (f : ℕ → Bool) → Each f text → Each f id
 
-form_parts : (text tag id : Text) → IsForm text tag id → FormParts text tag id
+pub form_parts : (text tag id : Text) → IsForm text tag id → FormParts text tag id
 form_parts text tag id d =
-    let (t1, g1, (t2, g2, (t3, g3, _))) = row_pieces form_row (division_front form_row d) in
+    let (t1, g1, (t2, g2, (t3, g3, (t4, g4, end)))) = row_pieces form_row (division_front form_row d) in
     let e : id ≡ g3.piece = g3.is.2 in
+    let opened = begins 91 t1 t2 g2 in
+    let closed = begins 93 t3 t4 g4 in
     record {
+      whole = cc (g1.whole, g1.is.2, opened, g3.whole, e, closed, end);
       label = rw g1.is.2 g1.is.1.0;
       some = rw e g3.is.1.0;
       unclosed = rw e g3.is.1.1;

@@ -4,14 +4,24 @@ use Rattle.std.specs.Fmt.{decimal}
 use Rattle.std.specs.Str.{drop_trailing_whitespace}
 use Rattle.syslog_pieces.specs.Pieces.Class.{Text}
 use Rattle.syslog_pieces.specs.StructuredData.Element.{ElementValue, joined_elements}
+use Rattle.syslog_pieces.specs.ProcId.{procid_text}
 use Rattle.syslog_pieces.specs.Text.{trimmed}
 use Rattle.syslog_pieces.specs.declared.procid.ProcId.{ProcId}
 use Rattle.syslog_loose.specs.Canonical.{EndsVisibly}
 pub use Rattle.syslog_loose.specs.Jumps.{tail_text}
-pub use Rattle.syslog_loose.specs.Verbatim3164.{bracketed, program_text}
 use Rattle.syslog_loose.specs.Message.{MessageValue}
 use Rattle.syslog_loose.specs.Printed.{timestamp_text, name_text, tag_text, spaced_elements, priority_of, printed_3164}
 use Rattle.syslog_loose.proofs.TrimLemmas.{joined_last, LastVisible, last_append, drop_after, message_end_is}
+
+-- `app[id]`
+abbrev pub bracketed : Text → Text → Text
+bracketed app id = app ++ (91 ∷ (id ++ (93 ∷ [])))
+
+-- what stands between the host and the colon
+abbrev pub program_text : Option Text → Option (ProcId Text) → Text
+program_text None p = []
+program_text (Some a) None = a
+program_text (Some a) (Some p) = bracketed a (procid_text p)
 
 -- what stands behind the colon and its space
 abbrev pub body_text : List ElementValue → Text → Text

@@ -9,7 +9,6 @@ use Rattle.syslog_loose.specs.declared.fault.ParseFault.TheVariants.{Invalid, Me
 use Rattle.std.proofs.lemmas.Str.{length-le-encodes}
 use Rattle.std.specs.Prelude.{◌↔◌, IsTrue, IsOk}
 use Rattle.syslog_loose.specs.VerbatimLine.{PrintsAs5424}
-use Rattle.syslog_loose.specs.Verbatim3164.{PrintsAs3164}
 use Rattle.syslog_loose.specs.ReadBack.{IsFixed}
 use Rattle.syslog_loose.specs.Rfc5424.{IsRead5424}
 use Rattle.syslog_loose.specs.Settling.{SettlesAs, IsSettlingFault, IsAtRest, IsToldRound, IsRoundAsTold}
@@ -220,13 +219,6 @@ module _ (variant : Variant) (dating : Dating) where
       let r = (k.only dating).read in
       told_settled text k.message r bytes u k.prints skips (rest_settled text k.message r _
       (ap (λ (x : MessageValue). x.protocol) k.strict.means) tt)
-
-  -- and so is one that is copied behind its timestamp
-  pub round_freely : (skips : Bool) (text : Text) (bytes : List ℕ) → IsUtf8 bytes
-      → PrintsAs3164 variant dating text bytes → IsRoundAsTold skips variant dating text (chars bytes) true
-  round_freely skips text bytes u k =
-      told_settled text k.message k.read bytes u k.prints skips
-      (rest_settled text k.message k.read protocol.RFC3164 k.protocol k.no_exception)
 
   -- ---- what the loop does
   -- the round behind one that is not settled

@@ -1,9 +1,9 @@
 use Rattle.syslog_loose.proofs.Names.{None, refl, subst, err_from_is_err_and, IsUtf8-string_bytes, Text, dating_of}
 use Rattle.syslog_loose.specs.Beginning.{BeginsNone}
 use Rattle.syslog_loose.proofs.BeginningLemmas.{asks_no_year, no_reading}
-use Rattle.syslog_loose.proofs.Verbatim3164Lemmas.{dated_answered, asked_month}
-use Rattle.syslog_loose.proofs.ReadingLemmas.{answered_to, fault_in, no_ok, found_text}
+use Rattle.syslog_loose.proofs.ReadingLemmas.{fault_in, no_ok, found_text}
 use Rattle.syslog_loose.proofs.SettlingLemmas.Settles.{copy_refused, round_copied}
+use Rattle.syslog_loose.proofs.StartLemmas.{asked_month, asks_none, date_answered}
 use Rattle.syslog_loose.proofs.rounds.first_round.Goals as goal
 
 pub returns-in_err-copied : goal.returns-in_err-copied
@@ -23,34 +23,6 @@ returns-then-copied g c whole e =
           (IsUtf8-string_bytes c.verbatim_text.new.text) k,
     )
 
-pub map-year-requires : goal.map-year-requires
-map-year-requires g c =
-    λ x e. c.requires x (asked_month c.in-Some.line.date _ x c.in-Some.ensures.month c.asked.ensures e)
-
-pub returns-in_err-settled-in-Some : goal.returns-in_err-settled-in-Some
-returns-in_err-settled-in-Some g c whole e =
-    let (_, f, same) = err_from_is_err_and c.from_residual-in_err-settled-in-Some.result
-    c.from_residual-in_err-settled-in-Some.ensures.1 in
-    rw (f, same) (fault_in _ c.args.variant whole c.args.tz c.args.local _ c.map-year.result
-    (dated_answered _ _ _ _ _ _ c.asked.result c.map-year.result (c.in-Some.ensures.shows whole e) c.asked.ensures
-    c.map-year.ensures.cases) (c.in_err-settled-in-Some.ensures whole e))
-
-pub returns-in_err-settled-in-None : goal.returns-in_err-settled-in-None
-returns-in_err-settled-in-None g c whole e =
-    let year = c.map-year-in-None in
-    let (_, f, same) = err_from_is_err_and c.from_residual-in_err-settled-in-None.result
-    c.from_residual-in_err-settled-in-None.ensures.1 in
-    rw (f, same) (fault_in _ c.args.variant whole c.args.tz c.args.local _ year.result
-    (answered_to _ _ _ c.asked_date.result year.result (c.asked_date.ensures.asks whole e) year.ensures.cases)
-    (c.in_err-settled-in-None.ensures whole e))
-
-pub returns-in_ok-settled-in-Some : goal.returns-in_ok-settled-in-Some
-returns-in_ok-settled-in-Some g c whole e = (
-  dated_answered _ _ _ _ _ _ c.asked.result c.map-year.result
-      (c.in-Some.ensures.shows whole e) c.asked.ensures c.map-year.ensures.cases,
-  c.in_ok-settled-in-Some.ensures whole e,
-)
-
 pub returns-then-not-may_be_read : goal.returns-then-not-may_be_read
 returns-then-not-may_be_read g c whole e =
     let begins = subst (λ (x : Text). BeginsNone x) e (c.if-not-may_be_read.ensures refl) in
@@ -63,3 +35,39 @@ returns-then-not-may_be_read g c whole e =
             λ u. refl,
           );
     }
+
+pub map-year-requires : goal.map-year-requires
+map-year-requires g c =
+    λ x e. c.requires x (asked_month c.in-Some.date _ x c.in-Some.ensures.front c.asked_numbers.ensures e)
+
+pub dated_round-requires : goal.dated_round-requires
+dated_round-requires g c = (_, c.optional_priority-priority.ensures, c.in-Some.ensures)
+
+pub returns-in_err-settled-in-Some : goal.returns-in_err-settled-in-Some
+returns-in_err-settled-in-Some g c whole e =
+    let f = rw e at c.optional_priority-priority.ensures in
+    let (_, h, same) = err_from_is_err_and c.from_residual-in_err-settled-in-Some.result
+    c.from_residual-in_err-settled-in-Some.ensures.1 in
+    rw (h, same) (fault_in _ c.args.variant whole c.args.tz c.args.local _ c.map-year.result
+    (date_answered c.args.variant _ f _ c.in-Some.ensures _ _ _ c.asked_numbers.ensures c.map-year.ensures.cases)
+    (c.in_err-settled-in-Some.ensures whole e))
+
+pub returns-in_ok-settled-in-Some : goal.returns-in_ok-settled-in-Some
+returns-in_ok-settled-in-Some g c whole e =
+    let f = rw e at c.optional_priority-priority.ensures in (
+      date_answered c.args.variant _ f _ c.in-Some.ensures _ _ _ c.asked_numbers.ensures c.map-year.ensures.cases,
+      c.in_ok-settled-in-Some.ensures whole e,
+    )
+
+pub returns-in_err-settled-in-None : goal.returns-in_err-settled-in-None
+returns-in_err-settled-in-None g c whole e =
+    let f = rw e at c.optional_priority-priority.ensures in
+    let (_, h, same) = err_from_is_err_and c.from_residual-in_err-settled-in-None.result
+    c.from_residual-in_err-settled-in-None.ensures.1 in
+    rw (h, same) (fault_in _ c.args.variant whole c.args.tz c.args.local _ None
+    (asks_none c.args.variant _ f c.in-None.ensures) (c.in_err-settled-in-None.ensures whole e))
+
+pub returns-in_ok-settled-in-None : goal.returns-in_ok-settled-in-None
+returns-in_ok-settled-in-None g c whole e =
+    let f = rw e at c.optional_priority-priority.ensures in
+    (asks_none c.args.variant _ f c.in-None.ensures, c.in_ok-settled-in-None.ensures whole e)

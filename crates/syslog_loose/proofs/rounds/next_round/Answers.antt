@@ -1,22 +1,12 @@
 use Rattle.syslog_loose.proofs.Names.{err_from_is_err_and, IsUtf8-string_bytes}
-use Rattle.syslog_loose.proofs.ReadingLemmas.{fault_tells, memory_tells, found_text}
-use Rattle.syslog_loose.proofs.SettlingLemmas.Settles.{copy_refused, round_freely, round_printed, round_skipped}
+use Rattle.syslog_loose.proofs.ReadingLemmas.{fault_tells, memory_tells}
+use Rattle.syslog_loose.proofs.SettlingLemmas.Settles.{round_printed, round_skipped}
 use Rattle.syslog_loose.proofs.rounds.next_round.Goals as goal
-
-pub returns-in_err-copied : goal.returns-in_err-copied
-returns-in_err-copied c whole e =
-    let (_, f, same) = err_from_is_err_and c.from_residual.result c.from_residual.ensures.1 in
-    rw (f, same) (copy_refused _ _ _ _ _ c.in_err-copied.was (c.stamped_text.ensures.memory whole e _))
-
-pub returns-then-copied : goal.returns-then-copied
-returns-then-copied c whole e =
-    let k = found_text _ _ _ c.in_ok-copied.was c.if-copied.true (c.stamped_text.ensures.text whole e _) in
-    round_freely _ _ c.args.skips _ _ (IsUtf8-string_bytes c.stamped_text.new.text) k
 
 pub returns-in_err-message : goal.returns-in_err-message
 returns-in_err-message c whole e =
-    let (_, f, same) = err_from_is_err_and c.from_residual-in_err-message.result
-    c.from_residual-in_err-message.ensures.1 in rw (f, same) (fault_tells _ _ _ _ (c.in_err-message.ensures whole e))
+    let (_, f, same) = err_from_is_err_and c.from_residual.result c.from_residual.ensures.1 in
+    rw (f, same) (fault_tells _ _ _ _ (c.in_err-message.ensures whole e))
 
 pub returns-in_err-print : goal.returns-in_err-print
 returns-in_err-print c whole e =
