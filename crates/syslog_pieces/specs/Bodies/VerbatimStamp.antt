@@ -15,6 +15,13 @@ abbrev pub zone_text : Bool → List ℕ
 zone_text true = 43 ∷ 48 ∷ 48 ∷ 58 ∷ 48 ∷ 48 ∷ []
 zone_text false = []
 
+-- the text is what is copied, and then the zone; what is copied and the zone's text are what the timestamp prints
+pub record IsCopiedStamp (text zone : Text) (is_zulu : Bool) (value : Option OffsetTimestamp) : Type 0 where
+  pub copied : Text
+  pub whole : text ≡ copied ++ zone
+  pub prints : MatchOption value (copied ++ zone_text is_zulu ≡ dash)
+      (λ s. copied ++ zone_text is_zulu ≡ printed_stamp s.instant.nanosecond s.offset.seconds)
+
 -- the text is what is copied, and then the zone; its timestamp, before the rest, prints as what is copied and the
 -- zone's text
 pub record IsVerbatimStamp (text zone : Text) (is_zulu : Bool) (rest : Text) : Type 0 where

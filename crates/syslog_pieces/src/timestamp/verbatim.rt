@@ -3,10 +3,13 @@
 //! What prints of a timestamp is what a clock at its offset shows, and that is the digits that stand in the text. So of
 //! most timestamps no instant is computed: it is enough that the calendar has the date and the clock the time. Other
 //! forms (small letters, a fraction that ends in three zeros, second 60, `-00:00`) are left to `header_stamp`.
-ghost use Rattle.std.specs.Prelude.{◌≡◌, ◌≢◌, ◌<◌, ◌++◌, ◌∷◌, ◌/◌, ◌%◌, ◌⊎◌, IfSome, IsTrue};
+ghost use Rattle.std.specs.Prelude.{◌≡◌, ◌≢◌, ◌<◌, ◌++◌, ◌∷◌, ◌/◌, ◌%◌, ◌⊎◌, Option, IfSome, IsTrue};
 ghost use Rattle.std.specs.Str.{chars, IsUtf8};
 ghost use Rattle.syslog_pieces.specs.Bodies.VerbatimStamp as spec;
+ghost use Rattle.syslog_pieces.specs.Pieces.Class.{Front};
 ghost use Rattle.syslog_pieces.specs.Pieces.View.{shown};
+ghost use Rattle.syslog_pieces.specs.Timestamp.{header_stamp};
+ghost use Rattle.syslog_pieces.specs.declared.timestamp.OffsetTimestamp.{OffsetTimestamp};
 
 use super::civil::is_civil;
 use super::digits::{begins_with_digit, pair_behind, three_digits};
@@ -14,6 +17,26 @@ use super::fields::CivilFields;
 use super::rfc3339_text::{date, minutes, sign};
 use crate::text::literal;
 use std::str;
+
+/// How a timestamp that was read is copied: up to its zone.
+#[derive(Clone, Copy)]
+pub struct CopiedStamp<'a> {
+    /// The text from a `Z` on, or the text behind the timestamp.
+    pub zone: &'a str,
+    /// Whether `+00:00` is written in place of a `Z`.
+    pub is_zulu: bool,
+}
+
+/// How the timestamp between `text` and `rest` is copied, where it prints as it is written but for a `Z`.
+#[inline(always)]
+pub fn copied_stamp<'a>(text: &'a str, rest: &'a str) -> Option<CopiedStamp<'a>>
+    requires { (value : Option OffsetTimestamp) × Front header_stamp (chars text.now) (chars rest.now) value }
+    ensures stamp { IfSome result (λ stamp. (value : Option OffsetTimestamp)
+        → Front header_stamp (chars text.now) (chars rest.now) value
+        → spec.IsCopiedStamp (chars text.now) (shown stamp.zone) stamp.is_zulu value) }
+{
+    None
+}
 
 /// A timestamp at the front of a text, which is copied up to its zone.
 #[derive(Clone, Copy)]
