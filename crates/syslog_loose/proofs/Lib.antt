@@ -3,6 +3,7 @@ pub mod BoundLemmas
 pub mod CanonicalLemmas
 pub mod DashChangeLemmas
 pub mod VerbatimLineLemmas
+pub mod HeaderLemmas
 pub mod JumpLemmas
 pub mod Names
 pub mod ExceptionLemmas

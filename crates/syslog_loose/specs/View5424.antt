@@ -1,19 +1,51 @@
--- The fields that the header's reader holds, as the meanings of its pieces.
-use Rattle.std.specs.Prelude.{[], ◌∷◌}
-use Rattle.std.specs.Option.{option_map}
-use Rattle.syslog_pieces.specs.Pieces.Class.{Values, some_run}
-use Rattle.syslog_pieces.specs.ProcId.{process_word, procid_value}
-use Rattle.syslog_pieces.specs.Text.{is_blank, host, word}
+-- What the header's reader holds, as the meanings of its pieces, and how it stands in the text.
+use Rattle.std.specs.Prelude.{◌≡◌, ℕ, [], ◌∷◌, ◌++◌, List, Option, Some, None, IsTrue, MatchOption}
+use Rattle.std.specs.Borrow.{Bor}
+use Rattle.std.specs.Fmt.{decimal}
+use Rattle.syslog_pieces.specs.Pieces.Class.{Text, Front, NoFront, Row, Values, some_run}
+use Rattle.syslog_pieces.specs.ProcId.{NamesProcess, process_text, process_word}
+use Rattle.syslog_pieces.specs.Text.{is_blank, host, name_text, word}
+use Rattle.syslog_pieces.specs.Timestamp.{header_stamp}
 use Rattle.syslog_pieces.specs.Pieces.View.{seen, shown}
+use Rattle.syslog_pieces.specs.declared.procid.ProcId.{ProcId}
 use Rattle.syslog_loose.specs.declared.rfc5424.Header.{Header}
 use Rattle.syslog_loose.specs.Rfc5424.{header_row}
 
-abbrev process_values : Header → Values (process_word ∷ some_run is_blank ∷ word ∷ [])
-process_values h = (option_map (procid_value (λ s. shown s)) h.procid, (tt, (seen h.msgid, tt)))
+-- the word names this process id, and an absent one none
+abbrev pub NamesWord : Option Text → Option (ProcId Text) → Type 0
+NamesWord None process = process ≡ None
+NamesWord (Some t) None = ⊥
+NamesWord (Some t) (Some process) = NamesProcess t process
 
-abbrev name_values : Header → Values (host ∷ some_run is_blank ∷ word ∷ some_run is_blank ∷ process_word
-    ∷ some_run is_blank ∷ word ∷ [])
-name_values h = (seen h.hostname, (tt, (seen h.appname, (tt, process_values h))))
+abbrev process_values : Header → Option (ProcId Text) → Values (process_word ∷ some_run is_blank ∷ word ∷ [])
+process_values h process = (process, (tt, (seen h.msgid, tt)))
 
-abbrev pub header_values : Header → Values header_row
-header_values h = (h.priority, (h.version, (tt, (h.timestamp, (tt, name_values h)))))
+abbrev name_values : Header → Option (ProcId Text) → Values (host ∷ some_run is_blank ∷ word ∷ some_run is_blank
+    ∷ process_word ∷ some_run is_blank ∷ word ∷ [])
+name_values h process = (seen h.hostname, (tt, (seen h.appname, (tt, process_values h process))))
+
+abbrev pub header_values : Header → Option (ProcId Text) → Values header_row
+header_values h process = (h.priority, (h.version, (tt, (h.timestamp, (tt, name_values h process)))))
+
+-- the header at the front of the text, with each process id that its word names, or nothing where there is no header
+abbrev pub ReadsHeader : Text → Option (Header × Bor (List ℕ)) → Type 0
+ReadsHeader text r = MatchOption r (NoFront (Row header_row) text) (λ x. (process : Option (ProcId Text))
+    → NamesWord (seen x.0.process) process → Front (Row header_row) text (shown x.1) (header_values x.0 process))
+
+-- host, app name, process id and message id as they print, each behind a space, and more
+abbrev pub names_before : Header → Option (ProcId Text) → Text → Text
+names_before h process more =
+    32 ∷ (name_text (seen h.hostname) ++ (32 ∷ (name_text (seen h.appname) ++ (32 ∷ (process_text process
+    ++ (32 ∷ (name_text (seen h.msgid) ++ more)))))))
+
+-- from its version on the header stands as it prints, but for the timestamp, before what follows
+pub record PrintsHeader (text : Text) (h : Header) (follows : Text) : Type 0 where
+  pub process : Option (ProcId Text)
+  pub named : NamesWord (seen h.process) process
+  pub front : text ≡ decimal h.version ++ (32 ∷ shown h.start)
+  pub names : shown h.tail ≡ names_before h process follows
+
+-- where the timestamp stands, and that the rest of the header stands as it prints, if so it says
+pub record HeaderStands (text : Text) (h : Header) (follows : Text) : Type 0 where
+  pub stamp : Front header_stamp (shown h.start) (shown h.tail) h.timestamp
+  pub stands : IsTrue h.stands → PrintsHeader text h follows

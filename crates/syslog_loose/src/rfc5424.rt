@@ -2,51 +2,98 @@
 //!
 //! `read` answers the message of the one division of a trimmed text, or that there is none. What it reads it takes from
 //! the readers of `syslog_pieces`, piece by piece from the left; a header that fails takes no memory.
-ghost use Rattle.std.specs.Prelude.{◌≡◌, IfOk, IsOk, MatchOption, Some, None};
+ghost use Rattle.std.specs.Prelude.{◌≡◌, IfOk, IfSome, IsOk, IsTrue, MatchOption, Some, None};
+ghost use Rattle.std.specs.List.{AllByRecursion};
+ghost use Rattle.std.specs.Option.{option_map};
 ghost use Rattle.std.specs.Str.{chars};
-ghost use Rattle.syslog_pieces.specs.Pieces.Class.{Row, Text};
-ghost use Rattle.syslog_pieces.specs.Pieces.View.{shown, Reads};
+ghost use Rattle.syslog_pieces.specs.Bodies.Verbatim.{IsBareWord};
+ghost use Rattle.syslog_pieces.specs.Pieces.Class.{Text};
+ghost use Rattle.syslog_pieces.specs.Pieces.View.{seen, shown};
+ghost use Rattle.syslog_pieces.specs.ProcId.{procid_value};
 ghost use Rattle.syslog_pieces.specs.Text.{trimmed};
 ghost use Rattle.syslog_loose.specs.Message.{message_value};
 ghost use Rattle.syslog_loose.specs.Reading.{OfTrimmed};
 ghost use Rattle.syslog_loose.specs.Rfc5424 as spec;
 ghost use Rattle.syslog_loose.specs.Start.{IsBehindPriority};
-ghost use Rattle.syslog_loose.specs.View5424.{header_values};
+ghost use Rattle.syslog_loose.specs.View5424.{HeaderStands, NamesWord, ReadsHeader};
 
 use crate::message::{Message, Protocol};
 use std::alloc::{AllocError, Global};
 use syslog_pieces::pri::{optional_priority, parts};
-use syslog_pieces::procid::{ProcId, process_word};
+use syslog_pieces::procid::{ProcId, is_bare_word};
 use syslog_pieces::structured_data::forgiving_list;
+use syslog_pieces::text::verbatim::{is_one_space, number_stands};
 use syslog_pieces::text::{blanks, host, number, some_blanks, word};
 use syslog_pieces::timestamp::{OffsetTimestamp, header_stamp};
 
-/// The fields before the structured data.
-#[derive(Drop)]
+/// The fields before the structured data, and how they stand in the text.
+#[derive(Clone, Copy)]
 pub(crate) struct Header<'a> {
     pub(crate) priority: Option<u8>,
     pub(crate) version: u32,
     pub(crate) timestamp: Option<OffsetTimestamp>,
     pub(crate) hostname: Option<&'a str>,
     pub(crate) appname: Option<&'a str>,
-    pub(crate) procid: Option<ProcId<&'a str>>,
+    /// The word that names the process.
+    pub(crate) process: Option<&'a str>,
     pub(crate) msgid: Option<&'a str>,
+    /// The text from the timestamp on.
+    pub(crate) start: &'a str,
+    /// The text behind the timestamp.
+    pub(crate) tail: &'a str,
+    /// Whether all but the priority and the timestamp stands as it would be printed. It may be false of others too.
+    pub(crate) stands: bool,
+}
+
+// Whether the word that names a process prints as it stands. It may answer no of others too.
+#[inline(always)]
+fn process_stands(word: Option<&str>) -> bool
+    ensures { IsTrue result → IfSome (seen word.entry) IsBareWord }
+{
+    match word {
+        Some(name) => is_bare_word(name),
+        None => true,
+    }
+}
+
+// Whether all of them are true, by one look.
+#[inline(always)]
+fn are_all(tests: [bool; 7]) -> bool
+    ensures { IsTrue result → AllByRecursion IsTrue tests }
+{
+    let [a, b, c, d, e, f, g] = tests;
+    a & b & c & d & e & f & g
 }
 
 // The fields at the front of a text, from what stands behind its priority on, and the text behind them.
 #[inline(always)]
 fn read_header(priority: Option<u8>, text: &str) -> Option<(Header<'_>, &str)>
-    ensures { (whole : Text) → IsBehindPriority whole priority (chars text.now)
-        → Reads (Row spec.header_row) header_values whole result }
+    ensures reads { (whole : Text) → IsBehindPriority whole priority (chars text.now)
+        → ReadsHeader whole result }
+    ensures stands { IfSome result (λ x. HeaderStands (chars text.now) x.0 (shown x.1)) }
 {
-    let (version, rest) = number(text, u32::MAX)?;
-    let Some((timestamp, rest)) = header_stamp(some_blanks(rest)?) else {
+    let (version, behind_version) = number(text, u32::MAX)?;
+    let start = some_blanks(behind_version)?;
+    let Some((timestamp, tail)) = header_stamp(start) else {
         return None;
     };
-    let (hostname, rest) = host(some_blanks(rest)?)?;
-    let (appname, rest) = word(some_blanks(rest)?)?;
-    let (procid, rest) = process_word(some_blanks(rest)?)?;
-    let (msgid, rest) = word(some_blanks(rest)?)?;
+    let at_host = some_blanks(tail)?;
+    let (hostname, behind_host) = host(at_host)?;
+    let at_app = some_blanks(behind_host)?;
+    let (appname, behind_app) = word(at_app)?;
+    let at_process = some_blanks(behind_app)?;
+    let (process, behind_process) = word(at_process)?;
+    let at_id = some_blanks(behind_process)?;
+    let (msgid, rest) = word(at_id)?;
+    let stands = are_all([
+        number_stands(text),
+        is_one_space(behind_version, start),
+        is_one_space(tail, at_host),
+        is_one_space(behind_host, at_app),
+        is_one_space(behind_app, at_process),
+        process_stands(process),
+        is_one_space(behind_process, at_id),
+    ]);
     Some((
         Header {
             priority,
@@ -54,11 +101,25 @@ fn read_header(priority: Option<u8>, text: &str) -> Option<(Header<'_>, &str)>
             timestamp,
             hostname,
             appname,
-            procid,
+            process,
             msgid,
+            start,
+            tail,
+            stands,
         },
         rest,
     ))
+}
+
+// The process id that a word names.
+#[inline(always)]
+fn process_of(word: Option<&str>) -> Option<ProcId<&str>>
+    ensures { NamesWord (seen word.entry) (option_map (procid_value (λ s. shown s)) result) }
+{
+    match word {
+        Some(name) => Some(ProcId::from(name)),
+        None => None,
+    }
 }
 
 /// The message of the one division of the trimmed text, and none where there is no division. Memory is asked for only
@@ -101,7 +162,7 @@ pub(crate) fn read_behind(
         timestamp: header.timestamp,
         hostname: header.hostname,
         appname: header.appname,
-        procid: header.procid,
+        procid: process_of(header.process),
         msgid: header.msgid,
         structured_data: elements,
         msg,

@@ -1,89 +1,86 @@
 -- Each exit says that the row fails at its piece, behind the pieces that were read; the return joins them.
-use Rattle.std.proofs.Common.{inl, refl, rules}
+use Rattle.std.proofs.Common.{◌++◌, inl, refl, rules, ap, ◌∙◌}
+use Rattle.std.specs.Fmt.{decimal}
+use Rattle.syslog_pieces.specs.Pieces.Class.{Text}
 use Rattle.syslog_pieces.proofs.PieceLemmas.Rows.{row_of, no_row, ◌then◌, ◌past◌}
+use Rattle.syslog_pieces.proofs.ProcIdLemmas.{no_process}
 use Rattle.syslog_loose.specs.Rfc5424.{header_row}
+use Rattle.syslog_loose.proofs.HeaderLemmas.{host_prints, names_joined, process_named, process_prints, process_there, word_prints}
 use Rattle.syslog_loose.proofs.Rfc5424Lemmas.{header_det}
 use Rattle.syslog_loose.proofs.rfc5424.read_header.Goals as goal
 
-pub returns-in_err-version : goal.returns-in_err-version
-returns-in_err-version c whole f =
+pub returns-in_err-version-clause-reads : goal.returns-in_err-version-clause-reads
+returns-in_err-version-clause-reads c whole f =
     let n = no_row header_row header_det
     (f past inl c.in_err-version.ensures) in search rules
 
-pub returns-in_err-some_blanks : goal.returns-in_err-some_blanks
-returns-in_err-some_blanks c whole f =
+pub returns-in_err-start-clause-reads : goal.returns-in_err-start-clause-reads
+returns-in_err-start-clause-reads c whole f =
     let n = no_row header_row header_det
-    (f past c.in_ok-version.ensures past inl c.in_err-some_blanks.ensures)
-    in search rules
+    (f past c.in_ok-version.ensures past inl c.in_err-start.ensures) in search rules
 
-pub returns-in_default : goal.returns-in_default
-returns-in_default c whole f =
+pub returns-in_default-clause-reads : goal.returns-in_default-clause-reads
+returns-in_default-clause-reads c whole f =
     let n = no_row header_row header_det
-    (f past c.in_ok-version.ensures past c.in_ok-some_blanks.ensures past
-    inl c.in_default.ensures) in search rules
+    (f past c.in_ok-version.ensures past c.in_ok-start.ensures past inl c.in_default.ensures) in search rules
 
-pub returns-in_err-some_blanks-2 : goal.returns-in_err-some_blanks-2
-returns-in_err-some_blanks-2 c whole f =
+pub returns-in_err-at_host-clause-reads : goal.returns-in_err-at_host-clause-reads
+returns-in_err-at_host-clause-reads c whole f =
     let n = no_row header_row header_det
-    (f past c.in_ok-version.ensures past c.in_ok-some_blanks.ensures past
-    c.in-Some.ensures past inl c.in_err-some_blanks-2.ensures) in search rules
+    (f past c.in_ok-version.ensures past c.in_ok-start.ensures past c.in-Some.ensures past inl c.in_err-at_host.ensures) in search rules
 
-pub returns-in_err-hostname : goal.returns-in_err-hostname
-returns-in_err-hostname c whole f =
+pub returns-in_err-hostname-clause-reads : goal.returns-in_err-hostname-clause-reads
+returns-in_err-hostname-clause-reads c whole f =
     let n = no_row header_row header_det
-    (f past c.in_ok-version.ensures past c.in_ok-some_blanks.ensures past
-    c.in-Some.ensures past c.in_ok-some_blanks-2.ensures past inl c.in_err-hostname.ensures) in search rules
+    (f past c.in_ok-version.ensures past c.in_ok-start.ensures past c.in-Some.ensures past c.in_ok-at_host.ensures past inl c.in_err-hostname.ensures) in search rules
 
-pub returns-in_err-some_blanks-3 : goal.returns-in_err-some_blanks-3
-returns-in_err-some_blanks-3 c whole f =
+pub returns-in_err-at_app-clause-reads : goal.returns-in_err-at_app-clause-reads
+returns-in_err-at_app-clause-reads c whole f =
     let n = no_row header_row header_det
-    (f past c.in_ok-version.ensures past c.in_ok-some_blanks.ensures past
-    c.in-Some.ensures past c.in_ok-some_blanks-2.ensures past c.in_ok-hostname.ensures past
-    inl c.in_err-some_blanks-3.ensures) in search rules
+    (f past c.in_ok-version.ensures past c.in_ok-start.ensures past c.in-Some.ensures past c.in_ok-at_host.ensures past c.in_ok-hostname.ensures past inl c.in_err-at_app.ensures) in search rules
 
-pub returns-in_err-appname : goal.returns-in_err-appname
-returns-in_err-appname c whole f =
+pub returns-in_err-appname-clause-reads : goal.returns-in_err-appname-clause-reads
+returns-in_err-appname-clause-reads c whole f =
     let n = no_row header_row header_det
-    (f past c.in_ok-version.ensures past c.in_ok-some_blanks.ensures past
-    c.in-Some.ensures past c.in_ok-some_blanks-2.ensures past c.in_ok-hostname.ensures past
-    c.in_ok-some_blanks-3.ensures past inl c.in_err-appname.ensures) in search rules
+    (f past c.in_ok-version.ensures past c.in_ok-start.ensures past c.in-Some.ensures past c.in_ok-at_host.ensures past c.in_ok-hostname.ensures past c.in_ok-at_app.ensures past inl c.in_err-appname.ensures) in search rules
 
-pub returns-in_err-some_blanks-4 : goal.returns-in_err-some_blanks-4
-returns-in_err-some_blanks-4 c whole f =
+pub returns-in_err-at_process-clause-reads : goal.returns-in_err-at_process-clause-reads
+returns-in_err-at_process-clause-reads c whole f =
     let n = no_row header_row header_det
-    (f past c.in_ok-version.ensures past c.in_ok-some_blanks.ensures past
-    c.in-Some.ensures past c.in_ok-some_blanks-2.ensures past c.in_ok-hostname.ensures past
-    c.in_ok-some_blanks-3.ensures past c.in_ok-appname.ensures past inl c.in_err-some_blanks-4.ensures)
-    in search rules
+    (f past c.in_ok-version.ensures past c.in_ok-start.ensures past c.in-Some.ensures past c.in_ok-at_host.ensures past c.in_ok-hostname.ensures past c.in_ok-at_app.ensures past c.in_ok-appname.ensures past inl c.in_err-at_process.ensures) in search rules
 
-pub returns-in_err-procid : goal.returns-in_err-procid
-returns-in_err-procid c whole f =
+pub returns-in_err-process-clause-reads : goal.returns-in_err-process-clause-reads
+returns-in_err-process-clause-reads c whole f =
     let n = no_row header_row header_det
-    (f past c.in_ok-version.ensures past c.in_ok-some_blanks.ensures past
-    c.in-Some.ensures past c.in_ok-some_blanks-2.ensures past c.in_ok-hostname.ensures past
-    c.in_ok-some_blanks-3.ensures past c.in_ok-appname.ensures past c.in_ok-some_blanks-4.ensures past
-    inl c.in_err-procid.ensures) in search rules
+    (f past c.in_ok-version.ensures past c.in_ok-start.ensures past c.in-Some.ensures past c.in_ok-at_host.ensures past c.in_ok-hostname.ensures past c.in_ok-at_app.ensures past c.in_ok-appname.ensures past c.in_ok-at_process.ensures past inl (no_process c.in_err-process.ensures)) in search rules
 
-pub returns-in_err-some_blanks-5 : goal.returns-in_err-some_blanks-5
-returns-in_err-some_blanks-5 c whole f =
+pub returns-in_err-at_id-clause-reads : goal.returns-in_err-at_id-clause-reads
+returns-in_err-at_id-clause-reads c whole f =
     let n = no_row header_row header_det
-    (f past c.in_ok-version.ensures past c.in_ok-some_blanks.ensures past
-    c.in-Some.ensures past c.in_ok-some_blanks-2.ensures past c.in_ok-hostname.ensures past
-    c.in_ok-some_blanks-3.ensures past c.in_ok-appname.ensures past c.in_ok-some_blanks-4.ensures past
-    c.in_ok-procid.ensures past inl c.in_err-some_blanks-5.ensures) in search rules
+    (f past c.in_ok-version.ensures past c.in_ok-start.ensures past c.in-Some.ensures past c.in_ok-at_host.ensures past c.in_ok-hostname.ensures past c.in_ok-at_app.ensures past c.in_ok-appname.ensures past c.in_ok-at_process.ensures past (process_there c.in_ok-process.ensures).1 past inl c.in_err-at_id.ensures) in search rules
 
-pub returns-in_err-msgid : goal.returns-in_err-msgid
-returns-in_err-msgid c whole f =
+pub returns-in_err-msgid-clause-reads : goal.returns-in_err-msgid-clause-reads
+returns-in_err-msgid-clause-reads c whole f =
     let n = no_row header_row header_det
-    (f past c.in_ok-version.ensures past c.in_ok-some_blanks.ensures past
-    c.in-Some.ensures past c.in_ok-some_blanks-2.ensures past c.in_ok-hostname.ensures past
-    c.in_ok-some_blanks-3.ensures past c.in_ok-appname.ensures past c.in_ok-some_blanks-4.ensures past
-    c.in_ok-procid.ensures past c.in_ok-some_blanks-5.ensures past inl c.in_err-msgid.ensures) in search rules
+    (f past c.in_ok-version.ensures past c.in_ok-start.ensures past c.in-Some.ensures past c.in_ok-at_host.ensures past c.in_ok-hostname.ensures past c.in_ok-at_app.ensures past c.in_ok-appname.ensures past c.in_ok-at_process.ensures past (process_there c.in_ok-process.ensures).1 past c.in_ok-at_id.ensures past inl c.in_err-msgid.ensures) in search rules
 
-pub returns : goal.returns
-returns c whole f =
-    row_of header_row
-    (f then c.in_ok-version.ensures then c.in_ok-some_blanks.ensures then
-    c.in-Some.ensures then c.in_ok-some_blanks-2.ensures then c.in_ok-hostname.ensures then
-    c.in_ok-some_blanks-3.ensures then c.in_ok-appname.ensures then c.in_ok-some_blanks-4.ensures then
-    c.in_ok-procid.ensures then c.in_ok-some_blanks-5.ensures then c.in_ok-msgid.ensures then refl)
+pub returns-clause-reads : goal.returns-clause-reads
+returns-clause-reads c whole f = λ process n.
+    row_of header_row (f then c.in_ok-version.ensures then c.in_ok-start.ensures then c.in-Some.ensures then c.in_ok-at_host.ensures then c.in_ok-hostname.ensures then c.in_ok-at_app.ensures then c.in_ok-appname.ensures then c.in_ok-at_process.ensures then (process_named c.in_ok-process.ensures n) then c.in_ok-at_id.ensures then c.in_ok-msgid.ensures then refl)
+
+pub returns-clause-stands : goal.returns-clause-stands
+returns-clause-stands c = record {
+  stamp = c.in-Some.ensures;
+  stands = λ e.
+      let (version, (first, (second, (third, (fourth, (bare, (fifth, _))))))) = c.are_all-stands.ensures e in
+      let (process, named, prints) = process_prints c.in_ok-process.ensures (c.process_stands.ensures bare) in
+      record {
+        process = process;
+        named = named;
+        front = c.number_stands.ensures version _ _ c.in_ok-version.ensures
+            ∙ ap (λ (x : Text). decimal c.in_ok-version.version ++ x) (c.is_one_space.ensures first);
+        names = names_joined _ _ _ _ _ (c.is_one_space-2.ensures second) (host_prints c.in_ok-hostname.ensures)
+            (c.is_one_space-3.ensures third) (word_prints c.in_ok-appname.ensures) (c.is_one_space-4.ensures fourth)
+            prints (c.is_one_space-5.ensures fifth) (word_prints c.in_ok-msgid.ensures);
+      };
+}
