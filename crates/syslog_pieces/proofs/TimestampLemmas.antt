@@ -3,7 +3,7 @@
 pub mod Characters
 pub mod Civil
 pub mod Fold
-pub mod VerbatimStamp
+pub mod CopiedStamp
 pub mod Rfc3164
 pub mod MonthDate
 pub mod Months
