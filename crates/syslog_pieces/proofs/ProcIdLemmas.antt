@@ -9,11 +9,14 @@ use Rattle.syslog_pieces.proofs.Names.{signed_digits_value, cases_Bool, cases_eq
 use Rattle.syslog_pieces.proofs.Names.{decimal-digits_value, chars-IsAscii, IsAscii-cons, IsBareWord, SplitsRun, Text}
 use Rattle.syslog_pieces.proofs.Names.{Each, Front, NoFront, IsDeterministic, Verbatim, word, IsI32Text, process_word}
 use Rattle.syslog_pieces.proofs.Names.{process_text, ProcId, PID, verbatim_of}
+use Rattle.syslog_pieces.proofs.Names.{Option, None, encode_utf8_all, is_not_whitespace, true, IsAscii-nil}
+use Rattle.std.proofs.lemmas.Str.{char_from_byte, length-le-encodes}
 use Rattle.std.specs.Str.Parse.{without_leading_sign}
+use Rattle.syslog_pieces.specs.Bodies.Looks.{LeadsBare}
 use Rattle.syslog_pieces.specs.Bodies.Verbatim.{VerbatimDigits}
 use Rattle.syslog_pieces.specs.ProcId.{IsDigits, WritesSigned, NamesProcess, procid_text}
 use Rattle.syslog_pieces.specs.declared.procid.ProcId.TheVariants.{Name}
-use Rattle.syslog_pieces.proofs.TextLemmas.Chars.{digits_ascii, ascii_chars, digit_chars}
+use Rattle.syslog_pieces.proofs.TextLemmas.Chars.{digits_ascii, ascii_ahead, ascii_chars, digit_chars}
 use Rattle.syslog_pieces.proofs.TextLemmas.Words.{own, word_det}
 
 -- ---- a text writes one number
@@ -171,6 +174,40 @@ pub absent_verbatim : (text follows : Text) → Front word text follows None
     → Verbatim process_word process_text text follows
 unfolding absent_front
 absent_verbatim text follows f = verbatim_of process_word process_text text follows None (absent_front f) f.is.4
+
+-- an ASCII character before one that is no white space, in bytes
+two_bytes : (k d : ℕ) (more : Text) (bs : List ℕ) → k < 128 → IsUtf8 bs → chars bs ≡ k ∷ d ∷ more
+    → is_not_whitespace d ≡ true → (1 < length bs) × (get_or bs 1 0 ≢ 32) × (get_or bs 0 0 ≡ k)
+two_bytes k d more bs low u e visible =
+    let back = encode_utf8_all (d ∷ more) in
+    let split : bs ≡ k ∷ back = ascii_ahead (k ∷ []) (d ∷ more) bs u (IsAscii-cons k [] low IsAscii-nil) e in
+    let some : 0 < length back = omega (arith, length-le-encodes (d ∷ more)) in
+    rw split (
+      omega (arith, some),
+      (λ z. let c : d ≡ get_or back 0 0 = char_from_byte back (encode_utf8_all more) d refl (omega (arith, z)) some in
+          let n = rw (c ∙ z) at visible in cc),
+      refl,
+    )
+
+-- a word is bare where its text leads with no mark before another byte than a space
+bare_front : (bs p q : Text) → LeadsBare bs → IsUtf8 bs → chars bs ≡ p ++ q → Each is_not_whitespace p → IsBareWord p
+bare_front bs [] q h u e a l = absurd (omega arith)
+bare_front bs (c ∷ []) q h u e a l = absurd (omega arith)
+bare_front bs (c ∷ d ∷ p) q h u e a l = (
+  λ z. (let (long, gap, first) = two_bytes 43 d (p ++ q) bs (omega arith) u (rw z at e) a.1.0 in (h long gap).0 first),
+  λ z. (let (long, gap, first) = two_bytes 45 d (p ++ q) bs (omega arith) u (rw z at e) a.1.0 in (h long gap).1 first),
+  λ z. (let (long, gap, first) = two_bytes 48 d (p ++ q) bs (omega arith) u (rw z at e) a.1.0 in (h long gap).2 first),
+)
+
+pub process_stands : (bs : List ℕ) → IsUtf8 bs → LeadsBare bs → (rest : Text) (process : Option (ProcId Text))
+    → Front process_word (chars bs) rest process → chars bs ≡ process_text process ++ rest
+process_stands bs u h rest None f = f.whole ∙ ap (λ (x : Text). x ++ rest) f.is.4
+process_stands bs u h rest (Some i) f =
+    let (name, w, n) = f.is in
+    let bare = bare_front bs f.piece rest h u f.whole w.1 in
+    let (j, names, prints) = names_itself f.piece w.0 bare in
+    let same = process_same f.piece i j (rw w.4.0 at n) names in
+    f.whole ∙ ap (λ (x : Text). x ++ rest) (sym prints ∙ ap procid_text (sym same))
 
 -- digits, of which the first is 0 only where it is alone
 bare_digits : (t : Text) → Each is_ascii_digit t → (get_or t 0 0 ≡ 48 → length t ≡ 1) → IsBareWord t

@@ -2,13 +2,14 @@
 //!
 //! The priority of a line is optional; `optional_priority` answers it and the text behind it. Nothing here takes
 //! memory.
-ghost use Rattle.std.specs.Prelude.{◌≡◌, ◌<◌, ◌≤◌, ◌+◌, ◌++◌, [], ◌∷◌, ℕ, IfSome, IsTrue, MatchOption, Some, slice_get};
+ghost use Rattle.std.specs.Prelude.{◌≡◌, ◌<◌, ◌≤◌, ◌+◌, ◌++◌, [], ◌∷◌, ℕ, IfSome, IsTrue, MatchOption, Some, drop, slice_get};
+ghost use Rattle.std.specs.Bool.{OnFalse};
 ghost use Rattle.std.specs.Fmt.{WritesOnOk};
 ghost use Rattle.std.specs.List.{AllByRecursion};
 ghost use Rattle.std.specs.Option.{option_and_then};
 ghost use Rattle.std.specs.Str.{chars, encode_utf8_all};
 ghost use Rattle.jiff_fmt.specs.Text.{pad2};
-ghost use Rattle.syslog_pieces.specs.Bodies.Looks.{IsPriorityBytes};
+ghost use Rattle.syslog_pieces.specs.Bodies.Looks.{IsPriorityBytes, LeadsAlone};
 ghost use Rattle.syslog_pieces.specs.Pieces.Class.{Front, Text, optional};
 ghost use Rattle.syslog_pieces.specs.Pieces.Verbatim.{Verbatim};
 ghost use Rattle.syslog_pieces.specs.Pri.{priority_text};
@@ -263,13 +264,21 @@ pub fn optional_priority(text: &str) -> (Option<u8>, &str)
     }
 }
 
+// Whether behind the first byte, that of the bracket, a zero stands before a further digit.
+#[inline(always)]
+fn opens_with_zero(bytes: &[u8]) -> bool
+    ensures { OnFalse result (LeadsAlone (drop 1 bytes.now)) }
+{
+    matches!(bytes, [_, b'0', b'0'..=b'9', ..])
+}
+
 /// Whether the priority at the front of the text prints as it stands: it has no leading zero.
 #[inline(always)]
 pub fn priority_stands(text: &str) -> bool
     ensures { IsTrue result → (rest : Text) (n : ℕ) → Front spec.priority (chars text.now) rest n
         → chars text.now ≡ priority_text n ++ rest }
 {
-    false
+    !opens_with_zero(text.as_bytes())
 }
 
 /// The text behind the priority at the front, where it is below 192 and prints as it is written.

@@ -2,11 +2,13 @@
 //!
 //! A text is a number exactly where it is an optional sign and ASCII digits of such a number; that is the crate's rule,
 //! RFC 5424 section 6.2.6 leaves the form open.
+ghost use Rattle.std.specs.Bool.{OnFalse};
 ghost use Rattle.std.specs.Cmp.{on_equiv, on_per, partial_equiv_from_equiv};
 ghost use Rattle.std.specs.Ordering.{on};
 ghost use Rattle.std.specs.Prelude.{◌≡◌, ◌↔◌, ◌++◌, IfOk, IfSome, IsTrue, Option, Some, string_bytes};
 ghost use Rattle.std.specs.Option.{option_map};
 ghost use Rattle.std.specs.Str.{chars, encode_utf8_all};
+ghost use Rattle.syslog_pieces.specs.Bodies.Looks.{LeadsBare};
 ghost use Rattle.syslog_pieces.specs.Bodies.Verbatim.{IsBareWord, VerbatimDigits};
 ghost use Rattle.syslog_pieces.specs.Pieces.Class.{Front, Text};
 ghost use Rattle.syslog_pieces.specs.Pieces.Verbatim.{Verbatim};
@@ -145,6 +147,17 @@ pub fn is_bare_word(name: &str) -> bool
     }
 }
 
+// Whether a sign or a zero stands before a further byte that is no space.
+#[inline(always)]
+fn leads_with_mark(bytes: &[u8]) -> bool
+    ensures { OnFalse result (LeadsBare bytes.now) }
+{
+    match bytes {
+        [b'+' | b'-' | b'0', next, ..] => *next != b' ',
+        _ => false,
+    }
+}
+
 /// Whether the process id at the front of the text prints as it stands. It may answer no of others too: a sign and a
 /// zero are looked at alone.
 #[inline(always)]
@@ -152,7 +165,7 @@ pub fn process_stands(text: &str) -> bool
     ensures { IsTrue result → (rest : Text) (process : Option (ProcId Text))
         → Front spec.process_word (chars text.now) rest process → chars text.now ≡ process_text process ++ rest }
 {
-    false
+    !leads_with_mark(text.as_bytes())
 }
 
 /// The text behind the process id at the front, where it prints as it is written.

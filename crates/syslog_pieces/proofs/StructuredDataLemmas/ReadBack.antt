@@ -272,6 +272,18 @@ pub broken_end : (t s q : Text) → VerbatimItems t s → NoFront element s → 
 broken_end t s q on n b m =
     on q s (None ∷ []) (many_cons item (bracketed_item s q n b) (many_here item q (no_bracket q m))) refl
 
+-- an absent list, and elements with no further one behind them
+pub dash_prints : (t s : Text) → Front (exactly (45 ∷ [])) t s tt → ListPrints t s s
+dash_prints t s f =
+    let e = begins 45 t s f in
+    record { elements = []; is = record { piece = 45 ∷ []; whole = e; is = inl (refl, refl) }; prints = e }
+
+pub list_prints : (t s : Text) → VerbatimItems t s → NoFront (exactly (91 ∷ [])) s → ListPrints t s s
+list_prints t s on n = on s s [] (many_here item s (no_bracket s n)) refl
+
+-- what the reader of a list that prints as it stands rests on
+pub ruleset printed_lists = (dash_prints, list_prints, broken_end)
+
 -- ---- lists that are copied
 
 pub dash_on : (t s : Text) (cut : Option Cut) → Front (exactly (45 ∷ [])) t s tt
@@ -282,7 +294,7 @@ dash_on t s cut f =
 pub list_on : (t s : Text) (cut : Option Cut) → VerbatimItems t s → NoFront (exactly (91 ∷ [])) s
     → CopiedOn forgiving elements_text t cut s cut
 list_on t s cut on n =
-    let l = on s s [] (many_here item s (no_bracket s n)) refl in
+    let l = list_prints t s on n in
     record {
       value = l.elements;
       is = l.is;

@@ -3,7 +3,7 @@ use Rattle.syslog_pieces.proofs.Names.{◌≡◌, ◌≢◌, ℕ, ◌<◌, Bool,
 use Rattle.syslog_pieces.proofs.Names.{sym, ap, ◌∙◌, arith, eqb-true, nat_tests, chars-append, chars-nil, encodes-chars}
 use Rattle.syslog_pieces.proofs.Names.{encodes-IsAscii, chars-IsAscii, IsUtf8-from_ascii, IsAscii-nil, IsAscii-cons}
 use Rattle.syslog_pieces.proofs.Names.{is_ascii_digit, chars, IsUtf8, IsAscii, encode_utf8_all, bytes_eq, Text, Each}
-use Rattle.syslog_pieces.proofs.Names.{Ends}
+use Rattle.syslog_pieces.proofs.Names.{Ends, encodes-append}
 use Rattle.std.proofs.lemmas.Slice.Eq.{bytes_eq-Decides}
 use Rattle.std.proofs.lemmas.Str.{byte_from_char, char_from_byte}
 pub use Rattle.std.proofs.lemmas.Bool.{not-true as from_not_true}
@@ -73,6 +73,11 @@ text_is_not bs w u a h e =
 pub ascii_front : (p rest bs : List ℕ) → IsAscii p → bs ≡ p ++ rest → chars bs ≡ p ++ chars rest
 ascii_front p rest bs a e = rw e (chars-append p rest (IsUtf8-from_ascii p a)
     ∙ ap (λ (x : List ℕ). x ++ chars rest) (chars-IsAscii p a))
+
+-- ASCII at the front of characters
+pub ascii_ahead : (p q bs : List ℕ) → IsUtf8 bs → IsAscii p → chars bs ≡ p ++ q → bs ≡ p ++ encode_utf8_all q
+ascii_ahead p q bs u a e = sym (encodes-chars bs u) ∙ ap encode_utf8_all e ∙ encodes-append p q
+    ∙ ap (λ (x : List ℕ). x ++ encode_utf8_all q) (encodes-IsAscii p a)
 
 pub chars_cut : (bs xs ys : List ℕ) → bs ≡ xs ++ ys → IsUtf8 xs → chars bs ≡ chars xs ++ chars ys
 chars_cut bs xs ys e u = rw e (chars-append xs ys u)

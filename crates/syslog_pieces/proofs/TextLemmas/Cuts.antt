@@ -1,5 +1,6 @@
 -- A text cut by bytes before a rest of it.
-use Rattle.syslog_pieces.proofs.Names.{◌≡◌, ℕ, ◌-◌, ◌≤◌, List, ◌++◌, length, take, sym, ap, ◌∙◌, arith}
+use Rattle.syslog_pieces.proofs.Names.{◌≡◌, ℕ, suc, ◌-◌, ◌≤◌, List, ◌++◌, length, take, drop, sym, ap, ◌∙◌, arith}
+use Rattle.syslog_pieces.proofs.Names.{drop-append_seam}
 use Rattle.syslog_pieces.proofs.Names.{take-append_seam, length-append, encodes-append, encodes-chars, IsUtf8-take}
 use Rattle.syslog_pieces.proofs.Names.{IsCharBoundary-at_seam, chars, IsUtf8, IsCharBoundary, encode_utf8_all, Text}
 use Rattle.syslog_pieces.proofs.TextLemmas.Chars.{chars_cut}
@@ -14,6 +15,14 @@ module _ (t r : List ℕ) (u : IsUtf8 t) (z : IsUtf8 r) (p : Text) (whole : char
 
   place : length (encode_utf8_all p) ≡ length t - length r
   place = omega (arith, ap length bytes, length-append (encode_utf8_all p) r)
+
+  -- behind the first byte stands the rest, where the text has one byte more
+  pub behind_one : length t ≡ suc (length r) → drop 1 t ≡ r
+  behind_one l =
+      let n : length (encode_utf8_all p) ≡ 1 = omega (arith, place) in
+      let d : drop (length (encode_utf8_all p)) t ≡ r =
+      ap (drop (length (encode_utf8_all p))) bytes ∙ drop-append_seam (encode_utf8_all p) r in
+      rw n at d
 
   -- the text may be cut there
   pub front_cut : IsCharBoundary t (length t - length r)

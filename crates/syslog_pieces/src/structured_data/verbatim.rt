@@ -103,9 +103,18 @@ pub fn verbatim_list<'a>(text: &'a str, cut: Option<Cut<'a>>) -> Option<(&'a str
 
 /// The text behind the printed text of the list at the front, and the text behind the list: its strict elements print
 /// as they stand, and at most a broken element stands behind them. Takes no memory.
+#[tactic(auto, using(crate::proofs::StructuredDataLemmas::ReadBack::printed_lists))]
 #[inline(always)]
 pub fn printed_list(text: &str) -> Option<(&str, &str)>
     ensures { IfSome result (λ x. ListPrints (chars text.now) (shown x.0) (shown x.1)) }
 {
-    None
+    if let Some(rest) = literal(text, '-') {
+        return Some((rest, rest));
+    }
+    let gap = verbatim_elements(text)?;
+    let Some(_) = literal(gap, '[') else {
+        return Some((gap, gap));
+    };
+    let next = last_broken(gap)?;
+    Some((gap, next))
 }

@@ -13,6 +13,7 @@ ghost use Rattle.syslog_pieces.specs.Pieces.View.{shown};
 ghost use Rattle.syslog_pieces.specs.Text as spec;
 ghost use Rattle.syslog_pieces.specs.Text.{name_text};
 
+use crate::text::looks::{begins_with, leads_with_zero};
 use crate::text::{CharClass, host, is_byte, literal, number_of_digits, split_run, word};
 
 /// Whether one space is all that stands between a text and a rest of it behind blanks: so it prints as it stands.
@@ -21,7 +22,7 @@ pub fn is_one_space(text: &str, rest: &str) -> bool
     requires { (gap : Text) × Each spec.is_blank gap × (chars text.now ≡ gap ++ chars rest.now) }
     ensures { IsTrue result → chars text.now ≡ 32 ∷ chars rest.now }
 {
-    false
+    begins_with(text.as_bytes(), b' ') && text.len() - 1 == rest.len()
 }
 
 /// Whether the number at the front of the text prints as it stands: it has no leading zero.
@@ -30,7 +31,7 @@ pub fn number_stands(text: &str) -> bool
     ensures { IsTrue result → (rest : Text) (n : ℕ) → Front (spec.number 4294967295) (chars text.now) rest n
         → chars text.now ≡ decimal n ++ rest }
 {
-    false
+    !leads_with_zero(text.as_bytes())
 }
 
 /// The text behind the word at the front, which prints as it is written.
