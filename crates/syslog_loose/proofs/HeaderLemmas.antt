@@ -15,6 +15,11 @@ process_named {v = None} f n = rw n (absent_front f)
 process_named {v = Some t} {process = None} f n = absurd n
 process_named {v = Some t} {process = Some p} f n = process_front p f n
 
+-- each word names a process id, or none
+pub word_some : (v : Option Text) → (process : Option (ProcId Text)) × NamesWord v process
+word_some None = (None, refl)
+word_some (Some t) = let (p, n) = names_some t in (Some p, n)
+
 -- some process id stands there
 pub process_there : {t q : Text} {v : Option Text} → Front word t q v
     → (process : Option (ProcId Text)) × Front process_word t q process

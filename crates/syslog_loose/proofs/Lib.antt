@@ -2,7 +2,7 @@ pub mod BeginningLemmas
 pub mod BoundLemmas
 pub mod CanonicalLemmas
 pub mod DashChangeLemmas
-pub mod VerbatimLineLemmas
+pub mod LineLemmas
 pub mod HeaderLemmas
 pub mod JumpLemmas
 pub mod Names

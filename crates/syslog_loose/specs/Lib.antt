@@ -4,7 +4,7 @@ pub mod DashChange
 pub mod Equal
 pub mod EqualLaws
 pub mod Jumps
-pub mod VerbatimLine
+pub mod Line
 pub mod Exceptions
 pub mod Formats
 pub mod Message

@@ -2,6 +2,9 @@
 use Rattle.std.specs.Prelude.{◌≡◌, ℕ, [], ◌∷◌, ◌++◌, List, Option, Some, None, IsTrue, MatchOption}
 use Rattle.std.specs.Borrow.{Bor}
 use Rattle.std.specs.Fmt.{decimal}
+use Rattle.std.specs.Option.{option_and_then}
+use Rattle.syslog_pieces.specs.Pri.{facility_of, severity_of}
+use Rattle.syslog_pieces.specs.StructuredData.Element.{ElementValue}
 use Rattle.syslog_pieces.specs.Pieces.Class.{Text, Front, NoFront, Row, Values, some_run}
 use Rattle.syslog_pieces.specs.ProcId.{NamesProcess, process_text, process_word}
 use Rattle.syslog_pieces.specs.Text.{is_blank, host, name_text, word}
@@ -9,7 +12,9 @@ use Rattle.syslog_pieces.specs.Timestamp.{header_stamp}
 use Rattle.syslog_pieces.specs.Pieces.View.{seen, shown}
 use Rattle.syslog_pieces.specs.declared.procid.ProcId.{ProcId}
 use Rattle.syslog_loose.specs.declared.rfc5424.Header.{Header}
+use Rattle.syslog_loose.specs.Message.{MessageValue}
 use Rattle.syslog_loose.specs.Rfc5424.{header_row}
+use Rattle.syslog_loose.specs.declared.message.Protocol.TheVariants.{RFC5424}
 
 -- the word names this process id, and an absent one none
 abbrev pub NamesWord : Option Text → Option (ProcId Text) → Type 0
@@ -49,3 +54,18 @@ pub record PrintsHeader (text : Text) (h : Header) (follows : Text) : Type 0 whe
 pub record HeaderStands (text : Text) (h : Header) (follows : Text) : Type 0 where
   pub stamp : Front header_stamp (shown h.start) (shown h.tail) h.timestamp
   pub stands : IsTrue h.stands → PrintsHeader text h follows
+
+-- the message of a header with these elements and this text
+abbrev pub message_with : Header → Option (ProcId Text) → List ElementValue → Text → MessageValue
+message_with h process elements msg = record {
+  protocol = RFC5424 h.version;
+  facility = option_and_then facility_of h.priority;
+  severity = option_and_then severity_of h.priority;
+  timestamp = h.timestamp;
+  hostname = seen h.hostname;
+  appname = seen h.appname;
+  procid = process;
+  msgid = seen h.msgid;
+  structured_data = elements;
+  msg = msg;
+}

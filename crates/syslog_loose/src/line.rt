@@ -4,10 +4,12 @@
 //! zeros, strict elements alone. The reader of the header tells what stands so, and that is copied: no message is made
 //! of such a line, no element collected, and nothing printed but what stands otherwise. A line whose elements print
 //! otherwise is left to be read and printed as any other.
-ghost use Rattle.std.specs.Prelude.{◌≡◌, ◌++◌, ◌∷◌, ℕ, IfOk, IfSome, IsOk, IsTrue, Option, Some, map, string_bytes};
+ghost use Rattle.std.specs.Prelude.{◌≡◌, ◌++◌, ◌∷◌, IfOk, IfSome, IsOk, IsTrue, OnOk, Option, ℕ, Some, string_bytes};
 ghost use Rattle.std.specs.Fmt.{WritesOnOk};
+ghost use Rattle.std.specs.Option.{option_map};
 ghost use Rattle.std.specs.Str.{chars, encode_utf8_all, IsUtf8};
-ghost use Rattle.syslog_pieces.specs.Bodies.VerbatimStamp.{zone_text};
+ghost use Rattle.std.specs.Fmt.{decimal};
+ghost use Rattle.syslog_pieces.specs.Bodies.VerbatimStamp.{zone_text, IsCopiedStamp};
 ghost use Rattle.syslog_pieces.specs.Pieces.Class.{Text};
 ghost use Rattle.syslog_pieces.specs.Pieces.View.{shown};
 ghost use Rattle.syslog_pieces.specs.Pri.{priority_text};
@@ -18,19 +20,21 @@ ghost use Rattle.syslog_loose.specs.Line as spec;
 ghost use Rattle.syslog_loose.specs.Message.{MessageValue, message_value};
 ghost use Rattle.syslog_loose.specs.Printed.{printed};
 ghost use Rattle.syslog_loose.specs.Reading.{AsksYear, IsUnreadable, OfTrimmed};
+ghost use Rattle.syslog_pieces.specs.Text.{name_text};
 ghost use Rattle.syslog_loose.specs.Rfc5424.{IsNot5424, IsRead5424};
 ghost use Rattle.syslog_loose.specs.Start.{IsBehindPriority};
 
-use crate::message::{Message, make_room, write_front, write_names, write_spaced, write_timestamp};
+use crate::message::{Message, make_room, priority, write_name, write_program, write_spaced};
 use crate::rfc5424::{Header, header_message, read_header};
 use crate::variant::Variant;
 use std::alloc::{AllocError, Global};
 use std::fmt;
 use std::fmt::Write;
-use syslog_pieces::pri::priority_stands;
+use syslog_pieces::pri::{priority_stands, write_priority};
 use syslog_pieces::structured_data::printed_list;
 use syslog_pieces::text::blanks;
 use syslog_pieces::text::verbatim::{before, is_one_space};
+use syslog_pieces::text::write_ascii::write_number;
 use syslog_pieces::timestamp::verbatim::{CopiedStamp, copied_stamp};
 
 // A line, its elements without what is left out of them: its header and what stands behind that, the elements and
@@ -47,9 +51,13 @@ struct Line<'a> {
 // The line, from what stands behind its priority on, where its elements print as they stand.
 #[inline(always)]
 fn read_line(priority: Option<u8>, text: &str) -> Option<Line<'_>>
-    ensures { IfSome result (λ line. spec.IsLine priority (chars text.now) line) }
+    ensures line { IfSome result (λ line. spec.IsLine priority (chars text.now) line) }
+    ensures utf8 { IfSome result (λ line. IsUtf8 line.header.start.now × IsUtf8 line.header.tail.now
+        × IsUtf8 line.list.now × IsUtf8 line.gap.now × IsUtf8 line.msg.now) }
 {
-    let (header, behind) = read_header(priority, text)?;
+    let Some((header, behind)) = read_header(priority, text) else {
+        return None;
+    };
     let list = blanks(behind);
     let (gap, end) = printed_list(list)?;
     Some(Line {
@@ -93,4 +101,183 @@ impl fmt::Display for CopiedLine<'_> {
         f.write_str(self.tail)?;
         write_spaced(f, self.msg)
     }
+}
+
+// Whether the priority prints as it stands. It may answer no of others too.
+#[inline(always)]
+fn prints_priority(text: &str, number: Option<u8>) -> bool
+    ensures { IsTrue result → (rest : Text) → IsBehindPriority (chars text.now) number rest
+        → chars text.now ≡ priority_text (printed_number number) ++ rest }
+{
+    match number {
+        Some(number) => number < 192 && priority_stands(text),
+        None => false,
+    }
+}
+
+// The line, where all but the zone of its timestamp stands as it prints.
+#[inline(always)]
+fn copied_line<'a>(
+    text: &'a str,
+    rest: &str,
+    line: &Line<'a>,
+    stamp: CopiedStamp<'a>,
+) -> Option<CopiedLine<'a>>
+    requires behind { IsBehindPriority (chars text.now) line.now.header.priority (chars rest.now) }
+    requires line { spec.IsLine line.now.header.priority (chars rest.now) line.now }
+    requires stamp { IsCopiedStamp (shown line.now.header.start) (shown stamp.zone) stamp.is_zulu
+        line.now.header.timestamp }
+    requires utf8 { IsUtf8 line.now.msg.now }
+    ensures prints { IfSome result (λ copied. spec.PrintsLine (chars text.entry.now) (shown copied.front
+        ++ (zone_text copied.is_zulu ++ (shown copied.tail ++ (32 ∷ shown copied.msg))))) }
+    ensures utf8 { IfSome result (λ copied. IsUtf8 copied.front.now × IsUtf8 copied.tail.now × IsUtf8 copied.msg.now) }
+{
+    if !line.header.stands {
+        return None;
+    }
+    if !is_one_space(line.behind, line.list) {
+        return None;
+    }
+    if !prints_priority(text, line.header.priority) {
+        return None;
+    }
+    Some(CopiedLine {
+        front: before(text, stamp.zone),
+        is_zulu: stamp.is_zulu,
+        tail: before(line.header.tail, line.gap),
+        msg: line.msg,
+    })
+}
+
+// A line whose names are printed one by one: a message without elements, its version, the digits of its timestamp up
+// to the zone, and the elements and the text that are its.
+#[derive(Clone, Copy)]
+struct NamedLine<'a, 'b> {
+    message: &'b Message<&'a str>,
+    version: u32,
+    digits: &'a str,
+    is_zulu: bool,
+    list: &'a str,
+    msg: &'a str,
+}
+
+// Writes what stands up to the names.
+#[inline(always)]
+fn write_start<W: fmt::Write>(f: &mut fmt::Formatter<W>, line: &NamedLine<'_, '_>) -> fmt::Result
+    ensures { WritesOnOk W.write_str_gives f.old result (spec.start_bytes line.now) f.new }
+{
+    let message = line.message;
+    write_priority(f, priority(message.facility, message.severity))?;
+    write_number(f, line.version)?;
+    write_spaced(f, line.digits)?;
+    write_zone(f, line.is_zulu)
+}
+
+impl fmt::Display for NamedLine<'_, '_> {
+    ghost output = { λ line. Some (spec.named_bytes line) };
+
+    fn fmt<W: fmt::Write>(&self, f: &mut fmt::Formatter<W>) -> fmt::Result {
+        write_start(f, self)?;
+        write_name(f, &self.message.hostname)?;
+        write_program(f, self.message)?;
+        write_spaced(f, self.list)?;
+        write_spaced(f, self.msg)
+    }
+}
+
+// Writes the line into a text that gets room for the input's length at once.
+#[inline(always)]
+fn print_named(text: &mut String, line: &NamedLine<'_, '_>, length: usize) -> Result<(), AllocError>
+    ensures { OnOk result (string_bytes text.new ≡ spec.named_bytes line.now) }
+{
+    make_room(text, length)?;
+    write!(text, "{line}")?;
+    Ok(())
+}
+
+// Writes the line, its names one by one.
+#[inline(never)]
+fn write_named(
+    alloc: Global,
+    text: &mut String,
+    line: &Line<'_>,
+    stamp: CopiedStamp<'_>,
+    length: usize,
+) -> Result<(), AllocError>
+    requires line { (whole : Text) × (rest : Text) × IsBehindPriority whole line.now.header.priority rest
+        × spec.IsLine line.now.header.priority rest line.now }
+    requires stamp { IsCopiedStamp (shown line.now.header.start) (shown stamp.zone) stamp.is_zulu
+        line.now.header.timestamp }
+    requires utf8 { IsUtf8 line.now.msg.now }
+    ensures { (whole : Text) (rest : Text) → IsBehindPriority whole line.entry.now.header.priority rest
+        → spec.IsLine line.entry.now.header.priority rest line.entry.now
+        → OnOk result ((line : Text) × spec.PrintsLine whole line × (string_bytes text.new ≡ encode_utf8_all line)) }
+{
+    let message = header_message(&line.header, Vec::new(alloc), "");
+    let named = NamedLine {
+        message: &message,
+        version: line.header.version,
+        digits: before(line.header.start, stamp.zone),
+        is_zulu: stamp.is_zulu,
+        list: before(line.list, line.gap),
+        msg: line.msg,
+    };
+    print_named(text, &named, length)?;
+    Ok(())
+}
+
+/// Writes the printed text of the message of the trimmed line into `text`, where its elements print as they stand, and
+/// tells whether it did. It asks for memory only for a line that has a reading by RFC 5424, and where `text` has too
+/// little room. `rest` is what stands behind the priority.
+#[inline(always)]
+fn copied(
+    alloc: Global,
+    text: &mut String,
+    input: &str,
+    number: Option<u8>,
+    rest: &str,
+) -> Result<bool, AllocError>
+    requires { IsBehindPriority (chars input.now) number (chars rest.now) }
+    ensures text { OfTrimmed (chars input.now) (λ whole. IfOk result (λ found. IsTrue found
+        → (m : MessageValue) × IsRead5424 whole m × (string_bytes text.new ≡ encode_utf8_all (printed m)))) }
+    ensures memory { OfTrimmed (chars input.now) (λ whole. IsNot5424 whole → IsOk result) }
+{
+    let Some(line) = read_line(number, rest) else {
+        return Ok(false);
+    };
+    let Some(stamp) = copied_stamp(line.header.start, line.header.tail) else {
+        return Ok(false);
+    };
+    match copied_line(input, rest, &line, stamp) {
+        Some(copied) => {
+            make_room(text, input.len())?;
+            write!(text, "{copied}")?;
+        }
+        None => write_named(alloc, text, &line, stamp, input.len())?,
+    }
+    Ok(true)
+}
+
+/// The same, where the variant reads RFC 5424.
+#[inline(always)]
+pub(crate) fn rfc5424_text(
+    alloc: Global,
+    text: &mut String,
+    input: &str,
+    number: Option<u8>,
+    rest: &str,
+    variant: Variant,
+) -> Result<bool, AllocError>
+    requires { IsBehindPriority (chars input.now) number (chars rest.now) }
+    ensures text { OfTrimmed (chars input.now) (λ whole. IfOk result (λ found. IsTrue found
+        → spec.PrintsAs5424 variant whole (string_bytes text.new))) }
+    ensures memory { OfTrimmed (chars input.now) (λ whole. (dating : Dating)
+        → IsUnreadable variant dating whole → IsOk result) }
+    ensures year { OfTrimmed (chars input.now) (λ whole. (date : MonthDate)
+        → AsksYear variant whole date → IsOk result) }
+{
+    if !variant.reads_rfc5424() {
+        return Ok(false);
+    }
+    copied(alloc, text, input, number, rest)
 }

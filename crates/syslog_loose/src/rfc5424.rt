@@ -2,10 +2,10 @@
 //!
 //! `read` answers the message of the one division of a trimmed text, or that there is none. What it reads it takes from
 //! the readers of `syslog_pieces`, piece by piece from the left; a header that fails takes no memory.
-ghost use Rattle.std.specs.Prelude.{◌≡◌, IfOk, IfSome, IsOk, IsTrue, MatchOption, Some, None};
+ghost use Rattle.std.specs.Prelude.{◌≡◌, IfOk, IfSome, IsOk, IsTrue, MatchOption, Option, Some, None, map};
 ghost use Rattle.std.specs.List.{AllByRecursion};
 ghost use Rattle.std.specs.Option.{option_map};
-ghost use Rattle.std.specs.Str.{chars};
+ghost use Rattle.std.specs.Str.{chars, IsUtf8};
 ghost use Rattle.syslog_pieces.specs.Bodies.Verbatim.{IsBareWord};
 ghost use Rattle.syslog_pieces.specs.Pieces.Class.{Text};
 ghost use Rattle.syslog_pieces.specs.Pieces.View.{seen, shown};
@@ -15,13 +15,15 @@ ghost use Rattle.syslog_loose.specs.Message.{message_value};
 ghost use Rattle.syslog_loose.specs.Reading.{OfTrimmed};
 ghost use Rattle.syslog_loose.specs.Rfc5424 as spec;
 ghost use Rattle.syslog_loose.specs.Start.{IsBehindPriority};
-ghost use Rattle.syslog_loose.specs.View5424.{HeaderStands, NamesWord, ReadsHeader};
+ghost use Rattle.syslog_loose.specs.View5424.{HeaderStands, NamesWord, ReadsHeader, message_with};
+ghost use Rattle.syslog_pieces.specs.StructuredData.Element.{element_value};
+ghost use Rattle.syslog_pieces.specs.declared.procid.ProcId.{ProcId as ProcIdValue};
 
 use crate::message::{Message, Protocol};
 use std::alloc::{AllocError, Global};
 use syslog_pieces::pri::{optional_priority, parts};
 use syslog_pieces::procid::{ProcId, is_bare_word};
-use syslog_pieces::structured_data::forgiving_list;
+use syslog_pieces::structured_data::{StructuredElement, forgiving_list};
 use syslog_pieces::text::verbatim::{is_one_space, number_stands};
 use syslog_pieces::text::{blanks, host, number, some_blanks, word};
 use syslog_pieces::timestamp::{OffsetTimestamp, header_stamp};
@@ -67,10 +69,12 @@ fn are_all(tests: [bool; 7]) -> bool
 
 // The fields at the front of a text, from what stands behind its priority on, and the text behind them.
 #[inline(always)]
-fn read_header(priority: Option<u8>, text: &str) -> Option<(Header<'_>, &str)>
+pub(crate) fn read_header(priority: Option<u8>, text: &str) -> Option<(Header<'_>, &str)>
     ensures reads { (whole : Text) → IsBehindPriority whole priority (chars text.now)
         → ReadsHeader whole result }
     ensures stands { IfSome result (λ x. HeaderStands (chars text.now) x.0 (shown x.1)) }
+    ensures number { IfSome result (λ x. x.0.priority ≡ priority) }
+    ensures utf8 { IfSome result (λ x. IsUtf8 x.0.start.now × IsUtf8 x.0.tail.now × IsUtf8 x.1.now) }
 {
     let (version, behind_version) = number(text, u32::MAX)?;
     let start = some_blanks(behind_version)?;
@@ -122,6 +126,32 @@ fn process_of(word: Option<&str>) -> Option<ProcId<&str>>
     }
 }
 
+/// The message of a header with these elements and this text.
+#[inline(always)]
+pub(crate) fn header_message<'a>(
+    header: &Header<'a>,
+    elements: Vec<StructuredElement<&'a str>>,
+    msg: &'a str,
+) -> Message<&'a str>
+    ensures { (process : Option (ProcIdValue Text)) × NamesWord (seen header.now.process) process
+        × (message_value (λ s. shown s) result
+        ≡ message_with header.now process (map (element_value (λ s. shown s)) elements.entry.items) (chars msg.entry.now)) }
+{
+    let (facility, severity) = parts(header.priority);
+    Message {
+        protocol: Protocol::RFC5424(header.version),
+        facility,
+        severity,
+        timestamp: header.timestamp,
+        hostname: header.hostname,
+        appname: header.appname,
+        procid: process_of(header.process),
+        msgid: header.msgid,
+        structured_data: elements,
+        msg,
+    }
+}
+
 /// The message of the one division of the trimmed text, and none where there is no division. Memory is asked for only
 /// to collect elements, after the whole text has been recognised.
 #[inline(always)]
@@ -153,18 +183,5 @@ pub(crate) fn read_behind(
     let Some((elements, rest)) = forgiving_list(alloc, blanks(rest))? else {
         return Ok(None);
     };
-    let msg = blanks(rest);
-    let (facility, severity) = parts(header.priority);
-    Ok(Some(Message {
-        protocol: Protocol::RFC5424(header.version),
-        facility,
-        severity,
-        timestamp: header.timestamp,
-        hostname: header.hostname,
-        appname: header.appname,
-        procid: process_of(header.process),
-        msgid: header.msgid,
-        structured_data: elements,
-        msg,
-    }))
+    Ok(Some(header_message(&header, elements, blanks(rest))))
 }

@@ -24,7 +24,7 @@ ghost use Rattle.syslog_loose.specs.declared.fault.ParseFault.TheVariants.{Inval
 use crate::beginning::may_be_read;
 use crate::fault::ParseFault;
 use crate::jumps::write_round;
-use crate::line::verbatim_text;
+use crate::line::rfc5424_text;
 use crate::message::{Message, Protocol, has_no_exception, make_room, print, priority};
 use crate::reading::{asked_numbers, front_date, read};
 use crate::rfc3164::{name_fields, stand_as_printed};
@@ -92,17 +92,17 @@ pub(crate) fn first_round<F: FnOnce(IncompleteDate) -> i32>(
         (λ fault. InYear (F.post get_year) variant whole (λ year.
         (fault ≡ Invalid) ↔ IsUnreadable variant (dating_of year tz.entry local.entry) whole))) }
 {
-    let copied = verbatim_text(text, input, variant)?;
+    if !may_be_read(input) {
+        return Err(ParseFault::Invalid);
+    }
+    let (priority, rest) = optional_priority(input);
+    let copied = rfc5424_text(alloc, text, input, priority, rest, variant)?;
     if copied {
         return Ok(Round {
             settled: true,
             year: None,
         });
     }
-    if !may_be_read(input) {
-        return Err(ParseFault::Invalid);
-    }
-    let (priority, rest) = optional_priority(input);
     match front_date(rest, variant) {
         Some((date, tail)) => {
             let year = asked_numbers(date).map(get_year);

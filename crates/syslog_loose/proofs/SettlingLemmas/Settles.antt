@@ -8,7 +8,7 @@ use Rattle.syslog_loose.specs.declared.fault.ParseFault.{ParseFault}
 use Rattle.syslog_loose.specs.declared.fault.ParseFault.TheVariants.{Invalid, Memory}
 use Rattle.std.proofs.lemmas.Str.{length-le-encodes}
 use Rattle.std.specs.Prelude.{◌↔◌, IsTrue, IsOk}
-use Rattle.syslog_loose.specs.VerbatimLine.{PrintsAs5424}
+use Rattle.syslog_loose.specs.Line.{PrintsAs5424}
 use Rattle.syslog_loose.specs.ReadBack.{IsFixed}
 use Rattle.syslog_loose.specs.Rfc5424.{IsRead5424}
 use Rattle.syslog_loose.specs.Settling.{SettlesAs, IsSettlingFault, IsAtRest, IsToldRound, IsRoundAsTold}

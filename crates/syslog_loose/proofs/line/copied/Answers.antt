@@ -1,26 +1,36 @@
-use Rattle.std.proofs.Common.{rules, ◌≡◌, ◌++◌, string_bytes, refl, sym, ap, ◌∙◌}
-use Rattle.std.specs.Str.{chars, encode_utf8_all}
+use Rattle.std.proofs.Common.{◌≡◌, ◌∷◌, ◌++◌, string_bytes, refl, rules, subst, sym, ◌∙◌}
+use Rattle.std.specs.Str.{chars}
 use Rattle.syslog_pieces.specs.Bodies.VerbatimStamp.{zone_text}
-use Rattle.syslog_loose.specs.VerbatimLine.{spaced, bytes_of}
-use Rattle.syslog_loose.specs.Rfc5424.{message_of}
-use Rattle.syslog_loose.proofs.VerbatimLineLemmas.{line_bytes}
-use Rattle.syslog_loose.proofs.Rfc5424Lemmas.{is_read}
+use Rattle.syslog_pieces.specs.Pieces.View.{seen}
+use Rattle.syslog_loose.proofs.HeaderLemmas.{word_some}
+use Rattle.syslog_loose.proofs.LineLemmas.{copied_bytes, own_line, own_line_is, own_number, prints_read}
 use Rattle.syslog_loose.proofs.line.copied.Goals as goal
 
-pub returns-in_err-make_room-clause-memory : goal.returns-in_err-make_room-clause-memory
-returns-in_err-make_room-clause-memory c whole e none =
-    absurd (none _ (is_read whole (chars c.args.input.now) _ _ e refl c.in-Some.ensures.verbatim.is).division)
+pub returns-in_err-make_room-in-Some-copied_line-clause-memory :
+    goal.returns-in_err-make_room-in-Some-copied_line-clause-memory
+returns-in_err-make_room-in-Some-copied_line-clause-memory c whole e none =
+    absurd (own_line c.requires c.in-Some.ensures.line whole e none)
 
-pub returns-in_err-write-clause-memory : goal.returns-in_err-write-clause-memory
-returns-in_err-write-clause-memory c whole e none =
-    absurd (none _ (is_read whole (chars c.args.input.now) _ _ e refl c.in-Some.ensures.verbatim.is).division)
+pub returns-in_err-write-in-Some-copied_line-clause-memory :
+    goal.returns-in_err-write-in-Some-copied_line-clause-memory
+returns-in_err-write-in-Some-copied_line-clause-memory c whole e none =
+    absurd (own_line c.requires c.in-Some.ensures.line whole e none)
 
-pub returns-clause-text : goal.returns-clause-text
-returns-clause-text c whole e found =
-    let k = c.in-Some.ensures.verbatim in
-    let u = c.in-Some.ensures.utf8 in
-    let line = c.in-Some.line in
-    let written : string_bytes c.write.new.self ≡ line.front.now
-    ++ (zone_text line.is_zulu ++ (line.head.now ++ (line.tail.now ++ spaced (bytes_of line.msg)))) = search rules in
-    let bytes = line_bytes _ _ _ line.msg line.is_zulu u.0 u.1 u.2 u.3 in
-    (message_of k.values, is_read whole _ k.values _ e refl k.is, written ∙ bytes ∙ sym (ap encode_utf8_all k.prints))
+pub returns-in_err-write_named-in-None-clause-memory : goal.returns-in_err-write_named-in-None-clause-memory
+returns-in_err-write_named-in-None-clause-memory c whole e none =
+    absurd (own_line c.requires c.in-Some.ensures.line whole e none)
+
+pub returns-in_ok-write-in-Some-copied_line-clause-text : goal.returns-in_ok-write-in-Some-copied_line-clause-text
+returns-in_ok-write-in-Some-copied_line-clause-text c whole e found =
+    let line = c.in-Some-copied_line.copied in
+    let k = c.in-Some-copied_line.ensures in
+    let written : string_bytes c.write.new.self
+    ≡ line.front.now ++ (zone_text line.is_zulu ++ (line.tail.now ++ (32 ∷ line.msg.now))) = search rules in
+    prints_read whole (chars c.args.input.now) _ _ e k.prints
+    (written ∙ copied_bytes line.front.now line.tail.now line.msg.now line.is_zulu k.utf8.0 k.utf8.1 k.utf8.2)
+
+pub returns-in_ok-write_named-in-None-clause-text : goal.returns-in_ok-write_named-in-None-clause-text
+returns-in_ok-write_named-in-None-clause-text c whole e found =
+    let (text, prints, written) = c.in_ok-write_named-in-None.ensures (chars c.args.input.now) (chars c.args.rest.now)
+    (own_number c.requires c.in-Some.ensures.line) (own_line_is c.in-Some.ensures.line) in
+    prints_read whole (chars c.args.input.now) text _ e prints written

@@ -2,6 +2,8 @@
 use Rattle.std.proofs.Common.{◌++◌, inl, refl, rules, ap, ◌∙◌}
 use Rattle.std.specs.Fmt.{decimal}
 use Rattle.syslog_pieces.specs.Pieces.Class.{Text}
+use Rattle.syslog_pieces.specs.Pieces.View.{seen, shown}
+use Rattle.syslog_pieces.specs.Text.{name_text}
 use Rattle.syslog_pieces.proofs.PieceLemmas.Rows.{row_of, no_row, ◌then◌, ◌past◌}
 use Rattle.syslog_pieces.proofs.ProcIdLemmas.{no_process}
 use Rattle.syslog_loose.specs.Rfc5424.{header_row}
@@ -79,7 +81,8 @@ returns-clause-stands c = record {
         named = named;
         front = c.number_stands.ensures version _ _ c.in_ok-version.ensures
             ∙ ap (λ (x : Text). decimal c.in_ok-version.version ++ x) (c.is_one_space.ensures first);
-        names = names_joined _ _ _ _ _ (c.is_one_space-2.ensures second) (host_prints c.in_ok-hostname.ensures)
+        names = names_joined _ _ _ (name_text (seen c.in_ok-msgid.msgid)) (shown c.in_ok-msgid.rest)
+            (c.is_one_space-2.ensures second) (host_prints c.in_ok-hostname.ensures)
             (c.is_one_space-3.ensures third) (word_prints c.in_ok-appname.ensures) (c.is_one_space-4.ensures fourth)
             prints (c.is_one_space-5.ensures fifth) (word_prints c.in_ok-msgid.ensures);
       };

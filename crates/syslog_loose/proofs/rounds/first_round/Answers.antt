@@ -11,16 +11,16 @@ returns-in_err-copied g c whole e =
     let (_, f, same) = err_from_is_err_and c.from_residual.result c.from_residual.ensures.1 in
     rw (f, same) (record {
       answered = None;
-      is_answered = λ date asks. no_ok _ _ c.in_err-copied.was (c.verbatim_text.ensures.year whole e date asks);
-      holds = λ year agrees. copy_refused _ _ _ _ _ c.in_err-copied.was (c.verbatim_text.ensures.memory whole e _);
+      is_answered = λ date asks. no_ok _ _ c.in_err-copied.was (c.rfc5424_text.ensures.year whole e date asks);
+      holds = λ year agrees. copy_refused _ _ _ _ _ c.in_err-copied.was (c.rfc5424_text.ensures.memory whole e _);
     })
 
 pub returns-then-copied : goal.returns-then-copied
 returns-then-copied g c whole e =
-    let k = found_text _ _ _ c.in_ok-copied.was c.if-copied.true (c.verbatim_text.ensures.text whole e) in (
+    let k = found_text _ _ _ c.in_ok-copied.was c.if-copied.true (c.rfc5424_text.ensures.text whole e) in (
       k.asks_none,
       round_copied c.args.variant (dating_of None c.args.tz c.args.local) c.args.skips _ _
-          (IsUtf8-string_bytes c.verbatim_text.new.text) k,
+          (IsUtf8-string_bytes c.rfc5424_text.new.text) k,
     )
 
 pub returns-then-not-may_be_read : goal.returns-then-not-may_be_read

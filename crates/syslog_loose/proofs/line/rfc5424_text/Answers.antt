@@ -1,5 +1,5 @@
-use Rattle.syslog_loose.proofs.VerbatimLineLemmas.{told, no_division, asked_apart}
-use Rattle.syslog_loose.proofs.line.verbatim_text.Goals as goal
+use Rattle.syslog_loose.proofs.LineLemmas.{told, no_division, asked_apart}
+use Rattle.syslog_loose.proofs.line.rfc5424_text.Goals as goal
 
 pub returns-clause-text : goal.returns-clause-text
 returns-clause-text c whole e =
