@@ -2,14 +2,16 @@
 use Rattle.std.specs.Prelude.{◌≡◌, ◌≢◌, ℕ, ◌∷◌, ◌++◌, [], List, Option, Some, IfSome}
 use Rattle.std.specs.Option.{option_map}
 use Rattle.syslog_pieces.specs.ProcId.{procid_value}
-use Rattle.syslog_pieces.specs.Pieces.Class.{Text, Class, Ends, Front, Row, run, exactly, optional, spaced}
+use Rattle.syslog_pieces.specs.Pieces.Class.{Text, Class, Ends, Front, NoFront, Row, run, exactly, optional, spaced}
 use Rattle.syslog_pieces.specs.Pieces.View.{field_seen, seen, shown}
+use Rattle.syslog_pieces.specs.StructuredData.Rfc3164List.{rfc3164_list}
 use Rattle.syslog_pieces.specs.Text.{is_blank, colon, dash, host, name_text, tag_word, EndsInColon}
 use Rattle.syslog_pieces.specs.Timestamp.Zone.{Dating}
 use Rattle.syslog_pieces.specs.declared.timestamp.OffsetTimestamp.{OffsetTimestamp}
 use Rattle.syslog_pieces.specs.declared.procid.ProcId.{ProcId}
 use Rattle.syslog_loose.specs.Exceptions.{HasNoColon}
 use Rattle.syslog_loose.specs.Printed.{tag_text}
+use Rattle.syslog_loose.specs.Reading.{dash_rule}
 use Rattle.syslog_loose.specs.Rfc3164.{Names3164, NamesProgram, ReadsNames, names, stamped_row}
 use Rattle.syslog_loose.specs.declared.rfc3164.NameFields.{NameFields}
 use Rattle.syslog_loose.specs.declared.rfc3164.Names.{Names}
@@ -45,14 +47,16 @@ pub record IsPlainProgram (text : Text) : Type 0 where
   pub means : (host : Option Text) → NamesProgram host text (names host (Some appname) procid)
   pub prints : (follows : Text) → text ++ (58 ∷ 32 ∷ follows) ≡ tag_text (Some appname) procid ++ follows
 
--- names that have no exception stand in the text as they print, before the rest
-pub record PrintsNames (text rest : Text) : Type 0 where
+-- the text is names without an exception, as they print, and a message that begins with no list
+pub record PrintsBehind (text : Text) : Type 0 where
   pub hostname : Option Text
   pub appname : Text
   pub procid : Option (ProcId Text)
-  pub reads : ReadsNames text rest (names hostname (Some appname) procid)
+  pub msg : Text
+  pub reads : ReadsNames text msg (names hostname (Some appname) procid)
   pub no_dash : IfSome hostname (λ h. h ≢ dash)
   pub no_colon : IfSome hostname (λ h. EndsInColon h → ⊥)
   pub no_inner_colon : IfSome procid HasNoColon
-  pub unblank : Ends is_blank rest
-  pub whole : text ≡ 32 ∷ (name_text hostname ++ (32 ∷ (tag_text (Some appname) procid ++ rest)))
+  pub unblank : Ends is_blank msg
+  pub no_list : NoFront (rfc3164_list dash_rule) msg
+  pub whole : text ≡ 32 ∷ (name_text hostname ++ (32 ∷ (tag_text (Some appname) procid ++ msg)))
