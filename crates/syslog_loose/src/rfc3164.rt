@@ -13,7 +13,7 @@ ghost use Rattle.syslog_pieces.specs.Timestamp.Zone.{Dating as AnyDating, dating
 ghost use Rattle.syslog_loose.specs.Message.{message_value};
 ghost use Rattle.syslog_loose.specs.Reading.{OfTrimmed};
 ghost use Rattle.syslog_loose.specs.Rfc3164 as spec;
-ghost use Rattle.syslog_loose.specs.View3164.{IsBehindStamp, IsPlainProgram, PrintsBehind, ReadsFields};
+ghost use Rattle.syslog_loose.specs.View3164.{IsBehindStamp, IsPlainProgram, PrintsBehind};
 ghost use Rattle.syslog_loose.specs.View3164.{names_value, stamped_values};
 
 use crate::message::{Message, Protocol};
@@ -131,31 +131,6 @@ pub(crate) fn read_stamped<'a>(text: &'a str, dating: &Dating<'_, '_>) -> Option
     ))
 }
 
-// The fields of names, the text from their colon on, and the text behind that and its blanks.
-#[derive(Clone, Copy)]
-struct NameFields<'a> {
-    host: Option<Option<&'a str>>,
-    tag: Option<Option<&'a str>>,
-    colon: &'a str,
-    rest: &'a str,
-}
-
-// The fields of names at the front.
-#[inline(always)]
-fn name_fields(text: &str) -> NameFields<'_>
-    ensures { ReadsFields (chars text.now) result }
-{
-    let (host, behind) = host_field(text);
-    let (tag, colon) = tag_field(behind);
-    let rest = blanks(past_colon(blanks(colon)));
-    NameFields {
-        host,
-        tag,
-        colon,
-        rest,
-    }
-}
-
 // Whether a program's name prints as it stands, by what it means.
 #[inline(always)]
 fn is_plain_program(name: &str) -> bool
@@ -174,15 +149,17 @@ pub(crate) fn stands_as_printed(text: &str) -> bool
     ensures prints { IsTrue result → PrintsBehind (chars text.now) }
     ensures utf8 { IsUtf8 text.now }
 {
-    let fields = name_fields(text);
-    let Some(_) = fields.host else {
+    let (host, behind) = host_field(text);
+    let Some(_) = host else {
         return false;
     };
-    let Some(Some(name)) = fields.tag else {
+    let (tag, colon) = tag_field(behind);
+    let Some(Some(name)) = tag else {
         return false;
     };
-    if is_plain_program(name) && !begins_list(fields.rest, DASH_RULE) {
-        before(fields.colon, fields.rest) == ": "
+    let rest = blanks(past_colon(blanks(colon)));
+    if is_plain_program(name) && !begins_list(rest, DASH_RULE) {
+        before(colon, rest) == ": "
     } else {
         false
     }
@@ -193,8 +170,9 @@ pub(crate) fn stands_as_printed(text: &str) -> bool
 pub(crate) fn read_names(text: &str) -> (Names<'_>, &str)
     ensures { spec.ReadsNames (chars text.now) (shown result.1) (names_value result.0) }
 {
-    let fields = name_fields(text);
-    (resolve(fields.host, fields.tag), fields.rest)
+    let (host, rest) = host_field(text);
+    let (tag, rest) = tag_field(rest);
+    (resolve(host, tag), blanks(past_colon(blanks(rest))))
 }
 
 /// The message of the one division of the trimmed text, and none where there is no division. `year` is that of a date

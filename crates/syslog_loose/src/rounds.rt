@@ -25,15 +25,15 @@ use crate::beginning::may_be_read;
 use crate::fault::ParseFault;
 use crate::jumps::write_round;
 use crate::line::verbatim_text;
-use crate::message;
-use crate::message::{Message, Protocol, has_no_exception, make_room, print};
+use crate::message::{Message, Protocol, has_no_exception, make_room, print, priority};
 use crate::reading::{asked_numbers, front_date, front_stamp, read};
 use crate::rfc3164::stands_as_printed;
 use crate::variant::{IncompleteDate, Variant};
 use jiff::tz::TimeZone;
 use std::alloc::{AllocError, Global};
+use std::fmt;
 use std::fmt::Write;
-use syslog_pieces::pri::{optional_priority, parts};
+use syslog_pieces::pri::{optional_priority, parts, write_priority};
 use syslog_pieces::text::trimmed;
 use syslog_pieces::text::write_ascii::push_bytes;
 use syslog_pieces::timestamp::OffsetTimestamp;
@@ -157,13 +157,19 @@ fn dated_round(
     next_round(alloc, text, input, dating, variant, skips)
 }
 
-// The number that the message behind a priority prints.
-#[inline(always)]
-fn number_of(priority: Option<u8>) -> u32
-    ensures { result ≡ printed_number priority }
-{
-    let (facility, severity) = parts(priority);
-    message::priority(facility, severity)
+// A priority as the message behind it prints it.
+#[derive(Clone, Copy)]
+struct Front {
+    priority: Option<u8>,
+}
+
+impl fmt::Display for Front {
+    ghost output = { λ front. Some (priority_text (printed_number front.priority)) };
+
+    fn fmt<W: fmt::Write>(&self, f: &mut fmt::Formatter<W>) -> fmt::Result {
+        let (facility, severity) = parts(self.priority);
+        write_priority(f, priority(facility, severity))
+    }
 }
 
 // Writes a priority, the text of a month date and all behind it, into a text that gets room for all of it at once.
@@ -180,8 +186,8 @@ fn write_dated(
         ≡ priority_text (printed_number priority) ++ (stamp.entry.now ++ tail.entry.now)) }
 {
     make_room(text, length)?;
-    let number = number_of(priority);
-    write!(text, "<{number}>")?;
+    let front = Front { priority };
+    write!(text, "{front}")?;
     push_bytes(text, stamp)?;
     text.push_str(tail)
 }
@@ -199,8 +205,8 @@ fn write_stamped(
         ≡ priority_text (printed_number priority) ++ ((32 ∷ timestamp_text (Some stamp)) ++ tail.entry.now)) }
 {
     make_room(text, length)?;
-    let number = number_of(priority);
-    write!(text, "<{number}> {stamp}")?;
+    let front = Front { priority };
+    write!(text, "{front} {stamp}")?;
     text.push_str(tail)
 }
 
