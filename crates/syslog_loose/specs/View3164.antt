@@ -11,13 +11,12 @@ use Rattle.syslog_pieces.specs.Timestamp.Zone.{Dating}
 use Rattle.syslog_pieces.specs.declared.procid.ProcId.{ProcId}
 use Rattle.syslog_pieces.specs.declared.timestamp.OffsetTimestamp.{OffsetTimestamp}
 use Rattle.syslog_loose.specs.Formats.{printed_number}
-use Rattle.syslog_loose.specs.Message.{MessageValue}
-use Rattle.syslog_loose.specs.Printed.{printed, tag_text, timestamp_text}
-use Rattle.syslog_loose.specs.Reading.{dash_rule}
-use Rattle.syslog_loose.specs.Rfc3164.{Names3164, NamesProgram, IsRead3164, names, stamped_row}
-use Rattle.syslog_loose.specs.Settling.{IsAtRest}
+use Rattle.syslog_loose.specs.Printed.{tag_text, timestamp_text}
+use Rattle.syslog_loose.specs.Rfc3164.{Names3164, NamesProgram, names, stamped_row}
+use Rattle.syslog_loose.specs.Settling.{IsAtRest, IsNext}
 use Rattle.syslog_loose.specs.declared.rfc3164.Names.{Names}
 use Rattle.syslog_loose.specs.declared.rfc3164.Stamped.{Stamped}
+use Rattle.syslog_loose.specs.declared.variant.Variant.TheVariants.{RFC3164}
 
 abbrev pub names_value : Names → Names3164
 names_value n = names (seen n.hostname) (seen n.appname) (option_map (procid_value (λ s. shown s)) n.procid)
@@ -36,15 +35,10 @@ pub record IsPlainProgram (text : Text) : Type 0 where
   pub means : (host : Option Text) → NamesProgram host text (names host (Some appname) procid)
   pub prints : (follows : Text) → text ++ (58 ∷ 32 ∷ follows) ≡ tag_text (Some appname) procid ++ follows
 
--- The text is read by RFC 3164 as a message at rest, which prints as this priority, this timestamp and this text.
-pub record PrintsStamped (dating : Dating) (text : Text) (stamped : Stamped) (tail : Text) : Type 0 where
-  pub message : MessageValue
-  pub read : IsRead3164 dash_rule dating text message
-  pub rest : IsAtRest message.protocol message
-  pub prints : printed message
-      ≡ priority_text (printed_number stamped.priority) ++ (32 ∷ (timestamp_text stamped.timestamp ++ tail))
-
--- whatever stands before it, as far as a timestamp that is read back, the text prints as it stands
+-- Whatever stands before it, up to a timestamp that is read back, the text prints as it stands: the priority, the
+-- timestamp and it are the next round, which is at rest.
 abbrev pub PrintsBehind : Text → Type 0
 PrintsBehind tail = (dating : Dating) (text : Text) (stamped : Stamped) → IsBehindStamp dating (trimmed text) stamped tail
-    → IfSome stamped.timestamp IsCanonicalStamp → PrintsStamped dating text stamped tail
+    → IfSome stamped.timestamp IsCanonicalStamp → (next : IsNext RFC3164 dating text
+    (priority_text (printed_number stamped.priority) ++ (32 ∷ (timestamp_text stamped.timestamp ++ tail))))
+    × IsAtRest next.message.protocol next.message

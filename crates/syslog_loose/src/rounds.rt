@@ -113,16 +113,10 @@ pub(crate) fn first_round<F: FnOnce(IncompleteDate) -> i32>(
             Ok(Round { settled, year })
         }
         None => {
-            let dating = Dating {
-                year: None,
-                tz,
-                local,
-            };
+            let year = None;
+            let dating = Dating { year, tz, local };
             let settled = next_round(alloc, text, input, &dating, variant, skips)?;
-            Ok(Round {
-                settled,
-                year: None,
-            })
+            Ok(Round { settled, year })
         }
     }
 }

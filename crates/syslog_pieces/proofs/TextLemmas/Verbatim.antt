@@ -15,7 +15,7 @@ pub word_verbatim : (text follows : Text) (v : Option Text) → Front word text 
     → Verbatim word name_text text follows
 word_verbatim text follows v f = verbatim_of word name_text text follows v f (names_text f.piece v f.is.4)
 
-host_text : (p q : Text) (v : Option Text) → IsHost p q v → p ≡ name_text v
+pub host_text : (p q : Text) (v : Option Text) → IsHost p q v → p ≡ name_text v
 host_text p q v (l, a, inl (n, b, m)) = names_text p v m
 host_text p q v (l, a, inr (r, f, b, m)) = rw m
 

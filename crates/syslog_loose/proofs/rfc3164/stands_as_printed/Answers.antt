@@ -5,7 +5,7 @@ use Rattle.syslog_pieces.specs.Pieces.Class.{run, optional, exactly}
 use Rattle.syslog_pieces.specs.Text.{is_blank, colon}
 use Rattle.syslog_pieces.proofs.PieceLemmas.Rows.{row_of, ◌then◌}
 use Rattle.syslog_pieces.proofs.TextLemmas.Chars.{one_ascii, text_is}
-use Rattle.syslog_loose.proofs.StandingLemmas.{prints_behind}
+use Rattle.syslog_loose.proofs.Rfc3164Lemmas.Near.{prints_behind}
 use Rattle.syslog_loose.proofs.rfc3164.stands_as_printed.Goals as goal
 
 pub before-requires : goal.before-requires

@@ -2,7 +2,7 @@ use Rattle.std.proofs.Common.{refl, ◌∙◌}
 use Rattle.syslog_loose.proofs.Names.{err_from_is_err_and, IsUtf8-string_bytes}
 use Rattle.syslog_loose.proofs.ReadingLemmas.{invalid_or_memory}
 use Rattle.syslog_loose.proofs.SettlingLemmas.Settles.{round_printed}
-use Rattle.syslog_loose.proofs.StandingLemmas.{dated_copied}
+use Rattle.syslog_loose.proofs.StartLemmas.{dated_copied}
 use Rattle.syslog_loose.proofs.rounds.dated_round.Goals as goal
 
 pub returns-in_err-write_dated : goal.returns-in_err-write_dated

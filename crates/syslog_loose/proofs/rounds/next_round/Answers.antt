@@ -2,7 +2,7 @@ use Rattle.std.proofs.Common.{refl, ◌∙◌}
 use Rattle.syslog_loose.proofs.Names.{err_from_is_err_and, IsUtf8-string_bytes}
 use Rattle.syslog_loose.proofs.ReadingLemmas.{fault_tells, invalid_or_memory, memory_tells}
 use Rattle.syslog_loose.proofs.SettlingLemmas.Settles.{round_printed, round_skipped}
-use Rattle.syslog_loose.proofs.StandingLemmas.{stamped_copied}
+use Rattle.syslog_loose.proofs.StartLemmas.{stamped_copied}
 use Rattle.syslog_loose.proofs.rounds.next_round.Goals as goal
 
 pub returns-in_err-write_stamped : goal.returns-in_err-write_stamped
