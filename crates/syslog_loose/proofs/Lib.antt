@@ -7,7 +7,6 @@ pub mod HeaderLemmas
 pub mod JumpLemmas
 pub mod Names
 pub mod ExceptionLemmas
-pub mod StandingLemmas
 pub mod OneLineLemmas
 pub mod PrintedLemmas
 pub mod PriorityLemmas

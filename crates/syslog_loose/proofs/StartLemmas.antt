@@ -1,11 +1,15 @@
 -- What the pieces at the front of a text tell of its readings.
 use Rattle.std.proofs.Common.{◌≡◌, ◌≢◌, inl, inr, ℕ, ℤ, List, Option, Some, None, Ok, Err, false, true, refl, sym, ap}
-use Rattle.std.proofs.Common.{subst, ◌∙◌, arith}
+use Rattle.std.proofs.Common.{subst, ◌∙◌, ◌∷◌, ◌++◌, arith}
+use Rattle.std.proofs.lemmas.Str.{encodes-append, encodes-chars}
 use Rattle.std.specs.Borrow.{Bor}
+use Rattle.std.specs.Char.{encode_utf8}
 use Rattle.std.specs.Prelude.{◌↔◌, MatchOption, IsSome, IsSomeAnd}
+use Rattle.std.specs.Str.{chars, encode_utf8_all, IsUtf8}
+use Rattle.syslog_pieces.specs.Bodies.MonthText.{IsMonthText}
 use Rattle.syslog_pieces.specs.Pieces.View.{shown, Reads}
 use Rattle.syslog_pieces.specs.Pieces.Class.{Text, Class, Front, NoFront, run, optional}
-use Rattle.syslog_pieces.specs.Pri.{priority}
+use Rattle.syslog_pieces.specs.Pri.{priority, priority_text}
 use Rattle.syslog_pieces.specs.Text.{trimmed, is_blank}
 use Rattle.syslog_pieces.specs.Timestamp.{IsAnswer, header_stamp}
 use Rattle.syslog_pieces.specs.Timestamp.Rfc3164.{rfc3164_stamp, ShowsYearless, ShowsMonthDate}
@@ -17,18 +21,24 @@ use Rattle.syslog_pieces.proofs.PieceLemmas.Class.{front_same, optional_det, run
 use Rattle.syslog_pieces.proofs.PieceLemmas.Kinds.{Begins, begins_apart}
 use Rattle.syslog_pieces.proofs.PieceLemmas.Rows.{row_of, ◌then◌, no_row, ◌past◌}
 use Rattle.syslog_pieces.proofs.PriLemmas.{priority_det}
+use Rattle.syslog_pieces.proofs.TextLemmas.Decimals.{encodes-decimal}
 use Rattle.syslog_pieces.proofs.TextLemmas.Runs.{some_front_run}
 use Rattle.syslog_pieces.proofs.TimestampLemmas.MonthDate.{month_date_begins}
 use Rattle.syslog_pieces.proofs.TimestampLemmas.Months.{IsLetter}
+use Rattle.syslog_pieces.proofs.TimestampLemmas.Printing.{printed_stamp-bytes}
 use Rattle.syslog_pieces.proofs.TimestampLemmas.Rfc3164.{IsLow, date_front, header_front, header_stamp_begins, no_date}
 use Rattle.syslog_pieces.proofs.TimestampLemmas.Rfc3164.{no_stamp_of_date}
+use Rattle.syslog_loose.specs.Formats.{printed_number}
+use Rattle.syslog_loose.specs.Message.{MessageValue}
+use Rattle.syslog_loose.specs.Printed.{printed, timestamp_text}
 use Rattle.syslog_loose.specs.ReadBack.{ReadsProtocol}
 use Rattle.syslog_loose.specs.Reading.{dash_rule, incomplete, Answers, AsksYear, IncompleteDate, IsLeftTo3164, HasMonth}
-use Rattle.syslog_loose.specs.Reading.{IsYearAnswered}
+use Rattle.syslog_loose.specs.Reading.{IsRead, IsYearAnswered}
 use Rattle.syslog_loose.specs.Rfc3164.{stamped_row, IsRead3164, IsNot3164, NeedsNoMemory3164}
 use Rattle.syslog_loose.specs.Rfc5424.{IsRead5424, IsNot5424, NeedsNoMemory5424}
+use Rattle.syslog_loose.specs.Settling.{IsAtRest}
 use Rattle.syslog_loose.specs.Start.{IsBehindPriority, BeginsWith, BeginsWithout}
-use Rattle.syslog_loose.specs.View3164.{IsBehindStamp}
+use Rattle.syslog_loose.specs.View3164.{IsBehindStamp, PrintsBehind}
 use Rattle.syslog_loose.specs.declared.fault.ParseFault.TheVariants.{Invalid, Memory}
 use Rattle.syslog_loose.specs.declared.message.Protocol.TheVariants as protocol
 use Rattle.jiff.specs.declared.tz.timezone.TimeZone.{TimeZone}
@@ -37,10 +47,11 @@ use Rattle.syslog_loose.specs.declared.variant.Variant.{Variant}
 use Rattle.syslog_loose.specs.declared.variant.Variant.TheVariants.{Either, RFC3164, RFC5424}
 use Rattle.syslog_loose.proofs.ReadingLemmas.{Found, answered_to, value, either_read, either_refused, left_answer}
 use Rattle.syslog_loose.proofs.ReadingLemmas.{only_read}
-use Rattle.syslog_loose.proofs.Rfc3164Lemmas.Apart.{shown_apart}
+use Rattle.syslog_loose.proofs.Rfc3164Lemmas.Apart.{not_both, shown_apart}
 use Rattle.syslog_loose.proofs.Rfc3164Lemmas.Reading.{not_read}
 use Rattle.syslog_loose.proofs.Rfc3164Lemmas.Shown.{date_has_month, shows_month_date, shown_once, shown_parts, shows}
 use Rattle.syslog_loose.proofs.Rfc3164Lemmas.Unique.{stamped_det}
+use Rattle.syslog_loose.proofs.Rfc5424Lemmas.ReadBack.{stamp_canonical}
 
 -- what a reader of pieces behind blanks answers
 pub front_read : (C : Class) (variant : Variant) (t start : Text) (r : Option (C.Value × Bor (List ℕ)))
@@ -226,3 +237,56 @@ pub strict_refused : (variant : Variant) → variant ≢ RFC3164 → (dating : D
 strict_refused RFC5424 not dating text wanted = wanted
 strict_refused RFC3164 not dating text wanted = absurd (not refl)
 strict_refused Either not dating text wanted = either_refused dating text wanted
+
+-- ---- lines that are copied behind their timestamp
+
+-- the text is read as a message at rest, and these bytes are its printed text
+abbrev pub Copied : Variant → Dating → Text → List ℕ → Type 0
+Copied variant dating text bytes =
+    (m : MessageValue) × IsRead variant dating text m × IsAtRest m.protocol m × (bytes ≡ encode_utf8_all (printed m))
+
+-- what RFC 3164 reads, each variant reads that reads it
+reads_so : (variant : Variant) (dating : Dating) (text : Text) (m : MessageValue)
+    → ReadsProtocol variant protocol.RFC3164 → IsRead3164 dash_rule dating text m → IsRead variant dating text m
+reads_so RFC5424 dating text m reads r = absurd reads
+reads_so RFC3164 dating text m reads r = r
+reads_so Either dating text m reads r =
+    inr (λ vs d. not_both dash_rule dating (trimmed text) vs r.values d r.division, r)
+
+dated_bytes : (number : ℕ) (stamp : OffsetTimestamp) (tail : List ℕ) → IsUtf8 tail
+    → priority_text number ++ ((32 ∷ timestamp_text (Some stamp)) ++ tail)
+    ≡ encode_utf8_all (priority_text number ++ (32 ∷ (timestamp_text (Some stamp) ++ chars tail)))
+unfolding encode_utf8
+dated_bytes number stamp tail u =
+    sym (simp (encodes-append, encodes-decimal, encodes-chars, printed_stamp-bytes stamp))
+
+-- behind a timestamp
+pub stamped_copied : {variant : Variant} (dating : Dating) (text : Text) {p : Option ℕ} {follows : Text}
+    {stamp : OffsetTimestamp} (tail : List ℕ) → IsBehindPriority (trimmed text) p follows
+    → BeginsWith header_stamp variant follows (Some stamp) (chars tail) → PrintsBehind (chars tail) → IsUtf8 tail
+    → Copied variant dating text (priority_text (printed_number p) ++ ((32 ∷ timestamp_text (Some stamp)) ++ tail))
+stamped_copied {variant = variant} dating text {p = p} {stamp = stamp} tail f b prints u =
+    let k = prints dating text (record { priority = p; timestamp = Some stamp })
+    (row_of (stamped_row dating) (f then b.gap then header_front dating b.front then refl))
+    (stamp_canonical b.front.piece (chars tail) (Some stamp) b.front.is) in (
+      k.0.message,
+      reads_so variant dating text k.0.message b.reads k.0.read,
+      k.1,
+      dated_bytes (printed_number p) stamp tail u ∙ ap encode_utf8_all k.0.is_printed,
+    )
+
+-- and behind a month date
+pub dated_copied : {variant : Variant} {dating : Dating} (text : Text) {p : Option ℕ} {follows : Text}
+    {date : MonthDate} {stamp : List ℕ} (tail : List ℕ) → IsBehindPriority (trimmed text) p follows
+    → BeginsWith month_date variant follows date (chars tail) → IsMonthText dating date stamp
+    → PrintsBehind (chars tail) → IsUtf8 tail
+    → Copied variant dating text (priority_text (printed_number p) ++ (stamp ++ tail))
+dated_copied {variant = variant} {dating = dating} text {p = p} tail f b s prints u =
+    let k = prints dating text (record { priority = p; timestamp = Some s.stamp })
+    (row_of (stamped_row dating) (f then b.gap then date_front dating s.stamp b.front s.is then refl)) s.canonical in (
+      k.0.message,
+      reads_so variant dating text k.0.message b.reads k.0.read,
+      k.1,
+      ap (λ (x : List ℕ). priority_text (printed_number p) ++ (x ++ tail)) s.printed
+          ∙ dated_bytes (printed_number p) s.stamp tail u ∙ ap encode_utf8_all k.0.is_printed,
+    )

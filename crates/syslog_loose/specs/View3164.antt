@@ -1,19 +1,22 @@
 -- What the header's reader holds, as names over texts and as the meanings of its pieces.
-use Rattle.std.specs.Prelude.{◌≡◌, ◌≢◌, ℕ, ◌∷◌, ◌++◌, [], List, Option, Some, IfSome}
+use Rattle.std.specs.Prelude.{◌≡◌, ℕ, ◌∷◌, ◌++◌, Option, Some, IfSome}
 use Rattle.std.specs.Option.{option_map}
+use Rattle.syslog_pieces.specs.Pri.{priority_text}
 use Rattle.syslog_pieces.specs.ProcId.{procid_value}
-use Rattle.syslog_pieces.specs.Pieces.Class.{Text, Class, Ends, Front, Row, run, exactly, optional, spaced}
-use Rattle.syslog_pieces.specs.Pieces.View.{field_seen, seen, shown}
-use Rattle.syslog_pieces.specs.Text.{is_blank, colon, dash, host, name_text, tag_word, EndsInColon}
+use Rattle.syslog_pieces.specs.Pieces.Class.{Text, Front, Row}
+use Rattle.syslog_pieces.specs.Pieces.View.{seen, shown}
+use Rattle.syslog_pieces.specs.Text.{trimmed}
+use Rattle.syslog_pieces.specs.Timestamp.Canonical.{IsCanonicalStamp}
 use Rattle.syslog_pieces.specs.Timestamp.Zone.{Dating}
-use Rattle.syslog_pieces.specs.declared.timestamp.OffsetTimestamp.{OffsetTimestamp}
 use Rattle.syslog_pieces.specs.declared.procid.ProcId.{ProcId}
-use Rattle.syslog_loose.specs.Exceptions.{HasNoColon}
-use Rattle.syslog_loose.specs.Printed.{tag_text}
-use Rattle.syslog_loose.specs.Rfc3164.{Names3164, NamesProgram, ReadsNames, names, stamped_row}
-use Rattle.syslog_loose.specs.declared.rfc3164.NameFields.{NameFields}
+use Rattle.syslog_pieces.specs.declared.timestamp.OffsetTimestamp.{OffsetTimestamp}
+use Rattle.syslog_loose.specs.Formats.{printed_number}
+use Rattle.syslog_loose.specs.Printed.{tag_text, timestamp_text}
+use Rattle.syslog_loose.specs.Rfc3164.{Names3164, NamesProgram, names, stamped_row}
+use Rattle.syslog_loose.specs.Settling.{IsAtRest, IsNext}
 use Rattle.syslog_loose.specs.declared.rfc3164.Names.{Names}
 use Rattle.syslog_loose.specs.declared.rfc3164.Stamped.{Stamped}
+use Rattle.syslog_loose.specs.declared.variant.Variant.TheVariants.{RFC3164}
 
 abbrev pub names_value : Names → Names3164
 names_value n = names (seen n.hostname) (seen n.appname) (option_map (procid_value (λ s. shown s)) n.procid)
@@ -25,19 +28,6 @@ stamped_values s = (s.priority, (tt, (s.timestamp, tt)))
 abbrev pub IsBehindStamp : Dating → Text → Stamped → Text → Type 0
 IsBehindStamp dating text stamped follows = Front (Row (stamped_row dating)) text follows (stamped_values stamped)
 
--- the fields of names, up to their colon, and from it on
-abbrev pub to_colon_row : List Class
-to_colon_row = optional (spaced host) ∷ optional (spaced tag_word) ∷ []
-
-abbrev pub colon_row : List Class
-colon_row = run is_blank ∷ optional (exactly colon) ∷ run is_blank ∷ []
-
--- these fields begin the text
-pub record ReadsFields (text : Text) (f : NameFields) : Type 0 where
-  pub more : Option (Unit {0})
-  pub fields : Front (Row to_colon_row) text (shown f.colon) (field_seen f.host, (field_seen f.tag, tt))
-  pub gap : Front (Row colon_row) (shown f.colon) (shown f.rest) (tt, (more, (tt, tt)))
-
 -- this program's text prints as it stands, beside each host
 pub record IsPlainProgram (text : Text) : Type 0 where
   pub appname : Text
@@ -45,14 +35,10 @@ pub record IsPlainProgram (text : Text) : Type 0 where
   pub means : (host : Option Text) → NamesProgram host text (names host (Some appname) procid)
   pub prints : (follows : Text) → text ++ (58 ∷ 32 ∷ follows) ≡ tag_text (Some appname) procid ++ follows
 
--- names that have no exception stand in the text as they print, before the rest
-pub record PrintsNames (text rest : Text) : Type 0 where
-  pub hostname : Option Text
-  pub appname : Text
-  pub procid : Option (ProcId Text)
-  pub reads : ReadsNames text rest (names hostname (Some appname) procid)
-  pub no_dash : IfSome hostname (λ h. h ≢ dash)
-  pub no_colon : IfSome hostname (λ h. EndsInColon h → ⊥)
-  pub no_inner_colon : IfSome procid HasNoColon
-  pub unblank : Ends is_blank rest
-  pub whole : text ≡ 32 ∷ (name_text hostname ++ (32 ∷ (tag_text (Some appname) procid ++ rest)))
+-- Whatever stands before it, up to a timestamp that is read back, the text prints as it stands: the priority, the
+-- timestamp and it are the next round, which is at rest.
+abbrev pub PrintsBehind : Text → Type 0
+PrintsBehind tail = (dating : Dating) (text : Text) (stamped : Stamped) → IsBehindStamp dating (trimmed text) stamped tail
+    → IfSome stamped.timestamp IsCanonicalStamp → (next : IsNext RFC3164 dating text
+    (priority_text (printed_number stamped.priority) ++ (32 ∷ (timestamp_text stamped.timestamp ++ tail))))
+    × IsAtRest next.message.protocol next.message

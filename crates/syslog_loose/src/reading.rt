@@ -242,9 +242,9 @@ pub(crate) fn front_date(text: &str, variant: Variant) -> Option<(MonthDate, &st
     }
 }
 
-// A timestamp that is no month date, in the same way.
+/// A timestamp that is no month date, in the same way.
 #[inline(always)]
-fn front_stamp(text: &str, variant: Variant) -> Option<(Option<OffsetTimestamp>, &str)>
+pub(crate) fn front_stamp(text: &str, variant: Variant) -> Option<(Option<OffsetTimestamp>, &str)>
     ensures { MatchOption result (BeginsWithout header_stamp variant (chars text.now))
         (λ x. BeginsWith header_stamp variant (chars text.now) x.0 (shown x.1)) }
 {

@@ -4,8 +4,8 @@
 //! `read` answers the message of the one division of a trimmed text, or that there is none. It takes each piece from
 //! the readers of `syslog_pieces`, from the left. `resolve` answers what the host field and the tag field mean
 //! together.
-ghost use Rattle.std.specs.Prelude.{◌≡◌, ◌++◌, ◌∷◌, IfOk, IsOk, IsTrue, MatchOption, None};
-ghost use Rattle.std.specs.Str.{chars};
+ghost use Rattle.std.specs.Prelude.{◌≡◌, IfOk, IsOk, IsTrue, MatchOption, None};
+ghost use Rattle.std.specs.Str.{chars, IsUtf8};
 ghost use Rattle.syslog_pieces.specs.Pieces.Class.{Row, Text};
 ghost use Rattle.syslog_pieces.specs.Pieces.View.{seen, shown, field_seen, Reads};
 ghost use Rattle.syslog_pieces.specs.Text.{trimmed};
@@ -13,7 +13,7 @@ ghost use Rattle.syslog_pieces.specs.Timestamp.Zone.{Dating as AnyDating, dating
 ghost use Rattle.syslog_loose.specs.Message.{message_value};
 ghost use Rattle.syslog_loose.specs.Reading.{OfTrimmed};
 ghost use Rattle.syslog_loose.specs.Rfc3164 as spec;
-ghost use Rattle.syslog_loose.specs.View3164.{IsBehindStamp, IsPlainProgram, PrintsNames, ReadsFields};
+ghost use Rattle.syslog_loose.specs.View3164.{IsBehindStamp, IsPlainProgram, PrintsBehind};
 ghost use Rattle.syslog_loose.specs.View3164.{names_value, stamped_values};
 
 use crate::message::{Message, Protocol};
@@ -21,7 +21,9 @@ use crate::tag_form::tag_form;
 use std::alloc::{AllocError, Global};
 use syslog_pieces::pri::{optional_priority, parts};
 use syslog_pieces::procid::{ProcId, is_bare_word};
-use syslog_pieces::structured_data::rfc3164_list::{DashRule, optional_list};
+use syslog_pieces::structured_data::rfc3164_list::{
+    DASH_RULE, DashRule, begins_list, optional_list,
+};
 use syslog_pieces::text::verbatim::before;
 use syslog_pieces::text::{blanks, host_field, past_colon, tag_field};
 use syslog_pieces::timestamp::OffsetTimestamp;
@@ -129,31 +131,6 @@ pub(crate) fn read_stamped<'a>(text: &'a str, dating: &Dating<'_, '_>) -> Option
     ))
 }
 
-/// The fields of names behind the timestamp: the text from their colon on, and the text behind that and its blanks.
-#[derive(Clone, Copy)]
-pub(crate) struct NameFields<'a> {
-    host: Option<Option<&'a str>>,
-    tag: Option<Option<&'a str>>,
-    colon: &'a str,
-    pub(crate) rest: &'a str,
-}
-
-/// The fields of names at the front.
-#[inline(always)]
-pub(crate) fn name_fields(text: &str) -> NameFields<'_>
-    ensures { ReadsFields (chars text.now) result }
-{
-    let (host, behind) = host_field(text);
-    let (tag, colon) = tag_field(behind);
-    let rest = blanks(past_colon(blanks(colon)));
-    NameFields {
-        host,
-        tag,
-        colon,
-        rest,
-    }
-}
-
 // Whether a program's name prints as it stands, by what it means.
 #[inline(always)]
 fn is_plain_program(name: &str) -> bool
@@ -165,28 +142,26 @@ fn is_plain_program(name: &str) -> bool
     }
 }
 
-// Whether a colon and a space are all that stands before the rest.
+/// Whether the text behind a timestamp prints as it stands: its names, no list, and its message. It may always answer no:
+/// then the line is read and printed.
 #[inline(always)]
-fn is_colon_gap(text: &str, rest: &str) -> bool
-    requires { (front : Text) × (chars text.now ≡ front ++ chars rest.now) }
-    ensures { IsTrue result → chars text.now ≡ 58 ∷ 32 ∷ chars rest.now }
+pub(crate) fn stands_as_printed(text: &str) -> bool
+    ensures prints { IsTrue result → PrintsBehind (chars text.now) }
+    ensures utf8 { IsUtf8 text.now }
 {
-    before(text, rest) == ": "
-}
-
-/// Whether the text behind the timestamp is what prints of the names there, and the rest. It may always answer no: then
-/// the names are printed.
-#[inline(always)]
-pub(crate) fn stand_as_printed(fields: &NameFields<'_>) -> bool
-    requires { (text : Text) × ReadsFields text fields.now }
-    ensures { IsTrue result → (text : Text) → ReadsFields text fields.now → PrintsNames text (shown fields.now.rest) }
-{
-    let Some(_) = fields.host else {
+    let (host, behind) = host_field(text);
+    let Some(_) = host else {
         return false;
     };
-    match fields.tag {
-        Some(Some(name)) => is_plain_program(name) && is_colon_gap(fields.colon, fields.rest),
-        _ => false,
+    let (tag, colon) = tag_field(behind);
+    let Some(Some(name)) = tag else {
+        return false;
+    };
+    let rest = blanks(past_colon(blanks(colon)));
+    if is_plain_program(name) && !begins_list(rest, DASH_RULE) {
+        before(colon, rest) == ": "
+    } else {
+        false
     }
 }
 
@@ -195,8 +170,9 @@ pub(crate) fn stand_as_printed(fields: &NameFields<'_>) -> bool
 pub(crate) fn read_names(text: &str) -> (Names<'_>, &str)
     ensures { spec.ReadsNames (chars text.now) (shown result.1) (names_value result.0) }
 {
-    let fields = name_fields(text);
-    (resolve(fields.host, fields.tag), fields.rest)
+    let (host, rest) = host_field(text);
+    let (tag, rest) = tag_field(rest);
+    (resolve(host, tag), blanks(past_colon(blanks(rest))))
 }
 
 /// The message of the one division of the trimmed text, and none where there is no division. `year` is that of a date

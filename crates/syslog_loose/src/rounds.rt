@@ -3,7 +3,7 @@
 //! `normalise` answers one round. What was read as RFC 5424 prints as a settled text, and so does what was read as
 //! RFC 3164 and has none of the exceptions. So nearly each line is settled by one round, and `settling` asks for more
 //! of the others alone.
-ghost use Rattle.std.specs.Prelude.{◌≡◌, ◌↔◌, ◌<◌, ◌++◌, IsTrue, MatchResult, OnOk, Some, string_bytes};
+ghost use Rattle.std.specs.Prelude.{◌≡◌, ◌↔◌, ◌<◌, ◌++◌, ◌∷◌, IsTrue, MatchResult, OnOk, Some, string_bytes};
 ghost use Rattle.std.specs.List.{AllByRecursion};
 ghost use Rattle.std.specs.Str.{chars, encode_utf8_all};
 ghost use Rattle.syslog_pieces.specs.Pieces.Class.{Text};
@@ -13,7 +13,7 @@ ghost use Rattle.syslog_pieces.specs.Timestamp.MonthDate.{month_date};
 ghost use Rattle.syslog_pieces.specs.Timestamp.Zone.{dating_of, dating_value};
 ghost use Rattle.syslog_loose.specs.Formats.{printed_number};
 ghost use Rattle.syslog_loose.specs.Message.{MessageValue, message_value};
-ghost use Rattle.syslog_loose.specs.Printed.{printed};
+ghost use Rattle.syslog_loose.specs.Printed.{printed, timestamp_text};
 ghost use Rattle.syslog_loose.specs.ReadBack.{AnswersAgain};
 ghost use Rattle.syslog_loose.specs.Reading.{AnswersEachMonth, InYear, IsOnlyRead};
 ghost use Rattle.syslog_loose.specs.Reading.{IsUnreadable, IsYearAnswered, OfTrimmed};
@@ -26,17 +26,17 @@ use crate::fault::ParseFault;
 use crate::jumps::write_round;
 use crate::line::rfc5424_text;
 use crate::message::{Message, Protocol, has_no_exception, make_room, print, priority};
-use crate::reading::{asked_numbers, front_date, read};
-use crate::rfc3164::{name_fields, stand_as_printed};
+use crate::reading::{asked_numbers, front_date, front_stamp, read};
+use crate::rfc3164::stands_as_printed;
 use crate::variant::{IncompleteDate, Variant};
 use jiff::tz::TimeZone;
 use std::alloc::{AllocError, Global};
 use std::fmt;
 use std::fmt::Write;
 use syslog_pieces::pri::{optional_priority, parts, write_priority};
-use syslog_pieces::structured_data::rfc3164_list::{DASH_RULE, begins_list};
 use syslog_pieces::text::trimmed;
 use syslog_pieces::text::write_ascii::push_bytes;
+use syslog_pieces::timestamp::OffsetTimestamp;
 use syslog_pieces::timestamp::civil::month_text;
 use syslog_pieces::timestamp::month_date::MonthDate;
 use syslog_pieces::timestamp::zone::Dating;
@@ -113,16 +113,10 @@ pub(crate) fn first_round<F: FnOnce(IncompleteDate) -> i32>(
             Ok(Round { settled, year })
         }
         None => {
-            let dating = Dating {
-                year: None,
-                tz,
-                local,
-            };
+            let year = None;
+            let dating = Dating { year, tz, local };
             let settled = next_round(alloc, text, input, &dating, variant, skips)?;
-            Ok(Round {
-                settled,
-                year: None,
-            })
+            Ok(Round { settled, year })
         }
     }
 }
@@ -148,8 +142,7 @@ fn dated_round(
         (chars (string_bytes text.new)) settled)
         (λ fault. (fault ≡ Invalid) ↔ IsUnreadable variant (dating_value dating.entry.now) whole)) }
 {
-    let fields = name_fields(tail);
-    if stand_as_printed(&fields) && !begins_list(fields.rest, DASH_RULE) {
+    if stands_as_printed(tail) {
         if let Some(stamp) = month_text(date, dating) {
             write_dated(text, priority, &stamp, tail, input.len())?;
             return Ok(true);
@@ -173,7 +166,7 @@ impl fmt::Display for Front {
     }
 }
 
-// Writes a priority, the text of a date and all behind it, into a text that gets room for the input's length at once.
+// Writes a priority, the text of a month date and all behind it, into a text that gets room for all of it at once.
 #[inline(always)]
 fn write_dated(
     text: &mut String,
@@ -193,6 +186,24 @@ fn write_dated(
     text.push_str(tail)
 }
 
+// The same of another timestamp.
+#[inline(always)]
+fn write_stamped(
+    text: &mut String,
+    priority: Option<u8>,
+    stamp: OffsetTimestamp,
+    tail: &str,
+    length: usize,
+) -> Result<(), AllocError>
+    ensures { OnOk result (string_bytes text.new
+        ≡ priority_text (printed_number priority) ++ ((32 ∷ timestamp_text (Some stamp)) ++ tail.entry.now)) }
+{
+    make_room(text, length)?;
+    let front = Front { priority };
+    write!(text, "{front} {stamp}")?;
+    text.push_str(tail)
+}
+
 /// Writes a round of the trimmed input into `text`: the next one, where that is known to be settled, and tells so. Else
 /// the next one too, or, where rounds may be skipped, a later one before which none is settled.
 pub(crate) fn next_round(
@@ -208,6 +219,13 @@ pub(crate) fn next_round(
         (chars (string_bytes text.new)) settled)
         (λ fault. (fault ≡ Invalid) ↔ IsUnreadable variant (dating_value dating.entry.now) whole)) }
 {
+    let (priority, rest) = optional_priority(input);
+    if let Some((Some(stamp), tail)) = front_stamp(rest, variant) {
+        if stands_as_printed(tail) {
+            write_stamped(text, priority, stamp, tail, input.len())?;
+            return Ok(true);
+        }
+    }
     let message = read(alloc, input, dating, variant)?;
     let settled = is_at_rest(&message);
     if settled || !skips {

@@ -1,17 +1,20 @@
 -- What is read as RFC 3164 meets the condition, but for its exceptions.
 use Rattle.std.proofs.Common.{◌≡◌, ◌≢◌, ℕ, ◌<◌, ◌⊎◌, inl, inr, Bool, List, [], ◌∷◌, ◌++◌, length, Option, Some, None}
-use Rattle.std.proofs.Common.{IfSome, IsSome, refl, sym, subst, ◌∙◌, arith}
+use Rattle.std.proofs.Common.{IfSome, IsSome, refl, sym, ap, subst, ◌∙◌, append_assoc, arith}
+use Rattle.std.proofs.lemmas.Option.{IfSome_then}
 use Rattle.std.specs.Char.{is_not_whitespace}
+use Rattle.std.specs.Fmt.{decimal}
 use Rattle.std.specs.List.{AllByRecursion}
 use Rattle.std.specs.Option.{option_and_then, unwrap_or}
 use Rattle.std.specs.Str.{skip_leading_whitespace}
-use Rattle.syslog_pieces.specs.Pieces.Class.{Text, Front, Each, Ends, run, optional, spaced}
+use Rattle.syslog_pieces.specs.Pieces.Class.{Text, Front, NoFront, Each, Ends, run, exactly, optional, spaced}
+use Rattle.syslog_pieces.specs.Bodies.Verbatim.{IsBareWord}
 use Rattle.syslog_pieces.specs.Pieces.Lists.{IsMany}
 use Rattle.syslog_pieces.specs.Pri.{priority, facility_of, severity_of}
 use Rattle.syslog_pieces.specs.ProcId.{NamesProcess}
 use Rattle.syslog_pieces.specs.StructuredData.Element.{ElementValue}
 use Rattle.syslog_pieces.specs.StructuredData.Rfc3164List.{full_element, rfc3164_list, elements_or}
-use Rattle.syslog_pieces.specs.Text.{trimmed, is_blank, is_tag_char, dash, IsHost, host, tag_word}
+use Rattle.syslog_pieces.specs.Text.{trimmed, is_blank, is_tag_char, colon, dash, IsHost, host, name_text, tag_word}
 use Rattle.syslog_pieces.specs.Text.CharClass.{is_label_char, is_open_char}
 use Rattle.syslog_pieces.specs.Timestamp.Rfc3164.{rfc3164_stamp}
 use Rattle.syslog_pieces.specs.Timestamp.MonthDate.{month_date}
@@ -21,23 +24,34 @@ use Rattle.syslog_pieces.specs.declared.procid.ProcId.{ProcId}
 use Rattle.syslog_pieces.specs.declared.procid.ProcId.TheVariants.{PID, Name}
 use Rattle.syslog_pieces.specs.declared.structured_data.rfc3164_list.DashRule.{DashRule}
 use Rattle.syslog_pieces.specs.declared.timestamp.OffsetTimestamp.{OffsetTimestamp}
-use Rattle.syslog_pieces.proofs.PieceLemmas.Class.{heads, division_front, spaced_parts, rest_whole}
-use Rattle.syslog_pieces.proofs.PieceLemmas.Steps.{present_front}
+use Rattle.syslog_pieces.proofs.PieceLemmas.Class.{both_values, division_front, heads, optional_none, rest_front}
+use Rattle.syslog_pieces.proofs.PieceLemmas.Class.{rest_whole, rows_join, spaced_parts}
+use Rattle.syslog_pieces.proofs.PieceLemmas.Steps.{piece_front, present_front}
 use Rattle.syslog_pieces.proofs.PriLemmas.{severity_there}
+use Rattle.syslog_pieces.proofs.ProcIdLemmas.{names_itself}
+use Rattle.syslog_pieces.proofs.StructuredDataLemmas.Rfc3164List.{begins_no_list}
+use Rattle.syslog_pieces.proofs.TextLemmas.Verbatim as verbatim
 use Rattle.syslog_pieces.proofs.StructuredDataLemmas.ReadBack.{element_canonical}
 use Rattle.syslog_pieces.proofs.TimestampLemmas.RoundTrip.{stamp_text-canonical}
 use Rattle.syslog_loose.specs.Canonical.{IsVisible, IsCanonicalElement}
 use Rattle.syslog_loose.specs.Exceptions.{is_no_colon, HasNoColon, IsOddHost, IsInnerProcess, AreNamesButExceptions}
 use Rattle.syslog_loose.specs.Exceptions.{HasExceptionsAlone, IsNearlyCanonical, IsOfMonthDate}
+use Rattle.syslog_loose.specs.Formats.{printed_number}
 use Rattle.syslog_loose.specs.Message.{MessageValue}
-use Rattle.syslog_loose.specs.Rfc3164.{Names3164, Resolves, stamped_row, fields_row, rfc3164_row, IsRead3164}
-use Rattle.syslog_loose.specs.TagForm.{form_row, IsForm}
+use Rattle.syslog_loose.specs.Printed.{printed_3164, tag_text, timestamp_text}
+use Rattle.syslog_loose.specs.Reading.{dash_rule}
+use Rattle.syslog_loose.specs.Rfc3164.{Names3164, Resolves, names, stamped_row, fields_row, body_row, rfc3164_row}
+use Rattle.syslog_loose.specs.Rfc3164.{IsRead3164}
+use Rattle.syslog_loose.specs.TagForm.{form_row, IsForm, IsNoForm}
+use Rattle.syslog_loose.specs.View3164.{stamped_values, IsPlainProgram, PrintsBehind}
 use Rattle.syslog_loose.proofs.Rfc3164Lemmas.{of_names}
+use Rattle.syslog_loose.proofs.Rfc3164Lemmas.Reading.{is_read}
 use Rattle.syslog_loose.proofs.Rfc3164Lemmas.Shown.{shows}
+use Rattle.syslog_loose.proofs.Rfc3164Lemmas.Unique.{told}
 use Rattle.syslog_loose.proofs.TrimLemmas.{drop_ends, last_ends}
 use Rattle.syslog_pieces.proofs.PieceLemmas.Each.{each_behind, each_both, each_left, each_front, each_right}
 use Rattle.syslog_pieces.proofs.PieceLemmas.Lists.{begins}
-use Rattle.syslog_pieces.proofs.PieceLemmas.Rows.{row_pieces}
+use Rattle.syslog_pieces.proofs.PieceLemmas.Rows.{row_of, row_pieces, ◌then◌}
 
 -- ---- elements
 
@@ -238,3 +252,60 @@ module _ (rule : DashRule) (dating : Dating) (text : Text) where
       let (n, resolves, means) = r.means in
       let there = severity_beside r.values.0 (rw means at f) in
       record { facility = f; severity = rw means there; rest = read_near m r }
+
+-- ---- what prints as it stands
+pub formed_plain : (name tag id : Text) → IsForm name tag id → IsBareWord id → IsPlainProgram name
+formed_plain name tag id f bare =
+    let parts = form_parts name tag id f in
+    let (p, named, e) = names_itself id parts.some bare in
+    record {
+      appname = tag;
+      procid = Some p;
+      means = λ host. inl (tag, id, p, f, named, refl);
+      prints = λ q. ap (λ (x : Text). x ++ (58 ∷ 32 ∷ q)) parts.whole ∙ simp (e, append_assoc) refl;
+    }
+
+pub alone_plain : (name : Text) → IsNoForm name → IsPlainProgram name
+alone_plain name none = record {
+  appname = name;
+  procid = None;
+  means = λ host. inr (none, refl);
+  prints = λ q. sym (append_assoc name (58 ∷ 32 ∷ []) q);
+}
+
+pub prints_behind : {tail t u v w msg name : Text} {origin : Option Text} {more : Option (Unit {0})}
+    → Front (optional (spaced host)) tail t (Some origin) → Front (optional (spaced tag_word)) t u (Some (Some name))
+    → Front (run is_blank) u v tt → Front (optional (exactly colon)) v w more → Front (run is_blank) w msg tt
+    → IsPlainProgram name → u ≡ 58 ∷ 32 ∷ msg → NoFront (rfc3164_list dash_rule) msg → PrintsBehind tail
+unfolding printed_3164
+prints_behind {tail = tail} {t = t} {u = u} {msg = msg} {name = name} {origin = origin} {more = more} f g a b c k e
+    no_list = λ dating text stamped front canonical.
+    let n = names origin (Some k.appname) k.procid in
+    let (x, before, h) = spaced_parts host (present_front (spaced host) f) in
+    let (y, between, i) = spaced_parts tag_word (present_front (spaced tag_word) g) in
+    let whole : tail ≡ 32 ∷ (name_text origin ++ (32 ∷ (tag_text (Some k.appname) k.procid ++ msg))) =
+    cc (before, h.whole, verbatim.host_text h.piece t origin h.is, between, i.whole, i.is.3.0, e, k.prints msg) in
+    let near = near_names t (Some origin) (Some (Some name)) n (k.means origin) (host_field tail t (Some origin) f)
+    (tag_field t u (Some (Some name)) g) in
+    let values = both_values (stamped_row dating) (body_row dash_rule) (stamped_values stamped)
+    (Some origin, (Some (Some name), (tt, (more, (tt, (None, (tt, (msg, tt)))))))) in
+    let number = decimal (printed_number stamped.priority) in
+    let m = told dash_rule dating values n in (
+      record {
+        message = m;
+        read = is_read dash_rule dating text (trimmed text) values m refl (n, k.means origin, refl)
+            (rows_join (stamped_row dating) (body_row dash_rule) front
+            (row_of (body_row dash_rule) (f then g then a then b then c
+            then optional_none (rfc3164_list dash_rule) no_list
+            then piece_front (run is_blank) [] msg tt (tt, c.is.1) then rest_front msg then refl)));
+        is_printed = append_assoc (60 ∷ number) (62 ∷ []) _
+            ∙ ap (λ (x : Text). 60 ∷ (number ++ (62 ∷ 32 ∷ (timestamp_text stamped.timestamp ++ x)))) whole;
+      },
+      record {
+        canonical_timestamp = canonical;
+        host_is_no_dash = IfSome_then origin near.odd_host (λ x odd is. (let none = odd (inl is) in cc));
+        host_ends_in_no_colon = IfSome_then origin near.odd_host (λ x odd is. (let none = odd (inr is) in cc));
+        process_has_no_colon = elim near.colon [ inl none ↦ none | inr (z, is, none) ↦ absurd (cc) ];
+        message_is_no_list = λ none. begins_no_list dash_rule msg no_list;
+      },
+    )

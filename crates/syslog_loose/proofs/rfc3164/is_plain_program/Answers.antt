@@ -1,4 +1,4 @@
-use Rattle.syslog_loose.proofs.StandingLemmas.{alone_plain, formed_plain}
+use Rattle.syslog_loose.proofs.Rfc3164Lemmas.Near.{alone_plain, formed_plain}
 use Rattle.syslog_loose.proofs.rfc3164.is_plain_program.Goals as goal
 
 pub returns-in-Some : goal.returns-in-Some
