@@ -1,7 +1,7 @@
 -- A timestamp that was read prints as it is written, but for a `Z`.
 use Rattle.std.proofs.Common.{◌≡◌, ◌≢◌, ℕ, ℤ, suc, ◌+◌, ◌*◌, ◌-◌, ◌/◌, ◌%◌, ◌<◌, ◌≤◌, Bool, true, false, List}
 use Rattle.std.proofs.Common.{[], ◌∷◌, ◌++◌, length, take, drop, get_or, Option, Some, None, inl, inr, refl, sym, ap, ap₂}
-use Rattle.std.proofs.Common.{◌∙◌, ◌+ℤ◌, arith, append_assoc, append-nil}
+use Rattle.std.proofs.Common.{◌∙◌, arith, append_assoc, append-nil}
 use Rattle.std.proofs.lemmas.Bool.Decides.{nat_tests}
 use Rattle.std.proofs.lemmas.List.{length-append, get_or-append-add, take_rest, append_cancel_right}
 use Rattle.std.proofs.lemmas.List.Elements.{recursion_from_All}
@@ -12,20 +12,18 @@ use Rattle.std.specs.Char.{IsAsciiDigit}
 use Rattle.std.specs.List.{AllByRecursion}
 use Rattle.std.specs.Str.{chars, IsUtf8, IsAscii, IsCharBoundary}
 use mir.Val.{bool_byte}
-use Rattle.jiff.specs.Words.{civil_nanos, nanos_of_seconds}
-use Rattle.jiff_core.proofs.SignedLemmas.{signed_arith}
 use Rattle.jiff_fmt.specs.Reader.{fraction_value}
 use Rattle.syslog_pieces.specs.Bodies.VerbatimStamp.{zone_text, zulu_text, ArePrinted, IsCopiedTail, IsCopiedText, IsCopiedStamp}
 use Rattle.syslog_pieces.specs.Pieces.Class.{Text, Front}
 use Rattle.syslog_pieces.specs.Timestamp.{IsHeaderStamp, header_stamp}
-use Rattle.syslog_pieces.specs.Timestamp.Printed.{printed_stamp, fraction_text, offset_text}
+use Rattle.syslog_pieces.specs.Timestamp.Printed.{printed_stamp, fields_text, fraction_text, offset_text}
 use Rattle.syslog_pieces.specs.Timestamp.Rfc3339.{IsNumericOffset, HasRfc3339Stamp, fields_of_rfc3339}
 use Rattle.syslog_pieces.specs.declared.timestamp.OffsetTimestamp.{OffsetTimestamp}
+use Rattle.syslog_pieces.specs.declared.timestamp.fields.CivilFields.{CivilFields}
 use Rattle.syslog_pieces.specs.declared.timestamp.rfc3339_text.Rfc3339Fields.{Rfc3339Fields}
 use Rattle.syslog_pieces.proofs.TextLemmas.Chars.{ascii_chars, ascii_front, one_ascii, same_chars}
 use Rattle.syslog_pieces.proofs.TimestampLemmas.Characters.{date_and_clock, writes_ascii}
-use Rattle.syslog_pieces.proofs.TimestampLemmas.Civil.{civil_nanos-fields, datetime_of, printed_stamp-is}
-use Rattle.syslog_pieces.proofs.TimestampLemmas.RoundTrip.{text-shape}
+use Rattle.syslog_pieces.proofs.TimestampLemmas.RoundTrip.{text-shape, shows_written}
 
 -- ---- decimals
 
@@ -53,6 +51,9 @@ pub none_printed : (t : List ℕ) → length t < 1 → ArePrinted t
 unfolding fraction_text
 none_printed t none n (inl (e, z)) = rw (e, z) refl
 none_printed t none n (inr (ds, e, _, _, _)) = absurd (omega (arith, ap length e))
+
+-- what the check of decimals rests on
+pub ruleset copied_decimals = (decimals_printed, none_printed)
 
 -- ---- the zone behind them
 
@@ -94,7 +95,7 @@ unfolding offset_text
 zulu_copied tail last printed decimals zone n o e f (inl (c, z, l, v)) =
     let c_is : c ≡ 90 = rw z at (sym (from_end decimals zone e 1 0 (sym (ap length z)))) ∙ last in
     let text = (rw (before_zone decimals zone e 1 (sym (ap length z))) at printed) n f in
-    (decimals, e ∙ (rw (z, c_is) refl), rw (v, text) refl)
+    record { copied = decimals; whole = e ∙ (rw (z, c_is) refl); prints = rw (v, text) refl }
 zulu_copied tail last printed decimals zone n o e f (inr m) =
     let (six, digit, _) = numeric_printed zone o m in
     absurd (omega (arith, from_end decimals zone e 1 5 (sym six)))
@@ -109,7 +110,11 @@ offset_copied tail last some printed decimals zone n o e f (inr m) =
     let text = (rw (before_zone decimals zone e 6 (sym six)) at printed) n f in
     let byte = from_end decimals zone e in
     let offset = shown (λ x y z. some (byte 6 0 (sym six) ∙ x) (byte 5 1 (sym six) ∙ y) (byte 4 2 (sym six) ∙ z)) in
-    (tail, sym (append-nil tail), append-nil tail ∙ e ∙ (rw (offset, text) refl))
+    record {
+      copied = tail;
+      whole = sym (append-nil tail);
+      prints = append-nil tail ∙ e ∙ (rw (offset, text) refl);
+    }
 
 -- ---- the whole text
 
@@ -117,14 +122,12 @@ offset_copied tail last some printed decimals zone n o e f (inr m) =
 printed_is : (w : Rfc3339Fields) (n o : ℤ) → HasRfc3339Stamp w n o → w.second < 60
     → printed_stamp n o ≡ date_and_clock 84 w.year w.month w.day w.hour w.minute w.second
     ++ (fraction_text w.nanosecond ++ offset_text w.offset)
+unfolding printed_stamp
 printed_is w n o h small =
     let f = fields_of_rfc3339 w in
-    let dt = (datetime_of f h.civil).0 in
-    let count : civil_nanos dt ≡ n +ℤ nanos_of_seconds o =
-    civil_nanos-fields dt f refl ∙ omega (arith, signed_arith, h.instant, ap nanos_of_seconds h.at_offset) in
     let second : f.second ≡ w.second = omega arith in
-    printed_stamp-is dt n o count ∙ text-shape f w.year (fraction_text w.nanosecond ++ offset_text o) refl
-    ∙ (rw (second, h.at_offset) refl)
+    ap (λ (g : CivilFields). fields_text g o) (shows_written w n o h)
+    ∙ text-shape f w.year (fraction_text w.nanosecond ++ offset_text o) refl ∙ (rw (second, h.at_offset) refl)
 
 pub absent_copied : (t : Text) → length t < 19 → IsCopiedText t false
 absent_copied t short None follows h =
@@ -141,12 +144,12 @@ front_copied t tail is_zulu letter tens long cut k (Some s) follows ((w, h, a), 
     let small = h.fits.second in
     let below = a.second in
     let behind : tail ≡ h.decimals ++ h.zone = cut ∙ take_rest t 19 ∙ ap (drop 19) h.whole in
-    let (copied, whole, prints) = k h.decimals h.zone w.nanosecond w.offset behind h.fraction h.zone_is in
+    let rest = k h.decimals h.zone w.nanosecond w.offset behind h.fraction h.zone_is in
     record {
-      copied = front ++ copied;
+      copied = front ++ rest.copied;
       whole = h.whole ∙ ap₂ (λ (c : ℕ) (x : Text). date_and_clock c w.year w.month w.day w.hour w.minute w.second ++ x)
-          letter_is (sym behind ∙ whole) ∙ sym (append_assoc front copied (zulu_text is_zulu));
-      prints = append_assoc front copied (zone_text is_zulu) ∙ ap (λ (x : Text). front ++ x) prints
+          letter_is (sym behind ∙ rest.whole) ∙ sym (append_assoc front rest.copied (zulu_text is_zulu));
+      prints = append_assoc front rest.copied (zone_text is_zulu) ∙ ap (λ (x : Text). front ++ x) rest.prints
           ∙ sym (printed_is w _ _ a (omega arith));
     }
 

@@ -22,11 +22,16 @@ zulu_text false = []
 abbrev pub ArePrinted : List ℕ → Type 0
 ArePrinted decimals = (n : ℕ) → IsFraction decimals n → fraction_text n ≡ decimals
 
--- what stands behind the seconds is what is copied, and perhaps a `Z`; it prints as what is copied and the zone's text
+-- the text is what is copied, and perhaps a `Z`; what is copied and the zone's text are what is printed
+pub record IsCopied (text : List ℕ) (is_zulu : Bool) (printed : List ℕ) : Type 0 where
+  pub copied : List ℕ
+  pub whole : text ≡ copied ++ zulu_text is_zulu
+  pub prints : copied ++ zone_text is_zulu ≡ printed
+
+-- what stands behind the seconds is copied
 abbrev pub IsCopiedTail : List ℕ → Bool → Type 0
 IsCopiedTail tail is_zulu = (decimals zone : List ℕ) (n : ℕ) (o : ℤ) → tail ≡ decimals ++ zone → IsFraction decimals n
-    → IsOffsetText zone o → (copied : List ℕ) × (tail ≡ copied ++ zulu_text is_zulu)
-    × (copied ++ zone_text is_zulu ≡ fraction_text n ++ offset_text o)
+    → IsOffsetText zone o → IsCopied tail is_zulu (fraction_text n ++ offset_text o)
 
 -- the text is what is copied, and then the zone; what is copied and the zone's text are what the timestamp prints
 pub record IsCopiedStamp (text zone : Text) (is_zulu : Bool) (value : Option OffsetTimestamp) : Type 0 where

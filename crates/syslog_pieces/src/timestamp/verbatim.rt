@@ -58,6 +58,7 @@ fn ends_in_zulu(written: &[u8]) -> Option<bool>
 }
 
 // The same of what stands behind the seconds.
+#[tactic(auto, using(crate::proofs::TimestampLemmas::CopiedStamp::zulu_copied))]
 #[inline(always)]
 fn tail_ends_in_zulu(tail: &[u8]) -> Option<bool>
     ensures { IfSome result (spec.IsCopiedTail tail.now) }
@@ -82,6 +83,7 @@ fn ends_in_offset(tail: &[u8]) -> bool
 }
 
 // Whether decimals are printed as they are written: none, or three, six or nine, the last three of which are not zeros.
+#[tactic(auto, using(crate::proofs::TimestampLemmas::CopiedStamp::copied_decimals))]
 #[inline(always)]
 fn are_printed(decimals: &[u8]) -> bool
     ensures { IsTrue result → spec.ArePrinted decimals.now }
