@@ -6,8 +6,7 @@ use Rattle.std.proofs.lemmas.Bool.Decides.{nat_tests}
 use Rattle.std.proofs.lemmas.List.{length-append, get_or-append-add, take_rest, append_cancel_right}
 use Rattle.std.proofs.lemmas.List.Elements.{recursion_from_All}
 use Rattle.std.proofs.Math.Seq.{take-append_seam, drop-append_seam}
-use Rattle.std.proofs.lemmas.Str.{IsCharBoundary-at_seam, IsUtf8-append, IsUtf8-from_ascii, chars-append}
-use Rattle.std.proofs.lemmas.Str.Ascii.{IsAscii-nil}
+use Rattle.std.proofs.lemmas.Str.{IsAscii-take, IsUtf8-from_ascii, chars-IsAscii, encodes-IsAscii}
 use Rattle.std.specs.Char.{IsAsciiDigit}
 use Rattle.std.specs.List.{AllByRecursion}
 use Rattle.std.specs.Str.{chars, IsUtf8, IsAscii, IsCharBoundary}
@@ -22,6 +21,8 @@ use Rattle.syslog_pieces.specs.declared.timestamp.OffsetTimestamp.{OffsetTimesta
 use Rattle.syslog_pieces.specs.declared.timestamp.fields.CivilFields.{CivilFields}
 use Rattle.syslog_pieces.specs.declared.timestamp.rfc3339_text.Rfc3339Fields.{Rfc3339Fields}
 use Rattle.syslog_pieces.proofs.TextLemmas.Chars.{ascii_chars, ascii_front, one_ascii, same_chars}
+use Rattle.syslog_pieces.proofs.TextLemmas.Cuts.{bytes}
+use Rattle.syslog_pieces.proofs.TextLemmas.Looks.{behind_chars, behind_cut, behind_is}
 use Rattle.syslog_pieces.proofs.TimestampLemmas.Characters.{date_and_clock, writes_ascii}
 use Rattle.syslog_pieces.proofs.TimestampLemmas.RoundTrip.{text-shape, shows_written}
 
@@ -162,10 +163,6 @@ ascii_stamp : (value : Option OffsetTimestamp) (p q : Text) → IsHeaderStamp p 
 ascii_stamp None p q h = rw h (one_ascii 45 (omega arith))
 ascii_stamp (Some s) p q ((w, h, a), space) = writes_ascii p w h
 
-ascii_zulu : (is_zulu : Bool) → IsAscii (zulu_text is_zulu)
-ascii_zulu true = one_ascii 90 (omega arith)
-ascii_zulu false = IsAscii-nil
-
 zulu_len : (is_zulu : Bool) → bool_byte is_zulu ≡ length (zulu_text is_zulu)
 zulu_len true = refl
 zulu_len false = refl
@@ -173,40 +170,43 @@ zulu_len false = refl
 module _ {bs rest written : List ℕ} (u : IsUtf8 bs) (v : IsUtf8 rest) (x : IsUtf8 written)
     (whole : chars bs ≡ chars written ++ chars rest) {is_zulu : Bool} (k : IsCopiedText written is_zulu)
     {value : Option OffsetTimestamp} (f : Front header_stamp (chars bs) (chars rest) value) where
-  piece_is : f.piece ≡ chars written
-  piece_is = append_cancel_right f.piece (chars written) (chars rest) (sym f.whole ∙ whole)
+  ascii : IsAscii f.piece
+  ascii = ascii_stamp value f.piece (chars rest) f.is
 
-  chars_are : chars written ≡ written
-  chars_are = ascii_chars written x (ascii_stamp value (chars written) (chars rest) (rw piece_is at f.is))
+  same : f.piece ≡ written
+  same = same_chars f.piece written (IsUtf8-from_ascii f.piece ascii) x
+      (chars-IsAscii f.piece ascii ∙ append_cancel_right f.piece (chars written) (chars rest) (sym f.whole ∙ whole))
 
   copy : IsCopiedStamp written (zulu_text is_zulu) is_zulu value
-  copy = k value (chars rest) (rw (piece_is, chars_are) at f.is)
+  copy = k value (chars rest) (rw same at f.is)
 
   abbrev left : List ℕ
   left = zulu_text is_zulu ++ rest
 
-  bytes : bs ≡ copy.copied ++ left
-  bytes = same_chars bs (written ++ rest) u (IsUtf8-append written rest x v) (whole ∙ sym (chars-append written rest x))
-      ∙ ap (λ (y : List ℕ). y ++ rest) copy.whole ∙ append_assoc copy.copied (zulu_text is_zulu) rest
+  bytes_are : bs ≡ copy.copied ++ left
+  bytes_are = bytes bs rest u v f.piece f.whole
+      ∙ ap (λ (y : List ℕ). y ++ rest) (encodes-IsAscii f.piece ascii ∙ same ∙ copy.whole)
+      ∙ append_assoc copy.copied (zulu_text is_zulu) rest
+
+  front_ascii : IsAscii copy.copied
+  front_ascii = rw take-append_seam at
+      (IsAscii-take (copy.copied ++ zulu_text is_zulu) (length copy.copied) (rw (same, copy.whole) at ascii))
 
   module _ {n : ℕ} (mark : n ≡ bool_byte is_zulu) where
     pub zulu_fits : n ≤ length written
     zulu_fits = omega (arith, zulu_len is_zulu, ap length copy.whole, length-append copy.copied (zulu_text is_zulu))
 
-    place : length written - n ≡ length copy.copied
-    place = omega (arith, zulu_len is_zulu, ap length copy.whole, length-append copy.copied (zulu_text is_zulu))
+    place : length bs - length left ≡ length written - n
+    place = omega (arith, zulu_len is_zulu, ap length copy.whole, length-append copy.copied (zulu_text is_zulu),
+        ap length bytes_are, length-append copy.copied left, length-append (zulu_text is_zulu) rest)
 
     pub zone_cut : IsCharBoundary bs (length written - n)
-    zone_cut = rw place (IsCharBoundary-at_seam bs copy.copied left bytes
-        (IsUtf8-append (zulu_text is_zulu) rest (IsUtf8-from_ascii (zulu_text is_zulu) (ascii_zulu is_zulu)) v))
+    zone_cut = rw place at (behind_cut copy.copied bs left front_ascii u bytes_are)
 
     pub copied_to : (ys : List ℕ) → ys ≡ drop (length written - n) bs → IsCopiedStamp (chars bs) (chars ys) is_zulu value
     copied_to ys e =
-        let behind : ys ≡ left = e ∙ (rw place (ap (drop (length copy.copied)) bytes ∙ drop-append_seam copy.copied left)) in
-        record {
+        let behind = behind_is copy.copied bs left front_ascii u bytes_are ys (rw place e) in record {
           copied = copy.copied;
-          whole = whole ∙ ap (λ (y : Text). y ++ chars rest) (chars_are ∙ copy.whole)
-              ∙ append_assoc copy.copied (zulu_text is_zulu) (chars rest)
-              ∙ ap (λ (y : Text). copy.copied ++ y) (sym (ascii_front (zulu_text is_zulu) rest ys (ascii_zulu is_zulu) behind));
+          whole = rw behind (behind_chars copy.copied bs left front_ascii u bytes_are);
           prints = copy.prints;
         }
