@@ -1,26 +1,24 @@
 -- A timestamp that was read prints as it is written, but for a `Z`.
-use Rattle.std.proofs.Common.{◌≡◌, ◌≢◌, ℕ, ℤ, suc, ◌+◌, ◌*◌, ◌-◌, ◌/◌, ◌%◌, ◌<◌, ◌≤◌, Bool, true, false, List}
-use Rattle.std.proofs.Common.{[], ◌∷◌, ◌++◌, length, take, drop, get_or, Option, Some, None, inl, inr, refl, sym, ap, ap₂}
-use Rattle.std.proofs.Common.{◌∙◌, arith, append_assoc, append-nil}
-use Rattle.std.proofs.lemmas.Bool.Decides.{nat_tests}
-use Rattle.std.proofs.lemmas.List.{length-append, get_or-append-add, take_rest, append_cancel_right}
+use Rattle.syslog_pieces.proofs.Names.{◌≡◌, ◌≢◌, ℕ, suc, ◌+◌, ◌-◌, ◌%◌, ◌<◌, ◌≤◌, Bool, true, false, List, [], ◌∷◌, ◌++◌}
+use Rattle.syslog_pieces.proofs.Names.{length, take, drop, get_or, Option, Some, None, inl, inr, refl, sym, ap, ◌∙◌, arith}
+use Rattle.syslog_pieces.proofs.Names.{append_assoc, append-nil, length-append, append_cancel_right, take-append_seam, ℤ}
+use Rattle.syslog_pieces.proofs.Names.{nat_tests, AllByRecursion, chars, IsUtf8, IsAscii, IsCharBoundary, IsUtf8-from_ascii}
+use Rattle.syslog_pieces.proofs.Names.{chars-IsAscii, encodes-IsAscii, Text, Front}
+use Rattle.std.proofs.Common.{◌*◌, ◌/◌}
+use Rattle.std.proofs.lemmas.List.{get_or-append-add, take_rest}
 use Rattle.std.proofs.lemmas.List.Elements.{recursion_from_All}
-use Rattle.std.proofs.Math.Seq.{take-append_seam, drop-append_seam}
-use Rattle.std.proofs.lemmas.Str.{IsAscii-take, IsUtf8-from_ascii, chars-IsAscii, encodes-IsAscii}
+use Rattle.std.proofs.lemmas.Str.{IsAscii-take}
 use Rattle.std.specs.Char.{IsAsciiDigit}
-use Rattle.std.specs.List.{AllByRecursion}
-use Rattle.std.specs.Str.{chars, IsUtf8, IsAscii, IsCharBoundary}
 use mir.Val.{bool_byte}
 use Rattle.jiff_fmt.specs.Reader.{fraction_value}
-use Rattle.syslog_pieces.specs.Bodies.VerbatimStamp.{zone_text, zulu_text, ArePrinted, IsCopiedTail, IsCopiedText, IsCopiedStamp}
-use Rattle.syslog_pieces.specs.Pieces.Class.{Text, Front}
+use Rattle.syslog_pieces.specs.Bodies.VerbatimStamp.{zulu_text, ArePrinted, IsCopiedTail, IsCopiedText, IsCopiedStamp}
 use Rattle.syslog_pieces.specs.Timestamp.{IsHeaderStamp, header_stamp}
 use Rattle.syslog_pieces.specs.Timestamp.Printed.{printed_stamp, fields_text, fraction_text, offset_text}
 use Rattle.syslog_pieces.specs.Timestamp.Rfc3339.{IsNumericOffset, HasRfc3339Stamp, fields_of_rfc3339}
 use Rattle.syslog_pieces.specs.declared.timestamp.OffsetTimestamp.{OffsetTimestamp}
 use Rattle.syslog_pieces.specs.declared.timestamp.fields.CivilFields.{CivilFields}
 use Rattle.syslog_pieces.specs.declared.timestamp.rfc3339_text.Rfc3339Fields.{Rfc3339Fields}
-use Rattle.syslog_pieces.proofs.TextLemmas.Chars.{ascii_chars, ascii_front, one_ascii, same_chars}
+use Rattle.syslog_pieces.proofs.TextLemmas.Chars.{one_ascii, same_chars}
 use Rattle.syslog_pieces.proofs.TextLemmas.Cuts.{bytes}
 use Rattle.syslog_pieces.proofs.TextLemmas.Looks.{behind_chars, behind_cut, behind_is}
 use Rattle.syslog_pieces.proofs.TimestampLemmas.Characters.{date_and_clock, writes_ascii}
@@ -131,8 +129,7 @@ printed_is w n o h small =
     ∙ text-shape f w.year (fraction_text w.nanosecond ++ offset_text o) refl ∙ (rw (second, h.at_offset) refl)
 
 pub absent_copied : (t : Text) → length t < 19 → IsCopiedText t false
-absent_copied t short None follows h =
-    record { copied = t; whole = sym (append-nil t); prints = append-nil t ∙ h }
+absent_copied t short None follows h = record { copied = t; whole = sym (append-nil t); prints = append-nil t ∙ h }
 absent_copied t short (Some s) follows ((w, h, k), space) = absurd (omega (arith, ap length h.whole))
 
 pub front_copied : (t tail : Text) (is_zulu : Bool) → get_or t 10 0 ≡ 84 → get_or t 17 0 ≢ 54 → 19 ≤ length t
@@ -146,12 +143,11 @@ front_copied t tail is_zulu letter tens long cut k (Some s) follows ((w, h, a), 
     let below = a.second in
     let behind : tail ≡ h.decimals ++ h.zone = cut ∙ take_rest t 19 ∙ ap (drop 19) h.whole in
     let rest = k h.decimals h.zone w.nanosecond w.offset behind h.fraction h.zone_is in
+    let same : h.decimals ++ h.zone ≡ rest.copied ++ zulu_text is_zulu = sym behind ∙ rest.whole in
     record {
       copied = front ++ rest.copied;
-      whole = h.whole ∙ ap₂ (λ (c : ℕ) (x : Text). date_and_clock c w.year w.month w.day w.hour w.minute w.second ++ x)
-          letter_is (sym behind ∙ rest.whole) ∙ sym (append_assoc front rest.copied (zulu_text is_zulu));
-      prints = append_assoc front rest.copied (zone_text is_zulu) ∙ ap (λ (x : Text). front ++ x) rest.prints
-          ∙ sym (printed_is w _ _ a (omega arith));
+      whole = h.whole ∙ cc;
+      prints = ap (λ (x : Text). front ++ x) rest.prints ∙ sym (printed_is w _ _ a (omega arith));
     }
 
 -- what the check of a whole text rests on
@@ -194,11 +190,11 @@ module _ {bs rest written : List ℕ} (u : IsUtf8 bs) (v : IsUtf8 rest) (x : IsU
 
   module _ {n : ℕ} (mark : n ≡ bool_byte is_zulu) where
     pub zulu_fits : n ≤ length written
-    zulu_fits = omega (arith, zulu_len is_zulu, ap length copy.whole, length-append copy.copied (zulu_text is_zulu))
+    zulu_fits = omega (arith, zulu_len is_zulu, ap length copy.whole, length-append {A = ℕ})
 
     place : length bs - length left ≡ length written - n
-    place = omega (arith, zulu_len is_zulu, ap length copy.whole, length-append copy.copied (zulu_text is_zulu),
-        ap length bytes_are, length-append copy.copied left, length-append (zulu_text is_zulu) rest)
+    place =
+        omega (arith, zulu_len is_zulu, ap length copy.whole, ap length bytes_are, length-append {A = ℕ})
 
     pub zone_cut : IsCharBoundary bs (length written - n)
     zone_cut = rw place at (behind_cut copy.copied bs left front_ascii u bytes_are)

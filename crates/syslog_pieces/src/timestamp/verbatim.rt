@@ -1,8 +1,8 @@
 //! Timestamps of a header that print as they are written, but that a `Z` prints as `+00:00`.
 //!
-//! What prints of a timestamp is what a clock at its offset shows, and that is the digits that stand in the text. So of
-//! most timestamps no instant is computed: it is enough that the calendar has the date and the clock the time. Other
-//! forms (small letters, a fraction that ends in three zeros, second 60, `-00:00`) are left to `header_stamp`.
+//! What prints of a timestamp is what a clock at its offset shows, and those are mostly the digits that stand in its
+//! text. So a timestamp that the reader has read is copied, where a look at a few of its bytes finds no form that prints
+//! otherwise: small letters, second 60, `-00:00`, and decimals that are not the fewest of three, six or nine.
 ghost use Rattle.std.specs.Prelude.{◌≡◌, Option, IfSome, IsTrue, false};
 ghost use Rattle.std.specs.Str.{chars};
 ghost use Rattle.syslog_pieces.specs.Bodies.VerbatimStamp as spec;
@@ -70,7 +70,7 @@ fn tail_ends_in_zulu(tail: &[u8]) -> Option<bool>
     }
 }
 
-// Whether the same ends in an offset, which prints as it is written but for `-00:00`.
+// Whether the same ends in an offset that prints as it is written. (None behind `-00` is taken: `-00:00` prints `+`.)
 #[inline(always)]
 fn ends_in_offset(tail: &[u8]) -> bool
     ensures { IsTrue result → spec.IsCopiedTail tail.now false }
@@ -82,7 +82,7 @@ fn ends_in_offset(tail: &[u8]) -> bool
     }
 }
 
-// Whether decimals are printed as they are written: none, or three, six or nine, the last three of which are not zeros.
+// Whether decimals print as they are written: none, or three, six or nine behind a dot, the last three no zeros.
 #[tactic(auto, using(crate::proofs::TimestampLemmas::CopiedStamp::copied_decimals))]
 #[inline(always)]
 fn are_printed(decimals: &[u8]) -> bool
