@@ -11,10 +11,10 @@ use Rattle.std.proofs.lemmas.Str.{IsAscii-take}
 use Rattle.std.specs.Char.{IsAsciiDigit}
 use mir.Val.{bool_byte}
 use Rattle.jiff_fmt.specs.Reader.{fraction_value}
-use Rattle.syslog_pieces.specs.Bodies.VerbatimStamp.{zulu_text, ArePrinted, IsCopiedTail, IsCopiedText, IsCopiedStamp}
+use Rattle.syslog_pieces.specs.Bodies.VerbatimStamp.{zulu_text, zone_text, ArePrinted, IsCopiedText, IsCopiedStamp}
 use Rattle.syslog_pieces.specs.Timestamp.{IsHeaderStamp, header_stamp}
 use Rattle.syslog_pieces.specs.Timestamp.Printed.{printed_stamp, fields_text, fraction_text, offset_text}
-use Rattle.syslog_pieces.specs.Timestamp.Rfc3339.{IsNumericOffset, HasRfc3339Stamp, fields_of_rfc3339}
+use Rattle.syslog_pieces.specs.Timestamp.Rfc3339.{IsFraction, IsNumericOffset, IsOffsetText, HasRfc3339Stamp, fields_of_rfc3339}
 use Rattle.syslog_pieces.specs.declared.timestamp.OffsetTimestamp.{OffsetTimestamp}
 use Rattle.syslog_pieces.specs.declared.timestamp.fields.CivilFields.{CivilFields}
 use Rattle.syslog_pieces.specs.declared.timestamp.rfc3339_text.Rfc3339Fields.{Rfc3339Fields}
@@ -88,13 +88,19 @@ module _ {tail : List ℕ} (decimals zone : List ℕ) (e : tail ≡ decimals ++ 
       let p : length tail - k ≡ length decimals = omega (arith, ap length e, length-append decimals zone) in
       rw (p, e) (take-append_seam decimals zone)
 
+-- what stands behind the seconds is what is copied, and perhaps a `Z`; it prints as what is copied and the zone's text
+abbrev IsCopiedTail : List ℕ → Bool → Type 0
+IsCopiedTail tail is_zulu = (decimals zone : List ℕ) (n : ℕ) (o : ℤ) → tail ≡ decimals ++ zone → IsFraction decimals n
+    → IsOffsetText zone o → (copied : List ℕ) × (tail ≡ copied ++ zulu_text is_zulu)
+    × (copied ++ zone_text is_zulu ≡ fraction_text n ++ offset_text o)
+
 pub zulu_copied : (tail : List ℕ) → get_or tail (length tail - 1) 0 ≡ 90 → ArePrinted (take (length tail - 1) tail)
     → IsCopiedTail tail true
 unfolding offset_text
 zulu_copied tail last printed decimals zone n o e f (inl (c, z, l, v)) =
     let c_is : c ≡ 90 = rw z at (sym (from_end decimals zone e 1 0 (sym (ap length z)))) ∙ last in
     let text = (rw (before_zone decimals zone e 1 (sym (ap length z))) at printed) n f in
-    record { copied = decimals; whole = e ∙ (rw (z, c_is) refl); prints = rw (v, text) refl }
+    (decimals, e ∙ (rw (z, c_is) refl), rw (v, text) refl)
 zulu_copied tail last printed decimals zone n o e f (inr m) =
     let (six, digit, _) = numeric_printed zone o m in
     absurd (omega (arith, from_end decimals zone e 1 5 (sym six)))
@@ -109,11 +115,7 @@ offset_copied tail last some printed decimals zone n o e f (inr m) =
     let text = (rw (before_zone decimals zone e 6 (sym six)) at printed) n f in
     let byte = from_end decimals zone e in
     let offset = shown (λ x y z. some (byte 6 0 (sym six) ∙ x) (byte 5 1 (sym six) ∙ y) (byte 4 2 (sym six) ∙ z)) in
-    record {
-      copied = tail;
-      whole = sym (append-nil tail);
-      prints = append-nil tail ∙ e ∙ (rw (offset, text) refl);
-    }
+    (tail, sym (append-nil tail), append-nil tail ∙ e ∙ (rw (offset, text) refl))
 
 -- ---- the whole text
 
@@ -142,16 +144,13 @@ front_copied t tail is_zulu letter tens long cut k (Some s) follows ((w, h, a), 
     let small = h.fits.second in
     let below = a.second in
     let behind : tail ≡ h.decimals ++ h.zone = cut ∙ take_rest t 19 ∙ ap (drop 19) h.whole in
-    let rest = k h.decimals h.zone w.nanosecond w.offset behind h.fraction h.zone_is in
-    let same : h.decimals ++ h.zone ≡ rest.copied ++ zulu_text is_zulu = sym behind ∙ rest.whole in
+    let (copied, whole, prints) = k h.decimals h.zone w.nanosecond w.offset behind h.fraction h.zone_is in
+    let same : h.decimals ++ h.zone ≡ copied ++ zulu_text is_zulu = sym behind ∙ whole in
     record {
-      copied = front ++ rest.copied;
+      copied = front ++ copied;
       whole = h.whole ∙ cc;
-      prints = ap (λ (x : Text). front ++ x) rest.prints ∙ sym (printed_is w _ _ a (omega arith));
+      prints = ap (λ (x : Text). front ++ x) prints ∙ sym (printed_is w _ _ a (omega arith));
     }
-
--- what the check of a whole text rests on
-pub ruleset copied_fronts = (absent_copied, front_copied)
 
 -- ---- the text, which is cut before its zone
 

@@ -41,7 +41,7 @@ pub fn copied_stamp<'a>(text: &'a str, rest: &'a str) -> Option<CopiedStamp<'a>>
 const DATE_AND_CLOCK: usize = 19;
 
 // Whether a `Z` ends the text of a timestamp, where it prints as it is written but for the `Z`.
-#[tactic(auto, using(crate::proofs::TimestampLemmas::CopiedStamp::copied_fronts))]
+#[tactic(auto, using(crate::proofs::TimestampLemmas::CopiedStamp::absent_copied))]
 #[inline(always)]
 fn ends_in_zulu(written: &[u8]) -> Option<bool>
     ensures { IfSome result (spec.IsCopiedText written.now) }
@@ -50,35 +50,27 @@ fn ends_in_zulu(written: &[u8]) -> Option<bool>
     if written.len() < DATE_AND_CLOCK {
         return Some(false);
     }
-    if written[10] == b'T' && written[17] != b'6' {
-        tail_ends_in_zulu(&written[DATE_AND_CLOCK..])
-    } else {
-        None
+    if written[10] != b'T' || written[17] == b'6' {
+        return None;
     }
-}
-
-// The same of what stands behind the seconds.
-#[tactic(auto, using(crate::proofs::TimestampLemmas::CopiedStamp::zulu_copied))]
-#[inline(always)]
-fn tail_ends_in_zulu(tail: &[u8]) -> Option<bool>
-    ensures { IfSome result (spec.IsCopiedTail tail.now) }
-{
+    let tail = &written[DATE_AND_CLOCK..];
+    if let [decimals @ .., b'Z'] = tail {
+        return if are_printed(decimals) {
+            Some(true)
+        } else {
+            None
+        };
+    }
     match tail {
-        [decimals @ .., b'Z'] if are_printed(decimals) => Some(true),
-        _ if ends_in_offset(tail) => Some(false),
+        // `-00:00` prints otherwise.
+        [decimals @ .., sign, h, o, _, _, b'0'..=b'9'] if differ(b'-', *sign, *h, *o) => {
+            return if are_printed(decimals) {
+                Some(false)
+            } else {
+                None
+            };
+        }
         _ => None,
-    }
-}
-
-// Whether the same ends in an offset that prints as it is written. (None behind `-00` is taken: `-00:00` prints `+`.)
-#[inline(always)]
-fn ends_in_offset(tail: &[u8]) -> bool
-    ensures { IsTrue result → spec.IsCopiedTail tail.now false }
-{
-    match tail {
-        [decimals @ .., sign, h, o, _, _, b'0'..=b'9'] if differ(b'-', *sign, *h, *o) =>
-            are_printed(decimals),
-        _ => false,
     }
 }
 
