@@ -9,6 +9,7 @@ use Rattle.std.proofs.lemmas.List.{get_or-append-add, take_rest}
 use Rattle.std.proofs.lemmas.List.Elements.{recursion_from_All}
 use Rattle.std.proofs.lemmas.Str.{IsAscii-take}
 use Rattle.std.specs.Char.{IsAsciiDigit}
+use Rattle.std.proofs.lemmas.Grind.{common_steps}
 use mir.Val.{bool_byte}
 use Rattle.jiff_fmt.specs.Reader.{fraction_value}
 use Rattle.syslog_pieces.specs.Bodies.VerbatimStamp.{zulu_text, zone_text, ArePrinted, IsCopiedText, IsCopiedStamp}
@@ -76,17 +77,12 @@ numeric_printed zone o m =
       )
     ]
 
-module _ {tail : List ℕ} (decimals zone : List ℕ) (e : tail ≡ decimals ++ zone) where
-  -- a byte of it, by its place before the end
-  from_end : (k i : ℕ) → k + i ≡ length zone → get_or tail (length tail - k) 0 ≡ get_or zone i 0
-  from_end k i h =
-      let p : length tail - k ≡ length decimals + i = omega (arith, ap length e, length-append decimals zone) in
-      rw (p, e) (get_or-append-add decimals zone i 0)
+-- a byte of it, by its place before the end, and what stands before it
+from_end : (d zone : List ℕ) (k i : ℕ) → k + i ≡ length zone → get_or (d ++ zone) (length (d ++ zone) - k) 0 ≡ get_or zone i 0
+from_end d zone k i h = grind (arith, common_steps, length-append, get_or-append-add)
 
-  before_zone : (k : ℕ) → k ≡ length zone → take (length tail - k) tail ≡ decimals
-  before_zone k h =
-      let p : length tail - k ≡ length decimals = omega (arith, ap length e, length-append decimals zone) in
-      rw (p, e) (take-append_seam decimals zone)
+before_zone : (d zone : List ℕ) (k : ℕ) → k ≡ length zone → take (length (d ++ zone) - k) (d ++ zone) ≡ d
+before_zone d zone k h = grind (arith, common_steps, length-append, take-append_seam)
 
 -- what stands behind the seconds is what is copied, and perhaps a `Z`; it prints as what is copied and the zone's text
 abbrev IsCopiedTail : List ℕ → Bool → Type 0
@@ -97,24 +93,25 @@ IsCopiedTail tail is_zulu = (decimals zone : List ℕ) (n : ℕ) (o : ℤ) → t
 pub zulu_copied : (tail : List ℕ) → get_or tail (length tail - 1) 0 ≡ 90 → ArePrinted (take (length tail - 1) tail)
     → IsCopiedTail tail true
 unfolding offset_text
-zulu_copied tail last printed decimals zone n o e f (inl (c, z, l, v)) =
-    let c_is : c ≡ 90 = rw z at (sym (from_end decimals zone e 1 0 (sym (ap length z)))) ∙ last in
-    let text = (rw (before_zone decimals zone e 1 (sym (ap length z))) at printed) n f in
-    (decimals, e ∙ (rw (z, c_is) refl), rw (v, text) refl)
-zulu_copied tail last printed decimals zone n o e f (inr m) =
+zulu_copied tail last printed d zone n o e f (inl (c, z, l, v)) =
+    let w : tail ≡ d ++ (c ∷ []) = e ∙ (rw z refl) in
+    let c_is : c ≡ 90 = sym (from_end d (c ∷ []) 1 0 refl) ∙ (rw w at last) in
+    let text = (rw (w, before_zone) at printed) n f in
+    (d, w ∙ (rw c_is refl), rw (v, text) refl)
+zulu_copied tail last printed d zone n o e f (inr m) =
     let (six, digit, _) = numeric_printed zone o m in
-    absurd (omega (arith, from_end decimals zone e 1 5 (sym six)))
+    absurd (omega (arith, from_end d zone 1 5 (sym six), rw e at last))
 
 pub offset_copied : (tail : List ℕ) → get_or tail (length tail - 1) 0 < 58
     → (get_or tail (length tail - 6) 0 ≡ 45 → get_or tail (length tail - 5) 0 ≡ 48 → get_or tail (length tail - 4) 0 ≡ 48
     → ⊥) → ArePrinted (take (length tail - 6) tail) → IsCopiedTail tail false
-offset_copied tail last some printed decimals zone n o e f (inl (c, z, l, v)) =
-    absurd (omega (arith, rw z at (from_end decimals zone e 1 0 (sym (ap length z)))))
-offset_copied tail last some printed decimals zone n o e f (inr m) =
+offset_copied tail last some printed d zone n o e f (inl (c, z, l, v)) =
+    absurd (omega (arith, from_end d (c ∷ []) 1 0 refl, rw (e, z) at last))
+offset_copied tail last some printed d zone n o e f (inr m) =
     let (six, _, shown) = numeric_printed zone o m in
-    let text = (rw (before_zone decimals zone e 6 (sym six)) at printed) n f in
-    let byte = from_end decimals zone e in
-    let offset = shown (λ x y z. some (byte 6 0 (sym six) ∙ x) (byte 5 1 (sym six) ∙ y) (byte 4 2 (sym six) ∙ z)) in
+    let text = (rw (e, before_zone d zone 6 (sym six)) at printed) n f in
+    let byte = from_end d zone in
+    let offset = shown (λ x y z. (rw e at some) (byte 6 0 (sym six) ∙ x) (byte 5 1 (sym six) ∙ y) (byte 4 2 (sym six) ∙ z)) in
     (tail, sym (append-nil tail), append-nil tail ∙ e ∙ (rw (offset, text) refl))
 
 -- ---- the whole text
@@ -192,8 +189,7 @@ module _ {bs rest written : List ℕ} (u : IsUtf8 bs) (v : IsUtf8 rest) (x : IsU
     zulu_fits = omega (arith, zulu_len is_zulu, ap length copy.whole, length-append {A = ℕ})
 
     place : length bs - length left ≡ length written - n
-    place =
-        omega (arith, zulu_len is_zulu, ap length copy.whole, ap length bytes_are, length-append {A = ℕ})
+    place = omega (arith, zulu_len is_zulu, ap length copy.whole, ap length bytes_are, length-append {A = ℕ})
 
     pub zone_cut : IsCharBoundary bs (length written - n)
     zone_cut = rw place at (behind_cut copy.copied bs left front_ascii u bytes_are)

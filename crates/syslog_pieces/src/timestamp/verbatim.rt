@@ -64,11 +64,11 @@ fn ends_in_zulu(written: &[u8]) -> Option<bool>
     match tail {
         // `-00:00` prints otherwise.
         [decimals @ .., sign, h, o, _, _, b'0'..=b'9'] if differ(b'-', *sign, *h, *o) => {
-            return if are_printed(decimals) {
+            if are_printed(decimals) {
                 Some(false)
             } else {
                 None
-            };
+            }
         }
         _ => None,
     }
