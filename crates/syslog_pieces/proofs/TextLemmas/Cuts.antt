@@ -6,7 +6,7 @@ use Rattle.syslog_pieces.proofs.Names.{IsCharBoundary-at_seam, chars, IsUtf8, Is
 use Rattle.syslog_pieces.proofs.TextLemmas.Chars.{chars_cut}
 
 module _ (t r : List ℕ) (u : IsUtf8 t) (z : IsUtf8 r) (p : Text) (whole : chars t ≡ p ++ chars r) where
-  bytes : t ≡ encode_utf8_all p ++ r
+  pub bytes : t ≡ encode_utf8_all p ++ r
   bytes = sym (encodes-chars t u) ∙ ap encode_utf8_all whole ∙ encodes-append p (chars r)
       ∙ ap (λ (x : List ℕ). encode_utf8_all p ++ x) (encodes-chars r z)
 

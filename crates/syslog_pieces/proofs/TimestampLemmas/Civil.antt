@@ -107,7 +107,7 @@ module _ (dt : DateTime) (offset : Offset) (from : pos 0 ≤ℤ dt.date.year) (t
   pub at_offset : IsStampAt dt offset stamp
   at_offset = record { instant = refl; at_offset = refl }
 
-  pub shown : civil_nanos dt ≡ instant_of dt offset +ℤ nanos_of_seconds offset.seconds
+  shown : civil_nanos dt ≡ instant_of dt offset +ℤ nanos_of_seconds offset.seconds
   shown = omega (arith, signed_arith)
 
   -- it prints as what the clock shows

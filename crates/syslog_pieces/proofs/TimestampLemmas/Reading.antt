@@ -2,7 +2,7 @@
 -- fraction, then of a text. And from what a text wrote to the answer, of which there is one.
 use Rattle.std.proofs.Common.{◌≡◌, ℕ, zero, suc, ◌+◌, ◌-◌, ◌*◌, ◌/◌, ◌%◌, ◌^◌, ◌<◌, ◌==◌, true, false, List, [], ◌∷◌}
 use Rattle.std.proofs.Common.{◌++◌, length, take, Some, inl, inr, refl, sym, ap, ◌∙◌, arith, get_or, get_or-take}
-use Rattle.std.proofs.Common.{◌⊎◌, ℤ, pos, neg_ℤ, ◌&&◌, ◌||◌, nat_lt, ◌≤◌, drop, None, subst}
+use Rattle.std.proofs.Common.{◌⊎◌, ℤ, pos, neg_ℤ, ◌&&◌, ◌||◌, nat_lt, ◌≤◌, drop, None}
 use Rattle.std.proofs.Common.{append_assoc, ◌≢◌, Option}
 use Rattle.std.proofs.Math.Seq.{take-append_seam, drop-append_seam}
 use Rattle.std.proofs.Props.{props}
@@ -11,7 +11,7 @@ use Rattle.std.proofs.lemmas.List.{take-append-drop, append_cancel_right, length
 use Rattle.std.proofs.lemmas.List.Elements.{All-append, All-from_recursion}
 use Rattle.std.proofs.lemmas.List.Folds.{length-prefix_len, prefix_len-append}
 use Rattle.std.proofs.lemmas.List.Sums.{prefix_len_is, prefix_len_passes}
-use Rattle.std.proofs.lemmas.Str.{encodes-append, encodes-chars, encodes-IsAscii, IsUtf8-drop}
+use Rattle.std.proofs.lemmas.Str.{encodes-append, encodes-chars, encodes-IsAscii}
 use Rattle.std.specs.Char.{is_ascii_digit, IsAsciiDigit}
 use Rattle.std.specs.List.{All, prefix_len}
 use Rattle.std.specs.Str.{chars, IsAscii, IsUtf8, IsCharBoundary, encode_utf8_all}
@@ -310,11 +310,7 @@ module _ (bs : List ℕ) (u : IsUtf8 bs) where
     pub text_cut : IsCharBoundary bs (length bs - length rest)
     text_cut = behind_cut f.piece bs rest ascii u f.whole
 
-    pub text_utf8 : IsUtf8 rest
-    text_utf8 =
-        subst IsUtf8 (behind_is f.piece bs rest ascii u f.whole _ refl) (IsUtf8-drop bs _ u text_cut)
-
-    abbrev pub text_chars : Front stamp_text (chars bs) (chars rest) w
+    abbrev text_chars : Front stamp_text (chars bs) (chars rest) w
     text_chars = record { piece = f.piece; whole = behind_chars f.piece bs rest ascii u f.whole; is = f.is }
 
     pub text_front : (ys : List ℕ) → ys ≡ drop (length bs - length rest) bs → Front stamp_text (chars bs) (chars ys) w

@@ -15,12 +15,13 @@ use Rattle.syslog_pieces.specs.declared.timestamp.fields.CivilFields.{CivilField
 use Rattle.syslog_pieces.specs.Bodies.StampReading.{written}
 use Rattle.syslog_pieces.specs.declared.timestamp.month_date.Clock.{Clock}
 use Rattle.syslog_pieces.specs.declared.timestamp.rfc3339_text.Day.{Day}
+use Rattle.syslog_pieces.specs.declared.timestamp.rfc3339_text.Rfc3339Fields.{Rfc3339Fields}
 use Rattle.syslog_pieces.specs.Timestamp.{IsStampText}
 use Rattle.syslog_pieces.specs.Timestamp.Fields.{AreCivil, nanos_of_fields}
 use Rattle.syslog_pieces.specs.Timestamp.Canonical.{IsCanonicalStamp, BeginsWithYear, own_year}
 use Rattle.syslog_pieces.specs.Timestamp.Printed.{civil_fields, printed_stamp, date_time_text}
 use Rattle.syslog_pieces.specs.Timestamp.Printed.{year_sign, fraction_text, offset_text}
-use Rattle.syslog_pieces.specs.Timestamp.Rfc3339.{HasStamp, IsOffsetText, fields_of_rfc3339}
+use Rattle.syslog_pieces.specs.Timestamp.Rfc3339.{HasStamp, HasRfc3339Stamp, IsOffsetText, fields_of_rfc3339}
 use Rattle.syslog_pieces.proofs.TimestampLemmas.Civil.{civil_fields-is, datetime_of, civil_nanos-fields}
 use Rattle.syslog_pieces.proofs.TimestampLemmas.Reading.{fraction_text-is, signed_is, writes-of}
 use Rattle.syslog_pieces.proofs.TimestampLemmas.Piece.{each_visible}
@@ -49,7 +50,7 @@ unfolding date_time_text
 text-shape f y more e = rw e (simp append_assoc)
 
 -- fields as they print, and any text of the offset
-pub fields-read : (f : CivilFields) (n o : ℤ) (zone : List ℕ) → pos 0 ≤ℤ f.year → AreCivil f → IsTimestampNanos n
+fields-read : (f : CivilFields) (n o : ℤ) (zone : List ℕ) → pos 0 ≤ℤ f.year → AreCivil f → IsTimestampNanos n
     → nanos_of_fields f ≡ n +ℤ nanos_of_seconds o
     → IsOffsetText zone o → HasStamp (date_time_text f ++ (fraction_text f.nanosecond ++ zone)) n o
 fields-read f n o zone from there range nanos zone_is =
@@ -90,7 +91,7 @@ printed_stamp-back s p =
 
 -- ---- a timestamp that a text has is canonical
 
-pub offset-canonical : (zone : List ℕ) (o : ℤ) → IsOffsetText zone o
+offset-canonical : (zone : List ℕ) (o : ℤ) → IsOffsetText zone o
     → (unsigned_abs o % 60 ≡ 0) × (unsigned_abs o < 86_400)
 offset-canonical zone o (inl zulu) = rw zulu.3 (refl, omega arith)
 offset-canonical zone o (inr n) =
@@ -101,16 +102,21 @@ offset-canonical zone o (inr n) =
       | inr w ↦ rw w.1 (omega (arith, signed_arith), omega (arith, signed_arith))
     ]
 
+-- a clock at the offset shows what the text wrote
+pub shows_written : (w : Rfc3339Fields) (n o : ℤ) → HasRfc3339Stamp w n o
+    → civil_fields (n +ℤ nanos_of_seconds o) ≡ fields_of_rfc3339 w
+shows_written w n o h =
+    let f = fields_of_rfc3339 w in
+    let dt = (datetime_of f h.civil).0 in
+    let count : n +ℤ nanos_of_seconds o ≡ nanos_of_fields f =
+    omega (arith, signed_arith, h.instant, ap nanos_of_seconds h.at_offset) in
+    civil_fields-is dt _ (civil_nanos-fields dt f refl ∙ sym count)
+
 pub stamp_text-canonical : (text : List ℕ) (s : OffsetTimestamp) → IsStampText text s → IsCanonicalStamp s
 stamp_text-canonical text s (w, writes, stamp) =
-    let f = fields_of_rfc3339 w in
     let offset = offset-canonical writes.zone w.offset writes.zone_is in
     let same = stamp.at_offset in
-    let count : s.instant.nanosecond +ℤ nanos_of_seconds s.offset.seconds ≡ nanos_of_fields f =
-    omega (arith, signed_arith, stamp.instant, ap nanos_of_seconds same) in
-    let dt = (datetime_of f stamp.civil).0 in
-    let year : own_year s ≡ pos w.year = ap (λ (g : CivilFields). g.year)
-    (civil_fields-is dt _ (civil_nanos-fields dt f refl ∙ sym count)) in
+    let year : own_year s ≡ pos w.year = ap (λ (g : CivilFields). g.year) (shows_written w _ _ stamp) in
     let fits = writes.fits.year in
     record {
       year_from = omega (arith, signed_arith);

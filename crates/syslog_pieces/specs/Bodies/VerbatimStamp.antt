@@ -1,11 +1,10 @@
 -- Timestamps that print as they are written, but for a `Z`: 43 is `+`, 45 `-`, 58 `:`, 90 `Z`.
-use Rattle.std.specs.Prelude.{◌≡◌, ℕ, ℤ, ◌++◌}
-use Rattle.std.specs.Prelude.{Bool, true, false, List, [], ◌∷◌, Option, MatchOption}
+use Rattle.std.specs.Prelude.{◌≡◌, ℕ, ◌++◌, Bool, true, false, List, [], ◌∷◌, Option, MatchOption}
 use Rattle.syslog_pieces.specs.Pieces.Class.{Text, Front}
 use Rattle.syslog_pieces.specs.Text.{dash}
 use Rattle.syslog_pieces.specs.Timestamp.{IsHeaderStamp, header_stamp}
-use Rattle.syslog_pieces.specs.Timestamp.Printed.{fraction_text, offset_text, printed_stamp}
-use Rattle.syslog_pieces.specs.Timestamp.Rfc3339.{IsFraction, IsOffsetText}
+use Rattle.syslog_pieces.specs.Timestamp.Printed.{fraction_text, printed_stamp}
+use Rattle.syslog_pieces.specs.Timestamp.Rfc3339.{IsFraction}
 use Rattle.syslog_pieces.specs.declared.timestamp.OffsetTimestamp.{OffsetTimestamp}
 
 -- what is written in place of a `Z`: `+00:00`
@@ -21,12 +20,6 @@ zulu_text false = []
 -- decimals, or none, that print as they are written
 abbrev pub ArePrinted : List ℕ → Type 0
 ArePrinted decimals = (n : ℕ) → IsFraction decimals n → fraction_text n ≡ decimals
-
--- what stands behind the seconds is what is copied, and perhaps a `Z`; it prints as what is copied and the zone's text
-abbrev pub IsCopiedTail : List ℕ → Bool → Type 0
-IsCopiedTail tail is_zulu = (decimals zone : List ℕ) (n : ℕ) (o : ℤ) → tail ≡ decimals ++ zone → IsFraction decimals n
-    → IsOffsetText zone o → (copied : List ℕ) × (tail ≡ copied ++ zulu_text is_zulu)
-    × (copied ++ zone_text is_zulu ≡ fraction_text n ++ offset_text o)
 
 -- the text is what is copied, and then the zone; what is copied and the zone's text are what the timestamp prints
 pub record IsCopiedStamp (text zone : Text) (is_zulu : Bool) (value : Option OffsetTimestamp) : Type 0 where

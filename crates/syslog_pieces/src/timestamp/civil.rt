@@ -39,7 +39,7 @@ pub fn month_text(date: MonthDate, dating: &Dating<'_, '_>) -> Option<[u8; 26]>
 
 // Whether there are such a date, in a year from 0 to 9998, and such a time of day: its instant is then in range.
 #[inline(always)]
-pub(super) fn is_civil(fields: CivilFields) -> bool
+fn is_civil(fields: CivilFields) -> bool
     ensures civil { IsTrue result → AreCivil fields }
     ensures year { IsTrue result → (pos 0 ≤ℤ fields.year) × (fields.year <ℤ pos 9999) }
 {

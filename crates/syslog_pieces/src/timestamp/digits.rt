@@ -115,7 +115,7 @@ fn few_decimals(text: &[u8]) -> Option<(u32, &[u8])>
 }
 
 #[inline(always)]
-pub fn three_digits(text: &[u8]) -> Option<(u32, &[u8])>
+fn three_digits(text: &[u8]) -> Option<(u32, &[u8])>
     ensures small { IfSome result (λ read. read.0 < 1_000) }
     ensures text { IfSome result (λ read. text.now ≡ pad3 read.0 ++ read.1.now) }
 {
@@ -130,7 +130,7 @@ pub fn three_digits(text: &[u8]) -> Option<(u32, &[u8])>
 }
 
 #[inline(always)]
-pub fn begins_with_digit(text: &[u8]) -> bool
+fn begins_with_digit(text: &[u8]) -> bool
     ensures { OnFalse result (prefix_len is_ascii_digit text.now ≡ 0) }
 {
     matches!(text, [b'0'..=b'9', ..])

@@ -140,10 +140,10 @@ fn numbers(text: &[u8]) -> Option<(Rfc3339Fields, &[u8])>
     Some((written, text))
 }
 
-/// `YYYY-MM-DD`.
+// `YYYY-MM-DD`.
 #[tactic(auto, unfolding(crate::specs::Bodies::StampReading::date))]
 #[inline(always)]
-pub(super) fn date(text: &[u8]) -> Option<(Day, &[u8])>
+fn date(text: &[u8]) -> Option<(Day, &[u8])>
     ensures value { spec.read_of result ≡ spec.date text.now }
     ensures text { IfSome result (λ read. spec.IsDayBytes text.now read.0 read.1.now) }
 {
@@ -182,9 +182,9 @@ fn seconds(sign: u8, minutes: u32) -> i32
     }
 }
 
-/// `+` or `-`.
+// `+` or `-`.
 #[inline(always)]
-pub(super) fn sign(text: &[u8]) -> Option<(u8, &[u8])>
+fn sign(text: &[u8]) -> Option<(u8, &[u8])>
     ensures value { spec.read_of result ≡ spec.sign text.now }
     ensures text { IfSome result (λ read. ((read.0 ≡ 43) ⊎ (read.0 ≡ 45)) × (text.now ≡ read.0 ∷ read.1.now)) }
 {
@@ -194,10 +194,10 @@ pub(super) fn sign(text: &[u8]) -> Option<(u8, &[u8])>
     }
 }
 
-/// `HH:MM`, in minutes.
+// `HH:MM`, in minutes.
 #[tactic(auto, unfolding(crate::specs::Bodies::StampReading::minutes))]
 #[inline(always)]
-pub(super) fn minutes(text: &[u8]) -> Option<(u32, &[u8])>
+fn minutes(text: &[u8]) -> Option<(u32, &[u8])>
     ensures value { spec.read_of result ≡ spec.minutes text.now }
     ensures in_day { IfSome result (λ read. read.0 < 1440) }
     ensures text { IfSome result (λ read.

@@ -1,8 +1,8 @@
 //! Timestamps of a header that print as they are written, but that a `Z` prints as `+00:00`.
 //!
-//! What prints of a timestamp is what a clock at its offset shows, and that is the digits that stand in the text. So of
-//! most timestamps no instant is computed: it is enough that the calendar has the date and the clock the time. Other
-//! forms (small letters, a fraction that ends in three zeros, second 60, `-00:00`) are left to `header_stamp`.
+//! What prints of a timestamp is what a clock at its offset shows, and those are mostly the digits that stand in its
+//! text. So a timestamp that the reader has read is copied, where a look at a few of its bytes finds no form that prints
+//! otherwise: small letters, second 60, `-00:00`, and decimals that are not the fewest of three, six or nine.
 ghost use Rattle.std.specs.Prelude.{◌≡◌, Option, IfSome, IsTrue, false};
 ghost use Rattle.std.specs.Str.{chars};
 ghost use Rattle.syslog_pieces.specs.Bodies.VerbatimStamp as spec;
@@ -41,7 +41,7 @@ pub fn copied_stamp<'a>(text: &'a str, rest: &'a str) -> Option<CopiedStamp<'a>>
 const DATE_AND_CLOCK: usize = 19;
 
 // Whether a `Z` ends the text of a timestamp, where it prints as it is written but for the `Z`.
-#[tactic(auto, using(crate::proofs::TimestampLemmas::CopiedStamp::copied_fronts))]
+#[tactic(auto, using(crate::proofs::TimestampLemmas::CopiedStamp::absent_copied))]
 #[inline(always)]
 fn ends_in_zulu(written: &[u8]) -> Option<bool>
     ensures { IfSome result (spec.IsCopiedText written.now) }
@@ -50,38 +50,32 @@ fn ends_in_zulu(written: &[u8]) -> Option<bool>
     if written.len() < DATE_AND_CLOCK {
         return Some(false);
     }
-    if written[10] == b'T' && written[17] != b'6' {
-        tail_ends_in_zulu(&written[DATE_AND_CLOCK..])
-    } else {
-        None
+    if written[10] != b'T' || written[17] == b'6' {
+        return None;
     }
-}
-
-// The same of what stands behind the seconds.
-#[inline(always)]
-fn tail_ends_in_zulu(tail: &[u8]) -> Option<bool>
-    ensures { IfSome result (spec.IsCopiedTail tail.now) }
-{
+    let tail = &written[DATE_AND_CLOCK..];
+    if let [decimals @ .., b'Z'] = tail {
+        return if are_printed(decimals) {
+            Some(true)
+        } else {
+            None
+        };
+    }
     match tail {
-        [decimals @ .., b'Z'] if are_printed(decimals) => Some(true),
-        _ if ends_in_offset(tail) => Some(false),
+        // `-00:00` prints otherwise.
+        [decimals @ .., sign, h, o, _, _, b'0'..=b'9'] if differ(b'-', *sign, *h, *o) => {
+            if are_printed(decimals) {
+                Some(false)
+            } else {
+                None
+            }
+        }
         _ => None,
     }
 }
 
-// Whether the same ends in an offset, which prints as it is written but for `-00:00`.
-#[inline(always)]
-fn ends_in_offset(tail: &[u8]) -> bool
-    ensures { IsTrue result → spec.IsCopiedTail tail.now false }
-{
-    match tail {
-        [decimals @ .., sign, h, o, _, _, b'0'..=b'9'] if differ(b'-', *sign, *h, *o) =>
-            are_printed(decimals),
-        _ => false,
-    }
-}
-
-// Whether decimals are printed as they are written: none, or three, six or nine, the last three of which are not zeros.
+// Whether decimals print as they are written: none, or three, six or nine behind a dot, the last three no zeros.
+#[tactic(auto, using(crate::proofs::TimestampLemmas::CopiedStamp::copied_decimals))]
 #[inline(always)]
 fn are_printed(decimals: &[u8]) -> bool
     ensures { IsTrue result → spec.ArePrinted decimals.now }
