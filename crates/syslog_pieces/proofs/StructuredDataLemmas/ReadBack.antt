@@ -212,14 +212,14 @@ bare_verbatim {t = t} {i = i} {q = q} {id = id} f g h =
 
 -- the first parameter has been read
 pub verbatim_first : {t r i u s id : Text} → Front (exactly (91 ∷ [])) t r tt
-    → Front (texted (some_run is_id_char)) r i id → Verbatim (some_run is_blank) (λ _. 32 ∷ []) i u
+    → Front (texted (some_run is_id_char)) r i id → Front (some_run is_blank) i u tt → i ≡ 32 ∷ u
     → Verbatim param bare_param_text u s → VerbatimSoFar t s
-verbatim_first {t = t} {i = i} {u = u} {s = s} {id = id} f g b k q ps more e =
+verbatim_first {t = t} {i = i} {u = u} {s = s} {id = id} f g b space k q ps more e =
     let v = k.value in
-    let gap : Front (run is_blank) i u tt = record { piece = 32 ∷ []; whole = b.whole; is = (b.is.1, b.is.2) } in
+    let gap : Front (run is_blank) i u tt = record { piece = b.piece; whole = b.whole; is = (b.is.1, b.is.2) } in
     let list = list_cons param 32 93 (front_of param bare_param_text u s k) more in
     let close : Front (exactly (93 ∷ [])) (93 ∷ q) q tt = record { piece = 93 ∷ []; whole = refl; is = refl } in
-    let w : i ≡ param_text v ++ (flat_map param_text ps ++ (93 ∷ q)) = cc (b.whole, k.whole, e) in
+    let w : i ≡ param_text v ++ (flat_map param_text ps ++ (93 ∷ q)) = cc (space, k.whole, e) in
     verbatim_by_text element element_text t q (record { id = id; params = v ∷ ps })
     (element_read (row_of start_row (f then g then gap then refl)) (row_of inside_row (list then close then refl)))
     (simp append_assoc (start_text f g ∙ ap (λ (x : Text). 91 ∷ (id ++ x)) (simp append_assoc at w)))

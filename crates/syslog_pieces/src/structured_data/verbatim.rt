@@ -13,8 +13,8 @@ ghost use Rattle.syslog_pieces.specs.StructuredData.Element.{element_text, eleme
 
 use super::element::quoted;
 use super::recognise::{after_bracketed, after_element, nonempty_run};
-use crate::text::verbatim::{Cut, one_space};
-use crate::text::{CharClass, literal};
+use crate::text::verbatim::{Cut, is_one_space};
+use crate::text::{CharClass, literal, some_blanks};
 
 // The text behind the parameter at the front, where no blank stands behind its `=`: then it prints as it is written.
 #[inline(always)]
@@ -39,7 +39,10 @@ fn verbatim_element(text: &str) -> Option<&str>
     if let Some(end) = literal(inner, ']') {
         return Some(end);
     }
-    let first = one_space(inner)?;
+    let first = some_blanks(inner)?;
+    if !is_one_space(inner, first) {
+        return None;
+    }
     let mut rest = verbatim_param(first)?;
     'params: loop {
         if let Some(end) = literal(rest, ']') {
