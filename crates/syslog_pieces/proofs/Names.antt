@@ -33,11 +33,10 @@ pub use denote.Text.{Utf8}
 pub use Rattle.syslog_pieces.specs.Bodies.Closing.{opening, quoted, start, id_alone, inside_row, opening_row, start_row}
 pub use Rattle.syslog_pieces.specs.Bodies.Closing.{quoted_row, inside, closing, byte_count, IsDead, last_char}
 pub use Rattle.syslog_pieces.specs.Bodies.Scan.{SplitsRun, EndsRun, IsBare, IsRun, IsRunIn, bit_of, byte_in, past_in}
-pub use Rattle.syslog_pieces.specs.Bodies.Verbatim.{VerbatimItems, CopiedOn, Copies, IsBareWord, ListPrints}
+pub use Rattle.syslog_pieces.specs.Bodies.Verbatim.{VerbatimItems, IsBareWord, ListPrints, Verbatim}
 pub use Rattle.syslog_pieces.specs.Pieces.Class.{Text, Class, Values, Row, run, some_run, exactly, optional, Each, Ends}
 pub use Rattle.syslog_pieces.specs.Pieces.Class.{Front, NoFront, IsDeterministic, join, mapped, texted}
 pub use Rattle.syslog_pieces.specs.Pieces.Lists.{IsMany, IsMore, IsList, list_before, many, more_before, HasRead}
-pub use Rattle.syslog_pieces.specs.Pieces.Verbatim.{Verbatim}
 pub use Rattle.syslog_pieces.specs.Pieces.View.{shown, text_of, Reads, seen, text_eq}
 pub use Rattle.syslog_pieces.specs.ProcId.{IsBoundedProcess, IsCanonicalProcess, IsI32Text, process_text, process_word}
 pub use Rattle.syslog_pieces.specs.StructuredData.{value, param_row, param, element_row, element_of, element, item}
@@ -55,7 +54,6 @@ pub use Rattle.syslog_pieces.specs.declared.procid.ProcId.{ProcId}
 pub use Rattle.syslog_pieces.specs.declared.procid.ProcId.TheVariants.{PID}
 pub use Rattle.syslog_pieces.specs.declared.structured_data.rfc3164_list.DashRule.{DashRule}
 pub use Rattle.syslog_pieces.specs.declared.text.CharClass.{CharClass}
-pub use Rattle.syslog_pieces.specs.declared.text.verbatim.Cut.{Cut}
 pub use Rattle.syslog_pieces.proofs.PieceLemmas.Class.{◌also◌, heads, front_same, no_front_no, row_none_here}
 pub use Rattle.syslog_pieces.proofs.PieceLemmas.Class.{AllDeterministic, run_det, some_run_det, exactly_det, texted_det}
 pub use Rattle.syslog_pieces.proofs.PieceLemmas.Class.{row_det, behind, optional_some, mapped_det, mapped_front}
@@ -68,4 +66,3 @@ pub use Rattle.syslog_pieces.proofs.PieceLemmas.Lists.{has_read_more, has_read_a
 pub use Rattle.syslog_pieces.proofs.PieceLemmas.Meets.{Meets, meets_here, meets_on, meets_none, match_map, mapped_meets}
 pub use Rattle.syslog_pieces.proofs.PieceLemmas.Rows.{row_of, ◌then◌, row_pieces, no_row, ◌past◌}
 pub use Rattle.syslog_pieces.proofs.PieceLemmas.Tests.{false_is, no_truth}
-pub use Rattle.syslog_pieces.proofs.PieceLemmas.Verbatim.{front_of, verbatim_by_text, verbatim_of}

@@ -2,7 +2,6 @@
 pub mod Class
 pub mod Each
 pub mod Formats
-pub mod Verbatim
 pub mod Kinds
 pub mod Lists
 pub mod Meets

@@ -8,13 +8,11 @@ use Rattle.std.proofs.lemmas.Option.{slice_get_past}
 use Rattle.std.proofs.lemmas.Str.{IsAscii-append}
 use Rattle.std.proofs.lemmas.Str.Ascii.{IsAscii-cons}
 use Rattle.std.specs.Char.{is_ascii_digit}
-use Rattle.std.specs.Fmt.{decimal}
 use Rattle.std.specs.Str.{chars, IsUtf8, IsAscii, IsCharBoundary}
 use Rattle.std.specs.Str.Parse.{digits_value}
 use Rattle.jiff_fmt.specs.Text.{pad2}
 use Rattle.syslog_pieces.specs.Bodies.Looks.{IsPriorityBytes, LeadsAlone}
-use Rattle.syslog_pieces.specs.Pieces.Class.{Text, Each, Front, NoFront, IsDeterministic, Row, Values, exactly}
-use Rattle.syslog_pieces.specs.Pieces.Verbatim.{Verbatim}
+use Rattle.syslog_pieces.specs.Pieces.Class.{Text, Each, Front, NoFront, IsDeterministic, Row, Values}
 use Rattle.syslog_pieces.specs.Text.{number}
 use Rattle.syslog_pieces.specs.Pri.{priority, priority_text, priority_row, facility_number, severity_number}
 use Rattle.syslog_pieces.specs.Pri.{facilities, severities, facility_of, severity_of, composed}
@@ -142,20 +140,7 @@ pub severity_composed : (f : SyslogFacility) (s : SyslogSeverity) → severity_o
 severity_composed f s = let low = severity_low s in let e : composed f s % 8 ≡ severity_number s = omega arith in
     ap (slice_get severities) e ∙ severity_placed s
 
--- ---- a priority that prints as it is written
-pub priority_verbatim : (t a b q : Text) → Front (exactly (60 ∷ [])) t a tt → Verbatim (number 191) decimal a b
-    → Front (exactly (62 ∷ [])) b q tt → (k : Verbatim priority priority_text t q) × (k.value < 192)
-priority_verbatim t a b q f k g =
-    let n = k.value in
-    let (some, each, ends, value, small) = k.is in (
-      record {
-        value = n;
-        whole = begins 60 t a f ∙ ap (λ (x : Text). 60 ∷ x) (k.whole
-            ∙ ap (λ (x : Text). decimal n ++ x) (begins 62 b q g) ∙ sym (append_assoc (decimal n) (62 ∷ []) q));
-        is = is_priority (decimal n) q n some each value (omega arith);
-      },
-      omega arith,
-    )
+-- ---- a priority that prints as it stands
 
 -- the digits of a priority, where no zero leads others behind the bracket
 pub priority_stands : (bs : List ℕ) → IsUtf8 bs → LeadsAlone (drop 1 bs) → (rest : Text) (n : ℕ)

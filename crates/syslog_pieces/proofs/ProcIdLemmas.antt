@@ -7,13 +7,12 @@ use Rattle.syslog_pieces.proofs.Names.{get_or, Some, None, Result, Ok, Err, refl
 use Rattle.syslog_pieces.proofs.Names.{is_ascii_digit, chars, IsUtf8, IsAscii, digits_value, ParsesSigned, IsNumeral}
 use Rattle.syslog_pieces.proofs.Names.{signed_digits_value, cases_Bool, cases_eq, cases_lt, ne_eqb}
 use Rattle.syslog_pieces.proofs.Names.{decimal-digits_value, chars-IsAscii, IsAscii-cons, IsBareWord, SplitsRun, Text}
-use Rattle.syslog_pieces.proofs.Names.{Each, Front, NoFront, IsDeterministic, Verbatim, word, IsI32Text, process_word}
-use Rattle.syslog_pieces.proofs.Names.{process_text, ProcId, PID, verbatim_of}
-use Rattle.syslog_pieces.proofs.Names.{Option, None, encode_utf8_all, is_not_whitespace, true, IsAscii-nil}
+use Rattle.syslog_pieces.proofs.Names.{Each, Front, NoFront, IsDeterministic, word, IsI32Text, process_word}
+use Rattle.syslog_pieces.proofs.Names.{process_text, ProcId, PID, Option, encode_utf8_all, is_not_whitespace, true}
+use Rattle.syslog_pieces.proofs.Names.{IsAscii-nil}
 use Rattle.std.proofs.lemmas.Str.{char_from_byte, length-le-encodes}
 use Rattle.std.specs.Str.Parse.{without_leading_sign}
 use Rattle.syslog_pieces.specs.Bodies.Looks.{LeadsBare}
-use Rattle.syslog_pieces.specs.Bodies.Verbatim.{VerbatimDigits}
 use Rattle.syslog_pieces.specs.ProcId.{IsDigits, WritesSigned, NamesProcess, procid_text}
 use Rattle.syslog_pieces.specs.declared.procid.ProcId.TheVariants.{Name}
 use Rattle.syslog_pieces.proofs.TextLemmas.Chars.{digits_ascii, ascii_ahead, ascii_chars, digit_chars}
@@ -106,7 +105,7 @@ process_front {name = name} i f h = record { piece = f.piece; whole = f.whole; i
 pub absent_front : {t q : Text} → Front word t q None → Front process_word t q None
 absent_front f = record { piece = f.piece; whole = f.whole; is = f.is }
 
--- ---- process ids that print as they are written
+-- ---- process ids that stand as they print
 all_digits : (t : Text) → Each is_ascii_digit t ⊎ (Each is_ascii_digit t → ⊥)
 all_digits [] = inl tt
 all_digits (c ∷ t) = elim (cases_Bool (is_ascii_digit c)) [
@@ -162,19 +161,6 @@ names_itself t l p = elim (all_digits t) [
     lead : get_or t 0 0 ≡ 48 → length t ≡ 1
     lead z = elim (cases_lt 1 (length t)) [ inl more ↦ absurd ((p more).2 z) | inr few ↦ omega (arith, few, l) ]
 
-pub process_verbatim : (text follows name : Text) → Front word text follows (Some name) → IsBareWord name
-    → Verbatim process_word process_text text follows
-unfolding process_front
-process_verbatim text follows name f p =
-    let e : name ≡ f.piece = f.is.4.0 in
-    let (i, n, w) = names_itself name (omega (arith, f.is.0, ap length e)) p in
-    verbatim_of process_word process_text text follows (Some i) (process_front i f n) (sym e ∙ sym w)
-
-pub absent_verbatim : (text follows : Text) → Front word text follows None
-    → Verbatim process_word process_text text follows
-unfolding absent_front
-absent_verbatim text follows f = verbatim_of process_word process_text text follows None (absent_front f) f.is.4
-
 -- an ASCII character before one that is no white space, in bytes
 two_bytes : (k d : ℕ) (more : Text) (bs : List ℕ) → k < 128 → IsUtf8 bs → chars bs ≡ k ∷ d ∷ more
     → is_not_whitespace d ≡ true → (1 < length bs) × (get_or bs 1 0 ≢ 32) × (get_or bs 0 0 ≡ k)
@@ -208,23 +194,3 @@ process_stands bs u h rest (Some i) f =
     let (j, names, prints) = names_itself f.piece w.0 bare in
     let same = process_same f.piece i j (rw w.4.0 at n) names in
     f.whole ∙ ap (λ (x : Text). x ++ rest) (sym prints ∙ ap procid_text (sym same))
-
--- digits, of which the first is 0 only where it is alone
-bare_digits : (t : Text) → Each is_ascii_digit t → (get_or t 0 0 ≡ 48 → length t ≡ 1) → IsBareWord t
-bare_digits [] a lead l = absurd (omega arith)
-bare_digits (c ∷ t) a lead l = let (no_minus, no_plus) = no_sign c t (omega arith, a) in
-    (no_plus, no_minus, λ z. (let e = lead z in omega arith))
-
-pub digits_verbatim : (bs xs ys : List ℕ) → SplitsRun is_ascii_digit bs xs ys → 0 < length xs
-    → (get_or xs 0 0 ≡ 48 → length xs ≡ 1) → VerbatimDigits (chars bs) (chars ys)
-digits_verbatim bs xs ys s l lead =
-    let canonical = digit_chars xs s.front_utf8 s.each in
-    let each = rw canonical at s.each in
-    let (process, names, e) = names_itself xs l (bare_digits xs each lead) in
-    record {
-      process = process;
-      whole = s.characters ∙ ap (λ (x : Text). x ++ chars ys) (canonical ∙ sym e);
-      some = rw e l;
-      digits = rw e each;
-      names = rw e names;
-    }

@@ -1,6 +1,5 @@
 -- Texts by bytes and by characters: runs, numbers and words, and what is printed.
 pub mod Chars
-pub mod Copied
 pub mod Cuts
 pub mod Decimals
 pub mod Verbatim

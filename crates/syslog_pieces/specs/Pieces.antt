@@ -1,7 +1,6 @@
 -- The theory of pieces: what it is to divide a text, whatever its pieces are; and how clauses see texts.
 pub mod Class
 pub mod Format
-pub mod Verbatim
 pub mod Lists
 pub mod Parts
 pub mod View

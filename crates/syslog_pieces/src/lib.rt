@@ -8,8 +8,8 @@
 //! `(Some(LOG_AUTH), Some(SEV_CRIT))`.
 //!
 //! The modules `text::verbatim`, `text::canonical`, `text::write_ascii`, `timestamp::verbatim`, `timestamp::canonical`,
-//! `timestamp::month_date::standard` and `structured_data::canonical`, and the functions `verbatim_..`, serve
-//! `syslog_loose` alone.
+//! `timestamp::month_date::standard` and `structured_data::canonical`, the functions `.._stands`, and
+//! `structured_data::printed_list`, serve `syslog_loose` alone.
 #![tactic(auto)]
 
 pub mod as_str;

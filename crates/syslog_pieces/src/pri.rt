@@ -2,7 +2,8 @@
 //!
 //! The priority of a line is optional; `optional_priority` answers it and the text behind it. Nothing here takes
 //! memory.
-ghost use Rattle.std.specs.Prelude.{◌≡◌, ◌<◌, ◌≤◌, ◌+◌, ◌++◌, [], ◌∷◌, ℕ, IfSome, IsTrue, MatchOption, Some, drop, slice_get};
+ghost use Rattle.std.specs.Prelude.{◌≡◌, ◌<◌, ◌≤◌, ◌+◌, ◌++◌, [], ◌∷◌, ℕ, IfSome, IsTrue, MatchOption, Some, drop};
+ghost use Rattle.std.specs.Prelude.{slice_get};
 ghost use Rattle.std.specs.Bool.{OnFalse};
 ghost use Rattle.std.specs.Fmt.{WritesOnOk};
 ghost use Rattle.std.specs.List.{AllByRecursion};
@@ -11,13 +12,11 @@ ghost use Rattle.std.specs.Str.{chars, encode_utf8_all};
 ghost use Rattle.jiff_fmt.specs.Text.{pad2};
 ghost use Rattle.syslog_pieces.specs.Bodies.Looks.{IsPriorityBytes, LeadsAlone};
 ghost use Rattle.syslog_pieces.specs.Pieces.Class.{Front, Text, optional};
-ghost use Rattle.syslog_pieces.specs.Pieces.Verbatim.{Verbatim};
 ghost use Rattle.syslog_pieces.specs.Pri.{priority_text};
 ghost use Rattle.syslog_pieces.specs.Pri as spec;
 ghost use Rattle.syslog_pieces.specs.Pieces.View.{shown, Reads};
 ghost use Rattle.syslog_pieces.specs.Timestamp.Printed.{pad3};
 
-use crate::text::verbatim::verbatim_number;
 use crate::text::write_ascii::{digit, write_bytes};
 use crate::text::{literal, number};
 use std::fmt;
@@ -279,18 +278,6 @@ pub fn priority_stands(text: &str) -> bool
         → chars text.now ≡ priority_text n ++ rest }
 {
     !opens_with_zero(text.as_bytes())
-}
-
-/// The text behind the priority at the front, where it is below 192 and prints as it is written.
-#[inline(always)]
-pub fn verbatim_priority(text: &str) -> Option<&str>
-    ensures { IfSome result (λ rest. (k : Verbatim spec.priority priority_text (chars text.now) (shown rest))
-        × (k.value < 192)) }
-{
-    let opened = literal(text, '<')?;
-    let closing = verbatim_number(opened, 191)?;
-    let rest = literal(closing, '>')?;
-    Some(rest)
 }
 
 // A priority of one digit as it prints.

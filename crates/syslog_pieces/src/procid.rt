@@ -5,13 +5,12 @@
 ghost use Rattle.std.specs.Bool.{OnFalse};
 ghost use Rattle.std.specs.Cmp.{on_equiv, on_per, partial_equiv_from_equiv};
 ghost use Rattle.std.specs.Ordering.{on};
-ghost use Rattle.std.specs.Prelude.{◌≡◌, ◌↔◌, ◌++◌, IfOk, IfSome, IsTrue, Option, Some, string_bytes};
+ghost use Rattle.std.specs.Prelude.{◌≡◌, ◌↔◌, ◌++◌, IfOk, IsTrue, Option, Some, string_bytes};
 ghost use Rattle.std.specs.Option.{option_map};
 ghost use Rattle.std.specs.Str.{chars, encode_utf8_all};
 ghost use Rattle.syslog_pieces.specs.Bodies.Looks.{LeadsBare};
-ghost use Rattle.syslog_pieces.specs.Bodies.Verbatim.{IsBareWord, VerbatimDigits};
+ghost use Rattle.syslog_pieces.specs.Bodies.Verbatim.{IsBareWord};
 ghost use Rattle.syslog_pieces.specs.Pieces.Class.{Front, Text};
-ghost use Rattle.syslog_pieces.specs.Pieces.Verbatim.{Verbatim};
 ghost use Rattle.syslog_pieces.specs.ProcId.{process_text};
 ghost use Rattle.syslog_pieces.specs.ProcId as spec;
 ghost use Rattle.syslog_pieces.specs.declared.procid.ProcId.{ProcId};
@@ -21,9 +20,8 @@ ghost use Rattle.syslog_pieces.specs.Pieces.View.{shown, text_of, ClonesKeepText
 
 use crate::as_str::{AsStr, is_same_text};
 use crate::text::canonical::is_canonical_word;
-use crate::text::verbatim::has_zero_ahead;
 use crate::text::write_ascii::write_signed;
-use crate::text::{CharClass, few_digits, first, split_run, word};
+use crate::text::{few_digits, first, word};
 use std::alloc::{AllocError, Global};
 use std::fmt;
 
@@ -166,32 +164,6 @@ pub fn process_stands(text: &str) -> bool
         → Front spec.process_word (chars text.now) rest process → chars text.now ≡ process_text process ++ rest }
 {
     !leads_with_mark(text.as_bytes())
-}
-
-/// The text behind the process id at the front, where it prints as it is written.
-#[tactic(auto, using(crate::proofs::ProcIdLemmas::process_verbatim, crate::proofs::ProcIdLemmas::absent_verbatim))]
-#[inline(always)]
-pub fn verbatim_process(text: &str) -> Option<&str>
-    ensures { IfSome result (λ rest. Verbatim spec.process_word process_text (chars text.now) (shown rest)) }
-{
-    let (name, rest) = word(text)?;
-    match name {
-        Some(name) => { if is_bare_word(name) { Some(rest) } else { None } }
-        None => Some(rest),
-    }
-}
-
-/// The text behind the digits at the front, where as a process id they print as they are written.
-#[tactic(auto, using(crate::proofs::ProcIdLemmas::digits_verbatim, crate::proofs::TextLemmas::Chars::nonempty_is))]
-#[inline(always)]
-pub fn verbatim_digits(text: &str) -> Option<&str>
-    ensures { IfSome result (λ rest. VerbatimDigits (chars text.now) (shown rest)) }
-{
-    let (digits, rest) = split_run(text, CharClass::Digit);
-    if digits.is_empty() || has_zero_ahead(digits) {
-        return None;
-    }
-    Some(rest)
 }
 
 /// Whether the text is one of a number of 32 bits.

@@ -24,7 +24,8 @@ pub mod write_ascii;
 pub use fields::{host_field, tag_field};
 pub(crate) use looks::begins_with_letter;
 use looks::{begins_visibly, begins_with, begins_with_digit, begins_with_gap, ends_in_colon};
-pub(crate) use numerals::{few_digits, number_of_digits};
+pub(crate) use numerals::few_digits;
+use numerals::number_of_digits;
 use scan::{ascii_run, is_cut, is_in};
 
 /// A class of characters.
@@ -317,7 +318,7 @@ pub fn number(text: &str, limit: u32) -> Option<(u32, &str)>
 
 // Whether the text is this one byte.
 #[inline(always)]
-pub(crate) fn is_byte(text: &str, byte: u8) -> bool
+fn is_byte(text: &str, byte: u8) -> bool
     ensures { result ≡ bytes_eq text.now (byte ∷ []) }
 {
     match text.as_bytes() {

@@ -2,20 +2,18 @@
 -- lists print as they are written.
 use Rattle.syslog_pieces.proofs.Names.{◌≡◌, ◌≢◌, ℕ, ◌<◌, inl, inr, List, [], ◌∷◌, ◌++◌, length, map, Option, Some, None}
 use Rattle.syslog_pieces.proofs.Names.{refl, sym, ap, subst, ◌∙◌, append_assoc, arith, false, flat_map, AllByRecursion}
-use Rattle.syslog_pieces.proofs.Names.{VerbatimItems, CopiedOn, ListPrints, Text, NoFront, Ends, Values, Front, exactly}
-use Rattle.syslog_pieces.proofs.Names.{run, some_run, texted, IsMany, IsList, IsMore, more_before, param_row, param}
+use Rattle.syslog_pieces.proofs.Names.{VerbatimItems, ListPrints, Text, NoFront, Ends, Values, Front, exactly, run}
+use Rattle.syslog_pieces.proofs.Names.{some_run, texted, IsMany, IsList, IsMore, more_before, param_row, param}
 use Rattle.syslog_pieces.proofs.Names.{element_row, element_of, element, item, strict, forgiving, bracketed}
 use Rattle.syslog_pieces.proofs.Names.{ElementValue, param_text, IsCanonicalParam, IsCanonicalElement, BeginsUnblank}
 use Rattle.syslog_pieces.proofs.Names.{is_blank, is_id_char, is_name_char, heads, ◌also◌, row_pieces, row_of, ◌then◌}
-use Rattle.syslog_pieces.proofs.Names.{is_some, quoted, inside_row, opening_row, start_row, quoted_row, shown}
-use Rattle.syslog_pieces.proofs.Names.{many_here, many_cons, begins, list_here, more_here, Verbatim, Cut}
-use Rattle.syslog_pieces.proofs.Names.{verbatim_by_text, front_of, behind}
+use Rattle.syslog_pieces.proofs.Names.{quoted, inside_row, opening_row, start_row, quoted_row, many_here, many_cons}
+use Rattle.syslog_pieces.proofs.Names.{begins, list_here, more_here, Verbatim, behind}
 use Rattle.syslog_pieces.specs.Bodies.Verbatim.{bare_param_text}
 use Rattle.syslog_pieces.specs.StructuredData.Element.{element_text, joined_elements, elements_text}
 use Rattle.syslog_pieces.proofs.PieceLemmas.Lists.{list_cons, more_cons}
 use Rattle.syslog_pieces.proofs.StructuredDataLemmas.Elements.{item_begins, strict_some, bracketed_item}
 use Rattle.syslog_pieces.proofs.StructuredDataLemmas.Closing.{param_read, element_read}
-use Rattle.syslog_pieces.proofs.TextLemmas.Copied.{verbatim_on, extended, left_out}
 
 -- ---- parameters
 
@@ -185,9 +183,11 @@ param_verbatim {t = t} {a = a} {b = b} {c = c} {u = u} {name = name} {v = v} f g
     let quote : b ≡ 34 ∷ c = begins 34 b c h in
     let whole : t ≡ name ++ (61 ∷ 34 ∷ (v ++ (34 ∷ u))) =
     cc (f.whole, f.is.2, begins 61 a b g, quote, quoted_text q) in
-    verbatim_by_text param bare_param_text t u (name, v)
-    (param_read (row_of opening_row (f then g then no_blanks 34 refl quote then h then refl)) q)
-    (simp append_assoc whole)
+    record {
+      value = (name, v);
+      is = param_read (row_of opening_row (f then g then no_blanks 34 refl quote then h then refl)) q;
+      prints = simp append_assoc whole;
+    }
 
 -- ---- elements
 
@@ -205,32 +205,37 @@ pub bare_verbatim : {t r i q id : Text} → Front (exactly (91 ∷ [])) t r tt �
     → Front (exactly (93 ∷ [])) i q tt → Verbatim element element_text t q
 bare_verbatim {t = t} {i = i} {q = q} {id = id} f g h =
     let close : i ≡ 93 ∷ q = begins 93 i q h in
-    verbatim_by_text element element_text t q (record { id = id; params = [] })
-    (element_read (row_of start_row (f then g then no_blanks 93 refl close then refl))
-    (row_of inside_row (list_here param 32 93 i q close then h then refl)))
-    (start_text f g ∙ ap (λ (x : Text). 91 ∷ x) (ap (λ (x : Text). id ++ x) close ∙ sym (append_assoc id (93 ∷ []) q)))
+    record {
+      value = record { id = id; params = [] };
+      is = element_read (row_of start_row (f then g then no_blanks 93 refl close then refl))
+          (row_of inside_row (list_here param 32 93 i q close then h then refl));
+      prints = simp append_assoc (rw close at (start_text f g));
+    }
 
 -- the first parameter has been read
 pub verbatim_first : {t r i u s id : Text} → Front (exactly (91 ∷ [])) t r tt
-    → Front (texted (some_run is_id_char)) r i id → Verbatim (some_run is_blank) (λ _. 32 ∷ []) i u
+    → Front (texted (some_run is_id_char)) r i id → Front (some_run is_blank) i u tt → i ≡ 32 ∷ u
     → Verbatim param bare_param_text u s → VerbatimSoFar t s
-verbatim_first {t = t} {i = i} {u = u} {s = s} {id = id} f g b k q ps more e =
+verbatim_first {t = t} {i = i} {u = u} {s = s} {id = id} f g b space k q ps more e =
     let v = k.value in
-    let gap : Front (run is_blank) i u tt = record { piece = 32 ∷ []; whole = b.whole; is = (b.is.1, b.is.2) } in
-    let list = list_cons param 32 93 (front_of param bare_param_text u s k) more in
+    let gap : Front (run is_blank) i u tt = record { piece = b.piece; whole = b.whole; is = (b.is.1, b.is.2) } in
+    let list = list_cons param 32 93 k.is more in
     let close : Front (exactly (93 ∷ [])) (93 ∷ q) q tt = record { piece = 93 ∷ []; whole = refl; is = refl } in
-    let w : i ≡ param_text v ++ (flat_map param_text ps ++ (93 ∷ q)) = cc (b.whole, k.whole, e) in
-    verbatim_by_text element element_text t q (record { id = id; params = v ∷ ps })
-    (element_read (row_of start_row (f then g then gap then refl)) (row_of inside_row (list then close then refl)))
-    (simp append_assoc (start_text f g ∙ ap (λ (x : Text). 91 ∷ (id ++ x)) (simp append_assoc at w)))
+    let w : i ≡ param_text v ++ (flat_map param_text ps ++ (93 ∷ q)) = cc (space, k.prints, e) in
+    record {
+      value = record { id = id; params = v ∷ ps };
+      is = element_read (row_of start_row (f then g then gap then refl))
+          (row_of inside_row (list then close then refl));
+      prints = simp append_assoc (start_text f g ∙ ap (λ (x : Text). 91 ∷ (id ++ x)) (simp append_assoc at w));
+    }
 
 -- a further one
 pub verbatim_more : {t s u s' : Text} → VerbatimSoFar t s → Front (exactly (32 ∷ [])) s u tt
     → Verbatim param bare_param_text u s' → VerbatimSoFar t s'
 verbatim_more {s = s} {u = u} {s' = s'} on f k q ps more e =
     let v = k.value in
-    on q (v ∷ ps) (more_cons param 32 93 (begins 32 s u f) (front_of param bare_param_text u s' k) more)
-    (begins 32 s u f ∙ ap (λ (x : Text). 32 ∷ x) (k.whole ∙ ap (λ (x : Text). bare_param_text v ++ x) e)
+    on q (v ∷ ps) (more_cons param 32 93 (begins 32 s u f) k.is more)
+    (begins 32 s u f ∙ ap (λ (x : Text). 32 ∷ x) (k.prints ∙ ap (λ (x : Text). bare_param_text v ++ x) e)
     ∙ sym (append_assoc (param_text v) (flat_map param_text ps) (93 ∷ q)))
 
 -- the bracket that closes the element
@@ -242,11 +247,11 @@ verbatim_end t s q on f =
 -- ---- lists
 
 item_of : {t s : Text} (k : Verbatim element element_text t s) → Front item t s (Some k.value)
-item_of k = record { piece = element_text k.value; whole = k.whole; is = k.is }
+item_of k = record { piece = k.is.piece; whole = k.is.whole; is = k.is.is }
 
 joined : {t s : Text} (q : Text) (k : Verbatim element element_text t s) (es : List ElementValue)
     → s ≡ joined_elements es ++ q → t ≡ joined_elements (k.value ∷ es) ++ q
-joined q k es g = k.whole ∙ ap (λ (x : Text). element_text k.value ++ x) g
+joined q k es g = k.prints ∙ ap (λ (x : Text). element_text k.value ++ x) g
     ∙ sym (append_assoc (element_text k.value) (joined_elements es) q)
 
 pub list_first : {t s : Text} → Verbatim element element_text t s → VerbatimItems t s
@@ -283,33 +288,3 @@ list_prints t s on n = on s s [] (many_here item s (no_bracket s n)) refl
 
 -- what the reader of a list that prints as it stands rests on
 pub ruleset printed_lists = (dash_prints, list_prints, broken_end)
-
--- ---- lists that are copied
-
-pub dash_on : (t s : Text) (cut : Option Cut) → Front (exactly (45 ∷ [])) t s tt
-    → CopiedOn forgiving elements_text t cut s cut
-dash_on t s cut f =
-    verbatim_on forgiving elements_text t s cut (record { value = []; whole = begins 45 t s f; is = inl (refl, refl) })
-
-pub list_on : (t s : Text) (cut : Option Cut) → VerbatimItems t s → NoFront (exactly (91 ∷ [])) s
-    → CopiedOn forgiving elements_text t cut s cut
-list_on t s cut on n =
-    let l = list_prints t s on n in
-    record {
-      value = l.elements;
-      is = l.is;
-      copies = λ w p c. extended w t s (elements_text l.elements) p cut l.prints c;
-    }
-
-pub list_cut : (t q : Text) (cut : Option Cut) (c : Cut) → is_some cut ≡ false → ListPrints t (shown c.gap) q
-    → shown c.next ≡ q → CopiedOn forgiving elements_text t cut q (Some c)
-list_cut t q None c n l e =
-    record {
-      value = l.elements;
-      is = l.is;
-      copies = λ w p d. left_out w t q (elements_text l.elements) p c l.prints e d;
-    }
-list_cut t q (Some d) c n l e = absurd (cc)
-
--- what the reader of a list that prints as it is written rests on
-pub ruleset copied_lists = (dash_on, list_on, list_cut, broken_end)

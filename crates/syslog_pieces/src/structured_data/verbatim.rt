@@ -3,18 +3,17 @@
 //! Each reader answers the text behind the piece, or nothing where the piece prints otherwise or isn't there.
 ghost use Rattle.std.specs.Prelude.{[], ◌∷◌, IfSome};
 ghost use Rattle.std.specs.Str.{chars};
-ghost use Rattle.syslog_pieces.specs.Bodies.Verbatim.{bare_param_text, CopiedOn, ListPrints, VerbatimItems};
+ghost use Rattle.syslog_pieces.specs.Bodies.Verbatim.{bare_param_text, ListPrints, Verbatim, VerbatimItems};
 ghost use Rattle.syslog_pieces.specs.Pieces.Class.{Front, NoFront, exactly};
-ghost use Rattle.syslog_pieces.specs.Pieces.Verbatim.{Verbatim};
 ghost use Rattle.syslog_pieces.specs.Pieces.View.{shown};
 ghost use Rattle.syslog_pieces.specs.StructuredData.{bracketed as bracketed_class, element as element_class};
-ghost use Rattle.syslog_pieces.specs.StructuredData.{forgiving, param as param_class};
-ghost use Rattle.syslog_pieces.specs.StructuredData.Element.{element_text, elements_text};
+ghost use Rattle.syslog_pieces.specs.StructuredData.{param as param_class};
+ghost use Rattle.syslog_pieces.specs.StructuredData.Element.{element_text};
 
 use super::element::quoted;
 use super::recognise::{after_bracketed, after_element, nonempty_run};
-use crate::text::verbatim::{Cut, one_space};
-use crate::text::{CharClass, literal};
+use crate::text::verbatim::is_one_space;
+use crate::text::{CharClass, literal, some_blanks};
 
 // The text behind the parameter at the front, where no blank stands behind its `=`: then it prints as it is written.
 #[inline(always)]
@@ -39,7 +38,10 @@ fn verbatim_element(text: &str) -> Option<&str>
     if let Some(end) = literal(inner, ']') {
         return Some(end);
     }
-    let first = one_space(inner)?;
+    let first = some_blanks(inner)?;
+    if !is_one_space(inner, first) {
+        return None;
+    }
     let mut rest = verbatim_param(first)?;
     'params: loop {
         if let Some(end) = literal(rest, ']') {
@@ -78,27 +80,6 @@ fn last_broken(text: &str) -> Option<&str>
         Some(_) => None,
         None => Some(rest),
     }
-}
-
-/// The text behind the list at the front, where its strict elements print as they are written, and what has been left
-/// out by then: a broken element may stand at its end, if nothing has been left out before. Takes no memory.
-#[tactic(auto, using(crate::proofs::StructuredDataLemmas::ReadBack::copied_lists))]
-#[inline(always)]
-pub fn verbatim_list<'a>(text: &'a str, cut: Option<Cut<'a>>) -> Option<(&'a str, Option<Cut<'a>>)>
-    ensures { IfSome result (λ x. CopiedOn forgiving elements_text (chars text.now) cut.entry (shown x.0) x.1) }
-{
-    if let Some(rest) = literal(text, '-') {
-        return Some((rest, cut));
-    }
-    let gap = verbatim_elements(text)?;
-    let Some(_) = literal(gap, '[') else {
-        return Some((gap, cut));
-    };
-    if cut.is_some() {
-        return None;
-    }
-    let next = last_broken(gap)?;
-    Some((next, Some(Cut { gap, next })))
 }
 
 /// The text behind the printed text of the list at the front, and the text behind the list: its strict elements print
