@@ -1,5 +1,5 @@
-"""The toolchain's own script rt, as a module: it knows the crates, and how an edit is applied, tried and judged. And copies
-of what it built or kept."""
+"""The toolchain's own script rt, as a module: it knows the crates, and how an edit is applied, tried and judged. And
+copies of what it built or kept."""
 import importlib.machinery
 import importlib.util
 import os
@@ -19,7 +19,7 @@ def toolchain():
 
 
 def linked(folder, to, skipped=None):
-    """Copies a folder of built or kept work, by links where that can be: it is large, and rattle writes no file twice."""
+    """Copies built or kept work, by links where that can be: it is large, and rattle writes into no file that is there."""
 
     def link(source, place):
         try:
