@@ -19,7 +19,7 @@ def toolchain():
 
 
 def linked(folder, to, skipped=None):
-    """Copies built or kept work, by links where that can be: it is large, and rattle writes into no file that is there."""
+    """Copies built or kept work, by links where that can be: it is large, and rattle never writes into a file again."""
 
     def link(source, place):
         try:
