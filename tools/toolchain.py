@@ -1,4 +1,5 @@
-"""The toolchain's own script rt, as a module: it knows the crates, and how an edit is applied, tried and judged."""
+"""The toolchain's own script rt, as a module: it knows the crates, and how an edit is applied, tried and judged. And
+copies of what it built or kept."""
 import importlib.machinery
 import importlib.util
 import os
@@ -15,3 +16,15 @@ def toolchain():
     module = importlib.util.module_from_spec(importlib.util.spec_from_loader("rt_script", loader))
     loader.exec_module(module)
     return module
+
+
+def linked(folder, to, skipped=None):
+    """Copies built or kept work, by links where that can be: it is large, and rattle never writes into a file again."""
+
+    def link(source, place):
+        try:
+            os.link(source, place)
+        except OSError:
+            shutil.copy2(source, place)
+
+    shutil.copytree(folder, to, copy_function=link, ignore=skipped)
