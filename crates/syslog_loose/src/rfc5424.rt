@@ -6,7 +6,6 @@ ghost use Rattle.std.specs.Prelude.{◌≡◌, IfOk, IfSome, IsOk, IsTrue, Match
 ghost use Rattle.std.specs.List.{AllByRecursion};
 ghost use Rattle.std.specs.Option.{option_map};
 ghost use Rattle.std.specs.Str.{chars, IsUtf8};
-ghost use Rattle.syslog_pieces.specs.Bodies.Verbatim.{IsBareWord};
 ghost use Rattle.syslog_pieces.specs.Pieces.Class.{Text};
 ghost use Rattle.syslog_pieces.specs.Pieces.View.{seen, shown};
 ghost use Rattle.syslog_pieces.specs.ProcId.{procid_value};
@@ -22,7 +21,7 @@ ghost use Rattle.syslog_pieces.specs.declared.procid.ProcId.{ProcId as ProcIdVal
 use crate::message::{Message, Protocol};
 use std::alloc::{AllocError, Global};
 use syslog_pieces::pri::{optional_priority, parts};
-use syslog_pieces::procid::{ProcId, is_bare_word};
+use syslog_pieces::procid::{ProcId, process_stands};
 use syslog_pieces::structured_data::{StructuredElement, forgiving_list};
 use syslog_pieces::text::verbatim::{is_one_space, number_stands};
 use syslog_pieces::text::{blanks, host, number, some_blanks, word};
@@ -45,17 +44,6 @@ pub(crate) struct Header<'a> {
     pub(crate) tail: &'a str,
     /// Whether all but the priority and the timestamp stands as it would be printed. It may be false of others too.
     pub(crate) stands: bool,
-}
-
-// Whether the word that names a process prints as it stands. It may answer no of others too.
-#[inline(always)]
-fn process_stands(word: Option<&str>) -> bool
-    ensures { IsTrue result → IfSome (seen word.entry) IsBareWord }
-{
-    match word {
-        Some(name) => is_bare_word(name),
-        None => true,
-    }
 }
 
 // Whether all of them are true, by one look.
@@ -95,7 +83,7 @@ pub(crate) fn read_header(priority: Option<u8>, text: &str) -> Option<(Header<'_
         is_one_space(tail, at_host),
         is_one_space(behind_host, at_app),
         is_one_space(behind_app, at_process),
-        process_stands(process),
+        process_stands(at_process),
         is_one_space(behind_process, at_id),
     ]);
     Some((
