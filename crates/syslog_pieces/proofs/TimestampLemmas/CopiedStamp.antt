@@ -131,13 +131,13 @@ pub absent_copied : (t : Text) → length t < 19 → IsCopiedText t false
 absent_copied t short None follows h = record { copied = t; whole = sym (append-nil t); prints = append-nil t ∙ h }
 absent_copied t short (Some s) follows ((w, h, k), space) = absurd (omega (arith, ap length h.whole))
 
-pub front_copied : (t tail : Text) (is_zulu : Bool) → get_or t 10 0 ≡ 84 → get_or t 17 0 ≢ 54 → 19 ≤ length t
+pub front_copied : (t tail : Text) (is_zulu : Bool) → get_or t 10 0 ≡ 84 → get_or t 17 0 < 54 → 19 ≤ length t
     → tail ≡ take (length t - 19) (drop 19 t) → IsCopiedTail tail is_zulu → IsCopiedText t is_zulu
 front_copied t tail is_zulu letter tens long cut k None follows h = absurd (omega (arith, ap length h))
 front_copied t tail is_zulu letter tens long cut k (Some s) follows ((w, h, a), space) =
     let front = date_and_clock 84 w.year w.month w.day w.hour w.minute w.second in
     let letter_is : h.letter ≡ 84 = rw h.whole at letter in
-    let tens_is : 48 + w.second / 10 ≢ 54 = rw h.whole at tens in
+    let tens_is : 48 + w.second / 10 < 54 = rw h.whole at tens in
     let small = h.fits.second in
     let below = a.second in
     let behind : tail ≡ h.decimals ++ h.zone = cut ∙ take_rest t 19 ∙ ap (drop 19) h.whole in

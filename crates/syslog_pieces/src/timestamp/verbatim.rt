@@ -50,7 +50,7 @@ fn ends_in_zulu(written: &[u8]) -> Option<bool>
     if written.len() < DATE_AND_CLOCK {
         return Some(false);
     }
-    if written[10] != b'T' || written[17] == b'6' {
+    if written[10] != b'T' || written[17] >= b'6' {
         return None;
     }
     let tail = &written[DATE_AND_CLOCK..];
