@@ -1,9 +1,9 @@
 -- A timestamp that was read prints as it is written, but for a `Z`.
-use Rattle.syslog_pieces.proofs.Names.{◌≡◌, ◌≢◌, ℕ, suc, ◌+◌, ◌-◌, ◌%◌, ◌<◌, ◌≤◌, Bool, true, false, List, [], ◌∷◌, ◌++◌}
-use Rattle.syslog_pieces.proofs.Names.{length, take, drop, get_or, Option, Some, None, inl, inr, refl, sym, ap, ◌∙◌, arith}
-use Rattle.syslog_pieces.proofs.Names.{append_assoc, append-nil, length-append, append_cancel_right, take-append_seam, ℤ}
-use Rattle.syslog_pieces.proofs.Names.{nat_tests, AllByRecursion, chars, IsUtf8, IsAscii, IsCharBoundary, IsUtf8-from_ascii}
-use Rattle.syslog_pieces.proofs.Names.{chars-IsAscii, encodes-IsAscii, Text, Front}
+use Rattle.syslog_pieces.proofs.Names.{◌≡◌, ◌≢◌, ℕ, suc, ◌+◌, ◌-◌, ◌%◌, ◌<◌, ◌≤◌, Bool, true, false, List, [], ◌∷◌}
+use Rattle.syslog_pieces.proofs.Names.{◌++◌, length, take, drop, get_or, Option, Some, None, inl, inr, refl, sym, ap}
+use Rattle.syslog_pieces.proofs.Names.{◌∙◌, arith, append_assoc, append-nil, length-append, append_cancel_right}
+use Rattle.syslog_pieces.proofs.Names.{take-append_seam, ℤ, nat_tests, AllByRecursion, chars, IsUtf8, IsAscii}
+use Rattle.syslog_pieces.proofs.Names.{IsCharBoundary, IsUtf8-from_ascii, chars-IsAscii, encodes-IsAscii, Text, Front}
 use Rattle.std.proofs.Common.{◌*◌, ◌/◌}
 use Rattle.std.proofs.lemmas.List.{get_or-append-add, take_rest}
 use Rattle.std.proofs.lemmas.List.Elements.{recursion_from_All}
@@ -12,10 +12,12 @@ use Rattle.std.specs.Char.{IsAsciiDigit}
 use Rattle.std.proofs.lemmas.Grind.{common_steps}
 use mir.Val.{bool_byte}
 use Rattle.jiff_fmt.specs.Reader.{fraction_value}
-use Rattle.syslog_pieces.specs.Bodies.VerbatimStamp.{zulu_text, zone_text, ArePrinted, IsCopiedText, IsCopiedStamp}
+use Rattle.syslog_pieces.specs.Bodies.VerbatimStamp.{zulu_text, zone_text, ArePrinted}
+use Rattle.syslog_pieces.specs.Bodies.VerbatimStamp.{IsCopiedText, IsCopiedStamp}
 use Rattle.syslog_pieces.specs.Timestamp.{IsHeaderStamp, header_stamp}
 use Rattle.syslog_pieces.specs.Timestamp.Printed.{printed_stamp, fields_text, fraction_text, offset_text}
-use Rattle.syslog_pieces.specs.Timestamp.Rfc3339.{IsFraction, IsNumericOffset, IsOffsetText, HasRfc3339Stamp, fields_of_rfc3339}
+use Rattle.syslog_pieces.specs.Timestamp.Rfc3339.{IsFraction, IsNumericOffset, IsOffsetText}
+use Rattle.syslog_pieces.specs.Timestamp.Rfc3339.{HasRfc3339Stamp, fields_of_rfc3339}
 use Rattle.syslog_pieces.specs.declared.timestamp.OffsetTimestamp.{OffsetTimestamp}
 use Rattle.syslog_pieces.specs.declared.timestamp.fields.CivilFields.{CivilFields}
 use Rattle.syslog_pieces.specs.declared.timestamp.rfc3339_text.Rfc3339Fields.{Rfc3339Fields}
@@ -78,13 +80,14 @@ numeric_printed zone o m =
     ]
 
 -- a byte of it, by its place before the end, and what stands before it
-from_end : (d zone : List ℕ) (k i : ℕ) → k + i ≡ length zone → get_or (d ++ zone) (length (d ++ zone) - k) 0 ≡ get_or zone i 0
+from_end : (d zone : List ℕ) (k i : ℕ) → k + i ≡ length zone
+    → get_or (d ++ zone) (length (d ++ zone) - k) 0 ≡ get_or zone i 0
 from_end d zone k i h = grind (arith, common_steps, length-append, get_or-append-add)
 
 before_zone : (d zone : List ℕ) (k : ℕ) → k ≡ length zone → take (length (d ++ zone) - k) (d ++ zone) ≡ d
 before_zone d zone k h = grind (arith, common_steps, length-append, take-append_seam)
 
--- what stands behind the seconds is what is copied, and perhaps a `Z`; it prints as what is copied and the zone's text
+-- what stands behind the seconds is what is copied, and perhaps a `Z`, and prints as what is copied and the zone's text
 abbrev IsCopiedTail : List ℕ → Bool → Type 0
 IsCopiedTail tail is_zulu = (decimals zone : List ℕ) (n : ℕ) (o : ℤ) → tail ≡ decimals ++ zone → IsFraction decimals n
     → IsOffsetText zone o → (copied : List ℕ) × (tail ≡ copied ++ zulu_text is_zulu)
@@ -103,15 +106,16 @@ zulu_copied tail last printed d zone n o e f (inr m) =
     absurd (omega (arith, from_end d zone 1 5 (sym six), rw e at last))
 
 pub offset_copied : (tail : List ℕ) → get_or tail (length tail - 1) 0 < 58
-    → (get_or tail (length tail - 6) 0 ≡ 45 → get_or tail (length tail - 5) 0 ≡ 48 → get_or tail (length tail - 4) 0 ≡ 48
-    → ⊥) → ArePrinted (take (length tail - 6) tail) → IsCopiedTail tail false
+    → (get_or tail (length tail - 6) 0 ≡ 45 → get_or tail (length tail - 5) 0 ≡ 48
+    → get_or tail (length tail - 4) 0 ≡ 48 → ⊥) → ArePrinted (take (length tail - 6) tail) → IsCopiedTail tail false
 offset_copied tail last some printed d zone n o e f (inl (c, z, l, v)) =
     absurd (omega (arith, from_end d (c ∷ []) 1 0 refl, rw (e, z) at last))
 offset_copied tail last some printed d zone n o e f (inr m) =
     let (six, _, shown) = numeric_printed zone o m in
     let text = (rw (e, before_zone d zone 6 (sym six)) at printed) n f in
     let byte = from_end d zone in
-    let offset = shown (λ x y z. (rw e at some) (byte 6 0 (sym six) ∙ x) (byte 5 1 (sym six) ∙ y) (byte 4 2 (sym six) ∙ z)) in
+    let offset = shown
+    (λ x y z. (rw e at some) (byte 6 0 (sym six) ∙ x) (byte 5 1 (sym six) ∙ y) (byte 4 2 (sym six) ∙ z)) in
     (tail, sym (append-nil tail), append-nil tail ∙ e ∙ (rw (offset, text) refl))
 
 -- ---- the whole text
@@ -131,13 +135,13 @@ pub absent_copied : (t : Text) → length t < 19 → IsCopiedText t false
 absent_copied t short None follows h = record { copied = t; whole = sym (append-nil t); prints = append-nil t ∙ h }
 absent_copied t short (Some s) follows ((w, h, k), space) = absurd (omega (arith, ap length h.whole))
 
-pub front_copied : (t tail : Text) (is_zulu : Bool) → get_or t 10 0 ≡ 84 → get_or t 17 0 ≢ 54 → 19 ≤ length t
+pub front_copied : (t tail : Text) (is_zulu : Bool) → get_or t 10 0 ≡ 84 → get_or t 17 0 < 54 → 19 ≤ length t
     → tail ≡ take (length t - 19) (drop 19 t) → IsCopiedTail tail is_zulu → IsCopiedText t is_zulu
 front_copied t tail is_zulu letter tens long cut k None follows h = absurd (omega (arith, ap length h))
 front_copied t tail is_zulu letter tens long cut k (Some s) follows ((w, h, a), space) =
     let front = date_and_clock 84 w.year w.month w.day w.hour w.minute w.second in
     let letter_is : h.letter ≡ 84 = rw h.whole at letter in
-    let tens_is : 48 + w.second / 10 ≢ 54 = rw h.whole at tens in
+    let tens_is : 48 + w.second / 10 < 54 = rw h.whole at tens in
     let small = h.fits.second in
     let below = a.second in
     let behind : tail ≡ h.decimals ++ h.zone = cut ∙ take_rest t 19 ∙ ap (drop 19) h.whole in
@@ -194,7 +198,8 @@ module _ {bs rest written : List ℕ} (u : IsUtf8 bs) (v : IsUtf8 rest) (x : IsU
     pub zone_cut : IsCharBoundary bs (length written - n)
     zone_cut = rw place at (behind_cut copy.copied bs left front_ascii u bytes_are)
 
-    pub copied_to : (ys : List ℕ) → ys ≡ drop (length written - n) bs → IsCopiedStamp (chars bs) (chars ys) is_zulu value
+    pub copied_to : (ys : List ℕ) → ys ≡ drop (length written - n) bs
+        → IsCopiedStamp (chars bs) (chars ys) is_zulu value
     copied_to ys e =
         let behind = behind_is copy.copied bs left front_ascii u bytes_are ys (rw place e) in record {
           copied = copy.copied;

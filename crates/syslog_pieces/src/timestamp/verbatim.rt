@@ -1,8 +1,8 @@
 //! Timestamps of a header that print as they are written, but that a `Z` prints as `+00:00`.
 //!
 //! What prints of a timestamp is what a clock at its offset shows, and those are mostly the digits that stand in its
-//! text. So a timestamp that the reader has read is copied, where a look at a few of its bytes finds no form that prints
-//! otherwise: small letters, second 60, `-00:00`, and decimals that are not the fewest of three, six or nine.
+//! text. So a timestamp that the reader has read is copied, where a look at a few of its bytes finds no form that
+//! prints otherwise: small letters, second 60, `-00:00`, and decimals that are not the fewest of three, six or nine.
 ghost use Rattle.std.specs.Prelude.{◌≡◌, Option, IfSome, IsTrue, false};
 ghost use Rattle.std.specs.Str.{chars};
 ghost use Rattle.syslog_pieces.specs.Bodies.VerbatimStamp as spec;
@@ -50,7 +50,7 @@ fn ends_in_zulu(written: &[u8]) -> Option<bool>
     if written.len() < DATE_AND_CLOCK {
         return Some(false);
     }
-    if written[10] != b'T' || written[17] == b'6' {
+    if written[10] != b'T' || written[17] >= b'6' {
         return None;
     }
     let tail = &written[DATE_AND_CLOCK..];
