@@ -38,7 +38,8 @@ pub record IsPlainProgram (text : Text) : Type 0 where
 -- Whatever stands before it, up to a timestamp that is read back, the text prints as it stands: the priority, the
 -- timestamp and it are the next round, which is at rest.
 abbrev pub PrintsBehind : Text → Type 0
-PrintsBehind tail = (dating : Dating) (text : Text) (stamped : Stamped) → IsBehindStamp dating (trimmed text) stamped tail
-    → IfSome stamped.timestamp IsCanonicalStamp → (next : IsNext RFC3164 dating text
+PrintsBehind tail = (dating : Dating) (text : Text) (stamped : Stamped)
+    → IsBehindStamp dating (trimmed text) stamped tail → IfSome stamped.timestamp IsCanonicalStamp
+    → (next : IsNext RFC3164 dating text
     (priority_text (printed_number stamped.priority) ++ (32 ∷ (timestamp_text stamped.timestamp ++ tail))))
     × IsAtRest next.message.protocol next.message
