@@ -55,7 +55,7 @@ fn read_line(priority: Option<u8>, text: &str) -> Option<Line<'_>>
     ensures utf8 { IfSome result (λ line. IsUtf8 line.header.start.now × IsUtf8 line.header.tail.now
         × IsUtf8 line.list.now × IsUtf8 line.gap.now × IsUtf8 line.msg.now) }
 {
-    let Some((header, behind)) = read_header(priority, text) else {
+    let Some((header, behind)) = read_header::<true>(priority, text) else {
         return None;
     };
     let list = blanks(behind);

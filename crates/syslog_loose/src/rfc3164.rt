@@ -145,7 +145,7 @@ fn is_plain_program(name: &str) -> bool
 /// Whether the text behind a timestamp prints as it stands: its names, no list, and its message. It may always answer
 /// no: then the line is read and printed.
 #[inline(always)]
-pub(crate) fn stands_as_printed(text: &str) -> bool
+pub(crate) fn stands_as_printed<const IS_DATED: bool>(text: &str) -> bool
     ensures prints { IsTrue result → PrintsBehind (chars text.now) }
     ensures utf8 { IsUtf8 text.now }
 {

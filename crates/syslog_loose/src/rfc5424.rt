@@ -57,7 +57,10 @@ fn are_all(tests: [bool; 7]) -> bool
 
 // The fields at the front of a text, from what stands behind its priority on, and the text behind them.
 #[inline(always)]
-pub(crate) fn read_header(priority: Option<u8>, text: &str) -> Option<(Header<'_>, &str)>
+pub(crate) fn read_header<const IS_ROUND: bool>(
+    priority: Option<u8>,
+    text: &str,
+) -> Option<(Header<'_>, &str)>
     ensures reads { (whole : Text) → IsBehindPriority whole priority (chars text.now)
         → ReadsHeader whole result }
     ensures stands { IfSome result (λ x. HeaderStands (chars text.now) x.0 (shown x.1)) }
@@ -165,7 +168,7 @@ pub(crate) fn read_behind(
     ensures memory { (whole : Text) → IsBehindPriority (trimmed whole) priority (chars text.now)
         → spec.NeedsNoMemory5424 whole → IsOk result }
 {
-    let Some((header, rest)) = read_header(priority, text) else {
+    let Some((header, rest)) = read_header::<false>(priority, text) else {
         return Ok(None);
     };
     let Some((elements, rest)) = forgiving_list(alloc, blanks(rest))? else {

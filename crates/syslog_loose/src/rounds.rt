@@ -142,7 +142,7 @@ fn dated_round(
         (chars (string_bytes text.new)) settled)
         (λ fault. (fault ≡ Invalid) ↔ IsUnreadable variant (dating_value dating.entry.now) whole)) }
 {
-    if stands_as_printed(tail) {
+    if stands_as_printed::<true>(tail) {
         if let Some(stamp) = month_text(date, dating) {
             write_dated(text, priority, &stamp, tail, input.len())?;
             return Ok(true);
@@ -221,7 +221,7 @@ pub(crate) fn next_round(
 {
     let (priority, rest) = optional_priority(input);
     if let Some((Some(stamp), tail)) = front_stamp(rest, variant) {
-        if stands_as_printed(tail) {
+        if stands_as_printed::<false>(tail) {
             write_stamped(text, priority, stamp, tail, input.len())?;
             return Ok(true);
         }
