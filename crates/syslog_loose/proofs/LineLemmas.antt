@@ -166,19 +166,19 @@ unfolding encode_utf8
 copied_bytes front tail msg is_zulu u v w = simp (encodes-append, encodes-chars, zone_bytes)
 
 joined_bytes : (p v d z h a i n l m : List ℕ)
-    → (p ++ (v ++ ((32 ∷ d) ++ z))) ++ ((32 ∷ h) ++ (((32 ∷ a) ++ ((32 ∷ i) ++ (32 ∷ n))) ++ ((32 ∷ l) ++ (32 ∷ m))))
+    → (p ++ (v ++ ((32 ∷ d) ++ z))) ++ (((32 ∷ h) ++ ((32 ∷ a) ++ ((32 ∷ i) ++ (32 ∷ n)))) ++ ((32 ∷ l) ++ (32 ∷ m)))
     ≡ p ++ (v ++ (32 ∷ ((d ++ z) ++ (32 ∷ (h ++ (32 ∷ (a ++ (32 ∷ (i ++ (32 ∷ (n ++ (32 ∷ (l ++ (32 ∷ m))))))))))))))
 joined_bytes p v d z h a i n l m = simp append_assoc refl
 
-pub named_bytes : (number version : ℕ) (host app process id : Text) (digits list msg : List ℕ) (is_zulu : Bool)
+pub named_encoded : (number version : ℕ) (host app process id : Text) (digits list msg : List ℕ) (is_zulu : Bool)
     → IsUtf8 digits → IsUtf8 list → IsUtf8 msg
     → (priority_text number ++ (decimal version ++ ((32 ∷ digits) ++ zone_text is_zulu)))
-    ++ ((32 ∷ encode_utf8_all host) ++ (((32 ∷ encode_utf8_all app) ++ ((32 ∷ encode_utf8_all process)
-    ++ (32 ∷ encode_utf8_all id))) ++ ((32 ∷ list) ++ (32 ∷ msg))))
+    ++ (((32 ∷ encode_utf8_all host) ++ ((32 ∷ encode_utf8_all app) ++ ((32 ∷ encode_utf8_all process)
+    ++ (32 ∷ encode_utf8_all id)))) ++ ((32 ∷ list) ++ (32 ∷ msg)))
     ≡ encode_utf8_all (priority_text number ++ (decimal version ++ ((32 ∷ (chars digits ++ zone_text is_zulu))
     ++ (32 ∷ (host ++ (32 ∷ (app ++ (32 ∷ (process ++ (32 ∷ (id ++ (32 ∷ (chars list ++ (32 ∷ chars msg))))))))))))))
 unfolding encode_utf8
-named_bytes number version host app process id digits list msg is_zulu u v w =
+named_encoded number version host app process id digits list msg is_zulu u v w =
     joined_bytes (priority_text number) (decimal version) digits (zone_text is_zulu) (encode_utf8_all host)
     (encode_utf8_all app) (encode_utf8_all process) (encode_utf8_all id) list msg
     ∙ sym (simp (encodes-append, encodes-decimal, encodes-chars, zone_bytes))

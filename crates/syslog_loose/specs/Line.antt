@@ -1,11 +1,12 @@
 -- Lines of RFC 5424 whose elements print as they stand. (Words of the bodies alone.)
-use Rattle.std.specs.Prelude.{◌≡◌, ℕ, List, [], ◌∷◌, ◌++◌, Bool, Option}
+use Rattle.std.specs.Prelude.{◌≡◌, ℕ, List, [], ◌∷◌, ◌++◌, Option}
 use Rattle.std.specs.Fmt.{decimal}
+use Rattle.std.specs.Option.{option_map}
 use Rattle.std.specs.Str.{encode_utf8_all}
 use Rattle.syslog_pieces.specs.Bodies.VerbatimStamp.{zone_text}
 use Rattle.syslog_pieces.specs.Pri.{priority_text}
 use Rattle.syslog_pieces.specs.Pieces.Class.{Text, Front, Row, Values, run}
-use Rattle.syslog_pieces.specs.ProcId.{process_text}
+use Rattle.syslog_pieces.specs.ProcId.{process_text, procid_value}
 use Rattle.syslog_pieces.specs.Pieces.View.{seen, shown}
 use Rattle.syslog_pieces.specs.StructuredData.{forgiving}
 use Rattle.syslog_pieces.specs.StructuredData.Element.{ElementValue, elements_text}
@@ -13,8 +14,9 @@ use Rattle.syslog_pieces.specs.Text.{is_blank, name_text}
 use Rattle.syslog_pieces.specs.Timestamp.Zone.{Dating}
 use Rattle.syslog_pieces.specs.declared.procid.ProcId.{ProcId}
 use Rattle.syslog_pieces.specs.declared.timestamp.month_date.MonthDate.{MonthDate}
-use Rattle.syslog_loose.specs.Message.{MessageValue, message_value}
-use Rattle.syslog_loose.specs.Printed.{printed, priority_of}
+use Rattle.syslog_loose.specs.Formats.{printed_number}
+use Rattle.syslog_loose.specs.Message.{MessageValue}
+use Rattle.syslog_loose.specs.Printed.{printed}
 use Rattle.syslog_loose.specs.Reading.{AsksYear, IsOnlyRead}
 use Rattle.syslog_loose.specs.Rfc5424.{header_row, rfc5424_row, message_of, IsRead5424}
 use Rattle.syslog_loose.specs.Start.{IsBehindPriority}
@@ -43,31 +45,23 @@ pub record PrintsLine (text line : Text) : Type 0 where
   pub is : Front (Row rfc5424_row) text [] values
   pub prints : printed (message_of values) ≡ line
 
--- app name, process id and message id as they print, each behind a space, by bytes
-abbrev pub program_bytes : MessageValue → List ℕ
-program_bytes m =
-    (32 ∷ encode_utf8_all (name_text m.appname))
-    ++ ((32 ∷ encode_utf8_all (process_text m.procid)) ++ (32 ∷ encode_utf8_all (name_text m.msgid)))
-
 -- what is written of a line whose names are printed: a priority, a version and a timestamp
-abbrev pub start_of : MessageValue → ℕ → List ℕ → Bool → List ℕ
-start_of m version digits is_zulu =
-    priority_text (priority_of m) ++ (decimal version ++ ((32 ∷ digits) ++ zone_text is_zulu))
-
 abbrev pub start_bytes : NamedLine → List ℕ
 start_bytes line =
-    start_of (message_value (λ s. shown s) line.message.now) line.version line.digits.now line.is_zulu
+    priority_text (printed_number line.header.now.priority) ++ (decimal line.header.now.version
+    ++ ((32 ∷ line.digits.now) ++ zone_text line.is_zulu))
 
--- these, the names, elements and a text
-abbrev pub named_of : MessageValue → ℕ → List ℕ → Bool → List ℕ → List ℕ → List ℕ
-named_of m version digits is_zulu list msg =
-    start_of m version digits is_zulu ++ ((32 ∷ encode_utf8_all (name_text m.hostname)) ++ (program_bytes m
-    ++ ((32 ∷ list) ++ (32 ∷ msg))))
+-- the names, each behind a space
+abbrev pub names_bytes : NamedLine → List ℕ
+names_bytes line =
+    (32 ∷ encode_utf8_all (name_text (seen line.header.now.hostname)))
+    ++ ((32 ∷ encode_utf8_all (name_text (seen line.header.now.appname)))
+    ++ ((32 ∷ encode_utf8_all (process_text (option_map (procid_value (λ s. shown s)) line.process.now)))
+    ++ (32 ∷ encode_utf8_all (name_text (seen line.header.now.msgid)))))
 
+-- these, the elements and the message
 abbrev pub named_bytes : NamedLine → List ℕ
-named_bytes line =
-    named_of (message_value (λ s. shown s) line.message.now) line.version line.digits.now line.is_zulu line.list.now
-    line.msg.now
+named_bytes line = start_bytes line ++ (names_bytes line ++ ((32 ∷ line.list.now) ++ (32 ∷ line.msg.now)))
 
 -- the text is read by the variant as one message, by RFC 5424 and so in whatever year, and these bytes are its printed
 -- text

@@ -6,9 +6,7 @@
 //! otherwise is left to be read and printed as any other.
 ghost use Rattle.std.specs.Prelude.{◌≡◌, ◌++◌, ◌∷◌, IfOk, IfSome, IsOk, IsTrue, OnOk, Option, ℕ, Some, string_bytes};
 ghost use Rattle.std.specs.Fmt.{WritesOnOk};
-ghost use Rattle.std.specs.Option.{option_map};
 ghost use Rattle.std.specs.Str.{chars, encode_utf8_all, IsUtf8};
-ghost use Rattle.std.specs.Fmt.{decimal};
 ghost use Rattle.syslog_pieces.specs.Bodies.VerbatimStamp.{zone_text, IsCopiedStamp};
 ghost use Rattle.syslog_pieces.specs.Pieces.Class.{Text};
 ghost use Rattle.syslog_pieces.specs.Pieces.View.{shown};
@@ -17,20 +15,20 @@ ghost use Rattle.syslog_pieces.specs.Timestamp.Zone.{Dating};
 ghost use Rattle.syslog_pieces.specs.declared.timestamp.month_date.MonthDate.{MonthDate};
 ghost use Rattle.syslog_loose.specs.Formats.{printed_number};
 ghost use Rattle.syslog_loose.specs.Line as spec;
-ghost use Rattle.syslog_loose.specs.Message.{MessageValue, message_value};
+ghost use Rattle.syslog_loose.specs.Message.{MessageValue};
 ghost use Rattle.syslog_loose.specs.Printed.{printed};
 ghost use Rattle.syslog_loose.specs.Reading.{AsksYear, IsUnreadable, OfTrimmed};
-ghost use Rattle.syslog_pieces.specs.Text.{name_text};
 ghost use Rattle.syslog_loose.specs.Rfc5424.{IsNot5424, IsRead5424};
 ghost use Rattle.syslog_loose.specs.Start.{IsBehindPriority};
 
-use crate::message::{Message, make_room, priority, write_name, write_program, write_spaced};
-use crate::rfc5424::{Header, header_message, read_header};
+use crate::message::{make_room, priority, write_name, write_process, write_spaced};
+use crate::rfc5424::{Header, process_of, read_header};
 use crate::variant::Variant;
-use std::alloc::{AllocError, Global};
+use std::alloc::AllocError;
 use std::fmt;
 use std::fmt::Write;
-use syslog_pieces::pri::{priority_stands, write_priority};
+use syslog_pieces::pri::{parts, priority_stands, write_priority};
+use syslog_pieces::procid::ProcId;
 use syslog_pieces::structured_data::printed_list;
 use syslog_pieces::text::blanks;
 use syslog_pieces::text::verbatim::{before, is_one_space};
@@ -149,12 +147,12 @@ fn copied_line<'a>(
     })
 }
 
-// A line whose names are printed one by one: a message without elements, its version, the digits of its timestamp up
-// to the zone, and the elements and the text that are its.
+// A line whose names are printed one by one: its header and the process id there, the digits of its timestamp up to
+// the zone, its elements, and its message.
 #[derive(Clone, Copy)]
 struct NamedLine<'a, 'b> {
-    message: &'b Message<&'a str>,
-    version: u32,
+    header: &'b Header<'a>,
+    process: &'b Option<ProcId<&'a str>>,
     digits: &'a str,
     is_zulu: bool,
     list: &'a str,
@@ -166,11 +164,22 @@ struct NamedLine<'a, 'b> {
 fn write_start<W: fmt::Write>(f: &mut fmt::Formatter<W>, line: &NamedLine<'_, '_>) -> fmt::Result
     ensures { WritesOnOk W.write_str_gives f.old result (spec.start_bytes line.now) f.new }
 {
-    let message = line.message;
-    write_priority(f, priority(message.facility, message.severity))?;
-    write_number(f, line.version)?;
+    let (facility, severity) = parts(line.header.priority);
+    write_priority(f, priority(facility, severity))?;
+    write_number(f, line.header.version)?;
     write_spaced(f, line.digits)?;
     write_zone(f, line.is_zulu)
+}
+
+// Writes the names, each behind a space.
+#[inline(always)]
+fn write_names<W: fmt::Write>(f: &mut fmt::Formatter<W>, line: &NamedLine<'_, '_>) -> fmt::Result
+    ensures { WritesOnOk W.write_str_gives f.old result (spec.names_bytes line.now) f.new }
+{
+    write_name(f, &line.header.hostname)?;
+    write_name(f, &line.header.appname)?;
+    write_process(f, line.process)?;
+    write_name(f, &line.header.msgid)
 }
 
 impl fmt::Display for NamedLine<'_, '_> {
@@ -178,8 +187,7 @@ impl fmt::Display for NamedLine<'_, '_> {
 
     fn fmt<W: fmt::Write>(&self, f: &mut fmt::Formatter<W>) -> fmt::Result {
         write_start(f, self)?;
-        write_name(f, &self.message.hostname)?;
-        write_program(f, self.message)?;
+        write_names(f, self)?;
         write_spaced(f, self.list)?;
         write_spaced(f, self.msg)
     }
@@ -198,7 +206,6 @@ fn print_named(text: &mut String, line: &NamedLine<'_, '_>, length: usize) -> Re
 // Writes the line, its names one by one.
 #[inline(never)]
 fn write_named(
-    alloc: Global,
     text: &mut String,
     line: &Line<'_>,
     stamp: CopiedStamp<'_>,
@@ -209,14 +216,14 @@ fn write_named(
     requires stamp { IsCopiedStamp (shown line.now.header.start) (shown stamp.zone) stamp.is_zulu
         line.now.header.timestamp }
     requires utf8 { IsUtf8 line.now.msg.now }
-    ensures { (whole : Text) (rest : Text) → IsBehindPriority whole line.entry.now.header.priority rest
-        → spec.IsLine line.entry.now.header.priority rest line.entry.now
+    ensures { (whole : Text) (rest : Text) → IsBehindPriority whole line.now.header.priority rest
+        → spec.IsLine line.now.header.priority rest line.now
         → OnOk result ((line : Text) × spec.PrintsLine whole line × (string_bytes text.new ≡ encode_utf8_all line)) }
 {
-    let message = header_message(&line.header, Vec::new(alloc), "");
+    let process = process_of(line.header.process);
     let named = NamedLine {
-        message: &message,
-        version: line.header.version,
+        header: &line.header,
+        process: &process,
         digits: before(line.header.start, stamp.zone),
         is_zulu: stamp.is_zulu,
         list: before(line.list, line.gap),
@@ -231,7 +238,6 @@ fn write_named(
 /// little room. `rest` is what stands behind the priority.
 #[inline(always)]
 fn copied(
-    alloc: Global,
     text: &mut String,
     input: &str,
     number: Option<u8>,
@@ -253,7 +259,11 @@ fn copied(
             make_room(text, input.len())?;
             write!(text, "{copied}")?;
         }
-        None => write_named(alloc, text, &line, stamp, input.len())?,
+        None => {
+            // (A copy: so the line itself need not stand in memory.)
+            let cold = line;
+            write_named(text, &cold, stamp, input.len())?;
+        }
     }
     Ok(true)
 }
@@ -261,7 +271,6 @@ fn copied(
 /// The same, where the variant reads RFC 5424.
 #[inline(always)]
 pub(crate) fn rfc5424_text(
-    alloc: Global,
     text: &mut String,
     input: &str,
     number: Option<u8>,
@@ -279,5 +288,5 @@ pub(crate) fn rfc5424_text(
     if !variant.reads_rfc5424() {
         return Ok(false);
     }
-    copied(alloc, text, input, number, rest)
+    copied(text, input, number, rest)
 }

@@ -18,8 +18,8 @@ mod room;
 
 pub(crate) use canonical::is_canonical_time;
 pub(crate) use exceptions::{has_no_exception, has_no_name_exception};
-pub(crate) use printing::{write_elements, write_name};
-use printing::{write_elements_before, write_process, write_tag, write_timestamp};
+pub(crate) use printing::{write_elements, write_name, write_process};
+use printing::{write_elements_before, write_tag, write_timestamp};
 pub(crate) use room::{make_room, print};
 use std::fmt;
 use syslog_pieces::as_str::AsStr;
@@ -128,7 +128,7 @@ fn write_origin<S: AsStr, W: fmt::Write>(
 
 // Writes the app name, the process id and the message id, each behind a space.
 #[inline]
-pub(crate) fn write_program<S: AsStr, W: fmt::Write>(
+fn write_program<S: AsStr, W: fmt::Write>(
     f: &mut fmt::Formatter<W>,
     message: &Message<S>,
 ) -> fmt::Result

@@ -108,7 +108,7 @@ pub(crate) fn read_header<const IS_ROUND: bool>(
 
 // The process id that a word names.
 #[inline(always)]
-fn process_of(word: Option<&str>) -> Option<ProcId<&str>>
+pub(crate) fn process_of(word: Option<&str>) -> Option<ProcId<&str>>
     ensures { NamesWord (seen word.entry) (option_map (procid_value (λ s. shown s)) result) }
 {
     match word {
@@ -117,9 +117,9 @@ fn process_of(word: Option<&str>) -> Option<ProcId<&str>>
     }
 }
 
-/// The message of a header with these elements and this text.
+// The message of a header with these elements and this text.
 #[inline(always)]
-pub(crate) fn header_message<'a>(
+fn header_message<'a>(
     header: &Header<'a>,
     elements: Vec<StructuredElement<&'a str>>,
     msg: &'a str,

@@ -96,7 +96,7 @@ pub(crate) fn first_round<F: FnOnce(IncompleteDate) -> i32>(
         return Err(ParseFault::Invalid);
     }
     let (priority, rest) = optional_priority(input);
-    let copied = rfc5424_text(alloc, text, input, priority, rest, variant)?;
+    let copied = rfc5424_text(text, input, priority, rest, variant)?;
     if copied {
         return Ok(Round {
             settled: true,
