@@ -143,7 +143,7 @@ fn write_program<S: AsStr, W: fmt::Write>(
 }
 
 // Writes a space and a text.
-#[inline]
+#[inline(always)]
 pub(crate) fn write_spaced<W: fmt::Write>(f: &mut fmt::Formatter<W>, text: &str) -> fmt::Result
     ensures { WritesOnOk W.write_str_gives f.old result (32 ∷ text.now) f.new }
 {
