@@ -48,16 +48,15 @@ pub record PrintsLine (text line : Text) : Type 0 where
 -- what is written of a line whose names are printed: a priority, a version and a timestamp
 abbrev pub start_bytes : NamedLine → List ℕ
 start_bytes line =
-    priority_text (printed_number line.header.now.priority) ++ (decimal line.header.now.version
-    ++ ((32 ∷ line.digits.now) ++ zone_text line.is_zulu))
+    priority_text (printed_number line.priority) ++ (decimal line.version ++ ((32 ∷ line.digits.now)
+    ++ zone_text line.is_zulu))
 
 -- the names, each behind a space
 abbrev pub names_bytes : NamedLine → List ℕ
 names_bytes line =
-    (32 ∷ encode_utf8_all (name_text (seen line.header.now.hostname)))
-    ++ ((32 ∷ encode_utf8_all (name_text (seen line.header.now.appname)))
+    (32 ∷ encode_utf8_all (name_text (seen line.hostname))) ++ ((32 ∷ encode_utf8_all (name_text (seen line.appname)))
     ++ ((32 ∷ encode_utf8_all (process_text (option_map (procid_value (λ s. shown s)) line.process.now)))
-    ++ (32 ∷ encode_utf8_all (name_text (seen line.header.now.msgid)))))
+    ++ (32 ∷ encode_utf8_all (name_text (seen line.msgid)))))
 
 -- these, the elements and the message
 abbrev pub named_bytes : NamedLine → List ℕ

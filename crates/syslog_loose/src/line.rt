@@ -147,14 +147,18 @@ fn copied_line<'a>(
     })
 }
 
-// A line whose names are printed one by one: its header and the process id there, the digits of its timestamp up to
-// the zone, its elements, and its message.
+// A line whose names are printed one by one: the digits of its timestamp up to the zone, and its elements and message
+// as they stand.
 #[derive(Clone, Copy)]
 struct NamedLine<'a, 'b> {
-    header: &'b Header<'a>,
-    process: &'b Option<ProcId<&'a str>>,
+    priority: Option<u8>,
+    version: u32,
     digits: &'a str,
     is_zulu: bool,
+    hostname: Option<&'a str>,
+    appname: Option<&'a str>,
+    process: &'b Option<ProcId<&'a str>>,
+    msgid: Option<&'a str>,
     list: &'a str,
     msg: &'a str,
 }
@@ -164,9 +168,9 @@ struct NamedLine<'a, 'b> {
 fn write_start<W: fmt::Write>(f: &mut fmt::Formatter<W>, line: &NamedLine<'_, '_>) -> fmt::Result
     ensures { WritesOnOk W.write_str_gives f.old result (spec.start_bytes line.now) f.new }
 {
-    let (facility, severity) = parts(line.header.priority);
+    let (facility, severity) = parts(line.priority);
     write_priority(f, priority(facility, severity))?;
-    write_number(f, line.header.version)?;
+    write_number(f, line.version)?;
     write_spaced(f, line.digits)?;
     write_zone(f, line.is_zulu)
 }
@@ -176,10 +180,10 @@ fn write_start<W: fmt::Write>(f: &mut fmt::Formatter<W>, line: &NamedLine<'_, '_
 fn write_names<W: fmt::Write>(f: &mut fmt::Formatter<W>, line: &NamedLine<'_, '_>) -> fmt::Result
     ensures { WritesOnOk W.write_str_gives f.old result (spec.names_bytes line.now) f.new }
 {
-    write_name(f, &line.header.hostname)?;
-    write_name(f, &line.header.appname)?;
+    write_name(f, &line.hostname)?;
+    write_name(f, &line.appname)?;
     write_process(f, line.process)?;
-    write_name(f, &line.header.msgid)
+    write_name(f, &line.msgid)
 }
 
 impl fmt::Display for NamedLine<'_, '_> {
@@ -194,7 +198,7 @@ impl fmt::Display for NamedLine<'_, '_> {
 }
 
 // Writes the line into a text that gets room for the input's length at once.
-#[inline(always)]
+#[inline(never)]
 fn print_named(text: &mut String, line: &NamedLine<'_, '_>, length: usize) -> Result<(), AllocError>
     ensures { OnOk result (string_bytes text.new ≡ spec.named_bytes line.now) }
 {
@@ -204,7 +208,7 @@ fn print_named(text: &mut String, line: &NamedLine<'_, '_>, length: usize) -> Re
 }
 
 // Writes the line, its names one by one.
-#[inline(never)]
+#[inline(always)]
 fn write_named(
     text: &mut String,
     line: &Line<'_>,
@@ -222,10 +226,14 @@ fn write_named(
 {
     let process = process_of(line.header.process);
     let named = NamedLine {
-        header: &line.header,
-        process: &process,
+        priority: line.header.priority,
+        version: line.header.version,
         digits: before(line.header.start, stamp.zone),
         is_zulu: stamp.is_zulu,
+        hostname: line.header.hostname,
+        appname: line.header.appname,
+        process: &process,
+        msgid: line.header.msgid,
         list: before(line.list, line.gap),
         msg: line.msg,
     };
@@ -259,11 +267,7 @@ fn copied(
             make_room(text, input.len())?;
             write!(text, "{copied}")?;
         }
-        None => {
-            // (A copy: so the line itself need not stand in memory.)
-            let cold = line;
-            write_named(text, &cold, stamp, input.len())?;
-        }
+        None => write_named(text, &line, stamp, input.len())?,
     }
     Ok(true)
 }
