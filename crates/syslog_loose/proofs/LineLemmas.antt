@@ -8,13 +8,12 @@ use Rattle.std.specs.Fmt.{decimal}
 use Rattle.std.specs.Prelude.{IfOk, IsTrue, MatchOption}
 use Rattle.std.specs.Str.{chars, IsUtf8, encode_utf8_all}
 use Rattle.std.specs.declared.alloc.AllocError.{AllocError}
-use Rattle.syslog_pieces.specs.Bodies.VerbatimStamp.{zone_text, IsCopiedStamp}
+use Rattle.syslog_pieces.specs.Bodies.CopiedStamp.{zone_text, IsCopiedStamp}
 use Rattle.syslog_pieces.specs.Pieces.Class.{Text, Front, Row, Values}
 use Rattle.syslog_pieces.specs.Pieces.View.{seen, shown}
 use Rattle.syslog_pieces.specs.Pri.{priority_text}
-use Rattle.syslog_pieces.specs.ProcId.{process_text}
 use Rattle.syslog_pieces.specs.StructuredData.Element.{elements_text}
-use Rattle.syslog_pieces.specs.Text.{dash, name_text, trimmed}
+use Rattle.syslog_pieces.specs.Text.{dash, trimmed}
 use Rattle.syslog_pieces.specs.Timestamp.Printed.{printed_stamp}
 use Rattle.syslog_pieces.specs.Timestamp.Zone.{Dating}
 use Rattle.syslog_pieces.specs.declared.procid.ProcId.{ProcId}

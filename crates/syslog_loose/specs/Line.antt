@@ -3,7 +3,7 @@ use Rattle.std.specs.Prelude.{◌≡◌, ℕ, List, [], ◌∷◌, ◌++◌, Opt
 use Rattle.std.specs.Fmt.{decimal}
 use Rattle.std.specs.Option.{option_map}
 use Rattle.std.specs.Str.{encode_utf8_all}
-use Rattle.syslog_pieces.specs.Bodies.VerbatimStamp.{zone_text}
+use Rattle.syslog_pieces.specs.Bodies.CopiedStamp.{zone_text}
 use Rattle.syslog_pieces.specs.Pri.{priority_text}
 use Rattle.syslog_pieces.specs.Pieces.Class.{Text, Front, Row, Values, run}
 use Rattle.syslog_pieces.specs.ProcId.{process_text, procid_value}

@@ -12,8 +12,8 @@ use Rattle.std.specs.Char.{IsAsciiDigit}
 use Rattle.std.proofs.lemmas.Grind.{common_steps}
 use mir.Val.{bool_byte}
 use Rattle.jiff_fmt.specs.Reader.{fraction_value}
-use Rattle.syslog_pieces.specs.Bodies.VerbatimStamp.{zulu_text, zone_text, ArePrinted}
-use Rattle.syslog_pieces.specs.Bodies.VerbatimStamp.{IsCopiedText, IsCopiedStamp}
+use Rattle.syslog_pieces.specs.Bodies.CopiedStamp.{zulu_text, zone_text, ArePrinted}
+use Rattle.syslog_pieces.specs.Bodies.CopiedStamp.{IsCopiedText, IsCopiedStamp}
 use Rattle.syslog_pieces.specs.Timestamp.{IsHeaderStamp, header_stamp}
 use Rattle.syslog_pieces.specs.Timestamp.Printed.{printed_stamp, fields_text, fraction_text, offset_text}
 use Rattle.syslog_pieces.specs.Timestamp.Rfc3339.{IsFraction, IsNumericOffset, IsOffsetText}

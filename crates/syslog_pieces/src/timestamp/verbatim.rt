@@ -5,13 +5,12 @@
 //! prints otherwise: small letters, second 60, `-00:00`, and decimals that are not the fewest of three, six or nine.
 ghost use Rattle.std.specs.Prelude.{◌≡◌, Option, IfSome, IsTrue, false};
 ghost use Rattle.std.specs.Str.{chars};
-ghost use Rattle.syslog_pieces.specs.Bodies.VerbatimStamp as spec;
+ghost use Rattle.syslog_pieces.specs.Bodies.CopiedStamp as spec;
 ghost use Rattle.syslog_pieces.specs.Pieces.Class.{Front};
 ghost use Rattle.syslog_pieces.specs.Pieces.View.{shown};
 ghost use Rattle.syslog_pieces.specs.Timestamp.{header_stamp as header_stamp_class};
 ghost use Rattle.syslog_pieces.specs.declared.timestamp.OffsetTimestamp.{OffsetTimestamp};
 
-use super::header_stamp;
 use crate::text::verbatim::before;
 
 /// How a timestamp that was read is copied: up to its zone.
@@ -93,32 +92,4 @@ fn differ(first: u8, a: u8, b: u8, c: u8) -> bool
     ensures { IsTrue result → a ≡ first → b ≡ 48 → c ≡ 48 → ⊥ }
 {
     a != first || b != b'0' || c != b'0'
-}
-
-/// A timestamp at the front of a text, which is copied up to its zone.
-#[derive(Clone, Copy)]
-pub struct VerbatimStamp<'a> {
-    /// The text from a `Z` on, or the text behind the timestamp.
-    pub zone: &'a str,
-    /// Whether `+00:00` is written in place of a `Z`.
-    pub is_zulu: bool,
-    /// The text behind the timestamp.
-    pub rest: &'a str,
-}
-
-/// The timestamp at the front of a header's text, where it prints as it is written but for a `Z`.
-#[inline(always)]
-pub fn verbatim_stamp(text: &str) -> Option<VerbatimStamp<'_>>
-    ensures { IfSome result (λ stamp.
-        spec.IsVerbatimStamp (chars text.now) (shown stamp.zone) stamp.is_zulu (shown stamp.rest)) }
-{
-    let Some((_, rest)) = header_stamp(text) else {
-        return None;
-    };
-    let copied = copied_stamp(text, rest)?;
-    Some(VerbatimStamp {
-        zone: copied.zone,
-        is_zulu: copied.is_zulu,
-        rest,
-    })
 }

@@ -1,8 +1,6 @@
-use Rattle.std.proofs.Common.{◌≡◌, ◌∷◌, ◌++◌, string_bytes, refl, rules, subst, sym, ◌∙◌}
+use Rattle.std.proofs.Common.{◌≡◌, ◌∷◌, ◌++◌, string_bytes, rules, ◌∙◌}
 use Rattle.std.specs.Str.{chars}
-use Rattle.syslog_pieces.specs.Bodies.VerbatimStamp.{zone_text}
-use Rattle.syslog_pieces.specs.Pieces.View.{seen}
-use Rattle.syslog_loose.proofs.HeaderLemmas.{word_some}
+use Rattle.syslog_pieces.specs.Bodies.CopiedStamp.{zone_text}
 use Rattle.syslog_loose.proofs.LineLemmas.{copied_bytes, own_line, own_line_is, own_number, prints_read}
 use Rattle.syslog_loose.proofs.line.copied.Goals as goal
 

@@ -1,4 +1,4 @@
-use Rattle.std.proofs.Common.{refl, rules}
+use Rattle.std.proofs.Common.{refl}
 use Rattle.syslog_loose.proofs.LineLemmas.{front_there, line_copied, names, start, tail_there}
 use Rattle.syslog_loose.proofs.line.copied_line.Goals as goal
 

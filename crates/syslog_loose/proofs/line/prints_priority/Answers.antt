@@ -1,5 +1,4 @@
-use Rattle.std.proofs.Common.{◌++◌, Some, sym, ap, ◌∙◌}
-use Rattle.syslog_pieces.specs.Pieces.Class.{Text}
+use Rattle.std.proofs.Common.{◌++◌, sym, ap, ◌∙◌}
 use Rattle.syslog_pieces.specs.Pri.{priority, priority_text}
 use Rattle.syslog_pieces.proofs.PieceLemmas.Steps.{present_front}
 use Rattle.syslog_loose.proofs.LineLemmas.{composes}

@@ -1,4 +1,3 @@
-use Rattle.std.proofs.Common.{rules}
 use Rattle.syslog_loose.proofs.line.read_line.Goals as goal
 
 pub returns-clause-line : goal.returns-clause-line

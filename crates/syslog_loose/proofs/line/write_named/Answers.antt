@@ -3,7 +3,7 @@ use Rattle.std.proofs.lemmas.List.{append_cancel_right}
 use Rattle.std.specs.Fmt.{decimal}
 use Rattle.std.specs.Option.{option_map}
 use Rattle.std.specs.Str.{chars, encode_utf8_all}
-use Rattle.syslog_pieces.specs.Bodies.VerbatimStamp.{zone_text}
+use Rattle.syslog_pieces.specs.Bodies.CopiedStamp.{zone_text}
 use Rattle.syslog_pieces.specs.Pieces.Class.{Text}
 use Rattle.syslog_pieces.specs.Pieces.View.{seen, shown}
 use Rattle.syslog_pieces.specs.Pri.{priority_text}

@@ -1,8 +1,8 @@
 -- Timestamps that print as they are written, but for a `Z`: 43 is `+`, 45 `-`, 58 `:`, 90 `Z`.
 use Rattle.std.specs.Prelude.{◌≡◌, ℕ, ◌++◌, Bool, true, false, List, [], ◌∷◌, Option, MatchOption}
-use Rattle.syslog_pieces.specs.Pieces.Class.{Text, Front}
+use Rattle.syslog_pieces.specs.Pieces.Class.{Text}
 use Rattle.syslog_pieces.specs.Text.{dash}
-use Rattle.syslog_pieces.specs.Timestamp.{IsHeaderStamp, header_stamp}
+use Rattle.syslog_pieces.specs.Timestamp.{IsHeaderStamp}
 use Rattle.syslog_pieces.specs.Timestamp.Printed.{fraction_text, printed_stamp}
 use Rattle.syslog_pieces.specs.Timestamp.Rfc3339.{IsFraction}
 use Rattle.syslog_pieces.specs.declared.timestamp.OffsetTimestamp.{OffsetTimestamp}
@@ -32,13 +32,3 @@ pub record IsCopiedStamp (text zone : Text) (is_zulu : Bool) (value : Option Off
 abbrev pub IsCopiedText : List ℕ → Bool → Type 0
 IsCopiedText text is_zulu = (value : Option OffsetTimestamp) (follows : Text) → IsHeaderStamp text follows value
     → IsCopiedStamp text (zulu_text is_zulu) is_zulu value
-
--- the text is what is copied, and then the zone; its timestamp, before the rest, prints as what is copied and the
--- zone's text
-pub record IsVerbatimStamp (text zone : Text) (is_zulu : Bool) (rest : Text) : Type 0 where
-  pub copied : Text
-  pub value : Option OffsetTimestamp
-  pub whole : text ≡ copied ++ zone
-  pub is : Front header_stamp text rest value
-  pub prints : MatchOption value (copied ++ zone_text is_zulu ≡ dash)
-      (λ s. copied ++ zone_text is_zulu ≡ printed_stamp s.instant.nanosecond s.offset.seconds)
