@@ -55,7 +55,8 @@ fn are_all(tests: [bool; 7]) -> bool
     a & b & c & d & e & f & g
 }
 
-// The fields at the front of a text, from what stands behind its priority on, and the text behind them.
+/// The fields at the front of a text, from what stands behind its priority on, and the text behind them. `IS_ROUND` tells
+/// the two callers apart, so that each has a body of its own, compiled in place: one body for both would be called.
 #[inline(always)]
 pub(crate) fn read_header<const IS_ROUND: bool>(
     priority: Option<u8>,
@@ -126,7 +127,8 @@ fn header_message<'a>(
 ) -> Message<&'a str>
     ensures { (process : Option (ProcIdValue Text)) × NamesWord (seen header.now.process) process
         × (message_value (λ s. shown s) result
-        ≡ message_with header.now process (map (element_value (λ s. shown s)) elements.entry.items) (chars msg.entry.now)) }
+        ≡ message_with header.now process (map (element_value (λ s. shown s)) elements.entry.items)
+        (chars msg.entry.now)) }
 {
     let (facility, severity) = parts(header.priority);
     Message {

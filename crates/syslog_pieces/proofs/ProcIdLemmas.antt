@@ -120,8 +120,14 @@ number_or_name t n w (inl fits) = (PID n, (w, fits))
 number_or_name t n w (inr large) = (Name t, (λ m h. large (rw (number_same t m n h.0 w) at h.1), refl))
 
 fits_or_not : (n : ℤ) → FitsSigned w32 n ⊎ (FitsSigned w32 n → ⊥)
-fits_or_not (pos k) = elim (cases_lt k (2 ^ 31)) [ inl low ↦ inl (search rules) | inr high ↦ inr (λ h. omega (arith, h, high)) ]
-fits_or_not (negsuc k) = elim (cases_lt k (2 ^ 31)) [ inl low ↦ inl (search rules) | inr high ↦ inr (λ h. omega (arith, h, high)) ]
+fits_or_not (pos k) = elim (cases_lt k (2 ^ 31)) [
+  | inl low ↦ inl (search rules)
+  | inr high ↦ inr (λ h. omega (arith, h, high))
+]
+fits_or_not (negsuc k) = elim (cases_lt k (2 ^ 31)) [
+  | inl low ↦ inl (search rules)
+  | inr high ↦ inr (λ h. omega (arith, h, high))
+]
 
 pub names_some : (t : Text) → (p : ProcId Text) × NamesProcess t p
 names_some t = elim (all_digits (without_leading_sign t)) [

@@ -10,16 +10,20 @@ before-requires c =
     let k = c.requires.line in
     let h = k.stands.stands c.if-not-line.false in
     let gap = c.if-not-is_one_space.ensures refl in
-    let number = c.if-not-prints_priority.ensures refl _ c.requires.behind in
-    (start _ c.requires.behind k c.requires.stamp h gap number, front_there _ c.requires.behind k c.requires.stamp h gap number)
+    let number = c.if-not-prints_priority.ensures refl _ c.requires.behind in (
+      start _ c.requires.behind k c.requires.stamp h gap number,
+      front_there _ c.requires.behind k c.requires.stamp h gap number,
+    )
 
 pub before-requires-2 : goal.before-requires-2
 before-requires-2 c =
     let k = c.requires.line in
     let h = k.stands.stands c.if-not-line.false in
     let gap = c.if-not-is_one_space.ensures refl in
-    let number = c.if-not-prints_priority.ensures refl _ c.requires.behind in
-    (names _ c.requires.behind k c.requires.stamp h gap number, tail_there _ c.requires.behind k c.requires.stamp h gap number)
+    let number = c.if-not-prints_priority.ensures refl _ c.requires.behind in (
+      names _ c.requires.behind k c.requires.stamp h gap number,
+      tail_there _ c.requires.behind k c.requires.stamp h gap number,
+    )
 
 pub returns-clause-prints : goal.returns-clause-prints
 returns-clause-prints c =

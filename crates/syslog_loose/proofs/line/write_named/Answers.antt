@@ -34,8 +34,9 @@ returns c whole rest b k =
       line_named line b k process named (chars c.before-2.result.now) c.args.stamp.is_zulu
           (rw digits c.requires.stamp.prints),
       c.in_ok-print_named.ensures
-          ∙ named_encoded (printed_number line.header.priority) line.header.version (name_text (seen line.header.hostname))
-          (name_text (seen line.header.appname)) (process_text process) (name_text (seen line.header.msgid))
+          ∙ named_encoded (printed_number line.header.priority) line.header.version
+          (name_text (seen line.header.hostname)) (name_text (seen line.header.appname)) (process_text process)
+          (name_text (seen line.header.msgid))
           c.before-2.result.now c.before-3.result.now line.msg.now c.args.stamp.is_zulu c.before-2.utf8 c.before-3.utf8
           c.requires.utf8
           ∙ ap (λ (x : Text). encode_utf8_all (priority_text (printed_number line.header.priority)

@@ -30,46 +30,63 @@ returns-in_default-clause-reads g c whole f =
 pub returns-in_err-at_host-clause-reads : goal.returns-in_err-at_host-clause-reads
 returns-in_err-at_host-clause-reads g c whole f =
     let n = no_row header_row header_det
-    (f past c.in_ok-version.ensures past c.in_ok-start.ensures past c.in-Some.ensures past inl c.in_err-at_host.ensures) in search rules
+    (f past c.in_ok-version.ensures past c.in_ok-start.ensures past c.in-Some.ensures
+    past inl c.in_err-at_host.ensures) in search rules
 
 pub returns-in_err-hostname-clause-reads : goal.returns-in_err-hostname-clause-reads
 returns-in_err-hostname-clause-reads g c whole f =
     let n = no_row header_row header_det
-    (f past c.in_ok-version.ensures past c.in_ok-start.ensures past c.in-Some.ensures past c.in_ok-at_host.ensures past inl c.in_err-hostname.ensures) in search rules
+    (f past c.in_ok-version.ensures past c.in_ok-start.ensures past c.in-Some.ensures past c.in_ok-at_host.ensures
+    past inl c.in_err-hostname.ensures) in search rules
 
 pub returns-in_err-at_app-clause-reads : goal.returns-in_err-at_app-clause-reads
 returns-in_err-at_app-clause-reads g c whole f =
     let n = no_row header_row header_det
-    (f past c.in_ok-version.ensures past c.in_ok-start.ensures past c.in-Some.ensures past c.in_ok-at_host.ensures past c.in_ok-hostname.ensures past inl c.in_err-at_app.ensures) in search rules
+    (f past c.in_ok-version.ensures past c.in_ok-start.ensures past c.in-Some.ensures past c.in_ok-at_host.ensures
+    past c.in_ok-hostname.ensures past inl c.in_err-at_app.ensures) in search rules
 
 pub returns-in_err-appname-clause-reads : goal.returns-in_err-appname-clause-reads
 returns-in_err-appname-clause-reads g c whole f =
     let n = no_row header_row header_det
-    (f past c.in_ok-version.ensures past c.in_ok-start.ensures past c.in-Some.ensures past c.in_ok-at_host.ensures past c.in_ok-hostname.ensures past c.in_ok-at_app.ensures past inl c.in_err-appname.ensures) in search rules
+    (f past c.in_ok-version.ensures past c.in_ok-start.ensures past c.in-Some.ensures past c.in_ok-at_host.ensures
+    past c.in_ok-hostname.ensures past c.in_ok-at_app.ensures past inl c.in_err-appname.ensures) in search rules
 
 pub returns-in_err-at_process-clause-reads : goal.returns-in_err-at_process-clause-reads
 returns-in_err-at_process-clause-reads g c whole f =
     let n = no_row header_row header_det
-    (f past c.in_ok-version.ensures past c.in_ok-start.ensures past c.in-Some.ensures past c.in_ok-at_host.ensures past c.in_ok-hostname.ensures past c.in_ok-at_app.ensures past c.in_ok-appname.ensures past inl c.in_err-at_process.ensures) in search rules
+    (f past c.in_ok-version.ensures past c.in_ok-start.ensures past c.in-Some.ensures past c.in_ok-at_host.ensures
+    past c.in_ok-hostname.ensures past c.in_ok-at_app.ensures past c.in_ok-appname.ensures
+    past inl c.in_err-at_process.ensures) in search rules
 
 pub returns-in_err-process-clause-reads : goal.returns-in_err-process-clause-reads
 returns-in_err-process-clause-reads g c whole f =
     let n = no_row header_row header_det
-    (f past c.in_ok-version.ensures past c.in_ok-start.ensures past c.in-Some.ensures past c.in_ok-at_host.ensures past c.in_ok-hostname.ensures past c.in_ok-at_app.ensures past c.in_ok-appname.ensures past c.in_ok-at_process.ensures past inl (no_process c.in_err-process.ensures)) in search rules
+    (f past c.in_ok-version.ensures past c.in_ok-start.ensures past c.in-Some.ensures past c.in_ok-at_host.ensures
+    past c.in_ok-hostname.ensures past c.in_ok-at_app.ensures past c.in_ok-appname.ensures
+    past c.in_ok-at_process.ensures past inl (no_process c.in_err-process.ensures)) in search rules
 
 pub returns-in_err-at_id-clause-reads : goal.returns-in_err-at_id-clause-reads
 returns-in_err-at_id-clause-reads g c whole f =
     let n = no_row header_row header_det
-    (f past c.in_ok-version.ensures past c.in_ok-start.ensures past c.in-Some.ensures past c.in_ok-at_host.ensures past c.in_ok-hostname.ensures past c.in_ok-at_app.ensures past c.in_ok-appname.ensures past c.in_ok-at_process.ensures past (process_there c.in_ok-process.ensures).1 past inl c.in_err-at_id.ensures) in search rules
+    (f past c.in_ok-version.ensures past c.in_ok-start.ensures past c.in-Some.ensures past c.in_ok-at_host.ensures
+    past c.in_ok-hostname.ensures past c.in_ok-at_app.ensures past c.in_ok-appname.ensures
+    past c.in_ok-at_process.ensures past (process_there c.in_ok-process.ensures).1
+    past inl c.in_err-at_id.ensures) in search rules
 
 pub returns-in_err-msgid-clause-reads : goal.returns-in_err-msgid-clause-reads
 returns-in_err-msgid-clause-reads g c whole f =
     let n = no_row header_row header_det
-    (f past c.in_ok-version.ensures past c.in_ok-start.ensures past c.in-Some.ensures past c.in_ok-at_host.ensures past c.in_ok-hostname.ensures past c.in_ok-at_app.ensures past c.in_ok-appname.ensures past c.in_ok-at_process.ensures past (process_there c.in_ok-process.ensures).1 past c.in_ok-at_id.ensures past inl c.in_err-msgid.ensures) in search rules
+    (f past c.in_ok-version.ensures past c.in_ok-start.ensures past c.in-Some.ensures past c.in_ok-at_host.ensures
+    past c.in_ok-hostname.ensures past c.in_ok-at_app.ensures past c.in_ok-appname.ensures
+    past c.in_ok-at_process.ensures past (process_there c.in_ok-process.ensures).1 past c.in_ok-at_id.ensures
+    past inl c.in_err-msgid.ensures) in search rules
 
 pub returns-clause-reads : goal.returns-clause-reads
 returns-clause-reads g c whole f = λ process n.
-    row_of header_row (f then c.in_ok-version.ensures then c.in_ok-start.ensures then c.in-Some.ensures then c.in_ok-at_host.ensures then c.in_ok-hostname.ensures then c.in_ok-at_app.ensures then c.in_ok-appname.ensures then c.in_ok-at_process.ensures then (process_named c.in_ok-process.ensures n) then c.in_ok-at_id.ensures then c.in_ok-msgid.ensures then refl)
+    row_of header_row (f then c.in_ok-version.ensures then c.in_ok-start.ensures then c.in-Some.ensures
+    then c.in_ok-at_host.ensures then c.in_ok-hostname.ensures then c.in_ok-at_app.ensures
+    then c.in_ok-appname.ensures then c.in_ok-at_process.ensures then (process_named c.in_ok-process.ensures n)
+    then c.in_ok-at_id.ensures then c.in_ok-msgid.ensures then refl)
 
 pub returns-clause-stands : goal.returns-clause-stands
 returns-clause-stands g c = record {
@@ -85,7 +102,7 @@ returns-clause-stands g c = record {
             ∙ ap (λ (x : Text). decimal c.in_ok-version.version ++ x) (c.is_one_space.ensures first);
         names = names_joined _ _ _ (name_text (seen c.in_ok-msgid.msgid)) (shown c.in_ok-msgid.rest)
             (c.is_one_space-2.ensures second) (host_stands _ _ _ c.in_ok-hostname.ensures)
-            (c.is_one_space-3.ensures third) (word_stands _ _ _ c.in_ok-appname.ensures) (c.is_one_space-4.ensures fourth)
-            prints (c.is_one_space-5.ensures fifth) (word_stands _ _ _ c.in_ok-msgid.ensures);
+            (c.is_one_space-3.ensures third) (word_stands _ _ _ c.in_ok-appname.ensures)
+            (c.is_one_space-4.ensures fourth) prints (c.is_one_space-5.ensures fifth) (word_stands _ _ _ c.in_ok-msgid.ensures);
       };
 }
