@@ -55,8 +55,8 @@ fn are_all(tests: [bool; 7]) -> bool
     a & b & c & d & e & f & g
 }
 
-/// The fields at the front of a text, from what stands behind its priority on, and the text behind them. `IS_ROUND` tells
-/// the two callers apart, so that each has a body of its own, compiled in place: one body for both would be called.
+/// The fields at the front of a text, from what stands behind its priority on, and the text behind them. `IS_ROUND`
+/// tells the two callers apart, so that each has a body of its own, compiled in place: one for both would be called.
 #[inline(always)]
 pub(crate) fn read_header<const IS_ROUND: bool>(
     priority: Option<u8>,

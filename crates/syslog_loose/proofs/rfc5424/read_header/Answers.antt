@@ -103,6 +103,7 @@ returns-clause-stands g c = record {
         names = names_joined _ _ _ (name_text (seen c.in_ok-msgid.msgid)) (shown c.in_ok-msgid.rest)
             (c.is_one_space-2.ensures second) (host_stands _ _ _ c.in_ok-hostname.ensures)
             (c.is_one_space-3.ensures third) (word_stands _ _ _ c.in_ok-appname.ensures)
-            (c.is_one_space-4.ensures fourth) prints (c.is_one_space-5.ensures fifth) (word_stands _ _ _ c.in_ok-msgid.ensures);
+            (c.is_one_space-4.ensures fourth) prints (c.is_one_space-5.ensures fifth)
+            (word_stands _ _ _ c.in_ok-msgid.ensures);
       };
 }
