@@ -1,19 +1,18 @@
--- Lines of RFC 5424 whose elements print as they stand, put together from their pieces.
-use Rattle.std.proofs.Common.{◌≡◌, ◌≢◌, ℕ, ◌<◌, List, [], ◌∷◌, ◌++◌, Bool, true, false, Option, None, Some}
-use Rattle.std.proofs.Common.{Result, Ok, Err, refl, sym, ap, ap₂, subst, ◌∙◌, append_assoc}
-use Rattle.std.proofs.lemmas.List.{append_cancel_right}
+-- Lines of RFC 5424, written as their messages print.
+use Rattle.std.proofs.Common.{◌≡◌, ◌≢◌, ℕ, List, [], ◌∷◌, ◌++◌, Bool, true, false, Option, None, Some}
+use Rattle.std.proofs.Common.{Result, Ok, Err, refl, sym, ap, ap₂, ◌∙◌, append_assoc}
 use Rattle.std.proofs.lemmas.Str.{encodes-append, encodes-chars}
 use Rattle.std.specs.Char.{encode_utf8}
 use Rattle.std.specs.Fmt.{decimal}
-use Rattle.std.specs.Prelude.{IfOk, IsTrue, MatchOption}
+use Rattle.std.specs.Prelude.{IfOk, MatchBool, MatchOption}
 use Rattle.std.specs.Str.{chars, IsUtf8, encode_utf8_all}
 use Rattle.std.specs.declared.alloc.AllocError.{AllocError}
-use Rattle.syslog_pieces.specs.Bodies.CopiedStamp.{zone_text, IsCopiedStamp}
-use Rattle.syslog_pieces.specs.Pieces.Class.{Text, Front, Row, Values}
-use Rattle.syslog_pieces.specs.Pieces.View.{seen, shown}
+use Rattle.syslog_pieces.specs.Bodies.CopiedStamp.{zone_text}
+use Rattle.syslog_pieces.specs.Pieces.Class.{Text, Front, Row, Values, run}
 use Rattle.syslog_pieces.specs.Pri.{priority_text}
-use Rattle.syslog_pieces.specs.StructuredData.Element.{elements_text}
-use Rattle.syslog_pieces.specs.Text.{dash, trimmed}
+use Rattle.syslog_pieces.specs.StructuredData.{forgiving}
+use Rattle.syslog_pieces.specs.StructuredData.Element.{ElementValue, elements_text}
+use Rattle.syslog_pieces.specs.Text.{dash, is_blank, trimmed}
 use Rattle.syslog_pieces.specs.Timestamp.Printed.{printed_stamp}
 use Rattle.syslog_pieces.specs.Timestamp.Zone.{Dating}
 use Rattle.syslog_pieces.specs.declared.procid.ProcId.{ProcId}
@@ -21,155 +20,69 @@ use Rattle.syslog_pieces.specs.declared.timestamp.OffsetTimestamp.{OffsetTimesta
 use Rattle.syslog_pieces.specs.declared.timestamp.month_date.MonthDate.{MonthDate}
 use Rattle.syslog_pieces.proofs.PieceLemmas.Class.{both_values, rest_front, rows_join}
 use Rattle.syslog_pieces.proofs.PieceLemmas.Rows.{row_of, ◌then◌}
-use Rattle.syslog_pieces.proofs.PriLemmas.{priority_composed}
 use Rattle.syslog_pieces.proofs.TextLemmas.Decimals.{encodes-decimal}
 use Rattle.syslog_loose.specs.Formats.{printed_number}
-use Rattle.syslog_loose.specs.Line.{IsLine, PrintsLine, PrintsAs5424}
-use Rattle.syslog_loose.specs.Message.{MessageValue}
-use Rattle.syslog_loose.specs.Printed.{printed, printed_5424, timestamp_text}
+use Rattle.syslog_loose.specs.Line.{IsTold5424, PrintsAs5424, PrintsMessage}
+use Rattle.syslog_loose.specs.Printed.{printed_5424, timestamp_text}
 use Rattle.syslog_loose.specs.Reading.{AsksYear, IsUnreadable}
 use Rattle.syslog_loose.specs.Rfc5424.{header_row, data_row, rfc5424_row, message_of, IsRead5424, IsNot5424}
-use Rattle.syslog_loose.specs.Start.{IsBehindPriority}
-use Rattle.syslog_loose.specs.View5424.{NamesWord, PrintsHeader, header_values, names_before}
-use Rattle.syslog_loose.specs.declared.line.Line.{Line}
+use Rattle.syslog_loose.specs.View5424.{header_values, names_before}
 use Rattle.syslog_loose.specs.declared.rfc5424.Header.{Header}
 use Rattle.syslog_loose.specs.declared.variant.Variant.{Variant}
 use Rattle.syslog_loose.specs.declared.variant.Variant.TheVariants.{Either, RFC3164, RFC5424}
-use Rattle.syslog_loose.proofs.HeaderLemmas.{word_some}
 use Rattle.syslog_loose.proofs.ReadingLemmas.{only_read, strictly}
 use Rattle.syslog_loose.proofs.Rfc3164Lemmas.Apart.{shown_apart}
 use Rattle.syslog_loose.proofs.Rfc5424Lemmas.{is_read}
 use Rattle.syslog_loose.proofs.Rfc3164Lemmas.Shown.{shows_month_date}
 
-pub composes : (pri : ℕ) → pri < 192 → printed_number (Some pri) ≡ pri
-composes pri small = let (f, s, there, told, same) = priority_composed pri small in rw (there, told) same
+-- the text that is written of a header, the printed text of its timestamp, of its elements, and its message
+abbrev pub line_text : Header → Option (ProcId Text) → Text → Text → Text → Text
+line_text h process stamp list msg = priority_text (printed_number h.priority) ++ (decimal h.version
+    ++ ((32 ∷ stamp) ++ names_before h process (32 ∷ (list ++ (32 ∷ msg)))))
 
--- the printed timestamp is what is copied of it, and what stands in place of a `Z`
-pub stamp_prints : (value : Option OffsetTimestamp) (text : Text)
+stamp_prints : (value : Option OffsetTimestamp) (text : Text)
     → MatchOption value (text ≡ dash) (λ s. text ≡ printed_stamp s.instant.nanosecond s.offset.seconds)
     → timestamp_text value ≡ text
 stamp_prints None text h = sym h
 stamp_prints (Some s) text h = sym h
 
--- ---- the pieces
+module _ {text behind list end msg : Text} {elements : List ElementValue} (h : Header) (process : Option (ProcId Text))
+    (header : Front (Row header_row) text behind (header_values h process)) (gap : Front (run is_blank) behind list tt)
+    (read : Front forgiving list end elements) (last : Front (run is_blank) end msg tt) where
+  abbrev line_values : Values rfc5424_row
+  line_values = both_values header_row data_row (header_values h process) (tt, (elements, (tt, (msg, tt))))
 
-module _ {text rest : Text} (line : Line) (b : IsBehindPriority text line.header.priority rest)
-    (k : IsLine line.header.priority rest line) (process : Option (ProcId Text))
-    (named : NamesWord (seen line.header.process) process) where
-  abbrev pub line_values : Values rfc5424_row
-  line_values = both_values header_row data_row (header_values line.header process)
-      (tt, (k.elements, (tt, (shown line.msg, tt))))
+  -- the text is read as the message of these pieces
+  pub line_read : (whole : Text) → text ≡ trimmed whole → IsRead5424 whole (message_of line_values)
+  line_read whole e = is_read whole text line_values _ e refl (rows_join header_row data_row header
+      (row_of data_row (gap then read then last then rest_front msg then refl)))
 
-  pub line_row : Front (Row rfc5424_row) text [] line_values
-  line_row = rows_join header_row data_row (k.header text b process named)
-      (row_of data_row (k.blanks then k.list then k.msg then rest_front (shown line.msg) then refl))
-
-  -- so a text that is one when it is trimmed has a division
-  pub line_division : (whole : Text) → text ≡ trimmed whole → IsNot5424 whole → ⊥
-  line_division whole e none = none _ (is_read whole text line_values _ e refl line_row).division
-
-  -- the message, piece by piece as it prints
-  pub line_prints : printed (message_of line_values)
-      ≡ priority_text (printed_number line.header.priority) ++ (decimal line.header.version
-      ++ ((32 ∷ timestamp_text line.header.timestamp)
-      ++ names_before line.header process (32 ∷ (elements_text k.elements ++ (32 ∷ shown line.msg)))))
+  -- which prints so
+  pub line_prints : (whole : Text) → text ≡ trimmed whole → (stamp : Text) (bytes : List ℕ)
+      → MatchOption h.timestamp (stamp ≡ dash) (λ s. stamp ≡ printed_stamp s.instant.nanosecond s.offset.seconds)
+      → bytes ≡ encode_utf8_all (line_text h process stamp (elements_text elements) msg) → PrintsMessage whole bytes
   unfolding printed_5424
-  line_prints = sym (append_assoc (60 ∷ decimal (printed_number line.header.priority)) (62 ∷ []) _)
-
--- names before more, and what stands behind that
-names_more : (h : Header) (process : Option (ProcId Text)) (a b : Text)
-    → names_before h process (a ++ b) ≡ names_before h process a ++ b
-names_more h process a b = simp append_assoc refl
-
-joined : (p d c z n m : Text) → p ++ (d ++ ((32 ∷ (c ++ z)) ++ (n ++ m))) ≡ (p ++ (d ++ (32 ∷ c))) ++ (z ++ (n ++ m))
-joined p d c z n m = simp append_assoc refl
-
--- a line that is copied
-module _ {text rest zone : Text} {is_zulu : Bool} (line : Line)
-    (b : IsBehindPriority text line.header.priority rest) (k : IsLine line.header.priority rest line)
-    (z : IsCopiedStamp (shown line.header.start) zone is_zulu line.header.timestamp)
-    (h : PrintsHeader rest line.header (shown line.behind)) (gap : shown line.behind ≡ 32 ∷ shown line.list)
-    (number : text ≡ priority_text (printed_number line.header.priority) ++ rest) where
-  -- what stands before the zone
-  abbrev pub start : Text
-  start = priority_text (printed_number line.header.priority) ++ (decimal line.header.version ++ (32 ∷ z.copied))
-
-  pub front_there : text ≡ start ++ zone
-  front_there = number
-      ∙ ap (λ (x : Text). priority_text (printed_number line.header.priority) ++ x) (h.front
-      ∙ ap (λ (x : Text). decimal line.header.version ++ (32 ∷ x)) z.whole
-      ∙ sym (append_assoc (decimal line.header.version) (32 ∷ z.copied) zone))
-      ∙ sym (append_assoc (priority_text (printed_number line.header.priority))
-      (decimal line.header.version ++ (32 ∷ z.copied)) zone)
-
-  -- and before what is left out behind the elements
-  abbrev pub names : Text
-  names = names_before line.header h.process (32 ∷ elements_text k.elements)
-
-  pub tail_there : shown line.header.tail ≡ names ++ shown line.gap
-  tail_there = h.names ∙ ap (λ (x : Text). names_before line.header h.process x)
-      (gap ∙ ap (λ (x : Text). 32 ∷ x) k.prints)
-      ∙ names_more line.header h.process (32 ∷ elements_text k.elements) (shown line.gap)
-
-  pub line_copied : (front tail : Text) → text ≡ front ++ zone → shown line.header.tail ≡ tail ++ shown line.gap
-      → PrintsLine text (front ++ (zone_text is_zulu ++ (tail ++ (32 ∷ shown line.msg))))
-  line_copied front tail e f =
-      let same : front ≡ start = append_cancel_right front start zone (sym e ∙ front_there) in
-      let also : tail ≡ names = append_cancel_right tail names (shown line.gap) (sym f ∙ tail_there) in
-      record {
-        values = line_values line b k h.process h.named;
-        is = line_row line b k h.process h.named;
-        prints = line_prints line b k h.process h.named
-            ∙ ap₂ (λ (x y : Text). priority_text (printed_number line.header.priority)
-            ++ (decimal line.header.version ++ ((32 ∷ x) ++ y)))
-            (stamp_prints line.header.timestamp (z.copied ++ zone_text is_zulu) z.prints)
-            (names_more line.header h.process (32 ∷ elements_text k.elements) (32 ∷ shown line.msg))
-            ∙ joined (priority_text (printed_number line.header.priority)) (decimal line.header.version) z.copied
-            (zone_text is_zulu) names (32 ∷ shown line.msg)
-            ∙ ap₂ (λ (x y : Text). x ++ (zone_text is_zulu ++ (y ++ (32 ∷ shown line.msg)))) (sym same) (sym also);
-      }
-
--- a line whose names are printed
-module _ {text rest : Text} (line : Line) (b : IsBehindPriority text line.header.priority rest)
-    (k : IsLine line.header.priority rest line) (process : Option (ProcId Text))
-    (named : NamesWord (seen line.header.process) process) (digits : Text) (is_zulu : Bool) where
-  abbrev pub named_text : Text
-  named_text = priority_text (printed_number line.header.priority) ++ (decimal line.header.version
-      ++ ((32 ∷ (digits ++ zone_text is_zulu))
-      ++ names_before line.header process (32 ∷ (elements_text k.elements ++ (32 ∷ shown line.msg)))))
-
-  pub line_named : MatchOption line.header.timestamp (digits ++ zone_text is_zulu ≡ dash)
-      (λ s. digits ++ zone_text is_zulu ≡ printed_stamp s.instant.nanosecond s.offset.seconds)
-      → PrintsLine text named_text
-  line_named prints = record {
-    values = line_values line b k process named;
-    is = line_row line b k process named;
-    prints = line_prints line b k process named
-        ∙ ap (λ (x : Text). priority_text (printed_number line.header.priority) ++ (decimal line.header.version
-        ++ ((32 ∷ x)
-        ++ names_before line.header process (32 ∷ (elements_text k.elements ++ (32 ∷ shown line.msg))))))
-        (stamp_prints line.header.timestamp (digits ++ zone_text is_zulu) prints);
-  }
+  line_prints whole e stamp bytes is written = (
+    message_of line_values,
+    line_read whole e,
+    written ∙ ap encode_utf8_all
+        (ap (λ (x : Text). line_text h process x (elements_text elements) msg) (sym (stamp_prints h.timestamp stamp is))
+        ∙ append_assoc (60 ∷ decimal (printed_number h.priority)) (62 ∷ []) _),
+  )
 
 -- ---- by bytes
 
-pub zone_bytes : (is_zulu : Bool) → encode_utf8_all (zone_text is_zulu) ≡ zone_text is_zulu
+zone_bytes : (is_zulu : Bool) → encode_utf8_all (zone_text is_zulu) ≡ zone_text is_zulu
 unfolding encode_utf8
 zone_bytes true = refl
 zone_bytes false = refl
-
-pub copied_bytes : (front tail msg : List ℕ) (is_zulu : Bool) → IsUtf8 front → IsUtf8 tail → IsUtf8 msg
-    → front ++ (zone_text is_zulu ++ (tail ++ (32 ∷ msg)))
-    ≡ encode_utf8_all (chars front ++ (zone_text is_zulu ++ (chars tail ++ (32 ∷ chars msg))))
-unfolding encode_utf8
-copied_bytes front tail msg is_zulu u v w = simp (encodes-append, encodes-chars, zone_bytes)
 
 joined_bytes : (p v d z h a i n l m : List ℕ)
     → (p ++ (v ++ ((32 ∷ d) ++ z))) ++ (((32 ∷ h) ++ ((32 ∷ a) ++ ((32 ∷ i) ++ (32 ∷ n)))) ++ ((32 ∷ l) ++ (32 ∷ m)))
     ≡ p ++ (v ++ (32 ∷ ((d ++ z) ++ (32 ∷ (h ++ (32 ∷ (a ++ (32 ∷ (i ++ (32 ∷ (n ++ (32 ∷ (l ++ (32 ∷ m))))))))))))))
 joined_bytes p v d z h a i n l m = simp append_assoc refl
 
-pub named_encoded : (number version : ℕ) (host app process id : Text) (digits list msg : List ℕ) (is_zulu : Bool)
+pub line_encoded : (number version : ℕ) (host app process id : Text) (digits list msg : List ℕ) (is_zulu : Bool)
     → IsUtf8 digits → IsUtf8 list → IsUtf8 msg
     → (priority_text number ++ (decimal version ++ ((32 ∷ digits) ++ zone_text is_zulu)))
     ++ (((32 ∷ encode_utf8_all host) ++ ((32 ∷ encode_utf8_all app) ++ ((32 ∷ encode_utf8_all process)
@@ -177,33 +90,10 @@ pub named_encoded : (number version : ℕ) (host app process id : Text) (digits 
     ≡ encode_utf8_all (priority_text number ++ (decimal version ++ ((32 ∷ (chars digits ++ zone_text is_zulu))
     ++ (32 ∷ (host ++ (32 ∷ (app ++ (32 ∷ (process ++ (32 ∷ (id ++ (32 ∷ (chars list ++ (32 ∷ chars msg))))))))))))))
 unfolding encode_utf8
-named_encoded number version host app process id digits list msg is_zulu u v w =
+line_encoded number version host app process id digits list msg is_zulu u v w =
     joined_bytes (priority_text number) (decimal version) digits (zone_text is_zulu) (encode_utf8_all host)
     (encode_utf8_all app) (encode_utf8_all process) (encode_utf8_all id) list msg
     ∙ sym (simp (encodes-append, encodes-decimal, encodes-chars, zone_bytes))
-
--- the priority is that of the header
-pub own_number : {text rest : Text} {number : Option ℕ} {line : Line} → IsBehindPriority text number rest
-    → IsLine number rest line → IsBehindPriority text line.header.priority rest
-own_number {text = text} {rest = rest} b k = subst (λ p. IsBehindPriority text p rest) (sym k.number) b
-
-pub own_line_is : {rest : Text} {number : Option ℕ} {line : Line} → IsLine number rest line
-    → IsLine line.header.priority rest line
-own_line_is {rest = rest} {line = line} k = subst (λ p. IsLine p rest line) (sym k.number) k
-
--- a text whose line was read behind its own priority has a division
-pub own_line : {text rest : Text} {number : Option ℕ} {line : Line} → IsBehindPriority text number rest
-    → IsLine number rest line → (whole : Text) → text ≡ trimmed whole → IsNot5424 whole → ⊥
-own_line {line = line} b k whole e none =
-    let (process, named) = word_some (seen line.header.process) in
-    line_division line (own_number b k) (own_line_is k) process named whole e none
-
--- the printed text of the message that was read
-pub prints_read : (whole text line : Text) (bytes : List ℕ) → text ≡ trimmed whole → PrintsLine text line
-    → bytes ≡ encode_utf8_all line
-    → (m : MessageValue) × IsRead5424 whole m × (bytes ≡ encode_utf8_all (printed m))
-prints_read whole text line bytes e p written =
-    (message_of p.values, is_read whole text p.values _ e refl p.is, written ∙ sym (ap encode_utf8_all p.prints))
 
 -- ---- by a variant that reads RFC 5424
 
@@ -214,17 +104,18 @@ asked_apart RFC3164 text date n asks = absurd (n refl)
 asked_apart RFC5424 text date n asks = absurd asks
 asked_apart Either text date n asks = shown_apart text date (shows_month_date text date asks)
 
--- what was copied is the printed text of one message
+-- what is told of RFC 5424 is told of the variant
 pub told : (variant : Variant) (text : Text) → variant ≢ RFC3164 → (r : Result Bool AllocError) (bytes : List ℕ)
-    → IfOk r (λ found. IsTrue found → (m : MessageValue) × IsRead5424 text m × (bytes ≡ encode_utf8_all (printed m)))
-    → IfOk r (λ found. IsTrue found → PrintsAs5424 variant text bytes)
-told variant text n (Ok found) bytes h = λ t. let (m, r, e) = h t in record {
+    → IfOk r (λ found. IsTold5424 found text bytes)
+    → IfOk r (λ found. MatchBool found (PrintsAs5424 variant text bytes) (variant ≢ RFC3164 → IsNot5424 text))
+told variant text n (Ok true) bytes (m, r, e) = record {
   message = m;
   strict = r;
   only = λ dating. only_read variant dating text m (strictly variant dating n r);
   asks_none = λ date asks. asked_apart variant text date n asks r.values r.division;
   prints = e;
 }
+told variant text n (Ok false) bytes h = λ reads. h
 told variant text n (Err e) bytes h = tt
 
 -- a text that no message is read from has no division

@@ -1,6 +1,6 @@
 -- What the pieces at the front of a text tell of its readings.
 use Rattle.std.proofs.Common.{◌≡◌, ◌≢◌, inl, inr, ℕ, ℤ, List, Option, Some, None, Ok, Err, false, true, refl, sym, ap}
-use Rattle.std.proofs.Common.{subst, ◌∙◌, ◌∷◌, ◌++◌, arith}
+use Rattle.std.proofs.Common.{subst, ◌∙◌, ◌∷◌, ◌++◌, append_assoc, arith}
 use Rattle.std.proofs.lemmas.Str.{encodes-append, encodes-chars}
 use Rattle.std.specs.Borrow.{Bor}
 use Rattle.std.specs.Char.{encode_utf8}
@@ -160,21 +160,27 @@ module _ (variant : Variant) (text : Text) {follows : Text} {p : Option ℕ}
             let letter : Begins IsLetter b.start = rw b.front.whole (month_date_begins b.front.piece _ d b.front.is) in
             begins_apart b.start (λ c a l. omega arith) low letter
 
-    -- or one
+    -- or one, and then RFC 3164 is left to try
+    pub dated_left : IsLeftTo3164 variant text
+    dated_left = left_to_try variant text b.reads (λ n. dated_unread)
+
+    pub dated_front : (dating : Dating) (s : OffsetTimestamp) → IsMonthStamp dating d s
+        → IsBehindStamp dating (trimmed text) (record { priority = p; timestamp = Some s }) q
+    dated_front dating s h =
+        row_of (stamped_row dating) (f then b.gap then date_front dating s b.front h then refl)
+
     pub dated_known : (post : IncompleteDate → ℤ → Type 0) (tz : Option (Bor TimeZone)) (local : Bor TimeZone)
         (asked : Option IncompleteDate) (year : Option ℤ) (s : OffsetTimestamp)
         → MatchOption asked (IsSome d.year) (λ x. (d.year ≡ None) × (x ≡ incomplete d))
         → MatchOption asked (year ≡ None) (λ x. IsSomeAnd year (λ y. post x y))
         → IsMonthStamp (dating_of year tz local) d s
         → IsStamped post variant text tz local (record { priority = p; timestamp = Some s }) q
-    dated_known post tz local asked year s told is h =
-        let dating = dating_of year tz local in
-        record {
-          year = year;
-          answered = date_answered post asked year told is;
-          left = left_to_try variant text b.reads (λ n. dated_unread);
-          front = row_of (stamped_row dating) (f then b.gap then date_front dating s b.front h then refl);
-        }
+    dated_known post tz local asked year s told is h = record {
+      year = year;
+      answered = date_answered post asked year told is;
+      left = dated_left;
+      front = dated_front (dating_of year tz local) s h;
+    }
 
   -- no month date stands there
   module _ (without : BeginsWithout month_date variant follows) where
@@ -193,29 +199,27 @@ module _ (variant : Variant) (text : Text) {follows : Text} {p : Option ℕ}
         unstamped text f gap dating (no_date dating (header reads start gap) (without reads start gap)))
 
     -- or another one
+    pub other_front : (dating : Dating) {q : Text} {v : Option OffsetTimestamp}
+        → BeginsWith header_stamp variant follows v q
+        → IsBehindStamp dating (trimmed text) (record { priority = p; timestamp = v }) q
+    other_front dating b = row_of (stamped_row dating) (f then b.gap then header_front dating b.front then refl)
+
     pub other_known : (post : IncompleteDate → ℤ → Type 0) (tz : Option (Bor TimeZone)) (local : Bor TimeZone)
         {q : Text} {v : Option OffsetTimestamp}
         → BeginsWith header_stamp variant follows v q → (variant ≢ RFC3164 → IsNot5424 text)
         → IsStamped post variant text tz local (record { priority = p; timestamp = v }) q
-    other_known post tz local b strict =
-        let dating = dating_of None tz local in
-        record {
-          year = None;
-          answered = asks_none;
-          left = left_to_try variant text b.reads strict;
-          front = row_of (stamped_row dating) (f then b.gap then header_front dating b.front then refl);
-        }
+    other_known post tz local b strict = record {
+      year = None;
+      answered = asks_none;
+      left = left_to_try variant text b.reads strict;
+      front = other_front (dating_of None tz local) b;
+    }
 
 -- ---- what the readers of the two protocols answer
 pub stamped_read : (variant : Variant) (dating : Dating) (text : Text) (m : Found) → IsLeftTo3164 variant text
     → IsRead3164 dash_rule dating text (value m) → Answers variant dating text (Ok m)
 stamped_read variant dating text m left r =
     left_answer variant dating text (Ok m) left (only_read RFC3164 dating text (value m) r)
-
-pub stamped_unread : (variant : Variant) (dating : Dating) (text : Text) → IsLeftTo3164 variant text
-    → IsNot3164 dash_rule dating text → Answers variant dating text (Err Invalid)
-stamped_unread variant dating text left none =
-    left_answer variant dating text (Err Invalid) left (λ m r. none r.values r.division)
 
 pub stamped_refused : (variant : Variant) (dating : Dating) (text : Text) → IsLeftTo3164 variant text
     → (NeedsNoMemory3164 dash_rule dating text → ⊥) → Answers variant dating text (Err Memory)
@@ -226,11 +230,6 @@ pub strict_read : (variant : Variant) → variant ≢ RFC3164 → (dating : Dati
 strict_read RFC5424 not dating text m r = only_read RFC5424 dating text (value m) r
 strict_read RFC3164 not dating text m r = absurd (not refl)
 strict_read Either not dating text m r = either_read dating text (value m) r
-
--- and none where RFC 3164 isn't read
-pub strict_unread : (variant : Variant) → (ReadsProtocol variant protocol.RFC3164 → ⊥) → (dating : Dating) (text : Text)
-    → (variant ≢ RFC3164 → IsNot5424 text) → Answers variant dating text (Err Invalid)
-strict_unread variant not dating text none = neither variant dating text none (λ reads. absurd (not reads))
 
 pub strict_refused : (variant : Variant) → variant ≢ RFC3164 → (dating : Dating) (text : Text)
     → (NeedsNoMemory5424 text → ⊥) → Answers variant dating text (Err Memory)
@@ -253,26 +252,33 @@ reads_so RFC3164 dating text m reads r = r
 reads_so Either dating text m reads r =
     inr (λ vs d. not_both dash_rule dating (trimmed text) vs r.values d r.division, r)
 
-dated_bytes : (number : ℕ) (stamp : OffsetTimestamp) (tail : List ℕ) → IsUtf8 tail
-    → priority_text number ++ ((32 ∷ timestamp_text (Some stamp)) ++ tail)
-    ≡ encode_utf8_all (priority_text number ++ (32 ∷ (timestamp_text (Some stamp) ++ chars tail)))
+stamp_bytes : (v : Option OffsetTimestamp) → encode_utf8_all (timestamp_text v) ≡ timestamp_text v
 unfolding encode_utf8
-dated_bytes number stamp tail u =
-    sym (simp (encodes-append, encodes-decimal, encodes-chars, printed_stamp-bytes stamp))
+stamp_bytes None = refl
+stamp_bytes (Some stamp) = printed_stamp-bytes stamp
+
+dated_bytes : (number : ℕ) (v : Option OffsetTimestamp) (tail : List ℕ) → IsUtf8 tail
+    → (priority_text number ++ (32 ∷ encode_utf8_all (timestamp_text v))) ++ tail
+    ≡ encode_utf8_all (priority_text number ++ (32 ∷ (timestamp_text v ++ chars tail)))
+unfolding encode_utf8
+dated_bytes number v tail u =
+    append_assoc (priority_text number) (32 ∷ encode_utf8_all (timestamp_text v)) tail
+    ∙ sym (simp (encodes-append, encodes-decimal, encodes-chars))
 
 -- behind a timestamp
 pub stamped_copied : {variant : Variant} (dating : Dating) (text : Text) {p : Option ℕ} {follows : Text}
-    {stamp : OffsetTimestamp} (tail : List ℕ) → IsBehindPriority (trimmed text) p follows
-    → BeginsWith header_stamp variant follows (Some stamp) (chars tail) → PrintsBehind (chars tail) → IsUtf8 tail
-    → Copied variant dating text (priority_text (printed_number p) ++ ((32 ∷ timestamp_text (Some stamp)) ++ tail))
-stamped_copied {variant = variant} dating text {p = p} {stamp = stamp} tail f b prints u =
-    let k = prints dating text (record { priority = p; timestamp = Some stamp })
+    {v : Option OffsetTimestamp} (tail : List ℕ) → IsBehindPriority (trimmed text) p follows
+    → BeginsWith header_stamp variant follows v (chars tail) → PrintsBehind (chars tail) → IsUtf8 tail
+    → Copied variant dating text
+    ((priority_text (printed_number p) ++ (32 ∷ encode_utf8_all (timestamp_text v))) ++ tail)
+stamped_copied {variant = variant} dating text {p = p} {v = v} tail f b prints u =
+    let k = prints dating text (record { priority = p; timestamp = v })
     (row_of (stamped_row dating) (f then b.gap then header_front dating b.front then refl))
-    (stamp_canonical b.front.piece (chars tail) (Some stamp) b.front.is) in (
+    (stamp_canonical b.front.piece (chars tail) v b.front.is) in (
       k.0.message,
       reads_so variant dating text k.0.message b.reads k.0.read,
       k.1,
-      dated_bytes (printed_number p) stamp tail u ∙ ap encode_utf8_all k.0.is_printed,
+      dated_bytes (printed_number p) v tail u ∙ ap encode_utf8_all k.0.is_printed,
     )
 
 -- and behind a month date
@@ -287,6 +293,8 @@ dated_copied {variant = variant} {dating = dating} text {p = p} tail f b s print
       k.0.message,
       reads_so variant dating text k.0.message b.reads k.0.read,
       k.1,
-      ap (λ (x : List ℕ). priority_text (printed_number p) ++ (x ++ tail)) s.printed
-          ∙ dated_bytes (printed_number p) s.stamp tail u ∙ ap encode_utf8_all k.0.is_printed,
+      ap (λ (x : List ℕ). priority_text (printed_number p) ++ (x ++ tail))
+          (s.printed ∙ ap (λ (x : List ℕ). 32 ∷ x) (sym (stamp_bytes (Some s.stamp))))
+          ∙ sym (append_assoc (priority_text (printed_number p)) _ tail)
+          ∙ dated_bytes (printed_number p) (Some s.stamp) tail u ∙ ap encode_utf8_all k.0.is_printed,
     )

@@ -1,6 +1,6 @@
 -- Rounds: a text is read and printed, and what was printed is read and printed again, until it no longer changes. And
 -- the weight of a message of RFC 3164, which falls from round to round until then. (All of it is this project's own.)
-use Rattle.std.specs.Prelude.{◌≡◌, ◌⊎◌, ℕ, zero, suc, ◌+◌, ◌<◌, ◌≤◌, List, [], length, nat_eq}
+use Rattle.std.specs.Prelude.{◌≡◌, ◌⊎◌, ◌↔◌, ℕ, zero, suc, ◌+◌, ◌<◌, ◌≤◌, List, [], length, nat_eq}
 use Rattle.std.specs.Prelude.{if◌then◌else◌, ⊤, Bool, false, MatchBool, Option, IfSome, Result, Ok, Err, MatchResult}
 use Rattle.std.specs.Prelude.{String, string_bytes}
 use Rattle.std.specs.Global.{Global}
@@ -108,6 +108,12 @@ pub record IsRoundAsTold (skips : Bool) (variant : Variant) (dating : Dating) (t
     (settled : Bool) : Type 0 where
   pub told : IsToldRound variant dating text later settled
   pub next : skips ≡ false → IsNext variant dating text later
+
+-- a round as it is told, or a fault that tells whether the text is unreadable
+abbrev pub AnswersRound : Bool → Variant → Dating → Text → List ℕ → Result Bool ParseFault → Type 0
+AnswersRound skips variant dating text bytes result = MatchResult result
+    (λ settled. IsRoundAsTold skips variant dating text (chars bytes) settled)
+    (λ fault. (fault ≡ Invalid) ↔ IsUnreadable variant dating text)
 
 -- the text is a round behind so many that are not settled, or more
 pub record ReachesFrom (variant : Variant) (dating : Dating) (t : Text) (least : ℕ) (u : Text) : Type 0 where

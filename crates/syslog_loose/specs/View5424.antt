@@ -32,28 +32,20 @@ name_values h process = (seen h.hostname, (tt, (seen h.appname, (tt, process_val
 abbrev pub header_values : Header → Option (ProcId Text) → Values header_row
 header_values h process = (h.priority, (h.version, (tt, (h.timestamp, (tt, name_values h process)))))
 
--- the header at the front of the text, with each process id that its word names, or nothing where there is no header
+-- the text begins with this header, with each process id that its word names, before what follows
+abbrev pub HasHeader : Text → Header → Text → Type 0
+HasHeader text h follows = (process : Option (ProcId Text)) → NamesWord (seen h.process) process
+    → Front (Row header_row) text follows (header_values h process)
+
+-- that header, or nothing where there is none
 abbrev pub ReadsHeader : Text → Option (Header × Bor (List ℕ)) → Type 0
-ReadsHeader text r = MatchOption r (NoFront (Row header_row) text) (λ x. (process : Option (ProcId Text))
-    → NamesWord (seen x.0.process) process → Front (Row header_row) text (shown x.1) (header_values x.0 process))
+ReadsHeader text r = MatchOption r (NoFront (Row header_row) text) (λ x. HasHeader text x.0 (shown x.1))
 
 -- host, app name, process id and message id as they print, each behind a space, and more
 abbrev pub names_before : Header → Option (ProcId Text) → Text → Text
 names_before h process more =
     32 ∷ (name_text (seen h.hostname) ++ (32 ∷ (name_text (seen h.appname) ++ (32 ∷ (process_text process
     ++ (32 ∷ (name_text (seen h.msgid) ++ more)))))))
-
--- from its version on the header stands as it prints, but for the timestamp, before what follows
-pub record PrintsHeader (text : Text) (h : Header) (follows : Text) : Type 0 where
-  pub process : Option (ProcId Text)
-  pub named : NamesWord (seen h.process) process
-  pub front : text ≡ decimal h.version ++ (32 ∷ shown h.start)
-  pub names : shown h.tail ≡ names_before h process follows
-
--- where the timestamp stands, and that the rest of the header stands as it prints, if so it says
-pub record HeaderStands (text : Text) (h : Header) (follows : Text) : Type 0 where
-  pub stamp : Front header_stamp (shown h.start) (shown h.tail) h.timestamp
-  pub stands : IsTrue h.stands → PrintsHeader text h follows
 
 -- the message of a header with these elements and this text
 abbrev pub message_with : Header → Option (ProcId Text) → List ElementValue → Text → MessageValue

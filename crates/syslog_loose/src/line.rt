@@ -1,156 +1,39 @@
-//! Lines of RFC 5424 whose elements print as they stand.
+//! Lines of RFC 5424, read once and written as their messages print.
 //!
-//! Most lines that a program wrote are already in the form that a message prints: one space in each gap, no leading
-//! zeros, strict elements alone. The reader of the header tells what stands so, and that is copied: no message is made
-//! of such a line, no element collected, and nothing printed but what stands otherwise. A line whose elements print
-//! otherwise is left to be read and printed as any other.
-ghost use Rattle.std.specs.Prelude.{◌≡◌, ◌++◌, ◌∷◌, IfOk, IfSome, IsOk, IsTrue, OnOk, Option, ℕ, Some, string_bytes};
+//! Most lines that a program wrote have strict elements alone, which stand as they print, and so do the digits of the
+//! timestamp. Those are copied: no message is made of such a line, and no element collected. Of any other line the
+//! message is made and printed.
+ghost use Rattle.std.specs.Prelude.{◌≡◌, ◌≢◌, IfOk, IsOk, MatchBool, OnOk, Some, string_bytes};
 ghost use Rattle.std.specs.Fmt.{WritesOnOk};
-ghost use Rattle.std.specs.Str.{chars, encode_utf8_all, IsUtf8};
-ghost use Rattle.syslog_pieces.specs.Bodies.CopiedStamp.{zone_text, IsCopiedStamp};
+ghost use Rattle.std.specs.Str.{chars};
 ghost use Rattle.syslog_pieces.specs.Pieces.Class.{Text};
-ghost use Rattle.syslog_pieces.specs.Pieces.View.{shown};
-ghost use Rattle.syslog_pieces.specs.Pri.{priority_text};
+ghost use Rattle.syslog_pieces.specs.Text.{trimmed};
 ghost use Rattle.syslog_pieces.specs.Timestamp.Zone.{Dating};
 ghost use Rattle.syslog_pieces.specs.declared.timestamp.month_date.MonthDate.{MonthDate};
-ghost use Rattle.syslog_loose.specs.Formats.{printed_number};
 ghost use Rattle.syslog_loose.specs.Line as spec;
-ghost use Rattle.syslog_loose.specs.Message.{MessageValue};
-ghost use Rattle.syslog_loose.specs.Printed.{printed};
 ghost use Rattle.syslog_loose.specs.Reading.{AsksYear, IsUnreadable, OfTrimmed};
-ghost use Rattle.syslog_loose.specs.Rfc5424.{IsNot5424, IsRead5424};
+ghost use Rattle.syslog_loose.specs.Rfc5424.{IsNot5424};
 ghost use Rattle.syslog_loose.specs.Start.{IsBehindPriority};
+ghost use Rattle.syslog_loose.specs.View5424.{HasHeader};
+ghost use Rattle.syslog_loose.specs.declared.variant.Variant.TheVariants.{RFC3164};
 
-use crate::message::{make_room, priority, write_name, write_process, write_spaced};
-use crate::rfc5424::{Header, process_of, read_header};
+use crate::message::{make_room, print, priority, write_name, write_process, write_spaced};
+use crate::rfc5424::{Header, message_behind, process_of, read_header};
 use crate::variant::Variant;
-use std::alloc::AllocError;
+use std::alloc::{AllocError, Global};
 use std::fmt;
 use std::fmt::Write;
-use syslog_pieces::pri::{parts, priority_stands, write_priority};
+use syslog_pieces::pri::{parts, write_priority};
 use syslog_pieces::procid::ProcId;
-use syslog_pieces::structured_data::printed_list;
+use syslog_pieces::structured_data::verbatim_list;
 use syslog_pieces::text::blanks;
-use syslog_pieces::text::verbatim::{before, is_one_space};
+use syslog_pieces::text::verbatim::before;
 use syslog_pieces::text::write_ascii::write_number;
-use syslog_pieces::timestamp::verbatim::{CopiedStamp, copied_stamp};
+use syslog_pieces::timestamp::verbatim::copied_stamp;
 
-// A line, its elements without what is left out of them: its header and what stands behind that, the elements and
-// what stands behind them, and the message.
+// What prints of a line: the digits of its timestamp up to the zone, its elements and its message as they stand.
 #[derive(Clone, Copy)]
-struct Line<'a> {
-    header: Header<'a>,
-    behind: &'a str,
-    list: &'a str,
-    gap: &'a str,
-    msg: &'a str,
-}
-
-// The line, from what stands behind its priority on, where its elements print as they stand.
-#[inline(always)]
-fn read_line(priority: Option<u8>, text: &str) -> Option<Line<'_>>
-    ensures line { IfSome result (λ line. spec.IsLine priority (chars text.now) line) }
-    ensures utf8 { IfSome result (λ line. IsUtf8 line.header.start.now × IsUtf8 line.header.tail.now
-        × IsUtf8 line.list.now × IsUtf8 line.gap.now × IsUtf8 line.msg.now) }
-{
-    let Some((header, behind)) = read_header::<true>(priority, text) else {
-        return None;
-    };
-    let list = blanks(behind);
-    let (gap, end) = printed_list(list)?;
-    Some(Line {
-        header,
-        behind,
-        list,
-        gap,
-        msg: blanks(end),
-    })
-}
-
-// A line that is copied but for a `Z`: all up to the zone of its timestamp, all from behind the timestamp to behind
-// the elements, and the message.
-#[derive(Clone, Copy)]
-struct CopiedLine<'a> {
-    front: &'a str,
-    is_zulu: bool,
-    tail: &'a str,
-    msg: &'a str,
-}
-
-// Writes what stands in place of a `Z`, where there was one.
-#[inline(always)]
-fn write_zone<W: fmt::Write>(f: &mut fmt::Formatter<W>, is_zulu: bool) -> fmt::Result
-    ensures { WritesOnOk W.write_str_gives f.old result (zone_text is_zulu) f.new }
-{
-    if is_zulu {
-        f.write_str("+00:00")
-    } else {
-        Ok(())
-    }
-}
-
-impl fmt::Display for CopiedLine<'_> {
-    ghost output = { λ line.
-        Some (line.front.now ++ (zone_text line.is_zulu ++ (line.tail.now ++ (32 ∷ line.msg.now)))) };
-
-    fn fmt<W: fmt::Write>(&self, f: &mut fmt::Formatter<W>) -> fmt::Result {
-        f.write_str(self.front)?;
-        write_zone(f, self.is_zulu)?;
-        f.write_str(self.tail)?;
-        write_spaced(f, self.msg)
-    }
-}
-
-// Whether the priority prints as it stands. It may answer no of others too.
-#[inline(always)]
-fn prints_priority(text: &str, number: Option<u8>) -> bool
-    ensures { IsTrue result → (rest : Text) → IsBehindPriority (chars text.now) number rest
-        → chars text.now ≡ priority_text (printed_number number) ++ rest }
-{
-    match number {
-        Some(number) => number < 192 && priority_stands(text),
-        None => false,
-    }
-}
-
-// The line, where all but the zone of its timestamp stands as it prints.
-#[inline(always)]
-fn copied_line<'a>(
-    text: &'a str,
-    rest: &str,
-    line: &Line<'a>,
-    stamp: CopiedStamp<'a>,
-) -> Option<CopiedLine<'a>>
-    requires behind { IsBehindPriority (chars text.now) line.now.header.priority (chars rest.now) }
-    requires line { spec.IsLine line.now.header.priority (chars rest.now) line.now }
-    requires stamp { IsCopiedStamp (shown line.now.header.start) (shown stamp.zone) stamp.is_zulu
-        line.now.header.timestamp }
-    requires utf8 { IsUtf8 line.now.msg.now }
-    ensures prints { IfSome result (λ copied. spec.PrintsLine (chars text.entry.now) (shown copied.front
-        ++ (zone_text copied.is_zulu ++ (shown copied.tail ++ (32 ∷ shown copied.msg))))) }
-    ensures utf8 { IfSome result (λ copied. IsUtf8 copied.front.now × IsUtf8 copied.tail.now × IsUtf8 copied.msg.now) }
-{
-    if !line.header.stands {
-        return None;
-    }
-    if !is_one_space(line.behind, line.list) {
-        return None;
-    }
-    if !prints_priority(text, line.header.priority) {
-        return None;
-    }
-    Some(CopiedLine {
-        front: before(text, stamp.zone),
-        is_zulu: stamp.is_zulu,
-        tail: before(line.header.tail, line.gap),
-        msg: line.msg,
-    })
-}
-
-// A line whose names are printed one by one: the digits of its timestamp up to the zone, and its elements and message
-// as they stand.
-#[derive(Clone, Copy)]
-struct NamedLine<'a, 'b> {
+struct Line<'a, 'b> {
     priority: Option<u8>,
     version: u32,
     digits: &'a str,
@@ -163,21 +46,25 @@ struct NamedLine<'a, 'b> {
     msg: &'a str,
 }
 
-// Writes what stands up to the names.
+// Writes what stands up to the names. A `Z` prints as an offset.
 #[inline(always)]
-fn write_start<W: fmt::Write>(f: &mut fmt::Formatter<W>, line: &NamedLine<'_, '_>) -> fmt::Result
+fn write_start<W: fmt::Write>(f: &mut fmt::Formatter<W>, line: &Line<'_, '_>) -> fmt::Result
     ensures { WritesOnOk W.write_str_gives f.old result (spec.start_bytes line.now) f.new }
 {
     let (facility, severity) = parts(line.priority);
     write_priority(f, priority(facility, severity))?;
     write_number(f, line.version)?;
     write_spaced(f, line.digits)?;
-    write_zone(f, line.is_zulu)
+    if line.is_zulu {
+        f.write_str("+00:00")
+    } else {
+        Ok(())
+    }
 }
 
 // Writes the names, each behind a space.
 #[inline(always)]
-fn write_names<W: fmt::Write>(f: &mut fmt::Formatter<W>, line: &NamedLine<'_, '_>) -> fmt::Result
+fn write_names<W: fmt::Write>(f: &mut fmt::Formatter<W>, line: &Line<'_, '_>) -> fmt::Result
     ensures { WritesOnOk W.write_str_gives f.old result (spec.names_bytes line.now) f.new }
 {
     write_name(f, &line.hostname)?;
@@ -186,8 +73,8 @@ fn write_names<W: fmt::Write>(f: &mut fmt::Formatter<W>, line: &NamedLine<'_, '_
     write_name(f, &line.msgid)
 }
 
-impl fmt::Display for NamedLine<'_, '_> {
-    ghost output = { λ line. Some (spec.named_bytes line) };
+impl fmt::Display for Line<'_, '_> {
+    ghost output = { λ line. Some (spec.line_bytes line) };
 
     fn fmt<W: fmt::Write>(&self, f: &mut fmt::Formatter<W>) -> fmt::Result {
         write_start(f, self)?;
@@ -198,83 +85,86 @@ impl fmt::Display for NamedLine<'_, '_> {
 }
 
 // Writes the line into a text that gets room for the input's length at once.
-#[inline(never)]
-fn print_named(text: &mut String, line: &NamedLine<'_, '_>, length: usize) -> Result<(), AllocError>
-    ensures { OnOk result (string_bytes text.new ≡ spec.named_bytes line.now) }
+#[inline(always)]
+fn write_line(
+    text: &mut String,
+    line: &Line<'_, '_>,
+    length: usize,
+) -> Result<(), AllocError>
+    ensures { OnOk result (string_bytes text.new ≡ spec.line_bytes line.now) }
 {
     make_room(text, length)?;
     write!(text, "{line}")?;
     Ok(())
 }
 
-// Writes the line, its names one by one.
-#[inline(always)]
-fn write_named(
+// Writes the message of this header and what stands behind it, and tells whether there is one.
+#[inline(never)]
+fn print_message(
+    alloc: Global,
     text: &mut String,
-    line: &Line<'_>,
-    stamp: CopiedStamp<'_>,
+    header: &Header<'_>,
+    behind: &str,
     length: usize,
-) -> Result<(), AllocError>
-    requires line { (whole : Text) × (rest : Text) × IsBehindPriority whole line.now.header.priority rest
-        × spec.IsLine line.now.header.priority rest line.now }
-    requires stamp { IsCopiedStamp (shown line.now.header.start) (shown stamp.zone) stamp.is_zulu
-        line.now.header.timestamp }
-    requires utf8 { IsUtf8 line.now.msg.now }
-    ensures { (whole : Text) (rest : Text) → IsBehindPriority whole line.now.header.priority rest
-        → spec.IsLine line.now.header.priority rest line.now
-        → OnOk result ((line : Text) × spec.PrintsLine whole line × (string_bytes text.new ≡ encode_utf8_all line)) }
+) -> Result<bool, AllocError>
+    ensures text { (whole : Text) → HasHeader (trimmed whole) header.now (chars behind.now)
+        → IfOk result (λ found. spec.IsTold5424 found whole (string_bytes text.new)) }
+    ensures memory { (whole : Text) → HasHeader (trimmed whole) header.now (chars behind.now) → IsNot5424 whole
+        → IsOk result }
 {
-    let process = process_of(line.header.process);
-    let named = NamedLine {
-        priority: line.header.priority,
-        version: line.header.version,
-        digits: before(line.header.start, stamp.zone),
-        is_zulu: stamp.is_zulu,
-        hostname: line.header.hostname,
-        appname: line.header.appname,
-        process: &process,
-        msgid: line.header.msgid,
-        list: before(line.list, line.gap),
-        msg: line.msg,
+    let Some(message) = message_behind(alloc, header, behind)? else {
+        return Ok(false);
     };
-    print_named(text, &named, length)?;
-    Ok(())
+    print(text, &message, length)?;
+    Ok(true)
 }
 
-/// Writes the printed text of the message of the trimmed line into `text`, where its elements print as they stand, and
-/// tells whether it did. It asks for memory only for a line that has a reading by RFC 5424, and where `text` has too
-/// little room. `rest` is what stands behind the priority.
+// The same of the trimmed line. `rest` is what stands behind its priority.
 #[inline(always)]
-fn copied(
+fn header_text(
+    alloc: Global,
     text: &mut String,
     input: &str,
     number: Option<u8>,
     rest: &str,
 ) -> Result<bool, AllocError>
     requires { IsBehindPriority (chars input.now) number (chars rest.now) }
-    ensures text { OfTrimmed (chars input.now) (λ whole. IfOk result (λ found. IsTrue found
-        → (m : MessageValue) × IsRead5424 whole m × (string_bytes text.new ≡ encode_utf8_all (printed m)))) }
+    ensures text { OfTrimmed (chars input.now) (λ whole. IfOk result (λ found.
+        spec.IsTold5424 found whole (string_bytes text.new))) }
     ensures memory { OfTrimmed (chars input.now) (λ whole. IsNot5424 whole → IsOk result) }
 {
-    let Some(line) = read_line(number, rest) else {
+    let Some((header, behind)) = read_header::<true>(number, rest) else {
         return Ok(false);
     };
-    let Some(stamp) = copied_stamp(line.header.start, line.header.tail) else {
-        return Ok(false);
-    };
-    match copied_line(input, rest, &line, stamp) {
-        Some(copied) => {
-            make_room(text, input.len())?;
-            write!(text, "{copied}")?;
+    let list = blanks(behind);
+    if let Some(end) = verbatim_list(list) {
+        if let Some(stamp) = copied_stamp(header.start, header.tail) {
+            let process = process_of(header.process);
+            let line = Line {
+                priority: header.priority,
+                version: header.version,
+                digits: before(header.start, stamp.zone),
+                is_zulu: stamp.is_zulu,
+                hostname: header.hostname,
+                appname: header.appname,
+                process: &process,
+                msgid: header.msgid,
+                list: before(list, end),
+                msg: blanks(end),
+            };
+            write_line(text, &line, input.len())?;
+            return Ok(true);
         }
-        None => write_named(text, &line, stamp, input.len())?,
     }
-    Ok(true)
+    print_message(alloc, text, &header, behind, input.len())
 }
 
-/// The same, where the variant reads RFC 5424.
+/// Writes the printed text of the message as which the variant reads the trimmed line by RFC 5424 into `text`, and tells
+/// whether there is one. It asks for memory only for a line that has such a message, and where `text` has too little
+/// room or elements are collected. `rest` is what stands behind the priority.
 #[inline(always)]
 pub(crate) fn rfc5424_text(
+    alloc: Global,
     text: &mut String,
     input: &str,
     number: Option<u8>,
@@ -282,8 +172,8 @@ pub(crate) fn rfc5424_text(
     variant: Variant,
 ) -> Result<bool, AllocError>
     requires { IsBehindPriority (chars input.now) number (chars rest.now) }
-    ensures text { OfTrimmed (chars input.now) (λ whole. IfOk result (λ found. IsTrue found
-        → spec.PrintsAs5424 variant whole (string_bytes text.new))) }
+    ensures text { OfTrimmed (chars input.now) (λ whole. IfOk result (λ found. MatchBool found
+        (spec.PrintsAs5424 variant whole (string_bytes text.new)) (variant ≢ RFC3164 → IsNot5424 whole))) }
     ensures memory { OfTrimmed (chars input.now) (λ whole. (dating : Dating)
         → IsUnreadable variant dating whole → IsOk result) }
     ensures year { OfTrimmed (chars input.now) (λ whole. (date : MonthDate)
@@ -292,5 +182,5 @@ pub(crate) fn rfc5424_text(
     if !variant.reads_rfc5424() {
         return Ok(false);
     }
-    copied(text, input, number, rest)
+    header_text(alloc, text, input, number, rest)
 }

@@ -18,8 +18,8 @@ mod room;
 
 pub(crate) use canonical::is_canonical_time;
 pub(crate) use exceptions::{has_no_exception, has_no_name_exception};
-pub(crate) use printing::{write_elements, write_name, write_process};
-use printing::{write_elements_before, write_tag, write_timestamp};
+pub(crate) use printing::{write_elements, write_name, write_process, write_timestamp};
+use printing::{write_elements_before, write_tag};
 pub(crate) use room::{make_room, print};
 use std::fmt;
 use syslog_pieces::as_str::AsStr;

@@ -1,17 +1,16 @@
 //! The header of RFC 3164 (section 4), read loosely: eleven pieces, of which only the priority, the blanks and the
 //! timestamp at the front can fail.
 //!
-//! `read` answers the message of the one division of a trimmed text, or that there is none. It takes each piece from
-//! the readers of `syslog_pieces`, from the left. `resolve` answers what the host field and the tag field mean
-//! together.
-ghost use Rattle.std.specs.Prelude.{◌≡◌, IfOk, IsOk, IsTrue, MatchOption, None};
+//! `read_behind` answers the message of the one division of a text, once the pieces that can fail were read. It takes
+//! each piece from the readers of `syslog_pieces`, from the left. `resolve` answers what the host field and the tag
+//! field mean together.
+ghost use Rattle.std.specs.Prelude.{◌≡◌, IfOk, IsOk, IsTrue, None};
 ghost use Rattle.std.specs.Str.{chars, IsUtf8};
 ghost use Rattle.syslog_pieces.specs.Pieces.Class.{Row, Text};
 ghost use Rattle.syslog_pieces.specs.Pieces.View.{seen, shown, field_seen, Reads};
 ghost use Rattle.syslog_pieces.specs.Text.{trimmed};
 ghost use Rattle.syslog_pieces.specs.Timestamp.Zone.{Dating as AnyDating, dating_value};
 ghost use Rattle.syslog_loose.specs.Message.{message_value};
-ghost use Rattle.syslog_loose.specs.Reading.{OfTrimmed};
 ghost use Rattle.syslog_loose.specs.Rfc3164 as spec;
 ghost use Rattle.syslog_loose.specs.View3164.{IsBehindStamp, IsPlainProgram, PrintsBehind};
 ghost use Rattle.syslog_loose.specs.View3164.{names_value, stamped_values};
@@ -175,29 +174,8 @@ pub(crate) fn read_names(text: &str) -> (Names<'_>, &str)
     (resolve(host, tag), blanks(past_colon(blanks(rest))))
 }
 
-/// The message of the one division of the trimmed text, and none where there is no division. `year` is that of a date
-/// that shows none. Memory is asked for only to collect elements, each after it was recognised.
-#[inline(always)]
-pub(crate) fn read<'a>(
-    alloc: Global,
-    text: &'a str,
-    rule: DashRule,
-    dating: &Dating<'_, '_>,
-) -> Result<Option<Message<&'a str>>, AllocError>
-    ensures read { OfTrimmed (chars text.entry.now) (λ whole. IfOk result (λ found. MatchOption found
-        (spec.IsNot3164 rule (dating_value dating.entry.now) whole)
-        (λ m. spec.IsRead3164 rule (dating_value dating.entry.now) whole (message_value (λ s. shown s) m)))) }
-    ensures memory { OfTrimmed (chars text.entry.now) (λ whole.
-        spec.NeedsNoMemory3164 rule (dating_value dating.entry.now) whole → IsOk result) }
-{
-    let Some((stamped, rest)) = read_stamped(text, dating) else {
-        return Ok(None);
-    };
-    let message = read_behind(alloc, stamped, rest, rule)?;
-    Ok(Some(message))
-}
-
-/// The message of a text, from what stands behind its timestamp on: there nothing can fail but memory.
+/// The message of a text, from what stands behind its timestamp on: there nothing can fail but memory, which is asked
+/// for only to collect elements, each after it was recognised.
 #[inline(always)]
 pub(crate) fn read_behind(
     alloc: Global,

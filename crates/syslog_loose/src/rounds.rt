@@ -3,43 +3,48 @@
 //! `normalise` answers one round. What was read as RFC 5424 prints as a settled text, and so does what was read as
 //! RFC 3164 and has none of the exceptions. So nearly each line is settled by one round, and `settling` asks for more
 //! of the others alone.
-ghost use Rattle.std.specs.Prelude.{◌≡◌, ◌↔◌, ◌<◌, ◌++◌, ◌∷◌, IsTrue, MatchResult, OnOk, Some, string_bytes};
+ghost use Rattle.std.specs.Prelude.{◌≡◌, ◌≢◌, ◌↔◌, ◌<◌, ◌++◌, ◌∷◌, MatchResult, OnOk, Some, string_bytes};
 ghost use Rattle.std.specs.List.{AllByRecursion};
 ghost use Rattle.std.specs.Str.{chars, encode_utf8_all};
 ghost use Rattle.syslog_pieces.specs.Pieces.Class.{Text};
 ghost use Rattle.syslog_pieces.specs.Pieces.View.{shown};
 ghost use Rattle.syslog_pieces.specs.Pri.{priority_text};
+ghost use Rattle.syslog_pieces.specs.Text.{trimmed as trimmed_text};
 ghost use Rattle.syslog_pieces.specs.Timestamp.MonthDate.{month_date};
-ghost use Rattle.syslog_pieces.specs.Timestamp.Zone.{dating_of, dating_value};
+ghost use Rattle.syslog_pieces.specs.Timestamp.Zone.{Dating as AnyDating, dating_of, dating_value};
 ghost use Rattle.syslog_loose.specs.Formats.{printed_number};
-ghost use Rattle.syslog_loose.specs.Message.{MessageValue, message_value};
+ghost use Rattle.syslog_loose.specs.Message.{MessageValue};
 ghost use Rattle.syslog_loose.specs.Printed.{printed, timestamp_text};
 ghost use Rattle.syslog_loose.specs.ReadBack.{AnswersAgain};
-ghost use Rattle.syslog_loose.specs.Reading.{AnswersEachMonth, InYear, IsOnlyRead};
+ghost use Rattle.syslog_loose.specs.Reading.{AnswersEachMonth, InYear, IsLeftTo3164, IsOnlyRead};
 ghost use Rattle.syslog_loose.specs.Reading.{IsUnreadable, IsYearAnswered, OfTrimmed};
-ghost use Rattle.syslog_loose.specs.Settling.{IsAtRest, IsRoundAsTold};
-ghost use Rattle.syslog_loose.specs.Start.{BeginsWith, IsBehindPriority};
+ghost use Rattle.syslog_loose.specs.Rfc5424.{IsNot5424};
+ghost use Rattle.syslog_loose.specs.Settling.{AnswersRound, IsRoundAsTold};
+ghost use Rattle.syslog_loose.specs.Start.{BeginsWith, BeginsWithout, IsBehindPriority};
+ghost use Rattle.syslog_loose.specs.View3164.{IsBehindStamp};
 ghost use Rattle.syslog_loose.specs.declared.fault.ParseFault.TheVariants.{Invalid};
+ghost use Rattle.syslog_loose.specs.declared.variant.Variant.{Variant};
+ghost use Rattle.syslog_loose.specs.declared.variant.Variant.TheVariants.{RFC3164};
 
 use crate::beginning::may_be_read;
 use crate::fault::ParseFault;
 use crate::jumps::write_round;
 use crate::line::rfc5424_text;
-use crate::message::{Message, Protocol, has_no_exception, make_room, print, priority};
-use crate::reading::{asked_numbers, front_date, front_stamp, read};
-use crate::rfc3164::stands_as_printed;
+use crate::message::{has_no_exception, make_room, print, priority, write_timestamp};
+use crate::reading::{asked_numbers, front_date, front_stamp};
+use crate::rfc3164::{Stamped, read_behind, stands_as_printed};
 use crate::variant::{IncompleteDate, Variant};
 use jiff::tz::TimeZone;
 use std::alloc::{AllocError, Global};
 use std::fmt;
 use std::fmt::Write;
 use syslog_pieces::pri::{optional_priority, parts, write_priority};
+use syslog_pieces::structured_data::rfc3164_list::DASH_RULE;
 use syslog_pieces::text::trimmed;
 use syslog_pieces::text::write_ascii::push_bytes;
-use syslog_pieces::timestamp::OffsetTimestamp;
 use syslog_pieces::timestamp::civil::month_text;
 use syslog_pieces::timestamp::month_date::MonthDate;
-use syslog_pieces::timestamp::zone::Dating;
+use syslog_pieces::timestamp::zone::{Dating, month_stamp};
 
 /// The printed text of the message that `parse_message_with_year_exact_tz` answers, in memory of its own. A text that
 /// has no reading is `Invalid`, and never `Memory`.
@@ -61,21 +66,22 @@ pub fn normalise<F: FnOnce(IncompleteDate) -> i32>(
 {
     let left = trimmed(input);
     let mut text = String::new(alloc);
-    first_round(alloc, &mut text, left, get_year, tz, variant, local, false)?;
+    next_round(alloc, &mut text, left, get_year, tz, variant, local, false)?;
     Ok(text)
 }
 
-/// What round 1 of a text told: whether it is known to be settled, and the year that the closure answered.
+/// What a round told: whether it is known to be settled, and the year that the closure answered.
 #[derive(Clone, Copy)]
 pub(crate) struct Round {
     pub(crate) settled: bool,
     pub(crate) year: Option<i32>,
 }
 
-/// Writes round 1 of the trimmed input into `text`, as `next_round` does. The closure is called once, and only where
-/// the text shows a date without a year that the variant reads.
+/// Writes a round of the trimmed input into `text`: the next one, where that is known to be settled, and tells so. Else
+/// the next one too, or, where rounds may be skipped, a later one before which none is settled. The closure is called
+/// once, and only where the text shows a date without a year that the variant reads.
 #[inline]
-pub(crate) fn first_round<F: FnOnce(IncompleteDate) -> i32>(
+pub(crate) fn next_round<F: FnOnce(IncompleteDate) -> i32>(
     alloc: Global,
     text: &mut String,
     input: &str,
@@ -96,8 +102,8 @@ pub(crate) fn first_round<F: FnOnce(IncompleteDate) -> i32>(
         return Err(ParseFault::Invalid);
     }
     let (priority, rest) = optional_priority(input);
-    let copied = rfc5424_text(text, input, priority, rest, variant)?;
-    if copied {
+    let found = rfc5424_text(alloc, text, input, priority, rest, variant)?;
+    if found {
         return Ok(Round {
             settled: true,
             year: None,
@@ -108,20 +114,19 @@ pub(crate) fn first_round<F: FnOnce(IncompleteDate) -> i32>(
             let year = asked_numbers(date).map(get_year);
             let dating = Dating { year, tz, local };
             let settled = dated_round(
-                alloc, text, input, priority, date, tail, &dating, variant, skips,
+                alloc, text, input, priority, date, tail, &dating, skips,
             )?;
             Ok(Round { settled, year })
         }
         None => {
+            let settled = stamped_round(alloc, text, input, priority, rest, variant, skips)?;
             let year = None;
-            let dating = Dating { year, tz, local };
-            let settled = next_round(alloc, text, input, &dating, variant, skips)?;
             Ok(Round { settled, year })
         }
     }
 }
 
-// The same of a line that shows a month date. A month date never prints as it is written, but what programs write
+// The round of a line that shows a month date. A month date never prints as it is written, but what programs write
 // behind it mostly does, as ` host app[5]: message`. So that is copied, without the fields in between.
 #[inline(always)]
 fn dated_round(
@@ -132,15 +137,12 @@ fn dated_round(
     date: MonthDate,
     tail: &str,
     dating: &Dating<'_, '_>,
-    variant: Variant,
     skips: bool,
 ) -> Result<bool, ParseFault>
-    requires { (follows : Text) × IsBehindPriority (chars input.now) priority follows
-        × BeginsWith month_date variant follows date (shown tail) }
-    ensures { OfTrimmed (chars input.entry.now) (λ whole. MatchResult result
-        (λ settled. IsRoundAsTold skips variant (dating_value dating.entry.now) whole
-        (chars (string_bytes text.new)) settled)
-        (λ fault. (fault ≡ Invalid) ↔ IsUnreadable variant (dating_value dating.entry.now) whole)) }
+    ensures { (variant : Variant) (follows : Text) → IsBehindPriority (chars input.entry.now) priority follows
+        → BeginsWith month_date variant follows date (shown tail.entry)
+        → OfTrimmed (chars input.entry.now) (λ whole.
+        AnswersRound skips variant (dating_value dating.entry.now) whole (string_bytes text.new) result) }
 {
     if stands_as_printed::<true>(tail) {
         if let Some(stamp) = month_text(date, dating) {
@@ -148,7 +150,68 @@ fn dated_round(
             return Ok(true);
         }
     }
-    next_round(alloc, text, input, dating, variant, skips)
+    let Some(stamp) = month_stamp(date, dating) else {
+        return Err(ParseFault::Invalid);
+    };
+    let stamped = Stamped {
+        priority,
+        timestamp: Some(stamp),
+    };
+    message_round(alloc, text, stamped, tail, input.len(), skips)
+}
+
+// The round of a line without a month date that isn't read by RFC 5424. Its timestamp is printed, and the text behind
+// it copied, where that stands as it prints.
+#[inline(always)]
+fn stamped_round(
+    alloc: Global,
+    text: &mut String,
+    input: &str,
+    priority: Option<u8>,
+    rest: &str,
+    variant: Variant,
+    skips: bool,
+) -> Result<bool, ParseFault>
+    requires front { IsBehindPriority (chars input.now) priority (chars rest.now) }
+    requires undated { BeginsWithout month_date variant (chars rest.now) }
+    ensures { OfTrimmed (chars input.now) (λ whole. (variant ≢ RFC3164 → IsNot5424 whole) → (dating : AnyDating)
+        → AnswersRound skips variant dating whole (string_bytes text.new) result) }
+{
+    let Some((timestamp, tail)) = front_stamp(rest, variant) else {
+        return Err(ParseFault::Invalid);
+    };
+    let stamped = Stamped {
+        priority,
+        timestamp,
+    };
+    if stands_as_printed::<false>(tail) {
+        write_stamped(text, stamped, tail, input.len())?;
+        return Ok(true);
+    }
+    message_round(alloc, text, stamped, tail, input.len(), skips)
+}
+
+// The round of a line of RFC 3164 whose message is made and printed, from what stands behind its timestamp on.
+fn message_round(
+    alloc: Global,
+    text: &mut String,
+    stamped: Stamped,
+    tail: &str,
+    length: usize,
+    skips: bool,
+) -> Result<bool, ParseFault>
+    ensures { (variant : Variant) (dating : AnyDating) (whole : Text) → IsLeftTo3164 variant whole
+        → IsBehindStamp dating (trimmed_text whole) stamped (chars tail.now)
+        → AnswersRound skips variant dating whole (string_bytes text.new) result }
+{
+    let message = read_behind(alloc, stamped, tail, DASH_RULE)?;
+    let settled = has_no_exception(&message);
+    if settled || !skips {
+        print(text, &message, length)?;
+        return Ok(settled);
+    }
+    write_round(alloc, text, message, length)?;
+    Ok(false)
 }
 
 // A priority as the message behind it prints it.
@@ -186,62 +249,29 @@ fn write_dated(
     text.push_str(tail)
 }
 
-// The same of another timestamp.
+impl fmt::Display for Stamped {
+    ghost output = { λ s. Some (priority_text (printed_number s.priority)
+        ++ (32 ∷ encode_utf8_all (timestamp_text s.timestamp))) };
+
+    fn fmt<W: fmt::Write>(&self, f: &mut fmt::Formatter<W>) -> fmt::Result {
+        let (facility, severity) = parts(self.priority);
+        write_priority(f, priority(facility, severity))?;
+        write_timestamp(f, self.timestamp)
+    }
+}
+
+// The same of another timestamp, or of none.
 #[inline(always)]
 fn write_stamped(
     text: &mut String,
-    priority: Option<u8>,
-    stamp: OffsetTimestamp,
+    stamped: Stamped,
     tail: &str,
     length: usize,
 ) -> Result<(), AllocError>
-    ensures { OnOk result (string_bytes text.new
-        ≡ priority_text (printed_number priority) ++ ((32 ∷ timestamp_text (Some stamp)) ++ tail.entry.now)) }
+    ensures { OnOk result (string_bytes text.new ≡ (priority_text (printed_number stamped.priority)
+        ++ (32 ∷ encode_utf8_all (timestamp_text stamped.timestamp))) ++ tail.entry.now) }
 {
     make_room(text, length)?;
-    let front = Front { priority };
-    write!(text, "{front} {stamp}")?;
+    write!(text, "{stamped}")?;
     text.push_str(tail)
-}
-
-/// Writes a round of the trimmed input into `text`: the next one, where that is known to be settled, and tells so. Else
-/// the next one too, or, where rounds may be skipped, a later one before which none is settled.
-pub(crate) fn next_round(
-    alloc: Global,
-    text: &mut String,
-    input: &str,
-    dating: &Dating<'_, '_>,
-    variant: Variant,
-    skips: bool,
-) -> Result<bool, ParseFault>
-    ensures { OfTrimmed (chars input.entry.now) (λ whole. MatchResult result
-        (λ settled. IsRoundAsTold skips variant (dating_value dating.entry.now) whole
-        (chars (string_bytes text.new)) settled)
-        (λ fault. (fault ≡ Invalid) ↔ IsUnreadable variant (dating_value dating.entry.now) whole)) }
-{
-    let (priority, rest) = optional_priority(input);
-    if let Some((Some(stamp), tail)) = front_stamp(rest, variant) {
-        if stands_as_printed::<false>(tail) {
-            write_stamped(text, priority, stamp, tail, input.len())?;
-            return Ok(true);
-        }
-    }
-    let message = read(alloc, input, dating, variant)?;
-    let settled = is_at_rest(&message);
-    if settled || !skips {
-        print(text, &message, input.len())?;
-        return Ok(settled);
-    }
-    write_round(alloc, text, message, input.len())?;
-    Ok(false)
-}
-
-// Whether the printed text of the message is known to be settled.
-fn is_at_rest(message: &Message<&str>) -> bool
-    ensures { IsTrue result ↔ IsAtRest message.now.protocol (message_value (λ s. shown s) message.now) }
-{
-    match message.protocol {
-        Protocol::RFC5424(_) => true,
-        Protocol::RFC3164 => has_no_exception(message),
-    }
 }

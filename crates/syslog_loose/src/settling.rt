@@ -11,7 +11,7 @@ ghost use Rattle.syslog_loose.specs.Reading.{AnswersEachMonth, InYear, IsRead, d
 ghost use Rattle.syslog_loose.specs.Settling.{ReachesFrom, Settles, answer_in};
 
 use crate::fault::ParseFault;
-use crate::rounds::{first_round, next_round};
+use crate::rounds::next_round;
 use crate::variant::{IncompleteDate, Variant};
 use jiff::tz::TimeZone;
 use std::alloc::Global;
@@ -71,7 +71,7 @@ pub fn settle_into<F: FnOnce(IncompleteDate) -> i32>(
         → IsCanonical dash_rule m)) }
 {
     let left = trimmed(input);
-    let round = first_round(alloc, text, left, get_year, tz, variant, local, true)?;
+    let round = next_round(alloc, text, left, get_year, tz, variant, local, true)?;
     if round.settled {
         return Ok(());
     }
@@ -79,8 +79,8 @@ pub fn settle_into<F: FnOnce(IncompleteDate) -> i32>(
     settle_on(alloc, text, input, &Dating { year, tz, local }, variant)
 }
 
-// The same from a round of the input that is not known to be settled, in a year. The text of the last round and of the
-// next change places. (What is printed may end in a space.)
+// The same from a round of the input that is not known to be settled, in a year. What is printed shows no month date, so
+// no further round asks for one; and it may end in a space. The text of the last round and of the next change places.
 fn settle_on(
     alloc: Global,
     text: &mut String,
@@ -92,10 +92,13 @@ fn settle_on(
     ensures { Settles variant (dating_value dating.entry.now) (chars input.entry.now) (answer_in result text.new) }
 {
     let mut last = String::new(alloc);
+    let (tz, local) = (dating.tz, dating.local);
     for done in 0..=input.len() {
         swap(&mut last, text);
-        let settled = next_round(alloc, text, trimmed(last.as_str()), dating, variant, true)?;
-        if settled {
+        let left = trimmed(last.as_str());
+        let no_year = |_: IncompleteDate| -> i32 { 0 };
+        let round = next_round(alloc, text, left, no_year, tz, variant, local, true)?;
+        if round.settled {
             return Ok(());
         }
     }

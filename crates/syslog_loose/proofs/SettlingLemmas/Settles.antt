@@ -46,6 +46,12 @@ module _ (variant : Variant) (dating : Dating) (text : Text) (m : MessageValue) 
     | inr s ↦ s
   ]
 
+-- a message that RFC 3164 reads is of that protocol, so it is at rest where it has no exception
+pub rests_so : (dating : Dating) (text : Text) (m : MessageValue) {b : Bool} → IsRead3164 dash_rule dating text m
+    → IsTrue b ↔ HasNoException dash_rule m → IsTrue b ↔ IsAtRest m.protocol m
+rests_so dating text m {b = b} r h =
+    subst (λ (p : Protocol). IsTrue b ↔ IsAtRest p m) (sym (read_near dash_rule dating text m r).protocol) h
+
 -- what RFC 3164 printed stays RFC 3164
 stays_rfc3164 : (variant : Variant) (dating : Dating) (m n : MessageValue) → m.protocol ≡ protocol.RFC3164
     → IsRead variant dating (printed m) n → IsRead3164 dash_rule dating (printed m) n
@@ -145,7 +151,7 @@ module _ (variant : Variant) (dating : Dating) where
       → IsSettlingFault variant dating t Invalid
   settles_not t never = (λ u round. rests t u (none_settled variant dating t never (length t + 1)) round, never)
 
-  -- where a copy was refused, the text has a reading, so the fault is not `Invalid`
+  -- where memory was refused, the text has a reading, so the fault is not `Invalid`
   pub copy_refused : (t : Text) (r : Result Bool AllocError) (fault : AllocError) → r ≡ Err fault
       → (IsUnreadable variant dating t → IsOk r) → (Memory ≡ Invalid) ↔ IsUnreadable variant dating t
   copy_refused t r fault e h = (λ i. absurd (invalid_or_memory i), λ u. absurd (no_ok r fault e (h u)))

@@ -1,7 +1,8 @@
--- The year counts in round 1 alone: what `settle` answers in one year it answers in each, where the text asks for none.
-use Rattle.syslog_loose.proofs.Names.{ℕ, zero, suc, Option, None, Result, Ok, Err, sym, subst, Bor, chars, Text, Dating}
-use Rattle.syslog_loose.proofs.Names.{dating_of, MonthDate, IsCanonical, MessageValue, dash_rule, IsRead, AsksYear}
-use Rattle.syslog_loose.proofs.Names.{IsNext, IsRound, IsFirstSettled, Variant, string_bytes}
+-- The year counts in round 1 alone: what is printed asks for none, and what `settle` answers in one year to a text that
+-- asks for none it answers in each.
+use Rattle.syslog_loose.proofs.Names.{ℕ, zero, suc, Bool, true, false, Option, None, Result, Ok, Err, refl, sym, subst, Bor, chars}
+use Rattle.syslog_loose.proofs.Names.{Text, Dating, dating_of, MonthDate, IsCanonical, MessageValue, dash_rule, IsRead, AsksYear}
+use Rattle.syslog_loose.proofs.Names.{IsNext, IsRound, NoneSettled, IsFirstSettled, ReachesFrom, Variant, string_bytes}
 use Rattle.syslog_loose.specs.declared.fault.ParseFault.{ParseFault}
 use Rattle.syslog_loose.specs.declared.fault.ParseFault.TheVariants.{Invalid, Memory}
 use Rattle.std.proofs.Common.{ℤ}
@@ -9,7 +10,7 @@ use Rattle.std.specs.Prelude.{IfOk, String}
 use Rattle.std.specs.Global.{Global}
 use Rattle.jiff.specs.declared.tz.timezone.TimeZone.{TimeZone}
 use Rattle.syslog_loose.specs.Reading.{IncompleteDate, IsYearAnswered, InYear}
-use Rattle.syslog_loose.specs.Settling.{Settles}
+use Rattle.syslog_loose.specs.Settling.{Settles, IsToldRound}
 use Rattle.syslog_loose.proofs.ReadingLemmas.{any_year, in_answered_year, in_year_map}
 use Rattle.syslog_loose.proofs.SettlingLemmas.Quiet.{printed_quiet}
 use Rattle.syslog_loose.proofs.SettlingLemmas.Settles.{settled_canonical, settles_as, settles_not}
@@ -44,15 +45,41 @@ module _ (variant : Variant) (tz : Option (Bor TimeZone)) (local : Bor TimeZone)
     next_in year other before u (round_quiet year t n before quiet round) h,
   )
 
+  none_in : (year other : Option ℤ) (t : Text) (n : ℕ) → Quiet t → NoneSettled variant (In year) t n
+      → NoneSettled variant (In other) t n
+  none_in year other t n quiet none k x l round settled =
+      none k x l (round_in other year t (suc k) x quiet round)
+      (next_in other year x x (round_quiet other t (suc k) x quiet round) settled)
+
+  -- a round of such a text is told in one year as in each
+  pub told_in : (year other : Option ℤ) (t later : Text) (settled : Bool) → Quiet t
+      → IsToldRound variant (In year) t later settled → IsToldRound variant (In other) t later settled
+  told_in year other t later true quiet (next, s) = (
+    next_in year other t later quiet next,
+    next_in year other later later (round_quiet year t 1 later quiet (t, refl, next)) s,
+  )
+  told_in year other t later false quiet (odd, n, r) = (
+    λ s. odd (next_in other year t t quiet s),
+    n,
+    record {
+      round = round_in year other t (suc n) later quiet r.round;
+      none = none_in year other t n quiet r.none;
+    },
+  )
+
+  -- and what is printed of a text asks for none
+  pub reached_quiet : (year : Option ℤ) (t : Text) (n : ℕ) (u : Text) → ReachesFrom variant (In year) t n u → Quiet u
+  reached_quiet year t n u r =
+      let (before, round, h) = r.reaches.round in
+      subst Quiet (sym h.is_printed) (printed_quiet variant (In year) before h.message h.read)
+
   first_in : (year other : Option ℤ) (t u : Text) → Quiet t → IsFirstSettled variant (In year) t u
       → IsFirstSettled variant (In other) t u
   first_in year other t u quiet s = record {
     before = s.before;
     round = round_in year other t (suc s.before) u quiet s.round;
     settled = next_in year other u u (round_quiet year t (suc s.before) u quiet s.round) s.settled;
-    none_before = λ k x l round settled.
-        s.none_before k x l (round_in other year t (suc k) x quiet round)
-        (next_in other year x x (round_quiet other t (suc k) x quiet round) settled);
+    none_before = none_in year other t s.before quiet s.none_before;
   }
 
   settles_in : (year other : Option ℤ) (t : Text) (result : Result (String Global) ParseFault) → Quiet t

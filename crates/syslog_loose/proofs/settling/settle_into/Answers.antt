@@ -20,13 +20,13 @@ pub returns-then-round-clause-settles : goal.returns-then-round-clause-settles
 returns-then-round-clause-settles g c =
     let round = c.in_ok-round.round in
     let told = c.in_ok-round.ensures _ c.trimmed-left.ensures in
-    settles_answered c.args.variant c.args.tz c.args.local _ _ (Ok c.first_round.new.text) round.year told.0
+    settles_answered c.args.variant c.args.tz c.args.local _ _ (Ok c.next_round.new.text) round.year told.0
     (first_answer c.args.variant (dating_of round.year c.args.tz c.args.local) _ _ round.settled c.if-round.true
     told.1.told)
 
 pub returns-then-round-clause-canonical : goal.returns-then-round-clause-canonical
 returns-then-round-clause-canonical g c =
-    answer_canonical c.args.variant c.args.tz c.args.local _ (chars c.args.input.now) (Ok c.first_round.new.text)
+    answer_canonical c.args.variant c.args.tz c.args.local _ (chars c.args.input.now) (Ok c.next_round.new.text)
     (returns-then-round-clause-settles g c)
 
 pub returns-clause-settles : goal.returns-clause-settles
