@@ -1,5 +1,5 @@
--- The process id that a word of a header names.
-use Rattle.std.proofs.Common.{Option, Some, None, refl}
+-- The words of a header: the process id that one names, and which print as they stand.
+use Rattle.std.proofs.Common.{◌≡◌, ◌∷◌, ◌++◌, Option, Some, None, refl}
 use Rattle.syslog_pieces.specs.Pieces.Class.{Text, Front}
 use Rattle.syslog_pieces.specs.ProcId.{process_word}
 use Rattle.syslog_pieces.specs.Text.{word}
@@ -24,3 +24,9 @@ pub process_there : {t q : Text} {v : Option Text} → Front word t q v
     → (process : Option (ProcId Text)) × Front process_word t q process
 process_there {v = None} f = (None, absent_front f)
 process_there {v = Some t} f = let (p, n) = names_some t in (Some p, process_front p f n)
+
+-- four names, each behind a space
+pub names_joined : {t a b c d e f g : Text} (host app process id q : Text) → t ≡ 32 ∷ a → a ≡ host ++ b → b ≡ 32 ∷ c
+    → c ≡ app ++ d → d ≡ 32 ∷ e → e ≡ process ++ f → f ≡ 32 ∷ g → g ≡ id ++ q
+    → t ≡ 32 ∷ (host ++ (32 ∷ (app ++ (32 ∷ (process ++ (32 ∷ (id ++ q)))))))
+names_joined host app process id q i j k l m n o p = cc

@@ -47,6 +47,18 @@ names_before h process more =
     32 ∷ (name_text (seen h.hostname) ++ (32 ∷ (name_text (seen h.appname) ++ (32 ∷ (process_text process
     ++ (32 ∷ (name_text (seen h.msgid) ++ more)))))))
 
+-- from its version on the header stands as it prints, but for the timestamp, before what follows
+pub record PrintsHeader (text : Text) (h : Header) (follows : Text) : Type 0 where
+  pub process : Option (ProcId Text)
+  pub named : NamesWord (seen h.process) process
+  pub front : text ≡ decimal h.version ++ (32 ∷ shown h.start)
+  pub names : shown h.tail ≡ names_before h process follows
+
+-- where the timestamp stands, and that the rest of the header stands as it prints, if so it says
+pub record HeaderStands (text : Text) (h : Header) (follows : Text) : Type 0 where
+  pub stamp : Front header_stamp (shown h.start) (shown h.tail) h.timestamp
+  pub stands : IsTrue h.stands → PrintsHeader text h follows
+
 -- the message of a header with these elements and this text
 abbrev pub message_with : Header → Option (ProcId Text) → List ElementValue → Text → MessageValue
 message_with h process elements msg = record {

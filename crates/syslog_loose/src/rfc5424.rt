@@ -2,30 +2,31 @@
 //!
 //! `read_behind` answers the message of the one division of a trimmed text, or that there is none. What it reads it
 //! takes from the readers of `syslog_pieces`, piece by piece from the left; a header that fails takes no memory.
-ghost use Rattle.std.specs.Prelude.{◌≡◌, IfOk, IfSome, IsOk, MatchOption, Option, Some, None, map};
+ghost use Rattle.std.specs.Prelude.{◌≡◌, IfOk, IfSome, IsOk, IsTrue, MatchOption, Option, Some, None, map};
+ghost use Rattle.std.specs.List.{AllByRecursion};
 ghost use Rattle.std.specs.Option.{option_map};
-ghost use Rattle.std.specs.Str.{chars};
-ghost use Rattle.syslog_pieces.specs.Pieces.Class.{Front, Text};
+ghost use Rattle.std.specs.Str.{chars, IsUtf8};
+ghost use Rattle.syslog_pieces.specs.Pieces.Class.{Text};
 ghost use Rattle.syslog_pieces.specs.Pieces.View.{seen, shown};
 ghost use Rattle.syslog_pieces.specs.ProcId.{procid_value};
 ghost use Rattle.syslog_pieces.specs.Text.{trimmed};
-ghost use Rattle.syslog_pieces.specs.Timestamp.{header_stamp as stamp_class};
 ghost use Rattle.syslog_loose.specs.Message.{message_value};
 ghost use Rattle.syslog_loose.specs.Rfc5424 as spec;
 ghost use Rattle.syslog_loose.specs.Start.{IsBehindPriority};
-ghost use Rattle.syslog_loose.specs.View5424.{HasHeader, NamesWord, ReadsHeader, message_with};
+ghost use Rattle.syslog_loose.specs.View5424.{HasHeader, HeaderStands, NamesWord, ReadsHeader, message_with};
 ghost use Rattle.syslog_pieces.specs.StructuredData.Element.{element_value};
 ghost use Rattle.syslog_pieces.specs.declared.procid.ProcId.{ProcId as ProcIdValue};
 
 use crate::message::{Message, Protocol};
 use std::alloc::{AllocError, Global};
 use syslog_pieces::pri::parts;
-use syslog_pieces::procid::ProcId;
+use syslog_pieces::procid::{ProcId, process_stands};
 use syslog_pieces::structured_data::{StructuredElement, forgiving_list};
+use syslog_pieces::text::verbatim::{is_one_space, number_stands};
 use syslog_pieces::text::{blanks, host, number, some_blanks, word};
 use syslog_pieces::timestamp::{OffsetTimestamp, header_stamp};
 
-/// The fields before the structured data, and where the timestamp stands in the text.
+/// The fields before the structured data, and how they stand in the text.
 #[derive(Clone, Copy)]
 pub(crate) struct Header<'a> {
     pub(crate) priority: Option<u8>,
@@ -40,18 +41,31 @@ pub(crate) struct Header<'a> {
     pub(crate) start: &'a str,
     /// The text behind the timestamp.
     pub(crate) tail: &'a str,
+    /// Whether all but the priority and the timestamp stands as it would be printed. It may be false of others too.
+    pub(crate) stands: bool,
 }
 
-/// The fields at the front of a text, from what stands behind its priority on, and the text behind them. `IS_ROUND`
-/// tells the two callers apart, so that each has a body of its own, compiled in place: one for both would be called.
+// Whether all of them are true, by one look.
 #[inline(always)]
-pub(crate) fn read_header<const IS_ROUND: bool>(
+fn are_all(tests: [bool; 7]) -> bool
+    ensures { IsTrue result → AllByRecursion IsTrue tests }
+{
+    let [a, b, c, d, e, f, g] = tests;
+    a & b & c & d & e & f & g
+}
+
+/// The fields at the front of a text, from what stands behind its priority on, and the text behind them. `CALLER`
+/// tells the callers apart, so that each has a body of its own, compiled in place: one for all would be called.
+#[inline(always)]
+pub(crate) fn read_header<const CALLER: u8>(
     priority: Option<u8>,
     text: &str,
 ) -> Option<(Header<'_>, &str)>
     ensures reads { (whole : Text) → IsBehindPriority whole priority (chars text.now)
         → ReadsHeader whole result }
-    ensures stamp { IfSome result (λ x. Front stamp_class (shown x.0.start) (shown x.0.tail) x.0.timestamp) }
+    ensures stands { IfSome result (λ x. HeaderStands (chars text.now) x.0 (shown x.1)) }
+    ensures number { IfSome result (λ x. x.0.priority ≡ priority) }
+    ensures utf8 { IfSome result (λ x. IsUtf8 x.0.start.now × IsUtf8 x.0.tail.now × IsUtf8 x.1.now) }
 {
     let (version, behind_version) = number(text, u32::MAX)?;
     let start = some_blanks(behind_version)?;
@@ -66,6 +80,15 @@ pub(crate) fn read_header<const IS_ROUND: bool>(
     let (process, behind_process) = word(at_process)?;
     let at_id = some_blanks(behind_process)?;
     let (msgid, rest) = word(at_id)?;
+    let stands = are_all([
+        number_stands(text),
+        is_one_space(behind_version, start),
+        is_one_space(tail, at_host),
+        is_one_space(behind_host, at_app),
+        is_one_space(behind_app, at_process),
+        process_stands(at_process),
+        is_one_space(behind_process, at_id),
+    ]);
     Some((
         Header {
             priority,
@@ -77,6 +100,7 @@ pub(crate) fn read_header<const IS_ROUND: bool>(
             msgid,
             start,
             tail,
+            stands,
         },
         rest,
     ))
@@ -154,7 +178,7 @@ pub(crate) fn read_behind(
     ensures memory { (whole : Text) → IsBehindPriority (trimmed whole) priority (chars text.now)
         → spec.NeedsNoMemory5424 whole → IsOk result }
 {
-    let Some((header, behind)) = read_header::<false>(priority, text) else {
+    let Some((header, behind)) = read_header::<0>(priority, text) else {
         return Ok(None);
     };
     message_behind(alloc, &header, behind)

@@ -66,7 +66,7 @@ pub fn normalise<F: FnOnce(IncompleteDate) -> i32>(
 {
     let left = trimmed(input);
     let mut text = String::new(alloc);
-    next_round(alloc, &mut text, left, get_year, tz, variant, local, false)?;
+    next_round::<F, 1>(alloc, &mut text, left, get_year, tz, variant, local, false)?;
     Ok(text)
 }
 
@@ -79,9 +79,9 @@ pub(crate) struct Round {
 
 /// Writes a round of the trimmed input into `text`: the next one, where that is known to be settled, and tells so. Else
 /// the next one too, or, where rounds may be skipped, a later one before which none is settled. The closure is called
-/// once, and only where the text shows a date without a year that the variant reads.
+/// once, and only where the text shows a date without a year that the variant reads. `CALLER` is that of `read_header`.
 #[inline]
-pub(crate) fn next_round<F: FnOnce(IncompleteDate) -> i32>(
+pub(crate) fn next_round<F: FnOnce(IncompleteDate) -> i32, const CALLER: u8>(
     alloc: Global,
     text: &mut String,
     input: &str,
@@ -102,7 +102,7 @@ pub(crate) fn next_round<F: FnOnce(IncompleteDate) -> i32>(
         return Err(ParseFault::Invalid);
     }
     let (priority, rest) = optional_priority(input);
-    let found = rfc5424_text(alloc, text, input, priority, rest, variant)?;
+    let found = rfc5424_text::<CALLER>(alloc, text, input, priority, rest, variant)?;
     if found {
         return Ok(Round {
             settled: true,

@@ -71,7 +71,7 @@ pub fn settle_into<F: FnOnce(IncompleteDate) -> i32>(
         → IsCanonical dash_rule m)) }
 {
     let left = trimmed(input);
-    let round = next_round(alloc, text, left, get_year, tz, variant, local, true)?;
+    let round = next_round::<F, 2>(alloc, text, left, get_year, tz, variant, local, true)?;
     if round.settled {
         return Ok(());
     }
@@ -97,7 +97,7 @@ fn settle_on(
         swap(&mut last, text);
         let left = trimmed(last.as_str());
         let no_year = |_: IncompleteDate| -> i32 { 0 };
-        let round = next_round(alloc, text, left, no_year, tz, variant, local, true)?;
+        let round = next_round::<_, 3>(alloc, text, left, no_year, tz, variant, local, true)?;
         if round.settled {
             return Ok(());
         }

@@ -9,7 +9,7 @@
 //!
 //! The modules `text::verbatim`, `text::canonical`, `text::write_ascii`, `timestamp::verbatim`, `timestamp::canonical`,
 //! `timestamp::month_date::standard` and `structured_data::canonical`, the functions `.._stands`, and
-//! `structured_data::verbatim_list`, serve `syslog_loose` alone.
+//! `structured_data::printed_list`, serve `syslog_loose` alone.
 #![tactic(auto)]
 
 pub mod as_str;

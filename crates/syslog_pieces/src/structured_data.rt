@@ -27,7 +27,7 @@ pub use params::ParamsIter;
 pub use recognise::after_element;
 use std::alloc::Global;
 use std::fmt;
-pub use verbatim::verbatim_list;
+pub use verbatim::printed_list;
 
 /// An element: its id, and the names and the raw values of its parameters, in order. It prints as it is written, each
 /// parameter behind one space; a value prints raw, with the escapes that stand in it and no others.

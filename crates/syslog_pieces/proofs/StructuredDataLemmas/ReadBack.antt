@@ -2,9 +2,9 @@
 -- lists print as they are written.
 use Rattle.syslog_pieces.proofs.Names.{◌≡◌, ◌≢◌, ℕ, ◌<◌, inl, inr, List, [], ◌∷◌, ◌++◌, length, map, Option, Some, None}
 use Rattle.syslog_pieces.proofs.Names.{refl, sym, ap, subst, ◌∙◌, append_assoc, arith, false, flat_map, AllByRecursion}
-use Rattle.syslog_pieces.proofs.Names.{VerbatimItems, Text, NoFront, Ends, Values, Front, exactly, run}
+use Rattle.syslog_pieces.proofs.Names.{VerbatimItems, ListPrints, Text, NoFront, Ends, Values, Front, exactly, run}
 use Rattle.syslog_pieces.proofs.Names.{some_run, texted, IsMany, IsList, IsMore, more_before, param_row, param}
-use Rattle.syslog_pieces.proofs.Names.{element_row, element_of, element, item, strict, forgiving}
+use Rattle.syslog_pieces.proofs.Names.{element_row, element_of, element, item, strict, forgiving, bracketed}
 use Rattle.syslog_pieces.proofs.Names.{ElementValue, param_text, IsCanonicalParam, IsCanonicalElement, BeginsUnblank}
 use Rattle.syslog_pieces.proofs.Names.{is_blank, is_id_char, is_name_char, heads, ◌also◌, row_pieces, row_of, ◌then◌}
 use Rattle.syslog_pieces.proofs.Names.{quoted, inside_row, opening_row, start_row, quoted_row, many_here, many_cons}
@@ -12,7 +12,7 @@ use Rattle.syslog_pieces.proofs.Names.{begins, list_here, more_here, Verbatim, b
 use Rattle.syslog_pieces.specs.Bodies.Verbatim.{bare_param_text}
 use Rattle.syslog_pieces.specs.StructuredData.Element.{element_text, joined_elements, elements_text}
 use Rattle.syslog_pieces.proofs.PieceLemmas.Lists.{list_cons, more_cons}
-use Rattle.syslog_pieces.proofs.StructuredDataLemmas.Elements.{item_begins, strict_some}
+use Rattle.syslog_pieces.proofs.StructuredDataLemmas.Elements.{item_begins, strict_some, bracketed_item}
 use Rattle.syslog_pieces.proofs.StructuredDataLemmas.Closing.{param_read, element_read}
 
 -- ---- parameters
@@ -255,31 +255,36 @@ joined q k es g = k.prints ∙ ap (λ (x : Text). element_text k.value ++ x) g
     ∙ sym (append_assoc (element_text k.value) (joined_elements es) q)
 
 pub list_first : {t s : Text} → Verbatim element element_text t s → VerbatimItems t s
-list_first {t = t} {s = s} k q items f e =
+list_first {t = t} {s = s} k q gap items f e =
     let m = many_cons item (item_of k) f in
     record {
-      value = k.value ∷ strict items;
+      elements = k.value ∷ strict items;
       is = record { piece = m.piece; whole = m.whole; is = inr (Some k.value ∷ items, omega arith, m.is, refl) };
-      prints = joined q k (strict items) e;
+      prints = joined gap k (strict items) e;
     }
 
 pub list_more : {t s s' : Text} → VerbatimItems t s → Verbatim element element_text s s' → VerbatimItems t s'
-list_more {s = s} {s' = s'} on k q items f e =
-    on q (Some k.value ∷ items) (many_cons item (item_of k) f) (joined q k (strict items) e)
+list_more {s = s} {s' = s'} on k q gap items f e =
+    on q gap (Some k.value ∷ items) (many_cons item (item_of k) f) (joined gap k (strict items) e)
 
 -- where no bracket stands, no item does
 no_bracket : (s : Text) → NoFront (exactly (91 ∷ [])) s → NoFront item s
 no_bracket s n p q v e h = let b = item_begins p q v h in n (91 ∷ []) b.0 tt (e ∙ b.1) refl
 
--- an absent list, and elements with no further one behind them
-pub dash_verbatim : (t s : Text) → Front (exactly (45 ∷ [])) t s tt → Verbatim forgiving elements_text t s
-dash_verbatim t s f =
-    let e = begins 45 t s f in
-    record { value = []; is = record { piece = 45 ∷ []; whole = e; is = inl (refl, refl) }; prints = e }
+-- a broken element behind them, and no further one
+pub broken_end : (t s q : Text) → VerbatimItems t s → NoFront element s → Front bracketed s q (tt, (tt, (tt, tt)))
+    → NoFront (exactly (91 ∷ [])) q → ListPrints t s q
+broken_end t s q on n b m =
+    on q s (None ∷ []) (many_cons item (bracketed_item s q n b) (many_here item q (no_bracket q m))) refl
 
-pub list_verbatim : (t s : Text) → VerbatimItems t s → NoFront (exactly (91 ∷ [])) s
-    → Verbatim forgiving elements_text t s
-list_verbatim t s on n = on s [] (many_here item s (no_bracket s n)) refl
+-- an absent list, and elements with no further one behind them
+pub dash_prints : (t s : Text) → Front (exactly (45 ∷ [])) t s tt → ListPrints t s s
+dash_prints t s f =
+    let e = begins 45 t s f in
+    record { elements = []; is = record { piece = 45 ∷ []; whole = e; is = inl (refl, refl) }; prints = e }
+
+pub list_prints : (t s : Text) → VerbatimItems t s → NoFront (exactly (91 ∷ [])) s → ListPrints t s s
+list_prints t s on n = on s s [] (many_here item s (no_bracket s n)) refl
 
 -- what the reader of a list that prints as it stands rests on
-pub ruleset verbatim_lists = (dash_verbatim, list_verbatim)
+pub ruleset printed_lists = (dash_prints, list_prints, broken_end)

@@ -1,15 +1,17 @@
 //! Lists whose strict elements print as they are written, with one space behind the id and no blank behind a `=`.
 //!
 //! Each reader answers the text behind the piece, or nothing where the piece prints otherwise or isn't there.
-ghost use Rattle.std.specs.Prelude.{IfSome};
+ghost use Rattle.std.specs.Prelude.{[], ◌∷◌, IfSome};
 ghost use Rattle.std.specs.Str.{chars};
-ghost use Rattle.syslog_pieces.specs.Bodies.Verbatim.{bare_param_text, Verbatim, VerbatimItems};
+ghost use Rattle.syslog_pieces.specs.Bodies.Verbatim.{bare_param_text, ListPrints, Verbatim, VerbatimItems};
+ghost use Rattle.syslog_pieces.specs.Pieces.Class.{Front, NoFront, exactly};
 ghost use Rattle.syslog_pieces.specs.Pieces.View.{shown};
-ghost use Rattle.syslog_pieces.specs.StructuredData.{element as element_class, forgiving, param as param_class};
-ghost use Rattle.syslog_pieces.specs.StructuredData.Element.{element_text, elements_text};
+ghost use Rattle.syslog_pieces.specs.StructuredData.{bracketed as bracketed_class, element as element_class};
+ghost use Rattle.syslog_pieces.specs.StructuredData.{param as param_class};
+ghost use Rattle.syslog_pieces.specs.StructuredData.Element.{element_text};
 
 use super::element::quoted;
-use super::recognise::nonempty_run;
+use super::recognise::{after_bracketed, after_element, nonempty_run};
 use crate::text::verbatim::is_one_space;
 use crate::text::{CharClass, literal, some_blanks};
 
@@ -63,19 +65,37 @@ fn verbatim_elements(text: &str) -> Option<&str>
     }
 }
 
-/// The text behind the list at the front, where that prints as it stands: it is `-`, or strict elements alone, each of
-/// which does. Takes no memory.
-#[tactic(auto, using(crate::proofs::StructuredDataLemmas::ReadBack::verbatim_lists))]
-#[inline(always)]
-pub fn verbatim_list(text: &str) -> Option<&str>
-    ensures { IfSome result (λ rest. Verbatim forgiving elements_text (chars text.now) (shown rest)) }
+// The text behind a broken element at the front, where that is the last of its list.
+#[inline(never)]
+fn last_broken(text: &str) -> Option<&str>
+    ensures { IfSome result (λ rest. NoFront element_class (chars text.now)
+        × ((v : bracketed_class.Value) × Front bracketed_class (chars text.now) (shown rest) v)
+        × NoFront (exactly (91 ∷ [])) (shown rest)) }
 {
-    if let Some(rest) = literal(text, '-') {
-        return Some(rest);
-    }
-    let rest = verbatim_elements(text)?;
+    let None = after_element(text) else {
+        return None;
+    };
+    let rest = after_bracketed(text)?;
     match literal(rest, '[') {
         Some(_) => None,
         None => Some(rest),
     }
+}
+
+/// The text behind the printed text of the list at the front, and the text behind the list: its strict elements print
+/// as they stand, and at most a broken element stands behind them. Takes no memory.
+#[tactic(auto, using(crate::proofs::StructuredDataLemmas::ReadBack::printed_lists))]
+#[inline(always)]
+pub fn printed_list(text: &str) -> Option<(&str, &str)>
+    ensures { IfSome result (λ x. ListPrints (chars text.now) (shown x.0) (shown x.1)) }
+{
+    if let Some(rest) = literal(text, '-') {
+        return Some((rest, rest));
+    }
+    let gap = verbatim_elements(text)?;
+    let Some(_) = literal(gap, '[') else {
+        return Some((gap, gap));
+    };
+    let next = last_broken(gap)?;
+    Some((gap, next))
 }

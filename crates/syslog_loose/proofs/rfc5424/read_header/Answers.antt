@@ -1,9 +1,14 @@
 -- Each exit says that the row fails at its piece, behind the pieces that were read; the return joins them.
-use Rattle.std.proofs.Common.{inl, refl, rules}
+use Rattle.std.proofs.Common.{◌++◌, inl, refl, rules, ap, ◌∙◌}
+use Rattle.std.specs.Fmt.{decimal}
+use Rattle.syslog_pieces.specs.Pieces.Class.{Text}
+use Rattle.syslog_pieces.specs.Pieces.View.{seen, shown}
+use Rattle.syslog_pieces.specs.Text.{name_text}
 use Rattle.syslog_pieces.proofs.PieceLemmas.Rows.{row_of, no_row, ◌then◌, ◌past◌}
 use Rattle.syslog_pieces.proofs.ProcIdLemmas.{no_process}
+use Rattle.syslog_pieces.proofs.TextLemmas.Verbatim.{host_stands, word_stands}
 use Rattle.syslog_loose.specs.Rfc5424.{header_row}
-use Rattle.syslog_loose.proofs.HeaderLemmas.{process_named, process_there}
+use Rattle.syslog_loose.proofs.HeaderLemmas.{names_joined, process_named, process_there, word_some}
 use Rattle.syslog_loose.proofs.Rfc5424Lemmas.{header_det}
 use Rattle.syslog_loose.proofs.rfc5424.read_header.Goals as goal
 
@@ -82,3 +87,23 @@ returns-clause-reads g c whole f = λ process n.
     then c.in_ok-at_host.ensures then c.in_ok-hostname.ensures then c.in_ok-at_app.ensures
     then c.in_ok-appname.ensures then c.in_ok-at_process.ensures then (process_named c.in_ok-process.ensures n)
     then c.in_ok-at_id.ensures then c.in_ok-msgid.ensures then refl)
+
+pub returns-clause-stands : goal.returns-clause-stands
+returns-clause-stands g c = record {
+  stamp = c.in-Some.ensures;
+  stands = λ e.
+      let (version, (first, (second, (third, (fourth, (bare, (fifth, _))))))) = c.are_all-stands.ensures e in
+      let (process, named) = word_some (seen c.in_ok-process.process) in
+      let prints = c.process_stands.ensures bare _ process (process_named c.in_ok-process.ensures named) in
+      record {
+        process = process;
+        named = named;
+        front = c.number_stands.ensures version _ _ c.in_ok-version.ensures
+            ∙ ap (λ (x : Text). decimal c.in_ok-version.version ++ x) (c.is_one_space.ensures first);
+        names = names_joined _ _ _ (name_text (seen c.in_ok-msgid.msgid)) (shown c.in_ok-msgid.rest)
+            (c.is_one_space-2.ensures second) (host_stands _ _ _ c.in_ok-hostname.ensures)
+            (c.is_one_space-3.ensures third) (word_stands _ _ _ c.in_ok-appname.ensures)
+            (c.is_one_space-4.ensures fourth) prints (c.is_one_space-5.ensures fifth)
+            (word_stands _ _ _ c.in_ok-msgid.ensures);
+      };
+}
