@@ -12,14 +12,15 @@ use Rattle.syslog_pieces.specs.StructuredData.{forgiving}
 use Rattle.syslog_pieces.specs.StructuredData.Element.{ElementValue, elements_text}
 use Rattle.syslog_pieces.specs.Text.{is_blank, name_text}
 use Rattle.syslog_pieces.specs.Timestamp.Zone.{Dating}
+use Rattle.syslog_pieces.specs.declared.procid.ProcId.{ProcId}
 use Rattle.syslog_pieces.specs.declared.timestamp.month_date.MonthDate.{MonthDate}
 use Rattle.syslog_loose.specs.Formats.{printed_number}
 use Rattle.syslog_loose.specs.Message.{MessageValue}
 use Rattle.syslog_loose.specs.Printed.{printed}
 use Rattle.syslog_loose.specs.Reading.{AsksYear, IsOnlyRead}
-use Rattle.syslog_loose.specs.Rfc5424.{rfc5424_row, message_of, IsNot5424, IsRead5424}
+use Rattle.syslog_loose.specs.Rfc5424.{header_row, rfc5424_row, message_of, IsNot5424, IsRead5424}
 use Rattle.syslog_loose.specs.Start.{IsBehindPriority}
-use Rattle.syslog_loose.specs.View5424.{HasHeader, HeaderStands}
+use Rattle.syslog_loose.specs.View5424.{HeaderStands, NamesWord, header_values}
 use Rattle.syslog_loose.specs.declared.line.Line.{Line}
 use Rattle.syslog_loose.specs.declared.line.NamedLine.{NamedLine}
 use Rattle.syslog_loose.specs.declared.variant.Variant.{Variant}
@@ -29,7 +30,9 @@ pub record IsLine (priority : Option ℕ) (text : Text) (line : Line) : Type 0 w
   pub number : line.header.priority ≡ priority
   pub elements : List ElementValue
   pub end : Text
-  pub header : (whole : Text) → IsBehindPriority whole priority text → HasHeader whole line.header (shown line.behind)
+  pub header : (whole : Text) → IsBehindPriority whole priority text → (process : Option (ProcId Text))
+      → NamesWord (seen line.header.process) process
+      → Front (Row header_row) whole (shown line.behind) (header_values line.header process)
   pub stands : HeaderStands text line.header (shown line.behind)
   pub blanks : Front (run is_blank) (shown line.behind) (shown line.list) tt
   pub list : Front forgiving (shown line.list) end elements

@@ -32,14 +32,10 @@ name_values h process = (seen h.hostname, (tt, (seen h.appname, (tt, process_val
 abbrev pub header_values : Header → Option (ProcId Text) → Values header_row
 header_values h process = (h.priority, (h.version, (tt, (h.timestamp, (tt, name_values h process)))))
 
--- the text begins with this header, with each process id that its word names, before what follows
-abbrev pub HasHeader : Text → Header → Text → Type 0
-HasHeader text h follows = (process : Option (ProcId Text)) → NamesWord (seen h.process) process
-    → Front (Row header_row) text follows (header_values h process)
-
--- that header, or nothing where there is none
+-- the header at the front of the text, with each process id that its word names, or nothing where there is no header
 abbrev pub ReadsHeader : Text → Option (Header × Bor (List ℕ)) → Type 0
-ReadsHeader text r = MatchOption r (NoFront (Row header_row) text) (λ x. HasHeader text x.0 (shown x.1))
+ReadsHeader text r = MatchOption r (NoFront (Row header_row) text) (λ x. (process : Option (ProcId Text))
+    → NamesWord (seen x.0.process) process → Front (Row header_row) text (shown x.1) (header_values x.0 process))
 
 -- host, app name, process id and message id as they print, each behind a space, and more
 abbrev pub names_before : Header → Option (ProcId Text) → Text → Text

@@ -3,7 +3,7 @@
 //! Most lines that a program wrote are already in the form that a message prints: one space in each gap, no leading
 //! zeros, strict elements alone. The reader of the header tells what stands so, and that is copied: no message is made
 //! of such a line, no element collected, and nothing printed but what stands otherwise. Of a line whose elements or
-//! timestamp print otherwise the message is made, from the header that was read, and printed.
+//! timestamp print otherwise the message is made and printed.
 ghost use Rattle.std.specs.Prelude.{◌≡◌, ◌≢◌, ◌++◌, ◌∷◌, IfOk, IfSome, IsOk, IsTrue, MatchBool, OnOk, Option, ℕ};
 ghost use Rattle.std.specs.Prelude.{Some, string_bytes};
 ghost use Rattle.std.specs.Fmt.{WritesOnOk};
@@ -20,11 +20,10 @@ ghost use Rattle.syslog_loose.specs.Line as spec;
 ghost use Rattle.syslog_loose.specs.Reading.{AsksYear, IsUnreadable, OfTrimmed};
 ghost use Rattle.syslog_loose.specs.Rfc5424.{IsNot5424};
 ghost use Rattle.syslog_loose.specs.Start.{IsBehindPriority};
-ghost use Rattle.syslog_loose.specs.View5424.{HasHeader};
 ghost use Rattle.syslog_loose.specs.declared.variant.Variant.TheVariants.{RFC3164};
 
 use crate::message::{make_room, print, priority, write_name, write_process, write_spaced};
-use crate::rfc5424::{Header, message_behind, process_of, read_header};
+use crate::rfc5424::{Header, process_of, read_behind, read_header};
 use crate::variant::Variant;
 use std::alloc::{AllocError, Global};
 use std::fmt;
@@ -249,21 +248,22 @@ fn write_line(
     Ok(())
 }
 
-// Writes the message of this header and what stands behind it, and tells whether there is one.
+// Writes the message of a line of which this stands behind the priority, and tells whether there is one. (It reads the
+// header again: handed on, that would stand in memory on each line, also where it is copied.)
 #[inline(never)]
 fn print_message(
     alloc: Global,
     text: &mut String,
-    header: &Header<'_>,
-    behind: &str,
+    number: Option<u8>,
+    rest: &str,
     length: usize,
 ) -> Result<bool, AllocError>
-    ensures text { (whole : Text) → HasHeader (trimmed whole) header.now (chars behind.now)
+    ensures text { (whole : Text) → IsBehindPriority (trimmed whole) number (chars rest.now)
         → IfOk result (λ found. spec.IsTold5424 found whole (string_bytes text.new)) }
-    ensures memory { (whole : Text) → HasHeader (trimmed whole) header.now (chars behind.now) → IsNot5424 whole
+    ensures memory { (whole : Text) → IsBehindPriority (trimmed whole) number (chars rest.now) → IsNot5424 whole
         → IsOk result }
 {
-    let Some(message) = message_behind(alloc, header, behind)? else {
+    let Some(message) = read_behind(alloc, number, rest)? else {
         return Ok(false);
     };
     print(text, &message, length)?;
@@ -301,8 +301,7 @@ fn header_text<const CALLER: u8>(
             return Ok(true);
         }
     }
-    let kept = header;
-    print_message(alloc, text, &kept, behind, input.len())
+    print_message(alloc, text, number, rest, input.len())
 }
 
 /// Writes the printed text of the message as which the variant reads the trimmed line by RFC 5424 into `text`, and tells

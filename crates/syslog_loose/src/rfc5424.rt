@@ -13,7 +13,7 @@ ghost use Rattle.syslog_pieces.specs.Text.{trimmed};
 ghost use Rattle.syslog_loose.specs.Message.{message_value};
 ghost use Rattle.syslog_loose.specs.Rfc5424 as spec;
 ghost use Rattle.syslog_loose.specs.Start.{IsBehindPriority};
-ghost use Rattle.syslog_loose.specs.View5424.{HasHeader, HeaderStands, NamesWord, ReadsHeader, message_with};
+ghost use Rattle.syslog_loose.specs.View5424.{HeaderStands, NamesWord, ReadsHeader, message_with};
 ghost use Rattle.syslog_pieces.specs.StructuredData.Element.{element_value};
 ghost use Rattle.syslog_pieces.specs.declared.procid.ProcId.{ProcId as ProcIdValue};
 
@@ -144,28 +144,8 @@ fn header_message<'a>(
     }
 }
 
-/// The message of a header, the list behind it and the text behind that, and none where no list stands there. Memory is
-/// asked for only to collect elements, after the whole list has been recognised.
-#[inline(always)]
-pub(crate) fn message_behind<'a>(
-    alloc: Global,
-    header: &Header<'a>,
-    text: &'a str,
-) -> Result<Option<Message<&'a str>>, AllocError>
-    ensures read { (whole : Text) → HasHeader (trimmed whole) header.now (chars text.entry.now)
-        → IfOk result (λ found. MatchOption found (spec.IsNot5424 whole)
-        (λ m. spec.IsRead5424 whole (message_value (λ s. shown s) m))) }
-    ensures memory { (whole : Text) → HasHeader (trimmed whole) header.now (chars text.entry.now)
-        → spec.NeedsNoMemory5424 whole → IsOk result }
-{
-    let Some((elements, rest)) = forgiving_list(alloc, blanks(text))? else {
-        return Ok(None);
-    };
-    Ok(Some(header_message(header, elements, blanks(rest))))
-}
-
 /// The message of the one division of a trimmed text, from what stands behind its priority on, and none where there is
-/// no division.
+/// no division. Memory is asked for only to collect elements, after the whole text has been recognised.
 #[inline(always)]
 pub(crate) fn read_behind(
     alloc: Global,
@@ -178,8 +158,11 @@ pub(crate) fn read_behind(
     ensures memory { (whole : Text) → IsBehindPriority (trimmed whole) priority (chars text.now)
         → spec.NeedsNoMemory5424 whole → IsOk result }
 {
-    let Some((header, behind)) = read_header::<0>(priority, text) else {
+    let Some((header, rest)) = read_header::<0>(priority, text) else {
         return Ok(None);
     };
-    message_behind(alloc, &header, behind)
+    let Some((elements, rest)) = forgiving_list(alloc, blanks(rest))? else {
+        return Ok(None);
+    };
+    Ok(Some(header_message(&header, elements, blanks(rest))))
 }

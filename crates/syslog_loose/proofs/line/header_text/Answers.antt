@@ -42,7 +42,7 @@ returns-in-Some-copied_stamp-clause-text g c whole e =
     let (line, prints, written) = c.in_ok-write_line.ensures in prints_read whole _ line _ e prints written
 
 pub returns-clause-text : goal.returns-clause-text
-returns-clause-text g c whole e = c.print_message.ensures.text whole (rw e at (c.in-Some.ensures.reads _ c.requires))
+returns-clause-text g c whole e = c.print_message.ensures.text whole (rw e at c.requires)
 
 pub returns-clause-memory : goal.returns-clause-memory
-returns-clause-memory g c whole e = c.print_message.ensures.memory whole (rw e at (c.in-Some.ensures.reads _ c.requires))
+returns-clause-memory g c whole e = c.print_message.ensures.memory whole (rw e at c.requires)

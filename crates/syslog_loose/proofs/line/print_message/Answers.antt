@@ -4,8 +4,8 @@ use Rattle.syslog_loose.proofs.ReadingLemmas.{no_ok}
 use Rattle.syslog_loose.proofs.line.print_message.Goals as goal
 
 pub returns-in_err-message-clause-memory : goal.returns-in_err-message-clause-memory
-returns-in_err-message-clause-memory c whole f none = absurd (no_ok c.message_behind.result _ c.in_err-message.was
-    (c.message_behind.ensures.memory whole f (λ m r. absurd (none r.values r.division))))
+returns-in_err-message-clause-memory c whole f none = absurd (no_ok c.read_behind.result _ c.in_err-message.was
+    (c.read_behind.ensures.memory whole f (λ m r. absurd (none r.values r.division))))
 
 pub returns-in_default-clause-text : goal.returns-in_default-clause-text
 returns-in_default-clause-text c whole f = rw c.in_default.is at (c.in_ok-message.ensures.read whole f)
