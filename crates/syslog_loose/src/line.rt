@@ -288,20 +288,21 @@ fn header_text<const CALLER: u8>(
         return Ok(false);
     };
     let list = blanks(behind);
-    if let Some((gap, end)) = printed_list(list) {
-        if let Some(stamp) = copied_stamp(header.start, header.tail) {
-            let line = Line {
-                header,
-                behind,
-                list,
-                gap,
-                msg: blanks(end),
-            };
-            write_line(text, input, rest, &line, stamp)?;
-            return Ok(true);
-        }
-    }
-    print_message(alloc, text, number, rest, input.len())
+    let Some((gap, end)) = printed_list(list) else {
+        return print_message(alloc, text, number, rest, input.len());
+    };
+    let Some(stamp) = copied_stamp(header.start, header.tail) else {
+        return print_message(alloc, text, number, rest, input.len());
+    };
+    let line = Line {
+        header,
+        behind,
+        list,
+        gap,
+        msg: blanks(end),
+    };
+    write_line(text, input, rest, &line, stamp)?;
+    Ok(true)
 }
 
 /// Writes the printed text of the message as which the variant reads the trimmed line by RFC 5424 into `text`, and tells

@@ -37,12 +37,18 @@ returns-in_err-write_line-clause-memory g c whole e none =
     c.in-Some-printed_list.ensures.is c.blanks.ensures in
     absurd (none _ (is_read whole _ _ _ e refl row).division)
 
-pub returns-in-Some-copied_stamp-clause-text : goal.returns-in-Some-copied_stamp-clause-text
-returns-in-Some-copied_stamp-clause-text g c whole e =
+pub returns-clause-text : goal.returns-clause-text
+returns-clause-text g c whole e =
     let (line, prints, written) = c.in_ok-write_line.ensures in prints_read whole _ line _ e prints written
 
-pub returns-clause-text : goal.returns-clause-text
-returns-clause-text g c whole e = c.print_message.ensures.text whole (rw e at c.requires)
+pub returns-in_default-printed_list-clause-text : goal.returns-in_default-printed_list-clause-text
+returns-in_default-printed_list-clause-text g c whole e = c.print_message.ensures.text whole (rw e at c.requires)
 
-pub returns-clause-memory : goal.returns-clause-memory
-returns-clause-memory g c whole e = c.print_message.ensures.memory whole (rw e at c.requires)
+pub returns-in_default-printed_list-clause-memory : goal.returns-in_default-printed_list-clause-memory
+returns-in_default-printed_list-clause-memory g c whole e = c.print_message.ensures.memory whole (rw e at c.requires)
+
+pub returns-in_default-copied_stamp-clause-text : goal.returns-in_default-copied_stamp-clause-text
+returns-in_default-copied_stamp-clause-text g c whole e = c.print_message-in_default-copied_stamp.ensures.text whole (rw e at c.requires)
+
+pub returns-in_default-copied_stamp-clause-memory : goal.returns-in_default-copied_stamp-clause-memory
+returns-in_default-copied_stamp-clause-memory g c whole e = c.print_message-in_default-copied_stamp.ensures.memory whole (rw e at c.requires)
