@@ -3,7 +3,7 @@ use Rattle.std.proofs.Common.{◌≡◌, ◌↔◌, ◌⊎◌, inl, inr, ℕ, �
 use Rattle.std.proofs.Common.{length, Option, Some, None, refl, sym, ap, ◌∙◌, arith, append_assoc, append-nil}
 use Rattle.std.proofs.Math.Seq.{drop-append_seam}
 use Rattle.std.proofs.lemmas.Bool.Decides.{eqb_tells}
-use Rattle.syslog_pieces.specs.Pieces.Class.{Text, Class, Values, Front, NoFront, join, Divides, Row, Ends}
+use Rattle.syslog_pieces.specs.Pieces.Class.{Text, Class, Values, Front, join, Divides, Row, Ends}
 use Rattle.syslog_pieces.specs.Pieces.Class.{optional, run}
 use Rattle.syslog_pieces.specs.StructuredData.Element.{ElementValue}
 use Rattle.syslog_pieces.specs.StructuredData.Rfc3164List.{IsDashBefore, IsRfc3164List, rfc3164_list, BeginsNoList}
@@ -12,11 +12,11 @@ use Rattle.std.specs.Borrow.{Bor}
 use Rattle.jiff.specs.declared.tz.timezone.TimeZone.{TimeZone}
 use Rattle.syslog_pieces.specs.Timestamp.Zone.{Dating, dating_of}
 use Rattle.syslog_pieces.specs.declared.timestamp.month_date.MonthDate.{MonthDate}
-use Rattle.syslog_loose.specs.Reading.{IsReadUnder, IsUnreadable, IncompleteDate, AsksYear, IsYearAnswered, InYear}
-use Rattle.syslog_loose.proofs.ReadingLemmas.{in_answered_year}
+use Rattle.syslog_loose.specs.ReadBack.{ReadsProtocol}
+use Rattle.syslog_loose.specs.Reading.{dash_rule, IsReadUnder, IsUnreadable, IncompleteDate, AsksYear, IsYearAnswered, InYear}
+use Rattle.syslog_loose.proofs.ReadingLemmas.{in_answered_year, in_year_map}
 use Rattle.syslog_loose.proofs.Rfc3164Lemmas.Apart.{not_both}
 use Rattle.syslog_loose.proofs.Rfc3164Lemmas.Reading.{is_read}
-use Rattle.syslog_loose.proofs.Rfc3164Lemmas.Stamped.{division_is_stamped}
 use Rattle.syslog_loose.proofs.Rfc3164Lemmas.Years.{other_read}
 use Rattle.syslog_pieces.specs.declared.structured_data.rfc3164_list.DashRule.{DashRule}
 use Rattle.syslog_pieces.specs.declared.structured_data.rfc3164_list.DashRule.TheVariants.{BeforeAnything, BeforeBlank}
@@ -35,7 +35,8 @@ use Rattle.syslog_loose.specs.Canonical.{IsCanonicalFor, IsCanonical}
 use Rattle.syslog_loose.specs.DashChange.{ReadsDifferently, BeginsDashChange, HasDashChange3164, HasDashChange}
 use Rattle.syslog_loose.specs.DashChange.{WasUnreadable}
 use Rattle.syslog_loose.specs.Message.{MessageValue}
-use Rattle.syslog_loose.specs.Rfc3164.{Names3164, Resolves, stamped_row, fields_row, rfc3164_row, IsRead3164}
+use Rattle.syslog_loose.specs.Rfc3164.{Names3164, Resolves, stamped_row, fields_row, rfc3164_row, IsNot3164}
+use Rattle.syslog_loose.specs.Rfc3164.{IsRead3164}
 use Rattle.syslog_loose.proofs.Rfc3164Lemmas.Rows.{from_gap, from_list, gap_back}
 use Rattle.syslog_loose.proofs.Rfc3164Lemmas.Unique as rfc3164
 use Rattle.syslog_loose.proofs.Rfc5424Lemmas as strict
@@ -312,12 +313,6 @@ told_by_list dating text t list vs n false e f means h = λ k.
     (dropped_at dating text d)).0 in
     h (record { next = d.next; behind = d.more; is = same; no_blank = d.no_blank })
 
--- a text that no timestamp of RFC 3164 begins is not read by it
-pub none_differs : (dating : Dating) (text t : Text) → t ≡ trimmed text → NoFront (Row (stamped_row dating)) t
-    → ReadsDifferently RFC3164 dating text → ⊥
-none_differs dating text t e n r =
-    (division_is_stamped BeforeAnything dating (trimmed text)).1 (rw e at n) r.was_read.values r.was_read.division
-
 -- ---- the year
 
 module _ (text : Text) (dating other : Dating) (z : dating.zone ≡ other.zone) (l : dating.local ≡ other.local) where
@@ -339,7 +334,7 @@ module _ (text : Text) (dating other : Dating) (z : dating.zone ≡ other.zone) 
   }
 
 -- what is told in the year that the closure answered
-pub told_in : (post : IncompleteDate → ℤ → Type 0) (variant : Variant) (text : Text) (tz : Option (Bor TimeZone))
+told_in : (post : IncompleteDate → ℤ → Type 0) (variant : Variant) (text : Text) (tz : Option (Bor TimeZone))
     (local : Bor TimeZone) (b : Bool) (year : Option ℤ) → IsYearAnswered post variant text year
     → IsTrue b ↔ ReadsDifferently variant (dating_of year tz local) text
     → InYear post variant text (λ y. IsTrue b ↔ ReadsDifferently variant (dating_of y tz local) text)
@@ -354,18 +349,43 @@ told_in post variant text tz local b year is h =
 
 -- ---- the answer under each variant
 
-pub told_5424 : (dating : Dating) (text : Text) → IsTrue false ↔ ReadsDifferently RFC5424 dating text
-told_5424 dating text =
-    (λ t. cc, λ r. absurd (r.differ (strict.one_message text r.before r.now r.was_read r.is_read)))
-
-pub told_either : (dating : Dating) (text : Text) (b : Bool)
+-- what RFC 3164 reads differently, each variant does that reads it
+pub told_so : (variant : Variant) (dating : Dating) (text : Text) (b : Bool) → ReadsProtocol variant protocol.RFC3164
     → MatchBool b (ReadsDifferently RFC3164 dating text) (ReadsDifferently RFC3164 dating text → ⊥) → IsTrue b
-    ↔ ReadsDifferently Either dating text
-told_either dating text true h = (λ t. (either_differs dating text).0 h, λ r. refl)
-told_either dating text false h = (λ t. cc, λ r. absurd (h ((either_differs dating text).1 r)))
+    ↔ ReadsDifferently variant dating text
+told_so RFC5424 dating text b reads h = absurd reads
+told_so RFC3164 dating text true reads h = (λ t. h, λ r. refl)
+told_so RFC3164 dating text false reads h = (λ t. cc, λ r. absurd (h r))
+told_so Either dating text true reads h = (λ t. (either_differs dating text).0 h, λ r. refl)
+told_so Either dating text false reads h = (λ t. cc, λ r. absurd (h ((either_differs dating text).1 r)))
+
+-- and nothing is where it has no division of the text
+pub none_differs : (variant : Variant) (dating : Dating) (text : Text)
+    → (ReadsProtocol variant protocol.RFC3164 → IsNot3164 dash_rule dating text)
+    → IsTrue false ↔ ReadsDifferently variant dating text
+none_differs RFC5424 dating text none =
+    (λ t. cc, λ r. absurd (r.differ (strict.one_message text r.before r.now r.was_read r.is_read)))
+none_differs RFC3164 dating text none = told_so RFC3164 dating text false tt
+    (λ r. none tt r.is_read.values r.is_read.division)
+none_differs Either dating text none = told_so Either dating text false tt
+    (λ r. none tt r.is_read.values r.is_read.division)
 
 -- whoever tells the texts that are read differently tells those from which a dash is dropped
-pub dash_change_told : (variant : Variant) (dating : Dating) (text : Text) (b : Bool) → IsTrue b
+dash_change_told : (variant : Variant) (dating : Dating) (text : Text) (b : Bool) → IsTrue b
     ↔ ReadsDifferently variant dating text → IsTrue b ↔ HasDashChange variant dating text
 dash_change_told variant dating text b h =
     let law = differs_where_dash_change dating text variant in (λ t. law.0 (h.0 t), λ d. h.1 (law.1 d))
+
+-- both of what is told in the year that the closure answered
+pub told : (post : IncompleteDate → ℤ → Type 0) (variant : Variant) (text : Text) (tz : Option (Bor TimeZone))
+    (local : Bor TimeZone) (b : Bool) (year : Option ℤ) → IsYearAnswered post variant text year
+    → IsTrue b ↔ ReadsDifferently variant (dating_of year tz local) text
+    → record {
+      reads : InYear post variant text (λ y. IsTrue b ↔ ReadsDifferently variant (dating_of y tz local) text);
+      drops : InYear post variant text (λ y. IsTrue b ↔ HasDashChange variant (dating_of y tz local) text);
+    }
+told post variant text tz local b year is h =
+    let reads = told_in post variant text tz local b year is h in record {
+      reads = reads;
+      drops = in_year_map (λ y k. dash_change_told variant (dating_of y tz local) text b k) reads;
+    }

@@ -26,10 +26,9 @@ use Rattle.syslog_pieces.proofs.PriLemmas.{priority_composed}
 use Rattle.syslog_pieces.proofs.TextLemmas.Decimals.{encodes-decimal}
 use Rattle.syslog_loose.specs.Formats.{printed_number}
 use Rattle.syslog_loose.specs.Line.{IsLine, IsTold5424, PrintsAs5424, PrintsLine, PrintsMessage}
-use Rattle.syslog_loose.specs.Message.{MessageValue}
 use Rattle.syslog_loose.specs.Printed.{printed, printed_5424, timestamp_text}
 use Rattle.syslog_loose.specs.Reading.{AsksYear, IsUnreadable}
-use Rattle.syslog_loose.specs.Rfc5424.{header_row, data_row, rfc5424_row, message_of, IsRead5424, IsNot5424}
+use Rattle.syslog_loose.specs.Rfc5424.{header_row, data_row, rfc5424_row, message_of, IsNot5424}
 use Rattle.syslog_loose.specs.Start.{IsBehindPriority}
 use Rattle.syslog_loose.specs.View5424.{NamesWord, PrintsHeader, header_values, names_before}
 use Rattle.syslog_loose.specs.declared.line.Line.{Line}

@@ -148,17 +148,19 @@ module _ (variant : Variant) (text : Text) {follows : Text} {p : Option ℕ}
     dated_unread = shown_apart text d shows_date
 
     -- the date has no timestamp
-    pub dated_invalid : (dating : Dating) → IsAnswer (IsMonthStamp dating d) None
-        → Answers variant dating text (Err Invalid)
-    dated_invalid dating none =
-        neither variant dating text (λ n. dated_unread)
-        (λ reads. unstamped text f b.gap dating (no_stamp_of_date dating no_header d b.front none))
+    pub dated_none : (dating : Dating) → IsAnswer (IsMonthStamp dating d) None → IsNot3164 dash_rule dating text
+    dated_none dating none = unstamped text f b.gap dating (no_stamp_of_date dating no_header d b.front none)
       where
         no_header : NoFront header_stamp b.start
         no_header p q v e h =
             let low : Begins IsLow b.start = rw e (header_stamp_begins p q v h) in
             let letter : Begins IsLetter b.start = rw b.front.whole (month_date_begins b.front.piece _ d b.front.is) in
             begins_apart b.start (λ c a l. omega arith) low letter
+
+    pub dated_invalid : (dating : Dating) → IsAnswer (IsMonthStamp dating d) None
+        → Answers variant dating text (Err Invalid)
+    dated_invalid dating none =
+        neither variant dating text (λ n. dated_unread) (λ reads. dated_none dating none)
 
     -- or one, and then RFC 3164 is left to try
     pub dated_left : IsLeftTo3164 variant text
@@ -192,11 +194,15 @@ module _ (variant : Variant) (text : Text) {follows : Text} {p : Option ℕ}
         without reads u (rw same at gap) g.piece q d g.whole (inl g.is)
 
     -- and no other timestamp
+    pub undated_none : BeginsWithout header_stamp variant follows → (dating : Dating)
+        → ReadsProtocol variant protocol.RFC3164 → IsNot3164 dash_rule dating text
+    undated_none header dating reads =
+        let (start, gap) = some_front_run is_blank follows in
+        unstamped text f gap dating (no_date dating (header reads start gap) (without reads start gap))
+
     pub undated_invalid : BeginsWithout header_stamp variant follows → (variant ≢ RFC3164 → IsNot5424 text)
         → (dating : Dating) → Answers variant dating text (Err Invalid)
-    undated_invalid header strict dating = neither variant dating text strict (λ reads.
-        let (start, gap) = some_front_run is_blank follows in
-        unstamped text f gap dating (no_date dating (header reads start gap) (without reads start gap)))
+    undated_invalid header strict dating = neither variant dating text strict (undated_none header dating)
 
     -- or another one
     pub other_front : (dating : Dating) {q : Text} {v : Option OffsetTimestamp}

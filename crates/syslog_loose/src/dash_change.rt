@@ -3,18 +3,23 @@
 ghost use Rattle.std.specs.Prelude.{◌↔◌, IsTrue, MatchBool};
 ghost use Rattle.std.specs.Result.{IsOkAnd};
 ghost use Rattle.std.specs.Str.{chars};
-ghost use Rattle.syslog_pieces.specs.Timestamp.Zone.{dating_of, dating_value};
+ghost use Rattle.syslog_pieces.specs.Pieces.Class.{Text};
+ghost use Rattle.syslog_pieces.specs.Text.{trimmed as trimmed_text};
+ghost use Rattle.syslog_pieces.specs.Timestamp.Zone.{Dating as AnyDating, dating_of};
 ghost use Rattle.syslog_loose.specs.DashChange.{BeginsDashChange, HasDashChange, ReadsDifferently};
-ghost use Rattle.syslog_loose.specs.Reading.{AnswersEachMonth, InYear, OfTrimmed};
-ghost use Rattle.syslog_loose.specs.declared.variant.Variant.TheVariants as variants;
+ghost use Rattle.syslog_loose.specs.Reading.{AnswersEachMonth, InYear};
+ghost use Rattle.syslog_loose.specs.View3164.{IsBehindStamp};
+ghost use Rattle.syslog_loose.specs.declared.rfc3164.Stamped.{Stamped};
+ghost use Rattle.syslog_loose.specs.declared.variant.Variant.TheVariants.{RFC3164};
 
-use crate::reading::asked_date;
-use crate::rfc3164::{read_names, read_stamped};
+use crate::reading::{asked_numbers, front_date, front_stamp};
+use crate::rfc3164::read_names;
 use crate::variant::{IncompleteDate, Variant};
 use jiff::tz::TimeZone;
 use std::alloc::{AllocError, Global};
+use syslog_pieces::pri::optional_priority;
 use syslog_pieces::text::{CharClass, first, literal, trimmed};
-use syslog_pieces::timestamp::zone::Dating;
+use syslog_pieces::timestamp::zone::{Dating, month_stamp};
 
 /// Whether the text is read otherwise than it was while a dash was a list of RFC 3164 before anything, as it is in the
 /// Rust crate: so whether the list's piece was a dash before a character that is no blank, which was left out, and
@@ -37,33 +42,30 @@ pub fn reads_differently<F: FnOnce(IncompleteDate) -> i32>(
     ensures drops { InYear (F.post get_year) variant (chars input.entry.now) (λ year. IsOkAnd result (λ differs.
         IsTrue differs ↔ HasDashChange variant (dating_of year tz.entry local.entry) (chars input.entry.now))) }
 {
-    let text = trimmed(input);
-    let year = asked_date(text, variant).map(get_year);
-    Ok(has_dash_change(text, &Dating { year, tz, local }, variant))
-}
-
-// The same of the trimmed text, in a year.
-fn has_dash_change(input: &str, dating: &Dating<'_, '_>, variant: Variant) -> bool
-    ensures { OfTrimmed (chars input.entry.now) (λ whole.
-        IsTrue result ↔ ReadsDifferently variant (dating_value dating.entry.now) whole) }
-{
-    match variant {
-        Variant::RFC5424 => false,
-        Variant::RFC3164 => has_dash_change_3164(input, dating),
-        Variant::Either => has_dash_change_3164(input, dating),
+    let (_, rest) = optional_priority(trimmed(input));
+    match front_date(rest, variant) {
+        Some((date, behind)) => {
+            let year = asked_numbers(date).map(get_year);
+            match month_stamp(date, &Dating { year, tz, local }) {
+                Some(_) => Ok(has_dash_change(behind)),
+                None => Ok(false),
+            }
+        }
+        None => match front_stamp(rest, variant) {
+            Some((_, behind)) => Ok(has_dash_change(behind)),
+            None => Ok(false),
+        },
     }
 }
 
-// Whether RFC 3164 reads the text differently. What it reads has no division of RFC 5424.
-fn has_dash_change_3164(input: &str, dating: &Dating<'_, '_>) -> bool
-    ensures { OfTrimmed (chars input.entry.now) (λ whole. MatchBool result
-        (ReadsDifferently variants.RFC3164 (dating_value dating.entry.now) whole)
-        (ReadsDifferently variants.RFC3164 (dating_value dating.entry.now) whole → ⊥)) }
+// The same of a text of RFC 3164, by what stands behind its timestamp. What RFC 3164 reads so has no division of RFC
+// 5424.
+fn has_dash_change(behind: &str) -> bool
+    ensures { (dating : AnyDating) (whole : Text) (stamped : Stamped)
+        → IsBehindStamp dating (trimmed_text whole) stamped (chars behind.now) → MatchBool result
+        (ReadsDifferently RFC3164 dating whole) (ReadsDifferently RFC3164 dating whole → ⊥) }
 {
-    let Some((_, rest)) = read_stamped(input, dating) else {
-        return false;
-    };
-    let (_, rest) = read_names(rest);
+    let (_, rest) = read_names(behind);
     begins_dash_change(rest)
 }
 

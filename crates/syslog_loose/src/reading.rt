@@ -3,7 +3,7 @@
 //! Each call trims its text once, and reads its priority and its month date once: behind a month date RFC 5424 is not
 //! tried, and where the date has no year the closure is asked. The calls with `exact` in their names refuse a text that
 //! has no reading; the others answer the fallback.
-ghost use Rattle.std.specs.Prelude.{◌≡◌, Err, IfOk, IfSome, IsSome, MatchOption};
+ghost use Rattle.std.specs.Prelude.{◌≡◌, Err, IfOk, IsSome, MatchOption};
 ghost use Rattle.std.specs.Prelude.{None, Ok};
 ghost use Rattle.std.specs.Str.{chars};
 ghost use Rattle.jiff.specs.Words.{plain_zone};
@@ -12,7 +12,6 @@ ghost use Rattle.syslog_pieces.specs.Pieces.View.{shown};
 ghost use Rattle.syslog_pieces.specs.Text.{trimmed};
 ghost use Rattle.syslog_pieces.specs.Timestamp.{header_stamp};
 ghost use Rattle.syslog_pieces.specs.Timestamp.MonthDate.{month_date};
-ghost use Rattle.syslog_pieces.specs.Timestamp.Rfc3164.{ShowsYearless};
 ghost use Rattle.syslog_pieces.specs.Timestamp.Zone as zone;
 ghost use Rattle.syslog_pieces.specs.Timestamp.Zone.{IsYearAt, dating_of, dating_value};
 ghost use Rattle.syslog_pieces.specs.declared.timestamp.month_date.MonthDate.{MonthDate};
@@ -20,8 +19,8 @@ ghost use Rattle.syslog_loose.specs.Message.{message_value};
 ghost use Rattle.syslog_loose.specs.ReadBack.{AnswersItself, FieldsAsRead};
 ghost use Rattle.syslog_loose.specs.Reading as spec;
 ghost use Rattle.syslog_loose.specs.Reading.{Answers, AnswersEachMonth};
-ghost use Rattle.syslog_loose.specs.Reading.{AnswersOrWhole, AsksYear, HasMonth, InYear};
-ghost use Rattle.syslog_loose.specs.Reading.{OfTrimmed, incomplete};
+ghost use Rattle.syslog_loose.specs.Reading.{AnswersOrWhole, InYear};
+ghost use Rattle.syslog_loose.specs.Reading.{incomplete};
 ghost use Rattle.syslog_loose.specs.Start.{BeginsWith, BeginsWithout};
 ghost use Rattle.syslog_loose.specs.declared.fault.ParseFault.TheVariants.{Invalid};
 ghost use Rattle.syslog_loose.specs.View3164.{IsBehindStamp};
@@ -40,7 +39,7 @@ use std::alloc::{AllocError, Global};
 use syslog_pieces::pri::optional_priority;
 use syslog_pieces::structured_data::rfc3164_list::DASH_RULE;
 use syslog_pieces::text::{blanks, trimmed};
-use syslog_pieces::timestamp::month_date::{MonthDate, month_date, shown_date};
+use syslog_pieces::timestamp::month_date::{MonthDate, month_date};
 use syslog_pieces::timestamp::zone::{Dating, month_stamp};
 use syslog_pieces::timestamp::{OffsetTimestamp, header_stamp, year_at};
 
@@ -263,34 +262,5 @@ pub(crate) fn asked_numbers(date: MonthDate) -> Option<IncompleteDate>
     match date.year {
         Some(_) => None,
         None => Some((date.month, date.day, date.hour, date.minute, date.second)),
-    }
-}
-
-// The date without a year that the trimmed text shows, where the variant reads it.
-#[inline(always)]
-pub(crate) fn asked_date(input: &str, variant: Variant) -> Option<IncompleteDate>
-    ensures asks { OfTrimmed (chars input.now) (λ whole. MatchOption result
-        ((date : MonthDate) → AsksYear variant whole date → ⊥)
-        (λ d. (date : MonthDate) × AsksYear variant whole date × (d ≡ incomplete date))) }
-    ensures month { IfSome result (λ d. HasMonth d) }
-{
-    match variant {
-        Variant::RFC5424 => None,
-        Variant::RFC3164 => incomplete_date(input),
-        Variant::Either => incomplete_date(input),
-    }
-}
-
-// The date without a year that the trimmed text shows.
-#[inline(always)]
-fn incomplete_date(input: &str) -> Option<IncompleteDate>
-    ensures asks { OfTrimmed (chars input.now) (λ whole. MatchOption result
-        ((date : MonthDate) → ShowsYearless whole date → ⊥)
-        (λ d. (date : MonthDate) × ShowsYearless whole date × (d ≡ incomplete date))) }
-    ensures month { IfSome result (λ d. HasMonth d) }
-{
-    match shown_date(input) {
-        Some(date) => Some((date.month, date.day, date.hour, date.minute, date.second)),
-        None => None,
     }
 }

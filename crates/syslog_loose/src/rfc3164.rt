@@ -6,19 +6,19 @@
 //! field mean together.
 ghost use Rattle.std.specs.Prelude.{◌≡◌, IfOk, IsOk, IsTrue, None};
 ghost use Rattle.std.specs.Str.{chars, IsUtf8};
-ghost use Rattle.syslog_pieces.specs.Pieces.Class.{Row, Text};
-ghost use Rattle.syslog_pieces.specs.Pieces.View.{seen, shown, field_seen, Reads};
+ghost use Rattle.syslog_pieces.specs.Pieces.Class.{Text};
+ghost use Rattle.syslog_pieces.specs.Pieces.View.{seen, shown, field_seen};
 ghost use Rattle.syslog_pieces.specs.Text.{trimmed};
-ghost use Rattle.syslog_pieces.specs.Timestamp.Zone.{Dating as AnyDating, dating_value};
+ghost use Rattle.syslog_pieces.specs.Timestamp.Zone.{Dating};
 ghost use Rattle.syslog_loose.specs.Message.{message_value};
 ghost use Rattle.syslog_loose.specs.Rfc3164 as spec;
 ghost use Rattle.syslog_loose.specs.View3164.{IsBehindStamp, IsPlainProgram, PrintsBehind};
-ghost use Rattle.syslog_loose.specs.View3164.{names_value, stamped_values};
+ghost use Rattle.syslog_loose.specs.View3164.{names_value};
 
 use crate::message::{Message, Protocol};
 use crate::tag_form::tag_form;
 use std::alloc::{AllocError, Global};
-use syslog_pieces::pri::{optional_priority, parts};
+use syslog_pieces::pri::parts;
 use syslog_pieces::procid::{ProcId, is_bare_word};
 use syslog_pieces::structured_data::rfc3164_list::{
     DASH_RULE, DashRule, begins_list, optional_list,
@@ -26,8 +26,6 @@ use syslog_pieces::structured_data::rfc3164_list::{
 use syslog_pieces::text::verbatim::before;
 use syslog_pieces::text::{blanks, host_field, past_colon, tag_field};
 use syslog_pieces::timestamp::OffsetTimestamp;
-use syslog_pieces::timestamp::rfc3164::rfc3164_stamp;
-use syslog_pieces::timestamp::zone::Dating;
 
 /// The names of a message.
 #[derive(Drop)]
@@ -112,24 +110,6 @@ pub(crate) struct Stamped {
     pub(crate) timestamp: Option<OffsetTimestamp>,
 }
 
-// The pieces at the front that can fail, and the text behind them.
-#[inline(always)]
-pub(crate) fn read_stamped<'a>(text: &'a str, dating: &Dating<'_, '_>) -> Option<(Stamped, &'a str)>
-    ensures { Reads (Row (spec.stamped_row (dating_value dating.entry.now))) stamped_values (chars text.now) result }
-{
-    let (priority, rest) = optional_priority(text);
-    let Some((timestamp, rest)) = rfc3164_stamp(blanks(rest), dating) else {
-        return None;
-    };
-    Some((
-        Stamped {
-            priority,
-            timestamp,
-        },
-        rest,
-    ))
-}
-
 // Whether a program's name prints as it stands, by what it means.
 #[inline(always)]
 fn is_plain_program(name: &str) -> bool
@@ -183,9 +163,9 @@ pub(crate) fn read_behind(
     text: &str,
     rule: DashRule,
 ) -> Result<Message<&str>, AllocError>
-    ensures read { (dating : AnyDating) (whole : Text) → IsBehindStamp dating (trimmed whole) stamped (chars text.now)
+    ensures read { (dating : Dating) (whole : Text) → IsBehindStamp dating (trimmed whole) stamped (chars text.now)
         → IfOk result (λ m. spec.IsRead3164 rule dating whole (message_value (λ s. shown s) m)) }
-    ensures memory { (dating : AnyDating) (whole : Text) → IsBehindStamp dating (trimmed whole) stamped (chars text.now)
+    ensures memory { (dating : Dating) (whole : Text) → IsBehindStamp dating (trimmed whole) stamped (chars text.now)
         → spec.NeedsNoMemory3164 rule dating whole → IsOk result }
 {
     let (names, rest) = read_names(text);

@@ -113,9 +113,7 @@ pub(crate) fn next_round<F: FnOnce(IncompleteDate) -> i32, const CALLER: u8>(
         Some((date, tail)) => {
             let year = asked_numbers(date).map(get_year);
             let dating = Dating { year, tz, local };
-            let settled = dated_round(
-                alloc, text, input, priority, date, tail, &dating, skips,
-            )?;
+            let settled = dated_round(alloc, text, input, priority, date, tail, &dating, skips)?;
             Ok(Round { settled, year })
         }
         None => {

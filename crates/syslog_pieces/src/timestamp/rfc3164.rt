@@ -1,13 +1,10 @@
 //! The timestamp of a header of RFC 3164.
-ghost use Rattle.std.specs.Prelude.{IfSome};
 ghost use Rattle.std.specs.Str.{chars};
-ghost use Rattle.syslog_pieces.specs.Pieces.Class.{Front};
-ghost use Rattle.syslog_pieces.specs.Pieces.View.{shown, Reads};
+ghost use Rattle.syslog_pieces.specs.Pieces.View.{Reads};
 ghost use Rattle.syslog_pieces.specs.Timestamp.Rfc3164 as spec;
 ghost use Rattle.syslog_pieces.specs.Timestamp.Zone.{dating_value};
 
 use super::month_date::month_date;
-use super::month_date::standard::standard_date;
 use super::zone::{Dating, month_stamp};
 use super::{OffsetTimestamp, header_stamp};
 
@@ -17,37 +14,8 @@ use super::{OffsetTimestamp, header_stamp};
 /// A month date is read in the zone that is given, or else in the local one, and takes the year that is handed in where
 /// it shows none. Where that is absent too, and where the calendar, the clock or the zone has no such moment, the text
 /// has no timestamp. It takes no memory.
-#[inline(always)]
+#[tactic(auto, using(crate::proofs::TimestampLemmas::Rfc3164::fronts))]
 pub fn rfc3164_stamp<'a>(
-    text: &'a str,
-    dating: &Dating<'_, '_>,
-) -> Option<(Option<OffsetTimestamp>, &'a str)>
-    ensures { Reads (spec.rfc3164_stamp (dating_value dating.entry.now)) (λ s. s) (chars text.now) result }
-{
-    match standard_stamp(text, dating) {
-        Some(found) => Some(found),
-        None => any_stamp(text, dating),
-    }
-}
-
-// The timestamp of a month date in its standard form, which neither `-` nor an RFC 3339 text looks like.
-#[tactic(auto, using(crate::proofs::TimestampLemmas::Rfc3164::fronts))]
-#[inline(always)]
-fn standard_stamp<'a>(
-    text: &'a str,
-    dating: &Dating<'_, '_>,
-) -> Option<(Option<OffsetTimestamp>, &'a str)>
-    ensures { IfSome result (λ found. Front (spec.rfc3164_stamp (dating_value dating.entry.now)) (chars text.now)
-        (shown found.1) found.0) }
-{
-    let (date, rest) = standard_date(text)?;
-    let stamp = month_stamp(date, dating)?;
-    Some((Some(stamp), rest))
-}
-
-// The timestamp at the front, whatever its form.
-#[tactic(auto, using(crate::proofs::TimestampLemmas::Rfc3164::fronts))]
-fn any_stamp<'a>(
     text: &'a str,
     dating: &Dating<'_, '_>,
 ) -> Option<(Option<OffsetTimestamp>, &'a str)>

@@ -1,11 +1,12 @@
-use Rattle.syslog_pieces.specs.Timestamp.Zone.{dating_value}
-use Rattle.syslog_loose.proofs.DashChangeLemmas.{told_5424, told_either}
+use Rattle.std.proofs.Common.{refl}
+use Rattle.syslog_pieces.proofs.PieceLemmas.Class.{rows_join}
+use Rattle.syslog_loose.specs.Rfc3164.{stamped_row, fields_row}
+use Rattle.syslog_loose.specs.View3164.{names_value}
+use Rattle.syslog_loose.proofs.DashChangeLemmas.{told_by_list}
 use Rattle.syslog_loose.proofs.dash_change.has_dash_change.Goals as goal
 
-pub returns-in-RFC5424 : goal.returns-in-RFC5424
-returns-in-RFC5424 c whole e = rw c.in-RFC5424.is (told_5424 (dating_value c.args.dating.now) whole)
-
-pub returns-in-Either : goal.returns-in-Either
-returns-in-Either c whole e =
-    rw c.in-Either.is (told_either (dating_value c.args.dating.now) whole c.has_dash_change_3164-in-Either.result
-    (c.has_dash_change_3164-in-Either.ensures whole e))
+pub returns : goal.returns
+returns c dating whole stamped f =
+    let fields = c.read_names.ensures in
+    told_by_list dating whole _ _ _ (names_value c.read_names.result.0) c.begins_dash_change.result refl
+    (rows_join (stamped_row dating) fields_row f fields.front) fields.means c.begins_dash_change.ensures

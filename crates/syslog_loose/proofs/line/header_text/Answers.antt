@@ -19,16 +19,16 @@ write_line-requires-clause-behind g c = rw c.in-Some.ensures.number c.requires
 
 pub write_line-requires-clause-line : goal.write_line-requires-clause-line
 write_line-requires-clause-line g c = own_line_is (record {
-      number = c.in-Some.ensures.number;
-      elements = c.in-Some-printed_list.ensures.elements;
-      end = _;
-      header = c.in-Some.ensures.reads;
-      stands = c.in-Some.ensures.stands;
-      blanks = c.blanks-list.ensures;
-      list = c.in-Some-printed_list.ensures.is;
-      prints = c.in-Some-printed_list.ensures.prints;
-      msg = c.blanks.ensures;
-    })
+  number = c.in-Some.ensures.number;
+  elements = c.in-Some-printed_list.ensures.elements;
+  end = _;
+  header = c.in-Some.ensures.reads;
+  stands = c.in-Some.ensures.stands;
+  blanks = c.blanks-list.ensures;
+  list = c.in-Some-printed_list.ensures.is;
+  prints = c.in-Some-printed_list.ensures.prints;
+  msg = c.blanks.ensures;
+})
 
 pub returns-in_err-write_line-clause-memory : goal.returns-in_err-write_line-clause-memory
 returns-in_err-write_line-clause-memory g c whole e none =

@@ -1,5 +1,3 @@
-use Rattle.std.proofs.Common.{refl}
-use Rattle.syslog_loose.proofs.Names.{IsUtf8-string_bytes}
 use Rattle.syslog_loose.proofs.ReadingLemmas.{no_ok}
 use Rattle.syslog_loose.proofs.line.print_message.Goals as goal
 

@@ -1,7 +1,7 @@
 use Rattle.std.proofs.Common.{rules}
 use Rattle.syslog_pieces.specs.Timestamp.Zone.{dating_value}
 use Rattle.syslog_pieces.proofs.TimestampLemmas.Rfc3164.{no_date, no_stamp_of_date}
-use Rattle.syslog_pieces.proofs.timestamp.rfc3164.any_stamp.Goals as goal
+use Rattle.syslog_pieces.proofs.timestamp.rfc3164.rfc3164_stamp.Goals as goal
 
 pub returns-in_err-date : goal.returns-in_err-date
 returns-in_err-date c =
