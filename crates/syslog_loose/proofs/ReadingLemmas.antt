@@ -1,8 +1,8 @@
 -- What the reading calls answer.
-use Rattle.std.proofs.Common.{◌≡◌, ◌≢◌, ◌↔◌, inl, inr, ℕ, ℤ, List, Bool, true, Option, Some, None, Result, Ok, Err, w32}
+use Rattle.std.proofs.Common.{◌≡◌, ◌≢◌, ◌↔◌, inl, inr, ℕ, ℤ, List, Option, Some, None, Result, Ok, Err, w32}
 use Rattle.std.proofs.Common.{SFits, to_z, of_z, refl, sym, ap, subst, ◌∙◌}
 use Rattle.std.proofs.lemmas.Int.{to_z-of_z}
-use Rattle.std.specs.Prelude.{IsOk, IfOk, IsTrue, MatchOption, IsSomeAnd}
+use Rattle.std.specs.Prelude.{IsOk, MatchOption, IsSomeAnd}
 use Rattle.std.specs.declared.alloc.AllocError.{AllocError}
 use Rattle.std.specs.Borrow.{Bor}
 use Rattle.jiff.specs.declared.tz.timezone.TimeZone.{TimeZone}
@@ -79,11 +79,6 @@ left_answer Either dating text (Ok m) none h = only_read Either dating text (val
 left_answer Either dating text (Err Invalid) none h =
     λ m r. elim r [ inl s ↦ none s.values s.division | inr (also, s) ↦ h m s ]
 left_answer Either dating text (Err Memory) none h = λ needless. h (λ m s. needless m (inr (none, s)))
-
--- what is said of a value that was found
-pub found_text : (P : Type 0) (r : Result Bool AllocError) (found : Bool) → r ≡ Ok found → found ≡ true
-    → IfOk r (λ found. IsTrue found → P) → P
-found_text P r found e f h = (rw e at h) f
 
 -- an `Err` is not `Ok`
 pub no_ok : {X : Type 0} (r : Result X AllocError) (e : AllocError) → r ≡ Err e → IsOk r → ⊥

@@ -57,9 +57,6 @@ shown_parts date text d (p, more, division) =
     let (t, f, (u, gap, (q, g, _))) = row_pieces (showing_row date) (division_front (showing_row date) division) in
     (p, t, u, q, f, gap, g)
 
-pub shown_has_month : (text : Text) (d : MonthDate) → BeginsWithDate yearless_date text d → HasMonth (incomplete d)
-shown_has_month text d is = let (_, _, _, _, _, _, date) = shown_parts yearless_date text d is in date_has_month d date
-
 -- a date without a year is a month date
 pub shows_month_date : (text : Text) (d : MonthDate) → ShowsYearless text d → ShowsMonthDate text d
 shows_month_date text d is =
