@@ -13,7 +13,8 @@ use Rattle.jiff.specs.declared.tz.timezone.TimeZone.{TimeZone}
 use Rattle.syslog_pieces.specs.Timestamp.Zone.{Dating, dating_of}
 use Rattle.syslog_pieces.specs.declared.timestamp.month_date.MonthDate.{MonthDate}
 use Rattle.syslog_loose.specs.ReadBack.{ReadsProtocol}
-use Rattle.syslog_loose.specs.Reading.{dash_rule, IsReadUnder, IsUnreadable, IncompleteDate, AsksYear, IsYearAnswered, InYear}
+use Rattle.syslog_loose.specs.Reading.{dash_rule, IsReadUnder, IsUnreadable, IncompleteDate, AsksYear}
+use Rattle.syslog_loose.specs.Reading.{IsYearAnswered, InYear}
 use Rattle.syslog_loose.proofs.ReadingLemmas.{in_answered_year, in_year_map}
 use Rattle.syslog_loose.proofs.Rfc3164Lemmas.Apart.{not_both}
 use Rattle.syslog_loose.proofs.Rfc3164Lemmas.Reading.{is_read}

@@ -305,7 +305,7 @@ fn header_text<const CALLER: u8>(
     Ok(true)
 }
 
-/// Writes the printed text of the message as which the variant reads the trimmed line by RFC 5424 into `text`, and tells
+/// Writes the printed text of the message that the variant reads of the trimmed line by RFC 5424 into `text`, and tells
 /// whether there is one. It asks for memory only for a line that has such a message, and where `text` has too little
 /// room or elements are collected. `rest` is what stands behind the priority.
 #[inline(always)]

@@ -79,8 +79,8 @@ pub fn settle_into<F: FnOnce(IncompleteDate) -> i32>(
     settle_on(alloc, text, input, &Dating { year, tz, local }, variant)
 }
 
-// The same from a round of the input that is not known to be settled, in a year. What is printed shows no month date, so
-// no further round asks for one; and it may end in a space. The text of the last round and of the next change places.
+// The same from a round of the input that is not known to be settled, in a year. What is printed shows no month date,
+// so no further round asks for a year. It may end in a space. The texts of the last round and the next change places.
 fn settle_on(
     alloc: Global,
     text: &mut String,

@@ -1,16 +1,17 @@
 -- The year counts in round 1 alone: what is printed asks for none, and what `settle` answers in one year to a text that
 -- asks for none it answers in each.
-use Rattle.syslog_loose.proofs.Names.{ℕ, zero, suc, Bool, true, false, Option, None, Result, Ok, Err, refl, sym, subst, Bor, chars}
-use Rattle.syslog_loose.proofs.Names.{Text, Dating, dating_of, MonthDate, IsCanonical, MessageValue, dash_rule, IsRead, AsksYear}
-use Rattle.syslog_loose.proofs.Names.{IsNext, IsRound, NoneSettled, IsFirstSettled, ReachesFrom, Variant, string_bytes}
+use Rattle.syslog_loose.proofs.Names.{◌≡◌, ℕ, zero, suc, Bool, true, false, Option, None, Result, Ok, Err, refl, sym}
+use Rattle.syslog_loose.proofs.Names.{subst, Bor, chars, Text, Dating, dating_of, MonthDate, IsCanonical}
+use Rattle.syslog_loose.proofs.Names.{MessageValue, dash_rule, IsRead, AsksYear, IsUnreadable, IsNext, IsRound}
+use Rattle.syslog_loose.proofs.Names.{NoneSettled, IsFirstSettled, ReachesFrom, Variant, string_bytes}
 use Rattle.syslog_loose.specs.declared.fault.ParseFault.{ParseFault}
 use Rattle.syslog_loose.specs.declared.fault.ParseFault.TheVariants.{Invalid, Memory}
 use Rattle.std.proofs.Common.{ℤ}
-use Rattle.std.specs.Prelude.{IfOk, String}
+use Rattle.std.specs.Prelude.{◌↔◌, IfOk, String}
 use Rattle.std.specs.Global.{Global}
 use Rattle.jiff.specs.declared.tz.timezone.TimeZone.{TimeZone}
 use Rattle.syslog_loose.specs.Reading.{IncompleteDate, IsYearAnswered, InYear}
-use Rattle.syslog_loose.specs.Settling.{Settles, IsToldRound}
+use Rattle.syslog_loose.specs.Settling.{Settles, IsRoundAsTold, IsToldRound}
 use Rattle.syslog_loose.proofs.ReadingLemmas.{any_year, in_answered_year, in_year_map}
 use Rattle.syslog_loose.proofs.SettlingLemmas.Quiet.{printed_quiet}
 use Rattle.syslog_loose.proofs.SettlingLemmas.Settles.{settled_canonical, settles_as, settles_not}
@@ -52,7 +53,7 @@ module _ (variant : Variant) (tz : Option (Bor TimeZone)) (local : Bor TimeZone)
       (next_in other year x x (round_quiet other t (suc k) x quiet round) settled)
 
   -- a round of such a text is told in one year as in each
-  pub told_in : (year other : Option ℤ) (t later : Text) (settled : Bool) → Quiet t
+  told_in : (year other : Option ℤ) (t later : Text) (settled : Bool) → Quiet t
       → IsToldRound variant (In year) t later settled → IsToldRound variant (In other) t later settled
   told_in year other t later true quiet (next, s) = (
     next_in year other t later quiet next,
@@ -67,11 +68,24 @@ module _ (variant : Variant) (tz : Option (Bor TimeZone)) (local : Bor TimeZone)
     },
   )
 
-  -- and what is printed of a text asks for none
-  pub reached_quiet : (year : Option ℤ) (t : Text) (n : ℕ) (u : Text) → ReachesFrom variant (In year) t n u → Quiet u
+  -- what is printed of a text asks for none
+  reached_quiet : (year : Option ℤ) (t : Text) (n : ℕ) (u : Text) → ReachesFrom variant (In year) t n u → Quiet u
   reached_quiet year t n u r =
       let (before, round, h) = r.reaches.round in
       subst Quiet (sym h.is_printed) (printed_quiet variant (In year) before h.message h.read)
+
+  -- so what is told of a later round is told in the year of the first
+  pub later_told : (skips : Bool) (year other : Option ℤ) (t : Text) (n : ℕ) (u later : Text) (settled : Bool)
+      → ReachesFrom variant (In year) t n u → IsRoundAsTold skips variant (In other) u later settled
+      → IsToldRound variant (In year) u later settled
+  later_told skips year other t n u later settled r h =
+      told_in other year u later settled (reached_quiet year t n u r) h.told
+
+  pub later_fault : {post : IncompleteDate → ℤ → Type 0} (year : Option ℤ) (t : Text) (n : ℕ) (u : Text)
+      (fault : ParseFault) → ReachesFrom variant (In year) t n u
+      → InYear post variant u (λ y. (fault ≡ Invalid) ↔ IsUnreadable variant (In y) u)
+      → (fault ≡ Invalid) ↔ IsUnreadable variant (In year) u
+  later_fault year t n u fault r h = h.holds year (λ date asks. absurd (reached_quiet year t n u r date asks))
 
   first_in : (year other : Option ℤ) (t u : Text) → Quiet t → IsFirstSettled variant (In year) t u
       → IsFirstSettled variant (In other) t u

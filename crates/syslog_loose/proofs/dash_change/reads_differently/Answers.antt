@@ -38,8 +38,8 @@ returns-in-Some-front_stamp g c =
     let dating = dating_of None c.args.tz c.args.local in
     told _ c.args.variant whole c.args.tz c.args.local c.has_dash_change-in-Some-front_stamp.result None
     (asks_none c.args.variant whole f c.in-None.ensures)
-    (told_so c.args.variant dating whole c.has_dash_change-in-Some-front_stamp.result c.in-Some-front_stamp.ensures.reads
-    (c.has_dash_change-in-Some-front_stamp.ensures dating whole _
+    (told_so c.args.variant dating whole c.has_dash_change-in-Some-front_stamp.result
+    c.in-Some-front_stamp.ensures.reads (c.has_dash_change-in-Some-front_stamp.ensures dating whole _
     (other_front c.args.variant whole f c.in-None.ensures dating c.in-Some-front_stamp.ensures)))
 
 pub returns : goal.returns

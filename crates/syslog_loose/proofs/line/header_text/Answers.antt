@@ -48,7 +48,9 @@ pub returns-in_default-printed_list-clause-memory : goal.returns-in_default-prin
 returns-in_default-printed_list-clause-memory g c whole e = c.print_message.ensures.memory whole (rw e at c.requires)
 
 pub returns-in_default-copied_stamp-clause-text : goal.returns-in_default-copied_stamp-clause-text
-returns-in_default-copied_stamp-clause-text g c whole e = c.print_message-in_default-copied_stamp.ensures.text whole (rw e at c.requires)
+returns-in_default-copied_stamp-clause-text g c whole e =
+    c.print_message-in_default-copied_stamp.ensures.text whole (rw e at c.requires)
 
 pub returns-in_default-copied_stamp-clause-memory : goal.returns-in_default-copied_stamp-clause-memory
-returns-in_default-copied_stamp-clause-memory g c whole e = c.print_message-in_default-copied_stamp.ensures.memory whole (rw e at c.requires)
+returns-in_default-copied_stamp-clause-memory g c whole e =
+    c.print_message-in_default-copied_stamp.ensures.memory whole (rw e at c.requires)

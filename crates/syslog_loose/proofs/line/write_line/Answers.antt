@@ -9,7 +9,8 @@ returns-in_ok-write-in-Some c =
     let k = c.in-Some.ensures in
     let written : string_bytes c.write.new.self
     ≡ line.front.now ++ (zone_text line.is_zulu ++ (line.tail.now ++ (32 ∷ line.msg.now))) = search rules in
-    (_, k.prints, written ∙ copied_bytes line.front.now line.tail.now line.msg.now line.is_zulu k.utf8.0 k.utf8.1 k.utf8.2)
+    let bytes = copied_bytes line.front.now line.tail.now line.msg.now line.is_zulu k.utf8.0 k.utf8.1 k.utf8.2 in
+    (_, k.prints, written ∙ bytes)
 
 pub returns-in_ok-write_named-in-None : goal.returns-in_ok-write_named-in-None
 returns-in_ok-write_named-in-None c = c.in_ok-write_named-in-None.ensures _ _ c.requires.behind c.requires.line

@@ -22,7 +22,8 @@ returns-in-Some c variant follows f b whole e =
 
 pub returns-in_default-month_stamp : goal.returns-in_default-month_stamp
 returns-in_default-month_stamp c variant follows f b whole e =
-    let none = dated_invalid variant whole (rw e at f) _ b (dating_value c.args.dating.now) c.in_default-month_stamp.ensures in
+    let none = dated_invalid variant whole (rw e at f) _ b (dating_value c.args.dating.now)
+    c.in_default-month_stamp.ensures in
     ((λ i. none), (λ u. refl))
 
 pub returns : goal.returns

@@ -62,9 +62,11 @@ returns-in_err-settled-in-None g c whole e =
     let (_, h, same) = err_from_is_err_and c.from_residual-in_err-settled-in-None.result
     c.from_residual-in_err-settled-in-None.ensures.1 in
     rw (h, same) (fault_in _ c.args.variant whole c.args.tz c.args.local _ None
-    (asks_none c.args.variant _ f c.in-None.ensures) (c.in_err-settled-in-None.ensures whole e (rw c.if-found.false at (c.in_ok-found.ensures.text whole e)) _))
+    (asks_none c.args.variant _ f c.in-None.ensures) (c.in_err-settled-in-None.ensures whole e
+    (rw c.if-found.false at (c.in_ok-found.ensures.text whole e)) _))
 
 pub returns-in_ok-settled-in-None : goal.returns-in_ok-settled-in-None
 returns-in_ok-settled-in-None g c whole e =
     let f = rw e at c.optional_priority-priority.ensures in
-    (asks_none c.args.variant _ f c.in-None.ensures, c.in_ok-settled-in-None.ensures whole e (rw c.if-found.false at (c.in_ok-found.ensures.text whole e)) _)
+    let strict = rw c.if-found.false at (c.in_ok-found.ensures.text whole e) in
+    (asks_none c.args.variant _ f c.in-None.ensures, c.in_ok-settled-in-None.ensures whole e strict _)

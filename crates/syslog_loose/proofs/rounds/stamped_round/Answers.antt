@@ -29,5 +29,6 @@ returns-then-stands_as_printed c whole e strict dating =
 
 pub returns : goal.returns
 returns c whole e strict dating =
-    c.message_round.ensures c.args.variant dating whole (left_to_try c.args.variant whole c.in-Some.ensures.reads strict)
+    c.message_round.ensures c.args.variant dating whole
+    (left_to_try c.args.variant whole c.in-Some.ensures.reads strict)
     (other_front c.args.variant whole (rw e at c.requires.front) c.requires.undated dating c.in-Some.ensures)
