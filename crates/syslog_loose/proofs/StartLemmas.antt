@@ -1,5 +1,6 @@
 -- What the pieces at the front of a text tell of its readings.
-use Rattle.std.proofs.Common.{◌≡◌, ◌≢◌, inl, inr, ℕ, ℤ, List, Option, Some, None, Ok, Err, false, true, refl, sym, ap}
+use Rattle.std.proofs.Common.{◌≡◌, ◌≢◌, inl, inr, ℕ, ℤ, Bool, List, Option, Some, None, Ok, Err, false}
+use Rattle.std.proofs.Common.{true, refl, sym, ap}
 use Rattle.std.proofs.Common.{subst, ◌∙◌, ◌∷◌, ◌++◌, append_assoc, arith}
 use Rattle.std.proofs.lemmas.Str.{encodes-append, encodes-chars}
 use Rattle.std.specs.Borrow.{Bor}
@@ -33,10 +34,10 @@ use Rattle.syslog_loose.specs.Message.{MessageValue}
 use Rattle.syslog_loose.specs.Printed.{printed, timestamp_text}
 use Rattle.syslog_loose.specs.ReadBack.{ReadsProtocol}
 use Rattle.syslog_loose.specs.Reading.{dash_rule, incomplete, Answers, AsksYear, IncompleteDate, IsLeftTo3164, HasMonth}
-use Rattle.syslog_loose.specs.Reading.{IsRead, IsYearAnswered}
+use Rattle.syslog_loose.specs.Reading.{IsRead, IsUnreadable, IsYearAnswered}
 use Rattle.syslog_loose.specs.Rfc3164.{stamped_row, IsRead3164, IsNot3164, NeedsNoMemory3164}
 use Rattle.syslog_loose.specs.Rfc5424.{IsRead5424, IsNot5424, NeedsNoMemory5424}
-use Rattle.syslog_loose.specs.Settling.{IsAtRest}
+use Rattle.syslog_loose.specs.Settling.{IsAtRest, IsRoundAsTold}
 use Rattle.syslog_loose.specs.Start.{IsBehindPriority, BeginsWith, BeginsWithout}
 use Rattle.syslog_loose.specs.View3164.{IsBehindStamp, PrintsBehind}
 use Rattle.syslog_loose.specs.declared.fault.ParseFault.TheVariants.{Invalid, Memory}
@@ -46,12 +47,13 @@ use Rattle.syslog_loose.specs.declared.rfc3164.Stamped.{Stamped}
 use Rattle.syslog_loose.specs.declared.variant.Variant.{Variant}
 use Rattle.syslog_loose.specs.declared.variant.Variant.TheVariants.{Either, RFC3164, RFC5424}
 use Rattle.syslog_loose.proofs.ReadingLemmas.{Found, answered_to, value, either_read, either_refused, left_answer}
-use Rattle.syslog_loose.proofs.ReadingLemmas.{only_read}
+use Rattle.syslog_loose.proofs.ReadingLemmas.{invalid_or_memory, only_read}
 use Rattle.syslog_loose.proofs.Rfc3164Lemmas.Apart.{not_both, shown_apart}
 use Rattle.syslog_loose.proofs.Rfc3164Lemmas.Reading.{not_read}
 use Rattle.syslog_loose.proofs.Rfc3164Lemmas.Shown.{date_has_month, shows_month_date, shown_once, shown_parts, shows}
 use Rattle.syslog_loose.proofs.Rfc3164Lemmas.Unique.{stamped_det}
 use Rattle.syslog_loose.proofs.Rfc5424Lemmas.ReadBack.{stamp_canonical}
+use Rattle.syslog_loose.proofs.SettlingLemmas.Settles.{round_printed}
 
 -- what a reader of pieces behind blanks answers
 pub front_read : (C : Class) (variant : Variant) (t start : Text) (r : Option (C.Value × Bor (List ℕ)))
@@ -304,3 +306,15 @@ dated_copied {variant = variant} {dating = dating} text {p = p} tail f b s print
           ∙ sym (append_assoc (priority_text (printed_number p)) _ tail)
           ∙ dated_bytes (printed_number p) (Some s.stamp) tail u ∙ ap encode_utf8_all k.0.is_printed,
     )
+
+-- what is copied so is a round that is settled
+pub copied_round : {variant : Variant} {dating : Dating} {text : Text} {copied : List ℕ} (skips : Bool) (bytes : List ℕ)
+    → IsUtf8 bytes → bytes ≡ copied → Copied variant dating text copied
+    → IsRoundAsTold skips variant dating text (chars bytes) true
+copied_round {variant = variant} {dating = dating} {text = text} skips bytes u e (m, r, rest, same) =
+    round_printed variant dating text m r bytes u (e ∙ same) skips true ((λ h. rest), (λ h. refl))
+
+-- and where memory was refused for it, the text has a reading
+pub copied_refused : (variant : Variant) (dating : Dating) (text : Text) {copied : List ℕ}
+    → Copied variant dating text copied → (Memory ≡ Invalid) ↔ IsUnreadable variant dating text
+copied_refused variant dating text (m, r, _, _) = ((λ i. absurd (invalid_or_memory i)), (λ u. absurd (u m r)))

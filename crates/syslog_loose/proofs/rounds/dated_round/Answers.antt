@@ -1,24 +1,21 @@
-use Rattle.std.proofs.Common.{refl, ◌∙◌}
+use Rattle.std.proofs.Common.{refl}
 use Rattle.syslog_pieces.specs.Timestamp.Zone.{dating_value}
 use Rattle.syslog_loose.proofs.Names.{err_from_is_err_and, IsUtf8-string_bytes}
-use Rattle.syslog_loose.proofs.ReadingLemmas.{invalid_or_memory}
-use Rattle.syslog_loose.proofs.SettlingLemmas.Settles.{round_printed}
-use Rattle.syslog_loose.proofs.StartLemmas.{dated_copied, dated_front, dated_invalid, dated_left}
+use Rattle.syslog_loose.proofs.StartLemmas.{copied_refused, copied_round, dated_copied, dated_front}
+use Rattle.syslog_loose.proofs.StartLemmas.{dated_invalid, dated_left}
 use Rattle.syslog_loose.proofs.rounds.dated_round.Goals as goal
 
 pub returns-in_err-write_dated : goal.returns-in_err-write_dated
 returns-in_err-write_dated c variant follows f b whole e =
-    let k = c.if-stands_as_printed.ensures.prints refl in
-    let m = dated_copied {variant = variant} whole _ (rw e at f) b c.in-Some.ensures.text k c.utf8.tail in
     let (_, fault, same) = err_from_is_err_and c.from_residual.result c.from_residual.ensures.1 in
-    rw (fault, same) ((λ i. absurd (invalid_or_memory i)), (λ none. absurd (none m.0 m.1)))
+    rw (fault, same) (copied_refused variant _ whole (dated_copied {variant = variant} whole _ (rw e at f) b
+    c.in-Some.ensures.text (c.if-stands_as_printed.ensures.prints refl) c.utf8.tail))
 
 pub returns-in-Some : goal.returns-in-Some
 returns-in-Some c variant follows f b whole e =
-    let k = c.if-stands_as_printed.ensures.prints refl in
-    let m = dated_copied {variant = variant} whole _ (rw e at f) b c.in-Some.ensures.text k c.utf8.tail in
-    round_printed variant _ whole m.0 m.1 _ (IsUtf8-string_bytes c.write_dated.new.text)
-    (c.in_ok-write_dated.ensures ∙ m.3) c.args.skips _ ((λ h. m.2), (λ h. refl))
+    copied_round c.args.skips _ (IsUtf8-string_bytes c.write_dated.new.text) c.in_ok-write_dated.ensures
+    (dated_copied {variant = variant} whole _ (rw e at f) b c.in-Some.ensures.text
+    (c.if-stands_as_printed.ensures.prints refl) c.utf8.tail)
 
 pub returns-in_default-month_stamp : goal.returns-in_default-month_stamp
 returns-in_default-month_stamp c variant follows f b whole e =

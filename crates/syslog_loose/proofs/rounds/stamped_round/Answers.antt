@@ -1,8 +1,7 @@
-use Rattle.std.proofs.Common.{refl, ◌∙◌}
+use Rattle.std.proofs.Common.{refl}
 use Rattle.syslog_loose.proofs.Names.{err_from_is_err_and, IsUtf8-string_bytes}
-use Rattle.syslog_loose.proofs.ReadingLemmas.{invalid_or_memory}
-use Rattle.syslog_loose.proofs.SettlingLemmas.Settles.{round_printed}
-use Rattle.syslog_loose.proofs.StartLemmas.{left_to_try, other_front, stamped_copied, undated_invalid}
+use Rattle.syslog_loose.proofs.StartLemmas.{copied_refused, copied_round, left_to_try, other_front}
+use Rattle.syslog_loose.proofs.StartLemmas.{stamped_copied, undated_invalid}
 use Rattle.syslog_loose.proofs.rounds.stamped_round.Goals as goal
 
 pub returns-in_default : goal.returns-in_default
@@ -13,19 +12,15 @@ returns-in_default c whole e strict dating =
 
 pub returns-in_err-write_stamped : goal.returns-in_err-write_stamped
 returns-in_err-write_stamped c whole e strict dating =
-    let k = c.stands_as_printed.ensures in
-    let m = stamped_copied dating whole _ (rw e at c.requires.front) c.in-Some.ensures
-    (k.prints c.if-stands_as_printed.true) k.utf8 in
     let (_, f, same) = err_from_is_err_and c.from_residual.result c.from_residual.ensures.1 in
-    rw (f, same) ((λ i. absurd (invalid_or_memory i)), (λ none. absurd (none m.0 m.1)))
+    rw (f, same) (copied_refused c.args.variant dating whole (stamped_copied dating whole _ (rw e at c.requires.front)
+    c.in-Some.ensures (c.stands_as_printed.ensures.prints c.if-stands_as_printed.true) c.stands_as_printed.ensures.utf8))
 
 pub returns-then-stands_as_printed : goal.returns-then-stands_as_printed
 returns-then-stands_as_printed c whole e strict dating =
-    let k = c.stands_as_printed.ensures in
-    let m = stamped_copied dating whole _ (rw e at c.requires.front) c.in-Some.ensures
-    (k.prints c.if-stands_as_printed.true) k.utf8 in
-    round_printed c.args.variant _ whole m.0 m.1 _ (IsUtf8-string_bytes c.write_stamped.new.text)
-    (c.in_ok-write_stamped.ensures ∙ m.3) c.args.skips _ ((λ h. m.2), (λ h. refl))
+    copied_round c.args.skips _ (IsUtf8-string_bytes c.write_stamped.new.text) c.in_ok-write_stamped.ensures
+    (stamped_copied dating whole _ (rw e at c.requires.front) c.in-Some.ensures
+    (c.stands_as_printed.ensures.prints c.if-stands_as_printed.true) c.stands_as_printed.ensures.utf8)
 
 pub returns : goal.returns
 returns c whole e strict dating =

@@ -16,14 +16,16 @@ returns-then-round c =
     let told = rw (c.as_str.ensures.value, c.swap.ensures.x_after) at
     (c.in_ok-round.ensures (chars c.as_str.result.now) c.trimmed-left.ensures) in
     round_answer _ _ _ _ _ _ _ c.loop-done.invariant c.if-round.true
-    (later_told c.args.variant c.args.dating.now.tz c.args.dating.now.local _ _ _ _ _ _ _ _ c.loop-done.invariant told.1)
+    (later_told c.args.variant c.args.dating.now.tz c.args.dating.now.local _ _ _ _ _ _ _ _ c.loop-done.invariant
+    told.1)
 
 pub loop-done-preserved : goal.loop-done-preserved
 loop-done-preserved c =
     let told = rw (c.as_str.ensures.value, c.swap.ensures.x_after) at
     (c.in_ok-round.ensures (chars c.as_str.result.now) c.trimmed-left.ensures) in
     round_more _ _ _ _ _ _ _ c.loop-done.invariant c.if-round.false
-    (later_told c.args.variant c.args.dating.now.tz c.args.dating.now.local _ _ _ _ _ _ _ _ c.loop-done.invariant told.1)
+    (later_told c.args.variant c.args.dating.now.tz c.args.dating.now.local _ _ _ _ _ _ _ _ c.loop-done.invariant
+    told.1)
 
 pub unreachable-requires : goal.unreachable-requires
 unreachable-requires c =
