@@ -14,7 +14,8 @@ pub returns-in_err-write_stamped : goal.returns-in_err-write_stamped
 returns-in_err-write_stamped c whole e strict dating =
     let (_, f, same) = err_from_is_err_and c.from_residual.result c.from_residual.ensures.1 in
     rw (f, same) (copied_refused c.args.variant dating whole (stamped_copied dating whole _ (rw e at c.requires.front)
-    c.in-Some.ensures (c.stands_as_printed.ensures.prints c.if-stands_as_printed.true) c.stands_as_printed.ensures.utf8))
+    c.in-Some.ensures (c.stands_as_printed.ensures.prints c.if-stands_as_printed.true)
+    c.stands_as_printed.ensures.utf8))
 
 pub returns-then-stands_as_printed : goal.returns-then-stands_as_printed
 returns-then-stands_as_printed c whole e strict dating =
