@@ -1,4 +1,4 @@
-//! Lines of RFC 5424, read once and written as their messages print.
+//! Lines of RFC 5424, written as their messages print.
 //!
 //! Most lines that a program wrote are already in the form that a message prints: one space in each gap, no leading
 //! zeros, strict elements alone. The reader of the header tells what stands so, and that is copied: no message is made
