@@ -54,9 +54,9 @@ fn are_all(tests: [bool; 7]) -> bool
     a & b & c & d & e & f & g
 }
 
-/// The fields at the front of a text, from what stands behind its priority on, and the text behind them. `CALLER` tells
-/// the callers apart, so that each has a body of its own, compiled in place: one for all would be called. It is 0 for the
-/// calls that read, 1 for `normalise`, 2 for the first round of `settle` and 3 for its later ones.
+/// The fields at the front of a text, from what stands behind its priority on, and the text behind them. `CALLER`
+/// tells the callers apart, so that each has a body of its own, compiled in place: one for all would be called. It is 0
+/// for the calls that read, 1 for `normalise`, 2 for the first round of `settle` and 3 for its later ones.
 #[inline(always)]
 pub(crate) fn read_header<const CALLER: u8>(
     priority: Option<u8>,
