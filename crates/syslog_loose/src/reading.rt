@@ -41,7 +41,7 @@ use syslog_pieces::structured_data::rfc3164_list::DASH_RULE;
 use syslog_pieces::text::{blanks, trimmed};
 use syslog_pieces::timestamp::month_date::{MonthDate, month_date};
 use syslog_pieces::timestamp::zone::{Dating, month_stamp};
-use syslog_pieces::timestamp::{OffsetTimestamp, header_stamp, year_at};
+use syslog_pieces::timestamp::{ClockStamp, header_stamp, year_at};
 
 /// The message of the text, read by the variant, with the year of `now` in the local zone for a date that has none.
 ///
@@ -243,7 +243,7 @@ pub(crate) fn front_date(text: &str, variant: Variant) -> Option<(MonthDate, &st
 
 /// A timestamp that is no month date, in the same way.
 #[inline(always)]
-pub(crate) fn front_stamp(text: &str, variant: Variant) -> Option<(Option<OffsetTimestamp>, &str)>
+pub(crate) fn front_stamp(text: &str, variant: Variant) -> Option<(Option<ClockStamp>, &str)>
     ensures { MatchOption result (BeginsWithout header_stamp variant (chars text.now))
         (λ x. BeginsWith header_stamp variant (chars text.now) x.0 (shown x.1)) }
 {

@@ -25,7 +25,7 @@ use syslog_pieces::structured_data::rfc3164_list::{
 };
 use syslog_pieces::text::verbatim::before;
 use syslog_pieces::text::{blanks, host_field, past_colon, tag_field};
-use syslog_pieces::timestamp::OffsetTimestamp;
+use syslog_pieces::timestamp::{ClockStamp, stamp_of};
 
 /// The names of a message.
 #[derive(Drop)]
@@ -107,7 +107,7 @@ pub(crate) fn resolve<'a>(host: Option<Option<&'a str>>, tag: Option<Option<&'a 
 #[derive(Clone, Copy)]
 pub(crate) struct Stamped {
     pub(crate) priority: Option<u8>,
-    pub(crate) timestamp: Option<OffsetTimestamp>,
+    pub(crate) timestamp: Option<ClockStamp>,
 }
 
 // Whether a program's name prints as it stands, by what it means.
@@ -124,7 +124,7 @@ fn is_plain_program(name: &str) -> bool
 /// Whether the text behind a timestamp prints as it stands: its names, no list, and its message. It may always answer
 /// no: then the line is read and printed. `IS_DATED` tells the two callers apart: each has a body of its own, in place.
 #[inline(always)]
-pub(crate) fn stands_as_printed<const IS_DATED: bool>(text: &str) -> bool
+pub(crate) fn stands_as_printed(text: &str) -> bool
     ensures prints { IsTrue result → PrintsBehind (chars text.now) }
     ensures utf8 { IsUtf8 text.now }
 {
@@ -176,7 +176,7 @@ pub(crate) fn read_behind(
         protocol: Protocol::RFC3164,
         facility,
         severity,
-        timestamp: stamped.timestamp,
+        timestamp: stamp_of(stamped.timestamp),
         hostname: names.hostname,
         appname: names.appname,
         procid: names.procid,

@@ -22,23 +22,21 @@ use std::alloc::{AllocError, Global};
 use syslog_pieces::pri::parts;
 use syslog_pieces::procid::{ProcId, process_stands};
 use syslog_pieces::structured_data::{StructuredElement, forgiving_list};
-use syslog_pieces::text::verbatim::{is_one_space, number_stands};
+use syslog_pieces::text::verbatim::is_one_space;
 use syslog_pieces::text::{blanks, host, number, some_blanks, word};
-use syslog_pieces::timestamp::{OffsetTimestamp, header_stamp};
+use syslog_pieces::timestamp::{ClockStamp, header_stamp, stamp_of};
 
 /// The fields before the structured data, and how they stand in the text.
 #[derive(Clone, Copy)]
 pub(crate) struct Header<'a> {
     pub(crate) priority: Option<u8>,
     pub(crate) version: u32,
-    pub(crate) timestamp: Option<OffsetTimestamp>,
+    pub(crate) timestamp: Option<ClockStamp>,
     pub(crate) hostname: Option<&'a str>,
     pub(crate) appname: Option<&'a str>,
     /// The word that names the process.
     pub(crate) process: Option<&'a str>,
     pub(crate) msgid: Option<&'a str>,
-    /// The text from the timestamp on.
-    pub(crate) start: &'a str,
     /// The text behind the timestamp.
     pub(crate) tail: &'a str,
     /// Whether all but the priority and the timestamp stands as it would be printed. It may be false of others too.
@@ -47,11 +45,11 @@ pub(crate) struct Header<'a> {
 
 // Whether all of them are true, by one look.
 #[inline(always)]
-fn are_all(tests: [bool; 7]) -> bool
+fn are_all(tests: [bool; 5]) -> bool
     ensures { IsTrue result → AllByRecursion IsTrue tests }
 {
-    let [a, b, c, d, e, f, g] = tests;
-    a & b & c & d & e & f & g
+    let [a, b, c, d, e] = tests;
+    a & b & c & d & e
 }
 
 /// The fields at the front of a text, from what stands behind its priority on, and the text behind them. `CALLER`
@@ -66,7 +64,7 @@ pub(crate) fn read_header<const CALLER: u8>(
         → ReadsHeader whole result }
     ensures stands { IfSome result (λ x. HeaderStands (chars text.now) x.0 (shown x.1)) }
     ensures number { IfSome result (λ x. x.0.priority ≡ priority) }
-    ensures utf8 { IfSome result (λ x. IsUtf8 x.0.start.now × IsUtf8 x.0.tail.now × IsUtf8 x.1.now) }
+    ensures utf8 { IfSome result (λ x. IsUtf8 x.0.tail.now × IsUtf8 x.1.now) }
 {
     let (version, behind_version) = number(text, u32::MAX)?;
     let start = some_blanks(behind_version)?;
@@ -82,8 +80,6 @@ pub(crate) fn read_header<const CALLER: u8>(
     let at_id = some_blanks(behind_process)?;
     let (msgid, rest) = word(at_id)?;
     let stands = are_all([
-        number_stands(text),
-        is_one_space(behind_version, start),
         is_one_space(tail, at_host),
         is_one_space(behind_host, at_app),
         is_one_space(behind_app, at_process),
@@ -99,7 +95,6 @@ pub(crate) fn read_header<const CALLER: u8>(
             appname,
             process,
             msgid,
-            start,
             tail,
             stands,
         },
@@ -135,7 +130,7 @@ fn header_message<'a>(
         protocol: Protocol::RFC5424(header.version),
         facility,
         severity,
-        timestamp: header.timestamp,
+        timestamp: stamp_of(header.timestamp),
         hostname: header.hostname,
         appname: header.appname,
         procid: process_of(header.process),

@@ -30,7 +30,7 @@ use crate::beginning::may_be_read;
 use crate::fault::ParseFault;
 use crate::jumps::write_round;
 use crate::line::rfc5424_text;
-use crate::message::{has_no_exception, make_room, print, priority, write_timestamp};
+use crate::message::{has_no_exception, make_room, print, priority, write_clock};
 use crate::reading::{asked_numbers, front_date, front_stamp};
 use crate::rfc3164::{Stamped, read_behind, stands_as_printed};
 use crate::variant::{IncompleteDate, Variant};
@@ -41,9 +41,7 @@ use std::fmt::Write;
 use syslog_pieces::pri::{optional_priority, parts, write_priority};
 use syslog_pieces::structured_data::rfc3164_list::DASH_RULE;
 use syslog_pieces::text::trimmed;
-use syslog_pieces::text::write_ascii::push_bytes;
-use syslog_pieces::timestamp::civil::month_text;
-use syslog_pieces::timestamp::month_date::MonthDate;
+use syslog_pieces::timestamp::ClockStamp;
 use syslog_pieces::timestamp::zone::{Dating, month_stamp};
 
 /// The printed text of the message that `parse_message_with_year_exact_tz` answers, in memory of its own. A text that
@@ -109,84 +107,53 @@ pub(crate) fn next_round<F: FnOnce(IncompleteDate) -> i32, const CALLER: u8>(
             year: None,
         });
     }
-    match front_date(rest, variant) {
+    let mut year = None;
+    let found = match front_date(rest, variant) {
         Some((date, tail)) => {
-            let year = asked_numbers(date).map(get_year);
-            let dating = Dating { year, tz, local };
-            let settled = dated_round(alloc, text, input, priority, date, tail, &dating, skips)?;
-            Ok(Round { settled, year })
+            year = asked_numbers(date).map(get_year);
+            match month_stamp(date, &Dating { year, tz, local }) {
+                Some(stamp) => Some((Some(stamp), tail)),
+                None => None,
+            }
         }
-        None => {
-            let settled = stamped_round(alloc, text, input, priority, rest, variant, skips)?;
-            let year = None;
-            Ok(Round { settled, year })
-        }
-    }
-}
-
-// The round of a line that shows a month date. A month date never prints as it is written, but what programs write
-// behind it mostly does, as ` host app[5]: message`. So that is copied, without the fields in between.
-#[inline(always)]
-fn dated_round(
-    alloc: Global,
-    text: &mut String,
-    input: &str,
-    priority: Option<u8>,
-    date: MonthDate,
-    tail: &str,
-    dating: &Dating<'_, '_>,
-    skips: bool,
-) -> Result<bool, ParseFault>
-    ensures { (variant : Variant) (follows : Text) → IsBehindPriority (chars input.entry.now) priority follows
-        → BeginsWith month_date variant follows date (shown tail.entry)
-        → OfTrimmed (chars input.entry.now) (λ whole.
-        AnswersRound skips variant (dating_value dating.entry.now) whole (string_bytes text.new) result) }
-{
-    if stands_as_printed::<true>(tail) {
-        if let Some(stamp) = month_text(date, dating) {
-            write_dated(text, priority, &stamp, tail, input.len())?;
-            return Ok(true);
-        }
-    }
-    let Some(stamp) = month_stamp(date, dating) else {
+        None => front_stamp(rest, variant),
+    };
+    let Some((timestamp, tail)) = found else {
         return Err(ParseFault::Invalid);
     };
-    let stamped = Stamped {
-        priority,
-        timestamp: Some(stamp),
-    };
-    message_round(alloc, text, stamped, tail, input.len(), skips)
+    let stamped = Stamped { priority, timestamp };
+    let settled = stamped_round(alloc, text, stamped, tail, input.len(), skips)?;
+    Ok(Round { settled, year })
 }
 
-// The round of a line without a month date that isn't read by RFC 5424. Its timestamp is printed, and the text behind
-// it copied, where that stands as it prints.
 #[inline(always)]
 fn stamped_round(
     alloc: Global,
     text: &mut String,
-    input: &str,
-    priority: Option<u8>,
-    rest: &str,
-    variant: Variant,
+    stamped: Stamped,
+    tail: &str,
+    length: usize,
     skips: bool,
 ) -> Result<bool, ParseFault>
-    requires front { IsBehindPriority (chars input.now) priority (chars rest.now) }
-    requires undated { BeginsWithout month_date variant (chars rest.now) }
-    ensures { OfTrimmed (chars input.now) (λ whole. (variant ≢ RFC3164 → IsNot5424 whole) → (dating : AnyDating)
-        → AnswersRound skips variant dating whole (string_bytes text.new) result) }
 {
-    let Some((timestamp, tail)) = front_stamp(rest, variant) else {
-        return Err(ParseFault::Invalid);
-    };
-    let stamped = Stamped {
-        priority,
-        timestamp,
-    };
-    if stands_as_printed::<false>(tail) {
-        write_stamped(text, stamped, tail, input.len())?;
+    if prints_back(stamped.timestamp) && stands_as_printed(tail) {
+        make_room(text, length)?;
+        write!(text, "{stamped}")?;
+        text.push_str(tail)?;
         return Ok(true);
     }
-    message_round(alloc, text, stamped, tail, input.len(), skips)
+    message_round(alloc, text, stamped, tail, length, skips)
+}
+
+#[inline(always)]
+fn prints_back(timestamp: Option<ClockStamp>) -> bool {
+    match timestamp {
+        Some(clock) => {
+            let seconds = clock.stamp.offset.seconds().unsigned_abs();
+            clock.fields.year >= 0 && seconds % 60 == 0 && seconds < 86_400
+        }
+        None => true,
+    }
 }
 
 // The round of a line of RFC 3164 whose message is made and printed, from what stands behind its timestamp on.
@@ -212,41 +179,6 @@ fn message_round(
     Ok(false)
 }
 
-// A priority as the message behind it prints it.
-#[derive(Clone, Copy)]
-struct Front {
-    priority: Option<u8>,
-}
-
-impl fmt::Display for Front {
-    ghost output = { λ front. Some (priority_text (printed_number front.priority)) };
-
-    fn fmt<W: fmt::Write>(&self, f: &mut fmt::Formatter<W>) -> fmt::Result {
-        let (facility, severity) = parts(self.priority);
-        write_priority(f, priority(facility, severity))
-    }
-}
-
-// Writes a priority, the text of a month date and all behind it, into a text that gets room for all of it at once.
-#[inline(always)]
-fn write_dated(
-    text: &mut String,
-    priority: Option<u8>,
-    stamp: &[u8],
-    tail: &str,
-    length: usize,
-) -> Result<(), AllocError>
-    requires { AllByRecursion (λ b. b < 128) stamp.now }
-    ensures { OnOk result (string_bytes text.new
-        ≡ priority_text (printed_number priority) ++ (stamp.entry.now ++ tail.entry.now)) }
-{
-    make_room(text, length)?;
-    let front = Front { priority };
-    write!(text, "{front}")?;
-    push_bytes(text, stamp)?;
-    text.push_str(tail)
-}
-
 impl fmt::Display for Stamped {
     ghost output = { λ s. Some (priority_text (printed_number s.priority)
         ++ (32 ∷ encode_utf8_all (timestamp_text s.timestamp))) };
@@ -254,22 +186,6 @@ impl fmt::Display for Stamped {
     fn fmt<W: fmt::Write>(&self, f: &mut fmt::Formatter<W>) -> fmt::Result {
         let (facility, severity) = parts(self.priority);
         write_priority(f, priority(facility, severity))?;
-        write_timestamp(f, self.timestamp)
+        write_clock(f, self.timestamp)
     }
-}
-
-// The same of another timestamp, or of none.
-#[inline(always)]
-fn write_stamped(
-    text: &mut String,
-    stamped: Stamped,
-    tail: &str,
-    length: usize,
-) -> Result<(), AllocError>
-    ensures { OnOk result (string_bytes text.new ≡ (priority_text (printed_number stamped.priority)
-        ++ (32 ∷ encode_utf8_all (timestamp_text stamped.timestamp))) ++ tail.entry.now) }
-{
-    make_room(text, length)?;
-    write!(text, "{stamped}")?;
-    text.push_str(tail)
 }

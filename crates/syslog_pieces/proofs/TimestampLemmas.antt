@@ -3,7 +3,6 @@
 pub mod Characters
 pub mod Civil
 pub mod Fold
-pub mod CopiedStamp
 pub mod Rfc3164
 pub mod MonthDate
 pub mod Months

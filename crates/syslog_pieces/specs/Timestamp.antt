@@ -7,9 +7,11 @@ pub mod Printed
 pub mod Rfc3339
 pub mod Zone
 use Rattle.std.specs.Prelude.{◌≡◌, ℕ, List, ◌∷◌, Option, Some, None, MatchOption}
+use Rattle.std.specs.Option.{option_map}
 use Rattle.syslog_pieces.specs.Pieces.Class.{Text, Class}
 use Rattle.syslog_pieces.specs.Text.{dash}
 use Rattle.syslog_pieces.specs.declared.timestamp.OffsetTimestamp.{OffsetTimestamp}
+use Rattle.syslog_pieces.specs.declared.timestamp.clock.ClockStamp.{ClockStamp}
 use Rattle.syslog_pieces.specs.declared.timestamp.rfc3339_text.Rfc3339Fields.{Rfc3339Fields}
 use Rattle.syslog_pieces.specs.Timestamp.Rfc3339.{HasStamp, HasRfc3339Stamp}
 
@@ -26,8 +28,12 @@ abbrev pub IsStampOfRfc3339 : Rfc3339Fields → OffsetTimestamp → Type 0
 IsStampOfRfc3339 w s = HasRfc3339Stamp w s.instant.nanosecond s.offset.seconds
 
 -- the timestamp of which `P` holds, and none only where it holds of no timestamp
-abbrev pub IsAnswer : (OffsetTimestamp → Type 0) → Option OffsetTimestamp → Type 0
-IsAnswer P answer = MatchOption answer ((s : OffsetTimestamp) → P s → ⊥) P
+abbrev pub IsAnswer : (OffsetTimestamp → Type 0) → Option ClockStamp → Type 0
+IsAnswer P answer = MatchOption answer ((s : OffsetTimestamp) → P s → ⊥) (λ c. P c.stamp)
+
+-- the timestamp that was read, without what a clock shows
+abbrev pub stamp_seen : Option ClockStamp → Option OffsetTimestamp
+stamp_seen c = option_map (λ c. c.stamp) c
 
 -- a timestamp of a header: `-` where it is absent, or a whole RFC 3339 text before a space
 abbrev pub IsHeaderStamp : Text → Text → Option OffsetTimestamp → Type 0

@@ -13,7 +13,7 @@ use std::fmt::Display;
 use syslog_pieces::as_str::AsStr;
 use syslog_pieces::procid::ProcId;
 use syslog_pieces::structured_data::StructuredElement;
-use syslog_pieces::timestamp::OffsetTimestamp;
+use syslog_pieces::timestamp::{ClockStamp, OffsetTimestamp};
 
 /// Writes a space and a name.
 #[inline]
@@ -41,6 +41,22 @@ pub(crate) fn write_timestamp<W: fmt::Write>(
     timestamp: Option<OffsetTimestamp>,
 ) -> fmt::Result
     ensures { WritesOnOk W.write_str_gives f.old result (32 ∷ encode_utf8_all (spec.timestamp_text timestamp)) f.new }
+{
+    match timestamp {
+        Some(stamp) => {
+            f.write_str(" ")?;
+            stamp.fmt(f)
+        }
+        None => f.write_str(" -"),
+    }
+}
+
+/// The same of one that was read.
+#[inline(always)]
+pub(crate) fn write_clock<W: fmt::Write>(
+    f: &mut fmt::Formatter<W>,
+    timestamp: Option<ClockStamp>,
+) -> fmt::Result
 {
     match timestamp {
         Some(stamp) => {

@@ -1,24 +1,17 @@
--- The fields of a datetime; those of a count of nanoseconds, which are the fields of the datetime that has it; and the
--- timestamp that a clock at an offset shows.
-use Rattle.std.proofs.Common.{◌≡◌, ℤ, pos, neg_ℤ, ◌+ℤ◌, ◌≤ℤ◌, ◌<ℤ◌, ◌%◌, ◌<◌, unsigned_abs, refl, sym, ap, subst, ◌∙◌}
-use Rattle.std.proofs.Common.{arith}
+-- The fields of a datetime; those of a count of nanoseconds, which are the fields of the datetime that has it; and what
+-- a clock at an offset shows.
+use Rattle.std.proofs.Common.{◌≡◌, ℤ, ◌+ℤ◌, ◌-ℤ◌, refl, sym, ap, subst, ◌∙◌, arith}
 use Rattle.jiff.proofs.Family.{same_datetime}
-use Rattle.jiff.specs.Types.{DateTime, Offset}
-use Rattle.jiff.specs.Words.{civil_nanos, instant_of, nanos_of_seconds, IsTimestampNanos}
-use Rattle.jiff_core.proofs.CalendarLemmas.{days_from_civil-day_count, day_count-day_of_year}
-use Rattle.jiff_core.proofs.CalendarLemmas.{day_count-later_year, day_count-lt_year, day_count-min}
-use Rattle.jiff_core.proofs.CalendarLemmas.{day_count-end, day_count-next_year, days_in_year_bounds}
-use Rattle.jiff_core.proofs.DateLemmas.{civil}
-use Rattle.jiff_core.proofs.DateTimeLemmas.{civil_nanos-parts, civil_nanos_range, time_nanos_bound}
+use Rattle.jiff.specs.Types.{DateTime}
+use Rattle.jiff.specs.Words.{civil_nanos, nanos_of_seconds}
+use Rattle.jiff_core.proofs.DateTimeLemmas.{civil_nanos-parts, civil_nanos_range}
 use Rattle.jiff_core.proofs.SignedLemmas.{signed_arith}
-use Rattle.syslog_pieces.specs.declared.timestamp.OffsetTimestamp.{OffsetTimestamp}
 use Rattle.syslog_pieces.specs.declared.timestamp.fields.CivilFields.{CivilFields}
-use Rattle.syslog_pieces.specs.Timestamp.Canonical.{IsCanonicalStamp, own_year}
-use Rattle.syslog_pieces.specs.Timestamp.Fields.{AreCivil, IsStampAt, fields_of, nanos_of_fields}
-use Rattle.syslog_pieces.specs.Timestamp.Printed.{civil_fields, printed_stamp, fields_text}
+use Rattle.syslog_pieces.specs.Timestamp.Fields.{AreCivil, fields_of, nanos_of_fields}
+use Rattle.syslog_pieces.specs.Timestamp.Printed.{civil_fields, fields_text, printed_stamp}
 use Rattle.syslog_pieces.proofs.TimestampLemmas.Range.{civil_fields_exist}
 
-civil-fields_of : (dt : DateTime) → AreCivil (fields_of dt)
+pub civil-fields_of : (dt : DateTime) → AreCivil (fields_of dt)
 civil-fields_of dt = record {
   date = (dt.date.year_in, dt.date.month_in, dt.date.day_in);
   hour_in = dt.time.hour_in;
@@ -71,55 +64,14 @@ pub printed_stamp-is : (dt : DateTime) (n o : ℤ) → civil_nanos dt ≡ n +ℤ
 unfolding printed_stamp
 printed_stamp-is dt n o e = rw (civil_fields-is dt _ e)
 
--- ---- the timestamp that a clock at an offset shows
+-- what a clock at an offset shows at the instant of a datetime there
+pub shows_datetime : (dt : DateTime) (n o : ℤ) → n ≡ civil_nanos dt -ℤ nanos_of_seconds o
+    → civil_fields (n +ℤ nanos_of_seconds o) ≡ fields_of dt
+shows_datetime dt n o e = civil_fields-is dt _ (omega (arith, signed_arith))
 
--- a clock at any offset that shows a year from 0 to 9998 shows an instant in range
-pub in_range-years : (dt : DateTime) (offset : Offset) → pos 0 ≤ℤ dt.date.year → dt.date.year <ℤ pos 9999
-    → IsTimestampNanos (instant_of dt offset)
-in_range-years dt offset from to =
-    let d = dt.date in
-    let there = civil d in
-    let first = day_count-day_of_year d.year d.month d.day d.day_in.0 in
-    let low =
-    day_count-later_year (neg_ℤ (pos 9999)) d.year (omega (arith, signed_arith)) (omega (arith, signed_arith, from)) in
-    let least = day_count-min in
-    let days = days_in_year_bounds (neg_ℤ (pos 9999)) in
-    let high = day_count-lt_year d.year d.month d.day (pos 9999) 1 1 there (omega arith) to in
-    let most = day_count-next_year (pos 9999) (pos 10000) (omega (arith, signed_arith)) refl in
-    let end = day_count-end in
-    let last = days_in_year_bounds (pos 9999) in
-    let number = days_from_civil-day_count d.year d.month d.day in
-    let parts = civil_nanos-parts dt in
-    let clock = time_nanos_bound dt.time in
-    let shift = offset.in_range in (
-      omega (arith, signed_arith, shift.0, shift.1, d.day_in.0),
-      omega (arith, signed_arith, shift.0, shift.1, d.day_in.0),
-    )
-
-module _ (dt : DateTime) (offset : Offset) (from : pos 0 ≤ℤ dt.date.year) (to : dt.date.year <ℤ pos 9999) where
-  -- the timestamp that a clock at the offset shows
-  abbrev pub stamp : OffsetTimestamp
-  stamp = record {
-    instant = record { nanosecond = instant_of dt offset; in_range = in_range-years dt offset from to };
-    offset = offset;
-  }
-
-  pub at_offset : IsStampAt dt offset stamp
-  at_offset = record { instant = refl; at_offset = refl }
-
-  shown : civil_nanos dt ≡ instant_of dt offset +ℤ nanos_of_seconds offset.seconds
-  shown = omega (arith, signed_arith)
-
-  -- it prints as what the clock shows
-  pub prints : printed_stamp (instant_of dt offset) offset.seconds ≡ fields_text (fields_of dt) offset.seconds
-  prints = printed_stamp-is dt _ _ shown
-
-  pub canonical : unsigned_abs offset.seconds % 60 ≡ 0 → unsigned_abs offset.seconds < 86_400 → IsCanonicalStamp stamp
-  canonical minutes day =
-      let year : own_year stamp ≡ dt.date.year = ap (λ (f : CivilFields). f.year) (civil_fields-is dt _ shown) in
-      record {
-        year_from = rw year from;
-        year_to = rw year (omega (arith, signed_arith, to));
-        minutes = minutes;
-        day = day;
-      }
+-- and at the instant of fields
+pub shows_fields : (f : CivilFields) (n o : ℤ) → AreCivil f → n ≡ nanos_of_fields f -ℤ nanos_of_seconds o
+    → civil_fields (n +ℤ nanos_of_seconds o) ≡ f
+shows_fields f n o h e =
+    let (dt, same) = datetime_of f h in
+    shows_datetime dt n o (rw (civil_nanos-fields dt f same) e) ∙ same

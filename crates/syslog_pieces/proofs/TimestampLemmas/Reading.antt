@@ -14,6 +14,7 @@ use Rattle.std.proofs.lemmas.List.Sums.{prefix_len_is, prefix_len_passes}
 use Rattle.std.proofs.lemmas.Str.{encodes-append, encodes-chars, encodes-IsAscii}
 use Rattle.std.specs.Char.{is_ascii_digit, IsAsciiDigit}
 use Rattle.std.specs.List.{All, prefix_len}
+use Rattle.std.specs.Prelude.{MatchOption}
 use Rattle.std.specs.Str.{chars, IsAscii, IsUtf8, IsCharBoundary, encode_utf8_all}
 use mathlib.Core.HLevel.{is_prop→PathP}
 use Rattle.jiff.specs.Types.{DateTime, Offset, Timestamp}
@@ -25,12 +26,13 @@ use Rattle.syslog_pieces.specs.Bodies.StampReading.{Read, nanoseconds, IsClockBy
 use Rattle.syslog_pieces.specs.Bodies.StampReading.{IsOffsetBytes, after_letter, clock, date, fraction, minutes}
 use Rattle.syslog_pieces.specs.Bodies.StampReading.{numbers, written, ◌or◌, offset, seconds, stamp_text}
 use Rattle.syslog_pieces.specs.Pieces.Class.{Text, Front, NoFront, IsDeterministic}
-use Rattle.syslog_pieces.specs.Timestamp.{IsAnswer, IsStampText, HasNoStamp, IsStampOfRfc3339}
+use Rattle.syslog_pieces.specs.Timestamp.{IsAnswer, IsStampText, HasNoStamp, IsStampOfRfc3339, stamp_seen}
 use Rattle.syslog_pieces.specs.Timestamp.Fields.{fields_of, IsStampAt}
 use Rattle.syslog_pieces.specs.Timestamp.Printed.{fraction_text, pad3}
 use Rattle.syslog_pieces.specs.Timestamp.Rfc3339.{IsFraction, IsLetter, IsOffsetText, Writes, HasStamp}
 use Rattle.syslog_pieces.specs.Timestamp.Rfc3339.{fields_of_rfc3339}
 use Rattle.syslog_pieces.specs.declared.timestamp.OffsetTimestamp.{OffsetTimestamp}
+use Rattle.syslog_pieces.specs.declared.timestamp.clock.ClockStamp.{ClockStamp}
 use Rattle.syslog_pieces.specs.declared.timestamp.month_date.Clock.{Clock}
 use Rattle.syslog_pieces.specs.declared.timestamp.rfc3339_text.Day.{Day}
 use Rattle.syslog_pieces.specs.declared.timestamp.rfc3339_text.Rfc3339Fields.{Rfc3339Fields}
@@ -341,14 +343,20 @@ module _ (bs : List ℕ) (u : IsUtf8 bs) where
 -- ---- from what a text wrote to the answer
 
 -- an answer to one question is one to another that asks the same
-pub answer_same : (P Q : OffsetTimestamp → Type 0) (answer : Option OffsetTimestamp)
+pub answer_same : (P Q : OffsetTimestamp → Type 0) (answer : Option ClockStamp)
     → ((s : OffsetTimestamp) → P s → Q s)
     → ((s : OffsetTimestamp) → Q s → P s) → IsAnswer P answer → IsAnswer Q answer
 answer_same P Q None forth back h = λ s q. h s (back s q)
-answer_same P Q (Some s) forth back h = forth s h
+answer_same P Q (Some c) forth back h = forth c.stamp h
+
+-- and so is the timestamp alone
+answer_seen : (P : OffsetTimestamp → Type 0) (answer : Option ClockStamp) → IsAnswer P answer
+    → MatchOption (stamp_seen answer) ((s : OffsetTimestamp) → P s → ⊥) P
+answer_seen P None h = h
+answer_seen P (Some c) h = h
 
 -- the stamp of the datetime is that of the numbers that name it
-pub answer_of_rfc3339 : (w : Rfc3339Fields) (dt : DateTime) (offset : Offset) (answer : Option OffsetTimestamp)
+pub answer_of_rfc3339 : (w : Rfc3339Fields) (dt : DateTime) (offset : Offset) (answer : Option ClockStamp)
     → fields_of dt ≡ fields_of_rfc3339 w
     → w.second < 61 → offset.seconds ≡ w.offset → IsAnswer (IsStampAt dt offset) answer
     → IsAnswer (IsStampOfRfc3339 w) answer
@@ -373,12 +381,12 @@ module _ {t q : Text} {w : Rfc3339Fields} (f : Front stamp_text t q w) where
   same_numbers : (v : Rfc3339Fields) → Writes t v → ([] ≡ q) × (v ≡ w)
   same_numbers v h = front_same stamp_text stamp_text_det (whole_front t v h) f
 
-  pub answer_of_text : (answer : Option OffsetTimestamp) → q ≡ [] → IsAnswer (IsStampOfRfc3339 w) answer
-      → IsAnswer (IsStampText t) answer
-  answer_of_text answer e h =
+  pub answer_of_text : (answer : Option ClockStamp) (r : Option OffsetTimestamp) → q ≡ []
+      → IsAnswer (IsStampOfRfc3339 w) answer → r ≡ stamp_seen answer → MatchOption r (HasNoStamp t) (IsStampText t)
+  answer_of_text answer r e h seen =
       let whole : t ≡ f.piece = f.whole ∙ ap (λ (x : Text). f.piece ++ x) e ∙ append-nil f.piece in
-      answer_same (IsStampOfRfc3339 w) (IsStampText t) answer (λ s p. (w, rw whole f.is, p))
-      (λ s (v, k, p). rw (same_numbers v k).1 at p) h
+      rw seen (answer_seen (IsStampText t) answer (answer_same (IsStampOfRfc3339 w) (IsStampText t) answer
+      (λ s p. (w, rw whole f.is, p)) (λ s (v, k, p). rw (same_numbers v k).1 at p) h))
 
   -- a text that goes on is one of no timestamp
   pub no_text_here : q ≢ [] → HasNoStamp t

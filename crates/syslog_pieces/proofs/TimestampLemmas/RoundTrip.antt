@@ -22,7 +22,7 @@ use Rattle.syslog_pieces.specs.Timestamp.Canonical.{IsCanonicalStamp, BeginsWith
 use Rattle.syslog_pieces.specs.Timestamp.Printed.{civil_fields, printed_stamp, date_time_text}
 use Rattle.syslog_pieces.specs.Timestamp.Printed.{year_sign, fraction_text, offset_text}
 use Rattle.syslog_pieces.specs.Timestamp.Rfc3339.{HasStamp, HasRfc3339Stamp, IsOffsetText, fields_of_rfc3339}
-use Rattle.syslog_pieces.proofs.TimestampLemmas.Civil.{civil_fields-is, datetime_of, civil_nanos-fields}
+use Rattle.syslog_pieces.proofs.TimestampLemmas.Civil.{civil_fields-is, shows_fields}
 use Rattle.syslog_pieces.proofs.TimestampLemmas.Reading.{fraction_text-is, signed_is, writes-of}
 use Rattle.syslog_pieces.proofs.TimestampLemmas.Piece.{each_visible}
 use Rattle.syslog_pieces.proofs.TimestampLemmas.Printing.{absolute, printed_stamp-characters}
@@ -106,11 +106,7 @@ offset-canonical zone o (inr n) =
 pub shows_written : (w : Rfc3339Fields) (n o : ℤ) → HasRfc3339Stamp w n o
     → civil_fields (n +ℤ nanos_of_seconds o) ≡ fields_of_rfc3339 w
 shows_written w n o h =
-    let f = fields_of_rfc3339 w in
-    let dt = (datetime_of f h.civil).0 in
-    let count : n +ℤ nanos_of_seconds o ≡ nanos_of_fields f =
-    omega (arith, signed_arith, h.instant, ap nanos_of_seconds h.at_offset) in
-    civil_fields-is dt _ (civil_nanos-fields dt f refl ∙ sym count)
+    shows_fields (fields_of_rfc3339 w) n o h.civil (omega (arith, signed_arith, h.instant, ap nanos_of_seconds h.at_offset))
 
 pub stamp_text-canonical : (text : List ℕ) (s : OffsetTimestamp) → IsStampText text s → IsCanonicalStamp s
 stamp_text-canonical text s (w, writes, stamp) =
@@ -127,7 +123,7 @@ stamp_text-canonical text s (w, writes, stamp) =
 
 -- ---- the printed text of any timestamp
 
-own_fields : (s : OffsetTimestamp) → AreCivil (civil_fields (s.instant.nanosecond +ℤ nanos_of_seconds s.offset.seconds))
+pub own_fields : (s : OffsetTimestamp) → AreCivil (civil_fields (s.instant.nanosecond +ℤ nanos_of_seconds s.offset.seconds))
 own_fields s =
     (civil_fields_exist _ (in_range-at_offset s.instant.nanosecond s.offset.seconds s.instant.in_range
     s.offset.in_range)).0

@@ -1,5 +1,4 @@
--- The timestamp of civil fields in a zone: there is at most one, and what its readers answer. The printed text of a
--- month date's timestamp, by what a clock at its offset shows.
+-- The timestamp of civil fields in a zone: there is at most one, and what its readers answer.
 use Rattle.std.proofs.Common.{IfSome, ◌<ℤ◌, arith, ◌≡◌, pos, ℤ, Option, Some, None, sym, ap, subst, ◌∙◌, ℕ, ◌+◌, ◌-ℤ◌}
 use Rattle.std.proofs.Common.{◌≤ℤ◌, refl, List, [], ◌∷◌, ◌++◌, ◌/◌, ◌%◌, ◌<◌, unsigned_abs}
 use Rattle.jiff.proofs.Family.{same_datetime}
@@ -7,23 +6,19 @@ use Rattle.jiff.specs.Types.{DateTime, Offset, TimeZone, AmbiguousOffset, Unambi
 use Rattle.jiff.specs.Types.{Fixed as FixedZone}
 use Rattle.jiff.specs.Words.{offset_at, ambiguous_at, nanos_of_seconds, IsFixed}
 use Rattle.jiff_core.proofs.SignedLemmas.{signed_arith}
-use Rattle.jiff_fmt.specs.Text.{pad2}
 use Rattle.jiff_tz.specs.Zone.{utc_offset}
-use Rattle.syslog_pieces.specs.Bodies.Early.{IsEarlyStamp}
-use Rattle.syslog_pieces.specs.Bodies.MonthText.{IsMonthText, zone_of}
+use Rattle.syslog_pieces.specs.Bodies.Early.{IsEarlyStamp, zone_of}
 use Rattle.syslog_pieces.specs.Timestamp.{IsAnswer}
 use Rattle.syslog_pieces.specs.Timestamp.Fields.{fields_of, IsStampAt, AreCivil}
-use Rattle.syslog_pieces.specs.Timestamp.Printed.{fields_text, date_time_text, fraction_text, offset_text, offset_sign}
-use Rattle.syslog_pieces.specs.Timestamp.Printed.{rounded_minutes, unsigned_date_time, year_sign}
 use Rattle.syslog_pieces.specs.Timestamp.Zone.{Dating, earlier, IsStampOf, IsStampInGap}
 use Rattle.syslog_pieces.specs.Timestamp.Zone.{IsLocalStampOf, IsStampInAny, IsStampOfFields}
 use Rattle.syslog_pieces.specs.Timestamp.Zone.{IsMonthStamp, civil_of, year_of}
 use Rattle.syslog_pieces.specs.declared.timestamp.OffsetTimestamp.{OffsetTimestamp}
+use Rattle.syslog_pieces.specs.declared.timestamp.clock.ClockStamp.{ClockStamp}
 use Rattle.syslog_pieces.specs.declared.timestamp.fields.CivilFields.{CivilFields}
 use Rattle.syslog_pieces.specs.declared.timestamp.month_date.MonthDate.{MonthDate}
 use Rattle.syslog_pieces.proofs.TimestampLemmas.Reading.{answer_same, same_timestamp, same_offset}
-use Rattle.syslog_pieces.proofs.TimestampLemmas.Civil.{civil_nanos-fields, civil-fields, at_offset, canonical}
-use Rattle.syslog_pieces.proofs.TimestampLemmas.Civil.{datetime_of, prints, stamp}
+use Rattle.syslog_pieces.proofs.TimestampLemmas.Civil.{civil_nanos-fields, civil-fields, datetime_of}
 
 -- fields name one datetime
 pub one_datetime : (f : CivilFields) (a b : DateTime) → fields_of a ≡ f → fields_of b ≡ f → a ≡ b
@@ -59,7 +54,7 @@ month_stamp_once dating date s t (year, y, (dt, f, h)) (year', y', (dt', f', h')
 -- ---- what the readers answer
 
 -- at the one offset, or at the one before a fold
-pub answer_at : (a : AmbiguousOffset) (tz : TimeZone) (dt : DateTime) (offset : Offset) (r : Option OffsetTimestamp)
+pub answer_at : (a : AmbiguousOffset) (tz : TimeZone) (dt : DateTime) (offset : Offset) (r : Option ClockStamp)
     → earlier a ≡ Some offset → IsAnswer (IsStampAt dt offset) r
     → IsAnswer (IsStampOf a dt) r × IsAnswer (IsLocalStampOf a tz dt) r
 answer_at (Unambiguous o) tz dt offset r e h = let same : offset ≡ o = cc in let at = rw same at h in (at, at)
@@ -68,7 +63,7 @@ answer_at (Fold before after) tz dt offset r e h = let same : offset ≡ before 
 
 -- fields that name a datetime have its timestamp
 pub answer_of_fields : (f : CivilFields) (dt : DateTime) (tz : Option TimeZone) (local : TimeZone)
-    (r : Option OffsetTimestamp) → fields_of dt ≡ f
+    (r : Option ClockStamp) → fields_of dt ≡ f
     → IsAnswer (IsStampInAny tz local dt) r → IsAnswer (IsStampOfFields tz local f) r
 answer_of_fields f dt tz local r e h =
     answer_same (IsStampInAny tz local dt) (IsStampOfFields tz local f) r (λ s p. (dt, e, p))
@@ -76,7 +71,7 @@ answer_of_fields f dt tz local r e h =
 
 -- ---- the year of a month date
 module _ (dating : Dating) (date : MonthDate) where
-  pub answer_in_year : (y : ℤ) (r : Option OffsetTimestamp) → year_of date dating.year ≡ Some y
+  pub answer_in_year : (y : ℤ) (r : Option ClockStamp) → year_of date dating.year ≡ Some y
       → IsAnswer (IsStampOfFields dating.zone dating.local (civil_of date y)) r → IsAnswer (IsMonthStamp dating date) r
   answer_in_year y r e h =
       answer_same (IsStampOfFields dating.zone dating.local (civil_of date y)) (IsMonthStamp dating date) r
@@ -89,66 +84,26 @@ module _ (dating : Dating) (date : MonthDate) where
       let in_range = (civil-fields dt (civil_of date y) f).date in
       omega (arith, signed_arith, past, in_range.0)
 
--- ---- what a clock in the zone shows
-pub in_any : (tz : Option TimeZone) (local : TimeZone) (dt : DateTime) (offset : Offset) (s : OffsetTimestamp)
+-- the timestamp at the one offset, or at the one before a fold
+at_earlier : (a : AmbiguousOffset) (tz : TimeZone) (dt : DateTime) (offset : Offset) (s : OffsetTimestamp)
+    → earlier a ≡ Some offset → IsStampAt dt offset s → IsStampOf a dt s × IsLocalStampOf a tz dt s
+at_earlier (Unambiguous o) tz dt offset s e h = let same : offset ≡ o = cc in let at = rw same at h in (at, at)
+at_earlier (Gap before after) tz dt offset s e h = absurd (let n : None ≡ Some offset = e in cc)
+at_earlier (Fold before after) tz dt offset s e h = let same : offset ≡ before = cc in let at = rw same at h in (at, at)
+
+in_any : (tz : Option TimeZone) (local : TimeZone) (dt : DateTime) (offset : Offset) (s : OffsetTimestamp)
     → earlier (ambiguous_at (zone_of tz local) dt) ≡ Some offset → IsStampAt dt offset s → IsStampInAny tz local dt s
-in_any (Some tz) local dt offset s e h = (answer_at (ambiguous_at tz dt) tz dt offset (Some s) e h).0
-in_any None local dt offset s e h = (answer_at (ambiguous_at local dt) local dt offset (Some s) e h).1
+in_any (Some tz) local dt offset s e h = (at_earlier (ambiguous_at tz dt) tz dt offset s e h).0
+in_any None local dt offset s e h = (at_earlier (ambiguous_at local dt) local dt offset s e h).1
 
 -- a zone of one offset has it at each datetime
-pub fixed_earlier : (tz : TimeZone) (offset : Offset) (dt : DateTime) → IsFixed tz
+fixed_earlier : (tz : TimeZone) (offset : Offset) (dt : DateTime) → IsFixed tz
     → ((n : ℤ) → offset.seconds ≡ offset_at tz n) → earlier (ambiguous_at tz dt) ≡ Some offset
 unfolding ambiguous_at offset_at
 fixed_earlier UTC offset dt fixed h = ap Some (same_offset utc_offset offset (sym (h (pos 0))))
 fixed_earlier Unknown offset dt fixed h = ap Some (same_offset utc_offset offset (sym (h (pos 0))))
 fixed_earlier (FixedZone o) offset dt fixed h = ap Some (same_offset o offset (sym (h (pos 0))))
 fixed_earlier _ offset dt fixed h = absurd fixed
-
--- fields name one datetime, so an offset at it is that of the fields
-pub earlier_at : (tz : TimeZone) (f : CivilFields) (at : DateTime) (r : Option Offset) → fields_of at ≡ f
-    → r ≡ earlier (ambiguous_at tz at)
-    → IfSome r (λ offset. (dt : DateTime) → fields_of dt ≡ f → earlier (ambiguous_at tz dt) ≡ Some offset)
-earlier_at tz f at None e h = tt
-earlier_at tz f at (Some offset) e h =
-    λ dt e'. ap (λ (x : DateTime). earlier (ambiguous_at tz x)) (one_datetime f dt at e' e) ∙ sym h
-
--- ---- the text
-
--- in a year from 0 on, and without a fraction
-whole_text : (f : CivilFields) (o : ℤ) → pos 0 ≤ℤ f.year → f.nanosecond ≡ 0
-    → unsigned_date_time (unsigned_abs f.year) f.month f.day f.hour f.minute f.second
-    ++ (offset_sign o ∷ (pad2 (rounded_minutes o / 60) ++ (58 ∷ pad2 (rounded_minutes o % 60)))) ≡ fields_text f o
-unfolding date_time_text fraction_text offset_text
-whole_text f o from whole =
-    let no_sign : year_sign f.year ≡ [] = grind (arith, signed_arith) in rw (no_sign, whole) refl
-
-pub whole_bytes : (f : CivilFields) (o : ℤ) (sign absolute : ℕ) (text : List ℕ) → pos 0 ≤ℤ f.year → f.nanosecond ≡ 0
-    → sign ≡ offset_sign o → absolute ≡ unsigned_abs o
-    → text ≡ 32 ∷ (unsigned_date_time (unsigned_abs f.year) f.month f.day f.hour f.minute f.second
-    ++ (sign ∷ (pad2 ((absolute + 30) / 60 / 60) ++ (58 ∷ pad2 ((absolute + 30) / 60 % 60)))))
-    → text ≡ 32 ∷ fields_text f o
-whole_bytes f o sign absolute text from whole e e' h =
-    rw (h, e, e') (ap (λ (x : List ℕ). 32 ∷ x) (whole_text f o from whole))
-
--- the printed text of a month date's timestamp
-pub month_printed : (dating : Dating) (date : MonthDate) (year : ℤ) (f : CivilFields) (offset : Offset) (text : List ℕ)
-    → year_of date dating.year ≡ Some year → f ≡ civil_of date year → AreCivil f
-    → (pos 0 ≤ℤ f.year) × (f.year <ℤ pos 9999)
-    → ((dt : DateTime) → fields_of dt ≡ f → earlier (ambiguous_at (zone_of dating.zone dating.local) dt) ≡ Some offset)
-    → (unsigned_abs offset.seconds % 60 ≡ 0) × (unsigned_abs offset.seconds < 86_400)
-    → text ≡ 32 ∷ fields_text f offset.seconds → IsMonthText dating date text
-month_printed dating date year f offset text y e there (from, to) at (minutes, day) is =
-    let (dt, same) = datetime_of f there in
-    let low : pos 0 ≤ℤ dt.date.year = from in
-    let high : dt.date.year <ℤ pos 9999 = to in
-    let shown = in_any dating.zone dating.local dt offset _ (at dt same) (at_offset dt offset low high) in
-    record {
-      stamp = stamp dt offset low high;
-      is = (year, y, (dt, same ∙ e, shown));
-      canonical = canonical dt offset low high minutes day;
-      printed = is ∙ ap (λ (x : List ℕ). 32 ∷ x)
-          (ap (λ (x : CivilFields). fields_text x offset.seconds) (sym same) ∙ sym (prints dt offset low high));
-    }
 
 -- ---- in a zone of one offset
 fixed_answer : (tz : Option TimeZone) (local : TimeZone) (f : CivilFields) (offset : Offset) (s : OffsetTimestamp)
@@ -163,9 +118,9 @@ fixed_answer tz local f offset s fixed at h =
     (dt, same, in_any tz local dt offset s (fixed_earlier (zone_of tz local) offset dt fixed at) there)
 
 pub fixed_answers : (tz : Option TimeZone) (local zone : TimeZone) (f : CivilFields) (offset : Offset)
-    (r : Option OffsetTimestamp)
+    (r : Option ClockStamp)
     → zone ≡ zone_of tz local → IsFixed zone → ((n : ℤ) → offset.seconds ≡ offset_at zone n)
-    → IfSome r (IsEarlyStamp f offset)
-    → IfSome r (IsStampOfFields tz local f)
+    → IfSome r (λ c. IsEarlyStamp f offset c.stamp)
+    → IfSome r (λ c. IsStampOfFields tz local f c.stamp)
 fixed_answers tz local zone f offset r e fixed at h =
     grind (arith, fixed_answer tz local f offset, subst IsFixed e fixed)

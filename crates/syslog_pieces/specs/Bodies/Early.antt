@@ -1,6 +1,6 @@
 -- The stamps of dates that each month has.
-use Rattle.std.specs.Prelude.{◌≡◌, ◌-ℤ◌, ◌≤ℤ◌, ◌<ℤ◌, pos}
-use Rattle.jiff.specs.Types.{Offset}
+use Rattle.std.specs.Prelude.{◌≡◌, ◌-ℤ◌, ◌≤ℤ◌, ◌<ℤ◌, pos, Option, Some, None}
+use Rattle.jiff.specs.Types.{Offset, TimeZone}
 use Rattle.jiff.specs.Words.{nanos_of_seconds}
 use Rattle.syslog_pieces.specs.Timestamp.Fields.{AreCivil, nanos_of_fields}
 use Rattle.syslog_pieces.specs.declared.timestamp.OffsetTimestamp.{OffsetTimestamp}
@@ -13,3 +13,8 @@ pub record IsEarlyStamp (f : CivilFields) (offset : Offset) (s : OffsetTimestamp
   pub to : f.year <ℤ pos 9999
   pub instant : s.instant.nanosecond ≡ nanos_of_fields f -ℤ nanos_of_seconds offset.seconds
   pub at_offset : s.offset ≡ offset
+
+-- the zone that counts: the one that is given, or else the local one
+abbrev pub zone_of : Option TimeZone → TimeZone → TimeZone
+zone_of (Some tz) local = tz
+zone_of None local = local

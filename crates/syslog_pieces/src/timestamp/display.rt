@@ -3,12 +3,12 @@ ghost use Rattle.std.specs.Prelude.{◌≡◌, ◌<◌, ◌+◌, Some, unsigned_
 ghost use Rattle.std.specs.Fmt.{WritesOnOk};
 ghost use Rattle.std.specs.List.{AllByRecursion};
 ghost use Rattle.jiff.specs.Words.{IsOffsetSeconds};
-ghost use Rattle.syslog_pieces.specs.Timestamp.Fields.{fields_of};
+ghost use Rattle.syslog_pieces.specs.Timestamp.Fields.{AreCivil, fields_of as spec_fields_of};
 ghost use Rattle.syslog_pieces.specs.Timestamp.Printed as spec;
 
-use super::OffsetTimestamp;
+use super::fields::{CivilFields, fields_of};
+use super::{ClockStamp, OffsetTimestamp};
 use crate::text::write_ascii::{digit, three_digits, write_bytes};
-use jiff::civil::DateTime;
 use jiff::tz::Offset;
 use std::fmt;
 
@@ -17,49 +17,63 @@ impl fmt::Display for OffsetTimestamp {
 
     fn fmt<W: fmt::Write>(&self, f: &mut fmt::Formatter<W>) -> fmt::Result {
         let dt = self.offset.to_datetime(self.instant);
-        write_stamp(f, dt, self.offset)
+        write_fields(f, fields_of(dt), self.offset)
     }
 }
 
-fn write_stamp<W: fmt::Write>(
+impl fmt::Display for ClockStamp {
+    ghost output = { λ s. Some (spec.printed_stamp s.stamp.instant.nanosecond s.stamp.offset.seconds) };
+
+    #[inline(always)]
+    fn fmt<W: fmt::Write>(&self, f: &mut fmt::Formatter<W>) -> fmt::Result {
+        write_fields(f, self.fields, self.stamp.offset)
+    }
+}
+
+// What a clock at the offset shows.
+#[inline(always)]
+fn write_fields<W: fmt::Write>(
     f: &mut fmt::Formatter<W>,
-    dt: DateTime,
+    fields: CivilFields,
     offset: Offset,
 ) -> fmt::Result
+    requires { AreCivil fields }
     ensures { WritesOnOk W.write_str_gives f.old result
-        (spec.fields_text (fields_of dt) offset.seconds) f.new }
+        (spec.fields_text fields offset.seconds) f.new }
 {
-    write_date_time(f, dt)?;
-    write_fraction(f, dt.subsec_nanosecond() as u32)?;
+    write_date_time(f, fields)?;
+    write_fraction(f, fields.nanosecond)?;
     write_offset(f, offset.seconds())
 }
 
 // `YYYY-MM-DDTHH:MM:SS`, after a `-` where the year is negative.
 #[tactic(auto, unfolding(crate::specs::Timestamp::Printed::date_time_text))]
 #[inline(always)]
-fn write_date_time<W: fmt::Write>(f: &mut fmt::Formatter<W>, dt: DateTime) -> fmt::Result
-    ensures { WritesOnOk W.write_str_gives f.old result (spec.date_time_text (fields_of dt)) f.new }
+fn write_date_time<W: fmt::Write>(f: &mut fmt::Formatter<W>, fields: CivilFields) -> fmt::Result
+    requires { AreCivil fields }
+    ensures { WritesOnOk W.write_str_gives f.old result (spec.date_time_text fields) f.new }
 {
-    if dt.year() < 0 {
+    if fields.year < 0 {
         f.write_str("-")?;
     }
-    write_bytes(f, &date_time_bytes(dt))
+    write_bytes(f, &date_time_bytes(fields))
 }
 
 // The date and the time of day to the second, without the year's sign.
 #[inline(always)]
-fn date_time_bytes(dt: DateTime) -> [u8; 19]
+fn date_time_bytes(fields: CivilFields) -> [u8; 19]
+    requires { AreCivil fields }
     ensures ascii { AllByRecursion (λ b. b < 128) result }
-    ensures text { result ≡ spec.unsigned_date_time (unsigned_abs dt.date.year) dt.date.month
-        dt.date.day dt.time.hour dt.time.minute dt.time.second }
+    ensures text { result ≡ spec.unsigned_date_time (unsigned_abs fields.year) fields.month fields.day fields.hour
+        fields.minute fields.second }
 {
     bytes_of(
-        u32::from(dt.year().unsigned_abs()),
-        dt.month() as u32,
-        dt.day() as u32,
-        dt.hour() as u32,
-        dt.minute() as u32,
-        dt.second() as u32,
+        fields.year.unsigned_abs(),
+        fields.month,
+        fields.day,
+        fields.hour,
+        fields.minute,
+        fields.second,
     )
 }
 

@@ -6,14 +6,23 @@ ghost use Rattle.jiff_core.specs.Calendar.{day_count};
 ghost use Rattle.jiff_core.specs.March.{march_days as days_of_march_years, march_months};
 ghost use Rattle.syslog_pieces.specs.Bodies.Early.{IsEarlyStamp};
 
-use super::OffsetTimestamp;
+use super::{ClockStamp, OffsetTimestamp};
 use super::fields::{CivilFields, is_early};
 use jiff::Timestamp;
 use jiff::tz::Offset;
 
 /// The stamp of the fields on a clock at this offset, where each month has such a day, in a year from 0 to 9998.
 #[inline(always)]
-pub(super) fn early_stamp(fields: CivilFields, offset: Offset) -> Option<OffsetTimestamp>
+pub(super) fn early_stamp(fields: CivilFields, offset: Offset) -> Option<ClockStamp>
+    ensures { IfSome result (λ c. IsEarlyStamp fields offset c.stamp) }
+{
+    let stamp = timestamp(fields, offset)?;
+    Some(ClockStamp { stamp, fields })
+}
+
+// The same without the fields.
+#[inline(always)]
+fn timestamp(fields: CivilFields, offset: Offset) -> Option<OffsetTimestamp>
     ensures { IfSome result (IsEarlyStamp fields offset) }
 {
     if fields.year < 0 || fields.year >= 9999 || !is_early(fields) {

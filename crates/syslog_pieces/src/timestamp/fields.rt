@@ -4,9 +4,9 @@ ghost use Rattle.std.specs.Int.{w16};
 ghost use Rattle.std.specs.Int.RustNames.{FitsSigned};
 ghost use Rattle.jiff.specs.Words.{IsDate, IsYmd, IsTime, IsHms};
 ghost use Rattle.syslog_pieces.specs.Timestamp.{IsAnswer};
-ghost use Rattle.syslog_pieces.specs.Timestamp.Fields.{AreCivil, fields_of, IsStampAt};
+ghost use Rattle.syslog_pieces.specs.Timestamp.Fields.{AreCivil, fields_of as spec_fields_of, IsStampAt};
 
-use super::OffsetTimestamp;
+use super::{ClockStamp, OffsetTimestamp};
 use jiff::civil::DateTime;
 use jiff::tz::Offset;
 
@@ -26,7 +26,7 @@ impl CivilFields {
     /// The datetime with these fields, if there is one.
     #[inline(always)]
     pub fn datetime(self) -> Option<DateTime>
-        ensures value { IfSome result (λ dt. fields_of dt ≡ self) }
+        ensures value { IfSome result (λ dt. spec_fields_of dt ≡ self) }
         ensures none { IsNone result → ¬ (AreCivil self) }
     {
         let year = year_number(self.year)?;
@@ -52,12 +52,31 @@ pub(super) fn is_early(fields: CivilFields) -> bool
 
 /// The stamp of the datetime on a clock at this offset, if its instant is in range.
 #[inline(always)]
-pub fn at_offset(dt: DateTime, offset: Offset) -> Option<OffsetTimestamp>
+pub fn at_offset(dt: DateTime, offset: Offset) -> Option<ClockStamp>
     ensures { IsAnswer (IsStampAt dt offset) result }
 {
     match offset.to_timestamp(dt) {
-        Ok(instant) => Some(OffsetTimestamp { instant, offset }),
+        Ok(instant) => Some(ClockStamp {
+            stamp: OffsetTimestamp { instant, offset },
+            fields: fields_of(dt),
+        }),
         Err(_) => None,
+    }
+}
+
+/// The fields of a datetime.
+#[inline(always)]
+pub(super) fn fields_of(dt: DateTime) -> CivilFields
+    ensures { result ≡ spec_fields_of dt }
+{
+    CivilFields {
+        year: i32::from(dt.year()),
+        month: dt.month() as u32,
+        day: dt.day() as u32,
+        hour: dt.hour() as u32,
+        minute: dt.minute() as u32,
+        second: dt.second() as u32,
+        nanosecond: dt.subsec_nanosecond() as u32,
     }
 }
 

@@ -9,7 +9,7 @@ ghost use Rattle.syslog_pieces.specs.Pieces.View.{Reads};
 ghost use Rattle.syslog_pieces.specs.Timestamp.{IsAnswer, IsStampOfRfc3339};
 ghost use Rattle.syslog_pieces.specs.Timestamp.Rfc3339.{fields_of_rfc3339};
 
-use super::OffsetTimestamp;
+use super::ClockStamp;
 use super::digits::{after_letter, four_digits, fraction, pair, pair_behind};
 use super::early::early_stamp;
 use super::fields::{CivilFields, at_offset};
@@ -40,7 +40,7 @@ pub(super) struct Day {
 
 /// The stamp of what was written.
 #[inline(always)]
-pub fn stamp(written: Rfc3339Fields) -> Option<OffsetTimestamp>
+pub fn stamp(written: Rfc3339Fields) -> Option<ClockStamp>
     ensures { IsAnswer (IsStampOfRfc3339 written) result }
 {
     if written.second > 60 {
@@ -52,8 +52,8 @@ pub fn stamp(written: Rfc3339Fields) -> Option<OffsetTimestamp>
 
 /// The stamp of what was written, where each month has such a day.
 #[inline(always)]
-pub fn standard_stamp(written: Rfc3339Fields) -> Option<OffsetTimestamp>
-    ensures { IfSome result (IsStampOfRfc3339 written) }
+pub fn standard_stamp(written: Rfc3339Fields) -> Option<ClockStamp>
+    ensures { IfSome result (λ s. IsStampOfRfc3339 written s.stamp) }
 {
     if written.second > 59 {
         return None;
@@ -66,7 +66,7 @@ pub fn standard_stamp(written: Rfc3339Fields) -> Option<OffsetTimestamp>
 // The same at an offset.
 #[tactic(auto, using(crate::proofs::TimestampLemmas::Reading::answer_of_rfc3339))]
 #[inline(always)]
-fn any_stamp(written: Rfc3339Fields, offset: Offset) -> Option<OffsetTimestamp>
+fn any_stamp(written: Rfc3339Fields, offset: Offset) -> Option<ClockStamp>
     requires second { written.second < 61 }
     requires offset { offset.seconds ≡ written.offset }
     ensures { IsAnswer (IsStampOfRfc3339 written) result }

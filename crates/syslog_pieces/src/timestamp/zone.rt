@@ -6,13 +6,13 @@
 ghost use Rattle.std.specs.Prelude.{◌≡◌, Some, pos, ◌<ℤ◌, IfSome, IsNone};
 ghost use Rattle.jiff.specs.Words.{plain_zone};
 ghost use Rattle.syslog_pieces.specs.Timestamp.{IsAnswer};
-ghost use Rattle.syslog_pieces.specs.Bodies.MonthText.{zone_of as one_zone};
+ghost use Rattle.syslog_pieces.specs.Bodies.Early.{zone_of as one_zone};
 ghost use Rattle.syslog_pieces.specs.Timestamp.Zone as spec;
 ghost use Rattle.jiff.specs.Words.{ambiguous_at};
 
-use super::OffsetTimestamp;
+use super::{ClockStamp, OffsetTimestamp};
 use super::early::early_stamp;
-use super::fields::{CivilFields, at_offset};
+use super::fields::{CivilFields, at_offset, fields_of};
 use super::month_date::MonthDate;
 use jiff::Timestamp;
 use jiff::civil::DateTime;
@@ -33,7 +33,7 @@ pub struct Dating<'a, 'z> {
 /// The timestamp of a month date: in the zone that is given, or else in the local one. A date that shows no year takes
 /// the one that is handed in, and has no timestamp where there is none.
 #[inline(always)]
-pub fn month_stamp(date: MonthDate, dating: &Dating<'_, '_>) -> Option<OffsetTimestamp>
+pub fn month_stamp(date: MonthDate, dating: &Dating<'_, '_>) -> Option<ClockStamp>
     ensures { IsAnswer (spec.IsMonthStamp (spec.dating_value dating.entry.now) date) result }
 {
     let year = year_of(date, dating.year)?;
@@ -44,9 +44,9 @@ pub fn month_stamp(date: MonthDate, dating: &Dating<'_, '_>) -> Option<OffsetTim
     }
 }
 
-/// The zone that is given, or else the local one.
+// The zone that is given, or else the local one.
 #[inline(always)]
-pub(super) fn zone_of<'a, 'z>(dating: &Dating<'a, 'z>) -> &'a TimeZone<'z>
+fn zone_of<'a, 'z>(dating: &Dating<'a, 'z>) -> &'a TimeZone<'z>
     ensures { plain_zone result.now
         ≡ one_zone (spec.given_zone dating.entry.now.tz) (plain_zone dating.entry.now.local.now) }
 {
@@ -57,11 +57,11 @@ pub(super) fn zone_of<'a, 'z>(dating: &Dating<'a, 'z>) -> &'a TimeZone<'z>
 }
 
 // The timestamp of a date that each month has, in a zone of one offset.
-#[tactic(auto, using(crate::proofs::TimestampLemmas::Zone::fixed_answers))]
 #[inline(always)]
-fn fixed_stamp(fields: CivilFields, dating: &Dating<'_, '_>) -> Option<OffsetTimestamp>
+fn fixed_stamp(fields: CivilFields, dating: &Dating<'_, '_>) -> Option<ClockStamp>
     ensures { IfSome result
-        (spec.IsStampOfFields (spec.given_zone dating.entry.now.tz) (plain_zone dating.entry.now.local.now) fields) }
+        (λ s. spec.IsStampOfFields (spec.given_zone dating.entry.now.tz) (plain_zone dating.entry.now.local.now) fields
+        s.stamp) }
 {
     match zone_of(dating).to_fixed_offset() {
         Ok(offset) => early_stamp(fields, offset),
@@ -69,9 +69,9 @@ fn fixed_stamp(fields: CivilFields, dating: &Dating<'_, '_>) -> Option<OffsetTim
     }
 }
 
-/// The civil fields of the month date in a year.
+// The civil fields of the month date in a year.
 #[inline(always)]
-pub(super) fn fields_in(date: MonthDate, year: i32) -> CivilFields
+fn fields_in(date: MonthDate, year: i32) -> CivilFields
     ensures { result ≡ spec.civil_of date year }
 {
     CivilFields {
@@ -92,9 +92,9 @@ pub fn year_at(now: Timestamp, local: &TimeZone<'_>) -> i32
     i32::from(local.to_datetime(now).year())
 }
 
-/// The year that the date shows, or else the one that is handed in.
+// The year that the date shows, or else the one that is handed in.
 #[inline(always)]
-pub(super) fn year_of(date: MonthDate, year: Option<i32>) -> Option<i32>
+fn year_of(date: MonthDate, year: Option<i32>) -> Option<i32>
     ensures value { IfSome result (λ y. spec.year_of date year ≡ Some y) }
     ensures none { IsNone result → IfSome (spec.year_of date year) (λ y. pos 9999 <ℤ y) }
 {
@@ -109,7 +109,7 @@ fn of_fields(
     fields: CivilFields,
     tz: Option<&TimeZone<'_>>,
     local: &TimeZone<'_>,
-) -> Option<OffsetTimestamp>
+) -> Option<ClockStamp>
     ensures { IsAnswer (spec.IsStampOfFields (spec.given_zone tz.entry) (plain_zone local.now) fields) result }
 {
     let dt = fields.datetime()?;
@@ -119,9 +119,9 @@ fn of_fields(
     }
 }
 
-/// The offset of the clock in the zone that shows the datetime, the one before a fold where two do, and none in a gap.
+// The offset of the clock in the zone that shows the datetime, the one before a fold where two do, and none in a gap.
 #[inline(always)]
-pub(super) fn offset_before(dt: DateTime, tz: &TimeZone<'_>) -> Option<Offset>
+fn offset_before(dt: DateTime, tz: &TimeZone<'_>) -> Option<Offset>
     ensures { result ≡ spec.earlier (ambiguous_at (plain_zone tz.now) dt) }
 {
     match tz.to_ambiguous_timestamp(dt).offset() {
@@ -132,7 +132,7 @@ pub(super) fn offset_before(dt: DateTime, tz: &TimeZone<'_>) -> Option<Offset>
 }
 
 // In the zone that is given.
-fn in_zone(dt: DateTime, tz: &TimeZone<'_>) -> Option<OffsetTimestamp>
+fn in_zone(dt: DateTime, tz: &TimeZone<'_>) -> Option<ClockStamp>
     ensures { IsAnswer (spec.IsStampIn (plain_zone tz.now) dt) result }
 {
     let offset = offset_before(dt, tz)?;
@@ -140,7 +140,7 @@ fn in_zone(dt: DateTime, tz: &TimeZone<'_>) -> Option<OffsetTimestamp>
 }
 
 // In the local zone.
-fn in_local(dt: DateTime, local: &TimeZone<'_>) -> Option<OffsetTimestamp>
+fn in_local(dt: DateTime, local: &TimeZone<'_>) -> Option<ClockStamp>
     ensures { IsAnswer (spec.IsLocalStampIn (plain_zone local.now) dt) result }
 {
     match offset_before(dt, local) {
@@ -150,14 +150,21 @@ fn in_local(dt: DateTime, local: &TimeZone<'_>) -> Option<OffsetTimestamp>
 }
 
 // As UTC.
-fn in_gap(dt: DateTime, local: &TimeZone<'_>) -> Option<OffsetTimestamp>
+fn in_gap(dt: DateTime, local: &TimeZone<'_>) -> Option<ClockStamp>
     ensures { IsAnswer (spec.IsStampInGap (plain_zone local.now) dt) result }
 {
     match Offset::UTC.to_timestamp(dt) {
-        Ok(instant) => Some(OffsetTimestamp {
-            instant,
-            offset: local.to_offset(instant),
-        }),
+        Ok(instant) => Some(shown_at(instant, local.to_offset(instant))),
         Err(_) => None,
+    }
+}
+
+// The timestamp of the instant at the offset.
+fn shown_at(instant: Timestamp, offset: Offset) -> ClockStamp
+    ensures { result.stamp ≡ record { instant = instant; offset = offset } }
+{
+    ClockStamp {
+        stamp: OffsetTimestamp { instant, offset },
+        fields: fields_of(offset.to_datetime(instant)),
     }
 }

@@ -1,6 +1,6 @@
 use Rattle.std.proofs.Common.{refl, rules}
 use Rattle.std.proofs.lemmas.Grind.{put_three}
-use Rattle.syslog_pieces.proofs.timestamp.display.write_stamp.Goals as goal
+use Rattle.syslog_pieces.proofs.timestamp.display.write_fields.Goals as goal
 
 -- (given, since the search for it takes half a minute)
 pub returns : goal.returns
