@@ -5,18 +5,19 @@ use Rattle.std.proofs.Common.{subst, ◌∙◌, ◌∷◌, ◌++◌, append_asso
 use Rattle.std.proofs.lemmas.Str.{encodes-append, encodes-chars}
 use Rattle.std.specs.Borrow.{Bor}
 use Rattle.std.specs.Char.{encode_utf8}
-use Rattle.std.specs.Prelude.{◌↔◌, MatchOption, IsSome, IsSomeAnd}
+use Rattle.std.specs.Prelude.{◌↔◌, IfSome, MatchOption, IsSome, IsSomeAnd}
 use Rattle.std.specs.Str.{chars, encode_utf8_all, IsUtf8}
-use Rattle.syslog_pieces.specs.Bodies.MonthText.{IsMonthText}
 use Rattle.syslog_pieces.specs.Pieces.View.{shown, Reads}
 use Rattle.syslog_pieces.specs.Pieces.Class.{Text, Class, Front, NoFront, run, optional}
 use Rattle.syslog_pieces.specs.Pri.{priority, priority_text}
 use Rattle.syslog_pieces.specs.Text.{trimmed, is_blank}
-use Rattle.syslog_pieces.specs.Timestamp.{IsAnswer, header_stamp}
+use Rattle.syslog_pieces.specs.Timestamp.{IsAnswer, header_stamp, stamp_seen}
+use Rattle.syslog_pieces.specs.Timestamp.Canonical.{IsCanonicalStamp}
 use Rattle.syslog_pieces.specs.Timestamp.Rfc3164.{rfc3164_stamp, ShowsYearless, ShowsMonthDate}
 use Rattle.syslog_pieces.specs.Timestamp.MonthDate.{yearless_date, month_date}
 use Rattle.syslog_pieces.specs.Timestamp.Zone.{Dating, IsMonthStamp, dating_of}
 use Rattle.syslog_pieces.specs.declared.timestamp.OffsetTimestamp.{OffsetTimestamp}
+use Rattle.syslog_pieces.specs.declared.timestamp.clock.ClockStamp.{ClockStamp}
 use Rattle.syslog_pieces.specs.declared.timestamp.month_date.MonthDate.{MonthDate}
 use Rattle.syslog_pieces.proofs.PieceLemmas.Class.{front_same, optional_det, run_det}
 use Rattle.syslog_pieces.proofs.PieceLemmas.Kinds.{Begins, begins_apart}
@@ -31,13 +32,13 @@ use Rattle.syslog_pieces.proofs.TimestampLemmas.Rfc3164.{IsLow, date_front, head
 use Rattle.syslog_pieces.proofs.TimestampLemmas.Rfc3164.{no_stamp_of_date}
 use Rattle.syslog_loose.specs.Formats.{printed_number}
 use Rattle.syslog_loose.specs.Message.{MessageValue}
-use Rattle.syslog_loose.specs.Printed.{printed, timestamp_text}
+use Rattle.syslog_loose.specs.Printed.{timestamp_text}
 use Rattle.syslog_loose.specs.ReadBack.{ReadsProtocol}
 use Rattle.syslog_loose.specs.Reading.{dash_rule, incomplete, Answers, AsksYear, IncompleteDate, IsLeftTo3164, HasMonth}
 use Rattle.syslog_loose.specs.Reading.{IsRead, IsUnreadable, IsYearAnswered}
 use Rattle.syslog_loose.specs.Rfc3164.{stamped_row, IsRead3164, IsNot3164, NeedsNoMemory3164}
 use Rattle.syslog_loose.specs.Rfc5424.{IsRead5424, IsNot5424, NeedsNoMemory5424}
-use Rattle.syslog_loose.specs.Settling.{IsAtRest, IsRoundAsTold}
+use Rattle.syslog_loose.specs.Settling.{IsRoundAsTold}
 use Rattle.syslog_loose.specs.Start.{IsBehindPriority, BeginsWith, BeginsWithout}
 use Rattle.syslog_loose.specs.View3164.{IsBehindStamp, PrintsBehind}
 use Rattle.syslog_loose.specs.declared.fault.ParseFault.TheVariants.{Invalid, Memory}
@@ -52,16 +53,16 @@ use Rattle.syslog_loose.proofs.Rfc3164Lemmas.Apart.{not_both, shown_apart}
 use Rattle.syslog_loose.proofs.Rfc3164Lemmas.Reading.{not_read}
 use Rattle.syslog_loose.proofs.Rfc3164Lemmas.Shown.{date_has_month, shows_month_date, shown_once, shown_parts, shows}
 use Rattle.syslog_loose.proofs.Rfc3164Lemmas.Unique.{stamped_det}
-use Rattle.syslog_loose.proofs.Rfc5424Lemmas.ReadBack.{stamp_canonical}
 use Rattle.syslog_loose.proofs.SettlingLemmas.Settles.{round_printed}
 
 -- what a reader of pieces behind blanks answers
-pub front_read : (C : Class) (variant : Variant) (t start : Text) (r : Option (C.Value × Bor (List ℕ)))
-    → ReadsProtocol variant protocol.RFC3164 → Front (run is_blank) t start tt → Reads C (λ v. v) start r
-    → MatchOption r (BeginsWithout C variant t) (λ x. BeginsWith C variant t x.0 (shown x.1))
-front_read C variant t start None reads gap none = λ r other same.
+pub front_read : {X : Type 0} (C : Class) (view : X → C.Value) (variant : Variant) (t start : Text)
+    (r : Option (X × Bor (List ℕ)))
+    → ReadsProtocol variant protocol.RFC3164 → Front (run is_blank) t start tt → Reads C view start r
+    → MatchOption r (BeginsWithout C variant t) (λ x. BeginsWith C variant t (view x.0) (shown x.1))
+front_read C view variant t start None reads gap none = λ r other same.
     subst (λ (x : Text). NoFront C x) (front_same (run is_blank) (run_det is_blank) gap same).0 none
-front_read C variant t start (Some x) reads gap f = record { reads = reads; start = start; gap = gap; front = f }
+front_read C view variant t start (Some x) reads gap f = record { reads = reads; start = start; gap = gap; front = f }
 
 -- where RFC 5424 has no reading, RFC 3164 is left to try
 pub left_to_try : (variant : Variant) (text : Text) → ReadsProtocol variant protocol.RFC3164
@@ -112,8 +113,8 @@ asked_month d (Some y) x f (none, e) is =
 
 -- What is known where a timestamp was read: the year that was answered, that RFC 3164 is left to try, and what is read.
 pub record IsStamped (post : IncompleteDate → ℤ → Type 0) (variant : Variant) (text : Text)
-    (tz : Option (Bor TimeZone)) (local : Bor TimeZone) (stamped : Stamped) (follows : Text) : Type 0 where
-  pub year : Option ℤ
+    (tz : Option (Bor TimeZone)) (local : Bor TimeZone) (year : Option ℤ) (stamped : Stamped)
+    (follows : Text) : Type 0 where
   pub answered : IsYearAnswered post variant text year
   pub left : IsLeftTo3164 variant text
   pub front : IsBehindStamp (dating_of year tz local) (trimmed text) stamped follows
@@ -168,22 +169,21 @@ module _ (variant : Variant) (text : Text) {follows : Text} {p : Option ℕ}
     pub dated_left : IsLeftTo3164 variant text
     dated_left = left_to_try variant text b.reads (λ n. dated_unread)
 
-    pub dated_front : (dating : Dating) (s : OffsetTimestamp) → IsMonthStamp dating d s
-        → IsBehindStamp dating (trimmed text) (record { priority = p; timestamp = Some s }) q
-    dated_front dating s h =
-        row_of (stamped_row dating) (f then b.gap then date_front dating s b.front h then refl)
+    pub dated_front : (dating : Dating) (c : ClockStamp) → IsMonthStamp dating d c.stamp
+        → IsBehindStamp dating (trimmed text) (record { priority = p; timestamp = Some c }) q
+    dated_front dating c h =
+        row_of (stamped_row dating) (f then b.gap then date_front dating c.stamp b.front h then refl)
 
     pub dated_known : (post : IncompleteDate → ℤ → Type 0) (tz : Option (Bor TimeZone)) (local : Bor TimeZone)
-        (asked : Option IncompleteDate) (year : Option ℤ) (s : OffsetTimestamp)
+        (asked : Option IncompleteDate) (year : Option ℤ) (c : ClockStamp)
         → MatchOption asked (IsSome d.year) (λ x. (d.year ≡ None) × (x ≡ incomplete d))
         → MatchOption asked (year ≡ None) (λ x. IsSomeAnd year (λ y. post x y))
-        → IsMonthStamp (dating_of year tz local) d s
-        → IsStamped post variant text tz local (record { priority = p; timestamp = Some s }) q
-    dated_known post tz local asked year s told is h = record {
-      year = year;
+        → IsMonthStamp (dating_of year tz local) d c.stamp
+        → IsStamped post variant text tz local year (record { priority = p; timestamp = Some c }) q
+    dated_known post tz local asked year c told is h = record {
       answered = date_answered post asked year told is;
       left = dated_left;
-      front = dated_front (dating_of year tz local) s h;
+      front = dated_front (dating_of year tz local) c h;
     }
 
   -- no month date stands there
@@ -207,20 +207,19 @@ module _ (variant : Variant) (text : Text) {follows : Text} {p : Option ℕ}
     undated_invalid header strict dating = neither variant dating text strict (undated_none header dating)
 
     -- or another one
-    pub other_front : (dating : Dating) {q : Text} {v : Option OffsetTimestamp}
-        → BeginsWith header_stamp variant follows v q
+    pub other_front : (dating : Dating) {q : Text} (v : Option ClockStamp)
+        → BeginsWith header_stamp variant follows (stamp_seen v) q
         → IsBehindStamp dating (trimmed text) (record { priority = p; timestamp = v }) q
-    other_front dating b = row_of (stamped_row dating) (f then b.gap then header_front dating b.front then refl)
+    other_front dating v b = row_of (stamped_row dating) (f then b.gap then header_front dating b.front then refl)
 
     pub other_known : (post : IncompleteDate → ℤ → Type 0) (tz : Option (Bor TimeZone)) (local : Bor TimeZone)
-        {q : Text} {v : Option OffsetTimestamp}
-        → BeginsWith header_stamp variant follows v q → (variant ≢ RFC3164 → IsNot5424 text)
-        → IsStamped post variant text tz local (record { priority = p; timestamp = v }) q
-    other_known post tz local b strict = record {
-      year = None;
+        {q : Text} (v : Option ClockStamp)
+        → BeginsWith header_stamp variant follows (stamp_seen v) q → (variant ≢ RFC3164 → IsNot5424 text)
+        → IsStamped post variant text tz local None (record { priority = p; timestamp = v }) q
+    other_known post tz local v b strict = record {
       answered = asks_none;
       left = left_to_try variant text b.reads strict;
-      front = other_front (dating_of None tz local) b;
+      front = other_front (dating_of None tz local) v b;
     }
 
 -- ---- what the readers of the two protocols answer
@@ -247,18 +246,12 @@ strict_refused Either not dating text wanted = either_refused dating text wanted
 
 -- ---- lines that are copied behind their timestamp
 
--- the text is read as a message at rest, and these bytes are its printed text
-abbrev pub Copied : Variant → Dating → Text → List ℕ → Type 0
-Copied variant dating text bytes =
-    (m : MessageValue) × IsRead variant dating text m × IsAtRest m.protocol m × (bytes ≡ encode_utf8_all (printed m))
-
--- what RFC 3164 reads, each variant reads that reads it
-reads_so : (variant : Variant) (dating : Dating) (text : Text) (m : MessageValue)
-    → ReadsProtocol variant protocol.RFC3164 → IsRead3164 dash_rule dating text m → IsRead variant dating text m
-reads_so RFC5424 dating text m reads r = absurd reads
-reads_so RFC3164 dating text m reads r = r
-reads_so Either dating text m reads r =
-    inr (λ vs d. not_both dash_rule dating (trimmed text) vs r.values d r.division, r)
+-- what RFC 3164 reads, each variant reads that is left to try it
+reads_so : (variant : Variant) (dating : Dating) (text : Text) (m : MessageValue) → IsLeftTo3164 variant text
+    → IsRead3164 dash_rule dating text m → IsRead variant dating text m
+reads_so RFC5424 dating text m left r = absurd left
+reads_so RFC3164 dating text m left r = r
+reads_so Either dating text m left r = inr (left, r)
 
 stamp_bytes : (v : Option OffsetTimestamp) → encode_utf8_all (timestamp_text v) ≡ timestamp_text v
 unfolding encode_utf8
@@ -273,48 +266,23 @@ dated_bytes number v tail u =
     append_assoc (priority_text number) (32 ∷ encode_utf8_all (timestamp_text v)) tail
     ∙ sym (simp (encodes-append, encodes-decimal, encodes-chars))
 
--- behind a timestamp
-pub stamped_copied : {variant : Variant} (dating : Dating) (text : Text) {p : Option ℕ} {follows : Text}
-    {v : Option OffsetTimestamp} (tail : List ℕ) → IsBehindPriority (trimmed text) p follows
-    → BeginsWith header_stamp variant follows v (chars tail) → PrintsBehind (chars tail) → IsUtf8 tail
-    → Copied variant dating text
-    ((priority_text (printed_number p) ++ (32 ∷ encode_utf8_all (timestamp_text v))) ++ tail)
-stamped_copied {variant = variant} dating text {p = p} {v = v} tail f b prints u =
-    let k = prints dating text (record { priority = p; timestamp = v })
-    (row_of (stamped_row dating) (f then b.gap then header_front dating b.front then refl))
-    (stamp_canonical b.front.piece (chars tail) v b.front.is) in (
-      k.0.message,
-      reads_so variant dating text k.0.message b.reads k.0.read,
-      k.1,
-      dated_bytes (printed_number p) v tail u ∙ ap encode_utf8_all k.0.is_printed,
-    )
+-- what is copied so is a round that is settled, and where memory was refused for it, the text has a reading
+module _ (variant : Variant) (dating : Dating) (text : Text) (left : IsLeftTo3164 variant text) (stamped : Stamped)
+    (tail : List ℕ) (f : IsBehindStamp dating (trimmed text) stamped (chars tail))
+    (canonical : IfSome (stamp_seen stamped.timestamp) IsCanonicalStamp) (prints : PrintsBehind (chars tail)) where
+  pub copied_round : (skips : Bool) (bytes : List ℕ) → IsUtf8 bytes → IsUtf8 tail
+      → bytes ≡ (priority_text (printed_number stamped.priority)
+      ++ (32 ∷ encode_utf8_all (timestamp_text (stamp_seen stamped.timestamp)))) ++ tail
+      → IsRoundAsTold skips variant dating text (chars bytes) true
+  copied_round skips bytes u v e =
+      let k = prints dating text stamped f canonical in
+      round_printed variant dating text k.0.message (reads_so variant dating text k.0.message left k.0.read) bytes u
+      (e ∙ dated_bytes (printed_number stamped.priority) (stamp_seen stamped.timestamp) tail v
+      ∙ ap encode_utf8_all k.0.is_printed) skips true ((λ h. k.1), (λ h. refl))
 
--- and behind a month date
-pub dated_copied : {variant : Variant} {dating : Dating} (text : Text) {p : Option ℕ} {follows : Text}
-    {date : MonthDate} {stamp : List ℕ} (tail : List ℕ) → IsBehindPriority (trimmed text) p follows
-    → BeginsWith month_date variant follows date (chars tail) → IsMonthText dating date stamp
-    → PrintsBehind (chars tail) → IsUtf8 tail
-    → Copied variant dating text (priority_text (printed_number p) ++ (stamp ++ tail))
-dated_copied {variant = variant} {dating = dating} text {p = p} tail f b s prints u =
-    let k = prints dating text (record { priority = p; timestamp = Some s.stamp })
-    (row_of (stamped_row dating) (f then b.gap then date_front dating s.stamp b.front s.is then refl)) s.canonical in (
-      k.0.message,
-      reads_so variant dating text k.0.message b.reads k.0.read,
-      k.1,
-      ap (λ (x : List ℕ). priority_text (printed_number p) ++ (x ++ tail))
-          (s.printed ∙ ap (λ (x : List ℕ). 32 ∷ x) (sym (stamp_bytes (Some s.stamp))))
-          ∙ sym (append_assoc (priority_text (printed_number p)) _ tail)
-          ∙ dated_bytes (printed_number p) (Some s.stamp) tail u ∙ ap encode_utf8_all k.0.is_printed,
-    )
-
--- what is copied so is a round that is settled
-pub copied_round : {variant : Variant} {dating : Dating} {text : Text} {copied : List ℕ} (skips : Bool) (bytes : List ℕ)
-    → IsUtf8 bytes → bytes ≡ copied → Copied variant dating text copied
-    → IsRoundAsTold skips variant dating text (chars bytes) true
-copied_round {variant = variant} {dating = dating} {text = text} skips bytes u e (m, r, rest, same) =
-    round_printed variant dating text m r bytes u (e ∙ same) skips true ((λ h. rest), (λ h. refl))
-
--- and where memory was refused for it, the text has a reading
-pub copied_refused : (variant : Variant) (dating : Dating) (text : Text) {copied : List ℕ}
-    → Copied variant dating text copied → (Memory ≡ Invalid) ↔ IsUnreadable variant dating text
-copied_refused variant dating text (m, r, _, _) = ((λ i. absurd (invalid_or_memory i)), (λ u. absurd (u m r)))
+  pub copied_refused : (Memory ≡ Invalid) ↔ IsUnreadable variant dating text
+  copied_refused =
+      let k = prints dating text stamped f canonical in (
+        (λ i. absurd (invalid_or_memory i)),
+        (λ u. absurd (u k.0.message (reads_so variant dating text k.0.message left k.0.read))),
+      )

@@ -6,6 +6,7 @@ use Rattle.syslog_pieces.specs.ProcId.{procid_value}
 use Rattle.syslog_pieces.specs.Pieces.Class.{Text, Front, Row}
 use Rattle.syslog_pieces.specs.Pieces.View.{seen, shown}
 use Rattle.syslog_pieces.specs.Text.{trimmed}
+use Rattle.syslog_pieces.specs.Timestamp.{stamp_seen}
 use Rattle.syslog_pieces.specs.Timestamp.Canonical.{IsCanonicalStamp}
 use Rattle.syslog_pieces.specs.Timestamp.Zone.{Dating}
 use Rattle.syslog_pieces.specs.declared.procid.ProcId.{ProcId}
@@ -22,7 +23,7 @@ abbrev pub names_value : Names → Names3164
 names_value n = names (seen n.hostname) (seen n.appname) (option_map (procid_value (λ s. shown s)) n.procid)
 
 abbrev pub stamped_values : Stamped → Option ℕ × (Unit {0} × (Option OffsetTimestamp × Unit {0}))
-stamped_values s = (s.priority, (tt, (s.timestamp, tt)))
+stamped_values s = (s.priority, (tt, (stamp_seen s.timestamp, tt)))
 
 -- these pieces begin the text, and this follows
 abbrev pub IsBehindStamp : Dating → Text → Stamped → Text → Type 0
@@ -39,7 +40,7 @@ pub record IsPlainProgram (text : Text) : Type 0 where
 -- timestamp and it are the next round, which is at rest.
 abbrev pub PrintsBehind : Text → Type 0
 PrintsBehind tail = (dating : Dating) (text : Text) (stamped : Stamped)
-    → IsBehindStamp dating (trimmed text) stamped tail → IfSome stamped.timestamp IsCanonicalStamp
+    → IsBehindStamp dating (trimmed text) stamped tail → IfSome (stamp_seen stamped.timestamp) IsCanonicalStamp
     → (next : IsNext RFC3164 dating text
-    (priority_text (printed_number stamped.priority) ++ (32 ∷ (timestamp_text stamped.timestamp ++ tail))))
+    (priority_text (printed_number stamped.priority) ++ (32 ∷ (timestamp_text (stamp_seen stamped.timestamp) ++ tail))))
     × IsAtRest next.message.protocol next.message

@@ -1,14 +1,13 @@
 -- What the header's reader holds, as the meanings of its pieces, and how it stands in the text.
-use Rattle.std.specs.Prelude.{◌≡◌, ℕ, [], ◌∷◌, ◌++◌, List, Option, Some, None, IsTrue, MatchOption}
+use Rattle.std.specs.Prelude.{◌≡◌, ℕ, [], ◌∷◌, ◌++◌, List, Option, Some, None, MatchOption}
 use Rattle.std.specs.Borrow.{Bor}
-use Rattle.std.specs.Fmt.{decimal}
 use Rattle.std.specs.Option.{option_and_then}
 use Rattle.syslog_pieces.specs.Pri.{facility_of, severity_of}
 use Rattle.syslog_pieces.specs.StructuredData.Element.{ElementValue}
 use Rattle.syslog_pieces.specs.Pieces.Class.{Text, Front, NoFront, Row, Values, some_run}
 use Rattle.syslog_pieces.specs.ProcId.{NamesProcess, process_text, process_word}
 use Rattle.syslog_pieces.specs.Text.{is_blank, host, name_text, word}
-use Rattle.syslog_pieces.specs.Timestamp.{header_stamp}
+use Rattle.syslog_pieces.specs.Timestamp.{stamp_seen}
 use Rattle.syslog_pieces.specs.Pieces.View.{seen, shown}
 use Rattle.syslog_pieces.specs.declared.procid.ProcId.{ProcId}
 use Rattle.syslog_loose.specs.declared.rfc5424.Header.{Header}
@@ -30,7 +29,7 @@ abbrev name_values : Header → Option (ProcId Text) → Values (host ∷ some_r
 name_values h process = (seen h.hostname, (tt, (seen h.appname, (tt, process_values h process))))
 
 abbrev pub header_values : Header → Option (ProcId Text) → Values header_row
-header_values h process = (h.priority, (h.version, (tt, (h.timestamp, (tt, name_values h process)))))
+header_values h process = (h.front.priority, (h.front.version, (tt, (stamp_seen h.front.timestamp, (tt, name_values h process)))))
 
 -- the header at the front of the text, with each process id that its word names, or nothing where there is no header
 abbrev pub ReadsHeader : Text → Option (Header × Bor (List ℕ)) → Type 0
@@ -43,25 +42,19 @@ names_before h process more =
     32 ∷ (name_text (seen h.hostname) ++ (32 ∷ (name_text (seen h.appname) ++ (32 ∷ (process_text process
     ++ (32 ∷ (name_text (seen h.msgid) ++ more)))))))
 
--- from its version on the header stands as it prints, but for the timestamp, before what follows
-pub record PrintsHeader (text : Text) (h : Header) (follows : Text) : Type 0 where
+-- from behind its timestamp on the header stands as it prints, before what follows
+pub record PrintsNames (h : Header) (follows : Text) : Type 0 where
   pub process : Option (ProcId Text)
   pub named : NamesWord (seen h.process) process
-  pub front : text ≡ decimal h.version ++ (32 ∷ shown h.start)
   pub names : shown h.tail ≡ names_before h process follows
-
--- where the timestamp stands, and that the rest of the header stands as it prints, if so it says
-pub record HeaderStands (text : Text) (h : Header) (follows : Text) : Type 0 where
-  pub stamp : Front header_stamp (shown h.start) (shown h.tail) h.timestamp
-  pub stands : IsTrue h.stands → PrintsHeader text h follows
 
 -- the message of a header with these elements and this text
 abbrev pub message_with : Header → Option (ProcId Text) → List ElementValue → Text → MessageValue
 message_with h process elements msg = record {
-  protocol = RFC5424 h.version;
-  facility = option_and_then facility_of h.priority;
-  severity = option_and_then severity_of h.priority;
-  timestamp = h.timestamp;
+  protocol = RFC5424 h.front.version;
+  facility = option_and_then facility_of h.front.priority;
+  severity = option_and_then severity_of h.front.priority;
+  timestamp = stamp_seen h.front.timestamp;
   hostname = seen h.hostname;
   appname = seen h.appname;
   procid = process;

@@ -1,69 +1,80 @@
 //! Lines of RFC 5424, written as their messages print.
 //!
-//! Most lines that a program wrote are already in the form that a message prints: one space in each gap, no leading
-//! zeros, strict elements alone. The reader of the header tells what stands so, and that is copied: no message is made
-//! of such a line, no element collected, and nothing printed but what stands otherwise. Of a line whose elements or
-//! timestamp print otherwise the message is made and printed.
-ghost use Rattle.std.specs.Prelude.{◌≡◌, ◌≢◌, ◌++◌, ◌∷◌, IfOk, IfSome, IsOk, IsTrue, MatchBool, OnOk, Option, ℕ};
-ghost use Rattle.std.specs.Prelude.{Some, string_bytes};
+//! The priority, the version and the timestamp are printed. Behind them most lines that a program wrote are already in
+//! the form that a message prints: one space in each gap, strict elements alone. The reader of the header tells what
+//! stands so, and that is copied: no message is made of such a line, and no element collected. Where only a gap or the
+//! process id prints otherwise, the names are printed one by one. Of a line whose elements print otherwise the message
+//! is made and printed.
+ghost use Rattle.std.specs.Prelude.{◌≡◌, ◌≢◌, ◌++◌, ◌∷◌, IfOk, IsOk, MatchBool, OnOk, Some, string_bytes};
 ghost use Rattle.std.specs.Fmt.{WritesOnOk};
 ghost use Rattle.std.specs.Str.{chars, encode_utf8_all, IsUtf8};
-ghost use Rattle.syslog_pieces.specs.Bodies.CopiedStamp.{zone_text, IsCopiedStamp};
 ghost use Rattle.syslog_pieces.specs.Pieces.Class.{Text};
-ghost use Rattle.syslog_pieces.specs.Pieces.View.{shown};
-ghost use Rattle.syslog_pieces.specs.Pri.{priority_text};
 ghost use Rattle.syslog_pieces.specs.Text.{trimmed};
 ghost use Rattle.syslog_pieces.specs.Timestamp.Zone.{Dating};
 ghost use Rattle.syslog_pieces.specs.declared.timestamp.month_date.MonthDate.{MonthDate};
-ghost use Rattle.syslog_loose.specs.Formats.{printed_number};
 ghost use Rattle.syslog_loose.specs.Line as spec;
 ghost use Rattle.syslog_loose.specs.Reading.{AsksYear, IsUnreadable, OfTrimmed};
 ghost use Rattle.syslog_loose.specs.Rfc5424.{IsNot5424};
 ghost use Rattle.syslog_loose.specs.Start.{IsBehindPriority};
 ghost use Rattle.syslog_loose.specs.declared.variant.Variant.TheVariants.{RFC3164};
 
-use crate::message::{make_room, print, priority, write_clock, write_name, write_process, write_spaced};
-use crate::rfc5424::{process_of, read_behind, read_header};
+use crate::message::{
+    make_room, print, write_clock, write_name, write_process, write_read_priority, write_spaced,
+};
+use crate::rfc5424::{Front, Header, process_of, read_behind, read_header};
 use crate::variant::Variant;
 use std::alloc::{AllocError, Global};
 use std::fmt;
 use std::fmt::Write;
-use syslog_pieces::pri::{parts, write_priority};
 use syslog_pieces::procid::ProcId;
 use syslog_pieces::structured_data::printed_list;
 use syslog_pieces::text::blanks;
 use syslog_pieces::text::verbatim::{before, is_one_space};
 use syslog_pieces::text::write_ascii::write_number;
-use syslog_pieces::timestamp::ClockStamp;
 
-// What is written of a line whose names stand as they print.
+// A line, its elements without what is left out of them: its header and what stands behind that, the elements and
+// what stands behind them, and the message.
+#[derive(Clone, Copy)]
+struct Line<'a> {
+    header: Header<'a>,
+    behind: &'a str,
+    list: &'a str,
+    gap: &'a str,
+    msg: &'a str,
+}
+
+// Writes what stands before the names as it prints.
+#[inline(always)]
+fn write_front<W: fmt::Write>(f: &mut fmt::Formatter<W>, front: Front) -> fmt::Result
+    ensures { WritesOnOk W.write_str_gives f.old result (spec.front_bytes front) f.new }
+{
+    write_read_priority(f, front.priority)?;
+    write_number(f, front.version)?;
+    write_clock(f, front.timestamp)
+}
+
+// A line whose names and elements are copied.
 #[derive(Clone, Copy)]
 struct CopiedLine<'a> {
-    priority: Option<u8>,
-    version: u32,
-    timestamp: Option<ClockStamp>,
+    front: Front,
     names: &'a str,
     msg: &'a str,
 }
 
 impl fmt::Display for CopiedLine<'_> {
-    ghost output = { λ line. Some line.names.now };
+    ghost output = { λ line. Some (spec.front_bytes line.front ++ (line.names.now ++ (32 ∷ line.msg.now))) };
 
     fn fmt<W: fmt::Write>(&self, f: &mut fmt::Formatter<W>) -> fmt::Result {
-        let (facility, severity) = parts(self.priority);
-        write_priority(f, priority(facility, severity))?;
-        write_number(f, self.version)?;
-        write_clock(f, self.timestamp)?;
+        write_front(f, self.front)?;
         f.write_str(self.names)?;
         write_spaced(f, self.msg)
     }
 }
 
+// A line whose names are printed one by one, and its elements copied.
 #[derive(Clone, Copy)]
 struct NamedLine<'a, 'b> {
-    priority: Option<u8>,
-    version: u32,
-    timestamp: Option<ClockStamp>,
+    front: Front,
     hostname: Option<&'a str>,
     appname: Option<&'a str>,
     process: &'b Option<ProcId<&'a str>>,
@@ -72,28 +83,78 @@ struct NamedLine<'a, 'b> {
     msg: &'a str,
 }
 
+// Writes the names, each behind a space.
+#[inline(always)]
+fn write_names<W: fmt::Write>(f: &mut fmt::Formatter<W>, line: &NamedLine<'_, '_>) -> fmt::Result
+    ensures { WritesOnOk W.write_str_gives f.old result (spec.names_bytes line.now) f.new }
+{
+    write_name(f, &line.hostname)?;
+    write_name(f, &line.appname)?;
+    write_process(f, line.process)?;
+    write_name(f, &line.msgid)
+}
+
 impl fmt::Display for NamedLine<'_, '_> {
-    ghost output = { λ line. Some line.list.now };
+    ghost output = { λ line. Some (spec.named_bytes line) };
 
     fn fmt<W: fmt::Write>(&self, f: &mut fmt::Formatter<W>) -> fmt::Result {
-        let (facility, severity) = parts(self.priority);
-        write_priority(f, priority(facility, severity))?;
-        write_number(f, self.version)?;
-        write_clock(f, self.timestamp)?;
-        write_name(f, &self.hostname)?;
-        write_name(f, &self.appname)?;
-        write_process(f, self.process)?;
-        write_name(f, &self.msgid)?;
+        write_front(f, self.front)?;
+        write_names(f, self)?;
         write_spaced(f, self.list)?;
         write_spaced(f, self.msg)
     }
 }
 
+// Writes the line into a text that gets room for the input's length at once.
 #[inline(never)]
 fn print_named(text: &mut String, line: &NamedLine<'_, '_>, length: usize) -> Result<(), AllocError>
+    ensures { OnOk result (string_bytes text.new ≡ spec.named_bytes line.now) }
 {
     make_room(text, length)?;
     write!(text, "{line}")?;
+    Ok(())
+}
+
+// Writes the line, its names one by one.
+#[inline(always)]
+fn write_named(text: &mut String, input: &str, line: &Line<'_>) -> Result<(), AllocError>
+    requires line { spec.IsLine (chars input.now) line.now }
+    requires utf8 { IsUtf8 line.now.msg.now }
+    ensures { OnOk result ((line : Text) × spec.PrintsLine (chars input.now) line
+        × (string_bytes text.new ≡ encode_utf8_all line)) }
+{
+    let process = process_of(line.header.process);
+    let named = NamedLine {
+        front: line.header.front,
+        hostname: line.header.hostname,
+        appname: line.header.appname,
+        process: &process,
+        msgid: line.header.msgid,
+        list: before(line.list, line.gap),
+        msg: line.msg,
+    };
+    print_named(text, &named, input.len())?;
+    Ok(())
+}
+
+// Writes the line, its names copied where they stand as they print.
+#[inline(always)]
+fn write_line(text: &mut String, input: &str, line: &Line<'_>) -> Result<(), AllocError>
+    requires line { spec.IsLine (chars input.now) line.now }
+    requires utf8 { IsUtf8 line.now.msg.now }
+    ensures { OnOk result ((line : Text) × spec.PrintsLine (chars input.now) line
+        × (string_bytes text.new ≡ encode_utf8_all line)) }
+{
+    if !line.header.stands || !is_one_space(line.behind, line.list) {
+        return write_named(text, input, line);
+    }
+    let copied = CopiedLine {
+        front: line.header.front,
+        names: before(line.header.tail, line.gap),
+        msg: line.msg,
+    };
+    make_room(text, input.len())?;
+    write!(text, "{copied}")?;
     Ok(())
 }
 
@@ -140,26 +201,14 @@ fn header_text<const CALLER: u8>(
     let Some((gap, end)) = printed_list(list) else {
         return print_message(alloc, text, number, rest, input.len());
     };
-    let msg = blanks(end);
-    if header.stands && is_one_space(behind, list) {
-        let line = CopiedLine { priority: number, version: header.version, timestamp: header.timestamp, names: before(header.tail, gap), msg };
-        make_room(text, input.len())?;
-        write!(text, "{line}")?;
-    } else {
-        let process = process_of(header.process);
-        let line = NamedLine {
-            priority: number,
-            version: header.version,
-            timestamp: header.timestamp,
-            hostname: header.hostname,
-            appname: header.appname,
-            process: &process,
-            msgid: header.msgid,
-            list: before(list, gap),
-            msg,
-        };
-        print_named(text, &line, input.len())?;
-    }
+    let line = Line {
+        header,
+        behind,
+        list,
+        gap,
+        msg: blanks(end),
+    };
+    write_line(text, input, &line)?;
     Ok(true)
 }
 

@@ -10,7 +10,7 @@ ghost use Rattle.jiff.specs.Words.{plain_zone};
 ghost use Rattle.syslog_pieces.specs.Pieces.Class.{Text};
 ghost use Rattle.syslog_pieces.specs.Pieces.View.{shown};
 ghost use Rattle.syslog_pieces.specs.Text.{trimmed};
-ghost use Rattle.syslog_pieces.specs.Timestamp.{header_stamp};
+ghost use Rattle.syslog_pieces.specs.Timestamp.{header_stamp, stamp_seen};
 ghost use Rattle.syslog_pieces.specs.Timestamp.MonthDate.{month_date};
 ghost use Rattle.syslog_pieces.specs.Timestamp.Zone as zone;
 ghost use Rattle.syslog_pieces.specs.Timestamp.Zone.{IsYearAt, dating_of, dating_value};
@@ -245,7 +245,7 @@ pub(crate) fn front_date(text: &str, variant: Variant) -> Option<(MonthDate, &st
 #[inline(always)]
 pub(crate) fn front_stamp(text: &str, variant: Variant) -> Option<(Option<ClockStamp>, &str)>
     ensures { MatchOption result (BeginsWithout header_stamp variant (chars text.now))
-        (λ x. BeginsWith header_stamp variant (chars text.now) x.0 (shown x.1)) }
+        (λ x. BeginsWith header_stamp variant (chars text.now) (stamp_seen x.0) (shown x.1)) }
 {
     if variant.reads_rfc3164() {
         header_stamp(blanks(text))

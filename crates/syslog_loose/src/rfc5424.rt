@@ -13,7 +13,7 @@ ghost use Rattle.syslog_pieces.specs.Text.{trimmed};
 ghost use Rattle.syslog_loose.specs.Message.{message_value};
 ghost use Rattle.syslog_loose.specs.Rfc5424 as spec;
 ghost use Rattle.syslog_loose.specs.Start.{IsBehindPriority};
-ghost use Rattle.syslog_loose.specs.View5424.{HeaderStands, NamesWord, ReadsHeader, message_with};
+ghost use Rattle.syslog_loose.specs.View5424.{NamesWord, PrintsNames, ReadsHeader, message_with};
 ghost use Rattle.syslog_pieces.specs.StructuredData.Element.{element_value};
 ghost use Rattle.syslog_pieces.specs.declared.procid.ProcId.{ProcId as ProcIdValue};
 
@@ -26,12 +26,18 @@ use syslog_pieces::text::verbatim::is_one_space;
 use syslog_pieces::text::{blanks, host, number, some_blanks, word};
 use syslog_pieces::timestamp::{ClockStamp, header_stamp, stamp_of};
 
-/// The fields before the structured data, and how they stand in the text.
+/// The priority, the version and the timestamp.
 #[derive(Clone, Copy)]
-pub(crate) struct Header<'a> {
+pub(crate) struct Front {
     pub(crate) priority: Option<u8>,
     pub(crate) version: u32,
     pub(crate) timestamp: Option<ClockStamp>,
+}
+
+/// The fields before the structured data, and how they stand in the text.
+#[derive(Clone, Copy)]
+pub(crate) struct Header<'a> {
+    pub(crate) front: Front,
     pub(crate) hostname: Option<&'a str>,
     pub(crate) appname: Option<&'a str>,
     /// The word that names the process.
@@ -39,7 +45,7 @@ pub(crate) struct Header<'a> {
     pub(crate) msgid: Option<&'a str>,
     /// The text behind the timestamp.
     pub(crate) tail: &'a str,
-    /// Whether all but the priority and the timestamp stands as it would be printed. It may be false of others too.
+    /// Whether all behind the timestamp stands as it would be printed. It may be false of others too.
     pub(crate) stands: bool,
 }
 
@@ -62,8 +68,7 @@ pub(crate) fn read_header<const CALLER: u8>(
 ) -> Option<(Header<'_>, &str)>
     ensures reads { (whole : Text) → IsBehindPriority whole priority (chars text.now)
         → ReadsHeader whole result }
-    ensures stands { IfSome result (λ x. HeaderStands (chars text.now) x.0 (shown x.1)) }
-    ensures number { IfSome result (λ x. x.0.priority ≡ priority) }
+    ensures stands { IfSome result (λ x. IsTrue x.0.stands → PrintsNames x.0 (shown x.1)) }
     ensures utf8 { IfSome result (λ x. IsUtf8 x.0.tail.now × IsUtf8 x.1.now) }
 {
     let (version, behind_version) = number(text, u32::MAX)?;
@@ -88,9 +93,11 @@ pub(crate) fn read_header<const CALLER: u8>(
     ]);
     Some((
         Header {
-            priority,
-            version,
-            timestamp,
+            front: Front {
+                priority,
+                version,
+                timestamp,
+            },
             hostname,
             appname,
             process,
@@ -125,12 +132,12 @@ fn header_message<'a>(
         ≡ message_with header.now process (map (element_value (λ s. shown s)) elements.entry.items)
         (chars msg.entry.now)) }
 {
-    let (facility, severity) = parts(header.priority);
+    let (facility, severity) = parts(header.front.priority);
     Message {
-        protocol: Protocol::RFC5424(header.version),
+        protocol: Protocol::RFC5424(header.front.version),
         facility,
         severity,
-        timestamp: stamp_of(header.timestamp),
+        timestamp: stamp_of(header.front.timestamp),
         hostname: header.hostname,
         appname: header.appname,
         procid: process_of(header.process),

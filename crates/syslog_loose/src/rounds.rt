@@ -3,34 +3,31 @@
 //! `normalise` answers one round. What was read as RFC 5424 prints as a settled text, and so does what was read as
 //! RFC 3164 and has none of the exceptions. So nearly each line is settled by one round, and `settling` asks for more
 //! of the others alone.
-ghost use Rattle.std.specs.Prelude.{◌≡◌, ◌≢◌, ◌↔◌, ◌<◌, ◌++◌, ◌∷◌, MatchResult, OnOk, Some, string_bytes};
-ghost use Rattle.std.specs.List.{AllByRecursion};
+ghost use Rattle.std.specs.Prelude.{◌≡◌, ◌↔◌, ◌++◌, ◌∷◌, MatchResult, OnOk, Some, string_bytes};
 ghost use Rattle.std.specs.Str.{chars, encode_utf8_all};
 ghost use Rattle.syslog_pieces.specs.Pieces.Class.{Text};
-ghost use Rattle.syslog_pieces.specs.Pieces.View.{shown};
 ghost use Rattle.syslog_pieces.specs.Pri.{priority_text};
 ghost use Rattle.syslog_pieces.specs.Text.{trimmed as trimmed_text};
-ghost use Rattle.syslog_pieces.specs.Timestamp.MonthDate.{month_date};
-ghost use Rattle.syslog_pieces.specs.Timestamp.Zone.{Dating as AnyDating, dating_of, dating_value};
+ghost use Rattle.syslog_pieces.specs.Timestamp.{stamp_seen};
+ghost use Rattle.syslog_pieces.specs.Timestamp.Zone.{Dating as AnyDating, dating_of};
 ghost use Rattle.syslog_loose.specs.Formats.{printed_number};
 ghost use Rattle.syslog_loose.specs.Message.{MessageValue};
 ghost use Rattle.syslog_loose.specs.Printed.{printed, timestamp_text};
 ghost use Rattle.syslog_loose.specs.ReadBack.{AnswersAgain};
 ghost use Rattle.syslog_loose.specs.Reading.{AnswersEachMonth, InYear, IsLeftTo3164, IsOnlyRead};
 ghost use Rattle.syslog_loose.specs.Reading.{IsUnreadable, IsYearAnswered, OfTrimmed};
-ghost use Rattle.syslog_loose.specs.Rfc5424.{IsNot5424};
 ghost use Rattle.syslog_loose.specs.Settling.{AnswersRound, IsRoundAsTold};
-ghost use Rattle.syslog_loose.specs.Start.{BeginsWith, BeginsWithout, IsBehindPriority};
 ghost use Rattle.syslog_loose.specs.View3164.{IsBehindStamp};
 ghost use Rattle.syslog_loose.specs.declared.fault.ParseFault.TheVariants.{Invalid};
 ghost use Rattle.syslog_loose.specs.declared.variant.Variant.{Variant};
-ghost use Rattle.syslog_loose.specs.declared.variant.Variant.TheVariants.{RFC3164};
 
 use crate::beginning::may_be_read;
 use crate::fault::ParseFault;
 use crate::jumps::write_round;
 use crate::line::rfc5424_text;
-use crate::message::{has_no_exception, make_room, print, priority, write_clock};
+use crate::message::{
+    has_no_exception, is_canonical_time, make_room, print, write_clock, write_read_priority,
+};
 use crate::reading::{asked_numbers, front_date, front_stamp};
 use crate::rfc3164::{Stamped, read_behind, stands_as_printed};
 use crate::variant::{IncompleteDate, Variant};
@@ -38,10 +35,10 @@ use jiff::tz::TimeZone;
 use std::alloc::{AllocError, Global};
 use std::fmt;
 use std::fmt::Write;
-use syslog_pieces::pri::{optional_priority, parts, write_priority};
+use syslog_pieces::pri::optional_priority;
 use syslog_pieces::structured_data::rfc3164_list::DASH_RULE;
 use syslog_pieces::text::trimmed;
-use syslog_pieces::timestamp::ClockStamp;
+use syslog_pieces::timestamp::stamp_of;
 use syslog_pieces::timestamp::zone::{Dating, month_stamp};
 
 /// The printed text of the message that `parse_message_with_year_exact_tz` answers, in memory of its own. A text that
@@ -107,25 +104,31 @@ pub(crate) fn next_round<F: FnOnce(IncompleteDate) -> i32, const CALLER: u8>(
             year: None,
         });
     }
-    let mut year = None;
-    let found = match front_date(rest, variant) {
+    let (year, timestamp, tail) = match front_date(rest, variant) {
         Some((date, tail)) => {
-            year = asked_numbers(date).map(get_year);
-            match month_stamp(date, &Dating { year, tz, local }) {
-                Some(stamp) => Some((Some(stamp), tail)),
-                None => None,
-            }
+            let year = asked_numbers(date).map(get_year);
+            let Some(stamp) = month_stamp(date, &Dating { year, tz, local }) else {
+                return Err(ParseFault::Invalid);
+            };
+            (year, Some(stamp), tail)
         }
-        None => front_stamp(rest, variant),
+        None => {
+            let Some((timestamp, tail)) = front_stamp(rest, variant) else {
+                return Err(ParseFault::Invalid);
+            };
+            (None, timestamp, tail)
+        }
     };
-    let Some((timestamp, tail)) = found else {
-        return Err(ParseFault::Invalid);
+    let stamped = Stamped {
+        priority,
+        timestamp,
     };
-    let stamped = Stamped { priority, timestamp };
     let settled = stamped_round(alloc, text, stamped, tail, input.len(), skips)?;
     Ok(Round { settled, year })
 }
 
+// The round of a line of RFC 3164. What programs write behind the timestamp, as ` host app[5]: message`, mostly prints
+// as it stands. So that is copied, without the fields in between.
 #[inline(always)]
 fn stamped_round(
     alloc: Global,
@@ -135,25 +138,15 @@ fn stamped_round(
     length: usize,
     skips: bool,
 ) -> Result<bool, ParseFault>
+    ensures { (variant : Variant) (dating : AnyDating) (whole : Text) → IsLeftTo3164 variant whole
+        → IsBehindStamp dating (trimmed_text whole) stamped (chars tail.entry.now)
+        → AnswersRound skips variant dating whole (string_bytes text.new) result }
 {
-    if prints_back(stamped.timestamp) && stands_as_printed(tail) {
-        make_room(text, length)?;
-        write!(text, "{stamped}")?;
-        text.push_str(tail)?;
-        return Ok(true);
+    if !is_canonical_time(stamp_of(stamped.timestamp)) || !stands_as_printed(tail) {
+        return message_round(alloc, text, stamped, tail, length, skips);
     }
-    message_round(alloc, text, stamped, tail, length, skips)
-}
-
-#[inline(always)]
-fn prints_back(timestamp: Option<ClockStamp>) -> bool {
-    match timestamp {
-        Some(clock) => {
-            let seconds = clock.stamp.offset.seconds().unsigned_abs();
-            clock.fields.year >= 0 && seconds % 60 == 0 && seconds < 86_400
-        }
-        None => true,
-    }
+    write_stamped(text, stamped, tail, length)?;
+    Ok(true)
 }
 
 // The round of a line of RFC 3164 whose message is made and printed, from what stands behind its timestamp on.
@@ -181,11 +174,26 @@ fn message_round(
 
 impl fmt::Display for Stamped {
     ghost output = { λ s. Some (priority_text (printed_number s.priority)
-        ++ (32 ∷ encode_utf8_all (timestamp_text s.timestamp))) };
+        ++ (32 ∷ encode_utf8_all (timestamp_text (stamp_seen s.timestamp)))) };
 
     fn fmt<W: fmt::Write>(&self, f: &mut fmt::Formatter<W>) -> fmt::Result {
-        let (facility, severity) = parts(self.priority);
-        write_priority(f, priority(facility, severity))?;
+        write_read_priority(f, self.priority)?;
         write_clock(f, self.timestamp)
     }
+}
+
+// Writes the priority, the timestamp and all behind it, into a text that gets room for all of it at once.
+#[inline(always)]
+fn write_stamped(
+    text: &mut String,
+    stamped: Stamped,
+    tail: &str,
+    length: usize,
+) -> Result<(), AllocError>
+    ensures { OnOk result (string_bytes text.new ≡ (priority_text (printed_number stamped.priority)
+        ++ (32 ∷ encode_utf8_all (timestamp_text (stamp_seen stamped.timestamp)))) ++ tail.entry.now) }
+{
+    make_room(text, length)?;
+    write!(text, "{stamped}")?;
+    text.push_str(tail)
 }

@@ -16,6 +16,7 @@ use Rattle.syslog_pieces.specs.StructuredData.Element.{ElementValue}
 use Rattle.syslog_pieces.specs.StructuredData.Rfc3164List.{full_element, rfc3164_list, elements_or}
 use Rattle.syslog_pieces.specs.Text.{trimmed, is_blank, is_tag_char, colon, dash, IsHost, host, name_text, tag_word}
 use Rattle.syslog_pieces.specs.Text.CharClass.{is_label_char, is_open_char}
+use Rattle.syslog_pieces.specs.Timestamp.{stamp_seen}
 use Rattle.syslog_pieces.specs.Timestamp.Rfc3164.{rfc3164_stamp}
 use Rattle.syslog_pieces.specs.Timestamp.MonthDate.{month_date}
 use Rattle.syslog_pieces.specs.Timestamp.Canonical.{IsCanonicalStamp}
@@ -299,7 +300,7 @@ prints_behind {tail = tail} {t = t} {u = u} {msg = msg} {name = name} {origin = 
             then optional_none (rfc3164_list dash_rule) no_list
             then piece_front (run is_blank) [] msg tt (tt, c.is.1) then rest_front msg then refl)));
         is_printed = append_assoc (60 ∷ number) (62 ∷ []) _
-            ∙ ap (λ (x : Text). 60 ∷ (number ++ (62 ∷ 32 ∷ (timestamp_text stamped.timestamp ++ x)))) whole;
+            ∙ ap (λ (x : Text). 60 ∷ (number ++ (62 ∷ 32 ∷ (timestamp_text (stamp_seen stamped.timestamp) ++ x)))) whole;
       },
       record {
         canonical_timestamp = canonical;

@@ -6,14 +6,31 @@ ghost use Rattle.std.specs.Str.{encode_utf8_all};
 ghost use Rattle.syslog_pieces.specs.StructuredData.Element.{element_value};
 ghost use Rattle.syslog_pieces.specs.ProcId.{procid_value};
 ghost use Rattle.syslog_pieces.specs.Pieces.View.{text_of};
+ghost use Rattle.syslog_pieces.specs.Pri.{priority_text};
+ghost use Rattle.syslog_pieces.specs.Timestamp.{stamp_seen};
+ghost use Rattle.syslog_loose.specs.Formats.{printed_number};
 ghost use Rattle.syslog_loose.specs.Printed as spec;
 
+use super::priority;
 use std::fmt;
 use std::fmt::Display;
 use syslog_pieces::as_str::AsStr;
+use syslog_pieces::pri::{parts, write_priority};
 use syslog_pieces::procid::ProcId;
 use syslog_pieces::structured_data::StructuredElement;
 use syslog_pieces::timestamp::{ClockStamp, OffsetTimestamp};
+
+/// Writes the priority of a message that was read behind this one.
+#[inline(always)]
+pub(crate) fn write_read_priority<W: fmt::Write>(
+    f: &mut fmt::Formatter<W>,
+    number: Option<u8>,
+) -> fmt::Result
+    ensures { WritesOnOk W.write_str_gives f.old result (priority_text (printed_number number)) f.new }
+{
+    let (facility, severity) = parts(number);
+    write_priority(f, priority(facility, severity))
+}
 
 /// Writes a space and a name.
 #[inline]
@@ -57,6 +74,8 @@ pub(crate) fn write_clock<W: fmt::Write>(
     f: &mut fmt::Formatter<W>,
     timestamp: Option<ClockStamp>,
 ) -> fmt::Result
+    ensures { WritesOnOk W.write_str_gives f.old result
+        (32 ∷ encode_utf8_all (spec.timestamp_text (stamp_seen timestamp))) f.new }
 {
     match timestamp {
         Some(stamp) => {

@@ -1,4 +1,4 @@
-use Rattle.std.proofs.Common.{None, false}
+use Rattle.std.proofs.Common.{None, Some, false}
 use Rattle.std.specs.Str.{chars}
 use Rattle.syslog_pieces.specs.Timestamp.Zone.{dating_of}
 use Rattle.syslog_loose.proofs.DashChangeLemmas.{none_differs, told, told_so}
@@ -18,8 +18,10 @@ returns-in-Some-month_stamp g c =
     told _ c.args.variant whole c.args.tz c.args.local c.has_dash_change.result c.map-year.result
     (date_answered c.args.variant whole f _ c.in-Some.ensures _ _ _ c.asked_numbers.ensures c.map-year.ensures.cases)
     (told_so c.args.variant dating whole c.has_dash_change.result c.in-Some.ensures.reads
-    (c.has_dash_change.ensures dating whole _
-    (dated_front c.args.variant whole f _ c.in-Some.ensures dating _ c.in-Some-month_stamp.ensures)))
+    (c.has_dash_change.ensures dating whole
+    (record { priority = c.optional_priority.result.0; timestamp = Some c.in-Some-month_stamp.field-0 })
+    (dated_front c.args.variant whole f _ c.in-Some.ensures dating c.in-Some-month_stamp.field-0
+    c.in-Some-month_stamp.ensures)))
 
 pub returns-in-Some : goal.returns-in-Some
 returns-in-Some g c =
@@ -40,7 +42,7 @@ returns-in-Some-front_stamp g c =
     (asks_none c.args.variant whole f c.in-None.ensures)
     (told_so c.args.variant dating whole c.has_dash_change-in-Some-front_stamp.result
     c.in-Some-front_stamp.ensures.reads (c.has_dash_change-in-Some-front_stamp.ensures dating whole _
-    (other_front c.args.variant whole f c.in-None.ensures dating c.in-Some-front_stamp.ensures)))
+    (other_front c.args.variant whole f c.in-None.ensures dating _ c.in-Some-front_stamp.ensures)))
 
 pub returns : goal.returns
 returns g c =

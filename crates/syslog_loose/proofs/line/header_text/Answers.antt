@@ -3,7 +3,7 @@ use Rattle.syslog_pieces.specs.Pieces.View.{seen}
 use Rattle.syslog_pieces.proofs.PieceLemmas.Class.{rows_none_here}
 use Rattle.syslog_loose.specs.Rfc5424.{header_row, data_row}
 use Rattle.syslog_loose.proofs.HeaderLemmas.{word_some}
-use Rattle.syslog_loose.proofs.LineLemmas.{own_line_is, pieces_row, prints_read}
+use Rattle.syslog_loose.proofs.LineLemmas.{pieces_row, prints_read}
 use Rattle.syslog_loose.proofs.Rfc5424Lemmas.{is_read, not_read}
 use Rattle.syslog_loose.proofs.line.header_text.Goals as goal
 
@@ -11,24 +11,17 @@ pub returns-in_default-clause-text : goal.returns-in_default-clause-text
 returns-in_default-clause-text g c whole e =
     not_read whole _ e (rows_none_here header_row data_row (c.in_default.ensures.reads _ c.requires))
 
-pub copied_stamp-requires : goal.copied_stamp-requires
-copied_stamp-requires g c = (_, c.in-Some.ensures.stands.stamp)
-
-pub write_line-requires-clause-behind : goal.write_line-requires-clause-behind
-write_line-requires-clause-behind g c = rw c.in-Some.ensures.number c.requires
-
 pub write_line-requires-clause-line : goal.write_line-requires-clause-line
-write_line-requires-clause-line g c = own_line_is (record {
-  number = c.in-Some.ensures.number;
+write_line-requires-clause-line g c = record {
   elements = c.in-Some-printed_list.ensures.elements;
   end = _;
-  header = c.in-Some.ensures.reads;
+  header = c.in-Some.ensures.reads _ c.requires;
   stands = c.in-Some.ensures.stands;
   blanks = c.blanks-list.ensures;
   list = c.in-Some-printed_list.ensures.is;
   prints = c.in-Some-printed_list.ensures.prints;
   msg = c.blanks.ensures;
-})
+}
 
 pub returns-in_err-write_line-clause-memory : goal.returns-in_err-write_line-clause-memory
 returns-in_err-write_line-clause-memory g c whole e none =
@@ -46,11 +39,3 @@ returns-in_default-printed_list-clause-text g c whole e = c.print_message.ensure
 
 pub returns-in_default-printed_list-clause-memory : goal.returns-in_default-printed_list-clause-memory
 returns-in_default-printed_list-clause-memory g c whole e = c.print_message.ensures.memory whole (rw e at c.requires)
-
-pub returns-in_default-copied_stamp-clause-text : goal.returns-in_default-copied_stamp-clause-text
-returns-in_default-copied_stamp-clause-text g c whole e =
-    c.print_message-in_default-copied_stamp.ensures.text whole (rw e at c.requires)
-
-pub returns-in_default-copied_stamp-clause-memory : goal.returns-in_default-copied_stamp-clause-memory
-returns-in_default-copied_stamp-clause-memory g c whole e =
-    c.print_message-in_default-copied_stamp.ensures.memory whole (rw e at c.requires)

@@ -1,16 +1,23 @@
-use Rattle.std.proofs.Common.{◌≡◌, ◌∷◌, ◌++◌, string_bytes, rules, ◌∙◌}
-use Rattle.syslog_pieces.specs.Bodies.CopiedStamp.{zone_text}
-use Rattle.syslog_loose.proofs.LineLemmas.{copied_bytes}
+use Rattle.std.proofs.Common.{◌≡◌, ◌∷◌, ◌++◌, string_bytes, refl, rules, ◌∙◌}
+use Rattle.syslog_loose.specs.Line.{front_bytes}
+use Rattle.syslog_loose.proofs.LineLemmas.{copied_bytes, copied_prints, names, names_there}
 use Rattle.syslog_loose.proofs.line.write_line.Goals as goal
 
-pub returns-in_ok-write-in-Some : goal.returns-in_ok-write-in-Some
-returns-in_ok-write-in-Some c =
-    let line = c.in-Some.copied in
-    let k = c.in-Some.ensures in
-    let written : string_bytes c.write.new.self
-    ≡ line.front.now ++ (zone_text line.is_zulu ++ (line.tail.now ++ (32 ∷ line.msg.now))) = search rules in
-    let bytes = copied_bytes line.front.now line.tail.now line.msg.now line.is_zulu k.utf8.0 k.utf8.1 k.utf8.2 in
-    (_, k.prints, written ∙ bytes)
+pub before-requires : goal.before-requires
+before-requires c =
+    let k = c.requires.line in
+    let h = k.stands c.if-not-line.false in
+    let gap = c.if-not-is_one_space.ensures refl in
+    (names c.args.line.now k h gap, names_there c.args.line.now k h gap)
 
-pub returns-in_ok-write_named-in-None : goal.returns-in_ok-write_named-in-None
-returns-in_ok-write_named-in-None c = c.in_ok-write_named-in-None.ensures _ _ c.requires.behind c.requires.line
+pub returns : goal.returns
+returns c =
+    let line = c.args.line.now in
+    let k = c.requires.line in
+    let written : string_bytes c.write.new.self
+    ≡ front_bytes line.header.front ++ (c.before-2.result.now ++ (32 ∷ line.msg.now)) = search rules in (
+      _,
+      copied_prints line k (k.stands c.if-not-line.false) (c.if-not-is_one_space.ensures refl) _
+          c.before-2.ensures,
+      written ∙ copied_bytes line.header.front _ _ c.before-2.utf8 c.requires.utf8,
+    )

@@ -1,4 +1,4 @@
-use Rattle.std.proofs.Common.{None, Ok, Err, refl}
+use Rattle.std.proofs.Common.{ℤ, Option, None, Ok, Err, refl}
 use Rattle.std.specs.Str.{chars}
 use Rattle.syslog_pieces.specs.Pieces.View.{shown}
 use Rattle.syslog_pieces.specs.Timestamp.Zone.{dating_of}
@@ -64,16 +64,23 @@ returns g c =
     let whole = chars c.args.input.now in
     let f = rw c.trimmed-text.ensures at c.optional_priority-priority.ensures in
     let at = c.match-front_date.timestamp in
-    let k : IsStamped (λ d year. g.F.FnOnce.post c.args.get_year (d, tt) year) c.args.variant whole c.args.tz
-    c.args.local (record { priority = c.optional_priority-priority.result.0; timestamp = at.0 }) (shown at.1) =
+    let (year, k) : (year : Option ℤ) × IsStamped (λ d y. g.F.FnOnce.post c.args.get_year (d, tt) y) c.args.variant
+    whole c.args.tz c.args.local year
+    (record { priority = c.optional_priority-priority.result.0; timestamp = at.0 }) (shown at.1) =
     elim c.match-front_date.branch [
-      | in-Some+in-Some-month_stamp w ↦ rw w.timestamp-is (dated_known c.args.variant _ f _ w.in-Some.ensures _ _ _ _ _
-          _ w.asked_numbers.ensures w.map-year.ensures.cases w.in-Some-month_stamp.ensures)
-      | in-None+in-Some-front_stamp w ↦ rw w.timestamp-is (other_known c.args.variant _ f w.in-None.ensures _ _ _
-          w.in-Some-front_stamp.ensures (λ n. elim w.if-reads_rfc5424.branch [
-            | then-reads_rfc5424+in-Ok-None v ↦ rw v.in-Ok-None.field-0-is at (v.in-Ok-None.ensures.read whole f)
-            | else-reads_rfc5424 v ↦ absurd (n v.if-reads_rfc5424.ensures)
-          ]))
+      | in-Some+in-Some-month_stamp w ↦ (
+        w.map-year.result,
+        rw w.timestamp-is (dated_known c.args.variant _ f _ w.in-Some.ensures _ _ _ _ _
+            _ w.asked_numbers.ensures w.map-year.ensures.cases w.in-Some-month_stamp.ensures),
+      )
+      | in-None+in-Some-front_stamp w ↦ (
+        None,
+        rw w.timestamp-is (other_known c.args.variant _ f w.in-None.ensures _ _ _
+            _ w.in-Some-front_stamp.ensures (λ n. elim w.if-reads_rfc5424.branch [
+              | then-reads_rfc5424+in-Ok-None v ↦ rw v.in-Ok-None.field-0-is at (v.in-Ok-None.ensures.read whole f)
+              | else-reads_rfc5424 v ↦ absurd (n v.if-reads_rfc5424.ensures)
+            ])),
+      )
     ] in
-    answered _ c.args.variant _ c.args.tz c.args.local _ k.year k.answered
+    answered _ c.args.variant _ c.args.tz c.args.local _ year k.answered
     (left_answer c.args.variant _ _ _ k.left (c.stamped_message.ensures _ _ k.front))

@@ -9,12 +9,12 @@ use Rattle.syslog_loose.proofs.Rfc3164Lemmas.Near.{prints_behind}
 use Rattle.syslog_loose.proofs.rfc3164.stands_as_printed.Goals as goal
 
 pub before-requires : goal.before-requires
-before-requires g c =
+before-requires c =
     let k = row_of (run is_blank ∷ optional (exactly colon) ∷ run is_blank ∷ [])
     (c.blanks.ensures then c.past_colon.ensures.1 then c.blanks-rest.ensures then refl) in (k.piece, k.whole)
 
 pub returns-then-not-begins_list-clause-prints : goal.returns-then-not-begins_list-clause-prints
-returns-then-not-begins_list-clause-prints g c is =
+returns-then-not-begins_list-clause-prints c is =
     let tag = rw c.in-Some-Some.is at c.in-Some-Some.field-0-is in
     let ascii = IsAscii-cons 58 (32 ∷ []) (omega arith) (one_ascii 32 (omega arith)) in
     let gap = ap (λ (x : List ℕ). x ++ chars c.blanks-rest.result.now)

@@ -1,7 +1,5 @@
 -- Each exit says that the row fails at its piece, behind the pieces that were read; the return joins them.
-use Rattle.std.proofs.Common.{◌++◌, inl, refl, rules, ap, ◌∙◌}
-use Rattle.std.specs.Fmt.{decimal}
-use Rattle.syslog_pieces.specs.Pieces.Class.{Text}
+use Rattle.std.proofs.Common.{inl, refl, rules}
 use Rattle.syslog_pieces.specs.Pieces.View.{seen, shown}
 use Rattle.syslog_pieces.specs.Text.{name_text}
 use Rattle.syslog_pieces.proofs.PieceLemmas.Rows.{row_of, no_row, ◌then◌, ◌past◌}
@@ -89,21 +87,16 @@ returns-clause-reads g c whole f = λ process n.
     then c.in_ok-at_id.ensures then c.in_ok-msgid.ensures then refl)
 
 pub returns-clause-stands : goal.returns-clause-stands
-returns-clause-stands g c = record {
-  stamp = c.in-Some.ensures;
-  stands = λ e.
-      let (version, (first, (second, (third, (fourth, (bare, (fifth, _))))))) = c.are_all-stands.ensures e in
-      let (process, named) = word_some (seen c.in_ok-process.process) in
-      let prints = c.process_stands.ensures bare _ process (process_named c.in_ok-process.ensures named) in
-      record {
-        process = process;
-        named = named;
-        front = c.number_stands.ensures version _ _ c.in_ok-version.ensures
-            ∙ ap (λ (x : Text). decimal c.in_ok-version.version ++ x) (c.is_one_space.ensures first);
-        names = names_joined _ _ _ (name_text (seen c.in_ok-msgid.msgid)) (shown c.in_ok-msgid.rest)
-            (c.is_one_space-2.ensures second) (host_stands _ _ _ c.in_ok-hostname.ensures)
-            (c.is_one_space-3.ensures third) (word_stands _ _ _ c.in_ok-appname.ensures)
-            (c.is_one_space-4.ensures fourth) prints (c.is_one_space-5.ensures fifth)
-            (word_stands _ _ _ c.in_ok-msgid.ensures);
-      };
-}
+returns-clause-stands g c = λ e.
+    let (second, (third, (fourth, (bare, (fifth, _))))) = c.are_all-stands.ensures e in
+    let (process, named) = word_some (seen c.in_ok-process.process) in
+    let prints = c.process_stands.ensures bare _ process (process_named c.in_ok-process.ensures named) in
+    record {
+      process = process;
+      named = named;
+      names = names_joined _ _ _ (name_text (seen c.in_ok-msgid.msgid)) (shown c.in_ok-msgid.rest)
+          (c.is_one_space.ensures second) (host_stands _ _ _ c.in_ok-hostname.ensures)
+          (c.is_one_space-2.ensures third) (word_stands _ _ _ c.in_ok-appname.ensures)
+          (c.is_one_space-3.ensures fourth) prints (c.is_one_space-4.ensures fifth)
+          (word_stands _ _ _ c.in_ok-msgid.ensures);
+    }
