@@ -6,13 +6,15 @@ pub mod Canonical
 pub mod Printed
 pub mod Rfc3339
 pub mod Zone
-use Rattle.std.specs.Prelude.{◌≡◌, ℕ, List, ◌∷◌, Option, Some, None, MatchOption}
+use Rattle.std.specs.Prelude.{◌≡◌, ◌-ℤ◌, ℕ, List, ◌∷◌, Option, Some, None, MatchOption}
 use Rattle.std.specs.Option.{option_map}
+use Rattle.jiff.specs.Words.{nanos_of_seconds}
 use Rattle.syslog_pieces.specs.Pieces.Class.{Text, Class}
 use Rattle.syslog_pieces.specs.Text.{dash}
 use Rattle.syslog_pieces.specs.declared.timestamp.OffsetTimestamp.{OffsetTimestamp}
 use Rattle.syslog_pieces.specs.declared.timestamp.clock.ClockStamp.{ClockStamp}
 use Rattle.syslog_pieces.specs.declared.timestamp.rfc3339_text.Rfc3339Fields.{Rfc3339Fields}
+use Rattle.syslog_pieces.specs.Timestamp.Fields.{nanos_of_fields}
 use Rattle.syslog_pieces.specs.Timestamp.Rfc3339.{HasStamp, HasRfc3339Stamp}
 
 -- the whole text is an RFC 3339 text of this timestamp
@@ -27,13 +29,23 @@ HasNoStamp text = (s : OffsetTimestamp) → IsStampText text s → ⊥
 abbrev pub IsStampOfRfc3339 : Rfc3339Fields → OffsetTimestamp → Type 0
 IsStampOfRfc3339 w s = HasRfc3339Stamp w s.instant.nanosecond s.offset.seconds
 
+-- the instant at which the clock shows the fields, and the offset
+abbrev pub clock_value : ClockStamp → OffsetTimestamp
+clock_value c = record {
+  instant = record {
+    nanosecond = nanos_of_fields c.fields -ℤ nanos_of_seconds c.offset.seconds;
+    in_range = c.in_range;
+  };
+  offset = c.offset;
+}
+
 -- the timestamp of which `P` holds, and none only where it holds of no timestamp
 abbrev pub IsAnswer : (OffsetTimestamp → Type 0) → Option ClockStamp → Type 0
-IsAnswer P answer = MatchOption answer ((s : OffsetTimestamp) → P s → ⊥) (λ c. P c.stamp)
+IsAnswer P answer = MatchOption answer ((s : OffsetTimestamp) → P s → ⊥) (λ c. P (clock_value c))
 
--- the timestamp that was read, without what a clock shows
+-- the same of one that may be absent
 abbrev pub stamp_seen : Option ClockStamp → Option OffsetTimestamp
-stamp_seen c = option_map (λ c. c.stamp) c
+stamp_seen c = option_map clock_value c
 
 -- a timestamp of a header: `-` where it is absent, or a whole RFC 3339 text before a space
 abbrev pub IsHeaderStamp : Text → Text → Option OffsetTimestamp → Type 0

@@ -14,19 +14,18 @@ ghost use Rattle.std.proofs.Common.{rules};
 ghost use Rattle.std.specs.Cmp.{partial_order_from_own_ties};
 ghost use Rattle.std.specs.Cmp.Rules.{comparing};
 ghost use Rattle.std.specs.Ordering.{on, int_eq, int_cmp, as_partial_cmp};
-ghost use Rattle.std.specs.Prelude.{◌≡◌, IfSome, MatchOption, Some};
+ghost use Rattle.std.specs.Prelude.{MatchOption, Some};
 ghost use Rattle.std.specs.Str.{chars};
 ghost use Rattle.syslog_pieces.specs.Timestamp as spec;
 ghost use Rattle.syslog_pieces.specs.Timestamp.{IsStampText, HasNoStamp, stamp_seen};
-ghost use Rattle.syslog_pieces.specs.Pieces.Class.{Front};
-ghost use Rattle.syslog_pieces.specs.Pieces.View.{Reads, shown};
+ghost use Rattle.syslog_pieces.specs.Pieces.View.{Reads};
 
 pub mod canonical;
 mod clock;
 mod digits;
 mod display;
-mod early;
 mod fields;
+mod instant;
 pub mod month_date;
 pub mod rfc3164;
 mod rfc3339_text;
@@ -34,10 +33,10 @@ pub mod zone;
 
 use crate::text::canonical::is_end;
 use crate::text::literal;
-
+pub use clock::ClockStamp;
+pub use instant::stamp_of;
 use jiff::Timestamp;
 use jiff::tz::Offset;
-pub use clock::ClockStamp;
 pub use month_date::{MonthDate, shown_date};
 pub use rfc3164::rfc3164_stamp;
 use std::cmp::Ordering;
@@ -59,17 +58,6 @@ pub struct OffsetTimestamp {
     pub offset: Offset,
 }
 
-/// The timestamp alone, where there is one.
-#[inline(always)]
-pub fn stamp_of(clock: Option<ClockStamp>) -> Option<OffsetTimestamp>
-    ensures { result ≡ stamp_seen clock }
-{
-    match clock {
-        Some(clock) => Some(clock.stamp),
-        None => None,
-    }
-}
-
 /// The timestamp that the whole text writes, as RFC 3339 section 5.6 has it.
 ///
 /// There is none where the text has another form, where the calendar lacks its date or the clock
@@ -88,32 +76,9 @@ pub fn rfc3339(text: &str) -> Option<OffsetTimestamp>
 
 /// The timestamp at the front of a header's text, absent for `-`, and the text behind it. A text
 /// that begins with `-` is never more than that.
+#[tactic(auto, using(crate::proofs::TimestampLemmas::Piece::header_fronts))]
 #[inline(always)]
 pub fn header_stamp(text: &str) -> Option<(Option<ClockStamp>, &str)>
-    ensures { Reads spec.header_stamp stamp_seen (chars text.now) result }
-{
-    match standard_stamp(text) {
-        Some((stamp, rest)) => Some((Some(stamp), rest)),
-        None => any_header_stamp(text),
-    }
-}
-
-// The same of a date that each month has, as most are.
-#[tactic(auto, using(crate::proofs::TimestampLemmas::Piece::stamp_front))]
-#[inline(always)]
-fn standard_stamp(text: &str) -> Option<(ClockStamp, &str)>
-    ensures { IfSome result (λ read. Front spec.header_stamp (chars text.now) (shown read.1) (Some read.0.stamp)) }
-{
-    let (written, rest) = rfc3339_text::read(text)?;
-    let _ = literal(rest, ' ')?;
-    let stamp = rfc3339_text::standard_stamp(written)?;
-    Some((stamp, rest))
-}
-
-// The same, whatever it is.
-#[tactic(auto, using(crate::proofs::TimestampLemmas::Piece::header_fronts))]
-#[inline(never)]
-fn any_header_stamp(text: &str) -> Option<(Option<ClockStamp>, &str)>
     ensures { Reads spec.header_stamp stamp_seen (chars text.now) result }
 {
     match rfc3339_text::read(text) {

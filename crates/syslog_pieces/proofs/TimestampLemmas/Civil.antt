@@ -1,10 +1,14 @@
 -- The fields of a datetime; those of a count of nanoseconds, which are the fields of the datetime that has it; and what
 -- a clock at an offset shows.
-use Rattle.std.proofs.Common.{◌≡◌, ℤ, ◌+ℤ◌, ◌-ℤ◌, refl, sym, ap, subst, ◌∙◌, arith}
+use Rattle.std.proofs.Common.{◌≡◌, ℤ, pos, neg_ℤ, ◌+ℤ◌, ◌-ℤ◌, ◌≤ℤ◌, ◌<ℤ◌, refl, sym, ap, subst, ◌∙◌, arith}
 use Rattle.jiff.proofs.Family.{same_datetime}
-use Rattle.jiff.specs.Types.{DateTime}
-use Rattle.jiff.specs.Words.{civil_nanos, nanos_of_seconds}
-use Rattle.jiff_core.proofs.DateTimeLemmas.{civil_nanos-parts, civil_nanos_range}
+use Rattle.jiff.specs.Types.{DateTime, Offset}
+use Rattle.jiff.specs.Words.{civil_nanos, instant_of, nanos_of_seconds, IsTimestampNanos}
+use Rattle.jiff_core.proofs.CalendarLemmas.{days_from_civil-day_count, day_count-day_of_year}
+use Rattle.jiff_core.proofs.CalendarLemmas.{day_count-later_year, day_count-lt_year, day_count-min}
+use Rattle.jiff_core.proofs.CalendarLemmas.{day_count-end, day_count-next_year, days_in_year_bounds}
+use Rattle.jiff_core.proofs.DateLemmas.{civil}
+use Rattle.jiff_core.proofs.DateTimeLemmas.{civil_nanos-parts, civil_nanos_range, time_nanos_bound}
 use Rattle.jiff_core.proofs.SignedLemmas.{signed_arith}
 use Rattle.syslog_pieces.specs.declared.timestamp.fields.CivilFields.{CivilFields}
 use Rattle.syslog_pieces.specs.Timestamp.Fields.{AreCivil, fields_of, nanos_of_fields}
@@ -75,3 +79,37 @@ pub shows_fields : (f : CivilFields) (n o : ℤ) → AreCivil f → n ≡ nanos_
 shows_fields f n o h e =
     let (dt, same) = datetime_of f h in
     shows_datetime dt n o (rw (civil_nanos-fields dt f same) e) ∙ same
+
+-- the instant that a datetime shows there
+pub shown_nanos : (dt : DateTime) (f : CivilFields) (n o : ℤ) → f ≡ fields_of dt
+    → civil_nanos dt ≡ n +ℤ nanos_of_seconds o → nanos_of_fields f -ℤ nanos_of_seconds o ≡ n
+shown_nanos dt f n o e h = omega (arith, signed_arith, civil_nanos-fields dt f (sym e), h)
+
+-- a clock at any offset that shows a year from 0 to 9998 shows an instant in range
+in_range-years : (dt : DateTime) (offset : Offset) → pos 0 ≤ℤ dt.date.year → dt.date.year <ℤ pos 9999
+    → IsTimestampNanos (instant_of dt offset)
+in_range-years dt offset from to =
+    let d = dt.date in
+    let there = civil d in
+    let first = day_count-day_of_year d.year d.month d.day d.day_in.0 in
+    let low =
+    day_count-later_year (neg_ℤ (pos 9999)) d.year (omega (arith, signed_arith)) (omega (arith, signed_arith, from)) in
+    let least = day_count-min in
+    let days = days_in_year_bounds (neg_ℤ (pos 9999)) in
+    let high = day_count-lt_year d.year d.month d.day (pos 9999) 1 1 there (omega arith) to in
+    let most = day_count-next_year (pos 9999) (pos 10000) (omega (arith, signed_arith)) refl in
+    let end = day_count-end in
+    let last = days_in_year_bounds (pos 9999) in
+    let number = days_from_civil-day_count d.year d.month d.day in
+    let parts = civil_nanos-parts dt in
+    let clock = time_nanos_bound dt.time in
+    let shift = offset.in_range in (
+      omega (arith, signed_arith, shift.0, shift.1, d.day_in.0),
+      omega (arith, signed_arith, shift.0, shift.1, d.day_in.0),
+    )
+
+pub early_in_range : (f : CivilFields) (offset : Offset) → AreCivil f → (pos 0 ≤ℤ f.year) × (f.year <ℤ pos 9999)
+    → IsTimestampNanos (nanos_of_fields f -ℤ nanos_of_seconds offset.seconds)
+early_in_range f offset h (from, to) =
+    let (dt, same) = datetime_of f h in
+    rw (civil_nanos-fields dt f same) at (in_range-years dt offset from to)

@@ -168,12 +168,9 @@ late_fields n o h k late =
     not_early (civil_fields (n +ℤ nanos_of_seconds o)) _ refl there (omega (arith, signed_arith, same, k.0))
 
 -- the instant of fields by the days and seconds that they count
-pub early_instant : (f : CivilFields) (count : ℕ) (off sec nan : ℤ) → pos 0 ≤ℤ f.year
-    → count ≡ day_count (pos (unsigned_abs f.year)) f.month f.day
+pub instant_by_count : (f : CivilFields) (count : ℕ) (off sec nan : ℤ) → count ≡ day_count f.year f.month f.day
     → sec +ℤ off +ℤ pos 377_736_739_200 ≡ pos (count * 86_400 + (f.hour * 3_600 + f.minute * 60 + f.second))
     → nan ≡ sec *ℤ pos 1_000_000_000 +ℤ pos f.nanosecond → nan ≡ nanos_of_fields f -ℤ nanos_of_seconds off
-early_instant f count off sec nan from days second nanos =
-    let same : pos (unsigned_abs f.year) ≡ f.year = from_start f.year from in
-    let counted : count ≡ day_count f.year f.month f.day = days ∙ ap (λ (y : ℤ). day_count y f.month f.day) same in
+instant_by_count f count off sec nan counted second nanos =
     let number = days_from_civil-day_count f.year f.month f.day in
     omega (arith, signed_arith, counted, number, second, nanos)

@@ -26,13 +26,16 @@ use Rattle.syslog_pieces.specs.Bodies.StampReading.{Read, nanoseconds, IsClockBy
 use Rattle.syslog_pieces.specs.Bodies.StampReading.{IsOffsetBytes, after_letter, clock, date, fraction, minutes}
 use Rattle.syslog_pieces.specs.Bodies.StampReading.{numbers, written, ◌or◌, offset, seconds, stamp_text}
 use Rattle.syslog_pieces.specs.Pieces.Class.{Text, Front, NoFront, IsDeterministic}
-use Rattle.syslog_pieces.specs.Timestamp.{IsAnswer, IsStampText, HasNoStamp, IsStampOfRfc3339, stamp_seen}
+use Rattle.syslog_pieces.specs.Timestamp.{IsAnswer, IsStampText, HasNoStamp, IsStampOfRfc3339, clock_value}
+use Rattle.syslog_pieces.specs.Timestamp.{stamp_seen}
+use Rattle.syslog_pieces.specs.Bodies.Clock.{IsStampOfClock}
 use Rattle.syslog_pieces.specs.Timestamp.Fields.{fields_of, IsStampAt}
 use Rattle.syslog_pieces.specs.Timestamp.Printed.{fraction_text, pad3}
 use Rattle.syslog_pieces.specs.Timestamp.Rfc3339.{IsFraction, IsLetter, IsOffsetText, Writes, HasStamp}
 use Rattle.syslog_pieces.specs.Timestamp.Rfc3339.{fields_of_rfc3339}
 use Rattle.syslog_pieces.specs.declared.timestamp.OffsetTimestamp.{OffsetTimestamp}
 use Rattle.syslog_pieces.specs.declared.timestamp.clock.ClockStamp.{ClockStamp}
+use Rattle.syslog_pieces.specs.declared.timestamp.fields.CivilFields.{CivilFields}
 use Rattle.syslog_pieces.specs.declared.timestamp.month_date.Clock.{Clock}
 use Rattle.syslog_pieces.specs.declared.timestamp.rfc3339_text.Day.{Day}
 use Rattle.syslog_pieces.specs.declared.timestamp.rfc3339_text.Rfc3339Fields.{Rfc3339Fields}
@@ -347,7 +350,7 @@ pub answer_same : (P Q : OffsetTimestamp → Type 0) (answer : Option ClockStamp
     → ((s : OffsetTimestamp) → P s → Q s)
     → ((s : OffsetTimestamp) → Q s → P s) → IsAnswer P answer → IsAnswer Q answer
 answer_same P Q None forth back h = λ s q. h s (back s q)
-answer_same P Q (Some c) forth back h = forth c.stamp h
+answer_same P Q (Some c) forth back h = forth (clock_value c) h
 
 -- and so is the timestamp alone
 answer_seen : (P : OffsetTimestamp → Type 0) (answer : Option ClockStamp) → IsAnswer P answer
@@ -355,22 +358,20 @@ answer_seen : (P : OffsetTimestamp → Type 0) (answer : Option ClockStamp) → 
 answer_seen P None h = h
 answer_seen P (Some c) h = h
 
--- the stamp of the datetime is that of the numbers that name it
-pub answer_of_rfc3339 : (w : Rfc3339Fields) (dt : DateTime) (offset : Offset) (answer : Option ClockStamp)
-    → fields_of dt ≡ fields_of_rfc3339 w
-    → w.second < 61 → offset.seconds ≡ w.offset → IsAnswer (IsStampAt dt offset) answer
+-- the timestamp on a clock that shows the numbers
+pub answer_of_rfc3339 : (w : Rfc3339Fields) (f : CivilFields) (offset : Offset) (answer : Option ClockStamp)
+    → f ≡ fields_of_rfc3339 w → w.second < 61 → offset.seconds ≡ w.offset → IsAnswer (IsStampOfClock f offset) answer
     → IsAnswer (IsStampOfRfc3339 w) answer
-answer_of_rfc3339 w dt offset answer e second same h =
-    let nanos = civil_nanos-fields dt (fields_of_rfc3339 w) e in
-    answer_same (IsStampAt dt offset) (IsStampOfRfc3339 w) answer
+answer_of_rfc3339 w f offset answer e second same h =
+    answer_same (IsStampOfClock (fields_of_rfc3339 w) offset) (IsStampOfRfc3339 w) answer
     (λ s p. record {
-      civil = civil-fields dt (fields_of_rfc3339 w) e;
+      civil = p.civil;
       second = second;
-      instant = rw (← nanos, ← same) p.instant;
+      instant = rw (← same) p.instant;
       at_offset = p.at_offset ∙ same;
       in_range = s.instant.in_range;
     })
-    (λ s q. record { instant = rw (nanos, same) q.instant; at_offset = q.at_offset ∙ sym same }) h
+    (λ s q. record { civil = q.civil; instant = rw same q.instant; at_offset = q.at_offset ∙ sym same }) (rw e at h)
 
 -- ---- the stamp of a text
 whole_front : (t : Text) (w : Rfc3339Fields) → Writes t w → Front stamp_text t [] w

@@ -7,7 +7,7 @@ use Rattle.jiff.specs.Types.{Fixed as FixedZone}
 use Rattle.jiff.specs.Words.{offset_at, ambiguous_at, nanos_of_seconds, IsFixed}
 use Rattle.jiff_core.proofs.SignedLemmas.{signed_arith}
 use Rattle.jiff_tz.specs.Zone.{utc_offset}
-use Rattle.syslog_pieces.specs.Bodies.Early.{IsEarlyStamp, zone_of}
+use Rattle.syslog_pieces.specs.Bodies.Clock.{IsStampOfClock, zone_of}
 use Rattle.syslog_pieces.specs.Timestamp.{IsAnswer}
 use Rattle.syslog_pieces.specs.Timestamp.Fields.{fields_of, IsStampAt, AreCivil}
 use Rattle.syslog_pieces.specs.Timestamp.Zone.{Dating, earlier, IsStampOf, IsStampInGap}
@@ -84,17 +84,12 @@ module _ (dating : Dating) (date : MonthDate) where
       let in_range = (civil-fields dt (civil_of date y) f).date in
       omega (arith, signed_arith, past, in_range.0)
 
--- the timestamp at the one offset, or at the one before a fold
-at_earlier : (a : AmbiguousOffset) (tz : TimeZone) (dt : DateTime) (offset : Offset) (s : OffsetTimestamp)
-    → earlier a ≡ Some offset → IsStampAt dt offset s → IsStampOf a dt s × IsLocalStampOf a tz dt s
-at_earlier (Unambiguous o) tz dt offset s e h = let same : offset ≡ o = cc in let at = rw same at h in (at, at)
-at_earlier (Gap before after) tz dt offset s e h = absurd (let n : None ≡ Some offset = e in cc)
-at_earlier (Fold before after) tz dt offset s e h = let same : offset ≡ before = cc in let at = rw same at h in (at, at)
-
-in_any : (tz : Option TimeZone) (local : TimeZone) (dt : DateTime) (offset : Offset) (s : OffsetTimestamp)
-    → earlier (ambiguous_at (zone_of tz local) dt) ≡ Some offset → IsStampAt dt offset s → IsStampInAny tz local dt s
-in_any (Some tz) local dt offset s e h = (at_earlier (ambiguous_at tz dt) tz dt offset s e h).0
-in_any None local dt offset s e h = (at_earlier (ambiguous_at local dt) local dt offset s e h).1
+-- in the zone that counts
+in_any : (tz : Option TimeZone) (local : TimeZone) (dt : DateTime) (offset : Offset) (r : Option ClockStamp)
+    → earlier (ambiguous_at (zone_of tz local) dt) ≡ Some offset → IsAnswer (IsStampAt dt offset) r
+    → IsAnswer (IsStampInAny tz local dt) r
+in_any (Some tz) local dt offset r e h = (answer_at (ambiguous_at tz dt) tz dt offset r e h).0
+in_any None local dt offset r e h = (answer_at (ambiguous_at local dt) local dt offset r e h).1
 
 -- a zone of one offset has it at each datetime
 fixed_earlier : (tz : TimeZone) (offset : Offset) (dt : DateTime) → IsFixed tz
@@ -105,22 +100,32 @@ fixed_earlier Unknown offset dt fixed h = ap Some (same_offset utc_offset offset
 fixed_earlier (FixedZone o) offset dt fixed h = ap Some (same_offset o offset (sym (h (pos 0))))
 fixed_earlier _ offset dt fixed h = absurd fixed
 
--- ---- in a zone of one offset
-fixed_answer : (tz : Option TimeZone) (local : TimeZone) (f : CivilFields) (offset : Offset) (s : OffsetTimestamp)
-    → IsFixed (zone_of tz local) → ((n : ℤ) → offset.seconds ≡ offset_at (zone_of tz local) n) → IsEarlyStamp f offset s
-    → IsStampOfFields tz local f s
-fixed_answer tz local f offset s fixed at h =
-    let (dt, same) = datetime_of f h.civil in
-    let there : IsStampAt dt offset s = record {
-      instant = h.instant ∙ ap (λ (x : ℤ). x -ℤ nanos_of_seconds offset.seconds) (sym (civil_nanos-fields dt f same));
-      at_offset = ap (λ (o : Offset). o.seconds) h.at_offset;
-    } in
-    (dt, same, in_any tz local dt offset s (fixed_earlier (zone_of tz local) offset dt fixed at) there)
+-- ---- by what a clock shows
 
-pub fixed_answers : (tz : Option TimeZone) (local zone : TimeZone) (f : CivilFields) (offset : Offset)
-    (r : Option ClockStamp)
-    → zone ≡ zone_of tz local → IsFixed zone → ((n : ℤ) → offset.seconds ≡ offset_at zone n)
-    → IfSome r (λ c. IsEarlyStamp f offset c.stamp)
-    → IfSome r (λ c. IsStampOfFields tz local f c.stamp)
-fixed_answers tz local zone f offset r e fixed at h =
-    grind (arith, fixed_answer tz local f offset, subst IsFixed e fixed)
+-- the timestamp of fields on a clock is that of the datetime that they name
+pub answer_on_clock : (f : CivilFields) (dt : DateTime) (offset : Offset) (r : Option ClockStamp) → fields_of dt ≡ f
+    → IsAnswer (IsStampOfClock f offset) r → IsAnswer (IsStampAt dt offset) r
+answer_on_clock f dt offset r e h =
+    let shift = λ (x : ℤ). x -ℤ nanos_of_seconds offset.seconds in
+    let nanos = civil_nanos-fields dt f e in
+    answer_same (IsStampOfClock f offset) (IsStampAt dt offset) r
+    (λ s p. record { instant = p.instant ∙ ap shift (sym nanos); at_offset = p.at_offset })
+    (λ s p. record {
+      civil = civil-fields dt f e;
+      instant = p.instant ∙ ap shift nanos;
+      at_offset = p.at_offset;
+    }) h
+
+-- in a zone of one offset
+module _ (tz : Option TimeZone) (local zone : TimeZone) (f : CivilFields) (offset : Offset) (e : zone ≡ zone_of tz local)
+    (fixed : IsFixed zone) (at : (n : ℤ) → offset.seconds ≡ offset_at zone n) where
+  fixed_datetime : (r : Option ClockStamp) → IsAnswer (IsStampOfClock f offset) r → (dt : DateTime) → fields_of dt ≡ f
+      → IsAnswer (IsStampOfFields tz local f) r
+  fixed_datetime r h dt same =
+      answer_of_fields f dt tz local r same (in_any tz local dt offset r (rw e at (fixed_earlier zone offset dt fixed at))
+      (answer_on_clock f dt offset r same h))
+
+  pub fixed_answer : (r : Option ClockStamp) → IsAnswer (IsStampOfClock f offset) r
+      → IsAnswer (IsStampOfFields tz local f) r
+  fixed_answer None h = λ s (dt, same, p). fixed_datetime None h dt same s (dt, same, p)
+  fixed_answer (Some c) h = let (dt, same) = datetime_of f h.civil in fixed_datetime (Some c) h dt same

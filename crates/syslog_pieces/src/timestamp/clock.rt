@@ -1,17 +1,18 @@
-//! A timestamp as it was read: with the civil fields that a clock at its offset shows, which are what prints.
-ghost use Rattle.std.specs.Prelude.{◌≡◌, ◌+ℤ◌};
-ghost use Rattle.jiff.specs.Words.{nanos_of_seconds};
-ghost use Rattle.syslog_pieces.specs.Timestamp.Printed.{civil_fields};
+//! A timestamp as a clock shows it.
+ghost use Rattle.std.specs.Prelude.{◌-ℤ◌};
+ghost use Rattle.jiff.specs.Words.{IsTimestampNanos, nanos_of_seconds};
+ghost use Rattle.syslog_pieces.specs.Timestamp.Fields.{AreCivil, nanos_of_fields};
 
-use super::OffsetTimestamp;
 use super::fields::CivilFields;
+use jiff::tz::Offset;
 
-/// A timestamp, and what a clock at its offset shows then. So it prints without a date computed from its instant.
+/// The civil fields that a clock at an offset shows. They are what is read and what prints, so neither needs an instant.
 #[derive(Clone, Copy)]
 pub struct ClockStamp {
-    /// The timestamp.
-    pub stamp: OffsetTimestamp,
-    /// The fields that the clock shows.
+    /// What the clock shows.
     pub fields: CivilFields,
-    pub ghost shows: { civil_fields (stamp.instant.nanosecond +ℤ nanos_of_seconds stamp.offset.seconds) ≡ fields },
+    /// How far the clock is ahead of UTC.
+    pub offset: Offset,
+    pub ghost civil: { AreCivil fields },
+    pub ghost in_range: { IsTimestampNanos (nanos_of_fields fields -ℤ nanos_of_seconds offset.seconds) },
 }

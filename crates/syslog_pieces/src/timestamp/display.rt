@@ -1,12 +1,13 @@
 //! Prints a stamp, piece by piece from small arrays of bytes.
-ghost use Rattle.std.specs.Prelude.{◌≡◌, ◌<◌, ◌+◌, Some, unsigned_abs};
+ghost use Rattle.std.specs.Prelude.{◌≡◌, ◌<◌, ◌∷◌, Some, unsigned_abs};
 ghost use Rattle.std.specs.Fmt.{WritesOnOk};
 ghost use Rattle.std.specs.List.{AllByRecursion};
 ghost use Rattle.jiff.specs.Words.{IsOffsetSeconds};
-ghost use Rattle.syslog_pieces.specs.Timestamp.Fields.{AreCivil, fields_of as spec_fields_of};
+ghost use Rattle.syslog_pieces.specs.Timestamp.Fields.{AreCivil};
+ghost use Rattle.syslog_pieces.specs.Timestamp.{clock_value};
 ghost use Rattle.syslog_pieces.specs.Timestamp.Printed as spec;
 
-use super::fields::{CivilFields, fields_of};
+use super::fields::{CivilFields, datetime_fields};
 use super::{ClockStamp, OffsetTimestamp};
 use crate::text::write_ascii::{digit, three_digits, write_bytes};
 use jiff::tz::Offset;
@@ -17,16 +18,16 @@ impl fmt::Display for OffsetTimestamp {
 
     fn fmt<W: fmt::Write>(&self, f: &mut fmt::Formatter<W>) -> fmt::Result {
         let dt = self.offset.to_datetime(self.instant);
-        write_fields(f, fields_of(dt), self.offset)
+        write_fields(f, datetime_fields(dt), self.offset)
     }
 }
 
 impl fmt::Display for ClockStamp {
-    ghost output = { λ s. Some (spec.printed_stamp s.stamp.instant.nanosecond s.stamp.offset.seconds) };
+    ghost output = { λ c. Some (spec.printed_stamp (clock_value c).instant.nanosecond c.offset.seconds) };
 
     #[inline(always)]
     fn fmt<W: fmt::Write>(&self, f: &mut fmt::Formatter<W>) -> fmt::Result {
-        write_fields(f, self.fields, self.stamp.offset)
+        write_fields(f, self.fields, self.offset)
     }
 }
 
@@ -113,6 +114,21 @@ fn bytes_of(year: u32, month: u32, day: u32, hour: u32, minute: u32, second: u32
     ]
 }
 
+// A dot and three decimals.
+#[inline(always)]
+fn behind_dot(n: u32) -> [u8; 4]
+    requires { n < 1_000 }
+    ensures ascii { AllByRecursion (λ b. b < 128) result }
+    ensures text { result ≡ 46 ∷ spec.pad3 n }
+{
+    [
+        b'.',
+        digit(n / 100),
+        digit(n / 10 % 10),
+        digit(n % 10),
+    ]
+}
+
 // A dot and the least of 3, 6 or 9 decimals that is exact, or nothing for 0.
 #[tactic(auto, unfolding(crate::specs::Timestamp::Printed::fraction_text))]
 fn write_fraction<W: fmt::Write>(f: &mut fmt::Formatter<W>, nanosecond: u32) -> fmt::Result
@@ -122,8 +138,7 @@ fn write_fraction<W: fmt::Write>(f: &mut fmt::Formatter<W>, nanosecond: u32) -> 
     if nanosecond == 0 {
         return Ok(());
     }
-    f.write_str(".")?;
-    write_bytes(f, &three_digits(nanosecond / 1_000_000))?;
+    write_bytes(f, &behind_dot(nanosecond / 1_000_000))?;
     if nanosecond % 1_000_000 == 0 {
         return Ok(());
     }
@@ -140,6 +155,9 @@ fn write_offset<W: fmt::Write>(f: &mut fmt::Formatter<W>, seconds: i32) -> fmt::
     requires { IsOffsetSeconds seconds }
     ensures { WritesOnOk W.write_str_gives f.old result (spec.offset_text seconds) f.new }
 {
+    if seconds == 0 {
+        return f.write_str("+00:00");
+    }
     let minutes = (seconds.unsigned_abs() + 30) / 60;
     let hour = minutes / 60;
     let minute = minutes % 60;

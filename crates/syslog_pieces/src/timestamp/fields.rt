@@ -1,12 +1,13 @@
 //! Civil fields as numbers, the datetime that they name, and its instant at an offset.
-ghost use Rattle.std.specs.Prelude.{◌≡◌, ◌<◌, ◌≤ℤ◌, ◌<ℤ◌, ◌^◌, pos, IsNone, IsTrue, IfSome, SomeIff};
+ghost use Rattle.std.specs.Prelude.{◌≡◌, ◌↔◌, ◌<◌, ◌≤ℤ◌, ◌<ℤ◌, ◌-ℤ◌, ◌^◌, pos, IsNone, IsTrue, IfSome, SomeIff};
 ghost use Rattle.std.specs.Int.{w16};
 ghost use Rattle.std.specs.Int.RustNames.{FitsSigned};
-ghost use Rattle.jiff.specs.Words.{IsDate, IsYmd, IsTime, IsHms};
+ghost use Rattle.jiff.specs.Words.{IsDate, IsYmd, IsTime, IsHms, IsTimestampNanos, nanos_of_seconds};
+ghost use Rattle.syslog_pieces.specs.Bodies.Clock.{IsStampOfClock};
 ghost use Rattle.syslog_pieces.specs.Timestamp.{IsAnswer};
-ghost use Rattle.syslog_pieces.specs.Timestamp.Fields.{AreCivil, fields_of as spec_fields_of, IsStampAt};
+ghost use Rattle.syslog_pieces.specs.Timestamp.Fields.{AreCivil, fields_of, nanos_of_fields};
 
-use super::{ClockStamp, OffsetTimestamp};
+use super::ClockStamp;
 use jiff::civil::DateTime;
 use jiff::tz::Offset;
 
@@ -26,7 +27,7 @@ impl CivilFields {
     /// The datetime with these fields, if there is one.
     #[inline(always)]
     pub fn datetime(self) -> Option<DateTime>
-        ensures value { IfSome result (λ dt. spec_fields_of dt ≡ self) }
+        ensures value { IfSome result (λ dt. fields_of dt ≡ self) }
         ensures none { IsNone result → ¬ (AreCivil self) }
     {
         let year = year_number(self.year)?;
@@ -40,34 +41,50 @@ impl CivilFields {
     }
 }
 
-/// Whether the date is one that each month has. Most are, and then no calendar is asked.
+// Whether the date is one that each month has, in a year from 0 to 9998. Most are, and then no calendar is asked.
 #[inline(always)]
-pub(super) fn is_early(fields: CivilFields) -> bool
-    ensures { IsTrue result → pos 0 ≤ℤ fields.year → fields.year <ℤ pos 9999 → AreCivil fields }
+fn is_early(fields: CivilFields) -> bool
+    ensures civil { IsTrue result → AreCivil fields }
+    ensures year { IsTrue result → (pos 0 ≤ℤ fields.year) × (fields.year <ℤ pos 9999) }
 {
+    let year = fields.year >= 0 && fields.year < 9999;
     let date = fields.month >= 1 && fields.month <= 12 && fields.day >= 1 && fields.day <= 28;
     let clock = fields.hour < 24 && fields.minute < 60 && fields.second < 60;
-    date && clock && fields.nanosecond < 1_000_000_000
+    year && date && clock && fields.nanosecond < 1_000_000_000
 }
 
-/// The stamp of the datetime on a clock at this offset, if its instant is in range.
+/// The timestamp of the fields on a clock at this offset, if there are such a date and time of day, and the instant is
+/// in range.
 #[inline(always)]
-pub fn at_offset(dt: DateTime, offset: Offset) -> Option<ClockStamp>
-    ensures { IsAnswer (IsStampAt dt offset) result }
+pub fn clock_stamp(fields: CivilFields, offset: Offset) -> Option<ClockStamp>
+    ensures { IsAnswer (IsStampOfClock fields offset) result }
 {
-    match offset.to_timestamp(dt) {
-        Ok(instant) => Some(ClockStamp {
-            stamp: OffsetTimestamp { instant, offset },
-            fields: fields_of(dt),
-        }),
-        Err(_) => None,
+    if is_early(fields) {
+        return Some(ClockStamp { fields, offset });
+    }
+    if is_there(fields, offset) {
+        Some(ClockStamp { fields, offset })
+    } else {
+        None
+    }
+}
+
+// Whether there are such a date and time of day, and the instant is in range.
+#[inline(never)]
+fn is_there(fields: CivilFields, offset: Offset) -> bool
+    ensures { IsTrue result ↔ AreCivil fields
+        × IsTimestampNanos (nanos_of_fields fields -ℤ nanos_of_seconds offset.seconds) }
+{
+    match fields.datetime() {
+        Some(dt) => offset.to_timestamp(dt).is_ok(),
+        None => false,
     }
 }
 
 /// The fields of a datetime.
 #[inline(always)]
-pub(super) fn fields_of(dt: DateTime) -> CivilFields
-    ensures { result ≡ spec_fields_of dt }
+pub(super) fn datetime_fields(dt: DateTime) -> CivilFields
+    ensures { result ≡ fields_of dt }
 {
     CivilFields {
         year: i32::from(dt.year()),

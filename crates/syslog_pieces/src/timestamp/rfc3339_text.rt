@@ -11,8 +11,7 @@ ghost use Rattle.syslog_pieces.specs.Timestamp.Rfc3339.{fields_of_rfc3339};
 
 use super::ClockStamp;
 use super::digits::{after_letter, four_digits, fraction, pair, pair_behind};
-use super::early::early_stamp;
-use super::fields::{CivilFields, at_offset};
+use super::fields::{CivilFields, clock_stamp};
 use super::month_date::Clock;
 use super::month_date::standard::clock;
 use jiff::tz::Offset;
@@ -38,7 +37,7 @@ pub(super) struct Day {
     pub(super) day: u32,
 }
 
-/// The stamp of what was written.
+/// The timestamp of what was written.
 #[inline(always)]
 pub fn stamp(written: Rfc3339Fields) -> Option<ClockStamp>
     ensures { IsAnswer (IsStampOfRfc3339 written) result }
@@ -47,31 +46,7 @@ pub fn stamp(written: Rfc3339Fields) -> Option<ClockStamp>
         return None;
     }
     let offset = offset_of(written.offset)?;
-    any_stamp(written, offset)
-}
-
-/// The stamp of what was written, where each month has such a day.
-#[inline(always)]
-pub fn standard_stamp(written: Rfc3339Fields) -> Option<ClockStamp>
-    ensures { IfSome result (λ s. IsStampOfRfc3339 written s.stamp) }
-{
-    if written.second > 59 {
-        return None;
-    }
-    let offset = offset_of(written.offset)?;
-    let stamp = early_stamp(fields_of(written), offset)?;
-    Some(stamp)
-}
-
-// The same at an offset.
-#[tactic(auto, using(crate::proofs::TimestampLemmas::Reading::answer_of_rfc3339))]
-#[inline(always)]
-fn any_stamp(written: Rfc3339Fields, offset: Offset) -> Option<ClockStamp>
-    requires second { written.second < 61 }
-    requires offset { offset.seconds ≡ written.offset }
-    ensures { IsAnswer (IsStampOfRfc3339 written) result }
-{
-    at_offset(fields_of(written).datetime()?, offset)
+    clock_stamp(fields_of(written), offset)
 }
 
 // A leap second has no place of its own on the clock, so it counts as the second before.

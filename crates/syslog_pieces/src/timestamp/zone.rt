@@ -5,14 +5,14 @@
 //! choice, as the crate's documents have it.) No conversion here takes memory.
 ghost use Rattle.std.specs.Prelude.{◌≡◌, Some, pos, ◌<ℤ◌, IfSome, IsNone};
 ghost use Rattle.jiff.specs.Words.{plain_zone};
-ghost use Rattle.syslog_pieces.specs.Timestamp.{IsAnswer};
-ghost use Rattle.syslog_pieces.specs.Bodies.Early.{zone_of as one_zone};
+ghost use Rattle.syslog_pieces.specs.Timestamp.{IsAnswer, clock_value};
+ghost use Rattle.syslog_pieces.specs.Timestamp.Fields.{fields_of};
+ghost use Rattle.syslog_pieces.specs.Bodies.Clock.{zone_of as one_zone};
 ghost use Rattle.syslog_pieces.specs.Timestamp.Zone as spec;
 ghost use Rattle.jiff.specs.Words.{ambiguous_at};
 
-use super::{ClockStamp, OffsetTimestamp};
-use super::early::early_stamp;
-use super::fields::{CivilFields, at_offset, fields_of};
+use super::ClockStamp;
+use super::fields::{CivilFields, clock_stamp, datetime_fields};
 use super::month_date::MonthDate;
 use jiff::Timestamp;
 use jiff::civil::DateTime;
@@ -38,9 +38,10 @@ pub fn month_stamp(date: MonthDate, dating: &Dating<'_, '_>) -> Option<ClockStam
 {
     let year = year_of(date, dating.year)?;
     let fields = fields_in(date, year);
-    match fixed_stamp(fields, dating) {
-        Some(stamp) => Some(stamp),
-        None => of_fields(fields, dating.tz, dating.local),
+    // Most zones that a filter is given have one offset.
+    match zone_of(dating).to_fixed_offset() {
+        Ok(offset) => clock_stamp(fields, offset),
+        Err(_) => of_fields(fields, dating.tz, dating.local),
     }
 }
 
@@ -53,19 +54,6 @@ fn zone_of<'a, 'z>(dating: &Dating<'a, 'z>) -> &'a TimeZone<'z>
     match dating.tz {
         Some(tz) => tz,
         None => dating.local,
-    }
-}
-
-// The timestamp of a date that each month has, in a zone of one offset.
-#[inline(always)]
-fn fixed_stamp(fields: CivilFields, dating: &Dating<'_, '_>) -> Option<ClockStamp>
-    ensures { IfSome result
-        (λ s. spec.IsStampOfFields (spec.given_zone dating.entry.now.tz) (plain_zone dating.entry.now.local.now) fields
-        s.stamp) }
-{
-    match zone_of(dating).to_fixed_offset() {
-        Ok(offset) => early_stamp(fields, offset),
-        Err(_) => None,
     }
 }
 
@@ -114,8 +102,8 @@ fn of_fields(
 {
     let dt = fields.datetime()?;
     match tz {
-        Some(tz) => in_zone(dt, tz),
-        None => in_local(dt, local),
+        Some(tz) => in_zone(fields, dt, tz),
+        None => in_local(fields, dt, local),
     }
 }
 
@@ -132,19 +120,21 @@ fn offset_before(dt: DateTime, tz: &TimeZone<'_>) -> Option<Offset>
 }
 
 // In the zone that is given.
-fn in_zone(dt: DateTime, tz: &TimeZone<'_>) -> Option<ClockStamp>
+fn in_zone(fields: CivilFields, dt: DateTime, tz: &TimeZone<'_>) -> Option<ClockStamp>
+    requires { fields_of dt ≡ fields }
     ensures { IsAnswer (spec.IsStampIn (plain_zone tz.now) dt) result }
 {
     let offset = offset_before(dt, tz)?;
-    at_offset(dt, offset)
+    clock_stamp(fields, offset)
 }
 
 // In the local zone.
-fn in_local(dt: DateTime, local: &TimeZone<'_>) -> Option<ClockStamp>
+fn in_local(fields: CivilFields, dt: DateTime, local: &TimeZone<'_>) -> Option<ClockStamp>
+    requires { fields_of dt ≡ fields }
     ensures { IsAnswer (spec.IsLocalStampIn (plain_zone local.now) dt) result }
 {
     match offset_before(dt, local) {
-        Some(offset) => at_offset(dt, offset),
+        Some(offset) => clock_stamp(fields, offset),
         None => in_gap(dt, local),
     }
 }
@@ -159,12 +149,12 @@ fn in_gap(dt: DateTime, local: &TimeZone<'_>) -> Option<ClockStamp>
     }
 }
 
-// The timestamp of the instant at the offset.
+// What a clock at the offset shows at the instant.
 fn shown_at(instant: Timestamp, offset: Offset) -> ClockStamp
-    ensures { result.stamp ≡ record { instant = instant; offset = offset } }
+    ensures { clock_value result ≡ record { instant = instant; offset = offset } }
 {
     ClockStamp {
-        stamp: OffsetTimestamp { instant, offset },
-        fields: fields_of(offset.to_datetime(instant)),
+        fields: datetime_fields(offset.to_datetime(instant)),
+        offset,
     }
 }

@@ -1,6 +1,6 @@
 use Rattle.std.proofs.Common.{[], ◌∷◌, refl, rules}
 use Rattle.syslog_pieces.proofs.TimestampLemmas.Piece.{no_header, no_stamp_front}
-use Rattle.syslog_pieces.proofs.timestamp.any_header_stamp.Goals as goal
+use Rattle.syslog_pieces.proofs.timestamp.header_stamp.Goals as goal
 
 pub returns-in_err-literal-in-Some : goal.returns-in_err-literal-in-Some
 returns-in_err-literal-in-Some c =

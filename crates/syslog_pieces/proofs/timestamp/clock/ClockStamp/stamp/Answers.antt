@@ -1,0 +1,15 @@
+use Rattle.std.proofs.Common.{refl, rules, ◌∙◌, FitsSigned}
+use Rattle.std.specs.Int.{w128}
+use Rattle.std.proofs.lemmas.Int.{to_z-of_z}
+use Rattle.syslog_pieces.proofs.TimestampLemmas.Reading.{same_timestamp}
+use Rattle.syslog_pieces.proofs.timestamp.clock.ClockStamp.stamp.Goals as goal
+
+pub instant_of-requires : goal.instant_of-requires
+instant_of-requires c =
+    let fits : FitsSigned w128 c.nanosecond.result = search rules in
+    rw (to_z-of_z, c.nanosecond.ensures) c.args.self.in_range
+
+pub returns : goal.returns
+returns c =
+    let fits : FitsSigned w128 c.nanosecond.result = search rules in
+    same_timestamp _ _ ((simp to_z-of_z at c.instant_of.ensures) ∙ c.nanosecond.ensures) refl

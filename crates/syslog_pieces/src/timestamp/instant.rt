@@ -1,0 +1,125 @@
+//! The instant of what a clock shows, by its own arithmetic: no calendar is asked, and no datetime is made.
+ghost use Rattle.std.specs.Prelude.{◌≡◌, ◌+◌, ◌*◌, ◌<◌, ◌≤◌, ◌+ℤ◌, ◌-ℤ◌, ◌*ℤ◌, ◌≤ℤ◌, neg_ℤ, pos};
+ghost use Rattle.std.specs.Int.{IsInRange};
+ghost use Rattle.jiff.specs.Words.{IsOffsetSeconds, IsTimestampNanos, nanos_of_seconds};
+ghost use Rattle.jiff_core.specs.Calendar.{day_count};
+ghost use Rattle.jiff_core.specs.March.{march_days as days_of_march_years, march_months};
+ghost use Rattle.syslog_pieces.specs.Timestamp.{clock_value, stamp_seen};
+ghost use Rattle.syslog_pieces.specs.Timestamp.Fields.{AreCivil, nanos_of_fields};
+
+use super::fields::CivilFields;
+use super::{ClockStamp, OffsetTimestamp};
+use jiff::Timestamp;
+use jiff::tz::Offset;
+
+impl ClockStamp {
+    /// The timestamp: the instant at which the clock shows the fields, and the offset.
+    #[inline(always)]
+    pub fn stamp(self) -> OffsetTimestamp
+        ensures { result ≡ clock_value self }
+    {
+        OffsetTimestamp {
+            instant: instant_of(nanosecond(self.fields, self.offset)),
+            offset: self.offset,
+        }
+    }
+}
+
+/// The same of one that may be absent.
+#[inline(always)]
+pub fn stamp_of(clock: Option<ClockStamp>) -> Option<OffsetTimestamp>
+    ensures { result ≡ stamp_seen clock }
+{
+    match clock {
+        Some(clock) => Some(clock.stamp()),
+        None => None,
+    }
+}
+
+// The nanosecond of the instant.
+#[inline(always)]
+fn nanosecond(fields: CivilFields, offset: Offset) -> i128
+    requires { AreCivil fields }
+    ensures { result ≡ nanos_of_fields fields -ℤ nanos_of_seconds offset.seconds }
+{
+    let days = days(fields.year, fields.month, fields.day);
+    let clock = fields.hour * 3_600 + fields.minute * 60 + fields.second;
+    let second = second_at(days, clock, offset.seconds());
+    nanosecond_at(second, fields.nanosecond)
+}
+
+// The seconds of the days before 1970, counted as below.
+const EPOCH: i64 = 377_736_739_200;
+
+// The second of an instant at which a clock at the offset shows the day and the second of the day.
+#[inline(always)]
+fn second_at(days: u32, clock: u32, offset: i32) -> i64
+    requires days { days < 7_400_000 }
+    requires clock { clock < 86_400 }
+    requires offset { IsOffsetSeconds offset }
+    ensures { result +ℤ offset +ℤ pos 377_736_739_200 ≡ pos (days * 86_400 + clock) }
+{
+    let shown = u64::from(days) * 86_400 + u64::from(clock);
+    shown as i64 - EPOCH - i64::from(offset)
+}
+
+#[inline(always)]
+fn nanosecond_at(second: i64, nanosecond: u32) -> i128
+    ensures { result ≡ second *ℤ pos 1_000_000_000 +ℤ pos nanosecond }
+{
+    i128::from(second) * 1_000_000_000 + i128::from(nanosecond)
+}
+
+#[inline(always)]
+fn instant_of(nanosecond: i128) -> Timestamp
+    requires { IsTimestampNanos nanosecond }
+    ensures { result.nanosecond ≡ nanosecond }
+{
+    match Timestamp::from_nanosecond(nanosecond) {
+        Ok(instant) => instant,
+        Err(_) => unreachable!(),
+    }
+}
+
+// The days since 1 January of the year -10000.
+#[inline(always)]
+fn days(year: i32, month: u32, day: u32) -> u32
+    requires from { neg_ℤ (pos 9999) ≤ℤ year }
+    requires to { year ≤ℤ pos 9999 }
+    requires month { IsInRange 1 12 month }
+    requires day { IsInRange 1 31 day }
+    ensures value { result ≡ day_count year month day }
+    ensures bound { result < 7_400_000 }
+{
+    let year = years(year);
+    if month <= 2 {
+        march_days(year - 1, month + 12, day)
+    } else {
+        march_days(year, month, day)
+    }
+}
+
+// The years since the year -10000.
+#[inline(always)]
+fn years(year: i32) -> u32
+    requires from { neg_ℤ (pos 9999) ≤ℤ year }
+    requires to { year ≤ℤ pos 9999 }
+    ensures { pos result ≡ year +ℤ pos 10_000 }
+{
+    (year + 10_000) as u32
+}
+
+// The same of a year that begins in March, and has the months 3 to 14.
+#[inline(always)]
+fn march_days(year: u32, month: u32, day: u32) -> u32
+    requires year { year ≤ 20_000 }
+    requires month { IsInRange 3 14 month }
+    requires day { IsInRange 1 31 day }
+    ensures value { result ≡ days_of_march_years year + march_months month + day + 59 }
+    ensures bound { result < 7_400_000 }
+{
+    let century = year / 100;
+    let of_years = 1_461 * year / 4 - century + century / 4;
+    let of_months = (979 * month - 2_919) / 32;
+    of_years + of_months + day + 59
+}
