@@ -11,7 +11,7 @@ use Rattle.syslog_pieces.specs.Pieces.View.{shown, Reads}
 use Rattle.syslog_pieces.specs.Pieces.Class.{Text, Class, Front, NoFront, run, optional}
 use Rattle.syslog_pieces.specs.Pri.{priority, priority_text}
 use Rattle.syslog_pieces.specs.Text.{trimmed, is_blank}
-use Rattle.syslog_pieces.specs.Timestamp.{IsAnswer, header_stamp, stamp_seen}
+use Rattle.syslog_pieces.specs.Timestamp.{IsAnswer, clock_value, header_stamp, stamp_seen}
 use Rattle.syslog_pieces.specs.Timestamp.Canonical.{IsCanonicalStamp}
 use Rattle.syslog_pieces.specs.Timestamp.Rfc3164.{rfc3164_stamp, ShowsYearless, ShowsMonthDate}
 use Rattle.syslog_pieces.specs.Timestamp.MonthDate.{yearless_date, month_date}
@@ -169,16 +169,16 @@ module _ (variant : Variant) (text : Text) {follows : Text} {p : Option ℕ}
     pub dated_left : IsLeftTo3164 variant text
     dated_left = left_to_try variant text b.reads (λ n. dated_unread)
 
-    pub dated_front : (dating : Dating) (c : ClockStamp) → IsMonthStamp dating d c.stamp
+    pub dated_front : (dating : Dating) (c : ClockStamp) → IsMonthStamp dating d (clock_value c)
         → IsBehindStamp dating (trimmed text) (record { priority = p; timestamp = Some c }) q
     dated_front dating c h =
-        row_of (stamped_row dating) (f then b.gap then date_front dating c.stamp b.front h then refl)
+        row_of (stamped_row dating) (f then b.gap then date_front dating (clock_value c) b.front h then refl)
 
     pub dated_known : (post : IncompleteDate → ℤ → Type 0) (tz : Option (Bor TimeZone)) (local : Bor TimeZone)
         (asked : Option IncompleteDate) (year : Option ℤ) (c : ClockStamp)
         → MatchOption asked (IsSome d.year) (λ x. (d.year ≡ None) × (x ≡ incomplete d))
         → MatchOption asked (year ≡ None) (λ x. IsSomeAnd year (λ y. post x y))
-        → IsMonthStamp (dating_of year tz local) d c.stamp
+        → IsMonthStamp (dating_of year tz local) d (clock_value c)
         → IsStamped post variant text tz local year (record { priority = p; timestamp = Some c }) q
     dated_known post tz local asked year c told is h = record {
       answered = date_answered post asked year told is;
