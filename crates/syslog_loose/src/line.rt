@@ -19,18 +19,18 @@ ghost use Rattle.syslog_loose.specs.Start.{IsBehindPriority};
 ghost use Rattle.syslog_loose.specs.declared.variant.Variant.TheVariants.{RFC3164};
 
 use crate::message::{
-    make_room, print, write_clock, write_name, write_process, write_read_priority, write_spaced,
+    make_room, print, read_priority, write_clock, write_name, write_process, write_spaced,
 };
 use crate::rfc5424::{Front, Header, process_of, read_behind, read_header};
 use crate::variant::Variant;
 use std::alloc::{AllocError, Global};
 use std::fmt;
 use std::fmt::Write;
+use syslog_pieces::pri::write_priority_and_version;
 use syslog_pieces::procid::ProcId;
 use syslog_pieces::structured_data::printed_list;
 use syslog_pieces::text::blanks;
 use syslog_pieces::text::verbatim::{before, is_one_space};
-use syslog_pieces::text::write_ascii::write_number;
 
 // A line, its elements without what is left out of them: its header and what stands behind that, the elements and
 // what stands behind them, and the message.
@@ -48,8 +48,7 @@ struct Line<'a> {
 fn write_front<W: fmt::Write>(f: &mut fmt::Formatter<W>, front: Front) -> fmt::Result
     ensures { WritesOnOk W.write_str_gives f.old result (spec.front_bytes front) f.new }
 {
-    write_read_priority(f, front.priority)?;
-    write_number(f, front.version)?;
+    write_priority_and_version(f, read_priority(front.priority), front.version)?;
     write_clock(f, front.timestamp)
 }
 

@@ -19,7 +19,7 @@ mod room;
 pub(crate) use canonical::is_canonical_time;
 pub(crate) use exceptions::{has_no_exception, has_no_name_exception};
 pub(crate) use printing::{
-    write_clock, write_elements, write_name, write_process, write_read_priority, write_timestamp,
+    read_priority, write_clock, write_elements, write_name, write_process, write_timestamp,
 };
 use printing::{write_elements_before, write_tag};
 pub(crate) use room::{make_room, print};

@@ -26,7 +26,7 @@ use crate::fault::ParseFault;
 use crate::jumps::write_round;
 use crate::line::rfc5424_text;
 use crate::message::{
-    has_no_exception, is_canonical_time, make_room, print, write_clock, write_read_priority,
+    has_no_exception, is_canonical_time, make_room, print, read_priority, write_clock,
 };
 use crate::reading::{asked_numbers, front_date, front_stamp};
 use crate::rfc3164::{Stamped, read_behind, stands_as_printed};
@@ -35,7 +35,7 @@ use jiff::tz::TimeZone;
 use std::alloc::{AllocError, Global};
 use std::fmt;
 use std::fmt::Write;
-use syslog_pieces::pri::optional_priority;
+use syslog_pieces::pri::{optional_priority, write_priority};
 use syslog_pieces::structured_data::rfc3164_list::DASH_RULE;
 use syslog_pieces::text::trimmed;
 use syslog_pieces::timestamp::stamp_of;
@@ -177,7 +177,8 @@ impl fmt::Display for Stamped {
         ++ (32 ∷ encode_utf8_all (timestamp_text (stamp_seen s.timestamp)))) };
 
     fn fmt<W: fmt::Write>(&self, f: &mut fmt::Formatter<W>) -> fmt::Result {
-        write_read_priority(f, self.priority)?;
+        write_priority(f, read_priority(self.priority))?;
+        f.write_str(" ")?;
         write_clock(f, self.timestamp)
     }
 }

@@ -8,10 +8,11 @@ use Rattle.std.proofs.lemmas.Option.{slice_get_past}
 use Rattle.std.proofs.lemmas.Str.{IsAscii-append}
 use Rattle.std.proofs.lemmas.Str.Ascii.{IsAscii-cons}
 use Rattle.std.specs.Char.{is_ascii_digit}
+use Rattle.std.specs.Fmt.{decimal}
 use Rattle.std.specs.Str.{chars, IsUtf8, IsAscii, IsCharBoundary}
 use Rattle.std.specs.Str.Parse.{digits_value}
 use Rattle.jiff_fmt.specs.Text.{pad2}
-use Rattle.syslog_pieces.specs.Bodies.Looks.{IsPriorityBytes, LeadsAlone}
+use Rattle.syslog_pieces.specs.Bodies.Looks.{IsPriorityBytes}
 use Rattle.syslog_pieces.specs.Pieces.Class.{Text, Each, Front, NoFront, IsDeterministic, Row, Values}
 use Rattle.syslog_pieces.specs.Text.{number}
 use Rattle.syslog_pieces.specs.Pri.{priority, priority_text, priority_row, facility_number, severity_number}
@@ -25,7 +26,6 @@ use Rattle.syslog_pieces.proofs.PieceLemmas.Rows.{Fails, no_row, row_pieces}
 use Rattle.syslog_pieces.proofs.TextLemmas.Chars.{ascii_ahead, digits_ascii, one_ascii}
 use Rattle.syslog_pieces.proofs.TextLemmas.Decimals.{digit_is, one_digit, two_digits, three_digits}
 use Rattle.syslog_pieces.proofs.TextLemmas.Looks.{behind_cut, behind_is, behind_chars}
-use Rattle.syslog_pieces.proofs.TextLemmas.Verbatim.{decimal_stands}
 use Rattle.syslog_pieces.proofs.TextLemmas.Words.{number_det}
 
 pub priority_row_det : AllDeterministic priority_row
@@ -140,22 +140,15 @@ pub severity_composed : (f : SyslogFacility) (s : SyslogSeverity) → severity_o
 severity_composed f s = let low = severity_low s in let e : composed f s % 8 ≡ severity_number s = omega arith in
     ap (slice_get severities) e ∙ severity_placed s
 
--- ---- a priority that prints as it stands
+-- ---- what is printed
 
--- the digits of a priority, where no zero leads others behind the bracket
-pub priority_stands : (bs : List ℕ) → IsUtf8 bs → LeadsAlone (drop 1 bs) → (rest : Text) (n : ℕ)
-    → Front priority (chars bs) rest n → chars bs ≡ priority_text n ++ rest
-priority_stands bs u lead rest n f =
-    let row : Front (Row priority_row) (chars bs) rest (tt, (n, (tt, tt))) =
-    record { piece = f.piece; whole = f.whole; is = f.is } in
-    let (a, bracket, (b, digits, (q, close, end))) = row_pieces priority_row row in
-    let (some, each, _, value, low) = digits.is in
-    let ds = digits.piece in
-    let whole : chars bs ≡ 60 ∷ (ds ++ b) = cc (begins 60 (chars bs) a bracket, digits.whole) in
-    let e = ascii_ahead (60 ∷ ds) b bs u (IsAscii-cons 60 ds (omega arith) (digits_ascii ds each)) whole in
-    let d = decimal_stands (drop 1 bs) ds _ n 255 lead (ap (drop 1) e) some each value low (omega arith) in
-    let behind : b ≡ 62 ∷ rest = cc (begins 62 b q close, end) in
-    simp append_assoc (rw (d, behind) at whole)
+pub two_with_version : (n v : ℕ) → 10 ≤ n → n < 100 → v < 10
+    → priority_text n ++ (decimal v ++ (32 ∷ [])) ≡ 60 ∷ (pad2 n ++ (62 ∷ (48 + v) ∷ 32 ∷ []))
+two_with_version n v l h w = rw (two_digits n l h, one_digit v w) refl
 
--- what the printer rests on
+pub three_with_version : (n v : ℕ) → 100 ≤ n → n < 1_000 → v < 10
+    → priority_text n ++ (decimal v ++ (32 ∷ [])) ≡ 60 ∷ (pad3 n ++ (62 ∷ (48 + v) ∷ 32 ∷ []))
+three_with_version n v l h w = rw (three_digits n l h, one_digit v w) refl
+
+-- what the printer of a priority rests on
 pub ruleset decimals = (one_digit, two_digits, three_digits)

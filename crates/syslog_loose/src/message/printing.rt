@@ -1,12 +1,11 @@
 //! The parts of a printed message. Each field is written behind a space, and as `-` where it is absent.
-ghost use Rattle.std.specs.Prelude.{◌∷◌, map};
+ghost use Rattle.std.specs.Prelude.{◌≡◌, ◌∷◌, map};
 ghost use Rattle.std.specs.Fmt.{WritesOnOk};
 ghost use Rattle.std.specs.Option.{option_map};
 ghost use Rattle.std.specs.Str.{encode_utf8_all};
 ghost use Rattle.syslog_pieces.specs.StructuredData.Element.{element_value};
 ghost use Rattle.syslog_pieces.specs.ProcId.{procid_value};
 ghost use Rattle.syslog_pieces.specs.Pieces.View.{text_of};
-ghost use Rattle.syslog_pieces.specs.Pri.{priority_text};
 ghost use Rattle.syslog_pieces.specs.Timestamp.{stamp_seen};
 ghost use Rattle.syslog_loose.specs.Formats.{printed_number};
 ghost use Rattle.syslog_loose.specs.Printed as spec;
@@ -15,21 +14,18 @@ use super::priority;
 use std::fmt;
 use std::fmt::Display;
 use syslog_pieces::as_str::AsStr;
-use syslog_pieces::pri::{parts, write_priority};
+use syslog_pieces::pri::parts;
 use syslog_pieces::procid::ProcId;
 use syslog_pieces::structured_data::StructuredElement;
 use syslog_pieces::timestamp::{ClockStamp, OffsetTimestamp};
 
-/// Writes the priority of a message that was read behind this one.
+/// The composed priority of a message that is read behind this one.
 #[inline(always)]
-pub(crate) fn write_read_priority<W: fmt::Write>(
-    f: &mut fmt::Formatter<W>,
-    number: Option<u8>,
-) -> fmt::Result
-    ensures { WritesOnOk W.write_str_gives f.old result (priority_text (printed_number number)) f.new }
+pub(crate) fn read_priority(number: Option<u8>) -> u32
+    ensures { result ≡ printed_number number }
 {
     let (facility, severity) = parts(number);
-    write_priority(f, priority(facility, severity))
+    priority(facility, severity)
 }
 
 /// Writes a space and a name.
@@ -68,21 +64,18 @@ pub(crate) fn write_timestamp<W: fmt::Write>(
     }
 }
 
-/// The same of one that was read.
+/// Writes a timestamp that was read.
 #[inline(always)]
 pub(crate) fn write_clock<W: fmt::Write>(
     f: &mut fmt::Formatter<W>,
     timestamp: Option<ClockStamp>,
 ) -> fmt::Result
     ensures { WritesOnOk W.write_str_gives f.old result
-        (32 ∷ encode_utf8_all (spec.timestamp_text (stamp_seen timestamp))) f.new }
+        (encode_utf8_all (spec.timestamp_text (stamp_seen timestamp))) f.new }
 {
     match timestamp {
-        Some(stamp) => {
-            f.write_str(" ")?;
-            stamp.fmt(f)
-        }
-        None => f.write_str(" -"),
+        Some(stamp) => stamp.fmt(f),
+        None => f.write_str("-"),
     }
 }
 

@@ -4,7 +4,9 @@ use Rattle.syslog_pieces.proofs.Names.{false, List, [], ◌∷◌, ◌++◌, ap,
 use Rattle.syslog_pieces.proofs.Names.{decimal_digit, encodes-IsAscii, IsAscii-nil, IsAscii-cons, digits_onto}
 use Rattle.syslog_pieces.proofs.Names.{digit_glyph, decimal, signed_decimal, is_ascii_digit, digit_value, IsAscii}
 use Rattle.syslog_pieces.proofs.Names.{encode_utf8_all, is_blank}
-use Rattle.std.proofs.Common.{◌/◌}
+use Rattle.std.proofs.Common.{◌/◌, ◌*◌, get_or, nat_eq, refl}
+use Rattle.syslog_pieces.specs.declared.text.write_ascii.TheConstants.{PAIRS}
+use Rattle.std.proofs.lemmas.Bool.{agree_below_at, eqb-true}
 use Rattle.std.proofs.lemmas.Fmt.{decimal_step}
 use Rattle.std.proofs.lemmas.Str.{digit_value_digit}
 use Rattle.std.specs.Fmt.{digits}
@@ -67,6 +69,13 @@ four_digits n l h =
 pub five_digits : (n : ℕ) → 10_000 ≤ n → n < 100_000 → decimal n ≡ (48 + n / 10_000) ∷ pad4 (n % 10_000)
 five_digits n l h =
     let e = last_digit n _ (omega arith) (omega arith) (four_digits (n / 10) (omega arith) (omega arith)) in grind arith
+
+-- the table of pairs is held against the digits at each number below 100, by computing
+pub pairs_at : (n : ℕ) → n < 100 → (get_or PAIRS (2 * n) 0 ≡ 48 + n / 10) × (get_or PAIRS (2 * n + 1) 0 ≡ 48 + n % 10)
+pairs_at n l = (
+  eqb-true _ _ (agree_below_at (λ k. nat_eq (get_or PAIRS (2 * k) 0) (48 + k / 10)) (λ _. true) 100 n refl l),
+  eqb-true _ _ (agree_below_at (λ k. nat_eq (get_or PAIRS (2 * k + 1) 0) (48 + k % 10)) (λ _. true) 100 n refl l),
+)
 
 -- the decimal text of a number below 100,000
 pub ruleset few_digits = (one_digit, two_digits, three_digits, four_digits, five_digits)

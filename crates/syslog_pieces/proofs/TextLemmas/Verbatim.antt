@@ -1,12 +1,8 @@
--- Words, hosts, gaps and numbers that stand as they print.
-use Rattle.syslog_pieces.proofs.Names.{◌≡◌, ℕ, ◌<◌, ◌≤◌, [], ◌∷◌, refl, ◌^◌, List, length, get_or, Option, Some, None}
-use Rattle.syslog_pieces.proofs.Names.{inl, inr, sym, ap, ◌∙◌, arith, decimal-digits_value, is_ascii_digit, decimal}
-use Rattle.syslog_pieces.proofs.Names.{chars, digits_value, Text, Front, word, host, IsHost, number, name_text, Names}
-use Rattle.syslog_pieces.proofs.Names.{◌++◌, Each, IsUtf8, drop, suc}
-use Rattle.syslog_pieces.specs.Bodies.Looks.{LeadsAlone}
-use Rattle.syslog_pieces.proofs.TextLemmas.Chars.{ascii_ahead, ascii_front, digits_ascii, one_ascii}
+-- Words, hosts and gaps that stand as they print.
+use Rattle.syslog_pieces.proofs.Names.{◌≡◌, ℕ, [], ◌∷◌, List, length, Option, Some, None, inl, inr, sym, ap, ◌∙◌, arith}
+use Rattle.syslog_pieces.proofs.Names.{chars, Text, Front, word, host, IsHost, name_text, Names, ◌++◌, IsUtf8, drop, suc}
+use Rattle.syslog_pieces.proofs.TextLemmas.Chars.{ascii_front, one_ascii}
 use Rattle.syslog_pieces.proofs.TextLemmas.Cuts.{behind_one}
-use Rattle.syslog_pieces.proofs.TextLemmas.Words.{own}
 
 names_text : (p : Text) (v : Option Text) → Names p v → p ≡ name_text v
 names_text p None m = m
@@ -30,25 +26,3 @@ pub space_stands : (t r : List ℕ) → IsUtf8 t → IsUtf8 r → (gap : Text) �
     → length t ≡ suc (length r) → chars t ≡ 32 ∷ chars r
 space_stands t r u z gap e f l = ascii_front (32 ∷ []) r t (one_ascii 32 (omega arith))
     (f ∙ ap (λ (x : List ℕ). 32 ∷ x) (behind_one t r u z gap e l))
-
-leads_alone : (p bs : List ℕ) → LeadsAlone (p ++ bs) → 0 < length p → Each is_ascii_digit p
-    → get_or p 0 0 ≡ 48 → length p ≡ 1
-leads_alone [] bs h l a z = absurd (omega arith)
-leads_alone (c ∷ []) bs h l a z = refl
-leads_alone (c ∷ d ∷ p) bs h l a z = absurd (let n = h z in let y = a.1.0 in cc)
-
--- the digits of a number stand as it prints where no zero leads others
-pub decimal_stands : (bs p q : List ℕ) (n limit : ℕ) → LeadsAlone bs → bs ≡ p ++ q → 0 < length p
-    → Each is_ascii_digit p → n ≡ digits_value 10 p → n ≤ limit → limit < 2 ^ 64 → p ≡ decimal n
-decimal_stands bs p q n limit lead e some each value low small =
-    sym (ap decimal value ∙ decimal-digits_value own p each some (leads_alone p q (rw e at lead) some each)
-    (omega (arith, value, low)))
-
--- so a number does, in bytes
-pub number_stands : (bs : List ℕ) → IsUtf8 bs → LeadsAlone bs → (rest : Text) (n : ℕ)
-    → Front (number 4294967295) (chars bs) rest n → chars bs ≡ decimal n ++ rest
-number_stands bs u lead rest n f =
-    let (some, each, _, value, low) = f.is in
-    let e = ascii_ahead f.piece rest bs u (digits_ascii f.piece each) f.whole in
-    f.whole ∙ ap (λ (x : Text). x ++ rest)
-    (decimal_stands bs f.piece _ n 4294967295 lead e some each value low (omega arith))

@@ -1,6 +1,5 @@
 -- What the first bytes of a text are.
-use Rattle.std.specs.Prelude.{◌≡◌, ◌≢◌, ◌⊎◌, ℕ, ◌+◌, ◌<◌, List, ◌∷◌, ◌++◌, false, length, slice_index}
-use Rattle.std.specs.Char.{is_ascii_digit}
+use Rattle.std.specs.Prelude.{◌≡◌, ◌≢◌, ◌⊎◌, ℕ, ◌+◌, ◌<◌, List, ◌∷◌, ◌++◌, length, slice_index}
 use Rattle.jiff_fmt.specs.Text.{pad2}
 use Rattle.syslog_pieces.specs.Timestamp.Printed.{pad3}
 
@@ -11,10 +10,6 @@ BeginsVisibly bytes = (0 < length bytes) × (32 < slice_index bytes 0)
 -- a space, and then such a byte
 abbrev pub BeginsWithGap : List ℕ → Type 0
 BeginsWithGap bytes = (1 < length bytes) × (slice_index bytes 0 ≡ 32) × (32 < slice_index bytes 1)
-
--- no zero stands before a further digit
-abbrev pub LeadsAlone : List ℕ → Type 0
-LeadsAlone bytes = slice_index bytes 0 ≡ 48 → is_ascii_digit (slice_index bytes 1) ≡ false
 
 -- no sign and no zero stands before a further byte, but for a space
 abbrev pub LeadsBare : List ℕ → Type 0

@@ -55,14 +55,6 @@ pub(crate) fn begins_with_digit(bytes: &[u8]) -> bool
     matches!(bytes, [b'0'..=b'9', ..])
 }
 
-/// Whether a zero begins the bytes, and behind it stands a further digit.
-#[inline(always)]
-pub(crate) fn leads_with_zero(bytes: &[u8]) -> bool
-    ensures { OnFalse result (spec.LeadsAlone bytes.now) }
-{
-    matches!(bytes, [b'0', b'0'..=b'9', ..])
-}
-
 /// Whether a byte from `A` on begins the bytes, as each letter is.
 #[inline(always)]
 pub(crate) fn begins_with_letter(bytes: &[u8]) -> bool

@@ -1,13 +1,12 @@
 //! What stands in a text as it prints, told by a few bytes; and what stands before a rest of it.
 //!
 //! Each test may always answer no: then the piece is printed instead.
-ghost use Rattle.std.specs.Prelude.{◌≡◌, ◌∷◌, ◌++◌, ℕ, IsTrue};
-ghost use Rattle.std.specs.Fmt.{decimal};
+ghost use Rattle.std.specs.Prelude.{◌≡◌, ◌∷◌, ◌++◌, IsTrue};
 ghost use Rattle.std.specs.Str.{chars};
-ghost use Rattle.syslog_pieces.specs.Pieces.Class.{Text, Each, Front};
+ghost use Rattle.syslog_pieces.specs.Pieces.Class.{Text, Each};
 ghost use Rattle.syslog_pieces.specs.Text as spec;
 
-use crate::text::looks::{begins_with, leads_with_zero};
+use crate::text::looks::begins_with;
 
 /// Whether one space is all that stands between a text and a rest of it behind blanks: so it prints as it stands.
 #[inline(always)]
@@ -16,15 +15,6 @@ pub fn is_one_space(text: &str, rest: &str) -> bool
     ensures { IsTrue result → chars text.now ≡ 32 ∷ chars rest.now }
 {
     begins_with(text.as_bytes(), b' ') && text.len() - 1 == rest.len()
-}
-
-/// Whether the number at the front of the text prints as it stands: it has no leading zero.
-#[inline(always)]
-pub fn number_stands(text: &str) -> bool
-    ensures { IsTrue result → (rest : Text) (n : ℕ) → Front (spec.number 4294967295) (chars text.now) rest n
-        → chars text.now ≡ decimal n ++ rest }
-{
-    !leads_with_zero(text.as_bytes())
 }
 
 /// What stands in the text before a rest of it.

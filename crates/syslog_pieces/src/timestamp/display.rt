@@ -9,7 +9,7 @@ ghost use Rattle.syslog_pieces.specs.Timestamp.Printed as spec;
 
 use super::fields::{CivilFields, datetime_fields};
 use super::{ClockStamp, OffsetTimestamp};
-use crate::text::write_ascii::{digit, three_digits, write_bytes};
+use crate::text::write_ascii::{digit, three_digits, two_digits, write_bytes};
 use jiff::tz::Offset;
 use std::fmt;
 
@@ -89,28 +89,15 @@ fn bytes_of(year: u32, month: u32, day: u32, hour: u32, minute: u32, second: u32
     ensures ascii { AllByRecursion (λ b. b < 128) result }
     ensures text { result ≡ spec.unsigned_date_time year month day hour minute second }
 {
-    let century = year / 100;
-    let year = year % 100;
+    let [y, e] = two_digits(year / 100);
+    let [a, r] = two_digits(year % 100);
+    let [m, o] = two_digits(month);
+    let [d, t] = two_digits(day);
+    let [h, u] = two_digits(hour);
+    let [i, n] = two_digits(minute);
+    let [s, c] = two_digits(second);
     [
-        digit(century / 10),
-        digit(century % 10),
-        digit(year / 10),
-        digit(year % 10),
-        b'-',
-        digit(month / 10),
-        digit(month % 10),
-        b'-',
-        digit(day / 10),
-        digit(day % 10),
-        b'T',
-        digit(hour / 10),
-        digit(hour % 10),
-        b':',
-        digit(minute / 10),
-        digit(minute % 10),
-        b':',
-        digit(second / 10),
-        digit(second % 10),
+        y, e, a, r, b'-', m, o, b'-', d, t, b'T', h, u, b':', i, n, b':', s, c,
     ]
 }
 
@@ -121,16 +108,12 @@ fn behind_dot(n: u32) -> [u8; 4]
     ensures ascii { AllByRecursion (λ b. b < 128) result }
     ensures text { result ≡ 46 ∷ spec.pad3 n }
 {
-    [
-        b'.',
-        digit(n / 100),
-        digit(n / 10 % 10),
-        digit(n % 10),
-    ]
+    [b'.', digit(n / 100), digit(n / 10 % 10), digit(n % 10)]
 }
 
 // A dot and the least of 3, 6 or 9 decimals that is exact, or nothing for 0.
 #[tactic(auto, unfolding(crate::specs::Timestamp::Printed::fraction_text))]
+#[inline(always)]
 fn write_fraction<W: fmt::Write>(f: &mut fmt::Formatter<W>, nanosecond: u32) -> fmt::Result
     requires { nanosecond < 1_000_000_000 }
     ensures { WritesOnOk W.write_str_gives f.old result (spec.fraction_text nanosecond) f.new }
@@ -151,6 +134,7 @@ fn write_fraction<W: fmt::Write>(f: &mut fmt::Formatter<W>, nanosecond: u32) -> 
 
 // A sign and `HH:MM`.
 #[tactic(auto, unfolding(crate::specs::Timestamp::Printed::offset_text))]
+#[inline(always)]
 fn write_offset<W: fmt::Write>(f: &mut fmt::Formatter<W>, seconds: i32) -> fmt::Result
     requires { IsOffsetSeconds seconds }
     ensures { WritesOnOk W.write_str_gives f.old result (spec.offset_text seconds) f.new }
@@ -159,18 +143,8 @@ fn write_offset<W: fmt::Write>(f: &mut fmt::Formatter<W>, seconds: i32) -> fmt::
         return f.write_str("+00:00");
     }
     let minutes = (seconds.unsigned_abs() + 30) / 60;
-    let hour = minutes / 60;
-    let minute = minutes % 60;
+    let [h, u] = two_digits(minutes / 60);
+    let [i, n] = two_digits(minutes % 60);
     let sign = if seconds < 0 { b'-' } else { b'+' };
-    write_bytes(
-        f,
-        &[
-            sign,
-            digit(hour / 10),
-            digit(hour % 10),
-            b':',
-            digit(minute / 10),
-            digit(minute % 10),
-        ],
-    )
+    write_bytes(f, &[sign, h, u, b':', i, n])
 }
