@@ -27,7 +27,6 @@ use Rattle.syslog_pieces.proofs.TextLemmas.Decimals.{encodes-decimal}
 use Rattle.syslog_pieces.proofs.TextLemmas.Runs.{some_front_run}
 use Rattle.syslog_pieces.proofs.TimestampLemmas.MonthDate.{month_date_begins}
 use Rattle.syslog_pieces.proofs.TimestampLemmas.Months.{IsLetter}
-use Rattle.syslog_pieces.proofs.TimestampLemmas.Printing.{printed_stamp-bytes}
 use Rattle.syslog_pieces.proofs.TimestampLemmas.Rfc3164.{IsLow, date_front, header_front, header_stamp_begins, no_date}
 use Rattle.syslog_pieces.proofs.TimestampLemmas.Rfc3164.{no_stamp_of_date}
 use Rattle.syslog_loose.specs.Formats.{printed_number}
@@ -252,11 +251,6 @@ reads_so : (variant : Variant) (dating : Dating) (text : Text) (m : MessageValue
 reads_so RFC5424 dating text m left r = absurd left
 reads_so RFC3164 dating text m left r = r
 reads_so Either dating text m left r = inr (left, r)
-
-stamp_bytes : (v : Option OffsetTimestamp) → encode_utf8_all (timestamp_text v) ≡ timestamp_text v
-unfolding encode_utf8
-stamp_bytes None = refl
-stamp_bytes (Some stamp) = printed_stamp-bytes stamp
 
 dated_bytes : (number : ℕ) (v : Option OffsetTimestamp) (tail : List ℕ) → IsUtf8 tail
     → (priority_text number ++ (32 ∷ encode_utf8_all (timestamp_text v))) ++ tail

@@ -29,7 +29,7 @@ pub(crate) fn read_priority(number: Option<u8>) -> u32
 }
 
 /// Writes a space and a name.
-#[inline]
+#[inline(always)]
 pub(crate) fn write_name<S: AsStr, W: fmt::Write>(
     f: &mut fmt::Formatter<W>,
     name: &Option<S>,
