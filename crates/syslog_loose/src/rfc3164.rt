@@ -122,7 +122,7 @@ fn is_plain_program(name: &str) -> bool
 }
 
 /// Whether the text behind a timestamp prints as it stands: its names, no list, and its message. It may always answer
-/// no: then the line is read and printed. `IS_DATED` tells the two callers apart: each has a body of its own, in place.
+/// no: then the line is read and printed.
 #[inline(always)]
 pub(crate) fn stands_as_printed(text: &str) -> bool
     ensures prints { IsTrue result → PrintsBehind (chars text.now) }
