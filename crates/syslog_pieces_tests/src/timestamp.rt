@@ -7,7 +7,7 @@ use jiff::tz::Offset;
 use std::alloc::Global;
 use std::process::Abort;
 use syslog_pieces::timestamp::canonical::is_canonical_stamp;
-use syslog_pieces::timestamp::{OffsetTimestamp, header_stamp, rfc3339};
+use syslog_pieces::timestamp::{OffsetTimestamp, header_stamp, rfc3339, stamp_of};
 
 fn prints_as(alloc: Global, stamp: &OffsetTimestamp, want: &str) -> bool {
     match format!(in alloc; "{stamp}") {
@@ -246,7 +246,7 @@ fn has_optional_stamp(alloc: Global, row: &str, stamp: Option<OffsetTimestamp>) 
 // A row is a text, what the timestamp at its front prints as, and what is left; or the text of no timestamp.
 fn reads_header_stamp(alloc: Global, row: &str) -> bool {
     match header_stamp(text_of(row)) {
-        Some((stamp, rest)) => has_optional_stamp(alloc, row, stamp) && rest == left_of(row),
+        Some((clock, rest)) => has_optional_stamp(alloc, row, stamp_of(clock)) && rest == left_of(row),
         None => answer_of(row).is_none(),
     }
 }

@@ -1,13 +1,12 @@
 //! The timestamp of a header of RFC 3164.
 ghost use Rattle.std.specs.Str.{chars};
 ghost use Rattle.syslog_pieces.specs.Pieces.View.{Reads};
-ghost use Rattle.syslog_pieces.specs.Timestamp.{stamp_seen};
 ghost use Rattle.syslog_pieces.specs.Timestamp.Rfc3164 as spec;
 ghost use Rattle.syslog_pieces.specs.Timestamp.Zone.{dating_value};
 
 use super::month_date::month_date;
 use super::zone::{Dating, month_stamp};
-use super::{ClockStamp, header_stamp};
+use super::{OffsetTimestamp, header_stamp, stamp_of};
 
 /// The timestamp at the front of a header's text, absent for `-`, and the text behind it. It is `-`, an RFC 3339 text
 /// before a space, or a month date.
@@ -19,14 +18,14 @@ use super::{ClockStamp, header_stamp};
 pub fn rfc3164_stamp<'a>(
     text: &'a str,
     dating: &Dating<'_, '_>,
-) -> Option<(Option<ClockStamp>, &'a str)>
-    ensures { Reads (spec.rfc3164_stamp (dating_value dating.entry.now)) stamp_seen (chars text.now) result }
+) -> Option<(Option<OffsetTimestamp>, &'a str)>
+    ensures { Reads (spec.rfc3164_stamp (dating_value dating.entry.now)) (λ s. s) (chars text.now) result }
 {
     match header_stamp(text) {
-        Some(found) => return Some(found),
+        Some((clock, rest)) => return Some((stamp_of(clock), rest)),
         None => {}
     }
     let (date, rest) = month_date(text)?;
-    let stamp = month_stamp(date, dating)?;
-    Some((Some(stamp), rest))
+    let clock = month_stamp(date, dating)?;
+    Some((Some(clock.stamp()), rest))
 }
