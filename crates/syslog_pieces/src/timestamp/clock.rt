@@ -6,7 +6,8 @@ ghost use Rattle.syslog_pieces.specs.Timestamp.Fields.{AreCivil, nanos_of_fields
 use super::fields::CivilFields;
 use jiff::tz::Offset;
 
-/// The civil fields that a clock at an offset shows. They are what is read and what prints, so neither needs an instant.
+/// The civil fields that a clock at an offset shows. They are what is read and what prints, so neither needs an
+/// instant.
 #[derive(Clone, Copy)]
 pub struct ClockStamp {
     /// What the clock shows.

@@ -1,15 +1,11 @@
-//! Civil fields as numbers, the datetime that they name, and its instant at an offset.
-ghost use Rattle.std.specs.Prelude.{◌≡◌, ◌↔◌, ◌<◌, ◌≤ℤ◌, ◌<ℤ◌, ◌-ℤ◌, ◌^◌, pos, IsNone, IsTrue, IfSome, SomeIff};
+//! Civil fields as numbers, and the datetime that they name.
+ghost use Rattle.std.specs.Prelude.{◌≡◌, ◌<◌, ◌^◌, pos, IsNone, IfSome, SomeIff};
 ghost use Rattle.std.specs.Int.{w16};
 ghost use Rattle.std.specs.Int.RustNames.{FitsSigned};
-ghost use Rattle.jiff.specs.Words.{IsDate, IsYmd, IsTime, IsHms, IsTimestampNanos, nanos_of_seconds};
-ghost use Rattle.syslog_pieces.specs.Bodies.Clock.{IsStampOfClock};
-ghost use Rattle.syslog_pieces.specs.Timestamp.{IsAnswer};
-ghost use Rattle.syslog_pieces.specs.Timestamp.Fields.{AreCivil, fields_of, nanos_of_fields};
+ghost use Rattle.jiff.specs.Words.{IsDate, IsYmd, IsTime, IsHms};
+ghost use Rattle.syslog_pieces.specs.Timestamp.Fields.{AreCivil, fields_of};
 
-use super::ClockStamp;
 use jiff::civil::DateTime;
-use jiff::tz::Offset;
 
 /// A year, month, day, hour, minute, second and nanosecond, of which there may be no such datetime.
 #[derive(Clone, Copy)]
@@ -38,46 +34,6 @@ impl CivilFields {
         let second = small(self.second)?;
         let nanosecond = nanosecond_number(self.nanosecond)?;
         datetime_of(year, month, day, hour, minute, second, nanosecond)
-    }
-}
-
-// Whether the date is one that each month has, in a year from 0 to 9998. Most are, and then no calendar is asked.
-#[inline(always)]
-fn is_early(fields: CivilFields) -> bool
-    ensures civil { IsTrue result → AreCivil fields }
-    ensures year { IsTrue result → (pos 0 ≤ℤ fields.year) × (fields.year <ℤ pos 9999) }
-{
-    let year = fields.year >= 0 && fields.year < 9999;
-    let date = fields.month >= 1 && fields.month <= 12 && fields.day >= 1 && fields.day <= 28;
-    let clock = fields.hour < 24 && fields.minute < 60 && fields.second < 60;
-    year && date && clock && fields.nanosecond < 1_000_000_000
-}
-
-/// The timestamp of the fields on a clock at this offset, if there are such a date and time of day, and the instant is
-/// in range.
-#[inline(always)]
-pub fn clock_stamp(fields: CivilFields, offset: Offset) -> Option<ClockStamp>
-    ensures { IsAnswer (IsStampOfClock fields offset) result }
-{
-    if is_early(fields) {
-        return Some(ClockStamp { fields, offset });
-    }
-    if is_there(fields, offset) {
-        Some(ClockStamp { fields, offset })
-    } else {
-        None
-    }
-}
-
-// Whether there are such a date and time of day, and the instant is in range.
-#[inline(never)]
-fn is_there(fields: CivilFields, offset: Offset) -> bool
-    ensures { IsTrue result ↔ AreCivil fields
-        × IsTimestampNanos (nanos_of_fields fields -ℤ nanos_of_seconds offset.seconds) }
-{
-    match fields.datetime() {
-        Some(dt) => offset.to_timestamp(dt).is_ok(),
-        None => false,
     }
 }
 

@@ -1,16 +1,59 @@
-//! The instant of what a clock shows, by its own arithmetic: no calendar is asked, and no datetime is made.
-ghost use Rattle.std.specs.Prelude.{◌≡◌, ◌+◌, ◌*◌, ◌<◌, ◌≤◌, ◌+ℤ◌, ◌-ℤ◌, ◌*ℤ◌, ◌≤ℤ◌, neg_ℤ, pos};
+//! Whether there is a timestamp of civil fields on a clock, and its instant, by its own arithmetic: of most dates no
+//! calendar is asked, and no datetime is made of any for its instant.
+ghost use Rattle.std.specs.Prelude.{◌≡◌, ◌↔◌, ◌+◌, ◌*◌, ◌<◌, ◌≤◌, ◌+ℤ◌, ◌-ℤ◌, ◌*ℤ◌, ◌≤ℤ◌, ◌<ℤ◌};
+ghost use Rattle.std.specs.Prelude.{neg_ℤ, pos, IsTrue};
 ghost use Rattle.std.specs.Int.{IsInRange};
 ghost use Rattle.jiff.specs.Words.{IsOffsetSeconds, IsTimestampNanos, nanos_of_seconds};
 ghost use Rattle.jiff_core.specs.Calendar.{day_count};
 ghost use Rattle.jiff_core.specs.March.{march_days as days_of_march_years, march_months};
-ghost use Rattle.syslog_pieces.specs.Timestamp.{clock_value, stamp_seen};
+ghost use Rattle.syslog_pieces.specs.Bodies.Clock.{IsStampOfClock};
+ghost use Rattle.syslog_pieces.specs.Timestamp.{IsAnswer, clock_value, stamp_seen};
 ghost use Rattle.syslog_pieces.specs.Timestamp.Fields.{AreCivil, nanos_of_fields};
 
 use super::fields::CivilFields;
 use super::{ClockStamp, OffsetTimestamp};
 use jiff::Timestamp;
 use jiff::tz::Offset;
+
+// Whether the date is one that each month has, in a year from 0 to 9998. Most are, and then no calendar is asked.
+#[inline(always)]
+fn is_early(fields: CivilFields) -> bool
+    ensures civil { IsTrue result → AreCivil fields }
+    ensures year { IsTrue result → (pos 0 ≤ℤ fields.year) × (fields.year <ℤ pos 9999) }
+{
+    let year = fields.year >= 0 && fields.year < 9999;
+    let date = fields.month >= 1 && fields.month <= 12 && fields.day >= 1 && fields.day <= 28;
+    let clock = fields.hour < 24 && fields.minute < 60 && fields.second < 60;
+    year && date && clock && fields.nanosecond < 1_000_000_000
+}
+
+/// The timestamp of the fields on a clock at this offset, if there are such a date and time of day, and the instant is
+/// in range.
+#[inline(always)]
+pub fn clock_stamp(fields: CivilFields, offset: Offset) -> Option<ClockStamp>
+    ensures { IsAnswer (IsStampOfClock fields offset) result }
+{
+    if is_early(fields) {
+        return Some(ClockStamp { fields, offset });
+    }
+    if is_there(fields, offset) {
+        Some(ClockStamp { fields, offset })
+    } else {
+        None
+    }
+}
+
+// Whether there are such a date and time of day, and the instant is in range.
+#[inline(never)]
+fn is_there(fields: CivilFields, offset: Offset) -> bool
+    ensures { IsTrue result ↔ AreCivil fields
+        × IsTimestampNanos (nanos_of_fields fields -ℤ nanos_of_seconds offset.seconds) }
+{
+    match fields.datetime() {
+        Some(dt) => offset.to_timestamp(dt).is_ok(),
+        None => false,
+    }
+}
 
 impl ClockStamp {
     /// The timestamp: the instant at which the clock shows the fields, and the offset.

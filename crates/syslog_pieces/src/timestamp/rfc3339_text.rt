@@ -11,7 +11,8 @@ ghost use Rattle.syslog_pieces.specs.Timestamp.Rfc3339.{fields_of_rfc3339};
 
 use super::ClockStamp;
 use super::digits::{after_letter, four_digits, fraction, pair, pair_behind};
-use super::fields::{CivilFields, clock_stamp};
+use super::fields::CivilFields;
+use super::instant::clock_stamp;
 use super::month_date::Clock;
 use super::month_date::standard::clock;
 use jiff::tz::Offset;

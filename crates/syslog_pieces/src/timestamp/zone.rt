@@ -12,7 +12,8 @@ ghost use Rattle.syslog_pieces.specs.Timestamp.Zone as spec;
 ghost use Rattle.jiff.specs.Words.{ambiguous_at};
 
 use super::ClockStamp;
-use super::fields::{CivilFields, clock_stamp, datetime_fields};
+use super::fields::{CivilFields, datetime_fields};
+use super::instant::clock_stamp;
 use super::month_date::MonthDate;
 use jiff::Timestamp;
 use jiff::civil::DateTime;

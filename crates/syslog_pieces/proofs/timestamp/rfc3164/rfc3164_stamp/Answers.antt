@@ -7,7 +7,7 @@ pub returns-in_err-date : goal.returns-in_err-date
 returns-in_err-date c =
     let n = no_date (dating_value c.args.dating.now) c.in-None.ensures c.in_err-date.ensures in search rules
 
-pub returns-in_err-stamp : goal.returns-in_err-stamp
-returns-in_err-stamp c =
+pub returns-in_err-clock : goal.returns-in_err-clock
+returns-in_err-clock c =
     let n = no_stamp_of_date (dating_value c.args.dating.now) c.in-None.ensures c.in_ok-date.date c.in_ok-date.ensures
-    c.in_err-stamp.ensures in search rules
+    c.in_err-clock.ensures in search rules

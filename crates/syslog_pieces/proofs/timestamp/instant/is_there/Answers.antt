@@ -1,7 +1,7 @@
 use Rattle.std.proofs.Common.{◌∙◌, sym, ap, ◌-ℤ◌, ℤ}
 use Rattle.jiff.specs.Words.{nanos_of_seconds}
 use Rattle.syslog_pieces.proofs.TimestampLemmas.Civil.{civil-fields, civil_nanos-fields}
-use Rattle.syslog_pieces.proofs.timestamp.fields.is_there.Goals as goal
+use Rattle.syslog_pieces.proofs.timestamp.instant.is_there.Goals as goal
 
 pub returns-in-Some : goal.returns-in-Some
 returns-in-Some c =

@@ -1,6 +1,6 @@
 use Rattle.std.proofs.Common.{refl}
 use Rattle.syslog_pieces.proofs.TimestampLemmas.Civil.{early_in_range}
-use Rattle.syslog_pieces.proofs.timestamp.fields.clock_stamp.Goals as goal
+use Rattle.syslog_pieces.proofs.timestamp.instant.clock_stamp.Goals as goal
 
 pub invariant_of-result : goal.invariant_of-result
 invariant_of-result c =
