@@ -47,7 +47,8 @@ front_text front names =
 
 -- a header, the list behind it and the text behind that are the sixteen pieces
 pub pieces_row : {text behind list end msg : Text} {vs : Values header_row} {elements : List ElementValue}
-    → FrontOf (Row header_row) text behind vs → FrontOf (run is_blank) behind list tt → FrontOf forgiving list end elements
+    → FrontOf (Row header_row) text behind vs → FrontOf (run is_blank) behind list tt
+    → FrontOf forgiving list end elements
     → FrontOf (run is_blank) end msg tt
     → FrontOf (Row rfc5424_row) text [] (both_values header_row data_row vs (tt, (elements, (tt, (msg, tt)))))
 pieces_row {msg = msg} header gap list last = rows_join header_row data_row header

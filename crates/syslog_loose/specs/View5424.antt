@@ -29,7 +29,8 @@ abbrev name_values : Header → Option (ProcId Text) → Values (host ∷ some_r
 name_values h process = (seen h.hostname, (tt, (seen h.appname, (tt, process_values h process))))
 
 abbrev pub header_values : Header → Option (ProcId Text) → Values header_row
-header_values h process = (h.front.priority, (h.front.version, (tt, (stamp_seen h.front.timestamp, (tt, name_values h process)))))
+header_values h process =
+    (h.front.priority, (h.front.version, (tt, (stamp_seen h.front.timestamp, (tt, name_values h process)))))
 
 -- the header at the front of the text, with each process id that its word names, or nothing where there is no header
 abbrev pub ReadsHeader : Text → Option (Header × Bor (List ℕ)) → Type 0

@@ -300,7 +300,8 @@ prints_behind {tail = tail} {t = t} {u = u} {msg = msg} {name = name} {origin = 
             then optional_none (rfc3164_list dash_rule) no_list
             then piece_front (run is_blank) [] msg tt (tt, c.is.1) then rest_front msg then refl)));
         is_printed = append_assoc (60 ∷ number) (62 ∷ []) _
-            ∙ ap (λ (x : Text). 60 ∷ (number ++ (62 ∷ 32 ∷ (timestamp_text (stamp_seen stamped.timestamp) ++ x)))) whole;
+            ∙ ap (λ (x : Text).
+            60 ∷ (number ++ (62 ∷ 32 ∷ (timestamp_text (stamp_seen stamped.timestamp) ++ x)))) whole;
       },
       record {
         canonical_timestamp = canonical;

@@ -106,7 +106,8 @@ offset-canonical zone o (inr n) =
 pub shows_written : (w : Rfc3339Fields) (n o : ℤ) → HasRfc3339Stamp w n o
     → civil_fields (n +ℤ nanos_of_seconds o) ≡ fields_of_rfc3339 w
 shows_written w n o h =
-    shows_fields (fields_of_rfc3339 w) n o h.civil (omega (arith, signed_arith, h.instant, ap nanos_of_seconds h.at_offset))
+    shows_fields (fields_of_rfc3339 w) n o h.civil
+    (omega (arith, signed_arith, h.instant, ap nanos_of_seconds h.at_offset))
 
 pub stamp_text-canonical : (text : List ℕ) (s : OffsetTimestamp) → IsStampText text s → IsCanonicalStamp s
 stamp_text-canonical text s (w, writes, stamp) =
@@ -123,7 +124,7 @@ stamp_text-canonical text s (w, writes, stamp) =
 
 -- ---- the printed text of any timestamp
 
-pub own_fields : (s : OffsetTimestamp) → AreCivil (civil_fields (s.instant.nanosecond +ℤ nanos_of_seconds s.offset.seconds))
+own_fields : (s : OffsetTimestamp) → AreCivil (civil_fields (s.instant.nanosecond +ℤ nanos_of_seconds s.offset.seconds))
 own_fields s =
     (civil_fields_exist _ (in_range-at_offset s.instant.nanosecond s.offset.seconds s.instant.in_range
     s.offset.in_range)).0

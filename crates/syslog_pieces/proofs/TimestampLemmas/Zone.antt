@@ -117,12 +117,13 @@ answer_on_clock f dt offset r e h =
     }) h
 
 -- in a zone of one offset
-module _ (tz : Option TimeZone) (local zone : TimeZone) (f : CivilFields) (offset : Offset) (e : zone ≡ zone_of tz local)
-    (fixed : IsFixed zone) (at : (n : ℤ) → offset.seconds ≡ offset_at zone n) where
+module _ (tz : Option TimeZone) (local zone : TimeZone) (f : CivilFields) (offset : Offset)
+    (e : zone ≡ zone_of tz local) (fixed : IsFixed zone) (at : (n : ℤ) → offset.seconds ≡ offset_at zone n) where
   fixed_datetime : (r : Option ClockStamp) → IsAnswer (IsStampOfClock f offset) r → (dt : DateTime) → fields_of dt ≡ f
       → IsAnswer (IsStampOfFields tz local f) r
   fixed_datetime r h dt same =
-      answer_of_fields f dt tz local r same (in_any tz local dt offset r (rw e at (fixed_earlier zone offset dt fixed at))
+      answer_of_fields f dt tz local r same
+      (in_any tz local dt offset r (rw e at (fixed_earlier zone offset dt fixed at))
       (answer_on_clock f dt offset r same h))
 
   pub fixed_answer : (r : Option ClockStamp) → IsAnswer (IsStampOfClock f offset) r

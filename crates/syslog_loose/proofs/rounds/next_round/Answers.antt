@@ -61,8 +61,8 @@ pub returns-in_err-settled : goal.returns-in_err-settled
 returns-in_err-settled g c whole e =
     let f = rw e at c.optional_priority-priority.ensures in
     let at = c.match-front_date.year in
-    let k : IsStamped (λ d y. g.F.FnOnce.post c.args.get_year (d, tt) y) c.args.variant whole c.args.tz c.args.local at.0
-    (record { priority = c.optional_priority-priority.result.0; timestamp = at.1 }) (shown at.2) =
+    let k : IsStamped (λ d y. g.F.FnOnce.post c.args.get_year (d, tt) y) c.args.variant whole c.args.tz c.args.local
+    at.0 (record { priority = c.optional_priority-priority.result.0; timestamp = at.1 }) (shown at.2) =
     elim c.match-front_date.branch [
       | in-Some+in-Some-month_stamp w ↦ rw w.year-is (dated_known c.args.variant whole f _ w.in-Some.ensures _ _ _ _ _ _
           w.asked_numbers.ensures w.map-year.ensures.cases w.in-Some-month_stamp.ensures)
@@ -78,8 +78,8 @@ pub returns : goal.returns
 returns g c whole e =
     let f = rw e at c.optional_priority-priority.ensures in
     let at = c.match-front_date.year in
-    let k : IsStamped (λ d y. g.F.FnOnce.post c.args.get_year (d, tt) y) c.args.variant whole c.args.tz c.args.local at.0
-    (record { priority = c.optional_priority-priority.result.0; timestamp = at.1 }) (shown at.2) =
+    let k : IsStamped (λ d y. g.F.FnOnce.post c.args.get_year (d, tt) y) c.args.variant whole c.args.tz c.args.local
+    at.0 (record { priority = c.optional_priority-priority.result.0; timestamp = at.1 }) (shown at.2) =
     elim c.match-front_date.branch [
       | in-Some+in-Some-month_stamp w ↦ rw w.year-is (dated_known c.args.variant whole f _ w.in-Some.ensures _ _ _ _ _ _
           w.asked_numbers.ensures w.map-year.ensures.cases w.in-Some-month_stamp.ensures)

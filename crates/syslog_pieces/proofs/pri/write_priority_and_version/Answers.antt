@@ -11,4 +11,5 @@ returns-then-number-lt100 g c canonical ok =
 pub returns-then-number-lt1000 : goal.returns-then-number-lt1000
 returns-then-number-lt1000 g c canonical ok =
     let same = three_with_version c.args.number c.args.version (omega arith) (omega arith) (omega arith) in
-    has_written_of_eq _ _ _ _ _ (c.three_digits_and_version.ensures.text ∙ sym same) (c.write_bytes-then-number-lt1000.ensures canonical ok)
+    has_written_of_eq _ _ _ _ _ (c.three_digits_and_version.ensures.text ∙ sym same)
+    (c.write_bytes-then-number-lt1000.ensures canonical ok)

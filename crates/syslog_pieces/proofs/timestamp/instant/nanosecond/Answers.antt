@@ -14,5 +14,5 @@ returns c =
     let count = simp to_z-of_z at c.days-days.ensures.value in
     let second = simp to_z-of_z at c.second_at-second.ensures in
     let nanos = simp to_z-of_z at c.nanosecond_at.ensures in
-    rw to_z-of_z (instant_by_count f c.days-days.result c.args.offset.seconds c.second_at-second.result c.nanosecond_at.result
-    count (rw c.seconds.ensures at second) nanos)
+    rw to_z-of_z (instant_by_count f c.days-days.result c.args.offset.seconds c.second_at-second.result
+    c.nanosecond_at.result count (rw c.seconds.ensures at second) nanos)

@@ -13,9 +13,9 @@ returns-in-Ok c =
     let fits : FitsSigned w32 c.in_ok-year.year = search rules in
     let dating = dating_value c.args.dating.now in
     answer_in_year dating c.args.date c.in_ok-year.year _ c.in_ok-year.ensures.value
-    (rw (simp to_z-of_z at c.fields_in-fields.ensures) at (fixed_answer dating.zone dating.local _ c.fields_in-fields.result c.in-Ok.offset
-    c.zone_of.ensures (c.in-Ok.ensures.succeeds.0 refl) c.in-Ok.ensures.value c.clock_stamp.result
-    c.clock_stamp.ensures))
+    (rw (simp to_z-of_z at c.fields_in-fields.ensures) at (fixed_answer dating.zone dating.local _
+    c.fields_in-fields.result c.in-Ok.offset c.zone_of.ensures (c.in-Ok.ensures.succeeds.0 refl) c.in-Ok.ensures.value
+    c.clock_stamp.result c.clock_stamp.ensures))
 
 pub returns-in-Err : goal.returns-in-Err
 returns-in-Err c =
