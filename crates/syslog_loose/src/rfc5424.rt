@@ -6,10 +6,12 @@ ghost use Rattle.std.specs.Prelude.{◌≡◌, IfOk, IfSome, IsOk, IsTrue, Match
 ghost use Rattle.std.specs.List.{AllByRecursion};
 ghost use Rattle.std.specs.Option.{option_map};
 ghost use Rattle.std.specs.Str.{chars, IsUtf8};
+ghost use Rattle.syslog_pieces.specs.Bodies.Verbatim.{IsBareWord};
 ghost use Rattle.syslog_pieces.specs.Pieces.Class.{Text};
 ghost use Rattle.syslog_pieces.specs.Pieces.View.{seen, shown};
 ghost use Rattle.syslog_pieces.specs.ProcId.{procid_value};
 ghost use Rattle.syslog_pieces.specs.Text.{trimmed};
+ghost use Rattle.syslog_pieces.specs.Timestamp.{stamp_seen};
 ghost use Rattle.syslog_loose.specs.Message.{message_value};
 ghost use Rattle.syslog_loose.specs.Rfc5424 as spec;
 ghost use Rattle.syslog_loose.specs.Start.{IsBehindPriority};
@@ -20,11 +22,11 @@ ghost use Rattle.syslog_pieces.specs.declared.procid.ProcId.{ProcId as ProcIdVal
 use crate::message::{Message, Protocol};
 use std::alloc::{AllocError, Global};
 use syslog_pieces::pri::parts;
-use syslog_pieces::procid::{ProcId, process_stands};
+use syslog_pieces::procid::{ProcId, is_bare_word};
 use syslog_pieces::structured_data::{StructuredElement, forgiving_list};
 use syslog_pieces::text::verbatim::is_one_space;
 use syslog_pieces::text::{blanks, host, number, some_blanks, word};
-use syslog_pieces::timestamp::{ClockStamp, header_stamp, stamp_of};
+use syslog_pieces::timestamp::{ClockStamp, OffsetTimestamp, header_stamp, stamp_of};
 
 /// The priority, the version and the timestamp.
 #[derive(Clone, Copy)]
@@ -58,6 +60,17 @@ fn are_all(tests: [bool; 5]) -> bool
     a & b & c & d & e
 }
 
+// Whether the word that names a process, where there is one, prints as what it names.
+#[inline(always)]
+fn is_bare(process: Option<&str>) -> bool
+    ensures { IsTrue result → IfSome (seen process.entry) IsBareWord }
+{
+    match process {
+        Some(word) => is_bare_word(word),
+        None => true,
+    }
+}
+
 /// The fields at the front of a text, from what stands behind its priority on, and the text behind them. `CALLER`
 /// tells the callers apart, so that each has a body of its own, compiled in place: one for all would be called. It is 0
 /// for the calls that read, 1 for `normalise`, 2 for the first round of `settle` and 3 for its later ones.
@@ -88,7 +101,7 @@ pub(crate) fn read_header<const CALLER: u8>(
         is_one_space(tail, at_host),
         is_one_space(behind_host, at_app),
         is_one_space(behind_app, at_process),
-        process_stands(at_process),
+        is_bare(process),
         is_one_space(behind_process, at_id),
     ]);
     Some((
@@ -120,13 +133,23 @@ pub(crate) fn process_of(word: Option<&str>) -> Option<ProcId<&str>>
     }
 }
 
-// The message of a header with these elements and this text.
+// The timestamp of a header.
+#[inline(always)]
+fn timestamp_of(header: &Header<'_>) -> Option<OffsetTimestamp>
+    ensures { result ≡ stamp_seen header.now.front.timestamp }
+{
+    stamp_of(header.front.timestamp)
+}
+
+// The message of a header with its timestamp, these elements and this text.
 #[inline(always)]
 fn header_message<'a>(
     header: &Header<'a>,
+    timestamp: Option<OffsetTimestamp>,
     elements: Vec<StructuredElement<&'a str>>,
     msg: &'a str,
 ) -> Message<&'a str>
+    requires { timestamp ≡ stamp_seen header.now.front.timestamp }
     ensures { (process : Option (ProcIdValue Text)) × NamesWord (seen header.now.process) process
         × (message_value (λ s. shown s) result
         ≡ message_with header.now process (map (element_value (λ s. shown s)) elements.entry.items)
@@ -137,7 +160,7 @@ fn header_message<'a>(
         protocol: Protocol::RFC5424(header.front.version),
         facility,
         severity,
-        timestamp: stamp_of(header.front.timestamp),
+        timestamp,
         hostname: header.hostname,
         appname: header.appname,
         procid: process_of(header.process),
@@ -164,8 +187,11 @@ pub(crate) fn read_behind(
     let Some((header, rest)) = read_header::<0>(priority, text) else {
         return Ok(None);
     };
+    // (here, since an instant is less to keep than what a clock shows)
+    let timestamp = timestamp_of(&header);
     let Some((elements, rest)) = forgiving_list(alloc, blanks(rest))? else {
         return Ok(None);
     };
-    Ok(Some(header_message(&header, elements, blanks(rest))))
+    let message = header_message(&header, timestamp, elements, blanks(rest));
+    Ok(Some(message))
 }

@@ -167,36 +167,25 @@ names_itself t l p = elim (all_digits t) [
     lead : get_or t 0 0 ≡ 48 → length t ≡ 1
     lead z = elim (cases_lt 1 (length t)) [ inl more ↦ absurd ((p more).2 z) | inr few ↦ omega (arith, few, l) ]
 
--- an ASCII character before one that is no white space, in bytes
+-- an ASCII character before another one, in bytes
 two_bytes : (k d : ℕ) (more : Text) (bs : List ℕ) → k < 128 → IsUtf8 bs → chars bs ≡ k ∷ d ∷ more
-    → is_not_whitespace d ≡ true → (1 < length bs) × (get_or bs 1 0 ≢ 32) × (get_or bs 0 0 ≡ k)
-two_bytes k d more bs low u e visible =
-    let back = encode_utf8_all (d ∷ more) in
-    let split : bs ≡ k ∷ back = ascii_ahead (k ∷ []) (d ∷ more) bs u (IsAscii-cons k [] low IsAscii-nil) e in
-    let some : 0 < length back = omega (arith, length-le-encodes (d ∷ more)) in
-    rw split (
-      omega (arith, some),
-      (λ z. let c : d ≡ get_or back 0 0 = char_from_byte back (encode_utf8_all more) d refl (omega (arith, z)) some in
-          let n = rw (c ∙ z) at visible in cc),
-      refl,
-    )
+    → (1 < length bs) × (get_or bs 0 0 ≡ k)
+two_bytes k d more bs low u e =
+    let split : bs ≡ k ∷ encode_utf8_all (d ∷ more) =
+    ascii_ahead (k ∷ []) (d ∷ more) bs u (IsAscii-cons k [] low IsAscii-nil) e in
+    rw split (omega (arith, length-le-encodes (d ∷ more)), refl)
 
--- a word is bare where its text leads with no mark before another byte than a space
-bare_front : (bs p q : Text) → LeadsBare bs → IsUtf8 bs → chars bs ≡ p ++ q → Each is_not_whitespace p → IsBareWord p
-bare_front bs [] q h u e a l = absurd (omega arith)
-bare_front bs (c ∷ []) q h u e a l = absurd (omega arith)
-bare_front bs (c ∷ d ∷ p) q h u e a l = (
-  λ z. (let (long, gap, first) = two_bytes 43 d (p ++ q) bs (omega arith) u (rw z at e) a.1.0 in (h long gap).0 first),
-  λ z. (let (long, gap, first) = two_bytes 45 d (p ++ q) bs (omega arith) u (rw z at e) a.1.0 in (h long gap).1 first),
-  λ z. (let (long, gap, first) = two_bytes 48 d (p ++ q) bs (omega arith) u (rw z at e) a.1.0 in (h long gap).2 first),
+-- a word is bare where its bytes lead with no mark before another
+pub bare_word : (bs t : Text) → IsUtf8 bs → LeadsBare bs → chars bs ≡ t → IsBareWord t
+bare_word bs [] u h e l = absurd (omega arith)
+bare_word bs (c ∷ []) u h e l = absurd (omega arith)
+bare_word bs (c ∷ d ∷ p) u h e l = (
+  λ z. (let (long, first) = two_bytes 43 d p bs (omega arith) u (rw z at e) in (h long).0 first),
+  λ z. (let (long, first) = two_bytes 45 d p bs (omega arith) u (rw z at e) in (h long).1 first),
+  λ z. (let (long, first) = two_bytes 48 d p bs (omega arith) u (rw z at e) in (h long).2 first),
 )
 
-pub process_stands : (bs : List ℕ) → IsUtf8 bs → LeadsBare bs → (rest : Text) (process : Option (ProcId Text))
-    → Front process_word (chars bs) rest process → chars bs ≡ process_text process ++ rest
-process_stands bs u h rest None f = f.whole ∙ ap (λ (x : Text). x ++ rest) f.is.4
-process_stands bs u h rest (Some i) f =
-    let (name, w, n) = f.is in
-    let bare = bare_front bs f.piece rest h u f.whole w.1 in
-    let (j, names, prints) = names_itself f.piece w.0 bare in
-    let same = process_same f.piece i j (rw w.4.0 at n) names in
-    f.whole ∙ ap (λ (x : Text). x ++ rest) (sym prints ∙ ap procid_text (sym same))
+-- a process id that a bare word names prints as the word
+pub bare_prints : (t : Text) (i : ProcId Text) → 0 < length t → IsBareWord t → NamesProcess t i → procid_text i ≡ t
+bare_prints t i l bare n =
+    let (j, names, prints) = names_itself t l bare in ap procid_text (process_same t i j n names) ∙ prints

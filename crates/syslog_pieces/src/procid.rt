@@ -134,36 +134,19 @@ pub fn process_word(text: &str) -> Option<(Option<ProcId<&str>>, &str)>
 }
 
 /// Whether no sign and no zero stands before other characters: then it prints as what it names.
-#[tactic(auto, using(crate::proofs::TextLemmas::Chars::chars_empty, crate::proofs::TextLemmas::Chars::empty_is))]
 #[inline(always)]
 pub fn is_bare_word(name: &str) -> bool
     ensures { IsTrue result → IsBareWord (chars name.now) }
 {
-    match first(name) {
-        Some((c, more)) => more.is_empty() || (c != '+' && c != '-' && c != '0'),
-        None => true,
-    }
+    !leads_with_mark(name.as_bytes())
 }
 
-// Whether a sign or a zero stands before a further byte that is no space.
+// Whether a sign or a zero stands before a further byte.
 #[inline(always)]
 fn leads_with_mark(bytes: &[u8]) -> bool
     ensures { OnFalse result (LeadsBare bytes.now) }
 {
-    match bytes {
-        [b'+' | b'-' | b'0', next, ..] => *next != b' ',
-        _ => false,
-    }
-}
-
-/// Whether the process id at the front of the text prints as it stands. It may answer no of others too: a sign and a
-/// zero are looked at alone.
-#[inline(always)]
-pub fn process_stands(text: &str) -> bool
-    ensures { IsTrue result → (rest : Text) (process : Option (ProcId Text))
-        → Front spec.process_word (chars text.now) rest process → chars text.now ≡ process_text process ++ rest }
-{
-    !leads_with_mark(text.as_bytes())
+    matches!(bytes, [b'+' | b'-' | b'0', _, ..])
 }
 
 /// Whether the text is one of a number of 32 bits.

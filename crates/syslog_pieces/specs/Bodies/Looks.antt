@@ -11,9 +11,9 @@ BeginsVisibly bytes = (0 < length bytes) × (32 < slice_index bytes 0)
 abbrev pub BeginsWithGap : List ℕ → Type 0
 BeginsWithGap bytes = (1 < length bytes) × (slice_index bytes 0 ≡ 32) × (32 < slice_index bytes 1)
 
--- no sign and no zero stands before a further byte, but for a space
+-- no sign and no zero stands before a further byte
 abbrev pub LeadsBare : List ℕ → Type 0
-LeadsBare bytes = 1 < length bytes → slice_index bytes 1 ≢ 32
+LeadsBare bytes = 1 < length bytes
     → (slice_index bytes 0 ≢ 43) × (slice_index bytes 0 ≢ 45) × (slice_index bytes 0 ≢ 48)
 
 -- `<`, a number of one to three digits, `>`, and the rest

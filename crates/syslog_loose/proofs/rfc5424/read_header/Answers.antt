@@ -6,7 +6,7 @@ use Rattle.syslog_pieces.proofs.PieceLemmas.Rows.{row_of, no_row, ◌then◌, �
 use Rattle.syslog_pieces.proofs.ProcIdLemmas.{no_process}
 use Rattle.syslog_pieces.proofs.TextLemmas.Verbatim.{host_stands, word_stands}
 use Rattle.syslog_loose.specs.Rfc5424.{header_row}
-use Rattle.syslog_loose.proofs.HeaderLemmas.{names_joined, process_named, process_there, word_some}
+use Rattle.syslog_loose.proofs.HeaderLemmas.{bare_process, names_joined, process_named, process_there, word_some}
 use Rattle.syslog_loose.proofs.Rfc5424Lemmas.{header_det}
 use Rattle.syslog_loose.proofs.rfc5424.read_header.Goals as goal
 
@@ -90,7 +90,7 @@ pub returns-clause-stands : goal.returns-clause-stands
 returns-clause-stands g c = λ e.
     let (second, (third, (fourth, (bare, (fifth, _))))) = c.are_all-stands.ensures e in
     let (process, named) = word_some (seen c.in_ok-process.process) in
-    let prints = c.process_stands.ensures bare _ process (process_named c.in_ok-process.ensures named) in
+    let prints = bare_process process c.in_ok-process.ensures (c.is_bare.ensures bare) named in
     record {
       process = process;
       named = named;
