@@ -168,7 +168,6 @@ pub(crate) fn read_behind(
     ensures memory { (dating : Dating) (whole : Text) → IsBehindStamp dating (trimmed whole) stamped (chars text.now)
         → spec.NeedsNoMemory3164 rule dating whole → IsOk result }
 {
-    let timestamp = stamp_of(stamped.timestamp);
     let (names, rest) = read_names(text);
     let (elements, rest) = optional_list(alloc, rest, rule)?;
     let msg = blanks(rest);
@@ -177,7 +176,7 @@ pub(crate) fn read_behind(
         protocol: Protocol::RFC3164,
         facility,
         severity,
-        timestamp,
+        timestamp: stamp_of(stamped.timestamp),
         hostname: names.hostname,
         appname: names.appname,
         procid: names.procid,

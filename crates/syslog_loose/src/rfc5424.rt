@@ -11,7 +11,6 @@ ghost use Rattle.syslog_pieces.specs.Pieces.Class.{Text};
 ghost use Rattle.syslog_pieces.specs.Pieces.View.{seen, shown};
 ghost use Rattle.syslog_pieces.specs.ProcId.{procid_value};
 ghost use Rattle.syslog_pieces.specs.Text.{trimmed};
-ghost use Rattle.syslog_pieces.specs.Timestamp.{stamp_seen};
 ghost use Rattle.syslog_loose.specs.Message.{message_value};
 ghost use Rattle.syslog_loose.specs.Rfc5424 as spec;
 ghost use Rattle.syslog_loose.specs.Start.{IsBehindPriority};
@@ -26,7 +25,7 @@ use syslog_pieces::procid::{ProcId, is_bare_word};
 use syslog_pieces::structured_data::{StructuredElement, forgiving_list};
 use syslog_pieces::text::verbatim::is_one_space;
 use syslog_pieces::text::{blanks, host, number, some_blanks, word};
-use syslog_pieces::timestamp::{ClockStamp, OffsetTimestamp, header_stamp, stamp_of};
+use syslog_pieces::timestamp::{ClockStamp, header_stamp, stamp_of};
 
 /// The priority, the version and the timestamp.
 #[derive(Clone, Copy)]
@@ -133,23 +132,13 @@ pub(crate) fn process_of(word: Option<&str>) -> Option<ProcId<&str>>
     }
 }
 
-// The timestamp of a header.
-#[inline(always)]
-fn timestamp_of(header: &Header<'_>) -> Option<OffsetTimestamp>
-    ensures { result ≡ stamp_seen header.now.front.timestamp }
-{
-    stamp_of(header.front.timestamp)
-}
-
-// The message of a header with its timestamp, these elements and this text.
+// The message of a header with these elements and this text.
 #[inline(always)]
 fn header_message<'a>(
     header: &Header<'a>,
-    timestamp: Option<OffsetTimestamp>,
     elements: Vec<StructuredElement<&'a str>>,
     msg: &'a str,
 ) -> Message<&'a str>
-    requires { timestamp ≡ stamp_seen header.now.front.timestamp }
     ensures { (process : Option (ProcIdValue Text)) × NamesWord (seen header.now.process) process
         × (message_value (λ s. shown s) result
         ≡ message_with header.now process (map (element_value (λ s. shown s)) elements.entry.items)
@@ -160,7 +149,7 @@ fn header_message<'a>(
         protocol: Protocol::RFC5424(header.front.version),
         facility,
         severity,
-        timestamp,
+        timestamp: stamp_of(header.front.timestamp),
         hostname: header.hostname,
         appname: header.appname,
         procid: process_of(header.process),
@@ -187,11 +176,8 @@ pub(crate) fn read_behind(
     let Some((header, rest)) = read_header::<0>(priority, text) else {
         return Ok(None);
     };
-    // (here, since an instant is less to keep than what a clock shows)
-    let timestamp = timestamp_of(&header);
     let Some((elements, rest)) = forgiving_list(alloc, blanks(rest))? else {
         return Ok(None);
     };
-    let message = header_message(&header, timestamp, elements, blanks(rest));
-    Ok(Some(message))
+    Ok(Some(header_message(&header, elements, blanks(rest))))
 }

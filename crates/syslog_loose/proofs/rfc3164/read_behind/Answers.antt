@@ -40,7 +40,7 @@ returns-clause-read c dating whole f =
       simp (
         parts.facility,
         parts.severity,
-        c.stamp_of-timestamp.ensures,
+        c.stamp_of.ensures,
         elements_seen c.in_ok-elements.elements c.new.result c.unwrap_or.result
             c.new.ensures.items c.unwrap_or.ensures,
       ),

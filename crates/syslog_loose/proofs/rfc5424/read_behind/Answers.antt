@@ -30,7 +30,7 @@ returns-in_default-2-clause-read c whole f =
 
 pub returns-clause-read : goal.returns-clause-read
 returns-clause-read c whole f =
-    let (process, named, same) = c.header_message-message.ensures in
+    let (process, named, same) = c.header_message.ensures in
     let list = rw c.in-Some-2.is at c.in_ok-elements.ensures.list in
     is_read whole _ _ _ refl same
     (rows_join header_row data_row (c.in-Some.ensures.reads (trimmed whole) f process named)
