@@ -16,7 +16,9 @@ ghost use Rattle.syslog_pieces.specs.Pri as spec;
 ghost use Rattle.syslog_pieces.specs.Pieces.View.{shown, Reads};
 ghost use Rattle.syslog_pieces.specs.Timestamp.Printed.{pad3};
 
-use crate::text::write_ascii::{digit, two_digits as pair, write_bytes, write_number};
+use crate::text::write_ascii::{
+    digit, three_digits as triple, two_digits as pair, write_bytes, write_number,
+};
 use crate::text::{literal, number};
 use std::fmt;
 
@@ -290,13 +292,8 @@ fn three_digits(n: u32) -> [u8; 5]
     ensures ascii { AllByRecursion (λ b. b < 128) result }
     ensures text { result ≡ 60 ∷ (pad3 n ++ (62 ∷ [])) }
 {
-    [
-        b'<',
-        digit(n / 100),
-        digit(n / 10 % 10),
-        digit(n % 10),
-        b'>',
-    ]
+    let [h, t, o] = triple(n);
+    [b'<', h, t, o, b'>']
 }
 
 /// Writes a priority as it prints. One below 1000, as that of each message is, is one piece.
@@ -337,15 +334,8 @@ fn three_digits_and_version(n: u32, version: u32) -> [u8; 7]
     ensures ascii { AllByRecursion (λ b. b < 128) result }
     ensures text { result ≡ 60 ∷ (pad3 n ++ (62 ∷ (48 + version) ∷ 32 ∷ [])) }
 {
-    [
-        b'<',
-        digit(n / 100),
-        digit(n / 10 % 10),
-        digit(n % 10),
-        b'>',
-        digit(version),
-        b' ',
-    ]
+    let [h, t, o] = triple(n);
+    [b'<', h, t, o, b'>', digit(version), b' ']
 }
 
 /// Writes a priority, a version and a space, with which each line of RFC 5424 begins. Most are one piece.

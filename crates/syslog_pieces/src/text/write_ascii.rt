@@ -70,7 +70,8 @@ pub(crate) fn three_digits(n: u32) -> [u8; 3]
     ensures ascii { AllByRecursion (λ b. b < 128) result }
     ensures text { result ≡ pad3 n }
 {
-    [digit(n / 100), digit(n / 10 % 10), digit(n % 10)]
+    let [t, o] = two_digits(n % 100);
+    [digit(n / 100), t, o]
 }
 
 #[inline(always)]

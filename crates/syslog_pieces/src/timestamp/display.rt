@@ -9,7 +9,7 @@ ghost use Rattle.syslog_pieces.specs.Timestamp.Printed as spec;
 
 use super::fields::{CivilFields, datetime_fields};
 use super::{ClockStamp, OffsetTimestamp};
-use crate::text::write_ascii::{digit, three_digits, two_digits, write_bytes};
+use crate::text::write_ascii::{three_digits, two_digits, write_bytes};
 use jiff::tz::Offset;
 use std::fmt;
 
@@ -108,7 +108,8 @@ fn behind_dot(n: u32) -> [u8; 4]
     ensures ascii { AllByRecursion (λ b. b < 128) result }
     ensures text { result ≡ 46 ∷ spec.pad3 n }
 {
-    [b'.', digit(n / 100), digit(n / 10 % 10), digit(n % 10)]
+    let [h, t, o] = three_digits(n);
+    [b'.', h, t, o]
 }
 
 // A dot and the least of 3, 6 or 9 decimals that is exact, or nothing for 0.
@@ -139,9 +140,6 @@ fn write_offset<W: fmt::Write>(f: &mut fmt::Formatter<W>, seconds: i32) -> fmt::
     requires { IsOffsetSeconds seconds }
     ensures { WritesOnOk W.write_str_gives f.old result (spec.offset_text seconds) f.new }
 {
-    if seconds == 0 {
-        return f.write_str("+00:00");
-    }
     let minutes = (seconds.unsigned_abs() + 30) / 60;
     let [h, u] = two_digits(minutes / 60);
     let [i, n] = two_digits(minutes % 60);
