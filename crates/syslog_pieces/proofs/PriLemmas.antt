@@ -1,7 +1,7 @@
 -- The priority, and its two parts.
 use Rattle.std.proofs.Common.{◌≡◌, ◌≤◌, ◌<◌, ◌-◌, ◌/◌, ◌%◌, ◌+◌, ℕ, Bool, true, false, nat_eq, inl, inr}
 use Rattle.std.proofs.Common.{List, [], ◌∷◌, ◌++◌, length, drop, Option, Some, None, MatchOption, refl, sym, ap, ◌∙◌}
-use Rattle.std.proofs.Common.{append_assoc, arith}
+use Rattle.std.proofs.Common.{arith}
 use Rattle.std.specs.Prelude.{slice_get}
 use Rattle.std.proofs.lemmas.Bool.{agree_below, agree_below_at, eqb-true}
 use Rattle.std.proofs.lemmas.Option.{slice_get_past}
@@ -21,9 +21,8 @@ use Rattle.syslog_pieces.specs.declared.pri.SyslogFacility.{SyslogFacility}
 use Rattle.syslog_pieces.specs.declared.pri.SyslogSeverity.{SyslogSeverity}
 use Rattle.syslog_pieces.proofs.PieceLemmas.Class.{AllDeterministic, exactly_det, row_det}
 use Rattle.syslog_pieces.specs.Timestamp.Printed.{pad3}
-use Rattle.syslog_pieces.proofs.PieceLemmas.Lists.{begins}
-use Rattle.syslog_pieces.proofs.PieceLemmas.Rows.{Fails, no_row, row_pieces}
-use Rattle.syslog_pieces.proofs.TextLemmas.Chars.{ascii_ahead, digits_ascii, one_ascii}
+use Rattle.syslog_pieces.proofs.PieceLemmas.Rows.{Fails, no_row}
+use Rattle.syslog_pieces.proofs.TextLemmas.Chars.{digits_ascii, one_ascii}
 use Rattle.syslog_pieces.proofs.TextLemmas.Decimals.{digit_is, one_digit, two_digits, three_digits}
 use Rattle.syslog_pieces.proofs.TextLemmas.Looks.{behind_cut, behind_is, behind_chars}
 use Rattle.syslog_pieces.proofs.TextLemmas.Words.{number_det}

@@ -17,7 +17,7 @@ use Rattle.std.specs.List.{All, prefix_len}
 use Rattle.std.specs.Prelude.{MatchOption}
 use Rattle.std.specs.Str.{chars, IsAscii, IsUtf8, IsCharBoundary, encode_utf8_all}
 use mathlib.Core.HLevel.{is_prop→PathP}
-use Rattle.jiff.specs.Types.{DateTime, Offset, Timestamp}
+use Rattle.jiff.specs.Types.{Offset, Timestamp}
 use Rattle.jiff.specs.Words.{IsOffsetSeconds, IsTimestampNanos}
 use Rattle.jiff_fmt.proofs.RoundTrip.{two_digits-pad2, four_digits-pad4}
 use Rattle.jiff_fmt.specs.Reader.{fraction_value}
@@ -29,7 +29,6 @@ use Rattle.syslog_pieces.specs.Pieces.Class.{Text, Front, NoFront, IsDeterminist
 use Rattle.syslog_pieces.specs.Timestamp.{IsAnswer, IsStampText, HasNoStamp, IsStampOfRfc3339, clock_value}
 use Rattle.syslog_pieces.specs.Timestamp.{stamp_seen}
 use Rattle.syslog_pieces.specs.Bodies.Clock.{IsStampOfClock}
-use Rattle.syslog_pieces.specs.Timestamp.Fields.{fields_of, IsStampAt}
 use Rattle.syslog_pieces.specs.Timestamp.Printed.{fraction_text, pad3}
 use Rattle.syslog_pieces.specs.Timestamp.Rfc3339.{IsFraction, IsLetter, IsOffsetText, Writes, HasStamp}
 use Rattle.syslog_pieces.specs.Timestamp.Rfc3339.{fields_of_rfc3339}
@@ -42,7 +41,6 @@ use Rattle.syslog_pieces.specs.declared.timestamp.rfc3339_text.Rfc3339Fields.{Rf
 use Rattle.syslog_pieces.proofs.PieceLemmas.Class.{front_same}
 use Rattle.syslog_pieces.proofs.TextLemmas.Looks.{behind_chars, behind_cut, behind_is}
 use Rattle.syslog_pieces.proofs.TimestampLemmas.Characters.{date_and_clock, writes_ascii}
-use Rattle.syslog_pieces.proofs.TimestampLemmas.Civil.{civil_nanos-fields, civil-fields}
 
 -- one or more digits, worth so many nanoseconds
 pub record AreDecimals (digits : List ℕ) (n : ℕ) : Type 0 where

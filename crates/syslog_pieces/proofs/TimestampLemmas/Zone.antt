@@ -1,6 +1,5 @@
 -- The timestamp of civil fields in a zone: there is at most one, and what its readers answer.
-use Rattle.std.proofs.Common.{IfSome, ◌<ℤ◌, arith, ◌≡◌, pos, ℤ, Option, Some, None, sym, ap, subst, ◌∙◌, ℕ, ◌+◌, ◌-ℤ◌}
-use Rattle.std.proofs.Common.{◌≤ℤ◌, refl, List, [], ◌∷◌, ◌++◌, ◌/◌, ◌%◌, ◌<◌, unsigned_abs}
+use Rattle.std.proofs.Common.{IfSome, ◌<ℤ◌, arith, ◌≡◌, pos, ℤ, Option, Some, None, sym, ap, subst, ◌∙◌, ◌-ℤ◌}
 use Rattle.jiff.proofs.Family.{same_datetime}
 use Rattle.jiff.specs.Types.{DateTime, Offset, TimeZone, AmbiguousOffset, Unambiguous, Gap, Fold, UTC, Unknown}
 use Rattle.jiff.specs.Types.{Fixed as FixedZone}
@@ -9,7 +8,7 @@ use Rattle.jiff_core.proofs.SignedLemmas.{signed_arith}
 use Rattle.jiff_tz.specs.Zone.{utc_offset}
 use Rattle.syslog_pieces.specs.Bodies.Clock.{IsStampOfClock, zone_of}
 use Rattle.syslog_pieces.specs.Timestamp.{IsAnswer}
-use Rattle.syslog_pieces.specs.Timestamp.Fields.{fields_of, IsStampAt, AreCivil}
+use Rattle.syslog_pieces.specs.Timestamp.Fields.{fields_of, IsStampAt}
 use Rattle.syslog_pieces.specs.Timestamp.Zone.{Dating, earlier, IsStampOf, IsStampInGap}
 use Rattle.syslog_pieces.specs.Timestamp.Zone.{IsLocalStampOf, IsStampInAny, IsStampOfFields}
 use Rattle.syslog_pieces.specs.Timestamp.Zone.{IsMonthStamp, civil_of, year_of}

@@ -7,6 +7,7 @@ ghost use Rattle.jiff.specs.Words.{IsOffsetSeconds, IsTimestampNanos, nanos_of_s
 ghost use Rattle.jiff_core.specs.Calendar.{day_count};
 ghost use Rattle.jiff_core.specs.March.{march_days as days_of_march_years, march_months};
 ghost use Rattle.syslog_pieces.specs.Bodies.Clock.{IsStampOfClock};
+ghost use Rattle.syslog_pieces.specs.declared.timestamp.fields.CivilFields.{CivilFields};
 ghost use Rattle.syslog_pieces.specs.Timestamp.{IsAnswer, clock_value, stamp_seen};
 ghost use Rattle.syslog_pieces.specs.Timestamp.Fields.{AreCivil, nanos_of_fields};
 
@@ -36,19 +37,55 @@ pub fn clock_stamp(fields: CivilFields, offset: Offset) -> Option<ClockStamp>
     if is_early(fields) {
         return Some(ClockStamp { fields, offset });
     }
-    if is_there(fields, offset) {
+    let CivilFields {
+        year,
+        month,
+        day,
+        hour,
+        minute,
+        second,
+        nanosecond,
+    } = fields;
+    if is_there(year, month, day, hour, minute, second, nanosecond, offset) {
         Some(ClockStamp { fields, offset })
     } else {
         None
     }
 }
 
-// Whether there are such a date and time of day, and the instant is in range.
+// Whether there are such a date and time of day, and the instant is in range. As one value the fields would stand in
+// memory on each line, for a call that few lines make.
 #[inline(never)]
-fn is_there(fields: CivilFields, offset: Offset) -> bool
-    ensures { IsTrue result ↔ AreCivil fields
-        × IsTimestampNanos (nanos_of_fields fields -ℤ nanos_of_seconds offset.seconds) }
+fn is_there(
+    year: i32,
+    month: u32,
+    day: u32,
+    hour: u32,
+    minute: u32,
+    second: u32,
+    nanosecond: u32,
+    offset: Offset,
+) -> bool
+    ensures { let fields : CivilFields = record {
+      year = year;
+      month = month;
+      day = day;
+      hour = hour;
+      minute = minute;
+      second = second;
+      nanosecond = nanosecond;
+    } in
+        IsTrue result ↔ AreCivil fields × IsTimestampNanos (nanos_of_fields fields -ℤ nanos_of_seconds offset.seconds) }
 {
+    let fields = CivilFields {
+        year,
+        month,
+        day,
+        hour,
+        minute,
+        second,
+        nanosecond,
+    };
     match fields.datetime() {
         Some(dt) => offset.to_timestamp(dt).is_ok(),
         None => false,

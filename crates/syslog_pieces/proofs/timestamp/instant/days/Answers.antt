@@ -1,4 +1,4 @@
-use Rattle.std.proofs.Common.{arith, pos, ◌-◌, sym}
+use Rattle.std.proofs.Common.{arith, ◌-◌}
 use Rattle.jiff_core.proofs.MarchLemmas.{day_count-early, day_count-late}
 use Rattle.jiff_core.proofs.SignedLemmas.{signed_arith}
 use Rattle.syslog_pieces.proofs.timestamp.instant.days.Goals as goal

@@ -1,12 +1,24 @@
-use Rattle.std.proofs.Common.{◌∙◌, sym, ap, ◌-ℤ◌, ℤ}
-use Rattle.jiff.specs.Words.{nanos_of_seconds}
+use Rattle.std.proofs.Common.{FitsSigned, w32, ◌≡◌, rules}
+use Rattle.std.proofs.lemmas.Int.{to_z-of_z}
 use Rattle.syslog_pieces.proofs.TimestampLemmas.Civil.{civil-fields, civil_nanos-fields}
+use Rattle.syslog_pieces.specs.Timestamp.Fields.{fields_of}
+use Rattle.syslog_pieces.specs.declared.timestamp.fields.CivilFields.{CivilFields}
 use Rattle.syslog_pieces.proofs.timestamp.instant.is_there.Goals as goal
 
 pub returns-in-Some : goal.returns-in-Some
 returns-in-Some c =
-    let f = c.args.fields in
-    let same = c.in-Some.ensures.value in
+    let a = c.args in
+    let f : CivilFields = record {
+      year = a.year;
+      month = a.month;
+      day = a.day;
+      hour = a.hour;
+      minute = a.minute;
+      second = a.second;
+      nanosecond = a.nanosecond;
+    } in
+    let fits : FitsSigned w32 a.year = search rules in
+    let same : fields_of c.in-Some.dt ≡ f = simp to_z-of_z at c.in-Some.ensures.value in
     let nanos = civil_nanos-fields c.in-Some.dt f same in (
       λ t. (
         civil-fields c.in-Some.dt f same,

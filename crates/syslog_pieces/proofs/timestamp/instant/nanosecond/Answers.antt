@@ -1,4 +1,4 @@
-use Rattle.std.proofs.Common.{FitsSigned, w32, w64, refl, rules, ap, ◌∙◌}
+use Rattle.std.proofs.Common.{FitsSigned, w32, w64, rules}
 use Rattle.std.specs.Int.{w128}
 use Rattle.std.proofs.lemmas.Int.{to_z-of_z}
 use Rattle.syslog_pieces.proofs.TimestampLemmas.Range.{instant_by_count}
