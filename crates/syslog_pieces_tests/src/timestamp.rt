@@ -55,7 +55,7 @@ fn is_same(one: Option<OffsetTimestamp>, other: Option<OffsetTimestamp>) -> bool
 }
 
 // The text of the row is seconds since 1970 began at UTC, a blank, and an offset in seconds.
-fn stamp_of(rt: &impl Abort, row: &str) -> OffsetTimestamp {
+fn stamp_in(rt: &impl Abort, row: &str) -> OffsetTimestamp {
     let (seconds, offset) = text_of(row).split_once(' ').expect(rt, row);
     let seconds = seconds.parse::<i64>().expect(rt, row);
     let offset = offset.parse::<i32>().expect(rt, row);
@@ -196,7 +196,7 @@ fn prints_outside_the_standard_form(rt: HostRuntime) {
         "0 86400¦1970-01-02T00:00:00+24:00",
         "-62198755200 0¦-0001-01-01T00:00:00+00:00",
     ] {
-        check(&rt, has_stamp(rt.alloc(), row, &stamp_of(&rt, row)), row);
+        check(&rt, has_stamp(rt.alloc(), row, &stamp_in(&rt, row)), row);
     }
 }
 
@@ -246,7 +246,8 @@ fn has_optional_stamp(alloc: Global, row: &str, stamp: Option<OffsetTimestamp>) 
 // A row is a text, what the timestamp at its front prints as, and what is left; or the text of no timestamp.
 fn reads_header_stamp(alloc: Global, row: &str) -> bool {
     match header_stamp(text_of(row)) {
-        Some((clock, rest)) => has_optional_stamp(alloc, row, stamp_of(clock)) && rest == left_of(row),
+        Some((clock, rest)) => has_optional_stamp(alloc, row, stamp_of(clock))
+            && rest == left_of(row),
         None => answer_of(row).is_none(),
     }
 }
@@ -303,7 +304,7 @@ fn tells_which_are_read_back(rt: HostRuntime) {
         "-62167219200 0",
         "-62167219201 3600",
     ] {
-        check(&rt, is_canonical_stamp(stamp_of(&rt, row)), row);
+        check(&rt, is_canonical_stamp(stamp_in(&rt, row)), row);
     }
 }
 
@@ -317,6 +318,6 @@ fn tells_which_are_not_read_back(rt: HostRuntime) {
         "-62167219201 0",
         "-62167219200 -3600",
     ] {
-        check(&rt, !is_canonical_stamp(stamp_of(&rt, row)), row);
+        check(&rt, !is_canonical_stamp(stamp_in(&rt, row)), row);
     }
 }
