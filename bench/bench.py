@@ -153,14 +153,14 @@ def machine():
     return "%s, %d cores, %s" % (model, os.cpu_count() or 1, datetime.date.today())
 
 
-def least(filters, file, runs):
-    """The least time of each filter on a file, the filters run in turn."""
-    best = [None] * len(filters)
+def least(filters, files, runs):
+    """The least time of each filter on each file: the filters run in turn, and each file once before any again, so that
+    a machine's slow minutes fall on all files alike."""
+    best = [[float("inf")] * len(filters) for _ in files]
     for _ in range(runs):
-        for place, it in enumerate(filters):
-            taken = it.run(file)
-            if best[place] is None or taken < best[place]:
-                best[place] = taken
+        for times, file in zip(best, files):
+            for place, it in enumerate(filters):
+                times[place] = min(times[place], it.run(file))
     return best
 
 
@@ -192,19 +192,20 @@ def with_tables(text, tables, measured):
 
 
 def time_corpora(filters, chosen, folder):
+    files, sizes = [], []
+    for name, lines in corpora.corpora(chosen.lines):
+        if chosen.only in name:
+            files.append(os.path.join(folder, name))
+            sizes.append((len(lines), corpora.write_lines(files[-1], lines) / 1e6))
+    times = least(filters, files, chosen.runs)
     more = ["peer's lines/s", "times the peer's speed"] * (len(filters) > 1)
     table = head("corpus", "lines", "MB", "lines/s", "MB/s", *more)
-    for name, lines in corpora.corpora(chosen.lines):
-        if chosen.only not in name:
-            continue
-        file = os.path.join(folder, name)
-        size = corpora.write_lines(file, lines) / 1e6
-        own, *others = least(filters, file, chosen.runs)
+    for file, (count, size), (own, *others) in zip(files, sizes, times):
         more = []
         for it in others:
-            more += ["{:,.0f}".format(len(lines) / it), "%.2f" % (it / own)]
-        speeds = ["{:,.0f}".format(len(lines) / own), "%.0f" % (size / own)]
-        row(table, name, "{:,}".format(len(lines)), "%.1f" % size, *speeds, *more)
+            more += ["{:,.0f}".format(count / it), "%.2f" % (it / own)]
+        speeds = ["{:,.0f}".format(count / own), "%.0f" % (size / own)]
+        row(table, os.path.basename(file), "{:,}".format(count), "%.1f" % size, *speeds, *more)
         os.remove(file)
     return table
 

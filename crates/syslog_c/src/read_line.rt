@@ -1,5 +1,5 @@
 //! The reading of a line of bytes by the options.
-ghost use Rattle.std.specs.Prelude.{◌≡◌, MatchResult, ⊤};
+ghost use Rattle.std.specs.Prelude.{MatchResult, ⊤};
 ghost use Rattle.jiff_core.specs.Calendar.{IsYear};
 ghost use Rattle.syslog_pieces.specs.Pieces.View.{shown};
 ghost use Rattle.syslog_loose.specs.Message.{message_value};

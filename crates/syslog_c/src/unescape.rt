@@ -1,8 +1,5 @@
 //! The value of a parameter without its escapes, in room of the caller's.
-ghost use Rattle.std.specs.Prelude.{◌≡◌, MatchResult, string_bytes};
-ghost use Rattle.std.specs.Str.{chars, IsUtf8};
 ghost use Rattle.syslog_c.specs.Outcome.{IsCodeOf};
-ghost use Rattle.syslog_c.specs.Room.{IsLeft};
 ghost use Rattle.syslog_c.specs.Texts.{Unescaped};
 
 use crate::outcome::Outcome;

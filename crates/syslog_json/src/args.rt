@@ -1,5 +1,5 @@
 //! The program's arguments.
-ghost use Rattle.std.specs.Prelude.{◌≡◌, IfSome, List, MatchOption, ℕ, drop, map, string_bytes};
+ghost use Rattle.std.specs.Prelude.{IfSome, List, MatchOption, ℕ, drop, map, string_bytes};
 ghost use Rattle.std.specs.Vec.Iter.{into_iter_items};
 ghost use Rattle.syslog_json.specs.Arguments.{AsksFor};
 ghost use Rattle.syslog_json.specs.declared.args.Task.{Task};

@@ -1,5 +1,5 @@
 //! The JSON of a message.
-ghost use Rattle.std.specs.Prelude.{◌≡◌, ◌≢◌, [], IfOk, OnOk, Option, codes, map};
+ghost use Rattle.std.specs.Prelude.{◌≡◌, IfOk, OnOk, Option, codes, map};
 ghost use Rattle.syslog_pieces.specs.Pieces.View.{shown};
 ghost use Rattle.syslog_pieces.specs.StructuredData.Element.{element_value};
 ghost use Rattle.syslog_loose.specs.Message.{message_value};

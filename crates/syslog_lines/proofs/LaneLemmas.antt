@@ -1,15 +1,17 @@
 -- From the mask of one load of sixty-four bytes to the bytes before the first line feed.
 use Rattle.std.proofs.Common.{◌≡◌, ℕ, ◌+◌, ◌-◌, ◌%◌, ◌^◌, ◌<◌, ◌≤◌, eqb, cond, Bool, true, false}
 use Rattle.std.proofs.Common.{not, List, map, length, get_or, sym, ap, ◌∙◌, subst, arith, inl, inr}
-use Rattle.std.proofs.lemmas.Bool.{not-true, not-false, cases_eq, eq-eqb, eqb-false, eqb-true, ne_eqb}
-use Rattle.std.proofs.lemmas.Bool.{cond-true, cond-false, cond_both}
+use Rattle.std.proofs.lemmas.Bool.{not-true, not-false, cases_eq, eqb-false, eqb-true}
+use Rattle.std.proofs.lemmas.Bool.{cond_both}
 use Rattle.std.proofs.lemmas.Simd.{map-map, mask_l-mod, length-chunk, get_or-chunk}
 use Rattle.std.proofs.lemmas.Simd.{leading_from_mask_l, trailing_mask_l}
 use Rattle.std.proofs.lemmas.List.{length-map}
 use Rattle.std.proofs.lemmas.List.Sums.{prefix_len-le-length, prefix_len_passes, prefix_len_stops}
+use Rattle.std.specs.Int.{trailing_zeros, w64}
+use Rattle.std.specs.Int.Count.{trailing_of_zero}
 use Rattle.std.specs.List.{prefix_len}
 use lib.Lanes.{chunk, mask_l, top}
-use Rattle.syslog_lines.specs.Search.{IsRun, first_set}
+use Rattle.syslog_lines.specs.Search.{IsRun}
 
 -- the lane of a line feed is all ones after the comparison, and that of another byte all zeros
 abbrev compared : ℕ → ℕ
@@ -18,11 +20,12 @@ compared byte = cond (eqb byte 10) 255 0
 abbrev stops : ℕ → Bool
 stops byte = top 7 (compared byte)
 
-run_is : (v : List ℕ) → length v ≡ 64 → first_set (mask_l (map stops v)) ≡ prefix_len (λ byte. not (stops byte)) v
+run_is : (v : List ℕ) → length v ≡ 64
+    → trailing_zeros w64 (mask_l (map stops v)) ≡ prefix_len (λ byte. not (stops byte)) v
 run_is v long =
     elim (cases_eq (mask_l (map stops v)) 0) [
-      | inl none ↦ cond-true _ _ _ (eq-eqb _ _ none) ∙ sym (leading_from_mask_l stops v none ∙ long)
-      | inr some ↦ cond-false _ _ _ (ne_eqb _ _ some) ∙ trailing_mask_l stops 64 v (omega arith) (omega arith)
+      | inl none ↦ ap (trailing_zeros w64) none ∙ trailing_of_zero 64 ∙ sym (leading_from_mask_l stops v none ∙ long)
+      | inr some ↦ trailing_mask_l stops 64 v (omega arith) (omega arith)
     ]
 
 -- a lane stops just at a line feed
@@ -30,7 +33,7 @@ stops_is : (byte : ℕ) → stops byte ≡ eqb byte 10
 stops_is byte = cond_both (eqb byte 10) 255 0 (λ n. top 7 n ≡ eqb byte 10) sym sym
 
 module _ (bytes : List ℕ) (at run : ℕ) (lanes : List ℕ) (room : at + 64 ≤ length bytes)
-    (found : run ≡ first_set (mask_l (map (top 7) lanes) % 2 ^ 64))
+    (found : run ≡ trailing_zeros w64 (mask_l (map (top 7) lanes) % 2 ^ 64))
     (compares : lanes ≡ map compared (chunk at 64 bytes)) where
   long : length (chunk at 64 bytes) ≡ 64
   long = length-chunk at 64 bytes room
@@ -40,7 +43,7 @@ module _ (bytes : List ℕ) (at run : ℕ) (lanes : List ℕ) (room : at + 64 �
       let v = chunk at 64 bytes in
       let mask = ap (λ l. mask_l l % 2 ^ 64) (ap (map (top 7)) compares ∙ map-map (top 7) compared v)
       ∙ mask_l-mod (map stops v) 64 (omega (arith, length-map v stops, long)) in
-      found ∙ ap first_set mask ∙ run_is v long
+      found ∙ ap (trailing_zeros w64) mask ∙ run_is v long
 
   goes_on : (k : ℕ) → at ≤ k → k < at + run → stops (get_or bytes k 0) ≡ false
   goes_on k from to =

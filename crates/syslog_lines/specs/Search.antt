@@ -1,10 +1,5 @@
 -- Where line feeds stand.
-use Rattle.std.specs.Int.{w64, trailing_zeros}
-use Rattle.std.specs.Prelude.{◌≡◌, ◌≢◌, ◌+◌, ◌-◌, ◌<◌, ◌≤◌, ◌==◌, if◌then◌else◌, ℕ, List, length, slice_index}
-
--- the place of the lowest bit that is set, or 64
-abbrev pub first_set : ℕ → ℕ
-first_set mask = if mask == 0 then 64 else trailing_zeros w64 mask
+use Rattle.std.specs.Prelude.{◌≡◌, ◌≢◌, ◌+◌, ◌-◌, ◌<◌, ◌≤◌, ℕ, List, length, slice_index}
 
 -- of the sixty-four bytes from a place on, this many stand before the first line feed
 pub record IsRun (bytes : List ℕ) (at run : ℕ) : Type 0 where

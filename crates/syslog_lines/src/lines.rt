@@ -1,5 +1,4 @@
 //! The first line of a text or of bytes.
-ghost use Rattle.std.specs.Prelude.{◌≡◌, ◌<◌, length};
 ghost use Rattle.syslog_lines.specs.Lines.{IsFirstLine};
 
 use crate::search::next_feed;

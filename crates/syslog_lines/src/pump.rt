@@ -51,7 +51,7 @@ pub fn pump<F: LineFilter, R: Read, W: Write>(
             &mut tally,
         )?;
     }
-    write_last(
+    write_answers(
         alloc,
         filter,
         block.cut(),
@@ -60,6 +60,9 @@ pub fn pump<F: LineFilter, R: Read, W: Write>(
         writer,
         &mut tally,
     )?;
+    if writer.flush().is_err() {
+        return Err(RunFault::Write);
+    }
     Ok(tally)
 }
 
@@ -84,30 +87,6 @@ fn write_answers<F: LineFilter, W: Write>(
     let answered = answer_lines(alloc, filter, lines, text, output, tally);
     write_whole(writer, output)?;
     answered?;
-    Ok(())
-}
-
-// The same of the last lines, and flushes.
-fn write_last<F: LineFilter, W: Write>(
-    alloc: Global,
-    filter: &F,
-    lines: &[u8],
-    text: &mut String,
-    output: &mut Vec<u8>,
-    writer: &mut Watched<W>,
-    tally: &mut Tally,
-) -> Result<(), RunFault>
-    requires { writer.old.failed ≡ false }
-    ensures ok { OnOk result (AnswersAll (F.answers filter.now) lines.now (W.contents writer.old.inner)
-        (W.contents writer.new.inner) tally.old tally.new) }
-    ensures well { OnOk result (writer.new.failed ≡ false) }
-    ensures err { IfErr result (WritesFirst (F.answers filter.now) lines.now (W.contents writer.old.inner)
-        (W.contents writer.new.inner) writer.new.failed) }
-{
-    write_answers(alloc, filter, lines, text, output, writer, tally)?;
-    if writer.flush().is_err() {
-        return Err(RunFault::Write);
-    }
     Ok(())
 }
 

@@ -1,6 +1,6 @@
 //! Where line feeds stand, sixty-four bytes at a time.
-ghost use Rattle.std.specs.Prelude.{◌≡◌, ◌+◌, ◌≤◌, length, take};
-ghost use Rattle.syslog_lines.specs.Search.{IsNextFeed, IsPastLastFeed, IsRun, first_set};
+ghost use Rattle.std.specs.Prelude.{◌+◌, ◌≤◌, length, take};
+ghost use Rattle.syslog_lines.specs.Search.{IsNextFeed, IsPastLastFeed, IsRun};
 
 use std::simd::prelude::*;
 
@@ -68,17 +68,6 @@ fn feedless_run(bytes: &[u8], at: usize) -> usize
 {
     let lanes = u8x64::from_slice(&bytes[at..]);
     let feeds = lanes.simd_eq(u8x64::splat(b'\n'));
-    first_set(feeds.to_bitmask())
-}
-
-// The place of the lowest bit that is set, or 64.
-#[inline(always)]
-fn first_set(mask: u64) -> usize
-    ensures { result ≡ first_set mask }
-{
-    if mask == 0 {
-        LANES
-    } else {
-        mask.trailing_zeros() as usize
-    }
+    // (where no lane has one there are as many zeros as lanes)
+    feeds.to_bitmask().trailing_zeros() as usize
 }

@@ -3,7 +3,7 @@
 //! A host of RFC 3164 that ends in colons is read with one fewer each time, and the colon stands in the message part
 //! behind it; of a message part of dashes each reading takes one for an empty list. Each of these rounds is known from
 //! the one before it, so the last of them is written at once.
-ghost use Rattle.std.specs.Prelude.{◌≡◌, ◌+◌, ◌*◌, ◌-◌, ◌↔◌, ◌++◌, ◌<◌, ◌≤◌, ℕ, [], IfSome, IsTrue};
+ghost use Rattle.std.specs.Prelude.{◌≡◌, ◌+◌, ◌*◌, ◌-◌, ◌++◌, ◌<◌, ◌≤◌, ℕ, [], IfSome};
 ghost use Rattle.std.specs.Prelude.{MatchOption, OnOk, Some, length, map, string_bytes};
 ghost use Rattle.std.specs.Bool.{◌==◌};
 ghost use Rattle.std.specs.Fmt.{WritesOnOk};

@@ -1,11 +1,11 @@
 //! The message: its fields, and its printed text.
-ghost use Rattle.std.specs.Prelude.{◌≡◌, ◌+◌, ◌*◌, ◌++◌, ◌∷◌, Some};
-ghost use Rattle.std.specs.Option.{option_map, option_map_or};
 ghost use Rattle.std.specs.Fmt.{WritesOnOk};
+ghost use Rattle.std.specs.Option.{option_map, option_map_or};
+ghost use Rattle.std.specs.Prelude.{◌≡◌, ◌+◌, ◌*◌, ◌++◌, ◌∷◌, Some};
 ghost use Rattle.std.specs.Str.{encode_utf8_all};
+ghost use Rattle.syslog_pieces.specs.Pieces.View.{text_of};
 ghost use Rattle.syslog_pieces.specs.Pri.{facility_number, severity_number};
 ghost use Rattle.syslog_pieces.specs.ProcId.{procid_value};
-ghost use Rattle.syslog_pieces.specs.Pieces.View.{text_of};
 ghost use Rattle.syslog_loose.specs.Message.{message_value};
 ghost use Rattle.syslog_loose.specs.Printed as spec;
 
@@ -129,7 +129,6 @@ fn write_origin<S: AsStr, W: fmt::Write>(
 }
 
 // Writes the app name, the process id and the message id, each behind a space.
-#[inline]
 fn write_program<S: AsStr, W: fmt::Write>(
     f: &mut fmt::Formatter<W>,
     message: &Message<S>,

@@ -13,7 +13,7 @@ ghost use Rattle.syslog_pieces.specs.Text.{trimmed};
 ghost use Rattle.syslog_pieces.specs.Timestamp.{header_stamp, stamp_seen};
 ghost use Rattle.syslog_pieces.specs.Timestamp.MonthDate.{month_date};
 ghost use Rattle.syslog_pieces.specs.Timestamp.Zone as zone;
-ghost use Rattle.syslog_pieces.specs.Timestamp.Zone.{IsYearAt, dating_of, dating_value};
+ghost use Rattle.syslog_pieces.specs.Timestamp.Zone.{IsYearAt, dating_of};
 ghost use Rattle.syslog_pieces.specs.declared.timestamp.month_date.MonthDate.{MonthDate};
 ghost use Rattle.syslog_loose.specs.Message.{message_value};
 ghost use Rattle.syslog_loose.specs.ReadBack.{AnswersItself, FieldsAsRead};

@@ -5,13 +5,11 @@
 ghost use Rattle.std.specs.Bool.{OnFalse};
 ghost use Rattle.std.specs.Cmp.{on_equiv, on_per, partial_equiv_from_equiv};
 ghost use Rattle.std.specs.Ordering.{on};
-ghost use Rattle.std.specs.Prelude.{◌≡◌, ◌↔◌, ◌++◌, IfOk, IsTrue, Option, Some, string_bytes};
+ghost use Rattle.std.specs.Prelude.{◌≡◌, ◌↔◌, IfOk, IsTrue, Option, Some, string_bytes};
 ghost use Rattle.std.specs.Option.{option_map};
 ghost use Rattle.std.specs.Str.{chars, encode_utf8_all};
 ghost use Rattle.syslog_pieces.specs.Bodies.Looks.{LeadsBare};
 ghost use Rattle.syslog_pieces.specs.Bodies.Verbatim.{IsBareWord};
-ghost use Rattle.syslog_pieces.specs.Pieces.Class.{Front, Text};
-ghost use Rattle.syslog_pieces.specs.ProcId.{process_text};
 ghost use Rattle.syslog_pieces.specs.ProcId as spec;
 ghost use Rattle.syslog_pieces.specs.declared.procid.ProcId.{ProcId};
 ghost use Rattle.syslog_pieces.specs.ProcId.Equal.{procid_eq};

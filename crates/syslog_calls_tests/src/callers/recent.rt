@@ -1,6 +1,6 @@
 //! Instants of lines that were written within the last year, as a caller of this crate finds them. `CALLING.md` names
 //! it.
-ghost use Rattle.std.specs.Prelude.{◌≡◌, ℤ, IfOk, None, Some};
+ghost use Rattle.std.specs.Prelude.{◌≡◌, IfOk, None, Some};
 ghost use Rattle.std.specs.Str.{chars};
 ghost use Rattle.syslog_pieces.specs.Timestamp.Zone.{dating_of};
 ghost use Rattle.syslog_loose.specs.Reading.{InYear, OnReading};

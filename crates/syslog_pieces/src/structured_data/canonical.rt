@@ -1,6 +1,6 @@
 //! Which elements are read back from print as they stand: the scanners that read them are asked, and no memory is
 //! taken.
-ghost use Rattle.std.specs.Prelude.{◌↔◌, ◌<◌, IsTrue, length, map};
+ghost use Rattle.std.specs.Prelude.{◌↔◌, ◌<◌, IsTrue, map};
 ghost use Rattle.std.specs.List.{AllByRecursion};
 ghost use Rattle.std.specs.Str.{chars};
 ghost use Rattle.syslog_pieces.specs.Pieces.View.{text_of};

@@ -9,7 +9,7 @@ ghost use Rattle.std.specs.Prelude.{MatchOption, MatchResult, length, slice_inde
 ghost use Rattle.std.specs.Str.{chars, IsUtf8};
 ghost use Rattle.syslog_pieces.specs.Bodies.Scan.{EndsRun, SplitsRun};
 ghost use Rattle.syslog_pieces.specs.Text.CharClass.{has};
-ghost use Rattle.syslog_pieces.specs.Pieces.Class.{Class, Front, NoFront, exactly, some_run, texted};
+ghost use Rattle.syslog_pieces.specs.Pieces.Class.{Front, NoFront, exactly, some_run, texted};
 ghost use Rattle.syslog_pieces.specs.Bodies.Closing.{start as start_class, opening as opening_class};
 ghost use Rattle.syslog_pieces.specs.Bodies.Closing.{quoted as quoted_class, id_alone, name_alone};
 ghost use Rattle.syslog_pieces.specs.Bodies.Closing.{closing, IsDead, last_char};

@@ -1,5 +1,5 @@
 //! What the first bytes of a text tell, or its last one, without a scan.
-ghost use Rattle.std.specs.Prelude.{◌≡◌, ◌≢◌, ℕ, List, ◌∷◌, ◌++◌, [], IfSome, IsTrue};
+ghost use Rattle.std.specs.Prelude.{◌≡◌, ◌≢◌, ℕ, List, ◌∷◌, ◌++◌, [], IsTrue};
 ghost use Rattle.std.specs.Prelude.{MatchBool, drop, false, length, slice_index, ◌<◌};
 ghost use Rattle.std.specs.Bool.{OnFalse};
 ghost use Rattle.std.specs.Char.{is_ascii_digit};

@@ -1,5 +1,5 @@
 //! ASCII bytes and numbers, written in one piece each, without the formatter's options.
-ghost use Rattle.std.specs.Prelude.{◌≡◌, ◌<◌, ◌+◌, ◌/◌, ◌%◌, ◌++◌, [], ◌∷◌, if◌then◌else◌, is_ok, string_bytes};
+ghost use Rattle.std.specs.Prelude.{◌≡◌, ◌<◌, ◌+◌, ◌/◌, ◌%◌, ◌++◌, ◌∷◌, if◌then◌else◌, is_ok, string_bytes};
 ghost use Rattle.std.specs.Fmt.{WritesOnOk, decimal, signed_decimal};
 ghost use Rattle.std.specs.List.{AllByRecursion};
 ghost use Rattle.jiff_fmt.specs.Text.{pad2, pad4};

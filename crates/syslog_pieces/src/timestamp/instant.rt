@@ -37,16 +37,16 @@ pub fn clock_stamp(fields: CivilFields, offset: Offset) -> Option<ClockStamp>
     if is_early(fields) {
         return Some(ClockStamp { fields, offset });
     }
-    let CivilFields {
-        year,
-        month,
-        day,
-        hour,
-        minute,
-        second,
-        nanosecond,
-    } = fields;
-    if is_there(year, month, day, hour, minute, second, nanosecond, offset) {
+    if is_there(
+        fields.year,
+        fields.month,
+        fields.day,
+        fields.hour,
+        fields.minute,
+        fields.second,
+        fields.nanosecond,
+        offset,
+    ) {
         Some(ClockStamp { fields, offset })
     } else {
         None

@@ -1,7 +1,11 @@
-use Rattle.syslog_lines.specs.declared.summary.RunFault.TheVariants.{Memory}
+use Rattle.std.proofs.Common.{arith, length, refl, true}
+use Rattle.std.proofs.KnownBytes.{Appends-kept}
+use Rattle.std.proofs.lemmas.List.{take_all}
+use Rattle.syslog_lines.specs.declared.summary.RunFault.TheVariants.{Memory, Write}
 use Rattle.syslog_lines.proofs.AnswerLemmas.{IfErr-passed}
 use Rattle.syslog_lines.proofs.PumpLemmas.{EndsEarly-last, EndsEarly-more, EndsEarly-stopped, EndsEarly-unbegun}
 use Rattle.syslog_lines.proofs.PumpLemmas.{PumpedSoFar-more, PumpedSoFar-start, PumpsAll-last}
+use Rattle.syslog_lines.proofs.WriteLemmas.{AnswersAll-begun, AnswersAll-moved}
 use Rattle.syslog_lines.proofs.pump.pump.Goals as goal
 
 pub returns-in_err-block-clause-err : goal.returns-in_err-block-clause-err
@@ -36,15 +40,27 @@ returns-in_err-write_answers-clause-err g c =
     (EndsEarly-more c.loop-block.invariant.so_far (g.R.Read.remaining c.fill.new.reader.inner) _ _ _ filled
     c.complete.ensures.closed c.fill.ensures.open _ c.in_err-write_answers.field-0.0 c.in_err-write_answers.ensures.err)
 
-pub returns-in_err-write_last-clause-err : goal.returns-in_err-write_last-clause-err
-returns-in_err-write_last-clause-err g c =
+pub returns-in_err-write_answers-2-clause-err : goal.returns-in_err-write_answers-2-clause-err
+returns-in_err-write_answers-2-clause-err g c =
     let ended = rw (c.if-branch.false, ← c.cut.ensures.value) at c.in_ok-fill.ensures.ok in
-    IfErr-passed _ c.in_err-write_last.field-0.0 _ c.from_residual-in_err-write_last.ensures.1
+    IfErr-passed _ c.in_err-write_answers-2.field-0.0 _ c.from_residual-in_err-write_answers-2.ensures.1
     (EndsEarly-last c.loop-block.invariant.so_far _ _ _ ended _
-    c.in_err-write_last.field-0.0 c.in_err-write_last.ensures.err)
+    c.in_err-write_answers-2.field-0.0 c.in_err-write_answers-2.ensures.err)
+
+pub returns-then-is_err-clause-err : goal.returns-then-is_err-clause-err
+returns-then-is_err-clause-err g c =
+    let ended = rw (c.if-branch.false, ← c.cut.ensures.value) at c.in_ok-fill.ensures.ok in
+    EndsEarly-last c.loop-block.invariant.so_far _ _ _ ended true Write (
+      refl,
+      AnswersAll-begun _ _ _ _ _ _ (λ output written. (
+        length output,
+        rw (take_all (length output) output (omega arith)) (Appends-kept _ _ _ output written c.flush.ensures.bytes),
+      )) _ _ c.in_ok-write_answers-2.ensures.ok,
+    )
 
 pub returns-clause-ok : goal.returns-clause-ok
 returns-clause-ok g c =
     let ended = rw (c.if-branch.false, ← c.cut.ensures.value) at c.in_ok-fill.ensures.ok in
     PumpsAll-last c.loop-block.invariant.so_far _ _ _ ended _
-    c.in_ok-write_last.ensures.ok
+    (AnswersAll-moved _ _ _ _ _ _ (λ output written. Appends-kept _ _ _ output written c.flush.ensures.bytes) _ _
+    c.in_ok-write_answers-2.ensures.ok)

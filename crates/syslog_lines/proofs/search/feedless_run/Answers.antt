@@ -1,4 +1,4 @@
-use Rattle.std.proofs.Common.{ℕ}
+use Rattle.std.proofs.Common.{ℕ, refl}
 use Rattle.std.proofs.lemmas.Simd.{zip2_splat, length-chunk}
 use lib.Lanes.{chunk}
 use Rattle.syslog_lines.proofs.LaneLemmas.{run_from_mask}
@@ -8,4 +8,4 @@ pub returns : goal.returns
 returns c =
     let v = chunk c.args.at 64 c.args.bytes.now in
     let long = length-chunk c.args.at 64 c.args.bytes.now c.requires in
-    run_from_mask c.args.bytes.now c.args.at _ _ c.requires c.first_set.ensures (zip2_splat {Y = ℕ} _ v 64 10 long)
+    run_from_mask c.args.bytes.now c.args.at _ _ c.requires refl (zip2_splat {Y = ℕ} _ v 64 10 long)

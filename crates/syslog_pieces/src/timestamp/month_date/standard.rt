@@ -2,7 +2,7 @@
 //!
 //! Each reader here looks at bytes, and answers nothing where they have another form: the date is then read piece by
 //! piece. The form has fifteen bytes.
-ghost use Rattle.std.specs.Prelude.{◌≡◌, ℕ, ◌+◌, ◌<◌, ◌++◌, ◌∷◌, IfSome, IsTrue, Some};
+ghost use Rattle.std.specs.Prelude.{◌≡◌, ◌+◌, ◌<◌, ◌++◌, ◌∷◌, IfSome, IsTrue, Some};
 ghost use Rattle.std.specs.Str.{chars};
 ghost use Rattle.jiff_fmt.specs.Text.{pad2};
 ghost use Rattle.syslog_pieces.specs.Bodies.Standard as spec;
