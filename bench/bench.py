@@ -155,12 +155,15 @@ def machine():
 
 def least(filters, files, runs):
     """The least time of each filter on each file: the filters run in turn, and each file once before any again, so that
-    a machine's slow minutes fall on all files alike."""
+    a machine's slow minutes fall on all files alike. Each time it is a fresh copy of the file, since a copy whose pages
+    lie badly in memory slows every run."""
     best = [[float("inf")] * len(filters) for _ in files]
     for _ in range(runs):
         for times, file in zip(best, files):
+            fresh = shutil.copy(file, file + ".copy")
             for place, it in enumerate(filters):
-                times[place] = min(times[place], it.run(file))
+                times[place] = min(times[place], it.run(fresh))
+            os.remove(fresh)
     return best
 
 
