@@ -1,4 +1,3 @@
-pub mod BeginningLemmas
 pub mod BoundLemmas
 pub mod CanonicalLemmas
 pub mod DashChangeLemmas

@@ -1,4 +1,3 @@
-pub mod Beginning
 pub mod Canonical
 pub mod DashChange
 pub mod Equal

@@ -13,7 +13,6 @@
 //! their contracts and proofs.
 #![tactic(auto)]
 
-mod beginning;
 mod dash_change;
 mod fault;
 mod jumps;

@@ -27,7 +27,6 @@ ghost use Rattle.syslog_loose.specs.View3164.{IsBehindStamp};
 ghost use Rattle.syslog_loose.specs.declared.variant.Variant.{Variant};
 ghost use Rattle.syslog_loose.specs.declared.variant.Variant.TheVariants as variants;
 
-use crate::beginning::may_be_read;
 use crate::fault::ParseFault;
 use crate::message::{Message, Protocol};
 use crate::rfc3164::Stamped;
@@ -178,9 +177,6 @@ pub fn parse_message_with_year_exact_tz<'a, F: FnOnce(IncompleteDate) -> i32>(
         (message_value (λ s. shown s) m))) }
 {
     let text = trimmed(input);
-    if !may_be_read(text) {
-        return Err(ParseFault::Invalid);
-    }
     let (priority, rest) = optional_priority(text);
     let (timestamp, behind) = match front_date(rest, variant) {
         Some((date, behind)) => {

@@ -21,7 +21,6 @@ ghost use Rattle.syslog_loose.specs.View3164.{IsBehindStamp};
 ghost use Rattle.syslog_loose.specs.declared.fault.ParseFault.TheVariants.{Invalid};
 ghost use Rattle.syslog_loose.specs.declared.variant.Variant.{Variant};
 
-use crate::beginning::may_be_read;
 use crate::fault::ParseFault;
 use crate::jumps::write_round;
 use crate::line::rfc5424_text;
@@ -93,9 +92,6 @@ pub(crate) fn next_round<F: FnOnce(IncompleteDate) -> i32, const CALLER: u8>(
         (λ fault. InYear (F.post get_year) variant whole (λ year.
         (fault ≡ Invalid) ↔ IsUnreadable variant (dating_of year tz.entry local.entry) whole))) }
 {
-    if !may_be_read(input) {
-        return Err(ParseFault::Invalid);
-    }
     let (priority, rest) = optional_priority(input);
     let found = rfc5424_text::<CALLER>(alloc, text, input, priority, rest, variant)?;
     if found {

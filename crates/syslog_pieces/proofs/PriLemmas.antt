@@ -12,7 +12,6 @@ use Rattle.std.specs.Fmt.{decimal}
 use Rattle.std.specs.Str.{chars, IsUtf8, IsAscii, IsCharBoundary}
 use Rattle.std.specs.Str.Parse.{digits_value}
 use Rattle.jiff_fmt.specs.Text.{pad2}
-use Rattle.syslog_pieces.specs.Bodies.Looks.{IsPriorityBytes}
 use Rattle.syslog_pieces.specs.Pieces.Class.{Text, Each, Front, NoFront, IsDeterministic, Row, Values}
 use Rattle.syslog_pieces.specs.Text.{number}
 use Rattle.syslog_pieces.specs.Pri.{priority, priority_text, priority_row, facility_number, severity_number}
@@ -22,9 +21,7 @@ use Rattle.syslog_pieces.specs.declared.pri.SyslogSeverity.{SyslogSeverity}
 use Rattle.syslog_pieces.proofs.PieceLemmas.Class.{AllDeterministic, exactly_det, row_det}
 use Rattle.syslog_pieces.specs.Timestamp.Printed.{pad3}
 use Rattle.syslog_pieces.proofs.PieceLemmas.Rows.{Fails, no_row}
-use Rattle.syslog_pieces.proofs.TextLemmas.Chars.{digits_ascii, one_ascii}
 use Rattle.syslog_pieces.proofs.TextLemmas.Decimals.{digit_is, one_digit, two_digits, three_digits}
-use Rattle.syslog_pieces.proofs.TextLemmas.Looks.{behind_cut, behind_is, behind_chars}
 use Rattle.syslog_pieces.proofs.TextLemmas.Words.{number_det}
 
 pub priority_row_det : AllDeterministic priority_row
@@ -42,48 +39,6 @@ as_priority f = record { piece = f.piece; whole = f.whole; is = f.is }
 -- no priority begins a text where a piece of one is not there
 pub no_priority : {text : Text} → Fails priority_row text → NoFront priority text
 no_priority f p q v e h = no_row priority_row priority_row_det f p q (tt, (v, (tt, tt))) e h
-
--- digits between `<` and `>`
-is_priority : (ds q : Text) (n : ℕ) → 0 < length ds → Each is_ascii_digit ds → n ≡ digits_value 10 ds → n ≤ 255
-    → priority.Is (60 ∷ (ds ++ (62 ∷ []))) q n
-is_priority ds q n some each value small =
-    ((60 ∷ []) ∷ ds ∷ (62 ∷ []) ∷ [], refl, (refl, ((some, each, refl, value, small), (refl, tt))))
-
--- ---- a priority of one to three digits, by bytes
-abbrev HasPriority : List ℕ → ℕ → List ℕ → Type 0
-HasPriority bs n rest = (ds : List ℕ) × (0 < length ds) × Each is_ascii_digit ds × (n ≡ digits_value 10 ds) × (n ≤ 255)
-    × (bs ≡ (60 ∷ (ds ++ (62 ∷ []))) ++ rest)
-
-has_priority : (bs : List ℕ) (n : ℕ) (rest : List ℕ) → IsPriorityBytes bs n rest → HasPriority bs n rest
-has_priority bs n rest (inl (h, e)) =
-    let a = digit_is (n / 10) (omega arith) in let b = digit_is (n % 10) (omega arith) in
-    (pad2 n, omega arith, (a.0, (b.0, tt)), rw (a.2, b.2) (omega arith), omega arith, e)
-has_priority bs n rest (inr (inl (h, e))) =
-    let a = digit_is (n / 100) (omega arith) in let b = digit_is (n / 10 % 10) (omega arith) in
-    let c = digit_is (n % 10) (omega arith) in
-    (pad3 n, omega arith, (a.0, (b.0, (c.0, tt))), rw (a.2, b.2, c.2) (omega arith), omega arith, e)
-has_priority bs n rest (inr (inr (h, e))) =
-    let a = digit_is n h in ((48 + n) ∷ [], omega arith, (a.0, tt), rw a.2 (omega arith), omega arith, e)
-
-module _ (bs : List ℕ) (n : ℕ) (rest : List ℕ) (u : IsUtf8 bs) (b : IsPriorityBytes bs n rest) where
-  its : HasPriority bs n rest
-  its = has_priority bs n rest b
-
-  its_ascii : IsAscii (60 ∷ (its.0 ++ (62 ∷ [])))
-  its_ascii =
-      IsAscii-cons 60 (its.0 ++ (62 ∷ [])) (omega arith)
-      (IsAscii-append its.0 (62 ∷ []) (digits_ascii its.0 its.2) (one_ascii 62 (omega arith)))
-
-  pub priority_cut : IsCharBoundary bs (length bs - length rest)
-  priority_cut = behind_cut (60 ∷ (its.0 ++ (62 ∷ []))) bs rest its_ascii u its.5
-
-  pub priority_read : (ys : List ℕ) → ys ≡ drop (length bs - length rest) bs → Front priority (chars bs) (chars ys) n
-  priority_read ys f =
-      let piece = 60 ∷ (its.0 ++ (62 ∷ [])) in rw (behind_is piece bs rest its_ascii u its.5 ys f) (record {
-        piece = piece;
-        whole = behind_chars piece bs rest its_ascii u its.5;
-        is = is_priority its.0 (chars rest) n its.1 its.2 its.3 its.4;
-      })
 
 -- ---- each facility, and each severity, stands at the place of its number
 facility_placed : (f : SyslogFacility) → slice_get facilities (facility_number f) ≡ Some f

@@ -6,6 +6,7 @@ pub mod Verbatim
 pub mod Canonical
 pub mod Lanes
 pub mod Looks
+pub mod Numbers
 pub mod Printed
 pub mod ReadBack
 pub mod Runs

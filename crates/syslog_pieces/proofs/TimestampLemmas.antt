@@ -12,5 +12,4 @@ pub mod Range
 pub mod Reading
 pub mod RoundTrip
 pub mod Texts
-pub mod Standard
 pub mod Zone

@@ -7,4 +7,3 @@ pub mod Looks
 pub mod MonthReading
 pub mod Scan
 pub mod StampReading
-pub mod Standard

@@ -7,9 +7,9 @@
 //! `pri::priority("<34>1 - h")` is `Some((34, "1 - h"))`, and `pri::decompose_pri(34)` is
 //! `(Some(LOG_AUTH), Some(SEV_CRIT))`.
 //!
-//! The modules `text::verbatim`, `text::canonical`, `text::write_ascii`, `timestamp::canonical`,
-//! `timestamp::month_date::standard` and `structured_data::canonical`, the functions `.._stands`, and
-//! `structured_data::printed_list`, serve `syslog_loose` alone.
+//! The modules `text::verbatim`, `text::canonical`, `text::write_ascii`, `timestamp::canonical` and
+//! `structured_data::canonical`, the functions `.._stands`, and `structured_data::printed_list`, serve `syslog_loose`
+//! alone.
 #![tactic(auto)]
 
 pub mod as_str;

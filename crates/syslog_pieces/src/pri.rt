@@ -8,7 +8,6 @@ ghost use Rattle.std.specs.List.{AllByRecursion};
 ghost use Rattle.std.specs.Option.{option_and_then};
 ghost use Rattle.std.specs.Str.{chars, encode_utf8_all};
 ghost use Rattle.jiff_fmt.specs.Text.{pad2};
-ghost use Rattle.syslog_pieces.specs.Bodies.Looks.{IsPriorityBytes};
 ghost use Rattle.syslog_pieces.specs.Pieces.Class.{Front, optional};
 ghost use Rattle.syslog_pieces.specs.Pri.{priority_text};
 ghost use Rattle.syslog_pieces.specs.Pri as spec;
@@ -192,58 +191,6 @@ pub fn parts(priority: Option<u8>) -> (Option<SyslogFacility>, Option<SyslogSeve
 /// The priority at the front, as `<34>`, and the text behind it.
 #[inline(always)]
 pub fn priority(text: &str) -> Option<(u8, &str)>
-    ensures { Reads spec.priority (λ n. n) (chars text.now) result }
-{
-    match standard_priority(text) {
-        Some(found) => Some(found),
-        None => any_priority(text),
-    }
-}
-
-// `<`, a number of one to three digits and `>`, and the bytes behind them.
-#[inline(always)]
-fn priority_bytes(text: &[u8]) -> Option<(u8, &[u8])>
-    ensures { IfSome result (λ read. IsPriorityBytes text.now read.0 read.1.now) }
-{
-    match text {
-        [b'<', b @ b'0'..=b'9', c @ b'0'..=b'9', b'>', rest @ ..] => {
-            Some(((*b - b'0') * 10 + (*c - b'0'), rest))
-        }
-        [
-            b'<',
-            a @ b'0'..=b'9',
-            b @ b'0'..=b'9',
-            c @ b'0'..=b'9',
-            b'>',
-            rest @ ..,
-        ] => {
-            let tens = u16::from(*a - b'0') * 10 + u16::from(*b - b'0');
-            let number = tens * 10 + u16::from(*c - b'0');
-            if number < 256 {
-                Some((number as u8, rest))
-            } else {
-                None
-            }
-        }
-        [b'<', c @ b'0'..=b'9', b'>', rest @ ..] => Some((*c - b'0', rest)),
-        _ => None,
-    }
-}
-
-// The priority at the front, where it has one to three digits, and the text behind it.
-#[tactic(auto, using(crate::proofs::PriLemmas::priority_read))]
-#[inline(always)]
-fn standard_priority(text: &str) -> Option<(u8, &str)>
-    ensures { IfSome result (λ read. Front spec.priority (chars text.now) (shown read.1) read.0) }
-{
-    let (number, behind) = priority_bytes(text.as_bytes())?;
-    let (_, rest) = text.split_at(text.len() - behind.len());
-    Some((number, rest))
-}
-
-// The priority at the front in any form, and the text behind it.
-#[inline(never)]
-fn any_priority(text: &str) -> Option<(u8, &str)>
     ensures { Reads spec.priority (λ n. n) (chars text.now) result }
 {
     let rest = literal(text, '<')?;

@@ -6,7 +6,7 @@
 ghost use Rattle.std.specs.Prelude.{◌≡◌, ◌<◌, [], ◌∷◌, IfSome, IsTrue, Option, MatchOption};
 ghost use Rattle.std.specs.Str.{bytes_eq, chars, IsUtf8};
 ghost use Rattle.syslog_pieces.specs.Text.CharClass.{has};
-ghost use Rattle.syslog_pieces.specs.declared.text.CharClass.TheVariants.{Blank};
+ghost use Rattle.syslog_pieces.specs.declared.text.CharClass.TheVariants.{Blank, Digit};
 ghost use Rattle.syslog_pieces.specs.Pieces.Class.{Front, exactly, optional, run, some_run};
 ghost use Rattle.syslog_pieces.specs.Bodies.Scan.{EndsRun, IsBare, SplitsRun, byte_in, past_in};
 ghost use Rattle.syslog_pieces.specs.Text as spec;
@@ -25,7 +25,7 @@ pub use fields::{host_field, tag_field};
 pub(crate) use looks::begins_with_letter;
 use looks::{begins_visibly, begins_with, begins_with_digit, begins_with_gap, ends_in_colon};
 pub(crate) use numerals::few_digits;
-use numerals::number_of_digits;
+use numerals::{number_of_digits, short_digits};
 use scan::{ascii_run, is_cut, is_in};
 
 /// A class of characters.
@@ -299,21 +299,69 @@ fn many_blanks(text: &str) -> Option<&str>
 }
 
 /// The number at the front, up to a limit, and the text behind it. Leading zeros are allowed.
-#[tactic(auto, using(crate::proofs::TextLemmas::Words::number_read))]
 #[inline(always)]
 pub fn number(text: &str, limit: u32) -> Option<(u32, &str)>
     ensures { Reads (spec.number limit) (λ n. n) (chars text.now) result }
 {
-    if !begins_with_digit(text.as_bytes()) {
-        return None;
-    }
-    let (digits, rest) = split_run(text, CharClass::Digit);
-    let value = number_of_digits(digits)?;
+    let (value, rest) = any_number(text)?;
     if value > limit {
         None
     } else {
         Some((value, rest))
     }
+}
+
+// The number of 32 bits at the front, and the text behind it.
+#[inline(always)]
+fn any_number(text: &str) -> Option<(u32, &str)>
+    ensures { Reads (spec.number 4294967295) (λ n. n) (chars text.now) result }
+{
+    if !begins_with_digit(text.as_bytes()) {
+        return None;
+    }
+    match short_number(text) {
+        Some(found) => Some(found),
+        None => long_number(text),
+    }
+}
+
+// The same of one to three digits, which most numbers have: they need no scan.
+#[inline(always)]
+fn short_number(text: &str) -> Option<(u32, &str)>
+    ensures { IfSome result (λ x. Front (spec.number 4294967295) (chars text.now) (shown x.1) x.0) }
+{
+    let (value, behind) = short_digits(text.as_bytes())?;
+    let (_, rest) = text.split_at(text.len() - behind.len());
+    Some((value, rest))
+}
+
+// The same of any number of digits.
+#[tactic(auto, using(crate::proofs::TextLemmas::Words::number_read))]
+#[inline(always)]
+fn long_number(text: &str) -> Option<(u32, &str)>
+    ensures { Reads (spec.number 4294967295) (λ n. n) (chars text.now) result }
+{
+    let (digits, rest) = split_digits(text);
+    let value = number_of_digits(digits)?;
+    Some((value, rest))
+}
+
+// The digits at the front, perhaps none, and the text behind them.
+#[tactic(auto, using(crate::proofs::TextLemmas::Runs::split_at_end))]
+#[inline(always)]
+fn split_digits(text: &str) -> (&str, &str)
+    ensures { SplitsRun (has Digit) text.now result.0.now result.1.now }
+{
+    text.split_at(digits_end(text))
+}
+
+// The place behind them, apart for the same reason as that behind blanks.
+#[cold]
+#[inline(never)]
+fn digits_end(text: &str) -> usize
+    ensures { EndsRun (has Digit) text.now result }
+{
+    run_end(text, CharClass::Digit)
 }
 
 // Whether the text is this one byte.

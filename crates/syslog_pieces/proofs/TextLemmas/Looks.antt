@@ -2,11 +2,11 @@
 use Rattle.syslog_pieces.proofs.Names.{◌≡◌, ◌≢◌, ℕ, ◌-◌, ◌<◌, ◌≤◌, false, List, [], ◌∷◌, ◌++◌, length, drop, get_or}
 use Rattle.syslog_pieces.proofs.Names.{inl, inr, refl, sym, ap, ◌∙◌, arith, drop-append_seam, cases_lt, nat_tests}
 use Rattle.syslog_pieces.proofs.Names.{length-append, IsCharBoundary-after_ascii, IsUtf8-drop, is_ascii_digit, chars}
-use Rattle.syslog_pieces.proofs.Names.{IsUtf8, IsAscii, IsCharBoundary, Front, NoFront, exactly, run, some_run}
+use Rattle.syslog_pieces.proofs.Names.{IsUtf8, IsAscii, IsCharBoundary, Front, NoFront, Ends, exactly, run, some_run}
 use Rattle.syslog_pieces.proofs.Names.{is_blank, number}
 use Rattle.std.proofs.lemmas.List.{drop_more, get_or_append_left}
 use Rattle.std.proofs.lemmas.Str.{encode_ascii}
-use Rattle.syslog_pieces.specs.Bodies.Looks.{BeginsVisibly, BeginsWithGap}
+use Rattle.syslog_pieces.specs.Bodies.Looks.{BeginsVisibly, BeginsWithGap, EndsDigits}
 use Rattle.syslog_pieces.proofs.TextLemmas.Chars.{ascii_front, one_ascii, ends_by_byte}
 use Rattle.syslog_pieces.proofs.TextLemmas.Runs.{ascii_cut, first_left, no_run}
 use Rattle.syslog_pieces.proofs.TextLemmas.Words.{no_literal}
@@ -83,10 +83,12 @@ gap_some bs u g ys f = record {
 past_digits : (c : ℕ) → 128 ≤ c → is_ascii_digit c ≡ false
 past_digits c h = grind (arith, nat_tests)
 
-pub no_number : (limit : ℕ) (bs : List ℕ) → IsUtf8 bs → (0 < length bs → is_ascii_digit (get_or bs 0 0) ≡ false)
-    → NoFront (number limit) (chars bs)
-no_number limit bs u h =
-    no_run is_ascii_digit (chars bs) (ends_by_byte is_ascii_digit bs u (λ l c byte char. elim (cases_lt c 128) [
-      | inl low ↦ rw (sym (byte low)) (h l)
-      | inr high ↦ past_digits c high
-    ])) (number limit) (λ p q v k. (k.0, k.1))
+-- no digit stands at the front
+pub ends_digits : (bs : List ℕ) → IsUtf8 bs → EndsDigits bs → Ends is_ascii_digit (chars bs)
+ends_digits bs u h = ends_by_byte is_ascii_digit bs u (λ l c byte char. elim (cases_lt c 128) [
+  | inl low ↦ rw (sym (byte low)) (h l)
+  | inr high ↦ past_digits c high
+])
+
+pub no_number : (limit : ℕ) (bs : List ℕ) → IsUtf8 bs → EndsDigits bs → NoFront (number limit) (chars bs)
+no_number limit bs u h = no_run is_ascii_digit (chars bs) (ends_digits bs u h) (number limit) (λ p q v k. (k.0, k.1))

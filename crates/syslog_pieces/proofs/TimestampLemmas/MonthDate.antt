@@ -120,25 +120,6 @@ pub shown_once : (text : Text) (d d' : MonthDate) → ShowsYearless text d → S
 shown_once text d d' (p, more, h) (p', more', h') = ap (λ (x : Values (showing_row yearless_date)). x.1.1.0)
     (unique_division (showing_row yearless_date) showing_det h h').1
 
--- ---- the name of a month, in letters of either case
-module _ (t q : Text) (a b c : ℕ) (e : t ≡ a ∷ b ∷ c ∷ q) where
-  pub month_read : (n : ℕ) → IsNamed (to_ascii_lowercase a) (to_ascii_lowercase b) (to_ascii_lowercase c) n
-      → Front month t q n
-  month_read n h = record { piece = a ∷ b ∷ c ∷ []; whole = e; is = month_named h }
-
-  pub no_month_read : small_month (to_ascii_lowercase a) (to_ascii_lowercase b) (to_ascii_lowercase c) ≡ None
-      → NoFront month t
-  no_month_read none p r n w h =
-      let (a', b', c', w', m) = month_letters p n h in
-      let u : a ∷ b ∷ c ∷ q ≡ a' ∷ b' ∷ c' ∷ r = sym e ∙ w ∙ ap (λ (u : Text). u ++ r) w' in
-      let ha : a ≡ a' = cc in let hb : b ≡ b' = cc in let hc : c ≡ c' = cc in
-      let r : None ≡ Some n = sym none ∙ (rw (ha, hb, hc) refl) ∙ m in cc
-
--- fewer than three characters
-pub no_short : (t : Text) → length t < 3 → NoFront month t
-no_short t short p q v w h =
-    let (a, b, c, w', m) = month_letters p v h in absurd (omega (arith, ap length w, ap length w', length-append p q))
-
 -- ---- the date of its parts
 module _ {t : Text} where
   pub yearless_is : {q : Text} {d : MonthDate} → Front yearless_date t q d → Front month_date t q d

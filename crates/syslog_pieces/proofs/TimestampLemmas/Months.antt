@@ -1,17 +1,20 @@
 -- The names of the months, letter by letter.
-use Rattle.std.proofs.Common.{◌≡◌, ℕ, ◌+◌, ◌-◌, ◌≤◌, Bool, true, nat_eq, unwrap_or}
-use Rattle.std.proofs.Common.{[], ◌∷◌, ◌++◌, Option, Some, None, refl, sym, ap, ◌∙◌, arith}
+use Rattle.std.proofs.Common.{◌≡◌, ℕ, ◌+◌, ◌-◌, ◌<◌, ◌≤◌, ◌&&◌, Bool, true, false, nat_eq, nat_lt, unwrap_or, List, [], ◌∷◌, ◌++◌, length}
+use Rattle.std.proofs.Common.{drop, Option, Some, None, refl, sym, ap, ◌∙◌, arith}
 use Rattle.std.specs.Prelude.{map, slice_get}
 use Rattle.std.specs.Char.{to_ascii_lowercase}
-use Rattle.std.proofs.lemmas.Bool.{agree_below_at}
+use Rattle.std.specs.Str.{chars, IsUtf8, IsAscii, IsCharBoundary}
+use Rattle.std.proofs.lemmas.Bool.{agree_below_at, and_parts}
 use Rattle.std.proofs.lemmas.Bool.Decides.{nat_tests}
 use Rattle.std.proofs.lemmas.Grind.{common_steps}
 use Rattle.std.proofs.lemmas.Option.{slice_get_within}
-use Rattle.std.proofs.lemmas.Str.Ascii.{lowercase_is}
-use Rattle.syslog_pieces.specs.Pieces.Class.{Text, IsDeterministic}
-use Rattle.syslog_pieces.specs.Bodies.MonthReading.{IsNamed, small_month}
+use Rattle.std.proofs.lemmas.Str.Ascii.{IsAscii-cons, lowercase_is}
+use Rattle.syslog_pieces.specs.Pieces.Class.{Text, IsDeterministic, Front, NoFront}
+use Rattle.syslog_pieces.specs.Bodies.MonthReading.{IsNamed, IsMonthBytes, NamesNoMonth, small_month}
 use Rattle.syslog_pieces.specs.Timestamp.MonthDate.{month_names, IsMonthName, month}
 use Rattle.syslog_pieces.proofs.PieceLemmas.Kinds.{Begins, begins_with}
+use Rattle.syslog_pieces.proofs.TextLemmas.Chars.{ascii_ahead, one_ascii}
+use Rattle.syslog_pieces.proofs.TextLemmas.Looks.{behind_cut, behind_is, behind_chars}
 
 -- the name of a month, by its number
 pub month_named : {a b c n : ℕ} → IsNamed a b c n
@@ -71,3 +74,50 @@ month_begins p q n h =
     let (a, b, c, w, m) = month_letters p n h in
     let small = first_small _ _ _ n m in
     begins_with IsLetter a p (b ∷ c ∷ []) w (grind (arith, lowercase_is a))
+
+-- ---- by bytes
+abbrev are_low : Option Text → Bool
+are_low (Some (a ∷ b ∷ c ∷ [])) = nat_lt a 128 && (nat_lt b 128 && nat_lt c 128)
+are_low _ = false
+
+letter_low : (c : ℕ) → nat_lt (to_ascii_lowercase c) 128 ≡ true → c < 128
+letter_low c h = grind (arith, nat_tests, lowercase_is c)
+
+-- letters that name a month are ASCII
+letters_ascii : (a b c k : ℕ) → slice_get month_names k ≡ Some (map to_ascii_lowercase (a ∷ b ∷ c ∷ []))
+    → IsAscii (a ∷ b ∷ c ∷ [])
+letters_ascii a b c k name =
+    let within = slice_get_within month_names k _ name in
+    let low = rw name at (agree_below_at (λ i. are_low (slice_get month_names i)) (λ _. true) 12 k refl (omega arith)) in
+    let (x, yz) = and_parts (nat_lt (to_ascii_lowercase a) 128)
+    (nat_lt (to_ascii_lowercase b) 128 && nat_lt (to_ascii_lowercase c) 128) low in
+    let (y, z) = and_parts (nat_lt (to_ascii_lowercase b) 128) (nat_lt (to_ascii_lowercase c) 128) yz in
+    IsAscii-cons a (b ∷ c ∷ []) (letter_low a x)
+    (IsAscii-cons b (c ∷ []) (letter_low b y) (one_ascii c (letter_low c z)))
+
+module _ (bs : List ℕ) (n : ℕ) (rest : List ℕ) (u : IsUtf8 bs) (m : IsMonthBytes bs n rest) where
+  abbrev its : Text
+  its = m.a ∷ m.b ∷ m.c ∷ []
+
+  its_named : IsMonthName its n
+  its_named = month_named m.named
+
+  its_ascii : IsAscii its
+  its_ascii = let (k, e, name) = its_named in letters_ascii m.a m.b m.c k name
+
+  pub month_cut : IsCharBoundary bs (length bs - length rest)
+  month_cut = behind_cut its bs rest its_ascii u m.whole
+
+  pub month_read : (ys : List ℕ) → ys ≡ drop (length bs - length rest) bs → Front month (chars bs) (chars ys) n
+  month_read ys f = rw (behind_is its bs rest its_ascii u m.whole ys f) (record {
+    piece = its;
+    whole = behind_chars its bs rest its_ascii u m.whole;
+    is = its_named;
+  })
+
+pub no_month : (bs : List ℕ) → IsUtf8 bs → NamesNoMonth bs → NoFront month (chars bs)
+no_month bs u none p q n w (k, f, name) =
+    let (a, b, c, w', m) = month_letters p n (k, f, name) in
+    let low = letters_ascii a b c k (rw w' at name) in
+    let e = ascii_ahead (a ∷ b ∷ c ∷ []) q bs u low (w ∙ ap (λ (x : Text). x ++ q) w') in
+    let r : None ≡ Some n = sym (none a b c _ e) ∙ m in cc

@@ -1,5 +1,6 @@
 -- What the first bytes of a text are.
-use Rattle.std.specs.Prelude.{◌≡◌, ◌≢◌, ◌⊎◌, ℕ, ◌+◌, ◌<◌, List, ◌∷◌, ◌++◌, length, slice_index}
+use Rattle.std.specs.Prelude.{◌≡◌, ◌≢◌, ◌⊎◌, ℕ, ◌+◌, ◌<◌, false, List, ◌∷◌, ◌++◌, length, slice_index}
+use Rattle.std.specs.Char.{is_ascii_digit}
 use Rattle.jiff_fmt.specs.Text.{pad2}
 use Rattle.syslog_pieces.specs.Timestamp.Printed.{pad3}
 
@@ -16,8 +17,13 @@ abbrev pub LeadsBare : List ℕ → Type 0
 LeadsBare bytes = 1 < length bytes
     → (slice_index bytes 0 ≢ 43) × (slice_index bytes 0 ≢ 45) × (slice_index bytes 0 ≢ 48)
 
--- `<`, a number of one to three digits, `>`, and the rest
-abbrev pub IsPriorityBytes : List ℕ → ℕ → List ℕ → Type 0
-IsPriorityBytes bytes n rest =
-    ((n < 100) × (bytes ≡ 60 ∷ (pad2 n ++ (62 ∷ rest))))
-    ⊎ (((n < 256) × (bytes ≡ 60 ∷ (pad3 n ++ (62 ∷ rest)))) ⊎ ((n < 10) × (bytes ≡ 60 ∷ (48 + n) ∷ 62 ∷ rest)))
+-- no digit stands at the front
+abbrev pub EndsDigits : List ℕ → Type 0
+EndsDigits bytes = 0 < length bytes → is_ascii_digit (slice_index bytes 0) ≡ false
+
+-- a number of one to three digits before none, and the rest
+abbrev pub IsShortNumber : List ℕ → ℕ → List ℕ → Type 0
+IsShortNumber bytes n rest =
+    EndsDigits rest
+    × (((n < 10) × (bytes ≡ (48 + n) ∷ rest))
+    ⊎ (((n < 100) × (bytes ≡ pad2 n ++ rest)) ⊎ ((n < 1_000) × (bytes ≡ pad3 n ++ rest))))

@@ -50,7 +50,7 @@ pub(crate) fn ends_in_colon(bytes: &[u8]) -> bool
 /// Whether a digit begins the bytes.
 #[inline(always)]
 pub(crate) fn begins_with_digit(bytes: &[u8]) -> bool
-    ensures { OnFalse result (0 < length bytes.now → is_ascii_digit (slice_index bytes.now 0) ≡ false) }
+    ensures { OnFalse result (spec.EndsDigits bytes.now) }
 {
     matches!(bytes, [b'0'..=b'9', ..])
 }

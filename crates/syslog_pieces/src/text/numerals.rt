@@ -3,22 +3,11 @@ ghost use Rattle.std.specs.Prelude.{◌≡◌, ◌+◌, ◌<◌, ◌≤◌, ◌^
 ghost use Rattle.std.specs.Char.{is_ascii_digit};
 ghost use Rattle.std.specs.Str.{chars};
 ghost use Rattle.std.specs.Str.Parse.{digits_value};
+ghost use Rattle.syslog_pieces.specs.Bodies.Looks.{IsShortNumber};
 ghost use Rattle.syslog_pieces.specs.Pieces.Class.{Each};
 
 use crate::text::lanes::{LANES, zero_run};
-
-/// The number that a run of digits writes, where it has 32 bits.
-#[inline(always)]
-pub(crate) fn number_of_digits(digits: &str) -> Option<u32>
-    requires { Each is_ascii_digit (chars digits.now) }
-    ensures { SomeIff result ((0 < length digits.now) × (digits_value 10 digits.now < 2 ^ 32))
-        (digits_value 10 digits.now) }
-{
-    match few_digits(digits.as_bytes()) {
-        Some(value) => Some(value),
-        None => any_digits(digits),
-    }
-}
+use crate::text::looks::begins_with_digit;
 
 // What a digit counts, and nothing of another byte.
 #[inline(always)]
@@ -73,10 +62,10 @@ pub(crate) fn few_digits(digits: &[u8]) -> Option<u32>
     }
 }
 
-// The same of any number of digits.
+/// The number that a run of digits writes, where it has 32 bits.
 #[tactic(auto, using(crate::proofs::TextLemmas::Words::digits_cut))]
 #[inline(never)]
-fn any_digits(digits: &str) -> Option<u32>
+pub(crate) fn number_of_digits(digits: &str) -> Option<u32>
     requires { Each is_ascii_digit (chars digits.now) }
     ensures { SomeIff result ((0 < length digits.now) × (digits_value 10 digits.now < 2 ^ 32))
         (digits_value 10 digits.now) }
@@ -99,4 +88,26 @@ fn zeros_ahead(digits: &[u8]) -> usize
         end += LANES;
     }
     end
+}
+
+/// The number of one to three digits at the front, before none, and the bytes behind it.
+#[inline(always)]
+pub(crate) fn short_digits(bytes: &[u8]) -> Option<(u32, &[u8])>
+    ensures { IfSome result (λ read. IsShortNumber bytes.now read.0 read.1.now) }
+{
+    match bytes {
+        [a @ b'0'..=b'9', rest @ ..] if !begins_with_digit(rest) => Some((
+            u32::from(*a - b'0'),
+            rest,
+        )),
+        [a @ b'0'..=b'9', b @ b'0'..=b'9', rest @ ..] if !begins_with_digit(rest) => {
+            Some((u32::from(*a - b'0') * 10 + u32::from(*b - b'0'), rest))
+        }
+        [a @ b'0'..=b'9', b @ b'0'..=b'9', c @ b'0'..=b'9', rest @ ..]
+            if !begins_with_digit(rest) => {
+            let tens = u32::from(*a - b'0') * 10 + u32::from(*b - b'0');
+            Some((tens * 10 + u32::from(*c - b'0'), rest))
+        }
+        _ => None,
+    }
 }

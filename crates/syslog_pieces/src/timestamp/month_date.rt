@@ -4,17 +4,14 @@
 ghost use Rattle.std.specs.Prelude.{◌≡◌, IfSome, Option, MatchOption};
 ghost use Rattle.std.specs.Str.{chars};
 ghost use Rattle.syslog_pieces.specs.Bodies.MonthReading as parts;
-ghost use Rattle.syslog_pieces.specs.Pieces.Class.{Front, NoFront, Row};
+ghost use Rattle.syslog_pieces.specs.Pieces.Class.{Front, NoFront, Row, Text};
 ghost use Rattle.syslog_pieces.specs.Pieces.View.{shown, Reads};
 ghost use Rattle.syslog_pieces.specs.Timestamp.Rfc3164.{BeginsWithDate};
 ghost use Rattle.syslog_pieces.specs.Timestamp.MonthDate as spec;
 ghost use Rattle.syslog_pieces.specs.declared.timestamp.month_date.MonthDate.{MonthDate};
 
-pub mod standard;
-
 use crate::pri::optional_priority;
-use crate::text::{begins_with_letter, blanks, first, literal, number, past_colon, some_blanks};
-use standard::standard_date;
+use crate::text::{begins_with_letter, blanks, literal, number, past_colon, some_blanks};
 
 /// The numbers of a month date, of which there may be no such date.
 #[derive(Clone, Copy, Debug)]
@@ -48,7 +45,6 @@ pub(super) struct Clock {
 
 /// The month date at the front, with a year or without one, and the text behind it. A text that begins with no letter
 /// has none, by one look.
-#[tactic(auto, using(crate::proofs::TimestampLemmas::MonthDate::yearless_is))]
 #[inline(always)]
 pub fn month_date(text: &str) -> Option<(MonthDate, &str)>
     ensures { Reads spec.month_date (λ d. d) (chars text.now) result }
@@ -56,23 +52,28 @@ pub fn month_date(text: &str) -> Option<(MonthDate, &str)>
     if !begins_with_letter(text.as_bytes()) {
         return None;
     }
-    match standard_date(text) {
-        Some(found) => Some(found),
-        None => any_date(text),
-    }
+    lettered_date(text)
 }
 
-// The same, piece by piece.
+// The same of a text that may begin with a letter.
 #[inline(never)]
-fn any_date(text: &str) -> Option<(MonthDate, &str)>
+fn lettered_date(text: &str) -> Option<(MonthDate, &str)>
     ensures { Reads spec.month_date (λ d. d) (chars text.now) result }
 {
     let (day, rest) = read_day(text)?;
     match read_clock(rest) {
-        Some((clock, after)) => return Some((date_of(None, day, clock), after)),
-        None => {}
+        Some((clock, after)) => Some((date_of(None, day, clock), after)),
+        None => dated(day, rest),
     }
-    let (year, rest) = read_year(rest)?;
+}
+
+// The month date with a year, of which this day stands before the text.
+#[inline(never)]
+fn dated(day: Day, text: &str) -> Option<(MonthDate, &str)>
+    ensures { (whole : Text) → Front (Row parts.day_row) whole (chars text.now) (parts.day_values day)
+        → NoFront (Row spec.clock_row) (chars text.now) → Reads spec.month_date (λ d. d) whole result }
+{
+    let (year, rest) = read_year(text)?;
     let (clock, rest) = read_clock(rest)?;
     Some((date_of(Some(year), day, clock), rest))
 }
@@ -96,16 +97,6 @@ pub fn shown_date(text: &str) -> Option<MonthDate>
 fn yearless(text: &str) -> Option<(MonthDate, &str)>
     ensures { Reads spec.yearless_date (λ d. d) (chars text.now) result }
 {
-    match standard_date(text) {
-        Some(found) => Some(found),
-        None => any_yearless(text),
-    }
-}
-
-// The same, piece by piece.
-fn any_yearless(text: &str) -> Option<(MonthDate, &str)>
-    ensures { Reads spec.yearless_date (λ d. d) (chars text.now) result }
-{
     let (day, rest) = read_day(text)?;
     let (clock, rest) = read_clock(rest)?;
     Some((date_of(None, day, clock), rest))
@@ -125,6 +116,7 @@ pub(super) fn date_of(year: Option<u32>, day: Day, clock: Clock) -> MonthDate
 }
 
 // The month and the day, and the blanks behind each.
+#[inline(always)]
 fn read_day(text: &str) -> Option<(Day, &str)>
     ensures { Reads (Row parts.day_row) parts.day_values (chars text.now) result }
 {
@@ -145,6 +137,7 @@ fn read_year(text: &str) -> Option<(u32, &str)>
 }
 
 // Hour, minute and second, and the colon behind them where there is one.
+#[inline(always)]
 fn read_clock(text: &str) -> Option<(Clock, &str)>
     ensures { MatchOption result
         (NoFront (Row spec.clock_row) (chars text.now))
@@ -167,41 +160,54 @@ fn read_clock(text: &str) -> Option<(Clock, &str)>
     ))
 }
 
-// The number of the month that the text begins with the name of.
-#[tactic(auto, using(crate::proofs::TimestampLemmas::MonthDate::month_read))]
+// The number of the month that the text begins with the name of, which has three letters.
+#[inline(always)]
 fn read_month(text: &str) -> Option<(u32, &str)>
     ensures { Reads spec.month (λ n. n) (chars text.now) result }
 {
-    let (a, rest) = first(text)?;
-    let (b, rest) = first(rest)?;
-    let (c, rest) = first(rest)?;
-    let number = small_month(
-        a.to_ascii_lowercase(),
-        b.to_ascii_lowercase(),
-        c.to_ascii_lowercase(),
-    )?;
+    let (number, behind) = month(text.as_bytes())?;
+    let (_, rest) = text.split_at(text.len() - behind.len());
     Some((number, rest))
+}
+
+// The same of bytes.
+#[inline(always)]
+fn month(bytes: &[u8]) -> Option<(u32, &[u8])>
+    ensures { MatchOption result (parts.NamesNoMonth bytes.now) (λ x. parts.IsMonthBytes bytes.now x.0 x.1.now) }
+{
+    match bytes {
+        [a, b, c, rest @ ..] => {
+            let number = named_month(
+                a.to_ascii_lowercase(),
+                b.to_ascii_lowercase(),
+                c.to_ascii_lowercase(),
+            )?;
+            Some((number, rest))
+        }
+        _ => None,
+    }
 }
 
 // The number of the month that three small letters name.
 #[tactic(auto, unfolding(crate::specs::Bodies::MonthReading::small_month))]
-fn small_month(a: char, b: char, c: char) -> Option<u32>
+#[inline(always)]
+fn named_month(a: u8, b: u8, c: u8) -> Option<u32>
     ensures value { result ≡ parts.small_month a b c }
     ensures name { IfSome result (λ n. parts.IsNamed a b c n) }
 {
     match (a, b, c) {
-        ('j', 'a', 'n') => Some(1),
-        ('f', 'e', 'b') => Some(2),
-        ('m', 'a', 'r') => Some(3),
-        ('a', 'p', 'r') => Some(4),
-        ('m', 'a', 'y') => Some(5),
-        ('j', 'u', 'n') => Some(6),
-        ('j', 'u', 'l') => Some(7),
-        ('a', 'u', 'g') => Some(8),
-        ('s', 'e', 'p') => Some(9),
-        ('o', 'c', 't') => Some(10),
-        ('n', 'o', 'v') => Some(11),
-        ('d', 'e', 'c') => Some(12),
+        (b'j', b'a', b'n') => Some(1),
+        (b'f', b'e', b'b') => Some(2),
+        (b'm', b'a', b'r') => Some(3),
+        (b'a', b'p', b'r') => Some(4),
+        (b'm', b'a', b'y') => Some(5),
+        (b'j', b'u', b'n') => Some(6),
+        (b'j', b'u', b'l') => Some(7),
+        (b'a', b'u', b'g') => Some(8),
+        (b's', b'e', b'p') => Some(9),
+        (b'o', b'c', b't') => Some(10),
+        (b'n', b'o', b'v') => Some(11),
+        (b'd', b'e', b'c') => Some(12),
         _ => None,
     }
 }

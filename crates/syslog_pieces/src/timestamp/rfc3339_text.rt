@@ -14,7 +14,6 @@ use super::digits::{after_letter, four_digits, fraction, pair, pair_behind};
 use super::fields::CivilFields;
 use super::instant::clock_stamp;
 use super::month_date::Clock;
-use super::month_date::standard::clock;
 use jiff::tz::Offset;
 
 /// The numbers of an RFC 3339 text as they stand there, of which there may be no such date or time.
@@ -127,6 +126,26 @@ fn date(text: &[u8]) -> Option<(Day, &[u8])>
     let (month, text) = pair_behind(text, b'-')?;
     let (day, text) = pair_behind(text, b'-')?;
     Some((Day { year, month, day }, text))
+}
+
+// Hour, minute and second.
+#[tactic(auto, unfolding(crate::specs::Bodies::StampReading::clock))]
+#[inline(always)]
+fn clock(text: &[u8]) -> Option<(Clock, &[u8])>
+    ensures value { spec.read_of result ≡ spec.clock text.now }
+    ensures text { IfSome result (λ read. spec.IsClockBytes text.now read.0 read.1.now) }
+{
+    let (hour, rest) = pair(text)?;
+    let (minute, rest) = pair_behind(rest, b':')?;
+    let (second, rest) = pair_behind(rest, b':')?;
+    Some((
+        Clock {
+            hour,
+            minute,
+            second,
+        },
+        rest,
+    ))
 }
 
 // `Z`, or a sign and `HH:MM`, in seconds.

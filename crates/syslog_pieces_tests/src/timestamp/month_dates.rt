@@ -3,7 +3,6 @@ use std::alloc::Global;
 use std::process::Abort;
 use std::str::Split;
 use syslog_pieces::text::trimmed;
-use syslog_pieces::timestamp::month_date::standard::standard_date;
 use syslog_pieces::timestamp::month_date::{MonthDate, month_date};
 use syslog_pieces::timestamp::shown_date;
 
@@ -234,29 +233,5 @@ fn shows_no_date_elsewhere(rt: HostRuntime) {
         "October 11 22:14:15",
     ] {
         check(&rt, shown_date(text).is_none(), text);
-    }
-}
-
-// No clause says which dates are read at one look: a reader that finds none meets its contract.
-#[test]
-fn reads_the_standard_form_at_one_look(rt: HostRuntime) {
-    for row in &[
-        "Dec 28 16:49:07 h¦12 28 16 49 7¦ h",
-        "Dec 28 16:49:07¦12 28 16 49 7¦",
-        "Sep  5 07:08:09-¦9 5 7 8 9¦-",
-        "Dec 28 16:49:07:",
-        "Dec 28 16:49:070",
-        "Dec 28 16:49:07\u{fc}",
-        "Dec 28 16:49:0",
-        "Dec  28 16:49:07",
-        "Dec 028 16:49:07",
-        "Sep 5 07:08:09",
-        "Dec\t28 16:49:07",
-        "Dec 28 6:49:07",
-        "Dez 28 16:49:07",
-        "dEC 28 16:49:07",
-        "",
-    ] {
-        check(&rt, reads_date(row, standard_date(text_of(row))), row);
     }
 }

@@ -3,7 +3,6 @@ use Rattle.std.specs.Str.{chars}
 use Rattle.syslog_pieces.specs.Pieces.View.{shown}
 use Rattle.syslog_pieces.specs.Timestamp.Zone.{dating_of}
 use Rattle.syslog_loose.specs.declared.fault.ParseFault.TheVariants.{Invalid, Memory}
-use Rattle.syslog_loose.proofs.BeginningLemmas.{asks_no_year, no_reading}
 use Rattle.syslog_loose.proofs.ReadBackLemmas.{answered}
 use Rattle.syslog_loose.proofs.ReadingLemmas.{left_answer, refused}
 use Rattle.syslog_loose.proofs.StartLemmas.{IsStamped, asked_month, asks_none, date_answered, dated_invalid}
@@ -13,12 +12,6 @@ use Rattle.syslog_loose.proofs.reading.parse_message_with_year_exact_tz.Goals.{i
 use Rattle.syslog_loose.proofs.reading.parse_message_with_year_exact_tz.Goals.{then-reads_rfc5424+in-Ok-None}
 use Rattle.syslog_loose.proofs.reading.parse_message_with_year_exact_tz.Goals.{else-reads_rfc5424}
 use Rattle.syslog_loose.proofs.reading.parse_message_with_year_exact_tz.Goals as goal
-
-pub returns-then-not-may_be_read : goal.returns-then-not-may_be_read
-returns-then-not-may_be_read g c =
-    let none = rw c.trimmed-text.ensures at (c.if-not-may_be_read.ensures refl) in
-    answered _ c.args.variant _ c.args.tz c.args.local (Err Invalid) None (asks_no_year c.args.variant _ none)
-    (no_reading c.args.variant (dating_of None c.args.tz c.args.local) _ none)
 
 pub map-year-requires : goal.map-year-requires
 map-year-requires g c =

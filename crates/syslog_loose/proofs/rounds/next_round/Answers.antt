@@ -1,6 +1,4 @@
-use Rattle.syslog_loose.proofs.Names.{None, refl, subst, err_from_is_err_and, IsUtf8-string_bytes, Text, dating_of}
-use Rattle.syslog_loose.specs.Beginning.{BeginsNone}
-use Rattle.syslog_loose.proofs.BeginningLemmas.{asks_no_year, no_reading}
+use Rattle.syslog_loose.proofs.Names.{None, refl, err_from_is_err_and, IsUtf8-string_bytes, Text, dating_of}
 use Rattle.syslog_loose.proofs.ReadingLemmas.{fault_in, no_ok}
 use Rattle.syslog_loose.proofs.SettlingLemmas.Settles.{copy_refused, round_copied}
 use Rattle.syslog_loose.proofs.StartLemmas.{IsStamped, asked_month, asks_none, date_answered, dated_invalid}
@@ -25,19 +23,6 @@ returns-then-found g c whole e =
       round_copied c.args.variant (dating_of None c.args.tz c.args.local) c.args.skips _ _
           (IsUtf8-string_bytes c.rfc5424_text.new.text) k,
     )
-
-pub returns-then-not-may_be_read : goal.returns-then-not-may_be_read
-returns-then-not-may_be_read g c whole e =
-    let begins = subst (λ (x : Text). BeginsNone x) e (c.if-not-may_be_read.ensures refl) in
-    record {
-      answered = None;
-      is_answered = asks_no_year c.args.variant whole begins;
-      holds =
-          λ year agrees. (
-            λ i. no_reading c.args.variant (dating_of year c.args.tz c.args.local) whole begins,
-            λ u. refl,
-          );
-    }
 
 pub map-year-requires : goal.map-year-requires
 map-year-requires g c =

@@ -2,7 +2,7 @@ use Rattle.std.proofs.Common.{inl, refl, rules}
 use Rattle.syslog_pieces.specs.Pri.{priority_row}
 use Rattle.syslog_pieces.proofs.PieceLemmas.Rows.{row_of, ◌then◌, ◌past◌}
 use Rattle.syslog_pieces.proofs.PriLemmas.{as_priority, no_priority}
-use Rattle.syslog_pieces.proofs.pri.any_priority.Goals as goal
+use Rattle.syslog_pieces.proofs.pri.priority.Goals as goal
 
 pub returns-in_err-rest : goal.returns-in_err-rest
 returns-in_err-rest c = let n = no_priority (inl c.in_err-rest.ensures) in search rules

@@ -1,5 +1,5 @@
 use Rattle.syslog_pieces.proofs.TextLemmas.Words.{parsed_digits}
-use Rattle.syslog_pieces.proofs.text.numerals.any_digits.Goals as goal
+use Rattle.syslog_pieces.proofs.text.numerals.number_of_digits.Goals as goal
 
 pub returns-in-Ok : goal.returns-in-Ok
 returns-in-Ok c =

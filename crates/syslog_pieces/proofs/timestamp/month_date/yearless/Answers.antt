@@ -1,6 +1,6 @@
 use Rattle.std.proofs.Common.{rules}
 use Rattle.syslog_pieces.proofs.TimestampLemmas.MonthDate.{yearless_none_here, yearless_none_later, yearless_front}
-use Rattle.syslog_pieces.proofs.timestamp.month_date.any_yearless.Goals as goal
+use Rattle.syslog_pieces.proofs.timestamp.month_date.yearless.Goals as goal
 
 pub returns-in_err-day : goal.returns-in_err-day
 returns-in_err-day c = let n = yearless_none_here c.in_err-day.ensures in search rules
