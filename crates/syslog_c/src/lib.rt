@@ -8,14 +8,13 @@
 mod arrays;
 mod canonical;
 pub mod fields;
-mod normalise;
 pub mod options;
 pub mod outcome;
+mod printed;
 mod read;
 mod read_line;
 mod room;
 mod rules;
-mod settle;
 mod tell;
 mod unescape;
 mod version;

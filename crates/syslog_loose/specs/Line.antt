@@ -2,7 +2,7 @@
 use Rattle.std.specs.Prelude.{◌≡◌, ℕ, List, [], ◌∷◌, ◌++◌, Bool, IsTrue, MatchBool, Option}
 use Rattle.std.specs.Fmt.{decimal}
 use Rattle.std.specs.Option.{option_map}
-use Rattle.std.specs.Str.{encode_utf8_all}
+use Rattle.std.specs.Str.{encode_utf8_all, IsUtf8}
 use Rattle.syslog_pieces.specs.Pri.{priority_text}
 use Rattle.syslog_pieces.specs.Pieces.Class.{Text, Front as FrontOf, Row, Values, run}
 use Rattle.syslog_pieces.specs.ProcId.{process_text, procid_value}
@@ -36,12 +36,17 @@ pub record IsLine (text : Text) (line : Line) : Type 0 where
   pub list : FrontOf forgiving (shown line.list) end elements
   pub prints : shown line.list ≡ elements_text elements ++ shown line.gap
   pub msg : FrontOf (run is_blank) end (shown line.msg) tt
+  pub utf8 : IsUtf8 line.msg.now
 
 -- the text is a row of the sixteen pieces, whose message prints as this text
 pub record PrintsLine (text line : Text) : Type 0 where
   pub values : Values rfc5424_row
   pub is : FrontOf (Row rfc5424_row) text [] values
   pub prints : printed (message_of values) ≡ line
+
+-- these bytes are that text
+abbrev pub IsPrintedLine : Text → List ℕ → Type 0
+IsPrintedLine text bytes = (line : Text) × PrintsLine text line × (bytes ≡ encode_utf8_all line)
 
 -- the bytes of a priority, a version and a timestamp
 abbrev pub front_bytes : Front → List ℕ

@@ -7,7 +7,7 @@
 //! is made and printed.
 ghost use Rattle.std.specs.Prelude.{◌≡◌, ◌≢◌, ◌++◌, ◌∷◌, IfOk, IsOk, MatchBool, OnOk, Some, string_bytes};
 ghost use Rattle.std.specs.Fmt.{WritesOnOk};
-ghost use Rattle.std.specs.Str.{chars, encode_utf8_all, IsUtf8};
+ghost use Rattle.std.specs.Str.{chars};
 ghost use Rattle.syslog_pieces.specs.Pieces.Class.{Text};
 ghost use Rattle.syslog_pieces.specs.Text.{trimmed};
 ghost use Rattle.syslog_pieces.specs.Timestamp.Zone.{Dating};
@@ -117,10 +117,8 @@ fn print_named(text: &mut String, line: &NamedLine<'_, '_>, length: usize) -> Re
 // Writes the line, its names one by one.
 #[inline(always)]
 fn write_named(text: &mut String, input: &str, line: &Line<'_>) -> Result<(), AllocError>
-    requires line { spec.IsLine (chars input.now) line.now }
-    requires utf8 { IsUtf8 line.now.msg.now }
-    ensures { OnOk result ((line : Text) × spec.PrintsLine (chars input.now) line
-        × (string_bytes text.new ≡ encode_utf8_all line)) }
+    requires { spec.IsLine (chars input.now) line.now }
+    ensures { OnOk result (spec.IsPrintedLine (chars input.now) (string_bytes text.new)) }
 {
     let process = process_of(line.header.process);
     let named = NamedLine {
@@ -139,10 +137,8 @@ fn write_named(text: &mut String, input: &str, line: &Line<'_>) -> Result<(), Al
 // Writes the line, its names copied where they stand as they print.
 #[inline(always)]
 fn write_line(text: &mut String, input: &str, line: &Line<'_>) -> Result<(), AllocError>
-    requires line { spec.IsLine (chars input.now) line.now }
-    requires utf8 { IsUtf8 line.now.msg.now }
-    ensures { OnOk result ((line : Text) × spec.PrintsLine (chars input.now) line
-        × (string_bytes text.new ≡ encode_utf8_all line)) }
+    requires { spec.IsLine (chars input.now) line.now }
+    ensures { OnOk result (spec.IsPrintedLine (chars input.now) (string_bytes text.new)) }
 {
     if !line.header.stands || !is_one_space(line.behind, line.list) {
         return write_named(text, input, line);

@@ -2,7 +2,6 @@
 ghost use Rattle.std.specs.Prelude.{◌≡◌, ◌≢◌, ℕ, List, ◌∷◌, ◌++◌, [], IsTrue};
 ghost use Rattle.std.specs.Prelude.{MatchBool, drop, false, length, slice_index, ◌<◌};
 ghost use Rattle.std.specs.Bool.{OnFalse};
-ghost use Rattle.std.specs.Char.{is_ascii_digit};
 ghost use Rattle.syslog_pieces.specs.Bodies.Looks as spec;
 
 /// Whether this byte begins the bytes.

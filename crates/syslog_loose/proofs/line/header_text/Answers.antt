@@ -11,8 +11,8 @@ pub returns-in_default-clause-text : goal.returns-in_default-clause-text
 returns-in_default-clause-text g c whole e =
     not_read whole _ e (rows_none_here header_row data_row (c.in_default.ensures.reads _ c.requires))
 
-pub write_line-requires-clause-line : goal.write_line-requires-clause-line
-write_line-requires-clause-line g c = record {
+pub write_line-requires : goal.write_line-requires
+write_line-requires g c = record {
   elements = c.in-Some-printed_list.ensures.elements;
   end = _;
   header = c.in-Some.ensures.reads _ c.requires;
@@ -21,6 +21,7 @@ write_line-requires-clause-line g c = record {
   list = c.in-Some-printed_list.ensures.is;
   prints = c.in-Some-printed_list.ensures.prints;
   msg = c.blanks.ensures;
+  utf8 = c.blanks.utf8;
 }
 
 pub returns-in_err-write_line-clause-memory : goal.returns-in_err-write_line-clause-memory

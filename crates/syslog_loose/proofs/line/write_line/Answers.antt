@@ -5,7 +5,7 @@ use Rattle.syslog_loose.proofs.line.write_line.Goals as goal
 
 pub before-requires : goal.before-requires
 before-requires c =
-    let k = c.requires.line in
+    let k = c.requires in
     let h = k.stands c.if-not-line.false in
     let gap = c.if-not-is_one_space.ensures refl in
     (names c.args.line.now k h gap, names_there c.args.line.now k h gap)
@@ -13,7 +13,7 @@ before-requires c =
 pub returns : goal.returns
 returns c =
     let line = c.args.line.now in
-    let k = c.requires.line in
+    let k = c.requires in
     let written : string_bytes c.write.new.self
     ≡ front_bytes line.header.front ++ (c.before-2.result.now ++ (32 ∷ line.msg.now)) = search rules in (
       _,

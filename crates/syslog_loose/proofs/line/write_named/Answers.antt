@@ -12,12 +12,12 @@ use Rattle.syslog_loose.proofs.LineLemmas.{front_text, line_prints, named_encode
 use Rattle.syslog_loose.proofs.line.write_named.Goals as goal
 
 pub before-requires : goal.before-requires
-before-requires c = (_, c.requires.line.prints)
+before-requires c = (_, c.requires.prints)
 
 pub returns : goal.returns
 returns c =
     let h = c.args.line.now.header in
-    let k = c.requires.line in
+    let k = c.requires in
     let process = option_map (procid_value (λ s. shown s)) c.process_of-process.result in
     let list : chars c.before-2.result.now ≡ elements_text k.elements =
     append_cancel_right _ _ (shown c.args.line.now.gap) (sym c.before-2.ensures ∙ k.prints) in (
