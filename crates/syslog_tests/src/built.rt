@@ -2,35 +2,17 @@
 use super::expected::{are_cells, cell, check, number_of};
 use std::alloc::{AllocError, Global};
 use std::process::Abort;
-use std::str::Split;
-use syslog_loose::{Message, ProcId, Protocol, StructuredElement, SyslogFacility, SyslogSeverity};
+use syslog_loose::{
+    Message, Offset, OffsetTimestamp, ProcId, Protocol, StructuredElement, SyslogFacility,
+    SyslogSeverity, Timestamp,
+};
 
-/// From LOG_AUTH and of SEV_CRIT, with this message and nothing else.
-pub(super) fn small<'a>(alloc: Global, protocol: Protocol, msg: &'a str) -> Message<&'a str> {
-    Message {
-        protocol,
-        facility: Some(SyslogFacility::LOG_AUTH),
-        severity: Some(SyslogSeverity::SEV_CRIT),
-        timestamp: None,
-        hostname: None,
-        appname: None,
-        procid: None,
-        msgid: None,
-        structured_data: Vec::new(alloc),
-        msg,
-    }
-}
-
-// The names and the values that are left of a line.
-fn params_of<'a>(
-    alloc: Global,
-    mut texts: Split<'a, char>,
-) -> Result<Vec<(&'a str, &'a str)>, AllocError> {
-    let mut params = Vec::new(alloc);
-    while let Some(name) = texts.next() {
-        params.push((name, texts.next().unwrap_or("")))?;
-    }
-    Ok(params)
+/// This many milliseconds after 1970 began, shown at this offset in seconds.
+pub(super) fn stamp(rt: &impl Abort, milliseconds: i64, offset: i32) -> Option<OffsetTimestamp> {
+    Some(OffsetTimestamp {
+        instant: Timestamp::from_millisecond(milliseconds).expect(rt, "no instant"),
+        offset: Offset::from_seconds(offset).expect(rt, "no offset"),
+    })
 }
 
 /// The element of a line: its id, then the name and the value of each parameter, with bars between.
@@ -39,10 +21,12 @@ pub(super) fn element<'a>(
     line: &'a str,
 ) -> Result<StructuredElement<&'a str>, AllocError> {
     let mut texts = line.split('|');
-    Ok(StructuredElement {
-        id: texts.next().unwrap_or(""),
-        params: params_of(alloc, texts)?,
-    })
+    let id = texts.next().unwrap_or("");
+    let mut params = Vec::new(alloc);
+    while let Some(name) = texts.next() {
+        params.push((name, texts.next().unwrap_or("")))?;
+    }
+    Ok(StructuredElement { id, params })
 }
 
 /// The elements of the lines.
@@ -78,18 +62,7 @@ pub(super) fn message<'a>(
 ) -> Message<&'a str> {
     check(rt, are_cells(cells), "a cell of no field", cells);
     let lines = cell(cells, "list").unwrap_or("");
-    of_cells(
-        protocol,
-        cells,
-        elements(alloc, lines).expect(rt, "no memory"),
-    )
-}
-
-fn of_cells<'a>(
-    protocol: Protocol,
-    cells: &'a str,
-    elements: Vec<StructuredElement<&'a str>>,
-) -> Message<&'a str> {
+    let structured_data = elements(alloc, lines).expect(rt, "no memory");
     Message {
         protocol,
         facility: Some(SyslogFacility::LOG_AUTH),
@@ -99,7 +72,7 @@ fn of_cells<'a>(
         appname: cell(cells, "app"),
         procid: process(cells),
         msgid: cell(cells, "id"),
-        structured_data: elements,
+        structured_data,
         msg: cell(cells, "msg").unwrap_or(""),
     }
 }

@@ -1,187 +1,127 @@
 //! Messages built by hand, compared and copied.
-use super::built::{element, elements, message, small};
-use super::expected::{check, check_printed, prints_as};
+use super::built::{element, elements, message, stamp};
+use super::expected::{check, check_printed};
 use super::reading::read;
-use jiff::Timestamp;
-use jiff::tz::Offset;
 use std::alloc::Global;
 use std::process::Abort;
 use syslog_loose::{
-    AsStr, Message, OffsetTimestamp, ProcId, Protocol, StructuredElement, SyslogFacility,
-    SyslogSeverity, Variant,
+    AsStr, Message, ProcId, Protocol, StructuredElement, SyslogFacility, SyslogSeverity, Variant,
 };
 
-// This many milliseconds after 1970 began, shown at this offset in seconds.
-fn stamp(rt: &impl Abort, milliseconds: i64, offset: i32) -> Option<OffsetTimestamp> {
-    Some(OffsetTimestamp {
-        instant: Timestamp::from_millisecond(milliseconds).expect(rt, "no instant"),
-        offset: Offset::from_seconds(offset).expect(rt, "no offset"),
-    })
-}
-
-/// The text of `full`.
+/// The text of `full` without elements.
 const FULL: &str = "<34>1 2003-10-11T22:14:15.003Z mymachine.example.com su - ID47 - message";
 
-fn full<'a>(rt: &impl Abort, alloc: Global) -> Message<&'a str> {
-    let mut message = small(alloc, Protocol::RFC5424(1), "message");
+/// The milliseconds from 1970 to 2020.
+const IN_2020: i64 = 1_577_836_800_000;
+
+// A message with each name, and with the elements of the lines.
+fn full<'a>(rt: &impl Abort, alloc: Global, lines: &'a str) -> Message<&'a str> {
+    let cells = "host mymachine.example.com¦app su¦id ID47¦msg message";
+    let mut message = message(rt, alloc, Protocol::RFC5424(1), cells);
     message.timestamp = stamp(rt, 1_065_910_455_003, 0);
-    message.hostname = Some("mymachine.example.com");
-    message.appname = Some("su");
-    message.msgid = Some("ID47");
+    message.structured_data = elements(alloc, lines).expect(rt, "no memory");
     message
 }
 
-fn are_equal(a: &Message<&str>, b: &Message<&str>) -> bool {
-    a == b && b == a
-}
-
-// The message that is read from the text.
-fn is_read(alloc: Global, message: &Message<&str>) -> bool {
-    match read(alloc, FULL, Variant::Either) {
-        Ok(found) => are_equal(message, &found) && message.protocol == found.protocol,
-        Err(_) => false,
-    }
-}
-
-#[test]
-fn is_equal_to_what_is_read(rt: HostRuntime) {
-    let full = full(&rt, rt.alloc());
-    check(&rt, is_read(rt.alloc(), &full), "another", FULL);
-}
-
-// It is equal to the full message, and of another protocol.
-fn check_protocol(rt: &impl Abort, alloc: Global, protocol: Protocol) {
-    let full = full(rt, alloc);
-    let other = of_protocol(rt, alloc, protocol);
-    check(rt, are_equal(&full, &other), "not equal", FULL);
-    let same = full.protocol == other.protocol;
-    check(rt, !same, "the same protocol", FULL);
-}
-
-// The full message, of this protocol.
-fn of_protocol<'a>(rt: &impl Abort, alloc: Global, protocol: Protocol) -> Message<&'a str> {
-    let mut message = full(rt, alloc);
-    message.protocol = protocol;
-    message
-}
-
-#[test]
-fn passes_over_the_protocol(rt: HostRuntime) {
-    check_protocol(&rt, rt.alloc(), Protocol::RFC3164);
-    check_protocol(&rt, rt.alloc(), Protocol::RFC5424(2));
-}
-
-// The full message at another moment.
-fn stamped<'a>(rt: &impl Abort, alloc: Global, milliseconds: i64, offset: i32) -> Message<&'a str> {
-    let mut message = full(rt, alloc);
-    message.timestamp = stamp(rt, milliseconds, offset);
-    message
-}
-
-#[test]
-fn prints_timestamps_at_their_offset(rt: HostRuntime) {
-    let utc = stamped(&rt, rt.alloc(), 1_577_836_800_000, 0);
-    let want = "<34>1 2020-01-01T00:00:00+00:00 mymachine.example.com su - ID47 - message";
-    check_printed(&rt, rt.alloc(), &utc, want);
-    let ahead = stamped(&rt, rt.alloc(), 1_577_836_800_000, 3600);
-    let want = "<34>1 2020-01-01T01:00:00+01:00 mymachine.example.com su - ID47 - message";
-    check_printed(&rt, rt.alloc(), &ahead, want);
-}
-
-#[test]
-fn compares_timestamps_by_instant(rt: HostRuntime) {
-    let utc = stamped(&rt, rt.alloc(), 1_577_836_800_000, 0);
-    let ahead = stamped(&rt, rt.alloc(), 1_577_836_800_000, 3600);
-    check(&rt, are_equal(&utc, &ahead), "not equal", "an hour ahead");
-    let same = utc.timestamp == ahead.timestamp;
-    check(&rt, same, "no equal timestamp", "an hour ahead");
-    let later = stamped(&rt, rt.alloc(), 1_577_836_801_000, 0);
-    check(&rt, utc != later, "equal", "a second later");
-}
-
-// The full message with one field changed.
-fn changed<'a>(rt: &impl Abort, alloc: Global, field: &str) -> Message<&'a str> {
-    let mut message = full(rt, alloc);
-    match field {
+// The full message without elements, and with this change.
+fn changed<'a>(rt: &impl Abort, alloc: Global, change: &str) -> Message<&'a str> {
+    let mut message = full(rt, alloc, "");
+    match change {
+        "none" => (),
+        "RFC 3164" => message.protocol = Protocol::RFC3164,
+        "version 2" => message.protocol = Protocol::RFC5424(2),
         "other facility" => message.facility = Some(SyslogFacility::LOG_AUTHPRIV),
         "no facility" => message.facility = None,
         "other severity" => message.severity = Some(SyslogSeverity::SEV_ERR),
         "no severity" => message.severity = None,
         "other timestamp" => message.timestamp = stamp(rt, 1_065_910_455_000, 0),
         "no timestamp" => message.timestamp = None,
+        "in 2020" => message.timestamp = stamp(rt, IN_2020, 0),
+        "an hour ahead" => message.timestamp = stamp(rt, IN_2020, 3600),
+        "a second later" => message.timestamp = stamp(rt, IN_2020 + 1000, 0),
         "other host" => message.hostname = Some("mymachine"),
         "no app" => message.appname = None,
         "empty app" => message.appname = Some(""),
         "process" => message.procid = Some(ProcId::PID(5)),
         "other id" => message.msgid = Some("ID4"),
         "empty msg" => message.msg = "",
-        _ => check(rt, false, "no such change", field),
+        _ => check(rt, false, "no such change", change),
     }
     message
 }
 
-fn differs(a: &Message<&str>, b: &Message<&str>) -> bool {
-    a != b && b != a && b == b
+// Whether they are equal is asked in either order, and by both operators.
+fn compare_as(one: &Message<&str>, other: &Message<&str>, equal: bool) -> bool {
+    let same = one == other && other == one;
+    let differs = one != other && other != one;
+    same == equal && differs != equal && other == other
 }
 
 #[test]
-fn compares_each_other_field(rt: HostRuntime) {
-    let a = full(&rt, rt.alloc());
-    for field in &[
-        "other facility",
-        "no facility",
-        "other severity",
-        "no severity",
-        "other timestamp",
-        "no timestamp",
-        "other host",
-        "no app",
-        "empty app",
-        "process",
-        "other id",
-        "empty msg",
+fn compares_each_field_but_the_protocol(rt: HostRuntime) {
+    for (one, other, equal) in &[
+        ("none", "RFC 3164", true),
+        ("none", "version 2", true),
+        // Timestamps are compared by instant.
+        ("in 2020", "an hour ahead", true),
+        ("in 2020", "a second later", false),
+        // Each other field.
+        ("none", "other facility", false),
+        ("none", "no facility", false),
+        ("none", "other severity", false),
+        ("none", "no severity", false),
+        ("none", "other timestamp", false),
+        ("none", "no timestamp", false),
+        ("none", "other host", false),
+        ("none", "no app", false),
+        ("none", "empty app", false),
+        ("none", "process", false),
+        ("none", "other id", false),
+        ("none", "empty msg", false),
     ] {
-        check(
-            &rt,
-            differs(&a, &changed(&rt, rt.alloc(), field)),
-            "no difference",
-            field,
-        );
+        let one = changed(&rt, rt.alloc(), one);
+        let same = compare_as(&one, &changed(&rt, rt.alloc(), other), *equal);
+        check(&rt, same, "compared otherwise", other);
     }
 }
 
-// The full message with the elements of the lines.
-fn listed<'a>(rt: &impl Abort, alloc: Global, lines: &'a str) -> Message<&'a str> {
-    let mut message = full(rt, alloc);
-    message.structured_data = elements(alloc, lines).expect(rt, "no memory");
-    message
+#[test]
+fn is_equal_to_what_is_read_and_of_its_protocol(rt: HostRuntime) {
+    let full = full(&rt, rt.alloc(), "");
+    let found = read(rt.alloc(), FULL, Variant::Either).expect(&rt, FULL);
+    check(&rt, compare_as(&full, &found, true), "another", FULL);
+    let same = full.protocol == found.protocol;
+    check(&rt, same, "another protocol", FULL);
+    for change in &["RFC 3164", "version 2"] {
+        let other = changed(&rt, rt.alloc(), change).protocol;
+        check(&rt, full.protocol != other, "the same protocol", change);
+    }
 }
 
-// Whether the full message with the elements of one text is equal to that with those of another.
-fn are_equal_lists(rt: &impl Abort, alloc: Global, lines: &str, others: &str) -> bool {
-    listed(rt, alloc, lines) == listed(rt, alloc, others)
+#[test]
+fn prints_timestamps_at_their_offset(rt: HostRuntime) {
+    let utc = changed(&rt, rt.alloc(), "in 2020");
+    let want = "<34>1 2020-01-01T00:00:00+00:00 mymachine.example.com su - ID47 - message";
+    check_printed(&rt, rt.alloc(), &utc, want);
+    let ahead = changed(&rt, rt.alloc(), "an hour ahead");
+    let want = "<34>1 2020-01-01T01:00:00+01:00 mymachine.example.com su - ID47 - message";
+    check_printed(&rt, rt.alloc(), &ahead, want);
+    let same = utc.timestamp == ahead.timestamp;
+    check(&rt, same, "no equal timestamp", "an hour ahead");
 }
 
 #[test]
 fn compares_elements_in_order(rt: HostRuntime) {
-    let alloc = rt.alloc();
-    let lines = "x\nx|a|1";
-    check(
-        &rt,
-        are_equal_lists(&rt, alloc, lines, lines),
-        "not equal",
-        lines,
-    );
-    let others = "x\nx|b|2|a|1";
-    let same = are_equal_lists(&rt, alloc, "x\nx|a|1|b|2", others);
-    check(&rt, same, "not equal", others);
-    for others in &["x|a|1\nx", "x\nx", ""] {
-        check(
-            &rt,
-            !are_equal_lists(&rt, alloc, lines, others),
-            "equal",
-            others,
-        );
+    for (lines, others, equal) in &[
+        ("x\nx|a|1", "x\nx|a|1", true),
+        ("x\nx|a|1|b|2", "x\nx|b|2|a|1", true),
+        ("x\nx|a|1", "x|a|1\nx", false),
+        ("x\nx|a|1", "x\nx", false),
+        ("x\nx|a|1", "", false),
+    ] {
+        let listed = full(&rt, rt.alloc(), lines);
+        let same = listed == full(&rt, rt.alloc(), others);
+        check(&rt, same == *equal, "compared otherwise", others);
     }
 }
 
@@ -192,53 +132,32 @@ fn number<S: AsStr>(message: &Message<S>) -> Option<i32> {
     }
 }
 
-// A clone of the owned message is equal to it, and prints so.
-fn has_clone(alloc: Global, owned: &Message<String>, printed: &str) -> bool {
-    match owned.try_clone(alloc) {
-        Ok(again) => again == *owned && prints_as(alloc, &again, printed),
-        Err(_) => false,
-    }
-}
-
-// The owned message has the protocol and the number of the other, and prints so.
-fn owns(owned: &Message<String>, message: &Message<&str>) -> bool {
-    owned.protocol == message.protocol && number(owned) == number(message)
-}
-
-fn has_owned(alloc: Global, message: &Message<&str>, printed: &str) -> bool {
-    match message.to_owned_text(alloc) {
-        Ok(owned) => {
-            owns(&owned, message)
-                && prints_as(alloc, &owned, printed)
-                && has_clone(alloc, &owned, printed)
-        }
-        Err(_) => false,
-    }
-}
-
-fn has_copy(alloc: Global, message: &Message<&str>, printed: &str) -> bool {
-    match message.try_clone(alloc) {
-        Ok(copy) => {
-            copy == *message
-                && copy.protocol == message.protocol
-                && prints_as(alloc, &copy, printed)
-        }
-        Err(_) => false,
-    }
+// The owned message has the protocol and the number of the other, and prints so. So does a copy, which is equal to it.
+fn check_owned(rt: &impl Abort, alloc: Global, message: &Message<&str>, printed: &str) {
+    let owned = message.to_owned_text(alloc).expect(rt, printed);
+    let same = owned.protocol == message.protocol && number(&owned) == number(message);
+    check(rt, same, "owned", printed);
+    check_printed(rt, alloc, &owned, printed);
+    let again = owned.try_clone(alloc).expect(rt, printed);
+    check(rt, again == owned, "a copy of the owned", printed);
+    check_printed(rt, alloc, &again, printed);
 }
 
 // Copies of the message are equal to it, and each prints so.
 fn check_copies(rt: &impl Abort, alloc: Global, message: &Message<&str>, printed: &str) {
-    check(rt, has_copy(alloc, message, printed), "a copy", printed);
-    check(rt, has_owned(alloc, message, printed), "owned", printed);
     check_printed(rt, alloc, message, printed);
+    let copy = message.try_clone(alloc).expect(rt, printed);
+    let same = copy == *message && copy.protocol == message.protocol;
+    check(rt, same, "a copy", printed);
+    check_printed(rt, alloc, &copy, printed);
+    check_owned(rt, alloc, message, printed);
 }
 
 #[test]
 fn copies_lists_in_order(rt: HostRuntime) {
-    let mut message = listed(&rt, rt.alloc(), "x|b|2|a|1\nx");
+    let mut message = full(&rt, rt.alloc(), "x|b|2|a|1\nx");
     message.protocol = Protocol::RFC5424(7);
-    message.timestamp = stamp(&rt, 1_577_836_800_000, -3600);
+    message.timestamp = stamp(&rt, IN_2020, -3600);
     message.procid = Some(ProcId::Name("x:y"));
     check_copies(
         &rt,
@@ -268,62 +187,25 @@ fn element_prints_as<S: AsStr>(alloc: Global, element: &StructuredElement<S>, wa
     }
 }
 
-fn has_element_copy(alloc: Global, element: &StructuredElement<&str>, want: &str) -> bool {
-    match element.try_clone(alloc) {
-        Ok(copy) => copy == *element && element_prints_as(alloc, &copy, want),
-        Err(_) => false,
-    }
-}
-
-fn has_owned_element(alloc: Global, element: &StructuredElement<&str>, want: &str) -> bool {
-    match element.to_owned_text(alloc) {
-        Ok(owned) => element_prints_as(alloc, &owned, want),
-        Err(_) => false,
-    }
-}
-
-fn check_element(rt: &impl Abort, alloc: Global, line: &str, want: &str) {
-    match element(alloc, line) {
-        Ok(element) => {
-            check(rt, has_element_copy(alloc, &element, want), "a copy", want);
-            check(rt, has_owned_element(alloc, &element, want), "owned", want);
-        }
-        Err(_) => check(rt, false, "no memory", want),
-    }
-}
-
 #[test]
 fn copies_elements(rt: HostRuntime) {
-    check_element(
-        &rt,
-        rt.alloc(),
-        "meta|sequenceId|1|sysUpTime|37|language|EN",
-        "[meta sequenceId=\"1\" sysUpTime=\"37\" language=\"EN\"]",
-    );
-    check_element(
-        &rt,
-        rt.alloc(),
-        "origin|ip|192.168.0.1|software|test",
-        "[origin ip=\"192.168.0.1\" software=\"test\"]",
-    );
-}
-
-fn is_empty(name: &Option<String>) -> bool {
-    match name {
-        Some(name) => name.is_empty(),
-        None => false,
-    }
-}
-
-// An empty app name, the process 323 and this message.
-fn has_fields(owned: &Message<String>, msg: &str) -> bool {
-    is_empty(&owned.appname) && number(owned) == Some(323) && owned.msg.as_str() == msg
-}
-
-fn owns_fields(alloc: Global, message: &Message<&str>, msg: &str, printed: &str) -> bool {
-    match message.to_owned_text(alloc) {
-        Ok(owned) => has_fields(&owned, msg) && prints_as(alloc, &owned, printed),
-        Err(_) => false,
+    for (line, want) in &[
+        (
+            "meta|sequenceId|1|sysUpTime|37|language|EN",
+            "[meta sequenceId=\"1\" sysUpTime=\"37\" language=\"EN\"]",
+        ),
+        (
+            "origin|ip|192.168.0.1|software|test",
+            "[origin ip=\"192.168.0.1\" software=\"test\"]",
+        ),
+    ] {
+        let element = element(rt.alloc(), line).expect(&rt, want);
+        let copy = element.try_clone(rt.alloc()).expect(&rt, want);
+        let same = copy == element && element_prints_as(rt.alloc(), &copy, want);
+        check(&rt, same, "a copy", want);
+        let owned = element.to_owned_text(rt.alloc()).expect(&rt, want);
+        let same = element_prints_as(rt.alloc(), &owned, want);
+        check(&rt, same, "owned", want);
     }
 }
 
@@ -332,7 +214,13 @@ fn owns_the_texts_of_a_message(rt: HostRuntime) {
     let row = "host host¦app ¦pid 323¦msg hi";
     let mut message = message(&rt, rt.alloc(), Protocol::RFC3164, row);
     message.timestamp = stamp(&rt, 1_570_832_055_000, 0);
+    let owned = message.to_owned_text(rt.alloc()).expect(&rt, row);
+    let is_empty = match &owned.appname {
+        Some(name) => name.is_empty(),
+        None => false,
+    };
+    let same = is_empty && number(&owned) == Some(323) && owned.msg.as_str() == "hi";
+    check(&rt, same, "an owned message", row);
     let printed = "<34> 2019-10-11T22:14:15+00:00 host [323]: hi";
-    let owned = owns_fields(rt.alloc(), &message, "hi", printed);
-    check(&rt, owned, "an owned message", row);
+    check_printed(&rt, rt.alloc(), &owned, printed);
 }

@@ -57,19 +57,6 @@ pub(super) fn number_of(cell: Option<&str>, absent: i32) -> i32 {
     }
 }
 
-/// The year of a date that shows none.
-pub(super) fn year_of(cells: &str) -> i32 {
-    number_of(cell(cells, "year"), 2019)
-}
-
-/// The version of RFC 5424.
-pub(super) fn version_of(cells: &str) -> u32 {
-    match cell(cells, "version") {
-        Some(version) => version.parse().unwrap_or(0),
-        None => 1,
-    }
-}
-
 /// What the message prints as.
 pub(super) fn printed_of(cells: &str) -> &str {
     cell(cells, "prints").unwrap_or("<47>1 - - - - - - ")
@@ -78,21 +65,17 @@ pub(super) fn printed_of(cells: &str) -> &str {
 /// The words of the cells, with blanks between.
 const FIELDS: &str = "year version facility severity at host app pid name id list msg prints";
 
-// It begins with the word of a field.
-fn is_cell(cell: &str) -> bool {
-    match cell.split_once(' ') {
-        Some((field, _)) => FIELDS.split(' ').any(|it| it == field),
-        None => false,
-    }
-}
-
-/// Each cell is of a field.
+/// Each cell begins with the word of a field.
 pub(super) fn are_cells(cells: &str) -> bool {
     if cells.is_empty() {
         return true;
     }
     for cell in cells.split('¦') {
-        if !is_cell(cell) {
+        let known = match cell.split_once(' ') {
+            Some((field, _)) => FIELDS.split(' ').any(|it| it == field),
+            None => false,
+        };
+        if !known {
             return false;
         }
     }
@@ -104,12 +87,19 @@ pub(super) fn check(rt: &impl Abort, holds: bool, what: &str, row: &str) {
     assert!(rt; holds, "{what}: {row}");
 }
 
-/// The row with the filling in place of each `…`.
-pub(super) fn filled(rt: &impl Abort, alloc: Global, row: &str, filling: &str) -> String {
+/// The row with so many of the part in place of each `…`.
+pub(super) fn filled(
+    rt: &impl Abort,
+    alloc: Global,
+    part: &str,
+    times: usize,
+    row: &str,
+) -> String {
+    let filling = part.repeat(alloc, times).expect(rt, "no memory");
     let mut text = String::new(alloc);
     for letter in row.chars() {
         let pushed = match letter {
-            '…' => text.push_str(filling),
+            '…' => text.push_str(filling.as_str()),
             _ => text.push(letter),
         };
         pushed.expect(rt, "no memory");
@@ -137,17 +127,13 @@ fn is_process(found: &Option<ProcId<&str>>, cells: &str) -> bool {
     }
 }
 
-fn is_param(param: &(&str, &str), name: Option<&str>, value: Option<&str>) -> bool {
-    is_same(name, Some(param.0)) && is_same(value, Some(param.1))
-}
-
 fn is_element(element: &StructuredElement<&str>, line: &str) -> bool {
     let mut texts = line.split('|');
     if !is_same(texts.next(), Some(element.id)) {
         return false;
     }
     for param in &element.params {
-        if !is_param(param, texts.next(), texts.next()) {
+        if !is_same(texts.next(), Some(param.0)) || !is_same(texts.next(), Some(param.1)) {
             return false;
         }
     }
@@ -186,33 +172,19 @@ pub(super) fn check_timestamp(
     }
 }
 
-fn is_facility(message: &Message<&str>, want: Option<&str>) -> bool {
-    match message.facility {
-        Some(facility) => is_same(want, Some(facility.as_str())),
-        None => want.is_none(),
-    }
-}
-
-fn is_severity(message: &Message<&str>, want: Option<&str>) -> bool {
-    match message.severity {
-        Some(severity) => is_same(want, Some(severity.as_str())),
-        None => want.is_none(),
-    }
-}
-
 pub(super) fn check_priority(rt: &impl Abort, message: &Message<&str>, cells: &str) {
-    check(
-        rt,
-        is_facility(message, cell(cells, "facility")),
-        "facility",
-        cells,
-    );
-    check(
-        rt,
-        is_severity(message, cell(cells, "severity")),
-        "severity",
-        cells,
-    );
+    let facility = match message.facility {
+        Some(facility) => Some(facility.as_str()),
+        None => None,
+    };
+    let same = is_same(facility, cell(cells, "facility"));
+    check(rt, same, "facility", cells);
+    let severity = match message.severity {
+        Some(severity) => Some(severity.as_str()),
+        None => None,
+    };
+    let same = is_same(severity, cell(cells, "severity"));
+    check(rt, same, "severity", cells);
 }
 
 fn are_names(message: &Message<&str>, cells: &str) -> bool {
@@ -226,26 +198,11 @@ pub(super) fn check_fields(rt: &impl Abort, message: &Message<&str>, text: &str,
     check(rt, are_cells(cells), "a cell of no field", text);
     check(rt, are_names(message, cells), "names", text);
     check(rt, is_process(&message.procid, cells), "process", text);
-    let elements = cell(cells, "list").unwrap_or("");
-    check(
-        rt,
-        are_elements(&message.structured_data, elements),
-        "elements",
-        text,
-    );
-    check(
-        rt,
-        message.msg == cell(cells, "msg").unwrap_or(""),
-        "msg",
-        text,
-    );
-}
-
-pub(super) fn prints_as<S: AsStr>(alloc: Global, message: &Message<S>, want: &str) -> bool {
-    match format!(in alloc; "{message}") {
-        Ok(printed) => printed.as_str() == want,
-        Err(_) => false,
-    }
+    let lines = cell(cells, "list").unwrap_or("");
+    let same = are_elements(&message.structured_data, lines);
+    check(rt, same, "elements", text);
+    let msg = cell(cells, "msg").unwrap_or("");
+    check(rt, message.msg == msg, "msg", text);
 }
 
 pub(super) fn check_printed<S: AsStr>(
@@ -254,6 +211,6 @@ pub(super) fn check_printed<S: AsStr>(
     message: &Message<S>,
     want: &str,
 ) {
-    let holds = prints_as(alloc, message, want);
-    check(rt, holds, "it prints otherwise", want);
+    let printed = format!(in alloc; "{message}").expect(rt, "no memory");
+    check(rt, printed.as_str() == want, "it prints otherwise", want);
 }

@@ -1,5 +1,5 @@
 //! The calls as tests make them, with UTC as the local zone.
-use super::expected::{check, filled};
+use super::expected::check;
 use jiff::tz::TimeZone;
 use std::alloc::Global;
 use std::process::Abort;
@@ -16,14 +16,14 @@ pub(super) const IN_JANUARY: (i32, i32) = (2019, 2020);
 /// What a reading call answers.
 pub(super) type Answer<'a> = Result<Message<&'a str>, ParseFault>;
 
-/// The message of the text in these zones, with a closure that answers the years by the month, as in `IN_JANUARY`.
-pub(super) fn read_in_zones<'a>(
+/// The message of the text in this zone, or with none given, and with a closure that answers the years by the month, as
+/// in `IN_JANUARY`.
+pub(super) fn read_in_years<'a>(
     alloc: Global,
     text: &'a str,
     years: (i32, i32),
     tz: Option<&TimeZone<'_>>,
     variant: Variant,
-    local: &TimeZone<'_>,
 ) -> Answer<'a> {
     parse_message_with_year_exact_tz(
         alloc,
@@ -31,34 +31,13 @@ pub(super) fn read_in_zones<'a>(
         move |date: IncompleteDate| if date.0 == 12 { years.0 } else { years.1 },
         tz,
         variant,
-        local,
+        &TimeZone::UTC,
     )
 }
 
-/// The message of the text, with UTC as both zones.
+/// The message of the text, with UTC as the zone and 2019 as the year of a date that has none.
 pub(super) fn read<'a>(alloc: Global, text: &'a str, variant: Variant) -> Answer<'a> {
-    read_in_year(alloc, text, 2019, variant)
-}
-
-/// The same, with this year for a date that has none.
-pub(super) fn read_in_year<'a>(
-    alloc: Global,
-    text: &'a str,
-    year: i32,
-    variant: Variant,
-) -> Answer<'a> {
-    let utc = TimeZone::UTC;
-    read_in_zones(alloc, text, (year, year), Some(&utc), variant, &utc)
-}
-
-/// The message of the text, with no zone given, UTC as the local one, and a closure that answers by the month.
-pub(super) fn read_by_month<'a>(
-    alloc: Global,
-    text: &'a str,
-    years: (i32, i32),
-    variant: Variant,
-) -> Answer<'a> {
-    read_in_zones(alloc, text, years, None, variant, &TimeZone::UTC)
+    read_in_years(alloc, text, (2019, 2019), Some(&TimeZone::UTC), variant)
 }
 
 /// The answer is that the text has no division.
@@ -79,17 +58,4 @@ pub(super) fn check_invalid(rt: &impl Abort, alloc: Global, variant: Variant, te
             text,
         );
     }
-}
-
-/// Nor has this one with so many of the part in place of its `…`.
-pub(super) fn check_filled_invalid(
-    rt: &impl Abort,
-    alloc: Global,
-    part: &str,
-    times: usize,
-    text: &str,
-) {
-    let filling = part.repeat(alloc, times).expect(rt, "no memory");
-    let text = filled(rt, alloc, text, filling.as_str());
-    check_invalid(rt, alloc, Variant::Either, &[text.as_str()]);
 }

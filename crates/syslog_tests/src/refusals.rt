@@ -1,9 +1,8 @@
 //! Refused memory where a text has elements.
 use super::expected::{are_elements, cell, cells_of, check, text_of};
-use super::reading::{is_invalid, read};
-use std::alloc::Global;
+use super::reading::{Answer, check_invalid, read};
 use std::process::Abort;
-use syslog_loose::{Message, ParseFault, Variant};
+use syslog_loose::{ParseFault, Variant};
 
 /// Rows as `expected.rt` says, each with a list or with none that is kept, and with the message behind it.
 const LISTED: [&str; 2] = [
@@ -13,35 +12,28 @@ const LISTED: [&str; 2] = [
     "1 - - - - - [a b=\"c\"] x¦list a|b|c¦msg x",
 ];
 
-fn is_answer(message: &Message<&str>, cells: &str) -> bool {
-    are_elements(&message.structured_data, cell(cells, "list").unwrap_or(""))
-        && message.msg == cell(cells, "msg").unwrap_or("")
-}
-
-fn check_answer(rt: &impl Abort, answer: Result<Message<&str>, ParseFault>, row: &str) {
+// The answer has the elements and the message of the row.
+fn check_answer(rt: &impl Abort, answer: Answer<'_>, row: &str) {
+    let cells = cells_of(row);
     let same = match answer {
-        Ok(message) => is_answer(&message, cells_of(row)),
+        Ok(message) => {
+            are_elements(&message.structured_data, cell(cells, "list").unwrap_or(""))
+                && message.msg == cell(cells, "msg").unwrap_or("")
+        }
         Err(_) => false,
     };
     check(rt, same, "elements or message", row);
-}
-
-fn read_again<'a>(
-    alloc: Global,
-    text: &'a str,
-    variant: Variant,
-) -> Result<Message<&'a str>, ParseFault> {
-    match read(alloc, text, variant) {
-        Err(ParseFault::Memory) => read(alloc, text, variant),
-        other => other,
-    }
 }
 
 #[test]
 fn answers_that_memory_for_elements_was_refused_and_then_as_ever(rt: HostRuntime) {
     for variant in &[Variant::Either, Variant::RFC5424] {
         for row in &LISTED {
-            check_answer(&rt, read_again(rt.alloc(), text_of(row), *variant), row);
+            let answer = match read(rt.alloc(), text_of(row), *variant) {
+                Err(ParseFault::Memory) => read(rt.alloc(), text_of(row), *variant),
+                other => other,
+            };
+            check_answer(&rt, answer, row);
         }
     }
 }
@@ -56,22 +48,13 @@ fn sees_no_refusal_for_elements(rt: HostRuntime) {
 }
 
 #[test]
-fn asks_for_no_memory_where_no_element_is_kept(rt: HostRuntime) {
+fn asks_for_no_memory_where_no_element_is_kept_or_the_list_is_cut(rt: HostRuntime) {
     for row in &[
         "1 - - - - - [a b=\"x]y\" ]z¦msg y\" ]z",
         "<13>1 2019-02-13T19:48:34+00:00 74794bfb6795 root 8449 - [incorrect x] qwerty¦msg qwerty",
     ] {
         check_answer(&rt, read(rt.alloc(), text_of(row), Variant::Either), row);
     }
-}
-
-#[test]
-fn asks_for_no_memory_where_a_list_is_cut(rt: HostRuntime) {
-    let text = "1 - - - - - [a b=\"c";
-    check(
-        &rt,
-        is_invalid(read(rt.alloc(), text, Variant::Either)),
-        "not refused as invalid",
-        text,
-    );
+    let cut = "1 - - - - - [a b=\"c";
+    check_invalid(&rt, rt.alloc(), Variant::Either, &[cut]);
 }

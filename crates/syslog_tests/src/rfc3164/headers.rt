@@ -1,12 +1,16 @@
-//! Worked texts of RFC 3164: the names of a header.
-use super::{check_by_month, check_table};
+//! Worked texts of RFC 3164: the names of a header, and lines of programs.
+use super::{check_message, check_table};
+use crate::expected::{cells_of, text_of};
+use crate::reading::{IN_JANUARY, read_in_years};
+use syslog_loose::Variant;
 
 #[test]
-fn reads_host_program_and_process(rt: HostRuntime) {
+fn reads_the_names_of_a_header(rt: HostRuntime) {
     check_table(
         &rt,
         rt.alloc(),
         &[
+            // Host, program and process.
             "<34>Oct 11 22:14:15 mymachine app[323]: a message\
              ¦host mymachine¦app app¦pid 323¦msg a message\
              ¦prints <34> 2019-10-11T22:14:15+00:00 mymachine app[323]: a message",
@@ -28,16 +32,7 @@ fn reads_host_program_and_process(rt: HostRuntime) {
             "<34>Oct 11 22:14:15 mymachine su: 'su root' failed for lonvick on /dev/pts/8\
              ¦host mymachine¦app su¦msg 'su root' failed for lonvick on /dev/pts/8\
              ¦prints <34> 2019-10-11T22:14:15+00:00 mymachine su: 'su root' failed for lonvick on /dev/pts/8",
-        ],
-    );
-}
-
-#[test]
-fn reads_odd_names(rt: HostRuntime) {
-    check_table(
-        &rt,
-        rt.alloc(),
-        &[
+            // Odd names.
             "<34>Oct 11 22:14:15 host -: hi¦msg hi¦prints <34> 2019-10-11T22:14:15+00:00 - : hi",
             "<34>- app[x:y]: hi¦app app¦name x:y¦msg hi¦prints <34> - - app[x:y]: hi",
             "<34> - - app[x:y]: hi¦app app[x¦msg y]: hi¦prints <34> - - app[x: y]: hi",
@@ -58,7 +53,7 @@ fn reads_odd_names(rt: HostRuntime) {
 }
 
 /// Lines of programs, of December 2019 and of 2020.
-const LINES: [&str; 9] = [
+const LINES: [&str; 13] = [
     "<190>Dec 28 16:49:07 plertrood-thinkpad-x220 nginx: 127.0.0.1 - - [28/Dec/2019:16:49:07 +0000] \"GET / HTTP/1.1\" \
      304 0 \"-\"\
      ¦host plertrood-thinkpad-x220¦app nginx¦msg 127.0.0.1 - - [28/Dec/2019:16:49:07 +0000] \"GET / HTTP/1.1\" 304 0 \
@@ -90,14 +85,35 @@ const LINES: [&str; 9] = [
      ¦app haproxy¦pid 73411¦msg Proxy sticky-servers started.¦year 2020\
      ¦prints <133> 2020-01-13T16:33:35+00:00 - haproxy[73411]: Proxy sticky-servers started.",
     "<54> 1970-01-01T00:01:31+00:00 host :¦host host¦prints <54> 1970-01-01T00:01:31+00:00 host : ",
+    // With elements, or with what is none.
+    "<46>Jan  5 15:33:03 plertrood-ThinkPad-X220 rsyslogd:  [origin software=\"rsyslogd\" swVersion=\"8.32.0\" \
+     x-pid=\"20506\" x-info=\"http://www.rsyslog.com\"] start\
+     ¦host plertrood-ThinkPad-X220¦app rsyslogd¦list origin|software|rsyslogd|swVersion|8.32.0|x-pid|20506|x-info|\
+     http://www.rsyslog.com¦msg start¦year 2020\
+     ¦prints <46> 2020-01-05T15:33:03+00:00 plertrood-ThinkPad-X220 rsyslogd: [origin software=\"rsyslogd\" \
+     swVersion=\"8.32.0\" x-pid=\"20506\" x-info=\"http://www.rsyslog.com\"] start",
+    "<46>Jan  5 15:33:03 plertrood-ThinkPad-X220 rsyslogd:  [software=\"rsyslogd\" swVersion=\"8.32.0\"] start\
+     ¦host plertrood-ThinkPad-X220¦app rsyslogd¦msg [software=\"rsyslogd\" swVersion=\"8.32.0\"] start¦year 2020\
+     ¦prints <46> 2020-01-05T15:33:03+00:00 plertrood-ThinkPad-X220 rsyslogd: [software=\"rsyslogd\" \
+     swVersion=\"8.32.0\"] start",
+    "<46>Jan  5 15:33:03 plertrood-ThinkPad-X220  [software=\"rsyslogd\"] start\
+     ¦host plertrood-ThinkPad-X220¦msg [software=\"rsyslogd\"] start¦year 2020\
+     ¦prints <46> 2020-01-05T15:33:03+00:00 plertrood-ThinkPad-X220 : [software=\"rsyslogd\"] start",
+    "<190>2019-02-13T21:53:30.605850+00:00 74794bfb6795 liblogging-stdlog:  [origin software=\"rsyslogd\"] start\
+     ¦host 74794bfb6795¦app liblogging-stdlog¦list origin|software|rsyslogd¦msg start\
+     ¦prints <190> 2019-02-13T21:53:30.605850+00:00 74794bfb6795 liblogging-stdlog: [origin software=\"rsyslogd\"] \
+     start",
 ];
 
 #[test]
 fn reads_lines_of_programs(rt: HostRuntime) {
     check_table(&rt, rt.alloc(), &LINES);
-}
-
-#[test]
-fn reads_lines_in_the_year_of_their_month(rt: HostRuntime) {
-    check_by_month(&rt, rt.alloc(), &LINES);
+    // So they read without a zone where the closure answers by the month, whatever year the row has.
+    for row in &LINES {
+        for variant in &[Variant::Either, Variant::RFC3164] {
+            let answer = read_in_years(rt.alloc(), text_of(row), IN_JANUARY, None, *variant);
+            let message = answer.expect(&rt, row);
+            check_message(&rt, rt.alloc(), &message, text_of(row), cells_of(row));
+        }
+    }
 }

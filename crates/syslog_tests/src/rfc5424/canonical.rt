@@ -1,17 +1,16 @@
 //! Messages built by hand: whether they are canonical, and what their printed text is read as.
 use super::check_text;
-use crate::built::{self, message};
+use crate::built::{message, stamp};
 use crate::expected::check;
 use crate::reading::check_invalid;
 use std::alloc::Global;
 use std::process::Abort;
-use syslog_loose::{Message, Offset, OffsetTimestamp, Protocol, Timestamp, Variant};
+use syslog_loose::{Message, Protocol, Variant};
 
-fn small(alloc: Global) -> Message<&'static str> {
-    built::small(alloc, Protocol::RFC5424(1), "x")
-}
+/// The protocol of the messages here.
+const FIRST: Protocol = Protocol::RFC5424(1);
 
-/// The cells of that message as it is read.
+/// The cells of the message with the `msg` x alone as it is read.
 const SAME: &str = "facility auth¦severity crit¦msg x¦prints <34>1 - - - - - - x";
 
 /// Whether the message is canonical, and in which cells that differ from `SAME` its printed text is read under `Either`
@@ -24,12 +23,8 @@ fn check_built(
     cells: &str,
 ) {
     let text = format!(in alloc; "{message}").expect(rt, "no memory");
-    check(
-        rt,
-        message.is_canonical() == canonical,
-        "canonical",
-        text.as_str(),
-    );
+    let same = message.is_canonical() == canonical;
+    check(rt, same, "canonical", text.as_str());
     let cells = format!(in alloc; "{SAME}{cells}").expect(rt, "no memory");
     check_text(rt, alloc, text.as_str(), cells.as_str());
 }
@@ -41,23 +36,17 @@ fn check_unread(rt: &impl Abort, alloc: Global, message: &Message<&str>) {
     check_invalid(rt, alloc, Variant::RFC5424, &[text.as_str()]);
 }
 
-/// The small message with these cells in place of its own.
-fn with<'a>(rt: &impl Abort, alloc: Global, cells: &'a str) -> Message<&'a str> {
-    message(rt, alloc, Protocol::RFC5424(1), cells)
-}
-
 /// A row is the cells of a message with its `msg`, and those that differ from `SAME` as it is read.
 fn check_rows(rt: &impl Abort, alloc: Global, canonical: bool, rows: &[&str]) {
     for row in rows {
-        match row.split_once(" → ") {
-            Some((built, read)) => check_built(rt, alloc, &with(rt, alloc, built), canonical, read),
-            None => check(rt, false, "no cells", row),
-        }
+        let (built, read) = row.split_once(" → ").expect(rt, row);
+        let message = message(rt, alloc, FIRST, built);
+        check_built(rt, alloc, &message, canonical, read);
     }
 }
 
 #[test]
-fn reads_canonical_messages_back(rt: HostRuntime) {
+fn reads_canonical_messages_back_and_others_as_they_print(rt: HostRuntime) {
     check_rows(
         &rt,
         rt.alloc(),
@@ -74,10 +63,6 @@ fn reads_canonical_messages_back(rt: HostRuntime) {
             "msg x¦list a|b|\\\" → ¦list a|b|\\\"¦prints <34>1 - - - - - [a b=\"\\\"\"] x",
         ],
     );
-}
-
-#[test]
-fn reads_messages_that_are_not_canonical(rt: HostRuntime) {
     check_rows(
         &rt,
         rt.alloc(),
@@ -110,50 +95,49 @@ fn reads_messages_that_are_not_canonical(rt: HostRuntime) {
 
 #[test]
 fn reads_absent_parts_of_a_priority(rt: HostRuntime) {
-    let mut message = small(rt.alloc());
-    message.severity = None;
+    let mut absent = message(&rt, rt.alloc(), FIRST, "msg x");
+    absent.severity = None;
     let cells = "¦severity debug¦prints <39>1 - - - - - - x";
-    check_built(&rt, rt.alloc(), &message, false, cells);
-    let mut message = small(rt.alloc());
-    message.facility = None;
+    check_built(&rt, rt.alloc(), &absent, false, cells);
+    let mut absent = message(&rt, rt.alloc(), FIRST, "msg x");
+    absent.facility = None;
     let cells = "¦facility syslog¦prints <42>1 - - - - - - x";
-    check_built(&rt, rt.alloc(), &message, false, cells);
+    check_built(&rt, rt.alloc(), &absent, false, cells);
 }
 
 #[test]
 fn has_no_reading_of_other_names(rt: HostRuntime) {
     for cells in &["msg x¦host ", "msg x¦host a:", "msg x¦app ", "msg x¦app :"] {
-        check_unread(&rt, rt.alloc(), &with(&rt, rt.alloc(), cells));
+        check_unread(&rt, rt.alloc(), &message(&rt, rt.alloc(), FIRST, cells));
     }
 }
 
-/// The message at this instant, in seconds, and at this offset.
-fn stamped(rt: &impl Abort, alloc: Global, seconds: i64, offset: i32) -> Message<&'static str> {
-    let mut message = small(alloc);
-    message.timestamp = Some(OffsetTimestamp {
-        instant: Timestamp::from_second(seconds).expect(rt, "no instant"),
-        offset: Offset::from_seconds(offset).expect(rt, "no offset"),
-    });
-    message
-}
-
-/// When the year 0 begins, in seconds.
-const YEAR_ZERO: i64 = -62_167_219_200;
+/// When the year 0 begins, in milliseconds.
+const YEAR_ZERO: i64 = -62_167_219_200_000;
 
 #[test]
-fn rounds_an_offset_to_minutes(rt: HostRuntime) {
-    let message = stamped(&rt, rt.alloc(), 0, 30);
-    let cells = "¦at 1970-01-01T00:00:30+00:01¦prints <34>1 1970-01-01T00:00:30+00:01 - - - - - x";
-    check_built(&rt, rt.alloc(), &message, false, cells);
-}
-
-#[test]
-fn reads_years_from_zero_on_at_their_offset(rt: HostRuntime) {
-    let alloc = rt.alloc();
-    check_unread(&rt, alloc, &stamped(&rt, alloc, YEAR_ZERO - 1, 0));
-    check_unread(&rt, alloc, &stamped(&rt, alloc, YEAR_ZERO, -3600));
-    check_unread(&rt, alloc, &stamped(&rt, alloc, 0, 86_400));
-    let message = stamped(&rt, alloc, YEAR_ZERO - 1, 3600);
-    let cells = "¦at 0000-01-01T00:59:59+01:00¦prints <34>1 0000-01-01T00:59:59+01:00 - - - - - x";
-    check_built(&rt, alloc, &message, true, cells);
+fn reads_years_from_zero_on_at_their_offset_in_minutes(rt: HostRuntime) {
+    for (milliseconds, offset) in &[(YEAR_ZERO - 1000, 0), (YEAR_ZERO, -3600), (0, 86_400)] {
+        let mut message = message(&rt, rt.alloc(), FIRST, "msg x");
+        message.timestamp = stamp(&rt, *milliseconds, *offset);
+        check_unread(&rt, rt.alloc(), &message);
+    }
+    for (milliseconds, offset, canonical, cells) in &[
+        (
+            0,
+            30,
+            false,
+            "¦at 1970-01-01T00:00:30+00:01¦prints <34>1 1970-01-01T00:00:30+00:01 - - - - - x",
+        ),
+        (
+            YEAR_ZERO - 1000,
+            3600,
+            true,
+            "¦at 0000-01-01T00:59:59+01:00¦prints <34>1 0000-01-01T00:59:59+01:00 - - - - - x",
+        ),
+    ] {
+        let mut message = message(&rt, rt.alloc(), FIRST, "msg x");
+        message.timestamp = stamp(&rt, *milliseconds, *offset);
+        check_built(&rt, rt.alloc(), &message, *canonical, cells);
+    }
 }

@@ -7,11 +7,12 @@ use crate::reading::check_invalid;
 use syslog_loose::Variant;
 
 #[test]
-fn agrees_on_white_space(rt: HostRuntime) {
+fn agrees_on_messages(rt: HostRuntime) {
     check_table(
         &rt,
         rt.alloc(),
         &[
+            // White space.
             "\u{a0}\u{3000}<34>1 - h a 1 m - x\u{2003}\u{85}\
              ¦facility auth¦severity crit¦host h¦app a¦pid 1¦id m¦msg x\
              ¦prints <34>1 - h a 1 m - x",
@@ -27,30 +28,12 @@ fn agrees_on_white_space(rt: HostRuntime) {
             "1 2019-02-13T19:48:34.000001-00:30 \t[h] \"a\" =1 m= - x\
              ¦at 2019-02-13T19:48:34.000001-00:30¦host [h]¦app \"a\"¦name =1¦id m=¦msg x\
              ¦prints <47>1 2019-02-13T19:48:34.000001-00:30 [h] \"a\" =1 m= - x",
-        ],
-    );
-}
-
-#[test]
-fn agrees_on_dashes(rt: HostRuntime) {
-    check_table(
-        &rt,
-        rt.alloc(),
-        &[
+            // Dashes.
             "1 - - - - - -¦prints <47>1 - - - - - - ",
             "1 - - - - -- -¦id --¦prints <47>1 - - - - -- - ",
             "1 - -- --- -- -x - -¦host --¦app ---¦name --¦id -x¦msg -¦prints <47>1 - -- --- -- -x - -",
             "1 - - - - - - - - -¦msg - - -¦prints <47>1 - - - - - - - - -",
-        ],
-    );
-}
-
-#[test]
-fn agrees_on_numbers(rt: HostRuntime) {
-    check_table(
-        &rt,
-        rt.alloc(),
-        &[
+            // Numbers.
             "<034>00 - - - - - -¦version 0¦facility auth¦severity crit¦prints <34>0 - - - - - - ",
             "<255>4294967295 - - - - - - end\
              ¦version 4294967295¦severity debug¦msg end\
@@ -64,16 +47,7 @@ fn agrees_on_numbers(rt: HostRuntime) {
              ¦host h¦app a¦name +2147483648¦id m¦msg x\
              ¦prints <47>1 - h a +2147483648 m - x",
             "1 - h a +-5 m - x¦host h¦app a¦name +-5¦id m¦msg x¦prints <47>1 - h a +-5 m - x",
-        ],
-    );
-}
-
-#[test]
-fn agrees_on_colons_and_brackets(rt: HostRuntime) {
-    check_table(
-        &rt,
-        rt.alloc(),
-        &[
+            // Colons and brackets.
             "1 - h a 5: m - x¦host h¦app a¦name 5:¦id m¦msg x¦prints <47>1 - h a 5: m - x",
             "1 - h a: :: m: - : x¦host h¦app a:¦name ::¦id m:¦msg : x¦prints <47>1 - h a: :: m: - : x",
             "1 - ::1 :a ::: :m -:x¦host ::1¦app :a¦name :::¦id :m¦msg :x¦prints <47>1 - ::1 :a ::: :m - :x",

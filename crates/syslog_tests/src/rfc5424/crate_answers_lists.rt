@@ -7,11 +7,12 @@ use crate::reading::check_invalid;
 use syslog_loose::Variant;
 
 #[test]
-fn agrees_on_elements_with_parameters(rt: HostRuntime) {
+fn agrees_on_lists(rt: HostRuntime) {
     check_table(
         &rt,
         rt.alloc(),
         &[
+            // Elements with parameters.
             "1 - - - - - [][a b=\"c\"]x¦list a|b|c¦msg x¦prints <47>1 - - - - - [a b=\"c\"] x",
             "1 - - - - - [a b=\"\"]¦list a|b|¦prints <47>1 - - - - - [a b=\"\"] ",
             "1 - - - - - [a b=\"\\\\\"]x¦list a|b|\\\\¦msg x¦prints <47>1 - - - - - [a b=\"\\\\\"] x",
@@ -27,16 +28,7 @@ fn agrees_on_elements_with_parameters(rt: HostRuntime) {
              ¦list 局|域|网\\n|\u{a0}|\\ü¦msg ü\
              ¦prints <47>1 - - - - - [局 域=\"网\\n\" \u{a0}=\"\\ü\"] ü",
             "1 - - - - - [a=\"b\"][c d=\"e\"]x¦list c|d|e¦msg x¦prints <47>1 - - - - - [c d=\"e\"] x",
-        ],
-    );
-}
-
-#[test]
-fn agrees_on_elements_that_are_broken_or_without_parameters(rt: HostRuntime) {
-    check_table(
-        &rt,
-        rt.alloc(),
-        &[
+            // Elements that are broken or without parameters.
             "1 - - - - - [a][]¦list a¦prints <47>1 - - - - - [a] ",
             "1 - - - - - [a b=\"\\\"]x¦msg x¦prints <47>1 - - - - - - x",
             "1 - - - - - [a b=\"c\" d=\"e\" ]x¦msg x¦prints <47>1 - - - - - - x",
@@ -46,10 +38,6 @@ fn agrees_on_elements_that_are_broken_or_without_parameters(rt: HostRuntime) {
             "1 - - - - - [\"] [a]¦list \"¦msg [a]¦prints <47>1 - - - - - [\"] [a]",
         ],
     );
-}
-
-#[test]
-fn agrees_on_broken_lists(rt: HostRuntime) {
     check_invalid(
         &rt,
         rt.alloc(),

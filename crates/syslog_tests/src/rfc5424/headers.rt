@@ -1,17 +1,17 @@
 //! Worked texts of RFC 5424 without elements.
 use super::{check_message, check_table, check_text};
-use crate::built::small;
+use crate::built::message;
 use crate::expected::{check, printed_of};
 use crate::reading::{check_invalid, read};
-use std::alloc::Global;
-use syslog_loose::{OffsetTimestamp, Protocol, SyslogFacility, SyslogSeverity, Variant};
+use syslog_loose::{Protocol, SyslogFacility, SyslogSeverity, Variant};
 
 #[test]
-fn reads_each_field(rt: HostRuntime) {
+fn reads_the_fields_of_a_header(rt: HostRuntime) {
     check_table(
         &rt,
         rt.alloc(),
         &[
+            // Each field.
             "<34>1 2003-10-11T22:14:15.003Z mymachine.example.com su - ID47 - message\
              ¦facility auth¦severity crit¦at 2003-10-11T22:14:15.003+00:00¦host mymachine.example.com¦app su¦id \
              ID47¦msg message\
@@ -22,64 +22,33 @@ fn reads_each_field(rt: HostRuntime) {
              OX-XXX-CONTEUDO:rpd¦pid 6589¦msg bgp_listen_accept: %DAEMON-4: x\
              ¦prints <28>1 2020-05-22T14:59:09.250-03:00 OX-XXX-MX204 OX-XXX-CONTEUDO:rpd 6589 - - bgp_listen_accept: \
              %DAEMON-4: x",
-        ],
-    );
-}
-
-#[test]
-fn reads_a_text_without_a_priority(rt: HostRuntime) {
-    check_table(
-        &rt,
-        rt.alloc(),
-        &[
+            // No priority.
             "1 - - - - - -¦prints <47>1 - - - - - - ",
             "1 2020-05-22T14:59:09.250-03:00 OX-XXX-MX204 OX-XXX-CONTEUDO:rpd 6589 - - bgp_listen_accept: %DAEMON-4: x\
              ¦at 2020-05-22T14:59:09.250-03:00¦host OX-XXX-MX204¦app OX-XXX-CONTEUDO:rpd¦pid 6589¦msg \
              bgp_listen_accept: %DAEMON-4: x\
              ¦prints <47>1 2020-05-22T14:59:09.250-03:00 OX-XXX-MX204 OX-XXX-CONTEUDO:rpd 6589 - - bgp_listen_accept: \
              %DAEMON-4: x",
-        ],
-    );
-}
-
-#[test]
-fn reads_second_sixty_and_cuts_decimals(rt: HostRuntime) {
-    check_table(
-        &rt,
-        rt.alloc(),
-        &[
+            // Second sixty, and more decimals than nine.
             "<34>1 2016-12-31T23:59:60.25Z h a 1 m - x\
              ¦facility auth¦severity crit¦at 2016-12-31T23:59:59.250+00:00¦host h¦app a¦pid 1¦id m¦msg x\
              ¦prints <34>1 2016-12-31T23:59:59.250+00:00 h a 1 m - x",
             "<34>1 2020-01-01t00:00:00.1234567899z h a 1 m - x\
              ¦facility auth¦severity crit¦at 2020-01-01T00:00:00.123456789+00:00¦host h¦app a¦pid 1¦id m¦msg x\
              ¦prints <34>1 2020-01-01T00:00:00.123456789+00:00 h a 1 m - x",
-        ],
-    );
-}
-
-#[test]
-fn reads_a_priority_and_a_version_up_to_their_limits(rt: HostRuntime) {
-    check_table(
-        &rt,
-        rt.alloc(),
-        &[
+            // A priority and a version up to their limits.
             "<191>4294967295 - - - - - -¦version 4294967295¦facility local7¦severity debug¦prints <191>4294967295 - - \
              - - - - ",
             "<0007>1 - - - - - -¦facility kern¦severity debug¦prints <7>1 - - - - - - ",
             "<200>1 - - - - - -¦severity emerg¦prints <40>1 - - - - - - ",
-        ],
-    );
-}
-
-#[test]
-fn reads_a_process_id_as_a_number_or_a_name(rt: HostRuntime) {
-    check_table(
-        &rt,
-        rt.alloc(),
-        &[
+            // A process id as a number or a name.
             "1 - h a +5 m - x¦host h¦app a¦pid 5¦id m¦msg x¦prints <47>1 - h a 5 m - x",
             "1 - h a 2147483648 m - x¦host h¦app a¦name 2147483648¦id m¦msg x¦prints <47>1 - h a 2147483648 m - x",
+            // No list but a dash.
+            "<34>1 2003-10-11T22:14:15.003Z mymachine.example.com su - ID47 - BOM'su root' failed\
+             ¦facility auth¦severity crit¦at 2003-10-11T22:14:15.003+00:00¦host mymachine.example.com¦app su¦id \
+             ID47¦msg BOM'su root' failed\
+             ¦prints <34>1 2003-10-11T22:14:15.003+00:00 mymachine.example.com su - ID47 - BOM'su root' failed",
         ],
     );
 }
@@ -99,14 +68,6 @@ fn refuses_a_broken_header(rt: HostRuntime) {
     check_invalid(&rt, rt.alloc(), Variant::RFC5424, &texts);
 }
 
-// The timestamp of the text.
-fn stamp_of(alloc: Global, text: &str) -> Option<OffsetTimestamp> {
-    match read(alloc, text, Variant::RFC5424) {
-        Ok(message) => message.timestamp,
-        Err(_) => None,
-    }
-}
-
 #[test]
 fn reads_a_printed_message_back(rt: HostRuntime) {
     let text = "<75>1 1969-12-03T23:58:58+00:00 - - - - - ";
@@ -115,9 +76,11 @@ fn reads_a_printed_message_back(rt: HostRuntime) {
     check(&rt, text.len() == 42, "length", text);
     check(&rt, text == printed_of(cells), "another text", text);
     check_text(&rt, rt.alloc(), text, cells);
-    let mut message = small(rt.alloc(), Protocol::RFC5424(1), "");
+    let mut message = message(&rt, rt.alloc(), Protocol::RFC5424(1), "");
     message.facility = Some(SyslogFacility::LOG_CRON);
     message.severity = Some(SyslogSeverity::SEV_ERR);
-    message.timestamp = stamp_of(rt.alloc(), "1 1969-12-03T23:58:58Z - - - - -");
+    let stamped = "1 1969-12-03T23:58:58Z - - - - -";
+    let stamped = read(rt.alloc(), stamped, Variant::RFC5424).expect(&rt, stamped);
+    message.timestamp = stamped.timestamp;
     check_message(&rt, rt.alloc(), &message, text, cells);
 }
