@@ -7,16 +7,12 @@
 
 mod args;
 mod counts;
-mod dash_change;
-mod refused;
+mod filters;
 mod report;
-mod run;
 
 use args::{Output, Task, arguments};
-use dash_change::dash_change;
-use refused::refused;
+use filters::{dash_change, refused, run};
 use report::{help, report_dash_change, usage, version};
-use run::run;
 use std::process::ExitCode;
 use syslog_lines::Watched;
 use syslog_lines::report::report;

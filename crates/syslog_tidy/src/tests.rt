@@ -6,8 +6,8 @@ mod refused;
 mod sizes;
 
 use crate::args::{Output, Task, read_args, read_task};
+use crate::filters::run;
 use crate::report::{help, usage, version};
-use crate::run::run;
 use std::alloc::{AllocError, Global};
 use std::io;
 use std::io::{Error, ErrorKind, Read, Write};

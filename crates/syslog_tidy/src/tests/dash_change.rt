@@ -1,7 +1,7 @@
 //! The lines that are read differently: worked lines, and readers and writers that fail.
 use super::{NEVER, Taker, Wrong, check, is_first_output, reader_of, writer_of};
 use crate::counts::DashChangeCounts;
-use crate::dash_change::dash_change;
+use crate::filters::dash_change;
 use crate::report::report_dash_change;
 use std::alloc::Global;
 use std::process::Abort;

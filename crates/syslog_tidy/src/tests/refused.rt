@@ -1,6 +1,6 @@
 //! The lines that are refused: worked lines, and readers and writers that fail.
 use super::{NEVER, Wrong, check, reader_of, writer_of};
-use crate::refused::refused;
+use crate::filters::refused;
 use std::alloc::Global;
 use std::process::Abort;
 use syslog_lines::{RunFault, Summary};

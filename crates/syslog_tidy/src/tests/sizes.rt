@@ -1,6 +1,6 @@
 //! Long lines, much input and many calls: no clause refuses a body that claims a fault where none was.
 use super::{NEVER, THREE_PRINTED, check, reader_of};
-use crate::run::run;
+use crate::filters::run;
 use std::alloc::Global;
 use std::io::Write;
 use std::process::Abort;

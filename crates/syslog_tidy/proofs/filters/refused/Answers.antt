@@ -1,7 +1,8 @@
 use Rattle.std.proofs.Common.{◌∙◌}
 use Rattle.std.proofs.lemmas.Int.{to_z-of_z}
 use Rattle.syslog_lines.proofs.AnswerLemmas.{IfErr-passed}
-use Rattle.syslog_tidy.proofs.dash_change.dash_change.Goals as goal
+use Rattle.syslog_tidy.proofs.FilterLemmas.{shared_out}
+use Rattle.syslog_tidy.proofs.filters.refused.Goals as goal
 
 pub returns-in_err-tally-clause-err : goal.returns-in_err-tally-clause-err
 returns-in_err-tally-clause-err g c =
@@ -10,4 +11,4 @@ returns-in_err-tally-clause-err g c =
 pub returns-clause-ok : goal.returns-clause-ok
 returns-clause-ok g c =
     let (answers, all, counted, lines) = rw (to_z-of_z _ _ c.ranges.year) at c.in_ok-tally.ensures.ok in
-    (answers, all, c.lines.ensures ∙ lines, counted.0)
+    (answers, all, shared_out c.args.year all.lines _ all.answered, c.lines.ensures ∙ lines, counted.0)

@@ -1,7 +1,7 @@
 use Rattle.std.proofs.Common.{rules}
 use Rattle.syslog_loose.proofs.ReadingLemmas.{in_this_year}
 use Rattle.syslog_tidy.proofs.FilterLemmas.{settles_as, unreadable_is_invalid}
-use Rattle.syslog_tidy.proofs.run.Tidy.settle_line.Goals as goal
+use Rattle.syslog_tidy.proofs.filters.Tidy.settle_line.Goals as goal
 
 pub returns-clause-settles : goal.returns-clause-settles
 returns-clause-settles c = settles_as _ _ _ c.settle_into.result

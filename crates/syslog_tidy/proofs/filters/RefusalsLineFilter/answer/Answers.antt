@@ -1,6 +1,6 @@
 use Rattle.std.proofs.Common.{append-nil, refl, sym}
 use Rattle.syslog_lines.specs.Output.{Omitted, Written}
-use Rattle.syslog_tidy.proofs.refused.RefusalsLineFilter.answer.Goals as goal
+use Rattle.syslog_tidy.proofs.filters.RefusalsLineFilter.answer.Goals as goal
 
 pub returns-in-Ok-clause-ok : goal.returns-in-Ok-clause-ok
 returns-in-Ok-clause-ok c =

@@ -1,6 +1,6 @@
 use Rattle.std.proofs.Common.{refl}
 use Rattle.syslog_lines.specs.Output.{Written}
-use Rattle.syslog_tidy.proofs.refused.RefusalsLineFilter.answer_other.Goals as goal
+use Rattle.syslog_tidy.proofs.filters.RefusalsLineFilter.answer_other.Goals as goal
 
 pub returns-clause-ok : goal.returns-clause-ok
 returns-clause-ok c =

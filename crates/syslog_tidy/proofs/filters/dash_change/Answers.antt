@@ -1,8 +1,7 @@
 use Rattle.std.proofs.Common.{◌∙◌}
 use Rattle.std.proofs.lemmas.Int.{to_z-of_z}
 use Rattle.syslog_lines.proofs.AnswerLemmas.{IfErr-passed}
-use Rattle.syslog_tidy.proofs.AgainLemmas.{TidiesAll-again}
-use Rattle.syslog_tidy.proofs.run.run.Goals as goal
+use Rattle.syslog_tidy.proofs.filters.dash_change.Goals as goal
 
 pub returns-in_err-tally-clause-err : goal.returns-in_err-tally-clause-err
 returns-in_err-tally-clause-err g c =
@@ -11,9 +10,4 @@ returns-in_err-tally-clause-err g c =
 pub returns-clause-ok : goal.returns-clause-ok
 returns-clause-ok g c =
     let (answers, all, counted, lines) = rw (to_z-of_z _ _ c.ranges.year) at c.in_ok-tally.ensures.ok in
-    (answers, all, c.lines.ensures ∙ lines, counted.1)
-
-pub returns-clause-again : goal.returns-clause-again
-returns-clause-again g c =
-    let (answers, all, counted, lines) = rw (to_z-of_z _ _ c.ranges.year) at c.in_ok-tally.ensures.ok in
-    TidiesAll-again _ _ _ _ _ _ (answers, all, c.lines.ensures ∙ lines, counted.1)
+    (answers, all, c.lines.ensures ∙ lines, counted.0)

@@ -1,7 +1,7 @@
 use Rattle.std.proofs.Common.{refl, sym}
 use Rattle.std.proofs.lemmas.Str.{encodes-chars}
 use Rattle.syslog_lines.specs.Output.{Written}
-use Rattle.syslog_tidy.proofs.dash_change.DashChangesLineFilter.answer.Goals as goal
+use Rattle.syslog_tidy.proofs.filters.DashChangesLineFilter.answer.Goals as goal
 
 pub returns-in_ok-push_line-clause-ok : goal.returns-in_ok-push_line-clause-ok
 returns-in_ok-push_line-clause-ok c =

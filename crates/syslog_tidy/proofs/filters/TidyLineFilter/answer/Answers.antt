@@ -4,7 +4,7 @@ use Rattle.syslog_lines.proofs.AnswerLemmas.{OnErr-any}
 use Rattle.syslog_lines.specs.Output.{Omitted, Written}
 use Rattle.syslog_tidy.specs.Filters.{tidying}
 use Rattle.syslog_tidy.proofs.FilterLemmas.{settled_is_readable}
-use Rattle.syslog_tidy.proofs.run.TidyLineFilter.answer.Goals as goal
+use Rattle.syslog_tidy.proofs.filters.TidyLineFilter.answer.Goals as goal
 
 pub returns-in_err-push_line-in-Ok-clause-refusal : goal.returns-in_err-push_line-in-Ok-clause-refusal
 returns-in_err-push_line-in-Ok-clause-refusal c =

@@ -1,0 +1,259 @@
+//! The filters: one writes each message in one form, one the lines for which that writes nothing, and one those that
+//! are read differently under the two rules of the dash.
+ghost use Rattle.std.specs.Prelude.{◌≡◌, ◌↔◌, Some, None, false, Err, IsTrue, IfOk, IfErr, MatchResult, string_bytes};
+ghost use Rattle.std.specs.Result.{IsOkAnd};
+ghost use Rattle.std.specs.Str.{chars};
+ghost use Rattle.syslog_loose.specs.DashChange.{ReadsDifferently};
+ghost use Rattle.syslog_loose.specs.Reading.{IsUnreadable, in_utc};
+ghost use Rattle.syslog_loose.specs.declared.fault.ParseFault.TheVariants.{Invalid};
+ghost use Rattle.syslog_loose.specs.declared.variant.Variant.TheVariants.{Either};
+ghost use Rattle.syslog_tidy.specs.Filters.{FindsDashChanges, IsTidied, RefusesAll, TidiesAll, WritesAgain};
+ghost use Rattle.syslog_tidy.specs.Filters.{finding_dash_changes, refusing, tidying};
+ghost use Rattle.syslog_lines.specs.Pump.{EndsEarly, FailedAs};
+
+use crate::counts::DashChangeCounts;
+use std::alloc::{AllocError, Global};
+use std::io::{Read, Write};
+use syslog_lines::pump::pump;
+use syslog_lines::{LineFilter, RunFault, Summary, Watched, push_line};
+use syslog_loose::{IncompleteDate, ParseFault, TimeZone, Variant, reads_differently, settle_into};
+
+/// Reads lines to the end of the input, and writes the settled text of each that has one, in the given year: its first
+/// printed text that is printed again as it stands.
+///
+/// A line that has none, or is no UTF-8, gives nothing and is counted as refused. What was written is written again
+/// where it is the input in the same year, and no line of it is refused. The output of each block of input is written
+/// before more is read, and the writer is flushed at the end. Nothing is tried again. After `RunFault::Read` the output
+/// of each complete line that was read was written. After `RunFault::Memory` so it was, where the memory was wanted
+/// before anything was read or for more of a line that takes a whole block; or it was refused for a line that has a
+/// reading, and the output of each line before it was written. After `RunFault::Write` a beginning of the output was
+/// written. It takes memory for a block of input, its output, and the longest line.
+pub fn run<R: Read, W: Write>(
+    alloc: Global,
+    reader: &mut Watched<R>,
+    writer: &mut Watched<W>,
+    year: i32,
+) -> Result<Summary, RunFault>
+    requires reader { reader.old.failed ≡ false }
+    requires writer { writer.old.failed ≡ false }
+    ensures ok { IfOk result (λ summary. TidiesAll year (R.remaining reader.old.inner) (R.remaining reader.new.inner)
+        (W.contents writer.old.inner) (W.contents writer.new.inner) summary) }
+    ensures again { IfOk result (λ summary. WritesAgain year (R.remaining reader.old.inner)
+        (W.contents writer.old.inner) (W.contents writer.new.inner) summary) }
+    ensures err { IfErr result (λ fault. EndsEarly (tidying year) (R.remaining reader.old.inner)
+        (R.remaining reader.new.inner)
+        (W.contents writer.old.inner) (W.contents writer.new.inner) fault) }
+    ensures failed { FailedAs result reader.new.failed writer.new.failed }
+{
+    let tally = pump(alloc, &Tidy { year }, reader, writer)?;
+    Ok(Summary {
+        lines: tally.lines(),
+        refused: tally.passed_over,
+    })
+}
+
+/// Writes the settled text of each line that has one in this year.
+#[derive(Drop)]
+pub struct Tidy {
+    pub year: i32,
+}
+
+impl Tidy {
+    /// Writes the first settled round of a line into `text`.
+    #[inline(always)]
+    pub fn settle_line(
+        &self,
+        alloc: Global,
+        line: &str,
+        text: &mut String,
+    ) -> Result<(), ParseFault>
+        ensures settles { MatchResult result
+            (λ _. IsTidied self.now.year (chars line.now) (Some (chars (string_bytes text.new))))
+            (λ fault. fault ≡ Invalid → IsTidied self.now.year (chars line.now) None) }
+        ensures refusal { IsUnreadable Either (in_utc self.now.year) (chars line.now) → result ≡ Err Invalid }
+    {
+        let year = self.year;
+        let answer_year = move |_: IncompleteDate| -> i32
+            ensures { result ≡ year }
+        { year };
+        settle_into(
+            alloc,
+            text,
+            line,
+            answer_year,
+            None,
+            Variant::Either,
+            &TimeZone::UTC,
+        )
+    }
+}
+
+impl LineFilter for Tidy {
+    ghost answers = { λ tidy. tidying tidy.year };
+
+    #[inline(always)]
+    fn answer(
+        &self,
+        alloc: Global,
+        line: &str,
+        text: &mut String,
+        output: &mut Vec<u8>,
+    ) -> Result<bool, AllocError> {
+        match self.settle_line(alloc, line, text) {
+            Ok(()) => {
+                push_line(output, text.as_bytes())?;
+                Ok(true)
+            }
+            Err(ParseFault::Invalid) => Ok(false),
+            Err(ParseFault::Memory) => Err(AllocError),
+        }
+    }
+
+    fn answer_other(&self, _: Global, _: &[u8], _: &mut Vec<u8>) -> Result<bool, AllocError> {
+        Ok(false)
+    }
+}
+
+/// Reads lines to the end of the input, and writes, as it came, each for which `run` writes nothing in the given year:
+/// it has no settled text, or is no UTF-8. Each line is thus in the output of exactly one of the two.
+///
+/// Blocks, faults, the flush, memory and what was written after a fault are as for `run`, but that memory may be wanted
+/// for each line.
+pub fn refused<R: Read, W: Write>(
+    alloc: Global,
+    reader: &mut Watched<R>,
+    writer: &mut Watched<W>,
+    year: i32,
+) -> Result<Summary, RunFault>
+    requires reader { reader.old.failed ≡ false }
+    requires writer { writer.old.failed ≡ false }
+    ensures ok { IfOk result (λ summary. RefusesAll year (R.remaining reader.old.inner) (R.remaining reader.new.inner)
+        (W.contents writer.old.inner) (W.contents writer.new.inner) summary) }
+    ensures err { IfErr result (λ fault. EndsEarly (refusing year) (R.remaining reader.old.inner)
+        (R.remaining reader.new.inner)
+        (W.contents writer.old.inner) (W.contents writer.new.inner) fault) }
+    ensures failed { FailedAs result reader.new.failed writer.new.failed }
+{
+    let refusals = Refusals {
+        tidy: Tidy { year },
+    };
+    let tally = pump(alloc, &refusals, reader, writer)?;
+    Ok(Summary {
+        lines: tally.lines(),
+        refused: tally.answered,
+    })
+}
+
+/// Writes each line for which this filter writes nothing, as it came.
+#[derive(Drop)]
+struct Refusals {
+    tidy: Tidy,
+}
+
+impl LineFilter for Refusals {
+    ghost answers = { λ refusals. refusing refusals.tidy.year };
+
+    fn answer(
+        &self,
+        alloc: Global,
+        line: &str,
+        text: &mut String,
+        output: &mut Vec<u8>,
+    ) -> Result<bool, AllocError> {
+        match self.tidy.settle_line(alloc, line, text) {
+            Ok(()) => Ok(false),
+            Err(ParseFault::Invalid) => {
+                push_line(output, line.as_bytes())?;
+                Ok(true)
+            }
+            Err(ParseFault::Memory) => Err(AllocError),
+        }
+    }
+
+    fn answer_other(
+        &self,
+        _: Global,
+        line: &[u8],
+        output: &mut Vec<u8>,
+    ) -> Result<bool, AllocError> {
+        push_line(output, line)?;
+        Ok(true)
+    }
+}
+
+/// Reads lines to the end of the input, and writes, as it came, each that is read differently under the two rules of
+/// the dash, in the given year: each line that normalising once changed otherwise than it would now.
+///
+/// All other lines, and those that are no UTF-8, give nothing. Blocks, faults, the flush, memory and what was written
+/// after a fault are as for `run`.
+pub fn dash_change<R: Read, W: Write>(
+    alloc: Global,
+    reader: &mut Watched<R>,
+    writer: &mut Watched<W>,
+    year: i32,
+) -> Result<DashChangeCounts, RunFault>
+    requires reader { reader.old.failed ≡ false }
+    requires writer { writer.old.failed ≡ false }
+    ensures ok { IfOk result (λ counts. FindsDashChanges year (R.remaining reader.old.inner)
+        (R.remaining reader.new.inner)
+        (W.contents writer.old.inner) (W.contents writer.new.inner) counts) }
+    ensures err { IfErr result (λ fault. EndsEarly (finding_dash_changes year) (R.remaining reader.old.inner)
+        (R.remaining reader.new.inner)
+        (W.contents writer.old.inner) (W.contents writer.new.inner) fault) }
+    ensures failed { FailedAs result reader.new.failed writer.new.failed }
+{
+    let tally = pump(alloc, &DashChanges { year }, reader, writer)?;
+    Ok(DashChangeCounts {
+        lines: tally.lines(),
+        dash_changes: tally.answered,
+    })
+}
+
+/// Writes each line that is read differently in this year, as it came.
+#[derive(Drop)]
+struct DashChanges {
+    year: i32,
+}
+
+impl DashChanges {
+    // Whether the line is read differently. It is never refused.
+    fn has_dash_change(&self, alloc: Global, line: &str) -> Result<bool, AllocError>
+        ensures { IsOkAnd result (λ differs. IsTrue differs
+            ↔ ReadsDifferently Either (in_utc self.now.year) (chars line.now)) }
+    {
+        let year = self.year;
+        let answer_year = move |_: IncompleteDate| -> i32
+            ensures { result ≡ year }
+        { year };
+        reads_differently(
+            alloc,
+            line,
+            answer_year,
+            None,
+            Variant::Either,
+            &TimeZone::UTC,
+        )
+    }
+}
+
+impl LineFilter for DashChanges {
+    ghost answers = { λ filter. finding_dash_changes filter.year };
+
+    fn answer(
+        &self,
+        alloc: Global,
+        line: &str,
+        _: &mut String,
+        output: &mut Vec<u8>,
+    ) -> Result<bool, AllocError> {
+        let is_dash_change = self.has_dash_change(alloc, line)?;
+        if is_dash_change {
+            push_line(output, line.as_bytes())?;
+        }
+        Ok(is_dash_change)
+    }
+
+    fn answer_other(&self, _: Global, _: &[u8], _: &mut Vec<u8>) -> Result<bool, AllocError> {
+        Ok(false)
+    }
+}
