@@ -1,5 +1,5 @@
 //! What no clause says: worked lines, printed texts, and readers and writers that give little or fail.
-ghost use Rattle.std.specs.Prelude.{◌≡◌, ◌≤◌, false};
+ghost use Rattle.std.specs.Prelude.{◌≤◌};
 
 use crate::args::{Task, read_task};
 use crate::filter::write_objects;
@@ -111,21 +111,26 @@ fn check(rt: &impl Abort, holds: bool, what: &str) {
     assert!(rt; holds, "{what}");
 }
 
-fn reader_of(bytes: &[u8], step: usize, fails_at: u64) -> Watched<Giver<'_>>
-    ensures { result.failed ≡ false }
-{
-    Watched::new(Giver {
+/// What comes of the bytes. Each side has how many bytes it gives or takes at a time, and at which call it fails.
+fn filtered(
+    alloc: Global,
+    bytes: &[u8],
+    reads: (usize, u64),
+    writes: (usize, u64),
+) -> (
+    Result<Summary, RunFault>,
+    Watched<Giver<'_>>,
+    Watched<Taker>,
+) {
+    let mut reader = Watched::new(Giver {
         rest: bytes,
-        step,
+        step: reads.0,
         calls: 0,
-        fails_at,
-    })
-}
-
-fn writer_of(step: usize, fails_at: u64) -> Watched<Taker>
-    ensures { result.failed ≡ false }
-{
-    Watched::new(Taker::new(step, fails_at))
+        fails_at: reads.1,
+    });
+    let mut writer = Watched::new(Taker::new(writes.0, writes.1));
+    let outcome = write_objects(alloc, &mut reader, &mut writer, 2019);
+    (outcome, reader, writer)
 }
 
 /// An input and its output, and how many lines there are, and how many are refused.
@@ -156,9 +161,7 @@ const ROWS: [(&[u8], &str, u64, u64); 6] = [
 fn writes_objects_of_lines(rt: HostRuntime) {
     for (bytes, objects, lines, refused) in &ROWS {
         for step in [1usize, 7, 1024] {
-            let mut reader = reader_of(bytes, step, NEVER);
-            let mut writer = writer_of(step, NEVER);
-            let outcome = write_objects(rt.alloc(), &mut reader, &mut writer, 2019);
+            let (outcome, _, writer) = filtered(rt.alloc(), bytes, (step, NEVER), (step, NEVER));
             let counts = Summary {
                 lines: *lines,
                 refused: *refused,
@@ -176,24 +179,14 @@ fn is_first_output(bytes: &[u8], whole: &str) -> bool {
 }
 
 #[test]
-fn failing_reads(rt: HostRuntime) {
+fn failing_reads_and_writes(rt: HostRuntime) {
     for fails_at in 1..8u64 {
-        let mut reader = reader_of(DATED, 8, fails_at);
-        let mut writer = writer_of(1024, NEVER);
-        let outcome = write_objects(rt.alloc(), &mut reader, &mut writer, 2019);
+        let (outcome, reader, writer) = filtered(rt.alloc(), DATED, (8, fails_at), (1024, NEVER));
         check(&rt, outcome == Err(RunFault::Read), "no failed read");
         let written = writer.inner.written();
         check(&rt, is_first_output(written, DATED_OBJECT), "cut output");
         check(&rt, reader.inner.calls == fails_at, "read on");
-    }
-}
-
-#[test]
-fn failing_writes(rt: HostRuntime) {
-    for fails_at in 1..8u64 {
-        let mut reader = reader_of(DATED, 1024, NEVER);
-        let mut writer = writer_of(16, fails_at);
-        let outcome = write_objects(rt.alloc(), &mut reader, &mut writer, 2019);
+        let (outcome, _, writer) = filtered(rt.alloc(), DATED, (1024, NEVER), (16, fails_at));
         check(&rt, outcome == Err(RunFault::Write), "no failed write");
         let written = writer.inner.written();
         check(&rt, DATED_OBJECT.as_bytes().starts_with(written), "output");
@@ -206,9 +199,7 @@ fn failing_writes(rt: HostRuntime) {
 #[test]
 fn refused_memory(rt: HostRuntime) {
     for (bytes, whole) in &[(LISTED, LISTED_OBJECT), (THREE, THREE_OBJECTS)] {
-        let mut reader = reader_of(bytes, 1024, NEVER);
-        let mut writer = writer_of(1024, NEVER);
-        let outcome = write_objects(rt.alloc(), &mut reader, &mut writer, 2019);
+        let (outcome, _, writer) = filtered(rt.alloc(), bytes, (1024, NEVER), (1024, NEVER));
         let all = outcome.is_ok();
         check(&rt, all || outcome == Err(RunFault::Memory), "outcome");
         let written = writer.inner.written();
