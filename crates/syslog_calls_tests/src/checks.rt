@@ -14,23 +14,18 @@ pub(super) fn check_same(rt: &impl Abort, found: &str, want: &str, row: &str) {
     assert!(rt; found == want, "{row}: {found}");
 }
 
-/// The parameter has this name and this value.
-pub(super) fn check_param(rt: &impl Abort, param: (&str, &str), name: &str, value: &str) {
-    check_same(rt, param.0, name, name);
-    check_same(rt, param.1, value, name);
-}
-
-/// The answer is this text.
-pub(super) fn check_text(rt: &impl Abort, answer: Result<String, ParseFault>, want: &str) {
-    match answer {
-        Ok(printed) => check_same(rt, printed.as_str(), want, want),
-        Err(_) => check(rt, false, want),
+/// The answer for the row is this text, or this fault.
+pub(super) fn check_answer(
+    rt: &impl Abort,
+    answer: Result<String, ParseFault>,
+    want: Result<&str, ParseFault>,
+    row: &str,
+) {
+    match (answer, want) {
+        (Ok(found), Ok(text)) => check_same(rt, found.as_str(), text, row),
+        (Err(found), Err(fault)) => check(rt, found == fault, row),
+        _ => check(rt, false, row),
     }
-}
-
-/// The text was not printed, since it has no division.
-pub(super) fn check_no_text(rt: &impl Abort, answer: Result<String, ParseFault>, text: &str) {
-    check(rt, matches!(answer, Err(ParseFault::Invalid)), text);
 }
 
 /// The first cell of a row, and those behind it.

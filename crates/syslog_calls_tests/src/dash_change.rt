@@ -10,20 +10,23 @@ const DEGREES: &str = "<34>Oct 11 22:14:15 mymachine app: -5 degrees";
 
 const STANDARD: &str = "1 - - - - - -x";
 
-/// Texts of RFC 3164 that are read differently.
-const CHANGED: [&str; 4] = [DEGREES, "--x", "- h a: -\u{a0}x", "- h a: -[e k=\"v\"] x"];
-
-/// Texts of RFC 3164 or none that are not.
-const UNCHANGED: [&str; 9] = [
-    "- h a: - x",
-    "- h a: -\tx",
-    "- h a: -",
-    "- h a: -\u{a0}",
-    "- h a: [e k=\"v\"] -5",
-    "- h a: x -5",
-    "<34>Oct 11 22:14:15 mymachine app[323]: a message",
-    "gobbledegook",
-    "",
+/// Texts of RFC 3164 or none, and whether they are read differently.
+const TEXTS: [(&str, bool); 13] = [
+    // A dash before no blank, where a list could begin.
+    (DEGREES, true),
+    ("--x", true),
+    ("- h a: -\u{a0}x", true),
+    ("- h a: -[e k=\"v\"] x", true),
+    // All others.
+    ("- h a: - x", false),
+    ("- h a: -\tx", false),
+    ("- h a: -", false),
+    ("- h a: -\u{a0}", false),
+    ("- h a: [e k=\"v\"] -5", false),
+    ("- h a: x -5", false),
+    ("<34>Oct 11 22:14:15 mymachine app[323]: a message", false),
+    ("gobbledegook", false),
+    ("", false),
 ];
 
 /// Whether the text is read differently, in 2019 where a date shows no year.
@@ -41,64 +44,55 @@ pub(super) fn check_dash_change(
     check(rt, changed == want, text);
 }
 
-fn check_texts(rt: &impl Abort, alloc: Global, variant: Variant, texts: &[&str], want: bool) {
-    for text in texts {
-        check_dash_change(rt, alloc, text, variant, want);
+#[test]
+fn tells_a_dash_before_no_blank(rt: HostRuntime) {
+    for (text, want) in &TEXTS {
+        for variant in [Variant::Either, Variant::RFC3164] {
+            check_dash_change(&rt, rt.alloc(), text, variant, *want);
+        }
+    }
+    // None of a text of RFC 5424.
+    for (text, variant) in &[
+        (STANDARD, Variant::Either),
+        (DEGREES, Variant::RFC5424),
+        (STANDARD, Variant::RFC5424),
+    ] {
+        check_dash_change(&rt, rt.alloc(), text, *variant, false);
     }
 }
 
+/// A text whose date the year or the zone lacks has no reading by either rule.
 #[test]
-fn tells_a_dash_before_no_blank(rt: HostRuntime) {
-    check_texts(&rt, rt.alloc(), Variant::Either, &CHANGED, true);
-    check_texts(&rt, rt.alloc(), Variant::Either, &UNCHANGED, false);
-    check_texts(&rt, rt.alloc(), Variant::RFC3164, &CHANGED, true);
-    check_texts(&rt, rt.alloc(), Variant::RFC3164, &UNCHANGED, false);
-}
-
-#[test]
-fn tells_no_text_of_rfc_5424(rt: HostRuntime) {
-    check_texts(&rt, rt.alloc(), Variant::Either, &[STANDARD], false);
-    check_texts(
-        &rt,
-        rt.alloc(),
-        Variant::RFC5424,
-        &[DEGREES, STANDARD],
-        false,
-    );
-}
-
-// Whether the text is read differently in this year and in these zones.
-fn check_in(
-    rt: &impl Abort,
-    alloc: Global,
-    text: &str,
-    year: i32,
-    tz: Option<&TimeZone<'_>>,
-    local: &TimeZone<'_>,
-    want: bool,
-) {
-    let year = move |_: IncompleteDate| year;
-    let changed = reads_differently(alloc, text, year, tz, Variant::Either, local).expect(rt, text);
-    check(rt, changed == want, text);
-}
-
-#[test]
-fn tells_no_leap_day_of_another_year(rt: HostRuntime) {
-    let text = "Feb 29 00:00:00 h a: -5";
-    check_in(&rt, rt.alloc(), text, 2020, None, &TimeZone::UTC, true);
-    check_in(&rt, rt.alloc(), text, 2019, None, &TimeZone::UTC, false);
-}
-
-#[test]
-fn tells_no_time_in_a_gap(rt: HostRuntime) {
-    let (alloc, utc) = (rt.alloc(), TimeZone::UTC);
-    let rule = summer_rule(&rt);
-    let in_gap = "Mar 29 02:30:00 h a: -5";
-    check_in(&rt, alloc, in_gap, 2020, Some(&rule), &utc, false);
-    check_in(&rt, alloc, in_gap, 2019, Some(&rule), &utc, true);
-    check_in(&rt, alloc, in_gap, 2020, None, &rule, true);
-    let in_gap = "Mar 29 2020 02:30:00 h a: -5";
-    check_in(&rt, alloc, in_gap, 2019, Some(&rule), &utc, false);
+fn tells_no_text_with_a_date_that_is_missing(rt: HostRuntime) {
+    let (utc, rule) = (TimeZone::UTC, summer_rule(&rt));
+    for (text, year, tz, local, want) in &[
+        // The leap day, in a year that has it and in another.
+        ("Feb 29 00:00:00 h a: -5", 2020, None, &utc, true),
+        ("Feb 29 00:00:00 h a: -5", 2019, None, &utc, false),
+        // A time that summer time passes over in 2020, but not in 2019; the local zone takes it all the same.
+        ("Mar 29 02:30:00 h a: -5", 2020, Some(&rule), &utc, false),
+        ("Mar 29 02:30:00 h a: -5", 2019, Some(&rule), &utc, true),
+        ("Mar 29 02:30:00 h a: -5", 2020, None, &rule, true),
+        (
+            "Mar 29 2020 02:30:00 h a: -5",
+            2019,
+            Some(&rule),
+            &utc,
+            false,
+        ),
+    ] {
+        let year = *year;
+        let asked = move |_: IncompleteDate| year;
+        let changed = reads_differently(
+            rt.alloc(),
+            text,
+            asked,
+            *tz,
+            Variant::Either,
+            *local,
+        ).expect(&rt, text);
+        check(&rt, changed == *want, text);
+    }
 }
 
 // The date that `reads_differently` asks with, if it asks.
@@ -128,43 +122,26 @@ fn asked_by_reading(alloc: Global, text: &str, variant: Variant) -> Option<Incom
     noted
 }
 
-fn is_date(noted: Option<IncompleteDate>, want: IncompleteDate) -> bool {
-    match noted {
-        Some(date) => date == want,
-        None => false,
-    }
-}
-
-fn check_asked(rt: &impl Abort, alloc: Global, text: &str, variant: Variant, want: IncompleteDate) {
-    let noted = asked_by_difference(alloc, text, variant).expect(rt, text);
-    check(rt, is_date(noted, want), text);
-    check(
-        rt,
-        is_date(asked_by_reading(alloc, text, variant), want),
-        text,
-    );
-}
-
-fn check_not_asked(rt: &impl Abort, alloc: Global, text: &str, variant: Variant) {
-    let noted = asked_by_difference(alloc, text, variant).expect(rt, text);
-    check(rt, noted.is_none(), text);
-    check(rt, asked_by_reading(alloc, text, variant).is_none(), text);
-}
-
 #[test]
 fn asks_for_a_year_as_the_reading_calls_do(rt: HostRuntime) {
-    let alloc = rt.alloc();
-    let october = (10, 11, 22, 14, 15);
-    check_asked(&rt, alloc, DEGREES, Variant::Either, october);
-    check_asked(&rt, alloc, DEGREES, Variant::RFC3164, october);
-    let text = "Feb 30 16:49:07 h a: m";
-    check_asked(&rt, alloc, text, Variant::Either, (2, 30, 16, 49, 7));
-}
-
-#[test]
-fn asks_for_no_year_of_a_text_with_a_year_or_no_date(rt: HostRuntime) {
-    check_not_asked(&rt, rt.alloc(), DEGREES, Variant::RFC5424);
-    for text in &["Oct 11 2019 22:14:15 h a: -5", "--x", STANDARD] {
-        check_not_asked(&rt, rt.alloc(), text, Variant::Either);
+    let october = Some((10, 11, 22, 14, 15));
+    for (text, variant, want) in &[
+        (DEGREES, Variant::Either, october),
+        (DEGREES, Variant::RFC3164, october),
+        (
+            "Feb 30 16:49:07 h a: m",
+            Variant::Either,
+            Some((2, 30, 16, 49, 7)),
+        ),
+        // Not of a text with a year, or with no date.
+        (DEGREES, Variant::RFC5424, None),
+        ("Oct 11 2019 22:14:15 h a: -5", Variant::Either, None),
+        ("--x", Variant::Either, None),
+        (STANDARD, Variant::Either, None),
+    ] {
+        let noted = asked_by_difference(rt.alloc(), text, *variant).expect(&rt, text);
+        check(&rt, noted == *want, text);
+        let noted = asked_by_reading(rt.alloc(), text, *variant);
+        check(&rt, noted == *want, text);
     }
 }

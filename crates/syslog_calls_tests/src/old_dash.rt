@@ -31,20 +31,16 @@ fn check_left(rt: &impl Abort, alloc: Global, part: &str, rule: DashRule, want: 
     check_same(rt, blanks(rest), want, part);
 }
 
-fn check_message(rt: &impl Abort, alloc: Global, text: &str, msg: &str) {
-    let message = read(alloc, text, Variant::Either).expect(rt, text);
-    check(rt, matches!(message.protocol, Protocol::RFC3164), text);
-    check_same(rt, message.msg, msg, text);
-}
-
 fn check_row(rt: &impl Abort, alloc: Global, row: &str) {
     let (text, rest) = cells(rt, row);
     let (part, messages) = cells(rt, rest);
     let (before, now) = cells(rt, messages);
     check_left(rt, alloc, part, DashRule::BeforeAnything, before);
     check_left(rt, alloc, part, DASH_RULE, now);
-    check_message(rt, alloc, text, now);
     check_dash_change(rt, alloc, text, Variant::Either, before != now);
+    let message = read(alloc, text, Variant::Either).expect(rt, text);
+    check(rt, matches!(message.protocol, Protocol::RFC3164), text);
+    check_same(rt, message.msg, now, text);
 }
 
 #[test]
@@ -54,28 +50,24 @@ fn left_out_a_dash_before_anything(rt: HostRuntime) {
     }
 }
 
-// Whether the message part `-5` begins with a list, and what is left behind it.
-fn check_degrees(rt: &impl Abort, alloc: Global, rule: DashRule, begins: bool, msg: &str) {
-    check(rt, begins_list("-5", rule) == begins, msg);
-    let (list, rest) = optional_list(alloc, "-5", rule).expect(rt, msg);
-    check(rt, list.is_some() == begins, msg);
-    check_same(rt, rest, msg, "-5");
-}
-
-// While a dash was a list before anything, one began this message part, and the message was read back without the dash.
-// So it was not canonical, as it is now.
+// While a dash was a list before anything, one began the message part `-5`, and the message was read back without the
+// dash. So it was not canonical, as it is now.
 #[test]
 fn was_not_canonical_with_a_dash_before_anything(rt: HostRuntime) {
-    check_canonical(&rt, rt.alloc(), "<34> - - a: -5");
-    check_degrees(&rt, rt.alloc(), DashRule::BeforeAnything, true, "5");
-    check_degrees(&rt, rt.alloc(), DASH_RULE, false, "-5");
-}
-
-// The message is `-5`, without a list.
-fn check_canonical(rt: &impl Abort, alloc: Global, text: &str) {
-    let message = read(alloc, text, Variant::RFC3164).expect(rt, text);
-    check_same(rt, message.appname.unwrap_or(""), "a", text);
-    check(rt, message.structured_data.is_empty(), text);
-    check_same(rt, message.msg, "-5", text);
-    check(rt, message.is_canonical(), text);
+    let text = "<34> - - a: -5";
+    let message = read(rt.alloc(), text, Variant::RFC3164).expect(&rt, text);
+    check_same(&rt, message.appname.unwrap_or(""), "a", text);
+    check(&rt, message.structured_data.is_empty(), text);
+    check_same(&rt, message.msg, "-5", text);
+    check(&rt, message.is_canonical(), text);
+    // Whether a list begins it by the rule, and what is left behind that.
+    for (rule, begins, left) in &[
+        (DashRule::BeforeAnything, true, "5"),
+        (DASH_RULE, false, "-5"),
+    ] {
+        check(&rt, begins_list("-5", *rule) == *begins, left);
+        let (list, rest) = optional_list(rt.alloc(), "-5", *rule).expect(&rt, left);
+        check(&rt, list.is_some() == *begins, left);
+        check_same(&rt, rest, left, "-5");
+    }
 }

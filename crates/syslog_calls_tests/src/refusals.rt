@@ -4,22 +4,11 @@
 //! refused, those named `asks_..` make none, and those named `sees_no_refusal..` fail at each that is refused.
 mod calls;
 mod copies;
-mod normalising;
-mod rounds;
+mod texts;
 
-use crate::checks::{check, prints};
-use std::process::Abort;
-use syslog_loose::{Message, ParseFault};
-
-/// The answer is a message that prints so.
-fn check_reading(
-    rt: &impl Abort,
-    answer: Result<Message<&str>, ParseFault>,
-    text: &str,
-    want: &str,
-) {
-    match answer {
-        Ok(message) => check(rt, prints(&message, want), text),
-        Err(_) => check(rt, false, text),
-    }
+/// How often a call is made until it is not refused.
+#[derive(Clone, Copy, PartialEq, Eq)]
+enum Tries {
+    Once,
+    Twice,
 }

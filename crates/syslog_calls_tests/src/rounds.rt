@@ -2,7 +2,7 @@
 mod made;
 mod settling;
 
-use super::checks::{check, check_same};
+use super::checks::check_answer;
 use super::reading::{normalised, settled};
 use std::alloc::Global;
 use std::process::Abort;
@@ -31,55 +31,16 @@ fn by_hand(
     Err(ParseFault::Invalid)
 }
 
-/// The text settles as this one.
-fn expect_settled_as(
-    rt: &impl Abort,
-    alloc: Global,
-    text: &str,
-    year: i32,
-    tz: &TimeZone<'_>,
-    want: &str,
-) {
-    let answer = settled(alloc, text, year, Some(tz)).expect(rt, text);
-    check_same(rt, answer.as_str(), want, text);
-}
-
-/// The text is normalised to this one.
-fn expect_normalised(
-    rt: &impl Abort,
-    alloc: Global,
-    text: &str,
-    year: i32,
-    tz: &TimeZone<'_>,
-    want: &str,
-) {
-    let once = normalised(alloc, text, year, Some(tz)).expect(rt, text);
-    check_same(rt, once.as_str(), want, text);
-}
-
-/// The text does not settle, by this fault.
-fn expect_fault(
-    rt: &impl Abort,
-    alloc: Global,
-    text: &str,
-    year: i32,
-    tz: &TimeZone<'_>,
-    fault: ParseFault,
-) {
-    match settled(alloc, text, year, Some(tz)) {
-        Ok(_) => check(rt, false, text),
-        Err(other) => check(rt, other == fault, text),
-    }
-}
-
 /// The text settles as normalising it by hand comes to rest, with the same fault where a round is missing; and
 /// normalising leaves the answer as it is.
 fn expect_as_by_hand(rt: &impl Abort, alloc: Global, text: &str, year: i32, tz: &TimeZone<'_>) {
+    let answer = settled(alloc, text, year, Some(tz));
     match by_hand(alloc, text, year, tz) {
         Ok((want, _)) => {
-            expect_settled_as(rt, alloc, text, year, tz, want.as_str());
-            expect_normalised(rt, alloc, want.as_str(), year, tz, want.as_str());
+            check_answer(rt, answer, Ok(want.as_str()), text);
+            let again = normalised(alloc, want.as_str(), year, Some(tz));
+            check_answer(rt, again, Ok(want.as_str()), text);
         }
-        Err(fault) => expect_fault(rt, alloc, text, year, tz, fault),
+        Err(fault) => check_answer(rt, answer, Err(fault), text),
     }
 }

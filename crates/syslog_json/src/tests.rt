@@ -1,5 +1,5 @@
 //! What no clause says: worked lines, printed texts, and readers and writers that give little or fail.
-ghost use Rattle.std.specs.Prelude.{◌≡◌, ◌≤◌, false};
+ghost use Rattle.std.specs.Prelude.{◌≤◌};
 
 use crate::args::{Task, read_task};
 use crate::filter::write_objects;
@@ -10,15 +10,15 @@ use std::io::{Error, ErrorKind, Read, Write};
 use std::process::Abort;
 use syslog_lines::{RunFault, Summary, Watched};
 
-const DATED: &str = "<34>Oct 11 22:14:15 mymachine app[323]: a message\n";
+const DATED: &[u8] = b"<34>Oct 11 22:14:15 mymachine app[323]: a message\n";
 
 const DATED_OBJECT: &str =
     "{\"appname\":\"app\",\"facility\":\"auth\",\"hostname\":\"mymachine\",\"message\":\"a \
      message\",\"procid\":323,\"protocol\":\"RFC3164\",\"severity\":\"crit\",\
      \"timestamp\":\"2019-10-11T22:14:15+00:00\"}\n";
 
-const LISTED: &str =
-    "<165>1 2003-10-11T22:14:15.003-07:00 h evntslog p1 ID47 [ex@1 iut=\"3\" e=\"a\\\"b\\]c\\\\d\" iut=\"4\" \
+const LISTED: &[u8] =
+    b"<165>1 2003-10-11T22:14:15.003-07:00 h evntslog p1 ID47 [ex@1 iut=\"3\" e=\"a\\\"b\\]c\\\\d\" iut=\"4\" \
      iut=\"5\"][ex@2][ex@1 message=\"y\"][ex@1] text\n";
 
 const LISTED_OBJECT: &str =
@@ -28,7 +28,7 @@ const LISTED_OBJECT: &str =
      \"ex@2\":{}},\"timestamp\":\"2003-10-11T22:14:15.003-07:00\",\"version\":1}\n";
 
 /// A line with no reading, an empty line, and a message with neither a priority nor a line feed.
-const THREE: &str = "gobbledegook\n\n1 - - - - - -";
+const THREE: &[u8] = b"gobbledegook\n\n1 - - - - - -";
 
 const THREE_OBJECTS: &str =
     "{\"message\":\"gobbledegook\",\"refused\":true}\n{\"message\":\"\",\"refused\":true}\n{\"message\":\"\",\
@@ -111,66 +111,66 @@ fn check(rt: &impl Abort, holds: bool, what: &str) {
     assert!(rt; holds, "{what}");
 }
 
-fn reader_of(bytes: &[u8], step: usize, fails_at: u64) -> Watched<Giver<'_>>
-    ensures { result.failed ≡ false }
-{
-    Watched::new(Giver {
-        rest: bytes,
-        step,
-        calls: 0,
-        fails_at,
-    })
-}
-
-fn writer_of(step: usize, fails_at: u64) -> Watched<Taker>
-    ensures { result.failed ≡ false }
-{
-    Watched::new(Taker::new(step, fails_at))
-}
-
-/// Runs over the bytes, `step` at a time on both sides, and expects this output and these counts.
-fn expect_objects(
-    rt: &impl Abort,
+/// What comes of the bytes. Each side has how many bytes it gives or takes at a time, and at which call it fails.
+fn filtered(
     alloc: Global,
     bytes: &[u8],
-    step: usize,
-    output: &str,
-    lines: u64,
-    refused: u64,
+    reads: (usize, u64),
+    writes: (usize, u64),
+) -> (
+    Result<Summary, RunFault>,
+    Watched<Giver<'_>>,
+    Watched<Taker>,
 ) {
-    let mut reader = reader_of(bytes, step, NEVER);
-    let mut writer = writer_of(step, NEVER);
+    let mut reader = Watched::new(Giver {
+        rest: bytes,
+        step: reads.0,
+        calls: 0,
+        fails_at: reads.1,
+    });
+    let mut writer = Watched::new(Taker::new(writes.0, writes.1));
     let outcome = write_objects(alloc, &mut reader, &mut writer, 2019);
-    check(rt, outcome == Ok(Summary { lines, refused }), "counts");
-    check(rt, writer.inner.written() == output.as_bytes(), output);
+    (outcome, reader, writer)
 }
 
-#[test]
-fn writes_messages(rt: HostRuntime) {
-    let alloc = rt.alloc();
-    expect_objects(&rt, alloc, b"", 1024, "", 0, 0);
-    expect_objects(&rt, alloc, DATED.as_bytes(), 1024, DATED_OBJECT, 1, 0);
-    expect_objects(&rt, alloc, DATED.as_bytes(), 1, DATED_OBJECT, 1, 0);
-    expect_objects(&rt, alloc, LISTED.as_bytes(), 1024, LISTED_OBJECT, 1, 0);
-    expect_objects(&rt, alloc, LISTED.as_bytes(), 7, LISTED_OBJECT, 1, 0);
-}
-
-#[test]
-fn writes_refused_lines(rt: HostRuntime) {
-    let alloc = rt.alloc();
-    expect_objects(&rt, alloc, THREE.as_bytes(), 1024, THREE_OBJECTS, 3, 2);
-    let broken = "{\"invalid_utf8\":true,\"message\":\"a\u{FFFD}b\u{FFFD}\",\"refused\":true}\n";
-    expect_objects(&rt, alloc, b"a\xffb\xe2\x82\n", 1024, broken, 1, 1);
-}
-
-/// Characters that would end a line or a string.
-#[test]
-fn escapes_controls(rt: HostRuntime) {
-    let line = "<13>1 - - - - - [a b=\"c\\nd\"] \"e\\\tf\u{1}\rg\u{7f}\n";
-    let object =
+/// An input and its output, and how many lines there are, and how many are refused.
+const ROWS: [(&[u8], &str, u64, u64); 6] = [
+    (b"", "", 0, 0),
+    (DATED, DATED_OBJECT, 1, 0),
+    (LISTED, LISTED_OBJECT, 1, 0),
+    // Refused lines have an object too.
+    (THREE, THREE_OBJECTS, 3, 2),
+    (
+        b"a\xffb\xe2\x82\n",
+        "{\"invalid_utf8\":true,\"message\":\"a\u{FFFD}b\u{FFFD}\",\"refused\":true}\n",
+        1,
+        1,
+    ),
+    // Characters that would end a line or a string are escaped.
+    (
+        b"<13>1 - - - - - [a b=\"c\\nd\"] \"e\\\tf\x01\rg\x7f\n",
         "{\"facility\":\"user\",\"message\":\"\\\"e\\\\\\tf\\u0001\\rg\u{7f}\",\"protocol\":\"RFC5424\",\
-         \"severity\":\"notice\",\"structured_data\":{\"a\":{\"b\":\"c\\nd\"}},\"version\":1}\n";
-    expect_objects(&rt, rt.alloc(), line.as_bytes(), 1024, object, 1, 0);
+         \"severity\":\"notice\",\"structured_data\":{\"a\":{\"b\":\"c\\nd\"}},\"version\":1}\n",
+        1,
+        0,
+    ),
+];
+
+/// Each with a byte, seven, and all at a time on both sides.
+#[test]
+fn writes_objects_of_lines(rt: HostRuntime) {
+    for (bytes, objects, lines, refused) in &ROWS {
+        for step in [1usize, 7, 1024] {
+            let (outcome, _, writer) = filtered(rt.alloc(), bytes, (step, NEVER), (step, NEVER));
+            let counts = Summary {
+                lines: *lines,
+                refused: *refused,
+            };
+            check(&rt, outcome == Ok(counts), "counts");
+            let written = writer.inner.written();
+            check(&rt, written == objects.as_bytes(), objects);
+        }
+    }
 }
 
 /// Whether this is the output of the first lines of those of which this is the output.
@@ -178,119 +178,96 @@ fn is_first_output(bytes: &[u8], whole: &str) -> bool {
     whole.as_bytes().starts_with(bytes) && matches!(bytes, [] | [.., b'\n'])
 }
 
-fn check_failing_read(rt: &impl Abort, alloc: Global, fails_at: u64) {
-    let mut reader = reader_of(DATED.as_bytes(), 8, fails_at);
-    let mut writer = writer_of(1024, NEVER);
-    let outcome = write_objects(alloc, &mut reader, &mut writer, 2019);
-    check(rt, outcome == Err(RunFault::Read), "no failed read");
-    let written = writer.inner.written();
-    check(rt, is_first_output(written, DATED_OBJECT), "cut output");
-    check(rt, reader.inner.calls == fails_at, "read on");
-}
-
 #[test]
-fn failing_reads(rt: HostRuntime) {
+fn failing_reads_and_writes(rt: HostRuntime) {
     for fails_at in 1..8u64 {
-        check_failing_read(&rt, rt.alloc(), fails_at);
+        let (outcome, reader, writer) = filtered(rt.alloc(), DATED, (8, fails_at), (1024, NEVER));
+        check(&rt, outcome == Err(RunFault::Read), "no failed read");
+        let written = writer.inner.written();
+        check(&rt, is_first_output(written, DATED_OBJECT), "cut output");
+        check(&rt, reader.inner.calls == fails_at, "read on");
+        let (outcome, _, writer) = filtered(rt.alloc(), DATED, (1024, NEVER), (16, fails_at));
+        check(&rt, outcome == Err(RunFault::Write), "no failed write");
+        let written = writer.inner.written();
+        check(&rt, DATED_OBJECT.as_bytes().starts_with(written), "output");
+        check(&rt, writer.inner.calls == fails_at, "wrote on");
     }
 }
 
-fn check_failing_write(rt: &impl Abort, alloc: Global, fails_at: u64) {
-    let mut reader = reader_of(DATED.as_bytes(), 1024, NEVER);
-    let mut writer = writer_of(16, fails_at);
-    let outcome = write_objects(alloc, &mut reader, &mut writer, 2019);
-    check(rt, outcome == Err(RunFault::Write), "no failed write");
-    let written = writer.inner.written();
-    check(rt, DATED_OBJECT.as_bytes().starts_with(written), "output");
-    check(rt, writer.inner.calls == fails_at, "wrote on");
-}
-
-#[test]
-fn failing_writes(rt: HostRuntime) {
-    for fails_at in 1..8u64 {
-        check_failing_write(&rt, rt.alloc(), fails_at);
-    }
-}
-
-/// Either all of the output is written, or memory is refused, and then nothing is written or whole lines.
-fn check_refused(rt: &impl Abort, alloc: Global, bytes: &[u8], whole: &str) {
-    let mut reader = reader_of(bytes, 1024, NEVER);
-    let mut writer = writer_of(1024, NEVER);
-    let outcome = write_objects(alloc, &mut reader, &mut writer, 2019);
-    let all = outcome.is_ok();
-    check(rt, all || outcome == Err(RunFault::Memory), "outcome");
-    let written = writer.inner.written();
-    check(rt, is_first_output(written, whole), "cut output");
-    check(rt, !all || written == whole.as_bytes(), "output");
-}
-
-/// Also run with each request for memory refused in turn.
+/// Also run with each request for memory refused in turn: either all of the output is written, or memory is refused,
+/// and then nothing is written or whole lines.
 #[test]
 fn refused_memory(rt: HostRuntime) {
-    check_refused(&rt, rt.alloc(), LISTED.as_bytes(), LISTED_OBJECT);
-    check_refused(&rt, rt.alloc(), THREE.as_bytes(), THREE_OBJECTS);
+    for (bytes, whole) in &[(LISTED, LISTED_OBJECT), (THREE, THREE_OBJECTS)] {
+        let (outcome, _, writer) = filtered(rt.alloc(), bytes, (1024, NEVER), (1024, NEVER));
+        let all = outcome.is_ok();
+        check(&rt, all || outcome == Err(RunFault::Memory), "outcome");
+        let written = writer.inner.written();
+        check(&rt, is_first_output(written, whole), "cut output");
+        check(&rt, !all || written == whole.as_bytes(), "output");
+    }
 }
 
-// The words ask for the lines of the year 2019.
-fn asks_for_lines(words: &[&str]) -> bool {
-    matches!(read_task(words), Some(Task::Lines(2019)))
-}
+/// Words, and what they ask for.
+const TASKS: [(&[&str], &str); 9] = [
+    (&["2019"], "lines of 2019"),
+    (&["--", "2019"], "lines of 2019"),
+    (&["--help"], "help"),
+    (&["--version"], "version"),
+    (&["--version", "2019"], "nothing"),
+    (&["--", "--help"], "nothing"),
+    (&["--refused", "2019"], "nothing"),
+    (&["20190"], "nothing"),
+    (&[], "nothing"),
+];
 
 #[test]
 fn tasks(rt: HostRuntime) {
-    check(&rt, asks_for_lines(&["2019"]), "a year");
-    check(&rt, asks_for_lines(&["--", "2019"]), "--");
-    let help = matches!(read_task(&["--help"]), Some(Task::Help));
-    check(&rt, help, "--help");
-    let version = matches!(read_task(&["--version"]), Some(Task::Version));
-    check(&rt, version, "--version");
-}
-
-fn check_no_task(rt: &impl Abort, words: &[&str]) {
-    check(rt, read_task(words).is_none(), "a task");
-}
-
-#[test]
-fn refused_arguments(rt: HostRuntime) {
-    check_no_task(&rt, &["--version", "2019"]);
-    check_no_task(&rt, &["--", "--help"]);
-    check_no_task(&rt, &["--refused", "2019"]);
-    check_no_task(&rt, &["20190"]);
-    check_no_task(&rt, &[]);
+    for (words, want) in &TASKS {
+        let task = match read_task(words) {
+            Some(Task::Help) => "help",
+            Some(Task::Version) => "version",
+            Some(Task::Lines(2019)) => "lines of 2019",
+            Some(Task::Lines(_)) => "lines of another year",
+            None => "nothing",
+        };
+        check(&rt, task == *want, want);
+    }
 }
 
 const USAGE: &str = "usage: syslog_json [--] YEAR, or --help, or --version\n";
 
+/// A row has the write that fails, the status, what goes out, and what is said of the fault.
 #[test]
-fn says_its_version(rt: HostRuntime) {
+fn says_its_version_and_how_it_is_called(rt: HostRuntime) {
+    for (task, fails_at, status, text, fault) in &[
+        (Task::Version, NEVER, 0, "syslog_json 0.1.0\n", ""),
+        (
+            Task::Help,
+            NEVER,
+            0,
+            "usage: syslog_json [--] YEAR, or --help, or --version\n\n",
+            "",
+        ),
+        (Task::Help, 1, 2, "", "write failed\n"),
+    ] {
+        let mut out = Taker::new(1024, *fails_at);
+        let mut errors = Taker::new(1024, NEVER);
+        let (found, holds) = match task {
+            Task::Version => {
+                let found = version(&mut out, &mut errors);
+                (found, out.written() == text.as_bytes())
+            }
+            _ => {
+                let found = help(&mut out, &mut errors);
+                (found, out.written().starts_with(text.as_bytes()))
+            }
+        };
+        check(&rt, found == *status, "status");
+        check(&rt, holds, text);
+        check(&rt, errors.written() == fault.as_bytes(), "fault");
+    }
     let mut errors = Taker::new(1024, NEVER);
-    let mut out = Taker::new(1024, NEVER);
-    check(&rt, version(&mut out, &mut errors) == 0, "status");
-    check(
-        &rt,
-        out.written() == b"syslog_json 0.1.0\n".as_slice(),
-        "version",
-    );
-    check(&rt, errors.written().is_empty(), "errors");
-}
-
-#[test]
-fn says_how_it_is_called(rt: HostRuntime) {
-    let mut errors = Taker::new(1024, NEVER);
-    let mut out = Taker::new(1024, NEVER);
-    check(&rt, help(&mut out, &mut errors) == 0, "status");
-    let line = b"usage: syslog_json [--] YEAR, or --help, or --version\n\n";
-    check(&rt, out.written().starts_with(line), "help");
-    check(&rt, errors.written().is_empty(), "errors");
     check(&rt, usage(&mut errors) == 2, "status of a wrong call");
     check(&rt, errors.written() == USAGE.as_bytes(), USAGE);
-}
-
-#[test]
-fn says_that_it_could_not_write(rt: HostRuntime) {
-    let mut closed = Taker::new(1024, 1);
-    let mut errors = Taker::new(1024, NEVER);
-    check(&rt, help(&mut closed, &mut errors) == 2, "status");
-    let fault = b"write failed\n".as_slice();
-    check(&rt, errors.written() == fault, "fault");
 }

@@ -8,7 +8,6 @@ ghost use Rattle.syslog_pieces.specs.StructuredData.Escapes.{IsUnescaped};
 
 use crate::checks::check;
 use std::alloc::{AllocError, Global};
-use std::process::Abort;
 use syslog_loose::{StructuredElement, TimeZone, Variant, parse_message_with_year};
 use syslog_pieces::as_str::is_same_text;
 
@@ -61,29 +60,27 @@ fn is_alerted(alloc: Global, rule: &Rule<'_>, line: &str) -> Result<bool, AllocE
     Ok(false)
 }
 
-fn check_alerted(rt: &impl Abort, alloc: Global, line: &str, want: bool) {
+#[test]
+fn fires_on_a_parameter(rt: HostRuntime) {
     let rule = Rule {
         name: "state",
         value: "\"down\"",
     };
-    let found = is_alerted(alloc, &rule, line).expect(rt, line);
-    check(rt, found == want, line);
-}
-
-#[test]
-fn fires_on_a_parameter(rt: HostRuntime) {
-    for line in &[
-        "<34>1 - h app - - [link state=\"\\\"down\\\"\"] a",
-        "<34>1 - h app - - [link a=\"b\" state=\"\\\"down\\\"\"] a",
-        "<34>- h app: [link state=\"\\\"down\\\"\"] a",
+    for (line, want) in &[
+        ("<34>1 - h app - - [link state=\"\\\"down\\\"\"] a", true),
+        (
+            "<34>1 - h app - - [link a=\"b\" state=\"\\\"down\\\"\"] a",
+            true,
+        ),
+        ("<34>- h app: [link state=\"\\\"down\\\"\"] a", true),
+        ("<34>1 - h app - - [link state=\"down\"] a", false),
+        ("<34>1 - h app - - [link state2=\"\\\"down\\\"\"] a", false),
+        (
+            "<34>1 - h app - - [link state=\"\\\"down\\\"\" ] broken",
+            false,
+        ),
     ] {
-        check_alerted(&rt, rt.alloc(), line, true);
-    }
-    for line in &[
-        "<34>1 - h app - - [link state=\"down\"] a",
-        "<34>1 - h app - - [link state2=\"\\\"down\\\"\"] a",
-        "<34>1 - h app - - [link state=\"\\\"down\\\"\" ] broken",
-    ] {
-        check_alerted(&rt, rt.alloc(), line, false);
+        let found = is_alerted(rt.alloc(), &rule, line).expect(&rt, line);
+        check(&rt, found == *want, line);
     }
 }

@@ -11,7 +11,6 @@ ghost use Rattle.syslog_calls_tests.specs.declared.callers.collector.Destination
 
 use crate::checks::check;
 use std::alloc::{AllocError, Global};
-use std::process::Abort;
 use syslog_loose::{
     IncompleteDate, ParseFault, SyslogFacility, SyslogSeverity, TimeZone, Variant,
     parse_message_with_year_exact_tz,
@@ -77,19 +76,21 @@ fn route(
     }
 }
 
-fn check_route(rt: &impl Abort, alloc: Global, line: &str, want: Destination) {
-    let to = route(alloc, line, 2026, &TimeZone::UTC).expect(rt, line);
-    check(rt, to == want, line);
-}
-
 #[test]
 fn routes_lines(rt: HostRuntime) {
-    let line = "<34>1 - host su - ID47 - su failed";
-    check_route(&rt, rt.alloc(), line, Destination::Pager);
-    let line = "<86>1 - host sshd 20817 - - session opened";
-    check_route(&rt, rt.alloc(), line, Destination::Security);
-    let line = "<165>1 - host app - - [a b=\"c\"] event";
-    check_route(&rt, rt.alloc(), line, Destination::Archive);
-    let line = "<256>1 - host app - - - too large";
-    check_route(&rt, rt.alloc(), line, Destination::Refused);
+    for (line, want) in &[
+        ("<34>1 - host su - ID47 - su failed", Destination::Pager),
+        (
+            "<86>1 - host sshd 20817 - - session opened",
+            Destination::Security,
+        ),
+        (
+            "<165>1 - host app - - [a b=\"c\"] event",
+            Destination::Archive,
+        ),
+        ("<256>1 - host app - - - too large", Destination::Refused),
+    ] {
+        let to = route(rt.alloc(), line, 2026, &TimeZone::UTC).expect(&rt, line);
+        check(&rt, to == *want, line);
+    }
 }

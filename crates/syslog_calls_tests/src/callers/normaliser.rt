@@ -43,12 +43,6 @@ fn check_line(rt: &impl Abort, alloc: Global, line: &str, want: &str) {
 }
 
 // A row is a line and what becomes of it, which stays so.
-fn check_normal(rt: &impl Abort, alloc: Global, row: &str) {
-    let (line, want) = cells(rt, row);
-    check_line(rt, alloc, line, want);
-    check_line(rt, alloc, want, want);
-}
-
 #[test]
 fn normalises_lines(rt: HostRuntime) {
     for row in &[
@@ -58,6 +52,8 @@ fn normalises_lines(rt: HostRuntime) {
          ¦<34> 2019-10-11T22:14:15+00:00 mymachine app[323]: a message",
         "gobbledegook¦gobbledegook",
     ] {
-        check_normal(&rt, rt.alloc(), row);
+        let (line, want) = cells(&rt, row);
+        check_line(&rt, rt.alloc(), line, want);
+        check_line(&rt, rt.alloc(), want, want);
     }
 }

@@ -45,37 +45,33 @@ fn instant_of(
     }
 }
 
-// Early in 2020.
-fn instant_in_2020(alloc: Global, line: &str) -> Result<Option<OffsetTimestamp>, AllocError> {
-    instant_of(alloc, line, 2020, 2019, &TimeZone::UTC)
-}
-
-fn check_second(rt: &impl Abort, alloc: Global, line: &str, second: i64) {
-    let want = Timestamp::from_second(second).expect(rt, line);
-    match instant_in_2020(alloc, line).expect(rt, line) {
-        Some(found) => check(rt, found.instant == want, line),
-        None => check(rt, false, line),
+// The second of the line's instant, if it has one, early in 2020.
+fn check_second(rt: &impl Abort, alloc: Global, line: &str, second: Option<i64>) {
+    let found = instant_of(alloc, line, 2020, 2019, &TimeZone::UTC).expect(rt, line);
+    match (found, second) {
+        (Some(found), Some(second)) => {
+            let want = Timestamp::from_second(second).expect(rt, line);
+            check(rt, found.instant == want, line);
+        }
+        (None, None) => {}
+        _ => check(rt, false, line),
     }
-}
-
-fn check_none(rt: &impl Abort, alloc: Global, line: &str) {
-    let found = instant_in_2020(alloc, line).expect(rt, line);
-    check(rt, found.is_none(), line);
 }
 
 #[test]
 fn takes_december_for_last_year(rt: HostRuntime) {
-    let alloc = rt.alloc();
-    check_second(&rt, alloc, "<34>Dec 31 23:59:59 h su: one", 1_577_836_799);
-    check_second(&rt, alloc, "<34>Jan  1 00:00:00 h su: one", 1_577_836_800);
-    let dated = "<34>Dec 31 2018 23:59:59 h su: one";
-    check_second(&rt, alloc, dated, 1_546_300_799);
-    let dated = "<34>1 2003-10-11T22:14:15Z h su - - - one";
-    check_second(&rt, alloc, dated, 1_065_910_455);
-}
-
-#[test]
-fn finds_no_instant_without_a_timestamp(rt: HostRuntime) {
-    check_none(&rt, rt.alloc(), "<34>1 - h su - - - one");
-    check_none(&rt, rt.alloc(), "gobbledegook");
+    for (line, second) in &[
+        ("<34>Dec 31 23:59:59 h su: one", Some(1_577_836_799)),
+        ("<34>Jan  1 00:00:00 h su: one", Some(1_577_836_800)),
+        ("<34>Dec 31 2018 23:59:59 h su: one", Some(1_546_300_799)),
+        (
+            "<34>1 2003-10-11T22:14:15Z h su - - - one",
+            Some(1_065_910_455),
+        ),
+        // Without a timestamp.
+        ("<34>1 - h su - - - one", None),
+        ("gobbledegook", None),
+    ] {
+        check_second(&rt, rt.alloc(), line, *second);
+    }
 }

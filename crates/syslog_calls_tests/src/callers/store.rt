@@ -10,7 +10,6 @@ ghost use Rattle.syslog_loose.specs.declared.variant.Variant.TheVariants.{Either
 
 use crate::checks::check;
 use std::alloc::{AllocError, Global};
-use std::process::Abort;
 use syslog_loose::{
     IncompleteDate, Message, OffsetTimestamp, ParseFault, TimeZone, Timestamp, Variant,
     parse_message_with_year_exact_tz,
@@ -80,32 +79,24 @@ fn is_asked_for(
     }
 }
 
-fn check_asked_for(rt: &impl Abort, alloc: Global, line: &str, want: bool) {
-    let query = Query {
-        host: "h",
-        from: Timestamp::from_second(1_065_910_455).expect(rt, line),
-        until: Timestamp::from_second(1_065_910_456).expect(rt, line),
-    };
-    let found = is_asked_for(alloc, line, &query, 2003, &TimeZone::UTC).expect(rt, line);
-    check(rt, found == want, line);
-}
-
 #[test]
 fn finds_lines(rt: HostRuntime) {
-    for line in &[
-        "<34>1 2003-10-11T22:14:15Z h su - - - one",
-        "<34>1 2003-10-12T00:14:15.999+02:00 h su - - - one",
-        "<34>Oct 11 22:14:15 h su: one",
+    let query = Query {
+        host: "h",
+        from: Timestamp::from_second(1_065_910_455).expect(&rt, "the first instant"),
+        until: Timestamp::from_second(1_065_910_456).expect(&rt, "the last instant"),
+    };
+    for (line, want) in &[
+        ("<34>1 2003-10-11T22:14:15Z h su - - - one", true),
+        ("<34>1 2003-10-12T00:14:15.999+02:00 h su - - - one", true),
+        ("<34>Oct 11 22:14:15 h su: one", true),
+        ("<34>1 2003-10-11T22:14:16Z h su - - - later", false),
+        ("<34>1 2003-10-11T22:14:14.999Z h su - - - earlier", false),
+        ("<34>1 2003-10-11T22:14:15Z g su - - - another host", false),
+        ("<34>1 - h su - - - no timestamp", false),
+        ("gobbledegook", false),
     ] {
-        check_asked_for(&rt, rt.alloc(), line, true);
-    }
-    for line in &[
-        "<34>1 2003-10-11T22:14:16Z h su - - - later",
-        "<34>1 2003-10-11T22:14:14.999Z h su - - - earlier",
-        "<34>1 2003-10-11T22:14:15Z g su - - - another host",
-        "<34>1 - h su - - - no timestamp",
-        "gobbledegook",
-    ] {
-        check_asked_for(&rt, rt.alloc(), line, false);
+        let found = is_asked_for(rt.alloc(), line, &query, 2003, &TimeZone::UTC).expect(&rt, line);
+        check(&rt, found == *want, line);
     }
 }

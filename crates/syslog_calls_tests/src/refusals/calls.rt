@@ -1,11 +1,11 @@
 //! Refused memory in each of the five reading calls and in `reads_differently`.
-use super::check_reading;
-use crate::checks::{cells, check};
+use super::Tries;
+use crate::checks::{cells, check, prints};
 use crate::dash_change::check_dash_change;
 use crate::reading::summer_rule;
 use jiff::Timestamp;
 use jiff::tz::TimeZone;
-use std::alloc::{AllocError, Global};
+use std::alloc::Global;
 use std::process::Abort;
 use syslog_loose::{
     IncompleteDate, Message, ParseFault, Variant, parse_message, parse_message_with_year,
@@ -31,47 +31,6 @@ const CALLS: [Call; 5] = [
 
 const YEAR: i32 = 2020;
 
-// The calls that answer the text itself where it has no reading.
-fn called_whole<'a>(
-    alloc: Global,
-    call: Call,
-    text: &'a str,
-    variant: Variant,
-    rule: &TimeZone<'_>,
-) -> Result<Message<&'a str>, AllocError> {
-    let year = |_: IncompleteDate| YEAR;
-    match call {
-        Call::Moment => {
-            // 2020-09-13T12:26:40Z
-            let now = Timestamp::from_second(1_600_000_000).unwrap_or(Timestamp::UNIX_EPOCH);
-            parse_message(alloc, text, variant, now, rule)
-        }
-        Call::Year => parse_message_with_year(alloc, text, year, variant, rule),
-        _ => {
-            let utc = TimeZone::UTC;
-            parse_message_with_year_tz(alloc, text, year, Some(rule), variant, &utc)
-        }
-    }
-}
-
-// The calls that answer none there.
-fn called_exact<'a>(
-    alloc: Global,
-    call: Call,
-    text: &'a str,
-    variant: Variant,
-    rule: &TimeZone<'_>,
-) -> Result<Message<&'a str>, ParseFault> {
-    let year = |_: IncompleteDate| YEAR;
-    match call {
-        Call::Exact => parse_message_with_year_exact(alloc, text, year, variant, rule),
-        _ => {
-            let utc = TimeZone::UTC;
-            parse_message_with_year_exact_tz(alloc, text, year, Some(rule), variant, &utc)
-        }
-    }
-}
-
 /// The message of the text in 2020 and by the rule, given or local. `Memory` stands for each call's refusal.
 fn called<'a>(
     alloc: Global,
@@ -80,10 +39,28 @@ fn called<'a>(
     variant: Variant,
     rule: &TimeZone<'_>,
 ) -> Result<Message<&'a str>, ParseFault> {
-    if is_exact(call) {
-        return called_exact(alloc, call, text, variant, rule);
+    let utc = TimeZone::UTC;
+    let year = |_: IncompleteDate| YEAR;
+    match call {
+        Call::Moment => {
+            // 2020-09-13T12:26:40Z
+            let now = Timestamp::from_second(1_600_000_000).unwrap_or(Timestamp::UNIX_EPOCH);
+            Ok(parse_message(alloc, text, variant, now, rule)?)
+        }
+        Call::Year => Ok(parse_message_with_year(alloc, text, year, variant, rule)?),
+        Call::YearAndZone => Ok(parse_message_with_year_tz(
+            alloc,
+            text,
+            year,
+            Some(rule),
+            variant,
+            &utc,
+        )?),
+        Call::Exact => parse_message_with_year_exact(alloc, text, year, variant, rule),
+        Call::ExactInZone => {
+            parse_message_with_year_exact_tz(alloc, text, year, Some(rule), variant, &utc)
+        }
     }
-    Ok(called_whole(alloc, call, text, variant, rule)?)
 }
 
 /// Lines with elements under a variant, and how each prints.
@@ -123,25 +100,72 @@ const LISTED: [(Variant, &str); 6] = [
     ),
 ];
 
-// The message of the text, at the second call where the first is refused.
-fn called_again<'a>(
-    alloc: Global,
-    call: Call,
-    text: &'a str,
-    variant: Variant,
-    rule: &TimeZone<'_>,
-) -> Result<Message<&'a str>, ParseFault> {
-    match called(alloc, call, text, variant, rule) {
-        Err(ParseFault::Memory) => called(alloc, call, text, variant, rule),
-        other => other,
-    }
-}
+/// Lines without elements.
+const UNLISTED: [(Variant, &str); 14] = [
+    (
+        Variant::Either,
+        "<34>1 2003-10-11T22:14:15.003Z mymachine.example.com su - ID47 - message\
+         ¦<34>1 2003-10-11T22:14:15.003+00:00 mymachine.example.com su - ID47 - message",
+    ),
+    (
+        Variant::Either,
+        "1 - - - - - [a b=\"x]y\" ]z¦<47>1 - - - - - - y\" ]z",
+    ),
+    (Variant::Either, "<200>1 - - - - - -¦<40>1 - - - - - - "),
+    (Variant::Either, "1 - h a +5 m - x¦<47>1 - h a 5 m - x"),
+    (
+        Variant::Either,
+        "1 - h a 2147483648 m - x¦<47>1 - h a 2147483648 m - x",
+    ),
+    (
+        Variant::Either,
+        "<13>1 2019-02-13T19:48:34+00:00 74794bfb6795 root 8449 - [incorrect x] qwerty\
+         ¦<13>1 2019-02-13T19:48:34+00:00 74794bfb6795 root 8449 - - qwerty",
+    ),
+    (
+        Variant::Either,
+        "<13>1 2019-02-13T19:48:34+00:00 74794bfb6795 root 8449 - [incorrect x=] qwerty\
+         ¦<13>1 2019-02-13T19:48:34+00:00 74794bfb6795 root 8449 - - qwerty",
+    ),
+    (Variant::Either, "- h a: m¦<47> - h a: m"),
+    (Variant::Either, "- h a: [abc] m¦<47> - h a: [abc] m"),
+    (Variant::Either, "- h a: [a b=\"c¦<47> - h a: [a b=\"c"),
+    (Variant::Either, "- h a: - m¦<47> - h a: m"),
+    (
+        Variant::Either,
+        "Oct 25 02:30:00 h a: m¦<47> 2020-10-25T02:30:00+02:00 h a: m",
+    ),
+    (
+        Variant::Either,
+        "Oct 11 22:14:15 h a: m¦<47> 2020-10-11T22:14:15+02:00 h a: m",
+    ),
+    (
+        Variant::Either,
+        "<34>Dec 28 2008 16:49:07 h a[x]: m¦<34> 2008-12-28T16:49:07+01:00 h a[x]: m",
+    ),
+];
 
-fn check_listed_again(rt: &impl Abort, alloc: Global, call: Call, rule: &TimeZone<'_>) {
-    for (variant, row) in &LISTED {
+// How the message of each row prints.
+fn check_rows(
+    rt: &impl Abort,
+    alloc: Global,
+    rows: &[(Variant, &str)],
+    call: Call,
+    rule: &TimeZone<'_>,
+    tries: Tries,
+) {
+    for (variant, row) in rows {
         let (text, printed) = cells(rt, row);
-        let answer = called_again(alloc, call, text, *variant, rule);
-        check_reading(rt, answer, text, printed);
+        let answer = match called(alloc, call, text, *variant, rule) {
+            Err(ParseFault::Memory) if tries == Tries::Twice => {
+                called(alloc, call, text, *variant, rule)
+            }
+            other => other,
+        };
+        match answer {
+            Ok(message) => check(rt, prints(&message, printed), text),
+            Err(_) => check(rt, false, text),
+        }
     }
 }
 
@@ -149,14 +173,7 @@ fn check_listed_again(rt: &impl Abort, alloc: Global, call: Call, rule: &TimeZon
 fn answers_in_each_call_that_memory_was_refused(rt: HostRuntime) {
     let rule = summer_rule(&rt);
     for call in &CALLS {
-        check_listed_again(&rt, rt.alloc(), *call, &rule);
-    }
-}
-
-fn check_listed(rt: &impl Abort, alloc: Global, call: Call, rule: &TimeZone<'_>) {
-    for (variant, row) in &LISTED {
-        let (text, printed) = cells(rt, row);
-        check_reading(rt, called(alloc, call, text, *variant, rule), text, printed);
+        check_rows(&rt, rt.alloc(), &LISTED, *call, &rule, Tries::Twice);
     }
 }
 
@@ -164,51 +181,7 @@ fn check_listed(rt: &impl Abort, alloc: Global, call: Call, rule: &TimeZone<'_>)
 fn sees_no_refusal_in_any_call(rt: HostRuntime) {
     let rule = summer_rule(&rt);
     for call in &CALLS {
-        check_listed(&rt, rt.alloc(), *call, &rule);
-    }
-}
-
-/// Texts without elements, and how each prints.
-const UNLISTED: [&str; 14] = [
-    "<34>1 2003-10-11T22:14:15.003Z mymachine.example.com su - ID47 - message\
-     ¦<34>1 2003-10-11T22:14:15.003+00:00 mymachine.example.com su - ID47 - message",
-    "1 - - - - - [a b=\"x]y\" ]z¦<47>1 - - - - - - y\" ]z",
-    "<200>1 - - - - - -¦<40>1 - - - - - - ",
-    "1 - h a +5 m - x¦<47>1 - h a 5 m - x",
-    "1 - h a 2147483648 m - x¦<47>1 - h a 2147483648 m - x",
-    "<13>1 2019-02-13T19:48:34+00:00 74794bfb6795 root 8449 - [incorrect x] qwerty\
-     ¦<13>1 2019-02-13T19:48:34+00:00 74794bfb6795 root 8449 - - qwerty",
-    "<13>1 2019-02-13T19:48:34+00:00 74794bfb6795 root 8449 - [incorrect x=] qwerty\
-     ¦<13>1 2019-02-13T19:48:34+00:00 74794bfb6795 root 8449 - - qwerty",
-    "- h a: m¦<47> - h a: m",
-    "- h a: [abc] m¦<47> - h a: [abc] m",
-    "- h a: [a b=\"c¦<47> - h a: [a b=\"c",
-    "- h a: - m¦<47> - h a: m",
-    "Oct 25 02:30:00 h a: m¦<47> 2020-10-25T02:30:00+02:00 h a: m",
-    "Oct 11 22:14:15 h a: m¦<47> 2020-10-11T22:14:15+02:00 h a: m",
-    "<34>Dec 28 2008 16:49:07 h a[x]: m¦<34> 2008-12-28T16:49:07+01:00 h a[x]: m",
-];
-
-fn check_unlisted(rt: &impl Abort, alloc: Global, call: Call, rule: &TimeZone<'_>) {
-    for row in &UNLISTED {
-        let (text, printed) = cells(rt, row);
-        let answer = called(alloc, call, text, Variant::Either, rule);
-        check_reading(rt, answer, text, printed);
-    }
-}
-
-#[test]
-fn asks_for_no_memory_in_any_call_without_elements(rt: HostRuntime) {
-    let rule = summer_rule(&rt);
-    for call in &CALLS {
-        check_unlisted(&rt, rt.alloc(), *call, &rule);
-    }
-}
-
-fn is_exact(call: Call) -> bool {
-    match call {
-        Call::Exact | Call::ExactInZone => true,
-        Call::Moment | Call::Year | Call::YearAndZone => false,
+        check_rows(&rt, rt.alloc(), &LISTED, *call, &rule, Tries::Once);
     }
 }
 
@@ -223,19 +196,20 @@ const UNREADABLE: [&str; 7] = [
     "<34>Feb 30 10:00:00 h a: [a b=\"c\"] m",
 ];
 
+// The exact calls answer none, and the others the text itself.
 fn check_unreadable(rt: &impl Abort, alloc: Global, call: Call, text: &str, rule: &TimeZone<'_>) {
-    let answer = called(alloc, call, text, Variant::Either, rule);
-    check(rt, answer.is_err() == is_exact(call), text);
-    match answer {
-        Ok(message) => check(rt, message.msg == text, text),
-        Err(fault) => check(rt, fault == ParseFault::Invalid, text),
+    let is_exact = matches!(call, Call::Exact | Call::ExactInZone);
+    match called(alloc, call, text, Variant::Either, rule) {
+        Ok(message) => check(rt, !is_exact && message.msg == text, text),
+        Err(fault) => check(rt, is_exact && fault == ParseFault::Invalid, text),
     }
 }
 
 #[test]
-fn asks_for_no_memory_in_any_call_without_a_reading(rt: HostRuntime) {
+fn asks_for_no_memory_in_any_call_without_elements_or_a_reading(rt: HostRuntime) {
     let rule = summer_rule(&rt);
     for call in &CALLS {
+        check_rows(&rt, rt.alloc(), &UNLISTED, *call, &rule, Tries::Once);
         for text in &UNREADABLE {
             check_unreadable(&rt, rt.alloc(), *call, text, &rule);
         }
@@ -244,15 +218,14 @@ fn asks_for_no_memory_in_any_call_without_a_reading(rt: HostRuntime) {
 
 #[test]
 fn asks_for_no_memory_to_tell_differences(rt: HostRuntime) {
-    for text in &["- h a: -5", "Oct 11 22:14:15 h a: -5"] {
-        check_dash_change(&rt, rt.alloc(), text, Variant::Either, true);
-    }
-    for text in &[
-        "- h a: - x",
-        "Oct 11 22:14:15 h a: [a b=\"c\"] -5",
-        "1 - - - - - [a b=\"c\"] -5",
-        "gobbledegook",
+    for (text, differs) in &[
+        ("- h a: -5", true),
+        ("Oct 11 22:14:15 h a: -5", true),
+        ("- h a: - x", false),
+        ("Oct 11 22:14:15 h a: [a b=\"c\"] -5", false),
+        ("1 - - - - - [a b=\"c\"] -5", false),
+        ("gobbledegook", false),
     ] {
-        check_dash_change(&rt, rt.alloc(), text, Variant::Either, false);
+        check_dash_change(&rt, rt.alloc(), text, Variant::Either, *differs);
     }
 }

@@ -8,7 +8,7 @@ use std::test::Fail;
 use syslog_lines::{Summary, Watched};
 
 /// Runs over the input, `step` bytes a read at most, and expects this output and these counts.
-pub(super) fn expect_output(
+fn expect_output(
     rt: &impl Abort,
     alloc: Global,
     input: &[u8],
@@ -24,23 +24,42 @@ pub(super) fn expect_output(
     check(rt, writer.inner.as_slice() == output, "output");
 }
 
-/// A line of 3 MB, which is a megabyte's write thrice, and one after it.
+/// A row has the head of a line, how many tens of digits stand behind it, and its end; a line that follows, and how
+/// often; how many lines that makes; and how many bytes a read gives. All of it is written as it was read.
 #[test]
-fn filters_a_line_of_three_megabytes(rt: HostRuntime) -> Result<(), Fail> {
+fn filters_long_input(rt: HostRuntime) -> Result<(), Fail> {
     let alloc = rt.alloc();
-    let mut input = String::from_str(alloc, "<34>1 - - - - - - ")?;
-    let digits = "1234567890".repeat(alloc, 300_000)?;
-    input.push_str(digits.as_str())?;
-    input.push_str("\n<34>1 - - - - - - x\n")?;
-    expect_output(
-        &rt,
-        alloc,
-        input.as_bytes(),
-        input.len(),
-        input.as_bytes(),
-        2,
-        0,
-    );
+    for (head, tens, end, line, times, lines, step) in &[
+        // A line of 3 MB, which is a megabyte's write thrice, and one after it.
+        (
+            "<34>1 - - - - - - ",
+            300_000,
+            "\n",
+            "<34>1 - - - - - - x\n",
+            1,
+            2,
+            4_000_000,
+        ),
+        // A line that takes several blocks, and blocks that cut lines.
+        (
+            "<34>1 - h a 1 m - ",
+            20_000,
+            "\n",
+            "<34>1 2003-10-11T22:14:15.003+00:00 h a 1 m - x\n",
+            2000,
+            2001,
+            1_000_000,
+        ),
+        // More than a million reads of a byte.
+        ("", 0, "", "<34>1 - - - - - - abcdef\n", 50_000, 50_000, 1),
+    ] {
+        let digits = "1234567890".repeat(alloc, *tens)?;
+        let rest = line.repeat(alloc, *times)?;
+        let text = format!(in alloc; "{head}{digits}{end}{rest}")?;
+        let input = text.as_bytes();
+        check(&rt, *step > 1 || input.len() > 1_000_000, "length");
+        expect_output(&rt, alloc, input, *step, input, *lines, 0);
+    }
     Ok(())
 }
 
@@ -49,25 +68,7 @@ fn refuses_a_long_line_of_other_bytes(rt: HostRuntime) -> Result<(), Fail> {
     let alloc = rt.alloc();
     let mut input = vec![in alloc; b'\xff'; 100_000]?;
     input.extend_from_slice(b"\n<34>1 - - - - - -\n")?;
-    expect_output(
-        &rt,
-        alloc,
-        input.as_slice(),
-        4096,
-        THREE_PRINTED.as_bytes(),
-        2,
-        1,
-    );
-    Ok(())
-}
-
-/// More than a million reads of a byte.
-#[test]
-fn filters_what_comes_a_byte_at_a_time(rt: HostRuntime) -> Result<(), Fail> {
-    let alloc = rt.alloc();
-    let input = "<34>1 - - - - - - abcdef\n".repeat(alloc, 50_000)?;
-    check(&rt, input.len() > 1_000_000, "length");
-    expect_output(&rt, alloc, input.as_bytes(), 1, input.as_bytes(), 50_000, 0);
+    expect_output(&rt, alloc, input.as_slice(), 4096, THREE_PRINTED, 2, 1);
     Ok(())
 }
 
