@@ -15,10 +15,11 @@ mod report;
 
 use args::{Task, arguments};
 use filter::write_objects;
-use report::{help, usage, version};
+use report::{HELP, USAGE};
 use std::process::ExitCode;
 use syslog_lines::Watched;
-use syslog_lines::report::report;
+use syslog_lines::report::{refuse, report, say, say_version};
+use syslog_loose::VERSION;
 
 #[cfg(test)]
 mod tests;
@@ -34,9 +35,14 @@ fn answer_input(rt: &HostRuntime, year: i32) -> u8 {
 fn main(rt: HostRuntime) -> ExitCode {
     let status = match arguments(&rt) {
         Some(Task::Lines(year)) => answer_input(&rt, year),
-        Some(Task::Help) => help(&mut rt.stdout(), &mut rt.stderr()),
-        Some(Task::Version) => version(&mut rt.stdout(), &mut rt.stderr()),
-        None => usage(&mut rt.stderr()),
+        Some(Task::Help) => say(HELP, &mut rt.stdout(), &mut rt.stderr()),
+        Some(Task::Version) => say_version(
+            "syslog_json",
+            VERSION,
+            &mut rt.stdout(),
+            &mut rt.stderr(),
+        ),
+        None => refuse(USAGE, &mut rt.stderr()),
     };
     ExitCode::from(status)
 }

@@ -3,12 +3,14 @@ ghost use Rattle.std.specs.Prelude.{◌≤◌};
 
 use crate::args::{Task, read_task};
 use crate::filter::write_objects;
-use crate::report::{help, usage, version};
+use crate::report::{HELP, USAGE};
 use std::alloc::Global;
 use std::io;
 use std::io::{Error, ErrorKind, Read, Write};
 use std::process::Abort;
+use syslog_lines::report::{refuse, say, say_version};
 use syslog_lines::{RunFault, Summary, Watched};
+use syslog_loose::VERSION;
 
 const DATED: &[u8] = b"<34>Oct 11 22:14:15 mymachine app[323]: a message\n";
 
@@ -255,11 +257,11 @@ fn says_its_version_and_how_it_is_called(rt: HostRuntime) {
         let mut errors = Taker::new(1024, NEVER);
         let (found, holds) = match task {
             Task::Version => {
-                let found = version(&mut out, &mut errors);
+                let found = say_version("syslog_json", VERSION, &mut out, &mut errors);
                 (found, out.written() == text.as_bytes())
             }
             _ => {
-                let found = help(&mut out, &mut errors);
+                let found = say(HELP, &mut out, &mut errors);
                 (found, out.written().starts_with(text.as_bytes()))
             }
         };
@@ -268,6 +270,10 @@ fn says_its_version_and_how_it_is_called(rt: HostRuntime) {
         check(&rt, errors.written() == fault.as_bytes(), "fault");
     }
     let mut errors = Taker::new(1024, NEVER);
-    check(&rt, usage(&mut errors) == 2, "status of a wrong call");
+    check(
+        &rt,
+        refuse(USAGE, &mut errors) == 2,
+        "status of a wrong call",
+    );
     check(&rt, errors.written() == USAGE.as_bytes(), USAGE);
 }

@@ -26,6 +26,21 @@ pub fn say<W: Write, E: Write>(text: &str, out: &mut W, errors: &mut E) -> u8
     }
 }
 
+/// Writes a program's name and its version, and answers the exit status as `say` does.
+pub fn say_version<W: Write, E: Write>(
+    program: &str,
+    version: &str,
+    out: &mut W,
+    errors: &mut E,
+) -> u8
+    ensures { (result ≡ 0) ⊎ (result ≡ 2) }
+{
+    match writeln!(out, "{program} {version}") {
+        Ok(()) => 0,
+        Err(_) => report_fault(RunFault::Write, errors),
+    }
+}
+
 /// Writes the usage line where the arguments are wrong, and answers the exit status 2. A failed write is passed over.
 pub fn refuse<W: Write>(usage: &str, errors: &mut W) -> u8
     ensures { result ≡ 2 }

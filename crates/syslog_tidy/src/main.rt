@@ -12,10 +12,11 @@ mod report;
 
 use args::{Output, Task, arguments};
 use filters::{dash_change, refused, run};
-use report::{help, report_dash_change, usage, version};
+use report::{HELP, USAGE, report_dash_change};
 use std::process::ExitCode;
 use syslog_lines::Watched;
-use syslog_lines::report::report;
+use syslog_lines::report::{refuse, report, say, say_version};
+use syslog_loose::VERSION;
 
 #[cfg(test)]
 mod tests;
@@ -43,9 +44,14 @@ fn answer_input(rt: &HostRuntime, output: Output, year: i32) -> u8 {
 fn main(rt: HostRuntime) -> ExitCode {
     let status = match arguments(&rt) {
         Some(Task::Lines(output, year)) => answer_input(&rt, output, year),
-        Some(Task::Help) => help(&mut rt.stdout(), &mut rt.stderr()),
-        Some(Task::Version) => version(&mut rt.stdout(), &mut rt.stderr()),
-        None => usage(&mut rt.stderr()),
+        Some(Task::Help) => say(HELP, &mut rt.stdout(), &mut rt.stderr()),
+        Some(Task::Version) => say_version(
+            "syslog_tidy",
+            VERSION,
+            &mut rt.stdout(),
+            &mut rt.stderr(),
+        ),
+        None => refuse(USAGE, &mut rt.stderr()),
     };
     ExitCode::from(status)
 }

@@ -1,18 +1,19 @@
 //! What the program says at its end, and of itself.
-ghost use Rattle.std.specs.Prelude.{◌≡◌, ◌⊎◌};
+ghost use Rattle.std.specs.Prelude.{◌≡◌};
 ghost use Rattle.syslog_lines.specs.Report.{status_of};
 
 use crate::counts::DashChangeCounts;
 use std::io::Write;
 use syslog_lines::RunFault;
-use syslog_lines::report::{refuse, report_count, report_fault, say};
-use syslog_loose::VERSION;
+use syslog_lines::report::{report_count, report_fault};
 
-/// How the program is called.
-const USAGE: &str =
+/// How the program is called, in one line.
+pub const USAGE: &str =
     "usage: syslog_tidy [--changed | --refused] [--] YEAR, or --help, or --version\n";
 
-const HELP: &str = "usage: syslog_tidy [--changed | --refused] [--] YEAR, or --help, or --version
+/// How the program is called, and what it does.
+pub const HELP: &str =
+    "usage: syslog_tidy [--changed | --refused] [--] YEAR, or --help, or --version
 
 Reads lines of syslog from standard input, and writes to standard output:
   YEAR            each line that is a message, in its printed form, settled
@@ -35,30 +36,5 @@ pub fn report_dash_change<W: Write>(
     match outcome {
         Ok(counts) => report_count("changed", counts.dash_changes, counts.lines, errors),
         Err(fault) => report_fault(*fault, errors),
-    }
-}
-
-/// Writes the usage line, and answers the exit status 2. A failed write is passed over.
-pub fn usage<W: Write>(errors: &mut W) -> u8
-    ensures { result ≡ 2 }
-{
-    refuse(USAGE, errors)
-}
-
-/// Writes how the program is called, and answers the exit status: 0, or 2 where that failed, with the fault's text.
-pub fn help<W: Write, E: Write>(out: &mut W, errors: &mut E) -> u8
-    ensures { (result ≡ 0) ⊎ (result ≡ 2) }
-{
-    say(HELP, out, errors)
-}
-
-/// Writes the program's name and its version, and answers the exit status: 0, or 2 where that failed, with the fault's
-/// text.
-pub fn version<W: Write, E: Write>(out: &mut W, errors: &mut E) -> u8
-    ensures { (result ≡ 0) ⊎ (result ≡ 2) }
-{
-    match writeln!(out, "syslog_tidy {VERSION}") {
-        Ok(()) => 0,
-        Err(_) => report_fault(RunFault::Write, errors),
     }
 }

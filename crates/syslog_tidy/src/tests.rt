@@ -7,7 +7,6 @@ mod said;
 mod sizes;
 
 use crate::args::Output;
-
 use crate::filters::{dash_change, refused, run};
 use std::alloc::Global;
 use std::io;

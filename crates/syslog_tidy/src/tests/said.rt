@@ -2,9 +2,10 @@
 use super::{NEVER, Taker, Wrong, check};
 use crate::args::{Output, Task, read_args, read_task};
 use crate::counts::DashChangeCounts;
-use crate::report::{help, report_dash_change, usage, version};
-use syslog_lines::report::report;
+use crate::report::{HELP, USAGE, report_dash_change};
+use syslog_lines::report::{refuse, report, say, say_version};
 use syslog_lines::{RunFault, Summary, read_year};
+use syslog_loose::VERSION;
 
 /// Words, and which lines they ask for in the year 2019.
 const ARGUMENTS: [(&[&str], Option<Output>); 14] = [
@@ -174,11 +175,11 @@ fn says_its_version_and_how_it_is_called(rt: HostRuntime) {
         let mut errors = Taker::new(1024, NEVER, Wrong::Fails);
         let (found, holds) = match task {
             Task::Version => {
-                let found = version(&mut out, &mut errors);
+                let found = say_version("syslog_tidy", VERSION, &mut out, &mut errors);
                 (found, out.written() == text.as_bytes())
             }
             _ => {
-                let found = help(&mut out, &mut errors);
+                let found = say(HELP, &mut out, &mut errors);
                 (found, out.written().starts_with(text.as_bytes()))
             }
         };
@@ -187,7 +188,11 @@ fn says_its_version_and_how_it_is_called(rt: HostRuntime) {
         check(&rt, errors.written() == fault.as_bytes(), "fault");
     }
     let mut errors = Taker::new(1024, NEVER, Wrong::Fails);
-    check(&rt, usage(&mut errors) == 2, "status of a wrong call");
+    check(
+        &rt,
+        refuse(USAGE, &mut errors) == 2,
+        "status of a wrong call",
+    );
     let line = b"usage: syslog_tidy [--changed | --refused] [--] YEAR, or ";
     check(&rt, errors.written().starts_with(line), "usage");
 }
