@@ -34,7 +34,6 @@ fn answer_input(rt: &HostRuntime, year: i32) -> u8 {
 
 fn main(rt: HostRuntime) -> ExitCode {
     let status = match arguments(&rt) {
-        Some(Task::Lines(year)) => answer_input(&rt, year),
         Some(Task::Help) => say(HELP, &mut rt.stdout(), &mut rt.stderr()),
         Some(Task::Version) => say_version(
             "syslog_json",
@@ -43,6 +42,7 @@ fn main(rt: HostRuntime) -> ExitCode {
             &mut rt.stderr(),
         ),
         None => refuse(USAGE, &mut rt.stderr()),
+        Some(Task::Lines(year)) => answer_input(&rt, year),
     };
     ExitCode::from(status)
 }

@@ -42,16 +42,13 @@ fn answer_input(rt: &HostRuntime, output: Output, year: i32) -> u8 {
 }
 
 fn main(rt: HostRuntime) -> ExitCode {
+    let mut out = rt.stdout();
+    let mut errors = rt.stderr();
     let status = match arguments(&rt) {
         Some(Task::Lines(output, year)) => answer_input(&rt, output, year),
-        Some(Task::Help) => say(HELP, &mut rt.stdout(), &mut rt.stderr()),
-        Some(Task::Version) => say_version(
-            "syslog_tidy",
-            VERSION,
-            &mut rt.stdout(),
-            &mut rt.stderr(),
-        ),
-        None => refuse(USAGE, &mut rt.stderr()),
+        Some(Task::Help) => say(HELP, &mut out, &mut errors),
+        Some(Task::Version) => say_version("syslog_tidy", VERSION, &mut out, &mut errors),
+        None => refuse(USAGE, &mut errors),
     };
     ExitCode::from(status)
 }

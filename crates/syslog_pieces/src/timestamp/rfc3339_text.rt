@@ -132,8 +132,8 @@ fn date(text: &[u8]) -> Option<(Day, &[u8])>
 #[tactic(auto, unfolding(crate::specs::Bodies::StampReading::clock))]
 #[inline(always)]
 fn clock(text: &[u8]) -> Option<(Clock, &[u8])>
-    ensures value { spec.read_of result ≡ spec.clock text.now }
     ensures text { IfSome result (λ read. spec.IsClockBytes text.now read.0 read.1.now) }
+    ensures value { spec.read_of result ≡ spec.clock text.now }
 {
     let (hour, rest) = pair(text)?;
     let (minute, rest) = pair_behind(rest, b':')?;
