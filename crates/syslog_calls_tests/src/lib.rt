@@ -3,20 +3,4 @@
 #![tactic(auto)]
 
 #[cfg(test)]
-mod callers;
-#[cfg(test)]
-mod calls;
-#[cfg(test)]
-mod checks;
-#[cfg(test)]
-mod dash_change;
-#[cfg(test)]
-mod old_dash;
-#[cfg(test)]
-mod reading;
-#[cfg(test)]
-mod refusals;
-#[cfg(test)]
-mod rounds;
-#[cfg(test)]
-mod sizes;
+mod tests;

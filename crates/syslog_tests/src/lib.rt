@@ -4,16 +4,4 @@
 #![tactic(auto)]
 
 #[cfg(test)]
-mod built;
-#[cfg(test)]
-mod comparison;
-#[cfg(test)]
-mod expected;
-#[cfg(test)]
-mod reading;
-#[cfg(test)]
-mod refusals;
-#[cfg(test)]
-mod rfc3164;
-#[cfg(test)]
-mod rfc5424;
+mod tests;

@@ -1,6 +1,6 @@
 -- The names of the months, letter by letter.
-use Rattle.std.proofs.Common.{◌≡◌, ℕ, ◌+◌, ◌-◌, ◌<◌, ◌≤◌, ◌&&◌, Bool, true, false, nat_eq, nat_lt, unwrap_or, List, [], ◌∷◌, ◌++◌, length}
-use Rattle.std.proofs.Common.{drop, Option, Some, None, refl, sym, ap, ◌∙◌, arith}
+use Rattle.std.proofs.Common.{◌≡◌, ℕ, ◌+◌, ◌-◌, ◌<◌, ◌≤◌, ◌&&◌, Bool, true, false, nat_eq, nat_lt, unwrap_or, List}
+use Rattle.std.proofs.Common.{[], ◌∷◌, ◌++◌, length, drop, Option, Some, None, refl, sym, ap, ◌∙◌, arith}
 use Rattle.std.specs.Prelude.{map, slice_get}
 use Rattle.std.specs.Char.{to_ascii_lowercase}
 use Rattle.std.specs.Str.{chars, IsUtf8, IsAscii, IsCharBoundary}
@@ -88,7 +88,8 @@ letters_ascii : (a b c k : ℕ) → slice_get month_names k ≡ Some (map to_asc
     → IsAscii (a ∷ b ∷ c ∷ [])
 letters_ascii a b c k name =
     let within = slice_get_within month_names k _ name in
-    let low = rw name at (agree_below_at (λ i. are_low (slice_get month_names i)) (λ _. true) 12 k refl (omega arith)) in
+    let low = rw name at
+    (agree_below_at (λ i. are_low (slice_get month_names i)) (λ _. true) 12 k refl (omega arith)) in
     let (x, yz) = and_parts (nat_lt (to_ascii_lowercase a) 128)
     (nat_lt (to_ascii_lowercase b) 128 && nat_lt (to_ascii_lowercase c) 128) low in
     let (y, z) = and_parts (nat_lt (to_ascii_lowercase b) 128) (nat_lt (to_ascii_lowercase c) 128) yz in

@@ -10,4 +10,5 @@ returns-in_err-number c =
     let n = no_month _ c.utf8.text (rw c.as_bytes.ensures.value at c.in_err-number.ensures) in search rules
 
 pub returns : goal.returns
-returns c = month_read _ _ _ c.utf8.text (rw c.as_bytes.ensures.value at c.in_ok-number.ensures) _ c.split_at.ensures.back
+returns c =
+    month_read _ _ _ c.utf8.text (rw c.as_bytes.ensures.value at c.in_ok-number.ensures) _ c.split_at.ensures.back

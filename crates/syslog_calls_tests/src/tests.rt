@@ -1,0 +1,11 @@
+//! The tests, by what they are about.
+
+mod callers;
+mod calls;
+mod checks;
+mod dash_change;
+mod old_dash;
+mod reading;
+mod refusals;
+mod rounds;
+mod sizes;
