@@ -8,7 +8,44 @@ use syslog_loose::{IncompleteDate, ParseFault, TimeZone, Variant, settle};
 
 const OCTOBER: &str = "Oct 11 22:14:15 h a: m";
 
-/// A row is a text, as what it is normalised, and as what it settles; one cell for both where that is the same.
+/// In which round a row settles, and in which year. A row is a text, as what it is normalised, and as what it settles;
+/// one cell for both where that is the same.
+const ROUNDS: [(usize, i32, &str); 7] = [
+    // In round one.
+    (
+        1,
+        2019,
+        "<34>1 2003-10-11T22:14:15.003Z mymachine.example.com su - ID47 - message\
+         ¦<34>1 2003-10-11T22:14:15.003+00:00 mymachine.example.com su - ID47 - message",
+    ),
+    (1, 2019, "<200>1 - - - - - -¦<40>1 - - - - - - "),
+    (
+        1,
+        2019,
+        "<34>Oct 11 22:14:15 mymachine app[323]: a message\
+         ¦<34> 2019-10-11T22:14:15+00:00 mymachine app[323]: a message",
+    ),
+    // In later rounds.
+    (
+        3,
+        2019,
+        "<34>- zork::: hi¦<34> - zork:: : hi¦<34> - zork : : : hi",
+    ),
+    (
+        2,
+        2019,
+        "<34>- app[x:y]: hi¦<34> - - app[x:y]: hi¦<34> - - app[x: y]: hi",
+    ),
+    (2, 2019, "- h a: - - x¦<47> - h a: - x¦<47> - h a: x"),
+    // A year before 0, which prints as a dash.
+    (
+        2,
+        -1,
+        "Jan 1 00:00:00 h a: m¦<47> -0001-01-01T00:00:00+00:00 h a: m\
+         ¦<47> - - : 0001-01-01T00:00:00+00:00 h a: m",
+    ),
+];
+
 fn check_round(
     rt: &impl Abort,
     alloc: Global,
@@ -29,57 +66,13 @@ fn check_round(
 
 #[test]
 fn settles_in_rounds(rt: HostRuntime) {
-    let (utc, seconds) = (TimeZone::UTC, zone_at(&rt, -20));
-    for (round, year, tz, row) in &[
-        // In round one.
-        (
-            1,
-            2019,
-            &utc,
-            "<34>1 2003-10-11T22:14:15.003Z mymachine.example.com su - ID47 - message\
-             ¦<34>1 2003-10-11T22:14:15.003+00:00 mymachine.example.com su - ID47 - message",
-        ),
-        (1, 2019, &utc, "<200>1 - - - - - -¦<40>1 - - - - - - "),
-        (
-            1,
-            2019,
-            &utc,
-            "<34>Oct 11 22:14:15 mymachine app[323]: a message\
-             ¦<34> 2019-10-11T22:14:15+00:00 mymachine app[323]: a message",
-        ),
-        // In later rounds.
-        (
-            3,
-            2019,
-            &utc,
-            "<34>- zork::: hi¦<34> - zork:: : hi¦<34> - zork : : : hi",
-        ),
-        (
-            2,
-            2019,
-            &utc,
-            "<34>- app[x:y]: hi¦<34> - - app[x:y]: hi¦<34> - - app[x: y]: hi",
-        ),
-        (2, 2019, &utc, "- h a: - - x¦<47> - h a: - x¦<47> - h a: x"),
-        // A year before 0, which prints as a dash.
-        (
-            2,
-            -1,
-            &utc,
-            "Jan 1 00:00:00 h a: m¦<47> -0001-01-01T00:00:00+00:00 h a: m\
-             ¦<47> - - : 0001-01-01T00:00:00+00:00 h a: m",
-        ),
-        // An offset that prints as another.
-        (
-            2,
-            2019,
-            &seconds,
-            "Oct 11 22:14:15 h a: m¦<47> 2019-10-11T22:14:15-00:00 h a: m\
-             ¦<47> 2019-10-11T22:14:15+00:00 h a: m",
-        ),
-    ] {
-        check_round(&rt, rt.alloc(), row, *year, *tz, *round);
+    for (round, year, row) in &ROUNDS {
+        check_round(&rt, rt.alloc(), row, *year, &TimeZone::UTC, *round);
     }
+    // An offset that prints as another.
+    let row = "Oct 11 22:14:15 h a: m¦<47> 2019-10-11T22:14:15-00:00 h a: m\
+               ¦<47> 2019-10-11T22:14:15+00:00 h a: m";
+    check_round(&rt, rt.alloc(), row, 2019, &zone_at(&rt, -20), 2);
 }
 
 #[test]
