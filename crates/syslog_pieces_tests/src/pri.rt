@@ -1,4 +1,4 @@
-use super::rows::{answer_of, check, is_text, left_of, reads_as, text_of};
+use super::rows::{answer_of, check, comes_before, is_text, reads_as, reads_as_number, text_of};
 use syslog_pieces::pri::{
     SyslogFacility, SyslogSeverity, decompose_pri, optional_priority, priority,
 };
@@ -51,90 +51,54 @@ const SEVERITIES: [SyslogSeverity; 8] = [
 /// Their names in that order.
 const SEVERITY_NAMES: &str = "emerg alert crit err warning notice info debug";
 
-fn is_number_of(number: usize, discriminant: i32) -> bool {
-    match i32::try_from(number) {
-        Ok(number) => number == discriminant,
-        Err(_) => false,
-    }
-}
-
 fn is_facility(facility: SyslogFacility, number: usize) -> bool {
     facility as usize == number
-        && is_number_of(number, facility as i32)
+        && i32::try_from(number) == Ok(facility as i32)
         && is_text(FACILITY_NAMES.split(' ').nth(number), facility.as_str())
 }
 
 fn is_severity(severity: SyslogSeverity, number: usize) -> bool {
     severity as usize == number
-        && is_number_of(number, severity as i32)
+        && i32::try_from(number) == Ok(severity as i32)
         && is_text(SEVERITY_NAMES.split(' ').nth(number), severity.as_str())
 }
 
-// Derived orders are proved slowly: each is asked in one place.
-fn is_lesser_facility(one: &SyslogFacility, other: &SyslogFacility) -> bool {
-    *one < *other && *one != *other
-}
-
-fn is_lesser_severity(one: &SyslogSeverity, other: &SyslogSeverity) -> bool {
-    *one < *other && *one != *other
-}
-
 #[test]
-fn numbers_and_names_each_facility(rt: HostRuntime) {
+fn numbers_names_and_orders_each_facility(rt: HostRuntime) {
     for (number, facility) in FACILITIES.iter().enumerate() {
         check(&rt, is_facility(*facility, number), facility.as_str());
+        for before in FACILITIES.iter().take(number) {
+            check(&rt, comes_before(before, facility), facility.as_str());
+        }
     }
     check(&rt, SyslogFacility::LOG_CRON as i32 == 9, "cron");
 }
 
 #[test]
-fn numbers_and_names_each_severity(rt: HostRuntime) {
+fn numbers_names_and_orders_each_severity(rt: HostRuntime) {
     for (number, severity) in SEVERITIES.iter().enumerate() {
         check(&rt, is_severity(*severity, number), severity.as_str());
-    }
-}
-
-#[test]
-fn orders_each_facility(rt: HostRuntime) {
-    for (number, facility) in FACILITIES.iter().enumerate() {
-        for before in FACILITIES.iter().take(number) {
-            check(&rt, is_lesser_facility(before, facility), facility.as_str());
-        }
-    }
-}
-
-#[test]
-fn orders_each_severity(rt: HostRuntime) {
-    for (number, severity) in SEVERITIES.iter().enumerate() {
         for before in SEVERITIES.iter().take(number) {
-            check(&rt, is_lesser_severity(before, severity), severity.as_str());
+            check(&rt, comes_before(before, severity), severity.as_str());
         }
-    }
-}
-
-fn facility_name(facility: Option<SyslogFacility>) -> &'static str {
-    match facility {
-        Some(facility) => facility.as_str(),
-        None => "",
-    }
-}
-
-fn severity_name(severity: Option<SyslogSeverity>) -> &'static str {
-    match severity {
-        Some(severity) => severity.as_str(),
-        None => "",
     }
 }
 
 // A row is a priority, the facility, which may be none, and the severity.
 fn has_parts(row: &str) -> bool {
-    match text_of(row).parse::<u8>() {
-        Ok(pri) => {
-            let (facility, severity) = decompose_pri(pri);
-            reads_as(row, facility_name(facility), severity_name(severity))
-        }
-        Err(_) => false,
-    }
+    let Ok(pri) = text_of(row).parse::<u8>() else {
+        return false;
+    };
+    let (facility, severity) = decompose_pri(pri);
+    let facility = match facility {
+        Some(facility) => facility.as_str(),
+        None => "",
+    };
+    let severity = match severity {
+        Some(severity) => severity.as_str(),
+        None => "",
+    };
+    reads_as(row, facility, severity)
 }
 
 #[test]
@@ -161,33 +125,16 @@ fn composes_what_it_decomposed(rt: HostRuntime) {
     }
 }
 
-fn is_number(digits: &str, number: u8) -> bool {
-    match digits.parse::<u8>() {
-        Ok(want) => want == number,
-        Err(_) => false,
-    }
-}
-
-// A row is a text, the number of the priority at its front, and what is left; or the text of no priority.
-fn has_number(row: &str, number: u8, rest: &str) -> bool {
-    match answer_of(row) {
-        Some(want) => is_number(want, number) && rest == left_of(row),
-        None => false,
-    }
-}
-
+// A row is a text, the number of the priority at its front, and what is left; or the text of no priority, which stays
+// whole where a priority may be absent.
 fn is_priority(row: &str) -> bool {
-    match priority(text_of(row)) {
-        Some((number, rest)) => has_number(row, number, rest),
-        None => answer_of(row).is_none(),
-    }
-}
-
-// What is no priority stays whole.
-fn is_optional_priority(row: &str) -> bool {
-    match optional_priority(text_of(row)) {
-        (Some(number), rest) => has_number(row, number, rest),
-        (None, rest) => answer_of(row).is_none() && rest == row,
+    match (priority(text_of(row)), optional_priority(text_of(row))) {
+        (Some((number, rest)), (Some(same), left)) => {
+            reads_as_number(row, i64::from(number), rest)
+                && reads_as_number(row, i64::from(same), left)
+        }
+        (None, (None, left)) => answer_of(row).is_none() && left == row,
+        _ => false,
     }
 }
 
@@ -199,14 +146,7 @@ fn reads_a_priority(rt: HostRuntime) {
         "<255>>¦255¦>",
         "<0034> x¦34¦ x",
         "<34><34>¦34¦<34>",
-    ] {
-        check(&rt, is_priority(row) && is_optional_priority(row), row);
-    }
-}
-
-#[test]
-fn leaves_a_text_without_a_priority(rt: HostRuntime) {
-    for row in &[
+        // texts without a priority
         "",
         "1 xxx",
         "<",
@@ -221,6 +161,6 @@ fn leaves_a_text_without_a_priority(rt: HostRuntime) {
         "<\u{663}>",
         " <34>",
     ] {
-        check(&rt, is_priority(row) && is_optional_priority(row), row);
+        check(&rt, is_priority(row), row);
     }
 }

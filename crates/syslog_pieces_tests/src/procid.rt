@@ -1,65 +1,24 @@
 mod refusals;
 
-use super::rows::{answer_of, check, is_text, left_of, reads_as, text_of};
+use super::rows::{answer_of, check, is_number, left_of, reads_as, text_of};
 use std::alloc::Global;
 use std::process::Abort;
 use syslog_pieces::as_str::AsStr;
 use syslog_pieces::procid::{ProcId, process_word};
 
-// The number of a process id, if it is one.
-fn number<S: AsStr>(procid: &ProcId<S>) -> Option<i32> {
+fn is_name<S: AsStr>(procid: &ProcId<S>, want: &str) -> bool {
     match procid {
-        ProcId::PID(number) => Some(*number),
-        ProcId::Name(_) => None,
+        ProcId::PID(_) => false,
+        ProcId::Name(name) => name.as_str() == want,
     }
 }
 
-fn is_pid_of<S: AsStr>(procid: &ProcId<S>, want: i32) -> bool {
-    match number(procid) {
-        Some(number) => number == want,
-        None => false,
-    }
-}
-
-fn is_same_number(one: Option<i32>, other: Option<i32>) -> bool {
-    match (one, other) {
-        (Some(one), Some(other)) => one == other,
-        (None, None) => true,
+// The second cell of a row is the process id: `pid` and a number, or `name` and a name.
+fn reads_as_process<S: AsStr>(row: &str, procid: &ProcId<S>) -> bool {
+    match (procid, answer_of(row).unwrap_or("").split_once(' ')) {
+        (ProcId::PID(number), Some(("pid", want))) => is_number(want, i64::from(*number)),
+        (ProcId::Name(name), Some(("name", want))) => name.as_str() == want,
         _ => false,
-    }
-}
-
-fn name<'a>(procid: &ProcId<&'a str>) -> Option<&'a str> {
-    match procid {
-        ProcId::PID(_) => None,
-        ProcId::Name(name) => Some(*name),
-    }
-}
-
-fn is_name(procid: &ProcId<&str>, want: &str) -> bool {
-    is_text(name(procid), want)
-}
-
-fn is_pid(digits: &str, number: i32) -> bool {
-    match digits.parse::<i32>() {
-        Ok(want) => want == number,
-        Err(_) => false,
-    }
-}
-
-// The cell of a process id is `pid` and a number, or `name` and a name.
-fn is_process(procid: &ProcId<&str>, cell: &str) -> bool {
-    match (procid, cell.split_once(' ')) {
-        (ProcId::PID(number), Some(("pid", want))) => is_pid(want, *number),
-        (ProcId::Name(name), Some(("name", want))) => want == *name,
-        _ => false,
-    }
-}
-
-fn reads_as_process(row: &str, procid: &ProcId<&str>) -> bool {
-    match answer_of(row) {
-        Some(cell) => is_process(procid, cell),
-        None => false,
     }
 }
 
@@ -113,6 +72,16 @@ fn prints_as<S: AsStr>(alloc: Global, procid: &ProcId<S>, want: &str) -> bool {
     }
 }
 
+fn prints_an_owned_name(alloc: Global, text: &str) -> bool {
+    match String::from_str(alloc, text) {
+        Ok(name) => {
+            let owned = ProcId::Name(name);
+            is_name(&owned, text) && prints_as(alloc, &owned, text)
+        }
+        Err(_) => false,
+    }
+}
+
 #[test]
 fn prints_the_number(rt: HostRuntime) {
     for row in &["+5¦5", "-0¦0", "-007¦-7", "2147483648¦2147483648"] {
@@ -126,32 +95,19 @@ fn prints_the_number(rt: HostRuntime) {
 }
 
 #[test]
-fn prints_the_number_of_an_owner(rt: HostRuntime) {
-    let least: ProcId<String> = ProcId::PID(i32::MIN);
-    check(&rt, is_pid_of(&least, i32::MIN), "the least");
-    check(
-        &rt,
-        prints_as(rt.alloc(), &least, "-2147483648"),
-        "prints the least",
-    );
-}
-
-fn prints_an_owned_name(alloc: Global, text: &str) -> bool {
-    match String::from_str(alloc, text) {
-        Ok(name) => {
-            let owned = ProcId::Name(name);
-            number(&owned).is_none() && prints_as(alloc, &owned, text)
-        }
-        Err(_) => false,
-    }
-}
-
-#[test]
 fn prints_the_name(rt: HostRuntime) {
     for text in &["", "x:y", "\u{663}", "größe"] {
         check(&rt, prints_as(rt.alloc(), &ProcId::Name(*text), text), text);
         check(&rt, prints_an_owned_name(rt.alloc(), text), text);
     }
+}
+
+#[test]
+fn prints_the_number_of_an_owner(rt: HostRuntime) {
+    let row = "-2147483648¦pid -2147483648";
+    let least: ProcId<String> = ProcId::PID(i32::MIN);
+    check(&rt, reads_as_process(row, &least), row);
+    check(&rt, prints_as(rt.alloc(), &least, text_of(row)), row);
 }
 
 fn is_process_word(row: &str) -> bool {
@@ -171,45 +127,37 @@ fn reads_a_process_word(rt: HostRuntime) {
         "-- x¦name --¦ x",
         "a:¦name a:¦",
         "5:\u{85}¦name 5:¦\u{85}",
+        // one dash for an absent process, and no word
+        "- ID47¦¦ ID47",
+        "",
+        " 1",
+        ":",
+        ": x",
     ] {
         check(&rt, is_process_word(row), row);
     }
-}
-
-#[test]
-fn takes_one_dash_for_an_absent_process(rt: HostRuntime) {
-    for row in &["- ID47¦¦ ID47", "", " 1", ":", ": x"] {
-        check(&rt, is_process_word(row), row);
-    }
-}
-
-fn is_equal(one: &ProcId<&str>, other: &ProcId<&str>) -> bool {
-    *one == *other && !(*one != *other)
 }
 
 fn differs(one: &ProcId<&str>, other: &ProcId<&str>) -> bool {
     *one != *other && !(*one == *other)
 }
 
-// The first two texts are read as one process id, and the third as another.
-fn compares(one: &str, same: &str, other: &str) -> bool {
-    let one = ProcId::from(one);
-    is_equal(&one, &ProcId::from(same)) && differs(&one, &ProcId::from(other))
-}
-
-// A number is not the name that prints so.
-fn number_differs_from_name(number: i32, name: &str) -> bool {
-    let (number, name) = (ProcId::PID(number), ProcId::Name(name));
-    differs(&number, &name) && differs(&name, &number)
+// The first two texts of a row are read as one process id, and the third as another.
+fn compares(row: &str) -> bool {
+    let one = ProcId::from(text_of(row));
+    let same = ProcId::from(answer_of(row).unwrap_or(""));
+    one == same && !(one != same) && differs(&one, &ProcId::from(left_of(row)))
 }
 
 #[test]
 fn compares_numbers_and_names(rt: HostRuntime) {
-    check(&rt, compares("5", "+005", "6"), "numbers");
-    check(&rt, compares("x:y", "x:y", "x:z"), "names");
-    check(&rt, compares("", "", "x"), "the empty name");
-    check(&rt, compares("größe", "größe", "große"), "past ASCII");
-    check(&rt, number_differs_from_name(5, "5"), "a number and a name");
+    for row in &["5¦+005¦6", "x:y¦x:y¦x:z", "¦¦x", "größe¦größe¦große"] {
+        check(&rt, compares(row), row);
+    }
+    // A number is not the name that prints so.
+    let (number, name) = (ProcId::PID(5), ProcId::Name("5"));
+    check(&rt, differs(&number, &name), "a number and a name");
+    check(&rt, differs(&name, &number), "a name and a number");
 }
 
 fn has_equal_copy(alloc: Global, procid: &ProcId<&str>) -> bool {
@@ -219,35 +167,34 @@ fn has_equal_copy(alloc: Global, procid: &ProcId<&str>) -> bool {
     }
 }
 
-fn has_equal_copy_owned(alloc: Global, owned: &ProcId<String>) -> bool {
-    match owned.try_clone(alloc) {
-        Ok(copy) => copy == *owned,
-        Err(_) => false,
-    }
+// Two copies of the row's process id, the second made of the first, which own their names.
+fn has_owned_copies(alloc: Global, procid: &ProcId<&str>, row: &str) -> bool {
+    let Ok(owned) = procid.to_owned_text(alloc) else {
+        return false;
+    };
+    let Ok(again) = owned.try_clone(alloc) else {
+        return false;
+    };
+    reads_as_process(row, &owned) && prints_as(alloc, &owned, text_of(row)) && again == owned
 }
 
-fn has_owned_copy(alloc: Global, procid: &ProcId<&str>, text: &str) -> bool {
-    match procid.to_owned_text(alloc) {
-        Ok(owned) => {
-            is_same_number(number(&owned), number(procid))
-                && prints_as(alloc, &owned, text)
-                && has_equal_copy_owned(alloc, &owned)
-        }
-        Err(_) => false,
-    }
-}
-
-// The process id of the text prints so, and so do its copies.
-fn has_copies(alloc: Global, text: &str) -> bool {
-    let procid = ProcId::from(text);
-    has_equal_copy(alloc, &procid)
-        && has_owned_copy(alloc, &procid, text)
-        && prints_as(alloc, &procid, text)
+// The process id of the row prints as its text, and so do its copies.
+fn has_copies(alloc: Global, row: &str) -> bool {
+    let procid = ProcId::from(text_of(row));
+    prints_as(alloc, &procid, text_of(row))
+        && has_equal_copy(alloc, &procid)
+        && has_owned_copies(alloc, &procid, row)
 }
 
 #[test]
 fn copies_a_number_and_a_name(rt: HostRuntime) {
-    for text in &["323", "-2147483648", "x:y", "", "größe"] {
-        check(&rt, has_copies(rt.alloc(), text), text);
+    for row in &[
+        "323¦pid 323",
+        "-2147483648¦pid -2147483648",
+        "x:y¦name x:y",
+        "¦name ",
+        "größe¦name größe",
+    ] {
+        check(&rt, has_copies(rt.alloc(), row), row);
     }
 }

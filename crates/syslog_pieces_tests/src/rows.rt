@@ -35,6 +35,24 @@ pub(super) fn reads_as(row: &str, read: &str, rest: &str) -> bool {
     is_text(answer_of(row), read) && rest == left_of(row)
 }
 
+/// Whether the digits, with a sign or without one, are those of the number.
+pub(super) fn is_number(digits: &str, number: i64) -> bool {
+    match digits.parse::<i64>() {
+        Ok(want) => want == number,
+        Err(_) => false,
+    }
+}
+
+/// Whether the row's text reads as this number, and this is left.
+pub(super) fn reads_as_number(row: &str, number: i64, rest: &str) -> bool {
+    is_number(answer_of(row).unwrap_or(""), number) && rest == left_of(row)
+}
+
+/// Whether the one comes before the other, and is not equal to it.
+pub(super) fn comes_before<T: Ord>(one: &T, other: &T) -> bool {
+    *one < *other && *one != *other
+}
+
 /// What a test asks of a row, which the message names.
 pub(super) fn check(rt: &impl Abort, holds: bool, row: &str) {
     assert!(rt; holds, "{row:?}");

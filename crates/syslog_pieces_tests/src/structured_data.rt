@@ -8,8 +8,6 @@ mod rfc3164_list;
 use super::rows::{answer_of, check, is_text, left_of, repeated, text_of};
 use std::alloc::{AllocError, Global};
 use std::process::Abort;
-use std::str::Split;
-use std::test::Fail;
 use syslog_pieces::as_str::AsStr;
 use syslog_pieces::structured_data::{StructuredElement, forgiving_list, read_element};
 
@@ -17,18 +15,23 @@ type Read<'a> = Option<(StructuredElement<&'a str>, &'a str)>;
 
 type List<'a> = Option<(Vec<StructuredElement<&'a str>>, &'a str)>;
 
-fn is_param(param: &(&str, &str), name: Option<&str>, value: Option<&str>) -> bool {
-    is_text(name, param.0) && is_text(value, param.1)
+fn is_param<S: AsStr>(
+    name: &S,
+    value: &str,
+    want_name: Option<&str>,
+    want_value: Option<&str>,
+) -> bool {
+    is_text(want_name, name.as_str()) && is_text(want_value, value)
 }
 
 // The element of a line: its id, then the name and the raw value of each parameter, with bars between.
-fn is_element(element: &StructuredElement<&str>, line: &str) -> bool {
+fn is_element<S: AsStr>(element: &StructuredElement<S>, line: &str) -> bool {
     let mut texts = line.split('|');
-    if !is_text(texts.next(), element.id) {
+    if !is_text(texts.next(), element.id.as_str()) {
         return false;
     }
-    for param in &element.params {
-        if !is_param(param, texts.next(), texts.next()) {
+    for (name, value) in &element.params {
+        if !is_param(name, value.as_str(), texts.next(), texts.next()) {
             return false;
         }
     }
@@ -53,32 +56,15 @@ fn has_element(element: &StructuredElement<&str>, row: &str) -> bool {
     }
 }
 
-fn has_elements(elements: &[StructuredElement<&str>], row: &str) -> bool {
-    match answer_of(row) {
-        Some(lines) => are_elements(elements, lines),
-        None => false,
-    }
-}
-
-// The parameters that are left of a line.
-fn params_of<'a>(
-    alloc: Global,
-    mut texts: Split<'a, char>,
-) -> Result<Vec<(&'a str, &'a str)>, AllocError> {
+// The element of a line, built by hand.
+fn element_of<'a>(alloc: Global, line: &'a str) -> Result<StructuredElement<&'a str>, AllocError> {
+    let mut texts = line.split('|');
+    let id = texts.next().unwrap_or("");
     let mut params = Vec::new(alloc);
     while let Some(name) = texts.next() {
         params.push((name, texts.next().unwrap_or("")))?;
     }
-    Ok(params)
-}
-
-// The element of a line, built by hand.
-fn element_of<'a>(alloc: Global, line: &'a str) -> Result<StructuredElement<&'a str>, AllocError> {
-    let mut texts = line.split('|');
-    Ok(StructuredElement {
-        id: texts.next().unwrap_or(""),
-        params: params_of(alloc, texts)?,
-    })
+    Ok(StructuredElement { id, params })
 }
 
 // A row is a text, the line of the element at its front, and what is left; or the text of no element.
@@ -89,10 +75,6 @@ fn check_read(rt: &impl Abort, row: &str, read: Result<Read<'_>, AllocError>) {
         Err(_) => false,
     };
     check(rt, same, row);
-}
-
-fn check_element(rt: &impl Abort, alloc: Global, row: &str) {
-    check_read(rt, row, read_element(alloc, text_of(row)));
 }
 
 #[test]
@@ -109,21 +91,14 @@ fn strict_elements(rt: HostRuntime) {
         "[id a=\"b\"",
         "[id",
         "",
-    ] {
-        check_element(&rt, rt.alloc(), row);
-    }
-}
-
-#[test]
-fn quoted_values(rt: HostRuntime) {
-    for row in &[
+        // quoted values
         "[e v=\"Some \\\"lovely\\\" string\"]¦e|v|Some \\\"lovely\\\" string¦",
         "[e v=\"\"]¦e|v|¦",
         "[e v=\"Here are some escaped characters -> \\\"\\\\\\]\"]\
          ¦e|v|Here are some escaped characters -> \\\"\\\\\\]¦",
         "[e v=\"These should not be escaped -> \\n\\m\\o\"]¦e|v|These should not be escaped -> \\n\\m\\o¦",
     ] {
-        check_element(&rt, rt.alloc(), row);
+        check_read(&rt, row, read_element(rt.alloc(), text_of(row)));
     }
 }
 
@@ -134,30 +109,27 @@ fn prints_as<S: AsStr>(alloc: Global, element: &StructuredElement<S>, want: &str
     }
 }
 
-// The element at the front of the text prints so.
-fn check_printed(rt: &impl Abort, alloc: Global, text: &str, want: &str) {
-    let same = match read_element(alloc, text) {
-        Ok(Some((element, _))) => prints_as(alloc, &element, want),
+// The element at the front of the row's text prints so.
+fn check_printed(rt: &impl Abort, alloc: Global, row: &str, want: &str) {
+    let read = read_element(alloc, text_of(row));
+    let same = match &read {
+        Ok(Some((element, _))) => prints_as(alloc, element, want),
         _ => false,
     };
-    check(rt, same, text);
+    check(rt, same, row);
+    check_read(rt, row, read);
 }
 
 #[test]
 fn printed_elements(rt: HostRuntime) {
-    let row = "[exampleSDID@32473 iut=\"3\" eventSource= \"Application\" eventID=\"1011\"]\
-               ¦exampleSDID@32473|iut|3|eventSource|Application|eventID|1011¦";
-    check_element(&rt, rt.alloc(), row);
     check_printed(
         &rt,
         rt.alloc(),
-        text_of(row),
+        "[exampleSDID@32473 iut=\"3\" eventSource= \"Application\" eventID=\"1011\"]\
+         ¦exampleSDID@32473|iut|3|eventSource|Application|eventID|1011¦",
         "[exampleSDID@32473 iut=\"3\" eventSource=\"Application\" eventID=\"1011\"]",
     );
-}
-
-#[test]
-fn elements_as_written(rt: HostRuntime) {
+    // elements as they are written
     for row in &[
         "[exampleSDID@32473]¦exampleSDID@32473¦",
         "[exampleSDID@32473 iut=\"3\" eventSource=\"Application\" eventID=\"1011\"]\
@@ -165,8 +137,7 @@ fn elements_as_written(rt: HostRuntime) {
         "[WAN_LOCAL-default-D]¦WAN_LOCAL-default-D¦",
         "[e v=\"Some \\\"lovely\\\" string\" w=\"\"]¦e|v|Some \\\"lovely\\\" string|w|¦",
     ] {
-        check_element(&rt, rt.alloc(), row);
-        check_printed(&rt, rt.alloc(), text_of(row), text_of(row));
+        check_printed(&rt, rt.alloc(), row, text_of(row));
     }
 }
 
@@ -192,17 +163,13 @@ const PLAIN: &str = "x\
      |g|\
      |h|\u{e9}\\\u{e9}";
 
-fn is_value<S: AsStr>(name: &S, value: &str, want: Option<&str>, plain: Option<&str>) -> bool {
-    is_text(want, name.as_str()) && is_text(plain, value)
-}
-
 fn is_item<S: AsStr>(
     item: &Result<(&S, String), AllocError>,
     want: Option<&str>,
     plain: Option<&str>,
 ) -> bool {
     match item {
-        Ok((name, value)) => is_value(*name, value.as_str(), want, plain),
+        Ok((name, value)) => is_param(*name, value.as_str(), want, plain),
         Err(_) => false,
     }
 }
@@ -221,13 +188,6 @@ fn has_values<S: AsStr>(alloc: Global, element: &StructuredElement<S>, line: &st
     texts.next().is_none()
 }
 
-#[test]
-fn params_without_escapes(rt: HostRuntime) -> Result<(), Fail> {
-    let element = element_of(rt.alloc(), ESCAPED)?;
-    check(&rt, has_values(rt.alloc(), &element, PLAIN), PLAIN);
-    Ok(())
-}
-
 fn element_of_strings(alloc: Global) -> Result<StructuredElement<String>, AllocError> {
     let name = String::from_str(alloc, "name")?;
     let value = String::from_str(alloc, "a \\\"value\\\"")?;
@@ -238,27 +198,24 @@ fn element_of_strings(alloc: Global) -> Result<StructuredElement<String>, AllocE
 }
 
 #[test]
-fn elements_of_strings(rt: HostRuntime) -> Result<(), Fail> {
-    let element = element_of_strings(rt.alloc())?;
-    check(
-        &rt,
-        prints_as(rt.alloc(), &element, "[id name=\"a \\\"value\\\"\"]"),
-        "prints",
-    );
-    check(
-        &rt,
-        has_values(rt.alloc(), &element, "id|name|a \"value\""),
-        "values",
-    );
-    Ok(())
+fn params_without_escapes(rt: HostRuntime) {
+    let element = element_of(rt.alloc(), ESCAPED).expect(&rt, "no memory");
+    check(&rt, has_values(rt.alloc(), &element, PLAIN), PLAIN);
+    // of an element that owns its texts
+    let element = element_of_strings(rt.alloc()).expect(&rt, "no memory");
+    let (printed, line) = ("[id name=\"a \\\"value\\\"\"]", "id|name|a \"value\"");
+    check(&rt, prints_as(rt.alloc(), &element, printed), printed);
+    check(&rt, has_values(rt.alloc(), &element, line), line);
 }
 
 // A row is a text, the lines of the elements of the list at its front, and what is left; or the text of no list.
 fn check_read_list(rt: &impl Abort, row: &str, read: Result<List<'_>, AllocError>) {
-    let same = match read {
-        Ok(Some((elements, rest))) => has_elements(&elements, row) && rest == left_of(row),
-        Ok(None) => answer_of(row).is_none(),
-        Err(_) => false,
+    let same = match (read, answer_of(row)) {
+        (Ok(Some((elements, rest))), Some(lines)) => {
+            are_elements(&elements, lines) && rest == left_of(row)
+        }
+        (Ok(None), None) => true,
+        _ => false,
     };
     check(rt, same, row);
 }
@@ -307,27 +264,19 @@ fn brackets(alloc: Global, count: usize) -> Result<String, AllocError> {
     format!(in alloc; "[{id}]¦{id}¦")
 }
 
+// So many elements, and the rest behind them.
+fn elements(alloc: Global, count: usize, rest: &str) -> Result<String, AllocError> {
+    let list = repeated(alloc, "[e k=\"v\"]", count, rest)?;
+    let lines = repeated(alloc, "e|k|v\n", count, "")?;
+    format!(in alloc; "{list}¦{lines}¦{rest}")
+}
+
 #[test]
-fn ten_thousand_brackets(rt: HostRuntime) {
+fn long_lists(rt: HostRuntime) {
     check_built_list(&rt, rt.alloc(), repeated(rt.alloc(), "[", 10_000, ""));
     check_built_list(&rt, rt.alloc(), brackets(rt.alloc(), 9_999));
-}
-
-// So many elements.
-fn elements(alloc: Global, count: usize) -> Result<String, AllocError> {
-    let list = repeated(alloc, "[e k=\"v\"]", count, " x")?;
-    let lines = repeated(alloc, "e|k|v\n", count, "")?;
-    format!(in alloc; "{list}¦{lines}¦ x")
-}
-
-#[test]
-fn a_thousand_elements(rt: HostRuntime) {
-    check_built_list(&rt, rt.alloc(), elements(rt.alloc(), 1_000));
-}
-
-// A plain walk, quadratic in the text, takes minutes for this one.
-#[test]
-fn elements_that_fail_at_the_end_of_the_text(rt: HostRuntime) {
+    check_built_list(&rt, rt.alloc(), elements(rt.alloc(), 1_000, " x"));
+    // Elements that fail at the end of the text: a plain walk, quadratic in the text, takes minutes for these.
     let row = repeated(rt.alloc(), "[a\" b=\"]", 100_000, "¦¦");
     check_built_list(&rt, rt.alloc(), row);
 }

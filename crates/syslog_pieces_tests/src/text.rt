@@ -1,7 +1,6 @@
-use super::rows::{answer_of, check, check_word, is_text, left_of, repeated, text_of};
+use super::rows::{answer_of, check, check_word, is_text, reads_as_number, repeated, text_of};
 use std::alloc::{AllocError, Global};
 use std::process::Abort;
-use std::test::Fail;
 use syslog_pieces::text::{
     CharClass, blanks, first, host, host_field, literal, number, run_end, skip_some, some_blanks,
     split_run, tag_field, tag_word, trimmed, word,
@@ -13,8 +12,8 @@ const LONGEST: usize = 70;
 /// A class, and a text of a character of it and then of those that stop its runs.
 type Cutting = (CharClass, &'static str);
 
-/// Each class with ASCII characters that stop it.
-const ASCII_STOPS: [Cutting; 11] = [
+/// Each class with characters that stop it.
+const STOPS: [Cutting; 22] = [
     (CharClass::Digit, "7x/:"),
     (CharClass::Blank, " x\n\u{b}"),
     (CharClass::Visible, "v \t\u{b}\r"),
@@ -26,10 +25,7 @@ const ASCII_STOPS: [Cutting; 11] = [
     (CharClass::Bare, "\"\\"),
     (CharClass::Tag, "[ \t\u{c}:"),
     (CharClass::Label, "] \r:["),
-];
-
-/// The same with fillers or stops past ASCII.
-const WIDE_STOPS: [Cutting; 11] = [
+    // fillers or stops past ASCII
     (CharClass::Digit, "0\u{663}\u{3000}"),
     (CharClass::Blank, "\t\u{85}\u{2003}\u{3000}"),
     (CharClass::Visible, "v\u{85}\u{2003}\u{3000}"),
@@ -82,45 +78,27 @@ fn check_each_place(rt: &impl Abort, class: CharClass, text: &str, filler: char,
     }
 }
 
-fn check_stop(rt: &impl Abort, alloc: Global, class: CharClass, filler: char, stop: char) {
-    match around(alloc, filler, stop) {
-        Ok(text) => {
-            check(rt, !class.has(stop), text.as_str());
-            check_each_place(rt, class, text.as_str(), filler, stop);
-        }
-        Err(_) => check(rt, false, "no memory"),
-    }
-}
-
 // The filler is the first character of the text, and the others stop its runs.
 fn check_class(rt: &impl Abort, alloc: Global, class: CharClass, characters: &str) {
-    match first(characters) {
-        Some((filler, stops)) => {
-            check(rt, class.has(filler), characters);
-            for stop in stops.chars() {
-                check_stop(rt, alloc, class, filler, stop);
-            }
-        }
-        None => check(rt, false, "no filler"),
+    let (filler, stops) = first(characters).expect(rt, "no filler");
+    check(rt, class.has(filler), characters);
+    for stop in stops.chars() {
+        let text = around(alloc, filler, stop).expect(rt, "no memory");
+        check(rt, !class.has(stop), text.as_str());
+        check_each_place(rt, class, text.as_str(), filler, stop);
     }
 }
 
 #[test]
-fn cuts_at_an_ascii_character_at_each_place(rt: HostRuntime) {
-    for (class, characters) in &ASCII_STOPS {
+fn cuts_at_each_place(rt: HostRuntime) {
+    for (class, characters) in &STOPS {
         check_class(&rt, rt.alloc(), *class, characters);
     }
 }
 
 #[test]
-fn cuts_past_ascii_at_each_place(rt: HostRuntime) {
-    for (class, characters) in &WIDE_STOPS {
-        check_class(&rt, rt.alloc(), *class, characters);
-    }
-}
-
-#[test]
-fn reads_a_host(rt: HostRuntime) {
+fn reads_a_host_a_word_and_a_tag_word(rt: HostRuntime) {
+    // hosts
     for row in &[
         "zork ¦zork¦ ",
         "zork: ¦zork¦: ",
@@ -143,10 +121,7 @@ fn reads_a_host(rt: HostRuntime) {
     ] {
         check_word(&rt, row, host(text_of(row)));
     }
-}
-
-#[test]
-fn reads_a_word(rt: HostRuntime) {
+    // words
     for row in &[
         "OX-XXX-CONTEUDO:rpd¦OX-XXX-CONTEUDO:rpd¦",
         "!!!¦!!!¦",
@@ -164,10 +139,7 @@ fn reads_a_word(rt: HostRuntime) {
     ] {
         check_word(&rt, row, word(text_of(row)));
     }
-}
-
-#[test]
-fn reads_a_tag_word(rt: HostRuntime) {
+    // words of a tag
     for row in &[
         "su: 'su root'¦su¦: 'su root'",
         "app[323]: a message¦app[323]¦: a message",
@@ -200,7 +172,8 @@ fn check_field(rt: &impl Abort, row: &str, read: (Option<Option<&str>>, &str)) {
 }
 
 #[test]
-fn reads_the_host_behind_a_space(rt: HostRuntime) {
+fn reads_the_host_or_the_tag_behind_a_space(rt: HostRuntime) {
+    // the host
     for row in &[
         " mymachine app[323]: x¦mymachine¦ app[323]: x",
         " mymachine: a message¦mymachine¦: a message",
@@ -217,10 +190,7 @@ fn reads_the_host_behind_a_space(rt: HostRuntime) {
     ] {
         check_field(&rt, row, host_field(text_of(row)));
     }
-}
-
-#[test]
-fn reads_the_tag_behind_a_space(rt: HostRuntime) {
+    // the tag
     for row in &[
         " app[323] :¦app[323]¦ :",
         " su: x¦su¦: x",
@@ -237,24 +207,10 @@ fn reads_the_tag_behind_a_space(rt: HostRuntime) {
     }
 }
 
-fn is_number(digits: &str, number: u32) -> bool {
-    match digits.parse::<u32>() {
-        Ok(want) => want == number,
-        Err(_) => false,
-    }
-}
-
-fn has_number(row: &str, value: u32, rest: &str) -> bool {
-    match answer_of(row) {
-        Some(want) => is_number(want, value) && rest == left_of(row),
-        None => false,
-    }
-}
-
 // What of the row is a number up to the limit.
 fn reads_number(row: &str, limit: u32) -> bool {
     match number(text_of(row), limit) {
-        Some((value, rest)) => has_number(row, value, rest),
+        Some((value, rest)) => reads_as_number(row, i64::from(value), rest),
         None => answer_of(row).is_none(),
     }
 }
@@ -294,33 +250,27 @@ fn reads_a_number_up_to_its_limit(rt: HostRuntime) {
     ] {
         check(&rt, reads_behind_limit(row), row);
     }
-}
-
-#[test]
-fn passes_over_a_thousand_leading_zeros(rt: HostRuntime) -> Result<(), Fail> {
-    let row = repeated(rt.alloc(), "0", 1_000, "34>¦34¦>")?;
+    // a thousand leading zeros, and as many nines
+    let row = repeated(rt.alloc(), "0", 1_000, "34>¦34¦>").expect(&rt, "no memory");
     check(&rt, reads_number(row.as_str(), 255), "255");
-    let row = repeated(rt.alloc(), "0", 1_000, "34>x")?;
+    let row = repeated(rt.alloc(), "0", 1_000, "34>x").expect(&rt, "no memory");
     check(&rt, reads_number(row.as_str(), 33), "33");
-    let row = repeated(rt.alloc(), "9", 1_000, "")?;
+    let row = repeated(rt.alloc(), "9", 1_000, "").expect(&rt, "no memory");
     check(&rt, reads_number(row.as_str(), u32::MAX), "nines");
-    Ok(())
 }
 
 // What is left of the text, if anything is skipped.
-fn leaves(row: &str, left: Option<&str>) -> bool {
-    match left {
+fn check_left(rt: &impl Abort, row: &str, left: Option<&str>) {
+    let same = match left {
         Some(left) => is_text(answer_of(row), left),
         None => answer_of(row).is_none(),
-    }
-}
-
-fn check_left(rt: &impl Abort, row: &str, left: Option<&str>) {
-    check(rt, leaves(row, left), row);
+    };
+    check(rt, same, row);
 }
 
 #[test]
-fn trims_white_space_alone(rt: HostRuntime) {
+fn trims_white_space_and_skips_blanks(rt: HostRuntime) {
+    // white space alone is trimmed
     for row in &[
         "¦",
         " \t\r\n\u{b}\u{c}¦",
@@ -338,40 +288,26 @@ fn trims_white_space_alone(rt: HostRuntime) {
     ] {
         check_left(&rt, row, Some(trimmed(text_of(row))));
     }
-}
-
-fn begins_with(text: &str, letter: char, rest: &str) -> bool {
-    match first(text) {
-        Some((found, left)) => found == letter && left == rest,
-        None => false,
-    }
-}
-
-#[test]
-fn skips_single_characters(rt: HostRuntime) {
-    check(&rt, begins_with("üx", 'ü', "x"), "üx");
-    check(&rt, first("").is_none(), "empty");
-    for row in &["<34>¦34>", "34>", ""] {
-        check_left(&rt, row, literal(text_of(row), '<'));
-    }
-}
-
-#[test]
-fn skips_blanks(rt: HostRuntime) {
+    // blanks, which may be none
     for row in &[" \t \u{a0}x¦\u{a0}x", "\n x¦\n x"] {
         check_left(&rt, row, Some(blanks(text_of(row))));
     }
-}
-
-#[test]
-fn skips_some_blanks(rt: HostRuntime) {
+    // one blank or more
     for row in &["\tx ¦x ", "x"] {
         check_left(&rt, row, some_blanks(text_of(row)));
     }
 }
 
 #[test]
-fn skips_digits(rt: HostRuntime) {
+fn skips_a_character_and_digits(rt: HostRuntime) {
+    let (letter, rest) = first("üx").expect(&rt, "üx");
+    check(&rt, letter == 'ü' && rest == "x", "üx");
+    check(&rt, first("").is_none(), "empty");
+    // one character
+    for row in &["<34>¦34>", "34>", ""] {
+        check_left(&rt, row, literal(text_of(row), '<'));
+    }
+    // digits
     for row in &["12x¦x", "x12"] {
         check_left(&rt, row, skip_some(text_of(row), CharClass::Digit));
     }

@@ -24,17 +24,11 @@ fn has_stamp(alloc: Global, row: &str, stamp: &OffsetTimestamp) -> bool {
     }
 }
 
+// A row is a text and what its timestamp prints as, or the text of no timestamp.
 fn reads_stamp(alloc: Global, row: &str) -> bool {
     match rfc3339(text_of(row)) {
         Some(stamp) => has_stamp(alloc, row, &stamp),
         None => answer_of(row).is_none(),
-    }
-}
-
-// Each row is a text and what its timestamp prints as, or the text of no timestamp.
-fn check_read(rt: &impl Abort, alloc: Global, rows: &[&str]) {
-    for row in rows {
-        check(rt, reads_stamp(alloc, row), row);
     }
 }
 
@@ -66,19 +60,62 @@ fn stamp_in(rt: &impl Abort, row: &str) -> OffsetTimestamp {
 }
 
 #[test]
-fn reads_the_examples(rt: HostRuntime) {
-    check_read(
-        &rt,
-        rt.alloc(),
-        &[
-            "1985-04-12T23:20:50.52Z¦1985-04-12T23:20:50.520+00:00",
-            "1985-04-12T23:20:50.52-07:00¦1985-04-12T23:20:50.520-07:00",
-            "2003-10-11T22:14:15.003Z¦2003-10-11T22:14:15.003+00:00",
-            "2020-10-11T22:14:15.00Z¦2020-10-11T22:14:15+00:00",
-            "2020-02-29T00:00:00Z¦2020-02-29T00:00:00+00:00",
-            "0000-01-01T00:00:00-23:59¦0000-01-01T00:00:00-23:59",
-        ],
-    );
+fn reads_and_prints_a_timestamp(rt: HostRuntime) {
+    for row in &[
+        // examples of the standard, and the like
+        "1985-04-12T23:20:50.52Z¦1985-04-12T23:20:50.520+00:00",
+        "1985-04-12T23:20:50.52-07:00¦1985-04-12T23:20:50.520-07:00",
+        "2003-10-11T22:14:15.003Z¦2003-10-11T22:14:15.003+00:00",
+        "2020-10-11T22:14:15.00Z¦2020-10-11T22:14:15+00:00",
+        "2020-02-29T00:00:00Z¦2020-02-29T00:00:00+00:00",
+        "0000-01-01T00:00:00-23:59¦0000-01-01T00:00:00-23:59",
+        // second sixty is read as the second before
+        "2016-12-31T23:59:60.25Z¦2016-12-31T23:59:59.250+00:00",
+        "2016-12-31T23:59:60Z¦2016-12-31T23:59:59+00:00",
+        "2020-01-01T00:00:60+01:00¦2020-01-01T00:00:59+01:00",
+        // decimals past nine are cut off
+        "2020-01-01t00:00:00.1234567899z¦2020-01-01T00:00:00.123456789+00:00",
+        "2020-01-01T00:00:00.9999999999Z¦2020-01-01T00:00:00.999999999+00:00",
+        "2020-01-01T00:00:00.0000000009Z¦2020-01-01T00:00:00+00:00",
+        // the fewest exact decimals are printed
+        "1969-12-03T23:58:58Z¦1969-12-03T23:58:58+00:00",
+        "2020-05-22T14:59:09.25-03:00¦2020-05-22T14:59:09.250-03:00",
+        "2019-02-13T21:53:30.605850+00:00¦2019-02-13T21:53:30.605850+00:00",
+        "2020-01-01T00:00:00.000000001Z¦2020-01-01T00:00:00.000000001+00:00",
+        // other texts are refused
+        "",
+        "-",
+        "2020-01-01T00:00:00+24:00",
+        "2020-01-01T00:00:00+00:60",
+        "2020-01-01T24:00:00Z",
+        "2020-01-01T00:60:00Z",
+        "2020-01-01T00:00:61Z",
+        "2020-00-01T00:00:00Z",
+        "2020-13-01T00:00:00Z",
+        "2020-01-00T00:00:00Z",
+        "2020-02-30T00:00:00Z",
+        "2019-02-29T00:00:00Z",
+        "2020-01-01 00:00:00Z",
+        "2020-01-01T00:00:00\u{2212}07:00",
+        "2020-01-01T00:00:00.Z",
+        "2020-01-01T00:00:00,5Z",
+        "2020-01-01T00:00:00",
+        "2020-01-01T00:00:00Z ",
+        " 2020-01-01T00:00:00Z",
+        "2020-1-01T00:00:00Z",
+        "9999-12-31T23:59:59Z",
+    ] {
+        check(&rt, reads_stamp(rt.alloc(), row), row);
+    }
+}
+
+fn is_zero(alloc: Global, text: &str) -> bool {
+    match rfc3339(text) {
+        Some(stamp) => {
+            stamp.offset.seconds() == 0 && prints_as(alloc, &stamp, "2020-01-01T00:00:00+00:00")
+        }
+        None => false,
+    }
 }
 
 #[test]
@@ -94,41 +131,6 @@ fn reads_an_offset(rt: HostRuntime) {
 }
 
 #[test]
-fn reads_second_sixty_as_the_second_before(rt: HostRuntime) {
-    check_read(
-        &rt,
-        rt.alloc(),
-        &[
-            "2016-12-31T23:59:60.25Z¦2016-12-31T23:59:59.250+00:00",
-            "2016-12-31T23:59:60Z¦2016-12-31T23:59:59+00:00",
-            "2020-01-01T00:00:60+01:00¦2020-01-01T00:00:59+01:00",
-        ],
-    );
-}
-
-#[test]
-fn cuts_decimals_past_nine_off(rt: HostRuntime) {
-    check_read(
-        &rt,
-        rt.alloc(),
-        &[
-            "2020-01-01t00:00:00.1234567899z¦2020-01-01T00:00:00.123456789+00:00",
-            "2020-01-01T00:00:00.9999999999Z¦2020-01-01T00:00:00.999999999+00:00",
-            "2020-01-01T00:00:00.0000000009Z¦2020-01-01T00:00:00+00:00",
-        ],
-    );
-}
-
-fn is_zero(alloc: Global, text: &str) -> bool {
-    match rfc3339(text) {
-        Some(stamp) => {
-            stamp.offset.seconds() == 0 && prints_as(alloc, &stamp, "2020-01-01T00:00:00+00:00")
-        }
-        None => false,
-    }
-}
-
-#[test]
 fn takes_each_zero_offset_as_zero(rt: HostRuntime) {
     for text in &[
         "2020-01-01T00:00:00Z",
@@ -138,51 +140,6 @@ fn takes_each_zero_offset_as_zero(rt: HostRuntime) {
     ] {
         check(&rt, is_zero(rt.alloc(), text), text);
     }
-}
-
-#[test]
-fn refuses_other_texts(rt: HostRuntime) {
-    check_read(
-        &rt,
-        rt.alloc(),
-        &[
-            "",
-            "-",
-            "2020-01-01T00:00:00+24:00",
-            "2020-01-01T00:00:00+00:60",
-            "2020-01-01T24:00:00Z",
-            "2020-01-01T00:60:00Z",
-            "2020-01-01T00:00:61Z",
-            "2020-00-01T00:00:00Z",
-            "2020-13-01T00:00:00Z",
-            "2020-01-00T00:00:00Z",
-            "2020-02-30T00:00:00Z",
-            "2019-02-29T00:00:00Z",
-            "2020-01-01 00:00:00Z",
-            "2020-01-01T00:00:00\u{2212}07:00",
-            "2020-01-01T00:00:00.Z",
-            "2020-01-01T00:00:00,5Z",
-            "2020-01-01T00:00:00",
-            "2020-01-01T00:00:00Z ",
-            " 2020-01-01T00:00:00Z",
-            "2020-1-01T00:00:00Z",
-            "9999-12-31T23:59:59Z",
-        ],
-    );
-}
-
-#[test]
-fn prints_the_fewest_exact_decimals(rt: HostRuntime) {
-    check_read(
-        &rt,
-        rt.alloc(),
-        &[
-            "1969-12-03T23:58:58Z¦1969-12-03T23:58:58+00:00",
-            "2020-05-22T14:59:09.25-03:00¦2020-05-22T14:59:09.250-03:00",
-            "2019-02-13T21:53:30.605850+00:00¦2019-02-13T21:53:30.605850+00:00",
-            "2020-01-01T00:00:00.000000001Z¦2020-01-01T00:00:00.000000001+00:00",
-        ],
-    );
 }
 
 #[test]
@@ -198,10 +155,7 @@ fn prints_outside_the_standard_form(rt: HostRuntime) {
     ] {
         check(&rt, has_stamp(rt.alloc(), row, &stamp_in(&rt, row)), row);
     }
-}
-
-#[test]
-fn prints_the_first_and_the_last(rt: HostRuntime) {
+    // the first and the last
     let first = OffsetTimestamp {
         instant: Timestamp::MIN,
         offset: Offset::MIN,
@@ -235,21 +189,17 @@ fn compares_by_the_instant(rt: HostRuntime) {
     check(&rt, stamp(&rt, 5, 0) > stamp(&rt, -5, 0), "behind");
 }
 
-// What the timestamp prints as, which is nothing where a dash stands for none.
-fn has_optional_stamp(alloc: Global, row: &str, stamp: Option<OffsetTimestamp>) -> bool {
-    match stamp {
+// A row is a text, what the timestamp at its front prints as, which is nothing where a dash stands for none, and what is
+// left; or the text of no timestamp.
+fn reads_header_stamp(alloc: Global, row: &str) -> bool {
+    let Some((clock, rest)) = header_stamp(text_of(row)) else {
+        return answer_of(row).is_none();
+    };
+    let same = match stamp_of(clock) {
         Some(stamp) => has_stamp(alloc, row, &stamp),
         None => is_text(answer_of(row), ""),
-    }
-}
-
-// A row is a text, what the timestamp at its front prints as, and what is left; or the text of no timestamp.
-fn reads_header_stamp(alloc: Global, row: &str) -> bool {
-    match header_stamp(text_of(row)) {
-        Some((clock, rest)) => has_optional_stamp(alloc, row, stamp_of(clock))
-            && rest == left_of(row),
-        None => answer_of(row).is_none(),
-    }
+    };
+    same && rest == left_of(row)
 }
 
 #[test]
@@ -259,26 +209,12 @@ fn reads_the_timestamp_of_a_header(rt: HostRuntime) {
         "1985-04-12T23:20:50.52-07:00 ¦1985-04-12T23:20:50.520-07:00¦ ",
         "2003-10-11T22:14:15.003Z ¦2003-10-11T22:14:15.003+00:00¦ ",
         "2003-10-11T22:14:15.003Z  h¦2003-10-11T22:14:15.003+00:00¦  h",
-    ] {
-        check(&rt, reads_header_stamp(rt.alloc(), row), row);
-    }
-}
-
-#[test]
-fn takes_one_dash_for_an_absent_timestamp(rt: HostRuntime) {
-    for row in &[
+        // one dash for an absent timestamp
         "-¦¦",
         "- h¦¦ h",
         "--¦¦-",
         "-2003-10-11T22:14:15Z ¦¦2003-10-11T22:14:15Z ",
-    ] {
-        check(&rt, reads_header_stamp(rt.alloc(), row), row);
-    }
-}
-
-#[test]
-fn wants_a_space_behind_the_timestamp(rt: HostRuntime) {
-    for row in &[
+        // no space behind a timestamp, and no timestamp
         "",
         " ",
         " 2003-10-11T22:14:15Z ",
@@ -306,10 +242,7 @@ fn tells_which_are_read_back(rt: HostRuntime) {
     ] {
         check(&rt, is_canonical_stamp(stamp_in(&rt, row)), row);
     }
-}
-
-#[test]
-fn tells_which_are_not_read_back(rt: HostRuntime) {
+    // those that are not
     for row in &[
         "0 86400",
         "0 -86400",

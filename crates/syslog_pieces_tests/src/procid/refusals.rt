@@ -1,17 +1,10 @@
-//! Refused memory in copies of process ids. The form of these tests is said in `structured_data::tests::refusals`.
-use super::{has_equal_copy, is_name, is_pid_of};
+//! Refused memory in copies of process ids. The form of these tests is said in `structured_data::refusals`.
+use super::{has_equal_copy, is_name, reads_as_process};
 use crate::rows::check;
 use crate::tries::Tries;
 use std::alloc::{AllocError, Global};
 use std::process::Abort;
 use syslog_pieces::procid::ProcId;
-
-fn is_named(procid: &ProcId<String>, want: &str) -> bool {
-    match procid {
-        ProcId::PID(_) => false,
-        ProcId::Name(name) => name.as_str() == want,
-    }
-}
 
 fn check_copies(rt: &impl Abort, alloc: Global, tries: Tries) {
     let source = ProcId::from("x:y");
@@ -21,7 +14,7 @@ fn check_copies(rt: &impl Abort, alloc: Global, tries: Tries) {
     };
     match owned {
         Ok(owned) => {
-            check(rt, is_named(&owned, "x:y"), "copy with a text of its own");
+            check(rt, is_name(&owned, "x:y"), "copy with a text of its own");
             check_owned_clone(rt, alloc, &owned, tries);
         }
         Err(_) => check(rt, false, "no copy with a text of its own"),
@@ -35,10 +28,10 @@ fn check_owned_clone(rt: &impl Abort, alloc: Global, owned: &ProcId<String>, tri
         other => other,
     };
     match copy {
-        Ok(copy) => check(rt, is_named(&copy, "x:y"), "copy of the copy"),
+        Ok(copy) => check(rt, is_name(&copy, "x:y"), "copy of the copy"),
         Err(_) => check(rt, false, "no copy of the copy"),
     }
-    check(rt, is_named(owned, "x:y"), "copy");
+    check(rt, is_name(owned, "x:y"), "copy");
 }
 
 #[test]
@@ -51,9 +44,9 @@ fn sees_no_refusal_of_a_name(rt: HostRuntime) {
     check_copies(&rt, rt.alloc(), Tries::Once);
 }
 
-fn has_number(owned: Result<ProcId<String>, AllocError>, want: i32) -> bool {
+fn is_copy(row: &str, owned: Result<ProcId<String>, AllocError>) -> bool {
     match owned {
-        Ok(owned) => is_pid_of(&owned, want),
+        Ok(owned) => reads_as_process(row, &owned),
         Err(_) => false,
     }
 }
@@ -61,7 +54,7 @@ fn has_number(owned: Result<ProcId<String>, AllocError>, want: i32) -> bool {
 #[test]
 fn asks_for_no_memory_for_a_number_and_a_slice(rt: HostRuntime) {
     let owned = ProcId::from("323").to_owned_text(rt.alloc());
-    check(&rt, has_number(owned, 323), "323");
+    check(&rt, is_copy("323¦pid 323", owned), "323");
     for text in &["323", "x:y"] {
         check(&rt, has_equal_copy(rt.alloc(), &ProcId::from(*text)), text);
     }

@@ -46,90 +46,11 @@ fn rfc3164_list_of(
     }
 }
 
-#[test]
-fn answers_that_memory_for_an_element_was_refused(rt: HostRuntime) {
-    check_read(&rt, ROW, element_of(rt.alloc(), ELEMENT, Tries::Twice));
-}
-
-#[test]
-fn sees_no_refusal_of_an_element(rt: HostRuntime) {
-    check_read(&rt, ROW, element_of(rt.alloc(), ELEMENT, Tries::Once));
-}
-
 /// Lists of the same two elements.
 const LISTS: [&str; 2] = [
     "[a b=\"x]y\"][c d=\"e\"] f¦a|b|x]y\nc|d|e¦ f",
     "[a b=\"x]y\"][broken =][c d=\"e\"][f¦a|b|x]y\nc|d|e¦[f",
 ];
-
-fn check_lists(rt: &impl Abort, alloc: Global, tries: Tries) {
-    for row in &LISTS {
-        check_read_list(rt, row, list_of(alloc, text_of(row), tries));
-    }
-}
-
-#[test]
-fn answers_that_memory_for_a_list_was_refused(rt: HostRuntime) {
-    check_lists(&rt, rt.alloc(), Tries::Twice);
-}
-
-#[test]
-fn sees_no_refusal_of_a_list(rt: HostRuntime) {
-    check_lists(&rt, rt.alloc(), Tries::Once);
-}
-
-fn check_rfc3164_list(rt: &impl Abort, alloc: Global, rule: DashRule, tries: Tries) {
-    let row = "[a b=\"x]y\"][c d=\"e\"][f]¦a|b|x]y\nc|d|e¦[f]";
-    check_read_optional(rt, row, rfc3164_list_of(alloc, text_of(row), rule, tries));
-}
-
-fn check_rfc3164_lists(rt: &impl Abort, alloc: Global, tries: Tries) {
-    check_rfc3164_list(rt, alloc, DashRule::BeforeAnything, tries);
-    check_rfc3164_list(rt, alloc, DashRule::BeforeBlank, tries);
-}
-
-#[test]
-fn answers_that_memory_for_a_list_of_rfc_3164_was_refused(rt: HostRuntime) {
-    check_rfc3164_lists(&rt, rt.alloc(), Tries::Twice);
-}
-
-#[test]
-fn sees_no_refusal_of_a_list_of_rfc_3164(rt: HostRuntime) {
-    check_rfc3164_lists(&rt, rt.alloc(), Tries::Once);
-}
-
-#[test]
-fn asks_for_no_memory_without_an_element(rt: HostRuntime) {
-    for text in &["", "x", "[id", "[id a=\"b\" ]", "[id a=\"b", "[=]"] {
-        check_read(&rt, text, read_element(rt.alloc(), text));
-    }
-}
-
-#[test]
-fn asks_for_no_memory_without_elements(rt: HostRuntime) {
-    for row in &[
-        "- x¦¦ x",
-        "[a b=\"c]d¦¦d",
-        "[a =][b =]¦¦",
-        "",
-        "x",
-        "[a b=\"c",
-    ] {
-        check_read_list(&rt, row, forgiving_list(rt.alloc(), text_of(row)));
-    }
-}
-
-fn check_by_rule(rt: &impl Abort, alloc: Global, row: &str, rule: DashRule) {
-    check_read_optional(rt, row, optional_list(alloc, text_of(row), rule));
-}
-
-#[test]
-fn asks_for_no_memory_without_elements_of_rfc_3164(rt: HostRuntime) {
-    for row in &["- x¦¦ x", "-¦¦", "[a] x", "x", ""] {
-        check_by_rule(&rt, rt.alloc(), row, DashRule::BeforeAnything);
-        check_by_rule(&rt, rt.alloc(), row, DashRule::BeforeBlank);
-    }
-}
 
 // How many values were refused, where each other one is right, with its name, and stands in its place.
 fn refused_values(alloc: Global, element: &StructuredElement<&str>) -> Option<usize> {
@@ -150,33 +71,78 @@ fn refused_values(alloc: Global, element: &StructuredElement<&str>) -> Option<us
     Some(refused)
 }
 
-fn refuses_none(alloc: Global, element: &StructuredElement<&str>) -> bool {
-    matches!(refused_values(alloc, element), Some(0))
+// All values are right, at once or at the second time.
+fn check_values(rt: &impl Abort, alloc: Global, element: &StructuredElement<&str>, tries: Tries) {
+    let refused = match refused_values(alloc, element) {
+        Some(1..) if tries == Tries::Twice => refused_values(alloc, element),
+        other => other,
+    };
+    check(rt, matches!(refused, Some(0)), ELEMENT);
 }
 
-// All are right, at once or at the second time.
-fn refuses_none_again(alloc: Global, element: &StructuredElement<&str>) -> bool {
-    match refused_values(alloc, element) {
-        Some(0) => true,
-        Some(_) => refuses_none(alloc, element),
-        None => false,
+fn check_element(rt: &impl Abort, alloc: Global, tries: Tries) {
+    let read = element_of(alloc, ELEMENT, tries);
+    match &read {
+        Ok(Some((element, _))) => check_values(rt, alloc, element, tries),
+        _ => check(rt, false, "no element"),
     }
+    check_read(rt, ROW, read);
+}
+
+fn check_rfc3164_list(rt: &impl Abort, alloc: Global, rule: DashRule, tries: Tries) {
+    let row = "[a b=\"x]y\"][c d=\"e\"][f]¦a|b|x]y\nc|d|e¦[f]";
+    check_read_optional(rt, row, rfc3164_list_of(alloc, text_of(row), rule, tries));
+}
+
+fn check_lists(rt: &impl Abort, alloc: Global, tries: Tries) {
+    for row in &LISTS {
+        check_read_list(rt, row, list_of(alloc, text_of(row), tries));
+    }
+    check_rfc3164_list(rt, alloc, DashRule::BeforeAnything, tries);
+    check_rfc3164_list(rt, alloc, DashRule::BeforeBlank, tries);
 }
 
 #[test]
-fn answers_for_one_value_that_memory_was_refused(rt: HostRuntime) {
-    let same = match element_of(rt.alloc(), ELEMENT, Tries::Twice) {
-        Ok(Some((element, _))) => refuses_none_again(rt.alloc(), &element),
-        _ => false,
-    };
-    check(&rt, same, ELEMENT);
+fn answers_that_memory_for_an_element_and_its_values_was_refused(rt: HostRuntime) {
+    check_element(&rt, rt.alloc(), Tries::Twice);
 }
 
 #[test]
-fn sees_no_refusal_of_values(rt: HostRuntime) {
-    let same = match element_of(rt.alloc(), ELEMENT, Tries::Once) {
-        Ok(Some((element, _))) => refuses_none(rt.alloc(), &element),
-        _ => false,
-    };
-    check(&rt, same, ELEMENT);
+fn sees_no_refusal_of_an_element_and_its_values(rt: HostRuntime) {
+    check_element(&rt, rt.alloc(), Tries::Once);
+}
+
+#[test]
+fn answers_that_memory_for_lists_was_refused(rt: HostRuntime) {
+    check_lists(&rt, rt.alloc(), Tries::Twice);
+}
+
+#[test]
+fn sees_no_refusal_of_lists(rt: HostRuntime) {
+    check_lists(&rt, rt.alloc(), Tries::Once);
+}
+
+#[test]
+fn asks_for_no_memory_without_elements(rt: HostRuntime) {
+    // no element
+    for text in &["", "x", "[id", "[id a=\"b\" ]", "[id a=\"b", "[=]"] {
+        check_read(&rt, text, read_element(rt.alloc(), text));
+    }
+    // lists without elements, and no list
+    for row in &[
+        "- x¦¦ x",
+        "[a b=\"c]d¦¦d",
+        "[a =][b =]¦¦",
+        "",
+        "x",
+        "[a b=\"c",
+    ] {
+        check_read_list(&rt, row, forgiving_list(rt.alloc(), text_of(row)));
+    }
+    // the same of RFC 3164
+    for row in &["- x¦¦ x", "-¦¦", "[a] x", "x", ""] {
+        for rule in [DashRule::BeforeAnything, DashRule::BeforeBlank] {
+            check_read_optional(&rt, row, optional_list(rt.alloc(), text_of(row), rule));
+        }
+    }
 }

@@ -1,25 +1,11 @@
 //! Refused memory in copies of elements: see `refusals`.
+use super::is_element;
 use super::refusals::{ELEMENT, LINE, element_of};
-use super::{is_element, is_value};
-use crate::rows::{check, is_text};
+use crate::rows::check;
 use crate::tries::Tries;
 use std::alloc::{AllocError, Global};
 use std::process::Abort;
 use syslog_pieces::structured_data::StructuredElement;
-
-// The element of the line, over texts of its own.
-fn is_owned(element: &StructuredElement<String>, line: &str) -> bool {
-    let mut texts = line.split('|');
-    if !is_text(texts.next(), element.id.as_str()) {
-        return false;
-    }
-    for (name, value) in &element.params {
-        if !is_value(name, value.as_str(), texts.next(), texts.next()) {
-            return false;
-        }
-    }
-    texts.next().is_none()
-}
 
 fn check_clone(rt: &impl Abort, alloc: Global, element: &StructuredElement<&str>, tries: Tries) {
     let copy = match element.try_clone(alloc) {
@@ -40,7 +26,7 @@ fn check_owned(rt: &impl Abort, alloc: Global, element: &StructuredElement<&str>
     };
     match owned {
         Ok(owned) => {
-            check(rt, is_owned(&owned, LINE), "copy with texts of its own");
+            check(rt, is_element(&owned, LINE), "copy with texts of its own");
             check_owned_clone(rt, alloc, &owned, tries);
         }
         Err(_) => check(rt, false, "no copy with texts of its own"),
@@ -59,10 +45,10 @@ fn check_owned_clone(
         other => other,
     };
     match copy {
-        Ok(copy) => check(rt, is_owned(&copy, LINE), "copy of the copy"),
+        Ok(copy) => check(rt, is_element(&copy, LINE), "copy of the copy"),
         Err(_) => check(rt, false, "no copy of the copy"),
     }
-    check(rt, is_owned(owned, LINE), "copied copy");
+    check(rt, is_element(owned, LINE), "copied copy");
 }
 
 fn check_copies(rt: &impl Abort, alloc: Global, tries: Tries) {

@@ -45,28 +45,6 @@ fn reads_date(row: &str, read: Option<(MonthDate, &str)>) -> bool {
     }
 }
 
-fn check_read(rt: &impl Abort, rows: &[&str]) {
-    for row in rows {
-        check(rt, reads_date(row, month_date(text_of(row))), row);
-    }
-}
-
-#[test]
-fn reads_a_month_date(rt: HostRuntime) {
-    check_read(
-        &rt,
-        &[
-            "Dec 28 16:49:07 ¦12 28 16 49 7¦ ",
-            "Dec 28 16:49:07:¦12 28 16 49 7¦",
-            "Dec 28 16:49:07¦12 28 16 49 7¦",
-            "Dec 28 16:49:07.5¦12 28 16 49 7¦.5",
-            "Dec 28 16:49:07Z¦12 28 16 49 7¦Z",
-            "Dec 28 2008 16:49:07 ¦2008 12 28 16 49 7¦ ",
-            "Aug 4 2020 16:49:07: h¦2020 8 4 16 49 7¦ h",
-        ],
-    );
-}
-
 fn reads_month(alloc: Global, name: &str, number: &str) -> bool {
     match format!(in alloc; "{name} 5 07:08:09¦{number} 5 7 8 9¦") {
         Ok(row) => reads_date(row.as_str(), month_date(text_of(row.as_str()))),
@@ -83,7 +61,76 @@ fn check_month(rt: &impl Abort, alloc: Global, row: &str) {
 }
 
 #[test]
-fn takes_the_month_in_letters_of_either_case(rt: HostRuntime) {
+fn reads_a_month_date(rt: HostRuntime) {
+    for row in &[
+        "Dec 28 16:49:07 ¦12 28 16 49 7¦ ",
+        "Dec 28 16:49:07:¦12 28 16 49 7¦",
+        "Dec 28 16:49:07¦12 28 16 49 7¦",
+        "Dec 28 16:49:07.5¦12 28 16 49 7¦.5",
+        "Dec 28 16:49:07Z¦12 28 16 49 7¦Z",
+        "Dec 28 2008 16:49:07 ¦2008 12 28 16 49 7¦ ",
+        "Aug 4 2020 16:49:07: h¦2020 8 4 16 49 7¦ h",
+        // no other letters than those of a month
+        "",
+        "S",
+        "Se",
+        "Sep",
+        "Sept 5 07:08:09",
+        "Se 5 07:08:09",
+        "Mai 5 07:08:09",
+        "5 07:08:09",
+        " Sep 5 07:08:09",
+        "\u{17f}ep 5 07:08:09",
+        // one blank or more between the numbers
+        "Sep 5 07:08:09¦9 5 7 8 9¦",
+        "Sep  5 07:08:09¦9 5 7 8 9¦",
+        "Sep\t5 07:08:09¦9 5 7 8 9¦",
+        "SEP 5 07:08:09¦9 5 7 8 9¦",
+        "sEp  5 07:08:09¦9 5 7 8 9¦",
+        "Sep \t 5\t\t07:08:09¦9 5 7 8 9¦",
+        "Sep 05 7:8:9¦9 5 7 8 9¦",
+        "Sep 0000000000005 000000000007:0008:0000000000000009¦9 5 7 8 9¦",
+        "Sep\t5 \t 2020  07:08:09¦2020 9 5 7 8 9¦",
+        "Sep5 07:08:09",
+        "Sep 5",
+        "Sep 5 ",
+        "Sep 507:08:09",
+        "Sep\u{a0}5 07:08:09",
+        "Sep 5\n07:08:09",
+        "Sep 5 07 :08:09",
+        "Sep 5 07: 08:09",
+        "Sep 5 07:08: 09",
+        "Sep 5 07:08",
+        "Sep 5 07:08:",
+        "Sep 5 07-08-09",
+        "Sep 5 2020 2020 07:08:09",
+        // one colon behind the second
+        "Sep 5 07:08:09:¦9 5 7 8 9¦",
+        "Sep 5 07:08:09::¦9 5 7 8 9¦:",
+        "Sep 5 07:08:09 :¦9 5 7 8 9¦ :",
+        "Sep 5 2020 07:08:09:: h¦2020 9 5 7 8 9¦: h",
+        // numbers up to their limits
+        "Jan 4294967295 00:00:00¦1 4294967295 0 0 0¦",
+        "Jan 1 4294967295:00:00¦1 1 4294967295 0 0¦",
+        "Jan 1 00:4294967295:00¦1 1 0 4294967295 0¦",
+        "Jan 1 00:00:4294967295¦1 1 0 0 4294967295¦",
+        "Jan 1 2147483647 00:00:00¦2147483647 1 1 0 0 0¦",
+        "Jan 4294967296 00:00:00",
+        "Jan 1 4294967296:00:00",
+        "Jan 1 00:4294967296:00",
+        "Jan 1 00:00:4294967296",
+        "Jan 4294967296 2020 00:00:00",
+        "Jan 1 2147483648 00:00:00",
+        "Jan 1 2020 4294967296:00:00",
+        "Jan 1 2020 00:4294967296:00",
+        "Jan 1 2020 00:00:4294967296",
+        "Jan 1 -1 00:00:00",
+        "Jan 1 +1 00:00:00",
+        "Jan -1 00:00:00",
+    ] {
+        check(&rt, reads_date(row, month_date(text_of(row))), row);
+    }
+    // each month, in letters of either case
     for row in &[
         "1 Jan JAN jaN",
         "2 Feb FEB fEb",
@@ -102,102 +149,6 @@ fn takes_the_month_in_letters_of_either_case(rt: HostRuntime) {
     }
 }
 
-#[test]
-fn takes_the_letters_of_a_month_alone(rt: HostRuntime) {
-    check_read(
-        &rt,
-        &[
-            "",
-            "S",
-            "Se",
-            "Sep",
-            "Sept 5 07:08:09",
-            "Se 5 07:08:09",
-            "Mai 5 07:08:09",
-            "5 07:08:09",
-            " Sep 5 07:08:09",
-            "\u{17f}ep 5 07:08:09",
-        ],
-    );
-}
-
-#[test]
-fn takes_some_blanks_between_the_numbers(rt: HostRuntime) {
-    check_read(
-        &rt,
-        &[
-            "Sep 5 07:08:09¦9 5 7 8 9¦",
-            "Sep  5 07:08:09¦9 5 7 8 9¦",
-            "Sep\t5 07:08:09¦9 5 7 8 9¦",
-            "SEP 5 07:08:09¦9 5 7 8 9¦",
-            "sEp  5 07:08:09¦9 5 7 8 9¦",
-            "Sep \t 5\t\t07:08:09¦9 5 7 8 9¦",
-            "Sep 05 7:8:9¦9 5 7 8 9¦",
-            "Sep 0000000000005 000000000007:0008:0000000000000009¦9 5 7 8 9¦",
-            "Sep\t5 \t 2020  07:08:09¦2020 9 5 7 8 9¦",
-            "Sep5 07:08:09",
-            "Sep 5",
-            "Sep 5 ",
-            "Sep 507:08:09",
-            "Sep\u{a0}5 07:08:09",
-            "Sep 5\n07:08:09",
-            "Sep 5 07 :08:09",
-            "Sep 5 07: 08:09",
-            "Sep 5 07:08: 09",
-            "Sep 5 07:08",
-            "Sep 5 07:08:",
-            "Sep 5 07-08-09",
-            "Sep 5 2020 2020 07:08:09",
-        ],
-    );
-}
-
-#[test]
-fn takes_one_colon_behind_the_second(rt: HostRuntime) {
-    check_read(
-        &rt,
-        &[
-            "Sep 5 07:08:09:¦9 5 7 8 9¦",
-            "Sep 5 07:08:09::¦9 5 7 8 9¦:",
-            "Sep 5 07:08:09 :¦9 5 7 8 9¦ :",
-            "Sep 5 2020 07:08:09:: h¦2020 9 5 7 8 9¦: h",
-        ],
-    );
-}
-
-#[test]
-fn takes_numbers_up_to_their_limits(rt: HostRuntime) {
-    check_read(
-        &rt,
-        &[
-            "Jan 4294967295 00:00:00¦1 4294967295 0 0 0¦",
-            "Jan 1 4294967295:00:00¦1 1 4294967295 0 0¦",
-            "Jan 1 00:4294967295:00¦1 1 0 4294967295 0¦",
-            "Jan 1 00:00:4294967295¦1 1 0 0 4294967295¦",
-            "Jan 1 2147483647 00:00:00¦2147483647 1 1 0 0 0¦",
-            "Jan 4294967296 00:00:00",
-            "Jan 1 4294967296:00:00",
-            "Jan 1 00:4294967296:00",
-            "Jan 1 00:00:4294967296",
-            "Jan 4294967296 2020 00:00:00",
-            "Jan 1 2147483648 00:00:00",
-            "Jan 1 2020 4294967296:00:00",
-            "Jan 1 2020 00:4294967296:00",
-            "Jan 1 2020 00:00:4294967296",
-            "Jan 1 -1 00:00:00",
-            "Jan 1 +1 00:00:00",
-            "Jan -1 00:00:00",
-        ],
-    );
-}
-
-fn shows_date(row: &str) -> bool {
-    match shown_date(trimmed(text_of(row))) {
-        Some(date) => has_date(row, &date),
-        None => false,
-    }
-}
-
 // That there is such a date isn't asked.
 #[test]
 fn shows_a_date_without_a_year(rt: HostRuntime) {
@@ -210,12 +161,10 @@ fn shows_a_date_without_a_year(rt: HostRuntime) {
         "<255>Oct 11 22:14:15¦10 11 22 14 15",
         "Feb 99 24:60:60¦2 99 24 60 60",
     ] {
-        check(&rt, shows_date(row), row);
+        let date = shown_date(trimmed(text_of(row))).expect(&rt, row);
+        check(&rt, has_date(row, &date), row);
     }
-}
-
-#[test]
-fn shows_no_date_elsewhere(rt: HostRuntime) {
+    // no such date at the front
     for text in &[
         "",
         " ",

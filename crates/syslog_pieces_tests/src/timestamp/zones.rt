@@ -18,16 +18,13 @@ fn stamp_of(text: &str, dating: &Dating<'_, '_>) -> Option<OffsetTimestamp> {
     }
 }
 
-fn is_instant(stamp: &OffsetTimestamp, at_utc: &str) -> bool {
-    at_utc.is_empty() || is_same(rfc3339(at_utc), Some(*stamp))
-}
-
 // A row is a month date, what its timestamp prints as, and in some rows the instant at UTC; or a date without one.
 fn reads_stamp(alloc: Global, row: &str, dating: &Dating<'_, '_>) -> bool {
-    match stamp_of(text_of(row), dating) {
-        Some(stamp) => is_instant(&stamp, left_of(row)) && has_stamp(alloc, row, &stamp),
-        None => answer_of(row).is_none(),
-    }
+    let Some(stamp) = stamp_of(text_of(row), dating) else {
+        return answer_of(row).is_none();
+    };
+    let at_utc = left_of(row);
+    has_stamp(alloc, row, &stamp) && (at_utc.is_empty() || is_same(rfc3339(at_utc), Some(stamp)))
 }
 
 // In a zone that is given.
@@ -69,70 +66,54 @@ fn hour_ahead(rt: &impl Abort) -> TimeZone<'static> {
 }
 
 #[test]
-fn takes_the_dates_of_the_calendar(rt: HostRuntime) {
-    let rows = [
-        "sEp  5 07:08:09¦2019-09-05T07:08:09+00:00",
-        "Feb 28 00:00:00¦2019-02-28T00:00:00+00:00",
-        "Feb 29 00:00:00",
-        "Feb 29 2020 00:00:00¦2020-02-29T00:00:00+00:00",
-        "Feb 29 1900 00:00:00",
-        "Feb 29 2000 00:00:00¦2000-02-29T00:00:00+00:00",
-        "Feb 30 2020 10:00:00",
-        "Jan 0 00:00:00",
-        "Jan 1 00:00:00¦2019-01-01T00:00:00+00:00",
-        "Apr 30 00:00:00¦2019-04-30T00:00:00+00:00",
-        "Apr 31 00:00:00",
-        "Dec 32 00:00:00",
-    ];
-    check_both(&rt, rt.alloc(), 2019, &TimeZone::UTC, &rows);
-}
-
-#[test]
-fn takes_the_times_of_a_day(rt: HostRuntime) {
-    let rows = [
-        "Dec 31 23:59:59¦2019-12-31T23:59:59+00:00",
-        "Dec 31 23:59:60",
-        "Dec 31 23:60:00",
-        "Dec 31 24:00:00",
-    ];
-    check_both(&rt, rt.alloc(), 2019, &TimeZone::UTC, &rows);
-}
-
-#[test]
-fn takes_no_number_that_is_too_large(rt: HostRuntime) {
-    let rows = [
-        "Jan 4294967295 00:00:00",
-        "Jan 257 00:00:00",
-        "Jan 4294967296 00:00:00",
-        "Jan 1 4294967296:00:00",
-        "Jan 1 00:4294967296:00",
-        "Jan 1 00:00:4294967296",
-        "Jan 1 10000 00:00:00",
-        "Jan 1 65536 00:00:00",
-        "Jan 1 2147483647 00:00:00",
-        "Jan 1 2147483648 00:00:00",
-        "Jan 1 -1 00:00:00",
-    ];
-    check_both(&rt, rt.alloc(), 2019, &TimeZone::UTC, &rows);
-}
-
-#[test]
-fn takes_a_leap_day_of_the_year(rt: HostRuntime) {
-    let rows = ["Feb 29 00:00:00¦2020-02-29T00:00:00+00:00"];
-    check_given(&rt, rt.alloc(), 2020, &TimeZone::UTC, &rows);
-}
-
-#[test]
-fn takes_a_year_only_where_none_is_shown(rt: HostRuntime) {
-    check_local(
+fn takes_the_dates_and_times_of_the_calendar(rt: HostRuntime) {
+    check_both(
         &rt,
         rt.alloc(),
         2019,
         &TimeZone::UTC,
         &[
+            "sEp  5 07:08:09¦2019-09-05T07:08:09+00:00",
+            "Feb 28 00:00:00¦2019-02-28T00:00:00+00:00",
+            "Feb 29 00:00:00",
+            "Feb 29 2020 00:00:00¦2020-02-29T00:00:00+00:00",
+            "Feb 29 1900 00:00:00",
+            "Feb 29 2000 00:00:00¦2000-02-29T00:00:00+00:00",
+            "Feb 30 2020 10:00:00",
+            "Jan 0 00:00:00",
+            "Jan 1 00:00:00¦2019-01-01T00:00:00+00:00",
+            "Apr 30 00:00:00¦2019-04-30T00:00:00+00:00",
+            "Apr 31 00:00:00",
+            "Dec 32 00:00:00",
+            // the times of a day
+            "Dec 31 23:59:59¦2019-12-31T23:59:59+00:00",
+            "Dec 31 23:59:60",
+            "Dec 31 23:60:00",
+            "Dec 31 24:00:00",
+            // numbers that are too large
+            "Jan 4294967295 00:00:00",
+            "Jan 257 00:00:00",
+            "Jan 4294967296 00:00:00",
+            "Jan 1 4294967296:00:00",
+            "Jan 1 00:4294967296:00",
+            "Jan 1 00:00:4294967296",
+            "Jan 1 10000 00:00:00",
+            "Jan 1 65536 00:00:00",
+            "Jan 1 2147483647 00:00:00",
+            "Jan 1 2147483648 00:00:00",
+            "Jan 1 -1 00:00:00",
+            // a year is taken only where none is shown
             "Aug 4 16:49:07¦2019-08-04T16:49:07+00:00",
             "Aug 4 2020 16:49:07¦2020-08-04T16:49:07+00:00",
         ],
+    );
+    // a leap day of the year
+    check_both(
+        &rt,
+        rt.alloc(),
+        2020,
+        &TimeZone::UTC,
+        &["Feb 29 00:00:00¦2020-02-29T00:00:00+00:00"],
     );
 }
 
@@ -200,8 +181,8 @@ fn leaves_the_text_behind_the_date(rt: HostRuntime) {
 }
 
 #[test]
-fn reads_the_fields_at_a_given_offset(rt: HostRuntime) {
-    check_given(
+fn reads_the_fields_in_the_time_of_a_zone(rt: HostRuntime) {
+    check_both(
         &rt,
         rt.alloc(),
         2019,
@@ -211,31 +192,33 @@ fn reads_the_fields_at_a_given_offset(rt: HostRuntime) {
             "Dec 28 16:49:07¦2019-12-28T16:49:07+01:00",
         ],
     );
+    // the earlier instant in a fold
+    check_both(
+        &rt,
+        rt.alloc(),
+        2020,
+        &rule(&rt),
+        &[
+            "Oct 25 01:59:59¦2020-10-25T01:59:59+02:00",
+            "Oct 25 02:00:00¦2020-10-25T02:00:00+02:00",
+            "Oct 25 02:00:01¦2020-10-25T02:00:01+02:00",
+            "Oct 25 02:30:00¦2020-10-25T02:30:00+02:00¦2020-10-25T00:30:00Z",
+            "Oct 25 02:59:59¦2020-10-25T02:59:59+02:00",
+            "Oct 25 03:00:00¦2020-10-25T03:00:00+01:00",
+            "Oct 25 03:00:01¦2020-10-25T03:00:01+01:00",
+            "Oct 25 2020 01:59:59¦2020-10-25T01:59:59+02:00",
+            "Oct 25 2020 02:00:00¦2020-10-25T02:00:00+02:00",
+            "Oct 25 2020 02:00:01¦2020-10-25T02:00:01+02:00",
+            "Oct 25 2020 02:30:00¦2020-10-25T02:30:00+02:00",
+            "Oct 25 2020 02:59:59¦2020-10-25T02:59:59+02:00",
+            "Oct 25 2020 03:00:00¦2020-10-25T03:00:00+01:00",
+            "Oct 25 2020 03:00:01¦2020-10-25T03:00:01+01:00",
+        ],
+    );
 }
 
 #[test]
-fn takes_the_earlier_instant_in_a_fold(rt: HostRuntime) {
-    let rows = [
-        "Oct 25 01:59:59¦2020-10-25T01:59:59+02:00",
-        "Oct 25 02:00:00¦2020-10-25T02:00:00+02:00",
-        "Oct 25 02:00:01¦2020-10-25T02:00:01+02:00",
-        "Oct 25 02:30:00¦2020-10-25T02:30:00+02:00¦2020-10-25T00:30:00Z",
-        "Oct 25 02:59:59¦2020-10-25T02:59:59+02:00",
-        "Oct 25 03:00:00¦2020-10-25T03:00:00+01:00",
-        "Oct 25 03:00:01¦2020-10-25T03:00:01+01:00",
-        "Oct 25 2020 01:59:59¦2020-10-25T01:59:59+02:00",
-        "Oct 25 2020 02:00:00¦2020-10-25T02:00:00+02:00",
-        "Oct 25 2020 02:00:01¦2020-10-25T02:00:01+02:00",
-        "Oct 25 2020 02:30:00¦2020-10-25T02:30:00+02:00",
-        "Oct 25 2020 02:59:59¦2020-10-25T02:59:59+02:00",
-        "Oct 25 2020 03:00:00¦2020-10-25T03:00:00+01:00",
-        "Oct 25 2020 03:00:01¦2020-10-25T03:00:01+01:00",
-    ];
-    check_both(&rt, rt.alloc(), 2020, &rule(&rt), &rows);
-}
-
-#[test]
-fn refuses_the_gap_of_a_given_zone(rt: HostRuntime) {
+fn takes_a_gap_as_utc_in_the_local_zone_alone(rt: HostRuntime) {
     check_given(
         &rt,
         rt.alloc(),
@@ -258,10 +241,7 @@ fn refuses_the_gap_of_a_given_zone(rt: HostRuntime) {
             "Mar 29 2020 03:00:01¦2020-03-29T03:00:01+02:00",
         ],
     );
-}
-
-#[test]
-fn takes_the_local_gap_as_utc(rt: HostRuntime) {
+    // in the local zone
     check_local(
         &rt,
         rt.alloc(),
@@ -289,38 +269,47 @@ fn takes_the_local_gap_as_utc(rt: HostRuntime) {
 // Instants reach from -9999-01-02T01:59:59Z to 9999-12-30T22:00:00.999999999Z, offsets to 25:59:59 either way.
 #[test]
 fn refuses_instants_out_of_range(rt: HostRuntime) {
-    let rows = [
-        "Dec 30 9999 22:00:00¦9999-12-30T22:00:00+00:00",
-        "Dec 30 9999 22:00:01",
-        "Jan 2 01:59:58",
-        "Jan 2 01:59:59¦-9999-01-02T01:59:59+00:00",
-    ];
-    check_local(&rt, rt.alloc(), -9999, &TimeZone::UTC, &rows);
-}
-
-#[test]
-fn refuses_instants_out_of_range_at_the_greatest_offset(rt: HostRuntime) {
+    check_both(
+        &rt,
+        rt.alloc(),
+        -9999,
+        &TimeZone::UTC,
+        &[
+            "Dec 30 9999 22:00:00¦9999-12-30T22:00:00+00:00",
+            "Dec 30 9999 22:00:01",
+            "Jan 2 01:59:58",
+            "Jan 2 01:59:59¦-9999-01-02T01:59:59+00:00",
+        ],
+    );
+    // at the greatest offset
     let ahead = TimeZone::fixed(Offset::MAX);
-    let rows = [
-        "Jan 1 0 00:00:00¦0000-01-01T00:00:00+26:00",
-        "Dec 31 9999 23:59:59¦9999-12-31T23:59:59+26:00",
-        "Jan 3 03:59:57",
-        "Jan 3 03:59:58¦-9999-01-03T03:59:58+26:00",
-    ];
-    check_both(&rt, rt.alloc(), -9999, &ahead, &rows);
-}
-
-#[test]
-fn refuses_instants_out_of_range_at_the_least_offset(rt: HostRuntime) {
+    check_both(
+        &rt,
+        rt.alloc(),
+        -9999,
+        &ahead,
+        &[
+            "Jan 1 0 00:00:00¦0000-01-01T00:00:00+26:00",
+            "Dec 31 9999 23:59:59¦9999-12-31T23:59:59+26:00",
+            "Jan 3 03:59:57",
+            "Jan 3 03:59:58¦-9999-01-03T03:59:58+26:00",
+        ],
+    );
+    // at the least offset
     let behind = TimeZone::fixed(Offset::MIN);
-    let rows = [
-        "Jan 1 0 00:00:00¦0000-01-01T00:00:00-26:00",
-        "Dec 29 9999 20:00:01¦9999-12-29T20:00:01-26:00",
-        "Dec 29 9999 20:00:02",
-        "Dec 31 9999 23:59:59",
-        "Jan 1 00:00:00¦-9999-01-01T00:00:00-26:00",
-    ];
-    check_both(&rt, rt.alloc(), -9999, &behind, &rows);
+    check_both(
+        &rt,
+        rt.alloc(),
+        -9999,
+        &behind,
+        &[
+            "Jan 1 0 00:00:00¦0000-01-01T00:00:00-26:00",
+            "Dec 29 9999 20:00:01¦9999-12-29T20:00:01-26:00",
+            "Dec 29 9999 20:00:02",
+            "Dec 31 9999 23:59:59",
+            "Jan 1 00:00:00¦-9999-01-01T00:00:00-26:00",
+        ],
+    );
 }
 
 #[test]
