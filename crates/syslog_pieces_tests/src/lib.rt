@@ -3,18 +3,4 @@
 #![tactic(auto)]
 
 #[cfg(test)]
-mod as_str;
-#[cfg(test)]
-mod pri;
-#[cfg(test)]
-mod procid;
-#[cfg(test)]
-mod rows;
-#[cfg(test)]
-mod structured_data;
-#[cfg(test)]
-mod text;
-#[cfg(test)]
-mod timestamp;
-#[cfg(test)]
-mod tries;
+mod tests;

@@ -1,8 +1,8 @@
 //! Refused memory in copies of elements: see `refusals`.
 use super::is_element;
 use super::refusals::{ELEMENT, LINE, element_of};
-use crate::rows::check;
-use crate::tries::Tries;
+use crate::tests::rows::check;
+use crate::tests::tries::Tries;
 use std::alloc::{AllocError, Global};
 use std::process::Abort;
 use syslog_pieces::structured_data::StructuredElement;

@@ -1,6 +1,6 @@
 //! Worked elements that are equal, and that differ.
 use super::element_of;
-use crate::rows::{answer_of, check, text_of};
+use crate::tests::rows::{answer_of, check, text_of};
 use std::alloc::{AllocError, Global};
 use std::process::Abort;
 

@@ -4,8 +4,8 @@
 //! refused, those named `asks_..` make none, and those named `sees_no_refusal..` fail at each that is refused.
 use super::rfc3164_list::{OptionalList, check_read_optional};
 use super::{List, Read, check_read, check_read_list, is_item};
-use crate::rows::{check, text_of};
-use crate::tries::Tries;
+use crate::tests::rows::{check, text_of};
+use crate::tests::tries::Tries;
 use std::alloc::{AllocError, Global};
 use std::process::Abort;
 use syslog_pieces::structured_data::rfc3164_list::{DashRule, optional_list};

@@ -1,4 +1,4 @@
-use crate::rows::{answer_of, check, left_of, text_of};
+use crate::tests::rows::{answer_of, check, left_of, text_of};
 use std::alloc::Global;
 use std::process::Abort;
 use std::str::Split;
@@ -68,6 +68,10 @@ fn reads_a_month_date(rt: HostRuntime) {
         "Dec 28 16:49:07¦12 28 16 49 7¦",
         "Dec 28 16:49:07.5¦12 28 16 49 7¦.5",
         "Dec 28 16:49:07Z¦12 28 16 49 7¦Z",
+        "Dec 28 16:49:07\u{fc}¦12 28 16 49 7¦\u{fc}",
+        "Dec 28 16:49:070¦12 28 16 49 70¦",
+        "Dec 28 16:49:0¦12 28 16 49 0¦",
+        "Sep  5 07:08:09-¦9 5 7 8 9¦-",
         "Dec 28 2008 16:49:07 ¦2008 12 28 16 49 7¦ ",
         "Aug 4 2020 16:49:07: h¦2020 8 4 16 49 7¦ h",
         // no other letters than those of a month

@@ -1,6 +1,6 @@
 //! Worked lists of RFC 3164, under both rules of the dash.
 use super::{are_elements, elements};
-use crate::rows::{answer_of, check, left_of, repeated, text_of};
+use crate::tests::rows::{answer_of, check, left_of, repeated, text_of};
 use std::alloc::{AllocError, Global};
 use std::process::Abort;
 use syslog_pieces::structured_data::StructuredElement;

@@ -1,5 +1,5 @@
 use super::{has_stamp, is_same};
-use crate::rows::{answer_of, check, left_of, text_of};
+use crate::tests::rows::{answer_of, check, left_of, text_of};
 use jiff::tz::{Offset, TimeZone};
 use std::alloc::Global;
 use std::process::Abort;

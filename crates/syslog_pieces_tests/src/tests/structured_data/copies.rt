@@ -1,6 +1,6 @@
 //! Copies keep the order of the parameters.
 use super::{element_of, is_element, prints_as};
-use crate::rows::{answer_of, check, text_of};
+use crate::tests::rows::{answer_of, check, text_of};
 use std::alloc::Global;
 use std::process::Abort;
 use syslog_pieces::structured_data::StructuredElement;

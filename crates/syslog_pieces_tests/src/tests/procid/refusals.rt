@@ -1,7 +1,7 @@
 //! Refused memory in copies of process ids. The form of these tests is said in `structured_data::refusals`.
 use super::{has_equal_copy, is_name, reads_as_process};
-use crate::rows::check;
-use crate::tries::Tries;
+use crate::tests::rows::check;
+use crate::tests::tries::Tries;
 use std::alloc::{AllocError, Global};
 use std::process::Abort;
 use syslog_pieces::procid::ProcId;
