@@ -25,7 +25,7 @@ pub use fields::{host_field, tag_field};
 pub(crate) use looks::begins_with_letter;
 use looks::{begins_visibly, begins_with, begins_with_digit, begins_with_gap, ends_in_colon};
 pub(crate) use numerals::few_digits;
-use numerals::{number_of_digits, short_digits};
+use numerals::{number_of_digits, small_digits};
 use scan::{ascii_run, is_cut, is_in};
 
 /// A class of characters.
@@ -319,7 +319,7 @@ fn any_number(text: &str) -> Option<(u32, &str)>
     if !begins_with_digit(text.as_bytes()) {
         return None;
     }
-    match short_number(text) {
+    match small_number(text) {
         Some(found) => Some(found),
         None => long_number(text),
     }
@@ -327,10 +327,10 @@ fn any_number(text: &str) -> Option<(u32, &str)>
 
 // The same of one to three digits, which most numbers have: they need no scan.
 #[inline(always)]
-fn short_number(text: &str) -> Option<(u32, &str)>
+fn small_number(text: &str) -> Option<(u32, &str)>
     ensures { IfSome result (λ x. Front (spec.number 4294967295) (chars text.now) (shown x.1) x.0) }
 {
-    let (value, behind) = short_digits(text.as_bytes())?;
+    let (value, behind) = small_digits(text.as_bytes())?;
     let (_, rest) = text.split_at(text.len() - behind.len());
     Some((value, rest))
 }

@@ -4,7 +4,7 @@ use Rattle.syslog_pieces.proofs.Names.{refl, sym, ap, ◌∙◌, arith, is_ascii
 use Rattle.syslog_pieces.proofs.Names.{IsCharBoundary, IsUtf8-drop, Text, Each, Front, NoFront, number, run_same}
 use Rattle.std.proofs.Common.{◌/◌, ◌%◌}
 use Rattle.jiff_fmt.specs.Text.{pad2}
-use Rattle.syslog_pieces.specs.Bodies.Looks.{IsShortNumber}
+use Rattle.syslog_pieces.specs.Bodies.Looks.{IsSmallNumber}
 use Rattle.syslog_pieces.specs.Timestamp.Printed.{pad3}
 use Rattle.syslog_pieces.proofs.PieceLemmas.Class.{rest_same}
 use Rattle.syslog_pieces.proofs.TextLemmas.Chars.{digits_ascii}
@@ -18,7 +18,7 @@ HasDigits bs n rest =
     (ds : List ℕ) × (0 < length ds) × Each is_ascii_digit ds × (n ≡ digits_value 10 ds) × (n < 1_000)
     × (bs ≡ ds ++ rest)
 
-has_digits : (bs : List ℕ) (n : ℕ) (rest : List ℕ) → IsShortNumber bs n rest → HasDigits bs n rest
+has_digits : (bs : List ℕ) (n : ℕ) (rest : List ℕ) → IsSmallNumber bs n rest → HasDigits bs n rest
 has_digits bs n rest (_, inl (h, e)) =
     let a = digit_is n h in ((48 + n) ∷ [], omega arith, (a.0, tt), rw a.2 (omega arith), omega arith, e)
 has_digits bs n rest (_, inr (inl (h, e))) =
@@ -29,23 +29,23 @@ has_digits bs n rest (_, inr (inr (h, e))) =
     let c = digit_is (n % 10) (omega arith) in
     (pad3 n, omega arith, (a.0, (b.0, (c.0, tt))), rw (a.2, b.2, c.2) (omega arith), h, e)
 
-module _ (bs : List ℕ) (n : ℕ) (rest : List ℕ) (u : IsUtf8 bs) (b : IsShortNumber bs n rest) where
+module _ (bs : List ℕ) (n : ℕ) (rest : List ℕ) (u : IsUtf8 bs) (b : IsSmallNumber bs n rest) where
   its : HasDigits bs n rest
   its = has_digits bs n rest b
 
   its_ascii : IsAscii its.0
   its_ascii = digits_ascii its.0 its.2
 
-  pub short_cut : IsCharBoundary bs (length bs - length rest)
-  short_cut = behind_cut its.0 bs rest its_ascii u its.5
+  pub small_cut : IsCharBoundary bs (length bs - length rest)
+  small_cut = behind_cut its.0 bs rest its_ascii u its.5
 
   whole : IsUtf8 rest
   whole = rw (behind_is its.0 bs rest its_ascii u its.5 _ refl) at
-      (IsUtf8-drop bs (length bs - length rest) u short_cut)
+      (IsUtf8-drop bs (length bs - length rest) u small_cut)
 
-  pub short_read : (ys : List ℕ) → ys ≡ drop (length bs - length rest) bs
+  pub small_read : (ys : List ℕ) → ys ≡ drop (length bs - length rest) bs
       → Front (number 4294967295) (chars bs) (chars ys) n
-  short_read ys f = rw (behind_is its.0 bs rest its_ascii u its.5 ys f) (record {
+  small_read ys f = rw (behind_is its.0 bs rest its_ascii u its.5 ys f) (record {
     piece = its.0;
     whole = behind_chars its.0 bs rest its_ascii u its.5;
     is = (its.1, its.2, ends_digits rest whole b.0, its.3, let small = its.4 in omega arith);

@@ -22,8 +22,8 @@ abbrev pub EndsDigits : List ℕ → Type 0
 EndsDigits bytes = 0 < length bytes → is_ascii_digit (slice_index bytes 0) ≡ false
 
 -- a number of one to three digits before none, and the rest
-abbrev pub IsShortNumber : List ℕ → ℕ → List ℕ → Type 0
-IsShortNumber bytes n rest =
+abbrev pub IsSmallNumber : List ℕ → ℕ → List ℕ → Type 0
+IsSmallNumber bytes n rest =
     EndsDigits rest
     × (((n < 10) × (bytes ≡ (48 + n) ∷ rest))
     ⊎ (((n < 100) × (bytes ≡ pad2 n ++ rest)) ⊎ ((n < 1_000) × (bytes ≡ pad3 n ++ rest))))

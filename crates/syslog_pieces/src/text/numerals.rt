@@ -3,7 +3,7 @@ ghost use Rattle.std.specs.Prelude.{◌≡◌, ◌+◌, ◌<◌, ◌≤◌, ◌^
 ghost use Rattle.std.specs.Char.{is_ascii_digit};
 ghost use Rattle.std.specs.Str.{chars};
 ghost use Rattle.std.specs.Str.Parse.{digits_value};
-ghost use Rattle.syslog_pieces.specs.Bodies.Looks.{IsShortNumber};
+ghost use Rattle.syslog_pieces.specs.Bodies.Looks.{IsSmallNumber};
 ghost use Rattle.syslog_pieces.specs.Pieces.Class.{Each};
 
 use crate::text::lanes::{LANES, zero_run};
@@ -92,8 +92,8 @@ fn zeros_ahead(digits: &[u8]) -> usize
 
 /// The number of one to three digits at the front, before none, and the bytes behind it.
 #[inline(always)]
-pub(crate) fn short_digits(bytes: &[u8]) -> Option<(u32, &[u8])>
-    ensures { IfSome result (λ read. IsShortNumber bytes.now read.0 read.1.now) }
+pub(crate) fn small_digits(bytes: &[u8]) -> Option<(u32, &[u8])>
+    ensures { IfSome result (λ read. IsSmallNumber bytes.now read.0 read.1.now) }
 {
     match bytes {
         [a @ b'0'..=b'9', rest @ ..] if !begins_with_digit(rest) => Some((

@@ -1,9 +1,0 @@
-use Rattle.syslog_pieces.proofs.TextLemmas.Numbers.{short_cut, short_read}
-use Rattle.syslog_pieces.proofs.text.short_number.Goals as goal
-
-pub split_at-requires : goal.split_at-requires
-split_at-requires c = short_cut _ _ _ c.utf8.text (rw c.as_bytes.ensures.value at c.in_ok-value.ensures)
-
-pub returns : goal.returns
-returns c =
-    short_read _ _ _ c.utf8.text (rw c.as_bytes.ensures.value at c.in_ok-value.ensures) _ c.split_at.ensures.back
