@@ -237,7 +237,7 @@ fn tasks(rt: HostRuntime) {
     }
 }
 
-const USAGE: &str = "usage: syslog_json [--] YEAR, or --help, or --version\n";
+const USAGE_LINE: &str = "usage: syslog_json [--] YEAR, or --help, or --version\n";
 
 /// A row has the write that fails, the status, what goes out, and what is said of the fault.
 #[test]
@@ -275,5 +275,5 @@ fn says_its_version_and_how_it_is_called(rt: HostRuntime) {
         refuse(USAGE, &mut errors) == 2,
         "status of a wrong call",
     );
-    check(&rt, errors.written() == USAGE.as_bytes(), USAGE);
+    check(&rt, errors.written() == USAGE_LINE.as_bytes(), USAGE_LINE);
 }
