@@ -6,7 +6,6 @@ use Rattle.std.proofs.Common.{◌/◌, ◌%◌}
 use Rattle.jiff_fmt.specs.Text.{pad2}
 use Rattle.syslog_pieces.specs.Bodies.Looks.{IsSmallNumber}
 use Rattle.syslog_pieces.specs.Timestamp.Printed.{pad3}
-use Rattle.syslog_pieces.proofs.PieceLemmas.Class.{rest_same}
 use Rattle.syslog_pieces.proofs.TextLemmas.Chars.{digits_ascii}
 use Rattle.syslog_pieces.proofs.TextLemmas.Decimals.{digit_is}
 use Rattle.syslog_pieces.proofs.TextLemmas.Looks.{behind_cut, behind_is, behind_chars, ends_digits}

@@ -2,11 +2,10 @@
 use Rattle.std.proofs.Common.{◌≡◌, inl, inr, ℕ, ◌≤◌, ◌<◌, length, get_or, true}
 use Rattle.std.proofs.Common.{List, [], ◌∷◌, ◌++◌, Option, Some, None, refl, sym, ap, subst, ◌∙◌, arith}
 use Rattle.std.proofs.lemmas.Bool.Decides.{nat_tests}
-use Rattle.std.proofs.lemmas.List.{length-append}
 use Rattle.std.proofs.lemmas.Str.{chars-nil}
-use Rattle.std.specs.Char.{is_ascii_digit, to_ascii_lowercase}
+use Rattle.std.specs.Char.{is_ascii_digit}
 use Rattle.std.specs.Str.{chars}
-use Rattle.syslog_pieces.specs.Bodies.MonthReading.{IsNamed, small_month, day_row, year_row}
+use Rattle.syslog_pieces.specs.Bodies.MonthReading.{day_row, year_row}
 use Rattle.syslog_pieces.specs.Pieces.Class.{Text, Class, Values, Front, NoFront, Row}
 use Rattle.syslog_pieces.specs.Pieces.Class.{IsDeterministic, some_run}
 use Rattle.syslog_pieces.specs.Pri.{priority}
@@ -27,7 +26,7 @@ use Rattle.syslog_pieces.proofs.PieceLemmas.Steps.{rows_step}
 use Rattle.syslog_pieces.proofs.PriLemmas.{priority_det}
 use Rattle.syslog_pieces.proofs.TextLemmas.Chars.{ascii_front, one_ascii}
 use Rattle.syslog_pieces.proofs.TextLemmas.Words.{number_det}
-use Rattle.syslog_pieces.proofs.TimestampLemmas.Months.{IsLetter, month_det, month_begins, month_letters, month_named}
+use Rattle.syslog_pieces.proofs.TimestampLemmas.Months.{IsLetter, month_det, month_begins}
 
 pub clock_det : AllDeterministic clock_row
 clock_det =

@@ -1,4 +1,4 @@
-use Rattle.syslog_pieces.proofs.Names.{◌<◌, ◌^◌, arith, rules}
+use Rattle.syslog_pieces.proofs.Names.{arith, rules}
 use Rattle.syslog_pieces.proofs.TextLemmas.Words.{number_stuck}
 use Rattle.syslog_pieces.proofs.text.long_number.Goals as goal
 
