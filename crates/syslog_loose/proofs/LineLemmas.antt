@@ -1,7 +1,6 @@
 -- Lines of RFC 5424 whose elements print as they stand, put together from their pieces.
 use Rattle.std.proofs.Common.{◌≡◌, ◌≢◌, ℕ, ◌<◌, List, [], ◌∷◌, ◌++◌, Bool, true, false, Option, None, Some}
 use Rattle.std.proofs.Common.{Result, Ok, Err, refl, sym, ap, ap₂, subst, ◌∙◌, append_assoc}
-use Rattle.std.proofs.lemmas.List.{append_cancel_right}
 use Rattle.std.proofs.lemmas.Str.{encodes-append, encodes-chars}
 use Rattle.std.specs.Char.{encode_utf8}
 use Rattle.std.specs.Fmt.{decimal}
@@ -70,34 +69,21 @@ module _ {text : Text} (line : Line) (k : IsLine text line) (process : Option (P
     prints = sym (append_assoc (60 ∷ decimal (printed_number line.header.front.priority)) (62 ∷ []) _);
   }
 
--- names before more, and what stands behind that
-names_more : (h : Header) (process : Option (ProcId Text)) (a b : Text)
-    → names_before h process (a ++ b) ≡ names_before h process a ++ b
-names_more h process a b = simp append_assoc refl
+-- what stands before the message of a text that ends in it
+pub behind_blanks : {gap end msg : Text} (left : Text) → gap ≡ left ++ end → FrontOf (run is_blank) end msg tt
+    → (front : Text) × (gap ≡ front ++ msg)
+behind_blanks {msg = msg} left e f =
+    (left ++ f.piece, e ∙ ap (λ (x : Text). left ++ x) f.whole ∙ sym (append_assoc left f.piece msg))
 
--- a line whose names are copied, up to what is left out behind the elements
-module _ {text : Text} (line : Line) (k : IsLine text line) (h : PrintsNames line.header (shown line.behind))
-    (gap : shown line.behind ≡ 32 ∷ shown line.list) where
-  abbrev pub names : Text
-  names = names_before line.header h.process (32 ∷ elements_text k.elements)
-
-  pub names_there : shown line.header.tail ≡ names ++ shown line.gap
-  names_there = h.names
-      ∙ ap (λ (x : Text). names_before line.header h.process x) (gap ∙ ap (λ (x : Text). 32 ∷ x) k.prints)
-      ∙ names_more line.header h.process (32 ∷ elements_text k.elements) (shown line.gap)
-
-  pub copied_prints : (copied : Text) → shown line.header.tail ≡ copied ++ shown line.gap
-      → PrintsLine text (front_text line.header.front (copied ++ (32 ∷ shown line.msg)))
-  copied_prints copied cut =
-      let p = line_prints line k h.process h.named in
-      let same = append_cancel_right copied names (shown line.gap) (sym cut ∙ names_there) in
-      record {
-        values = p.values;
-        is = p.is;
-        prints = p.prints ∙ ap (λ (x : Text). front_text line.header.front x)
-            (names_more line.header h.process (32 ∷ elements_text k.elements) (32 ∷ shown line.msg)
-            ∙ ap (λ (x : Text). x ++ (32 ∷ shown line.msg)) (sym same));
-      }
+-- a line of which all behind the timestamp stands as it prints
+pub copied_prints : {text : Text} (line : Line) (k : IsLine text line) (h : PrintsNames line.header (shown line.behind))
+    → shown line.behind ≡ 32 ∷ shown line.list → shown line.gap ≡ 32 ∷ shown line.msg
+    → PrintsLine text (front_text line.header.front (shown line.header.tail))
+copied_prints line k h behind gap =
+    let list = k.prints ∙ ap (λ (x : Text). elements_text k.elements ++ x) gap in
+    let tail = h.names
+        ∙ ap (λ (x : Text). names_before line.header h.process x) (behind ∙ ap (λ (x : Text). 32 ∷ x) list) in
+    rw tail (line_prints line k h.process h.named)
 
 -- ---- by bytes
 
@@ -112,14 +98,9 @@ line_bytes front bytes text e =
     (32 ∷ encode_utf8_all (timestamp_text (stamp_seen front.timestamp))) bytes
     ∙ rw e (sym (simp (encodes-append, encodes-decimal)))
 
-copied_part : (names msg : List ℕ) → IsUtf8 names → IsUtf8 msg
-    → names ++ (32 ∷ msg) ≡ encode_utf8_all (chars names ++ (32 ∷ chars msg))
-unfolding encode_utf8
-copied_part names msg u v = sym (simp (encodes-append, encodes-chars))
-
-pub copied_bytes : (front : Front) (names msg : List ℕ) → IsUtf8 names → IsUtf8 msg
-    → front_bytes front ++ (names ++ (32 ∷ msg)) ≡ encode_utf8_all (front_text front (chars names ++ (32 ∷ chars msg)))
-copied_bytes front names msg u v = line_bytes front _ _ (copied_part names msg u v)
+pub copied_bytes : (front : Front) (tail : List ℕ) → IsUtf8 tail
+    → front_bytes front ++ tail ≡ encode_utf8_all (front_text front (chars tail))
+copied_bytes front tail u = line_bytes front tail (chars tail) (sym (simp encodes-chars))
 
 joined_names : (h a i n l m : List ℕ)
     → ((32 ∷ h) ++ ((32 ∷ a) ++ ((32 ∷ i) ++ (32 ∷ n)))) ++ ((32 ∷ l) ++ (32 ∷ m))

@@ -36,7 +36,9 @@ pub record IsLine (text : Text) (line : Line) : Type 0 where
   pub list : FrontOf forgiving (shown line.list) end elements
   pub prints : shown line.list ≡ elements_text elements ++ shown line.gap
   pub msg : FrontOf (run is_blank) end (shown line.msg) tt
-  pub utf8 : IsUtf8 line.msg.now
+  pub cut : (front : Text) × (shown line.gap ≡ front ++ shown line.msg)
+  pub tail_utf8 : IsUtf8 line.header.tail.now
+  pub msg_utf8 : IsUtf8 line.msg.now
 
 -- the text is a row of the sixteen pieces, whose message prints as this text
 pub record PrintsLine (text line : Text) : Type 0 where

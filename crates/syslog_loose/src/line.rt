@@ -1,10 +1,10 @@
 //! Lines of RFC 5424, written as their messages print.
 //!
 //! The priority, the version and the timestamp are printed. Behind them most lines that a program wrote are already in
-//! the form that a message prints: one space in each gap, strict elements alone. The reader of the header tells what
-//! stands so, and that is copied: no message is made of such a line, and no element collected. Where only a gap or the
-//! process id prints otherwise, the names are printed one by one. Of a line whose elements print otherwise the message
-//! is made and printed.
+//! the form that a message prints: one space in each gap, strict elements alone. All of that is copied: no message is
+//! made of such a line, and no element collected. Where only a gap or the process id prints otherwise, or a broken
+//! element is left out, the names are printed one by one. Of a line whose elements print otherwise the message is made
+//! and printed.
 ghost use Rattle.std.specs.Prelude.{◌≡◌, ◌≢◌, ◌++◌, ◌∷◌, IfOk, IsOk, MatchBool, OnOk, Some, string_bytes};
 ghost use Rattle.std.specs.Fmt.{WritesOnOk};
 ghost use Rattle.std.specs.Str.{chars};
@@ -52,21 +52,19 @@ fn write_front<W: fmt::Write>(f: &mut fmt::Formatter<W>, front: Front) -> fmt::R
     write_clock(f, front.timestamp)
 }
 
-// A line whose names and elements are copied.
+// A line of which all behind the timestamp is copied.
 #[derive(Clone, Copy)]
 struct CopiedLine<'a> {
     front: Front,
-    names: &'a str,
-    msg: &'a str,
+    tail: &'a str,
 }
 
 impl fmt::Display for CopiedLine<'_> {
-    ghost output = { λ line. Some (spec.front_bytes line.front ++ (line.names.now ++ (32 ∷ line.msg.now))) };
+    ghost output = { λ line. Some (spec.front_bytes line.front ++ line.tail.now) };
 
     fn fmt<W: fmt::Write>(&self, f: &mut fmt::Formatter<W>) -> fmt::Result {
         write_front(f, self.front)?;
-        f.write_str(self.names)?;
-        write_spaced(f, self.msg)
+        f.write_str(self.tail)
     }
 }
 
@@ -134,19 +132,21 @@ fn write_named(text: &mut String, input: &str, line: &Line<'_>) -> Result<(), Al
     Ok(())
 }
 
-// Writes the line, its names copied where they stand as they print.
+// Writes the line, all behind its timestamp copied where it stands as it prints.
 #[inline(always)]
 fn write_line(text: &mut String, input: &str, line: &Line<'_>) -> Result<(), AllocError>
     requires { spec.IsLine (chars input.now) line.now }
     ensures { OnOk result (spec.IsPrintedLine (chars input.now) (string_bytes text.new)) }
 {
-    if !line.header.stands || !is_one_space(line.behind, line.list) {
+    if !line.header.stands
+        || !is_one_space(line.behind, line.list)
+        || !is_one_space(line.gap, line.msg)
+    {
         return write_named(text, input, line);
     }
     let copied = CopiedLine {
         front: line.header.front,
-        names: before(line.header.tail, line.gap),
-        msg: line.msg,
+        tail: line.header.tail,
     };
     make_room(text, input.len())?;
     write!(text, "{copied}")?;

@@ -255,12 +255,14 @@ joined q k es g = k.prints ∙ ap (λ (x : Text). element_text k.value ++ x) g
     ∙ sym (append_assoc (element_text k.value) (joined_elements es) q)
 
 pub list_first : {t s : Text} → Verbatim element element_text t s → VerbatimItems t s
-list_first {t = t} {s = s} k q gap items f e =
+list_first {t = t} {s = s} k q gap items f e left cut =
     let m = many_cons item (item_of k) f in
     record {
       elements = k.value ∷ strict items;
       is = record { piece = m.piece; whole = m.whole; is = inr (Some k.value ∷ items, omega arith, m.is, refl) };
       prints = joined gap k (strict items) e;
+      left_out = left;
+      cut = cut;
     }
 
 pub list_more : {t s s' : Text} → VerbatimItems t s → Verbatim element element_text s s' → VerbatimItems t s'
@@ -275,16 +277,22 @@ no_bracket s n p q v e h = let b = item_begins p q v h in n (91 ∷ []) b.0 tt (
 pub broken_end : (t s q : Text) → VerbatimItems t s → NoFront element s → Front bracketed s q (tt, (tt, (tt, tt)))
     → NoFront (exactly (91 ∷ [])) q → ListPrints t s q
 broken_end t s q on n b m =
-    on q s (None ∷ []) (many_cons item (bracketed_item s q n b) (many_here item q (no_bracket q m))) refl
+    on q s (None ∷ []) (many_cons item (bracketed_item s q n b) (many_here item q (no_bracket q m))) refl b.piece b.whole
 
 -- an absent list, and elements with no further one behind them
 pub dash_prints : (t s : Text) → Front (exactly (45 ∷ [])) t s tt → ListPrints t s s
 dash_prints t s f =
     let e = begins 45 t s f in
-    record { elements = []; is = record { piece = 45 ∷ []; whole = e; is = inl (refl, refl) }; prints = e }
+    record {
+      elements = [];
+      is = record { piece = 45 ∷ []; whole = e; is = inl (refl, refl) };
+      prints = e;
+      left_out = [];
+      cut = refl;
+    }
 
 pub list_prints : (t s : Text) → VerbatimItems t s → NoFront (exactly (91 ∷ [])) s → ListPrints t s s
-list_prints t s on n = on s s [] (many_here item s (no_bracket s n)) refl
+list_prints t s on n = on s s [] (many_here item s (no_bracket s n)) refl [] refl
 
 -- what the reader of a list that prints as it stands rests on
 pub ruleset printed_lists = (dash_prints, list_prints, broken_end)

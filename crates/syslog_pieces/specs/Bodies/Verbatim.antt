@@ -19,13 +19,15 @@ pub record Verbatim (C : Class) (print : C.Value → Text) (text follows : Text)
 abbrev pub bare_param_text : Text × Text → Text
 bare_param_text p = p.0 ++ (61 ∷ 34 ∷ (p.1 ++ (34 ∷ [])))
 
--- the text begins with a list, and with the printed text of that list and then a gap
+-- the text begins with a list, and with the printed text of that list and then a gap, in which what is left out stands
 pub record ListPrints (text gap follows : Text) : Type 0 where
   pub elements : List ElementValue
   pub is : Front forgiving text follows elements
   pub prints : text ≡ elements_text elements ++ gap
+  pub left_out : Text
+  pub cut : gap ≡ left_out ++ follows
 
 -- strict elements that print as they are written have been read, up to s: what prints of a list's further items follows
 abbrev pub VerbatimItems : Text → Text → Type 0
 VerbatimItems t s = (q gap : Text) (items : List (Option ElementValue)) → Front (many item) s q items
-    → s ≡ joined_elements (strict items) ++ gap → ListPrints t gap q
+    → s ≡ joined_elements (strict items) ++ gap → (left : Text) → gap ≡ left ++ q → ListPrints t gap q

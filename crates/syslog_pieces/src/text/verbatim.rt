@@ -3,15 +3,14 @@
 //! Each test may always answer no: then the piece is printed instead.
 ghost use Rattle.std.specs.Prelude.{◌≡◌, ◌∷◌, ◌++◌, IsTrue};
 ghost use Rattle.std.specs.Str.{chars};
-ghost use Rattle.syslog_pieces.specs.Pieces.Class.{Text, Each};
-ghost use Rattle.syslog_pieces.specs.Text as spec;
+ghost use Rattle.syslog_pieces.specs.Pieces.Class.{Text};
 
 use crate::text::looks::begins_with;
 
-/// Whether one space is all that stands between a text and a rest of it behind blanks: so it prints as it stands.
+/// Whether one space is all that stands between a text and a rest of it: so that gap prints as it stands.
 #[inline(always)]
 pub fn is_one_space(text: &str, rest: &str) -> bool
-    requires { (gap : Text) × Each spec.is_blank gap × (chars text.now ≡ gap ++ chars rest.now) }
+    requires { (front : Text) × (chars text.now ≡ front ++ chars rest.now) }
     ensures { IsTrue result → chars text.now ≡ 32 ∷ chars rest.now }
 {
     begins_with(text.as_bytes(), b' ') && text.len() - 1 == rest.len()

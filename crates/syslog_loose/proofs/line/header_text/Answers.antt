@@ -3,7 +3,7 @@ use Rattle.syslog_pieces.specs.Pieces.View.{seen}
 use Rattle.syslog_pieces.proofs.PieceLemmas.Class.{rows_none_here}
 use Rattle.syslog_loose.specs.Rfc5424.{header_row, data_row}
 use Rattle.syslog_loose.proofs.HeaderLemmas.{word_some}
-use Rattle.syslog_loose.proofs.LineLemmas.{pieces_row, prints_read}
+use Rattle.syslog_loose.proofs.LineLemmas.{behind_blanks, pieces_row, prints_read}
 use Rattle.syslog_loose.proofs.Rfc5424Lemmas.{is_read, not_read}
 use Rattle.syslog_loose.proofs.line.header_text.Goals as goal
 
@@ -21,7 +21,9 @@ write_line-requires g c = record {
   list = c.in-Some-printed_list.ensures.is;
   prints = c.in-Some-printed_list.ensures.prints;
   msg = c.blanks.ensures;
-  utf8 = c.blanks.utf8;
+  cut = behind_blanks _ c.in-Some-printed_list.ensures.cut c.blanks.ensures;
+  tail_utf8 = c.in-Some.ensures.utf8.0;
+  msg_utf8 = c.blanks.utf8;
 }
 
 pub returns-in_err-write_line-clause-memory : goal.returns-in_err-write_line-clause-memory

@@ -25,7 +25,7 @@ returns c =
       line_prints c.args.line.now k process c.process_of-process.ensures,
       c.in_ok-print_named.ensures
           ∙ named_encoded h.front (name_text (seen h.hostname)) (name_text (seen h.appname)) (process_text process)
-          (name_text (seen h.msgid)) c.before-2.result.now c.args.line.now.msg.now c.before-2.utf8 c.requires.utf8
+          (name_text (seen h.msgid)) c.before-2.result.now c.args.line.now.msg.now c.before-2.utf8 c.requires.msg_utf8
           ∙ ap (λ (x : Text). encode_utf8_all (front_text h.front
           (names_before h process (32 ∷ (x ++ (32 ∷ shown c.args.line.now.msg)))))) list,
     )
