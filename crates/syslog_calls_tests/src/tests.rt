@@ -5,6 +5,7 @@ mod calls;
 mod checks;
 mod dash_change;
 mod old_dash;
+mod pump;
 mod reading;
 mod refusals;
 mod rounds;

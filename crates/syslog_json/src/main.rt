@@ -21,9 +21,6 @@ use syslog_lines::Watched;
 use syslog_lines::report::{refuse, report, say, say_version};
 use syslog_loose::VERSION;
 
-#[cfg(test)]
-mod tests;
-
 // Writes the lines of standard input as JSON, and then answers the exit status.
 fn answer_input(rt: &HostRuntime, year: i32) -> u8 {
     let mut reader = Watched::new(rt.stdin());
