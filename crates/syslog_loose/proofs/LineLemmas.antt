@@ -1,10 +1,10 @@
 -- Lines of RFC 5424 whose elements print as they stand, put together from their pieces.
-use Rattle.std.proofs.Common.{◌≡◌, ◌≢◌, ℕ, ◌<◌, List, [], ◌∷◌, ◌++◌, Bool, true, false, Option, None, Some}
-use Rattle.std.proofs.Common.{Result, Ok, Err, refl, sym, ap, ap₂, subst, ◌∙◌, append_assoc}
+use Rattle.std.proofs.Common.{◌≡◌, ◌≢◌, ℕ, List, [], ◌∷◌, ◌++◌, Bool, true, false, Option}
+use Rattle.std.proofs.Common.{Result, Ok, Err, refl, sym, ap, ◌∙◌, append_assoc}
 use Rattle.std.proofs.lemmas.Str.{encodes-append, encodes-chars}
 use Rattle.std.specs.Char.{encode_utf8}
 use Rattle.std.specs.Fmt.{decimal}
-use Rattle.std.specs.Prelude.{IfOk, MatchBool, MatchOption}
+use Rattle.std.specs.Prelude.{IfOk, MatchBool}
 use Rattle.std.specs.Str.{chars, IsUtf8, encode_utf8_all}
 use Rattle.std.specs.declared.alloc.AllocError.{AllocError}
 use Rattle.syslog_pieces.specs.Pieces.Class.{Text, Front as FrontOf, Row, Values, run}
@@ -22,13 +22,12 @@ use Rattle.syslog_pieces.proofs.PieceLemmas.Rows.{row_of, ◌then◌}
 use Rattle.syslog_pieces.proofs.TextLemmas.Decimals.{encodes-decimal}
 use Rattle.syslog_loose.specs.Formats.{printed_number}
 use Rattle.syslog_loose.specs.Line.{IsLine, IsTold5424, PrintsAs5424, PrintsLine, PrintsMessage, front_bytes}
-use Rattle.syslog_loose.specs.Printed.{printed, printed_5424, timestamp_text}
+use Rattle.syslog_loose.specs.Printed.{printed_5424, timestamp_text}
 use Rattle.syslog_loose.specs.Reading.{AsksYear, IsUnreadable}
 use Rattle.syslog_loose.specs.Rfc5424.{header_row, data_row, rfc5424_row, message_of, IsNot5424}
 use Rattle.syslog_loose.specs.View5424.{NamesWord, PrintsNames, header_values, names_before}
 use Rattle.syslog_loose.specs.declared.rfc5424.Front.{Front}
 use Rattle.syslog_loose.specs.declared.line.Line.{Line}
-use Rattle.syslog_loose.specs.declared.rfc5424.Header.{Header}
 use Rattle.syslog_loose.specs.declared.variant.Variant.{Variant}
 use Rattle.syslog_loose.specs.declared.variant.Variant.TheVariants.{Either, RFC3164, RFC5424}
 use Rattle.syslog_loose.proofs.ReadingLemmas.{only_read, strictly}
@@ -82,7 +81,7 @@ pub copied_prints : {text : Text} (line : Line) (k : IsLine text line) (h : Prin
 copied_prints line k h behind gap =
     let list = k.prints ∙ ap (λ (x : Text). elements_text k.elements ++ x) gap in
     let tail = h.names
-        ∙ ap (λ (x : Text). names_before line.header h.process x) (behind ∙ ap (λ (x : Text). 32 ∷ x) list) in
+    ∙ ap (λ (x : Text). names_before line.header h.process x) (behind ∙ ap (λ (x : Text). 32 ∷ x) list) in
     rw tail (line_prints line k h.process h.named)
 
 -- ---- by bytes

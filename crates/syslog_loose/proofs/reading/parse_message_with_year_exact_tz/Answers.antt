@@ -1,7 +1,6 @@
-use Rattle.std.proofs.Common.{ℤ, Option, None, Ok, Err, refl}
+use Rattle.std.proofs.Common.{ℤ, Option, None, Ok, Err}
 use Rattle.std.specs.Str.{chars}
 use Rattle.syslog_pieces.specs.Pieces.View.{shown}
-use Rattle.syslog_pieces.specs.Timestamp.Zone.{dating_of}
 use Rattle.syslog_loose.specs.declared.fault.ParseFault.TheVariants.{Invalid, Memory}
 use Rattle.syslog_loose.proofs.ReadBackLemmas.{answered}
 use Rattle.syslog_loose.proofs.ReadingLemmas.{left_answer, refused}

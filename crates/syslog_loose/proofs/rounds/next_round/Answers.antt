@@ -1,4 +1,4 @@
-use Rattle.syslog_loose.proofs.Names.{None, refl, err_from_is_err_and, IsUtf8-string_bytes, Text, dating_of}
+use Rattle.syslog_loose.proofs.Names.{None, refl, err_from_is_err_and, IsUtf8-string_bytes, dating_of}
 use Rattle.syslog_loose.proofs.ReadingLemmas.{fault_in, no_ok}
 use Rattle.syslog_loose.proofs.SettlingLemmas.Settles.{copy_refused, round_copied}
 use Rattle.syslog_loose.proofs.StartLemmas.{IsStamped, asked_month, asks_none, date_answered, dated_invalid}

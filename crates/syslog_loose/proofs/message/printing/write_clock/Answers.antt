@@ -1,4 +1,4 @@
-use Rattle.std.proofs.Common.{refl, sym}
+use Rattle.std.proofs.Common.{sym}
 use Rattle.std.proofs.Output.{has_written_of_eq}
 use Rattle.syslog_pieces.specs.Timestamp.{clock_value}
 use Rattle.syslog_pieces.proofs.TimestampLemmas.Printing.{printed_stamp-bytes}
