@@ -1,5 +1,5 @@
 //! Lines through a filter, from a reader to a writer: what no clause says of them. (Streams that give or take little, or
-//! that fail, are tried with the programs, by tests/streams.)
+//! fail, are tried with the programs, by tests/streams.)
 ghost use Rattle.std.specs.Prelude.{⊤};
 
 use super::checks::check;
