@@ -277,7 +277,8 @@ no_bracket s n p q v e h = let b = item_begins p q v h in n (91 ∷ []) b.0 tt (
 pub broken_end : (t s q : Text) → VerbatimItems t s → NoFront element s → Front bracketed s q (tt, (tt, (tt, tt)))
     → NoFront (exactly (91 ∷ [])) q → ListPrints t s q
 broken_end t s q on n b m =
-    on q s (None ∷ []) (many_cons item (bracketed_item s q n b) (many_here item q (no_bracket q m))) refl b.piece b.whole
+    let items = many_cons item (bracketed_item s q n b) (many_here item q (no_bracket q m)) in
+    on q s (None ∷ []) items refl b.piece b.whole
 
 -- an absent list, and elements with no further one behind them
 pub dash_prints : (t s : Text) → Front (exactly (45 ∷ [])) t s tt → ListPrints t s s

@@ -7,7 +7,8 @@ pub returns : goal.returns
 returns c =
     let line = c.args.line.now in
     let k = c.requires in
-    let written : string_bytes c.write.new.self ≡ front_bytes line.header.front ++ line.header.tail.now = search rules in (
+    let written : string_bytes c.write.new.self
+    ≡ front_bytes line.header.front ++ line.header.tail.now = search rules in (
       _,
       copied_prints line k (k.stands c.if-not-line.false) (c.if-not-is_one_space.ensures refl)
           (c.if-not-is_one_space-2.ensures refl),
