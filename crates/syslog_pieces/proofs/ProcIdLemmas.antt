@@ -2,20 +2,20 @@
 pub mod ReadBack
 use Rattle.syslog_pieces.proofs.Names.{FitsSigned}
 use Rattle.std.proofs.Common.{negsuc}
-use Rattle.syslog_pieces.proofs.Names.{◌≡◌, ◌≢◌, ℕ, ℤ, pos, ◌<◌, ◌^◌, ◌⊎◌, inl, inr, w32, List, [], ◌∷◌, ◌++◌, length}
+use Rattle.syslog_pieces.proofs.Names.{◌≡◌, ◌≢◌, ℕ, ℤ, pos, ◌<◌, ◌^◌, ◌⊎◌, inl, inr, w32, List, [], ◌∷◌, length}
 use Rattle.syslog_pieces.proofs.Names.{get_or, Some, None, Result, Ok, Err, refl, sym, ap, ◌∙◌, rules, arith}
 use Rattle.syslog_pieces.proofs.Names.{is_ascii_digit, chars, IsUtf8, IsAscii, digits_value, ParsesSigned, IsNumeral}
 use Rattle.syslog_pieces.proofs.Names.{signed_digits_value, cases_Bool, cases_eq, cases_lt, ne_eqb}
-use Rattle.syslog_pieces.proofs.Names.{decimal-digits_value, chars-IsAscii, IsAscii-cons, IsBareWord, SplitsRun, Text}
+use Rattle.syslog_pieces.proofs.Names.{decimal-digits_value, chars-IsAscii, IsAscii-cons, IsBareWord, Text}
 use Rattle.syslog_pieces.proofs.Names.{Each, Front, NoFront, IsDeterministic, word, IsI32Text, process_word}
-use Rattle.syslog_pieces.proofs.Names.{process_text, ProcId, PID, Option, encode_utf8_all, is_not_whitespace, true}
+use Rattle.syslog_pieces.proofs.Names.{ProcId, PID, encode_utf8_all}
 use Rattle.syslog_pieces.proofs.Names.{IsAscii-nil}
-use Rattle.std.proofs.lemmas.Str.{char_from_byte, length-le-encodes}
+use Rattle.std.proofs.lemmas.Str.{length-le-encodes}
 use Rattle.std.specs.Str.Parse.{without_leading_sign}
 use Rattle.syslog_pieces.specs.Bodies.Looks.{LeadsBare}
 use Rattle.syslog_pieces.specs.ProcId.{IsDigits, WritesSigned, NamesProcess, procid_text}
 use Rattle.syslog_pieces.specs.declared.procid.ProcId.TheVariants.{Name}
-use Rattle.syslog_pieces.proofs.TextLemmas.Chars.{digits_ascii, ascii_ahead, ascii_chars, digit_chars}
+use Rattle.syslog_pieces.proofs.TextLemmas.Chars.{digits_ascii, ascii_ahead, ascii_chars}
 use Rattle.syslog_pieces.proofs.TextLemmas.Words.{own, word_det}
 
 -- ---- a text writes one number
