@@ -21,10 +21,6 @@ use Rattle.syslog_pieces.specs.Timestamp.Rfc3339.{HasStamp, HasRfc3339Stamp}
 abbrev pub IsStampText : List ℕ → OffsetTimestamp → Type 0
 IsStampText text s = HasStamp text s.instant.nanosecond s.offset.seconds
 
--- the text is one of no timestamp
-abbrev pub HasNoStamp : List ℕ → Type 0
-HasNoStamp text = (s : OffsetTimestamp) → IsStampText text s → ⊥
-
 -- this is the timestamp of the numbers that a text wrote
 abbrev pub IsStampOfRfc3339 : Rfc3339Fields → OffsetTimestamp → Type 0
 IsStampOfRfc3339 w s = HasRfc3339Stamp w s.instant.nanosecond s.offset.seconds

@@ -5,8 +5,7 @@
 ghost use Rattle.std.specs.Bool.{OnFalse};
 ghost use Rattle.std.specs.Cmp.{on_equiv, on_per, partial_equiv_from_equiv};
 ghost use Rattle.std.specs.Ordering.{on};
-ghost use Rattle.std.specs.Prelude.{◌≡◌, ◌↔◌, IfOk, IsTrue, Option, Some, string_bytes};
-ghost use Rattle.std.specs.Option.{option_map};
+ghost use Rattle.std.specs.Prelude.{◌≡◌, ◌↔◌, IfOk, IsTrue, Some, string_bytes};
 ghost use Rattle.std.specs.Str.{chars, encode_utf8_all};
 ghost use Rattle.syslog_pieces.specs.Bodies.Looks.{LeadsBare};
 ghost use Rattle.syslog_pieces.specs.Bodies.Verbatim.{IsBareWord};
@@ -14,12 +13,12 @@ ghost use Rattle.syslog_pieces.specs.ProcId as spec;
 ghost use Rattle.syslog_pieces.specs.declared.procid.ProcId.{ProcId};
 ghost use Rattle.syslog_pieces.specs.ProcId.Equal.{procid_eq};
 ghost use Rattle.syslog_pieces.specs.ProcId.EqualLaws.{procid_equivalence};
-ghost use Rattle.syslog_pieces.specs.Pieces.View.{shown, text_of, ClonesKeepText, Reads};
+ghost use Rattle.syslog_pieces.specs.Pieces.View.{shown, text_of, ClonesKeepText};
 
 use crate::as_str::{AsStr, is_same_text};
 use crate::text::canonical::is_canonical_word;
+use crate::text::few_digits;
 use crate::text::write_ascii::write_signed;
-use crate::text::{few_digits, first, word};
 use std::alloc::{AllocError, Global};
 use std::fmt;
 
@@ -115,19 +114,6 @@ fn any_process(text: &str) -> ProcId<&str>
     match text.parse::<i32>() {
         Ok(number) => ProcId::PID(number),
         Err(_) => ProcId::Name(text),
-    }
-}
-
-/// The process id at the front of a header's text, absent for `-`, and the text behind it.
-#[tactic(auto, using(crate::proofs::ProcIdLemmas::process_front, crate::proofs::ProcIdLemmas::absent_front))]
-#[inline(always)]
-pub fn process_word(text: &str) -> Option<(Option<ProcId<&str>>, &str)>
-    ensures { Reads spec.process_word (option_map (spec.procid_value (λ s. shown s))) (chars text.now) result }
-{
-    let (name, rest) = word(text)?;
-    match name {
-        Some(name) => Some((Some(ProcId::from(name)), rest)),
-        None => Some((None, rest)),
     }
 }
 

@@ -20,7 +20,6 @@ pub mod rfc3164_list;
 mod verbatim;
 
 use crate::as_str::AsStr;
-pub use element::read_element;
 pub use escapes::unescape;
 pub use list::forgiving_list;
 pub use params::ParamsIter;

@@ -253,16 +253,6 @@ fn blanks_end(text: &str) -> usize
     run_end(text, CharClass::Blank)
 }
 
-/// The text behind the nonempty run of the class at the front.
-#[tactic(auto, using(crate::proofs::TextLemmas::Runs::some_run_front, crate::proofs::TextLemmas::Chars::nonempty_is))]
-#[inline(always)]
-pub fn skip_some(text: &str, class: CharClass) -> Option<&str>
-    ensures { Skips (some_run (has class)) tt (chars text.now) result }
-{
-    let (front, rest) = split_run(text, class);
-    if front.is_empty() { None } else { Some(rest) }
-}
-
 /// The text behind the blanks at the front, of which there is at least one.
 #[inline(always)]
 pub fn some_blanks(text: &str) -> Option<&str>

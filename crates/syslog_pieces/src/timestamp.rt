@@ -6,18 +6,18 @@
 //! and a zero offset of either sign are the offset 0; an instant outside the range of
 //! `jiff::Timestamp` is refused; the printed form is the one that [`OffsetTimestamp`] describes.
 //!
-//! **For the floor above.** [`rfc3339`] answers exactly the `IsStampText` of the text's characters,
-//! of which a text has at most one. [`rfc3164_stamp`] answers exactly the class `rfc3164_stamp`, whose
-//! three kinds begin with `-`, a digit and a letter. [`shown_date`] answers the date without a year
-//! that a trimmed text shows. Display writes `printed_stamp`. Equality and order look at the instant alone.
+//! **For the floor above.** [`header_stamp`] reads exactly the class `header_stamp`, which begins with
+//! `-` or a digit, and `month_date` exactly the class `month_date`, which begins with a letter. Of a
+//! month date `zone::month_stamp` answers the timestamp. Display writes `printed_stamp`. Equality and
+//! order look at the instant alone.
 ghost use Rattle.std.proofs.Common.{rules};
 ghost use Rattle.std.specs.Cmp.{partial_order_from_own_ties};
 ghost use Rattle.std.specs.Cmp.Rules.{comparing};
 ghost use Rattle.std.specs.Ordering.{on, int_eq, int_cmp, as_partial_cmp};
-ghost use Rattle.std.specs.Prelude.{MatchOption, Some};
+ghost use Rattle.std.specs.Prelude.{Some};
 ghost use Rattle.std.specs.Str.{chars};
 ghost use Rattle.syslog_pieces.specs.Timestamp as spec;
-ghost use Rattle.syslog_pieces.specs.Timestamp.{IsStampText, HasNoStamp, stamp_seen};
+ghost use Rattle.syslog_pieces.specs.Timestamp.{stamp_seen};
 ghost use Rattle.syslog_pieces.specs.Pieces.View.{Reads};
 
 pub mod canonical;
@@ -27,18 +27,15 @@ mod display;
 mod fields;
 mod instant;
 pub mod month_date;
-pub mod rfc3164;
 mod rfc3339_text;
 pub mod zone;
 
-use crate::text::canonical::is_end;
 use crate::text::literal;
 pub use clock::ClockStamp;
 pub use instant::stamp_of;
 use jiff::Timestamp;
 use jiff::tz::Offset;
-pub use month_date::{MonthDate, shown_date};
-pub use rfc3164::rfc3164_stamp;
+pub use month_date::MonthDate;
 use std::cmp::Ordering;
 pub use zone::year_at;
 
@@ -56,22 +53,6 @@ pub struct OffsetTimestamp {
     pub instant: Timestamp,
     /// The offset from UTC, in seconds.
     pub offset: Offset,
-}
-
-/// The timestamp that the whole text writes, as RFC 3339 section 5.6 has it.
-///
-/// There is none where the text has another form, where the calendar lacks its date or the clock
-/// its time, and where its instant is out of range. It takes no memory.
-#[tactic(auto, using(crate::proofs::TimestampLemmas::Reading::answer_of_text))]
-pub fn rfc3339(text: &str) -> Option<OffsetTimestamp>
-    ensures { MatchOption result (HasNoStamp (chars text.now)) (IsStampText (chars text.now)) }
-{
-    let (written, rest) = rfc3339_text::read(text)?;
-    if is_end(rest) {
-        stamp_of(rfc3339_text::stamp(written))
-    } else {
-        None
-    }
 }
 
 /// The timestamp at the front of a header's text, absent for `-`, and the text behind it. A text

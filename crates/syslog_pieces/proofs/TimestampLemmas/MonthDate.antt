@@ -12,13 +12,13 @@ use Rattle.syslog_pieces.specs.Pri.{priority}
 use Rattle.syslog_pieces.specs.Text.{number, is_blank, colon}
 use Rattle.syslog_pieces.specs.Timestamp.MonthDate.{month, short_number, clock_row, yearless_row, yearless_of}
 use Rattle.syslog_pieces.specs.Timestamp.MonthDate.{yearless_date, dated_row, dated_of, dated_date, month_date}
-use Rattle.syslog_pieces.specs.Timestamp.Rfc3164.{BeginsWithDate, ShowsYearless, showing_row}
+use Rattle.syslog_pieces.specs.Timestamp.Rfc3164.{ShowsYearless, showing_row}
 use Rattle.syslog_pieces.specs.declared.timestamp.month_date.MonthDate.{MonthDate}
 use Rattle.syslog_pieces.proofs.PieceLemmas.Class.{AllDeterministic, ◌also◌, all_joined, run_same, rest_same}
 use Rattle.syslog_pieces.proofs.PieceLemmas.Class.{some_run_det, run_det, rest_det, exactly_det, optional_det}
 use Rattle.syslog_pieces.proofs.PieceLemmas.Class.{mapped_det, row_det, row_head, unique_division, mapped_front}
 use Rattle.syslog_pieces.proofs.PieceLemmas.Class.{no_mapped, rows_split, rows_join, rows_none_here}
-use Rattle.syslog_pieces.proofs.PieceLemmas.Class.{rows_none_later, division_front, front_division, no_front_no}
+use Rattle.syslog_pieces.proofs.PieceLemmas.Class.{rows_none_later}
 use Rattle.syslog_pieces.proofs.PieceLemmas.Kinds.{Apart, Begins, begins_apart, begins_more, begins_with}
 use Rattle.syslog_pieces.proofs.PieceLemmas.Kinds.{each_begins, either_det, first_kind, second_kind, no_either}
 use Rattle.syslog_pieces.proofs.PieceLemmas.Rows.{row_pieces}
@@ -112,7 +112,7 @@ no_letter_no_date (b ∷ bs) low p q d e h =
     absurd (omega arith)
 
 -- ---- a text shows one date without a year
-pub showing_det : AllDeterministic (showing_row yearless_date)
+showing_det : AllDeterministic (showing_row yearless_date)
 showing_det = optional_det priority priority_det also run_det is_blank also yearless_det also rest_det also tt
 
 pub shown_once : (text : Text) (d d' : MonthDate) → ShowsYearless text d → ShowsYearless text d' → d ≡ d'
@@ -124,7 +124,7 @@ module _ {t : Text} where
   pub yearless_is : {q : Text} {d : MonthDate} → Front yearless_date t q d → Front month_date t q d
   yearless_is f = first_kind MonthDate yearless_date.Is dated_date.Is f
 
-  pub yearless_none_here : NoFront (Row day_row) t → NoFront yearless_date t
+  yearless_none_here : NoFront (Row day_row) t → NoFront yearless_date t
   yearless_none_here n = no_mapped (Row yearless_row) MonthDate yearless_of (rows_none_here day_row clock_row n)
 
   pub no_day : NoFront (Row day_row) t → NoFront month_date t
@@ -138,7 +138,7 @@ module _ {t : Text} where
         → Front yearless_date t q (record { year = None; month = m; day = d; hour = h; minute = n; second = s })
     yearless_front g = mapped_front (Row yearless_row) MonthDate yearless_of (rows_join day_row clock_row f g)
 
-    pub yearless_none_later : NoFront (Row clock_row) u → NoFront yearless_date t
+    yearless_none_later : NoFront (Row clock_row) u → NoFront yearless_date t
     yearless_none_later n =
         no_mapped (Row yearless_row) MonthDate yearless_of (rows_none_later day_row clock_row day_det f n)
 
@@ -155,13 +155,3 @@ module _ {t : Text} where
         second_kind MonthDate yearless_date.Is dated_date.Is
         (mapped_front (Row dated_row) MonthDate dated_of
         (rows_join day_row from_year f (rows_join year_row clock_row g h)))
-
--- ---- what a text shows
-pub shown_none : {t : Text} → NoFront (Row (showing_row yearless_date)) t → (d : MonthDate)
-    → BeginsWithDate yearless_date t d → ⊥
-shown_none n d (p, more, v) =
-    no_front_no (Row (showing_row yearless_date)) n (division_front (showing_row yearless_date) v)
-
-pub shown_some : {t : Text} (p : Option ℕ) (d : MonthDate) (more : Text)
-    → Front (Row (showing_row yearless_date)) t [] (p, (tt, (d, (more, tt)))) → BeginsWithDate yearless_date t d
-shown_some p d more f = (p, more, front_division (showing_row yearless_date) f)

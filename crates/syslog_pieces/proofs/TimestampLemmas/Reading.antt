@@ -3,7 +3,7 @@
 use Rattle.std.proofs.Common.{◌≡◌, ℕ, zero, suc, ◌+◌, ◌-◌, ◌*◌, ◌/◌, ◌%◌, ◌^◌, ◌<◌, ◌==◌, true, false, List, [], ◌∷◌}
 use Rattle.std.proofs.Common.{◌++◌, length, take, Some, inl, inr, refl, sym, ap, ◌∙◌, arith, get_or, get_or-take}
 use Rattle.std.proofs.Common.{◌⊎◌, ℤ, pos, neg_ℤ, ◌&&◌, ◌||◌, nat_lt, ◌≤◌, drop, None}
-use Rattle.std.proofs.Common.{append_assoc, ◌≢◌, Option}
+use Rattle.std.proofs.Common.{append_assoc, Option}
 use Rattle.std.proofs.Math.Seq.{take-append_seam, drop-append_seam}
 use Rattle.std.proofs.Props.{props}
 use Rattle.std.proofs.lemmas.Bool.Decides.{nat_tests, eqb_tells}
@@ -14,7 +14,6 @@ use Rattle.std.proofs.lemmas.List.Sums.{prefix_len_is, prefix_len_passes}
 use Rattle.std.proofs.lemmas.Str.{encodes-append, encodes-chars, encodes-IsAscii}
 use Rattle.std.specs.Char.{is_ascii_digit, IsAsciiDigit}
 use Rattle.std.specs.List.{All, prefix_len}
-use Rattle.std.specs.Prelude.{MatchOption}
 use Rattle.std.specs.Str.{chars, IsAscii, IsUtf8, IsCharBoundary, encode_utf8_all}
 use mathlib.Core.HLevel.{is_prop→PathP}
 use Rattle.jiff.specs.Types.{Offset, Timestamp}
@@ -26,8 +25,7 @@ use Rattle.syslog_pieces.specs.Bodies.StampReading.{Read, nanoseconds, IsClockBy
 use Rattle.syslog_pieces.specs.Bodies.StampReading.{IsOffsetBytes, after_letter, clock, date, fraction, minutes}
 use Rattle.syslog_pieces.specs.Bodies.StampReading.{numbers, written, ◌or◌, offset, seconds, stamp_text}
 use Rattle.syslog_pieces.specs.Pieces.Class.{Text, Front, NoFront, IsDeterministic}
-use Rattle.syslog_pieces.specs.Timestamp.{IsAnswer, IsStampText, HasNoStamp, IsStampOfRfc3339, clock_value}
-use Rattle.syslog_pieces.specs.Timestamp.{stamp_seen}
+use Rattle.syslog_pieces.specs.Timestamp.{IsAnswer, IsStampText, IsStampOfRfc3339, clock_value}
 use Rattle.syslog_pieces.specs.Bodies.Clock.{IsStampOfClock}
 use Rattle.syslog_pieces.specs.Timestamp.Printed.{fraction_text, pad3}
 use Rattle.syslog_pieces.specs.Timestamp.Rfc3339.{IsFraction, IsLetter, IsOffsetText, Writes, HasStamp}
@@ -350,12 +348,6 @@ pub answer_same : (P Q : OffsetTimestamp → Type 0) (answer : Option ClockStamp
 answer_same P Q None forth back h = λ s q. h s (back s q)
 answer_same P Q (Some c) forth back h = forth (clock_value c) h
 
--- and so is the timestamp alone
-answer_seen : (P : OffsetTimestamp → Type 0) (answer : Option ClockStamp) → IsAnswer P answer
-    → MatchOption (stamp_seen answer) ((s : OffsetTimestamp) → P s → ⊥) P
-answer_seen P None h = h
-answer_seen P (Some c) h = h
-
 -- the timestamp on a clock that shows the numbers
 pub answer_of_rfc3339 : (w : Rfc3339Fields) (f : CivilFields) (offset : Offset) (answer : Option ClockStamp)
     → f ≡ fields_of_rfc3339 w → w.second < 61 → offset.seconds ≡ w.offset → IsAnswer (IsStampOfClock f offset) answer
@@ -379,20 +371,6 @@ whole_front t w h = record { piece = t; whole = sym (append-nil t); is = h }
 module _ {t q : Text} {w : Rfc3339Fields} (f : Front stamp_text t q w) where
   same_numbers : (v : Rfc3339Fields) → Writes t v → ([] ≡ q) × (v ≡ w)
   same_numbers v h = front_same stamp_text stamp_text_det (whole_front t v h) f
-
-  pub answer_of_text : (answer : Option ClockStamp) (r : Option OffsetTimestamp) → q ≡ []
-      → IsAnswer (IsStampOfRfc3339 w) answer → r ≡ stamp_seen answer → MatchOption r (HasNoStamp t) (IsStampText t)
-  answer_of_text answer r e h seen =
-      let whole : t ≡ f.piece = f.whole ∙ ap (λ (x : Text). f.piece ++ x) e ∙ append-nil f.piece in
-      rw seen (answer_seen (IsStampText t) answer (answer_same (IsStampOfRfc3339 w) (IsStampText t) answer
-      (λ s p. (w, rw whole f.is, p)) (λ s (v, k, p). rw (same_numbers v k).1 at p) h))
-
-  -- a text that goes on is one of no timestamp
-  pub no_text_here : q ≢ [] → HasNoStamp t
-  no_text_here n s (v, k, p) = n (sym (same_numbers v k).0)
-
-pub no_text : {t : Text} → NoFront stamp_text t → HasNoStamp t
-no_text {t = t} n s (w, h, p) = n t [] w (sym (append-nil t)) h
 
 -- a text writes the same numbers each time
 written_once : {t : Text} {v w : Rfc3339Fields} → Writes t v → Writes t w → v ≡ w

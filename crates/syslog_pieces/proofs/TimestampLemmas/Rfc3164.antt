@@ -10,7 +10,7 @@ use Rattle.syslog_pieces.specs.declared.timestamp.month_date.MonthDate.{MonthDat
 use Rattle.syslog_pieces.proofs.PieceLemmas.Class.{front_same, no_front_no}
 use Rattle.syslog_pieces.proofs.PieceLemmas.Kinds.{first_kind, second_kind, no_either, Apart, Begins}
 use Rattle.syslog_pieces.proofs.PieceLemmas.Kinds.{begins_apart, begins_more, begins_with, either_det}
-use Rattle.syslog_pieces.proofs.TimestampLemmas.MonthDate.{month_date_det, month_date_begins, yearless_is}
+use Rattle.syslog_pieces.proofs.TimestampLemmas.MonthDate.{month_date_det, month_date_begins}
 use Rattle.syslog_pieces.proofs.TimestampLemmas.Months.{IsLetter}
 use Rattle.syslog_pieces.proofs.TimestampLemmas.Piece.{header_stamp_det}
 use Rattle.syslog_pieces.proofs.TimestampLemmas.Texts.{stamp_text-first}
@@ -82,6 +82,3 @@ module _ (dating : Dating) {t : Text} where
     pub no_stamp_of_date : {r : Text} (d : MonthDate) → Front month_date t r d → IsAnswer (IsMonthStamp dating d) None
         → NoFront (rfc3164_stamp dating) t
     no_stamp_of_date d f m = no_stamped (λ d' s q g k. m s (rw (front_same month_date month_date_det g f).1 at k))
-
--- what the readers of such a timestamp rest on
-pub ruleset fronts = (header_front, date_front, yearless_is)

@@ -9,7 +9,7 @@ ghost use Rattle.syslog_pieces.specs.StructuredData.Rfc3164List.{full_element};
 ghost use Rattle.syslog_pieces.specs.Pieces.View.{shown, Reads};
 
 use super::StructuredElement;
-use super::recognise::{after_element, after_value, opening, start};
+use super::recognise::{after_value, opening, start};
 use crate::text::literal;
 use std::alloc::{AllocError, Global};
 
@@ -136,23 +136,4 @@ pub(super) fn noted_element<'a>(
     let mut params = Vec::with_capacity(alloc, count)?;
     params.extend_from_slice(&notes[..count])?;
     Ok(Some((StructuredElement { id, params }, rest)))
-}
-
-/// The strict element at the front, and the text behind it. It is recognised before memory is asked for it: an `Err` is
-/// only for memory, and where no element begins the text none is asked for.
-pub fn read_element<'a>(
-    alloc: Global,
-    text: &'a str,
-) -> Result<Option<(StructuredElement<&'a str>, &'a str)>, AllocError>
-    ensures element { IfOk result (λ read. Reads element_class (element_value (λ s. shown s)) (chars text.now) read) }
-    ensures memory { NoFront element_class (chars text.now) → IsOk result }
-{
-    let mut notes = [("", ""); NOTED];
-    if let Some(found) = noted_element(alloc, text, &mut notes)? {
-        return Ok(Some(found));
-    }
-    match after_element(text) {
-        Some(_) => collect_element(alloc, text),
-        None => Ok(None),
-    }
 }

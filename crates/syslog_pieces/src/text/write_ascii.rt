@@ -1,11 +1,10 @@
 //! ASCII bytes and numbers, written in one piece each, without the formatter's options.
-ghost use Rattle.std.specs.Prelude.{◌≡◌, ◌<◌, ◌+◌, ◌/◌, ◌%◌, ◌++◌, ◌∷◌, if◌then◌else◌, is_ok, string_bytes};
+ghost use Rattle.std.specs.Prelude.{◌≡◌, ◌<◌, ◌+◌, ◌/◌, ◌%◌, ◌∷◌};
 ghost use Rattle.std.specs.Fmt.{WritesOnOk, decimal, signed_decimal};
 ghost use Rattle.std.specs.List.{AllByRecursion};
 ghost use Rattle.jiff_fmt.specs.Text.{pad2, pad4};
 ghost use Rattle.syslog_pieces.specs.Timestamp.Printed.{pad3};
 
-use std::alloc::AllocError;
 use std::{fmt, str};
 
 /// Writes bytes that are ASCII.
@@ -16,17 +15,6 @@ pub(crate) fn write_bytes<W: fmt::Write>(f: &mut fmt::Formatter<W>, bytes: &[u8]
     ensures { WritesOnOk W.write_str_gives f.old result bytes.now f.new }
 {
     f.write_str(unsafe { str::from_utf8_unchecked(bytes) })
-}
-
-/// Appends bytes that are ASCII.
-#[tactic(auto, using(crate::proofs::TimestampLemmas::Characters::low_utf8))]
-#[inline(always)]
-pub fn push_bytes(text: &mut String, bytes: &[u8]) -> Result<(), AllocError>
-    requires { AllByRecursion (λ b. b < 128) bytes.now }
-    ensures { string_bytes text.new
-        ≡ (if is_ok result then string_bytes text.old ++ bytes.now else string_bytes text.old) }
-{
-    text.push_str(unsafe { str::from_utf8_unchecked(bytes) })
 }
 
 /// The byte of a digit.

@@ -6,12 +6,10 @@ ghost use Rattle.std.specs.Str.{chars};
 ghost use Rattle.syslog_pieces.specs.Bodies.MonthReading as parts;
 ghost use Rattle.syslog_pieces.specs.Pieces.Class.{Front, NoFront, Row, Text};
 ghost use Rattle.syslog_pieces.specs.Pieces.View.{shown, Reads};
-ghost use Rattle.syslog_pieces.specs.Timestamp.Rfc3164.{BeginsWithDate};
 ghost use Rattle.syslog_pieces.specs.Timestamp.MonthDate as spec;
 ghost use Rattle.syslog_pieces.specs.declared.timestamp.month_date.MonthDate.{MonthDate};
 
-use crate::pri::optional_priority;
-use crate::text::{begins_with_letter, blanks, literal, number, past_colon, some_blanks};
+use crate::text::{begins_with_letter, literal, number, past_colon, some_blanks};
 
 /// The numbers of a month date, of which there may be no such date.
 #[derive(Clone, Copy, Debug)]
@@ -76,30 +74,6 @@ fn dated(day: Day, text: &str) -> Option<(MonthDate, &str)>
     let (year, rest) = read_year(text)?;
     let (clock, rest) = read_clock(rest)?;
     Some((date_of(Some(year), day, clock), rest))
-}
-
-/// The month date without a year that the trimmed text shows: it begins with a priority or none, blanks or none, and
-/// such a date.
-#[inline(always)]
-pub fn shown_date(text: &str) -> Option<MonthDate>
-    ensures { MatchOption result
-        ((d : MonthDate) → BeginsWithDate spec.yearless_date (chars text.now) d → ⊥)
-        (λ d. BeginsWithDate spec.yearless_date (chars text.now) d) }
-{
-    let (_, rest) = optional_priority(text);
-    let rest = blanks(rest);
-    let (date, _) = yearless(rest)?;
-    Some(date)
-}
-
-// The month date without a year at the front.
-#[inline(always)]
-fn yearless(text: &str) -> Option<(MonthDate, &str)>
-    ensures { Reads spec.yearless_date (λ d. d) (chars text.now) result }
-{
-    let (day, rest) = read_day(text)?;
-    let (clock, rest) = read_clock(rest)?;
-    Some((date_of(None, day, clock), rest))
 }
 
 pub(super) fn date_of(year: Option<u32>, day: Day, clock: Clock) -> MonthDate

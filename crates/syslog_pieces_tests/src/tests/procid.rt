@@ -4,7 +4,8 @@ use super::rows::{answer_of, check, is_number, left_of, reads_as, text_of};
 use std::alloc::Global;
 use std::process::Abort;
 use syslog_pieces::as_str::AsStr;
-use syslog_pieces::procid::{ProcId, process_word};
+use syslog_pieces::procid::ProcId;
+use syslog_pieces::text::word;
 
 fn is_name<S: AsStr>(procid: &ProcId<S>, want: &str) -> bool {
     match procid {
@@ -110,9 +111,12 @@ fn prints_the_number_of_an_owner(rt: HostRuntime) {
     check(&rt, prints_as(rt.alloc(), &least, text_of(row)), row);
 }
 
+// A header's process id is that of a word, as the calls read it.
 fn is_process_word(row: &str) -> bool {
-    match process_word(text_of(row)) {
-        Some((Some(procid), rest)) => reads_as_process(row, &procid) && rest == left_of(row),
+    match word(text_of(row)) {
+        Some((Some(name), rest)) => {
+            reads_as_process(row, &ProcId::from(name)) && rest == left_of(row)
+        }
         Some((None, rest)) => reads_as(row, "", rest),
         None => answer_of(row).is_none(),
     }

@@ -9,9 +9,7 @@ use super::rows::{answer_of, check, is_text, left_of, repeated, text_of};
 use std::alloc::{AllocError, Global};
 use std::process::Abort;
 use syslog_pieces::as_str::AsStr;
-use syslog_pieces::structured_data::{StructuredElement, forgiving_list, read_element};
-
-type Read<'a> = Option<(StructuredElement<&'a str>, &'a str)>;
+use syslog_pieces::structured_data::{StructuredElement, forgiving_list};
 
 type List<'a> = Option<(Vec<StructuredElement<&'a str>>, &'a str)>;
 
@@ -49,13 +47,6 @@ fn are_elements(elements: &[StructuredElement<&str>], lines: &str) -> bool {
     lines.next().is_none()
 }
 
-fn has_element(element: &StructuredElement<&str>, row: &str) -> bool {
-    match answer_of(row) {
-        Some(line) => is_element(element, line),
-        None => false,
-    }
-}
-
 // The element of a line, built by hand.
 fn element_of<'a>(alloc: Global, line: &'a str) -> Result<StructuredElement<&'a str>, AllocError> {
     let mut texts = line.split('|');
@@ -67,16 +58,23 @@ fn element_of<'a>(alloc: Global, line: &'a str) -> Result<StructuredElement<&'a 
     Ok(StructuredElement { id, params })
 }
 
-// A row is a text, the line of the element at its front, and what is left; or the text of no element.
-fn check_read(rt: &impl Abort, row: &str, read: Result<Read<'_>, AllocError>) {
-    let same = match read {
-        Ok(Some((element, rest))) => has_element(&element, row) && rest == left_of(row),
-        Ok(None) => answer_of(row).is_none(),
-        Err(_) => false,
+// A row is a text, the lines of the elements of the list at its front, and what is left; or the text of no list.
+fn check_read_list(rt: &impl Abort, row: &str, read: Result<List<'_>, AllocError>) {
+    let same = match (read, answer_of(row)) {
+        (Ok(Some((elements, rest))), Some(lines)) => {
+            are_elements(&elements, lines) && rest == left_of(row)
+        }
+        (Ok(None), None) => true,
+        _ => false,
     };
     check(rt, same, row);
 }
 
+fn check_list(rt: &impl Abort, alloc: Global, row: &str) {
+    check_read_list(rt, row, forgiving_list(alloc, text_of(row)));
+}
+
+// One strict element, or none: a broken one is left out, and a `[` without its `]` is no list.
 #[test]
 fn strict_elements(rt: HostRuntime) {
     for row in &[
@@ -84,10 +82,10 @@ fn strict_elements(rt: HostRuntime) {
         "[id a=\"b\"  c=\"d\"]¦id|a|b| c|d¦",
         "[id\ta= \t\"b\"]¦id|a|b¦",
         "[a[b c=\"]\\]\"]¦a[b|c|]\\]¦",
-        "[id a=\"b\",c=\"d\"]",
-        "[id a=\"b\" ]",
-        "[=]",
-        "[id a=b]",
+        "[id a=\"b\",c=\"d\"]¦¦",
+        "[id a=\"b\" ]¦¦",
+        "[=]¦¦",
+        "[id a=b]¦¦",
         "[id a=\"b\"",
         "[id",
         "",
@@ -98,7 +96,7 @@ fn strict_elements(rt: HostRuntime) {
          ¦e|v|Here are some escaped characters -> \\\"\\\\\\]¦",
         "[e v=\"These should not be escaped -> \\n\\m\\o\"]¦e|v|These should not be escaped -> \\n\\m\\o¦",
     ] {
-        check_read(&rt, row, read_element(rt.alloc(), text_of(row)));
+        check_list(&rt, rt.alloc(), row);
     }
 }
 
@@ -109,15 +107,23 @@ fn prints_as<S: AsStr>(alloc: Global, element: &StructuredElement<S>, want: &str
     }
 }
 
-// The element at the front of the row's text prints so.
+// The one element of a list.
+fn only<'a, 'e>(read: &'e Result<List<'a>, AllocError>) -> Option<&'e StructuredElement<&'a str>> {
+    match read {
+        Ok(Some((elements, _))) if elements.len() == 1 => elements.first(),
+        _ => None,
+    }
+}
+
+// The one element of the list at the front of the row's text prints so.
 fn check_printed(rt: &impl Abort, alloc: Global, row: &str, want: &str) {
-    let read = read_element(alloc, text_of(row));
-    let same = match &read {
-        Ok(Some((element, _))) => prints_as(alloc, element, want),
-        _ => false,
+    let read = forgiving_list(alloc, text_of(row));
+    let same = match only(&read) {
+        Some(element) => prints_as(alloc, element, want),
+        None => false,
     };
     check(rt, same, row);
-    check_read(rt, row, read);
+    check_read_list(rt, row, read);
 }
 
 #[test]
@@ -206,22 +212,6 @@ fn params_without_escapes(rt: HostRuntime) {
     let (printed, line) = ("[id name=\"a \\\"value\\\"\"]", "id|name|a \"value\"");
     check(&rt, prints_as(rt.alloc(), &element, printed), printed);
     check(&rt, has_values(rt.alloc(), &element, line), line);
-}
-
-// A row is a text, the lines of the elements of the list at its front, and what is left; or the text of no list.
-fn check_read_list(rt: &impl Abort, row: &str, read: Result<List<'_>, AllocError>) {
-    let same = match (read, answer_of(row)) {
-        (Ok(Some((elements, rest))), Some(lines)) => {
-            are_elements(&elements, lines) && rest == left_of(row)
-        }
-        (Ok(None), None) => true,
-        _ => false,
-    };
-    check(rt, same, row);
-}
-
-fn check_list(rt: &impl Abort, alloc: Global, row: &str) {
-    check_read_list(rt, row, forgiving_list(alloc, text_of(row)));
 }
 
 #[test]

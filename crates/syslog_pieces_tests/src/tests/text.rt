@@ -2,8 +2,8 @@ use super::rows::{answer_of, check, check_word, is_text, reads_as_number, repeat
 use std::alloc::{AllocError, Global};
 use std::process::Abort;
 use syslog_pieces::text::{
-    CharClass, blanks, first, host, host_field, literal, number, run_end, skip_some, some_blanks,
-    split_run, tag_field, tag_word, trimmed, word,
+    CharClass, blanks, first, host, host_field, literal, number, run_end, some_blanks, split_run,
+    tag_field, tag_word, trimmed, word,
 };
 
 /// The longest text that is cut.
@@ -237,12 +237,14 @@ fn reads_a_number_up_to_its_limit(rt: HostRuntime) {
         "999 999 ¦999¦ ",
         "1000 1000¦1000¦",
         "4294967295 4294967295 -¦4294967295¦ -",
+        "4294967295 12x¦12¦x",
         "9 1\u{663}¦1¦\u{663}",
         "255 ",
         "255 256",
         "0 1",
         "4294967295 4294967296",
         "4294967295 99999999999999999999",
+        "4294967295 x12",
         "9 +1",
         "9 -1",
         "9  1",
@@ -299,16 +301,12 @@ fn trims_white_space_and_skips_blanks(rt: HostRuntime) {
 }
 
 #[test]
-fn skips_a_character_and_digits(rt: HostRuntime) {
+fn skips_a_character(rt: HostRuntime) {
     let (letter, rest) = first("üx").expect(&rt, "üx");
     check(&rt, letter == 'ü' && rest == "x", "üx");
     check(&rt, first("").is_none(), "empty");
     // one character
     for row in &["<34>¦34>", "34>", ""] {
         check_left(&rt, row, literal(text_of(row), '<'));
-    }
-    // digits
-    for row in &["12x¦x", "x12"] {
-        check_left(&rt, row, skip_some(text_of(row), CharClass::Digit));
     }
 }

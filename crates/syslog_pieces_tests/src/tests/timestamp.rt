@@ -7,11 +7,19 @@ use jiff::tz::Offset;
 use std::alloc::Global;
 use std::process::Abort;
 use syslog_pieces::timestamp::canonical::is_canonical_stamp;
-use syslog_pieces::timestamp::{OffsetTimestamp, header_stamp, rfc3339, stamp_of};
+use syslog_pieces::timestamp::{ClockStamp, OffsetTimestamp, header_stamp, stamp_of};
 
 fn prints_as(alloc: Global, stamp: &OffsetTimestamp, want: &str) -> bool {
     match format!(in alloc; "{stamp}") {
         Ok(printed) => printed.as_str() == want,
+        Err(_) => false,
+    }
+}
+
+// So does the timestamp of the clock.
+fn clock_prints_as(alloc: Global, clock: &ClockStamp, want: &str) -> bool {
+    match format!(in alloc; "{clock}") {
+        Ok(printed) => printed.as_str() == want && prints_as(alloc, &clock.stamp(), want),
         Err(_) => false,
     }
 }
@@ -24,10 +32,26 @@ fn has_stamp(alloc: Global, row: &str, stamp: &OffsetTimestamp) -> bool {
     }
 }
 
+fn has_clock(alloc: Global, row: &str, clock: &ClockStamp) -> bool {
+    match answer_of(row) {
+        Some(want) => clock_prints_as(alloc, clock, want),
+        None => false,
+    }
+}
+
+// The timestamp that the whole text writes, as a header has it before a space.
+fn clock_of(rt: &impl Abort, alloc: Global, text: &str) -> Option<ClockStamp> {
+    let header = format!(in alloc; "{text} ").expect(rt, text);
+    match header_stamp(header.as_str()) {
+        Some((clock, " ")) => clock,
+        _ => None,
+    }
+}
+
 // A row is a text and what its timestamp prints as, or the text of no timestamp.
-fn reads_stamp(alloc: Global, row: &str) -> bool {
-    match rfc3339(text_of(row)) {
-        Some(stamp) => has_stamp(alloc, row, &stamp),
+fn reads_stamp(rt: &impl Abort, alloc: Global, row: &str) -> bool {
+    match clock_of(rt, alloc, text_of(row)) {
+        Some(clock) => has_clock(alloc, row, &clock),
         None => answer_of(row).is_none(),
     }
 }
@@ -105,14 +129,15 @@ fn reads_and_prints_a_timestamp(rt: HostRuntime) {
         "2020-1-01T00:00:00Z",
         "9999-12-31T23:59:59Z",
     ] {
-        check(&rt, reads_stamp(rt.alloc(), row), row);
+        check(&rt, reads_stamp(&rt, rt.alloc(), row), row);
     }
 }
 
-fn is_zero(alloc: Global, text: &str) -> bool {
-    match rfc3339(text) {
-        Some(stamp) => {
-            stamp.offset.seconds() == 0 && prints_as(alloc, &stamp, "2020-01-01T00:00:00+00:00")
+fn is_zero(rt: &impl Abort, alloc: Global, text: &str) -> bool {
+    match clock_of(rt, alloc, text) {
+        Some(clock) => {
+            clock.offset.seconds() == 0
+                && clock_prints_as(alloc, &clock, "2020-01-01T00:00:00+00:00")
         }
         None => false,
     }
@@ -121,13 +146,10 @@ fn is_zero(alloc: Global, text: &str) -> bool {
 #[test]
 fn reads_an_offset(rt: HostRuntime) {
     let text = "1985-04-12T23:20:50.52-07:00";
-    let stamp = rfc3339(text).expect(&rt, text);
+    let stamp = stamp_of(clock_of(&rt, rt.alloc(), text)).expect(&rt, text);
     check(&rt, stamp.offset.seconds() == -25_200, "offset");
-    check(
-        &rt,
-        is_same(Some(stamp), rfc3339("1985-04-13T06:20:50.520Z")),
-        "instant",
-    );
+    let at_utc = clock_of(&rt, rt.alloc(), "1985-04-13T06:20:50.520Z");
+    check(&rt, is_same(Some(stamp), stamp_of(at_utc)), "instant");
 }
 
 #[test]
@@ -138,7 +160,7 @@ fn takes_each_zero_offset_as_zero(rt: HostRuntime) {
         "2020-01-01T00:00:00+00:00",
         "2020-01-01T00:00:00-00:00",
     ] {
-        check(&rt, is_zero(rt.alloc(), text), text);
+        check(&rt, is_zero(&rt, rt.alloc(), text), text);
     }
 }
 
@@ -195,8 +217,8 @@ fn reads_header_stamp(alloc: Global, row: &str) -> bool {
     let Some((clock, rest)) = header_stamp(text_of(row)) else {
         return answer_of(row).is_none();
     };
-    let same = match stamp_of(clock) {
-        Some(stamp) => has_stamp(alloc, row, &stamp),
+    let same = match clock {
+        Some(clock) => has_clock(alloc, row, &clock),
         None => is_text(answer_of(row), ""),
     };
     same && rest == left_of(row)

@@ -3,13 +3,13 @@
 //! Each test asks for no memory but by the calls that it is about. Those named `answers_..` pass whichever request is
 //! refused, those named `asks_..` make none, and those named `sees_no_refusal..` fail at each that is refused.
 use super::rfc3164_list::{OptionalList, check_read_optional};
-use super::{List, Read, check_read, check_read_list, is_item};
+use super::{List, check_read_list, is_item, only};
 use crate::tests::rows::{check, text_of};
 use crate::tests::tries::Tries;
 use std::alloc::{AllocError, Global};
 use std::process::Abort;
 use syslog_pieces::structured_data::rfc3164_list::{DashRule, optional_list};
-use syslog_pieces::structured_data::{StructuredElement, forgiving_list, read_element};
+use syslog_pieces::structured_data::{StructuredElement, forgiving_list};
 
 /// An element with its id and parameters, the last of which has an escape.
 pub(super) const ELEMENT: &str = "[id a=\"b\" c=\"\" d=\"\\]\"]";
@@ -20,14 +20,7 @@ pub(super) const LINE: &str = "id|a|b|c||d|\\]";
 /// The row of that element.
 const ROW: &str = "[id a=\"b\" c=\"\" d=\"\\]\"]¦id|a|b|c||d|\\]¦";
 
-pub(super) fn element_of(alloc: Global, text: &str, tries: Tries) -> Result<Read<'_>, AllocError> {
-    match read_element(alloc, text) {
-        Err(AllocError) if tries == Tries::Twice => read_element(alloc, text),
-        other => other,
-    }
-}
-
-fn list_of(alloc: Global, text: &str, tries: Tries) -> Result<List<'_>, AllocError> {
+pub(super) fn list_of(alloc: Global, text: &str, tries: Tries) -> Result<List<'_>, AllocError> {
     match forgiving_list(alloc, text) {
         Err(AllocError) if tries == Tries::Twice => forgiving_list(alloc, text),
         other => other,
@@ -81,12 +74,12 @@ fn check_values(rt: &impl Abort, alloc: Global, element: &StructuredElement<&str
 }
 
 fn check_element(rt: &impl Abort, alloc: Global, tries: Tries) {
-    let read = element_of(alloc, ELEMENT, tries);
-    match &read {
-        Ok(Some((element, _))) => check_values(rt, alloc, element, tries),
-        _ => check(rt, false, "no element"),
+    let read = list_of(alloc, ELEMENT, tries);
+    match only(&read) {
+        Some(element) => check_values(rt, alloc, element, tries),
+        None => check(rt, false, "no element"),
     }
-    check_read(rt, ROW, read);
+    check_read_list(rt, ROW, read);
 }
 
 fn check_rfc3164_list(rt: &impl Abort, alloc: Global, rule: DashRule, tries: Tries) {
@@ -124,12 +117,12 @@ fn sees_no_refusal_of_lists(rt: HostRuntime) {
 
 #[test]
 fn asks_for_no_memory_without_elements(rt: HostRuntime) {
-    // no element
-    for text in &["", "x", "[id", "[id a=\"b\" ]", "[id a=\"b", "[=]"] {
-        check_read(&rt, text, read_element(rt.alloc(), text));
-    }
     // lists without elements, and no list
     for row in &[
+        "[id",
+        "[id a=\"b\" ]¦¦",
+        "[id a=\"b",
+        "[=]¦¦",
         "- x¦¦ x",
         "[a b=\"c]d¦¦d",
         "[a =][b =]¦¦",

@@ -1,6 +1,6 @@
 //! Refused memory in copies of elements: see `refusals`.
-use super::is_element;
-use super::refusals::{ELEMENT, LINE, element_of};
+use super::refusals::{ELEMENT, LINE, list_of};
+use super::{is_element, only};
 use crate::tests::rows::check;
 use crate::tests::tries::Tries;
 use std::alloc::{AllocError, Global};
@@ -52,12 +52,12 @@ fn check_owned_clone(
 }
 
 fn check_copies(rt: &impl Abort, alloc: Global, tries: Tries) {
-    match element_of(alloc, ELEMENT, tries) {
-        Ok(Some((element, _))) => {
-            check_clone(rt, alloc, &element, tries);
-            check_owned(rt, alloc, &element, tries);
+    match only(&list_of(alloc, ELEMENT, tries)) {
+        Some(element) => {
+            check_clone(rt, alloc, element, tries);
+            check_owned(rt, alloc, element, tries);
         }
-        _ => check(rt, false, "no element"),
+        None => check(rt, false, "no element"),
     }
 }
 

@@ -2,9 +2,9 @@ use crate::tests::rows::{answer_of, check, left_of, text_of};
 use std::alloc::Global;
 use std::process::Abort;
 use std::str::Split;
-use syslog_pieces::text::trimmed;
+use syslog_pieces::pri::optional_priority;
+use syslog_pieces::text::{blanks, trimmed};
 use syslog_pieces::timestamp::month_date::{MonthDate, month_date};
-use syslog_pieces::timestamp::shown_date;
 
 // The next word is the number.
 fn is_next<'a>(words: &mut Split<'a, char>, number: u32) -> bool {
@@ -153,6 +153,15 @@ fn reads_a_month_date(rt: HostRuntime) {
     }
 }
 
+// The month date without a year after a priority or none, and blanks or none, as the calls read it.
+fn yearless(text: &str) -> Option<MonthDate> {
+    let (_, rest) = optional_priority(text);
+    match month_date(blanks(rest)) {
+        Some((date, _)) if date.year.is_none() => Some(date),
+        _ => None,
+    }
+}
+
 // That there is such a date isn't asked.
 #[test]
 fn shows_a_date_without_a_year(rt: HostRuntime) {
@@ -165,7 +174,7 @@ fn shows_a_date_without_a_year(rt: HostRuntime) {
         "<255>Oct 11 22:14:15¦10 11 22 14 15",
         "Feb 99 24:60:60¦2 99 24 60 60",
     ] {
-        let date = shown_date(trimmed(text_of(row))).expect(&rt, row);
+        let date = yearless(trimmed(text_of(row))).expect(&rt, row);
         check(&rt, has_date(row, &date), row);
     }
     // no such date at the front
@@ -185,6 +194,6 @@ fn shows_a_date_without_a_year(rt: HostRuntime) {
         "Oct 11 22:14",
         "October 11 22:14:15",
     ] {
-        check(&rt, shown_date(text).is_none(), text);
+        check(&rt, yearless(text).is_none(), text);
     }
 }

@@ -1,30 +1,37 @@
-use super::{has_stamp, is_same};
+use super::{clock_of, has_clock, is_same};
 use crate::tests::rows::{answer_of, check, left_of, text_of};
 use jiff::tz::{Offset, TimeZone};
 use std::alloc::Global;
 use std::process::Abort;
-use syslog_pieces::timestamp::zone::Dating;
-use syslog_pieces::timestamp::{OffsetTimestamp, rfc3164_stamp, rfc3339, year_at};
+use syslog_pieces::timestamp::month_date::month_date;
+use syslog_pieces::timestamp::zone::{Dating, month_stamp};
+use syslog_pieces::timestamp::{ClockStamp, header_stamp, stamp_of, year_at};
 
 /// Winter time is +01:00, summer time +02:00. In 2020 the gap lies at 02:00 to 03:00 on 29 March and the fold at
 /// 02:00 to 03:00 on 25 October.
 const RULE: &str = "CET-1CEST,M3.5.0,M10.5.0/3";
 
-// The timestamp of the whole text.
-fn stamp_of(text: &str, dating: &Dating<'_, '_>) -> Option<OffsetTimestamp> {
-    match rfc3164_stamp(text, dating) {
-        Some((stamp, rest)) => { if rest.is_empty() { stamp } else { None } }
-        None => None,
+// The timestamp of the month date that is the whole text.
+fn clock_of_date(text: &str, dating: &Dating<'_, '_>) -> Option<ClockStamp> {
+    match month_date(text) {
+        Some((date, "")) => month_stamp(date, dating),
+        _ => None,
     }
 }
 
+// Whether the two show one instant.
+fn is_same_moment(one: Option<ClockStamp>, other: Option<ClockStamp>) -> bool {
+    is_same(stamp_of(one), stamp_of(other))
+}
+
 // A row is a month date, what its timestamp prints as, and in some rows the instant at UTC; or a date without one.
-fn reads_stamp(alloc: Global, row: &str, dating: &Dating<'_, '_>) -> bool {
-    let Some(stamp) = stamp_of(text_of(row), dating) else {
+fn reads_stamp(rt: &impl Abort, alloc: Global, row: &str, dating: &Dating<'_, '_>) -> bool {
+    let Some(clock) = clock_of_date(text_of(row), dating) else {
         return answer_of(row).is_none();
     };
     let at_utc = left_of(row);
-    has_stamp(alloc, row, &stamp) && (at_utc.is_empty() || is_same(rfc3339(at_utc), Some(stamp)))
+    has_clock(alloc, row, &clock)
+        && (at_utc.is_empty() || is_same_moment(clock_of(rt, alloc, at_utc), Some(clock)))
 }
 
 // In a zone that is given.
@@ -35,7 +42,7 @@ fn check_given(rt: &impl Abort, alloc: Global, year: i32, tz: &TimeZone<'_>, row
         local: &TimeZone::UTC,
     };
     for row in rows {
-        check(rt, reads_stamp(alloc, row, &dating), row);
+        check(rt, reads_stamp(rt, alloc, row, &dating), row);
     }
 }
 
@@ -47,7 +54,7 @@ fn check_local(rt: &impl Abort, alloc: Global, year: i32, local: &TimeZone<'_>, 
         local,
     };
     for row in rows {
-        check(rt, reads_stamp(alloc, row, &dating), row);
+        check(rt, reads_stamp(rt, alloc, row, &dating), row);
     }
 }
 
@@ -123,8 +130,9 @@ fn check_year(rt: &impl Abort, year: Option<i32>, without: &str, with: &str) {
         tz: None,
         local: &TimeZone::UTC,
     };
-    check(rt, rfc3164_stamp(without, &dating).is_none(), without);
-    check(rt, stamp_of(with, &dating).is_some(), with);
+    check(rt, month_date(without).is_some(), without);
+    check(rt, clock_of_date(without, &dating).is_none(), without);
+    check(rt, clock_of_date(with, &dating).is_some(), with);
 }
 
 #[test]
@@ -137,22 +145,30 @@ fn wants_a_year_in_its_range_where_none_is_shown(rt: HostRuntime) {
 }
 
 // The cell of a timestamp is a text of RFC 3339, or empty where a dash stands for none.
-fn is_stamp_of(row: &str, stamp: Option<OffsetTimestamp>) -> bool {
+fn is_stamp_of(rt: &impl Abort, alloc: Global, row: &str, clock: Option<ClockStamp>) -> bool {
     match answer_of(row) {
-        Some(want) => is_same(stamp, rfc3339(want)),
+        Some(want) => is_same_moment(clock, clock_of(rt, alloc, want)),
         None => false,
     }
 }
 
+// The timestamp at the front of a header of RFC 3164, and what is left, as the calls read it.
+fn front_of<'a>(text: &'a str, dating: &Dating<'_, '_>) -> Option<(Option<ClockStamp>, &'a str)> {
+    match month_date(text) {
+        Some((date, rest)) => Some((Some(month_stamp(date, dating)?), rest)),
+        None => header_stamp(text),
+    }
+}
+
 // A row is a text, the timestamp at its front, and what is left.
-fn reads_front(row: &str) -> bool {
+fn reads_front(rt: &impl Abort, alloc: Global, row: &str) -> bool {
     let dating = Dating {
         year: Some(2019),
         tz: None,
         local: &TimeZone::UTC,
     };
-    match rfc3164_stamp(text_of(row), &dating) {
-        Some((stamp, rest)) => is_stamp_of(row, stamp) && rest == left_of(row),
+    match front_of(text_of(row), &dating) {
+        Some((clock, rest)) => is_stamp_of(rt, alloc, row, clock) && rest == left_of(row),
         None => answer_of(row).is_none(),
     }
 }
@@ -176,7 +192,7 @@ fn leaves_the_text_behind_the_date(rt: HostRuntime) {
         "2003-10-11T22:14:15Z",
         "<34>Oct 11 22:14:15",
     ] {
-        check(&rt, reads_front(row), row);
+        check(&rt, reads_front(&rt, rt.alloc(), row), row);
     }
 }
 
@@ -315,7 +331,8 @@ fn refuses_instants_out_of_range(rt: HostRuntime) {
 #[test]
 fn tells_the_year_of_a_moment(rt: HostRuntime) {
     let text = "2019-12-31T23:30:00Z";
-    let now = rfc3339(text).expect(&rt, text).instant;
+    let stamp = stamp_of(clock_of(&rt, rt.alloc(), text)).expect(&rt, text);
+    let now = stamp.instant;
     check(&rt, year_at(now, &TimeZone::UTC) == 2019, "UTC");
     check(&rt, year_at(now, &hour_ahead(&rt)) == 2020, "an hour ahead");
     check(&rt, year_at(now, &rule(&rt)) == 2020, RULE);
