@@ -158,6 +158,22 @@ def senders_5424(chance):
     return start + "rsyslogd - - " + origin % chance.randrange(1, 70000) + " " + text
 
 
+# RFC 3164 from senders that put no colon after the tag, or nothing at all after the host.
+def senders_3164(chance):
+    start = (priority(chance) if chance.random() < 0.7 else "") + month_stamp(chance) + " " + chance.choice(HOSTS)
+    level = chance.choice(["core:notice", "php7:emerg", "proxy:error", "ssl:warn"])
+    at = "Tue Mar %02d 06:33:%02d.%06d 2021" % (chance.randrange(1, 29), chance.randrange(60), chance.randrange(10**6))
+    ends = [
+        " apache_error [%s] [%s] [pid %d] %s" % (at, level, chance.randrange(1, 70000), chance.choice(TEXTS)),
+        " apache_error [%s] [%s] %s" % (at, level, chance.choice(TEXTS)),
+        " %s %d - %s" % (chance.choice(APPS), chance.randrange(1, 70000), chance.choice(TEXTS)),
+        " %s[%d] %s" % (chance.choice(APPS), chance.randrange(1, 70000), chance.choice(TEXTS)),
+        " : " + chance.choice(TEXTS),
+        "",
+    ]
+    return start + chance.choice(ends)
+
+
 def iso_3164(chance):
     tag = chance.choice(APPS) + ("[%d]" % chance.randrange(1, 70000) if chance.random() < 0.8 else "")
     return "%s%s %s %s: %s" % (priority(chance), stamp(chance), chance.choice(HOSTS), tag, chance.choice(TEXTS))
@@ -206,6 +222,7 @@ KINDS = [
     ("programs_5424", programs_5424, 1.0),
     ("programs_3164", programs_3164, 1.0),
     ("senders_5424", senders_5424, 1.0),
+    ("senders_3164", senders_3164, 1.0),
     ("iso_3164", iso_3164, 1.0),
     ("short", short, 1.0),
     ("blanks_outside", blanks_outside, 1.0),
