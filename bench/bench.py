@@ -108,34 +108,48 @@ class Filter:
         self.judge(ran.returncode)
         return int(re.search(rb"Collected : ([0-9]+)", ran.stderr)[1])
 
+    def instructions_a_line(self, lines, fewer):
+        """How many instructions a line takes: those of all lines without those of the first so many, and of the start."""
+        return (self.instructions(lines) - self.instructions(lines[:fewer])) / (len(lines) - fewer)
+
     def judge(self, status):
         # 1 says that some lines were refused.
         if status not in (0, 1):
             sys.exit("%s ended with status %d" % (self.words[0], status))
 
 
-def built_over_library():
-    """Proves and builds the library for C, and the program over it, and answers that one's path."""
-    crate = os.path.join(TOP, "crates", "syslog_c")
-    print("building %s" % crate, file=sys.stderr)
-    subprocess.run(["rt", "lib"], cwd=crate, stdout=sys.stderr, check=True)
-    program = os.path.join(tempfile.gettempdir(), "syslog-bench-c-totals")
+def compiled_over(library, program):
+    """Compiles bench/c_totals.c over the library for C to that path, and returns it."""
     kit = os.path.dirname(os.path.dirname(os.path.realpath(shutil.which("rt"))))
-    libraries = [os.path.join(crate, "out", "libsyslog_c.a"), os.path.join(kit, "c", "liblibc_c.a")]
+    libraries = [library, os.path.join(kit, "c", "liblibc_c.a")]
     source = os.path.join(TOP, "bench", "c_totals.c")
     subprocess.run(["cc", "-O2", "-I", os.path.join(TOP, "include"), "-o", program, source, *libraries], check=True)
     return program
 
 
+def built_over_library():
+    """Proves and builds the library for C, and the program over it, and returns that one's path."""
+    crate = os.path.join(TOP, "crates", "syslog_c")
+    print("building %s" % crate, file=sys.stderr)
+    subprocess.run(["rt", "lib"], cwd=crate, stdout=sys.stderr, check=True)
+    program = os.path.join(tempfile.gettempdir(), "syslog-bench-c-totals")
+    return compiled_over(os.path.join(crate, "out", "libsyslog_c.a"), program)
+
+
+def built_reader():
+    """Proves and builds the program of bench/totals/, and returns its path."""
+    folder = os.path.join(tempfile.gettempdir(), "syslog-bench-totals")
+    print("building bench/totals in %s" % folder, file=sys.stderr)
+    words = [os.path.join(TOP, "bench", "build_reader"), folder, "totals"]
+    return subprocess.check_output(words, text=True).split()[-1]
+
+
 def built(chosen):
-    """Proves and builds the program, and answers its path."""
+    """Proves and builds the program, and returns its path."""
     if chosen.library:
         return built_over_library()
     if chosen.reading:
-        folder = os.path.join(tempfile.gettempdir(), "syslog-bench-totals")
-        print("building bench/totals in %s" % folder, file=sys.stderr)
-        words = [os.path.join(TOP, "bench", "build_reader"), folder, "totals"]
-        return subprocess.check_output(words, text=True).split()[-1]
+        return built_reader()
     print("building %s" % CRATE, file=sys.stderr)
     ran = subprocess.run(["rt", "run", "--", str(chosen.year)], cwd=CRATE, stdin=subprocess.DEVNULL, stdout=sys.stderr)
     if ran.returncode:
@@ -314,7 +328,7 @@ def count_corpora(filters, chosen):
     for name, lines in corpora.corpora(4000):
         if chosen.only not in name or len(lines) < 4000:
             continue
-        own, *others = [(it.instructions(lines) - it.instructions(lines[:1000])) / 3000 for it in filters]
+        own, *others = [it.instructions_a_line(lines, 1000) for it in filters]
         more = [cell for it in others for cell in ("{:,.0f}".format(it), "%.2f" % (it / own))]
         if others and chosen.sums:
             more.append(len(differences(filters, lines, len(lines))))
