@@ -1,6 +1,6 @@
 -- Which texts are read differently since the rule of the dash changed, and that the condition only grew.
 use Rattle.std.proofs.Common.{◌≡◌, ◌↔◌, ◌⊎◌, inl, inr, ℕ, ℤ, Bool, true, false, MatchBool, IsTrue, List, [], ◌∷◌, ◌++◌}
-use Rattle.std.proofs.Common.{length, Option, Some, None, refl, sym, ap, ◌∙◌, arith, append_assoc, append-nil}
+use Rattle.std.proofs.Common.{◌≢◌, length, Option, Some, None, refl, sym, ap, ◌∙◌, arith, append_assoc, append-nil}
 use Rattle.std.proofs.Math.Seq.{drop-append_seam}
 use Rattle.std.proofs.lemmas.Bool.Decides.{eqb_tells}
 use Rattle.syslog_pieces.specs.Pieces.Class.{Text, Class, Values, Front, join, Divides, Row, Ends}
@@ -34,13 +34,33 @@ use Rattle.syslog_loose.specs.declared.variant.Variant.{Variant}
 use Rattle.syslog_loose.specs.declared.variant.Variant.TheVariants.{Either, RFC3164, RFC5424}
 use Rattle.syslog_loose.specs.Canonical.{IsCanonicalFor, IsCanonical}
 use Rattle.syslog_loose.specs.DashChange.{ReadsDifferently, BeginsDashChange, HasDashChange3164, HasDashChange}
-use Rattle.syslog_loose.specs.DashChange.{WasUnreadable}
+use Rattle.syslog_loose.specs.DashChange.{IsReadingUnder, WasUnreadable}
 use Rattle.syslog_loose.specs.Message.{MessageValue}
 use Rattle.syslog_loose.specs.Rfc3164.{Names3164, Resolves, stamped_row, fields_row, rfc3164_row, IsNot3164}
 use Rattle.syslog_loose.specs.Rfc3164.{IsRead3164}
 use Rattle.syslog_loose.proofs.Rfc3164Lemmas.Rows.{from_gap, from_list, gap_back}
 use Rattle.syslog_loose.proofs.Rfc3164Lemmas.Unique as rfc3164
 use Rattle.syslog_loose.proofs.Rfc5424Lemmas as strict
+
+-- ---- two readings
+
+-- the text was read as one message, and is read as another
+record ReadsApart (variant : Variant) (dating : Dating) (text : Text) : Type 0 where
+  pub before : MessageValue
+  pub now : MessageValue
+  pub was_read : IsReadUnder BeforeAnything variant dating text before
+  pub is_read : IsReadUnder dash_rule variant dating text now
+  pub differ : before ≢ now
+
+differs_apart : (variant : Variant) (dating : Dating) (text : Text) → ReadsApart variant dating text
+    → ReadsDifferently variant dating text
+differs_apart variant dating text r = record {
+  before = Some r.before;
+  now = Some r.now;
+  was_read = r.was_read;
+  is_read = r.is_read;
+  differ = λ e. let same : r.before ≡ r.now = cc in r.differ same;
+}
 
 -- ---- the condition
 
@@ -208,7 +228,7 @@ module _ (dating : Dating) (text : Text) where
 
     differ_of_dash_change : (c : ℕ) (q : Text)
         → Front (Row (before_list dating)) (trimmed text) (45 ∷ (c ∷ q)) vs → is_blank c ≡ false
-        → ReadsDifferently RFC3164 dating text
+        → ReadsApart RFC3164 dating text
     differ_of_dash_change c q f b =
         let t : Text = 45 ∷ (c ∷ q) in
         record {
@@ -222,7 +242,7 @@ module _ (dating : Dating) (text : Text) where
               omega (arith, l);
         }
 
-  pub differs_by_dash_change : HasDashChange3164 dating text → ReadsDifferently RFC3164 dating text
+  differs_by_dash_change : HasDashChange3164 dating text → ReadsApart RFC3164 dating text
   differs_by_dash_change d =
       let (n, means, is) = d.read.means in
       differ_of_dash_change _ n means d.next d.more (dropped_at dating text d) d.no_blank
@@ -239,7 +259,7 @@ module _ (dating : Dating) (text : Text) where
   forth Either m n (inr (none, r)) (inl s) d = absurd (none s.values s.division)
   forth Either m n (inr (none, r)) (inr (also, s)) d = (none, dash_change_of_differ dating text m n r s d)
 
-  back : (variant : Variant) → HasDashChange variant dating text → ReadsDifferently variant dating text
+  back : (variant : Variant) → HasDashChange variant dating text → ReadsApart variant dating text
   back RFC5424 d = absurd d
   back RFC3164 d = differs_by_dash_change dating text d
   back Either (none, d) =
@@ -252,15 +272,10 @@ module _ (dating : Dating) (text : Text) where
         differ = r.differ;
       }
 
-  pub differs_where_dash_change : (variant : Variant) → ReadsDifferently variant dating text
-      ↔ HasDashChange variant dating text
-  differs_where_dash_change variant =
-      (λ r. forth variant r.before r.now r.was_read r.is_read r.differ, back variant)
-
 -- ---- a text was read exactly where it is
 
 other_too : (dating : Dating) (text : Text) (rule other : DashRule)
-    → (ReadsDifferently RFC3164 dating text → (n : MessageValue) × IsRead3164 other dating text n) → (m : MessageValue)
+    → (ReadsApart RFC3164 dating text → (n : MessageValue) × IsRead3164 other dating text n) → (m : MessageValue)
     → IsRead3164 rule dating text m → (n : MessageValue) × IsRead3164 other dating text n
 other_too dating text rule other of m r = elim (turn dating text rule other m r) [
   | inl (u, a, d) ↦
@@ -288,17 +303,41 @@ module _ (dating : Dating) (text : Text) where
         (other_too dating text BeforeAnything BeforeBlank (λ d. (d.now, d.is_read))) variant,
   )
 
+-- ---- readings that differ are two
+
+module _ (dating : Dating) (text : Text) (variant : Variant) where
+  two : (before now : Option MessageValue) → IsReadingUnder BeforeAnything variant dating text before
+      → IsReadingUnder BeforeBlank variant dating text now → before ≢ now → ReadsApart variant dating text
+  two None None r s d = absurd (d refl)
+  two None (Some n) r s d = absurd ((unread_alike dating text variant).0 r n s)
+  two (Some m) None r s d = absurd ((unread_alike dating text variant).1 s m r)
+  two (Some m) (Some n) r s d = record {
+    before = m;
+    now = n;
+    was_read = r;
+    is_read = s;
+    differ = λ e. d (ap (λ (x : MessageValue). Some x) e);
+  }
+
+  apart : ReadsDifferently variant dating text → ReadsApart variant dating text
+  apart r = two r.before r.now r.was_read r.is_read r.differ
+
+  pub differs_where_dash_change : ReadsDifferently variant dating text ↔ HasDashChange variant dating text
+  differs_where_dash_change = (
+    λ r. let a = apart r in forth dating text variant a.before a.now a.was_read a.is_read a.differ,
+    λ d. differs_apart variant dating text (back dating text variant d),
+  )
+
 -- ---- what the call finds
 
 -- the two protocols are apart, so `Either` has no part in it
-pub either_differs : (dating : Dating) (text : Text) → ReadsDifferently RFC3164 dating text
+either_differs : (dating : Dating) (text : Text) → ReadsDifferently RFC3164 dating text
     ↔ ReadsDifferently Either dating text
 either_differs dating text = (
-  λ r. back dating text Either (
-    λ vs d. not_both BeforeAnything dating (trimmed text) vs r.was_read.values d r.was_read.division,
-    forth dating text RFC3164 r.before r.now r.was_read r.is_read r.differ,
-  ),
-  λ r. back dating text RFC3164 (forth dating text Either r.before r.now r.was_read r.is_read r.differ).1,
+  λ r. let d = (differs_where_dash_change dating text RFC3164).0 r in
+      (differs_where_dash_change dating text Either).1
+      (λ vs e. not_both BeforeAnything dating (trimmed text) vs d.read.values e d.read.division, d),
+  λ r. (differs_where_dash_change dating text RFC3164).1 ((differs_where_dash_change dating text Either).0 r).1,
 )
 
 -- a dash is dropped where one stands before the list
@@ -307,9 +346,10 @@ pub told_by_list : (dating : Dating) (text t list : Text) (vs : Values (before_l
     → MatchBool b (BeginsDashChange list) (BeginsDashChange list → ⊥)
     → MatchBool b (ReadsDifferently RFC3164 dating text) (ReadsDifferently RFC3164 dating text → ⊥)
 told_by_list dating text t list vs n true e f means h =
-    differ_of_dash_change dating text vs n means h.next h.behind (rw (e, h.is) at f) h.no_blank
+    differs_apart RFC3164 dating text
+    (differ_of_dash_change dating text vs n means h.next h.behind (rw (e, h.is) at f) h.no_blank)
 told_by_list dating text t list vs n false e f means h = λ k.
-    let d = forth dating text RFC3164 k.before k.now k.was_read k.is_read k.differ in
+    let d = (differs_where_dash_change dating text RFC3164).0 k in
     let same = (front_same (Row (before_list dating)) (row_det (before_list dating) (before_det dating)) (rw e at f)
     (dropped_at dating text d)).0 in
     h (record { next = d.next; behind = d.more; is = same; no_blank = d.no_blank })
@@ -326,13 +366,15 @@ module _ (text : Text) (dating other : Dating) (z : dating.zone ≡ other.zone) 
 
   dash_change_in_any : (variant : Variant) → ((date : MonthDate) → AsksYear variant text date → ⊥)
       → ReadsDifferently variant dating text → ReadsDifferently variant other text
-  dash_change_in_any variant never r = record {
-    before = r.before;
-    now = r.now;
-    was_read = any_year variant never BeforeAnything r.before r.was_read;
-    is_read = any_year variant never BeforeBlank r.now r.is_read;
-    differ = r.differ;
-  }
+  dash_change_in_any variant never r =
+      let a = apart dating text variant r in
+      differs_apart variant other text (record {
+        before = a.before;
+        now = a.now;
+        was_read = any_year variant never BeforeAnything a.before a.was_read;
+        is_read = any_year variant never BeforeBlank a.now a.is_read;
+        differ = a.differ;
+      })
 
 -- what is told in the year that the closure answered
 told_in : (post : IncompleteDate → ℤ → Type 0) (variant : Variant) (text : Text) (tz : Option (Bor TimeZone))
@@ -364,12 +406,15 @@ told_so Either dating text false reads h = (λ t. cc, λ r. absurd (h ((either_d
 pub none_differs : (variant : Variant) (dating : Dating) (text : Text)
     → (ReadsProtocol variant protocol.RFC3164 → IsNot3164 dash_rule dating text)
     → IsTrue false ↔ ReadsDifferently variant dating text
-none_differs RFC5424 dating text none =
-    (λ t. cc, λ r. absurd (r.differ (strict.one_message text r.before r.now r.was_read r.is_read)))
+none_differs RFC5424 dating text none = (
+  λ t. cc,
+  λ r. absurd (let a = apart dating text RFC5424 r in
+      a.differ (strict.one_message text a.before a.now a.was_read a.is_read)),
+)
 none_differs RFC3164 dating text none = told_so RFC3164 dating text false tt
-    (λ r. none tt r.is_read.values r.is_read.division)
+    (λ r. let a = apart dating text RFC3164 r in none tt a.is_read.values a.is_read.division)
 none_differs Either dating text none = told_so Either dating text false tt
-    (λ r. none tt r.is_read.values r.is_read.division)
+    (λ r. let a = apart dating text RFC3164 r in none tt a.is_read.values a.is_read.division)
 
 -- whoever tells the texts that are read differently tells those from which a dash is dropped
 dash_change_told : (variant : Variant) (dating : Dating) (text : Text) (b : Bool) → IsTrue b

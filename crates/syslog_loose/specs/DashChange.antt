@@ -1,16 +1,17 @@
 -- What the rule of the dash changed: how it was while a dash was a list of RFC 3164 before anything, and which texts
 -- are read otherwise now. (This project's own.)
-use Rattle.std.specs.Prelude.{◌≡◌, ◌≢◌, ℕ, false, List, [], ◌∷◌, ◌++◌, length}
+use Rattle.std.specs.Prelude.{◌≡◌, ◌≢◌, ℕ, false, List, [], ◌∷◌, ◌++◌, length, Option, Some, None}
 use Rattle.syslog_pieces.specs.Pieces.Class.{Text, Class, join}
 use Rattle.syslog_pieces.specs.StructuredData.Rfc3164List.{rfc3164_list}
 use Rattle.syslog_pieces.specs.Text.{is_blank, dash}
 use Rattle.syslog_pieces.specs.Timestamp.Zone.{Dating}
+use Rattle.syslog_pieces.specs.declared.structured_data.rfc3164_list.DashRule.{DashRule}
 use Rattle.syslog_pieces.specs.declared.structured_data.rfc3164_list.DashRule.TheVariants.{BeforeAnything}
 use Rattle.syslog_loose.specs.declared.variant.Variant.{Variant}
 use Rattle.syslog_loose.specs.declared.variant.Variant.TheVariants.{Either, RFC3164, RFC5424}
 use Rattle.syslog_loose.specs.Canonical.{IsCanonical}
 use Rattle.syslog_loose.specs.Message.{MessageValue}
-use Rattle.syslog_loose.specs.Reading.{IsReadUnder, IsRead}
+use Rattle.syslog_loose.specs.Reading.{IsReadUnder, dash_rule}
 use Rattle.syslog_loose.specs.Rfc3164.{IsRead3164}
 use Rattle.syslog_loose.specs.Rfc5424.{IsNot5424}
 
@@ -38,12 +39,17 @@ WasCanonical m = IsCanonical BeforeAnything m
 
 -- ---- what changed
 
--- the text was read as one message, and is read as another
+-- the reading of the text under this rule: the message as which it is read, or none where there is no such message
+abbrev pub IsReadingUnder : DashRule → Variant → Dating → Text → Option MessageValue → Type 0
+IsReadingUnder rule variant dating text (Some m) = IsReadUnder rule variant dating text m
+IsReadingUnder rule variant dating text None = (m : MessageValue) → IsReadUnder rule variant dating text m → ⊥
+
+-- the readings of the text under the old rule and the new one differ: they are two messages, or one alone is none
 pub record ReadsDifferently (variant : Variant) (dating : Dating) (text : Text) : Type 0 where
-  pub before : MessageValue
-  pub now : MessageValue
-  pub was_read : WasRead variant dating text before
-  pub is_read : IsRead variant dating text now
+  pub before : Option MessageValue
+  pub now : Option MessageValue
+  pub was_read : IsReadingUnder BeforeAnything variant dating text before
+  pub is_read : IsReadingUnder dash_rule variant dating text now
   pub differ : before ≢ now
 
 -- a dash before a character that is no blank
