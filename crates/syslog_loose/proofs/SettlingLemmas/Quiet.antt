@@ -1,27 +1,38 @@
--- The printed text of a message that was read shows no month date, and the variant reads its protocol.
-use Rattle.syslog_loose.proofs.Names.{inl, inr, [], ◌∷◌, ◌++◌, Option, None, sym, ap, subst, arith, Text, Dating}
-use Rattle.syslog_loose.proofs.Names.{OffsetTimestamp, MonthDate, rows_step, row_pieces, MessageValue, timestamp_text}
-use Rattle.syslog_loose.proofs.Names.{printed, dash_rule, IsRead, AsksYear, IsRead3164, Variant, Some}
-use Rattle.syslog_pieces.specs.Pieces.Class.{rest}
-use Rattle.syslog_pieces.specs.Timestamp.Rfc3164.{showing_row, ShowsYearless}
-use Rattle.syslog_pieces.specs.Timestamp.MonthDate.{yearless_date}
-use Rattle.syslog_pieces.proofs.PieceLemmas.Class.{division_front}
-use Rattle.syslog_pieces.proofs.PieceLemmas.Kinds.{Begins, begins_apart, begins_more}
+-- The printed text of a message shows no month date, and the variant reads the protocol of what was read.
+use Rattle.syslog_loose.proofs.Names.{◌≡◌, ℕ, ◌<◌, ◌≤◌, inl, inr, [], ◌∷◌, ◌++◌, length, true, Option, None, Some, refl}
+use Rattle.syslog_loose.proofs.Names.{sym, ap, subst, ◌∙◌, arith, append_assoc, is_not_whitespace}
+use Rattle.syslog_loose.proofs.Names.{drop_trailing_whitespace, Text, Front, Each, optional, is_blank, Dating}
+use Rattle.syslog_loose.proofs.Names.{OffsetTimestamp, MonthDate, MessageValue, timestamp_text, priority_of, printed}
+use Rattle.syslog_loose.proofs.Names.{dash_rule, IsRead, AsksYear, Variant}
+use Rattle.std.specs.Char.{is_ascii_digit}
+use Rattle.std.specs.Prelude.{◌^◌}
+use Rattle.std.specs.Fmt.{decimal}
+use Rattle.syslog_pieces.specs.Pri.{priority}
+use Rattle.syslog_pieces.specs.Text.{trimmed}
+use Rattle.syslog_pieces.specs.Timestamp.Rfc3164.{ShowsMonthDate}
+use Rattle.syslog_pieces.specs.Timestamp.MonthDate.{month_date}
+use Rattle.syslog_pieces.proofs.PieceLemmas.Class.{run_same, rest_same, front_same, optional_det, optional_some}
+use Rattle.syslog_pieces.proofs.PieceLemmas.Kinds.{Begins, begins_apart, begins_with}
+use Rattle.syslog_pieces.proofs.PriLemmas.{priority_det}
+use Rattle.syslog_pieces.proofs.TextLemmas.ReadBack.{number_back, digits_visible}
 use Rattle.syslog_pieces.proofs.TimestampLemmas.Rfc3164.{IsLow}
 use Rattle.syslog_pieces.proofs.TimestampLemmas.MonthDate.{month_date_begins}
 use Rattle.syslog_pieces.proofs.TimestampLemmas.Months.{IsLetter}
+use Rattle.syslog_pieces.proofs.TimestampLemmas.RoundTrip.{printed_stamp-visible}
+use Rattle.syslog_loose.specs.Canonical.{IsBounded, IsBoundedProtocol}
+use Rattle.syslog_loose.specs.Printed.{printed_3164, printed_5424}
 use Rattle.syslog_loose.specs.ReadBack.{ReadsProtocol}
+use Rattle.syslog_loose.specs.declared.message.Protocol.{Protocol}
+use Rattle.syslog_loose.specs.declared.message.Protocol.TheVariants as protocol
 use Rattle.syslog_loose.specs.declared.variant.Variant.TheVariants.{Either, RFC3164, RFC5424}
-use Rattle.syslog_loose.proofs.Rfc3164Lemmas.Apart.{shown_apart}
+use Rattle.syslog_loose.proofs.PriorityLemmas.{priority_front, priority_low, priority_trimmed}
+use Rattle.syslog_loose.proofs.Rfc3164Lemmas.Apart.{digit_range}
 use Rattle.syslog_loose.proofs.Rfc3164Lemmas.Exact.{stamp_low}
 use Rattle.syslog_loose.proofs.Rfc3164Lemmas.Near.{read_near}
 use Rattle.syslog_loose.proofs.Rfc3164Lemmas.Printed.{printed_is}
-use Rattle.syslog_loose.proofs.Rfc3164Lemmas.Shown.{shows_month_date}
-use Rattle.syslog_loose.proofs.Rfc3164Lemmas.Whole.{trimmed_whole}
-use Rattle.syslog_loose.proofs.Rfc3164Lemmas.Rows.{to_stamp, to_stamp_det}
-use Rattle.syslog_loose.proofs.Rfc3164Lemmas.ReadBack.{to_stamp_back}
+use Rattle.syslog_loose.proofs.Rfc3164Lemmas.Shown.{shown_parts, shows_month_date}
 use Rattle.syslog_loose.proofs.Rfc5424Lemmas.ReadBack as rfc5424
-use Rattle.syslog_loose.proofs.SettlingLemmas.Falls.{behind_space}
+use Rattle.syslog_loose.proofs.TrimLemmas.{visible_no_blank, last_append, drop_after}
 
 -- ---- the protocol of a message that was read is one that the variant reads
 pub read_protocol : (variant : Variant) (dating : Dating) (text : Text) (m : MessageValue)
@@ -30,30 +41,83 @@ read_protocol RFC5424 dating text m r = rw (ap (λ (x : MessageValue). x.protoco
 read_protocol RFC3164 dating text m r = rw (read_near dash_rule dating text m r).protocol tt
 read_protocol Either dating text m r = tt
 
+-- and its numbers are bounded
+read_bounded : (variant : Variant) (dating : Dating) (text : Text) (m : MessageValue) → IsRead variant dating text m
+    → IsBoundedProtocol m.protocol
+read_bounded RFC5424 dating text m r = (rfc5424.read_completed dash_rule text m r).1.protocol
+read_bounded RFC3164 dating text m r = rw (read_near dash_rule dating text m r).protocol tt
+read_bounded Either dating text m (inl r) = (rfc5424.read_completed dash_rule text m r).1.protocol
+read_bounded Either dating text m (inr (none, r)) = rw (read_near dash_rule dating text m r).protocol tt
+
 -- ---- no month date
-stamp_begins : (v : Option OffsetTimestamp) (q : Text) → Begins IsLow (timestamp_text v ++ q)
-stamp_begins None q = omega arith
-stamp_begins (Some s) q = begins_more IsLow (timestamp_text (Some s)) q (stamp_low s)
 
-rfc3164_shows_none : (dating : Dating) (text : Text) (m : MessageValue) → IsRead3164 dash_rule dating text m
-    → (date : MonthDate) → ShowsYearless (printed m) date → ⊥
-rfc3164_shows_none dating text m r date h =
-    let near = read_near dash_rule dating text m r in
-    let (p, more, k) = rw (printed_is m near.protocol) at h in
-    let d = rw (trimmed_whole m near.msg_end) at (division_front (showing_row yearless_date) k) in
-    let (_, behind) = rows_step to_stamp (yearless_date ∷ rest ∷ []) to_stamp_det
-    {vs = (p, (tt, (date, (more, tt))))} (to_stamp_back m (behind_space m)) d in
-    let (q, f, _) = row_pieces (yearless_date ∷ rest ∷ []) behind in
-    begins_apart (timestamp_text m.timestamp ++ (32 ∷ behind_space m)) (λ c a b. omega arith)
-    (stamp_begins m.timestamp (32 ∷ behind_space m))
-    (subst (Begins IsLetter) (sym f.whole) (month_date_begins f.piece q date (inl f.is)))
+-- what a text begins with that has a visible first character below all letters
+abbrev pub BeginsLow : Text → Type 0
+BeginsLow t = (c : ℕ) × (more : Text) × (t ≡ c ∷ more) × IsLow c × (is_not_whitespace c ≡ true)
 
--- the printed text of what was read asks for no year
+low_more : (t q : Text) → Begins IsLow t → Each is_not_whitespace t → BeginsLow (t ++ q)
+low_more [] q h visible = absurd h
+low_more (c ∷ t) q h visible = (c, t ++ q, refl, h, visible.0)
+
+digits_low : (t : Text) → 0 < length t → Each is_ascii_digit t → Begins IsLow t
+digits_low [] long digits = absurd (omega arith)
+digits_low (c ∷ t) long digits = (digit_range c digits.0).1
+
+stamp_begins : (v : Option OffsetTimestamp) (q : Text) → BeginsLow (timestamp_text v ++ q)
+stamp_begins None q = (45, q, refl, omega arith, refl)
+stamp_begins (Some s) q = low_more (timestamp_text (Some s)) q (stamp_low s) (printed_stamp-visible s)
+
+version_begins : (version : ℕ) (q : Text) → version < 2 ^ 32 → BeginsLow (decimal version ++ q)
+version_begins version q l =
+    let (long, digits, _, _, _) = number_back version 4294967295 [] (omega (arith, l)) (omega arith) tt in
+    low_more (decimal version) q (digits_low (decimal version) long digits) (digits_visible (decimal version) digits)
+
+-- no letter follows a priority and such blanks, once the text is trimmed
+low_shows_none : (n : ℕ) (gap t : Text) → n ≤ 255 → Each is_blank gap → BeginsLow t → (date : MonthDate)
+    → ShowsMonthDate (60 ∷ (decimal n ++ (62 ∷ (gap ++ t)))) date → ⊥
+low_shows_none n gap t l blank (c, more, e, low, visible) date shown =
+    let text : Text = 60 ∷ (decimal n ++ (62 ∷ (gap ++ t))) in
+    let (p, behind, u, q, pri, run, f) = shown_parts month_date (trimmed text) date shown in
+    let left : Text = drop_trailing_whitespace (gap ++ t) in
+    let known : Front (optional priority) (trimmed text) left (Some n) =
+    rw (priority_trimmed n (gap ++ t)) (optional_some priority (priority_front n left l)) in
+    let at = (front_same (optional priority) (optional_det priority priority_det) pri known).0 in
+    let kept : left ≡ gap ++ (c ∷ drop_trailing_whitespace more) =
+    ap (λ (x : Text). drop_trailing_whitespace (gap ++ x)) e
+    ∙ ap drop_trailing_whitespace (sym (append_assoc gap (c ∷ []) more))
+    ∙ drop_after (gap ++ (c ∷ [])) more (last_append gap (c ∷ []) visible)
+    ∙ append_assoc gap (c ∷ []) (drop_trailing_whitespace more) in
+    let whole : run.piece ++ u ≡ gap ++ (c ∷ drop_trailing_whitespace more) = sym run.whole ∙ at ∙ kept in
+    let same = run_same is_blank run.piece u gap (c ∷ drop_trailing_whitespace more) whole run.is.0 run.is.1 blank
+    (visible_no_blank c visible) in
+    begins_apart u (λ x a b. omega arith)
+    (begins_with IsLow c u (drop_trailing_whitespace more)
+    (rest_same run.piece u gap (c ∷ drop_trailing_whitespace more) whole same) low)
+    (subst (Begins IsLetter) (sym f.whole) (month_date_begins f.piece q date f.is))
+
+shows_none_as : (p : Protocol) (m : MessageValue) → m.protocol ≡ p → IsBoundedProtocol p → (date : MonthDate)
+    → ShowsMonthDate (printed m) date → ⊥
+unfolding printed_3164 printed_5424
+shows_none_as protocol.RFC3164 m e l date shown =
+    low_shows_none (priority_of m) (32 ∷ []) _ (priority_low m) (refl, tt) (stamp_begins m.timestamp _) date
+    (rw (printed_is m e) at shown)
+shows_none_as (protocol.RFC5424 version) m e l date shown =
+    low_shows_none (priority_of m) [] _ (priority_low m) tt (version_begins version _ l) date
+    (rw (rfc5424.printed_is version m e) at shown)
+
+-- the printed text of a message shows none, whether the message was read or not
+pub printed_shows_none : (m : MessageValue) → IsBounded m → (date : MonthDate) → ShowsMonthDate (printed m) date → ⊥
+printed_shows_none m b = shows_none_as m.protocol m refl b.protocol
+
+-- so it asks for no year
+asks_shown : (variant : Variant) (text : Text) (date : MonthDate) → AsksYear variant text date
+    → ShowsMonthDate text date
+asks_shown RFC5424 text date asks = absurd asks
+asks_shown RFC3164 text date asks = shows_month_date text date asks
+asks_shown Either text date asks = shows_month_date text date asks
+
 pub printed_quiet : (variant : Variant) (dating : Dating) (text : Text) (m : MessageValue)
     → IsRead variant dating text m → (date : MonthDate) → AsksYear variant (printed m) date → ⊥
-printed_quiet RFC5424 dating text m r date asks = asks
-printed_quiet RFC3164 dating text m r date asks = rfc3164_shows_none dating text m r date asks
-printed_quiet Either dating text m (inl r) date asks =
-    let (again, same) = rfc5424.read_again text m r in
-    shown_apart (printed m) date (shows_month_date (printed m) date asks) again.values again.division
-printed_quiet Either dating text m (inr (none, r)) date asks = rfc3164_shows_none dating text m r date asks
+printed_quiet variant dating text m r date asks =
+    shows_none_as m.protocol m refl (read_bounded variant dating text m r) date
+    (asks_shown variant (printed m) date asks)

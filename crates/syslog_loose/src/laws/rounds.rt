@@ -3,7 +3,8 @@ ghost use Rattle.std.specs.Prelude.{◌≡◌, ◌+◌, length};
 ghost use Rattle.syslog_pieces.specs.Pieces.Class.{Text};
 ghost use Rattle.syslog_pieces.specs.Timestamp.Zone.{Dating};
 ghost use Rattle.syslog_pieces.specs.declared.timestamp.month_date.MonthDate.{MonthDate};
-ghost use Rattle.syslog_loose.specs.Canonical.{IsCanonical};
+ghost use Rattle.syslog_pieces.specs.Timestamp.Rfc3164.{ShowsMonthDate};
+ghost use Rattle.syslog_loose.specs.Canonical.{IsBounded, IsCanonical};
 ghost use Rattle.syslog_loose.specs.Message.{MessageValue};
 ghost use Rattle.syslog_loose.specs.Printed.{printed};
 ghost use Rattle.syslog_loose.specs.Reading.{AsksYear, IsRead, dash_rule};
@@ -16,7 +17,13 @@ pub fn one_first_settled_round()
         → IsFirstSettled variant dating text x → u ≡ x }
 {}
 
-/// The printed text of a message that was read asks for no year. So the year counts in round 1 alone.
+/// The printed text of a message shows no month date, with a year or without: of each message, read or not, whose
+/// numbers have the bounds of their types.
+pub fn printed_text_shows_no_month_date()
+    ensures { (m : MessageValue) → IsBounded m → (date : MonthDate) → ShowsMonthDate (printed m) date → ⊥ }
+{}
+
+/// So that of a message that was read asks for no year, and the year counts in round 1 alone.
 #[tactic(auto, using(crate::proofs::SettlingLemmas::Quiet::printed_quiet))]
 pub fn printed_text_asks_for_no_year()
     ensures { (variant : Variant) (dating : Dating) (text : Text) (m : MessageValue) → IsRead variant dating text m
