@@ -98,6 +98,38 @@ fn is_equal_to_what_is_read_and_of_its_protocol(rt: HostRuntime) {
     }
 }
 
+/// Texts that are read as equal messages: letters of a month, an element that is broken otherwise, and white space.
+const EQUALS: [(&str, &str); 4] = [
+    (
+        "<34>Oct 11 22:14:15 : a message",
+        "<34>OCT 11 22:14:15 : a message",
+    ),
+    (
+        "<13>1 2019-02-13T19:48:34+00:00 74794bfb6795 root 8449 - [incorrect x] qwerty",
+        "<13>1 2019-02-13T19:48:34+00:00 74794bfb6795 root 8449 - [incorrect x=] qwerty",
+    ),
+    (
+        "<13>1 2019-02-13T19:48:34+00:00 74794bfb6795 root 8449 - [meta a=\"1\"] x",
+        "\n            <13>1 2019-02-13T19:48:34+00:00 74794bfb6795 root 8449 - [meta a=\"1\"] x\n            ",
+    ),
+    ("1 - - - - - -", "\u{a0}1 - - - - - -\u{3000}"),
+];
+
+#[test]
+fn reads_equal_messages(rt: HostRuntime) {
+    let full = full(&rt, rt.alloc(), "");
+    for (text, other) in &EQUALS {
+        let one = read(rt.alloc(), text, Variant::Either).expect(&rt, text);
+        let same = compare_as(
+            &one,
+            &read(rt.alloc(), other, Variant::Either).expect(&rt, other),
+            true,
+        );
+        check(&rt, same, "not equal", other);
+        check(&rt, compare_as(&full, &one, false), "equal", text);
+    }
+}
+
 #[test]
 fn prints_timestamps_at_their_offset(rt: HostRuntime) {
     let utc = changed(&rt, rt.alloc(), "in 2020");

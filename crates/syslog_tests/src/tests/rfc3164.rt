@@ -15,9 +15,20 @@ use std::alloc::Global;
 use std::process::Abort;
 use syslog_loose::{Message, Protocol, Variant};
 
-/// It is the message of RFC 3164 of the cells; the printed text has the priority and the timestamp.
+/// The priority that begins the text names a facility.
+fn shows_facility(text: &str) -> bool {
+    match text.strip_prefix('<') {
+        Some(rest) => number_of(rest.split('>').next(), 192) < 192,
+        None => false,
+    }
+}
+
+/// It is the message of RFC 3164 of the cells; the printed text has the priority and the timestamp. What is absent of a
+/// priority prints as something, so that is asked of the fields.
 fn check_message(rt: &impl Abort, alloc: Global, message: &Message<&str>, text: &str, cells: &str) {
     check(rt, message.protocol == Protocol::RFC3164, "protocol", text);
+    let same = message.facility.is_some() == shows_facility(text);
+    check(rt, same, "facility", text);
     let same = message.severity.is_some() == text.starts_with('<');
     check(rt, same, "severity", text);
     check_fields(rt, message, text, cells);

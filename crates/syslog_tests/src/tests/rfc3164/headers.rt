@@ -48,6 +48,10 @@ fn reads_the_names_of_a_header(rt: HostRuntime) {
              ¦host mymachine¦msg a message\
              ¦prints <34> 2019-10-11T22:14:15+00:00 mymachine : a message",
             "-¦prints <47> - - : ",
+            // Dates alone, with a year and without.
+            "Dec 28 2008 16:49:07 ¦prints <47> 2008-12-28T16:49:07+00:00 - : ",
+            "Aug 4 16:49:07 ¦prints <47> 2019-08-04T16:49:07+00:00 - : ",
+            "Aug 4 2020 16:49:07 ¦prints <47> 2020-08-04T16:49:07+00:00 - : ",
         ],
     );
 }

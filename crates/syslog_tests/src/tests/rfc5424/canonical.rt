@@ -29,11 +29,13 @@ fn check_built(
     check_text(rt, alloc, text.as_str(), cells.as_str());
 }
 
-/// The message is not canonical, and its printed text has no reading.
+/// The message is not canonical, and its printed text has no reading, under `Either` and by RFC 5424.
 fn check_unread(rt: &impl Abort, alloc: Global, message: &Message<&str>) {
     let text = format!(in alloc; "{message}").expect(rt, "no memory");
     check(rt, !message.is_canonical(), "canonical", text.as_str());
-    check_invalid(rt, alloc, Variant::RFC5424, &[text.as_str()]);
+    for variant in &[Variant::Either, Variant::RFC5424] {
+        check_invalid(rt, alloc, *variant, &[text.as_str()]);
+    }
 }
 
 /// A row is the cells of a message with its `msg`, and those that differ from `SAME` as it is read.

@@ -29,6 +29,10 @@ fn reads_the_fields_of_a_header(rt: HostRuntime) {
              bgp_listen_accept: %DAEMON-4: x\
              ¦prints <47>1 2020-05-22T14:59:09.250-03:00 OX-XXX-MX204 OX-XXX-CONTEUDO:rpd 6589 - - bgp_listen_accept: \
              %DAEMON-4: x",
+            // Another offset than UTC is kept.
+            "<34>1 2003-10-11T22:14:15-07:00 h a 1 m - x\
+             ¦facility auth¦severity crit¦at 2003-10-11T22:14:15-07:00¦host h¦app a¦pid 1¦id m¦msg x\
+             ¦prints <34>1 2003-10-11T22:14:15-07:00 h a 1 m - x",
             // Second sixty, and more decimals than nine.
             "<34>1 2016-12-31T23:59:60.25Z h a 1 m - x\
              ¦facility auth¦severity crit¦at 2016-12-31T23:59:59.250+00:00¦host h¦app a¦pid 1¦id m¦msg x\
