@@ -13,6 +13,9 @@ const TEXT: &str = "<200>1 - - - - - -";
 
 const PRINTED: &str = "<40>1 - - - - - - ";
 
+/// A timestamp at another offset than UTC, which is kept.
+const AT_OFFSET: &str = "<34>1 2003-10-11T22:14:15-07:00 h a 1 m - x";
+
 #[test]
 fn normalises_a_text(rt: HostRuntime) {
     let utc = TimeZone::UTC;
@@ -23,6 +26,8 @@ fn normalises_a_text(rt: HostRuntime) {
         (PRINTED, Variant::Either, Some(&utc), Ok(PRINTED)),
         (TEXT, Variant::RFC5424, None, Ok(PRINTED)),
         (PRINTED, Variant::RFC5424, Some(&utc), Ok(PRINTED)),
+        (AT_OFFSET, Variant::Either, Some(&utc), Ok(AT_OFFSET)),
+        (AT_OFFSET, Variant::RFC5424, None, Ok(AT_OFFSET)),
         // Without a division.
         (
             "<256>1 - - - - - -",

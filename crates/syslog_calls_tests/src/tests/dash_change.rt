@@ -4,7 +4,9 @@ use super::reading::summer_rule;
 use jiff::tz::TimeZone;
 use std::alloc::{AllocError, Global};
 use std::process::Abort;
-use syslog_loose::{IncompleteDate, Variant, parse_message_with_year_exact_tz, reads_differently};
+use syslog_loose::{
+    IncompleteDate, Variant, normalise, parse_message_with_year_exact_tz, reads_differently,
+};
 
 const DEGREES: &str = "<34>Oct 11 22:14:15 mymachine app: -5 degrees";
 
@@ -110,7 +112,7 @@ fn asked_by_difference(
     Ok(noted)
 }
 
-// And a reading call, whether the text has a reading or not.
+// The date that a reading call asks with, if it asks, whether the text has a reading or not.
 fn asked_by_reading(alloc: Global, text: &str, variant: Variant) -> Option<IncompleteDate> {
     let mut noted = None;
     let note = |date: IncompleteDate| {
@@ -119,6 +121,17 @@ fn asked_by_reading(alloc: Global, text: &str, variant: Variant) -> Option<Incom
     };
     let utc = TimeZone::UTC;
     let _ = parse_message_with_year_exact_tz(alloc, text, note, None, variant, &utc);
+    noted
+}
+
+// The date that `normalise` asks with, if it asks.
+fn asked_by_normalising(alloc: Global, text: &str, variant: Variant) -> Option<IncompleteDate> {
+    let mut noted = None;
+    let note = |date: IncompleteDate| {
+        noted = Some(date);
+        2019
+    };
+    let _ = normalise(alloc, text, note, None, variant, &TimeZone::UTC);
     noted
 }
 
@@ -136,12 +149,16 @@ fn asks_for_a_year_as_the_reading_calls_do(rt: HostRuntime) {
         // Not of a text with a year, or with no date.
         (DEGREES, Variant::RFC5424, None),
         ("Oct 11 2019 22:14:15 h a: -5", Variant::Either, None),
+        ("<34>2019-10-11T22:14:15Z h a: m", Variant::Either, None),
+        ("<34>2019-10-11T22:14:15Z h a: m", Variant::RFC3164, None),
         ("--x", Variant::Either, None),
         (STANDARD, Variant::Either, None),
     ] {
         let noted = asked_by_difference(rt.alloc(), text, *variant).expect(&rt, text);
         check(&rt, noted == *want, text);
         let noted = asked_by_reading(rt.alloc(), text, *variant);
+        check(&rt, noted == *want, text);
+        let noted = asked_by_normalising(rt.alloc(), text, *variant);
         check(&rt, noted == *want, text);
     }
 }
