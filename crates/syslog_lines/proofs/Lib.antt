@@ -6,3 +6,4 @@ pub mod BlockLemmas
 pub mod WriteLemmas
 pub mod PumpLemmas
 pub mod ArgumentLemmas
+pub mod ReportLemmas
