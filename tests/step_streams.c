@@ -1,14 +1,14 @@
 /* Loaded into a program by LD_PRELOAD, it gives at most READ_STEP bytes of the standard input at a read, and takes at most
    WRITE_STEP bytes for the standard output at a write. The read whose number stands in WRONG_READ fails, from 1 on; so does
    the write whose number stands in WRONG_WRITE, and with TAKES_NOTHING that takes nothing instead. At the program's end it
-   writes to the file descriptor STREAMS_TELL how many reads and how many writes there were. */
+   writes to the file descriptor STREAMS_TELL how many reads and writes there were, and how many writes for the standard error. */
 #include <errno.h>
 #include <stdio.h>
 #include <stdlib.h>
 #include <sys/syscall.h>
 #include <unistd.h>
 
-static long reads, writes;
+static long reads, writes, messages;
 
 static long number(const char *name) {
     const char *text = getenv(name);
@@ -34,6 +34,7 @@ ssize_t read(int from, void *to, size_t size) {
 }
 
 ssize_t write(int to, const void *from, size_t size) {
+    messages += to == STDERR_FILENO;
     if (to != STDOUT_FILENO)
         return syscall(SYS_write, to, from, size);
     if (++writes == number("WRONG_WRITE"))
@@ -45,8 +46,8 @@ ssize_t write(int to, const void *from, size_t size) {
 ssize_t __write(int to, const void *from, size_t size) { return write(to, from, size); }
 
 __attribute__((destructor)) static void end(void) {
-    char text[64];
-    int size = snprintf(text, sizeof text, "%ld %ld\n", reads, writes);
+    char text[96];
+    int size = snprintf(text, sizeof text, "%ld %ld %ld\n", reads, writes, messages);
     int tell = (int)number("STREAMS_TELL");
     if (tell >= 0 && syscall(SYS_write, tell, text, (size_t)size) != size)
         _exit(99);
