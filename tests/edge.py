@@ -231,12 +231,12 @@ def asked(program, word, **streams):
     return subprocess.run([program, word], stdin=subprocess.DEVNULL, timeout=SECONDS, **given)
 
 
-def of_itself(usage):
-    """The cases of how a program tells how it is called, and that it judges its arguments before it reads."""
+def of_itself(text):
+    """The cases of how a program tells how it is called, in this text, and that it judges its arguments before it reads."""
 
     def tells(program):
         ran = asked(program, "--help")
-        return (ran.returncode, ran.stdout.startswith(usage), ran.stderr), (0, True, b"")
+        return (ran.returncode, ran.stdout, ran.stderr), (0, text, b"")
 
     def tells_nobody(program):
         with open("/dev/full", "wb") as full:

@@ -12,7 +12,15 @@ on one line to standard output. What a message lacks has no key:
   msgid, structured_data, message
 A line that is no message is its \"message\", with \"refused\": true, and with
 \"invalid_utf8\": true where bytes of it were replaced by U+FFFD.
-YEAR, of one to four digits, is that of dates that have none; these are in UTC.
+YEAR is one to four digits: the year of dates that have none. Such dates are
+taken in UTC. `--` may stand before YEAR.
+  --help          this text
+  --version       the name and the version of this program
 
-The status is 0; 1 where lines were refused; 2 after a fault.
+How many lines were no message is written to standard error at the end.
+
+Status:
+  0  each line is a message
+  1  some lines are no message
+  2  wrong arguments; or a read or a write failed, or memory ran out
 ";

@@ -4,9 +4,9 @@ use Rattle.std.proofs.Common.{take, drop, get_or, ap, inl, inr, nat_eq, refl, sy
 use Rattle.std.specs.Cmp.Lexicographic.{bytes_decides, pointwise}
 use Rattle.std.proofs.lemmas.List.{take_all}
 use Rattle.syslog_lines.specs.Arguments.{AreYearWords, help_word, version_word}
-use Rattle.syslog_tidy.specs.Arguments.{AreArguments, AsksFor, OnlyFlag, changed_word, flags_of, refused_word}
+use Rattle.syslog_tidy.specs.Arguments.{AskForLines, AsksFor, OnlyFlag, changed_word, flags_of, refused_word}
 use Rattle.syslog_tidy.specs.declared.args.Output.{Output}
-use Rattle.syslog_tidy.specs.declared.args.Output.TheVariants.{Settled, DashChange, Refused}
+use Rattle.syslog_tidy.specs.declared.args.Output.TheVariants.{Settled, Changed, Refused}
 use Rattle.syslog_tidy.specs.declared.args.Task.{Task}
 use Rattle.syslog_tidy.specs.declared.args.Task.TheVariants.{Help, Version, Lines}
 
@@ -20,14 +20,14 @@ no_year flag behind year long (word, inr dashed, named) =
 behind_flag : (output : Output) (behind more : List (List ℕ)) → flags_of output ++ behind ≡ flags_of output ++ more
     → behind ≡ more
 behind_flag Settled behind more same = same
-behind_flag DashChange behind more same = cc
+behind_flag Changed behind more same = cc
 behind_flag Refused behind more same = cc
 
 -- so words that begin with one name no year
 no_settled : (words behind : List (List ℕ)) (output : Output) → words ≡ flags_of output ++ behind
     → ((year : ℤ) → ¬ (AreYearWords behind year)) → (year : ℤ) → ¬ (AreYearWords words year)
 no_settled words behind Settled split none year named = none year (rw split at named)
-no_settled words behind DashChange split none year named =
+no_settled words behind Changed split none year named =
     no_year changed_word behind year (omega arith) (rw split at named)
 no_settled words behind Refused split none year named =
     no_year refused_word behind year (omega arith) (rw split at named)
@@ -35,7 +35,7 @@ no_settled words behind Refused split none year named =
 -- words whose flag was read, and that name no year behind it, are no arguments
 pub no_arguments : (words behind : List (List ℕ)) (output : Output) → words ≡ flags_of output ++ behind
     → OnlyFlag words output → ((year : ℤ) → ¬ (AreYearWords behind year))
-    → (other : Output) (year : ℤ) → ¬ (AreArguments words other year)
+    → (other : Output) (year : ℤ) → ¬ (AskForLines words other year)
 no_arguments words behind output split only none other year (more, same, named) =
     elim (only other more same) [
       | inl here ↦ none year (rw (behind_flag output more behind (sym (rw here at same) ∙ split)) at named)
@@ -51,9 +51,17 @@ flag_first [] d flag some same = absurd (omega (arith, some))
 flag_first (x ∷ xs) d flag some same =
     rw (take_all (length (x ∷ xs) - 1) xs (omega arith), (bytes_decides x.now flag).0 same) refl
 
+-- two words, of which the first is this one
+pub two_words : (args : List (Bor (List ℕ))) (d e : Bor (List ℕ)) (first : List ℕ) → length args ≡ 2
+    → pointwise nat_eq (get_or args 0 d).now first ≡ true
+    → map (λ (arg : Bor (List ℕ)). arg.now) args ≡ first ∷ (get_or args 1 e).now ∷ []
+two_words (x ∷ (y ∷ [])) d e first two same =
+    ap (λ (word : List ℕ). word ∷ (y.now ∷ [])) ((bytes_decides x.now first).0 same)
+two_words args d e first two same = absurd (omega (arith, two))
+
 -- where neither word stands alone and there are no arguments, nothing is asked for
 pub no_task : (words : List (List ℕ)) → ¬ (words ≡ help_word ∷ []) → ¬ (words ≡ version_word ∷ [])
-    → ((other : Output) (year : ℤ) → ¬ (AreArguments words other year)) → (task : Task) → ¬ (AsksFor words task)
+    → ((other : Output) (year : ℤ) → ¬ (AskForLines words other year)) → (task : Task) → ¬ (AsksFor words task)
 no_task words no_help no_version none Help = no_help
 no_task words no_help no_version none Version = no_version
 no_task words no_help no_version none (Lines output year) = none output year

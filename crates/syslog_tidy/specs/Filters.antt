@@ -12,7 +12,7 @@ use Rattle.syslog_lines.specs.Lines.{IsLines}
 use Rattle.syslog_lines.specs.Output.{Answer, AreAnswers, Filter, Marked, Omitted}
 use Rattle.syslog_lines.specs.Output.{Written, is_answered, is_passed_over, output_of}
 use Rattle.syslog_lines.specs.Pump.{FiltersAll}
-use Rattle.syslog_tidy.specs.declared.counts.DashChangeCounts.{DashChangeCounts}
+use Rattle.syslog_tidy.specs.declared.counts.Changed.{Changed}
 use Rattle.syslog_lines.specs.declared.summary.Summary.{Summary}
 
 -- the answer to a line by that to its text: encoded, or none where there is none or the line is no UTF-8
@@ -35,15 +35,15 @@ tidying year = record {
 }
 
 -- the answer is the text itself where it is read differently in this year under the two rules of the dash, or none
-abbrev pub IsDashChange : ℤ → List ℕ → Option (List ℕ) → Type 0
-IsDashChange year text (Some answer) = ReadsDifferently Either (in_utc year) text × (answer ≡ text)
-IsDashChange year text None = ¬ (ReadsDifferently Either (in_utc year) text)
+abbrev pub IsChanged : ℤ → List ℕ → Option (List ℕ) → Type 0
+IsChanged year text (Some answer) = ReadsDifferently Either (in_utc year) text × (answer ≡ text)
+IsChanged year text None = ¬ (ReadsDifferently Either (in_utc year) text)
 
 -- memory may be wanted for a text that has an answer
-abbrev pub finding_dash_changes : ℤ → Filter
-finding_dash_changes year = record {
-  Answers = of_texts (IsDashChange year);
-  Wants = λ line. IsUtf8 line × (¬ (IsDashChange year (chars line) None));
+abbrev pub finding_changed : ℤ → Filter
+finding_changed year = record {
+  Answers = of_texts (IsChanged year);
+  Wants = λ line. IsUtf8 line × (¬ (IsChanged year (chars line) None));
 }
 
 -- the answer is the line itself where nothing is written for it by `tidying`, and none where something is
@@ -73,11 +73,11 @@ WritesAgain year in_before out_before out_after summary = (output : List ℕ) �
     → IsOutput year output → Appends out_before out_after output × (summary.refused ≡ 0)
 
 -- all was read and written, and the counts are those of the lines and of those with an answer
-abbrev pub FindsDashChanges : ℤ → Option (List ℕ) → Option (List ℕ) → Option (List ℕ) → Option (List ℕ)
-    → DashChangeCounts → Type 0
-FindsDashChanges year in_before in_after out_before out_after counts = (answers : List Answer)
-    × (all : FiltersAll (finding_dash_changes year) in_before in_after out_before out_after answers)
-    × (counts.lines ≡ held_count (length all.lines)) × (counts.dash_changes ≡ held_count (count_by is_answered answers))
+abbrev pub FindsChanged : ℤ → Option (List ℕ) → Option (List ℕ) → Option (List ℕ) → Option (List ℕ)
+    → Changed → Type 0
+FindsChanged year in_before in_after out_before out_after counts = (answers : List Answer)
+    × (all : FiltersAll (finding_changed year) in_before in_after out_before out_after answers)
+    × (counts.lines ≡ held_count (length all.lines)) × (counts.changed ≡ held_count (count_by is_answered answers))
 
 -- of each of these lines exactly one is written: what `tidying` answers, or the line as it came
 abbrev pub SharesOut : ℤ → List (List ℕ) → List Answer → Type 0

@@ -1,13 +1,13 @@
 //! The program's arguments.
-ghost use Rattle.std.specs.Prelude.{◌≡◌, ◌++◌, IfSome, List, MatchOption, ℕ, ℤ, drop, map, string_bytes};
+ghost use Rattle.std.specs.Prelude.{◌≡◌, ◌++◌, Bool, IfSome, List, MatchOption, ℕ, ℤ, drop, map, string_bytes};
 ghost use Rattle.std.specs.Vec.Iter.{into_iter_items};
-ghost use Rattle.syslog_tidy.specs.Arguments.{AreArguments, AsksFor, OnlyFlag, flags_of};
+ghost use Rattle.syslog_tidy.specs.Arguments.{AreArguments, AskForLines, AsksFor, OnlyFlag, flags_of};
 ghost use Rattle.syslog_tidy.specs.declared.args.Output.{Output};
 ghost use Rattle.syslog_tidy.specs.declared.args.Task.{Task};
 
 use std::env;
 use std::env::Args;
-use syslog_lines::{is_alone, read_year_words};
+use syslog_lines::{is_alone, read_year, read_year_words};
 
 /// Which lines are wanted.
 #[derive(Clone, Copy, PartialEq, Eq)]
@@ -15,7 +15,7 @@ pub enum Output {
     /// Each line that has a settled text, as that text.
     Settled,
     /// Each that is read differently under the two rules of the dash, as it came.
-    DashChange,
+    Changed,
     /// Each that has no settled text, as it came.
     Refused,
 }
@@ -31,31 +31,49 @@ pub enum Task {
     Lines(Output, i32),
 }
 
-// The output that the first word asks for, and the words behind the flag; all of them where there is none.
+/// Whether the lines that changed are wanted, and the year: `YEAR`, or `--changed YEAR`. None for all other words.
+pub fn read_args(args: &[&str]) -> Option<(bool, i32)>
+    ensures { MatchOption result ((changed : Bool) (year : ℤ)
+        → ¬ (AreArguments (map (λ arg. arg.now) args.now) changed year))
+        (λ x. AreArguments (map (λ arg. arg.now) args.now) x.0 x.1) }
+{
+    match args {
+        [year] => Some((false, read_year(year)?)),
+        [word, year] if *word == "--changed" => Some((true, read_year(year)?)),
+        _ => None,
+    }
+}
+
+// The output that the first word asks for, and the words after the flag; all of them where there is none.
 fn read_flag<'a, 'b>(args: &'a [&'b str]) -> (Output, &'a [&'b str])
     ensures split { map (λ arg. arg.now) args.now ≡ flags_of result.0 ++ map (λ arg. arg.now) result.1.now }
     ensures only { OnlyFlag (map (λ arg. arg.now) args.now) result.0 }
 {
     match args {
-        [word, rest @ ..] if *word == "--changed" => (Output::DashChange, rest),
+        [word, rest @ ..] if *word == "--changed" => (Output::Changed, rest),
         [word, rest @ ..] if *word == "--refused" => (Output::Refused, rest),
         _ => (Output::Settled, args),
     }
 }
 
-/// The output and the year that the words ask for: `YEAR`, `--changed YEAR` or `--refused YEAR`, where `--` may stand
-/// before the year. None for all other words.
-pub fn read_args(args: &[&str]) -> Option<(Output, i32)>
+/// The output and the year that the words ask for: what `read_args` reads; and also `--refused YEAR`, and `--` before
+/// the year. None for all other words.
+fn read_lines(args: &[&str]) -> Option<(Output, i32)>
     ensures { MatchOption result ((output : Output) (year : ℤ)
-        → ¬ (AreArguments (map (λ arg. arg.now) args.now) output year))
-        (λ x. AreArguments (map (λ arg. arg.now) args.now) x.0 x.1) }
+        → ¬ (AskForLines (map (λ arg. arg.now) args.now) output year))
+        (λ x. AskForLines (map (λ arg. arg.now) args.now) x.0 x.1) }
 {
+    match read_args(args) {
+        Some((false, year)) => return Some((Output::Settled, year)),
+        Some((true, year)) => return Some((Output::Changed, year)),
+        None => {}
+    }
     let (output, words) = read_flag(args);
     let year = read_year_words(words)?;
     Some((output, year))
 }
 
-/// What the words after the program's name ask for: `--help` or `--version` alone, or what `read_args` makes of them.
+/// What the words after the program's name ask for: `--help` or `--version` alone, or what `read_lines` makes of them.
 pub fn read_task(args: &[&str]) -> Option<Task>
     ensures { MatchOption result ((task : Task) → ¬ (AsksFor (map (λ arg. arg.now) args.now) task))
         (λ task. AsksFor (map (λ arg. arg.now) args.now) task) }
@@ -66,7 +84,7 @@ pub fn read_task(args: &[&str]) -> Option<Task>
     if is_alone(args, "--version") {
         return Some(Task::Version);
     }
-    let (output, year) = read_args(args)?;
+    let (output, year) = read_lines(args)?;
     Some(Task::Lines(output, year))
 }
 
@@ -78,7 +96,7 @@ pub fn arguments(rt: &HostRuntime) -> Option<Task>
     read_words(env::args(rt).ok()?)
 }
 
-// What `read_task` makes of the words behind the first, which is the program's name.
+// What `read_task` makes of the words after the first, which is the program's name.
 fn read_words(mut words: Args) -> Option<Task>
     ensures { MatchOption result ((task : Task)
         → ¬ (AsksFor (drop 1 (map (λ word. string_bytes word) (into_iter_items words))) task))

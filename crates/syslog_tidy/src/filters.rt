@@ -7,11 +7,11 @@ ghost use Rattle.syslog_loose.specs.DashChange.{ReadsDifferently};
 ghost use Rattle.syslog_loose.specs.Reading.{IsUnreadable, in_utc};
 ghost use Rattle.syslog_loose.specs.declared.fault.ParseFault.TheVariants.{Invalid};
 ghost use Rattle.syslog_loose.specs.declared.variant.Variant.TheVariants.{Either};
-ghost use Rattle.syslog_tidy.specs.Filters.{FindsDashChanges, IsTidied, RefusesAll, TidiesAll, WritesAgain};
-ghost use Rattle.syslog_tidy.specs.Filters.{finding_dash_changes, refusing, tidying};
+ghost use Rattle.syslog_tidy.specs.Filters.{FindsChanged, IsTidied, RefusesAll, TidiesAll, WritesAgain};
+ghost use Rattle.syslog_tidy.specs.Filters.{finding_changed, refusing, tidying};
 ghost use Rattle.syslog_lines.specs.Pump.{EndsEarly, FailedAs};
 
-use crate::counts::DashChangeCounts;
+use crate::counts::Changed;
 use std::alloc::{AllocError, Global};
 use std::io::{Read, Write};
 use syslog_lines::pump::pump;
@@ -186,38 +186,38 @@ impl LineFilter for Refusals {
 ///
 /// All other lines, and those that are no UTF-8, give nothing. Blocks, faults, the flush, memory and what was written
 /// after a fault are as for `run`.
-pub fn dash_change<R: Read, W: Write>(
+pub fn changed<R: Read, W: Write>(
     alloc: Global,
     reader: &mut Watched<R>,
     writer: &mut Watched<W>,
     year: i32,
-) -> Result<DashChangeCounts, RunFault>
+) -> Result<Changed, RunFault>
     requires reader { reader.old.failed ≡ false }
     requires writer { writer.old.failed ≡ false }
-    ensures ok { IfOk result (λ counts. FindsDashChanges year (R.remaining reader.old.inner)
+    ensures ok { IfOk result (λ counts. FindsChanged year (R.remaining reader.old.inner)
         (R.remaining reader.new.inner)
         (W.contents writer.old.inner) (W.contents writer.new.inner) counts) }
-    ensures err { IfErr result (λ fault. EndsEarly (finding_dash_changes year) (R.remaining reader.old.inner)
+    ensures err { IfErr result (λ fault. EndsEarly (finding_changed year) (R.remaining reader.old.inner)
         (R.remaining reader.new.inner)
         (W.contents writer.old.inner) (W.contents writer.new.inner) fault) }
     ensures failed { FailedAs result reader.new.failed writer.new.failed }
 {
-    let tally = pump(alloc, &DashChanges { year }, reader, writer)?;
-    Ok(DashChangeCounts {
+    let tally = pump(alloc, &ChangedLines { year }, reader, writer)?;
+    Ok(Changed {
         lines: tally.lines(),
-        dash_changes: tally.answered,
+        changed: tally.answered,
     })
 }
 
 /// Writes each line that is read differently in this year, as it came.
 #[derive(Drop)]
-struct DashChanges {
+struct ChangedLines {
     year: i32,
 }
 
-impl DashChanges {
+impl ChangedLines {
     // Whether the line is read differently. It is never refused.
-    fn has_dash_change(&self, alloc: Global, line: &str) -> Result<bool, AllocError>
+    fn is_changed(&self, alloc: Global, line: &str) -> Result<bool, AllocError>
         ensures { IsOkAnd result (λ differs. IsTrue differs
             ↔ ReadsDifferently Either (in_utc self.now.year) (chars line.now)) }
     {
@@ -236,8 +236,8 @@ impl DashChanges {
     }
 }
 
-impl LineFilter for DashChanges {
-    ghost answers = { λ filter. finding_dash_changes filter.year };
+impl LineFilter for ChangedLines {
+    ghost answers = { λ filter. finding_changed filter.year };
 
     fn answer(
         &self,
@@ -246,11 +246,11 @@ impl LineFilter for DashChanges {
         _: &mut String,
         output: &mut Vec<u8>,
     ) -> Result<bool, AllocError> {
-        let is_dash_change = self.has_dash_change(alloc, line)?;
-        if is_dash_change {
+        let is_changed = self.is_changed(alloc, line)?;
+        if is_changed {
             push_line(output, line.as_bytes())?;
         }
-        Ok(is_dash_change)
+        Ok(is_changed)
     }
 
     fn answer_other(&self, _: Global, _: &[u8], _: &mut Vec<u8>) -> Result<bool, AllocError> {

@@ -10,15 +10,19 @@ mod counts;
 mod filters;
 mod report;
 
+pub use args::read_args;
 use args::{Output, Task, arguments};
-use filters::{dash_change, refused, run};
-use report::{HELP, USAGE, report_dash_change};
+pub use counts::Changed;
+pub use filters::{changed, refused, run};
+use report::HELP;
+pub use report::{report_changed, usage};
 use std::process::ExitCode;
-use syslog_lines::Watched;
-use syslog_lines::report::{refuse, report, say, say_version};
+pub use syslog_lines::report::report;
+use syslog_lines::report::{say, say_version};
+pub use syslog_lines::{RunFault, Summary, Watched, read_year};
 use syslog_loose::VERSION;
 
-// Writes the lines of standard input that are wanted, and then answers the exit status.
+// Writes the lines of standard input that are wanted, and then returns the exit status.
 fn answer_input(rt: &HostRuntime, output: Output, year: i32) -> u8 {
     let mut reader = Watched::new(rt.stdin());
     let mut writer = Watched::new(rt.stdout());
@@ -27,9 +31,9 @@ fn answer_input(rt: &HostRuntime, output: Output, year: i32) -> u8 {
             let outcome = run(rt.alloc(), &mut reader, &mut writer, year);
             report(&outcome, &mut rt.stderr())
         }
-        Output::DashChange => {
-            let outcome = dash_change(rt.alloc(), &mut reader, &mut writer, year);
-            report_dash_change(&outcome, &mut rt.stderr())
+        Output::Changed => {
+            let outcome = changed(rt.alloc(), &mut reader, &mut writer, year);
+            report_changed(&outcome, &mut rt.stderr())
         }
         Output::Refused => {
             let outcome = refused(rt.alloc(), &mut reader, &mut writer, year);
@@ -45,7 +49,7 @@ fn main(rt: HostRuntime) -> ExitCode {
         Some(Task::Lines(output, year)) => answer_input(&rt, output, year),
         Some(Task::Help) => say(HELP, &mut out, &mut errors),
         Some(Task::Version) => say_version("syslog_tidy", VERSION, &mut out, &mut errors),
-        None => refuse(USAGE, &mut errors),
+        None => usage(&mut errors),
     };
     ExitCode::from(status)
 }

@@ -1,40 +1,53 @@
 //! What the program says at its end, and of itself.
-ghost use Rattle.std.specs.Prelude.{◌≡◌};
-ghost use Rattle.syslog_lines.specs.Report.{status_of};
+ghost use Rattle.std.specs.Prelude.{◌≡◌, codes};
+ghost use Rattle.syslog_lines.specs.Report.{WritesFront, said_of, status_of};
+ghost use Rattle.syslog_tidy.specs.Arguments.{usage_line};
 
-use crate::counts::DashChangeCounts;
+use crate::counts::Changed;
 use std::io::Write;
 use syslog_lines::RunFault;
-use syslog_lines::report::{report_count, report_fault};
-
-/// How the program is called, in one line.
-pub const USAGE: &str =
-    "usage: syslog_tidy [--changed | --refused] [--] YEAR, or --help, or --version\n";
+use syslog_lines::report::{refuse, report_count, report_fault};
 
 /// How the program is called, and what it does.
 pub const HELP: &str =
     "usage: syslog_tidy [--changed | --refused] [--] YEAR, or --help, or --version
 
 Reads lines of syslog from standard input, and writes to standard output:
-  YEAR            each line that is a message, in its printed form, settled
-  --changed YEAR  as they came, the lines that are read otherwise since a dash
-                  is a list of no elements only before a blank
+  YEAR            each line that is a message, in its stable printed form:
+                  reading and printing it again changes nothing
+  --changed YEAR  as they came, the lines that the Rust crate would read
+                  differently (a leading `-` in the message)
   --refused YEAR  as they came, the lines that are no message
-YEAR, of one to four digits, is that of dates that have none; these are in UTC.
+  --help          this text
+  --version       the name and the version of this program
+YEAR is one to four digits: the year of dates that have none. Such dates are
+taken in UTC. `--` may stand before YEAR.
 
-The status is 0; 1 where lines were refused, or changed; 2 after a fault.
+How many lines were refused or changed is written to standard error at the end.
+
+Status:
+  0  no line was refused (YEAR, --refused) or changed (--changed)
+  1  some lines were
+  2  wrong arguments; or a read or a write failed, or memory ran out
 ";
 
-/// Writes how many lines changed, or the fault's text, and answers the exit status: 0 where no line changed, 1 where
+/// Writes how the program is called, in one line, and returns the exit status 2. A failed write is passed over.
+pub fn usage<W: Write>(errors: &mut W) -> u8
+    ensures status { result ≡ 2 }
+    ensures said { WritesFront (W.contents errors.old) (W.contents errors.new) usage_line }
+{
+    refuse("usage: syslog_tidy [--changed] YEAR\n", errors)
+}
+
+/// Writes how many lines changed, or the fault's text, and returns the exit status: 0 where no line changed, 1 where
 /// some did, 2 after a fault. Where none changed nothing is written. A failed write is passed over.
-pub fn report_dash_change<W: Write>(
-    outcome: &Result<DashChangeCounts, RunFault>,
-    errors: &mut W,
-) -> u8
-    ensures { result ≡ status_of (λ counts. counts.dash_changes) outcome.now }
+pub fn report_changed<W: Write>(outcome: &Result<Changed, RunFault>, errors: &mut W) -> u8
+    ensures status { result ≡ status_of (λ counts. counts.changed) outcome.now }
+    ensures said { WritesFront (W.contents errors.old) (W.contents errors.new)
+        (said_of (codes "changed") (λ counts. counts.changed) (λ counts. counts.lines) outcome.now) }
 {
     match outcome {
-        Ok(counts) => report_count("changed", counts.dash_changes, counts.lines, errors),
+        Ok(counts) => report_count("changed", counts.changed, counts.lines, errors),
         Err(fault) => report_fault(*fault, errors),
     }
 }

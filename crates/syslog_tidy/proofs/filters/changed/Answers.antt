@@ -1,7 +1,7 @@
 use Rattle.std.proofs.Common.{◌∙◌}
 use Rattle.std.proofs.lemmas.Int.{to_z-of_z}
 use Rattle.syslog_lines.proofs.AnswerLemmas.{IfErr-passed}
-use Rattle.syslog_tidy.proofs.filters.dash_change.Goals as goal
+use Rattle.syslog_tidy.proofs.filters.changed.Goals as goal
 
 pub returns-in_err-tally-clause-err : goal.returns-in_err-tally-clause-err
 returns-in_err-tally-clause-err g c =

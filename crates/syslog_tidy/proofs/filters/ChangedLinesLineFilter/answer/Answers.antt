@@ -1,11 +1,11 @@
 use Rattle.std.proofs.Common.{refl, sym}
 use Rattle.std.proofs.lemmas.Str.{encodes-chars}
 use Rattle.syslog_lines.specs.Output.{Written}
-use Rattle.syslog_tidy.proofs.filters.DashChangesLineFilter.answer.Goals as goal
+use Rattle.syslog_tidy.proofs.filters.ChangedLinesLineFilter.answer.Goals as goal
 
 pub returns-in_ok-push_line-clause-ok : goal.returns-in_ok-push_line-clause-ok
 returns-in_ok-push_line-clause-ok c =
-    let reads = c.in_ok-is_dash_change.ensures.0 c.if-is_dash_change.true in
+    let reads = c.in_ok-is_changed.ensures.0 c.if-is_changed.true in
     let spelt = sym (encodes-chars c.args.line.now c.utf8.line) in
     let added = rw c.as_bytes.ensures.value at c.in_ok-push_line.ensures.ok in
-    (Written c.args.line.now, (c.utf8.line, (_, (reads, refl), spelt)), added, c.if-is_dash_change.true)
+    (Written c.args.line.now, (c.utf8.line, (_, (reads, refl), spelt)), added, c.if-is_changed.true)

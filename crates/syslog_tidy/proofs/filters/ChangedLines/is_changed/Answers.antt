@@ -1,6 +1,6 @@
 use Rattle.std.proofs.Common.{rules}
 use Rattle.syslog_loose.proofs.ReadingLemmas.{in_this_year}
-use Rattle.syslog_tidy.proofs.filters.DashChanges.has_dash_change.Goals as goal
+use Rattle.syslog_tidy.proofs.filters.ChangedLines.is_changed.Goals as goal
 
 pub returns : goal.returns
 returns c = in_this_year c.reads_differently.ensures.reads c.args.self.now.year (search rules) (λ date y is. is.1)
