@@ -8,11 +8,14 @@ use std::io;
 use std::io::{Error, ErrorKind, Write};
 use std::test::Fail;
 use syslog_lines::pump::pump;
-use syslog_lines::{LineFilter, RunFault, Watched, push_line};
+use syslog_lines::report::report;
+use syslog_lines::{LineFilter, RunFault, Summary, Watched, push_line};
 
-/// Writes each line as it came.
+/// Writes each line as it came, or none.
 #[derive(Drop)]
-struct Echo;
+struct Echo {
+    writes: bool,
+}
 
 impl LineFilter for Echo {
     ghost answers = { λ _. record { Answers = λ line answer. ⊤; Wants = λ line. ⊤ } };
@@ -24,6 +27,9 @@ impl LineFilter for Echo {
         _: &mut String,
         output: &mut Vec<u8>,
     ) -> Result<bool, AllocError> {
+        if !self.writes {
+            return Ok(false);
+        }
         push_line(output, line.as_bytes())?;
         Ok(true)
     }
@@ -34,6 +40,9 @@ impl LineFilter for Echo {
         line: &[u8],
         output: &mut Vec<u8>,
     ) -> Result<bool, AllocError> {
+        if !self.writes {
+            return Ok(false);
+        }
         push_line(output, line)?;
         Ok(true)
     }
@@ -66,10 +75,12 @@ const TWO: &[u8] = b"one\n\xff";
 
 #[test]
 fn flushes_once_and_ends_where_no_more_reads_are_counted(rt: HostRuntime) {
-    for (calls, flush_fails, want, taken, flushes) in [
-        (0, false, None, 6usize, 1),
-        (0, true, Some(RunFault::Write), 6, 1),
-        (u64::MAX, false, Some(RunFault::Read), 0, 0),
+    for (writes, calls, flush_fails, want, taken, flushes) in [
+        (true, 0, false, None, 6usize, 1),
+        (true, 0, true, Some(RunFault::Write), 6, 1),
+        (true, u64::MAX, false, Some(RunFault::Read), 0, 0),
+        (false, 0, false, None, 0, 1),
+        (false, 0, true, Some(RunFault::Write), 0, 1),
     ] {
         let mut reader = Watched::new(TWO);
         reader.calls = calls;
@@ -78,7 +89,7 @@ fn flushes_once_and_ends_where_no_more_reads_are_counted(rt: HostRuntime) {
             flushes: 0,
             flush_fails,
         });
-        let outcome = pump(rt.alloc(), &Echo, &mut reader, &mut writer);
+        let outcome = pump(rt.alloc(), &Echo { writes }, &mut reader, &mut writer);
         check(&rt, outcome.err() == want, "outcome");
         check(&rt, writer.inner.taken == taken, "output");
         check(&rt, writer.inner.flushes == flushes, "flushes");
@@ -105,5 +116,25 @@ fn numbers_the_faults(rt: HostRuntime) {
         (RunFault::Memory, 3),
     ] {
         check(&rt, *fault as i32 == *number, "the number of a fault");
+    }
+}
+
+#[test]
+fn says_how_it_ended(rt: HostRuntime) {
+    let last = u64::MAX;
+    let none: &[u8] = b"";
+    let most: &[u8] = b"refused 18446744073709551615 of 18446744073709551615 lines\n";
+    for (outcome, status, said) in [
+        (Ok((3, 0)), 0, none),
+        (Ok((3, 1)), 1, b"refused 1 of 3 lines\n"),
+        (Ok((last, last)), 1, most),
+        (Err(RunFault::Read), 2, b"read failed\n"),
+        (Err(RunFault::Write), 2, b"write failed\n"),
+        (Err(RunFault::Memory), 2, b"out of memory\n"),
+    ] {
+        let mut errors = Vec::new(rt.alloc());
+        let outcome = outcome.map(|(lines, refused)| Summary { lines, refused });
+        check(&rt, report(&outcome, &mut errors) == status, "status");
+        check(&rt, errors.as_slice() == said, "text");
     }
 }
