@@ -12,8 +12,8 @@ use crate::outcome::Outcome;
 use crate::room::put_answer;
 use crate::rules::{rules_of, year_of};
 use std::alloc::Global;
-use std::str::from_utf8;
 use syslog_loose::{IncompleteDate, normalise, settle};
+use syslog_utf8::from_utf8;
 
 /// Writes the printed text of the line's message to the beginning of `room`, and how long it is to `needed`.
 #[unsafe(no_mangle)]

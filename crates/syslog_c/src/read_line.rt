@@ -11,8 +11,8 @@ use crate::options::Options;
 use crate::outcome::Outcome;
 use crate::rules::{rules_of, year_of};
 use std::alloc::Global;
-use std::str::from_utf8;
 use syslog_loose::{IncompleteDate, Message, ParseFault, parse_message_with_year_exact_tz};
+use syslog_utf8::from_utf8;
 
 /// The message of the line, or why there is none.
 pub(crate) fn read_line<'a>(

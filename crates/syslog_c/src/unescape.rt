@@ -5,9 +5,9 @@ ghost use Rattle.syslog_c.specs.Texts.{Unescaped};
 use crate::outcome::Outcome;
 use crate::room::put_answer;
 use std::alloc::Global;
-use std::str::from_utf8;
 use syslog_loose::ParseFault;
 use syslog_pieces::structured_data;
+use syslog_utf8::from_utf8;
 
 /// Writes the value with its escapes removed to the beginning of `room`, and how long it is to `needed`.
 #[unsafe(no_mangle)]

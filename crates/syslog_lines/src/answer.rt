@@ -6,6 +6,7 @@ use crate::filter::LineFilter;
 use crate::lines::{first_line, first_text_line};
 use crate::summary::Tally;
 use std::alloc::{AllocError, Global};
+use syslog_utf8::from_utf8;
 
 /// Adds the output of all lines to `output`, and counts them. Where memory is refused, that of the lines before is
 /// added, and the line that it was refused for is one for which it may be wanted. `text` is the filter's, for its texts
@@ -24,7 +25,7 @@ pub fn answer_lines<F: LineFilter>(
     ensures err { OnErr result
         (AnswersBefore (F.answers filter.now) lines.now (Some output.old.items) (Some output.new.items)) }
 {
-    match str::from_utf8(lines) {
+    match from_utf8(lines) {
         Ok(valid) => answer_text_lines(alloc, filter, valid, text, output, tally),
         Err(_) => answer_byte_lines(alloc, filter, lines, text, output, tally),
     }
@@ -94,7 +95,7 @@ fn answer_bytes<F: LineFilter>(
     ensures err { OnErr result (output.new.items ≡ output.old.items) }
     ensures refusal { OnErr result ((F.answers filter.now).Wants line.now) }
 {
-    match str::from_utf8(line) {
+    match from_utf8(line) {
         Ok(valid) => answer_text(alloc, filter, valid, text, output, tally),
         Err(_) => {
             let is_answered = filter.answer_other(alloc, line, output)?;

@@ -5,7 +5,7 @@ use Rattle.syslog_c.proofs.unescape.unescaped.Goals as goal
 
 pub returns-in-Ok-unescape : goal.returns-in-Ok-unescape
 returns-in-Ok-unescape c =
-    let (same, utf8) = c.in-Ok.ensures.cases in
+    let (same, utf8) = c.in-Ok.ensures in
     let bytes = IsUtf8-string_bytes c.in-Ok-unescape.unescaped in
     let unescaped = rw same at c.in-Ok-unescape.ensures in
     put_leaves (IsUnescapedValue c.args.value.now) (UnescapesNot c.args.value.now) _ _ _ _

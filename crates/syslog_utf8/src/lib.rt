@@ -1,0 +1,53 @@
+//! The check of UTF-8 that the programs and the library for C share: `simdutf8`, after a look whether all bytes are
+//! ASCII, on which it takes more instructions than std.
+//!
+//! `from_utf8(b"caf\xc3\xa9")` is `Ok("café")`, and `from_utf8(b"caf\xe9")` an error.
+#![tactic(auto)]
+
+ghost use Rattle.std.specs.Prelude.{◌≡◌, ◌+◌, ◌<◌, ◌≤◌, ℕ, length, slice_index, IsTrue, IsUtf8, MatchResult};
+ghost use Rattle.std.specs.Str.{IsAscii};
+
+use simdutf8::basic;
+pub use simdutf8::basic::Utf8Error;
+use std::simd::prelude::*;
+
+const LANES: usize = 64;
+
+/// The bytes as a text, where they are UTF-8.
+pub fn from_utf8(bytes: &[u8]) -> Result<&str, Utf8Error>
+    ensures { MatchResult result (λ text. (text.now ≡ bytes.now) × IsUtf8 bytes.now) (λ _. ¬ (IsUtf8 bytes.now)) }
+{
+    if is_ascii(bytes) {
+        return Ok(unsafe { str::from_utf8_unchecked(bytes) });
+    }
+    basic::from_utf8(bytes)
+}
+
+// Whether the bytes are ASCII, where there are sixty-four or more.
+#[inline(always)]
+fn is_ascii(bytes: &[u8]) -> bool
+    ensures { IsTrue result → IsAscii bytes.now }
+{
+    if bytes.len() < LANES {
+        return false;
+    }
+    let last = bytes.len() - LANES;
+    let mut at = 0;
+    while at < last {
+        if !are_ascii(bytes, at) {
+            return false;
+        }
+        at += LANES;
+    }
+    are_ascii(bytes, last)
+}
+
+// Whether the sixty-four bytes from a place on are.
+#[inline(always)]
+fn are_ascii(bytes: &[u8], at: usize) -> bool
+    requires { at + LANES ≤ length bytes.now }
+    ensures { IsTrue result → (k : ℕ) → at ≤ k → k < at + 64 → slice_index bytes.now k < 128 }
+{
+    let lanes = u8x64::from_slice(&bytes[at..]);
+    lanes.simd_ge(u8x64::splat(0x80)).to_bitmask() == 0
+}
