@@ -1,4 +1,5 @@
 pub mod LaneLemmas
+pub mod FeedLemmas
 pub mod LineLemmas
 pub mod CountLemmas
 pub mod AnswerLemmas

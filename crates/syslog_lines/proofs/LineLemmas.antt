@@ -1,30 +1,38 @@
 -- Lines and the place of the first line feed.
 use Rattle.std.proofs.Common.{◌≡◌, ◌≢◌, ℕ, ◌+◌, ◌-◌, ◌<◌, List, [], ◌∷◌, ◌++◌, length, length-append}
-use Rattle.std.proofs.Common.{take, drop, refl, sym, ap, ◌∙◌, subst, arith, append-nil, inl, inr}
+use Rattle.std.proofs.Common.{get_or, take, drop, refl, sym, ap, ◌∙◌, subst, arith, append-nil, eq-eqb, inl, inr}
 use Rattle.std.proofs.Math.Seq.{drop-append_seam, take-append_seam}
-use Rattle.std.proofs.lemmas.Bool.{cases_eq}
+use Rattle.std.proofs.lemmas.Bool.{cases_eq, eqb-true}
 use Rattle.std.proofs.lemmas.List.{get_or-append-add, drop_more}
 use Rattle.std.proofs.lemmas.List.{take-append-drop, get_or-take, length-take, append_assoc}
 use Rattle.std.proofs.lemmas.List.Elements.{All-from_get_or, All-nil, All-cons, All-head}
 use Rattle.std.proofs.lemmas.List.Elements.{All-append, All-drop, All-push, All-take}
 use Rattle.std.specs.List.{All}
 use Rattle.syslog_lines.specs.Lines.{NoFeed, with_feeds, IsLines, IsFirstLine, EndsInFeed}
-use Rattle.syslog_lines.specs.Search.{IsNextFeed}
+use Rattle.memchr.specs.Find.{NoneBefore, Nowhere, Passes, is_byte}
 
 -- the byte is no line feed
 abbrev pub IsOther : ℕ → Type 0
 IsOther byte = byte ≢ 10
 
 -- the bytes in two, at the first line feed
-pub IsFirstLine-at_feed : (bytes : List ℕ) (end : ℕ) → IsNextFeed bytes 0 end → end < length bytes
-    → IsFirstLine bytes (take end bytes) (drop (end + 1) bytes)
-IsFirstLine-at_feed bytes end next some =
-    let feed = rw (next.feed some) at (drop_more bytes end 0 some) in (
+pub IsFirstLine-at_feed : (bytes : List ℕ) (end : ℕ) → NoneBefore (Passes (is_byte 10) bytes) 0 (length bytes) end
+    → Passes (is_byte 10) bytes end → IsFirstLine bytes (take end bytes) (drop (end + 1) bytes)
+IsFirstLine-at_feed bytes end first feed =
+    let rest = rw (eqb-true (get_or bytes end 0) 10 feed) at (drop_more bytes end 0 first.high) in (
       All-from_get_or IsOther (take end bytes) 0
           (λ k below. let within : k < end = omega (arith, length-take end bytes) in
-          rw (get_or-take end bytes k 0 within) (next.before k (omega arith) within)),
-      inl (sym (take-append-drop end bytes) ∙ ap (λ (l : List ℕ). take end bytes ++ l) feed),
+          rw (get_or-take end bytes k 0 within) (λ is. first.before k (omega arith) within (eq-eqb _ 10 is))),
+      inl (sym (take-append-drop end bytes) ∙ ap (λ (l : List ℕ). take end bytes ++ l) rest),
     )
+
+-- bytes in which there is none
+pub IsFirstLine-whole : (bytes : List ℕ) → Nowhere (Passes (is_byte 10) bytes) 0 (length bytes)
+    → IsFirstLine bytes bytes []
+IsFirstLine-whole bytes none = (
+  All-from_get_or IsOther bytes 0 (λ k within is. none k (omega arith) within (eq-eqb _ 10 is)),
+  inr (refl, refl),
+)
 
 pub all_front : {X : Type 0} (P : X → Type 0) (xs ys : List X) → All P (xs ++ ys) → All P xs
 all_front P xs ys all = subst (All P) (take-append_seam xs ys) (All-take P (length xs) (xs ++ ys) all)

@@ -4,9 +4,9 @@ ghost use Rattle.std.specs.Prelude.{slice_index, vec_len, false, true, IfOk, IfE
 ghost use Rattle.std.specs.Io.KnownBytes.{Consumes, IsAtEnd, Keeps};
 ghost use Rattle.syslog_lines.specs.Size.{block_size};
 
-use crate::search::past_last_feed;
 use crate::summary::RunFault;
 use crate::watched::Watched;
+use memchr::memrchr;
 use std::alloc::{AllocError, Global};
 use std::io;
 use std::io::Read;
@@ -126,6 +126,19 @@ impl Block {
             self.complete = past;
         }
         self.end = end;
+    }
+}
+
+// The place after the last line feed from a place on, or that place where there is none.
+fn past_last_feed(bytes: &[u8], from: usize) -> usize
+    requires { from ≤ length bytes.now }
+    ensures within { (from ≤ result) × (result ≤ length bytes.now) }
+    ensures closed { from < result → slice_index bytes.now (result - 1) ≡ 10 }
+    ensures open { (k : ℕ) → result ≤ k → k < length bytes.now → slice_index bytes.now k ≢ 10 }
+{
+    match memrchr(b'\n', &bytes[from..]) {
+        Some(feed) => from + feed + 1,
+        None => from,
     }
 }
 

@@ -8,11 +8,9 @@ use crate::search::next_feed;
 pub fn first_line(bytes: &[u8]) -> (&[u8], &[u8])
     ensures { IsFirstLine bytes.now result.0.now result.1.now }
 {
-    let end = next_feed(bytes);
-    let (line, rest) = bytes.split_at(end);
-    match rest {
-        [] => (line, rest),
-        [_, rest @ ..] => (line, rest),
+    match next_feed(bytes) {
+        Some(end) => (&bytes[..end], &bytes[end + 1..]),
+        None => (bytes, &[]),
     }
 }
 
@@ -21,11 +19,8 @@ pub fn first_line(bytes: &[u8]) -> (&[u8], &[u8])
 pub fn first_text_line(text: &str) -> (&str, &str)
     ensures { IsFirstLine text.now result.0.now result.1.now }
 {
-    let end = next_feed(text.as_bytes());
-    if end == text.len() {
-        return (text, "");
+    match next_feed(text.as_bytes()) {
+        Some(end) => (&text[..end], &text[end + 1..]),
+        None => (text, ""),
     }
-    let (line, _) = text.split_at(end);
-    let (_, rest) = text.split_at(end + 1);
-    (line, rest)
 }

@@ -1,63 +1,47 @@
-//! Where line feeds stand, sixty-four bytes at a time.
-ghost use Rattle.std.specs.Prelude.{◌+◌, ◌≤◌, length, take};
-ghost use Rattle.syslog_lines.specs.Search.{IsNextFeed, IsPastLastFeed, IsRun};
+//! Where a line ends.
+ghost use Rattle.std.specs.Prelude.{◌≡◌, ◌≢◌, ◌+◌, ◌<◌, ◌≤◌, ℕ, length, slice_index};
+ghost use Rattle.memchr.specs.Find.{IsFirstByte, is_byte};
+ghost use Rattle.syslog_lines.specs.Search.{IsRun};
 
+use memchr::memchr;
 use std::simd::prelude::*;
 
 const LANES: usize = 64;
 
-/// The place of the first line feed, or the length where there is none.
+// Most lines end before so many bytes, and there this takes fewer instructions than `memchr`.
+const NEAR: usize = 256;
+
+/// The place of the first line feed, as `memchr` returns it.
 #[inline(always)]
-pub fn next_feed(bytes: &[u8]) -> usize
-    ensures { IsNextFeed bytes.now 0 result }
+pub fn next_feed(bytes: &[u8]) -> Option<usize>
+    ensures { IsFirstByte (is_byte 10) bytes.now result }
 {
-    let mut end = 0;
-    while bytes.len() - end >= LANES {
-        let run = feedless_run(bytes, end);
-        if run < LANES {
-            return end + run;
+    let mut seen = 0;
+    if bytes.len() >= NEAR {
+        while NEAR - seen >= LANES {
+            let run = feedless_run(bytes, seen);
+            if run < LANES {
+                return Some(seen + run);
+            }
+            seen += LANES;
         }
-        end += LANES;
     }
-    next_feed_by_one(bytes, end)
+    let end = far_feed(bytes, seen);
+    if end < bytes.len() { Some(end) } else { None }
 }
 
-/// The place after the last line feed from a place on, or that place where there is none.
-pub fn past_last_feed(bytes: &[u8], from: usize) -> usize
-    requires { from ≤ length bytes.now }
-    ensures { IsPastLastFeed bytes.now from result }
+// The same, where none stands before a place: the length where there is none.
+fn far_feed(bytes: &[u8], from: usize) -> usize
+    requires within { from ≤ length bytes.now }
+    requires before { (k : ℕ) → k < from → slice_index bytes.now k ≢ 10 }
+    ensures within { result ≤ length bytes.now }
+    ensures before { (k : ℕ) → k < result → slice_index bytes.now k ≢ 10 }
+    ensures feed { result < length bytes.now → slice_index bytes.now result ≡ 10 }
 {
-    let mut past = bytes.len();
-    while past - from >= LANES && feedless_run(bytes, past - LANES) == LANES {
-        past -= LANES;
+    match memchr(b'\n', &bytes[from..]) {
+        Some(feed) => from + feed,
+        None => bytes.len(),
     }
-    past_last_feed_by_one(bytes, from, past)
-}
-
-// The same as `next_feed`, from a place on.
-#[inline(always)]
-fn next_feed_by_one(bytes: &[u8], from: usize) -> usize
-    requires { from ≤ length bytes.now }
-    ensures { IsNextFeed bytes.now from result }
-{
-    let mut end = from;
-    while end < bytes.len() && bytes[end] != b'\n' {
-        end += 1;
-    }
-    end
-}
-
-// The same as `past_last_feed`, of the bytes before a place.
-fn past_last_feed_by_one(bytes: &[u8], from: usize, end: usize) -> usize
-    requires ordered { from ≤ end }
-    requires within { end ≤ length bytes.now }
-    ensures { IsPastLastFeed (take end bytes.now) from result }
-{
-    let mut past = end;
-    while past > from && bytes[past - 1] != b'\n' {
-        past -= 1;
-    }
-    past
 }
 
 // How many of the sixty-four bytes from a place on stand before the first line feed.

@@ -1,19 +1,23 @@
-use Rattle.std.proofs.Common.{◌≡◌, ◌<◌, length, get_or, arith}
-use Rattle.std.proofs.lemmas.Str.{IsCharBoundary-after_ascii}
-use Rattle.syslog_lines.proofs.LineLemmas.{IsFirstLine-at_feed}
+use Rattle.std.proofs.Common.{arith, ◌∙◌}
+use Rattle.std.proofs.lemmas.Bool.{eqb-true}
+use Rattle.std.proofs.lemmas.Slice.{between_is}
+use Rattle.std.proofs.lemmas.Str.{lead_after_ascii}
+use Rattle.syslog_lines.proofs.LineLemmas.{IsFirstLine-at_feed, IsFirstLine-whole}
 use Rattle.syslog_lines.proofs.lines.first_text_line.Goals as goal
 
-pub split_at-requires-2 : goal.split_at-requires-2
-split_at-requires-2 c =
-    let end = c.next_feed-end.result in
-    let next = rw c.as_bytes.ensures.value at c.next_feed-end.ensures in
-    let some : end < length c.args.text.now = omega arith in
-    let feed : get_or c.args.text.now end 0 ≡ 10 = next.feed some in
-    IsCharBoundary-after_ascii c.args.text.now end c.utf8.text some (omega arith)
+pub range_from-requires : goal.range_from-requires
+range_from-requires c =
+    let (first, feed) = rw c.as_bytes.ensures.value at c.in-Some.ensures in
+    λ some. (
+      omega (arith, first.high),
+      lead_after_ascii c.args.text.now c.in-Some.end c.utf8.text (omega (arith, eqb-true _ 10 feed)),
+    )
 
-pub returns : goal.returns
-returns c =
-    let next = rw c.as_bytes.ensures.value at c.next_feed-end.ensures in
-    let some : c.next_feed-end.result < length c.args.text.now = omega arith in
-    rw (c.split_at.ensures.front, c.split_at-2.ensures.back)
-    (IsFirstLine-at_feed c.args.text.now c.next_feed-end.result next some)
+pub returns-in-Some : goal.returns-in-Some
+returns-in-Some c =
+    let (first, feed) = rw c.as_bytes.ensures.value at c.in-Some.ensures in
+    rw (c.range.ensures.value ∙ between_is c.args.text.now 0 c.in-Some.end, c.range_from.ensures.value)
+    (IsFirstLine-at_feed c.args.text.now c.in-Some.end first feed)
+
+pub returns-in-None : goal.returns-in-None
+returns-in-None c = IsFirstLine-whole c.args.text.now (rw c.as_bytes.ensures.value at c.in-None.ensures)

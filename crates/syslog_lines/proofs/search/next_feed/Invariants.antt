@@ -1,11 +1,11 @@
-use Rattle.std.proofs.Common.{◌≢◌, ℕ, ◌-◌, ◌<◌, ◌≤◌, length, slice_index}
+use Rattle.std.proofs.Common.{◌≢◌, ℕ, ◌-◌, ◌<◌, ◌≤◌, slice_index}
 use Rattle.syslog_lines.proofs.search.next_feed.Given as goal
 
-abbrev pub invariant-loop-end : goal.invariant-loop-end
-invariant-loop-end l = record {
-  within : l.end ≤ length l.bytes;
-  before : (k : ℕ) → k < l.end → slice_index l.bytes k ≢ 10;
+abbrev pub invariant-loop-seen : goal.invariant-loop-seen
+invariant-loop-seen l = record {
+  within : l.seen ≤ 256;
+  before : (k : ℕ) → k < l.seen → slice_index l.bytes k ≢ 10;
 }
 
-abbrev pub decreases-loop-end : goal.decreases-loop-end
-decreases-loop-end l = length l.bytes - l.end
+abbrev pub decreases-loop-seen : goal.decreases-loop-seen
+decreases-loop-seen l = 256 - l.seen
