@@ -1,7 +1,7 @@
 -- Answers to several lines, one after the other, to whatever they are written.
 use Rattle.std.proofs.Common.{◌≡◌, ℕ, ◌+◌, ◌<◌, cond, List, [], ◌∷◌, ◌++◌, length, take, Bool, true, false, eqb}
-use Rattle.std.proofs.Common.{Option, Some, Result, Ok, Err, OnErr, IfErr, IsErrAnd, sym, subst, refl, ◌∙◌}
-use Rattle.std.proofs.Common.{arith, append_assoc, append-nil}
+use Rattle.std.proofs.Common.{Option, Some, Result, Ok, Err, OnErr, IfErr, IsErr, IsErrAnd, sym, subst, refl, ◌∙◌}
+use Rattle.std.proofs.Common.{arith, append_assoc, append-nil, rules}
 use Rattle.std.specs.List.{AllZip}
 use Rattle.std.specs.Io.KnownBytes.{Keeps}
 use Rattle.std.proofs.KnownBytes.{Appends-kept, Appends-nil, Appends-trans}
@@ -13,7 +13,7 @@ use Rattle.syslog_lines.specs.Count.{held_count}
 use Rattle.syslog_lines.specs.declared.summary.Tally.{Tally}
 use Rattle.syslog_lines.specs.Lines.{IsFirstLine}
 use Rattle.syslog_lines.specs.Output.{AddsAnswer, Filter, answer_bytes, output_of}
-use Rattle.syslog_lines.specs.Write.{Answered, AnswersAll, AnswersBefore, Wrote, WroteBefore, WroteCut}
+use Rattle.syslog_lines.specs.Write.{AddsAnswers, Answered, AnswersAll, AnswersBefore, Wrote, WroteBefore, WroteCut}
 use Rattle.syslog_lines.proofs.CountLemmas.{Counts-append, Counts-one}
 use Rattle.syslog_lines.proofs.LineLemmas.{IsLines-cons, IsLines-nil, some_lines}
 
@@ -135,11 +135,17 @@ AnswersAll-end filter bytes [] old mid was is empty same none so_far =
 AnswersAll-end filter bytes (byte ∷ rest) old mid was is empty same none so_far =
     absurd (omega (arith, eqb-true (length (byte ∷ rest)) 0 (sym same ∙ none)))
 
+-- ---- errors that were passed on by `?`
+
 pub OnErr-any : {X E : Type 0} (r : Result X E) (P : Type 0) → P → OnErr r P
 OnErr-any (Ok x) P p = tt
 OnErr-any (Err e) P p = p
 
--- an error that was passed on by `?`
+pub AddsAnswers-stopped : {X E : Type 0} (filter : Filter) (bytes old new : List ℕ) (was is : Tally) (r : Result X E)
+    → IsErr r → AnswersBefore filter bytes (Some old) (Some new) → AddsAnswers filter bytes old new was is r
+AddsAnswers-stopped filter bytes old new was is (Ok x) stopped first = search rules
+AddsAnswers-stopped filter bytes old new was is (Err e) stopped first = first
+
 pub IfErr-passed : {X E : Type 0} (r : Result X E) (e : E) (P : E → Type 0) → IsErrAnd r (λ y. y ≡ e) → P e → IfErr r P
 IfErr-passed (Ok x) e P is p = tt
 IfErr-passed (Err y) e P is p = subst P (sym is) p

@@ -1,13 +1,13 @@
 -- Bytes that are written in several steps.
 use Rattle.std.proofs.Common.{◌≡◌, ℕ, Bool, true, subst, ◌-◌, ◌≤◌, List, [], ◌∷◌, ◌++◌, length, length-drop, take, drop}
-use Rattle.std.proofs.Common.{Option, Some, Result, Ok, Err, OnOk, OnErr, sym, ◌∙◌}
+use Rattle.std.proofs.Common.{Option, Some, Result, Ok, Err, sym, ◌∙◌}
 use Rattle.std.proofs.Common.{ap, append_assoc, append-nil, arith, refl}
 use Rattle.std.proofs.KnownBytes.{Appends-kept, Appends-trans}
 use Rattle.std.proofs.lemmas.List.{take_all, take_at, take-append-drop}
 use Rattle.std.specs.Io.KnownBytes.{Appends, Keeps}
 use Rattle.syslog_lines.specs.Lines.{IsLines}
 use Rattle.syslog_lines.specs.Output.{Filter, output_of}
-use Rattle.syslog_lines.specs.Write.{AnswersAll, AnswersBefore, WritesFirst, Wrote, WroteCut}
+use Rattle.syslog_lines.specs.Write.{AddsAnswers, AnswersAll, AnswersBefore, WritesFirst, Wrote, WroteCut}
 use Rattle.syslog_lines.specs.declared.summary.Tally.{Tally}
 use Rattle.syslog_lines.specs.declared.summary.RunFault.{RunFault}
 use Rattle.syslog_lines.specs.declared.summary.RunFault.TheVariants.{Write}
@@ -114,11 +114,21 @@ module _ (filter : Filter) (bytes : List ℕ) (old mid out_before out_after : Op
   AnswersAll-begun was is (lines, cut, all) =
       (lines, cut, WroteCut-begun lines lines [] (sym (append-nil lines)) all.wrote)
 
-  -- whether all lines were answered or those before one that wants memory
-  pub WritesFirst-begun : {X E : Type 0} (r : Result X E) (was is : Tally) (failed : Bool) (fault : RunFault)
-      → OnOk r (AnswersAll filter bytes old mid was is) → OnErr r (AnswersBefore filter bytes old mid)
-      → (fault ≡ Write) × (failed ≡ true) → WritesFirst filter bytes out_before out_after failed fault
-  WritesFirst-begun (Ok x) was is failed fault all first (named, failure) =
-      rw named (failure, AnswersAll-begun was is all)
-  WritesFirst-begun (Err e) was is failed fault all (lines, cut, first) (named, failure) = rw named
-      (failure, (lines, cut, WroteCut-begun lines first.before (first.line ∷ first.after) first.listed first.wrote))
+-- whether all lines were answered or those before one that wants memory
+pub WritesFirst-begun : {X E : Type 0} (filter : Filter) (bytes old mid : List ℕ)
+    (out_before out_after : Option (List ℕ)) → ((output : List ℕ) → Appends (Some old) (Some mid) output
+    → (size : ℕ) × Appends out_before out_after (take size output)) → (was is : Tally) (r : Result X E)
+    → AddsAnswers filter bytes old mid was is r → (failed : Bool) (fault : RunFault)
+    → (fault ≡ Write) × (failed ≡ true) → WritesFirst filter bytes out_before out_after failed fault
+WritesFirst-begun filter bytes old mid out_before out_after begins was is (Ok x) all failed fault (named, failure) =
+    rw named (failure, AnswersAll-begun filter bytes _ _ _ _ begins was is all)
+WritesFirst-begun filter bytes old mid out_before out_after begins was is (Err e) (lines, cut, first) failed fault
+    (named, failure) = rw named (
+      failure,
+      (
+        lines,
+        cut,
+        WroteCut-begun filter bytes _ _ _ _ begins lines first.before (first.line ∷ first.after) first.listed
+            first.wrote,
+      ),
+    )

@@ -1,5 +1,6 @@
 -- What is written for some lines.
-use Rattle.std.specs.Prelude.{◌≡◌, ℕ, Bool, true, false, List, ◌∷◌, ◌++◌, Option, take}
+use Rattle.std.specs.Prelude.{◌≡◌, ℕ, Bool, true, false, List, ◌∷◌, ◌++◌, Option, Some}
+use Rattle.std.specs.Prelude.{Result, Ok, Err, take}
 use Rattle.std.specs.Io.KnownBytes.{Appends}
 use Rattle.syslog_lines.specs.Lines.{IsLines}
 use Rattle.syslog_lines.specs.Output.{Answer, AreAnswers, Counts, Filter, output_of}
@@ -47,6 +48,11 @@ AnswersAll filter bytes out_before out_after was is = (lines : List (List ℕ)) 
 abbrev pub AnswersBefore : Filter → List ℕ → Option (List ℕ) → Option (List ℕ) → Type 0
 AnswersBefore filter bytes out_before out_after = (lines : List (List ℕ)) × IsLines bytes lines
     × WroteBefore filter lines out_before out_after
+
+-- the output of all lines of the bytes was added; or memory was refused, and that of those before one that may want it
+abbrev pub AddsAnswers : {X E : Type 0} → Filter → List ℕ → List ℕ → List ℕ → Tally → Tally → Result X E → Type 0
+AddsAnswers filter bytes old new was is (Ok done) = AnswersAll filter bytes (Some old) (Some new) was is
+AddsAnswers filter bytes old new was is (Err refused) = AnswersBefore filter bytes (Some old) (Some new)
 
 -- by the fault: what was written of the output of the bytes' lines, and whether the writer failed
 abbrev pub WritesFirst : Filter → List ℕ → Option (List ℕ) → Option (List ℕ) → Bool → RunFault → Type 0

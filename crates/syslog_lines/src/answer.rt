@@ -1,6 +1,7 @@
 //! The answers of a filter to lines.
-ghost use Rattle.std.specs.Prelude.{◌≡◌, ◌∷◌, [], OnOk, OnErr, Some};
-ghost use Rattle.syslog_lines.specs.Write.{Answered, AnswersAll, AnswersBefore};
+ghost use Rattle.std.specs.Prelude.{◌≡◌, IfOk, OnErr};
+ghost use Rattle.syslog_lines.specs.Output.{AddsAnswer};
+ghost use Rattle.syslog_lines.specs.Write.{AddsAnswers};
 
 use crate::filter::LineFilter;
 use crate::lines::{first_line, first_text_line};
@@ -19,11 +20,8 @@ pub fn answer_lines<F: LineFilter>(
     output: &mut Vec<u8>,
     tally: &mut Tally,
 ) -> Result<(), AllocError>
-    ensures ok { OnOk result
-        (AnswersAll (F.answers filter.now) lines.now (Some output.old.items) (Some output.new.items)
-        tally.old tally.new) }
-    ensures err { OnErr result
-        (AnswersBefore (F.answers filter.now) lines.now (Some output.old.items) (Some output.new.items)) }
+    ensures { AddsAnswers (F.answers filter.now) lines.now output.old.items output.new.items
+        tally.old tally.new result }
 {
     match from_utf8(lines) {
         Ok(valid) => answer_text_lines(alloc, filter, valid, text, output, tally),
@@ -40,16 +38,14 @@ fn answer_text_lines<F: LineFilter>(
     output: &mut Vec<u8>,
     tally: &mut Tally,
 ) -> Result<(), AllocError>
-    ensures ok { OnOk result
-        (AnswersAll (F.answers filter.now) lines.now (Some output.old.items) (Some output.new.items)
-        tally.old tally.new) }
-    ensures err { OnErr result
-        (AnswersBefore (F.answers filter.now) lines.now (Some output.old.items) (Some output.new.items)) }
+    ensures { AddsAnswers (F.answers filter.now) lines.now output.old.items output.new.items
+        tally.old tally.new result }
 {
     let mut rest = lines;
     while !rest.is_empty() {
         let (line, after) = first_text_line(rest);
-        answer_text(alloc, filter, line, text, output, tally)?;
+        let is_answered = filter.answer(alloc, line, text, output)?;
+        tally.count(is_answered);
         rest = after;
     }
     Ok(())
@@ -64,64 +60,34 @@ fn answer_byte_lines<F: LineFilter>(
     output: &mut Vec<u8>,
     tally: &mut Tally,
 ) -> Result<(), AllocError>
-    ensures ok { OnOk result
-        (AnswersAll (F.answers filter.now) lines.now (Some output.old.items) (Some output.new.items)
-        tally.old tally.new) }
-    ensures err { OnErr result
-        (AnswersBefore (F.answers filter.now) lines.now (Some output.old.items) (Some output.new.items)) }
+    ensures { AddsAnswers (F.answers filter.now) lines.now output.old.items output.new.items
+        tally.old tally.new result }
 {
     let mut rest = lines;
     while !rest.is_empty() {
         let (line, after) = first_line(rest);
-        answer_bytes(alloc, filter, line, text, output, tally)?;
+        let is_answered = answer_bytes(alloc, filter, line, text, output)?;
+        tally.count(is_answered);
         rest = after;
     }
     Ok(())
 }
 
-// Adds the output of one line, and counts it. Where memory is refused nothing is added, and it may be wanted for the
-// line.
+// Adds the answer to a line, and tells whether it counts as answered, as the filter does.
 fn answer_bytes<F: LineFilter>(
     alloc: Global,
     filter: &F,
     line: &[u8],
     text: &mut String,
     output: &mut Vec<u8>,
-    tally: &mut Tally,
-) -> Result<(), AllocError>
-    ensures ok { OnOk result
-        (Answered (F.answers filter.now) (line.now ∷ []) (Some output.old.items) (Some output.new.items)
-        tally.old tally.new) }
+) -> Result<bool, AllocError>
+    ensures ok { IfOk result (λ is_answered. AddsAnswer
+        (F.answers filter.now) line.now output.old.items output.new.items is_answered) }
     ensures err { OnErr result (output.new.items ≡ output.old.items) }
     ensures refusal { OnErr result ((F.answers filter.now).Wants line.now) }
 {
     match from_utf8(line) {
-        Ok(valid) => answer_text(alloc, filter, valid, text, output, tally),
-        Err(_) => {
-            let is_answered = filter.answer_other(alloc, line, output)?;
-            tally.count(is_answered);
-            Ok(())
-        }
+        Ok(valid) => filter.answer(alloc, valid, text, output),
+        Err(_) => filter.answer_other(alloc, line, output),
     }
-}
-
-// The same, of a text.
-#[inline(always)]
-fn answer_text<F: LineFilter>(
-    alloc: Global,
-    filter: &F,
-    line: &str,
-    text: &mut String,
-    output: &mut Vec<u8>,
-    tally: &mut Tally,
-) -> Result<(), AllocError>
-    ensures ok { OnOk result
-        (Answered (F.answers filter.now) (line.now ∷ []) (Some output.old.items) (Some output.new.items)
-        tally.old tally.new) }
-    ensures err { OnErr result (output.new.items ≡ output.old.items) }
-    ensures refusal { OnErr result ((F.answers filter.now).Wants line.now) }
-{
-    let is_answered = filter.answer(alloc, line, text, output)?;
-    tally.count(is_answered);
-    Ok(())
 }

@@ -1,20 +1,21 @@
-use Rattle.syslog_lines.proofs.AnswerLemmas.{AnswersAll-end, AnswersBefore-here, GoesOn-more, OnErr-any, some_left}
+use Rattle.syslog_lines.proofs.AnswerLemmas.{AddsAnswers-stopped, Answered-one, AnswersAll-end, AnswersBefore-here}
+use Rattle.syslog_lines.proofs.AnswerLemmas.{GoesOn-more, some_left}
 use Rattle.syslog_lines.proofs.answer.answer_byte_lines.Goals as goal
 
 pub loop-rest-init : goal.loop-rest-init
 loop-rest-init g c = record { all = λ new is all. all; before = λ new before. before }
 
-pub returns-in_err-answer_bytes-clause-err : goal.returns-in_err-answer_bytes-clause-err
-returns-in_err-answer_bytes-clause-err g c =
-    OnErr-any _ _ (c.loop-rest.invariant.before _
+pub returns-in_err-is_answered : goal.returns-in_err-is_answered
+returns-in_err-is_answered g c =
+    AddsAnswers-stopped _ _ _ _ _ _ _ c.from_residual.ensures.0 (c.loop-rest.invariant.before _
     (AnswersBefore-here _ _ _ _ _ _ (some_left _ _ c.is_empty.ensures c.loop-rest-test.true) c.first_line.ensures
-    c.in_err-answer_bytes.ensures.refusal c.in_err-answer_bytes.ensures.err))
+    c.in_err-is_answered.ensures.refusal c.in_err-is_answered.ensures.err))
 
 pub loop-rest-preserved : goal.loop-rest-preserved
 loop-rest-preserved g c =
     GoesOn-more _ _ _ _ _ _ _ _ _ _ _ (some_left _ _ c.is_empty.ensures c.loop-rest-test.true)
-    c.first_line.ensures c.loop-rest.invariant c.in_ok-answer_bytes.ensures.ok
+    c.first_line.ensures c.loop-rest.invariant
+    (Answered-one _ _ _ _ _ _ _ c.in_ok-is_answered.ensures.ok c.count.ensures.answered c.count.ensures.passed_over)
 
-pub returns-clause-ok : goal.returns-clause-ok
-returns-clause-ok g c =
-    AnswersAll-end _ _ _ _ _ _ _ _ c.is_empty.ensures c.loop-rest-test.false c.loop-rest.invariant
+pub returns : goal.returns
+returns g c = AnswersAll-end _ _ _ _ _ _ _ _ c.is_empty.ensures c.loop-rest-test.false c.loop-rest.invariant

@@ -9,17 +9,17 @@ returns-in_err-write_whole-clause-err g c =
     IfErr-passed _ _ _ c.from_residual.ensures.1 (WritesFirst-begun _ _ _ _ _ _
     (begins_collected _ _ (g.W.Write.contents c.args.writer.now.inner)
     (g.W.Write.contents c.write_whole.new.writer.inner) c.clear.ensures.items
-    (rw c.deref.ensures.value at c.in_err-write_whole.ensures.err)) c.answer_lines-answered.result _ _ _ _
-    c.answer_lines-answered.ensures.ok c.answer_lines-answered.ensures.err c.in_err-write_whole.ensures.fault)
+    (rw c.deref.ensures.value at c.in_err-write_whole.ensures.err)) _ _ _
+    c.answer_lines-answered.ensures _ _ c.in_err-write_whole.ensures.fault)
 
 pub returns-in_err-answered-clause-err : goal.returns-in_err-answered-clause-err
 returns-in_err-answered-clause-err g c =
     IfErr-passed _ Memory _ c.from_residual-in_err-answered.ensures.1 (
       c.in_ok-write_whole.ensures.well,
       AnswersBefore-moved _ _ _ _ _ _ (appends_collected _ _ _ _ c.clear.ensures.items
-          (rw c.deref.ensures.value at c.in_ok-write_whole.ensures.ok)) c.in_err-answered.ensures.err,
+          (rw c.deref.ensures.value at c.in_ok-write_whole.ensures.ok)) c.in_err-answered.ensures,
     )
 
 pub returns-clause-ok : goal.returns-clause-ok
 returns-clause-ok g c = AnswersAll-moved _ _ _ _ _ _ (appends_collected _ _ _ _ c.clear.ensures.items
-    (rw c.deref.ensures.value at c.in_ok-write_whole.ensures.ok)) _ _ c.in_ok-answered.ensures.ok
+    (rw c.deref.ensures.value at c.in_ok-write_whole.ensures.ok)) _ _ c.in_ok-answered.ensures
