@@ -1,7 +1,7 @@
 /* Reads each line of standard input by the library for C and prints what it read, added up, as the program of totals/
  * does: a program for measurement. Dates without a year lie in 2019, and the zones are UTC.
  */
-#include "syslog.h"
+#include "syslog_loose.h"
 
 #include <inttypes.h>
 #include <stdio.h>

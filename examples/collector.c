@@ -2,7 +2,7 @@
  *
  *   collector YEAR MONTH <FILE      the year and the month that it is: dates without a year are of the months before
  */
-#include "syslog.h"
+#include "syslog_loose.h"
 
 #include <stdio.h>
 #include <stdlib.h>

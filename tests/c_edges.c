@@ -5,9 +5,9 @@
  *   c_edges LINE       each call once, on this line: a refusal of memory leaves all as it was. Status 4 where one was
  *                      refused, and 0 where none was. (It asks for no memory itself.)
  *
- * A call that breaks what syslog.h says ends the program, by its line in this file.
+ * A call that breaks what syslog_loose.h says ends the program, by its line in this file.
  */
-#include "syslog.h"
+#include "syslog_loose.h"
 
 #include <pthread.h>
 #include <stdio.h>
@@ -118,7 +118,7 @@ static void each_array(const char *line, size_t length)
         }
 }
 
-/* The same answer where nothing was set before. (syslog.h asks for it; valgrind sees that it isn't looked at.) */
+/* The same answer where nothing was set before. (syslog_loose.h asks for it; valgrind sees that it isn't looked at.) */
 static void unset(const char *line, size_t length)
 {
     static struct place whole;

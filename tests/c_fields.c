@@ -4,10 +4,10 @@
  *
  * Each line, each array and each room ends where a page begins that can't be read or written, so that a call which goes
  * past one ends the program.
- * The status is 3 where an answer isn't as syslog.h says: a text outside of its line, or a number that is not what was
- * needed.
+ * The status is 3 where an answer isn't as syslog_loose.h says: a text outside of its line, or a number that is not
+ * what was needed.
  */
-#include "syslog.h"
+#include "syslog_loose.h"
 
 #include <stdio.h>
 #include <stdlib.h>

@@ -1,4 +1,5 @@
-//! The calls of `syslog_loose` for C: a static library with one export for each. `include/syslog.h` declares them.
+//! The calls of `syslog_loose` for C: a static library with one export for each. `include/syslog_loose.h` declares
+//! them.
 //!
 //! Where `line` is `<34>Mar  2 06:35:05 gateway dropbear[2310]: Exit`, of 48 bytes, and the year of the options is
 //! 2026, the call `syslog_read(line, 48, &options, &m, &element, 1, &param, 1)` answers `SYSLOG_DONE`: then

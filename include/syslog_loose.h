@@ -1,9 +1,12 @@
-/* syslog.h: syslog messages of RFC 5424 and of the looser RFC 3164, read and printed.
+/* syslog_loose.h: syslog messages of RFC 5424 and of the looser RFC 3164, read and printed.
  *
- * The library is crates/syslog_c/out/libsyslog_c.a, for Linux on x86-64 (level v2). Link it with the toolchain's
- * liblibc_c.a, which asks the program's malloc, realloc and free for memory. It has no state: no call frees or keeps
- * anything of the caller's, none leaves anything to be freed, and threads may call it at once. Don't call it from a
- * signal handler, nor in the forked child of a process with threads.
+ * The library is libsyslog_loose, for Linux on x86-64 (level v2):
+ *
+ *     cc program.c $(pkg-config --cflags --libs syslog_loose)
+ *
+ * A program may include the system's <syslog.h> too. The library asks the program's malloc, realloc and free for
+ * memory. It has no state: no call frees or keeps anything of the caller's, none leaves anything to be freed, and
+ * threads may call it at once. Don't call it from a signal handler, nor in the forked child of a process with threads.
  *
  * What each call owes its caller is proved from its code, but not what the caller owes the call:
  *   - No pointer is null, also where its length is 0.
@@ -12,9 +15,16 @@
  *   - Each syslog_message, syslog_element and syslog_param is set before the first call, by SYSLOG_MESSAGE_INIT and the
  *     like or by an earlier call. (No call looks at what stands there.)
  *   - The texts of a message lie in the line: they last as long as its bytes do, unchanged.
+ *
+ * What stays, before version 1.0 too: the names of calls, structs, fields and macros, their numbers, and what each
+ * promises here. What a minor version may change before 1.0:
+ *   - It may add calls and outcomes, so take an outcome that you don't know for a failure.
+ *   - It may add fields at the end of a struct, so set fields by their names. The shared library (libsyslog_loose.so.0)
+ *     then gets another number: no program runs with structs of another size than it was compiled with.
+ *   - It may read a line in another way, and CHANGELOG.md then says so.
  */
-#ifndef SYSLOG_H
-#define SYSLOG_H
+#ifndef SYSLOG_LOOSE_H
+#define SYSLOG_LOOSE_H
 
 #include <stddef.h>
 #include <stdint.h>
@@ -37,7 +47,8 @@ enum syslog_outcome {
     SYSLOG_BAD_ARGUMENT = 5  /* one of the options is out of its range */
 };
 
-/* How a line is read. { .year = 2026 } reads both protocols, in that year and in UTC. */
+/* How a line is read. { .year = 2026 } reads both protocols, in that year and in UTC. { 0 } reads in the year 0, which
+ * no call refuses: a date that shows no year then lies two thousand years back. */
 struct syslog_options {
     uint32_t variant; /* 0: either protocol, RFC 5424 first; 3164 or 5424: that one */
     int32_t year;     /* of dates that show none, from -9999 to 9999 */
