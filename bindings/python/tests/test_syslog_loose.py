@@ -1,0 +1,212 @@
+"""Tests of the package, over the library that it finds: python3 -m unittest discover bindings/python/tests"""
+import json
+import os
+import sys
+import tempfile
+import threading
+import unittest
+from dataclasses import FrozenInstanceError
+from datetime import datetime, timedelta, timezone
+
+HERE = os.path.dirname(os.path.abspath(__file__))
+SAMPLES = os.path.join(HERE, "..", "..", "..", "samples")
+sys.path.insert(0, os.path.dirname(HERE))
+
+import syslog_loose  # noqa: E402
+from syslog_loose import Element, Facility, ParseError, Severity, normalise, parse, read, settle  # noqa: E402
+
+LINE = '<165>1 2003-10-11T22:14:15.003004005-07:00 mymachine app 7 ID47 [a b="c" d="\\"\\]"][e] größe'
+
+
+class Parsing(unittest.TestCase):
+    def test_each_field(self):
+        m = parse(LINE, year=2026)
+        self.assertEqual((m.protocol, m.version, m.facility, m.severity), (5424, 1, Facility.LOCAL4, Severity.NOTICE))
+        self.assertEqual(m.timestamp, datetime(2003, 10, 11, 22, 14, 15, 3004, timezone(timedelta(hours=-7))))
+        self.assertEqual((m.timestamp.utcoffset(), m.nanosecond), (timedelta(hours=-7), 3004005))
+        self.assertEqual((m.hostname, m.appname, m.procid, m.msgid), ("mymachine", "app", 7, "ID47"))
+        self.assertEqual(m.structured_data, (Element("a", (("b", "c"), ("d", '"]'))), Element("e", ())))
+        self.assertEqual((m.message, m.raw, m.timestamp_text), ("größe", LINE, None))
+
+    def test_what_is_absent(self):
+        m = parse("1 - - - - - -", year=2026)
+        none = m.facility, m.severity, m.timestamp, m.timestamp_text, m.hostname, m.appname, m.procid, m.msgid
+        self.assertEqual(none, (None,) * 8)
+        self.assertEqual((m.version, m.nanosecond, m.structured_data, m.message), (1, 0, (), ""))
+        self.assertIsNone(parse("<34>Mar  2 06:35:05 h a: x", year=2026).version)
+        self.assertEqual(parse("<34>1 - - - name - - x", year=2026).procid, "name")
+
+    def test_bytes_and_text_are_one(self):
+        for line in (LINE, "<34>Mar  2 06:35:05 gateway dropbear[2310]: Exit (root)"):
+            self.assertEqual(parse(line, year=2026), parse(line.encode(), year=2026))
+
+    def test_the_lines_of_samples(self):
+        """By the fields that the Rust crate gave."""
+        for name in ("first", "machines"):
+            place = os.path.join(SAMPLES, name)
+            with open(place + ".log", "rb") as lines, open(place + ".fields", encoding="utf-8") as wanted:
+                for line, want in zip(lines, map(json.loads, wanted)):
+                    with self.subTest(line=line):
+                        self.compare(line.rstrip(b"\n"), want)
+
+    def compare(self, line, want):
+        if not want["ok"]:
+            with self.assertRaises(ParseError):
+                parse(line, year=2026)
+            return
+        m = parse(line, year=2026)
+        at = want["timestamp"]
+        self.assertEqual("RFC%d" % m.protocol, want["protocol"])
+        self.assertEqual(None if m.facility is None else "LOG_" + m.facility.name, want["facility"])
+        self.assertEqual(None if m.severity is None else "SEV_" + m.severity.name, want["severity"])
+        self.assertEqual(m.timestamp is None, at is None)
+        if at:
+            since = m.timestamp - datetime(1970, 1, 1, tzinfo=timezone.utc)
+            self.assertEqual(since // timedelta(microseconds=1), at["nanos"] // 1000)
+            self.assertEqual((m.nanosecond, m.timestamp.utcoffset()), (at["nanos"] % 10**9, timedelta(seconds=at["offset"])))
+        self.assertEqual((m.hostname, m.appname, m.msgid, m.message), tuple(want[it] for it in ("hostname", "appname", "msgid", "msg")))
+        self.assertEqual(m.procid, want["procid"] and want["procid"]["value"])
+        elements = tuple(Element(it["id"], tuple((name, plain) for name, _, plain in it["params"])) for it in want["structured_data"])
+        self.assertEqual(m.structured_data, elements)
+        self.assertEqual(normalise(line, year=2026), want["printed"])
+
+    def test_a_message_is_frozen(self):
+        m = parse(LINE, year=2026)
+        with self.assertRaises(FrozenInstanceError):
+            m.hostname = "another"
+        self.assertEqual({m: 1}[parse(LINE, year=2026)], 1)
+
+    def test_many_elements(self):
+        for count in (7, 8, 9, 31, 32, 33, 500):
+            line = "1 - - - - - " + "".join('[e%d a="%d" ü="\\\\"]' % (i, i) for i in range(count))
+            want = tuple(Element("e%d" % i, (("a", str(i)), ("ü", "\\"))) for i in range(count))
+            self.assertEqual(parse(line, year=2026).structured_data, want)
+            self.assertEqual(parse("1 - - - - - [x]", year=2026).structured_data, (Element("x", ()),))
+
+    def test_long_lines(self):
+        for size in (4095, 4096, 4097, 1 << 20):
+            line = "1 - - - - - - ".ljust(size, "ü")
+            self.assertEqual(parse(line, year=2026).message, "ü" * (size - 14))
+            self.assertEqual(settle(line, year=2026), "<47>" + line)
+
+
+class Dates(unittest.TestCase):
+    DECEMBER = "<34>Dec 31 23:59:59 h a: x"
+
+    def test_year_month_and_offset(self):
+        for options, want in (
+            ({"year": 2020}, "2020-12-31T23:59:59+00:00"),
+            ({"year": 2020, "month": 1}, "2019-12-31T23:59:59+00:00"),
+            ({"year": 2020, "month": 12, "offset": 3600}, "2020-12-31T23:59:59+01:00"),
+            ({"year": 2020, "offset": -3661}, "2020-12-31T23:59:59-01:01:01"),
+        ):
+            self.assertEqual(parse(self.DECEMBER, **options).timestamp.isoformat(), want)
+
+    def test_before_1970(self):
+        m = parse("1 1969-12-31T23:59:58.5Z - - - - -", year=2026)
+        self.assertEqual((m.timestamp.isoformat(), m.nanosecond), ("1969-12-31T23:59:58.500000+00:00", 500_000_000))
+
+    def test_what_datetime_has_not(self):
+        for line, year, want in (
+            ("1 0000-02-29T10:00:00Z - - - - - x", 2026, "0000-02-29T10:00:00+00:00"),
+            (self.DECEMBER, 0, "0000-12-31T23:59:59+00:00"),
+        ):
+            m = parse(line, year=year)
+            self.assertEqual((m.timestamp, m.timestamp_text), (None, want))
+        m = parse(self.DECEMBER, year=2026, offset=90000)
+        self.assertIsNone(m.timestamp)
+        self.assertTrue(m.timestamp_text.startswith("2026-12-31T23:59:59"))
+
+    def test_variant(self):
+        line = "<34>1 2003-10-11T22:14:15Z h a - - - x"
+        self.assertEqual(parse(line, year=2026, variant="5424").protocol, 5424)
+        with self.assertRaises(ParseError):
+            parse(self.DECEMBER, year=2026, variant="5424")
+        self.assertEqual(parse(self.DECEMBER, year=2026, variant="3164").protocol, 3164)
+
+
+class Refusals(unittest.TestCase):
+    def test_lines_that_are_no_messages(self):
+        for line in ("gobbledegook", "", b"", b"1 - - - - - - gr\xfc\xdf", "1 - - - - - - \udc80"):
+            for call in (parse, normalise, settle):
+                with self.assertRaises(ParseError) as caught:
+                    call(line, year=2026)
+                self.assertEqual(caught.exception.line, line)
+                self.assertIn(repr(line), str(caught.exception))
+
+    def test_wrong_arguments(self):
+        for options in (
+            {"year": 10000}, {"year": 2026, "month": 13}, {"year": 2026, "offset": 93600}, {"year": 2026, "month": -1},
+            {"year": 1 << 40}, {"year": "2026"}, {"year": 2026, "variant": "rfc"},
+        ):  # fmt: skip
+            for call in (parse, normalise, settle):
+                with self.assertRaises(ValueError) as caught:
+                    call(LINE, **options)
+                self.assertNotIsInstance(caught.exception, ParseError)
+        # What came before changes nothing of what comes after.
+        self.assertEqual(parse(LINE, year=2026).procid, 7)
+
+
+class Printing(unittest.TestCase):
+    def test_normalise_and_settle(self):
+        line = "<34>Oct 11 22:14:15 mymachine app[323]: - - - a message"
+        self.assertEqual(normalise(line, year=2026), "<34> 2026-10-11T22:14:15+00:00 mymachine app[323]: - - a message")
+        self.assertEqual(settle(line, year=2026), "<34> 2026-10-11T22:14:15+00:00 mymachine app[323]: a message")
+        self.assertEqual(normalise(LINE.encode(), year=2026), LINE)
+
+
+class Reading(unittest.TestCase):
+    GIVEN = "<34>1 - a - - - - x\nno message\n<34>1 - b - - - - y".encode()
+
+    def test_files(self):
+        refused = []
+        with tempfile.TemporaryDirectory() as folder:
+            place = os.path.join(folder, "log")
+            with open(place, "wb") as out:
+                out.write(self.GIVEN)
+            hosts = [m.hostname for m in read(place, year=2026, refused=refused.append)]
+            with open(place, encoding="utf-8") as lines:
+                again = [m.raw for m in read(lines, year=2026, refused=refused.append)]
+        self.assertEqual(hosts, ["a", "b"])
+        self.assertEqual(refused, [b"no message", "no message"])
+        self.assertEqual(again, ["<34>1 - a - - - - x", "<34>1 - b - - - - y"])
+
+    def test_without_refused_it_raises(self):
+        found = read(self.GIVEN.split(b"\n"), year=2026)
+        self.assertEqual(next(found).hostname, "a")
+        with self.assertRaises(ParseError):
+            next(found)
+
+    def test_readers_within_readers(self):
+        lines = self.GIVEN.split(b"\n")
+        for one in read(lines, year=2026, refused=id):
+            for other in read(lines, year=2020, refused=id):
+                self.assertEqual(parse(self.GIVEN[:19], year=1999).message, "x")
+                self.assertIn(one.hostname + other.hostname, ("aa", "ab", "ba", "bb"))
+
+    def test_threads(self):
+        wrong = []
+
+        def work(number):
+            for i in range(2000):
+                year = 1971 + (number + i) % 90
+                m = parse("<34>Mar  2 06:35:05 host%d a[%d]: x" % (number, i), year=year)
+                if (m.timestamp.year, m.hostname, m.procid) != (year, "host%d" % number, i):
+                    wrong.append(m)
+
+        threads = [threading.Thread(target=work, args=(it,)) for it in range(8)]
+        for it in threads:
+            it.start()
+        for it in threads:
+            it.join()
+        self.assertEqual(wrong, [])
+
+
+class Package(unittest.TestCase):
+    def test_version(self):
+        with open(os.path.join(HERE, "..", "pyproject.toml"), encoding="utf-8") as project:
+            self.assertIn('version = "%s"' % syslog_loose.__version__, project.read())
+
+
+if __name__ == "__main__":
+    unittest.main()
