@@ -1,0 +1,205 @@
+//! Reads and prints syslog messages of RFC 5424 and the looser RFC 3164, over the C library `libsyslog_loose`.
+//!
+//! ```
+//! use libsyslog_loose::{parse, Options};
+//!
+//! let line = "<34>Mar  2 06:35:05 gateway dropbear[2310]: Exit (root)";
+//! let message = parse(line, &Options::in_year(2026))?;
+//! assert_eq!(message.hostname, Some("gateway"));
+//! # Ok::<(), libsyslog_loose::Error>(())
+//! ```
+#![deny(unsafe_op_in_unsafe_fn, missing_docs)]
+
+mod message;
+mod raw;
+mod timestamp;
+
+pub use message::{Element, Elements, Message, Param, Params, ProcId, Protocol, Severity};
+pub use timestamp::Timestamp;
+
+use std::borrow::Cow;
+use std::fmt;
+use std::str::from_utf8;
+
+/// By which protocol a line is read.
+#[derive(Clone, Copy, Debug, Default, PartialEq, Eq)]
+pub enum Variant {
+    /// By either one, RFC 5424 first.
+    #[default]
+    Either,
+    /// By RFC 3164 alone.
+    Rfc3164,
+    /// By RFC 5424 alone.
+    Rfc5424,
+}
+
+/// How a line is read.
+#[derive(Clone, Copy, Debug, PartialEq, Eq)]
+pub struct Options {
+    /// By which protocol.
+    pub variant: Variant,
+    /// The year of dates that show none, from -9999 to 9999.
+    pub year: i32,
+    /// Without it all such dates are of that year. With it, it is this month of that year, from 1 to 12: in January a date
+    /// of December is of the year before.
+    pub month: Option<u8>,
+    /// By how many seconds dates that show no offset are ahead of UTC, from -93599 to 93599.
+    pub offset: i32,
+}
+
+impl Options {
+    /// Either protocol, in that year and in UTC.
+    pub const fn in_year(year: i32) -> Options {
+        Options { variant: Variant::Either, year, month: None, offset: 0 }
+    }
+
+    fn raw(&self) -> raw::Options {
+        let variant = match self.variant {
+            Variant::Either => 0,
+            Variant::Rfc3164 => 3164,
+            Variant::Rfc5424 => 5424,
+        };
+        raw::Options { variant, year: self.year, month: self.month.map_or(0, u32::from), offset: self.offset }
+    }
+}
+
+/// Why there is no answer.
+#[derive(Clone, Copy, Debug, PartialEq, Eq)]
+#[non_exhaustive]
+pub enum Error {
+    /// The line is no message, or one of the texts that `settle` prints of it is none.
+    NoMessage,
+    /// The line is no UTF-8.
+    NotUtf8,
+    /// A request for memory was refused.
+    NoMemory,
+    /// The year, the month or the offset is out of its range.
+    BadArgument,
+    /// The library says something that this crate doesn't know.
+    Unknown(u32),
+}
+
+impl Error {
+    fn of(outcome: u32) -> Error {
+        match outcome {
+            raw::NO_READING => Error::NoMessage,
+            raw::NOT_UTF8 => Error::NotUtf8,
+            raw::NO_MEMORY => Error::NoMemory,
+            raw::BAD_ARGUMENT => Error::BadArgument,
+            other => Error::Unknown(other),
+        }
+    }
+}
+
+impl fmt::Display for Error {
+    fn fmt(&self, f: &mut fmt::Formatter<'_>) -> fmt::Result {
+        match self {
+            Error::NoMessage => f.write_str("the line is no message"),
+            Error::NotUtf8 => f.write_str("the line is no UTF-8"),
+            Error::NoMemory => f.write_str("a request for memory was refused"),
+            Error::BadArgument => f.write_str("there is no such year, month or offset"),
+            Error::Unknown(outcome) => write!(f, "the library returned {outcome}"),
+        }
+    }
+}
+
+impl std::error::Error for Error {}
+
+// Most lines have no more, and so need no memory but for what the message keeps of them.
+const ELEMENTS: usize = 8;
+const PARAMS: usize = 32;
+
+/// The message of a line, whose texts are pieces of it.
+pub fn parse<'a, T: AsRef<[u8]> + ?Sized>(line: &'a T, options: &Options) -> Result<Message<'a>, Error> {
+    let line = from_utf8(line.as_ref()).map_err(|_| Error::NotUtf8)?;
+    let mut message = raw::Message::NONE;
+    let (mut elements, mut params) = ([raw::Element::NONE; ELEMENTS], [raw::Param::NONE; PARAMS]);
+    match read(line, options, &mut message, &mut elements, &mut params) {
+        raw::DONE => Ok(Message::of(line, &message, &elements, &params)),
+        raw::NO_ROOM => {
+            let mut elements = vec![raw::Element::NONE; message.elements];
+            let mut params = vec![raw::Param::NONE; message.params];
+            match read(line, options, &mut message, &mut elements, &mut params) {
+                raw::DONE => Ok(Message::of(line, &message, &elements, &params)),
+                outcome => Err(Error::of(outcome)),
+            }
+        }
+        outcome => Err(Error::of(outcome)),
+    }
+}
+
+fn read(
+    line: &str,
+    options: &Options,
+    message: &mut raw::Message,
+    elements: &mut [raw::Element],
+    params: &mut [raw::Param],
+) -> u32 {
+    let options = options.raw();
+    // SAFETY: each pointer comes from a reference, with the length of its slice, so it isn't null; what is written to
+    // overlaps nothing else, and is set. The library keeps none of them.
+    unsafe {
+        raw::syslog_read(
+            line.as_ptr(),
+            line.len(),
+            &options,
+            message,
+            elements.as_mut_ptr(),
+            elements.len(),
+            params.as_mut_ptr(),
+            params.len(),
+        )
+    }
+}
+
+/// The line in printed form.
+pub fn normalise<T: AsRef<[u8]> + ?Sized>(line: &T, options: &Options) -> Result<String, Error> {
+    printed(raw::syslog_normalise, line.as_ref(), options)
+}
+
+/// The line in printed form, printed again and again until it no longer changes.
+pub fn settle<T: AsRef<[u8]> + ?Sized>(line: &T, options: &Options) -> Result<String, Error> {
+    printed(raw::syslog_settle, line.as_ref(), options)
+}
+
+fn printed(call: raw::Writer, line: &[u8], options: &Options) -> Result<String, Error> {
+    let options = options.raw();
+    // SAFETY: the pointers and lengths are those of the line and of the buffer, as in `read`.
+    filled(line.len() + 64, |room, needed| unsafe {
+        call(line.as_ptr(), line.len(), &options, room.as_mut_ptr(), room.len(), needed)
+    })
+}
+
+/// The value of a parameter without its escapes.
+fn unescape(value: &str) -> Cow<'_, str> {
+    if !value.contains('\\') {
+        return Cow::Borrowed(value);
+    }
+    // SAFETY: the pointers and lengths are those of the value and of the buffer, as in `read`.
+    let unescaped = filled(value.len(), |room, needed| unsafe {
+        raw::syslog_unescape(value.as_ptr(), value.len(), room.as_mut_ptr(), room.len(), needed)
+    });
+    // (the value is UTF-8, and the text is no longer: only memory can be refused)
+    Cow::Owned(unescaped.expect("memory for a value without its escapes"))
+}
+
+/// The text that a call writes into a buffer: this long at first, and as long as it needs then.
+fn filled(size: usize, call: impl Fn(&mut [u8], &mut usize) -> u32) -> Result<String, Error> {
+    let (mut room, mut needed) = (vec![0; size], 0);
+    let mut outcome = call(&mut room, &mut needed);
+    if outcome == raw::NO_ROOM {
+        room.resize(needed, 0);
+        outcome = call(&mut room, &mut needed);
+    }
+    if outcome != raw::DONE {
+        return Err(Error::of(outcome));
+    }
+    room.truncate(needed);
+    String::from_utf8(room).map_err(|_| Error::NotUtf8)
+}
+
+/// The version of the library: 1,000,000 for each major one, 1,000 for each minor one.
+pub fn version() -> u32 {
+    // SAFETY: the call takes nothing and changes nothing.
+    unsafe { raw::syslog_version() }
+}

@@ -1,0 +1,140 @@
+//! What `syslog_loose.h` declares, word by word.
+use std::ptr::NonNull;
+
+#[repr(C)]
+pub struct Options {
+    pub variant: u32,
+    pub year: i32,
+    pub month: u32,
+    pub offset: i32,
+}
+
+/// A piece of the line, in UTF-8.
+#[repr(C)]
+#[derive(Clone, Copy)]
+pub struct Text {
+    pub start: *const u8,
+    pub length: usize,
+    pub present: u32,
+}
+
+#[repr(C)]
+pub struct Timestamp {
+    pub seconds: i64,
+    pub nanoseconds: i32,
+    pub offset: i32,
+    pub present: u32,
+}
+
+#[repr(C)]
+pub struct Process {
+    pub name: Text,
+    pub number: i32,
+    pub is_number: u32,
+}
+
+#[repr(C)]
+pub struct Message {
+    pub protocol: u32,
+    pub version: u32,
+    pub facility: i32,
+    pub severity: i32,
+    pub timestamp: Timestamp,
+    pub host: Text,
+    pub app: Text,
+    pub process: Process,
+    pub msgid: Text,
+    pub msg: Text,
+    pub elements: usize,
+    pub params: usize,
+}
+
+#[repr(C)]
+#[derive(Clone, Copy)]
+pub struct Element {
+    pub id: Text,
+    pub params: usize,
+}
+
+#[repr(C)]
+#[derive(Clone, Copy)]
+pub struct Param {
+    pub name: Text,
+    pub value: Text,
+}
+
+impl Text {
+    pub const NONE: Text = Text { start: NonNull::dangling().as_ptr(), length: 0, present: 0 };
+}
+
+impl Element {
+    pub const NONE: Element = Element { id: Text::NONE, params: 0 };
+}
+
+impl Param {
+    pub const NONE: Param = Param { name: Text::NONE, value: Text::NONE };
+}
+
+impl Message {
+    pub const NONE: Message = Message {
+        protocol: 0,
+        version: 0,
+        facility: 0,
+        severity: 0,
+        timestamp: Timestamp { seconds: 0, nanoseconds: 0, offset: 0, present: 0 },
+        host: Text::NONE,
+        app: Text::NONE,
+        process: Process { name: Text::NONE, number: 0, is_number: 0 },
+        msgid: Text::NONE,
+        msg: Text::NONE,
+        elements: 0,
+        params: 0,
+    };
+}
+
+pub const DONE: u32 = 0;
+pub const NO_READING: u32 = 1;
+pub const NOT_UTF8: u32 = 2;
+pub const NO_MEMORY: u32 = 3;
+pub const NO_ROOM: u32 = 4;
+pub const BAD_ARGUMENT: u32 = 5;
+
+/// A call that writes the printed text of a line.
+pub type Writer = unsafe extern "C" fn(*const u8, usize, *const Options, *mut u8, usize, *mut usize) -> u32;
+
+extern "C" {
+    pub fn syslog_version() -> u32;
+    pub fn syslog_read(
+        line: *const u8,
+        length: usize,
+        options: *const Options,
+        message: *mut Message,
+        elements: *mut Element,
+        element_room: usize,
+        params: *mut Param,
+        param_room: usize,
+    ) -> u32;
+    pub fn syslog_normalise(
+        line: *const u8,
+        length: usize,
+        options: *const Options,
+        room: *mut u8,
+        room_length: usize,
+        needed: *mut usize,
+    ) -> u32;
+    pub fn syslog_settle(
+        line: *const u8,
+        length: usize,
+        options: *const Options,
+        room: *mut u8,
+        room_length: usize,
+        needed: *mut usize,
+    ) -> u32;
+    pub fn syslog_unescape(
+        value: *const u8,
+        length: usize,
+        room: *mut u8,
+        room_length: usize,
+        needed: *mut usize,
+    ) -> u32;
+}

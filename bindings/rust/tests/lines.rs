@@ -1,0 +1,135 @@
+//! The crate over the library that it is linked with.
+use libsyslog_loose::{normalise, parse, settle, version};
+use libsyslog_loose::{Error, Message, Options, Param, ProcId, Protocol, Severity, Timestamp, Variant};
+use std::borrow::Cow;
+use std::thread;
+
+const IN_2026: Options = Options::in_year(2026);
+const LINE: &str = r#"<165>1 2003-10-11T22:14:15.003004005-07:00 mymachine app 7 ID47 [a b="c" d="\"\]"][e] größe"#;
+const DECEMBER: &str = "<34>Dec 31 23:59:59 h a: x";
+
+#[test]
+fn each_field() {
+    let m = parse(LINE, &IN_2026).unwrap();
+    assert_eq!((m.protocol, m.facility, m.severity), (Protocol::Rfc5424(1), Some(20), Some(Severity::Notice)));
+    let at = Timestamp { seconds: 1_065_935_655, nanoseconds: 3_004_005, offset: -7 * 3_600 };
+    assert_eq!(m.timestamp, Some(at));
+    assert_eq!(at.to_string(), "2003-10-12T05:14:15.003004005Z");
+    assert_eq!((m.hostname, m.appname, m.msgid), (Some("mymachine"), Some("app"), Some("ID47")));
+    assert_eq!((m.procid, m.message), (Some(ProcId::Number(7)), "größe"));
+}
+
+#[test]
+fn elements_and_parameters() {
+    let m = parse(LINE, &IN_2026).unwrap();
+    assert_eq!(m.elements().len(), 2);
+    let ids: Vec<_> = m.elements().map(|it| (it.id, it.params().len())).collect();
+    assert_eq!(ids, [("a", 2), ("e", 0)]);
+    let params: Vec<_> = m.elements().flat_map(|it| it.params()).collect();
+    assert_eq!(params, [Param { name: "b", raw: "c" }, Param { name: "d", raw: r#"\"\]"# }]);
+    assert!(matches!(params[0].value(), Cow::Borrowed("c")));
+    assert_eq!(params[1].value(), "\"]");
+}
+
+#[test]
+fn what_is_absent() {
+    let m = parse("1 - - - - - -", &IN_2026).unwrap();
+    assert_eq!((m.facility, m.severity, m.timestamp, m.procid), (None, None, None, None));
+    assert_eq!((m.hostname, m.appname, m.msgid, m.message), (None, None, None, ""));
+    assert_eq!(m.elements().next(), None);
+    let m = parse(b"<34>Mar  2 06:35:05 h a[b]: x", &IN_2026).unwrap();
+    assert_eq!((m.protocol, m.procid), (Protocol::Rfc3164, Some(ProcId::Name("b"))));
+}
+
+#[test]
+fn more_elements_than_are_expected() {
+    for count in [7, 8, 9, 31, 32, 33, 500] {
+        let list: String = (0..count).map(|i| format!(r#"[e{i} a="{i}" b="\\"]"#)).collect();
+        let line = format!("1 - - - - - {list}");
+        let m = parse(&line, &IN_2026).unwrap();
+        assert_eq!(m.elements().len(), count);
+        for (i, it) in m.elements().enumerate() {
+            let params: Vec<_> = it.params().map(|it| (it.name, it.value().into_owned())).collect();
+            assert_eq!((it.id, params), (&*format!("e{i}"), vec![("a", i.to_string()), ("b", "\\".to_string())]));
+        }
+    }
+}
+
+#[test]
+fn the_texts_outlive_the_message() {
+    fn host(line: &str) -> Option<&str> {
+        let message: Message<'_> = parse(line, &IN_2026).ok()?;
+        message.hostname
+    }
+    assert_eq!(host(LINE), Some("mymachine"));
+}
+
+#[test]
+fn dates_without_a_year() {
+    let seconds = |options: Options| parse(DECEMBER, &options).unwrap().timestamp.unwrap().seconds;
+    assert_eq!(seconds(Options::in_year(2020)), 1_609_459_199);
+    assert_eq!(seconds(Options { month: Some(1), ..Options::in_year(2020) }), 1_577_836_799);
+    assert_eq!(seconds(Options { month: Some(12), offset: 3_600, ..Options::in_year(2020) }), 1_609_455_599);
+}
+
+#[test]
+fn instants_before_1970_are_rounded_down() {
+    let at = parse("1 1969-12-31T23:59:58.5Z - - - - -", &IN_2026).unwrap().timestamp.unwrap();
+    assert_eq!((at.seconds, at.nanoseconds), (-2, 500_000_000));
+    assert_eq!((at.to_string(), format!("{at:.0}")), ("1969-12-31T23:59:58.5Z".into(), "1969-12-31T23:59:58Z".into()));
+    let at = parse("1 0000-02-29T00:00:00Z - - - - -", &IN_2026).unwrap().timestamp.unwrap();
+    assert_eq!(at.to_string(), "0000-02-29T00:00:00Z");
+}
+
+#[test]
+fn printed_and_settled() {
+    let line = "<34>Oct 11 22:14:15 mymachine app[323]: - - - a message";
+    let rest = |text: &str| format!("<34> 2026-10-11T22:14:15+00:00 mymachine app[323]: {text}");
+    assert_eq!(normalise(line, &IN_2026), Ok(rest("- - a message")));
+    assert_eq!(settle(line, &IN_2026), Ok(rest("a message")));
+    assert_eq!(normalise(LINE, &IN_2026).as_deref(), Ok(LINE));
+    let long = format!("1 - - - - - - {}", "ü".repeat(100_000));
+    assert_eq!(settle(&long, &IN_2026), Ok(format!("<47>{long}")));
+    assert_eq!(parse(&long, &IN_2026).unwrap().message.len(), 200_000);
+}
+
+#[test]
+fn refusals() {
+    let in_2026 =
+        |line: &[u8]| [parse(line, &IN_2026).err(), normalise(line, &IN_2026).err(), settle(line, &IN_2026).err()];
+    assert_eq!(in_2026(b"gobbledegook"), [Some(Error::NoMessage); 3]);
+    assert_eq!(in_2026(b""), [Some(Error::NoMessage); 3]);
+    assert_eq!(in_2026(b"1 - - - - - - gr\xfc\xdf"), [Some(Error::NotUtf8); 3]);
+    for wrong in
+        [Options::in_year(10_000), Options { month: Some(13), ..IN_2026 }, Options { offset: 93_600, ..IN_2026 }]
+    {
+        assert_eq!(parse(LINE, &wrong), Err(Error::BadArgument));
+        assert_eq!(settle(LINE, &wrong), Err(Error::BadArgument));
+    }
+    assert_eq!(parse(DECEMBER, &Options { variant: Variant::Rfc5424, ..IN_2026 }), Err(Error::NoMessage));
+    assert!(parse(DECEMBER, &Options { variant: Variant::Rfc3164, ..IN_2026 }).is_ok());
+    assert_eq!(Error::NoMessage.to_string(), "the line is no message");
+}
+
+#[test]
+fn threads() {
+    let work = |number: i32| {
+        for i in 0..2_000 {
+            let line = format!("<34>Mar  2 06:35:05 host{number} a[{i}]: x");
+            let m = parse(&line, &IN_2026).unwrap();
+            assert_eq!((m.hostname, m.procid), (Some(&*format!("host{number}")), Some(ProcId::Number(i))));
+        }
+    };
+    thread::scope(|scope| {
+        for number in 0..4 {
+            scope.spawn(move || work(number));
+        }
+    });
+}
+
+#[test]
+fn the_version_is_the_crates() {
+    let parts = [env!("CARGO_PKG_VERSION_MAJOR"), env!("CARGO_PKG_VERSION_MINOR"), env!("CARGO_PKG_VERSION_PATCH")];
+    let number = parts.iter().fold(0, |number, it| number * 1_000 + it.parse::<u32>().unwrap());
+    assert_eq!(version(), number);
+}
