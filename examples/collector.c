@@ -2,16 +2,14 @@
  *
  *   collector YEAR MONTH <FILE      the year and the month that it is: dates without a year are of the months before
  */
-#include "syslog_loose.h"
-
 #include <stdio.h>
 #include <stdlib.h>
-#include <string.h>
+#include <syslog_loose.h>
 #include <time.h>
 
 static const char *route(int severity)
 {
-    return severity < 0 ? "archive" : severity <= 2 ? "pager" : severity <= 4 ? "warnings" : "archive";
+    return severity < 0 || severity > 4 ? "archive" : severity <= 2 ? "pager" : "warnings";
 }
 
 static void print(const struct syslog_message *message)
@@ -40,21 +38,14 @@ int main(int count, char **words)
     ssize_t length;
     while ((length = getline(&line, &room, stdin)) > 0) {
         size_t bytes = (size_t)length - (line[length - 1] == '\n');
-        switch (syslog_read(line, bytes, &options, &message, &element, 0, &param, 0)) {
-        case SYSLOG_DONE:
-        case SYSLOG_NO_ROOM: /* it has elements, which are not asked for */
+        uint32_t outcome = syslog_read(line, bytes, &options, &message, &element, 0, &param, 0);
+        if (outcome == SYSLOG_DONE || outcome == SYSLOG_NO_ROOM) { /* its elements are not asked for */
             print(&message);
-            break;
-        case SYSLOG_NO_READING:
-        case SYSLOG_NOT_UTF8:
+        } else if (outcome == SYSLOG_NO_READING || outcome == SYSLOG_NOT_UTF8) {
             refused++;
-            break;
-        case SYSLOG_BAD_ARGUMENT:
-            fprintf(stderr, "collector: there is no such year or month\n");
+        } else {
+            fprintf(stderr, "collector: outcome %u\n", outcome);
             return 2;
-        default:
-            fprintf(stderr, "collector: out of memory\n");
-            return 1;
         }
     }
     free(line);

@@ -33,8 +33,12 @@
 extern "C" {
 #endif
 
-/* 1,000,000 for each major version, 1,000 for each minor one. syslog_version tells that of the library. */
-#define SYSLOG_VERSION 1000
+/* The version of this header: 1,000,000 for each major one, 1,000 for each minor one. syslog_version tells that of the
+ * library. */
+#define SYSLOG_VERSION_MAJOR 0
+#define SYSLOG_VERSION_MINOR 1
+#define SYSLOG_VERSION_PATCH 0
+#define SYSLOG_VERSION (SYSLOG_VERSION_MAJOR * 1000000 + SYSLOG_VERSION_MINOR * 1000 + SYSLOG_VERSION_PATCH)
 uint32_t syslog_version(void);
 
 /* What a call comes to. */

@@ -1,5 +1,7 @@
-"""What tests/c_library and tests/instructions build over the libraries that rt ci proved and left in a folder, so that they
-aren't proved once more: the library for C, and the program of bench/reader/.
+"""What tests/c_library, tests/instructions and tests/installed take that is built over the libraries that rt ci proved and
+left in a folder, so that they aren't proved once more: the library for C, and the program of bench/reader/.
+
+    python3 tests/left.py FOLDER --left     builds the library for C there, if it is not there yet
 """
 import fcntl
 import os
@@ -66,3 +68,7 @@ def reader_over_left(top, room):
 
     over_left(folder, room, name, build)
     return program
+
+
+if __name__ == "__main__":
+    library_over_left(os.path.abspath(sys.argv[1]))
