@@ -70,8 +70,8 @@ struct syslog_text {
 
 /* All are 0 for an absent one. */
 struct syslog_timestamp {
-    int64_t seconds;     /* since 1970-01-01T00:00:00Z, rounded toward zero */
-    int32_t nanoseconds; /* beyond these; below 0 only before 1970 */
+    int64_t seconds;     /* since 1970-01-01T00:00:00Z, rounded down, as struct timespec has them */
+    int32_t nanoseconds; /* after these, from 0 to 999,999,999 */
     int32_t offset;      /* seconds by which the clock that showed it is ahead of UTC */
     uint32_t present;    /* 1, or 0 for an absent one */
 };
@@ -151,6 +151,19 @@ uint32_t syslog_unescape(const char *value, size_t length, char *room, size_t ro
  * as it is where the line has no message. */
 uint32_t syslog_is_canonical(const char *line, size_t length, const struct syslog_options *options,
                              uint32_t *canonical);
+
+/* Texts of the library's own, which last as long as the program. Each call sets name or text: to an absent one where no
+ * facility, severity or outcome has the number, as none has that of an absent one in a message, -1. */
+
+/* The name of a facility, as auth, and of a severity, as crit. */
+void syslog_facility_name(uint32_t facility, struct syslog_text *name);
+void syslog_severity_name(uint32_t severity, struct syslog_text *name);
+
+/* What an outcome says, as "no message". */
+void syslog_outcome_text(uint32_t outcome, struct syslog_text *text);
+
+/* The version of the library, as 0.1.0. */
+void syslog_version_text(struct syslog_text *text);
 
 #ifdef __cplusplus
 }

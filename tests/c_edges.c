@@ -224,6 +224,42 @@ static void values(void)
     }
 }
 
+static void says(struct syslog_text text, const char *wanted)
+{
+    CHECK(wanted ? text.present == 1 && text.length == strlen(wanted) && !memcmp(text.start, wanted, text.length)
+                 : text.present == 0 && text.length == 0);
+}
+
+/* Each number's name, and none past the last. */
+static void names(void)
+{
+    static const char *const facilities[] = {
+        "kern", "user", "mail", "daemon", "auth", "syslog", "lpr", "news", "uucp", "cron", "authpriv", "ftp", "ntp",
+        "audit", "alert", "clockd", "local0", "local1", "local2", "local3", "local4", "local5", "local6", "local7",
+        NULL,
+    };
+    static const char *const severities[] = {
+        "emerg", "alert", "crit", "err", "warning", "notice", "info", "debug", NULL,
+    };
+    static const char *const outcomes[] = {
+        [SYSLOG_DONE] = "done", [SYSLOG_NO_READING] = "no message", [SYSLOG_NOT_UTF8] = "no UTF-8",
+        [SYSLOG_NO_MEMORY] = "out of memory", [SYSLOG_NO_ROOM] = "more room is needed",
+        [SYSLOG_BAD_ARGUMENT] = "an option is out of its range", [SYSLOG_BAD_ARGUMENT + 1] = NULL,
+    };
+    struct syslog_text text = SYSLOG_TEXT_INIT;
+    for (uint32_t i = 0; i <= 24; i++)
+        syslog_facility_name(i, &text), says(text, facilities[i]);
+    for (uint32_t i = 0; i <= 8; i++)
+        syslog_severity_name(i, &text), says(text, severities[i]);
+    for (uint32_t i = 0; i <= SYSLOG_BAD_ARGUMENT + 1; i++)
+        syslog_outcome_text(i, &text), says(text, outcomes[i]);
+    syslog_facility_name((uint32_t)-1, &text), says(text, NULL);
+    syslog_severity_name((uint32_t)-1, &text), says(text, NULL);
+    char version[16];
+    snprintf(version, sizeof version, "%d.%d.%d", SYSLOG_VERSION_MAJOR, SYSLOG_VERSION_MINOR, SYSLOG_VERSION_PATCH);
+    syslog_version_text(&text), says(text, version);
+}
+
 static char *lines[LINES];
 static size_t lines_read;
 
@@ -303,6 +339,7 @@ int main(int count, char **words)
     }
     wrong_arguments();
     values();
+    names();
     threads();
     for (size_t i = 0; i < lines_read; i++)
         free(lines[i]);

@@ -134,6 +134,8 @@ static void print_head(const struct syslog_message *message)
     printf("\"protocol\":%u,\"version\":%u,\"facility\":%d,\"severity\":%d", message->protocol, message->version,
            message->facility, message->severity);
     const struct syslog_timestamp *at = &message->timestamp;
+    if (at->nanoseconds < 0 || at->nanoseconds > 999999999)
+        fault("nanoseconds of more than a second");
     if (at->present == 1)
         printf(",\"timestamp\":{\"seconds\":%lld,\"nanoseconds\":%d,\"offset\":%d}", (long long)at->seconds,
                at->nanoseconds, at->offset);

@@ -241,9 +241,6 @@ class _Reader:
         return made
 
     def timestamp(self, line: Line, seconds: int, nanosecond: int, ahead: int) -> tuple[datetime | None, int, str | None]:
-        # (nanoseconds are below 0 before 1970)
-        if nanosecond < 0:
-            seconds, nanosecond = seconds - 1, nanosecond + 1_000_000_000
         try:
             epoch = _epochs.get(ahead) or _epoch(ahead)
             return epoch + timedelta(0, seconds + ahead, nanosecond // 1000), nanosecond, None

@@ -2,7 +2,6 @@ use crate::raw;
 use std::fmt;
 
 const DAY: i64 = 86_400;
-const BILLION: i32 = 1_000_000_000;
 
 /// An instant, and the offset of the clock that showed it. It is displayed in UTC as RFC 3339 has it, with as many decimals
 /// as the format asks for (`{:.0}`: none), or else as it needs.
@@ -18,13 +17,9 @@ pub struct Timestamp {
 
 impl Timestamp {
     pub(crate) fn of(told: &raw::Timestamp) -> Option<Timestamp> {
-        let (borrowed, nanoseconds) = match told.nanoseconds {
-            before if before < 0 => (1, before + BILLION),
-            after => (0, after),
-        };
         (told.present == 1).then_some(Timestamp {
-            seconds: told.seconds - borrowed,
-            nanoseconds: nanoseconds.unsigned_abs(),
+            seconds: told.seconds,
+            nanoseconds: told.nanoseconds.unsigned_abs(),
             offset: told.offset,
         })
     }

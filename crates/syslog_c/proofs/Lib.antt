@@ -1,3 +1,4 @@
 pub mod ArrayLemmas
 pub mod LineLemmas
+pub mod NameLemmas
 pub mod TextLemmas

@@ -1,6 +1,7 @@
 -- What C gets of a message, over the message as a value.
 use Rattle.std.specs.Prelude.{◌≡◌, ℕ, ℤ, pos, negsuc, ◌^◌, ◌-◌, min, List, [], length, take, drop, Option, None}
-use Rattle.std.specs.Prelude.{Some, int_div, int_rem}
+use Rattle.std.specs.Prelude.{Some}
+use Rattle.std.specs.Int.{int_div_euclid, int_rem_euclid}
 use Rattle.std.specs.List.{AllZip, flat_map}
 use Rattle.std.specs.Str.{chars, IsUtf8}
 use Rattle.syslog_pieces.specs.Pieces.Class.{Text as Chars}
@@ -43,11 +44,11 @@ IsProcess p None = IsNoText p.name × (p.number ≡ pos 0) × (p.is_number ≡ 0
 IsProcess p (Some (PID n)) = IsNoText p.name × (p.number ≡ n) × (p.is_number ≡ 1)
 IsProcess p (Some (Name text)) = IsText p.name text × (p.number ≡ pos 0) × (p.is_number ≡ 0)
 
--- the instant in seconds and nanoseconds, both rounded toward zero
+-- the instant in seconds, rounded down, and the nanoseconds after them
 pub record IsSomeStamp (s : Stamp) (at : OffsetTimestamp) : Type 0 where
   pub present : s.present ≡ 1
-  pub seconds : s.seconds ≡ int_div at.instant.nanosecond (pos 1_000_000_000)
-  pub nanoseconds : s.nanoseconds ≡ int_rem at.instant.nanosecond (pos 1_000_000_000)
+  pub seconds : s.seconds ≡ int_div_euclid at.instant.nanosecond (pos 1_000_000_000)
+  pub nanoseconds : s.nanoseconds ≡ int_rem_euclid at.instant.nanosecond (pos 1_000_000_000)
   pub offset : s.offset ≡ at.offset.seconds
 
 abbrev pub IsStamp : Stamp → Option OffsetTimestamp → Type 0

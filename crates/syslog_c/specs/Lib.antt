@@ -1,5 +1,6 @@
 pub mod Fields
 pub mod Line
+pub mod Names
 pub mod Options
 pub mod Outcome
 pub mod Room

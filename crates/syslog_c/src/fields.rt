@@ -13,9 +13,9 @@ pub struct Text<'a> {
 #[repr(C)]
 #[derive(Clone, Copy)]
 pub struct Stamp {
-    /// The whole seconds since 1970, rounded toward zero.
+    /// The whole seconds since 1970, rounded down.
     pub seconds: i64,
-    /// The nanoseconds beyond them, with the sign of the instant.
+    /// The nanoseconds after them, from 0 to 999,999,999.
     pub nanoseconds: i32,
     /// In seconds.
     pub offset: i32,

@@ -9,6 +9,7 @@
 mod arrays;
 mod canonical;
 pub mod fields;
+mod names;
 pub mod options;
 pub mod outcome;
 mod printed;

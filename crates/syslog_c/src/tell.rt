@@ -1,5 +1,6 @@
 //! The fields of a message, as C gets them.
-ghost use Rattle.std.specs.Prelude.{◌≡◌, ◌^◌, ◌-◌, length, map, min};
+ghost use Rattle.std.specs.Prelude.{◌≡◌, ◌^◌, ◌-◌, length, map, min, pos};
+ghost use Rattle.std.specs.Int.{int_div_euclid, int_rem_euclid};
 ghost use Rattle.std.specs.Option.{option_map};
 ghost use Rattle.syslog_pieces.specs.Pieces.View.{seen, shown};
 ghost use Rattle.syslog_pieces.specs.ProcId.{procid_value};
@@ -11,6 +12,7 @@ ghost use Rattle.syslog_c.specs.Fields.{facility_code, protocol_number, severity
 use crate::fields::{Fields, Process, Stamp, Text};
 use syslog_loose::{
     Message, OffsetTimestamp, ProcId, Protocol, StructuredElement, SyslogFacility, SyslogSeverity,
+    Timestamp,
 };
 
 const NONE: &[u8] = &[];
@@ -25,7 +27,8 @@ pub(crate) fn text_of(text: &str) -> Text<'_>
     }
 }
 
-fn optional_text(text: Option<&str>) -> Text<'_>
+/// The text as C gets it, which may be absent.
+pub(crate) fn optional_text(text: Option<&str>) -> Text<'_>
     ensures { IsOptionalText result (seen text.entry) }
 {
     match text {
@@ -59,16 +62,32 @@ fn process_of<'a>(process: &Option<ProcId<&'a str>>) -> Process<'a>
     }
 }
 
+// The whole seconds since 1970, rounded down, and the nanoseconds after them.
+fn rounded_down(instant: Timestamp) -> (i64, i32)
+    ensures { (result.0 ≡ int_div_euclid instant.nanosecond (pos 1_000_000_000))
+        × (result.1 ≡ int_rem_euclid instant.nanosecond (pos 1_000_000_000)) }
+{
+    let (seconds, nanoseconds) = (instant.as_second(), instant.subsec_nanosecond());
+    if nanoseconds < 0 {
+        (seconds - 1, nanoseconds + 1_000_000_000)
+    } else {
+        (seconds, nanoseconds)
+    }
+}
+
 fn stamp_of(stamp: Option<OffsetTimestamp>) -> Stamp
     ensures { IsStamp result stamp }
 {
     match stamp {
-        Some(stamp) => Stamp {
-            seconds: stamp.instant.as_second(),
-            nanoseconds: stamp.instant.subsec_nanosecond(),
-            offset: stamp.offset.seconds(),
-            present: 1,
-        },
+        Some(stamp) => {
+            let (seconds, nanoseconds) = rounded_down(stamp.instant);
+            Stamp {
+                seconds,
+                nanoseconds,
+                offset: stamp.offset.seconds(),
+                present: 1,
+            }
+        }
         None => Stamp {
             seconds: 0,
             nanoseconds: 0,

@@ -1,5 +1,10 @@
 //! The version of the library.
-ghost use Rattle.std.specs.Prelude.{◌≡◌};
+ghost use Rattle.std.specs.Prelude.{◌≡◌, codes};
+ghost use Rattle.syslog_c.specs.Fields.{IsText};
+
+use crate::fields::Text;
+use crate::tell::text_of;
+use syslog_loose::VERSION;
 
 /// The version that `syslog_loose.h` is of, as `SYSLOG_VERSION`: 1,000,000 for each major one, 1,000 for each minor
 /// one.
@@ -8,4 +13,12 @@ pub extern "C" fn syslog_version() -> u32
     ensures { result ≡ 1_000 }
 {
     1_000
+}
+
+/// Sets `text` to the version of the library, as `0.1.0`.
+#[unsafe(no_mangle)]
+pub extern "C" fn syslog_version_text(text: &mut Text<'static>)
+    ensures { IsText text.new (codes "0.1.0") }
+{
+    *text = text_of(VERSION);
 }
