@@ -27,12 +27,12 @@ fn write_message(out: &mut impl Write, it: &Message<'_>) -> io::Result<()> {
 
 fn main() -> Result<(), Box<dyn error::Error>> {
     let words: Vec<String> = env::args().collect();
-    let [_, year, month] = &words[..] else {
-        return Err("usage: collector YEAR MONTH <FILE".into());
-    };
-    let options = Options {
-        month: Some(month.parse()?),
-        ..Options::in_year(year.parse()?)
+    let options = match &words[..] {
+        [_, year, month] => Options {
+            month: Some(month.parse()?),
+            ..Options::in_year(year.parse()?)
+        },
+        _ => return Err("usage: collector YEAR MONTH <FILE".into()),
     };
     let (mut out, mut refused) = (io::stdout().lock(), 0);
     for line in io::stdin().lock().split(b'\n') {
