@@ -66,6 +66,7 @@ install: $(BUILT)
 	install -m 644 man/*.1 $(TOP)/share/man/man1
 	install -m 644 man/*.3 $(TOP)/share/man/man3
 	install -m 644 LICENSE $(DESTDIR)$(DOCDIR)
+	[ '$(DESTDIR)' ] || PATH=$$PATH:/sbin ldconfig 2>/dev/null || true
 
 uninstall:
 	rm -f $(addprefix $(TOP)/,$(INSTALLED)) $(DESTDIR)$(DOCDIR)/LICENSE
