@@ -235,7 +235,7 @@ class _Reader:
         fields["appname"] = appname
         fields["procid"] = number if is_number else process
         fields["msgid"] = msg_id
-        fields["structured_data"] = self.read_elements(given, elements) if elements else ()
+        fields["structured_data"] = self.read_elements(text, given, elements) if elements else ()
         fields["message"] = message
         fields["raw"] = text
         return made
@@ -248,16 +248,24 @@ class _Reader:
             # The second word of the printed line is its timestamp.
             return None, nanosecond, self.written(_normalise, line).split(" ", 2)[1]
 
-    def read_elements(self, given: bytes, count: int) -> tuple[Element, ...]:
+    def read_elements(self, text: str, given: bytes, count: int) -> tuple[Element, ...]:
         at = self.line.at
+        is_ascii, has_escapes = len(text) == len(given), "\\" in text
         params = _PARAM.iter_unpack(self.params.bytes)
         read = []
-        for start, size, param_count in islice(_ELEMENT.iter_unpack(self.elements.bytes), count):
+        for start, size, params_of_it in islice(_ELEMENT.iter_unpack(self.elements.bytes), count):
+            start -= at
             pairs = []
-            for name, name_size, value, value_size in islice(params, param_count):
-                text = given[value - at : value - at + value_size].decode()
-                pairs.append((given[name - at : name - at + name_size].decode(), self.unescaped(text) if "\\" in text else text))
-            read.append(Element(given[start - at : start - at + size].decode(), tuple(pairs)))
+            for name, name_size, value, value_size in islice(params, params_of_it):
+                name, value = name - at, value - at
+                if is_ascii:
+                    key, plain = text[name : name + name_size], text[value : value + value_size]
+                else:
+                    key, plain = given[name : name + name_size].decode(), given[value : value + value_size].decode()
+                if has_escapes and "\\" in plain:
+                    plain = self.unescaped(plain)
+                pairs.append((key, plain))
+            read.append(Element(given[start : start + size].decode(), tuple(pairs)))
         return tuple(read)
 
     def unescaped(self, value: str) -> str:
