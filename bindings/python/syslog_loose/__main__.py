@@ -8,6 +8,7 @@ from __future__ import annotations
 import argparse
 import datetime
 import json
+import os
 import sys
 from typing import Any, Iterable
 
@@ -55,13 +56,19 @@ def main() -> int:
     words.add_argument("--year", type=int, default=datetime.date.today().year, help="of dates that show none (now: %(default)s)")
     words.add_argument("--month", type=int, help="that it is: in January a date of December is then of the year before")
     words.add_argument("--version", action="version", version=__version__)
-    words.add_argument("file", nargs="*", help="none: standard input")
+    words.add_argument("file", nargs="*", help="none or -: standard input")
     chosen = words.parse_args()
-    for name in chosen.file or ["/dev/stdin"]:
-        with open(name, "rb") as lines:
-            for line in lines:
-                written = line_object(line[:-1] if line.endswith(b"\n") else line, chosen.year, chosen.month)
-                print(json.dumps(written, ensure_ascii=False, sort_keys=True, separators=(",", ":")))
+    try:
+        for name in chosen.file or ["-"]:
+            with sys.stdin.buffer if name == "-" else open(name, "rb") as lines:
+                for line in lines:
+                    written = line_object(line[:-1] if line.endswith(b"\n") else line, chosen.year, chosen.month)
+                    print(json.dumps(written, ensure_ascii=False, sort_keys=True, separators=(",", ":")))
+        sys.stdout.flush()
+    except BrokenPipeError:
+        # (nothing is written to the closed pipe at the end either)
+        os.dup2(os.open(os.devnull, os.O_WRONLY), sys.stdout.fileno())
+        return 1
     return 0
 
 
