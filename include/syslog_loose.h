@@ -12,8 +12,8 @@
  *   - No pointer is null, also where its length is 0.
  *   - A pointer with a length n points to n bytes (or n structs), any other one to one value; n is below 2^63 bytes.
  *   - What a call writes to overlaps nothing else that it is given, and no other thread touches it meanwhile.
- *   - Each syslog_message, syslog_element and syslog_param is set before the first call, by SYSLOG_MESSAGE_INIT and the
- *     like or by an earlier call. (No call looks at what stands there.)
+ *   - Each syslog_message, syslog_element, syslog_param and syslog_text is set before the first call that writes to it,
+ *     by SYSLOG_MESSAGE_INIT and the like. (No call looks at what it was set to.)
  *   - The texts of a message lie in the line: they last as long as its bytes do, unchanged.
  *
  * What stays, before version 1.0 too: the names of calls, structs, fields and macros, their numbers, and what each
@@ -152,8 +152,8 @@ uint32_t syslog_unescape(const char *value, size_t length, char *room, size_t ro
 uint32_t syslog_is_canonical(const char *line, size_t length, const struct syslog_options *options,
                              uint32_t *canonical);
 
-/* Texts of the library's own, which last as long as the program. Each call sets name or text: to an absent one where no
- * facility, severity or outcome has the number, as none has that of an absent one in a message, -1. */
+/* The four that follow set a text of the library's own, which lasts as long as the program. A number that no facility,
+ * severity or outcome has, as the -1 of an absent one in a message, has an absent text. */
 
 /* The name of a facility, as auth, and of a severity, as crit. */
 void syslog_facility_name(uint32_t facility, struct syslog_text *name);
