@@ -1,5 +1,5 @@
 use super::{clock_of, has_clock, is_same};
-use crate::tests::rows::{answer_of, check, left_of, text_of};
+use crate::tests::rows::{answer_of, check, is_text, left_of, text_of};
 use jiff::tz::{Offset, TimeZone};
 use std::alloc::Global;
 use std::process::Abort;
@@ -144,11 +144,11 @@ fn wants_a_year_in_its_range_where_none_is_shown(rt: HostRuntime) {
     check_year(&rt, None, "Aug 4 16:49:07", "Aug 4 2020 16:49:07");
 }
 
-// The cell of a timestamp is a text of RFC 3339, or empty where a dash stands for none.
-fn is_stamp_of(rt: &impl Abort, alloc: Global, row: &str, clock: Option<ClockStamp>) -> bool {
-    match answer_of(row) {
-        Some(want) => is_same_moment(clock, clock_of(rt, alloc, want)),
-        None => false,
+// The cell of a timestamp is what it prints as, with its offset, or empty where a dash stands for none.
+fn is_stamp_of(alloc: Global, row: &str, clock: Option<ClockStamp>) -> bool {
+    match clock {
+        Some(clock) => has_clock(alloc, row, &clock),
+        None => is_text(answer_of(row), ""),
     }
 }
 
@@ -161,26 +161,27 @@ fn front_of<'a>(text: &'a str, dating: &Dating<'_, '_>) -> Option<(Option<ClockS
 }
 
 // A row is a text, the timestamp at its front, and what is left.
-fn reads_front(rt: &impl Abort, alloc: Global, row: &str) -> bool {
+fn reads_front(alloc: Global, tz: Option<&TimeZone<'_>>, row: &str) -> bool {
     let dating = Dating {
         year: Some(2019),
-        tz: None,
+        tz,
         local: &TimeZone::UTC,
     };
     match front_of(text_of(row), &dating) {
-        Some((clock, rest)) => is_stamp_of(rt, alloc, row, clock) && rest == left_of(row),
+        Some((clock, rest)) => is_stamp_of(alloc, row, clock) && rest == left_of(row),
         None => answer_of(row).is_none(),
     }
 }
 
+// In the local zone, and in a zone that is given.
 #[test]
 fn leaves_the_text_behind_the_date(rt: HostRuntime) {
     for row in &[
-        "Dec 28 2008 16:49:07 ¦2008-12-28T16:49:07Z¦ ",
-        "Aug 4 16:49:07 ¦2019-08-04T16:49:07Z¦ ",
-        "Aug 4 2020 16:49:07 ¦2020-08-04T16:49:07Z¦ ",
-        "Oct 11 22:14:15: mymachine¦2019-10-11T22:14:15Z¦ mymachine",
-        "2003-10-11T22:14:15Z h¦2003-10-11T22:14:15Z¦ h",
+        "Dec 28 2008 16:49:07 ¦2008-12-28T16:49:07+00:00¦ ",
+        "Aug 4 16:49:07 ¦2019-08-04T16:49:07+00:00¦ ",
+        "Aug 4 2020 16:49:07 ¦2020-08-04T16:49:07+00:00¦ ",
+        "Oct 11 22:14:15: mymachine¦2019-10-11T22:14:15+00:00¦ mymachine",
+        "2003-10-11T22:14:15Z h¦2003-10-11T22:14:15+00:00¦ h",
         "-¦¦",
         "- h¦¦ h",
         "--x¦¦-x",
@@ -192,7 +193,8 @@ fn leaves_the_text_behind_the_date(rt: HostRuntime) {
         "2003-10-11T22:14:15Z",
         "<34>Oct 11 22:14:15",
     ] {
-        check(&rt, reads_front(&rt, rt.alloc(), row), row);
+        check(&rt, reads_front(rt.alloc(), None, row), row);
+        check(&rt, reads_front(rt.alloc(), Some(&TimeZone::UTC), row), row);
     }
 }
 
