@@ -92,6 +92,10 @@ pub ends_some : (bytes : List ℕ) → IsUtf8 bytes → 0 < length bytes
 ends_some bytes u l = some_end (chars bytes) bytes (encodes-chars bytes u) l
 
 -- ---- a tail of elements and a message part
+pub some_long : {A : Type 0} (xs : List A) → (xs ≡ [] → ⊥) → 0 < length xs
+some_long [] n = absurd (n refl)
+some_long (x ∷ xs) n = omega arith
+
 pub tail_elements : (es : List ElementValue) (msg : Text) → 0 < length es → (32 ∷ encode_utf8_all (elements_text es))
     ++ encode_utf8_all (message_end msg) ≡ encode_utf8_all (tail_text es msg)
 unfolding encode_utf8

@@ -8,6 +8,7 @@ pub mod Names
 pub mod ExceptionLemmas
 pub mod OneLineLemmas
 pub mod PrintedLemmas
+pub mod PrintedLineLemmas
 pub mod PriorityLemmas
 pub mod ReadBackLemmas
 pub mod ReadingLemmas
@@ -17,3 +18,4 @@ pub mod SettlingLemmas
 pub mod StartLemmas
 pub mod TagFormLemmas
 pub mod TrimLemmas
+pub mod VisitLemmas

@@ -107,6 +107,22 @@ answered post variant text tz local r year is a =
       fields = in_year_map (λ y b. fields_answered variant (dating_of y tz local) text r b) reads;
     }
 
+-- an answer in the year that the closure answered
+pub answered_in : {post : IncompleteDate → ℤ → Type 0} {variant : Variant} {text : Text} (tz : Option (Bor TimeZone))
+    (local : Bor TimeZone) (r : Result Found ParseFault)
+    → InYear post variant text (λ y. Answers variant (dating_of y tz local) text r)
+    → record {
+      reads : InYear post variant text (λ y. Answers variant (dating_of y tz local) text r);
+      itself : AnswersItself variant text r;
+      fields : InYear post variant text (λ y. IfOk r (λ m.
+          FieldsAsRead m.protocol (dating_of y tz local) text (value m)));
+    }
+answered_in {variant = variant} {text = text} tz local r h = record {
+  reads = h;
+  itself = itself variant (dating_of h.answered tz local) text r (h.holds h.answered (λ date asks. refl));
+  fields = in_year_map (λ y b. fields_answered variant (dating_of y tz local) text r b) h;
+}
+
 -- a message's printed text, where a canonical message of its protocol prints the same
 read_like : (variant : Variant) (dating : Dating) (m n : MessageValue) → IsBounded n → IsCanonical dash_rule n
     → ReadsProtocol variant n.protocol → printed n ≡ printed m → IsRead variant dating (printed m) n

@@ -10,4 +10,4 @@ pub mod Quiet
 pub mod Rounds
 pub mod Settles
 pub mod Weights
-pub mod Years
+pub mod Told

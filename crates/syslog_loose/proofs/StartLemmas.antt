@@ -37,13 +37,11 @@ use Rattle.syslog_loose.specs.Reading.{dash_rule, incomplete, Answers, AsksYear,
 use Rattle.syslog_loose.specs.Reading.{IsRead, IsUnreadable, IsYearAnswered}
 use Rattle.syslog_loose.specs.Rfc3164.{stamped_row, IsRead3164, IsNot3164, NeedsNoMemory3164}
 use Rattle.syslog_loose.specs.Rfc5424.{IsRead5424, IsNot5424, NeedsNoMemory5424}
-use Rattle.syslog_loose.specs.Settling.{IsRoundAsTold}
 use Rattle.syslog_loose.specs.Start.{IsBehindPriority, BeginsWith, BeginsWithout}
-use Rattle.syslog_loose.specs.View3164.{IsBehindStamp, PrintsBehind}
+use Rattle.syslog_loose.specs.View3164.{IsBehindStamp}
 use Rattle.syslog_loose.specs.declared.fault.ParseFault.TheVariants.{Invalid, Memory}
 use Rattle.syslog_loose.specs.declared.message.Protocol.TheVariants as protocol
 use Rattle.jiff.specs.declared.tz.timezone.TimeZone.{TimeZone}
-use Rattle.syslog_loose.specs.declared.rfc3164.Stamped.{Stamped}
 use Rattle.syslog_loose.specs.declared.variant.Variant.{Variant}
 use Rattle.syslog_loose.specs.declared.variant.Variant.TheVariants.{Either, RFC3164, RFC5424}
 use Rattle.syslog_loose.proofs.ReadingLemmas.{Found, answered_to, value, either_read, either_refused, left_answer}
@@ -52,7 +50,6 @@ use Rattle.syslog_loose.proofs.Rfc3164Lemmas.Apart.{shown_apart}
 use Rattle.syslog_loose.proofs.Rfc3164Lemmas.Reading.{not_read}
 use Rattle.syslog_loose.proofs.Rfc3164Lemmas.Shown.{date_has_month, shows_month_date, shown_once, shown_parts, shows}
 use Rattle.syslog_loose.proofs.Rfc3164Lemmas.Unique.{stamped_det}
-use Rattle.syslog_loose.proofs.SettlingLemmas.Settles.{round_printed}
 
 -- what a reader of pieces behind blanks answers
 pub front_read : {X : Type 0} (C : Class) (view : X → C.Value) (variant : Variant) (t start : Text)
@@ -112,11 +109,11 @@ asked_month d (Some y) x f (none, e) is =
 
 -- What is known where a timestamp was read: the year that was answered, that RFC 3164 is left to try, and what is read.
 pub record IsStamped (post : IncompleteDate → ℤ → Type 0) (variant : Variant) (text : Text)
-    (tz : Option (Bor TimeZone)) (local : Bor TimeZone) (year : Option ℤ) (stamped : Stamped)
-    (follows : Text) : Type 0 where
+    (tz : Option (Bor TimeZone)) (local : Bor TimeZone) (year : Option ℤ) (priority : Option ℕ)
+    (timestamp : Option ClockStamp) (follows : Text) : Type 0 where
   pub answered : IsYearAnswered post variant text year
   pub left : IsLeftTo3164 variant text
-  pub front : IsBehindStamp (dating_of year tz local) (trimmed text) stamped follows
+  pub front : IsBehindStamp (dating_of year tz local) (trimmed text) priority timestamp follows
 
 module _ (variant : Variant) (text : Text) {follows : Text} {p : Option ℕ}
     (f : IsBehindPriority (trimmed text) p follows) where
@@ -169,7 +166,7 @@ module _ (variant : Variant) (text : Text) {follows : Text} {p : Option ℕ}
     dated_left = left_to_try variant text b.reads (λ n. dated_unread)
 
     pub dated_front : (dating : Dating) (c : ClockStamp) → IsMonthStamp dating d (clock_value c)
-        → IsBehindStamp dating (trimmed text) (record { priority = p; timestamp = Some c }) q
+        → IsBehindStamp dating (trimmed text) p (Some c) q
     dated_front dating c h =
         row_of (stamped_row dating) (f then b.gap then date_front dating (clock_value c) b.front h then refl)
 
@@ -178,7 +175,7 @@ module _ (variant : Variant) (text : Text) {follows : Text} {p : Option ℕ}
         → MatchOption asked (IsSome d.year) (λ x. (d.year ≡ None) × (x ≡ incomplete d))
         → MatchOption asked (year ≡ None) (λ x. IsSomeAnd year (λ y. post x y))
         → IsMonthStamp (dating_of year tz local) d (clock_value c)
-        → IsStamped post variant text tz local year (record { priority = p; timestamp = Some c }) q
+        → IsStamped post variant text tz local year p (Some c) q
     dated_known post tz local asked year c told is h = record {
       answered = date_answered post asked year told is;
       left = dated_left;
@@ -208,13 +205,13 @@ module _ (variant : Variant) (text : Text) {follows : Text} {p : Option ℕ}
     -- or another one
     pub other_front : (dating : Dating) {q : Text} (v : Option ClockStamp)
         → BeginsWith header_stamp variant follows (stamp_seen v) q
-        → IsBehindStamp dating (trimmed text) (record { priority = p; timestamp = v }) q
+        → IsBehindStamp dating (trimmed text) p v q
     other_front dating v b = row_of (stamped_row dating) (f then b.gap then header_front dating b.front then refl)
 
     pub other_known : (post : IncompleteDate → ℤ → Type 0) (tz : Option (Bor TimeZone)) (local : Bor TimeZone)
         {q : Text} (v : Option ClockStamp)
         → BeginsWith header_stamp variant follows (stamp_seen v) q → (variant ≢ RFC3164 → IsNot5424 text)
-        → IsStamped post variant text tz local None (record { priority = p; timestamp = v }) q
+        → IsStamped post variant text tz local None p v q
     other_known post tz local v b strict = record {
       answered = asks_none;
       left = left_to_try variant text b.reads strict;
@@ -242,41 +239,3 @@ pub strict_refused : (variant : Variant) → variant ≢ RFC3164 → (dating : D
 strict_refused RFC5424 not dating text wanted = wanted
 strict_refused RFC3164 not dating text wanted = absurd (not refl)
 strict_refused Either not dating text wanted = either_refused dating text wanted
-
--- ---- lines that are copied behind their timestamp
-
--- what RFC 3164 reads, each variant reads that is left to try it
-reads_so : (variant : Variant) (dating : Dating) (text : Text) (m : MessageValue) → IsLeftTo3164 variant text
-    → IsRead3164 dash_rule dating text m → IsRead variant dating text m
-reads_so RFC5424 dating text m left r = absurd left
-reads_so RFC3164 dating text m left r = r
-reads_so Either dating text m left r = inr (left, r)
-
-dated_bytes : (number : ℕ) (v : Option OffsetTimestamp) (tail : List ℕ) → IsUtf8 tail
-    → (priority_text number ++ (32 ∷ encode_utf8_all (timestamp_text v))) ++ tail
-    ≡ encode_utf8_all (priority_text number ++ (32 ∷ (timestamp_text v ++ chars tail)))
-unfolding encode_utf8
-dated_bytes number v tail u =
-    append_assoc (priority_text number) (32 ∷ encode_utf8_all (timestamp_text v)) tail
-    ∙ sym (simp (encodes-append, encodes-decimal, encodes-chars))
-
--- what is copied so is a round that is settled, and where memory was refused for it, the text has a reading
-module _ (variant : Variant) (dating : Dating) (text : Text) (left : IsLeftTo3164 variant text) (stamped : Stamped)
-    (tail : List ℕ) (f : IsBehindStamp dating (trimmed text) stamped (chars tail))
-    (canonical : IfSome (stamp_seen stamped.timestamp) IsCanonicalStamp) (prints : PrintsBehind (chars tail)) where
-  pub copied_round : (skips : Bool) (bytes : List ℕ) → IsUtf8 bytes → IsUtf8 tail
-      → bytes ≡ (priority_text (printed_number stamped.priority)
-      ++ (32 ∷ encode_utf8_all (timestamp_text (stamp_seen stamped.timestamp)))) ++ tail
-      → IsRoundAsTold skips variant dating text (chars bytes) true
-  copied_round skips bytes u v e =
-      let k = prints dating text stamped f canonical in
-      round_printed variant dating text k.0.message (reads_so variant dating text k.0.message left k.0.read) bytes u
-      (e ∙ dated_bytes (printed_number stamped.priority) (stamp_seen stamped.timestamp) tail v
-      ∙ ap encode_utf8_all k.0.is_printed) skips true ((λ h. k.1), (λ h. refl))
-
-  pub copied_refused : (Memory ≡ Invalid) ↔ IsUnreadable variant dating text
-  copied_refused =
-      let k = prints dating text stamped f canonical in (
-        (λ i. absurd (invalid_or_memory i)),
-        (λ u. absurd (u k.0.message (reads_so variant dating text k.0.message left k.0.read))),
-      )

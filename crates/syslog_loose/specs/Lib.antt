@@ -18,3 +18,4 @@ pub mod Start
 pub mod TagForm
 pub mod View3164
 pub mod View5424
+pub mod Visit

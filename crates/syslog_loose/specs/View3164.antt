@@ -1,46 +1,50 @@
--- What the header's reader holds, as names over texts and as the meanings of its pieces.
-use Rattle.std.specs.Prelude.{◌≡◌, ℕ, ◌∷◌, ◌++◌, Option, Some, IfSome}
+-- What the reader of the header holds, as names over texts and as the meanings of its pieces.
+use Rattle.std.specs.Prelude.{◌≡◌, ◌≢◌, ℕ, [], ◌∷◌, ◌++◌, IsTrue, IfSome, Option, Some}
 use Rattle.std.specs.Option.{option_map}
-use Rattle.syslog_pieces.specs.Pri.{priority_text}
-use Rattle.syslog_pieces.specs.ProcId.{procid_value}
-use Rattle.syslog_pieces.specs.Pieces.Class.{Text, Front, Row}
+use Rattle.syslog_pieces.specs.ProcId.{named_process}
+use Rattle.syslog_pieces.specs.Pieces.Class.{Text, Ends, Front, Row}
 use Rattle.syslog_pieces.specs.Pieces.View.{seen, shown}
-use Rattle.syslog_pieces.specs.Text.{trimmed}
 use Rattle.syslog_pieces.specs.Timestamp.{stamp_seen}
-use Rattle.syslog_pieces.specs.Timestamp.Canonical.{IsCanonicalStamp}
 use Rattle.syslog_pieces.specs.Timestamp.Zone.{Dating}
 use Rattle.syslog_pieces.specs.declared.procid.ProcId.{ProcId}
 use Rattle.syslog_pieces.specs.declared.timestamp.OffsetTimestamp.{OffsetTimestamp}
-use Rattle.syslog_loose.specs.Formats.{printed_number}
-use Rattle.syslog_loose.specs.Printed.{tag_text, timestamp_text}
-use Rattle.syslog_loose.specs.Rfc3164.{Names3164, NamesProgram, names, stamped_row}
-use Rattle.syslog_loose.specs.Settling.{IsAtRest, IsNext}
+use Rattle.syslog_pieces.specs.declared.timestamp.clock.ClockStamp.{ClockStamp}
+use Rattle.syslog_pieces.specs.Text.{EndsInColon, dash, is_blank}
+use Rattle.syslog_loose.specs.Exceptions.{HasNoColon}
+use Rattle.syslog_loose.specs.Printed.{name_text, tag_text}
+use Rattle.syslog_loose.specs.Rfc3164.{Names3164, ReadsNames, names, stamped_row}
+use Rattle.syslog_loose.specs.TagForm.{IsForm}
+use Rattle.syslog_loose.specs.declared.rfc3164.Fields.{Fields}
 use Rattle.syslog_loose.specs.declared.rfc3164.Names.{Names}
-use Rattle.syslog_loose.specs.declared.rfc3164.Stamped.{Stamped}
-use Rattle.syslog_loose.specs.declared.variant.Variant.TheVariants.{RFC3164}
 
 abbrev pub names_value : Names → Names3164
-names_value n = names (seen n.hostname) (seen n.appname) (option_map (procid_value (λ s. shown s)) n.procid)
+names_value n = names (seen n.hostname) (seen n.appname) (option_map named_process (seen n.process))
 
-abbrev pub stamped_values : Stamped → Option ℕ × (Unit {0} × (Option OffsetTimestamp × Unit {0}))
-stamped_values s = (s.priority, (tt, (stamp_seen s.timestamp, tt)))
+abbrev pub stamped_values : Option ℕ → Option ClockStamp → Option ℕ × (Unit {0} × (Option OffsetTimestamp × Unit {0}))
+stamped_values priority timestamp = (priority, (tt, (stamp_seen timestamp, tt)))
 
--- these pieces begin the text, and this follows
-abbrev pub IsBehindStamp : Dating → Text → Stamped → Text → Type 0
-IsBehindStamp dating text stamped follows = Front (Row (stamped_row dating)) text follows (stamped_values stamped)
+-- where there is a process, its text is the id of this name, which is of the form of a tag and an id
+abbrev pub IsProcessOf : Text → Names → Type 0
+IsProcessOf name n = IfSome (seen n.process) (λ id. (tag : Text) × IsForm name tag id)
 
--- this program's text prints as it stands, beside each host
-pub record IsPlainProgram (text : Text) : Type 0 where
-  pub appname : Text
-  pub procid : Option (ProcId Text)
-  pub means : (host : Option Text) → NamesProgram host text (names host (Some appname) procid)
-  pub prints : (follows : Text) → text ++ (58 ∷ 32 ∷ follows) ≡ tag_text (Some appname) procid ++ follows
+-- a priority, blanks and a timestamp begin the text, and this follows
+abbrev pub IsBehindStamp : Dating → Text → Option ℕ → Option ClockStamp → Text → Type 0
+IsBehindStamp dating text priority timestamp follows =
+    Front (Row (stamped_row dating)) text follows (stamped_values priority timestamp)
 
--- Whatever stands before it, up to a timestamp that is read back, the text prints as it stands: the priority, the
--- timestamp and it are the next round, which is at rest.
-abbrev pub PrintsBehind : Text → Type 0
-PrintsBehind tail = (dating : Dating) (text : Text) (stamped : Stamped)
-    → IsBehindStamp dating (trimmed text) stamped tail → IfSome (stamp_seen stamped.timestamp) IsCanonicalStamp
-    → (next : IsNext RFC3164 dating text
-    (priority_text (printed_number stamped.priority) ++ (32 ∷ (timestamp_text (stamp_seen stamped.timestamp) ++ tail))))
-    × IsAtRest next.message.protocol next.message
+-- the names as they print, each after a space, and more
+abbrev pub fields_before : Names3164 → Text → Text
+fields_before n more = 32 ∷ (name_text n.hostname ++ (32 ∷ (tag_text n.appname n.procid ++ more)))
+
+-- the host is neither the text of an absent one nor taken for the one after the names, and no name of a process is cut
+pub record HasQuietNames (n : Names3164) : Type 0 where
+  pub no_dash : IfSome n.hostname (λ h. h ≢ dash)
+  pub no_last_colon : IfSome n.hostname (λ h. EndsInColon h → ⊥)
+  pub no_colon : IfSome n.procid HasNoColon
+
+-- The fields begin the text. Where they say so, they are in printed form, and then quiet.
+pub record FieldsAreRead (text : Text) (fields : Fields) : Type 0 where
+  pub read : ReadsNames text (shown fields.rest) (names_value fields.names)
+  pub ends : Ends is_blank (shown fields.rest)
+  pub prints : IsTrue fields.are_printed → text ≡ fields_before (names_value fields.names) (shown fields.rest)
+  pub quiet : IsTrue fields.are_printed → HasQuietNames (names_value fields.names)

@@ -1,20 +1,20 @@
 //! Whether the change of the dash changed the reading of a text. The front of the text tells, up to its list: so no
 //! element is collected, and no memory taken.
-ghost use Rattle.std.specs.Prelude.{◌↔◌, IsTrue, MatchBool};
+ghost use Rattle.std.specs.Prelude.{◌↔◌, ℕ, IsTrue, MatchBool, Option};
 ghost use Rattle.std.specs.Result.{IsOkAnd};
 ghost use Rattle.std.specs.Str.{chars};
 ghost use Rattle.syslog_pieces.specs.Pieces.Class.{Text};
 ghost use Rattle.syslog_pieces.specs.Text.{trimmed as trimmed_text};
 ghost use Rattle.syslog_pieces.specs.Timestamp.Zone.{Dating as AnyDating, dating_of};
+ghost use Rattle.syslog_pieces.specs.declared.timestamp.clock.ClockStamp.{ClockStamp};
 ghost use Rattle.syslog_loose.specs.DashChange.{BeginsDashChange, HasDashChange, ReadsDifferently};
 ghost use Rattle.syslog_loose.specs.Reading.{AnswersEachMonth, InYear};
 ghost use Rattle.syslog_loose.specs.View3164.{IsBehindStamp};
-ghost use Rattle.syslog_loose.specs.declared.rfc3164.Stamped.{Stamped};
 ghost use Rattle.syslog_loose.specs.declared.variant.Variant.TheVariants.{RFC3164};
 
-use crate::reading::{asked_numbers, front_date, front_stamp};
-use crate::rfc3164::read_names;
+use crate::rfc3164::read_fields;
 use crate::variant::{IncompleteDate, Variant};
+use crate::visit::{asked_numbers, front_date, front_stamp};
 use jiff::tz::TimeZone;
 use std::alloc::{AllocError, Global};
 use syslog_pieces::pri::optional_priority;
@@ -61,12 +61,12 @@ pub fn reads_differently<F: FnOnce(IncompleteDate) -> i32>(
 // The same of a text of RFC 3164, by what stands behind its timestamp. What RFC 3164 reads so has no division of RFC
 // 5424.
 fn has_dash_change(behind: &str) -> bool
-    ensures { (dating : AnyDating) (whole : Text) (stamped : Stamped)
-        → IsBehindStamp dating (trimmed_text whole) stamped (chars behind.now) → MatchBool result
+    ensures { (dating : AnyDating) (whole : Text) (priority : Option ℕ) (timestamp : Option ClockStamp)
+        → IsBehindStamp dating (trimmed_text whole) priority timestamp (chars behind.now) → MatchBool result
         (ReadsDifferently RFC3164 dating whole) (ReadsDifferently RFC3164 dating whole → ⊥) }
 {
-    let (_, rest) = read_names(behind);
-    begins_dash_change(rest)
+    let fields = read_fields(behind);
+    begins_dash_change(fields.rest)
 }
 
 // Whether the text begins with a dash before a character that is no blank.

@@ -1,35 +1,32 @@
 //! Rounds that `settle` skips, so that no line takes more than a handful of passes.
 //!
 //! A host of RFC 3164 that ends in colons is read with one fewer each time, and the colon stands in the message part
-//! behind it; of a message part of dashes each reading takes one for an empty list. Each of these rounds is known from
+//! after it; of a message part of dashes each reading takes one for an empty list. Each of these rounds is known from
 //! the one before it, so the last of them is written at once.
 ghost use Rattle.std.specs.Prelude.{◌≡◌, ◌+◌, ◌*◌, ◌-◌, ◌++◌, ◌<◌, ◌≤◌, ℕ, [], IfSome};
-ghost use Rattle.std.specs.Prelude.{MatchOption, OnOk, Some, length, map, string_bytes};
-ghost use Rattle.std.specs.Bool.{◌==◌};
+ghost use Rattle.std.specs.Prelude.{MatchOption, None, OnOk, Some, length, string_bytes};
 ghost use Rattle.std.specs.Fmt.{WritesOnOk};
 ghost use Rattle.std.specs.Str.{chars, encode_utf8_all};
 ghost use Rattle.syslog_pieces.specs.Pieces.Class.{Text};
 ghost use Rattle.syslog_pieces.specs.Pieces.View.{shown};
-ghost use Rattle.syslog_pieces.specs.StructuredData.Element.{element_value};
+ghost use Rattle.syslog_pieces.specs.StructuredData.Visited.{list_elements};
 ghost use Rattle.syslog_pieces.specs.Timestamp.Zone.{Dating};
 ghost use Rattle.syslog_loose.specs.Jumps.{CutsColons, EndsColons, IsDashed, PassesDashes, colons, colons_before};
-ghost use Rattle.syslog_loose.specs.Jumps.{message_end, past_colons, tail_text};
-ghost use Rattle.syslog_loose.specs.Message.{message_value};
+ghost use Rattle.syslog_loose.specs.Jumps.{message_end, past_colons, tail_text, with_msg};
+ghost use Rattle.syslog_loose.specs.Line.{line_value};
 ghost use Rattle.syslog_loose.specs.Printed.{printed};
 ghost use Rattle.syslog_loose.specs.Reading.{IsRead};
 ghost use Rattle.syslog_loose.specs.Settling.{Reaches};
-ghost use Rattle.syslog_loose.specs.declared.message.Protocol.TheVariants.{RFC3164};
 ghost use Rattle.syslog_loose.specs.declared.variant.Variant.{Variant};
 
-use crate::message::{
-    Message, Protocol, has_no_name_exception, is_canonical_time, print, write_elements,
-    write_spaced,
-};
-use std::alloc::{AllocError, Global};
+use crate::line::{Line, has_quiet_names, print_line, write_list};
+use crate::message::write_spaced;
+use std::alloc::AllocError;
 use std::fmt;
 use std::fmt::Write;
-use syslog_pieces::structured_data::StructuredElement;
+use syslog_pieces::structured_data::ElementList;
 use syslog_pieces::text::{literal, some_blanks};
+use syslog_pieces::timestamp::canonical::is_canonical_clock;
 
 // What is passed or written at once of a long run, thirty-two bytes each.
 const COLONS: &str = "::::::::::::::::::::::::::::::::";
@@ -38,33 +35,47 @@ const SPACED_COLONS: &str = " : : : : : : : : : : : : : : : :";
 
 const SPACED_DASHES: &str = "- - - - - - - - - - - - - - - - ";
 
-/// Writes a round of the text that was read as this message of RFC 3164: the next one, or the last of those that are
-/// known from it. None before it is settled.
-pub(crate) fn write_round(
-    alloc: Global,
-    text: &mut String,
-    message: Message<&str>,
-    length: usize,
-) -> Result<(), AllocError>
-    ensures { (variant : Variant) (dating : Dating) (input : Text)
-        → IsRead variant dating input (message_value (λ s. shown s) message.entry)
-        → message.entry.protocol ≡ RFC3164
-        → OnOk result ((n : ℕ) × Reaches variant dating input n (chars (string_bytes text.new))) }
+/// Writes a round of the line of RFC 3164: the next one, or the last of those that are known from it. None before it is
+/// settled.
+pub(crate) fn write_round(text: &mut String, line: &Line<'_>) -> Result<(), AllocError>
+    ensures { (variant : Variant) (dating : Dating) (input : Text) → IsRead variant dating input (line_value line.now)
+        → line.now.version ≡ None → OnOk result ((n : ℕ) × Reaches variant dating input n (chars (string_bytes text.new))) }
 {
-    match last_colons(&message) {
-        Some((host, cut)) => write_past_colons(alloc, text, &message, host, cut, length),
-        None => print(text, &past_dashes(message), length),
+    match last_colons(line) {
+        Some((host, cut)) => write_past_colons(text, line, host, cut),
+        None => write_past_dashes(text, line),
     }
 }
 
-// The host without all but one of the colons that it ends in, where that cuts any, and how many.
-fn last_colons<'a>(message: &Message<&'a str>) -> Option<(&'a str, usize)>
-    ensures { IfSome result (λ x. EndsColons (message_value (λ s. shown s) message.now) (shown x.0) x.1 × (0 < x.1)) }
+// Writes the line without the dashes that its next readings take.
+fn write_past_dashes(text: &mut String, line: &Line<'_>) -> Result<(), AllocError>
+    ensures { (variant : Variant) (dating : Dating) (input : Text) → IsRead variant dating input (line_value line.now)
+        → line.now.version ≡ None → OnOk result ((n : ℕ) × Reaches variant dating input n (chars (string_bytes text.new))) }
 {
-    if !is_canonical_time(message.timestamp) {
+    let later = Line {
+        version: line.version,
+        priority: line.priority,
+        timestamp: line.timestamp,
+        hostname: line.hostname,
+        appname: line.appname,
+        process: line.process,
+        msgid: line.msgid,
+        list: line.list,
+        msg: msg_past_dashes(line),
+        rest: "",
+        is_printed: false,
+    };
+    print_line(text, &later)
+}
+
+// The host without all but one of the colons that it ends in, where that cuts any, and how many.
+fn last_colons<'a>(line: &Line<'a>) -> Option<(&'a str, usize)>
+    ensures { IfSome result (λ x. EndsColons (line_value line.now) (shown x.0) x.1 × (0 < x.1)) }
+{
+    if !is_canonical_clock(line.timestamp) {
         return None;
     }
-    let name = message.hostname?;
+    let name = line.hostname?;
     let (host, cut) = cut_colons(name);
     if cut == 0 { None } else { Some((host, cut)) }
 }
@@ -98,36 +109,35 @@ fn cut_runs<'a>(name: &'a str, run: &str) -> (&'a str, usize)
     (host, cut)
 }
 
-// Writes the message that is read where so many colons of its host were cut, one in each round.
+// Writes the line that is read where so many colons of its host were cut, one in each round.
 fn write_past_colons(
-    alloc: Global,
     text: &mut String,
-    message: &Message<&str>,
+    line: &Line<'_>,
     host: &str,
     cut: usize,
-    length: usize,
 ) -> Result<(), AllocError>
     requires { 0 < cut }
     ensures { OnOk result (string_bytes text.new ≡ encode_utf8_all (printed
-        (past_colons (message_value (λ s. shown s) message.now) (chars host.now) (cut - 1)))) }
+        (past_colons (line_value line.now) (chars host.now) (cut - 1)))) }
 {
-    let front = Message {
-        protocol: Protocol::RFC3164,
-        facility: message.facility,
-        severity: message.severity,
-        timestamp: message.timestamp,
+    let front = Line {
+        version: None,
+        priority: line.priority,
+        timestamp: line.timestamp,
         hostname: Some(host),
         appname: None,
-        procid: None,
+        process: None,
         msgid: None,
-        structured_data: Vec::new(alloc),
+        list: ElementList::none(),
         msg: ":",
+        rest: "",
+        is_printed: false,
     };
-    print(text, &front, length)?;
+    print_line(text, &front)?;
     push_colons(text, cut - 1)?;
     let tail = Tail {
-        elements: &message.structured_data,
-        msg: message.msg,
+        list: line.list,
+        msg: line.msg,
     };
     write!(text, "{tail}")?;
     Ok(())
@@ -153,22 +163,22 @@ fn push_runs(text: &mut String, run: &str, count: usize) -> Result<(), AllocErro
     Ok(())
 }
 
-// What stands behind the colon of the names: elements and the message part, each behind a space.
+// What stands after the colon of the names: elements and the message part, each after a space.
 #[derive(Clone, Copy)]
-struct Tail<'a, 'b> {
-    elements: &'b [StructuredElement<&'a str>],
+struct Tail<'a> {
+    list: ElementList<'a>,
     msg: &'a str,
 }
 
-impl fmt::Display for Tail<'_, '_> {
-    ghost output = { λ tail. Some
-        (encode_utf8_all (tail_text (map (element_value (λ s. shown s)) tail.elements.now) (chars tail.msg.now))) };
+impl fmt::Display for Tail<'_> {
+    ghost output = { λ tail. Some (encode_utf8_all (tail_text (list_elements tail.list) (chars tail.msg.now))) };
 
     fn fmt<W: fmt::Write>(&self, f: &mut fmt::Formatter<W>) -> fmt::Result {
-        if self.elements.is_empty() {
+        if self.list.is_empty() {
             return write_end(f, self.msg);
         }
-        write_elements(f, self.elements)?;
+        f.write_str(" ")?;
+        write_list(f, &self.list)?;
         write_end(f, self.msg)
     }
 }
@@ -185,29 +195,22 @@ fn write_end<W: fmt::Write>(f: &mut fmt::Formatter<W>, msg: &str) -> fmt::Result
     }
 }
 
-// The message without the dashes that its next readings take from the message part, one in each round, up to the last
-// one that has a blank behind it.
-fn past_dashes(message: Message<&str>) -> Message<&str>
+// The message part without the dashes that the next readings take from it, one in each round, up to the last one that has
+// a blank after it.
+fn msg_past_dashes<'a>(line: &Line<'a>) -> &'a str
     ensures { (variant : Variant) (dating : Dating) (input : Text)
-        → IsRead variant dating input (message_value (λ s. shown s) message.entry)
-        → message.entry.protocol ≡ RFC3164 → (n : ℕ)
-        × Reaches variant dating input n (printed (message_value (λ s. shown s) result)) }
+        → IsRead variant dating input (line_value line.now) → line.now.version ≡ None
+        → (n : ℕ) × Reaches variant dating input n (printed (with_msg (line_value line.now) (shown result))) }
 {
-    let mut message = message;
-    if has_no_name_exception(&message) && are_none(&message.structured_data) {
-        message.msg = last_dash(message.msg);
+    if has_quiet_names(line) && line.list.is_empty() {
+        last_dash(line.msg)
+    } else {
+        line.msg
     }
-    message
 }
 
-fn are_none(elements: &[StructuredElement<&str>]) -> bool
-    ensures { result ≡ (length elements.now == 0) }
-{
-    elements.is_empty()
-}
-
-// The text from the last dash on of those that it begins with, each with blanks behind it; the text itself where none
-// does. Dashes with a space behind each are passed by sixteen, the others one by one.
+// The text from the last dash on of those that it begins with, each with blanks after it; the text itself where none
+// does. Dashes with a space after each are passed by sixteen, the others one by one.
 fn last_dash(text: &str) -> &str
     ensures { (n : ℕ) × PassesDashes n (chars text.now) (shown result) }
 {
@@ -223,7 +226,7 @@ fn last_dash(text: &str) -> &str
     from
 }
 
-// The text behind sixteen dashes with a space each, again and again as long as a further dash follows.
+// The text after sixteen dashes with a space each, again and again as long as a further dash follows.
 fn past_many_dashes(text: &str) -> &str
     ensures { (n : ℕ) × PassesDashes n (chars text.now) (shown result) }
 {
@@ -237,7 +240,7 @@ fn past_many_dashes(text: &str) -> &str
     from
 }
 
-// The text behind a dash and one or more blanks.
+// The text after a dash and one or more blanks.
 fn behind_dash(text: &str) -> Option<&str>
     ensures { MatchOption result ((rest : Text) → IsDashed (chars text.now) rest → ⊥)
         (λ rest. IsDashed (chars text.now) (shown rest)) }

@@ -26,11 +26,13 @@ mod rounds;
 mod settling;
 mod tag_form;
 mod variant;
+mod visit;
 
 pub use dash_change::reads_differently;
 pub use fault::ParseFault;
 pub use jiff::Timestamp;
 pub use jiff::tz::{Offset, TimeZone};
+pub use line::Line;
 pub use message::{Message, Protocol};
 pub use reading::{
     parse_message, parse_message_with_year, parse_message_with_year_exact,
@@ -42,6 +44,10 @@ pub use syslog_pieces::VERSION;
 pub use syslog_pieces::as_str::AsStr;
 pub use syslog_pieces::pri::{SyslogFacility, SyslogSeverity, decompose_pri};
 pub use syslog_pieces::procid::ProcId;
-pub use syslog_pieces::structured_data::{ParamsIter, StructuredElement};
+pub use syslog_pieces::structured_data::{
+    Element, ElementList, ElementVisitor, Elements, NoElements, Params, ParamsIter,
+    StructuredElement,
+};
 pub use syslog_pieces::timestamp::OffsetTimestamp;
 pub use variant::{IncompleteDate, Variant};
+pub use visit::{LineVisitor, parse_line, visit_line};

@@ -12,17 +12,14 @@ ghost use Rattle.syslog_loose.specs.Printed as spec;
 mod canonical;
 mod copies;
 mod equality;
-mod exceptions;
 mod printing;
-mod room;
 
 pub(crate) use canonical::is_canonical_time;
-pub(crate) use exceptions::{has_no_exception, has_no_name_exception};
+use printing::write_elements_before;
 pub(crate) use printing::{
-    read_priority, write_clock, write_elements, write_name, write_process, write_timestamp,
+    read_priority, write_clock, write_elements, write_name, write_process, write_tag,
+    write_timestamp,
 };
-use printing::{write_elements_before, write_tag};
-pub(crate) use room::{make_room, print};
 use std::fmt;
 use syslog_pieces::as_str::AsStr;
 use syslog_pieces::pri::{SyslogFacility, SyslogSeverity, write_priority};

@@ -1,46 +1,33 @@
 //! The calls that read a text.
 //!
-//! Each call trims its text once, and reads its priority and its month date once: behind a month date RFC 5424 is not
-//! tried, and where the date has no year the closure is asked. The calls with `exact` in their names refuse a text that
-//! has no reading; the others answer the fallback.
-ghost use Rattle.std.specs.Prelude.{◌≡◌, Err, IfOk, IsSome, MatchOption};
-ghost use Rattle.std.specs.Prelude.{None, Ok};
+//! Each goes by `visit_line`, and collects the elements of the line. The calls with `exact` in their names refuse a text
+//! that does not parse; the others return the fallback.
+ghost use Rattle.std.specs.Prelude.{◌≡◌, [], IfOk, None};
 ghost use Rattle.std.specs.Str.{chars};
 ghost use Rattle.jiff.specs.Words.{plain_zone};
-ghost use Rattle.syslog_pieces.specs.Pieces.Class.{Text};
 ghost use Rattle.syslog_pieces.specs.Pieces.View.{shown};
-ghost use Rattle.syslog_pieces.specs.Text.{trimmed};
-ghost use Rattle.syslog_pieces.specs.Timestamp.{header_stamp, stamp_seen};
-ghost use Rattle.syslog_pieces.specs.Timestamp.MonthDate.{month_date};
 ghost use Rattle.syslog_pieces.specs.Timestamp.Zone as zone;
 ghost use Rattle.syslog_pieces.specs.Timestamp.Zone.{IsYearAt, dating_of};
-ghost use Rattle.syslog_pieces.specs.declared.timestamp.month_date.MonthDate.{MonthDate};
+ghost use Rattle.syslog_pieces.specs.StructuredData.Collected.{HasCollected};
+ghost use Rattle.syslog_pieces.specs.StructuredData.Visited.{list_elements};
 ghost use Rattle.syslog_loose.specs.Message.{message_value};
+ghost use Rattle.syslog_loose.specs.Visit.{IsMessageOf, answer_made};
 ghost use Rattle.syslog_loose.specs.ReadBack.{AnswersItself, FieldsAsRead};
 ghost use Rattle.syslog_loose.specs.Reading as spec;
 ghost use Rattle.syslog_loose.specs.Reading.{Answers, AnswersEachMonth};
 ghost use Rattle.syslog_loose.specs.Reading.{AnswersOrWhole, InYear};
-ghost use Rattle.syslog_loose.specs.Reading.{incomplete};
-ghost use Rattle.syslog_loose.specs.Start.{BeginsWith, BeginsWithout};
-ghost use Rattle.syslog_loose.specs.declared.fault.ParseFault.TheVariants.{Invalid};
-ghost use Rattle.syslog_loose.specs.View3164.{IsBehindStamp};
 ghost use Rattle.syslog_loose.specs.declared.variant.Variant.{Variant};
-ghost use Rattle.syslog_loose.specs.declared.variant.Variant.TheVariants as variants;
 
 use crate::fault::ParseFault;
+use crate::line::Line;
 use crate::message::{Message, Protocol};
-use crate::rfc3164::Stamped;
 use crate::variant::{IncompleteDate, Variant};
-use crate::{rfc3164, rfc5424};
+use crate::visit::{LineVisitor, visit_line};
 use jiff::Timestamp;
 use jiff::tz::TimeZone;
 use std::alloc::{AllocError, Global};
-use syslog_pieces::pri::optional_priority;
-use syslog_pieces::structured_data::rfc3164_list::DASH_RULE;
-use syslog_pieces::text::{blanks, trimmed};
-use syslog_pieces::timestamp::month_date::{MonthDate, month_date};
-use syslog_pieces::timestamp::zone::{Dating, month_stamp};
-use syslog_pieces::timestamp::{ClockStamp, header_stamp, year_at};
+use syslog_pieces::structured_data::Collect;
+use syslog_pieces::timestamp::year_at;
 
 /// The message of the text, read by the variant, with the year of `now` in the local zone for a date that has none.
 ///
@@ -176,87 +163,54 @@ pub fn parse_message_with_year_exact_tz<'a, F: FnOnce(IncompleteDate) -> i32>(
         FieldsAsRead m.protocol (dating_of year tz.entry local.entry) (chars input.entry.now)
         (message_value (λ s. shown s) m))) }
 {
-    let text = trimmed(input);
-    let (priority, rest) = optional_priority(text);
-    let (timestamp, behind) = match front_date(rest, variant) {
-        Some((date, behind)) => {
-            let year = asked_numbers(date).map(get_year);
-            let Some(stamp) = month_stamp(date, &Dating { year, tz, local }) else {
-                return Err(ParseFault::Invalid);
-            };
-            (Some(stamp), behind)
-        }
-        None => {
-            if variant.reads_rfc5424() {
-                match rfc5424::read_behind(alloc, priority, rest) {
-                    Ok(Some(message)) => return Ok(message),
-                    Ok(None) => {}
-                    Err(_) => return Err(ParseFault::Memory),
-                }
-            }
-            let Some(found) = front_stamp(rest, variant) else {
-                return Err(ParseFault::Invalid);
-            };
-            found
-        }
-    };
-    let stamped = Stamped {
-        priority,
-        timestamp,
-    };
-    stamped_message(alloc, stamped, behind)
+    let made = visit_line(input, get_year, tz, variant, local, &mut Messages { alloc });
+    answer_of(made)
 }
 
-// The message of a text of RFC 3164, from what stands behind its timestamp on.
+// The message that was made, or why there is none.
 #[inline(always)]
-fn stamped_message(
+fn answer_of<'a>(
+    made: Option<Result<Message<&'a str>, AllocError>>,
+) -> Result<Message<&'a str>, ParseFault>
+    ensures { result ≡ answer_made made.entry }
+{
+    match made {
+        Some(Ok(message)) => Ok(message),
+        Some(Err(_)) => Err(ParseFault::Memory),
+        None => Err(ParseFault::Invalid),
+    }
+}
+
+// Collects the elements of a line while the line is read, and returns its message.
+#[derive(Clone, Copy)]
+struct Messages {
     alloc: Global,
-    stamped: Stamped,
-    behind: &str,
-) -> Result<Message<&str>, ParseFault>
-    ensures { (dating : zone.Dating) → (whole : Text)
-        → IsBehindStamp dating (trimmed whole) stamped (chars behind.now)
-        → Answers variants.RFC3164 dating whole result }
-{
-    match rfc3164::read_behind(alloc, stamped, behind, DASH_RULE) {
-        Ok(message) => Ok(message),
-        Err(_) => Err(ParseFault::Memory),
-    }
 }
 
-/// The month date behind a priority, where the variant reads such dates, and the text behind it.
-#[inline(always)]
-pub(crate) fn front_date(text: &str, variant: Variant) -> Option<(MonthDate, &str)>
-    ensures { MatchOption result (BeginsWithout month_date variant (chars text.now))
-        (λ x. BeginsWith month_date variant (chars text.now) x.0 (shown x.1)) }
-{
-    if variant.reads_rfc3164() {
-        month_date(blanks(text))
-    } else {
-        None
-    }
-}
+impl<'a> LineVisitor<'a> for Messages {
+    type Elements = Collect<'a>;
 
-/// A timestamp that is no month date, in the same way.
-#[inline(always)]
-pub(crate) fn front_stamp(text: &str, variant: Variant) -> Option<(Option<ClockStamp>, &str)>
-    ensures { MatchOption result (BeginsWithout header_stamp variant (chars text.now))
-        (λ x. BeginsWith header_stamp variant (chars text.now) (stamp_seen x.0) (shown x.1)) }
-{
-    if variant.reads_rfc3164() {
-        header_stamp(blanks(text))
-    } else {
-        None
-    }
-}
+    type Answer = Result<Message<&'a str>, AllocError>;
 
-/// The numbers of a date whose year is asked for.
-#[inline(always)]
-pub(crate) fn asked_numbers(date: MonthDate) -> Option<IncompleteDate>
-    ensures { MatchOption result (IsSome date.year) (λ d. (date.year ≡ None) × (d ≡ incomplete date)) }
-{
-    match date.year {
-        Some(_) => None,
-        None => Some((date.month, date.day, date.hour, date.minute, date.second)),
+    ghost makes = { λ old line made new. IsMessageOf line made };
+
+    #[inline(always)]
+    fn elements(&self) -> Collect<'a>
+        ensures { HasCollected result [] }
+    {
+        Collect::new(self.alloc)
+    }
+
+    #[inline(always)]
+    fn line(
+        &mut self,
+        line: &Line<'a>,
+        elements: Collect<'a>,
+    ) -> Result<Message<&'a str>, AllocError>
+        requires given { HasCollected elements (list_elements line.now.list) }
+        ensures { IsMessageOf line.now result }
+    {
+        let elements = elements.finish()?;
+        Ok(line.with(elements))
     }
 }

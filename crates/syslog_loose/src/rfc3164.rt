@@ -1,55 +1,55 @@
 //! The header of RFC 3164 (section 4), read loosely: eleven pieces, of which only the priority, the blanks and the
 //! timestamp at the front can fail.
 //!
-//! `read_behind` answers the message of the one division of a text, once the pieces that can fail were read. It takes
-//! each piece from the readers of `syslog_pieces`, from the left. `resolve` answers what the host field and the tag
-//! field mean together.
-ghost use Rattle.std.specs.Prelude.{◌≡◌, IfOk, IsOk, IsTrue, None};
-ghost use Rattle.std.specs.Str.{chars, IsUtf8};
+//! `read_3164` returns the line of the one division of a text, once the pieces that can fail were read. It takes each
+//! piece from the readers of `syslog_pieces`, from the left. `resolve` says what the host field and the tag field mean
+//! together.
+ghost use Rattle.std.specs.Prelude.{◌≡◌, IsTrue, Option, Some, None};
+ghost use Rattle.std.specs.Str.{chars};
 ghost use Rattle.syslog_pieces.specs.Pieces.Class.{Text};
 ghost use Rattle.syslog_pieces.specs.Pieces.View.{seen, shown, field_seen};
+ghost use Rattle.syslog_pieces.specs.StructuredData.Visited.{list_elements, Visits};
 ghost use Rattle.syslog_pieces.specs.Text.{trimmed};
 ghost use Rattle.syslog_pieces.specs.Timestamp.Zone.{Dating};
-ghost use Rattle.syslog_loose.specs.Message.{message_value};
+ghost use Rattle.syslog_loose.specs.Line.{line_value, KnowsForm};
+ghost use Rattle.syslog_loose.specs.Reading.{dash_rule};
 ghost use Rattle.syslog_loose.specs.Rfc3164 as spec;
-ghost use Rattle.syslog_loose.specs.View3164.{IsBehindStamp, IsPlainProgram, PrintsBehind};
-ghost use Rattle.syslog_loose.specs.View3164.{names_value};
+ghost use Rattle.syslog_loose.specs.View3164.{FieldsAreRead, IsBehindStamp, IsProcessOf, names_value};
 
-use crate::message::{Message, Protocol};
+use crate::line::Line;
+use crate::rfc5424::{are_all, is_bare};
 use crate::tag_form::tag_form;
-use std::alloc::{AllocError, Global};
-use syslog_pieces::pri::parts;
-use syslog_pieces::procid::{ProcId, is_bare_word};
-use syslog_pieces::structured_data::rfc3164_list::{
-    DASH_RULE, DashRule, begins_list, optional_list,
-};
+use syslog_pieces::structured_data::rfc3164_list::DASH_RULE;
+use syslog_pieces::structured_data::{ElementVisitor, visit_rfc3164_list};
 use syslog_pieces::text::verbatim::before;
 use syslog_pieces::text::{blanks, host_field, past_colon, tag_field};
-use syslog_pieces::timestamp::{ClockStamp, stamp_of};
+use syslog_pieces::timestamp::ClockStamp;
 
-/// The names of a message.
-#[derive(Drop)]
+/// The names of a line.
+#[derive(Clone, Copy)]
 pub(crate) struct Names<'a> {
     pub(crate) hostname: Option<&'a str>,
     pub(crate) appname: Option<&'a str>,
-    pub(crate) procid: Option<ProcId<&'a str>>,
+    /// The text that names the process.
+    pub(crate) process: Option<&'a str>,
 }
 
 // A program's name beside this host.
 #[inline(always)]
 fn program<'a>(hostname: Option<&'a str>, name: &'a str) -> Names<'a>
-    ensures { spec.NamesProgram (seen hostname.entry) (chars name.entry.now) (names_value result) }
+    ensures names { spec.NamesProgram (seen hostname.entry) (chars name.entry.now) (names_value result) }
+    ensures form { IsProcessOf (chars name.entry.now) result }
 {
     match tag_form(name) {
-        Some((tag, process)) => Names {
+        Some((tag, id)) => Names {
             hostname,
             appname: Some(tag),
-            procid: Some(ProcId::from(process)),
+            process: Some(id),
         },
         None => Names {
             hostname,
             appname: Some(name),
-            procid: None,
+            process: None,
         },
     }
 }
@@ -63,12 +63,12 @@ fn lone<'a>(name: &'a str) -> Names<'a>
         Some((tag, id)) => Names {
             hostname: None,
             appname: Some(tag),
-            procid: Some(ProcId::from(id)),
+            process: Some(id),
         },
         None => Names {
             hostname: Some(name),
             appname: None,
-            procid: None,
+            process: None,
         },
     }
 }
@@ -81,14 +81,15 @@ fn nobody() -> Names<'static>
     Names {
         hostname: None,
         appname: None,
-        procid: None,
+        process: None,
     }
 }
 
 /// What the host field and the tag field mean together: each is not there, or there and empty, or a text.
 #[inline(always)]
 pub(crate) fn resolve<'a>(host: Option<Option<&'a str>>, tag: Option<Option<&'a str>>) -> Names<'a>
-    ensures { spec.Resolves (field_seen host.entry) (field_seen tag.entry) (names_value result) }
+    ensures names { spec.Resolves (field_seen host.entry) (field_seen tag.entry) (names_value result) }
+    ensures form { (name : Text) → field_seen tag.entry ≡ Some (Some name) → IsProcessOf name result }
 {
     match tag {
         None => match host {
@@ -103,85 +104,82 @@ pub(crate) fn resolve<'a>(host: Option<Option<&'a str>>, tag: Option<Option<&'a 
     }
 }
 
-/// The priority and the timestamp.
+/// The fields of names after the timestamp.
 #[derive(Clone, Copy)]
-pub(crate) struct Stamped {
-    pub(crate) priority: Option<u8>,
-    pub(crate) timestamp: Option<ClockStamp>,
+pub(crate) struct Fields<'a> {
+    names: Names<'a>,
+    // whether they and what ends them are already in printed form, a host field among them
+    are_printed: bool,
+    /// The rest, where a list may begin.
+    pub(crate) rest: &'a str,
 }
 
-// Whether a program's name prints as it stands, by what it means.
+// Whether there are a host field and a tag field that is not empty.
 #[inline(always)]
-fn is_plain_program(name: &str) -> bool
-    ensures { IsTrue result → IsPlainProgram (chars name.now) }
+fn are_there(host: Option<Option<&str>>, tag: Option<Option<&str>>) -> bool
+    ensures { IsTrue result → (origin : Option Text) × (name : Text) × (field_seen host.entry ≡ Some origin)
+        × (field_seen tag.entry ≡ Some (Some name)) }
 {
-    match tag_form(name) {
-        Some((_, id)) => is_bare_word(id),
-        None => true,
-    }
-}
-
-/// Whether the text behind a timestamp prints as it stands: its names, no list, and its message. It may always answer
-/// no: then the line is read and printed.
-#[inline(always)]
-pub(crate) fn stands_as_printed(text: &str) -> bool
-    ensures prints { IsTrue result → PrintsBehind (chars text.now) }
-    ensures utf8 { IsUtf8 text.now }
-{
-    let (host, behind) = host_field(text);
     let Some(_) = host else {
         return false;
     };
-    let (tag, colon) = tag_field(behind);
-    let Some(Some(name)) = tag else {
+    let Some(Some(_)) = tag else {
         return false;
     };
-    let rest = blanks(past_colon(blanks(colon)));
-    if is_plain_program(name) && !begins_list(rest, DASH_RULE) {
-        before(colon, rest) == ": "
-    } else {
-        false
+    true
+}
+
+/// The names after the timestamp, up to the blanks after their colon.
+#[inline(always)]
+pub(crate) fn read_fields(text: &str) -> Fields<'_>
+    ensures { FieldsAreRead (chars text.now) result }
+{
+    let (host, after_host) = host_field(text);
+    let (tag, after_tag) = tag_field(after_host);
+    let rest = blanks(past_colon(blanks(after_tag)));
+    let names = resolve(host, tag);
+    let are_printed = are_all([
+        are_there(host, tag),
+        is_bare(names.process),
+        before(after_tag, rest) == ": ",
+        true,
+        true,
+    ]);
+    Fields {
+        names,
+        are_printed,
+        rest,
     }
 }
 
-/// The names that stand behind the timestamp, and the text behind their colon.
+/// The line of a text, from after its timestamp on: there nothing can fail.
 #[inline(always)]
-pub(crate) fn read_names(text: &str) -> (Names<'_>, &str)
-    ensures { spec.ReadsNames (chars text.now) (shown result.1) (names_value result.0) }
+pub(crate) fn read_3164<'a, E: ElementVisitor<'a>>(
+    priority: Option<u8>,
+    timestamp: Option<ClockStamp>,
+    text: &'a str,
+    elements: &mut E,
+) -> Line<'a>
+    ensures reads { (dating : Dating) (whole : Text)
+        → IsBehindStamp dating (trimmed whole) priority timestamp (chars text.entry.now)
+        → spec.IsRead3164 dash_rule dating whole (line_value result) }
+    ensures form { KnowsForm result }
+    ensures visited { Visits E.was_given elements.old (list_elements result.list) elements.new }
 {
-    let (host, rest) = host_field(text);
-    let (tag, rest) = tag_field(rest);
-    (resolve(host, tag), blanks(past_colon(blanks(rest))))
-}
-
-/// The message of a text, from what stands behind its timestamp on: there nothing can fail but memory, which is asked
-/// for only to collect elements, each after it was recognised.
-#[inline(always)]
-pub(crate) fn read_behind(
-    alloc: Global,
-    stamped: Stamped,
-    text: &str,
-    rule: DashRule,
-) -> Result<Message<&str>, AllocError>
-    ensures read { (dating : Dating) (whole : Text) → IsBehindStamp dating (trimmed whole) stamped (chars text.now)
-        → IfOk result (λ m. spec.IsRead3164 rule dating whole (message_value (λ s. shown s) m)) }
-    ensures memory { (dating : Dating) (whole : Text) → IsBehindStamp dating (trimmed whole) stamped (chars text.now)
-        → spec.NeedsNoMemory3164 rule dating whole → IsOk result }
-{
-    let (names, rest) = read_names(text);
-    let (elements, rest) = optional_list(alloc, rest, rule)?;
-    let msg = blanks(rest);
-    let (facility, severity) = parts(stamped.priority);
-    Ok(Message {
-        protocol: Protocol::RFC3164,
-        facility,
-        severity,
-        timestamp: stamp_of(stamped.timestamp),
-        hostname: names.hostname,
-        appname: names.appname,
-        procid: names.procid,
+    let fields = read_fields(text);
+    let (list, after_list) = visit_rfc3164_list(fields.rest, DASH_RULE, elements);
+    let is_printed = fields.are_printed && list.text().is_empty();
+    Line {
+        version: None,
+        priority,
+        timestamp,
+        hostname: fields.names.hostname,
+        appname: fields.names.appname,
+        process: fields.names.process,
         msgid: None,
-        structured_data: elements.unwrap_or(Vec::new(alloc)),
-        msg,
-    })
+        list,
+        msg: blanks(after_list),
+        rest: text,
+        is_printed,
+    }
 }

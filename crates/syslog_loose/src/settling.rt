@@ -4,20 +4,18 @@
 //! more than its text has characters at first: so this ends.
 ghost use Rattle.std.specs.Prelude.{IfOk, string_bytes};
 ghost use Rattle.std.specs.Str.{chars};
-ghost use Rattle.syslog_pieces.specs.Timestamp.Zone.{dating_of, dating_value};
+ghost use Rattle.syslog_pieces.specs.Timestamp.Zone.{Dating, dating_of};
 ghost use Rattle.syslog_loose.specs.Canonical.{IsCanonical};
 ghost use Rattle.syslog_loose.specs.Message.{MessageValue};
 ghost use Rattle.syslog_loose.specs.Reading.{AnswersEachMonth, InYear, IsRead, dash_rule};
 ghost use Rattle.syslog_loose.specs.Settling.{ReachesFrom, Settles, answer_in};
 
 use crate::fault::ParseFault;
-use crate::rounds::next_round;
+use crate::rounds::{later_round, next_round};
 use crate::variant::{IncompleteDate, Variant};
 use jiff::tz::TimeZone;
 use std::alloc::Global;
 use std::mem::swap;
-use syslog_pieces::text::trimmed;
-use syslog_pieces::timestamp::zone::Dating;
 
 /// The first round of the text, from round 1 on, that normalising leaves as it is: round 1 is what `normalise` answers
 /// to the text, and each further round what it answers to the one before. `Invalid` where a round has no reading.
@@ -70,35 +68,30 @@ pub fn settle_into<F: FnOnce(IncompleteDate) -> i32>(
         → IsRead variant (dating_of year tz.entry local.entry) (chars (string_bytes answer)) m
         → IsCanonical dash_rule m)) }
 {
-    let left = trimmed(input);
-    let round = next_round::<F, 2>(alloc, text, left, get_year, tz, variant, local, true)?;
-    if round.settled {
+    let settled = next_round(text, input, get_year, tz, variant, local)?;
+    if settled {
         return Ok(());
     }
-    let year = round.year;
-    settle_on(alloc, text, input, &Dating { year, tz, local }, variant)
+    settle_on(alloc, text, input, variant)
 }
 
-// The same from a round of the input that is not known to be settled, in a year. What is printed shows no month date,
-// so no further round asks for a year. It may end in a space. The texts of the last round and the next change places.
+// The same from a round of the input that is not known to be settled. What is printed shows no month date, so no further
+// round asks for a year. It may end in a space. The texts of the last round and the next change places.
 fn settle_on(
     alloc: Global,
     text: &mut String,
     input: &str,
-    dating: &Dating<'_, '_>,
     variant: Variant,
 ) -> Result<(), ParseFault>
-    requires { ReachesFrom variant (dating_value dating.now) (chars input.now) 0 (chars (string_bytes text.old)) }
-    ensures { Settles variant (dating_value dating.entry.now) (chars input.entry.now) (answer_in result text.new) }
+    requires { (dating : Dating) × ReachesFrom variant dating (chars input.now) 0 (chars (string_bytes text.old)) }
+    ensures { (dating : Dating) → ReachesFrom variant dating (chars input.entry.now) 0 (chars (string_bytes text.old))
+        → Settles variant dating (chars input.entry.now) (answer_in result text.new) }
 {
     let mut last = String::new(alloc);
-    let (tz, local) = (dating.tz, dating.local);
     for done in 0..=input.len() {
         swap(&mut last, text);
-        let left = trimmed(last.as_str());
-        let no_year = |_: IncompleteDate| -> i32 { 0 };
-        let round = next_round::<_, 3>(alloc, text, left, no_year, tz, variant, local, true)?;
-        if round.settled {
+        let settled = later_round(text, last.as_str(), variant)?;
+        if settled {
             return Ok(());
         }
     }

@@ -1,4 +1,5 @@
 -- The theory of pieces: one text has one division.
+pub mod Alone
 pub mod Class
 pub mod Each
 pub mod Formats

@@ -1,4 +1,5 @@
 -- Numbers and names as process ids.
+pub mod Named
 pub mod ReadBack
 use Rattle.syslog_pieces.proofs.Names.{FitsSigned}
 use Rattle.std.proofs.Common.{negsuc}
@@ -20,10 +21,10 @@ use Rattle.syslog_pieces.proofs.TextLemmas.Words.{own, word_det}
 
 -- ---- a text writes one number
 
-numeral : (d : Text) → IsDigits d → IsNumeral 10 d
+pub numeral : (d : Text) → IsDigits d → IsNumeral 10 d
 numeral d h = (h.0, own.to d h.1)
 
-digits_from : (d : Text) → IsNumeral 10 d → IsDigits d
+pub digits_from : (d : Text) → IsNumeral 10 d → IsDigits d
 digits_from d h = (h.0, own.from d h.1)
 
 unsigned_is : (c : ℕ) (d : Text) → c ≢ 45 → c ≢ 43 → (without_leading_sign (c ∷ d) ≡ c ∷ d)
@@ -31,7 +32,7 @@ unsigned_is : (c : ℕ) (d : Text) → c ≢ 45 → c ≢ 43 → (without_leadin
 unsigned_is c d m p = rw (ne_eqb c 45 m, ne_eqb c 43 p) (refl, refl)
 
 -- a numeral behind a sign writes its value
-numeral_writes : (t : Text) → IsNumeral 10 (without_leading_sign t) → WritesSigned t (signed_digits_value 10 t)
+pub numeral_writes : (t : Text) → IsNumeral 10 (without_leading_sign t) → WritesSigned t (signed_digits_value 10 t)
 numeral_writes [] h = absurd (let k : 0 < 0 = h.0 in omega arith)
 numeral_writes (c ∷ d) h = elim (cases_eq c 45) [
   | inl minus ↦ rw minus (inr (inr (d, refl, digits_from d (rw minus at h), refl)))
@@ -46,7 +47,7 @@ no_sign : (c : ℕ) (t : Text) → IsDigits (c ∷ t) → (c ≢ 45) × (c ≢ 4
 no_sign c t h = let a = h.1.0 in ((λ e. let f = rw e at a in cc), (λ e. let f = rw e at a in cc))
 
 -- and what a text writes is its numeral
-writes_numeral : (t : Text) (n : ℤ) → WritesSigned t n → IsNumeral 10 (without_leading_sign t)
+pub writes_numeral : (t : Text) (n : ℤ) → WritesSigned t n → IsNumeral 10 (without_leading_sign t)
     × (n ≡ signed_digits_value 10 t)
 writes_numeral [] n (inl (d, e)) = absurd (let k : 0 < 0 = d.0 in omega arith)
 writes_numeral (c ∷ t) n (inl (d, e)) =

@@ -5,3 +5,4 @@ pub mod ProcId
 pub mod StructuredData
 pub mod Text
 pub mod Timestamp
+pub mod Front

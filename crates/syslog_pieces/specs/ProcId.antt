@@ -1,11 +1,13 @@
 -- Process ids: a number of 32 bits, or any other text.
 pub mod Equal
 pub mod EqualLaws
-use Rattle.std.specs.Prelude.{◌≡◌, ◌⊎◌, ⊤, ℤ, pos, neg_ℤ, ◌<◌, FitsSigned, ◌∷◌, length, Option, Some, None}
+use Rattle.std.specs.Prelude.{◌≡◌, ◌⊎◌, ⊤, ℤ, pos, negsuc, neg_ℤ, ◌<◌, FitsSigned, ◌∷◌, length, Option, Some, None}
+use Rattle.std.specs.Prelude.{Bool, ◌&&◌, if◌then◌else◌, nat_lt}
+use Rattle.std.specs.List.{list_all}
 use Rattle.std.specs.Int.{w32}
 use Rattle.std.specs.Char.{is_ascii_digit}
 use Rattle.std.specs.Fmt.{signed_decimal}
-use Rattle.std.specs.Str.Parse.{digits_value}
+use Rattle.std.specs.Str.Parse.{digits_value, signed_digits_value, without_leading_sign}
 use Rattle.syslog_pieces.specs.Pieces.Class.{Text, Class, Each}
 use Rattle.syslog_pieces.specs.Text.{word, dash}
 use Rattle.syslog_pieces.specs.Text.Canonical.{IsCanonicalWord}
@@ -36,6 +38,20 @@ IsI32Text t n = WritesSigned t n × FitsSigned w32 n
 abbrev pub NamesProcess : Text → ProcId Text → Type 0
 NamesProcess t (PID n) = IsI32Text t n
 NamesProcess t (Name name) = ((n : ℤ) → IsI32Text t n → ⊥) × (name ≡ t)
+
+-- a number of 32 bits
+abbrev pub has_32_bits : ℤ → Bool
+has_32_bits (pos n) = nat_lt n 2_147_483_648
+has_32_bits (negsuc n) = nat_lt n 2_147_483_648
+
+-- one or more ASCII digits, after at most one sign
+abbrev pub is_signed_text : Text → Bool
+is_signed_text t = nat_lt 0 (length (without_leading_sign t)) && list_all is_ascii_digit (without_leading_sign t)
+
+-- that process id, computed
+abbrev pub named_process : Text → ProcId Text
+named_process t =
+    if is_signed_text t && has_32_bits (signed_digits_value 10 t) then PID (signed_digits_value 10 t) else Name t
 
 -- the number in decimal, or the text
 abbrev pub procid_text : ProcId Text → Text

@@ -4,9 +4,12 @@ pub mod Element
 pub mod Equal
 pub mod EqualLaws
 pub mod Escapes
+pub mod Recognised
 pub mod Rfc3164List
 pub mod Params
 pub mod Canonical
+pub mod Collected
+pub mod Visited
 use Rattle.std.specs.Prelude.{◌≡◌, ◌≢◌, ◌<◌, ◌⊎◌, List, [], ◌∷◌, ◌++◌, length, Option, Some, None}
 use Rattle.std.specs.List.{flat_map, AllByRecursion}
 use Rattle.syslog_pieces.specs.Text.CharClass.{is_name_char, is_id_char, is_open_char}

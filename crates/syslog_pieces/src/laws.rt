@@ -9,6 +9,7 @@ ghost use Rattle.syslog_pieces.specs.Pieces.Class.{Text, Each, Front, NoFront};
 ghost use Rattle.syslog_pieces.specs.StructuredData.Escapes.{TextUnit, SplitsUnits, IsUnescaped, IsUnquoted, escaped};
 ghost use Rattle.syslog_pieces.specs.StructuredData.Params.{NextParam, AreParamItems};
 ghost use Rattle.syslog_pieces.specs.StructuredData.Rfc3164List.{BeginsNoList, rfc3164_list};
+ghost use Rattle.syslog_pieces.specs.ProcId.{NamesProcess, named_process};
 ghost use Rattle.syslog_pieces.specs.Pri.{facility_of, severity_of, composed};
 ghost use Rattle.syslog_pieces.specs.StructuredData.{IsValue};
 ghost use Rattle.jiff.specs.Types.{DateTime, Fold, Offset, TimeZone};
@@ -37,6 +38,12 @@ use crate::as_str::AsStr;
 pub fn priority_is_composed()
     ensures { (pri : ℕ) → pri < 192 → (facility : SyslogFacility) × (severity : SyslogSeverity)
         × (facility_of pri ≡ Some facility) × (severity_of pri ≡ Some severity) × (composed facility severity ≡ pri) }
+{}
+
+/// The process id that is computed of a text is the one that it names.
+#[tactic(auto, using(crate::proofs::ProcIdLemmas::Named::named_names))]
+pub fn text_names_computed_process()
+    ensures { (text : Text) → NamesProcess text (named_process text) }
 {}
 
 /// A text has at most one stamp.

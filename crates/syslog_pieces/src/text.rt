@@ -265,10 +265,11 @@ pub fn some_blanks(text: &str) -> Option<&str>
 }
 
 // The text behind a space before no blank, which most gaps are: it needs no scan.
-#[tactic(auto, using(crate::proofs::TextLemmas::Looks::gap_cut, crate::proofs::TextLemmas::Looks::gap_some))]
+#[tactic(auto, using(crate::proofs::TextLemmas::Looks::gap))]
 #[inline(always)]
-fn past_space(text: &str) -> Option<&str>
-    ensures { IfSome result (λ rest. Front (some_run spec.is_blank) (chars text.now) (shown rest) tt) }
+pub(crate) fn past_space(text: &str) -> Option<&str>
+    ensures { IfSome result (λ rest. Front (some_run spec.is_blank) (chars text.now) (shown rest) tt
+        × (chars text.now ≡ 32 ∷ shown rest)) }
 {
     if begins_with_gap(text.as_bytes()) {
         let (_, rest) = text.split_at(1);

@@ -5,13 +5,13 @@ use Rattle.std.proofs.lemmas.Option.{IfSome_then}
 use Rattle.std.specs.Char.{is_not_whitespace}
 use Rattle.std.specs.Fmt.{decimal}
 use Rattle.std.specs.List.{AllByRecursion}
-use Rattle.std.specs.Option.{option_and_then, unwrap_or}
+use Rattle.std.specs.Option.{option_and_then, option_map, unwrap_or}
 use Rattle.std.specs.Str.{skip_leading_whitespace}
 use Rattle.syslog_pieces.specs.Pieces.Class.{Text, Front, NoFront, Each, Ends, run, exactly, optional, spaced}
 use Rattle.syslog_pieces.specs.Bodies.Verbatim.{IsBareWord}
 use Rattle.syslog_pieces.specs.Pieces.Lists.{IsMany}
 use Rattle.syslog_pieces.specs.Pri.{priority, facility_of, severity_of}
-use Rattle.syslog_pieces.specs.ProcId.{NamesProcess}
+use Rattle.syslog_pieces.specs.ProcId.{NamesProcess, named_process}
 use Rattle.syslog_pieces.specs.StructuredData.Element.{ElementValue}
 use Rattle.syslog_pieces.specs.StructuredData.Rfc3164List.{full_element, rfc3164_list, elements_or}
 use Rattle.syslog_pieces.specs.Text.{trimmed, is_blank, is_tag_char, colon, dash, IsHost, host, name_text, tag_word}
@@ -29,7 +29,7 @@ use Rattle.syslog_pieces.proofs.PieceLemmas.Class.{both_values, division_front, 
 use Rattle.syslog_pieces.proofs.PieceLemmas.Class.{rest_whole, rows_join, spaced_parts}
 use Rattle.syslog_pieces.proofs.PieceLemmas.Steps.{piece_front, present_front}
 use Rattle.syslog_pieces.proofs.PriLemmas.{severity_there}
-use Rattle.syslog_pieces.proofs.ProcIdLemmas.{names_itself}
+use Rattle.syslog_pieces.proofs.ProcIdLemmas.{bare_prints}
 use Rattle.syslog_pieces.proofs.StructuredDataLemmas.Rfc3164List.{begins_no_list}
 use Rattle.syslog_pieces.proofs.TextLemmas.Verbatim as verbatim
 use Rattle.syslog_pieces.proofs.StructuredDataLemmas.ReadBack.{element_canonical}
@@ -44,11 +44,13 @@ use Rattle.syslog_loose.specs.Reading.{dash_rule}
 use Rattle.syslog_loose.specs.Rfc3164.{Names3164, Resolves, names, stamped_row, fields_row, body_row, rfc3164_row}
 use Rattle.syslog_loose.specs.Rfc3164.{IsRead3164}
 use Rattle.syslog_loose.specs.TagForm.{form_row, IsForm, IsNoForm}
-use Rattle.syslog_loose.specs.View3164.{stamped_values, IsPlainProgram, PrintsBehind}
+use Rattle.syslog_loose.specs.Rfc3164.{NamesProgram}
+use Rattle.syslog_loose.specs.View3164.{HasQuietNames, fields_before}
 use Rattle.syslog_loose.proofs.Rfc3164Lemmas.{of_names}
 use Rattle.syslog_loose.proofs.Rfc3164Lemmas.Reading.{is_read}
 use Rattle.syslog_loose.proofs.Rfc3164Lemmas.Shown.{shows}
 use Rattle.syslog_loose.proofs.Rfc3164Lemmas.Unique.{told}
+use Rattle.syslog_loose.proofs.TagFormLemmas.{one_form}
 use Rattle.syslog_loose.proofs.TrimLemmas.{drop_ends, last_ends}
 use Rattle.syslog_pieces.proofs.PieceLemmas.Each.{each_behind, each_both, each_left, each_front, each_right}
 use Rattle.syslog_pieces.proofs.PieceLemmas.Lists.{begins}
@@ -254,60 +256,60 @@ module _ (rule : DashRule) (dating : Dating) (text : Text) where
       let there = severity_beside r.values.0 (rw means at f) in
       record { facility = f; severity = rw means there; rest = read_near m r }
 
--- ---- what prints as it stands
-pub formed_plain : (name tag id : Text) → IsForm name tag id → IsBareWord id → IsPlainProgram name
-formed_plain name tag id f bare =
+-- ---- what is already in printed form
+
+-- a name of the form of a tag and a bare id, before `: `
+formed_prints : (name tag id : Text) (process : ProcId Text) → IsForm name tag id → IsBareWord id
+    → NamesProcess id process → (q : Text) → name ++ (58 ∷ 32 ∷ q) ≡ tag_text (Some tag) (Some process) ++ q
+formed_prints name tag id process f bare named q =
     let parts = form_parts name tag id f in
-    let (p, named, e) = names_itself id parts.some bare in
-    record {
-      appname = tag;
-      procid = Some p;
-      means = λ host. inl (tag, id, p, f, named, refl);
-      prints = λ q. ap (λ (x : Text). x ++ (58 ∷ 32 ∷ q)) parts.whole ∙ simp (e, append_assoc) refl;
-    }
+    let e = bare_prints id process parts.some bare named in
+    ap (λ (x : Text). x ++ (58 ∷ 32 ∷ q)) parts.whole ∙ simp (e, append_assoc) refl
 
-pub alone_plain : (name : Text) → IsNoForm name → IsPlainProgram name
-alone_plain name none = record {
-  appname = name;
-  procid = None;
-  means = λ host. inr (none, refl);
-  prints = λ q. sym (append_assoc name (58 ∷ 32 ∷ []) q);
-}
+module _ {tail t u name : Text} {origin : Option Text} (f : Front (optional (spaced host)) tail t (Some origin))
+    (g : Front (optional (spaced tag_word)) t u (Some (Some name))) where
+  -- a host field and a program before `: `
+  fields_printed : (msg : Text) (app : Option Text) (process : Option (ProcId Text)) → u ≡ 58 ∷ 32 ∷ msg
+      → name ++ (58 ∷ 32 ∷ msg) ≡ tag_text app process ++ msg → tail ≡ fields_before (names origin app process) msg
+  fields_printed msg app process e prints =
+      let (x, before, h) = spaced_parts host (present_front (spaced host) f) in
+      let (y, between, i) = spaced_parts tag_word (present_front (spaced tag_word) g) in
+      cc (before, h.whole, verbatim.host_text h.piece _ origin h.is, between, i.whole, i.is.3.0, e, prints)
 
-pub prints_behind : {tail t u v w msg name : Text} {origin : Option Text} {more : Option (Unit {0})}
-    → Front (optional (spaced host)) tail t (Some origin) → Front (optional (spaced tag_word)) t u (Some (Some name))
-    → Front (run is_blank) u v tt → Front (optional (exactly colon)) v w more → Front (run is_blank) w msg tt
-    → IsPlainProgram name → u ≡ 58 ∷ 32 ∷ msg → NoFront (rfc3164_list dash_rule) msg → PrintsBehind tail
-unfolding printed_3164
-prints_behind {tail = tail} {t = t} {u = u} {msg = msg} {name = name} {origin = origin} {more = more} f g a b c k e
-    no_list = λ dating text stamped front canonical.
-    let n = names origin (Some k.appname) k.procid in
-    let (x, before, h) = spaced_parts host (present_front (spaced host) f) in
-    let (y, between, i) = spaced_parts tag_word (present_front (spaced tag_word) g) in
-    let whole : tail ≡ 32 ∷ (name_text origin ++ (32 ∷ (tag_text (Some k.appname) k.procid ++ msg))) =
-    cc (before, h.whole, verbatim.host_text h.piece t origin h.is, between, i.whole, i.is.3.0, e, k.prints msg) in
-    let near = near_names t (Some origin) (Some (Some name)) n (k.means origin) (host_field tail t (Some origin) f)
-    (tag_field t u (Some (Some name)) g) in
-    let values = both_values (stamped_row dating) (body_row dash_rule) (stamped_values stamped)
-    (Some origin, (Some (Some name), (tt, (more, (tt, (None, (tt, (msg, tt)))))))) in
-    let number = decimal (printed_number stamped.priority) in
-    let m = told dash_rule dating values n in (
+  -- what they mean is quiet
+  fields_quiet : (app : Text) (process : Option (ProcId Text))
+      → Resolves (Some origin) (Some (Some name)) (names origin (Some app) process)
+      → HasQuietNames (names origin (Some app) process)
+  fields_quiet app process r =
+      let near = near_names t (Some origin) (Some (Some name)) (names origin (Some app) process) r
+      (host_field tail t (Some origin) f) (tag_field t u (Some (Some name)) g) in
       record {
-        message = m;
-        read = is_read dash_rule dating text (trimmed text) values m refl (n, k.means origin, refl)
-            (rows_join (stamped_row dating) (body_row dash_rule) front
-            (row_of (body_row dash_rule) (f then g then a then b then c
-            then optional_none (rfc3164_list dash_rule) no_list
-            then piece_front (run is_blank) [] msg tt (tt, c.is.1) then rest_front msg then refl)));
-        is_printed = append_assoc (60 ∷ number) (62 ∷ []) _
-            ∙ ap (λ (x : Text).
-            60 ∷ (number ++ (62 ∷ 32 ∷ (timestamp_text (stamp_seen stamped.timestamp) ++ x)))) whole;
-      },
-      record {
-        canonical_timestamp = canonical;
-        host_is_no_dash = IfSome_then origin near.odd_host (λ x odd is. (let none = odd (inl is) in cc));
-        host_ends_in_no_colon = IfSome_then origin near.odd_host (λ x odd is. (let none = odd (inr is) in cc));
-        process_has_no_colon = elim near.colon [ inl none ↦ none | inr (z, is, none) ↦ absurd (cc) ];
-        message_is_no_list = λ none. begins_no_list dash_rule msg no_list;
-      },
-    )
+        no_dash = IfSome_then origin near.odd_host (λ x odd is. (let none = odd (inl is) in cc));
+        no_last_colon = IfSome_then origin near.odd_host (λ x odd is. (let none = odd (inr is) in cc));
+        no_colon = elim near.colon [ inl none ↦ none | inr (z, is, none) ↦ absurd (cc) ];
+      }
+
+  abbrev FieldsKnown : Text → Names3164 → Type 0
+  FieldsKnown msg n = (tail ≡ fields_before n msg) × HasQuietNames n
+
+  -- so where the text of a process is bare, all of them are in printed form and quiet
+  pub fields_known : (msg : Text) (h a process : Option Text) → u ≡ 58 ∷ 32 ∷ msg
+      → NamesProgram origin name (names h a (option_map named_process process))
+      → IfSome process (λ id. (tag : Text) × IsForm name tag id) → IfSome process IsBareWord
+      → FieldsKnown msg (names h a (option_map named_process process))
+  fields_known msg h a None e (inl (tag, id, p, form, named, same)) of bare =
+      absurd (let none = ap (λ (x : Names3164). x.procid) same in cc)
+  fields_known msg h a None e (inr (none, same)) of bare =
+      subst (FieldsKnown msg) (sym same) (
+        fields_printed msg (Some name) None e (sym (append_assoc name (58 ∷ 32 ∷ []) msg)),
+        fields_quiet name None (inr (none, refl)),
+      )
+  fields_known msg h a (Some word) e (inl (tag, id, p, form, named, same)) (tag', form') bare =
+      let one = one_form name tag id tag' word form form' in
+      let bare' : IsBareWord id = subst IsBareWord (sym one.1) bare in
+      subst (FieldsKnown msg) (sym same) (
+        fields_printed msg (Some tag) (Some p) e (formed_prints name tag id p form bare' named msg),
+        fields_quiet tag (Some p) (inl (tag, id, p, form, named, refl)),
+      )
+  fields_known msg h a (Some word) e (inr (none, same)) of bare =
+      absurd (let none = ap (λ (x : Names3164). x.procid) same in cc)

@@ -109,7 +109,12 @@ shows_none_as (protocol.RFC5424 version) m e l date shown =
 pub printed_shows_none : (m : MessageValue) → IsBounded m → (date : MonthDate) → ShowsMonthDate (printed m) date → ⊥
 printed_shows_none m b = shows_none_as m.protocol m refl b.protocol
 
--- so it asks for no year
+-- so neither does that of a message that was read
+pub read_shows_none : (variant : Variant) (dating : Dating) (text : Text) (m : MessageValue)
+    → IsRead variant dating text m → (date : MonthDate) → ShowsMonthDate (printed m) date → ⊥
+read_shows_none variant dating text m r = shows_none_as m.protocol m refl (read_bounded variant dating text m r)
+
+-- and it asks for no year
 asks_shown : (variant : Variant) (text : Text) (date : MonthDate) → AsksYear variant text date
     → ShowsMonthDate text date
 asks_shown RFC5424 text date asks = absurd asks
@@ -119,5 +124,4 @@ asks_shown Either text date asks = shows_month_date text date asks
 pub printed_quiet : (variant : Variant) (dating : Dating) (text : Text) (m : MessageValue)
     → IsRead variant dating text m → (date : MonthDate) → AsksYear variant (printed m) date → ⊥
 printed_quiet variant dating text m r date asks =
-    shows_none_as m.protocol m refl (read_bounded variant dating text m r) date
-    (asks_shown variant (printed m) date asks)
+    read_shows_none variant dating text m r date (asks_shown variant (printed m) date asks)

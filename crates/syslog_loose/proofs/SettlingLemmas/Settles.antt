@@ -8,10 +8,9 @@ use Rattle.syslog_loose.specs.declared.fault.ParseFault.{ParseFault}
 use Rattle.syslog_loose.specs.declared.fault.ParseFault.TheVariants.{Invalid, Memory}
 use Rattle.std.proofs.lemmas.Str.{length-le-encodes}
 use Rattle.std.specs.Prelude.{◌↔◌, IsTrue, IsOk}
-use Rattle.syslog_loose.specs.Line.{PrintsAs5424}
 use Rattle.syslog_loose.specs.ReadBack.{IsFixed}
 use Rattle.syslog_loose.specs.Rfc5424.{IsRead5424}
-use Rattle.syslog_loose.specs.Settling.{SettlesAs, IsSettlingFault, IsAtRest, IsToldRound, IsRoundAsTold}
+use Rattle.syslog_loose.specs.Settling.{SettlesAs, IsSettlingFault, IsAtRest, IsToldRound}
 use Rattle.syslog_loose.specs.declared.message.Protocol.{Protocol}
 use Rattle.syslog_loose.specs.declared.message.Protocol.TheVariants as protocol
 use Rattle.syslog_loose.proofs.BoundLemmas.{read_as, read_bounded}
@@ -46,11 +45,10 @@ module _ (variant : Variant) (dating : Dating) (text : Text) (m : MessageValue) 
     | inr s ↦ s
   ]
 
--- a message that RFC 3164 reads is of that protocol, so it is at rest where it has no exception
-pub rests_so : (dating : Dating) (text : Text) (m : MessageValue) {b : Bool} → IsRead3164 dash_rule dating text m
-    → IsTrue b ↔ HasNoException dash_rule m → IsTrue b ↔ IsAtRest m.protocol m
-rests_so dating text m {b = b} r h =
-    subst (λ (p : Protocol). IsTrue b ↔ IsAtRest p m) (sym (read_near dash_rule dating text m r).protocol) h
+-- a message without exceptions is at rest
+pub rests_so : (p : Protocol) (m : MessageValue) → HasNoException dash_rule m → IsAtRest p m
+rests_so protocol.RFC3164 m h = h
+rests_so (protocol.RFC5424 version) m h = tt
 
 -- what RFC 3164 printed stays RFC 3164
 stays_rfc3164 : (variant : Variant) (dating : Dating) (m n : MessageValue) → m.protocol ≡ protocol.RFC3164
@@ -151,11 +149,6 @@ module _ (variant : Variant) (dating : Dating) where
       → IsSettlingFault variant dating t Invalid
   settles_not t never = (λ u round. rests t u (none_settled variant dating t never (length t + 1)) round, never)
 
-  -- where memory was refused, the text has a reading, so the fault is not `Invalid`
-  pub copy_refused : (t : Text) (r : Result Bool AllocError) (fault : AllocError) → r ≡ Err fault
-      → (IsUnreadable variant dating t → IsOk r) → (Memory ≡ Invalid) ↔ IsUnreadable variant dating t
-  copy_refused t r fault e h = (λ i. absurd (invalid_or_memory i), λ u. absurd (no_ok r fault e (h u)))
-
   -- where round 1 was refused
   pub first_fault : (t : Text) (fault : ParseFault) → (fault ≡ Invalid) ↔ IsUnreadable variant dating t
       → IsSettlingFault variant dating t fault
@@ -176,55 +169,20 @@ module _ (variant : Variant) (dating : Dating) where
       → SettlesAs variant dating t u
   settled_here t n u r s = settles_as t u (record { before = n; round = r.round; settled = s; none_before = r.none })
 
-  -- ---- what the next round's reader answers
+  -- ---- what is told of a round
   module _ (text : Text) (m : MessageValue) (r : IsRead variant dating text m) where
-    -- a message of RFC 3164 that has an exception, and a round of which is written
-    told_later : (later : Text) (p : Protocol) → m.protocol ≡ p → (IsAtRest p m → ⊥)
-        → (m.protocol ≡ protocol.RFC3164 → (n : ℕ) × Reaches variant dating text n later)
-        → IsToldRound variant dating text later false
-    told_later later (protocol.RFC5424 version) e odd reaches = absurd (odd tt)
-    told_later later protocol.RFC3164 e odd reaches =
-        let (n, s) = reaches e in (odd_unsettled text m r e odd, n, s)
+    -- where the message is at rest, its print is the next round, which is settled
+    pub told_settled : (bytes : List ℕ) → IsUtf8 bytes → bytes ≡ encode_utf8_all (printed m) → IsAtRest m.protocol m
+        → IsToldRound variant dating text (chars bytes) true
+    told_settled bytes u w rest =
+        let next : IsNext variant dating text (chars bytes) =
+        record { message = m; read = r; is_printed = sym (chars_from_encodes (printed m) bytes u (sym w)) } in
+        (next, rw next.is_printed (rest_settled text m r m.protocol refl rest))
 
-    module _ (bytes : List ℕ) (u : IsUtf8 bytes) (w : bytes ≡ encode_utf8_all (printed m)) where
-      abbrev is_next : IsNext variant dating text (chars bytes)
-      is_next = record { message = m; read = r; is_printed = sym (chars_from_encodes (printed m) bytes u (sym w)) }
-
-      -- its print is the next round, which is settled
-      pub told_settled : (skips : Bool) → IsSettled variant dating (printed m)
-          → IsRoundAsTold skips variant dating text (chars bytes) true
-      told_settled skips s = record {
-        told = (is_next, rw is_next.is_printed s);
-        next = λ e. is_next;
-      }
-
-      -- or whether it is at rest is told
-      pub round_printed : (skips settled : Bool) → (IsTrue settled ↔ IsAtRest m.protocol m)
-          → IsRoundAsTold skips variant dating text (chars bytes) settled
-      round_printed skips true rest = told_settled skips (rest_settled text m r m.protocol refl (rest.0 refl))
-      round_printed skips false rest = record {
-        told = told_later (chars bytes) m.protocol refl (λ at. let t : false ≡ true = rest.1 at in cc)
-            (λ e. (0, reached_first variant dating text (chars bytes) is_next));
-        next = λ e. is_next;
-      }
-
-    -- where rounds are skipped, a later one may stand in its place
-    pub round_skipped : (skips settled : Bool) → skips ≡ true → settled ≡ false
-        → (IsTrue settled ↔ IsAtRest m.protocol m) → (later : Text)
-        → (m.protocol ≡ protocol.RFC3164 → (n : ℕ) × Reaches variant dating text n later)
-        → IsRoundAsTold skips variant dating text later false
-    round_skipped skips settled e f rest later reaches = record {
-      told = told_later later m.protocol refl (λ at. let t : settled ≡ true = rest.1 at in cc) reaches;
-      next = λ g. cc;
-    }
-
-  -- a line that is copied is settled
-  pub round_copied : (skips : Bool) (text : Text) (bytes : List ℕ) → IsUtf8 bytes → PrintsAs5424 variant text bytes
-      → IsRoundAsTold skips variant dating text (chars bytes) true
-  round_copied skips text bytes u k =
-      let r = (k.only dating).read in
-      told_settled text k.message r bytes u k.prints skips (rest_settled text k.message r _
-      (ap (λ (x : MessageValue). x.protocol) k.strict.means) tt)
+    -- and where it has an exception, a later one may stand in its place
+    pub told_later : (later : Text) → m.protocol ≡ protocol.RFC3164 → (HasNoException dash_rule m → ⊥)
+        → (n : ℕ) × Reaches variant dating text n later → IsToldRound variant dating text later false
+    told_later later e odd (n, reaches) = (odd_unsettled text m r e odd, n, reaches)
 
   -- ---- what the loop does
   -- the round behind one that is not settled

@@ -78,10 +78,10 @@ read_some C shrinks t s s' vs v h f n = no_many_no C shrinks (length s') s' (ome
 
 -- ---- pieces between separators
 module _ (C : Class) (separator close : ℕ) where
-  abbrev list : Class
+  abbrev pub list : Class
   list = list_before C separator close
 
-  abbrev more : Class
+  abbrev pub more : Class
   more = more_before C separator close
 
   pub list_cons : {t t' q : Text} {v : C.Value} {vs : List C.Value} → Front C t t' v → Front more t' q vs
@@ -108,10 +108,10 @@ module _ (C : Class) (separator close : ℕ) where
   more_here t r e = record { piece = []; whole = refl; is = (refl, (r, e)) }
 
   -- the first piece of a list that is not closed at once, and the further ones
-  abbrev Parts : Text → Text → Type 0
+  abbrev pub Parts : Text → Text → Type 0
   Parts t q = (v : C.Value) × (vs : List C.Value) × (u : Text) × Front C t u v × Front more u q vs
 
-  list_parts : (t p q : Text) (vs : List C.Value) → NoFront (exactly (close ∷ [])) t → t ≡ p ++ q → list.Is p q vs
+  pub list_parts : (t p q : Text) (vs : List C.Value) → NoFront (exactly (close ∷ [])) t → t ≡ p ++ q → list.Is p q vs
       → Parts t q
   list_parts t p q [] n e h = absurd (n (close ∷ []) h.1.0 tt (e ∙ ap (λ (x : Text). x ++ q) h.0 ∙ h.1.1) refl)
   list_parts t p q (v ∷ vs) n e ((a, b, i, k, others), z) = (

@@ -175,10 +175,10 @@ dead_unquoted t n a b e l p q v w h =
     no_front_no quoted (subst (λ (y : Text). NoFront quoted y) e n) f
 
 -- ---- pieces without a bracket
-abbrev IsShut : Class → Type 0
+abbrev pub IsShut : Class → Type 0
 IsShut C = (p q : Text) (v : C.Value) → C.Is p q v → Each is_open_char p
 
-abbrev AllShut : List Class → Type 0
+abbrev pub AllShut : List Class → Type 0
 AllShut [] = Unit {0}
 AllShut (C ∷ Cs) = IsShut C × AllShut Cs
 
@@ -191,7 +191,7 @@ name_open c e = (and_parts (is_open_char c) _ e).0
 one_shut : (c : ℕ) → is_open_char c ≡ true → IsShut (exactly (c ∷ []))
 one_shut c h p q v e = subst (λ (x : Text). Each is_open_char x) (sym e) (h, tt)
 
-start_shut : AllShut start_row
+pub start_shut : AllShut start_row
 start_shut =
     one_shut 91 refl
     also (λ p q v i. each_map is_name_char is_open_char name_open p (each_right is_not_whitespace is_name_char p i.1.1))
@@ -237,7 +237,7 @@ module _ (C : Class) where
   passes_shut D s t x y v p f =
       passes_on t x f.piece y p f.whole (λ a b e n. absurd (no_bracket f.piece a b (s f.piece y v f.is) e))
 
-  passes_row : (Ds : List Class) → AllShut Ds → {t x y : Text} {vs : Values Ds} → Passes C t x → Front (Row Ds) x y vs
+  pub passes_row : (Ds : List Class) → AllShut Ds → {t x y : Text} {vs : Values Ds} → Passes C t x → Front (Row Ds) x y vs
       → Passes C t y
   passes_row [] s {t = t} p f = subst (λ (z : Text). Passes C t z) (nil_front f) p
   passes_row (D ∷ Ds) s {t = t} {x = x} {vs = vs} p f =

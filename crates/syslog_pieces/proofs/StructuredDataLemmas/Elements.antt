@@ -164,7 +164,7 @@ bracketed_item t q n f =
     record { piece = f.piece; whole = f.whole; is = (subst (λ (x : Text). NoFront element x) f.whole n, f.is) }
 
 -- ---- the strict elements among items
-strict_append : (vs ws : List (Option ElementValue)) → strict (vs ++ ws) ≡ strict vs ++ strict ws
+pub strict_append : (vs ws : List (Option ElementValue)) → strict (vs ++ ws) ≡ strict vs ++ strict ws
 strict_append [] ws = refl
 strict_append (None ∷ vs) ws = strict_append vs ws
 strict_append (Some e ∷ vs) ws = ap (λ (x : List ElementValue). e ∷ x) (strict_append vs ws)

@@ -167,12 +167,12 @@ forgiving_canonical p q es (inl (d, e)) = rw e tt
 forgiving_canonical p q es (inr (vs, l, m, e)) = rw e (items_canonical p q vs m)
 
 -- a value and its quote
-quoted_text : {t u v : Text} → Front quoted t u (v, (tt, tt)) → t ≡ v ++ (34 ∷ u)
+pub quoted_text : {t u v : Text} → Front quoted t u (v, (tt, tt)) → t ≡ v ++ (34 ∷ u)
 quoted_text f =
     let (r, g, (s, quote, end)) = row_pieces quoted_row f in cc (g.whole, g.is.2, begins 34 r s quote, end)
 
 -- no blank stands before another character
-no_blanks : {t q : Text} (c : ℕ) → is_blank c ≡ false → t ≡ c ∷ q → Front (run is_blank) t t tt
+pub no_blanks : {t q : Text} (c : ℕ) → is_blank c ≡ false → t ≡ c ∷ q → Front (run is_blank) t t tt
 no_blanks c h e = record { piece = []; whole = refl; is = (tt, subst (λ (x : Text). Ends is_blank x) (sym e) h) }
 
 -- a parameter with no blank behind its equals sign
@@ -196,7 +196,7 @@ abbrev pub VerbatimSoFar : Text → Text → Type 0
 VerbatimSoFar t s = (q : Text) (ps : List (Text × Text)) → Front (more_before param 32 93) s (93 ∷ q) ps
     → s ≡ flat_map param_text ps ++ (93 ∷ q) → Verbatim element element_text t q
 
-start_text : {t r i id : Text} → Front (exactly (91 ∷ [])) t r tt → Front (texted (some_run is_id_char)) r i id
+pub start_text : {t r i id : Text} → Front (exactly (91 ∷ [])) t r tt → Front (texted (some_run is_id_char)) r i id
     → t ≡ 91 ∷ (id ++ i)
 start_text {t = t} {r = r} f g = cc (begins 91 t r f, g.whole, g.is.2)
 

@@ -4,10 +4,10 @@ use Rattle.syslog_pieces.proofs.Names.{false, List, [], ◌∷◌, ◌++◌, ap,
 use Rattle.syslog_pieces.proofs.Names.{decimal_digit, encodes-IsAscii, IsAscii-nil, IsAscii-cons, digits_onto}
 use Rattle.syslog_pieces.proofs.Names.{digit_glyph, decimal, signed_decimal, is_ascii_digit, digit_value, IsAscii}
 use Rattle.syslog_pieces.proofs.Names.{encode_utf8_all, is_blank}
-use Rattle.std.proofs.Common.{◌/◌, ◌*◌, get_or, nat_eq, refl}
+use Rattle.std.proofs.Common.{◌/◌, ◌*◌, get_or, nat_eq, refl, length, length-append}
 use Rattle.syslog_pieces.specs.declared.text.write_ascii.TheConstants.{PAIRS}
 use Rattle.std.proofs.lemmas.Bool.{agree_below_at, eqb-true}
-use Rattle.std.proofs.lemmas.Fmt.{decimal_step}
+use Rattle.std.proofs.lemmas.Fmt.{decimal_step, length-decimal-le}
 use Rattle.std.proofs.lemmas.Str.{digit_value_digit}
 use Rattle.std.specs.Fmt.{digits}
 use Rattle.jiff_fmt.specs.Text.{pad2, pad4}
@@ -79,3 +79,18 @@ pairs_at n l = (
 
 -- the decimal text of a number below 100,000
 pub ruleset few_digits = (one_digit, two_digits, three_digits, four_digits, five_digits)
+
+-- the decimal text of a number, from that of a tenth of it
+pub last_of_more : (n : ℕ) → 10 ≤ n → n < 2 ^ 64 → decimal n ≡ decimal (n / 10) ++ ((48 + n % 10) ∷ [])
+last_of_more n l h = decimal_step n l h
+
+pub ruleset decimal_steps = (one_digit, last_of_more)
+
+-- a number of 32 bits has at most ten digits
+pub ten_long : (n : ℕ) → n < 2 ^ 32 → length (decimal n) ≤ 10
+ten_long n h = length-decimal-le 10 n (omega arith) (omega arith) (omega arith)
+
+pub ruleset ten_digits = (one_digit, ten_long)
+
+pub one_longer : (n : ℕ) → 10 ≤ n → n < 2 ^ 64 → length (decimal n) ≡ length (decimal (n / 10)) + 1
+one_longer n l h = rw (last_of_more n l h) (length-append (decimal (n / 10)) ((48 + n % 10) ∷ []))

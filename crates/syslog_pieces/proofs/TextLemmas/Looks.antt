@@ -66,11 +66,14 @@ no_blanks bs u g = record {
 pub gap_cut : (bs : List ℕ) → IsUtf8 bs → BeginsWithGap bs → IsCharBoundary bs 1
 gap_cut bs u g = IsCharBoundary-after_ascii bs 0 u (omega (arith, g.0)) (omega (arith, g.1))
 
+pub gap_space : (bs : List ℕ) → BeginsWithGap bs → (ys : List ℕ) → ys ≡ drop 1 bs → chars bs ≡ 32 ∷ chars ys
+gap_space bs g ys f = rw g.1 at (behind_first bs ys (omega (arith, g.0)) (omega (arith, g.1)) f)
+
 pub gap_some : (bs : List ℕ) → IsUtf8 bs → BeginsWithGap bs → (ys : List ℕ) → ys ≡ drop 1 bs
     → Front (some_run is_blank) (chars bs) (chars ys) tt
 gap_some bs u g ys f = record {
   piece = 32 ∷ [];
-  whole = rw g.1 at (behind_first bs ys (omega (arith, g.0)) (omega (arith, g.1)) f);
+  whole = gap_space bs g ys f;
   is = (
     omega arith,
     (refl, tt),
@@ -78,6 +81,9 @@ gap_some bs u g ys f = record {
         (λ l c byte char. no_blank c (get_or (drop 1 bs) 0 0) byte (omega (arith, first_left 1 bs, g.2)))),
   );
 }
+
+-- what the reader of such a gap rests on
+pub ruleset gap = (gap_cut, gap_space, gap_some)
 
 -- ---- no digit
 past_digits : (c : ℕ) → 128 ≤ c → is_ascii_digit c ≡ false

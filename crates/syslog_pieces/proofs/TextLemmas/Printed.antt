@@ -1,7 +1,8 @@
 -- Printed texts, and the bytes that are written of them.
 use Rattle.syslog_pieces.proofs.Names.{◌≡◌, ℕ, ◌+◌, ◌<◌, List, [], ◌∷◌, ◌++◌, length, get_or, take, sym, ap, ◌∙◌}
-use Rattle.syslog_pieces.proofs.Names.{append_assoc, append-nil, take_more, flat_map-append, encodes-append}
+use Rattle.syslog_pieces.proofs.Names.{append_assoc, append-nil, take_more, flat_map-append, encodes-append, map}
 use Rattle.syslog_pieces.proofs.Names.{encodes-chars, flat_map, chars, encode_utf8_all, IsUtf8, Text, param_text}
+use Rattle.syslog_pieces.proofs.Names.{map-append}
 use Rattle.std.specs.Char.{encode_utf8}
 pub use Rattle.std.proofs.lemmas.List.Folds.{flat_map-map}
 
@@ -38,3 +39,16 @@ pub encodes_closed : (text : Text) (all : Text) → all ≡ text ++ (93 ∷ [])
     → encode_utf8_all text ++ (93 ∷ []) ≡ encode_utf8_all all
 unfolding encode_utf8
 encodes_closed text all e = sym (encodes-append text (93 ∷ [])) ∙ ap encode_utf8_all (sym e)
+
+-- one more of the items that an iterator gives
+pub encodes_more : {X Y : Type 0} (f : Y → Text) (view : X → Y) (head : Text) (xs : List X) (x : X) (bytes : List ℕ)
+    → encode_utf8_all (f (view x)) ≡ bytes → encode_utf8_all (head ++ flat_map f (map view xs)) ++ bytes
+    ≡ encode_utf8_all (head ++ flat_map f (map view (xs ++ (x ∷ []))))
+encodes_more f view head xs x bytes e =
+    let before = flat_map f (map view xs) in
+    let more : flat_map f (map view (xs ++ (x ∷ []))) ≡ before ++ f (view x) =
+    ap (flat_map f) (map-append view xs (x ∷ [])) ∙ flat_map-append f (map view xs) (view x ∷ [])
+    ∙ ap (λ (z : Text). before ++ z) (append-nil (f (view x))) in
+    ap (λ (b : List ℕ). encode_utf8_all (head ++ before) ++ b) (sym e)
+    ∙ sym (encodes-append (head ++ before) (f (view x)))
+    ∙ ap encode_utf8_all (append_assoc head before (f (view x)) ∙ ap (λ (z : Text). head ++ z) (sym more))

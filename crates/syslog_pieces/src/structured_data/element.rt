@@ -27,7 +27,7 @@ pub(super) fn quoted(text: &str) -> Option<(&str, &str)>
 // The name and the value of the parameter at the front, and the text behind it.
 #[tactic(auto, using(crate::proofs::StructuredDataLemmas::Closing::param_read))]
 #[inline(always)]
-fn param(text: &str) -> Option<((&str, &str), &str)>
+pub(super) fn param(text: &str) -> Option<((&str, &str), &str)>
     ensures { Reads param_class (param_value (λ s. shown s)) (chars text.now) result }
 {
     let (name, rest) = opening(text)?;

@@ -124,7 +124,7 @@ pub(super) fn after_value(text: &str) -> Option<&str>
 
 // The same. A refusal says that no element closes from here, and gives such a number for the text.
 #[inline(always)]
-fn live_value(text: &str, dead: usize) -> Result<&str, usize>
+pub(super) fn live_value(text: &str, dead: usize) -> Result<&str, usize>
     requires { IsDead (chars text.now) dead }
     ensures { MatchResult result
         (λ behind. (v : quoted_class.Value) × Front quoted_class (chars text.now) (shown behind) v)

@@ -44,7 +44,7 @@ impl DashRule {
 
 // The text behind the dash at the front, where that is a list.
 #[inline(always)]
-fn after_dash(text: &str, rule: DashRule) -> Option<&str>
+pub(super) fn after_dash(text: &str, rule: DashRule) -> Option<&str>
     ensures { MatchOption result ((q : Text) → chars text.now ≡ 45 ∷ q → IsDashBefore rule q → ⊥)
         (λ rest. (chars text.now ≡ 45 ∷ shown rest) × IsDashBefore rule (shown rest)) }
 {

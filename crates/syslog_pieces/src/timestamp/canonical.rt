@@ -1,9 +1,10 @@
 //! Whether a timestamp is read back from its printed text.
-ghost use Rattle.std.specs.Prelude.{◌≡◌, ◌↔◌, ◌≤ℤ◌, pos, IsTrue};
+ghost use Rattle.std.specs.Prelude.{◌≡◌, ◌↔◌, ◌≤ℤ◌, pos, IfSome, IsTrue};
+ghost use Rattle.syslog_pieces.specs.Timestamp.{clock_value, stamp_seen};
 ghost use Rattle.syslog_pieces.specs.Timestamp.Canonical as spec;
 ghost use Rattle.syslog_pieces.specs.Timestamp.Canonical.{IsCanonicalStamp};
 
-use super::OffsetTimestamp;
+use super::{ClockStamp, OffsetTimestamp};
 
 /// Whether the timestamp is read back from its printed text: a clock at its own offset shows a year from 0 to 9999, and
 /// the offset is whole minutes and under 24 hours either way. It takes no memory.
@@ -36,4 +37,35 @@ fn own_year(stamp: OffsetTimestamp) -> i16
     ensures to { result ≤ℤ pos 9999 }
 {
     stamp.offset.to_datetime(stamp.instant).year()
+}
+
+/// The same of what a clock showed, where it showed anything.
+#[inline(always)]
+pub fn is_canonical_clock(clock: Option<ClockStamp>) -> bool
+    ensures { IsTrue result ↔ IfSome (stamp_seen clock) IsCanonicalStamp }
+{
+    match clock {
+        Some(clock) => shows_canonical(clock),
+        None => true,
+    }
+}
+
+#[inline(always)]
+fn shows_canonical(clock: ClockStamp) -> bool
+    ensures { IsTrue result ↔ IsCanonicalStamp (clock_value clock) }
+{
+    let seconds = clock.offset.seconds().unsigned_abs();
+    if !shows_late(clock) || seconds % 60 != 0 {
+        return false;
+    }
+    seconds < 86_400
+}
+
+// Whether the year that it shows, which is its own, is 0 or a later one.
+#[inline(always)]
+fn shows_late(clock: ClockStamp) -> bool
+    ensures from { IsTrue result ↔ pos 0 ≤ℤ spec.own_year (clock_value clock) }
+    ensures to { spec.own_year (clock_value clock) ≤ℤ pos 9999 }
+{
+    clock.fields.year >= 0
 }

@@ -62,7 +62,7 @@ fn write_date_time<W: fmt::Write>(f: &mut fmt::Formatter<W>, fields: CivilFields
 
 // The date and the time of day to the second, without the year's sign.
 #[inline(always)]
-fn date_time_bytes(fields: CivilFields) -> [u8; 19]
+pub(crate) fn date_time_bytes(fields: CivilFields) -> [u8; 19]
     requires { AreCivil fields }
     ensures ascii { AllByRecursion (λ b. b < 128) result }
     ensures text { result ≡ spec.unsigned_date_time (unsigned_abs fields.year) fields.month fields.day fields.hour

@@ -6,7 +6,7 @@ use Rattle.syslog_loose.proofs.DashChangeLemmas.{told_by_list}
 use Rattle.syslog_loose.proofs.dash_change.has_dash_change.Goals as goal
 
 pub returns : goal.returns
-returns c dating whole stamped f =
-    let fields = c.read_names.ensures in
-    told_by_list dating whole _ _ _ (names_value c.read_names.result.0) c.begins_dash_change.result refl
+returns c dating whole priority timestamp f =
+    let fields = c.read_fields-fields.ensures.read in
+    told_by_list dating whole _ _ _ (names_value c.read_fields-fields.result.names) c.begins_dash_change.result refl
     (rows_join (stamped_row dating) fields_row f fields.front) fields.means c.begins_dash_change.ensures

@@ -19,7 +19,7 @@ returns-in-Some-month_stamp g c =
     (date_answered c.args.variant whole f _ c.in-Some.ensures _ _ _ c.asked_numbers.ensures c.map-year.ensures.cases)
     (told_so c.args.variant dating whole c.has_dash_change.result c.in-Some.ensures.reads
     (c.has_dash_change.ensures dating whole
-    (record { priority = c.optional_priority.result.0; timestamp = Some c.in-Some-month_stamp.field-0 })
+    c.optional_priority.result.0 (Some c.in-Some-month_stamp.field-0)
     (dated_front c.args.variant whole f _ c.in-Some.ensures dating c.in-Some-month_stamp.field-0
     c.in-Some-month_stamp.ensures)))
 
@@ -41,7 +41,7 @@ returns-in-Some-front_stamp g c =
     told _ c.args.variant whole c.args.tz c.args.local c.has_dash_change-in-Some-front_stamp.result None
     (asks_none c.args.variant whole f c.in-None.ensures)
     (told_so c.args.variant dating whole c.has_dash_change-in-Some-front_stamp.result
-    c.in-Some-front_stamp.ensures.reads (c.has_dash_change-in-Some-front_stamp.ensures dating whole _
+    c.in-Some-front_stamp.ensures.reads (c.has_dash_change-in-Some-front_stamp.ensures dating whole _ _
     (other_front c.args.variant whole f c.in-None.ensures dating _ c.in-Some-front_stamp.ensures)))
 
 pub returns : goal.returns

@@ -1,40 +1,47 @@
-use Rattle.syslog_loose.proofs.Names.{Ok, err_from_is_err_and, chars, dating_of}
+use Rattle.syslog_loose.proofs.Names.{Ok, err_from_is_err_and, chars, dating_of, refl}
 use Rattle.syslog_loose.specs.Settling.{answer_in}
 use Rattle.syslog_loose.proofs.ReadingLemmas.{in_year_map}
 use Rattle.syslog_loose.proofs.SettlingLemmas.Settles.{first_answer, first_fault}
-use Rattle.syslog_loose.proofs.SettlingLemmas.Years.{answer_canonical, settles_answered}
+use Rattle.syslog_loose.proofs.SettlingLemmas.Told.{answer_canonical, told_reaches}
 use Rattle.syslog_loose.proofs.settling.settle_into.Goals as goal
 
-pub returns-in_err-round-clause-settles : goal.returns-in_err-round-clause-settles
-returns-in_err-round-clause-settles g c =
+pub returns-in_err-settled-clause-settles : goal.returns-in_err-settled-clause-settles
+returns-in_err-settled-clause-settles g c =
     let (_, e, same) = err_from_is_err_and c.from_residual.result c.from_residual.ensures.1 in
     rw (e, same) (in_year_map (λ year h. first_fault c.args.variant (dating_of year c.args.tz c.args.local) _ _ h)
-    (c.in_err-round.ensures _ c.trimmed-left.ensures))
+    c.in_err-settled.ensures)
 
-pub returns-in_err-round-clause-canonical : goal.returns-in_err-round-clause-canonical
-returns-in_err-round-clause-canonical g c =
-    answer_canonical c.args.variant c.args.tz c.args.local _ (chars c.args.input.now) _
-    (returns-in_err-round-clause-settles g c)
+pub returns-in_err-settled-clause-canonical : goal.returns-in_err-settled-clause-canonical
+returns-in_err-settled-clause-canonical g c =
+    in_year_map (λ year h. answer_canonical c.args.variant (dating_of year c.args.tz c.args.local)
+    (chars c.args.input.now) _ h) (returns-in_err-settled-clause-settles g c)
 
-pub returns-then-round-clause-settles : goal.returns-then-round-clause-settles
-returns-then-round-clause-settles g c =
-    let round = c.in_ok-round.round in
-    let told = c.in_ok-round.ensures _ c.trimmed-left.ensures in
-    settles_answered c.args.variant c.args.tz c.args.local _ _ (Ok c.next_round.new.text) round.year told.0
-    (first_answer c.args.variant (dating_of round.year c.args.tz c.args.local) _ _ round.settled c.if-round.true
-    told.1.told)
+pub returns-then-settled-clause-settles : goal.returns-then-settled-clause-settles
+returns-then-settled-clause-settles g c =
+    in_year_map (λ year h. first_answer c.args.variant (dating_of year c.args.tz c.args.local) _ _
+    c.in_ok-settled.settled c.if-settled.true h) c.in_ok-settled.ensures
 
-pub returns-then-round-clause-canonical : goal.returns-then-round-clause-canonical
-returns-then-round-clause-canonical g c =
-    answer_canonical c.args.variant c.args.tz c.args.local _ (chars c.args.input.now) (Ok c.next_round.new.text)
-    (returns-then-round-clause-settles g c)
+pub returns-then-settled-clause-canonical : goal.returns-then-settled-clause-canonical
+returns-then-settled-clause-canonical g c =
+    in_year_map (λ year h. answer_canonical c.args.variant (dating_of year c.args.tz c.args.local)
+    (chars c.args.input.now) (Ok c.next_round.new.text) h) (returns-then-settled-clause-settles g c)
+
+pub settle_on-requires : goal.settle_on-requires
+settle_on-requires g c =
+    let told = c.in_ok-settled.ensures in
+    let dating = dating_of told.answered c.args.tz c.args.local in (
+      dating,
+      told_reaches c.args.variant dating _ _ c.in_ok-settled.settled c.if-settled.false
+          (told.holds told.answered (λ date asks. refl)),
+    )
 
 pub returns-clause-settles : goal.returns-clause-settles
 returns-clause-settles g c =
-    let told = c.in_ok-round.ensures (chars c.args.input.now) c.trimmed-left.ensures in
-    settles_answered c.args.variant c.args.tz c.args.local _ (chars c.args.input.now)
-    (answer_in c.settle_on.result c.settle_on.new.text) c.in_ok-round.round.year told.0 c.settle_on.ensures
+    in_year_map (λ year h. let dating = dating_of year c.args.tz c.args.local in
+    c.settle_on.ensures dating (told_reaches c.args.variant dating _ _ c.in_ok-settled.settled c.if-settled.false h))
+    c.in_ok-settled.ensures
 
 pub returns-clause-canonical : goal.returns-clause-canonical
 returns-clause-canonical g c =
-    answer_canonical c.args.variant c.args.tz c.args.local _ (chars c.args.input.now) _ (returns-clause-settles g c)
+    in_year_map (λ year h. answer_canonical c.args.variant (dating_of year c.args.tz c.args.local)
+    (chars c.args.input.now) (answer_in c.settle_on.result c.settle_on.new.text) h) (returns-clause-settles g c)

@@ -1,0 +1,57 @@
+-- What is told of a round of a text by way of its line, and of the rounds after it, in which no year counts.
+use Rattle.syslog_loose.proofs.Names.{◌≡◌, ℕ, Bool, true, false, Option, None, Some, Result, Ok, Err, refl, subst, arith}
+use Rattle.syslog_loose.proofs.Names.{chars, Text, Dating, Variant, MonthDate, IsCanonical, MessageValue, dash_rule, IsRead}
+use Rattle.syslog_loose.proofs.Names.{ReachesFrom, string_bytes}
+use Rattle.std.specs.Global.{Global}
+use Rattle.std.specs.Prelude.{IfOk, String}
+use Rattle.std.specs.declared.alloc.AllocError.{AllocError}
+use Rattle.syslog_pieces.specs.Text.{trimmed}
+use Rattle.syslog_pieces.specs.Timestamp.MonthDate.{month_date}
+use Rattle.syslog_pieces.specs.Timestamp.Rfc3164.{ShowsMonthDate}
+use Rattle.syslog_loose.specs.Line.{line_value}
+use Rattle.syslog_loose.specs.Settling.{AnswersRound, IsToldRound, Settles, ShowsNoDate, WritesRound, round_answer}
+use Rattle.syslog_loose.specs.Start.{BeginsWithout, IsBehindPriority}
+use Rattle.syslog_loose.specs.Visit.{Made}
+use Rattle.syslog_loose.specs.declared.fault.ParseFault.{ParseFault}
+use Rattle.syslog_loose.proofs.ReadingLemmas.{invalid_or_memory}
+use Rattle.syslog_loose.proofs.Rfc3164Lemmas.Shown.{shows}
+use Rattle.syslog_loose.proofs.SettlingLemmas.Quiet.{read_shows_none}
+use Rattle.syslog_loose.proofs.SettlingLemmas.Settles.{settled_canonical}
+
+module _ (variant : Variant) (dating : Dating) where
+  -- what was written of the line of a text tells of a round of the text
+  pub made_told : (text : Text) (old new : String Global) (made : Option (Result Bool AllocError))
+      → Made (λ (before : String Global) line written after. WritesRound line written (string_bytes after)) variant
+      dating text old made new
+      → AnswersRound variant dating text (string_bytes new) (round_answer made)
+  made_told text old new None (none, same) = ((λ e. none), (λ u. refl))
+  made_told text old new (Some (Ok settled)) (line, only, writes) = writes variant dating text only.read
+  made_told text old new (Some (Err _)) (line, only, writes) =
+      ((λ e. absurd (invalid_or_memory e)), (λ u. absurd (u (line_value line) only.read)))
+
+  -- a round that is not settled is one from which to go on
+  pub told_reaches : (text later : Text) (settled : Bool) → settled ≡ false
+      → IsToldRound variant dating text later settled → ReachesFrom variant dating text 0 later
+  told_reaches text later true e told = cc
+  told_reaches text later false e (odd, n, r) = record { before = n; far = omega arith; reaches = r }
+
+  -- what is printed of a text shows no month date
+  pub reached_shows_none : (text : Text) (n : ℕ) (u : Text) → ReachesFrom variant dating text n u → ShowsNoDate u
+  reached_shows_none text n u r date shown =
+      let (before, round, h) = r.reaches.round in
+      read_shows_none variant dating before h.message h.read date
+      (subst (λ (x : Text). ShowsMonthDate x date) h.is_printed shown)
+
+  -- the message of a settled text is canonical
+  pub answer_canonical : (text : Text) (result : Result (String Global) ParseFault)
+      → Settles variant dating text result → IfOk result
+      (λ u. (m : MessageValue) → IsRead variant dating (chars (string_bytes u)) m → IsCanonical dash_rule m)
+  answer_canonical text (Ok u) s = λ m r.
+      settled_canonical variant dating (chars (string_bytes u)) m s.first.settled r
+  answer_canonical text (Err fault) s = tt
+
+-- a text that shows no month date has none after its priority
+pub without_date : (variant : Variant) (text : Text) {follows : Text} {p : Option ℕ} → ShowsNoDate text
+    → IsBehindPriority (trimmed text) p follows → BeginsWithout month_date variant follows
+without_date variant text never f reads start gap =
+    λ p q date whole is. never date (shows month_date f gap (record { piece = p; whole = whole; is = is }))

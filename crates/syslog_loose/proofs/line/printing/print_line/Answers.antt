@@ -1,0 +1,44 @@
+use Rattle.std.proofs.Common.{◌≡◌, [], ◌++◌, ℕ, List, Result, Ok, Err, OnOk, string_bytes, sym, ap, ◌∙◌}
+use Rattle.std.proofs.lemmas.Result.{on_ok_weaker}
+use Rattle.std.proofs.lemmas.Str.{encodes-chars}
+use Rattle.std.specs.Bool.{if◌then◌else◌}
+use Rattle.std.specs.Result.{is_ok}
+use Rattle.std.specs.Str.{encode_utf8_all}
+use Rattle.syslog_loose.specs.Line.{line_value, rest_text}
+use Rattle.syslog_loose.specs.Printed.{printed}
+use Rattle.syslog_loose.proofs.PrintedLineLemmas.{printed_line}
+use Rattle.syslog_loose.proofs.line.printing.print_line.Goals as goal
+
+-- a text that was empty
+started : (text before piece front : List ℕ) → text ≡ before ++ piece → before ≡ [] → piece ≡ front → text ≡ front
+started text before piece front e h k = e ∙ ap (λ (x : List ℕ). x ++ piece) h ∙ k
+
+both : (a b x y : List ℕ) → a ≡ b → x ≡ y → a ++ x ≡ b ++ y
+both a b x y e f = cc
+
+-- what was appended, where there was memory
+pushed : {T E : Type 0} (r : Result T E) (new old piece all : List ℕ)
+    → new ≡ if is_ok r then old ++ piece else old → old ++ piece ≡ all → OnOk r (new ≡ all)
+pushed (Ok x) new old piece all e h = e ∙ h
+pushed (Err x) new old piece all e h = tt
+
+pub returns-then-line : goal.returns-then-line
+returns-then-line c =
+    let line = c.args.line.now in
+    let front = started _ _ _ _ c.in_ok-push_str.ensures.bytes (c.in_ok-reserve.ensures.bytes ∙ c.clear.ensures.bytes)
+    (c.as_str.ensures ∙ c.front_of-front.ensures) in
+    let rest = sym (encodes-chars line.rest.now c.requires.utf8)
+    ∙ ap encode_utf8_all (c.requires.prints c.if-line.true) in
+    pushed c.push_str-then-line.result (string_bytes c.push_str-then-line.new.self) (string_bytes c.push_str.new.self)
+    line.rest.now (encode_utf8_all (printed (line_value line))) c.push_str-then-line.ensures.bytes
+    (both _ _ _ _ front rest ∙ printed_line line)
+
+pub returns : goal.returns
+returns c =
+    let line = c.args.line.now in
+    let front = started _ _ _ _ c.in_ok-push_str.ensures.bytes (c.in_ok-reserve.ensures.bytes ∙ c.clear.ensures.bytes)
+    (c.as_str.ensures ∙ c.front_of-front.ensures) in
+    on_ok_weaker c.push_rest.result (λ (e : string_bytes c.push_rest.new.text
+    ≡ string_bytes c.push_str.new.self ++ encode_utf8_all (rest_text (line_value line))).
+    e ∙ ap (λ (x : List ℕ). x ++ encode_utf8_all (rest_text (line_value line))) front ∙ printed_line line)
+    c.push_rest.ensures

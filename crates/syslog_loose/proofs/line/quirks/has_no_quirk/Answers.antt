@@ -1,0 +1,16 @@
+use Rattle.syslog_loose.proofs.Names.{refl}
+use Rattle.syslog_loose.proofs.line.quirks.has_no_quirk.Goals as goal
+
+pub returns : goal.returns
+returns c =
+    let names = c.if-not-has_quiet_names.ensures.0 refl in
+    let list = c.begins_no_list.ensures in (
+      (λ h. record {
+        canonical_timestamp = names.timestamp;
+        host_is_no_dash = names.no_dash;
+        host_ends_in_no_colon = names.no_last_colon;
+        process_has_no_colon = names.no_colon;
+        message_is_no_list = list.0 h;
+      }),
+      (λ k. list.1 k.message_is_no_list),
+    )

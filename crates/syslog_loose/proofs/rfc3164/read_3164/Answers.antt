@@ -1,0 +1,65 @@
+use Rattle.std.proofs.Common.{◌≡◌, ◌∙◌, ◌++◌, [], List, None, ap, refl, sym, true}
+use Rattle.syslog_pieces.specs.StructuredData.Element.{ElementValue}
+use Rattle.syslog_loose.specs.Printed.{spaced_elements}
+use Rattle.syslog_pieces.specs.Pieces.Class.{Text}
+use Rattle.syslog_pieces.specs.Pieces.View.{shown}
+use Rattle.syslog_pieces.specs.StructuredData.Visited.{list_text}
+use Rattle.syslog_pieces.proofs.StructuredDataLemmas.Rfc3164List.{begins_no_list}
+use Rattle.syslog_loose.specs.Reading.{dash_rule}
+use Rattle.syslog_loose.specs.Rfc3164.{stamped_row, fields_row, body_row}
+use Rattle.syslog_loose.specs.View3164.{fields_before, names_value}
+use Rattle.syslog_pieces.proofs.PieceLemmas.Class.{rows_join, rest_front}
+use Rattle.syslog_pieces.proofs.PieceLemmas.Rows.{row_of, ◌then◌}
+use Rattle.syslog_loose.proofs.LineLemmas.{empty_text, msg_same, no_list}
+use Rattle.syslog_loose.proofs.Rfc3164Lemmas.Reading.{is_read}
+use Rattle.syslog_loose.proofs.Rfc3164Lemmas.Rows.{from_list}
+use Rattle.syslog_loose.proofs.rfc3164.read_3164.Goals.{then-fields, else-fields}
+use Rattle.syslog_loose.proofs.rfc3164.read_3164.Goals as goal
+
+pub returns-clause-reads : goal.returns-clause-reads
+returns-clause-reads g c dating whole f =
+    let fields = c.read_fields-fields.ensures.read in
+    let (es, list, same) = c.visit_rfc3164_list.ensures.list in
+    is_read dash_rule dating whole _ _ _ refl (
+      names_value c.read_fields-fields.result.names,
+      fields.means,
+      rw same refl,
+    )
+    (rows_join (stamped_row dating) (body_row dash_rule) f
+    (rows_join fields_row (from_list dash_rule) fields.front
+    (row_of (from_list dash_rule) (list then c.blanks.ensures then rest_front _ then refl))))
+
+pub returns-clause-form : goal.returns-clause-form
+returns-clause-form g c = elim c.if-fields.branch [
+  | then-fields w ↦
+      (let fields = c.read_fields-fields.ensures in
+      let (es, list, same) = c.visit_rfc3164_list.ensures.list in
+      let empty : c.if-fields.is_printed ≡ true → list_text c.visit_rfc3164_list.result.0 ≡ [] =
+      λ e. sym w.text.ensures ∙ empty_text _ (sym w.is_empty-is_printed.ensures ∙ sym w.is_printed-is ∙ e) in
+      let after : c.if-fields.is_printed ≡ true → shown c.read_fields-fields.result.rest
+      ≡ shown c.visit_rfc3164_list.result.1 = λ e. c.visit_rfc3164_list.ensures.text
+      ∙ ap (λ (x : Text). x ++ shown c.visit_rfc3164_list.result.1) (empty e) in
+      let msg : c.if-fields.is_printed ≡ true → shown c.blanks.result ≡ shown c.read_fields-fields.result.rest =
+      λ e. msg_same list (after e) fields.ends c.blanks.ensures in
+      record {
+        utf8 = c.utf8.text;
+        prints = λ e. fields.prints w.if-fields.true
+            ∙ ap (λ (x : Text). fields_before (names_value c.read_fields-fields.result.names) x)
+            (sym (ap (λ (es : List ElementValue). spaced_elements es ++ shown c.blanks.result)
+            (same ∙ (no_list list (after e)).0) ∙ msg e));
+        quiet = λ e none canonical.
+            (let quiet = fields.quiet w.if-fields.true in
+            record {
+              canonical_timestamp = canonical;
+              host_is_no_dash = quiet.no_dash;
+              host_ends_in_no_colon = quiet.no_last_colon;
+              process_has_no_colon = quiet.no_colon;
+              message_is_no_list = λ none. rw (msg e) (begins_no_list dash_rule _ (no_list list (after e)).1);
+            });
+      })
+  | else-fields w ↦ record {
+    utf8 = c.utf8.text;
+    prints = λ e. absurd (let f = sym w.is_printed-is ∙ e in cc);
+    quiet = λ e none canonical. absurd (let f = sym w.is_printed-is ∙ e in cc);
+  }
+]

@@ -1,0 +1,41 @@
+use Rattle.std.proofs.Common.{◌≡◌, ◌∷◌, ◌++◌, [], List, ℕ, Option, Some, None, refl, sym, ap, ◌∙◌, arith, true}
+use Rattle.std.proofs.lemmas.Str.Ascii.{IsAscii-cons}
+use Rattle.std.specs.Str.{chars}
+use Rattle.syslog_pieces.specs.Pieces.Class.{run, optional, exactly}
+use Rattle.syslog_pieces.specs.Pieces.View.{seen, shown}
+use Rattle.syslog_pieces.specs.Text.{is_blank, colon}
+use Rattle.syslog_pieces.proofs.PieceLemmas.Rows.{row_of, ◌then◌}
+use Rattle.syslog_pieces.proofs.TextLemmas.Chars.{one_ascii, text_is}
+use Rattle.syslog_loose.specs.Rfc3164.{fields_row}
+use Rattle.syslog_loose.specs.View3164.{HasQuietNames, fields_before, names_value}
+use Rattle.syslog_loose.proofs.Rfc3164Lemmas.Near.{fields_known}
+use Rattle.syslog_loose.proofs.rfc3164.read_fields.Goals as goal
+
+pub before-requires : goal.before-requires
+before-requires c =
+    let k = row_of (run is_blank ∷ optional (exactly colon) ∷ run is_blank ∷ [])
+    (c.blanks.ensures then c.past_colon.ensures.1 then c.blanks-rest.ensures then refl) in (k.piece, k.whole)
+
+-- the fields, where they are in printed form
+pub returns : goal.returns
+returns c =
+    let front = row_of fields_row (c.host_field.ensures then c.tag_field.ensures then c.blanks.ensures
+    then c.past_colon.ensures.1 then c.blanks-rest.ensures then refl) in
+    let names = c.resolve-names.result in
+    let rest = shown c.blanks-rest.result in
+    let known : c.are_all-are_printed.result ≡ true → (chars c.args.text.now ≡ fields_before (names_value names) rest)
+    × HasQuietNames (names_value names) = λ e.
+    (let (there, (bare, (gap, _))) = c.are_all-are_printed.ensures e in
+    let (origin, name, is_origin, is_name) = c.are_there.ensures there in
+    let ascii = IsAscii-cons 58 (32 ∷ []) (omega arith) (one_ascii 32 (omega arith)) in
+    let end = ap (λ (x : List ℕ). x ++ rest) (text_is _ (58 ∷ 32 ∷ []) ascii (sym gap ∙ c.eq.ensures)) in
+    fields_known (rw is_origin at c.host_field.ensures) (rw is_name at c.tag_field.ensures) rest
+    (seen names.hostname) (seen names.appname) (seen names.process) (c.before-2.ensures ∙ end)
+    (rw (is_origin, is_name) at c.resolve-names.ensures.names) (c.resolve-names.ensures.form name is_name)
+    (c.is_bare.ensures bare)) in
+    record {
+      read = record { values = _; front = front; means = c.resolve-names.ensures.names };
+      ends = c.blanks-rest.ensures.is.1;
+      prints = λ e. (known e).0;
+      quiet = λ e. (known e).1;
+    }

@@ -1,0 +1,47 @@
+use Rattle.std.proofs.Common.{◌≡◌, ◌∷◌, ◌++◌, inl, refl, sym, ap, ◌∙◌}
+use Rattle.syslog_pieces.specs.Text.{trimmed}
+use Rattle.syslog_pieces.proofs.PieceLemmas.Class.{rest_front, rows_join, rows_none_here, rows_none_later}
+use Rattle.syslog_pieces.proofs.PieceLemmas.Rows.{no_row, row_of, ◌past◌, ◌then◌}
+use Rattle.syslog_pieces.specs.Pieces.Class.{Text}
+use Rattle.syslog_pieces.specs.Pieces.View.{shown}
+use Rattle.syslog_pieces.specs.StructuredData.Element.{elements_text}
+use Rattle.syslog_pieces.specs.StructuredData.Visited.{list_elements}
+use Rattle.syslog_loose.specs.Rfc5424.{header_row, data_row}
+use Rattle.syslog_loose.specs.View5424.{names_before}
+use Rattle.syslog_loose.proofs.Rfc5424Lemmas.{data_det, header_det, not_read, is_read}
+use Rattle.syslog_loose.proofs.rfc5424.read_5424.Goals as goal
+
+pub returns-in_default-clause-reads : goal.returns-in_default-clause-reads
+returns-in_default-clause-reads g c whole f =
+    not_read whole _ refl (rows_none_here header_row data_row (c.in_default.ensures.reads (trimmed whole) f))
+
+pub returns-in_default-visit_forgiving_list-clause-reads : goal.returns-in_default-visit_forgiving_list-clause-reads
+returns-in_default-visit_forgiving_list-clause-reads g c whole f =
+    let (version, is, header) = c.in-Some.ensures.reads (trimmed whole) f in
+    not_read whole _ refl (rows_none_later header_row data_row header_det header
+    (no_row data_row data_det (c.blanks-at_list.ensures past inl c.in_default-visit_forgiving_list.ensures.list)))
+
+pub returns-clause-reads : goal.returns-clause-reads
+returns-clause-reads g c whole f =
+    let (version, is, header) = c.in-Some.ensures.reads (trimmed whole) f in
+    is_read whole _ _ _ refl (rw is refl)
+    (rows_join header_row data_row header
+    (row_of data_row (c.blanks-at_list.ensures then c.in-Some-visit_forgiving_list.ensures.list then c.blanks-msg.ensures
+    then rest_front _ then refl)))
+
+pub returns-clause-form : goal.returns-clause-form
+returns-clause-form g c =
+    let (version, is) = c.in-Some.ensures.version in
+    let header = c.in-Some.header in
+    let es = list_elements c.in-Some-visit_forgiving_list.list in
+    record {
+      utf8 = c.in-Some.ensures.utf8;
+      prints = λ e.
+          (let (starts, (gap, (list, (space, _)))) = c.are_all-is_printed.ensures e in
+          let after = c.in-Some-visit_forgiving_list.ensures.text
+          ∙ ap (λ (x : Text). x ++ shown c.in-Some-visit_forgiving_list.after_list) (c.is_printed.ensures list)
+          ∙ ap (λ (x : Text). elements_text es ++ x) (c.is_one_space-2.ensures space) in
+          rw is (c.in-Some.ensures.prints starts
+          ∙ ap (λ (x : Text). names_before header x) (c.is_one_space.ensures gap ∙ ap (λ (x : Text). 32 ∷ x) after)));
+      quiet = λ e none. absurd (let f = sym is ∙ none in cc);
+    }

@@ -1,0 +1,17 @@
+use Rattle.syslog_loose.proofs.Names.{IsUtf8-string_bytes, refl, ap}
+use Rattle.syslog_loose.specs.Line.{line_value, protocol_of}
+use Rattle.syslog_pieces.proofs.TextLemmas.Canonical.{no_truth}
+use Rattle.syslog_loose.proofs.SettlingLemmas.Settles.{rests_so, told_later, told_settled}
+use Rattle.syslog_loose.proofs.rounds.other_round.Goals as goal
+
+pub returns-then-has_no_quirk : goal.returns-then-has_no_quirk
+returns-then-has_no_quirk c = λ variant dating whole r.
+    let m = line_value c.args.line.now in
+    told_settled variant dating whole m r _ (IsUtf8-string_bytes c.print_line.new.text) c.in_ok-print_line.ensures
+    (rests_so m.protocol m (c.if-has_no_quirk.ensures.0 refl))
+
+pub returns : goal.returns
+returns c = λ variant dating whole r.
+    told_later variant dating whole (line_value c.args.line.now) r _ (ap protocol_of c.requires.rfc3164)
+    (λ h. no_truth (c.if-has_no_quirk.ensures.1 h))
+    (c.in_ok-write_round.ensures variant dating whole r c.requires.rfc3164)

@@ -1,0 +1,145 @@
+//! Prints a line: the front from one array of ASCII, and the rest copied where it is already in printed form.
+//!
+//! The rest of other lines is printed field by field. No message is made of a line that is printed.
+ghost use Rattle.std.specs.Prelude.{◌≡◌, ◌<◌, ◌++◌, OnOk, Some, string_bytes};
+ghost use Rattle.std.specs.Fmt.{WritesOnOk};
+ghost use Rattle.std.specs.Str.{encode_utf8_all};
+ghost use Rattle.syslog_pieces.specs.Front.{ascii_bytes, front_text};
+ghost use Rattle.syslog_pieces.specs.StructuredData.Visited.{list_elements};
+ghost use Rattle.syslog_loose.specs.Formats.{printed_number};
+ghost use Rattle.syslog_loose.specs.Line.{line_value, rest_3164, rest_5424, rest_text, KnowsForm};
+ghost use Rattle.syslog_loose.specs.Printed.{elements_text, printed, spaced_elements};
+
+use super::Line;
+use crate::message::{read_priority, write_name, write_process, write_spaced, write_tag};
+use std::alloc::AllocError;
+use std::fmt;
+use std::fmt::{Display, Write};
+use syslog_pieces::as_str::AsStr;
+use syslog_pieces::front::Ascii;
+use syslog_pieces::structured_data::ElementList;
+
+// What a printed line may have beyond its rest: a priority, a version and a timestamp, and the dashes of absent fields.
+const MORE_PRINTED: usize = 80;
+
+impl fmt::Display for Line<'_> {
+    ghost output = { λ line. Some (encode_utf8_all (printed (line_value line))) };
+
+    fn fmt<W: fmt::Write>(&self, f: &mut fmt::Formatter<W>) -> fmt::Result {
+        let front = front_of(self);
+        f.write_str(front.as_str())?;
+        write_rest(f, self)
+    }
+}
+
+// All up to the timestamp, as it prints.
+#[inline(always)]
+fn front_of(line: &Line<'_>) -> Ascii
+    ensures { ascii_bytes result ≡ front_text (printed_number line.now.priority) line.now.version line.now.timestamp }
+{
+    Ascii::front(read_priority(line.priority), line.version, line.timestamp)
+}
+
+// Writes all after the timestamp, field by field.
+fn write_rest<W: fmt::Write>(f: &mut fmt::Formatter<W>, line: &Line<'_>) -> fmt::Result
+    ensures { WritesOnOk W.write_str_gives f.old result (encode_utf8_all (rest_text (line_value line.now))) f.new }
+{
+    match line.version {
+        Some(_) => write_rest_5424(f, line),
+        None => write_rest_3164(f, line),
+    }
+}
+
+// That of RFC 5424.
+fn write_rest_5424<W: fmt::Write>(f: &mut fmt::Formatter<W>, line: &Line<'_>) -> fmt::Result
+    ensures { WritesOnOk W.write_str_gives f.old result (encode_utf8_all (rest_5424 (line_value line.now))) f.new }
+{
+    let process = line.process();
+    let msg = line.msg.as_str();
+    write_name(f, &line.hostname)?;
+    write_name(f, &line.appname)?;
+    write_process(f, &process)?;
+    write_name(f, &line.msgid)?;
+    f.write_str(" ")?;
+    write_list(f, &line.list)?;
+    write_spaced(f, msg)
+}
+
+// That of RFC 3164.
+fn write_rest_3164<W: fmt::Write>(f: &mut fmt::Formatter<W>, line: &Line<'_>) -> fmt::Result
+    ensures { WritesOnOk W.write_str_gives f.old result (encode_utf8_all (rest_3164 (line_value line.now))) f.new }
+{
+    let process = line.process();
+    let msg = line.msg.as_str();
+    write_name(f, &line.hostname)?;
+    write_tag(f, &line.appname, &process)?;
+    write_list_before(f, &line.list)?;
+    f.write_str(msg)
+}
+
+// Writes the elements and a space, or nothing where there are none.
+fn write_list_before<W: fmt::Write>(
+    f: &mut fmt::Formatter<W>,
+    list: &ElementList<'_>,
+) -> fmt::Result
+    ensures { WritesOnOk W.write_str_gives f.old result
+        (encode_utf8_all (spaced_elements (list_elements list.now))) f.new }
+{
+    if list.is_empty() {
+        return Ok(());
+    }
+    write_list(f, list)?;
+    f.write_str(" ")
+}
+
+/// Writes the elements as they print, or `-` where there are none.
+#[inline(always)]
+pub(crate) fn write_list<W: fmt::Write>(
+    f: &mut fmt::Formatter<W>,
+    list: &ElementList<'_>,
+) -> fmt::Result
+    ensures { WritesOnOk W.write_str_gives f.old result
+        (encode_utf8_all (elements_text (list_elements list.now))) f.new }
+{
+    list.fmt(f)
+}
+
+/// Prints the line into `text`, in place of what was there. It asks for memory only where the text has too little
+/// space.
+#[inline(always)]
+pub(crate) fn print_line(text: &mut String, line: &Line<'_>) -> Result<(), AllocError>
+    requires { KnowsForm line.now }
+    ensures { OnOk result (string_bytes text.new ≡ encode_utf8_all (printed (line_value line.now))) }
+{
+    text.clear();
+    text.reserve(line.rest.len().saturating_add(MORE_PRINTED))?;
+    let front = front_of(line);
+    text.push_str(front.as_str())?;
+    if line.is_printed {
+        return text.push_str(line.rest);
+    }
+    push_rest(text, line)
+}
+
+// All after the timestamp of a line, printed field by field.
+#[derive(Clone, Copy)]
+struct Rest<'a, 'b>(&'b Line<'a>);
+
+impl fmt::Display for Rest<'_, '_> {
+    ghost output = { λ rest. Some (encode_utf8_all (rest_text (line_value rest.0.now))) };
+
+    fn fmt<W: fmt::Write>(&self, f: &mut fmt::Formatter<W>) -> fmt::Result {
+        write_rest(f, self.0)
+    }
+}
+
+// Appends all after the timestamp, field by field.
+#[inline(never)]
+fn push_rest(text: &mut String, line: &Line<'_>) -> Result<(), AllocError>
+    ensures { OnOk result
+        (string_bytes text.new ≡ string_bytes text.old ++ encode_utf8_all (rest_text (line_value line.now))) }
+{
+    let rest = Rest(line);
+    write!(text, "{rest}")?;
+    Ok(())
+}

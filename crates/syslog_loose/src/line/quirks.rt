@@ -1,0 +1,110 @@
+//! The quirks, tested on the fields of a line. What was read as RFC 3164 meets all else of the written condition but for
+//! an absent facility and severity, so without a quirk its printed text is settled. The tests look at a few bytes.
+ghost use Rattle.std.specs.Prelude.{◌≡◌, ◌≢◌, ◌↔◌, ◌++◌, ◌∷◌, [], ℕ, List, IfSome, IsTrue, MatchBool};
+ghost use Rattle.std.specs.Option.{option_map};
+ghost use Rattle.std.specs.Str.{chars};
+ghost use Rattle.syslog_pieces.specs.Pieces.Class.{Each};
+ghost use Rattle.syslog_pieces.specs.Pieces.View.{seen, shown};
+ghost use Rattle.syslog_pieces.specs.ProcId.{procid_value};
+ghost use Rattle.syslog_pieces.specs.StructuredData.Rfc3164List.{BeginsNoList};
+ghost use Rattle.syslog_pieces.specs.StructuredData.Visited.{list_elements};
+ghost use Rattle.syslog_pieces.specs.Text.{EndsInColon, dash};
+ghost use Rattle.syslog_loose.specs.Exceptions as spec;
+ghost use Rattle.syslog_loose.specs.Jumps.{HasNoNameException};
+ghost use Rattle.syslog_loose.specs.Line.{line_value};
+ghost use Rattle.syslog_loose.specs.Reading.{dash_rule};
+
+use super::Line;
+use syslog_pieces::procid::ProcId;
+use syslog_pieces::structured_data::ElementList;
+use syslog_pieces::structured_data::rfc3164_list::{DASH_RULE, begins_list};
+use syslog_pieces::timestamp::canonical::is_canonical_clock;
+
+/// Whether the line has no quirk.
+pub(crate) fn has_no_quirk(line: &Line<'_>) -> bool
+    ensures { IsTrue result ↔ spec.HasNoException dash_rule (line_value line.now) }
+{
+    if !has_quiet_names(line) {
+        return false;
+    }
+    begins_no_list(&line.list, line.msg)
+}
+
+/// Whether it has none before its message part.
+pub(crate) fn has_quiet_names(line: &Line<'_>) -> bool
+    ensures { IsTrue result ↔ HasNoNameException (line_value line.now) }
+{
+    if !is_canonical_clock(line.timestamp) {
+        return false;
+    }
+    if !has_no_odd_host(line.hostname) {
+        return false;
+    }
+    is_uncut_process(line.process())
+}
+
+// Whether the message part is not taken for a list, where there is none before it.
+fn begins_no_list(list: &ElementList<'_>, msg: &str) -> bool
+    ensures { IsTrue result ↔ (list_elements list.now ≡ [] → BeginsNoList dash_rule (chars msg.now)) }
+{
+    if !list.is_empty() {
+        return true;
+    }
+    !begins_list(msg, DASH_RULE)
+}
+
+// Whether the host is neither the text of an absent one nor taken for the one after the names.
+fn has_no_odd_host(host: Option<&str>) -> bool
+    ensures { IsTrue result ↔ (IfSome (seen host.entry) (λ h. h ≢ dash)
+        × IfSome (seen host.entry) (λ h. EndsInColon h → ⊥)) }
+{
+    match host {
+        Some(name) => is_no_odd_host(name),
+        None => true,
+    }
+}
+
+#[tactic(auto, using(crate::proofs::ExceptionLemmas::odd_told, crate::proofs::ExceptionLemmas::no_odd_told))]
+fn is_no_odd_host(name: &str) -> bool
+    ensures { IsTrue result ↔ ((chars name.now ≢ dash) × (EndsInColon (chars name.now) → ⊥)) }
+{
+    if ends_in_colon(name) {
+        return false;
+    }
+    is_no_dash(name)
+}
+
+// Whether the last byte is that of a colon.
+#[inline(always)]
+fn ends_in_colon(name: &str) -> bool
+    ensures { MatchBool result ((front : List ℕ) × (name.now ≡ front ++ (58 ∷ [])))
+        ((front : List ℕ) → name.now ≢ front ++ (58 ∷ [])) }
+{
+    matches!(name.as_bytes(), [.., b':'])
+}
+
+// Whether the bytes are not those of `-`.
+#[inline(always)]
+fn is_no_dash(name: &str) -> bool
+    ensures { MatchBool result (name.now ≢ dash) (name.now ≡ dash) }
+{
+    !matches!(name.as_bytes(), [b'-'])
+}
+
+// Whether the process is a number, or a name at which no other is cut.
+fn is_uncut_process(process: Option<ProcId<&str>>) -> bool
+    ensures { IsTrue result ↔ IfSome (option_map (procid_value (λ s. shown s)) process.entry) spec.HasNoColon }
+{
+    match process {
+        Some(ProcId::Name(name)) => has_no_colon(name),
+        Some(ProcId::PID(_)) => true,
+        None => true,
+    }
+}
+
+#[tactic(auto, using(crate::proofs::ExceptionLemmas::no_colon_told))]
+fn has_no_colon(name: &str) -> bool
+    ensures { IsTrue result ↔ Each spec.is_no_colon (chars name.now) }
+{
+    !name.contains(':')
+}

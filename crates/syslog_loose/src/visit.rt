@@ -1,0 +1,239 @@
+//! The one way from a text to a line, and to whatever a visitor makes of the line.
+//!
+//! A text is trimmed once, and its priority and its month date are read once: after a month date RFC 5424 is not tried,
+//! and where the date has no year the closure is asked.
+ghost use Rattle.std.specs.Prelude.{◌≡◌, ⊤, [], IfSome, IsSome, MatchOption, None};
+ghost use Rattle.std.specs.Str.{chars};
+ghost use Rattle.syslog_pieces.specs.Pieces.Class.{Text};
+ghost use Rattle.syslog_pieces.specs.Pieces.View.{shown};
+ghost use Rattle.syslog_pieces.specs.StructuredData.Visited.{list_elements};
+ghost use Rattle.syslog_pieces.specs.Text.{trimmed as trimmed_text};
+ghost use Rattle.syslog_pieces.specs.Timestamp.{header_stamp, stamp_seen};
+ghost use Rattle.syslog_pieces.specs.Timestamp.MonthDate.{month_date};
+ghost use Rattle.syslog_pieces.specs.Timestamp.Zone.{Dating as AnyDating, dating_of};
+ghost use Rattle.syslog_pieces.specs.declared.timestamp.month_date.MonthDate.{MonthDate};
+ghost use Rattle.syslog_loose.specs.Line.{line_value, KnowsForm};
+ghost use Rattle.syslog_loose.specs.Reading.{AnswersEachMonth, InYear, IsOnlyRead, IsUnreadable};
+ghost use Rattle.syslog_loose.specs.Reading.{dash_rule, incomplete};
+ghost use Rattle.syslog_loose.specs.Rfc3164.{IsRead3164};
+ghost use Rattle.syslog_loose.specs.Rfc5424.{IsNot5424, IsRead5424};
+ghost use Rattle.syslog_loose.specs.Start.{BeginsWith, BeginsWithout, IsBehindPriority};
+ghost use Rattle.syslog_loose.specs.View3164.{IsBehindStamp};
+ghost use Rattle.syslog_loose.specs.Visit.{Made};
+ghost use Rattle.syslog_loose.specs.declared.line.Line.{Line};
+ghost use Rattle.syslog_loose.specs.declared.variant.Variant.{Variant};
+
+use crate::line::Line;
+use crate::rfc3164::read_3164;
+use crate::rfc5424::read_5424;
+use crate::variant::{IncompleteDate, Variant};
+use jiff::tz::TimeZone;
+use syslog_pieces::pri::optional_priority;
+use syslog_pieces::structured_data::{ElementVisitor, NoElements};
+use syslog_pieces::text::{blanks, trimmed};
+use syslog_pieces::timestamp::month_date::{MonthDate, month_date};
+use syslog_pieces::timestamp::zone::{Dating, month_stamp};
+use syslog_pieces::timestamp::{ClockStamp, header_stamp};
+
+/// Makes something of a line. What it makes is returned from where the line was read, so that few fields of the line
+/// need to be kept in memory.
+pub trait LineVisitor<'a> {
+    /// What is made of the elements while the line is read.
+    type Elements: ElementVisitor<'a> + Drop;
+    /// What is made of the line.
+    type Answer;
+
+    // what is made of a line, and how it leaves the visitor
+    ghost makes: { Self → Line → Self.Answer → Self → Type 0 };
+
+    /// Returns a visitor that was given no elements yet.
+    fn elements(&self) -> Self::Elements
+        ensures { Self.Elements.was_given result [] };
+
+    /// Takes the line, and what was made of its elements.
+    fn line(&mut self, line: &Line<'a>, elements: Self::Elements) -> Self::Answer
+        requires given { Self.Elements.was_given elements (list_elements line.now.list) }
+        requires form { KnowsForm line.now }
+        ensures { makes self.old line.now result self.new };
+}
+
+// What is made of a line of RFC 5424, from after its priority on; none where the text is no such line.
+fn visit_5424<'a, V: LineVisitor<'a>>(
+    priority: Option<u8>,
+    text: &'a str,
+    visitor: &mut V,
+) -> Option<V::Answer>
+    ensures { (whole : Text) → IsBehindPriority (trimmed_text whole) priority (chars text.entry.now)
+        → MatchOption result (IsNot5424 whole × (visitor.new ≡ visitor.old))
+        (λ made. (line : Line) × IsRead5424 whole (line_value line) × V.makes visitor.old line made visitor.new) }
+{
+    let mut elements = visitor.elements();
+    let Some(line) = read_5424(priority, text, &mut elements) else {
+        return None;
+    };
+    Some(visitor.line(&line, elements))
+}
+
+// What is made of a line of RFC 3164, from after its timestamp on.
+fn visit_3164<'a, V: LineVisitor<'a>>(
+    priority: Option<u8>,
+    timestamp: Option<ClockStamp>,
+    text: &'a str,
+    visitor: &mut V,
+) -> V::Answer
+    ensures { (line : Line) × ((dating : AnyDating) (whole : Text)
+        → IsBehindStamp dating (trimmed_text whole) priority timestamp (chars text.entry.now)
+        → IsRead3164 dash_rule dating whole (line_value line)) × V.makes visitor.old line result visitor.new }
+{
+    let mut elements = visitor.elements();
+    let line = read_3164(priority, timestamp, text, &mut elements);
+    visitor.line(&line, elements)
+}
+
+/// The month date after a priority, where the variant reads such dates, and the rest.
+#[inline(always)]
+pub(crate) fn front_date(text: &str, variant: Variant) -> Option<(MonthDate, &str)>
+    ensures { MatchOption result (BeginsWithout month_date variant (chars text.now))
+        (λ x. BeginsWith month_date variant (chars text.now) x.0 (shown x.1)) }
+{
+    if variant.reads_rfc3164() {
+        month_date(blanks(text))
+    } else {
+        None
+    }
+}
+
+/// A timestamp that is no month date, in the same way.
+#[inline(always)]
+pub(crate) fn front_stamp(text: &str, variant: Variant) -> Option<(Option<ClockStamp>, &str)>
+    ensures { MatchOption result (BeginsWithout header_stamp variant (chars text.now))
+        (λ x. BeginsWith header_stamp variant (chars text.now) (stamp_seen x.0) (shown x.1)) }
+{
+    if variant.reads_rfc3164() {
+        header_stamp(blanks(text))
+    } else {
+        None
+    }
+}
+
+/// The numbers of a date whose year is asked for.
+#[inline(always)]
+pub(crate) fn asked_numbers(date: MonthDate) -> Option<IncompleteDate>
+    ensures { MatchOption result (IsSome date.year) (λ d. (date.year ≡ None) × (d ≡ incomplete date)) }
+{
+    match date.year {
+        Some(_) => None,
+        None => Some((date.month, date.day, date.hour, date.minute, date.second)),
+    }
+}
+
+/// What the visitor makes of the line of a text that begins with no month date, from after its priority on.
+#[inline(always)]
+pub(crate) fn visit_undated<'a, V: LineVisitor<'a>>(
+    priority: Option<u8>,
+    text: &'a str,
+    variant: Variant,
+    visitor: &mut V,
+) -> Option<V::Answer>
+    ensures { (whole : Text) → IsBehindPriority (trimmed_text whole) priority (chars text.entry.now)
+        → BeginsWithout month_date variant (chars text.entry.now) → (dating : AnyDating)
+        → Made V.makes variant dating whole visitor.old result visitor.new }
+{
+    if variant.reads_rfc5424() {
+        if let Some(made) = visit_5424(priority, text, visitor) {
+            return Some(made);
+        }
+    }
+    let Some((timestamp, rest)) = front_stamp(text, variant) else {
+        return None;
+    };
+    Some(visit_3164(priority, timestamp, rest, visitor))
+}
+
+/// Returns what the visitor makes of the line that the text is parsed as, and none where it does not parse.
+///
+/// `get_year` gives the year of a date that has none: it is called once, and only where the text shows such a date and
+/// the variant reads it. `tz` is the zone of a date without an offset, and `local` is taken where that is absent. No
+/// memory is taken but by the visitor.
+#[inline(always)]
+pub fn visit_line<'a, F: FnOnce(IncompleteDate) -> i32, V: LineVisitor<'a>>(
+    input: &'a str,
+    get_year: F,
+    tz: Option<&TimeZone<'_>>,
+    variant: Variant,
+    local: &TimeZone<'_>,
+    visitor: &mut V,
+) -> Option<V::Answer>
+    requires { AnswersEachMonth (F.pre get_year) }
+    ensures { InYear (F.post get_year) variant (chars input.entry.now) (λ year. Made V.makes variant
+        (dating_of year tz.entry local.entry) (chars input.entry.now) visitor.old result visitor.new) }
+{
+    let (priority, after_priority) = optional_priority(trimmed(input));
+    let Some((date, rest)) = front_date(after_priority, variant) else {
+        return visit_undated(priority, after_priority, variant, visitor);
+    };
+    let year = asked_numbers(date).map(get_year);
+    let Some(stamp) = month_stamp(date, &Dating { year, tz, local }) else {
+        return None;
+    };
+    Some(visit_3164(priority, Some(stamp), rest, visitor))
+}
+
+// Returns the line itself.
+#[derive(Clone, Copy)]
+struct Itself;
+
+impl<'a> LineVisitor<'a> for Itself {
+    type Elements = NoElements;
+
+    type Answer = Line<'a>;
+
+    ghost makes = { λ old line made new. (made ≡ line) × KnowsForm line };
+
+    #[inline(always)]
+    fn elements(&self) -> NoElements
+        ensures { ⊤ }
+    {
+        NoElements
+    }
+
+    #[inline(always)]
+    fn line(&mut self, line: &Line<'a>, _: NoElements) -> Line<'a>
+        requires form { KnowsForm line.now }
+        ensures { (result ≡ line.now) × KnowsForm line.now }
+    {
+        Line {
+            version: line.version,
+            priority: line.priority,
+            timestamp: line.timestamp,
+            hostname: line.hostname,
+            appname: line.appname,
+            process: line.process,
+            msgid: line.msgid,
+            list: line.list,
+            msg: line.msg,
+            rest: line.rest,
+            is_printed: line.is_printed,
+        }
+    }
+}
+
+/// Returns the line that the text is parsed as, and none where it does not parse. It takes no memory.
+///
+/// The arguments are those of `visit_line`.
+#[inline(always)]
+pub fn parse_line<'a, F: FnOnce(IncompleteDate) -> i32>(
+    input: &'a str,
+    get_year: F,
+    tz: Option<&TimeZone<'_>>,
+    variant: Variant,
+    local: &TimeZone<'_>,
+) -> Option<Line<'a>>
+    requires { AnswersEachMonth (F.pre get_year) }
+    ensures reads { InYear (F.post get_year) variant (chars input.entry.now) (λ year. MatchOption result
+        (IsUnreadable variant (dating_of year tz.entry local.entry) (chars input.entry.now))
+        (λ line. IsOnlyRead variant (dating_of year tz.entry local.entry) (chars input.entry.now) (line_value line))) }
+    ensures form { IfSome result KnowsForm }
+{
+    visit_line(input, get_year, tz, variant, local, &mut Itself)
+}

@@ -1,0 +1,62 @@
+-- The process id that a text names, computed.
+use Rattle.syslog_pieces.proofs.Names.{◌≡◌, ℤ, pos, ◌<◌, ◌^◌, ◌⊎◌, inl, inr, w32, List, [], ◌∷◌, length, true, false}
+use Rattle.syslog_pieces.proofs.Names.{refl, arith, FitsSigned, Text, Each, is_ascii_digit, IsNumeral, cases_Bool}
+use Rattle.syslog_pieces.proofs.Names.{signed_digits_value, IsI32Text}
+use Rattle.std.proofs.Common.{negsuc, Bool, ◌&&◌, if◌then◌else◌, nat_lt}
+use Rattle.std.proofs.lemmas.Bool.{lt-ltb}
+use Rattle.syslog_pieces.proofs.Names.{nat_tests, and_parts, and_from, sym}
+use Rattle.std.proofs.lemmas.Int.{fits_signed_from_abs}
+use Rattle.syslog_pieces.specs.declared.procid.ProcId.{ProcId}
+use Rattle.syslog_pieces.specs.declared.procid.ProcId.TheVariants.{PID, Name}
+use Rattle.std.specs.List.{list_all}
+use Rattle.std.specs.Str.Parse.{without_leading_sign}
+use Rattle.syslog_pieces.specs.ProcId.{NamesProcess, IsDigits, WritesSigned}
+use Rattle.syslog_pieces.specs.ProcId.{has_32_bits, is_signed_text, named_process}
+use Rattle.syslog_pieces.proofs.ProcIdLemmas.{numeral, digits_from, numeral_writes, process_same, writes_numeral}
+
+each_of_all : (t : Text) → list_all is_ascii_digit t ≡ true → Each is_ascii_digit t
+each_of_all [] h = tt
+each_of_all (c ∷ cs) h = let parts = and_parts _ _ h in (parts.0, each_of_all cs parts.1)
+
+all_of_each : (t : Text) → Each is_ascii_digit t → list_all is_ascii_digit t ≡ true
+all_of_each [] h = refl
+all_of_each (c ∷ cs) h = rw h.0 (all_of_each cs h.1)
+
+fits_of_bits : (z : ℤ) → has_32_bits z ≡ true → FitsSigned w32 z
+fits_of_bits (pos n) h = let small : n < 2_147_483_648 = grind (arith, nat_tests) in omega arith
+fits_of_bits (negsuc n) h = let small : n < 2_147_483_648 = grind (arith, nat_tests) in omega arith
+
+bits_of_fits : (z : ℤ) → FitsSigned w32 z → has_32_bits z ≡ true
+bits_of_fits (pos n) h = let small : n < 2_147_483_648 = omega arith in grind (arith, nat_tests)
+bits_of_fits (negsuc n) h = let small : n < 2_147_483_648 = omega arith in grind (arith, nat_tests)
+
+signed_of_test : (t : Text) → is_signed_text t ≡ true → WritesSigned t (signed_digits_value 10 t)
+signed_of_test t h =
+    let parts = and_parts _ _ h in
+    let some : 0 < length (without_leading_sign t) = grind (arith, nat_tests) in
+    numeral_writes t (numeral _ (some, each_of_all _ parts.1))
+
+test_of_signed : (t : Text) (n : ℤ) → WritesSigned t n → is_signed_text t ≡ true
+test_of_signed t n h =
+    let digits = digits_from _ (writes_numeral t n h).0 in
+    and_from _ _ (lt-ltb _ _ digits.0) (all_of_each _ digits.1)
+
+no_number : (t : Text) → (is_signed_text t && has_32_bits (signed_digits_value 10 t)) ≡ false → (n : ℤ)
+    → IsI32Text t n → ⊥
+no_number t h n is =
+    let value = (writes_numeral t n is.0).1 in
+    let both = and_from _ _ (test_of_signed t n is.0) (bits_of_fits _ (rw value at is.1)) in
+    let f = rw both at h in cc
+
+named_as : (t : Text) (test : Bool) → test ≡ (is_signed_text t && has_32_bits (signed_digits_value 10 t))
+    → NamesProcess t (if test then PID (signed_digits_value 10 t) else Name t)
+named_as t true h =
+    let parts = and_parts _ _ (sym h) in (signed_of_test t parts.0, fits_of_bits _ parts.1)
+named_as t false h = (no_number t (sym h), refl)
+
+pub named_names : (t : Text) → NamesProcess t (named_process t)
+named_names t = named_as t _ refl
+
+-- so what a text names is that
+pub named_is : (t : Text) (process : ProcId Text) → NamesProcess t process → process ≡ named_process t
+named_is t process h = process_same t process (named_process t) h (named_names t)

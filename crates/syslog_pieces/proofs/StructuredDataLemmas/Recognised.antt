@@ -1,0 +1,49 @@
+-- What recognised elements and lists mean is what stands in their texts.
+use Rattle.syslog_pieces.proofs.Names.{◌≡◌, List, [], ◌++◌, Option, Some, None, sym, ap, subst, length}
+use Rattle.syslog_pieces.proofs.Names.{Text, Class, Front, IsDeterministic, front_same, inside, many, item, strict}
+use Rattle.syslog_pieces.proofs.Names.{ℕ, ◌∷◌, ◌+◌, arith, IsUtf8, encodes-chars, encodes-append, encode_utf8_all}
+use Rattle.syslog_pieces.proofs.Names.{length-append, nil_from_length, append-nil, many_here}
+use Rattle.std.proofs.lemmas.Str.{length-le-encodes}
+use Rattle.syslog_pieces.proofs.StructuredDataLemmas.ReadBack.{no_item_before, no_item_nil}
+use Rattle.syslog_pieces.proofs.Names.{ElementValue, shown, chars, drop, drop-append_seam, ◌∙◌}
+use Rattle.syslog_pieces.specs.StructuredData.Recognised.{OneMeaning, one_value, one_value-is}
+use Rattle.syslog_pieces.specs.StructuredData.Visited.{element_seen, list_elements, list_text}
+use Rattle.syslog_pieces.specs.declared.structured_data.recognised.Element.{Element}
+use Rattle.syslog_pieces.specs.declared.structured_data.recognised.ElementList.{ElementList}
+
+-- an element that was recognised, by its parameters
+pub seen_is : {id inner q : Text} {ps : List (Text × Text)} (m : OneMeaning inside inner)
+    → Front inside inner q (ps, (tt, tt))
+    → ◌≡◌ {A = ElementValue} (record { id = id; params = (one_value m).0 }) (record { id = id; params = ps })
+seen_is {id = id} m f =
+    ap (λ (v : List (Text × Text)). record { id = id; params = v }) (ap (λ v. v.0) (one_value-is m f))
+
+-- a list that was recognised, by its items
+pub items_are : {t q : Text} {vs : List (Option ElementValue)} (m : OneMeaning (many item) t) → Front (many item) t q vs
+    → strict (one_value m) ≡ strict vs
+items_are m f = ap strict (one_value-is m f)
+
+-- a front of a text, and what the text is after it
+pub left_out : (t p left : Text) → t ≡ p ++ left → t ≡ p ++ drop (length p) t
+left_out t p left e = e ∙ ap (λ (x : Text). p ++ x) (sym (ap (drop (length p)) e ∙ drop-append_seam p left))
+
+-- a front of as many bytes is the text
+pub same_front : (t p : List ℕ) → IsUtf8 t → IsUtf8 p → (left : Text) → chars t ≡ chars p ++ left → length p ≡ length t
+    → chars t ≡ chars p
+same_front t p u z left e l =
+    let whole : length t ≡ length p + length (encode_utf8_all left) =
+    omega (
+      arith,
+      ap length (sym (encodes-chars t u) ∙ ap encode_utf8_all e ∙ encodes-append (chars p) left),
+      ap length (encodes-chars p z),
+      length-append (encode_utf8_all (chars p)) (encode_utf8_all left),
+    ) in
+    let none : left ≡ [] = nil_from_length left (omega (arith, l, whole, length-le-encodes left)) in
+    rw none at e ∙ append-nil (chars p)
+
+-- `-`, which is no item
+pub dash_items : (t : Text) → t ≡ 45 ∷ [] → Front (many item) t t []
+dash_items t e = many_here item t (λ p q v w h. no_item_before 45 [] (λ n. omega arith) p q v (sym e ∙ w) h)
+
+pub no_items_here : (t : Text) → t ≡ [] → Front (many item) t t []
+no_items_here t e = many_here item t (λ p q v w h. no_item_nil p q v (sym e ∙ w) h)

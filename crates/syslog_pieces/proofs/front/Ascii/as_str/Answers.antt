@@ -1,0 +1,11 @@
+use Rattle.std.proofs.Common.{◌<◌, ◌≤◌, length, take, get_or, arith}
+use Rattle.std.proofs.lemmas.List.{get_or-take}
+use Rattle.std.proofs.lemmas.Str.{IsUtf8-from_ascii}
+use Rattle.std.proofs.lemmas.Str.Ascii.{IsAscii-from_reads}
+use Rattle.syslog_pieces.proofs.front.Ascii.as_str.Goals as goal
+
+pub from_utf8_unchecked-requires : goal.from_utf8_unchecked-requires
+from_utf8_unchecked-requires c =
+    let a = c.args.self.now in
+    IsUtf8-from_ascii _ (IsAscii-from_reads (take a.length a.bytes) a.length (omega arith)
+    (λ k h. rw (get_or-take a.length a.bytes k 0 h) (a.ascii k h)))

@@ -1,0 +1,12 @@
+use Rattle.syslog_pieces.proofs.Names.{refl, []}
+use Rattle.std.proofs.lemmas.Grind.{put_two}
+use Rattle.syslog_pieces.specs.StructuredData.Element.{element_text}
+use Rattle.syslog_pieces.specs.StructuredData.Visited.{element_seen}
+use Rattle.syslog_pieces.proofs.TextLemmas.Printed.{encodes_more}
+use Rattle.syslog_pieces.proofs.structured_data.display.write_joined.Goals as goal
+
+pub loop-element-preserved : goal.loop-element-preserved
+loop-element-preserved g c = λ canonical.
+    let so_far = c.loop-element.invariant canonical in
+    put_two _ _ _ _ _ _ _ so_far (c.in_ok-fmt.ensures.writes so_far.plain refl)
+    (encodes_more element_text element_seen [] c.loop-element.yielded c.in-Some.element _ refl)

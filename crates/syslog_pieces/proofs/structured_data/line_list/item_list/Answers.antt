@@ -1,0 +1,29 @@
+use Rattle.syslog_pieces.proofs.Names.{rules, arith, sym, ◌∙◌, ◌<◌, length, strict}
+use Rattle.syslog_pieces.proofs.StructuredDataLemmas.Listed.{own_items, own_printed, some_joined}
+use Rattle.syslog_pieces.proofs.structured_data.line_list.item_list.Goals as goal
+
+pub new-requires : goal.new-requires
+new-requires c =
+    let (vs, items, t) = c.requires in
+    let n : 0 < length (strict vs) = omega (arith, t.elements, c.if-tally-gt0.true) in
+    let p = own_printed c.before-own.ensures t.after (t.prints c.if-tally.true) c.before-printed.ensures in (
+      _,
+      (
+        vs,
+        own_items c.before-own.ensures items,
+        t.elements,
+        t.params,
+        (search rules, p.0 ∙ some_joined (strict vs) n, p.1),
+      ),
+    )
+
+pub new-requires-else-tally : goal.new-requires-else-tally
+new-requires-else-tally c =
+    let (vs, items, t) = c.requires in (_, (vs, own_items c.before-own.ensures items, t.elements, t.params, tt))
+
+pub returns-then-tally-gt0-clause-elements : goal.returns-then-tally-gt0-clause-elements
+returns-then-tally-gt0-clause-elements c vs a = c.new.ensures.elements _ vs (own_items c.before-own.ensures a)
+
+pub returns-else-tally-clause-elements : goal.returns-else-tally-clause-elements
+returns-else-tally-clause-elements c vs a =
+    c.new-else-tally.ensures.elements _ vs (own_items c.before-own.ensures a)

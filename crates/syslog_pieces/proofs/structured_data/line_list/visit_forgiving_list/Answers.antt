@@ -1,0 +1,18 @@
+use Rattle.syslog_pieces.proofs.Names.{rules, ◌≡◌, ◌<◌, ◌∙◌, sym, ap, length, subst, chars, forgiving, Front, List}
+use Rattle.syslog_pieces.proofs.Names.{ElementValue}
+use Rattle.syslog_pieces.proofs.TextLemmas.Chars.{chars_empty, chars_nonempty}
+use Rattle.syslog_pieces.proofs.StructuredDataLemmas.Listed.{no_forgiving, some_forgiving}
+use Rattle.syslog_pieces.proofs.structured_data.line_list.visit_forgiving_list.Goals as goal
+
+pub returns-then-is_empty-clause-list : goal.returns-then-is_empty-clause-list
+returns-then-is_empty-clause-list g c =
+    let none : length c.text.result.now ≡ 0 = search rules in
+    no_forgiving _ c.in_default.ensures c.visit_items.ensures.list.1 c.visit_items.ensures.text
+    (ap length (sym c.text.ensures) ∙ chars_empty _ none)
+
+pub returns-else-is_empty-clause-list : goal.returns-else-is_empty-clause-list
+returns-else-is_empty-clause-list g c =
+    let some : 0 < length c.text.result.now = search rules in
+    let (vs, f, e) = c.visit_items.ensures.list in
+    let n = rw c.text.ensures at (chars_nonempty _ c.text.utf8 some) in
+    rw e (some_forgiving _ vs f c.visit_items.ensures.text n)

@@ -1,0 +1,23 @@
+use Rattle.syslog_pieces.proofs.Names.{refl, [], None, Some, many_here, full_element, optional_some, rfc3164_list}
+use Rattle.syslog_pieces.proofs.StructuredDataLemmas.Listed.{optional_full}
+use Rattle.syslog_pieces.proofs.StructuredDataLemmas.Rfc3164List.{no_full_unopened, list_absent, dash_rfc3164_list}
+use Rattle.syslog_pieces.proofs.structured_data.line_list.visit_rfc3164_list.Goals as goal
+
+pub returns-in-Some-clause-list : goal.returns-in-Some-clause-list
+returns-in-Some-clause-list g c = (
+  Some [],
+  optional_some (rfc3164_list c.args.rule)
+      (dash_rfc3164_list c.args.rule _ _ c.in-Some.ensures.0 c.in-Some.ensures.1),
+  c.dash_list.ensures.elements,
+)
+
+pub returns-in_default-literal-clause-list : goal.returns-in_default-literal-clause-list
+returns-in_default-literal-clause-list g c = (
+  None,
+  list_absent c.args.rule _ _ [] c.in_default.ensures
+      (many_here full_element _ (no_full_unopened _ c.in_default-literal.ensures)) refl,
+  c.none.ensures.elements,
+)
+
+pub returns-clause-list : goal.returns-clause-list
+returns-clause-list g c = optional_full c.args.rule _ c.in_default.ensures c.visit_full_elements.ensures.list

@@ -1,0 +1,19 @@
+use Rattle.syslog_pieces.proofs.Names.{rules, inside, ap, length, ◌∙◌, sym, Text, List}
+use Rattle.syslog_pieces.specs.StructuredData.Recognised.{one_value-is}
+use Rattle.syslog_pieces.proofs.StructuredDataLemmas.Recognised.{seen_is}
+use Rattle.syslog_pieces.proofs.StructuredDataLemmas.Walk.{one_meaning, inside_det}
+use Rattle.syslog_pieces.proofs.structured_data.recognised.Element.new.Goals as goal
+
+pub invariant_of-result : goal.invariant_of-result
+invariant_of-result c =
+    let (q, (ps, f, e)) = c.requires in
+    let m = one_meaning inside inside_det f in
+    record {
+      id_utf8 = search rules;
+      utf8 = search rules;
+      meaning = m;
+      counted = e ∙ sym (ap (λ v. length v.0) (one_value-is m f));
+    }
+
+pub returns : goal.returns
+returns c q ps f = seen_is _ f

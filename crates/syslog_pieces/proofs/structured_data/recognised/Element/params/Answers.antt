@@ -1,0 +1,5 @@
+use Rattle.syslog_pieces.proofs.StructuredDataLemmas.Left.{inside_same, params_less}
+use Rattle.syslog_pieces.proofs.structured_data.recognised.Element.params.Goals as goal
+
+pub returns : goal.returns
+returns c = inside_same _ _

@@ -1,0 +1,16 @@
+use Rattle.syslog_pieces.proofs.Names.{ap, sym, strict}
+use Rattle.syslog_pieces.proofs.StructuredDataLemmas.Closing.{byte_count_slice, dead_whole}
+use Rattle.syslog_pieces.proofs.StructuredDataLemmas.Left.{items_same}
+use Rattle.syslog_pieces.proofs.structured_data.recognised.ElementList.elements.Goals as goal
+
+pub invariant_of-result : goal.invariant_of-result
+invariant_of-result c =
+    let list = c.args.self.now in
+    record {
+      utf8 = list.utf8;
+      is_dead = dead_whole _ _ (sym (byte_count_slice list.text.now list.utf8));
+      meaning = list.meaning;
+    }
+
+pub returns : goal.returns
+returns c = ap strict (items_same _ _)

@@ -1,0 +1,24 @@
+use Rattle.syslog_pieces.proofs.Names.{inl, refl, rules, opening_row, row_of, no_row, ◌then◌, ◌past◌}
+use Rattle.syslog_pieces.proofs.StructuredDataLemmas.Closing.{opening_det}
+use Rattle.syslog_pieces.proofs.StructuredDataLemmas.Walk.{opens_at_once}
+use Rattle.syslog_pieces.proofs.structured_data.walk.open_param.Goals as goal
+
+pub returns-in_err-after_equals : goal.returns-in_err-after_equals
+returns-in_err-after_equals c =
+    let n = no_row opening_row opening_det (c.in_ok-name.ensures past inl c.in_err-after_equals.ensures) in search rules
+
+pub returns-in-Some : goal.returns-in-Some
+returns-in-Some c =
+    let r = opens_at_once c.in_ok-name.ensures c.in_ok-after_equals.ensures c.in-Some.ensures in (r.0, λ t. r.1)
+
+pub returns-in_err-value : goal.returns-in_err-value
+returns-in_err-value c =
+    let n = no_row opening_row opening_det (c.in_ok-name.ensures past c.in_ok-after_equals.ensures past
+    c.blanks.ensures past inl c.in_err-value.ensures) in search rules
+
+pub returns : goal.returns
+returns c = (
+  row_of opening_row (c.in_ok-name.ensures then c.in_ok-after_equals.ensures then c.blanks.ensures then
+      c.in_ok-value.ensures then refl),
+  λ t. cc,
+)

@@ -1,0 +1,12 @@
+use Rattle.syslog_pieces.proofs.Names.{rules, arith}
+use Rattle.syslog_pieces.proofs.StructuredDataLemmas.Closing.{quoted_longer, quoted_cut}
+use Rattle.syslog_pieces.proofs.structured_data.walk.value_before.Goals as goal
+
+pub overflow_sub-text : goal.overflow_sub-text
+overflow_sub-text c = omega (arith, quoted_longer _ _ c.utf8.text (search rules) _ c.requires.1)
+
+pub overflow_sub-text-2 : goal.overflow_sub-text-2
+overflow_sub-text-2 c = omega (arith, quoted_longer _ _ c.utf8.text (search rules) _ c.requires.1)
+
+pub split_at-requires : goal.split_at-requires
+split_at-requires c = quoted_cut _ _ c.utf8.text (search rules) _ c.requires.1

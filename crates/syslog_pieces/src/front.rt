@@ -1,0 +1,198 @@
+//! The front of a printed line, in one array of ASCII: the priority, the version and the timestamp.
+//!
+//! What follows the timestamp is mostly copied, so a line is two pieces: this one and the rest.
+ghost use Rattle.std.specs.Prelude.{◌≡◌, ◌<◌, ◌≤◌, ◌+◌, ◌++◌, ◌∷◌, ℕ, [], length, slice_index, take};
+ghost use Rattle.std.specs.Fmt.{decimal};
+ghost use Rattle.std.specs.List.{AllByRecursion};
+ghost use Rattle.syslog_pieces.specs.Pri.{priority_text};
+ghost use Rattle.syslog_pieces.specs.Timestamp.Fields.{AreCivil};
+ghost use Rattle.syslog_pieces.specs.Timestamp.Printed.{date_time_text, fraction_text, offset_text};
+
+use crate::text::write_ascii::{digit, three_digits, two_digits};
+use crate::timestamp::ClockStamp;
+use crate::timestamp::display::date_time_bytes;
+use crate::timestamp::fields::CivilFields;
+use jiff::tz::Offset;
+use std::str;
+
+/// A short text of ASCII.
+#[derive(Clone, Copy)]
+pub struct Ascii {
+    bytes: [u8; 64],
+    length: usize,
+    ghost within: { length ≤ 64 },
+    ghost ascii: { (k : ℕ) → k < length → slice_index bytes k < 128 },
+}
+
+impl Ascii {
+    ghost use Rattle.syslog_pieces.specs.Front.{ascii_bytes, clock_text, front_text, version_text};
+
+    // No text.
+    #[inline(always)]
+    fn empty() -> Ascii
+        ensures { ascii_bytes result ≡ [] }
+    {
+        Ascii {
+            bytes: [0; 64],
+            length: 0,
+        }
+    }
+
+    /// The text.
+    #[inline(always)]
+    pub fn as_str(&self) -> &str
+        ensures { result.now ≡ ascii_bytes self.now }
+    {
+        unsafe { str::from_utf8_unchecked(&self.bytes[..self.length]) }
+    }
+
+    // Appends bytes that are ASCII.
+    #[inline(always)]
+    fn push(&mut self, piece: &[u8])
+        requires room { self.old.length + length piece.now ≤ 64 }
+        requires ascii { AllByRecursion (λ b. b < 128) piece.now }
+        ensures text { ascii_bytes self.new ≡ ascii_bytes self.old ++ piece.now }
+        ensures length { self.new.length ≡ self.old.length + length piece.now }
+    {
+        let end = self.length + piece.len();
+        self.bytes[self.length..end].copy_from_slice(piece);
+        self.length = end;
+    }
+
+    // Appends a priority as it prints.
+    #[tactic(auto, using(crate::proofs::PriLemmas::decimals))]
+    #[inline(always)]
+    fn push_priority(&mut self, number: u32)
+        requires room { self.old.length + 5 ≤ 64 }
+        requires number { number < 1_000 }
+        ensures text { ascii_bytes self.new ≡ ascii_bytes self.old ++ priority_text number }
+        ensures length { self.new.length ≤ self.old.length + 5 }
+    {
+        if number < 10 {
+            self.push(&[b'<', digit(number), b'>']);
+            return;
+        }
+        let [t, o] = two_digits(number % 100);
+        if number < 100 {
+            self.push(&[b'<', t, o, b'>']);
+            return;
+        }
+        self.push(&[b'<', digit(number / 100), t, o, b'>']);
+    }
+
+    // Appends a number in decimal digits.
+    #[tactic(auto, using(crate::proofs::TextLemmas::Decimals::decimal_steps))]
+    fn push_number(&mut self, number: u32)
+        requires room { self.old.length + length (decimal number) ≤ 64 }
+        ensures text { ascii_bytes self.new ≡ ascii_bytes self.old ++ decimal number }
+        ensures length { self.new.length ≡ self.old.length + length (decimal number) }
+    {
+        if number < 10 {
+            self.push(&[digit(number)]);
+            return;
+        }
+        self.push_number(number / 10);
+        self.push(&[digit(number % 10)]);
+    }
+
+    // Appends a version of RFC 5424, where there is one.
+    #[tactic(auto, using(crate::proofs::TextLemmas::Decimals::ten_digits))]
+    #[inline(always)]
+    fn push_version(&mut self, version: Option<u32>)
+        requires room { self.old.length + 10 ≤ 64 }
+        ensures text { ascii_bytes self.new ≡ ascii_bytes self.old ++ version_text version }
+        ensures length { self.new.length ≤ self.old.length + 10 }
+    {
+        match version {
+            Some(version) if version < 10 => self.push(&[digit(version)]),
+            Some(version) => self.push_number(version),
+            None => {}
+        }
+    }
+
+    // Appends `YYYY-MM-DDTHH:MM:SS`, after a `-` where the year is negative.
+    #[tactic(auto, unfolding(crate::specs::Timestamp::Printed::date_time_text))]
+    #[inline(always)]
+    fn push_date_time(&mut self, fields: CivilFields)
+        requires room { self.old.length + 20 ≤ 64 }
+        requires civil { AreCivil fields }
+        ensures text { ascii_bytes self.new ≡ ascii_bytes self.old ++ date_time_text fields }
+        ensures length { self.new.length ≤ self.old.length + 20 }
+    {
+        if fields.year < 0 {
+            self.push(b"-");
+        }
+        self.push(&date_time_bytes(fields));
+    }
+
+    // Appends a dot and the least of 3, 6 or 9 decimals that is exact, or nothing for 0.
+    #[tactic(auto, unfolding(crate::specs::Timestamp::Printed::fraction_text))]
+    #[inline(always)]
+    fn push_fraction(&mut self, nanosecond: u32)
+        requires room { self.old.length + 10 ≤ 64 }
+        requires nanosecond { nanosecond < 1_000_000_000 }
+        ensures text { ascii_bytes self.new ≡ ascii_bytes self.old ++ fraction_text nanosecond }
+        ensures length { self.new.length ≤ self.old.length + 10 }
+    {
+        if nanosecond == 0 {
+            return;
+        }
+        self.push(b".");
+        self.push(&three_digits(nanosecond / 1_000_000));
+        if nanosecond % 1_000_000 == 0 {
+            return;
+        }
+        self.push(&three_digits(nanosecond / 1_000 % 1_000));
+        if nanosecond % 1_000 == 0 {
+            return;
+        }
+        self.push(&three_digits(nanosecond % 1_000));
+    }
+
+    // Appends a sign and `HH:MM`.
+    #[tactic(auto, unfolding(crate::specs::Timestamp::Printed::offset_text))]
+    #[inline(always)]
+    fn push_offset(&mut self, offset: Offset)
+        requires room { self.old.length + 6 ≤ 64 }
+        ensures text { ascii_bytes self.new ≡ ascii_bytes self.old ++ offset_text offset.seconds }
+        ensures length { self.new.length ≤ self.old.length + 6 }
+    {
+        let seconds = offset.seconds();
+        let minutes = (seconds.unsigned_abs() + 30) / 60;
+        let [h, u] = two_digits(minutes / 60);
+        let [i, n] = two_digits(minutes % 60);
+        let sign = if seconds < 0 { b'-' } else { b'+' };
+        self.push(&[sign, h, u, b':', i, n]);
+    }
+
+    // Appends a timestamp as it prints, or `-`.
+    #[inline(always)]
+    fn push_timestamp(&mut self, timestamp: Option<ClockStamp>)
+        requires room { self.old.length + 36 ≤ 64 }
+        ensures text { ascii_bytes self.new ≡ ascii_bytes self.old ++ clock_text timestamp }
+        ensures length { self.new.length ≤ self.old.length + 36 }
+    {
+        match timestamp {
+            Some(stamp) => {
+                self.push_date_time(stamp.fields);
+                self.push_fraction(stamp.fields.nanosecond);
+                self.push_offset(stamp.offset);
+            }
+            None => self.push(b"-"),
+        }
+    }
+
+    /// The front of a line: the priority, the version of RFC 5424, a space and the timestamp.
+    #[inline(always)]
+    pub fn front(priority: u32, version: Option<u32>, timestamp: Option<ClockStamp>) -> Ascii
+        requires { priority < 1_000 }
+        ensures { ascii_bytes result ≡ front_text priority version timestamp }
+    {
+        let mut front = Ascii::empty();
+        front.push_priority(priority);
+        front.push_version(version);
+        front.push(b" ");
+        front.push_timestamp(timestamp);
+        front
+    }
+}

@@ -1,0 +1,125 @@
+//! The elements of a recognised list, and the parameters of a recognised element, one after the other.
+ghost use Rattle.std.specs.Prelude.{◌≡◌, ◌⊎◌, [], ◌∷◌};
+ghost use Rattle.std.specs.Str.{chars, IsUtf8};
+ghost use Rattle.std.proofs.Props.{props};
+ghost use Rattle.syslog_pieces.specs.Bodies.Closing.{inside as inside_class, IsDead};
+ghost use Rattle.syslog_pieces.specs.Pieces.Class.{NoFront, exactly};
+ghost use Rattle.syslog_pieces.specs.Pieces.Lists.{many};
+ghost use Rattle.syslog_pieces.specs.StructuredData.{item as item_class};
+ghost use Rattle.syslog_pieces.specs.StructuredData.Recognised.{OneMeaning, OneInside-prop, OneItems-prop};
+
+use super::element::param;
+use super::recognise::after_bracketed;
+use super::recognised::{Element, ElementList};
+use super::visit::NoNotes;
+use super::walk::walk_element;
+use crate::text::literal;
+
+// The text after the space at the front, where there is one, or else the whole.
+#[inline(always)]
+fn past_separator(text: &str) -> &str
+    ensures { (chars text.now ≡ 32 ∷ chars result.now)
+        ⊎ (NoFront (exactly (32 ∷ [])) (chars text.now) × (chars text.now ≡ chars result.now)) }
+{
+    match literal(text, ' ') {
+        Some(rest) => rest,
+        None => text,
+    }
+}
+
+/// The names and the raw values of an element's parameters, in order.
+#[derive(Clone, Copy)]
+pub struct Params<'a> {
+    rest: &'a str,
+    ghost utf8: { IsUtf8 rest.now } by { Prim.hlevel props },
+    pub ghost meaning: { OneMeaning inside_class (chars rest.now) } by { OneInside-prop (chars rest.now) },
+}
+
+impl<'a> Iterator for Params<'a> {
+    ghost use Rattle.std.specs.Iterator.{YieldsFirstBy, item_count};
+    ghost use Rattle.syslog_pieces.specs.Pieces.View.{shown};
+    ghost use Rattle.syslog_pieces.specs.StructuredData.Element.{param_value};
+    ghost use Rattle.syslog_pieces.specs.StructuredData.Visited.{params_left};
+
+    type Item = (&'a str, &'a str);
+
+    ghost next_gives = { YieldsFirstBy (param_value (λ s. shown s)) params_left };
+
+    ghost remaining = { item_count params_left };
+
+    fn next(&mut self) -> Option<(&'a str, &'a str)> {
+        if let Some(_) = literal(self.rest, ']') {
+            return None;
+        }
+        let (found, after) = param(self.rest)?;
+        self.rest = past_separator(after);
+        Some(found)
+    }
+}
+
+/// The strict elements of a list, in order. Walks the whole list in time linear in its text.
+#[derive(Clone, Copy)]
+pub struct Elements<'a> {
+    rest: &'a str,
+    // the number of `walk_element`, for the rest
+    dead: usize,
+    ghost utf8: { IsUtf8 rest.now } by { Prim.hlevel props },
+    ghost is_dead: { IsDead (chars rest.now) dead },
+    pub ghost meaning: { OneMeaning (many item_class) (chars rest.now) } by { OneItems-prop (chars rest.now) },
+}
+
+impl<'a> Iterator for Elements<'a> {
+    ghost use Rattle.std.specs.Iterator.{YieldsFirstBy, item_count};
+    ghost use Rattle.syslog_pieces.specs.StructuredData.Visited.{element_seen, elements_left};
+
+    type Item = Element<'a>;
+
+    ghost next_gives = { YieldsFirstBy element_seen elements_left };
+
+    ghost remaining = { item_count elements_left };
+
+    fn next(&mut self) -> Option<Element<'a>> {
+        let mut rest = self.rest;
+        let mut dead = self.dead;
+        'items: loop {
+            match walk_element(rest, dead, &mut NoNotes) {
+                Ok(found) => {
+                    self.rest = found.rest;
+                    self.dead = dead;
+                    return Some(found.element);
+                }
+                Err(failed) => {
+                    rest = after_bracketed(rest)?;
+                    dead = failed.min(dead);
+                }
+            }
+        }
+    }
+}
+
+impl<'a> Element<'a> {
+    ghost use Rattle.syslog_pieces.specs.StructuredData.Visited.{element_seen, params_left};
+
+    /// The names and the raw values of its parameters.
+    #[inline(always)]
+    pub fn params(&self) -> Params<'a>
+        ensures { params_left result ≡ (element_seen self.now).params }
+    {
+        Params { rest: self.inside }
+    }
+}
+
+impl<'a> ElementList<'a> {
+    ghost use Rattle.syslog_pieces.specs.StructuredData.Visited.{elements_left, list_elements};
+
+    /// Its strict elements.
+    #[inline(always)]
+    pub fn elements(&self) -> Elements<'a>
+        ensures { elements_left result ≡ list_elements self.now }
+    {
+        Elements {
+            rest: self.text,
+            dead: self.text.len(),
+        }
+    }
+}

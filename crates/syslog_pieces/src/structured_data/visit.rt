@@ -1,0 +1,78 @@
+//! What is made of the elements of a list while the list is recognised.
+ghost use Rattle.std.specs.Prelude.{List, [], ◌∷◌, ◌++◌};
+ghost use Rattle.std.specs.Str.{chars};
+ghost use Rattle.syslog_pieces.specs.Pieces.Class.{Text};
+ghost use Rattle.syslog_pieces.specs.StructuredData.Element.{ElementValue};
+ghost use Rattle.syslog_pieces.specs.StructuredData.Visited.{element_seen};
+
+use super::recognised::Element;
+
+/// Notes the parameters of an element while the element is walked.
+pub trait ParamNotes<'a>: Drop {
+    // these parameters were noted, as far as there is space
+    ghost noted: { Self → List (Text × Text) → Type 0 };
+
+    /// Empty notes. They are made where a list begins with `[`, so that a line with no list needs none.
+    fn new() -> Self
+        ensures { noted result [] };
+
+    /// Forgets all.
+    fn clear(&mut self)
+        ensures { noted self.new [] };
+
+    /// Notes a parameter, with its raw value.
+    fn push(&mut self, name: &'a str, value: &'a str)
+        ensures { (ps : List (Text × Text)) → noted self.old ps
+            → noted self.new (ps ++ ((chars name.entry.now, chars value.entry.now) ∷ [])) };
+}
+
+/// Makes something of the elements of a list while the list is recognised.
+pub trait ElementVisitor<'a> {
+    /// What it notes of an element before that has ended.
+    type Notes: ParamNotes<'a>;
+
+    // it was given these elements
+    ghost was_given: { Self → List ElementValue → Type 0 };
+
+    /// Takes an element, whose parameters were noted.
+    fn element(&mut self, element: Element<'a>, notes: &Self::Notes)
+        requires { Self.Notes.noted notes.now (element_seen element).params }
+        ensures { (es : List ElementValue) → was_given self.old es
+            → was_given self.new (es ++ (element_seen element.entry ∷ [])) };
+}
+
+/// Notes nothing.
+#[derive(Drop)]
+pub struct NoNotes;
+
+impl<'a> ParamNotes<'a> for NoNotes {
+    ghost use Rattle.std.specs.Prelude.{⊤};
+
+    ghost noted = { λ notes ps. ⊤ };
+
+    #[inline(always)]
+    fn new() -> NoNotes {
+        NoNotes
+    }
+
+    #[inline(always)]
+    fn clear(&mut self) {}
+
+    #[inline(always)]
+    fn push(&mut self, _: &'a str, _: &'a str) {}
+}
+
+/// Makes nothing of the elements.
+#[derive(Clone, Copy)]
+pub struct NoElements;
+
+impl<'a> ElementVisitor<'a> for NoElements {
+    ghost use Rattle.std.specs.Prelude.{⊤};
+
+    type Notes = NoNotes;
+
+    ghost was_given = { λ visitor es. ⊤ };
+
+    #[inline(always)]
+    fn element(&mut self, _: Element<'a>, _: &NoNotes) {}
+}

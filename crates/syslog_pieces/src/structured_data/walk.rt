@@ -1,0 +1,117 @@
+//! The walk over an element: recognises the strict element at the front, in time linear over a list, and says whether
+//! it prints as it is.
+ghost use Rattle.std.specs.Prelude.{◌≡◌, ◌++◌, [], ◌∷◌, IfOk, IsTrue, MatchOption, MatchResult};
+ghost use Rattle.std.specs.Str.{chars, IsUtf8};
+ghost use Rattle.syslog_pieces.specs.Bodies.Closing.{IsDead, opening as opening_class};
+ghost use Rattle.syslog_pieces.specs.Bodies.Closing.{quoted as quoted_class, name_alone};
+ghost use Rattle.syslog_pieces.specs.Pieces.Class.{Front, NoFront, run};
+ghost use Rattle.syslog_pieces.specs.Pieces.View.{shown};
+ghost use Rattle.syslog_pieces.specs.StructuredData.{element as element_class};
+ghost use Rattle.syslog_pieces.specs.StructuredData.Visited.{IsWalked, element_seen};
+ghost use Rattle.syslog_pieces.specs.Text as spec;
+
+use super::recognise::{live_value, nonempty_run};
+use super::recognised::Element;
+use super::visit::ParamNotes;
+use crate::text::{CharClass, blanks, literal, past_space};
+
+/// A strict element at the front of a text.
+#[derive(Clone, Copy)]
+pub(super) struct Walked<'a> {
+    pub(super) element: Element<'a>,
+    pub(super) rest: &'a str,
+    /// Whether it prints as it is; it may be `false` though it does.
+    pub(super) prints: bool,
+}
+
+// The text after the blanks at the front, and whether these are one space.
+#[inline(always)]
+fn gap(text: &str) -> (&str, bool)
+    ensures blanks { Front (run spec.is_blank) (chars text.now) (shown result.0) tt }
+    ensures space { IsTrue result.1 → chars text.now ≡ 32 ∷ shown result.0 }
+{
+    match past_space(text) {
+        Some(rest) => (rest, true),
+        None => (blanks(text), false),
+    }
+}
+
+// The name of the parameter at the front, the text after the quote that opens its value, and whether no blank stands
+// after its `=`.
+#[inline(always)]
+fn open_param(text: &str) -> Option<(&str, &str, bool)>
+    ensures { MatchOption result (NoFront opening_class (chars text.now)) (λ x.
+        Front opening_class (chars text.now) (shown x.1) (name_alone (shown x.0))
+        × (IsTrue x.2 → chars text.now ≡ shown x.0 ++ (61 ∷ 34 ∷ shown x.1))) }
+{
+    let (name, after_name) = nonempty_run(text, CharClass::Name)?;
+    let after_equals = literal(after_name, '=')?;
+    if let Some(value) = literal(after_equals, '"') {
+        return Some((name, value, true));
+    }
+    let value = literal(blanks(after_equals), '"')?;
+    Some((name, value, false))
+}
+
+// The value whose closing quote stands before the rest.
+#[tactic(auto, using(crate::proofs::StructuredDataLemmas::Closing::quoted_value))]
+#[inline(always)]
+fn value_before<'a>(text: &'a str, rest: &str) -> &'a str
+    requires { (v : quoted_class.Value) × Front quoted_class (chars text.now) (chars rest.now) v }
+    ensures { Front quoted_class (chars text.now) (chars rest.now) (shown result, (tt, tt)) }
+{
+    let (value, _) = text.split_at(text.len() - rest.len() - 1);
+    value
+}
+
+/// Walks the strict element at the front, and notes its parameters. A refusal has a number as that of `live_value`.
+#[inline(always)]
+pub(super) fn walk_element<'a, N: ParamNotes<'a>>(
+    text: &'a str,
+    dead: usize,
+    notes: &mut N,
+) -> Result<Walked<'a>, usize>
+    requires { IsDead (chars text.now) dead }
+    ensures walked { MatchResult result (λ w. IsWalked (chars text.now) w)
+        (λ d. NoFront element_class (chars text.now) × IsDead (chars text.now) d) }
+    ensures noted { IfOk result (λ w. N.noted notes.new (element_seen w.element).params) }
+{
+    let Some(opened) = literal(text, '[') else {
+        return Err(dead);
+    };
+    let Some((id, after_id)) = nonempty_run(opened, CharClass::Id) else {
+        return Err(dead);
+    };
+    notes.clear();
+    let (inside, stands) = gap(after_id);
+    if let Some(rest) = literal(inside, ']') {
+        return Ok(Walked {
+            element: Element::new(id, inside, 0),
+            rest,
+            prints: inside.len() == after_id.len(),
+        });
+    }
+    let mut prints = stands;
+    let mut count = 0;
+    let mut at = inside;
+    'params: loop {
+        let Some((name, opened, stands)) = open_param(at) else {
+            return Err(at.len());
+        };
+        let after = live_value(opened, dead)?;
+        notes.push(name, value_before(opened, after));
+        prints &= stands;
+        count += 1;
+        if let Some(rest) = literal(after, ']') {
+            return Ok(Walked {
+                element: Element::new(id, inside, count),
+                rest,
+                prints,
+            });
+        }
+        let Some(next) = literal(after, ' ') else {
+            return Err(after.len());
+        };
+        at = next;
+    }
+}
