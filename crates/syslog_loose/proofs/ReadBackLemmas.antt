@@ -1,5 +1,5 @@
 -- The printed text of a message, read under `Either` or the message's own variant.
-use Rattle.std.proofs.Common.{◌≡◌, ℕ, ◌↔◌, inl, inr, ℤ, List, Option, None, Result, Ok, Err, refl, sym, ap, subst, ◌∙◌}
+use Rattle.std.proofs.Common.{◌≡◌, ℕ, ◌↔◌, inl, inr, ℤ, List, Option, Result, Ok, Err, refl, sym, ap, subst, ◌∙◌}
 use Rattle.std.proofs.lemmas.Str.{encodes-chars}
 use Rattle.std.specs.Prelude.{IfOk, MatchResult, String, string_bytes}
 use Rattle.std.specs.Str.{chars, IsUtf8, encode_utf8_all}
@@ -8,15 +8,13 @@ use Rattle.std.specs.Borrow.{Bor}
 use Rattle.jiff.specs.declared.tz.timezone.TimeZone.{TimeZone}
 use Rattle.syslog_pieces.specs.Pieces.Class.{Text}
 use Rattle.syslog_pieces.specs.Timestamp.Zone.{Dating, dating_of}
-use Rattle.syslog_pieces.specs.declared.timestamp.month_date.MonthDate.{MonthDate}
 use Rattle.syslog_loose.specs.Canonical.{IsBounded, IsCanonical}
 use Rattle.syslog_loose.specs.Message.{MessageValue}
 use Rattle.syslog_loose.specs.Printed.{printed}
 use Rattle.syslog_loose.specs.ReadBack.{ReadsProtocol, AnswersItself, FieldsAsRead, IsFixed, AnswersAgain}
 use Rattle.syslog_loose.specs.Reading.{dash_rule, IsRead, IsOnlyRead, IsUnreadable, Answers}
-use Rattle.syslog_loose.specs.Reading.{IncompleteDate, AsksYear, IsYearAnswered, InYear}
+use Rattle.syslog_loose.specs.Reading.{IncompleteDate, IsYearAnswered, InYear}
 use Rattle.syslog_loose.specs.Rfc5424.{IsNot5424}
-use Rattle.syslog_loose.specs.Settling.{IsNext}
 use Rattle.syslog_loose.specs.declared.fault.ParseFault.{ParseFault}
 use Rattle.syslog_loose.specs.declared.fault.ParseFault.TheVariants.{Invalid, Memory}
 use Rattle.syslog_loose.specs.declared.message.Protocol.{Protocol}
@@ -24,7 +22,7 @@ use Rattle.syslog_loose.specs.declared.message.Protocol.TheVariants as protocol
 use Rattle.syslog_loose.specs.declared.variant.Variant.{Variant}
 use Rattle.syslog_loose.specs.declared.variant.Variant.TheVariants.{Either, RFC3164, RFC5424}
 use Rattle.syslog_loose.proofs.BoundLemmas.{read_as}
-use Rattle.syslog_loose.proofs.ReadingLemmas.{Found, value, only_read, any_year, in_answered_year, answers_in}
+use Rattle.syslog_loose.proofs.ReadingLemmas.{Found, value, answers_in}
 use Rattle.syslog_loose.proofs.ReadingLemmas.{in_year_map}
 use Rattle.syslog_loose.proofs.Rfc3164Lemmas.Exact.{rfc3164_exact}
 use Rattle.syslog_loose.proofs.Rfc3164Lemmas.Near.{read_near, read_nearly, stamp_read}
@@ -160,39 +158,6 @@ abbrev Normalises : Variant → (Option ℤ → Dating) → List ℕ → Result 
 Normalises variant dated bytes r year = MatchResult r (λ text. (m : MessageValue)
     × IsOnlyRead variant (dated year) (chars bytes) m × (string_bytes text ≡ encode_utf8_all (printed m)))
     (λ fault. (fault ≡ Invalid) ↔ IsUnreadable variant (dated year) (chars bytes))
-
-any_normalised : (variant : Variant) (tz : Option (Bor TimeZone)) (local : Bor TimeZone) (bytes : List ℕ)
-    (r : Result (String Global) ParseFault) → ((date : MonthDate) → AsksYear variant (chars bytes) date → ⊥)
-    → (other : Option ℤ) → Normalises variant (λ y. dating_of y tz local) bytes r None
-    → Normalises variant (λ y. dating_of y tz local) bytes r other
-any_normalised variant tz local bytes (Ok text) never other (m, only, written) = (
-  m,
-  only_read variant (dating_of other tz local) (chars bytes) m
-      (any_year variant (chars bytes) tz local None other m never only.read),
-  written,
-)
-any_normalised variant tz local bytes (Err fault) never other told = (
-  (λ e m r. told.0 e m (any_year variant (chars bytes) tz local other None m never r)),
-  (λ u. told.1 (λ m r. u m (any_year variant (chars bytes) tz local None other m never r))),
-)
-
-pub normalised_in : (post : IncompleteDate → ℤ → Type 0) (variant : Variant) (tz : Option (Bor TimeZone))
-    (local : Bor TimeZone) (bytes : List ℕ) (r : Result (String Global) ParseFault) (year : Option ℤ)
-    → IsYearAnswered post variant (chars bytes) year → Normalises variant (λ y. dating_of y tz local) bytes r year
-    → InYear post variant (chars bytes) (Normalises variant (λ y. dating_of y tz local) bytes r)
-normalised_in post variant tz local bytes r year is h =
-    in_answered_year post variant (chars bytes) (Normalises variant (λ y. dating_of y tz local) bytes r) year is
-    (any_normalised variant tz local bytes r) h
-
--- a round that is written is what it answers
-pub normalised : (variant : Variant) (dating : Dating) (text : Text) (result : String Global)
-    → IsUtf8 (string_bytes result) → IsNext variant dating text (chars (string_bytes result))
-    → (m : MessageValue) × IsOnlyRead variant dating text m × (string_bytes result ≡ encode_utf8_all (printed m))
-normalised variant dating text result u next = (
-  next.message,
-  only_read variant dating text next.message next.read,
-  sym (encodes-chars (string_bytes result) u) ∙ ap encode_utf8_all next.is_printed,
-)
 
 pub again_in : (post : IncompleteDate → ℤ → Type 0) (variant : Variant) (dated : Option ℤ → Dating) (bytes : List ℕ)
     → IsUtf8 bytes → (r : Result (String Global) ParseFault)

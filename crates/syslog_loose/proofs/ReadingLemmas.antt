@@ -2,8 +2,7 @@
 use Rattle.std.proofs.Common.{◌≡◌, ◌≢◌, ◌↔◌, inl, inr, ℕ, ℤ, List, Option, Some, None, Result, Ok, Err, w32}
 use Rattle.std.proofs.Common.{SFits, to_z, of_z, refl, sym, ap, subst, ◌∙◌}
 use Rattle.std.proofs.lemmas.Int.{to_z-of_z}
-use Rattle.std.specs.Prelude.{IsOk, MatchOption, IsSomeAnd}
-use Rattle.std.specs.declared.alloc.AllocError.{AllocError}
+use Rattle.std.specs.Prelude.{MatchOption, IsSomeAnd}
 use Rattle.std.specs.Borrow.{Bor}
 use Rattle.jiff.specs.declared.tz.timezone.TimeZone.{TimeZone}
 use Rattle.syslog_pieces.specs.Pieces.Class.{Text}
@@ -11,9 +10,9 @@ use Rattle.syslog_pieces.specs.Pieces.View.{shown}
 use Rattle.syslog_pieces.specs.Timestamp.Zone.{Dating, dating_of}
 use Rattle.syslog_pieces.specs.declared.timestamp.month_date.MonthDate.{MonthDate}
 use Rattle.syslog_loose.specs.Message.{MessageValue, message_value}
-use Rattle.syslog_loose.specs.Reading.{dash_rule, IsRead, IsOnlyRead, IsUnreadable, IsQuoted, IsFault, Answers}
-use Rattle.syslog_loose.specs.Reading.{IncompleteDate, incomplete, AsksYear, IsLeftTo3164, IsYearAnswered, InYear}
-use Rattle.syslog_loose.specs.Rfc5424.{IsRead5424, NeedsNoMemory5424}
+use Rattle.syslog_loose.specs.Reading.{dash_rule, IsRead, IsOnlyRead, IsQuoted, Answers}
+use Rattle.syslog_loose.specs.Reading.{IncompleteDate, incomplete, AsksYear, IsYearAnswered, InYear}
+use Rattle.syslog_loose.specs.Rfc5424.{IsRead5424}
 use Rattle.syslog_loose.specs.declared.message.Message.{Message}
 use Rattle.syslog_loose.specs.declared.fault.ParseFault.{ParseFault}
 use Rattle.syslog_loose.specs.declared.fault.ParseFault.TheVariants.{Invalid, Memory}
@@ -54,9 +53,6 @@ only_read variant dating text m r =
     record { read = r; only = λ n s. read_once variant dating text n m s r; quoted = quoted variant dating text m r }
 
 -- ---- from the headers
-pub either_read : (dating : Dating) (text : Text) (m : MessageValue) → IsRead5424 text m
-    → IsOnlyRead Either dating text m
-either_read dating text m r = only_read Either dating text m (inl r)
 
 -- a reading by RFC 5424 is one by each variant that reads it
 pub strictly : (variant : Variant) (dating : Dating) {text : Text} {m : MessageValue} → variant ≢ RFC3164
@@ -64,29 +60,6 @@ pub strictly : (variant : Variant) (dating : Dating) {text : Text} {m : MessageV
 strictly RFC3164 dating n r = absurd (n refl)
 strictly RFC5424 dating n r = r
 strictly Either dating n r = inl r
-
--- memory was refused to RFC 5424
-pub either_refused : (dating : Dating) (text : Text) → (NeedsNoMemory5424 text → ⊥) → IsFault Either dating text Memory
-either_refused dating text wanted needless = wanted (λ m r. needless m (inl r))
-
--- what RFC 3164 answers where it is left to try
-pub left_answer : (variant : Variant) (dating : Dating) (text : Text) (r : Result Found ParseFault)
-    → IsLeftTo3164 variant text
-    → Answers RFC3164 dating text r → Answers variant dating text r
-left_answer RFC5424 dating text r left h = absurd left
-left_answer RFC3164 dating text r left h = h
-left_answer Either dating text (Ok m) none h = only_read Either dating text (value m) (inr (none, h.read))
-left_answer Either dating text (Err Invalid) none h =
-    λ m r. elim r [ inl s ↦ none s.values s.division | inr (also, s) ↦ h m s ]
-left_answer Either dating text (Err Memory) none h = λ needless. h (λ m s. needless m (inr (none, s)))
-
--- an `Err` is not `Ok`
-pub no_ok : {X : Type 0} (r : Result X AllocError) (e : AllocError) → r ≡ Err e → IsOk r → ⊥
-no_ok (Ok x) e is h = cc
-no_ok (Err x) e is h = cc
-
-pub refused : {X : Type 0} (r : Result X AllocError) (e : AllocError) {P : Type 0} → r ≡ Err e → (P → IsOk r) → P → ⊥
-refused r e is h p = no_ok r e is (h p)
 
 -- ---- the year
 
@@ -120,19 +93,6 @@ in_answered_year post variant text Holds None is any h =
     record { answered = None; is_answered = is; holds = λ other agrees. any is other h }
 in_answered_year post variant text Holds (Some year) is any h =
     record { answered = Some year; is_answered = is; holds = λ other agrees. subst Holds (sym (agrees is.0 is.1)) h }
-
--- a fault that tells in the year that the closure answered whether the text is unreadable
-pub fault_in : (post : IncompleteDate → ℤ → Type 0) (variant : Variant) (text : Text) (tz : Option (Bor TimeZone))
-    (local : Bor TimeZone) (fault : ParseFault) (year : Option ℤ)
-    → IsYearAnswered post variant text year → (fault ≡ Invalid) ↔ IsUnreadable variant (dating_of year tz local) text
-    → InYear post variant text (λ y. (fault ≡ Invalid) ↔ IsUnreadable variant (dating_of y tz local) text)
-fault_in post variant text tz local fault year is h =
-    in_answered_year post variant text
-    (λ y. (fault ≡ Invalid) ↔ IsUnreadable variant (dating_of y tz local) text) year is
-    (λ never other told. (
-      (λ e m r. told.0 e m (any_year variant text tz local other None m never r)),
-      (λ u. told.1 (λ m r. u m (any_year variant text tz local None other m never r))),
-    )) h
 
 pub answers_in : (post : IncompleteDate → ℤ → Type 0) (variant : Variant) (text : Text) (tz : Option (Bor TimeZone))
     (local : Bor TimeZone) (r : Result Found ParseFault) (year : Option ℤ)
@@ -194,14 +154,3 @@ in_year_told {post = post} {told = told} {variant = variant} {text = text} h tel
 -- ---- faults
 pub invalid_or_memory : Memory ≡ Invalid → ⊥
 invalid_or_memory e = cc
-
-pub fault_tells : (variant : Variant) (dating : Dating) (text : Text) (fault : ParseFault)
-    → IsFault variant dating text fault → (fault ≡ Invalid) ↔ IsUnreadable variant dating text
-fault_tells variant dating text Invalid unreadable = (λ e. unreadable, λ u. refl)
-fault_tells variant dating text Memory wanted =
-    (λ e. absurd (invalid_or_memory e), λ u. absurd (wanted (λ m r. absurd (u m r))))
-
--- a readable text is no invalid one
-pub memory_tells : (variant : Variant) (dating : Dating) (text : Text) (m : MessageValue)
-    → IsOnlyRead variant dating text m → (Memory ≡ Invalid) ↔ IsUnreadable variant dating text
-memory_tells variant dating text m r = (λ e. absurd (invalid_or_memory e), λ u. absurd (u m r.read))

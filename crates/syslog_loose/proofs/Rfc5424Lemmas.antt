@@ -3,7 +3,6 @@ pub mod ReadBack
 use Rattle.std.proofs.Common.{◌≡◌, [], ◌∷◌, refl, sym, ap, subst, ◌∙◌}
 use Rattle.std.specs.List.{flat_map}
 use Rattle.syslog_pieces.specs.Pieces.Class.{Text, Values, Front, NoFront, Row, run, some_run, optional}
-use Rattle.syslog_pieces.specs.StructuredData.{NeedsNoMemory}
 use Rattle.syslog_pieces.specs.Text.{trimmed, is_blank, number}
 use Rattle.syslog_pieces.specs.Pieces.Parts.{AreInPieces, text_list, process_texts}
 use Rattle.syslog_pieces.specs.Timestamp.{header_stamp}
@@ -11,20 +10,18 @@ use Rattle.syslog_pieces.specs.StructuredData.Element.{element_texts}
 use Rattle.syslog_pieces.specs.Pri.{priority}
 use Rattle.syslog_pieces.proofs.PieceLemmas.Class.{AllDeterministic, unique_division, front_division, no_row_division}
 use Rattle.syslog_pieces.proofs.PieceLemmas.Class.{optional_det, some_run_det, run_det, rest_det}
-use Rattle.syslog_pieces.proofs.PieceLemmas.Class.{rows_join, rest_front, ◌also◌, all_joined}
-use Rattle.syslog_pieces.proofs.TextLemmas.Runs.{some_front_run}
+use Rattle.syslog_pieces.proofs.PieceLemmas.Class.{◌also◌, all_joined}
 use Rattle.syslog_pieces.proofs.StructuredDataLemmas.Elements.{forgiving_det}
 use Rattle.syslog_pieces.proofs.StructuredDataLemmas.ElementParts.{forgiving_quotes}
 use Rattle.syslog_pieces.proofs.PieceLemmas.Parts.{Quoted, row_quotes, silent, rest_quotes, host_quotes, word_quotes}
 use Rattle.syslog_pieces.proofs.PieceLemmas.Parts.{process_quotes}
-use Rattle.syslog_pieces.proofs.PieceLemmas.Rows.{row_of, ◌then◌}
+use Rattle.syslog_pieces.proofs.PieceLemmas.Rows.{◌then◌}
 use Rattle.syslog_pieces.proofs.PriLemmas.{priority_det}
 use Rattle.syslog_pieces.proofs.ProcIdLemmas.{process_word_det}
 use Rattle.syslog_pieces.proofs.TimestampLemmas.Piece.{header_stamp_det}
 use Rattle.syslog_pieces.proofs.TextLemmas.Words.{number_det, host_det, word_det}
 use Rattle.syslog_loose.specs.Message.{MessageValue, message_texts}
 use Rattle.syslog_loose.specs.Rfc5424.{header_row, data_row, rfc5424_row, message_of, IsRead5424, IsNot5424, Quotes5424}
-use Rattle.syslog_loose.specs.Rfc5424.{NeedsNoMemory5424}
 
 pub header_det : AllDeterministic header_row
 header_det =
@@ -51,15 +48,6 @@ pub is_read : (text t : Text) (vs : Values rfc5424_row) (m : MessageValue) → t
     → Front (Row rfc5424_row) t [] vs → IsRead5424 text m
 is_read text t vs m e f g =
     record { values = vs; division = rw e at (front_division rfc5424_row g); means = f }
-
--- Behind a header and blanks, a list with elements gives a message with elements.
-pub list_needs_none : (text t u w : Text) (vs : Values header_row) → t ≡ trimmed text → NeedsNoMemory5424 text
-    → Front (Row header_row) t u vs → Front (run is_blank) u w tt → NeedsNoMemory w
-list_needs_none text t u w vs e none header gap q es list =
-    let (r, behind) = some_front_run is_blank q in
-    let row = rows_join header_row data_row header
-    (row_of data_row (gap then list then behind then rest_front r then refl)) in
-    none _ (is_read text t _ _ e refl row)
 
 -- ---- the texts of a message are in the pieces
 quoted_row : Quoted rfc5424_row

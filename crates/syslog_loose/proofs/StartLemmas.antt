@@ -1,51 +1,40 @@
 -- What the pieces at the front of a text tell of its readings.
-use Rattle.std.proofs.Common.{◌≡◌, ◌≢◌, inl, inr, ℕ, ℤ, Bool, List, Option, Some, None, Ok, Err, false}
+use Rattle.std.proofs.Common.{◌≡◌, ◌≢◌, inl, inr, ℕ, ℤ, List, Option, Some, None, Err, false}
 use Rattle.std.proofs.Common.{true, refl, sym, ap}
-use Rattle.std.proofs.Common.{subst, ◌∙◌, ◌∷◌, ◌++◌, append_assoc, arith}
-use Rattle.std.proofs.lemmas.Str.{encodes-append, encodes-chars}
+use Rattle.std.proofs.Common.{subst, ◌∙◌, ◌∷◌, ◌++◌, arith}
 use Rattle.std.specs.Borrow.{Bor}
-use Rattle.std.specs.Char.{encode_utf8}
-use Rattle.std.specs.Prelude.{◌↔◌, IfSome, MatchOption, IsSome, IsSomeAnd}
-use Rattle.std.specs.Str.{chars, encode_utf8_all, IsUtf8}
+use Rattle.std.specs.Prelude.{◌↔◌, MatchOption, IsSome, IsSomeAnd}
 use Rattle.syslog_pieces.specs.Pieces.View.{shown, Reads}
 use Rattle.syslog_pieces.specs.Pieces.Class.{Text, Class, Front, NoFront, run, optional}
-use Rattle.syslog_pieces.specs.Pri.{priority, priority_text}
+use Rattle.syslog_pieces.specs.Pri.{priority}
 use Rattle.syslog_pieces.specs.Text.{trimmed, is_blank}
 use Rattle.syslog_pieces.specs.Timestamp.{IsAnswer, clock_value, header_stamp, stamp_seen}
-use Rattle.syslog_pieces.specs.Timestamp.Canonical.{IsCanonicalStamp}
 use Rattle.syslog_pieces.specs.Timestamp.Rfc3164.{rfc3164_stamp, ShowsYearless, ShowsMonthDate}
 use Rattle.syslog_pieces.specs.Timestamp.MonthDate.{yearless_date, month_date}
-use Rattle.syslog_pieces.specs.Timestamp.Zone.{Dating, IsMonthStamp, dating_of}
-use Rattle.syslog_pieces.specs.declared.timestamp.OffsetTimestamp.{OffsetTimestamp}
+use Rattle.syslog_pieces.specs.Timestamp.Zone.{Dating, IsMonthStamp}
 use Rattle.syslog_pieces.specs.declared.timestamp.clock.ClockStamp.{ClockStamp}
 use Rattle.syslog_pieces.specs.declared.timestamp.month_date.MonthDate.{MonthDate}
 use Rattle.syslog_pieces.proofs.PieceLemmas.Class.{front_same, optional_det, run_det}
 use Rattle.syslog_pieces.proofs.PieceLemmas.Kinds.{Begins, begins_apart}
 use Rattle.syslog_pieces.proofs.PieceLemmas.Rows.{row_of, ◌then◌, no_row, ◌past◌}
 use Rattle.syslog_pieces.proofs.PriLemmas.{priority_det}
-use Rattle.syslog_pieces.proofs.TextLemmas.Decimals.{encodes-decimal}
 use Rattle.syslog_pieces.proofs.TextLemmas.Runs.{some_front_run}
 use Rattle.syslog_pieces.proofs.TimestampLemmas.MonthDate.{month_date_begins}
 use Rattle.syslog_pieces.proofs.TimestampLemmas.Months.{IsLetter}
 use Rattle.syslog_pieces.proofs.TimestampLemmas.Rfc3164.{IsLow, date_front, header_front, header_stamp_begins, no_date}
 use Rattle.syslog_pieces.proofs.TimestampLemmas.Rfc3164.{no_stamp_of_date}
-use Rattle.syslog_loose.specs.Formats.{printed_number}
-use Rattle.syslog_loose.specs.Message.{MessageValue}
-use Rattle.syslog_loose.specs.Printed.{timestamp_text}
 use Rattle.syslog_loose.specs.ReadBack.{ReadsProtocol}
 use Rattle.syslog_loose.specs.Reading.{dash_rule, incomplete, Answers, AsksYear, IncompleteDate, IsLeftTo3164, HasMonth}
-use Rattle.syslog_loose.specs.Reading.{IsRead, IsUnreadable, IsYearAnswered}
-use Rattle.syslog_loose.specs.Rfc3164.{stamped_row, IsRead3164, IsNot3164, NeedsNoMemory3164}
-use Rattle.syslog_loose.specs.Rfc5424.{IsRead5424, IsNot5424, NeedsNoMemory5424}
+use Rattle.syslog_loose.specs.Reading.{IsYearAnswered}
+use Rattle.syslog_loose.specs.Rfc3164.{stamped_row, IsNot3164}
+use Rattle.syslog_loose.specs.Rfc5424.{IsNot5424}
 use Rattle.syslog_loose.specs.Start.{IsBehindPriority, BeginsWith, BeginsWithout}
 use Rattle.syslog_loose.specs.View3164.{IsBehindStamp}
-use Rattle.syslog_loose.specs.declared.fault.ParseFault.TheVariants.{Invalid, Memory}
+use Rattle.syslog_loose.specs.declared.fault.ParseFault.TheVariants.{Invalid}
 use Rattle.syslog_loose.specs.declared.message.Protocol.TheVariants as protocol
-use Rattle.jiff.specs.declared.tz.timezone.TimeZone.{TimeZone}
 use Rattle.syslog_loose.specs.declared.variant.Variant.{Variant}
 use Rattle.syslog_loose.specs.declared.variant.Variant.TheVariants.{Either, RFC3164, RFC5424}
-use Rattle.syslog_loose.proofs.ReadingLemmas.{Found, answered_to, value, either_read, either_refused, left_answer}
-use Rattle.syslog_loose.proofs.ReadingLemmas.{invalid_or_memory, only_read}
+use Rattle.syslog_loose.proofs.ReadingLemmas.{answered_to}
 use Rattle.syslog_loose.proofs.Rfc3164Lemmas.Apart.{shown_apart}
 use Rattle.syslog_loose.proofs.Rfc3164Lemmas.Reading.{not_read}
 use Rattle.syslog_loose.proofs.Rfc3164Lemmas.Shown.{date_has_month, shows_month_date, shown_once, shown_parts, shows}
@@ -107,14 +96,6 @@ asked_month d None x f h is = cc
 asked_month d (Some y) x f (none, e) is =
     let same : y ≡ x = cc in subst HasMonth (sym e ∙ same) (date_has_month d (yearless d f none))
 
--- What is known where a timestamp was read: the year that was answered, that RFC 3164 is left to try, and what is read.
-pub record IsStamped (post : IncompleteDate → ℤ → Type 0) (variant : Variant) (text : Text)
-    (tz : Option (Bor TimeZone)) (local : Bor TimeZone) (year : Option ℤ) (priority : Option ℕ)
-    (timestamp : Option ClockStamp) (follows : Text) : Type 0 where
-  pub answered : IsYearAnswered post variant text year
-  pub left : IsLeftTo3164 variant text
-  pub front : IsBehindStamp (dating_of year tz local) (trimmed text) priority timestamp follows
-
 module _ (variant : Variant) (text : Text) {follows : Text} {p : Option ℕ}
     (f : IsBehindPriority (trimmed text) p follows) where
   module _ {q : Text} (d : MonthDate) (b : BeginsWith month_date variant follows d q) where
@@ -170,18 +151,6 @@ module _ (variant : Variant) (text : Text) {follows : Text} {p : Option ℕ}
     dated_front dating c h =
         row_of (stamped_row dating) (f then b.gap then date_front dating (clock_value c) b.front h then refl)
 
-    pub dated_known : (post : IncompleteDate → ℤ → Type 0) (tz : Option (Bor TimeZone)) (local : Bor TimeZone)
-        (asked : Option IncompleteDate) (year : Option ℤ) (c : ClockStamp)
-        → MatchOption asked (IsSome d.year) (λ x. (d.year ≡ None) × (x ≡ incomplete d))
-        → MatchOption asked (year ≡ None) (λ x. IsSomeAnd year (λ y. post x y))
-        → IsMonthStamp (dating_of year tz local) d (clock_value c)
-        → IsStamped post variant text tz local year p (Some c) q
-    dated_known post tz local asked year c told is h = record {
-      answered = date_answered post asked year told is;
-      left = dated_left;
-      front = dated_front (dating_of year tz local) c h;
-    }
-
   -- no month date stands there
   module _ (without : BeginsWithout month_date variant follows) where
     pub asks_none : (d : MonthDate) → AsksYear variant text d → ⊥
@@ -207,35 +176,3 @@ module _ (variant : Variant) (text : Text) {follows : Text} {p : Option ℕ}
         → BeginsWith header_stamp variant follows (stamp_seen v) q
         → IsBehindStamp dating (trimmed text) p v q
     other_front dating v b = row_of (stamped_row dating) (f then b.gap then header_front dating b.front then refl)
-
-    pub other_known : (post : IncompleteDate → ℤ → Type 0) (tz : Option (Bor TimeZone)) (local : Bor TimeZone)
-        {q : Text} (v : Option ClockStamp)
-        → BeginsWith header_stamp variant follows (stamp_seen v) q → (variant ≢ RFC3164 → IsNot5424 text)
-        → IsStamped post variant text tz local None p v q
-    other_known post tz local v b strict = record {
-      answered = asks_none;
-      left = left_to_try variant text b.reads strict;
-      front = other_front (dating_of None tz local) v b;
-    }
-
--- ---- what the readers of the two protocols answer
-pub stamped_read : (variant : Variant) (dating : Dating) (text : Text) (m : Found) → IsLeftTo3164 variant text
-    → IsRead3164 dash_rule dating text (value m) → Answers variant dating text (Ok m)
-stamped_read variant dating text m left r =
-    left_answer variant dating text (Ok m) left (only_read RFC3164 dating text (value m) r)
-
-pub stamped_refused : (variant : Variant) (dating : Dating) (text : Text) → IsLeftTo3164 variant text
-    → (NeedsNoMemory3164 dash_rule dating text → ⊥) → Answers variant dating text (Err Memory)
-stamped_refused variant dating text left wanted = left_answer variant dating text (Err Memory) left wanted
-
-pub strict_read : (variant : Variant) → variant ≢ RFC3164 → (dating : Dating) (text : Text) (m : Found)
-    → IsRead5424 text (value m) → Answers variant dating text (Ok m)
-strict_read RFC5424 not dating text m r = only_read RFC5424 dating text (value m) r
-strict_read RFC3164 not dating text m r = absurd (not refl)
-strict_read Either not dating text m r = either_read dating text (value m) r
-
-pub strict_refused : (variant : Variant) → variant ≢ RFC3164 → (dating : Dating) (text : Text)
-    → (NeedsNoMemory5424 text → ⊥) → Answers variant dating text (Err Memory)
-strict_refused RFC5424 not dating text wanted = wanted
-strict_refused RFC3164 not dating text wanted = absurd (not refl)
-strict_refused Either not dating text wanted = either_refused dating text wanted

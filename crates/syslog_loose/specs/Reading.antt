@@ -5,7 +5,6 @@ use Rattle.std.specs.declared.alloc.AllocError.{AllocError}
 use Rattle.jiff.specs.Types.{UTC}
 use Rattle.syslog_pieces.specs.Pieces.Class.{Text}
 use Rattle.syslog_pieces.specs.Pieces.View.{shown}
-use Rattle.syslog_pieces.specs.Text.{trimmed}
 use Rattle.syslog_pieces.specs.Timestamp.Rfc3164.{ShowsYearless}
 use Rattle.syslog_pieces.specs.Timestamp.Zone.{Dating}
 use Rattle.syslog_pieces.specs.declared.structured_data.rfc3164_list.DashRule.{DashRule}
@@ -57,11 +56,6 @@ pub record IsOnlyRead (variant : Variant) (dating : Dating) (text : Text) (m : M
 -- The text has no reading, or one without elements: it has no list, or one that is `-` or broken elements alone.
 abbrev pub NeedsNoMemory : Variant → Dating → Text → Type 0
 NeedsNoMemory variant dating text = (m : MessageValue) → IsRead variant dating text m → m.structured_data ≡ []
-
--- Each call trims its text once. The steps behind it are given what is left, and promise what they do of each text of
--- which that is left.
-abbrev pub OfTrimmed : Text → (Text → Type 0) → Type 0
-OfTrimmed left Holds = (text : Text) → left ≡ trimmed text → Holds text
 
 -- ---- the year and the zones of a call
 

@@ -105,7 +105,3 @@ IsNot3164 rule dating text = NoDivision (rfc3164_row rule dating) (trimmed text)
 pub record Quotes3164 (rule : DashRule) (dating : Dating) (text : Text) (m : MessageValue) : Type 0 where
   pub read : IsRead3164 rule dating text m
   pub each : AreInPieces read.division.pieces (message_texts m)
-
--- whatever message the text is read as has no elements
-abbrev pub NeedsNoMemory3164 : DashRule → Dating → Text → Type 0
-NeedsNoMemory3164 rule dating text = (m : MessageValue) → IsRead3164 rule dating text m → m.structured_data ≡ []

@@ -56,7 +56,3 @@ IsNot5424 text = NoDivision rfc5424_row (trimmed text)
 pub record Quotes5424 (text : Text) (m : MessageValue) : Type 0 where
   pub read : IsRead5424 text m
   pub each : AreInPieces read.division.pieces (message_texts m)
-
--- whatever message the text is read as has no elements
-abbrev pub NeedsNoMemory5424 : Text → Type 0
-NeedsNoMemory5424 text = (m : MessageValue) → IsRead5424 text m → m.structured_data ≡ []

@@ -1,6 +1,6 @@
 //! Rounds, until the text no longer changes.
 //!
-//! A message of RFC 3164 that has an exception weighs less each time that what was printed of it is read again, and no
+//! A message of RFC 3164 that has a quirk weighs less each time that what was printed of it is read again, and no
 //! more than its text has characters at first: so this ends.
 ghost use Rattle.std.specs.Prelude.{IfOk, string_bytes};
 ghost use Rattle.std.specs.Str.{chars};

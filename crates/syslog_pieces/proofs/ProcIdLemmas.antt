@@ -1,8 +1,6 @@
 -- Numbers and names as process ids.
 pub mod Named
 pub mod ReadBack
-use Rattle.syslog_pieces.proofs.Names.{FitsSigned}
-use Rattle.std.proofs.Common.{negsuc}
 use Rattle.syslog_pieces.proofs.Names.{◌≡◌, ◌≢◌, ℕ, ℤ, pos, ◌<◌, ◌^◌, ◌⊎◌, inl, inr, w32, List, [], ◌∷◌, length}
 use Rattle.syslog_pieces.proofs.Names.{get_or, Some, None, Result, Ok, Err, refl, sym, ap, ◌∙◌, rules, arith}
 use Rattle.syslog_pieces.proofs.Names.{is_ascii_digit, chars, IsUtf8, IsAscii, digits_value, ParsesSigned, IsNumeral}
@@ -112,31 +110,6 @@ all_digits [] = inl tt
 all_digits (c ∷ t) = elim (cases_Bool (is_ascii_digit c)) [
   | inl y ↦ elim (all_digits t) [ inl a ↦ inl (y, a) | inr n ↦ inr (λ h. n h.1) ]
   | inr n ↦ inr (λ h. (let b = h.0 in cc))
-]
-
--- each text names a process id
-number_or_name : (t : Text) (n : ℤ) → WritesSigned t n → FitsSigned w32 n ⊎ (FitsSigned w32 n → ⊥)
-    → (p : ProcId Text) × NamesProcess t p
-number_or_name t n w (inl fits) = (PID n, (w, fits))
-number_or_name t n w (inr large) = (Name t, (λ m h. large (rw (number_same t m n h.0 w) at h.1), refl))
-
-fits_or_not : (n : ℤ) → FitsSigned w32 n ⊎ (FitsSigned w32 n → ⊥)
-fits_or_not (pos k) = elim (cases_lt k (2 ^ 31)) [
-  | inl low ↦ inl (search rules)
-  | inr high ↦ inr (λ h. omega (arith, h, high))
-]
-fits_or_not (negsuc k) = elim (cases_lt k (2 ^ 31)) [
-  | inl low ↦ inl (search rules)
-  | inr high ↦ inr (λ h. omega (arith, h, high))
-]
-
-pub names_some : (t : Text) → (p : ProcId Text) × NamesProcess t p
-names_some t = elim (all_digits (without_leading_sign t)) [
-  | inr other ↦ (Name t, (λ n h. other (digits_from _ (writes_numeral t n h.0).0).1, refl))
-  | inl each ↦ elim (cases_lt 0 (length (without_leading_sign t))) [
-    | inr empty ↦ (Name t, (λ n h. (let l = (writes_numeral t n h.0).0.0 in omega (arith, l, empty)), refl))
-    | inl some ↦ number_or_name t _ (numeral_writes t (numeral _ (some, each))) (fits_or_not _)
-  ]
 ]
 
 no_word_number : (t : Text) → IsBareWord t → (IsDigits t → ⊥) → (n : ℤ) → WritesSigned t n → ⊥

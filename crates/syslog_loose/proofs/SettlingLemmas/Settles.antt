@@ -15,7 +15,7 @@ use Rattle.syslog_loose.specs.declared.message.Protocol.{Protocol}
 use Rattle.syslog_loose.specs.declared.message.Protocol.TheVariants as protocol
 use Rattle.syslog_loose.proofs.BoundLemmas.{read_as, read_bounded}
 use Rattle.syslog_loose.proofs.ReadBackLemmas.{printed_exact, fixed_again}
-use Rattle.syslog_loose.proofs.ReadingLemmas.{read_once, invalid_or_memory, no_ok}
+use Rattle.syslog_loose.proofs.ReadingLemmas.{read_once, invalid_or_memory}
 use Rattle.std.specs.declared.alloc.AllocError.{AllocError}
 use Rattle.syslog_loose.proofs.Rfc3164Lemmas.Exceptions.{canonical_near}
 use Rattle.syslog_loose.proofs.Rfc3164Lemmas.Near.{read_near}

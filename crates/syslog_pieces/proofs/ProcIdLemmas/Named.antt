@@ -1,18 +1,16 @@
 -- The process id that a text names, computed.
-use Rattle.syslog_pieces.proofs.Names.{◌≡◌, ℤ, pos, ◌<◌, ◌^◌, ◌⊎◌, inl, inr, w32, List, [], ◌∷◌, length, true, false}
-use Rattle.syslog_pieces.proofs.Names.{refl, arith, FitsSigned, Text, Each, is_ascii_digit, IsNumeral, cases_Bool}
+use Rattle.syslog_pieces.proofs.Names.{◌≡◌, ℤ, pos, ◌<◌, ◌^◌, ◌⊎◌, w32, [], ◌∷◌, length, true, false}
+use Rattle.syslog_pieces.proofs.Names.{refl, arith, FitsSigned, Text, Each, is_ascii_digit}
 use Rattle.syslog_pieces.proofs.Names.{signed_digits_value, IsI32Text}
-use Rattle.std.proofs.Common.{negsuc, Bool, ◌&&◌, if◌then◌else◌, nat_lt}
+use Rattle.std.proofs.Common.{negsuc, Bool, ◌&&◌, if◌then◌else◌}
 use Rattle.std.proofs.lemmas.Bool.{lt-ltb}
 use Rattle.syslog_pieces.proofs.Names.{nat_tests, and_parts, and_from, sym}
-use Rattle.std.proofs.lemmas.Int.{fits_signed_from_abs}
-use Rattle.syslog_pieces.specs.declared.procid.ProcId.{ProcId}
 use Rattle.syslog_pieces.specs.declared.procid.ProcId.TheVariants.{PID, Name}
 use Rattle.std.specs.List.{list_all}
 use Rattle.std.specs.Str.Parse.{without_leading_sign}
-use Rattle.syslog_pieces.specs.ProcId.{NamesProcess, IsDigits, WritesSigned}
+use Rattle.syslog_pieces.specs.ProcId.{NamesProcess, WritesSigned}
 use Rattle.syslog_pieces.specs.ProcId.{has_32_bits, is_signed_text, named_process}
-use Rattle.syslog_pieces.proofs.ProcIdLemmas.{numeral, digits_from, numeral_writes, process_same, writes_numeral}
+use Rattle.syslog_pieces.proofs.ProcIdLemmas.{numeral, digits_from, numeral_writes, writes_numeral}
 
 each_of_all : (t : Text) → list_all is_ascii_digit t ≡ true → Each is_ascii_digit t
 each_of_all [] h = tt
@@ -56,7 +54,3 @@ named_as t false h = (no_number t (sym h), refl)
 
 pub named_names : (t : Text) → NamesProcess t (named_process t)
 named_names t = named_as t _ refl
-
--- so what a text names is that
-pub named_is : (t : Text) (process : ProcId Text) → NamesProcess t process → process ≡ named_process t
-named_is t process h = process_same t process (named_process t) h (named_names t)
