@@ -3,7 +3,7 @@
 //! The priority of a line is optional; `optional_priority` answers it and the text behind it. Nothing here takes
 //! memory.
 ghost use Rattle.std.specs.Prelude.{◌≡◌, ◌<◌, ◌≤◌, ◌+◌, ◌++◌, [], ◌∷◌, MatchOption, Some};
-ghost use Rattle.std.specs.Fmt.{WritesOnOk, decimal};
+ghost use Rattle.std.specs.Fmt.{WritesOnOk};
 ghost use Rattle.std.specs.List.{AllByRecursion};
 ghost use Rattle.std.specs.Option.{option_and_then};
 ghost use Rattle.std.specs.Str.{chars, encode_utf8_all};
@@ -14,9 +14,7 @@ ghost use Rattle.syslog_pieces.specs.Pri as spec;
 ghost use Rattle.syslog_pieces.specs.Pieces.View.{shown, Reads};
 ghost use Rattle.syslog_pieces.specs.Timestamp.Printed.{pad3};
 
-use crate::text::write_ascii::{
-    digit, three_digits as triple, two_digits as pair, write_bytes, write_number,
-};
+use crate::text::write_ascii::{digit, three_digits as triple, two_digits as pair, write_bytes};
 use crate::text::{literal, number};
 use std::fmt;
 
@@ -258,48 +256,4 @@ pub fn write_priority<W: fmt::Write>(f: &mut fmt::Formatter<W>, number: u32) -> 
         return write_bytes(f, &three_digits(number));
     }
     write!(f, "<{number}>")
-}
-
-// A priority of two digits and a version of one, and a space.
-#[inline(always)]
-fn two_digits_and_version(n: u32, version: u32) -> [u8; 6]
-    requires n { n < 100 }
-    requires version { version < 10 }
-    ensures ascii { AllByRecursion (λ b. b < 128) result }
-    ensures text { result ≡ 60 ∷ (pad2 n ++ (62 ∷ (48 + version) ∷ 32 ∷ [])) }
-{
-    let [t, o] = pair(n);
-    [b'<', t, o, b'>', digit(version), b' ']
-}
-
-// The same of three digits.
-#[inline(always)]
-fn three_digits_and_version(n: u32, version: u32) -> [u8; 7]
-    requires n { n < 1_000 }
-    requires version { version < 10 }
-    ensures ascii { AllByRecursion (λ b. b < 128) result }
-    ensures text { result ≡ 60 ∷ (pad3 n ++ (62 ∷ (48 + version) ∷ 32 ∷ [])) }
-{
-    let [h, t, o] = triple(n);
-    [b'<', h, t, o, b'>', digit(version), b' ']
-}
-
-/// Writes a priority, a version and a space, with which each line of RFC 5424 begins. Most are one piece.
-#[inline]
-pub fn write_priority_and_version<W: fmt::Write>(
-    f: &mut fmt::Formatter<W>,
-    number: u32,
-    version: u32,
-) -> fmt::Result
-    ensures { WritesOnOk W.write_str_gives f.old result (priority_text number ++ (decimal version ++ (32 ∷ []))) f.new }
-{
-    if version < 10 && number >= 10 && number < 100 {
-        return write_bytes(f, &two_digits_and_version(number, version));
-    }
-    if version < 10 && number >= 100 && number < 1_000 {
-        return write_bytes(f, &three_digits_and_version(number, version));
-    }
-    write_priority(f, number)?;
-    write_number(f, version)?;
-    f.write_str(" ")
 }

@@ -18,13 +18,11 @@ mod element;
 mod equality;
 mod escapes;
 mod line_list;
-mod list;
 mod params;
 mod recognise;
 mod recognised;
 mod recognised_items;
 pub mod rfc3164_list;
-mod verbatim;
 mod visit;
 mod walk;
 
@@ -32,14 +30,11 @@ use crate::as_str::AsStr;
 pub use collect::Collect;
 pub use escapes::unescape;
 pub use line_list::{visit_forgiving_list, visit_rfc3164_list};
-pub use list::forgiving_list;
 pub use params::ParamsIter;
-pub use recognise::after_element;
 pub use recognised::{Element, ElementList};
 pub use recognised_items::{Elements, Params};
 use std::alloc::Global;
 use std::fmt;
-pub use verbatim::printed_list;
 pub use visit::{ElementVisitor, NoElements, NoNotes, ParamNotes};
 
 /// An element: its id, and the names and the raw values of its parameters, in order. It prints as it is written, each

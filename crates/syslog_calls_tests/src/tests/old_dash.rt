@@ -5,9 +5,8 @@ use super::reading::read;
 use std::alloc::Global;
 use std::process::Abort;
 use syslog_loose::{Protocol, Variant};
-use syslog_pieces::structured_data::rfc3164_list::{
-    DASH_RULE, DashRule, begins_list, optional_list,
-};
+use syslog_pieces::structured_data::rfc3164_list::{DASH_RULE, DashRule, begins_list};
+use syslog_pieces::structured_data::{NoElements, visit_rfc3164_list};
 use syslog_pieces::text::blanks;
 
 /// Rows of a text, what stands behind its names, and what message that was then and is now.
@@ -26,8 +25,8 @@ const ROWS: [&str; 11] = [
 ];
 
 // What is left for the message behind the list.
-fn check_left(rt: &impl Abort, alloc: Global, part: &str, rule: DashRule, want: &str) {
-    let (_, rest) = optional_list(alloc, part, rule).expect(rt, part);
+fn check_left(rt: &impl Abort, part: &str, rule: DashRule, want: &str) {
+    let (_, rest) = visit_rfc3164_list(part, rule, &mut NoElements);
     check_same(rt, blanks(rest), want, part);
 }
 
@@ -35,8 +34,8 @@ fn check_row(rt: &impl Abort, alloc: Global, row: &str) {
     let (text, rest) = cells(rt, row);
     let (part, messages) = cells(rt, rest);
     let (before, now) = cells(rt, messages);
-    check_left(rt, alloc, part, DashRule::BeforeAnything, before);
-    check_left(rt, alloc, part, DASH_RULE, now);
+    check_left(rt, part, DashRule::BeforeAnything, before);
+    check_left(rt, part, DASH_RULE, now);
     check_dash_change(rt, alloc, text, Variant::Either, before != now);
     let message = read(alloc, text, Variant::Either).expect(rt, text);
     check(rt, matches!(message.protocol, Protocol::RFC3164), text);
@@ -66,8 +65,8 @@ fn was_not_canonical_with_a_dash_before_anything(rt: HostRuntime) {
         (DASH_RULE, false, "-5"),
     ] {
         check(&rt, begins_list("-5", *rule) == *begins, left);
-        let (list, rest) = optional_list(rt.alloc(), "-5", *rule).expect(&rt, left);
-        check(&rt, list.is_some() == *begins, left);
+        let (list, rest) = visit_rfc3164_list("-5", *rule, &mut NoElements);
+        check(&rt, list.text().is_empty() != *begins, left);
         check_same(&rt, rest, left, "-5");
     }
 }

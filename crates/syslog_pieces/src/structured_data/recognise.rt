@@ -15,7 +15,6 @@ ghost use Rattle.syslog_pieces.specs.Bodies.Closing.{quoted as quoted_class, id_
 ghost use Rattle.syslog_pieces.specs.Bodies.Closing.{closing, IsDead, last_char};
 ghost use Rattle.syslog_pieces.specs.StructuredData.Escapes.{TextUnit, unit_text};
 ghost use Rattle.syslog_pieces.specs.StructuredData.Rfc3164List.{full_element};
-ghost use Rattle.syslog_pieces.specs.StructuredData.{element as element_class};
 ghost use Rattle.syslog_pieces.specs.StructuredData.{bracketed as bracketed_class, IsValueUnit};
 ghost use Rattle.syslog_pieces.specs.Pieces.View.{shown, Reads, Recognises};
 
@@ -176,26 +175,6 @@ pub(super) fn live_closing(text: &str, dead: usize) -> Result<&str, usize>
     }
 }
 
-// The text behind the strict element at the front; after a refusal a number as that of `live_value`.
-#[inline(always)]
-pub(super) fn live_element(text: &str, dead: usize) -> Result<&str, usize>
-    requires { IsDead (chars text.now) dead }
-    ensures { MatchResult result
-        (λ behind. (e : element_class.Value) × Front element_class (chars text.now) (shown behind) e)
-        (λ d. NoFront element_class (chars text.now) × IsDead (chars text.now) d) }
-{
-    let Some((_, inside)) = start(text) else {
-        return Err(dead);
-    };
-    if let Some(end) = literal(inside, ']') {
-        return Ok(end);
-    }
-    let Some((_, value)) = opening(inside) else {
-        return Err(dead);
-    };
-    live_closing(value, dead)
-}
-
 // The text behind the strict element at the front, where that has a parameter.
 #[tactic(auto, using(crate::proofs::StructuredDataLemmas::Rfc3164List::no_full_opening))]
 #[inline(always)]
@@ -205,13 +184,6 @@ pub(super) fn after_full_element(text: &str) -> Option<&str>
     let (_, inside) = start(text)?;
     let (_, value) = opening(inside)?;
     live_closing(value, value.len()).ok()
-}
-
-/// The text behind the strict element at the front. Takes no memory.
-pub fn after_element(text: &str) -> Option<&str>
-    ensures { Recognises element_class (chars text.now) result }
-{
-    live_element(text, text.len()).ok()
 }
 
 // The text behind the bracketed text at the front.

@@ -9,9 +9,19 @@ use super::rows::{answer_of, check, is_text, left_of, repeated, text_of};
 use std::alloc::{AllocError, Global};
 use std::process::Abort;
 use syslog_pieces::as_str::AsStr;
-use syslog_pieces::structured_data::{StructuredElement, forgiving_list};
+use syslog_pieces::structured_data::{Collect, StructuredElement, visit_forgiving_list};
 
 type List<'a> = Option<(Vec<StructuredElement<&'a str>>, &'a str)>;
+
+// The list at the front, collected while it is read, and the rest.
+fn forgiving_list<'a>(alloc: Global, text: &'a str) -> Result<List<'a>, AllocError> {
+    let mut collect = Collect::new(alloc);
+    let Some((_, rest)) = visit_forgiving_list(text, &mut collect) else {
+        return Ok(None);
+    };
+    let elements = collect.finish()?;
+    Ok(Some((elements, rest)))
+}
 
 fn is_param<S: AsStr>(
     name: &S,

@@ -2,14 +2,14 @@
 //!
 //! Each test asks for no memory but by the calls that it is about. Those named `answers_..` pass whichever request is
 //! refused, those named `asks_..` make none, and those named `sees_no_refusal..` fail at each that is refused.
-use super::rfc3164_list::{OptionalList, check_read_optional};
-use super::{List, check_read_list, is_item, only};
+use super::rfc3164_list::{OptionalList, check_read_optional, optional_list};
+use super::{List, check_read_list, forgiving_list, is_item, only};
 use crate::tests::rows::{check, text_of};
 use crate::tests::tries::Tries;
 use std::alloc::{AllocError, Global};
 use std::process::Abort;
-use syslog_pieces::structured_data::rfc3164_list::{DashRule, optional_list};
-use syslog_pieces::structured_data::{StructuredElement, forgiving_list};
+use syslog_pieces::structured_data::StructuredElement;
+use syslog_pieces::structured_data::rfc3164_list::DashRule;
 
 /// An element with its id and parameters, the last of which has an escape.
 pub(super) const ELEMENT: &str = "[id a=\"b\" c=\"\" d=\"\\]\"]";

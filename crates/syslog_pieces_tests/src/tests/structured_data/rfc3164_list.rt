@@ -3,10 +3,25 @@ use super::{are_elements, elements};
 use crate::tests::rows::{answer_of, check, left_of, repeated, text_of};
 use std::alloc::{AllocError, Global};
 use std::process::Abort;
-use syslog_pieces::structured_data::StructuredElement;
-use syslog_pieces::structured_data::rfc3164_list::{DashRule, begins_list, optional_list};
+use syslog_pieces::structured_data::rfc3164_list::{DashRule, begins_list};
+use syslog_pieces::structured_data::{Collect, StructuredElement, visit_rfc3164_list};
 
 pub(super) type OptionalList<'a> = (Option<Vec<StructuredElement<&'a str>>>, &'a str);
+
+/// The list at the front where there is one, collected while it is read, and the rest.
+pub(super) fn optional_list<'a>(
+    alloc: Global,
+    text: &'a str,
+    rule: DashRule,
+) -> Result<OptionalList<'a>, AllocError> {
+    let mut collect = Collect::new(alloc);
+    let (list, rest) = visit_rfc3164_list(text, rule, &mut collect);
+    let elements = collect.finish()?;
+    if list.text().is_empty() {
+        return Ok((None, rest));
+    }
+    Ok((Some(elements), rest))
+}
 
 // A row is a text, the lines of the elements of the list at its front, and what is left; or the text of no list, which
 // stays whole.
