@@ -1,6 +1,7 @@
 //! Worked rows and vectors: what no clause says of one text.
 mod copies;
 mod equality;
+mod recognised;
 mod refusals;
 mod refusals_copies;
 mod rfc3164_list;
