@@ -45,9 +45,9 @@ pub use syslog_pieces::as_str::AsStr;
 pub use syslog_pieces::pri::{SyslogFacility, SyslogSeverity, decompose_pri};
 pub use syslog_pieces::procid::ProcId;
 pub use syslog_pieces::structured_data::{
-    Element, ElementList, ElementVisitor, Elements, NoElements, Params, ParamsIter,
-    StructuredElement,
+    Collect, Element, ElementList, ElementVisitor, Elements, NoElements, NoNotes, ParamNotes,
+    Params, ParamsIter, StructuredElement,
 };
-pub use syslog_pieces::timestamp::OffsetTimestamp;
+pub use syslog_pieces::timestamp::{ClockStamp, OffsetTimestamp};
 pub use variant::{IncompleteDate, Variant};
 pub use visit::{LineVisitor, parse_line, visit_line};
