@@ -1,14 +1,14 @@
 """What tests/c_library, tests/instructions and tests/installed take that is built over the libraries that rt ci proved and
 left in a folder, so that they aren't proved once more: the library for C, and the program of bench/reader/.
 
-    python3 tests/left.py FOLDER --left     builds the library for C there, if it is not there yet
+    python3 tests/support/left.py FOLDER --left     builds the library for C there, if it is not there yet
 """
 import fcntl
 import os
 import shutil
 import sys
 
-TOP = os.path.dirname(os.path.dirname(os.path.abspath(__file__)))
+TOP = os.path.dirname(os.path.dirname(os.path.dirname(os.path.abspath(__file__))))
 sys.path.insert(0, os.path.join(TOP, "tools"))
 sys.dont_write_bytecode = True
 from toolchain import linked, toolchain  # noqa: E402

@@ -10,7 +10,7 @@ import tempfile
 import threading
 from typing import Callable, NamedTuple
 
-TOP = os.path.dirname(os.path.dirname(os.path.abspath(__file__)))
+TOP = os.path.dirname(os.path.dirname(os.path.dirname(os.path.abspath(__file__))))
 SECONDS = 60
 MILLION = 1_000_000
 

@@ -15,10 +15,10 @@ def need_cc():
 
 
 def shared(name, room):
-    """Builds tests/NAME.c for LD_PRELOAD in the folder `room`, and returns its path."""
+    """Builds tests/support/NAME.c for LD_PRELOAD in the folder `room`, and returns its path."""
     need_cc()
     built = os.path.join(room, name + ".so")
     made = subprocess.run(["cc", "-O1", "-shared", "-fPIC", "-o", built, os.path.join(HERE, name + ".c")])
     if made.returncode:
-        sys.exit("%s: cc failed on tests/%s.c. Its headers: apt-get install libc6-dev" % (os.path.basename(sys.argv[0]), name))
+        sys.exit("%s: cc failed on tests/support/%s.c. Its headers: apt-get install libc6-dev" % (os.path.basename(sys.argv[0]), name))
     return built
