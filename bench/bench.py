@@ -50,7 +50,7 @@ WAYS = [
 # A hostile line is given often enough that a run takes about so long, but no more often than this.
 HOSTILE_SECONDS = 0.1
 HOSTILE_REPEATS = 1024
-# A run of the peer on a hostile line may take so many seconds, under valgrind too.
+# A run of the peer on a hostile line may take this many seconds, under valgrind too.
 PATIENCE = 120
 # How wide the first column of a table is.
 FIRST_COLUMN = 32
@@ -111,7 +111,7 @@ class Filter:
         return int(re.search(rb"Collected : ([0-9]+)", ran.stderr)[1])
 
     def instructions_a_line(self, lines, fewer):
-        """How many instructions a line takes: those of all lines without those of the first so many, and of the start."""
+        """How many instructions a line takes: those of all lines but the first, without those of the start."""
         return (self.instructions(lines) - self.instructions(lines[:fewer])) / (len(lines) - fewer)
 
     def judge(self, status):
@@ -340,7 +340,7 @@ def count_corpora(filters, chosen):
 
 def count_hostile(filters, chosen):
     """The instructions of the first filter for the longest of each hostile line, the most by which they grew as its length
-    doubled, and how many times as many the other takes."""
+    doubled, and by how much those of the other are more."""
     size = "%d KB" % COUNTED_SIZES[-1]
     print("\nMillions of instructions for one hostile line of %s:\n" % size)
     more = ["the peer's over ours"] * (len(filters) > 1)
