@@ -1,6 +1,6 @@
 # Proves, builds and installs, over the toolchain's rt.
 #
-#     make              proves all that the library and the programs stand on, and builds them
+#     make              proves the library and the programs with all below them, and builds them
 #     make check        proves all from nothing, and runs every test (tests/all)
 #     make install      installs what make built, and proves nothing: PREFIX=/usr/local DESTDIR=
 #     make uninstall    removes what it installed

@@ -39,23 +39,25 @@ DOCUMENT = os.path.join(TOP, "docs", "BENCHMARKS.md")
 # first part in which lines are refused.
 WAYS = [
     ("one process", "$P <$F >out"),
-    ("`split -n l/K/2` in each of two", "seq 2 | xargs -P 2 -I{} sh -c 'split -n l/{}/2 $F | $P >out.{}'"),
-    ("`split -n l/K/4` in each of four", "seq 4 | xargs -P 4 -I{} sh -c 'split -n l/{}/4 $F | $P >out.{}'"),
-    ("`split -n r/4 --filter`", "split -n r/4 --filter '$P >$FILE || [ $? = 1 ]' $F out."),
-    ("`split -n l/4 --filter`", "split -n l/4 --filter '$P >$FILE || [ $? = 1 ]' $F out."),
-    ("`parallel --pipepart --block -1 --keep-order`", "parallel --pipepart -a $F --block -1 --keep-order $P >out"),
-    ("`parallel --pipe --block 50M --keep-order`", "parallel --pipe --block 50M --keep-order $P <$F >out"),
-    ("`parallel --pipe --block 1M --keep-order`", "parallel --pipe --block 1M --keep-order $P <$F >out"),
+    ("split -n l/K/2, in each of two", "seq 2 | xargs -P 2 -I{} sh -c 'split -n l/{}/2 $F | $P >out.{}'"),
+    ("split -n l/K/4, in each of four", "seq 4 | xargs -P 4 -I{} sh -c 'split -n l/{}/4 $F | $P >out.{}'"),
+    ("split -n r/4 --filter", "split -n r/4 --filter '$P >$FILE || [ $? = 1 ]' $F out."),
+    ("split -n l/4 --filter", "split -n l/4 --filter '$P >$FILE || [ $? = 1 ]' $F out."),
+    ("parallel --pipepart --block -1", "parallel --pipepart -a $F --block -1 --keep-order $P >out"),
+    ("parallel --pipe --block 50M", "parallel --pipe --block 50M --keep-order $P <$F >out"),
+    ("parallel --pipe --block 1M", "parallel --pipe --block 1M --keep-order $P <$F >out"),
 ]
 # A hostile line is given often enough that a run takes about so long, but no more often than this.
 HOSTILE_SECONDS = 0.1
 HOSTILE_REPEATS = 1024
-# A run of the peer on a hostile line may take so many seconds, under valgrind too.
+# A run of the peer on a hostile line may take this many seconds, under valgrind too.
 PATIENCE = 120
+# How wide the first column of a table is.
+FIRST_COLUMN = 32
 # Kilobytes of the hostile lines whose instructions are counted.
 COUNTED_SIZES = [64, 128, 256, 512]
 # Valgrind counts an instruction for each byte that the C library moves or fills by one string instruction, as it does
-# for long texts. So it is told not to: else a first doubling is the growth of the filter's block.
+# for long texts. So it is told not to: otherwise a first doubling would show the growth of the filter's block.
 NO_STRING_INSTRUCTIONS = ":".join(
     "glibc.cpu.x86_rep_%sb_threshold=%d" % (which, 1 << 30) for which in ("movs", "stos")
 )
@@ -109,7 +111,7 @@ class Filter:
         return int(re.search(rb"Collected : ([0-9]+)", ran.stderr)[1])
 
     def instructions_a_line(self, lines, fewer):
-        """How many instructions a line takes: those of all lines without those of the first so many, and of the start."""
+        """How many instructions a line takes: those of all lines but the first, without those of the start."""
         return (self.instructions(lines) - self.instructions(lines[:fewer])) / (len(lines) - fewer)
 
     def judge(self, status):
@@ -181,30 +183,30 @@ def least(filters, files, runs):
     return best
 
 
-def row(table, *cells):
+def row(table, first, *cells):
     """Prints a row at once, since a run takes minutes, and adds it to the table."""
-    table.append("| " + " | ".join(str(it) for it in cells) + " |")
+    widths = table[0]
+    table.append(("    %-*s" % (widths[0], first) + "".join("%*s" % it for it in zip(widths[1:], cells))).rstrip())
     print(table[-1], flush=True)
 
 
-def head(*cells):
-    """A new table, of its heading alone."""
-    table = []
-    row(table, *cells)
-    row(table, *["---"] + ["---:"] * (len(cells) - 1))
+def head(first, *cells):
+    """A new table, of its heading alone: the widths of its columns, and then its rows."""
+    table = [[FIRST_COLUMN, *(max(len(it), 10) + 3 for it in cells)]]
+    row(table, first, *cells)
     return table
 
 
 def with_tables(text, tables, measured):
-    """The text of the document, each of the tables in place of the one that bears its name."""
+    """The text of the document, each table instead of the old one of its name."""
     for name, table in tables.items():
         opening, closing = "<!-- table: %s -->\n" % name, "<!-- end -->"
-        before, opened, behind = text.partition(opening)
-        old, closed, after = behind.partition(closing)
+        before, opened, rest = text.partition(opening)
+        old, closed, after = rest.partition(closing)
         # An end that belongs to another table would take the text up to there along.
         if not closed or "<!--" in old:
             sys.exit("the document has no table between %s and %s" % (opening.strip(), closing))
-        text = before + "\n\n".join([opening + measured, "\n".join(table), closing]) + after
+        text = before + "\n\n".join([opening + measured, "\n".join(table[1:]), closing]) + after
     return text
 
 
@@ -216,13 +218,13 @@ def time_corpora(filters, chosen, folder):
             sizes.append((len(lines), corpora.write_lines(files[-1], lines) / 1e6))
     times = least(filters, files, chosen.runs)
     more = ["peer's lines/s", "times the peer's speed"] * (len(filters) > 1)
-    table = head("corpus", "lines", "MB", "lines/s", "MB/s", *more)
+    table = head("corpus", "lines/s", "MB/s", *more)
     for file, (count, size), (own, *others) in zip(files, sizes, times):
         more = []
         for it in others:
             more += ["{:,.0f}".format(count / it), "%.2f" % (it / own)]
         speeds = ["{:,.0f}".format(count / own), "%.0f" % (size / own)]
-        row(table, os.path.basename(file), "{:,}".format(count), "%.1f" % size, *speeds, *more)
+        row(table, os.path.basename(file), *speeds, *more)
         os.remove(file)
     return table
 
@@ -282,7 +284,7 @@ def time_hostile(filters, chosen, folder):
 
 
 def order_kept(folder, wanted):
-    """Whether the files that begin with "out", one behind the other, are the wanted one, or have its lines at least."""
+    """Whether the files that begin with "out", joined, are the wanted one, or have its lines at least."""
     words = {"shell": True, "cwd": folder, "env": {**os.environ, "LC_ALL": "C", "W": wanted}, "executable": "/bin/bash"}
     if not subprocess.run('cat out* | cmp -s - "$W"', **words).returncode:
         return "kept"
@@ -310,7 +312,7 @@ def time_cores(it, chosen, folder):
             taken = time.perf_counter() - begun
             best = taken if best is None else min(best, taken)
         if name == "one process":
-            # (where lines are refused the other ways end as after a failed command, so what came out must tell)
+            # (where lines are refused the other ways end as after a failed command, so the output decides)
             it.judge(ran.returncode)
             os.rename(os.path.join(parts, "out"), wanted)
             order = "kept"
@@ -337,23 +339,24 @@ def count_corpora(filters, chosen):
 
 
 def count_hostile(filters, chosen):
-    """The instructions of the first filter for hostile lines, and of the other for the longest of each."""
-    told = "Millions of instructions for one hostile line of each size, and in brackets the growth at each doubling:"
-    print("\n%s\n" % told)
-    more = ["peer's, %d KB" % COUNTED_SIZES[-1], "the peer's over ours"] * (len(filters) > 1)
-    table = head("line", *["%d KB" % size for size in COUNTED_SIZES], *more)
+    """The instructions of the first filter for the longest of each hostile line, the most by which they grew as its length
+    doubled, and by how much those of the other are more."""
+    size = "%d KB" % COUNTED_SIZES[-1]
+    print("\nMillions of instructions for one hostile line of %s:\n" % size)
+    more = ["the peer's over ours"] * (len(filters) > 1)
+    table = head("line", size, "most growth at a doubling", *more)
     (own, begun), *others = [(it, it.instructions([])) for it in filters]
     for name, maker in corpora.HOSTILE:
         if chosen.only not in "hostile_" + name:
             continue
         lines = [maker(size * 1024) for size in COUNTED_SIZES]
         counts = [(own.instructions([line]) - begun) / 1e9 for line in lines]
+        growth = max(after / before for before, after in zip(counts, counts[1:]))
         more = []
         for it, start in others:
             count = it.instructions(lines[-1:], PATIENCE)
-            count = count and (count - start) / 1e9
-            more += shown([count]) + ["%.2f" % (count / counts[-1]) if count else ""]
-        row(table, name, *shown(counts), *more)
+            more.append("%.2f" % ((count - start) / 1e9 / counts[-1]) if count else "over %d s" % PATIENCE)
+        row(table, name, *shown(counts[-1:]), "%.2f" % growth, *more)
     return table
 
 
@@ -374,7 +377,7 @@ def differences(filters, lines, most):
 
 
 def check(filters, chosen):
-    """Compares what two filters write, and answers on how many lines they differ."""
+    """Compares what two filters write, and returns on how many lines they differ."""
     total = 0
     for name, lines in corpora.corpora(chosen.lines):
         if chosen.only not in name:
@@ -390,7 +393,7 @@ def check(filters, chosen):
 
 def arguments():
     reader = argparse.ArgumentParser(description=__doc__, formatter_class=argparse.RawDescriptionHelpFormatter)
-    reader.add_argument("--program", help="the program, in place of the one that is built")
+    reader.add_argument("--program", help="the program, instead of the one that is built")
     reader.add_argument("--peer", help="another program with the same argument")
     reader.add_argument("--check", action="store_true", help="compare the outputs")
     reader.add_argument("--instructions", action="store_true", help="count instructions by valgrind, and time nothing")
@@ -415,14 +418,16 @@ def arguments():
         reader.error("--check compares with a --peer")
     if chosen.write and (chosen.only or chosen.check):
         reader.error("--write replaces whole tables: --only makes parts of them, and --check none")
+    if chosen.write and chosen.sums and not chosen.instructions:
+        reader.error("the document has --reading and --library by --instructions alone")
     return chosen
 
 
 def table_names(chosen):
-    """The names of the tables of this run in the document."""
+    """The names of the tables of this run in the document, which has no times of hostile lines."""
     if chosen.cores:
         return ["all cores"]
-    subjects = ["ordinary lines", "hostile lines"]
+    subjects = ["ordinary lines"] + ["hostile lines"] * chosen.instructions
     if chosen.sums:
         subjects = ["library for C" if chosen.library else "reading calls"]
     return ["%s, by %s" % (it, "instructions" if chosen.instructions else "time") for it in subjects]

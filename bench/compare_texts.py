@@ -1,5 +1,5 @@
 #!/usr/bin/env python3
-"""Reads the same made-up texts with two readers of syslog messages, and compares their answers field by field.
+"""Reads the same made-up texts with two readers of syslog messages, and compares their results field by field.
 
   compare_texts.py --ours PROGRAM --theirs PROGRAM                 50,000 texts made by edits of base_texts.txt
   compare_texts.py --elements 3000 --ours PROGRAM --theirs PROGRAM   as many elements, each in a whole message
@@ -268,7 +268,7 @@ def is_second_60(text, ours, theirs):
 
 
 def is_past_the_range(text, ours, theirs):
-    """An instant behind jiff's last: read there; here the timestamp is refused."""
+    """An instant past jiff's last: read there; here the timestamp is refused."""
     stamp = theirs.get("timestamp") if theirs.get("ok") else None
     return bool(stamp) and stamp["nanos"] > LAST_INSTANT and not ours.get("ok")
 
@@ -297,7 +297,7 @@ def is_past_the_dates(text, ours, theirs):
 
 
 def with_its_dash(ours, theirs):
-    """The answer there, with the dash that begins the message here and is a list there. None where there is no such dash."""
+    """What was read there, with the dash that begins the message here and is a list there; None without such a dash."""
     if not (ours.get("ok") and theirs.get("ok")) or theirs["protocol"] != "RFC3164":
         return None
     msg = theirs["msg"]
@@ -314,7 +314,7 @@ def kind_of(text, ours, theirs):
     dashed = with_its_dash(ours, theirs)
     if dashed and plain(ours) == plain(dashed):
         return "A dash before a character that is no blank: a list of RFC 3164 there, and the begin of the message here."
-    # (another difference may stand beside it)
+    # (there may be another difference too)
     theirs = dashed or theirs
     for it in EXPECTED:
         if it(text, ours, theirs):
@@ -337,7 +337,7 @@ def report_dashes(texts, ours, theirs, shown):
 
 
 def report(texts, ours, theirs, shown):
-    """Prints how the answers differ, and says whether each difference is expected."""
+    """Prints how the results differ, and returns whether each difference is expected."""
     found = collections.defaultdict(list)
     for text, a, b in zip(texts, ours, theirs):
         if plain(a) != plain(b):
@@ -364,9 +364,9 @@ def arguments():
     reader.add_argument("--theirs", help="the reader to compare with")
     reader.add_argument("--variant", choices=["either", "3164", "5424"], default="5424")
     reader.add_argument("--count", type=int, default=50_000, help="edited texts (50,000)")
-    reader.add_argument("--elements", type=int, default=0, metavar="N", help="N elements in place of edited texts")
-    reader.add_argument("--dates", type=int, default=0, metavar="N", help="N dates of RFC 3164 in place of edited texts")
-    reader.add_argument("--dashes", type=int, default=0, metavar="N", help="N lines that begin their message with a dash in place of edited texts")
+    reader.add_argument("--elements", type=int, default=0, metavar="N", help="N elements instead of edited texts")
+    reader.add_argument("--dates", type=int, default=0, metavar="N", help="N dates of RFC 3164 instead of edited texts")
+    reader.add_argument("--dashes", type=int, default=0, metavar="N", help="N lines that begin their message with a dash instead of edited texts")
     reader.add_argument("--years", default="2019/2019", help="the years of dates without one, in December and else (2019/2019)")
     reader.add_argument("--zone", default="none", help="the zone of dates without an offset: none, utc, rule or +HH:MM (none)")
     reader.add_argument("--seed", type=int, default=5424)

@@ -210,7 +210,7 @@ def chinese_and_russian_5424(chance):
     return header(chance) + " - " + chance.choice(CHINESE_AND_RUSSIAN_TEXTS)
 
 
-# A name, what makes a line, and how many lines stand for one of the benchmark's count.
+# A name, what makes a line, and for how many of the benchmark's lines one counts.
 KINDS = [
     ("plain_5424", plain_5424, 1.0),
     ("elements_5424", elements_5424, 1.0),
@@ -240,7 +240,7 @@ def behind(header, maker):
     return lambda size: header + maker(size)
 
 
-# A name, and the text of about so many bytes that stands where a list is read.
+# A name, and the text, of about this many bytes, where a list is read.
 HOSTILE_LISTS = [
     ("open_quotes", lambda size: filled('[a" b="]', size)),
     ("open_values", lambda size: filled('[a b="]', size)),
@@ -257,7 +257,7 @@ HOSTILE_LISTS = [
     ("dashes", lambda size: filled("- ", size) + "x"),
 ]
 
-# A name, and the one line of about so many bytes.
+# A name, and the one line, of about this many bytes.
 HOSTILE_LINES = [
     ("blanks_at_ends", lambda size: filled(" ", size // 2) + HEADER + "-" + filled(" ", size // 2)),
     ("leading_zeros", lambda size: "<" + filled("0", size) + "7>" + HEADER + "-"),
@@ -279,8 +279,8 @@ HOSTILE_LINES = [
     ("process_nines_3164", lambda size: "- host app[" + filled("9", size) + "]: x"),
 ]
 
-# Lines whose printed text is read as another message, and so on for as many rounds as they have colons or dashes, which
-# settling skips: one kind each, and then two in one line, or behind a piece that changes first.
+# Lines that need as many rounds as they have colons or dashes, which settling skips: one kind each, and then two in one
+# line, or after a piece that changes first.
 SETTLING_LINES = [
     ("dashes_3164", behind(HEADER_3164, dict(HOSTILE_LISTS)["dashes"])),
     ("last_colons_3164", lambda size: "- host" + filled(":", size) + " text"),

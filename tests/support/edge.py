@@ -26,7 +26,7 @@ DASHED = b"<34>Oct 11 22:14:15 mymachine app: -5 degrees"
 DASHED_TIDY = b"<34> 2019-10-11T22:14:15+00:00 mymachine app: -5 degrees"
 BAD = b"gobbledegook"
 
-# Lists with text behind them, by what they are: as RFC 5424 prints them, where it reads them, and as RFC 3164 does.
+# Lists with text after them, by what they are: as RFC 5424 prints them, where it reads them, and as RFC 3164 does.
 HOSTILE_LISTS = {
     "a million opening brackets": (b"[" * MILLION, None, b"[" * MILLION),
     "a million closing brackets": (b"[" + b"]" * MILLION, b"- " + b"]" * (MILLION - 1), b"[" + b"]" * MILLION),
@@ -127,12 +127,12 @@ class Mode(NamedTuple):
     plain: Callable = bytes
 
     def wanted(self, count):
-        """What must be seen after so many of these lines."""
+        """What must be seen after n of these lines."""
         written = self.plain((self.output + b"\n") * count)
         return Seen(1, written, self.says(count, count)) if self.says else Seen(0, written, b"")
 
     def ended(self, started, written=b""):
-        """What the program did, by its end: what it still writes stands behind what was read of it."""
+        """What the program did, by its end: what it still writes comes after what was read of it."""
         rest, said = started.communicate(timeout=SECONDS)
         return Seen(started.returncode, self.plain(written + (rest or b"")), said)
 
@@ -226,13 +226,13 @@ def piped(modes):
 
 
 def asked(program, word, **streams):
-    """What the program answers to a lone word, with no input."""
+    """What the program does with a lone word, and no input."""
     given = {"stdout": subprocess.PIPE, "stderr": subprocess.PIPE, **streams}
     return subprocess.run([program, word], stdin=subprocess.DEVNULL, timeout=SECONDS, **given)
 
 
 def of_itself(text):
-    """The cases of how a program tells how it is called, in this text, and that it judges its arguments before it reads."""
+    """The cases of how a program says how it is called, in this text, and that it judges its arguments before it reads."""
 
     def tells(program):
         ran = asked(program, "--help")
@@ -266,7 +266,7 @@ def short(it):
 
 
 def judges(cases, plain=bytes):
-    """Each case's name, and a function of the program that answers what was seen and what is wanted."""
+    """Each case's name, and a function of the program that returns what was seen and what is wanted."""
 
     def judge(program, it):
         seen = run(program, it)
@@ -277,7 +277,7 @@ def judges(cases, plain=bytes):
 
 def main(crate, judges):
     """Judges each program that is named, or the crate's own: `judges` are names and functions of the program, each of which
-    answers what it saw and what it wants. The status is 0 where all were equal."""
+    returns what it saw and what it wants. The status is 0 if all were equal."""
     name = os.path.basename(sys.argv[0])
     programs = sys.argv[1:] or [os.path.join(TOP, "crates", crate, "out", crate)]
     missing = [it for it in programs if not os.path.isfile(it)]

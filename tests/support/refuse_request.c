@@ -1,5 +1,5 @@
 /* Loaded into a program by LD_PRELOAD, it counts the program's requests for memory and refuses one of them: the one
-   whose number stands in REFUSE_REQUEST, from 1 on, and with REFUSE_REST also each that follows. At the program's end it
+   whose number is REFUSE_REQUEST, from 1 on, and with REFUSE_REST also each that follows. At the program's end it
    writes to the file descriptor REFUSE_TELL how many requests it counted. */
 #include <errno.h>
 #include <stdio.h>

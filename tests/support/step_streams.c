@@ -1,6 +1,6 @@
 /* Loaded into a program by LD_PRELOAD, it gives at most READ_STEP bytes of the standard input at a read, and takes at most
-   WRITE_STEP bytes for the standard output at a write. The read whose number stands in WRONG_READ fails, from 1 on; so does
-   the write whose number stands in WRONG_WRITE, and with TAKES_NOTHING that takes nothing instead. At the program's end it
+   WRITE_STEP bytes for the standard output at a write. The read whose number is WRONG_READ fails, from 1 on; so does
+   the write whose number is WRONG_WRITE, and with TAKES_NOTHING that takes nothing instead. At the program's end it
    writes to the file descriptor STREAMS_TELL how many reads and writes there were, and how many writes for the standard error. */
 #include <errno.h>
 #include <stdio.h>

@@ -1,4 +1,4 @@
--- What a run wrote is written again by a run in the same year: each of its lines is settled, and no other.
+-- What a run wrote is written again by a run in the same year: each of its lines is stable, and gives itself alone.
 use Rattle.std.proofs.Common.{◌≡◌, ◌≢◌, ℕ, zero, suc, ℤ, true, nat_lt, List, [], ◌∷◌, ◌++◌, length, length-append}
 use Rattle.std.proofs.Common.{Option, inl, inr, refl, sym, ap, subst, ◌∙◌, arith, append_assoc, append-nil}
 use Rattle.std.proofs.Math.Utf8.{scalars}
@@ -94,7 +94,7 @@ fed_lines ts lines a (free, inr lacks) =
 
 -- ---- settled lines
 
--- the line has no line feed, and is the only answer to itself
+-- the line has no line feed, and gives itself alone
 abbrev IsAtRest : ℤ → List ℕ → Type 0
 IsAtRest year line = NoFeed line × ((answer : Answer) → (tidying year).Answers line answer → answer ≡ Written line)
 
@@ -127,7 +127,7 @@ module _ (year : ℤ) (line text : List ℕ) (free : NoFeed line) (utf8 : IsUtf8
       only (Marked bytes) none = absurd none
       only Omitted none = absurd (none (text, (valid, refl)) text itself)
 
--- the bytes of the answers that are written
+-- the bytes that are written
 abbrev lines_of : List Answer → List (List ℕ)
 lines_of [] = []
 lines_of (Omitted ∷ answers) = lines_of answers
@@ -152,7 +152,7 @@ all_at_rest year (line ∷ lines) (Written bytes ∷ answers) free ((utf8, (text
 all_at_rest year (line ∷ lines) (Marked bytes ∷ answers) free h = absurd h.0
 all_at_rest year lines answers free h = absurd h
 
--- each of them is answered by itself
+-- each of them gives itself
 answered_again : (year : ℤ) (ts : List (List ℕ)) (answers : List Answer) → AllByRecursion (IsAtRest year) ts
     → AreAnswers (tidying year) ts answers → (output_of answers ≡ with_feeds ts) × (count_by is_passed_over answers ≡ 0)
 answered_again year [] [] h k = (refl, refl)

@@ -32,7 +32,7 @@ no_settled words behind Changed split none year named =
 no_settled words behind Refused split none year named =
     no_year refused_word behind year (omega arith) (rw split at named)
 
--- words whose flag was read, and that name no year behind it, are no arguments
+-- words whose flag was read, and that name no year after it, are no arguments
 pub no_arguments : (words behind : List (List ℕ)) (output : Output) → words ≡ flags_of output ++ behind
     → OnlyFlag words output → ((year : ℤ) → ¬ (AreYearWords behind year))
     → (other : Output) (year : ℤ) → ¬ (AskForLines words other year)
@@ -42,7 +42,7 @@ no_arguments words behind output split only none other year (more, same, named) 
       | inr settled ↦ no_settled words behind output split none year (rw (← (rw settled at same)) at named)
     ]
 
--- the words behind a first one
+-- the words after a first one
 pub flag_first : (args : List (Bor (List ℕ))) (d : Bor (List ℕ)) (flag : List ℕ) → 1 ≤ length args
     → pointwise nat_eq (get_or args 0 d).now flag ≡ true
     → map (λ (arg : Bor (List ℕ)). arg.now) args
@@ -59,7 +59,7 @@ two_words (x ∷ (y ∷ [])) d e first two same =
     ap (λ (word : List ℕ). word ∷ (y.now ∷ [])) ((bytes_decides x.now first).0 same)
 two_words args d e first two same = absurd (omega (arith, two))
 
--- where neither word stands alone and there are no arguments, nothing is asked for
+-- where neither word is alone and there are no arguments, nothing is asked for
 pub no_task : (words : List (List ℕ)) → ¬ (words ≡ help_word ∷ []) → ¬ (words ≡ version_word ∷ [])
     → ((other : Output) (year : ℤ) → ¬ (AskForLines words other year)) → (task : Task) → ¬ (AsksFor words task)
 no_task words no_help no_version none Help = no_help

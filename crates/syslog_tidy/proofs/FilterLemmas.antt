@@ -1,4 +1,4 @@
--- The answers of the filters.
+-- What the filters give.
 use Rattle.std.proofs.Common.{◌≡◌, ℕ, zero, suc, ℤ, List, [], ◌∷◌, Some, None}
 use Rattle.std.proofs.Common.{Result, Ok, Err, MatchResult, refl, subst}
 use Rattle.std.specs.Global.{Global}
@@ -13,7 +13,7 @@ use Rattle.syslog_loose.specs.declared.variant.Variant.TheVariants.{Either}
 use Rattle.syslog_tidy.specs.Filters.{IsTidied, SharesOut, refusing, tidying}
 use Rattle.syslog_lines.specs.Output.{Answer, AreAnswers, Omitted, Written, is_answered, is_passed_over}
 
--- exactly one of two answers to a line is written
+-- exactly one of two filters writes something for a line
 one_written : (year : ℤ) (line : List ℕ) (settled refused : Answer) → (tidying year).Answers line settled
     → (refusing year).Answers line refused → is_answered refused ≡ is_passed_over settled
 one_written year line (Written bytes) (Written other) (valid, (text, given, same)) (none, whole) =
@@ -30,7 +30,7 @@ shared_out year (line ∷ lines) (a ∷ refused) r (x ∷ settled) s =
     (one_written year line x a s.0 r.0, shared_out year lines refused r.1 settled s.1)
 shared_out year lines refused r settled s = absurd (assumption (r, s))
 
--- a text that has a round has a reading
+-- a text that has a round parses
 has_message : (year : ℤ) (text u : List ℕ) (n : ℕ) → IsRound Either (in_utc year) text (suc n) u
     → IsUnreadable Either (in_utc year) text → ⊥
 has_message year text u zero (before, same, next) none =

@@ -34,7 +34,7 @@ abbrev pub OnlyFlag : List (List ℕ) → Output → Type 0
 OnlyFlag words output = (other : Output) (behind : List (List ℕ)) → words ≡ flags_of other ++ behind
     → (other ≡ output) ⊎ (other ≡ Settled)
 
--- the words are a flag, if any, and those that name a year, before which `--` may stand
+-- the words are a flag, if any, and those that name a year, perhaps after `--`
 abbrev pub AskForLines : List (List ℕ) → Output → ℤ → Type 0
 AskForLines words output year = (rest : List (List ℕ)) × (words ≡ flags_of output ++ rest) × AreYearWords rest year
 
@@ -44,6 +44,6 @@ AsksFor words Help = words ≡ help_word ∷ []
 AsksFor words Version = words ≡ version_word ∷ []
 AsksFor words (Lines output year) = AskForLines words output year
 
--- how the program is called, where its arguments are wrong
+-- how the program is called: what wrong arguments get
 abbrev pub usage_line : List ℕ
 usage_line = codes "usage: syslog_tidy [--changed] YEAR\n"

@@ -1,4 +1,4 @@
--- What the program's three filters answer, and what they count: this project's own choice.
+-- What the program's three filters give each line, and what they count: this project's own choice.
 use Rattle.std.specs.Prelude.{◌≡◌, ℕ, ℤ, List, Option, Some, None, length, count_by, IsUtf8, encode_utf8_all, ⊤}
 use Rattle.std.specs.Io.KnownBytes.{Appends}
 use Rattle.std.specs.List.{AllZip}
@@ -15,48 +15,49 @@ use Rattle.syslog_lines.specs.Pump.{FiltersAll}
 use Rattle.syslog_tidy.specs.declared.counts.Changed.{Changed}
 use Rattle.syslog_lines.specs.declared.summary.Summary.{Summary}
 
--- the answer to a line by that to its text: encoded, or none where there is none or the line is no UTF-8
+-- what a line gives, by what its text gives: encoded, or nothing where that is none or the line is not UTF-8
 abbrev pub of_texts : (List ℕ → Option (List ℕ) → Type 0) → List ℕ → Answer → Type 0
 of_texts Answers line (Written bytes) =
     IsUtf8 line × ((text : List ℕ) × Answers (chars line) (Some text) × (bytes ≡ encode_utf8_all text))
 of_texts Answers line (Marked bytes) = ⊥
 of_texts Answers line Omitted = IsUtf8 line → Answers (chars line) None
 
--- the answer is the first settled round of the text in this year, or none where no round of it is settled
+-- what the text gives is its first stable round in this year, or none where no round of it is stable
 abbrev pub IsTidied : ℤ → List ℕ → Option (List ℕ) → Type 0
 IsTidied year text (Some answer) = IsFirstSettled Either (in_utc year) text answer
 IsTidied year text None = (answer : List ℕ) → IsFirstSettled Either (in_utc year) text answer → ⊥
 
--- memory may be wanted for a text that has a reading
+-- memory may be taken for a text that parses
 abbrev pub tidying : ℤ → Filter
 tidying year = record {
   Answers = of_texts (IsTidied year);
   Wants = λ line. IsUtf8 line × (¬ (IsUnreadable Either (in_utc year) (chars line)));
 }
 
--- the answer is the text itself where it is read differently in this year under the two rules of the dash, or none
+-- what the text gives is the text itself where it reads differently in this year under the two rules of the dash, or
+-- none
 abbrev pub IsChanged : ℤ → List ℕ → Option (List ℕ) → Type 0
 IsChanged year text (Some answer) = ReadsDifferently Either (in_utc year) text × (answer ≡ text)
 IsChanged year text None = ¬ (ReadsDifferently Either (in_utc year) text)
 
--- memory may be wanted for a text that has an answer
+-- memory may be taken for a text that gives something
 abbrev pub finding_changed : ℤ → Filter
 finding_changed year = record {
   Answers = of_texts (IsChanged year);
   Wants = λ line. IsUtf8 line × (¬ (IsChanged year (chars line) None));
 }
 
--- the answer is the line itself where nothing is written for it by `tidying`, and none where something is
+-- what the line gives is the line itself where `tidying` writes nothing for it, and none where it writes something
 abbrev pub IsRefused : ℤ → List ℕ → Answer → Type 0
 IsRefused year line (Written bytes) = (tidying year).Answers line Omitted × (bytes ≡ line)
 IsRefused year line (Marked bytes) = ⊥
 IsRefused year line Omitted = (bytes : List ℕ) × (tidying year).Answers line (Written bytes)
 
--- memory may be wanted for any line
+-- memory may be taken for any line
 abbrev pub refusing : ℤ → Filter
 refusing year = record { Answers = IsRefused year; Wants = λ line. ⊤ }
 
--- all was read and written, and the summary counts the lines and those without an answer
+-- all was read and written, and the summary counts the lines and those that gave nothing
 abbrev pub TidiesAll : ℤ → Option (List ℕ) → Option (List ℕ) → Option (List ℕ) → Option (List ℕ) → Summary → Type 0
 TidiesAll year in_before in_after out_before out_after summary = (answers : List Answer)
     × (all : FiltersAll (tidying year) in_before in_after out_before out_after answers)
@@ -72,21 +73,21 @@ abbrev pub WritesAgain : ℤ → Option (List ℕ) → Option (List ℕ) → Opt
 WritesAgain year in_before out_before out_after summary = (output : List ℕ) → in_before ≡ Some output
     → IsOutput year output → Appends out_before out_after output × (summary.refused ≡ 0)
 
--- all was read and written, and the counts are those of the lines and of those with an answer
+-- all was read and written, and the counts are those of the lines and of those that gave something
 abbrev pub FindsChanged : ℤ → Option (List ℕ) → Option (List ℕ) → Option (List ℕ) → Option (List ℕ)
     → Changed → Type 0
 FindsChanged year in_before in_after out_before out_after counts = (answers : List Answer)
     × (all : FiltersAll (finding_changed year) in_before in_after out_before out_after answers)
     × (counts.lines ≡ held_count (length all.lines)) × (counts.changed ≡ held_count (count_by is_answered answers))
 
--- of each of these lines exactly one is written: what `tidying` answers, or the line as it came
+-- of each of these lines exactly one is written: what `tidying` gives, or the line as it came
 abbrev pub SharesOut : ℤ → List (List ℕ) → List Answer → Type 0
 SharesOut year lines refused =
     (settled : List Answer) → AreAnswers (tidying year) lines settled
     → AllZip (λ s r. is_answered r ≡ is_passed_over s) settled refused
 
--- all was read and written, the lines are shared out with those that `tidying` answers, and the summary counts the
--- lines and those that were written
+-- all was read and written, the lines are shared out with those that `tidying` writes, and the summary counts the lines
+-- and those that were written
 abbrev pub RefusesAll : ℤ → Option (List ℕ) → Option (List ℕ) → Option (List ℕ) → Option (List ℕ) → Summary → Type 0
 RefusesAll year in_before in_after out_before out_after summary = (answers : List Answer)
     × (all : FiltersAll (refusing year) in_before in_after out_before out_after answers)

@@ -12,11 +12,11 @@ use syslog_lines::{is_alone, read_year, read_year_words};
 /// Which lines are wanted.
 #[derive(Clone, Copy, PartialEq, Eq)]
 pub enum Output {
-    /// Each line that has a settled text, as that text.
+    /// Each line that is a message, in its stable printed form.
     Settled,
-    /// Each that is read differently under the two rules of the dash, as it came.
+    /// Each that reads differently under the two rules of the dash, as it came.
     Changed,
-    /// Each that has no settled text, as it came.
+    /// Each that has no stable printed form, as it came.
     Refused,
 }
 
@@ -31,7 +31,8 @@ pub enum Task {
     Lines(Output, i32),
 }
 
-/// Whether the lines that changed are wanted, and the year: `YEAR`, or `--changed YEAR`. None for all other words.
+/// Reads `YEAR` or `--changed YEAR`: whether the lines that changed are wanted, and the year. Returns none for other
+/// words.
 pub fn read_args(args: &[&str]) -> Option<(bool, i32)>
     ensures { MatchOption result ((changed : Bool) (year : ℤ)
         → ¬ (AreArguments (map (λ arg. arg.now) args.now) changed year))
@@ -44,7 +45,7 @@ pub fn read_args(args: &[&str]) -> Option<(bool, i32)>
     }
 }
 
-// The output that the first word asks for, and the words after the flag; all of them where there is none.
+// Returns the output that the first word asks for, and the words after it, or all words if it is no flag.
 fn read_flag<'a, 'b>(args: &'a [&'b str]) -> (Output, &'a [&'b str])
     ensures split { map (λ arg. arg.now) args.now ≡ flags_of result.0 ++ map (λ arg. arg.now) result.1.now }
     ensures only { OnlyFlag (map (λ arg. arg.now) args.now) result.0 }
@@ -56,8 +57,8 @@ fn read_flag<'a, 'b>(args: &'a [&'b str]) -> (Output, &'a [&'b str])
     }
 }
 
-/// The output and the year that the words ask for: what `read_args` reads; and also `--refused YEAR`, and `--` before
-/// the year. None for all other words.
+/// Reads what `read_args` does, and `--refused YEAR`, with or without `--` before the year. Returns none for other
+/// words.
 fn read_lines(args: &[&str]) -> Option<(Output, i32)>
     ensures { MatchOption result ((output : Output) (year : ℤ)
         → ¬ (AskForLines (map (λ arg. arg.now) args.now) output year))
@@ -73,7 +74,7 @@ fn read_lines(args: &[&str]) -> Option<(Output, i32)>
     Some((output, year))
 }
 
-/// What the words after the program's name ask for: `--help` or `--version` alone, or what `read_lines` makes of them.
+/// Reads the words after the program's name: `--help` or `--version` alone, or what `read_lines` reads.
 pub fn read_task(args: &[&str]) -> Option<Task>
     ensures { MatchOption result ((task : Task) → ¬ (AsksFor (map (λ arg. arg.now) args.now) task))
         (λ task. AsksFor (map (λ arg. arg.now) args.now) task) }
@@ -88,15 +89,15 @@ pub fn read_task(args: &[&str]) -> Option<Task>
     Some(Task::Lines(output, year))
 }
 
-/// What `read_task` makes of the program's arguments; none where they can't be had. Which words these are no clause
-/// says, since the host has none for them (`tests/program` tries it).
+/// Reads the program's arguments by `read_task`; returns none if the host has none. The host has no clause on which
+/// words these are, so `tests/program` tries it.
 pub fn arguments(rt: &HostRuntime) -> Option<Task>
     ensures { IfSome result (λ task. (words : List (List ℕ)) × AsksFor words task) }
 {
     read_words(env::args(rt).ok()?)
 }
 
-// What `read_task` makes of the words after the first, which is the program's name.
+// Reads the words after the program's name by `read_task`.
 fn read_words(mut words: Args) -> Option<Task>
     ensures { MatchOption result ((task : Task)
         → ¬ (AsksFor (drop 1 (map (λ word. string_bytes word) (into_iter_items words))) task))

@@ -1,5 +1,5 @@
-//! The filters: one writes each message in one form, one the lines for which that writes nothing, and one those that
-//! are read differently under the two rules of the dash.
+//! The filters. `run` writes each message in its stable form, `refused` the other lines, and `changed` those that read
+//! differently under the two rules of the dash.
 ghost use Rattle.std.specs.Prelude.{◌≡◌, ◌↔◌, Some, None, false, Err, IsTrue, IfOk, IfErr, MatchResult, string_bytes};
 ghost use Rattle.std.specs.Result.{IsOkAnd};
 ghost use Rattle.std.specs.Str.{chars};
@@ -18,16 +18,16 @@ use syslog_lines::pump::pump;
 use syslog_lines::{LineFilter, RunFault, Summary, Watched, push_line};
 use syslog_loose::{IncompleteDate, ParseFault, TimeZone, Variant, reads_differently, settle_into};
 
-/// Reads lines to the end of the input, and writes the settled text of each that has one, in the given year: its first
-/// printed text that is printed again as it stands.
+/// Reads lines to the end of the input, and writes the stable printed form of each message, in the given year: the
+/// first that is printed again as it is.
 ///
-/// A line that has none, or is no UTF-8, gives nothing and is counted as refused. What was written is written again
-/// where it is the input in the same year, and no line of it is refused. The output of each block of input is written
-/// before more is read, and the writer is flushed at the end. Nothing is tried again. After `RunFault::Read` the output
-/// of each complete line that was read was written. After `RunFault::Memory` so it was, where the memory was wanted
-/// before anything was read or for more of a line that takes a whole block; or it was refused for a line that has a
-/// reading, and the output of each line before it was written. After `RunFault::Write` a beginning of the output was
-/// written. It takes memory for a block of input, its output, and the longest line.
+/// A line that has none, or is not UTF-8, gives nothing and is counted as refused. The output, filtered again in that
+/// year, is written as it is. The output of each block is written before more is read, and the writer is flushed at the
+/// end. Nothing is tried again. After `RunFault::Read` the output of each complete line that was read was written.
+/// `RunFault::Memory` comes after that too, if a block had no memory: the first, or one for a line that fills a block.
+/// Otherwise an allocation failed for a line that parses, and the output of each line before it was written. After
+/// `RunFault::Write` a beginning of the output was written. It takes memory for a block of input, its output, and the
+/// longest line.
 pub fn run<R: Read, W: Write>(
     alloc: Global,
     reader: &mut Watched<R>,
@@ -52,14 +52,14 @@ pub fn run<R: Read, W: Write>(
     })
 }
 
-/// Writes the settled text of each line that has one in this year.
+/// The filter of `run`, in this year.
 #[derive(Drop)]
 pub struct Tidy {
     pub year: i32,
 }
 
 impl Tidy {
-    /// Writes the first settled round of a line into `text`.
+    /// Writes the first stable round of a line into `text`.
     #[inline(always)]
     pub fn settle_line(
         &self,
@@ -114,11 +114,11 @@ impl LineFilter for Tidy {
     }
 }
 
-/// Reads lines to the end of the input, and writes, as it came, each for which `run` writes nothing in the given year:
-/// it has no settled text, or is no UTF-8. Each line is thus in the output of exactly one of the two.
+/// Reads lines to the end of the input, and writes, as it came, each for which `run` writes nothing in the given year.
+/// Each line is in the output of exactly one of the two.
 ///
-/// Blocks, faults, the flush, memory and what was written after a fault are as for `run`, but that memory may be wanted
-/// for each line.
+/// Blocks, faults, the flush, memory and what was written after a fault are as for `run`, but memory may be taken for
+/// each line.
 pub fn refused<R: Read, W: Write>(
     alloc: Global,
     reader: &mut Watched<R>,
@@ -144,7 +144,7 @@ pub fn refused<R: Read, W: Write>(
     })
 }
 
-/// Writes each line for which this filter writes nothing, as it came.
+/// Writes each line for which `Tidy` writes nothing, as it came.
 #[derive(Drop)]
 struct Refusals {
     tidy: Tidy,
@@ -181,10 +181,10 @@ impl LineFilter for Refusals {
     }
 }
 
-/// Reads lines to the end of the input, and writes, as it came, each that is read differently under the two rules of
-/// the dash, in the given year: each line that normalising once changed otherwise than it would now.
+/// Reads lines to the end of the input, and writes, as it came, each that reads differently under the two rules of the
+/// dash, in the given year.
 ///
-/// All other lines, and those that are no UTF-8, give nothing. Blocks, faults, the flush, memory and what was written
+/// Other lines, and those that are not UTF-8, give nothing. Blocks, faults, the flush, memory and what was written
 /// after a fault are as for `run`.
 pub fn changed<R: Read, W: Write>(
     alloc: Global,
@@ -209,14 +209,14 @@ pub fn changed<R: Read, W: Write>(
     })
 }
 
-/// Writes each line that is read differently in this year, as it came.
+/// The filter of `changed`, in this year.
 #[derive(Drop)]
 struct ChangedLines {
     year: i32,
 }
 
 impl ChangedLines {
-    // Whether the line is read differently. It is never refused.
+    // Returns whether the line reads differently. This never fails.
     fn is_changed(&self, alloc: Global, line: &str) -> Result<bool, AllocError>
         ensures { IsOkAnd result (λ differs. IsTrue differs
             ↔ ReadsDifferently Either (in_utc self.now.year) (chars line.now)) }

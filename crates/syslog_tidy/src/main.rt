@@ -1,8 +1,8 @@
-//! Writes each syslog line of standard input to standard output in one form, or those that once had another, or those
-//! that are no message.
+//! Writes the syslog lines of standard input to standard output: each message in its stable printed form, or the lines
+//! that the Rust crate reads differently, or those that are no message.
 //!
-//! `syslog_tidy 2019` answers the line `<34>Oct 11 22:14:15 mymachine app[323]: a message` with
-//! `<34> 2019-10-11T22:14:15+00:00 mymachine app[323]: a message`.
+//! `syslog_tidy 2019` writes the line `<34>Oct 11 22:14:15 mymachine app[323]: a message` as `<34>
+//! 2019-10-11T22:14:15+00:00 mymachine app[323]: a message`.
 #![tactic(auto)]
 
 mod args;
@@ -22,7 +22,7 @@ use syslog_lines::report::{say, say_version};
 pub use syslog_lines::{RunFault, Summary, Watched, read_year};
 use syslog_loose::VERSION;
 
-// Writes the lines of standard input that are wanted, and then returns the exit status.
+// Writes the output that is asked for, and returns the exit status.
 fn answer_input(rt: &HostRuntime, output: Output, year: i32) -> u8 {
     let mut reader = Watched::new(rt.stdin());
     let mut writer = Watched::new(rt.stdout());

@@ -1,4 +1,4 @@
-//! What the program says at its end, and of itself.
+//! What the program writes at its end, and about itself.
 ghost use Rattle.std.specs.Prelude.{◌≡◌, codes};
 ghost use Rattle.syslog_lines.specs.Report.{WritesFront, said_of, status_of};
 ghost use Rattle.syslog_tidy.specs.Arguments.{usage_line};
@@ -31,7 +31,7 @@ Status:
   2  wrong arguments; or a read or a write failed, or memory ran out
 ";
 
-/// Writes how the program is called, in one line, and returns the exit status 2. A failed write is passed over.
+/// Writes how the program is called, in one line, and returns the exit status 2. A failed write is ignored.
 pub fn usage<W: Write>(errors: &mut W) -> u8
     ensures status { result ≡ 2 }
     ensures said { WritesFront (W.contents errors.old) (W.contents errors.new) usage_line }
@@ -39,8 +39,8 @@ pub fn usage<W: Write>(errors: &mut W) -> u8
     refuse("usage: syslog_tidy [--changed] YEAR\n", errors)
 }
 
-/// Writes how many lines changed, or the fault's text, and returns the exit status: 0 where no line changed, 1 where
-/// some did, 2 after a fault. Where none changed nothing is written. A failed write is passed over.
+/// Writes how many lines changed, if any did, or the fault's text, and returns the exit status: 0 if no line changed, 1
+/// if some did, 2 after a fault. A failed write is ignored.
 pub fn report_changed<W: Write>(outcome: &Result<Changed, RunFault>, errors: &mut W) -> u8
     ensures status { result ≡ status_of (λ counts. counts.changed) outcome.now }
     ensures said { WritesFront (W.contents errors.old) (W.contents errors.new)

@@ -1,5 +1,5 @@
-//! The check of UTF-8 that the programs and the library for C share: `simdutf8`, after a look whether all bytes are
-//! ASCII, on which it takes more instructions than std.
+//! The check of UTF-8 for the programs and the library for C: `simdutf8`, but for texts of ASCII alone, on which it
+//! takes more instructions than std.
 //!
 //! `from_utf8(b"caf\xc3\xa9")` is `Ok("café")`, and `from_utf8(b"caf\xe9")` an error.
 #![tactic(auto)]
@@ -13,7 +13,7 @@ use std::simd::prelude::*;
 
 const LANES: usize = 64;
 
-/// The bytes as a text, where they are UTF-8.
+/// Returns the bytes as a text, or an error if they are not UTF-8.
 pub fn from_utf8(bytes: &[u8]) -> Result<&str, Utf8Error>
     ensures { MatchResult result (λ text. (text.now ≡ bytes.now) × IsUtf8 bytes.now) (λ _. ¬ (IsUtf8 bytes.now)) }
 {
@@ -23,7 +23,7 @@ pub fn from_utf8(bytes: &[u8]) -> Result<&str, Utf8Error>
     basic::from_utf8(bytes)
 }
 
-// Whether the bytes are ASCII, where there are sixty-four or more.
+// Returns whether these bytes, sixty-four or more, are ASCII.
 #[inline(always)]
 fn is_ascii(bytes: &[u8]) -> bool
     ensures { IsTrue result → IsAscii bytes.now }
@@ -42,7 +42,7 @@ fn is_ascii(bytes: &[u8]) -> bool
     are_ascii(bytes, last)
 }
 
-// Whether the sixty-four bytes from a place on are.
+// Returns whether the sixty-four bytes from an offset on are ASCII.
 #[inline(always)]
 fn are_ascii(bytes: &[u8], at: usize) -> bool
     requires { at + LANES ≤ length bytes.now }

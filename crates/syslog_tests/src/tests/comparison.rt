@@ -50,7 +50,7 @@ fn changed<'a>(rt: &impl Abort, alloc: Global, change: &str) -> Message<&'a str>
     message
 }
 
-// Whether they are equal is asked in either order, and by both operators.
+// Compares them in either order, by both operators.
 fn compare_as(one: &Message<&str>, other: &Message<&str>, equal: bool) -> bool {
     let same = one == other && other == one;
     let differs = one != other && other != one;
@@ -98,7 +98,7 @@ fn is_equal_to_what_is_read_and_of_its_protocol(rt: HostRuntime) {
     }
 }
 
-/// Texts that are read as equal messages: letters of a month, an element that is broken otherwise, and white space.
+/// Texts that parse as equal messages: letters of a month, an element that is broken otherwise, and white space.
 const EQUALS: [(&str, &str); 4] = [
     (
         "<34>Oct 11 22:14:15 : a message",
@@ -164,7 +164,7 @@ fn number<S: AsStr>(message: &Message<S>) -> Option<i32> {
     }
 }
 
-// The owned message has the protocol and the number of the other, and prints so. So does a copy, which is equal to it.
+// The owned message has the protocol and the number of the other, and prints so; a copy is equal and prints so too.
 fn check_owned(rt: &impl Abort, alloc: Global, message: &Message<&str>, printed: &str) {
     let owned = message.to_owned_text(alloc).expect(rt, printed);
     let same = owned.protocol == message.protocol && number(&owned) == number(message);

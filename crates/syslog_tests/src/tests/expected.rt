@@ -1,7 +1,7 @@
 //! A message as a test writes it down, and the comparison with one that was read.
 //!
-//! A table has a row for each text. A row is one text of cells with `¦` between them: first the text that is read, then
-//! the fields of its message, each by a word, a blank and what stands in it, in any order:
+//! A table has a row for each text. A row is one text of cells with `¦` between them: first the text that is parsed,
+//! then the fields of its message in any order, each a word, a blank and the value:
 //!
 //!     - h app[7]: [e k="v"][f] hi¦host h¦app app¦pid 7¦list e|k|v\nf¦msg hi¦prints <47> - h app[7]: [e k="v"][f] hi
 //!
@@ -17,8 +17,8 @@
 //! | `prints` | the text that the message prints as |
 //! | `year` | the year of a date that shows none: 2019 where there is no such cell |
 //!
-//! A field without a cell is absent, or empty. In a source a row is written on several lines, each but the last with a
-//! backslash at its end, which takes the blanks before the next one away.
+//! A field without a cell is absent, or empty. A row may be written on several lines, each but the last with a
+//! backslash at its end, which removes the blanks before the next.
 use std::alloc::Global;
 use std::process::Abort;
 use syslog_loose::{AsStr, Message, ProcId, StructuredElement};
@@ -28,7 +28,7 @@ pub(super) fn text_of(row: &str) -> &str {
     row.split('¦').next().unwrap_or("")
 }
 
-/// The cells behind the text of a row.
+/// The cells after the text of a row.
 pub(super) fn cells_of(row: &str) -> &str {
     match row.split_once('¦') {
         Some((_, cells)) => cells,
@@ -36,7 +36,7 @@ pub(super) fn cells_of(row: &str) -> &str {
     }
 }
 
-/// What stands in a field's cell, and in the last one where it has several.
+/// The value of a field: that of its last cell.
 pub(super) fn cell<'a>(cells: &'a str, field: &str) -> Option<&'a str> {
     let mut found = None;
     for cell in cells.split('¦') {
@@ -49,7 +49,7 @@ pub(super) fn cell<'a>(cells: &'a str, field: &str) -> Option<&'a str> {
     found
 }
 
-/// The number in a cell, and this one where there is no cell.
+/// The number in a field's cell, or this one if it has none.
 pub(super) fn number_of(cell: Option<&str>, absent: i32) -> i32 {
     match cell {
         Some(number) => number.parse().unwrap_or(0),
@@ -57,7 +57,7 @@ pub(super) fn number_of(cell: Option<&str>, absent: i32) -> i32 {
     }
 }
 
-/// What the message prints as.
+/// The printed text of the message.
 pub(super) fn printed_of(cells: &str) -> &str {
     cell(cells, "prints").unwrap_or("<47>1 - - - - - - ")
 }
@@ -82,12 +82,12 @@ pub(super) fn are_cells(cells: &str) -> bool {
     true
 }
 
-/// Each comparison of a row ends here, since a message with an assertion is dear to prove.
+/// Each comparison of a row ends here, since an assertion with a message is slow to prove.
 pub(super) fn check(rt: &impl Abort, holds: bool, what: &str, row: &str) {
     assert!(rt; holds, "{what}: {row}");
 }
 
-/// The row with so many of the part in place of each `…`.
+/// The row with n of the part for each `…`.
 pub(super) fn filled(
     rt: &impl Abort,
     alloc: Global,
@@ -107,7 +107,7 @@ pub(super) fn filled(
     text
 }
 
-/// Both are the same text, or none is there.
+/// Both are one text, or both are absent.
 pub(super) fn is_same(found: Option<&str>, want: Option<&str>) -> bool {
     match found {
         Some(found) => match want {

@@ -10,14 +10,13 @@ use syslog_loose::{
 /// A zone at +01:00 in winter and at +02:00 in summer.
 pub(super) const RULE: &str = "CET-1CEST,M3.5.0,M10.5.0/3";
 
-/// The years that a closure answers in January 2020: of a date in December, and of one in another month.
+/// The years that a closure returns in January 2020: of a date in December, and of one in another month.
 pub(super) const IN_JANUARY: (i32, i32) = (2019, 2020);
 
-/// What a reading call answers.
+/// What a reading call returns.
 pub(super) type Answer<'a> = Result<Message<&'a str>, ParseFault>;
 
-/// The message of the text in this zone, or with none given, and with a closure that answers the years by the month, as
-/// in `IN_JANUARY`.
+/// Parses the text in this zone, or with none given, and with a closure that returns the years of `IN_JANUARY`.
 pub(super) fn read_in_years<'a>(
     alloc: Global,
     text: &'a str,
@@ -35,12 +34,12 @@ pub(super) fn read_in_years<'a>(
     )
 }
 
-/// The message of the text, with UTC as the zone and 2019 as the year of a date that has none.
+/// Parses the text with UTC as the zone and 2019 as the year of a date that has none.
 pub(super) fn read<'a>(alloc: Global, text: &'a str, variant: Variant) -> Answer<'a> {
     read_in_years(alloc, text, (2019, 2019), Some(&TimeZone::UTC), variant)
 }
 
-/// The answer is that the text has no division.
+/// Checks that the text does not parse.
 pub(super) fn is_invalid(answer: Answer<'_>) -> bool {
     match answer {
         Ok(_) => false,
@@ -48,7 +47,7 @@ pub(super) fn is_invalid(answer: Answer<'_>) -> bool {
     }
 }
 
-/// No text has a division by the variant.
+/// Checks that no text parses by the variant.
 pub(super) fn check_invalid(rt: &impl Abort, alloc: Global, variant: Variant, texts: &[&str]) {
     for text in texts {
         check(

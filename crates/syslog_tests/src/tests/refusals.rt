@@ -1,10 +1,10 @@
-//! Refused memory where a text has elements.
+//! Failed allocations for texts with elements.
 use super::expected::{are_elements, cell, cells_of, check, text_of};
 use super::reading::{Answer, check_invalid, read};
 use std::process::Abort;
 use syslog_loose::{ParseFault, Variant};
 
-/// Rows as `expected.rt` says, each with a list or with none that is kept, and with the message behind it.
+/// Rows as `expected.rt` says, each with a list, or one of which nothing is kept, and with the message after it.
 const LISTED: [&str; 2] = [
     "<13>1 2019-02-13T19:48:34+00:00 74794bfb6795 root 8449 - [meta sequenceId=\"1\" sysUpTime=\"37\" \
      language=\"EN\"][origin ip=\"192.168.0.1\" software=\"test\"] i am foobar\
@@ -12,7 +12,7 @@ const LISTED: [&str; 2] = [
     "1 - - - - - [a b=\"c\"] x¦list a|b|c¦msg x",
 ];
 
-// The answer has the elements and the message of the row.
+// The result has the elements and the message of the row.
 fn check_answer(rt: &impl Abort, answer: Answer<'_>, row: &str) {
     let cells = cells_of(row);
     let same = match answer {

@@ -23,8 +23,8 @@ fn shows_facility(text: &str) -> bool {
     }
 }
 
-/// It is the message of RFC 3164 of the cells; the printed text has the priority and the timestamp. What is absent of a
-/// priority prints as something, so that is asked of the fields.
+/// It is the message of RFC 3164 of the cells; the printed text has the priority and the timestamp. An absent part of a
+/// priority prints as something, so the fields are looked at.
 fn check_message(rt: &impl Abort, alloc: Global, message: &Message<&str>, text: &str, cells: &str) {
     check(rt, message.protocol == Protocol::RFC3164, "protocol", text);
     let same = message.facility.is_some() == shows_facility(text);
@@ -35,7 +35,7 @@ fn check_message(rt: &impl Abort, alloc: Global, message: &Message<&str>, text: 
     check_printed(rt, alloc, message, printed_of(cells));
 }
 
-/// The text reads so by the variant, in a given zone and without one.
+/// The text parses so by the variant, in a given zone and without one.
 fn check_text(rt: &impl Abort, alloc: Global, text: &str, cells: &str, variant: Variant) {
     let year = number_of(cell(cells, "year"), 2019);
     for tz in &[Some(&TimeZone::UTC), None] {
@@ -45,7 +45,7 @@ fn check_text(rt: &impl Abort, alloc: Global, text: &str, cells: &str, variant: 
     }
 }
 
-/// The text of each row reads so as RFC 3164 and under `Either`, and not as RFC 5424.
+/// The text of each row parses so as RFC 3164 and under `Either`, and not as RFC 5424.
 fn check_table(rt: &impl Abort, alloc: Global, rows: &[&str]) {
     for row in rows {
         let (text, cells) = (text_of(row), cells_of(row));

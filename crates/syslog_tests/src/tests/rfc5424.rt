@@ -34,7 +34,7 @@ fn check_message(rt: &impl Abort, alloc: Global, message: &Message<&str>, text: 
     check_printed(rt, alloc, message, printed_of(cells));
 }
 
-/// The text reads as its message, as RFC 5424 and under `Either`, in a given zone and without one.
+/// The text parses as its message, as RFC 5424 and under `Either`, in a given zone and without one.
 fn check_text(rt: &impl Abort, alloc: Global, text: &str, cells: &str) {
     for variant in &[Variant::Either, Variant::RFC5424] {
         let message = read(alloc, text, *variant).expect(rt, text);
@@ -45,7 +45,7 @@ fn check_text(rt: &impl Abort, alloc: Global, text: &str, cells: &str) {
     }
 }
 
-/// The text of each row reads so.
+/// The text of each row parses so.
 fn check_table(rt: &impl Abort, alloc: Global, rows: &[&str]) {
     for row in rows {
         check_text(rt, alloc, text_of(row), cells_of(row));

@@ -11,7 +11,7 @@ use syslog_loose::{
     parse_message_with_year_tz,
 };
 
-// The text of the row reads as its message in this zone.
+// The text of the row parses as its message in this zone.
 fn check_reading(rt: &impl Abort, alloc: Global, tz: &TimeZone<'_>, row: &str) {
     let (text, cells) = (text_of(row), cells_of(row));
     for variant in &[Variant::Either, Variant::RFC3164] {
@@ -42,7 +42,7 @@ fn reads_dates_in_a_given_zone(rt: HostRuntime) -> Result<(), Fail> {
     Ok(())
 }
 
-// A date in the gap of this zone has no reading where it is given, and one where it is the local zone.
+// A date in the gap of this zone does not parse if the zone is given, and parses if it is the local zone.
 #[test]
 fn refuses_a_gap_of_a_given_zone_alone(rt: HostRuntime) -> Result<(), Fail> {
     let rule = TimeZone::posix(RULE)?;
@@ -58,7 +58,7 @@ fn refuses_a_gap_of_a_given_zone_alone(rt: HostRuntime) -> Result<(), Fail> {
     Ok(())
 }
 
-// Whether the call asks for a year.
+// Returns whether the call asks for a year.
 fn is_asked(alloc: Global, text: &str, variant: Variant, tz: &TimeZone<'_>) -> bool {
     let mut called = false;
     let answer = parse_message_with_year_exact_tz(
@@ -117,7 +117,7 @@ fn takes_the_year_of_now_in_the_local_zone(rt: HostRuntime) -> Result<(), Fail> 
     Ok(())
 }
 
-/// Texts without a reading.
+/// Texts that do not parse.
 const UNREADABLE: [&str; 6] = [
     "",
     "  ",
@@ -127,7 +127,7 @@ const UNREADABLE: [&str; 6] = [
     " complete and utter gobbledegook ",
 ];
 
-/// The calls that answer the fallback; the last two are one call, with a zone that is given and with none.
+/// The calls that return the fallback; the last two are one call, with a zone that is given and with none.
 #[derive(Clone, Copy)]
 enum Call {
     Moment,
@@ -138,7 +138,7 @@ enum Call {
 
 const CALLS: [Call; 4] = [Call::Moment, Call::Year, Call::GivenZone, Call::LocalZone];
 
-// What the call answers, with UTC as the zone.
+// What the call returns, with UTC as the zone.
 fn answer_of<'a>(
     alloc: Global,
     call: Call,
@@ -158,7 +158,7 @@ fn answer_of<'a>(
     }
 }
 
-// Nothing stands in another field than `msg`.
+// All fields but `msg` are absent.
 fn has_msg_alone(message: &Message<&str>, msg: &str) -> bool {
     message.facility.is_none()
         && message.severity.is_none()
@@ -171,7 +171,7 @@ fn has_msg_alone(message: &Message<&str>, msg: &str) -> bool {
         && message.msg == msg
 }
 
-// Each call that answers the fallback answers a message of RFC 3164 with nothing but this in it.
+// Each call with a fallback returns a message of RFC 3164 with this `msg` alone.
 fn check_fallback_calls(rt: &impl Abort, alloc: Global, text: &str, variant: Variant, msg: &str) {
     let now = Timestamp::from_second(NOW).expect(rt, "no instant");
     for call in &CALLS {
@@ -189,7 +189,7 @@ fn answers_the_fallback_where_there_is_no_reading(rt: HostRuntime) {
         }
         check_invalid(&rt, rt.alloc(), *variant, &UNREADABLE);
     }
-    // As RFC 5424 these have no reading, so there the whole text is left.
+    // These do not parse as RFC 5424, so the fallback has the whole text.
     for (text, msg) in &[("-", ""), ("--x", "-x")] {
         check_fallback_calls(&rt, rt.alloc(), text, Variant::Either, msg);
         check_fallback_calls(&rt, rt.alloc(), text, Variant::RFC3164, msg);

@@ -1,4 +1,4 @@
-//! Messages of RFC 3164 built by hand: whether they are canonical, how they print, and what that is read as.
+//! Messages of RFC 3164 built by hand: whether they are canonical, how they print, and what that parses as.
 use crate::tests::built::message;
 use crate::tests::expected::{
     cells_of, check, check_fields, check_printed, check_priority, text_of,
@@ -8,7 +8,7 @@ use std::alloc::Global;
 use std::process::Abort;
 use syslog_loose::{Protocol, Variant};
 
-/// The text reads as the message of the cells under `Either` and as RFC 3164.
+/// The text parses as the message of the cells under `Either` and as RFC 3164.
 fn check_reading(rt: &impl Abort, alloc: Global, text: &str, cells: &str) {
     for variant in &[Variant::Either, Variant::RFC3164] {
         let found = read(alloc, text, *variant).expect(rt, text);
@@ -19,7 +19,7 @@ fn check_reading(rt: &impl Abort, alloc: Global, text: &str, cells: &str) {
     }
 }
 
-/// A row is the cells of a message, what it prints as, and the cells of the other message that this is read as. Without
+/// A row is the cells of a message, what it prints as, and the cells of the other message that this parses as. Without
 /// the last it is the row of a canonical message, which is read back.
 fn check_row(rt: &impl Abort, alloc: Global, row: &str) {
     let (built, rest) = row.split_once(" → ").expect(rt, row);

@@ -1,14 +1,14 @@
-//! The answers of the Rust crate `syslog_loose` 0.23.0 to texts of RFC 3164 chosen for this file.
+//! What the Rust crate `syslog_loose` 0.23.0 returned for texts of RFC 3164 chosen for this file.
 //!
-//! How it was made: the crate, built by rustc 1.95, read each text under its variant RFC3164 with UTC as both zones and
-//! 2019 as the year; its fields and its printed text were written down here, and are not made anew. There a dash is a
-//! list before anything; the texts that are read otherwise here for that stand in a test of their own.
+//! The crate, built by rustc 1.95, parsed each text under its variant RFC3164, with UTC as both zones and 2019 as the
+//! year. Its fields and its printed text were written down here once. There a dash is a list before anything; the texts
+//! that read differently here have a test of their own.
 use super::check_message;
 use crate::tests::expected::{cells_of, check, check_fields, check_timestamp, is_same, text_of};
 use crate::tests::reading::{check_invalid, read};
 use syslog_loose::Variant;
 
-// Each text reads as its message; the priority is seen in the printed text.
+// Each text parses as its message; the printed text shows the priority.
 #[test]
 fn agrees_on_messages(rt: HostRuntime) {
     for row in &[
@@ -191,7 +191,7 @@ fn agrees_on_messages(rt: HostRuntime) {
     }
 }
 
-// A row is a text, the crate's message, and that which is read here. The other fields are the same.
+// A row is a text, the crate's message, and ours. The other fields are the same.
 #[test]
 fn differs_where_a_dash_stands_before_no_blank(rt: HostRuntime) {
     for row in &[

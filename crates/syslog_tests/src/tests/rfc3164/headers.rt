@@ -112,7 +112,7 @@ const LINES: [&str; 13] = [
 #[test]
 fn reads_lines_of_programs(rt: HostRuntime) {
     check_table(&rt, rt.alloc(), &LINES);
-    // So they read without a zone where the closure answers by the month, whatever year the row has.
+    // They parse so without a zone if the closure returns years by the month, whatever year the row has.
     for row in &LINES {
         for variant in &[Variant::Either, Variant::RFC3164] {
             let answer = read_in_years(rt.alloc(), text_of(row), IN_JANUARY, None, *variant);

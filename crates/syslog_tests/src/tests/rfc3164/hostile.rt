@@ -1,11 +1,11 @@
-//! Hostile texts of RFC 3164: long numbers and words, brackets and quotes without an end, and characters that only look
-//! like white space.
+//! Adversarial texts of RFC 3164: long numbers and words, brackets and quotes without an end, and characters that only
+//! look like white space.
 use super::check_table;
 use crate::tests::expected::filled;
 use crate::tests::reading::check_invalid;
 use syslog_loose::Variant;
 
-/// Behind a host and a tag, the whole is the message.
+/// After a host and a tag, the whole is the message.
 const LEFT: &str = "- h a: …¦host h¦app a¦msg …¦prints <47> - h a: …";
 
 #[test]
@@ -27,13 +27,13 @@ fn reads_texts_with_long_parts(rt: HostRuntime) {
             1000,
             "Oct …5 …2019 …7:…8:…9 h a: x¦host h¦app a¦msg x¦prints <47> 2019-10-05T07:08:09+00:00 h a: x",
         ),
-        // Nines are a name where they are too large for a process id.
+        // Nines are a name if they are too large for a process id.
         (
             "9",
             1000,
             "- h a[…]: x¦host h¦app a¦name …¦msg x¦prints <47> - h a[…]: x",
         ),
-        // Decimals behind the ninth are cut off.
+        // Decimals past the ninth are cut off.
         (
             "1",
             1000,

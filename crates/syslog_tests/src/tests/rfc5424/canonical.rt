@@ -1,4 +1,4 @@
-//! Messages built by hand: whether they are canonical, and what their printed text is read as.
+//! Messages built by hand: whether they are canonical, and what their printed text parses as.
 use super::check_text;
 use crate::tests::built::{message, stamp};
 use crate::tests::expected::check;
@@ -10,11 +10,11 @@ use syslog_loose::{Message, Protocol, Variant};
 /// The protocol of the messages here.
 const FIRST: Protocol = Protocol::RFC5424(1);
 
-/// The cells of the message with the `msg` x alone as it is read.
+/// The cells of the message with the `msg` x alone, once it is parsed.
 const SAME: &str = "facility auth¦severity crit¦msg x¦prints <34>1 - - - - - - x";
 
-/// Whether the message is canonical, and in which cells that differ from `SAME` its printed text is read under `Either`
-/// and by RFC 5424.
+/// Checks whether the message is canonical, and in which cells its printed text parses otherwise than `SAME`, under
+/// `Either` and by RFC 5424.
 fn check_built(
     rt: &impl Abort,
     alloc: Global,
@@ -29,7 +29,7 @@ fn check_built(
     check_text(rt, alloc, text.as_str(), cells.as_str());
 }
 
-/// The message is not canonical, and its printed text has no reading, under `Either` and by RFC 5424.
+/// The message is not canonical, and its printed text does not parse, under `Either` and by RFC 5424.
 fn check_unread(rt: &impl Abort, alloc: Global, message: &Message<&str>) {
     let text = format!(in alloc; "{message}").expect(rt, "no memory");
     check(rt, !message.is_canonical(), "canonical", text.as_str());
@@ -38,7 +38,7 @@ fn check_unread(rt: &impl Abort, alloc: Global, message: &Message<&str>) {
     }
 }
 
-/// A row is the cells of a message with its `msg`, and those that differ from `SAME` as it is read.
+/// A row is the cells of a message with its `msg`, and those that differ from `SAME` once it is parsed.
 fn check_rows(rt: &impl Abort, alloc: Global, canonical: bool, rows: &[&str]) {
     for row in rows {
         let (built, read) = row.split_once(" → ").expect(rt, row);
@@ -60,7 +60,7 @@ fn reads_canonical_messages_back_and_others_as_they_print(rt: HostRuntime) {
             "msg - → ¦msg -¦prints <34>1 - - - - - - -",
             "msg [f → ¦msg [f¦prints <34>1 - - - - - - [f",
             "msg \nx → ¦msg \nx¦prints <34>1 - - - - - - \nx",
-            // Values, which are read as they stand.
+            // Values, which are read as they are.
             "msg x¦list a|b|x] → ¦list a|b|x]¦prints <34>1 - - - - - [a b=\"x]\"] x",
             "msg x¦list a|b|\\\" → ¦list a|b|\\\"¦prints <34>1 - - - - - [a b=\"\\\"\"] x",
         ],

@@ -1,7 +1,7 @@
-//! The answers of the Rust crate `syslog_loose` 0.23.0 to texts chosen for this file.
+//! What the Rust crate `syslog_loose` 0.23.0 returned for texts chosen for this file.
 //!
-//! How it was made: the crate, built by rustc 1.95, read each text under its variant RFC5424 with UTC as the local
-//! zone; its fields and its printed text were written down here, and are not made anew.
+//! The crate, built by rustc 1.95, parsed each text under its variant RFC5424 with UTC as the local zone. Its fields
+//! and its printed text were written down here once.
 use super::check_table;
 use crate::tests::reading::check_invalid;
 use syslog_loose::Variant;

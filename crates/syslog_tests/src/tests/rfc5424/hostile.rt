@@ -19,13 +19,13 @@ fn reads_texts_with_long_parts(rt: HostRuntime) {
             1000,
             "1 - h a …7 m - x¦host h¦app a¦pid 7¦id m¦msg x¦prints <47>1 - h a 7 m - x",
         ),
-        // Nines are a name where they are too large for a process id.
+        // Nines are a name if they are too large for a process id.
         (
             "9",
             1000,
             "1 - h a … m - x¦host h¦app a¦name …¦id m¦msg x¦prints <47>1 - h a … m - x",
         ),
-        // Decimals behind the ninth are cut off.
+        // Decimals past the ninth are cut off.
         (
             "1",
             1000,
