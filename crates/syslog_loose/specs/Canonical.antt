@@ -1,9 +1,12 @@
 -- The written condition: the messages that are read back unchanged from their printed text. It speaks of the fields
 -- alone, and never of reading. (This project's own.)
-use Rattle.std.specs.Prelude.{◌≡◌, ◌≢◌, ℕ, ◌<◌, ◌^◌, ◌&&◌, not, nat_eq, ⊤, Bool}
-use Rattle.std.specs.Prelude.{[], length, Option, Some, None, IfSome, IsSome}
+use Rattle.std.specs.Prelude.{◌≡◌, ◌≢◌, ◌↔◌, ℕ, ◌<◌, ◌^◌, ◌&&◌, not, nat_eq, ⊤, Bool, IsTrue, MatchBool}
+use Rattle.std.specs.Prelude.{List, [], length, Option, Some, None, IfSome, IsSome}
 use Rattle.std.specs.List.{AllByRecursion}
+use Rattle.std.specs.Option.{option_map}
 use Rattle.syslog_pieces.specs.Pieces.Class.{Text, Each, Ends}
+use Rattle.syslog_pieces.specs.ProcId.{procid_value}
+use Rattle.syslog_pieces.specs.StructuredData.Element.{ElementValue}
 use Rattle.syslog_pieces.specs.StructuredData.Rfc3164List.{BeginsNoList}
 use Rattle.syslog_pieces.specs.Text.{is_blank, is_tag_char, dash}
 use Rattle.syslog_pieces.specs.Text.CharClass.{is_label_char}
@@ -14,6 +17,7 @@ pub use Rattle.syslog_pieces.specs.Timestamp.Canonical.{IsCanonicalStamp}
 use Rattle.syslog_pieces.specs.declared.procid.ProcId.{ProcId}
 use Rattle.syslog_pieces.specs.declared.procid.ProcId.TheVariants.{PID, Name}
 use Rattle.syslog_pieces.specs.declared.structured_data.rfc3164_list.DashRule.{DashRule}
+use Rattle.syslog_loose.specs.declared.message.canonical.Fields.{Fields}
 use Rattle.syslog_loose.specs.declared.message.Protocol.{Protocol}
 use Rattle.syslog_loose.specs.declared.message.Protocol.TheVariants.{RFC3164, RFC5424}
 use Rattle.syslog_loose.specs.Message.{MessageValue}
@@ -89,3 +93,25 @@ IsCanonicalFor rule (RFC5424 version) m = IsCanonical5424 m
 -- the message is read back unchanged from its printed text, and only such a one is
 abbrev pub IsCanonical : DashRule → MessageValue → Type 0
 IsCanonical rule m = IsCanonicalInBoth m × IsCanonicalFor rule m.protocol m
+
+-- ---- words of the bodies
+
+-- whether there is no element, and whether each has a parameter
+pub record AreElements (none params : Bool) (es : List ElementValue) : Type 0 where
+  pub none_is : MatchBool none (es ≡ []) (es ≢ [])
+  pub params_is : IsTrue params ↔ AllByRecursion (λ e. 0 < length e.params) es
+
+-- the message of these fields and elements
+abbrev pub fields_value : {S : Type 0} → (S → Text) → Fields S → List ElementValue → MessageValue
+fields_value text f es = record {
+  protocol = f.protocol;
+  facility = f.facility;
+  severity = f.severity;
+  timestamp = f.timestamp;
+  hostname = option_map text f.hostname.now;
+  appname = option_map text f.appname.now;
+  procid = option_map (procid_value text) f.procid.now;
+  msgid = option_map text f.msgid.now;
+  structured_data = es;
+  msg = text f.msg.now;
+}

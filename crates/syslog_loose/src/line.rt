@@ -1,14 +1,16 @@
 //! A parsed line: the one value between a text and whatever is made of it. It takes no memory.
-ghost use Rattle.std.specs.Prelude.{◌≡◌, map};
+ghost use Rattle.std.specs.Prelude.{◌≡◌, ◌↔◌, ◌<◌, IsTrue, length, map};
+ghost use Rattle.std.specs.List.{AllByRecursion};
 ghost use Rattle.std.specs.Option.{option_map};
 ghost use Rattle.syslog_pieces.specs.Pieces.View.{shown};
 ghost use Rattle.syslog_pieces.specs.ProcId.{procid_value};
 ghost use Rattle.syslog_pieces.specs.StructuredData.Element.{element_value};
+ghost use Rattle.syslog_pieces.specs.StructuredData.Visited.{list_elements};
 
 mod printing;
 mod quirks;
 
-use crate::message::{Message, Protocol};
+use crate::message::{Fields, Message, Protocol, are_canonical_fields};
 pub(crate) use printing::{print_line, write_list};
 pub(crate) use quirks::{has_no_quirk, has_quiet_names};
 use std::alloc::{AllocError, Global};
@@ -47,8 +49,10 @@ pub struct Line<'a> {
 
 impl<'a> Line<'a> {
     ghost use Rattle.syslog_loose.specs.Line.{line_value};
-    ghost use Rattle.syslog_pieces.specs.StructuredData.Visited.{elements_left, list_elements};
-    ghost use Rattle.std.specs.Prelude.{◌≢◌, [], MatchResult};
+    ghost use Rattle.syslog_pieces.specs.StructuredData.Visited.{elements_left};
+    ghost use Rattle.std.specs.Prelude.{◌≢◌, ◌↔◌, [], IsTrue, MatchResult};
+    ghost use Rattle.syslog_loose.specs.Canonical.{IsCanonical};
+    ghost use Rattle.syslog_loose.specs.Reading.{dash_rule};
     ghost use Rattle.syslog_loose.specs.Message.{message_value};
 
     /// Returns the protocol.
@@ -117,6 +121,28 @@ impl<'a> Line<'a> {
         Ok(self.with(elements))
     }
 
+    /// Returns whether the line's message, printed, is parsed as the same message by its own protocol.
+    ///
+    /// It looks at the fields alone, takes no memory, and its time is linear in the line.
+    pub fn is_canonical(&self) -> bool
+        ensures { IsTrue result ↔ IsCanonical dash_rule (line_value self.now) }
+    {
+        let procid = self.process();
+        are_canonical_fields(&Fields {
+            protocol: self.protocol(),
+            facility: self.facility(),
+            severity: self.severity(),
+            timestamp: self.instant(),
+            hostname: &self.hostname,
+            appname: &self.appname,
+            procid: &procid,
+            msgid: &self.msgid,
+            msg: &self.msg,
+            no_elements: self.list.is_empty(),
+            have_params: have_params(&self.list),
+        })
+    }
+
     // The message with these elements.
     #[inline(always)]
     pub(crate) fn with(&self, elements: Vec<StructuredElement<&'a str>>) -> Message<&'a str>
@@ -136,4 +162,16 @@ impl<'a> Line<'a> {
             msg: self.msg,
         }
     }
+}
+
+// Whether each element has a parameter.
+fn have_params(list: &ElementList<'_>) -> bool
+    ensures { IsTrue result ↔ AllByRecursion (λ e. 0 < length e.params) (list_elements list.now) }
+{
+    for element in list.elements() {
+        if element.params_len() == 0 {
+            return false;
+        }
+    }
+    true
 }

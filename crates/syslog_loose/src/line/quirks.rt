@@ -15,9 +15,8 @@ ghost use Rattle.syslog_loose.specs.Line.{line_value};
 ghost use Rattle.syslog_loose.specs.Reading.{dash_rule};
 
 use super::Line;
+use crate::message::begins_no_list;
 use syslog_pieces::procid::ProcId;
-use syslog_pieces::structured_data::ElementList;
-use syslog_pieces::structured_data::rfc3164_list::{DASH_RULE, begins_list};
 use syslog_pieces::timestamp::canonical::is_canonical_clock;
 
 /// Whether the line has no quirk.
@@ -27,7 +26,7 @@ pub(crate) fn has_no_quirk(line: &Line<'_>) -> bool
     if !has_quiet_names(line) {
         return false;
     }
-    begins_no_list(&line.list, line.msg)
+    begins_no_list(line.list.is_empty(), line.msg)
 }
 
 /// Whether it has none before its message part.
@@ -41,16 +40,6 @@ pub(crate) fn has_quiet_names(line: &Line<'_>) -> bool
         return false;
     }
     is_uncut_process(line.process())
-}
-
-// Whether the message part is not taken for a list, where there is none before it.
-fn begins_no_list(list: &ElementList<'_>, msg: &str) -> bool
-    ensures { IsTrue result ↔ (list_elements list.now ≡ [] → BeginsNoList dash_rule (chars msg.now)) }
-{
-    if !list.is_empty() {
-        return true;
-    }
-    !begins_list(msg, DASH_RULE)
 }
 
 // Whether the host is neither the text of an absent one nor taken for the one after the names.

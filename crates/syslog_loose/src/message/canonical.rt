@@ -1,15 +1,16 @@
 //! The written condition, tested on the fields: each text is put before the scanner or the reader that would read it.
 ghost use Rattle.std.specs.List.{AllByRecursion};
 ghost use Rattle.std.specs.Option.{option_map};
-ghost use Rattle.std.specs.Prelude.{◌≡◌, ◌↔◌, ◌<◌, [], IfSome, IsTrue, None, Some, length, map};
+ghost use Rattle.std.specs.Prelude.{◌≡◌, ◌≢◌, ◌↔◌, ◌<◌, List, [], IfSome, IsTrue, MatchBool, None, Some, length, map};
 ghost use Rattle.std.specs.Str.{chars};
 ghost use Rattle.syslog_pieces.specs.Pieces.Class.{Ends};
 ghost use Rattle.syslog_pieces.specs.Pieces.View.{text_of};
 ghost use Rattle.syslog_pieces.specs.ProcId.{procid_value};
-ghost use Rattle.syslog_pieces.specs.StructuredData.Element.{element_value};
+ghost use Rattle.syslog_pieces.specs.StructuredData.Element.{ElementValue, element_value};
 ghost use Rattle.syslog_pieces.specs.StructuredData.Rfc3164List.{BeginsNoList};
 ghost use Rattle.syslog_pieces.specs.Text.{is_blank};
 ghost use Rattle.syslog_loose.specs.Canonical as spec;
+ghost use Rattle.syslog_loose.specs.Canonical.{AreElements, fields_value};
 ghost use Rattle.syslog_loose.specs.Message.{message_value};
 ghost use Rattle.syslog_loose.specs.Reading.{dash_rule};
 ghost use Rattle.syslog_loose.specs.TagForm.{IsNoForm};
@@ -17,10 +18,11 @@ ghost use Rattle.syslog_loose.specs.TagForm.{IsNoForm};
 use super::{Message, Protocol};
 use crate::tag_form::tag_form;
 use syslog_pieces::as_str::AsStr;
+use syslog_pieces::pri::{SyslogFacility, SyslogSeverity};
 use syslog_pieces::procid::{ProcId, is_canonical_process, names_number};
 use syslog_pieces::structured_data::StructuredElement;
 use syslog_pieces::structured_data::canonical::are_canonical_elements;
-use syslog_pieces::structured_data::rfc3164_list::{DASH_RULE, DashRule, begins_list};
+use syslog_pieces::structured_data::rfc3164_list::{DASH_RULE, begins_list};
 use syslog_pieces::text::CharClass;
 use syslog_pieces::text::canonical::{
     begins_unblank, is_canonical_host, is_canonical_tag, is_canonical_word, is_only, is_some_of,
@@ -28,49 +30,81 @@ use syslog_pieces::text::canonical::{
 use syslog_pieces::timestamp::OffsetTimestamp;
 use syslog_pieces::timestamp::canonical::is_canonical_stamp;
 
+/// What the written condition asks about: the fields of a message, and two facts about its elements.
+#[derive(Drop)]
+pub(crate) struct Fields<'a, S> {
+    pub(crate) protocol: Protocol,
+    pub(crate) facility: Option<SyslogFacility>,
+    pub(crate) severity: Option<SyslogSeverity>,
+    pub(crate) timestamp: Option<OffsetTimestamp>,
+    pub(crate) hostname: &'a Option<S>,
+    pub(crate) appname: &'a Option<S>,
+    pub(crate) procid: &'a Option<ProcId<S>>,
+    pub(crate) msgid: &'a Option<S>,
+    pub(crate) msg: &'a S,
+    /// Whether there is no element.
+    pub(crate) no_elements: bool,
+    /// Whether each element has a parameter.
+    pub(crate) have_params: bool,
+}
+
 impl<S: AsStr> Message<S> {
     /// Whether the message is read back unchanged from its printed text, by its own protocol. It looks at the fields
     /// alone: it prints nothing and takes no memory, and its time is linear in the message.
     pub fn is_canonical(&self) -> bool
         ensures { IsTrue result ↔ spec.IsCanonical dash_rule (message_value (text_of S.text) self.now) }
     {
-        is_canonical_under(self, DASH_RULE)
+        if !are_canonical_elements(&self.structured_data) {
+            return false;
+        }
+        are_canonical_fields(&Fields {
+            protocol: self.protocol,
+            facility: self.facility,
+            severity: self.severity,
+            timestamp: self.timestamp,
+            hostname: &self.hostname,
+            appname: &self.appname,
+            procid: &self.procid,
+            msgid: &self.msgid,
+            msg: &self.msg,
+            no_elements: has_none(&self.structured_data),
+            have_params: have_params(&self.structured_data),
+        })
     }
 }
 
-// Whether the message is canonical under a rule of the dash.
-fn is_canonical_under<S: AsStr>(message: &Message<S>, rule: DashRule) -> bool
-    ensures { IsTrue result ↔ spec.IsCanonical rule (message_value (text_of S.text) message.now) }
+/// Whether a message of these fields is canonical, where its elements are.
+pub(crate) fn are_canonical_fields<S: AsStr>(fields: &Fields<'_, S>) -> bool
+    ensures { (es : List ElementValue) → AreElements fields.now.no_elements fields.now.have_params es
+        → AllByRecursion spec.IsCanonicalElement es → IsTrue result ↔ spec.IsCanonical dash_rule (fields_value (text_of S.text) fields.now es) }
 {
-    if !is_canonical_in_both(message) {
+    if !are_canonical_in_both(fields) {
         return false;
     }
-    match message.protocol {
-        Protocol::RFC5424(_) => is_canonical_rfc5424(message),
-        Protocol::RFC3164 => is_canonical_rfc3164(message, rule),
+    match fields.protocol {
+        Protocol::RFC5424(_) => are_canonical_rfc5424(fields),
+        Protocol::RFC3164 => are_canonical_rfc3164(fields),
     }
 }
 
 // What both protocols ask.
-fn is_canonical_in_both<S: AsStr>(message: &Message<S>) -> bool
-    ensures { IsTrue result ↔ spec.IsCanonicalInBoth (message_value (text_of S.text) message.now) }
+fn are_canonical_in_both<S: AsStr>(fields: &Fields<'_, S>) -> bool
+    ensures { (es : List ElementValue) → AllByRecursion spec.IsCanonicalElement es
+        → IsTrue result ↔ spec.IsCanonicalInBoth (fields_value (text_of S.text) fields.now es) }
 {
-    if message.facility.is_none() {
+    if fields.facility.is_none() {
         return false;
     }
-    if message.severity.is_none() {
+    if fields.severity.is_none() {
         return false;
     }
-    if !is_canonical_time(message.timestamp) {
+    if !is_canonical_time(fields.timestamp) {
         return false;
     }
-    if !is_canonical_name(&message.hostname) {
+    if !is_canonical_name(fields.hostname) {
         return false;
     }
-    if !are_canonical_elements(&message.structured_data) {
-        return false;
-    }
-    is_canonical_msg(message.msg.as_str())
+    is_canonical_msg(fields.msg.as_str())
 }
 
 pub(crate) fn is_canonical_time(timestamp: Option<OffsetTimestamp>) -> bool
@@ -107,16 +141,17 @@ fn ends_visibly(text: &str) -> bool
 }
 
 // What RFC 5424 asks beyond that.
-fn is_canonical_rfc5424<S: AsStr>(message: &Message<S>) -> bool
-    ensures { IsTrue result ↔ spec.IsCanonical5424 (message_value (text_of S.text) message.now) }
+fn are_canonical_rfc5424<S: AsStr>(fields: &Fields<'_, S>) -> bool
+    ensures { (es : List ElementValue) → IsTrue result
+        ↔ spec.IsCanonical5424 (fields_value (text_of S.text) fields.now es) }
 {
-    if !is_word(&message.appname) {
+    if !is_word(fields.appname) {
         return false;
     }
-    if !is_process(&message.procid) {
+    if !is_process(fields.procid) {
         return false;
     }
-    is_word(&message.msgid)
+    is_word(fields.msgid)
 }
 
 fn is_word<S: AsStr>(word: &Option<S>) -> bool
@@ -138,19 +173,20 @@ fn is_process<S: AsStr>(process: &Option<ProcId<S>>) -> bool
 }
 
 // What RFC 3164 asks beyond that.
-fn is_canonical_rfc3164<S: AsStr>(message: &Message<S>, rule: DashRule) -> bool
-    ensures { IsTrue result ↔ spec.IsCanonical3164 rule (message_value (text_of S.text) message.now) }
+fn are_canonical_rfc3164<S: AsStr>(fields: &Fields<'_, S>) -> bool
+    ensures { (es : List ElementValue) → AreElements fields.now.no_elements fields.now.have_params es
+        → IsTrue result ↔ spec.IsCanonical3164 dash_rule (fields_value (text_of S.text) fields.now es) }
 {
-    if !is_absent(&message.msgid) {
+    if !is_absent(fields.msgid) {
         return false;
     }
-    if !are_canonical_names(&message.hostname, &message.appname, &message.procid) {
+    if !are_canonical_names(fields.hostname, fields.appname, fields.procid) {
         return false;
     }
-    if !have_params(&message.structured_data) {
+    if !fields.have_params {
         return false;
     }
-    begins_no_list(&message.structured_data, message.msg.as_str(), rule)
+    begins_no_list(fields.no_elements, fields.msg.as_str())
 }
 
 fn is_absent<S: AsStr>(name: &Option<S>) -> bool
@@ -264,18 +300,18 @@ fn has_any<T>(items: &[T]) -> bool
     !items.is_empty()
 }
 
-// Whether the message is not taken for a list, where there is none before it.
-#[tactic(auto, using(crate::proofs::CanonicalLemmas::some_items))]
-pub(super) fn begins_no_list<S: AsStr>(
-    elements: &[StructuredElement<S>],
-    msg: &str,
-    rule: DashRule,
-) -> bool
-    ensures { IsTrue result ↔ (map (element_value (text_of S.text)) elements.now ≡ []
-        → BeginsNoList rule (chars msg.now)) }
+#[tactic(auto, using(crate::proofs::CanonicalLemmas::no_items, crate::proofs::CanonicalLemmas::some_items))]
+fn has_none<S: AsStr>(elements: &[StructuredElement<S>]) -> bool
+    ensures { MatchBool result (map (element_value (text_of S.text)) elements.now ≡ [])
+        (map (element_value (text_of S.text)) elements.now ≢ []) }
 {
-    if has_any(elements) {
-        return true;
-    }
-    !begins_list(msg, rule)
+    elements.is_empty()
+}
+
+/// Whether the message part is not taken for a list, where there is no element before it.
+pub(crate) fn begins_no_list(no_elements: bool, msg: &str) -> bool
+    ensures { (es : List ElementValue) → MatchBool no_elements (es ≡ []) (es ≢ [])
+        → IsTrue result ↔ (es ≡ [] → BeginsNoList dash_rule (chars msg.now)) }
+{
+    !no_elements || !begins_list(msg, DASH_RULE)
 }

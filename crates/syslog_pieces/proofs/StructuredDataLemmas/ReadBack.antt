@@ -154,7 +154,7 @@ pub forgiving_back : (es : List ElementValue) (q : Text) → AllByRecursion IsCa
 forgiving_back [] q h n = inl (refl, refl)
 forgiving_back (e ∷ es) q h n = inr (map Some (e ∷ es), omega arith, items_back (e ∷ es) q h n, strict_some (e ∷ es))
 
-items_canonical : (p q : Text) (vs : List (Option ElementValue)) → IsMany item p q vs
+pub items_canonical : (p q : Text) (vs : List (Option ElementValue)) → IsMany item p q vs
     → AllByRecursion IsCanonicalElement (strict vs)
 items_canonical p q [] h = tt
 items_canonical p q (None ∷ vs) (a, b, e, h, more) = items_canonical b q vs more

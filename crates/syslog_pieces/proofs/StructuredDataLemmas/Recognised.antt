@@ -3,8 +3,17 @@ use Rattle.syslog_pieces.proofs.Names.{◌≡◌, List, [], ◌++◌, Option, So
 use Rattle.syslog_pieces.proofs.Names.{Text, Class, Front, IsDeterministic, front_same, inside, many, item, strict}
 use Rattle.syslog_pieces.proofs.Names.{ℕ, ◌∷◌, ◌+◌, arith, IsUtf8, encodes-chars, encodes-append, encode_utf8_all}
 use Rattle.syslog_pieces.proofs.Names.{length-append, nil_from_length, append-nil, many_here}
+use Rattle.syslog_pieces.proofs.Names.{AllByRecursion, Bool, BeginsUnblank, Each, Ends, IsCanonicalElement}
+use Rattle.syslog_pieces.proofs.Names.{IsCanonicalParam, IsValue, IsValueUnit, TextUnit, pair, single}
+use Rattle.syslog_pieces.proofs.Names.{flat_map, refl, unit_text}
+use Rattle.syslog_pieces.proofs.Names.{is_blank, is_id_char, is_name_char}
+use Rattle.std.proofs.Math.Logic.{∥∥₁_elim}
+use Rattle.std.proofs.Props.{props}
 use Rattle.std.proofs.lemmas.Str.{length-le-encodes}
-use Rattle.syslog_pieces.proofs.StructuredDataLemmas.ReadBack.{no_item_before, no_item_nil}
+use Rattle.std.specs.List.{AllByRecursion-prop}
+use mathlib.Core.HLevel.{is_prop→PathP}
+use Rattle.syslog_pieces.proofs.StructuredDataLemmas.ReadBack.{items_canonical, no_item_before, no_item_nil}
+use Rattle.syslog_pieces.proofs.StructuredDataLemmas.Units.{units_same}
 use Rattle.syslog_pieces.proofs.Names.{ElementValue, shown, chars, drop, drop-append_seam, ◌∙◌}
 use Rattle.syslog_pieces.specs.StructuredData.Recognised.{OneMeaning, one_value, one_value-is}
 use Rattle.syslog_pieces.specs.StructuredData.Visited.{element_seen, list_elements, list_text}
@@ -47,3 +56,47 @@ dash_items t e = many_here item t (λ p q v w h. no_item_before 45 [] (λ n. ome
 
 pub no_items_here : (t : Text) → t ≡ [] → Front (many item) t t []
 no_items_here t e = many_here item t (λ p q v w h. no_item_nil p q v (sym e ∙ w) h)
+
+-- ---- recognised elements are canonical
+
+unit_prop : (u : TextUnit) → IsProp (IsValueUnit u)
+unit_prop (pair c) = Prim.hlevel props
+unit_prop (single c) = Prim.hlevel props
+
+no_unit_at_end : (u : TextUnit) (t : Text) → IsValueUnit u → unit_text u ++ t ≡ [] → ⊥
+no_unit_at_end (pair c) t h e = cc
+no_unit_at_end (single c) t h e = cc
+
+value_prop : (t : Text) → IsProp (IsValue t)
+value_prop t v w =
+    let same : v.0 ≡ w.0 = (units_same IsValueUnit (λ c h. h.0) (λ x. x ≡ []) no_unit_at_end v.0 w.0 [] [] v.2 w.2 refl refl
+    (ap (λ (x : Text). x ++ []) (sym v.1 ∙ w.1))).0 in
+    let whole = is_prop→PathP (λ i. t ≡ flat_map unit_text (same i)) (λ i. Prim.hlevel props) v.1 w.1 in
+    let each = is_prop→PathP (λ i. AllByRecursion IsValueUnit (same i))
+    (λ i. AllByRecursion-prop IsValueUnit unit_prop (same i)) v.2 w.2 in
+    λ i. (same i, whole i, each i)
+
+each_prop : (test : ℕ → Bool) (t : Text) → IsProp (Each test t)
+each_prop test [] = Prim.hlevel props
+each_prop test (c ∷ t) = Prim.hlevel (props, each_prop test t)
+
+ends_prop : (test : ℕ → Bool) (t : Text) → IsProp (Ends test t)
+ends_prop test [] = Prim.hlevel props
+ends_prop test (c ∷ t) = Prim.hlevel props
+
+unblank_prop : (ps : List (Text × Text)) → IsProp (BeginsUnblank ps)
+unblank_prop [] = Prim.hlevel props
+unblank_prop (p ∷ ps) = ends_prop is_blank p.0
+
+element_prop : (e : ElementValue) → IsProp (IsCanonicalElement e)
+element_prop e = Prim.hlevel (
+  props,
+  each_prop is_id_char e.id,
+  AllByRecursion-prop IsCanonicalParam (λ p. Prim.hlevel (props, each_prop is_name_char p.0, value_prop p.1)) e.params,
+  unblank_prop e.params,
+)
+
+pub are_canonical : (l : ElementList) → AllByRecursion IsCanonicalElement (list_elements l)
+are_canonical l = ∥∥₁_elim l.meaning.1.0 (AllByRecursion-prop IsCanonicalElement element_prop (list_elements l)) (λ f.
+    subst (λ (vs : List (Option ElementValue)). AllByRecursion IsCanonicalElement (strict vs))
+    (sym (one_value-is l.meaning f.1)) (items_canonical f.1.piece f.0 _ f.1.is))

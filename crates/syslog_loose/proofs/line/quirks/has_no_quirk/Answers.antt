@@ -1,10 +1,11 @@
+use Rattle.syslog_pieces.specs.StructuredData.Visited.{list_elements}
 use Rattle.syslog_loose.proofs.Names.{refl}
 use Rattle.syslog_loose.proofs.line.quirks.has_no_quirk.Goals as goal
 
 pub returns : goal.returns
 returns c =
     let names = c.if-not-has_quiet_names.ensures.0 refl in
-    let list = c.begins_no_list.ensures in (
+    let list = c.begins_no_list.ensures (list_elements c.args.line.now.list) c.is_empty.ensures in (
       (λ h. record {
         canonical_timestamp = names.timestamp;
         host_is_no_dash = names.no_dash;
