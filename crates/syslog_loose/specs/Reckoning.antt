@@ -24,11 +24,9 @@ IsZoneAhead seconds zone = (offset : Offset) × (offset.seconds ≡ seconds) × 
 abbrev pub dating_in : TimeZone → Option ℤ → Dating
 dating_in zone year = record { year = year; zone = None; local = zone }
 
--- This holds of the dating of the text: dates without an offset are so many seconds ahead of UTC, and one without a year
--- is of the year that is reckoned.
-pub record InDating (year : ℤ) (month : Option ℕ) (seconds : ℤ) (variant : Variant) (text : Text)
-    (Holds : Dating → Type 0) : Type 0 where
-  pub zone : TimeZone
-  pub ahead : IsZoneAhead seconds zone
-  pub holds : InYear (λ date answered. answered ≡ reckoned_year year month date) variant text
-      (λ answered. Holds (dating_in zone answered))
+-- This holds of the dating of the text: a date without an offset is in the zone, and one without a year is of the year
+-- that is reckoned.
+abbrev pub InDating : ℤ → Option ℕ → TimeZone → Variant → Text → (Dating → Type 0) → Type 0
+InDating year month zone variant text Holds =
+    InYear (λ date answered. answered ≡ reckoned_year year month date) variant text
+    (λ answered. Holds (dating_in zone answered))
