@@ -57,7 +57,7 @@ pub enum CharClass {
 
 impl CharClass {
     /// Whether the character is of the class.
-    #[inline]
+    #[inline(always)]
     pub fn has(self, c: char) -> bool
         ensures { result ≡ has self c }
     {

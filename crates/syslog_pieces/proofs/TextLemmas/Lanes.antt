@@ -3,8 +3,12 @@ use Rattle.syslog_pieces.proofs.Names.{◌≡◌, ℕ, ◌+◌, ◌-◌, ◌%◌
 use Rattle.syslog_pieces.proofs.Names.{length, get_or, Fits, sym, ap, ◌∙◌, subst, arith, inl, inr, agree_below}
 use Rattle.syslog_pieces.proofs.Names.{agree_below_at, not-true, not-false, cases_eq, ne_eqb, cond-false, length-map}
 use Rattle.syslog_pieces.proofs.Names.{map-id, prefix_len, IsRunIn}
-use Rattle.std.proofs.Common.{leb, replicate, w8}
+use mir.Val.{bool_byte}
+use Rattle.std.proofs.Common.{leb, ltb, eqb, replicate, w8, bit_or, ◌&&◌, ◌||◌}
+use Rattle.std.specs.Int.RustNames.{bit_xor}
+use Rattle.std.specs.Bool.{beq}
 use Rattle.std.proofs.lemmas.Bool.{eq-eqb, cond-true}
+use Rattle.std.proofs.lemmas.Bool.Decides.{nat_tests}
 use Rattle.std.proofs.lemmas.Simd.{map-map, mask_l-mod, length-chunk, get_or-chunk, leading_from_mask_l}
 use Rattle.std.proofs.lemmas.Simd.{trailing_mask_l, zip2_of_maps, zip2_splat, splat_is_map}
 use Rattle.std.proofs.lemmas.List.Sums.{prefix_len-le-length, prefix_len_passes, prefix_len_stops}
@@ -28,13 +32,18 @@ module _ {v : List ℕ} where
   pub splat : (n : ℕ) → IsLanes v (replicate 16 n) (λ _. n)
   splat n = record { same = splat_is_map v 16 n }
 
-  pub at_least : {z : List ℕ} {f : ℕ → ℕ} (n : ℕ) → IsLanes v z f
-      → IsLanes v (zip2 (λ a b. cond (leb a b) 255 0) (replicate 16 n) z) (λ x. cond (leb n (f x)) 255 0)
-  at_least n a = joined (λ a b. cond (leb a b) 255 0) (splat n) a
-
   -- bytes past ASCII
   pub past : IsLanes v (zip2 (λ a b. cond (leb a b) 255 0) (replicate 16 128) v) (λ x. cond (leb 128 x) 255 0)
-  past = at_least 128 (record { same = λ long. sym (map-id v) })
+  past = joined (λ a b. cond (leb a b) 255 0) (splat 128) (record { same = λ long. sym (map-id v) })
+
+-- a lane of the kernel of a set stops where the set lacks it, from the answers of the comparisons
+pub mask_tests : (r a b c l p d : Bool) → p ≡ not d → top 7 (bit_or (bit_xor (bit_or (cond r 255 0)
+    (bit_or (bit_or (cond a 255 0) (cond b 255 0)) (cond c 255 0))) (cond (not (eqb (bool_byte l) 0)) 255 0))
+    (cond p 255 0)) ≡ not (d && beq (r || a || b || c) l)
+mask_tests r a b c l p d e = grind arith
+
+pub past_ascii : (x : ℕ) → leb 128 x ≡ not (ltb x 128)
+past_ascii x = grind (arith, nat_tests)
 
 run_is : (p : ℕ → Bool) (v : List ℕ) → length v ≡ 16 → first_set (mask_l (map p v)) ≡ prefix_len (λ x. not (p x)) v
 run_is p v long =
@@ -44,7 +53,7 @@ run_is p v long =
     ]
 
 module _ (q : ℕ → Bool) (d : List ℕ) (i r : ℕ) (z : List ℕ) (f : ℕ → ℕ) (room : i + 16 ≤ length d)
-    (fits : (k : ℕ) → Fits w8 (get_or d k 0)) (found : r ≡ first_set (mask_l (map (top 7) z) % 2 ^ 64))
+    (found : r ≡ first_set (mask_l (map (top 7) z) % 2 ^ 64))
     (by_lanes : IsLanes (chunk i 16 d) z f) where
   abbrev stops : ℕ → Bool
   stops x = top 7 (f x)
@@ -67,20 +76,30 @@ module _ (q : ℕ → Bool) (d : List ℕ) (i r : ℕ) (z : List ℕ) (f : ℕ �
       subst (λ x. stops x ≡ false) at
       (not-true _ (prefix_len_passes (λ x. not (stops x)) (chunk i 16 d) (k - i) 0 (omega (arith, counted))))
 
-  run : agree_below stops (λ x. not (q x)) 256 ≡ true → IsRunIn q d i r
+  run : ((x : ℕ) → stops x ≡ not (q x)) → IsRunIn q d i r
   run all = record {
     within = omega (arith, counted, long, prefix_len-le-length (λ x. not (stops x)) (chunk i 16 d));
-    pass = λ k from to. not-false _ (sym (agree_below_at stops (λ x. not (q x)) 256 (get_or d k 0) all (fits k).fits)
+    pass = λ k from to. not-false _ (sym (all (get_or d k 0))
         ∙ goes_on k from to);
     stops = λ short.
         let at = ap (λ j. get_or (chunk i 16 d) j 0) (sym counted) ∙ get_or-chunk i 16 d r 0 short in
         let set = subst (λ x. stops x ≡ true) at
         (not-false _ (prefix_len_stops (λ x. not (stops x)) (chunk i 16 d) 0 (omega (arith, counted, long)))) in
-        not-true _ (sym (agree_below_at stops (λ x. not (q x)) 256 (get_or d (i + r) 0) all (fits (i + r)).fits) ∙ set);
+        not-true _ (sym (all (get_or d (i + r) 0)) ∙ set);
   }
 
 -- a lane stops just where q fails
 pub run_in : {q : ℕ → Bool} {d : List ℕ} {i r : ℕ} {z : List ℕ} {f : ℕ → ℕ} → i + 16 ≤ length d
-    → ((k : ℕ) → Fits w8 (get_or d k 0)) → r ≡ first_set (mask_l (map (top 7) z) % 2 ^ 64)
-    → IsLanes (chunk i 16 d) z f → agree_below (λ x. top 7 (f x)) (λ x. not (q x)) 256 ≡ true → IsRunIn q d i r
+    → r ≡ first_set (mask_l (map (top 7) z) % 2 ^ 64)
+    → IsLanes (chunk i 16 d) z f → ((x : ℕ) → top 7 (f x) ≡ not (q x)) → IsRunIn q d i r
 run_in {q = q} {d = d} {i = i} {r = r} {z = z} {f = f} = run q d i r z f
+
+-- the run of a set is that of the class that it lists
+pub class_run : {p q : ℕ → Bool} {d : List ℕ} {i r : ℕ} → agree_below p q 256 ≡ true
+    → ((k : ℕ) → Fits w8 (get_or d k 0)) → IsRunIn p d i r → IsRunIn q d i r
+class_run {p = p} {q = q} {d = d} {i = i} {r = r} all fits h =
+    let same = λ (k : ℕ). sym (agree_below_at p q 256 (get_or d k 0) all (fits k).fits) in record {
+      within = h.within;
+      pass = λ k from to. same k ∙ h.pass k from to;
+      stops = λ short. same (i + r) ∙ h.stops short;
+    }

@@ -1,11 +1,14 @@
 -- Runs of bytes, and the runs of characters that they are.
+use Rattle.std.proofs.lemmas.Bool.{agree_below}
+use Rattle.std.specs.Bool.{beq}
 use Rattle.std.specs.Int.{w64, trailing_zeros}
 use Rattle.std.specs.Prelude.{◌≡◌, ◌+◌, ◌==◌, if◌then◌else◌, ◌≤◌, ◌<◌, ℕ, Bool, true, false, not}
-use Rattle.std.specs.Prelude.{◌&&◌, nat_lt, List, [], ◌∷◌, ◌++◌, length, slice_index, take, drop}
+use Rattle.std.specs.Prelude.{◌-◌, ◌%◌, ◌||◌, nat_eq, ◌&&◌, nat_lt, List, [], ◌∷◌, ◌++◌, length, slice_index, take, drop}
 use Rattle.std.specs.Str.{chars, IsUtf8, IsCharBoundary}
 use Rattle.syslog_pieces.specs.declared.text.CharClass.{CharClass}
 use Rattle.syslog_pieces.specs.declared.text.CharClass.TheVariants.{Digit, Blank, Visible, Id, Name}
 use Rattle.syslog_pieces.specs.declared.text.CharClass.TheVariants.{Unescaped, Open, Inert, Bare, Tag, Label}
+use Rattle.syslog_pieces.specs.declared.text.lanes.ByteSet.{ByteSet}
 use Rattle.syslog_pieces.specs.Text.CharClass.{has}
 use Rattle.syslog_pieces.specs.Pieces.Class.{Each, Ends}
 
@@ -25,6 +28,19 @@ EndsRun test bytes n = IsCharBoundary bytes n × SplitsRun test bytes (take n by
 -- an ASCII byte whose character is of the class
 abbrev pub byte_in : CharClass → ℕ → Bool
 byte_in class b = nat_lt b 128 && has class b
+
+-- the byte is one of the range, or of the three others
+abbrev pub lists : ByteSet → ℕ → Bool
+lists set b = nat_lt ((b + (256 - set.0)) % 256) set.1
+    || nat_eq b (slice_index set.2 0) || nat_eq b (slice_index set.2 1) || nat_eq b (slice_index set.2 2)
+
+-- an ASCII byte that is listed, or one that is not
+abbrev pub in_set : ByteSet → ℕ → Bool
+in_set set b = nat_lt b 128 && beq (lists set b) set.3
+
+-- the set is the class
+abbrev pub lists_class : ByteSet → CharClass → Bool
+lists_class set class = agree_below (in_set set) (byte_in class) 256
 
 -- a character past ASCII of the class
 abbrev pub past_in : CharClass → ℕ → Bool

@@ -6,7 +6,8 @@ ghost use Rattle.syslog_pieces.specs.Bodies.Scan.{IsRun, bit_of, byte_in};
 use crate::text::CharClass;
 use crate::text::lanes::{LANES, class_run};
 
-// Of which classes each byte is, one bit a class; none where it is not ASCII.
+// The classes of each byte: its entry has the bit of each class that it is of, and no bit where it is not ASCII. Most
+// bytes are of all classes but `Digit` and `Blank`, which is 2044. That no entry is wrong is the clause of `is_in`.
 static CLASSES: [u16; 256] = [
     2044, 2044, 2044, 2044, 2044, 2044, 2044, 2044, 2044, 498, 496, 496, 496, 496, 2044, 2044,
     2044, 2044, 2044, 2044, 2044, 2044, 2044, 2044, 2044, 2044, 2044, 2044, 2044, 2044, 2044, 2044,

@@ -1,6 +1,0 @@
-use Rattle.syslog_pieces.proofs.TextLemmas.Lanes.{lanes, joined, past, run_in}
-use Rattle.syslog_pieces.proofs.text.lanes.open_run.Goals as goal
-
-pub returns : goal.returns
-returns c =
-    run_in c.requires c.type_inv.bytes c.first_set.ensures (joined _ (lanes _ 93) past) (cc)
