@@ -94,49 +94,6 @@ abbrev pub answer_in : {A : Type 0} → Result A ParseFault → String Global �
 answer_in (Ok _) text = Ok text
 answer_in (Err fault) text = Err fault
 
--- ---- words of the bodies
-
--- a message that was read so prints as a settled text
-abbrev pub IsAtRest : Protocol → MessageValue → Type 0
-IsAtRest RFC3164 m = HasNoException dash_rule m
-IsAtRest (RFC5424 version) m = ⊤
-
--- Where this is true, this is the next round of the text, and settled. Else the text is not settled, and this is one of
--- its rounds, before which none is.
-abbrev pub IsToldRound : Variant → Dating → Text → Text → Bool → Type 0
-IsToldRound variant dating text later settled = MatchBool settled
-    (IsNext variant dating text later × IsSettled variant dating later)
-    ((IsSettled variant dating text → ⊥) × (n : ℕ) × Reaches variant dating text n later)
-
--- a round as it is told, or a fault that tells whether the text is unreadable
-abbrev pub AnswersRound : Variant → Dating → Text → List ℕ → Result Bool ParseFault → Type 0
-AnswersRound variant dating text bytes result = MatchResult result
-    (λ settled. IsToldRound variant dating text (chars bytes) settled)
-    (λ fault. (fault ≡ Invalid) ↔ IsUnreadable variant dating text)
-
--- What is written of a line: a round as it is told, of each text that is read as the line.
-abbrev pub WritesRound : Line → Result Bool AllocError → List ℕ → Type 0
-WritesRound line made bytes = MatchResult made
-    (λ settled. (variant : Variant) (dating : Dating) (whole : Text) → IsRead variant dating whole (line_value line)
-    → IsToldRound variant dating whole (chars bytes) settled)
-    (λ _. ⊤)
-
--- what is answered where this was written of the line of a text, or where there is none
-abbrev pub round_answer : Option (Result Bool AllocError) → Result Bool ParseFault
-round_answer None = Err Invalid
-round_answer (Some (Ok settled)) = Ok settled
-round_answer (Some (Err _)) = Err Memory
-
--- the text shows no month date
-abbrev pub ShowsNoDate : Text → Type 0
-ShowsNoDate text = (date : MonthDate) → ShowsMonthDate text date → ⊥
-
--- the text is a round behind so many that are not settled, or more
-pub record ReachesFrom (variant : Variant) (dating : Dating) (t : Text) (least : ℕ) (u : Text) : Type 0 where
-  pub before : ℕ
-  pub far : least ≤ before
-  pub reaches : Reaches variant dating t before u
-
 -- ---- the weight of a message of RFC 3164: a sum of one term for each exception
 
 -- the term is nothing where this holds, and n where it does not
