@@ -5,7 +5,7 @@ use Rattle.syslog_loose.proofs.Names.{nil_from_length, Bor, chars, encode_utf8_a
 use Rattle.syslog_loose.proofs.Names.{encodes-append, encodes-chars, Text, Ends, Front, NoFront, exactly, some_run}
 use Rattle.syslog_loose.proofs.Names.{shown, is_blank, EndsInColon, name_text, colons, colons_before, past_colons}
 use Rattle.syslog_loose.proofs.Names.{CutsColons, EndsColons, IsDashed, PassesDashes, with_msg, MessageValue, tag_text}
-use Rattle.syslog_loose.proofs.Names.{priority_of, printed, IsRead, Variant, Dating, Reaches, ElementValue, Some}
+use Rattle.syslog_loose.proofs.Names.{priority_of, printed, IsRead, Variant, Dating, ElementValue, Some}
 use Rattle.syslog_loose.proofs.Names.{tail_text}
 use Rattle.std.proofs.Common.{zero-add, suc-add, add-zero, add-suc}
 use Rattle.std.specs.Prelude.{MatchOption}

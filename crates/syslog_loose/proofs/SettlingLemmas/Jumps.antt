@@ -1,7 +1,7 @@
 -- Rounds that are known from the one before: of a host that ends in colons, and of a message part of dashes.
 use Rattle.syslog_loose.proofs.Names.{subst, ◌≡◌, ℕ, zero, suc, ◌<◌, inr, [], ◌∷◌, ◌++◌, length, None, IfSome, refl, sym, ap}
 use Rattle.syslog_loose.proofs.Names.{◌∙◌, arith, append_assoc, length-append, is_not_whitespace, Text, Values, Front}
-use Rattle.syslog_loose.proofs.Names.{Row, Each, run, IsDashBefore, rfc3164_list, is_blank, colon, EndsInColon}
+use Rattle.syslog_loose.proofs.Names.{Row, run, rfc3164_list, is_blank, colon, EndsInColon}
 use Rattle.syslog_loose.proofs.Names.{rfc3164_stamp, IsCanonicalStamp, Dating, BeforeBlank, each_front, row_of, ◌then◌}
 use Rattle.syslog_loose.proofs.Names.{piece_front, IsBoundedProcess, HasExceptionsAlone, HasNoException, dash_rule}
 use Rattle.syslog_loose.proofs.Names.{colons, colons_before, past_colons, EndsColons, IsDashed, PassesDashes, with_msg}

@@ -1,10 +1,10 @@
 -- What is read of the print of a pass has a lower rank.
-use Rattle.syslog_loose.proofs.Names.{◌≡◌, ℕ, zero, suc, ◌<◌, ◌⊎◌, inl, inr, [], ◌∷◌, ◌++◌, length, List, Option, Some, None}
+use Rattle.syslog_loose.proofs.Names.{◌≡◌, ℕ, zero, suc, ◌⊎◌, inl, inr, [], ◌∷◌, ◌++◌, length, List, Option, Some, None}
 use Rattle.syslog_loose.proofs.Names.{IfSome, refl, sym, ap, subst, ◌∙◌, arith, true, false, nil_from_length, length-append}
-use Rattle.syslog_loose.proofs.Names.{Text, Values, Front, Row, Ends, run, ElementValue, elements_or, is_blank, colon}
+use Rattle.syslog_loose.proofs.Names.{Text, Values, Front, Row, Ends, run, ElementValue, elements_or, is_blank}
 use Rattle.syslog_loose.proofs.Names.{EndsInColon, BeginsNoList, IsDashBefore, IsDashed, rfc3164_stamp, IsCanonicalStamp}
 use Rattle.syslog_loose.proofs.Names.{Dating, BeforeBlank, OffsetTimestamp, step, rows_step, IsBoundedProcess, tail_text}
-use Rattle.syslog_loose.proofs.Names.{HasExceptionsAlone, HasNoException, HasNoColon, MessageValue, timestamp_text, printed}
+use Rattle.syslog_loose.proofs.Names.{HasExceptionsAlone, MessageValue, timestamp_text, printed}
 use Rattle.syslog_loose.proofs.Names.{dash_rule, body_row, rfc3164_row, IsRead3164}
 use Rattle.syslog_pieces.proofs.PieceLemmas.Class.{division_front, front_same, row_det, row_head}
 use Rattle.syslog_pieces.proofs.PieceLemmas.Steps.{step_value}
@@ -18,7 +18,7 @@ use Rattle.syslog_loose.proofs.Rfc3164Lemmas.Near.{read_near}
 use Rattle.syslog_loose.proofs.Rfc3164Lemmas.Printed.{printed_is}
 use Rattle.syslog_loose.proofs.Rfc3164Lemmas.ReadBack.{body_back, stamp_back, to_stamp_back}
 use Rattle.syslog_loose.proofs.Rfc3164Lemmas.Rows.{from_blanks, from_stamp, to_stamp, to_stamp_det}
-use Rattle.syslog_loose.proofs.Rfc3164Lemmas.Unique.{body_det, told}
+use Rattle.syslog_loose.proofs.Rfc3164Lemmas.Unique.{body_det}
 use Rattle.syslog_loose.proofs.Rfc3164Lemmas.Whole.{trimmed_whole}
 use Rattle.syslog_loose.proofs.SettlingLemmas.Falls.{behind_space, stamp_step}
 use Rattle.syslog_loose.proofs.SettlingLemmas.Names.{Step, names_step}

@@ -1,12 +1,12 @@
 -- A text comes to rest, or one of its rounds is missing.
 use Rattle.syslog_loose.proofs.Names.{◌≡◌, ℕ, zero, suc, ◌+◌, ◌<◌, ◌≤◌, inl, inr, Bool, true, false, List, length, refl}
-use Rattle.syslog_loose.proofs.Names.{sym, ap, subst, ◌∙◌, arith, leb_tells, chars_from_encodes, encodes-chars, chars}
+use Rattle.syslog_loose.proofs.Names.{sym, ap, subst, ◌∙◌, arith, leb_tells, chars_from_encodes, chars}
 use Rattle.syslog_loose.proofs.Names.{IsUtf8, encode_utf8_all, Text, Dating, IsCanonical, HasNoException, MessageValue}
 use Rattle.syslog_loose.proofs.Names.{printed, dash_rule, IsRead, IsUnreadable, IsRead3164, IsNext, IsRound, IsSettled}
-use Rattle.syslog_loose.proofs.Names.{NoneSettled, Reaches, IsFirstSettled, Weighs, Variant, Result, Err}
+use Rattle.syslog_loose.proofs.Names.{NoneSettled, Reaches, IsFirstSettled, Weighs, Variant}
 use Rattle.syslog_loose.specs.declared.fault.ParseFault.{ParseFault}
 use Rattle.syslog_loose.specs.declared.fault.ParseFault.TheVariants.{Invalid, Memory}
-use Rattle.std.specs.Prelude.{◌↔◌, IsTrue, IsOk}
+use Rattle.std.specs.Prelude.{◌↔◌}
 use Rattle.syslog_loose.specs.ReadBack.{IsFixed}
 use Rattle.syslog_loose.specs.Rfc5424.{IsRead5424}
 use Rattle.syslog_loose.specs.Passes.{HasRank, IsAtRest, IsLater, IsToldRound, ReachesRank}
@@ -16,7 +16,6 @@ use Rattle.syslog_loose.specs.declared.message.Protocol.TheVariants as protocol
 use Rattle.syslog_loose.proofs.BoundLemmas.{read_as, read_bounded}
 use Rattle.syslog_loose.proofs.ReadBackLemmas.{printed_exact, fixed_again}
 use Rattle.syslog_loose.proofs.ReadingLemmas.{read_once, invalid_or_memory}
-use Rattle.std.specs.declared.alloc.AllocError.{AllocError}
 use Rattle.syslog_loose.proofs.Rfc3164Lemmas.Exceptions.{canonical_near}
 use Rattle.syslog_loose.proofs.Rfc3164Lemmas.Near.{read_near}
 use Rattle.syslog_loose.proofs.Rfc3164Lemmas.Printed.{printed_is, printed_apart}

@@ -1,6 +1,6 @@
 -- What is told of a round of a text by way of its line, and of the rounds after it, in which no year counts.
-use Rattle.syslog_loose.proofs.Names.{◌≡◌, ℕ, Bool, true, false, Option, None, Some, Result, Ok, Err, refl, subst, arith}
-use Rattle.syslog_loose.proofs.Names.{chars, Text, Dating, Variant, MonthDate, IsCanonical, MessageValue, dash_rule, IsRead}
+use Rattle.syslog_loose.proofs.Names.{◌≡◌, ℕ, Bool, true, false, Option, None, Some, Result, Ok, Err, refl, subst}
+use Rattle.syslog_loose.proofs.Names.{chars, Text, Dating, Variant, IsCanonical, MessageValue, dash_rule, IsRead}
 use Rattle.syslog_loose.proofs.Names.{string_bytes}
 use Rattle.std.specs.Global.{Global}
 use Rattle.std.specs.Prelude.{IfOk, String}

@@ -1,4 +1,4 @@
-use Rattle.syslog_loose.proofs.Names.{Ok, err_from_is_err_and, chars, dating_of, refl}
+use Rattle.syslog_loose.proofs.Names.{Ok, err_from_is_err_and, chars, dating_of}
 use Rattle.syslog_loose.specs.Settling.{answer_in}
 use Rattle.syslog_loose.proofs.ReadingLemmas.{in_year_map}
 use Rattle.syslog_loose.proofs.SettlingLemmas.Settles.{first_answer, first_fault}

@@ -1,4 +1,4 @@
-use Rattle.syslog_loose.proofs.Names.{◌≡◌, ◌+◌, ◌-◌, suc, arith, chars, string_bytes, err_from_is_err_and}
+use Rattle.syslog_loose.proofs.Names.{◌≡◌, ◌+◌, ◌-◌, suc, arith, err_from_is_err_and}
 use Rattle.syslog_loose.proofs.SettlingLemmas.Settles.{last_answer, round_fault, round_answer, round_more}
 use Rattle.syslog_loose.proofs.SettlingLemmas.Told.{reached_shows_none}
 use Rattle.syslog_loose.proofs.settling.settle_on.Goals as goal
