@@ -1,4 +1,4 @@
-use Rattle.std.proofs.Common.{ℤ, Option, None, Some, refl}
+use Rattle.std.proofs.Common.{None, Some, refl}
 use Rattle.std.specs.Str.{chars}
 use Rattle.syslog_pieces.specs.Timestamp.Zone.{dating_of}
 use Rattle.syslog_loose.proofs.StartLemmas.{asked_month, asks_none, date_answered, dated_invalid, dated_left, dated_front}
