@@ -1,7 +1,7 @@
 //! How lines are read.
 ghost use Rattle.std.specs.Prelude.{◌≡◌};
 ghost use Rattle.jiff.specs.Words.{IsYear, plain_zone};
-ghost use Rattle.syslog_loose.specs.Reckoning.{IsZoneAhead};
+ghost use Rattle.syslog_loose.specs.Reckoning.{IsZoneAt};
 
 use syslog_lines::Dates;
 use syslog_loose::{TimeZone, zone_ahead};
@@ -23,7 +23,7 @@ impl Options {
     pub fn new(dates: Dates) -> Options
         ensures year { result.year ≡ dates.year }
         ensures month { result.month ≡ dates.month }
-        ensures zone { IsZoneAhead dates.offset (plain_zone result.zone) }
+        ensures zone { IsZoneAt dates.offset (plain_zone result.zone) }
     {
         let Some(zone) = zone_ahead(dates.offset) else {
             unreachable!()
