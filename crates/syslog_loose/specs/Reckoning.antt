@@ -17,8 +17,8 @@ abbrev pub reckoned_year : ℤ → Option ℕ → IncompleteDate → ℤ
 reckoned_year year month date = if nat_eq date.0 12 then december_year year month else year
 
 -- the zone is so many seconds ahead of UTC, always
-abbrev pub IsZoneAhead : ℤ → TimeZone → Type 0
-IsZoneAhead seconds zone = (offset : Offset) × (offset.seconds ≡ seconds) × (zone ≡ fixed_zone offset)
+abbrev pub IsZoneAt : ℤ → TimeZone → Type 0
+IsZoneAt seconds zone = (offset : Offset) × (offset.seconds ≡ seconds) × (zone ≡ fixed_zone offset)
 
 -- dates without a year are of this one, and those without an offset in this zone
 abbrev pub dating_in : TimeZone → Option ℤ → Dating

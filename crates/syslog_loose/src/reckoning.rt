@@ -3,7 +3,7 @@
 //! The programs and the library for C stand on it, so that each takes such dates in one way.
 ghost use Rattle.std.specs.Prelude.{◌≡◌, MatchOption};
 ghost use Rattle.jiff.specs.Words.{IsOffsetSeconds, IsYear, plain_zone};
-ghost use Rattle.syslog_loose.specs.Reckoning.{IsZoneAhead, reckoned_year};
+ghost use Rattle.syslog_loose.specs.Reckoning.{IsZoneAt, reckoned_year};
 
 use crate::variant::IncompleteDate;
 use jiff::tz::{Offset, TimeZone};
@@ -24,7 +24,7 @@ pub fn reckon_year(year: i32, month: Option<u32>, date: IncompleteDate) -> i32
 /// Returns the zone that is always so many seconds ahead of UTC, or none where they are past 25:59:59 either way.
 pub fn zone_ahead(seconds: i32) -> Option<TimeZone<'static>>
     ensures { MatchOption result (¬ (IsOffsetSeconds seconds))
-        (λ zone. IsOffsetSeconds seconds × IsZoneAhead seconds (plain_zone zone)) }
+        (λ zone. IsOffsetSeconds seconds × IsZoneAt seconds (plain_zone zone)) }
 {
     match Offset::from_seconds(seconds) {
         Ok(offset) => Some(TimeZone::fixed(offset)),
