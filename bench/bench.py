@@ -8,6 +8,7 @@
   bench.py --instructions             counts instructions by valgrind, which other work does not change
   bench.py --reading                  measures the program of bench/totals/ instead, which reads and prints sums alone
   bench.py --library                  measures bench/c_totals.c, the same over the library for C; needs cc
+  bench.py --json                     measures syslog_json, and with --check compares its objects by their values
   bench.py --cores                    times ways to filter one file on all cores
   bench.py --write                    puts the tables of the run into docs/BENCHMARKS.md as well
 
@@ -17,6 +18,7 @@ file and the standard output to /dev/null. Both programs are called with the yea
 
 import argparse
 import datetime
+import json
 import os
 import platform
 import re
@@ -33,7 +35,7 @@ sys.dont_write_bytecode = True
 import corpora  # noqa: E402
 
 TOP = os.path.dirname(os.path.dirname(os.path.abspath(__file__)))
-CRATE = os.path.join(TOP, "crates", "syslog_tidy")
+CRATES = os.path.join(TOP, "crates")
 DOCUMENT = os.path.join(TOP, "docs", "BENCHMARKS.md")
 # Ways to filter the file $F by $P, each to files whose names begin with "out". `split` sets FILE, and would end at the
 # first part in which lines are refused.
@@ -150,11 +152,13 @@ def built(chosen):
         return built_over_library()
     if chosen.reading:
         return built_reader()
-    print("building %s" % CRATE, file=sys.stderr)
-    ran = subprocess.run(["rt", "run", "--", str(chosen.year)], cwd=CRATE, stdin=subprocess.DEVNULL, stdout=sys.stderr)
+    name = "syslog_json" if chosen.json else "syslog_tidy"
+    crate = os.path.join(CRATES, name)
+    print("building %s" % crate, file=sys.stderr)
+    ran = subprocess.run(["rt", "run", "--", str(chosen.year)], cwd=crate, stdin=subprocess.DEVNULL, stdout=sys.stderr)
     if ran.returncode:
         sys.exit("the program was not built")
-    return os.path.join(CRATE, "out", "syslog_tidy")
+    return os.path.join(crate, "out", name)
 
 
 def machine():
@@ -206,6 +210,11 @@ def with_tables(text, tables, measured):
             sys.exit("the document has no table between %s and %s" % (opening.strip(), closing))
         text = before + "\n\n".join([opening + measured, "\n".join(table), closing]) + after
     return text
+
+
+def hostile(chosen):
+    """The hostile lines of this run, by their names."""
+    return corpora.HOSTILE_JSON if chosen.json else corpora.HOSTILE
 
 
 def time_corpora(filters, chosen, folder):
@@ -272,7 +281,7 @@ def time_hostile(filters, chosen, folder):
     print("\nMilliseconds for one hostile line of each size, and in brackets the growth at each doubling:\n")
     called = ["ours", "peer's"][: len(filters)]
     table = head("line", *["%s, %d KB" % (it, size) for it in called for size in corpora.HOSTILE_SIZES])
-    for name, maker in corpora.HOSTILE:
+    for name, maker in hostile(chosen):
         if chosen.only not in "hostile_" + name:
             continue
         lines = [maker(size * 1024) for size in corpora.HOSTILE_SIZES]
@@ -343,7 +352,7 @@ def count_hostile(filters, chosen):
     more = ["peer's, %d KB" % COUNTED_SIZES[-1], "the peer's over ours"] * (len(filters) > 1)
     table = head("line", *["%d KB" % size for size in COUNTED_SIZES], *more)
     (own, begun), *others = [(it, it.instructions([])) for it in filters]
-    for name, maker in corpora.HOSTILE:
+    for name, maker in hostile(chosen):
         if chosen.only not in "hostile_" + name:
             continue
         lines = [maker(size * 1024) for size in COUNTED_SIZES]
@@ -388,6 +397,42 @@ def check(filters, chosen):
     return total
 
 
+# What the peer's objects of the same lines lack.
+NEW_KEYS = ("facility_code", "severity_code", "raw")
+
+
+def is_same_object(own, peer):
+    """Whether the objects have the same fields and values. The process id is always a text, and the peer's may be a
+    number."""
+    told = dict(peer, procid=str(peer["procid"])) if "procid" in peer else peer
+    return {key: value for key, value in own.items() if key not in NEW_KEYS} == told
+
+
+def is_of_the_dash(own, peer):
+    """Whether the objects differ by the rule of the dash alone: the peer takes one that leads a message for a list."""
+    text = own.get("message", "")
+    return text.startswith("-") and is_same_object({**own, "message": text[1:].lstrip()}, peer)
+
+
+def check_objects(filters, chosen):
+    """Compares the objects that two filters write of each line by their values, and answers how many differ."""
+    total = 0
+    for name, lines in corpora.corpora(chosen.lines):
+        if chosen.only not in name:
+            continue
+        written = [it.output(lines).decode().splitlines() for it in filters]
+        if [len(it) for it in written] != [len(lines)] * 2:
+            sys.exit("%s: %d lines, and %d and %d objects" % (name, len(lines), *(len(it) for it in written)))
+        values = [(line, json.loads(own), json.loads(peer)) for line, own, peer in zip(lines, *written)]
+        differ = [it for it in values if not is_same_object(*it[1:])]
+        wrong = [it for it in differ if not is_of_the_dash(*it[1:])]
+        total += len(wrong)
+        print("%s: %d lines, %d of them of the dash, %d other objects differ" % (name, len(lines), len(differ) - len(wrong), len(wrong)))
+        for line, own, peer in wrong[:3]:
+            print("  line  %r\n  ours  %r\n  peer  %r" % (line, own, peer))
+    return total
+
+
 def arguments():
     reader = argparse.ArgumentParser(description=__doc__, formatter_class=argparse.RawDescriptionHelpFormatter)
     reader.add_argument("--program", help="the program, in place of the one that is built")
@@ -398,6 +443,8 @@ def arguments():
     reader.add_argument("--reading", action="store_true", help=told)
     told = "measure the library for C, by the program bench/c_totals.c, on the corpora alone"
     reader.add_argument("--library", action="store_true", help=told)
+    told = "measure syslog_json, or with --check compare its objects with the peer's by their values"
+    reader.add_argument("--json", action="store_true", help=told)
     reader.add_argument("--cores", action="store_true", help="time ways to filter one file on all cores")
     reader.add_argument("--year", type=int, default=2019)
     told = "count processor time, which other work on the machine disturbs less"
@@ -425,6 +472,8 @@ def table_names(chosen):
     subjects = ["ordinary lines", "hostile lines"]
     if chosen.sums:
         subjects = ["library for C" if chosen.library else "reading calls"]
+    if chosen.json:
+        subjects = ["JSON of %s" % it for it in subjects]
     return ["%s, by %s" % (it, "instructions" if chosen.instructions else "time") for it in subjects]
 
 
@@ -442,7 +491,8 @@ def main():
     paths = [chosen.program or built(chosen)] + [chosen.peer] * bool(chosen.peer)
     filters = [Filter(path, chosen.year, chosen.processor) for path in paths]
     if chosen.check:
-        sys.exit(1 if check(filters, chosen) else 0)
+        compare = check_objects if chosen.json else check
+        sys.exit(1 if compare(filters, chosen) else 0)
     if chosen.instructions:
         tables = [count_corpora(filters, chosen)]
         tables += [] if chosen.sums else [count_hostile(filters, chosen)]

@@ -236,6 +236,12 @@ def filled(piece, size):
     return piece * (size // len(piece))
 
 
+def numbered(piece, size):
+    """Copies of the piece, each with a number of its own."""
+    length = len(piece % 0) + 5
+    return "".join(piece % it for it in range(100_000, 100_000 + max(1, size // length)))
+
+
 def behind(header, maker):
     return lambda size: header + maker(size)
 
@@ -297,6 +303,31 @@ HOSTILE = [
     *((name + "_3164", behind(HEADER_3164, maker)) for name, maker in HOSTILE_LISTS if name != "dashes"),
     *HOSTILE_LINES,
     *SETTLING_LINES,
+]
+
+
+# What may cost a writer of JSON more than its length: what is gathered, and what is escaped.
+HOSTILE_JSON = [
+    (name, behind(HEADER, maker))
+    for name, maker in [
+        ("values_of_one_name", lambda size: "[a" + filled(' b="c"', size) + "]"),
+        ("values_of_two_names", lambda size: "[a" + filled(' b="c" d="e"', size) + "]"),
+        ("different_names", lambda size: "[a" + numbered(' n%d="c"', size) + "]"),
+        ("different_names_twice", lambda size: "[a" + 2 * numbered(' n%d="c"', size // 2) + "]"),
+        ("elements_of_one_id", lambda size: filled('[a b="c"]', size)),
+        ("elements_of_two_ids", lambda size: filled('[a b="c"][d e="f"]', size)),
+        ("different_ids", lambda size: numbered('[i%d b="c"]', size)),
+        ("long_names_that_differ_at_their_ends", lambda size: "[a" + numbered(" " + "n" * 200 + '%d="c"', size) + "]"),
+        ("escapes_in_a_value", lambda size: '[a b="' + filled('\\"', size) + '"]'),
+        ("backslashes_in_a_value", lambda size: '[a b="' + filled("\\\\", size) + '"]'),
+        ("control_characters_in_a_value", lambda size: '[a b="' + filled("\x01", size) + '"]'),
+        ("control_characters_in_names", lambda size: "[a" + filled(' \x01\x02="c"', size) + "]"),
+        ("quotes_in_the_message", lambda size: "- " + filled('"', size) + "x"),
+        ("control_characters_in_the_message", lambda size: "- x" + filled("\x01", size) + "x"),
+    ]
+] + [
+    ("quotes_of_no_message", lambda size: filled('"', size)),
+    ("control_characters_of_no_message", lambda size: "x" + filled("\x01", size) + "x"),
 ]
 
 

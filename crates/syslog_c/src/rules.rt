@@ -2,12 +2,11 @@
 ghost use Rattle.std.specs.Prelude.{◌≡◌, ◌↔◌, ◌≤◌, IsTrue, MatchOption};
 ghost use Rattle.jiff.specs.Words.{plain_zone};
 ghost use Rattle.jiff_core.specs.Calendar.{IsYear};
-ghost use Rattle.jiff_core.specs.Timestamp.{IsOffsetSeconds};
 ghost use Rattle.syslog_loose.specs.declared.variant.Variant.{Variant};
 ghost use Rattle.syslog_c.specs.Options.{AreInRange, IsReckoned, IsTaken, IsZoneAt, variant_number};
 
 use crate::options::Options;
-use syslog_loose::{IncompleteDate, Offset, TimeZone, Variant};
+use syslog_loose::{IncompleteDate, TimeZone, Variant, reckon_year, zone_ahead};
 
 /// By which variant a line is read, and in which zone dates without an offset are.
 #[derive(Drop)]
@@ -26,7 +25,7 @@ pub(crate) fn rules_of(options: &Options) -> Option<Rules>
         return None;
     }
     let variant = variant_of(options.variant)?;
-    let zone = zone_of(options)?;
+    let zone = zone_ahead(options.offset)?;
     Some(Rules { variant, zone })
 }
 
@@ -50,24 +49,9 @@ fn variant_of(number: u32) -> Option<Variant>
     }
 }
 
-// The zone that is so many seconds ahead of UTC.
-fn zone_of(options: &Options) -> Option<TimeZone<'static>>
-    ensures { MatchOption result (IsOffsetSeconds options.now.offset → ⊥)
-        (λ zone. IsOffsetSeconds options.now.offset × IsZoneAt options.now.offset (plain_zone zone)) }
-{
-    match Offset::from_seconds(options.offset) {
-        Ok(offset) => Some(TimeZone::fixed(offset)),
-        Err(_) => None,
-    }
-}
-
 /// The year of a date that shows none.
 pub(crate) fn year_of(options: &Options, date: IncompleteDate) -> i32
     ensures { IsYear options.now.year → IsReckoned options.now date result }
 {
-    if options.month == 1 && date.0 == 12 {
-        options.year.saturating_sub(1)
-    } else {
-        options.year
-    }
+    reckon_year(options.year, Some(options.month), date)
 }

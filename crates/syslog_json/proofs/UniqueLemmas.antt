@@ -1,5 +1,5 @@
 -- Objects that find the same at each key are the same, so a line has one value.
-use Rattle.std.proofs.Common.{◌≡◌, ℕ, ℤ, List, [], ◌∷◌, inl, inr, Option, Some, Ordering, Less, Equal, Greater}
+use Rattle.std.proofs.Common.{◌≡◌, ℕ, List, [], ◌∷◌, inl, inr, Option, Some, Ordering, Less, Equal, Greater}
 use Rattle.std.proofs.Common.{is_eq, cond, true, nat_cmp, refl, sym, ap, subst, ◌∙◌}
 use Rattle.std.proofs.lemmas.Cmp.{nat_list_cmp_total}
 use Rattle.std.specs.Cmp.Lexicographic.{slice_cmp}
@@ -7,7 +7,6 @@ use Rattle.std.specs.FinMap.Entries.{below_all, find, is_sorted, same_entries}
 use Rattle.std.specs.List.{AllZip}
 use Rattle.std.specs.List.Sorted.{IsStrictlySortedBy}
 use Rattle.std.specs.Ordering.{match_ordering}
-use Rattle.std.specs.Prelude.{IsUtf8}
 use Rattle.std.specs.Str.{chars}
 use Rattle.serde_json.specs.Data.{Data, Members, no_members, member, object}
 use Rattle.serde_json.specs.Find.{get_member}
@@ -15,11 +14,14 @@ use Rattle.syslog_pieces.specs.Pieces.Class.{Text}
 use Rattle.syslog_pieces.specs.StructuredData.Element.{ElementValue}
 use Rattle.syslog_pieces.proofs.StructuredDataLemmas.Units.{unescaped_one}
 use Rattle.syslog_loose.specs.Message.{MessageValue}
-use Rattle.syslog_loose.specs.Reading.{IsOnlyRead, in_utc}
+use Rattle.jiff.specs.Words.{plain_zone}
+use Rattle.syslog_loose.specs.Reading.{IsOnlyRead}
+use Rattle.syslog_loose.proofs.ReckoningLemmas.{one_dating}
 use Rattle.syslog_loose.specs.declared.variant.Variant.TheVariants.{Either}
 use Rattle.syslog_json.specs.Json.{Gathers, IsElementPair, IsMessageJson}
 use Rattle.syslog_json.specs.Json.{IsParamPair, IsStructuredJson, Pair, fields_of, text_json, with_fields}
 use Rattle.syslog_json.specs.Objects.{IsOnly, IsReadJson, IsRefusedJson}
+use Rattle.syslog_json.specs.declared.options.Options.{Options}
 use Rattle.syslog_json.proofs.MemberLemmas.{Ascends, Below, tied_same}
 
 -- the members as a list, and back
@@ -104,22 +106,25 @@ message_same m value other (s, g, whole) (t, h, same) =
 
 -- ---- one value of a line
 
-pub only_read : (year : ℤ) (line : List ℕ) (m : MessageValue) (value : Data) → IsUtf8 line
-    → IsOnlyRead Either (in_utc year) (chars line) m → IsMessageJson m value → IsOnly (IsReadJson year line) value
-only_read year line m value utf8 read json = (
-  (utf8, (m, read, json)),
-  λ other is.
-      message_same m other value (subst (λ (n : MessageValue). IsMessageJson n other)
-      (read.only is.1.0 is.1.1.read) is.1.2) json,
-)
+other_read : (options : Options) (line : List ℕ) (value other : Data) → IsReadJson options line value
+    → IsReadJson options line other → other ≡ value
+other_read options line value other (utf8, (m, read, json)) (also, (n, more, same)) =
+    let (dating, this, that) =
+    one_dating {Holds = λ d. IsOnlyRead Either d (chars line) m} {More = λ d. IsOnlyRead Either d (chars line) n}
+    options.year options.month (plain_zone options.zone) Either (chars line) read more in
+    message_same m other value (subst (λ (k : MessageValue). IsMessageJson k other) (this.only n (that.read)) same) json
 
-other_refused : (year : ℤ) (line : List ℕ) (value other : Data) → IsRefusedJson year line value
-    → IsRefusedJson year line other → other ≡ value
-other_refused year line value other (inl (u, none, e)) (inl (v, never, f)) = f ∙ sym e
-other_refused year line value other (inl (u, none, e)) (inr (v, f)) = absurd (v u)
-other_refused year line value other (inr (u, e)) (inl (v, never, f)) = absurd (u v)
-other_refused year line value other (inr (u, e)) (inr (v, f)) = f ∙ sym e
+pub only_read : (options : Options) (line : List ℕ) (value : Data) → IsReadJson options line value
+    → IsOnly (IsReadJson options line) value
+only_read options line value is = (is, λ other also. other_read options line value other is also)
 
-pub only_refused : (year : ℤ) (line : List ℕ) (value : Data) → IsRefusedJson year line value
-    → IsOnly (IsRefusedJson year line) value
-only_refused year line value is = (is, λ other also. other_refused year line value other is also)
+other_refused : (options : Options) (line : List ℕ) (value other : Data) → IsRefusedJson options line value
+    → IsRefusedJson options line other → other ≡ value
+other_refused options line value other (inl (u, none, e)) (inl (v, never, f)) = f ∙ sym e
+other_refused options line value other (inl (u, none, e)) (inr (v, f)) = absurd (v u)
+other_refused options line value other (inr (u, e)) (inl (v, never, f)) = absurd (u v)
+other_refused options line value other (inr (u, e)) (inr (v, f)) = f ∙ sym e
+
+pub only_refused : (options : Options) (line : List ℕ) (value : Data) → IsRefusedJson options line value
+    → IsOnly (IsRefusedJson options line) value
+only_refused options line value is = (is, λ other also. other_refused options line value other is also)

@@ -2,7 +2,9 @@
 ghost use Rattle.std.specs.Prelude.{◌≡◌, ◌≤◌, ◌++◌, [], ◌∷◌, ℕ, List, false, IfErr, IfOk, MatchOption, OnErr, OnOk};
 ghost use Rattle.std.specs.Str.{chars};
 ghost use Rattle.syslog_loose.specs.Message.{MessageValue};
-ghost use Rattle.syslog_loose.specs.Reading.{IsOnlyRead, IsUnreadable, in_utc};
+ghost use Rattle.jiff.specs.Words.{IsYear};
+ghost use Rattle.syslog_loose.specs.Reading.{IsOnlyRead, IsUnreadable};
+ghost use Rattle.syslog_loose.specs.Reckoning.{reckoned_year};
 ghost use Rattle.syslog_loose.specs.declared.variant.Variant.TheVariants.{Either};
 ghost use Rattle.serde_json.specs.Data.{depth};
 ghost use Rattle.serde_json.specs.Read.{max_depth};
@@ -10,20 +12,21 @@ ghost use Rattle.serde_json.specs.View.{view};
 ghost use Rattle.serde_json.specs.Written.{has_float};
 ghost use Rattle.syslog_lines.specs.Pump.{EndsEarly, FailedAs};
 ghost use Rattle.syslog_json.specs.Json.{IsMessageJson};
-ghost use Rattle.syslog_json.specs.Objects.{IsTextOf, WritesObjects, broken_json, objects, refused_json};
+ghost use Rattle.syslog_json.specs.Objects.{IsDated, IsTextOf, WritesObjects, broken_json, objects, refused_json};
 
 use crate::message::message_object;
+use crate::options::Options;
 use serde_json::{Map, Value, put};
 use std::alloc::{AllocError, Global};
 use std::io::{Read, Write};
 use syslog_lines::pump::pump;
 use syslog_lines::{LineFilter, RunFault, Summary, Watched, push_line};
 use syslog_loose::{
-    IncompleteDate, ParseFault, TimeZone, Variant, parse_message_with_year_exact_tz,
+    IncompleteDate, ParseFault, Variant, parse_message_with_year_exact_tz, reckon_year,
 };
 
-/// Reads lines to the end of the input, and writes each as one JSON object on one line: that of its message, read in
-/// the given year, or one that has the line and `"refused": true`. No line is lost, and no byte below 32 stands in an
+/// Reads lines to the end of the input, and writes each as one JSON object on one line: that of its message, read by
+/// the options, or one that has the line and `"refused": true`. No line is lost, and no byte below 32 stands in an
 /// object.
 ///
 /// The output of each block of input is written before more is read, and the writer is flushed at the end. Nothing is
@@ -36,50 +39,52 @@ pub fn write_objects<R: Read, W: Write>(
     alloc: Global,
     reader: &mut Watched<R>,
     writer: &mut Watched<W>,
-    year: i32,
+    options: Options,
 ) -> Result<Summary, RunFault>
     requires reader { reader.old.failed ≡ false }
     requires writer { writer.old.failed ≡ false }
-    ensures ok { IfOk result (λ summary. WritesObjects year (R.remaining reader.old.inner)
+    ensures ok { IfOk result (λ summary. WritesObjects options (R.remaining reader.old.inner)
         (R.remaining reader.new.inner)
         (W.contents writer.old.inner) (W.contents writer.new.inner) summary) }
-    ensures err { IfErr result (λ fault. EndsEarly (objects year) (R.remaining reader.old.inner)
+    ensures err { IfErr result (λ fault. EndsEarly (objects options) (R.remaining reader.old.inner)
         (R.remaining reader.new.inner)
         (W.contents writer.old.inner) (W.contents writer.new.inner) fault) }
     ensures failed { FailedAs result reader.new.failed writer.new.failed }
 {
-    let tally = pump(alloc, &Objects { year }, reader, writer)?;
+    let tally = pump(alloc, &Objects { options }, reader, writer)?;
     Ok(Summary {
         lines: tally.lines(),
         refused: tally.passed_over,
     })
 }
 
-/// Writes the JSON of each line, read in this year.
+/// Writes the JSON of each line, read by these options.
 #[derive(Drop)]
 struct Objects {
-    year: i32,
+    options: Options,
 }
 
 impl Objects {
     // The object of the line's message, where it is one.
     fn read_line(&self, alloc: Global, line: &str) -> Result<Option<Value>, AllocError>
         ensures { IfOk result (λ found. MatchOption found
-            (IsUnreadable Either (in_utc self.now.year) (chars line.now))
-            (λ value. (m : MessageValue) × IsOnlyRead Either (in_utc self.now.year) (chars line.now) m
+            (IsDated self.now.options (chars line.now) (λ dating. IsUnreadable Either dating (chars line.now)))
+            (λ value. (m : MessageValue)
+            × IsDated self.now.options (chars line.now) (λ dating. IsOnlyRead Either dating (chars line.now) m)
             × IsMessageJson m (view value))) }
     {
-        let year = self.year;
-        let answer_year = move |_: IncompleteDate| -> i32
-            ensures { result ≡ year }
-        { year };
+        let year = self.options.year;
+        let month = self.options.month;
+        let get_year = move |date: IncompleteDate| -> i32
+            ensures { IsYear year → result ≡ reckoned_year year month date }
+        { reckon_year(year, month, date) };
         match parse_message_with_year_exact_tz(
             alloc,
             line,
-            answer_year,
+            get_year,
             None,
             Variant::Either,
-            &TimeZone::UTC,
+            &self.options.zone,
         ) {
             Ok(message) => Ok(Some(message_object(alloc, &message)?)),
             Err(ParseFault::Invalid) => Ok(None),
@@ -89,7 +94,7 @@ impl Objects {
 }
 
 impl LineFilter for Objects {
-    ghost answers = { λ filter. objects filter.year };
+    ghost answers = { λ filter. objects filter.options };
 
     fn answer(
         &self,

@@ -6,40 +6,45 @@
 //! their bytes. A line that is no message is written as `{"message":"..","refused":true}`, so that no line is lost.
 #![tactic(auto)]
 
-mod args;
 mod field;
 mod filter;
 mod gather;
 mod message;
+mod options;
 mod report;
 
-use args::{Task, arguments};
 use filter::write_objects;
+use options::Options;
 use report::{HELP, USAGE};
 use std::process::ExitCode;
-use syslog_lines::Watched;
-use syslog_lines::report::{refuse, report, say, say_version};
+use syslog_lines::report::{report, say, say_version};
+use syslog_lines::{Task, Watched, Wrong, program_words, read_task, refuse_words};
 use syslog_loose::VERSION;
 
-// Writes the lines of standard input as JSON, and then answers the exit status.
-fn answer_input(rt: &HostRuntime, year: i32) -> u8 {
+// Writes the lines of standard input as JSON, and then returns the exit status.
+fn answer_input(rt: &HostRuntime, options: Options) -> u8 {
     let mut reader = Watched::new(rt.stdin());
     let mut writer = Watched::new(rt.stdout());
-    let outcome = write_objects(rt.alloc(), &mut reader, &mut writer, year);
+    let outcome = write_objects(rt.alloc(), &mut reader, &mut writer, options);
     report(&outcome, &mut rt.stderr())
 }
 
+// Does what is asked for, and then returns the exit status.
+fn answer(rt: &HostRuntime, task: Result<Task, Wrong<'_>>) -> u8 {
+    let mut out = rt.stdout();
+    let mut errors = rt.stderr();
+    match task {
+        Ok(Task::Help) => say(HELP, &mut out, &mut errors),
+        Ok(Task::Version) => say_version("syslog_json", VERSION, &mut out, &mut errors),
+        Ok(Task::Lines { dates, .. }) => answer_input(rt, Options::new(dates)),
+        Err(wrong) => refuse_words(rt, USAGE, wrong, &mut errors),
+    }
+}
+
 fn main(rt: HostRuntime) -> ExitCode {
-    let status = match arguments(&rt) {
-        Some(Task::Help) => say(HELP, &mut rt.stdout(), &mut rt.stderr()),
-        Some(Task::Version) => say_version(
-            "syslog_json",
-            VERSION,
-            &mut rt.stdout(),
-            &mut rt.stderr(),
-        ),
-        None => refuse(USAGE, &mut rt.stderr()),
-        Some(Task::Lines(year)) => answer_input(&rt, year),
+    let status = match program_words(&rt) {
+        Ok(words) => answer(&rt, read_task(&words, false)),
+        Err(wrong) => answer(&rt, Err(wrong)),
     };
     ExitCode::from(status)
 }

@@ -1,10 +1,12 @@
 //! What the program says of itself.
 
 /// How the program is called, in one line.
-pub const USAGE: &str = "usage: syslog_json [--] YEAR, or --help, or --version\n";
+pub const USAGE: &str =
+    "usage: syslog_json [--offset OFFSET] [--] YEAR[-MONTH], or --help, or --version\n";
 
 /// How the program is called, and what it does.
-pub const HELP: &str = "usage: syslog_json [--] YEAR, or --help, or --version
+pub const HELP: &str =
+    "usage: syslog_json [--offset OFFSET] [--] YEAR[-MONTH], or --help, or --version
 
 Reads lines of syslog from standard input, and writes each as one JSON object
 on one line to standard output. What a message lacks has no key:
@@ -12,10 +14,14 @@ on one line to standard output. What a message lacks has no key:
   msgid, structured_data, message
 A line that is no message is its \"message\", with \"refused\": true, and with
 \"invalid_utf8\": true where bytes of it were replaced by U+FFFD.
-YEAR is one to four digits: the year of dates that have none. Such dates are
-taken in UTC. `--` may stand before YEAR.
-  --help          this text
-  --version       the name and the version of this program
+  YEAR             the year of dates that show none: one to four digits
+  YEAR-MONTH       the same, and the month that it is now, two digits: in
+                   January a date of December is of the year before
+  --offset OFFSET  the zone of dates that show none, +HH:MM or -HH:MM; it is
+                   UTC where this is left out
+  --               may come before YEAR
+  --help           this text
+  --version        the name and the version of this program
 
 How many lines were no message is written to standard error at the end.
 

@@ -7,4 +7,6 @@ pub mod BlockLemmas
 pub mod WriteLemmas
 pub mod PumpLemmas
 pub mod ArgumentLemmas
+pub mod DateLemmas
+pub mod WordLemmas
 pub mod ReportLemmas

@@ -1,5 +1,6 @@
 -- The arguments that the programs share: this project's own choice.
-use Rattle.std.specs.Prelude.{◌≡◌, ◌⊎◌, ℕ, ℤ, ◌≤◌, List, [], ◌∷◌, length, All, pos}
+use Rattle.std.specs.Prelude.{◌≡◌, ◌⊎◌, ◌+◌, ◌*◌, ◌/◌, ◌%◌, ℕ, ℤ, ◌≤◌, List, [], ◌∷◌, ◌++◌, length, All, pos, neg_ℤ}
+use Rattle.std.specs.Prelude.{Option, Some, None}
 use Rattle.std.specs.Char.{IsAsciiDigit}
 use Rattle.std.specs.Str.Parse.{digits_value}
 
@@ -11,7 +12,28 @@ IsYear text = (1 ≤ length text) × (length text ≤ 4) × All IsAsciiDigit tex
 abbrev pub NamesYear : List ℕ → ℤ → Type 0
 NamesYear text year = IsYear text × (year ≡ pos (digits_value 10 text))
 
--- the word `--`, behind which no word is a flag
+-- the two ASCII digits of a number below 100
+abbrev pub two_digits : ℕ → List ℕ
+two_digits n = (48 + n / 10) ∷ (48 + n % 10) ∷ []
+
+-- the text names this year, or this year and month: `YEAR`, or `YEAR-MONTH` with a month of two digits
+abbrev pub NamesDate : List ℕ → ℤ → Option ℕ → Type 0
+NamesDate text year None = NamesYear text year
+NamesDate text year (Some month) = (word : List ℕ) × NamesYear word year × (1 ≤ month) × (month ≤ 12)
+    × (text ≡ word ++ (45 ∷ two_digits month))
+
+-- the text names this offset, in seconds ahead of UTC: `+HH:MM` or `-HH:MM`, up to 23:59
+pub record NamesOffset (text : List ℕ) (seconds : ℤ) : Type 0 where
+  pub hours : ℕ
+  pub minutes : ℕ
+  pub within_day : hours ≤ 23
+  pub within_hour : minutes ≤ 59
+  pub signed :
+      ((text ≡ 43 ∷ (two_digits hours ++ (58 ∷ two_digits minutes))) × (seconds ≡ pos (hours * 3600 + minutes * 60)))
+      ⊎ ((text ≡ 45 ∷ (two_digits hours ++ (58 ∷ two_digits minutes)))
+      × (seconds ≡ neg_ℤ (pos (hours * 3600 + minutes * 60))))
+
+-- the word `--`, after which no word is a flag
 abbrev pub end_word : List ℕ
 end_word = 45 ∷ 45 ∷ []
 

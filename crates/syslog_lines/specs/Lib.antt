@@ -7,4 +7,5 @@ pub mod Output
 pub mod Write
 pub mod Pump
 pub mod Arguments
+pub mod Words
 pub mod Report

@@ -12,6 +12,7 @@
 mod answer;
 mod args;
 mod block;
+mod dates;
 pub mod filter;
 mod lines;
 pub mod pump;
@@ -19,8 +20,11 @@ pub mod report;
 mod search;
 pub mod summary;
 mod watched;
+mod words;
 
 pub use args::{is_alone, read_year, read_year_words};
+pub use dates::{Dates, read_date, read_offset};
 pub use filter::{LineFilter, push_line};
 pub use summary::{RunFault, Summary, Tally};
 pub use watched::Watched;
+pub use words::{Task, Wrong, program_words, read_task, refuse_words};

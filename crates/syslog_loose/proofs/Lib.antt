@@ -12,6 +12,7 @@ pub mod PrintedLineLemmas
 pub mod PriorityLemmas
 pub mod ReadBackLemmas
 pub mod ReadingLemmas
+pub mod ReckoningLemmas
 pub mod Rfc3164Lemmas
 pub mod Rfc5424Lemmas
 pub mod SettlingLemmas

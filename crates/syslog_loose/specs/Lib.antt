@@ -11,6 +11,7 @@ pub mod OneLine
 pub mod Printed
 pub mod ReadBack
 pub mod Reading
+pub mod Reckoning
 pub mod Rfc3164
 pub mod Rfc5424
 pub mod Settling

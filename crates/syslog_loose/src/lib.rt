@@ -20,6 +20,7 @@ pub mod laws;
 mod line;
 mod message;
 mod reading;
+mod reckoning;
 mod rfc3164;
 mod rfc5424;
 mod rounds;
@@ -38,6 +39,7 @@ pub use reading::{
     parse_message, parse_message_with_year, parse_message_with_year_exact,
     parse_message_with_year_exact_tz, parse_message_with_year_tz,
 };
+pub use reckoning::{reckon_year, zone_ahead};
 pub use rounds::normalise;
 pub use settling::{settle, settle_into};
 pub use syslog_pieces::VERSION;

@@ -1,13 +1,11 @@
 use Rattle.std.proofs.Common.{◌∙◌}
-use Rattle.std.proofs.lemmas.Int.{to_z-of_z}
 use Rattle.syslog_lines.proofs.AnswerLemmas.{IfErr-passed}
 use Rattle.syslog_json.proofs.filter.write_objects.Goals as goal
 
 pub returns-in_err-tally-clause-err : goal.returns-in_err-tally-clause-err
-returns-in_err-tally-clause-err g c =
-    IfErr-passed _ _ _ c.from_residual.ensures.1 (rw (to_z-of_z _ _ c.ranges.year) at c.in_err-tally.ensures.err)
+returns-in_err-tally-clause-err g c = IfErr-passed _ _ _ c.from_residual.ensures.1 c.in_err-tally.ensures.err
 
 pub returns-clause-ok : goal.returns-clause-ok
 returns-clause-ok g c =
-    let (answers, all, counted, lines) = rw (to_z-of_z _ _ c.ranges.year) at c.in_ok-tally.ensures.ok in
+    let (answers, all, counted, lines) = c.in_ok-tally.ensures.ok in
     (answers, all, c.lines.ensures ∙ lines, counted.1)

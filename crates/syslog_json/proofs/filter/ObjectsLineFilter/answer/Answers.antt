@@ -15,10 +15,10 @@ pub returns-in_ok-push_value-in-Some-clause-ok : goal.returns-in_ok-push_value-i
 returns-in_ok-push_value-in-Some-clause-ok c =
     let (m, read, json) = rw c.in-Some.is at c.in_ok-value.ensures in
     let (bytes, text, added) = c.in_ok-push_value-in-Some.ensures.ok in
-    (Written bytes, (view c.in-Some.value, only_read _ _ m _ c.utf8.line read json, text), added, refl)
+    (Written bytes, (view c.in-Some.value, only_read c.args.self.now.options _ _ (c.utf8.line, (m, read, json)), text), added, refl)
 
 pub returns-in_ok-push_value-in-None-clause-ok : goal.returns-in_ok-push_value-in-None-clause-ok
 returns-in_ok-push_value-in-None-clause-ok c =
     let none = rw c.in-None.is at c.in_ok-value.ensures in
     let (bytes, text, added) = c.in_ok-push_value-in-None.ensures.ok in
-    (Marked bytes, (_, only_refused _ _ _ (inl (c.utf8.line, none, c.in_ok-value-in-None.ensures)), text), added, refl)
+    (Marked bytes, (_, only_refused c.args.self.now.options _ _ (inl (c.utf8.line, none, c.in_ok-value-in-None.ensures)), text), added, refl)

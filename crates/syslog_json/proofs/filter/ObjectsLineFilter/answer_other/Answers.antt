@@ -6,4 +6,4 @@ use Rattle.syslog_json.proofs.filter.ObjectsLineFilter.answer_other.Goals as goa
 pub returns-clause-ok : goal.returns-clause-ok
 returns-clause-ok c =
     let (bytes, text, added) = c.in_ok-push_value.ensures.ok in
-    (Marked bytes, (_, only_refused _ _ _ (inr (c.requires, c.in_ok-value.ensures)), text), added, refl)
+    (Marked bytes, (_, only_refused c.args.self.now.options _ _ (inr (c.requires, c.in_ok-value.ensures)), text), added, refl)

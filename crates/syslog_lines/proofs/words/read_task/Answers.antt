@@ -1,0 +1,22 @@
+use Rattle.std.proofs.Common.{◌≡◌, Bool, IsTrue, ℕ, List, [], ◌∷◌}
+use Rattle.std.proofs.lemmas.Bool.{iff_false}
+use Rattle.std.proofs.lemmas.Result.{MatchResult-weaker}
+use Rattle.syslog_lines.specs.Arguments.{help_word, version_word}
+use Rattle.syslog_lines.specs.Words.{AskForLines, AsksFor}
+use Rattle.syslog_lines.specs.declared.dates.Dates.{Dates}
+use Rattle.syslog_lines.specs.declared.words.Task.{Task}
+use Rattle.syslog_lines.specs.declared.words.Task.TheVariants.{Help, Version, Lines}
+use Rattle.syslog_lines.proofs.words.read_task.Goals as goal
+
+-- where neither word stands alone and no lines are asked for, nothing is
+no_task : (has_raw : Bool) (words : List (List ℕ)) → ¬ (words ≡ help_word ∷ []) → ¬ (words ≡ version_word ∷ [])
+    → ((raw : Bool) (dates : Dates) → (IsTrue raw → IsTrue has_raw) → ¬ (AskForLines words raw dates))
+    → (task : Task) → ¬ (AsksFor has_raw words task)
+no_task has_raw words no_help no_version none Help = no_help
+no_task has_raw words no_help no_version none Version = no_version
+no_task has_raw words no_help no_version none (Lines raw dates) = λ asks. none raw dates asks.0 asks.1
+
+pub returns : goal.returns
+returns c = MatchResult-weaker c.read_lines.result c.read_lines.ensures (λ task asks. asks)
+    (λ wrong none. no_task _ _ (iff_false c.is_only.ensures c.if-is_only.false)
+    (iff_false c.is_only-2.ensures c.if-is_only-2.false) none)

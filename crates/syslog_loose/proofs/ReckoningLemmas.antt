@@ -1,0 +1,37 @@
+-- A text has one dating.
+use Rattle.std.proofs.Common.{◌≡◌, ℕ, ℤ, Option, Some, None, ap, refl, sym, ◌∙◌}
+use Rattle.jiff.specs.Types.{TimeZone}
+use Rattle.syslog_pieces.specs.Pieces.Class.{Text}
+use Rattle.syslog_pieces.specs.Timestamp.Zone.{Dating}
+use Rattle.syslog_pieces.specs.declared.timestamp.month_date.MonthDate.{MonthDate}
+use Rattle.syslog_pieces.proofs.TimestampLemmas.MonthDate.{shown_once}
+use Rattle.syslog_loose.specs.Reading.{AsksYear, IncompleteDate, InYear, IsYearAnswered, incomplete}
+use Rattle.syslog_loose.specs.Reckoning.{InDating, dating_in, reckoned_year}
+use Rattle.syslog_loose.specs.declared.variant.Variant.{Variant}
+use Rattle.syslog_loose.specs.declared.variant.Variant.TheVariants.{Either, RFC3164, RFC5424}
+
+asked_once : (variant : Variant) (text : Text) (d e : MonthDate) → AsksYear variant text d → AsksYear variant text e
+    → d ≡ e
+asked_once RFC5424 text d e asks also = absurd asks
+asked_once RFC3164 text d e asks also = shown_once text d e asks also
+asked_once Either text d e asks also = shown_once text d e asks also
+
+answered_once : (answer : IncompleteDate → ℤ) (variant : Variant) (text : Text) (year other : Option ℤ)
+    → IsYearAnswered (λ date y. y ≡ answer date) variant text year
+    → IsYearAnswered (λ date y. y ≡ answer date) variant text other
+    → (date : MonthDate) → AsksYear variant text date → year ≡ other
+answered_once answer variant text None other never is date asks = absurd (never date asks)
+answered_once answer variant text (Some y) None is never date asks = absurd (never date asks)
+answered_once answer variant text (Some y) (Some z) (d, shown, is) (e, also, same) date asks =
+    ap Some (is ∙ ap (λ (m : MonthDate). answer (incomplete m)) (asked_once variant text d e shown also) ∙ sym same)
+
+-- what holds of the dating, and what else does, holds of one
+pub one_dating : {Holds More : Dating → Type 0} (year : ℤ) (month : Option ℕ) (zone : TimeZone) (variant : Variant)
+    (text : Text) → InDating year month zone variant text Holds → InDating year month zone variant text More
+    → (dating : Dating) × Holds dating × More dating
+one_dating year month zone variant text g h = (
+  dating_in zone g.answered,
+  g.holds g.answered (λ date asks. refl),
+  h.holds g.answered (answered_once (reckoned_year year month) variant text g.answered h.answered
+      g.is_answered h.is_answered),
+)

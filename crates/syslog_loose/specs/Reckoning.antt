@@ -1,0 +1,32 @@
+-- The year and the zone of dates that show none: this project's own choice.
+use Rattle.std.specs.Prelude.{◌≡◌, ℕ, ℤ, ◌-ℤ◌, pos, nat_eq, if◌then◌else◌, Option, Some, None}
+use Rattle.jiff.specs.Types.{Offset, TimeZone}
+use Rattle.jiff.specs.Placed.{fixed_zone}
+use Rattle.syslog_pieces.specs.Pieces.Class.{Text}
+use Rattle.syslog_pieces.specs.Timestamp.Zone.{Dating}
+use Rattle.syslog_loose.specs.Reading.{IncompleteDate, InYear}
+use Rattle.syslog_loose.specs.declared.variant.Variant.{Variant}
+
+-- the year of a date of December: in January, if the month is known, the one before
+abbrev pub december_year : ℤ → Option ℕ → ℤ
+december_year year None = year
+december_year year (Some month) = if nat_eq month 1 then year -ℤ pos 1 else year
+
+-- the year of a date, in this year and month
+abbrev pub reckoned_year : ℤ → Option ℕ → IncompleteDate → ℤ
+reckoned_year year month date = if nat_eq date.0 12 then december_year year month else year
+
+-- the zone is so many seconds ahead of UTC, always
+abbrev pub IsZoneAt : ℤ → TimeZone → Type 0
+IsZoneAt seconds zone = (offset : Offset) × (offset.seconds ≡ seconds) × (zone ≡ fixed_zone offset)
+
+-- dates without a year are of this one, and those without an offset in this zone
+abbrev pub dating_in : TimeZone → Option ℤ → Dating
+dating_in zone year = record { year = year; zone = None; local = zone }
+
+-- This holds of the dating of the text: a date without an offset is in the zone, and one without a year is of the year
+-- that is reckoned.
+abbrev pub InDating : ℤ → Option ℕ → TimeZone → Variant → Text → (Dating → Type 0) → Type 0
+InDating year month zone variant text Holds =
+    InYear (λ date answered. answered ≡ reckoned_year year month date) variant text
+    (λ answered. Holds (dating_in zone answered))

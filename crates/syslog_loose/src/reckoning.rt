@@ -1,0 +1,33 @@
+//! The year and the zone of dates that show none.
+//!
+//! The programs and the library for C stand on it, so that each takes such dates in one way.
+ghost use Rattle.std.specs.Prelude.{◌≡◌, MatchOption};
+ghost use Rattle.jiff.specs.Words.{IsOffsetSeconds, IsYear, plain_zone};
+ghost use Rattle.syslog_loose.specs.Reckoning.{IsZoneAt, reckoned_year};
+
+use crate::variant::IncompleteDate;
+use jiff::tz::{Offset, TimeZone};
+
+/// Returns the year of a date that shows none, from the year that it is now. Where the month is known and it is January,
+/// a date of December is of the year before. Meant as the body of a `get_year`, for years from -9999 to 9999.
+#[inline]
+pub fn reckon_year(year: i32, month: Option<u32>, date: IncompleteDate) -> i32
+    ensures { IsYear year → result ≡ reckoned_year year month date }
+{
+    if month == Some(1) && date.0 == 12 {
+        year.saturating_sub(1)
+    } else {
+        year
+    }
+}
+
+/// Returns the zone that is always so many seconds ahead of UTC, or none where they are past 25:59:59 either way.
+pub fn zone_ahead(seconds: i32) -> Option<TimeZone<'static>>
+    ensures { MatchOption result (¬ (IsOffsetSeconds seconds))
+        (λ zone. IsOffsetSeconds seconds × IsZoneAt seconds (plain_zone zone)) }
+{
+    match Offset::from_seconds(seconds) {
+        Ok(offset) => Some(TimeZone::fixed(offset)),
+        Err(_) => None,
+    }
+}
