@@ -1,0 +1,234 @@
+-- Converted names are in the grammar, and are read back from their printed text.
+use Rattle.std.proofs.Common.{◌≡◌, ◌≢◌, inl, inr, ℕ, ℤ, pos, negsuc, zero, suc, ◌<◌, ◌≤◌, ◌^◌, Bool, true, false, [], ◌∷◌, ◌++◌}
+use Rattle.std.proofs.Common.{length, map, take, Option, Some, None, IfSome, refl, sym, ap, ◌∙◌, arith, FitsSigned, w32}
+use Rattle.std.proofs.lemmas.Bool.{cases_Bool}
+use Rattle.std.proofs.lemmas.Bool.Decides.{nat_tests}
+use Rattle.std.specs.Char.{is_ascii_digit, is_not_whitespace}
+use Rattle.std.specs.Cmp.Lexicographic.{bytes_decides}
+use Rattle.std.specs.Fmt.{decimal, signed_decimal}
+use Rattle.std.specs.Option.{option_and_then, option_map}
+use Rattle.syslog_pieces.specs.Pieces.Class.{Text, Each}
+use Rattle.syslog_pieces.specs.Pieces.View.{text_eq}
+use Rattle.syslog_pieces.specs.ProcId.{IsBoundedProcess, IsCanonicalProcess, NamesProcess, named_process, procid_text, process_text}
+use Rattle.syslog_pieces.specs.Text.{colon, dash, name_text}
+use Rattle.syslog_pieces.specs.Text.Canonical.{IsCanonicalHost, IsCanonicalWord}
+use Rattle.syslog_pieces.specs.declared.procid.ProcId.{ProcId}
+use Rattle.syslog_pieces.specs.declared.procid.ProcId.TheVariants.{PID, Name}
+use Rattle.syslog_pieces.proofs.PieceLemmas.Each.{each_map}
+use Rattle.syslog_pieces.proofs.ProcIdLemmas.Named.{named_names}
+use Rattle.syslog_pieces.proofs.TextLemmas.Decimals.{ten_long}
+use Rattle.syslog_pieces.proofs.TextLemmas.ReadBack.{decimal_digits}
+use Rattle.syslog_strict.specs.Conversion.{cleaned, converted_host, converted_process, converted_word, kept_char, named, no_colon}
+use Rattle.syslog_strict.specs.Conversion.{without_last_colon, without_lone_colon}
+use Rattle.syslog_strict.specs.Grammar.{IsSomeOf, is_printusascii}
+use Rattle.syslog_pieces.proofs.PieceLemmas.Class.{heads}
+use Rattle.syslog_strict.proofs.TextLemmas.{kept_as, lost_as}
+
+-- ---- cleaned texts
+
+kept_passes : (test : ℕ → Bool) (c : ℕ) → test 63 ≡ true → test (kept_char test c) ≡ true
+kept_passes test c mark = elim (cases_Bool (test c)) [ inl e ↦ rw e e | inr e ↦ rw e mark ]
+
+map_passes : (test : ℕ → Bool) (t : Text) → test 63 ≡ true → Each test (map (kept_char test) t)
+map_passes test [] mark = tt
+map_passes test (c ∷ t) mark = (kept_passes test c mark, map_passes test t mark)
+
+pub cleaned_passes : (test : ℕ → Bool) (most : ℕ) (t : Text) → test 63 ≡ true → Each test (cleaned test most t)
+cleaned_passes test most t mark = map_passes test (take most t) mark
+
+length_mapped : (f : ℕ → ℕ) (t : Text) → length (map f t) ≡ length t
+length_mapped f [] = refl
+length_mapped f (c ∷ t) = ap suc (length_mapped f t)
+
+length_taken : (most : ℕ) (t : Text) → length (take most t) ≤ most
+length_taken zero t = omega arith
+length_taken (suc n) [] = omega arith
+length_taken (suc n) (c ∷ t) = let short = length_taken n t in omega (arith, short)
+
+pub cleaned_short : (test : ℕ → Bool) (most : ℕ) (t : Text) → length (cleaned test most t) ≤ most
+cleaned_short test most t = rw (length_mapped (kept_char test) (take most t)) (length_taken most t)
+
+-- what is left of a name that isn't empty
+long : (c : ℕ) (t : Text) → 0 < length (c ∷ t)
+long c t = omega arith
+
+dash_is : (most : ℕ) → 0 < most → IsSomeOf is_printusascii most dash
+dash_is most h = (omega arith, omega arith, (refl, tt))
+
+-- a text of that kind, named, prints as one
+named_is : (most : ℕ) (t : Text) → 0 < most → length t ≤ most → Each is_printusascii t
+    → IsSomeOf is_printusascii most (name_text (named t))
+named_is most [] h short each = dash_is most h
+named_is most (c ∷ t) h short each = elim (cases_Bool (text_eq (c ∷ t) dash)) [
+  | inl e ↦ rw e (dash_is most h)
+  | inr e ↦ rw e (long c t, short, each)
+]
+
+colonless_passes : (t : Text) → Each is_printusascii t → Each is_printusascii (without_last_colon t)
+colonless_passes [] each = tt
+colonless_passes (c ∷ []) each = elim (cases_Bool (no_colon c)) [ inl e ↦ rw e each | inr e ↦ rw e (refl, tt) ]
+colonless_passes (c ∷ d ∷ t) each = (each.0, colonless_passes (d ∷ t) each.1)
+
+colonless_length : (t : Text) → length (without_last_colon t) ≡ length t
+colonless_length [] = refl
+colonless_length (c ∷ []) = refl
+colonless_length (c ∷ d ∷ t) = ap suc (colonless_length (d ∷ t))
+
+lone_passes : (t : Text) → Each is_printusascii t → Each is_printusascii (without_lone_colon t)
+lone_passes t each = elim (cases_Bool (text_eq t colon)) [ inl e ↦ rw e (refl, tt) | inr e ↦ rw e each ]
+
+lone_short : (most : ℕ) (t : Text) → 0 < most → length t ≤ most → length (without_lone_colon t) ≤ most
+lone_short most t h short = elim (cases_Bool (text_eq t colon)) [ inl e ↦ rw e (omega arith) | inr e ↦ rw e short ]
+
+-- ---- host, app name and message id
+
+pub host_is : (v : Option Text) → IsSomeOf is_printusascii 255 (name_text (option_and_then converted_host v))
+host_is None = dash_is 255 (omega arith)
+host_is (Some t) =
+    let u = cleaned is_printusascii 255 t in
+    named_is 255 (without_last_colon u) (omega arith)
+    (let short = cleaned_short is_printusascii 255 t in let same = colonless_length u in omega (arith, short, same))
+    (colonless_passes u (cleaned_passes is_printusascii 255 t refl))
+
+pub word_text_is : (most : ℕ) (t : Text) → 0 < most
+    → IsSomeOf is_printusascii most (name_text (converted_word most t))
+word_text_is most t h =
+    let u = cleaned is_printusascii most t in
+    named_is most (without_lone_colon u) h (lone_short most u h (cleaned_short is_printusascii most t))
+    (lone_passes u (cleaned_passes is_printusascii most t refl))
+
+pub word_is : (most : ℕ) (v : Option Text) → 0 < most
+    → IsSomeOf is_printusascii most (name_text (option_and_then (converted_word most) v))
+word_is most None h = dash_is most h
+word_is most (Some t) h = word_text_is most t h
+
+-- ---- process ids
+
+digit_prints : (c : ℕ) → is_ascii_digit c ≡ true → is_printusascii c ≡ true
+digit_prints c h = grind (arith, nat_tests)
+
+digits_print : (t : Text) → Each is_ascii_digit t → Each is_printusascii t
+digits_print t each = each_map is_ascii_digit is_printusascii digit_prints t each
+
+number_is : (n : ℤ) → FitsSigned w32 n → IsSomeOf is_printusascii 128 (signed_decimal n)
+number_is (pos n) h =
+    let small : n < 2 ^ 32 = omega (arith, h) in
+    let digits = decimal_digits n (omega arith) in
+    (digits.0, (let short = ten_long n small in omega (arith, short)), digits_print (decimal n) digits.1)
+number_is (negsuc n) h =
+    let small : suc n < 2 ^ 32 = omega (arith, h) in
+    let digits = decimal_digits (suc n) (omega arith) in
+    (omega arith, (let short = ten_long (suc n) small in omega (arith, short)), (refl, digits_print (decimal (suc n)) digits.1))
+
+named_process_is : (t : Text) (p : ProcId Text) → IsSomeOf is_printusascii 128 t → NamesProcess t p
+    → IsSomeOf is_printusascii 128 (procid_text p)
+named_process_is t (PID n) is names = number_is n names.1
+named_process_is t (Name u) is names = rw (names.1) is
+
+word_process_is : (v : Option Text) → IsSomeOf is_printusascii 128 (name_text v)
+    → IsSomeOf is_printusascii 128 (process_text (option_map named_process v))
+word_process_is None is = is
+word_process_is (Some t) is = named_process_is t (named_process t) is (named_names t)
+
+pub process_is : (v : Option (ProcId Text)) → IfSome v IsBoundedProcess
+    → IsSomeOf is_printusascii 128 (process_text (option_and_then converted_process v))
+process_is None b = dash_is 128 (omega arith)
+process_is (Some (PID n)) b = number_is n b
+process_is (Some (Name t)) b = word_process_is (converted_word 128 t) (word_text_is 128 t (omega arith))
+
+-- ---- read back
+
+pub print_visible : (c : ℕ) → is_printusascii c ≡ true → is_not_whitespace c ≡ true
+print_visible c h = grind (arith, nat_tests)
+
+prints_visible : (t : Text) → Each is_printusascii t → Each is_not_whitespace t
+prints_visible t each = each_map is_printusascii is_not_whitespace print_visible t each
+
+pub no_text_eq : (t u : Text) → text_eq t u ≡ false → t ≢ u
+no_text_eq t u e same = let yes = (bytes_decides t u).1 same in absurd (let no : true ≡ false = sym yes ∙ e in cc)
+
+-- a name that is there is such a text, and not `-`
+named_there : (t : Text) (P : Text → Type 0) → (t ≢ [] → t ≢ dash → P t) → IfSome (named t) P
+named_there [] P f = tt
+named_there (c ∷ t) P f = elim (cases_Bool (text_eq (c ∷ t) dash)) [
+  | inl e ↦ rw e tt
+  | inr e ↦ rw e (f (λ h. cc) (no_text_eq (c ∷ t) dash e))
+]
+
+pub some_long : (t : Text) → t ≢ [] → 0 < length t
+some_long [] some = absurd (some refl)
+some_long (c ∷ t) some = omega arith
+
+not_colon : (c : ℕ) → no_colon c ≡ true → c ≢ 58
+not_colon c h = grind (arith, nat_tests)
+
+no_colon_kept : (c : ℕ) → kept_char no_colon c ≡ 58 → ⊥
+no_colon_kept c e = elim (cases_Bool (no_colon c)) [
+  | inl h ↦ not_colon c h (sym (kept_as no_colon c h) ∙ e)
+  | inr h ↦ (let mark = lost_as no_colon c h in absurd (omega arith))
+]
+
+colonless_end : (t front : Text) → without_last_colon t ≡ front ++ colon → ⊥
+colonless_end [] [] e = cc
+colonless_end [] (d ∷ front) e = cc
+colonless_end (c ∷ []) [] e = no_colon_kept c (heads _ _ _ _ e)
+colonless_end (c ∷ []) (d ∷ []) e = cc
+colonless_end (c ∷ []) (d ∷ f ∷ front) e = cc
+colonless_end (c ∷ d ∷ t) [] e = absurd (let l = colonless_length (d ∷ t) in let k = ap length e in omega (arith, l, k))
+colonless_end (c ∷ d ∷ t) (f ∷ front) e = colonless_end (d ∷ t) front (let g : without_last_colon (d ∷ t) ≡ front ++ colon = cc in g)
+
+pub host_back : (v : Option Text) → IfSome (option_and_then converted_host v) IsCanonicalHost
+host_back None = tt
+host_back (Some t) =
+    let u = cleaned is_printusascii 255 t in
+    named_there (without_last_colon u) IsCanonicalHost (λ some other. (
+      (some_long _ some, prints_visible _ (colonless_passes u (cleaned_passes is_printusascii 255 t refl))),
+      other,
+      λ h. colonless_end u h.0 h.1,
+    ))
+
+mark_no_colon : 63 ∷ [] ≢ colon
+mark_no_colon e = let k : ◌≡◌ {A = ℕ} 63 58 = heads 63 58 [] [] e in absurd (omega (arith, k))
+
+lone_other : (t : Text) → without_lone_colon t ≢ colon
+lone_other t = elim (cases_Bool (text_eq t colon)) [
+  | inl e ↦ rw e mark_no_colon
+  | inr e ↦ rw e (no_text_eq t colon e)
+]
+
+pub word_text_back : (most : ℕ) (t : Text) → IfSome (converted_word most t) IsCanonicalWord
+word_text_back most t =
+    let u = cleaned is_printusascii most t in
+    named_there (without_lone_colon u) IsCanonicalWord (λ some other.
+    ((some_long _ some, prints_visible _ (lone_passes u (cleaned_passes is_printusascii most t refl))), other, lone_other u))
+
+pub word_back : (most : ℕ) (v : Option Text) → IfSome (option_and_then (converted_word most) v) IsCanonicalWord
+word_back most None = tt
+word_back most (Some t) = word_text_back most t
+
+named_canonical : (t : Text) (p : ProcId Text) → IsCanonicalWord t → NamesProcess t p → IsCanonicalProcess p
+named_canonical t (PID n) is names = tt
+named_canonical t (Name u) is names = rw (names.1) (is, names.0)
+
+word_process_back : (v : Option Text) → IfSome v IsCanonicalWord → IfSome (option_map named_process v) IsCanonicalProcess
+word_process_back None is = tt
+word_process_back (Some t) is = named_canonical t (named_process t) is (named_names t)
+
+pub process_back : (v : Option (ProcId Text)) → IfSome (option_and_then converted_process v) IsCanonicalProcess
+process_back None = tt
+process_back (Some (PID n)) = tt
+process_back (Some (Name t)) = word_process_back (converted_word 128 t) (word_text_back 128 t)
+
+named_bounded : (t : Text) (p : ProcId Text) → NamesProcess t p → IsBoundedProcess p
+named_bounded t (PID n) names = names.1
+named_bounded t (Name u) names = tt
+
+word_process_bounded : (v : Option Text) → IfSome (option_map named_process v) IsBoundedProcess
+word_process_bounded None = tt
+word_process_bounded (Some t) = named_bounded t (named_process t) (named_names t)
+
+pub process_bounded : (v : Option (ProcId Text)) → IfSome v IsBoundedProcess
+    → IfSome (option_and_then converted_process v) IsBoundedProcess
+process_bounded None b = tt
+process_bounded (Some (PID n)) b = b
+process_bounded (Some (Name t)) b = word_process_bounded (converted_word 128 t)

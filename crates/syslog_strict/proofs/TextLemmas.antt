@@ -1,0 +1,259 @@
+-- Texts that grow, and cleaned texts.
+use Rattle.std.proofs.Common.{◌≡◌, ℕ, zero, suc, ◌-◌, ◌<◌, ◌≤◌, Bool, true, false, List, [], ◌∷◌, ◌++◌, length, map}
+use Rattle.std.proofs.Common.{Option, Some, None, ◌≢◌, ◌⊎◌, inl, inr, drop, take, Result, Ok, Err, refl, sym, ap, ap₂, subst, ◌∙◌, arith, append-nil, append_assoc, OnOk, MatchBool, cond, if◌then◌else◌}
+use Rattle.std.proofs.lemmas.Bool.{cases_Bool}
+use Rattle.std.proofs.lemmas.Bool.Decides.{nat_tests}
+use Rattle.std.proofs.lemmas.List.{take_all, drop_all}
+use Rattle.std.proofs.lemmas.Str.{chars-append, chars-IsAscii, chars-nil, chars_past_char, IsUtf8-encode}
+use Rattle.std.proofs.lemmas.Str.Ascii.{IsAscii-cons, IsAscii-nil}
+use Rattle.std.specs.Char.{encode_utf8, IsScalar}
+use Rattle.std.specs.Result.{is_ok}
+use Rattle.std.specs.Str.{chars, IsUtf8, IsAscii}
+use Rattle.syslog_pieces.specs.Pieces.Class.{Text, Each}
+use Rattle.std.specs.Cmp.Lexicographic.{bytes_decides}
+use Rattle.syslog_pieces.specs.Pieces.View.{text_eq}
+use Rattle.std.specs.Option.{option_map}
+use Rattle.syslog_pieces.specs.ProcId.{named_process, procid_text, process_text}
+use Rattle.syslog_pieces.specs.Text.{colon, dash, name_text}
+use Rattle.syslog_pieces.proofs.PieceLemmas.Class.{heads}
+use Rattle.syslog_strict.specs.Conversion.{cleaned, kept_char, named, no_colon, without_last_colon, without_lone_colon}
+use Rattle.syslog_strict.specs.Conversion.{converted_host, converted_word}
+use Rattle.syslog_strict.specs.Grammar.{is_printusascii}
+use Rattle.syslog_strict.specs.Pushing.{keeps}
+use Rattle.syslog_strict.specs.declared.text.Kept.{Kept}
+use Rattle.syslog_strict.specs.declared.text.Kept.TheVariants.{Printable, SdName}
+
+-- ---- texts that grow
+
+pub pushed : {T E : Type 0} (r : Result T E) (bytes old now : List ℕ) → IsUtf8 old
+    → now ≡ cond (is_ok r) (old ++ bytes) old → OnOk r (chars now ≡ chars old ++ chars bytes)
+pushed (Ok x) bytes old now u e = ap chars e ∙ chars-append old bytes u
+pushed (Err x) bytes old now u e = tt
+
+-- another spelling of what was appended
+pub appended : {T E : Type 0} (r : Result T E) (old new a b : Text) → a ≡ b → OnOk r (new ≡ old ++ a)
+    → OnOk r (new ≡ old ++ b)
+appended (Ok x) old new a b e h = h ∙ ap (λ (y : Text). old ++ y) e
+appended (Err x) old new a b e h = tt
+
+pub one_char : (c : ℕ) → IsScalar c → chars (encode_utf8 c) ≡ c ∷ []
+one_char c s =
+    chars_past_char (encode_utf8 c) [] c (IsUtf8-encode c s) (sym (append-nil (encode_utf8 c)))
+    ∙ ap (λ (y : List ℕ). c ∷ y) chars-nil
+
+-- ---- cleaned texts
+
+pub cleaned_step : (test : ℕ → Bool) (n : ℕ) (c : ℕ) (t : Text) → 0 < n
+    → cleaned test n (c ∷ t) ≡ kept_char test c ∷ cleaned test (n - 1) t
+cleaned_step test zero c t h = absurd (omega arith)
+cleaned_step test (suc n) c t h = ap (λ (k : ℕ). kept_char test c ∷ cleaned test k t) (omega arith)
+
+-- a step of the copy, character by character
+pub cleaned_more : (test : ℕ → Bool) (n : ℕ) (c : ℕ) (old now start t more whole : Text) → 0 < n → t ≡ c ∷ more
+    → now ≡ old ++ (kept_char test c ∷ []) → old ++ cleaned test n t ≡ whole
+    → now ++ cleaned test (n - 1) more ≡ whole
+cleaned_more test n c old now start t more whole h e p i =
+    ap (λ (x : Text). x ++ cleaned test (n - 1) more) p ∙ append_assoc old (kept_char test c ∷ []) (cleaned test (n - 1) more)
+    ∙ ap (λ (x : Text). old ++ x) (sym (ap (cleaned test n) e ∙ cleaned_step test n c more h)) ∙ i
+
+kept_low : (kept : Kept) (c : ℕ) → keeps kept c ≡ true → c < 128
+kept_low Printable c h = grind (arith, nat_tests)
+kept_low SdName c h = grind (arith, nat_tests)
+
+kept_ascii : (kept : Kept) (t : List ℕ) → Each (keeps kept) t → IsAscii t
+kept_ascii kept [] each = IsAscii-nil
+kept_ascii kept (c ∷ t) each = IsAscii-cons c t (kept_low kept c each.0) (kept_ascii kept t each.1)
+
+pub kept_all : (test : ℕ → Bool) (t : Text) → Each test t → map (kept_char test) t ≡ t
+kept_all test [] each = refl
+kept_all test (c ∷ t) each = ap₂ (λ (x : ℕ) (y : Text). x ∷ y) (rw (each.0) refl) (kept_all test t each.1)
+
+pub cleaned_same : (test : ℕ → Bool) (most : ℕ) (t : Text) → Each test t → length t ≤ most → cleaned test most t ≡ t
+cleaned_same test most t each short = ap (map (kept_char test)) (take_all most t short) ∙ kept_all test t each
+
+pub kept_chars : (kept : Kept) (bytes : List ℕ) → Each (keeps kept) bytes → chars bytes ≡ bytes
+kept_chars kept bytes each = chars-IsAscii bytes (kept_ascii kept bytes each)
+
+pub kept_text : (kept : Kept) (most : ℕ) (bytes : List ℕ) → Each (keeps kept) bytes → length bytes ≤ most
+    → cleaned (keeps kept) most (chars bytes) ≡ chars bytes
+kept_text kept most bytes each short =
+    let same = kept_chars kept bytes each in
+    ap (cleaned (keeps kept) most) same ∙ cleaned_same (keeps kept) most bytes each short ∙ sym same
+
+-- a test of each byte that came to the end
+pub each_tested : (test : ℕ → Bool) (bytes now : List ℕ) (at : ℕ) → length bytes ≤ at → bytes ≡ now
+    → (Each test (drop at bytes) → Each test bytes) → Each test now
+each_tested test bytes now at done e so_far =
+    subst (λ (x : Text). Each test x) e
+    (so_far (subst (λ (x : Text). Each test x) (sym (drop_all at bytes done)) tt))
+
+-- ---- names
+
+pub text_eq_true : (a b : Text) → text_eq a b ≡ true → a ≡ b
+text_eq_true a b = (bytes_decides a b).0
+
+-- a name that is not empty prints as it is
+pub named_prints : (t : Text) → t ≢ [] → name_text (named t) ≡ t
+named_prints [] some = absurd (some refl)
+named_prints (c ∷ t) some = elim (cases_Bool (text_eq (c ∷ t) dash)) [
+  | inl e ↦ rw e (sym (text_eq_true (c ∷ t) dash e))
+  | inr e ↦ rw e refl
+]
+
+pub cleaned_some : (test : ℕ → Bool) (most : ℕ) (t : Text) → 0 < most → t ≢ [] → cleaned test most t ≢ []
+cleaned_some test zero t h some = absurd (omega arith)
+cleaned_some test (suc n) [] h some = absurd (some refl)
+cleaned_some test (suc n) (c ∷ t) h some = λ e. cc
+
+colonless_some : (t : Text) → t ≢ [] → without_last_colon t ≢ []
+colonless_some [] some = absurd (some refl)
+colonless_some (c ∷ []) some = λ e. cc
+colonless_some (c ∷ d ∷ t) some = λ e. cc
+
+colonless_same : (t : Text) → ((front : Text) → t ≢ front ++ (58 ∷ [])) → without_last_colon t ≡ t
+colonless_same [] none = refl
+colonless_same (c ∷ []) none = elim (cases_Bool (no_colon c)) [
+  | inl e ↦ rw e refl
+  | inr e ↦ absurd (none [] (let is : c ≡ 58 = grind (arith, nat_tests) in ap (λ (x : ℕ). x ∷ []) is))
+]
+colonless_same (c ∷ d ∷ t) none =
+    ap (λ (x : Text). c ∷ x)
+    (colonless_same (d ∷ t) (λ front e. none (c ∷ front) (ap (λ (x : Text). c ∷ x) e)))
+
+pub host_prints : (t : Text) → t ≢ [] → name_text (converted_host t)
+    ≡ without_last_colon (cleaned is_printusascii 255 t)
+host_prints t some =
+    named_prints _ (colonless_some _ (cleaned_some is_printusascii 255 t (omega arith) some))
+
+-- a host that is clean and doesn't end in a colon prints as it is
+pub host_stays : (t bytes : Text) → t ≢ [] → cleaned is_printusascii 255 t ≡ t → t ≡ bytes
+    → ((front : Text) → bytes ≢ front ++ (58 ∷ [])) → name_text (converted_host t) ≡ t
+host_stays t bytes some clean ascii none =
+    host_prints t some ∙ ap without_last_colon clean
+    ∙ colonless_same t (λ front e. none front (sym ascii ∙ e))
+
+-- the last character, and then nothing
+host_last : (c : ℕ) (t : Text) (m : ℕ) → (m ≡ 0) ⊎ (t ≡ [])
+    → without_last_colon (cleaned is_printusascii (suc m) (c ∷ t))
+    ≡ (kept_char no_colon (kept_char is_printusascii c) ∷ []) ++ without_last_colon (cleaned is_printusascii m t)
+host_last c t zero last = refl
+host_last c [] (suc m) last = refl
+host_last c (d ∷ t) (suc m) (inl e) = absurd (omega arith)
+host_last c (d ∷ t) (suc m) (inr e) = absurd (let no : ⊥ = cc in no)
+
+-- another character, and more
+host_more : (c : ℕ) (t : Text) (m : ℕ) → m ≢ 0 → t ≢ []
+    → without_last_colon (cleaned is_printusascii (suc m) (c ∷ t))
+    ≡ (kept_char is_printusascii c ∷ []) ++ without_last_colon (cleaned is_printusascii m t)
+host_more c t zero more some = absurd (more refl)
+host_more c [] (suc m) more some = absurd (some refl)
+host_more c (d ∷ t) (suc m) more some = refl
+
+-- the character that is pushed, as the last or not
+abbrev pub host_char : ℕ → Bool → ℕ
+host_char c last = if last then kept_char no_colon (kept_char is_printusascii c) else kept_char is_printusascii c
+
+-- whether it is the last
+abbrev pub IsLast : ℕ → Text → Bool → Type 0
+IsLast n more last = MatchBool last ((n ≡ 1) ⊎ (more ≡ [])) ((n ≢ 1) × (more ≢ []))
+
+host_next : (c : ℕ) (t : Text) (m : ℕ) (last : Bool) → IsLast (suc m) t last
+    → without_last_colon (cleaned is_printusascii (suc m) (c ∷ t))
+    ≡ (host_char c last ∷ []) ++ without_last_colon (cleaned is_printusascii m t)
+host_next c t m true (inl e) = host_last c t m (inl (omega arith))
+host_next c t m true (inr e) = host_last c t m (inr e)
+host_next c t m false (n, some) = host_more c t m (λ e. n (omega arith)) some
+
+host_on : (c : ℕ) (m : ℕ) (old now t more whole : Text) (last : Bool) → t ≡ c ∷ more
+    → IsLast (suc m) more last → now ≡ old ++ (host_char c last ∷ [])
+    → old ++ without_last_colon (cleaned is_printusascii (suc m) t) ≡ whole
+    → now ++ without_last_colon (cleaned is_printusascii m more) ≡ whole
+host_on c m old now t more whole last e is p i =
+    ap (λ (x : Text). x ++ without_last_colon (cleaned is_printusascii m more)) p
+    ∙ append_assoc old (host_char c last ∷ []) _
+    ∙ ap (λ (x : Text). old ++ x)
+    (sym (ap (λ (x : Text). without_last_colon (cleaned is_printusascii (suc m) x)) e ∙ host_next c more m last is)) ∙ i
+
+-- a step of the copy
+pub host_step : (c n : ℕ) (old now t more whole : Text) (last : Bool) → 0 < n → t ≡ c ∷ more
+    → IsLast n more last → now ≡ old ++ (host_char c last ∷ [])
+    → old ++ without_last_colon (cleaned is_printusascii n t) ≡ whole
+    → now ++ without_last_colon (cleaned is_printusascii (n - 1) more) ≡ whole
+host_step c zero old now t more whole last h e is p i = absurd (omega arith)
+host_step c (suc m) old now t more whole last h e is p i =
+    let one : m ≡ suc m - 1 = omega arith in
+    ap (λ (k : ℕ). now ++ without_last_colon (cleaned is_printusascii k more)) (sym one)
+    ∙ host_on c m old now t more whole last e is p i
+
+pub chars_colon : chars (58 ∷ []) ≡ 58 ∷ []
+chars_colon = chars-IsAscii (58 ∷ []) (IsAscii-cons 58 [] (omega arith) IsAscii-nil)
+
+-- a word of one colon
+pub word_colon : (most : ℕ) (t : Text) → 1 < most → t ≡ 58 ∷ [] → name_text (converted_word most t) ≡ 63 ∷ []
+word_colon zero t h e = absurd (omega arith)
+word_colon (suc zero) t h e = absurd (omega arith)
+word_colon (suc (suc n)) t h e = rw e refl
+
+pub kept_as : (test : ℕ → Bool) (c : ℕ) → test c ≡ true → kept_char test c ≡ c
+kept_as test c e = rw e refl
+
+pub lost_as : (test : ℕ → Bool) (c : ℕ) → test c ≡ false → kept_char test c ≡ 63
+lost_as test c e = rw e refl
+
+cleaned_colon : (most : ℕ) (t : Text) → 1 < most → cleaned is_printusascii most t ≡ 58 ∷ [] → t ≡ 58 ∷ []
+cleaned_colon zero t h e = absurd (omega arith)
+cleaned_colon (suc zero) t h e = absurd (omega arith)
+cleaned_colon (suc (suc n)) [] h e = e
+cleaned_colon (suc (suc n)) (c ∷ []) h e =
+    let first : kept_char is_printusascii c ≡ 58 = heads _ _ _ _ e in
+    elim (cases_Bool (is_printusascii c)) [
+      | inl kept ↦ ap (λ (x : ℕ). x ∷ []) (sym (kept_as is_printusascii c kept) ∙ first)
+      | inr lost ↦ absurd (let mark = lost_as is_printusascii c lost in omega arith)
+    ]
+cleaned_colon (suc (suc n)) (c ∷ d ∷ t) h e = cc
+
+-- another word
+pub word_prints : (most : ℕ) (t : Text) → 1 < most → t ≢ [] → text_eq t (58 ∷ []) ≡ false
+    → name_text (converted_word most t) ≡ cleaned is_printusascii most t
+word_prints most t h some other =
+    let same : without_lone_colon (cleaned is_printusascii most t) ≡ cleaned is_printusascii most t =
+    elim (cases_Bool (text_eq (cleaned is_printusascii most t) colon)) [
+      | inl e ↦ absurd (let is = cleaned_colon most t h (text_eq_true _ _ e) in
+          let yes = (bytes_decides t (58 ∷ [])).1 is in cc)
+      | inr e ↦ rw e refl
+    ] in
+    ap (λ (x : Text). name_text (named x)) same
+    ∙ named_prints _ (cleaned_some is_printusascii most t (omega arith) some)
+
+take_none : (n : ℕ) → (t : Text) → t ≡ [] → take n t ≡ []
+take_none zero t e = refl
+take_none (suc n) t e = rw e refl
+
+-- the copy comes to an end
+pub host_stop : (host old now rest : Text) (n : ℕ) → host ≢ [] → rest ≡ []
+    → now ++ without_last_colon (cleaned is_printusascii n rest) ≡ old ++ without_last_colon (cleaned is_printusascii 255 host)
+    → now ≡ old ++ name_text (converted_host host)
+host_stop host old now rest n some e i =
+    sym (append-nil now) ∙ ap (λ (x : Text). now ++ x) (sym (ap (λ (x : Text). without_last_colon (map (kept_char is_printusascii) x)) (take_none n rest e)))
+    ∙ i ∙ ap (λ (x : Text). old ++ x) (sym (host_prints host some))
+
+-- what was appended to no text
+pub started : (old new a : Text) → new ≡ old ++ a → old ≡ chars [] → new ≡ a
+started old new a e none = e ∙ ap (λ (x : Text). x ++ a) (none ∙ chars-nil)
+
+printed_of : (v : Option Text) → process_text (option_map named_process v) ≡ procid_text (named_process (name_text v))
+printed_of None = refl
+printed_of (Some t) = refl
+
+-- a process id prints as its word does
+pub process_prints : (t : Text) → process_text (option_map named_process (converted_word 128 t))
+    ≡ procid_text (named_process (name_text (converted_word 128 t)))
+process_prints t = printed_of (converted_word 128 t)
+
+-- no more may be copied
+pub host_end : (host old now rest : Text) (n : ℕ) → host ≢ [] → n ≤ 0
+    → now ++ without_last_colon (cleaned is_printusascii n rest) ≡ old ++ without_last_colon (cleaned is_printusascii 255 host)
+    → now ≡ old ++ name_text (converted_host host)
+host_end host old now rest zero some e i =
+    sym (append-nil now) ∙ i ∙ ap (λ (x : Text). old ++ x) (sym (host_prints host some))
+host_end host old now rest (suc n) some e i = absurd (omega arith)

@@ -1,0 +1,9 @@
+use Rattle.std.proofs.Common.{sym}
+use Rattle.syslog_pieces.specs.StructuredData.Visited.{list_elements}
+use Rattle.syslog_strict.proofs.ElementLemmas.{converted_some, elements_some}
+use Rattle.syslog_strict.proofs.TextLemmas.{appended}
+use Rattle.syslog_strict.proofs.elements.push_list.Goals as goal
+
+pub returns : goal.returns
+returns c = appended c.push_elements.result _ _ _ _
+    (sym (elements_some _ (converted_some (list_elements c.args.list.now) c.if-is_empty.ensures))) c.push_elements.ensures

@@ -1,0 +1,12 @@
+use Rattle.std.proofs.Common.{◌++◌, ap, ◌∙◌}
+use Rattle.std.proofs.lemmas.Int.{to_z-of_z}
+use Rattle.std.proofs.lemmas.Str.{IsUtf8-string_bytes, chars-append, chars-IsAscii}
+use Rattle.std.specs.Fmt.{signed_decimal}
+use Rattle.std.specs.Str.{chars}
+use Rattle.syslog_pieces.proofs.TextLemmas.Decimals.{signed_ascii}
+use Rattle.syslog_strict.specs.Pushing.{text_in}
+use Rattle.syslog_strict.proofs.names.push_number.Goals as goal
+
+pub returns : goal.returns
+returns c = ap chars c.in_ok-write.ensures.bytes ∙ chars-append _ _ (IsUtf8-string_bytes c.args.out.now)
+    ∙ ap (λ x. text_in c.args.out.now ++ x) (chars-IsAscii _ (signed_ascii _) ∙ ap signed_decimal (to_z-of_z _ _ c.ranges.number))

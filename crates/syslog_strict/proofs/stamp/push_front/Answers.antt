@@ -1,0 +1,24 @@
+use Rattle.std.proofs.Common.{ap, ap₂, refl, sym, ◌∙◌, ◌+◌, ◌*◌}
+use Rattle.std.specs.Prelude.{unwrap_or}
+use Rattle.syslog_pieces.specs.Pri.{facility_number, severity_number}
+use Rattle.syslog_pieces.specs.declared.pri.SyslogFacility.TheVariants.{LOG_USER}
+use Rattle.syslog_pieces.specs.declared.pri.SyslogSeverity.TheVariants.{SEV_NOTICE}
+use Rattle.syslog_loose.specs.Line.{line_value}
+use Rattle.syslog_loose.specs.Printed.{timestamp_text}
+use Rattle.syslog_strict.specs.Conversion.{converted}
+use Rattle.syslog_strict.specs.Pushing.{front_text}
+use Rattle.syslog_strict.proofs.StampLemmas.{front_chars}
+use Rattle.syslog_strict.proofs.TextLemmas.{appended}
+use Rattle.syslog_strict.proofs.stamp.push_front.Goals as goal
+
+pub returns-then-is_strict_clock : goal.returns-then-is_strict_clock
+returns-then-is_strict_clock c =
+    let line = c.args.line.now in
+    appended c.push_text.result _ _ _ _
+    (front_chars _ c.strict_priority-priority.result line.timestamp _ (c.as_str.ensures ∙ c.front-front.ensures)
+    (sym (c.if-is_strict_clock.ensures refl))
+    ∙ ap (λ n. front_text n (timestamp_text (converted (line_value line)).timestamp))
+    (c.strict_priority-priority.ensures.number
+    ∙ ap₂ (λ f s. facility_number (unwrap_or f LOG_USER) * 8 + severity_number (unwrap_or s SEV_NOTICE))
+    c.facility.ensures c.severity.ensures))
+    c.push_text.ensures

@@ -1,0 +1,9 @@
+use Rattle.std.proofs.Common.{ap, sym, ◌∙◌}
+use Rattle.std.proofs.lemmas.Str.{IsUtf8-string_bytes}
+use Rattle.syslog_loose.specs.Printed.{timestamp_text}
+use Rattle.syslog_strict.proofs.StampLemmas.{stamp_chars, written}
+use Rattle.syslog_strict.proofs.stamp.push_stamp.Goals as goal
+
+pub returns-in_ok-write-in-Some : goal.returns-in_ok-write-in-Some
+returns-in_ok-write-in-Some c = written _ _ _ _ (IsUtf8-string_bytes c.args.out.now) c.in_ok-write-in-Some.ensures.bytes
+    (stamp_chars c.in-Some.stamp ∙ ap timestamp_text (sym c.in-Some.is))

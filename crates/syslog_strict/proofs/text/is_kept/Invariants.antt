@@ -1,0 +1,10 @@
+use Rattle.std.proofs.Common.{◌-◌, drop, length}
+use Rattle.syslog_pieces.specs.Pieces.Class.{Each}
+use Rattle.syslog_strict.specs.Pushing.{keeps}
+use Rattle.syslog_strict.proofs.text.is_kept.Given as goal
+
+abbrev pub invariant-bytes : goal.invariant-bytes
+invariant-bytes l = Each (keeps l.kept) (drop l.at l.bytes) → Each (keeps l.kept) l.bytes
+
+abbrev pub decreases-bytes : goal.decreases-bytes
+decreases-bytes l = length l.bytes - l.at

@@ -1,0 +1,27 @@
+-- What the call writes for a text.
+use Rattle.std.specs.Prelude.{◌≡◌, ◌↔◌, Result, MatchResult}
+use Rattle.syslog_pieces.specs.Pieces.Class.{Text}
+use Rattle.syslog_pieces.specs.Timestamp.Zone.{Dating}
+use Rattle.syslog_loose.specs.Message.{MessageValue}
+use Rattle.syslog_loose.specs.Printed.{printed}
+use Rattle.syslog_loose.specs.Reading.{IsOnlyRead, IsRead, IsUnreadable}
+use Rattle.syslog_loose.specs.declared.fault.ParseFault.{ParseFault}
+use Rattle.syslog_loose.specs.declared.fault.ParseFault.TheVariants.{Invalid}
+use Rattle.syslog_loose.specs.declared.variant.Variant.{Variant}
+use Rattle.syslog_loose.specs.declared.variant.Variant.TheVariants.{Either}
+use Rattle.syslog_strict.specs.Conversion.{converted}
+use Rattle.syslog_strict.specs.Grammar.{IsSyslogMsg}
+
+-- The text is that of the one message as which the input is read, converted: it is in the grammar, and whoever reads it
+-- again, whatever the year and zones, reads the converted message.
+pub record IsConvertedText (variant : Variant) (dating : Dating) (input text : Text) : Type 0 where
+  pub message : MessageValue
+  pub read : IsOnlyRead variant dating input message
+  pub prints : text ≡ printed (converted message)
+  pub strict : IsSyslogMsg text
+  pub again : (receiver : Dating) → IsRead Either receiver text (converted message)
+
+-- that text, or a fault, which is `Invalid` exactly where the input is read as no message
+abbrev pub Converts : Variant → Dating → Text → Result (Unit {0}) ParseFault → Text → Type 0
+Converts variant dating input result text = MatchResult result (λ _. IsConvertedText variant dating input text)
+    (λ fault. (fault ≡ Invalid) ↔ IsUnreadable variant dating input)

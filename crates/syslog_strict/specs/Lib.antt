@@ -1,0 +1,4 @@
+pub mod Call
+pub mod Conversion
+pub mod Grammar
+pub mod Pushing

@@ -1,0 +1,28 @@
+//! Laws of the grammar and of the conversion, over their definitions alone.
+ghost use Rattle.std.specs.Prelude.{IfSome};
+ghost use Rattle.syslog_pieces.specs.Pieces.Class.{Text};
+ghost use Rattle.syslog_pieces.specs.ProcId.{IsBoundedProcess};
+ghost use Rattle.syslog_pieces.specs.Timestamp.Zone.{Dating};
+ghost use Rattle.syslog_loose.specs.Canonical.{IsCanonical};
+ghost use Rattle.syslog_loose.specs.Message.{MessageValue};
+ghost use Rattle.syslog_loose.specs.Printed.{printed};
+ghost use Rattle.syslog_loose.specs.Reading.{IsRead, dash_rule};
+ghost use Rattle.syslog_loose.specs.declared.variant.Variant.{Variant};
+ghost use Rattle.syslog_loose.specs.declared.variant.Variant.TheVariants.{Either};
+ghost use Rattle.syslog_strict.specs.Conversion.{converted};
+ghost use Rattle.syslog_strict.specs.Grammar.{IsSyslogMsg};
+
+/// The printed text of each converted message is in the grammar of RFC 5424, whether the message was read or not. A
+/// number that is a process id has 32 bits, as in the program.
+pub fn converted_text_is_in_the_grammar()
+    ensures { (m : MessageValue) → IfSome m.procid IsBoundedProcess → IsSyslogMsg (printed (converted m)) }
+{}
+
+/// The conversion of a message that was read is canonical, so its printed text is read as that message, whatever the
+/// year and zones of the receiver.
+pub fn converted_text_is_read_back()
+    ensures canonical { (variant : Variant) (dating : Dating) (text : Text) (m : MessageValue)
+        → IsRead variant dating text m → IsCanonical dash_rule (converted m) }
+    ensures again { (variant : Variant) (dating receiver : Dating) (text : Text) (m : MessageValue)
+        → IsRead variant dating text m → IsRead Either receiver (printed (converted m)) (converted m) }
+{}

@@ -1,0 +1,179 @@
+//! Host, app name, process id and message id, as RFC 5424 has them.
+ghost use Rattle.std.specs.Prelude.{◌≡◌, ◌≢◌, ◌⊎◌, ◌<◌, [], ◌∷◌, ◌++◌, ℕ, List, MatchBool, OnOk, if◌then◌else◌};
+ghost use Rattle.std.specs.Option.{option_and_then, option_map};
+ghost use Rattle.std.specs.Fmt.{signed_decimal};
+ghost use Rattle.std.specs.Str.{chars};
+ghost use Rattle.syslog_pieces.specs.Pieces.View.{seen, shown};
+ghost use Rattle.syslog_pieces.specs.ProcId.{named_process, procid_text, procid_value, process_text};
+ghost use Rattle.syslog_pieces.specs.Text.{name_text};
+ghost use Rattle.syslog_strict.specs.Conversion.{converted_host, converted_process, converted_word, kept_char};
+ghost use Rattle.syslog_strict.specs.Conversion.{no_colon, without_last_colon};
+ghost use Rattle.syslog_strict.specs.Grammar.{is_printusascii};
+ghost use Rattle.syslog_strict.specs.Pushing.{Appends};
+
+use crate::text::{Kept, is_kept, push_char, push_cleaned, push_text};
+use std::alloc::{AllocError, Global};
+use syslog_pieces::as_str::is_same_text;
+use syslog_pieces::procid::ProcId;
+use syslog_pieces::text::first;
+
+// How many characters a host has at most, and a process id.
+const HOST: usize = 255;
+
+const PROCESS: usize = 128;
+
+/// Appends the host.
+#[inline(always)]
+pub(crate) fn push_host(out: &mut String, host: Option<&str>) -> Result<(), AllocError>
+    ensures { OnOk result (Appends out.old (name_text (option_and_then converted_host (seen host.entry))) out.new) }
+{
+    match host {
+        Some(host) => push_host_text(out, host),
+        None => push_char(out, '-'),
+    }
+}
+
+// Appends the text of a host.
+#[inline(always)]
+fn push_host_text(out: &mut String, host: &str) -> Result<(), AllocError>
+    ensures { OnOk result (Appends out.old (name_text (converted_host (chars host.now))) out.new) }
+{
+    if is_no_text(host) {
+        return push_char(out, '-');
+    }
+    if is_kept(host, Kept::Printable, HOST) && !ends_in_colon(host.as_bytes()) {
+        return push_text(out, host);
+    }
+    push_host_chars(out, host)
+}
+
+#[inline(always)]
+fn is_no_text(text: &str) -> bool
+    ensures { MatchBool result (chars text.now ≡ []) (chars text.now ≢ []) }
+{
+    match first(text) {
+        Some(_) => false,
+        None => true,
+    }
+}
+
+#[inline(always)]
+fn ends_in_colon(bytes: &[u8]) -> bool
+    ensures { MatchBool result ((front : List ℕ) × (bytes.now ≡ front ++ (58 ∷ [])))
+        ((front : List ℕ) → bytes.now ≢ front ++ (58 ∷ [])) }
+{
+    matches!(bytes, [.., b':'])
+}
+
+// Appends the text of a host character by character.
+#[cold]
+#[inline(never)]
+fn push_host_chars(out: &mut String, host: &str) -> Result<(), AllocError>
+    requires { chars host.now ≢ [] }
+    ensures { OnOk result (Appends out.old (name_text (converted_host (chars host.now))) out.new) }
+{
+    let mut rest = host;
+    let mut left = HOST;
+    'chars: while left > 0 {
+        let Some((c, more)) = first(rest) else {
+            return Ok(());
+        };
+        let is_last = is_last_char(left, more);
+        push_char(out, host_char(c, is_last))?;
+        rest = more;
+        left -= 1;
+    }
+    Ok(())
+}
+
+// Whether no more than one character was left to take, or the text ends.
+#[inline(always)]
+fn is_last_char(left: usize, more: &str) -> bool
+    ensures { MatchBool result ((left ≡ 1) ⊎ (chars more.now ≡ [])) ((left ≢ 1) × (chars more.now ≢ [])) }
+{
+    if left == 1 {
+        return true;
+    }
+    is_no_text(more)
+}
+
+// The character of a host, where a last colon becomes `?`.
+#[inline(always)]
+fn host_char(c: char, is_last: bool) -> char
+    ensures { result ≡ if is_last then kept_char no_colon (kept_char is_printusascii c) else kept_char is_printusascii c }
+{
+    let c = Kept::Printable.kept(c);
+    if is_last && c == ':' { '?' } else { c }
+}
+
+/// Appends an app name or a message id.
+#[inline(always)]
+pub(crate) fn push_word(out: &mut String, word: Option<&str>, most: usize) -> Result<(), AllocError>
+    requires { 1 < most }
+    ensures { OnOk result (Appends out.old (name_text (option_and_then (converted_word most) (seen word.entry))) out.new) }
+{
+    match word {
+        Some(word) => push_word_text(out, word, most),
+        None => push_char(out, '-'),
+    }
+}
+
+// Appends the text of a word.
+#[inline(always)]
+fn push_word_text(out: &mut String, word: &str, most: usize) -> Result<(), AllocError>
+    requires { 1 < most }
+    ensures { OnOk result (Appends out.old (name_text (converted_word most (chars word.now))) out.new) }
+{
+    if is_no_text(word) {
+        return push_char(out, '-');
+    }
+    if is_same_text(&word, &":") {
+        return push_char(out, '?');
+    }
+    push_cleaned(out, word, Kept::Printable, most)
+}
+
+/// Appends the process id.
+#[inline(always)]
+pub(crate) fn push_process(
+    alloc: Global,
+    out: &mut String,
+    process: Option<ProcId<&str>>,
+) -> Result<(), AllocError>
+    ensures { OnOk result (Appends out.old (process_text
+        (option_and_then converted_process (option_map (procid_value (λ s. shown s)) process.entry))) out.new) }
+{
+    match process {
+        Some(ProcId::PID(number)) => push_number(out, number),
+        Some(ProcId::Name(name)) => push_process_name(alloc, out, name),
+        None => push_char(out, '-'),
+    }
+}
+
+// Appends a number.
+fn push_number(out: &mut String, number: i32) -> Result<(), AllocError>
+    ensures { OnOk result (Appends out.old (signed_decimal number) out.new) }
+{
+    write!(out, "{number}")?;
+    Ok(())
+}
+
+// Appends the name of a process. A name that is cut may be a number.
+fn push_process_name(alloc: Global, out: &mut String, name: &str) -> Result<(), AllocError>
+    ensures { OnOk result (Appends out.old
+        (process_text (option_map named_process (converted_word 128 (chars name.now)))) out.new) }
+{
+    let mut word = String::new(alloc);
+    push_word_text(&mut word, name, PROCESS)?;
+    push_named(out, word.as_str())
+}
+
+// Appends the process id that a word names.
+fn push_named(out: &mut String, word: &str) -> Result<(), AllocError>
+    ensures { OnOk result (Appends out.old (procid_text (named_process (chars word.now))) out.new) }
+{
+    match ProcId::from(word) {
+        ProcId::PID(number) => push_number(out, number),
+        ProcId::Name(name) => push_text(out, name),
+    }
+}
