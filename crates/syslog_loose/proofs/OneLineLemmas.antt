@@ -1,5 +1,5 @@
 -- What is read is printed in the characters of the text and of printable ASCII: what is read of one line, as one line.
-use Rattle.std.proofs.Common.{◌≡◌, ℕ, suc, zero, pos, negsuc, ◌<◌, ◌≤◌, ◌^◌, inl, inr, Bool, true, nat_eq}
+use Rattle.std.proofs.Common.{◌≡◌, ℕ, suc, pos, negsuc, ◌<◌, ◌≤◌, ◌^◌, inl, inr, Bool, true, nat_eq}
 use Rattle.std.proofs.Common.{nat_le, nat_lt, ◌&&◌, List, [], ◌∷◌, ◌++◌, length, Option, Some, None, IfSome, refl}
 use Rattle.std.proofs.Common.{sym, ap, subst, arith}
 use Rattle.std.proofs.Math.Utf8.{scalar, scalars, low_scalar}
@@ -7,7 +7,7 @@ use Rattle.std.proofs.lemmas.Bool.{and_from, and_parts, cond_both}
 use Rattle.std.proofs.lemmas.Bool.Decides.{nat_tests}
 use Rattle.std.specs.Char.{is_ascii_digit, is_whitespace}
 use Rattle.std.specs.Fmt.{decimal}
-use Rattle.std.specs.List.{All, flat_map, AllByRecursion}
+use Rattle.std.specs.List.{flat_map, AllByRecursion}
 use Rattle.std.specs.Str.{skip_leading_whitespace, drop_trailing_whitespace}
 use Rattle.syslog_pieces.specs.Pieces.Class.{Text, join, Each}
 use Rattle.syslog_pieces.specs.Pieces.Parts.{IsPart, AreInPieces, text_list, process_texts}
@@ -22,7 +22,7 @@ use Rattle.syslog_pieces.proofs.PieceLemmas.Each.{all_map, each_map, each_front,
 use Rattle.syslog_pieces.proofs.PieceLemmas.Each.{each_append}
 use Rattle.syslog_pieces.proofs.PieceLemmas.Parts.{part_joined}
 use Rattle.syslog_pieces.proofs.TextLemmas.ReadBack.{decimal_digits}
-use Rattle.syslog_pieces.proofs.TimestampLemmas.Characters.{IsStampCharacter}
+use Rattle.syslog_pieces.proofs.TimestampLemmas.Characters.{is_stamp_character, stamp_range}
 use Rattle.syslog_pieces.proofs.TimestampLemmas.Printing.{printed_stamp-characters}
 use Rattle.syslog_loose.specs.Canonical.{IsBoundedProcess, IsBoundedProtocol}
 use Rattle.syslog_loose.specs.Message.{MessageValue, message_texts}
@@ -56,11 +56,9 @@ module _ (test : ℕ → Bool) (ascii : (c : ℕ) → is_ascii_print c ≡ true 
   abbrev Passes : Text → Type 0
   Passes text = Each test text
 
-  stamp_passes : (t : Text) → All IsStampCharacter t → Passes t
-  stamp_passes [] h = tt
-  stamp_passes (c ∷ t) h = let r = h zero c (omega arith) in
-      let this = ascii c (in_print c (omega (arith, r.0)) (omega (arith, r.1))) in
-      (this, stamp_passes t (λ k d l. h (suc k) d (omega arith)))
+  stamp_passes : (t : Text) → Each is_stamp_character t → Passes t
+  stamp_passes = each_map is_stamp_character test (λ c h. let r = stamp_range c h in
+      ascii c (in_print c (omega (arith, r.0)) (omega (arith, r.1))))
 
   number_line : (n : ℕ) → n < 2 ^ 64 → Passes (decimal n)
   number_line n h =

@@ -1,7 +1,9 @@
 -- What is known of timestamps beyond the contracts of their functions. A header needs no more than
 -- `Texts` and `Printing`.
+pub mod Bytes
 pub mod Characters
 pub mod Civil
+pub mod Decimals
 pub mod Fold
 pub mod Rfc3164
 pub mod MonthDate
@@ -9,7 +11,7 @@ pub mod Months
 pub mod Piece
 pub mod Printing
 pub mod Range
-pub mod Reading
+pub mod Rfc3339
 pub mod RoundTrip
 pub mod Texts
 pub mod Zone

@@ -6,4 +6,3 @@ pub mod Verbatim
 pub mod Looks
 pub mod MonthReading
 pub mod Scan
-pub mod StampReading

@@ -1,9 +1,8 @@
 -- Pieces that are of their class whatever follows them, and pieces that are where the same character follows.
-use Rattle.std.proofs.Common.{◌≡◌, ℕ, ◌<◌, Bool, List, [], ◌∷◌, ◌++◌, length, sym, ap, ◌∙◌, arith, append_assoc, subst}
-use Rattle.std.proofs.lemmas.List.{length-append}
-use Rattle.syslog_pieces.specs.Pieces.Class.{Text, Class, Values, Divides, Row, join, Ends, run, some_run, exactly}
-use Rattle.syslog_pieces.specs.Pieces.Class.{mapped, texted}
-use Rattle.syslog_pieces.specs.Pieces.Lists.{IsMany, IsList, IsMore, many, list_before}
+use Rattle.std.proofs.Common.{◌≡◌, ℕ, Bool, List, [], ◌∷◌, ◌++◌, sym, ap, ◌∙◌, subst}
+use Rattle.syslog_pieces.specs.Pieces.Class.{Text, Class, Values, Divides, Row, join, run, some_run, exactly}
+use Rattle.syslog_pieces.specs.Pieces.Class.{after, mapped, texted}
+use Rattle.syslog_pieces.specs.Pieces.Lists.{IsList, IsMore, list_before}
 use Rattle.syslog_pieces.proofs.PieceLemmas.Class.{heads}
 
 -- whatever follows
@@ -32,36 +31,51 @@ texted_steady C s p c q r t (v, h, e) = (v, s p c q r v h, e)
 pub mapped_alone : (C : Class) (B : Type 0) (f : C.Value → B) → IsAlone C → IsAlone (mapped C B f)
 mapped_alone C B f s p q r b (v, h, e) = (v, s p q r v h, e)
 
--- ---- a row whose last piece is one character
+pub after_steady : {c : ℕ} (C : Class) → IsSteady C → IsSteady (after c C)
+after_steady C s p d q r v (t, e, h) = (t, e, s t d q r v h)
+
+-- ---- a row whose last piece is not empty, and of its class whatever follows
 abbrev pub AllSteady : List Class → Type 0
 AllSteady [] = Unit {0}
 AllSteady (C ∷ Cs) = IsSteady C × AllSteady Cs
 
--- such a row begins with a character, and is a row whatever follows it
-row_begins : (c : ℕ) (Cs : List Class) (ps : List Text) (q : Text) (vs : Values (Cs ++ (exactly (c ∷ []) ∷ [])))
-    → Divides (Cs ++ (exactly (c ∷ []) ∷ [])) ps q vs → (d : ℕ) × (t : Text) × (join ps ≡ d ∷ t)
-row_begins c [] [] q vs h = absurd h
-row_begins c [] (p ∷ ps) q vs h = (c, join ps, ap (λ (x : Text). x ++ join ps) h.0)
-row_begins c (C ∷ Cs) [] q vs h = absurd h
-row_begins c (C ∷ Cs) ([] ∷ ps) q vs h = row_begins c Cs ps q vs.1 h.1
-row_begins c (C ∷ Cs) ((d ∷ p) ∷ ps) q vs h = (d, p ++ join ps, λ i. d ∷ (p ++ join ps))
+-- no piece is empty
+abbrev pub IsFilled : Class → Type 0
+IsFilled C = (p q : Text) (v : C.Value) → C.Is p q v → (d : ℕ) × (t : Text) × (p ≡ d ∷ t)
 
-divides_alone : (c : ℕ) (Cs : List Class) → AllSteady Cs → (ps : List Text) (q r : Text)
-    (vs : Values (Cs ++ (exactly (c ∷ []) ∷ []))) → Divides (Cs ++ (exactly (c ∷ []) ∷ [])) ps q vs
-    → Divides (Cs ++ (exactly (c ∷ []) ∷ [])) ps r vs
-divides_alone c [] s [] q r vs h = h
-divides_alone c [] s (p ∷ []) q r vs h = h
-divides_alone c [] s (p ∷ p' ∷ ps) q r vs h = absurd h.1
-divides_alone c (C ∷ Cs) s [] q r vs h = h
-divides_alone c (C ∷ Cs) s (p ∷ ps) q r vs h =
-    let (d, t, e) = row_begins c Cs ps q vs.1 h.1 in
-    let more : C.Is p (d ∷ (t ++ q)) vs.0 = subst (λ (x : Text). C.Is p (x ++ q) vs.0) e h.0 in (
-      subst (λ (x : Text). C.Is p (x ++ r) vs.0) (sym e) (s.0 p d (t ++ q) (t ++ r) vs.0 more),
-      divides_alone c Cs s.1 ps q r vs.1 h.1,
-    )
+module _ (L : Class) (alone : IsAlone L) (filled : IsFilled L) where
+  -- such a row begins with a character, and is a row whatever follows it
+  row_begins : (Cs : List Class) (ps : List Text) (q : Text) (vs : Values (Cs ++ (L ∷ [])))
+      → Divides (Cs ++ (L ∷ [])) ps q vs → (d : ℕ) × (t : Text) × (join ps ≡ d ∷ t)
+  row_begins [] [] q vs h = absurd h
+  row_begins [] (p ∷ ps) q vs h =
+      let (d, t, e) = filled p (join ps ++ q) vs.0 h.0 in (d, t ++ join ps, ap (λ (x : Text). x ++ join ps) e)
+  row_begins (C ∷ Cs) [] q vs h = absurd h
+  row_begins (C ∷ Cs) ([] ∷ ps) q vs h = row_begins Cs ps q vs.1 h.1
+  row_begins (C ∷ Cs) ((d ∷ p) ∷ ps) q vs h = (d, p ++ join ps, λ i. d ∷ (p ++ join ps))
 
+  divides_alone : (Cs : List Class) → AllSteady Cs → (ps : List Text) (q r : Text) (vs : Values (Cs ++ (L ∷ [])))
+      → Divides (Cs ++ (L ∷ [])) ps q vs → Divides (Cs ++ (L ∷ [])) ps r vs
+  divides_alone [] s [] q r vs h = h
+  divides_alone [] s (p ∷ []) q r vs h = (alone p q r vs.0 h.0, tt)
+  divides_alone [] s (p ∷ p' ∷ ps) q r vs h = absurd h.1
+  divides_alone (C ∷ Cs) s [] q r vs h = h
+  divides_alone (C ∷ Cs) s (p ∷ ps) q r vs h =
+      let (d, t, e) = row_begins Cs ps q vs.1 h.1 in
+      let more : C.Is p (d ∷ (t ++ q)) vs.0 = subst (λ (x : Text). C.Is p (x ++ q) vs.0) e h.0 in (
+        subst (λ (x : Text). C.Is p (x ++ r) vs.0) (sym e) (s.0 p d (t ++ q) (t ++ r) vs.0 more),
+        divides_alone Cs s.1 ps q r vs.1 h.1,
+      )
+
+  pub closed_alone : (Cs : List Class) → AllSteady Cs → IsAlone (Row (Cs ++ (L ∷ [])))
+  closed_alone Cs s p q r vs (ps, e, h) = (ps, e, divides_alone Cs s ps q r vs h)
+
+  pub closed_filled : (Cs : List Class) → IsFilled (Row (Cs ++ (L ∷ [])))
+  closed_filled Cs p q vs (ps, e, h) = let (d, t, f) = row_begins Cs ps q vs h in (d, t, e ∙ f)
+
+-- a row that one character closes
 pub row_alone : (c : ℕ) (Cs : List Class) → AllSteady Cs → IsAlone (Row (Cs ++ (exactly (c ∷ []) ∷ [])))
-row_alone c Cs s p q r vs (ps, e, h) = (ps, e, divides_alone c Cs s ps q r vs h)
+row_alone c = closed_alone (exactly (c ∷ [])) (exactly_alone (c ∷ [])) (λ p q v h. (c, [], h))
 
 -- ---- lists
 more_alone : (C : Class) (separator : ℕ) → IsAlone C → (p q r : Text) (vs : List C.Value) → IsMore C separator p q vs

@@ -3,7 +3,7 @@ use Rattle.std.proofs.Common.{◌≡◌, ℕ, Bool, List, [], ◌∷◌, ◌++�
 use Rattle.std.proofs.lemmas.List.{append_cancel_left, append-nil}
 use Rattle.syslog_pieces.specs.Pieces.Class.{Text, Class, Front, NoFront, IsDeterministic, join, Values, Divides, Row}
 use Rattle.syslog_pieces.specs.Pieces.Class.{Division, NoDivision, Each, Ends, run, some_run, exactly, rest, optional}
-use Rattle.syslog_pieces.specs.Pieces.Class.{mapped, texted, spaced}
+use Rattle.syslog_pieces.specs.Pieces.Class.{after, mapped, texted, spaced}
 
 -- ---- texts
 
@@ -252,34 +252,38 @@ rows_none_later [] Bs d f n = subst (λ (x : Text). NoFront (Row Bs) x) (sym (ni
 rows_none_later (C ∷ As) Bs d f n =
     let h = row_head C As f in row_none_later C (As ++ Bs) d.0 h.1 (rows_none_later As Bs d.1 h.2 n)
 
--- ---- pieces behind a space
-pub spaced_det : (C : Class) → IsDeterministic C → IsDeterministic (spaced C)
-spaced_det C d p q p' q' v v' e h h' =
-    let r =
-    row_det (exactly (32 ∷ []) ∷ C ∷ []) (exactly_det (32 ∷ []), (d, tt)) p q p' q' (tt, (v, tt))
-    (tt, (v', tt)) e h h' in
-    (r.0, ap (λ (x : Values (exactly (32 ∷ []) ∷ C ∷ [])). x.1.0) r.1)
+-- ---- pieces behind a character
+pub after_det : {c : ℕ} (C : Class) → IsDeterministic C → IsDeterministic (after c C)
+after_det {c} C d p q p' q' v v' e (t, f, h) (t', f', h') =
+    let same : t ++ q ≡ t' ++ q' = (let f1 = ap (λ (x : Text). x ++ q) f in let f2 = ap (λ (x : Text). x ++ q') f' in cc) in
+    let r = d t q t' q' v v' same h h' in
+    (f ∙ ap (λ (x : Text). c ∷ x) r.0 ∙ sym f', r.1)
 
--- such a piece, from the space and the piece behind it
-pub spaced_front : (C : Class) {t q r : Text} {v : C.Value} → Front (exactly (32 ∷ [])) t q tt → Front C q r v
-    → Front (spaced C) t r v
-spaced_front C {r = r} f g =
-    let row = row_cons (exactly (32 ∷ [])) (C ∷ []) f (row_cons C [] g (row_nil r)) in
-    record { piece = row.piece; whole = row.whole; is = row.is }
+pub spaced_det : (C : Class) → IsDeterministic C → IsDeterministic (spaced C)
+spaced_det C d = after_det C d
+
+-- such a piece, from the character and the piece behind it
+pub spaced_front : (C : Class) {c : ℕ} {t q r : Text} {v : C.Value} → Front (exactly (c ∷ [])) t q tt → Front C q r v
+    → Front (after c C) t r v
+spaced_front C {c} f g = record {
+  piece = c ∷ g.piece;
+  whole = f.whole ∙ (rw (f.is) (ap (λ (x : Text). c ∷ x) g.whole));
+  is = (g.piece, refl, g.is);
+}
 
 -- and back
-pub spaced_parts : (C : Class) {t r : Text} {v : C.Value} → Front (spaced C) t r v
-    → (q : Text) × (t ≡ 32 ∷ q) × Front C q r v
-spaced_parts C {t = t} {r = r} {v = v} f =
-    let row : Front (Row (exactly (32 ∷ []) ∷ C ∷ [])) t r (tt, (v, tt)) =
-    record { piece = f.piece; whole = f.whole; is = f.is } in
-    let g = row_head (exactly (32 ∷ [])) (C ∷ []) row in
-    let h = row_head C [] g.2 in
-    (g.0, g.1.whole ∙ ap (λ (x : Text). x ++ g.0) g.1.is, subst (λ (x : Text). Front C g.0 x v) (nil_front h.2) h.1)
+pub spaced_parts : (C : Class) {c : ℕ} {t r : Text} {v : C.Value} → Front (after c C) t r v
+    → (q : Text) × (t ≡ c ∷ q) × Front C q r v
+spaced_parts C {c} {r = r} f =
+    let (p, e, h) = f.is in
+    (p ++ r, f.whole ∙ ap (λ (x : Text). x ++ r) e, record { piece = p; whole = refl; is = h })
 
-pub no_spaced_space : (C : Class) {t : Text} → NoFront (exactly (32 ∷ [])) t → NoFront (spaced C) t
-no_spaced_space C n p q v e h = row_none_here (exactly (32 ∷ [])) (C ∷ []) n p q (tt, (v, tt)) e h
+pub no_spaced_space : (C : Class) {c : ℕ} {t : Text} → NoFront (exactly (c ∷ [])) t → NoFront (after c C) t
+no_spaced_space C {c} n p q v e (t, f, h) = n (c ∷ []) (t ++ q) tt (e ∙ ap (λ (x : Text). x ++ q) f) refl
 
-pub no_spaced_piece : (C : Class) {t q : Text} → Front (exactly (32 ∷ [])) t q tt → NoFront C q → NoFront (spaced C) t
-no_spaced_piece C f n p q v e h =
-    row_none_later (exactly (32 ∷ [])) (C ∷ []) (exactly_det (32 ∷ [])) f (row_none_here C [] n) p q (tt, (v, tt)) e h
+pub no_spaced_piece : (C : Class) {c : ℕ} {t q : Text} → Front (exactly (c ∷ [])) t q tt → NoFront C q
+    → NoFront (after c C) t
+no_spaced_piece C {c} {q = q} g n p r v e (t, f, h) =
+    let same : c ∷ q ≡ c ∷ (t ++ r) =
+    sym (ap (λ (x : Text). x ++ q) g.is) ∙ sym g.whole ∙ e ∙ ap (λ (x : Text). x ++ r) f in
+    n t r v (cc) h

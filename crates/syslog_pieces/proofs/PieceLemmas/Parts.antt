@@ -1,5 +1,5 @@
 -- The texts that a piece's meaning holds are parts of the piece.
-use Rattle.std.proofs.Common.{◌≡◌, inl, inr, List, [], ◌∷◌, ◌++◌, Option, Some, None, refl, sym, subst, ◌∙◌}
+use Rattle.std.proofs.Common.{◌≡◌, inl, inr, List, [], ◌∷◌, ◌++◌, Option, Some, None, refl, sym, ◌∙◌}
 use Rattle.std.proofs.Common.{append_assoc, append-nil}
 use Rattle.std.specs.List.{AllByRecursion}
 use Rattle.syslog_pieces.specs.Pieces.Class.{Text, Class, Values, join, Divides, rest, optional, spaced, texted}
@@ -91,9 +91,5 @@ optional_quotes C f g p q None h = tt
 optional_quotes C f g p q (Some v) h = g p q v h
 
 pub spaced_quotes : (C : Class) (f : C.Value → List Text) → Quotes C f → Quotes (spaced C) f
-spaced_quotes C f g p q v ([], e, h) = absurd h
-spaced_quotes C f g p q v (a ∷ [], e, h) = absurd h.1
-spaced_quotes C f g p q v (a ∷ b ∷ c ∷ ps, e, h) = absurd h.1.1
-spaced_quotes C f g p q v (a ∷ b ∷ [], e, h) =
-    let there = all_map (λ t x. part_right a (b ++ []) t (part_left b [] t x)) (f v) (g b q v h.1.0) in
-    subst (λ (x : Text). AllByRecursion (λ t. IsPart x t) (f v)) (sym e) there
+spaced_quotes C f g p q v (t, e, h) =
+    rw e (all_map (λ x k. part_right (32 ∷ []) t x k) (f v) (g t q v h))

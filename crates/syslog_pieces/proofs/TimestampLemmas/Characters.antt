@@ -1,58 +1,100 @@
 -- The characters of a text that has a stamp: ASCII, none of them white space, the first a digit.
-use Rattle.std.proofs.Common.{inl, inr, ℕ, ℤ, zero, suc, ◌<◌, ◌≤◌, List, [], ◌∷◌, ◌++◌, arith}
-use Rattle.std.proofs.lemmas.List.Elements.{All-append, All-from_recursion, recursion_from_All}
+use Rattle.std.proofs.Common.{◌≡◌, inl, inr, ℕ, zero, suc, ◌/◌, ◌%◌, ◌<◌, ◌≤◌, ◌&&◌, Bool, true, false, nat_lt, List, []}
+use Rattle.std.proofs.Common.{◌∷◌, ◌++◌, refl, sym, arith}
+use Rattle.std.proofs.lemmas.Bool.Decides.{nat_tests}
 use Rattle.std.proofs.lemmas.Str.{IsUtf8-from_ascii}
-use Rattle.std.specs.List.{All, AllByRecursion}
+use Rattle.std.specs.Char.{is_ascii_digit, is_not_whitespace}
+use Rattle.std.specs.List.{AllByRecursion}
 use Rattle.std.specs.Str.{IsAscii, IsUtf8}
 use Rattle.jiff_fmt.specs.Text.{pad2, pad4}
+use Rattle.syslog_pieces.specs.Pieces.Class.{Text, Class, Values, Divides, Each, Row, join, after}
 use Rattle.syslog_pieces.specs.declared.timestamp.rfc3339_text.Rfc3339Fields.{Rfc3339Fields}
-use Rattle.syslog_pieces.specs.Timestamp.Rfc3339.{Writes, IsFraction, IsOffsetText}
+use Rattle.syslog_pieces.specs.Timestamp.Rfc3339.{fraction, letter, numeric_row, offset, pair, sign, stamp_row, stamp_text}
+use Rattle.syslog_pieces.proofs.PieceLemmas.Class.{◌also◌}
+use Rattle.syslog_pieces.proofs.PieceLemmas.Each.{each_append, each_map}
+use Rattle.syslog_pieces.proofs.TextLemmas.Chars.{low_ascii as ascii_by}
 
--- a character from `+` to `z`
-abbrev pub IsStampCharacter : ℕ → Type 0
-IsStampCharacter c = (43 ≤ c) × (c < 123)
+-- from `+` to `z`
+abbrev pub is_stamp_character : ℕ → Bool
+is_stamp_character c = nat_lt 42 c && nat_lt c 123
 
--- date and clock, with a letter between them
-abbrev pub date_and_clock : (letter y m d h mi s : ℕ) → List ℕ
-date_and_clock letter y m d h mi s =
-    pad4 y ++ (45 ∷ pad2 m ++ (45 ∷ pad2 d ++ (letter ∷ pad2 h ++ (58 ∷ pad2 mi ++ (58 ∷ pad2 s)))))
+pub stamp_range : (c : ℕ) → is_stamp_character c ≡ true → (43 ≤ c) × (c < 123)
+stamp_range c h = (grind (arith, nat_tests), grind (arith, nat_tests))
 
-pub date_characters : (c y m d h mi s : ℕ) → IsStampCharacter c → y < 10_000 → m < 100 → d < 100 → h < 100 → mi < 100
-    → s < 100 → All IsStampCharacter (date_and_clock c y m d h mi s)
-date_characters c y m d h mi s c_in y_in m_in d_in h_in mi_in s_in =
-    All-from_recursion IsStampCharacter (date_and_clock c y m d h mi s) (omega arith)
+pub each_visible : (t : Text) → Each is_stamp_character t → Each is_not_whitespace t
+each_visible = each_map is_stamp_character is_not_whitespace (λ c h. grind (arith, nat_tests))
 
--- a sign and `HH:MM`
-pub signed : (c h m : ℕ) → IsStampCharacter c → h < 100 → m < 100 → All IsStampCharacter (c ∷ pad2 h ++ 58 ∷ pad2 m)
-signed c h m c_in h_in m_in = All-from_recursion IsStampCharacter (c ∷ pad2 h ++ 58 ∷ pad2 m) (omega arith)
+pub each_ascii : (t : Text) → Each is_stamp_character t → IsAscii t
+each_ascii t = ascii_by is_stamp_character t (λ c h. let r = stamp_range c h in omega (arith, r.1))
 
-pub fraction : (text : List ℕ) (n : ℕ) → IsFraction text n → All IsStampCharacter text
-fraction text n (inl e) = rw e.0 (All-from_recursion IsStampCharacter [] tt)
-fraction text n (inr (digits, e, some, each, value)) =
-    rw e (All-append IsStampCharacter (46 ∷ []) digits (All-from_recursion IsStampCharacter (46 ∷ []) (omega arith))
-    (λ i d k. (let t = each i d k in (omega arith, omega arith))))
+-- ---- pieces
+pub pair_characters : (n : ℕ) → n < 100 → Each is_stamp_character (pad2 n)
+pair_characters n h = grind (arith, nat_tests)
 
-zone : (text : List ℕ) (z : ℤ) → IsOffsetText text z → All IsStampCharacter text
-zone text z (inl (c, e, l, v)) = rw e (All-from_recursion IsStampCharacter (c ∷ []) (omega arith))
-zone text z (inr n) =
-    let h = n.hours_in in
-    let m = n.minutes_in in
-    elim n.written [
-      | inl w ↦ rw w.0 (signed 43 n.hours n.minutes (omega arith) (omega arith) (omega arith))
-      | inr w ↦ rw w.0 (signed 45 n.hours n.minutes (omega arith) (omega arith) (omega arith))
-    ]
+pub year_characters : (n : ℕ) → n < 10_000 → Each is_stamp_character (pad4 n)
+year_characters n h =
+    each_append is_stamp_character (pad2 (n / 100)) (pad2 (n % 100)) (pair_characters (n / 100) (omega arith))
+    (pair_characters (n % 100) (omega arith))
+
+-- a class whose pieces have such characters alone
+abbrev HasOnly : Class → Type 0
+HasOnly C = (p q : Text) (v : C.Value) → C.Is p q v → Each is_stamp_character p
+
+abbrev AllHaveOnly : List Class → Type 0
+AllHaveOnly [] = Unit {0}
+AllHaveOnly (C ∷ Cs) = HasOnly C × AllHaveOnly Cs
+
+divides_only : (Cs : List Class) → AllHaveOnly Cs → (ps : List Text) (q : Text) (vs : Values Cs) → Divides Cs ps q vs
+    → Each is_stamp_character (join ps)
+divides_only [] a [] q vs h = tt
+divides_only [] a (p ∷ ps) q vs h = absurd h
+divides_only (C ∷ Cs) a [] q vs h = absurd h
+divides_only (C ∷ Cs) a (p ∷ ps) q vs h =
+    each_append is_stamp_character p (join ps) (a.0 p (join ps ++ q) vs.0 h.0) (divides_only Cs a.1 ps q vs.1 h.1)
+
+row_only : (Cs : List Class) → AllHaveOnly Cs → HasOnly (Row Cs)
+row_only Cs a p q vs (ps, e, h) = rw e (divides_only Cs a ps q vs h)
+
+after_only : (c : ℕ) (C : Class) → is_stamp_character c ≡ true → HasOnly C → HasOnly (after c C)
+after_only c C s a p q v (t, e, h) = rw e (s, a t q v h)
+
+pair_only : (limit : ℕ) → limit ≤ 100 → HasOnly (pair limit)
+pair_only limit small p q n h = rw h.0 (pair_characters n (omega (arith, h.1)))
+
+sign_only : HasOnly sign
+sign_only p q true h = rw h (refl, tt)
+sign_only p q false h = rw h (refl, tt)
+
+pub digit_characters : (t : Text) → Each is_ascii_digit t → Each is_stamp_character t
+digit_characters = each_map is_ascii_digit is_stamp_character (λ c h. grind (arith, nat_tests))
+
+pub fraction_characters : HasOnly fraction
+fraction_characters p q n (inl (e, ends, z)) = rw e tt
+fraction_characters p q n (inr (t, e, (ds, (u, h, same), value))) =
+    rw (e, sym same) (refl, digit_characters ds (rw same (h.1)))
+
+offset_only : HasOnly offset
+offset_only p q s (inl (u, inl e, z)) = rw e (refl, tt)
+offset_only p q s (inl (u, inr e, z)) = rw e (refl, tt)
+offset_only p q s (inr (vs, h, e)) =
+    row_only numeric_row (sign_only also pair_only 24 (omega arith) also after_only 58 (pair 60) refl (pair_only 60 (omega
+    arith)) also tt) p q vs h
+
+letter_only : HasOnly (letter 84)
+letter_only p q v (inl e) = rw e (refl, tt)
+letter_only p q v (inr e) = rw e (refl, tt)
 
 -- each character of a text is one from `+` to `z`
-pub writes_characters : (text : List ℕ) (w : Rfc3339Fields) → Writes text w → All IsStampCharacter text
-writes_characters text w h =
-    let f = h.fits in
-    let l = h.is_letter in
-    rw h.whole
-    (All-append IsStampCharacter (date_and_clock h.letter w.year w.month w.day w.hour w.minute w.second)
-    (h.decimals ++ h.zone)
-    (date_characters _ _ _ _ _ _ _ (omega arith) f.year f.month f.day f.hour f.minute f.second)
-    (All-append IsStampCharacter h.decimals h.zone (fraction h.decimals w.nanosecond h.fraction)
-    (zone h.zone w.offset h.zone_is)))
+pub stamp_characters : (p q : Text) (w : Rfc3339Fields) → stamp_text.Is p q w → Each is_stamp_character p
+stamp_characters p q w (vs, h, e) =
+    let two = pair_only 100 (omega arith) in
+    row_only stamp_row ((λ p q n h. rw h.0 (year_characters n h.1)) also after_only 45 (pair 100) refl two
+    also after_only 45 (pair 100) refl two also letter_only also two also after_only 58 (pair 100) refl two
+    also after_only 58 (pair 61) refl (pair_only 61 (omega arith)) also fraction_characters also offset_only also tt)
+    p q vs h
+
+pub stamp_ascii : (p q : Text) (w : Rfc3339Fields) → stamp_text.Is p q w → IsAscii p
+stamp_ascii p q w h = each_ascii p (stamp_characters p q w h)
 
 -- ---- bytes and characters
 
@@ -60,14 +102,6 @@ pub low_ascii : (bs : List ℕ) → AllByRecursion (λ b. b < 128) bs → IsAsci
 low_ascii [] all k = omega arith
 low_ascii (b ∷ bs) all zero = all.0
 low_ascii (b ∷ bs) all (suc k) = low_ascii bs all.1 k
-
--- a text of such characters is ASCII
-pub ascii_from_characters : (text : List ℕ) → All IsStampCharacter text → IsAscii text
-ascii_from_characters text h =
-    low_ascii text (recursion_from_All (λ b. b < 128) text (λ i d k. (let t = h i d k in omega arith)))
-
-pub writes_ascii : (text : List ℕ) (w : Rfc3339Fields) → Writes text w → IsAscii text
-writes_ascii text w h = ascii_from_characters text (writes_characters text w h)
 
 -- bytes below 128 are a text
 pub low_utf8 : (bs : List ℕ) → AllByRecursion (λ b. b < 128) bs → IsUtf8 bs

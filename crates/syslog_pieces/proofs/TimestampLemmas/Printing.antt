@@ -1,21 +1,25 @@
 -- A printed stamp is ASCII, so that its characters are its bytes.
-use Rattle.std.proofs.Common.{◌≡◌, ℕ, ℤ, pos, negsuc, ◌+ℤ◌, ◌≤◌, [], ◌∷◌, ◌++◌, arith, unsigned_abs}
-use Rattle.std.proofs.lemmas.List.Elements.{All-append, All-from_recursion}
+use Rattle.std.proofs.Common.{◌≡◌, ℕ, ℤ, pos, negsuc, ◌+ℤ◌, ◌/◌, ◌%◌, ◌<◌, ◌≤◌, true, [], ◌∷◌, ◌++◌, refl, arith}
+use Rattle.std.proofs.Common.{unsigned_abs}
+use Rattle.std.proofs.lemmas.Bool.Decides.{nat_tests}
 use Rattle.std.proofs.lemmas.Str.{encodes-IsAscii}
-use Rattle.std.specs.List.{All}
 use Rattle.std.specs.Str.{encode_utf8_all}
 use Rattle.jiff.specs.Words.{IsTimestampNanos, IsOffsetSeconds, nanos_of_seconds}
 use Rattle.jiff_core.specs.Calendar.{IsWithin}
 use Rattle.jiff_core.proofs.CalendarLemmas.{days_in_month_bounds}
 use Rattle.jiff_core.proofs.SignedLemmas.{signed_arith}
+use Rattle.jiff_fmt.specs.Text.{pad2}
+use Rattle.syslog_pieces.specs.Pieces.Class.{Each}
 use Rattle.syslog_pieces.specs.declared.timestamp.OffsetTimestamp.{OffsetTimestamp}
 use Rattle.syslog_pieces.specs.declared.timestamp.fields.CivilFields.{CivilFields}
 use Rattle.syslog_pieces.specs.Timestamp.Fields.{AreCivil}
 use Rattle.syslog_pieces.specs.Timestamp.Printed.{printed_stamp, civil_fields, date_time_text, year_sign}
-use Rattle.syslog_pieces.specs.Timestamp.Printed.{fraction_text, offset_text, offset_sign}
-use Rattle.syslog_pieces.proofs.TimestampLemmas.Characters.{IsStampCharacter, date_characters, fraction, signed}
-use Rattle.syslog_pieces.proofs.TimestampLemmas.Characters.{ascii_from_characters}
-use Rattle.syslog_pieces.proofs.TimestampLemmas.Reading.{fraction_text-is}
+use Rattle.syslog_pieces.specs.Timestamp.Printed.{fraction_text, offset_text, offset_sign, rounded_minutes}
+use Rattle.syslog_pieces.specs.Timestamp.Printed.{unsigned_date_time}
+use Rattle.syslog_pieces.proofs.PieceLemmas.Each.{each_append}
+use Rattle.syslog_pieces.proofs.TimestampLemmas.Characters.{is_stamp_character, each_ascii, fraction_characters}
+use Rattle.syslog_pieces.proofs.TimestampLemmas.Characters.{pair_characters}
+use Rattle.syslog_pieces.proofs.TimestampLemmas.Decimals.{fraction_text-is}
 use Rattle.syslog_pieces.proofs.TimestampLemmas.Range.{civil_fields_exist, in_range-at_offset}
 
 -- a number from -k to k
@@ -23,40 +27,52 @@ pub absolute : (z : ℤ) (k : ℕ) → IsWithin k z → unsigned_abs z ≤ k
 absolute (pos n) k h = omega (arith, signed_arith, h.1)
 absolute (negsuc n) k h = omega (arith, signed_arith, h.0)
 
-offset : (o : ℤ) → IsOffsetSeconds o → All IsStampCharacter (offset_text o)
+offset : (o : ℤ) → IsOffsetSeconds o → Each is_stamp_character (offset_text o)
 unfolding offset_text
 offset o h =
-    let sign : IsStampCharacter (offset_sign o) = grind arith in
-    signed (offset_sign o) _ _ sign (omega (arith, absolute o 93_599 h)) (omega arith)
+    let minutes = rounded_minutes o in
+    let most = absolute o 93_599 h in (
+      sign o,
+      each_append is_stamp_character (pad2 (minutes / 60)) (58 ∷ pad2 (minutes % 60))
+          (pair_characters (minutes / 60) (omega arith)) (refl, pair_characters (minutes % 60) (omega arith)),
+    )
+  where
+    sign : (o : ℤ) → is_stamp_character (offset_sign o) ≡ true
+    sign (pos n) = refl
+    sign (negsuc n) = refl
 
-year : (z : ℤ) → All IsStampCharacter (year_sign z)
-year (pos n) = All-from_recursion IsStampCharacter [] tt
-year (negsuc n) = All-from_recursion IsStampCharacter (45 ∷ []) (omega arith)
+year : (z : ℤ) → Each is_stamp_character (year_sign z)
+year (pos n) = tt
+year (negsuc n) = (refl, tt)
 
-date_time : (f : CivilFields) → AreCivil f → All IsStampCharacter (date_time_text f)
+date_characters : (y m d h mi s : ℕ) → y < 10_000 → m < 100 → d < 100 → h < 100 → mi < 100 → s < 100
+    → Each is_stamp_character (unsigned_date_time y m d h mi s)
+date_characters y m d h mi s y_in m_in d_in h_in mi_in s_in = grind (arith, nat_tests)
+
+date_time : (f : CivilFields) → AreCivil f → Each is_stamp_character (date_time_text f)
 unfolding date_time_text
 date_time f there =
     let date = there.date in
     let days = days_in_month_bounds f.year f.month in
-    All-append IsStampCharacter (year_sign f.year) _ (year f.year)
-    (date_characters 84 (unsigned_abs f.year) f.month f.day f.hour f.minute f.second (omega arith)
+    each_append is_stamp_character (year_sign f.year) _ (year f.year)
+    (date_characters (unsigned_abs f.year) f.month f.day f.hour f.minute f.second
     (omega (arith, absolute f.year 9_999 date.0)) (omega (arith, date.1.1)) (omega (arith, date.2.1))
     (omega (arith, there.hour_in)) (omega (arith, there.minute_in)) (omega (arith, there.second_in)))
 
 -- each character of a printed stamp in range is one from `+` to `z`
 pub printed_stamp-characters : (n o : ℤ) → IsTimestampNanos n → IsOffsetSeconds o
-    → All IsStampCharacter (printed_stamp n o)
+    → Each is_stamp_character (printed_stamp n o)
 unfolding printed_stamp
 printed_stamp-characters n o h k =
     let there = (civil_fields_exist _ (in_range-at_offset n o h k)).0 in
     let f = civil_fields (n +ℤ nanos_of_seconds o) in
-    All-append IsStampCharacter (date_time_text f) (fraction_text f.nanosecond ++ offset_text o) (date_time f there)
-    (All-append IsStampCharacter (fraction_text f.nanosecond) (offset_text o)
-    (fraction _ f.nanosecond (fraction_text-is f.nanosecond there.nanosecond_in)) (offset o k))
+    each_append is_stamp_character (date_time_text f) (fraction_text f.nanosecond ++ offset_text o) (date_time f there)
+    (each_append is_stamp_character (fraction_text f.nanosecond) (offset_text o)
+    (fraction_characters _ [] f.nanosecond (fraction_text-is [] tt tt f.nanosecond there.nanosecond_in)) (offset o k))
 
 -- the bytes of a printed stamp are its characters
 pub printed_stamp-bytes : (s : OffsetTimestamp)
     → encode_utf8_all (printed_stamp s.instant.nanosecond s.offset.seconds)
     ≡ printed_stamp s.instant.nanosecond s.offset.seconds
 printed_stamp-bytes s =
-    encodes-IsAscii _ (ascii_from_characters _ (printed_stamp-characters _ _ s.instant.in_range s.offset.in_range))
+    encodes-IsAscii _ (each_ascii _ (printed_stamp-characters _ _ s.instant.in_range s.offset.in_range))

@@ -1,30 +1,30 @@
 -- A printed stamp and the texts of RFC 3339: what is printed of a canonical timestamp has it, and no other timestamp
 -- has a text.
-use Rattle.std.proofs.Common.{◌≡◌, ℕ, ℤ, suc, pos, negsuc, ◌+ℤ◌, ◌≤ℤ◌, ◌<ℤ◌, ◌+◌}
-use Rattle.std.proofs.Common.{◌*◌, ◌/◌, ◌%◌, ◌<◌, min, inl, inr, refl, sym, ap}
-use Rattle.std.proofs.Common.{◌∙◌, arith, unsigned_abs, List, ◌∷◌, ◌++◌, append_assoc}
+use Rattle.std.proofs.Common.{◌≡◌, ℕ, ℤ, suc, pos, neg_ℤ, negsuc, ◌+ℤ◌, ◌≤ℤ◌, ◌<ℤ◌, ◌+◌, Bool, true, false}
+use Rattle.std.proofs.Common.{if◌then◌else◌, ◌*◌, ◌/◌, ◌%◌, ◌<◌, min, inl, inr, refl, sym, ap, append-nil}
+use Rattle.std.proofs.Common.{◌∙◌, arith, unsigned_abs, List, [], ◌∷◌, ◌++◌, append_assoc}
 use Rattle.std.proofs.lemmas.Bool.Decides.{nat_tests}
-use Rattle.std.specs.Char.{is_not_whitespace}
+use Rattle.std.specs.Char.{is_ascii_digit, is_not_whitespace}
 use Rattle.jiff.specs.Words.{nanos_of_seconds, IsTimestampNanos}
 use Rattle.jiff_core.proofs.CalendarLemmas.{days_in_month_bounds}
 use Rattle.jiff_core.proofs.SignedLemmas.{signed_arith}
 use Rattle.jiff_fmt.specs.Text.{pad2, pad4}
-use Rattle.syslog_pieces.specs.Pieces.Class.{Each}
+use Rattle.syslog_pieces.specs.Pieces.Class.{Text, Each, Ends, Row, Values}
 use Rattle.syslog_pieces.specs.declared.timestamp.OffsetTimestamp.{OffsetTimestamp}
 use Rattle.syslog_pieces.specs.declared.timestamp.fields.CivilFields.{CivilFields}
-use Rattle.syslog_pieces.specs.Bodies.StampReading.{written}
-use Rattle.syslog_pieces.specs.declared.timestamp.month_date.Clock.{Clock}
-use Rattle.syslog_pieces.specs.declared.timestamp.rfc3339_text.Day.{Day}
 use Rattle.syslog_pieces.specs.declared.timestamp.rfc3339_text.Rfc3339Fields.{Rfc3339Fields}
 use Rattle.syslog_pieces.specs.Timestamp.{IsStampText}
 use Rattle.syslog_pieces.specs.Timestamp.Fields.{AreCivil, nanos_of_fields}
 use Rattle.syslog_pieces.specs.Timestamp.Canonical.{IsCanonicalStamp, BeginsWithYear, own_year}
 use Rattle.syslog_pieces.specs.Timestamp.Printed.{civil_fields, printed_stamp, date_time_text}
 use Rattle.syslog_pieces.specs.Timestamp.Printed.{year_sign, fraction_text, offset_text}
-use Rattle.syslog_pieces.specs.Timestamp.Rfc3339.{HasStamp, HasRfc3339Stamp, IsOffsetText, fields_of_rfc3339}
+use Rattle.syslog_pieces.specs.Timestamp.Rfc3339.{HasStamp, HasRfc3339Stamp, fields_of_rfc3339, is_dot, numeric_row}
+use Rattle.syslog_pieces.specs.Timestamp.Rfc3339.{offset, seconds_of, stamp_row, written_of}
+use Rattle.syslog_pieces.proofs.PieceLemmas.Rows.{row_pieces}
+use Rattle.syslog_pieces.proofs.PieceLemmas.Steps.{piece_front}
+use Rattle.syslog_pieces.proofs.TimestampLemmas.Characters.{each_visible}
 use Rattle.syslog_pieces.proofs.TimestampLemmas.Civil.{shows_fields}
-use Rattle.syslog_pieces.proofs.TimestampLemmas.Reading.{fraction_text-is, signed_is, writes-of}
-use Rattle.syslog_pieces.proofs.TimestampLemmas.Piece.{each_visible}
+use Rattle.syslog_pieces.proofs.TimestampLemmas.Decimals.{fraction_text-is}
 use Rattle.syslog_pieces.proofs.TimestampLemmas.Printing.{absolute, printed_stamp-characters}
 use Rattle.syslog_pieces.proofs.TimestampLemmas.Range.{late_fields, civil_fields_exist, in_range-at_offset, from_start}
 
@@ -33,46 +33,88 @@ use Rattle.syslog_pieces.proofs.TimestampLemmas.Range.{late_fields, civil_fields
 minutes_back : (n : ℕ) → n % 60 ≡ 0 → (n + 30) / 60 * 60 ≡ n
 minutes_back n whole = omega arith
 
-pub offset_text-is : (o : ℤ) → unsigned_abs o % 60 ≡ 0 → unsigned_abs o < 86_400 → IsOffsetText (offset_text o) o
+signed : (b : Bool) (m : ℕ) → m < 1440
+    → offset.Is ((if b then 45 else 43) ∷ (pad2 (m / 60) ++ (58 ∷ pad2 (m % 60)))) []
+    (if b then neg_ℤ (pos (m * 60)) else pos (m * 60))
+signed b m small =
+    let same : (m / 60 * 60 + m % 60) * 60 ≡ m * 60 = omega arith in
+    inr (
+      (b, (m / 60, (m % 60, tt))),
+      (
+        ((if b then 45 else 43) ∷ []) ∷ pad2 (m / 60) ∷ (58 ∷ pad2 (m % 60)) ∷ [],
+        refl,
+        (refl, ((refl, omega arith), ((pad2 (m % 60), refl, (refl, omega arith)), tt))),
+      ),
+      rw same refl,
+    )
+
+pub offset_text-is : (o : ℤ) → unsigned_abs o % 60 ≡ 0 → unsigned_abs o < 86_400 → offset.Is (offset_text o) [] o
 unfolding offset_text
-offset_text-is (pos n) whole small =
-    rw (minutes_back n whole) at (signed_is 43 ((n + 30) / 60) (omega arith) (inl refl))
+offset_text-is (pos n) whole small = rw (minutes_back n whole) at (signed false ((n + 30) / 60) (omega arith))
 offset_text-is (negsuc n) whole small =
-    rw (minutes_back (suc n) whole) at (signed_is 45 ((suc n + 30) / 60) (omega arith) (inr refl))
+    rw (minutes_back (suc n) whole) at (signed true ((suc n + 30) / 60) (omega arith))
+
+-- before no digit and no dot
+offset_ends : (o : ℤ) → Ends is_ascii_digit ((offset_text o ++ []) ++ []) × Ends is_dot ((offset_text o ++ []) ++ [])
+unfolding offset_text
+offset_ends (pos n) = (refl, refl)
+offset_ends (negsuc n) = (refl, refl)
 
 -- ---- what is printed of a canonical timestamp has it
 
--- date and time in a year from 0 on, and more
-pub text-shape : (f : CivilFields) (y : ℕ) (more : List ℕ) → f.year ≡ pos y
-    → date_time_text f ++ more ≡ pad4 y ++ (45 ∷ pad2 f.month ++ (45 ∷ pad2 f.day ++ (84 ∷ pad2 f.hour
-    ++ (58 ∷ pad2 f.minute ++ (58 ∷ pad2 f.second ++ more)))))
+-- fields as they print, in a year from 0 on
+fields-read : (f : CivilFields) (n o : ℤ) → pos 0 ≤ℤ f.year → AreCivil f → IsTimestampNanos n
+    → nanos_of_fields f ≡ n +ℤ nanos_of_seconds o → offset.Is (offset_text o) [] o
+    → HasStamp (date_time_text f ++ (fraction_text f.nanosecond ++ offset_text o)) n o
 unfolding date_time_text
-text-shape f y more e = rw e (simp append_assoc)
-
--- fields as they print, and any text of the offset
-fields-read : (f : CivilFields) (n o : ℤ) (zone : List ℕ) → pos 0 ≤ℤ f.year → AreCivil f → IsTimestampNanos n
-    → nanos_of_fields f ≡ n +ℤ nanos_of_seconds o
-    → IsOffsetText zone o → HasStamp (date_time_text f ++ (fraction_text f.nanosecond ++ zone)) n o
-fields-read f n o zone from there range nanos zone_is =
+fields-read f n o from there range nanos zone =
     let y = unsigned_abs f.year in
     let e : f.year ≡ pos y = sym (from_start f.year from) in
-    let day : Day = record { year = y; month = f.month; day = f.day } in
-    let time : Clock = record { hour = f.hour; minute = f.minute; second = f.second } in
-    let w = written day time f.nanosecond o in
-    let date = there.date in
     let least : min f.second 59 ≡ f.second = omega (arith, there.second_in) in
-    let same : fields_of_rfc3339 w ≡ f = rw (← e, least) in
+    let date = there.date in
     let days = days_in_month_bounds f.year f.month in
-    let count : nanos_of_fields (fields_of_rfc3339 w) ≡ n +ℤ nanos_of_seconds o = ap nanos_of_fields same ∙ nanos in (
-      w,
-      rw (text-shape f y (fraction_text f.nanosecond ++ zone) e)
-          (writes-of 84 day time f.nanosecond o (fraction_text f.nanosecond) zone (inl refl)
-          (omega (arith, signed_arith, date.0.1)) (omega (arith, date.1.1)) (omega (arith, date.2.1))
-          (omega (arith, there.hour_in)) (omega (arith, there.minute_in)) (omega (arith, there.second_in))
-          (fraction_text-is f.nanosecond there.nanosecond_in) zone_is),
+    let vs : Values stamp_row =
+    (y, (f.month, (f.day, (tt, (f.hour, (f.minute, (f.second, (f.nanosecond, (o, tt))))))))) in
+    let same : fields_of_rfc3339 (written_of vs) ≡ f = rw (← e, least) in
+    let count : nanos_of_fields (fields_of_rfc3339 (written_of vs)) ≡ n +ℤ nanos_of_seconds o =
+    ap nanos_of_fields same ∙ nanos in
+    let ends = offset_ends o in
+    let ps : List Text =
+    pad4 y ∷ (45 ∷ pad2 f.month) ∷ (45 ∷ pad2 f.day) ∷ (84 ∷ []) ∷ pad2 f.hour ∷ (58 ∷ pad2 f.minute)
+    ∷ (58 ∷ pad2 f.second) ∷ fraction_text f.nanosecond ∷ offset_text o ∷ [] in (
+      written_of vs,
+      (
+        vs,
+        (
+          ps,
+          rw e (simp (append_assoc, append-nil)),
+          (
+            (refl, omega (arith, signed_arith, date.0.1)),
+            (
+              (pad2 f.month, refl, (refl, omega (arith, date.1.1))),
+              (
+                (pad2 f.day, refl, (refl, omega (arith, date.2.1))),
+                (
+                  inl refl,
+                  (
+                    (refl, omega (arith, there.hour_in)),
+                    (
+                      (pad2 f.minute, refl, (refl, omega (arith, there.minute_in))),
+                      (
+                        (pad2 f.second, refl, (refl, omega (arith, there.second_in))),
+                        (fraction_text-is _ ends.0 ends.1 f.nanosecond there.nanosecond_in, (zone, tt)),
+                      ),
+                    ),
+                  ),
+                ),
+              ),
+            ),
+          ),
+        ),
+        refl,
+      ),
       record {
         civil = rw same there;
-        second = omega (arith, there.second_in);
         instant = omega (arith, signed_arith, count);
         at_offset = refl;
         in_range = range;
@@ -86,21 +128,27 @@ printed_stamp-back s p =
     let n = s.instant.nanosecond in
     let o = s.offset.seconds in
     let fields = civil_fields_exist _ (in_range-at_offset n o s.instant.in_range s.offset.in_range) in
-    fields-read _ n o (offset_text o) p.year_from fields.0 s.instant.in_range fields.1
-    (offset_text-is o p.minutes p.day)
+    fields-read _ n o p.year_from fields.0 s.instant.in_range fields.1 (offset_text-is o p.minutes p.day)
 
 -- ---- a timestamp that a text has is canonical
 
-offset-canonical : (zone : List ℕ) (o : ℤ) → IsOffsetText zone o
-    → (unsigned_abs o % 60 ≡ 0) × (unsigned_abs o < 86_400)
-offset-canonical zone o (inl zulu) = rw zulu.3 (refl, omega arith)
-offset-canonical zone o (inr n) =
-    let hours_in = n.hours_in in
-    let minutes_in = n.minutes_in in
-    elim n.written [
-      | inl w ↦ rw w.1 (omega arith, omega arith)
-      | inr w ↦ rw w.1 (omega (arith, signed_arith), omega (arith, signed_arith))
-    ]
+numeric-canonical : (p q : Text) (vs : Values numeric_row) → (Row numeric_row).Is p q vs
+    → (unsigned_abs (seconds_of vs) % 60 ≡ 0) × (unsigned_abs (seconds_of vs) < 86_400)
+numeric-canonical p q (b, vs) h =
+    let (_, _, (_, hours, (_, minutes, _))) = row_pieces numeric_row (piece_front (Row numeric_row) p q (b, vs) h) in
+    let hours_in = hours.is.1 in
+    let minutes_in = minutes.is.2.1 in
+    sized b ((vs.0 * 60 + vs.1.0) * 60) (omega arith) (omega arith)
+  where
+    sized : (b : Bool) (n : ℕ) → n % 60 ≡ 0 → n < 86_400
+        → (unsigned_abs (if b then neg_ℤ (pos n) else pos n) % 60 ≡ 0)
+        × (unsigned_abs (if b then neg_ℤ (pos n) else pos n) < 86_400)
+    sized true n m h = (omega (arith, signed_arith), omega (arith, signed_arith))
+    sized false n m h = (m, h)
+
+offset-canonical : (p q : Text) (o : ℤ) → offset.Is p q o → (unsigned_abs o % 60 ≡ 0) × (unsigned_abs o < 86_400)
+offset-canonical p q o (inl (u, l, e)) = rw e (refl, omega arith)
+offset-canonical p q o (inr (vs, h, e)) = rw e (numeric-canonical p q vs h)
 
 -- a clock at the offset shows what the text wrote
 pub shows_written : (w : Rfc3339Fields) (n o : ℤ) → HasRfc3339Stamp w n o
@@ -110,11 +158,14 @@ shows_written w n o h =
     (omega (arith, signed_arith, h.instant, ap nanos_of_seconds h.at_offset))
 
 pub stamp_text-canonical : (text : List ℕ) (s : OffsetTimestamp) → IsStampText text s → IsCanonicalStamp s
-stamp_text-canonical text s (w, writes, stamp) =
-    let offset = offset-canonical writes.zone w.offset writes.zone_is in
-    let same = stamp.at_offset in
-    let year : own_year s ≡ pos w.year = ap (λ (g : CivilFields). g.year) (shows_written w _ _ stamp) in
-    let fits = writes.fits.year in
+stamp_text-canonical text s (w, (vs, h, e), stamp) =
+    let (_, y, (_, _, (_, _, (_, _, (_, _, (_, _, (_, _, (_, _, (_, zone, _))))))))) =
+    row_pieces stamp_row (piece_front (Row stamp_row) text [] vs h) in
+    let offset = offset-canonical zone.piece _ _ zone.is in
+    let same = stamp.at_offset ∙ ap (λ (x : Rfc3339Fields). x.offset) e in
+    let year : own_year s ≡ pos vs.0 =
+    ap (λ (g : CivilFields). g.year) (shows_written w _ _ stamp) ∙ ap (λ (x : Rfc3339Fields). pos x.year) e in
+    let fits = y.is.1 in
     record {
       year_from = omega (arith, signed_arith);
       year_to = omega (arith, signed_arith);

@@ -114,6 +114,10 @@ texted C = record { Value = Text; Is = λ p q t. (v : C.Value) × C.Is p q v × 
 abbrev pub either : (B : Type 0) → (P Q : Text → Text → B → Type 0) → Class
 either B P Q = record { Value = B; Is = λ p q v. P p q v ⊎ Q p q v }
 
+-- a character, and then a piece of the class
+abbrev pub after : ℕ → Class → Class
+after c C = record { Value = C.Value; Is = λ p q v. (t : Text) × (p ≡ c ∷ t) × C.Is t q v }
+
 -- a space, and then a piece of the class
 abbrev pub spaced : Class → Class
-spaced C = record { Value = C.Value; Is = λ p q v. (Row (exactly (32 ∷ []) ∷ C ∷ [])).Is p q (tt, (v, tt)) }
+spaced = after 32

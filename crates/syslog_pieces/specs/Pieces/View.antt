@@ -36,6 +36,10 @@ text_eq = pointwise nat_eq
 abbrev pub Reads : {X : Type 0} (C : Class) → (X → C.Value) → Text → Option (X × Bor (List ℕ)) → Type 0
 Reads C view text r = MatchOption r (NoFront C text) (λ x. Front C text (shown x.1) (view x.0))
 
+-- the same of a reader of bytes
+abbrev pub ReadsBytes : {X : Type 0} (C : Class) (view : X → C.Value) → List ℕ → Option (X × Bor (List ℕ)) → Type 0
+ReadsBytes C view bytes r = MatchOption r (NoFront C bytes) (λ x. Front C bytes x.1.now (view x.0))
+
 -- the text behind the front, whose meaning is known
 abbrev pub Skips : (C : Class) → C.Value → Text → Option (Bor (List ℕ)) → Type 0
 Skips C value text r = MatchOption r (NoFront C text) (λ q. Front C text (shown q) value)

@@ -1,62 +1,80 @@
--- The texts of RFC 3339 section 5.6 and their stamps, over characters: 43 is `+`, 45 `-`, 46 `.`,
--- 58 `:`, 84 `T`, 90 `Z`.
-use Rattle.std.specs.Prelude.{◌≡◌, ◌⊎◌, ℕ, ℤ, pos, neg_ℤ, ◌+◌, ◌*◌, ◌<◌, min, ◌-ℤ◌, List, [], ◌∷◌, ◌++◌, length}
-use Rattle.std.specs.List.{All}
-use Rattle.std.specs.Char.{IsAsciiDigit}
+-- The texts of RFC 3339 section 5.6, as a row of pieces, and their stamps: 43 is `+`, 45 `-`, 46 `.`, 58 `:`, 84 `T`,
+-- 90 `Z`.
+use Rattle.std.specs.Prelude.{◌≡◌, ◌⊎◌, ℕ, ℤ, pos, neg_ℤ, ◌+◌, ◌*◌, ◌<◌, ◌-ℤ◌, min, Bool, nat_eq, if◌then◌else◌, List}
+use Rattle.std.specs.Prelude.{[], ◌∷◌}
+use Rattle.std.specs.Char.{is_ascii_digit}
 use Rattle.jiff.specs.Words.{IsTimestampNanos, nanos_of_seconds}
 use Rattle.jiff_fmt.specs.Reader.{fraction_value}
 use Rattle.jiff_fmt.specs.Text.{pad2, pad4}
+use Rattle.syslog_pieces.specs.Pieces.Class.{Text, Class, Values, Row, Ends, some_run, after, either, mapped, texted}
 use Rattle.syslog_pieces.specs.declared.timestamp.fields.CivilFields.{CivilFields}
 use Rattle.syslog_pieces.specs.declared.timestamp.rfc3339_text.Rfc3339Fields.{Rfc3339Fields}
 use Rattle.syslog_pieces.specs.Timestamp.Fields.{AreCivil, nanos_of_fields}
 
--- the number is below ten to the power of the digits that it is written with
-pub record FitsDigits (w : Rfc3339Fields) : Type 0 where
-  pub year : w.year < 10_000
-  pub month : w.month < 100
-  pub day : w.day < 100
-  pub hour : w.hour < 100
-  pub minute : w.minute < 100
-  pub second : w.second < 100
+-- two digits, of a number below a limit
+abbrev pub pair : ℕ → Class
+pair limit = record { Value = ℕ; Is = λ p q n. (p ≡ pad2 n) × (n < limit) }
 
--- a dot and one or more digits, of which those past nine are cut off, or nothing
-abbrev pub IsFraction : List ℕ → ℕ → Type 0
-IsFraction text nanosecond =
-    ((text ≡ []) × (nanosecond ≡ 0))
-    ⊎ ((digits : List ℕ) × (text ≡ 46 ∷ digits) × (0 < length digits) × All IsAsciiDigit digits
-    × (nanosecond ≡ fraction_value 9 digits))
+-- four digits
+abbrev pub year : Class
+year = record { Value = ℕ; Is = λ p q n. (p ≡ pad4 n) × (n < 10_000) }
 
--- a letter in either case
-abbrev pub IsLetter : ℕ → ℕ → Type 0
-IsLetter upper c = (c ≡ upper) ⊎ (c ≡ upper + 32)
+-- a letter in either case, by its upper case
+abbrev pub letter : ℕ → Class
+letter upper = record { Value = Unit {0}; Is = λ p q _. (p ≡ upper ∷ []) ⊎ (p ≡ (upper + 32) ∷ []) }
 
--- a sign and `HH:MM`
-pub record IsNumericOffset (text : List ℕ) (seconds : ℤ) : Type 0 where
-  pub hours : ℕ
-  pub minutes : ℕ
-  pub hours_in : hours < 24
-  pub minutes_in : minutes < 60
-  pub written :
-      ((text ≡ 43 ∷ pad2 hours ++ 58 ∷ pad2 minutes) × (seconds ≡ pos ((hours * 60 + minutes) * 60)))
-      ⊎ ((text ≡ 45 ∷ pad2 hours ++ 58 ∷ pad2 minutes)
-      × (seconds ≡ neg_ℤ (pos ((hours * 60 + minutes) * 60))))
+-- one or more digits as decimals: in nanoseconds, without the digits past nine
+abbrev pub decimals : Class
+decimals = mapped (texted (some_run is_ascii_digit)) ℕ (λ ds. fraction_value 9 ds)
 
--- `Z`, or a sign and `HH:MM`
-abbrev pub IsOffsetText : List ℕ → ℤ → Type 0
-IsOffsetText text seconds =
-    ((c : ℕ) × (text ≡ c ∷ []) × IsLetter 90 c × (seconds ≡ pos 0)) ⊎ IsNumericOffset text seconds
+abbrev pub is_dot : ℕ → Bool
+is_dot c = nat_eq c 46
 
--- the text writes these numbers
-pub record Writes (text : List ℕ) (w : Rfc3339Fields) : Type 0 where
-  pub letter : ℕ
-  pub is_letter : IsLetter 84 letter
-  pub decimals : List ℕ
-  pub zone : List ℕ
-  pub whole : text ≡ pad4 w.year ++ (45 ∷ pad2 w.month ++ (45 ∷ pad2 w.day ++ (letter ∷ pad2 w.hour
-      ++ (58 ∷ pad2 w.minute ++ (58 ∷ pad2 w.second ++ (decimals ++ zone))))))
-  pub fits : FitsDigits w
-  pub fraction : IsFraction decimals w.nanosecond
-  pub zone_is : IsOffsetText zone w.offset
+-- a dot and decimals, or nothing before what is no dot
+abbrev pub fraction : Class
+fraction = either ℕ (λ p q n. (p ≡ []) × Ends is_dot q × (n ≡ 0)) (after 46 decimals).Is
+
+-- `Z`
+abbrev pub zulu : Class
+zulu = mapped (letter 90) ℤ (λ _. pos 0)
+
+-- `-` or `+`, and whether it is `-`
+abbrev pub sign : Class
+sign = record { Value = Bool; Is = λ p q behind. p ≡ (if behind then 45 else 43) ∷ [] }
+
+-- a sign, and `HH:MM`
+abbrev pub numeric_row : List Class
+numeric_row = sign ∷ pair 24 ∷ after 58 (pair 60) ∷ []
+
+abbrev pub seconds_of : Values numeric_row → ℤ
+seconds_of (behind, (hours, (minutes, _))) =
+    let seconds = pos ((hours * 60 + minutes) * 60) in if behind then neg_ℤ seconds else seconds
+
+-- `Z`, or a sign and `HH:MM`: in seconds
+abbrev pub offset : Class
+offset = either ℤ zulu.Is (mapped (Row numeric_row) ℤ seconds_of).Is
+
+-- `YYYY-MM-DD`, `T`, `HH:MM:SS`, the fraction and the offset
+abbrev pub stamp_row : List Class
+stamp_row =
+    year ∷ after 45 (pair 100) ∷ after 45 (pair 100) ∷ letter 84 ∷ pair 100 ∷ after 58 (pair 100) ∷ after 58 (pair 61)
+    ∷ fraction ∷ offset ∷ []
+
+abbrev pub written_of : Values stamp_row → Rfc3339Fields
+written_of (y, (m, (d, (_, (h, (mi, (s, (n, (o, _))))))))) = record {
+  year = y;
+  month = m;
+  day = d;
+  hour = h;
+  minute = mi;
+  second = s;
+  nanosecond = n;
+  offset = o;
+}
+
+-- an RFC 3339 text, which means the numbers that it writes
+abbrev pub stamp_text : Class
+stamp_text = mapped (Row stamp_row) Rfc3339Fields written_of
 
 -- the civil fields, where second 60 is taken as 59
 abbrev pub fields_of_rfc3339 : Rfc3339Fields → CivilFields
@@ -73,11 +91,10 @@ fields_of_rfc3339 w = record {
 -- there is such a date and time of day, n is its instant at the offset o, and n is in range
 pub record HasRfc3339Stamp (w : Rfc3339Fields) (n o : ℤ) : Type 0 where
   pub civil : AreCivil (fields_of_rfc3339 w)
-  pub second : w.second < 61
   pub instant : n ≡ nanos_of_fields (fields_of_rfc3339 w) -ℤ nanos_of_seconds w.offset
   pub at_offset : o ≡ w.offset
   pub in_range : IsTimestampNanos n
 
 -- the text writes a time at the offset o, in seconds, whose instant is n, in nanoseconds
-abbrev pub HasStamp : List ℕ → ℤ → ℤ → Type 0
-HasStamp text n o = (w : Rfc3339Fields) × Writes text w × HasRfc3339Stamp w n o
+abbrev pub HasStamp : Text → ℤ → ℤ → Type 0
+HasStamp text n o = (w : Rfc3339Fields) × stamp_text.Is text [] w × HasRfc3339Stamp w n o

@@ -1,32 +1,28 @@
-//! The small pieces at the front of a text: digits as numbers, and single bytes.
-//!
-//! Each reader takes the front of the text and gives its value, if it has one, and the rest.
-//! Nothing is copied. A text that has a stamp is ASCII, so its bytes are its characters.
+//! The small pieces at the front of bytes: digits as numbers, and letters. Nothing is copied.
 ghost use Rattle.std.specs.Prelude.{◌≡◌, ℕ, ◌<◌, ◌≤◌, ◌++◌, ◌∷◌, length, slice_index};
-ghost use Rattle.std.specs.Prelude.{Some, IfSome, option_copied};
+ghost use Rattle.std.specs.Prelude.{IfSome, MatchOption};
 ghost use Rattle.std.specs.Bool.{OnFalse};
 ghost use Rattle.std.specs.List.{prefix_len};
 ghost use Rattle.std.specs.Char.{is_ascii_digit, IsAsciiDigit};
-ghost use Rattle.jiff_fmt.specs.Reader.{two_digits, four_digits as four_digits_of};
-ghost use Rattle.jiff_fmt.specs.Text.{pad2, pad4};
+ghost use Rattle.syslog_pieces.specs.Pieces.Class.{Ends, Front, NoFront, after};
+ghost use Rattle.syslog_pieces.specs.Pieces.View.{ReadsBytes};
 ghost use Rattle.syslog_pieces.specs.Timestamp.Printed.{pad3};
-ghost use Rattle.syslog_pieces.specs.Bodies.StampReading as spec;
+ghost use Rattle.syslog_pieces.specs.Timestamp.Rfc3339 as spec;
 
-/// Decimals past this many are cut off: they are shorter than a nanosecond.
-const MAX_DECIMALS: usize = 9;
-
-/// Two digits, as a number.
-#[tactic(auto, unfolding(jiff_fmt::specs::Reader::two_digits))]
+/// Two digits, as a number below a limit.
 #[inline(always)]
-pub fn pair(text: &[u8]) -> Option<(u32, &[u8])>
-    ensures value { spec.read_of result ≡ two_digits text.now }
-    ensures small { IfSome result (λ read. read.0 < 100) }
-    ensures text { IfSome result (λ read. text.now ≡ pad2 read.0 ++ read.1.now) }
+pub fn pair(text: &[u8], limit: u32) -> Option<(u32, &[u8])>
+    requires { limit ≤ 100 }
+    ensures { ReadsBytes (spec.pair limit) (λ n. n) text.now result }
 {
     match text {
         [tens @ b'0'..=b'9', ones @ b'0'..=b'9', rest @ ..] => {
             let number = u32::from(*tens - b'0') * 10 + u32::from(*ones - b'0');
-            Some((number, rest))
+            if number < limit {
+                Some((number, rest))
+            } else {
+                None
+            }
         }
         _ => None,
     }
@@ -34,48 +30,43 @@ pub fn pair(text: &[u8]) -> Option<(u32, &[u8])>
 
 /// This byte and two digits.
 #[inline(always)]
-pub fn pair_behind(text: &[u8], byte: u8) -> Option<(u32, &[u8])>
-    ensures value { spec.read_of result ≡ spec.pair_behind byte text.now }
-    ensures small { IfSome result (λ read. read.0 < 100) }
-    ensures text { IfSome result (λ read. text.now ≡ byte ∷ (pad2 read.0 ++ read.1.now)) }
+pub fn pair_after(text: &[u8], byte: u8, limit: u32) -> Option<(u32, &[u8])>
+    requires { limit ≤ 100 }
+    ensures { ReadsBytes (after byte (spec.pair limit)) (λ n. n) text.now result }
 {
     match text {
-        [first, rest @ ..] if *first == byte => pair(rest),
+        [first, rest @ ..] if *first == byte => pair(rest, limit),
         _ => None,
     }
 }
 
 /// Four digits, as a number.
-#[tactic(auto, unfolding(jiff_fmt::specs::Reader::four_digits))]
 #[inline(always)]
-pub fn four_digits(text: &[u8]) -> Option<(u32, &[u8])>
-    ensures value { spec.read_of result ≡ four_digits_of text.now }
-    ensures small { IfSome result (λ read. read.0 < 10_000) }
-    ensures text { IfSome result (λ read. text.now ≡ pad4 read.0 ++ read.1.now) }
+pub fn four_digits(text: &[u8]) -> Option<(u16, &[u8])>
+    ensures { ReadsBytes spec.year (λ n. n) text.now result }
 {
-    let (century, text) = pair(text)?;
-    let (year, text) = pair(text)?;
-    Some((century * 100 + year, text))
+    let (century, rest) = pair(text, 100)?;
+    let (year, rest) = pair(rest, 100)?;
+    Some(((century * 100 + year) as u16, rest))
 }
 
 /// The text behind a letter in either case, of which this is the upper case.
 #[inline(always)]
 pub fn after_letter(text: &[u8], upper: u8) -> Option<&[u8]>
     requires { upper < 128 }
-    ensures value { option_copied result ≡ spec.after_letter upper text.now }
-    ensures text { IfSome result (λ rest. spec.IsLetterBytes upper text.now rest.now) }
+    ensures { MatchOption result (NoFront (spec.letter upper) text.now) (λ rest. Front (spec.letter upper) text.now rest.now tt) }
 {
     match text {
-        [first, rest @ ..] if *first == upper || *first == upper + 32 => Some(rest),
+        [first, rest @ ..] if *first == upper => Some(rest),
+        [first, rest @ ..] if *first == upper + 32 => Some(rest),
         _ => None,
     }
 }
 
 /// A dot and one or more digits, in nanoseconds, or nothing, which is 0.
-#[tactic(auto, unfolding(crate::specs::Bodies::StampReading::fraction))]
 #[inline(always)]
 pub fn fraction(text: &[u8]) -> Option<(u32, &[u8])>
-    ensures { spec.read_of result ≡ spec.fraction text.now }
+    ensures { ReadsBytes spec.fraction (λ n. n) text.now result }
 {
     match text {
         [b'.', rest @ ..] => nanoseconds(rest),
@@ -83,21 +74,21 @@ pub fn fraction(text: &[u8]) -> Option<(u32, &[u8])>
     }
 }
 
-// One or more digits as a fraction in nanoseconds.
+// One or more digits, as decimals in nanoseconds.
 #[inline(always)]
 fn nanoseconds(text: &[u8]) -> Option<(u32, &[u8])>
-    ensures { spec.read_of result ≡ spec.nanoseconds text.now }
+    ensures { ReadsBytes spec.decimals (λ n. n) text.now result }
 {
     match few_decimals(text) {
         Some(read) => Some(read),
-        None => decimals(text),
+        None => many_decimals(text),
     }
 }
 
 // Exactly three, six or nine digits, which most fractions have: they need no loop.
 #[inline(always)]
 fn few_decimals(text: &[u8]) -> Option<(u32, &[u8])>
-    ensures { IfSome result (λ read. spec.nanoseconds text.now ≡ Some (read.0, read.1.now)) }
+    ensures { IfSome result (λ read. Front spec.decimals text.now read.1.now read.0) }
 {
     let (milli, rest) = three_digits(text)?;
     if !begins_with_digit(rest) {
@@ -131,15 +122,14 @@ fn three_digits(text: &[u8]) -> Option<(u32, &[u8])>
 
 #[inline(always)]
 fn begins_with_digit(text: &[u8]) -> bool
-    ensures { OnFalse result (prefix_len is_ascii_digit text.now ≡ 0) }
+    ensures { OnFalse result (Ends is_ascii_digit text.now) }
 {
     matches!(text, [b'0'..=b'9', ..])
 }
 
-// One or more digits, of any number.
-#[tactic(auto, unfolding(crate::specs::Bodies::StampReading::nanoseconds))]
-fn decimals(text: &[u8]) -> Option<(u32, &[u8])>
-    ensures { spec.read_of result ≡ spec.nanoseconds text.now }
+// One or more digits, of any number: those past nine are worth nothing.
+fn many_decimals(text: &[u8]) -> Option<(u32, &[u8])>
+    ensures { ReadsBytes spec.decimals (λ n. n) text.now result }
 {
     let len = digits_len(text);
     if len == 0 {
@@ -147,10 +137,10 @@ fn decimals(text: &[u8]) -> Option<(u32, &[u8])>
     }
     let (digits, rest) = text.split_at(len);
     let mut nanosecond = 0;
-    let mut place = 1_000_000_000;
-    'digits: for digit in &digits[..len.min(MAX_DECIMALS)] {
-        place /= 10;
+    let mut place = 100_000_000;
+    'digits: for digit in digits {
         nanosecond += u32::from(digit - b'0') * place;
+        place /= 10;
     }
     Some((nanosecond, rest))
 }

@@ -1,4 +1,4 @@
-use Rattle.syslog_pieces.proofs.TimestampLemmas.Reading.{one_stamp}
+use Rattle.syslog_pieces.proofs.TimestampLemmas.Rfc3339.{one_stamp}
 use Rattle.syslog_pieces.proofs.laws.text_has_one_stamp.Goals as goal
 
 pub returns-clause-instant : goal.returns-clause-instant

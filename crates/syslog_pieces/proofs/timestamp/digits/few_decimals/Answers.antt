@@ -1,21 +1,21 @@
 use Rattle.std.proofs.Common.{refl}
-use Rattle.syslog_pieces.proofs.TimestampLemmas.Reading.{decimals-of, three, six, nine}
+use Rattle.syslog_pieces.proofs.TimestampLemmas.Decimals.{decimals_front, three, six, nine}
 use Rattle.syslog_pieces.proofs.timestamp.digits.few_decimals.Goals as goal
 
 pub returns-then-not-begins_with_digit : goal.returns-then-not-begins_with_digit
 returns-then-not-begins_with_digit c =
     rw c.in_ok-milli.ensures.text
-    (decimals-of _ (three _ c.in_ok-milli.ensures.small refl) c.if-not-begins_with_digit.ensures)
+    (decimals_front _ (three _ c.in_ok-milli.ensures.small refl) c.if-not-begins_with_digit.ensures)
 
 pub returns-then-not-begins_with_digit-2 : goal.returns-then-not-begins_with_digit-2
 returns-then-not-begins_with_digit-2 c =
     rw (c.in_ok-milli.ensures.text, c.in_ok-micro.ensures.text)
-    (decimals-of _ (six _ c.in_ok-milli.ensures.small _ c.in_ok-micro.ensures.small refl)
+    (decimals_front _ (six _ c.in_ok-milli.ensures.small _ c.in_ok-micro.ensures.small refl)
     c.if-not-begins_with_digit-2.ensures)
 
 pub returns : goal.returns
 returns c =
     rw (c.in_ok-milli.ensures.text, c.in_ok-micro.ensures.text, c.in_ok-nano.ensures.text)
-    (decimals-of _ (nine _ c.in_ok-milli.ensures.small _ c.in_ok-micro.ensures.small _
+    (decimals_front _ (nine _ c.in_ok-milli.ensures.small _ c.in_ok-micro.ensures.small _
     c.in_ok-nano.ensures.small refl)
     c.if-begins_with_digit.ensures)

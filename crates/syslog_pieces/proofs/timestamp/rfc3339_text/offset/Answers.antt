@@ -1,14 +1,26 @@
-use Rattle.std.proofs.Common.{inl, refl, [], ◌∷◌, FitsSigned, w32, rules}
+use Rattle.std.proofs.Common.{inl, refl, FitsSigned, w32, rules}
 use Rattle.std.proofs.lemmas.Int.{to_z-of_z}
-use Rattle.syslog_pieces.proofs.TimestampLemmas.Reading.{signed_bytes}
+use Rattle.syslog_pieces.specs.Timestamp.Rfc3339.{numeric_row}
+use Rattle.syslog_pieces.proofs.PieceLemmas.Rows.{row_of, no_row, ◌then◌, ◌past◌}
+use Rattle.syslog_pieces.proofs.TimestampLemmas.Rfc3339.{no_offset, numeric_det, numeric_front}
 use Rattle.syslog_pieces.proofs.timestamp.rfc3339_text.offset.Goals as goal
 
-pub returns-in-Some-clause-text : goal.returns-in-Some-clause-text
-returns-in-Some-clause-text c =
-    let (b, l, e) = c.in-Some.ensures.text in record { zone = b ∷ []; is = inl (b, refl, l, refl); whole = e }
+pub returns-in_err-is_behind : goal.returns-in_err-is_behind
+returns-in_err-is_behind c =
+    let n = no_offset c.in-None.ensures (no_row numeric_row numeric_det (inl c.in_err-is_behind.ensures)) in search rules
 
-pub returns-clause-text : goal.returns-clause-text
-returns-clause-text c =
+pub returns-in_err-hours : goal.returns-in_err-hours
+returns-in_err-hours c =
+    let n = no_offset c.in-None.ensures (no_row numeric_row numeric_det (c.in_ok-is_behind.ensures past
+    inl c.in_err-hours.ensures)) in search rules
+
+pub returns-in_err-minutes : goal.returns-in_err-minutes
+returns-in_err-minutes c =
+    let n = no_offset c.in-None.ensures (no_row numeric_row numeric_det (c.in_ok-is_behind.ensures past
+    c.in_ok-hours.ensures past inl c.in_err-minutes.ensures)) in search rules
+
+pub returns : goal.returns
+returns c =
     let fits : FitsSigned w32 c.seconds.result = search rules in
-    rw (to_z-of_z, c.seconds.ensures) (signed_bytes _ _ _ _ _ c.in_ok-minutes.ensures.in_day c.in_ok-sign.ensures.text
-    c.in_ok-minutes.ensures.text)
+    rw (to_z-of_z, c.seconds.ensures) (numeric_front (row_of numeric_row (c.in_ok-is_behind.ensures
+    then c.in_ok-hours.ensures then c.in_ok-minutes.ensures then refl)))

@@ -1,10 +1,10 @@
-use Rattle.std.proofs.Common.{FitsSigned, w32, arith, rules}
+use Rattle.std.proofs.Common.{FitsSigned, w32, rules}
 use Rattle.std.proofs.lemmas.Int.{to_z-of_z}
-use Rattle.syslog_pieces.proofs.TimestampLemmas.Reading.{answer_of_rfc3339}
+use Rattle.syslog_pieces.proofs.TimestampLemmas.Rfc3339.{answer_of_rfc3339}
 use Rattle.syslog_pieces.proofs.timestamp.rfc3339_text.stamp.Goals as goal
 
 pub returns : goal.returns
 returns c =
     let fits : FitsSigned w32 c.args.written.offset = search rules in
-    answer_of_rfc3339 c.args.written _ c.in_ok-offset.offset _ c.fields_of.ensures (omega arith)
+    answer_of_rfc3339 c.args.written _ c.in_ok-offset.offset _ c.fields_of.ensures
     (simp to_z-of_z at c.in_ok-offset.ensures.value) c.clock_stamp.ensures

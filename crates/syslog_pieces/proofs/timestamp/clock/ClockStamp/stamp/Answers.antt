@@ -1,7 +1,7 @@
 use Rattle.std.proofs.Common.{refl, rules, ◌∙◌, FitsSigned}
 use Rattle.std.specs.Int.{w128}
 use Rattle.std.proofs.lemmas.Int.{to_z-of_z}
-use Rattle.syslog_pieces.proofs.TimestampLemmas.Reading.{same_timestamp}
+use Rattle.syslog_pieces.proofs.TimestampLemmas.Rfc3339.{same_timestamp}
 use Rattle.syslog_pieces.proofs.timestamp.clock.ClockStamp.stamp.Goals as goal
 
 pub instant_of-requires : goal.instant_of-requires

@@ -1,0 +1,10 @@
+use Rattle.std.proofs.Common.{rules}
+use Rattle.syslog_pieces.proofs.TimestampLemmas.Bytes.{first_rest}
+use Rattle.syslog_pieces.proofs.TimestampLemmas.Decimals.{fraction_reads, no_dot_front}
+use Rattle.syslog_pieces.proofs.timestamp.digits.fraction.Goals as goal
+
+pub returns-in-46 : goal.returns-in-46
+returns-in-46 c = fraction_reads _ _ _ (first_rest _ 46 c.in-46.len_at_least (search rules)) c.nanoseconds.ensures
+
+pub returns-in_default : goal.returns-in_default
+returns-in_default c = no_dot_front _ (search rules)

@@ -1,0 +1,56 @@
+use Rattle.std.proofs.Common.{inl, inr, ℕ, ◌≡◌, ◌-◌, ◌*◌, ◌<◌, ◌≤◌, List, length, get_or, take, sym, ap, ◌∙◌, arith}
+use Rattle.std.proofs.Common.{get_or-take, length-take}
+use Rattle.std.proofs.Math.Nat.{mul-le-mul_right}
+use Rattle.std.proofs.lemmas.Bool.{cases_lt}
+use Rattle.std.proofs.lemmas.List.{at_drop_all}
+use Rattle.std.specs.Char.{IsAsciiDigit}
+use Rattle.jiff_fmt.specs.Reader.{fraction_value}
+use Rattle.jiff_fmt.proofs.ReaderLemmas.{fraction_value-nil}
+use Rattle.syslog_pieces.proofs.TimestampLemmas.Decimals.{all_decimals, no_decimals, step_on, step_past}
+use Rattle.syslog_pieces.proofs.timestamp.digits.many_decimals.Goals as goal
+
+pub returns-then-len-eq0 : goal.returns-then-len-eq0
+returns-then-len-eq0 c = no_decimals _ (sym c.digits_len-len.ensures.len ∙ c.if-len-eq0.true)
+
+-- a digit of the front
+small_digit : (text front : List ℕ) (len i : ℕ) → front ≡ take len text → i < length front
+    → ((k : ℕ) → k < len → IsAsciiDigit (get_or text k 0)) → get_or front i 0 - 48 ≤ 9
+small_digit text front len i e h digits =
+    let within : i < len = omega (arith, ap length e, length-take len text) in
+    let digit = digits i within in
+    rw (e, get_or-take len text i 0 within) (omega (arith, digit.1))
+
+pub overflow_mul-nanosecond : goal.overflow_mul-nanosecond
+overflow_mul-nanosecond c =
+    let (worth, bound, value) = c.digits.invariant in
+    let small = small_digit _ _ _ _ c.split_at.ensures.front c.digits-test.true c.digits_len-len.ensures.digits in
+    let most = mul-le-mul_right c.digits.place small in
+    omega (arith, most, ap (λ (x : ℕ). x * c.digits.place) c.from.ensures)
+
+pub overflow_add-nanosecond : goal.overflow_add-nanosecond
+overflow_add-nanosecond c =
+    let (worth, bound, value) = c.digits.invariant in
+    let small = small_digit _ _ _ _ c.split_at.ensures.front c.digits-test.true c.digits_len-len.ensures.digits in
+    let most = mul-le-mul_right c.digits.place small in
+    omega (arith, most, ap (λ (x : ℕ). x * c.digits.place) c.from.ensures)
+
+pub digits-preserved : goal.digits-preserved
+digits-preserved c =
+    let (worth, bound, value) = c.digits.invariant in
+    let small = small_digit _ _ _ _ c.split_at.ensures.front c.digits-test.true c.digits_len-len.ensures.digits in
+    let small' : c.from.result ≤ 9 = rw c.from.ensures small in
+    let i = c.digits.digit-index in
+    elim (cases_lt i 9) [
+      | inl lt ↦ step_on c.split_at.result.0.now i c.digits.nanosecond c.from.result c.digits.place _ (9 - i) _
+          c.digits-test.true c.from.ensures small' worth bound value (omega arith)
+      | inr past ↦ step_past c.split_at.result.0.now i c.digits.nanosecond c.from.result c.digits.place _ (9 - i) _
+          c.digits-test.true c.from.ensures small' worth bound value (omega arith) (omega arith)
+    ]
+
+pub returns : goal.returns
+returns c =
+    let none = at_drop_all (fraction_value (9 - c.digits.digit-index)) _ _ c.digits-test.false ∙ fraction_value-nil _ in
+    let value : c.digits.nanosecond ≡ fraction_value 9 c.split_at.result.0.now =
+    omega (arith, none, c.digits.invariant.2) in
+    all_decimals _ _ _ _ _ c.digits_len-len.ensures.len (omega (arith, c.split_at.ensures.front_len)) c.split_at.ensures.front
+    c.split_at.ensures.back value
