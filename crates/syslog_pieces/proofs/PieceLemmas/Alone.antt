@@ -1,8 +1,9 @@
 -- Pieces that are of their class whatever follows them, and pieces that are where the same character follows.
-use Rattle.std.proofs.Common.{◌≡◌, ℕ, Bool, List, [], ◌∷◌, ◌++◌, sym, ap, subst}
-use Rattle.syslog_pieces.specs.Pieces.Class.{Text, Class, Values, Divides, Row, join, run, some_run, exactly}
+use Rattle.std.proofs.Common.{◌≡◌, ℕ, ◌<◌, Bool, List, [], ◌∷◌, ◌++◌, length, sym, ap, ◌∙◌, arith, append_assoc, subst}
+use Rattle.std.proofs.lemmas.List.{length-append}
+use Rattle.syslog_pieces.specs.Pieces.Class.{Text, Class, Values, Divides, Row, join, Ends, run, some_run, exactly}
 use Rattle.syslog_pieces.specs.Pieces.Class.{mapped, texted}
-use Rattle.syslog_pieces.specs.Pieces.Lists.{IsList, IsMore, list_before}
+use Rattle.syslog_pieces.specs.Pieces.Lists.{IsMany, IsList, IsMore, many, list_before}
 use Rattle.syslog_pieces.proofs.PieceLemmas.Class.{heads}
 
 -- whatever follows

@@ -1,8 +1,8 @@
 -- What is left of a recognised element and of a recognised list, one parameter or one item less.
-use Rattle.syslog_pieces.proofs.Names.{◌≡◌, ◌⊎◌, inl, inr, List, [], ◌∷◌, ◌++◌, Option, refl, sym, ap}
-use Rattle.syslog_pieces.proofs.Names.{◌∙◌, subst, Text, Front, NoFront, exactly, inside, inside_row, param}
+use Rattle.syslog_pieces.proofs.Names.{◌≡◌, ◌<◌, ◌⊎◌, inl, inr, List, [], ◌∷◌, ◌++◌, Option, Some, None, refl, sym, ap}
+use Rattle.syslog_pieces.proofs.Names.{◌∙◌, subst, length, Text, Front, NoFront, Row, exactly, inside, inside_row, param}
 use Rattle.syslog_pieces.proofs.Names.{item, many, more_before, list_before, row_of, ◌then◌, front_same, no_front_no}
-use Rattle.syslog_pieces.proofs.Names.{heads, append_assoc, row_none_here, no_list, more_here, list_here, many_here, behind, begins}
+use Rattle.syslog_pieces.proofs.Names.{heads, append_assoc, row_none_here, no_list, more_here, list_here, many_here, behind, begins, element}
 use Rattle.syslog_pieces.proofs.Names.{ElementValue, many_det, many_cons}
 use Rattle.std.proofs.Math.Logic.{∥∥₁_elim}
 use mathlib.Core.HLevel.{Σ_prop, ⊥_prop}

@@ -1,12 +1,15 @@
 -- What recognised elements and lists mean is what stands in their texts.
-use Rattle.syslog_pieces.proofs.Names.{◌≡◌, List, [], ◌++◌, Option, sym, ap, length}
-use Rattle.syslog_pieces.proofs.Names.{Text, Front, inside, many, item, strict}
+use Rattle.syslog_pieces.proofs.Names.{◌≡◌, List, [], ◌++◌, Option, Some, None, sym, ap, subst, length}
+use Rattle.syslog_pieces.proofs.Names.{Text, Class, Front, IsDeterministic, front_same, inside, many, item, strict}
 use Rattle.syslog_pieces.proofs.Names.{ℕ, ◌∷◌, ◌+◌, arith, IsUtf8, encodes-chars, encodes-append, encode_utf8_all}
 use Rattle.syslog_pieces.proofs.Names.{length-append, nil_from_length, append-nil, many_here}
 use Rattle.std.proofs.lemmas.Str.{length-le-encodes}
 use Rattle.syslog_pieces.proofs.StructuredDataLemmas.ReadBack.{no_item_before, no_item_nil}
-use Rattle.syslog_pieces.proofs.Names.{ElementValue, chars, drop, drop-append_seam, ◌∙◌}
+use Rattle.syslog_pieces.proofs.Names.{ElementValue, shown, chars, drop, drop-append_seam, ◌∙◌}
 use Rattle.syslog_pieces.specs.StructuredData.Recognised.{OneMeaning, one_value, one_value-is}
+use Rattle.syslog_pieces.specs.StructuredData.Visited.{element_seen, list_elements, list_text}
+use Rattle.syslog_pieces.specs.declared.structured_data.recognised.Element.{Element}
+use Rattle.syslog_pieces.specs.declared.structured_data.recognised.ElementList.{ElementList}
 
 -- an element that was recognised, by its parameters
 pub seen_is : {id inner q : Text} {ps : List (Text × Text)} (m : OneMeaning inside inner)

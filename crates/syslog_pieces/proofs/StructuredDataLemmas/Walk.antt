@@ -1,12 +1,12 @@
 -- The walk over an element: what is known at each of its parameters, and where it ends.
-use Rattle.syslog_pieces.proofs.Names.{◌≡◌, ℕ, ◌+◌, ◌<◌, ◌≤◌, Bool, List, [], ◌∷◌, ◌++◌, ◌&&◌, length, refl, sym, ap, ◌∙◌}
+use Rattle.syslog_pieces.proofs.Names.{◌≡◌, ℕ, ◌+◌, ◌<◌, ◌≤◌, Bool, true, List, [], ◌∷◌, ◌++◌, ◌&&◌, length, refl, sym, ap, ◌∙◌}
 use Rattle.syslog_pieces.proofs.Names.{subst, shown, encodes-chars, append_assoc, append-nil, and_parts, arith, nil_from_length, length-append, chars, IsUtf8, encode_utf8_all}
-use Rattle.syslog_pieces.proofs.Names.{IsTrue, flat_map}
+use Rattle.syslog_pieces.proofs.Names.{IsTrue, flat_map, flat_map-append}
 use Rattle.syslog_pieces.proofs.Names.{Text, Class, Front, NoFront, IsDeterministic, Row, exactly, texted, some_run}
 use Rattle.syslog_pieces.proofs.Names.{start, start_row, id_alone, inside, inside_row, opening, opening_row, quoted, closing}
 use Rattle.syslog_pieces.proofs.Names.{byte_count, IsDead, ElementValue, element, param, param_text, Leaves, Meets}
 use Rattle.syslog_pieces.proofs.Names.{meets_on, meets_none, row_none_here, row_of, ◌then◌, ◌also◌, row_det, begins}
-use Rattle.syslog_pieces.proofs.Names.{exactly_det, front_same, is_name_char, no_more, list_here}
+use Rattle.syslog_pieces.proofs.Names.{exactly_det, front_same, is_name_char, no_more, no_more_behind, list_here}
 use Rattle.syslog_pieces.specs.Bodies.Closing.{name_alone, tail_row}
 use Rattle.syslog_pieces.specs.StructuredData.Element.{element_text}
 use Rattle.std.proofs.lemmas.Str.{length-le-encodes}

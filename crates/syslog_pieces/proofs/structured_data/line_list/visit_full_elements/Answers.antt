@@ -1,12 +1,12 @@
-use Rattle.syslog_pieces.proofs.Names.{rules, arith, refl, sym, ap, ◌∙◌, ◌+◌, ◌≤◌, ◌<◌, ℕ, [], ◌∷◌, ◌++◌}
-use Rattle.syslog_pieces.proofs.Names.{Some, length, map, full_element, has_read_none, NoFront, Front, Text}
-use Rattle.syslog_pieces.proofs.Names.{has_read_more, has_read_all, and_parts, element}
+use Rattle.syslog_pieces.proofs.Names.{rules, arith, refl, sym, ap, ◌≡◌, ◌∙◌, ◌+◌, ◌≤◌, ◌<◌, ℕ, Bool, List, [], ◌∷◌, ◌++◌}
+use Rattle.syslog_pieces.proofs.Names.{Some, length, chars, map, full_element, has_read_none, NoFront, Front, Text}
+use Rattle.syslog_pieces.proofs.Names.{has_read_more, has_read_all, and_parts, element, no_front_no}
 use Rattle.syslog_pieces.specs.StructuredData.Visited.{element_seen}
 use Rattle.syslog_pieces.proofs.StructuredDataLemmas.Closing.{byte_count_slice, dead_whole, dead_suffix}
 use Rattle.syslog_pieces.proofs.StructuredDataLemmas.Elements.{element_shorter, strict_some}
 use Rattle.syslog_pieces.proofs.StructuredDataLemmas.Listed.{are_full_items, counts_none, counts_more, visits_none}
 use Rattle.syslog_pieces.proofs.StructuredDataLemmas.Listed.{visits_more, visits_along, tallied_along}
-use Rattle.syslog_pieces.proofs.StructuredDataLemmas.Rfc3164List.{bare_is_not_full}
+use Rattle.syslog_pieces.proofs.StructuredDataLemmas.Rfc3164List.{bare_is_not_full, full_is_element}
 use Rattle.syslog_pieces.proofs.StructuredDataLemmas.Walk.{chars_length}
 use Rattle.syslog_pieces.proofs.structured_data.line_list.visit_full_elements.Goals as goal
 

@@ -1,6 +1,6 @@
-use Rattle.syslog_pieces.proofs.Names.{rules, arith, refl, sym, subst, ◌≡◌, ◌+◌, ◌≤◌, ℕ, []}
-use Rattle.syslog_pieces.proofs.Names.{length, Result, Ok, Err, MatchResult, IsErrAnd, inl}
-use Rattle.syslog_pieces.proofs.Names.{NoFront, start_row, row_of, no_row, ◌then◌, ◌past◌, IsDead, element}
+use Rattle.syslog_pieces.proofs.Names.{rules, arith, refl, sym, ap, subst, ◌≡◌, ◌∙◌, ◌+◌, ◌<◌, ◌≤◌, ℕ, List, [], ◌∷◌}
+use Rattle.syslog_pieces.proofs.Names.{◌++◌, length, Result, Ok, Err, MatchResult, IsErrAnd, length-append, chars, inl}
+use Rattle.syslog_pieces.proofs.Names.{NoFront, start, start_row, row_of, no_row, ◌then◌, ◌past◌, IsDead, element}
 use Rattle.syslog_pieces.proofs.Names.{eqb-true, ElementValue}
 use Rattle.syslog_pieces.proofs.StructuredDataLemmas.Closing.{byte_count_slice, dead_suffix, start_det, no_start}
 use Rattle.syslog_pieces.proofs.StructuredDataLemmas.ReadBack.{start_text}

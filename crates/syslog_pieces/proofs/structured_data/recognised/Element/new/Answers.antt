@@ -1,4 +1,4 @@
-use Rattle.syslog_pieces.proofs.Names.{rules, inside, ap, length, ◌∙◌, sym}
+use Rattle.syslog_pieces.proofs.Names.{rules, inside, ap, length, ◌∙◌, sym, Text, List}
 use Rattle.syslog_pieces.specs.StructuredData.Recognised.{one_value-is}
 use Rattle.syslog_pieces.proofs.StructuredDataLemmas.Recognised.{seen_is}
 use Rattle.syslog_pieces.proofs.StructuredDataLemmas.Walk.{one_meaning, inside_det}
