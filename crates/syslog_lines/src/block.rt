@@ -142,7 +142,7 @@ fn past_last_feed(bytes: &[u8], from: usize) -> usize
     }
 }
 
-// Reads once into the vector, from a place on.
+// Reads once into the vector, from a place on. It stands apart so that `fill` need not say how a slice is written back.
 fn read_into<R: Read>(reader: &mut Watched<R>, bytes: &mut Vec<u8>, at: usize) -> io::Result<usize>
     requires { at < vec_len bytes.old }
     ensures len { vec_len bytes.new ≡ vec_len bytes.old }

@@ -33,7 +33,7 @@ pub use denote.Text.{Utf8}
 pub use Rattle.syslog_pieces.specs.Bodies.Closing.{opening, quoted, start, id_alone, inside_row, opening_row, start_row}
 pub use Rattle.syslog_pieces.specs.Bodies.Closing.{quoted_row, inside, closing, byte_count, IsDead, last_char}
 pub use Rattle.syslog_pieces.specs.Bodies.Scan.{SplitsRun, EndsRun, IsBare, IsRun, IsRunIn, bit_of, byte_in, past_in}
-pub use Rattle.syslog_pieces.specs.Bodies.Verbatim.{VerbatimItems, IsBareWord, ListPrints, Verbatim}
+pub use Rattle.syslog_pieces.specs.Bodies.Verbatim.{IsBareWord}
 pub use Rattle.syslog_pieces.specs.Pieces.Class.{Text, Class, Values, Row, run, some_run, exactly, optional, Each, Ends}
 pub use Rattle.syslog_pieces.specs.Pieces.Class.{Front, NoFront, IsDeterministic, join, mapped, texted}
 pub use Rattle.syslog_pieces.specs.Pieces.Lists.{IsMany, IsMore, IsList, list_before, many, more_before, HasRead}

@@ -1,20 +1,17 @@
 -- The priority, and its two parts.
-use Rattle.std.proofs.Common.{◌≡◌, ◌≤◌, ◌<◌, ◌/◌, ◌%◌, ◌+◌, ℕ, Bool, true, false, nat_eq}
-use Rattle.std.proofs.Common.{List, [], ◌∷◌, ◌++◌, Option, Some, None, MatchOption, refl, sym, ap, ◌∙◌}
+use Rattle.std.proofs.Common.{◌≡◌, ◌≤◌, ◌<◌, ◌/◌, ◌%◌, ℕ, Bool, true, false, nat_eq}
+use Rattle.std.proofs.Common.{List, [], ◌∷◌, Option, Some, None, MatchOption, refl, sym, ap, ◌∙◌}
 use Rattle.std.proofs.Common.{arith}
 use Rattle.std.specs.Prelude.{slice_get}
 use Rattle.std.proofs.lemmas.Bool.{agree_below, agree_below_at, eqb-true}
 use Rattle.std.proofs.lemmas.Option.{slice_get_past}
-use Rattle.std.specs.Fmt.{decimal}
-use Rattle.jiff_fmt.specs.Text.{pad2}
 use Rattle.syslog_pieces.specs.Pieces.Class.{Text, Front, NoFront, IsDeterministic, Row, Values}
 use Rattle.syslog_pieces.specs.Text.{number}
-use Rattle.syslog_pieces.specs.Pri.{priority, priority_text, priority_row, facility_number, severity_number}
+use Rattle.syslog_pieces.specs.Pri.{priority, priority_row, facility_number, severity_number}
 use Rattle.syslog_pieces.specs.Pri.{facilities, severities, facility_of, severity_of, composed}
 use Rattle.syslog_pieces.specs.declared.pri.SyslogFacility.{SyslogFacility}
 use Rattle.syslog_pieces.specs.declared.pri.SyslogSeverity.{SyslogSeverity}
 use Rattle.syslog_pieces.proofs.PieceLemmas.Class.{AllDeterministic, exactly_det, row_det}
-use Rattle.syslog_pieces.specs.Timestamp.Printed.{pad3}
 use Rattle.syslog_pieces.proofs.PieceLemmas.Rows.{Fails, no_row}
 use Rattle.syslog_pieces.proofs.TextLemmas.Decimals.{one_digit, two_digits, three_digits}
 use Rattle.syslog_pieces.proofs.TextLemmas.Words.{number_det}
@@ -90,14 +87,6 @@ severity_composed f s = let low = severity_low s in let e : composed f s % 8 ≡
     ap (slice_get severities) e ∙ severity_placed s
 
 -- ---- what is printed
-
-pub two_with_version : (n v : ℕ) → 10 ≤ n → n < 100 → v < 10
-    → priority_text n ++ (decimal v ++ (32 ∷ [])) ≡ 60 ∷ (pad2 n ++ (62 ∷ (48 + v) ∷ 32 ∷ []))
-two_with_version n v l h w = rw (two_digits n l h, one_digit v w) refl
-
-pub three_with_version : (n v : ℕ) → 100 ≤ n → n < 1_000 → v < 10
-    → priority_text n ++ (decimal v ++ (32 ∷ [])) ≡ 60 ∷ (pad3 n ++ (62 ∷ (48 + v) ∷ 32 ∷ []))
-three_with_version n v l h w = rw (three_digits n l h, one_digit v w) refl
 
 -- what the printer of a priority rests on
 pub ruleset decimals = (one_digit, two_digits, three_digits)

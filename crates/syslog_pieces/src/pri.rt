@@ -2,19 +2,15 @@
 //!
 //! The priority of a line is optional; `optional_priority` answers it and the text behind it. Nothing here takes
 //! memory.
-ghost use Rattle.std.specs.Prelude.{◌≡◌, ◌<◌, ◌≤◌, ◌+◌, ◌++◌, [], ◌∷◌, MatchOption, Some};
+ghost use Rattle.std.specs.Prelude.{◌≡◌, ◌<◌, ◌≤◌, MatchOption};
 ghost use Rattle.std.specs.Fmt.{WritesOnOk};
-ghost use Rattle.std.specs.List.{AllByRecursion};
 ghost use Rattle.std.specs.Option.{option_and_then};
 ghost use Rattle.std.specs.Str.{chars, encode_utf8_all};
-ghost use Rattle.jiff_fmt.specs.Text.{pad2};
 ghost use Rattle.syslog_pieces.specs.Pieces.Class.{Front, optional};
 ghost use Rattle.syslog_pieces.specs.Pri.{priority_text};
 ghost use Rattle.syslog_pieces.specs.Pri as spec;
 ghost use Rattle.syslog_pieces.specs.Pieces.View.{shown, Reads};
-ghost use Rattle.syslog_pieces.specs.Timestamp.Printed.{pad3};
 
-use crate::text::write_ascii::{digit, three_digits as triple, two_digits as pair, write_bytes};
 use crate::text::{literal, number};
 use std::fmt;
 
@@ -208,52 +204,10 @@ pub fn optional_priority(text: &str) -> (Option<u8>, &str)
     }
 }
 
-// A priority of one digit as it prints.
-#[inline(always)]
-fn one_digit(n: u32) -> [u8; 3]
-    requires { n < 10 }
-    ensures ascii { AllByRecursion (λ b. b < 128) result }
-    ensures text { result ≡ 60 ∷ (48 + n) ∷ 62 ∷ [] }
-{
-    [b'<', digit(n), b'>']
-}
-
-// One of two digits.
-#[inline(always)]
-fn two_digits(n: u32) -> [u8; 4]
-    requires { n < 100 }
-    ensures ascii { AllByRecursion (λ b. b < 128) result }
-    ensures text { result ≡ 60 ∷ (pad2 n ++ (62 ∷ [])) }
-{
-    let [t, o] = pair(n);
-    [b'<', t, o, b'>']
-}
-
-// One of three digits.
-#[inline(always)]
-fn three_digits(n: u32) -> [u8; 5]
-    requires { n < 1_000 }
-    ensures ascii { AllByRecursion (λ b. b < 128) result }
-    ensures text { result ≡ 60 ∷ (pad3 n ++ (62 ∷ [])) }
-{
-    let [h, t, o] = triple(n);
-    [b'<', h, t, o, b'>']
-}
-
-/// Writes a priority as it prints. One below 1000, as that of each message is, is one piece.
-#[tactic(auto, using(crate::proofs::PriLemmas::decimals))]
+/// Writes a priority as it prints.
 #[inline]
 pub fn write_priority<W: fmt::Write>(f: &mut fmt::Formatter<W>, number: u32) -> fmt::Result
     ensures { WritesOnOk W.write_str_gives f.old result (priority_text number) f.new }
 {
-    if number < 10 {
-        return write_bytes(f, &one_digit(number));
-    }
-    if number < 100 {
-        return write_bytes(f, &two_digits(number));
-    }
-    if number < 1_000 {
-        return write_bytes(f, &three_digits(number));
-    }
     write!(f, "<{number}>")
 }

@@ -163,26 +163,13 @@ pub fn first(text: &str) -> Option<(char, &str)>
     Some((c, all.as_str()))
 }
 
-/// The text behind this character, where it begins the text.
-#[tactic(auto, using(crate::proofs::TextLemmas::Words::stripped))]
+/// The text after this ASCII character, where it begins the text.
 #[inline(always)]
 pub fn literal(text: &str, c: char) -> Option<&str>
+    requires { c < 128 }
     ensures { Skips (exactly (c ∷ [])) tt (chars text.now) result }
 {
-    if c.is_ascii() {
-        ascii_literal(text, c as u8)
-    } else {
-        text.strip_prefix(c)
-    }
-}
-
-// The same of an ASCII character, which is its byte.
-#[inline(always)]
-fn ascii_literal(text: &str, byte: u8) -> Option<&str>
-    requires { byte < 128 }
-    ensures { Skips (exactly (byte ∷ [])) tt (chars text.now) result }
-{
-    if begins_with(text.as_bytes(), byte) {
+    if begins_with(text.as_bytes(), c as u8) {
         let (_, rest) = text.split_at(1);
         Some(rest)
     } else {
@@ -201,70 +188,36 @@ pub fn past_colon(text: &str) -> &str
     }
 }
 
-/// The text behind the blanks at the front, of which there may be none.
+/// The text after the blanks at the front, of which there may be none.
+#[tactic(auto, using(crate::proofs::TextLemmas::Looks::no_blanks, crate::proofs::TextLemmas::Runs::split_at_end))]
 #[inline(always)]
 pub fn blanks(text: &str) -> &str
     ensures { Front (run spec.is_blank) (chars text.now) (shown result) tt }
 {
-    match few_blanks(text) {
-        Some(behind) => behind,
-        None => any_blanks(text),
-    }
-}
-
-// The same of no blank, or of one space, which most gaps are: they need no scan.
-#[tactic(auto, using(crate::proofs::TextLemmas::Looks::no_blanks))]
-#[inline(always)]
-fn few_blanks(text: &str) -> Option<&str>
-    ensures { IfSome result (λ rest. Front (run spec.is_blank) (chars text.now) (shown rest) tt) }
-{
     if begins_visibly(text.as_bytes()) {
-        Some(text)
-    } else {
-        past_space(text)
+        return text;
     }
-}
-
-// The same of any number of blanks.
-#[inline(always)]
-fn any_blanks(text: &str) -> &str
-    ensures { Front (run spec.is_blank) (chars text.now) (shown result) tt }
-{
-    let (_, rest) = split_blanks(text);
+    if let Some(rest) = past_space(text) {
+        return rest;
+    }
+    let (_, rest) = text.split_at(blanks_end(text));
     rest
 }
 
-// The blanks at the front, perhaps none, and the text behind them.
-#[tactic(auto, using(crate::proofs::TextLemmas::Runs::split_at_end))]
-#[inline(always)]
-fn split_blanks(text: &str) -> (&str, &str)
-    ensures { SplitsRun (has Blank) text.now result.0.now result.1.now }
-{
-    text.split_at(blanks_end(text))
-}
-
-// The place behind them. It stands apart, since few gaps need a scan; a place, not a text, so that none goes through
-// memory.
-#[cold]
-#[inline(never)]
-fn blanks_end(text: &str) -> usize
-    ensures { EndsRun (has Blank) text.now result }
-{
-    run_end(text, CharClass::Blank)
-}
-
-/// The text behind the blanks at the front, of which there is at least one.
+/// The text after the blanks at the front, of which there is at least one.
+#[tactic(auto, using(crate::proofs::TextLemmas::Runs::some_run_front, crate::proofs::TextLemmas::Runs::split_at_end, crate::proofs::TextLemmas::Chars::nonempty_is))]
 #[inline(always)]
 pub fn some_blanks(text: &str) -> Option<&str>
     ensures { Skips (some_run spec.is_blank) tt (chars text.now) result }
 {
-    match past_space(text) {
-        Some(rest) => Some(rest),
-        None => many_blanks(text),
+    if let Some(rest) = past_space(text) {
+        return Some(rest);
     }
+    let (front, rest) = text.split_at(blanks_end(text));
+    if front.is_empty() { None } else { Some(rest) }
 }
 
-// The text behind a space before no blank, which most gaps are: it needs no scan.
+// The text after a space before no blank, which most gaps are: it needs no scan.
 #[tactic(auto, using(crate::proofs::TextLemmas::Looks::gap))]
 #[inline(always)]
 pub(crate) fn past_space(text: &str) -> Option<&str>
@@ -279,14 +232,14 @@ pub(crate) fn past_space(text: &str) -> Option<&str>
     }
 }
 
-// The text behind any number of blanks but none.
-#[tactic(auto, using(crate::proofs::TextLemmas::Runs::some_run_front, crate::proofs::TextLemmas::Chars::nonempty_is))]
-#[inline(always)]
-fn many_blanks(text: &str) -> Option<&str>
-    ensures { Skips (some_run spec.is_blank) tt (chars text.now) result }
+// The place after the blanks at the front. It stands apart, since few gaps need a scan; a place, not a text, so that none
+// goes through memory.
+#[cold]
+#[inline(never)]
+fn blanks_end(text: &str) -> usize
+    ensures { EndsRun (has Blank) text.now result }
 {
-    let (front, rest) = split_blanks(text);
-    if front.is_empty() { None } else { Some(rest) }
+    run_end(text, CharClass::Blank)
 }
 
 /// The number at the front, up to a limit, and the text behind it. Leading zeros are allowed.
@@ -302,7 +255,8 @@ pub fn number(text: &str, limit: u32) -> Option<(u32, &str)>
     }
 }
 
-// The number of 32 bits at the front, and the text behind it.
+// The number of 32 bits at the front, and the text after it. One of one to three digits, as most are, needs no scan.
+#[tactic(auto, using(crate::proofs::TextLemmas::Words::number_read, crate::proofs::TextLemmas::Runs::split_at_end))]
 #[inline(always)]
 fn any_number(text: &str) -> Option<(u32, &str)>
     ensures { Reads (spec.number 4294967295) (λ n. n) (chars text.now) result }
@@ -310,43 +264,16 @@ fn any_number(text: &str) -> Option<(u32, &str)>
     if !begins_with_digit(text.as_bytes()) {
         return None;
     }
-    match small_number(text) {
-        Some(found) => Some(found),
-        None => long_number(text),
+    if let Some((value, behind)) = small_digits(text.as_bytes()) {
+        let (_, rest) = text.split_at(text.len() - behind.len());
+        return Some((value, rest));
     }
-}
-
-// The same of one to three digits, which most numbers have: they need no scan.
-#[inline(always)]
-fn small_number(text: &str) -> Option<(u32, &str)>
-    ensures { IfSome result (λ x. Front (spec.number 4294967295) (chars text.now) (shown x.1) x.0) }
-{
-    let (value, behind) = small_digits(text.as_bytes())?;
-    let (_, rest) = text.split_at(text.len() - behind.len());
-    Some((value, rest))
-}
-
-// The same of any number of digits.
-#[tactic(auto, using(crate::proofs::TextLemmas::Words::number_read))]
-#[inline(always)]
-fn long_number(text: &str) -> Option<(u32, &str)>
-    ensures { Reads (spec.number 4294967295) (λ n. n) (chars text.now) result }
-{
-    let (digits, rest) = split_digits(text);
+    let (digits, rest) = text.split_at(digits_end(text));
     let value = number_of_digits(digits)?;
     Some((value, rest))
 }
 
-// The digits at the front, perhaps none, and the text behind them.
-#[tactic(auto, using(crate::proofs::TextLemmas::Runs::split_at_end))]
-#[inline(always)]
-fn split_digits(text: &str) -> (&str, &str)
-    ensures { SplitsRun (has Digit) text.now result.0.now result.1.now }
-{
-    text.split_at(digits_end(text))
-}
-
-// The place behind them, apart for the same reason as that behind blanks.
+// The place after the digits at the front, apart for the same reason as that after blanks.
 #[cold]
 #[inline(never)]
 fn digits_end(text: &str) -> usize

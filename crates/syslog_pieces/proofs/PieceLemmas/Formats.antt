@@ -1,10 +1,9 @@
 -- Rows of formats: printed, they are read back, and what each printed piece has the whole text has.
-use Rattle.std.proofs.Common.{◌≡◌, ℕ, Bool, List, [], ◌∷◌, ◌++◌, refl, ap, ◌∙◌, append_assoc}
-use Rattle.syslog_pieces.specs.Pieces.Class.{Text, Values, Front, Row, Each}
+use Rattle.std.proofs.Common.{◌≡◌, List, [], ◌∷◌, ◌++◌, refl, ap, ◌∙◌, append_assoc}
+use Rattle.syslog_pieces.specs.Pieces.Class.{Text, Values, Front, Row}
 use Rattle.syslog_pieces.specs.Pieces.Format.{Format, IsSound, classes, printed_row, RowReadsBack}
 use Rattle.syslog_pieces.proofs.PieceLemmas.Class.{row_nil, row_cons}
 use Rattle.syslog_pieces.proofs.PieceLemmas.Steps.{piece_front}
-use Rattle.syslog_pieces.proofs.PieceLemmas.Each.{each_append}
 
 -- ---- reading back
 abbrev pub AllSound : List Format → Type 0
@@ -29,15 +28,3 @@ printed_more [] vs p q = refl
 printed_more (F ∷ Fs) vs p q =
     append_assoc (F.print vs.0) (printed_row Fs vs.1 p) q
     ∙ ap (λ (x : Text). F.print vs.0 ++ x) (printed_more Fs vs.1 p q)
-
--- the characters of each printed piece pass the test
-abbrev pub EachPrints : (ℕ → Bool) → (Fs : List Format) → Values (classes Fs) → Type 0
-EachPrints test [] vs = Unit {0}
-EachPrints test (F ∷ Fs) vs = Each test (F.print vs.0) × EachPrints test Fs vs.1
-
-pub row_passes : (test : ℕ → Bool) (Fs : List Format) (vs : Values (classes Fs)) (q : Text) → EachPrints test Fs vs
-    → Each test q
-    → Each test (printed_row Fs vs q)
-row_passes test [] vs q h k = k
-row_passes test (F ∷ Fs) vs q h k =
-    each_append test (F.print vs.0) (printed_row Fs vs.1 q) h.0 (row_passes test Fs vs.1 q h.1 k)

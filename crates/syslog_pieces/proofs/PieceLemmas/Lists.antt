@@ -1,7 +1,6 @@
 -- Lists of pieces of one class.
 use Rattle.std.proofs.Common.{◌≡◌, ◌≢◌, ℕ, zero, suc, ◌<◌, ◌≤◌, List, [], ◌∷◌, ◌++◌, length, arith, refl, sym, ap}
 use Rattle.std.proofs.Common.{subst, ◌∙◌, append_assoc, append-nil}
-use Rattle.std.proofs.lemmas.List.{length-append}
 use Rattle.syslog_pieces.specs.Pieces.Class.{Text, Class, Front, NoFront, IsDeterministic, Row, exactly}
 use Rattle.syslog_pieces.specs.Pieces.Lists.{IsMany, many, HasRead, IsList, IsMore, list_before, more_before}
 use Rattle.syslog_pieces.proofs.PieceLemmas.Class.{rest_same, after_nil, behind, heads, front_same, no_front_no}
@@ -60,21 +59,8 @@ no_many_no C s (suc n) t l k = k t [] (many_here C t (λ p q v e h.
     let f : Front C t q v = record { piece = p; whole = e; is = h } in
     no_many_no C s n q (omega (arith, s t q v f)) (λ r vs g. k r (v ∷ vs) (many_cons C f g))))
 
--- where no piece begins the text, there are none; and the other way
-pub no_many_first : (C : Class) (t q : Text) (vs : List C.Value) → NoFront C t → Front (many C) t q vs → vs ≡ []
-no_many_first C t q [] n f = refl
-no_many_first C t q (v ∷ vs) n f = let (a, b, e, h, more) = f.is in
-    absurd (n a (b ++ q) v (f.whole ∙ behind f.piece a b q e) h)
-
 pub many_none : (C : Class) (t q : Text) → Front (many C) t q [] → NoFront C t
 many_none C t q f = subst (λ (x : Text). NoFront C x) (sym (f.whole ∙ ap (λ (x : Text). x ++ q) f.is.0)) f.is.1
-
--- where a piece begins what is left, one begins the text
-pub read_some : (C : Class) → ((t u : Text) (v : C.Value) → Front C t u v → length u < length t)
-    → (t s s' : Text) (vs : List C.Value) (v : C.Value) → HasRead C t vs s → Front C s s' v → NoFront C t → ⊥
-read_some C shrinks t s s' vs v h f n = no_many_no C shrinks (length s') s' (omega arith) (λ r ws g.
-    let z = no_many_first C t r (vs ++ (v ∷ ws)) n (h r (v ∷ ws) (many_cons C f g)) in
-    omega (arith, ap length z, length-append vs (v ∷ ws)))
 
 -- ---- pieces between separators
 module _ (C : Class) (separator close : ℕ) where

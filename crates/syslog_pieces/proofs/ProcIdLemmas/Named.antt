@@ -1,5 +1,5 @@
 -- The process id that a text names, computed.
-use Rattle.syslog_pieces.proofs.Names.{◌≡◌, ℤ, pos, ◌<◌, ◌^◌, ◌⊎◌, w32, [], ◌∷◌, length, true, false}
+use Rattle.syslog_pieces.proofs.Names.{◌≡◌, ℤ, pos, ◌<◌, w32, [], ◌∷◌, length, true, false}
 use Rattle.syslog_pieces.proofs.Names.{refl, arith, FitsSigned, Text, Each, is_ascii_digit}
 use Rattle.syslog_pieces.proofs.Names.{signed_digits_value, IsI32Text}
 use Rattle.std.proofs.Common.{negsuc, Bool, ◌&&◌, if◌then◌else◌}

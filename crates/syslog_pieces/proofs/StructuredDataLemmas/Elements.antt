@@ -1,21 +1,18 @@
 -- Values, parameters, elements and forgiving lists: a text has one of each at its front; and items of a list, one after
 -- the other.
 use Rattle.syslog_pieces.proofs.Names.{◌≡◌, ◌≢◌, ℕ, ◌<◌, inl, inr, true, false, List, [], ◌∷◌, ◌++◌, length, Option}
-use Rattle.syslog_pieces.proofs.Names.{Some, None, refl, sym, ap, ◌∙◌, append_assoc, arith, Bool, not, map, subst}
-use Rattle.syslog_pieces.proofs.Names.{append-nil, MatchBool, nat_tests, length-append, map-append, flat_map}
+use Rattle.syslog_pieces.proofs.Names.{Some, None, refl, sym, ap, ◌∙◌, append_assoc, arith, map, subst}
+use Rattle.syslog_pieces.proofs.Names.{nat_tests, length-append, flat_map}
 use Rattle.syslog_pieces.proofs.Names.{AllByRecursion, list_any, is_name_char, is_id_char, is_open_char, Text, join}
 use Rattle.syslog_pieces.proofs.Names.{Front, IsDeterministic, Row, Each, run, some_run, exactly, Class, NoFront}
-use Rattle.syslog_pieces.proofs.Names.{ElementValue, TextUnit, pair, single, unit_text, many, list_before, HasRead}
+use Rattle.syslog_pieces.proofs.Names.{ElementValue, TextUnit, pair, single, unit_text, many, list_before}
 use Rattle.syslog_pieces.proofs.Names.{IsValueUnit, value, param_row, param_of, param, element_row, element_of, element}
 use Rattle.syslog_pieces.proofs.Names.{bracketed, item, strict, forgiving, is_blank, dash, heads, behind, run_det}
 use Rattle.syslog_pieces.proofs.Names.{some_run_det, exactly_det, AllDeterministic, row_det, texted_det, ◌also◌}
-use Rattle.syslog_pieces.proofs.Names.{front_same, mapped_det, many_det, begins, many_cons, no_many_no, Meets, is_some}
+use Rattle.syslog_pieces.proofs.Names.{front_same, mapped_det, many_det, begins, Meets}
 use Rattle.syslog_pieces.proofs.Names.{is_none}
-use Rattle.std.proofs.Common.{◌||◌}
-use Rattle.syslog_pieces.specs.StructuredData.{NeedsNoMemory}
 use Rattle.syslog_pieces.proofs.PieceLemmas.Lists.{list_before_det}
 use Rattle.syslog_pieces.proofs.StructuredDataLemmas.Units.{unit_same, units_same}
-use Rattle.std.proofs.lemmas.List.Folds.{list_any-append}
 
 -- ---- values
 
@@ -173,49 +170,6 @@ strict_append (Some e ∷ vs) ws = ap (λ (x : List ElementValue). e ∷ x) (str
 pub strict_some : (es : List ElementValue) → es ≡ strict (map Some es)
 strict_some [] = refl
 strict_some (e ∷ es) = ap (λ (x : List ElementValue). e ∷ x) (strict_some es)
-
--- the elements that were collected are the strict ones among the items, one item more
-module _ {X : Type 0} (view : X → ElementValue) (old : List X) (vs : List (Option ElementValue))
-    (e : map view old ≡ strict vs) where
-  pub collected_broken : map view old ≡ strict (vs ++ (None ∷ []))
-  collected_broken = e ∙ sym (strict_append vs (None ∷ []) ∙ append-nil (strict vs))
-
-  pub collected_strict : (new : List X) (x : X) (d : ElementValue) → view x ≡ d → new ≡ old ++ (x ∷ [])
-      → map view new ≡ strict (vs ++ (Some d ∷ []))
-  collected_strict new x d f i = rw (strict_append vs (Some d ∷ []), i, map-append view old (x ∷ []), e, f)
-
-pub none_broken : (es : List ElementValue) → false ≡ list_any is_none (map Some es)
-none_broken [] = refl
-none_broken (e ∷ es) = none_broken es
-
--- the mark that one is broken, one item more
-pub marked : (b strict : Bool) (vs : List (Option ElementValue)) (v : Option ElementValue) → b ≡ list_any is_none vs
-    → strict ≡ is_some v → (b || not strict) ≡ list_any is_none (vs ++ (v ∷ []))
-marked b strict vs None e f = rw (list_any-append is_none vs (None ∷ []), e, f)
-marked b strict vs (Some d) e f = rw (list_any-append is_none vs (Some d ∷ []), e, f)
-
--- the front that an item is, strict or broken
-pub either_item : {t q : Text} (b : Bool) → MatchBool b ((e : ElementValue) × Front element t q e) (Front item t q None)
-    → (v : Option ElementValue) × Front item t q v
-either_item true (e, f) = (Some e, element_item _ _ e f)
-either_item false f = (None, f)
-
--- ---- what needs memory: an element among the items
-pub element_asks : (t s s' : Text) (vs : List (Option ElementValue)) (e : ElementValue) → HasRead item t vs s
-    → Front element s s' e → NeedsNoMemory t → ⊥
-element_asks t s s' vs e h f n = no_many_no item item_shorter (length s') s' (omega arith) (λ r ws g.
-    let all = h r (Some e ∷ ws) (many_cons item (element_item s s' e f) g) in
-    let none = n r (strict (vs ++ (Some e ∷ ws))) (record {
-      piece = all.piece;
-      whole = all.whole;
-      is = inr (vs ++ (Some e ∷ ws), omega (arith, length-append vs (Some e ∷ ws)), all.is, refl);
-    }) in
-    omega (arith, ap length (sym (strict_append vs (Some e ∷ ws)) ∙ none), length-append (strict vs) (e ∷ strict ws)))
-
--- no element is left, where no memory is needed
-pub none_asks : (t s : Text) (vs : List (Option ElementValue)) → HasRead item t vs s → NeedsNoMemory t
-    → NoFront element s
-none_asks t s vs h n p q e w i = element_asks t s q vs e h (record { piece = p; whole = w; is = i }) n
 
 -- ---- the list
 

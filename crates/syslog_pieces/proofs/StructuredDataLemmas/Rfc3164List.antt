@@ -1,12 +1,11 @@
 -- The list of RFC 3164: a text has one at its front, and has none exactly where neither of its two kinds begins.
-use Rattle.syslog_pieces.proofs.Names.{◌≡◌, ℕ, ◌<◌, Option, Some, None, inl, inr, List, [], ◌∷◌, ◌++◌, length, refl}
-use Rattle.syslog_pieces.proofs.Names.{sym, ap, subst, ◌∙◌, arith, Bor, start_row, start, inside_row, opening_row}
+use Rattle.syslog_pieces.proofs.Names.{◌≡◌, ◌<◌, Some, None, inl, inr, List, [], ◌∷◌, ◌++◌, length, refl}
+use Rattle.syslog_pieces.proofs.Names.{sym, ap, subst, ◌∙◌, arith, start_row, start, inside_row, opening_row}
 use Rattle.syslog_pieces.proofs.Names.{opening, closing, Text, Front, NoFront, IsDeterministic, optional, Values, Row}
 use Rattle.syslog_pieces.proofs.Names.{exactly, many, list_before, param, element_row, element, ElementValue}
 use Rattle.syslog_pieces.proofs.Names.{full_element, IsDashBefore, rfc3164_list, BeginsNoList, dash, DashRule, behind}
-use Rattle.syslog_pieces.proofs.Names.{front_same, no_front_no, optional_some, many_det, many_cons, no_many_no, Meets}
-use Rattle.syslog_pieces.proofs.Names.{row_pieces, ◌↔◌, Reads}
-use Rattle.syslog_pieces.specs.StructuredData.Rfc3164List.{ListsNoElements}
+use Rattle.syslog_pieces.proofs.Names.{front_same, optional_some, many_det, many_cons, no_many_no, Meets}
+use Rattle.syslog_pieces.proofs.Names.{row_pieces, ◌↔◌}
 use Rattle.syslog_pieces.proofs.PieceLemmas.Class.{optional_none}
 use Rattle.syslog_pieces.proofs.PieceLemmas.Lists.{many_none}
 use Rattle.syslog_pieces.proofs.StructuredDataLemmas.Closing.{start_det, no_start, no_opening, element_enters}
@@ -30,15 +29,6 @@ bare_is_not_full t q v f z p r w e h =
     let s = front_same element element_det f (record { piece = p; whole = e; is = h.0 }) in
     let k = ap (λ (x : ElementValue). length x.params) s.1 in
     omega (arith, h.1, k, z)
-
--- where such an element begins the text, the element that was read there is it
-pub full_read : {X : Type 0} (view : X → ElementValue) (t q : Text) (v : ElementValue) (r : Option (X × Bor (List ℕ)))
-    → Front full_element t q v → Reads element view t r → Reads full_element view t r
-full_read view t q v None f n = absurd (no_front_no element n (full_is_element f))
-full_read view t q v (Some x) f g =
-    let s = front_same element element_det (full_is_element f) g in
-    let some = subst (λ (y : ElementValue). 0 < length y.params) s.1 f.is.1 in
-    record { piece = g.piece; whole = g.whole; is = (g.is, some) }
 
 -- such an element begins with a bracket
 pub full_begins : (p q : Text) (v : ElementValue) → full_element.Is p q v → (r : Text) × (p ++ q ≡ 91 ∷ r)
@@ -89,11 +79,6 @@ begins_no_list rule t n = (
 
 pub no_list_is : (rule : DashRule) (t : Text) → NoFront (rfc3164_list rule) t ↔ BeginsNoList rule t
 no_list_is rule t = (begins_no_list rule t, no_rfc3164_list rule t)
-
--- where each list is without elements, none with a parameter begins the text
-pub lists_none : (rule : DashRule) (t : Text) → ListsNoElements rule t → NoFront full_element t
-lists_none rule t n p q v e h = full_rfc3164_list rule t q v (record { piece = p; whole = e; is = h }) (λ r es l f.
-    let z = n r (Some es) (optional_some (rfc3164_list rule) f) in omega (arith, ap length z))
 
 -- no dash begins the text, and no element does
 pub list_absent : (rule : DashRule) (t q : Text) (es : List ElementValue)

@@ -3,13 +3,11 @@ use Rattle.syslog_pieces.proofs.Names.{◌≡◌, ◌≢◌, ℕ, ◌-◌, ◌<�
 use Rattle.syslog_pieces.proofs.Names.{inl, inr, refl, sym, ap, ◌∙◌, arith, drop-append_seam, cases_lt, nat_tests}
 use Rattle.syslog_pieces.proofs.Names.{length-append, IsCharBoundary-after_ascii, IsUtf8-drop, is_ascii_digit, chars}
 use Rattle.syslog_pieces.proofs.Names.{IsUtf8, IsAscii, IsCharBoundary, Front, NoFront, Ends, exactly, run, some_run}
-use Rattle.syslog_pieces.proofs.Names.{is_blank, number}
+use Rattle.syslog_pieces.proofs.Names.{is_blank, number, encode_utf8_all}
 use Rattle.std.proofs.lemmas.List.{drop_more, get_or_append_left}
-use Rattle.std.proofs.lemmas.Str.{encode_ascii}
 use Rattle.syslog_pieces.specs.Bodies.Looks.{BeginsVisibly, BeginsWithGap, EndsDigits}
-use Rattle.syslog_pieces.proofs.TextLemmas.Chars.{ascii_front, one_ascii, ends_by_byte}
+use Rattle.syslog_pieces.proofs.TextLemmas.Chars.{ascii_front, ascii_ahead, one_ascii, ends_by_byte}
 use Rattle.syslog_pieces.proofs.TextLemmas.Runs.{ascii_cut, first_left, no_run}
-use Rattle.syslog_pieces.proofs.TextLemmas.Words.{no_literal}
 
 -- ---- a text behind ASCII bytes
 module _ (p bs rest : List ℕ) (a : IsAscii p) (u : IsUtf8 bs) (e : bs ≡ p ++ rest) where
@@ -48,7 +46,8 @@ module _ (b : ℕ) (bs : List ℕ) (low : b < 128) (u : IsUtf8 bs) where
   }
 
   pub no_one_front : ((more : List ℕ) → bs ≢ b ∷ more) → NoFront (exactly (b ∷ [])) (chars bs)
-  no_one_front n = no_literal b bs u (λ more e. n more (e ∙ ap (λ (x : List ℕ). x ++ more) (encode_ascii b low)))
+  no_one_front n p q v e h =
+      n (encode_utf8_all q) (ascii_ahead (b ∷ []) q bs u (one_ascii b low) (e ∙ ap (λ (x : List ℕ). x ++ q) h))
 
 -- ---- gaps
 -- the byte, or a character past ASCII

@@ -1,19 +1,17 @@
 -- What the readers of numbers and words answer.
 use Rattle.syslog_pieces.proofs.Names.{◌≡◌, ◌≢◌, ℕ, zero, suc, get_or, ◌-◌, ◌<◌, ◌≤◌, ◌^◌, ◌⊎◌, inl, inr, List, [], ◌∷◌}
-use Rattle.syslog_pieces.proofs.Names.{◌++◌, length, take, drop, Option, Some, None, Result, Ok, Err, MatchOption, refl}
+use Rattle.syslog_pieces.proofs.Names.{◌++◌, length, take, drop, Option, Some, None, Result, Ok, Err, refl}
 use Rattle.syslog_pieces.proofs.Names.{sym, ap, ◌∙◌, arith, append_assoc, rules, length-drop, take-append_seam}
 use Rattle.syslog_pieces.proofs.Names.{drop-append_seam, length-append, take-append-drop, IsCharBoundary-at_seam}
-use Rattle.syslog_pieces.proofs.Names.{chars_past_char, chars-append, encodes-chars, encodes-IsAscii, chars-IsAscii}
+use Rattle.syslog_pieces.proofs.Names.{chars-append, encodes-chars, encodes-IsAscii, chars-IsAscii}
 use Rattle.syslog_pieces.proofs.Names.{encodes-append, IsUtf8-take, IsUtf8-from_ascii, chars, IsUtf8, IsAscii}
-use Rattle.syslog_pieces.proofs.Names.{IsCharBoundary, encode_utf8_all, digits_value, ParsesUnsigned, Bor, OkIff}
+use Rattle.syslog_pieces.proofs.Names.{IsCharBoundary, encode_utf8_all, digits_value, ParsesUnsigned, OkIff}
 use Rattle.syslog_pieces.proofs.Names.{is_ascii_digit, is_not_whitespace, Text, Front, NoFront, IsDeterministic, Each}
-use Rattle.syslog_pieces.proofs.Names.{Ends, exactly, SplitsRun, number, dash, colon, Names, word, EndsInColon, IsHost}
+use Rattle.syslog_pieces.proofs.Names.{Ends, SplitsRun, number, dash, colon, Names, word, EndsInColon, IsHost}
 use Rattle.syslog_pieces.proofs.Names.{host, is_tag_char, tag_word, run_same, each_behind, each_append}
 use Rattle.std.proofs.lemmas.List.{same_from_push}
 use Rattle.std.proofs.lemmas.Str.{IsCharBoundary-from_ascii}
 use Rattle.std.proofs.lemmas.Str.Parse.{IsNumeralModel, numerals_by_value, parse_digits}
-use Rattle.std.specs.Str.Pattern.{FindsCharPrefix, StripsPrefix}
-use Rattle.std.specs.Char.{encode_utf8}
 use Rattle.syslog_pieces.proofs.TextLemmas.Chars.{ascii_front, chars_nonempty, chars_empty, digits_ascii, digit_chars}
 use Rattle.syslog_pieces.proofs.TextLemmas.Chars.{one_ascii, text_is, text_is_not, nonempty_is}
 use Rattle.syslog_pieces.proofs.TextLemmas.Runs.{run_is}
@@ -125,20 +123,6 @@ module _ (bs xs ys : List ℕ) (s : SplitsRun is_ascii_digit bs xs ys) where
   number_stuck limit stuck p q v e (l, a, b, f, m) =
       let r : p ≡ xs = run_is is_ascii_digit bs xs ys s p q e a b ∙ canonical in
       stuck (rw r at l) (rw (f ∙ ap (digits_value 10) r) at m)
-
--- ---- one character
-pub no_literal : (c : ℕ) (bs : List ℕ) → IsUtf8 bs → ((more : List ℕ) → bs ≢ encode_utf8 c ++ more)
-    → NoFront (exactly (c ∷ [])) (chars bs)
-no_literal c bs u n p q v e h =
-    n (encode_utf8_all q) (sym (encodes-chars bs u) ∙ ap encode_utf8_all (e ∙ ap (λ (x : List ℕ). x ++ q) h))
-
--- what `strip_prefix` gives
-pub stripped : (c : ℕ) (bs : List ℕ) (r : Option (Bor (List ℕ))) → IsUtf8 bs
-    → MatchOption r ((more : List ℕ) → bs ≢ encode_utf8 c ++ more) (λ x. StripsPrefix (FindsCharPrefix c) bs x.now)
-    → MatchOption r (NoFront (exactly (c ∷ [])) (chars bs)) (λ x. Front (exactly (c ∷ [])) (chars bs) (chars x.now) tt)
-stripped c bs None u h = no_literal c bs u h
-stripped c bs (Some x) u (n, at, e, l) =
-    record { piece = c ∷ []; whole = chars_past_char bs x.now c u (rw e at.split); is = refl }
 
 -- ---- the two marks
 pub dash_ascii : IsAscii dash

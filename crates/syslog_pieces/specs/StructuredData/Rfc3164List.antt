@@ -1,7 +1,7 @@
 -- The list of RFC 3164, which holds elements with parameters alone, and before which texts a dash is such a list. (All
 -- of it is this project's own choice.)
 use Rattle.std.specs.Prelude.{◌≡◌, ◌<◌, ◌⊎◌, ⊤, true, List, [], ◌∷◌, length, Option, Some, None}
-use Rattle.syslog_pieces.specs.Pieces.Class.{Text, Class, Front, NoFront, optional}
+use Rattle.syslog_pieces.specs.Pieces.Class.{Text, Class, NoFront}
 use Rattle.syslog_pieces.specs.Pieces.Lists.{many}
 use Rattle.syslog_pieces.specs.StructuredData.{element}
 use Rattle.syslog_pieces.specs.StructuredData.Element.{ElementValue}
@@ -36,8 +36,3 @@ BeginsNoList rule text = ((q : Text) → text ≡ 45 ∷ q → IsDashBefore rule
 abbrev pub elements_or : Option (List ElementValue) → List ElementValue
 elements_or None = []
 elements_or (Some es) = es
-
--- whatever list begins the text, or none, has no elements
-abbrev pub ListsNoElements : DashRule → Text → Type 0
-ListsNoElements rule text = (q : Text) (es : Option (List ElementValue))
-    → Front (optional (rfc3164_list rule)) text q es → elements_or es ≡ []

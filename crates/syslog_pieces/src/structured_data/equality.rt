@@ -2,7 +2,7 @@
 //! parameters stand in one order, and at worst time in proportion to the product of the two lengths.
 ghost use Rattle.std.specs.Cmp.{on_equiv, on_per, partial_equiv_from_equiv};
 ghost use Rattle.std.specs.Ordering.{on};
-ghost use Rattle.std.specs.Prelude.{◌≡◌, ◌≤◌, count_by, length, map, nat_eq, take};
+ghost use Rattle.std.specs.Prelude.{◌≡◌, ◌≤◌, count_by, length, map, take};
 ghost use Rattle.syslog_pieces.specs.Pieces.View.{text_of};
 ghost use Rattle.syslog_pieces.specs.StructuredData.Element.{element_value, param_value};
 ghost use Rattle.syslog_pieces.specs.StructuredData.Equal.{element_eq, same_params, counts_agree, param_eq};
@@ -61,20 +61,11 @@ fn are_as_frequent<S: AsStr>(a: &[(S, S)], b: &[(S, S)]) -> bool
         (map (param_value (text_of S.text)) a.now) (map (param_value (text_of S.text)) b.now) }
 {
     for param in a {
-        if !is_as_frequent(param, a, b) {
+        if count_param(param, a) != count_param(param, b) {
             return false;
         }
     }
     true
-}
-
-// Whether a parameter stands equally often in both lists.
-fn is_as_frequent<S: AsStr>(param: &(S, S), a: &[(S, S)], b: &[(S, S)]) -> bool
-    ensures { result ≡ nat_eq
-        (count_by (λ q. param_eq (param_value (text_of S.text) param.now) (param_value (text_of S.text) q)) a.now)
-        (count_by (λ q. param_eq (param_value (text_of S.text) param.now) (param_value (text_of S.text) q)) b.now) }
-{
-    count_param(param, a) == count_param(param, b)
 }
 
 // How often a parameter stands in a list.

@@ -4,10 +4,9 @@
 //! and each of the items behind it would be scanned as far again. But whatever scan passes a `]` alive does so inside a
 //! value, so all such scans have one future. A number `dead` keeps it: no element closes from behind a `]` that leaves
 //! `dead` bytes or more. A scan that passes such a `]` stops there.
-ghost use Rattle.std.specs.Prelude.{◌≡◌, ◌<◌, ◌++◌, [], ◌∷◌, IsTrue, false};
-ghost use Rattle.std.specs.Prelude.{MatchOption, MatchResult, length, slice_index};
+ghost use Rattle.std.specs.Prelude.{◌≡◌, ◌++◌, [], ◌∷◌};
+ghost use Rattle.std.specs.Prelude.{MatchOption, MatchResult};
 ghost use Rattle.std.specs.Str.{chars, IsUtf8};
-ghost use Rattle.syslog_pieces.specs.Bodies.Scan.{EndsRun, SplitsRun};
 ghost use Rattle.syslog_pieces.specs.Text.CharClass.{has};
 ghost use Rattle.syslog_pieces.specs.Pieces.Class.{Front, NoFront, exactly, some_run, texted};
 ghost use Rattle.syslog_pieces.specs.Bodies.Closing.{start as start_class, opening as opening_class};
@@ -18,7 +17,7 @@ ghost use Rattle.syslog_pieces.specs.StructuredData.Rfc3164List.{full_element};
 ghost use Rattle.syslog_pieces.specs.StructuredData.{bracketed as bracketed_class, IsValueUnit};
 ghost use Rattle.syslog_pieces.specs.Pieces.View.{shown, Reads, Recognises};
 
-use crate::text::{CharClass, blanks, first, literal, run_end, split_run};
+use crate::text::{CharClass, blanks, first, literal, split_run};
 
 // The nonempty run of the class at the front, and the text behind it.
 #[tactic(auto, using(crate::proofs::TextLemmas::Chars::chars_nonempty, crate::proofs::TextLemmas::Chars::nonempty_is))]
@@ -70,41 +69,6 @@ fn unit(text: &str) -> Option<(char, &str)>
     }
 }
 
-// Whether an escape stands at the front.
-#[inline(always)]
-fn begins_escape(bytes: &[u8]) -> bool
-    ensures { IsTrue result → (0 < length bytes.now) × (slice_index bytes.now 0 ≡ 92) }
-{
-    match bytes {
-        [first, ..] => *first == b'\\',
-        [] => false,
-    }
-}
-
-// Where the run of characters of a class that is without backslashes ends. Behind an escape there often stands another
-// one, for which sixteen bytes need not be looked at.
-#[inline(always)]
-fn plain_end(text: &str, class: CharClass) -> usize
-    requires { has class 92 ≡ false }
-    ensures { EndsRun (has class) text.now result }
-{
-    if begins_escape(text.as_bytes()) {
-        0
-    } else {
-        run_end(text, class)
-    }
-}
-
-// That run, and the text behind it.
-#[tactic(auto, using(crate::proofs::TextLemmas::Runs::split_at_end))]
-#[inline(always)]
-fn split_plain(text: &str, class: CharClass) -> (&str, &str)
-    requires { has class 92 ≡ false }
-    ensures { SplitsRun (has class) text.now result.0.now result.1.now }
-{
-    text.split_at(plain_end(text, class))
-}
-
 // The text behind the value at the front and its closing quote.
 #[inline(always)]
 pub(super) fn after_value(text: &str) -> Option<&str>
@@ -112,7 +76,7 @@ pub(super) fn after_value(text: &str) -> Option<&str>
 {
     let mut rest = text;
     'units: loop {
-        let (_, after) = split_plain(rest, CharClass::Unescaped);
+        let (_, after) = split_run(rest, CharClass::Unescaped);
         if let Some(behind) = literal(after, '"') {
             return Some(behind);
         }
@@ -131,7 +95,7 @@ pub(super) fn live_value(text: &str, dead: usize) -> Result<&str, usize>
 {
     let mut rest = text;
     'units: while rest.len() > dead {
-        let (_, after) = split_plain(rest, CharClass::Inert);
+        let (_, after) = split_run(rest, CharClass::Inert);
         if let Some(behind) = literal(after, '"') {
             return Ok(behind);
         }

@@ -1,5 +1,4 @@
-//! Runs of ASCII bytes of a class: sixteen at a time while they last, then one by one. The first of a run of digits or
-//! blanks are looked at one by one before that.
+//! Runs of ASCII bytes of a class: sixteen at a time while they last, then one by one.
 ghost use Rattle.std.specs.Prelude.{◌≡◌, ◌<◌, IsTrue, length, slice_index};
 ghost use Rattle.syslog_pieces.specs.Bodies.Scan.{IsRun, bit_of, byte_in};
 
@@ -27,19 +26,7 @@ static CLASSES: [u16; 256] = [
 fn bit(class: CharClass) -> u16
     ensures { result ≡ bit_of class }
 {
-    match class {
-        CharClass::Digit => 1,
-        CharClass::Blank => 2,
-        CharClass::Visible => 4,
-        CharClass::Id => 8,
-        CharClass::Name => 16,
-        CharClass::Unescaped => 32,
-        CharClass::Open => 64,
-        CharClass::Inert => 128,
-        CharClass::Bare => 256,
-        CharClass::Tag => 512,
-        CharClass::Label => 1024,
-    }
+    1 << class as u16
 }
 
 /// Whether the byte is ASCII and of the class.
@@ -50,49 +37,9 @@ pub(crate) fn is_in(b: u8, class: CharClass) -> bool
     CLASSES[b as usize] & bit(class) != 0
 }
 
-// Runs of digits and blanks are short: so many bytes are looked at one by one, before a load of sixteen is worth it.
-const SHORT: usize = 8;
-
-#[inline(always)]
-fn is_short(class: CharClass) -> bool {
-    matches!(class, CharClass::Digit | CharClass::Blank)
-}
-
 /// How many bytes at the front are ASCII and of the class.
 #[inline(always)]
 pub(crate) fn ascii_run(bytes: &[u8], class: CharClass) -> usize
-    ensures { IsRun (byte_in class) bytes.now result }
-{
-    if !is_short(class) {
-        return block_run(bytes, class);
-    }
-    let front = bytes.len().min(SHORT);
-    let mut end = 0;
-    'front: while end < front {
-        if !is_in(bytes[end], class) {
-            return end;
-        }
-        end += 1;
-    }
-    if front < SHORT {
-        end
-    } else {
-        long_run(bytes, class)
-    }
-}
-
-// The same of a run of digits or blanks that goes on behind the first bytes.
-#[cold]
-#[inline(never)]
-fn long_run(bytes: &[u8], class: CharClass) -> usize
-    ensures { IsRun (byte_in class) bytes.now result }
-{
-    block_run(bytes, class)
-}
-
-// By sixteen bytes while they last.
-#[inline(always)]
-fn block_run(bytes: &[u8], class: CharClass) -> usize
     ensures { IsRun (byte_in class) bytes.now result }
 {
     let mut end = 0;

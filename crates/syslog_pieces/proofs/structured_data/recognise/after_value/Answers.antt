@@ -3,16 +3,16 @@ use Rattle.syslog_pieces.proofs.StructuredDataLemmas.Closing.{unescaped_plain, p
 use Rattle.syslog_pieces.proofs.structured_data.recognise.after_value.Goals as goal
 
 pub returns-in-Some : goal.returns-in-Some
-returns-in-Some c = value_quoted unescaped_plain c.split_plain.ensures c.units.invariant.1 _ c.in-Some.ensures
+returns-in-Some c = value_quoted unescaped_plain c.split_run.ensures c.units.invariant.1 _ c.in-Some.ensures
 
 pub returns-in_err-more : goal.returns-in_err-more
 returns-in_err-more c =
-    let to_end = past_run unescaped_plain c.split_plain.ensures c.units.invariant.1 in
+    let to_end = past_run unescaped_plain c.split_run.ensures c.units.invariant.1 in
     let n = meets_none _ _ _ _ to_end c.in_err-more.ensures in search rules
 
 pub units-preserved : goal.units-preserved
 units-preserved c = (
   c.in_ok-more.ensures.0,
-  value_on unescaped_plain c.split_plain.ensures c.units.invariant.1 _ c.in_ok-more.ensures.1.1 _
+  value_on unescaped_plain c.split_run.ensures c.units.invariant.1 _ c.in_ok-more.ensures.1.1 _
       c.in_ok-more.ensures.1.2,
 )

@@ -4,18 +4,18 @@ use Rattle.syslog_pieces.proofs.StructuredDataLemmas.Closing.{value_missing, val
 use Rattle.syslog_pieces.proofs.structured_data.recognise.live_value.Goals as goal
 
 pub returns-in-Some : goal.returns-in-Some
-returns-in-Some c = value_quoted inert_plain c.split_plain.ensures c.units.invariant.1 _ c.in-Some.ensures
+returns-in-Some c = value_quoted inert_plain c.split_run.ensures c.units.invariant.1 _ c.in-Some.ensures
 
 pub returns-in_default-unit : goal.returns-in_default-unit
 returns-in_default-unit c =
-    value_missing _ _ (past_run inert_plain c.split_plain.ensures c.units.invariant.1) c.in_default-unit.ensures
+    value_missing _ _ (past_run inert_plain c.split_run.ensures c.units.invariant.1) c.in_default-unit.ensures
 
 pub returns-then-more-dead : goal.returns-then-more-dead
 returns-then-more-dead c =
     let u = c.in-Some-unit.ensures.1 in
     let e = byte_count_slice c.in-Some-unit.more.now c.in-Some-unit.ensures.0 in
     let reaches : c.args.dead ≤ byte_count (chars c.in-Some-unit.more.now) = omega (arith, e, c.if-more-dead.true) in (
-      value_dead inert_plain c.split_plain.ensures c.units.invariant.1 u.0 u.1 _ u.2
+      value_dead inert_plain c.split_run.ensures c.units.invariant.1 u.0 u.1 _ u.2
           (u.3 ∙ c.if-last-eq93.true) c.args.dead c.units.invariant.2 reaches,
       c.requires,
     )
@@ -24,8 +24,8 @@ pub units-preserved : goal.units-preserved
 units-preserved c =
     let u = c.in-Some-unit.ensures.1 in (
       c.in-Some-unit.ensures.0,
-      value_on inert_plain c.split_plain.ensures c.units.invariant.1 u.0 u.1 _ u.2,
-      dead_on inert_plain c.split_plain.ensures c.units.invariant.1 u.0 u.1 _ u.2 _ c.units.invariant.2,
+      value_on inert_plain c.split_run.ensures c.units.invariant.1 u.0 u.1 _ u.2,
+      dead_on inert_plain c.split_run.ensures c.units.invariant.1 u.0 u.1 _ u.2 _ c.units.invariant.2,
     )
 
 pub returns-in-Some-after_value : goal.returns-in-Some-after_value

@@ -1,4 +1,4 @@
-use Rattle.syslog_pieces.proofs.Names.{refl, ◌∙◌, ap, sym, [], ◌∷◌, ◌++◌, append_assoc, flat_map, Text, param_text}
+use Rattle.syslog_pieces.proofs.Names.{refl, ◌∙◌, ap, sym, [], ◌∷◌, ◌++◌, append_assoc, flat_map, param_text}
 use Rattle.syslog_pieces.proofs.Names.{encode_utf8_all, param_value, shown}
 use Rattle.std.proofs.lemmas.Grind.{put_two}
 use Rattle.std.proofs.lemmas.Iterator.Consumers.{YieldsList-end, YieldsList-from_first}

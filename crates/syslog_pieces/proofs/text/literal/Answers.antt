@@ -1,5 +1,5 @@
 use Rattle.syslog_pieces.proofs.TextLemmas.Looks.{one_cut, one_front, no_one_front}
-use Rattle.syslog_pieces.proofs.text.ascii_literal.Goals as goal
+use Rattle.syslog_pieces.proofs.text.literal.Goals as goal
 
 pub split_at-requires : goal.split_at-requires
 split_at-requires c =

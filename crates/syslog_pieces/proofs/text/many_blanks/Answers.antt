@@ -1,6 +1,0 @@
-use Rattle.syslog_pieces.proofs.text.many_blanks.Goals as goal
-use Rattle.syslog_pieces.proofs.TextLemmas.Runs.{no_some_run}
-use Rattle.syslog_pieces.proofs.TextLemmas.Chars.{empty_is}
-
-pub returns-then-is_empty : goal.returns-then-is_empty
-returns-then-is_empty c = no_some_run _ _ _ _ c.split_blanks.ensures (empty_is _ c.if-is_empty.ensures)
