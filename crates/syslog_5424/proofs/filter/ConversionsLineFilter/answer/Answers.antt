@@ -1,0 +1,10 @@
+use Rattle.std.proofs.Common.{refl, sym}
+use Rattle.std.proofs.lemmas.Str.{IsUtf8-string_bytes, encodes-chars}
+use Rattle.syslog_lines.specs.Output.{Written}
+use Rattle.syslog_5424.proofs.filter.ConversionsLineFilter.answer.Goals as goal
+
+pub returns-in_ok-push_line-in-Ok-clause-ok : goal.returns-in_ok-push_line-in-Ok-clause-ok
+returns-in_ok-push_line-in-Ok-clause-ok c =
+    let spelt = sym (encodes-chars _ (IsUtf8-string_bytes c.convert_line.new.text)) in
+    let added = rw c.as_bytes.ensures.value at c.in_ok-push_line-in-Ok.ensures.ok in
+    (Written _, (c.utf8.line, (_, c.in-Ok.ensures, spelt)), added, refl)

@@ -1,0 +1,111 @@
+//! The filter that writes each line as RFC 5424.
+ghost use Rattle.std.specs.Prelude.{◌≡◌, false, IfErr, IfOk, MatchResult};
+ghost use Rattle.std.specs.Str.{chars};
+ghost use Rattle.jiff.specs.Words.{IsYear};
+ghost use Rattle.syslog_loose.specs.Reading.{IsUnreadable};
+ghost use Rattle.syslog_loose.specs.Reckoning.{reckoned_year};
+ghost use Rattle.syslog_loose.specs.declared.fault.ParseFault.TheVariants.{Invalid};
+ghost use Rattle.syslog_loose.specs.declared.variant.Variant.TheVariants.{Either};
+ghost use Rattle.syslog_lines.specs.Pump.{EndsEarly, FailedAs};
+ghost use Rattle.syslog_strict.specs.Call.{IsConvertedText};
+ghost use Rattle.syslog_strict.specs.Pushing.{text_in};
+ghost use Rattle.syslog_5424.specs.Conversions.{ConvertsAll, IsDated, conversions};
+
+use crate::options::Options;
+use std::alloc::{AllocError, Global};
+use std::io::{Read, Write};
+use syslog_lines::pump::pump;
+use syslog_lines::{LineFilter, RunFault, Summary, Watched, push_line};
+use syslog_loose::{IncompleteDate, ParseFault, Variant, reckon_year};
+use syslog_strict::to_rfc5424_into;
+
+/// Reads lines to the end of the input, and writes each that parses as RFC 5424, read by the options. A line that does
+/// not parse, or is no UTF-8, is left out and counted as refused.
+///
+/// Each line written is in the grammar of RFC 5424, and whoever reads it reads the converted message. The output of each
+/// block of input is written before more is read, and the writer is flushed at the end. Nothing is tried again. After
+/// `RunFault::Read` the output of each complete line that was read was written. After `RunFault::Memory` so it was, where
+/// the memory was wanted before anything was read or for more of a line that takes a whole block; or an allocation for a
+/// line failed, and the output of each line before it was written. After `RunFault::Write` a beginning of the output was
+/// written. It takes memory for a block of input, its output, and the longest line.
+pub fn write_converted<R: Read, W: Write>(
+    alloc: Global,
+    reader: &mut Watched<R>,
+    writer: &mut Watched<W>,
+    options: Options,
+) -> Result<Summary, RunFault>
+    requires reader { reader.old.failed ≡ false }
+    requires writer { writer.old.failed ≡ false }
+    ensures ok { IfOk result (λ summary. ConvertsAll options (R.remaining reader.old.inner)
+        (R.remaining reader.new.inner)
+        (W.contents writer.old.inner) (W.contents writer.new.inner) summary) }
+    ensures err { IfErr result (λ fault. EndsEarly (conversions options) (R.remaining reader.old.inner)
+        (R.remaining reader.new.inner)
+        (W.contents writer.old.inner) (W.contents writer.new.inner) fault) }
+    ensures failed { FailedAs result reader.new.failed writer.new.failed }
+{
+    let tally = pump(alloc, &Conversions { options }, reader, writer)?;
+    Ok(Summary {
+        lines: tally.lines(),
+        refused: tally.passed_over,
+    })
+}
+
+/// Writes each line as RFC 5424, read by these options.
+#[derive(Drop)]
+struct Conversions {
+    options: Options,
+}
+
+impl Conversions {
+    // Writes the conversion of a line into `text`.
+    #[inline(always)]
+    fn convert_line(&self, alloc: Global, line: &str, text: &mut String) -> Result<(), ParseFault>
+        ensures { MatchResult result
+            (λ _. IsDated self.now.options (chars line.now) (λ dating.
+            IsConvertedText Either dating (chars line.now) (text_in text.new)))
+            (λ fault. fault ≡ Invalid → IsDated self.now.options (chars line.now) (λ dating.
+            IsUnreadable Either dating (chars line.now))) }
+    {
+        let year = self.options.year;
+        let month = self.options.month;
+        let get_year = move |date: IncompleteDate| -> i32
+            ensures { IsYear year → result ≡ reckoned_year year month date }
+        { reckon_year(year, month, date) };
+        to_rfc5424_into(
+            alloc,
+            text,
+            line,
+            get_year,
+            None,
+            Variant::Either,
+            &self.options.zone,
+        )
+    }
+}
+
+impl LineFilter for Conversions {
+    ghost answers = { λ filter. conversions filter.options };
+
+    #[inline(always)]
+    fn answer(
+        &self,
+        alloc: Global,
+        line: &str,
+        text: &mut String,
+        output: &mut Vec<u8>,
+    ) -> Result<bool, AllocError> {
+        match self.convert_line(alloc, line, text) {
+            Ok(()) => {
+                push_line(output, text.as_bytes())?;
+                Ok(true)
+            }
+            Err(ParseFault::Invalid) => Ok(false),
+            Err(ParseFault::Memory) => Err(AllocError),
+        }
+    }
+
+    fn answer_other(&self, _: Global, _: &[u8], _: &mut Vec<u8>) -> Result<bool, AllocError> {
+        Ok(false)
+    }
+}

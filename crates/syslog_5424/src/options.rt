@@ -1,0 +1,37 @@
+//! How lines are read.
+ghost use Rattle.std.specs.Prelude.{◌≡◌};
+ghost use Rattle.jiff.specs.Words.{IsYear, plain_zone};
+ghost use Rattle.syslog_loose.specs.Reckoning.{IsZoneAt};
+
+use syslog_lines::Dates;
+use syslog_loose::{TimeZone, zone_ahead};
+
+/// How lines are read.
+#[derive(Drop)]
+pub struct Options {
+    /// The year of dates that show none.
+    pub year: i32,
+    /// The month that it is now, if it is known: in January a date of December is of the year before.
+    pub month: Option<u32>,
+    /// The zone of dates that show none.
+    pub zone: TimeZone<'static>,
+    pub ghost year_in_range: { IsYear year },
+}
+
+impl Options {
+    /// The options that a program's words stand for.
+    pub fn new(dates: Dates) -> Options
+        ensures year { result.year ≡ dates.year }
+        ensures month { result.month ≡ dates.month }
+        ensures zone { IsZoneAt dates.offset (plain_zone result.zone) }
+    {
+        let Some(zone) = zone_ahead(dates.offset) else {
+            unreachable!()
+        };
+        Options {
+            year: dates.year,
+            month: dates.month,
+            zone,
+        }
+    }
+}

@@ -1,0 +1,30 @@
+//! What the program says of itself.
+
+/// How the program is called, in one line.
+pub const USAGE: &str =
+    "usage: syslog_5424 [--offset OFFSET] [--] YEAR[-MONTH], or --help, or --version\n";
+
+/// How the program is called, and what it does.
+pub const HELP: &str =
+    "usage: syslog_5424 [--offset OFFSET] [--] YEAR[-MONTH], or --help, or --version
+
+Reads lines of syslog from standard input, and writes each that parses to
+standard output as RFC 5424, by the letter of its grammar. What the grammar
+takes stays as it is; a character that it has no place for becomes `?`. A line
+that does not parse is left out.
+  YEAR             the year of dates that show none: one to four digits
+  YEAR-MONTH       the same, and the month that it is now, two digits: in
+                   January a date of December is of the year before
+  --offset OFFSET  the zone of dates that show none, +HH:MM or -HH:MM; it is
+                   UTC where this is left out
+  --               may come before YEAR
+  --help           this text
+  --version        the name and the version of this program
+
+How many lines were left out is written to standard error at the end.
+
+Status:
+  0  each line was written
+  1  some lines were left out
+  2  wrong arguments; or a read or a write failed, or memory ran out
+";
