@@ -203,17 +203,8 @@ impl<'a> LineVisitor<'a> for Itself {
         ensures { (result ≡ line.now) × KnowsForm line.now }
     {
         Line {
-            version: line.version,
-            priority: line.priority,
-            timestamp: line.timestamp,
-            hostname: line.hostname,
-            appname: line.appname,
-            process: line.process,
-            msgid: line.msgid,
-            list: line.list,
-            msg: line.msg,
             rest: line.rest,
-            is_printed: line.is_printed,
+            ..*line
         }
     }
 }
