@@ -1,11 +1,13 @@
 use Rattle.std.proofs.Common.{rules}
 use Rattle.syslog_lines.proofs.AnswerLemmas.{AddsAnswers-stopped, Answered-one, AnswersAll-end, AnswersBefore-here}
 use Rattle.syslog_lines.proofs.AnswerLemmas.{GoesOn-more, some_left}
-use Rattle.syslog_lines.proofs.answer.answer_text_lines.Goals as goal
+use Rattle.syslog_lines.proofs.answer.answer_lines.Goals as goal
 
 pub loop-rest-init : goal.loop-rest-init
-loop-rest-init g c =
-    record { text = c.utf8.lines; so_far = record { all = λ new is all. all; before = λ new before. before } }
+loop-rest-init g c = record {
+  text = search rules;
+  so_far = rw c.in-Ok.ensures.0 (record { all = λ new is all. all; before = λ new before. before });
+}
 
 pub returns-in_err-is_answered : goal.returns-in_err-is_answered
 returns-in_err-is_answered g c =

@@ -2,7 +2,7 @@ use Rattle.std.proofs.Common.{length}
 use denote.Shadow.{shadow}
 use denote.Text.{Utf8}
 use Rattle.syslog_lines.proofs.AnswerLemmas.{GoesOn}
-use Rattle.syslog_lines.proofs.answer.answer_text_lines.Given as goal
+use Rattle.syslog_lines.proofs.answer.answer_lines.Given as goal
 
 abbrev pub invariant-loop-rest : goal.invariant-loop-rest
 invariant-loop-rest g l = record {
