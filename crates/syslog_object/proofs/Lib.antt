@@ -1,0 +1,4 @@
+mod GatherLemmas
+mod EscapeLemmas
+mod ReadLemmas
+mod TextLemmas

@@ -1,0 +1,7 @@
+//! The JSON object of a parsed syslog line.
+#![tactic(auto)]
+
+mod escapes;
+mod field;
+mod gather;
+mod plain;
