@@ -1,5 +1,5 @@
 -- Texts with JSON's escapes, a piece after the other.
-use Rattle.std.proofs.Common.{◌≡◌, ℕ, zero, suc, ◌+◌, ◌<◌, ◌≤◌, ◌==◌, Bool, true, false, nat_eq, List, [], ◌∷◌, ◌++◌, length, take, drop, get_or, refl, sym, ap, ◌∙◌, arith, append_assoc, append-nil, get_or-take}
+use Rattle.std.proofs.Common.{◌≡◌, ℕ, suc, ◌<◌, ◌≤◌, ◌==◌, true, false, nat_eq, List, [], ◌∷◌, ◌++◌, length, take, refl, sym, ap, ◌∙◌, arith, append_assoc, append-nil, get_or-take}
 use Rattle.std.proofs.lemmas.Bool.{ne_eqb, or_parts, not-true}
 use Rattle.std.proofs.lemmas.Grind.{flat_map-append}
 use Rattle.std.proofs.lemmas.List.{length-take}
@@ -11,7 +11,7 @@ use Rattle.json.specs.Run.{is_plain, is_stop}
 use Rattle.json.specs.Written.{PlainBetween}
 use Rattle.json.proofs.Printed.Plain.{escape_on_plain}
 use Rattle.syslog_pieces.specs.StructuredData.Escapes.{pair_meaning}
-use Rattle.syslog_object.specs.Object.{unescaped, after_backslash}
+use Rattle.syslog_object.specs.Object.{unescaped}
 
 -- no byte needs an escape
 abbrev pub Plain : List ℕ → Type 0

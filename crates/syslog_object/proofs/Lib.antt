@@ -1,3 +1,4 @@
+mod ElementLemmas
 mod GatherLemmas
 mod EscapeLemmas
 mod ReadLemmas

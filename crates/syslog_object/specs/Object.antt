@@ -1,5 +1,5 @@
 -- The object of a line: this project's own choice.
-use Rattle.std.specs.Prelude.{◌≡◌, ℕ, nat_eq, if◌then◌else◌, true, List, [], ◌∷◌, ◌++◌, Option, Some, None, codes, map}
+use Rattle.std.specs.Prelude.{ℕ, nat_eq, if◌then◌else◌, true, List, [], ◌∷◌, ◌++◌, Option, Some, None, codes, map}
 use Rattle.std.specs.Prelude.{encode_utf8_all}
 use Rattle.std.specs.Option.{option_map}
 use Rattle.syslog_pieces.specs.Pieces.Class.{Text}

@@ -1,5 +1,3 @@
-use Rattle.std.proofs.Common.{◌≡◌, ◌++◌, ap, ◌∙◌, sym}
-use Rattle.json.specs.Print.{escape}
 use Rattle.syslog_object.proofs.EscapeLemmas.{run_written, byte_written, all_written, none_left}
 use Rattle.syslog_object.proofs.escapes.push_escaped.Goals as goal
 

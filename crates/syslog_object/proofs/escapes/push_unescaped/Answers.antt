@@ -1,4 +1,4 @@
-use Rattle.std.proofs.Common.{ap, rules}
+use Rattle.std.proofs.Common.{ap}
 use Rattle.syslog_object.specs.Object.{unescaped}
 use Rattle.syslog_object.proofs.EscapeLemmas.{value_run_written, value_byte_written, pair_written, value_all_written}
 use Rattle.syslog_object.proofs.EscapeLemmas.{none_left, lone_backslash, pair_begins, other_byte}
