@@ -1,5 +1,8 @@
 mod ElementLemmas
-mod GatherLemmas
 mod EscapeLemmas
+mod FieldLemmas
+mod FlatLemmas
+mod GatherLemmas
 mod ReadLemmas
 mod TextLemmas
+mod TextOfLemmas

@@ -78,7 +78,7 @@ abbrev pub object_of : List Field → Data
 object_of fields = object (members_of (present fields))
 
 -- the fields of a message; where it is given, the line as it came is the last
-abbrev pub fields_of : MessageValue → Option (List ℕ) → List Field
+abbrev pub fields_of : MessageValue → Option Text → List Field
 fields_of m raw =
     (codes "protocol", Some (string (protocol_text m.protocol)))
     ∷ (codes "version", version_json m.protocol)
@@ -93,11 +93,11 @@ fields_of m raw =
     ∷ (codes "msgid", option_map text_json m.msgid)
     ∷ (codes "structured_data", structured_json m.structured_data)
     ∷ (codes "message", Some (text_json m.msg))
-    ∷ (codes "raw", option_map string raw)
+    ∷ (codes "raw", option_map text_json raw)
     ∷ []
 
 -- the value of a message
-abbrev pub message_json : MessageValue → Option (List ℕ) → Data
+abbrev pub message_json : MessageValue → Option Text → Data
 message_json m raw = object_of (fields_of m raw)
 
 -- the value of a line that is no message

@@ -1,5 +1,5 @@
 -- The pieces of an object's text: what private clauses cite.
-use Rattle.std.specs.Prelude.{◌≡◌, ⊤, false, true, ℕ, List, [], ◌∷◌, ◌++◌, Option, Some, None, codes, encode_utf8_all}
+use Rattle.std.specs.Prelude.{◌≡◌, ◌<◌, ◌^◌, ⊤, false, true, ℕ, List, [], ◌∷◌, ◌++◌, Option, Some, None, codes, encode_utf8_all}
 use Rattle.std.specs.List.{AllByRecursion}
 use Rattle.std.specs.Str.{bytes_eq}
 use Rattle.std.specs.Option.{option_map}
@@ -8,11 +8,12 @@ use Rattle.syslog_pieces.specs.Pri.{facility_name, facility_number, severity_nam
 use Rattle.syslog_pieces.specs.declared.pri.SyslogFacility.{SyslogFacility}
 use Rattle.syslog_pieces.specs.declared.pri.SyslogSeverity.{SyslogSeverity}
 use Rattle.syslog_loose.specs.declared.message.Protocol.{Protocol}
+use Rattle.syslog_loose.specs.declared.message.Protocol.TheVariants.{RFC3164, RFC5424}
 use Rattle.json.specs.Print.{escape, quoted}
 use Rattle.serde_json.specs.Data.{Data, object}
 use Rattle.serde_json.specs.Written.{compact_text, members_text}
 use Rattle.syslog_object.specs.Gathered.{members_of}
-use Rattle.syslog_object.specs.Object.{number_json, protocol_text, text_json, version_json}
+use Rattle.syslog_object.specs.Object.{Field, present, number_json, protocol_text, text_json, version_json}
 
 -- a member after another one
 abbrev pub member_text : List ℕ × Data → List ℕ
@@ -62,3 +63,12 @@ members_after pairs = members_text true (members_of pairs)
 -- the object of members in this order
 abbrev pub object_text : List (List ℕ × Data) → List ℕ
 object_text pairs = compact_text (object (members_of pairs))
+
+-- the fields after the first one, and the brace
+abbrev pub rest_text : List Field → List ℕ
+rest_text fields = members_after (present fields)
+
+-- the version is a number of 64 bits
+abbrev pub IsSmallVersion : Protocol → Type 0
+IsSmallVersion RFC3164 = ⊤
+IsSmallVersion (RFC5424 version) = version < 2 ^ 64

@@ -8,7 +8,7 @@ ghost use Rattle.syslog_pieces.specs.ProcId.{procid_text, procid_value};
 ghost use Rattle.syslog_pieces.specs.Timestamp.{stamp_seen};
 ghost use Rattle.syslog_loose.specs.Line.{protocol_of};
 ghost use Rattle.syslog_object.specs.Object.{timestamp_json};
-ghost use Rattle.syslog_object.specs.Parts.{facility_fields, field_text, protocol_fields, severity_fields, text_field};
+ghost use Rattle.syslog_object.specs.Parts.{IsSmallVersion, facility_fields, field_text, protocol_fields, severity_fields, text_field};
 
 use crate::escapes::push_text;
 use std::alloc::AllocError;
@@ -18,7 +18,8 @@ use syslog_pieces::front::Ascii;
 /// Appends the brace, the protocol, and the version of RFC 5424.
 #[tactic(auto, unfolding(json::specs::Print::escape_byte))]
 pub(crate) fn push_protocol(out: &mut Vec<u8>, version: Option<u32>) -> Result<(), AllocError>
-    ensures { OnOk result (out.new.items ≡ out.old.items ++ protocol_fields (protocol_of version)) }
+    ensures text { OnOk result (out.new.items ≡ out.old.items ++ protocol_fields (protocol_of version)) }
+    ensures small { IsSmallVersion (protocol_of version) }
 {
     match version {
         None => out.extend_from_slice(b"{\"protocol\":\"RFC3164\""),

@@ -5,4 +5,7 @@ mod element;
 mod escapes;
 mod field;
 mod gather;
+mod object;
 mod plain;
+
+pub use object::{push_invalid, push_object, push_refused};
