@@ -1,116 +1,23 @@
--- Objects that find the same at each key are the same, so a line has one value.
-use Rattle.std.proofs.Common.{◌≡◌, ℕ, ℤ, List, [], ◌∷◌, inl, inr, Option, Some, Ordering, Less, Equal, Greater}
-use Rattle.std.proofs.Common.{is_eq, cond, true, nat_cmp, refl, sym, ap, subst, ◌∙◌}
-use Rattle.std.proofs.lemmas.Cmp.{nat_list_cmp_total}
-use Rattle.std.specs.Cmp.Lexicographic.{slice_cmp}
-use Rattle.std.specs.FinMap.Entries.{below_all, find, is_sorted, same_entries}
-use Rattle.std.specs.List.{AllZip}
-use Rattle.std.specs.List.Sorted.{IsStrictlySortedBy}
-use Rattle.std.specs.Ordering.{match_ordering}
+-- A line has one value.
+use Rattle.std.proofs.Common.{◌≡◌, ◌++◌, [], ◌∷◌, ℕ, ℤ, List, Bool, true, false, Option, Result, Ok, Err, OnOk, subst, inl, inr, refl, sym, ap, ◌∙◌}
 use Rattle.std.specs.Prelude.{IsUtf8}
 use Rattle.std.specs.Str.{chars}
-use Rattle.serde_json.specs.Data.{Data, Members, no_members, member, object}
-use Rattle.serde_json.specs.Find.{get_member}
+use Rattle.serde_json.specs.Data.{Data}
 use Rattle.syslog_pieces.specs.Pieces.Class.{Text}
-use Rattle.syslog_pieces.specs.StructuredData.Element.{ElementValue}
-use Rattle.syslog_pieces.proofs.StructuredDataLemmas.Units.{unescaped_one}
 use Rattle.syslog_loose.specs.Message.{MessageValue}
 use Rattle.syslog_loose.specs.Reading.{IsOnlyRead, in_utc}
 use Rattle.syslog_loose.specs.declared.variant.Variant.TheVariants.{Either}
-use Rattle.syslog_json.specs.Json.{Gathers, IsElementPair, IsMessageJson}
-use Rattle.syslog_json.specs.Json.{IsParamPair, IsStructuredJson, Pair, fields_of, text_json, with_fields}
-use Rattle.syslog_json.specs.Objects.{IsOnly, IsReadJson, IsRefusedJson}
-use Rattle.syslog_json.proofs.MemberLemmas.{Ascends, Below, tied_same}
+use Rattle.syslog_object.specs.Object.{message_json}
+use Rattle.syslog_object.specs.Written.{IsTextOf}
+use Rattle.syslog_lines.specs.Output.{answer_bytes, is_answered}
+use Rattle.syslog_json.specs.Objects.{IsOnly, IsReadJson, IsRefusedJson, answer_of, raw_text}
 
--- the members as a list, and back
-abbrev entries : Members → List Pair
-entries no_members = []
-entries (member k d ms) = (k, d) ∷ entries ms
-
-abbrev members_of : List Pair → Members
-members_of [] = no_members
-members_of (p ∷ pairs) = member p.0 p.1 (members_of pairs)
-
-members_of-entries : (ms : Members) → members_of (entries ms) ≡ ms
-members_of-entries no_members = refl
-members_of-entries (member k d ms) = ap (member k d) (members_of-entries ms)
-
--- a list of entries finds the same, and is in the same order
-picked : {A : Type 0} (o : Ordering) (a b : A) → match_ordering o a b a ≡ cond (is_eq o) b a
-picked Less a b = refl
-picked Equal a b = refl
-picked Greater a b = refl
-
-find-entries : (key : List ℕ) (ms : Members) → get_member key ms ≡ find (slice_cmp nat_cmp) key (entries ms)
-find-entries key no_members = refl
-find-entries key (member k d ms) = rw (find-entries key ms) (picked (slice_cmp nat_cmp key k) _ _)
-
-below-entries : (low : List ℕ) (ms : Members) → Below low ms → below_all (slice_cmp nat_cmp) low (entries ms) ≡ true
-below-entries low no_members below = refl
-below-entries low (member k d ms) below = rw (below.0) (below-entries low ms below.1)
-
-is_sorted-entries : (ms : Members) → Ascends ms → is_sorted (slice_cmp nat_cmp) (entries ms) ≡ true
-unfolding IsStrictlySortedBy
-is_sorted-entries no_members ascends = refl
-is_sorted-entries (member k d ms) ascends = rw (below-entries k ms ascends.0) (is_sorted-entries ms ascends.1)
-
-gathers_same : (pairs : List Pair) (ms ns : Members) → Gathers pairs ms → Gathers pairs ns → ms ≡ ns
-gathers_same pairs ms ns g h =
-    let same = same_entries (slice_cmp nat_cmp) nat_list_cmp_total tied_same (entries ms) (entries ns)
-    (rw (is_sorted-entries ms g.ascends) tt) (rw (is_sorted-entries ns h.ascends) tt)
-    (λ key. sym (find-entries key ms) ∙ g.each key ∙ sym (h.each key) ∙ find-entries key ns) in
-    sym (members_of-entries ms) ∙ ap members_of same ∙ members_of-entries ns
-
--- ---- one value of a message
-
--- where each item has one pair, the pairs of some items are the same
-pairs_same : {X : Type 0} (Is : X → Pair → Type 0) → ((x : X) (p q : Pair) → Is x p → Is x q → p ≡ q)
-    → (xs : List X) (ps qs : List Pair) → AllZip Is xs ps → AllZip Is xs qs → ps ≡ qs
-pairs_same Is one [] [] [] g h = refl
-pairs_same Is one (x ∷ xs) (p ∷ ps) (q ∷ qs) g h =
-    rw (one x p q g.0 h.0, pairs_same Is one xs ps qs g.1 h.1) refl
-pairs_same Is one xs ps qs g h = absurd (assumption (g, h))
-
--- and so are the objects that gather them
-object_same : {X : Type 0} (Is : X → Pair → Type 0) → ((x : X) (p q : Pair) → Is x p → Is x q → p ≡ q)
-    → (xs : List X) {ps qs : List Pair} {ms ns : Members} {value other : Data} → AllZip Is xs ps → AllZip Is xs qs
-    → Gathers ps ms → Gathers qs ns → value ≡ object ms → other ≡ object ns → value ≡ other
-object_same Is one xs {ps = ps} {qs = qs} {ms = ms} {ns = ns} named others gathered more whole same =
-    let pairs = pairs_same Is one xs ps qs named others in
-    whole ∙ ap object (gathers_same qs ms ns (rw pairs at gathered) more) ∙ sym same
-
-param_same : (param : Text × Text) (p q : Pair) → IsParamPair param p → IsParamPair param q → p ≡ q
-param_same param p q (name, (text, is, value)) (also, (other, same, found)) =
-    λ i. ((name ∙ sym also) i, (value ∙ ap text_json (unescaped_one param.1 text other is same) ∙ sym found) i)
-
-element_same : (element : ElementValue) (p q : Pair) → IsElementPair element p → IsElementPair element q → p ≡ q
-element_same element p q (id, g) (also, h) = λ i. (
-  (id ∙ sym also) i,
-  object_same IsParamPair param_same
-      element.params g.named h.named g.gathered h.gathered g.whole h.whole i,
-)
-
-structured_same : (elements : List ElementValue) (value other : Option Data) → IsStructuredJson elements value
-    → IsStructuredJson elements other → value ≡ other
-structured_same [] value other g h = g ∙ sym h
-structured_same (e ∷ es) (Some value) (Some other) g h = ap Some
-    (object_same IsElementPair element_same (e ∷ es) g.named h.named g.gathered h.gathered g.whole h.whole)
-structured_same (e ∷ es) value other g h = absurd (assumption (g, h))
-
-message_same : (m : MessageValue) (value other : Data) → IsMessageJson m value → IsMessageJson m other → value ≡ other
-message_same m value other (s, g, whole) (t, h, same) =
-    whole ∙ ap (λ (x : Option Data). object (with_fields (fields_of m x) no_members))
-    (structured_same m.structured_data s t g h) ∙ sym same
-
--- ---- one value of a line
-
-pub only_read : (year : ℤ) (line : List ℕ) (m : MessageValue) (value : Data) → IsUtf8 line
-    → IsOnlyRead Either (in_utc year) (chars line) m → IsMessageJson m value → IsOnly (IsReadJson year line) value
-only_read year line m value utf8 read json = (
-  (utf8, (m, read, json)),
-  λ other is.
-      message_same m other value (subst (λ (n : MessageValue). IsMessageJson n other)
-      (read.only is.1.0 is.1.1.read) is.1.2) json,
+pub only_read : (year : ℤ) (raw : Bool) (line : List ℕ) (m : MessageValue) → IsUtf8 line
+    → IsOnlyRead Either (in_utc year) (chars line) m
+    → IsOnly (IsReadJson year raw line) (message_json m (raw_text raw line))
+only_read year raw line m utf8 read = (
+  (utf8, (m, read, refl)),
+  λ other is. is.1.2 ∙ ap (λ (n : MessageValue). message_json n (raw_text raw line)) (read.only is.1.0 is.1.1.read),
 )
 
 other_refused : (year : ℤ) (line : List ℕ) (value other : Data) → IsRefusedJson year line value
@@ -123,3 +30,24 @@ other_refused year line value other (inr (u, e)) (inr (v, f)) = f ∙ sym e
 pub only_refused : (year : ℤ) (line : List ℕ) (value : Data) → IsRefusedJson year line value
     → IsOnly (IsRefusedJson year line) value
 only_refused year line value is = (is, λ other also. other_refused year line value other is also)
+
+-- what was written behind nothing is the text
+pub text_behind_nothing : (value : Data) (old bytes new : List ℕ) → old ≡ [] → new ≡ old ++ bytes → IsTextOf value bytes
+    → IsTextOf value new
+text_behind_nothing value old bytes new none added text = rw (added, none) text
+
+pub was_ok : {T E P : Type 0} (r : Result T E) (x : T) → r ≡ Ok x → OnOk r P → P
+was_ok (Ok y) x e h = h
+was_ok (Err y) x e h = absurd cc
+
+-- either answer's bytes, and what it counts as
+pub answered : (is_message : Bool) (bytes : List ℕ) → (answer_bytes (answer_of is_message bytes) ≡ bytes ++ 10 ∷ [])
+    × (is_message ≡ is_answered (answer_of is_message bytes))
+answered true bytes = (refl, refl)
+answered false bytes = (refl, refl)
+
+pub message_behind_nothing : (m : MessageValue) (raw told : Option Text) (old bytes new : List ℕ) → raw ≡ told
+    → old ≡ [] → new ≡ old ++ bytes → IsTextOf (message_json m raw) bytes → IsTextOf (message_json m told) new
+message_behind_nothing m raw told old bytes new same none added text =
+    text_behind_nothing (message_json m told) old bytes new none added
+    (subst (λ (o : Option Text). IsTextOf (message_json m o) bytes) same text)

@@ -1,66 +1,70 @@
 -- What is written for each line: this project's own choice.
-use Rattle.std.specs.Prelude.{◌≡◌, ◌≤◌, ◌⊎◌, ⊤, ℕ, ℤ, List, [], ◌∷◌, Option}
-use Rattle.std.specs.Prelude.{Some, codes, true, length, count_by, IsUtf8, All}
+use Rattle.std.specs.Prelude.{◌≡◌, ◌⊎◌, ⊤, ℕ, ℤ, List, ◌++◌, Bool, true, false, Option, Some, None}
+use Rattle.std.specs.Prelude.{length, count_by, IsUtf8}
+use Rattle.std.specs.Borrow.{Bor}
 use Rattle.std.specs.Str.{chars}
 use Rattle.std.specs.Str.Lossy.{utf8_lossy}
+use Rattle.syslog_pieces.specs.Pieces.Class.{Text}
+use Rattle.syslog_pieces.specs.Pieces.View.{seen}
+use Rattle.syslog_loose.specs.Line.{line_value}
 use Rattle.syslog_loose.specs.Message.{MessageValue}
 use Rattle.syslog_loose.specs.Reading.{IsOnlyRead, IsUnreadable, in_utc}
+use Rattle.syslog_loose.specs.declared.line.Line.{Line}
 use Rattle.syslog_loose.specs.declared.variant.Variant.TheVariants.{Either}
-use Rattle.serde_json.specs.Data.{Data, boolean, string, object, no_members}
-use Rattle.serde_json.specs.Read.{read}
-use Rattle.serde_json.specs.Written.{compact_text}
+use Rattle.serde_json.specs.Data.{Data}
 use Rattle.syslog_lines.specs.Count.{held_count}
 use Rattle.syslog_lines.specs.Output.{Answer, Filter, Written, Marked, Omitted, is_passed_over}
 use Rattle.syslog_lines.specs.Pump.{FiltersAll}
 use Rattle.syslog_lines.specs.declared.summary.Summary.{Summary}
-use Rattle.syslog_json.specs.Json.{IsMessageJson, with_fields}
+use Rattle.syslog_object.specs.Object.{invalid_json, message_json, refused_json}
+use Rattle.syslog_object.specs.Written.{IsTextOf}
 
--- the bytes are read as the value, are its text without a space between tokens, and have no control character
-pub record IsTextOf (value : Data) (bytes : List ℕ) : Type 0 where
-  pub read_back : read bytes ≡ Some value
-  pub compact : bytes ≡ compact_text value
-  pub printable : All (λ byte. 32 ≤ byte) bytes
-
--- the value of a line that has no reading
-abbrev pub refused_json : List ℕ → Data
-refused_json line =
-    object (with_fields ((codes "message", Some (string line)) ∷ (codes "refused", Some (boolean true)) ∷ [])
-    no_members)
-
--- the value of a line that is no UTF-8: what is none of it is replaced
-abbrev pub broken_json : List ℕ → Data
-broken_json line =
-    object (with_fields ((codes "invalid_utf8", Some (boolean true))
-    ∷ (codes "message", Some (string (utf8_lossy line))) ∷ (codes "refused", Some (boolean true)) ∷ []) no_members)
+-- the line as it came, where it is asked for
+abbrev pub raw_text : Bool → List ℕ → Option Text
+raw_text true line = Some (chars line)
+raw_text false line = None
 
 -- the value of the message as which the line is read in this year
-abbrev pub IsReadJson : ℤ → List ℕ → Data → Type 0
-IsReadJson year line value =
-    IsUtf8 line × ((m : MessageValue) × IsOnlyRead Either (in_utc year) (chars line) m × IsMessageJson m value)
+abbrev pub IsReadJson : ℤ → Bool → List ℕ → Data → Type 0
+IsReadJson year raw line value = IsUtf8 line × ((m : MessageValue) × IsOnlyRead Either (in_utc year) (chars line) m
+    × (value ≡ message_json m (raw_text raw line)))
 
--- the value of a line that is no message
+-- the value of a line that is no message; of one that is no UTF-8 with what is none replaced
 abbrev pub IsRefusedJson : ℤ → List ℕ → Data → Type 0
 IsRefusedJson year line value =
     (IsUtf8 line × IsUnreadable Either (in_utc year) (chars line) × (value ≡ refused_json line))
-    ⊎ ((¬ (IsUtf8 line)) × (value ≡ broken_json line))
+    ⊎ ((¬ (IsUtf8 line)) × (value ≡ invalid_json (utf8_lossy line)))
 
 -- the value is such, and there is no other
 abbrev pub IsOnly : (Data → Type 0) → Data → Type 0
 IsOnly Is value = Is value × ((other : Data) → Is other → other ≡ value)
 
 -- the answer to a line: the text of its only value; a line that is no message counts as passed over
-abbrev pub IsObject : ℤ → List ℕ → Answer → Type 0
-IsObject year line (Written bytes) = (value : Data) × IsOnly (IsReadJson year line) value × IsTextOf value bytes
-IsObject year line (Marked bytes) = (value : Data) × IsOnly (IsRefusedJson year line) value × IsTextOf value bytes
-IsObject year line Omitted = ⊥
+abbrev pub IsObject : ℤ → Bool → List ℕ → Answer → Type 0
+IsObject year raw line (Written bytes) =
+    (value : Data) × IsOnly (IsReadJson year raw line) value × IsTextOf value bytes
+IsObject year raw line (Marked bytes) =
+    (value : Data) × IsOnly (IsRefusedJson year line) value × IsTextOf value bytes
+IsObject year raw line Omitted = ⊥
 
 -- memory may be wanted for any line
-abbrev pub objects : ℤ → Filter
-objects year = record { Answers = IsObject year; Wants = λ line. ⊤ }
+abbrev pub objects : ℤ → Bool → Filter
+objects year raw = record { Answers = IsObject year raw; Wants = λ line. ⊤ }
 
 -- all was read, the text of each line's value was written, and the summary counts the lines and those that are no
 -- message
-abbrev pub WritesObjects : ℤ → Option (List ℕ) → Option (List ℕ) → Option (List ℕ) → Option (List ℕ) → Summary → Type 0
-WritesObjects year in_before in_after out_before out_after summary = (answers : List Answer)
-    × (all : FiltersAll (objects year) in_before in_after out_before out_after answers)
+abbrev pub WritesObjects : ℤ → Bool → Option (List ℕ) → Option (List ℕ) → Option (List ℕ) → Option (List ℕ) → Summary
+    → Type 0
+WritesObjects year raw in_before in_after out_before out_after summary = (answers : List Answer)
+    × (all : FiltersAll (objects year raw) in_before in_after out_before out_after answers)
     × (summary.lines ≡ held_count (length all.lines)) × (summary.refused ≡ held_count (count_by is_passed_over answers))
+
+-- the object of the line was written behind these bytes
+abbrev pub WritesObject : Line → Option (Bor (List ℕ)) → List ℕ → List ℕ → Type 0
+WritesObject line raw old new =
+    (bytes : List ℕ) × IsTextOf (message_json (line_value line) (seen raw)) bytes × (new ≡ old ++ bytes)
+
+-- the answer of an object that was written, as what the line counts
+abbrev pub answer_of : Bool → List ℕ → Answer
+answer_of true bytes = Written bytes
+answer_of false bytes = Marked bytes

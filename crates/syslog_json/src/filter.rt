@@ -1,26 +1,16 @@
 //! The filter that writes each line as JSON.
-ghost use Rattle.std.specs.Prelude.{◌≡◌, ◌≤◌, ◌++◌, [], ◌∷◌, ℕ, List, false, IfErr, IfOk, MatchOption, OnErr, OnOk};
-ghost use Rattle.std.specs.Str.{chars};
-ghost use Rattle.syslog_loose.specs.Message.{MessageValue};
-ghost use Rattle.syslog_loose.specs.Reading.{IsOnlyRead, IsUnreadable, in_utc};
-ghost use Rattle.syslog_loose.specs.declared.variant.Variant.TheVariants.{Either};
-ghost use Rattle.serde_json.specs.Data.{depth};
-ghost use Rattle.serde_json.specs.Read.{max_depth};
-ghost use Rattle.serde_json.specs.View.{view};
-ghost use Rattle.serde_json.specs.Written.{has_float};
+ghost use Rattle.std.specs.Prelude.{◌≡◌, [], false, IfErr, IfOk};
+ghost use Rattle.syslog_pieces.specs.Pieces.View.{seen};
 ghost use Rattle.syslog_lines.specs.Pump.{EndsEarly, FailedAs};
-ghost use Rattle.syslog_json.specs.Json.{IsMessageJson};
-ghost use Rattle.syslog_json.specs.Objects.{IsTextOf, WritesObjects, broken_json, objects, refused_json};
+ghost use Rattle.syslog_json.specs.Objects.{IsObject, WritesObjects, answer_of, objects, raw_text};
 
-use crate::message::message_object;
-use serde_json::{Map, Value, put};
 use std::alloc::{AllocError, Global};
 use std::io::{Read, Write};
+use std::mem::replace;
 use syslog_lines::pump::pump;
 use syslog_lines::{LineFilter, RunFault, Summary, Watched, push_line};
-use syslog_loose::{
-    IncompleteDate, ParseFault, TimeZone, Variant, parse_message_with_year_exact_tz,
-};
+use syslog_loose::{IncompleteDate, Line, LineVisitor, NoElements, TimeZone, Variant, visit_line};
+use syslog_object::{push_invalid, push_object, push_refused};
 
 /// Reads lines to the end of the input, and writes each as one JSON object on one line: that of its message, read in
 /// the given year, or one that has the line and `"refused": true`. No line is lost, and no byte below 32 stands in an
@@ -40,75 +30,86 @@ pub fn write_objects<R: Read, W: Write>(
 ) -> Result<Summary, RunFault>
     requires reader { reader.old.failed ≡ false }
     requires writer { writer.old.failed ≡ false }
-    ensures ok { IfOk result (λ summary. WritesObjects year (R.remaining reader.old.inner)
+    ensures ok { IfOk result (λ summary. WritesObjects year false (R.remaining reader.old.inner)
         (R.remaining reader.new.inner)
         (W.contents writer.old.inner) (W.contents writer.new.inner) summary) }
-    ensures err { IfErr result (λ fault. EndsEarly (objects year) (R.remaining reader.old.inner)
+    ensures err { IfErr result (λ fault. EndsEarly (objects year false) (R.remaining reader.old.inner)
         (R.remaining reader.new.inner)
         (W.contents writer.old.inner) (W.contents writer.new.inner) fault) }
     ensures failed { FailedAs result reader.new.failed writer.new.failed }
 {
-    let tally = pump(alloc, &Objects { year }, reader, writer)?;
+    let tally = pump(alloc, &Objects { year, raw: false }, reader, writer)?;
     Ok(Summary {
         lines: tally.lines(),
         refused: tally.passed_over,
     })
 }
 
-/// Writes the JSON of each line, read in this year.
+/// Writes the JSON of each line, read in this year; where `raw` is true, with the line as it came.
 #[derive(Drop)]
 struct Objects {
     year: i32,
+    raw: bool,
 }
 
 impl Objects {
-    // The object of the line's message, where it is one.
-    fn read_line(&self, alloc: Global, line: &str) -> Result<Option<Value>, AllocError>
-        ensures { IfOk result (λ found. MatchOption found
-            (IsUnreadable Either (in_utc self.now.year) (chars line.now))
-            (λ value. (m : MessageValue) × IsOnlyRead Either (in_utc self.now.year) (chars line.now) m
-            × IsMessageJson m (view value))) }
+    // Writes the object of the line, and tells whether it is a message.
+    #[inline(always)]
+    fn write_line<'a>(
+        &self,
+        line: &'a str,
+        writer: &mut ObjectWriter<'a>,
+    ) -> Result<bool, AllocError>
+        requires empty { writer.old.object.items ≡ [] }
+        requires raw { seen writer.old.raw ≡ raw_text self.now.raw line.now }
+        ensures { IfOk result (λ is_message.
+            IsObject self.now.year self.now.raw line.now (answer_of is_message writer.new.object.items)) }
     {
         let year = self.year;
         let answer_year = move |_: IncompleteDate| -> i32
             ensures { result ≡ year }
         { year };
-        match parse_message_with_year_exact_tz(
-            alloc,
+        match visit_line(
             line,
             answer_year,
             None,
             Variant::Either,
             &TimeZone::UTC,
+            writer,
         ) {
-            Ok(message) => Ok(Some(message_object(alloc, &message)?)),
-            Err(ParseFault::Invalid) => Ok(None),
-            Err(ParseFault::Memory) => Err(AllocError),
+            Some(written) => {
+                written?;
+                Ok(true)
+            }
+            None => {
+                push_refused(&mut writer.object, line)?;
+                Ok(false)
+            }
         }
     }
 }
 
 impl LineFilter for Objects {
-    ghost answers = { λ filter. objects filter.year };
+    ghost answers = { λ filter. objects filter.year filter.raw };
 
     fn answer(
         &self,
         alloc: Global,
         line: &str,
-        _: &mut String,
+        text: &mut String,
         output: &mut Vec<u8>,
     ) -> Result<bool, AllocError> {
-        match self.read_line(alloc, line)? {
-            Some(value) => {
-                push_value(alloc, output, &value)?;
-                Ok(true)
-            }
-            None => {
-                let value = refused_object(alloc, line)?;
-                push_value(alloc, output, &value)?;
-                Ok(false)
-            }
-        }
+        let mut object = replace(text, String::new(alloc)).into_bytes();
+        object.clear();
+        let raw = if self.raw { Some(line) } else { None };
+        let mut writer = ObjectWriter { alloc, object, raw };
+        let is_message = self.write_line(line, &mut writer)?;
+        let ObjectWriter { mut object, .. } = writer;
+        push_line(output, object.as_slice())?;
+        object.clear();
+        // An empty text is UTF-8.
+        *text = unsafe { String::from_utf8_unchecked(object) };
+        Ok(is_message)
     }
 
     fn answer_other(
@@ -117,47 +118,39 @@ impl LineFilter for Objects {
         line: &[u8],
         output: &mut Vec<u8>,
     ) -> Result<bool, AllocError> {
-        let value = broken_object(alloc, line)?;
-        push_value(alloc, output, &value)?;
+        let text = String::from_utf8_lossy(alloc, line)?;
+        let mut object = Vec::new(alloc);
+        push_invalid(&mut object, text.as_str())?;
+        push_line(output, object.as_slice())?;
         Ok(false)
     }
 }
 
-// Adds the text of a value and a line feed, or nothing where memory is refused.
-fn push_value(alloc: Global, output: &mut Vec<u8>, value: &Value) -> Result<(), AllocError>
-    requires whole { has_float (view value.now) ≡ false }
-    requires shallow { depth (view value.now) ≤ max_depth }
-    ensures ok { OnOk result ((bytes : List ℕ) × IsTextOf (view value.now) bytes
-        × (output.new.items ≡ output.old.items ++ (bytes ++ 10 ∷ []))) }
-    ensures err { OnErr result (output.new.items ≡ output.old.items) }
-{
-    let text = value.to_string(alloc)?;
-    push_line(output, text.as_bytes())
+/// Writes the object of a line behind what was written.
+#[derive(Drop)]
+struct ObjectWriter<'a> {
+    alloc: Global,
+    object: Vec<u8>,
+    raw: Option<&'a str>,
 }
 
-// The object of a line that is no message.
-fn refused_object(alloc: Global, line: &str) -> Result<Value, AllocError>
-    ensures { IfOk result (λ value. view value ≡ refused_json line.now) }
-{
-    let mut members = Map::new(alloc);
-    put(
-        &mut members,
-        alloc,
-        "message",
-        Value::try_from_str(alloc, line)?,
-    )?;
-    put(&mut members, alloc, "refused", Value::Bool(true))?;
-    Ok(Value::Object(members))
-}
+impl<'a> LineVisitor<'a> for ObjectWriter<'a> {
+    ghost use Rattle.std.specs.Prelude.{◌≡◌, ◌++◌, ⊤, OnOk};
+    ghost use Rattle.syslog_json.specs.Objects.{WritesObject};
 
-// The object of a line that is no UTF-8.
-fn broken_object(alloc: Global, line: &[u8]) -> Result<Value, AllocError>
-    ensures { IfOk result (λ value. view value ≡ broken_json line.now) }
-{
-    let mut members = Map::new(alloc);
-    let text = String::from_utf8_lossy(alloc, line)?;
-    put(&mut members, alloc, "invalid_utf8", Value::Bool(true))?;
-    put(&mut members, alloc, "message", Value::String(text))?;
-    put(&mut members, alloc, "refused", Value::Bool(true))?;
-    Ok(Value::Object(members))
+    type Elements = NoElements;
+
+    type Answer = Result<(), AllocError>;
+
+    ghost makes = { λ old line made new. OnOk made (WritesObject line old.raw old.object.items new.object.items) };
+
+    #[inline(always)]
+    fn elements(&self) -> NoElements {
+        NoElements
+    }
+
+    #[inline(always)]
+    fn line(&mut self, line: &Line<'a>, _: NoElements) -> Result<(), AllocError> {
+        push_object(self.alloc, &mut self.object, line, self.raw)
+    }
 }

@@ -7,10 +7,7 @@
 #![tactic(auto)]
 
 mod args;
-mod field;
 mod filter;
-mod gather;
-mod message;
 mod report;
 
 use args::{Task, arguments};
