@@ -1,4 +1,4 @@
-"""What tests/program and tests/json share: how a built program is run on some input, and what is seen of it.
+"""What tests/program, tests/json and tests/strict share: how a built program is run on some input, and what is seen of it.
 
 A case is a row of a table, and its streams are those of a shell's redirection. One that no redirection makes is a function
 that starts the program itself; those of pipes are here, for each way to call a program that a `Mode` describes.
