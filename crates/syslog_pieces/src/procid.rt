@@ -117,7 +117,7 @@ fn any_process(text: &str) -> ProcId<&str>
     }
 }
 
-/// Whether no sign and no zero stands before other characters: then it prints as what it names.
+/// Whether no sign and no zero is before other characters: then it is printed as what it names.
 #[inline(always)]
 pub fn is_bare_word(name: &str) -> bool
     ensures { IsTrue result → IsBareWord (chars name.now) }
@@ -125,7 +125,7 @@ pub fn is_bare_word(name: &str) -> bool
     !leads_with_mark(name.as_bytes())
 }
 
-// Whether a sign or a zero stands before a further byte.
+// Whether a sign or a zero is before a further byte.
 #[inline(always)]
 fn leads_with_mark(bytes: &[u8]) -> bool
     ensures { OnFalse result (LeadsBare bytes.now) }

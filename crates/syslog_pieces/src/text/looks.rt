@@ -26,7 +26,7 @@ pub(crate) fn begins_visibly(bytes: &[u8]) -> bool
     }
 }
 
-/// Whether a space begins the bytes, and behind it stands a byte that is no blank.
+/// Whether a space begins the bytes, and a byte that is no blank follows it.
 #[inline(always)]
 pub(crate) fn begins_with_gap(bytes: &[u8]) -> bool
     ensures { IsTrue result → spec.BeginsWithGap bytes.now }
