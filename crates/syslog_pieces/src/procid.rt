@@ -18,7 +18,6 @@ ghost use Rattle.syslog_pieces.specs.Pieces.View.{shown, text_of, ClonesKeepText
 use crate::as_str::{AsStr, is_same_text};
 use crate::text::canonical::is_canonical_word;
 use crate::text::few_digits;
-use crate::text::write_ascii::write_signed;
 use std::alloc::{AllocError, Global};
 use std::fmt;
 
@@ -36,7 +35,7 @@ impl<S: AsStr> fmt::Display for ProcId<S> {
 
     fn fmt<W: fmt::Write>(&self, f: &mut fmt::Formatter<W>) -> fmt::Result {
         match self {
-            ProcId::PID(number) => write_signed(f, number),
+            ProcId::PID(number) => write!(f, "{number}"),
             ProcId::Name(name) => {
                 let name = name.as_str();
                 f.write_str(name)

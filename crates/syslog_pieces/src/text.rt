@@ -22,7 +22,6 @@ pub mod verbatim;
 pub mod write_ascii;
 
 pub use fields::{host_field, tag_field};
-pub(crate) use looks::begins_with_letter;
 use looks::{begins_visibly, begins_with, begins_with_digit, begins_with_gap, ends_in_colon};
 pub(crate) use numerals::few_digits;
 use numerals::{number_of_digits, small_digits};

@@ -53,14 +53,3 @@ pub(crate) fn begins_with_digit(bytes: &[u8]) -> bool
 {
     matches!(bytes, [b'0'..=b'9', ..])
 }
-
-/// Whether a byte from `A` on begins the bytes, as each letter is.
-#[inline(always)]
-pub(crate) fn begins_with_letter(bytes: &[u8]) -> bool
-    ensures { OnFalse result (0 < length bytes.now → slice_index bytes.now 0 < 65) }
-{
-    match bytes {
-        [first, ..] => *first >= b'A',
-        [] => false,
-    }
-}
