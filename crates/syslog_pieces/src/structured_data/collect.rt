@@ -16,10 +16,29 @@ const NOTED: usize = 8;
 /// The first parameters of an element.
 #[derive(Drop)]
 pub struct FewParams<'a> {
-    pub(super) params: [(&'a str, &'a str); 8],
-    pub(super) count: usize,
+    params: [(&'a str, &'a str); 8],
+    count: usize,
     ghost within: { count ≤ 8 },
     ghost sized: { length params ≡ 8 },
+}
+
+impl<'a> FewParams<'a> {
+    ghost use Rattle.std.specs.Prelude.{IfSome};
+    ghost use Rattle.syslog_pieces.specs.StructuredData.Collected.{HasNoted};
+    ghost use Rattle.syslog_pieces.specs.StructuredData.Element.{param_value};
+    ghost use Rattle.syslog_pieces.specs.StructuredData.Visited.{element_seen};
+
+    /// Returns the parameters of the element, where all of them were noted.
+    #[inline(always)]
+    pub fn all_of(&self, element: &Element<'a>) -> Option<&[(&'a str, &'a str)]>
+        requires { HasNoted self.now (element_seen element.now).params }
+        ensures { IfSome result (λ ps. map (param_value (λ s. shown s)) ps.now ≡ (element_seen element.now).params) }
+    {
+        if self.count < element.params_len() {
+            return None;
+        }
+        Some(&self.params[..self.count])
+    }
 }
 
 impl<'a> ParamNotes<'a> for FewParams<'a> {
@@ -87,7 +106,7 @@ impl<'a> ElementVisitor<'a> for Collect<'a> {
 
     type Notes = FewParams<'a>;
 
-    ghost was_given = { λ collect es. HasCollected collect es };
+    ghost was_given = { λ first collect es. HasCollected collect es };
 
     #[inline(always)]
     fn element(&mut self, element: Element<'a>, notes: &FewParams<'a>) {
