@@ -4,6 +4,7 @@ mod callers;
 mod calls;
 mod checks;
 mod dash_change;
+mod lines;
 mod old_dash;
 mod pump;
 mod reading;

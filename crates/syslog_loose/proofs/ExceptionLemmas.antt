@@ -26,12 +26,15 @@ odd_told bs u (front, e) =
     (IsCharBoundary-at_seam bs front colon e (IsUtf8-from_ascii colon colon_ascii))) in
     false_is (λ h. h.1 (chars front, rw (e, chars-append front colon whole, chars-IsAscii colon colon_ascii) refl))
 
+-- bytes that do not end in a colon are of no text that does
+pub no_colon_end : (bs : List ℕ) → IsUtf8 bs → ((front : List ℕ) → bs ≢ front ++ colon) → EndsInColon (chars bs) → ⊥
+no_colon_end bs u n k = n (encode_utf8_all k.0)
+    (rw (← encodes-chars bs u, k.1, encodes-append, encodes-IsAscii colon colon_ascii) refl)
+
 pub no_odd_told : (bs : List ℕ) (b : Bool) → IsUtf8 bs → ((front : List ℕ) → bs ≢ front ++ colon)
     → MatchBool b (bs ≢ dash) (bs ≡ dash) → IsTrue b ↔ ((chars bs ≢ dash) × (EndsInColon (chars bs) → ⊥))
 no_odd_told bs true u n m =
-    let ends = λ (k : EndsInColon (chars bs)). n (encode_utf8_all k.0)
-    (rw (← encodes-chars bs u, k.1, encodes-append, encodes-IsAscii colon colon_ascii) refl) in
-    ((λ h. (λ e. m (dash_bytes bs u e), ends)), (λ k. refl))
+    ((λ h. (λ e. m (dash_bytes bs u e), no_colon_end bs u n)), (λ k. refl))
 no_odd_told bs false u n m = false_is (λ k. k.0 (ap chars m ∙ chars-IsAscii dash dash_ascii))
 
 -- ---- a name without a colon

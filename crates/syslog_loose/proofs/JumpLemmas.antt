@@ -5,7 +5,7 @@ use Rattle.syslog_loose.proofs.Names.{nil_from_length, Bor, chars, encode_utf8_a
 use Rattle.syslog_loose.proofs.Names.{encodes-append, encodes-chars, Text, Ends, Front, NoFront, exactly, some_run}
 use Rattle.syslog_loose.proofs.Names.{shown, is_blank, EndsInColon, name_text, colons, colons_before, past_colons}
 use Rattle.syslog_loose.proofs.Names.{CutsColons, EndsColons, IsDashed, PassesDashes, with_msg, MessageValue, tag_text}
-use Rattle.syslog_loose.proofs.Names.{priority_of, printed, IsRead, Variant, Dating, Reaches, ElementValue, Some}
+use Rattle.syslog_loose.proofs.Names.{priority_of, printed, IsRead, Variant, Dating, ElementValue, Some}
 use Rattle.syslog_loose.proofs.Names.{tail_text}
 use Rattle.std.proofs.Common.{zero-add, suc-add, add-zero, add-suc}
 use Rattle.std.specs.Prelude.{MatchOption}
@@ -19,7 +19,14 @@ use Rattle.syslog_pieces.proofs.TextLemmas.Chars.{chars_empty}
 use Rattle.syslog_pieces.proofs.PieceLemmas.Lists.{begins}
 use Rattle.syslog_loose.proofs.PriorityLemmas.{priority_small}
 use Rattle.syslog_loose.proofs.SettlingLemmas.Falls.{priority_again, printed_same}
-use Rattle.syslog_loose.proofs.SettlingLemmas.Jumps.{colons_skipped}
+use Rattle.syslog_loose.proofs.ExceptionLemmas.{no_colon_end}
+use Rattle.syslog_loose.proofs.SettlingLemmas.Jumps.{colons_later}
+use Rattle.syslog_loose.specs.Passes.{EndsOnce, IsLater}
+use Rattle.syslog_pieces.specs.Pieces.Class.{run}
+use Rattle.syslog_pieces.specs.Text.{colon}
+use Rattle.syslog_pieces.proofs.PieceLemmas.Class.{front_same, run_det}
+use Rattle.std.proofs.Common.{◌≢◌}
+use Rattle.std.proofs.lemmas.List.{append_cancel_right}
 use Rattle.syslog_pieces.specs.StructuredData.Element.{joined_elements, elements_text}
 use Rattle.std.specs.Char.{encode_utf8}
 
@@ -162,20 +169,41 @@ pub some_next : (t : Text) (A : Type 0) (r : Option (Bor (List ℕ))) → is_som
 some_next t A None h m = absurd (let u : false ≡ true = h in cc)
 some_next t A (Some x) h m = (shown x, m)
 
--- ---- what was written
-module _ (variant : Variant) (dating : Dating) (input : Text) where
-  pub round_printed : (t : Text) (bytes : List ℕ) → IsUtf8 bytes → bytes ≡ encode_utf8_all t
-      → (n : ℕ) × Reaches variant dating input n t → (n : ℕ) × Reaches variant dating input n (chars bytes)
-  round_printed t bytes u w reaches = rw (← chars_from_encodes t bytes u (sym w)) reaches
+-- a text that ends in no colon, or in just one
+pub ends_once : (bs : List ℕ) → IsUtf8 bs → ((front : List ℕ) → bs ≢ front ++ colon) → EndsOnce (chars bs)
+ends_once bs u n front e ends = no_colon_end bs u n (front, e)
 
-  pub round_written : (m : MessageValue) (h : Text) (cut : ℕ) (bytes : List ℕ) → IsUtf8 bytes
-      → IsRead variant dating input m → m.protocol ≡ RFC3164 → EndsColons m h cut → 0 < cut
+pub ends_once_in : (bs short : List ℕ) → IsUtf8 bs → IsUtf8 short → bs ≡ short ++ colon
+    → ((front : List ℕ) → short ≢ front ++ colon) → EndsOnce (chars bs)
+ends_once_in bs short u v e n front f ends =
+    let same = append_cancel_right front (chars short) colon (sym f ∙ suffix_some bs short 1 u v e) in
+    no_colon_end short v n (subst EndsInColon same ends)
+
+-- dashes are followed by one text
+one_rest : {t p q : Text} → IsDashed t p → IsDashed t q → p ≡ q
+one_rest {p = p} {q = q} d e =
+    let whole : d.blanks ++ p ≡ e.blanks ++ q = (let f = d.whole in let g = e.whole in cc) in
+    (front_same (run is_blank) (run_det is_blank) (record { piece = d.blanks; whole = refl; is = (d.each, d.no_more) })
+    (record { piece = e.blanks; whole = whole; is = (e.each, e.no_more) })).0
+
+pub last_of_all : {t rest : Text} → IsDashed t rest → ((next : Text) → IsDashed rest next → ⊥) → (p q : Text)
+    → IsDashed t p → IsDashed p q → ⊥
+last_of_all d none p q e f = none q (subst (λ (x : Text). IsDashed x q) (one_rest e d) f)
+
+-- ---- what was written
+module _ (variant : Variant) (dating : Dating) (input : Text) (m : MessageValue) where
+  pub later_printed : (t : Text) (bytes : List ℕ) → IsUtf8 bytes → bytes ≡ encode_utf8_all t
+      → IsLater variant dating input m t → IsLater variant dating input m (chars bytes)
+  later_printed t bytes u w later = rw (← chars_from_encodes t bytes u (sym w)) later
+
+  pub later_written : (h : Text) (cut : ℕ) (bytes : List ℕ) → IsUtf8 bytes
+      → IsRead variant dating input m → m.protocol ≡ RFC3164 → EndsColons m h cut → 0 < cut → EndsOnce h
       → bytes ≡ encode_utf8_all (printed (past_colons m h (cut - 1)))
-      → (n : ℕ) × Reaches variant dating input n (chars bytes)
-  round_written m h cut bytes u r e k l w =
+      → IsLater variant dating input m (chars bytes)
+  later_written h cut bytes u r e k l once w =
       let same : cut ≡ suc (cut - 1) = omega (arith, l) in
-      round_printed (printed (past_colons m h (cut - 1))) bytes u w
-      (suc (cut - 1), colons_skipped variant dating input m r e k.timestamp h (cut - 1) (rw same at k))
+      later_printed (printed (past_colons m h (cut - 1))) bytes u w
+      (colons_later variant dating input m r e k.timestamp h (cut - 1) (rw same at k) once)
 
 -- what the front, which is printed with a colon as its message part, prints with what is written behind it
 front_more : (m : MessageValue) (t : Text) → printed_3164 (with_msg m (m.msg ++ t)) ≡ printed_3164 m ++ t

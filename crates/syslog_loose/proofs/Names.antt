@@ -45,5 +45,5 @@ pub use Rattle.syslog_loose.specs.Printed.{printed, priority_of, tag_text, times
 pub use Rattle.syslog_loose.specs.Reading.{IsRead, dash_rule, AsksYear, IsUnreadable}
 pub use Rattle.syslog_loose.specs.Rfc3164.{IsRead3164, Names3164, Resolves, body_row, rfc3164_row, names}
 pub use Rattle.syslog_loose.specs.Settling.{IsNext, Reaches, Weighs, names_weight, Costs, IsFirstSettled, IsRound}
-pub use Rattle.syslog_loose.specs.Settling.{ListWeighs, IsSettled, NoneSettled, ReachesFrom}
+pub use Rattle.syslog_loose.specs.Settling.{ListWeighs, IsSettled, NoneSettled}
 pub use Rattle.syslog_loose.specs.declared.variant.Variant.{Variant}

@@ -7,6 +7,7 @@ pub mod Light
 pub mod Names
 pub mod NoList
 pub mod Quiet
+pub mod Ranks
 pub mod Rounds
 pub mod Settles
 pub mod Weights

@@ -1,7 +1,7 @@
 -- What the pieces at the front of a text tell of its readings.
 use Rattle.std.proofs.Common.{◌≡◌, ◌≢◌, inl, inr, ℕ, ℤ, List, Option, Some, None, Err, false}
 use Rattle.std.proofs.Common.{true, refl, sym, ap}
-use Rattle.std.proofs.Common.{subst, ◌∙◌, ◌∷◌, ◌++◌, arith}
+use Rattle.std.proofs.Common.{subst, ◌∙◌, arith}
 use Rattle.std.specs.Borrow.{Bor}
 use Rattle.std.specs.Prelude.{◌↔◌, MatchOption, IsSome, IsSomeAnd}
 use Rattle.syslog_pieces.specs.Pieces.View.{shown, Reads}

@@ -7,6 +7,7 @@ pub mod Line
 pub mod Exceptions
 pub mod Formats
 pub mod Message
+pub mod Passes
 pub mod OneLine
 pub mod Printed
 pub mod ReadBack

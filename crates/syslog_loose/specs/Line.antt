@@ -1,5 +1,5 @@
 -- A parsed line, as the message that it means, and what is printed of it after the timestamp.
-use Rattle.std.specs.Prelude.{◌≡◌, ℕ, [], ◌∷◌, ◌++◌, Bool, IsTrue, Option, Some, None, IfSome}
+use Rattle.std.specs.Prelude.{◌≡◌, ℕ, ◌∷◌, ◌++◌, IsTrue, Option, Some, None, IfSome}
 use Rattle.std.specs.Option.{option_and_then, option_map}
 use Rattle.std.specs.Str.{IsUtf8}
 use Rattle.syslog_pieces.specs.Pieces.Class.{Text}

@@ -1,34 +1,26 @@
 -- Rounds: a text is read and printed, and what was printed is read and printed again, until it no longer changes. And
 -- the weight of a message of RFC 3164, which falls from round to round until then. (All of it is this project's own.)
-use Rattle.std.specs.Prelude.{◌≡◌, ◌⊎◌, ◌↔◌, ℕ, zero, suc, ◌+◌, ◌<◌, ◌≤◌, List, [], length, nat_eq}
-use Rattle.std.specs.Prelude.{if◌then◌else◌, ⊤, Bool, false, MatchBool, Option, Some, None, IfSome, Result, Ok, Err, MatchResult}
+use Rattle.std.specs.Prelude.{◌≡◌, ◌⊎◌, ℕ, zero, suc, ◌+◌, ◌<◌, ◌≤◌, List, [], length, nat_eq}
+use Rattle.std.specs.Prelude.{if◌then◌else◌, Option, IfSome, Result, Ok, Err, MatchResult}
 use Rattle.std.specs.Prelude.{String, string_bytes}
 use Rattle.std.specs.Global.{Global}
 use Rattle.std.specs.List.{list_any, suffix_len}
 use Rattle.std.specs.Option.{option_map_or}
 use Rattle.std.specs.Str.{chars, bytes_eq}
-use Rattle.std.specs.declared.alloc.AllocError.{AllocError}
 use Rattle.syslog_pieces.specs.Pieces.Class.{Text}
 use Rattle.syslog_pieces.specs.StructuredData.Element.{ElementValue}
 use Rattle.syslog_pieces.specs.StructuredData.Rfc3164List.{BeginsNoList}
 use Rattle.syslog_pieces.specs.Text.{dash}
 use Rattle.syslog_pieces.specs.Timestamp.Canonical.{IsCanonicalStamp}
-use Rattle.syslog_pieces.specs.Timestamp.Rfc3164.{ShowsMonthDate}
 use Rattle.syslog_pieces.specs.Timestamp.Zone.{Dating}
 use Rattle.syslog_pieces.specs.declared.procid.ProcId.{ProcId}
 use Rattle.syslog_pieces.specs.declared.procid.ProcId.TheVariants.{PID, Name}
 use Rattle.syslog_pieces.specs.declared.structured_data.rfc3164_list.DashRule.{DashRule}
-use Rattle.syslog_pieces.specs.declared.timestamp.month_date.MonthDate.{MonthDate}
-use Rattle.syslog_loose.specs.Exceptions.{HasNoException}
-use Rattle.syslog_loose.specs.Line.{line_value}
 use Rattle.syslog_loose.specs.Message.{MessageValue}
 use Rattle.syslog_loose.specs.Printed.{printed}
-use Rattle.syslog_loose.specs.Reading.{dash_rule, IsRead, IsUnreadable}
+use Rattle.syslog_loose.specs.Reading.{IsRead, IsUnreadable}
 use Rattle.syslog_loose.specs.declared.fault.ParseFault.{ParseFault}
 use Rattle.syslog_loose.specs.declared.fault.ParseFault.TheVariants.{Invalid, Memory}
-use Rattle.syslog_loose.specs.declared.line.Line.{Line}
-use Rattle.syslog_loose.specs.declared.message.Protocol.{Protocol}
-use Rattle.syslog_loose.specs.declared.message.Protocol.TheVariants.{RFC3164, RFC5424}
 use Rattle.syslog_loose.specs.declared.variant.Variant.{Variant}
 
 -- ---- rounds
@@ -93,49 +85,6 @@ Settles variant dating text result = MatchResult result (λ u. SettlesAs variant
 abbrev pub answer_in : {A : Type 0} → Result A ParseFault → String Global → Result (String Global) ParseFault
 answer_in (Ok _) text = Ok text
 answer_in (Err fault) text = Err fault
-
--- ---- words of the bodies
-
--- a message that was read so prints as a settled text
-abbrev pub IsAtRest : Protocol → MessageValue → Type 0
-IsAtRest RFC3164 m = HasNoException dash_rule m
-IsAtRest (RFC5424 version) m = ⊤
-
--- Where this is true, this is the next round of the text, and settled. Else the text is not settled, and this is one of
--- its rounds, before which none is.
-abbrev pub IsToldRound : Variant → Dating → Text → Text → Bool → Type 0
-IsToldRound variant dating text later settled = MatchBool settled
-    (IsNext variant dating text later × IsSettled variant dating later)
-    ((IsSettled variant dating text → ⊥) × (n : ℕ) × Reaches variant dating text n later)
-
--- a round as it is told, or a fault that tells whether the text is unreadable
-abbrev pub AnswersRound : Variant → Dating → Text → List ℕ → Result Bool ParseFault → Type 0
-AnswersRound variant dating text bytes result = MatchResult result
-    (λ settled. IsToldRound variant dating text (chars bytes) settled)
-    (λ fault. (fault ≡ Invalid) ↔ IsUnreadable variant dating text)
-
--- What is written of a line: a round as it is told, of each text that is read as the line.
-abbrev pub WritesRound : Line → Result Bool AllocError → List ℕ → Type 0
-WritesRound line made bytes = MatchResult made
-    (λ settled. (variant : Variant) (dating : Dating) (whole : Text) → IsRead variant dating whole (line_value line)
-    → IsToldRound variant dating whole (chars bytes) settled)
-    (λ _. ⊤)
-
--- what is answered where this was written of the line of a text, or where there is none
-abbrev pub round_answer : Option (Result Bool AllocError) → Result Bool ParseFault
-round_answer None = Err Invalid
-round_answer (Some (Ok settled)) = Ok settled
-round_answer (Some (Err _)) = Err Memory
-
--- the text shows no month date
-abbrev pub ShowsNoDate : Text → Type 0
-ShowsNoDate text = (date : MonthDate) → ShowsMonthDate text date → ⊥
-
--- the text is a round behind so many that are not settled, or more
-pub record ReachesFrom (variant : Variant) (dating : Dating) (t : Text) (least : ℕ) (u : Text) : Type 0 where
-  pub before : ℕ
-  pub far : least ≤ before
-  pub reaches : Reaches variant dating t before u
 
 -- ---- the weight of a message of RFC 3164: a sum of one term for each exception
 

@@ -1,12 +1,11 @@
 -- What the reader of the header holds, as names over texts and as the meanings of its pieces.
-use Rattle.std.specs.Prelude.{◌≡◌, ◌≢◌, ℕ, [], ◌∷◌, ◌++◌, IsTrue, IfSome, Option, Some}
+use Rattle.std.specs.Prelude.{◌≡◌, ◌≢◌, ℕ, ◌∷◌, ◌++◌, IsTrue, IfSome, Option}
 use Rattle.std.specs.Option.{option_map}
 use Rattle.syslog_pieces.specs.ProcId.{named_process}
 use Rattle.syslog_pieces.specs.Pieces.Class.{Text, Ends, Front, Row}
 use Rattle.syslog_pieces.specs.Pieces.View.{seen, shown}
 use Rattle.syslog_pieces.specs.Timestamp.{stamp_seen}
 use Rattle.syslog_pieces.specs.Timestamp.Zone.{Dating}
-use Rattle.syslog_pieces.specs.declared.procid.ProcId.{ProcId}
 use Rattle.syslog_pieces.specs.declared.timestamp.OffsetTimestamp.{OffsetTimestamp}
 use Rattle.syslog_pieces.specs.declared.timestamp.clock.ClockStamp.{ClockStamp}
 use Rattle.syslog_pieces.specs.Text.{EndsInColon, dash, is_blank}

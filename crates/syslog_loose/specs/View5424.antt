@@ -1,5 +1,5 @@
 -- What the reader of the header holds, as the meanings of its pieces, and how it appears in the text.
-use Rattle.std.specs.Prelude.{◌≡◌, ℕ, [], ◌∷◌, ◌++◌, Option, Some, MatchOption}
+use Rattle.std.specs.Prelude.{◌≡◌, ℕ, ◌∷◌, ◌++◌, Option, Some, MatchOption}
 use Rattle.std.specs.Borrow.{Bor}
 use Rattle.std.specs.Prelude.{List}
 use Rattle.std.specs.Option.{option_map}

@@ -3,20 +3,22 @@
 //! A host of RFC 3164 that ends in colons is read with one fewer each time, and the colon stands in the message part
 //! after it; of a message part of dashes each reading takes one for an empty list. Each of these rounds is known from
 //! the one before it, so the last of them is written at once.
-ghost use Rattle.std.specs.Prelude.{◌≡◌, ◌+◌, ◌*◌, ◌-◌, ◌++◌, ◌<◌, ◌≤◌, ℕ, [], IfSome};
+ghost use Rattle.std.specs.Prelude.{◌≡◌, ◌+◌, ◌*◌, ◌-◌, ◌++◌, ◌<◌, ◌≤◌, ◌∷◌, ℕ, [], IfSome};
 ghost use Rattle.std.specs.Prelude.{MatchOption, None, OnOk, Some, length, string_bytes};
 ghost use Rattle.std.specs.Fmt.{WritesOnOk};
 ghost use Rattle.std.specs.Str.{chars, encode_utf8_all};
 ghost use Rattle.syslog_pieces.specs.Pieces.Class.{Text};
 ghost use Rattle.syslog_pieces.specs.Pieces.View.{shown};
 ghost use Rattle.syslog_pieces.specs.StructuredData.Visited.{list_elements};
+ghost use Rattle.syslog_pieces.specs.Text.{EndsInColon};
+ghost use Rattle.syslog_pieces.specs.Timestamp.Canonical.{IsCanonicalStamp};
 ghost use Rattle.syslog_pieces.specs.Timestamp.Zone.{Dating};
 ghost use Rattle.syslog_loose.specs.Jumps.{CutsColons, EndsColons, IsDashed, PassesDashes, colons, colons_before};
 ghost use Rattle.syslog_loose.specs.Jumps.{message_end, past_colons, tail_text, with_msg};
 ghost use Rattle.syslog_loose.specs.Line.{line_value};
 ghost use Rattle.syslog_loose.specs.Printed.{printed};
+ghost use Rattle.syslog_loose.specs.Passes.{EndsOnce, IsLater};
 ghost use Rattle.syslog_loose.specs.Reading.{IsRead};
-ghost use Rattle.syslog_loose.specs.Settling.{Reaches};
 ghost use Rattle.syslog_loose.specs.declared.variant.Variant.{Variant};
 
 use crate::line::{Line, has_quiet_names, print_line, write_list};
@@ -39,7 +41,8 @@ const SPACED_DASHES: &str = "- - - - - - - - - - - - - - - - ";
 /// settled.
 pub(crate) fn write_round(text: &mut String, line: &Line<'_>) -> Result<(), AllocError>
     ensures { (variant : Variant) (dating : Dating) (input : Text) → IsRead variant dating input (line_value line.now)
-        → line.now.version ≡ None → OnOk result ((n : ℕ) × Reaches variant dating input n (chars (string_bytes text.new))) }
+        → line.now.version ≡ None
+        → OnOk result (IsLater variant dating input (line_value line.now) (chars (string_bytes text.new))) }
 {
     match last_colons(line) {
         Some((host, cut)) => write_past_colons(text, line, host, cut),
@@ -49,8 +52,10 @@ pub(crate) fn write_round(text: &mut String, line: &Line<'_>) -> Result<(), Allo
 
 // Writes the line without the dashes that its next readings take.
 fn write_past_dashes(text: &mut String, line: &Line<'_>) -> Result<(), AllocError>
+    requires { IfSome (line_value line.now).timestamp IsCanonicalStamp → IfSome (line_value line.now).hostname EndsOnce }
     ensures { (variant : Variant) (dating : Dating) (input : Text) → IsRead variant dating input (line_value line.now)
-        → line.now.version ≡ None → OnOk result ((n : ℕ) × Reaches variant dating input n (chars (string_bytes text.new))) }
+        → line.now.version ≡ None
+        → OnOk result (IsLater variant dating input (line_value line.now) (chars (string_bytes text.new))) }
 {
     let later = Line {
         version: line.version,
@@ -70,19 +75,24 @@ fn write_past_dashes(text: &mut String, line: &Line<'_>) -> Result<(), AllocErro
 
 // The host without all but one of the colons that it ends in, where that cuts any, and how many.
 fn last_colons<'a>(line: &Line<'a>) -> Option<(&'a str, usize)>
-    ensures { IfSome result (λ x. EndsColons (line_value line.now) (shown x.0) x.1 × (0 < x.1)) }
+    ensures { MatchOption result
+        (IfSome (line_value line.now).timestamp IsCanonicalStamp → IfSome (line_value line.now).hostname EndsOnce)
+        (λ x. EndsColons (line_value line.now) (shown x.0) x.1 × (0 < x.1) × EndsOnce (shown x.0)) }
 {
     if !is_canonical_clock(line.timestamp) {
         return None;
     }
-    let name = line.hostname?;
+    let Some(name) = line.hostname else {
+        return None;
+    };
     let (host, cut) = cut_colons(name);
     if cut == 0 { None } else { Some((host, cut)) }
 }
 
 // The name without all but one of the colons that it ends in, and how many were cut: by thirty-two, then one by one.
 fn cut_colons(name: &str) -> (&str, usize)
-    ensures { CutsColons name.now result.0.now result.1 }
+    ensures cuts { CutsColons name.now result.0.now result.1 }
+    ensures once { EndsOnce (chars result.0.now) }
 {
     let (shorter, many) = cut_runs(name, COLONS);
     let (host, few) = cut_runs(shorter, ":");
@@ -95,18 +105,31 @@ fn cut_runs<'a>(name: &'a str, run: &str) -> (&'a str, usize)
     requires some { 0 < length run.now }
     requires colons { run.now ≡ colons (length run.now) }
     ensures cuts { CutsColons name.now result.0.now result.1 }
+    ensures once { run.now ≡ 58 ∷ [] → EndsOnce (chars result.0.now) }
     ensures within { result.1 + length result.0.now ≤ length name.now }
 {
     let mut host = name;
     let mut cut = 0;
-    'cuts: while let Some(shorter) = host.strip_suffix(run) {
-        let Some(_front) = shorter.strip_suffix(':') else {
-            break 'cuts;
-        };
+    'cuts: while let Some(shorter) = before_run(host, run) {
         host = shorter;
         cut += run.len();
     }
     (host, cut)
+}
+
+// What stands before the run at the end of the text, where that ends in a colon too.
+#[inline(always)]
+fn before_run<'a>(text: &'a str, run: &str) -> Option<&'a str>
+    ensures { MatchOption result (run.now ≡ 58 ∷ [] → EndsOnce (chars text.now))
+        (λ x. (text.now ≡ x.now ++ run.now) × EndsInColon (chars x.now)) }
+{
+    let Some(shorter) = text.strip_suffix(run) else {
+        return None;
+    };
+    match shorter.strip_suffix(':') {
+        Some(_front) => Some(shorter),
+        None => None,
+    }
 }
 
 // Writes the line that is read where so many colons of its host were cut, one in each round.
@@ -198,21 +221,25 @@ fn write_end<W: fmt::Write>(f: &mut fmt::Formatter<W>, msg: &str) -> fmt::Result
 // The message part without the dashes that the next readings take from it, one in each round, up to the last one that has
 // a blank after it.
 fn msg_past_dashes<'a>(line: &Line<'a>) -> &'a str
+    requires { IfSome (line_value line.now).timestamp IsCanonicalStamp → IfSome (line_value line.now).hostname EndsOnce }
     ensures { (variant : Variant) (dating : Dating) (input : Text)
         → IsRead variant dating input (line_value line.now) → line.now.version ≡ None
-        → (n : ℕ) × Reaches variant dating input n (printed (with_msg (line_value line.now) (shown result))) }
+        → IsLater variant dating input (line_value line.now) (printed (with_msg (line_value line.now) (shown result))) }
 {
-    if has_quiet_names(line) && line.list.is_empty() {
-        last_dash(line.msg)
-    } else {
-        line.msg
+    if !has_quiet_names(line) {
+        return line.msg;
     }
+    if !line.list.is_empty() {
+        return line.msg;
+    }
+    last_dash(line.msg)
 }
 
 // The text from the last dash on of those that it begins with, each with blanks after it; the text itself where none
 // does. Dashes with a space after each are passed by sixteen, the others one by one.
 fn last_dash(text: &str) -> &str
-    ensures { (n : ℕ) × PassesDashes n (chars text.now) (shown result) }
+    ensures passes { (n : ℕ) × PassesDashes n (chars text.now) (shown result) }
+    ensures last { (p q : Text) → IsDashed (shown result) p → IsDashed p q → ⊥ }
 {
     let mut from = past_many_dashes(text);
     let Some(behind) = behind_dash(from) else {

@@ -11,7 +11,7 @@ ghost use Rattle.syslog_loose.specs.Message.{MessageValue};
 ghost use Rattle.syslog_loose.specs.Printed.{printed};
 ghost use Rattle.syslog_loose.specs.ReadBack.{AnswersAgain};
 ghost use Rattle.syslog_loose.specs.Reading.{AnswersEachMonth, InYear, IsOnlyRead, IsUnreadable};
-ghost use Rattle.syslog_loose.specs.Settling.{AnswersRound, IsAtRest, ShowsNoDate, WritesRound, round_answer};
+ghost use Rattle.syslog_loose.specs.Passes.{AnswersRound, IsAtRest, ShowsNoDate, WritesRound, round_answer};
 ghost use Rattle.syslog_loose.specs.declared.fault.ParseFault.TheVariants.{Invalid};
 
 use crate::fault::ParseFault;

@@ -4,11 +4,13 @@
 //! more than its text has characters at first: so this ends.
 ghost use Rattle.std.specs.Prelude.{IfOk, string_bytes};
 ghost use Rattle.std.specs.Str.{chars};
+ghost use Rattle.syslog_pieces.specs.Pieces.Class.{Text};
 ghost use Rattle.syslog_pieces.specs.Timestamp.Zone.{Dating, dating_of};
 ghost use Rattle.syslog_loose.specs.Canonical.{IsCanonical};
 ghost use Rattle.syslog_loose.specs.Message.{MessageValue};
 ghost use Rattle.syslog_loose.specs.Reading.{AnswersEachMonth, InYear, IsRead, dash_rule};
-ghost use Rattle.syslog_loose.specs.Settling.{ReachesFrom, Settles, answer_in};
+ghost use Rattle.syslog_loose.specs.Passes.{ReachesRank};
+ghost use Rattle.syslog_loose.specs.Settling.{Settles, answer_in};
 
 use crate::fault::ParseFault;
 use crate::rounds::{later_round, next_round};
@@ -23,7 +25,7 @@ use std::mem::swap;
 /// The arguments are those of `normalise`. `get_year` is called as there, and in round 1 alone: what is printed shows
 /// no month date. Two texts are held at most at a time, and no memory is asked for that `normalise` would not ask for
 /// round by round. Rounds that are known from the one before, as those in which a host loses its last colons, are
-/// skipped: each text takes a handful of passes, each of which takes time linear in it.
+/// skipped: each text takes at most six passes, each of which takes time linear in it.
 pub fn settle<F: FnOnce(IncompleteDate) -> i32>(
     alloc: Global,
     input: &str,
@@ -72,28 +74,24 @@ pub fn settle_into<F: FnOnce(IncompleteDate) -> i32>(
     if settled {
         return Ok(());
     }
-    settle_on(alloc, text, input, variant)
+    settle_on(alloc, text, variant)
 }
 
-// The same from a round of the input that is not known to be settled. What is printed shows no month date, so no further
-// round asks for a year. It may end in a space. The texts of the last round and the next change places.
-fn settle_on(
-    alloc: Global,
-    text: &mut String,
-    input: &str,
-    variant: Variant,
-) -> Result<(), ParseFault>
-    requires { (dating : Dating) × ReachesFrom variant dating (chars input.now) 0 (chars (string_bytes text.old)) }
-    ensures { (dating : Dating) → ReachesFrom variant dating (chars input.entry.now) 0 (chars (string_bytes text.old))
-        → Settles variant dating (chars input.entry.now) (answer_in result text.new) }
+// Continues from a round that is not known to be settled, by at most five passes. What is printed shows no month date, so
+// none asks for a year. The two texts are swapped before each pass.
+fn settle_on(alloc: Global, text: &mut String, variant: Variant) -> Result<(), ParseFault>
+    ensures { (dating : Dating) (input : Text) → ReachesRank variant dating input 4 (chars (string_bytes text.old))
+        → Settles variant dating input (answer_in result text.new) }
 {
     let mut last = String::new(alloc);
-    for done in 0..=input.len() {
+    for done in 0..4_usize {
         swap(&mut last, text);
         let settled = later_round(text, last.as_str(), variant)?;
         if settled {
             return Ok(());
         }
     }
-    unreachable!()
+    swap(&mut last, text);
+    let _settled = later_round(text, last.as_str(), variant)?;
+    Ok(())
 }

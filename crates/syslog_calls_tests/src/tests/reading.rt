@@ -3,8 +3,8 @@ use jiff::tz::TimeZone;
 use std::alloc::Global;
 use std::process::Abort;
 use syslog_loose::{
-    IncompleteDate, Message, ParseFault, Variant, normalise, parse_message_with_year_exact_tz,
-    settle,
+    IncompleteDate, Line, Message, ParseFault, Variant, normalise, parse_line,
+    parse_message_with_year_exact_tz, settle,
 };
 
 /// A zone at +01:00 in winter and at +02:00 in summer.
@@ -25,6 +25,18 @@ pub(super) fn read<'a>(
         |_: IncompleteDate| 2019,
         Some(&utc),
         variant,
+        &utc,
+    )
+}
+
+/// The line of the text, with UTC as both zones, in 2019 where a date shows no year.
+pub(super) fn parsed(text: &str) -> Option<Line<'_>> {
+    let utc = TimeZone::UTC;
+    parse_line(
+        text,
+        |_: IncompleteDate| 2019,
+        Some(&utc),
+        Variant::Either,
         &utc,
     )
 }

@@ -3,20 +3,18 @@ use Rattle.std.proofs.Common.{◌≡◌, ◌≢◌, ℕ, ◌<◌, ◌⊎◌, inl
 use Rattle.std.proofs.Common.{IfSome, IsSome, refl, sym, ap, subst, ◌∙◌, append_assoc, arith}
 use Rattle.std.proofs.lemmas.Option.{IfSome_then}
 use Rattle.std.specs.Char.{is_not_whitespace}
-use Rattle.std.specs.Fmt.{decimal}
 use Rattle.std.specs.List.{AllByRecursion}
 use Rattle.std.specs.Option.{option_and_then, option_map, unwrap_or}
 use Rattle.std.specs.Str.{skip_leading_whitespace}
-use Rattle.syslog_pieces.specs.Pieces.Class.{Text, Front, NoFront, Each, Ends, run, exactly, optional, spaced}
+use Rattle.syslog_pieces.specs.Pieces.Class.{Text, Front, Each, Ends, run, optional, spaced}
 use Rattle.syslog_pieces.specs.Bodies.Verbatim.{IsBareWord}
 use Rattle.syslog_pieces.specs.Pieces.Lists.{IsMany}
 use Rattle.syslog_pieces.specs.Pri.{priority, facility_of, severity_of}
 use Rattle.syslog_pieces.specs.ProcId.{NamesProcess, named_process}
 use Rattle.syslog_pieces.specs.StructuredData.Element.{ElementValue}
 use Rattle.syslog_pieces.specs.StructuredData.Rfc3164List.{full_element, rfc3164_list, elements_or}
-use Rattle.syslog_pieces.specs.Text.{trimmed, is_blank, is_tag_char, colon, dash, IsHost, host, name_text, tag_word}
+use Rattle.syslog_pieces.specs.Text.{trimmed, is_blank, is_tag_char, dash, IsHost, host, tag_word}
 use Rattle.syslog_pieces.specs.Text.CharClass.{is_label_char, is_open_char}
-use Rattle.syslog_pieces.specs.Timestamp.{stamp_seen}
 use Rattle.syslog_pieces.specs.Timestamp.Rfc3164.{rfc3164_stamp}
 use Rattle.syslog_pieces.specs.Timestamp.MonthDate.{month_date}
 use Rattle.syslog_pieces.specs.Timestamp.Canonical.{IsCanonicalStamp}
@@ -25,36 +23,31 @@ use Rattle.syslog_pieces.specs.declared.procid.ProcId.{ProcId}
 use Rattle.syslog_pieces.specs.declared.procid.ProcId.TheVariants.{PID, Name}
 use Rattle.syslog_pieces.specs.declared.structured_data.rfc3164_list.DashRule.{DashRule}
 use Rattle.syslog_pieces.specs.declared.timestamp.OffsetTimestamp.{OffsetTimestamp}
-use Rattle.syslog_pieces.proofs.PieceLemmas.Class.{both_values, division_front, heads, optional_none, rest_front}
-use Rattle.syslog_pieces.proofs.PieceLemmas.Class.{rest_whole, rows_join, spaced_parts}
-use Rattle.syslog_pieces.proofs.PieceLemmas.Steps.{piece_front, present_front}
+use Rattle.syslog_pieces.proofs.PieceLemmas.Class.{division_front, heads}
+use Rattle.syslog_pieces.proofs.PieceLemmas.Class.{rest_whole, spaced_parts}
+use Rattle.syslog_pieces.proofs.PieceLemmas.Steps.{present_front}
 use Rattle.syslog_pieces.proofs.PriLemmas.{severity_there}
 use Rattle.syslog_pieces.proofs.ProcIdLemmas.{bare_prints}
-use Rattle.syslog_pieces.proofs.StructuredDataLemmas.Rfc3164List.{begins_no_list}
 use Rattle.syslog_pieces.proofs.TextLemmas.Verbatim as verbatim
 use Rattle.syslog_pieces.proofs.StructuredDataLemmas.ReadBack.{element_canonical}
 use Rattle.syslog_pieces.proofs.TimestampLemmas.RoundTrip.{stamp_text-canonical}
 use Rattle.syslog_loose.specs.Canonical.{IsVisible, IsCanonicalElement}
 use Rattle.syslog_loose.specs.Exceptions.{is_no_colon, HasNoColon, IsOddHost, IsInnerProcess, AreNamesButExceptions}
 use Rattle.syslog_loose.specs.Exceptions.{HasExceptionsAlone, IsNearlyCanonical, IsOfMonthDate}
-use Rattle.syslog_loose.specs.Formats.{printed_number}
 use Rattle.syslog_loose.specs.Message.{MessageValue}
-use Rattle.syslog_loose.specs.Printed.{printed_3164, tag_text, timestamp_text}
-use Rattle.syslog_loose.specs.Reading.{dash_rule}
-use Rattle.syslog_loose.specs.Rfc3164.{Names3164, Resolves, names, stamped_row, fields_row, body_row, rfc3164_row}
+use Rattle.syslog_loose.specs.Printed.{tag_text}
+use Rattle.syslog_loose.specs.Rfc3164.{Names3164, Resolves, names, stamped_row, fields_row, rfc3164_row}
 use Rattle.syslog_loose.specs.Rfc3164.{IsRead3164}
-use Rattle.syslog_loose.specs.TagForm.{form_row, IsForm, IsNoForm}
+use Rattle.syslog_loose.specs.TagForm.{form_row, IsForm}
 use Rattle.syslog_loose.specs.Rfc3164.{NamesProgram}
 use Rattle.syslog_loose.specs.View3164.{HasQuietNames, fields_before}
 use Rattle.syslog_loose.proofs.Rfc3164Lemmas.{of_names}
-use Rattle.syslog_loose.proofs.Rfc3164Lemmas.Reading.{is_read}
 use Rattle.syslog_loose.proofs.Rfc3164Lemmas.Shown.{shows}
-use Rattle.syslog_loose.proofs.Rfc3164Lemmas.Unique.{told}
 use Rattle.syslog_loose.proofs.TagFormLemmas.{one_form}
 use Rattle.syslog_loose.proofs.TrimLemmas.{drop_ends, last_ends}
 use Rattle.syslog_pieces.proofs.PieceLemmas.Each.{each_behind, each_both, each_left, each_front, each_right}
 use Rattle.syslog_pieces.proofs.PieceLemmas.Lists.{begins}
-use Rattle.syslog_pieces.proofs.PieceLemmas.Rows.{row_of, row_pieces, ◌then◌}
+use Rattle.syslog_pieces.proofs.PieceLemmas.Rows.{row_pieces}
 
 -- ---- elements
 

@@ -1,12 +1,11 @@
 -- What the reader's answers say of a text of RFC 3164.
-use Rattle.std.proofs.Common.{◌≡◌, [], refl}
+use Rattle.std.proofs.Common.{◌≡◌, []}
 use Rattle.syslog_pieces.specs.Pieces.Class.{Text, Values, Front, NoFront, Row}
 use Rattle.syslog_pieces.specs.Text.{trimmed}
 use Rattle.syslog_pieces.specs.Timestamp.Zone.{Dating}
 use Rattle.syslog_pieces.specs.declared.structured_data.rfc3164_list.DashRule.{DashRule}
 use Rattle.syslog_pieces.proofs.PieceLemmas.Class.{front_division, no_row_division}
 use Rattle.syslog_pieces.proofs.PieceLemmas.Class.{rows_none_here}
-use Rattle.syslog_pieces.proofs.PieceLemmas.Rows.{◌then◌}
 use Rattle.syslog_loose.specs.Message.{MessageValue}
 use Rattle.syslog_loose.specs.Rfc3164.{stamped_row, body_row}
 use Rattle.syslog_loose.specs.Rfc3164.{rfc3164_row, Means3164, IsRead3164, IsNot3164}

@@ -84,7 +84,7 @@ module _ (rule : DashRule) (vs : Values (body_row rule)) (n : Names3164) (r : Re
               | inl l ↦ inl (omega (arith, k.light))
               | inr (l, e, f) ↦ inr (omega (arith, k.light), (k.host_is, k.tag_is, e, f))
             ]
-        | inr (lighter, free) ↦ inl (omega (arith, lighter, free v y))
+        | inr (lighter, free, _) ↦ inl (omega (arith, lighter, free v y))
       ]
 
   -- where it begins with a digit, all of it is the message, without names
@@ -120,7 +120,7 @@ behind_dash s q r e =
 
 -- What is read where a timestamp was printed: a canonical one or none, and what follows is what was printed behind it,
 -- or begins with a digit.
-stamp_step : (dating : Dating) (s : OffsetTimestamp) (q p r : Text) (v : Option OffsetTimestamp)
+pub stamp_step : (dating : Dating) (s : OffsetTimestamp) (q p r : Text) (v : Option OffsetTimestamp)
     → timestamp_text (Some s) ++ (32 ∷ q) ≡ p ++ r → (rfc3164_stamp dating).Is p r v
     → IfSome v IsCanonicalStamp × ((r ≡ 32 ∷ q) ⊎ Begins IsDigit r)
 stamp_step dating s q p r None e (inl h) = (tt, inr (behind_dash s (32 ∷ q) r (e ∙ ap (λ (x : Text). x ++ r) h)))

@@ -1,7 +1,7 @@
 -- Rounds that are known from the one before: of a host that ends in colons, and of a message part of dashes.
-use Rattle.syslog_loose.proofs.Names.{◌≡◌, ℕ, zero, suc, ◌<◌, inr, [], ◌∷◌, ◌++◌, length, None, IfSome, refl, sym, ap}
+use Rattle.syslog_loose.proofs.Names.{subst, ◌≡◌, ℕ, zero, suc, ◌<◌, inr, [], ◌∷◌, ◌++◌, length, None, IfSome, refl, sym, ap}
 use Rattle.syslog_loose.proofs.Names.{◌∙◌, arith, append_assoc, length-append, is_not_whitespace, Text, Values, Front}
-use Rattle.syslog_loose.proofs.Names.{Row, Each, run, IsDashBefore, rfc3164_list, is_blank, colon, EndsInColon}
+use Rattle.syslog_loose.proofs.Names.{Row, run, rfc3164_list, is_blank, colon, EndsInColon}
 use Rattle.syslog_loose.proofs.Names.{rfc3164_stamp, IsCanonicalStamp, Dating, BeforeBlank, each_front, row_of, ◌then◌}
 use Rattle.syslog_loose.proofs.Names.{piece_front, IsBoundedProcess, HasExceptionsAlone, HasNoException, dash_rule}
 use Rattle.syslog_loose.proofs.Names.{colons, colons_before, past_colons, EndsColons, IsDashed, PassesDashes, with_msg}
@@ -11,6 +11,7 @@ use Rattle.syslog_pieces.specs.Pri.{facility_of, severity_of}
 use Rattle.syslog_pieces.proofs.PieceLemmas.Class.{row_cons, rows_join, rest_front, front_division, optional_some}
 use Rattle.syslog_pieces.proofs.StructuredDataLemmas.Rfc3164List.{dash_rfc3164_list}
 use Rattle.syslog_loose.specs.Jumps.{message_end, HasNoNameException}
+use Rattle.syslog_loose.specs.Passes.{EndsOnce, IsLater, Prints}
 use Rattle.syslog_loose.specs.Printed.{printed_3164}
 use Rattle.syslog_loose.specs.declared.message.Protocol.TheVariants.{RFC3164}
 use Rattle.syslog_loose.specs.declared.variant.Variant.TheVariants as variants
@@ -26,7 +27,7 @@ use Rattle.syslog_loose.proofs.Rfc3164Lemmas.Unique.{told}
 use Rattle.syslog_loose.proofs.Rfc3164Lemmas.Whole.{trimmed_whole}
 use Rattle.syslog_loose.proofs.SettlingLemmas.Falls.{behind_space, priority_again, printed_same}
 use Rattle.syslog_loose.proofs.SettlingLemmas.Names.{host_left, no_form_open}
-use Rattle.syslog_loose.proofs.SettlingLemmas.NoList.{no_list_by}
+use Rattle.syslog_loose.proofs.SettlingLemmas.NoList.{dash_before, no_list_by}
 use Rattle.syslog_loose.proofs.SettlingLemmas.Rounds.{reached_first, reached_next}
 use Rattle.syslog_loose.proofs.SettlingLemmas.Settles.{no_protocol, as_rfc3164, odd_unsettled}
 
@@ -64,11 +65,17 @@ as_variant variants.RFC5424 dating text m n r e s =
 as_variant variants.RFC3164 dating text m n r e s = rw (printed_is m e) s
 as_variant variants.Either dating text m n r e s = rw (printed_is m e) (inr (printed_apart m, s))
 
--- a text that begins with a dash and a blank begins with a list
-dash_before : (blanks next : Text) → 0 < length blanks → Each is_blank blanks
-    → IsDashBefore BeforeBlank (blanks ++ next)
-dash_before [] next l k = absurd (omega arith)
-dash_before (c ∷ cs) next l k = k.0
+colons_last : (n : ℕ) → colons (suc n) ≡ colons n ++ colon
+colons_last zero = refl
+colons_last (suc n) = ap (λ (x : Text). 58 ∷ x) (colons_last n)
+
+colons_end : (h : Text) (n : ℕ) → EndsInColon (h ++ colons (suc n))
+colons_end h n =
+    (h ++ colons n, ap (λ (x : Text). h ++ x) (colons_last n) ∙ sym (append_assoc h (colons n) colon))
+
+passes_dashed : (n : ℕ) (t u : Text) → PassesDashes (suc n) t u → (next : Text) × IsDashed t next
+passes_dashed zero t u (before, is, d, next, f) = (u, rw is at d)
+passes_dashed (suc n) t u (before, p, d, next, f) = passes_dashed n t before p
 
 module _ (variant : Variant) (dating : Dating) (text : Text) (m : MessageValue) (r : IsRead variant dating text m)
     (e : m.protocol ≡ RFC3164) where
@@ -155,6 +162,19 @@ module _ (variant : Variant) (dating : Dating) (input : Text) (m : MessageValue)
       record { message = z; read = read; is_printed = refl } in
       (printed y, read, reached_next variant dating input n (printed y) (printed z) reaches never next)
 
+  known_later : (n : ℕ) (y : MessageValue) (later : Text) → Known n y → y.protocol ≡ RFC3164 → later ≡ printed y
+      → Prints m y → IsLater variant dating input m later
+  known_later n y later (text, read, reaches) p is prints = record {
+    before = n;
+    reaches = subst (λ (u : Text). Reaches variant dating input n u) (sym is) reaches;
+    text = text;
+    message = y;
+    read = read;
+    is_rfc3164 = p;
+    is_printed = is;
+    passes = prints;
+  }
+
   -- ---- rounds in which a host loses its colons
   module _ (stamp : IfSome m.timestamp IsCanonicalStamp) where
     next_colons : (n : ℕ) (y : MessageValue) (h : Text) → Known n y → y.protocol ≡ RFC3164
@@ -173,10 +193,19 @@ module _ (variant : Variant) (dating : Dating) (input : Text) (m : MessageValue)
         rw (read_twice m (names (Some h) None None) (58 ∷ colons_before (suc n) (tail_text m.structured_data m.msg))) at
         (next_colons (suc n) (past_colons m (h ++ colon) n) h before refl stamp refl o)
 
-    -- the host ends in n + 1 colons more than the given one, which ends in one itself
-    pub colons_skipped : (h : Text) (n : ℕ) → EndsColons m h (suc n)
-        → Reaches variant dating input (suc n) (printed (past_colons m h n))
-    colons_skipped h n k = (all_colons h n k.hostname k.keeps).2
+    -- the host ends in n + 1 colons more than the given one, which ends in just one itself
+    pub colons_later : (h : Text) (n : ℕ) → EndsColons m h (suc n) → EndsOnce h
+        → IsLater variant dating input m (printed (past_colons m h n))
+    colons_later h n k once =
+        let odd : IfSome m.hostname (λ x. EndsInColon x → ⊥) → ⊥ = λ none. (rw k.hostname at none) (colons_end h n) in
+        known_later (suc n) (past_colons m h n) _ (all_colons h n k.hostname k.keeps) refl refl (record {
+          timestamp = refl;
+          one_colon = λ canonical. once;
+          host = λ none. absurd (odd none);
+          quiet = λ q. absurd (odd q.no_last_colon);
+          last_dash = λ q. absurd (odd q.no_last_colon);
+          no_dashes = λ q. absurd (odd q.no_last_colon);
+        })
 
   -- ---- rounds in which a message part loses its dashes
   next_dash : (n : ℕ) (y : MessageValue) (u next : Text) → Known n y → y.protocol ≡ RFC3164 → HasNoNameException y
@@ -202,12 +231,45 @@ module _ (variant : Variant) (dating : Dating) (input : Text) (m : MessageValue)
     all_dashes zero u (before, is, d, next, f) = next_dash 0 m u next known e none es (rw is at d) f
     all_dashes (suc n) u (before, p, d, next, f) = more_dashes n before u next (all_dashes n before p) d f
 
-    pub dashes_skipped : (n : ℕ) (u : Text) → PassesDashes n m.msg u
-        → Reaches variant dating input n (printed (with_msg m u))
-    dashes_skipped zero u is = rw is known.2
-    dashes_skipped (suc n) u p =
-        rw (
-          printed_is (with_msg m u) e,
-          ← printed_same (with_msg m u) (read_with m (names_of m) u)
-              (priority_again (priority_of m) (priority_small m)) refl refl refl (sym es) refl,
-        ) (all_dashes n u p).2
+    -- the last of these dashes is the last that has blanks after it
+    pub dashes_later : (n : ℕ) (u : Text) → PassesDashes n m.msg u
+        → ((p q : Text) → IsDashed u p → IsDashed p q → ⊥) → (IfSome m.timestamp IsCanonicalStamp
+        → IfSome m.hostname EndsOnce) → IsLater variant dating input m (printed (with_msg m u))
+    dashes_later zero u is last once =
+        known_later 0 m _ known e (ap (λ (x : Text). printed (with_msg m x)) is) (record {
+          timestamp = refl;
+          one_colon = once;
+          host = λ none. refl;
+          quiet = λ q. q;
+          last_dash = λ q es p next d. last p next (rw is d);
+          no_dashes = λ q bare. bare;
+        })
+    dashes_later (suc n) u p last once =
+        let same : printed (with_msg m u) ≡ printed (read_with m (names_of m) u) = printed_is (with_msg m u) e
+        ∙ sym (printed_same (with_msg m u) (read_with m (names_of m) u)
+        (priority_again (priority_of m) (priority_small m)) refl refl refl (sym es) refl) in
+        known_later (suc n) (read_with m (names_of m) u) _ (all_dashes n u p) refl same (record {
+          timestamp = refl;
+          one_colon = once;
+          host = λ none. refl;
+          quiet = λ q. record {
+            timestamp = q.timestamp;
+            no_dash = q.no_dash;
+            no_last_colon = q.no_last_colon;
+            no_colon = q.no_colon;
+          };
+          last_dash = λ q es. last;
+          no_dashes = λ q bare. absurd (let (next, d) = passes_dashed n m.msg u p in bare es next d);
+        })
+
+  -- where no dash is passed over
+  pub itself : (HasNoNameException m → m.structured_data ≡ [] → ⊥) → (IfSome m.timestamp IsCanonicalStamp
+      → IfSome m.hostname EndsOnce) → IsLater variant dating input m (printed m)
+  itself never once = known_later 0 m _ known e refl (record {
+    timestamp = refl;
+    one_colon = once;
+    host = λ none. refl;
+    quiet = λ q. q;
+    last_dash = λ q es. absurd (never q es);
+    no_dashes = λ q bare. bare;
+  })

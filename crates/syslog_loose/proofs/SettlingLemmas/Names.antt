@@ -21,6 +21,7 @@ use Rattle.syslog_pieces.proofs.PieceLemmas.Each.{each_behind, each_append}
 use Rattle.syslog_loose.specs.Canonical.{IsVisible, IsCanonicalHost, AreCanonicalNames}
 use Rattle.syslog_loose.specs.Exceptions.{IsOddHost, AreNamesButExceptions}
 use Rattle.syslog_loose.specs.TagForm.{form_row, IsNoForm}
+use Rattle.syslog_loose.specs.View3164.{HasQuietNames}
 use Rattle.syslog_loose.proofs.Rfc3164Lemmas.{resolves_once}
 use Rattle.syslog_loose.proofs.Rfc3164Lemmas.Exceptions.{canonical_names}
 use Rattle.syslog_loose.proofs.Rfc3164Lemmas.ReadBack.{program_field, resolved, no_tag_colon, names_back, tagged}
@@ -136,18 +137,29 @@ has_colon (c ∷ x) z = grind (arith, has_colon x z)
 
 -- ---- what is read
 
+quiet_names : (h a : Option Text) (p : Option (ProcId Text)) → IfSome h IsCanonicalHost → IfSome p HasNoColon
+    → HasQuietNames (names h a p)
+quiet_names None a p k q = record { no_dash = tt; no_last_colon = tt; no_colon = q }
+quiet_names (Some h) a p k q = record { no_dash = k.1; no_last_colon = k.2; no_colon = q }
+
 module _ (rule : DashRule) (t : Text) (n : Names3164) (vs : Values (body_row rule)) (r : Resolves vs.0 vs.1.0 n) where
   -- names that print the same and weigh no more, and behind their colon what was printed there
   pub record Stays (h a : Option Text) (p : Option (ProcId Text)) : Type 0 where
     pub light : names_weight n.hostname n.procid ≤ names_weight h p
     pub host_is : name_text n.hostname ≡ name_text h
     pub tag_is : tag_text n.appname n.procid ≡ tag_text a p
+    pub quiet : HasQuietNames n
     pub behind : Front (Row (from_blanks rule)) t [] vs.1.1.1.1
 
-  -- lighter names, and a message part that costs nothing
+  -- the host without the colon that it ended in, or none
+  abbrev pub LosesColon : Option Text → Type 0
+  LosesColon h = (x : Text) × (h ≡ Some (x ++ colon)) × IfSome n.hostname (λ y. y ≡ x)
+
+  -- lighter names, and a message part that costs nothing: a process name was cut at a colon, or a host lost one
   abbrev pub Moved : Option Text → Option (ProcId Text) → Type 0
   Moved h p = (names_weight n.hostname n.procid < names_weight h p)
       × ((v : ℕ) → ListWeighs rule (elements_or vs.1.1.1.1.1.0) vs.1.1.1.1.1.1.1.0 v → v ≡ 0)
+      × (((IfSome p HasNoColon → ⊥) × HasQuietNames n) ⊎ LosesColon h)
 
   abbrev pub Step : Option Text → Option Text → Option (ProcId Text) → Type 0
   Step h a p = Stays h a p ⊎ Moved h p
@@ -162,14 +174,16 @@ module _ (rule : DashRule) (t : Text) (n : Names3164) (vs : Values (body_row rul
       (subst (λ (x : Values to_colon). Resolves x.0 x.1.0 n) same r, behind)
 
   canonical_stays : (h a : Option Text) (p : Option (ProcId Text)) → IfSome h IsCanonicalHost
-      → AreCanonicalNames h a p → IfSome p IsBoundedProcess → Reads (names_text h a p t) → Stays h a p
-  canonical_stays h a p k c b d =
+      → AreCanonicalNames h a p → IfSome p HasNoColon → IfSome p IsBoundedProcess → Reads (names_text h a p t)
+      → Stays h a p
+  canonical_stays h a p k c q b d =
       let (means, behind) = known (names_back h a p t k c b) d in
       let e : n ≡ names h a p = resolves_once (Some h) (program_field a p) n (names h a p) means (resolved h a p c b) in
       record {
         light = rw e (omega arith);
         host_is = ap (λ (x : Names3164). name_text x.hostname) e;
         tag_is = ap (λ (x : Names3164). tag_text x.appname x.procid) e;
+        quiet = rw e (quiet_names h a p k q);
         behind = behind;
       }
 
@@ -190,27 +204,35 @@ module _ (rule : DashRule) (t : Text) (n : Names3164) (vs : Values (body_row rul
       then tagged w q (omega (arith, length-append a (91 ∷ x))) tag (open_no_dash a x) then no_blanks (58 ∷ q) refl
       then colon_front q then refl)) (rw (is, cut_text a x z t) at d) in
       let (no_blank, no_list) = no_list_inner z (58 ∷ t) (each_behind is_inner_char x (58 ∷ z) inner).1 in
-      let lighter : names_weight n.hostname n.procid < names_weight None p = elim means [
+      let tag_alone : n ≡ names None (Some w) None = elim means [
         | inl (tag, id, p, f, g, e) ↦
             absurd (no_form_open a 91 x (refl, each_right is_not_whitespace is_open_char x inner_x) _ f)
-        | inr (form, e) ↦ rw (is, e, has_colon x z) (omega arith)
-      ] in
-      (lighter, λ v. left_free rule q q vs.1.1.1.1 (no_blanks q no_blank) behind v (rw blank no_list))
+        | inr (form, e) ↦ e
+      ] in (
+        rw (is, tag_alone, has_colon x z) (omega arith),
+        λ v. left_free rule q q vs.1.1.1.1 (no_blanks q no_blank) behind v (rw blank no_list),
+        inl (cut_colon p (x, z, is, free), rw tag_alone (quiet_names None (Some w) None tt tt)),
+      )
 
   -- a host that leaves its colon to the message
   colon_moved : (h : Text) → Front (Row (from_blanks rule)) (32 ∷ 58 ∷ t) [] vs.1.1.1.1
-      → names_weight n.hostname n.procid < names_weight (Some h) None → Moved (Some h) None
-  colon_moved h d l =
+      → names_weight n.hostname n.procid < names_weight (Some h) None → LosesColon (Some h) → Moved (Some h) None
+  colon_moved h d l how =
       let gap = piece_front (run is_blank) (32 ∷ []) (58 ∷ t) tt ((refl, tt), refl) in
-      (l, λ v. left_free rule _ _ vs.1.1.1.1 gap d v (no_list_by rule 58 t (λ e. omega arith) (λ e. omega arith)))
+      (l, λ v. left_free rule _ _ vs.1.1.1.1 gap d v (no_list_by rule 58 t (λ e. omega arith) (λ e. omega arith)), inr how)
 
   colons_moved : (h : Text) → Each is_not_whitespace (h ++ colon) → Reads (names_text (Some (h ++ colon)) None None t)
       → Moved (Some (h ++ colon)) None
   colons_moved [] k d = let (means, behind) = known (host_alone (58 ∷ t)) d in
-      colon_moved colon behind (omega (arith, fields_light None None n means))
+      colon_moved colon behind (omega (arith, fields_light None None n means)) ([], refl, rw means tt)
   colons_moved (c ∷ h) k d =
       let (means, behind) = known (host_left (c ∷ h) t (omega arith, each_front is_not_whitespace (c ∷ h) colon k)) d in
+      let rest : IfSome n.hostname (λ y. y ≡ c ∷ h) = elim means [
+        | inl (tag, id, p, f, g, e) ↦ rw e tt
+        | inr (none, e) ↦ rw e refl
+      ] in
       colon_moved (c ∷ h ++ colon) behind (omega (arith, lone_light (c ∷ h) n means, colon_weight (c ∷ h)))
+      (c ∷ h, refl, rest)
 
   -- a host that is a dash is read as none
   odd_step : (h : Text) (a : Option Text) (p : Option (ProcId Text)) → Each is_not_whitespace h → IsOddHost h
@@ -218,21 +240,22 @@ module _ (rule : DashRule) (t : Text) (n : Names3164) (vs : Values (body_row rul
   odd_step h (Some a) p b o e c d = cc
   odd_step h None (Some p) b o e c d = absurd c
   odd_step h None None b (inl e) f c d =
-      let k = canonical_stays None None None tt tt tt (rw e at d) in
+      let k = canonical_stays None None None tt tt tt tt (rw e at d) in
       inl (record {
         light = (let l = k.light in omega arith);
         host_is = k.host_is ∙ sym e;
         tag_is = k.tag_is;
+        quiet = k.quiet;
         behind = k.behind;
       })
   odd_step h None None b (inr (front, e)) f c d = inr (rw e (colons_moved front (rw e at b) (rw e at d)))
 
   whole_step : (h a : Option Text) (p : Option (ProcId Text)) → IfSome h IsVisible
-      → IfSome h (λ x. IsOddHost x → a ≡ None) → AreCanonicalNames h a p → IfSome p IsBoundedProcess
-      → Reads (names_text h a p t) → Step h a p
-  whole_step None a p k o c b d = inl (canonical_stays None a p tt c b d)
-  whole_step (Some h) a p k o c b d = elim (canonical_or_odd h k) [
-    | inl f ↦ inl (canonical_stays (Some h) a p f c b d)
+      → IfSome h (λ x. IsOddHost x → a ≡ None) → AreCanonicalNames h a p → IfSome p HasNoColon
+      → IfSome p IsBoundedProcess → Reads (names_text h a p t) → Step h a p
+  whole_step None a p k o c q b d = inl (canonical_stays None a p tt c q b d)
+  whole_step (Some h) a p k o c q b d = elim (canonical_or_odd h k) [
+    | inl f ↦ inl (canonical_stays (Some h) a p f c q b d)
     | inr f ↦ odd_step h a p k.1 f (o f) c d
   ]
 
@@ -240,7 +263,7 @@ module _ (rule : DashRule) (t : Text) (n : Names3164) (vs : Values (body_row rul
       → IfSome h (λ x. IsOddHost x → a ≡ None) → AreNamesButExceptions h a p → IfSome p HasNoColon ⊎ (h ≡ None)
       → (rule ≡ BeforeBlank) ⊎ IfSome p HasNoColon → IfSome p IsBoundedProcess → Reads (names_text h a p t) → Step h a p
   names_step h a p k o near cut dashes b d = elim (whole_or_cut p) [
-    | inl c ↦ whole_step h a p k o (canonical_names h a p near c) b d
+    | inl c ↦ whole_step h a p k o (canonical_names h a p near c) c b d
     | inr c ↦ elim cut [
       | inl k ↦ absurd (cut_colon p c k)
       | inr e ↦

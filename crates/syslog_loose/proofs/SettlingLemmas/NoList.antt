@@ -73,3 +73,9 @@ no_list_inner z s h =
     let i = inner_name z s h in
     let none = no_full (z ++ (93 ∷ s)) i in
     (ends_blank (z ++ (93 ∷ s)) i, (λ q e a. no_dash q (inner_on (45 ∷ []) q e (refl, tt) i).1 a, none))
+
+-- a text that begins with a dash and a blank begins with a list
+pub dash_before : (blanks next : Text) → 0 < length blanks → Each is_blank blanks
+    → IsDashBefore BeforeBlank (blanks ++ next)
+dash_before [] next l k = absurd (omega arith)
+dash_before (c ∷ cs) next l k = k.0

@@ -1,22 +1,21 @@
 -- A text comes to rest, or one of its rounds is missing.
 use Rattle.syslog_loose.proofs.Names.{◌≡◌, ℕ, zero, suc, ◌+◌, ◌<◌, ◌≤◌, inl, inr, Bool, true, false, List, length, refl}
-use Rattle.syslog_loose.proofs.Names.{sym, ap, subst, ◌∙◌, arith, leb_tells, chars_from_encodes, encodes-chars, chars}
+use Rattle.syslog_loose.proofs.Names.{sym, ap, subst, ◌∙◌, arith, leb_tells, chars_from_encodes, chars}
 use Rattle.syslog_loose.proofs.Names.{IsUtf8, encode_utf8_all, Text, Dating, IsCanonical, HasNoException, MessageValue}
 use Rattle.syslog_loose.proofs.Names.{printed, dash_rule, IsRead, IsUnreadable, IsRead3164, IsNext, IsRound, IsSettled}
-use Rattle.syslog_loose.proofs.Names.{NoneSettled, Reaches, IsFirstSettled, ReachesFrom, Weighs, Variant, Result, Err}
+use Rattle.syslog_loose.proofs.Names.{NoneSettled, Reaches, IsFirstSettled, Weighs, Variant}
 use Rattle.syslog_loose.specs.declared.fault.ParseFault.{ParseFault}
 use Rattle.syslog_loose.specs.declared.fault.ParseFault.TheVariants.{Invalid, Memory}
-use Rattle.std.proofs.lemmas.Str.{length-le-encodes}
-use Rattle.std.specs.Prelude.{◌↔◌, IsTrue, IsOk}
+use Rattle.std.specs.Prelude.{◌↔◌}
 use Rattle.syslog_loose.specs.ReadBack.{IsFixed}
 use Rattle.syslog_loose.specs.Rfc5424.{IsRead5424}
-use Rattle.syslog_loose.specs.Settling.{SettlesAs, IsSettlingFault, IsAtRest, IsToldRound}
+use Rattle.syslog_loose.specs.Passes.{HasRank, IsAtRest, IsLater, IsToldRound, ReachesRank}
+use Rattle.syslog_loose.specs.Settling.{SettlesAs, IsSettlingFault}
 use Rattle.syslog_loose.specs.declared.message.Protocol.{Protocol}
 use Rattle.syslog_loose.specs.declared.message.Protocol.TheVariants as protocol
 use Rattle.syslog_loose.proofs.BoundLemmas.{read_as, read_bounded}
 use Rattle.syslog_loose.proofs.ReadBackLemmas.{printed_exact, fixed_again}
 use Rattle.syslog_loose.proofs.ReadingLemmas.{read_once, invalid_or_memory}
-use Rattle.std.specs.declared.alloc.AllocError.{AllocError}
 use Rattle.syslog_loose.proofs.Rfc3164Lemmas.Exceptions.{canonical_near}
 use Rattle.syslog_loose.proofs.Rfc3164Lemmas.Near.{read_near}
 use Rattle.syslog_loose.proofs.Rfc3164Lemmas.Printed.{printed_is, printed_apart}
@@ -24,6 +23,8 @@ use Rattle.syslog_loose.proofs.SettlingLemmas.Falls.{falls}
 use Rattle.syslog_loose.proofs.SettlingLemmas.Light.{light}
 use Rattle.syslog_loose.proofs.SettlingLemmas.Names.{same_text}
 use Rattle.syslog_loose.proofs.SettlingLemmas.Quiet.{read_protocol}
+use Rattle.syslog_loose.proofs.SettlingLemmas.Ranks.{rank_falls}
+use Rattle.syslog_loose.proofs.Rfc3164Lemmas.Bounded as rfc3164
 use Rattle.syslog_loose.proofs.SettlingLemmas.Rounds.{none_behind, moves_on, reached_first, reached_next}
 use Rattle.syslog_loose.proofs.SettlingLemmas.Rounds.{reached_further, reached_last, none_settled}
 use Rattle.syslog_loose.proofs.SettlingLemmas.Weights.{weight}
@@ -157,7 +158,7 @@ module _ (variant : Variant) (dating : Dating) where
   first_fault t Memory h = λ never. invalid_or_memory (h.1 never)
 
   -- and where a later one was
-  pub round_fault : (t : Text) (n : ℕ) (u : Text) (fault : ParseFault) → ReachesFrom variant dating t n u
+  pub round_fault : (t : Text) (n : ℕ) (u : Text) (fault : ParseFault) → ReachesRank variant dating t n u
       → (fault ≡ Invalid) ↔ IsUnreadable variant dating u → IsSettlingFault variant dating t fault
   round_fault t n u Invalid r h =
       settles_not t (λ y s. reached_last variant dating t r.before u y r.reaches (h.0 refl) s)
@@ -179,22 +180,40 @@ module _ (variant : Variant) (dating : Dating) where
         record { message = m; read = r; is_printed = sym (chars_from_encodes (printed m) bytes u (sym w)) } in
         (next, rw next.is_printed (rest_settled text m r m.protocol refl rest))
 
+    -- what is read of a later one has a lower rank
+    later_falls : (later : Text) → IsLater variant dating text m later → (n : ℕ) (x : MessageValue)
+        → IsRead variant dating later x → HasRank (suc n) m → HasRank n x
+    later_falls later l n x s rank =
+        let first = as_rfc3164 variant dating l.text l.message l.read l.is_rfc3164 in
+        rank_falls dating l.message (read_near dash_rule dating l.text l.message first)
+        (rfc3164.read_bounded dash_rule dating l.text l.message first).procid x
+        (stays_rfc3164 variant dating l.message x l.is_rfc3164
+        (subst (λ (u : Text). IsRead variant dating u x) l.is_printed s)) m n l.passes rank
+
     -- and where it has an exception, a later one may stand in its place
     pub told_later : (later : Text) → m.protocol ≡ protocol.RFC3164 → (HasNoException dash_rule m → ⊥)
-        → (n : ℕ) × Reaches variant dating text n later → IsToldRound variant dating text later false
-    told_later later e odd (n, reaches) = (odd_unsettled text m r e odd, n, reaches)
+        → IsLater variant dating text m later → IsToldRound variant dating text later false
+    told_later later e odd l = record {
+      never = odd_unsettled text m r e odd;
+      before = l.before;
+      reaches = l.reaches;
+      message = m;
+      read = r;
+      odd = odd;
+      lower = later_falls later l;
+    }
 
   -- ---- what the loop does
   -- the round behind one that is not settled
-  pub round_more : (t : Text) (n : ℕ) (u x : Text) (settled : Bool) → ReachesFrom variant dating t n u
-      → settled ≡ false → IsToldRound variant dating u x settled → ReachesFrom variant dating t (n + 1) x
+  pub round_more : (t : Text) (n : ℕ) (u x : Text) (settled : Bool) → ReachesRank variant dating t (suc n) u
+      → settled ≡ false → IsToldRound variant dating u x settled → ReachesRank variant dating t n x
   round_more t n u x settled r e h =
-      let (never, k, s) = rw e at h in
-      let (j, l, more) = reached_further variant dating t r.before u k x r.reaches never s in
-      record { before = j; far = omega (arith, r.far); reaches = more }
+      let told = rw e at h in
+      let (j, l, more) = reached_further variant dating t r.before u told.before x r.reaches told.never told.reaches in
+      record { before = j; reaches = more; ranked = λ m s. told.lower n m s (r.ranked told.message told.read) }
 
   -- and the answer where it is settled: that, or the one before, which is the same text
-  pub round_answer : (t : Text) (n : ℕ) (u x : Text) (settled : Bool) → ReachesFrom variant dating t n u
+  pub round_answer : (t : Text) (n : ℕ) (u x : Text) (settled : Bool) → ReachesRank variant dating t n u
       → settled ≡ true → IsToldRound variant dating u x settled → SettlesAs variant dating t x
   round_answer t n u x settled r e h =
       let (next, s) = rw e at h in
@@ -210,9 +229,8 @@ module _ (variant : Variant) (dating : Dating) where
   first_answer t x settled e h =
       let (next, s) = rw e at h in settled_here t 0 x (reached_first variant dating t x next) s
 
-  -- a text has no fewer bytes than characters, so that so many rounds can't be unsettled
-  pub too_many : (bytes : List ℕ) (n : ℕ) (u : Text) → IsUtf8 bytes → length bytes < n
-      → ReachesFrom variant dating (chars bytes) n u → ⊥
-  too_many bytes n u utf8 l r =
-      ends (chars bytes) r.before u
-      (omega (arith, r.far, length-le-encodes (chars bytes), ap length (encodes-chars bytes utf8))) r.reaches
+  -- of the lowest rank it is settled
+  pub last_answer : (t u x : Text) (settled : Bool) → ReachesRank variant dating t 0 u
+      → IsToldRound variant dating u x settled → SettlesAs variant dating t x
+  last_answer t u x true r h = round_answer t 0 u x true r refl h
+  last_answer t u x false r h = absurd (h.odd (r.ranked h.message h.read))

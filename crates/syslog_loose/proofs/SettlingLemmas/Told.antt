@@ -1,7 +1,7 @@
 -- What is told of a round of a text by way of its line, and of the rounds after it, in which no year counts.
-use Rattle.syslog_loose.proofs.Names.{◌≡◌, ℕ, List, Bool, true, false, Option, None, Some, Result, Ok, Err, refl, subst, arith}
-use Rattle.syslog_loose.proofs.Names.{chars, Text, Dating, Variant, MonthDate, IsCanonical, MessageValue, dash_rule, IsRead}
-use Rattle.syslog_loose.proofs.Names.{ReachesFrom, string_bytes}
+use Rattle.syslog_loose.proofs.Names.{◌≡◌, ℕ, List, Bool, true, false, Option, None, Some, Result, Ok, Err, refl, subst}
+use Rattle.syslog_loose.proofs.Names.{chars, Text, Dating, Variant, IsCanonical, MessageValue, dash_rule, IsRead}
+use Rattle.syslog_loose.proofs.Names.{string_bytes}
 use Rattle.std.specs.Global.{Global}
 use Rattle.std.specs.Prelude.{IfOk, String}
 use Rattle.std.specs.declared.alloc.AllocError.{AllocError}
@@ -10,7 +10,8 @@ use Rattle.syslog_pieces.specs.Text.{trimmed}
 use Rattle.syslog_pieces.specs.Timestamp.MonthDate.{month_date}
 use Rattle.syslog_pieces.specs.Timestamp.Rfc3164.{ShowsMonthDate}
 use Rattle.syslog_loose.specs.Line.{line_value}
-use Rattle.syslog_loose.specs.Settling.{AnswersRound, IsToldRound, Settles, ShowsNoDate, WritesRound, round_answer}
+use Rattle.syslog_loose.specs.Passes.{AnswersRound, IsToldRound, ReachesRank, ShowsNoDate, WritesRound, round_answer}
+use Rattle.syslog_loose.specs.Settling.{Settles}
 use Rattle.syslog_loose.specs.Start.{BeginsWithout, IsBehindPriority}
 use Rattle.syslog_loose.specs.Visit.{Made}
 use Rattle.syslog_loose.specs.declared.fault.ParseFault.{ParseFault}
@@ -33,12 +34,13 @@ module _ (variant : Variant) (dating : Dating) where
 
   -- a round that is not settled is one from which to go on
   pub told_reaches : (text later : Text) (settled : Bool) → settled ≡ false
-      → IsToldRound variant dating text later settled → ReachesFrom variant dating text 0 later
+      → IsToldRound variant dating text later settled → ReachesRank variant dating text 4 later
   told_reaches text later true e told = cc
-  told_reaches text later false e (odd, n, r) = record { before = n; far = omega arith; reaches = r }
+  told_reaches text later false e told =
+      record { before = told.before; reaches = told.reaches; ranked = λ m s. told.lower 4 m s tt }
 
   -- what is printed of a text shows no month date
-  pub reached_shows_none : (text : Text) (n : ℕ) (u : Text) → ReachesFrom variant dating text n u → ShowsNoDate u
+  pub reached_shows_none : (text : Text) (n : ℕ) (u : Text) → ReachesRank variant dating text n u → ShowsNoDate u
   reached_shows_none text n u r date shown =
       let (before, round, h) = r.reaches.round in
       read_shows_none variant dating before h.message h.read date

@@ -6,7 +6,7 @@ use Rattle.syslog_loose.proofs.Names.{Front, Row, Ends, optional, run, ElementVa
 use Rattle.syslog_loose.proofs.Names.{rfc3164_list, elements_or, dash, colon, is_blank, IsCanonicalStamp, ProcId, PID}
 use Rattle.syslog_loose.proofs.Names.{Name, DashRule, OffsetTimestamp, row_pieces, front_longer, piece_front}
 use Rattle.syslog_loose.proofs.Names.{present_front, step, decide, MessageValue, Names3164, Resolves, Costs}
-use Rattle.syslog_loose.proofs.Names.{names_weight, ListWeighs, Weighs, Some}
+use Rattle.syslog_loose.proofs.Names.{names_weight, ListWeighs, Weighs, Some, IsDashBefore}
 use Rattle.std.proofs.lemmas.Int.{ints, by_lt_z}
 use Rattle.std.proofs.lemmas.List.{reverse-append}
 use Rattle.std.proofs.lemmas.List.Sums.{suffix_len-le-length}
@@ -164,14 +164,37 @@ module _ (rule : DashRule) where
     ),
   )
 
+  -- where no element is taken, no list begins what is left, or it stands after a dash that was taken
+  abbrev pub TakesNone : Text → Text → Type 0
+  TakesNone t left = BeginsNoList rule left
+      ⊎ ((rest : Text) × (t ≡ 45 ∷ rest) × IsDashBefore rule rest × Front (run is_blank) rest left tt)
+
+  takes_none : {t q : Text} (v : Option (List ElementValue)) (left : Text) → Ends is_blank t
+      → Front (optional (rfc3164_list rule)) t q v → Front (run is_blank) q left tt → elements_or v ≡ []
+      → TakesNone t left
+  takes_none None left b g gap e = elim (leaves None left b g gap) [
+    | inl (began, l) ↦ absurd (began (begins_no_list rule _ (absent_none (rfc3164_list rule) g)))
+    | inr (n, _, same) ↦ inl (rw same n)
+  ]
+  takes_none {q = q} (Some es) left b g gap e = elim g.is [
+    | inl (d, before, _) ↦ inr (q, g.whole ∙ ap (λ (x : Text). x ++ q) d, before, gap)
+    | inr (l, _) ↦ absurd (omega (arith, l, ap length e))
+  ]
+
   module _ (t u : Text) (vs : Values (from_blanks rule)) (gap : Front (run is_blank) t u tt)
       (d : Front (Row (from_blanks rule)) t [] vs) where
-    -- what is read behind blanks
-    pub list_read : Leaves u vs.1.0 vs.1.1.1.0
-    list_read =
+    list_front : (q : Text) × Front (optional (rfc3164_list rule)) u q vs.1.0 × Front (run is_blank) q vs.1.1.1.0 tt
+    list_front =
         let (q, list, (_, more, (_, end, _))) =
         row_pieces (from_list rule) (step (run is_blank) (from_list rule) (run_det is_blank) gap d) in
-        leaves vs.1.0 vs.1.1.1.0 gap.is.1 list (subst (λ (x : Text). Front (run is_blank) q x tt) (rest_whole end) more)
+        (q, list, subst (λ (x : Text). Front (run is_blank) q x tt) (rest_whole end) more)
+
+    -- what is read behind blanks
+    pub list_read : Leaves u vs.1.0 vs.1.1.1.0
+    list_read = let (q, list, more) = list_front in leaves vs.1.0 vs.1.1.1.0 gap.is.1 list more
+
+    pub none_read : elements_or vs.1.0 ≡ [] → TakesNone u vs.1.1.1.0
+    none_read e = let (q, list, more) = list_front in takes_none vs.1.0 vs.1.1.1.0 gap.is.1 list more e
 
     -- a message that begins with no list weighs nothing
     pub left_free : (w : ℕ) → BeginsNoList rule u → ListWeighs rule (elements_or vs.1.0) vs.1.1.1.0 w → w ≡ 0

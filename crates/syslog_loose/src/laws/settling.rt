@@ -1,11 +1,12 @@
 //! Lines that settle: what is read of a text and printed again and again comes to rest.
-ghost use Rattle.std.specs.Prelude.{◌≡◌, ◌≢◌, ◌⊎◌, ℕ, ◌<◌, ◌≤◌, length, IfSome};
+ghost use Rattle.std.specs.Prelude.{◌≡◌, ◌≢◌, ◌⊎◌, ℕ, suc, ◌<◌, ◌≤◌, length, IfSome};
 ghost use Rattle.syslog_pieces.specs.Pieces.Class.{Text};
 ghost use Rattle.syslog_pieces.specs.Timestamp.Zone.{Dating};
 ghost use Rattle.syslog_pieces.specs.declared.structured_data.rfc3164_list.DashRule.{DashRule};
 ghost use Rattle.syslog_pieces.specs.declared.structured_data.rfc3164_list.DashRule.TheVariants.{BeforeBlank};
 ghost use Rattle.syslog_loose.specs.Exceptions.{HasNoColon};
 ghost use Rattle.syslog_loose.specs.Message.{MessageValue};
+ghost use Rattle.syslog_loose.specs.Passes.{HasRank, Prints};
 ghost use Rattle.syslog_loose.specs.Printed.{printed};
 ghost use Rattle.syslog_loose.specs.Rfc3164.{IsRead3164};
 ghost use Rattle.syslog_loose.specs.Settling.{Weighs};
@@ -24,6 +25,15 @@ pub fn read_again_weighs_less()
 pub fn read_weighs_no_more_than_its_text()
     ensures { (rule : DashRule) (dating : Dating) (text : Text) (m : MessageValue) (w : ℕ)
         → IsRead3164 rule dating text m → Weighs rule m w → w ≤ length text }
+{}
+
+/// What is read of the print of a pass has a lower rank than the message that the pass took. A rank is at most 5, and 0
+/// where the message has no quirk, so that `settle` makes at most six passes.
+pub fn each_pass_lowers_the_rank()
+    ensures falls { (first second : Dating) (text : Text) (m later n : MessageValue) (rank : ℕ) → Prints m later
+        → IsRead3164 BeforeBlank first text later → IsRead3164 BeforeBlank second (printed later) n
+        → HasRank (suc rank) m → HasRank rank n }
+    ensures highest { (m : MessageValue) → HasRank 5 m }
 {}
 
 /// A message has one weight, and no more than one.

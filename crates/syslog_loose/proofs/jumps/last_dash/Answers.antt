@@ -1,4 +1,5 @@
 use Rattle.syslog_loose.proofs.Names.{rules, suc, chars}
+use Rattle.syslog_loose.proofs.JumpLemmas.{last_of_all}
 use Rattle.syslog_loose.proofs.jumps.last_dash.Goals as goal
 
 pub dashes-preserved : goal.dashes-preserved
@@ -7,3 +8,9 @@ dashes-preserved c =
     let f = c.in-Some-behind_dash.ensures in
     let next = chars c.in-Some-behind_dash.next.now in
     (v, search rules, (suc n, (chars c.dashes.from.now, p, d, next, f)), f)
+
+pub returns-in_default-clause-last : goal.returns-in_default-clause-last
+returns-in_default-clause-last c = λ p q d e. c.in_default.ensures p d
+
+pub returns-clause-last : goal.returns-clause-last
+returns-clause-last c = last_of_all c.dashes.invariant.3 c.in_default-behind_dash.ensures

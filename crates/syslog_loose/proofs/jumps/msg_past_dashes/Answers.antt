@@ -1,12 +1,22 @@
 use Rattle.syslog_loose.proofs.Names.{ap, refl, shown}
+use Rattle.syslog_pieces.proofs.TextLemmas.Canonical.{no_truth}
 use Rattle.syslog_loose.specs.Line.{line_value, protocol_of}
-use Rattle.syslog_loose.proofs.SettlingLemmas.Jumps.{dashes_skipped}
+use Rattle.syslog_loose.proofs.SettlingLemmas.Jumps.{dashes_later, itself}
 use Rattle.syslog_loose.proofs.jumps.msg_past_dashes.Goals as goal
 
-pub returns-then-is_empty : goal.returns-then-is_empty
-returns-then-is_empty c = λ variant dating input r e.
-    let (n, p) = c.last_dash.ensures in (
-      n,
-      dashes_skipped variant dating input (line_value c.args.line.now) r (ap protocol_of e)
-          (c.if-has_quiet_names.ensures.0 refl) c.if-is_empty.ensures n (shown c.last_dash.result) p,
-    )
+pub returns-then-not-has_quiet_names : goal.returns-then-not-has_quiet_names
+returns-then-not-has_quiet_names c = λ variant dating input r e.
+    itself variant dating input (line_value c.args.line.now) r (ap protocol_of e)
+    (λ quiet none. no_truth (c.if-not-has_quiet_names.ensures.1 quiet)) c.requires
+
+pub returns-then-not-is_empty : goal.returns-then-not-is_empty
+returns-then-not-is_empty c = λ variant dating input r e.
+    itself variant dating input (line_value c.args.line.now) r (ap protocol_of e)
+    (λ quiet none. c.if-not-is_empty.ensures none) c.requires
+
+pub returns : goal.returns
+returns c = λ variant dating input r e.
+    let (n, p) = c.last_dash.ensures.passes in
+    dashes_later variant dating input (line_value c.args.line.now) r (ap protocol_of e)
+    (c.if-not-has_quiet_names.ensures.0 refl) c.if-not-is_empty.ensures n (shown c.last_dash.result) p
+    c.last_dash.ensures.last c.requires

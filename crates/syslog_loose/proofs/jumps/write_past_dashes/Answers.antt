@@ -1,6 +1,6 @@
 use Rattle.syslog_loose.proofs.Names.{IsUtf8-string_bytes, shown, printed, with_msg, on_ok_weaker}
 use Rattle.syslog_loose.specs.Line.{line_value}
-use Rattle.syslog_loose.proofs.JumpLemmas.{round_printed}
+use Rattle.syslog_loose.proofs.JumpLemmas.{later_printed}
 use Rattle.syslog_loose.proofs.jumps.write_past_dashes.Goals as goal
 
 pub print_line-requires : goal.print_line-requires
@@ -9,5 +9,5 @@ print_line-requires c = record { utf8 = search; prints = λ h. cc; quiet = λ h.
 pub returns : goal.returns
 returns c = λ variant dating input r e.
     let m = with_msg (line_value c.args.line.now) (shown c.msg_past_dashes.result) in
-    on_ok_weaker _ (λ w. round_printed variant dating input (printed m) _ (IsUtf8-string_bytes c.print_line.new.text)
-    w (c.msg_past_dashes.ensures variant dating input r e)) c.print_line.ensures
+    on_ok_weaker _ (λ w. later_printed variant dating input (line_value c.args.line.now) (printed m) _
+    (IsUtf8-string_bytes c.print_line.new.text) w (c.msg_past_dashes.ensures variant dating input r e)) c.print_line.ensures

@@ -1,4 +1,4 @@
-use Rattle.std.proofs.Common.{◌≡◌, ◌∷◌, ◌++◌, inl, refl, sym, ap, ◌∙◌}
+use Rattle.std.proofs.Common.{◌∷◌, ◌++◌, inl, refl, sym, ap, ◌∙◌}
 use Rattle.syslog_pieces.specs.Text.{trimmed}
 use Rattle.syslog_pieces.proofs.PieceLemmas.Class.{rest_front, rows_join, rows_none_here, rows_none_later}
 use Rattle.syslog_pieces.proofs.PieceLemmas.Rows.{no_row, row_of, ◌past◌, ◌then◌}

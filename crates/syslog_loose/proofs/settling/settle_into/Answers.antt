@@ -1,4 +1,4 @@
-use Rattle.syslog_loose.proofs.Names.{Ok, err_from_is_err_and, chars, dating_of, refl}
+use Rattle.syslog_loose.proofs.Names.{Ok, err_from_is_err_and, chars, dating_of}
 use Rattle.syslog_loose.specs.Settling.{answer_in}
 use Rattle.syslog_loose.proofs.ReadingLemmas.{in_year_map}
 use Rattle.syslog_loose.proofs.SettlingLemmas.Settles.{first_answer, first_fault}
@@ -26,19 +26,10 @@ returns-then-settled-clause-canonical g c =
     in_year_map (λ year h. answer_canonical c.args.variant (dating_of year c.args.tz c.args.local)
     (chars c.args.input.now) (Ok c.next_round.new.text) h) (returns-then-settled-clause-settles g c)
 
-pub settle_on-requires : goal.settle_on-requires
-settle_on-requires g c =
-    let told = c.in_ok-settled.ensures in
-    let dating = dating_of told.answered c.args.tz c.args.local in (
-      dating,
-      told_reaches c.args.variant dating _ _ c.in_ok-settled.settled c.if-settled.false
-          (told.holds told.answered (λ date asks. refl)),
-    )
-
 pub returns-clause-settles : goal.returns-clause-settles
 returns-clause-settles g c =
     in_year_map (λ year h. let dating = dating_of year c.args.tz c.args.local in
-    c.settle_on.ensures dating (told_reaches c.args.variant dating _ _ c.in_ok-settled.settled c.if-settled.false h))
+    c.settle_on.ensures dating (chars c.args.input.now) (told_reaches c.args.variant dating _ _ c.in_ok-settled.settled c.if-settled.false h))
     c.in_ok-settled.ensures
 
 pub returns-clause-canonical : goal.returns-clause-canonical

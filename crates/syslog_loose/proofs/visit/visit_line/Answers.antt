@@ -1,4 +1,4 @@
-use Rattle.std.proofs.Common.{ℤ, Option, None, Some, refl}
+use Rattle.std.proofs.Common.{None, Some, refl}
 use Rattle.std.specs.Str.{chars}
 use Rattle.syslog_pieces.specs.Timestamp.Zone.{dating_of}
 use Rattle.syslog_pieces.proofs.StructuredDataLemmas.Listed.{visits_none}

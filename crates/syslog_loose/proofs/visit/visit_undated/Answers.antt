@@ -1,4 +1,4 @@
-use Rattle.std.proofs.Common.{◌≡◌, ◌≢◌, ◌∙◌, None, Some, refl, sym, subst}
+use Rattle.std.proofs.Common.{◌∙◌, sym}
 use Rattle.syslog_pieces.proofs.StructuredDataLemmas.Listed.{visits_none}
 use Rattle.syslog_loose.proofs.StartLemmas.{left_to_try, other_front, undated_invalid}
 use Rattle.syslog_loose.proofs.VisitLemmas.{made_3164, made_5424, visits_after}

@@ -1,4 +1,4 @@
-use Rattle.std.proofs.Common.{refl, sym, ap, ◌∙◌, ◌++◌, ℕ, List}
+use Rattle.std.proofs.Common.{refl, ap, ◌∙◌, ◌++◌, ℕ, List}
 use Rattle.std.proofs.lemmas.Grind.{put_two}
 use Rattle.std.specs.Str.{encode_utf8_all}
 use Rattle.syslog_loose.specs.Line.{line_value, rest_text}

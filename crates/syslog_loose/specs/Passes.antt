@@ -1,0 +1,118 @@
+-- What a pass of `settle` writes, and the rank of a message, which falls with each pass. (All of it is this project's
+-- own.)
+use Rattle.std.specs.Prelude.{◌≡◌, ◌↔◌, ⊤, ℕ, zero, suc, List, [], ◌++◌, Bool, MatchBool, Option, Some, None, IfSome}
+use Rattle.std.specs.Prelude.{Result, Ok, Err, MatchResult}
+use Rattle.std.specs.Str.{chars}
+use Rattle.std.specs.declared.alloc.AllocError.{AllocError}
+use Rattle.syslog_pieces.specs.Pieces.Class.{Text}
+use Rattle.syslog_pieces.specs.Text.{colon, EndsInColon}
+use Rattle.syslog_pieces.specs.Timestamp.Canonical.{IsCanonicalStamp}
+use Rattle.syslog_pieces.specs.Timestamp.Rfc3164.{ShowsMonthDate}
+use Rattle.syslog_pieces.specs.Timestamp.Zone.{Dating}
+use Rattle.syslog_pieces.specs.declared.timestamp.month_date.MonthDate.{MonthDate}
+use Rattle.syslog_loose.specs.Exceptions.{HasNoException}
+use Rattle.syslog_loose.specs.Jumps.{HasNoNameException, IsDashed}
+use Rattle.syslog_loose.specs.Line.{line_value}
+use Rattle.syslog_loose.specs.Message.{MessageValue}
+use Rattle.syslog_loose.specs.Printed.{printed}
+use Rattle.syslog_loose.specs.Reading.{dash_rule, IsRead, IsUnreadable}
+use Rattle.syslog_loose.specs.Settling.{IsNext, IsSettled, Reaches}
+use Rattle.syslog_loose.specs.declared.fault.ParseFault.{ParseFault}
+use Rattle.syslog_loose.specs.declared.fault.ParseFault.TheVariants.{Invalid, Memory}
+use Rattle.syslog_loose.specs.declared.line.Line.{Line}
+use Rattle.syslog_loose.specs.declared.message.Protocol.{Protocol}
+use Rattle.syslog_loose.specs.declared.message.Protocol.TheVariants.{RFC3164, RFC5424}
+use Rattle.syslog_loose.specs.declared.variant.Variant.{Variant}
+
+-- ---- ranks
+
+-- with no element, the message part is no dash with blanks after it
+abbrev pub BeginsNoDashes : MessageValue → Type 0
+BeginsNoDashes m = m.structured_data ≡ [] → (rest : Text) → IsDashed m.msg rest → ⊥
+
+-- The message of RFC 3164 has this rank, or a lower one. Each line leaves out what the lines before it ask last.
+abbrev pub HasRank : ℕ → MessageValue → Type 0
+HasRank zero m = HasNoException dash_rule m
+HasRank (suc zero) m = HasNoNameException m × BeginsNoDashes m
+HasRank (suc (suc zero)) m = HasNoNameException m
+HasRank (suc (suc (suc zero))) m = IfSome m.timestamp IsCanonicalStamp × IfSome m.hostname (λ h. EndsInColon h → ⊥)
+HasRank (suc (suc (suc (suc zero)))) m = IfSome m.timestamp IsCanonicalStamp
+HasRank (suc (suc (suc (suc (suc n))))) m = ⊤
+
+-- ---- what a pass prints
+
+-- the text does not end in two colons
+abbrev pub EndsOnce : Text → Type 0
+EndsOnce t = (front : Text) → t ≡ front ++ colon → EndsInColon front → ⊥
+
+-- Of a message of RFC 3164 a pass prints this one: the message itself, or what is read in one of its later rounds.
+pub record Prints (m later : MessageValue) : Type 0 where
+  pub timestamp : later.timestamp ≡ m.timestamp
+  pub one_colon : IfSome m.timestamp IsCanonicalStamp → IfSome later.hostname EndsOnce
+  pub host : IfSome m.hostname (λ h. EndsInColon h → ⊥) → later.hostname ≡ m.hostname
+  pub quiet : HasNoNameException m → HasNoNameException later
+  pub last_dash : HasNoNameException m → later.structured_data ≡ [] → (p q : Text) → IsDashed later.msg p → IsDashed p q
+      → ⊥
+  pub no_dashes : HasNoNameException m → BeginsNoDashes m → BeginsNoDashes later
+
+-- this is a later round of the input, which was read as the message, and none before it is settled
+pub record IsLater (variant : Variant) (dating : Dating) (input : Text) (m : MessageValue) (later : Text) : Type 0 where
+  pub before : ℕ
+  pub reaches : Reaches variant dating input before later
+  pub text : Text
+  pub message : MessageValue
+  pub read : IsRead variant dating text message
+  pub is_rfc3164 : message.protocol ≡ RFC3164
+  pub is_printed : later ≡ printed message
+  pub passes : Prints m message
+
+-- ---- words of the bodies
+
+-- a message that was read so prints as a settled text
+abbrev pub IsAtRest : Protocol → MessageValue → Type 0
+IsAtRest RFC3164 m = HasNoException dash_rule m
+IsAtRest (RFC5424 version) m = ⊤
+
+-- the text is not settled, none of its rounds before this one is, and what is read of this one has a lower rank
+pub record IsUnsettled (variant : Variant) (dating : Dating) (text later : Text) : Type 0 where
+  pub never : IsSettled variant dating text → ⊥
+  pub before : ℕ
+  pub reaches : Reaches variant dating text before later
+  pub message : MessageValue
+  pub read : IsRead variant dating text message
+  pub odd : HasRank 0 message → ⊥
+  pub lower : (n : ℕ) (m : MessageValue) → IsRead variant dating later m → HasRank (suc n) message → HasRank n m
+
+-- where this is true, this is the next round of the text, and settled; or else a round of an unsettled text
+abbrev pub IsToldRound : Variant → Dating → Text → Text → Bool → Type 0
+IsToldRound variant dating text later settled = MatchBool settled
+    (IsNext variant dating text later × IsSettled variant dating later) (IsUnsettled variant dating text later)
+
+-- a round as it is told, or a fault that tells whether the text is unreadable
+abbrev pub AnswersRound : Variant → Dating → Text → List ℕ → Result Bool ParseFault → Type 0
+AnswersRound variant dating text bytes result = MatchResult result
+    (λ settled. IsToldRound variant dating text (chars bytes) settled)
+    (λ fault. (fault ≡ Invalid) ↔ IsUnreadable variant dating text)
+
+-- What is written of a line: a round as it is told, of each text that is read as the line.
+abbrev pub WritesRound : Line → Result Bool AllocError → List ℕ → Type 0
+WritesRound line made bytes = MatchResult made
+    (λ settled. (variant : Variant) (dating : Dating) (whole : Text) → IsRead variant dating whole (line_value line)
+    → IsToldRound variant dating whole (chars bytes) settled)
+    (λ _. ⊤)
+
+-- what is answered where this was written of the line of a text, or where there is none
+abbrev pub round_answer : Option (Result Bool AllocError) → Result Bool ParseFault
+round_answer None = Err Invalid
+round_answer (Some (Ok settled)) = Ok settled
+round_answer (Some (Err _)) = Err Memory
+
+-- the text shows no month date
+abbrev pub ShowsNoDate : Text → Type 0
+ShowsNoDate text = (date : MonthDate) → ShowsMonthDate text date → ⊥
+
+-- this is a round of the text, before which none is settled, and what is read of it has this rank
+pub record ReachesRank (variant : Variant) (dating : Dating) (text : Text) (rank : ℕ) (u : Text) : Type 0 where
+  pub before : ℕ
+  pub reaches : Reaches variant dating text before u
+  pub ranked : (m : MessageValue) → IsRead variant dating u m → HasRank rank m
