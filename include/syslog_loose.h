@@ -4,8 +4,8 @@
  *
  *     cc program.c $(pkg-config --cflags --libs syslog_loose)
  *
- * A program may include the system's <syslog.h> too. Only the calls that write a text ask for memory, by the
- * program's malloc, realloc and free. The library has no state: no call frees or keeps anything of the caller's, none leaves anything to be freed, and
+ * A program may include the system's <syslog.h> too. Only syslog_settle asks for memory, by the program's malloc,
+ * realloc and free. The library has no state: no call frees or keeps anything of the caller's, none leaves anything to be freed, and
  * threads may call it at once. Don't call it from a signal handler, nor in the forked child of a process with threads.
  *
  * What each call owes its caller is proved from its code, but not what the caller owes the call:
@@ -46,7 +46,7 @@ enum syslog_outcome {
     SYSLOG_DONE = 0,         /* all of the answer is there */
     SYSLOG_NO_READING = 1,   /* the line is no message (syslog_settle: or one of the texts that it prints is none) */
     SYSLOG_NOT_UTF8 = 2,     /* the bytes are no UTF-8 */
-    SYSLOG_NO_MEMORY = 3,    /* a request for memory was refused, which only calls that write a text make */
+    SYSLOG_NO_MEMORY = 3,    /* a request for memory was refused: syslog_settle alone makes them */
     SYSLOG_NO_ROOM = 4,      /* the answer takes more room than there is: see what is needed */
     SYSLOG_BAD_ARGUMENT = 5  /* one of the options is out of its range */
 };
@@ -137,8 +137,8 @@ uint32_t syslog_read_fields(const char *line, size_t length, const struct syslog
 
 /* The three that follow write a text to the beginning of the room, and its length to needed.
  *
- * SYSLOG_DONE: it is there, with no zero byte behind it, and the rest of the room is as it was.
- * SYSLOG_NO_ROOM: needed has its length, and the room, which is shorter, is as it was.
+ * SYSLOG_DONE: it is there, with no zero byte after it, and the rest of the room is as it was.
+ * SYSLOG_NO_ROOM: needed has its length, and the room, which is shorter, may hold anything.
  * Any other: needed is 0, and the room is as it was.
  */
 

@@ -331,26 +331,23 @@ static void threads(void)
         CHECK(!pthread_join(ids[i], NULL) && sums[i] == alone);
 }
 
-/* Each call once: a refused request is that of a call that writes a text. */
+/* Each call once: a refused request is syslog_settle's. */
 static int with_memory_refused(const char *line)
 {
     static struct place place;
     static char room[ROOM];
     size_t length = strlen(line), needed = 77;
     uint32_t canonical = 77, code;
-    int seen = 0;
     set(&place);
     CHECK(syslog_read(line, length, &OPTIONS, &place.message, place.elements, MOST, place.params, MOST) == SYSLOG_DONE);
     CHECK(syslog_read_fields(line, length, &OPTIONS, &place.message) == SYSLOG_DONE);
     CHECK(syslog_is_canonical(line, length, &OPTIONS, &canonical) == SYSLOG_DONE && canonical <= 1);
-    writer *calls[] = { normalise, settle, syslog_unescape };
-    for (int i = 0; i < 3; i++) {
-        memset(room, 0, sizeof room);
-        code = calls[i](line, length, room, sizeof room, &needed);
-        CHECK(code == SYSLOG_DONE ? needed == strlen(room) : code == SYSLOG_NO_MEMORY && needed == 0 && !room[0]);
-        seen |= code == SYSLOG_NO_MEMORY;
-    }
-    return seen ? 4 : 0;
+    CHECK(normalise(line, length, room, sizeof room, &needed) == SYSLOG_DONE && needed > length);
+    CHECK(syslog_unescape(line, length, room, sizeof room, &needed) == SYSLOG_DONE && needed <= length);
+    memset(room, 0, sizeof room);
+    code = settle(line, length, room, sizeof room, &needed);
+    CHECK(code == SYSLOG_DONE ? needed == strlen(room) : code == SYSLOG_NO_MEMORY && needed == 0 && !room[0]);
+    return code == SYSLOG_NO_MEMORY ? 4 : 0;
 }
 
 int main(int count, char **words)

@@ -1,5 +1,7 @@
 -- What a call leaves in room of the caller's, and as the length that is needed.
 use Rattle.std.specs.Prelude.{◌≡◌, ◌⊎◌, ℕ, ◌<◌, ◌≤◌, ◌^◌, ◌-◌, List, ◌++◌, length, drop, min}
+use Rattle.std.specs.Str.{chars, IsUtf8}
+use Rattle.syslog_pieces.specs.Pieces.Class.{Text}
 use Rattle.syslog_loose.specs.declared.fault.ParseFault.{ParseFault}
 use Rattle.syslog_loose.specs.declared.fault.ParseFault.TheVariants.{Invalid, Memory}
 use Rattle.syslog_c.specs.declared.outcome.Outcome.{Outcome}
@@ -13,10 +15,14 @@ told_length bytes = min (length bytes) (2 ^ 64 - 1)
 -- The length of the bytes is told. They are at the front of the room, and what follows is as it was; or the room is too
 -- small for them.
 abbrev pub Puts : List ℕ → List ℕ → List ℕ → ℕ → Outcome → Type 0
-Puts bytes old new needed Done = (needed ≡ length bytes) × (length bytes ≤ length old)
+Puts bytes old new needed Done = (needed ≡ length bytes) × (length bytes ≤ length new)
     × (new ≡ bytes ++ drop (length bytes) old)
-Puts bytes old new needed NoRoom = (needed ≡ told_length bytes) × (length old < length bytes)
+Puts bytes old new needed NoRoom = (needed ≡ told_length bytes) × (length new < length bytes)
 Puts bytes old new needed outcome = ⊥
+
+-- the same; or a write was refused, which no write into the room is
+abbrev pub PutsUnlessRefused : List ℕ → List ℕ → List ℕ → ℕ → Outcome → Type 0
+PutsUnlessRefused bytes old new needed outcome = Puts bytes old new needed outcome ⊎ (outcome ≡ NoMemory)
 
 -- this text was put since the first, as far as there is space
 pub record HasTaken (first now : Buffer) (bytes : List ℕ) : Type 0 where
@@ -28,9 +34,13 @@ pub record HasTaken (first now : Buffer) (bytes : List ℕ) : Type 0 where
 abbrev pub Takes : Buffer → List ℕ → Buffer → Type 0
 Takes old bytes new = (first : Buffer) (taken : List ℕ) → HasTaken first old taken → HasTaken first new (taken ++ bytes)
 
+-- the bytes of this text more are put
+abbrev pub TakesText : Buffer → Text → Buffer → Type 0
+TakesText old text new = (bytes : List ℕ) × IsUtf8 bytes × (chars bytes ≡ text) × Takes old bytes new
+
 -- the length is told, and whether there is space for the text
 abbrev pub TellsLength : Buffer → ℕ → Outcome → Type 0
-TellsLength buffer needed outcome = (needed ≡ buffer.needed)
+TellsLength buffer needed outcome = (needed ≡ buffer.needed) × (length buffer.room.now < 2 ^ 64 - 1)
     × (((outcome ≡ Done) × (buffer.needed ≤ length buffer.room.now))
     ⊎ ((outcome ≡ NoRoom) × (length buffer.room.now < buffer.needed)))
 

@@ -39,11 +39,10 @@ impl<'r> Buffer<'r> {
         ensures { TellsLength self.now needed.new result }
     {
         *needed = self.needed;
-        if self.needed <= self.room.len() {
-            Outcome::Done
-        } else {
-            Outcome::NoRoom
+        if self.needed > self.room.len() {
+            return Outcome::NoRoom;
         }
+        Outcome::Done
     }
 }
 
