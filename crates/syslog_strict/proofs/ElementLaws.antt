@@ -17,8 +17,8 @@ use Rattle.syslog_strict.specs.Conversion.{converted_element, converted_elements
 use Rattle.syslog_strict.specs.Conversion.{is_among, joined_past, or_mark, params_of}
 use Rattle.syslog_strict.specs.Grammar.{AreDistinct, IsParamValue, IsSdElement, IsSdName, IsSdParam, IsStructuredData, IsValuePiece}
 use Rattle.syslog_strict.specs.Grammar.{is_escaped, is_sd_char}
-use Rattle.syslog_strict.proofs.NameLaws.{cleaned_passes, cleaned_short, no_text_eq, some_long}
-use Rattle.syslog_strict.proofs.TextLemmas.{cleaned_some}
+use Rattle.syslog_strict.proofs.NameLaws.{no_text_eq, some_long}
+use Rattle.syslog_strict.proofs.TextLemmas.{cleaned_passes, cleaned_short, cleaned_some}
 
 -- ---- names
 

@@ -6,3 +6,4 @@ pub mod NameLaws
 pub mod StampLemmas
 pub mod StampLaws
 pub mod TextLemmas
+pub mod ValidLemmas

@@ -22,31 +22,7 @@ use Rattle.syslog_strict.specs.Conversion.{cleaned, converted_host, converted_pr
 use Rattle.syslog_strict.specs.Conversion.{without_last_colon, without_lone_colon}
 use Rattle.syslog_strict.specs.Grammar.{IsSomeOf, is_printusascii}
 use Rattle.syslog_pieces.proofs.PieceLemmas.Class.{heads}
-use Rattle.syslog_strict.proofs.TextLemmas.{kept_as, lost_as}
-
--- ---- cleaned texts
-
-kept_passes : (test : ℕ → Bool) (c : ℕ) → test 63 ≡ true → test (kept_char test c) ≡ true
-kept_passes test c mark = elim (cases_Bool (test c)) [ inl e ↦ rw e e | inr e ↦ rw e mark ]
-
-map_passes : (test : ℕ → Bool) (t : Text) → test 63 ≡ true → Each test (map (kept_char test) t)
-map_passes test [] mark = tt
-map_passes test (c ∷ t) mark = (kept_passes test c mark, map_passes test t mark)
-
-pub cleaned_passes : (test : ℕ → Bool) (most : ℕ) (t : Text) → test 63 ≡ true → Each test (cleaned test most t)
-cleaned_passes test most t mark = map_passes test (take most t) mark
-
-length_mapped : (f : ℕ → ℕ) (t : Text) → length (map f t) ≡ length t
-length_mapped f [] = refl
-length_mapped f (c ∷ t) = ap suc (length_mapped f t)
-
-length_taken : (most : ℕ) (t : Text) → length (take most t) ≤ most
-length_taken zero t = omega arith
-length_taken (suc n) [] = omega arith
-length_taken (suc n) (c ∷ t) = let short = length_taken n t in omega (arith, short)
-
-pub cleaned_short : (test : ℕ → Bool) (most : ℕ) (t : Text) → length (cleaned test most t) ≤ most
-cleaned_short test most t = rw (length_mapped (kept_char test) (take most t)) (length_taken most t)
+use Rattle.syslog_strict.proofs.TextLemmas.{cleaned_passes, cleaned_short, kept_as, lost_as}
 
 -- what is left of a name that isn't empty
 long : (c : ℕ) (t : Text) → 0 < length (c ∷ t)
