@@ -15,6 +15,7 @@ PC_PREFIX = $(PREFIX)
 OUT = out
 TIDY = crates/syslog_tidy/out/syslog_tidy
 JSON = crates/syslog_json/out/syslog_json
+STRICT = crates/syslog_5424/out/syslog_5424
 LIBRARY = crates/syslog_c/out/libsyslog_c.a
 # The toolchain's part of the library, which asks for memory. (Looked for where it is linked alone: no install needs rt.)
 KIT = $(patsubst %/,%,$(dir $(shell rt doc)))
@@ -23,11 +24,11 @@ HEAP = $(KIT)/c/liblibc_c.a
 VERSION := $(shell awk '/^.define SYSLOG_VERSION_(MAJOR|MINOR|PATCH) / { printf s $$3; s = "." }' include/syslog_loose.h)
 SONAME = libsyslog_loose.so.0
 SHARED = libsyslog_loose.so.$(VERSION)
-BUILT = $(TIDY) $(JSON) $(OUT)/libsyslog_loose.a $(OUT)/$(SHARED)
+BUILT = $(TIDY) $(JSON) $(STRICT) $(OUT)/libsyslog_loose.a $(OUT)/$(SHARED)
 
 TOP = $(DESTDIR)$(PREFIX)
-PAGES = share/man/man1/syslog_tidy.1 share/man/man1/syslog_json.1 share/man/man3/syslog_loose.3
-INSTALLED = bin/syslog_tidy bin/syslog_json include/syslog_loose.h lib/libsyslog_loose.a lib/$(SHARED) lib/$(SONAME) \
+PAGES = share/man/man1/syslog_tidy.1 share/man/man1/syslog_json.1 share/man/man1/syslog_5424.1 share/man/man3/syslog_loose.3
+INSTALLED = bin/syslog_tidy bin/syslog_json bin/syslog_5424 include/syslog_loose.h lib/libsyslog_loose.a lib/$(SHARED) lib/$(SONAME) \
 	lib/libsyslog_loose.so lib/pkgconfig/syslog_loose.pc $(PAGES)
 
 .PHONY: all check install uninstall dist
@@ -35,12 +36,13 @@ all:
 	cd crates/syslog_c && rt lib
 	cd crates/syslog_tidy && rt run -- --version
 	cd crates/syslog_json && rt run -- --version
+	cd crates/syslog_5424 && rt run -- --version
 	$(MAKE) $(OUT)/libsyslog_loose.a $(OUT)/$(SHARED)
 
 check:
 	tests/all
 
-$(TIDY) $(JSON) $(LIBRARY):
+$(TIDY) $(JSON) $(STRICT) $(LIBRARY):
 	@echo '$@ is not there: make builds it' >&2; exit 1
 
 # One archive, so that one -l links, which defines no name but the calls'.
@@ -57,7 +59,7 @@ $(OUT)/$(SHARED): $(OUT)/libsyslog_loose.a packaging/exports.map
 
 install: $(BUILT)
 	install -d $(addprefix $(TOP)/,bin include lib/pkgconfig share/man/man1 share/man/man3) $(DESTDIR)$(DOCDIR)
-	install -m 755 $(TIDY) $(JSON) $(TOP)/bin
+	install -m 755 $(TIDY) $(JSON) $(STRICT) $(TOP)/bin
 	install -m 644 include/syslog_loose.h $(TOP)/include
 	install -m 644 $(OUT)/libsyslog_loose.a $(OUT)/$(SHARED) $(TOP)/lib
 	ln -sf $(SHARED) $(TOP)/lib/$(SONAME)

@@ -1,4 +1,5 @@
 pub mod ElementLemmas
+pub mod AgainLaws
 pub mod ConversionLaws
 pub mod ElementLaws
 pub mod LineLemmas

@@ -110,7 +110,7 @@ colonless_some [] some = absurd (some refl)
 colonless_some (c ∷ []) some = λ e. cc
 colonless_some (c ∷ d ∷ t) some = λ e. cc
 
-colonless_same : (t : Text) → ((front : Text) → t ≢ front ++ (58 ∷ [])) → without_last_colon t ≡ t
+pub colonless_same : (t : Text) → ((front : Text) → t ≢ front ++ (58 ∷ [])) → without_last_colon t ≡ t
 colonless_same [] none = refl
 colonless_same (c ∷ []) none = elim (cases_Bool (no_colon c)) [
   | inl e ↦ rw e refl

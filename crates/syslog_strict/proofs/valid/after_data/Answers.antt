@@ -1,4 +1,4 @@
-use Rattle.std.proofs.Common.{◌∷◌, ◌++◌, [], map, refl, sym, ap, ◌∙◌}
+use Rattle.std.proofs.Common.{map, sym, ap, ◌∙◌}
 use Rattle.syslog_pieces.specs.Pieces.View.{shown}
 use Rattle.syslog_strict.proofs.ValidLemmas.{elements_on, mapped_last, nil_data}
 use Rattle.syslog_strict.proofs.valid.after_data.Goals as goal

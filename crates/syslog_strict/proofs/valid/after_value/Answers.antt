@@ -1,5 +1,4 @@
 use Rattle.std.proofs.Common.{sym}
-use Rattle.std.specs.Str.{chars}
 use Rattle.syslog_strict.proofs.ValidLemmas.{value_closed, value_pair}
 use Rattle.syslog_strict.proofs.valid.after_value.Goals as goal
 

@@ -1,8 +1,7 @@
-use Rattle.std.proofs.Common.{◌≡◌, ◌++◌, length}
+use Rattle.std.proofs.Common.{length}
 use denote.Text.{Utf8}
 use denote.Shadow.{shadow}
 use Rattle.std.specs.Str.{chars}
-use Rattle.syslog_pieces.specs.Pieces.Class.{Text}
 use Rattle.syslog_strict.specs.Beginnings.{Begins}
 use Rattle.syslog_strict.specs.Grammar.{IsParamValue}
 use Rattle.syslog_strict.proofs.valid.after_value.Given as goal
