@@ -2,6 +2,17 @@
 as the fields of the line's message say."""
 import json
 
+KEYS = (
+    "protocol version facility facility_code severity severity_code timestamp hostname appname procid msgid structured_data message raw"
+    " refused invalid_utf8"
+).split()
+# The names of RFC 5424's tables 1 and 2 in the order of their numbers, as syslog.h has them.
+FACILITIES = (
+    "kern user mail daemon auth syslog lpr news uucp cron authpriv ftp ntp audit alert clockd"
+    " local0 local1 local2 local3 local4 local5 local6 local7"
+).split()
+SEVERITIES = "emerg alert crit err warning notice info debug".split()
+
 
 def once(pairs):
     """An object in which no name stands twice."""
@@ -11,13 +22,19 @@ def once(pairs):
     return found
 
 
+def in_order(value):
+    """The value, with its keys in the order in which they are written."""
+    return {key: value[key] for key in KEYS if key in value}
+
+
 def text_of(value):
-    """The one line of a value: names in the order of their bytes, no space between tokens."""
-    return json.dumps(value, ensure_ascii=False, separators=(",", ":"), sort_keys=True).encode()
+    """The one line of a value: no space between tokens."""
+    return json.dumps(in_order(value), ensure_ascii=False, separators=(",", ":")).encode()
 
 
 def value_of(line):
-    """What Python's json makes of a line, or what is wrong with it: it must also be the very text that json writes."""
+    """What Python's json makes of a line, or what is wrong with it: it must also be the very text that json writes, with
+    no other keys, and these in order."""
     try:
         value = json.loads(line.decode(), object_pairs_hook=once)
     except ValueError as wrong:
@@ -39,16 +56,25 @@ def gathered(pairs):
     return {name: values[0] if len(values) == 1 else values for name, values in found.items()}
 
 
+def coded(value):
+    """The value with the numbers of its facility and severity."""
+    codes = {"facility_code": FACILITIES.index(value["facility"])} if "facility" in value else {}
+    if "severity" in value:
+        codes["severity_code"] = SEVERITIES.index(value["severity"])
+    return in_order({**value, **codes})
+
+
 def refused_line(line):
     """The object of a line, in bytes, that is no message."""
     try:
         return {"message": line.decode(), "refused": True}
     except UnicodeDecodeError:
-        return {"invalid_utf8": True, "message": line.decode(errors="replace"), "refused": True}
+        return {"message": line.decode(errors="replace"), "refused": True, "invalid_utf8": True}
 
 
-def object_of(line, fields):
-    """The object of a line, by its fields as bench/reader and the Rust crate tell them."""
+def object_of(line, fields, raw=False):
+    """The object of a line, by its fields as bench/reader and the Rust crate tell them, and with the line itself where that
+    is asked for."""
     if not fields["ok"]:
         return refused_line(line)
     elements = [(it["id"], gathered((name, plain) for name, _, plain in it["params"])) for it in fields["structured_data"]]
@@ -60,9 +86,10 @@ def object_of(line, fields):
         "timestamp": fields["timestamp"] and fields["timestamp"]["text"],
         "hostname": fields["hostname"],
         "appname": fields["appname"],
-        "procid": fields["procid"] and fields["procid"]["value"],
+        "procid": fields["procid"] and str(fields["procid"]["value"]),
         "msgid": fields["msgid"],
         "structured_data": gathered(elements) if elements else None,
         "message": fields["msg"],
+        "raw": line.decode() if raw else None,
     }
-    return {name: value for name, value in found.items() if value is not None}
+    return coded({name: value for name, value in found.items() if value is not None})

@@ -29,12 +29,14 @@ def message_object(message: Message, printed: str) -> dict[str, Any]:
         "protocol": "RFC%d" % message.protocol,
         "version": message.version,
         "facility": None if message.facility is None else message.facility.name.lower(),
+        "facility_code": None if message.facility is None else int(message.facility),
         "severity": None if message.severity is None else message.severity.name.lower(),
+        "severity_code": None if message.severity is None else int(message.severity),
         # (the second word of a printed line, with all of its decimals)
         "timestamp": printed.split(" ", 2)[1] if dated else None,
         "hostname": message.hostname,
         "appname": message.appname,
-        "procid": message.procid,
+        "procid": None if message.procid is None else str(message.procid),
         "msgid": message.msgid,
         "structured_data": gathered((it.id, gathered(it.params)) for it in message.structured_data) or None,
         "message": message.message,
@@ -48,7 +50,7 @@ def line_object(line: bytes, year: int, month: int | None) -> dict[str, Any]:
     except ParseError:
         text = line.decode(errors="replace")
         broken = {"invalid_utf8": True} if text.encode() != line else {}
-        return {**broken, "message": text, "refused": True}
+        return {"message": text, "refused": True, **broken}
 
 
 def main() -> int:
@@ -63,7 +65,7 @@ def main() -> int:
             with sys.stdin.buffer if name == "-" else open(name, "rb") as lines:
                 for line in lines:
                     written = line_object(line[:-1] if line.endswith(b"\n") else line, chosen.year, chosen.month)
-                    print(json.dumps(written, ensure_ascii=False, sort_keys=True, separators=(",", ":")))
+                    print(json.dumps(written, ensure_ascii=False, separators=(",", ":")))
         sys.stdout.flush()
     except BrokenPipeError:
         # (nothing is written to the closed pipe at the end either)

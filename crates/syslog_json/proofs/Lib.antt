@@ -1,4 +1,1 @@
-pub mod MemberLemmas
-pub mod TextLemmas
-pub mod MessageLemmas
 pub mod UniqueLemmas

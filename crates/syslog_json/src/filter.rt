@@ -1,29 +1,22 @@
 //! The filter that writes each line as JSON.
-ghost use Rattle.std.specs.Prelude.{◌≡◌, ◌≤◌, ◌++◌, [], ◌∷◌, ℕ, List, false, IfErr, IfOk, MatchOption, OnErr, OnOk};
+ghost use Rattle.std.specs.Prelude.{◌≡◌, [], false, IfErr, IfOk};
 ghost use Rattle.std.specs.Str.{chars};
-ghost use Rattle.syslog_loose.specs.Message.{MessageValue};
 ghost use Rattle.jiff.specs.Words.{IsYear};
-ghost use Rattle.syslog_loose.specs.Reading.{IsOnlyRead, IsUnreadable};
+ghost use Rattle.syslog_pieces.specs.Pieces.View.{seen};
 ghost use Rattle.syslog_loose.specs.Reckoning.{reckoned_year};
-ghost use Rattle.syslog_loose.specs.declared.variant.Variant.TheVariants.{Either};
-ghost use Rattle.serde_json.specs.Data.{depth};
-ghost use Rattle.serde_json.specs.Read.{max_depth};
-ghost use Rattle.serde_json.specs.View.{view};
-ghost use Rattle.serde_json.specs.Written.{has_float};
 ghost use Rattle.syslog_lines.specs.Pump.{EndsEarly, FailedAs};
-ghost use Rattle.syslog_json.specs.Json.{IsMessageJson};
-ghost use Rattle.syslog_json.specs.Objects.{IsDated, IsTextOf, WritesObjects, broken_json, objects, refused_json};
+ghost use Rattle.syslog_json.specs.Objects.{IsObject, WritesObjects, answer_of, objects, raw_text};
 
-use crate::message::message_object;
 use crate::options::Options;
-use serde_json::{Map, Value, put};
 use std::alloc::{AllocError, Global};
 use std::io::{Read, Write};
+use std::mem;
 use syslog_lines::pump::pump;
 use syslog_lines::{LineFilter, RunFault, Summary, Watched, push_line};
 use syslog_loose::{
-    IncompleteDate, ParseFault, Variant, parse_message_with_year_exact_tz, reckon_year,
+    IncompleteDate, Line, LineVisitor, NoElements, Variant, reckon_year, visit_line,
 };
+use syslog_object::{push_invalid, push_object, push_refused};
 
 /// Reads lines to the end of the input, and writes each as one JSON object on one line: that of its message, read by
 /// the options, or one that has the line and `"refused": true`. No line is lost, and no byte below 32 stands in an
@@ -65,30 +58,39 @@ struct Objects {
 }
 
 impl Objects {
-    // The object of the line's message, where it is one.
-    fn read_line(&self, alloc: Global, line: &str) -> Result<Option<Value>, AllocError>
-        ensures { IfOk result (λ found. MatchOption found
-            (IsDated self.now.options (chars line.now) (λ dating. IsUnreadable Either dating (chars line.now)))
-            (λ value. (m : MessageValue)
-            × IsDated self.now.options (chars line.now) (λ dating. IsOnlyRead Either dating (chars line.now) m)
-            × IsMessageJson m (view value))) }
+    // Writes the object of the line, and says whether it is a message.
+    #[inline(always)]
+    fn write_line<'a>(
+        &self,
+        line: &'a str,
+        writer: &mut ObjectWriter<'a>,
+    ) -> Result<bool, AllocError>
+        requires empty { writer.old.object.items ≡ [] }
+        requires raw { seen writer.old.raw ≡ raw_text self.now.options.raw (chars line.now) }
+        ensures { IfOk result (λ is_message.
+            IsObject self.now.options line.now (answer_of is_message writer.new.object.items)) }
     {
         let year = self.options.year;
         let month = self.options.month;
         let get_year = move |date: IncompleteDate| -> i32
             ensures { IsYear year → result ≡ reckoned_year year month date }
         { reckon_year(year, month, date) };
-        match parse_message_with_year_exact_tz(
-            alloc,
+        match visit_line(
             line,
             get_year,
             None,
             Variant::Either,
             &self.options.zone,
+            writer,
         ) {
-            Ok(message) => Ok(Some(message_object(alloc, &message)?)),
-            Err(ParseFault::Invalid) => Ok(None),
-            Err(ParseFault::Memory) => Err(AllocError),
+            Some(written) => {
+                written?;
+                Ok(true)
+            }
+            None => {
+                push_refused(&mut writer.object, line)?;
+                Ok(false)
+            }
         }
     }
 }
@@ -100,20 +102,19 @@ impl LineFilter for Objects {
         &self,
         alloc: Global,
         line: &str,
-        _: &mut String,
+        text: &mut String,
         output: &mut Vec<u8>,
     ) -> Result<bool, AllocError> {
-        match self.read_line(alloc, line)? {
-            Some(value) => {
-                push_value(alloc, output, &value)?;
-                Ok(true)
-            }
-            None => {
-                let value = refused_object(alloc, line)?;
-                push_value(alloc, output, &value)?;
-                Ok(false)
-            }
-        }
+        // The object is put together in the memory of `text`: after an `Err` a part of it stands there, and not in `output`.
+        let mut object = mem::replace(text, String::new(alloc)).into_bytes();
+        object.clear();
+        let raw = if self.options.raw { Some(line) } else { None };
+        let mut writer = ObjectWriter { alloc, object, raw };
+        let is_message = self.write_line(line, &mut writer)?;
+        let ObjectWriter { object, .. } = writer;
+        push_line(output, object.as_slice())?;
+        give_back(object, text);
+        Ok(is_message)
     }
 
     fn answer_other(
@@ -122,47 +123,47 @@ impl LineFilter for Objects {
         line: &[u8],
         output: &mut Vec<u8>,
     ) -> Result<bool, AllocError> {
-        let value = broken_object(alloc, line)?;
-        push_value(alloc, output, &value)?;
+        let text = String::from_utf8_lossy(alloc, line)?;
+        let mut object = Vec::new(alloc);
+        push_invalid(&mut object, text.as_str())?;
+        push_line(output, object.as_slice())?;
         Ok(false)
     }
 }
 
-// Adds the text of a value and a line feed, or nothing where memory is refused.
-fn push_value(alloc: Global, output: &mut Vec<u8>, value: &Value) -> Result<(), AllocError>
-    requires whole { has_float (view value.now) ≡ false }
-    requires shallow { depth (view value.now) ≤ max_depth }
-    ensures ok { OnOk result ((bytes : List ℕ) × IsTextOf (view value.now) bytes
-        × (output.new.items ≡ output.old.items ++ (bytes ++ 10 ∷ []))) }
-    ensures err { OnErr result (output.new.items ≡ output.old.items) }
-{
-    let text = value.to_string(alloc)?;
-    push_line(output, text.as_bytes())
+// Writes the object of a line after what was written.
+#[derive(Drop)]
+struct ObjectWriter<'a> {
+    alloc: Global,
+    object: Vec<u8>,
+    raw: Option<&'a str>,
 }
 
-// The object of a line that is no message.
-fn refused_object(alloc: Global, line: &str) -> Result<Value, AllocError>
-    ensures { IfOk result (λ value. view value ≡ refused_json line.now) }
-{
-    let mut members = Map::new(alloc);
-    put(
-        &mut members,
-        alloc,
-        "message",
-        Value::try_from_str(alloc, line)?,
-    )?;
-    put(&mut members, alloc, "refused", Value::Bool(true))?;
-    Ok(Value::Object(members))
+impl<'a> LineVisitor<'a> for ObjectWriter<'a> {
+    ghost use Rattle.std.specs.Prelude.{◌≡◌, ◌++◌, ⊤, OnOk};
+    ghost use Rattle.syslog_json.specs.Objects.{WritesObject};
+
+    type Elements = NoElements;
+
+    type Answer = Result<(), AllocError>;
+
+    ghost makes = { λ old line made new. OnOk made (WritesObject line old.raw old.object.items new.object.items) };
+
+    #[inline(always)]
+    fn elements(&self) -> NoElements {
+        NoElements
+    }
+
+    #[inline(always)]
+    fn line(&mut self, line: &Line<'a>, _: NoElements) -> Result<(), AllocError> {
+        push_object(self.alloc, &mut self.object, line, self.raw)
+    }
 }
 
-// The object of a line that is no UTF-8.
-fn broken_object(alloc: Global, line: &[u8]) -> Result<Value, AllocError>
-    ensures { IfOk result (λ value. view value ≡ broken_json line.now) }
-{
-    let mut members = Map::new(alloc);
-    let text = String::from_utf8_lossy(alloc, line)?;
-    put(&mut members, alloc, "invalid_utf8", Value::Bool(true))?;
-    put(&mut members, alloc, "message", Value::String(text))?;
-    put(&mut members, alloc, "refused", Value::Bool(true))?;
-    Ok(Value::Object(members))
+// Gives the memory of a text back.
+fn give_back(mut memory: Vec<u8>, text: &mut String) {
+    memory.clear();
+    if let Ok(empty) = String::from_utf8(memory) {
+        *text = empty;
+    }
 }

@@ -1,15 +1,13 @@
 //! Writes each syslog line of standard input to standard output as one JSON object on one line.
 //!
-//! `syslog_json 2019` answers the line `<34>Oct 11 22:14:15 mymachine app[323]: a message` with the object that has
-//! `"protocol":"RFC3164"`, `"facility":"auth"`, `"severity":"crit"`, `"timestamp":"2019-10-11T22:14:15+00:00"`,
-//! `"hostname":"mymachine"`, `"appname":"app"`, `"procid":323` and `"message":"a message"`, its keys in the order of
-//! their bytes. A line that is no message is written as `{"message":"..","refused":true}`, so that no line is lost.
+//! `syslog_json 2019` writes for the line `<34>Oct 11 22:14:15 mymachine app[323]: a message` the object
+//! `{"protocol":"RFC3164","facility":"auth","facility_code":4,"severity":"crit","severity_code":2,`
+//! `"timestamp":"2019-10-11T22:14:15+00:00","hostname":"mymachine","appname":"app","procid":"323",`
+//! `"message":"a message"}`. A line that is no message is written as `{"message":"..","refused":true}`, so that no line
+//! is lost.
 #![tactic(auto)]
 
-mod field;
 mod filter;
-mod gather;
-mod message;
 mod options;
 mod report;
 
@@ -36,14 +34,14 @@ fn answer(rt: &HostRuntime, task: Result<Task, Wrong<'_>>) -> u8 {
     match task {
         Ok(Task::Help) => say(HELP, &mut out, &mut errors),
         Ok(Task::Version) => say_version("syslog_json", VERSION, &mut out, &mut errors),
-        Ok(Task::Lines { dates, .. }) => answer_input(rt, Options::new(dates)),
+        Ok(Task::Lines { raw, dates }) => answer_input(rt, Options::new(raw, dates)),
         Err(wrong) => refuse_words(rt, USAGE, wrong, &mut errors),
     }
 }
 
 fn main(rt: HostRuntime) -> ExitCode {
     let status = match program_words(&rt) {
-        Ok(words) => answer(&rt, read_task(&words, false)),
+        Ok(words) => answer(&rt, read_task(&words, true)),
         Err(wrong) => answer(&rt, Err(wrong)),
     };
     ExitCode::from(status)

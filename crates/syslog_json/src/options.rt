@@ -1,4 +1,4 @@
-//! How lines are read.
+//! How lines are read and written.
 ghost use Rattle.std.specs.Prelude.{◌≡◌};
 ghost use Rattle.jiff.specs.Words.{IsYear, plain_zone};
 ghost use Rattle.syslog_loose.specs.Reckoning.{IsZoneAt};
@@ -6,9 +6,11 @@ ghost use Rattle.syslog_loose.specs.Reckoning.{IsZoneAt};
 use syslog_lines::Dates;
 use syslog_loose::{TimeZone, zone_ahead};
 
-/// How lines are read.
+/// How lines are read and written.
 #[derive(Drop)]
 pub struct Options {
+    /// Whether the object of a message has the line as it came, too.
+    pub raw: bool,
     /// The year of dates that show none.
     pub year: i32,
     /// The month that it is now, if it is known: in January a date of December is of the year before.
@@ -20,7 +22,8 @@ pub struct Options {
 
 impl Options {
     /// The options that a program's words stand for.
-    pub fn new(dates: Dates) -> Options
+    pub fn new(raw: bool, dates: Dates) -> Options
+        ensures raw { result.raw ≡ raw }
         ensures year { result.year ≡ dates.year }
         ensures month { result.month ≡ dates.month }
         ensures zone { IsZoneAt dates.offset (plain_zone result.zone) }
@@ -29,6 +32,7 @@ impl Options {
             unreachable!()
         };
         Options {
+            raw,
             year: dates.year,
             month: dates.month,
             zone,

@@ -2,16 +2,16 @@
 
 /// How the program is called, in one line.
 pub const USAGE: &str =
-    "usage: syslog_json [--offset OFFSET] [--] YEAR[-MONTH], or --help, or --version\n";
+    "usage: syslog_json [--raw] [--offset OFFSET] [--] YEAR[-MONTH], or --help, or --version\n";
 
 /// How the program is called, and what it does.
 pub const HELP: &str =
-    "usage: syslog_json [--offset OFFSET] [--] YEAR[-MONTH], or --help, or --version
+    "usage: syslog_json [--raw] [--offset OFFSET] [--] YEAR[-MONTH], or --help, or --version
 
 Reads lines of syslog from standard input, and writes each as one JSON object
 on one line to standard output. What a message lacks has no key:
-  protocol, version, facility, severity, timestamp, hostname, appname, procid,
-  msgid, structured_data, message
+  protocol, version, facility, facility_code, severity, severity_code,
+  timestamp, hostname, appname, procid, msgid, structured_data, message
 A line that is no message is its \"message\", with \"refused\": true, and with
 \"invalid_utf8\": true where bytes of it were replaced by U+FFFD.
   YEAR             the year of dates that show none: one to four digits
@@ -19,6 +19,7 @@ A line that is no message is its \"message\", with \"refused\": true, and with
                    January a date of December is of the year before
   --offset OFFSET  the zone of dates that show none, +HH:MM or -HH:MM; it is
                    UTC where this is left out
+  --raw            adds each message's line, as it came, as \"raw\"
   --               may come before YEAR
   --help           this text
   --version        the name and the version of this program

@@ -1,7 +1,7 @@
 -- The bytes of a block, as it is moved and read into.
-use Rattle.std.proofs.Common.{◌≡◌, ℕ, ◌+◌, ◌-◌, ◌≤◌, List, ◌++◌, length, length-take}
-use Rattle.std.proofs.Common.{length-drop, take, drop, sym, ap₂, ◌∙◌, arith}
-use Rattle.std.proofs.lemmas.List.{take_at, take-take, drop-take, take-append-drop}
+use Rattle.std.proofs.Common.{◌≡◌, ℕ, ◌+◌, ◌-◌, ◌≤◌, List, length, length-take}
+use Rattle.std.proofs.Common.{length-drop, take, drop, ◌∙◌, arith}
+use Rattle.std.proofs.lemmas.List.{take_at}
 use Rattle.std.proofs.lemmas.Slice.{between_is}
 use Rattle.std.specs.List.{copy_within}
 
@@ -11,9 +11,3 @@ pub take-copy_within : (bytes : List ℕ) (from end : ℕ) → from ≤ end → 
 take-copy_within bytes from end ordered within =
     take_at (take (end - from) (drop from bytes)) (drop (0 + (end - from)) bytes) (end - from)
     (simp (length-take, length-drop) (omega arith)) ∙ between_is bytes from end
-
--- what was read after the front
-pub take-front : (bytes : List ℕ) (at count : ℕ) → take at bytes ++ take count (drop at bytes) ≡ take (at + count) bytes
-take-front bytes at count =
-    ap₂ (λ (xs ys : List ℕ). xs ++ ys) (sym (take-take at (at + count) bytes (omega arith)))
-    (sym (drop-take at count bytes)) ∙ take-append-drop at (take (at + count) bytes)

@@ -1,12 +1,12 @@
 -- From the mask of one load of sixty-four bytes to the bytes before the first line feed.
-use Rattle.std.proofs.Common.{◌≡◌, ℕ, ◌+◌, ◌-◌, ◌%◌, ◌^◌, ◌<◌, ◌≤◌, eqb, cond, Bool, true, false}
-use Rattle.std.proofs.Common.{not, List, map, length, get_or, sym, ap, ◌∙◌, subst, arith, inl, inr}
-use Rattle.std.proofs.lemmas.Bool.{not-true, not-false, cases_eq, eqb-false, eqb-true}
+use Rattle.std.proofs.Common.{◌≡◌, ℕ, ◌+◌, ◌%◌, ◌^◌, ◌≤◌, eqb, cond, Bool}
+use Rattle.std.proofs.Common.{not, List, map, length, sym, ap, ◌∙◌, arith, inl, inr}
+use Rattle.std.proofs.lemmas.Bool.{cases_eq, eqb-false, eqb-true}
 use Rattle.std.proofs.lemmas.Bool.{cond_both}
-use Rattle.std.proofs.lemmas.Simd.{map-map, mask_l-mod, length-chunk, get_or-chunk}
+use Rattle.std.proofs.lemmas.Simd.{map-map, mask_l-mod, length-chunk}
+use Rattle.std.proofs.lemmas.Simd.{run_in_chunk_fails, run_in_chunk_le, run_in_chunk_stops}
 use Rattle.std.proofs.lemmas.Simd.{leading_from_mask_l, trailing_mask_l}
 use Rattle.std.proofs.lemmas.List.{length-map}
-use Rattle.std.proofs.lemmas.List.Sums.{prefix_len-le-length, prefix_len_passes, prefix_len_stops}
 use Rattle.std.specs.Int.{trailing_zeros, w64}
 use Rattle.std.specs.Int.Count.{trailing_of_zero}
 use Rattle.std.specs.List.{prefix_len}
@@ -45,25 +45,11 @@ module _ (bytes : List ℕ) (at run : ℕ) (lanes : List ℕ) (room : at + 64 �
       ∙ mask_l-mod (map stops v) 64 (omega (arith, length-map v stops, long)) in
       found ∙ ap (trailing_zeros w64) mask ∙ run_is v long
 
-  goes_on : (k : ℕ) → at ≤ k → k < at + run → stops (get_or bytes k 0) ≡ false
-  goes_on k from to =
-      let back : at + (k - at) ≡ k = omega arith in
-      let bound = prefix_len-le-length (λ byte. not (stops byte)) (chunk at 64 bytes) in
-      let place = get_or-chunk at 64 bytes (k - at) 0 (omega (arith, counted, long))
-      ∙ ap (λ j. get_or bytes j 0) back in
-      subst (λ byte. stops byte ≡ false) place
-      (not-true _ (prefix_len_passes (λ byte. not (stops byte)) (chunk at 64 bytes) (k - at) 0
-      (omega (arith, counted))))
-
   -- the place of the lowest bit is how many bytes stand before the first line feed
   pub run_from_mask : IsRun bytes at run
   run_from_mask = record {
-    within = omega (arith, counted, long, prefix_len-le-length (λ byte. not (stops byte)) (chunk at 64 bytes));
-    before = λ k from to. eqb-false _ 10 (sym (stops_is _) ∙ goes_on k from to);
-    stops = λ short.
-        let place = ap (λ j. get_or (chunk at 64 bytes) j 0) (sym counted) ∙ get_or-chunk at 64 bytes run 0 short in
-        let set = subst (λ byte. stops byte ≡ true) place
-        (not-false _ (prefix_len_stops (λ byte. not (stops byte)) (chunk at 64 bytes) 0
-        (omega (arith, counted, long)))) in
-        eqb-true _ 10 (sym (stops_is _) ∙ set);
+    within = run_in_chunk_le stops bytes at 64 run 0 room counted;
+    before = λ k from to.
+        eqb-false _ 10 (sym (stops_is _) ∙ run_in_chunk_fails stops bytes at 64 run 0 room counted k from to);
+    stops = λ short. eqb-true _ 10 (sym (stops_is _) ∙ run_in_chunk_stops stops bytes at 64 run 0 room counted short);
   }

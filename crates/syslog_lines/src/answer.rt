@@ -23,25 +23,10 @@ pub fn answer_lines<F: LineFilter>(
     ensures { AddsAnswers (F.answers filter.now) lines.now output.old.items output.new.items
         tally.old tally.new result }
 {
-    match from_utf8(lines) {
-        Ok(valid) => answer_text_lines(alloc, filter, valid, text, output, tally),
-        Err(_) => answer_byte_lines(alloc, filter, lines, text, output, tally),
-    }
-}
-
-// The same, where all of it is UTF-8.
-fn answer_text_lines<F: LineFilter>(
-    alloc: Global,
-    filter: &F,
-    lines: &str,
-    text: &mut String,
-    output: &mut Vec<u8>,
-    tally: &mut Tally,
-) -> Result<(), AllocError>
-    ensures { AddsAnswers (F.answers filter.now) lines.now output.old.items output.new.items
-        tally.old tally.new result }
-{
-    let mut rest = lines;
+    let Ok(valid) = from_utf8(lines) else {
+        return answer_byte_lines(alloc, filter, lines, text, output, tally);
+    };
+    let mut rest = valid;
     while !rest.is_empty() {
         let (line, after) = first_text_line(rest);
         let is_answered = filter.answer(alloc, line, text, output)?;

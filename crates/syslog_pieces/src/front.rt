@@ -25,6 +25,7 @@ pub struct Ascii {
 }
 
 impl Ascii {
+    ghost use Rattle.std.specs.Prelude.{Some};
     ghost use Rattle.syslog_pieces.specs.Front.{ascii_bytes, clock_text, front_text, version_text};
 
     // No text.
@@ -194,5 +195,15 @@ impl Ascii {
         front.push(b" ");
         front.push_timestamp(timestamp);
         front
+    }
+
+    /// A timestamp as it prints.
+    #[inline(always)]
+    pub fn timestamp(timestamp: ClockStamp) -> Ascii
+        ensures { ascii_bytes result ≡ clock_text (Some timestamp) }
+    {
+        let mut text = Ascii::empty();
+        text.push_timestamp(Some(timestamp));
+        text
     }
 }

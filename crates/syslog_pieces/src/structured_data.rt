@@ -17,6 +17,7 @@ mod display;
 mod element;
 mod equality;
 mod escapes;
+mod few_params;
 mod line_list;
 mod params;
 mod recognise;

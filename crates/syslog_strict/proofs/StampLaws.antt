@@ -1,6 +1,6 @@
 -- Converted timestamps are in the grammar, and are read back from their printed text.
 use Rattle.std.proofs.Common.{◌≡◌, inl, inr, ℕ, ℤ, pos, negsuc, suc, ◌+◌, ◌/◌, ◌%◌, ◌<◌, ◌≤◌, ◌+ℤ◌, Bool, true, false}
-use Rattle.std.proofs.Common.{◌∷◌, ◌++◌, Option, Some, None, IfSome, refl, sym, subst, ◌∙◌, arith, unsigned_abs, append_assoc}
+use Rattle.std.proofs.Common.{◌∷◌, ◌++◌, List, Option, Some, None, IfSome, refl, sym, subst, ◌∙◌, arith, unsigned_abs, append_assoc}
 use Rattle.std.proofs.lemmas.Bool.{and_parts}
 use Rattle.std.proofs.lemmas.Bool.Decides.{eqb_tells, nat_tests}
 use Rattle.std.specs.Char.{is_ascii_digit}
@@ -16,7 +16,6 @@ use Rattle.syslog_pieces.specs.Timestamp.Printed.{civil_fields, date_time_text, 
 use Rattle.syslog_pieces.specs.declared.timestamp.OffsetTimestamp.{OffsetTimestamp}
 use Rattle.syslog_pieces.specs.declared.timestamp.fields.CivilFields.{CivilFields}
 use Rattle.syslog_pieces.proofs.TimestampLemmas.Range.{civil_fields_exist, in_range-at_offset}
-use Rattle.syslog_pieces.proofs.TimestampLemmas.RoundTrip.{text-shape}
 use Rattle.syslog_pieces.proofs.PieceLemmas.Each.{each_append}
 use Rattle.syslog_loose.specs.Printed.{timestamp_text}
 use Rattle.syslog_strict.specs.Conversion.{converted_stamp, cut_stamp, has_text, in_utc, is_four_digits, micros}
@@ -74,6 +73,13 @@ time_offset (negsuc n) whole small =
 shape : (y m d h mi s fraction zone : Text) → y ++ (45 ∷ m ++ (45 ∷ d ++ (84 ∷ h ++ (58 ∷ mi ++ (58 ∷ s ++ (fraction ++ zone))))))
     ≡ (y ++ (45 ∷ m ++ (45 ∷ d))) ++ (84 ∷ ((h ++ (58 ∷ mi ++ (58 ∷ s ++ fraction))) ++ zone))
 shape y m d h mi s fraction zone = sym (simp append_assoc refl)
+
+-- date and time in a year from 0 on, and more
+text-shape : (f : CivilFields) (y : ℕ) (more : List ℕ) → f.year ≡ pos y
+    → date_time_text f ++ more ≡ pad4 y ++ (45 ∷ pad2 f.month ++ (45 ∷ pad2 f.day ++ (84 ∷ pad2 f.hour
+    ++ (58 ∷ pad2 f.minute ++ (58 ∷ pad2 f.second ++ more)))))
+unfolding date_time_text
+text-shape f y more e = rw e (simp append_assoc)
 
 -- fields as they print
 fields_is : (f : CivilFields) (zone : Text) (y : ℕ) → f.year ≡ pos y → AreCivil f → f.nanosecond % 1_000 ≡ 0

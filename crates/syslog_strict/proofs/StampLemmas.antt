@@ -15,7 +15,7 @@ use Rattle.syslog_strict.specs.Pushing.{front_text}
 use Rattle.std.specs.Str.{chars, IsAscii, IsUtf8}
 use Rattle.syslog_loose.specs.Printed.{timestamp_text}
 use Rattle.syslog_pieces.specs.Timestamp.Printed.{printed_stamp}
-use Rattle.syslog_pieces.proofs.TimestampLemmas.Characters.{ascii_from_characters}
+use Rattle.syslog_pieces.proofs.TimestampLemmas.Characters.{each_ascii}
 use Rattle.syslog_pieces.proofs.TimestampLemmas.Printing.{printed_stamp-characters}
 use Rattle.jiff_core.specs.Calendar.{days_from_civil}
 use Rattle.syslog_pieces.specs.Timestamp.{clock_value, stamp_seen}
@@ -66,7 +66,7 @@ utc_told s (Some t) h told = told.1 ∙ ap timestamp_text (sym (converted_utc s 
 
 pub stamp_chars : (s : OffsetTimestamp) → chars (printed_stamp s.instant.nanosecond s.offset.seconds)
     ≡ printed_stamp s.instant.nanosecond s.offset.seconds
-stamp_chars s = chars-IsAscii _ (ascii_from_characters _
+stamp_chars s = chars-IsAscii _ (each_ascii _
     (printed_stamp-characters s.instant.nanosecond s.offset.seconds s.instant.in_range s.offset.in_range))
 
 pub written : (old now bytes piece : List ℕ) → IsUtf8 old → now ≡ old ++ bytes → chars bytes ≡ piece
@@ -79,7 +79,7 @@ clock_ascii : (c : Option ClockStamp) → IsAscii (clock_text c)
 clock_ascii None = IsAscii-cons 45 [] (omega arith) IsAscii-nil
 clock_ascii (Some c) =
     let s = clock_value c in
-    ascii_from_characters _ (printed_stamp-characters s.instant.nanosecond s.offset.seconds s.instant.in_range s.offset.in_range)
+    each_ascii _ (printed_stamp-characters s.instant.nanosecond s.offset.seconds s.instant.in_range s.offset.in_range)
 
 pub printed_front_ascii : (priority version : ℕ) (c : Option ClockStamp) → IsAscii (printed_front priority (Some version) c)
 printed_front_ascii priority version c =

@@ -1,17 +1,15 @@
 -- From the mask of one load to the bytes that pass a test.
-use Rattle.syslog_pieces.proofs.Names.{◌≡◌, ℕ, ◌+◌, ◌-◌, ◌%◌, ◌^◌, ◌<◌, ◌≤◌, Bool, true, false, not, List, map, cond}
-use Rattle.syslog_pieces.proofs.Names.{length, get_or, Fits, sym, ap, ◌∙◌, subst, arith, inl, inr, agree_below}
-use Rattle.syslog_pieces.proofs.Names.{agree_below_at, not-true, not-false, cases_eq, ne_eqb, cond-false, length-map}
-use Rattle.syslog_pieces.proofs.Names.{map-id, prefix_len, IsRunIn}
+use Rattle.syslog_pieces.proofs.Names.{◌≡◌, ℕ, ◌+◌, ◌-◌, ◌%◌, ◌^◌, ◌≤◌, Bool, true, not, List, map, cond}
+use Rattle.syslog_pieces.proofs.Names.{length, get_or, Fits, sym, ap, ◌∙◌, arith, agree_below}
+use Rattle.syslog_pieces.proofs.Names.{agree_below_at, not-true, not-false, length-map}
+use Rattle.syslog_pieces.proofs.Names.{map-id, IsRunIn}
 use mir.Val.{bool_byte}
 use Rattle.std.proofs.Common.{leb, ltb, eqb, replicate, w8, bit_or, ◌&&◌, ◌||◌}
 use Rattle.std.specs.Int.RustNames.{bit_xor}
 use Rattle.std.specs.Bool.{beq}
-use Rattle.std.proofs.lemmas.Bool.{eq-eqb, cond-true}
 use Rattle.std.proofs.lemmas.Bool.Decides.{nat_tests}
-use Rattle.std.proofs.lemmas.Simd.{map-map, mask_l-mod, length-chunk, get_or-chunk, leading_from_mask_l}
-use Rattle.std.proofs.lemmas.Simd.{trailing_mask_l, zip2_of_maps, zip2_splat, splat_is_map}
-use Rattle.std.proofs.lemmas.List.Sums.{prefix_len-le-length, prefix_len_passes, prefix_len_stops}
+use Rattle.std.proofs.lemmas.Simd.{first_set_mask_l, run_in_chunk_fails, run_in_chunk_le, run_in_chunk_stops}
+use Rattle.std.proofs.lemmas.Simd.{map-map, mask_l-mod, length-chunk, zip2_of_maps, zip2_splat, splat_is_map}
 use lib.Lanes.{chunk, zip2, mask_l, top}
 use Rattle.syslog_pieces.specs.Bodies.Scan.{first_set}
 
@@ -45,54 +43,21 @@ mask_tests r a b c l p d e = grind arith
 pub past_ascii : (x : ℕ) → leb 128 x ≡ not (ltb x 128)
 past_ascii x = grind (arith, nat_tests)
 
-run_is : (p : ℕ → Bool) (v : List ℕ) → length v ≡ 16 → first_set (mask_l (map p v)) ≡ prefix_len (λ x. not (p x)) v
-run_is p v long =
-    elim (cases_eq (mask_l (map p v)) 0) [
-      | inl none ↦ cond-true _ _ _ (eq-eqb _ _ none) ∙ sym (leading_from_mask_l p v none ∙ long)
-      | inr some ↦ cond-false _ _ _ (ne_eqb _ _ some) ∙ trailing_mask_l p 64 v (omega arith) (omega arith)
-    ]
-
-module _ (q : ℕ → Bool) (d : List ℕ) (i r : ℕ) (z : List ℕ) (f : ℕ → ℕ) (room : i + 16 ≤ length d)
-    (found : r ≡ first_set (mask_l (map (top 7) z) % 2 ^ 64))
-    (by_lanes : IsLanes (chunk i 16 d) z f) where
-  abbrev stops : ℕ → Bool
-  stops x = top 7 (f x)
-
-  long : length (chunk i 16 d) ≡ 16
-  long = length-chunk i 16 d room
-
-  counted : r ≡ prefix_len (λ x. not (stops x)) (chunk i 16 d)
-  counted =
-      let v = chunk i 16 d in
-      let mask = ap (λ l. mask_l l % 2 ^ 64) (ap (map (top 7)) (by_lanes.same long) ∙ map-map (top 7) f v)
-      ∙ mask_l-mod (map stops v) 64 (omega (arith, length-map v stops, long)) in
-      found ∙ ap first_set mask ∙ run_is stops v long
-
-  goes_on : (k : ℕ) → i ≤ k → k < i + r → stops (get_or d k 0) ≡ false
-  goes_on k from to =
-      let back : i + (k - i) ≡ k = omega arith in
-      let bound = prefix_len-le-length (λ x. not (stops x)) (chunk i 16 d) in
-      let at = get_or-chunk i 16 d (k - i) 0 (omega (arith, counted, long)) ∙ ap (λ j. get_or d j 0) back in
-      subst (λ x. stops x ≡ false) at
-      (not-true _ (prefix_len_passes (λ x. not (stops x)) (chunk i 16 d) (k - i) 0 (omega (arith, counted))))
-
-  run : ((x : ℕ) → stops x ≡ not (q x)) → IsRunIn q d i r
-  run all = record {
-    within = omega (arith, counted, long, prefix_len-le-length (λ x. not (stops x)) (chunk i 16 d));
-    pass = λ k from to. not-false _ (sym (all (get_or d k 0))
-        ∙ goes_on k from to);
-    stops = λ short.
-        let at = ap (λ j. get_or (chunk i 16 d) j 0) (sym counted) ∙ get_or-chunk i 16 d r 0 short in
-        let set = subst (λ x. stops x ≡ true) at
-        (not-false _ (prefix_len_stops (λ x. not (stops x)) (chunk i 16 d) 0 (omega (arith, counted, long)))) in
-        not-true _ (sym (all (get_or d (i + r) 0)) ∙ set);
-  }
-
 -- a lane stops just where q fails
 pub run_in : {q : ℕ → Bool} {d : List ℕ} {i r : ℕ} {z : List ℕ} {f : ℕ → ℕ} → i + 16 ≤ length d
-    → r ≡ first_set (mask_l (map (top 7) z) % 2 ^ 64)
-    → IsLanes (chunk i 16 d) z f → ((x : ℕ) → top 7 (f x) ≡ not (q x)) → IsRunIn q d i r
-run_in {q = q} {d = d} {i = i} {r = r} {z = z} {f = f} = run q d i r z f
+    → r ≡ first_set (mask_l (map (top 7) z) % 2 ^ 64) → IsLanes (chunk i 16 d) z f
+    → ((x : ℕ) → top 7 (f x) ≡ not (q x)) → IsRunIn q d i r
+run_in {q = q} {d = d} {i = i} {r = r} {z = z} {f = f} room found by_lanes all =
+    let v = chunk i 16 d in
+    let stops : ℕ → Bool = λ x. top 7 (f x) in
+    let long = length-chunk i 16 d room in
+    let mask = ap (λ l. mask_l l % 2 ^ 64) (ap (map (top 7)) (by_lanes.same long) ∙ map-map (top 7) f v)
+    ∙ mask_l-mod (map stops v) 64 (omega (arith, length-map v stops, long)) in
+    let counted = found ∙ ap first_set mask ∙ first_set_mask_l stops v 16 long (omega arith) in record {
+      within = run_in_chunk_le stops d i 16 r 0 room counted;
+      pass = λ k from to. not-false _ (sym (all _) ∙ run_in_chunk_fails stops d i 16 r 0 room counted k from to);
+      stops = λ short. not-true _ (sym (all _) ∙ run_in_chunk_stops stops d i 16 r 0 room counted short);
+    }
 
 -- the run of a set is that of the class that it lists
 pub class_run : {p q : ℕ → Bool} {d : List ℕ} {i r : ℕ} → agree_below p q 256 ≡ true

@@ -1,18 +1,19 @@
 -- What the readers of numbers and words answer.
-use Rattle.syslog_pieces.proofs.Names.{◌≡◌, ◌≢◌, ℕ, zero, suc, get_or, ◌-◌, ◌<◌, ◌≤◌, ◌^◌, ◌⊎◌, inl, inr, List, [], ◌∷◌}
+use Rattle.syslog_pieces.proofs.Names.{◌≡◌, ◌≢◌, ℕ, ◌-◌, ◌<◌, ◌≤◌, ◌^◌, ◌⊎◌, inl, inr, List, ◌∷◌}
 use Rattle.syslog_pieces.proofs.Names.{◌++◌, length, take, drop, Option, Some, None, Result, Ok, Err, refl}
-use Rattle.syslog_pieces.proofs.Names.{sym, ap, ◌∙◌, arith, append_assoc, rules, length-drop, take-append_seam}
-use Rattle.syslog_pieces.proofs.Names.{drop-append_seam, length-append, take-append-drop, IsCharBoundary-at_seam}
+use Rattle.syslog_pieces.proofs.Names.{sym, ap, ◌∙◌, arith, append_assoc, rules, take-append_seam}
+use Rattle.syslog_pieces.proofs.Names.{drop-append_seam, length-append, IsCharBoundary-at_seam}
 use Rattle.syslog_pieces.proofs.Names.{chars-append, encodes-chars, encodes-IsAscii, chars-IsAscii}
 use Rattle.syslog_pieces.proofs.Names.{encodes-append, IsUtf8-take, IsUtf8-from_ascii, chars, IsUtf8, IsAscii}
-use Rattle.syslog_pieces.proofs.Names.{IsCharBoundary, encode_utf8_all, digits_value, ParsesUnsigned, OkIff}
+use Rattle.syslog_pieces.proofs.Names.{encode_utf8_all, digits_value, ParsesUnsigned, OkIff}
 use Rattle.syslog_pieces.proofs.Names.{is_ascii_digit, is_not_whitespace, Text, Front, NoFront, IsDeterministic, Each}
 use Rattle.syslog_pieces.proofs.Names.{Ends, SplitsRun, number, dash, colon, Names, word, EndsInColon, IsHost}
-use Rattle.syslog_pieces.proofs.Names.{host, is_tag_char, tag_word, run_same, each_behind, each_append}
+use Rattle.syslog_pieces.proofs.Names.{host, is_tag_char, tag_word, run_same, each_append}
 use Rattle.std.proofs.lemmas.List.{same_from_push}
-use Rattle.std.proofs.lemmas.Str.{IsCharBoundary-from_ascii}
+use Rattle.std.specs.Option.{SomeIff}
+use Rattle.std.specs.Result.{result_ok}
 use Rattle.std.proofs.lemmas.Str.Parse.{IsNumeralModel, numerals_by_value, parse_digits}
-use Rattle.syslog_pieces.proofs.TextLemmas.Chars.{ascii_front, chars_nonempty, chars_empty, digits_ascii, digit_chars}
+use Rattle.syslog_pieces.proofs.TextLemmas.Chars.{ascii_front, chars_nonempty, chars_empty, digit_chars}
 use Rattle.syslog_pieces.proofs.TextLemmas.Chars.{one_ascii, text_is, text_is_not, nonempty_is}
 use Rattle.syslog_pieces.proofs.TextLemmas.Runs.{run_is}
 use Rattle.syslog_pieces.proofs.PieceLemmas.Each.{each_front}
@@ -73,38 +74,15 @@ host_det p q p' q' v v' e h h' =
 pub own : IsNumeralModel (λ ds. Each is_ascii_digit ds) (digits_value 10)
 own = numerals_by_value (λ ds. Each is_ascii_digit ds) (search rules)
 
--- zeros ahead add nothing
-zeros_off : (ds : List ℕ) (n : ℕ) → ((k : ℕ) → k < n → get_or ds k 0 ≡ 48)
-    → digits_value 10 (drop n ds) ≡ digits_value 10 ds
-zeros_off ds zero f = refl
-zeros_off [] (suc n) f = refl
-zeros_off (d ∷ ds) (suc n) f = zeros_off ds n (λ k l. f (suc k) (omega arith))
-    ∙ ap (λ (x : ℕ). digits_value 10 (x ∷ ds)) (sym (f 0 (omega arith)))
+ok_some : {E : Type 0} (r : Result ℕ E) (P : Type 0) (v : ℕ) → OkIff r P v → SomeIff (result_ok r) P v
+ok_some (Ok x) P v h = h
+ok_some (Err x) P v h = h
 
-ok_iff : {T E : Type 0} (r : Result T E) {P Q : Type 0} (v w : T) → (P → Q) → (Q → P) → v ≡ w → OkIff r P v
-    → OkIff r Q w
-ok_iff (Ok x) v w f g e h = (f h.0, h.1 ∙ e)
-ok_iff (Err x) v w f g e h = λ q. h (g q)
-
-module _ (ds : List ℕ) (n : ℕ) (u : IsUtf8 ds) (a : Each is_ascii_digit (chars ds)) (within : n ≤ length ds) where
-  each : Each is_ascii_digit ds
-  each = rw (digit_chars ds u a) at a
-
-  -- a text of digits may be cut anywhere
-  pub digits_cut : IsCharBoundary ds n
-  digits_cut = IsCharBoundary-from_ascii ds n (digits_ascii ds each) within
-
-  -- what `parse` gives for the digits behind zeros
-  pub parsed_digits : (0 < length ds → n < length ds) → ((k : ℕ) → k < n → get_or ds k 0 ≡ 48) → (rest : List ℕ)
-      → rest ≡ drop n ds → {E : Type 0} (r : Result ℕ E) → ParsesUnsigned 32 10 rest r
-      → OkIff r ((0 < length ds) × (digits_value 10 ds < 2 ^ 32)) (digits_value 10 ds)
-  parsed_digits others zeros rest e r h =
-      let same = zeros_off ds n zeros in
-      let l = length-drop n ds in
-      ok_iff r (digits_value 10 (drop n ds)) (digits_value 10 ds) (λ k. (omega (arith, k.0, l), rw same at k.1))
-      (λ k. (omega (arith, others k.0, l), rw (← same) at k.1)) same
-      (parse_digits own 32 (drop n ds) r (rw e at h) (each_behind is_ascii_digit (take n ds) (drop n ds)
-      (rw take-append-drop each)))
+-- what `parse` gives for digits
+pub parsed_digits : (ds : List ℕ) → IsUtf8 ds → Each is_ascii_digit (chars ds) → {E : Type 0} (r : Result ℕ E)
+    → ParsesUnsigned 32 10 ds r
+    → SomeIff (result_ok r) ((0 < length ds) × (digits_value 10 ds < 2 ^ 32)) (digits_value 10 ds)
+parsed_digits ds u a r h = ok_some r _ _ (parse_digits own 32 ds r h (rw (digit_chars ds u a) at a))
 
 module _ (bs xs ys : List ℕ) (s : SplitsRun is_ascii_digit bs xs ys) where
   canonical : chars xs ≡ xs

@@ -46,10 +46,6 @@ lists_class set class = agree_below (in_set set) (byte_in class) 256
 abbrev pub past_in : CharClass → ℕ → Bool
 past_in class c = not (nat_lt c 128) && has class c
 
--- the byte is the digit zero
-abbrev pub is_zero : ℕ → Bool
-is_zero b = b == 48
-
 -- the longest run at the front of bytes that pass the test has n bytes
 pub record IsRun (test : ℕ → Bool) (bytes : List ℕ) (n : ℕ) : Type 0 where
   pub within : n ≤ length bytes

@@ -1,53 +1,14 @@
 //! Collecting the elements of a list while the list is recognised.
-ghost use Rattle.std.specs.Prelude.{◌≡◌, ◌≢◌, ◌≤◌, [], MatchResult, length, map};
+ghost use Rattle.std.specs.Prelude.{◌≡◌, ◌≢◌, [], MatchResult, map};
 ghost use Rattle.syslog_pieces.specs.Pieces.View.{shown};
 ghost use Rattle.syslog_pieces.specs.StructuredData.Element.{element_value};
 
 use super::StructuredElement;
 use super::collect_element::push_element;
+use super::few_params::FewParams;
 use super::recognised::Element;
-use super::visit::{ElementVisitor, ParamNotes};
+use super::visit::ElementVisitor;
 use std::alloc::{AllocError, Global};
-
-/// How many parameters of an element are noted, so that they need no second walk. Space for them is cleared once for
-/// each list, at four instructions a parameter.
-const NOTED: usize = 8;
-
-/// The first parameters of an element.
-#[derive(Drop)]
-pub struct FewParams<'a> {
-    pub(super) params: [(&'a str, &'a str); 8],
-    pub(super) count: usize,
-    ghost within: { count ≤ 8 },
-    ghost sized: { length params ≡ 8 },
-}
-
-impl<'a> ParamNotes<'a> for FewParams<'a> {
-    ghost use Rattle.syslog_pieces.specs.StructuredData.Collected.{HasNoted};
-
-    ghost noted = { λ notes ps. HasNoted notes ps };
-
-    #[inline(always)]
-    fn new() -> FewParams<'a> {
-        FewParams {
-            params: [("", ""); NOTED],
-            count: 0,
-        }
-    }
-
-    #[inline(always)]
-    fn clear(&mut self) {
-        self.count = 0;
-    }
-
-    #[inline(always)]
-    fn push(&mut self, name: &'a str, value: &'a str) {
-        if self.count < NOTED {
-            self.params[self.count] = (name, value);
-            self.count += 1;
-        }
-    }
-}
 
 /// Collects the elements that it is given. Once memory was refused, it keeps the refusal.
 #[derive(Drop)]

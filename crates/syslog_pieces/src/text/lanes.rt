@@ -3,7 +3,7 @@
 //! It compares sixteen bytes at once, and returns the place of the first that stops the run. There is one for all
 //! classes: it is inlined where the class is known, so that only the comparisons of that class are left.
 ghost use Rattle.std.specs.Prelude.{◌≡◌, ◌+◌, ◌≤◌, IsTrue, length};
-ghost use Rattle.syslog_pieces.specs.Bodies.Scan.{IsRunIn, byte_in, first_set, in_set, is_zero, lists_class};
+ghost use Rattle.syslog_pieces.specs.Bodies.Scan.{IsRunIn, byte_in, first_set, in_set, lists_class};
 
 use crate::text::CharClass;
 use std::simd::prelude::*;
@@ -58,15 +58,6 @@ fn set_run(bytes: &[u8], at: usize, set: ByteSet) -> usize
     let more = v.simd_eq(u8x16::splat(a)) | v.simd_eq(u8x16::splat(b)) | v.simd_eq(u8x16::splat(c));
     let stops = (range | more) ^ mask8x16::splat(is_listed) | v.simd_ge(u8x16::splat(0x80));
     first_set(stops.to_bitmask())
-}
-
-/// How many of the next sixteen bytes, from the first, are the digit zero.
-#[inline(always)]
-pub(crate) fn zero_run(bytes: &[u8], at: usize) -> usize
-    requires { at + LANES ≤ length bytes.now }
-    ensures { IsRunIn is_zero bytes.now at result }
-{
-    set_run(bytes, at, ByteSet(b'0', 0, [b'0'; 3], true))
 }
 
 /// How many of the next sixteen bytes, from the first, are ASCII and of the class.

@@ -6,7 +6,6 @@ ghost use Rattle.std.specs.Str.Parse.{digits_value};
 ghost use Rattle.syslog_pieces.specs.Bodies.Looks.{IsSmallNumber};
 ghost use Rattle.syslog_pieces.specs.Pieces.Class.{Each};
 
-use crate::text::lanes::{LANES, zero_run};
 use crate::text::looks::begins_with_digit;
 
 // What a digit counts, and nothing of another byte.
@@ -63,31 +62,13 @@ pub(crate) fn few_digits(digits: &[u8]) -> Option<u32>
 }
 
 /// The number that a run of digits writes, where it has 32 bits.
-#[tactic(auto, using(crate::proofs::TextLemmas::Words::digits_cut))]
 #[inline(never)]
 pub(crate) fn number_of_digits(digits: &str) -> Option<u32>
     requires { Each is_ascii_digit (chars digits.now) }
     ensures { SomeIff result ((0 < length digits.now) × (digits_value 10 digits.now < 2 ^ 32))
         (digits_value 10 digits.now) }
 {
-    let (_, rest) = digits.split_at(zeros_ahead(digits.as_bytes()));
-    match rest.parse::<u32>() {
-        Ok(value) => Some(value),
-        Err(_) => None,
-    }
-}
-
-// How many zeros stand before other digits, by sixteen.
-fn zeros_ahead(digits: &[u8]) -> usize
-    ensures within { result ≤ length digits.now }
-    ensures others { 0 < length digits.now → result < length digits.now }
-    ensures zeros { (k : ℕ) → k < result → slice_index digits.now k ≡ 48 }
-{
-    let mut end = 0;
-    'blocks: while digits.len() - end > LANES && zero_run(digits, end) == LANES {
-        end += LANES;
-    }
-    end
+    digits.parse::<u32>().ok()
 }
 
 /// The number of one to three digits at the front, before none, and the bytes behind it.

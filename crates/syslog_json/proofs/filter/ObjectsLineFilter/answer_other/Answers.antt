@@ -1,9 +1,18 @@
-use Rattle.std.proofs.Common.{inr, refl}
+use Rattle.std.proofs.Common.{◌++◌, ◌∷◌, [], ap, inr, refl, sym, ◌∙◌, List, ℕ}
 use Rattle.syslog_lines.specs.Output.{Marked}
-use Rattle.syslog_json.proofs.UniqueLemmas.{only_refused}
+use Rattle.syslog_json.proofs.UniqueLemmas.{only_refused, text_after_nothing}
 use Rattle.syslog_json.proofs.filter.ObjectsLineFilter.answer_other.Goals as goal
 
 pub returns-clause-ok : goal.returns-clause-ok
 returns-clause-ok c =
-    let (bytes, text, added) = c.in_ok-push_value.ensures.ok in
-    (Marked bytes, (_, only_refused c.args.self.now.options _ _ (inr (c.requires, c.in_ok-value.ensures)), text), added, refl)
+    let (bytes, text, added) = c.in_ok-push_invalid.ensures in
+    let lossy = c.as_str.ensures.value ∙ c.in_ok-text.ensures.lossy in (
+      Marked c.push_invalid.new.out.items,
+      (
+        _,
+        only_refused c.args.self.now.options _ _ (inr (c.requires, refl)),
+        text_after_nothing _ _ bytes _ c.new-object.ensures.items added (rw lossy at text),
+      ),
+      rw (c.as_slice.ensures.value) at c.in_ok-push_line.ensures.ok,
+      refl,
+    )

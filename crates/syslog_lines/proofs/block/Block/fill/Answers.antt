@@ -1,6 +1,6 @@
 use Rattle.std.proofs.Common.{◌≡◌, ◌++◌, take, drop, ap, sym, ◌∙◌, List, ℕ}
 use Rattle.syslog_lines.specs.Block.{cut_bytes}
-use Rattle.syslog_lines.proofs.BlockLemmas.{take-front}
+use Rattle.std.proofs.Math.Seq.{take-add}
 use Rattle.syslog_lines.proofs.block.Block.fill.Goals as goal
 
 pub returns-clause-ok : goal.returns-clause-ok
@@ -15,5 +15,5 @@ returns-clause-ok g c =
     sym c.keep_cut.ensures.cut ∙ sym c.in_ok-make_room.ensures.cut ∙ moved ∙ sym c.in-Ok.ensures.front in (
       piece,
       c.in-Ok.ensures.ok,
-      ap (λ (l : List ℕ). l ++ piece) cut ∙ take-front bytes at c.in-Ok.count ∙ sym c.take_in.ensures,
+      ap (λ (l : List ℕ). l ++ piece) cut ∙ sym (take-add at c.in-Ok.count bytes) ∙ sym c.take_in.ensures,
     )

@@ -1,0 +1,15 @@
+use Rattle.std.proofs.Common.{length}
+use denote.Shadow.{shadow}
+use denote.Text.{Utf8}
+use Rattle.syslog_lines.proofs.AnswerLemmas.{GoesOn}
+use Rattle.syslog_lines.proofs.answer.answer_lines.Given as goal
+
+abbrev pub invariant-loop-rest : goal.invariant-loop-rest
+invariant-loop-rest g l = record {
+  text : shadow (Utf8 l.rest);
+  so_far : GoesOn (g.F.LineFilter.answers l.filter) l.lines l.rest l.fn.output.items l.output.items l.fn.tally
+      l.tally;
+}
+
+abbrev pub decreases-loop-rest : goal.decreases-loop-rest
+decreases-loop-rest g l = length l.rest

@@ -1,0 +1,6 @@
+use Rattle.std.proofs.Common.{sym}
+use Rattle.std.proofs.lemmas.Str.{encodes-chars}
+use Rattle.syslog_object.proofs.element.ElementMember.key.Goals as goal
+
+pub returns : goal.returns
+returns c = rw (sym c.id.ensures) (sym (encodes-chars c.id.result.now c.id.utf8))

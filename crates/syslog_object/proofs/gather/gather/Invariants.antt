@@ -1,0 +1,15 @@
+use Rattle.std.proofs.Common.{◌≡◌, List, ℕ, [], map, take, bytes_eq, nat_cmp}
+use Rattle.std.specs.BTreeMap.{get_by}
+use Rattle.std.specs.Cmp.Lexicographic.{slice_cmp}
+use Rattle.std.specs.List.{filter, list_any}
+use Rattle.std.specs.Option.{is_some, option_map_or}
+use Rattle.syslog_object.specs.Gathered.{first_keys}
+use Rattle.syslog_object.proofs.gather.gather.Given as goal
+
+abbrev pub invariant-loop-member : goal.invariant-loop-member
+invariant-loop-member g l =
+    ((q : List ℕ) → option_map_or (λ v. v.items) (get_by (λ k. slice_cmp nat_cmp q k.now) l.groups) []
+    ≡ filter (λ m. bytes_eq q (g.M.Member.key_of m)) (take l.member-index l.members))
+    × ((q : List ℕ) → is_some (get_by (λ k. slice_cmp nat_cmp q k.now) l.groups)
+    ≡ list_any (λ m. bytes_eq q (g.M.Member.key_of m)) (take l.member-index l.members))
+    × (map (λ k. k.now) l.keys.items ≡ first_keys (map (λ m. (g.M.Member.key_of m, m)) (take l.member-index l.members)))

@@ -1,0 +1,14 @@
+use Rattle.std.proofs.Common.{◌≡◌, ◌++◌, drop, map}
+use Rattle.serde_json.specs.Written.{compact_text}
+use Rattle.syslog_object.specs.Gathered.{gathered, one_or_all, values_at}
+use Rattle.syslog_object.specs.Parts.{members_after}
+use Rattle.syslog_object.proofs.gather.push_gathered.Given as goal
+
+abbrev pub invariant-loop-key : goal.invariant-loop-key
+invariant-loop-key g l =
+    l.out.items ++ members_after (map (λ k. (
+      k.now,
+      one_or_all (values_at k.now
+          (map (λ m. (g.M.Member.key_of m, g.M.Member.json m)) l.members)),
+    )) (drop l.key-index l.rest))
+    ≡ l.fn.out.items ++ compact_text (gathered (map (λ m. (g.M.Member.key_of m, g.M.Member.json m)) l.members))

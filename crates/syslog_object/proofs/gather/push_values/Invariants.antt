@@ -1,0 +1,10 @@
+use Rattle.std.proofs.Common.{◌≡◌, ◌++◌, true, drop, map}
+use Rattle.serde_json.specs.View.{items_of}
+use Rattle.serde_json.specs.Written.{compact_text, items_text}
+use Rattle.syslog_object.specs.Gathered.{one_or_all}
+use Rattle.syslog_object.proofs.gather.push_values.Given as goal
+
+abbrev pub invariant-loop-member : goal.invariant-loop-member
+invariant-loop-member g l =
+    l.out.items ++ items_text true (items_of (map g.M.Member.json (drop l.member-index l.rest)))
+    ≡ l.fn.out.items ++ compact_text (one_or_all (map g.M.Member.json l.members))

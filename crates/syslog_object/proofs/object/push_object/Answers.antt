@@ -1,0 +1,10 @@
+use Rattle.std.proofs.lemmas.Result.{on_ok_weaker}
+use Rattle.syslog_loose.specs.Line.{line_value}
+use Rattle.syslog_pieces.specs.Pieces.View.{seen}
+use Rattle.syslog_object.proofs.TextOfLemmas.{text_of_message}
+use Rattle.syslog_object.proofs.object.push_object.Goals as goal
+
+pub returns : goal.returns
+returns c = on_ok_weaker c.push_fields.result
+    (λ e. (_, text_of_message (line_value c.args.line.now) (seen c.args.raw) c.push_fields.ensures.small, e))
+    c.push_fields.ensures.text

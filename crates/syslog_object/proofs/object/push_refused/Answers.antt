@@ -1,0 +1,15 @@
+use Rattle.std.proofs.Common.{append_assoc, [], ◌∷◌}
+use Rattle.json.specs.Print.{escape, escape_byte}
+use Rattle.syslog_object.proofs.EscapeLemmas.{three_appended}
+use Rattle.syslog_object.proofs.TextOfLemmas.{text_of_refused}
+use Rattle.syslog_object.proofs.object.push_refused.Goals as goal
+
+pub returns : goal.returns
+unfolding escape_byte
+returns c = (
+  _,
+  text_of_refused c.args.line.now,
+  rw (append_assoc (escape c.args.line.now) (34 ∷ []) _)
+      (three_appended _ _ _ _ _ _ _ c.in_ok-extend_from_slice.ensures.items c.in_ok-push_text.ensures.text
+      c.in_ok-extend_from_slice-2.ensures.items),
+)

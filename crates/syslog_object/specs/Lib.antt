@@ -1,0 +1,4 @@
+pub mod Gathered
+pub mod Object
+pub mod Written
+pub mod Parts

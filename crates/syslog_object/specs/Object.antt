@@ -1,0 +1,111 @@
+-- The object of a line: this project's own choice.
+use Rattle.std.specs.Prelude.{ℕ, nat_eq, if◌then◌else◌, true, List, [], ◌∷◌, ◌++◌, Option, Some, None, codes, map}
+use Rattle.std.specs.Prelude.{encode_utf8_all}
+use Rattle.std.specs.Option.{option_map}
+use Rattle.syslog_pieces.specs.Pieces.Class.{Text}
+use Rattle.syslog_pieces.specs.Pri.{facility_name, facility_number, severity_name, severity_number}
+use Rattle.syslog_pieces.specs.ProcId.{procid_text}
+use Rattle.syslog_pieces.specs.StructuredData.Element.{ElementValue}
+use Rattle.syslog_pieces.specs.StructuredData.Escapes.{pair_meaning}
+use Rattle.syslog_pieces.specs.Timestamp.Printed.{printed_stamp}
+use Rattle.syslog_pieces.specs.declared.timestamp.OffsetTimestamp.{OffsetTimestamp}
+use Rattle.syslog_loose.specs.declared.message.Protocol.{Protocol}
+use Rattle.syslog_loose.specs.declared.message.Protocol.TheVariants.{RFC3164, RFC5424}
+use Rattle.syslog_loose.specs.Message.{MessageValue}
+use Rattle.serde_json.specs.Data.{Data, boolean, number, string, object, unsigned}
+use Rattle.syslog_object.specs.Gathered.{gathered, members_of}
+
+abbrev pub text_json : Text → Data
+text_json text = string (encode_utf8_all text)
+
+abbrev pub number_json : ℕ → Data
+number_json n = number (unsigned n)
+
+-- ---- elements
+
+-- bytes without the escapes of a value: a backslash and the byte after it are what the pair stands for, and a last
+-- backslash alone is nothing
+abbrev mutual
+  pub unescaped : List ℕ → List ℕ
+  unescaped [] = []
+  unescaped (c ∷ rest) = if nat_eq c 92 then after_backslash rest else c ∷ unescaped rest
+
+  pub after_backslash : List ℕ → List ℕ
+  after_backslash [] = []
+  after_backslash (c ∷ rest) = pair_meaning c ++ unescaped rest
+
+-- a parameter's name, and its value without escapes
+abbrev pub param_pair : Text × Text → List ℕ × Data
+param_pair param = (encode_utf8_all param.0, string (unescaped (encode_utf8_all param.1)))
+
+-- the object of an element's parameters
+abbrev pub element_json : ElementValue → Data
+element_json element = gathered (map param_pair element.params)
+
+abbrev pub element_pair : ElementValue → List ℕ × Data
+element_pair element = (encode_utf8_all element.id, element_json element)
+
+-- the object of elements, where there are some
+abbrev pub structured_json : List ElementValue → Option Data
+structured_json [] = None
+structured_json (e ∷ es) = Some (gathered (map element_pair (e ∷ es)))
+
+-- ---- messages
+
+abbrev pub protocol_text : Protocol → List ℕ
+protocol_text RFC3164 = codes "RFC3164"
+protocol_text (RFC5424 version) = codes "RFC5424"
+
+abbrev pub version_json : Protocol → Option Data
+version_json RFC3164 = None
+version_json (RFC5424 version) = Some (number_json version)
+
+-- as it is printed
+abbrev pub timestamp_json : OffsetTimestamp → Data
+timestamp_json stamp = string (printed_stamp stamp.instant.nanosecond stamp.offset.seconds)
+
+-- a key, and its value if it has one
+abbrev pub Field : Type 0
+Field = List ℕ × Option Data
+
+-- the fields that have a value
+abbrev pub present : List Field → List (List ℕ × Data)
+present [] = []
+present ((key, None) ∷ fields) = present fields
+present ((key, Some value) ∷ fields) = (key, value) ∷ present fields
+
+abbrev pub object_of : List Field → Data
+object_of fields = object (members_of (present fields))
+
+-- the fields of a message; where it is given, the line as it came is the last
+abbrev pub fields_of : MessageValue → Option Text → List Field
+fields_of m raw =
+    (codes "protocol", Some (string (protocol_text m.protocol)))
+    ∷ (codes "version", version_json m.protocol)
+    ∷ (codes "facility", option_map (λ f. text_json (facility_name f)) m.facility)
+    ∷ (codes "facility_code", option_map (λ f. number_json (facility_number f)) m.facility)
+    ∷ (codes "severity", option_map (λ s. text_json (severity_name s)) m.severity)
+    ∷ (codes "severity_code", option_map (λ s. number_json (severity_number s)) m.severity)
+    ∷ (codes "timestamp", option_map timestamp_json m.timestamp)
+    ∷ (codes "hostname", option_map text_json m.hostname)
+    ∷ (codes "appname", option_map text_json m.appname)
+    ∷ (codes "procid", option_map (λ p. text_json (procid_text p)) m.procid)
+    ∷ (codes "msgid", option_map text_json m.msgid)
+    ∷ (codes "structured_data", structured_json m.structured_data)
+    ∷ (codes "message", Some (text_json m.msg))
+    ∷ (codes "raw", option_map text_json raw)
+    ∷ []
+
+-- the value of a message
+abbrev pub message_json : MessageValue → Option Text → Data
+message_json m raw = object_of (fields_of m raw)
+
+-- the value of a line that is no message
+abbrev pub refused_json : List ℕ → Data
+refused_json line = object_of ((codes "message", Some (string line)) ∷ (codes "refused", Some (boolean true)) ∷ [])
+
+-- the value of a line that is no UTF-8, with what is none of it replaced
+abbrev pub invalid_json : List ℕ → Data
+invalid_json line =
+    object_of ((codes "message", Some (string line)) ∷ (codes "refused", Some (boolean true))
+    ∷ (codes "invalid_utf8", Some (boolean true)) ∷ [])

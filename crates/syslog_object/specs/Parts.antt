@@ -1,0 +1,74 @@
+-- The pieces of an object's text: what private clauses cite.
+use Rattle.std.specs.Prelude.{◌≡◌, ◌<◌, ◌^◌, ⊤, false, true, ℕ, List, [], ◌∷◌, ◌++◌, Option, Some, None, codes, encode_utf8_all}
+use Rattle.std.specs.List.{AllByRecursion}
+use Rattle.std.specs.Str.{bytes_eq}
+use Rattle.std.specs.Option.{option_map}
+use Rattle.syslog_pieces.specs.Pieces.Class.{Text}
+use Rattle.syslog_pieces.specs.Pri.{facility_name, facility_number, severity_name, severity_number}
+use Rattle.syslog_pieces.specs.declared.pri.SyslogFacility.{SyslogFacility}
+use Rattle.syslog_pieces.specs.declared.pri.SyslogSeverity.{SyslogSeverity}
+use Rattle.syslog_loose.specs.declared.message.Protocol.{Protocol}
+use Rattle.syslog_loose.specs.declared.message.Protocol.TheVariants.{RFC3164, RFC5424}
+use Rattle.json.specs.Print.{escape, quoted}
+use Rattle.serde_json.specs.Data.{Data, object}
+use Rattle.serde_json.specs.Written.{compact_text, members_text}
+use Rattle.syslog_object.specs.Gathered.{members_of}
+use Rattle.syslog_object.specs.Object.{Field, present, number_json, protocol_text, text_json, version_json}
+
+-- a member after another one
+abbrev pub member_text : List ℕ × Data → List ℕ
+member_text pair = 44 ∷ (quoted pair.0 ++ 58 ∷ compact_text pair.1)
+
+-- a field after another one; nothing where it has no value
+abbrev pub field_text : List ℕ → Option Data → List ℕ
+field_text key None = []
+field_text key (Some value) = member_text (key, value)
+
+-- the text of a field with the bytes before it and the quote after it; nothing where there is none
+abbrev pub text_field : List ℕ → Option Text → List ℕ
+text_field key None = []
+text_field key (Some text) = key ++ (escape (encode_utf8_all text) ++ 34 ∷ [])
+
+-- the first fields, with the brace
+abbrev pub protocol_fields : Protocol → List ℕ
+protocol_fields protocol =
+    123 ∷ (quoted (codes "protocol") ++ 58 ∷ (quoted (protocol_text protocol)
+    ++ field_text (codes "version") (version_json protocol)))
+
+abbrev pub facility_fields : Option SyslogFacility → List ℕ
+facility_fields facility =
+    field_text (codes "facility") (option_map (λ f. text_json (facility_name f)) facility)
+    ++ field_text (codes "facility_code") (option_map (λ f. number_json (facility_number f)) facility)
+
+abbrev pub severity_fields : Option SyslogSeverity → List ℕ
+severity_fields severity =
+    field_text (codes "severity") (option_map (λ s. text_json (severity_name s)) severity)
+    ++ field_text (codes "severity_code") (option_map (λ s. number_json (severity_number s)) severity)
+
+-- ---- objects
+
+-- none of the keys is this one
+abbrev pub IsNewKey : List ℕ → List (List ℕ) → Type 0
+IsNewKey key keys = AllByRecursion (λ k. bytes_eq key k ≡ false) keys
+
+-- each key comes once
+abbrev pub AreDistinct : List (List ℕ) → Type 0
+AreDistinct [] = ⊤
+AreDistinct (k ∷ ks) = IsNewKey k ks × AreDistinct ks
+
+-- the members after the first one, and the brace
+abbrev pub members_after : List (List ℕ × Data) → List ℕ
+members_after pairs = members_text true (members_of pairs)
+
+-- the object of members in this order
+abbrev pub object_text : List (List ℕ × Data) → List ℕ
+object_text pairs = compact_text (object (members_of pairs))
+
+-- the fields after the first one, and the brace
+abbrev pub rest_text : List Field → List ℕ
+rest_text fields = members_after (present fields)
+
+-- the version is a number of 64 bits
+abbrev pub IsSmallVersion : Protocol → Type 0
+IsSmallVersion RFC3164 = ⊤
+IsSmallVersion (RFC5424 version) = version < 2 ^ 64

@@ -1,0 +1,179 @@
+//! The fields that are no elements: each is appended with the comma before it.
+ghost use Rattle.std.specs.Prelude.{◌≡◌, ◌++◌, ◌∷◌, [], OnOk, Some, IsUtf8, codes};
+ghost use Rattle.std.specs.Fmt.{signed_decimal};
+ghost use Rattle.std.specs.Option.{option_map};
+ghost use Rattle.json.specs.Print.{escape};
+ghost use Rattle.syslog_pieces.specs.Pieces.View.{seen, shown};
+ghost use Rattle.syslog_pieces.specs.ProcId.{procid_text, procid_value};
+ghost use Rattle.syslog_pieces.specs.Timestamp.{stamp_seen};
+ghost use Rattle.syslog_loose.specs.Line.{protocol_of};
+ghost use Rattle.syslog_object.specs.Object.{timestamp_json};
+ghost use Rattle.syslog_object.specs.Parts.{IsSmallVersion, facility_fields, field_text, protocol_fields, severity_fields, text_field};
+
+use crate::escapes::push_text;
+use std::alloc::AllocError;
+use syslog_loose::{ClockStamp, ProcId, SyslogFacility, SyslogSeverity};
+use syslog_pieces::front::Ascii;
+
+/// Appends the brace, the protocol, and the version of RFC 5424.
+#[tactic(auto, unfolding(json::specs::Print::escape_byte))]
+pub(crate) fn push_protocol(out: &mut Vec<u8>, version: Option<u32>) -> Result<(), AllocError>
+    ensures text { OnOk result (out.new.items ≡ out.old.items ++ protocol_fields (protocol_of version)) }
+    ensures small { IsSmallVersion (protocol_of version) }
+{
+    match version {
+        None => out.extend_from_slice(b"{\"protocol\":\"RFC3164\""),
+        Some(version) => {
+            let mut buffer = itoa::Buffer::new();
+            let digits = buffer.format(version);
+            out.extend_from_slice(b"{\"protocol\":\"RFC5424\",\"version\":")?;
+            out.extend_from_slice(digits.as_bytes())
+        }
+    }
+}
+
+fn facility_members(facility: SyslogFacility) -> &'static [u8]
+    ensures { result.now ≡ facility_fields (Some facility) }
+{
+    match facility {
+        SyslogFacility::LOG_KERN => b",\"facility\":\"kern\",\"facility_code\":0",
+        SyslogFacility::LOG_USER => b",\"facility\":\"user\",\"facility_code\":1",
+        SyslogFacility::LOG_MAIL => b",\"facility\":\"mail\",\"facility_code\":2",
+        SyslogFacility::LOG_DAEMON => b",\"facility\":\"daemon\",\"facility_code\":3",
+        SyslogFacility::LOG_AUTH => b",\"facility\":\"auth\",\"facility_code\":4",
+        SyslogFacility::LOG_SYSLOG => b",\"facility\":\"syslog\",\"facility_code\":5",
+        SyslogFacility::LOG_LPR => b",\"facility\":\"lpr\",\"facility_code\":6",
+        SyslogFacility::LOG_NEWS => b",\"facility\":\"news\",\"facility_code\":7",
+        SyslogFacility::LOG_UUCP => b",\"facility\":\"uucp\",\"facility_code\":8",
+        SyslogFacility::LOG_CRON => b",\"facility\":\"cron\",\"facility_code\":9",
+        SyslogFacility::LOG_AUTHPRIV => b",\"facility\":\"authpriv\",\"facility_code\":10",
+        SyslogFacility::LOG_FTP => b",\"facility\":\"ftp\",\"facility_code\":11",
+        SyslogFacility::LOG_NTP => b",\"facility\":\"ntp\",\"facility_code\":12",
+        SyslogFacility::LOG_AUDIT => b",\"facility\":\"audit\",\"facility_code\":13",
+        SyslogFacility::LOG_ALERT => b",\"facility\":\"alert\",\"facility_code\":14",
+        SyslogFacility::LOG_CLOCKD => b",\"facility\":\"clockd\",\"facility_code\":15",
+        SyslogFacility::LOG_LOCAL0 => b",\"facility\":\"local0\",\"facility_code\":16",
+        SyslogFacility::LOG_LOCAL1 => b",\"facility\":\"local1\",\"facility_code\":17",
+        SyslogFacility::LOG_LOCAL2 => b",\"facility\":\"local2\",\"facility_code\":18",
+        SyslogFacility::LOG_LOCAL3 => b",\"facility\":\"local3\",\"facility_code\":19",
+        SyslogFacility::LOG_LOCAL4 => b",\"facility\":\"local4\",\"facility_code\":20",
+        SyslogFacility::LOG_LOCAL5 => b",\"facility\":\"local5\",\"facility_code\":21",
+        SyslogFacility::LOG_LOCAL6 => b",\"facility\":\"local6\",\"facility_code\":22",
+        SyslogFacility::LOG_LOCAL7 => b",\"facility\":\"local7\",\"facility_code\":23",
+    }
+}
+
+fn severity_members(severity: SyslogSeverity) -> &'static [u8]
+    ensures { result.now ≡ severity_fields (Some severity) }
+{
+    match severity {
+        SyslogSeverity::SEV_EMERG => b",\"severity\":\"emerg\",\"severity_code\":0",
+        SyslogSeverity::SEV_ALERT => b",\"severity\":\"alert\",\"severity_code\":1",
+        SyslogSeverity::SEV_CRIT => b",\"severity\":\"crit\",\"severity_code\":2",
+        SyslogSeverity::SEV_ERR => b",\"severity\":\"err\",\"severity_code\":3",
+        SyslogSeverity::SEV_WARNING => b",\"severity\":\"warning\",\"severity_code\":4",
+        SyslogSeverity::SEV_NOTICE => b",\"severity\":\"notice\",\"severity_code\":5",
+        SyslogSeverity::SEV_INFO => b",\"severity\":\"info\",\"severity_code\":6",
+        SyslogSeverity::SEV_DEBUG => b",\"severity\":\"debug\",\"severity_code\":7",
+    }
+}
+
+/// Appends the name and the number of the facility, where there is one.
+#[inline(always)]
+pub(crate) fn push_facility(
+    out: &mut Vec<u8>,
+    facility: Option<SyslogFacility>,
+) -> Result<(), AllocError>
+    ensures { OnOk result (out.new.items ≡ out.old.items ++ facility_fields facility) }
+{
+    match facility {
+        Some(facility) => out.extend_from_slice(facility_members(facility)),
+        None => Ok(()),
+    }
+}
+
+/// Appends the name and the number of the severity, where there is one.
+#[inline(always)]
+pub(crate) fn push_severity(
+    out: &mut Vec<u8>,
+    severity: Option<SyslogSeverity>,
+) -> Result<(), AllocError>
+    ensures { OnOk result (out.new.items ≡ out.old.items ++ severity_fields severity) }
+{
+    match severity {
+        Some(severity) => out.extend_from_slice(severity_members(severity)),
+        None => Ok(()),
+    }
+}
+
+// Appends the text of a field and the quote after it. `key` is all before it: a comma, the key, a colon and a quote.
+#[inline(always)]
+fn push_member(out: &mut Vec<u8>, key: &[u8], text: &str) -> Result<(), AllocError>
+    ensures text { OnOk result (out.new.items ≡ out.old.items ++ (key.now ++ (escape text.now ++ 34 ∷ []))) }
+    ensures utf8 { IsUtf8 text.now }
+{
+    out.extend_from_slice(key)?;
+    push_text(out, text)?;
+    out.push(b'"')?;
+    Ok(())
+}
+
+/// The same of a field that may be absent.
+#[inline(always)]
+pub(crate) fn push_field(
+    out: &mut Vec<u8>,
+    key: &[u8],
+    text: Option<&str>,
+) -> Result<(), AllocError>
+    ensures { OnOk result (out.new.items ≡ out.old.items ++ text_field key.now (seen text.entry)) }
+{
+    match text {
+        Some(text) => push_member(out, key, text),
+        None => Ok(()),
+    }
+}
+
+/// Appends the timestamp as it is printed, where there is one.
+#[inline(always)]
+pub(crate) fn push_timestamp(
+    out: &mut Vec<u8>,
+    timestamp: Option<ClockStamp>,
+) -> Result<(), AllocError>
+    ensures { OnOk result (out.new.items
+        ≡ out.old.items ++ field_text (codes "timestamp") (option_map timestamp_json (stamp_seen timestamp))) }
+{
+    match timestamp {
+        Some(stamp) => {
+            let text = Ascii::timestamp(stamp);
+            push_member(out, b",\"timestamp\":\"", text.as_str())
+        }
+        None => Ok(()),
+    }
+}
+
+/// Appends the process id as a text, a number in decimal, where there is one.
+#[inline(always)]
+pub(crate) fn push_process(
+    out: &mut Vec<u8>,
+    process: Option<ProcId<&str>>,
+) -> Result<(), AllocError>
+    ensures { OnOk result (out.new.items ≡ out.old.items ++ text_field (codes ",\"procid\":\"")
+        (option_map procid_text (option_map (procid_value (λ s. shown s)) process.entry))) }
+{
+    match process {
+        Some(ProcId::PID(number)) => push_process_number(out, number),
+        Some(ProcId::Name(name)) => push_member(out, b",\"procid\":\"", name),
+        None => Ok(()),
+    }
+}
+
+// Appends a process id that is a number.
+#[inline(always)]
+fn push_process_number(out: &mut Vec<u8>, number: i32) -> Result<(), AllocError>
+    ensures { OnOk result (out.new.items
+        ≡ out.old.items ++ text_field (codes ",\"procid\":\"") (Some (signed_decimal number))) }
+{
+    let mut buffer = itoa::Buffer::new();
+    let digits = buffer.format(number);
+    push_member(out, b",\"procid\":\"", digits)
+}

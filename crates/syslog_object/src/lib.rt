@@ -1,0 +1,11 @@
+//! The JSON object of a parsed syslog line.
+#![tactic(auto)]
+
+mod element;
+mod escapes;
+mod field;
+mod gather;
+mod object;
+mod plain;
+
+pub use object::{push_invalid, push_object, push_refused};

@@ -1,0 +1,117 @@
+//! Bytes that need no escape in JSON.
+ghost use Rattle.std.specs.Prelude.{◌≡◌, ◌+◌, ◌++◌, ◌≤◌, length};
+ghost use Rattle.std.specs.Bool.{OnTrue};
+ghost use Rattle.json.specs.Print.{escape};
+ghost use Rattle.json.specs.Written.{PlainBetween};
+
+use std::simd::prelude::*;
+
+#[inline(always)]
+fn is_plain_16(text: &[u8], at: usize) -> bool
+    requires { at + 16 ≤ length text.now }
+    ensures { OnTrue result (PlainBetween text.now at (at + 16)) }
+{
+    let v = u8x16::from_slice(&text[at..]);
+    (v.simd_eq(u8x16::splat(b'"'))
+        | v.simd_eq(u8x16::splat(b'\\'))
+        | v.simd_lt(u8x16::splat(0x20))).to_bitmask()
+        == 0
+}
+
+#[inline(always)]
+fn is_plain_8(text: &[u8], at: usize) -> bool
+    requires { at + 8 ≤ length text.now }
+    ensures { OnTrue result (PlainBetween text.now at (at + 8)) }
+{
+    let v = u8x8::from_slice(&text[at..]);
+    (v.simd_eq(u8x8::splat(b'"'))
+        | v.simd_eq(u8x8::splat(b'\\'))
+        | v.simd_lt(u8x8::splat(0x20))).to_bitmask()
+        == 0
+}
+
+#[inline(always)]
+fn is_plain_4(text: &[u8], at: usize) -> bool
+    requires { at + 4 ≤ length text.now }
+    ensures { OnTrue result (PlainBetween text.now at (at + 4)) }
+{
+    let v = u8x4::from_slice(&text[at..]);
+    (v.simd_eq(u8x4::splat(b'"'))
+        | v.simd_eq(u8x4::splat(b'\\'))
+        | v.simd_lt(u8x4::splat(0x20))).to_bitmask()
+        == 0
+}
+
+#[inline(always)]
+fn is_plain_few(text: &[u8]) -> bool
+    ensures { OnTrue result (PlainBetween text.now 0 (length text.now)) }
+{
+    for &byte in text {
+        if byte == b'"' || byte == b'\\' || byte < 0x20 {
+            return false;
+        }
+    }
+    true
+}
+
+// Two loads that overlap cover what is left.
+#[inline(always)]
+fn is_plain_long(text: &[u8]) -> bool
+    requires { 16 ≤ length text.now }
+    ensures { OnTrue result (PlainBetween text.now 0 (length text.now)) }
+{
+    let mut at = 0;
+    'blocks: while text.len() - at > 16 {
+        if !is_plain_16(text, at) {
+            return false;
+        }
+        at += 16;
+    }
+    is_plain_16(text, text.len() - 16)
+}
+
+/// Whether no byte needs an escape. It may be `false` though none does.
+#[inline(always)]
+pub(crate) fn is_plain(text: &[u8]) -> bool
+    ensures { OnTrue result (PlainBetween text.now 0 (length text.now)) }
+{
+    let length = text.len();
+    if length >= 16 {
+        is_plain_long(text)
+    } else if length >= 8 {
+        is_plain_8(text, 0) && is_plain_8(text, length - 8)
+    } else if length >= 4 {
+        is_plain_4(text, 0) && is_plain_4(text, length - 4)
+    } else {
+        is_plain_few(text)
+    }
+}
+
+// How many bytes at the front need no escape.
+#[inline(always)]
+fn plain_length(text: &[u8]) -> usize
+    ensures plain { PlainBetween text.now 0 result }
+    ensures within { result ≤ length text.now }
+{
+    let mut end = 0;
+    'blocks: while text.len() - end >= 16 && is_plain_16(text, end) {
+        end += 16;
+    }
+    'bytes: while end < text.len() {
+        let byte = text[end];
+        if byte == b'"' || byte == b'\\' || byte < 0x20 {
+            return end;
+        }
+        end += 1;
+    }
+    end
+}
+
+/// The bytes at the front that need no escape, and the rest.
+#[inline(always)]
+pub(crate) fn split_plain(text: &[u8]) -> (&[u8], &[u8])
+    ensures whole { text.now ≡ result.0.now ++ result.1.now }
+    ensures plain { PlainBetween result.0.now 0 (length result.0.now) }
+{
+    text.split_at(plain_length(text))
+}
