@@ -31,15 +31,13 @@ int main(int count, char **words)
     }
     struct syslog_options options = { .year = atoi(words[1]), .month = (uint32_t)atoi(words[2]) };
     struct syslog_message message = SYSLOG_MESSAGE_INIT;
-    struct syslog_element element = SYSLOG_ELEMENT_INIT;
-    struct syslog_param param = SYSLOG_PARAM_INIT;
     char *line = NULL;
     size_t room = 0, refused = 0;
     ssize_t length;
     while ((length = getline(&line, &room, stdin)) > 0) {
         size_t bytes = (size_t)length - (line[length - 1] == '\n');
-        uint32_t outcome = syslog_read(line, bytes, &options, &message, &element, 0, &param, 0);
-        if (outcome == SYSLOG_DONE || outcome == SYSLOG_NO_ROOM) { /* its elements are not asked for */
+        uint32_t outcome = syslog_read_fields(line, bytes, &options, &message);
+        if (outcome == SYSLOG_DONE) {
             print(&message);
         } else if (outcome == SYSLOG_NO_READING || outcome == SYSLOG_NOT_UTF8) {
             refused++;

@@ -1,5 +1,5 @@
 //! What collector.c does, by the crate in bindings/rust: collector YEAR MONTH <FILE
-use libsyslog_loose::{parse, Error, Message, Options, Severity};
+use libsyslog_loose::{parse_fields, Error, Message, Options, Severity};
 use std::env;
 use std::error;
 use std::io::{self, BufRead, Write};
@@ -36,7 +36,7 @@ fn main() -> Result<(), Box<dyn error::Error>> {
     };
     let (mut out, mut refused) = (io::stdout().lock(), 0);
     for line in io::stdin().lock().split(b'\n') {
-        match parse(&line?, &options) {
+        match parse_fields(&line?, &options) {
             Ok(message) => write_message(&mut out, &message)?,
             Err(Error::NoMessage | Error::NotUtf8) => refused += 1,
             Err(fault) => return Err(fault.into()),

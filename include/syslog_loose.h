@@ -4,8 +4,8 @@
  *
  *     cc program.c $(pkg-config --cflags --libs syslog_loose)
  *
- * A program may include the system's <syslog.h> too. The library asks the program's malloc, realloc and free for
- * memory. It has no state: no call frees or keeps anything of the caller's, none leaves anything to be freed, and
+ * A program may include the system's <syslog.h> too. Only syslog_settle asks for memory, by the program's malloc,
+ * realloc and free. The library has no state: no call frees or keeps anything of the caller's, none leaves anything to be freed, and
  * threads may call it at once. Don't call it from a signal handler, nor in the forked child of a process with threads.
  *
  * What each call owes its caller is proved from its code, but not what the caller owes the call:
@@ -46,7 +46,7 @@ enum syslog_outcome {
     SYSLOG_DONE = 0,         /* all of the answer is there */
     SYSLOG_NO_READING = 1,   /* the line is no message (syslog_settle: or one of the texts that it prints is none) */
     SYSLOG_NOT_UTF8 = 2,     /* the bytes are no UTF-8 */
-    SYSLOG_NO_MEMORY = 3,    /* a request for memory was refused */
+    SYSLOG_NO_MEMORY = 3,    /* a request for memory was refused: syslog_settle alone makes them */
     SYSLOG_NO_ROOM = 4,      /* the answer takes more room than there is: see what is needed */
     SYSLOG_BAD_ARGUMENT = 5  /* one of the options is out of its range */
 };
@@ -119,19 +119,26 @@ struct syslog_param {
 
 /* Reads a line: its fields into the message, and its elements and their parameters, in order, into the two arrays.
  *
- * SYSLOG_DONE: all of it is there, and what is behind in the arrays is as it was.
- * SYSLOG_NO_ROOM: the message is there, with the numbers that are needed; one of the arrays is too small, and both are
- *   as they were. (To skip structured data, hand in two arrays with the lengths 0, and take this for an answer.)
- * Any other: the message and the arrays are as they were. SYSLOG_NO_MEMORY only where the line has elements.
+ * SYSLOG_DONE: all of it is there, and what follows in the arrays is as it was.
+ * SYSLOG_NO_ROOM: the message is there, with the numbers that are needed; one of the arrays is too small, and both may
+ *   hold anything.
+ * Any other: the message and the arrays are as they were.
  */
 uint32_t syslog_read(const char *line, size_t length, const struct syslog_options *options,
                      struct syslog_message *message, struct syslog_element *elements, size_t element_room,
                      struct syslog_param *params, size_t param_room);
 
+/* Reads the fields alone, and no structured data: the message has the numbers of elements and of parameters.
+ *
+ * SYSLOG_DONE: they are there. Any other: the message is as it was.
+ */
+uint32_t syslog_read_fields(const char *line, size_t length, const struct syslog_options *options,
+                            struct syslog_message *message);
+
 /* The three that follow write a text to the beginning of the room, and its length to needed.
  *
- * SYSLOG_DONE: it is there, with no zero byte behind it, and the rest of the room is as it was.
- * SYSLOG_NO_ROOM: needed has its length, and the room, which is shorter, is as it was.
+ * SYSLOG_DONE: it is there, with no zero byte after it, and the rest of the room is as it was.
+ * SYSLOG_NO_ROOM: needed has its length, and the room, which is shorter, may hold anything.
  * Any other: needed is 0, and the room is as it was.
  */
 

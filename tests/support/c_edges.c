@@ -88,11 +88,43 @@ static size_t params_put(const struct place *place)
     return put;
 }
 
+/* What follows after so many places of each array is as it was set. */
+static void untouched(const struct place *place, size_t elements, size_t params)
+{
+    struct syslog_text text = stood();
+    for (size_t i = elements; i < MOST + 2; i++)
+        CHECK(same_text(&place->elements[i].id, &text) && place->elements[i].params == 0);
+    for (size_t i = params; i < MOST + 2; i++)
+        CHECK(same_text(&place->params[i].name, &text) && same_text(&place->params[i].value, &text));
+}
+
+/* The fields alone are those that are read with the arrays. */
+static void fields_alone(const char *line, size_t length, const struct syslog_message *whole, uint32_t outcome)
+{
+    static struct place place;
+    const struct syslog_message *it = &place.message;
+    set(&place);
+    CHECK(syslog_read_fields(line, length, &OPTIONS, &place.message) == outcome);
+    if (outcome != SYSLOG_DONE) {
+        CHECK(is_set(&place));
+        return;
+    }
+    CHECK(it->protocol == whole->protocol && it->version == whole->version);
+    CHECK(it->facility == whole->facility && it->severity == whole->severity);
+    CHECK(it->timestamp.seconds == whole->timestamp.seconds && it->timestamp.offset == whole->timestamp.offset);
+    CHECK(it->timestamp.nanoseconds == whole->timestamp.nanoseconds);
+    CHECK(same_text(&it->host, &whole->host) && same_text(&it->app, &whole->app));
+    CHECK(same_text(&it->process.name, &whole->process.name) && it->process.number == whole->process.number);
+    CHECK(same_text(&it->msgid, &whole->msgid) && same_text(&it->msg, &whole->msg));
+    CHECK(it->elements == whole->elements && it->params == whole->params);
+}
+
 static void each_array(const char *line, size_t length)
 {
     static struct place whole, place;
     set(&whole);
     uint32_t outcome = syslog_read(line, length, &OPTIONS, &whole.message, whole.elements, MOST, whole.params, MOST);
+    fields_alone(line, length, &whole.message, outcome);
     if (outcome != SYSLOG_DONE) {
         CHECK(outcome == SYSLOG_NO_READING && is_set(&whole) && !elements_put(&whole) && !params_put(&whole));
         return;
@@ -108,7 +140,10 @@ static void each_array(const char *line, size_t length)
             CHECK(place.message.elements == elements && place.message.params == params);
             CHECK(same_text(&place.message.msg, &whole.message.msg));
             CHECK(same_text(&place.message.host, &whole.message.host));
-            CHECK(elements_put(&place) == (fits ? elements : 0) && params_put(&place) == (fits ? params : 0));
+            if (fits)
+                CHECK(elements_put(&place) == elements && params_put(&place) == params);
+            else
+                untouched(&place, i, k);
             for (size_t n = 0; fits && n < elements; n++)
                 CHECK(same_text(&place.elements[n].id, &whole.elements[n].id)
                       && place.elements[n].params == whole.elements[n].params);
@@ -163,7 +198,7 @@ static void each_room(writer *write, const char *line, size_t length)
         if (size >= needed)
             CHECK(!memcmp(room, whole, needed) && !memcmp(room + needed, stood_here, sizeof room - needed));
         else
-            CHECK(!memcmp(room, stood_here, sizeof room));
+            CHECK(!memcmp(room + size, stood_here, sizeof room - size));
     }
 }
 
@@ -177,6 +212,7 @@ static void refused(const char *line, size_t length, const struct syslog_options
     set(&place);
     CHECK(syslog_read(line, length, options, &place.message, place.elements, MOST, place.params, MOST) == code);
     CHECK(is_set(&place) && !elements_put(&place) && !params_put(&place));
+    CHECK(syslog_read_fields(line, length, options, &place.message) == code && is_set(&place));
     CHECK(syslog_normalise(line, length, options, room, sizeof room, &needed) == code && needed == 0);
     needed = 77;
     CHECK(syslog_settle(line, length, options, room, sizeof room, &needed) == code && needed == 0);
@@ -295,30 +331,23 @@ static void threads(void)
         CHECK(!pthread_join(ids[i], NULL) && sums[i] == alone);
 }
 
-/* Each call once. */
+/* Each call once: a refused request is syslog_settle's. */
 static int with_memory_refused(const char *line)
 {
     static struct place place;
     static char room[ROOM];
     size_t length = strlen(line), needed = 77;
     uint32_t canonical = 77, code;
-    int seen = 0;
     set(&place);
-    code = syslog_read(line, length, &OPTIONS, &place.message, place.elements, MOST, place.params, MOST);
-    CHECK(code == SYSLOG_DONE || code == SYSLOG_NO_MEMORY);
-    CHECK(code == SYSLOG_DONE || (is_set(&place) && !elements_put(&place) && !params_put(&place)));
-    seen |= code == SYSLOG_NO_MEMORY;
-    writer *calls[] = { normalise, settle, syslog_unescape };
-    for (int i = 0; i < 3; i++) {
-        memset(room, 0, sizeof room);
-        code = calls[i](line, length, room, sizeof room, &needed);
-        CHECK(code == SYSLOG_DONE ? needed == strlen(room) : code == SYSLOG_NO_MEMORY && needed == 0 && !room[0]);
-        seen |= code == SYSLOG_NO_MEMORY;
-    }
-    code = syslog_is_canonical(line, length, &OPTIONS, &canonical);
-    CHECK(code == SYSLOG_DONE ? canonical <= 1 : code == SYSLOG_NO_MEMORY && canonical == 0);
-    seen |= code == SYSLOG_NO_MEMORY;
-    return seen ? 4 : 0;
+    CHECK(syslog_read(line, length, &OPTIONS, &place.message, place.elements, MOST, place.params, MOST) == SYSLOG_DONE);
+    CHECK(syslog_read_fields(line, length, &OPTIONS, &place.message) == SYSLOG_DONE);
+    CHECK(syslog_is_canonical(line, length, &OPTIONS, &canonical) == SYSLOG_DONE && canonical <= 1);
+    CHECK(normalise(line, length, room, sizeof room, &needed) == SYSLOG_DONE && needed > length);
+    CHECK(syslog_unescape(line, length, room, sizeof room, &needed) == SYSLOG_DONE && needed <= length);
+    memset(room, 0, sizeof room);
+    code = settle(line, length, room, sizeof room, &needed);
+    CHECK(code == SYSLOG_DONE ? needed == strlen(room) : code == SYSLOG_NO_MEMORY && needed == 0 && !room[0]);
+    return code == SYSLOG_NO_MEMORY ? 4 : 0;
 }
 
 int main(int count, char **words)

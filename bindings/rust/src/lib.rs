@@ -128,6 +128,20 @@ pub fn parse<'a, T: AsRef<[u8]> + ?Sized>(line: &'a T, options: &Options) -> Res
     }
 }
 
+/// The message of a line, whose texts are pieces of it, without its structured data. No memory is taken.
+pub fn parse_fields<'a, T: AsRef<[u8]> + ?Sized>(line: &'a T, options: &Options) -> Result<Message<'a>, Error> {
+    let line = from_utf8(line.as_ref()).map_err(|_| Error::NotUtf8)?;
+    let (options, mut message) = (options.raw(), raw::Message::NONE);
+    // SAFETY: each pointer comes from a reference, as in `read`.
+    match unsafe { raw::syslog_read_fields(line.as_ptr(), line.len(), &options, &mut message) } {
+        raw::DONE => {
+            (message.elements, message.params) = (0, 0);
+            Ok(Message::of(line, &message, &[], &[]))
+        }
+        outcome => Err(Error::of(outcome)),
+    }
+}
+
 fn read(
     line: &str,
     options: &Options,

@@ -114,6 +114,12 @@ extern "C" {
         params: *mut Param,
         param_room: usize,
     ) -> u32;
+    pub fn syslog_read_fields(
+        line: *const u8,
+        length: usize,
+        options: *const Options,
+        message: *mut Message,
+    ) -> u32;
     pub fn syslog_normalise(
         line: *const u8,
         length: usize,

@@ -1,5 +1,5 @@
 //! The crate over the library that it is linked with.
-use libsyslog_loose::{normalise, parse, settle, version};
+use libsyslog_loose::{normalise, parse, parse_fields, settle, version};
 use libsyslog_loose::{Error, Message, Options, Param, ProcId, Protocol, Severity, Timestamp, Variant};
 use std::borrow::Cow;
 use std::thread;
@@ -29,6 +29,14 @@ fn elements_and_parameters() {
     assert_eq!(params, [Param { name: "b", raw: "c" }, Param { name: "d", raw: r#"\"\]"# }]);
     assert!(matches!(params[0].value(), Cow::Borrowed("c")));
     assert_eq!(params[1].value(), "\"]");
+}
+
+#[test]
+fn fields_without_elements() {
+    let (whole, fields) = (parse(LINE, &IN_2026).unwrap(), parse_fields(LINE, &IN_2026).unwrap());
+    assert_eq!((fields.hostname, fields.message, fields.timestamp), (whole.hostname, whole.message, whole.timestamp));
+    assert_eq!((whole.elements().len(), fields.elements().len()), (2, 0));
+    assert_eq!(parse_fields("gobbledegook", &IN_2026), Err(Error::NoMessage));
 }
 
 #[test]

@@ -1,4 +1,5 @@
 pub mod ArrayLemmas
 pub mod LineLemmas
 pub mod NameLemmas
+pub mod ReadLemmas
 pub mod TextLemmas

@@ -1,43 +1,78 @@
--- What `settle` and `normalise` answer, once it is put into the room.
-use Rattle.std.proofs.Common.{ℕ, List, Result, Ok, Err, MatchResult, String, ◌↔◌, ◌≡◌, refl}
+-- What `settle` answers, once it is put into the room; and texts that are put piece by piece.
+use Rattle.std.proofs.Common.{ℕ, List, [], ◌∷◌, ◌++◌, Result, Ok, Err, MatchResult, String, ◌≡◌, ◌≤◌, ◌∙◌, inl, inr, refl, sym, ap}
+use Rattle.std.proofs.Common.{arith, length}
 use Rattle.std.specs.Prelude.{string_bytes}
 use Rattle.std.specs.Global.{Global}
-use Rattle.std.proofs.lemmas.Str.{IsUtf8-string_bytes}
+use Rattle.std.specs.List.{concat, FoldsTo}
+use Rattle.std.proofs.Common.{append-nil, append_assoc, subst}
+use Rattle.std.specs.Fmt.{WritesInCalls}
+use Rattle.std.proofs.lemmas.Str.{IsUtf8-append, IsUtf8-nil, IsUtf8-string_bytes}
+use Rattle.std.specs.Str.{chars}
+use Rattle.syslog_pieces.proofs.Names.{chars-append, chars-nil}
 use Rattle.syslog_pieces.specs.Pieces.Class.{Text}
 use Rattle.syslog_pieces.specs.Timestamp.Zone.{Dating}
-use Rattle.syslog_loose.specs.Reading.{IsUnreadable}
 use Rattle.syslog_loose.specs.Settling.{Settles}
 use Rattle.syslog_loose.specs.declared.fault.ParseFault.{ParseFault}
 use Rattle.syslog_loose.specs.declared.fault.ParseFault.TheVariants.{Invalid, Memory}
 use Rattle.syslog_loose.specs.declared.variant.Variant.{Variant}
-use Rattle.syslog_loose.proofs.ReadingLemmas.{invalid_or_memory}
-use Rattle.syslog_c.specs.Room.{IsLeftFor, Puts}
-use Rattle.syslog_c.specs.Texts.{IsPrintedLine, IsSettledText, Leaves, Normalised, PrintsNot, Settled, SettlesNot}
+use Rattle.syslog_c.specs.Room.{HasTaken, IsLeftFor, Puts, Takes, TakesText, TellsLength}
+use Rattle.syslog_c.specs.Texts.{Settled}
 use Rattle.syslog_c.specs.declared.outcome.Outcome.{Outcome}
-use Rattle.syslog_c.specs.declared.outcome.Outcome.TheVariants.{Done, NoRoom}
+use Rattle.syslog_c.specs.declared.room.Buffer.{Buffer}
 
--- an answer that was put into the room
-pub put_leaves : (Is : List ℕ → Type 0) (Fails : Outcome → Type 0) (bytes old new : List ℕ) (needed : ℕ) → Is bytes
-    → (outcome : Outcome) → Puts bytes old new needed outcome → Leaves Is Fails old new needed outcome
-put_leaves Is Fails bytes old new needed is Done puts = (bytes, is, puts)
-put_leaves Is Fails bytes old new needed is NoRoom puts = (bytes, is, puts)
-put_leaves Is Fails bytes old new needed is outcome puts = absurd puts
+pub settled_answer : (variant : Variant) (dating : Dating) (text : Text) (old new : List ℕ) (needed : ℕ) (outcome : Outcome)
+    (answer : Result (String Global) ParseFault) → Settles variant dating text answer
+    → MatchResult answer (λ u. Puts (string_bytes u) old new needed outcome)
+    (λ fault. IsLeftFor fault old new needed outcome) → Settled variant dating text old new needed outcome
+settled_answer variant dating text old new needed outcome (Ok u) s puts =
+    inl (string_bytes u, record { utf8 = IsUtf8-string_bytes u; settles = s }, puts)
+settled_answer variant dating text old new needed outcome (Err Invalid) s left = inr (rw left.0 s, left.1)
+settled_answer variant dating text old new needed outcome (Err Memory) s left = inr (rw left.0 s, left.1)
 
-module _ (variant : Variant) (dating : Dating) (text : Text) (old new : List ℕ) (needed : ℕ) (outcome : Outcome) where
-  pub settled_answer : (answer : Result (String Global) ParseFault) → Settles variant dating text answer
-      → MatchResult answer (λ u. Puts (string_bytes u) old new needed outcome)
-      (λ fault. IsLeftFor fault old new needed outcome) → Settled variant dating text old new needed outcome
-  settled_answer (Ok u) s puts = put_leaves (IsSettledText variant dating text) (SettlesNot variant dating text)
-      (string_bytes u) old new needed record { utf8 = IsUtf8-string_bytes u; settles = s } outcome puts
-  settled_answer (Err Invalid) s left = rw left.0 (s, left.1)
-  settled_answer (Err Memory) s left = rw left.0 (s, left.1)
+-- what holds of the room that comes back holds of the caller's
+pub with_room : (P : List ℕ → Type 0) (now room : List ℕ) → room ≡ now → P now → P room
+with_room P now room e h = rw e h
 
-  pub printed_answer : (answer : Result (String Global) ParseFault)
-      → MatchResult answer (λ u. IsPrintedLine variant dating text (string_bytes u))
-      (λ fault. (fault ≡ Invalid) ↔ IsUnreadable variant dating text)
-      → MatchResult answer (λ u. Puts (string_bytes u) old new needed outcome)
-      (λ fault. IsLeftFor fault old new needed outcome) → Normalised variant dating text old new needed outcome
-  printed_answer (Ok u) s puts = put_leaves (IsPrintedLine variant dating text) (PrintsNot variant dating text)
-      (string_bytes u) old new needed s outcome puts
-  printed_answer (Err Invalid) s left = rw left.0 (s.0 refl, left.1)
-  printed_answer (Err Memory) s left = rw left.0 (λ none. invalid_or_memory (s.1 none), left.1)
+-- nothing is put yet
+pub taken_none : (b : Buffer) → b.needed ≡ 0 → HasTaken b b []
+taken_none b e = record { same = refl; needed = e; put = λ fits. refl }
+
+-- pieces that are put one after the other
+pub takes_after : (old mid new : Buffer) (a b : List ℕ) → Takes old a mid → Takes mid b new → Takes old (a ++ b) new
+takes_after old mid new a b first then_more start taken h =
+    subst (λ (bs : List ℕ). HasTaken start new bs) (append_assoc taken a b) (then_more start (taken ++ a) (first start taken h))
+
+pub takes_none : (b : Buffer) → Takes b [] b
+takes_none b start taken h = subst (λ (bs : List ℕ). HasTaken start b bs) (sym (append-nil taken)) h
+
+takes_all : (old new : Buffer) (parts : List (List ℕ)) → FoldsTo Takes old parts new → Takes old (concat parts) new
+takes_all old new [] same = subst (λ (b : Buffer). Takes old [] b) same (takes_none old)
+takes_all old new (p ∷ ps) (mid, one, more) = takes_after old mid new p (concat ps) one (takes_all mid new ps more)
+
+pub takes_calls : (old new : Buffer) (bytes : List ℕ) → WritesInCalls Takes old bytes new → Takes old bytes new
+takes_calls old new bytes w = subst (λ (bs : List ℕ). Takes old bs new) w.whole (takes_all old new w.parts w.calls)
+
+-- texts that are put one after the other
+pub text_none : (b : Buffer) → TakesText b [] b
+text_none b = ([], IsUtf8-nil, chars-nil, takes_none b)
+
+pub text_after : (old mid new : Buffer) (s t : Text) → TakesText old s mid → TakesText mid t new
+    → TakesText old (s ++ t) new
+text_after old mid new s t (a, valid, e, first) (b, also, f, next) = (
+  a ++ b,
+  IsUtf8-append a b valid also,
+  chars-append a b valid ∙ ap (λ (x : Text). x ++ chars b) e ∙ ap (λ (x : Text). s ++ x) f,
+  takes_after old mid new a b first next,
+)
+
+pub text_along : (old new : Buffer) (s t : Text) → s ≡ t → TakesText old s new → TakesText old t new
+text_along old new s t e h = subst (λ (x : Text). TakesText old x new) e h
+
+-- what was put, once its length is told
+pub told : (first now : Buffer) (bytes old : List ℕ) (needed : ℕ) (outcome : Outcome) → first.room.now ≡ old
+    → HasTaken first now bytes → TellsLength now needed outcome → Puts bytes old now.room.now needed outcome
+told first now bytes old needed outcome same h (e, short, inl (done, fits)) =
+    let whole : length bytes ≤ length now.room.now = omega (arith, h.needed, fits, short) in
+    rw (done, ← same) (omega (arith, e, h.needed, whole, short), whole, h.put whole)
+told first now bytes old needed outcome same h (e, short, inr (more, past)) =
+    rw more (e ∙ h.needed, omega (arith, h.needed, past))

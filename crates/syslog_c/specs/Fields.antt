@@ -1,5 +1,5 @@
 -- What C gets of a message, over the message as a value.
-use Rattle.std.specs.Prelude.{◌≡◌, ℕ, ℤ, pos, negsuc, ◌^◌, ◌-◌, min, List, [], length, take, drop, Option, None}
+use Rattle.std.specs.Prelude.{◌≡◌, ℕ, ℤ, pos, negsuc, List, [], length, take, drop, Option, None}
 use Rattle.std.specs.Prelude.{Some}
 use Rattle.std.specs.Int.{int_div_euclid, int_rem_euclid}
 use Rattle.std.specs.List.{AllZip, flat_map}
@@ -85,14 +85,14 @@ IsElement e value = IsText e.id value.id × (e.params ≡ length value.params)
 abbrev pub IsParam : Param → Chars × Chars → Type 0
 IsParam p value = IsText p.name value.0 × IsText p.value value.1
 
--- The array begins with these values, one at each place, and behind them it is as it was.
+-- The array begins with these values, one at each place, and after them it is as it was.
 pub record IsBegun {A B : Type 0} (Is : A → B → Type 0) (values : List B) (old new : List A) : Type 0 where
   pub begins : AllZip Is (take (length values) new) values
-  pub behind : drop (length values) new ≡ drop (length values) old
+  pub after : drop (length values) new ≡ drop (length values) old
 
 -- ---- the message
 
--- The struct tells the message. (The number of parameters is a `usize`: 2 ^ 64 or more would be told as 2 ^ 64 - 1.)
+-- the struct says what the message is
 pub record AreFields (fields : Fields) (m : MessageValue) : Type 0 where
   pub protocol : fields.protocol ≡ protocol_number m.protocol
   pub version : fields.version ≡ version_number m.protocol
@@ -105,4 +105,4 @@ pub record AreFields (fields : Fields) (m : MessageValue) : Type 0 where
   pub msgid : IsOptionalText fields.msgid m.msgid
   pub msg : IsText fields.msg m.msg
   pub elements : fields.elements ≡ length m.structured_data
-  pub params : fields.params ≡ min (length (all_params m.structured_data)) (2 ^ 64 - 1)
+  pub params : fields.params ≡ length (all_params m.structured_data)

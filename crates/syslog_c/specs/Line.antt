@@ -4,12 +4,12 @@ use Rattle.std.specs.Str.{chars, IsUtf8}
 use Rattle.jiff.specs.Types.{TimeZone}
 use Rattle.syslog_pieces.specs.Pieces.Class.{Text}
 use Rattle.syslog_pieces.specs.Timestamp.Zone.{Dating}
-use Rattle.syslog_loose.specs.Reading.{InYear, IsUnreadable, NeedsNoMemory}
+use Rattle.syslog_loose.specs.Reading.{InYear, IsUnreadable}
 use Rattle.syslog_loose.specs.declared.variant.Variant.{Variant}
 use Rattle.syslog_c.specs.Options.{AreInRange, IsReckoned, IsTaken, IsZoneAt, dating_in, variant_number}
 use Rattle.syslog_c.specs.declared.options.Options.{Options}
 use Rattle.syslog_c.specs.declared.outcome.Outcome.{Outcome}
-use Rattle.syslog_c.specs.declared.outcome.Outcome.TheVariants.{Done, NoReading, NotUtf8, NoMemory, NoRoom, BadArgument}
+use Rattle.syslog_c.specs.declared.outcome.Outcome.TheVariants.{NoReading, NotUtf8, BadArgument}
 
 -- The line is read by the options, and this holds of the variant, of how dates are taken, and of its text.
 pub record IsTried (options : Options) (line : List ℕ) (Holds : Variant → Dating → Text → Type 0) : Type 0 where
@@ -30,11 +30,6 @@ OnLine options line outcome IsLeft Holds =
     ⊎ (((outcome ≡ NotUtf8) × IsTaken options × (IsUtf8 line → ⊥) × IsLeft)
     ⊎ IsTried options line Holds)
 
--- why there is no message to tell of: the text has no reading, or memory was refused, for elements
+-- why there is no message to tell of: the text has no reading
 abbrev pub Refuses : Variant → Dating → Text → Outcome → Type 0
-Refuses variant dating text NoReading = IsUnreadable variant dating text
-Refuses variant dating text NoMemory = NeedsNoMemory variant dating text → ⊥
-Refuses variant dating text Done = ⊥
-Refuses variant dating text NoRoom = ⊥
-Refuses variant dating text NotUtf8 = ⊥
-Refuses variant dating text BadArgument = ⊥
+Refuses variant dating text outcome = (outcome ≡ NoReading) × IsUnreadable variant dating text

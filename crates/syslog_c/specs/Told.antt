@@ -1,4 +1,4 @@
--- What `syslog_read` and `syslog_is_canonical` leave.
+-- What `syslog_read`, `syslog_read_fields` and `syslog_is_canonical` leave.
 use Rattle.std.specs.Prelude.{◌≡◌, ◌⊎◌, ℕ, ◌<◌, List, length}
 use Rattle.syslog_pieces.specs.Pieces.Class.{Text}
 use Rattle.syslog_pieces.specs.Timestamp.Zone.{Dating}
@@ -12,20 +12,16 @@ use Rattle.syslog_c.specs.declared.fields.Element.{Element}
 use Rattle.syslog_c.specs.declared.fields.Fields.{Fields}
 use Rattle.syslog_c.specs.declared.fields.Param.{Param}
 use Rattle.syslog_c.specs.declared.outcome.Outcome.{Outcome}
-use Rattle.syslog_c.specs.declared.outcome.Outcome.TheVariants.{Done, NoReading, NotUtf8, NoMemory, NoRoom, BadArgument}
+use Rattle.syslog_c.specs.declared.outcome.Outcome.TheVariants.{Done, NoRoom}
 
--- the message is told whole; or one of the arrays is too small, both are as they were, and the rest is told
+-- the message is told whole; or one of the arrays is too small, and its fields are told
 abbrev pub IsTold : MessageValue → Fields → List Element → List Element → List Param → List Param → Outcome → Type 0
 IsTold m fields old_elements elements old_params params Done = AreFields fields m
     × IsBegun IsElement m.structured_data old_elements elements
     × IsBegun IsParam (all_params m.structured_data) old_params params
 IsTold m fields old_elements elements old_params params NoRoom = AreFields fields m
-    × ((length old_elements < length m.structured_data) ⊎ (length old_params < length (all_params m.structured_data)))
-    × (elements ≡ old_elements) × (params ≡ old_params)
-IsTold m fields old_elements elements old_params params NoReading = ⊥
-IsTold m fields old_elements elements old_params params NotUtf8 = ⊥
-IsTold m fields old_elements elements old_params params NoMemory = ⊥
-IsTold m fields old_elements elements old_params params BadArgument = ⊥
+    × ((length elements < length m.structured_data) ⊎ (length params < length (all_params m.structured_data)))
+IsTold m fields old_elements elements old_params params outcome = ⊥
 
 -- the one message as which the text is read is told; or there is none to tell of, and all is as it was
 abbrev pub ReadsInto : Variant → Dating → Text → Fields → Fields → List Element → List Element
@@ -34,6 +30,12 @@ ReadsInto variant dating text old_fields fields old_elements elements old_params
     ((m : MessageValue) × IsOnlyRead variant dating text m
     × IsTold m fields old_elements elements old_params params outcome)
     ⊎ (Refuses variant dating text outcome × (fields ≡ old_fields) × (elements ≡ old_elements) × (params ≡ old_params))
+
+-- its fields alone are told; or there is none, and all is as it was
+abbrev pub TellsFields : Variant → Dating → Text → Fields → Fields → Outcome → Type 0
+TellsFields variant dating text old_fields fields outcome =
+    ((m : MessageValue) × IsOnlyRead variant dating text m × (outcome ≡ Done) × AreFields fields m)
+    ⊎ (Refuses variant dating text outcome × (fields ≡ old_fields))
 
 -- 1 of a canonical message, 0 of another
 abbrev pub TellsCanonical : MessageValue → ℕ → Type 0

@@ -1,57 +1,122 @@
-//! Elements and parameters in arrays of the caller's.
-ghost use Rattle.std.specs.Prelude.{◌≤◌, length};
-ghost use Rattle.std.specs.List.{flat_map};
+//! The caller's arrays, into which the elements of a line and their parameters are put while the line is read.
+ghost use Rattle.std.specs.Prelude.{◌≡◌, ◌+◌, ◌<◌, ◌≤◌, MatchBool, length, map};
 ghost use Rattle.syslog_pieces.specs.Pieces.View.{shown};
-ghost use Rattle.syslog_pieces.specs.StructuredData.Element.{element_value, param_value};
+ghost use Rattle.syslog_pieces.specs.StructuredData.Collected.{HasNoted};
+ghost use Rattle.syslog_pieces.specs.StructuredData.Element.{param_value};
+ghost use Rattle.syslog_pieces.specs.StructuredData.Visited.{element_seen};
+ghost use Rattle.syslog_c.specs.Arrays.{HasPut};
 ghost use Rattle.syslog_c.specs.Fields.{IsBegun, IsElement, IsParam};
 
 use crate::fields::{Element, Param};
 use crate::tell::text_of;
-use syslog_loose::StructuredElement;
+use syslog_pieces::structured_data as data;
+use syslog_pieces::structured_data::{ElementVisitor, FewParams};
 
-/// Puts the elements at the beginning of the array.
-pub(crate) fn put_elements<'a>(elements: &[StructuredElement<&'a str>], array: &mut [Element<'a>])
-    requires { length elements.now ≤ length array.now }
-    ensures { IsBegun (λ e value. IsElement e (element_value (λ s. shown s) value)) elements.now array.old array.new }
-{
-    for (i, element) in elements.iter().enumerate() {
-        array[i] = element_of(element);
+/// Puts the elements that it is given into arrays of the caller's, and their parameters. What does not fit is left out:
+/// then there are more elements, or more parameters, than an array has places.
+#[derive(Drop)]
+pub(crate) struct Arrays<'a, 'r> {
+    pub(crate) elements: &'r mut [Element<'a>],
+    pub(crate) params: &'r mut [Param<'a>],
+    /// How many elements were put.
+    pub(crate) count: usize,
+    /// How many parameters were put.
+    pub(crate) filled: usize,
+}
+
+impl<'a, 'r> Arrays<'a, 'r> {
+    /// Whether the arrays have places for so many elements and parameters.
+    #[inline(always)]
+    pub(crate) fn have_space(&self, elements: usize, params: usize) -> bool
+        ensures { MatchBool result
+            ((elements ≤ length self.now.elements.now) × (params ≤ length self.now.params.now))
+            ((elements ≤ length self.now.elements.now) → params ≤ length self.now.params.now → ⊥) }
+    {
+        elements <= self.elements.len() && params <= self.params.len()
+    }
+
+    // Whether one more element has a place, and so many parameters more.
+    #[inline(always)]
+    fn have_places(&self, params: usize) -> bool
+        ensures { MatchBool result
+            ((self.now.count < length self.now.elements.now) × (self.now.filled + params ≤ length self.now.params.now))
+            ((self.now.count < length self.now.elements.now) → self.now.filled + params ≤ length self.now.params.now → ⊥) }
+    {
+        if self.count >= self.elements.len() || self.filled > self.params.len() {
+            return false;
+        }
+        params <= self.params.len() - self.filled
     }
 }
 
-fn element_of<'a>(element: &StructuredElement<&'a str>) -> Element<'a>
-    ensures { IsElement result (element_value (λ s. shown s) element.now) }
+impl<'a, 'r> ElementVisitor<'a> for Arrays<'a, 'r> {
+    type Notes = FewParams<'a>;
+
+    ghost was_given = { λ first arrays es. HasPut first arrays es };
+
+    #[inline(always)]
+    fn element(&mut self, element: data::Element<'a>, notes: &FewParams<'a>) {
+        let params = element.params_len();
+        if !self.have_places(params) {
+            return;
+        }
+        let filled = self.filled;
+        put_params(&element, notes, &mut self.params[filled..]);
+        let count = self.count;
+        self.elements[count] = element_of(&element);
+        self.count += 1;
+        self.filled += params;
+    }
+}
+
+#[inline(always)]
+fn element_of<'a>(element: &data::Element<'a>) -> Element<'a>
+    ensures { IsElement result (element_seen element.now) }
 {
     Element {
-        id: text_of(element.id),
-        params: element.params.len(),
+        id: text_of(element.id()),
+        params: element.params_len(),
     }
 }
 
-/// Puts the parameters of the elements at the beginning of the array, one after the other.
-pub(crate) fn put_all_params<'a>(elements: &[StructuredElement<&'a str>], array: &mut [Param<'a>])
-    requires { length (flat_map (λ e. e.params.items) elements.now) ≤ length array.now }
-    ensures { IsBegun (λ p value. IsParam p (param_value (λ s. shown s) value))
-        (flat_map (λ e. e.params.items) elements.now) array.old array.new }
+// Puts the parameters of an element at the front of the array, from its notes where these have all.
+#[inline(always)]
+fn put_params<'a>(element: &data::Element<'a>, notes: &FewParams<'a>, array: &mut [Param<'a>])
+    requires noted { HasNoted notes.now (element_seen element.now).params }
+    requires places { length (element_seen element.now).params ≤ length array.old }
+    ensures { IsBegun IsParam (element_seen element.now).params array.old array.new }
 {
-    let mut at = 0;
-    for element in elements {
-        put_params(&element.params, &mut array[at..]);
-        at += element.params.len();
+    match notes.all_of(element) {
+        Some(params) => put_noted(params, array),
+        None => put_walked(element, array),
     }
 }
 
-fn put_params<'a>(params: &[(&'a str, &'a str)], array: &mut [Param<'a>])
-    requires { length params.now ≤ length array.now }
-    ensures { IsBegun (λ p value. IsParam p (param_value (λ s. shown s) value)) params.now array.old array.new }
+#[inline(always)]
+fn put_noted<'a>(params: &[(&'a str, &'a str)], array: &mut [Param<'a>])
+    requires { length params.now ≤ length array.old }
+    ensures { IsBegun IsParam (map (param_value (λ s. shown s)) params.now) array.old array.new }
 {
     for (i, param) in params.iter().enumerate() {
-        array[i] = param_of(param);
+        array[i] = param_of(*param);
     }
 }
 
-fn param_of<'a>(param: &(&'a str, &'a str)) -> Param<'a>
-    ensures { IsParam result (param_value (λ s. shown s) param.now) }
+#[inline(never)]
+fn put_walked<'a>(element: &data::Element<'a>, array: &mut [Param<'a>])
+    requires { length (element_seen element.now).params ≤ length array.old }
+    ensures { IsBegun IsParam (element_seen element.now).params array.old array.new }
+{
+    let mut i = 0;
+    for param in element.params() {
+        array[i] = param_of(param);
+        i += 1;
+    }
+}
+
+#[inline(always)]
+fn param_of<'a>(param: (&'a str, &'a str)) -> Param<'a>
+    ensures { IsParam result (param_value (λ s. shown s) param.entry) }
 {
     Param {
         name: text_of(param.0),

@@ -9,7 +9,7 @@ pub enum Outcome {
     NoReading = 1,
     /// The line is no UTF-8.
     NotUtf8 = 2,
-    /// A request for memory was refused.
+    /// A request for memory was refused, which only `syslog_settle` makes.
     NoMemory = 3,
     /// The answer takes more room than there is.
     NoRoom = 4,

@@ -1,24 +1,28 @@
 //! The printed text of a line, once or settled, in room of the caller's.
-ghost use Rattle.std.specs.Prelude.{MatchBool};
+ghost use Rattle.std.specs.Str.{encode_utf8_all};
 ghost use Rattle.jiff_core.specs.Calendar.{IsYear};
+ghost use Rattle.syslog_loose.specs.Line.{line_value};
+ghost use Rattle.syslog_loose.specs.Printed.{printed};
 ghost use Rattle.syslog_c.specs.Line.{OnLine};
 ghost use Rattle.syslog_c.specs.Options.{IsReckoned};
 ghost use Rattle.syslog_c.specs.Outcome.{IsCodeOf};
-ghost use Rattle.syslog_c.specs.Room.{IsLeft};
+ghost use Rattle.syslog_c.specs.Room.{IsLeft, PutsUnlessRefused};
 ghost use Rattle.syslog_c.specs.Texts.{Normalised, Settled};
 
 use crate::options::Options;
 use crate::outcome::Outcome;
-use crate::room::put_answer;
+use crate::read_line::read_line;
+use crate::room::{Buffer, put_answer};
 use crate::rules::{rules_of, year_of};
 use std::alloc::Global;
-use syslog_loose::{IncompleteDate, normalise, settle};
+use std::fmt::Write;
+use syslog_loose::{IncompleteDate, Line, settle};
 use syslog_utf8::from_utf8;
 
-/// Writes the printed text of the line's message to the beginning of `room`, and how long it is to `needed`.
+/// Writes the printed text of the line's message to the front of `room`, and how long it is to `needed`. No memory is
+/// taken.
 #[unsafe(no_mangle)]
 pub extern "C" fn syslog_normalise(
-    alloc: Global,
     line: &[u8],
     options: &Options,
     room: &mut [u8],
@@ -27,10 +31,33 @@ pub extern "C" fn syslog_normalise(
     ensures { IsCodeOf result (λ outcome. OnLine options.now line.now outcome (IsLeft room.old room.new needed.new)
         (λ variant dating text. Normalised variant dating text room.old room.new needed.new outcome)) }
 {
-    write_printed(alloc, line, options, false, room, needed) as u32
+    write_normal(line, options, room, needed) as u32
 }
 
-/// Writes the settled text of the line to the beginning of `room`, and how long it is to `needed`.
+fn write_normal(line: &[u8], options: &Options, room: &mut [u8], needed: &mut usize) -> Outcome
+    ensures { OnLine options.now line.now result (IsLeft room.old room.new needed.new) (λ variant dating text.
+        Normalised variant dating text room.old room.new needed.new result) }
+{
+    *needed = 0;
+    match read_line(line, options) {
+        Ok(line) => print_into(&line, room, needed),
+        Err(outcome) => outcome,
+    }
+}
+
+// Prints the line into the room.
+fn print_into(line: &Line<'_>, room: &mut [u8], needed: &mut usize) -> Outcome
+    ensures { PutsUnlessRefused (encode_utf8_all (printed (line_value line.now))) room.old room.new needed.new result }
+{
+    let mut buffer = Buffer::new(room);
+    match write!(buffer, "{line}") {
+        Ok(()) => buffer.tell(needed),
+        // (the buffer refuses nothing)
+        Err(_) => Outcome::NoMemory,
+    }
+}
+
+/// Writes the settled text of the line to the front of `room`, and how long it is to `needed`.
 #[unsafe(no_mangle)]
 pub extern "C" fn syslog_settle(
     alloc: Global,
@@ -42,21 +69,18 @@ pub extern "C" fn syslog_settle(
     ensures { IsCodeOf result (λ outcome. OnLine options.now line.now outcome (IsLeft room.old room.new needed.new)
         (λ variant dating text. Settled variant dating text room.old room.new needed.new outcome)) }
 {
-    write_printed(alloc, line, options, true, room, needed) as u32
+    write_settled(alloc, line, options, room, needed) as u32
 }
 
-// Writes the settled text, or the printed one.
-fn write_printed(
+fn write_settled(
     alloc: Global,
     line: &[u8],
     options: &Options,
-    settles: bool,
     room: &mut [u8],
     needed: &mut usize,
 ) -> Outcome
     ensures { OnLine options.now line.now result (IsLeft room.old room.new needed.new) (λ variant dating text.
-        MatchBool settles (Settled variant dating text room.old room.new needed.new result)
-        (Normalised variant dating text room.old room.new needed.new result)) }
+        Settled variant dating text room.old room.new needed.new result) }
 {
     *needed = 0;
     let Some(rules) = rules_of(options) else {
@@ -68,10 +92,6 @@ fn write_printed(
     let get_year = move |date: IncompleteDate| -> i32
         ensures { IsYear options.entry.now.year → IsReckoned options.entry.now date result }
     { year_of(options, date) };
-    if settles {
-        let settled = settle(alloc, text, get_year, None, rules.variant, &rules.zone);
-        return put_answer(settled, room, needed);
-    }
-    let printed = normalise(alloc, text, get_year, None, rules.variant, &rules.zone);
-    put_answer(printed, room, needed)
+    let settled = settle(alloc, text, get_year, None, rules.variant, &rules.zone);
+    put_answer(settled, room, needed)
 }

@@ -1,27 +1,30 @@
-//! The fields of a line.
+//! The fields of a line, with its elements and without them.
 ghost use Rattle.std.specs.Prelude.{◌≡◌};
-ghost use Rattle.syslog_pieces.specs.Pieces.View.{shown};
-ghost use Rattle.syslog_loose.specs.Message.{message_value};
+ghost use Rattle.std.specs.Str.{chars};
+ghost use Rattle.jiff.specs.Words.{plain_zone};
+ghost use Rattle.jiff_core.specs.Calendar.{IsYear};
+ghost use Rattle.syslog_loose.specs.Reading.{InYear};
 ghost use Rattle.syslog_c.specs.Line.{OnLine};
+ghost use Rattle.syslog_c.specs.Options.{IsReckoned, dating_in};
 ghost use Rattle.syslog_c.specs.Outcome.{IsCodeOf};
-ghost use Rattle.syslog_c.specs.Told.{IsTold, ReadsInto};
+ghost use Rattle.syslog_c.specs.Told.{ReadsInto, TellsFields};
 
-use crate::arrays::{put_all_params, put_elements};
+use crate::arrays::Arrays;
 use crate::fields::{Element, Fields, Param};
 use crate::options::Options;
 use crate::outcome::Outcome;
 use crate::read_line::read_line;
+use crate::rules::{Rules, rules_of, year_of};
 use crate::tell::fields_of;
-use std::alloc::Global;
-use syslog_loose::Message;
+use syslog_loose::{IncompleteDate, visit_line};
+use syslog_utf8::from_utf8;
 
 /// Reads the line: its fields into `fields`, and its elements and their parameters into the two arrays.
 ///
-/// Where one of the arrays is too small both are left as they were, and `fields` has the numbers that are needed. Where
-/// the line has no reading, all is left.
+/// Where one of the arrays is too small, `fields` has the numbers that are needed, and both arrays may hold anything.
+/// Where the line has no reading, all is left. No memory is taken.
 #[unsafe(no_mangle)]
 pub extern "C" fn syslog_read<'a>(
-    alloc: Global,
     line: &'a [u8],
     options: &Options,
     fields: &mut Fields<'a>,
@@ -33,11 +36,10 @@ pub extern "C" fn syslog_read<'a>(
         (λ variant dating text. ReadsInto variant dating text
         fields.old fields.new elements.old elements.new params.old params.new outcome)) }
 {
-    read_into(alloc, line, options, fields, elements, params) as u32
+    read_into(line, options, fields, elements, params) as u32
 }
 
 fn read_into<'a>(
-    alloc: Global,
     line: &'a [u8],
     options: &Options,
     fields: &mut Fields<'a>,
@@ -49,27 +51,81 @@ fn read_into<'a>(
         (λ variant dating text. ReadsInto variant dating text
         fields.old fields.new elements.old elements.new params.old params.new result) }
 {
-    match read_line(alloc, line, options) {
-        Ok(message) => tell(&message, fields, elements, params),
-        Err(outcome) => outcome,
+    let Some(rules) = rules_of(options) else {
+        return Outcome::BadArgument;
+    };
+    let Ok(text) = from_utf8(line) else {
+        return Outcome::NotUtf8;
+    };
+    let mut arrays = Arrays {
+        elements,
+        params,
+        count: 0,
+        filled: 0,
+    };
+    read_by(text, options, &rules, &mut arrays, fields)
+}
+
+// Reads the text by these rules.
+fn read_by<'a>(
+    text: &'a str,
+    options: &Options,
+    rules: &Rules,
+    arrays: &mut Arrays<'a, '_>,
+    fields: &mut Fields<'a>,
+) -> Outcome
+    requires { (arrays.old.count ≡ 0) × (arrays.old.filled ≡ 0) }
+    ensures elements { arrays.new.elements.ghost_name ≡ arrays.old.elements.ghost_name }
+    ensures params { arrays.new.params.ghost_name ≡ arrays.old.params.ghost_name }
+    ensures reads { IsYear options.now.year → InYear (IsReckoned options.now) rules.now.variant (chars text.entry.now)
+        (λ year. ReadsInto rules.now.variant (dating_in (plain_zone rules.now.zone) year) (chars text.entry.now)
+        fields.old fields.new arrays.old.elements.now arrays.new.elements.now
+        arrays.old.params.now arrays.new.params.now result) }
+{
+    let get_year = move |date: IncompleteDate| -> i32
+        ensures { IsYear options.entry.now.year → IsReckoned options.entry.now date result }
+    { year_of(options, date) };
+    let Some(()) = visit_line(
+        text,
+        get_year,
+        None,
+        rules.variant,
+        &rules.zone,
+        arrays,
+        fields,
+    ) else {
+        return Outcome::NoReading;
+    };
+    if arrays.have_space(fields.elements, fields.params) {
+        Outcome::Done
+    } else {
+        Outcome::NoRoom
     }
 }
 
-// Tells the message.
-fn tell<'a>(
-    message: &Message<&'a str>,
+/// Reads the fields of the line into `fields`, and no elements. Where the line has no reading, it is left. No memory is
+/// taken.
+#[unsafe(no_mangle)]
+pub extern "C" fn syslog_read_fields<'a>(
+    line: &'a [u8],
+    options: &Options,
     fields: &mut Fields<'a>,
-    elements: &mut [Element<'a>],
-    params: &mut [Param<'a>],
-) -> Outcome
-    ensures { IsTold (message_value (λ s. shown s) message.now) fields.new
-        elements.old elements.new params.old params.new result }
+) -> u32
+    ensures { IsCodeOf result (λ outcome. OnLine options.now line.now outcome (fields.new ≡ fields.old)
+        (λ variant dating text. TellsFields variant dating text fields.old fields.new outcome)) }
 {
-    *fields = fields_of(message);
-    if fields.elements > elements.len() || fields.params > params.len() {
-        return Outcome::NoRoom;
+    read_fields(line, options, fields) as u32
+}
+
+fn read_fields<'a>(line: &'a [u8], options: &Options, fields: &mut Fields<'a>) -> Outcome
+    ensures { OnLine options.now line.now result (fields.new ≡ fields.old)
+        (λ variant dating text. TellsFields variant dating text fields.old fields.new result) }
+{
+    match read_line(line, options) {
+        Ok(line) => {
+            *fields = fields_of(&line);
+            Outcome::Done
+        }
+        Err(outcome) => outcome,
     }
-    put_elements(&message.structured_data, elements);
-    put_all_params(&message.structured_data, params);
-    Outcome::Done
 }

@@ -1,8 +1,7 @@
 //! The reading of a line of bytes by the options.
 ghost use Rattle.std.specs.Prelude.{MatchResult, ⊤};
 ghost use Rattle.jiff_core.specs.Calendar.{IsYear};
-ghost use Rattle.syslog_pieces.specs.Pieces.View.{shown};
-ghost use Rattle.syslog_loose.specs.Message.{message_value};
+ghost use Rattle.syslog_loose.specs.Line.{line_value};
 ghost use Rattle.syslog_loose.specs.Reading.{IsOnlyRead};
 ghost use Rattle.syslog_c.specs.Line.{IsTried, OnLine, Refuses};
 ghost use Rattle.syslog_c.specs.Options.{IsReckoned};
@@ -10,19 +9,14 @@ ghost use Rattle.syslog_c.specs.Options.{IsReckoned};
 use crate::options::Options;
 use crate::outcome::Outcome;
 use crate::rules::{rules_of, year_of};
-use std::alloc::Global;
-use syslog_loose::{IncompleteDate, Message, ParseFault, parse_message_with_year_exact_tz};
+use syslog_loose::{IncompleteDate, Line, parse_line};
 use syslog_utf8::from_utf8;
 
-/// The message of the line, or why there is none.
-pub(crate) fn read_line<'a>(
-    alloc: Global,
-    line: &'a [u8],
-    options: &Options,
-) -> Result<Message<&'a str>, Outcome>
+/// What the bytes of the line were parsed as, or why there is nothing.
+pub(crate) fn read_line<'a>(line: &'a [u8], options: &Options) -> Result<Line<'a>, Outcome>
     ensures { MatchResult result
-        (λ m. IsTried options.now line.entry.now
-        (λ variant dating text. IsOnlyRead variant dating text (message_value (λ s. shown s) m)))
+        (λ it. IsTried options.now line.entry.now
+        (λ variant dating text. IsOnlyRead variant dating text (line_value it)))
         (λ outcome. OnLine options.now line.entry.now outcome ⊤
         (λ variant dating text. Refuses variant dating text outcome)) }
 {
@@ -35,16 +29,8 @@ pub(crate) fn read_line<'a>(
     let get_year = move |date: IncompleteDate| -> i32
         ensures { IsYear options.entry.now.year → IsReckoned options.entry.now date result }
     { year_of(options, date) };
-    match parse_message_with_year_exact_tz(
-        alloc,
-        text,
-        get_year,
-        None,
-        rules.variant,
-        &rules.zone,
-    ) {
-        Ok(message) => Ok(message),
-        Err(ParseFault::Invalid) => Err(Outcome::NoReading),
-        Err(ParseFault::Memory) => Err(Outcome::NoMemory),
+    match parse_line(text, get_year, None, rules.variant, &rules.zone) {
+        Some(line) => Ok(line),
+        None => Err(Outcome::NoReading),
     }
 }

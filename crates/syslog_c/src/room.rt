@@ -1,9 +1,66 @@
-//! Answers in room of the caller's.
-ghost use Rattle.std.specs.Prelude.{MatchResult, string_bytes};
-ghost use Rattle.syslog_c.specs.Room.{IsLeftFor, Puts};
+//! Texts in room of the caller's.
+ghost use Rattle.std.specs.Prelude.{◌≡◌, ◌++◌, ◌≤◌, MatchResult, drop, length, string_bytes};
+ghost use Rattle.syslog_c.specs.Room.{IsLeftFor, Puts, Takes, TellsLength};
 
 use crate::outcome::Outcome;
+use std::fmt;
 use syslog_loose::ParseFault;
+
+/// Room of the caller's, into which a text is put piece by piece. What has no space there is only counted.
+#[derive(Drop)]
+pub(crate) struct Buffer<'r> {
+    room: &'r mut [u8],
+    // how long the text is up to here
+    needed: usize,
+}
+
+impl<'r> Buffer<'r> {
+    /// Nothing is put yet.
+    pub(crate) fn new(room: &'r mut [u8]) -> Buffer<'r>
+        ensures same { result.room.ghost_name ≡ room.entry.ghost_name }
+        ensures none { (result.room.now ≡ room.old) × (result.needed ≡ 0) }
+    {
+        Buffer { room, needed: 0 }
+    }
+
+    /// Puts a piece more.
+    pub(crate) fn push(&mut self, text: &str)
+        ensures { Takes self.old text.now self.new }
+    {
+        let at = self.needed;
+        self.needed = at.saturating_add(text.len());
+        if self.needed <= self.room.len() {
+            put_front(text.as_bytes(), &mut self.room[at..]);
+        }
+    }
+
+    /// Tells how long the text is, and whether there is space for all of it.
+    pub(crate) fn tell(&self, needed: &mut usize) -> Outcome
+        ensures { TellsLength self.now needed.new result }
+    {
+        *needed = self.needed;
+        if self.needed > self.room.len() {
+            return Outcome::NoRoom;
+        }
+        Outcome::Done
+    }
+}
+
+impl fmt::Write for Buffer<'_> {
+    ghost write_str_gives = { λ old bytes new. Takes old bytes new };
+
+    fn write_str(&mut self, text: &str) -> fmt::Result {
+        self.push(text);
+        Ok(())
+    }
+}
+
+fn put_front(bytes: &[u8], room: &mut [u8])
+    requires { length bytes.now ≤ length room.old }
+    ensures { room.new ≡ bytes.now ++ drop (length bytes.now) room.old }
+{
+    room[..bytes.len()].copy_from_slice(bytes);
+}
 
 /// Puts the text into the room, and tells its length; or tells the fault, and 0.
 pub(crate) fn put_answer(
@@ -27,7 +84,7 @@ pub(crate) fn put_answer(
     }
 }
 
-// Puts the bytes at the beginning of the room, where they fit, and tells their length.
+// Puts the bytes at the front of the room, where they fit, and tells their length.
 fn put(bytes: &[u8], room: &mut [u8], needed: &mut usize) -> Outcome
     ensures { Puts bytes.now room.old room.new needed.new result }
 {
@@ -35,6 +92,6 @@ fn put(bytes: &[u8], room: &mut [u8], needed: &mut usize) -> Outcome
     if bytes.len() > room.len() {
         return Outcome::NoRoom;
     }
-    room[..bytes.len()].copy_from_slice(bytes);
+    put_front(bytes, room);
     Outcome::Done
 }

@@ -1,18 +1,16 @@
-//! The fields of a message, as C gets them.
-ghost use Rattle.std.specs.Prelude.{◌≡◌, ◌^◌, ◌-◌, length, map, min, pos};
-ghost use Rattle.std.specs.Int.{int_div_euclid, int_rem_euclid};
+//! The fields of a line, as C gets them.
+ghost use Rattle.std.specs.Prelude.{◌≡◌};
 ghost use Rattle.std.specs.Option.{option_map};
 ghost use Rattle.syslog_pieces.specs.Pieces.View.{seen, shown};
 ghost use Rattle.syslog_pieces.specs.ProcId.{procid_value};
-ghost use Rattle.syslog_pieces.specs.StructuredData.Element.{element_value};
-ghost use Rattle.syslog_loose.specs.Message.{message_value};
-ghost use Rattle.syslog_c.specs.Fields.{AreFields, IsOptionalText, IsProcess, IsStamp, IsText, all_params};
+ghost use Rattle.syslog_pieces.specs.Timestamp.{stamp_seen};
+ghost use Rattle.syslog_loose.specs.Line.{line_value};
+ghost use Rattle.syslog_c.specs.Fields.{AreFields, IsOptionalText, IsProcess, IsStamp, IsText};
 ghost use Rattle.syslog_c.specs.Fields.{facility_code, protocol_number, severity_code, version_number};
 
 use crate::fields::{Fields, Process, Stamp, Text};
 use syslog_loose::{
-    Message, OffsetTimestamp, ProcId, Protocol, StructuredElement, SyslogFacility, SyslogSeverity,
-    Timestamp,
+    ClockStamp, Line, LineVisitor, ProcId, Protocol, SyslogFacility, SyslogSeverity,
 };
 
 const NONE: &[u8] = &[];
@@ -62,29 +60,17 @@ fn process_of<'a>(process: &Option<ProcId<&'a str>>) -> Process<'a>
     }
 }
 
-// The whole seconds since 1970, rounded down, and the nanoseconds after them.
-fn rounded_down(instant: Timestamp) -> (i64, i32)
-    ensures { (result.0 ≡ int_div_euclid instant.nanosecond (pos 1_000_000_000))
-        × (result.1 ≡ int_rem_euclid instant.nanosecond (pos 1_000_000_000)) }
-{
-    let (seconds, nanoseconds) = (instant.as_second(), instant.subsec_nanosecond());
-    if nanoseconds < 0 {
-        (seconds - 1, nanoseconds + 1_000_000_000)
-    } else {
-        (seconds, nanoseconds)
-    }
-}
-
-fn stamp_of(stamp: Option<OffsetTimestamp>) -> Stamp
-    ensures { IsStamp result stamp }
+fn stamp_of(stamp: Option<ClockStamp>) -> Stamp
+    ensures { IsStamp result (stamp_seen stamp) }
 {
     match stamp {
         Some(stamp) => {
-            let (seconds, nanoseconds) = rounded_down(stamp.instant);
+            let offset = stamp.offset;
+            let (seconds, nanoseconds) = stamp.unix_time();
             Stamp {
                 seconds,
-                nanoseconds,
-                offset: stamp.offset.seconds(),
+                nanoseconds: nanoseconds as i32,
+                offset: offset.seconds(),
                 present: 1,
             }
         }
@@ -125,34 +111,38 @@ fn protocol_of(protocol: Protocol) -> (u32, u32)
     }
 }
 
-// How many parameters the elements have together.
-fn count_params(elements: &[StructuredElement<&str>]) -> usize
-    ensures { result ≡ min (length (all_params (map (element_value (λ s. shown s)) elements.now))) (2 ^ 64 - 1) }
+/// The fields of the line.
+#[inline(always)]
+pub(crate) fn fields_of<'a>(line: &Line<'a>) -> Fields<'a>
+    ensures { AreFields result (line_value line.now) }
 {
-    let mut count: usize = 0;
-    for element in elements {
-        count = count.saturating_add(element.params.len());
-    }
-    count
-}
-
-/// The fields of the message.
-pub(crate) fn fields_of<'a>(message: &Message<&'a str>) -> Fields<'a>
-    ensures { AreFields result (message_value (λ s. shown s) message.now) }
-{
-    let (protocol, version) = protocol_of(message.protocol);
+    let (protocol, version) = protocol_of(line.protocol());
     Fields {
         protocol,
         version,
-        facility: facility_of(message.facility),
-        severity: severity_of(message.severity),
-        timestamp: stamp_of(message.timestamp),
-        host: optional_text(message.hostname),
-        app: optional_text(message.appname),
-        process: process_of(&message.procid),
-        msgid: optional_text(message.msgid),
-        msg: text_of(message.msg),
-        elements: message.structured_data.len(),
-        params: count_params(&message.structured_data),
+        facility: facility_of(line.facility()),
+        severity: severity_of(line.severity()),
+        timestamp: stamp_of(line.timestamp),
+        host: optional_text(line.hostname),
+        app: optional_text(line.appname),
+        process: process_of(&line.process()),
+        msgid: optional_text(line.msgid),
+        msg: text_of(line.msg),
+        elements: line.list.len(),
+        params: line.list.params_len(),
+    }
+}
+
+// Takes the fields of the line.
+impl<'a> LineVisitor<'a> for Fields<'a> {
+    type Answer = ();
+
+    ghost makes = { λ old line made new. AreFields new (line_value line) };
+
+    #[inline(always)]
+    fn line(&mut self, line: &Line<'a>)
+        ensures { AreFields self.new (line_value line.now) }
+    {
+        *self = fields_of(line);
     }
 }

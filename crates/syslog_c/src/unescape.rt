@@ -1,36 +1,72 @@
 //! The value of a parameter without its escapes, in room of the caller's.
+ghost use Rattle.std.specs.Prelude.{[], ◌∷◌};
+ghost use Rattle.std.specs.Str.{chars};
+ghost use Rattle.syslog_pieces.specs.Pieces.Class.{Text};
+ghost use Rattle.syslog_pieces.specs.StructuredData.Escapes.{IsUnescaped, pair_meaning};
 ghost use Rattle.syslog_c.specs.Outcome.{IsCodeOf};
+ghost use Rattle.syslog_c.specs.Room.{TakesText};
 ghost use Rattle.syslog_c.specs.Texts.{Unescaped};
 
 use crate::outcome::Outcome;
-use crate::room::put_answer;
-use std::alloc::Global;
-use syslog_loose::ParseFault;
-use syslog_pieces::structured_data;
+use crate::room::Buffer;
+use syslog_pieces::text::{CharClass, first, split_run};
 use syslog_utf8::from_utf8;
 
-/// Writes the value with its escapes removed to the beginning of `room`, and how long it is to `needed`.
+/// Writes the value with its escapes removed to the front of `room`, and how long it is to `needed`. No memory is taken.
 #[unsafe(no_mangle)]
-pub extern "C" fn syslog_unescape(
-    alloc: Global,
-    value: &[u8],
-    room: &mut [u8],
-    needed: &mut usize,
-) -> u32
+pub extern "C" fn syslog_unescape(value: &[u8], room: &mut [u8], needed: &mut usize) -> u32
     ensures { IsCodeOf result (λ outcome. Unescaped value.now room.old room.new needed.new outcome) }
 {
-    unescaped(alloc, value, room, needed) as u32
+    unescaped(value, room, needed) as u32
 }
 
-fn unescaped(alloc: Global, value: &[u8], room: &mut [u8], needed: &mut usize) -> Outcome
+fn unescaped(value: &[u8], room: &mut [u8], needed: &mut usize) -> Outcome
     ensures { Unescaped value.now room.old room.new needed.new result }
 {
-    *needed = 0;
     let Ok(text) = from_utf8(value) else {
+        *needed = 0;
         return Outcome::NotUtf8;
     };
-    match structured_data::unescape(alloc, text) {
-        Ok(unescaped) => put_answer(Ok(unescaped), room, needed),
-        Err(_) => Outcome::NoMemory,
+    let mut buffer = Buffer::new(room);
+    push_unescaped(&mut buffer, text);
+    buffer.tell(needed)
+}
+
+fn push_unescaped(buffer: &mut Buffer<'_>, value: &str)
+    ensures { (unescaped : Text) × IsUnescaped (chars value.now) unescaped × TakesText buffer.old unescaped buffer.new }
+{
+    let mut rest = value;
+    'units: loop {
+        let (run, after) = split_run(rest, CharClass::Bare);
+        buffer.push(run);
+        let Some((_, pair)) = first(after) else {
+            return;
+        };
+        let Some((c, next)) = first(pair) else {
+            return;
+        };
+        push_pair(buffer, c);
+        rest = next;
     }
+}
+
+// What a backslash and this character stand for.
+fn push_pair(buffer: &mut Buffer<'_>, c: char)
+    ensures { TakesText buffer.old (pair_meaning c) buffer.new }
+{
+    if c == 'n' {
+        return push_char(buffer, '\n');
+    }
+    if c == '\\' || (c == '"' || c == ']') {
+        return push_char(buffer, c);
+    }
+    push_char(buffer, '\\');
+    push_char(buffer, c)
+}
+
+fn push_char(buffer: &mut Buffer<'_>, c: char)
+    ensures { TakesText buffer.old (c ∷ []) buffer.new }
+{
+    let mut bytes = [0u8; 4];
+    buffer.push(c.encode_utf8(&mut bytes));
 }

@@ -55,13 +55,13 @@ any_year zone text year other m never (inr (none, read)) =
     inr (none, other_read (dating_in zone year) (dating_in zone other) refl refl dash_rule text never m read)
 
 -- so a visitor was given one line, whatever the year
-pub one_line : {post : IncompleteDate → ℤ → Type 0} {text : Text} (zone : TimeZone) (Makes : Line → Type 0)
-    → InYear post Either text (λ year. (line : Line)
-    × IsOnlyRead Either (dating_in zone year) text (line_value line) × Makes line)
+pub one_line : {post : IncompleteDate → ℤ → Type 0} {text : Text} {Given : Line → Type 0} (zone : TimeZone)
+    (Makes : Line → Type 0) → InYear post Either text (λ year. (line : Line)
+    × IsOnlyRead Either (dating_in zone year) text (line_value line) × Makes line × Given line)
     → (line : Line) × InYear post Either text (λ year.
     IsOnlyRead Either (dating_in zone year) text (line_value line)) × Makes line
 one_line {post = post} {text = text} zone Makes h =
-    let (line, read, makes) = h.holds h.answered (λ date asks. refl) in (
+    let (line, read, makes, given) = h.holds h.answered (λ date asks. refl) in (
       line,
       reading.in_answered_year post Either text (λ year. IsOnlyRead Either (dating_in zone year) text (line_value line))
           h.answered h.is_answered (λ never other r. reading.only_read Either (dating_in zone other) text

@@ -81,6 +81,7 @@ impl Objects {
             None,
             Variant::Either,
             &self.options.zone,
+            &mut NoElements,
             writer,
         ) {
             Some(written) => {
@@ -143,19 +144,12 @@ impl<'a> LineVisitor<'a> for ObjectWriter<'a> {
     ghost use Rattle.std.specs.Prelude.{◌≡◌, ◌++◌, ⊤, OnOk};
     ghost use Rattle.syslog_json.specs.Objects.{WritesObject};
 
-    type Elements = NoElements;
-
     type Answer = Result<(), AllocError>;
 
     ghost makes = { λ old line made new. OnOk made (WritesObject line old.raw old.object.items new.object.items) };
 
     #[inline(always)]
-    fn elements(&self) -> NoElements {
-        NoElements
-    }
-
-    #[inline(always)]
-    fn line(&mut self, line: &Line<'a>, _: NoElements) -> Result<(), AllocError> {
+    fn line(&mut self, line: &Line<'a>) -> Result<(), AllocError> {
         push_object(self.alloc, &mut self.object, line, self.raw)
     }
 }

@@ -1,18 +1,24 @@
 -- What is made of a text by way of its line, in a year, and by which protocol it was read.
-use Rattle.std.proofs.Common.{◌≢◌, inr, ℤ, Option, Some, None, Result, Ok, Err, subst, sym}
-use Rattle.std.specs.declared.alloc.AllocError.{AllocError}
+use Rattle.std.proofs.Common.{◌≡◌, ◌≢◌, ◌∙◌, inr, ℤ, List, [], Option, Some, None, Result, Ok, Err, ap, subst, sym}
+use Rattle.std.proofs.Common.{append-nil}
 use Rattle.std.specs.Borrow.{Bor}
 use Rattle.jiff.specs.declared.tz.timezone.TimeZone.{TimeZone}
 use Rattle.syslog_pieces.specs.Pieces.Class.{Text}
+use Rattle.syslog_pieces.specs.Pieces.View.{shown}
+use Rattle.syslog_pieces.specs.StructuredData.Collected.{HasCollected}
+use Rattle.syslog_pieces.specs.StructuredData.Element.{ElementValue}
+use Rattle.syslog_pieces.specs.StructuredData.Visited.{Visits, list_elements}
 use Rattle.syslog_pieces.specs.Timestamp.Zone.{Dating, dating_of}
+use Rattle.syslog_pieces.specs.declared.structured_data.collect.Collect.{Collect}
 use Rattle.syslog_pieces.specs.declared.timestamp.month_date.MonthDate.{MonthDate}
 use Rattle.syslog_loose.specs.Line.{line_value}
-use Rattle.syslog_loose.specs.Message.{MessageValue}
+use Rattle.syslog_loose.specs.Message.{MessageValue, message_value, with_elements}
 use Rattle.syslog_loose.specs.Reading.{dash_rule, Answers, AsksYear, InYear, IncompleteDate, IsLeftTo3164, IsOnlyRead, IsRead}
-use Rattle.syslog_loose.specs.Reading.{IsYearAnswered}
+use Rattle.syslog_loose.specs.Reading.{IsFault, IsUnreadable, IsYearAnswered}
 use Rattle.syslog_loose.specs.Rfc3164.{IsRead3164}
 use Rattle.syslog_loose.specs.Rfc5424.{IsRead5424}
-use Rattle.syslog_loose.specs.Visit.{IsMessageOf, Made, answer_made}
+use Rattle.syslog_loose.specs.Visit.{IsCompleted, Made}
+use Rattle.syslog_loose.specs.declared.fault.ParseFault.{ParseFault}
 use Rattle.syslog_loose.specs.declared.line.Line.{Line}
 use Rattle.syslog_loose.specs.declared.variant.Variant.{Variant}
 use Rattle.syslog_loose.specs.declared.variant.Variant.TheVariants.{Either, RFC3164, RFC5424}
@@ -25,45 +31,76 @@ reads_so RFC5424 dating text m left r = absurd left
 reads_so RFC3164 dating text m left r = r
 reads_so Either dating text m left r = inr (left, r)
 
-module _ {V A : Type 0} (makes : V → Line → A → V → Type 0) (variant : Variant) (text : Text) (old new : V) where
+module _ {V A E : Type 0} (makes : V → Line → A → V → Type 0) (given : E → E → List ElementValue → Type 0)
+    (variant : Variant) (text : Text) (old new : V) (before after : E) where
   pub made_5424 : (dating : Dating) → variant ≢ RFC3164 → (line : Line) (made : A) → IsRead5424 text (line_value line)
-      → makes old line made new → Made makes variant dating text old (Some made) new
-  made_5424 dating reads line made r m =
-      (line, only_read variant dating text (line_value line) (strictly variant dating reads r), m)
+      → makes old line made new → Visits given before (list_elements line.list) after
+      → Made makes given variant dating text old before (Some made) new after
+  made_5424 dating reads line made r m v =
+      (line, only_read variant dating text (line_value line) (strictly variant dating reads r), m, v)
 
   pub made_3164 : (dating : Dating) → IsLeftTo3164 variant text → (line : Line) (made : A)
       → IsRead3164 dash_rule dating text (line_value line) → makes old line made new
-      → Made makes variant dating text old (Some made) new
-  made_3164 dating left line made r m =
-      (line, only_read variant dating text (line_value line) (reads_so variant dating text (line_value line) left r), m)
+      → Visits given before (list_elements line.list) after
+      → Made makes given variant dating text old before (Some made) new after
+  made_3164 dating left line made r m v =
+      (line, only_read variant dating text (line_value line) (reads_so variant dating text (line_value line) left r), m, v)
 
   module _ (tz : Option (Bor TimeZone)) (local : Bor TimeZone) where
     any_made : (result : Option A) (year other : Option ℤ) → ((date : MonthDate) → AsksYear variant text date → ⊥)
-        → Made makes variant (dating_of year tz local) text old result new
-        → Made makes variant (dating_of other tz local) text old result new
-    any_made None year other never (none, same) =
-        ((λ m r. none m (any_year variant text tz local other year m never r)), same)
-    any_made (Some made) year other never (line, only, m) = (
+        → Made makes given variant (dating_of year tz local) text old before result new after
+        → Made makes given variant (dating_of other tz local) text old before result new after
+    any_made None year other never (none, same, v) =
+        ((λ m r. none m (any_year variant text tz local other year m never r)), same, v)
+    any_made (Some made) year other never (line, only, m, v) = (
       line,
       only_read variant (dating_of other tz local) text (line_value line)
           (any_year variant text tz local year other (line_value line) never only.read),
       m,
+      v,
     )
 
     -- what is made in the year that the closure answered
     pub made_in : (post : IncompleteDate → ℤ → Type 0) (result : Option A) (year : Option ℤ)
-        → IsYearAnswered post variant text year → Made makes variant (dating_of year tz local) text old result new
-        → InYear post variant text (λ y. Made makes variant (dating_of y tz local) text old result new)
-    made_in post result year is h =
-        in_answered_year post variant text (λ y. Made makes variant (dating_of y tz local) text old result new) year is
+        → IsYearAnswered post variant text year
+        → Made makes given variant (dating_of year tz local) text old before result new after
+        → InYear post variant text (λ y. Made makes given variant (dating_of y tz local) text old before result new after)
+    made_in post result year is h = in_answered_year post variant text
+        (λ y. Made makes given variant (dating_of y tz local) text old before result new after) year is
         (λ never other made. any_made result None other never made) h
+
+-- what is given after nothing was
+pub visits_after : {E : Type 0} (given : E → E → List ElementValue → Type 0) (old mid new : E) (es : List ElementValue)
+    → Visits given old [] mid → Visits given mid es new → Visits given old es new
+visits_after given old mid new es none v first ds h =
+    v first ds (subst (λ (x : List ElementValue). given first mid x) (append-nil ds) (none first ds h))
 
 -- ---- what the reading calls make
 
-module _ {V : Type 0} (variant : Variant) (dating : Dating) (text : Text) (old new : V) where
-  pub message_answers : (r : Option (Result Found AllocError))
-      → Made (λ _ line made _. IsMessageOf line made) variant dating text old r new
-      → Answers variant dating text (answer_made r)
-  message_answers None (none, same) = none
-  message_answers (Some (Ok m)) (line, only, e) = subst (λ x. IsOnlyRead variant dating text x) (sym e) only
-  message_answers (Some (Err e)) (line, only, some) = λ needless. some (needless (line_value line) only.read)
+-- the message that was made with the elements that were collected
+completed : (variant : Variant) (dating : Dating) (text : Text) (line : Line) (m : Found)
+    → IsOnlyRead variant dating text (line_value line)
+    → message_value (λ s. shown s) m ≡ with_elements (line_value line) []
+    → (r : Result Found ParseFault) → IsCompleted (Some m) (list_elements line.list) r → Answers variant dating text r
+completed variant dating text line m only e (Ok n) same =
+    subst (λ (x : MessageValue). IsOnlyRead variant dating text x)
+    (sym (same ∙ ap (λ (x : MessageValue). with_elements x (list_elements line.list)) e)) only
+completed variant dating text line m only e (Err fault) (is, some) =
+    subst (λ (x : ParseFault). IsFault variant dating text x) (sym is)
+    (λ needless. some (needless (line_value line) only.read))
+
+not_made : (variant : Variant) (dating : Dating) (text : Text) → IsUnreadable variant dating text
+    → (r : Result Found ParseFault) → IsCompleted None [] r → Answers variant dating text r
+not_made variant dating text none (Ok m) h = absurd h
+not_made variant dating text none (Err fault) h =
+    subst (λ (y : ParseFault). IsFault variant dating text y) (sym h) none
+
+module _ {V : Type 0} (variant : Variant) (dating : Dating) (text : Text) (old new : V) (before after : Collect) where
+  pub message_answers : (made : Option Found) (r : Result Found ParseFault)
+      → Made (λ (_ : V) line m _. message_value (λ s. shown s) m ≡ with_elements (line_value line) [])
+      (λ _ c es. HasCollected c es) variant dating text old before made new after
+      → HasCollected before [] → ((es : List ElementValue) → HasCollected after es → IsCompleted made es r)
+      → Answers variant dating text r
+  message_answers None r (none, same, v) empty h = not_made variant dating text none r (h [] (v before [] empty))
+  message_answers (Some m) r (line, only, e, v) empty h =
+      completed variant dating text line m only e r (h (list_elements line.list) (v before [] empty))

@@ -41,6 +41,10 @@ message_value text m = record {
   msg = text m.msg;
 }
 
+-- the message with these elements
+abbrev pub with_elements : MessageValue → List ElementValue → MessageValue
+with_elements m es = record m { structured_data = es }
+
 -- all texts of a message
 abbrev pub message_texts : MessageValue → List Text
 message_texts m =

@@ -1,14 +1,14 @@
 -- What is made of a text by way of its line.
 use Rattle.std.specs.Prelude.{◌≡◌, ◌≢◌, ℕ, List, [], Option, Some, None, MatchOption}
-use Rattle.std.specs.Prelude.{Result, Ok, Err, MatchResult}
+use Rattle.std.specs.Prelude.{Result, MatchResult}
 use Rattle.std.specs.Borrow.{Bor}
-use Rattle.std.specs.declared.alloc.AllocError.{AllocError}
 use Rattle.syslog_pieces.specs.Pieces.Class.{Text}
 use Rattle.syslog_pieces.specs.Pieces.View.{shown}
-use Rattle.syslog_pieces.specs.StructuredData.Visited.{list_elements}
+use Rattle.syslog_pieces.specs.StructuredData.Element.{ElementValue}
+use Rattle.syslog_pieces.specs.StructuredData.Visited.{list_elements, Visits}
 use Rattle.syslog_pieces.specs.Timestamp.Zone.{Dating}
 use Rattle.syslog_loose.specs.Line.{line_value}
-use Rattle.syslog_loose.specs.Message.{message_value}
+use Rattle.syslog_loose.specs.Message.{message_value, with_elements}
 use Rattle.syslog_loose.specs.declared.fault.ParseFault.{ParseFault}
 use Rattle.syslog_loose.specs.declared.fault.ParseFault.TheVariants.{Invalid, Memory}
 use Rattle.syslog_loose.specs.declared.message.Message.{Message}
@@ -16,19 +16,20 @@ use Rattle.syslog_loose.specs.Reading.{IsOnlyRead, IsUnreadable}
 use Rattle.syslog_loose.specs.declared.line.Line.{Line}
 use Rattle.syslog_loose.specs.declared.variant.Variant.{Variant}
 
--- What a visitor makes of the line of the one message as which the text is read. Where there is none, it makes nothing
--- and stays as it was.
-abbrev pub Made : {V A : Type 0} → (V → Line → A → V → Type 0) → Variant → Dating → Text → V → Option A → V → Type 0
-Made makes variant dating text old result new = MatchOption result (IsUnreadable variant dating text × (new ≡ old))
-    (λ made. (line : Line) × IsOnlyRead variant dating text (line_value line) × makes old line made new)
+-- What a visitor makes of the line of the one message as which the text is read, and that another visitor was given its
+-- elements. Where there is none, nothing is made, the first stays as it was, and the other was given no element.
+abbrev pub Made : {V A E : Type 0} → (V → Line → A → V → Type 0) → (E → E → List ElementValue → Type 0)
+    → Variant → Dating → Text → V → E → Option A → V → E → Type 0
+Made makes was_given variant dating text old before result new after = MatchOption result
+    (IsUnreadable variant dating text × (new ≡ old) × Visits was_given before [] after)
+    (λ made. (line : Line) × IsOnlyRead variant dating text (line_value line) × makes old line made new
+    × Visits was_given before (list_elements line.list) after)
 
--- the message that the line means, or a refusal of memory, only where it has elements
-abbrev pub IsMessageOf : Line → Result (Message (Bor (List ℕ))) AllocError → Type 0
-IsMessageOf line made = MatchResult made (λ m. message_value (λ s. shown s) m ≡ line_value line)
-    (λ _. list_elements line.list ≢ [])
-
--- what a reading call returns for that: `Memory` where memory was refused, and `Invalid` where the text does not parse
-abbrev pub answer_made : Option (Result (Message (Bor (List ℕ))) AllocError) → Result (Message (Bor (List ℕ))) ParseFault
-answer_made None = Err Invalid
-answer_made (Some (Ok m)) = Ok m
-answer_made (Some (Err e)) = Err Memory
+-- What a reading call returns where this message was made and these elements were collected: the message with them, or
+-- `Memory`, only where there are some; and `Invalid` where none was made.
+abbrev pub IsCompleted : Option (Message (Bor (List ℕ))) → List ElementValue
+    → Result (Message (Bor (List ℕ))) ParseFault → Type 0
+IsCompleted made es result = MatchOption made
+    (MatchResult result (λ _. ⊥) (λ fault. fault ≡ Invalid))
+    (λ m. MatchResult result (λ n. message_value (λ s. shown s) n ≡ with_elements (message_value (λ s. shown s) m) es)
+    (λ fault. (fault ≡ Memory) × (es ≢ [])))

@@ -18,6 +18,7 @@ use crate::visit::{asked_numbers, front_date, front_stamp};
 use jiff::tz::TimeZone;
 use std::alloc::{AllocError, Global};
 use syslog_pieces::pri::optional_priority;
+use syslog_pieces::structured_data::NoElements;
 use syslog_pieces::text::{CharClass, first, literal, trimmed};
 use syslog_pieces::timestamp::zone::{Dating, month_stamp};
 
@@ -65,7 +66,7 @@ fn has_dash_change(behind: &str) -> bool
         → IsBehindStamp dating (trimmed_text whole) priority timestamp (chars behind.now) → MatchBool result
         (ReadsDifferently RFC3164 dating whole) (ReadsDifferently RFC3164 dating whole → ⊥) }
 {
-    let fields = read_fields(behind);
+    let fields = read_fields::<NoElements>(behind);
     begins_dash_change(fields.rest)
 }
 

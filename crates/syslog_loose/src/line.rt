@@ -53,7 +53,7 @@ impl<'a> Line<'a> {
     ghost use Rattle.std.specs.Prelude.{◌≢◌, ◌↔◌, [], IsTrue, MatchResult};
     ghost use Rattle.syslog_loose.specs.Canonical.{IsCanonical};
     ghost use Rattle.syslog_loose.specs.Reading.{dash_rule};
-    ghost use Rattle.syslog_loose.specs.Message.{message_value};
+    ghost use Rattle.syslog_loose.specs.Message.{message_value, with_elements};
 
     /// Returns the protocol.
     #[inline(always)]
@@ -143,11 +143,11 @@ impl<'a> Line<'a> {
         })
     }
 
-    // The message with these elements.
+    // The message with these elements, in place of the line's own.
     #[inline(always)]
     pub(crate) fn with(&self, elements: Vec<StructuredElement<&'a str>>) -> Message<&'a str>
-        requires { map (element_value (λ s. shown s)) elements.items ≡ list_elements self.now.list }
-        ensures { message_value (λ s. shown s) result ≡ line_value self.now }
+        ensures { message_value (λ s. shown s) result
+            ≡ with_elements (line_value self.now) (map (element_value (λ s. shown s)) elements.entry.items) }
     {
         Message {
             protocol: self.protocol(),

@@ -2,16 +2,17 @@
 //!
 //! Each goes by `visit_line`, and collects the elements of the line. The calls with `exact` in their names refuse a text
 //! that does not parse; the others return the fallback.
-ghost use Rattle.std.specs.Prelude.{◌≡◌, [], IfOk, None};
+ghost use Rattle.std.specs.Prelude.{◌≡◌, List, [], IfOk, None};
 ghost use Rattle.std.specs.Str.{chars};
 ghost use Rattle.jiff.specs.Words.{plain_zone};
 ghost use Rattle.syslog_pieces.specs.Pieces.View.{shown};
 ghost use Rattle.syslog_pieces.specs.Timestamp.Zone as zone;
 ghost use Rattle.syslog_pieces.specs.Timestamp.Zone.{IsYearAt, dating_of};
 ghost use Rattle.syslog_pieces.specs.StructuredData.Collected.{HasCollected};
-ghost use Rattle.syslog_pieces.specs.StructuredData.Visited.{list_elements};
-ghost use Rattle.syslog_loose.specs.Message.{message_value};
-ghost use Rattle.syslog_loose.specs.Visit.{IsMessageOf, answer_made};
+ghost use Rattle.syslog_pieces.specs.StructuredData.Element.{ElementValue};
+ghost use Rattle.syslog_loose.specs.Line.{line_value};
+ghost use Rattle.syslog_loose.specs.Message.{message_value, with_elements};
+ghost use Rattle.syslog_loose.specs.Visit.{IsCompleted};
 ghost use Rattle.syslog_loose.specs.ReadBack.{AnswersItself, FieldsAsRead};
 ghost use Rattle.syslog_loose.specs.Reading as spec;
 ghost use Rattle.syslog_loose.specs.Reading.{Answers, AnswersEachMonth};
@@ -163,54 +164,55 @@ pub fn parse_message_with_year_exact_tz<'a, F: FnOnce(IncompleteDate) -> i32>(
         FieldsAsRead m.protocol (dating_of year tz.entry local.entry) (chars input.entry.now)
         (message_value (λ s. shown s) m))) }
 {
-    let made = visit_line(input, get_year, tz, variant, local, &mut Messages { alloc });
-    answer_of(made)
+    let mut collect = Collect::new(alloc);
+    let mut headers = Headers { alloc };
+    let made = visit_line(
+        input,
+        get_year,
+        tz,
+        variant,
+        local,
+        &mut collect,
+        &mut headers,
+    );
+    answer_of(made, collect)
 }
 
-// The message that was made, or why there is none.
+// The message that was made, with the elements that were collected; or why there is none.
 #[inline(always)]
 fn answer_of<'a>(
-    made: Option<Result<Message<&'a str>, AllocError>>,
+    made: Option<Message<&'a str>>,
+    collect: Collect<'a>,
 ) -> Result<Message<&'a str>, ParseFault>
-    ensures { result ≡ answer_made made.entry }
+    ensures { (es : List ElementValue) → HasCollected collect.entry es → IsCompleted made.entry es result }
 {
-    match made {
-        Some(Ok(message)) => Ok(message),
-        Some(Err(_)) => Err(ParseFault::Memory),
-        None => Err(ParseFault::Invalid),
+    let Some(mut message) = made else {
+        return Err(ParseFault::Invalid);
+    };
+    match collect.finish() {
+        Ok(elements) => {
+            message.structured_data = elements;
+            Ok(message)
+        }
+        Err(_) => Err(ParseFault::Memory),
     }
 }
 
-// Collects the elements of a line while the line is read, and returns its message.
+// Returns the message of a line, without its elements.
 #[derive(Clone, Copy)]
-struct Messages {
+struct Headers {
     alloc: Global,
 }
 
-impl<'a> LineVisitor<'a> for Messages {
-    type Elements = Collect<'a>;
+impl<'a> LineVisitor<'a> for Headers {
+    type Answer = Message<&'a str>;
 
-    type Answer = Result<Message<&'a str>, AllocError>;
-
-    ghost makes = { λ old line made new. IsMessageOf line made };
+    ghost makes = { λ old line made new. message_value (λ s. shown s) made ≡ with_elements (line_value line) [] };
 
     #[inline(always)]
-    fn elements(&self) -> Collect<'a>
-        ensures { HasCollected result [] }
+    fn line(&mut self, line: &Line<'a>) -> Message<&'a str>
+        ensures { message_value (λ s. shown s) result ≡ with_elements (line_value line.now) [] }
     {
-        Collect::new(self.alloc)
-    }
-
-    #[inline(always)]
-    fn line(
-        &mut self,
-        line: &Line<'a>,
-        elements: Collect<'a>,
-    ) -> Result<Message<&'a str>, AllocError>
-        requires given { HasCollected elements (list_elements line.now.list) }
-        ensures { IsMessageOf line.now result }
-    {
-        let elements = elements.finish()?;
-        Ok(line.with(elements))
+        line.with(Vec::new(self.alloc))
     }
 }

@@ -87,7 +87,10 @@ fn nobody() -> Names<'static>
 
 /// What the host field and the tag field mean together: each is not there, or there and empty, or a text.
 #[inline(always)]
-pub(crate) fn resolve<'a>(host: Option<Option<&'a str>>, tag: Option<Option<&'a str>>) -> Names<'a>
+pub(crate) fn resolve<'a, E: ElementVisitor<'a>>(
+    host: Option<Option<&'a str>>,
+    tag: Option<Option<&'a str>>,
+) -> Names<'a>
     ensures names { spec.Resolves (field_seen host.entry) (field_seen tag.entry) (names_value result) }
     ensures form { (name : Text) → field_seen tag.entry ≡ Some (Some name) → IsProcessOf name result }
 {
@@ -129,15 +132,16 @@ fn are_there(host: Option<Option<&str>>, tag: Option<Option<&str>>) -> bool
     true
 }
 
-/// The names after the timestamp, up to the blanks after their colon.
+/// The names after the timestamp, up to the blanks after their colon. Each visitor has its own copy, as of `resolve`,
+/// and both are compiled in.
 #[inline(always)]
-pub(crate) fn read_fields(text: &str) -> Fields<'_>
+pub(crate) fn read_fields<'a, E: ElementVisitor<'a>>(text: &'a str) -> Fields<'a>
     ensures { FieldsAreRead (chars text.now) result }
 {
     let (host, after_host) = host_field(text);
     let (tag, after_tag) = tag_field(after_host);
     let rest = blanks(past_colon(blanks(after_tag)));
-    let names = resolve(host, tag);
+    let names = resolve::<E>(host, tag);
     let are_printed = are_all([
         are_there(host, tag),
         is_bare(names.process),
@@ -166,7 +170,7 @@ pub(crate) fn read_3164<'a, E: ElementVisitor<'a>>(
     ensures form { KnowsForm result }
     ensures visited { Visits E.was_given elements.old (list_elements result.list) elements.new }
 {
-    let fields = read_fields(text);
+    let fields = read_fields::<E>(text);
     let (list, after_list) = visit_rfc3164_list(fields.rest, DASH_RULE, elements);
     let is_printed = fields.are_printed && list.text().is_empty();
     Line {

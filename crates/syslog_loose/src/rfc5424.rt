@@ -2,7 +2,7 @@
 //!
 //! `read_5424` returns the line of the one division of a trimmed text, or that there is none. What it reads it takes
 //! from the readers of `syslog_pieces`, piece by piece from the left.
-ghost use Rattle.std.specs.Prelude.{◌≡◌, ℕ, IfSome, IsTrue, MatchOption, Some};
+ghost use Rattle.std.specs.Prelude.{◌≡◌, [], ℕ, IfSome, IsTrue, MatchOption, Some};
 ghost use Rattle.std.specs.List.{AllByRecursion};
 ghost use Rattle.std.specs.Str.{chars, IsUtf8};
 ghost use Rattle.syslog_pieces.specs.Bodies.Verbatim.{IsBareWord};
@@ -42,9 +42,13 @@ pub(crate) fn is_bare(process: Option<&str>) -> bool
     }
 }
 
-// The fields before the structured data, as a line with no list and no message part yet, and the rest.
+// The fields before the structured data, as a line with no list and no message part yet, and the rest. Each visitor has
+// its own copy, which is compiled in: shared, it would be a call, and the line would go through memory.
 #[inline(always)]
-fn read_header<'a>(priority: Option<u8>, text: &'a str) -> Option<(Line<'a>, &'a str)>
+fn read_header<'a, E: ElementVisitor<'a>>(
+    priority: Option<u8>,
+    text: &'a str,
+) -> Option<(Line<'a>, &'a str)>
     ensures reads { (whole : Text) → IsBehindPriority whole priority (chars text.entry.now)
         → ReadsHeader whole result }
     ensures prints { IfSome result (λ x. IsTrue x.0.is_printed
@@ -100,9 +104,10 @@ pub(crate) fn read_5424<'a, E: ElementVisitor<'a>>(
     ensures reads { (whole : Text) → IsBehindPriority (trimmed whole) priority (chars text.entry.now)
         → MatchOption result (IsNot5424 whole) (λ line. IsRead5424 whole (line_value line)) }
     ensures form { IfSome result KnowsForm }
-    ensures visited { IfSome result (λ line. Visits E.was_given elements.old (list_elements line.list) elements.new) }
+    ensures visited { MatchOption result (Visits E.was_given elements.old [] elements.new)
+        (λ line. Visits E.was_given elements.old (list_elements line.list) elements.new) }
 {
-    let Some((header, after_id)) = read_header(priority, text) else {
+    let Some((header, after_id)) = read_header::<E>(priority, text) else {
         return None;
     };
     let at_list = blanks(after_id);

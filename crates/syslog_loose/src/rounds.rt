@@ -3,7 +3,7 @@
 //! `normalise` returns one round. What was read as RFC 5424 prints as a settled text, and so does what was read as
 //! RFC 3164 and has no quirk. So nearly each line is settled by one round, and `settling` asks for more of the others
 //! alone.
-ghost use Rattle.std.specs.Prelude.{◌≡◌, ◌↔◌, ⊤, MatchBool, MatchResult, None, string_bytes};
+ghost use Rattle.std.specs.Prelude.{◌≡◌, ◌↔◌, MatchBool, MatchResult, None, string_bytes};
 ghost use Rattle.std.specs.Str.{chars, encode_utf8_all};
 ghost use Rattle.syslog_pieces.specs.Timestamp.Zone.{Dating as AnyDating, dating_of};
 ghost use Rattle.syslog_loose.specs.Line.{KnowsForm, line_value};
@@ -67,7 +67,7 @@ pub(crate) fn next_round<F: FnOnce(IncompleteDate) -> i32>(
     ensures { InYear (F.post get_year) variant (chars input.entry.now) (λ year. AnswersRound variant
         (dating_of year tz.entry local.entry) (chars input.entry.now) (string_bytes text.new) result) }
 {
-    let made = visit_line(input, get_year, tz, variant, local, text);
+    let made = visit_line(input, get_year, tz, variant, local, &mut NoElements, text);
     answer(made)
 }
 
@@ -82,7 +82,7 @@ pub(crate) fn later_round(
         → AnswersRound variant dating (chars input.entry.now) (string_bytes text.new) result }
 {
     let (priority, rest) = optional_priority(trimmed(input));
-    let made = visit_undated(priority, rest, variant, text);
+    let made = visit_undated(priority, rest, variant, &mut NoElements, text);
     answer(made)
 }
 
@@ -100,21 +100,12 @@ fn answer(made: Option<Result<bool, AllocError>>) -> Result<bool, ParseFault>
 
 // Writes a round of the line, in place of what was there, and tells whether it is known to be settled.
 impl<'a> LineVisitor<'a> for String {
-    type Elements = NoElements;
-
     type Answer = Result<bool, AllocError>;
 
     ghost makes = { λ old line made new. WritesRound line made (string_bytes new) };
 
     #[inline(always)]
-    fn elements(&self) -> NoElements
-        ensures { ⊤ }
-    {
-        NoElements
-    }
-
-    #[inline(always)]
-    fn line(&mut self, line: &Line<'a>, _: NoElements) -> Result<bool, AllocError>
+    fn line(&mut self, line: &Line<'a>) -> Result<bool, AllocError>
         requires form { KnowsForm line.now }
         ensures { WritesRound line.now result (string_bytes self.new) }
     {

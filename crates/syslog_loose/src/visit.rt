@@ -2,13 +2,13 @@
 //!
 //! A text is trimmed once, and its priority and its month date are read once: after a month date RFC 5424 is not tried,
 //! and where the date has no year the closure is asked.
-ghost use Rattle.std.specs.Prelude.{◌≡◌, ⊤, [], IfSome, IsSome, MatchOption, None};
+ghost use Rattle.std.specs.Prelude.{◌≡◌, [], IfSome, IsSome, MatchOption, None};
 ghost use Rattle.std.specs.Bool.{OnFalse};
 ghost use Rattle.std.specs.Str.{chars};
 ghost use Rattle.syslog_pieces.specs.Bodies.Looks.{EndsDigits};
 ghost use Rattle.syslog_pieces.specs.Pieces.Class.{Text};
 ghost use Rattle.syslog_pieces.specs.Pieces.View.{shown};
-ghost use Rattle.syslog_pieces.specs.StructuredData.Visited.{list_elements};
+ghost use Rattle.syslog_pieces.specs.StructuredData.Visited.{list_elements, Visits};
 ghost use Rattle.syslog_pieces.specs.Text.{trimmed as trimmed_text};
 ghost use Rattle.syslog_pieces.specs.Timestamp.{header_stamp, stamp_seen};
 ghost use Rattle.syslog_pieces.specs.Timestamp.MonthDate.{month_date};
@@ -40,21 +40,14 @@ use syslog_pieces::timestamp::{ClockStamp, header_stamp};
 /// Makes something of a line. What it makes is returned from where the line was read, so that few fields of the line
 /// need to be kept in memory.
 pub trait LineVisitor<'a> {
-    /// What is made of the elements while the line is read.
-    type Elements: ElementVisitor<'a> + Drop;
     /// What is made of the line.
     type Answer;
 
     // what is made of a line, and how it leaves the visitor
     ghost makes: { Self → Line → Self.Answer → Self → Type 0 };
 
-    /// Returns a visitor that was given no elements yet.
-    fn elements(&self) -> Self::Elements
-        ensures { Self.Elements.was_given result [] };
-
-    /// Takes the line, and what was made of its elements.
-    fn line(&mut self, line: &Line<'a>, elements: Self::Elements) -> Self::Answer
-        requires given { Self.Elements.was_given elements (list_elements line.now.list) }
+    /// Takes the line.
+    fn line(&mut self, line: &Line<'a>) -> Self::Answer
         requires form { KnowsForm line.now }
         ensures { makes self.old line.now result self.new };
 }
@@ -70,52 +63,58 @@ fn begins_version(text: &str) -> bool
 // What is made of a line of RFC 5424, from after its priority on; none where the text is no such line. Where no version
 // begins it, that is found before the call.
 #[inline(always)]
-fn visit_5424<'a, V: LineVisitor<'a>>(
+fn visit_5424<'a, E: ElementVisitor<'a>, V: LineVisitor<'a>>(
     priority: Option<u8>,
     text: &'a str,
+    elements: &mut E,
     visitor: &mut V,
 ) -> Option<V::Answer>
     ensures { (whole : Text) → IsBehindPriority (trimmed_text whole) priority (chars text.entry.now)
-        → MatchOption result (IsNot5424 whole × (visitor.new ≡ visitor.old))
-        (λ made. (line : Line) × IsRead5424 whole (line_value line) × V.makes visitor.old line made visitor.new) }
+        → MatchOption result
+        (IsNot5424 whole × (visitor.new ≡ visitor.old) × Visits E.was_given elements.old [] elements.new)
+        (λ made. (line : Line) × IsRead5424 whole (line_value line) × V.makes visitor.old line made visitor.new
+        × Visits E.was_given elements.old (list_elements line.list) elements.new) }
 {
     if !begins_version(text) {
         return None;
     }
-    visit_versioned(priority, text, visitor)
+    visit_versioned(priority, text, elements, visitor)
 }
 
-// The same, by a call.
-fn visit_versioned<'a, V: LineVisitor<'a>>(
+// The line of RFC 5424 of a text that begins with a digit, by a call.
+fn visit_versioned<'a, E: ElementVisitor<'a>, V: LineVisitor<'a>>(
     priority: Option<u8>,
     text: &'a str,
+    elements: &mut E,
     visitor: &mut V,
 ) -> Option<V::Answer>
     ensures { (whole : Text) → IsBehindPriority (trimmed_text whole) priority (chars text.entry.now)
-        → MatchOption result (IsNot5424 whole × (visitor.new ≡ visitor.old))
-        (λ made. (line : Line) × IsRead5424 whole (line_value line) × V.makes visitor.old line made visitor.new) }
+        → MatchOption result
+        (IsNot5424 whole × (visitor.new ≡ visitor.old) × Visits E.was_given elements.old [] elements.new)
+        (λ made. (line : Line) × IsRead5424 whole (line_value line) × V.makes visitor.old line made visitor.new
+        × Visits E.was_given elements.old (list_elements line.list) elements.new) }
 {
-    let mut elements = visitor.elements();
-    let Some(line) = read_5424(priority, text, &mut elements) else {
+    let Some(line) = read_5424(priority, text, elements) else {
         return None;
     };
-    Some(visitor.line(&line, elements))
+    Some(visitor.line(&line))
 }
 
 // What is made of a line of RFC 3164, from after its timestamp on.
-fn visit_3164<'a, V: LineVisitor<'a>>(
+fn visit_3164<'a, E: ElementVisitor<'a>, V: LineVisitor<'a>>(
     priority: Option<u8>,
     timestamp: Option<ClockStamp>,
     text: &'a str,
+    elements: &mut E,
     visitor: &mut V,
 ) -> V::Answer
     ensures { (line : Line) × ((dating : AnyDating) (whole : Text)
         → IsBehindStamp dating (trimmed_text whole) priority timestamp (chars text.entry.now)
-        → IsRead3164 dash_rule dating whole (line_value line)) × V.makes visitor.old line result visitor.new }
+        → IsRead3164 dash_rule dating whole (line_value line)) × V.makes visitor.old line result visitor.new
+        × Visits E.was_given elements.old (list_elements line.list) elements.new }
 {
-    let mut elements = visitor.elements();
-    let line = read_3164(priority, timestamp, text, &mut elements);
-    visitor.line(&line, elements)
+    let line = read_3164(priority, timestamp, text, elements);
+    visitor.line(&line)
 }
 
 /// The month date after a priority, where the variant reads such dates, and the rest.
@@ -157,54 +156,60 @@ pub(crate) fn asked_numbers(date: MonthDate) -> Option<IncompleteDate>
 
 /// What the visitor makes of the line of a text that begins with no month date, from after its priority on.
 #[inline(always)]
-pub(crate) fn visit_undated<'a, V: LineVisitor<'a>>(
+pub(crate) fn visit_undated<'a, E: ElementVisitor<'a>, V: LineVisitor<'a>>(
     priority: Option<u8>,
     text: &'a str,
     variant: Variant,
+    elements: &mut E,
     visitor: &mut V,
 ) -> Option<V::Answer>
     ensures { (whole : Text) → IsBehindPriority (trimmed_text whole) priority (chars text.entry.now)
         → BeginsWithout month_date variant (chars text.entry.now) → (dating : AnyDating)
-        → Made V.makes variant dating whole visitor.old result visitor.new }
+        → Made V.makes E.was_given variant dating whole visitor.old elements.old result visitor.new elements.new }
 {
     if variant.reads_rfc5424() {
-        if let Some(made) = visit_5424(priority, text, visitor) {
+        if let Some(made) = visit_5424(priority, text, elements, visitor) {
             return Some(made);
         }
     }
     let Some((timestamp, rest)) = front_stamp(text, variant) else {
         return None;
     };
-    Some(visit_3164(priority, timestamp, rest, visitor))
+    Some(visit_3164(priority, timestamp, rest, elements, visitor))
 }
 
 /// Returns what the visitor makes of the line that the text is parsed as, and none where it does not parse.
 ///
+/// The strict elements of the line are given to `elements` on the way, before the visitor takes the line. Where the text
+/// does not parse, it is given none.
+///
 /// `get_year` gives the year of a date that has none: it is called once, and only where the text shows such a date and
 /// the variant reads it. `tz` is the zone of a date without an offset, and `local` is taken where that is absent. No
-/// memory is taken but by the visitor.
+/// memory is taken but by the two.
 #[inline(always)]
-pub fn visit_line<'a, F: FnOnce(IncompleteDate) -> i32, V: LineVisitor<'a>>(
+pub fn visit_line<'a, F: FnOnce(IncompleteDate) -> i32, E: ElementVisitor<'a>, V: LineVisitor<'a>>(
     input: &'a str,
     get_year: F,
     tz: Option<&TimeZone<'_>>,
     variant: Variant,
     local: &TimeZone<'_>,
+    elements: &mut E,
     visitor: &mut V,
 ) -> Option<V::Answer>
     requires { AnswersEachMonth (F.pre get_year) }
-    ensures { InYear (F.post get_year) variant (chars input.entry.now) (λ year. Made V.makes variant
-        (dating_of year tz.entry local.entry) (chars input.entry.now) visitor.old result visitor.new) }
+    ensures { InYear (F.post get_year) variant (chars input.entry.now) (λ year. Made V.makes E.was_given variant
+        (dating_of year tz.entry local.entry) (chars input.entry.now)
+        visitor.old elements.old result visitor.new elements.new) }
 {
     let (priority, after_priority) = optional_priority(trimmed(input));
     let Some((date, rest)) = front_date(after_priority, variant) else {
-        return visit_undated(priority, after_priority, variant, visitor);
+        return visit_undated(priority, after_priority, variant, elements, visitor);
     };
     let year = asked_numbers(date).map(get_year);
     let Some(stamp) = month_stamp(date, &Dating { year, tz, local }) else {
         return None;
     };
-    Some(visit_3164(priority, Some(stamp), rest, visitor))
+    Some(visit_3164(priority, Some(stamp), rest, elements, visitor))
 }
 
 // Returns the line itself.
@@ -212,21 +217,12 @@ pub fn visit_line<'a, F: FnOnce(IncompleteDate) -> i32, V: LineVisitor<'a>>(
 struct Itself;
 
 impl<'a> LineVisitor<'a> for Itself {
-    type Elements = NoElements;
-
     type Answer = Line<'a>;
 
     ghost makes = { λ old line made new. (made ≡ line) × KnowsForm line };
 
     #[inline(always)]
-    fn elements(&self) -> NoElements
-        ensures { ⊤ }
-    {
-        NoElements
-    }
-
-    #[inline(always)]
-    fn line(&mut self, line: &Line<'a>, _: NoElements) -> Line<'a>
+    fn line(&mut self, line: &Line<'a>) -> Line<'a>
         requires form { KnowsForm line.now }
         ensures { (result ≡ line.now) × KnowsForm line.now }
     {
@@ -254,5 +250,13 @@ pub fn parse_line<'a, F: FnOnce(IncompleteDate) -> i32>(
         (λ line. IsOnlyRead variant (dating_of year tz.entry local.entry) (chars input.entry.now) (line_value line))) }
     ensures form { IfSome result KnowsForm }
 {
-    visit_line(input, get_year, tz, variant, local, &mut Itself)
+    visit_line(
+        input,
+        get_year,
+        tz,
+        variant,
+        local,
+        &mut NoElements,
+        &mut Itself,
+    )
 }

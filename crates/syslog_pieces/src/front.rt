@@ -1,19 +1,20 @@
-//! The front of a printed line, in one array of ASCII: the priority, the version and the timestamp.
+//! Short texts of ASCII, in one array: a printed timestamp, and the front of a printed line, which is the priority, the
+//! version and the timestamp.
 //!
 //! What follows the timestamp is mostly copied, so a line is two pieces: this one and the rest.
-ghost use Rattle.std.specs.Prelude.{◌≡◌, ◌<◌, ◌≤◌, ◌+◌, ◌++◌, ◌∷◌, ℕ, [], length, slice_index, take};
+ghost use Rattle.std.specs.Prelude.{◌≡◌, ◌<◌, ◌≤◌, ◌+◌, ◌++◌, ◌∷◌, ℕ, [], Some, length, slice_index, take, unsigned_abs};
 ghost use Rattle.std.specs.Fmt.{decimal};
 ghost use Rattle.std.specs.List.{AllByRecursion};
 ghost use Rattle.syslog_pieces.specs.Pri.{priority_text};
 ghost use Rattle.syslog_pieces.specs.Timestamp.Fields.{AreCivil};
-ghost use Rattle.syslog_pieces.specs.Timestamp.Printed.{date_time_text, fraction_text, offset_text};
+ghost use Rattle.syslog_pieces.specs.Timestamp.Printed.{date_time_text, fields_text, fraction_text, offset_text};
+ghost use Rattle.syslog_pieces.specs.Timestamp.Printed.{printed_stamp, unsigned_date_time};
 
 use crate::text::write_ascii::{digit, three_digits, two_digits};
-use crate::timestamp::ClockStamp;
-use crate::timestamp::display::date_time_bytes;
-use crate::timestamp::fields::CivilFields;
+use crate::timestamp::fields::{CivilFields, datetime_fields};
+use crate::timestamp::{ClockStamp, OffsetTimestamp};
 use jiff::tz::Offset;
-use std::str;
+use std::{fmt, str};
 
 /// A short text of ASCII.
 #[derive(Clone, Copy)]
@@ -166,6 +167,19 @@ impl Ascii {
         self.push(&[sign, h, u, b':', i, n]);
     }
 
+    // Appends what a clock at the offset shows.
+    #[inline(always)]
+    fn push_fields(&mut self, fields: CivilFields, offset: Offset)
+        requires room { self.old.length + 36 ≤ 64 }
+        requires civil { AreCivil fields }
+        ensures text { ascii_bytes self.new ≡ ascii_bytes self.old ++ fields_text fields offset.seconds }
+        ensures length { self.new.length ≤ self.old.length + 36 }
+    {
+        self.push_date_time(fields);
+        self.push_fraction(fields.nanosecond);
+        self.push_offset(offset);
+    }
+
     // Appends a timestamp as it prints, or `-`.
     #[inline(always)]
     fn push_timestamp(&mut self, timestamp: Option<ClockStamp>)
@@ -174,13 +188,19 @@ impl Ascii {
         ensures length { self.new.length ≤ self.old.length + 36 }
     {
         match timestamp {
-            Some(stamp) => {
-                self.push_date_time(stamp.fields);
-                self.push_fraction(stamp.fields.nanosecond);
-                self.push_offset(stamp.offset);
-            }
+            Some(stamp) => self.push_fields(stamp.fields, stamp.offset),
             None => self.push(b"-"),
         }
+    }
+
+    // What a clock at the offset shows.
+    fn stamp(fields: CivilFields, offset: Offset) -> Ascii
+        requires { AreCivil fields }
+        ensures { ascii_bytes result ≡ fields_text fields offset.seconds }
+    {
+        let mut stamp = Ascii::empty();
+        stamp.push_fields(fields, offset);
+        stamp
     }
 
     /// The front of a line: the priority, the version of RFC 5424, a space and the timestamp.
@@ -205,5 +225,56 @@ impl Ascii {
         let mut text = Ascii::empty();
         text.push_timestamp(Some(timestamp));
         text
+    }
+}
+
+// The date and the time of day to the second, without the year's sign.
+#[inline(always)]
+fn date_time_bytes(fields: CivilFields) -> [u8; 19]
+    requires { AreCivil fields }
+    ensures ascii { AllByRecursion (λ b. b < 128) result }
+    ensures text { result ≡ unsigned_date_time (unsigned_abs fields.year) fields.month fields.day fields.hour
+        fields.minute fields.second }
+{
+    bytes_of(
+        fields.year.unsigned_abs(),
+        fields.month,
+        fields.day,
+        fields.hour,
+        fields.minute,
+        fields.second,
+    )
+}
+
+#[inline(always)]
+fn bytes_of(year: u32, month: u32, day: u32, hour: u32, minute: u32, second: u32) -> [u8; 19]
+    requires year { year < 10_000 }
+    requires month { month < 100 }
+    requires day { day < 100 }
+    requires hour { hour < 100 }
+    requires minute { minute < 100 }
+    requires second { second < 100 }
+    ensures ascii { AllByRecursion (λ b. b < 128) result }
+    ensures text { result ≡ unsigned_date_time year month day hour minute second }
+{
+    let [y, e] = two_digits(year / 100);
+    let [a, r] = two_digits(year % 100);
+    let [m, o] = two_digits(month);
+    let [d, t] = two_digits(day);
+    let [h, u] = two_digits(hour);
+    let [i, n] = two_digits(minute);
+    let [s, c] = two_digits(second);
+    [
+        y, e, a, r, b'-', m, o, b'-', d, t, b'T', h, u, b':', i, n, b':', s, c,
+    ]
+}
+
+impl fmt::Display for OffsetTimestamp {
+    ghost output = { λ s. Some (printed_stamp s.instant.nanosecond s.offset.seconds) };
+
+    fn fmt<W: fmt::Write>(&self, f: &mut fmt::Formatter<W>) -> fmt::Result {
+        let dt = self.offset.to_datetime(self.instant);
+        let text = Ascii::stamp(datetime_fields(dt), self.offset);
+        f.write_str(text.as_str())
     }
 }

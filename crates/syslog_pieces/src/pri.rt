@@ -1,6 +1,6 @@
 //! The priority, and the facility and the severity that it is composed of (RFC 5424 section 6.2.1).
 //!
-//! The priority of a line is optional; `optional_priority` answers it and the text behind it. Nothing here takes
+//! The priority of a line is optional; `optional_priority` returns it and the text after it. Nothing here takes
 //! memory.
 ghost use Rattle.std.specs.Prelude.{◌≡◌, ◌<◌, ◌≤◌, MatchOption};
 ghost use Rattle.std.specs.Fmt.{WritesOnOk};
@@ -182,7 +182,7 @@ pub fn parts(priority: Option<u8>) -> (Option<SyslogFacility>, Option<SyslogSeve
     }
 }
 
-/// The priority at the front, as `<34>`, and the text behind it.
+/// The priority at the front, as `<34>`, and the text after it.
 #[inline(always)]
 pub fn priority(text: &str) -> Option<(u8, &str)>
     ensures { Reads spec.priority (λ n. n) (chars text.now) result }
@@ -193,7 +193,7 @@ pub fn priority(text: &str) -> Option<(u8, &str)>
     Some((value as u8, rest))
 }
 
-/// The priority where one begins the text, and the text behind it.
+/// The priority where one begins the text, and the text after it.
 #[inline(always)]
 pub fn optional_priority(text: &str) -> (Option<u8>, &str)
     ensures { Front (optional spec.priority) (chars text.now) (shown result.1) result.0 }

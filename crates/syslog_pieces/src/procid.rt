@@ -18,7 +18,6 @@ ghost use Rattle.syslog_pieces.specs.Pieces.View.{shown, text_of, ClonesKeepText
 use crate::as_str::{AsStr, is_same_text};
 use crate::text::canonical::is_canonical_word;
 use crate::text::few_digits;
-use crate::text::write_ascii::write_signed;
 use std::alloc::{AllocError, Global};
 use std::fmt;
 
@@ -36,7 +35,7 @@ impl<S: AsStr> fmt::Display for ProcId<S> {
 
     fn fmt<W: fmt::Write>(&self, f: &mut fmt::Formatter<W>) -> fmt::Result {
         match self {
-            ProcId::PID(number) => write_signed(f, number),
+            ProcId::PID(number) => write!(f, "{number}"),
             ProcId::Name(name) => {
                 let name = name.as_str();
                 f.write_str(name)
@@ -117,7 +116,7 @@ fn any_process(text: &str) -> ProcId<&str>
     }
 }
 
-/// Whether no sign and no zero stands before other characters: then it prints as what it names.
+/// Whether no sign and no zero is before other characters: then it is printed as what it names.
 #[inline(always)]
 pub fn is_bare_word(name: &str) -> bool
     ensures { IsTrue result → IsBareWord (chars name.now) }
@@ -125,7 +124,7 @@ pub fn is_bare_word(name: &str) -> bool
     !leads_with_mark(name.as_bytes())
 }
 
-// Whether a sign or a zero stands before a further byte.
+// Whether a sign or a zero is before a further byte.
 #[inline(always)]
 fn leads_with_mark(bytes: &[u8]) -> bool
     ensures { OnFalse result (LeadsBare bytes.now) }

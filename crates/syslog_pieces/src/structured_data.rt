@@ -28,7 +28,7 @@ mod visit;
 mod walk;
 
 use crate::as_str::AsStr;
-pub use collect::Collect;
+pub use collect::{Collect, FewParams};
 pub use escapes::unescape;
 pub use line_list::{visit_forgiving_list, visit_rfc3164_list};
 pub use params::ParamsIter;

@@ -1,8 +1,8 @@
 //! White space, blanks, numbers and words.
 //!
-//! One scanner cuts the maximal run of a class of characters from the front of a text; every reader of a word stands on
-//! it. A reader answers what its class in `specs/Text.antt` means and the text behind it, or nothing where no front of
-//! the text is of the class. Nothing here takes memory, and no text is copied.
+//! One scanner cuts the maximal run of a class of characters from the front of a text. Every reader of a word rests on
+//! it. A reader returns what its class in `specs/Text.antt` means and the rest, or nothing where no front of the text
+//! is of the class. Nothing here takes memory, and no text is copied.
 ghost use Rattle.std.specs.Prelude.{◌≡◌, ◌<◌, [], ◌∷◌, IfSome, IsTrue, Option, MatchOption};
 ghost use Rattle.std.specs.Str.{bytes_eq, chars, IsUtf8};
 ghost use Rattle.syslog_pieces.specs.Text.CharClass.{has};
@@ -22,7 +22,6 @@ pub mod verbatim;
 pub mod write_ascii;
 
 pub use fields::{host_field, tag_field};
-pub(crate) use looks::begins_with_letter;
 use looks::{begins_visibly, begins_with, begins_with_digit, begins_with_gap, ends_in_colon};
 pub(crate) use numerals::few_digits;
 use numerals::{number_of_digits, small_digits};
@@ -77,7 +76,7 @@ impl CharClass {
     }
 }
 
-/// The maximal run of the class at the front, perhaps empty, and the text behind it.
+/// The maximal run of the class at the front, perhaps empty, and the text after it.
 #[tactic(auto, using(crate::proofs::TextLemmas::Runs::split_at_end))]
 #[inline(always)]
 pub fn split_run(text: &str, class: CharClass) -> (&str, &str)
@@ -86,7 +85,7 @@ pub fn split_run(text: &str, class: CharClass) -> (&str, &str)
     text.split_at(run_end(text, class))
 }
 
-/// The place behind that run, in bytes.
+/// The place after that run, in bytes.
 #[inline(always)]
 pub fn run_end(text: &str, class: CharClass) -> usize
     ensures { EndsRun (has class) text.now result }
@@ -99,7 +98,7 @@ pub fn run_end(text: &str, class: CharClass) -> usize
     }
 }
 
-// The place behind the run of ASCII characters of the class.
+// The place after the run of ASCII characters of the class.
 #[inline(always)]
 fn ascii_end(text: &str, class: CharClass) -> usize
     ensures { EndsRun (byte_in class) text.now result }
@@ -107,8 +106,8 @@ fn ascii_end(text: &str, class: CharClass) -> usize
     ascii_run(text.as_bytes(), class)
 }
 
-// The same of a run that reaches a character past ASCII: those are looked at one by one, and the bytes between and
-// behind them sixteen at a time.
+// The place after a run that reaches a character past ASCII: those are looked at one by one, and the bytes between and
+// after them sixteen at a time.
 #[cold]
 #[inline(never)]
 fn mixed_run_end(text: &str, class: CharClass) -> usize
@@ -152,7 +151,7 @@ fn past_run_end(text: &str, class: CharClass) -> usize
     }
 }
 
-/// The first character, and the text behind it.
+/// The first character, and the text after it.
 #[tactic(auto, using(std::proofs::lemmas::Str::chars_past_char))]
 #[inline(always)]
 pub fn first(text: &str) -> Option<(char, &str)>
@@ -177,7 +176,7 @@ pub fn literal(text: &str, c: char) -> Option<&str>
     }
 }
 
-/// The text behind a colon, where one begins it, and else the whole.
+/// The text after a colon, where one begins it, and otherwise the whole.
 #[inline(always)]
 pub fn past_colon(text: &str) -> &str
     ensures { (more : Option (Unit {0})) × Front (optional (exactly spec.colon)) (chars text.now) (shown result) more }
@@ -205,7 +204,7 @@ pub fn blanks(text: &str) -> &str
 }
 
 /// The text after the blanks at the front, of which there is at least one.
-#[tactic(auto, using(crate::proofs::TextLemmas::Runs::some_run_front, crate::proofs::TextLemmas::Runs::split_at_end, crate::proofs::TextLemmas::Chars::nonempty_is))]
+#[tactic(auto, using(crate::proofs::TextLemmas::Runs::some_read))]
 #[inline(always)]
 pub fn some_blanks(text: &str) -> Option<&str>
     ensures { Skips (some_run spec.is_blank) tt (chars text.now) result }
@@ -232,8 +231,8 @@ pub(crate) fn past_space(text: &str) -> Option<&str>
     }
 }
 
-// The place after the blanks at the front. It stands apart, since few gaps need a scan; a place, not a text, so that none
-// goes through memory.
+// The place after the blanks at the front. It is a function of its own, since few gaps need a scan. It returns a place,
+// not a text, so that no text goes through memory.
 #[cold]
 #[inline(never)]
 fn blanks_end(text: &str) -> usize
@@ -242,7 +241,7 @@ fn blanks_end(text: &str) -> usize
     run_end(text, CharClass::Blank)
 }
 
-/// The number at the front, up to a limit, and the text behind it. Leading zeros are allowed.
+/// The number at the front, up to a limit, and the text after it. Leading zeros are allowed.
 #[inline(always)]
 pub fn number(text: &str, limit: u32) -> Option<(u32, &str)>
     ensures { Reads (spec.number limit) (λ n. n) (chars text.now) result }
@@ -273,7 +272,7 @@ fn any_number(text: &str) -> Option<(u32, &str)>
     Some((value, rest))
 }
 
-// The place after the digits at the front, apart for the same reason as that after blanks.
+// The place after the digits at the front, in a function of its own for the same reason.
 #[cold]
 #[inline(never)]
 fn digits_end(text: &str) -> usize
@@ -302,7 +301,7 @@ fn named(run: &str) -> Option<&str>
     if is_byte(run, b'-') { None } else { Some(run) }
 }
 
-/// The word of RFC 5424 at the front (app name, process id or message id), absent for `-`, and the text behind it.
+/// The word of RFC 5424 at the front (app name, process id or message id), absent for `-`, and the text after it.
 #[inline(always)]
 pub fn word(text: &str) -> Option<(Option<&str>, &str)>
     ensures { Reads spec.word seen (chars text.now) result }
@@ -317,7 +316,7 @@ pub fn word(text: &str) -> Option<(Option<&str>, &str)>
     Some((named(run), rest))
 }
 
-/// The host at the front, absent for `-`, and the text behind it. The last colon of a run is left to that text.
+/// The host at the front, absent for `-`, and the text after it. The last colon of a run is left to that text.
 #[tactic(auto, using(crate::proofs::TextLemmas::Words::host_reads))]
 #[inline(always)]
 pub fn host(text: &str) -> Option<(Option<&str>, &str)>
@@ -337,7 +336,7 @@ pub fn host(text: &str) -> Option<(Option<&str>, &str)>
     Some((Some(front), after))
 }
 
-/// The tag word of RFC 3164 at the front, empty for `-`, and the text behind it.
+/// The tag word of RFC 3164 at the front, empty for `-`, and the text after it.
 #[inline(always)]
 pub fn tag_word(text: &str) -> Option<(Option<&str>, &str)>
     ensures { Reads spec.tag_word seen (chars text.now) result }
@@ -362,7 +361,7 @@ pub fn trimmed(text: &str) -> &str
     }
 }
 
-// Whether an ASCII character that is no white space stands at either end.
+// Whether the first and the last byte are ASCII and no white space.
 #[inline(always)]
 fn is_bare(bytes: &[u8]) -> bool
     ensures { IsTrue result → IsBare bytes.now }

@@ -23,7 +23,6 @@ ghost use Rattle.syslog_pieces.specs.Pieces.View.{Reads};
 pub mod canonical;
 mod clock;
 mod digits;
-pub(crate) mod display;
 pub(crate) mod fields;
 mod instant;
 pub mod month_date;

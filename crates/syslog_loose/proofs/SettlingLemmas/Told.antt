@@ -1,10 +1,11 @@
 -- What is told of a round of a text by way of its line, and of the rounds after it, in which no year counts.
-use Rattle.syslog_loose.proofs.Names.{◌≡◌, ℕ, Bool, true, false, Option, None, Some, Result, Ok, Err, refl, subst}
+use Rattle.syslog_loose.proofs.Names.{◌≡◌, ℕ, List, Bool, true, false, Option, None, Some, Result, Ok, Err, refl, subst}
 use Rattle.syslog_loose.proofs.Names.{chars, Text, Dating, Variant, IsCanonical, MessageValue, dash_rule, IsRead}
 use Rattle.syslog_loose.proofs.Names.{string_bytes}
 use Rattle.std.specs.Global.{Global}
 use Rattle.std.specs.Prelude.{IfOk, String}
 use Rattle.std.specs.declared.alloc.AllocError.{AllocError}
+use Rattle.syslog_pieces.specs.StructuredData.Element.{ElementValue}
 use Rattle.syslog_pieces.specs.Text.{trimmed}
 use Rattle.syslog_pieces.specs.Timestamp.MonthDate.{month_date}
 use Rattle.syslog_pieces.specs.Timestamp.Rfc3164.{ShowsMonthDate}
@@ -21,13 +22,14 @@ use Rattle.syslog_loose.proofs.SettlingLemmas.Settles.{settled_canonical}
 
 module _ (variant : Variant) (dating : Dating) where
   -- what was written of the line of a text tells of a round of the text
-  pub made_told : (text : Text) (old new : String Global) (made : Option (Result Bool AllocError))
-      → Made (λ (before : String Global) line written after. WritesRound line written (string_bytes after)) variant
-      dating text old made new
+  pub made_told : {E : Type 0} (given : E → E → List ElementValue → Type 0) (before after : E)
+      (text : Text) (old new : String Global) (made : Option (Result Bool AllocError))
+      → Made (λ (_ : String Global) line written last. WritesRound line written (string_bytes last)) given variant
+      dating text old before made new after
       → AnswersRound variant dating text (string_bytes new) (round_answer made)
-  made_told text old new None (none, same) = ((λ e. none), (λ u. refl))
-  made_told text old new (Some (Ok settled)) (line, only, writes) = writes variant dating text only.read
-  made_told text old new (Some (Err _)) (line, only, writes) =
+  made_told given before after text old new None (none, _, _) = ((λ e. none), (λ u. refl))
+  made_told given before after text old new (Some (Ok settled)) (line, only, writes, _) = writes variant dating text only.read
+  made_told given before after text old new (Some (Err _)) (line, only, writes, _) =
       ((λ e. absurd (invalid_or_memory e)), (λ u. absurd (u (line_value line) only.read)))
 
   -- a round that is not settled is one from which to go on

@@ -181,14 +181,14 @@ counts_broken {next = next} p c e = record {
 }
 
 -- ---- what a visitor was given, one element more
-pub visits_none : {V : Type 0} (given : V → List ElementValue → Type 0) (v : V) → Visits given v [] v
-visits_none given v ds h = subst (λ (x : List ElementValue). given v x) (sym (append-nil ds)) h
+pub visits_none : {V : Type 0} (given : V → V → List ElementValue → Type 0) (v : V) → Visits given v [] v
+visits_none given v first ds h = subst (λ (x : List ElementValue). given first v x) (sym (append-nil ds)) h
 
-pub visits_more : {V : Type 0} (given : V → List ElementValue → Type 0) (old mid new : V) (es : List ElementValue)
-    (x : ElementValue) → Visits given old es mid
-    → ((ds : List ElementValue) → given mid ds → given new (ds ++ (x ∷ []))) → Visits given old (es ++ (x ∷ [])) new
-visits_more given old mid new es x m step ds h =
-    subst (λ (y : List ElementValue). given new y) (append_assoc ds es (x ∷ [])) (step (ds ++ es) (m ds h))
+pub visits_more : {V : Type 0} (given : V → V → List ElementValue → Type 0) (old mid new : V) (es : List ElementValue)
+    (x : ElementValue) → Visits given old es mid → Visits given mid (x ∷ []) new → Visits given old (es ++ (x ∷ [])) new
+visits_more given old mid new es x m step first ds h =
+    subst (λ (y : List ElementValue). given first new y) (append_assoc ds es (x ∷ []))
+    (step first (ds ++ es) (m first ds h))
 
 pub strict_more : (vs : List (Option ElementValue)) (x : ElementValue) → strict vs ++ (x ∷ [])
     ≡ strict (vs ++ (Some x ∷ []))
@@ -202,7 +202,7 @@ pub counts_along : {text rest : Text} {es ds : List ElementValue} {tally : Tally
 counts_along {text = text} {rest = rest} {tally = tally} {strict = strict} e c =
     subst (λ (x : List ElementValue). Counts text rest x tally strict) e c
 
-pub visits_along : {V : Type 0} (given : V → List ElementValue → Type 0) (old new : V) (es ds : List ElementValue)
+pub visits_along : {V : Type 0} (given : V → V → List ElementValue → Type 0) (old new : V) (es ds : List ElementValue)
     → es ≡ ds → Visits given old es new → Visits given old ds new
 visits_along given old new es ds e v = subst (λ (x : List ElementValue). Visits given old x new) e v
 
@@ -218,6 +218,12 @@ items_none {q = q} (v ∷ vs) f l =
     let (a, b, w, h, more) = f.is in
     let first : Front item (a ++ (b ++ q)) (b ++ q) v = record { piece = a; whole = refl; is = h } in
     absurd (omega (arith, l, item_shorter _ _ v first, ap length (f.whole ∙ behind f.piece a b q w), length-append b q))
+
+-- a list with no character has no element
+pub none_strict : {t q : Text} {vs : List (Option ElementValue)} (own : Text) → Front (many item) t q vs
+    → t ≡ own ++ q → length own ≡ 0 → strict vs ≡ []
+none_strict {q = q} {vs = vs} own f e l =
+    ap strict (items_none vs f (omega (arith, ap length e, length-append own q, l)))
 
 -- a list with no character, where no dash begins the text
 pub no_forgiving : {t q : Text} {vs : List (Option ElementValue)} (own : Text) → NoFront (exactly dash) t

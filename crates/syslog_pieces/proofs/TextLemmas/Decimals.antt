@@ -10,7 +10,7 @@ use Rattle.std.proofs.lemmas.Bool.{agree_below_at, eqb-true}
 use Rattle.std.proofs.lemmas.Fmt.{decimal_step, length-decimal-le}
 use Rattle.std.proofs.lemmas.Str.{digit_value_digit}
 use Rattle.std.specs.Fmt.{digits}
-use Rattle.jiff_fmt.specs.Text.{pad2, pad4}
+use Rattle.jiff_fmt.specs.Text.{pad2}
 use Rattle.syslog_pieces.specs.Timestamp.Printed.{pad3}
 
 digits_onto_ascii : (k n : ℕ) (acc : List ℕ) → IsAscii acc → IsAscii (digits_onto k 10 false n acc)
@@ -61,24 +61,12 @@ pub three_digits : (n : ℕ) → 100 ≤ n → n < 1_000 → decimal n ≡ pad3 
 three_digits n l h =
     let e = last_digit n _ (omega arith) (omega arith) (two_digits (n / 10) (omega arith) (omega arith)) in grind arith
 
-pub four_digits : (n : ℕ) → 1_000 ≤ n → n < 10_000 → decimal n ≡ pad4 n
-four_digits n l h =
-    let e = last_digit n _ (omega arith) (omega arith) (three_digits (n / 10) (omega arith) (omega arith)) in
-    grind arith
-
-pub five_digits : (n : ℕ) → 10_000 ≤ n → n < 100_000 → decimal n ≡ (48 + n / 10_000) ∷ pad4 (n % 10_000)
-five_digits n l h =
-    let e = last_digit n _ (omega arith) (omega arith) (four_digits (n / 10) (omega arith) (omega arith)) in grind arith
-
 -- the table of pairs is held against the digits at each number below 100, by computing
 pub pairs_at : (n : ℕ) → n < 100 → (get_or PAIRS (2 * n) 0 ≡ 48 + n / 10) × (get_or PAIRS (2 * n + 1) 0 ≡ 48 + n % 10)
 pairs_at n l = (
   eqb-true _ _ (agree_below_at (λ k. nat_eq (get_or PAIRS (2 * k) 0) (48 + k / 10)) (λ _. true) 100 n refl l),
   eqb-true _ _ (agree_below_at (λ k. nat_eq (get_or PAIRS (2 * k + 1) 0) (48 + k % 10)) (λ _. true) 100 n refl l),
 )
-
--- the decimal text of a number below 100,000
-pub ruleset few_digits = (one_digit, two_digits, three_digits, four_digits, five_digits)
 
 -- the decimal text of a number, from that of a tenth of it
 pub last_of_more : (n : ℕ) → 10 ≤ n → n < 2 ^ 64 → decimal n ≡ decimal (n / 10) ++ ((48 + n % 10) ∷ [])

@@ -10,7 +10,7 @@ use Rattle.syslog_pieces.proofs.Names.{each_append, each_map}
 use Rattle.std.proofs.Common.{length-take, get_or-take, get_or-drop}
 use Rattle.std.proofs.lemmas.Bool.{le-ltb, not_from_true}
 use Rattle.std.proofs.lemmas.Str.{IsCharBoundary-start, IsCharBoundary-from_rest}
-use Rattle.syslog_pieces.proofs.TextLemmas.Chars.{chars_cut, chars_nonempty, chars_empty, ends_by_byte, low_ascii}
+use Rattle.syslog_pieces.proofs.TextLemmas.Chars.{chars_cut, chars_nonempty, chars_empty, ends_by_byte, low_ascii, nonempty_is}
 
 -- ---- where a run ends
 
@@ -165,3 +165,6 @@ some_front_run test (c ∷ cs) = elim (cases_Bool (test c)) [
       (q, record { piece = c ∷ f.piece; whole = ap (λ (x : Text). c ∷ x) f.whole; is = ((passes, f.is.0), f.is.1) }))
   | inr fails ↦ (c ∷ cs, record { piece = []; whole = refl; is = (tt, fails) })
 ]
+
+-- what the reader of a run that is not empty rests on
+pub ruleset some_read = (split_at_end, some_run_front, nonempty_is)

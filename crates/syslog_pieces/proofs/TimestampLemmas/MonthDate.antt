@@ -1,10 +1,8 @@
 -- A text has one month date at its front, and shows one; and what the readers of month dates answer.
-use Rattle.std.proofs.Common.{◌≡◌, inl, inr, ℕ, ◌≤◌, ◌<◌, length, get_or, true}
-use Rattle.std.proofs.Common.{List, [], ◌∷◌, ◌++◌, Option, Some, None, refl, sym, ap, subst, ◌∙◌, arith}
+use Rattle.std.proofs.Common.{◌≡◌, inl, inr, ℕ, ◌≤◌, true}
+use Rattle.std.proofs.Common.{List, [], ◌∷◌, ◌++◌, Option, Some, None, refl, sym, ap, ◌∙◌, arith}
 use Rattle.std.proofs.lemmas.Bool.Decides.{nat_tests}
-use Rattle.std.proofs.lemmas.Str.{chars-nil}
 use Rattle.std.specs.Char.{is_ascii_digit}
-use Rattle.std.specs.Str.{chars}
 use Rattle.syslog_pieces.specs.Bodies.MonthReading.{day_row, year_row}
 use Rattle.syslog_pieces.specs.Pieces.Class.{Text, Class, Values, Front, NoFront, Row}
 use Rattle.syslog_pieces.specs.Pieces.Class.{IsDeterministic, some_run}
@@ -24,7 +22,6 @@ use Rattle.syslog_pieces.proofs.PieceLemmas.Kinds.{each_begins, either_det, firs
 use Rattle.syslog_pieces.proofs.PieceLemmas.Rows.{row_pieces}
 use Rattle.syslog_pieces.proofs.PieceLemmas.Steps.{rows_step}
 use Rattle.syslog_pieces.proofs.PriLemmas.{priority_det}
-use Rattle.syslog_pieces.proofs.TextLemmas.Chars.{ascii_front, one_ascii}
 use Rattle.syslog_pieces.proofs.TextLemmas.Words.{number_det}
 use Rattle.syslog_pieces.proofs.TimestampLemmas.Months.{IsLetter, month_det, month_begins}
 
@@ -100,16 +97,6 @@ behind_month = some_run is_blank ∷ short_number ∷ some_run is_blank ∷ []
 pub month_date_begins : (p q : Text) (v : MonthDate) → month_date.Is p q v → Begins IsLetter (p ++ q)
 month_date_begins p q v (inl (vs, h, i)) = row_begins (behind_month ++ clock_row) p q vs h
 month_date_begins p q v (inr (vs, h, i)) = row_begins (behind_month ++ from_year) p q vs h
-
--- so none stands where a byte before the letters does
-pub no_letter_no_date : (bs : List ℕ) → (0 < length bs → get_or bs 0 0 < 65) → NoFront month_date (chars bs)
-no_letter_no_date [] low p q d e h =
-    subst (λ (x : Text). Begins IsLetter x) (sym e ∙ chars-nil) (month_date_begins p q d h)
-no_letter_no_date (b ∷ bs) low p q d e h =
-    let l : b < 65 = low (omega arith) in
-    let whole = ascii_front (b ∷ []) bs (b ∷ bs) (one_ascii b (omega arith)) refl in
-    let k : 65 ≤ b = subst (λ (x : Text). Begins IsLetter x) (sym e ∙ whole) (month_date_begins p q d h) in
-    absurd (omega arith)
 
 -- ---- a text shows one date without a year
 showing_det : AllDeterministic (showing_row yearless_date)

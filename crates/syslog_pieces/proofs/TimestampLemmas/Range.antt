@@ -1,5 +1,5 @@
 -- Every count of nanoseconds in range has civil fields, which the calendar has.
-use Rattle.std.proofs.Common.{◌≡◌, ℕ, ℤ, zero, suc, pos, negsuc, ◌+ℤ◌, ◌-ℤ◌, ◌*ℤ◌, ◌≤ℤ◌, ◌<ℤ◌, ◌+◌, ◌-◌}
+use Rattle.std.proofs.Common.{◌≡◌, ℕ, ℤ, zero, suc, pos, negsuc, ◌+ℤ◌, ◌-ℤ◌, ◌*ℤ◌, ◌≤ℤ◌, ◌+◌, ◌-◌}
 use Rattle.std.proofs.Common.{◌*◌, ◌/◌, ◌%◌, ◌<◌, ◌≤◌, ◌≢◌, refl, ap, ◌∙◌, arith, unsigned_abs}
 use Rattle.std.proofs.lemmas.Bool.Decides.{nat_tests}
 use Rattle.std.specs.Int.{int_div_euclid, int_rem_euclid}
@@ -8,7 +8,6 @@ use Rattle.jiff_core.specs.Calendar.{days_of_months, days_of_years, days_from_ci
 use Rattle.jiff_core.specs.Calendar.{days_in_month, days_in_year, day_count, IsCivilDate}
 use Rattle.jiff_core.proofs.CalendarLemmas.{days_of_months_more, days_of_months_all, days_of_months-zero}
 use Rattle.jiff_core.proofs.CalendarLemmas.{days_from_civil-day_count, day_count-day_of_year}
-use Rattle.jiff_core.proofs.CalendarLemmas.{day_count-epoch, day_count-lt_year}
 use Rattle.jiff_core.proofs.MarchLemmas.{days_of_years-march_days}
 use Rattle.jiff_core.proofs.SignedLemmas.{signed_arith, int_rem_euclid-parts, int_div_euclid-parts}
 use Rattle.jiff_tz.specs.Year.{year_of_day, years_within}
@@ -145,27 +144,6 @@ civil_fields_exist n h =
     let small : unsigned_abs left < 86_400_000_000_000 = omega (arith, signed_arith) in
     let there = fields_exist-place (year_of_day day) day _ (unsigned_abs left) (day_placed day range) small in
     (there.0, there.1 ∙ omega (arith, signed_arith))
-
--- ---- late instants
-
--- fields that count from 1970 on are in no year before 0
-not_early : (f : CivilFields) (y : ℤ) → f.year ≡ y → AreCivil f → pos 0 ≤ℤ nanos_of_fields f → pos 0 ≤ℤ y
-not_early f (pos n) e there late = omega (arith, signed_arith)
-not_early f (negsuc n) e there late =
-    let early = day_count-lt_year f.year f.month f.day (pos 1970) 1 1 there.date (omega arith)
-    (rw e (omega (arith, signed_arith))) in
-    let number = days_from_civil-day_count f.year f.month f.day in
-    let epoch = day_count-epoch in
-    let hour = there.hour_in in let minute = there.minute_in in let second = there.second_in in
-    let nanosecond = there.nanosecond_in in
-    absurd (omega (arith, signed_arith))
-
--- from the third day of 1970 on a clock at no offset shows a year before 0
-pub late_fields : (n o : ℤ) → IsTimestampNanos n → IsOffsetSeconds o → pos 172_800_000_000_000 <ℤ n
-    → pos 0 ≤ℤ (civil_fields (n +ℤ nanos_of_seconds o)).year
-late_fields n o h k late =
-    let (there, same) = civil_fields_exist (n +ℤ nanos_of_seconds o) (in_range-at_offset n o h k) in
-    not_early (civil_fields (n +ℤ nanos_of_seconds o)) _ refl there (omega (arith, signed_arith, same, k.0))
 
 -- the instant of fields by the days and seconds that they count
 pub instant_by_count : (f : CivilFields) (count : ℕ) (off sec nan : ℤ) → count ≡ day_count f.year f.month f.day

@@ -149,7 +149,7 @@ offset_alone p q r s (inr (vs, h, e)) =
       e,
     )
 
-offset_filled : IsFilled offset
+pub offset_filled : IsFilled offset
 offset_filled p q s (inl (u, inl e, z)) = (90, [], e)
 offset_filled p q s (inl (u, inr e, z)) = (122, [], e)
 offset_filled p q s (inr (vs, h, e)) =

@@ -1,6 +1,6 @@
 -- A printed stamp and the texts of RFC 3339: what is printed of a canonical timestamp has it, and no other timestamp
 -- has a text.
-use Rattle.std.proofs.Common.{◌≡◌, ℕ, ℤ, suc, pos, neg_ℤ, negsuc, ◌+ℤ◌, ◌≤ℤ◌, ◌<ℤ◌, ◌+◌, Bool, true, false}
+use Rattle.std.proofs.Common.{◌≡◌, ℕ, ℤ, suc, pos, neg_ℤ, negsuc, ◌+ℤ◌, ◌≤ℤ◌, ◌+◌, Bool, true, false}
 use Rattle.std.proofs.Common.{if◌then◌else◌, ◌*◌, ◌/◌, ◌%◌, ◌<◌, min, inl, inr, refl, sym, ap, append-nil}
 use Rattle.std.proofs.Common.{◌∙◌, arith, unsigned_abs, List, [], ◌∷◌, ◌++◌, append_assoc}
 use Rattle.std.proofs.lemmas.Bool.Decides.{nat_tests}
@@ -26,7 +26,7 @@ use Rattle.syslog_pieces.proofs.TimestampLemmas.Characters.{each_visible}
 use Rattle.syslog_pieces.proofs.TimestampLemmas.Civil.{shows_fields}
 use Rattle.syslog_pieces.proofs.TimestampLemmas.Decimals.{fraction_text-is}
 use Rattle.syslog_pieces.proofs.TimestampLemmas.Printing.{absolute, printed_stamp-characters}
-use Rattle.syslog_pieces.proofs.TimestampLemmas.Range.{late_fields, civil_fields_exist, in_range-at_offset, from_start}
+use Rattle.syslog_pieces.proofs.TimestampLemmas.Range.{civil_fields_exist, in_range-at_offset, from_start}
 
 -- ---- a printed offset
 
@@ -183,10 +183,6 @@ own_fields s =
 -- no timestamp lies past the year 9999 at its own offset
 pub own_year-to : (s : OffsetTimestamp) → own_year s ≤ℤ pos 9999
 own_year-to s = let (year_in, _, _) = (own_fields s).date in year_in.1
-
--- nor does a late one before the year 0
-pub own_year-late : (s : OffsetTimestamp) → pos 172_800_000_000_000 <ℤ s.instant.nanosecond → pos 0 ≤ℤ own_year s
-own_year-late s late = late_fields s.instant.nanosecond s.offset.seconds s.instant.in_range s.offset.in_range late
 
 -- no character of it is white space
 pub printed_stamp-visible : (s : OffsetTimestamp)

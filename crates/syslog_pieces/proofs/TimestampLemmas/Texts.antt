@@ -1,16 +1,59 @@
 -- What a header may know of a text that has a stamp.
 use Rattle.std.proofs.Common.{◌≡◌, ℕ, ◌+◌, ◌/◌, ◌<◌, List, [], ◌∷◌, ◌++◌, sym, ap, ◌∙◌, arith, append-nil}
+use Rattle.std.proofs.Common.{inl, inr, ◌≤◌, length}
 use Rattle.std.proofs.lemmas.Bool.Decides.{nat_tests}
+use Rattle.std.proofs.lemmas.List.{length-append}
 use Rattle.std.specs.Char.{IsAsciiDigit, is_ascii_digit}
 use Rattle.jiff_fmt.specs.Text.{pad4}
-use Rattle.syslog_pieces.specs.Pieces.Class.{Text, Each, Row}
+use Rattle.syslog_pieces.specs.Pieces.Class.{Text, Class, Each, Front, Row, after}
 use Rattle.syslog_pieces.specs.declared.timestamp.OffsetTimestamp.{OffsetTimestamp}
 use Rattle.syslog_pieces.specs.declared.timestamp.rfc3339_text.Rfc3339Fields.{Rfc3339Fields}
 use Rattle.syslog_pieces.specs.Timestamp.{IsStampText}
-use Rattle.syslog_pieces.specs.Timestamp.Rfc3339.{pair, stamp_row, stamp_text}
+use Rattle.syslog_pieces.specs.Timestamp.Rfc3339.{fraction, letter, offset, pair, stamp_row, stamp_text}
+use Rattle.syslog_pieces.specs.Timestamp.Rfc3339.{year}
 use Rattle.syslog_pieces.proofs.PieceLemmas.Class.{spaced_parts}
 use Rattle.syslog_pieces.proofs.PieceLemmas.Rows.{row_pieces}
 use Rattle.syslog_pieces.proofs.PieceLemmas.Steps.{piece_front}
+use Rattle.syslog_pieces.proofs.TimestampLemmas.Rfc3339.{offset_filled}
+
+-- a text is no shorter than a date, a clock and an offset of one character
+letter_long : (p q : Text) (v : Unit {0}) → (letter 84).Is p q v → length p ≡ 1
+letter_long p q v (inl e) = ap length e
+letter_long p q v (inr e) = ap length e
+
+front_length : (C : Class) {t u : Text} {v : C.Value} → (f : Front C t u v) → length t ≡ length f.piece + length u
+front_length C {u = u} f = ap length f.whole ∙ length-append f.piece u
+
+pub text_long : {t q : Text} {w : Rfc3339Fields} → Front stamp_text t q w → 20 ≤ length t
+text_long {t} {q} f =
+    let (vs, h, _) = f.is in
+    let (_, f1, (_, f2, (_, f3, (_, f4, (_, f5, (_, f6, (_, f7, (_, f8, (_, f9, _))))))))) =
+    row_pieces stamp_row {vs = vs} (record { piece = f.piece; whole = f.whole; is = h }) in
+    let (_, _, e) = offset_filled f9.piece _ _ f9.is in
+    omega (
+      arith,
+      front_length year f1,
+      ap length f1.is.0,
+      front_length (after 45 (pair 100)) f2,
+      ap length f2.is.1,
+      ap length f2.is.2.0,
+      front_length (after 45 (pair 100)) f3,
+      ap length f3.is.1,
+      ap length f3.is.2.0,
+      front_length (letter 84) f4,
+      letter_long f4.piece [] _ f4.is,
+      front_length (pair 100) f5,
+      ap length f5.is.0,
+      front_length (after 58 (pair 100)) f6,
+      ap length f6.is.1,
+      ap length f6.is.2.0,
+      front_length (after 58 (pair 61)) f7,
+      ap length f7.is.1,
+      ap length f7.is.2.0,
+      front_length fraction f8,
+      front_length offset f9,
+      ap length e,
+    )
 
 -- the year of the text, which a dash follows
 pub begins_with_year : (text : Text) (w : Rfc3339Fields) → stamp_text.Is text [] w

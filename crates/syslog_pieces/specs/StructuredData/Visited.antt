@@ -27,8 +27,9 @@ abbrev pub list_text : ElementList → Text
 list_text l = shown l.text
 
 -- a visitor was given these elements more
-abbrev pub Visits : {V : Type 0} → (V → List ElementValue → Type 0) → V → List ElementValue → V → Type 0
-Visits was_given old es new = (ds : List ElementValue) → was_given old ds → was_given new (ds ++ es)
+abbrev pub Visits : {V : Type 0} → (V → V → List ElementValue → Type 0) → V → List ElementValue → V → Type 0
+Visits {V = V} was_given old es new =
+    (first : V) (ds : List ElementValue) → was_given first old ds → was_given first new (ds ++ es)
 
 -- the parameters that are left of an element
 abbrev pub params_left : Params → List (Text × Text)

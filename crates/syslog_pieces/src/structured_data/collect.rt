@@ -48,7 +48,7 @@ impl<'a> ElementVisitor<'a> for Collect<'a> {
 
     type Notes = FewParams<'a>;
 
-    ghost was_given = { λ collect es. HasCollected collect es };
+    ghost was_given = { λ first collect es. HasCollected collect es };
 
     #[inline(always)]
     fn element(&mut self, element: Element<'a>, notes: &FewParams<'a>) {

@@ -35,11 +35,11 @@ fn collect_params<'a>(
     requires { HasNoted notes.now (element_seen element).params }
     ensures { IfOk result (λ v. map (param_value (λ s. shown s)) v.items ≡ (element_seen element.entry).params) }
 {
-    if notes.count < element.params_len() {
+    let Some(noted) = notes.all_of(&element) else {
         return walk_params(alloc, element);
-    }
-    let mut params = Vec::with_capacity(alloc, notes.count)?;
-    params.extend_from_slice(&notes.params[..notes.count])?;
+    };
+    let mut params = Vec::with_capacity(alloc, noted.len())?;
+    params.extend_from_slice(noted)?;
     Ok(params)
 }
 

@@ -7,7 +7,7 @@ ghost use Rattle.syslog_pieces.specs.Pieces.View.{shown, Reads};
 
 use super::recognise::{after_value, opening};
 
-// The value at the front, and the text behind the quote that closes it.
+// The value at the front, and the text after the quote that closes it.
 #[tactic(auto, using(crate::proofs::StructuredDataLemmas::Closing::quoted_value))]
 #[inline(always)]
 pub(super) fn quoted(text: &str) -> Option<(&str, &str)>
@@ -18,7 +18,7 @@ pub(super) fn quoted(text: &str) -> Option<(&str, &str)>
     Some((value, behind))
 }
 
-// The name and the value of the parameter at the front, and the text behind it.
+// The name and the value of the parameter at the front, and the text after it.
 #[tactic(auto, using(crate::proofs::StructuredDataLemmas::Closing::param_read))]
 #[inline(always)]
 pub(super) fn param(text: &str) -> Option<((&str, &str), &str)>

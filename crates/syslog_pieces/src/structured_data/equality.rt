@@ -25,8 +25,8 @@ impl<S: AsStr> Eq for StructuredElement<S> {
     ghost laws = { on_equiv (element_value (text_of S.text)) element_equivalence };
 }
 
-// Whether both lists have the same parameters, each as often. Nearly always they stand in one order, and the first
-// pass is all; only behind the first difference are they counted.
+// Whether both lists have the same parameters, each as often. Nearly always they are in one order, and the first pass
+// is all; only after the first difference are they counted.
 #[tactic(auto, using(crate::proofs::StructuredDataLemmas::Equality::comparing))]
 fn have_same_params<S: AsStr>(a: &[(S, S)], b: &[(S, S)]) -> bool
     ensures { result ≡ same_params (map (param_value (text_of S.text)) a.now)
@@ -55,7 +55,7 @@ fn first_difference<S: AsStr>(a: &[(S, S)], b: &[(S, S)]) -> usize
     a.len()
 }
 
-// Whether each parameter of the first list stands equally often in both.
+// Whether each parameter of the first list is equally often in both.
 fn are_as_frequent<S: AsStr>(a: &[(S, S)], b: &[(S, S)]) -> bool
     ensures { result ≡ counts_agree (map (param_value (text_of S.text)) a.now)
         (map (param_value (text_of S.text)) a.now) (map (param_value (text_of S.text)) b.now) }
@@ -68,7 +68,7 @@ fn are_as_frequent<S: AsStr>(a: &[(S, S)], b: &[(S, S)]) -> bool
     true
 }
 
-// How often a parameter stands in a list.
+// How often a parameter is in a list.
 fn count_param<S: AsStr>(param: &(S, S), params: &[(S, S)]) -> usize
     ensures { result ≡ count_by (λ q. param_eq (param_value (text_of S.text) param.now)
         (param_value (text_of S.text) q)) params.now }

@@ -143,7 +143,8 @@ pub fn visit_forgiving_list<'a, V: ElementVisitor<'a>>(
     ensures list { MatchOption result (NoFront forgiving (chars text.now))
         (λ x. Front forgiving (chars text.now) (shown x.1) (list_elements x.0)) }
     ensures text { IfSome result (λ x. chars text.now ≡ list_text x.0 ++ shown x.1) }
-    ensures visited { IfSome result (λ x. Visits V.was_given visitor.old (list_elements x.0) visitor.new) }
+    ensures visited { MatchOption result (Visits V.was_given visitor.old [] visitor.new)
+        (λ x. Visits V.was_given visitor.old (list_elements x.0) visitor.new) }
 {
     if let Some(rest) = literal(text, '-') {
         return Some((dash_list(text, rest), rest));

@@ -1,9 +1,9 @@
 //! Recognising strict and broken elements, without memory and in time linear in the text.
 //!
 //! A strict element that fails may have been scanned far: its first value may hold every `]` up to the end of the text,
-//! and each of the items behind it would be scanned as far again. But whatever scan passes a `]` alive does so inside a
-//! value, so all such scans have one future. A number `dead` keeps it: no element closes from behind a `]` that leaves
-//! `dead` bytes or more. A scan that passes such a `]` stops there.
+//! and each of the items after it would be scanned as far again. But any scan that passes a `]` is inside a value, so
+//! all of them continue alike. A number `dead` keeps how: no element closes from after a `]` that leaves `dead` bytes
+//! or more. A scan that passes such a `]` stops there.
 ghost use Rattle.std.specs.Prelude.{◌≡◌, ◌++◌, [], ◌∷◌};
 ghost use Rattle.std.specs.Prelude.{MatchOption, MatchResult};
 ghost use Rattle.std.specs.Str.{chars, IsUtf8};
@@ -19,7 +19,7 @@ ghost use Rattle.syslog_pieces.specs.Pieces.View.{shown, Reads, Recognises};
 
 use crate::text::{CharClass, blanks, first, literal, split_run};
 
-// The nonempty run of the class at the front, and the text behind it.
+// The nonempty run of the class at the front, and the text after it.
 #[tactic(auto, using(crate::proofs::TextLemmas::Chars::chars_nonempty, crate::proofs::TextLemmas::Chars::nonempty_is))]
 #[inline(always)]
 pub(super) fn nonempty_run(text: &str, class: CharClass) -> Option<(&str, &str)>
@@ -33,7 +33,7 @@ pub(super) fn nonempty_run(text: &str, class: CharClass) -> Option<(&str, &str)>
     }
 }
 
-// The id of the element at the front, and the text behind it and blanks.
+// The id of the element at the front, and the text after it and blanks.
 #[inline(always)]
 pub(super) fn start(text: &str) -> Option<(&str, &str)>
     ensures { Reads start_class (λ id. id_alone (shown id)) (chars text.now) result }
@@ -43,7 +43,7 @@ pub(super) fn start(text: &str) -> Option<(&str, &str)>
     Some((id, blanks(rest)))
 }
 
-// The name of the parameter at the front, and the text behind the quote that opens its value.
+// The name of the parameter at the front, and the text after the quote that opens its value.
 #[inline(always)]
 pub(super) fn opening(text: &str) -> Option<(&str, &str)>
     ensures { Reads opening_class (λ name. name_alone (shown name)) (chars text.now) result }
@@ -54,7 +54,7 @@ pub(super) fn opening(text: &str) -> Option<(&str, &str)>
     Some((name, rest))
 }
 
-// The last character of the unit at the front, and the text behind the unit.
+// The last character of the unit at the front, and the text after the unit.
 #[inline(always)]
 fn unit(text: &str) -> Option<(char, &str)>
     requires { NoFront (exactly (34 ∷ [])) (chars text.now) }
@@ -69,7 +69,7 @@ fn unit(text: &str) -> Option<(char, &str)>
     }
 }
 
-// The text behind the value at the front and its closing quote.
+// The text after the value at the front and its closing quote.
 #[inline(always)]
 pub(super) fn after_value(text: &str) -> Option<&str>
     ensures { Recognises quoted_class (chars text.now) result }
@@ -85,7 +85,8 @@ pub(super) fn after_value(text: &str) -> Option<&str>
     }
 }
 
-// The same. A refusal says that no element closes from here, and gives such a number for the text.
+// The text after the value at the front and its closing quote. A refusal says that no element closes from here, and
+// gives such a number for the text.
 #[inline(always)]
 pub(super) fn live_value(text: &str, dead: usize) -> Result<&str, usize>
     requires { IsDead (chars text.now) dead }
@@ -114,7 +115,7 @@ pub(super) fn live_value(text: &str, dead: usize) -> Result<&str, usize>
     }
 }
 
-// The text behind the element from inside one of whose values this text is; after a refusal a number as that of
+// The text after the element that this text is inside a value of; after a refusal a number as that of
 // `live_value`.
 #[inline(always)]
 pub(super) fn live_closing(text: &str, dead: usize) -> Result<&str, usize>
@@ -139,7 +140,7 @@ pub(super) fn live_closing(text: &str, dead: usize) -> Result<&str, usize>
     }
 }
 
-// The text behind the strict element at the front, where that has a parameter.
+// The text after the strict element at the front, where that has a parameter.
 #[tactic(auto, using(crate::proofs::StructuredDataLemmas::Rfc3164List::no_full_opening))]
 #[inline(always)]
 pub(super) fn after_full_element(text: &str) -> Option<&str>
@@ -150,7 +151,7 @@ pub(super) fn after_full_element(text: &str) -> Option<&str>
     live_closing(value, value.len()).ok()
 }
 
-// The text behind the bracketed text at the front.
+// The text after the bracketed text at the front.
 pub(super) fn after_bracketed(text: &str) -> Option<&str>
     ensures { Recognises bracketed_class (chars text.now) result }
 {

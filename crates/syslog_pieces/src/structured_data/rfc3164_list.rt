@@ -36,7 +36,7 @@ impl DashRule {
     }
 }
 
-// The text behind the dash at the front, where that is a list.
+// The text after the dash at the front, where that is a list.
 #[inline(always)]
 pub(super) fn after_dash(text: &str, rule: DashRule) -> Option<&str>
     ensures { MatchOption result ((q : Text) → chars text.now ≡ 45 ∷ q → IsDashBefore rule q → ⊥)

@@ -31,14 +31,14 @@ pub trait ElementVisitor<'a> {
     /// What it notes of an element before that has ended.
     type Notes: ParamNotes<'a>;
 
-    // it was given these elements
-    ghost was_given: { Self → List ElementValue → Type 0 };
+    // since it was the first, it was given these elements
+    ghost was_given: { Self → Self → List ElementValue → Type 0 };
 
     /// Takes an element, whose parameters were noted.
     fn element(&mut self, element: Element<'a>, notes: &Self::Notes)
         requires { Self.Notes.noted notes.now (element_seen element).params }
-        ensures { (es : List ElementValue) → was_given self.old es
-            → was_given self.new (es ++ (element_seen element.entry ∷ [])) };
+        ensures { (first : Self) (es : List ElementValue) → was_given first self.old es
+            → was_given first self.new (es ++ (element_seen element.entry ∷ [])) };
 }
 
 /// Notes nothing.
@@ -71,7 +71,7 @@ impl<'a> ElementVisitor<'a> for NoElements {
 
     type Notes = NoNotes;
 
-    ghost was_given = { λ visitor es. ⊤ };
+    ghost was_given = { λ first visitor es. ⊤ };
 
     #[inline(always)]
     fn element(&mut self, _: Element<'a>, _: &NoNotes) {}

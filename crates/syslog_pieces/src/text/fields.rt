@@ -1,4 +1,4 @@
-//! The fields of RFC 3164 that name where a line comes from: each behind one space.
+//! The fields of RFC 3164 that name where a line comes from: each after one space.
 ghost use Rattle.std.specs.Str.{chars};
 ghost use Rattle.syslog_pieces.specs.Pieces.Class.{Front, optional, spaced};
 ghost use Rattle.syslog_pieces.specs.Pieces.View.{field_seen, shown};

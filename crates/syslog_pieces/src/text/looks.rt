@@ -26,7 +26,7 @@ pub(crate) fn begins_visibly(bytes: &[u8]) -> bool
     }
 }
 
-/// Whether a space begins the bytes, and behind it stands a byte that is no blank.
+/// Whether a space begins the bytes, and a byte that is no blank follows it.
 #[inline(always)]
 pub(crate) fn begins_with_gap(bytes: &[u8]) -> bool
     ensures { IsTrue result → spec.BeginsWithGap bytes.now }
@@ -52,15 +52,4 @@ pub(crate) fn begins_with_digit(bytes: &[u8]) -> bool
     ensures { OnFalse result (spec.EndsDigits bytes.now) }
 {
     matches!(bytes, [b'0'..=b'9', ..])
-}
-
-/// Whether a byte from `A` on begins the bytes, as each letter is.
-#[inline(always)]
-pub(crate) fn begins_with_letter(bytes: &[u8]) -> bool
-    ensures { OnFalse result (0 < length bytes.now → slice_index bytes.now 0 < 65) }
-{
-    match bytes {
-        [first, ..] => *first >= b'A',
-        [] => false,
-    }
 }

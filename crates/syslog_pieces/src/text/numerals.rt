@@ -71,7 +71,7 @@ pub(crate) fn number_of_digits(digits: &str) -> Option<u32>
     digits.parse::<u32>().ok()
 }
 
-/// The number of one to three digits at the front, before none, and the bytes behind it.
+/// The number of one to three digits at the front, before none, and the bytes after it.
 #[inline(always)]
 pub(crate) fn small_digits(bytes: &[u8]) -> Option<(u32, &[u8])>
     ensures { IfSome result (λ read. IsSmallNumber bytes.now read.0 read.1.now) }

@@ -56,7 +56,7 @@ pub(crate) fn ascii_run(bytes: &[u8], class: CharClass) -> usize
     end
 }
 
-/// Whether an ASCII byte stands at this place, or nothing does.
+/// Whether the byte at this place is ASCII, or the place is the end.
 #[inline(always)]
 pub(crate) fn is_cut(bytes: &[u8], at: usize) -> bool
     ensures { IsTrue result → at < length bytes.now → slice_index bytes.now at < 128 }

@@ -1,4 +1,4 @@
-//! What stands in a text as it prints, told by a few bytes; and what stands before a rest of it.
+//! Which parts of a text are already in printed form, by a look at a few bytes; and the text before a rest of it.
 //!
 //! Each test may always answer no: then the piece is printed instead.
 ghost use Rattle.std.specs.Prelude.{◌≡◌, ◌∷◌, ◌++◌, IsTrue};
@@ -7,7 +7,7 @@ ghost use Rattle.syslog_pieces.specs.Pieces.Class.{Text};
 
 use crate::text::looks::begins_with;
 
-/// Whether one space is all that stands between a text and a rest of it: so that gap prints as it stands.
+/// Whether a text is one space and then a rest of it: so that gap is already in printed form.
 #[inline(always)]
 pub fn is_one_space(text: &str, rest: &str) -> bool
     requires { (front : Text) × (chars text.now ≡ front ++ chars rest.now) }
@@ -16,7 +16,7 @@ pub fn is_one_space(text: &str, rest: &str) -> bool
     begins_with(text.as_bytes(), b' ') && text.len() - 1 == rest.len()
 }
 
-/// What stands in the text before a rest of it.
+/// The text before a rest of it.
 #[tactic(auto, using(crate::proofs::TextLemmas::Cuts::cuts))]
 #[inline(always)]
 pub fn before<'a>(text: &'a str, rest: &str) -> &'a str

@@ -1,8 +1,8 @@
-//! ASCII bytes and numbers, written in one piece each, without the formatter's options.
-ghost use Rattle.std.specs.Prelude.{◌≡◌, ◌<◌, ◌+◌, ◌/◌, ◌%◌, ◌∷◌};
-ghost use Rattle.std.specs.Fmt.{WritesOnOk, decimal, signed_decimal};
+//! The bytes of digits, and ASCII bytes written in one piece.
+ghost use Rattle.std.specs.Prelude.{◌≡◌, ◌<◌, ◌+◌};
+ghost use Rattle.std.specs.Fmt.{WritesOnOk};
 ghost use Rattle.std.specs.List.{AllByRecursion};
-ghost use Rattle.jiff_fmt.specs.Text.{pad2, pad4};
+ghost use Rattle.jiff_fmt.specs.Text.{pad2};
 ghost use Rattle.syslog_pieces.specs.Timestamp.Printed.{pad3};
 
 use std::{fmt, str};
@@ -60,73 +60,4 @@ pub(crate) fn three_digits(n: u32) -> [u8; 3]
 {
     let [t, o] = two_digits(n % 100);
     [digit(n / 100), t, o]
-}
-
-#[inline(always)]
-fn four_digits(n: u32) -> [u8; 4]
-    requires { n < 10_000 }
-    ensures ascii { AllByRecursion (λ b. b < 128) result }
-    ensures text { result ≡ pad4 n }
-{
-    let front = n / 100;
-    let back = n % 100;
-    [
-        digit(front / 10),
-        digit(front % 10),
-        digit(back / 10),
-        digit(back % 10),
-    ]
-}
-
-#[inline(always)]
-fn five_digits(n: u32) -> [u8; 5]
-    requires { n < 100_000 }
-    ensures ascii { AllByRecursion (λ b. b < 128) result }
-    ensures text { result ≡ (48 + n / 10_000) ∷ pad4 (n % 10_000) }
-{
-    let front = n % 10_000 / 100;
-    let back = n % 100;
-    [
-        digit(n / 10_000),
-        digit(front / 10),
-        digit(front % 10),
-        digit(back / 10),
-        digit(back % 10),
-    ]
-}
-
-/// Writes a number in decimal digits. Up to five digits, which nearly all have, it is one piece.
-#[tactic(auto, using(crate::proofs::TextLemmas::Decimals::few_digits))]
-#[inline]
-pub fn write_number<W: fmt::Write>(f: &mut fmt::Formatter<W>, number: u32) -> fmt::Result
-    ensures { WritesOnOk W.write_str_gives f.old result (decimal number) f.new }
-{
-    if number < 10 {
-        return write_bytes(f, &[digit(number)]);
-    }
-    if number < 100 {
-        return write_bytes(f, &two_digits(number));
-    }
-    if number < 1_000 {
-        return write_bytes(f, &three_digits(number));
-    }
-    if number < 10_000 {
-        return write_bytes(f, &four_digits(number));
-    }
-    if number < 100_000 {
-        return write_bytes(f, &five_digits(number));
-    }
-    write!(f, "{number}")
-}
-
-/// The same of a number that may be negative.
-#[inline]
-pub(crate) fn write_signed<W: fmt::Write>(f: &mut fmt::Formatter<W>, number: &i32) -> fmt::Result
-    ensures { WritesOnOk W.write_str_gives f.old result (signed_decimal number.now) f.new }
-{
-    if *number < 0 {
-        write!(f, "{number}")
-    } else {
-        write_number(f, number.unsigned_abs())
-    }
 }

@@ -12,26 +12,13 @@ pub fn is_canonical_stamp(stamp: OffsetTimestamp) -> bool
     ensures { IsTrue result ↔ IsCanonicalStamp stamp }
 {
     let seconds = stamp.offset.seconds().unsigned_abs();
-    if !is_late(stamp) || seconds % 60 != 0 {
+    if own_year(stamp) < 0 || seconds % 60 != 0 {
         return false;
     }
     seconds < 86_400
 }
 
-// From here on a clock at each offset shows 1970 or a later year: two days, in nanoseconds.
-const LATE: i128 = 172_800_000_000_000;
-
-// Whether a clock at the timestamp's own offset shows the year 0 or a later one.
-fn is_late(stamp: OffsetTimestamp) -> bool
-    ensures from { IsTrue result ↔ pos 0 ≤ℤ spec.own_year stamp }
-    ensures to { spec.own_year stamp ≤ℤ pos 9999 }
-{
-    if stamp.instant.as_nanosecond() > LATE {
-        return true;
-    }
-    own_year(stamp) >= 0
-}
-
+// The year that a clock at the timestamp's own offset shows.
 fn own_year(stamp: OffsetTimestamp) -> i16
     ensures value { result ≡ spec.own_year stamp }
     ensures to { result ≤ℤ pos 9999 }

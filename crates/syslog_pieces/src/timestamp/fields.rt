@@ -39,7 +39,7 @@ impl CivilFields {
 
 /// The fields of a datetime.
 #[inline(always)]
-pub(super) fn datetime_fields(dt: DateTime) -> CivilFields
+pub(crate) fn datetime_fields(dt: DateTime) -> CivilFields
     ensures { result ≡ fields_of dt }
 {
     CivilFields {

@@ -105,6 +105,20 @@ impl ClockStamp {
     }
 }
 
+impl ClockStamp {
+    ghost use Rattle.std.specs.Int.{int_div_euclid, int_rem_euclid};
+
+    /// Returns the whole seconds from 1970 to its instant, rounded down, and the nanoseconds after them.
+    #[inline(always)]
+    pub fn unix_time(self) -> (i64, u32)
+        ensures seconds { result.0 ≡ int_div_euclid (clock_value self).instant.nanosecond (pos 1_000_000_000) }
+        ensures nanoseconds { pos result.1 ≡ int_rem_euclid (clock_value self).instant.nanosecond (pos 1_000_000_000) }
+        ensures bound { result.1 < 1_000_000_000 }
+    {
+        (second_of(self.fields, self.offset), self.fields.nanosecond)
+    }
+}
+
 /// The same of one that may be absent.
 #[inline(always)]
 pub fn stamp_of(clock: Option<ClockStamp>) -> Option<OffsetTimestamp>
@@ -116,16 +130,25 @@ pub fn stamp_of(clock: Option<ClockStamp>) -> Option<OffsetTimestamp>
     }
 }
 
+// The second of the instant, which its nanosecond is counted from.
+#[inline(always)]
+fn second_of(fields: CivilFields, offset: Offset) -> i64
+    requires { AreCivil fields }
+    ensures { result *ℤ pos 1_000_000_000 +ℤ pos fields.nanosecond
+        ≡ nanos_of_fields fields -ℤ nanos_of_seconds offset.seconds }
+{
+    let days = days(fields.year, fields.month, fields.day);
+    let clock = fields.hour * 3_600 + fields.minute * 60 + fields.second;
+    second_at(days, clock, offset.seconds())
+}
+
 // The nanosecond of the instant.
 #[inline(always)]
 fn nanosecond(fields: CivilFields, offset: Offset) -> i128
     requires { AreCivil fields }
     ensures { result ≡ nanos_of_fields fields -ℤ nanos_of_seconds offset.seconds }
 {
-    let days = days(fields.year, fields.month, fields.day);
-    let clock = fields.hour * 3_600 + fields.minute * 60 + fields.second;
-    let second = second_at(days, clock, offset.seconds());
-    nanosecond_at(second, fields.nanosecond)
+    nanosecond_at(second_of(fields, offset), fields.nanosecond)
 }
 
 // The seconds of the days before 1970, counted as below.

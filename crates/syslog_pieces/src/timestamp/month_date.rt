@@ -9,7 +9,7 @@ ghost use Rattle.syslog_pieces.specs.Pieces.View.{shown, Reads};
 ghost use Rattle.syslog_pieces.specs.Timestamp.MonthDate as spec;
 ghost use Rattle.syslog_pieces.specs.declared.timestamp.month_date.MonthDate.{MonthDate};
 
-use crate::text::{begins_with_letter, literal, number, past_colon, some_blanks};
+use crate::text::{literal, number, past_colon, some_blanks};
 
 /// The numbers of a month date, of which there may be no such date.
 #[derive(Clone, Copy, Debug)]
@@ -41,21 +41,9 @@ pub(super) struct Clock {
     pub(super) second: u32,
 }
 
-/// The month date at the front, with a year or without one, and the text behind it. A text that begins with no letter
-/// has none, by one look.
+/// The month date at the front, with a year or without one, and the text behind it.
 #[inline(always)]
 pub fn month_date(text: &str) -> Option<(MonthDate, &str)>
-    ensures { Reads spec.month_date (λ d. d) (chars text.now) result }
-{
-    if !begins_with_letter(text.as_bytes()) {
-        return None;
-    }
-    lettered_date(text)
-}
-
-// The same of a text that may begin with a letter.
-#[inline(never)]
-fn lettered_date(text: &str) -> Option<(MonthDate, &str)>
     ensures { Reads spec.month_date (λ d. d) (chars text.now) result }
 {
     let (day, rest) = read_day(text)?;

@@ -61,12 +61,20 @@ fn offset_of(seconds: i32) -> Option<Offset>
     Offset::from_seconds(seconds).ok()
 }
 
+// The length of `YYYY-MM-DDTHH:MM:SSZ`: no text is shorter.
+const LEAST: usize = 20;
+
 /// What the front of the text writes, and the text behind it.
 #[inline(always)]
 pub fn read(text: &str) -> Option<(Rfc3339Fields, &str)>
     ensures { Reads spec.stamp_text (λ written. written) (chars text.now) result }
 {
-    let (written, end) = numbers(text.as_bytes())?;
+    let bytes = text.as_bytes();
+    // With the length known, no piece looks for its end.
+    if bytes.len() < LEAST {
+        return None;
+    }
+    let (written, end) = numbers(bytes)?;
     let (_, rest) = text.split_at(text.len() - end.len());
     Some((written, rest))
 }

@@ -16,14 +16,6 @@ fn prints_as(alloc: Global, stamp: &OffsetTimestamp, want: &str) -> bool {
     }
 }
 
-// So does the timestamp of the clock.
-fn clock_prints_as(alloc: Global, clock: &ClockStamp, want: &str) -> bool {
-    match format!(in alloc; "{clock}") {
-        Ok(printed) => printed.as_str() == want && prints_as(alloc, &clock.stamp(), want),
-        Err(_) => false,
-    }
-}
-
 // The row says that there is a timestamp, and what it prints as.
 fn has_stamp(alloc: Global, row: &str, stamp: &OffsetTimestamp) -> bool {
     match answer_of(row) {
@@ -34,7 +26,7 @@ fn has_stamp(alloc: Global, row: &str, stamp: &OffsetTimestamp) -> bool {
 
 fn has_clock(alloc: Global, row: &str, clock: &ClockStamp) -> bool {
     match answer_of(row) {
-        Some(want) => clock_prints_as(alloc, clock, want),
+        Some(want) => prints_as(alloc, &clock.stamp(), want),
         None => false,
     }
 }
@@ -137,7 +129,7 @@ fn is_zero(rt: &impl Abort, alloc: Global, text: &str) -> bool {
     match clock_of(rt, alloc, text) {
         Some(clock) => {
             clock.offset.seconds() == 0
-                && clock_prints_as(alloc, &clock, "2020-01-01T00:00:00+00:00")
+                && prints_as(alloc, &clock.stamp(), "2020-01-01T00:00:00+00:00")
         }
         None => false,
     }

@@ -1,10 +1,19 @@
-use Rattle.std.proofs.Common.{inl, inr, refl}
-use Rattle.syslog_c.proofs.LineLemmas.{on_line_map, tried_map}
+use Rattle.std.proofs.Common.{◌≡◌, inr, rules}
+use Rattle.syslog_c.specs.Line.{OnLine}
+use Rattle.syslog_c.specs.Told.{ReadsInto}
+use Rattle.syslog_c.proofs.LineLemmas.{tried_line}
+use Rattle.syslog_c.proofs.ReadLemmas.{with_arrays}
 use Rattle.syslog_c.proofs.read.read_into.Goals as goal
 
-pub returns-in-Ok : goal.returns-in-Ok
-returns-in-Ok c = inr (inr (tried_map _ _ (λ variant dating text read. inl (_, read, c.tell.ensures)) c.in-Ok.ensures))
-
-pub returns-in-Err : goal.returns-in-Err
-returns-in-Err c = on_line_map _ _ _ (λ left. (refl, refl, refl))
-    (λ variant dating text refused. inr (refused, refl, refl, refl)) c.in-Err.ensures
+pub returns : goal.returns
+returns c =
+    let a = c.args in
+    let fields = c.read_by.new.fields in
+    let arrays = c.read_by.new.arrays in
+    with_arrays (λ es ps. OnLine a.options.now a.line.now c.read_by.result
+    ((fields ≡ a.fields.now) × (es ≡ a.elements.now) × (ps ≡ a.params.now))
+    (λ variant dating text. ReadsInto variant dating text a.fields.now fields a.elements.now es a.params.now ps
+    c.read_by.result)) arrays.elements.now _ arrays.params.now _ (search rules) (search rules)
+    (inr (inr (tried_line (λ variant dating text. ReadsInto variant dating text a.fields.now fields
+    a.elements.now arrays.elements.now a.params.now arrays.params.now c.read_by.result) _ _ _ _ _ c.in-Some.ensures
+    c.in-Ok.ensures (λ date year is ok. is) (c.read_by.ensures.reads c.in-Some.ensures.1.year))))

@@ -1,12 +1,30 @@
-use Rattle.std.proofs.lemmas.Str.{IsUtf8-string_bytes}
-use Rattle.syslog_c.specs.Texts.{IsUnescapedValue, UnescapesNot}
-use Rattle.syslog_c.proofs.TextLemmas.{put_leaves}
+use Rattle.std.proofs.Common.{◌∙◌, ℕ, List, [], inl, rules, sym, subst}
+use Rattle.std.specs.Str.{chars}
+use Rattle.syslog_pieces.specs.Pieces.Class.{Text}
+use Rattle.syslog_pieces.specs.StructuredData.Escapes.{IsUnescaped}
+use Rattle.syslog_c.specs.Texts.{IsUnescapedValue, Unescaped}
+use Rattle.syslog_c.proofs.TextLemmas.{taken_none, told, with_room}
 use Rattle.syslog_c.proofs.unescape.unescaped.Goals as goal
 
-pub returns-in-Ok-unescape : goal.returns-in-Ok-unescape
-returns-in-Ok-unescape c =
-    let (same, utf8) = c.in-Ok.ensures in
-    let bytes = IsUtf8-string_bytes c.in-Ok-unescape.unescaped in
-    let unescaped = rw same at c.in-Ok-unescape.ensures in
-    put_leaves (IsUnescapedValue c.args.value.now) (UnescapesNot c.args.value.now) _ _ _ _
-    record { value_utf8 = utf8; utf8 = bytes; unescaped = unescaped } _ c.put_answer.ensures
+pub returns : goal.returns
+returns c =
+    let value = c.args.value.now in
+    let first = c.new-buffer.result in
+    let now = c.push_unescaped.new.buffer in
+    let (text, unescaped, (bytes, valid, spelt, takes)) = c.push_unescaped.ensures in
+    let h = takes first [] (taken_none first c.new-buffer.ensures.none.1) in
+    let same = h.same ∙ c.new-buffer.ensures.same in
+    let is : IsUnescapedValue value bytes = record {
+      value_utf8 = c.in-Ok.ensures.1;
+      utf8 = valid;
+      unescaped = subst (λ (v : List ℕ). IsUnescaped (chars v) (chars bytes)) c.in-Ok.ensures.0
+          (subst (λ (t : Text). IsUnescaped (chars c.in-Ok.text.now) t) (sym spelt) unescaped);
+    } in
+    with_room (λ room. Unescaped value c.args.room.now room c.tell.new.needed c.tell.result) now.room.now _
+    (search (rules, same))
+    (inl (
+      bytes,
+      is,
+      told first now bytes c.args.room.now c.tell.new.needed c.tell.result c.new-buffer.ensures.none.0 h
+          c.tell.ensures,
+    ))

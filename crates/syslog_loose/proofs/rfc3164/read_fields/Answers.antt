@@ -13,13 +13,13 @@ use Rattle.syslog_loose.proofs.Rfc3164Lemmas.Near.{fields_known}
 use Rattle.syslog_loose.proofs.rfc3164.read_fields.Goals as goal
 
 pub before-requires : goal.before-requires
-before-requires c =
+before-requires g c =
     let k = row_of (run is_blank ∷ optional (exactly colon) ∷ run is_blank ∷ [])
     (c.blanks.ensures then c.past_colon.ensures.1 then c.blanks-rest.ensures then refl) in (k.piece, k.whole)
 
 -- the fields, where they are in printed form
 pub returns : goal.returns
-returns c =
+returns g c =
     let front = row_of fields_row (c.host_field.ensures then c.tag_field.ensures then c.blanks.ensures
     then c.past_colon.ensures.1 then c.blanks-rest.ensures then refl) in
     let names = c.resolve-names.result in

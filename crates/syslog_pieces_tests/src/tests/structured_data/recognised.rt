@@ -185,7 +185,7 @@ impl<'a> ElementVisitor<'a> for Last<'a> {
 
     type Notes = NoNotes;
 
-    ghost was_given = { λ visitor es. ⊤ };
+    ghost was_given = { λ first visitor es. ⊤ };
 
     fn element(&mut self, element: Element<'a>, _: &NoNotes) {
         self.element = Some(element);

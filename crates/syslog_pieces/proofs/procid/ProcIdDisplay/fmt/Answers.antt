@@ -3,7 +3,7 @@ use Rattle.syslog_pieces.proofs.TextLemmas.Decimals.{encodes-signed}
 use Rattle.syslog_pieces.proofs.procid.ProcIdDisplay.fmt.Goals as goal
 
 pub returns-in-PID-clause-writes : goal.returns-in-PID-clause-writes
-returns-in-PID-clause-writes g c = rw (c.in-PID.is, encodes-signed) c.write_signed.ensures
+returns-in-PID-clause-writes g c = rw (c.in-PID.is, encodes-signed) c.write.ensures.writes
 
 pub returns-in-Name-clause-writes : goal.returns-in-Name-clause-writes
 returns-in-Name-clause-writes g c =

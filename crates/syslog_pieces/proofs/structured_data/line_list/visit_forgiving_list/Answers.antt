@@ -1,7 +1,7 @@
 use Rattle.syslog_pieces.proofs.Names.{rules, ◌≡◌, ◌<◌, ◌∙◌, sym, ap, length, subst, chars, forgiving, Front, List}
 use Rattle.syslog_pieces.proofs.Names.{ElementValue}
 use Rattle.syslog_pieces.proofs.TextLemmas.Chars.{chars_empty, chars_nonempty}
-use Rattle.syslog_pieces.proofs.StructuredDataLemmas.Listed.{no_forgiving, some_forgiving}
+use Rattle.syslog_pieces.proofs.StructuredDataLemmas.Listed.{no_forgiving, none_strict, some_forgiving, visits_along}
 use Rattle.syslog_pieces.proofs.structured_data.line_list.visit_forgiving_list.Goals as goal
 
 pub returns-then-is_empty-clause-list : goal.returns-then-is_empty-clause-list
@@ -16,3 +16,11 @@ returns-else-is_empty-clause-list g c =
     let (vs, f, e) = c.visit_items.ensures.list in
     let n = rw c.text.ensures at (chars_nonempty _ c.text.utf8 some) in
     rw e (some_forgiving _ vs f c.visit_items.ensures.text n)
+
+pub returns-then-is_empty-clause-visited : goal.returns-then-is_empty-clause-visited
+returns-then-is_empty-clause-visited g c =
+    let none : length c.text.result.now ≡ 0 = search rules in
+    let (vs, f, e) = c.visit_items.ensures.list in
+    let no_text = ap length (sym c.text.ensures) ∙ chars_empty _ none in
+    visits_along g.V.ElementVisitor.was_given c.args.visitor.now c.visit_items.new.visitor _ _
+    (e ∙ none_strict _ f c.visit_items.ensures.text no_text) c.visit_items.ensures.visited

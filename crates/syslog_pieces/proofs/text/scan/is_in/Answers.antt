@@ -3,8 +3,7 @@ use Rattle.syslog_pieces.proofs.Names.{◌≡◌, ℕ, Bool, true, not, nat_eq, 
 use Rattle.syslog_pieces.proofs.Names.{agree_below_at, CharClass, byte_in, bit_of}
 use Rattle.std.proofs.Common.{bit_and}
 use Rattle.syslog_pieces.specs.declared.text.scan.TheConstants.{CLASSES}
-use Rattle.syslog_pieces.specs.declared.text.CharClass.TheVariants.{Digit, Blank, Visible, Id, Name, Unescaped, Open}
-use Rattle.syslog_pieces.specs.declared.text.CharClass.TheVariants.{Inert, Bare, Tag, Label}
+use Rattle.syslog_pieces.specs.declared.text.CharClass.TheVariants.{Digit}
 use Rattle.syslog_pieces.proofs.text.scan.is_in.Goals as goal
 
 abbrev reads : CharClass → ℕ → Bool
@@ -12,16 +11,7 @@ reads class k = not (nat_eq (bit_and (get_or CLASSES k 0) (bit_of class)) 0)
 
 agrees : (class : CharClass) → agree_below (reads class) (byte_in class) 256 ≡ true
 agrees Digit = refl
-agrees Blank = refl
-agrees Visible = refl
-agrees Id = refl
-agrees Name = refl
-agrees Unescaped = refl
-agrees Open = refl
-agrees Inert = refl
-agrees Bare = refl
-agrees Tag = refl
-agrees Label = refl
+agrees other = refl
 
 pub returns : goal.returns
 returns c =

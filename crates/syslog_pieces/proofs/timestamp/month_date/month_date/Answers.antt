@@ -1,6 +1,12 @@
-use Rattle.syslog_pieces.proofs.TimestampLemmas.MonthDate.{no_letter_no_date}
+use Rattle.std.proofs.Common.{rules}
+use Rattle.syslog_pieces.proofs.TimestampLemmas.MonthDate.{no_day, yearless_front, yearless_is}
 use Rattle.syslog_pieces.proofs.timestamp.month_date.month_date.Goals as goal
 
-pub returns-then-not-begins_with_letter : goal.returns-then-not-begins_with_letter
-returns-then-not-begins_with_letter c =
-    no_letter_no_date c.args.text.now (rw c.as_bytes.ensures.value at c.if-not-begins_with_letter.ensures)
+pub returns-in_err-day : goal.returns-in_err-day
+returns-in_err-day c = let n = no_day c.in_err-day.ensures in search rules
+
+pub returns-in-Some : goal.returns-in-Some
+returns-in-Some c = rw c.date_of.ensures (yearless_is (yearless_front c.in_ok-day.ensures c.in-Some.ensures.1))
+
+pub returns-in-None : goal.returns-in-None
+returns-in-None c = c.dated.ensures _ c.in_ok-day.ensures c.in-None.ensures

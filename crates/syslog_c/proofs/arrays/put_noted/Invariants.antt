@@ -1,0 +1,8 @@
+use Rattle.std.proofs.Common.{map, take}
+use Rattle.syslog_pieces.specs.Pieces.View.{shown}
+use Rattle.syslog_pieces.specs.StructuredData.Element.{param_value}
+use Rattle.syslog_c.specs.Fields.{IsBegun, IsParam}
+use Rattle.syslog_c.proofs.arrays.put_noted.Given as goal
+
+abbrev pub invariant-loop-i : goal.invariant-loop-i
+invariant-loop-i l = IsBegun IsParam (map (param_value (λ s. shown s)) (take l.i l.params)) l.initial.array l.array

@@ -1,0 +1,11 @@
+use Rattle.std.proofs.Common.{inl, inr, refl}
+use Rattle.syslog_c.proofs.LineLemmas.{on_line_map, tried_map}
+use Rattle.syslog_c.proofs.read.read_fields.Goals as goal
+
+pub returns-in-Ok : goal.returns-in-Ok
+returns-in-Ok c = inr (inr (tried_map _ _
+    (λ variant dating text read. inl (_, read, refl, c.fields_of.ensures)) c.in-Ok.ensures))
+
+pub returns-in-Err : goal.returns-in-Err
+returns-in-Err c = on_line_map _ _ _ (λ left. refl)
+    (λ variant dating text refused. inr (refused, refl)) c.in-Err.ensures

@@ -1,7 +1,0 @@
-use Rattle.std.proofs.Common.{◌≡◌, ◌++◌, map}
-use Rattle.syslog_pieces.specs.StructuredData.Visited.{element_seen, elements_left, list_elements}
-use Rattle.syslog_object.proofs.element.elements_of.Given as goal
-
-abbrev pub invariant-loop-element : goal.invariant-loop-element
-invariant-loop-element l =
-    map element_seen l.elements.items ++ elements_left l.element-iterator ≡ list_elements l.list

@@ -1,0 +1,13 @@
+use Rattle.std.proofs.Common.{sym, ap, ◌∙◌}
+use Rattle.std.proofs.Output.{has_written_of_eq}
+use Rattle.syslog_pieces.specs.Timestamp.Printed.{fields_text}
+use Rattle.syslog_pieces.specs.declared.timestamp.fields.CivilFields.{CivilFields}
+use Rattle.syslog_pieces.proofs.TimestampLemmas.Civil.{printed_stamp-is}
+use Rattle.syslog_pieces.proofs.front.OffsetTimestampDisplay.fmt.Goals as goal
+
+pub returns-clause-writes : goal.returns-clause-writes
+returns-clause-writes g c canonical ok =
+    let offset = c.args.self.now.offset.seconds in
+    let shown = ap (λ (f : CivilFields). fields_text f offset) c.datetime_fields.ensures in
+    has_written_of_eq _ _ _ _ _ (c.as_str.ensures ∙ c.stamp-text.ensures ∙ shown
+    ∙ sym (printed_stamp-is _ _ offset c.to_datetime-dt.ensures)) (c.write_str.ensures.writes canonical ok)
