@@ -12,9 +12,9 @@ use Rattle.syslog_pieces.specs.declared.timestamp.clock.ClockStamp.{ClockStamp}
 use Rattle.syslog_pieces.proofs.TextLemmas.Decimals.{encodes-decimal}
 use Rattle.syslog_pieces.proofs.TimestampLemmas.Printing.{printed_stamp-bytes}
 use Rattle.syslog_loose.specs.Formats.{printed_number}
-use Rattle.syslog_loose.specs.Line.{line_value, protocol_of, rest_3164, rest_5424, rest_text}
+use Rattle.syslog_loose.specs.Line.{line_value, protocol_of}
 use Rattle.syslog_loose.specs.Message.{MessageValue}
-use Rattle.syslog_loose.specs.Printed.{printed, printed_3164, printed_5424, priority_of, spaced_elements}
+use Rattle.syslog_loose.specs.Printed.{printed, printed_3164, printed_5424, priority_of, rest_3164, rest_5424, rest_text, spaced_elements}
 use Rattle.syslog_loose.specs.Printed.{timestamp_text}
 use Rattle.syslog_loose.specs.declared.line.Line.{Line}
 use Rattle.syslog_loose.specs.declared.message.Protocol.TheVariants.{RFC3164, RFC5424}

@@ -22,8 +22,7 @@ use Rattle.syslog_loose.specs.declared.message.Protocol.TheVariants as protocol
 use Rattle.syslog_loose.specs.declared.variant.Variant.{Variant}
 use Rattle.syslog_loose.specs.declared.variant.Variant.TheVariants.{Either, RFC3164, RFC5424}
 use Rattle.syslog_loose.proofs.BoundLemmas.{read_as}
-use Rattle.syslog_loose.proofs.ReadingLemmas.{Found, value, answers_in}
-use Rattle.syslog_loose.proofs.ReadingLemmas.{in_year_map}
+use Rattle.syslog_loose.proofs.ReadingLemmas.{Found, value, in_year_map}
 use Rattle.syslog_loose.proofs.Rfc3164Lemmas.Exact.{rfc3164_exact}
 use Rattle.syslog_loose.proofs.Rfc3164Lemmas.Near.{read_near, read_nearly, stamp_read}
 use Rattle.syslog_loose.proofs.Rfc3164Lemmas.Printed.{printed_is, printed_apart}
@@ -86,24 +85,6 @@ fields_answered : (variant : Variant) (dating : Dating) (text : Text)
 fields_answered variant dating text (Ok found) a =
     fields variant dating text (value found) a.read
 fields_answered variant dating text (Err fault) a = tt
-
--- an answer in the year that was asked for, or in none
-pub answered : (post : IncompleteDate → ℤ → Type 0) (variant : Variant) (text : Text) (tz : Option (Bor TimeZone))
-    (local : Bor TimeZone) (r : Result Found ParseFault) (year : Option ℤ)
-    → IsYearAnswered post variant text year → Answers variant (dating_of year tz local) text r
-    → record {
-      reads : InYear post variant text (λ y. Answers variant (dating_of y tz local) text r);
-      itself : AnswersItself variant text r;
-      fields : InYear post variant text (λ y. IfOk r (λ m.
-          FieldsAsRead m.protocol (dating_of y tz local) text (value m)));
-    }
-answered post variant text tz local r year is a =
-    let reads = answers_in post variant text tz local r year is a in
-    record {
-      reads = reads;
-      itself = itself variant (dating_of year tz local) text r a;
-      fields = in_year_map (λ y b. fields_answered variant (dating_of y tz local) text r b) reads;
-    }
 
 -- an answer in the year that the closure answered
 pub answered_in : {post : IncompleteDate → ℤ → Type 0} {variant : Variant} {text : Text} (tz : Option (Bor TimeZone))

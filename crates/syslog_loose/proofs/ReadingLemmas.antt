@@ -74,16 +74,6 @@ any_year Either text tz local year other m never (inl r) = inl r
 any_year Either text tz local year other m never (inr (none, r)) =
     inr (none, other_read (dating_of year tz local) (dating_of other tz local) refl refl dash_rule text never m r)
 
-any_answer : (variant : Variant) (text : Text) (tz : Option (Bor TimeZone)) (local : Bor TimeZone)
-    (year other : Option ℤ) (r : Result Found ParseFault) → ((date : MonthDate) → AsksYear variant text date → ⊥)
-    → Answers variant (dating_of year tz local) text r → Answers variant (dating_of other tz local) text r
-any_answer variant text tz local year other (Ok m) never h = only_read variant (dating_of other tz local) text (value m)
-    (any_year variant text tz local year other (value m) never h.read)
-any_answer variant text tz local year other (Err Invalid) never h =
-    λ m r. h m (any_year variant text tz local other year m never r)
-any_answer variant text tz local year other (Err Memory) never h =
-    λ needless. h (λ m r. needless m (any_year variant text tz local year other m never r))
-
 -- what holds in the year that the closure answered, and in each year where it holds in none that is asked for
 pub in_answered_year : (post : IncompleteDate → ℤ → Type 0) (variant : Variant) (text : Text)
     (Holds : Option ℤ → Type 0) (year : Option ℤ) → IsYearAnswered post variant text year
@@ -93,14 +83,6 @@ in_answered_year post variant text Holds None is any h =
     record { answered = None; is_answered = is; holds = λ other agrees. any is other h }
 in_answered_year post variant text Holds (Some year) is any h =
     record { answered = Some year; is_answered = is; holds = λ other agrees. subst Holds (sym (agrees is.0 is.1)) h }
-
-pub answers_in : (post : IncompleteDate → ℤ → Type 0) (variant : Variant) (text : Text) (tz : Option (Bor TimeZone))
-    (local : Bor TimeZone) (r : Result Found ParseFault) (year : Option ℤ)
-    → IsYearAnswered post variant text year → Answers variant (dating_of year tz local) text r
-    → InYear post variant text (λ y. Answers variant (dating_of y tz local) text r)
-answers_in post variant text tz local r year is h =
-    in_answered_year post variant text (λ y. Answers variant (dating_of y tz local) text r) year is
-    (λ never other a. any_answer variant text tz local None other r never a) h
 
 -- the answer to the date that the text asks a year of
 pub answered_to : (post : IncompleteDate → ℤ → Type 0) (variant : Variant) (text : Text) (asked : Option IncompleteDate)

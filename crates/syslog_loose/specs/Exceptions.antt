@@ -31,15 +31,24 @@ abbrev pub HasNoColon : ProcId Text → Type 0
 HasNoColon (PID n) = ⊤
 HasNoColon (Name t) = Each is_no_colon t
 
+-- the host is neither the text of an absent one nor taken for the one after the names, and no name of a process is cut
+pub record HasQuietNames (host : Option Text) (process : Option (ProcId Text)) : Type 0 where
+  pub no_dash : IfSome host (λ h. h ≢ dash)
+  pub no_last_colon : IfSome host (λ h. EndsInColon h → ⊥)
+  pub no_colon : IfSome process HasNoColon
+
 -- The message has none of the exceptions, which are: a timestamp that its printed text does not have; a host `-`,
 -- which is the text of an absent one; a host that ends in a colon, which is taken for the one behind the names; a
 -- process name with a colon, at which the name before it is cut; and with no element a message that begins with a list.
 pub record HasNoException (rule : DashRule) (m : MessageValue) : Type 0 where
-  pub canonical_timestamp : IfSome m.timestamp IsCanonicalStamp
-  pub host_is_no_dash : IfSome m.hostname (λ h. h ≢ dash)
-  pub host_ends_in_no_colon : IfSome m.hostname (λ h. EndsInColon h → ⊥)
-  pub process_has_no_colon : IfSome m.procid HasNoColon
-  pub message_is_no_list : m.structured_data ≡ [] → BeginsNoList rule m.msg
+  pub timestamp : IfSome m.timestamp IsCanonicalStamp
+  pub names : HasQuietNames m.hostname m.procid
+  pub no_list : m.structured_data ≡ [] → BeginsNoList rule m.msg
+
+-- it has none of them before its message part
+pub record HasNoNameException (m : MessageValue) : Type 0 where
+  pub timestamp : IfSome m.timestamp IsCanonicalStamp
+  pub names : HasQuietNames m.hostname m.procid
 
 -- ---- all else
 

@@ -22,15 +22,6 @@ abbrev pub printed_number : Option ℕ → ℕ
 printed_number pri = option_map_or facility_number (option_and_then facility_of pri) 5 * 8
     + option_map_or severity_number (option_and_then severity_of pri) 7
 
--- a priority
-abbrev pub priority_field : Format
-priority_field = record {
-  reads = optional priority;
-  print = λ pri. priority_text (printed_number pri);
-  ReadsBack = λ pri. IfSome pri (λ n. n < 192);
-  Before = λ q. Unit {0};
-}
-
 -- a version
 abbrev pub version_number : Format
 version_number = record {
@@ -69,25 +60,6 @@ word_field = name_field word name_text (λ v. IfSome v IsCanonicalWord)
 abbrev pub process_field : Format
 process_field =
     name_field process_word process_text (λ v. IfSome v IsCanonicalProcess × IfSome v IsBoundedProcess)
-
--- elements, or `-`
-abbrev pub elements_field : Format
-elements_field = record {
-  reads = forgiving;
-  print = elements_text;
-  ReadsBack = λ es. AllByRecursion IsCanonicalElement es;
-  Before = λ q. NoFront item q;
-}
-
--- from the priority up to the timestamp
-abbrev pub front_fields : List Format
-front_fields = priority_field ∷ version_number ∷ space ∷ []
-
--- from behind the timestamp to behind the elements, before which there may be no blank
-abbrev pub tail_fields : List Format
-tail_fields =
-    space ∷ host_field ∷ space ∷ word_field ∷ space ∷ process_field ∷ space ∷ word_field
-    ∷ blanks_field (run is_blank) ∷ elements_field ∷ []
 
 -- from the version up to the space before the elements
 abbrev pub fields : List Format

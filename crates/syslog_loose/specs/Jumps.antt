@@ -5,9 +5,8 @@ use Rattle.std.specs.Str.{chars}
 use Rattle.syslog_pieces.specs.Pieces.Class.{Text, Each, Ends}
 use Rattle.syslog_pieces.specs.Pri.{facility_of, severity_of}
 use Rattle.syslog_pieces.specs.StructuredData.Element.{ElementValue, joined_elements}
-use Rattle.syslog_pieces.specs.Text.{is_blank, dash, EndsInColon}
+use Rattle.syslog_pieces.specs.Text.{is_blank, EndsInColon}
 use Rattle.syslog_pieces.specs.Timestamp.Canonical.{IsCanonicalStamp}
-use Rattle.syslog_loose.specs.Exceptions.{HasNoColon}
 use Rattle.syslog_loose.specs.Message.{MessageValue}
 use Rattle.syslog_loose.specs.Printed.{priority_of}
 use Rattle.syslog_loose.specs.declared.message.Protocol.TheVariants.{RFC3164}
@@ -63,13 +62,6 @@ pub record CutsColons (name host : List ℕ) (n : ℕ) : Type 0 where
 
 -- ---- a message part of dashes
 
--- none of the exceptions that a message may have before its message part
-pub record HasNoNameException (m : MessageValue) : Type 0 where
-  pub timestamp : IfSome m.timestamp IsCanonicalStamp
-  pub no_dash : IfSome m.hostname (λ h. h ≡ dash → ⊥)
-  pub no_last_colon : IfSome m.hostname (λ h. EndsInColon h → ⊥)
-  pub no_colon : IfSome m.procid HasNoColon
-
 -- the text is a dash, blanks and then this, which begins with no blank
 pub record IsDashed (text behind : Text) : Type 0 where
   pub blanks : Text
@@ -86,15 +78,4 @@ PassesDashes (suc n) text behind = (before : Text) × PassesDashes n text before
 
 -- the message with this message part
 abbrev pub with_msg : MessageValue → Text → MessageValue
-with_msg m text = record {
-  protocol = m.protocol;
-  facility = m.facility;
-  severity = m.severity;
-  timestamp = m.timestamp;
-  hostname = m.hostname;
-  appname = m.appname;
-  procid = m.procid;
-  msgid = m.msgid;
-  structured_data = m.structured_data;
-  msg = text;
-}
+with_msg m text = record m { msg = text }

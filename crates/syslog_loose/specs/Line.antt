@@ -11,7 +11,7 @@ use Rattle.syslog_pieces.specs.Timestamp.{stamp_seen}
 use Rattle.syslog_pieces.specs.Timestamp.Canonical.{IsCanonicalStamp}
 use Rattle.syslog_loose.specs.Exceptions.{HasNoException}
 use Rattle.syslog_loose.specs.Message.{MessageValue}
-use Rattle.syslog_loose.specs.Printed.{elements_text, name_text, process_text, spaced_elements, tag_text}
+use Rattle.syslog_loose.specs.Printed.{rest_text}
 use Rattle.syslog_loose.specs.Reading.{dash_rule}
 use Rattle.syslog_loose.specs.declared.line.Line.{Line}
 use Rattle.syslog_loose.specs.declared.message.Protocol.{Protocol}
@@ -36,22 +36,6 @@ line_value line = record {
   structured_data = list_elements line.list;
   msg = shown line.msg;
 }
-
--- what is printed of a message of RFC 5424 after its timestamp
-abbrev pub rest_5424 : MessageValue → Text
-rest_5424 m =
-    32 ∷ (name_text m.hostname ++ (32 ∷ (name_text m.appname ++ (32 ∷ (process_text m.procid
-    ++ (32 ∷ (name_text m.msgid ++ (32 ∷ (elements_text m.structured_data ++ (32 ∷ m.msg))))))))))
-
--- and of one of RFC 3164
-abbrev pub rest_3164 : MessageValue → Text
-rest_3164 m =
-    32 ∷ (name_text m.hostname ++ (32 ∷ (tag_text m.appname m.procid
-    ++ (spaced_elements m.structured_data ++ m.msg))))
-
--- what is printed of a message after its timestamp
-abbrev pub rest_text : MessageValue → Text
-rest_text m = elim m.protocol [ RFC5424 version ↦ rest_5424 m | RFC3164 ↦ rest_3164 m ]
 
 -- Where the line says so, all after its timestamp is already in printed form; and then what RFC 3164 read of it has no
 -- quirk but perhaps its timestamp.

@@ -35,18 +35,31 @@ tag_text (Some a) (Some p) = a ++ (91 ∷ (procid_text p ++ (93 ∷ 58 ∷ 32 �
 abbrev pub priority_of : MessageValue → ℕ
 priority_of m = option_map_or facility_number m.facility 5 * 8 + option_map_or severity_number m.severity 7
 
+-- what is printed of a message of RFC 5424 after its timestamp
+abbrev pub rest_5424 : MessageValue → Text
+rest_5424 m =
+    32 ∷ (name_text m.hostname ++ (32 ∷ (name_text m.appname ++ (32 ∷ (process_text m.procid
+    ++ (32 ∷ (name_text m.msgid ++ (32 ∷ (elements_text m.structured_data ++ (32 ∷ m.msg))))))))))
+
+-- and of one of RFC 3164
+abbrev pub rest_3164 : MessageValue → Text
+rest_3164 m =
+    32 ∷ (name_text m.hostname ++ (32 ∷ (tag_text m.appname m.procid
+    ++ (spaced_elements m.structured_data ++ m.msg))))
+
+-- what is printed of a message after its timestamp
+abbrev pub rest_text : MessageValue → Text
+rest_text m = elim m.protocol [ RFC5424 version ↦ rest_5424 m | RFC3164 ↦ rest_3164 m ]
+
 -- `<priority>version timestamp host app process id elements msg`
 unfoldable pub printed_5424 : ℕ → MessageValue → Text
 printed_5424 version m =
-    60 ∷ (decimal (priority_of m) ++ (62 ∷ (decimal version ++ (32 ∷ (timestamp_text m.timestamp
-    ++ (32 ∷ (name_text m.hostname ++ (32 ∷ (name_text m.appname ++ (32 ∷ (process_text m.procid
-    ++ (32 ∷ (name_text m.msgid ++ (32 ∷ (elements_text m.structured_data ++ (32 ∷ m.msg))))))))))))))))
+    60 ∷ (decimal (priority_of m) ++ (62 ∷ (decimal version ++ (32 ∷ (timestamp_text m.timestamp ++ rest_5424 m)))))
 
 -- `<priority> timestamp host app[process]: elements msg`, without the message id
 unfoldable pub printed_3164 : MessageValue → Text
 printed_3164 m =
-    60 ∷ (decimal (priority_of m) ++ (62 ∷ 32 ∷ (timestamp_text m.timestamp ++ (32 ∷ (name_text m.hostname
-    ++ (32 ∷ (tag_text m.appname m.procid ++ (spaced_elements m.structured_data ++ m.msg))))))))
+    60 ∷ (decimal (priority_of m) ++ (62 ∷ 32 ∷ (timestamp_text m.timestamp ++ rest_3164 m)))
 
 -- the printed text of a message
 abbrev pub printed : MessageValue → Text

@@ -9,7 +9,7 @@ use Rattle.syslog_pieces.specs.Timestamp.Zone.{Dating}
 use Rattle.syslog_pieces.specs.declared.timestamp.OffsetTimestamp.{OffsetTimestamp}
 use Rattle.syslog_pieces.specs.declared.timestamp.clock.ClockStamp.{ClockStamp}
 use Rattle.syslog_pieces.specs.Text.{EndsInColon, dash, is_blank}
-use Rattle.syslog_loose.specs.Exceptions.{HasNoColon}
+use Rattle.syslog_loose.specs.Exceptions.{HasQuietNames}
 use Rattle.syslog_loose.specs.Printed.{name_text, tag_text}
 use Rattle.syslog_loose.specs.Rfc3164.{Names3164, ReadsNames, names, stamped_row}
 use Rattle.syslog_loose.specs.TagForm.{IsForm}
@@ -35,15 +35,10 @@ IsBehindStamp dating text priority timestamp follows =
 abbrev pub fields_before : Names3164 → Text → Text
 fields_before n more = 32 ∷ (name_text n.hostname ++ (32 ∷ (tag_text n.appname n.procid ++ more)))
 
--- the host is neither the text of an absent one nor taken for the one after the names, and no name of a process is cut
-pub record HasQuietNames (n : Names3164) : Type 0 where
-  pub no_dash : IfSome n.hostname (λ h. h ≢ dash)
-  pub no_last_colon : IfSome n.hostname (λ h. EndsInColon h → ⊥)
-  pub no_colon : IfSome n.procid HasNoColon
-
 -- The fields begin the text. Where they say so, they are in printed form, and then quiet.
 pub record FieldsAreRead (text : Text) (fields : Fields) : Type 0 where
   pub read : ReadsNames text (shown fields.rest) (names_value fields.names)
   pub ends : Ends is_blank (shown fields.rest)
   pub prints : IsTrue fields.are_printed → text ≡ fields_before (names_value fields.names) (shown fields.rest)
-  pub quiet : IsTrue fields.are_printed → HasQuietNames (names_value fields.names)
+  pub quiet : IsTrue fields.are_printed
+      → HasQuietNames (names_value fields.names).hostname (names_value fields.names).procid

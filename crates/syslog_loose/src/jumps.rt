@@ -58,17 +58,10 @@ fn write_past_dashes(text: &mut String, line: &Line<'_>) -> Result<(), AllocErro
         → OnOk result (IsLater variant dating input (line_value line.now) (chars (string_bytes text.new))) }
 {
     let later = Line {
-        version: line.version,
-        priority: line.priority,
-        timestamp: line.timestamp,
-        hostname: line.hostname,
-        appname: line.appname,
-        process: line.process,
-        msgid: line.msgid,
-        list: line.list,
         msg: msg_past_dashes(line),
         rest: "",
         is_printed: false,
+        ..*line
     };
     print_line(text, &later)
 }

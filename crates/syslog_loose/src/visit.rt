@@ -3,7 +3,9 @@
 //! A text is trimmed once, and its priority and its month date are read once: after a month date RFC 5424 is not tried,
 //! and where the date has no year the closure is asked.
 ghost use Rattle.std.specs.Prelude.{◌≡◌, [], IfSome, IsSome, MatchOption, None};
+ghost use Rattle.std.specs.Bool.{OnFalse};
 ghost use Rattle.std.specs.Str.{chars};
+ghost use Rattle.syslog_pieces.specs.Bodies.Looks.{EndsDigits};
 ghost use Rattle.syslog_pieces.specs.Pieces.Class.{Text};
 ghost use Rattle.syslog_pieces.specs.Pieces.View.{shown};
 ghost use Rattle.syslog_pieces.specs.StructuredData.Visited.{list_elements, Visits};
@@ -50,8 +52,37 @@ pub trait LineVisitor<'a> {
         ensures { makes self.old line.now result self.new };
 }
 
-// What is made of a line of RFC 5424, from after its priority on; none where the text is no such line.
+// Whether a digit begins the text, as a version does.
+#[inline(always)]
+fn begins_version(text: &str) -> bool
+    ensures { OnFalse result (EndsDigits text.now) }
+{
+    matches!(text.as_bytes(), [b'0'..=b'9', ..])
+}
+
+// What is made of a line of RFC 5424, from after its priority on; none where the text is no such line. Where no version
+// begins it, that is found before the call.
+#[inline(always)]
 fn visit_5424<'a, E: ElementVisitor<'a>, V: LineVisitor<'a>>(
+    priority: Option<u8>,
+    text: &'a str,
+    elements: &mut E,
+    visitor: &mut V,
+) -> Option<V::Answer>
+    ensures { (whole : Text) → IsBehindPriority (trimmed_text whole) priority (chars text.entry.now)
+        → MatchOption result
+        (IsNot5424 whole × (visitor.new ≡ visitor.old) × Visits E.was_given elements.old [] elements.new)
+        (λ made. (line : Line) × IsRead5424 whole (line_value line) × V.makes visitor.old line made visitor.new
+        × Visits E.was_given elements.old (list_elements line.list) elements.new) }
+{
+    if !begins_version(text) {
+        return None;
+    }
+    visit_versioned(priority, text, elements, visitor)
+}
+
+// The same, by a call.
+fn visit_versioned<'a, E: ElementVisitor<'a>, V: LineVisitor<'a>>(
     priority: Option<u8>,
     text: &'a str,
     elements: &mut E,
@@ -196,17 +227,8 @@ impl<'a> LineVisitor<'a> for Itself {
         ensures { (result ≡ line.now) × KnowsForm line.now }
     {
         Line {
-            version: line.version,
-            priority: line.priority,
-            timestamp: line.timestamp,
-            hostname: line.hostname,
-            appname: line.appname,
-            process: line.process,
-            msgid: line.msgid,
-            list: line.list,
-            msg: line.msg,
             rest: line.rest,
-            is_printed: line.is_printed,
+            ..*line
         }
     }
 }

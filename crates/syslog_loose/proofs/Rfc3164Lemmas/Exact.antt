@@ -168,11 +168,13 @@ module _ (rule : DashRule) (dating : Dating) (v : Values (rfc3164_row rule datin
       near_canonical rule m (
         record { facility = facility; severity = severity_beside v.0 facility; rest = near },
         record {
-          canonical_timestamp = canonical;
-          host_is_no_dash = no_dash_host n.hostname stays;
-          host_ends_in_no_colon = no_colon_host n.hostname stays;
-          process_has_no_colon = no_colon;
-          message_is_no_list = λ e. end_list rule v.1.1.1.1.1.1.1 e near.msg_front d8;
+          timestamp = canonical;
+          names = record {
+            no_dash = no_dash_host n.hostname stays;
+            no_last_colon = no_colon_host n.hostname stays;
+            no_colon = no_colon;
+          };
+          no_list = λ e. end_list rule v.1.1.1.1.1.1.1 e near.msg_front d8;
         },
       )
 

@@ -91,11 +91,13 @@ canonical_near rule m e (canonical, other) =
         };
       },
       record {
-        canonical_timestamp = canonical.timestamp;
-        host_is_no_dash = no_dash_host m.hostname canonical.hostname;
-        host_ends_in_no_colon = no_colon_host m.hostname canonical.hostname;
-        process_has_no_colon = no_colon_names m.hostname m.appname m.procid own.names;
-        message_is_no_list = own.no_list;
+        timestamp = canonical.timestamp;
+        names = record {
+          no_dash = no_dash_host m.hostname canonical.hostname;
+          no_last_colon = no_colon_host m.hostname canonical.hostname;
+          no_colon = no_colon_names m.hostname m.appname m.procid own.names;
+        };
+        no_list = own.no_list;
       },
     )
 
@@ -107,17 +109,17 @@ near_completed rule m f s facility severity near none = (
   record {
     facility = facility;
     severity = severity;
-    timestamp = none.canonical_timestamp;
-    hostname = canonical_host m.hostname near.hostname none.host_is_no_dash none.host_ends_in_no_colon;
+    timestamp = none.timestamp;
+    hostname = canonical_host m.hostname near.hostname none.names.no_dash none.names.no_last_colon;
     elements = near.elements;
     msg_front = near.msg_front;
     msg_end = near.msg_end;
   },
   rw near.protocol (record {
     msgid = near.msgid;
-    names = canonical_names m.hostname m.appname m.procid near.names none.process_has_no_colon;
+    names = canonical_names m.hostname m.appname m.procid near.names none.names.no_colon;
     elements = near.parameters;
-    no_list = none.message_is_no_list;
+    no_list = none.no_list;
   }),
 )
 

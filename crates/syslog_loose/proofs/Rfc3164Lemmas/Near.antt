@@ -32,7 +32,7 @@ use Rattle.syslog_pieces.proofs.TextLemmas.Verbatim as verbatim
 use Rattle.syslog_pieces.proofs.StructuredDataLemmas.ReadBack.{element_canonical}
 use Rattle.syslog_pieces.proofs.TimestampLemmas.RoundTrip.{stamp_text-canonical}
 use Rattle.syslog_loose.specs.Canonical.{IsVisible, IsCanonicalElement}
-use Rattle.syslog_loose.specs.Exceptions.{is_no_colon, HasNoColon, IsOddHost, IsInnerProcess, AreNamesButExceptions}
+use Rattle.syslog_loose.specs.Exceptions.{HasQuietNames, is_no_colon, HasNoColon, IsOddHost, IsInnerProcess, AreNamesButExceptions}
 use Rattle.syslog_loose.specs.Exceptions.{HasExceptionsAlone, IsNearlyCanonical, IsOfMonthDate}
 use Rattle.syslog_loose.specs.Message.{MessageValue}
 use Rattle.syslog_loose.specs.Printed.{tag_text}
@@ -40,7 +40,7 @@ use Rattle.syslog_loose.specs.Rfc3164.{Names3164, Resolves, names, stamped_row, 
 use Rattle.syslog_loose.specs.Rfc3164.{IsRead3164}
 use Rattle.syslog_loose.specs.TagForm.{form_row, IsForm}
 use Rattle.syslog_loose.specs.Rfc3164.{NamesProgram}
-use Rattle.syslog_loose.specs.View3164.{HasQuietNames, fields_before}
+use Rattle.syslog_loose.specs.View3164.{fields_before}
 use Rattle.syslog_loose.proofs.Rfc3164Lemmas.{of_names}
 use Rattle.syslog_loose.proofs.Rfc3164Lemmas.Shown.{shows}
 use Rattle.syslog_loose.proofs.TagFormLemmas.{one_form}
@@ -272,7 +272,7 @@ module _ {tail t u name : Text} {origin : Option Text} (f : Front (optional (spa
   -- what they mean is quiet
   fields_quiet : (app : Text) (process : Option (ProcId Text))
       → Resolves (Some origin) (Some (Some name)) (names origin (Some app) process)
-      → HasQuietNames (names origin (Some app) process)
+      → HasQuietNames origin process
   fields_quiet app process r =
       let near = near_names t (Some origin) (Some (Some name)) (names origin (Some app) process) r
       (host_field tail t (Some origin) f) (tag_field t u (Some (Some name)) g) in
@@ -283,7 +283,7 @@ module _ {tail t u name : Text} {origin : Option Text} (f : Front (optional (spa
       }
 
   abbrev FieldsKnown : Text → Names3164 → Type 0
-  FieldsKnown msg n = (tail ≡ fields_before n msg) × HasQuietNames n
+  FieldsKnown msg n = (tail ≡ fields_before n msg) × HasQuietNames n.hostname n.procid
 
   -- so where the text of a process is bare, all of them are in printed form and quiet
   pub fields_known : (msg : Text) (h a process : Option Text) → u ≡ 58 ∷ 32 ∷ msg

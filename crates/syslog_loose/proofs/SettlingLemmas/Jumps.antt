@@ -10,7 +10,8 @@ use Rattle.syslog_loose.proofs.Names.{rfc3164_row, IsRead3164, IsNext, Reaches, 
 use Rattle.syslog_pieces.specs.Pri.{facility_of, severity_of}
 use Rattle.syslog_pieces.proofs.PieceLemmas.Class.{row_cons, rows_join, rest_front, front_division, optional_some}
 use Rattle.syslog_pieces.proofs.StructuredDataLemmas.Rfc3164List.{dash_rfc3164_list}
-use Rattle.syslog_loose.specs.Jumps.{message_end, HasNoNameException}
+use Rattle.syslog_loose.specs.Jumps.{message_end}
+use Rattle.syslog_loose.specs.Exceptions.{HasNoNameException}
 use Rattle.syslog_loose.specs.Passes.{EndsOnce, IsLater, Prints}
 use Rattle.syslog_loose.specs.Printed.{printed_3164}
 use Rattle.syslog_loose.specs.declared.message.Protocol.TheVariants.{RFC3164}
@@ -123,7 +124,7 @@ module _ (variant : Variant) (dating : Dating) (text : Text) (m : MessageValue) 
       → IsRead variant dating (printed m) (read_with m (names_of m) rest)
   unfolding message_end
   dash_read rest none es d =
-      let canonical = canonical_names m.hostname m.appname m.procid near.names none.no_colon in
+      let canonical = canonical_names m.hostname m.appname m.procid near.names none.names.no_colon in
       let bounded : IfSome m.procid IsBoundedProcess = (read_bounded BeforeBlank dating text m first).procid in
       let behind : Text = d.blanks ++ rest in
       let list : Front (Row (from_blanks BeforeBlank)) (32 ∷ 45 ∷ behind) [] (tt, (Some [], (tt, (rest, tt)))) =
@@ -136,7 +137,7 @@ module _ (variant : Variant) (dating : Dating) (text : Text) (m : MessageValue) 
       behind_stamp (Some m.hostname, (program_field m.appname m.procid, (tt, (Some tt, from)))) (names_of m)
       none.timestamp
       (rows_join to_colon (from_blanks BeforeBlank) (names_back m.hostname m.appname m.procid tail
-      (canonical_host m.hostname near.hostname none.no_dash none.no_last_colon) canonical bounded)
+      (canonical_host m.hostname near.hostname none.names.no_dash none.names.no_last_colon) canonical bounded)
       (rw (es, d.whole) list))
       (resolved m.hostname m.appname m.procid canonical bounded)
 
@@ -182,7 +183,7 @@ module _ (variant : Variant) (dating : Dating) (input : Text) (m : MessageValue)
         → Known (suc n) (read_with y (names (Some h) None None) (58 ∷ tail_text y.structured_data y.msg))
     next_colons n y h k p s is o =
         next_known n y _ k refl (colon_read variant dating k.0 y k.1 p h s is o)
-        (λ none. none.host_ends_in_no_colon o)
+        (λ none. none.names.no_last_colon o)
 
     all_colons : (h : Text) (n : ℕ) → m.hostname ≡ Some (h ++ colons (suc n)) → EndsInColon h
         → Known (suc n) (past_colons m h n)
@@ -202,9 +203,9 @@ module _ (variant : Variant) (dating : Dating) (input : Text) (m : MessageValue)
           timestamp = refl;
           one_colon = λ canonical. once;
           host = λ none. absurd (odd none);
-          quiet = λ q. absurd (odd q.no_last_colon);
-          last_dash = λ q. absurd (odd q.no_last_colon);
-          no_dashes = λ q. absurd (odd q.no_last_colon);
+          quiet = λ q. absurd (odd q.names.no_last_colon);
+          last_dash = λ q. absurd (odd q.names.no_last_colon);
+          no_dashes = λ q. absurd (odd q.names.no_last_colon);
         })
 
   -- ---- rounds in which a message part loses its dashes
@@ -212,20 +213,14 @@ module _ (variant : Variant) (dating : Dating) (input : Text) (m : MessageValue)
       → y.structured_data ≡ [] → IsDashed y.msg u → IsDashed u next → Known (suc n) (read_with y (names_of y) u)
   next_dash n y u next k p none es d f =
       next_known n y _ k refl (dash_read variant dating k.0 y k.1 p u none es d)
-      (λ none. (none.message_is_no_list refl).0 (f.blanks ++ next) f.whole (dash_before f.blanks next f.some f.each))
+      (λ none. (none.no_list refl).0 (f.blanks ++ next) f.whole (dash_before f.blanks next f.some f.each))
 
   module _ (none : HasNoNameException m) (es : m.structured_data ≡ []) where
     more_dashes : (n : ℕ) (before u next : Text) → Known (suc n) (read_with m (names_of m) before) → IsDashed before u
         → IsDashed u next → Known (suc (suc n)) (read_with m (names_of m) u)
     more_dashes n before u next k d f =
-        let none' : HasNoNameException (read_with m (names_of m) before) = record {
-          timestamp = none.timestamp;
-          no_dash = none.no_dash;
-          no_last_colon = none.no_last_colon;
-          no_colon = none.no_colon;
-        } in
         rw (read_twice m (names_of m) u) at
-        (next_dash (suc n) (read_with m (names_of m) before) u next k refl none' refl d f)
+        (next_dash (suc n) (read_with m (names_of m) before) u next k refl (record { timestamp = none.timestamp; names = none.names }) refl d f)
 
     all_dashes : (n : ℕ) (u : Text) → PassesDashes (suc n) m.msg u → Known (suc n) (read_with m (names_of m) u)
     all_dashes zero u (before, is, d, next, f) = next_dash 0 m u next known e none es (rw is at d) f
@@ -252,12 +247,7 @@ module _ (variant : Variant) (dating : Dating) (input : Text) (m : MessageValue)
           timestamp = refl;
           one_colon = once;
           host = λ none. refl;
-          quiet = λ q. record {
-            timestamp = q.timestamp;
-            no_dash = q.no_dash;
-            no_last_colon = q.no_last_colon;
-            no_colon = q.no_colon;
-          };
+          quiet = λ q. record { timestamp = q.timestamp; names = q.names };
           last_dash = λ q es. last;
           no_dashes = λ q bare. absurd (let (next, d) = passes_dashed n m.msg u p in bare es next d);
         })

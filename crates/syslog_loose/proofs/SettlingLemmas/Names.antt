@@ -19,9 +19,8 @@ use Rattle.syslog_pieces.proofs.PieceLemmas.Class.{run_same, heads, division_fro
 use Rattle.syslog_pieces.proofs.PieceLemmas.Class.{spaced_front, no_spaced_space, no_spaced_piece}
 use Rattle.syslog_pieces.proofs.PieceLemmas.Each.{each_behind, each_append}
 use Rattle.syslog_loose.specs.Canonical.{IsVisible, IsCanonicalHost, AreCanonicalNames}
-use Rattle.syslog_loose.specs.Exceptions.{IsOddHost, AreNamesButExceptions}
+use Rattle.syslog_loose.specs.Exceptions.{IsOddHost, AreNamesButExceptions, HasQuietNames}
 use Rattle.syslog_loose.specs.TagForm.{form_row, IsNoForm}
-use Rattle.syslog_loose.specs.View3164.{HasQuietNames}
 use Rattle.syslog_loose.proofs.Rfc3164Lemmas.{resolves_once}
 use Rattle.syslog_loose.proofs.Rfc3164Lemmas.Exceptions.{canonical_names}
 use Rattle.syslog_loose.proofs.Rfc3164Lemmas.ReadBack.{program_field, resolved, no_tag_colon, names_back, tagged}
@@ -137,10 +136,10 @@ has_colon (c ∷ x) z = grind (arith, has_colon x z)
 
 -- ---- what is read
 
-quiet_names : (h a : Option Text) (p : Option (ProcId Text)) → IfSome h IsCanonicalHost → IfSome p HasNoColon
-    → HasQuietNames (names h a p)
-quiet_names None a p k q = record { no_dash = tt; no_last_colon = tt; no_colon = q }
-quiet_names (Some h) a p k q = record { no_dash = k.1; no_last_colon = k.2; no_colon = q }
+quiet_names : (h : Option Text) (p : Option (ProcId Text)) → IfSome h IsCanonicalHost → IfSome p HasNoColon
+    → HasQuietNames h p
+quiet_names None p k q = record { no_dash = tt; no_last_colon = tt; no_colon = q }
+quiet_names (Some h) p k q = record { no_dash = k.1; no_last_colon = k.2; no_colon = q }
 
 module _ (rule : DashRule) (t : Text) (n : Names3164) (vs : Values (body_row rule)) (r : Resolves vs.0 vs.1.0 n) where
   -- names that print the same and weigh no more, and behind their colon what was printed there
@@ -148,7 +147,7 @@ module _ (rule : DashRule) (t : Text) (n : Names3164) (vs : Values (body_row rul
     pub light : names_weight n.hostname n.procid ≤ names_weight h p
     pub host_is : name_text n.hostname ≡ name_text h
     pub tag_is : tag_text n.appname n.procid ≡ tag_text a p
-    pub quiet : HasQuietNames n
+    pub quiet : HasQuietNames n.hostname n.procid
     pub behind : Front (Row (from_blanks rule)) t [] vs.1.1.1.1
 
   -- the host without the colon that it ended in, or none
@@ -159,7 +158,7 @@ module _ (rule : DashRule) (t : Text) (n : Names3164) (vs : Values (body_row rul
   abbrev pub Moved : Option Text → Option (ProcId Text) → Type 0
   Moved h p = (names_weight n.hostname n.procid < names_weight h p)
       × ((v : ℕ) → ListWeighs rule (elements_or vs.1.1.1.1.1.0) vs.1.1.1.1.1.1.1.0 v → v ≡ 0)
-      × (((IfSome p HasNoColon → ⊥) × HasQuietNames n) ⊎ LosesColon h)
+      × (((IfSome p HasNoColon → ⊥) × HasQuietNames n.hostname n.procid) ⊎ LosesColon h)
 
   abbrev pub Step : Option Text → Option Text → Option (ProcId Text) → Type 0
   Step h a p = Stays h a p ⊎ Moved h p
@@ -183,7 +182,7 @@ module _ (rule : DashRule) (t : Text) (n : Names3164) (vs : Values (body_row rul
         light = rw e (omega arith);
         host_is = ap (λ (x : Names3164). name_text x.hostname) e;
         tag_is = ap (λ (x : Names3164). tag_text x.appname x.procid) e;
-        quiet = rw e (quiet_names h a p k q);
+        quiet = rw e (quiet_names h p k q);
         behind = behind;
       }
 
@@ -211,7 +210,7 @@ module _ (rule : DashRule) (t : Text) (n : Names3164) (vs : Values (body_row rul
       ] in (
         rw (is, tag_alone, has_colon x z) (omega arith),
         λ v. left_free rule q q vs.1.1.1.1 (no_blanks q no_blank) behind v (rw blank no_list),
-        inl (cut_colon p (x, z, is, free), rw tag_alone (quiet_names None (Some w) None tt tt)),
+        inl (cut_colon p (x, z, is, free), rw tag_alone (quiet_names None None tt tt)),
       )
 
   -- a host that leaves its colon to the message

@@ -10,9 +10,8 @@ use Rattle.syslog_pieces.proofs.PieceLemmas.Class.{division_front, front_same, r
 use Rattle.syslog_pieces.proofs.PieceLemmas.Steps.{step_value}
 use Rattle.syslog_pieces.proofs.TimestampLemmas.Rfc3164.{rfc3164_stamp_det}
 use Rattle.syslog_pieces.proofs.StructuredDataLemmas.Rfc3164List.{no_full_nil}
-use Rattle.syslog_loose.specs.Jumps.{HasNoNameException}
+use Rattle.syslog_loose.specs.Exceptions.{HasNoNameException, HasQuietNames}
 use Rattle.syslog_loose.specs.Passes.{BeginsNoDashes, EndsOnce, HasRank, Prints}
-use Rattle.syslog_loose.specs.View3164.{HasQuietNames}
 use Rattle.syslog_loose.proofs.Rfc3164Lemmas.Bounded.{read_bounded}
 use Rattle.syslog_loose.proofs.Rfc3164Lemmas.Near.{read_near}
 use Rattle.syslog_loose.proofs.Rfc3164Lemmas.Printed.{printed_is}
@@ -83,19 +82,14 @@ module _ (dating : Dating) (m : MessageValue) (near : HasExceptionsAlone m) (bou
       (step (rfc3164_stamp dating) (body_row BeforeBlank) (rfc3164_stamp_det dating)
       (stamp_back dating m.timestamp (behind_space m) k) stamped)
 
-  quiet_so : HasQuietNames s.means.0 → HasNoNameException n
-  quiet_so q = rw s.means.2 (record {
-    timestamp = stamp_after m.timestamp stamped;
-    no_dash = q.no_dash;
-    no_last_colon = q.no_last_colon;
-    no_colon = q.no_colon;
-  })
+  quiet_so : HasQuietNames s.means.0.hostname s.means.0.procid → HasNoNameException n
+  quiet_so q = rw s.means.2 (record { timestamp = stamp_after m.timestamp stamped; names = q })
 
   host_falls : IfSome m.timestamp IsCanonicalStamp → IfSome m.hostname EndsOnce
       → IfSome n.hostname (λ h. EndsInColon h → ⊥)
   host_falls k once = elim (named k) [
-    | inl stays ↦ (quiet_so stays.quiet).no_last_colon
-    | inr (_, _, inl (_, quiet)) ↦ (quiet_so quiet).no_last_colon
+    | inl stays ↦ (quiet_so stays.quiet).names.no_last_colon
+    | inr (_, _, inl (_, quiet)) ↦ (quiet_so quiet).names.no_last_colon
     | inr (_, _, inr (x, is, host)) ↦ rw s.means.2 (host_is s.means.0.hostname x host ((rw is at once) x refl))
   ]
 
@@ -126,8 +120,8 @@ module _ (dating : Dating) (m : MessageValue) (near : HasExceptionsAlone m) (bou
   part : HasNoNameException m → Part
   part q = elim (named q.timestamp) [
     | inl stays ↦ rw s.means.2 (part_of m.structured_data refl stays.behind)
-    | inr (_, _, inl (cut, _)) ↦ absurd (cut q.no_colon)
-    | inr (_, _, inr (x, is, _)) ↦ absurd ((rw is at q.no_last_colon) (x, refl))
+    | inr (_, _, inl (cut, _)) ↦ absurd (cut q.names.no_colon)
+    | inr (_, _, inr (x, is, _)) ↦ absurd ((rw is at q.names.no_last_colon) (x, refl))
   ]
 
   no_list : HasNoNameException m → BeginsNoDashes m → n.structured_data ≡ [] → BeginsNoList dash_rule n.msg
@@ -157,16 +151,10 @@ module _ (dating : Dating) (m : MessageValue) (near : HasExceptionsAlone m) (bou
   pub rank_falls : (x : MessageValue) (k : ℕ) → Prints x m → HasRank (suc k) x → HasRank k n
   rank_falls x zero p (quiet, bare) =
       let q = p.quiet quiet in
-      let z = quiet_falls q.timestamp q.no_last_colon in
-      record {
-        canonical_timestamp = z.timestamp;
-        host_is_no_dash = z.no_dash;
-        host_ends_in_no_colon = z.no_last_colon;
-        process_has_no_colon = z.no_colon;
-        message_is_no_list = no_list q (p.no_dashes quiet bare);
-      }
+      let z = quiet_falls q.timestamp q.names.no_last_colon in
+      record { timestamp = z.timestamp; names = z.names; no_list = no_list q (p.no_dashes quiet bare) }
   rank_falls x (suc zero) p quiet =
-      let q = p.quiet quiet in (quiet_falls q.timestamp q.no_last_colon, no_dashes q (p.last_dash quiet))
+      let q = p.quiet quiet in (quiet_falls q.timestamp q.names.no_last_colon, no_dashes q (p.last_dash quiet))
   rank_falls x (suc (suc zero)) p (stamp, host) = quiet_falls (rw p.timestamp stamp) (rw (p.host host) host)
   rank_falls x (suc (suc (suc zero))) p stamp = (canonical, host_falls (rw p.timestamp stamp) (p.one_colon stamp))
   rank_falls x (suc (suc (suc (suc zero)))) p h = canonical

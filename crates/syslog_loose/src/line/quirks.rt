@@ -10,7 +10,6 @@ ghost use Rattle.syslog_pieces.specs.StructuredData.Rfc3164List.{BeginsNoList};
 ghost use Rattle.syslog_pieces.specs.StructuredData.Visited.{list_elements};
 ghost use Rattle.syslog_pieces.specs.Text.{EndsInColon, dash};
 ghost use Rattle.syslog_loose.specs.Exceptions as spec;
-ghost use Rattle.syslog_loose.specs.Jumps.{HasNoNameException};
 ghost use Rattle.syslog_loose.specs.Line.{line_value};
 ghost use Rattle.syslog_loose.specs.Reading.{dash_rule};
 
@@ -31,7 +30,7 @@ pub(crate) fn has_no_quirk(line: &Line<'_>) -> bool
 
 /// Whether it has none before its message part.
 pub(crate) fn has_quiet_names(line: &Line<'_>) -> bool
-    ensures { IsTrue result ↔ HasNoNameException (line_value line.now) }
+    ensures { IsTrue result ↔ spec.HasNoNameException (line_value line.now) }
 {
     if !is_canonical_clock(line.timestamp) {
         return false;

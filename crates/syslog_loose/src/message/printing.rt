@@ -6,7 +6,6 @@ ghost use Rattle.std.specs.Str.{encode_utf8_all};
 ghost use Rattle.syslog_pieces.specs.Pieces.View.{text_of};
 ghost use Rattle.syslog_pieces.specs.ProcId.{procid_value};
 ghost use Rattle.syslog_pieces.specs.StructuredData.Element.{element_value};
-ghost use Rattle.syslog_pieces.specs.Timestamp.{stamp_seen};
 ghost use Rattle.syslog_loose.specs.Formats.{printed_number};
 ghost use Rattle.syslog_loose.specs.Printed as spec;
 
@@ -17,7 +16,7 @@ use syslog_pieces::as_str::AsStr;
 use syslog_pieces::pri::parts;
 use syslog_pieces::procid::ProcId;
 use syslog_pieces::structured_data::StructuredElement;
-use syslog_pieces::timestamp::{ClockStamp, OffsetTimestamp};
+use syslog_pieces::timestamp::OffsetTimestamp;
 
 /// The composed priority of a message that is read behind this one.
 #[inline(always)]
@@ -61,21 +60,6 @@ pub(crate) fn write_timestamp<W: fmt::Write>(
             stamp.fmt(f)
         }
         None => f.write_str(" -"),
-    }
-}
-
-/// Writes a timestamp that was read.
-#[inline(always)]
-pub(crate) fn write_clock<W: fmt::Write>(
-    f: &mut fmt::Formatter<W>,
-    timestamp: Option<ClockStamp>,
-) -> fmt::Result
-    ensures { WritesOnOk W.write_str_gives f.old result
-        (encode_utf8_all (spec.timestamp_text (stamp_seen timestamp))) f.new }
-{
-    match timestamp {
-        Some(stamp) => stamp.fmt(f),
-        None => f.write_str("-"),
     }
 }
 

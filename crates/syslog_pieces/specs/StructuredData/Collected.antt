@@ -5,7 +5,7 @@ use Rattle.syslog_pieces.specs.Pieces.Class.{Text}
 use Rattle.syslog_pieces.specs.Pieces.View.{shown}
 use Rattle.syslog_pieces.specs.StructuredData.Element.{ElementValue, element_value, param_value}
 use Rattle.syslog_pieces.specs.declared.structured_data.collect.Collect.{Collect}
-use Rattle.syslog_pieces.specs.declared.structured_data.collect.FewParams.{FewParams}
+use Rattle.syslog_pieces.specs.declared.structured_data.few_params.FewParams.{FewParams}
 
 -- the first of these parameters were noted; all of them, where space is left
 pub record HasNoted (notes : FewParams) (ps : List (Text × Text)) : Type 0 where

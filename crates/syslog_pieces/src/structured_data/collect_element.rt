@@ -6,7 +6,7 @@ ghost use Rattle.syslog_pieces.specs.StructuredData.Element.{element_value, para
 ghost use Rattle.syslog_pieces.specs.StructuredData.Visited.{element_seen};
 
 use super::StructuredElement;
-use super::collect::FewParams;
+use super::few_params::FewParams;
 use super::recognised::Element;
 use std::alloc::{AllocError, Global};
 

@@ -47,15 +47,11 @@ returns-clause-form g c = elim c.if-fields.branch [
             ∙ ap (λ (x : Text). fields_before (names_value c.read_fields-fields.result.names) x)
             (sym (ap (λ (es : List ElementValue). spaced_elements es ++ shown c.blanks.result)
             (same ∙ (no_list list (after e)).0) ∙ msg e));
-        quiet = λ e none canonical.
-            (let quiet = fields.quiet w.if-fields.true in
-            record {
-              canonical_timestamp = canonical;
-              host_is_no_dash = quiet.no_dash;
-              host_ends_in_no_colon = quiet.no_last_colon;
-              process_has_no_colon = quiet.no_colon;
-              message_is_no_list = λ none. rw (msg e) (begins_no_list dash_rule _ (no_list list (after e)).1);
-            });
+        quiet = λ e none canonical. record {
+          timestamp = canonical;
+          names = fields.quiet w.if-fields.true;
+          no_list = λ none. rw (msg e) (begins_no_list dash_rule _ (no_list list (after e)).1);
+        };
       })
   | else-fields w ↦ record {
     utf8 = c.utf8.text;

@@ -6,8 +6,9 @@ use Rattle.syslog_pieces.specs.Pieces.View.{seen, shown}
 use Rattle.syslog_pieces.specs.Text.{is_blank, colon}
 use Rattle.syslog_pieces.proofs.PieceLemmas.Rows.{row_of, ◌then◌}
 use Rattle.syslog_pieces.proofs.TextLemmas.Chars.{one_ascii, text_is}
+use Rattle.syslog_loose.specs.Exceptions.{HasQuietNames}
 use Rattle.syslog_loose.specs.Rfc3164.{fields_row}
-use Rattle.syslog_loose.specs.View3164.{HasQuietNames, fields_before, names_value}
+use Rattle.syslog_loose.specs.View3164.{fields_before, names_value}
 use Rattle.syslog_loose.proofs.Rfc3164Lemmas.Near.{fields_known}
 use Rattle.syslog_loose.proofs.rfc3164.read_fields.Goals as goal
 
@@ -24,7 +25,7 @@ returns g c =
     let names = c.resolve-names.result in
     let rest = shown c.blanks-rest.result in
     let known : c.are_all-are_printed.result ≡ true → (chars c.args.text.now ≡ fields_before (names_value names) rest)
-    × HasQuietNames (names_value names) = λ e.
+    × HasQuietNames (names_value names).hostname (names_value names).procid = λ e.
     (let (there, (bare, (gap, _))) = c.are_all-are_printed.ensures e in
     let (origin, name, is_origin, is_name) = c.are_there.ensures there in
     let ascii = IsAscii-cons 58 (32 ∷ []) (omega arith) (one_ascii 32 (omega arith)) in

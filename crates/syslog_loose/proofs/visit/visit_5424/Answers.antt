@@ -1,8 +1,16 @@
-use Rattle.std.proofs.Common.{refl}
+use Rattle.std.proofs.Common.{inl, refl}
+use Rattle.syslog_pieces.proofs.PieceLemmas.Class.{rows_none_here}
+use Rattle.syslog_pieces.proofs.PieceLemmas.Rows.{no_row, ◌past◌}
+use Rattle.syslog_pieces.proofs.StructuredDataLemmas.Listed.{visits_none}
+use Rattle.syslog_pieces.proofs.TextLemmas.Looks.{no_number}
+use Rattle.syslog_loose.specs.Rfc5424.{data_row, header_row}
+use Rattle.syslog_loose.proofs.Rfc5424Lemmas.{header_det, not_read}
 use Rattle.syslog_loose.proofs.visit.visit_5424.Goals as goal
 
-pub returns-in_default : goal.returns-in_default
-returns-in_default g c whole f = (c.in_default.ensures.reads whole f, refl, c.in_default.ensures.visited)
-
-pub returns : goal.returns
-returns g c whole f = (c.in-Some.line, c.in-Some.ensures.reads whole f, c.line.ensures, c.in-Some.ensures.visited)
+pub returns-then-not-begins_version : goal.returns-then-not-begins_version
+returns-then-not-begins_version g c whole f =
+    let none = no_number 4294967295 _ c.utf8.text c.if-not-begins_version.ensures in (
+      not_read whole _ refl (rows_none_here header_row data_row (no_row header_row header_det (f past inl none))),
+      refl,
+      visits_none g.E.ElementVisitor.was_given c.args.elements.now,
+    )

@@ -4,7 +4,8 @@ use Rattle.std.proofs.lemmas.Str.{encodes-chars}
 use Rattle.std.specs.Bool.{if◌then◌else◌}
 use Rattle.std.specs.Result.{is_ok}
 use Rattle.std.specs.Str.{encode_utf8_all}
-use Rattle.syslog_loose.specs.Line.{line_value, rest_text}
+use Rattle.syslog_loose.specs.Line.{line_value}
+use Rattle.syslog_loose.specs.Printed.{rest_text}
 use Rattle.syslog_loose.specs.Printed.{printed}
 use Rattle.syslog_loose.proofs.PrintedLineLemmas.{printed_line}
 use Rattle.syslog_loose.proofs.line.printing.print_line.Goals as goal

@@ -6,12 +6,6 @@ pub returns : goal.returns
 returns c =
     let names = c.if-not-has_quiet_names.ensures.0 refl in
     let list = c.begins_no_list.ensures (list_elements c.args.line.now.list) c.is_empty.ensures in (
-      (λ h. record {
-        canonical_timestamp = names.timestamp;
-        host_is_no_dash = names.no_dash;
-        host_ends_in_no_colon = names.no_last_colon;
-        process_has_no_colon = names.no_colon;
-        message_is_no_list = list.0 h;
-      }),
-      (λ k. list.1 k.message_is_no_list),
+      (λ h. record { timestamp = names.timestamp; names = names.names; no_list = list.0 h }),
+      (λ k. list.1 k.no_list),
     )

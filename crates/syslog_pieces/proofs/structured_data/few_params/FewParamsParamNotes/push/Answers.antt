@@ -2,7 +2,7 @@ use Rattle.syslog_pieces.proofs.Names.{arith, ℕ, Bor, subst, ◌≡◌, ◌<�
 use Rattle.syslog_pieces.proofs.Names.{map-append, take_all, length-append, param_value, shown}
 use Rattle.std.proofs.lemmas.List.{take_more_set}
 use Rattle.syslog_pieces.proofs.StructuredDataLemmas.Walk.{one_more}
-use Rattle.syslog_pieces.proofs.structured_data.collect.FewParamsParamNotes.push.Goals as goal
+use Rattle.syslog_pieces.proofs.structured_data.few_params.FewParamsParamNotes.push.Goals as goal
 
 pub returns-then-self-lt-NOTED : goal.returns-then-self-lt-NOTED
 returns-then-self-lt-NOTED c ps h =

@@ -1,0 +1,65 @@
+//! The first parameters of an element, noted while the element is recognised.
+ghost use Rattle.std.specs.Prelude.{◌≡◌, ◌≤◌, length};
+
+use super::recognised::Element;
+use super::visit::ParamNotes;
+
+/// How many parameters of an element are noted, so that they need no second walk. Space for them is cleared once for
+/// each list, at four instructions a parameter.
+const NOTED: usize = 8;
+
+/// The first parameters of an element.
+#[derive(Drop)]
+pub struct FewParams<'a> {
+    params: [(&'a str, &'a str); 8],
+    count: usize,
+    ghost within: { count ≤ 8 },
+    ghost sized: { length params ≡ 8 },
+}
+
+impl<'a> FewParams<'a> {
+    ghost use Rattle.std.specs.Prelude.{IfSome, map};
+    ghost use Rattle.syslog_pieces.specs.Pieces.View.{shown};
+    ghost use Rattle.syslog_pieces.specs.StructuredData.Collected.{HasNoted};
+    ghost use Rattle.syslog_pieces.specs.StructuredData.Element.{param_value};
+    ghost use Rattle.syslog_pieces.specs.StructuredData.Visited.{element_seen};
+
+    /// Returns the parameters of the element, where all of them were noted.
+    #[inline(always)]
+    pub fn all_of(&self, element: &Element<'a>) -> Option<&[(&'a str, &'a str)]>
+        requires { HasNoted self.now (element_seen element.now).params }
+        ensures { IfSome result (λ ps. map (param_value (λ s. shown s)) ps.now ≡ (element_seen element.now).params) }
+    {
+        if self.count < element.params_len() {
+            return None;
+        }
+        Some(&self.params[..self.count])
+    }
+}
+
+impl<'a> ParamNotes<'a> for FewParams<'a> {
+    ghost use Rattle.syslog_pieces.specs.StructuredData.Collected.{HasNoted};
+
+    ghost noted = { λ notes ps. HasNoted notes ps };
+
+    #[inline(always)]
+    fn new() -> FewParams<'a> {
+        FewParams {
+            params: [("", ""); NOTED],
+            count: 0,
+        }
+    }
+
+    #[inline(always)]
+    fn clear(&mut self) {
+        self.count = 0;
+    }
+
+    #[inline(always)]
+    fn push(&mut self, name: &'a str, value: &'a str) {
+        if self.count < NOTED {
+            self.params[self.count] = (name, value);
+            self.count += 1;
+        }
+    }
+}
