@@ -1,19 +1,36 @@
 -- What the call wrote for a line, by the dating of the line.
-use Rattle.std.proofs.Common.{◌≡◌, Result, Ok, Err}
+use Rattle.std.proofs.Common.{◌≡◌, ◌⊎◌, inl, inr, ℤ, Result, Ok, Err, refl, sym, ◌∙◌}
 use Rattle.std.specs.Prelude.{MatchResult}
 use Rattle.syslog_pieces.specs.Pieces.Class.{Text}
-use Rattle.syslog_loose.specs.Reading.{IsUnreadable}
+use Rattle.jiff.specs.Words.{plain_zone}
+use Rattle.syslog_loose.specs.Reading.{InYear, IncompleteDate, IsUnreadable}
+use Rattle.syslog_loose.specs.Reckoning.{dating_in, reckoned_year}
 use Rattle.syslog_loose.specs.declared.fault.ParseFault.{ParseFault}
 use Rattle.syslog_loose.specs.declared.fault.ParseFault.TheVariants.{Invalid}
 use Rattle.syslog_loose.specs.declared.variant.Variant.TheVariants.{Either}
-use Rattle.syslog_loose.proofs.ReadingLemmas.{in_year_map}
-use Rattle.syslog_strict.specs.Call.{Converts, IsConvertedText}
-use Rattle.syslog_5424.specs.Conversions.{IsDated}
+use Rattle.syslog_loose.proofs.ReadingLemmas.{in_year_map, in_year_told, invalid_or_memory}
+use Rattle.syslog_strict.specs.Call.{Converts, Copies, IsConvertedText}
+use Rattle.syslog_strict.specs.Grammar.{IsSyslogMsg}
+use Rattle.syslog_5424.specs.Conversions.{IsDated, IsWritten}
 use Rattle.syslog_5424.specs.declared.options.Options.{Options}
 
+-- the text of a conversion is in the grammar
+strict_dated : (options : Options) (input text : Text) → IsDated options input (λ dating. IsConvertedText Either dating input text)
+    → IsSyslogMsg text
+strict_dated options input text h = (h.holds h.answered (λ date asks. refl)).strict
+
 pub told : (options : Options) (input text : Text) (r : Result (Unit {0}) ParseFault)
-    → IsDated options input (λ dating. Converts Either dating input r text)
-    → MatchResult r (λ _. IsDated options input (λ dating. IsConvertedText Either dating input text))
+    → Copies input r text ⊎ IsDated options input (λ dating. Converts Either dating input r text)
+    → MatchResult r (λ _. IsSyslogMsg text × IsWritten options input text)
     (λ fault. fault ≡ Invalid → IsDated options input (λ dating. IsUnreadable Either dating input))
-told options input text (Ok x) h = h
-told options input text (Err fault) h = λ e. in_year_map (λ year iff. iff.0 e) h
+told options input text (Ok x) (inl (valid, e)) = (rw e valid, inl (valid, e))
+told options input text (Ok x) (inr h) = (strict_dated options input text h, inr h)
+told options input text (Err fault) (inl (valid, memory)) = λ invalid. absurd (invalid_or_memory (sym memory ∙ invalid))
+told options input text (Err fault) (inr h) = λ e. in_year_map (λ year iff. iff.0 e) h
+
+pub told_copied : (post : IncompleteDate → ℤ → Type 0) (options : Options) (input text : Text) (r : Result (Unit {0}) ParseFault)
+    → Copies input r text ⊎ InYear post Either input (λ year. Converts Either (dating_in (plain_zone options.zone) year) input r text)
+    → ((date : IncompleteDate) (year : ℤ) → post date year → year ≡ reckoned_year options.year options.month date)
+    → Copies input r text ⊎ IsDated options input (λ dating. Converts Either dating input r text)
+told_copied post options input text r (inl copied) tells = inl copied
+told_copied post options input text r (inr h) tells = inr (in_year_told h tells)

@@ -7,9 +7,9 @@ ghost use Rattle.syslog_loose.specs.Reckoning.{reckoned_year};
 ghost use Rattle.syslog_loose.specs.declared.fault.ParseFault.TheVariants.{Invalid};
 ghost use Rattle.syslog_loose.specs.declared.variant.Variant.TheVariants.{Either};
 ghost use Rattle.syslog_lines.specs.Pump.{EndsEarly, FailedAs};
-ghost use Rattle.syslog_strict.specs.Call.{IsConvertedText};
+ghost use Rattle.syslog_strict.specs.Grammar.{IsSyslogMsg};
 ghost use Rattle.syslog_strict.specs.Pushing.{text_in};
-ghost use Rattle.syslog_5424.specs.Conversions.{ConvertsAll, IsDated, conversions};
+ghost use Rattle.syslog_5424.specs.Conversions.{ConvertsAll, IsDated, IsWritten, conversions};
 
 use crate::options::Options;
 use std::alloc::{AllocError, Global};
@@ -19,10 +19,11 @@ use syslog_lines::{LineFilter, RunFault, Summary, Watched, push_line};
 use syslog_loose::{IncompleteDate, ParseFault, Variant, reckon_year};
 use syslog_strict::to_rfc5424_into;
 
-/// Reads lines to the end of the input, and writes each that parses as RFC 5424, read by the options. A line that does
-/// not parse, or is no UTF-8, is left out and counted as refused.
+/// Reads lines to the end of the input, and writes each as RFC 5424, read by the options: a line that is in the grammar
+/// as it came, and otherwise its message, converted. A line that is neither in the grammar nor parses, or is no UTF-8, is
+/// left out and counted as refused.
 ///
-/// Each line written is in the grammar of RFC 5424, and whoever reads it reads the converted message. The output of each
+/// Each line written is in the grammar of RFC 5424, and whoever reads a converted one reads the converted message. The output of each
 /// block of input is written before more is read, and the writer is flushed at the end. Nothing is tried again. After
 /// `RunFault::Read` the output of each complete line that was read was written. After `RunFault::Memory` so it was, where
 /// the memory was wanted before anything was read or for more of a line that takes a whole block; or an allocation for a
@@ -62,8 +63,7 @@ impl Conversions {
     #[inline(always)]
     fn convert_line(&self, alloc: Global, line: &str, text: &mut String) -> Result<(), ParseFault>
         ensures { MatchResult result
-            (λ _. IsDated self.now.options (chars line.now) (λ dating.
-            IsConvertedText Either dating (chars line.now) (text_in text.new)))
+            (λ _. IsSyslogMsg (text_in text.new) × IsWritten self.now.options (chars line.now) (text_in text.new))
             (λ fault. fault ≡ Invalid → IsDated self.now.options (chars line.now) (λ dating.
             IsUnreadable Either dating (chars line.now))) }
     {

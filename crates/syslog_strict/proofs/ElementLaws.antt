@@ -17,8 +17,8 @@ use Rattle.syslog_strict.specs.Conversion.{converted_element, converted_elements
 use Rattle.syslog_strict.specs.Conversion.{is_among, joined_past, or_mark, params_of}
 use Rattle.syslog_strict.specs.Grammar.{AreDistinct, IsParamValue, IsSdElement, IsSdName, IsSdParam, IsStructuredData, IsValuePiece}
 use Rattle.syslog_strict.specs.Grammar.{is_escaped, is_sd_char}
-use Rattle.syslog_strict.proofs.NameLaws.{cleaned_passes, cleaned_short, no_text_eq, some_long}
-use Rattle.syslog_strict.proofs.TextLemmas.{cleaned_some}
+use Rattle.syslog_strict.proofs.NameLaws.{no_text_eq, some_long}
+use Rattle.syslog_strict.proofs.TextLemmas.{cleaned_passes, cleaned_short, cleaned_some}
 
 -- ---- names
 
@@ -80,10 +80,10 @@ value_back t (pieces, each, e) = let (units, same, are) = value_units pieces eac
 -- ---- elements
 
 -- a name and a value of the grammar
-abbrev IsStrictParam : Text × Text → Type 0
+abbrev pub IsStrictParam : Text × Text → Type 0
 IsStrictParam p = IsSdName p.0 × IsParamValue p.1
 
-abbrev IsStrictElement : ElementValue → Type 0
+abbrev pub IsStrictElement : ElementValue → Type 0
 IsStrictElement e = IsSdName e.id × AllByRecursion IsStrictParam e.params
 
 params_are : (ps : List (Text × Text)) → AllByRecursion IsStrictParam (map converted_param ps)
@@ -160,6 +160,12 @@ distinct ids (e ∷ es) =
           (all_map (λ (d : ElementValue) k. other_text e.id d.id (apart d.id e.id ids k).1) (joined_past (ids ++ e.id ∷ []) es) (new_ids (ids ++ e.id ∷ []) es)),
       distinct (ids ++ e.id ∷ []) es,
     ))
+
+pub converted_are : (es : List ElementValue) → AllByRecursion IsStrictElement (converted_elements es)
+converted_are es = joined_are [] (map converted_element es) (elements_are es)
+
+pub converted_distinct : (es : List ElementValue) → AreDistinct (map (λ (e : ElementValue). e.id) (converted_elements es))
+converted_distinct es = distinct [] (map converted_element es)
 
 -- ---- the text of elements
 

@@ -18,7 +18,7 @@ chars_mark = chars-IsAscii (63 ∷ []) (IsAscii-cons 63 [] (omega arith) IsAscii
 inert_no_backslash : (c : ℕ) → is_inert_char c ≡ true → nat_eq c 92 ≡ false
 inert_no_backslash c h = grind (arith, nat_tests)
 
-inert_plain : (c : ℕ) → is_inert_char c ≡ true → is_escaped c ≡ false
+pub inert_plain : (c : ℕ) → is_inert_char c ≡ true → is_escaped c ≡ false
 inert_plain c h = grind (arith, nat_tests)
 
 third : (a b : Bool) (x y z : Text) → a ≡ false → b ≡ false → (if a then x else (if b then y else z)) ≡ z

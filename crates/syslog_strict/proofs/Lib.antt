@@ -1,4 +1,5 @@
 pub mod ElementLemmas
+pub mod AgainLaws
 pub mod ConversionLaws
 pub mod ElementLaws
 pub mod LineLemmas
@@ -6,3 +7,4 @@ pub mod NameLaws
 pub mod StampLemmas
 pub mod StampLaws
 pub mod TextLemmas
+pub mod ValidLemmas

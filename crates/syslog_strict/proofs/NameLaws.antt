@@ -1,6 +1,6 @@
 -- Converted names are in the grammar, and are read back from their printed text.
-use Rattle.std.proofs.Common.{◌≡◌, ◌≢◌, inl, inr, ℕ, ℤ, pos, negsuc, zero, suc, ◌<◌, ◌≤◌, ◌^◌, Bool, true, false, [], ◌∷◌, ◌++◌}
-use Rattle.std.proofs.Common.{length, map, take, Option, Some, None, IfSome, refl, sym, ap, ◌∙◌, arith, FitsSigned, w32}
+use Rattle.std.proofs.Common.{◌≡◌, ◌≢◌, inl, inr, ℕ, ℤ, pos, negsuc, suc, ◌<◌, ◌≤◌, ◌^◌, true, false, [], ◌∷◌, ◌++◌}
+use Rattle.std.proofs.Common.{length, Option, Some, None, IfSome, refl, sym, ap, ◌∙◌, arith, FitsSigned, w32}
 use Rattle.std.proofs.lemmas.Bool.{cases_Bool}
 use Rattle.std.proofs.lemmas.Bool.Decides.{nat_tests}
 use Rattle.std.specs.Char.{is_ascii_digit, is_not_whitespace}
@@ -22,31 +22,7 @@ use Rattle.syslog_strict.specs.Conversion.{cleaned, converted_host, converted_pr
 use Rattle.syslog_strict.specs.Conversion.{without_last_colon, without_lone_colon}
 use Rattle.syslog_strict.specs.Grammar.{IsSomeOf, is_printusascii}
 use Rattle.syslog_pieces.proofs.PieceLemmas.Class.{heads}
-use Rattle.syslog_strict.proofs.TextLemmas.{kept_as, lost_as}
-
--- ---- cleaned texts
-
-kept_passes : (test : ℕ → Bool) (c : ℕ) → test 63 ≡ true → test (kept_char test c) ≡ true
-kept_passes test c mark = elim (cases_Bool (test c)) [ inl e ↦ rw e e | inr e ↦ rw e mark ]
-
-map_passes : (test : ℕ → Bool) (t : Text) → test 63 ≡ true → Each test (map (kept_char test) t)
-map_passes test [] mark = tt
-map_passes test (c ∷ t) mark = (kept_passes test c mark, map_passes test t mark)
-
-pub cleaned_passes : (test : ℕ → Bool) (most : ℕ) (t : Text) → test 63 ≡ true → Each test (cleaned test most t)
-cleaned_passes test most t mark = map_passes test (take most t) mark
-
-length_mapped : (f : ℕ → ℕ) (t : Text) → length (map f t) ≡ length t
-length_mapped f [] = refl
-length_mapped f (c ∷ t) = ap suc (length_mapped f t)
-
-length_taken : (most : ℕ) (t : Text) → length (take most t) ≤ most
-length_taken zero t = omega arith
-length_taken (suc n) [] = omega arith
-length_taken (suc n) (c ∷ t) = let short = length_taken n t in omega (arith, short)
-
-pub cleaned_short : (test : ℕ → Bool) (most : ℕ) (t : Text) → length (cleaned test most t) ≤ most
-cleaned_short test most t = rw (length_mapped (kept_char test) (take most t)) (length_taken most t)
+use Rattle.syslog_strict.proofs.TextLemmas.{cleaned_passes, cleaned_short, kept_as, lost_as}
 
 -- what is left of a name that isn't empty
 long : (c : ℕ) (t : Text) → 0 < length (c ∷ t)
@@ -64,20 +40,20 @@ named_is most (c ∷ t) h short each = elim (cases_Bool (text_eq (c ∷ t) dash)
   | inr e ↦ rw e (long c t, short, each)
 ]
 
-colonless_passes : (t : Text) → Each is_printusascii t → Each is_printusascii (without_last_colon t)
+pub colonless_passes : (t : Text) → Each is_printusascii t → Each is_printusascii (without_last_colon t)
 colonless_passes [] each = tt
 colonless_passes (c ∷ []) each = elim (cases_Bool (no_colon c)) [ inl e ↦ rw e each | inr e ↦ rw e (refl, tt) ]
 colonless_passes (c ∷ d ∷ t) each = (each.0, colonless_passes (d ∷ t) each.1)
 
-colonless_length : (t : Text) → length (without_last_colon t) ≡ length t
+pub colonless_length : (t : Text) → length (without_last_colon t) ≡ length t
 colonless_length [] = refl
 colonless_length (c ∷ []) = refl
 colonless_length (c ∷ d ∷ t) = ap suc (colonless_length (d ∷ t))
 
-lone_passes : (t : Text) → Each is_printusascii t → Each is_printusascii (without_lone_colon t)
+pub lone_passes : (t : Text) → Each is_printusascii t → Each is_printusascii (without_lone_colon t)
 lone_passes t each = elim (cases_Bool (text_eq t colon)) [ inl e ↦ rw e (refl, tt) | inr e ↦ rw e each ]
 
-lone_short : (most : ℕ) (t : Text) → 0 < most → length t ≤ most → length (without_lone_colon t) ≤ most
+pub lone_short : (most : ℕ) (t : Text) → 0 < most → length t ≤ most → length (without_lone_colon t) ≤ most
 lone_short most t h short = elim (cases_Bool (text_eq t colon)) [ inl e ↦ rw e (omega arith) | inr e ↦ rw e short ]
 
 -- ---- host, app name and message id
@@ -168,7 +144,7 @@ no_colon_kept c e = elim (cases_Bool (no_colon c)) [
   | inr h ↦ (let mark = lost_as no_colon c h in absurd (omega arith))
 ]
 
-colonless_end : (t front : Text) → without_last_colon t ≡ front ++ colon → ⊥
+pub colonless_end : (t front : Text) → without_last_colon t ≡ front ++ colon → ⊥
 colonless_end [] [] e = cc
 colonless_end [] (d ∷ front) e = cc
 colonless_end (c ∷ []) [] e = no_colon_kept c (heads _ _ _ _ e)
@@ -190,7 +166,7 @@ host_back (Some t) =
 mark_no_colon : 63 ∷ [] ≢ colon
 mark_no_colon e = let k : ◌≡◌ {A = ℕ} 63 58 = heads 63 58 [] [] e in absurd (omega (arith, k))
 
-lone_other : (t : Text) → without_lone_colon t ≢ colon
+pub lone_other : (t : Text) → without_lone_colon t ≢ colon
 lone_other t = elim (cases_Bool (text_eq t colon)) [
   | inl e ↦ rw e mark_no_colon
   | inr e ↦ rw e (no_text_eq t colon e)

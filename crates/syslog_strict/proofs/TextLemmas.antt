@@ -110,7 +110,7 @@ colonless_some [] some = absurd (some refl)
 colonless_some (c ∷ []) some = λ e. cc
 colonless_some (c ∷ d ∷ t) some = λ e. cc
 
-colonless_same : (t : Text) → ((front : Text) → t ≢ front ++ (58 ∷ [])) → without_last_colon t ≡ t
+pub colonless_same : (t : Text) → ((front : Text) → t ≢ front ++ (58 ∷ [])) → without_last_colon t ≡ t
 colonless_same [] none = refl
 colonless_same (c ∷ []) none = elim (cases_Bool (no_colon c)) [
   | inl e ↦ rw e refl
@@ -257,3 +257,38 @@ pub host_end : (host old now rest : Text) (n : ℕ) → host ≢ [] → n ≤ 0
 host_end host old now rest zero some e i =
     sym (append-nil now) ∙ i ∙ ap (λ (x : Text). old ++ x) (sym (host_prints host some))
 host_end host old now rest (suc n) some e i = absurd (omega arith)
+
+kept_passes : (test : ℕ → Bool) (c : ℕ) → test 63 ≡ true → test (kept_char test c) ≡ true
+kept_passes test c mark = elim (cases_Bool (test c)) [ inl e ↦ rw e e | inr e ↦ rw e mark ]
+
+map_passes : (test : ℕ → Bool) (t : Text) → test 63 ≡ true → Each test (map (kept_char test) t)
+map_passes test [] mark = tt
+map_passes test (c ∷ t) mark = (kept_passes test c mark, map_passes test t mark)
+
+pub cleaned_passes : (test : ℕ → Bool) (most : ℕ) (t : Text) → test 63 ≡ true → Each test (cleaned test most t)
+cleaned_passes test most t mark = map_passes test (take most t) mark
+
+length_mapped : (f : ℕ → ℕ) (t : Text) → length (map f t) ≡ length t
+length_mapped f [] = refl
+length_mapped f (c ∷ t) = ap suc (length_mapped f t)
+
+length_taken : (most : ℕ) (t : Text) → length (take most t) ≤ most
+length_taken zero t = omega arith
+length_taken (suc n) [] = omega arith
+length_taken (suc n) (c ∷ t) = let short = length_taken n t in omega (arith, short)
+
+pub cleaned_short : (test : ℕ → Bool) (most : ℕ) (t : Text) → length (cleaned test most t) ≤ most
+cleaned_short test most t = rw (length_mapped (kept_char test) (take most t)) (length_taken most t)
+
+mark_kept : (kept : Kept) → keeps kept 63 ≡ true
+mark_kept Printable = refl
+mark_kept SdName = refl
+
+-- a text that isn't empty, and that cleaning leaves as it is
+pub kept_is : (kept : Kept) (most : ℕ) (t : Text) (c : ℕ) (more : Text) → t ≡ c ∷ more → cleaned (keeps kept) most t ≡ t
+    → (0 < length t) × (length t ≤ most) × Each (keeps kept) t
+kept_is kept most t c more e same = (
+  omega (arith, ap length e),
+  subst (λ (x : Text). length x ≤ most) same (cleaned_short (keeps kept) most t),
+  subst (λ (x : Text). Each (keeps kept) x) same (cleaned_passes (keeps kept) most t (mark_kept kept)),
+)

@@ -6,7 +6,7 @@ use Rattle.syslog_loose.specs.Message.{MessageValue}
 use Rattle.syslog_loose.specs.Printed.{printed}
 use Rattle.syslog_loose.specs.Reading.{IsOnlyRead, IsRead, IsUnreadable}
 use Rattle.syslog_loose.specs.declared.fault.ParseFault.{ParseFault}
-use Rattle.syslog_loose.specs.declared.fault.ParseFault.TheVariants.{Invalid}
+use Rattle.syslog_loose.specs.declared.fault.ParseFault.TheVariants.{Invalid, Memory}
 use Rattle.syslog_loose.specs.declared.variant.Variant.{Variant}
 use Rattle.syslog_loose.specs.declared.variant.Variant.TheVariants.{Either}
 use Rattle.syslog_strict.specs.Conversion.{converted}
@@ -25,3 +25,7 @@ pub record IsConvertedText (variant : Variant) (dating : Dating) (input text : T
 abbrev pub Converts : Variant → Dating → Text → Result (Unit {0}) ParseFault → Text → Type 0
 Converts variant dating input result text = MatchResult result (λ _. IsConvertedText variant dating input text)
     (λ fault. (fault ≡ Invalid) ↔ IsUnreadable variant dating input)
+
+-- the input is in the grammar, and is the text, or there was no memory for it
+abbrev pub Copies : Text → Result (Unit {0}) ParseFault → Text → Type 0
+Copies input result text = IsSyslogMsg input × MatchResult result (λ _. text ≡ input) (λ fault. fault ≡ Memory)

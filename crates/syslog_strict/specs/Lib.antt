@@ -1,3 +1,4 @@
+pub mod Beginnings
 pub mod Call
 pub mod Conversion
 pub mod Grammar

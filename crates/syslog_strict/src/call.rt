@@ -1,22 +1,72 @@
 //! The call.
-ghost use Rattle.std.specs.Prelude.{◌≡◌, ◌↔◌, MatchResult};
+ghost use Rattle.std.specs.Prelude.{◌≡◌, ◌⊎◌, ◌↔◌, IsTrue, MatchResult};
 ghost use Rattle.std.specs.Str.{chars};
 ghost use Rattle.syslog_loose.specs.Reading.{AnswersEachMonth, InYear, IsUnreadable};
-ghost use Rattle.syslog_loose.specs.declared.fault.ParseFault.TheVariants.{Invalid};
+ghost use Rattle.syslog_loose.specs.declared.fault.ParseFault.TheVariants.{Invalid, Memory};
 ghost use Rattle.syslog_pieces.specs.Timestamp.Zone.{dating_of};
-ghost use Rattle.syslog_strict.specs.Call.{Converts, IsConvertedText};
+ghost use Rattle.syslog_strict.specs.Call.{Converts, Copies, IsConvertedText};
+ghost use Rattle.syslog_strict.specs.Grammar.{IsSyslogMsg};
 ghost use Rattle.syslog_strict.specs.Pushing.{text_in};
 
 use crate::conversion::write_line;
+use crate::text::push_text;
+use crate::valid::is_syslog_msg;
 use std::alloc::Global;
 use syslog_loose::{IncompleteDate, ParseFault, TimeZone, Variant, parse_line};
 
-/// Writes the message of the text as RFC 5424, by the letter of its grammar, into `text`, in place of what was there.
+/// Writes the text as RFC 5424, by the letter of its grammar, into `text`, in place of what was there: the text itself
+/// where it is in the grammar, and otherwise its message, converted.
 ///
-/// `get_year` gives the year of a date that has none: it is called once, and only where the text shows such a date and
-/// the variant reads it. `tz` is the zone of a date without an offset, and `local` is taken where that is absent. A text
-/// that does not parse is `Invalid`, and never `Memory`. After an `Err` what `text` holds is open.
+/// `get_year` gives the year of a date that has none: it is called at most once, and only where the text shows such a
+/// date and the variant reads it. `tz` is the zone of a date without an offset, and `local` is taken where that is
+/// absent. A text that is not in the grammar and does not parse is `Invalid`, and never `Memory`. After an `Err` what
+/// `text` holds is open.
 pub fn to_rfc5424_into<F: FnOnce(IncompleteDate) -> i32>(
+    alloc: Global,
+    text: &mut String,
+    input: &str,
+    get_year: F,
+    tz: Option<&TimeZone<'_>>,
+    variant: Variant,
+    local: &TimeZone<'_>,
+) -> Result<(), ParseFault>
+    requires { AnswersEachMonth (F.pre get_year) }
+    ensures { Copies (chars input.entry.now) result (text_in text.new)
+        ⊎ InYear (F.post get_year) variant (chars input.entry.now) (λ year.
+        Converts variant (dating_of year tz.entry local.entry) (chars input.entry.now) result (text_in text.new)) }
+{
+    if is_known_valid(alloc, input) {
+        return copy(text, input);
+    }
+    convert(alloc, text, input, get_year, tz, variant, local)
+}
+
+// Whether the text is in the grammar, and there was memory to find that.
+#[inline(always)]
+fn is_known_valid(alloc: Global, text: &str) -> bool
+    ensures { IsTrue result → IsSyslogMsg (chars text.now) }
+{
+    match is_syslog_msg(alloc, text) {
+        Ok(is_valid) => is_valid,
+        Err(_) => false,
+    }
+}
+
+// Copies the text into `text`.
+#[inline(always)]
+fn copy(text: &mut String, input: &str) -> Result<(), ParseFault>
+    ensures { MatchResult result (λ _. text_in text.new ≡ chars input.now) (λ fault. fault ≡ Memory) }
+{
+    text.clear();
+    match push_text(text, input) {
+        Ok(()) => Ok(()),
+        Err(_) => Err(ParseFault::Memory),
+    }
+}
+
+// Writes the message of the text, converted.
+#[inline(always)]
+fn convert<F: FnOnce(IncompleteDate) -> i32>(
     alloc: Global,
     text: &mut String,
     input: &str,
@@ -38,7 +88,7 @@ pub fn to_rfc5424_into<F: FnOnce(IncompleteDate) -> i32>(
     }
 }
 
-/// The same in memory of its own.
+/// The text as RFC 5424 in memory of its own, as `to_rfc5424_into` writes it.
 pub fn to_rfc5424<F: FnOnce(IncompleteDate) -> i32>(
     alloc: Global,
     input: &str,
@@ -48,7 +98,10 @@ pub fn to_rfc5424<F: FnOnce(IncompleteDate) -> i32>(
     local: &TimeZone<'_>,
 ) -> Result<String, ParseFault>
     requires { AnswersEachMonth (F.pre get_year) }
-    ensures { InYear (F.post get_year) variant (chars input.entry.now) (λ year. MatchResult result
+    ensures { (IsSyslogMsg (chars input.entry.now) × MatchResult result (λ text. text_in text ≡ chars input.entry.now)
+        (λ fault. fault ≡ Memory))
+        ⊎ InYear (F.post get_year) variant (chars input.entry.now) (λ year.
+        MatchResult result
         (λ text. IsConvertedText variant (dating_of year tz.entry local.entry) (chars input.entry.now) (text_in text))
         (λ fault. (fault ≡ Invalid) ↔ IsUnreadable variant (dating_of year tz.entry local.entry) (chars input.entry.now))) }
 {

@@ -1,5 +1,5 @@
 //! Laws of the grammar and of the conversion, over their definitions alone.
-ghost use Rattle.std.specs.Prelude.{IfSome};
+ghost use Rattle.std.specs.Prelude.{◌≡◌, ◌⊎◌, IfSome};
 ghost use Rattle.syslog_pieces.specs.Pieces.Class.{Text};
 ghost use Rattle.syslog_pieces.specs.ProcId.{IsBoundedProcess};
 ghost use Rattle.syslog_pieces.specs.Timestamp.Zone.{Dating};
@@ -9,6 +9,7 @@ ghost use Rattle.syslog_loose.specs.Printed.{printed};
 ghost use Rattle.syslog_loose.specs.Reading.{IsRead, dash_rule};
 ghost use Rattle.syslog_loose.specs.declared.variant.Variant.{Variant};
 ghost use Rattle.syslog_loose.specs.declared.variant.Variant.TheVariants.{Either};
+ghost use Rattle.syslog_strict.specs.Call.{IsConvertedText};
 ghost use Rattle.syslog_strict.specs.Conversion.{converted};
 ghost use Rattle.syslog_strict.specs.Grammar.{IsSyslogMsg};
 
@@ -25,4 +26,13 @@ pub fn converted_text_is_read_back()
         → IsRead variant dating text m → IsCanonical dash_rule (converted m) }
     ensures again { (variant : Variant) (dating receiver : Dating) (text : Text) (m : MessageValue)
         → IsRead variant dating text m → IsRead Either receiver (printed (converted m)) (converted m) }
+{}
+
+/// What was converted stays: whatever the call may write of a converted text, whatever the year and zones, is that text.
+/// And a converted message prints as its own conversion does.
+pub fn converted_text_stays()
+    ensures text { (variant : Variant) (dating receiver : Dating) (input text again : Text)
+        → IsConvertedText variant dating input text
+        → (IsSyslogMsg text × (again ≡ text)) ⊎ IsConvertedText Either receiver text again → again ≡ text }
+    ensures message { (m : MessageValue) → printed (converted (converted m)) ≡ printed (converted m) }
 {}

@@ -8,5 +8,7 @@ pub mod laws;
 mod names;
 mod stamp;
 mod text;
+mod valid;
 
 pub use call::{to_rfc5424, to_rfc5424_into};
+pub use valid::is_syslog_msg;

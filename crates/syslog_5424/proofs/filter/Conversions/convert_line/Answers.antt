@@ -1,8 +1,7 @@
 use Rattle.std.proofs.Common.{◌≡◌, of_z, rules, to_z, w32}
 use Rattle.std.specs.Str.{chars}
-use Rattle.syslog_loose.proofs.ReadingLemmas.{in_year_told}
 use Rattle.syslog_strict.specs.Pushing.{text_in}
-use Rattle.syslog_5424.proofs.CallLemmas.{told}
+use Rattle.syslog_5424.proofs.CallLemmas.{told, told_copied}
 use Rattle.syslog_5424.proofs.filter.Conversions.convert_line.Goals as goal
 
 pub returns : goal.returns
@@ -10,4 +9,5 @@ returns c =
     let options = c.args.self.now.options in
     let same : to_z w32 (of_z w32 options.year) ≡ options.year = search rules in
     told options (chars c.args.line.now) (text_in c.to_rfc5424_into.new.text) c.to_rfc5424_into.result
-    (in_year_told c.to_rfc5424_into.ensures (λ date y is. (rw same at is.1) options.year_in_range))
+    (told_copied _ options (chars c.args.line.now) (text_in c.to_rfc5424_into.new.text) c.to_rfc5424_into.result
+    c.to_rfc5424_into.ensures (λ date y is. (rw same at is.1) options.year_in_range))

@@ -7,4 +7,4 @@ pub returns-in_ok-push_line-in-Ok-clause-ok : goal.returns-in_ok-push_line-in-Ok
 returns-in_ok-push_line-in-Ok-clause-ok c =
     let spelt = sym (encodes-chars _ (IsUtf8-string_bytes c.convert_line.new.text)) in
     let added = rw c.as_bytes.ensures.value at c.in_ok-push_line-in-Ok.ensures.ok in
-    (Written _, (c.utf8.line, (_, c.in-Ok.ensures, spelt)), added, refl)
+    (Written _, (c.utf8.line, (_, c.in-Ok.ensures.0, c.in-Ok.ensures.1, spelt)), added, refl)

@@ -1,6 +1,6 @@
 use Rattle.syslog_loose.proofs.ReadingLemmas.{in_year_map}
 use Rattle.syslog_strict.proofs.ConversionLaws.{no_memory, text_converts}
-use Rattle.syslog_strict.proofs.call.to_rfc5424_into.Goals as goal
+use Rattle.syslog_strict.proofs.call.convert.Goals as goal
 
 pub returns-in-Ok : goal.returns-in-Ok
 returns-in-Ok g c = in_year_map (λ y only. text_converts _ _ _ _ _ only c.in-Ok.ensures) c.in-Some.ensures.reads

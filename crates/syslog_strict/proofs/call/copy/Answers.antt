@@ -1,0 +1,7 @@
+use Rattle.std.proofs.Common.{ap}
+use Rattle.std.specs.Str.{chars}
+use Rattle.syslog_strict.proofs.TextLemmas.{started}
+use Rattle.syslog_strict.proofs.call.copy.Goals as goal
+
+pub returns-in-Ok : goal.returns-in-Ok
+returns-in-Ok c = started _ _ _ c.in-Ok.ensures (ap chars c.clear.ensures.bytes)
