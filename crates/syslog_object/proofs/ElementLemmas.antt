@@ -1,5 +1,6 @@
 -- Parameters and elements with their keys and values.
-use Rattle.std.proofs.Common.{◌≡◌, ℕ, List, [], ◌∷◌, map, refl, ap, ◌∙◌}
+use Rattle.std.proofs.Common.{◌≡◌, ℕ, ◌+◌, ◌<◌, ◌≤◌, List, [], ◌∷◌, ◌++◌, length, take, set, map, refl, sym, ap, ◌∙◌, arith, append_assoc, append-nil, length-append, length-take-le}
+use Rattle.std.proofs.lemmas.List.{length-map, map-append, take_more_set}
 use Rattle.std.proofs.lemmas.Str.{encodes-chars}
 use Rattle.syslog_pieces.specs.Pieces.Class.{Text}
 use Rattle.syslog_pieces.specs.Pieces.View.{shown}
@@ -14,8 +15,16 @@ use Rattle.syslog_object.specs.Object.{element_json, element_pair, param_pair, u
 use Rattle.syslog_object.specs.declared.element.Param.{Param}
 use Rattle.syslog_object.proofs.GatherLemmas.{pairs_of}
 
+-- a parameter over texts
+abbrev pub param_seen : Param → Text × Text
+param_seen p = (shown p.name, shown p.value)
+
+-- where no item is left, all were seen
+pub all_seen : {X : Type 0} (seen left all : List X) → seen ++ left ≡ all → left ≡ [] → seen ≡ all
+all_seen seen left all whole none = sym (append-nil seen) ∙ ap (λ xs. seen ++ xs) (sym none) ∙ whole
+
 param_pairs : (ps : List Param) → pairs_of (λ p. p.name.now) (λ p. string (unescaped p.value.now)) ps
-    ≡ map param_pair (map (λ p. (shown p.name, shown p.value)) ps)
+    ≡ map param_pair (map param_seen ps)
 param_pairs [] = refl
 param_pairs (p ∷ ps) =
     rw (encodes-chars p.name.now p.name_utf8, encodes-chars p.value.now p.value_utf8, param_pairs ps) refl
@@ -25,7 +34,7 @@ abbrev gathered_text : List (List ℕ × Data) → List ℕ
 gathered_text pairs = compact_text (gathered pairs)
 
 pub params_json : (ps slice : List Param) (params : List (Text × Text)) → slice ≡ ps
-    → map (λ p. (shown p.name, shown p.value)) ps ≡ params
+    → map param_seen ps ≡ params
     → compact_text (gathered (pairs_of (λ p. p.name.now) (λ p. string (unescaped p.value.now)) slice))
     ≡ compact_text (gathered (map param_pair params))
 params_json ps slice params same seen =

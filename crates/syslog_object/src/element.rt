@@ -1,5 +1,5 @@
 //! Elements: the object of their ids, and of the names and the values of each.
-ghost use Rattle.std.specs.Prelude.{◌≡◌, ◌++◌, IfOk, OnOk, IsUtf8, encode_utf8_all, map};
+ghost use Rattle.std.specs.Prelude.{◌≡◌, ◌≤◌, ◌++◌, length, OnOk, IsUtf8, encode_utf8_all, map};
 ghost use Rattle.std.proofs.Props.{props};
 ghost use Rattle.syslog_pieces.specs.Pieces.View.{shown};
 ghost use Rattle.syslog_pieces.specs.StructuredData.Visited.{element_seen, list_elements};
@@ -9,7 +9,6 @@ ghost use Rattle.syslog_object.specs.Object.{element_json, element_pair};
 
 use crate::escapes::push_value;
 use crate::gather::{FEW, Member, push_members};
-use smallvec::SmallVec;
 use std::alloc::{AllocError, Global};
 use syslog_loose::{Element, ElementList};
 
@@ -29,12 +28,6 @@ impl<'a> Param<'a> {
         ensures value { shown result.value ≡ shown value.entry }
     {
         Param { name, value }
-    }
-}
-
-impl Default for Param<'_> {
-    fn default() -> Self {
-        Param::new("", "")
     }
 }
 
@@ -74,41 +67,50 @@ impl<'a> Member<'a> for Element<'a> {
         self.id()
     }
 
+    #[inline(always)]
     fn push_json(&self, alloc: Global, out: &mut Vec<u8>) -> Result<(), AllocError> {
-        let params = params_of(alloc, self)?;
-        push_members(alloc, out, params.as_slice())
+        if self.params_len() <= FEW {
+            return push_few_params(alloc, out, self);
+        }
+        push_many_params(alloc, out, self)
     }
 }
 
-// The parameters of an element. They take memory only where they are many.
-#[inline(always)]
-fn params_of<'a>(
+// Appends the object of an element that has few parameters.
+fn push_few_params(
     alloc: Global,
-    element: &Element<'a>,
-) -> Result<SmallVec<Param<'a>, FEW>, AllocError>
-    ensures { IfOk result (λ params. map (λ p. (shown p.name, shown p.value)) params.items
-        ≡ (element_seen element.now).params) }
+    out: &mut Vec<u8>,
+    element: &Element<'_>,
+) -> Result<(), AllocError>
+    requires { length (element_seen element.now).params ≤ 8 }
+    ensures { OnOk result (out.new.items ≡ out.old.items ++ compact_text (element_json (element_seen element.now))) }
 {
-    let mut params = SmallVec::new(alloc);
+    let mut params = [Param::new("", ""); FEW];
+    let mut count = 0;
+    for (name, value) in element.params() {
+        params[count] = Param::new(name, value);
+        count += 1;
+    }
+    push_members(alloc, out, &params[..count])
+}
+
+// The same of one that has many: these take memory.
+#[inline(never)]
+fn push_many_params(
+    alloc: Global,
+    out: &mut Vec<u8>,
+    element: &Element<'_>,
+) -> Result<(), AllocError>
+    ensures { OnOk result (out.new.items ≡ out.old.items ++ compact_text (element_json (element_seen element.now))) }
+{
+    let mut params = Vec::new(alloc);
     for (name, value) in element.params() {
         params.push(Param::new(name, value))?;
     }
-    Ok(params)
+    push_members(alloc, out, params.as_slice())
 }
 
-// The elements of a list.
-#[inline(always)]
-fn elements_of<'a>(alloc: Global, list: &ElementList<'a>) -> Result<Vec<Element<'a>>, AllocError>
-    ensures { IfOk result (λ elements. map element_seen elements.items ≡ list_elements list.now) }
-{
-    let mut elements = Vec::new(alloc);
-    for element in list.elements() {
-        elements.push(element)?;
-    }
-    Ok(elements)
-}
-
-/// Appends the object of the elements of a list.
+/// Appends the object of the elements of a list. More than one take memory.
 #[inline(never)]
 pub(crate) fn push_elements(
     alloc: Global,
@@ -118,6 +120,27 @@ pub(crate) fn push_elements(
     ensures { OnOk result (out.new.items
         ≡ out.old.items ++ compact_text (gathered (map element_pair (list_elements list.now)))) }
 {
-    let elements = elements_of(alloc, list)?;
+    let mut left = list.elements();
+    if list.len() == 1
+        && let Some(only) = left.next()
+    {
+        return push_members(alloc, out, &[only]);
+    }
+    push_many_elements(alloc, out, list)
+}
+
+// The same of more than one element.
+fn push_many_elements(
+    alloc: Global,
+    out: &mut Vec<u8>,
+    list: &ElementList<'_>,
+) -> Result<(), AllocError>
+    ensures { OnOk result (out.new.items
+        ≡ out.old.items ++ compact_text (gathered (map element_pair (list_elements list.now)))) }
+{
+    let mut elements = Vec::new(alloc);
+    for element in list.elements() {
+        elements.push(element)?;
+    }
     push_members(alloc, out, elements.as_slice())
 }

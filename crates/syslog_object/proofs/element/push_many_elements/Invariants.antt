@@ -1,6 +1,6 @@
 use Rattle.std.proofs.Common.{◌≡◌, ◌++◌, map}
 use Rattle.syslog_pieces.specs.StructuredData.Visited.{element_seen, elements_left, list_elements}
-use Rattle.syslog_object.proofs.element.elements_of.Given as goal
+use Rattle.syslog_object.proofs.element.push_many_elements.Given as goal
 
 abbrev pub invariant-loop-element : goal.invariant-loop-element
 invariant-loop-element l =

@@ -1,0 +1,8 @@
+use Rattle.std.proofs.Common.{◌≡◌, ◌++◌, map}
+use Rattle.syslog_pieces.specs.StructuredData.Visited.{element_seen, params_left}
+use Rattle.syslog_object.proofs.ElementLemmas.{param_seen}
+use Rattle.syslog_object.proofs.element.push_many_params.Given as goal
+
+abbrev pub invariant-loop-name : goal.invariant-loop-name
+invariant-loop-name l =
+    map param_seen l.params.items ++ params_left l.name-iterator ≡ (element_seen l.element).params
