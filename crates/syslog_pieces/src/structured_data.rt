@@ -28,8 +28,9 @@ mod visit;
 mod walk;
 
 use crate::as_str::AsStr;
-pub use collect::{Collect, FewParams};
+pub use collect::Collect;
 pub use escapes::unescape;
+pub use few_params::FewParams;
 pub use line_list::{visit_forgiving_list, visit_rfc3164_list};
 pub use params::ParamsIter;
 pub use recognised::{Element, ElementList};
