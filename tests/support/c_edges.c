@@ -296,6 +296,31 @@ static void names(void)
     syslog_version_text(&text), says(text, version);
 }
 
+/* A line of 64 MB. Its printed form has +00:00 for the Z. */
+static void long_line(void)
+{
+    static const char head[] = "<34>1 2003-10-11T22:14:15Z h a - - [e p=\"v\"] ";
+    static struct place place;
+    size_t size = (size_t)64 << 20, length = sizeof head - 1 + size, needed = 77;
+    char *line = malloc(length), *room = malloc(length + 5);
+    CHECK(line && room);
+    memcpy(line, head, sizeof head - 1);
+    memset(line + sizeof head - 1, 'x', size);
+    set(&place);
+    CHECK(syslog_read(line, length, &OPTIONS, &place.message, place.elements, 1, place.params, 1) == SYSLOG_DONE);
+    CHECK(place.message.msg.length == size && place.message.elements == 1 && place.params[0].value.length == 1);
+    CHECK(syslog_read_fields(line, length, &OPTIONS, &place.message) == SYSLOG_DONE);
+    CHECK(normalise(line, length, room, length + 4, &needed) == SYSLOG_NO_ROOM && needed == length + 5);
+    writer *calls[] = { normalise, settle };
+    for (int i = 0; i < 2; i++) {
+        memset(room, 0, length + 5);
+        CHECK(calls[i](line, length, room, length + 5, &needed) == SYSLOG_DONE && needed == length + 5);
+        CHECK(!memcmp(room + needed - size, line + length - size, size));
+    }
+    free(line);
+    free(room);
+}
+
 static char *lines[LINES];
 static size_t lines_read;
 
@@ -369,6 +394,7 @@ int main(int count, char **words)
     wrong_arguments();
     values();
     names();
+    long_line();
     threads();
     for (size_t i = 0; i < lines_read; i++)
         free(lines[i]);

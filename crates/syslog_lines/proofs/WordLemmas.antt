@@ -5,7 +5,10 @@ use Rattle.std.proofs.lemmas.Int.{ints}
 use Rattle.std.proofs.lemmas.Str.Parse.{digits_value_short, numerals_by_value, tells_by_index}
 use Rattle.std.specs.Int.{IsInRange}
 use Rattle.syslog_lines.specs.Arguments.{NamesDate, NamesOffset, NamesYear, end_word}
-use Rattle.syslog_lines.specs.Words.{AreDateWords, AskForLines, IsOffsetFlag, offset_word, raw_flag, raw_word}
+use Rattle.std.proofs.lemmas.List.Elements.{Contains-append_right}
+use Rattle.syslog_lines.specs.declared.words.Wrong.{Wrong}
+use Rattle.syslog_lines.specs.declared.words.Wrong.TheVariants.{Word, Missing, Unreadable}
+use Rattle.syslog_lines.specs.Words.{AreDateWords, AskForLines, IsAmong, IsOffsetFlag, offset_word, raw_flag, raw_word}
 use Rattle.syslog_lines.specs.declared.dates.Dates.{Dates}
 
 -- ---- ranges
@@ -58,6 +61,16 @@ no_flag words rest flag year month dash long first (word, inl alone, named) =
 no_flag words rest flag year month dash long first (word, inr dashed, named) =
     let same : flag ≡ end_word = ap (λ (ws : List (List ℕ)). get_or ws 0 []) (sym first ∙ dashed) in
     omega (arith, ap (λ (w : List ℕ). length w) same)
+
+-- after `--` the words are one date
+pub date_after_dash : (words rest : List (List ℕ)) (year : ℤ) (month : Option ℕ) → words ≡ end_word ∷ rest
+    → ((word : List ℕ) → rest ≡ word ∷ [] → NamesDate word year month → ⊥) → AreDateWords words year month → ⊥
+date_after_dash words rest year month first none (word, inl alone, named) =
+    let same : end_word ≡ word = ap (λ (ws : List (List ℕ)). get_or ws 0 []) (sym first ∙ alone) in
+    let digit = first_digit word year month named in
+    omega (arith, digit, ap (λ (w : List ℕ). get_or w 0 0) same)
+date_after_dash words rest year month first none (word, inr dashed, named) =
+    none word (let same : rest ≡ word ∷ [] = cc in same) named
 
 -- ---- what is left
 
@@ -156,3 +169,12 @@ left_last words left allowed false dates split first (true, rest, listed, allows
     absurd (let found = first rest (allows refl) listed in cc)
 left_last words left allowed false dates split first (false, rest, listed, allows, dated) =
     rw (sym split ∙ listed) dated
+
+-- ---- a wrong word
+
+-- what is among later words is among all
+pub among_later : (front rest : List (List ℕ)) (words : List (List ℕ)) (wrong : Wrong) → words ≡ front ++ rest
+    → IsAmong rest wrong → IsAmong words wrong
+among_later front rest words (Word word) split among = rw split (Contains-append_right front rest word.now among)
+among_later front rest words Missing split among = tt
+among_later front rest words Unreadable split among = absurd among

@@ -1,11 +1,14 @@
 -- The words that a filter with dates is called with: this project's own choice.
 use Rattle.std.specs.Global.{Global}
 use Rattle.std.specs.Prelude.{◌≡◌, ◌⊎◌, ◌&&◌, ◌||◌, ℕ, ℤ, Bool, true, false, IsTrue, List, [], ◌∷◌, ◌++◌, Option, pos}
-use Rattle.std.specs.Prelude.{String, codes, map, string_bytes}
+use Rattle.std.specs.Prelude.{String, ⊤, codes, map, string_bytes}
+use Rattle.std.specs.List.{Contains}
 use Rattle.syslog_lines.specs.Arguments.{NamesDate, NamesOffset, end_word, help_word, version_word}
 use Rattle.syslog_lines.specs.declared.dates.Dates.{Dates}
 use Rattle.syslog_lines.specs.declared.words.Task.{Task}
 use Rattle.syslog_lines.specs.declared.words.Task.TheVariants.{Help, Version, Lines}
+use Rattle.syslog_lines.specs.declared.words.Wrong.{Wrong}
+use Rattle.syslog_lines.specs.declared.words.Wrong.TheVariants.{Word, Missing, Unreadable}
 
 -- the words' bytes
 abbrev pub texts : List (String Global) → List (List ℕ)
@@ -45,6 +48,12 @@ pub record AskForLines (words : List (List ℕ)) (raw : Bool) (dates : Dates) : 
   pub flagged : raw ≡ before || after
   pub zoned : IsOffsetFlag zone dates.offset
   pub dated : AreDateWords rest dates.year dates.month
+
+-- the word that is said to be wrong is one of them
+abbrev pub IsAmong : List (List ℕ) → Wrong → Type 0
+IsAmong words (Word word) = Contains words word.now
+IsAmong words Missing = ⊤
+IsAmong words Unreadable = ⊥
 
 -- the words ask for this; a program may have the flag `--raw`, or not
 abbrev pub AsksFor : Bool → List (List ℕ) → Task → Type 0

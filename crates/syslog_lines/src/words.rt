@@ -2,7 +2,7 @@
 ghost use Rattle.std.specs.Prelude.{◌≡◌, ◌↔◌, ◌++◌, ◌∷◌, [], Bool, IfOk, IsTrue, List, MatchOption, MatchResult, Option, ℕ, ℤ, drop};
 ghost use Rattle.std.specs.Vec.Iter.{into_iter_items};
 ghost use Rattle.syslog_lines.specs.Arguments.{NamesDate, NamesOffset};
-ghost use Rattle.syslog_lines.specs.Words.{AreDateWords, AskForLines, AsksFor, IsOffsetFlag, offset_word, raw_flag, raw_word, texts};
+ghost use Rattle.syslog_lines.specs.Words.{AreDateWords, AskForLines, AsksFor, IsAmong, IsOffsetFlag, offset_word, raw_flag, raw_word, texts};
 ghost use Rattle.syslog_lines.specs.declared.dates.Dates.{Dates};
 ghost use Rattle.syslog_lines.specs.declared.words.Task.{Task};
 
@@ -11,7 +11,7 @@ use crate::report::refuse;
 use std::alloc::{AllocError, Global};
 use std::env::Args;
 use std::io::Write;
-use std::{env, fs, io};
+use std::{env, fs};
 
 /// What a program is asked for.
 #[derive(Clone, Copy)]
@@ -42,9 +42,10 @@ pub enum Wrong<'a> {
 
 /// What the words after the program's name ask for: `[--raw] [--offset OFFSET] [--] YEAR[-MONTH]`, where `--raw` may
 /// also follow the offset, or `--help` or `--version` alone. `has_raw` says whether the program has the flag `--raw`.
+/// For all other words it is the first one that can't be at its place, or that a year is missing.
 pub fn read_task(words: &[String], has_raw: bool) -> Result<Task, Wrong<'_>>
     ensures { MatchResult result (λ task. AsksFor has_raw (texts words.now) task)
-        (λ _. (task : Task) → ¬ (AsksFor has_raw (texts words.now) task)) }
+        (λ wrong. IsAmong (texts words.now) wrong × ((task : Task) → ¬ (AsksFor has_raw (texts words.now) task))) }
 {
     if is_only(words, "--help") {
         return Ok(Task::Help);
@@ -81,8 +82,8 @@ fn after_word<'a>(words: &'a [String], wanted: &str) -> Option<&'a [String]>
 // The flags and the date that the words are.
 fn read_lines(words: &[String], has_raw: bool) -> Result<Task, Wrong<'_>>
     ensures { MatchResult result (λ task. AsksFor has_raw (texts words.now) task)
-        (λ _. (raw : Bool) (dates : Dates) → (IsTrue raw → IsTrue has_raw)
-        → ¬ (AskForLines (texts words.now) raw dates)) }
+        (λ wrong. IsAmong (texts words.now) wrong × ((raw : Bool) (dates : Dates) → (IsTrue raw → IsTrue has_raw)
+        → ¬ (AskForLines (texts words.now) raw dates))) }
 {
     let (before, words) = read_raw(words, has_raw);
     let (offset, words) = read_zone(words)?;
@@ -116,8 +117,9 @@ fn read_zone(words: &[String]) -> Result<(i32, &[String]), Wrong<'_>>
     ensures { MatchResult result
         (λ found. (flag : List (List ℕ)) × IsOffsetFlag flag found.0 × (texts words.now ≡ flag ++ texts found.1.now)
         × (flag ≡ [] → (rest : List (List ℕ)) → ¬ (texts words.now ≡ offset_word ∷ rest)))
-        (λ _. (after : List (List ℕ)) × (texts words.now ≡ offset_word ∷ after)
-        × ((word : List ℕ) (rest : List (List ℕ)) (seconds : ℤ) → after ≡ word ∷ rest → ¬ (NamesOffset word seconds))) }
+        (λ wrong. IsAmong (texts words.now) wrong
+        × ((after : List (List ℕ)) × (texts words.now ≡ offset_word ∷ after)
+        × ((word : List ℕ) (rest : List (List ℕ)) (seconds : ℤ) → after ≡ word ∷ rest → ¬ (NamesOffset word seconds)))) }
 {
     let Some(rest) = after_word(words, "--offset") else {
         return Ok((0, words));
@@ -134,7 +136,8 @@ fn read_zone(words: &[String]) -> Result<(i32, &[String]), Wrong<'_>>
 // The year, and the month if there is one, that the words name: one word, or the word after `--`.
 fn read_date_words(words: &[String]) -> Result<(i32, Option<u32>), Wrong<'_>>
     ensures { MatchResult result (λ date. AreDateWords (texts words.now) date.0 date.1)
-        (λ _. (year : ℤ) (month : Option ℕ) → ¬ (AreDateWords (texts words.now) year month)) }
+        (λ wrong. IsAmong (texts words.now) wrong
+        × ((year : ℤ) (month : Option ℕ) → ¬ (AreDateWords (texts words.now) year month))) }
 {
     match after_word(words, "--") {
         Some(rest) => read_last_word(rest),
@@ -145,8 +148,8 @@ fn read_date_words(words: &[String]) -> Result<(i32, Option<u32>), Wrong<'_>>
 // The year, and the month if there is one, that the only word names.
 fn read_last_word(words: &[String]) -> Result<(i32, Option<u32>), Wrong<'_>>
     ensures { MatchResult result (λ date. (word : List ℕ) × (texts words.now ≡ word ∷ []) × NamesDate word date.0 date.1)
-        (λ _. (word : List ℕ) (year : ℤ) (month : Option ℕ) → texts words.now ≡ word ∷ []
-        → ¬ (NamesDate word year month)) }
+        (λ wrong. IsAmong (texts words.now) wrong × ((word : List ℕ) (year : ℤ) (month : Option ℕ)
+        → texts words.now ≡ word ∷ [] → ¬ (NamesDate word year month))) }
 {
     let Some((word, rest)) = words.split_first() else {
         return Err(Wrong::Missing);
@@ -154,9 +157,9 @@ fn read_last_word(words: &[String]) -> Result<(i32, Option<u32>), Wrong<'_>>
     let Some(date) = read_date(word.as_str()) else {
         return Err(Wrong::Word(word.as_str()));
     };
-    match rest.first() {
+    match rest.split_first() {
         None => Ok(date),
-        Some(extra) => Err(Wrong::Word(extra.as_str())),
+        Some((extra, _)) => Err(Wrong::Word(extra.as_str())),
     }
 }
 

@@ -1,6 +1,6 @@
 -- The names of the months, letter by letter.
 use Rattle.std.proofs.Common.{◌≡◌, ℕ, ◌+◌, ◌-◌, ◌<◌, ◌≤◌, ◌&&◌, Bool, true, false, nat_eq, nat_lt, unwrap_or, List}
-use Rattle.std.proofs.Common.{[], ◌∷◌, ◌++◌, length, drop, Option, Some, None, refl, sym, ap, ◌∙◌, arith}
+use Rattle.std.proofs.Common.{get_or, [], ◌∷◌, ◌++◌, length, drop, Option, Some, None, refl, sym, ap, ◌∙◌, arith}
 use Rattle.std.specs.Prelude.{map, slice_get}
 use Rattle.std.specs.Char.{to_ascii_lowercase}
 use Rattle.std.specs.Str.{chars, IsUtf8, IsAscii, IsCharBoundary}
@@ -64,6 +64,20 @@ month_det p q p' q' n n' e h h' =
 first_small : (a b c n : ℕ) → small_month a b c ≡ Some n → 97 ≤ a
 unfolding small_month
 first_small a b c n m = grind (arith, nat_tests)
+
+-- three bytes of which the first is before the letters, or fewer than three bytes
+pub no_month_letters : (bs : List ℕ) → (3 ≤ length bs → get_or bs 0 0 < 65) → NamesNoMonth bs
+no_month_letters bs low a b c rest e =
+    let first = low (rw e (omega arith)) in
+    none (small_month (to_ascii_lowercase a) (to_ascii_lowercase b) (to_ascii_lowercase c)) (λ n m.
+    let large = first_small _ _ _ n m in
+    let before : a < 65 = rw e at first in
+    let same = (lowercase_is a).1 before in
+    absurd (omega (arith, same)))
+  where
+    none : (o : Option ℕ) → ((n : ℕ) → o ≡ Some n → ⊥) → o ≡ None
+    none None f = refl
+    none (Some n) f = absurd (f n refl)
 
 -- a letter, or a character past the letters
 abbrev pub IsLetter : ℕ → Type 0

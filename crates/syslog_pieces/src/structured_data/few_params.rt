@@ -1,6 +1,5 @@
 //! The first parameters of an element, noted while the element is recognised.
-ghost use Rattle.std.specs.Prelude.{◌≡◌, ◌≤◌, length, map};
-ghost use Rattle.syslog_pieces.specs.Pieces.View.{shown};
+ghost use Rattle.std.specs.Prelude.{◌≡◌, ◌≤◌, length};
 
 use super::recognised::Element;
 use super::visit::ParamNotes;
@@ -12,14 +11,15 @@ const NOTED: usize = 8;
 /// The first parameters of an element.
 #[derive(Drop)]
 pub struct FewParams<'a> {
-    pub(super) params: [(&'a str, &'a str); 8],
-    pub(super) count: usize,
+    params: [(&'a str, &'a str); 8],
+    count: usize,
     ghost within: { count ≤ 8 },
     ghost sized: { length params ≡ 8 },
 }
 
 impl<'a> FewParams<'a> {
-    ghost use Rattle.std.specs.Prelude.{IfSome};
+    ghost use Rattle.std.specs.Prelude.{IfSome, map};
+    ghost use Rattle.syslog_pieces.specs.Pieces.View.{shown};
     ghost use Rattle.syslog_pieces.specs.StructuredData.Collected.{HasNoted};
     ghost use Rattle.syslog_pieces.specs.StructuredData.Element.{param_value};
     ghost use Rattle.syslog_pieces.specs.StructuredData.Visited.{element_seen};

@@ -138,7 +138,8 @@ fn month(bytes: &[u8]) -> Option<(u32, &[u8])>
     ensures { MatchOption result (parts.NamesNoMonth bytes.now) (λ x. parts.IsMonthBytes bytes.now x.0 x.1.now) }
 {
     match bytes {
-        [a, b, c, rest @ ..] => {
+        // Most texts that have no month begin with a digit.
+        [a, b, c, rest @ ..] if *a >= b'A' => {
             let number = named_month(
                 a.to_ascii_lowercase(),
                 b.to_ascii_lowercase(),

@@ -1,26 +1,37 @@
 use Rattle.std.proofs.Common.{◌≡◌, ◌∙◌, ap, not, rules, to_z, of_z, w32}
 use Rattle.std.proofs.lemmas.Result.{err_from_is_err_and}
-use Rattle.syslog_lines.proofs.WordLemmas.{date_in_range, left_after_raw, left_after_zone, left_last, no_zone, offset_in_range}
+use Rattle.syslog_lines.proofs.WordLemmas.{among_later, date_in_range, left_after_raw, left_after_zone, left_last, no_zone, offset_in_range}
+use Rattle.syslog_lines.specs.Words.{raw_flag}
 use Rattle.syslog_lines.proofs.words.read_lines.Goals as goal
 use Rattle.syslog_lines.proofs.words.read_lines.Goals.{then-has_raw, else-has_raw}
 
 pub returns-in_err-offset : goal.returns-in_err-offset
 returns-in_err-offset c =
-    let p = err_from_is_err_and c.from_residual.result c.from_residual.ensures.1 in rw (p.1) (λ raw dates has asks.
-    let (after, first, none) = c.in_err-offset.ensures in
-    no_zone _ after c.args.has_raw dates first none
-    (left_after_raw _ _ c.args.has_raw c.args.has_raw c.read_raw-before.result.0 raw dates c.read_raw-before.ensures.split
-    c.read_raw-before.ensures.first (λ is found. is) has asks))
+    let p = err_from_is_err_and c.from_residual.result c.from_residual.ensures.1 in
+    let (among, (after, first, none)) = c.in_err-offset.ensures in
+    rw (p.1, p.2) (
+      among_later (raw_flag c.read_raw-before.result.0) _ _ _ c.read_raw-before.ensures.split among,
+      λ raw dates has asks.
+          no_zone _ after c.args.has_raw dates first none
+          (left_after_raw _ _ c.args.has_raw c.args.has_raw c.read_raw-before.result.0 raw dates c.read_raw-before.ensures.split
+          c.read_raw-before.ensures.first (λ is found. is) has asks),
+    )
 
 pub returns-in_err-year : goal.returns-in_err-year
 returns-in_err-year c =
-    let p = err_from_is_err_and c.from_residual-in_err-year.result c.from_residual-in_err-year.ensures.1 in rw (p.1) (λ raw dates has asks.
+    let p = err_from_is_err_and c.from_residual-in_err-year.result c.from_residual-in_err-year.ensures.1 in
     let (flag, is, split, none) = c.in_ok-offset.ensures in
-    c.in_err-year.ensures dates.year dates.month
-    (left_last _ _ c.if-has_raw.read_raw _ dates c.read_raw-after.ensures.split (λ rest is same. c.read_raw-after.ensures.first rest is same)
-    (left_after_zone _ _ flag c.in_ok-offset.offset c.if-has_raw.read_raw dates split is none
-    (left_after_raw _ _ c.args.has_raw c.if-has_raw.read_raw c.read_raw-before.result.0 raw dates c.read_raw-before.ensures.split
-    c.read_raw-before.ensures.first (λ is none. elim c.if-has_raw.branch [ then-has_raw w ↦ w.read_raw-is ∙ ap not none | else-has_raw w ↦ absurd cc ]) has asks))))
+    rw (p.1, p.2) (
+      among_later (raw_flag c.read_raw-before.result.0) _ _ _ c.read_raw-before.ensures.split
+          (among_later flag _ _ _ split (among_later (raw_flag c.read_raw-after.result.0) _ _ _ c.read_raw-after.ensures.split
+          c.in_err-year.ensures.0)),
+      λ raw dates has asks.
+          c.in_err-year.ensures.1 dates.year dates.month
+          (left_last _ _ c.if-has_raw.read_raw _ dates c.read_raw-after.ensures.split (λ rest is same. c.read_raw-after.ensures.first rest is same)
+          (left_after_zone _ _ flag c.in_ok-offset.offset c.if-has_raw.read_raw dates split is none
+          (left_after_raw _ _ c.args.has_raw c.if-has_raw.read_raw c.read_raw-before.result.0 raw dates c.read_raw-before.ensures.split
+          c.read_raw-before.ensures.first (λ is none. elim c.if-has_raw.branch [ then-has_raw w ↦ w.read_raw-is ∙ ap not none | else-has_raw w ↦ absurd cc ]) has asks))),
+    )
 
 pub invariant_of-dates : goal.invariant_of-dates
 invariant_of-dates c =

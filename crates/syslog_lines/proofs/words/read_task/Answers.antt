@@ -18,5 +18,8 @@ no_task has_raw words no_help no_version none (Lines raw dates) = λ asks. none 
 
 pub returns : goal.returns
 returns c = MatchResult-weaker c.read_lines.result c.read_lines.ensures (λ task asks. asks)
-    (λ wrong none. no_task _ _ (iff_false c.is_only.ensures c.if-is_only.false)
-    (iff_false c.is_only-2.ensures c.if-is_only-2.false) none)
+    (λ wrong none. (
+      none.0,
+      no_task c.args.has_raw _ (iff_false c.is_only.ensures c.if-is_only.false)
+          (iff_false c.is_only-2.ensures c.if-is_only-2.false) none.1,
+    ))

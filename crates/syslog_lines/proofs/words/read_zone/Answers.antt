@@ -1,4 +1,4 @@
-use Rattle.std.proofs.Common.{◌≡◌, get_or, ℕ, List, [], ◌∷◌, inr, refl, rules, to_z, of_z, w32, ◌∙◌, sym, ap, subst}
+use Rattle.std.proofs.Common.{arith, string_bytes, ◌≡◌, get_or, ℕ, List, [], ◌∷◌, inr, refl, rules, to_z, of_z, w32, ◌∙◌, sym, ap, subst}
 use Rattle.syslog_lines.specs.Arguments.{NamesOffset}
 use Rattle.syslog_lines.specs.Words.{texts, offset_word}
 use Rattle.syslog_lines.proofs.words.read_zone.Goals as goal
@@ -13,12 +13,18 @@ returns-in-Some-read_offset c =
     )
 
 pub returns-in-None : goal.returns-in-None
-returns-in-None c = (
-  texts c.in-Some.rest.now,
-  c.in-Some.ensures,
-  λ word rest seconds same.
-      let first = c.in-Some-split_first.ensures.cases.0 in
-      let is : c.as_str.result.now ≡ word =
-      c.as_str.ensures.value ∙ ap (λ (ws : List (List ℕ)). get_or ws 0 []) (rw first at same) in
-      (λ named. c.in-None.ensures seconds (subst (λ (w : List ℕ). NamesOffset w seconds) (sym is) named)),
-)
+returns-in-None c =
+    let first = c.in-Some-split_first.ensures.cases.0 in
+    let split = c.in-Some.ensures ∙ ap (λ ws. offset_word ∷ texts ws) first in
+    let named : c.as_str-in-None.result.now ≡ string_bytes c.in-Some-split_first.word.now =
+    c.as_str-in-None.ensures.value in (
+      rw (split, named) (1, omega arith, refl),
+      (
+        texts c.in-Some.rest.now,
+        c.in-Some.ensures,
+        λ word rest seconds same.
+            let is : c.as_str.result.now ≡ word =
+            c.as_str.ensures.value ∙ ap (λ (ws : List (List ℕ)). get_or ws 0 []) (rw first at same) in
+            (λ named. c.in-None.ensures seconds (subst (λ (w : List ℕ). NamesOffset w seconds) (sym is) named)),
+      ),
+    )

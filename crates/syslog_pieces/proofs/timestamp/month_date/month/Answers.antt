@@ -1,0 +1,6 @@
+use Rattle.std.proofs.Common.{rules}
+use Rattle.syslog_pieces.proofs.TimestampLemmas.Months.{no_month_letters}
+use Rattle.syslog_pieces.proofs.timestamp.month_date.month.Goals as goal
+
+pub returns-in_default : goal.returns-in_default
+returns-in_default c = no_month_letters _ (search rules)
