@@ -8,7 +8,7 @@ ghost use Rattle.std.specs.Str.{bytes_eq, chars, IsUtf8};
 ghost use Rattle.syslog_pieces.specs.Text.CharClass.{has};
 ghost use Rattle.syslog_pieces.specs.declared.text.CharClass.TheVariants.{Blank, Digit};
 ghost use Rattle.syslog_pieces.specs.Pieces.Class.{Front, exactly, optional, run, some_run};
-ghost use Rattle.syslog_pieces.specs.Bodies.Scan.{EndsRun, IsBare, SplitsRun, byte_in, past_in};
+ghost use Rattle.syslog_pieces.specs.Bodies.Scan.{EndsRun, IsBare, SplitsRun, byte_in};
 ghost use Rattle.syslog_pieces.specs.Text as spec;
 ghost use Rattle.syslog_pieces.specs.Pieces.View.{seen, shown, Reads, Skips};
 
@@ -106,46 +106,13 @@ fn ascii_end(text: &str, class: CharClass) -> usize
     ascii_run(text.as_bytes(), class)
 }
 
-// The place after a run that reaches a character past ASCII: those are looked at one by one, and the bytes between and
-// after them sixteen at a time.
+// The place after a run that reaches a character past ASCII: its characters are looked at one by one.
 #[cold]
 #[inline(never)]
 fn mixed_run_end(text: &str, class: CharClass) -> usize
     ensures { EndsRun (has class) text.now result }
 {
-    let mut end = 0;
-    let mut rest = text;
-    'stretches: loop {
-        let run = ascii_end(rest, class);
-        if is_cut(rest.as_bytes(), run) {
-            return end + run;
-        }
-        let (_, past) = rest.split_at(run);
-        let more = past_run_end(past, class);
-        end += run;
-        if more == 0 {
-            return end;
-        }
-        let (_, behind) = past.split_at(more);
-        end += more;
-        rest = behind;
-    }
-}
-
-// Whether the character is past ASCII and of the class.
-#[inline(always)]
-fn is_past(c: char, class: CharClass) -> bool
-    ensures { result ≡ past_in class c }
-{
-    !c.is_ascii() && class.has(c)
-}
-
-// Where the run of characters past ASCII and of the class ends.
-#[inline(always)]
-fn past_run_end(text: &str, class: CharClass) -> usize
-    ensures { EndsRun (past_in class) text.now result }
-{
-    match text.find(|c: char| !is_past(c, class)) {
+    match text.find(|c: char| !class.has(c)) {
         Some(end) => end,
         None => text.len(),
     }

@@ -1,15 +1,15 @@
 -- Runs: of bytes, and of the characters that they are.
 use Rattle.syslog_pieces.proofs.Names.{◌≡◌, ◌≤◌, ◌<◌, ◌+◌, ℕ, zero, suc, Bool, true, not, nat_lt, List, [], ◌∷◌, ◌++◌}
-use Rattle.syslog_pieces.proofs.Names.{length, get_or, take, drop, refl, sym, ap, subst, ◌∙◌, inl, inr, add-one}
-use Rattle.syslog_pieces.proofs.Names.{add-zero, arith, length-drop, take-add, drop-drop, take-append-drop, cases_Bool}
-use Rattle.syslog_pieces.proofs.Names.{cases_lt, and_parts, and_left, ltb-true, lt-ltb, chars-append, chars-nil}
+use Rattle.syslog_pieces.proofs.Names.{length, get_or, take, drop, refl, sym, ap, ◌∙◌, inl, inr, add-one}
+use Rattle.syslog_pieces.proofs.Names.{add-zero, arith, length-drop, take-append-drop, cases_Bool}
+use Rattle.syslog_pieces.proofs.Names.{cases_lt, and_parts, and_left, ltb-true, lt-ltb}
 use Rattle.syslog_pieces.proofs.Names.{chars-IsAscii, IsCharBoundary-after_ascii, IsUtf8-take, IsUtf8-drop, chars}
 use Rattle.syslog_pieces.proofs.Names.{IsUtf8, IsCharBoundary, Text, Class, Front, NoFront, Each, Ends, run, some_run}
 use Rattle.syslog_pieces.proofs.Names.{IsRun, EndsRun, SplitsRun, byte_in, past_in, has, CharClass, run_same}
-use Rattle.syslog_pieces.proofs.Names.{each_append, each_map}
+use Rattle.syslog_pieces.proofs.Names.{each_map}
 use Rattle.std.proofs.Common.{length-take, get_or-take, get_or-drop}
 use Rattle.std.proofs.lemmas.Bool.{le-ltb, not_from_true}
-use Rattle.std.proofs.lemmas.Str.{IsCharBoundary-start, IsCharBoundary-from_rest}
+use Rattle.std.proofs.lemmas.Str.{IsCharBoundary-start}
 use Rattle.syslog_pieces.proofs.TextLemmas.Chars.{chars_cut, chars_nonempty, chars_empty, ends_by_byte, low_ascii, nonempty_is}
 
 -- ---- where a run ends
@@ -86,44 +86,6 @@ module _ (class : CharClass) where
   all_end bs n u (cut, s) low =
       ends_run (has class) bs n u cut (each_map (byte_in class) (has class) (λ c a. (byte_parts c a).1) _ s.each)
       (ends_both (chars (drop n bs)) s.ends (ends_at_cut bs n s.back_utf8 low))
-
--- ---- a run by its stretches: of ASCII, and past it
-
--- the characters before a place pass the test, and there the rest begins
-pub record HasPassed (test : ℕ → Bool) (bs rest : List ℕ) (n : ℕ) : Type 0 where
-  pub boundary : IsCharBoundary bs n
-  pub left : rest ≡ drop n bs
-  pub each : Each test (chars (take n bs))
-
-module _ (class : CharClass) (bs : List ℕ) (u : IsUtf8 bs) where
-  pub passed_none : HasPassed (has class) bs bs 0
-  passed_none = record { boundary = IsCharBoundary-start bs u; left = refl; each = rw chars-nil tt }
-
-  passed_more : (f : ℕ → Bool) → ((c : ℕ) → f c ≡ true → has class c ≡ true) → (rest rest' : List ℕ) (n k : ℕ)
-      → HasPassed (has class) bs rest n → EndsRun f rest k → rest' ≡ drop k rest
-      → HasPassed (has class) bs rest' (n + k)
-  passed_more f more rest rest' n k p (b, s) e =
-      record {
-        boundary = IsCharBoundary-from_rest bs n k p.boundary.0 (rw p.left at b);
-        left = e ∙ ap (drop k) p.left ∙ drop-drop k n bs;
-        each = rw (take-add n k bs, chars-append (take n bs) (take k (drop n bs)) (IsUtf8-take bs n u p.boundary))
-            (each_append (has class) (chars (take n bs)) (chars (take k (drop n bs))) p.each
-            (subst (λ (x : List ℕ). Each (has class) (chars (take k x))) p.left
-            (each_map f (has class) more (chars (take k rest)) s.each)));
-      }
-
-  pub passed_ascii : (rest rest' : List ℕ) (n k : ℕ) → HasPassed (has class) bs rest n → EndsRun (byte_in class) rest k
-      → rest' ≡ drop k rest → HasPassed (has class) bs rest' (n + k)
-  passed_ascii = passed_more (byte_in class) (λ c e. (byte_parts class c e).1)
-
-  pub passed_past : (rest rest' : List ℕ) (n k : ℕ) → HasPassed (has class) bs rest n → EndsRun (past_in class) rest k
-      → rest' ≡ drop k rest → HasPassed (has class) bs rest' (n + k)
-  passed_past = passed_more (past_in class) (λ c e. (and_parts (not (nat_lt c 128)) (has class c) e).1)
-
-  pub passed_ends : (rest : List ℕ) (n : ℕ) → HasPassed (has class) bs rest n → Ends (byte_in class) (chars rest)
-      → Ends (past_in class) (chars rest) → EndsRun (has class) bs n
-  passed_ends rest n p f g =
-      ends_run (has class) bs n u p.boundary p.each (rw p.left at (ends_both class (chars rest) f g))
 
 -- ---- the front of a run
 

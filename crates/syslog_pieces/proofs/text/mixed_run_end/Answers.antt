@@ -1,30 +1,36 @@
-use Rattle.syslog_pieces.proofs.Names.{rules, ◌<◌, length, get_or, refl}
-use Rattle.syslog_pieces.proofs.TextLemmas.Runs.{passed_none, passed_ascii, passed_past, passed_ends, ends_at_cut}
+use Rattle.syslog_pieces.proofs.Names.{rules, ℕ, Bool, not, List, [], ◌∷◌, length, take, drop, arith, take_all}
+use Rattle.syslog_pieces.proofs.Names.{drop_all, not-true, not-false, IsUtf8-take, IsUtf8-drop, chars_past_char}
+use Rattle.syslog_pieces.proofs.Names.{chars-nil, chars, IsUtf8, NoCharPasses, NonePass, has, Each}
+use Rattle.std.proofs.lemmas.Fn.{always_returns_same}
+use Rattle.std.proofs.lemmas.Str.{IsCharBoundary-end, chars_from_encodes}
+use Rattle.syslog_pieces.proofs.TextLemmas.Runs.{ends_run}
 use Rattle.syslog_pieces.proofs.text.mixed_run_end.Goals as goal
 
-pub stretches-init : goal.stretches-init
-stretches-init c = (search rules, passed_none c.args.class c.args.text.now c.utf8.text)
+each_from_none : (test : ℕ → Bool) (cs : List ℕ) → NonePass (λ c. not (test c)) cs → Each test cs
+each_from_none test [] n = tt
+each_from_none test (c ∷ cs) n = (not-false (test c) n.0, each_from_none test cs n.1)
 
-pub returns-then-is_cut : goal.returns-then-is_cut
-returns-then-is_cut c =
-    let rest = c.stretches.rest.now in
-    let end = c.ascii_end-run.result in
-    let (cut, s) = c.ascii_end-run.ensures in
-    let low : end < length rest → get_or rest end 0 < 128 = search rules in
-    let p = passed_ascii _ _ c.utf8.text _ _ _ _ c.stretches.invariant.1 c.ascii_end-run.ensures refl in
-    passed_ends _ _ c.utf8.text _ _ p s.ends (ends_at_cut _ rest end s.back_utf8 low)
+each_of_text : (test : ℕ → Bool) (bs : List ℕ) → IsUtf8 bs → NoCharPasses (λ c. not (test c)) bs → Each test (chars bs)
+each_of_text test bs u (cs, e, n) = rw (← chars_from_encodes cs bs u e) (each_from_none test cs n)
 
-pub returns-then-more-eq0 : goal.returns-then-more-eq0
-returns-then-more-eq0 c =
-    let back = c.split_at.ensures.back in
-    let p = passed_ascii _ _ c.utf8.text _ _ _ _ c.stretches.invariant.1 c.ascii_end-run.ensures back in
-    let none = rw c.if-more-eq0.true at c.past_run_end-more.ensures.1.ends in
-    passed_ends _ _ c.utf8.text _ _ p (rw back c.ascii_end-run.ensures.1.ends) none
+pub returns-in-Some : goal.returns-in-Some
+returns-in-Some c =
+    let bs = c.args.text.now in
+    let i = c.in-Some.end in
+    let test : ℕ → Bool = has c.args.class in
+    let (j, find, le, cut, more) = c.in-Some.ensures.cases in
+    let (none, (x, pass, at)) = find (λ x. not (test x))
+    (always_returns_same _ _ _ (λ a r f g. (search rules, search rules))) in
+    ends_run test bs i c.utf8.text cut (each_of_text test (take i bs) (IsUtf8-take bs i c.utf8.text cut) none)
+    (rw (chars_past_char (drop i bs) (drop j bs) x (IsUtf8-drop bs i c.utf8.text cut) at.split)
+    (not-true (test x) pass))
 
-pub stretches-preserved : goal.stretches-preserved
-stretches-preserved c =
-    let p = passed_ascii _ _ c.utf8.text _ _ _ _ c.stretches.invariant.1 c.ascii_end-run.ensures
-    c.split_at.ensures.back in (
-      search rules,
-      passed_past _ _ c.utf8.text _ _ _ _ p c.past_run_end-more.ensures c.split_at-in-stretches.ensures.back,
-    )
+pub returns-in-None : goal.returns-in-None
+returns-in-None c =
+    let bs = c.args.text.now in
+    let test : ℕ → Bool = has c.args.class in
+    let none = c.in-None.ensures.cases (λ x. not (test x))
+    (always_returns_same _ _ _ (λ a r f g. (search rules, search rules))) in
+    ends_run test bs (length bs) c.utf8.text (IsCharBoundary-end bs)
+    (rw (take_all (length bs) bs (omega arith)) (each_of_text test bs c.utf8.text none))
+    (rw (drop_all (length bs) bs (omega arith), chars-nil) tt)
