@@ -31,9 +31,6 @@ texted_steady C s p c q r t (v, h, e) = (v, s p c q r v h, e)
 pub mapped_alone : (C : Class) (B : Type 0) (f : C.Value → B) → IsAlone C → IsAlone (mapped C B f)
 mapped_alone C B f s p q r b (v, h, e) = (v, s p q r v h, e)
 
-pub after_steady : {c : ℕ} (C : Class) → IsSteady C → IsSteady (after c C)
-after_steady C s p d q r v (t, e, h) = (t, e, s t d q r v h)
-
 -- ---- a row whose last piece is not empty, and of its class whatever follows
 abbrev pub AllSteady : List Class → Type 0
 AllSteady [] = Unit {0}

@@ -9,7 +9,7 @@ use Rattle.jiff.specs.Words.{nanos_of_seconds, IsTimestampNanos}
 use Rattle.jiff_core.proofs.CalendarLemmas.{days_in_month_bounds}
 use Rattle.jiff_core.proofs.SignedLemmas.{signed_arith}
 use Rattle.jiff_fmt.specs.Text.{pad2, pad4}
-use Rattle.syslog_pieces.specs.Pieces.Class.{Text, Each, Ends, Row, Values}
+use Rattle.syslog_pieces.specs.Pieces.Class.{Text, Divides, Each, Ends, Row, Values}
 use Rattle.syslog_pieces.specs.declared.timestamp.OffsetTimestamp.{OffsetTimestamp}
 use Rattle.syslog_pieces.specs.declared.timestamp.fields.CivilFields.{CivilFields}
 use Rattle.syslog_pieces.specs.declared.timestamp.rfc3339_text.Rfc3339Fields.{Rfc3339Fields}
@@ -20,6 +20,7 @@ use Rattle.syslog_pieces.specs.Timestamp.Printed.{civil_fields, printed_stamp, d
 use Rattle.syslog_pieces.specs.Timestamp.Printed.{year_sign, fraction_text, offset_text}
 use Rattle.syslog_pieces.specs.Timestamp.Rfc3339.{HasStamp, HasRfc3339Stamp, fields_of_rfc3339, is_dot, numeric_row}
 use Rattle.syslog_pieces.specs.Timestamp.Rfc3339.{offset, seconds_of, stamp_row, written_of}
+use Rattle.syslog_pieces.proofs.PieceLemmas.Class.{◌also◌}
 use Rattle.syslog_pieces.proofs.PieceLemmas.Rows.{row_pieces}
 use Rattle.syslog_pieces.proofs.PieceLemmas.Steps.{piece_front}
 use Rattle.syslog_pieces.proofs.TimestampLemmas.Characters.{each_visible}
@@ -81,38 +82,15 @@ fields-read f n o from there range nanos zone =
     let ends = offset_ends o in
     let ps : List Text =
     pad4 y ∷ (45 ∷ pad2 f.month) ∷ (45 ∷ pad2 f.day) ∷ (84 ∷ []) ∷ pad2 f.hour ∷ (58 ∷ pad2 f.minute)
-    ∷ (58 ∷ pad2 f.second) ∷ fraction_text f.nanosecond ∷ offset_text o ∷ [] in (
+    ∷ (58 ∷ pad2 f.second) ∷ fraction_text f.nanosecond ∷ offset_text o ∷ [] in
+    let each : Divides stamp_row ps [] vs =
+    (refl, omega (arith, signed_arith, date.0.1)) also (pad2 f.month, refl, (refl, omega (arith, date.1.1)))
+    also (pad2 f.day, refl, (refl, omega (arith, date.2.1))) also inl refl also (refl, omega (arith, there.hour_in))
+    also (pad2 f.minute, refl, (refl, omega (arith, there.minute_in)))
+    also (pad2 f.second, refl, (refl, omega (arith, there.second_in)))
+    also fraction_text-is _ ends.0 ends.1 f.nanosecond there.nanosecond_in also zone also tt in (
       written_of vs,
-      (
-        vs,
-        (
-          ps,
-          rw e (simp (append_assoc, append-nil)),
-          (
-            (refl, omega (arith, signed_arith, date.0.1)),
-            (
-              (pad2 f.month, refl, (refl, omega (arith, date.1.1))),
-              (
-                (pad2 f.day, refl, (refl, omega (arith, date.2.1))),
-                (
-                  inl refl,
-                  (
-                    (refl, omega (arith, there.hour_in)),
-                    (
-                      (pad2 f.minute, refl, (refl, omega (arith, there.minute_in))),
-                      (
-                        (pad2 f.second, refl, (refl, omega (arith, there.second_in))),
-                        (fraction_text-is _ ends.0 ends.1 f.nanosecond there.nanosecond_in, (zone, tt)),
-                      ),
-                    ),
-                  ),
-                ),
-              ),
-            ),
-          ),
-        ),
-        refl,
-      ),
+      (vs, (ps, rw e (simp (append_assoc, append-nil)), each), refl),
       record {
         civil = rw same there;
         instant = omega (arith, signed_arith, count);
