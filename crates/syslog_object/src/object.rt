@@ -60,8 +60,8 @@ fn push_fields(
 /// member: the line as it came.
 ///
 /// What the message lacks has no key. An id or a name that comes again has an array of all its values, at its first
-/// place. Memory is asked for more of `out`, and where a line has many elements or parameters, or ids or names come
-/// again. After an `Err` a part of the object may stand in `out`.
+/// place. Memory is asked for more of `out`, and where a line has more than one element, an element more than eight
+/// parameters, or a name comes again. After an `Err` a part of the object may stand in `out`.
 pub fn push_object(
     alloc: Global,
     out: &mut Vec<u8>,
