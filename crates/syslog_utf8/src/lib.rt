@@ -13,9 +13,7 @@ use std::simd::prelude::*;
 
 const LANES: usize = 64;
 
-/// The bytes as a text, where they are UTF-8. It is compiled into its callers: as a call, whose result goes through
-/// memory, it takes some twenty instructions more.
-#[inline(always)]
+/// The bytes as a text, where they are UTF-8.
 pub fn from_utf8(bytes: &[u8]) -> Result<&str, Utf8Error>
     ensures { MatchResult result (λ text. (text.now ≡ bytes.now) × IsUtf8 bytes.now) (λ _. ¬ (IsUtf8 bytes.now)) }
 {
