@@ -13,9 +13,7 @@ use std::simd::prelude::*;
 
 const LANES: usize = 64;
 
-/// Returns the bytes as a text, or an error if they are not UTF-8. It is compiled into its callers: as a call, whose
-/// result goes through memory, it takes more instructions.
-#[inline(always)]
+/// Returns the bytes as a text, or an error if they are not UTF-8.
 pub fn from_utf8(bytes: &[u8]) -> Result<&str, Utf8Error>
     ensures { MatchResult result (λ text. (text.now ≡ bytes.now) × IsUtf8 bytes.now) (λ _. ¬ (IsUtf8 bytes.now)) }
 {
