@@ -1,4 +1,4 @@
--- Answers to several lines, one after the other, to whatever they are written.
+-- What several lines in a row give, to whatever it is written.
 use Rattle.std.proofs.Common.{◌≡◌, ℕ, ◌+◌, ◌<◌, cond, List, [], ◌∷◌, ◌++◌, length, take, Bool, true, false, eqb}
 use Rattle.std.proofs.Common.{Option, Some, Result, Ok, Err, OnErr, IfErr, IsErr, IsErrAnd, sym, subst, refl, ◌∙◌}
 use Rattle.std.proofs.Common.{arith, append_assoc, append-nil, rules}
@@ -84,7 +84,7 @@ Answered-none filter old new tally same =
 
 -- ---- the lines of some bytes
 
--- the filter's answer to a line was added, and the line counted
+-- what the filter gives for a line was added, and the line counted
 pub Answered-one : (filter : Filter) (line old new : List ℕ) (was is : Tally) (answered : Bool)
     → AddsAnswer filter line old new answered
     → is.answered ≡ held_count (was.answered + cond answered 1 0)
@@ -123,7 +123,7 @@ GoesOn-more filter bytes rest line after old mid out was then is some first so_f
       (line ∷ lines, IsLines-cons rest line after lines some first cut, WroteBefore-after adds.wrote next);
 }
 
--- the tests that stand before a line and behind the last
+-- the tests before a line and after the last
 pub some_left : (rest : List ℕ) (empty : Bool) → empty ≡ eqb (length rest) 0 → empty ≡ false → 0 < length rest
 some_left rest empty is not_empty = grind (arith, nat_tests)
 

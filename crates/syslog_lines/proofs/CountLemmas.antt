@@ -11,7 +11,7 @@ count-append : (keep : Answer → Bool) (xs ys : List Answer)
     → count_by keep (xs ++ ys) ≡ count_by keep xs + count_by keep ys
 count-append keep xs ys = sum_by-append (λ (answer : Answer). cond (keep answer) 1 0) xs ys
 
--- one line more was counted, as its answer says
+-- one line more was counted, by what it gave
 pub Counts-one : (was is : Tally) (answer : Answer) (answered : Bool) → answered ≡ is_answered answer
     → is.answered ≡ held_count (was.answered + cond answered 1 0)
     → is.passed_over ≡ held_count (was.passed_over + cond answered 0 1) → Counts was is (answer ∷ [])

@@ -15,7 +15,7 @@ module _ (bytes : List ℕ) (from : ℕ) where
   place : (k : ℕ) → slice_index rest k ≡ slice_index bytes (from + k)
   place k = rw whole (get_or-drop from bytes k 0)
 
-  -- none stands between two places among them
+  -- none is between two places among them
   others_among : (past end : ℕ) → Nowhere (Passes (is_byte 10) rest) past end → (k : ℕ) → from + past ≤ k
       → k < from + end → slice_index bytes k ≢ 10
   others_among past end none k low high is =
@@ -23,13 +23,13 @@ module _ (bytes : List ℕ) (from : ℕ) where
       none (k - from) (omega arith) (omega arith)
       (eq-eqb _ 10 (place (k - from) ∙ ap (λ j. get_or bytes j 0) back ∙ is))
 
-  -- none stands among them from a place on
+  -- none is among them from a place on
   pub others_on : (past : ℕ) → Nowhere (Passes (is_byte 10) rest) past (length rest) → (k : ℕ) → from + past ≤ k
       → k < length bytes → slice_index bytes k ≢ 10
   others_on past none k low high =
       others_among past (length rest) none k low (rw (whole, length-drop) (omega arith))
 
-  -- none stands before them
+  -- none is before them
   module _ (before : (k : ℕ) → k < from → slice_index bytes k ≢ 10) where
     pub none_before : (end : ℕ) → Nowhere (Passes (is_byte 10) rest) 0 end → (k : ℕ) → k < from + end
         → slice_index bytes k ≢ 10

@@ -45,7 +45,7 @@ module _ (bytes : List ℕ) (at run : ℕ) (lanes : List ℕ) (room : at + 64 �
       ∙ mask_l-mod (map stops v) 64 (omega (arith, length-map v stops, long)) in
       found ∙ ap (trailing_zeros w64) mask ∙ run_is v long
 
-  -- the place of the lowest bit is how many bytes stand before the first line feed
+  -- the lowest bit is as far along as there are bytes before the first line feed
   pub run_from_mask : IsRun bytes at run
   run_from_mask = record {
     within = run_in_chunk_le stops bytes at 64 run 0 room counted;

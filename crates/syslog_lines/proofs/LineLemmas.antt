@@ -107,7 +107,7 @@ closed_lines bytes lines closed (free, inr lacks) =
 
 -- ---- all bytes have lines
 
--- the lines of bytes behind some of their first line
+-- the lines of bytes after some of their first line
 lines_behind : (front bytes : List ℕ) → NoFeed front → (lines : List (List ℕ)) × IsLines (front ++ bytes) lines
 lines_behind [] [] free = ([], IsLines-nil)
 lines_behind (byte ∷ front) [] free =

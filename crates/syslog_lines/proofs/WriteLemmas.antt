@@ -12,7 +12,7 @@ use Rattle.syslog_lines.specs.declared.summary.Tally.{Tally}
 use Rattle.syslog_lines.specs.declared.summary.RunFault.{RunFault}
 use Rattle.syslog_lines.specs.declared.summary.RunFault.TheVariants.{Write}
 
--- what was written so far is what stands before the rest
+-- what was written so far is what comes before the rest
 pub record WroteSoFar (old new : Option (List ℕ)) (bytes rest : List ℕ) : Type 0 where
   pub written : List ℕ
   pub whole : written ++ rest ≡ bytes
@@ -31,7 +31,7 @@ WroteSoFar-more old mid new bytes rest n fits so_far more =
       appended = Appends-trans old mid new so_far.written (take n rest) so_far.appended more;
     }
 
--- what stands there where a write fails
+-- what was written when a write fails
 pub WroteSoFar-front : (old mid new : Option (List ℕ)) (bytes rest : List ℕ) → WroteSoFar old mid bytes rest
     → Keeps mid new → (size : ℕ) × Appends old new (take size bytes)
 WroteSoFar-front old mid new bytes rest so_far unchanged = (

@@ -18,7 +18,7 @@ pub record LacksLastFeed (bytes : List ℕ) (lines : List (List ℕ)) : Type 0 w
   pub listed : lines ≡ before ++ last ∷ []
   pub joined : bytes ≡ with_feeds before ++ last
 
--- these are the lines of the bytes: what stands between line feeds, without an empty last piece
+-- these are the lines of the bytes: what is between line feeds, without an empty last piece
 abbrev pub IsLines : List ℕ → List (List ℕ) → Type 0
 IsLines bytes lines = All NoFeed lines × ((bytes ≡ with_feeds lines) ⊎ LacksLastFeed bytes lines)
 

@@ -1,10 +1,10 @@
--- What a filter answers to lines, and the bytes that it writes: this project's own choice.
+-- What a filter gives for lines, and the bytes that it writes: this project's own choice.
 use Rattle.std.specs.Prelude.{◌≡◌, ◌+◌, ℕ, Bool, true, false, not, List, [], ◌∷◌, ◌++◌, count_by}
 use Rattle.std.specs.List.{AllZip, flat_map}
 use Rattle.syslog_lines.specs.declared.summary.Tally.{Tally}
 use Rattle.syslog_lines.specs.Count.{held_count}
 
--- the answer to a line: these bytes are written for it; or they are, and the line counts as passed over; or nothing is
+-- what a line gives: these bytes are written for it; or they are, and the line counts as passed over; or nothing is
 pub data Answer : Type 0 where
   Written : List ℕ → Answer
   Marked : List ℕ → Answer
@@ -18,16 +18,16 @@ is_answered Omitted = false
 abbrev pub is_passed_over : Answer → Bool
 is_passed_over answer = not (is_answered answer)
 
--- what a filter does: how it answers a line, and for which lines it may want memory
+-- what a filter does: what it gives for a line, and for which lines it may take memory
 pub record Filter : Type 1 where
   pub Answers : List ℕ → Answer → Type 0
   pub Wants : List ℕ → Type 0
 
--- each line's answer, in order
+-- what each line gives, in order
 abbrev pub AreAnswers : Filter → List (List ℕ) → List Answer → Type 0
 AreAnswers filter lines answers = AllZip filter.Answers lines answers
 
--- what is written for an answer: its bytes and a line feed, or nothing
+-- what is written for a line: its bytes and a line feed, or nothing
 abbrev pub answer_bytes : Answer → List ℕ
 answer_bytes (Written bytes) = bytes ++ 10 ∷ []
 answer_bytes (Marked bytes) = bytes ++ 10 ∷ []
@@ -42,12 +42,12 @@ abbrev pub HasCounted : Tally → ℕ → ℕ → Type 0
 HasCounted tally answered passed_over = (tally.answered ≡ held_count answered)
     × (tally.passed_over ≡ held_count passed_over)
 
--- the tally grew by the answers
+-- the tally grew by what the lines gave
 abbrev pub Counts : Tally → Tally → List Answer → Type 0
 Counts was is answers = (answered passed_over : ℕ) → HasCounted was answered passed_over
     → HasCounted is (answered + count_by is_answered answers) (passed_over + count_by is_passed_over answers)
 
--- the answer to a line was added, and this tells whether it counts as answered
+-- what a line gives was added, and this says whether it counts as answered
 abbrev pub AddsAnswer : Filter → List ℕ → List ℕ → List ℕ → Bool → Type 0
 AddsAnswer filter line old new answered = (answer : Answer) × filter.Answers line answer
     × (new ≡ old ++ answer_bytes answer) × (answered ≡ is_answered answer)

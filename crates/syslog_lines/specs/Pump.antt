@@ -31,7 +31,7 @@ pub record ReadAll (in_before in_after : Option (List ℕ)) (lines : List (List 
 abbrev pub CanAnswer : Option (List ℕ) → Option (List ℕ) → List (List ℕ) → Type 0
 CanAnswer in_before in_after lines = ReadLines in_before in_after lines ⊎ ReadAll in_before in_after lines
 
--- all was read, these are the answers to its lines, and their output was written
+-- all was read, this is what its lines give, and their output was written
 pub record FiltersAll (filter : Filter) (in_before in_after out_before out_after : Option (List ℕ))
     (answers : List Answer) : Type 0 where
   pub lines : List (List ℕ)
@@ -39,7 +39,7 @@ pub record FiltersAll (filter : Filter) (in_before in_after out_before out_after
   pub answered : AreAnswers filter lines answers
   pub written : Appends out_before out_after (output_of answers)
 
--- the same, and the tally counts the answers; so it counts the lines
+-- all was read, this is what its lines give, and their output was written; the tally counts it, and so the lines
 abbrev pub PumpsAll : Filter → Option (List ℕ) → Option (List ℕ) → Option (List ℕ) → Option (List ℕ) → Tally → Type 0
 PumpsAll filter in_before in_after out_before out_after tally = (answers : List Answer)
     × (all : FiltersAll filter in_before in_after out_before out_after answers)

@@ -1,4 +1,4 @@
-//! The answers of a filter to lines.
+//! Runs a filter over lines.
 ghost use Rattle.std.specs.Prelude.{◌≡◌, IfOk, OnErr};
 ghost use Rattle.syslog_lines.specs.Output.{AddsAnswer};
 ghost use Rattle.syslog_lines.specs.Write.{AddsAnswers};
@@ -36,7 +36,7 @@ pub fn answer_lines<F: LineFilter>(
     Ok(())
 }
 
-// The same, where some of it is not UTF-8.
+// Adds what lines give, some of which are not UTF-8.
 fn answer_byte_lines<F: LineFilter>(
     alloc: Global,
     filter: &F,
@@ -58,7 +58,7 @@ fn answer_byte_lines<F: LineFilter>(
     Ok(())
 }
 
-// Adds the answer to a line, and tells whether it counts as answered, as the filter does.
+// Adds what a line gives, and returns whether it counts as answered, as the filter does.
 fn answer_bytes<F: LineFilter>(
     alloc: Global,
     filter: &F,

@@ -6,11 +6,11 @@ use std::alloc::{AllocError, Global};
 
 /// What is written for each line of the input.
 pub trait LineFilter {
-    // the answer to a line, and the lines for which memory may be wanted
+    // what a line gives, and the lines for which memory may be taken
     ghost answers: { Self → Filter };
 
-    /// Adds the answer to a line that is UTF-8, and a line feed, to `output`, or nothing where nothing is written for
-    /// it, and tells whether the line counts as answered.
+    /// Adds what a line that is UTF-8 gives, with a line feed, to `output`, or nothing. Returns whether the line counts
+    /// as answered.
     ///
     /// Where memory is refused nothing is added, and the line is one for which it may be wanted. `text` is for a text
     /// in between: what it holds doesn't count, and its memory is used again for the next line.
@@ -26,7 +26,7 @@ pub trait LineFilter {
         ensures err { OnErr result (output.new.items ≡ output.old.items) }
         ensures refusal { OnErr result ((answers self.now).Wants line.now) };
 
-    /// The same for a line that is no UTF-8.
+    /// Adds what a line that is not UTF-8 gives, as `answer` does.
     fn answer_other(
         &self,
         alloc: Global,

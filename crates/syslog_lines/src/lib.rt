@@ -1,12 +1,11 @@
-//! Filters of lines: from a reader to a writer, an answer to each line of the input.
+//! Filters of lines, from a reader to a writer.
 //!
-//! `pump` reads the input a block at a time, hands each line to a `LineFilter`, and writes the answers of a block
-//! before it reads the next. `docs/PROMISES.md` says what was read and written where it ends early. The programs stand
-//! on it.
+//! `pump` reads the input a block at a time, hands each line to a `LineFilter`, and writes the output of a block before
+//! it reads the next. `docs/PROMISES.md` says what was read and written if it ends early. The programs are built on it.
 //!
-//! Where `reader` holds the lines `a` and `b`, and `filter` answers each with its text, `pump(alloc, &filter, &mut
-//! reader, &mut writer)` writes `a` and `b`, each with a line feed, and answers a `Tally` with `answered` 2 and
-//! `passed_over` 0. `read_year("2019")` is `Some(2019)`.
+//! If `reader` holds the lines `a` and `b`, and `filter` gives each its text, `pump(alloc, &filter, &mut reader, &mut
+//! writer)` writes `a` and `b`, each with a line feed. It returns a `Tally` with `answered` 2 and `passed_over` 0.
+//! `read_year("2019")` is `Some(2019)`.
 #![tactic(auto)]
 
 mod answer;

@@ -13,7 +13,7 @@ use crate::watched::Watched;
 use std::alloc::Global;
 use std::io::{Read, Write};
 
-/// Reads lines to the end of the input, and writes the filter's answer to each that has one.
+/// Reads lines to the end of the input, and writes what the filter gives for each.
 ///
 /// The output of each block of input is written before more is read, and the writer is flushed at the end. Nothing is
 /// tried again. It takes memory for a block of input, its output, and the longest line.
@@ -66,7 +66,7 @@ pub fn pump<F: LineFilter, R: Read, W: Write>(
     Ok(tally)
 }
 
-// Writes the answers to the lines, and counts them. Where memory is refused, those to the lines before are written.
+// Writes what the lines give, and counts them. If an allocation fails, the output of the lines before is written.
 fn write_answers<F: LineFilter, W: Write>(
     alloc: Global,
     filter: &F,

@@ -30,7 +30,7 @@ pub fn next_feed(bytes: &[u8]) -> Option<usize>
     if end < bytes.len() { Some(end) } else { None }
 }
 
-// The same, where none stands before a place: the length where there is none.
+// Returns the place of the first line feed, if none is before `from`; the length if there is none.
 fn far_feed(bytes: &[u8], from: usize) -> usize
     requires within { from ≤ length bytes.now }
     requires before { (k : ℕ) → k < from → slice_index bytes.now k ≢ 10 }
@@ -44,7 +44,7 @@ fn far_feed(bytes: &[u8], from: usize) -> usize
     }
 }
 
-// How many of the sixty-four bytes from a place on stand before the first line feed.
+// Returns how many of the sixty-four bytes from a place on are before the first line feed.
 #[inline(always)]
 fn feedless_run(bytes: &[u8], at: usize) -> usize
     requires { at + LANES ≤ length bytes.now }

@@ -7,14 +7,14 @@ use thiserror::Error;
 pub struct Summary {
     /// The number of lines.
     pub lines: u64,
-    /// The number of lines that are no UTF-8 or have no reading.
+    /// The number of lines that are not UTF-8 or do not parse.
     pub refused: u64,
 }
 
 /// How many lines a filter answered, and how many it passed over. A count at its last value stays there.
 #[derive(Clone, Copy)]
 pub struct Tally {
-    /// The number of lines that have an answer.
+    /// The number of lines that gave something.
     pub answered: u64,
     /// The number of lines that have none.
     pub passed_over: u64,

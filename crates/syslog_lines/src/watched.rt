@@ -6,7 +6,7 @@ ghost use Rattle.std.specs.Io.KnownBytes.{Keeps, ReadConsumes, WriteAppends};
 use std::io;
 use std::io::{Error, ErrorKind, Read, Write};
 
-/// A reader or a writer that remembers whether a call failed. It tells the bytes that `inner` tells.
+/// A reader or a writer that remembers whether a call failed. It shows the bytes that `inner` shows.
 #[derive(Drop)]
 pub struct Watched<T> {
     /// What the calls are passed on to.
@@ -35,7 +35,7 @@ impl<T> Watched<T> {
 impl<R: Read> Read for Watched<R> {
     ghost remaining = { λ watched. R.remaining watched.inner };
 
-    /// Passes the read on and counts it, or answers an error where no more can be counted.
+    /// Passes the read on and counts it, or returns an error if no more can be counted.
     fn read(&mut self, buf: &mut [u8]) -> io::Result<usize>
         ensures bound { ReadsAtMost result buf.new }
         ensures bytes { ReadConsumes (R.remaining self.old.inner) (R.remaining self.new.inner) result buf.new }

@@ -340,7 +340,7 @@ either_differs dating text = (
   λ r. (differs_where_dash_change dating text RFC3164).1 ((differs_where_dash_change dating text Either).0 r).1,
 )
 
--- a dash is dropped where one stands before the list
+-- a dash is dropped where one is before the list
 pub told_by_list : (dating : Dating) (text t list : Text) (vs : Values (before_list dating)) (n : Names3164) (b : Bool)
     → t ≡ trimmed text → Front (Row (before_list dating)) t list vs → Resolves vs.1.1.1.0 vs.1.1.1.1.0 n
     → MatchBool b (BeginsDashChange list) (BeginsDashChange list → ⊥)
@@ -376,7 +376,7 @@ module _ (text : Text) (dating other : Dating) (z : dating.zone ≡ other.zone) 
         differ = a.differ;
       })
 
--- what is told in the year that the closure answered
+-- what is known in the year that the closure returned
 told_in : (post : IncompleteDate → ℤ → Type 0) (variant : Variant) (text : Text) (tz : Option (Bor TimeZone))
     (local : Bor TimeZone) (b : Bool) (year : Option ℤ) → IsYearAnswered post variant text year
     → IsTrue b ↔ ReadsDifferently variant (dating_of year tz local) text
@@ -390,7 +390,7 @@ told_in post variant text tz local b year is h =
       λ r. told.1 (dash_change_in_any text some none refl refl variant never r),
     )) h
 
--- ---- the answer under each variant
+-- ---- the result under each variant
 
 -- what RFC 3164 reads differently, each variant does that reads it
 pub told_so : (variant : Variant) (dating : Dating) (text : Text) (b : Bool) → ReadsProtocol variant protocol.RFC3164
@@ -416,13 +416,13 @@ none_differs RFC3164 dating text none = told_so RFC3164 dating text false tt
 none_differs Either dating text none = told_so Either dating text false tt
     (λ r. let a = apart dating text RFC3164 r in none tt a.is_read.values a.is_read.division)
 
--- whoever tells the texts that are read differently tells those from which a dash is dropped
+-- whoever finds the texts that read differently finds those from which a dash is dropped
 dash_change_told : (variant : Variant) (dating : Dating) (text : Text) (b : Bool) → IsTrue b
     ↔ ReadsDifferently variant dating text → IsTrue b ↔ HasDashChange variant dating text
 dash_change_told variant dating text b h =
     let law = differs_where_dash_change dating text variant in (λ t. law.0 (h.0 t), λ d. h.1 (law.1 d))
 
--- both of what is told in the year that the closure answered
+-- both of what is known in the year that the closure returned
 pub told : (post : IncompleteDate → ℤ → Type 0) (variant : Variant) (text : Text) (tz : Option (Bor TimeZone))
     (local : Bor TimeZone) (b : Bool) (year : Option ℤ) → IsYearAnswered post variant text year
     → IsTrue b ↔ ReadsDifferently variant (dating_of year tz local) text

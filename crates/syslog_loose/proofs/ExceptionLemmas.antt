@@ -1,4 +1,4 @@
--- What the tests of the exceptions answer.
+-- What the tests of the quirks return.
 use Rattle.syslog_loose.proofs.Names.{◌≡◌, ◌≢◌, ℕ, Bool, true, false, not, nat_eq, List, [], ◌∷◌, ◌++◌, length, None}
 use Rattle.syslog_loose.proofs.Names.{refl, sym, ap, subst, ◌∙◌, arith, chars_from_encodes, chars-IsAscii}
 use Rattle.syslog_loose.proofs.Names.{encodes-append, encodes-chars, chars, IsUtf8, encode_utf8_all, Text, Each, colon}
@@ -17,7 +17,7 @@ use Rattle.syslog_pieces.proofs.TextLemmas.Words.{colon_ascii, dash_ascii}
 pub dash_bytes : (bs : List ℕ) → IsUtf8 bs → chars bs ≡ dash → bs ≡ dash
 dash_bytes bs u e = sym (encodes-chars bs u) ∙ ap encode_utf8_all e ∙ encodes-IsAscii dash dash_ascii
 
--- ---- what the test of a host tells
+-- ---- what the test of a host returns
 
 pub odd_told : (bs : List ℕ) → IsUtf8 bs → (front : List ℕ) × (bs ≡ front ++ colon)
     → IsTrue false ↔ ((chars bs ≢ dash) × (EndsInColon (chars bs) → ⊥))

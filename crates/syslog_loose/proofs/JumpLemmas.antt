@@ -1,4 +1,4 @@
--- What the readers of a skipped round tell.
+-- What the readers of a skipped round give.
 use Rattle.syslog_loose.proofs.Names.{◌≡◌, ℕ, zero, suc, ◌+◌, ◌-◌, ◌<◌, true, false, subst, List, [], ◌∷◌, ◌++◌, length}
 use Rattle.syslog_loose.proofs.Names.{Option, None, refl, sym, ap, ◌∙◌, arith, append_assoc, append-nil}
 use Rattle.syslog_loose.proofs.Names.{nil_from_length, Bor, chars, encode_utf8_all, IsUtf8, chars_from_encodes}
@@ -42,7 +42,7 @@ dash_told t q f (Some x) g =
     let b = begins 45 t q f in
     record { blanks = g.piece; whole = cc; some = g.is.0; each = g.is.1; no_more = g.is.2 }
 
--- n dashes, each with a space behind it
+-- n dashes, each with a space after it
 abbrev pub spaced_dashes : ℕ → Text
 spaced_dashes zero = []
 spaced_dashes (suc n) = 45 ∷ 32 ∷ spaced_dashes n
@@ -76,7 +76,7 @@ unfolding encode_utf8
 dashes_alone zero = refl
 dashes_alone (suc n) = ap (λ (x : Text). 45 ∷ 32 ∷ x) (dashes_alone n)
 
--- what `strip_prefix` of dashes tells
+-- what `strip_prefix` of dashes gives
 pub dashes_front : (bytes rest : List ℕ) (n : ℕ) → IsUtf8 bytes → IsUtf8 rest
     → StripsPrefix (FindsTextPrefix (spaced_dashes n)) bytes rest → chars bytes ≡ spaced_dashes n ++ chars rest
 dashes_front bytes rest n u v (k, (long, whole, cut), behind_is, fits) =
@@ -139,7 +139,7 @@ unfolding encode_utf8
 colons_alone zero = refl
 colons_alone (suc n) = ap (λ (x : Text). 58 ∷ x) (colons_alone n)
 
--- what `strip_suffix` of a text tells
+-- what `strip_suffix` of a text gives
 pub suffix_bytes : (run bytes short : List ℕ) → StripsSuffix (FindsTextSuffix run) bytes short → bytes ≡ short ++ run
 suffix_bytes run bytes short (n, (long, whole, cut), front_is, fits) =
     whole ∙ ap (λ (x : List ℕ). x ++ run) (sym front_is)
@@ -205,7 +205,7 @@ module _ (variant : Variant) (dating : Dating) (input : Text) (m : MessageValue)
       later_printed (printed (past_colons m h (cut - 1))) bytes u w
       (colons_later variant dating input m r e k.timestamp h (cut - 1) (rw same at k) once)
 
--- what the front, which is printed with a colon as its message part, prints with what is written behind it
+-- what the front, which is printed with a colon as its message part, prints with what is written after it
 front_more : (m : MessageValue) (t : Text) → printed_3164 (with_msg m (m.msg ++ t)) ≡ printed_3164 m ++ t
 unfolding printed_3164
 front_more m t = simp append_assoc refl

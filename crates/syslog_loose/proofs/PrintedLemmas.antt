@@ -61,7 +61,7 @@ written_3164 pri priority stamp host tag shown elements msg m e f h =
     rw (e, f) (joined_3164 (decimal priority) (encode_utf8_all stamp) (encode_utf8_all host) (encode_utf8_all tag)
     (encode_utf8_all elements) m ∙ sym (simp (encodes-append, encodes-decimal, h)))
 
--- elements that are there, and a space behind them
+-- elements, at least one, and a space after them
 pub encodes_spaced : (es : List ElementValue) → 0 < length es
     → encode_utf8_all (spaced_elements es) ≡ encode_utf8_all (joined_elements es) ++ (32 ∷ [])
 unfolding encode_utf8

@@ -59,7 +59,7 @@ module _ (dating : Dating) (m : MessageValue) (b : IsBounded m) where
   only_read_exact variant n h r =
       let exact = printed_exact variant h in ((λ e. exact.0 (rw e at r.read)), (λ c. sym (r.only m (exact.1 c))))
 
--- ---- what the calls answer
+-- ---- what the calls return
 
 itself : (variant : Variant) (dating : Dating) (text : Text) (r : Result Found ParseFault)
     → Answers variant dating text r → AnswersItself variant text r
@@ -86,7 +86,7 @@ fields_answered variant dating text (Ok found) a =
     fields variant dating text (value found) a.read
 fields_answered variant dating text (Err fault) a = tt
 
--- an answer in the year that the closure answered
+-- a result in the year that the closure returned
 pub answered_in : {post : IncompleteDate → ℤ → Type 0} {variant : Variant} {text : Text} (tz : Option (Bor TimeZone))
     (local : Bor TimeZone) (r : Result Found ParseFault)
     → InYear post variant text (λ y. Answers variant (dating_of y tz local) text r)
@@ -134,7 +134,7 @@ again variant dating bytes u (Err Invalid) told m k h e n =
     let (other, r, same) = fixed_again variant dating m k h in absurd (told.0 refl other (rw e r))
 again variant dating bytes u (Err Memory) told m k h e n = absurd (n refl)
 
--- what `normalise` answers in the year that the closure answered
+-- what `normalise` returns in the year that the closure returned
 abbrev Normalises : Variant → (Option ℤ → Dating) → List ℕ → Result (String Global) ParseFault → Option ℤ → Type 0
 Normalises variant dated bytes r year = MatchResult r (λ text. (m : MessageValue)
     × IsOnlyRead variant (dated year) (chars bytes) m × (string_bytes text ≡ encode_utf8_all (printed m)))

@@ -1,4 +1,4 @@
--- What the reading calls answer.
+-- What the reading calls return.
 use Rattle.std.proofs.Common.{◌≡◌, ◌≢◌, inl, inr, ℕ, ℤ, List, Option, Some, None, Result, Ok, Err, w32}
 use Rattle.std.proofs.Common.{SFits, to_z, of_z, refl, sym, ap, subst, ◌∙◌}
 use Rattle.std.proofs.lemmas.Int.{to_z-of_z}
@@ -84,7 +84,7 @@ in_answered_year post variant text Holds None is any h =
 in_answered_year post variant text Holds (Some year) is any h =
     record { answered = Some year; is_answered = is; holds = λ other agrees. subst Holds (sym (agrees is.0 is.1)) h }
 
--- the answer to the date that the text asks a year of
+-- the year for the date that the text asks a year of
 pub answered_to : (post : IncompleteDate → ℤ → Type 0) (variant : Variant) (text : Text) (asked : Option IncompleteDate)
     (year : Option ℤ)
     → MatchOption asked ((date : MonthDate) → AsksYear variant text date → ⊥)
@@ -108,7 +108,7 @@ year_same : (post : IncompleteDate → ℤ → Type 0) (variant : Variant) (text
 year_same post variant text year same None never date asks = absurd (never date asks)
 year_same post variant text year same (Some y) (d, a, p) date asks = ap Some (sym (same (incomplete d) y p))
 
--- For callers: what holds in the year of a closure that always answers this one, an `i32`.
+-- For callers: what holds in the year of a closure that always returns this one, an `i32`.
 pub in_this_year : {post : IncompleteDate → ℤ → Type 0} {variant : Variant} {text : Text} {Holds : Option ℤ → Type 0}
     → InYear post variant text Holds
     → (year : ℤ) → SFits w32 year → ((date : IncompleteDate) (y : ℤ) → post date y → y ≡ to_z w32 (of_z w32 year))

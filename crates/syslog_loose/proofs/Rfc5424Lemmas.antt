@@ -1,4 +1,4 @@
--- The pieces of RFC 5424: a text has one division into them, and what the reader's answers say of the text.
+-- The pieces of RFC 5424: a text has one division into them, and what the reader's result says of the text.
 pub mod ReadBack
 use Rattle.std.proofs.Common.{◌≡◌, [], ◌∷◌, refl, sym, ap, subst, ◌∙◌}
 use Rattle.std.specs.List.{flat_map}

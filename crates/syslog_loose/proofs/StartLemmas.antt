@@ -1,4 +1,4 @@
--- What the pieces at the front of a text tell of its readings.
+-- What the pieces at the front of a text say of its readings.
 use Rattle.std.proofs.Common.{◌≡◌, ◌≢◌, inl, inr, ℕ, ℤ, List, Option, Some, None, Err, false}
 use Rattle.std.proofs.Common.{true, refl, sym, ap}
 use Rattle.std.proofs.Common.{subst, ◌∙◌, arith}
@@ -40,7 +40,7 @@ use Rattle.syslog_loose.proofs.Rfc3164Lemmas.Reading.{not_read}
 use Rattle.syslog_loose.proofs.Rfc3164Lemmas.Shown.{date_has_month, shows_month_date, shown_once, shown_parts, shows}
 use Rattle.syslog_loose.proofs.Rfc3164Lemmas.Unique.{stamped_det}
 
--- what a reader of pieces behind blanks answers
+-- what a reader of pieces after blanks returns
 pub front_read : {X : Type 0} (C : Class) (view : X → C.Value) (variant : Variant) (t start : Text)
     (r : Option (X × Bor (List ℕ)))
     → ReadsProtocol variant protocol.RFC3164 → Front (run is_blank) t start tt → Reads C view start r
@@ -49,7 +49,7 @@ front_read C view variant t start None reads gap none = λ r other same.
     subst (λ (x : Text). NoFront C x) (front_same (run is_blank) (run_det is_blank) gap same).0 none
 front_read C view variant t start (Some x) reads gap f = record { reads = reads; start = start; gap = gap; front = f }
 
--- where RFC 5424 has no reading, RFC 3164 is left to try
+-- where RFC 5424 does not parse, RFC 3164 is left to try
 pub left_to_try : (variant : Variant) (text : Text) → ReadsProtocol variant protocol.RFC3164
     → (variant ≢ RFC3164 → IsNot5424 text) → IsLeftTo3164 variant text
 left_to_try RFC5424 text reads strict = absurd reads
@@ -67,7 +67,7 @@ neither Either dating text strict loose = λ m r. elim r [
   | inr (also, s) ↦ loose tt s.values s.division
 ]
 
--- where no timestamp of RFC 3164 stands behind the blanks, the text has no division
+-- where no timestamp of RFC 3164 is after the blanks, the text has no division
 unstamped : (text : Text) {follows start : Text} {p : Option ℕ} → IsBehindPriority (trimmed text) p follows
     → Front (run is_blank) follows start tt → (dating : Dating) → NoFront (rfc3164_stamp dating) start
     → IsNot3164 dash_rule dating text
@@ -151,7 +151,7 @@ module _ (variant : Variant) (text : Text) {follows : Text} {p : Option ℕ}
     dated_front dating c h =
         row_of (stamped_row dating) (f then b.gap then date_front dating (clock_value c) b.front h then refl)
 
-  -- no month date stands there
+  -- no month date is there
   module _ (without : BeginsWithout month_date variant follows) where
     pub asks_none : (d : MonthDate) → AsksYear variant text d → ⊥
     asks_none d asks =

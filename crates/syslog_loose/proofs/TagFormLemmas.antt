@@ -67,7 +67,7 @@ closing_front e = record { piece = 93 ∷ []; whole = e; is = refl }
 pub no_form : {t : Text} → Fails form_row t → IsNoForm t
 no_form f = no_row_division form_row (no_row form_row form_det f)
 
--- something else than `]` is behind the id
+-- something else than `]` is after the id
 pub no_closing : {t u : Text} {ws : Values to_closing} → Front (Row to_closing) t u ws → u ≢ 93 ∷ [] → IsNoForm t
 no_closing f n vs d =
     let (_, g) = rows_step to_closing (closing ∷ []) to_closing_det {vs = vs} f (division_front form_row d) in

@@ -50,7 +50,7 @@ last_append (c ∷ []) [] h = absurd h
 last_append (c ∷ []) (d ∷ ys) h = h
 last_append (c ∷ d ∷ xs) ys h = last_append (d ∷ xs) ys h
 
--- what stands before such a character is kept
+-- what comes before such a character is kept
 pub drop_after : (xs ys : Text) → LastVisible xs
     → drop_trailing_whitespace (xs ++ ys) ≡ xs ++ drop_trailing_whitespace ys
 drop_after [] ys h = absurd h
@@ -102,7 +102,7 @@ message_end_is (c ∷ cs) h =
     let r = drop_none (c ∷ cs) h in
     drop_before 32 (c ∷ cs) (rw r (omega arith)) ∙ ap (λ (x : Text). 32 ∷ x) r
 
--- blanks and the message stand there
+-- blanks and the message are there
 pub message_blanks : (msg : Text) → Ends is_blank msg → Front (run is_blank) (message_end msg) msg tt
 unfolding message_end
 message_blanks [] h = record { piece = []; whole = refl; is = (tt, tt) }

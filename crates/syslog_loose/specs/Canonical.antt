@@ -70,7 +70,7 @@ IsBracketedProcess (Name t) = IsBracketedName t
 abbrev pub IsLoneTag : Text → Type 0
 IsLoneTag t = (0 < length t) × Each is_tag_char t × (t ≢ dash) × IsNoForm t
 
--- A process id stands only with an app name, which then has no white space, no colon and no `[`, and may be empty. With
+-- A process id comes only with an app name, which then has no white space, no colon and no `[`, and may be empty. With
 -- no app name the host is not of the form `tag[id]`.
 abbrev pub AreCanonicalNames : Option Text → Option Text → Option (ProcId Text) → Type 0
 AreCanonicalNames host None None = IfSome host IsNoForm

@@ -37,9 +37,9 @@ pub record HasQuietNames (host : Option Text) (process : Option (ProcId Text)) :
   pub no_last_colon : IfSome host (λ h. EndsInColon h → ⊥)
   pub no_colon : IfSome process HasNoColon
 
--- The message has none of the exceptions, which are: a timestamp that its printed text does not have; a host `-`,
--- which is the text of an absent one; a host that ends in a colon, which is taken for the one behind the names; a
--- process name with a colon, at which the name before it is cut; and with no element a message that begins with a list.
+-- The message has none of the quirks, which are: a timestamp that its printed text does not have; a host `-`, which is
+-- the text of an absent one; a host that ends in a colon, which is taken for the one after the names; a process name
+-- with a colon, at which the name before it is cut; and with no element a message that begins with a list.
 pub record HasNoException (rule : DashRule) (m : MessageValue) : Type 0 where
   pub timestamp : IfSome m.timestamp IsCanonicalStamp
   pub names : HasQuietNames m.hostname m.procid
@@ -72,8 +72,8 @@ AreNamesButExceptions host None (Some process) = ⊥
 AreNamesButExceptions host (Some app) None = (0 < length app) × Each is_tag_char app × (app ≢ dash) × IsNoForm app
 AreNamesButExceptions host (Some app) (Some process) = Each is_label_char app × IsInnerProcess process
 
--- The message meets the condition for RFC 3164, but for its facility and severity and for the exceptions. A host that
--- is `-` or ends in a colon stands with no app name, and a process name with a colon stands with no host.
+-- The message meets the condition for RFC 3164, but for its facility and severity and for the quirks. A host that is
+-- `-` or ends in a colon comes with no app name, and a process name with a colon comes with no host.
 pub record HasExceptionsAlone (m : MessageValue) : Type 0 where
   pub protocol : m.protocol ≡ RFC3164
   pub hostname : IfSome m.hostname IsVisible

@@ -17,7 +17,7 @@ use Rattle.syslog_pieces.specs.Timestamp.{header_stamp}
 use Rattle.syslog_pieces.specs.Timestamp.Canonical.{IsCanonicalStamp}
 use Rattle.syslog_loose.specs.Printed.{timestamp_text}
 
--- the composed priority, as a message prints that was read behind this one
+-- the composed priority, as a message prints that was read after this one
 abbrev pub printed_number : Option ℕ → ℕ
 printed_number pri = option_map_or facility_number (option_and_then facility_of pri) 5 * 8
     + option_map_or severity_number (option_and_then severity_of pri) 7

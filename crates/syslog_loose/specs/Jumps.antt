@@ -27,12 +27,12 @@ unfoldable pub message_end : Text → Text
 message_end [] = []
 message_end (c ∷ cs) = 32 ∷ c ∷ cs
 
--- what trimming leaves of the elements and the message part that are printed behind the colon of the names
+-- what trimming leaves of the elements and the message part that are printed after the colon of the names
 abbrev pub tail_text : List ElementValue → Text → Text
 tail_text [] msg = message_end msg
 tail_text (e ∷ es) msg = 32 ∷ (joined_elements (e ∷ es) ++ message_end msg)
 
--- the message that the n-th reading makes of one whose host ends in colons: n + 1 colons fewer, which stand in the
+-- the message that the n-th reading makes of one whose host ends in colons: n + 1 colons fewer, which are in the
 -- message part before what was printed there
 abbrev pub past_colons : MessageValue → Text → ℕ → MessageValue
 past_colons m host n = record {
@@ -70,7 +70,7 @@ pub record IsDashed (text behind : Text) : Type 0 where
   pub each : Each is_blank blanks
   pub no_more : Ends is_blank behind
 
--- n dashes, each with the blanks behind it, are passed over, and a further one with blanks behind it follows
+-- n dashes, each with the blanks after it, are passed over, and a further one with blanks after it follows
 abbrev pub PassesDashes : ℕ → Text → Text → Type 0
 PassesDashes zero text behind = behind ≡ text
 PassesDashes (suc n) text behind = (before : Text) × PassesDashes n text before × IsDashed before behind × (next : Text)

@@ -1,4 +1,4 @@
--- What the reading calls answer to a printed message, and what is known of the fields of a message that was read.
+-- What the reading calls return for a printed message, and what is known of the fields of a message that was read.
 use Rattle.std.specs.Prelude.{◌≡◌, ◌≢◌, ◌↔◌, ◌⊎◌, ⊤, ℕ, List, Result, Err}
 use Rattle.std.specs.Prelude.{String, string_bytes, IfSome, IsSome, IsOkAnd}
 use Rattle.std.specs.Global.{Global}

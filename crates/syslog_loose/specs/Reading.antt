@@ -1,4 +1,4 @@
--- What it is to read a text, by which protocol and in which year, and what the reading calls answer.
+-- What it is to read a text, by which protocol and in which year, and what the reading calls return.
 use Rattle.std.specs.Prelude.{◌≡◌, ◌⊎◌, ⊤, ◌<◌, ◌≤◌, ◌^◌, ℕ, ℤ, List, [], Option, Some, None, Result, MatchResult}
 use Rattle.std.specs.Borrow.{Bor}
 use Rattle.std.specs.declared.alloc.AllocError.{AllocError}
@@ -53,7 +53,8 @@ pub record IsOnlyRead (variant : Variant) (dating : Dating) (text : Text) (m : M
   pub only : (n : MessageValue) → IsRead variant dating text n → n ≡ m
   pub quoted : IsQuoted variant dating text m
 
--- The text has no reading, or one without elements: it has no list, or one that is `-` or broken elements alone.
+-- The text does not parse, or its message has no elements: there is no list, or one that is `-` or broken elements
+-- alone.
 abbrev pub NeedsNoMemory : Variant → Dating → Text → Type 0
 NeedsNoMemory variant dating text = (m : MessageValue) → IsRead variant dating text m → m.structured_data ≡ []
 
@@ -97,9 +98,9 @@ pub record InYear (post : IncompleteDate → ℤ → Type 0) (variant : Variant)
   pub is_answered : IsYearAnswered post variant text answered
   pub holds : (year : Option ℤ) → ((date : MonthDate) → AsksYear variant text date → year ≡ answered) → Holds year
 
--- ---- what the exact calls answer
+-- ---- what the exact calls return
 
--- `Invalid` only to a text that has no reading, and `Memory` only to one whose message has elements
+-- `Invalid` only for a text that does not parse, and `Memory` only for one whose message has elements
 abbrev pub IsFault : Variant → Dating → Text → ParseFault → Type 0
 IsFault variant dating text Invalid = IsUnreadable variant dating text
 IsFault variant dating text Memory = NeedsNoMemory variant dating text → ⊥
@@ -115,9 +116,9 @@ IsLeftTo3164 RFC5424 text = ⊥
 IsLeftTo3164 RFC3164 text = ⊤
 IsLeftTo3164 Either text = IsNot5424 text
 
--- ---- what the calls with a fallback answer
+-- ---- what the calls with a fallback return
 
--- the message that stands for a text without a reading: the whole of it, as it was handed in
+-- the message for a text that does not parse: the whole of it, as it was handed in
 abbrev pub fallback : Text → MessageValue
 fallback text = record {
   protocol = protocol.RFC3164;
@@ -143,7 +144,7 @@ AnswersOrWhole variant dating text result = MatchResult result
     (λ m. IsReadOrWhole variant dating text (message_value (λ s. shown s) m))
     (λ _. NeedsNoMemory variant dating text → ⊥)
 
--- For callers: the text has no reading, and this holds, or this holds of the one message as which it is read.
+-- For callers: the text does not parse, and this holds, or this holds of the one message as which it is read.
 abbrev pub OnReading : Variant → Dating → Text → Type 0 → (MessageValue → Type 0) → Type 0
 OnReading variant dating text Otherwise Holds = (IsUnreadable variant dating text × Otherwise)
     ⊎ ((m : MessageValue) × IsOnlyRead variant dating text m × Holds m)

@@ -27,14 +27,15 @@ pub record Names3164 : Type 0 where
 abbrev pub names : Option Text → Option Text → Option (ProcId Text) → Names3164
 names hostname appname procid = record { hostname = hostname; appname = appname; procid = procid }
 
--- a program's name beside this host: of the form `tag[id]` it gives app name and process id, else it is the app name
+-- a program's name after this host: of the form `tag[id]` it gives app name and process id, otherwise it is the app
+-- name
 abbrev pub NamesProgram : Option Text → Text → Names3164 → Type 0
 NamesProgram host text n =
     ((tag : Text) × (id : Text) × (process : ProcId Text) × IsForm text tag id × NamesProcess id process
     × (n ≡ names host (Some tag) (Some process)))
     ⊎ (IsNoForm text × (n ≡ names host (Some text) None))
 
--- a lone name: of the form `tag[id]` it is a program's, else it is the host
+-- a lone name: of the form `tag[id]` it is a program's, otherwise it is the host
 abbrev pub NamesHost : Text → Names3164 → Type 0
 NamesHost text n =
     ((tag : Text) × (id : Text) × (process : ProcId Text) × IsForm text tag id × NamesProcess id process
@@ -52,7 +53,7 @@ Resolves field (Some None) n = n ≡ names None None None
 
 -- ---- the pieces
 
--- the fields of names and a colon, with blanks or none behind them
+-- the fields of names and a colon, with blanks or none after them
 abbrev pub fields_row : List Class
 fields_row =
     optional (spaced host) ∷ optional (spaced tag_word) ∷ run is_blank ∷ optional (exactly colon) ∷ run is_blank ∷ []

@@ -62,7 +62,7 @@ pub record IsFirstSettled (variant : Variant) (dating : Dating) (text u : Text) 
   pub settled : IsSettled variant dating u
   pub none_before : NoneSettled variant dating text before
 
--- ---- what `settle` answers
+-- ---- what `settle` returns
 
 -- this is the first settled round of the text, and one of the rounds 1 to n + 1 where the text has n characters
 pub record SettlesAs (variant : Variant) (dating : Dating) (text u : Text) : Type 0 where
@@ -81,7 +81,7 @@ abbrev pub Settles : Variant → Dating → Text → Result (String Global) Pars
 Settles variant dating text result = MatchResult result (λ u. SettlesAs variant dating text (chars (string_bytes u)))
     (λ fault. IsSettlingFault variant dating text fault)
 
--- the answer of a call that leaves its text in a place of the caller's
+-- the result of a call that leaves its text in a place of the caller's
 abbrev pub answer_in : {A : Type 0} → Result A ParseFault → String Global → Result (String Global) ParseFault
 answer_in (Ok _) text = Ok text
 answer_in (Err fault) text = Err fault
@@ -96,7 +96,7 @@ Costs Holds n w = (Holds × (w ≡ 0)) ⊎ ((Holds → ⊥) × (w ≡ n))
 abbrev pub end_colons : Text → ℕ
 end_colons text = suffix_len (λ c. nat_eq c 58) text
 
--- nothing for no colon, else one more than the colons
+-- nothing for no colon, otherwise one more than the colons
 abbrev pub colons_weight : ℕ → ℕ
 colons_weight zero = 0
 colons_weight (suc n) = suc n + 1

@@ -18,7 +18,7 @@ pub record BeginsWith (C : Class) (variant : Variant) (text : Text) (value : C.V
   pub gap : Front (run is_blank) text start tt
   pub front : Front C start follows value
 
--- The variant doesn't read RFC 3164, or no such piece stands behind the blanks.
+-- The variant doesn't read RFC 3164, or no such piece is after the blanks.
 abbrev pub BeginsWithout : Class → Variant → Text → Type 0
 BeginsWithout C variant text = ReadsProtocol variant RFC3164 → (start : Text) → Front (run is_blank) text start tt
     → NoFront C start

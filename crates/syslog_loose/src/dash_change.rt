@@ -1,5 +1,5 @@
-//! Whether the change of the dash changed the reading of a text. The front of the text tells, up to its list: so no
-//! element is collected, and no memory taken.
+//! Whether the change of the dash changed the reading of a text. The front of the text, up to its list, decides it: so
+//! no element is collected, and no memory taken.
 ghost use Rattle.std.specs.Prelude.{◌↔◌, ℕ, IsTrue, MatchBool, Option};
 ghost use Rattle.std.specs.Result.{IsOkAnd};
 ghost use Rattle.std.specs.Str.{chars};
@@ -59,8 +59,8 @@ pub fn reads_differently<F: FnOnce(IncompleteDate) -> i32>(
     }
 }
 
-// The same of a text of RFC 3164, by what stands behind its timestamp. What RFC 3164 reads so has no division of RFC
-// 5424.
+// Returns whether a text of RFC 3164 reads differently, by what is after its timestamp. Such a text has no division of
+// RFC 5424.
 fn has_dash_change(behind: &str) -> bool
     ensures { (dating : AnyDating) (whole : Text) (priority : Option ℕ) (timestamp : Option ClockStamp)
         → IsBehindStamp dating (trimmed_text whole) priority timestamp (chars behind.now) → MatchBool result

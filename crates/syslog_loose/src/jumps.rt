@@ -1,8 +1,8 @@
 //! Rounds that `settle` skips, so that no line takes more than a handful of passes.
 //!
-//! A host of RFC 3164 that ends in colons is read with one fewer each time, and the colon stands in the message part
-//! after it; of a message part of dashes each reading takes one for an empty list. Each of these rounds is known from
-//! the one before it, so the last of them is written at once.
+//! A host of RFC 3164 that ends in colons is read with one fewer each time, and the colon is in the message part after
+//! it; of a message part of dashes each reading takes one for an empty list. Each of these rounds is known from the one
+//! before it, so the last of them is written at once.
 ghost use Rattle.std.specs.Prelude.{◌≡◌, ◌+◌, ◌*◌, ◌-◌, ◌++◌, ◌<◌, ◌≤◌, ◌∷◌, ℕ, [], IfSome};
 ghost use Rattle.std.specs.Prelude.{MatchOption, None, OnOk, Some, length, string_bytes};
 ghost use Rattle.std.specs.Fmt.{WritesOnOk};
@@ -92,7 +92,7 @@ fn cut_colons(name: &str) -> (&str, usize)
     (host, many + few)
 }
 
-// The same, cut by a run of colons, as often as a colon stands before it.
+// Cuts a run of colons off the name, as often as a colon is before it.
 #[inline(always)]
 fn cut_runs<'a>(name: &'a str, run: &str) -> (&'a str, usize)
     requires some { 0 < length run.now }
@@ -179,7 +179,7 @@ fn push_runs(text: &mut String, run: &str, count: usize) -> Result<(), AllocErro
     Ok(())
 }
 
-// What stands after the colon of the names: elements and the message part, each after a space.
+// Writes what comes after the colon of the names: elements and the message part, each after a space.
 #[derive(Clone, Copy)]
 struct Tail<'a> {
     list: ElementList<'a>,

@@ -80,7 +80,7 @@ pub fn month_date_is_no_rfc5424()
     ensures { (text : Text) (date : MonthDate) → ShowsMonthDate text date → IsNot5424 text }
 {}
 
-/// Where a text shows no date without a year, the year that would stand in for one counts for nothing.
+/// If a text shows no date without a year, the year that would be used for one makes no difference.
 #[tactic(auto, using(crate::proofs::Rfc3164Lemmas::Years::other_read))]
 pub fn year_counts_for_yearless_dates_alone()
     ensures reads { (rule : DashRule) (text : Text) → ((date : MonthDate) → ShowsYearless text date → ⊥)
@@ -91,7 +91,7 @@ pub fn year_counts_for_yearless_dates_alone()
         → (m : MessageValue) → Quotes3164 rule dating text m → Quotes3164 rule other text m }
 {}
 
-/// A printed message of RFC 3164 has no division of RFC 5424: a space stands where the version would begin.
+/// A printed message of RFC 3164 has no division of RFC 5424: a space is where the version would begin.
 pub fn printed_rfc3164_is_no_rfc5424()
     ensures { (m : MessageValue) → m.protocol ≡ RFC3164 → IsNot5424 (printed m) }
 {}

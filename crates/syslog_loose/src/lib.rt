@@ -4,13 +4,12 @@
 //! Memory aside, a text is read by the one division into pieces that the grammar in `docs/GRAMMAR.md` allows. Reading
 //! copies no text; what takes memory takes `alloc` first and can be refused.
 //!
-//! `normalise` prints the message of a text, and `settle` goes on until the text no longer changes. Memory aside, a
-//! line of RFC 5424 stays as it is once it is normalised; any other settles, or one of its rounds has no reading.
+//! `normalise` prints the message of a text, and `settle` goes on until the text no longer changes. A printed line of
+//! RFC 5424 is stable; any other becomes so, or one of its rounds does not parse.
 //!
-//! Where `line` is `<34>Oct 11 22:14:15 mymachine app[323]: a message` and `get_year` answers 2019, the call
-//! `normalise(alloc, line, get_year, None, Variant::Either, &TimeZone::UTC)` answers
-//! `<34> 2019-10-11T22:14:15+00:00 mymachine app[323]: a message`, and `settle` the same. `CALLING.md` has callers with
-//! their contracts and proofs.
+//! If `line` is `<34>Oct 11 22:14:15 mymachine app[323]: a message` and `get_year` returns 2019, the call
+//! `normalise(alloc, line, get_year, None, Variant::Either, &TimeZone::UTC)` returns `<34> 2019-10-11T22:14:15+00:00
+//! mymachine app[323]: a message`, and so does `settle`. `CALLING.md` has callers with their contracts and proofs.
 #![tactic(auto)]
 
 mod dash_change;

@@ -35,8 +35,8 @@ pub enum Protocol {
 
 /// A syslog message over texts of a type `S`.
 ///
-/// It prints as its protocol writes it; the values of parameters are printed as they stand, without escaping, and an
-/// absent facility counts as 5, an absent severity as 7.
+/// It prints as its protocol writes it. Values of parameters are printed as they are, without escaping; an absent
+/// facility counts as 5, an absent severity as 7.
 ///
 /// Two messages are `==` when all fields but the protocol are: timestamps by instant, whatever their offsets, and
 /// elements in order, each with its parameters in any order. That is an equivalence, but there is no `Eq`: messages
@@ -66,7 +66,7 @@ pub struct Message<S> {
     pub msg: S,
 }
 
-/// The composed priority, with what stands for an absent part.
+/// The composed priority, with what an absent part prints as.
 #[inline]
 pub(crate) fn priority(facility: Option<SyslogFacility>, severity: Option<SyslogSeverity>) -> u32
     ensures { result ≡ option_map_or facility_number facility 5 * 8 + option_map_or severity_number severity 7 }
@@ -110,7 +110,7 @@ fn write_rfc5424<S: AsStr, W: fmt::Write>(
     write_spaced(f, msg)
 }
 
-// Writes the timestamp and the host, each behind a space.
+// Writes the timestamp and the host, each after a space.
 #[inline]
 fn write_origin<S: AsStr, W: fmt::Write>(
     f: &mut fmt::Formatter<W>,
@@ -124,7 +124,7 @@ fn write_origin<S: AsStr, W: fmt::Write>(
     write_name(f, &message.hostname)
 }
 
-// Writes the app name, the process id and the message id, each behind a space.
+// Writes the app name, the process id and the message id, each after a space.
 fn write_program<S: AsStr, W: fmt::Write>(
     f: &mut fmt::Formatter<W>,
     message: &Message<S>,

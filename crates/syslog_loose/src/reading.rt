@@ -32,8 +32,8 @@ use syslog_pieces::timestamp::year_at;
 
 /// The message of the text, read by the variant, with the year of `now` in the local zone for a date that has none.
 ///
-/// A text that has no reading gives the fallback: protocol RFC 3164, the whole input as its `msg`, and nothing else.
-/// The one refusal is for memory, which is asked for only to collect elements.
+/// For a text that does not parse it returns the fallback: protocol RFC 3164, the whole input as its `msg`, and nothing
+/// else. It fails for memory alone, which is asked for only to collect elements.
 pub fn parse_message<'a>(
     alloc: Global,
     input: &'a str,
@@ -85,7 +85,7 @@ pub fn parse_message_with_year_tz<'a, F: FnOnce(IncompleteDate) -> i32>(
     or_fallback(alloc, input, answer)
 }
 
-// The same answer, with the fallback in place of `Invalid`.
+// Returns the fallback instead of `Invalid`.
 fn or_fallback<'a>(
     alloc: Global,
     input: &'a str,
@@ -101,7 +101,7 @@ fn or_fallback<'a>(
     }
 }
 
-// The message that stands for a text without a reading.
+// The message for a text that does not parse.
 fn fallback(alloc: Global, input: &str) -> Message<&str>
     ensures { message_value (λ s. shown s) result ≡ spec.fallback (chars input.now) }
 {
@@ -141,10 +141,9 @@ pub fn parse_message_with_year_exact<'a, F: FnOnce(IncompleteDate) -> i32>(
 
 /// The message of the text, read by the variant, or `Invalid`.
 ///
-/// `get_year` gives the year of a date that has none: it is called once, and only where the text shows such a date and
-/// the variant reads it. `tz` is the zone of a date without an offset, and `local` stands in for it where it is absent.
-/// Each text of the message is a slice of the input. The one refusal besides `Invalid` is `Memory`, and memory is asked
-/// for only to collect elements.
+/// `get_year` gives the year of a date that has none: it is called once, and only if the text shows such a date and the
+/// variant reads it. `tz` is the zone of a date without an offset; without it `local` is used. Each text of the message
+/// is a slice of the input. It fails with `Invalid` or `Memory`, and memory is asked for only to collect elements.
 #[inline]
 pub fn parse_message_with_year_exact_tz<'a, F: FnOnce(IncompleteDate) -> i32>(
     alloc: Global,

@@ -54,7 +54,7 @@ fn program<'a>(hostname: Option<&'a str>, name: &'a str) -> Names<'a>
     }
 }
 
-// A name that stands alone: a program's where it is of the form `tag[id]`, else a host.
+// A lone name: a program's if it is of the form `tag[id]`, otherwise a host.
 #[inline(always)]
 fn lone<'a>(name: &'a str) -> Names<'a>
     ensures { spec.NamesHost (chars name.entry.now) (names_value result) }

@@ -26,8 +26,8 @@ use syslog_pieces::structured_data::NoElements;
 use syslog_pieces::text::trimmed;
 use syslog_pieces::timestamp::canonical::is_canonical_clock;
 
-/// The printed text of the message that `parse_message_with_year_exact_tz` answers, in memory of its own. A text that
-/// has no reading is `Invalid`, and never `Memory`.
+/// Returns the printed text of the message that `parse_message_with_year_exact_tz` returns, in memory of its own. A
+/// text that does not parse is `Invalid`, and never `Memory`.
 pub fn normalise<F: FnOnce(IncompleteDate) -> i32>(
     alloc: Global,
     input: &str,
@@ -52,8 +52,8 @@ pub fn normalise<F: FnOnce(IncompleteDate) -> i32>(
     Ok(text)
 }
 
-/// Writes a round of the text into `text`: the next one, where that is known to be settled, and tells so. Else it may be
-/// a later one, before which none is settled. The arguments are those of `visit_line`.
+/// Writes the next round of the text into `text`, or a later one, before which none is stable. Returns whether it is
+/// known to be stable. The arguments are those of `visit_line`.
 #[inline(always)]
 pub(crate) fn next_round<F: FnOnce(IncompleteDate) -> i32>(
     text: &mut String,
@@ -71,7 +71,7 @@ pub(crate) fn next_round<F: FnOnce(IncompleteDate) -> i32>(
     answer(made)
 }
 
-/// The same of a text that shows no month date, as what is printed.
+/// Writes the next round of a printed text, or a later one, as `next_round` does. It shows no month date.
 #[inline(always)]
 pub(crate) fn later_round(
     text: &mut String,
@@ -98,7 +98,7 @@ fn answer(made: Option<Result<bool, AllocError>>) -> Result<bool, ParseFault>
     }
 }
 
-// Writes a round of the line, in place of what was there, and tells whether it is known to be settled.
+// Writes a round of the line instead of what was there, and returns whether it is known to be stable.
 impl<'a> LineVisitor<'a> for String {
     type Answer = Result<bool, AllocError>;
 

@@ -19,8 +19,8 @@ use jiff::tz::TimeZone;
 use std::alloc::Global;
 use std::mem::swap;
 
-/// The first round of the text, from round 1 on, that normalising leaves as it is: round 1 is what `normalise` answers
-/// to the text, and each further round what it answers to the one before. `Invalid` where a round has no reading.
+/// Returns the first stable round of the text: round 1 is what `normalise` returns for the text, each further round
+/// what it returns for the one before. `Invalid` if a round does not parse.
 ///
 /// The arguments are those of `normalise`. `get_year` is called as there, and in round 1 alone: what is printed shows
 /// no month date. Two texts are held at most at a time, and no memory is asked for that `normalise` would not ask for
@@ -37,7 +37,7 @@ pub fn settle<F: FnOnce(IncompleteDate) -> i32>(
     requires { AnswersEachMonth (F.pre get_year) }
     ensures settles { InYear (F.post get_year) variant (chars input.entry.now)
         (λ year. Settles variant (dating_of year tz.entry local.entry) (chars input.entry.now) result) }
-    // The message of the answer meets the written condition.
+    // The message of the result meets the written condition.
     ensures canonical { InYear (F.post get_year) variant (chars input.entry.now)
         (λ year. IfOk result (λ text. (m : MessageValue)
         → IsRead variant (dating_of year tz.entry local.entry) (chars (string_bytes text)) m
@@ -48,9 +48,8 @@ pub fn settle<F: FnOnce(IncompleteDate) -> i32>(
     Ok(text)
 }
 
-/// The same, with the answer in `text`, in place of what was there: whoever settles line after line in one `String`
-/// asks for memory only where a line needs more of it than those before. Where the call fails, `text` may hold
-/// anything.
+/// Writes what `settle` returns into `text`, instead of what was there. One `String` for line after line needs an
+/// allocation only for a line longer than each before. If the call fails, `text` may hold anything.
 pub fn settle_into<F: FnOnce(IncompleteDate) -> i32>(
     alloc: Global,
     text: &mut String,
@@ -64,7 +63,7 @@ pub fn settle_into<F: FnOnce(IncompleteDate) -> i32>(
     ensures settles { InYear (F.post get_year) variant (chars input.entry.now)
         (λ year. Settles variant (dating_of year tz.entry local.entry) (chars input.entry.now)
         (answer_in result text.new)) }
-    // The message of the answer meets the written condition.
+    // The message of the result meets the written condition.
     ensures canonical { InYear (F.post get_year) variant (chars input.entry.now)
         (λ year. IfOk (answer_in result text.new) (λ answer. (m : MessageValue)
         → IsRead variant (dating_of year tz.entry local.entry) (chars (string_bytes answer)) m

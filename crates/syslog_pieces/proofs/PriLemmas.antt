@@ -32,7 +32,7 @@ as_priority f = record { piece = f.piece; whole = f.whole; is = f.is }
 pub no_priority : {text : Text} → Fails priority_row text → NoFront priority text
 no_priority f p q v e h = no_row priority_row priority_row_det f p q (tt, (v, (tt, tt))) e h
 
--- ---- each facility, and each severity, stands at the place of its number
+-- ---- each facility, and each severity, is at the place of its number
 facility_placed : (f : SyslogFacility) → slice_get facilities (facility_number f) ≡ Some f
 facility_placed f = grind arith
 

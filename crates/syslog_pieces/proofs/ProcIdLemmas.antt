@@ -29,7 +29,7 @@ unsigned_is : (c : ℕ) (d : Text) → c ≢ 45 → c ≢ 43 → (without_leadin
     × (signed_digits_value 10 (c ∷ d) ≡ pos (digits_value 10 (c ∷ d)))
 unsigned_is c d m p = rw (ne_eqb c 45 m, ne_eqb c 43 p) (refl, refl)
 
--- a numeral behind a sign writes its value
+-- a numeral after a sign writes its value
 pub numeral_writes : (t : Text) → IsNumeral 10 (without_leading_sign t) → WritesSigned t (signed_digits_value 10 t)
 numeral_writes [] h = absurd (let k : 0 < 0 = h.0 in omega arith)
 numeral_writes (c ∷ d) h = elim (cases_eq c 45) [
@@ -104,7 +104,7 @@ process_front {name = name} i f h = record { piece = f.piece; whole = f.whole; i
 pub absent_front : {t q : Text} → Front word t q None → Front process_word t q None
 absent_front f = record { piece = f.piece; whole = f.whole; is = f.is }
 
--- ---- process ids that stand as they print
+-- ---- process ids in printed form
 all_digits : (t : Text) → Each is_ascii_digit t ⊎ (Each is_ascii_digit t → ⊥)
 all_digits [] = inl tt
 all_digits (c ∷ t) = elim (cases_Bool (is_ascii_digit c)) [

@@ -23,7 +23,7 @@ procid_value text (Name s) = Name (text s)
 abbrev pub IsDigits : Text → Type 0
 IsDigits t = (0 < length t) × Each is_ascii_digit t
 
--- digits, behind at most one sign, that write this number
+-- digits, after at most one sign, that write this number
 abbrev pub WritesSigned : Text → ℤ → Type 0
 WritesSigned t n =
     (IsDigits t × (n ≡ pos (digits_value 10 t)))

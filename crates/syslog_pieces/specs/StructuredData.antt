@@ -33,7 +33,7 @@ IsValue p = (units : List TextUnit) × (p ≡ flat_map unit_text units) × AllBy
 abbrev pub value : Class
 value = record { Value = Text; Is = λ p q v. IsValue p × ((r : Text) × (q ≡ 34 ∷ r)) × (v ≡ p) }
 
--- `name="value"`, where blanks may stand behind the equals sign
+-- `name="value"`, where blanks may be after the equals sign
 abbrev pub param_row : List Class
 param_row = texted (some_run is_name_char) ∷ exactly (61 ∷ []) ∷ run is_blank ∷ exactly (34 ∷ []) ∷ value
     ∷ exactly (34 ∷ []) ∷ []

@@ -29,7 +29,7 @@ number limit = record {
   Is = λ p q n. (0 < length p) × Each is_ascii_digit p × Ends is_ascii_digit q × (n ≡ digits_value 10 p) × (n ≤ limit);
 }
 
--- `-` stands for an absent name, any other text for itself
+-- `-` is an absent name, any other text means itself
 abbrev pub Names : Text → Option Text → Type 0
 Names p v = MatchOption v (p ≡ dash) (λ t. (t ≡ p) × (p ≢ dash))
 
@@ -49,7 +49,7 @@ abbrev pub EndsInColon : Text → Type 0
 EndsInColon p = (front : Text) × (p ≡ front ++ colon)
 
 -- A host is nonempty and without white space. It is either a whole run that does not end in a colon, or a run whose
--- last colon is left to what follows; in that case it stands for itself, even as `-`.
+-- last colon is left to what follows; in that case it means itself, even as `-`.
 abbrev pub IsHost : Text → Text → Option Text → Type 0
 IsHost p q v = (0 < length p) × Each is_not_whitespace p
     × (((EndsInColon p → ⊥) × Ends is_not_whitespace q × Names p v)
@@ -62,8 +62,8 @@ host = record { Value = Option Text; Is = IsHost }
 abbrev pub is_tag_char : ℕ → Bool
 is_tag_char c = is_not_whitespace c && not (nat_eq c 58)
 
--- A tag word of RFC 3164: a maximal nonempty run without white space and colons. The word `-` stands for a tag that is
--- there and empty.
+-- A tag word of RFC 3164: a maximal nonempty run without white space and colons. The word `-` means a tag that is there
+-- and empty.
 abbrev pub tag_word : Class
 tag_word =
     record { Value = Option Text; Is = λ p q v. (0 < length p) × Each is_tag_char p × Ends is_tag_char q × Names p v }

@@ -81,7 +81,7 @@ impl<S: AsStr + Clone> ProcId<S> {
 }
 
 impl ProcId<&str> {
-    /// The same process id, with a name of its own. An `Err` is only for memory, and nothing has changed then.
+    /// Returns the process id with a name of its own. If an allocation fails, nothing has changed.
     pub fn to_owned_text(&self, alloc: Global) -> Result<ProcId<String>, AllocError>
         ensures { IfOk result (λ copy. spec.procid_value (text_of string_bytes) copy
             ≡ spec.procid_value (λ s. shown s) self.now) }

@@ -1,7 +1,7 @@
 //! Structured data: elements with an id and parameters (RFC 5424 section 6.3).
 //!
-//! An element is read as it stands: values stay raw, and `StructuredElement::params` takes the escapes out. Recognising
-//! an element or a list takes no memory, and time in proportion to the text; collecting it takes memory.
+//! Values stay raw, and `StructuredElement::params` takes the escapes out. Recognising an element or a list takes no
+//! memory, and time in proportion to the text; collecting it allocates.
 ghost use Rattle.std.specs.Prelude.{◌≡◌, ◌++◌, [], ◌∷◌, Some};
 ghost use Rattle.std.specs.Fmt.{WritesOnOk};
 ghost use Rattle.std.specs.Str.{encode_utf8_all};
@@ -39,8 +39,8 @@ use std::alloc::Global;
 use std::fmt;
 pub use visit::{ElementVisitor, NoElements, NoNotes, ParamNotes};
 
-/// An element: its id, and the names and the raw values of its parameters, in order. It prints as it is written, each
-/// parameter behind one space; a value prints raw, with the escapes that stand in it and no others.
+/// An element: its id, and the names and the raw values of its parameters, in order. It prints with one space before
+/// each parameter, and values raw, with the escapes that they have and no others.
 #[derive(Debug, Drop)]
 pub struct StructuredElement<S> {
     /// The id.

@@ -259,7 +259,7 @@ fn is_byte(text: &str, byte: u8) -> bool
     }
 }
 
-// `-` stands for an absent name.
+// `-` is an absent name.
 #[tactic(auto, using(crate::proofs::TextLemmas::Words::dash_told))]
 #[inline(always)]
 fn named(run: &str) -> Option<&str>

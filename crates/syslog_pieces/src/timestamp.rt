@@ -6,10 +6,9 @@
 //! and a zero offset of either sign are the offset 0; an instant outside the range of
 //! `jiff::Timestamp` is refused; the printed form is the one that [`OffsetTimestamp`] describes.
 //!
-//! **For the floor above.** [`header_stamp`] reads exactly the class `header_stamp`, which begins with
-//! `-` or a digit, and `month_date` exactly the class `month_date`, which begins with a letter. Of a
-//! month date `zone::month_stamp` answers the timestamp. Display writes `printed_stamp`. Equality and
-//! order look at the instant alone.
+//! **For the floor above.** [`header_stamp`] reads exactly the class `header_stamp`, which begins with `-` or a digit,
+//! and `month_date` exactly the class `month_date`, which begins with a letter. `zone::month_stamp` returns the
+//! timestamp of a month date. Display writes `printed_stamp`. Equality and order look at the instant alone.
 ghost use Rattle.std.proofs.Common.{rules};
 ghost use Rattle.std.specs.Cmp.{partial_order_from_own_ties};
 ghost use Rattle.std.specs.Cmp.Rules.{comparing};
@@ -54,8 +53,8 @@ pub struct OffsetTimestamp {
     pub offset: Offset,
 }
 
-/// The timestamp at the front of a header's text, absent for `-`, and the text behind it. A text
-/// that begins with `-` is never more than that.
+/// Reads the timestamp at the front of a header's text, absent for `-`. Returns it and the rest. A text that begins
+/// with `-` is never more than that.
 #[tactic(auto, using(crate::proofs::TimestampLemmas::Piece::header_fronts))]
 #[inline(always)]
 pub fn header_stamp(text: &str) -> Option<(Option<ClockStamp>, &str)>

@@ -1,4 +1,4 @@
-//! What the tests assert. Each assertion stands here once, since the message of each is proved too.
+//! What the tests assert. Each assertion is here once, since the message of each is proved too.
 use std::fmt;
 use std::fmt::Write;
 use std::process::Abort;
@@ -14,7 +14,7 @@ pub(super) fn check_same(rt: &impl Abort, found: &str, want: &str, row: &str) {
     assert!(rt; found == want, "{row}: {found}");
 }
 
-/// The answer for the row is this text, or this fault.
+/// The result for the row is this text, or this fault.
 pub(super) fn check_answer(
     rt: &impl Abort,
     answer: Result<String, ParseFault>,
@@ -28,7 +28,7 @@ pub(super) fn check_answer(
     }
 }
 
-/// The first cell of a row, and those behind it.
+/// The first cell of a row, and those after it.
 pub(super) fn cells<'a>(rt: &impl Abort, row: &'a str) -> (&'a str, &'a str) {
     row.split_once('¦').expect(rt, row)
 }

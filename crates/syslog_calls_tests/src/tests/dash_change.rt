@@ -63,7 +63,7 @@ fn tells_a_dash_before_no_blank(rt: HostRuntime) {
     }
 }
 
-/// A text whose date the year or the zone lacks has no reading by either rule.
+/// A text whose date lacks a year or a zone does not parse, by either rule.
 #[test]
 fn tells_no_text_with_a_date_that_is_missing(rt: HostRuntime) {
     let (utc, rule) = (TimeZone::UTC, summer_rule(&rt));
@@ -112,7 +112,7 @@ fn asked_by_difference(
     Ok(noted)
 }
 
-// The date that a reading call asks with, if it asks, whether the text has a reading or not.
+// The date that a reading call asks with, if it asks, whether the text parses or not.
 fn asked_by_reading(alloc: Global, text: &str, variant: Variant) -> Option<IncompleteDate> {
     let mut noted = None;
     let note = |date: IncompleteDate| {

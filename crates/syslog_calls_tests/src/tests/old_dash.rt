@@ -9,7 +9,7 @@ use syslog_pieces::structured_data::rfc3164_list::{DASH_RULE, DashRule, begins_l
 use syslog_pieces::structured_data::{NoElements, visit_rfc3164_list};
 use syslog_pieces::text::blanks;
 
-/// Rows of a text, what stands behind its names, and what message that was then and is now.
+/// Rows of a text, what comes after its names, and its message then and now.
 const ROWS: [&str; 11] = [
     "<34>Oct 11 22:14:15 mymachine app: -5 degrees¦-5 degrees¦5 degrees¦-5 degrees",
     "--x¦-x¦x¦-x",
@@ -24,7 +24,7 @@ const ROWS: [&str; 11] = [
     "<34>Oct 11 22:14:15 mymachine app[323]: a message¦a message¦a message¦a message",
 ];
 
-// What is left for the message behind the list.
+// What is left for the message after the list.
 fn check_left(rt: &impl Abort, part: &str, rule: DashRule, want: &str) {
     let (_, rest) = visit_rfc3164_list(part, rule, &mut NoElements);
     check_same(rt, blanks(rest), want, part);
@@ -59,7 +59,7 @@ fn was_not_canonical_with_a_dash_before_anything(rt: HostRuntime) {
     check(&rt, message.structured_data.is_empty(), text);
     check_same(&rt, message.msg, "-5", text);
     check(&rt, message.is_canonical(), text);
-    // Whether a list begins it by the rule, and what is left behind that.
+    // Whether a list begins it by the rule, and what is left after that.
     for (rule, begins, left) in &[
         (DashRule::BeforeAnything, true, "5"),
         (DASH_RULE, false, "-5"),

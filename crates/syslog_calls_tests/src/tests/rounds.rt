@@ -31,8 +31,8 @@ fn by_hand(
     Err(ParseFault::Invalid)
 }
 
-/// The text settles as normalising it by hand comes to rest, with the same fault where a round is missing; and
-/// normalising leaves the answer as it is.
+/// `settle` returns what normalising by hand ends in, with the same fault if a round is missing; and normalising leaves
+/// the result as it is.
 fn expect_as_by_hand(rt: &impl Abort, alloc: Global, text: &str, year: i32, tz: &TimeZone<'_>) {
     let answer = settled(alloc, text, year, Some(tz));
     match by_hand(alloc, text, year, tz) {

@@ -5,7 +5,7 @@ use std::alloc::Global;
 use std::process::Abort;
 use syslog_loose::{StructuredElement, Variant};
 
-/// What stands before a list, in each protocol, as it prints behind the priority.
+/// What comes before a list, in each protocol, as it prints after the priority.
 const FRONTS: [&str; 2] = ["1 - - - - - ", " - h a: "];
 
 /// What a long text is read as: so many elements `e`, each of so many parameters `k`, all of one value, and a message.
@@ -43,7 +43,7 @@ fn check_element(
     }
 }
 
-// The text is read so, and prints as this text behind the priority.
+// The text parses so, and prints as this text after the priority.
 fn check_long(rt: &impl Abort, alloc: Global, text: &str, want: &Long<'_>, printed: &str) {
     let message = read(alloc, text, Variant::Either).expect(rt, "no message");
     let count = message.structured_data.len();

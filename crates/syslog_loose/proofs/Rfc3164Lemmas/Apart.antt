@@ -37,7 +37,7 @@ pub number_begins : (limit : ℕ) {t q : Text} {n : ℕ} → Front (number limit
 number_begins limit {q = q} f =
     rw f.whole (begins_more IsDigit f.piece q (each_begins is_ascii_digit f.piece f.is.0 f.is.1))
 
--- no blank stands before a digit
+-- no blank is before a digit
 no_blanks : (p q : Text) → Each is_blank p → Begins IsDigit (p ++ q) → p ≡ []
 no_blanks [] q a b = refl
 no_blanks (c ∷ p) q a b = absurd (let t = blank_low c a.0 in let u = digit_range c b in omega arith)
@@ -48,7 +48,7 @@ stays {t = t} {q = q} b f =
 
 -- ---- a version, which no timestamp begins with
 
--- what stands behind the priority in RFC 5424: a number, and then a blank
+-- what comes after the priority in RFC 5424: a number, and then a blank
 pub record Versioned (t : Text) : Type 0 where
   pub value : ℕ
   pub after : Text
@@ -84,7 +84,7 @@ rfc3164_apart dating p q (Some s) (inr (d, h, stamp)) n = date_apart p q d h n
 
 -- ---- divisions of both kinds
 
--- where both have their priority, RFC 5424 has a version behind it
+-- where both have their priority, RFC 5424 has a version after it
 pub versioned : (text q : Text) (p : Option ℕ) (vs : Values rfc5424_row) → Division rfc5424_row text vs
     → Front (optional priority) text q p → Versioned q
 versioned text q p vs d f =
@@ -97,7 +97,7 @@ versioned text q p vs d f =
       blank = blanks_begin g3;
     }
 
--- and blanks behind the priority are none there
+-- and blanks after the priority are none there
 moved : {t q : Text} → Front (run is_blank) t q tt → Versioned t → Versioned q
 moved f v = subst Versioned (stays (number_begins 4294967295 v.number) f) v
 

@@ -116,7 +116,7 @@ list_none rule msg q (Some es) f e l = elim f.is [
   | inr (m, z) ↦ absurd (let y = ap length e in omega arith)
 ]
 
--- a message behind the colon that is read as it was printed, without elements, is no list
+-- a message after the colon that is read as it was printed, without elements, is no list
 end_list : (rule : DashRule) (vs : Values (from_blanks rule)) → elements_or vs.1.0 ≡ [] → Ends is_blank vs.1.1.1.0
     → Front (Row (from_blanks rule)) (tail_text (elements_or vs.1.0) vs.1.1.1.0) [] vs → BeginsNoList rule vs.1.1.1.0
 end_list rule vs n b d =

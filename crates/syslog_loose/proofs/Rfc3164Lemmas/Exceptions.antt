@@ -101,7 +101,7 @@ canonical_near rule m e (canonical, other) =
       },
     )
 
--- the same with a facility and a severity in place of its own
+-- the message with this facility and severity instead of its own
 pub near_completed : (rule : DashRule) (m : MessageValue) (f : Option SyslogFacility) (s : Option SyslogSeverity)
     → IsSome f → IsSome s → HasExceptionsAlone m → HasNoException rule m
     → IsCanonical rule (record m { facility = f; severity = s })

@@ -81,7 +81,7 @@ host_field t q None f = tt
 host_field t q (Some v) f =
     let (r, e, g) = spaced_parts host (present_front (spaced host) f) in host_text g.piece q v g.is
 
--- ---- the tag field: a word behind a space
+-- ---- the tag field: a word after a space
 abbrev pub TagField : Text → Option (Option Text) → Type 0
 TagField t (Some (Some w)) = ((0 < length w) × Each is_tag_char w × (w ≢ dash)) × ((r : Text) × (t ≡ 32 ∷ r))
 TagField t field = Unit {0}

@@ -1,4 +1,4 @@
--- A printed message of RFC 3164 has no division of RFC 5424: a space stands where the version would begin.
+-- A printed message of RFC 3164 has no division of RFC 5424: a space is where the version would begin.
 use Rattle.std.proofs.Common.{◌≡◌, ap, Bool, true, false, cond, [], ◌∷◌}
 use Rattle.syslog_pieces.specs.Pieces.Class.{Text}
 use Rattle.syslog_pieces.specs.Pri.{priority}

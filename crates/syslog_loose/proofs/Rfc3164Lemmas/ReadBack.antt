@@ -147,7 +147,7 @@ no_tag_colon t [] q v e h = omega (arith, h.0)
 no_tag_colon t (c ∷ p) q v e h =
     let w : false ≡ true = ap is_tag_char (heads 58 c t (p ++ q) e) ∙ h.1.0 in cc
 
--- a tag word before the colon, and the blanks behind it
+-- a tag word before the colon, and the blanks after it
 pub tagged : (w t : Text) → 0 < length w → Each is_tag_char w → w ≢ dash
     → Front (optional (spaced tag_word)) (32 ∷ (w ++ (58 ∷ t))) (58 ∷ t) (Some (Some w))
 tagged w t l e n =
@@ -155,7 +155,7 @@ tagged w t l e n =
     (spaced_front tag_word (piece_front (exactly (32 ∷ [])) (32 ∷ []) (w ++ (58 ∷ t)) tt refl)
     (piece_front tag_word w (58 ∷ t) (Some w) (l, e, refl, (refl, n))))
 
--- the tag field and the blanks behind it, up to the colon
+-- the tag field and the blanks after it, up to the colon
 pub tag_back : (origin app : Option Text) (process : Option (ProcId Text)) (t : Text)
     → AreCanonicalNames origin app process
     → IfSome process IsBoundedProcess

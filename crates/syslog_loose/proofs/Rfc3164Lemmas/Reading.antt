@@ -1,4 +1,4 @@
--- What the reader's answers say of a text of RFC 3164.
+-- What the reader's result says of a text of RFC 3164.
 use Rattle.std.proofs.Common.{◌≡◌, []}
 use Rattle.syslog_pieces.specs.Pieces.Class.{Text, Values, Front, NoFront, Row}
 use Rattle.syslog_pieces.specs.Text.{trimmed}

@@ -14,7 +14,7 @@ use Rattle.syslog_pieces.proofs.TextLemmas.Words.{host_det, tag_word_det}
 use Rattle.syslog_pieces.proofs.PieceLemmas.Rows.{row_of, ◌then◌}
 use Rattle.syslog_loose.specs.Rfc3164.{body_row}
 
--- the priority and the blanks behind it
+-- the priority and the blanks after it
 abbrev pub to_stamp : List Class
 to_stamp = optional priority ∷ run is_blank ∷ []
 
@@ -31,21 +31,21 @@ to_colon_det =
     also optional_det (spaced tag_word) (spaced_det tag_word tag_word_det) also run_det is_blank
     also optional_det (exactly colon) (exactly_det colon) also tt
 
--- the blanks behind the list, and the message
+-- the blanks after the list, and the message
 abbrev pub from_gap : List Class
 from_gap = run is_blank ∷ rest ∷ []
 
 abbrev pub from_list : DashRule → List Class
 from_list rule = optional (rfc3164_list rule) ∷ from_gap
 
--- the blanks behind the colon
+-- the blanks after the colon
 abbrev pub from_blanks : DashRule → List Class
 from_blanks rule = run is_blank ∷ from_list rule
 
 abbrev pub from_colon : DashRule → List Class
 from_colon rule = optional (exactly colon) ∷ from_blanks rule
 
--- the blanks behind the tag
+-- the blanks after the tag
 abbrev pub from_tag_end : DashRule → List Class
 from_tag_end rule = run is_blank ∷ from_colon rule
 
@@ -55,7 +55,7 @@ from_tag rule = optional (spaced tag_word) ∷ from_tag_end rule
 abbrev pub from_stamp : DashRule → Dating → List Class
 from_stamp rule dating = rfc3164_stamp dating ∷ body_row rule
 
--- the blanks behind the priority
+-- the blanks after the priority
 abbrev pub from_priority_end : DashRule → Dating → List Class
 from_priority_end rule dating = run is_blank ∷ from_stamp rule dating
 

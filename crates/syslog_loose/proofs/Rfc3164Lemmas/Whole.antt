@@ -1,4 +1,4 @@
--- The printed text of a message of RFC 3164, cut at the colon behind the names, and what trimming leaves of it.
+-- The printed text of a message of RFC 3164, cut at the colon after the names, and what trimming leaves of it.
 use Rattle.std.proofs.Common.{◌≡◌, List, [], ◌∷◌, ◌++◌, Option, Some, None, refl, sym, ap, ◌∙◌, append_assoc}
 use Rattle.std.specs.Fmt.{decimal}
 use Rattle.std.specs.Str.{drop_trailing_whitespace}
@@ -17,13 +17,13 @@ use Rattle.syslog_loose.proofs.TrimLemmas.{joined_last, LastVisible, last_append
 abbrev pub bracketed : Text → Text → Text
 bracketed app id = app ++ (91 ∷ (id ++ (93 ∷ [])))
 
--- what stands between the host and the colon
+-- what is between the host and the colon
 abbrev pub program_text : Option Text → Option (ProcId Text) → Text
 program_text None p = []
 program_text (Some a) None = a
 program_text (Some a) (Some p) = bracketed a (procid_text p)
 
--- what stands behind the colon and its space
+-- what is after the colon and its space
 abbrev pub body_text : List ElementValue → Text → Text
 body_text [] msg = msg
 body_text (e ∷ es) msg = joined_elements (e ∷ es) ++ (32 ∷ msg)

@@ -1,4 +1,4 @@
--- Where a text shows no date without a year, the year that stands in for one counts for nothing.
+-- Where a text shows no date without a year, the year that would be used for one makes no difference.
 use Rattle.std.proofs.Common.{◌≡◌, inl, inr, Option, Some, None, refl}
 use Rattle.syslog_pieces.specs.Pieces.Class.{Text, Front}
 use Rattle.syslog_pieces.specs.Text.{trimmed}

@@ -175,7 +175,7 @@ canonical_read rule version m e b c =
 
 -- ---- what is read
 
--- the message with what stands in print for an absent facility and severity, so that it prints the same
+-- the message with what an absent facility and severity print as, so that it prints the same
 abbrev pub completed : MessageValue → MessageValue
 completed m = record m {
   facility = Some (unwrap_or m.facility LOG_SYSLOG);
@@ -250,7 +250,7 @@ read_canonical rule text m r there =
 
 -- ---- a printed message that is read back as itself has a facility
 
--- what stands in print for an absent facility and severity
+-- what an absent facility and severity print as
 pub priority_same : (f : Option SyslogFacility) (s : Option SyslogSeverity)
     → composed (unwrap_or f LOG_SYSLOG) (unwrap_or s SEV_DEBUG)
     ≡ option_map_or facility_number f 5 * 8 + option_map_or severity_number s 7

@@ -36,7 +36,7 @@ use Rattle.syslog_loose.proofs.SettlingLemmas.Names.{known, no_blanks, names_ste
 use Rattle.syslog_loose.proofs.SettlingLemmas.Weights.{free, paid, at_most, fields_light, list_read, left_free}
 use Rattle.syslog_loose.proofs.TrimLemmas.{message_blanks}
 
--- ---- elements and the message behind the colon: read as the same, or as a lighter message
+-- ---- elements and the message after the colon: read as the same, or as a lighter message
 end_step : (rule : DashRule) (es : List ElementValue) (msg : Text) → AllByRecursion IsCanonicalElement es
     → AllByRecursion (λ e. 0 < length e.params) es → Ends is_blank msg → (vs : Values (from_blanks rule)) (w v : ℕ)
     → ListWeighs rule es msg w → ListWeighs rule (elements_or vs.1.0) vs.1.1.1.0 v
@@ -55,7 +55,7 @@ end_step rule (e ∷ es) msg h k b vs w v x y d =
     let zero = free y (λ z. absurd (let t : e ∷ es ≡ [] = sym same ∙ z in cc)) in
     inr (omega (arith, zero), same, ap (λ (u : Values (from_blanks rule)). u.1.1.1.0) means)
 
--- ---- what stands behind the timestamp
+-- ---- what is after the timestamp
 
 abbrev pub behind_space : MessageValue → Text
 behind_space m =
@@ -108,7 +108,7 @@ module _ (rule : DashRule) (vs : Values (body_row rule)) (n : Names3164) (r : Re
 
 -- ---- the timestamp
 
--- behind a dash that begins a printed timestamp
+-- after a dash that begins a printed timestamp
 behind_dash : (s : OffsetTimestamp) (q r : Text) → timestamp_text (Some s) ++ q ≡ 45 ∷ r → Begins IsDigit r
 behind_dash s q r e =
     let (c, more, digit, first) = printed_stamp-begins s in
@@ -118,7 +118,7 @@ behind_dash s q r e =
       | inr f ↦ begins_with IsDigit c r (more ++ q) (let u = rw f at e in cc) digit
     ]
 
--- What is read where a timestamp was printed: a canonical one or none, and what follows is what was printed behind it,
+-- What is read where a timestamp was printed: a canonical one or none, and what follows is what was printed after it,
 -- or begins with a digit.
 pub stamp_step : (dating : Dating) (s : OffsetTimestamp) (q p r : Text) (v : Option OffsetTimestamp)
     → timestamp_text (Some s) ++ (32 ∷ q) ≡ p ++ r → (rfc3164_stamp dating).Is p r v

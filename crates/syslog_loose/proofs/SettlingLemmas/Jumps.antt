@@ -89,7 +89,7 @@ module _ (variant : Variant) (dating : Dating) (text : Text) (m : MessageValue) 
   abbrev tail : Text
   tail = tail_text m.structured_data m.msg
 
-  -- what is read behind the printed timestamp
+  -- what is read after the printed timestamp
   behind_stamp : (vs : Values (body_row BeforeBlank)) (n : Names3164) → IfSome m.timestamp IsCanonicalStamp
       → Front (Row (body_row BeforeBlank)) (32 ∷ behind_space m) [] vs → Resolves vs.0 vs.1.0 n
       → IsRead variant dating (printed m) (told BeforeBlank dating (Some (priority_of m), (tt, (m.timestamp, vs))) n)
@@ -143,7 +143,7 @@ module _ (variant : Variant) (dating : Dating) (text : Text) (m : MessageValue) 
 
 module _ (variant : Variant) (dating : Dating) (input : Text) (m : MessageValue)
     (r : IsRead variant dating input m) (e : m.protocol ≡ RFC3164) where
-  -- the text before it is read as the message, which so many rounds behind round 1 is printed
+  -- the text before it is read as the message, which is printed n rounds after round 1
   abbrev Known : ℕ → MessageValue → Type 0
   Known n y = (text : Text) × IsRead variant dating text y × Reaches variant dating input n (printed y)
 

@@ -30,7 +30,7 @@ use Rattle.syslog_loose.proofs.Rfc3164Lemmas.Whole.{program_text}
 use Rattle.syslog_loose.proofs.SettlingLemmas.NoList.{no_list_by, no_list_inner}
 use Rattle.syslog_loose.proofs.SettlingLemmas.Weights.{left_free, colon_weight, fields_light, lone_light}
 
--- ---- what can be told of a text
+-- ---- what is known of a text
 
 pub same_text : (xs ys : Text) → Decided (xs ≡ ys)
 same_text xs ys = decided (bytes_eq xs ys) (bytes_eq-Decides xs ys)
@@ -142,7 +142,7 @@ quiet_names None p k q = record { no_dash = tt; no_last_colon = tt; no_colon = q
 quiet_names (Some h) p k q = record { no_dash = k.1; no_last_colon = k.2; no_colon = q }
 
 module _ (rule : DashRule) (t : Text) (n : Names3164) (vs : Values (body_row rule)) (r : Resolves vs.0 vs.1.0 n) where
-  -- names that print the same and weigh no more, and behind their colon what was printed there
+  -- names that print the same and weigh no more, and after their colon what was printed there
   pub record Stays (h a : Option Text) (p : Option (ProcId Text)) : Type 0 where
     pub light : names_weight n.hostname n.procid ≤ names_weight h p
     pub host_is : name_text n.hostname ≡ name_text h

@@ -39,7 +39,7 @@ ends_blank : (t : Text) → Inner t → Ends is_blank t
 ends_blank [] i = tt
 ends_blank (c ∷ t) i = visible_no_blank c i.0
 
--- behind a dash stands neither a blank nor the end
+-- after a dash is neither a blank nor the end
 no_dash : (q : Text) → Inner q → IsDashBefore BeforeBlank q → ⊥
 no_dash [] i a = i
 no_dash (c ∷ q) i a = let t : true ≡ false = sym a ∙ visible_no_blank c i.0 in cc

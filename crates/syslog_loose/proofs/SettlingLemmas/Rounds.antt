@@ -17,7 +17,7 @@ module _ (variant : Variant) (dating : Dating) where
   one_round t (suc n) u x (y, r, h) (z, s, k) =
       one_next z u x (rw (one_round t n y z r s) at h) k
 
-  -- behind a round that is not read stands none
+  -- after a round that is not read there is none
   pub none_behind : (t : Text) (j : ℕ) (u : Text) → IsRound variant dating t j u → IsUnreadable variant dating u
       → (n : ℕ) (x : Text) → j < n → IsRound variant dating t n x → ⊥
   none_behind t j u r never zero x l s = omega arith

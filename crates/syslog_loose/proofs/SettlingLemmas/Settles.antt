@@ -91,7 +91,7 @@ module _ (variant : Variant) (dating : Dating) where
 
   -- ---- weights fall
 
-  -- before a text that is not settled stands one that is read as RFC 3164
+  -- before a text that is not stable is one that is read as RFC 3164
   unsettled_rfc3164 : (text u : Text) (h : IsNext variant dating text u) → (IsSettled variant dating u → ⊥)
       → IsRead3164 dash_rule dating text h.message
   unsettled_rfc3164 text u h unsettled = elim (read_as variant dating text h.message h.read) [
@@ -165,12 +165,12 @@ module _ (variant : Variant) (dating : Dating) where
   round_fault t n u Memory r h =
       λ never. none_behind variant dating t 0 t refl never (suc r.before) u (omega arith) r.reaches.round
 
-  -- where a round is settled behind so many that are not, it is the answer
+  -- where a round is stable after n that are not, it is the result
   settled_here : (t : Text) (n : ℕ) (u : Text) → Reaches variant dating t n u → IsSettled variant dating u
       → SettlesAs variant dating t u
   settled_here t n u r s = settles_as t u (record { before = n; round = r.round; settled = s; none_before = r.none })
 
-  -- ---- what is told of a round
+  -- ---- what is known of a round
   module _ (text : Text) (m : MessageValue) (r : IsRead variant dating text m) where
     -- where the message is at rest, its print is the next round, which is settled
     pub told_settled : (bytes : List ℕ) → IsUtf8 bytes → bytes ≡ encode_utf8_all (printed m) → IsAtRest m.protocol m
@@ -190,7 +190,7 @@ module _ (variant : Variant) (dating : Dating) where
         (stays_rfc3164 variant dating l.message x l.is_rfc3164
         (subst (λ (u : Text). IsRead variant dating u x) l.is_printed s)) m n l.passes rank
 
-    -- and where it has an exception, a later one may stand in its place
+    -- and where it has a quirk, a later one may take its place
     pub told_later : (later : Text) → m.protocol ≡ protocol.RFC3164 → (HasNoException dash_rule m → ⊥)
         → IsLater variant dating text m later → IsToldRound variant dating text later false
     told_later later e odd l = record {
@@ -204,7 +204,7 @@ module _ (variant : Variant) (dating : Dating) where
     }
 
   -- ---- what the loop does
-  -- the round behind one that is not settled
+  -- the round after one that is not stable
   pub round_more : (t : Text) (n : ℕ) (u x : Text) (settled : Bool) → ReachesRank variant dating t (suc n) u
       → settled ≡ false → IsToldRound variant dating u x settled → ReachesRank variant dating t n x
   round_more t n u x settled r e h =
@@ -212,7 +212,7 @@ module _ (variant : Variant) (dating : Dating) where
       let (j, l, more) = reached_further variant dating t r.before u told.before x r.reaches told.never told.reaches in
       record { before = j; reaches = more; ranked = λ m s. told.lower n m s (r.ranked told.message told.read) }
 
-  -- and the answer where it is settled: that, or the one before, which is the same text
+  -- and the result where it is stable: that, or the one before, which is the same text
   pub round_answer : (t : Text) (n : ℕ) (u x : Text) (settled : Bool) → ReachesRank variant dating t n u
       → settled ≡ true → IsToldRound variant dating u x settled → SettlesAs variant dating t x
   round_answer t n u x settled r e h =

@@ -1,4 +1,4 @@
--- What is told of a round of a text by way of its line, and of the rounds after it, in which no year counts.
+-- What is known of a round of a text by way of its line, and of the rounds after it, in which no year counts.
 use Rattle.syslog_loose.proofs.Names.{◌≡◌, ℕ, List, Bool, true, false, Option, None, Some, Result, Ok, Err, refl, subst}
 use Rattle.syslog_loose.proofs.Names.{chars, Text, Dating, Variant, IsCanonical, MessageValue, dash_rule, IsRead}
 use Rattle.syslog_loose.proofs.Names.{string_bytes}
@@ -21,7 +21,7 @@ use Rattle.syslog_loose.proofs.SettlingLemmas.Quiet.{read_shows_none}
 use Rattle.syslog_loose.proofs.SettlingLemmas.Settles.{settled_canonical}
 
 module _ (variant : Variant) (dating : Dating) where
-  -- what was written of the line of a text tells of a round of the text
+  -- what was written of the line of a text is known to be a round of the text
   pub made_told : {E : Type 0} (given : E → E → List ElementValue → Type 0) (before after : E)
       (text : Text) (old new : String Global) (made : Option (Result Bool AllocError))
       → Made (λ (_ : String Global) line written last. WritesRound line written (string_bytes last)) given variant

@@ -76,7 +76,7 @@ weight rule m =
     let (b, y) = cost _ (length m.msg) (list_free rule m.structured_data m.msg) in
     (_, record { stamp = a; taken = b; stamp_is = x; taken_is = y; total = refl })
 
--- ---- the names weigh no more than the fields that they stand in
+-- ---- the names weigh no more than the fields that they are in
 colons_light : (n : ℕ) → colons_weight n ≤ n + 1
 colons_light zero = omega arith
 colons_light (suc n) = omega arith
@@ -140,7 +140,7 @@ module _ (rule : DashRule) where
     ap length i,
   )
 
-  -- what is left of a text from which a list may be taken: less, where one begins it, else all of it
+  -- what is left of a text from which a list may be taken: less, where one begins it, and otherwise all of it
   abbrev Leaves : Text → Option (List ElementValue) → Text → Type 0
   Leaves t v left = ((BeginsNoList rule t → ⊥) × (length left < length t))
       ⊎ (BeginsNoList rule t × (v ≡ None) × (left ≡ t))
@@ -189,7 +189,7 @@ module _ (rule : DashRule) where
         row_pieces (from_list rule) (step (run is_blank) (from_list rule) (run_det is_blank) gap d) in
         (q, list, subst (λ (x : Text). Front (run is_blank) q x tt) (rest_whole end) more)
 
-    -- what is read behind blanks
+    -- what is read after blanks
     pub list_read : Leaves u vs.1.0 vs.1.1.1.0
     list_read = let (q, list, more) = list_front in leaves vs.1.0 vs.1.1.1.0 gap.is.1 list more
 

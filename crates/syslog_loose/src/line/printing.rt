@@ -50,7 +50,7 @@ fn write_rest<W: fmt::Write>(f: &mut fmt::Formatter<W>, line: &Line<'_>) -> fmt:
     }
 }
 
-// That of RFC 5424.
+// Writes the rest of a line of RFC 5424.
 fn write_rest_5424<W: fmt::Write>(f: &mut fmt::Formatter<W>, line: &Line<'_>) -> fmt::Result
     ensures { WritesOnOk W.write_str_gives f.old result (encode_utf8_all (rest_5424 (line_value line.now))) f.new }
 {
@@ -65,7 +65,7 @@ fn write_rest_5424<W: fmt::Write>(f: &mut fmt::Formatter<W>, line: &Line<'_>) ->
     write_spaced(f, msg)
 }
 
-// That of RFC 3164.
+// Writes the rest of a line of RFC 3164.
 fn write_rest_3164<W: fmt::Write>(f: &mut fmt::Formatter<W>, line: &Line<'_>) -> fmt::Result
     ensures { WritesOnOk W.write_str_gives f.old result (encode_utf8_all (rest_3164 (line_value line.now))) f.new }
 {
@@ -104,8 +104,7 @@ pub(crate) fn write_list<W: fmt::Write>(
     list.fmt(f)
 }
 
-/// Prints the line into `text`, in place of what was there. It asks for memory only where the text has too little
-/// space.
+/// Prints the line into `text`, instead of what was there. It allocates only if the text has too little capacity.
 #[inline(always)]
 pub(crate) fn print_line(text: &mut String, line: &Line<'_>) -> Result<(), AllocError>
     requires { KnowsForm line.now }

@@ -74,8 +74,8 @@ fn clone_elements<S: AsStr + Clone>(
 }
 
 impl Message<&str> {
-    /// The same message, with texts of its own, so that it can outlive the input: the same in each field, with elements
-    /// and parameters in the same order. An `Err` is only for memory, and nothing has changed then.
+    /// Returns the message with texts of its own, so that it can outlive the input: equal in each field, with elements
+    /// and parameters in order. If an allocation fails, nothing has changed.
     pub fn to_owned_text(&self, alloc: Global) -> Result<Message<String>, AllocError>
         ensures { IfOk result (λ copy. message_value (text_of string_bytes) copy
             ≡ message_value (λ s. shown s) self.now) }

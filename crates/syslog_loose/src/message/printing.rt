@@ -1,4 +1,4 @@
-//! The parts of a printed message. Each field is written behind a space, and as `-` where it is absent.
+//! The parts of a printed message. Each field is written after a space, and as `-` if it is absent.
 ghost use Rattle.std.specs.Fmt.{WritesOnOk};
 ghost use Rattle.std.specs.Option.{option_map};
 ghost use Rattle.std.specs.Prelude.{◌≡◌, ◌∷◌, map};
@@ -18,7 +18,7 @@ use syslog_pieces::procid::ProcId;
 use syslog_pieces::structured_data::StructuredElement;
 use syslog_pieces::timestamp::OffsetTimestamp;
 
-/// The composed priority of a message that is read behind this one.
+/// The composed priority of a message that is read after this one.
 #[inline(always)]
 pub(crate) fn read_priority(number: Option<u8>) -> u32
     ensures { result ≡ printed_number number }
@@ -112,7 +112,7 @@ fn write_joined<S: AsStr, W: fmt::Write>(
     Ok(())
 }
 
-/// Writes the elements and a space behind them, or nothing where there are none.
+/// Writes the elements and a space after them, or nothing if there are none.
 pub(crate) fn write_elements_before<S: AsStr, W: fmt::Write>(
     f: &mut fmt::Formatter<W>,
     elements: &[StructuredElement<S>],

@@ -252,7 +252,7 @@ rows_none_later [] Bs d f n = subst (λ (x : Text). NoFront (Row Bs) x) (sym (ni
 rows_none_later (C ∷ As) Bs d f n =
     let h = row_head C As f in row_none_later C (As ++ Bs) d.0 h.1 (rows_none_later As Bs d.1 h.2 n)
 
--- ---- pieces behind a character
+-- ---- pieces after a character
 pub after_det : {c : ℕ} (C : Class) → IsDeterministic C → IsDeterministic (after c C)
 after_det {c} C d p q p' q' v v' e (t, f, h) (t', f', h') =
     let same : t ++ q ≡ t' ++ q' = (let f1 = ap (λ (x : Text). x ++ q) f in let f2 = ap (λ (x : Text). x ++ q') f' in cc) in

@@ -10,7 +10,7 @@ use Rattle.syslog_pieces.proofs.PieceLemmas.Meets.{Meets}
 heads_differ : (c d : ℕ) (xs ys : Text) → c ≢ d → c ∷ xs ≡ d ∷ ys → ⊥
 heads_differ c d xs ys n e = n (heads c d xs ys e)
 
--- the text behind one character
+-- the text after one character
 pub begins : (c : ℕ) (t q : Text) → Front (exactly (c ∷ [])) t q tt → t ≡ c ∷ q
 begins c t q f = f.whole ∙ ap (λ (x : Text). x ++ q) f.is
 
@@ -108,7 +108,7 @@ module _ (C : Class) (separator close : ℕ) where
     record { piece = b; whole = refl; is = (others, z) },
   )
 
-  -- the same behind a separator
+  -- the piece after a separator
   more_parts : (t u p q : Text) (vs : List C.Value) → NoFront (exactly (close ∷ [])) t → t ≡ separator ∷ u → t ≡ p ++ q
       → more.Is p q vs → Parts u q
   more_parts t u p q [] n f e h = absurd (n (close ∷ []) h.1.0 tt (e ∙ ap (λ (x : Text). x ++ q) h.0 ∙ h.1.1) refl)
@@ -152,7 +152,7 @@ module _ (C : Class) (separator close : ℕ) where
     not_closed t u e p q v f h =
         heads_differ separator close u q differ (sym e ∙ f ∙ ap (λ (x : Text). x ++ q) h)
 
-    -- a further piece behind the separator
+    -- a further piece after the separator
     pub more_goes : (Cs : List Class) (t u : Text) → t ≡ separator ∷ u
         → Meets (Row (more ∷ Cs)) t (Row (C ∷ more ∷ Cs)) u
     more_goes Cs t u e = record {
@@ -167,7 +167,7 @@ module _ (C : Class) (separator close : ℕ) where
     }
 
     module _ (d : IsDeterministic C) where
-      -- a further piece, behind its separator
+      -- a further piece, after its separator
       abbrev further : Class
       further = record { Value = C.Value; Is = λ p q v. (a : Text) × (p ≡ separator ∷ a) × C.Is a q v }
 
@@ -231,7 +231,7 @@ module _ (C : Class) (separator close : ℕ) (d : IsDeterministic C) where
         no_front_no (more_before C separator close) n (rw (front_same C d g f).0 at others)));
   }
 
--- the pieces vs have been read, and at t' a further one is left, and then the ones behind it
+-- the pieces vs have been read, and at t' a further one is left, and then the ones after it
 abbrev pub Leaves : (C : Class) (separator close : ℕ) → Text → List C.Value → Text → Type 0
 Leaves C separator close t vs t' =
     (q u : Text) (v : C.Value) (ws : List C.Value) → Front C t' u v → Front (more_before C separator close) u q ws

@@ -31,7 +31,7 @@ mapped_meets C B f t = record {
   back = λ q w g. (g.is.0, record { piece = g.piece; whole = g.whole; is = g.is.1 });
 }
 
--- behind the first piece of a row
+-- after the first piece of a row
 pub row_goes : (C : Class) (Cs : List Class) → IsDeterministic C → {t u : Text} {v : C.Value} → Front C t u v
     → Meets (Row (C ∷ Cs)) t (Row Cs) u
 row_goes C Cs d {v = v} f = record {
@@ -47,7 +47,7 @@ row_first C D Cs m = record {
   back = λ q vs g. (let r = row_head C Cs g in let s = m.back r.0 vs.0 r.1 in ((s.0, vs.1), row_cons D Cs s.1 r.2));
 }
 
--- behind the first pieces of a row
+-- after the first pieces of a row
 pub rows_go : (As Bs : List Class) → AllDeterministic As → (t u : Text) (vs : Values As) → Front (Row As) t u vs
     → Meets (Row (As ++ Bs)) t (Row Bs) u
 rows_go [] Bs d t u vs f = subst (λ (x : Text). Meets (Row Bs) t (Row Bs) x) (nil_front f) (meets_here (Row Bs) t)
@@ -55,7 +55,7 @@ rows_go (C ∷ As) Bs d t u vs f =
     let r = row_head C As f in
     meets_on (row_goes C (As ++ Bs) d.0 r.1) (rows_go As Bs d.1 r.0 u vs.1 r.2)
 
--- ---- an answer with another meaning
+-- ---- a result with another meaning
 pub match_map : {X : Type 0} (r : Option X) {N M : Type 0} {S T : X → Type 0} → (N → M) → ((x : X) → S x → T x)
     → MatchOption r N S → MatchOption r M T
 match_map None f g h = f h

@@ -79,7 +79,7 @@ process_quotes p q (Some (Name t)) (u, w, k) = (part_same p t (k.1 ∙ w.4.0), t
 pub tag_word_quotes : Quotes tag_word text_list
 tag_word_quotes p q v h = names_quotes p v h.3
 
--- ---- pieces that may be absent, and pieces behind a space
+-- ---- pieces that may be absent, and pieces after a space
 
 -- the texts of a meaning that may be absent
 abbrev pub optional_texts : {V : Type 0} → (V → List Text) → Option V → List Text

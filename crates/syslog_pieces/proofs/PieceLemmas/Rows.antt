@@ -19,7 +19,7 @@ pub row_of : (Cs : List Class) → {t q : Text} {vs : Values Cs} → Pieces Cs t
 row_of [] {t = t} e = subst (λ (x : Text). Front (Row []) t x tt) e (row_nil t)
 row_of (C ∷ Cs) (u, f, p) = row_cons C Cs f (row_of Cs p)
 
--- a piece, and then those behind it
+-- a piece, and then those after it
 infixr 20 ◌then◌
 abbrev pub ◌then◌ : {C : Class} {t u : Text} {v : C.Value} {P : Text → Type 0} → Front C t u v → P u
     → (q : Text) × Front C t q v × P q
@@ -36,7 +36,7 @@ no_row [] d h = absurd h
 no_row (C ∷ Cs) d (inl n) = row_none_here C Cs n
 no_row (C ∷ Cs) d (inr (u, v, f, h)) = row_none_later C Cs d.0 f (no_row Cs d.1 h)
 
--- a piece, behind which one is not there
+-- a piece, after which one is missing
 infixr 20 ◌past◌
 abbrev pub ◌past◌ : {C : Class} {t u : Text} {v : C.Value} {P : Text → Type 0} → Front C t u v → P u
     → NoFront C t ⊎ ((q : Text) × (w : C.Value) × Front C t q w × P q)

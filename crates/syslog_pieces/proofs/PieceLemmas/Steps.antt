@@ -11,7 +11,7 @@ use Rattle.syslog_pieces.proofs.PieceLemmas.Class.{rows_split}
 pub piece_front : (C : Class) (p q : Text) (v : C.Value) → C.Is p q v → Front C (p ++ q) q v
 piece_front C p q v h = record { piece = p; whole = refl; is = h }
 
--- behind a known front of the first class, the row goes on with its other classes
+-- after a known front of the first class, the row goes on with its other classes
 pub step : (C : Class) (Cs : List Class) → IsDeterministic C → {t q r : Text} {v : C.Value} {vs : Values (C ∷ Cs)}
     → Front C t q v → Front (Row (C ∷ Cs)) t r vs → Front (Row Cs) q r vs.1
 step C Cs d {r = r} {vs = vs} g f =
@@ -23,7 +23,7 @@ pub step_value : (C : Class) (Cs : List Class) → IsDeterministic C → {t q r 
     → Front C t q v → Front (Row (C ∷ Cs)) t r vs → vs.0 ≡ v
 step_value C Cs d g f = let h = row_head C Cs f in (front_same C d h.1 g).1
 
--- the same behind several known fronts
+-- after several known fronts, the row goes on with its other classes
 pub rows_step : (As Bs : List Class) → AllDeterministic As → {t q r : Text} {us : Values As} {vs : Values (As ++ Bs)}
     → Front (Row As) t q us → Front (Row (As ++ Bs)) t r vs
     → (firsts As Bs vs ≡ us) × Front (Row Bs) q r (lasts As Bs vs)

@@ -75,7 +75,7 @@ process_bounded p q None h = tt
 process_bounded p q (Some (PID n)) (u, w, i) = i.1
 process_bounded p q (Some (Name t)) h = tt
 
--- ---- what the test of a process name answers
+-- ---- what the test of a process name returns
 
 -- the text is one of no number where the test of one fails
 pub no_number_told : (t : Text) (b : Bool) → IsTrue b ↔ (IsNoI32Text t → ⊥) → IsTrue (not b) ↔ IsNoI32Text t

@@ -1,4 +1,4 @@
--- What the tests of canonical elements answer.
+-- What the tests of canonical elements return.
 use Rattle.syslog_pieces.proofs.Names.{◌≡◌, ◌≢◌, ℕ, ◌<◌, zero, suc, true, false, List, [], ◌∷◌, ◌++◌, length, map}
 use Rattle.syslog_pieces.proofs.Names.{get_or, refl, sym, ap, subst, ◌∙◌, arith, append_assoc, ◌↔◌, IsTrue}
 use Rattle.syslog_pieces.proofs.Names.{append_cancel_right, nat_tests, AllByRecursion, chars, SplitsRun, Text, Front}

@@ -28,7 +28,7 @@ use Rattle.syslog_pieces.proofs.StructuredDataLemmas.Elements.{unit_goes, value_
 use Rattle.syslog_pieces.proofs.TextLemmas.Chars.{one_ascii}
 use Rattle.syslog_pieces.proofs.TextLemmas.Cuts.{rest_shorter, front_chars, front_cut}
 
--- ---- bytes, and where a bracket stands in two joined texts
+-- ---- bytes, and where a bracket is in two joined texts
 pub byte_count_slice : (bs : Text) → IsUtf8 bs → byte_count (chars bs) ≡ length bs
 byte_count_slice bs u = ap length (encodes-chars bs u)
 
@@ -126,7 +126,7 @@ quoted_goes m = row_first value value (exactly (34 ∷ []) ∷ []) m
 pub closing_goes : {t u : Text} → Meets quoted t quoted u → Meets closing t closing u
 closing_goes m = row_first quoted quoted tail_row m
 
--- what stands behind a bracket inside a value is a value
+-- what is after a bracket inside a value is a value
 value_end : (us : List TextUnit) (a b : Text) → AllByRecursion IsValueUnit us → flat_map unit_text us ≡ a ++ (93 ∷ b)
     → IsValue b
 value_end [] a b h e = absurd (omega (arith, ap length e, length-append a (93 ∷ b)))
@@ -144,7 +144,7 @@ quoted_behind : (u : TextUnit) (t : Text) → IsValueUnit u → HasQuoted t → 
 quoted_behind u t h (q, v, f) =
     let g = (quoted_goes (unit_goes u (unit_text u ++ t) t h refl)).forth q v f in (q, g.0, g.1)
 
--- where they stand behind a bracket, they do before it, whether or not a backslash stands before that text
+-- where they are after a bracket, they are before it, whether or not a backslash is before that text
 quoted_before : (a b : Text) → HasQuoted b → HasQuoted (a ++ (93 ∷ b)) × HasQuoted (92 ∷ a ++ (93 ∷ b))
 quoted_before [] b h =
     (quoted_behind (single 93) b ((λ e. omega arith), (λ e. omega arith)) h, quoted_behind (pair 93) b tt h)
@@ -213,7 +213,7 @@ pub record Passes (C : Class) (t x : Text) : Type 0 where
   pub whole : t ≡ piece ++ x
   pub dead : (d : ℕ) → NoFront C t → IsDead x d → IsDead t d
 
--- no element closes behind a bracket of the front
+-- no element closes after a bracket of the front
 dead_front : (x w y : Text) (d : ℕ) → x ≡ w ++ y
     → ((a b : Text) → w ≡ a ++ (93 ∷ b) → NoFront closing (b ++ y)) → IsDead y d → IsDead x d
 dead_front x w y d e h i a b f l = elim (split_bracket w y a b (sym e ∙ f)) [
@@ -370,7 +370,7 @@ module _ {C : Class} {text x y : Text} {vs : Values quoted_row} (p : Passes C te
         (tail_enters y z r ws (begins 32 y z g) o)),
   )
 
--- what the scan from inside a value answers, of the text whose element it is in
+-- what the scan from inside a value returns, of the text whose element it is in
 pub closing_answers : {X : Type 0} (C : Class) (text x : Text) → Passes C text x → Meets C text closing x
     → (to : X → Text) (r : Result X ℕ)
     → MatchResult r (λ q. (v : closing.Value) × Front closing x (to q) v) (λ d. NoFront closing x × IsDead x d)
@@ -404,7 +404,7 @@ module _ (t r : List ℕ) (u : IsUtf8 t) (z : IsUtf8 r) (v : Values quoted_row)
   pub quoted_cut : IsCharBoundary t (length t - length r - 1)
   quoted_cut = rw place at (front_cut t (34 ∷ r) u behind_utf8 first.1.piece whole)
 
-  -- and the value is what stands before it
+  -- and the value is what is before it
   pub quoted_value : (xs : List ℕ) → xs ≡ take (length t - length r - 1) t
       → Front quoted (chars t) (chars r) (chars xs, (tt, tt))
   quoted_value xs e =

@@ -29,7 +29,7 @@ value_det p q p' q' v v' e ((us, f, h), z, w) ((us', f', h'), z', w') =
     let same = units_same IsValueUnit (λ c i. i.0) BeginsQuote no_quote_unit us us' q q' h h' z z' (cc) in
     let t = f ∙ ap (flat_map unit_text) same.0 ∙ sym f' in (t, w ∙ t ∙ sym w')
 
--- the value behind a unit
+-- the value after a unit
 value_behind : (u : TextUnit) (t q : Text) (us : List TextUnit) → IsValueUnit u → AllByRecursion IsValueUnit us
     → BeginsQuote q → unit_text u ++ t ≡ flat_map unit_text us ++ q → (v : Text) × Front value t q v
 value_behind u t q [] h a z e = absurd (no_quote_unit u t h (z.0, e ∙ z.1))

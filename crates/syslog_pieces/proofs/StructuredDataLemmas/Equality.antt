@@ -37,7 +37,7 @@ counted_once ps qs long =
     )
     (same_params-decides ps qs)
 
--- what stands in front of both lists in one order changes nothing
+-- what is in front of both lists in one order changes nothing
 pub same_params-behind : (zs ps qs : List Param) → same_params ps qs ≡ same_params (zs ++ ps) (zs ++ qs)
 same_params-behind zs ps qs =
     let more = λ (ls : List Param) (p : Param). sum_by-append (λ q. cond (param_eq p q) 1 0) zs ls in

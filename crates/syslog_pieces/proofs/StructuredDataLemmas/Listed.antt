@@ -1,4 +1,4 @@
--- Recognised lists: their items stand in their own text, and are counted while they are walked.
+-- Recognised lists: their items are in their own text, and are counted while they are walked.
 use Rattle.syslog_pieces.proofs.Names.{◌≡◌, ℕ, ◌+◌, ◌<◌, ◌≤◌, Bool, true, false, ◌&&◌, List, [], ◌∷◌, ◌++◌, length, refl}
 use Rattle.syslog_pieces.proofs.Names.{Option, Some, None, sym, ap, subst, ◌∙◌, append_assoc, append-nil, arith, map}
 use Rattle.syslog_pieces.proofs.Names.{inr, dash, forgiving, optional, optional_some, rfc3164_list, IsDashBefore}

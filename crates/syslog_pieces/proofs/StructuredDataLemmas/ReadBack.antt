@@ -30,7 +30,7 @@ param_back name v q (long, each, units) = (
   refl,
 )
 
--- further parameters, each behind its space
+-- further parameters, each after its space
 more_back : (ps : List (Text × Text)) (q : Text) → AllByRecursion IsCanonicalParam ps
     → IsMore param 32 (flat_map param_text ps) q ps
 more_back [] q h = refl
@@ -167,7 +167,7 @@ pub quoted_text : {t u v : Text} → Front quoted t u (v, (tt, tt)) → t ≡ v 
 quoted_text f =
     let (r, g, (s, quote, end)) = row_pieces quoted_row f in cc (g.whole, g.is.2, begins 34 r s quote, end)
 
--- no blank stands before another character
+-- no blank is before another character
 pub no_blanks : {t q : Text} (c : ℕ) → is_blank c ≡ false → t ≡ c ∷ q → Front (run is_blank) t t tt
 no_blanks c h e = record { piece = []; whole = refl; is = (tt, subst (λ (x : Text). Ends is_blank x) (sym e) h) }
 

@@ -1,4 +1,4 @@
--- What recognised elements and lists mean is what stands in their texts.
+-- What recognised elements and lists mean is what is in their texts.
 use Rattle.syslog_pieces.proofs.Names.{◌≡◌, List, [], ◌++◌, Option, Some, None, sym, ap, subst, length}
 use Rattle.syslog_pieces.proofs.Names.{Text, Class, Front, IsDeterministic, front_same, inside, many, item, strict}
 use Rattle.syslog_pieces.proofs.Names.{ℕ, ◌∷◌, ◌+◌, arith, IsUtf8, encodes-chars, encodes-append, encode_utf8_all}

@@ -89,7 +89,7 @@ list_absent rule t q es n f z =
 
 -- ---- recognising an element with a parameter
 
--- the parameters of an element, behind its start
+-- the parameters of an element, after its start
 element_params : {t u q : Text} {vs : Values start_row} {v : ElementValue} → Front start t u vs → Front element t q v
     → (r : Text) × Front (list_before param 32 93) u r v.params
 element_params {t = t} {u = u} {q = q} f g =

@@ -157,7 +157,7 @@ abbrev singles : Text → List TextUnit
 singles [] = []
 singles (c ∷ w) = single c ∷ singles w
 
--- a character alone is its text, and stands for itself
+-- a character alone is its text, and means itself
 each_single : (f : TextUnit → Text) → ((c : ℕ) → f (single c) ≡ c ∷ []) → (w : Text) → w ≡ flat_map f (singles w)
 each_single f h [] = refl
 each_single f h (c ∷ w) = let e = each_single f h w in let g = h c in rw g (cc)
@@ -179,7 +179,7 @@ module _ {t bs xs ys out out' : Text} (s : SplitsRun is_bare_char bs xs ys) (r :
       (s.characters ∙ ap (λ (x : Text). x ++ chars ys) (each_single unit_text (λ c. refl) (chars xs)))
       (singles_each (chars xs) s.each) f (each_single unit_meaning (λ c. refl) (chars xs))
 
-  -- what stands behind the run begins with a backslash
+  -- what is after the run begins with a backslash
   pub backslash : (c : ℕ) (q w : Text) → chars ys ≡ c ∷ q → q ≡ w → chars ys ≡ 92 ∷ w
   backslash c q w e g = let b = bare_not c (subst (λ (x : Text). Ends is_bare_char x) e s.ends) in cc
 

@@ -69,7 +69,7 @@ same_rest t r u z p e l =
     nil_from_length (encode_utf8_all p) (omega (arith, l, ap length b, length-append (encode_utf8_all p) r)) in
     ap chars (rw none at b)
 
--- ---- at a parameter: ps stand before it; where the mark says so, what stands before it is in printed form
+-- ---- at a parameter: ps are before it; where the mark says so, what is before it is in printed form
 pub record AtParam (text inner at id : Text) (ps : List (Text × Text)) (mark : Bool) : Type 0 where
   pub passes : Passes element text at
   pub meets : Meets element text (Row (param ∷ tail_row)) at

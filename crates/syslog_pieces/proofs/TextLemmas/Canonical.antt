@@ -1,4 +1,4 @@
--- What the tests of canonical texts answer.
+-- What the tests of canonical texts return.
 pub use Rattle.syslog_pieces.proofs.PieceLemmas.Tests.{no_truth, false_is, last_is}
 use Rattle.syslog_pieces.proofs.Names.{◌≡◌, ℕ, ◌<◌, Bool, nat_eq, List, [], ◌∷◌, length, Option, Some, None, refl, sym}
 use Rattle.syslog_pieces.proofs.Names.{◌∙◌, ap, arith, append-nil, inl, inr, ◌↔◌, IsTrue, IsSomeAnd, Bor, chars, IsUtf8}
@@ -29,7 +29,7 @@ end_told (x ∷ bs) b u e = (
 )
 
 module _ (test : ℕ → Bool) (bs xs ys : List ℕ) (s : SplitsRun test bs xs ys) (b : Bool) where
-  -- nothing is left behind the run
+  -- nothing is left after the run
   pub only_told : IsTrue b ↔ (chars ys ≡ []) → IsTrue b ↔ Each test (chars bs)
   only_told e = (
     (λ h. rw (s.characters, e.0 h, append-nil) s.each),
@@ -47,7 +47,7 @@ module _ (test : ℕ → Bool) (bs xs ys : List ℕ) (s : SplitsRun test bs xs y
 
 -- ---- readers that take the whole of a text
 
--- what the test whether such a reader took the whole text answers
+-- what the test whether such a reader took the whole text returns
 abbrev pub Tells : (Text → Text → Option Text → Type 0) → (Text → Type 0) → Type 0
 Tells Is P = (t : Text) (read : Option (Option (Bor (List ℕ)) × Bor (List ℕ))) (b : Bool)
     → Reads (record { Value = Option Text; Is = Is }) seen t read

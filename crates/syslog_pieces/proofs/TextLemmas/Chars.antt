@@ -54,7 +54,7 @@ ends_by_byte test [] u f = rw chars-nil tt
 ends_by_byte test (b ∷ bs) u f =
     first_char test (b ∷ bs) (chars (b ∷ bs)) (encodes-chars (b ∷ bs) u) (omega arith) (f (omega arith))
 
--- ---- what `is_empty` and a comparison with an ASCII text answer
+-- ---- what `is_empty` and a comparison with an ASCII text return
 pub empty_is : (n : ℕ) → true ≡ nat_eq n 0 → n ≡ 0
 empty_is n h = eqb-true n 0 (sym h)
 

@@ -16,7 +16,7 @@ module _ (t r : List ℕ) (u : IsUtf8 t) (z : IsUtf8 r) (p : Text) (whole : char
   place : length (encode_utf8_all p) ≡ length t - length r
   place = omega (arith, ap length bytes, length-append (encode_utf8_all p) r)
 
-  -- behind the first byte stands the rest, where the text has one byte more
+  -- after the first byte is the rest, where the text has one byte more
   pub behind_one : length t ≡ suc (length r) → drop 1 t ≡ r
   behind_one l =
       let n : length (encode_utf8_all p) ≡ 1 = omega (arith, place) in
@@ -28,7 +28,7 @@ module _ (t r : List ℕ) (u : IsUtf8 t) (z : IsUtf8 r) (p : Text) (whole : char
   pub front_cut : IsCharBoundary t (length t - length r)
   front_cut = rw (← place) (IsCharBoundary-at_seam t (encode_utf8_all p) r bytes z)
 
-  -- and what stands before the rest is what was cut off
+  -- and what is before the rest is what was cut off
   pub front_chars : (xs : List ℕ) → xs ≡ take (length t - length r) t → chars t ≡ chars xs ++ chars r
   front_chars xs e =
       let n = length (encode_utf8_all p) in

@@ -1,4 +1,4 @@
--- What the first bytes of a text tell of its characters.
+-- What the first bytes of a text say of its characters.
 use Rattle.syslog_pieces.proofs.Names.{◌≡◌, ◌≢◌, ℕ, ◌-◌, ◌<◌, ◌≤◌, false, List, [], ◌∷◌, ◌++◌, length, drop, get_or}
 use Rattle.syslog_pieces.proofs.Names.{inl, inr, refl, sym, ap, ◌∙◌, arith, drop-append_seam, cases_lt, nat_tests}
 use Rattle.syslog_pieces.proofs.Names.{length-append, IsCharBoundary-after_ascii, IsUtf8-drop, is_ascii_digit, chars}
@@ -9,7 +9,7 @@ use Rattle.syslog_pieces.specs.Bodies.Looks.{BeginsVisibly, BeginsWithGap, EndsD
 use Rattle.syslog_pieces.proofs.TextLemmas.Chars.{ascii_front, ascii_ahead, one_ascii, ends_by_byte}
 use Rattle.syslog_pieces.proofs.TextLemmas.Runs.{ascii_cut, first_left, no_run}
 
--- ---- a text behind ASCII bytes
+-- ---- a text after ASCII bytes
 module _ (p bs rest : List ℕ) (a : IsAscii p) (u : IsUtf8 bs) (e : bs ≡ p ++ rest) where
   place : length p ≡ length bs - length rest
   place = omega (arith, ap length e, length-append p rest)
@@ -88,7 +88,7 @@ pub ruleset gap = (gap_cut, gap_space, gap_some)
 past_digits : (c : ℕ) → 128 ≤ c → is_ascii_digit c ≡ false
 past_digits c h = grind (arith, nat_tests)
 
--- no digit stands at the front
+-- no digit is at the front
 pub ends_digits : (bs : List ℕ) → IsUtf8 bs → EndsDigits bs → Ends is_ascii_digit (chars bs)
 ends_digits bs u h = ends_by_byte is_ascii_digit bs u (λ l c byte char. elim (cases_lt c 128) [
   | inl low ↦ rw (sym (byte low)) (h l)

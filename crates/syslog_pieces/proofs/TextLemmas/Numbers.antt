@@ -1,4 +1,4 @@
--- What the readers of numbers answer.
+-- What the readers of numbers return.
 use Rattle.syslog_pieces.proofs.Names.{◌≡◌, ℕ, ◌+◌, ◌-◌, ◌<◌, ◌≤◌, inl, inr, List, [], ◌∷◌, ◌++◌, length, drop}
 use Rattle.syslog_pieces.proofs.Names.{refl, sym, ap, ◌∙◌, arith, is_ascii_digit, digits_value, chars, IsUtf8, IsAscii}
 use Rattle.syslog_pieces.proofs.Names.{IsCharBoundary, IsUtf8-drop, Text, Each, Front, NoFront, number, run_same}

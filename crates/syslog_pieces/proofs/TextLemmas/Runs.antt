@@ -41,7 +41,7 @@ each_by_place : (h : ℕ → Bool) (bs : List ℕ) → ((k : ℕ) → k < length
 each_by_place h [] f = tt
 each_by_place h (b ∷ bs) f = (f 0 (omega arith), each_by_place h bs (λ k lt. f (suc k) (omega arith)))
 
--- a text may be cut behind ASCII bytes
+-- a text may be cut after ASCII bytes
 pub ascii_cut : (bs : List ℕ) (n : ℕ) → IsUtf8 bs → n ≤ length bs → ((k : ℕ) → k < n → get_or bs k 0 < 128)
     → IsCharBoundary bs n
 ascii_cut bs zero u l f = IsCharBoundary-start bs u
@@ -54,7 +54,7 @@ module _ (class : CharClass) where
   byte_parts : (b : ℕ) → byte_in class b ≡ true → (b < 128) × (has class b ≡ true)
   byte_parts b e = let p = and_parts (nat_lt b 128) (has class b) e in (ltb-true b 128 p.0, p.1)
 
-  -- the characters of the run are its bytes, and no ASCII character of the class stands behind them
+  -- the characters of the run are its bytes, and no ASCII character of the class is after them
   pub ascii_run : (bs : List ℕ) (n : ℕ) → IsUtf8 bs → IsRun (byte_in class) bs n → EndsRun (byte_in class) bs n
   ascii_run bs n u r =
       let cut = ascii_cut bs n u r.within (λ k lt. (byte_parts _ (r.pass k lt)).0) in
@@ -67,7 +67,7 @@ module _ (class : CharClass) where
         | inr high ↦ and_left (nat_lt c 128) (has class c) (le-ltb c 128 high)
       ]))
 
-  -- no character past ASCII stands behind the place, where an ASCII byte does, or nothing
+  -- no character past ASCII is after the place, where an ASCII byte is, or nothing
   pub ends_at_cut : (bs : List ℕ) (n : ℕ) → IsUtf8 (drop n bs) → (n < length bs → get_or bs n 0 < 128)
       → Ends (past_in class) (chars (drop n bs))
   ends_at_cut bs n u low = ends_by_byte (past_in class) (drop n bs) u (λ l c byte char.

@@ -1,4 +1,4 @@
--- Words, hosts and gaps that stand as they print.
+-- Words, hosts and gaps that are in printed form.
 use Rattle.syslog_pieces.proofs.Names.{◌≡◌, ℕ, [], ◌∷◌, List, length, Option, Some, None, inl, inr, sym, ap, ◌∙◌, arith}
 use Rattle.syslog_pieces.proofs.Names.{chars, Text, Front, word, host, IsHost, name_text, Names, ◌++◌, IsUtf8}
 use Rattle.syslog_pieces.proofs.Names.{drop, suc}
@@ -13,14 +13,14 @@ pub host_text : (p q : Text) (v : Option Text) → IsHost p q v → p ≡ name_t
 host_text p q v (l, a, inl (n, b, m)) = names_text p v m
 host_text p q v (l, a, inr (r, f, b, m)) = rw m
 
--- a word and a host stand as they print
+-- a word and a host are in printed form
 pub word_stands : (text follows : Text) (v : Option Text) → Front word text follows v → text ≡ name_text v ++ follows
 word_stands text follows v f = f.whole ∙ ap (λ (x : Text). x ++ follows) (names_text f.piece v f.is.4)
 
 pub host_stands : (text follows : Text) (v : Option Text) → Front host text follows v → text ≡ name_text v ++ follows
 host_stands text follows v f = f.whole ∙ ap (λ (x : Text). x ++ follows) (host_text f.piece follows v f.is)
 
--- ---- bytes that stand as they print
+-- ---- bytes in printed form
 
 -- a space, and then as many bytes as the rest has
 pub space_stands : (t r : List ℕ) → IsUtf8 t → IsUtf8 r → (gap : Text) → chars t ≡ gap ++ chars r → t ≡ 32 ∷ drop 1 t

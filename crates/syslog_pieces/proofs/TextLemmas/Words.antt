@@ -1,4 +1,4 @@
--- What the readers of numbers and words answer.
+-- What the readers of numbers and words return.
 use Rattle.syslog_pieces.proofs.Names.{◌≡◌, ◌≢◌, ℕ, ◌-◌, ◌<◌, ◌≤◌, ◌^◌, ◌⊎◌, inl, inr, List, ◌∷◌}
 use Rattle.syslog_pieces.proofs.Names.{◌++◌, length, take, drop, Option, Some, None, Result, Ok, Err, refl}
 use Rattle.syslog_pieces.proofs.Names.{sym, ap, ◌∙◌, arith, append_assoc, rules, take-append_seam}
@@ -40,7 +40,7 @@ tag_word_det w q w' q' v v' e h h' =
     let s = run_same is_tag_char w q w' q' e h.1 h.2 h'.1 h'.2 in
     (s, names_same w' v v' (rw s at h.3) h'.3)
 
--- the run that a host is, or that it is with the colon behind it
+-- the run that a host is, or that it is with the colon after it
 abbrev IsRunOf : Text → Text → Option Text → Type 0
 IsRunOf w p v = ((w ≡ p) × (EndsInColon p → ⊥) × Names p v) ⊎ ((w ≡ p ++ colon) × (v ≡ Some p))
 

@@ -1,4 +1,4 @@
--- A fold: the offset before it is ahead of the one behind it, so it gives the earlier instant.
+-- A fold: the offset before it is ahead of the one after it, so it gives the earlier instant.
 use Rattle.std.proofs.Common.{◌≡◌, ℤ, pos, ◌≤ℤ◌, Bool, true, false, Option}
 use Rattle.std.proofs.Common.{Some, None, if◌then◌else◌, int_lt, arith}
 use Rattle.std.specs.Prelude.{⊤}

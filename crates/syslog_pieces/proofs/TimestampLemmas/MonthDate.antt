@@ -1,4 +1,4 @@
--- A text has one month date at its front, and shows one; and what the readers of month dates answer.
+-- A text has one month date at its front, and shows one; and what the readers of month dates return.
 use Rattle.std.proofs.Common.{◌≡◌, inl, inr, ℕ, ◌≤◌, true}
 use Rattle.std.proofs.Common.{List, [], ◌∷◌, ◌++◌, Option, Some, None, refl, sym, ap, ◌∙◌, arith}
 use Rattle.std.proofs.lemmas.Bool.Decides.{nat_tests}
@@ -49,7 +49,7 @@ pub dated_det : IsDeterministic dated_date
 dated_det = mapped_det (Row dated_row) MonthDate dated_of
     (row_det dated_row (all_joined day_row from_year day_det (all_joined year_row clock_row year_det clock_det)))
 
--- ---- it has not both: behind the day, the one has a number before a colon, the other a number before a blank
+-- ---- it has not both: after the day, the one has a number before a colon, the other a number before a blank
 
 -- a number ends in one place, whatever its limit
 number_ends : (l l' : ℕ) (q q' : Text) {t : Text} {n n' : ℕ} → Front (number l) t q n → Front (number l') t q' n'
@@ -68,7 +68,7 @@ blanks_begin {q = q} f =
 pub blank_low : (c : ℕ) → is_blank c ≡ true → c ≤ 32
 blank_low c h = grind (arith, nat_tests, h)
 
--- behind the day, with which both begin
+-- after the day, with which both begin
 dates_apart : Apart MonthDate yearless_date.Is dated_date.Is
 dates_apart p q p' q' v v' e (vs, h, i) (ws, h', i') =
     let f : Front (Row yearless_row) (p ++ q) q vs = record { piece = p; whole = refl; is = h } in
@@ -129,7 +129,7 @@ module _ {t : Text} where
     yearless_none_later n =
         no_mapped (Row yearless_row) MonthDate yearless_of (rows_none_later day_row clock_row day_det f n)
 
-    -- neither a clock nor a year and a clock stands behind the day
+    -- neither a clock nor a year and a clock is after the day
     pub no_clock : NoFront (Row clock_row) u → NoFront (Row from_year) u → NoFront month_date t
     no_clock n m =
         no_either MonthDate yearless_date.Is dated_date.Is (yearless_none_later n)

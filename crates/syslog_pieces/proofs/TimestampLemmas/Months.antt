@@ -23,7 +23,7 @@ month_named {n = n} h = let l = h.from in (n - 1, omega arith, h.name)
 
 -- ---- from the name to the number
 
--- the number that small letters tell
+-- the number of a month in small letters
 abbrev told : Option Text → Option ℕ
 told (Some (a ∷ b ∷ c ∷ [])) = small_month a b c
 told _ = None

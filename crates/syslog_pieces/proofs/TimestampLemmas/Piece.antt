@@ -37,7 +37,7 @@ header_stamp_det p q p' q' (Some s) (Some t) e ((w, h, a), z) ((w', k, b), z') =
     let same = (stamp_text_det p q p' q' w w' e (stamp_alone p [] q w h) (stamp_alone p' [] q' w' k)).0 in
     (same, ap Some (one_timestamp p' s t (subst (λ (x : Text). IsStampText x s) same (w, h, a)) (w', k, b)))
 
--- ---- what the reader answers
+-- ---- what the reader returns
 pub dash_front : {t q : Text} → Front (exactly dash) t q tt → Front header_stamp t q None
 dash_front f = record { piece = f.piece; whole = f.whole; is = f.is }
 
@@ -55,7 +55,7 @@ module _ {t q : Text} {w : Rfc3339Fields} (f : Front stamp_text t q w) where
     is = ((w, stamp_alone f.piece q [] w f.is, h), (r, g.whole ∙ ap (λ (x : Text). x ++ r) g.is));
   }
 
-  -- it has no timestamp, or no space behind it
+  -- it has no timestamp, or no space after it
   pub no_header : ((v : OffsetTimestamp) (r : Text) → q ≡ 32 ∷ r → IsStampOfRfc3339 w v → ⊥) → NoFront header_stamp t
   no_header n p q' None e h =
       no_dash f.piece q q' w (stamp_alone f.piece q [] w f.is) (sym f.whole ∙ e ∙ ap (λ (x : Text). x ++ q') h)

@@ -51,7 +51,7 @@ pub rfc3164_stamp_det : (dating : Dating) → IsDeterministic (rfc3164_stamp dat
 rfc3164_stamp_det dating = either_det (Option OffsetTimestamp) header_stamp.Is (IsStampedDate dating) header_stamp_det
     (stamped_date_det dating) (kinds_apart dating)
 
--- ---- what the reader answers
+-- ---- what the reader returns
 module _ (dating : Dating) {t : Text} where
   pub header_front : {q : Text} {v : Option OffsetTimestamp} → Front header_stamp t q v
       → Front (rfc3164_stamp dating) t q v
@@ -78,7 +78,7 @@ module _ (dating : Dating) {t : Text} where
     pub no_date : NoFront month_date t → NoFront (rfc3164_stamp dating) t
     no_date m = no_stamped (λ d s q f k. no_front_no month_date m f)
 
-    -- the date that stands there has none
+    -- the date that is there has none
     pub no_stamp_of_date : {r : Text} (d : MonthDate) → Front month_date t r d → IsAnswer (IsMonthStamp dating d) None
         → NoFront (rfc3164_stamp dating) t
     no_stamp_of_date d f m = no_stamped (λ d' s q g k. m s (rw (front_same month_date month_date_det g f).1 at k))

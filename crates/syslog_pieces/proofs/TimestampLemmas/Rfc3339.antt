@@ -166,7 +166,7 @@ stamp_alone p q r w (vs, h, e) = (
   e,
 )
 
--- ---- from what a text wrote to the answer
+-- ---- from what a text wrote to the result
 
 -- an answer to one question is one to another that asks the same
 pub answer_same : (P Q : OffsetTimestamp → Type 0) (answer : Option ClockStamp)

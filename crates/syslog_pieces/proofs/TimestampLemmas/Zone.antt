@@ -1,4 +1,4 @@
--- The timestamp of civil fields in a zone: there is at most one, and what its readers answer.
+-- The timestamp of civil fields in a zone: there is at most one, and what its readers return.
 use Rattle.std.proofs.Common.{IfSome, ◌<ℤ◌, arith, ◌≡◌, pos, ℤ, Option, Some, None, sym, ap, subst, ◌∙◌, ◌-ℤ◌}
 use Rattle.jiff.proofs.Family.{same_datetime}
 use Rattle.jiff.specs.Types.{DateTime, Offset, TimeZone, AmbiguousOffset, Unambiguous, Gap, Fold, UTC, Unknown}
@@ -50,7 +50,7 @@ month_stamp_once dating date s t (year, y, (dt, f, h)) (year', y', (dt', f', h')
     let same : dt ≡ dt' = one_datetime (civil_of date year') dt dt' (cc) f' in
     in_any_once dating.zone dating.local dt' s t (rw same at h) h'
 
--- ---- what the readers answer
+-- ---- what the readers return
 
 -- at the one offset, or at the one before a fold
 pub answer_at : (a : AmbiguousOffset) (tz : TimeZone) (dt : DateTime) (offset : Offset) (r : Option ClockStamp)

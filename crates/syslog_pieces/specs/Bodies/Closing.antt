@@ -49,7 +49,7 @@ quoted_row = value ∷ exactly (34 ∷ []) ∷ []
 abbrev pub quoted : Class
 quoted = Row quoted_row
 
--- from behind a parameter to the end of its element
+-- from after a parameter to the end of its element
 abbrev pub tail_row : List Class
 tail_row = more_before param 32 93 ∷ exactly (93 ∷ []) ∷ []
 
@@ -61,7 +61,7 @@ closing = Row (quoted ∷ tail_row)
 abbrev pub byte_count : Text → ℕ
 byte_count t = length (encode_utf8_all t)
 
--- no element closes from behind a `]` that leaves this many bytes or more
+-- no element closes after a `]` that leaves this many bytes or more
 abbrev pub IsDead : Text → ℕ → Type 0
 IsDead t dead = (a b : Text) → t ≡ a ++ (93 ∷ b) → dead ≤ byte_count b → NoFront closing b
 

@@ -12,12 +12,12 @@ BeginsVisibly bytes = (0 < length bytes) × (32 < slice_index bytes 0)
 abbrev pub BeginsWithGap : List ℕ → Type 0
 BeginsWithGap bytes = (1 < length bytes) × (slice_index bytes 0 ≡ 32) × (32 < slice_index bytes 1)
 
--- no sign and no zero stands before a further byte
+-- no sign and no zero is before a further byte
 abbrev pub LeadsBare : List ℕ → Type 0
 LeadsBare bytes = 1 < length bytes
     → (slice_index bytes 0 ≢ 43) × (slice_index bytes 0 ≢ 45) × (slice_index bytes 0 ≢ 48)
 
--- no digit stands at the front
+-- no digit is at the front
 abbrev pub EndsDigits : List ℕ → Type 0
 EndsDigits bytes = 0 < length bytes → is_ascii_digit (slice_index bytes 0) ≡ false
 

@@ -57,7 +57,7 @@ year_row = number 2147483647 ∷ some_run is_blank ∷ []
 abbrev pub year_values : ℕ → Values year_row
 year_values y = (y, (tt, tt))
 
--- the clock, whether one more colon stands behind it or not
+-- the clock, with one more colon after it or not
 abbrev pub clock_values : Clock → Option (Unit {0}) → Values clock_row
 clock_values c more = (c.hour, (tt, (c.minute, (tt, (c.second, (more, tt))))))
 

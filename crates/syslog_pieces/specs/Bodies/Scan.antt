@@ -21,7 +21,7 @@ pub record SplitsRun (test : ℕ → Bool) (bytes xs ys : List ℕ) : Type 0 whe
   pub front_utf8 : IsUtf8 xs
   pub back_utf8 : IsUtf8 ys
 
--- the text may be cut behind n bytes, and the maximal run at its front ends there
+-- the text may be cut after n bytes, and the maximal run at its front ends there
 abbrev pub EndsRun : (ℕ → Bool) → List ℕ → ℕ → Type 0
 EndsRun test bytes n = IsCharBoundary bytes n × SplitsRun test bytes (take n bytes) (drop n bytes)
 

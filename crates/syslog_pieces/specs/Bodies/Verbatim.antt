@@ -1,8 +1,8 @@
--- What stands as it prints.
+-- What is in printed form.
 use Rattle.std.specs.Prelude.{◌≢◌, ◌<◌, ◌++◌, length, get_or, [], ◌∷◌}
 use Rattle.syslog_pieces.specs.Pieces.Class.{Text}
 
--- no sign and no zero stands before other characters
+-- no sign and no zero is before other characters
 abbrev pub IsBareWord : Text → Type 0
 IsBareWord t = 1 < length t → (get_or t 0 0 ≢ 43) × (get_or t 0 0 ≢ 45) × (get_or t 0 0 ≢ 48)
 

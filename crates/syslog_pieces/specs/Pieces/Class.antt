@@ -1,13 +1,13 @@
--- The theory of pieces: which piece may stand before which text, with which meaning, and what it is to divide a
--- text into pieces. A text is related to its pieces by concatenation alone: no definition has a position, and none
--- says in which order a reader tries things.
+-- The theory of pieces: which piece may come before which text, with which meaning, and what it is to divide a text
+-- into pieces. A text is related to its pieces by concatenation alone: no definition has a position, and none says in
+-- which order a reader tries things.
 use Rattle.std.specs.Prelude.{◌≡◌, ◌⊎◌, ℕ, ◌<◌, Bool, true, false, List, [], ◌∷◌, ◌++◌, length, Option, Some, None}
 
 -- a text: a list of Unicode scalar values
 abbrev pub Text : Type 0
 Text = List ℕ
 
--- A class says which piece may stand before which text that follows it, and with which meaning.
+-- A class says which piece may come before which text that follows it, and with which meaning.
 pub record Class : Type 1 where
   pub Value : Type 0
   pub Is : Text → Text → Value → Type 0
@@ -108,7 +108,7 @@ mapped C B f = record { Value = B; Is = λ p q b. (v : C.Value) × C.Is p q v ×
 abbrev pub texted : Class → Class
 texted C = record { Value = Text; Is = λ p q t. (v : C.Value) × C.Is p q v × (t ≡ p) }
 
--- ---- pieces of two kinds, and pieces behind a space
+-- ---- pieces of two kinds, and pieces after a space
 
 -- a piece of one of two kinds, with meanings of one type
 abbrev pub either : (B : Type 0) → (P Q : Text → Text → B → Type 0) → Class

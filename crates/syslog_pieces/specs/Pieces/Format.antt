@@ -19,12 +19,12 @@ abbrev pub classes : List Format → List Class
 classes [] = []
 classes (F ∷ Fs) = F.reads ∷ classes Fs
 
--- the printed values, one behind the other, and then a text
+-- the printed values, one after the other, and then a text
 abbrev pub printed_row : (Fs : List Format) → Values (classes Fs) → Text → Text
 printed_row [] vs q = q
 printed_row (F ∷ Fs) vs q = F.print vs.0 ++ printed_row Fs vs.1 q
 
--- each value is read back from print, and may stand before what is printed behind it
+-- each value is read back from print, and may come before what is printed after it
 abbrev pub RowReadsBack : (Fs : List Format) → Values (classes Fs) → Text → Type 0
 RowReadsBack [] vs q = Unit {0}
 RowReadsBack (F ∷ Fs) vs q = (F.ReadsBack vs.0 × F.Before (printed_row Fs vs.1 q)) × RowReadsBack Fs vs.1 q

@@ -14,7 +14,7 @@ many C = record { Value = List C.Value; Is = IsMany C }
 abbrev pub HasRead : (C : Class) → Text → List C.Value → Text → Type 0
 HasRead C t vs t' = (q : Text) (ws : List C.Value) → Front (many C) t' q ws → Front (many C) t q (vs ++ ws)
 
--- further pieces of the class, each behind one separator
+-- further pieces of the class, each after one separator
 abbrev pub IsMore : (C : Class) (separator : ℕ) → Text → Text → List C.Value → Type 0
 IsMore C separator p q [] = p ≡ []
 IsMore C separator p q (v ∷ vs) = (a : Text) × (b : Text) × (p ≡ separator ∷ (a ++ b)) × C.Is a (b ++ q) v

@@ -10,7 +10,7 @@ use Rattle.syslog_pieces.specs.Pieces.Class.{Text, Class, Front, NoFront}
 abbrev pub shown : Bor (List ℕ) → Text
 shown s = chars s.now
 
--- the text behind an optional slice
+-- the text after an optional slice
 abbrev pub seen : Option (Bor (List ℕ)) → Option Text
 seen s = option_map (λ t. shown t) s
 
@@ -30,9 +30,9 @@ ClonesKeepText {S} is_clone bytes = (x y : S) → is_clone x y → bytes y ≡ b
 abbrev pub text_eq : Text → Text → Bool
 text_eq = pointwise nat_eq
 
--- ---- what a reader of a class answers about a text: the front of the class, or nothing where there is none
+-- ---- what a reader of a class returns about a text: the front of the class, or nothing where there is none
 
--- the meaning, seen through a view, and the text behind the front
+-- the meaning, seen through a view, and the text after the front
 abbrev pub Reads : {X : Type 0} (C : Class) → (X → C.Value) → Text → Option (X × Bor (List ℕ)) → Type 0
 Reads C view text r = MatchOption r (NoFront C text) (λ x. Front C text (shown x.1) (view x.0))
 
@@ -40,10 +40,10 @@ Reads C view text r = MatchOption r (NoFront C text) (λ x. Front C text (shown 
 abbrev pub ReadsBytes : {X : Type 0} (C : Class) (view : X → C.Value) → List ℕ → Option (X × Bor (List ℕ)) → Type 0
 ReadsBytes C view bytes r = MatchOption r (NoFront C bytes) (λ x. Front C bytes x.1.now (view x.0))
 
--- the text behind the front, whose meaning is known
+-- the text after the front, whose meaning is known
 abbrev pub Skips : (C : Class) → C.Value → Text → Option (Bor (List ℕ)) → Type 0
 Skips C value text r = MatchOption r (NoFront C text) (λ q. Front C text (shown q) value)
 
--- the text behind the front, whatever it means
+-- the text after the front, whatever it means
 abbrev pub Recognises : (C : Class) → Text → Option (Bor (List ℕ)) → Type 0
 Recognises C text r = MatchOption r (NoFront C text) (λ q. (v : C.Value) × Front C text (shown q) v)

@@ -1,4 +1,4 @@
--- Elements that are read back from their printed text, in which each value stands as it is.
+-- Elements that are read back from their printed text, in which each value is as it is.
 use Rattle.std.specs.Prelude.{◌<◌, ⊤, List, [], ◌∷◌, length}
 use Rattle.std.specs.List.{AllByRecursion}
 use Rattle.syslog_pieces.specs.Pieces.Class.{Text, Each, Ends}

@@ -17,7 +17,7 @@ param_value text p = (text p.0, text p.1)
 abbrev pub element_value : {S : Type 0} → (S → Text) → StructuredElement S → ElementValue
 element_value text e = record { id = text e.id; params = map (param_value text) e.params.items }
 
--- ` name="value"`, the value as it stands
+-- ` name="value"`, the value as it is
 abbrev pub param_text : Text × Text → Text
 param_text p = 32 ∷ (p.0 ++ (61 ∷ 34 ∷ (p.1 ++ (34 ∷ []))))
 

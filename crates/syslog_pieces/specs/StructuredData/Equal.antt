@@ -10,15 +10,15 @@ use Rattle.syslog_pieces.specs.StructuredData.Element.{ElementValue}
 abbrev pub param_eq : Text × Text → Text × Text → Bool
 param_eq p q = text_eq p.0 q.0 && text_eq p.1 q.1
 
--- how often a parameter stands in a list
+-- how often a parameter is in a list
 abbrev pub param_count : Text × Text → List (Text × Text) → ℕ
 param_count p ps = count_by (λ q. param_eq p q) ps
 
--- whether each of these parameters stands equally often in two lists
+-- whether each of these parameters is equally often in two lists
 abbrev pub counts_agree : (these ps qs : List (Text × Text)) → Bool
 counts_agree these ps qs = list_all (λ p. nat_eq (param_count p ps) (param_count p qs)) these
 
--- whether each parameter of either list stands equally often in both
+-- whether each parameter of either list is equally often in both
 abbrev pub same_params : List (Text × Text) → List (Text × Text) → Bool
 same_params ps qs = counts_agree (ps ++ qs) ps qs
 

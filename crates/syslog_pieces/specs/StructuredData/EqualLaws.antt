@@ -34,7 +34,7 @@ pub param_count-cons : (p x : Param) (ps : List Param)
     → param_count p (x ∷ ps) ≡ cond (param_eq p x) 1 0 + param_count p ps
 param_count-cons p x ps = sum_by-cons (λ q. cond (param_eq p q) 1 0) x ps
 
--- ---- a parameter that stands in a list can be taken out of it
+-- ---- a parameter that is in a list can be taken out of it
 
 pub record IsTakenOut (p : Param) (qs : List Param) : Type 0 where
   pub before : List Param
@@ -65,7 +65,7 @@ in_front p qs t = subst (IsPermutation (p ∷ rest_of t)) (sym t.whole)
 abbrev pub SameCounts : List Param → List Param → Type 0
 SameCounts ps qs = (p : Param) → param_count p ps ≡ param_count p qs
 
--- each parameter that stands in the first list stands equally often in the second
+-- each parameter that is in the first list is equally often in the second
 abbrev pub CountsAgree : List Param → List Param → Type 0
 CountsAgree ps qs = (p : Param) → 0 < param_count p ps → param_count p ps ≡ param_count p qs
 
@@ -77,7 +77,7 @@ pub counts_agree-from : (these ps qs : List Param) → SameCounts ps qs → coun
 counts_agree-from [] ps qs same = refl
 counts_agree-from (x ∷ these) ps qs same = and_from _ _ (eq-eqb _ _ (same x)) (counts_agree-from these ps qs same)
 
--- a parameter that stands in the list that was gone through stands equally often in both
+-- a parameter that is in the list that was gone through is equally often in both
 pub counts_agree-at : (these ps qs : List Param) (p : Param) → counts_agree these ps qs ≡ true → 0 < param_count p these
     → param_count p ps ≡ param_count p qs
 counts_agree-at [] ps qs p e some = absurd (omega arith)
@@ -88,7 +88,7 @@ counts_agree-at (x ∷ these) ps qs p e some =
       | inr differ ↦ counts_agree-at these ps qs p both.1 (rw (param_count-cons p x these, differ, zero-add) at some)
     ]
 
--- the first parameter stands in its own list
+-- the first parameter is in its own list
 first_counted : (x : Param) (ps : List Param) → 0 < param_count x (x ∷ ps)
 first_counted x ps = let one = param_count-cons x x ps in let same = param_eq-refl x in rw (one, same) (omega arith)
 

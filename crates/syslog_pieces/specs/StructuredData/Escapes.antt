@@ -37,23 +37,23 @@ pub record SplitsUnits (text : Text) (units : List TextUnit) (lone : Bool) : Typ
 abbrev pub is_escaped : ℕ → Bool
 is_escaped c = nat_eq c 92 || (nat_eq c 34 || nat_eq c 93)
 
--- a pair stands for a line feed, for its second character where that is escaped, or else for itself
+-- a pair means a line feed, or its second character where that is escaped, or otherwise itself
 abbrev pub pair_meaning : ℕ → Text
 pair_meaning c = if nat_eq c 110 then 10 ∷ [] else (if is_escaped c then c ∷ [] else 92 ∷ c ∷ [])
 
--- what a unit stands for
+-- what a unit means
 abbrev pub unit_meaning : TextUnit → Text
 unit_meaning (pair c) = pair_meaning c
 unit_meaning (single c) = c ∷ []
 
--- the text without its escapes: what its units stand for; a lone backslash stands for nothing
+-- the text without its escapes: what its units mean; a lone backslash means nothing
 pub record IsUnescaped (text unescaped : Text) : Type 0 where
   pub units : List TextUnit
   pub lone : Bool
   pub split : SplitsUnits text units lone
   pub means : unescaped ≡ flat_map unit_meaning units
 
--- a character, behind a backslash where it is escaped
+-- a character, after a backslash where it is escaped
 abbrev pub escaped_char : ℕ → Text
 escaped_char c = if is_escaped c then 92 ∷ c ∷ [] else c ∷ []
 

@@ -46,8 +46,8 @@ pub record IsWalked (text : Text) (w : Walked) : Type 0 where
   pub prints : IsTrue w.prints → text ≡ element_text (element_seen w.element) ++ shown w.rest
   pub few : length (element_seen w.element).params + length (shown w.rest) ≤ length text
 
--- the elements that stand in the text before the rest were counted; where the mark says so, they stand up to the end in
--- printed form, and a part of the list may follow
+-- the elements that are in the text before the rest were counted; where the mark says so, they are in printed form up
+-- to the end, and a part of the list may follow
 pub record IsTallied (text rest : Text) (es : List ElementValue) (tally : Tally) : Type 0 where
   pub utf8 : IsUtf8 tally.end.now
   pub elements : tally.elements ≡ length es

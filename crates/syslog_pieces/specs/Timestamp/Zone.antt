@@ -1,4 +1,4 @@
--- The timestamp of civil fields in a zone, said over what `jiff` tells of the zone: whether a clock there shows the
+-- The timestamp of civil fields in a zone, said over what `jiff` says of the zone: whether a clock there shows the
 -- datetime at one instant, at two (a fold) or at none (a gap).
 use Rattle.std.specs.Prelude.{◌≡◌, ℤ, pos, ◌+ℤ◌, Option, Some, None, option_map}
 use Rattle.std.specs.Borrow.{Bor}
@@ -12,7 +12,7 @@ use Rattle.syslog_pieces.specs.declared.timestamp.zone.Dating.{Dating as DatingH
 use Rattle.syslog_pieces.specs.Timestamp.Fields.{fields_of, IsStampAt}
 
 -- How a date without an offset gets a timestamp: the year of a date that has none (where that is absent too, such a
--- date has no timestamp), the zone that is given, and the local zone, which stands in where none is.
+-- date has no timestamp), the zone that is given, and the local zone, which is used where none is.
 pub record Dating : Type 0 where
   pub year : Option ℤ
   pub zone : Option TimeZone
@@ -66,7 +66,7 @@ abbrev pub IsStampInAny : Option TimeZone → TimeZone → DateTime → OffsetTi
 IsStampInAny (Some tz) local dt s = IsStampIn tz dt s
 IsStampInAny None local dt s = IsLocalStampIn local dt s
 
--- the year that the date shows, or else the one that stands in for it
+-- the year that the date shows, or otherwise the one that is used for it
 abbrev pub year_of : MonthDate → Option ℤ → Option ℤ
 year_of date year = elim date.year [ Some shown ↦ Some (pos shown) | None ↦ year ]
 

@@ -1,5 +1,4 @@
-//! Which elements are read back from print as they stand: the scanners that read them are asked, and no memory is
-//! taken.
+//! Which elements are read back from print as they are: the scanners that read them are asked, and no memory is taken.
 ghost use Rattle.std.specs.Prelude.{◌↔◌, ◌<◌, IsTrue, map};
 ghost use Rattle.std.specs.List.{AllByRecursion};
 ghost use Rattle.std.specs.Str.{chars};
@@ -67,7 +66,7 @@ fn begins_unblank_params<S: AsStr>(params: &[(S, S)]) -> bool
     }
 }
 
-/// Whether the element is read back from its printed text, in which each value stands as it is.
+/// Returns whether the element is read back from its printed text, in which each value is as it is.
 pub fn is_canonical_element<S: AsStr>(element: &StructuredElement<S>) -> bool
     ensures { IsTrue result ↔ spec.IsCanonicalElement (element_value (text_of S.text) element.now) }
 {

@@ -24,8 +24,7 @@ impl<S: AsStr + Clone> StructuredElement<S> {
 }
 
 impl StructuredElement<&str> {
-    /// The same element, with texts of its own: the same parameters in the same order. An `Err` is only for memory,
-    /// and nothing has changed then.
+    /// Returns the element with texts of its own, its parameters in order. If an allocation fails, nothing has changed.
     pub fn to_owned_text(&self, alloc: Global) -> Result<StructuredElement<String>, AllocError>
         ensures { IfOk result (λ copy. element_value (text_of string_bytes) copy
             ≡ element_value (λ s. shown s) self.now) }

@@ -1,5 +1,5 @@
-//! Equality of elements: one id, and the same parameters in any order. It takes no memory, one pass where the
-//! parameters stand in one order, and at worst time in proportion to the product of the two lengths.
+//! Equality of elements: one id, and the same parameters in any order. It takes no memory. It is one pass if the
+//! parameters are in one order, and at worst time in proportion to the product of the two lengths.
 ghost use Rattle.std.specs.Cmp.{on_equiv, on_per, partial_equiv_from_equiv};
 ghost use Rattle.std.specs.Ordering.{on};
 ghost use Rattle.std.specs.Prelude.{◌≡◌, ◌≤◌, count_by, length, map, take};

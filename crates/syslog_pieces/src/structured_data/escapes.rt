@@ -18,7 +18,7 @@ fn push_text(out: &mut String, text: &str) -> Result<(), AllocError>
     out.push_str(text)
 }
 
-// What a backslash and this character stand for.
+// What a backslash and this character mean.
 fn push_pair(out: &mut String, c: char) -> Result<(), AllocError>
     ensures { IfOk result (λ _. chars (string_bytes out.new) ≡ chars (string_bytes out.old) ++ pair_meaning c) }
 {

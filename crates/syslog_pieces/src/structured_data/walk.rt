@@ -36,8 +36,8 @@ fn gap(text: &str) -> (&str, bool)
     }
 }
 
-// The name of the parameter at the front, the text after the quote that opens its value, and whether no blank stands
-// after its `=`.
+// Reads the name of the parameter at the front. Returns it, the text after the quote that opens its value, and whether
+// no blank is after its `=`.
 #[inline(always)]
 fn open_param(text: &str) -> Option<(&str, &str, bool)>
     ensures { MatchOption result (NoFront opening_class (chars text.now)) (λ x.
@@ -53,7 +53,7 @@ fn open_param(text: &str) -> Option<(&str, &str, bool)>
     Some((name, value, false))
 }
 
-// The value whose closing quote stands before the rest.
+// The value whose closing quote is before the rest.
 #[tactic(auto, using(crate::proofs::StructuredDataLemmas::Closing::quoted_value))]
 #[inline(always)]
 fn value_before<'a>(text: &'a str, rest: &str) -> &'a str

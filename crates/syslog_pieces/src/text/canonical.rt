@@ -1,5 +1,5 @@
-//! Which texts are read back from print as they stand. Each asks the scanner or the reader that reads such a text, and
-//! takes no memory.
+//! Which texts are read back from print as they are. Each test asks the scanner or the reader that reads such a text,
+//! and takes no memory.
 ghost use Rattle.std.specs.Prelude.{◌≡◌, ◌↔◌, ◌<◌, IsSomeAnd, IsTrue, [], length};
 ghost use Rattle.std.specs.Str.{chars};
 ghost use Rattle.syslog_pieces.specs.Pieces.Class.{Each, Ends};

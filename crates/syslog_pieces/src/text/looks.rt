@@ -1,4 +1,4 @@
-//! What the first bytes of a text tell, or its last one, without a scan.
+//! What the first bytes of a text, or its last one, say without a scan.
 ghost use Rattle.std.specs.Prelude.{◌≡◌, ◌≢◌, ℕ, List, ◌∷◌, ◌++◌, [], IsTrue};
 ghost use Rattle.std.specs.Prelude.{MatchBool, drop, false, length, slice_index, ◌<◌};
 ghost use Rattle.std.specs.Bool.{OnFalse};

@@ -26,7 +26,7 @@ fn own_year(stamp: OffsetTimestamp) -> i16
     stamp.offset.to_datetime(stamp.instant).year()
 }
 
-/// The same of what a clock showed, where it showed anything.
+/// Returns whether what a clock showed, if anything, is read back from print.
 #[inline(always)]
 pub fn is_canonical_clock(clock: Option<ClockStamp>) -> bool
     ensures { IsTrue result ↔ IfSome (stamp_seen clock) IsCanonicalStamp }

@@ -50,7 +50,7 @@ pub fn four_digits(text: &[u8]) -> Option<(u16, &[u8])>
     Some(((century * 100 + year) as u16, rest))
 }
 
-/// The text behind a letter in either case, of which this is the upper case.
+/// Returns the text after a letter in either case, given its upper case.
 #[inline(always)]
 pub fn after_letter(text: &[u8], upper: u8) -> Option<&[u8]>
     requires { upper < 128 }

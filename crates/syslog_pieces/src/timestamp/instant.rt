@@ -53,8 +53,8 @@ pub fn clock_stamp(fields: CivilFields, offset: Offset) -> Option<ClockStamp>
     }
 }
 
-// Whether there are such a date and time of day, and the instant is in range. As one value the fields would stand in
-// memory on each line, for a call that few lines make.
+// Returns whether there are such a date and time of day, and the instant is in range. As one value the fields would be
+// in memory on each line, for a call that few lines make.
 #[inline(never)]
 fn is_there(
     year: i32,
@@ -119,7 +119,7 @@ impl ClockStamp {
     }
 }
 
-/// The same of one that may be absent.
+/// Returns the timestamp of a clock that may be absent.
 #[inline(always)]
 pub fn stamp_of(clock: Option<ClockStamp>) -> Option<OffsetTimestamp>
     ensures { result ≡ stamp_seen clock }
@@ -212,7 +212,7 @@ fn years(year: i32) -> u32
     (year + 10_000) as u32
 }
 
-// The same of a year that begins in March, and has the months 3 to 14.
+// Returns the day number of a date in a year that begins in March, and has the months 3 to 14.
 #[inline(always)]
 fn march_days(year: u32, month: u32, day: u32) -> u32
     requires year { year ≤ 20_000 }

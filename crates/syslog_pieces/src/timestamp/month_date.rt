@@ -53,7 +53,7 @@ pub fn month_date(text: &str) -> Option<(MonthDate, &str)>
     }
 }
 
-// The month date with a year, of which this day stands before the text.
+// Reads the rest of a month date with a year, whose day is before the text.
 #[inline(never)]
 fn dated(day: Day, text: &str) -> Option<(MonthDate, &str)>
     ensures { (whole : Text) → Front (Row parts.day_row) whole (chars text.now) (parts.day_values day)
@@ -77,7 +77,7 @@ pub(super) fn date_of(year: Option<u32>, day: Day, clock: Clock) -> MonthDate
     }
 }
 
-// The month and the day, and the blanks behind each.
+// Reads the month and the day, and the blanks after each.
 #[inline(always)]
 fn read_day(text: &str) -> Option<(Day, &str)>
     ensures { Reads (Row parts.day_row) parts.day_values (chars text.now) result }
@@ -89,7 +89,7 @@ fn read_day(text: &str) -> Option<(Day, &str)>
     Some((Day { month, day }, rest))
 }
 
-// The year, and the blanks behind it.
+// Reads the year, and the blanks after it.
 fn read_year(text: &str) -> Option<(u32, &str)>
     ensures { Reads (Row parts.year_row) parts.year_values (chars text.now) result }
 {
@@ -98,7 +98,7 @@ fn read_year(text: &str) -> Option<(u32, &str)>
     Some((year, rest))
 }
 
-// Hour, minute and second, and the colon behind them where there is one.
+// Reads hour, minute and second, and the colon after them if there is one.
 #[inline(always)]
 fn read_clock(text: &str) -> Option<(Clock, &str)>
     ensures { MatchOption result
@@ -132,7 +132,7 @@ fn read_month(text: &str) -> Option<(u32, &str)>
     Some((number, rest))
 }
 
-// The same of bytes.
+// Reads a month of bytes.
 #[inline(always)]
 fn month(bytes: &[u8]) -> Option<(u32, &[u8])>
     ensures { MatchOption result (parts.NamesNoMonth bytes.now) (λ x. parts.IsMonthBytes bytes.now x.0 x.1.now) }

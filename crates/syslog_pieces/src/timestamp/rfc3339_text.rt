@@ -14,8 +14,8 @@ use super::fields::CivilFields;
 use super::instant::clock_stamp;
 use jiff::tz::Offset;
 
-/// The numbers of an RFC 3339 text as they stand there, of which there may be no such date or time.
-/// The fraction is in nanoseconds, the offset in seconds.
+/// The numbers of an RFC 3339 text as they are written; there may be no such date or time. The fraction is in
+/// nanoseconds, the offset in seconds.
 #[derive(Clone, Copy)]
 pub struct Rfc3339Fields {
     pub year: u16,
@@ -64,7 +64,7 @@ fn offset_of(seconds: i32) -> Option<Offset>
 // The length of `YYYY-MM-DDTHH:MM:SSZ`: no text is shorter.
 const LEAST: usize = 20;
 
-/// What the front of the text writes, and the text behind it.
+/// Reads what the front of the text writes. Returns it and the rest.
 #[inline(always)]
 pub fn read(text: &str) -> Option<(Rfc3339Fields, &str)>
     ensures { Reads spec.stamp_text (λ written. written) (chars text.now) result }

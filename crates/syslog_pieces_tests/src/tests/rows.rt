@@ -17,7 +17,7 @@ pub(super) fn answer_of(row: &str) -> Option<&str> {
     row.split('¦').nth(1)
 }
 
-/// What is left behind that.
+/// What is left after that.
 pub(super) fn left_of(row: &str) -> &str {
     row.split('¦').nth(2).unwrap_or("")
 }
@@ -58,7 +58,7 @@ pub(super) fn check(rt: &impl Abort, holds: bool, row: &str) {
     assert!(rt; holds, "{row:?}");
 }
 
-/// The text reads as the word of the row, which is empty where a dash stands for no word.
+/// The text reads as the word of the row, which is empty for an absent one (a dash).
 pub(super) fn check_word(rt: &impl Abort, row: &str, read: Option<(Option<&str>, &str)>) {
     let same = match read {
         Some((Some(word), rest)) => reads_as(row, word, rest),

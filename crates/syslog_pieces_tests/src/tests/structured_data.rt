@@ -169,7 +169,7 @@ const ESCAPED: &str = "x\
      |g|\
      |h|\u{e9}\\\u{e9}";
 
-/// The same without the escapes.
+/// The elements of that list without the escapes.
 const PLAIN: &str = "x\
      |a|hullo \"there\"\
      |b|let's \\\\do this\\\\\
@@ -251,7 +251,7 @@ fn forgiving_lists(rt: HostRuntime) {
     }
 }
 
-// The same of a row that was built.
+// Checks a list for a row that was built.
 fn check_built_list(rt: &impl Abort, alloc: Global, row: Result<String, AllocError>) {
     match row {
         Ok(row) => check_list(rt, alloc, row.as_str()),
@@ -265,7 +265,7 @@ fn brackets(alloc: Global, count: usize) -> Result<String, AllocError> {
     format!(in alloc; "[{id}]¦{id}¦")
 }
 
-// So many elements, and the rest behind them.
+// Checks the number of elements, and the rest.
 fn elements(alloc: Global, count: usize, rest: &str) -> Result<String, AllocError> {
     let list = repeated(alloc, "[e k=\"v\"]", count, rest)?;
     let lines = repeated(alloc, "e|k|v\n", count, "")?;

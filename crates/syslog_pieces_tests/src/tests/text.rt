@@ -215,7 +215,7 @@ fn reads_number(row: &str, limit: u32) -> bool {
     }
 }
 
-// A row stands behind its limit.
+// A row comes after its limit.
 fn reads_behind_limit(row: &str) -> bool {
     match row.split_once(' ') {
         Some((limit, row)) => match limit.parse::<u32>() {

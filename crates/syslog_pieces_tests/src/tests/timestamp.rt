@@ -203,8 +203,8 @@ fn compares_by_the_instant(rt: HostRuntime) {
     check(&rt, stamp(&rt, 5, 0) > stamp(&rt, -5, 0), "behind");
 }
 
-// A row is a text, what the timestamp at its front prints as, which is nothing where a dash stands for none, and what is
-// left; or the text of no timestamp.
+// A row is a text, the printed form of the timestamp at its front, which is empty for a dash, and the rest; or a text
+// without a timestamp.
 fn reads_header_stamp(alloc: Global, row: &str) -> bool {
     let Some((clock, rest)) = header_stamp(text_of(row)) else {
         return answer_of(row).is_none();
@@ -228,7 +228,7 @@ fn reads_the_timestamp_of_a_header(rt: HostRuntime) {
         "- h¦¦ h",
         "--¦¦-",
         "-2003-10-11T22:14:15Z ¦¦2003-10-11T22:14:15Z ",
-        // no space behind a timestamp, and no timestamp
+        // no space after a timestamp, so no timestamp
         "",
         " ",
         " 2003-10-11T22:14:15Z ",

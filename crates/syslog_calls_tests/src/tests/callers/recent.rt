@@ -22,7 +22,7 @@ fn year_of(date: IncompleteDate, now: i32, last: i32) -> i32
     if date.0 == 12 { last } else { now }
 }
 
-/// The instant of the line, where it has a reading and a timestamp. An `Err` is only for memory.
+/// The instant of the line, if it parses and has a timestamp. An `Err` is only for memory.
 fn instant_of(
     alloc: Global,
     line: &str,

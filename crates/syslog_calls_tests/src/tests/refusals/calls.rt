@@ -31,7 +31,7 @@ const CALLS: [Call; 5] = [
 
 const YEAR: i32 = 2020;
 
-/// The message of the text in 2020 and by the rule, given or local. `Memory` stands for each call's refusal.
+/// The message of the text in 2020 and by the rule, given or local. `Memory` is each call's failed allocation.
 fn called<'a>(
     alloc: Global,
     call: Call,
@@ -185,7 +185,7 @@ fn sees_no_refusal_in_any_call(rt: HostRuntime) {
     }
 }
 
-/// Texts without a reading.
+/// Texts that do not parse.
 const UNREADABLE: [&str; 7] = [
     "",
     "gobbledegook",
@@ -196,7 +196,7 @@ const UNREADABLE: [&str; 7] = [
     "<34>Feb 30 10:00:00 h a: [a b=\"c\"] m",
 ];
 
-// The exact calls answer none, and the others the text itself.
+// The exact calls return none, and the others the text itself.
 fn check_unreadable(rt: &impl Abort, alloc: Global, call: Call, text: &str, rule: &TimeZone<'_>) {
     let is_exact = matches!(call, Call::Exact | Call::ExactInZone);
     match called(alloc, call, text, Variant::Either, rule) {

@@ -101,7 +101,7 @@ fn check_copies(rt: &impl Abort, alloc: Global, text: &str, tries: Tries) {
     }
 }
 
-// How many values were refused. Each other one is right, and stands in its place.
+// How many values were refused. Each other one is right, and in its place.
 fn refused_values(rt: &impl Abort, alloc: Global, element: &StructuredElement<&str>) -> usize {
     let mut wanted = PARAMETERS.split('|');
     let mut refused = 0usize;

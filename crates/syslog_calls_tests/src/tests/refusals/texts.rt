@@ -91,7 +91,7 @@ fn answers_line_after_line_in_one_text(rt: HostRuntime) {
     }
 }
 
-// The text is read as a message without elements, or has no reading.
+// The text parses as a message without elements, or does not parse.
 fn check_read(rt: &impl Abort, alloc: Global, text: &str, want: Option<&str>) {
     match (read(alloc, text, Variant::Either), want) {
         (Ok(message), Some(msg)) => {

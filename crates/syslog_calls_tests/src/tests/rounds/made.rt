@@ -18,7 +18,7 @@ const TAGS: [&str; 8] = [
 /// Messages, of which some begin with a list.
 const MESSAGES: [&str; 6] = ["", " -", " - -", " --", " [e k=\"v\"]- x", " m: ::"];
 
-/// Each tag and each message behind a timestamp and a host.
+/// Each tag and each message after a timestamp and a host.
 fn expect_lines(
     rt: &impl Abort,
     alloc: Global,
@@ -35,7 +35,7 @@ fn expect_lines(
     }
 }
 
-/// Each host behind each timestamp: 3,072 lines, half of them at an offset of 30 seconds, half of them in a year before
+/// Each host after each timestamp: 3,072 lines, half of them at an offset of 30 seconds, half of them in a year before
 /// 0.
 #[test]
 fn settles_made_lines_as_normalising_by_hand_does(rt: HostRuntime) {

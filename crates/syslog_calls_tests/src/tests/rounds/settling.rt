@@ -83,7 +83,7 @@ fn settles_in_rounds(rt: HostRuntime) {
 #[test]
 fn settles_no_text_that_is_not_read_again(rt: HostRuntime) {
     let (utc, day) = (TimeZone::UTC, zone_at(&rt, 86_400));
-    // An offset of a day prints, and has no reading.
+    // An offset of a day prints, and does not parse.
     let once = normalised(rt.alloc(), OCTOBER, 2019, Some(&day));
     let want = "<47> 2019-10-11T22:14:15+24:00 h a: m";
     check_answer(&rt, once, Ok(want), OCTOBER);

@@ -1,4 +1,4 @@
--- Each exit says that the row fails at its piece, behind the pieces that were read; the return joins them.
+-- Each exit says that the row fails at its piece, after the pieces that were read; the return joins them.
 use Rattle.std.proofs.Common.{inl, refl, rules}
 use Rattle.syslog_pieces.specs.Pieces.View.{seen, shown}
 use Rattle.syslog_pieces.specs.Text.{name_text}

@@ -45,7 +45,7 @@ const LISTS: [&str; 2] = [
     "[a b=\"x]y\"][broken =][c d=\"e\"][f¦a|b|x]y\nc|d|e¦[f",
 ];
 
-// How many values were refused, where each other one is right, with its name, and stands in its place.
+// How many values were refused, if each other one is right, with its name, and in its place.
 fn refused_values(alloc: Global, element: &StructuredElement<&str>) -> Option<usize> {
     let mut wanted = "a|b|c||d|]".split('|');
     let mut refused = 0usize;

@@ -40,7 +40,7 @@ pub(super) fn check_read_optional(
     check(rt, same, row);
 }
 
-// Whether there is one is told alike without memory.
+// Whether there is one is reported alike without memory.
 fn check_list(rt: &impl Abort, alloc: Global, row: &str, rule: DashRule) {
     check(
         rt,

@@ -108,7 +108,7 @@ fn reads_a_month_date(rt: HostRuntime) {
         "Sep 5 07:08:",
         "Sep 5 07-08-09",
         "Sep 5 2020 2020 07:08:09",
-        // one colon behind the second
+        // one colon after the second
         "Sep 5 07:08:09:¦9 5 7 8 9¦",
         "Sep 5 07:08:09::¦9 5 7 8 9¦:",
         "Sep 5 07:08:09 :¦9 5 7 8 9¦ :",

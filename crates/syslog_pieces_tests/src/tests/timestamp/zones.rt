@@ -144,7 +144,7 @@ fn wants_a_year_in_its_range_where_none_is_shown(rt: HostRuntime) {
     check_year(&rt, None, "Aug 4 16:49:07", "Aug 4 2020 16:49:07");
 }
 
-// The cell of a timestamp is what it prints as, with its offset, or empty where a dash stands for none.
+// The cell of a timestamp is what it prints as, with its offset, or empty for a dash.
 fn is_stamp_of(alloc: Global, row: &str, clock: Option<ClockStamp>) -> bool {
     match clock {
         Some(clock) => has_clock(alloc, row, &clock),

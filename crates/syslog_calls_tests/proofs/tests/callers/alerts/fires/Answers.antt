@@ -19,7 +19,7 @@ Shown = Bor (List ℕ)
 abbrev AreOther : Text → Text → List (Shown × Shown) → Type 0
 AreOther name value ps = AllByRecursion (IsOther name value) (map (param_value (λ s. shown s)) ps)
 
--- the item that is no match leaves the question to those behind it
+-- an item that is no match leaves the question to those after it
 passed : (name value : Text) (old new : List (Shown × Shown)) (item : Result (Bor Shown × String Global) AllocError)
     (found : Bor Shown × String Global)
     → NextParam (λ s. s.now) old (Some item) new → item ≡ Ok found
