@@ -20,9 +20,10 @@ use std::alloc::{AllocError, Global};
 use syslog_pieces::as_str::is_same_text;
 use syslog_pieces::text::{CharClass, first, literal, number, split_run};
 
-// The text after this character, and whether it isn't there.
+// The text after this ASCII character, or none where it isn't there.
 #[inline(always)]
 fn after_char(text: &str, c: char) -> Option<&str>
+    requires { c < 128 }
     ensures { MatchOption result ((rest : Text) → chars text.now ≢ c ∷ rest) (λ rest. chars text.now ≡ c ∷ shown rest) }
 {
     literal(text, c)
@@ -57,9 +58,10 @@ fn two_digits(text: &str) -> Option<(u32, &str)>
     }
 }
 
-// Two digits after this character.
+// Two digits after this ASCII character.
 #[inline(always)]
 fn digits_after(text: &str, mark: char) -> Option<(u32, &str)>
+    requires { mark < 128 }
     ensures { MatchOption result ⊤ (λ x. (x.0 < 100) × (chars text.now ≡ mark ∷ pad2 x.0 ++ shown x.1)) }
 {
     let rest = after_char(text, mark)?;

@@ -33,7 +33,7 @@ returns-in_ok-push_refused-in-None c =
     let same : to_z w32 (of_z w32 options.year) ≡ options.year = search rules in
     let visited = c.in-None.ensures in
     let none = in_year_told (in_year_map (λ year h. h.0) visited) (λ date y is. (rw same at is.1) options.year_in_range) in
-    let kept = (visited.holds visited.answered (λ date asks. refl)).1.0 in
+    let kept = (visited.holds visited.answered (λ date asks. refl)).1 in
     let (bytes, text, added) = c.in_ok-push_refused-in-None.ensures in (
       _,
       only_refused options _ _ (inl (c.utf8.line, none, refl)),
