@@ -1,18 +1,16 @@
 -- The characters of a text that has a stamp: ASCII, none of them white space, the first a digit.
-use Rattle.std.proofs.Common.{◌≡◌, inl, inr, ℕ, zero, suc, ◌/◌, ◌%◌, ◌<◌, ◌≤◌, ◌&&◌, Bool, true, false, nat_lt, List, []}
+use Rattle.std.proofs.Common.{◌≡◌, inl, inr, ℕ, ◌/◌, ◌%◌, ◌<◌, ◌≤◌, ◌&&◌, Bool, true, false, nat_lt, List, []}
 use Rattle.std.proofs.Common.{◌∷◌, ◌++◌, refl, sym, arith}
 use Rattle.std.proofs.lemmas.Bool.Decides.{nat_tests}
-use Rattle.std.proofs.lemmas.Str.{IsUtf8-from_ascii}
 use Rattle.std.specs.Char.{is_ascii_digit, is_not_whitespace}
-use Rattle.std.specs.List.{AllByRecursion}
-use Rattle.std.specs.Str.{IsAscii, IsUtf8}
+use Rattle.std.specs.Str.{IsAscii}
 use Rattle.jiff_fmt.specs.Text.{pad2, pad4}
 use Rattle.syslog_pieces.specs.Pieces.Class.{Text, Class, Values, Divides, Each, Row, join, after}
 use Rattle.syslog_pieces.specs.declared.timestamp.rfc3339_text.Rfc3339Fields.{Rfc3339Fields}
 use Rattle.syslog_pieces.specs.Timestamp.Rfc3339.{fraction, letter, numeric_row, offset, pair, sign, stamp_row, stamp_text}
 use Rattle.syslog_pieces.proofs.PieceLemmas.Class.{◌also◌}
 use Rattle.syslog_pieces.proofs.PieceLemmas.Each.{each_append, each_map}
-use Rattle.syslog_pieces.proofs.TextLemmas.Chars.{low_ascii as ascii_by}
+use Rattle.syslog_pieces.proofs.TextLemmas.Chars.{low_ascii}
 
 -- from `+` to `z`
 abbrev pub is_stamp_character : ℕ → Bool
@@ -25,7 +23,7 @@ pub each_visible : (t : Text) → Each is_stamp_character t → Each is_not_whit
 each_visible = each_map is_stamp_character is_not_whitespace (λ c h. grind (arith, nat_tests))
 
 pub each_ascii : (t : Text) → Each is_stamp_character t → IsAscii t
-each_ascii t = ascii_by is_stamp_character t (λ c h. let r = stamp_range c h in omega (arith, r.1))
+each_ascii t = low_ascii is_stamp_character t (λ c h. let r = stamp_range c h in omega (arith, r.1))
 
 -- ---- pieces
 pub pair_characters : (n : ℕ) → n < 100 → Each is_stamp_character (pad2 n)
@@ -95,14 +93,3 @@ stamp_characters p q w (vs, h, e) =
 
 pub stamp_ascii : (p q : Text) (w : Rfc3339Fields) → stamp_text.Is p q w → IsAscii p
 stamp_ascii p q w h = each_ascii p (stamp_characters p q w h)
-
--- ---- bytes and characters
-
-pub low_ascii : (bs : List ℕ) → AllByRecursion (λ b. b < 128) bs → IsAscii bs
-low_ascii [] all k = omega arith
-low_ascii (b ∷ bs) all zero = all.0
-low_ascii (b ∷ bs) all (suc k) = low_ascii bs all.1 k
-
--- bytes below 128 are a text
-pub low_utf8 : (bs : List ℕ) → AllByRecursion (λ b. b < 128) bs → IsUtf8 bs
-low_utf8 bs all = IsUtf8-from_ascii bs (low_ascii bs all)

@@ -1,21 +1,8 @@
-//! The bytes of digits, and ASCII bytes written in one piece.
+//! The bytes of digits.
 ghost use Rattle.std.specs.Prelude.{◌≡◌, ◌<◌, ◌+◌};
-ghost use Rattle.std.specs.Fmt.{WritesOnOk};
 ghost use Rattle.std.specs.List.{AllByRecursion};
 ghost use Rattle.jiff_fmt.specs.Text.{pad2};
 ghost use Rattle.syslog_pieces.specs.Timestamp.Printed.{pad3};
-
-use std::{fmt, str};
-
-/// Writes bytes that are ASCII.
-#[tactic(auto, using(crate::proofs::TimestampLemmas::Characters::low_utf8))]
-#[inline(always)]
-pub(crate) fn write_bytes<W: fmt::Write>(f: &mut fmt::Formatter<W>, bytes: &[u8]) -> fmt::Result
-    requires { AllByRecursion (λ b. b < 128) bytes.now }
-    ensures { WritesOnOk W.write_str_gives f.old result bytes.now f.new }
-{
-    f.write_str(unsafe { str::from_utf8_unchecked(bytes) })
-}
 
 /// The byte of a digit.
 #[inline(always)]
