@@ -62,7 +62,7 @@ pub struct Fields<'a> {
 #[derive(Clone, Copy)]
 pub struct Element<'a> {
     pub id: Text<'a>,
-    /// How many parameters it has. They stand behind those of the elements before it.
+    /// How many parameters it has. They come after those of the elements before it.
     pub params: usize,
 }
 
