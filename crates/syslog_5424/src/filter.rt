@@ -23,12 +23,12 @@ use syslog_strict::to_rfc5424_into;
 /// as it came, and otherwise its message, converted. A line that is neither in the grammar nor parses, or is no UTF-8, is
 /// left out and counted as refused.
 ///
-/// Each line written is in the grammar of RFC 5424, and whoever reads a converted one reads the converted message. The output of each
-/// block of input is written before more is read, and the writer is flushed at the end. Nothing is tried again. After
-/// `RunFault::Read` the output of each complete line that was read was written. After `RunFault::Memory` so it was, where
-/// the memory was wanted before anything was read or for more of a line that takes a whole block; or an allocation for a
-/// line failed, and the output of each line before it was written. After `RunFault::Write` a beginning of the output was
-/// written. It takes memory for a block of input, its output, and the longest line.
+/// Each line written is in the grammar of RFC 5424, and a converted one is parsed as the converted message. The output
+/// of each block of input is written before more is read, and the writer is flushed at the end. Nothing is tried again.
+/// After `RunFault::Read` the output of each complete line that was read was written. After `RunFault::Memory` so it
+/// was, if the allocation that failed was for a block, before anything was read or for a line that takes a whole one.
+/// If it was for a line, the output of each line before it was written. After `RunFault::Write` a beginning of the
+/// output was written. It takes memory for a block of input, its output, and the longest line.
 pub fn write_converted<R: Read, W: Write>(
     alloc: Global,
     reader: &mut Watched<R>,

@@ -19,7 +19,7 @@ pub struct Options {
 }
 
 impl Options {
-    /// The options that a program's words stand for.
+    /// Returns the options for a program's dates.
     pub fn new(dates: Dates) -> Options
         ensures year { result.year ≡ dates.year }
         ensures month { result.month ≡ dates.month }

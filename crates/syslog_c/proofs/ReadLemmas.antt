@@ -62,7 +62,7 @@ module _ (variant : Variant) (dating : Dating) (text : Text) (old new : Fields) 
   kept (Some made) (line, only, are, v) =
       let put = v before [] (start before none_put none_filled) in (put.same_elements, put.same_params)
 
-  -- where the text has no reading, all is as it was
+  -- where the text does not parse, all is as it was
   pub nothing_read : Reads None → ReadsInto variant dating text old new before.elements.now after.elements.now
       before.params.now after.params.now NoReading
   nothing_read (none, same, v) =

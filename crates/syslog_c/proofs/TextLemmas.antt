@@ -68,7 +68,7 @@ text_after old mid new s t (a, valid, e, first) (b, also, f, next) = (
 pub text_along : (old new : Buffer) (s t : Text) → s ≡ t → TakesText old s new → TakesText old t new
 text_along old new s t e h = subst (λ (x : Text). TakesText old x new) e h
 
--- what was put, once its length is told
+-- what was put, once its length is reported
 pub told : (first now : Buffer) (bytes old : List ℕ) (needed : ℕ) (outcome : Outcome) → first.room.now ≡ old
     → HasTaken first now bytes → TellsLength now needed outcome → Puts bytes old now.room.now needed outcome
 told first now bytes old needed outcome same h (e, short, inl (done, fits)) =

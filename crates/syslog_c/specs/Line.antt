@@ -1,4 +1,4 @@
--- What a call over a line comes to.
+-- How a call over a line ends.
 use Rattle.std.specs.Prelude.{◌≡◌, ◌⊎◌, ℕ, List}
 use Rattle.std.specs.Str.{chars, IsUtf8}
 use Rattle.jiff.specs.Types.{TimeZone}
@@ -22,7 +22,7 @@ pub record IsTried (options : Options) (line : List ℕ) (Holds : Variant → Da
   pub holds : InYear (IsReckoned options) variant (chars line)
       (λ year. Holds variant (dating_in zone year) (chars line))
 
--- The options stand for nothing, or the line is no UTF-8, and all is left; or the line is read by the options, and then
+-- The options mean nothing, or the line is not UTF-8, and all is left; or the line is read by the options, and then
 -- this holds.
 abbrev pub OnLine : Options → List ℕ → Outcome → Type 0 → (Variant → Dating → Text → Type 0) → Type 0
 OnLine options line outcome IsLeft Holds =
@@ -30,6 +30,6 @@ OnLine options line outcome IsLeft Holds =
     ⊎ (((outcome ≡ NotUtf8) × IsTaken options × (IsUtf8 line → ⊥) × IsLeft)
     ⊎ IsTried options line Holds)
 
--- why there is no message to tell of: the text has no reading
+-- why there is no message: the text does not parse
 abbrev pub Refuses : Variant → Dating → Text → Outcome → Type 0
 Refuses variant dating text outcome = (outcome ≡ NoReading) × IsUnreadable variant dating text

@@ -1,4 +1,4 @@
--- What the options stand for.
+-- What the options mean.
 use Rattle.std.specs.Prelude.{◌≡◌, ℕ, ℤ, ◌≤◌, Some}
 use Rattle.jiff_core.specs.Calendar.{IsYear}
 use Rattle.jiff_core.specs.Timestamp.{IsOffsetSeconds}
@@ -21,7 +21,7 @@ pub record AreInRange (options : Options) : Type 0 where
   pub month : options.month ≤ 12
   pub offset : IsOffsetSeconds options.offset
 
--- the options stand for a way to read: some variant has the number, and the others are in range
+-- the options mean something: some variant has the number, and the others are in range
 abbrev pub IsTaken : Options → Type 0
 IsTaken options = ((variant : Variant) × (options.variant ≡ variant_number variant)) × AreInRange options
 

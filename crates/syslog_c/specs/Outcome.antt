@@ -1,4 +1,4 @@
--- What a call comes to, as the number that C gets.
+-- How a call ends, as the number that C gets.
 use Rattle.std.specs.Prelude.{◌≡◌, ℕ}
 use Rattle.syslog_c.specs.declared.outcome.Outcome.{Outcome}
 use Rattle.syslog_c.specs.declared.outcome.Outcome.TheVariants.{Done, NoReading, NotUtf8, NoMemory, NoRoom, BadArgument}

@@ -8,19 +8,19 @@ use Rattle.syslog_c.specs.declared.outcome.Outcome.{Outcome}
 use Rattle.syslog_c.specs.declared.room.Buffer.{Buffer}
 use Rattle.syslog_c.specs.declared.outcome.Outcome.TheVariants.{Done, NoReading, NoMemory, NoRoom}
 
--- what is told of the length of bytes: it is a `usize`, so 2 ^ 64 or more would be told as 2 ^ 64 - 1
+-- how the length of bytes is reported: it is a `usize`, so 2 ^ 64 or more would be reported as 2 ^ 64 - 1
 abbrev pub told_length : List ℕ → ℕ
 told_length bytes = min (length bytes) (2 ^ 64 - 1)
 
--- The length of the bytes is told. They are at the front of the room, and what follows is as it was; or the room is too
--- small for them.
+-- The length of the bytes is reported. They are at the front of the room, and what follows is as it was; or the room is
+-- too small for them.
 abbrev pub Puts : List ℕ → List ℕ → List ℕ → ℕ → Outcome → Type 0
 Puts bytes old new needed Done = (needed ≡ length bytes) × (length bytes ≤ length new)
     × (new ≡ bytes ++ drop (length bytes) old)
 Puts bytes old new needed NoRoom = (needed ≡ told_length bytes) × (length new < length bytes)
 Puts bytes old new needed outcome = ⊥
 
--- the same; or a write was refused, which no write into the room is
+-- the bytes are put; or a write was refused, which no write into the room is
 abbrev pub PutsUnlessRefused : List ℕ → List ℕ → List ℕ → ℕ → Outcome → Type 0
 PutsUnlessRefused bytes old new needed outcome = Puts bytes old new needed outcome ⊎ (outcome ≡ NoMemory)
 
@@ -38,17 +38,17 @@ Takes old bytes new = (first : Buffer) (taken : List ℕ) → HasTaken first old
 abbrev pub TakesText : Buffer → Text → Buffer → Type 0
 TakesText old text new = (bytes : List ℕ) × IsUtf8 bytes × (chars bytes ≡ text) × Takes old bytes new
 
--- the length is told, and whether there is space for the text
+-- the length is reported, and whether there is space for the text
 abbrev pub TellsLength : Buffer → ℕ → Outcome → Type 0
 TellsLength buffer needed outcome = (needed ≡ buffer.needed) × (length buffer.room.now < 2 ^ 64 - 1)
     × (((outcome ≡ Done) × (buffer.needed ≤ length buffer.room.now))
     ⊎ ((outcome ≡ NoRoom) × (length buffer.room.now < buffer.needed)))
 
--- the room is as it was, and no length is told
+-- the room is as it was, and the length is reported as 0
 abbrev pub IsLeft : List ℕ → List ℕ → ℕ → Type 0
 IsLeft old new needed = (new ≡ old) × (needed ≡ 0)
 
--- the same, after this fault
+-- this fault is reported, the room is as it was, and the length is reported as 0
 abbrev pub IsLeftFor : ParseFault → List ℕ → List ℕ → ℕ → Outcome → Type 0
 IsLeftFor Invalid old new needed outcome = (outcome ≡ NoReading) × IsLeft old new needed
 IsLeftFor Memory old new needed outcome = (outcome ≡ NoMemory) × IsLeft old new needed

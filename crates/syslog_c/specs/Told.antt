@@ -14,7 +14,7 @@ use Rattle.syslog_c.specs.declared.fields.Param.{Param}
 use Rattle.syslog_c.specs.declared.outcome.Outcome.{Outcome}
 use Rattle.syslog_c.specs.declared.outcome.Outcome.TheVariants.{Done, NoRoom}
 
--- the message is told whole; or one of the arrays is too small, and its fields are told
+-- the whole message is reported; or one of the arrays is too small, and the fields are
 abbrev pub IsTold : MessageValue → Fields → List Element → List Element → List Param → List Param → Outcome → Type 0
 IsTold m fields old_elements elements old_params params Done = AreFields fields m
     × IsBegun IsElement m.structured_data old_elements elements
@@ -23,7 +23,7 @@ IsTold m fields old_elements elements old_params params NoRoom = AreFields field
     × ((length elements < length m.structured_data) ⊎ (length params < length (all_params m.structured_data)))
 IsTold m fields old_elements elements old_params params outcome = ⊥
 
--- the one message as which the text is read is told; or there is none to tell of, and all is as it was
+-- the one message as which the text is read is reported; or there is none, and all is as it was
 abbrev pub ReadsInto : Variant → Dating → Text → Fields → Fields → List Element → List Element
     → List Param → List Param → Outcome → Type 0
 ReadsInto variant dating text old_fields fields old_elements elements old_params params outcome =
@@ -31,7 +31,7 @@ ReadsInto variant dating text old_fields fields old_elements elements old_params
     × IsTold m fields old_elements elements old_params params outcome)
     ⊎ (Refuses variant dating text outcome × (fields ≡ old_fields) × (elements ≡ old_elements) × (params ≡ old_params))
 
--- its fields alone are told; or there is none, and all is as it was
+-- its fields alone are reported; or there is none, and all is as it was
 abbrev pub TellsFields : Variant → Dating → Text → Fields → Fields → Outcome → Type 0
 TellsFields variant dating text old_fields fields outcome =
     ((m : MessageValue) × IsOnlyRead variant dating text m × (outcome ≡ Done) × AreFields fields m)
@@ -41,7 +41,7 @@ TellsFields variant dating text old_fields fields outcome =
 abbrev pub TellsCanonical : MessageValue → ℕ → Type 0
 TellsCanonical m told = ((told ≡ 1) × IsCanonical dash_rule m) ⊎ ((told ≡ 0) × (IsCanonical dash_rule m → ⊥))
 
--- of the one message as which the text is read; or there is none to tell of, and 0 is told
+-- of the one message as which the text is read; or there is none, and 0 is reported
 abbrev pub TellsOwnCanonical : Variant → Dating → Text → ℕ → Outcome → Type 0
 TellsOwnCanonical variant dating text told outcome =
     ((m : MessageValue) × IsOnlyRead variant dating text m × (outcome ≡ Done) × TellsCanonical m told)

@@ -1,11 +1,12 @@
 //! What C gets of a message: structs of numbers and of texts, each of which is a piece of the line.
 
-/// A text: where it begins in the line, and how many bytes it has. An absent one has none.
+/// A text, as the place of its first byte in the line, and its length in bytes. An absent one has none.
 #[repr(C)]
 #[derive(Clone, Copy)]
 pub struct Text<'a> {
+    /// In UTF-8.
     pub bytes: &'a [u8],
-    /// 1, or 0 for an absent one.
+    /// 1, or 0 for an absent text.
     pub present: u32,
 }
 
@@ -17,19 +18,21 @@ pub struct Stamp {
     pub seconds: i64,
     /// The nanoseconds after them, from 0 to 999,999,999.
     pub nanoseconds: i32,
-    /// In seconds.
+    /// How many seconds that clock is ahead of UTC, from -93599 to 93599.
     pub offset: i32,
     /// 1, or 0 for an absent one.
     pub present: u32,
 }
 
-/// A process id: a number, a name, or none.
+/// A process id: a number, a name, or neither.
 #[repr(C)]
 #[derive(Clone, Copy)]
 pub struct Process<'a> {
+    /// Absent if the process id is a number, or absent.
     pub name: Text<'a>,
+    /// 0 if the process id is no number.
     pub number: i32,
-    /// 1 for a number, which else is 0.
+    /// 1 for a number, otherwise 0.
     pub is_number: u32,
 }
 
@@ -39,7 +42,7 @@ pub struct Process<'a> {
 pub struct Fields<'a> {
     /// 3164 or 5424.
     pub protocol: u32,
-    /// That of RFC 5424, and else 0.
+    /// The version of RFC 5424, or 0 for RFC 3164.
     pub version: u32,
     /// From 0 to 23, or -1 for an absent one.
     pub facility: i32,
@@ -51,7 +54,7 @@ pub struct Fields<'a> {
     pub process: Process<'a>,
     pub msgid: Text<'a>,
     pub msg: Text<'a>,
-    /// How many elements there are.
+    /// How many elements of structured data there are.
     pub elements: usize,
     /// How many parameters these have together.
     pub params: usize,
@@ -66,7 +69,7 @@ pub struct Element<'a> {
     pub params: usize,
 }
 
-/// A parameter of an element: its name, and its value as it stands in the line.
+/// A parameter of an element: its name, and its value as in the line, with its escapes.
 #[repr(C)]
 #[derive(Clone, Copy)]
 pub struct Param<'a> {

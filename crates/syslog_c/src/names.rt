@@ -11,7 +11,7 @@ use crate::tell::optional_text;
 use syslog_loose::{SyslogFacility, SyslogSeverity};
 use syslog_pieces::pri::decompose_pri;
 
-/// Sets `name` to the name of the facility that has this number, as `auth`: to an absent text where none has.
+/// Sets `name` to the name of the facility that has this number, as `auth`; to an absent text if none has.
 #[unsafe(no_mangle)]
 pub extern "C" fn syslog_facility_name(facility: u32, name: &mut Text<'static>)
     ensures { IsOptionalText name.new (option_map facility_name (slice_get facilities facility)) }
@@ -22,7 +22,7 @@ pub extern "C" fn syslog_facility_name(facility: u32, name: &mut Text<'static>)
     };
 }
 
-/// Sets `name` to the name of the severity that has this number, as `crit`: to an absent text where none has.
+/// Sets `name` to the name of the severity that has this number, as `crit`; to an absent text if none has.
 #[unsafe(no_mangle)]
 pub extern "C" fn syslog_severity_name(severity: u32, name: &mut Text<'static>)
     ensures { IsOptionalText name.new (option_map severity_name (slice_get severities severity)) }
@@ -33,7 +33,7 @@ pub extern "C" fn syslog_severity_name(severity: u32, name: &mut Text<'static>)
     };
 }
 
-/// Sets `text` to what an outcome says, as `no message`: to an absent text where no outcome has this number.
+/// Sets `text` to what the outcome with this number says, as `no message`; to an absent text if there is none.
 #[unsafe(no_mangle)]
 pub extern "C" fn syslog_outcome_text(outcome: u32, text: &mut Text<'static>)
     ensures { IsOptionalText text.new (slice_get outcome_texts outcome) }

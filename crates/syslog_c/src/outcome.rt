@@ -1,17 +1,17 @@
-//! What a call comes to.
+//! How a call ends.
 
-/// What a call comes to. C gets the number.
+/// How a call ends. C gets the number, as `SYSLOG_DONE` and the like.
 #[derive(Clone, Copy, Debug, PartialEq, Eq)]
 pub enum Outcome {
-    /// All of the answer is there.
+    /// All that the call writes was written.
     Done = 0,
-    /// The line is no message, or one of its rounds is none.
+    /// The line does not parse; for `syslog_settle` also a line with a round that does not.
     NoReading = 1,
-    /// The line is no UTF-8.
+    /// The line, or the value, is not UTF-8.
     NotUtf8 = 2,
-    /// A request for memory was refused, which only `syslog_settle` makes.
+    /// An allocation failed. Only `syslog_settle` takes memory.
     NoMemory = 3,
-    /// The answer takes more room than there is.
+    /// An array or the buffer is too small. The counts, or `needed`, say how large it has to be.
     NoRoom = 4,
     /// There is no such variant, year, month or offset.
     BadArgument = 5,

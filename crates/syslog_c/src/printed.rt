@@ -1,4 +1,4 @@
-//! The printed text of a line, once or settled, in room of the caller's.
+//! The printed text of a line, once or stable, in a buffer of the caller's.
 ghost use Rattle.std.specs.Str.{encode_utf8_all};
 ghost use Rattle.jiff_core.specs.Calendar.{IsYear};
 ghost use Rattle.syslog_loose.specs.Line.{line_value};
@@ -19,8 +19,8 @@ use std::fmt::Write;
 use syslog_loose::{IncompleteDate, Line, settle};
 use syslog_utf8::from_utf8;
 
-/// Writes the printed text of the line's message to the front of `room`, and how long it is to `needed`. No memory is
-/// taken.
+/// Writes the printed text of the line's message to the front of `room`, and its length in bytes to `needed`. If it is
+/// longer than `room`, `room` may hold anything. No memory is taken.
 #[unsafe(no_mangle)]
 pub extern "C" fn syslog_normalise(
     line: &[u8],
@@ -45,7 +45,7 @@ fn write_normal(line: &[u8], options: &Options, room: &mut [u8], needed: &mut us
     }
 }
 
-// Prints the line into the room.
+// Prints the line into `room`.
 fn print_into(line: &Line<'_>, room: &mut [u8], needed: &mut usize) -> Outcome
     ensures { PutsUnlessRefused (encode_utf8_all (printed (line_value line.now))) room.old room.new needed.new result }
 {
@@ -57,7 +57,8 @@ fn print_into(line: &Line<'_>, room: &mut [u8], needed: &mut usize) -> Outcome
     }
 }
 
-/// Writes the settled text of the line to the front of `room`, and how long it is to `needed`.
+/// Writes the stable text of the line, which prints as itself, to the front of `room`, and its length in bytes to
+/// `needed`. If it is longer than `room`, `room` may hold anything. It takes memory.
 #[unsafe(no_mangle)]
 pub extern "C" fn syslog_settle(
     alloc: Global,

@@ -21,8 +21,8 @@ use syslog_utf8::from_utf8;
 
 /// Reads the line: its fields into `fields`, and its elements and their parameters into the two arrays.
 ///
-/// Where one of the arrays is too small, `fields` has the numbers that are needed, and both arrays may hold anything.
-/// Where the line has no reading, all is left. No memory is taken.
+/// If one of the arrays is too small, `fields` has the numbers that are needed, and both arrays may hold anything. If
+/// the line does not parse, nothing is written. No memory is taken.
 #[unsafe(no_mangle)]
 pub extern "C" fn syslog_read<'a>(
     line: &'a [u8],
@@ -103,8 +103,8 @@ fn read_by<'a>(
     }
 }
 
-/// Reads the fields of the line into `fields`, and no elements. Where the line has no reading, it is left. No memory is
-/// taken.
+/// Reads the fields of the line into `fields`, with the numbers of its elements and parameters. If the line does not
+/// parse, nothing is written. No memory is taken.
 #[unsafe(no_mangle)]
 pub extern "C" fn syslog_read_fields<'a>(
     line: &'a [u8],

@@ -1,4 +1,4 @@
-//! Texts in room of the caller's.
+//! Texts in a buffer of the caller's.
 ghost use Rattle.std.specs.Prelude.{◌≡◌, ◌++◌, ◌≤◌, MatchResult, drop, length, string_bytes};
 ghost use Rattle.syslog_c.specs.Room.{IsLeftFor, Puts, Takes, TellsLength};
 
@@ -6,7 +6,7 @@ use crate::outcome::Outcome;
 use std::fmt;
 use syslog_loose::ParseFault;
 
-/// Room of the caller's, into which a text is put piece by piece. What has no space there is only counted.
+/// A buffer of the caller's, into which a text is put piece by piece. What has no space there is only counted.
 #[derive(Drop)]
 pub(crate) struct Buffer<'r> {
     room: &'r mut [u8],
@@ -15,7 +15,7 @@ pub(crate) struct Buffer<'r> {
 }
 
 impl<'r> Buffer<'r> {
-    /// Nothing is put yet.
+    /// A buffer into which nothing is put yet.
     pub(crate) fn new(room: &'r mut [u8]) -> Buffer<'r>
         ensures same { result.room.ghost_name ≡ room.entry.ghost_name }
         ensures none { (result.room.now ≡ room.old) × (result.needed ≡ 0) }
@@ -23,7 +23,7 @@ impl<'r> Buffer<'r> {
         Buffer { room, needed: 0 }
     }
 
-    /// Puts a piece more.
+    /// Puts the next piece of the text.
     pub(crate) fn push(&mut self, text: &str)
         ensures { Takes self.old text.now self.new }
     {
@@ -34,7 +34,7 @@ impl<'r> Buffer<'r> {
         }
     }
 
-    /// Tells how long the text is, and whether there is space for all of it.
+    /// Sets `needed` to the length of the text, and returns whether there was space for all of it.
     pub(crate) fn tell(&self, needed: &mut usize) -> Outcome
         ensures { TellsLength self.now needed.new result }
     {
@@ -62,7 +62,7 @@ fn put_front(bytes: &[u8], room: &mut [u8])
     room[..bytes.len()].copy_from_slice(bytes);
 }
 
-/// Puts the text into the room, and tells its length; or tells the fault, and 0.
+/// Puts the text at the front of `room`, and sets `needed` to its length; to 0 after a fault, which it returns.
 pub(crate) fn put_answer(
     answer: Result<String, ParseFault>,
     room: &mut [u8],
@@ -84,7 +84,7 @@ pub(crate) fn put_answer(
     }
 }
 
-// Puts the bytes at the front of the room, where they fit, and tells their length.
+// Puts the bytes at the front of `room`, if they fit, and sets `needed` to their length.
 fn put(bytes: &[u8], room: &mut [u8], needed: &mut usize) -> Outcome
     ensures { Puts bytes.now room.old room.new needed.new result }
 {

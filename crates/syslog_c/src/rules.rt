@@ -1,4 +1,4 @@
-//! What the options stand for.
+//! What the options mean.
 ghost use Rattle.std.specs.Prelude.{◌≡◌, ◌↔◌, ◌≤◌, IsTrue, MatchOption};
 ghost use Rattle.jiff.specs.Words.{plain_zone};
 ghost use Rattle.jiff_core.specs.Calendar.{IsYear};
@@ -15,7 +15,7 @@ pub(crate) struct Rules {
     pub(crate) zone: TimeZone<'static>,
 }
 
-/// The rules for which the options stand.
+/// Returns what the options mean, if each is in its range.
 pub(crate) fn rules_of(options: &Options) -> Option<Rules>
     ensures { MatchOption result (IsTaken options.now → ⊥)
         (λ rules. (options.now.variant ≡ variant_number rules.variant)
@@ -36,7 +36,7 @@ fn is_date_in_range(options: &Options) -> bool
     options.year >= -9999 && options.year <= 9999 && options.month <= 12
 }
 
-// The variant that the number stands for.
+// The variant that has this number.
 fn variant_of(number: u32) -> Option<Variant>
     ensures { MatchOption result ((variant : Variant) → number ≡ variant_number variant → ⊥)
         (λ variant. number ≡ variant_number variant) }

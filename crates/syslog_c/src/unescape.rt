@@ -1,4 +1,4 @@
-//! The value of a parameter without its escapes, in room of the caller's.
+//! The value of a parameter without its escapes, in a buffer of the caller's.
 ghost use Rattle.std.specs.Prelude.{[], ◌∷◌};
 ghost use Rattle.std.specs.Str.{chars};
 ghost use Rattle.syslog_pieces.specs.Pieces.Class.{Text};
@@ -12,7 +12,8 @@ use crate::room::Buffer;
 use syslog_pieces::text::{CharClass, first, split_run};
 use syslog_utf8::from_utf8;
 
-/// Writes the value with its escapes removed to the front of `room`, and how long it is to `needed`. No memory is taken.
+/// Writes the value with its escapes removed to the front of `room`, and its length in bytes to `needed`. If it is
+/// longer than `room`, `room` may hold anything. No memory is taken.
 #[unsafe(no_mangle)]
 pub extern "C" fn syslog_unescape(value: &[u8], room: &mut [u8], needed: &mut usize) -> u32
     ensures { IsCodeOf result (λ outcome. Unescaped value.now room.old room.new needed.new outcome) }
@@ -50,7 +51,7 @@ fn push_unescaped(buffer: &mut Buffer<'_>, value: &str)
     }
 }
 
-// What a backslash and this character stand for.
+// Puts what a backslash and this character mean.
 fn push_pair(buffer: &mut Buffer<'_>, c: char)
     ensures { TakesText buffer.old (pair_meaning c) buffer.new }
 {

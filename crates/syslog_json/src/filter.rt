@@ -19,13 +19,12 @@ use syslog_loose::{
 use syslog_object::{push_invalid, push_object, push_refused};
 
 /// Reads lines to the end of the input, and writes each as one JSON object on one line: that of its message, read by
-/// the options, or one that has the line and `"refused": true`. No line is lost, and no byte below 32 stands in an
-/// object.
+/// the options, or one that has the line and `"refused":true`. No line is lost, and no object has a byte below 32.
 ///
 /// The output of each block of input is written before more is read, and the writer is flushed at the end. Nothing is
 /// tried again. After `RunFault::Read` the output of each complete line that was read was written. After
-/// `RunFault::Memory` so it was, where the memory was wanted before anything was read or for more of a line that takes
-/// a whole block; or it was refused for a line, and the output of each line before it was written. After
+/// `RunFault::Memory` so it was, if the allocation that failed was for a block, before anything was read or for a line
+/// that takes a whole one. If it was for a line, the output of each line before it was written. After
 /// `RunFault::Write` a beginning of the output was written. It takes memory for a block of input, its output, and the
 /// longest line and its object.
 pub fn write_objects<R: Read, W: Write>(
@@ -106,7 +105,7 @@ impl LineFilter for Objects {
         text: &mut String,
         output: &mut Vec<u8>,
     ) -> Result<bool, AllocError> {
-        // The object is put together in the memory of `text`: after an `Err` a part of it stands there, and not in `output`.
+        // The object is made in the memory of `text`: after an `Err` a part of it is there, and not in `output`.
         let mut object = mem::replace(text, String::new(alloc)).into_bytes();
         object.clear();
         let raw = if self.options.raw { Some(line) } else { None };

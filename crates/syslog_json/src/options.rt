@@ -21,7 +21,7 @@ pub struct Options {
 }
 
 impl Options {
-    /// The options that a program's words stand for.
+    /// Returns the options for a program's flag and dates.
     pub fn new(raw: bool, dates: Dates) -> Options
         ensures raw { result.raw ≡ raw }
         ensures year { result.year ≡ dates.year }

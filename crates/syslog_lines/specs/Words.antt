@@ -32,7 +32,7 @@ abbrev pub raw_flag : Bool → List (List ℕ)
 raw_flag false = []
 raw_flag true = raw_word ∷ []
 
--- `--offset` and an offset, or nothing, which stands for UTC
+-- `--offset` and an offset, or nothing, which means UTC
 abbrev pub IsOffsetFlag : List (List ℕ) → ℤ → Type 0
 IsOffsetFlag words seconds = ((words ≡ []) × (seconds ≡ pos 0))
     ⊎ ((word : List ℕ) × (words ≡ offset_word ∷ word ∷ []) × NamesOffset word seconds)

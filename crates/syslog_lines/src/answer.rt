@@ -9,9 +9,9 @@ use crate::summary::Tally;
 use std::alloc::{AllocError, Global};
 use syslog_utf8::from_utf8;
 
-/// Adds the output of all lines to `output`, and counts them. Where memory is refused, that of the lines before is
-/// added, and the line that it was refused for is one for which it may be wanted. `text` is the filter's, for its texts
-/// in between.
+/// Adds the output of all lines to `output`, and counts them. If an allocation for a line fails, that of the lines
+/// before is added, and the line is one for which the filter may take memory. `text` is the filter's, for its texts in
+/// between.
 pub fn answer_lines<F: LineFilter>(
     alloc: Global,
     filter: &F,

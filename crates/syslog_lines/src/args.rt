@@ -3,7 +3,7 @@ ghost use Rattle.std.specs.Prelude.{◌≡◌, ◌↔◌, ◌∷◌, [], IsTrue,
 ghost use Rattle.std.specs.Str.Parse.{digits_value};
 ghost use Rattle.syslog_lines.specs.Arguments.{AreYearWords, IsYear};
 
-/// The year that a text of 1 to 4 ASCII digits names; none where the text is no such text.
+/// Returns the year, from 0 to 9999, that a text of one to four ASCII digits names; none for any other text.
 pub fn read_year(text: &str) -> Option<i32>
     ensures { MatchOption result (¬ (IsYear text.now))
         (λ year. IsYear text.now × (year ≡ pos (digits_value 10 text.now))) }
@@ -20,7 +20,7 @@ fn is_year(text: &str) -> bool
     (1..=4).contains(&text.len()) && text.bytes().all(|byte| byte.is_ascii_digit())
 }
 
-/// The year that these words name: the one word, or the word after `--`. None for all other words.
+/// Returns the year that these words name: the one word, or the word after `--`. None for all other words.
 pub fn read_year_words(args: &[&str]) -> Option<i32>
     ensures { MatchOption result ((year : ℤ) → ¬ (AreYearWords (map (λ arg. arg.now) args.now) year))
         (λ year. AreYearWords (map (λ arg. arg.now) args.now) year) }
@@ -32,7 +32,7 @@ pub fn read_year_words(args: &[&str]) -> Option<i32>
     }
 }
 
-/// Whether the words are this one alone.
+/// Returns whether the words are this one alone.
 pub fn is_alone(args: &[&str], wanted: &str) -> bool
     ensures { IsTrue result ↔ (map (λ arg. arg.now) args.now ≡ wanted.now ∷ []) }
 {

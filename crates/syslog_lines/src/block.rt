@@ -11,7 +11,7 @@ use std::alloc::{AllocError, Global};
 use std::io;
 use std::io::Read;
 
-/// How many bytes a block has room for, where no line is longer.
+/// How many bytes a block holds, if no line is longer.
 const SIZE: usize = 65536;
 
 /// Complete lines, and the beginning of the line that the block cuts.
@@ -61,8 +61,8 @@ impl Block {
 
     /// Goes on to the next block: reads once, after the line that was cut. False at the end of the input.
     ///
-    /// `RunFault::Read` where the read fails, and `RunFault::Memory` where the line that was cut takes the whole block,
-    /// and memory for twice its size is refused. Neither takes anything from the reader.
+    /// `RunFault::Read` if the read fails, and `RunFault::Memory` if the line that was cut takes the whole block, and
+    /// an allocation of twice its size fails. Neither takes anything from the reader.
     pub fn fill<R: Read>(&mut self, reader: &mut Watched<R>) -> Result<bool, RunFault>
         requires { reader.old.failed ≡ false }
         ensures ok { IfOk result (λ more. Fills (R.remaining reader.old.inner)
@@ -142,7 +142,7 @@ fn past_last_feed(bytes: &[u8], from: usize) -> usize
     }
 }
 
-// Reads once into the vector, from a place on. It stands apart so that `fill` need not say how a slice is written back.
+// Reads once into the vector, from a place on. It is apart so that `fill` need not say how a slice is written back.
 fn read_into<R: Read>(reader: &mut Watched<R>, bytes: &mut Vec<u8>, at: usize) -> io::Result<usize>
     requires { at < vec_len bytes.old }
     ensures len { vec_len bytes.new ≡ vec_len bytes.old }

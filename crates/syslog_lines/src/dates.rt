@@ -9,8 +9,8 @@ use crate::args::read_year;
 pub struct Dates {
     /// The year of dates that show none, from 0 to 9999.
     pub year: i32,
-    /// The month that it is now, from 1 to 12: in January a date of December is of the year before. Where it is
-    /// absent, each date is of `year`.
+    /// The month that it is now, from 1 to 12: in January a date of December is of the year before. If it is absent,
+    /// each date is of `year`.
     pub month: Option<u32>,
     /// How many seconds the zone of dates that show none is ahead of UTC: under 24 hours either way.
     pub offset: i32,
@@ -18,8 +18,8 @@ pub struct Dates {
     pub ghost offset_in_range: { (negsuc 86_339 ≤ℤ offset) × (offset ≤ℤ pos 86_340) },
 }
 
-/// The year, and the month if there is one, that a text of the form `YEAR` or `YEAR-MONTH` names; none where the text
-/// is no such text.
+/// Returns the year, from 0 to 9999, and the month, from 1 to 12 if there is one, that a text of the form `YEAR` or
+/// `YEAR-MONTH` names; none for any other text.
 pub fn read_date(text: &str) -> Option<(i32, Option<u32>)>
     ensures { MatchOption result ((year : ℤ) (month : Option ℕ) → ¬ (NamesDate text.now year month))
         (λ date. NamesDate text.now date.0 date.1) }
@@ -46,7 +46,7 @@ fn read_month(text: &str) -> Option<u32>
     }
 }
 
-/// The seconds that a text of the form `+HH:MM` or `-HH:MM` names, up to 23:59; none where the text is no such text.
+/// Returns the seconds that a text of the form `+HH:MM` or `-HH:MM` names, up to 23:59; none for any other text.
 pub fn read_offset(text: &str) -> Option<i32>
     ensures { MatchOption result ((seconds : ℤ) → ¬ (NamesOffset text.now seconds))
         (λ seconds. NamesOffset text.now seconds) }

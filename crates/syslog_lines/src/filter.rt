@@ -12,8 +12,8 @@ pub trait LineFilter {
     /// Adds what a line that is UTF-8 gives, with a line feed, to `output`, or nothing. Returns whether the line counts
     /// as answered.
     ///
-    /// Where memory is refused nothing is added, and the line is one for which it may be wanted. `text` is for a text
-    /// in between: what it holds doesn't count, and its memory is used again for the next line.
+    /// If an allocation fails, nothing is added, and the line is one for which memory may be taken. `text` is for a
+    /// text in between: what it holds doesn't count, and its memory is used again for the next line.
     fn answer(
         &self,
         alloc: Global,
@@ -26,7 +26,8 @@ pub trait LineFilter {
         ensures err { OnErr result (output.new.items ≡ output.old.items) }
         ensures refusal { OnErr result ((answers self.now).Wants line.now) };
 
-    /// Adds what a line that is not UTF-8 gives, as `answer` does.
+    /// Adds what a line that is not UTF-8 gives, with a line feed, to `output`, or nothing. Returns whether the line
+    /// counts as answered. If an allocation fails, nothing is added.
     fn answer_other(
         &self,
         alloc: Global,
@@ -40,7 +41,7 @@ pub trait LineFilter {
         ensures refusal { OnErr result ((answers self.now).Wants line.now) };
 }
 
-/// Adds the bytes and a line feed, or nothing where memory is refused.
+/// Adds the bytes and a line feed to `output`, or nothing if an allocation fails.
 #[inline]
 pub fn push_line(output: &mut Vec<u8>, line: &[u8]) -> Result<(), AllocError>
     ensures ok { OnOk result (output.new.items ≡ output.old.items ++ (line.now ++ 10 ∷ [])) }

@@ -3,7 +3,7 @@ ghost use Rattle.syslog_lines.specs.Lines.{IsFirstLine};
 
 use crate::search::next_feed;
 
-/// The first line of bytes, and what follows its line feed.
+/// Returns the first line of bytes without its line feed, and what follows that; all, and nothing, if there is none.
 #[inline(always)]
 pub fn first_line(bytes: &[u8]) -> (&[u8], &[u8])
     ensures { IsFirstLine bytes.now result.0.now result.1.now }
@@ -14,7 +14,7 @@ pub fn first_line(bytes: &[u8]) -> (&[u8], &[u8])
     }
 }
 
-/// The first line of a text, and what follows its line feed.
+/// Returns the first line of a text without its line feed, and what follows that; all, and nothing, if there is none.
 #[inline(always)]
 pub fn first_text_line(text: &str) -> (&str, &str)
     ensures { IsFirstLine text.now result.0.now result.1.now }

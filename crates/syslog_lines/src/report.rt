@@ -11,8 +11,8 @@ use std::io::Write;
 /// More bytes than a line of counts or of a version has, which is put together without memory.
 const LINE: usize = 128;
 
-/// Writes how many lines were refused, or the fault's text, and returns the exit status: 0 where no line was refused,
-/// 1 where some were, 2 after a fault. Where none was refused nothing is written. A failed write is passed over.
+/// Writes how many lines were refused, or the fault's text, and returns the exit status: 0 if no line was refused, 1 if
+/// some were, 2 after a fault. If none was refused, nothing is written. A failed write is passed over.
 pub fn report<W: Write>(outcome: &Result<Summary, RunFault>, errors: &mut W) -> u8
     ensures status { result ≡ status_of (λ summary. summary.refused) outcome.now }
     ensures said { WritesFront (W.contents errors.old) (W.contents errors.new)
@@ -24,7 +24,8 @@ pub fn report<W: Write>(outcome: &Result<Summary, RunFault>, errors: &mut W) -> 
     }
 }
 
-/// Writes a text that was asked for, and returns the exit status: 0, or 2 where that failed, with the fault's text.
+/// Writes a text that was asked for to `out`, and returns the exit status 0. If that failed, writes the fault's text to
+/// `errors`, and returns 2.
 pub fn say<W: Write, E: Write>(text: &str, out: &mut W, errors: &mut E) -> u8
     ensures status { (result ≡ 0) ⊎ (result ≡ 2) }
     ensures said { WritesFront (W.contents out.old) (W.contents out.new) text.now }
@@ -49,7 +50,7 @@ pub fn say_version<W: Write, E: Write>(
     say(line.as_str(), out, errors)
 }
 
-/// Writes the usage line where the arguments are wrong, and returns the exit status 2. A failed write is passed over.
+/// Writes the usage line after wrong arguments, and returns the exit status 2. A failed write is passed over.
 pub fn refuse<W: Write>(usage: &str, errors: &mut W) -> u8
     ensures status { result ≡ 2 }
     ensures said { WritesFront (W.contents errors.old) (W.contents errors.new) usage.now }
@@ -58,7 +59,8 @@ pub fn refuse<W: Write>(usage: &str, errors: &mut W) -> u8
     2
 }
 
-/// Writes what became of so many of the lines, where there are such, and returns the exit status.
+/// Writes `what` became of `count` of the lines, as `refused 2 of 9 lines`, and returns the exit status 1. If `count`
+/// is 0, writes nothing and returns 0. A failed write is passed over.
 pub fn report_count<W: Write>(what: &str, count: u64, lines: u64, errors: &mut W) -> u8
     ensures status { result ≡ (if count == 0 then 0 else 1) }
     ensures said { WritesFront (W.contents errors.old) (W.contents errors.new)
@@ -74,7 +76,7 @@ pub fn report_count<W: Write>(what: &str, count: u64, lines: u64, errors: &mut W
     1
 }
 
-/// Writes why a filter ended early, and returns the exit status.
+/// Writes why a filter ended early, as `read failed`, and returns the exit status 2. A failed write is passed over.
 pub fn report_fault<W: Write>(fault: RunFault, errors: &mut W) -> u8
     ensures status { result ≡ 2 }
     ensures said { WritesFront (W.contents errors.old) (W.contents errors.new) (fault_line fault) }
@@ -88,7 +90,7 @@ pub fn report_fault<W: Write>(fault: RunFault, errors: &mut W) -> u8
     2
 }
 
-// Writes a text, or a front of it where a write fails or takes nothing.
+// Writes a text, or a front of it if a write fails or takes nothing.
 fn write_text<W: Write>(text: &str, out: &mut W) -> Result<(), RunFault>
     ensures front { WritesFront (W.contents out.old) (W.contents out.new) text.now }
     ensures ok { OnOk result (Appends (W.contents out.old) (W.contents out.new) text.now) }

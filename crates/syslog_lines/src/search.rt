@@ -11,7 +11,7 @@ const LANES: usize = 64;
 // Most lines end before so many bytes, and there this takes fewer instructions than `memchr`.
 const NEAR: usize = 256;
 
-/// The place of the first line feed, as `memchr` returns it.
+/// Returns the place of the first line feed, if there is one.
 #[inline(always)]
 pub fn next_feed(bytes: &[u8]) -> Option<usize>
     ensures { IsFirstByte (is_byte 10) bytes.now result }

@@ -2,21 +2,21 @@
 use std::alloc::AllocError;
 use thiserror::Error;
 
-/// How many lines a run read, and how many of them gave no text. A count at its last value stays there.
+/// How many lines a run read, and how many of them it refused. A count that is at its last value stays so.
 #[derive(Clone, Copy, Debug, PartialEq, Eq)]
 pub struct Summary {
     /// The number of lines.
     pub lines: u64,
-    /// The number of lines that are not UTF-8 or do not parse.
+    /// The number of lines that are no message: not UTF-8, or without a parse.
     pub refused: u64,
 }
 
-/// How many lines a filter answered, and how many it passed over. A count at its last value stays there.
+/// How many lines a filter answered, and how many it passed over. A count that is at its last value stays so.
 #[derive(Clone, Copy)]
 pub struct Tally {
-    /// The number of lines that gave something.
+    /// The number of lines for which the filter returned `true`.
     pub answered: u64,
-    /// The number of lines that have none.
+    /// The number of lines for which the filter returned `false`.
     pub passed_over: u64,
 }
 
@@ -35,7 +35,7 @@ impl Tally {
         self.passed_over = self.passed_over.saturating_add(u64::from(!is_answered));
     }
 
-    /// How many lines it counted.
+    /// Returns how many lines were counted.
     pub fn lines(&self) -> u64
         ensures { result ≡ held_count (self.now.answered + self.now.passed_over) }
     {
@@ -46,13 +46,13 @@ impl Tally {
 /// Why a filter ended before the end of its input. The number is the discriminant.
 #[derive(Clone, Copy, Debug, PartialEq, Eq, Error)]
 pub enum RunFault {
-    /// The reader answered an error.
+    /// A read failed.
     #[error("read failed")]
     Read = 1,
-    /// The writer answered an error, or took nothing.
+    /// A write failed, or took nothing.
     #[error("write failed")]
     Write = 2,
-    /// A request for memory was refused.
+    /// An allocation failed.
     #[error("out of memory")]
     Memory = 3,
 }

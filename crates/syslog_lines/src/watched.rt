@@ -13,12 +13,12 @@ pub struct Watched<T> {
     pub inner: T,
     /// How many reads were passed on. At its last value nothing is read any more, so that reading ends.
     pub calls: u64,
-    /// Whether a call answered an error.
+    /// Whether a call returned an error.
     pub failed: bool,
 }
 
 impl<T> Watched<T> {
-    /// With no call and no failure so far.
+    /// Returns one that has no call and no failure so far.
     pub fn new(inner: T) -> Watched<T>
         ensures inner { result.inner ≡ inner }
         ensures calls { result.calls ≡ 0 }
@@ -62,7 +62,7 @@ impl<R: Read> Read for Watched<R> {
 impl<W: Write> Write for Watched<W> {
     ghost contents = { λ watched. W.contents watched.inner };
 
-    /// Passes the write on. That none of some bytes is taken is an error.
+    /// Passes the write on. It is an error if none of one or more bytes is taken.
     fn write(&mut self, buf: &[u8]) -> io::Result<usize>
         ensures bound { WritesAtMost result buf.now }
         ensures bytes { WriteAppends (W.contents self.old.inner) (W.contents self.new.inner) result buf.now }

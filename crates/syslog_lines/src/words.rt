@@ -29,14 +29,14 @@ pub enum Task {
     },
 }
 
-/// Why words ask for nothing.
+/// Why a program's words ask for nothing.
 #[derive(Clone, Copy)]
 pub enum Wrong<'a> {
     /// This word can't be at its place.
     Word(&'a str),
     /// The year is missing at their end.
     Missing,
-    /// One is not UTF-8, or an allocation failed.
+    /// One of the words is not UTF-8, or an allocation failed.
     Unreadable,
 }
 
@@ -163,8 +163,8 @@ fn read_last_word(words: &[String]) -> Result<(i32, Option<u32>), Wrong<'_>>
     }
 }
 
-/// Returns the words that the program was called with, after its name. Which words these are no clause says, since the
-/// host has none for them.
+/// Returns the words that the program was called with, after its name; `Wrong::Unreadable` if one is not UTF-8, or an
+/// allocation fails. No clause says which words these are, since the host has none for them.
 pub fn program_words(rt: &HostRuntime) -> Result<Vec<String>, Wrong<'static>> {
     let Ok(words) = env::args(rt) else {
         return Err(Wrong::Unreadable);
@@ -203,7 +203,7 @@ pub fn refuse_words<W: Write>(rt: &HostRuntime, usage: &str, wrong: Wrong<'_>, e
     }
 }
 
-// Whether the word names something that is there, and no folder.
+// Whether the word names something that exists and is no folder.
 fn is_file(rt: &HostRuntime, word: &str) -> bool {
     match fs::metadata(rt, word) {
         Ok(about) => !about.is_dir(),

@@ -88,13 +88,13 @@ abbrev pub IsToldRound : Variant → Dating → Text → Text → Bool → Type 
 IsToldRound variant dating text later settled = MatchBool settled
     (IsNext variant dating text later × IsSettled variant dating later) (IsUnsettled variant dating text later)
 
--- a round as it is told, or a fault that tells whether the text is unreadable
+-- a round as the flag says, or a fault that says whether the text is unreadable
 abbrev pub AnswersRound : Variant → Dating → Text → List ℕ → Result Bool ParseFault → Type 0
 AnswersRound variant dating text bytes result = MatchResult result
     (λ settled. IsToldRound variant dating text (chars bytes) settled)
     (λ fault. (fault ≡ Invalid) ↔ IsUnreadable variant dating text)
 
--- What is written of a line: a round as it is told, of each text that is read as the line.
+-- What is written of a line: a round as the flag says, of each text that is read as the line.
 abbrev pub WritesRound : Line → Result Bool AllocError → List ℕ → Type 0
 WritesRound line made bytes = MatchResult made
     (λ settled. (variant : Variant) (dating : Dating) (whole : Text) → IsRead variant dating whole (line_value line)

@@ -110,7 +110,7 @@ fn cut_runs<'a>(name: &'a str, run: &str) -> (&'a str, usize)
     (host, cut)
 }
 
-// What stands before the run at the end of the text, where that ends in a colon too.
+// The text before the run at its end, if that ends in a colon too.
 #[inline(always)]
 fn before_run<'a>(text: &'a str, run: &str) -> Option<&'a str>
     ensures { MatchOption result (run.now ≡ 58 ∷ [] → EndsOnce (chars text.now))

@@ -143,7 +143,7 @@ impl<'a> Line<'a> {
         })
     }
 
-    // The message with these elements, in place of the line's own.
+    // The message of the line, with these elements instead of its own.
     #[inline(always)]
     pub(crate) fn with(&self, elements: Vec<StructuredElement<&'a str>>) -> Message<&'a str>
         ensures { message_value (λ s. shown s) result

@@ -25,6 +25,6 @@ abbrev pub members_of : List (List ℕ × Data) → Members
 members_of [] = no_members
 members_of (p ∷ ps) = member p.0 p.1 (members_of ps)
 
--- each key at its first place, with the value that stands at it, or an array of all of them
+-- each key at its first place, with its value, or an array of all its values
 abbrev pub gathered : List (List ℕ × Data) → Data
 gathered pairs = object (members_of (map (λ k. (k, one_or_all (values_at k pairs))) (first_keys pairs)))

@@ -94,7 +94,7 @@ fn push_few_params(
     push_members(alloc, out, &params[..count])
 }
 
-// The same of one that has many: these take memory.
+// Appends the object of an element that has many parameters, for which it takes memory.
 #[inline(never)]
 fn push_many_params(
     alloc: Global,
@@ -129,7 +129,7 @@ pub(crate) fn push_elements(
     push_many_elements(alloc, out, list)
 }
 
-// The same of more than one element.
+// Appends the object of more than one element, for which it takes memory.
 fn push_many_elements(
     alloc: Global,
     out: &mut Vec<u8>,

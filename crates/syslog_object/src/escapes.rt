@@ -102,7 +102,7 @@ fn push_unescaped(out: &mut Vec<u8>, raw: &[u8]) -> Result<(), AllocError>
     }
 }
 
-// Appends what a backslash and this byte stand for.
+// Appends what a backslash and this byte mean.
 fn push_pair(out: &mut Vec<u8>, second: u8) -> Result<(), AllocError>
     ensures { OnOk result (out.new.items ≡ out.old.items ++ escape (pair_meaning second)) }
 {

@@ -118,7 +118,7 @@ fn push_member(out: &mut Vec<u8>, key: &[u8], text: &str) -> Result<(), AllocErr
     Ok(())
 }
 
-/// The same of a field that may be absent.
+/// Appends the text of a field as `push_member` does, or nothing if it is absent.
 #[inline(always)]
 pub(crate) fn push_field(
     out: &mut Vec<u8>,

@@ -60,8 +60,8 @@ fn push_fields(
 /// member: the line as it came.
 ///
 /// What the message lacks has no key. An id or a name that comes again has an array of all its values, at its first
-/// place. Memory is asked for more of `out`, and where a line has more than one element, an element more than eight
-/// parameters, or a name comes again. After an `Err` a part of the object may stand in `out`.
+/// place. Memory is taken for more of `out`, and if a line has more than one element, an element more than eight
+/// parameters, or a name comes again. After an `Err` `out` may end in a part of the object.
 pub fn push_object(
     alloc: Global,
     out: &mut Vec<u8>,
@@ -74,7 +74,8 @@ pub fn push_object(
     push_fields(alloc, out, line, raw)
 }
 
-/// Appends the object of a line that is no message.
+/// Appends the object of a line that is no message, as `{"message":"..","refused":true}`. Memory is taken for more of
+/// `out`; after an `Err` it may end in a part of the object.
 pub fn push_refused(out: &mut Vec<u8>, line: &str) -> Result<(), AllocError>
     ensures { OnOk result ((bytes : List ℕ) × IsTextOf (refused_json line.now) bytes
         × (out.new.items ≡ out.old.items ++ bytes)) }
@@ -85,7 +86,8 @@ pub fn push_refused(out: &mut Vec<u8>, line: &str) -> Result<(), AllocError>
     Ok(())
 }
 
-/// Appends the object of a line that is no UTF-8, given with U+FFFD for what is none.
+/// Appends the object of a line that is not UTF-8: `line` has U+FFFD for each part that is not. It is that of a line
+/// that is no message, with `"invalid_utf8":true`, and takes memory in the same way.
 pub fn push_invalid(out: &mut Vec<u8>, line: &str) -> Result<(), AllocError>
     ensures { OnOk result ((bytes : List ℕ) × IsTextOf (invalid_json line.now) bytes
         × (out.new.items ≡ out.old.items ++ bytes)) }

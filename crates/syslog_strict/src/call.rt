@@ -1,4 +1,4 @@
-//! The call.
+//! The calls that write a text as strict RFC 5424.
 ghost use Rattle.std.specs.Prelude.{◌≡◌, ◌⊎◌, ◌↔◌, IsTrue, MatchResult};
 ghost use Rattle.std.specs.Str.{chars};
 ghost use Rattle.syslog_loose.specs.Reading.{AnswersEachMonth, InYear, IsUnreadable};
@@ -14,8 +14,8 @@ use crate::valid::is_syslog_msg;
 use std::alloc::Global;
 use syslog_loose::{IncompleteDate, ParseFault, TimeZone, Variant, parse_line};
 
-/// Writes the text as RFC 5424, by the letter of its grammar, into `text`, in place of what was there: the text itself
-/// where it is in the grammar, and otherwise its message, converted.
+/// Replaces `text` by the input as strict RFC 5424: the input itself if it is in the grammar of section 6, and
+/// otherwise its message, converted.
 ///
 /// `get_year` gives the year of a date that has none: it is called at most once, and only where the text shows such a
 /// date and the variant reads it. `tz` is the zone of a date without an offset, and `local` is taken where that is

@@ -18,7 +18,7 @@ use syslog_loose::Line;
 // What a converted line may have beyond the rest of the line.
 const MORE: usize = 96;
 
-/// Writes the line's message, converted, into `text`, in place of what was there.
+/// Replaces `text` by the converted message of the line.
 pub(crate) fn write_line(
     alloc: Global,
     text: &mut String,

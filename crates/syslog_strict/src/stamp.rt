@@ -21,7 +21,7 @@ use syslog_loose::{
 use syslog_pieces::front::Ascii;
 use syslog_pieces::timestamp::canonical::{is_canonical_clock, is_canonical_stamp};
 
-// The number of the priority: `user` and `notice` stand for what is absent.
+// The number of the priority: `user` and `notice` where a part is absent (RFC 3164 section 4.3.3).
 #[inline(always)]
 fn strict_priority(facility: Option<SyslogFacility>, severity: Option<SyslogSeverity>) -> u32
     ensures number { result ≡ facility_number (unwrap_or facility LOG_USER) * 8 + severity_number (unwrap_or severity SEV_NOTICE) }

@@ -37,7 +37,7 @@ impl Kept {
         if self.has(c) { c } else { '?' }
     }
 
-    // The same of ASCII bytes.
+    // Whether the ASCII byte is kept.
     #[inline(always)]
     fn has_byte(self, b: u8) -> bool
         ensures { result ≡ keeps self b }
@@ -100,7 +100,7 @@ pub(crate) fn push_cleaned(
     push_each(out, text, kept, most)
 }
 
-// The same, character by character.
+// Appends the text as `push_cleaned` does, character by character.
 #[cold]
 #[inline(never)]
 fn push_each(out: &mut String, text: &str, kept: Kept, most: usize) -> Result<(), AllocError>

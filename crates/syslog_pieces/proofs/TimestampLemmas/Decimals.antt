@@ -144,7 +144,7 @@ no_dot_front bs n = record { piece = []; whole = refl; is = inl (refl, ends bs n
     ends [] n = tt
     ends (b ∷ bs) n = let other = n (omega arith) in grind (arith, nat_tests)
 
--- a reader of decimals behind a dot
+-- a reader of decimals after a dot
 pub fraction_reads : (bs rest : List ℕ) (r : Option (ℕ × Bor (List ℕ))) → bs ≡ 46 ∷ rest
     → ReadsBytes decimals (λ n. n) rest r → ReadsBytes fraction (λ n. n) bs r
 fraction_reads bs rest r e h =

@@ -41,7 +41,7 @@ pub(super) struct Clock {
     pub(super) second: u32,
 }
 
-/// The month date at the front, with a year or without one, and the text behind it.
+/// The month date at the front, with a year or without one, and the rest of the text.
 #[inline(always)]
 pub fn month_date(text: &str) -> Option<(MonthDate, &str)>
     ensures { Reads spec.month_date (λ d. d) (chars text.now) result }

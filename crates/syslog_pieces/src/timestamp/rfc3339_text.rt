@@ -120,7 +120,7 @@ fn offset(text: &[u8]) -> Option<(i32, &[u8])>
     Some((seconds(is_behind, hours, minutes), rest))
 }
 
-// Hours and minutes in seconds, behind UTC or ahead of it.
+// Hours and minutes in seconds, negative if the clock is slow of UTC.
 #[inline(always)]
 fn seconds(is_behind: bool, hours: u32, minutes: u32) -> i32
     requires hours { hours < 24 }
