@@ -36,7 +36,7 @@ pub struct Process<'a> {
     pub is_number: u32,
 }
 
-/// A message.
+/// What a line says. A text points into the line.
 #[repr(C)]
 #[derive(Clone, Copy)]
 pub struct Fields<'a> {
@@ -48,11 +48,17 @@ pub struct Fields<'a> {
     pub facility: i32,
     /// From 0 to 7, or -1 for an absent one.
     pub severity: i32,
+    /// The date of the line.
     pub timestamp: Stamp,
+    /// The name of the sender's machine.
     pub host: Text<'a>,
+    /// The app name; the tag of RFC 3164 without its process id.
     pub app: Text<'a>,
+    /// The process id.
     pub process: Process<'a>,
+    /// The message id; absent for RFC 3164.
     pub msgid: Text<'a>,
+    /// The message, which is never absent but may be empty.
     pub msg: Text<'a>,
     /// How many elements of structured data there are.
     pub elements: usize,
@@ -60,7 +66,7 @@ pub struct Fields<'a> {
     pub params: usize,
 }
 
-/// An element of structured data.
+/// An element of structured data: its id, and how many of the parameters are its own.
 #[repr(C)]
 #[derive(Clone, Copy)]
 pub struct Element<'a> {

@@ -8,8 +8,8 @@ pub struct Options {
     pub variant: u32,
     /// The year of dates that have none, from -9999 to 9999.
     pub year: i32,
-    /// 0, where each such date is of that year; or the month that it is now, from 1 to 12: in January a date of
-    /// December is of the year before.
+    /// 0, if each such date is of that year; or the month that it is now, from 1 to 12: in January a date of December
+    /// is of the year before.
     pub month: u32,
     /// How many seconds the zone of dates without an offset is ahead of UTC, from -93599 to 93599.
     pub offset: i32,

@@ -11,9 +11,9 @@ use syslog_loose::{TimeZone, zone_ahead};
 pub struct Options {
     /// Whether the object of a message has the line as it came, too.
     pub raw: bool,
-    /// The year of dates that show none.
+    /// The year of dates that show none, from -9999 to 9999.
     pub year: i32,
-    /// The month that it is now, if it is known: in January a date of December is of the year before.
+    /// The month that it is now, from 1 to 12, if it is known: in January a date of December is of the year before.
     pub month: Option<u32>,
     /// The zone of dates that show none.
     pub zone: TimeZone<'static>,

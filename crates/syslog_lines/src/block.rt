@@ -31,7 +31,7 @@ impl Block {
     ghost use Rattle.syslog_lines.specs.Block.{Fills, StopsReading, complete_bytes, cut_bytes};
     ghost use Rattle.syslog_lines.specs.Lines.{EndsInFeed, NoFeed};
 
-    /// An empty block.
+    /// Returns an empty block, for which it takes 64 KiB.
     pub fn new(alloc: Global) -> Result<Block, AllocError>
         ensures { IfOk result (λ block. cut_bytes block ≡ []) }
     {
@@ -43,7 +43,7 @@ impl Block {
         })
     }
 
-    /// The complete lines, each with its line feed.
+    /// Returns the complete lines, each with its line feed.
     pub fn complete(&self) -> &[u8]
         ensures value { result.now ≡ complete_bytes self.now }
         ensures closed { EndsInFeed result.now }
@@ -51,7 +51,7 @@ impl Block {
         &self.bytes[..self.complete]
     }
 
-    /// The beginning of the line that the block cuts.
+    /// Returns the beginning of the line that the block cuts.
     pub fn cut(&self) -> &[u8]
         ensures value { result.now ≡ cut_bytes self.now }
         ensures open { NoFeed result.now }

@@ -16,7 +16,8 @@ use std::io::{Read, Write};
 /// Reads lines to the end of the input, and writes what the filter gives for each.
 ///
 /// The output of each block of input is written before more is read, and the writer is flushed at the end. Nothing is
-/// tried again. It takes memory for a block of input, its output, and the longest line.
+/// tried again. It takes memory for a block of input, its output, and the longest line. `RunFault` says why it ended
+/// early.
 pub fn pump<F: LineFilter, R: Read, W: Write>(
     alloc: Global,
     filter: &F,

@@ -37,7 +37,7 @@ pub fn say<W: Write, E: Write>(text: &str, out: &mut W, errors: &mut E) -> u8
     }
 }
 
-/// Writes a program's name and its version, and returns the exit status as `say` does.
+/// Writes a program's name and its version as one line to `out`, and returns the exit status as `say` does.
 pub fn say_version<W: Write, E: Write>(
     program: &str,
     version: &str,
