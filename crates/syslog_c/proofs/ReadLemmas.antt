@@ -75,23 +75,23 @@ module _ (variant : Variant) (dating : Dating) (text : Text) (old new : Fields) 
   -- where there is space for its elements, they are there
   pub all_read : Reads (Some tt) → new.elements ≤ length after.elements.now → new.params ≤ length after.params.now
       → ReadsInto variant dating text old new before.elements.now after.elements.now before.params.now after.params.now Done
-  all_read (line, only, are, v) e p =
+  all_read (line, of, are, v) e p =
       let put = (v before [] (start before none_put none_filled)).put record {
         elements = omega (arith, e, are.elements);
         params = omega (arith, p, are.params);
       } in
-      inl (line_value line, only, (are, put.elements, put.params))
+      inl (line_value line, of.only, (are, put.elements, put.params))
 
   -- where there is too little, its numbers are there
   pub too_much_read : Reads (Some tt)
       → (new.elements ≤ length after.elements.now → new.params ≤ length after.params.now → ⊥)
       → ReadsInto variant dating text old new before.elements.now after.elements.now before.params.now after.params.now
       NoRoom
-  too_much_read (line, only, are, v) over =
+  too_much_read (line, of, are, v) over =
       let es_of = list_elements line.list in
       inl (
         line_value line,
-        only,
+        of.only,
         (
           are,
           too_few (length es_of) (length (all_params es_of)) (length after.elements.now)

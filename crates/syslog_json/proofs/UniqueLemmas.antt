@@ -10,6 +10,7 @@ use Rattle.syslog_pieces.specs.declared.timestamp.month_date.MonthDate.{MonthDat
 use Rattle.syslog_loose.specs.Line.{line_value}
 use Rattle.syslog_loose.specs.Message.{MessageValue}
 use Rattle.syslog_loose.specs.Reading.{AsksYear, IncompleteDate, InYear, IsOnlyRead, IsRead, dash_rule}
+use Rattle.syslog_loose.specs.Visit.{IsLineOf}
 use Rattle.syslog_loose.specs.Reckoning.{dating_in}
 use Rattle.syslog_loose.specs.declared.line.Line.{Line}
 use Rattle.syslog_loose.specs.declared.variant.Variant.TheVariants.{Either}
@@ -57,15 +58,15 @@ any_year zone text year other m never (inr (none, read)) =
 -- so a visitor was given one line, whatever the year
 pub one_line : {post : IncompleteDate → ℤ → Type 0} {text : Text} {Given : Line → Type 0} (zone : TimeZone)
     (Makes : Line → Type 0) → InYear post Either text (λ year. (line : Line)
-    × IsOnlyRead Either (dating_in zone year) text (line_value line) × Makes line × Given line)
+    × IsLineOf Either (dating_in zone year) text line × Makes line × Given line)
     → (line : Line) × InYear post Either text (λ year.
     IsOnlyRead Either (dating_in zone year) text (line_value line)) × Makes line
 one_line {post = post} {text = text} zone Makes h =
-    let (line, read, makes, given) = h.holds h.answered (λ date asks. refl) in (
+    let (line, of, makes, given) = h.holds h.answered (λ date asks. refl) in (
       line,
       reading.in_answered_year post Either text (λ year. IsOnlyRead Either (dating_in zone year) text (line_value line))
           h.answered h.is_answered (λ never other r. reading.only_read Either (dating_in zone other) text
-          (line_value line) (any_year zone text None other (line_value line) never r.read)) read,
+          (line_value line) (any_year zone text None other (line_value line) never r.read)) of.only,
       makes,
     )
 

@@ -1,24 +1,22 @@
 -- Which texts are read differently since the rule of the dash changed, and that the condition only grew.
-use Rattle.std.proofs.Common.{◌≡◌, ◌↔◌, ◌⊎◌, inl, inr, ℕ, ℤ, Bool, true, false, MatchBool, IsTrue, List, [], ◌∷◌, ◌++◌}
+use Rattle.std.proofs.Common.{◌≡◌, ◌↔◌, ◌⊎◌, inl, inr, ℕ, Bool, true, false, MatchBool, IsTrue, List, [], ◌∷◌, ◌++◌}
 use Rattle.std.proofs.Common.{◌≢◌, length, Option, Some, None, refl, sym, ap, ◌∙◌, arith, append_assoc, append-nil}
 use Rattle.std.proofs.Math.Seq.{drop-append_seam}
 use Rattle.std.proofs.lemmas.Bool.Decides.{eqb_tells}
 use Rattle.syslog_pieces.specs.Pieces.Class.{Text, Class, Values, Front, join, Divides, Row, Ends}
 use Rattle.syslog_pieces.specs.Pieces.Class.{optional, run}
+use Rattle.syslog_pieces.specs.Pieces.View.{shown}
 use Rattle.syslog_pieces.specs.StructuredData.Element.{ElementValue}
 use Rattle.syslog_pieces.specs.StructuredData.Rfc3164List.{IsDashBefore, IsRfc3164List, rfc3164_list, BeginsNoList}
 use Rattle.syslog_pieces.specs.Text.{trimmed, is_blank, dash}
-use Rattle.std.specs.Borrow.{Bor}
-use Rattle.jiff.specs.declared.tz.timezone.TimeZone.{TimeZone}
-use Rattle.syslog_pieces.specs.Timestamp.Zone.{Dating, dating_of}
-use Rattle.syslog_pieces.specs.declared.timestamp.month_date.MonthDate.{MonthDate}
-use Rattle.syslog_loose.specs.ReadBack.{ReadsProtocol}
-use Rattle.syslog_loose.specs.Reading.{dash_rule, IsReadUnder, IsUnreadable, IncompleteDate, AsksYear}
-use Rattle.syslog_loose.specs.Reading.{IsYearAnswered, InYear}
-use Rattle.syslog_loose.proofs.ReadingLemmas.{in_answered_year, in_year_map}
-use Rattle.syslog_loose.proofs.Rfc3164Lemmas.Apart.{not_both}
+use Rattle.syslog_pieces.specs.Timestamp.Zone.{Dating}
+use Rattle.syslog_loose.specs.Line.{line_value}
+use Rattle.syslog_loose.specs.Reading.{dash_rule, IsRead, IsReadUnder, IsUnreadable}
+use Rattle.syslog_loose.specs.View3164.{FieldsAreRead, names_value}
+use Rattle.syslog_loose.specs.Visit.{IsLineOf}
+use Rattle.syslog_loose.specs.declared.line.Line.{Line}
+use Rattle.syslog_loose.specs.declared.rfc3164.Fields.{Fields}
 use Rattle.syslog_loose.proofs.Rfc3164Lemmas.Reading.{is_read}
-use Rattle.syslog_loose.proofs.Rfc3164Lemmas.Years.{other_read}
 use Rattle.syslog_pieces.specs.declared.structured_data.rfc3164_list.DashRule.{DashRule}
 use Rattle.syslog_pieces.specs.declared.structured_data.rfc3164_list.DashRule.TheVariants.{BeforeAnything, BeforeBlank}
 use Rattle.syslog_pieces.proofs.PieceLemmas.Class.{AllDeterministic, heads, front_same, row_det, optional_none}
@@ -36,11 +34,12 @@ use Rattle.syslog_loose.specs.Canonical.{IsCanonicalFor, IsCanonical}
 use Rattle.syslog_loose.specs.DashChange.{ReadsDifferently, BeginsDashChange, HasDashChange3164, HasDashChange}
 use Rattle.syslog_loose.specs.DashChange.{IsReadingUnder, WasUnreadable}
 use Rattle.syslog_loose.specs.Message.{MessageValue}
-use Rattle.syslog_loose.specs.Rfc3164.{Names3164, Resolves, stamped_row, fields_row, rfc3164_row, IsNot3164}
+use Rattle.syslog_loose.specs.Rfc3164.{Names3164, Resolves, stamped_row, fields_row, rfc3164_row}
 use Rattle.syslog_loose.specs.Rfc3164.{IsRead3164}
 use Rattle.syslog_loose.proofs.Rfc3164Lemmas.Rows.{from_gap, from_list, gap_back}
 use Rattle.syslog_loose.proofs.Rfc3164Lemmas.Unique as rfc3164
 use Rattle.syslog_loose.proofs.Rfc5424Lemmas as strict
+use Rattle.syslog_loose.proofs.VisitLemmas.{unversioned, versioned}
 
 -- ---- two readings
 
@@ -330,108 +329,59 @@ module _ (dating : Dating) (text : Text) (variant : Variant) where
 
 -- ---- what the call finds
 
--- the two protocols are apart, so `Either` has no part in it
-either_differs : (dating : Dating) (text : Text) → ReadsDifferently RFC3164 dating text
-    ↔ ReadsDifferently Either dating text
-either_differs dating text = (
-  λ r. let d = (differs_where_dash_change dating text RFC3164).0 r in
-      (differs_where_dash_change dating text Either).1
-      (λ vs e. not_both BeforeAnything dating (trimmed text) vs d.read.values e d.read.division, d),
-  λ r. (differs_where_dash_change dating text RFC3164).1 ((differs_where_dash_change dating text Either).0 r).1,
+-- a text that does not parse has no such dash
+pub unchanged_unread : (variant : Variant) (dating : Dating) (text : Text) → IsUnreadable variant dating text
+    → HasDashChange variant dating text → ⊥
+unchanged_unread RFC5424 dating text none d = d
+unchanged_unread RFC3164 dating text none d = (unread_alike dating text RFC3164).1 none d.message d.read
+unchanged_unread Either dating text none (strict, d) =
+    (unread_alike dating text Either).1 none d.message (inr (strict, d.read))
+
+-- and one that is read as RFC 5424 has none
+pub unchanged_5424 : (variant : Variant) (dating : Dating) (text : Text) (line : Line)
+    → IsRead variant dating text (line_value line) → (line.version ≡ None → ⊥) → HasDashChange variant dating text → ⊥
+unchanged_5424 RFC5424 dating text line r some d = d
+unchanged_5424 RFC3164 dating text line r some d = some (unversioned line r)
+unchanged_5424 Either dating text line (inl r) some (strict, d) = strict r.values r.division
+unchanged_5424 Either dating text line (inr (strict, r)) some d = some (unversioned line r)
+
+-- one that is read as RFC 3164 has one where one is before the list
+told_by_list : (dating : Dating) (text list : Text) (vs : Values (before_list dating)) (n : Names3164) (b : Bool)
+    → Front (Row (before_list dating)) (trimmed text) list vs → Resolves vs.1.1.1.0 vs.1.1.1.1.0 n
+    → MatchBool b (BeginsDashChange list) (BeginsDashChange list → ⊥) → IsTrue b ↔ HasDashChange3164 dating text
+told_by_list dating text list vs n true f means h = (
+  λ t. forth dating text RFC3164 _ _ a.was_read a.is_read a.differ,
+  λ d. refl,
 )
-
--- a dash is dropped where one is before the list
-pub told_by_list : (dating : Dating) (text t list : Text) (vs : Values (before_list dating)) (n : Names3164) (b : Bool)
-    → t ≡ trimmed text → Front (Row (before_list dating)) t list vs → Resolves vs.1.1.1.0 vs.1.1.1.1.0 n
-    → MatchBool b (BeginsDashChange list) (BeginsDashChange list → ⊥)
-    → MatchBool b (ReadsDifferently RFC3164 dating text) (ReadsDifferently RFC3164 dating text → ⊥)
-told_by_list dating text t list vs n true e f means h =
-    differs_apart RFC3164 dating text
-    (differ_of_dash_change dating text vs n means h.next h.behind (rw (e, h.is) at f) h.no_blank)
-told_by_list dating text t list vs n false e f means h = λ k.
-    let d = (differs_where_dash_change dating text RFC3164).0 k in
-    let same = (front_same (Row (before_list dating)) (row_det (before_list dating) (before_det dating)) (rw e at f)
-    (dropped_at dating text d)).0 in
-    h (record { next = d.next; behind = d.more; is = same; no_blank = d.no_blank })
-
--- ---- the year
-
-module _ (text : Text) (dating other : Dating) (z : dating.zone ≡ other.zone) (l : dating.local ≡ other.local) where
-  any_year : (variant : Variant) → ((date : MonthDate) → AsksYear variant text date → ⊥) → (rule : DashRule)
-      (m : MessageValue) → IsReadUnder rule variant dating text m → IsReadUnder rule variant other text m
-  any_year RFC5424 never rule m r = r
-  any_year RFC3164 never rule m r = other_read dating other z l rule text never m r
-  any_year Either never rule m (inl r) = inl r
-  any_year Either never rule m (inr (none, r)) = inr (none, other_read dating other z l rule text never m r)
-
-  dash_change_in_any : (variant : Variant) → ((date : MonthDate) → AsksYear variant text date → ⊥)
-      → ReadsDifferently variant dating text → ReadsDifferently variant other text
-  dash_change_in_any variant never r =
-      let a = apart dating text variant r in
-      differs_apart variant other text (record {
-        before = a.before;
-        now = a.now;
-        was_read = any_year variant never BeforeAnything a.before a.was_read;
-        is_read = any_year variant never BeforeBlank a.now a.is_read;
-        differ = a.differ;
-      })
-
--- what is known in the year that the closure returned
-told_in : (post : IncompleteDate → ℤ → Type 0) (variant : Variant) (text : Text) (tz : Option (Bor TimeZone))
-    (local : Bor TimeZone) (b : Bool) (year : Option ℤ) → IsYearAnswered post variant text year
-    → IsTrue b ↔ ReadsDifferently variant (dating_of year tz local) text
-    → InYear post variant text (λ y. IsTrue b ↔ ReadsDifferently variant (dating_of y tz local) text)
-told_in post variant text tz local b year is h =
-    in_answered_year post variant text (λ y. IsTrue b ↔ ReadsDifferently variant (dating_of y tz local) text) year is
-    (λ never other told.
-    let none : Dating = dating_of None tz local in
-    let some : Dating = dating_of other tz local in (
-      λ t. dash_change_in_any text none some refl refl variant never (told.0 t),
-      λ r. told.1 (dash_change_in_any text some none refl refl variant never r),
-    )) h
-
--- ---- the result under each variant
-
--- what RFC 3164 reads differently, each variant does that reads it
-pub told_so : (variant : Variant) (dating : Dating) (text : Text) (b : Bool) → ReadsProtocol variant protocol.RFC3164
-    → MatchBool b (ReadsDifferently RFC3164 dating text) (ReadsDifferently RFC3164 dating text → ⊥) → IsTrue b
-    ↔ ReadsDifferently variant dating text
-told_so RFC5424 dating text b reads h = absurd reads
-told_so RFC3164 dating text true reads h = (λ t. h, λ r. refl)
-told_so RFC3164 dating text false reads h = (λ t. cc, λ r. absurd (h r))
-told_so Either dating text true reads h = (λ t. (either_differs dating text).0 h, λ r. refl)
-told_so Either dating text false reads h = (λ t. cc, λ r. absurd (h ((either_differs dating text).1 r)))
-
--- and nothing is where it has no division of the text
-pub none_differs : (variant : Variant) (dating : Dating) (text : Text)
-    → (ReadsProtocol variant protocol.RFC3164 → IsNot3164 dash_rule dating text)
-    → IsTrue false ↔ ReadsDifferently variant dating text
-none_differs RFC5424 dating text none = (
+  where
+    a : ReadsApart RFC3164 dating text
+    a = differ_of_dash_change dating text vs n means h.next h.behind (rw h.is at f) h.no_blank
+told_by_list dating text list vs n false f means h = (
   λ t. cc,
-  λ r. absurd (let a = apart dating text RFC5424 r in
-      a.differ (strict.one_message text a.before a.now a.was_read a.is_read)),
+  λ d. let same = (front_same (Row (before_list dating)) (row_det (before_list dating) (before_det dating)) f
+      (dropped_at dating text d)).0 in
+      absurd (h (record { next = d.next; behind = d.more; is = same; no_blank = d.no_blank })),
 )
-none_differs RFC3164 dating text none = told_so RFC3164 dating text false tt
-    (λ r. let a = apart dating text RFC3164 r in none tt a.is_read.values a.is_read.division)
-none_differs Either dating text none = told_so Either dating text false tt
-    (λ r. let a = apart dating text RFC3164 r in none tt a.is_read.values a.is_read.division)
 
--- whoever finds the texts that read differently finds those from which a dash is dropped
-dash_change_told : (variant : Variant) (dating : Dating) (text : Text) (b : Bool) → IsTrue b
-    ↔ ReadsDifferently variant dating text → IsTrue b ↔ HasDashChange variant dating text
-dash_change_told variant dating text b h =
-    let law = differs_where_dash_change dating text variant in (λ t. law.0 (h.0 t), λ d. h.1 (law.1 d))
+pub told_by_line : (variant : Variant) (dating : Dating) (text : Text) (line : Line) (fields : Fields) (b : Bool)
+    → IsLineOf variant dating text line → line.version ≡ None → FieldsAreRead (shown line.rest) fields
+    → MatchBool b (BeginsDashChange (shown fields.rest)) (BeginsDashChange (shown fields.rest) → ⊥)
+    → IsTrue b ↔ HasDashChange variant dating text
+told_by_line variant dating text line fields b of none are h =
+    in_variant variant of.only.read (told_by_list dating text (shown fields.rest) _ (names_value fields.names) b
+    (rows_join (stamped_row dating) fields_row (of.rest none) are.read.front) are.read.means h)
+  where
+    in_variant : (variant : Variant) → IsRead variant dating text (line_value line)
+        → IsTrue b ↔ HasDashChange3164 dating text → IsTrue b ↔ HasDashChange variant dating text
+    in_variant RFC5424 r told = absurd (versioned line r none)
+    in_variant RFC3164 r told = told
+    in_variant Either (inl r) told = absurd (versioned line r none)
+    in_variant Either (inr (strict, r)) told = (λ t. (strict, told.0 t), λ d. told.1 d.1)
 
--- both of what is known in the year that the closure returned
-pub told : (post : IncompleteDate → ℤ → Type 0) (variant : Variant) (text : Text) (tz : Option (Bor TimeZone))
-    (local : Bor TimeZone) (b : Bool) (year : Option ℤ) → IsYearAnswered post variant text year
-    → IsTrue b ↔ ReadsDifferently variant (dating_of year tz local) text
-    → record {
-      reads : InYear post variant text (λ y. IsTrue b ↔ ReadsDifferently variant (dating_of y tz local) text);
-      drops : InYear post variant text (λ y. IsTrue b ↔ HasDashChange variant (dating_of y tz local) text);
-    }
-told post variant text tz local b year is h =
-    let reads = told_in post variant text tz local b year is h in record {
-      reads = reads;
-      drops = in_year_map (λ y k. dash_change_told variant (dating_of y tz local) text b k) reads;
-    }
+-- ---- both clauses of the call
+
+-- whoever finds the texts from which a dash is dropped finds those that read differently
+pub differs_so : (variant : Variant) (dating : Dating) (text : Text) (b : Bool)
+    → IsTrue b ↔ HasDashChange variant dating text → IsTrue b ↔ ReadsDifferently variant dating text
+differs_so variant dating text b h =
+    let law = differs_where_dash_change dating text variant in (λ t. law.1 (h.0 t), λ r. h.1 (law.0 r))

@@ -128,7 +128,7 @@ module _ (variant : Variant) (text : Text) {follows : Text} {p : Option ℕ}
     dated_unread = shown_apart text d shows_date
 
     -- the date has no timestamp
-    pub dated_none : (dating : Dating) → IsAnswer (IsMonthStamp dating d) None → IsNot3164 dash_rule dating text
+    dated_none : (dating : Dating) → IsAnswer (IsMonthStamp dating d) None → IsNot3164 dash_rule dating text
     dated_none dating none = unstamped text f b.gap dating (no_stamp_of_date dating no_header d b.front none)
       where
         no_header : NoFront header_stamp b.start
@@ -161,7 +161,7 @@ module _ (variant : Variant) (text : Text) {follows : Text} {p : Option ℕ}
         without reads u (rw same at gap) g.piece q d g.whole (inl g.is)
 
     -- and no other timestamp
-    pub undated_none : BeginsWithout header_stamp variant follows → (dating : Dating)
+    undated_none : BeginsWithout header_stamp variant follows → (dating : Dating)
         → ReadsProtocol variant protocol.RFC3164 → IsNot3164 dash_rule dating text
     undated_none header dating reads =
         let (start, gap) = some_front_run is_blank follows in

@@ -1,11 +1,11 @@
 -- What is made of a text by way of its line.
-use Rattle.std.specs.Prelude.{◌≡◌, ◌≢◌, ℕ, List, [], Option, Some, None, MatchOption}
-use Rattle.std.specs.Prelude.{Result, MatchResult}
+use Rattle.std.specs.Prelude.{◌≡◌, ◌≢◌, ℕ, List, [], Option, None, MatchOption, Result, MatchResult}
 use Rattle.std.specs.Borrow.{Bor}
 use Rattle.syslog_pieces.specs.Pieces.Class.{Text}
 use Rattle.syslog_pieces.specs.Pieces.View.{shown}
 use Rattle.syslog_pieces.specs.StructuredData.Element.{ElementValue}
 use Rattle.syslog_pieces.specs.StructuredData.Visited.{list_elements, Visits}
+use Rattle.syslog_pieces.specs.Text.{trimmed}
 use Rattle.syslog_pieces.specs.Timestamp.Zone.{Dating}
 use Rattle.syslog_loose.specs.Line.{line_value}
 use Rattle.syslog_loose.specs.Message.{message_value, with_elements}
@@ -13,8 +13,18 @@ use Rattle.syslog_loose.specs.declared.fault.ParseFault.{ParseFault}
 use Rattle.syslog_loose.specs.declared.fault.ParseFault.TheVariants.{Invalid, Memory}
 use Rattle.syslog_loose.specs.declared.message.Message.{Message}
 use Rattle.syslog_loose.specs.Reading.{IsOnlyRead, IsUnreadable}
+use Rattle.syslog_loose.specs.View3164.{IsBehindStamp}
 use Rattle.syslog_loose.specs.declared.line.Line.{Line}
 use Rattle.syslog_loose.specs.declared.variant.Variant.{Variant}
+
+-- a priority or none, blanks and the line's timestamp begin the trimmed text, and the line's rest follows
+abbrev pub HasRest : Dating → Text → Line → Type 0
+HasRest dating text line = IsBehindStamp dating (trimmed text) line.priority line.timestamp (shown line.rest)
+
+-- The line means the one message as which the text is read. Where it is of RFC 3164, its rest follows the timestamp.
+pub record IsLineOf (variant : Variant) (dating : Dating) (text : Text) (line : Line) : Type 0 where
+  pub only : IsOnlyRead variant dating text (line_value line)
+  pub rest : line.version ≡ None → HasRest dating text line
 
 -- What a visitor makes of the line of the one message as which the text is read, and that another visitor was given its
 -- elements. Where there is none, nothing is made, the first stays as it was, and the other was given no element.
@@ -22,7 +32,7 @@ abbrev pub Made : {V A E : Type 0} → (V → Line → A → V → Type 0) → (
     → Variant → Dating → Text → V → E → Option A → V → E → Type 0
 Made makes was_given variant dating text old before result new after = MatchOption result
     (IsUnreadable variant dating text × (new ≡ old) × Visits was_given before [] after)
-    (λ made. (line : Line) × IsOnlyRead variant dating text (line_value line) × makes old line made new
+    (λ made. (line : Line) × IsLineOf variant dating text line × makes old line made new
     × Visits was_given before (list_elements line.list) after)
 
 -- What a reading call returns where this message was made and these elements were collected: the message with them, or

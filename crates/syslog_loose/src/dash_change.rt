@@ -1,26 +1,23 @@
 //! Whether the change of the dash changed the reading of a text. The front of the text, up to its list, decides it: so
 //! no element is collected, and no memory taken.
-ghost use Rattle.std.specs.Prelude.{◌↔◌, ℕ, IsTrue, MatchBool, Option};
+ghost use Rattle.std.specs.Prelude.{◌↔◌, IsTrue, MatchBool};
 ghost use Rattle.std.specs.Result.{IsOkAnd};
 ghost use Rattle.std.specs.Str.{chars};
 ghost use Rattle.syslog_pieces.specs.Pieces.Class.{Text};
-ghost use Rattle.syslog_pieces.specs.Text.{trimmed as trimmed_text};
 ghost use Rattle.syslog_pieces.specs.Timestamp.Zone.{Dating as AnyDating, dating_of};
-ghost use Rattle.syslog_pieces.specs.declared.timestamp.clock.ClockStamp.{ClockStamp};
 ghost use Rattle.syslog_loose.specs.DashChange.{BeginsDashChange, HasDashChange, ReadsDifferently};
 ghost use Rattle.syslog_loose.specs.Reading.{AnswersEachMonth, InYear};
-ghost use Rattle.syslog_loose.specs.View3164.{IsBehindStamp};
-ghost use Rattle.syslog_loose.specs.declared.variant.Variant.TheVariants.{RFC3164};
+ghost use Rattle.syslog_loose.specs.Visit.{IsLineOf};
+ghost use Rattle.syslog_loose.specs.declared.variant.Variant.{Variant};
 
+use crate::line::Line;
 use crate::rfc3164::read_fields;
 use crate::variant::{IncompleteDate, Variant};
-use crate::visit::{asked_numbers, front_date, front_stamp};
+use crate::visit::parse_line;
 use jiff::tz::TimeZone;
 use std::alloc::{AllocError, Global};
-use syslog_pieces::pri::optional_priority;
 use syslog_pieces::structured_data::NoElements;
-use syslog_pieces::text::{CharClass, first, literal, trimmed};
-use syslog_pieces::timestamp::zone::{Dating, month_stamp};
+use syslog_pieces::text::{CharClass, first, literal};
 
 /// Whether the text is read otherwise than it was while a dash was a list of RFC 3164 before anything, as it is in the
 /// Rust crate: so whether the list's piece was a dash before a character that is no blank, which was left out, and
@@ -43,31 +40,21 @@ pub fn reads_differently<F: FnOnce(IncompleteDate) -> i32>(
     ensures drops { InYear (F.post get_year) variant (chars input.entry.now) (λ year. IsOkAnd result (λ differs.
         IsTrue differs ↔ HasDashChange variant (dating_of year tz.entry local.entry) (chars input.entry.now))) }
 {
-    let (_, rest) = optional_priority(trimmed(input));
-    match front_date(rest, variant) {
-        Some((date, behind)) => {
-            let year = asked_numbers(date).map(get_year);
-            match month_stamp(date, &Dating { year, tz, local }) {
-                Some(_) => Ok(has_dash_change(behind)),
-                None => Ok(false),
-            }
-        }
-        None => match front_stamp(rest, variant) {
-            Some((_, behind)) => Ok(has_dash_change(behind)),
-            None => Ok(false),
-        },
+    match parse_line(input, get_year, tz, variant, local) {
+        Some(line) => Ok(has_dash_change(&line)),
+        None => Ok(false),
     }
 }
 
-// Returns whether a text of RFC 3164 reads differently, by what is after its timestamp. Such a text has no division of
-// RFC 5424.
-fn has_dash_change(behind: &str) -> bool
-    ensures { (dating : AnyDating) (whole : Text) (priority : Option ℕ) (timestamp : Option ClockStamp)
-        → IsBehindStamp dating (trimmed_text whole) priority timestamp (chars behind.now) → MatchBool result
-        (ReadsDifferently RFC3164 dating whole) (ReadsDifferently RFC3164 dating whole → ⊥) }
+// Whether the text of the line reads differently, by what follows its timestamp. RFC 5424 has no such dash.
+fn has_dash_change(line: &Line<'_>) -> bool
+    ensures { (variant : Variant) (dating : AnyDating) (text : Text) → IsLineOf variant dating text line.now
+        → IsTrue result ↔ HasDashChange variant dating text }
 {
-    let fields = read_fields::<NoElements>(behind);
-    begins_dash_change(fields.rest)
+    match line.version {
+        Some(_) => false,
+        None => begins_dash_change(read_fields::<NoElements>(line.rest).rest),
+    }
 }
 
 // Whether the text begins with a dash before a character that is no blank.

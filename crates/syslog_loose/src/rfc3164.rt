@@ -15,6 +15,7 @@ ghost use Rattle.syslog_loose.specs.Line.{line_value, KnowsForm};
 ghost use Rattle.syslog_loose.specs.Reading.{dash_rule};
 ghost use Rattle.syslog_loose.specs.Rfc3164 as spec;
 ghost use Rattle.syslog_loose.specs.View3164.{FieldsAreRead, IsBehindStamp, IsProcessOf, names_value};
+ghost use Rattle.syslog_loose.specs.Visit.{HasRest};
 
 use crate::line::Line;
 use crate::rfc5424::{are_all, is_bare};
@@ -166,7 +167,7 @@ pub(crate) fn read_3164<'a, E: ElementVisitor<'a>>(
 ) -> Line<'a>
     ensures reads { (dating : Dating) (whole : Text)
         → IsBehindStamp dating (trimmed whole) priority timestamp (chars text.entry.now)
-        → spec.IsRead3164 dash_rule dating whole (line_value result) }
+        → spec.IsRead3164 dash_rule dating whole (line_value result) × HasRest dating whole result }
     ensures form { KnowsForm result }
     ensures visited { Visits E.was_given elements.old (list_elements result.list) elements.new }
 {

@@ -15,13 +15,12 @@ ghost use Rattle.syslog_pieces.specs.Timestamp.MonthDate.{month_date};
 ghost use Rattle.syslog_pieces.specs.Timestamp.Zone.{Dating as AnyDating, dating_of};
 ghost use Rattle.syslog_pieces.specs.declared.timestamp.month_date.MonthDate.{MonthDate};
 ghost use Rattle.syslog_loose.specs.Line.{line_value, KnowsForm};
-ghost use Rattle.syslog_loose.specs.Reading.{AnswersEachMonth, InYear, IsOnlyRead, IsUnreadable};
-ghost use Rattle.syslog_loose.specs.Reading.{dash_rule, incomplete};
+ghost use Rattle.syslog_loose.specs.Reading.{AnswersEachMonth, InYear, IsUnreadable, dash_rule, incomplete};
 ghost use Rattle.syslog_loose.specs.Rfc3164.{IsRead3164};
 ghost use Rattle.syslog_loose.specs.Rfc5424.{IsNot5424, IsRead5424};
 ghost use Rattle.syslog_loose.specs.Start.{BeginsWith, BeginsWithout, IsBehindPriority};
 ghost use Rattle.syslog_loose.specs.View3164.{IsBehindStamp};
-ghost use Rattle.syslog_loose.specs.Visit.{Made};
+ghost use Rattle.syslog_loose.specs.Visit.{HasRest, IsLineOf, Made};
 ghost use Rattle.syslog_loose.specs.declared.line.Line.{Line};
 ghost use Rattle.syslog_loose.specs.declared.variant.Variant.{Variant};
 
@@ -110,16 +109,17 @@ fn visit_3164<'a, E: ElementVisitor<'a>, V: LineVisitor<'a>>(
 ) -> V::Answer
     ensures { (line : Line) × ((dating : AnyDating) (whole : Text)
         → IsBehindStamp dating (trimmed_text whole) priority timestamp (chars text.entry.now)
-        → IsRead3164 dash_rule dating whole (line_value line)) × V.makes visitor.old line result visitor.new
+        → IsRead3164 dash_rule dating whole (line_value line) × HasRest dating whole line)
+        × V.makes visitor.old line result visitor.new
         × Visits E.was_given elements.old (list_elements line.list) elements.new }
 {
     let line = read_3164(priority, timestamp, text, elements);
     visitor.line(&line)
 }
 
-/// The month date after a priority, where the variant reads such dates, and the rest.
+// The month date after a priority, where the variant reads such dates, and the rest.
 #[inline(always)]
-pub(crate) fn front_date(text: &str, variant: Variant) -> Option<(MonthDate, &str)>
+fn front_date(text: &str, variant: Variant) -> Option<(MonthDate, &str)>
     ensures { MatchOption result (BeginsWithout month_date variant (chars text.now))
         (λ x. BeginsWith month_date variant (chars text.now) x.0 (shown x.1)) }
 {
@@ -130,9 +130,9 @@ pub(crate) fn front_date(text: &str, variant: Variant) -> Option<(MonthDate, &st
     }
 }
 
-/// A timestamp that is no month date, in the same way.
+// A timestamp that is no month date, in the same way.
 #[inline(always)]
-pub(crate) fn front_stamp(text: &str, variant: Variant) -> Option<(Option<ClockStamp>, &str)>
+fn front_stamp(text: &str, variant: Variant) -> Option<(Option<ClockStamp>, &str)>
     ensures { MatchOption result (BeginsWithout header_stamp variant (chars text.now))
         (λ x. BeginsWith header_stamp variant (chars text.now) (stamp_seen x.0) (shown x.1)) }
 {
@@ -143,9 +143,9 @@ pub(crate) fn front_stamp(text: &str, variant: Variant) -> Option<(Option<ClockS
     }
 }
 
-/// The numbers of a date whose year is asked for.
+// The numbers of a date whose year is asked for.
 #[inline(always)]
-pub(crate) fn asked_numbers(date: MonthDate) -> Option<IncompleteDate>
+fn asked_numbers(date: MonthDate) -> Option<IncompleteDate>
     ensures { MatchOption result (IsSome date.year) (λ d. (date.year ≡ None) × (d ≡ incomplete date)) }
 {
     match date.year {
@@ -235,6 +235,8 @@ impl<'a> LineVisitor<'a> for Itself {
 
 /// Returns the line that the text is parsed as, and none where it does not parse. It takes no memory.
 ///
+/// After its timestamp, a line of RFC 3164 has all that follows as its `rest`.
+///
 /// The arguments are those of `visit_line`.
 #[inline(always)]
 pub fn parse_line<'a, F: FnOnce(IncompleteDate) -> i32>(
@@ -247,7 +249,7 @@ pub fn parse_line<'a, F: FnOnce(IncompleteDate) -> i32>(
     requires { AnswersEachMonth (F.pre get_year) }
     ensures reads { InYear (F.post get_year) variant (chars input.entry.now) (λ year. MatchOption result
         (IsUnreadable variant (dating_of year tz.entry local.entry) (chars input.entry.now))
-        (λ line. IsOnlyRead variant (dating_of year tz.entry local.entry) (chars input.entry.now) (line_value line))) }
+        (λ line. IsLineOf variant (dating_of year tz.entry local.entry) (chars input.entry.now) line)) }
     ensures form { IfSome result KnowsForm }
 {
     visit_line(

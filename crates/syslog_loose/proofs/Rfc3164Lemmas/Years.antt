@@ -1,6 +1,6 @@
 -- Where a text shows no date without a year, the year that would be used for one makes no difference.
 use Rattle.std.proofs.Common.{◌≡◌, inl, inr, Option, Some, None, refl}
-use Rattle.syslog_pieces.specs.Pieces.Class.{Text, Front}
+use Rattle.syslog_pieces.specs.Pieces.Class.{Text, Front, Row, Values}
 use Rattle.syslog_pieces.specs.Text.{trimmed}
 use Rattle.syslog_pieces.specs.Timestamp.Rfc3164.{rfc3164_stamp, ShowsYearless}
 use Rattle.syslog_pieces.specs.Timestamp.MonthDate.{yearless_date}
@@ -8,10 +8,10 @@ use Rattle.syslog_pieces.specs.Timestamp.Zone.{Dating}
 use Rattle.syslog_pieces.specs.declared.structured_data.rfc3164_list.DashRule.{DashRule}
 use Rattle.syslog_pieces.specs.declared.timestamp.OffsetTimestamp.{OffsetTimestamp}
 use Rattle.syslog_pieces.specs.declared.timestamp.month_date.MonthDate.{MonthDate}
-use Rattle.syslog_pieces.proofs.PieceLemmas.Class.{division_front}
+use Rattle.syslog_pieces.proofs.PieceLemmas.Class.{division_front, rows_join, rows_split}
 use Rattle.syslog_pieces.proofs.PieceLemmas.Rows.{row_of, row_pieces, ◌then◌}
 use Rattle.syslog_loose.specs.Message.{MessageValue}
-use Rattle.syslog_loose.specs.Rfc3164.{rfc3164_row, IsRead3164, Quotes3164}
+use Rattle.syslog_loose.specs.Rfc3164.{body_row, rfc3164_row, stamped_row, IsRead3164, Quotes3164}
 use Rattle.syslog_loose.proofs.Rfc3164Lemmas.Quoting.{quotes}
 use Rattle.syslog_loose.proofs.Rfc3164Lemmas.Reading.{is_read}
 use Rattle.syslog_loose.proofs.Rfc3164Lemmas.Shown.{shows}
@@ -27,21 +27,29 @@ module _ (dating other : Dating) (zone : dating.zone ≡ other.zone) (local : da
       let (year, is, (dt, f, stamp)) = rw e at k in
       inr (d, inr (vs, h, e), rw e (year, is, (dt, f, rw (zone, local) at stamp)))
 
-  module _ (rule : DashRule) (text : Text) (none : (d : MonthDate) → ShowsYearless text d → ⊥) where
-    -- so the pieces are the same, with the same meanings
-    pub other_read : (m : MessageValue) → IsRead3164 rule dating text m → IsRead3164 rule other text m
-    other_read m r =
-        let row = row_pieces (rfc3164_row rule dating) (division_front (rfc3164_row rule dating) r.division) in
-        let (_, pri, (u, gap, (q, stamp, behind))) = row in
+  module _ (text : Text) (none : (d : MonthDate) → ShowsYearless text d → ⊥) where
+    -- so the pieces up to the timestamp are the same, with the same meanings
+    pub other_stamped : {q : Text} {vs : Values (stamped_row dating)} → Front (Row (stamped_row dating)) (trimmed text) q vs
+        → Front (Row (stamped_row other)) (trimmed text) q vs
+    other_stamped {vs = vs} f =
+        let (_, pri, (u, gap, (q, stamp, end))) = row_pieces (stamped_row dating) f in
         let undated : (d : MonthDate) → yearless_date.Is stamp.piece q d → ⊥ = λ d k.
         none d (shows yearless_date pri gap (record { piece = stamp.piece; whole = stamp.whole; is = k })) in
-        let same : Front (rfc3164_stamp other) u q r.values.1.1.0 = record {
+        let same : Front (rfc3164_stamp other) u q vs.1.1.0 = record {
           piece = stamp.piece;
           whole = stamp.whole;
-          is = other_stamp stamp.piece q r.values.1.1.0 undated stamp.is;
+          is = other_stamp stamp.piece q vs.1.1.0 undated stamp.is;
         } in
+        row_of (stamped_row other) (pri then gap then same then end)
+
+  module _ (rule : DashRule) (text : Text) (none : (d : MonthDate) → ShowsYearless text d → ⊥) where
+    -- and so are all
+    pub other_read : (m : MessageValue) → IsRead3164 rule dating text m → IsRead3164 rule other text m
+    other_read m r =
+        let (_, stamped, body) = rows_split (stamped_row dating) (body_row rule)
+        (division_front (rfc3164_row rule dating) r.division) in
         is_read rule other text (trimmed text) r.values m refl r.means
-        (row_of (rfc3164_row rule other) (pri then gap then same then behind))
+        (rows_join (stamped_row other) (body_row rule) (other_stamped text none stamped) body)
 
     pub other_quotes : (m : MessageValue) → Quotes3164 rule dating text m → Quotes3164 rule other text m
     other_quotes m k = quotes rule other text m (other_read m k.read)

@@ -28,9 +28,10 @@ module _ (variant : Variant) (dating : Dating) where
       dating text old before made new after
       → AnswersRound variant dating text (string_bytes new) (round_answer made)
   made_told given before after text old new None (none, _, _) = ((λ e. none), (λ u. refl))
-  made_told given before after text old new (Some (Ok settled)) (line, only, writes, _) = writes variant dating text only.read
-  made_told given before after text old new (Some (Err _)) (line, only, writes, _) =
-      ((λ e. absurd (invalid_or_memory e)), (λ u. absurd (u (line_value line) only.read)))
+  made_told given before after text old new (Some (Ok settled)) (line, of, writes, _) =
+      writes variant dating text of.only.read
+  made_told given before after text old new (Some (Err _)) (line, of, writes, _) =
+      ((λ e. absurd (invalid_or_memory e)), (λ u. absurd (u (line_value line) of.only.read)))
 
   -- a round that is not settled is one from which to go on
   pub told_reaches : (text later : Text) (settled : Bool) → settled ≡ false

@@ -19,15 +19,13 @@ use Rattle.syslog_loose.proofs.rfc3164.read_3164.Goals as goal
 pub returns-clause-reads : goal.returns-clause-reads
 returns-clause-reads g c dating whole f =
     let fields = c.read_fields-fields.ensures.read in
-    let (es, list, same) = c.visit_rfc3164_list.ensures.list in
-    is_read dash_rule dating whole _ _ _ refl (
-      names_value c.read_fields-fields.result.names,
-      fields.means,
-      rw same refl,
+    let (es, list, same) = c.visit_rfc3164_list.ensures.list in (
+      is_read dash_rule dating whole _ _ _ refl (names_value c.read_fields-fields.result.names, fields.means, rw same refl)
+          (rows_join (stamped_row dating) (body_row dash_rule) f
+          (rows_join fields_row (from_list dash_rule) fields.front
+          (row_of (from_list dash_rule) (list then c.blanks.ensures then rest_front _ then refl)))),
+      f,
     )
-    (rows_join (stamped_row dating) (body_row dash_rule) f
-    (rows_join fields_row (from_list dash_rule) fields.front
-    (row_of (from_list dash_rule) (list then c.blanks.ensures then rest_front _ then refl))))
 
 pub returns-clause-form : goal.returns-clause-form
 returns-clause-form g c = elim c.if-fields.branch [

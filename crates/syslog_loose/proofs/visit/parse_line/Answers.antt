@@ -4,9 +4,9 @@ use Rattle.std.specs.Str.{chars}
 use Rattle.syslog_pieces.specs.Pieces.Class.{Text}
 use Rattle.syslog_pieces.specs.StructuredData.Element.{ElementValue}
 use Rattle.syslog_pieces.specs.Timestamp.Zone.{Dating, dating_of}
-use Rattle.syslog_loose.specs.Line.{KnowsForm, line_value}
-use Rattle.syslog_loose.specs.Reading.{IsOnlyRead, IsUnreadable}
-use Rattle.syslog_loose.specs.Visit.{Made}
+use Rattle.syslog_loose.specs.Line.{KnowsForm}
+use Rattle.syslog_loose.specs.Reading.{IsUnreadable}
+use Rattle.syslog_loose.specs.Visit.{IsLineOf, Made}
 use Rattle.syslog_loose.specs.declared.line.Line.{Line}
 use Rattle.syslog_loose.specs.declared.variant.Variant.{Variant}
 use Rattle.syslog_loose.proofs.ReadingLemmas.{in_year_map}
@@ -17,17 +17,17 @@ parsed : {V E : Type 0} (given : E → E → List ElementValue → Type 0) (befo
     (variant : Variant) (dating : Dating) (text : Text) (old new : V) (made : Option Line)
     → Made (λ (_ : V) line itself _. (itself ≡ line) × KnowsForm line) given variant dating text old before made new after
     → MatchOption made (IsUnreadable variant dating text)
-    (λ line. IsOnlyRead variant dating text (line_value line))
+    (λ line. IsLineOf variant dating text line)
 parsed given before after variant dating text old new None (none, _, _) = none
-parsed given before after variant dating text old new (Some made) (line, only, (e, form), _) =
-    subst (λ (x : Line). IsOnlyRead variant dating text (line_value x)) (sym e) only
+parsed given before after variant dating text old new (Some made) (line, of, (e, form), _) =
+    subst (IsLineOf variant dating text) (sym e) of
 
 known : {V E : Type 0} (given : E → E → List ElementValue → Type 0) (before after : E)
     (variant : Variant) (dating : Dating) (text : Text) (old new : V) (made : Option Line)
     → Made (λ (_ : V) line itself _. (itself ≡ line) × KnowsForm line) given variant dating text old before made new after
     → IfSome made KnowsForm
 known given before after variant dating text old new None m = tt
-known given before after variant dating text old new (Some made) (line, only, (e, form), _) = subst KnowsForm (sym e) form
+known given before after variant dating text old new (Some made) (line, of, (e, form), _) = subst KnowsForm (sym e) form
 
 pub returns-clause-reads : goal.returns-clause-reads
 returns-clause-reads g c = in_year_map (λ year h. parsed (λ first visitor es. ⊤) _ _ c.args.variant (dating_of year c.args.tz c.args.local)

@@ -3,7 +3,7 @@ use Rattle.syslog_strict.proofs.ConversionLaws.{no_memory, text_converts}
 use Rattle.syslog_strict.proofs.call.convert.Goals as goal
 
 pub returns-in-Ok : goal.returns-in-Ok
-returns-in-Ok g c = in_year_map (λ y only. text_converts _ _ _ _ _ only c.in-Ok.ensures) c.in-Some.ensures.reads
+returns-in-Ok g c = in_year_map (λ y of. text_converts _ _ _ _ _ of.only c.in-Ok.ensures) c.in-Some.ensures.reads
 
 pub returns-in-Err : goal.returns-in-Err
-returns-in-Err g c = in_year_map (λ y only. no_memory _ _ _ _ only) c.in-Some.ensures.reads
+returns-in-Err g c = in_year_map (λ y of. no_memory _ _ _ _ of.only) c.in-Some.ensures.reads
