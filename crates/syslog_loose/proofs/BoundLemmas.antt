@@ -1,16 +1,9 @@
 -- What was read, by whichever variant, was read as one of the protocols, with numbers within a message's bounds.
-use Rattle.std.proofs.Common.{◌⊎◌, inl, inr}
-use Rattle.syslog_pieces.specs.Pieces.Class.{Text}
-use Rattle.syslog_pieces.specs.Timestamp.Zone.{Dating}
-use Rattle.syslog_loose.specs.Canonical.{IsBounded}
-use Rattle.syslog_loose.specs.Message.{MessageValue}
-use Rattle.syslog_loose.specs.Reading.{dash_rule, IsRead}
-use Rattle.syslog_loose.specs.Rfc3164.{IsRead3164}
-use Rattle.syslog_loose.specs.Rfc5424.{IsRead5424}
-use Rattle.syslog_loose.specs.declared.variant.Variant.{Variant}
-use Rattle.syslog_loose.specs.declared.variant.Variant.TheVariants.{Either, RFC3164, RFC5424}
-use Rattle.syslog_loose.proofs.Rfc3164Lemmas.Bounded as rfc3164
+use Rattle.syslog_loose.proofs.Names.{◌⊎◌, inl, inr, Text, Dating, IsBounded, MessageValue, dash_rule, IsRead}
+use Rattle.syslog_loose.proofs.Names.{IsRead3164, IsRead5424, Variant, Either, RFC5424}
+use Rattle.syslog_loose.specs.declared.variant.Variant.TheVariants.{RFC3164}
 use Rattle.syslog_loose.proofs.Rfc5424Lemmas.ReadBack.{read_completed}
+use Rattle.syslog_loose.proofs.Rfc3164Lemmas.Bounded as rfc3164
 
 pub read_as : (variant : Variant) (dating : Dating) (text : Text) (m : MessageValue) → IsRead variant dating text m
     → IsRead5424 text m ⊎ IsRead3164 dash_rule dating text m

@@ -1,14 +1,9 @@
 -- What the tests of the written condition return.
-use Rattle.std.proofs.Common.{◌≡◌, ℕ, ◌<◌, Bool, true, false, not, List, [], length, map, refl, sym, ap, subst}
-use Rattle.std.proofs.Common.{◌∙◌, arith}
-use Rattle.std.specs.Prelude.{◌↔◌, IsTrue, MatchBool}
-use Rattle.std.specs.Str.{chars, IsUtf8, trim_end, bytes_eq, drop_trailing_whitespace}
-use Rattle.std.proofs.lemmas.List.{length-map, nil_from_length}
-use Rattle.std.proofs.lemmas.Slice.Eq.{bytes_eq-Decides}
-use Rattle.syslog_pieces.specs.Pieces.Class.{Text, NoFront}
-use Rattle.syslog_pieces.specs.StructuredData.Rfc3164List.{BeginsNoList, rfc3164_list}
-use Rattle.syslog_pieces.specs.declared.structured_data.rfc3164_list.DashRule.{DashRule}
-use Rattle.syslog_pieces.specs.Text.Canonical.{EndsVisibly}
+use Rattle.syslog_loose.proofs.Names.{◌≡◌, ◌<◌, ◌∙◌, ◌↔◌, ℕ, Bool, true, false, not, List, [], length, map, refl, sym}
+use Rattle.syslog_loose.proofs.Names.{ap, subst, arith, IsTrue, MatchBool, chars, IsUtf8, bytes_eq}
+use Rattle.syslog_loose.proofs.Names.{drop_trailing_whitespace, length-map, nil_from_length, bytes_eq-Decides, Text}
+use Rattle.syslog_loose.proofs.Names.{NoFront, BeginsNoList, rfc3164_list, DashRule, EndsVisibly}
+use Rattle.std.specs.Str.{trim_end}
 use Rattle.syslog_pieces.proofs.TextLemmas.Chars.{same_chars}
 use Rattle.syslog_pieces.proofs.TextLemmas.Trim.{end_trimmed_chars}
 use Rattle.syslog_pieces.proofs.StructuredDataLemmas.Rfc3164List.{no_list_is}

@@ -1,45 +1,31 @@
 -- Which texts are read differently since the rule of the dash changed, and that the condition only grew.
-use Rattle.std.proofs.Common.{◌≡◌, ◌↔◌, ◌⊎◌, inl, inr, ℕ, Bool, true, false, MatchBool, IsTrue, List, [], ◌∷◌, ◌++◌}
-use Rattle.std.proofs.Common.{◌≢◌, length, Option, Some, None, refl, sym, ap, ◌∙◌, arith, append_assoc, append-nil}
+use Rattle.syslog_loose.proofs.Names.{◌≡◌, ◌↔◌, ◌⊎◌, ◌∷◌, ◌++◌, ◌≢◌, ◌∙◌, inl, inr, ℕ, Bool, true, false, MatchBool}
+use Rattle.syslog_loose.proofs.Names.{IsTrue, List, [], length, Option, Some, None, refl, sym, ap, arith, append_assoc}
+use Rattle.syslog_loose.proofs.Names.{append-nil, eqb_tells, Text, Class, Values, Front, join, Row, Ends, optional, run}
+use Rattle.syslog_loose.proofs.Names.{shown, ElementValue, IsDashBefore, IsRfc3164List, rfc3164_list, BeginsNoList}
+use Rattle.syslog_loose.proofs.Names.{trimmed, is_blank, dash, Dating, line_value, dash_rule, IsRead, IsUnreadable}
+use Rattle.syslog_loose.proofs.Names.{names_value, IsLineOf, Line, DashRule, BeforeAnything, BeforeBlank}
+use Rattle.syslog_loose.proofs.Names.{AllDeterministic, heads, front_same, row_det, optional_none, optional_some}
+use Rattle.syslog_loose.proofs.Names.{row_cons, row_head, rows_join, division_front, optional_det, both_values}
+use Rattle.syslog_loose.proofs.Names.{all_joined, rows_split, absent_stays, piece_front, decide, dash_rfc3164_list}
+use Rattle.syslog_loose.proofs.Names.{full_begins, no_rfc3164_list, rfc3164_list_det, Protocol, Variant, Either}
+use Rattle.syslog_loose.proofs.Names.{RFC5424, IsCanonicalFor, IsCanonical, MessageValue, Names3164, Resolves}
+use Rattle.syslog_loose.proofs.Names.{stamped_row, fields_row, rfc3164_row, IsRead3164}
 use Rattle.std.proofs.Math.Seq.{drop-append_seam}
-use Rattle.std.proofs.lemmas.Bool.Decides.{eqb_tells}
-use Rattle.syslog_pieces.specs.Pieces.Class.{Text, Class, Values, Front, join, Divides, Row, Ends}
-use Rattle.syslog_pieces.specs.Pieces.Class.{optional, run}
-use Rattle.syslog_pieces.specs.Pieces.View.{shown}
-use Rattle.syslog_pieces.specs.StructuredData.Element.{ElementValue}
-use Rattle.syslog_pieces.specs.StructuredData.Rfc3164List.{IsDashBefore, IsRfc3164List, rfc3164_list, BeginsNoList}
-use Rattle.syslog_pieces.specs.Text.{trimmed, is_blank, dash}
-use Rattle.syslog_pieces.specs.Timestamp.Zone.{Dating}
-use Rattle.syslog_loose.specs.Line.{line_value}
-use Rattle.syslog_loose.specs.Reading.{dash_rule, IsRead, IsReadUnder, IsUnreadable}
-use Rattle.syslog_loose.specs.View3164.{FieldsAreRead, names_value}
-use Rattle.syslog_loose.specs.Visit.{IsLineOf}
-use Rattle.syslog_loose.specs.declared.line.Line.{Line}
+use Rattle.syslog_pieces.specs.Pieces.Class.{Divides}
+use Rattle.syslog_pieces.proofs.PieceLemmas.Class.{firsts, lasts}
+use Rattle.syslog_loose.specs.Reading.{IsReadUnder}
+use Rattle.syslog_loose.specs.View3164.{FieldsAreRead}
 use Rattle.syslog_loose.specs.declared.rfc3164.Fields.{Fields}
-use Rattle.syslog_loose.proofs.Rfc3164Lemmas.Reading.{is_read}
-use Rattle.syslog_pieces.specs.declared.structured_data.rfc3164_list.DashRule.{DashRule}
-use Rattle.syslog_pieces.specs.declared.structured_data.rfc3164_list.DashRule.TheVariants.{BeforeAnything, BeforeBlank}
-use Rattle.syslog_pieces.proofs.PieceLemmas.Class.{AllDeterministic, heads, front_same, row_det, optional_none}
-use Rattle.syslog_pieces.proofs.PieceLemmas.Class.{optional_some, row_cons, row_head, rows_join, division_front}
-use Rattle.syslog_pieces.proofs.PieceLemmas.Class.{optional_det, both_values, all_joined, firsts, lasts, rows_split}
-use Rattle.syslog_pieces.proofs.PieceLemmas.Steps.{absent_stays, piece_front}
-use Rattle.syslog_pieces.proofs.StructuredDataLemmas.Units.{decide}
-use Rattle.syslog_pieces.proofs.StructuredDataLemmas.Rfc3164List.{dash_rfc3164_list, full_begins, no_rfc3164_list}
-use Rattle.syslog_pieces.proofs.StructuredDataLemmas.Rfc3164List.{rfc3164_list_det}
-use Rattle.syslog_loose.specs.declared.message.Protocol.{Protocol}
-use Rattle.syslog_loose.specs.declared.message.Protocol.TheVariants as protocol
-use Rattle.syslog_loose.specs.declared.variant.Variant.{Variant}
-use Rattle.syslog_loose.specs.declared.variant.Variant.TheVariants.{Either, RFC3164, RFC5424}
-use Rattle.syslog_loose.specs.Canonical.{IsCanonicalFor, IsCanonical}
+use Rattle.syslog_loose.specs.declared.variant.Variant.TheVariants.{RFC3164}
 use Rattle.syslog_loose.specs.DashChange.{ReadsDifferently, BeginsDashChange, HasDashChange3164, HasDashChange}
 use Rattle.syslog_loose.specs.DashChange.{IsReadingUnder, WasUnreadable}
-use Rattle.syslog_loose.specs.Message.{MessageValue}
-use Rattle.syslog_loose.specs.Rfc3164.{Names3164, Resolves, stamped_row, fields_row, rfc3164_row}
-use Rattle.syslog_loose.specs.Rfc3164.{IsRead3164}
+use Rattle.syslog_loose.proofs.Rfc3164Lemmas.Reading.{is_read}
 use Rattle.syslog_loose.proofs.Rfc3164Lemmas.Rows.{from_gap, from_list, gap_back}
+use Rattle.syslog_loose.proofs.VisitLemmas.{unversioned, versioned}
+use Rattle.syslog_loose.specs.declared.message.Protocol.TheVariants as protocol
 use Rattle.syslog_loose.proofs.Rfc3164Lemmas.Unique as rfc3164
 use Rattle.syslog_loose.proofs.Rfc5424Lemmas as strict
-use Rattle.syslog_loose.proofs.VisitLemmas.{unversioned, versioned}
 
 -- ---- two readings
 

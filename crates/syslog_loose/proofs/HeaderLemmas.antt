@@ -1,13 +1,9 @@
 -- The words of a header: the process id that one names, and which are already in printed form.
-use Rattle.std.proofs.Common.{◌≡◌, ◌<◌, ◌∷◌, ◌++◌, length, Option, Some, None, IfSome, sym, ap, ◌∙◌, arith}
-use Rattle.std.specs.Option.{option_map}
-use Rattle.syslog_pieces.specs.Bodies.Verbatim.{IsBareWord}
-use Rattle.syslog_pieces.specs.Pieces.Class.{Text, Front}
-use Rattle.syslog_pieces.specs.ProcId.{named_process, process_text, process_word}
+use Rattle.syslog_loose.proofs.Names.{◌≡◌, ◌<◌, ◌∷◌, ◌++◌, ◌∙◌, length, Option, Some, None, IfSome, sym, ap, arith}
+use Rattle.syslog_loose.proofs.Names.{option_map, IsBareWord, Text, Front, named_process, process_text, process_word}
+use Rattle.syslog_loose.proofs.Names.{bare_prints, named_names, word_stands}
 use Rattle.syslog_pieces.specs.Text.{word}
-use Rattle.syslog_pieces.proofs.ProcIdLemmas.{absent_front, bare_prints, process_front}
-use Rattle.syslog_pieces.proofs.ProcIdLemmas.Named.{named_names}
-use Rattle.syslog_pieces.proofs.TextLemmas.Verbatim.{word_stands}
+use Rattle.syslog_pieces.proofs.ProcIdLemmas.{absent_front, process_front}
 
 -- the process id that the word names is there
 pub process_named : {t q : Text} {v : Option Text} → Front word t q v

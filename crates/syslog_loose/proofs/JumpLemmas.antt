@@ -1,34 +1,26 @@
 -- What the readers of a skipped round give.
-use Rattle.syslog_loose.proofs.Names.{◌≡◌, ℕ, zero, suc, ◌+◌, ◌-◌, ◌<◌, true, false, subst, List, [], ◌∷◌, ◌++◌, length}
-use Rattle.syslog_loose.proofs.Names.{Option, None, refl, sym, ap, ◌∙◌, arith, append_assoc, append-nil}
+use Rattle.syslog_loose.proofs.Names.{◌≡◌, ◌+◌, ◌-◌, ◌<◌, ◌∷◌, ◌++◌, ◌∙◌, ◌≢◌, ℕ, zero, suc, true, false, subst, List}
+use Rattle.syslog_loose.proofs.Names.{[], length, Option, None, refl, sym, ap, arith, append_assoc, append-nil, Some}
 use Rattle.syslog_loose.proofs.Names.{nil_from_length, Bor, chars, encode_utf8_all, IsUtf8, chars_from_encodes}
-use Rattle.syslog_loose.proofs.Names.{encodes-append, encodes-chars, Text, Ends, Front, NoFront, exactly, some_run}
-use Rattle.syslog_loose.proofs.Names.{shown, is_blank, EndsInColon, name_text, colons, colons_before, past_colons}
-use Rattle.syslog_loose.proofs.Names.{CutsColons, EndsColons, IsDashed, PassesDashes, with_msg, MessageValue, tag_text}
-use Rattle.syslog_loose.proofs.Names.{priority_of, printed, IsRead, Variant, Dating, ElementValue, Some}
-use Rattle.syslog_loose.proofs.Names.{tail_text}
+use Rattle.syslog_loose.proofs.Names.{encodes-append, encodes-chars, Text, Ends, Front, NoFront, exactly, some_run, run}
+use Rattle.syslog_loose.proofs.Names.{shown, is_blank, EndsInColon, name_text, colon, colons, colons_before}
+use Rattle.syslog_loose.proofs.Names.{past_colons, CutsColons, EndsColons, IsDashed, PassesDashes, with_msg, tail_text}
+use Rattle.syslog_loose.proofs.Names.{MessageValue, tag_text, priority_of, printed, IsRead, Variant, Dating}
+use Rattle.syslog_loose.proofs.Names.{ElementValue, joined_elements, elements_text, MatchOption, RFC3164, begins}
+use Rattle.syslog_loose.proofs.Names.{EndsOnce, IsLater, front_same, run_det}
 use Rattle.std.proofs.Common.{zero-add, suc-add, add-zero, add-suc}
-use Rattle.std.specs.Prelude.{MatchOption}
+use Rattle.std.proofs.lemmas.List.{append_cancel_right}
+use Rattle.syslog_pieces.specs.Pieces.View.{Skips}
 use Rattle.std.specs.Str.Pattern.{FindsTextPrefix, FindsTextSuffix, StripsPrefix, StripsSuffix}
 use Rattle.std.specs.Option.{is_some}
-use Rattle.syslog_pieces.specs.Pieces.View.{Skips}
+use Rattle.syslog_pieces.proofs.TextLemmas.Chars.{chars_empty}
+use Rattle.std.specs.Char.{encode_utf8}
 use Rattle.syslog_loose.specs.Jumps.{message_end}
 use Rattle.syslog_loose.specs.Printed.{printed_3164}
-use Rattle.syslog_loose.specs.declared.message.Protocol.TheVariants.{RFC3164}
-use Rattle.syslog_pieces.proofs.TextLemmas.Chars.{chars_empty}
-use Rattle.syslog_pieces.proofs.PieceLemmas.Lists.{begins}
 use Rattle.syslog_loose.proofs.PriorityLemmas.{priority_small}
 use Rattle.syslog_loose.proofs.SettlingLemmas.Falls.{priority_again, printed_same}
 use Rattle.syslog_loose.proofs.ExceptionLemmas.{no_colon_end}
 use Rattle.syslog_loose.proofs.SettlingLemmas.Jumps.{colons_later}
-use Rattle.syslog_loose.specs.Passes.{EndsOnce, IsLater}
-use Rattle.syslog_pieces.specs.Pieces.Class.{run}
-use Rattle.syslog_pieces.specs.Text.{colon}
-use Rattle.syslog_pieces.proofs.PieceLemmas.Class.{front_same, run_det}
-use Rattle.std.proofs.Common.{◌≢◌}
-use Rattle.std.proofs.lemmas.List.{append_cancel_right}
-use Rattle.syslog_pieces.specs.StructuredData.Element.{joined_elements, elements_text}
-use Rattle.std.specs.Char.{encode_utf8}
 
 pub no_dash : (t : Text) → NoFront (exactly (45 ∷ [])) t → (rest : Text) → IsDashed t rest → ⊥
 no_dash t n rest d = n (45 ∷ []) (d.blanks ++ rest) tt d.whole refl

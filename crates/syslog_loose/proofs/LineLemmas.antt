@@ -1,16 +1,11 @@
 -- What is known of a line of RFC 3164 whose list is empty text.
-use Rattle.std.proofs.Common.{◌≡◌, ℕ, inl, inr, List, [], ◌∷◌, ◌++◌, length, length-append, Option, Some, None}
-use Rattle.std.proofs.Common.{refl, sym, ap, ◌∙◌, arith, true}
+use Rattle.syslog_loose.proofs.Names.{◌≡◌, ◌∷◌, ◌++◌, ◌∙◌, ℕ, inl, inr, List, [], length, length-append, Option, Some}
+use Rattle.syslog_loose.proofs.Names.{None, refl, sym, ap, arith, true, Text, Ends, Front, NoFront, optional, run}
+use Rattle.syslog_loose.proofs.Names.{ElementValue, elements_or, rfc3164_list, is_blank, front_same, run_det}
+use Rattle.syslog_loose.proofs.Names.{full_shorter, dash_rule}
 use Rattle.std.proofs.lemmas.Bool.{eqb-true}
 use Rattle.std.specs.Bool.{◌==◌}
 use Rattle.std.specs.Str.{chars}
-use Rattle.syslog_pieces.specs.Pieces.Class.{Text, Ends, Front, NoFront, optional, run}
-use Rattle.syslog_pieces.specs.StructuredData.Element.{ElementValue}
-use Rattle.syslog_pieces.specs.StructuredData.Rfc3164List.{elements_or, rfc3164_list}
-use Rattle.syslog_pieces.specs.Text.{is_blank}
-use Rattle.syslog_pieces.proofs.PieceLemmas.Class.{front_same, run_det}
-use Rattle.syslog_pieces.proofs.StructuredDataLemmas.Rfc3164List.{full_shorter}
-use Rattle.syslog_loose.specs.Reading.{dash_rule}
 
 -- no bytes are no text
 pub empty_text : (bs : List ℕ) → (length bs == 0) ≡ true → chars bs ≡ []

@@ -1,47 +1,32 @@
 -- What is read is printed in the characters of the text and of printable ASCII: what is read of one line, as one line.
-use Rattle.std.proofs.Common.{◌≡◌, ℕ, suc, pos, negsuc, ◌<◌, ◌≤◌, ◌^◌, inl, inr, Bool, true, nat_eq}
-use Rattle.std.proofs.Common.{nat_le, nat_lt, ◌&&◌, List, [], ◌∷◌, ◌++◌, length, Option, Some, None, IfSome, refl}
-use Rattle.std.proofs.Common.{sym, ap, subst, arith}
+use Rattle.syslog_loose.proofs.Names.{◌≡◌, ◌<◌, ◌≤◌, ◌^◌, ◌&&◌, ◌∷◌, ◌++◌, ℕ, suc, pos, negsuc, inl, inr, Bool, true}
+use Rattle.syslog_loose.proofs.Names.{nat_eq, List, [], length, Option, Some, None, IfSome, refl, sym, ap, subst, arith}
+use Rattle.syslog_loose.proofs.Names.{nat_tests, is_ascii_digit, is_whitespace, decimal, flat_map, AllByRecursion}
+use Rattle.syslog_loose.proofs.Names.{skip_leading_whitespace, drop_trailing_whitespace, Text, join, Each, IsPart}
+use Rattle.syslog_loose.proofs.Names.{AreInPieces, text_list, process_texts, ElementValue, param_text, element_text}
+use Rattle.syslog_loose.proofs.Names.{joined_elements, elements_text, element_texts, trimmed, name_text, Dating, ProcId}
+use Rattle.syslog_loose.proofs.Names.{PID, Name, OffsetTimestamp, each_map, each_front, each_behind, all_left}
+use Rattle.syslog_loose.proofs.Names.{all_right, each_append, part_joined, decimal_digits, IsBoundedProcess}
+use Rattle.syslog_loose.proofs.Names.{IsBoundedProtocol, MessageValue, message_texts, timestamp_text, spaced_elements}
+use Rattle.syslog_loose.proofs.Names.{tag_text, priority_of, printed, dash_rule, IsRead, IsRead3164, IsRead5424}
+use Rattle.syslog_loose.proofs.Names.{Variant}
+use Rattle.std.proofs.Common.{nat_le, nat_lt}
 use Rattle.std.proofs.Math.Utf8.{scalar, scalars, low_scalar}
 use Rattle.std.proofs.lemmas.Bool.{and_from, and_parts, cond_both}
-use Rattle.std.proofs.lemmas.Bool.Decides.{nat_tests}
-use Rattle.std.specs.Char.{is_ascii_digit, is_whitespace}
-use Rattle.std.specs.Fmt.{decimal}
-use Rattle.std.specs.List.{flat_map, AllByRecursion}
-use Rattle.std.specs.Str.{skip_leading_whitespace, drop_trailing_whitespace}
-use Rattle.syslog_pieces.specs.Pieces.Class.{Text, join, Each}
-use Rattle.syslog_pieces.specs.Pieces.Parts.{IsPart, AreInPieces, text_list, process_texts}
-use Rattle.syslog_pieces.specs.StructuredData.Element.{ElementValue, param_text, element_text, joined_elements}
-use Rattle.syslog_pieces.specs.StructuredData.Element.{elements_text, element_texts}
-use Rattle.syslog_pieces.specs.Text.{trimmed, name_text}
-use Rattle.syslog_pieces.specs.Timestamp.Zone.{Dating}
-use Rattle.syslog_pieces.specs.declared.procid.ProcId.{ProcId}
-use Rattle.syslog_pieces.specs.declared.procid.ProcId.TheVariants.{PID, Name}
-use Rattle.syslog_pieces.specs.declared.timestamp.OffsetTimestamp.{OffsetTimestamp}
-use Rattle.syslog_pieces.proofs.PieceLemmas.Each.{all_map, each_map, each_front, each_behind, all_left, all_right}
-use Rattle.syslog_pieces.proofs.PieceLemmas.Each.{each_append}
-use Rattle.syslog_pieces.proofs.PieceLemmas.Parts.{part_joined}
-use Rattle.syslog_pieces.proofs.TextLemmas.ReadBack.{decimal_digits}
+use Rattle.syslog_pieces.proofs.PieceLemmas.Each.{all_map}
 use Rattle.syslog_pieces.proofs.TimestampLemmas.Characters.{is_stamp_character, stamp_range}
 use Rattle.syslog_pieces.proofs.TimestampLemmas.Printing.{printed_stamp-characters}
-use Rattle.syslog_loose.specs.Canonical.{IsBoundedProcess, IsBoundedProtocol}
-use Rattle.syslog_loose.specs.Message.{MessageValue, message_texts}
 use Rattle.syslog_loose.specs.OneLine.{is_no_feed, IsOneLine}
-use Rattle.syslog_loose.specs.Printed.{timestamp_text, spaced_elements, tag_text, process_text, priority_of}
-use Rattle.syslog_loose.specs.Printed.{printed_3164, printed_5424, printed}
-use Rattle.syslog_loose.specs.Reading.{dash_rule, IsRead}
-use Rattle.syslog_loose.specs.Rfc3164.{IsRead3164}
-use Rattle.syslog_loose.specs.Rfc5424.{IsRead5424}
-use Rattle.syslog_loose.specs.declared.variant.Variant.{Variant}
+use Rattle.syslog_loose.specs.Printed.{process_text, printed_3164, printed_5424}
 use Rattle.syslog_loose.proofs.BoundLemmas.{read_as}
 use Rattle.syslog_loose.proofs.PriorityLemmas.{priority_small}
 use Rattle.syslog_loose.proofs.Rfc3164Lemmas.Apart.{digit_range}
 use Rattle.syslog_loose.proofs.Rfc3164Lemmas.Bounded.{read_bounded}
 use Rattle.syslog_loose.proofs.Rfc3164Lemmas.Near.{read_near}
-use Rattle.syslog_loose.proofs.Rfc3164Lemmas.Printed as rfc3164
 use Rattle.syslog_loose.proofs.Rfc3164Lemmas.Quoting.{quotes}
-use Rattle.syslog_loose.proofs.Rfc5424Lemmas as strict
 use Rattle.syslog_loose.proofs.Rfc5424Lemmas.ReadBack.{read_completed, printed_is}
+use Rattle.syslog_loose.proofs.Rfc3164Lemmas.Printed as rfc3164
+use Rattle.syslog_loose.proofs.Rfc5424Lemmas as strict
 
 -- the characters of printable ASCII
 abbrev pub is_ascii_print : ℕ → Bool

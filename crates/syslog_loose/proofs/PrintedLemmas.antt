@@ -1,13 +1,9 @@
 -- The bytes of printed messages.
-use Rattle.std.proofs.Common.{◌≡◌, ℕ, ◌<◌, List, [], ◌∷◌, ◌++◌, append_assoc, length, refl, sym, ap, ◌∙◌, arith}
-use Rattle.std.proofs.lemmas.Str.{encodes-append}
+use Rattle.syslog_loose.proofs.Names.{◌≡◌, ◌<◌, ◌∷◌, ◌++◌, ◌∙◌, ℕ, List, [], append_assoc, length, refl, sym, ap, arith}
+use Rattle.syslog_loose.proofs.Names.{encodes-append, decimal, encode_utf8_all, Text, ElementValue, encodes-decimal}
+use Rattle.syslog_loose.proofs.Names.{spaced_elements}
 use Rattle.std.specs.Char.{encode_utf8}
-use Rattle.std.specs.Fmt.{decimal}
-use Rattle.std.specs.Str.{encode_utf8_all}
-use Rattle.syslog_pieces.specs.Pieces.Class.{Text}
-use Rattle.syslog_pieces.specs.StructuredData.Element.{ElementValue}
-use Rattle.syslog_pieces.proofs.TextLemmas.Decimals.{encodes-decimal}
-use Rattle.syslog_loose.specs.Printed.{joined_elements, spaced_elements}
+use Rattle.syslog_loose.specs.Printed.{joined_elements}
 
 -- writes in writes, joined
 joined : (a b c d e f g : List ℕ)

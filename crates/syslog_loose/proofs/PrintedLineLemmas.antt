@@ -1,23 +1,14 @@
 -- The bytes of a printed line: its front, and the rest, field by field.
-use Rattle.std.proofs.Common.{◌≡◌, ◌≢◌, ℕ, List, [], ◌∷◌, ◌++◌, Option, Some, None, append_assoc, refl, sym, ap, ◌∙◌}
-use Rattle.std.proofs.lemmas.Str.{encodes-append}
+use Rattle.syslog_loose.proofs.Names.{◌≡◌, ◌≢◌, ◌∷◌, ◌++◌, ◌∙◌, ℕ, List, [], Option, Some, None, append_assoc, refl}
+use Rattle.syslog_loose.proofs.Names.{sym, ap, encodes-append, decimal, encode_utf8_all, Text, ElementValue}
+use Rattle.syslog_loose.proofs.Names.{elements_text, joined_elements, clock_value, stamp_seen, ClockStamp}
+use Rattle.syslog_loose.proofs.Names.{encodes-decimal, printed_stamp-bytes, line_value, protocol_of, MessageValue}
+use Rattle.syslog_loose.proofs.Names.{printed, priority_of, rest_text, spaced_elements, timestamp_text, Line, RFC3164}
 use Rattle.std.specs.Char.{encode_utf8}
-use Rattle.std.specs.Fmt.{decimal}
-use Rattle.std.specs.Str.{encode_utf8_all}
 use Rattle.syslog_pieces.specs.Front.{clock_text, front_text}
-use Rattle.syslog_pieces.specs.Pieces.Class.{Text}
-use Rattle.syslog_pieces.specs.StructuredData.Element.{ElementValue, elements_text, joined_elements}
-use Rattle.syslog_pieces.specs.Timestamp.{clock_value, stamp_seen}
-use Rattle.syslog_pieces.specs.declared.timestamp.clock.ClockStamp.{ClockStamp}
-use Rattle.syslog_pieces.proofs.TextLemmas.Decimals.{encodes-decimal}
-use Rattle.syslog_pieces.proofs.TimestampLemmas.Printing.{printed_stamp-bytes}
 use Rattle.syslog_loose.specs.Formats.{printed_number}
-use Rattle.syslog_loose.specs.Line.{line_value, protocol_of}
-use Rattle.syslog_loose.specs.Message.{MessageValue}
-use Rattle.syslog_loose.specs.Printed.{printed, printed_3164, printed_5424, priority_of, rest_3164, rest_5424, rest_text, spaced_elements}
-use Rattle.syslog_loose.specs.Printed.{timestamp_text}
-use Rattle.syslog_loose.specs.declared.line.Line.{Line}
-use Rattle.syslog_loose.specs.declared.message.Protocol.TheVariants.{RFC3164, RFC5424}
+use Rattle.syslog_loose.specs.Printed.{printed_3164, printed_5424, rest_3164, rest_5424}
+use Rattle.syslog_loose.specs.declared.message.Protocol.TheVariants.{RFC5424}
 
 -- ---- the rest
 

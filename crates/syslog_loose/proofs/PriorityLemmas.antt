@@ -1,14 +1,10 @@
 -- The priority that each printed text begins with.
-use Rattle.syslog_loose.proofs.Names.{◌≡◌, ℕ, ◌<◌, ◌≤◌, [], ◌∷◌, ◌++◌, Option, None, refl, arith, append_assoc}
-use Rattle.syslog_loose.proofs.Names.{option_map_or, drop_trailing_whitespace, Text, Front, exactly, piece_front}
-use Rattle.syslog_loose.proofs.Names.{row_of, ◌then◌, MessageValue, priority_of, Some}
-use Rattle.std.specs.Fmt.{decimal}
-use Rattle.syslog_pieces.specs.Pri.{priority_row, priority, facility_number, severity_number}
-use Rattle.syslog_pieces.specs.Text.{number}
-use Rattle.syslog_pieces.specs.declared.pri.SyslogFacility.{SyslogFacility}
-use Rattle.syslog_pieces.specs.declared.pri.SyslogSeverity.{SyslogSeverity}
+use Rattle.syslog_loose.proofs.Names.{◌≡◌, ◌<◌, ◌≤◌, ◌∷◌, ◌++◌, ◌then◌, ℕ, [], Option, None, refl, arith, append_assoc}
+use Rattle.syslog_loose.proofs.Names.{Some, option_map_or, drop_trailing_whitespace, Text, Front, exactly, piece_front}
+use Rattle.syslog_loose.proofs.Names.{row_of, MessageValue, priority_of, decimal, priority, facility_number}
+use Rattle.syslog_loose.proofs.Names.{severity_number, number, SyslogFacility, SyslogSeverity, number_back}
+use Rattle.syslog_pieces.specs.Pri.{priority_row}
 use Rattle.syslog_pieces.proofs.PriLemmas.{as_priority, facility_low, severity_low}
-use Rattle.syslog_pieces.proofs.TextLemmas.ReadBack.{number_back}
 use Rattle.syslog_loose.proofs.TrimLemmas.{last_append, drop_after}
 
 facility_or : (f : Option SyslogFacility) → option_map_or facility_number f 5 < 24

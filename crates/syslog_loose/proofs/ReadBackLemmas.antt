@@ -1,31 +1,19 @@
 -- The printed text of a message, read under `Either` or the message's own variant.
-use Rattle.std.proofs.Common.{◌≡◌, ℕ, ◌↔◌, inl, inr, ℤ, List, Option, Result, Ok, Err, refl, sym, ap, subst, ◌∙◌}
-use Rattle.std.proofs.lemmas.Str.{encodes-chars}
-use Rattle.std.specs.Prelude.{IfOk, MatchResult, String, string_bytes}
-use Rattle.std.specs.Str.{chars, IsUtf8, encode_utf8_all}
-use Rattle.std.specs.Global.{Global}
-use Rattle.std.specs.Borrow.{Bor}
-use Rattle.jiff.specs.declared.tz.timezone.TimeZone.{TimeZone}
-use Rattle.syslog_pieces.specs.Pieces.Class.{Text}
-use Rattle.syslog_pieces.specs.Timestamp.Zone.{Dating, dating_of}
-use Rattle.syslog_loose.specs.Canonical.{IsBounded, IsCanonical}
-use Rattle.syslog_loose.specs.Message.{MessageValue}
-use Rattle.syslog_loose.specs.Printed.{printed}
-use Rattle.syslog_loose.specs.ReadBack.{ReadsProtocol, AnswersItself, FieldsAsRead, IsFixed, AnswersAgain}
-use Rattle.syslog_loose.specs.Reading.{dash_rule, IsRead, IsOnlyRead, IsUnreadable, Answers}
-use Rattle.syslog_loose.specs.Reading.{IncompleteDate, IsYearAnswered, InYear}
-use Rattle.syslog_loose.specs.Rfc5424.{IsNot5424}
-use Rattle.syslog_loose.specs.declared.fault.ParseFault.{ParseFault}
-use Rattle.syslog_loose.specs.declared.fault.ParseFault.TheVariants.{Invalid, Memory}
-use Rattle.syslog_loose.specs.declared.message.Protocol.{Protocol}
-use Rattle.syslog_loose.specs.declared.message.Protocol.TheVariants as protocol
-use Rattle.syslog_loose.specs.declared.variant.Variant.{Variant}
-use Rattle.syslog_loose.specs.declared.variant.Variant.TheVariants.{Either, RFC3164, RFC5424}
+use Rattle.syslog_loose.proofs.Names.{◌≡◌, ◌↔◌, ◌∙◌, ℕ, inl, inr, ℤ, List, Option, Result, Ok, Err, refl, sym, ap}
+use Rattle.syslog_loose.proofs.Names.{subst, encodes-chars, IfOk, String, string_bytes, chars, IsUtf8, encode_utf8_all}
+use Rattle.syslog_loose.proofs.Names.{Global, Bor, TimeZone, Text, Dating, dating_of, IsBounded, IsCanonical}
+use Rattle.syslog_loose.proofs.Names.{MessageValue, printed, ReadsProtocol, IsFixed, dash_rule, IsRead, IsOnlyRead}
+use Rattle.syslog_loose.proofs.Names.{IsUnreadable, Answers, IncompleteDate, InYear, IsNot5424, ParseFault, Invalid}
+use Rattle.syslog_loose.proofs.Names.{Memory, Protocol, Variant, Either, RFC5424}
+use Rattle.std.specs.Prelude.{MatchResult}
+use Rattle.syslog_loose.specs.ReadBack.{AnswersItself, FieldsAsRead, AnswersAgain}
+use Rattle.syslog_loose.specs.declared.variant.Variant.TheVariants.{RFC3164}
 use Rattle.syslog_loose.proofs.BoundLemmas.{read_as}
 use Rattle.syslog_loose.proofs.ReadingLemmas.{Found, value, in_year_map}
 use Rattle.syslog_loose.proofs.Rfc3164Lemmas.Exact.{rfc3164_exact}
 use Rattle.syslog_loose.proofs.Rfc3164Lemmas.Near.{read_near, read_nearly, stamp_read}
 use Rattle.syslog_loose.proofs.Rfc3164Lemmas.Printed.{printed_is, printed_apart}
+use Rattle.syslog_loose.specs.declared.message.Protocol.TheVariants as protocol
 use Rattle.syslog_loose.proofs.Rfc3164Lemmas.Again as as_rfc3164
 use Rattle.syslog_loose.proofs.Rfc5424Lemmas.ReadBack as rfc5424
 

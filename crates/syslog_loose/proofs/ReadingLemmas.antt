@@ -1,26 +1,17 @@
 -- What the reading calls return.
-use Rattle.std.proofs.Common.{◌≡◌, ◌≢◌, inl, inr, ℕ, ℤ, List, Option, Some, None, w32}
-use Rattle.std.proofs.Common.{SFits, to_z, of_z, refl, sym, ap, subst, ◌∙◌}
+use Rattle.syslog_loose.proofs.Names.{◌≡◌, ◌≢◌, ◌∙◌, inl, inr, ℕ, ℤ, List, Option, Some, None, w32, to_z, of_z, refl}
+use Rattle.syslog_loose.proofs.Names.{sym, ap, subst, MatchOption, IsSomeAnd, Bor, TimeZone, Text, shown, Dating}
+use Rattle.syslog_loose.proofs.Names.{dating_of, MonthDate, MessageValue, message_value, dash_rule, IsRead, IsOnlyRead}
+use Rattle.syslog_loose.proofs.Names.{IncompleteDate, incomplete, AsksYear, IsYearAnswered, InYear, IsRead5424, Invalid}
+use Rattle.syslog_loose.proofs.Names.{Memory, Variant, Either, RFC5424}
+use Rattle.std.proofs.Common.{SFits}
 use Rattle.std.proofs.lemmas.Int.{to_z-of_z}
-use Rattle.std.specs.Prelude.{MatchOption, IsSomeAnd}
-use Rattle.std.specs.Borrow.{Bor}
-use Rattle.jiff.specs.declared.tz.timezone.TimeZone.{TimeZone}
-use Rattle.syslog_pieces.specs.Pieces.Class.{Text}
-use Rattle.syslog_pieces.specs.Pieces.View.{shown}
-use Rattle.syslog_pieces.specs.Timestamp.Zone.{Dating, dating_of}
-use Rattle.syslog_pieces.specs.declared.timestamp.month_date.MonthDate.{MonthDate}
-use Rattle.syslog_loose.specs.Message.{MessageValue, message_value}
-use Rattle.syslog_loose.specs.Reading.{dash_rule, IsRead, IsOnlyRead, IsQuoted, Answers}
-use Rattle.syslog_loose.specs.Reading.{IncompleteDate, incomplete, AsksYear, IsYearAnswered, InYear}
-use Rattle.syslog_loose.specs.Rfc5424.{IsRead5424}
+use Rattle.syslog_loose.specs.Reading.{IsQuoted}
 use Rattle.syslog_loose.specs.declared.message.Message.{Message}
-use Rattle.syslog_loose.specs.declared.fault.ParseFault.{ParseFault}
-use Rattle.syslog_loose.specs.declared.fault.ParseFault.TheVariants.{Invalid, Memory}
-use Rattle.syslog_loose.specs.declared.variant.Variant.{Variant}
-use Rattle.syslog_loose.specs.declared.variant.Variant.TheVariants.{Either, RFC3164, RFC5424}
+use Rattle.syslog_loose.specs.declared.variant.Variant.TheVariants.{RFC3164}
+use Rattle.syslog_loose.proofs.Rfc3164Lemmas.Years.{other_read}
 use Rattle.syslog_loose.proofs.Rfc3164Lemmas.Quoting as rfc3164
 use Rattle.syslog_loose.proofs.Rfc3164Lemmas.Unique as rfc3164_unique
-use Rattle.syslog_loose.proofs.Rfc3164Lemmas.Years.{other_read}
 use Rattle.syslog_loose.proofs.Rfc5424Lemmas as strict
 
 abbrev pub Found : Type 0

@@ -1,14 +1,10 @@
 -- A text has one dating.
-use Rattle.std.proofs.Common.{◌≡◌, ℕ, ℤ, Option, Some, None, ap, refl, sym, ◌∙◌}
+use Rattle.syslog_loose.proofs.Names.{◌≡◌, ◌∙◌, ℕ, ℤ, Option, Some, None, ap, refl, sym, Text, Dating, MonthDate}
+use Rattle.syslog_loose.proofs.Names.{AsksYear, IncompleteDate, IsYearAnswered, incomplete, Variant, Either, RFC5424}
 use Rattle.jiff.specs.Types.{TimeZone}
-use Rattle.syslog_pieces.specs.Pieces.Class.{Text}
-use Rattle.syslog_pieces.specs.Timestamp.Zone.{Dating}
-use Rattle.syslog_pieces.specs.declared.timestamp.month_date.MonthDate.{MonthDate}
 use Rattle.syslog_pieces.proofs.TimestampLemmas.MonthDate.{shown_once}
-use Rattle.syslog_loose.specs.Reading.{AsksYear, IncompleteDate, InYear, IsYearAnswered, incomplete}
 use Rattle.syslog_loose.specs.Reckoning.{InDating, dating_in, reckoned_year}
-use Rattle.syslog_loose.specs.declared.variant.Variant.{Variant}
-use Rattle.syslog_loose.specs.declared.variant.Variant.TheVariants.{Either, RFC3164, RFC5424}
+use Rattle.syslog_loose.specs.declared.variant.Variant.TheVariants.{RFC3164}
 
 asked_once : (variant : Variant) (text : Text) (d e : MonthDate) → AsksYear variant text d → AsksYear variant text e
     → d ≡ e

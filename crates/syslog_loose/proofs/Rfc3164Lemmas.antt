@@ -16,14 +16,8 @@ pub mod Stamped
 pub mod Unique
 pub mod Whole
 pub mod Years
-use Rattle.std.proofs.Common.{◌≡◌, ◌⊎◌, inl, inr, Option, Some, None, sym, ◌∙◌}
-use Rattle.std.specs.Option.{unwrap_or}
-use Rattle.syslog_pieces.specs.Pieces.Class.{Text}
-use Rattle.syslog_pieces.specs.ProcId.{NamesProcess}
-use Rattle.syslog_pieces.specs.declared.procid.ProcId.{ProcId}
-use Rattle.syslog_pieces.proofs.ProcIdLemmas.{process_same}
-use Rattle.syslog_loose.specs.Rfc3164.{Names3164, names, Resolves}
-use Rattle.syslog_loose.specs.TagForm.{IsForm, IsNoForm}
+use Rattle.syslog_loose.proofs.Names.{◌≡◌, ◌⊎◌, ◌∙◌, inl, inr, Option, Some, None, sym, unwrap_or, Text, NamesProcess}
+use Rattle.syslog_loose.proofs.Names.{ProcId, process_same, Names3164, names, Resolves, IsForm, IsNoForm}
 use Rattle.syslog_loose.proofs.TagFormLemmas.{one_form}
 
 -- the text is of the form `tag[id]` and names that program beside this host, or it names these

@@ -1,44 +1,28 @@
 -- What the pieces at the front of a text say of its readings.
-use Rattle.std.proofs.Common.{◌≡◌, ◌≢◌, inl, inr, ℕ, ℤ, List, Option, Some, None, Err, false}
-use Rattle.std.proofs.Common.{true, refl, sym, ap}
-use Rattle.std.proofs.Common.{subst, ◌∙◌, arith}
-use Rattle.std.specs.Borrow.{Bor}
-use Rattle.std.specs.Prelude.{◌↔◌, MatchOption, IsSome, IsSomeAnd}
-use Rattle.syslog_pieces.specs.Pieces.View.{shown, Reads}
-use Rattle.syslog_pieces.specs.Pieces.Class.{Text, Class, Front, NoFront, run, optional}
-use Rattle.syslog_pieces.specs.Pri.{priority}
-use Rattle.syslog_pieces.specs.Text.{trimmed, is_blank}
-use Rattle.syslog_pieces.specs.Timestamp.{IsAnswer, clock_value, header_stamp, stamp_seen}
-use Rattle.syslog_pieces.specs.Timestamp.Rfc3164.{rfc3164_stamp, ShowsYearless, ShowsMonthDate}
-use Rattle.syslog_pieces.specs.Timestamp.MonthDate.{yearless_date, month_date}
-use Rattle.syslog_pieces.specs.Timestamp.Zone.{Dating, IsMonthStamp}
-use Rattle.syslog_pieces.specs.declared.timestamp.clock.ClockStamp.{ClockStamp}
-use Rattle.syslog_pieces.specs.declared.timestamp.month_date.MonthDate.{MonthDate}
-use Rattle.syslog_pieces.proofs.PieceLemmas.Class.{front_same, optional_det, run_det}
-use Rattle.syslog_pieces.proofs.PieceLemmas.Kinds.{Begins, begins_apart}
-use Rattle.syslog_pieces.proofs.PieceLemmas.Rows.{row_of, ◌then◌, no_row, ◌past◌}
-use Rattle.syslog_pieces.proofs.PriLemmas.{priority_det}
-use Rattle.syslog_pieces.proofs.TextLemmas.Runs.{some_front_run}
-use Rattle.syslog_pieces.proofs.TimestampLemmas.MonthDate.{month_date_begins}
-use Rattle.syslog_pieces.proofs.TimestampLemmas.Months.{IsLetter}
-use Rattle.syslog_pieces.proofs.TimestampLemmas.Rfc3164.{IsLow, date_front, header_front, header_stamp_begins, no_date}
+use Rattle.syslog_loose.proofs.Names.{◌≡◌, ◌≢◌, ◌∙◌, ◌↔◌, ◌then◌, ◌past◌, inl, inr, ℕ, ℤ, List, Option, Some, None, Err}
+use Rattle.syslog_loose.proofs.Names.{false, true, refl, sym, ap, subst, arith, Bor, MatchOption, IsSome, IsSomeAnd}
+use Rattle.syslog_loose.proofs.Names.{shown, Text, Class, Front, NoFront, run, optional, priority, trimmed, is_blank}
+use Rattle.syslog_loose.proofs.Names.{clock_value, header_stamp, stamp_seen, rfc3164_stamp, ShowsYearless}
+use Rattle.syslog_loose.proofs.Names.{ShowsMonthDate, yearless_date, month_date, Dating, ClockStamp, MonthDate}
+use Rattle.syslog_loose.proofs.Names.{front_same, optional_det, run_det, Begins, begins_apart, row_of, no_row}
+use Rattle.syslog_loose.proofs.Names.{priority_det, some_front_run, month_date_begins, IsLetter, IsLow, ReadsProtocol}
+use Rattle.syslog_loose.proofs.Names.{dash_rule, incomplete, Answers, AsksYear, IncompleteDate, IsLeftTo3164, HasMonth}
+use Rattle.syslog_loose.proofs.Names.{IsYearAnswered, stamped_row, IsNot3164, IsNot5424, IsBehindPriority}
+use Rattle.syslog_loose.proofs.Names.{BeginsWithout, Invalid, Variant, Either, RFC5424}
+use Rattle.syslog_pieces.specs.Pieces.View.{Reads}
+use Rattle.syslog_pieces.specs.Timestamp.{IsAnswer}
+use Rattle.syslog_pieces.specs.Timestamp.Zone.{IsMonthStamp}
+use Rattle.syslog_pieces.proofs.TimestampLemmas.Rfc3164.{date_front, header_front, header_stamp_begins, no_date}
 use Rattle.syslog_pieces.proofs.TimestampLemmas.Rfc3164.{no_stamp_of_date}
-use Rattle.syslog_loose.specs.ReadBack.{ReadsProtocol}
-use Rattle.syslog_loose.specs.Reading.{dash_rule, incomplete, Answers, AsksYear, IncompleteDate, IsLeftTo3164, HasMonth}
-use Rattle.syslog_loose.specs.Reading.{IsYearAnswered}
-use Rattle.syslog_loose.specs.Rfc3164.{stamped_row, IsNot3164}
-use Rattle.syslog_loose.specs.Rfc5424.{IsNot5424}
-use Rattle.syslog_loose.specs.Start.{IsBehindPriority, BeginsWith, BeginsWithout}
+use Rattle.syslog_loose.specs.Start.{BeginsWith}
 use Rattle.syslog_loose.specs.View3164.{IsBehindStamp}
-use Rattle.syslog_loose.specs.declared.fault.ParseFault.TheVariants.{Invalid}
-use Rattle.syslog_loose.specs.declared.message.Protocol.TheVariants as protocol
-use Rattle.syslog_loose.specs.declared.variant.Variant.{Variant}
-use Rattle.syslog_loose.specs.declared.variant.Variant.TheVariants.{Either, RFC3164, RFC5424}
+use Rattle.syslog_loose.specs.declared.variant.Variant.TheVariants.{RFC3164}
 use Rattle.syslog_loose.proofs.ReadingLemmas.{answered_to}
 use Rattle.syslog_loose.proofs.Rfc3164Lemmas.Apart.{shown_apart}
 use Rattle.syslog_loose.proofs.Rfc3164Lemmas.Reading.{not_read}
 use Rattle.syslog_loose.proofs.Rfc3164Lemmas.Shown.{date_has_month, shows_month_date, shown_once, shown_parts, shows}
 use Rattle.syslog_loose.proofs.Rfc3164Lemmas.Unique.{stamped_det}
+use Rattle.syslog_loose.specs.declared.message.Protocol.TheVariants as protocol
 
 -- what a reader of pieces after blanks returns
 pub front_read : {X : Type 0} (C : Class) (view : X → C.Value) (variant : Variant) (t start : Text)

@@ -1,17 +1,15 @@
 -- The form `tag[id]`: a text is of it in one way, and what its reader finds.
-use Rattle.std.proofs.Common.{◌≡◌, ◌≢◌, ℕ, ◌<◌, List, [], ◌∷◌, ◌++◌, length, refl, ap, ◌∙◌, arith}
-use Rattle.std.specs.Str.{chars, IsAscii}
-use Rattle.syslog_pieces.specs.Pieces.Class.{Text, Class, Values, Front, NoFront, Row, run, some_run, exactly, texted}
+use Rattle.syslog_loose.proofs.Names.{◌≡◌, ◌≢◌, ◌<◌, ◌∷◌, ◌++◌, ◌∙◌, ◌also◌, ℕ, List, [], length, refl, ap, arith}
+use Rattle.syslog_loose.proofs.Names.{chars, Text, Class, Values, Front, NoFront, Row, run, some_run, exactly, texted}
+use Rattle.syslog_loose.proofs.Names.{is_label_char, is_open_char, AllDeterministic, unique_division, division_front}
+use Rattle.syslog_loose.proofs.Names.{exactly_det, run_det, some_run_det, no_texted, no_row_division, all_joined}
+use Rattle.syslog_loose.proofs.Names.{rows_step, one_ascii, form_row, IsForm, IsNoForm, row_pieces, no_row}
+use Rattle.std.specs.Str.{IsAscii}
 use Rattle.syslog_pieces.specs.Bodies.Scan.{SplitsRun}
-use Rattle.syslog_pieces.specs.Text.CharClass.{is_label_char, is_open_char}
-use Rattle.syslog_pieces.proofs.PieceLemmas.Class.{AllDeterministic, unique_division, division_front}
-use Rattle.syslog_pieces.proofs.PieceLemmas.Class.{exactly_det, run_det, some_run_det, texted_det, no_texted}
-use Rattle.syslog_pieces.proofs.PieceLemmas.Class.{no_row_division, all_joined, ◌also◌}
-use Rattle.syslog_pieces.proofs.PieceLemmas.Steps.{rows_step}
-use Rattle.syslog_pieces.proofs.TextLemmas.Chars.{chars_nonempty, one_ascii}
+use Rattle.syslog_pieces.proofs.PieceLemmas.Class.{texted_det}
+use Rattle.syslog_pieces.proofs.TextLemmas.Chars.{chars_nonempty}
 use Rattle.syslog_pieces.proofs.TextLemmas.Runs.{no_some_run}
-use Rattle.syslog_loose.specs.TagForm.{form_row, IsForm, IsNoForm}
-use Rattle.syslog_pieces.proofs.PieceLemmas.Rows.{Fails, row_pieces, no_row}
+use Rattle.syslog_pieces.proofs.PieceLemmas.Rows.{Fails}
 
 abbrev pub label : Class
 label = texted (run is_label_char)

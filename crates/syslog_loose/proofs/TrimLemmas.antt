@@ -1,21 +1,13 @@
 -- What trimming leaves of a text: all of it but white space at its end.
-use Rattle.std.proofs.Common.{◌≡◌, ℕ, ◌<◌, inl, inr, Bool, true, false, cond, not, ◌&&◌, nat_eq, Option, Some, None}
-use Rattle.std.proofs.Common.{List, [], ◌∷◌, ◌++◌, length, refl, sym, ap, subst, ◌∙◌, arith, append_assoc, append-nil}
-use Rattle.std.specs.List.{flat_map}
-use Rattle.std.proofs.lemmas.Bool.Decides.{nat_tests}
-use Rattle.std.specs.Char.{is_whitespace, is_not_whitespace}
-use Rattle.std.specs.Str.{drop_trailing_whitespace}
-use Rattle.syslog_pieces.specs.Pieces.Class.{Text, Class, Values, Front, Row, Each, Ends, run, rest}
-use Rattle.syslog_pieces.specs.Pieces.Format.{Format, classes, printed_row}
-use Rattle.syslog_pieces.specs.StructuredData.Element.{ElementValue, param_text, element_text, joined_elements}
-use Rattle.syslog_pieces.specs.StructuredData.Element.{elements_text}
-use Rattle.syslog_pieces.specs.declared.timestamp.OffsetTimestamp.{OffsetTimestamp}
-use Rattle.syslog_pieces.proofs.PieceLemmas.Class.{row_head, rest_whole}
-use Rattle.syslog_pieces.proofs.PieceLemmas.Rows.{row_pieces}
+use Rattle.syslog_loose.proofs.Names.{◌≡◌, ◌<◌, ◌&&◌, ◌∷◌, ◌++◌, ◌∙◌, ℕ, inl, inr, Bool, true, false, cond, not, nat_eq}
+use Rattle.syslog_loose.proofs.Names.{Option, Some, None, List, [], length, refl, sym, ap, subst, arith, append_assoc}
+use Rattle.syslog_loose.proofs.Names.{append-nil, flat_map, nat_tests, is_whitespace, is_not_whitespace}
+use Rattle.syslog_loose.proofs.Names.{drop_trailing_whitespace, Text, Class, Values, Front, Row, Each, Ends, run, rest}
+use Rattle.syslog_loose.proofs.Names.{classes, printed_row, ElementValue, param_text, element_text, joined_elements}
+use Rattle.syslog_loose.proofs.Names.{elements_text, OffsetTimestamp, row_head, rest_whole, row_pieces}
+use Rattle.syslog_loose.proofs.Names.{printed_stamp-visible, printed_stamp-begins, timestamp_text, is_blank}
+use Rattle.syslog_pieces.specs.Pieces.Format.{Format}
 use Rattle.syslog_pieces.proofs.PieceLemmas.Formats.{printed_more}
-use Rattle.syslog_pieces.proofs.TimestampLemmas.RoundTrip.{printed_stamp-visible, printed_stamp-begins}
-use Rattle.syslog_loose.specs.Printed.{timestamp_text}
-use Rattle.syslog_pieces.specs.Text.{is_blank}
 use Rattle.syslog_loose.specs.Canonical.{EndsVisibly}
 unfoldable pub use Rattle.syslog_loose.specs.Jumps.{message_end}
 

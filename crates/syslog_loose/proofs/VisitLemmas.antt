@@ -1,31 +1,20 @@
 -- What is made of a text by way of its line, in a year, and by which protocol it was read.
-use Rattle.std.proofs.Common.{◌≡◌, ◌≢◌, ◌∙◌, inr, ℕ, ℤ, List, [], Option, Some, None, Result, Ok, Err, ap, subst, sym}
-use Rattle.std.proofs.Common.{append-nil, refl}
-use Rattle.std.specs.Borrow.{Bor}
-use Rattle.jiff.specs.declared.tz.timezone.TimeZone.{TimeZone}
-use Rattle.syslog_pieces.specs.Pieces.Class.{Text}
-use Rattle.syslog_pieces.specs.Pieces.View.{shown}
+use Rattle.syslog_loose.proofs.Names.{◌≡◌, ◌≢◌, ◌∙◌, inr, ℕ, ℤ, List, [], Option, Some, None, Result, Ok, Err, ap}
+use Rattle.syslog_loose.proofs.Names.{subst, sym, append-nil, refl, Bor, TimeZone, Text, shown, ElementValue}
+use Rattle.syslog_loose.proofs.Names.{list_elements, Dating, dating_of, DashRule, MonthDate, line_value, protocol_of}
+use Rattle.syslog_loose.proofs.Names.{MessageValue, message_value, dash_rule, Answers, AsksYear, InYear, IncompleteDate}
+use Rattle.syslog_loose.proofs.Names.{IsLeftTo3164, IsOnlyRead, IsRead, IsUnreadable, IsYearAnswered, IsRead3164}
+use Rattle.syslog_loose.proofs.Names.{IsRead5424, IsLineOf, Made, ParseFault, Line, Variant, Either, RFC5424}
 use Rattle.syslog_pieces.specs.StructuredData.Collected.{HasCollected}
-use Rattle.syslog_pieces.specs.StructuredData.Element.{ElementValue}
-use Rattle.syslog_pieces.specs.StructuredData.Visited.{Visits, list_elements}
-use Rattle.syslog_pieces.specs.Timestamp.Zone.{Dating, dating_of}
+use Rattle.syslog_pieces.specs.StructuredData.Visited.{Visits}
 use Rattle.syslog_pieces.specs.declared.structured_data.collect.Collect.{Collect}
-use Rattle.syslog_pieces.specs.declared.structured_data.rfc3164_list.DashRule.{DashRule}
-use Rattle.syslog_pieces.specs.declared.timestamp.month_date.MonthDate.{MonthDate}
-use Rattle.syslog_loose.specs.Line.{line_value, protocol_of}
-use Rattle.syslog_loose.specs.Message.{MessageValue, message_value, with_elements}
-use Rattle.syslog_loose.specs.Reading.{dash_rule, Answers, AsksYear, InYear, IncompleteDate, IsLeftTo3164, IsOnlyRead, IsRead}
-use Rattle.syslog_loose.specs.Reading.{IsFault, IsUnreadable, IsYearAnswered}
-use Rattle.syslog_loose.specs.Rfc3164.{IsRead3164}
-use Rattle.syslog_loose.specs.Rfc5424.{IsRead5424}
-use Rattle.syslog_loose.specs.Visit.{HasRest, IsCompleted, IsLineOf, Made}
-use Rattle.syslog_loose.specs.declared.fault.ParseFault.{ParseFault}
-use Rattle.syslog_loose.specs.declared.line.Line.{Line}
-use Rattle.syslog_loose.specs.declared.message.Protocol.TheVariants as protocol
-use Rattle.syslog_loose.specs.declared.variant.Variant.{Variant}
-use Rattle.syslog_loose.specs.declared.variant.Variant.TheVariants.{Either, RFC3164, RFC5424}
+use Rattle.syslog_loose.specs.Message.{with_elements}
+use Rattle.syslog_loose.specs.Reading.{IsFault}
+use Rattle.syslog_loose.specs.Visit.{HasRest, IsCompleted}
+use Rattle.syslog_loose.specs.declared.variant.Variant.TheVariants.{RFC3164}
 use Rattle.syslog_loose.proofs.ReadingLemmas.{Found, any_year, in_answered_year, only_read, strictly}
 use Rattle.syslog_loose.proofs.Rfc3164Lemmas.Years.{other_stamped}
+use Rattle.syslog_loose.specs.declared.message.Protocol.TheVariants as protocol
 
 -- what RFC 3164 reads, each variant reads that is left to try it
 pub reads_so : (variant : Variant) (dating : Dating) (text : Text) (m : MessageValue) → IsLeftTo3164 variant text

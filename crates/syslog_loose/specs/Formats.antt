@@ -1,16 +1,12 @@
 -- The pieces of RFC 5424 as formats: how each is read, how it is printed, and what is read back from print.
-use Rattle.std.specs.Prelude.{◌≡◌, ℕ, ◌+◌, ◌*◌, ◌<◌, ◌≤◌, List, [], ◌∷◌, Option, IfSome}
+use Rattle.std.specs.Prelude.{◌≡◌, ℕ, ◌+◌, ◌*◌, ◌≤◌, List, [], ◌∷◌, Option, IfSome}
 use Rattle.std.specs.Char.{is_ascii_digit, is_not_whitespace}
 use Rattle.std.specs.Fmt.{decimal}
-use Rattle.std.specs.List.{AllByRecursion}
 use Rattle.std.specs.Option.{option_and_then, option_map_or}
-use Rattle.syslog_pieces.specs.Pieces.Class.{Text, Class, Ends, NoFront, optional, run, some_run}
+use Rattle.syslog_pieces.specs.Pieces.Class.{Text, Class, Ends, some_run}
 use Rattle.syslog_pieces.specs.Pieces.Format.{Format}
-use Rattle.syslog_pieces.specs.Pri.{priority, priority_text, facility_of, severity_of, facility_number, severity_number}
+use Rattle.syslog_pieces.specs.Pri.{facility_of, severity_of, facility_number, severity_number}
 use Rattle.syslog_pieces.specs.ProcId.{process_word, process_text, IsCanonicalProcess, IsBoundedProcess}
-use Rattle.syslog_pieces.specs.StructuredData.{forgiving, item}
-use Rattle.syslog_pieces.specs.StructuredData.Canonical.{IsCanonicalElement}
-use Rattle.syslog_pieces.specs.StructuredData.Element.{elements_text}
 use Rattle.syslog_pieces.specs.Text.{is_blank, number, host, word, name_text}
 use Rattle.syslog_pieces.specs.Text.Canonical.{IsCanonicalHost, IsCanonicalWord}
 use Rattle.syslog_pieces.specs.Timestamp.{header_stamp}

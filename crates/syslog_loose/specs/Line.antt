@@ -1,8 +1,7 @@
 -- A parsed line, as the message that it means, and what is printed of it after the timestamp.
-use Rattle.std.specs.Prelude.{◌≡◌, ℕ, ◌∷◌, ◌++◌, IsTrue, Option, Some, None, IfSome}
+use Rattle.std.specs.Prelude.{◌≡◌, ℕ, IsTrue, Option, Some, None, IfSome}
 use Rattle.std.specs.Option.{option_and_then, option_map}
 use Rattle.std.specs.Str.{IsUtf8}
-use Rattle.syslog_pieces.specs.Pieces.Class.{Text}
 use Rattle.syslog_pieces.specs.Pieces.View.{seen, shown}
 use Rattle.syslog_pieces.specs.Pri.{facility_of, severity_of}
 use Rattle.syslog_pieces.specs.ProcId.{named_process}

@@ -1,5 +1,5 @@
 -- What the reader of the header holds, as names over texts and as the meanings of its pieces.
-use Rattle.std.specs.Prelude.{◌≡◌, ◌≢◌, ℕ, ◌∷◌, ◌++◌, IsTrue, IfSome, Option}
+use Rattle.std.specs.Prelude.{◌≡◌, ℕ, ◌∷◌, ◌++◌, IsTrue, IfSome, Option}
 use Rattle.std.specs.Option.{option_map}
 use Rattle.syslog_pieces.specs.ProcId.{named_process}
 use Rattle.syslog_pieces.specs.Pieces.Class.{Text, Ends, Front, Row}
@@ -8,7 +8,7 @@ use Rattle.syslog_pieces.specs.Timestamp.{stamp_seen}
 use Rattle.syslog_pieces.specs.Timestamp.Zone.{Dating}
 use Rattle.syslog_pieces.specs.declared.timestamp.OffsetTimestamp.{OffsetTimestamp}
 use Rattle.syslog_pieces.specs.declared.timestamp.clock.ClockStamp.{ClockStamp}
-use Rattle.syslog_pieces.specs.Text.{EndsInColon, dash, is_blank}
+use Rattle.syslog_pieces.specs.Text.{is_blank}
 use Rattle.syslog_loose.specs.Exceptions.{HasQuietNames}
 use Rattle.syslog_loose.specs.Printed.{name_text, tag_text}
 use Rattle.syslog_loose.specs.Rfc3164.{Names3164, ReadsNames, names, stamped_row}

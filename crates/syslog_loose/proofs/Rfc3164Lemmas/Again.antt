@@ -1,17 +1,8 @@
 -- What was read as RFC 3164 without an exception prints as a text that is read as a message that prints the same.
-use Rattle.std.proofs.Common.{◌≡◌, Some, refl, sym, ◌∙◌}
-use Rattle.std.specs.Prelude.{unwrap_or}
-use Rattle.syslog_pieces.specs.Pieces.Class.{Text}
-use Rattle.syslog_pieces.specs.Timestamp.Zone.{Dating}
-use Rattle.syslog_pieces.specs.declared.pri.SyslogFacility.TheVariants.{LOG_SYSLOG}
-use Rattle.syslog_pieces.specs.declared.pri.SyslogSeverity.TheVariants.{SEV_DEBUG}
-use Rattle.syslog_pieces.specs.declared.structured_data.rfc3164_list.DashRule.{DashRule}
-use Rattle.syslog_loose.specs.Canonical.{IsBounded, IsCanonical}
-use Rattle.syslog_loose.specs.Exceptions.{HasNoException}
-use Rattle.syslog_loose.specs.Message.{MessageValue}
-use Rattle.syslog_loose.specs.Printed.{printed, printed_3164}
-use Rattle.syslog_loose.specs.Rfc3164.{IsRead3164}
-use Rattle.syslog_loose.specs.declared.message.Protocol.TheVariants.{RFC3164}
+use Rattle.syslog_loose.proofs.Names.{◌≡◌, ◌∙◌, Some, refl, sym, unwrap_or, Text, Dating, LOG_SYSLOG, SEV_DEBUG}
+use Rattle.syslog_loose.proofs.Names.{DashRule, IsBounded, IsCanonical, HasNoException, MessageValue, printed}
+use Rattle.syslog_loose.proofs.Names.{IsRead3164, RFC3164}
+use Rattle.syslog_loose.specs.Printed.{printed_3164}
 use Rattle.syslog_loose.proofs.Rfc3164Lemmas.Bounded.{read_bounded}
 use Rattle.syslog_loose.proofs.Rfc3164Lemmas.Exceptions.{near_completed}
 use Rattle.syslog_loose.proofs.Rfc3164Lemmas.Near.{read_near}

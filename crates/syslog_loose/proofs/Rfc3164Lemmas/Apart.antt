@@ -1,26 +1,14 @@
 -- No text has a division into the pieces of RFC 5424 and one into those of RFC 3164.
-use Rattle.std.proofs.Common.{◌≡◌, ℕ, ◌≤◌, inl, inr, true, [], ◌∷◌, ◌++◌, Option, Some, None, refl, sym, ap, subst, ◌∙◌}
-use Rattle.std.proofs.Common.{arith, append_assoc}
-use Rattle.std.proofs.lemmas.Bool.Decides.{nat_tests}
-use Rattle.std.specs.Char.{is_ascii_digit}
-use Rattle.syslog_pieces.specs.Pieces.Class.{Text, Values, Division, Front, Each, run, optional}
-use Rattle.syslog_pieces.specs.Pri.{priority}
-use Rattle.syslog_pieces.specs.Text.{trimmed, is_blank, number}
-use Rattle.syslog_pieces.specs.Timestamp.{header_stamp}
-use Rattle.syslog_pieces.specs.Timestamp.Rfc3164.{rfc3164_stamp, ShowsMonthDate}
-use Rattle.syslog_pieces.specs.Timestamp.MonthDate.{month_date}
-use Rattle.syslog_pieces.specs.Timestamp.Zone.{Dating}
-use Rattle.syslog_pieces.specs.declared.structured_data.rfc3164_list.DashRule.{DashRule}
-use Rattle.syslog_pieces.specs.declared.timestamp.OffsetTimestamp.{OffsetTimestamp}
-use Rattle.syslog_pieces.specs.declared.timestamp.month_date.MonthDate.{MonthDate}
-use Rattle.syslog_pieces.proofs.PieceLemmas.Class.{run_same, rest_same, front_same, optional_det, division_front}
-use Rattle.syslog_pieces.proofs.PieceLemmas.Kinds.{Begins, begins_apart, begins_more, begins_with, each_begins}
-use Rattle.syslog_pieces.proofs.PriLemmas.{priority_det}
-use Rattle.syslog_pieces.proofs.TimestampLemmas.MonthDate.{IsBlank, blanks_begin, blank_low, month_date_begins}
+use Rattle.syslog_loose.proofs.Names.{◌≡◌, ◌≤◌, ◌∷◌, ◌++◌, ◌∙◌, ℕ, inl, inr, true, [], Option, Some, None, refl, sym}
+use Rattle.syslog_loose.proofs.Names.{ap, subst, arith, append_assoc, nat_tests, is_ascii_digit, Text, Values, Division}
+use Rattle.syslog_loose.proofs.Names.{Front, Each, run, optional, priority, trimmed, is_blank, number, header_stamp}
+use Rattle.syslog_loose.proofs.Names.{rfc3164_stamp, ShowsMonthDate, month_date, Dating, DashRule, OffsetTimestamp}
+use Rattle.syslog_loose.proofs.Names.{MonthDate, run_same, rest_same, front_same, optional_det, division_front, Begins}
+use Rattle.syslog_loose.proofs.Names.{begins_apart, begins_more, begins_with, priority_det, month_date_begins}
+use Rattle.syslog_loose.proofs.Names.{rfc3164_row, rfc5424_row, IsNot5424, row_pieces}
+use Rattle.syslog_pieces.proofs.PieceLemmas.Kinds.{each_begins}
+use Rattle.syslog_pieces.proofs.TimestampLemmas.MonthDate.{IsBlank, blanks_begin, blank_low}
 use Rattle.syslog_pieces.proofs.TimestampLemmas.Texts.{stamp_text-year}
-use Rattle.syslog_loose.specs.Rfc3164.{rfc3164_row}
-use Rattle.syslog_loose.specs.Rfc5424.{rfc5424_row, IsNot5424}
-use Rattle.syslog_pieces.proofs.PieceLemmas.Rows.{row_pieces}
 use Rattle.syslog_loose.proofs.Rfc3164Lemmas.Shown.{shown_parts}
 
 -- ---- what a text begins with

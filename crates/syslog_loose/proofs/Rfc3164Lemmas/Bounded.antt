@@ -1,14 +1,6 @@
 -- The process of a message that was read as RFC 3164 is bounded.
-use Rattle.std.proofs.Common.{IfSome}
-use Rattle.syslog_pieces.specs.Pieces.Class.{Text}
-use Rattle.syslog_pieces.specs.ProcId.{NamesProcess}
-use Rattle.syslog_pieces.specs.Timestamp.Zone.{Dating}
-use Rattle.syslog_pieces.specs.declared.procid.ProcId.{ProcId}
-use Rattle.syslog_pieces.specs.declared.procid.ProcId.TheVariants.{PID, Name}
-use Rattle.syslog_pieces.specs.declared.structured_data.rfc3164_list.DashRule.{DashRule}
-use Rattle.syslog_loose.specs.Canonical.{IsBoundedProcess, IsBounded}
-use Rattle.syslog_loose.specs.Message.{MessageValue}
-use Rattle.syslog_loose.specs.Rfc3164.{IsRead3164}
+use Rattle.syslog_loose.proofs.Names.{IfSome, Text, NamesProcess, Dating, ProcId, PID, Name, DashRule, IsBoundedProcess}
+use Rattle.syslog_loose.proofs.Names.{IsBounded, MessageValue, IsRead3164}
 use Rattle.syslog_loose.proofs.Rfc3164Lemmas.{of_names}
 
 named_bounded : (id : Text) (process : ProcId Text) → NamesProcess id process → IsBoundedProcess process

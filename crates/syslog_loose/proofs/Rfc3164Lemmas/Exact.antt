@@ -1,37 +1,22 @@
 -- A message of RFC 3164 that is read from its own printed text is canonical: its division, moved piece by piece to the
 -- places that the printed text has.
-use Rattle.std.proofs.Common.{◌≡◌, ◌↔◌, ◌⊎◌, ◌<◌, ◌≤◌, inl, inr, List, [], ◌∷◌, ◌++◌, length, Option, Some, None}
-use Rattle.std.proofs.Common.{IfSome, IsSome, refl, sym, ap, subst, ◌∙◌, arith, append_assoc}
-use Rattle.std.proofs.lemmas.List.{length-append}
-use Rattle.std.specs.Char.{is_not_whitespace}
-use Rattle.syslog_pieces.specs.Pieces.Class.{Text, Values, Front, NoFront, Row, Each, Ends, run, optional, spaced}
-use Rattle.syslog_pieces.specs.StructuredData.Element.{ElementValue}
-use Rattle.syslog_pieces.specs.StructuredData.Rfc3164List.{BeginsNoList, rfc3164_list, elements_or}
-use Rattle.syslog_pieces.specs.Text.{trimmed, is_blank, dash, colon, name_text, IsHost, host, tag_word}
-use Rattle.syslog_pieces.specs.Timestamp.Rfc3164.{rfc3164_stamp}
-use Rattle.syslog_pieces.specs.Timestamp.Canonical.{IsCanonicalStamp}
+use Rattle.syslog_loose.proofs.Names.{◌≡◌, ◌↔◌, ◌⊎◌, ◌<◌, ◌≤◌, ◌∷◌, ◌++◌, ◌∙◌, inl, inr, List, [], length, Option, Some}
+use Rattle.syslog_loose.proofs.Names.{None, IfSome, IsSome, refl, sym, ap, subst, arith, append_assoc, length-append}
+use Rattle.syslog_loose.proofs.Names.{is_not_whitespace, Text, Values, Front, NoFront, Row, Each, Ends, run, optional}
+use Rattle.syslog_loose.proofs.Names.{spaced, ElementValue, BeginsNoList, rfc3164_list, elements_or, trimmed, is_blank}
+use Rattle.syslog_loose.proofs.Names.{dash, colon, name_text, IsHost, host, tag_word, rfc3164_stamp, IsCanonicalStamp}
+use Rattle.syslog_loose.proofs.Names.{Dating, DashRule, OffsetTimestamp, run_same, row_head, division_front}
+use Rattle.syslog_loose.proofs.Names.{front_division, run_det, spaced_parts, rest_whole, Begins, begins_apart}
+use Rattle.syslog_loose.proofs.Names.{begins_more, begins_with, step, rows_step, front_longer, absent_none}
+use Rattle.syslog_loose.proofs.Names.{present_front, priority_composed, begins_no_list, IsLow, rfc3164_stamp_det}
+use Rattle.syslog_loose.proofs.Names.{stamped_date_begins, stamp_text-canonical, printed_stamp-begins, IsBounded}
+use Rattle.syslog_loose.proofs.Names.{IsVisible, IsCanonicalHost, IsCanonical, HasNoColon, MessageValue, timestamp_text}
+use Rattle.syslog_loose.proofs.Names.{priority_of, printed_3164, printed, Names3164, Resolves, body_row, rfc3164_row}
+use Rattle.syslog_loose.proofs.Names.{IsRead3164, RFC3164, each_append, row_pieces}
 use Rattle.syslog_pieces.specs.Timestamp.Printed.{printed_stamp}
-use Rattle.syslog_pieces.specs.Timestamp.Zone.{Dating}
-use Rattle.syslog_pieces.specs.declared.structured_data.rfc3164_list.DashRule.{DashRule}
-use Rattle.syslog_pieces.specs.declared.timestamp.OffsetTimestamp.{OffsetTimestamp}
-use Rattle.syslog_pieces.proofs.PieceLemmas.Class.{run_same, row_head, division_front, front_division, run_det}
-use Rattle.syslog_pieces.proofs.PieceLemmas.Class.{spaced_parts, rest_whole}
-use Rattle.syslog_pieces.proofs.PieceLemmas.Kinds.{Begins, begins_apart, begins_more, begins_with}
-use Rattle.syslog_pieces.proofs.PieceLemmas.Steps.{step, rows_step, front_longer, absent_none, present_front}
-use Rattle.syslog_pieces.proofs.PriLemmas.{priority_composed}
-use Rattle.syslog_pieces.proofs.StructuredDataLemmas.Rfc3164List.{begins_no_list}
-use Rattle.syslog_pieces.proofs.TimestampLemmas.Rfc3164.{IsLow, rfc3164_stamp_det, stamped_date_begins}
-use Rattle.syslog_pieces.proofs.TimestampLemmas.RoundTrip.{stamp_text-canonical, printed_stamp-begins}
-use Rattle.syslog_loose.specs.Canonical.{IsBounded, IsVisible, IsCanonicalHost, IsCanonical}
-use Rattle.syslog_loose.specs.Exceptions.{HasNoColon}
-use Rattle.syslog_loose.specs.Message.{MessageValue}
-use Rattle.syslog_loose.specs.Printed.{timestamp_text, priority_of, printed_3164, printed}
-use Rattle.syslog_loose.specs.Rfc3164.{Names3164, Resolves, body_row, rfc3164_row, IsRead3164}
-use Rattle.syslog_loose.specs.declared.message.Protocol.TheVariants.{RFC3164}
 use Rattle.syslog_loose.proofs.PriorityLemmas.{priority_small}
 use Rattle.syslog_loose.proofs.Rfc3164Lemmas.Apart.{digit_range}
 use Rattle.syslog_loose.proofs.Rfc3164Lemmas.Exceptions.{canonical_names, near_canonical, no_dash_host, no_colon_host}
-use Rattle.syslog_pieces.proofs.PieceLemmas.Each.{each_append}
 use Rattle.syslog_loose.proofs.Rfc3164Lemmas.Near.{host_field, tag_field, near_names, severity_beside, read_near}
 use Rattle.syslog_loose.proofs.Rfc3164Lemmas.Printed.{printed_is}
 use Rattle.syslog_loose.proofs.Rfc3164Lemmas.ReadBack.{canonical_back, to_stamp_back, stamp_back, names_back}
@@ -40,7 +25,6 @@ use Rattle.syslog_loose.proofs.Rfc3164Lemmas.Rows.{from_stamp, to_stamp_det, to_
 use Rattle.syslog_loose.proofs.Rfc3164Lemmas.Unique.{told}
 use Rattle.syslog_loose.proofs.Rfc3164Lemmas.Whole.{program_text, tail_text, trimmed_whole}
 use Rattle.syslog_loose.proofs.TrimLemmas.{message_blanks}
-use Rattle.syslog_pieces.proofs.PieceLemmas.Rows.{row_pieces}
 
 -- ---- the host
 

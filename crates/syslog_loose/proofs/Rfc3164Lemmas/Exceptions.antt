@@ -1,22 +1,11 @@
 -- The condition for RFC 3164 is the exceptions' absence, beside all that they leave.
-use Rattle.std.proofs.Common.{◌≡◌, inl, inr, Option, Some, None, IfSome, subst, IsSome, ◌&&◌, arith}
-use Rattle.syslog_pieces.specs.Pieces.Class.{Text}
-use Rattle.syslog_pieces.specs.Text.{dash, EndsInColon}
-use Rattle.syslog_pieces.specs.declared.procid.ProcId.{ProcId}
-use Rattle.syslog_pieces.specs.declared.procid.ProcId.TheVariants.{PID, Name}
-use Rattle.syslog_pieces.specs.declared.structured_data.rfc3164_list.DashRule.{DashRule}
-use Rattle.syslog_loose.specs.declared.message.Protocol.{Protocol}
-use Rattle.syslog_loose.specs.declared.message.Protocol.TheVariants.{RFC3164}
-use Rattle.syslog_loose.specs.Canonical.{IsVisible, IsCanonicalHost, IsBracketedProcess, is_process_char}
-use Rattle.syslog_loose.specs.Canonical.{AreCanonicalNames, IsCanonical3164, IsCanonicalFor, IsCanonical}
-use Rattle.syslog_loose.specs.Exceptions.{is_no_colon, is_inner_char, HasNoColon, HasNoException, IsOddHost}
-use Rattle.syslog_loose.specs.Exceptions.{IsInnerProcess, AreNamesButExceptions, HasExceptionsAlone, IsNearlyCanonical}
-use Rattle.syslog_loose.specs.Message.{MessageValue}
-use Rattle.syslog_pieces.proofs.PieceLemmas.Each.{each_both, each_map}
-use Rattle.std.proofs.lemmas.Bool.Decides.{nat_tests}
-use Rattle.std.proofs.lemmas.Option.{IfSome_then}
-use Rattle.syslog_pieces.specs.declared.pri.SyslogFacility.{SyslogFacility}
-use Rattle.syslog_pieces.specs.declared.pri.SyslogSeverity.{SyslogSeverity}
+use Rattle.syslog_loose.proofs.Names.{◌≡◌, ◌&&◌, inl, inr, Option, Some, None, IfSome, subst, IsSome, arith, Text, dash}
+use Rattle.syslog_loose.proofs.Names.{EndsInColon, ProcId, PID, Name, DashRule, Protocol, RFC3164, IsVisible}
+use Rattle.syslog_loose.proofs.Names.{IsCanonicalHost, IsBracketedProcess, is_process_char, AreCanonicalNames}
+use Rattle.syslog_loose.proofs.Names.{IsCanonical3164, IsCanonicalFor, IsCanonical, is_no_colon, is_inner_char}
+use Rattle.syslog_loose.proofs.Names.{HasNoColon, HasNoException, IsOddHost, IsInnerProcess, AreNamesButExceptions}
+use Rattle.syslog_loose.proofs.Names.{HasExceptionsAlone, IsNearlyCanonical, MessageValue, each_both, each_map}
+use Rattle.syslog_loose.proofs.Names.{nat_tests, IfSome_then, SyslogFacility, SyslogSeverity}
 
 -- ---- the host
 pub no_dash_host : (host : Option Text) → IfSome host IsCanonicalHost → IfSome host (λ x. x ≡ dash → ⊥)

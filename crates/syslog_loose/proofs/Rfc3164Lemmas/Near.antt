@@ -1,53 +1,26 @@
 -- What is read as RFC 3164 meets the condition, but for its exceptions.
-use Rattle.std.proofs.Common.{◌≡◌, ◌≢◌, ℕ, ◌<◌, ◌⊎◌, inl, inr, Bool, List, [], ◌∷◌, ◌++◌, length, Option, Some, None}
-use Rattle.std.proofs.Common.{IfSome, IsSome, refl, sym, ap, subst, ◌∙◌, append_assoc, arith}
-use Rattle.std.proofs.lemmas.Option.{IfSome_then}
-use Rattle.std.specs.Char.{is_not_whitespace}
-use Rattle.std.specs.List.{AllByRecursion}
-use Rattle.std.specs.Option.{option_and_then, option_map, unwrap_or}
-use Rattle.std.specs.Str.{skip_leading_whitespace}
-use Rattle.syslog_pieces.specs.Pieces.Class.{Text, Front, Each, Ends, run, optional, spaced}
-use Rattle.syslog_pieces.specs.Bodies.Verbatim.{IsBareWord}
-use Rattle.syslog_pieces.specs.Pieces.Lists.{IsMany}
-use Rattle.syslog_pieces.specs.Pri.{priority, facility_of, severity_of}
-use Rattle.syslog_pieces.specs.ProcId.{NamesProcess, named_process}
-use Rattle.syslog_pieces.specs.StructuredData.Element.{ElementValue}
-use Rattle.syslog_pieces.specs.StructuredData.Rfc3164List.{full_element, rfc3164_list, elements_or}
-use Rattle.syslog_pieces.specs.Text.{trimmed, is_blank, is_tag_char, dash, IsHost, host, tag_word}
-use Rattle.syslog_pieces.specs.Text.CharClass.{is_label_char, is_open_char}
-use Rattle.syslog_pieces.specs.Timestamp.Rfc3164.{rfc3164_stamp}
-use Rattle.syslog_pieces.specs.Timestamp.MonthDate.{month_date}
-use Rattle.syslog_pieces.specs.Timestamp.Canonical.{IsCanonicalStamp}
-use Rattle.syslog_pieces.specs.Timestamp.Zone.{Dating}
-use Rattle.syslog_pieces.specs.declared.procid.ProcId.{ProcId}
-use Rattle.syslog_pieces.specs.declared.procid.ProcId.TheVariants.{PID, Name}
-use Rattle.syslog_pieces.specs.declared.structured_data.rfc3164_list.DashRule.{DashRule}
-use Rattle.syslog_pieces.specs.declared.timestamp.OffsetTimestamp.{OffsetTimestamp}
-use Rattle.syslog_pieces.proofs.PieceLemmas.Class.{division_front, heads}
-use Rattle.syslog_pieces.proofs.PieceLemmas.Class.{rest_whole, spaced_parts}
-use Rattle.syslog_pieces.proofs.PieceLemmas.Steps.{present_front}
-use Rattle.syslog_pieces.proofs.PriLemmas.{severity_there}
-use Rattle.syslog_pieces.proofs.ProcIdLemmas.{bare_prints}
-use Rattle.syslog_pieces.proofs.TextLemmas.Verbatim as verbatim
+use Rattle.syslog_loose.proofs.Names.{◌≡◌, ◌≢◌, ◌<◌, ◌⊎◌, ◌∷◌, ◌++◌, ◌∙◌, ℕ, inl, inr, Bool, List, [], length, Option}
+use Rattle.syslog_loose.proofs.Names.{Some, None, IfSome, IsSome, refl, sym, ap, subst, append_assoc, arith}
+use Rattle.syslog_loose.proofs.Names.{IfSome_then, is_not_whitespace, AllByRecursion, option_and_then, option_map}
+use Rattle.syslog_loose.proofs.Names.{unwrap_or, skip_leading_whitespace, Text, Front, Each, Ends, run, optional}
+use Rattle.syslog_loose.proofs.Names.{spaced, IsBareWord, IsMany, priority, facility_of, severity_of, NamesProcess}
+use Rattle.syslog_loose.proofs.Names.{named_process, ElementValue, full_element, rfc3164_list, elements_or, trimmed}
+use Rattle.syslog_loose.proofs.Names.{is_blank, is_tag_char, dash, IsHost, host, tag_word, is_label_char, is_open_char}
+use Rattle.syslog_loose.proofs.Names.{rfc3164_stamp, month_date, IsCanonicalStamp, Dating, ProcId, PID, Name, DashRule}
+use Rattle.syslog_loose.proofs.Names.{OffsetTimestamp, division_front, heads, rest_whole, spaced_parts, present_front}
+use Rattle.syslog_loose.proofs.Names.{severity_there, bare_prints, stamp_text-canonical, IsVisible, IsCanonicalElement}
+use Rattle.syslog_loose.proofs.Names.{HasQuietNames, is_no_colon, HasNoColon, IsOddHost, IsInnerProcess}
+use Rattle.syslog_loose.proofs.Names.{AreNamesButExceptions, HasExceptionsAlone, IsNearlyCanonical, MessageValue}
+use Rattle.syslog_loose.proofs.Names.{tag_text, Names3164, Resolves, names, stamped_row, fields_row, rfc3164_row}
+use Rattle.syslog_loose.proofs.Names.{IsRead3164, NamesProgram, form_row, IsForm, fields_before, each_behind, each_both}
+use Rattle.syslog_loose.proofs.Names.{each_left, each_front, each_right, begins, row_pieces}
 use Rattle.syslog_pieces.proofs.StructuredDataLemmas.ReadBack.{element_canonical}
-use Rattle.syslog_pieces.proofs.TimestampLemmas.RoundTrip.{stamp_text-canonical}
-use Rattle.syslog_loose.specs.Canonical.{IsVisible, IsCanonicalElement}
-use Rattle.syslog_loose.specs.Exceptions.{HasQuietNames, is_no_colon, HasNoColon, IsOddHost, IsInnerProcess, AreNamesButExceptions}
-use Rattle.syslog_loose.specs.Exceptions.{HasExceptionsAlone, IsNearlyCanonical, IsOfMonthDate}
-use Rattle.syslog_loose.specs.Message.{MessageValue}
-use Rattle.syslog_loose.specs.Printed.{tag_text}
-use Rattle.syslog_loose.specs.Rfc3164.{Names3164, Resolves, names, stamped_row, fields_row, rfc3164_row}
-use Rattle.syslog_loose.specs.Rfc3164.{IsRead3164}
-use Rattle.syslog_loose.specs.TagForm.{form_row, IsForm}
-use Rattle.syslog_loose.specs.Rfc3164.{NamesProgram}
-use Rattle.syslog_loose.specs.View3164.{fields_before}
+use Rattle.syslog_loose.specs.Exceptions.{IsOfMonthDate}
 use Rattle.syslog_loose.proofs.Rfc3164Lemmas.{of_names}
 use Rattle.syslog_loose.proofs.Rfc3164Lemmas.Shown.{shows}
 use Rattle.syslog_loose.proofs.TagFormLemmas.{one_form}
 use Rattle.syslog_loose.proofs.TrimLemmas.{drop_ends, last_ends}
-use Rattle.syslog_pieces.proofs.PieceLemmas.Each.{each_behind, each_both, each_left, each_front, each_right}
-use Rattle.syslog_pieces.proofs.PieceLemmas.Lists.{begins}
-use Rattle.syslog_pieces.proofs.PieceLemmas.Rows.{row_pieces}
+use Rattle.syslog_pieces.proofs.TextLemmas.Verbatim as verbatim
 
 -- ---- elements
 

@@ -1,14 +1,8 @@
 -- A printed message of RFC 3164 has no division of RFC 5424: a space is where the version would begin.
-use Rattle.std.proofs.Common.{◌≡◌, ap, Bool, true, false, cond, [], ◌∷◌}
-use Rattle.syslog_pieces.specs.Pieces.Class.{Text}
-use Rattle.syslog_pieces.specs.Pri.{priority}
-use Rattle.syslog_pieces.proofs.PieceLemmas.Class.{optional_some}
-use Rattle.syslog_pieces.proofs.PieceLemmas.Kinds.{Begins}
-use Rattle.syslog_loose.specs.Message.{MessageValue}
-use Rattle.syslog_loose.specs.Printed.{priority_of, printed_3164, printed_5424, printed}
-use Rattle.syslog_loose.specs.Rfc5424.{IsNot5424}
-use Rattle.syslog_loose.specs.declared.message.Protocol.{Protocol}
-use Rattle.syslog_loose.specs.declared.message.Protocol.TheVariants.{RFC3164, RFC5424}
+use Rattle.syslog_loose.proofs.Names.{◌≡◌, ◌∷◌, ap, Bool, true, false, cond, [], Text, priority, optional_some, Begins}
+use Rattle.syslog_loose.proofs.Names.{MessageValue, priority_of, printed_5424, printed, IsNot5424, Protocol, RFC3164}
+use Rattle.syslog_loose.specs.Printed.{printed_3164}
+use Rattle.syslog_loose.specs.declared.message.Protocol.TheVariants.{RFC5424}
 use Rattle.syslog_loose.proofs.PriorityLemmas.{priority_low, priority_front, priority_trimmed}
 use Rattle.syslog_loose.proofs.Rfc3164Lemmas.Apart.{IsDigit, number_begins, versioned}
 

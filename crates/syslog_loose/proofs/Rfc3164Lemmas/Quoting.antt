@@ -1,30 +1,17 @@
 -- The texts of a message of RFC 3164 are in the pieces.
-use Rattle.std.proofs.Common.{inl, inr, List, [], ◌∷◌, ◌++◌, Option, Some, None}
-use Rattle.std.specs.List.{flat_map}
-use Rattle.std.specs.Option.{unwrap_or}
-use Rattle.syslog_pieces.specs.Pieces.Class.{Text, run, some_run, exactly, optional, spaced}
-use Rattle.syslog_pieces.specs.Pieces.Parts.{IsPart, IsInPieces, AreInPieces, text_list, process_texts}
-use Rattle.syslog_pieces.specs.Pri.{priority}
-use Rattle.syslog_pieces.specs.ProcId.{NamesProcess}
-use Rattle.syslog_pieces.specs.StructuredData.Element.{element_texts}
-use Rattle.syslog_pieces.specs.StructuredData.Rfc3164List.{elements_or}
-use Rattle.syslog_pieces.specs.Text.{is_blank, colon, host, tag_word}
-use Rattle.syslog_pieces.specs.Text.CharClass.{is_label_char, is_open_char}
-use Rattle.syslog_pieces.specs.Timestamp.Rfc3164.{rfc3164_stamp}
-use Rattle.syslog_pieces.specs.Timestamp.Zone.{Dating}
-use Rattle.syslog_pieces.specs.declared.procid.ProcId.{ProcId}
-use Rattle.syslog_pieces.specs.declared.procid.ProcId.TheVariants.{PID, Name}
-use Rattle.syslog_pieces.specs.declared.structured_data.rfc3164_list.DashRule.{DashRule}
-use Rattle.syslog_pieces.proofs.PieceLemmas.Each.{all_append, all_left, all_right}
-use Rattle.syslog_pieces.proofs.PieceLemmas.Parts.{Quoted, row_quotes, silent, texted_quotes, rest_quotes, host_quotes}
-use Rattle.syslog_pieces.proofs.PieceLemmas.Parts.{tag_word_quotes, optional_quotes, optional_texts, spaced_quotes}
-use Rattle.syslog_pieces.proofs.PieceLemmas.Parts.{part_left, part_right, part_joined}
+use Rattle.syslog_loose.proofs.Names.{◌∷◌, ◌++◌, ◌also◌, inl, inr, List, [], Option, Some, None, flat_map, unwrap_or}
+use Rattle.syslog_loose.proofs.Names.{Text, run, some_run, exactly, optional, spaced, IsPart, AreInPieces, text_list}
+use Rattle.syslog_loose.proofs.Names.{process_texts, priority, NamesProcess, element_texts, elements_or, is_blank}
+use Rattle.syslog_loose.proofs.Names.{colon, host, tag_word, is_label_char, is_open_char, rfc3164_stamp, Dating, ProcId}
+use Rattle.syslog_loose.proofs.Names.{PID, Name, DashRule, all_left, all_right, Quoted, row_quotes, silent, rest_quotes}
+use Rattle.syslog_loose.proofs.Names.{host_quotes, part_joined, MessageValue, Names3164, names, Resolves, rfc3164_row}
+use Rattle.syslog_loose.proofs.Names.{IsRead3164, Quotes3164, form_row, IsForm}
+use Rattle.syslog_pieces.specs.Pieces.Parts.{IsInPieces}
+use Rattle.syslog_pieces.proofs.PieceLemmas.Each.{all_append}
+use Rattle.syslog_pieces.proofs.PieceLemmas.Parts.{texted_quotes, tag_word_quotes, optional_quotes, optional_texts}
+use Rattle.syslog_pieces.proofs.PieceLemmas.Parts.{spaced_quotes, part_left, part_right}
 use Rattle.syslog_pieces.proofs.StructuredDataLemmas.ElementParts.{optional_rfc3164_list_quotes}
-use Rattle.syslog_loose.specs.Message.{MessageValue}
-use Rattle.syslog_loose.specs.Rfc3164.{Names3164, names, Resolves, rfc3164_row, IsRead3164, Quotes3164}
-use Rattle.syslog_loose.specs.TagForm.{form_row, IsForm}
 use Rattle.syslog_loose.proofs.Rfc3164Lemmas.{of_names}
-use Rattle.syslog_pieces.proofs.PieceLemmas.Class.{◌also◌}
 
 -- ---- parts of texts in pieces
 part_on : (p t u : Text) → IsPart p t → IsPart t u → IsPart p u

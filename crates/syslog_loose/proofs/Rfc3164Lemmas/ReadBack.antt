@@ -1,51 +1,25 @@
 -- A canonical message of RFC 3164 is read back: the division of its printed text, piece by piece.
-use Rattle.std.proofs.Common.{◌≡◌, ◌≢◌, ℕ, suc, pos, ◌+◌, ◌*◌, ◌<◌, inl, inr, not, ◌∷◌, Some, None, refl, sym, ap, ◌∙◌}
-use Rattle.std.proofs.Common.{negsuc, true, false, nat_eq, List, [], ◌++◌, length, Option, IfSome, IsSome, subst, arith}
-use Rattle.std.proofs.lemmas.Bool.Decides.{nat_tests}
-use Rattle.std.proofs.lemmas.List.{length-append}
-use Rattle.std.specs.Char.{is_ascii_digit}
-use Rattle.std.specs.Fmt.{decimal}
-use Rattle.std.specs.List.{AllByRecursion}
-use Rattle.std.specs.Option.{option_map_or}
-use Rattle.syslog_pieces.specs.Pieces.Class.{Text, Values, Front, NoFront, Row, Each, Ends, run, exactly, optional}
-use Rattle.syslog_pieces.specs.Pieces.Class.{spaced}
-use Rattle.syslog_pieces.specs.Pieces.Lists.{IsMany}
-use Rattle.syslog_pieces.specs.Pri.{priority, facility_number, severity_number, facility_of, severity_of}
-use Rattle.syslog_pieces.specs.ProcId.{NamesProcess, procid_text}
-use Rattle.syslog_pieces.specs.StructuredData.Element.{ElementValue, element_text, joined_elements}
-use Rattle.syslog_pieces.specs.StructuredData.Rfc3164List.{full_element, BeginsNoList, rfc3164_list, elements_or}
-use Rattle.syslog_pieces.specs.Text.{is_blank, is_tag_char, dash, colon, name_text, host, tag_word}
-use Rattle.syslog_pieces.specs.Text.CharClass.{is_label_char, is_open_char}
-use Rattle.syslog_pieces.specs.Timestamp.Rfc3164.{rfc3164_stamp}
-use Rattle.syslog_pieces.specs.Timestamp.Canonical.{IsCanonicalStamp}
-use Rattle.syslog_pieces.specs.Timestamp.Zone.{Dating}
-use Rattle.syslog_pieces.specs.declared.pri.SyslogFacility.{SyslogFacility}
-use Rattle.syslog_pieces.specs.declared.pri.SyslogSeverity.{SyslogSeverity}
-use Rattle.syslog_pieces.specs.declared.procid.ProcId.{ProcId}
-use Rattle.syslog_pieces.specs.declared.procid.ProcId.TheVariants.{PID, Name}
-use Rattle.syslog_pieces.specs.declared.structured_data.rfc3164_list.DashRule.{DashRule}
-use Rattle.syslog_pieces.specs.declared.timestamp.OffsetTimestamp.{OffsetTimestamp}
-use Rattle.syslog_pieces.proofs.PieceLemmas.Class.{both_values, heads, front_division, optional_some, row_cons}
-use Rattle.syslog_pieces.proofs.PieceLemmas.Class.{rows_join, optional_none, rest_front, spaced_front, no_spaced_piece}
-use Rattle.syslog_pieces.proofs.PieceLemmas.Steps.{piece_front}
-use Rattle.syslog_pieces.proofs.PriLemmas.{facility_composed, severity_composed}
+use Rattle.syslog_loose.proofs.Names.{◌≡◌, ◌≢◌, ◌+◌, ◌*◌, ◌<◌, ◌∷◌, ◌∙◌, ◌++◌, ◌then◌, ℕ, suc, pos, inl, inr, not, Some}
+use Rattle.syslog_loose.proofs.Names.{None, refl, sym, ap, negsuc, true, false, nat_eq, List, [], length, Option}
+use Rattle.syslog_loose.proofs.Names.{IfSome, IsSome, subst, arith, nat_tests, length-append, is_ascii_digit, decimal}
+use Rattle.syslog_loose.proofs.Names.{AllByRecursion, option_map_or, Text, Values, Front, NoFront, Row, Each, Ends, run}
+use Rattle.syslog_loose.proofs.Names.{exactly, optional, spaced, IsMany, priority, facility_number, severity_number}
+use Rattle.syslog_loose.proofs.Names.{facility_of, severity_of, NamesProcess, procid_text, ElementValue, element_text}
+use Rattle.syslog_loose.proofs.Names.{joined_elements, full_element, BeginsNoList, rfc3164_list, elements_or, is_blank}
+use Rattle.syslog_loose.proofs.Names.{is_tag_char, dash, colon, name_text, host, tag_word, is_label_char, is_open_char}
+use Rattle.syslog_loose.proofs.Names.{rfc3164_stamp, IsCanonicalStamp, Dating, SyslogFacility, SyslogSeverity, ProcId}
+use Rattle.syslog_loose.proofs.Names.{PID, Name, DashRule, OffsetTimestamp, both_values, heads, front_division}
+use Rattle.syslog_loose.proofs.Names.{optional_some, row_cons, rows_join, optional_none, rest_front, spaced_front}
+use Rattle.syslog_loose.proofs.Names.{no_spaced_piece, piece_front, facility_composed, severity_composed, host_back}
+use Rattle.syslog_loose.proofs.Names.{decimal_digits, full_begins, no_full_nil, no_rfc3164_list, printed_stamp-back}
+use Rattle.syslog_loose.proofs.Names.{IsBoundedProcess, IsBounded, IsCanonicalHost, IsCanonicalElement, is_process_char}
+use Rattle.syslog_loose.proofs.Names.{IsBracketedProcess, AreCanonicalNames, IsCanonical3164, IsCanonicalFor}
+use Rattle.syslog_loose.proofs.Names.{IsCanonical, MessageValue, timestamp_text, priority_of, printed_3164, names}
+use Rattle.syslog_loose.proofs.Names.{Resolves, body_row, rfc3164_row, IsRead3164, IsForm, Protocol, RFC3164, each_map}
+use Rattle.syslog_loose.proofs.Names.{each_left, each_right, each_append, row_of}
 use Rattle.syslog_pieces.proofs.ProcIdLemmas.ReadBack.{signed_writes}
 use Rattle.syslog_pieces.proofs.StructuredDataLemmas.ReadBack.{element_back}
-use Rattle.syslog_pieces.proofs.TextLemmas.ReadBack.{host_back, decimal_digits}
-use Rattle.syslog_pieces.proofs.StructuredDataLemmas.Rfc3164List.{full_begins, no_full_nil, no_rfc3164_list}
-use Rattle.syslog_pieces.proofs.TimestampLemmas.RoundTrip.{printed_stamp-back}
-use Rattle.syslog_loose.specs.Canonical.{IsBoundedProcess, IsBounded, IsCanonicalHost, IsCanonicalElement}
-use Rattle.syslog_loose.specs.Canonical.{is_process_char, IsBracketedProcess, AreCanonicalNames}
-use Rattle.syslog_loose.specs.Canonical.{IsCanonical3164, IsCanonicalFor, IsCanonical}
-use Rattle.syslog_loose.specs.Message.{MessageValue}
-use Rattle.syslog_loose.specs.Printed.{timestamp_text, priority_of, printed_3164}
-use Rattle.syslog_loose.specs.Rfc3164.{names, Resolves, body_row, rfc3164_row, IsRead3164}
-use Rattle.syslog_loose.specs.TagForm.{IsForm}
-use Rattle.syslog_loose.specs.declared.message.Protocol.{Protocol}
-use Rattle.syslog_loose.specs.declared.message.Protocol.TheVariants.{RFC3164}
 use Rattle.syslog_loose.proofs.PriorityLemmas.{priority_low, priority_front}
-use Rattle.syslog_pieces.proofs.PieceLemmas.Each.{each_map, each_left, each_right, each_append}
-use Rattle.syslog_pieces.proofs.PieceLemmas.Rows.{row_of, ◌then◌}
 use Rattle.syslog_loose.proofs.Rfc3164Lemmas.Rows.{from_blanks, to_stamp, to_colon, from_stamp}
 use Rattle.syslog_loose.proofs.Rfc3164Lemmas.Unique.{told}
 use Rattle.syslog_loose.proofs.Rfc3164Lemmas.Whole.{bracketed, program_text, whole, tail_text, trimmed_whole}

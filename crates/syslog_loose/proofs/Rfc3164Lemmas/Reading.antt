@@ -1,14 +1,7 @@
 -- What the reader's result says of a text of RFC 3164.
-use Rattle.std.proofs.Common.{◌≡◌, []}
-use Rattle.syslog_pieces.specs.Pieces.Class.{Text, Values, Front, NoFront, Row}
-use Rattle.syslog_pieces.specs.Text.{trimmed}
-use Rattle.syslog_pieces.specs.Timestamp.Zone.{Dating}
-use Rattle.syslog_pieces.specs.declared.structured_data.rfc3164_list.DashRule.{DashRule}
-use Rattle.syslog_pieces.proofs.PieceLemmas.Class.{front_division, no_row_division}
-use Rattle.syslog_pieces.proofs.PieceLemmas.Class.{rows_none_here}
-use Rattle.syslog_loose.specs.Message.{MessageValue}
-use Rattle.syslog_loose.specs.Rfc3164.{stamped_row, body_row}
-use Rattle.syslog_loose.specs.Rfc3164.{rfc3164_row, Means3164, IsRead3164, IsNot3164}
+use Rattle.syslog_loose.proofs.Names.{◌≡◌, [], Text, Values, Front, NoFront, Row, trimmed, Dating, DashRule}
+use Rattle.syslog_loose.proofs.Names.{front_division, no_row_division, rows_none_here, MessageValue, stamped_row}
+use Rattle.syslog_loose.proofs.Names.{body_row, rfc3164_row, Means3164, IsRead3164, IsNot3164}
 
 -- ---- from the row of the trimmed text
 pub not_read : (rule : DashRule) (dating : Dating) (text t : Text) → t ≡ trimmed text

@@ -1,18 +1,10 @@
 -- The pieces of RFC 3164 from each one on.
-use Rattle.std.proofs.Common.{List, [], ◌∷◌, refl}
-use Rattle.syslog_pieces.specs.Pieces.Class.{Text, Class, Front, Row, run, rest, exactly, optional, spaced}
-use Rattle.syslog_pieces.specs.StructuredData.Rfc3164List.{rfc3164_list}
-use Rattle.syslog_pieces.specs.Text.{is_blank, colon, host, tag_word}
-use Rattle.syslog_pieces.specs.Pri.{priority}
-use Rattle.syslog_pieces.specs.Timestamp.Rfc3164.{rfc3164_stamp}
-use Rattle.syslog_pieces.specs.Timestamp.Zone.{Dating}
-use Rattle.syslog_pieces.specs.declared.structured_data.rfc3164_list.DashRule.{DashRule}
-use Rattle.syslog_pieces.proofs.PieceLemmas.Class.{AllDeterministic, ◌also◌, rest_front, optional_det, exactly_det}
-use Rattle.syslog_pieces.proofs.PieceLemmas.Class.{run_det, spaced_det}
-use Rattle.syslog_pieces.proofs.PriLemmas.{priority_det}
-use Rattle.syslog_pieces.proofs.TextLemmas.Words.{host_det, tag_word_det}
-use Rattle.syslog_pieces.proofs.PieceLemmas.Rows.{row_of, ◌then◌}
-use Rattle.syslog_loose.specs.Rfc3164.{body_row}
+use Rattle.syslog_loose.proofs.Names.{◌∷◌, ◌also◌, ◌then◌, List, [], refl, Text, Class, Front, Row, run, rest, exactly}
+use Rattle.syslog_loose.proofs.Names.{optional, spaced, rfc3164_list, is_blank, colon, host, tag_word, priority}
+use Rattle.syslog_loose.proofs.Names.{rfc3164_stamp, Dating, DashRule, AllDeterministic, rest_front, optional_det}
+use Rattle.syslog_loose.proofs.Names.{exactly_det, run_det, priority_det, host_det, row_of, body_row}
+use Rattle.syslog_pieces.proofs.PieceLemmas.Class.{spaced_det}
+use Rattle.syslog_pieces.proofs.TextLemmas.Words.{tag_word_det}
 
 -- the priority and the blanks after it
 abbrev pub to_stamp : List Class

@@ -1,21 +1,16 @@
 -- What a text shows: a date has one of twelve months, and numbers of 32 bits.
-use Rattle.std.proofs.Common.{◌≡◌, ℕ, ◌<◌, ◌∷◌, Option, refl, ap, arith, map}
+use Rattle.syslog_loose.proofs.Names.{◌≡◌, ◌<◌, ◌∷◌, ◌also◌, ◌then◌, ℕ, Option, refl, ap, arith, map, Text, Class}
+use Rattle.syslog_loose.proofs.Names.{Values, Front, Row, some_run, run, optional, priority, trimmed, is_blank}
+use Rattle.syslog_loose.proofs.Names.{ShowsYearless, ShowsMonthDate, month, yearless_date, month_date, MonthDate}
+use Rattle.syslog_loose.proofs.Names.{division_front, front_division, rest_front, unique_division, optional_det}
+use Rattle.syslog_loose.proofs.Names.{run_det, rest_det, row_pieces, row_of, priority_det, incomplete, HasMonth}
 use Rattle.std.proofs.lemmas.Option.{slice_get_within}
 use Rattle.std.specs.Char.{to_ascii_lowercase}
-use Rattle.syslog_pieces.specs.Pieces.Class.{Text, Class, Values, Front, Row, some_run, run, optional}
-use Rattle.syslog_pieces.specs.Pri.{priority}
-use Rattle.syslog_pieces.specs.Text.{trimmed, is_blank}
-use Rattle.syslog_pieces.specs.Timestamp.Rfc3164.{showing_row, BeginsWithDate, ShowsYearless, ShowsMonthDate}
-use Rattle.syslog_pieces.specs.Timestamp.MonthDate.{month_names, month, short_number, clock_row}
-use Rattle.syslog_pieces.specs.Timestamp.MonthDate.{yearless_row, yearless_of, yearless_date, dated_date, month_date}
-use Rattle.syslog_pieces.specs.declared.timestamp.month_date.MonthDate.{MonthDate}
-use Rattle.syslog_pieces.proofs.PieceLemmas.Class.{division_front, front_division, rest_front, unique_division, ◌also◌}
-use Rattle.syslog_pieces.proofs.PieceLemmas.Class.{optional_det, run_det, rest_det}
+use Rattle.syslog_pieces.specs.Timestamp.Rfc3164.{showing_row, BeginsWithDate}
+use Rattle.syslog_pieces.specs.Timestamp.MonthDate.{month_names, short_number, clock_row, yearless_row, yearless_of}
+use Rattle.syslog_pieces.specs.Timestamp.MonthDate.{dated_date}
 use Rattle.syslog_pieces.proofs.PieceLemmas.Kinds.{first_kind}
-use Rattle.syslog_pieces.proofs.PieceLemmas.Rows.{row_pieces, row_of, ◌then◌}
-use Rattle.syslog_pieces.proofs.PriLemmas.{priority_det}
 use Rattle.syslog_pieces.proofs.TimestampLemmas.MonthDate.{month_date_det}
-use Rattle.syslog_loose.specs.Reading.{incomplete, HasMonth}
 
 row_has_month : {t q : Text} (vs : Values yearless_row) → Front (Row yearless_row) t q vs
     → HasMonth (incomplete (yearless_of vs))

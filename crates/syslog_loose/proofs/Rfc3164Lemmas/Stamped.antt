@@ -1,16 +1,10 @@
 -- Behind the timestamp of RFC 3164 nothing can fail.
-use Rattle.std.proofs.Common.{List, [], ◌∷◌, Some, None, ◌↔◌, refl}
-use Rattle.syslog_pieces.specs.Pieces.Class.{Text, Class, Values, NoDivision, Front, NoFront}
-use Rattle.syslog_pieces.specs.Pieces.Class.{Row, run, rest, exactly, optional, spaced}
-use Rattle.syslog_pieces.specs.StructuredData.Rfc3164List.{rfc3164_list}
-use Rattle.syslog_pieces.specs.Text.{is_blank, colon, host, tag_word}
-use Rattle.syslog_pieces.specs.Timestamp.Zone.{Dating}
-use Rattle.syslog_pieces.specs.declared.structured_data.rfc3164_list.DashRule.{DashRule}
-use Rattle.syslog_pieces.proofs.PieceLemmas.Class.{optional_none, rest_front, row_cons, rows_join}
-use Rattle.syslog_pieces.proofs.PieceLemmas.Class.{rows_none_here, no_row_division, front_division}
-use Rattle.syslog_pieces.proofs.PieceLemmas.Rows.{row_of, ◌then◌}
-use Rattle.syslog_pieces.proofs.TextLemmas.Runs.{some_front_run}
-use Rattle.syslog_loose.specs.Rfc3164.{stamped_row, body_row, rfc3164_row}
+use Rattle.syslog_loose.proofs.Names.{◌∷◌, ◌↔◌, ◌then◌, List, [], Some, None, refl, Text, Class, Values, Front, NoFront}
+use Rattle.syslog_loose.proofs.Names.{Row, run, rest, exactly, optional, spaced, rfc3164_list, is_blank, colon, host}
+use Rattle.syslog_loose.proofs.Names.{tag_word, Dating, DashRule, optional_none, rest_front, row_cons, rows_join}
+use Rattle.syslog_loose.proofs.Names.{rows_none_here, no_row_division, front_division, row_of, some_front_run}
+use Rattle.syslog_loose.proofs.Names.{stamped_row, body_row, rfc3164_row}
+use Rattle.syslog_pieces.specs.Pieces.Class.{NoDivision}
 use Rattle.syslog_loose.proofs.Rfc3164Lemmas.Rows.{from_gap, from_list, from_blanks, from_colon, from_tag_end, from_tag}
 
 -- it can't be that no row of this kind begins any text

@@ -1,20 +1,10 @@
 -- A text has one division into the pieces of RFC 3164, and is read as one message.
-use Rattle.std.specs.Option.{option_and_then}
-use Rattle.std.proofs.Common.{◌≡◌, None, sym, ap, subst, ◌∙◌, ◌∷◌, []}
-use Rattle.syslog_pieces.specs.Pieces.Class.{Text, Values, run, rest, optional}
-use Rattle.syslog_pieces.specs.Pri.{facility_of, severity_of}
-use Rattle.syslog_pieces.specs.StructuredData.Rfc3164List.{rfc3164_list, elements_or}
-use Rattle.syslog_pieces.specs.Text.{is_blank}
-use Rattle.syslog_pieces.specs.Timestamp.Rfc3164.{rfc3164_stamp}
-use Rattle.syslog_pieces.specs.Timestamp.Zone.{Dating}
-use Rattle.syslog_pieces.specs.declared.structured_data.rfc3164_list.DashRule.{DashRule}
-use Rattle.syslog_pieces.proofs.PieceLemmas.Class.{AllDeterministic, unique_division, optional_det, run_det, rest_det}
-use Rattle.syslog_pieces.proofs.PieceLemmas.Class.{◌also◌, all_joined}
-use Rattle.syslog_pieces.proofs.StructuredDataLemmas.Rfc3164List.{rfc3164_list_det}
-use Rattle.syslog_pieces.proofs.TimestampLemmas.Rfc3164.{rfc3164_stamp_det}
-use Rattle.syslog_loose.specs.Message.{MessageValue}
-use Rattle.syslog_loose.specs.declared.message.Protocol.TheVariants.{RFC3164}
-use Rattle.syslog_loose.specs.Rfc3164.{Names3164, fields_row, stamped_row, body_row, rfc3164_row, Means3164, IsRead3164}
+use Rattle.syslog_loose.proofs.Names.{◌≡◌, ◌∙◌, ◌∷◌, ◌also◌, option_and_then, None, sym, ap, subst, [], Text, Values}
+use Rattle.syslog_loose.proofs.Names.{run, rest, optional, facility_of, severity_of, rfc3164_list, elements_or}
+use Rattle.syslog_loose.proofs.Names.{is_blank, rfc3164_stamp, Dating, DashRule, AllDeterministic, unique_division}
+use Rattle.syslog_loose.proofs.Names.{optional_det, run_det, rest_det, all_joined, rfc3164_list_det, rfc3164_stamp_det}
+use Rattle.syslog_loose.proofs.Names.{MessageValue, RFC3164, Names3164, fields_row, stamped_row, body_row, rfc3164_row}
+use Rattle.syslog_loose.proofs.Names.{Means3164, IsRead3164}
 use Rattle.syslog_loose.proofs.Rfc3164Lemmas.{resolves_once}
 use Rattle.syslog_loose.proofs.Rfc3164Lemmas.Rows.{to_stamp, to_stamp_det, to_colon, to_colon_det}
 

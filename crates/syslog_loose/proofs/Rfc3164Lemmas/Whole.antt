@@ -1,17 +1,12 @@
 -- The printed text of a message of RFC 3164, cut at the colon after the names, and what trimming leaves of it.
-use Rattle.std.proofs.Common.{◌≡◌, List, [], ◌∷◌, ◌++◌, Option, Some, None, refl, sym, ap, ◌∙◌, append_assoc}
-use Rattle.std.specs.Fmt.{decimal}
-use Rattle.std.specs.Str.{drop_trailing_whitespace}
-use Rattle.syslog_pieces.specs.Pieces.Class.{Text}
-use Rattle.syslog_pieces.specs.StructuredData.Element.{ElementValue, joined_elements}
-use Rattle.syslog_pieces.specs.ProcId.{procid_text}
-use Rattle.syslog_pieces.specs.Text.{trimmed}
-use Rattle.syslog_pieces.specs.declared.procid.ProcId.{ProcId}
+use Rattle.syslog_loose.proofs.Names.{◌≡◌, ◌∷◌, ◌++◌, ◌∙◌, List, [], Option, Some, None, refl, sym, ap, append_assoc}
+use Rattle.syslog_loose.proofs.Names.{decimal, drop_trailing_whitespace, Text, ElementValue, joined_elements}
+use Rattle.syslog_loose.proofs.Names.{procid_text, trimmed, ProcId, MessageValue, timestamp_text, tag_text}
+use Rattle.syslog_loose.proofs.Names.{spaced_elements, priority_of}
 use Rattle.syslog_loose.specs.Canonical.{EndsVisibly}
-pub use Rattle.syslog_loose.specs.Jumps.{tail_text}
-use Rattle.syslog_loose.specs.Message.{MessageValue}
-use Rattle.syslog_loose.specs.Printed.{timestamp_text, name_text, tag_text, spaced_elements, priority_of, printed_3164}
+use Rattle.syslog_loose.specs.Printed.{name_text, printed_3164}
 use Rattle.syslog_loose.proofs.TrimLemmas.{joined_last, LastVisible, last_append, drop_after, message_end_is}
+pub use Rattle.syslog_loose.specs.Jumps.{tail_text}
 
 -- `app[id]`
 abbrev pub bracketed : Text → Text → Text

@@ -1,17 +1,9 @@
 -- Where a text shows no date without a year, the year that would be used for one makes no difference.
-use Rattle.std.proofs.Common.{◌≡◌, inl, inr, Option, Some, None, refl}
-use Rattle.syslog_pieces.specs.Pieces.Class.{Text, Front, Row, Values}
-use Rattle.syslog_pieces.specs.Text.{trimmed}
-use Rattle.syslog_pieces.specs.Timestamp.Rfc3164.{rfc3164_stamp, ShowsYearless}
-use Rattle.syslog_pieces.specs.Timestamp.MonthDate.{yearless_date}
-use Rattle.syslog_pieces.specs.Timestamp.Zone.{Dating}
-use Rattle.syslog_pieces.specs.declared.structured_data.rfc3164_list.DashRule.{DashRule}
-use Rattle.syslog_pieces.specs.declared.timestamp.OffsetTimestamp.{OffsetTimestamp}
-use Rattle.syslog_pieces.specs.declared.timestamp.month_date.MonthDate.{MonthDate}
-use Rattle.syslog_pieces.proofs.PieceLemmas.Class.{division_front, rows_join, rows_split}
-use Rattle.syslog_pieces.proofs.PieceLemmas.Rows.{row_of, row_pieces, ◌then◌}
-use Rattle.syslog_loose.specs.Message.{MessageValue}
-use Rattle.syslog_loose.specs.Rfc3164.{body_row, rfc3164_row, stamped_row, IsRead3164, Quotes3164}
+use Rattle.syslog_loose.proofs.Names.{◌≡◌, ◌then◌, inl, inr, Option, Some, None, refl, Text, Front, Row, Values}
+use Rattle.syslog_loose.proofs.Names.{trimmed, rfc3164_stamp, ShowsYearless, yearless_date, Dating, DashRule}
+use Rattle.syslog_loose.proofs.Names.{OffsetTimestamp, MonthDate, division_front, rows_join, rows_split, row_of}
+use Rattle.syslog_loose.proofs.Names.{row_pieces, MessageValue, body_row, rfc3164_row, stamped_row, IsRead3164}
+use Rattle.syslog_loose.proofs.Names.{Quotes3164}
 use Rattle.syslog_loose.proofs.Rfc3164Lemmas.Quoting.{quotes}
 use Rattle.syslog_loose.proofs.Rfc3164Lemmas.Reading.{is_read}
 use Rattle.syslog_loose.proofs.Rfc3164Lemmas.Shown.{shows}

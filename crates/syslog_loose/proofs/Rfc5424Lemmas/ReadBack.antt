@@ -1,55 +1,40 @@
 -- A printed message of RFC 5424 is read back unchanged exactly where it is canonical, and what is read is canonical, up
 -- to an absent facility or severity.
-use Rattle.std.proofs.Common.{◌≡◌, ℕ, ◌<◌, ◌≤◌, ◌^◌, ◌+◌, ◌*◌, true, false, List, [], ◌∷◌, ◌++◌, Option, Some, None}
-use Rattle.std.proofs.Common.{IfSome, IsSome, refl, sym, ap, ap₂, subst, ◌∙◌, arith}
-use Rattle.std.specs.Option.{option_map_or, option_and_then}
-use Rattle.std.specs.Prelude.{unwrap_or}
-use Rattle.std.specs.Fmt.{decimal}
-use Rattle.std.specs.Str.{skip_leading_whitespace, drop_trailing_whitespace}
-use Rattle.syslog_pieces.specs.Pieces.Class.{Text, Class, Values, Front, NoFront, Ends, Division, run, optional}
-use Rattle.syslog_pieces.specs.Pieces.Format.{IsSound, classes, printed_row, RowReadsBack}
-use Rattle.syslog_pieces.specs.Pri.{priority, composed, facility_of, severity_of, facility_number, severity_number}
-use Rattle.syslog_pieces.specs.ProcId.{process_word, process_text}
+use Rattle.syslog_loose.proofs.Names.{◌≡◌, ◌<◌, ◌≤◌, ◌^◌, ◌+◌, ◌*◌, ◌∷◌, ◌++◌, ◌∙◌, ◌also◌, ◌then◌, ℕ, true, false}
+use Rattle.syslog_loose.proofs.Names.{List, [], Option, Some, None, IfSome, IsSome, refl, sym, ap, subst, arith}
+use Rattle.syslog_loose.proofs.Names.{option_map_or, option_and_then, unwrap_or, decimal, skip_leading_whitespace}
+use Rattle.syslog_loose.proofs.Names.{drop_trailing_whitespace, Text, Class, Values, Front, NoFront, Ends, Division}
+use Rattle.syslog_loose.proofs.Names.{run, optional, classes, printed_row, priority, facility_of, severity_of}
+use Rattle.syslog_loose.proofs.Names.{facility_number, severity_number, process_word, process_text, ElementValue}
+use Rattle.syslog_loose.proofs.Names.{elements_text, trimmed, is_blank, number, name_text, EndsVisibly, header_stamp}
+use Rattle.syslog_loose.proofs.Names.{IsCanonicalStamp, SyslogFacility, LOG_SYSLOG, SyslogSeverity, SEV_DEBUG, ProcId}
+use Rattle.syslog_loose.proofs.Names.{DashRule, BeforeAnything, OffsetTimestamp, row_cons, row_head, rows_join}
+use Rattle.syslog_loose.proofs.Names.{both_values, front_division, division_front, rest_front, rest_whole}
+use Rattle.syslog_loose.proofs.Names.{optional_some, front_same, optional_det, row_pieces, row_of, piece_front}
+use Rattle.syslog_loose.proofs.Names.{priority_det, priority_composed, facility_composed, severity_composed}
+use Rattle.syslog_loose.proofs.Names.{severity_there, number_back, host_back, printed_stamp-back, stamp_text-canonical}
+use Rattle.syslog_loose.proofs.Names.{Protocol, IsBoundedProtocol, IsBounded, IsCanonicalInBoth, IsCanonicalFor}
+use Rattle.syslog_loose.proofs.Names.{IsCanonical, MessageValue, printed, priority_of, header_row, data_row}
+use Rattle.syslog_loose.proofs.Names.{rfc5424_row, message_of, IsRead5424}
+use Rattle.std.proofs.Common.{ap₂}
+use Rattle.syslog_pieces.specs.Pieces.Format.{IsSound, RowReadsBack}
+use Rattle.syslog_pieces.specs.Pri.{composed}
 use Rattle.syslog_pieces.specs.StructuredData.{forgiving, item}
-use Rattle.syslog_pieces.specs.StructuredData.Element.{ElementValue, elements_text}
-use Rattle.syslog_pieces.specs.Text.{trimmed, is_blank, number, name_text}
-use Rattle.syslog_pieces.specs.Text.Canonical.{IsVisible, IsCanonicalHost, IsCanonicalWord, EndsVisibly}
-use Rattle.syslog_pieces.specs.Timestamp.{header_stamp}
-use Rattle.syslog_pieces.specs.Timestamp.Canonical.{IsCanonicalStamp}
-use Rattle.syslog_pieces.specs.declared.pri.SyslogFacility.{SyslogFacility}
-use Rattle.syslog_pieces.specs.declared.pri.SyslogFacility.TheVariants.{LOG_SYSLOG}
-use Rattle.syslog_pieces.specs.declared.pri.SyslogSeverity.{SyslogSeverity}
-use Rattle.syslog_pieces.specs.declared.pri.SyslogSeverity.TheVariants.{SEV_DEBUG}
-use Rattle.syslog_pieces.specs.declared.procid.ProcId.{ProcId}
-use Rattle.syslog_pieces.specs.declared.structured_data.rfc3164_list.DashRule.{DashRule}
-use Rattle.syslog_pieces.specs.declared.structured_data.rfc3164_list.DashRule.TheVariants.{BeforeAnything}
-use Rattle.syslog_pieces.specs.declared.timestamp.OffsetTimestamp.{OffsetTimestamp}
-use Rattle.syslog_pieces.proofs.PieceLemmas.Class.{row_cons, row_head, rows_join, both_values, front_division}
-use Rattle.syslog_pieces.proofs.PieceLemmas.Class.{division_front, rest_front, rest_whole, optional_some, front_same}
-use Rattle.syslog_pieces.proofs.PieceLemmas.Class.{optional_det, ◌also◌}
-use Rattle.syslog_pieces.proofs.PieceLemmas.Rows.{row_pieces, row_of, ◌then◌}
+use Rattle.syslog_pieces.specs.Text.Canonical.{IsVisible, IsCanonicalHost, IsCanonicalWord}
 use Rattle.syslog_pieces.proofs.PieceLemmas.Formats.{AllSound, row_back}
-use Rattle.syslog_pieces.proofs.PieceLemmas.Steps.{piece_front}
-use Rattle.syslog_pieces.proofs.PriLemmas.{priority_det, priority_composed, facility_composed, severity_composed}
-use Rattle.syslog_pieces.proofs.PriLemmas.{severity_there}
 use Rattle.syslog_pieces.proofs.ProcIdLemmas.ReadBack.{process_back, process_canonical, process_bounded}
 use Rattle.syslog_pieces.proofs.StructuredDataLemmas.ReadBack.{forgiving_back, forgiving_canonical, no_item_nil}
 use Rattle.syslog_pieces.proofs.StructuredDataLemmas.ReadBack.{no_item_before}
-use Rattle.syslog_pieces.proofs.TextLemmas.ReadBack.{number_back, word_back, word_canonical, host_back, host_canonical}
-use Rattle.syslog_pieces.proofs.TextLemmas.ReadBack.{NoColonNext, blanks_next}
-use Rattle.syslog_pieces.proofs.TimestampLemmas.RoundTrip.{printed_stamp-back, stamp_text-canonical}
+use Rattle.syslog_pieces.proofs.TextLemmas.ReadBack.{word_back, word_canonical, host_canonical, NoColonNext}
+use Rattle.syslog_pieces.proofs.TextLemmas.ReadBack.{blanks_next}
 use Rattle.syslog_loose.specs.declared.message.Protocol.TheVariants.{RFC5424}
-use Rattle.syslog_loose.specs.declared.message.Protocol.{Protocol}
-use Rattle.syslog_loose.specs.Canonical.{IsBoundedProtocol, IsBounded, IsCanonicalInBoth, IsCanonical5424}
-use Rattle.syslog_loose.specs.Canonical.{IsCanonicalFor, IsCanonical}
+use Rattle.syslog_loose.specs.Canonical.{IsCanonical5424}
 use Rattle.syslog_loose.specs.Formats.{space, stamp_field}
-pub use Rattle.syslog_loose.specs.Formats.{fields}
-use Rattle.syslog_loose.specs.Message.{MessageValue}
-use Rattle.syslog_loose.specs.Printed.{printed, printed_5424, priority_of}
-use Rattle.syslog_loose.specs.Rfc5424.{header_row, data_row, rfc5424_row, message_of, IsRead5424}
+use Rattle.syslog_loose.specs.Printed.{printed_5424}
 use Rattle.syslog_loose.proofs.PriorityLemmas.{priority_front, priority_trimmed, priority_small, priority_low}
 use Rattle.syslog_loose.proofs.TrimLemmas.{visible_ends_blanks, stamp_unblank, last_append, elements_last, row_trimmed}
 use Rattle.syslog_loose.proofs.TrimLemmas.{last_ends, drop_ends, message_end, message_blanks}
+pub use Rattle.syslog_loose.specs.Formats.{fields}
 
 -- ---- the printed fields, as formats
 

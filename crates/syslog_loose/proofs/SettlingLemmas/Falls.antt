@@ -1,24 +1,19 @@
 -- Where the printed text of a message is read as one that prints otherwise, the new one weighs less.
-use Rattle.syslog_loose.proofs.Names.{◌≡◌, ℕ, ◌+◌, ◌*◌, ◌<◌, ◌≤◌, ◌⊎◌, inl, inr, List, [], ◌∷◌, ◌++◌, length, Option}
-use Rattle.syslog_loose.proofs.Names.{None, IfSome, refl, sym, ap, subst, ◌∙◌, arith, nat_tests, is_not_whitespace}
-use Rattle.syslog_loose.proofs.Names.{option_map_or, Text, Values, Front, Row, Ends, exactly, spaced, ElementValue}
-use Rattle.syslog_loose.proofs.Names.{elements_or, is_blank, colon, name_text, host, tag_word, rfc3164_stamp}
-use Rattle.syslog_loose.proofs.Names.{IsCanonicalStamp, Dating, DashRule, BeforeBlank, OffsetTimestamp, row_of, ◌then◌}
-use Rattle.syslog_loose.proofs.Names.{step, rows_step, IsBoundedProcess, HasNoColon, HasExceptionsAlone, MessageValue}
-use Rattle.syslog_loose.proofs.Names.{timestamp_text, tag_text, priority_of, printed, Names3164, Resolves, body_row}
-use Rattle.syslog_loose.proofs.Names.{rfc3164_row, IsRead3164, Costs, names_weight, ListWeighs, Weighs, Some, tail_text}
-use Rattle.std.specs.List.{AllByRecursion}
-use Rattle.syslog_pieces.specs.Pri.{facility_number, severity_number, facility_of, severity_of}
-use Rattle.syslog_pieces.proofs.PieceLemmas.Class.{run_same, rest_same, heads, row_head, front_same, row_det}
-use Rattle.syslog_pieces.proofs.PieceLemmas.Class.{division_front, optional_none, no_spaced_space}
-use Rattle.syslog_pieces.proofs.PieceLemmas.Kinds.{Begins, begins_apart, begins_more, begins_with}
-use Rattle.syslog_pieces.proofs.PieceLemmas.Steps.{step_value}
-use Rattle.syslog_pieces.proofs.PriLemmas.{priority_composed}
-use Rattle.syslog_pieces.proofs.TimestampLemmas.Rfc3164.{IsLow, rfc3164_stamp_det, stamped_date_begins}
+use Rattle.syslog_loose.proofs.Names.{◌≡◌, ◌+◌, ◌*◌, ◌<◌, ◌≤◌, ◌⊎◌, ◌∷◌, ◌++◌, ◌∙◌, ◌then◌, ℕ, inl, inr, List, []}
+use Rattle.syslog_loose.proofs.Names.{length, Option, None, IfSome, refl, sym, ap, subst, arith, Some, nat_tests}
+use Rattle.syslog_loose.proofs.Names.{is_not_whitespace, option_map_or, Text, Values, Front, Row, Ends, exactly, spaced}
+use Rattle.syslog_loose.proofs.Names.{ElementValue, elements_or, is_blank, colon, name_text, host, tag_word}
+use Rattle.syslog_loose.proofs.Names.{rfc3164_stamp, IsCanonicalStamp, Dating, DashRule, BeforeBlank, OffsetTimestamp}
+use Rattle.syslog_loose.proofs.Names.{row_of, step, rows_step, step_value, IsBoundedProcess, IsCanonicalElement}
+use Rattle.syslog_loose.proofs.Names.{HasNoColon, HasExceptionsAlone, MessageValue, timestamp_text, tag_text}
+use Rattle.syslog_loose.proofs.Names.{priority_of, printed, Names3164, Resolves, body_row, rfc3164_row, IsRead3164}
+use Rattle.syslog_loose.proofs.Names.{Costs, names_weight, ListWeighs, Weighs, tail_text, AllByRecursion}
+use Rattle.syslog_loose.proofs.Names.{facility_number, severity_number, facility_of, severity_of, run_same, rest_same}
+use Rattle.syslog_loose.proofs.Names.{heads, row_head, front_same, row_det, division_front, optional_none}
+use Rattle.syslog_loose.proofs.Names.{no_spaced_space, Begins, begins_apart, begins_more, begins_with}
+use Rattle.syslog_loose.proofs.Names.{priority_composed, IsLow, rfc3164_stamp_det, stamped_date_begins}
+use Rattle.syslog_loose.proofs.Names.{stamp_text-canonical, printed_stamp-visible, printed_stamp-begins}
 use Rattle.syslog_pieces.proofs.TimestampLemmas.Piece.{stamp_each, space_ends}
-use Rattle.syslog_pieces.proofs.TimestampLemmas.RoundTrip.{stamp_text-canonical, printed_stamp-visible}
-use Rattle.syslog_pieces.proofs.TimestampLemmas.RoundTrip.{printed_stamp-begins}
-use Rattle.syslog_loose.specs.Canonical.{IsCanonicalElement}
 use Rattle.syslog_loose.specs.Printed.{printed_3164}
 use Rattle.syslog_loose.proofs.PriorityLemmas.{priority_small}
 use Rattle.syslog_loose.proofs.Rfc3164Lemmas.Apart.{IsDigit, digit_range}

@@ -1,21 +1,16 @@
 -- Rounds that are known from the one before: of a host that ends in colons, and of a message part of dashes.
-use Rattle.syslog_loose.proofs.Names.{subst, ◌≡◌, ℕ, zero, suc, ◌<◌, inr, [], ◌∷◌, ◌++◌, length, None, IfSome, refl, sym, ap}
-use Rattle.syslog_loose.proofs.Names.{◌∙◌, arith, append_assoc, length-append, is_not_whitespace, Text, Values, Front}
-use Rattle.syslog_loose.proofs.Names.{Row, run, rfc3164_list, is_blank, colon, EndsInColon}
-use Rattle.syslog_loose.proofs.Names.{rfc3164_stamp, IsCanonicalStamp, Dating, BeforeBlank, each_front, row_of, ◌then◌}
-use Rattle.syslog_loose.proofs.Names.{piece_front, IsBoundedProcess, HasExceptionsAlone, HasNoException, dash_rule}
-use Rattle.syslog_loose.proofs.Names.{colons, colons_before, past_colons, EndsColons, IsDashed, PassesDashes, with_msg}
-use Rattle.syslog_loose.proofs.Names.{MessageValue, priority_of, printed, IsRead, Names3164, names, Resolves, body_row}
-use Rattle.syslog_loose.proofs.Names.{rfc3164_row, IsRead3164, IsNext, Reaches, Variant, Some, tail_text}
-use Rattle.syslog_pieces.specs.Pri.{facility_of, severity_of}
-use Rattle.syslog_pieces.proofs.PieceLemmas.Class.{row_cons, rows_join, rest_front, front_division, optional_some}
-use Rattle.syslog_pieces.proofs.StructuredDataLemmas.Rfc3164List.{dash_rfc3164_list}
+use Rattle.syslog_loose.proofs.Names.{◌≡◌, ◌<◌, ◌∷◌, ◌++◌, ◌∙◌, ◌then◌, subst, ℕ, zero, suc, inr, [], length, None}
+use Rattle.syslog_loose.proofs.Names.{IfSome, refl, sym, ap, arith, append_assoc, Some, length-append}
+use Rattle.syslog_loose.proofs.Names.{is_not_whitespace, Text, Values, Front, Row, run, rfc3164_list, is_blank, colon}
+use Rattle.syslog_loose.proofs.Names.{EndsInColon, rfc3164_stamp, IsCanonicalStamp, Dating, BeforeBlank, each_front}
+use Rattle.syslog_loose.proofs.Names.{row_of, piece_front, IsBoundedProcess, HasExceptionsAlone, HasNoException}
+use Rattle.syslog_loose.proofs.Names.{HasNoNameException, dash_rule, IsRead, colons, colons_before, past_colons}
+use Rattle.syslog_loose.proofs.Names.{EndsColons, IsDashed, PassesDashes, with_msg, tail_text, MessageValue}
+use Rattle.syslog_loose.proofs.Names.{priority_of, printed, printed_3164, Names3164, names, Resolves, body_row}
+use Rattle.syslog_loose.proofs.Names.{rfc3164_row, IsRead3164, IsNext, Reaches, Variant, facility_of, severity_of}
+use Rattle.syslog_loose.proofs.Names.{row_cons, rows_join, rest_front, front_division, optional_some, dash_rfc3164_list}
+use Rattle.syslog_loose.proofs.Names.{EndsOnce, IsLater, Prints, RFC3164}
 use Rattle.syslog_loose.specs.Jumps.{message_end}
-use Rattle.syslog_loose.specs.Exceptions.{HasNoNameException}
-use Rattle.syslog_loose.specs.Passes.{EndsOnce, IsLater, Prints}
-use Rattle.syslog_loose.specs.Printed.{printed_3164}
-use Rattle.syslog_loose.specs.declared.message.Protocol.TheVariants.{RFC3164}
-use Rattle.syslog_loose.specs.declared.variant.Variant.TheVariants as variants
 use Rattle.syslog_loose.proofs.PriorityLemmas.{priority_small}
 use Rattle.syslog_loose.proofs.Rfc3164Lemmas.Bounded.{read_bounded}
 use Rattle.syslog_loose.proofs.Rfc3164Lemmas.Exceptions.{canonical_host, canonical_names}
@@ -31,6 +26,7 @@ use Rattle.syslog_loose.proofs.SettlingLemmas.Names.{host_left, no_form_open}
 use Rattle.syslog_loose.proofs.SettlingLemmas.NoList.{dash_before, no_list_by}
 use Rattle.syslog_loose.proofs.SettlingLemmas.Rounds.{reached_first, reached_next}
 use Rattle.syslog_loose.proofs.SettlingLemmas.Settles.{no_protocol, as_rfc3164, odd_unsettled}
+use Rattle.syslog_loose.specs.declared.variant.Variant.TheVariants as variants
 
 -- ---- one reading
 

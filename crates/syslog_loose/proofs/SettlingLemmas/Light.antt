@@ -1,18 +1,13 @@
 -- A message that was read as RFC 3164 weighs no more than its text has characters: each term is paid by its own piece.
-use Rattle.syslog_loose.proofs.Names.{ℕ, suc, ◌+◌, ◌<◌, ◌≤◌, inl, inr, List, [], ◌∷◌, ◌++◌, length, Option, None}
-use Rattle.syslog_loose.proofs.Names.{IfSome, ap, subst, arith, length-append, drop_trailing_whitespace, Text, Class}
-use Rattle.syslog_loose.proofs.Names.{Values, Front, Row, run, exactly, optional, spaced, is_blank, colon, host}
-use Rattle.syslog_loose.proofs.Names.{tag_word, rfc3164_stamp, IsCanonicalStamp, Dating, DashRule, OffsetTimestamp}
-use Rattle.syslog_loose.proofs.Names.{MonthDate, front_longer, present_front, MessageValue, Names3164, Resolves}
-use Rattle.syslog_loose.proofs.Names.{body_row, rfc3164_row, IsRead3164, Costs, names_weight, Weighs, Some}
-use Rattle.std.specs.Str.{skip_leading_whitespace}
-use Rattle.syslog_pieces.specs.Pieces.Class.{join}
-use Rattle.syslog_pieces.specs.Pri.{priority}
-use Rattle.syslog_pieces.specs.Text.{IsHost}
-use Rattle.syslog_pieces.specs.Timestamp.MonthDate.{month, month_date}
-use Rattle.syslog_pieces.proofs.PieceLemmas.Class.{row_head, division_front, spaced_parts}
+use Rattle.syslog_loose.proofs.Names.{◌+◌, ◌<◌, ◌≤◌, ◌∷◌, ◌++◌, ℕ, suc, inl, inr, List, [], length, Option, None}
+use Rattle.syslog_loose.proofs.Names.{IfSome, ap, subst, arith, Some, length-append, drop_trailing_whitespace}
+use Rattle.syslog_loose.proofs.Names.{skip_leading_whitespace, Text, Class, Values, Front, Row, run, exactly, optional}
+use Rattle.syslog_loose.proofs.Names.{spaced, join, is_blank, colon, host, tag_word, IsHost, rfc3164_stamp}
+use Rattle.syslog_loose.proofs.Names.{IsCanonicalStamp, Dating, DashRule, OffsetTimestamp, MonthDate, front_longer}
+use Rattle.syslog_loose.proofs.Names.{present_front, MessageValue, Names3164, Resolves, body_row, rfc3164_row}
+use Rattle.syslog_loose.proofs.Names.{IsRead3164, Costs, names_weight, Weighs, priority, month, month_date, row_head}
+use Rattle.syslog_loose.proofs.Names.{division_front, spaced_parts, stamp_text-canonical}
 use Rattle.syslog_pieces.proofs.TimestampLemmas.Months.{month_begins}
-use Rattle.syslog_pieces.proofs.TimestampLemmas.RoundTrip.{stamp_text-canonical}
 use Rattle.syslog_loose.proofs.Rfc3164Lemmas.Rows.{from_blanks, from_colon, from_tag_end, from_tag, from_stamp}
 use Rattle.syslog_loose.proofs.Rfc3164Lemmas.Rows.{from_priority_end}
 use Rattle.syslog_loose.proofs.SettlingLemmas.Weights.{free, at_most, field_length, fields_light, message_short}

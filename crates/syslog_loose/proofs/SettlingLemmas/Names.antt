@@ -1,26 +1,22 @@
 -- What the printed names of a message are read as: names that print the same, or lighter ones.
-use Rattle.syslog_loose.proofs.Names.{◌≡◌, ◌≢◌, ℕ, ◌<◌, ◌≤◌, ◌⊎◌, inl, inr, true, false, not, nat_eq, [], ◌∷◌, ◌++◌}
-use Rattle.syslog_loose.proofs.Names.{length, Option, None, IfSome, refl, sym, ap, subst, ◌∙◌, arith, append_assoc}
-use Rattle.syslog_loose.proofs.Names.{nat_tests, append-nil, ◌-◌, length-append, bytes_eq-Decides, is_not_whitespace}
-use Rattle.syslog_loose.proofs.Names.{bytes_eq, Text, Values, Front, NoFront, Row, Each, Ends, run, exactly, optional}
-use Rattle.syslog_loose.proofs.Names.{spaced, is_blank, dash, colon, EndsInColon, name_text, host, tag_word, ProcId}
-use Rattle.syslog_loose.proofs.Names.{PID, Name, DashRule, BeforeBlank, each_both, each_left, each_right, each_front}
-use Rattle.syslog_loose.proofs.Names.{row_pieces, row_of, ◌then◌, piece_front, rows_step, IsBoundedProcess, is_no_colon}
-use Rattle.syslog_loose.proofs.Names.{HasNoColon, is_inner_char, tag_text, Names3164, names, Resolves, body_row}
-use Rattle.syslog_loose.proofs.Names.{names_weight, ListWeighs, elements_or, Some}
-use Rattle.std.proofs.Common.{take, drop}
-use Rattle.syslog_loose.proofs.SettlingLemmas.Decided.{Decided, decided, find_run, no_char}
-use Rattle.std.proofs.lemmas.List.Prefix.{end_rest}
+use Rattle.syslog_loose.proofs.Names.{◌≡◌, ◌≢◌, ◌<◌, ◌≤◌, ◌⊎◌, ◌∷◌, ◌++◌, ◌∙◌, ◌-◌, ◌then◌, ℕ, inl, inr, true, false}
+use Rattle.syslog_loose.proofs.Names.{not, nat_eq, [], length, Option, None, IfSome, refl, sym, ap, subst, arith}
+use Rattle.syslog_loose.proofs.Names.{append_assoc, append-nil, Some, take, nat_tests, length-append, bytes_eq-Decides}
+use Rattle.syslog_loose.proofs.Names.{is_not_whitespace, bytes_eq, Text, Values, Front, NoFront, Row, Each, Ends, run}
+use Rattle.syslog_loose.proofs.Names.{exactly, optional, spaced, is_blank, dash, colon, EndsInColon, name_text, host}
+use Rattle.syslog_loose.proofs.Names.{tag_word, is_tag_char, ProcId, PID, Name, DashRule, BeforeBlank, each_both}
+use Rattle.syslog_loose.proofs.Names.{each_left, each_right, each_front, each_behind, each_append, row_pieces, row_of}
+use Rattle.syslog_loose.proofs.Names.{piece_front, rows_step, IsBoundedProcess, IsVisible, IsCanonicalHost}
+use Rattle.syslog_loose.proofs.Names.{AreCanonicalNames, is_no_colon, HasNoColon, is_inner_char, IsOddHost}
+use Rattle.syslog_loose.proofs.Names.{AreNamesButExceptions, HasQuietNames, tag_text, Names3164, names, Resolves}
+use Rattle.syslog_loose.proofs.Names.{body_row, names_weight, ListWeighs, elements_or, is_open_char, run_same, heads}
+use Rattle.syslog_loose.proofs.Names.{division_front, optional_some, optional_none, spaced_front, no_spaced_space}
+use Rattle.syslog_loose.proofs.Names.{no_spaced_piece, form_row, IsNoForm}
+use Rattle.std.proofs.Common.{drop}
 use Rattle.std.proofs.lemmas.List.{take-append-drop}
+use Rattle.std.proofs.lemmas.List.Prefix.{end_rest}
 use Rattle.std.specs.List.{list_any}
-use Rattle.syslog_pieces.specs.Text.{is_tag_char}
-use Rattle.syslog_pieces.specs.Text.CharClass.{is_open_char}
-use Rattle.syslog_pieces.proofs.PieceLemmas.Class.{run_same, heads, division_front, optional_some, optional_none}
-use Rattle.syslog_pieces.proofs.PieceLemmas.Class.{spaced_front, no_spaced_space, no_spaced_piece}
-use Rattle.syslog_pieces.proofs.PieceLemmas.Each.{each_behind, each_append}
-use Rattle.syslog_loose.specs.Canonical.{IsVisible, IsCanonicalHost, AreCanonicalNames}
-use Rattle.syslog_loose.specs.Exceptions.{IsOddHost, AreNamesButExceptions, HasQuietNames}
-use Rattle.syslog_loose.specs.TagForm.{form_row, IsNoForm}
+use Rattle.syslog_loose.proofs.SettlingLemmas.Decided.{Decided, decided, find_run, no_char}
 use Rattle.syslog_loose.proofs.Rfc3164Lemmas.{resolves_once}
 use Rattle.syslog_loose.proofs.Rfc3164Lemmas.Exceptions.{canonical_names}
 use Rattle.syslog_loose.proofs.Rfc3164Lemmas.ReadBack.{program_field, resolved, no_tag_colon, names_back, tagged}

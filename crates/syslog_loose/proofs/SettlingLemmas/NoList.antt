@@ -1,14 +1,10 @@
 -- Texts that begin with no list: what is left as the message where the names of a printed text are read as others.
-use Rattle.syslog_loose.proofs.Names.{◌≡◌, ℕ, ◌<◌, Bool, true, false, not, nat_eq, [], ◌∷◌, ◌++◌, length, ◌⊎◌, inl, inr}
-use Rattle.syslog_loose.proofs.Names.{refl, sym, subst, ◌∙◌, arith, is_not_whitespace, Text, Front, NoFront, Each, Ends}
+use Rattle.syslog_loose.proofs.Names.{◌≡◌, ◌<◌, ◌∷◌, ◌++◌, ◌⊎◌, ◌∙◌, ℕ, Bool, true, false, not, nat_eq, [], length, inl}
+use Rattle.syslog_loose.proofs.Names.{inr, refl, sym, subst, arith, is_not_whitespace, Text, Front, NoFront, Each, Ends}
 use Rattle.syslog_loose.proofs.Names.{run, full_element, IsDashBefore, BeginsNoList, is_blank, DashRule, BeforeBlank}
-use Rattle.syslog_loose.proofs.Names.{each_both, each_left, each_right, row_pieces, piece_front, is_inner_char}
-use Rattle.syslog_pieces.specs.Bodies.Closing.{start_row, start, opening_row}
-use Rattle.syslog_pieces.specs.Text.CharClass.{is_name_char, is_id_char, is_open_char}
-use Rattle.syslog_pieces.proofs.PieceLemmas.Class.{heads, front_same, run_det}
-use Rattle.syslog_pieces.proofs.PieceLemmas.Rows.{no_row}
-use Rattle.syslog_pieces.proofs.StructuredDataLemmas.Closing.{opening_det}
-use Rattle.syslog_pieces.proofs.StructuredDataLemmas.Rfc3164List.{full_begins, no_full_start, no_full_opening}
+use Rattle.syslog_loose.proofs.Names.{each_both, each_left, each_right, row_pieces, no_row, piece_front, is_inner_char}
+use Rattle.syslog_loose.proofs.Names.{start_row, start, opening_row, is_name_char, is_id_char, is_open_char, heads}
+use Rattle.syslog_loose.proofs.Names.{front_same, run_det, opening_det, full_begins, no_full_start, no_full_opening}
 use Rattle.syslog_loose.proofs.TrimLemmas.{visible_no_blank}
 
 -- by the first character

@@ -1,38 +1,25 @@
 -- The printed text of a message shows no month date, and the variant reads the protocol of what was read.
-use Rattle.syslog_loose.proofs.Names.{◌≡◌, ℕ, ◌<◌, ◌≤◌, inl, inr, [], ◌∷◌, ◌++◌, length, true, Option, None, Some, refl}
-use Rattle.syslog_loose.proofs.Names.{sym, ap, subst, ◌∙◌, arith, append_assoc, is_not_whitespace}
-use Rattle.syslog_loose.proofs.Names.{drop_trailing_whitespace, Text, Front, Each, optional, is_blank, Dating}
-use Rattle.syslog_loose.proofs.Names.{OffsetTimestamp, MonthDate, MessageValue, timestamp_text, priority_of, printed}
-use Rattle.syslog_loose.proofs.Names.{dash_rule, IsRead, AsksYear, Variant}
-use Rattle.std.specs.Char.{is_ascii_digit}
-use Rattle.std.specs.Prelude.{◌^◌}
-use Rattle.std.specs.Fmt.{decimal}
-use Rattle.syslog_pieces.specs.Pri.{priority}
-use Rattle.syslog_pieces.specs.Text.{trimmed}
-use Rattle.syslog_pieces.specs.Timestamp.Rfc3164.{ShowsMonthDate}
-use Rattle.syslog_pieces.specs.Timestamp.MonthDate.{month_date}
-use Rattle.syslog_pieces.proofs.PieceLemmas.Class.{run_same, rest_same, front_same, optional_det, optional_some}
-use Rattle.syslog_pieces.proofs.PieceLemmas.Kinds.{Begins, begins_apart, begins_with}
-use Rattle.syslog_pieces.proofs.PriLemmas.{priority_det}
-use Rattle.syslog_pieces.proofs.TextLemmas.ReadBack.{number_back, digits_visible}
-use Rattle.syslog_pieces.proofs.TimestampLemmas.Rfc3164.{IsLow}
-use Rattle.syslog_pieces.proofs.TimestampLemmas.MonthDate.{month_date_begins}
-use Rattle.syslog_pieces.proofs.TimestampLemmas.Months.{IsLetter}
-use Rattle.syslog_pieces.proofs.TimestampLemmas.RoundTrip.{printed_stamp-visible}
-use Rattle.syslog_loose.specs.Canonical.{IsBounded, IsBoundedProtocol}
+use Rattle.syslog_loose.proofs.Names.{◌≡◌, ◌<◌, ◌≤◌, ◌∷◌, ◌++◌, ◌∙◌, ◌^◌, ℕ, inl, inr, [], length, true, Option, None}
+use Rattle.syslog_loose.proofs.Names.{Some, refl, sym, ap, subst, arith, append_assoc, is_not_whitespace}
+use Rattle.syslog_loose.proofs.Names.{is_ascii_digit, drop_trailing_whitespace, Text, Front, Each, optional, is_blank}
+use Rattle.syslog_loose.proofs.Names.{trimmed, Dating, OffsetTimestamp, MonthDate, MessageValue, timestamp_text}
+use Rattle.syslog_loose.proofs.Names.{priority_of, printed, dash_rule, IsRead, AsksYear, Variant, decimal, priority}
+use Rattle.syslog_loose.proofs.Names.{ShowsMonthDate, month_date, run_same, rest_same, front_same, optional_det}
+use Rattle.syslog_loose.proofs.Names.{optional_some, Begins, begins_apart, begins_with, priority_det, number_back}
+use Rattle.syslog_loose.proofs.Names.{IsLow, month_date_begins, IsLetter, printed_stamp-visible, IsBounded}
+use Rattle.syslog_loose.proofs.Names.{IsBoundedProtocol, ReadsProtocol, Protocol, Either, RFC5424}
+use Rattle.syslog_pieces.proofs.TextLemmas.ReadBack.{digits_visible}
 use Rattle.syslog_loose.specs.Printed.{printed_3164, printed_5424}
-use Rattle.syslog_loose.specs.ReadBack.{ReadsProtocol}
-use Rattle.syslog_loose.specs.declared.message.Protocol.{Protocol}
-use Rattle.syslog_loose.specs.declared.message.Protocol.TheVariants as protocol
-use Rattle.syslog_loose.specs.declared.variant.Variant.TheVariants.{Either, RFC3164, RFC5424}
+use Rattle.syslog_loose.specs.declared.variant.Variant.TheVariants.{RFC3164}
 use Rattle.syslog_loose.proofs.PriorityLemmas.{priority_front, priority_low, priority_trimmed}
 use Rattle.syslog_loose.proofs.Rfc3164Lemmas.Apart.{digit_range}
 use Rattle.syslog_loose.proofs.Rfc3164Lemmas.Exact.{stamp_low}
 use Rattle.syslog_loose.proofs.Rfc3164Lemmas.Near.{read_near}
 use Rattle.syslog_loose.proofs.Rfc3164Lemmas.Printed.{printed_is}
 use Rattle.syslog_loose.proofs.Rfc3164Lemmas.Shown.{shown_parts, shows_month_date}
-use Rattle.syslog_loose.proofs.Rfc5424Lemmas.ReadBack as rfc5424
 use Rattle.syslog_loose.proofs.TrimLemmas.{visible_no_blank, last_append, drop_after}
+use Rattle.syslog_loose.specs.declared.message.Protocol.TheVariants as protocol
+use Rattle.syslog_loose.proofs.Rfc5424Lemmas.ReadBack as rfc5424
 
 -- ---- the protocol of a message that was read is one that the variant reads
 pub read_protocol : (variant : Variant) (dating : Dating) (text : Text) (m : MessageValue)

@@ -1,17 +1,14 @@
 -- What is read of the print of a pass has a lower rank.
-use Rattle.syslog_loose.proofs.Names.{◌≡◌, ℕ, zero, suc, ◌⊎◌, inl, inr, [], ◌∷◌, ◌++◌, length, List, Option, Some, None}
-use Rattle.syslog_loose.proofs.Names.{IfSome, refl, sym, ap, subst, ◌∙◌, arith, true, false, nil_from_length, length-append}
-use Rattle.syslog_loose.proofs.Names.{Text, Values, Front, Row, Ends, run, ElementValue, elements_or, is_blank}
-use Rattle.syslog_loose.proofs.Names.{EndsInColon, BeginsNoList, IsDashBefore, IsDashed, rfc3164_stamp, IsCanonicalStamp}
-use Rattle.syslog_loose.proofs.Names.{Dating, BeforeBlank, OffsetTimestamp, step, rows_step, IsBoundedProcess, tail_text}
-use Rattle.syslog_loose.proofs.Names.{HasExceptionsAlone, MessageValue, timestamp_text, printed}
-use Rattle.syslog_loose.proofs.Names.{dash_rule, body_row, rfc3164_row, IsRead3164}
-use Rattle.syslog_pieces.proofs.PieceLemmas.Class.{division_front, front_same, row_det, row_head}
-use Rattle.syslog_pieces.proofs.PieceLemmas.Steps.{step_value}
-use Rattle.syslog_pieces.proofs.TimestampLemmas.Rfc3164.{rfc3164_stamp_det}
-use Rattle.syslog_pieces.proofs.StructuredDataLemmas.Rfc3164List.{no_full_nil}
-use Rattle.syslog_loose.specs.Exceptions.{HasNoNameException, HasQuietNames}
-use Rattle.syslog_loose.specs.Passes.{BeginsNoDashes, EndsOnce, HasRank, Prints}
+use Rattle.syslog_loose.proofs.Names.{◌≡◌, ◌⊎◌, ◌∷◌, ◌++◌, ◌∙◌, ℕ, zero, suc, inl, inr, [], length, List, Option, Some}
+use Rattle.syslog_loose.proofs.Names.{None, IfSome, refl, sym, ap, subst, arith, true, false, nil_from_length}
+use Rattle.syslog_loose.proofs.Names.{length-append, Text, Values, Front, Row, Ends, run, ElementValue, elements_or}
+use Rattle.syslog_loose.proofs.Names.{BeginsNoList, IsDashBefore, is_blank, EndsInColon, IsDashed, tail_text}
+use Rattle.syslog_loose.proofs.Names.{rfc3164_stamp, IsCanonicalStamp, Dating, BeforeBlank, OffsetTimestamp, step}
+use Rattle.syslog_loose.proofs.Names.{rows_step, step_value, IsBoundedProcess, HasExceptionsAlone, HasNoNameException}
+use Rattle.syslog_loose.proofs.Names.{HasQuietNames, MessageValue, timestamp_text, printed, dash_rule, body_row}
+use Rattle.syslog_loose.proofs.Names.{rfc3164_row, IsRead3164, division_front, front_same, row_det, row_head}
+use Rattle.syslog_loose.proofs.Names.{rfc3164_stamp_det, no_full_nil, EndsOnce, HasRank, Prints}
+use Rattle.syslog_loose.specs.Passes.{BeginsNoDashes}
 use Rattle.syslog_loose.proofs.Rfc3164Lemmas.Bounded.{read_bounded}
 use Rattle.syslog_loose.proofs.Rfc3164Lemmas.Near.{read_near}
 use Rattle.syslog_loose.proofs.Rfc3164Lemmas.Printed.{printed_is}

@@ -1,5 +1,5 @@
 -- Rounds of a text: there is one of each number, and one that is settled first.
-use Rattle.syslog_loose.proofs.Names.{◌≡◌, ℕ, zero, suc, ◌<◌, ◌⊎◌, inl, inr, refl, sym, ap, subst, ◌∙◌, arith}
+use Rattle.syslog_loose.proofs.Names.{◌≡◌, ◌<◌, ◌⊎◌, ◌∙◌, ℕ, zero, suc, inl, inr, refl, sym, ap, subst, arith}
 use Rattle.syslog_loose.proofs.Names.{leb_tells, Text, Dating, printed, IsUnreadable, IsNext, IsRound, IsSettled}
 use Rattle.syslog_loose.proofs.Names.{NoneSettled, Reaches, IsFirstSettled, Variant}
 use Rattle.syslog_loose.proofs.ReadingLemmas.{read_once}

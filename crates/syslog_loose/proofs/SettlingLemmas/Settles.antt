@@ -1,18 +1,12 @@
 -- A text comes to rest, or one of its rounds is missing.
-use Rattle.syslog_loose.proofs.Names.{◌≡◌, ℕ, zero, suc, ◌+◌, ◌<◌, ◌≤◌, inl, inr, Bool, true, false, List, length, refl}
-use Rattle.syslog_loose.proofs.Names.{sym, ap, subst, ◌∙◌, arith, leb_tells, chars_from_encodes, chars}
-use Rattle.syslog_loose.proofs.Names.{IsUtf8, encode_utf8_all, Text, Dating, IsCanonical, HasNoException, MessageValue}
-use Rattle.syslog_loose.proofs.Names.{printed, dash_rule, IsRead, IsUnreadable, IsRead3164, IsNext, IsRound, IsSettled}
-use Rattle.syslog_loose.proofs.Names.{NoneSettled, Reaches, IsFirstSettled, Weighs, Variant}
-use Rattle.syslog_loose.specs.declared.fault.ParseFault.{ParseFault}
-use Rattle.syslog_loose.specs.declared.fault.ParseFault.TheVariants.{Invalid, Memory}
-use Rattle.std.specs.Prelude.{◌↔◌}
-use Rattle.syslog_loose.specs.ReadBack.{IsFixed}
-use Rattle.syslog_loose.specs.Rfc5424.{IsRead5424}
-use Rattle.syslog_loose.specs.Passes.{HasRank, IsAtRest, IsLater, IsToldRound, ReachesRank}
+use Rattle.syslog_loose.proofs.Names.{◌≡◌, ◌+◌, ◌<◌, ◌≤◌, ◌∙◌, ◌↔◌, ℕ, zero, suc, inl, inr, Bool, true, false, List}
+use Rattle.syslog_loose.proofs.Names.{length, refl, sym, ap, subst, arith, leb_tells, chars_from_encodes, chars, IsUtf8}
+use Rattle.syslog_loose.proofs.Names.{encode_utf8_all, Text, Dating, IsCanonical, HasNoException, MessageValue, printed}
+use Rattle.syslog_loose.proofs.Names.{dash_rule, IsRead, IsUnreadable, IsRead3164, IsNext, IsRound, IsSettled}
+use Rattle.syslog_loose.proofs.Names.{NoneSettled, Reaches, IsFirstSettled, Weighs, Variant, ParseFault, Invalid}
+use Rattle.syslog_loose.proofs.Names.{Memory, IsFixed, IsRead5424, HasRank, IsLater, IsToldRound, ReachesRank, Protocol}
 use Rattle.syslog_loose.specs.Settling.{SettlesAs, IsSettlingFault}
-use Rattle.syslog_loose.specs.declared.message.Protocol.{Protocol}
-use Rattle.syslog_loose.specs.declared.message.Protocol.TheVariants as protocol
+use Rattle.syslog_loose.specs.Passes.{IsAtRest}
 use Rattle.syslog_loose.proofs.BoundLemmas.{read_as, read_bounded}
 use Rattle.syslog_loose.proofs.ReadBackLemmas.{printed_exact, fixed_again}
 use Rattle.syslog_loose.proofs.ReadingLemmas.{read_once, invalid_or_memory}
@@ -24,10 +18,11 @@ use Rattle.syslog_loose.proofs.SettlingLemmas.Light.{light}
 use Rattle.syslog_loose.proofs.SettlingLemmas.Names.{same_text}
 use Rattle.syslog_loose.proofs.SettlingLemmas.Quiet.{read_protocol}
 use Rattle.syslog_loose.proofs.SettlingLemmas.Ranks.{rank_falls}
-use Rattle.syslog_loose.proofs.Rfc3164Lemmas.Bounded as rfc3164
 use Rattle.syslog_loose.proofs.SettlingLemmas.Rounds.{none_behind, moves_on, reached_first, reached_next}
 use Rattle.syslog_loose.proofs.SettlingLemmas.Rounds.{reached_further, reached_last, none_settled}
 use Rattle.syslog_loose.proofs.SettlingLemmas.Weights.{weight}
+use Rattle.syslog_loose.specs.declared.message.Protocol.TheVariants as protocol
+use Rattle.syslog_loose.proofs.Rfc3164Lemmas.Bounded as rfc3164
 
 -- ---- by which protocol a text was read
 pub no_protocol : (version : ℕ) → protocol.RFC3164 ≡ protocol.RFC5424 version → ⊥

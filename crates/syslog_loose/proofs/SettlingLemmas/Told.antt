@@ -1,20 +1,12 @@
 -- What is known of a round of a text by way of its line, and of the rounds after it, in which no year counts.
 use Rattle.syslog_loose.proofs.Names.{◌≡◌, ℕ, List, Bool, true, false, Option, None, Some, Result, Ok, Err, refl, subst}
-use Rattle.syslog_loose.proofs.Names.{chars, Text, Dating, Variant, IsCanonical, MessageValue, dash_rule, IsRead}
-use Rattle.syslog_loose.proofs.Names.{string_bytes}
-use Rattle.std.specs.Global.{Global}
-use Rattle.std.specs.Prelude.{IfOk, String}
+use Rattle.syslog_loose.proofs.Names.{string_bytes, chars, Text, Dating, Variant, IsCanonical, MessageValue, dash_rule}
+use Rattle.syslog_loose.proofs.Names.{IsRead, Global, IfOk, String, ElementValue, trimmed, month_date, ShowsMonthDate}
+use Rattle.syslog_loose.proofs.Names.{line_value, IsToldRound, ReachesRank, BeginsWithout, IsBehindPriority, Made}
+use Rattle.syslog_loose.proofs.Names.{ParseFault}
 use Rattle.std.specs.declared.alloc.AllocError.{AllocError}
-use Rattle.syslog_pieces.specs.StructuredData.Element.{ElementValue}
-use Rattle.syslog_pieces.specs.Text.{trimmed}
-use Rattle.syslog_pieces.specs.Timestamp.MonthDate.{month_date}
-use Rattle.syslog_pieces.specs.Timestamp.Rfc3164.{ShowsMonthDate}
-use Rattle.syslog_loose.specs.Line.{line_value}
-use Rattle.syslog_loose.specs.Passes.{AnswersRound, IsToldRound, ReachesRank, ShowsNoDate, WritesRound, round_answer}
+use Rattle.syslog_loose.specs.Passes.{AnswersRound, ShowsNoDate, WritesRound, round_answer}
 use Rattle.syslog_loose.specs.Settling.{Settles}
-use Rattle.syslog_loose.specs.Start.{BeginsWithout, IsBehindPriority}
-use Rattle.syslog_loose.specs.Visit.{Made}
-use Rattle.syslog_loose.specs.declared.fault.ParseFault.{ParseFault}
 use Rattle.syslog_loose.proofs.ReadingLemmas.{invalid_or_memory}
 use Rattle.syslog_loose.proofs.Rfc3164Lemmas.Shown.{shows}
 use Rattle.syslog_loose.proofs.SettlingLemmas.Quiet.{read_shows_none}

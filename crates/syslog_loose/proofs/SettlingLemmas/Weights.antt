@@ -1,23 +1,22 @@
 -- A message has one weight, and what the terms of a weight are where a text is read.
-use Rattle.syslog_loose.proofs.Names.{◌≡◌, ℕ, zero, suc, ◌+◌, ◌<◌, ◌≤◌, ◌%◌, ◌⊎◌, inl, inr, List, [], ◌∷◌, ◌++◌, length}
-use Rattle.syslog_loose.proofs.Names.{nat_eq, Option, None, IfSome, refl, sym, ap, subst, ◌∙◌, arith, leb_tells}
-use Rattle.syslog_loose.proofs.Names.{eqb_tells, length-append, bytes_eq-Decides, option_map_or, bytes_eq, Text, Values}
-use Rattle.syslog_loose.proofs.Names.{Front, Row, Ends, optional, run, ElementValue, full_element, BeginsNoList}
-use Rattle.syslog_loose.proofs.Names.{rfc3164_list, elements_or, dash, colon, is_blank, IsCanonicalStamp, ProcId, PID}
-use Rattle.syslog_loose.proofs.Names.{Name, DashRule, OffsetTimestamp, row_pieces, front_longer, piece_front}
-use Rattle.syslog_loose.proofs.Names.{present_front, step, decide, MessageValue, Names3164, Resolves, Costs}
-use Rattle.syslog_loose.proofs.Names.{names_weight, ListWeighs, Weighs, Some, IsDashBefore}
-use Rattle.std.proofs.lemmas.Int.{ints, by_lt_z}
+use Rattle.syslog_loose.proofs.Names.{◌≡◌, ◌+◌, ◌<◌, ◌≤◌, ◌%◌, ◌⊎◌, ◌∷◌, ◌++◌, ◌∙◌, ℕ, zero, suc, inl, inr, List, []}
+use Rattle.syslog_loose.proofs.Names.{length, nat_eq, Option, None, IfSome, refl, sym, ap, subst, arith, Some}
+use Rattle.syslog_loose.proofs.Names.{leb_tells, eqb_tells, length-append, bytes_eq-Decides, option_map_or, bytes_eq}
+use Rattle.syslog_loose.proofs.Names.{Text, Values, Front, Row, Ends, optional, run, ElementValue, full_element}
+use Rattle.syslog_loose.proofs.Names.{BeginsNoList, rfc3164_list, elements_or, IsDashBefore, IsRfc3164List, dash, colon}
+use Rattle.syslog_loose.proofs.Names.{is_blank, IsCanonicalStamp, ProcId, PID, Name, DashRule, OffsetTimestamp}
+use Rattle.syslog_loose.proofs.Names.{row_pieces, front_longer, piece_front, present_front, step, absent_none}
+use Rattle.syslog_loose.proofs.Names.{absent_stays, decide, MessageValue, Names3164, Resolves, NamesProgram, Costs}
+use Rattle.syslog_loose.proofs.Names.{names_weight, ListWeighs, Weighs, pos, front_same, rest_whole, row_head, run_det}
+use Rattle.syslog_loose.proofs.Names.{begins_no_list, full_shorter, no_rfc3164_list}
 use Rattle.std.proofs.lemmas.List.{reverse-append}
+use Rattle.syslog_pieces.specs.Timestamp.Canonical.{own_year}
+use Rattle.std.proofs.lemmas.Int.{ints, by_lt_z}
 use Rattle.std.proofs.lemmas.List.Sums.{suffix_len-le-length}
 use Rattle.std.specs.List.{prefix_len}
-use Rattle.std.specs.Prelude.{pos, unsigned_abs}
-use Rattle.syslog_pieces.specs.StructuredData.Rfc3164List.{IsRfc3164List}
-use Rattle.syslog_pieces.specs.Timestamp.Canonical.{own_year}
-use Rattle.syslog_pieces.proofs.PieceLemmas.Class.{front_same, no_front_no, rest_whole, row_head, run_det}
-use Rattle.syslog_pieces.proofs.PieceLemmas.Steps.{absent_none, absent_stays}
-use Rattle.syslog_pieces.proofs.StructuredDataLemmas.Rfc3164List.{begins_no_list, full_shorter, no_rfc3164_list}
-use Rattle.syslog_loose.specs.Rfc3164.{NamesHost, NamesProgram}
+use Rattle.std.specs.Prelude.{unsigned_abs}
+use Rattle.syslog_pieces.proofs.PieceLemmas.Class.{no_front_no}
+use Rattle.syslog_loose.specs.Rfc3164.{NamesHost}
 use Rattle.syslog_loose.specs.Settling.{end_colons, colons_weight, host_weight, process_weight}
 use Rattle.syslog_loose.proofs.Rfc3164Lemmas.Rows.{from_list, from_blanks}
 use Rattle.syslog_loose.proofs.SettlingLemmas.Decided.{Decided, list_decided}

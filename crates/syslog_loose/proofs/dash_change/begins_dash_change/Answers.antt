@@ -1,4 +1,4 @@
-use Rattle.std.proofs.Common.{[], ◌∷◌, refl}
+use Rattle.syslog_loose.proofs.Names.{◌∷◌, [], refl}
 use Rattle.syslog_loose.proofs.dash_change.begins_dash_change.Goals as goal
 
 pub returns-in_default : goal.returns-in_default

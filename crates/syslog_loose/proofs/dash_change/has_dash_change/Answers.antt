@@ -1,4 +1,3 @@
-use Rattle.std.proofs.Common.{refl}
 use Rattle.syslog_loose.proofs.DashChangeLemmas.{told_by_line, unchanged_5424}
 use Rattle.syslog_loose.proofs.dash_change.has_dash_change.Goals as goal
 

@@ -1,4 +1,4 @@
-use Rattle.syslog_loose.proofs.Names.{Some, None, arith, chars, rules, IsUtf8}
+use Rattle.syslog_loose.proofs.Names.{Some, None, arith, rules, chars, IsUtf8}
 use Rattle.std.proofs.lemmas.Str.Pattern.{strip_suffix_char}
 use Rattle.syslog_loose.proofs.JumpLemmas.{ends_once, ends_once_in, suffix_bytes, suffix_some}
 use Rattle.syslog_loose.proofs.jumps.before_run.Goals as goal

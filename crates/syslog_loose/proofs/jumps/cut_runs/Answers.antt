@@ -1,4 +1,4 @@
-use Rattle.syslog_loose.proofs.Names.{◌++◌, ap, length, List, ℕ, ◌∙◌, rules, arith, length-append, IsUtf8}
+use Rattle.syslog_loose.proofs.Names.{◌++◌, ◌∙◌, ap, length, List, ℕ, rules, arith, length-append, IsUtf8}
 use Rattle.syslog_loose.proofs.JumpLemmas.{suffix_some, cut_on}
 use Rattle.syslog_loose.proofs.jumps.cut_runs.Goals as goal
 

@@ -1,6 +1,4 @@
-use Rattle.syslog_loose.proofs.Names.{ap, refl, shown}
-use Rattle.syslog_pieces.proofs.TextLemmas.Canonical.{no_truth}
-use Rattle.syslog_loose.specs.Line.{line_value, protocol_of}
+use Rattle.syslog_loose.proofs.Names.{ap, refl, shown, no_truth, line_value, protocol_of}
 use Rattle.syslog_loose.proofs.SettlingLemmas.Jumps.{dashes_later, itself}
 use Rattle.syslog_loose.proofs.jumps.msg_past_dashes.Goals as goal
 

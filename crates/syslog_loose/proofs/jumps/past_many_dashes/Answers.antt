@@ -1,4 +1,4 @@
-use Rattle.syslog_loose.proofs.Names.{rules, ◌≡◌, ◌++◌, subst, sym, chars, IsUtf8, Text, PassesDashes}
+use Rattle.syslog_loose.proofs.Names.{◌≡◌, ◌++◌, rules, subst, sym, chars, IsUtf8, Text, PassesDashes}
 use Rattle.syslog_loose.proofs.JumpLemmas.{some_next, spaced_dashes, dashes_front, passes_spaced, passes_both}
 use Rattle.syslog_loose.proofs.jumps.past_many_dashes.Goals as goal
 

@@ -1,4 +1,4 @@
-use Rattle.syslog_loose.proofs.Names.{◌≡◌, ◌+◌, ◌*◌, ◌%◌, refl, arith, on_ok_weaker, string_bytes}
+use Rattle.syslog_loose.proofs.Names.{◌≡◌, ◌+◌, ◌*◌, ◌%◌, refl, arith, string_bytes, on_ok_weaker}
 use Rattle.std.proofs.Common.{◌/◌}
 use Rattle.syslog_loose.proofs.JumpLemmas.{colons_pushed}
 use Rattle.syslog_loose.proofs.jumps.push_colons.Goals as goal

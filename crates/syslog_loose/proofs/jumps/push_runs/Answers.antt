@@ -1,4 +1,4 @@
-use Rattle.syslog_loose.proofs.Names.{◌≡◌, ◌+◌, ◌*◌, ap, ◌++◌, ◌∙◌, List, ℕ, arith, string_bytes}
+use Rattle.syslog_loose.proofs.Names.{◌≡◌, ◌+◌, ◌*◌, ◌++◌, ◌∙◌, ap, List, ℕ, arith, string_bytes}
 use Rattle.syslog_loose.proofs.JumpLemmas.{colons_pushed}
 use Rattle.syslog_loose.proofs.jumps.push_runs.Goals as goal
 

@@ -1,4 +1,4 @@
-use Rattle.syslog_loose.proofs.Names.{◌≡◌, ◌*◌, ◌++◌, ℕ, [], colons_before, string_bytes}
+use Rattle.syslog_loose.proofs.Names.{◌≡◌, ◌*◌, ◌++◌, ℕ, [], string_bytes, colons_before}
 use Rattle.syslog_loose.proofs.jumps.push_runs.Given as goal
 
 abbrev pub invariant-loop-done : goal.invariant-loop-done

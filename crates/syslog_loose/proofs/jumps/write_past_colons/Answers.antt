@@ -1,7 +1,5 @@
-use Rattle.syslog_loose.proofs.Names.{[], ap, ◌∙◌, ◌++◌, ◌-◌, List, ℕ, refl, chars-IsAscii, chars, encode_utf8_all}
-use Rattle.syslog_loose.proofs.Names.{colon, colons_before, tail_text}
-use Rattle.syslog_loose.specs.Line.{line_value}
-use Rattle.syslog_pieces.proofs.TextLemmas.Words.{colon_ascii}
+use Rattle.syslog_loose.proofs.Names.{◌∙◌, ◌++◌, ◌-◌, [], ap, List, ℕ, refl, chars-IsAscii, chars, encode_utf8_all}
+use Rattle.syslog_loose.proofs.Names.{colon, colons_before, tail_text, line_value, colon_ascii}
 use Rattle.syslog_loose.proofs.JumpLemmas.{past_written}
 use Rattle.syslog_loose.proofs.jumps.write_past_colons.Goals as goal
 

@@ -1,5 +1,4 @@
-use Rattle.syslog_loose.proofs.Names.{IsUtf8-string_bytes, shown, printed, with_msg, on_ok_weaker}
-use Rattle.syslog_loose.specs.Line.{line_value}
+use Rattle.syslog_loose.proofs.Names.{IsUtf8-string_bytes, shown, printed, with_msg, on_ok_weaker, line_value}
 use Rattle.syslog_loose.proofs.JumpLemmas.{later_printed}
 use Rattle.syslog_loose.proofs.jumps.write_past_dashes.Goals as goal
 

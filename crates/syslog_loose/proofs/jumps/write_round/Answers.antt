@@ -1,5 +1,4 @@
-use Rattle.syslog_loose.proofs.Names.{IsUtf8-string_bytes, ap, chars, on_ok_weaker}
-use Rattle.syslog_loose.specs.Line.{line_value, protocol_of}
+use Rattle.syslog_loose.proofs.Names.{IsUtf8-string_bytes, ap, chars, on_ok_weaker, line_value, protocol_of}
 use Rattle.syslog_loose.proofs.JumpLemmas.{later_written}
 use Rattle.syslog_loose.proofs.jumps.write_round.Goals as goal
 

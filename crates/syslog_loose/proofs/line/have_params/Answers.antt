@@ -1,6 +1,5 @@
-use Rattle.std.proofs.Common.{◌∙◌, ap, arith, refl, subst, sym}
+use Rattle.syslog_loose.proofs.Names.{◌∙◌, ap, arith, refl, subst, sym, elements_left}
 use Rattle.syslog_pieces.proofs.PieceLemmas.Tests.{false_is}
-use Rattle.syslog_pieces.specs.StructuredData.Visited.{elements_left}
 use Rattle.syslog_loose.proofs.line.have_params.Invariants.{HaveParams}
 use Rattle.syslog_loose.proofs.line.have_params.Goals as goal
 

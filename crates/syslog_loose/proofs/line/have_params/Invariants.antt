@@ -1,7 +1,5 @@
-use Rattle.std.proofs.Common.{◌<◌, ◌↔◌, List, length}
-use Rattle.std.specs.List.{AllByRecursion}
-use Rattle.syslog_pieces.specs.StructuredData.Element.{ElementValue}
-use Rattle.syslog_pieces.specs.StructuredData.Visited.{elements_left, list_elements}
+use Rattle.syslog_loose.proofs.Names.{◌<◌, ◌↔◌, List, length, AllByRecursion, ElementValue, elements_left}
+use Rattle.syslog_loose.proofs.Names.{list_elements}
 use Rattle.syslog_loose.proofs.line.have_params.Given as goal
 
 abbrev pub HaveParams : List ElementValue → Type 0

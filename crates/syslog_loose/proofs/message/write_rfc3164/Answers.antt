@@ -1,9 +1,5 @@
-use Rattle.std.proofs.Common.{ap, map, refl}
-use Rattle.std.proofs.lemmas.Grind.{put_five}
-use Rattle.syslog_pieces.specs.StructuredData.Element.{element_value}
-use Rattle.syslog_pieces.specs.Pieces.View.{text_of}
-use Rattle.syslog_pieces.proofs.TextLemmas.Printed.{encodes_shown}
-use Rattle.syslog_loose.specs.Printed.{printed_3164, spaced_elements}
+use Rattle.syslog_loose.proofs.Names.{ap, map, refl, put_five, element_value, text_of, encodes_shown, spaced_elements}
+use Rattle.syslog_loose.specs.Printed.{printed_3164}
 use Rattle.syslog_loose.proofs.PrintedLemmas.{written_3164}
 use Rattle.syslog_loose.proofs.message.write_rfc3164.Goals as goal
 

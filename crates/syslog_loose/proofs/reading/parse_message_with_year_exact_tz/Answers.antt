@@ -1,5 +1,4 @@
-use Rattle.std.specs.Str.{chars}
-use Rattle.syslog_pieces.specs.Timestamp.Zone.{dating_of}
+use Rattle.syslog_loose.proofs.Names.{chars, dating_of}
 use Rattle.syslog_loose.proofs.ReadBackLemmas.{answered_in}
 use Rattle.syslog_loose.proofs.ReadingLemmas.{in_year_map}
 use Rattle.syslog_loose.proofs.VisitLemmas.{message_answers}

@@ -1,4 +1,4 @@
-use Rattle.std.proofs.Common.{◌≡◌, ◌∙◌, of_z, refl, rules, to_z, w32}
+use Rattle.syslog_loose.proofs.Names.{◌≡◌, ◌∙◌, of_z, refl, rules, to_z, w32}
 use Rattle.syslog_loose.proofs.reckoning.zone_ahead.Goals as goal
 
 pub returns-in-Ok : goal.returns-in-Ok

@@ -1,5 +1,5 @@
-use Rattle.std.proofs.Common.{refl, ap}
-use Rattle.syslog_pieces.specs.Pieces.View.{field_seen, seen, shown}
+use Rattle.syslog_loose.proofs.Names.{refl, ap, seen, shown}
+use Rattle.syslog_pieces.specs.Pieces.View.{field_seen}
 use Rattle.syslog_loose.proofs.rfc3164.are_there.Goals as goal
 
 pub returns : goal.returns

@@ -1,6 +1,4 @@
-use Rattle.std.proofs.Common.{inl, refl}
-use Rattle.syslog_pieces.proofs.ProcIdLemmas.Named.{named_names}
-use Rattle.syslog_pieces.specs.Pieces.View.{shown}
+use Rattle.syslog_loose.proofs.Names.{inl, refl, named_names, shown}
 use Rattle.syslog_loose.proofs.rfc3164.lone.Goals as goal
 
 pub returns-in-Some : goal.returns-in-Some

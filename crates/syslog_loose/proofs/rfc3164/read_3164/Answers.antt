@@ -1,15 +1,7 @@
-use Rattle.std.proofs.Common.{◌≡◌, ◌∙◌, ◌++◌, [], List, ap, refl, sym, true}
-use Rattle.syslog_pieces.specs.StructuredData.Element.{ElementValue}
-use Rattle.syslog_loose.specs.Printed.{spaced_elements}
-use Rattle.syslog_pieces.specs.Pieces.Class.{Text}
-use Rattle.syslog_pieces.specs.Pieces.View.{shown}
+use Rattle.syslog_loose.proofs.Names.{◌≡◌, ◌∙◌, ◌++◌, ◌then◌, [], List, ap, refl, sym, true, ElementValue}
+use Rattle.syslog_loose.proofs.Names.{spaced_elements, Text, shown, begins_no_list, dash_rule, stamped_row, fields_row}
+use Rattle.syslog_loose.proofs.Names.{body_row, fields_before, names_value, rows_join, rest_front, row_of}
 use Rattle.syslog_pieces.specs.StructuredData.Visited.{list_text}
-use Rattle.syslog_pieces.proofs.StructuredDataLemmas.Rfc3164List.{begins_no_list}
-use Rattle.syslog_loose.specs.Reading.{dash_rule}
-use Rattle.syslog_loose.specs.Rfc3164.{stamped_row, fields_row, body_row}
-use Rattle.syslog_loose.specs.View3164.{fields_before, names_value}
-use Rattle.syslog_pieces.proofs.PieceLemmas.Class.{rows_join, rest_front}
-use Rattle.syslog_pieces.proofs.PieceLemmas.Rows.{row_of, ◌then◌}
 use Rattle.syslog_loose.proofs.LineLemmas.{empty_text, msg_same, no_list}
 use Rattle.syslog_loose.proofs.Rfc3164Lemmas.Reading.{is_read}
 use Rattle.syslog_loose.proofs.Rfc3164Lemmas.Rows.{from_list}

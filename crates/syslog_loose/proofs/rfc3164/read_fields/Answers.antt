@@ -1,14 +1,7 @@
-use Rattle.std.proofs.Common.{◌≡◌, ◌∷◌, ◌++◌, [], List, ℕ, refl, sym, ap, ◌∙◌, arith, true}
+use Rattle.syslog_loose.proofs.Names.{◌≡◌, ◌∷◌, ◌++◌, ◌∙◌, ◌then◌, [], List, ℕ, refl, sym, ap, arith, true, chars, run}
+use Rattle.syslog_loose.proofs.Names.{optional, exactly, seen, shown, is_blank, colon, row_of, one_ascii, text_is}
+use Rattle.syslog_loose.proofs.Names.{HasQuietNames, fields_row, fields_before, names_value}
 use Rattle.std.proofs.lemmas.Str.Ascii.{IsAscii-cons}
-use Rattle.std.specs.Str.{chars}
-use Rattle.syslog_pieces.specs.Pieces.Class.{run, optional, exactly}
-use Rattle.syslog_pieces.specs.Pieces.View.{seen, shown}
-use Rattle.syslog_pieces.specs.Text.{is_blank, colon}
-use Rattle.syslog_pieces.proofs.PieceLemmas.Rows.{row_of, ◌then◌}
-use Rattle.syslog_pieces.proofs.TextLemmas.Chars.{one_ascii, text_is}
-use Rattle.syslog_loose.specs.Exceptions.{HasQuietNames}
-use Rattle.syslog_loose.specs.Rfc3164.{fields_row}
-use Rattle.syslog_loose.specs.View3164.{fields_before, names_value}
 use Rattle.syslog_loose.proofs.Rfc3164Lemmas.Near.{fields_known}
 use Rattle.syslog_loose.proofs.rfc3164.read_fields.Goals as goal
 

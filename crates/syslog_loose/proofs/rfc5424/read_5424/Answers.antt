@@ -1,12 +1,7 @@
-use Rattle.std.proofs.Common.{◌∷◌, ◌++◌, inl, refl, sym, ap, ◌∙◌}
-use Rattle.syslog_pieces.specs.Text.{trimmed}
-use Rattle.syslog_pieces.proofs.PieceLemmas.Class.{rest_front, rows_join, rows_none_here, rows_none_later}
-use Rattle.syslog_pieces.proofs.PieceLemmas.Rows.{no_row, row_of, ◌past◌, ◌then◌}
-use Rattle.syslog_pieces.specs.Pieces.Class.{Text}
-use Rattle.syslog_pieces.specs.Pieces.View.{shown}
-use Rattle.syslog_pieces.specs.StructuredData.Element.{elements_text}
-use Rattle.syslog_pieces.specs.StructuredData.Visited.{list_elements}
-use Rattle.syslog_loose.specs.Rfc5424.{header_row, data_row}
+use Rattle.syslog_loose.proofs.Names.{◌∷◌, ◌++◌, ◌∙◌, ◌past◌, ◌then◌, inl, refl, sym, ap, trimmed, rest_front}
+use Rattle.syslog_loose.proofs.Names.{rows_join, rows_none_here, no_row, row_of, Text, shown, elements_text}
+use Rattle.syslog_loose.proofs.Names.{list_elements, header_row, data_row}
+use Rattle.syslog_pieces.proofs.PieceLemmas.Class.{rows_none_later}
 use Rattle.syslog_loose.specs.View5424.{names_before}
 use Rattle.syslog_loose.proofs.Rfc5424Lemmas.{data_det, header_det, not_read, is_read}
 use Rattle.syslog_loose.proofs.rfc5424.read_5424.Goals as goal

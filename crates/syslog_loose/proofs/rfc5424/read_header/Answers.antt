@@ -1,11 +1,8 @@
 -- Each exit says that the row fails at its piece, after the pieces that were read; the return joins them.
-use Rattle.std.proofs.Common.{inl, refl, rules}
-use Rattle.syslog_pieces.specs.Pieces.View.{seen, shown}
-use Rattle.syslog_pieces.specs.Text.{name_text}
-use Rattle.syslog_pieces.proofs.PieceLemmas.Rows.{row_of, no_row, ◌then◌, ◌past◌}
+use Rattle.syslog_loose.proofs.Names.{◌then◌, ◌past◌, inl, refl, rules, seen, shown, name_text, row_of, no_row}
+use Rattle.syslog_loose.proofs.Names.{word_stands, header_row}
 use Rattle.syslog_pieces.proofs.ProcIdLemmas.{no_process}
-use Rattle.syslog_pieces.proofs.TextLemmas.Verbatim.{host_stands, word_stands}
-use Rattle.syslog_loose.specs.Rfc5424.{header_row}
+use Rattle.syslog_pieces.proofs.TextLemmas.Verbatim.{host_stands}
 use Rattle.syslog_loose.proofs.HeaderLemmas.{bare_process, names_joined, process_named}
 use Rattle.syslog_loose.proofs.Rfc5424Lemmas.{header_det}
 use Rattle.syslog_loose.proofs.rfc5424.read_header.Goals as goal

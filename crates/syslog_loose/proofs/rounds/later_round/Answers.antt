@@ -1,5 +1,4 @@
-use Rattle.std.specs.Prelude.{⊤}
-use Rattle.syslog_loose.proofs.Names.{chars}
+use Rattle.syslog_loose.proofs.Names.{⊤, chars}
 use Rattle.syslog_loose.proofs.SettlingLemmas.Told.{made_told, without_date}
 use Rattle.syslog_loose.proofs.rounds.later_round.Goals as goal
 

@@ -1,5 +1,4 @@
-use Rattle.std.specs.Prelude.{⊤}
-use Rattle.syslog_loose.proofs.Names.{chars, dating_of}
+use Rattle.syslog_loose.proofs.Names.{⊤, chars, dating_of}
 use Rattle.syslog_loose.proofs.ReadingLemmas.{in_year_map}
 use Rattle.syslog_loose.proofs.SettlingLemmas.Told.{made_told}
 use Rattle.syslog_loose.proofs.rounds.next_round.Goals as goal

@@ -1,6 +1,4 @@
-use Rattle.syslog_loose.proofs.Names.{IsUtf8-string_bytes, refl, ap}
-use Rattle.syslog_loose.specs.Line.{line_value, protocol_of}
-use Rattle.syslog_pieces.proofs.TextLemmas.Canonical.{no_truth}
+use Rattle.syslog_loose.proofs.Names.{IsUtf8-string_bytes, refl, ap, line_value, protocol_of, no_truth}
 use Rattle.syslog_loose.proofs.SettlingLemmas.Settles.{rests_so, told_later, told_settled}
 use Rattle.syslog_loose.proofs.rounds.other_round.Goals as goal
 

@@ -1,5 +1,4 @@
-use Rattle.syslog_loose.proofs.Names.{◌-◌, chars, Dating, string_bytes, Text}
-use Rattle.syslog_loose.specs.Passes.{ReachesRank}
+use Rattle.syslog_loose.proofs.Names.{◌-◌, string_bytes, chars, Dating, Text, ReachesRank}
 use Rattle.syslog_loose.proofs.settling.settle_on.Given as goal
 
 -- each pass has lowered the rank

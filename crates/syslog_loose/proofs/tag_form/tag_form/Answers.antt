@@ -1,9 +1,6 @@
-use Rattle.std.proofs.Common.{rules, [], ◌∷◌, inl, refl}
-use Rattle.std.specs.Str.{chars}
-use Rattle.syslog_pieces.proofs.PieceLemmas.Class.{front_division}
-use Rattle.syslog_pieces.proofs.PieceLemmas.Rows.{row_of, ◌then◌, ◌past◌}
-use Rattle.syslog_pieces.proofs.TextLemmas.Chars.{empty_is, nonempty_is, text_is, text_is_not}
-use Rattle.syslog_loose.specs.TagForm.{form_row, IsNoForm}
+use Rattle.syslog_loose.proofs.Names.{◌∷◌, ◌then◌, ◌past◌, rules, [], inl, refl, chars, front_division, row_of}
+use Rattle.syslog_loose.proofs.Names.{nonempty_is, text_is, form_row, IsNoForm}
+use Rattle.syslog_pieces.proofs.TextLemmas.Chars.{empty_is, text_is_not}
 use Rattle.syslog_loose.proofs.TagFormLemmas.{label_front, id_front, no_id, no_form, no_closing, to_closing}
 use Rattle.syslog_loose.proofs.TagFormLemmas.{closing_front, closing_ascii}
 use Rattle.syslog_loose.proofs.tag_form.tag_form.Goals as goal

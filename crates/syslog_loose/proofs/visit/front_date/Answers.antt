@@ -1,4 +1,4 @@
-use Rattle.syslog_pieces.specs.Timestamp.MonthDate.{month_date}
+use Rattle.syslog_loose.proofs.Names.{month_date}
 use Rattle.syslog_loose.proofs.StartLemmas.{front_read}
 use Rattle.syslog_loose.proofs.visit.front_date.Goals as goal
 

@@ -1,4 +1,4 @@
-use Rattle.syslog_pieces.specs.Timestamp.{header_stamp, stamp_seen}
+use Rattle.syslog_loose.proofs.Names.{header_stamp, stamp_seen}
 use Rattle.syslog_loose.proofs.StartLemmas.{front_read}
 use Rattle.syslog_loose.proofs.visit.front_stamp.Goals as goal
 

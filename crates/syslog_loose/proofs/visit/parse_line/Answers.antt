@@ -1,14 +1,7 @@
-use Rattle.std.specs.Prelude.{⊤, ◌≡◌, IfSome, List, MatchOption, Option, Some, None}
-use Rattle.std.proofs.Common.{refl, sym, subst}
-use Rattle.std.specs.Str.{chars}
-use Rattle.syslog_pieces.specs.Pieces.Class.{Text}
-use Rattle.syslog_pieces.specs.StructuredData.Element.{ElementValue}
-use Rattle.syslog_pieces.specs.Timestamp.Zone.{Dating, dating_of}
+use Rattle.syslog_loose.proofs.Names.{◌≡◌, ⊤, IfSome, List, MatchOption, Option, Some, None, refl, sym, subst, chars}
+use Rattle.syslog_loose.proofs.Names.{Text, ElementValue, Dating, dating_of, IsUnreadable, IsLineOf, Made, Line}
+use Rattle.syslog_loose.proofs.Names.{Variant}
 use Rattle.syslog_loose.specs.Line.{KnowsForm}
-use Rattle.syslog_loose.specs.Reading.{IsUnreadable}
-use Rattle.syslog_loose.specs.Visit.{IsLineOf, Made}
-use Rattle.syslog_loose.specs.declared.line.Line.{Line}
-use Rattle.syslog_loose.specs.declared.variant.Variant.{Variant}
 use Rattle.syslog_loose.proofs.ReadingLemmas.{in_year_map}
 use Rattle.syslog_loose.proofs.visit.parse_line.Goals as goal
 

@@ -1,9 +1,5 @@
-use Rattle.std.proofs.Common.{inl, refl}
-use Rattle.syslog_pieces.proofs.PieceLemmas.Class.{rows_none_here}
-use Rattle.syslog_pieces.proofs.PieceLemmas.Rows.{no_row, ◌past◌}
-use Rattle.syslog_pieces.proofs.StructuredDataLemmas.Listed.{visits_none}
+use Rattle.syslog_loose.proofs.Names.{◌past◌, inl, refl, rows_none_here, no_row, visits_none, data_row, header_row}
 use Rattle.syslog_pieces.proofs.TextLemmas.Looks.{no_number}
-use Rattle.syslog_loose.specs.Rfc5424.{data_row, header_row}
 use Rattle.syslog_loose.proofs.Rfc5424Lemmas.{header_det, not_read}
 use Rattle.syslog_loose.proofs.visit.visit_5424.Goals as goal
 

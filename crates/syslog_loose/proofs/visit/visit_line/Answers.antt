@@ -1,8 +1,6 @@
-use Rattle.std.proofs.Common.{None, Some, refl}
-use Rattle.std.specs.Str.{chars}
-use Rattle.syslog_pieces.specs.Timestamp.Zone.{dating_of}
-use Rattle.syslog_pieces.proofs.StructuredDataLemmas.Listed.{visits_none}
-use Rattle.syslog_loose.proofs.StartLemmas.{asked_month, asks_none, date_answered, dated_invalid, dated_left, dated_front}
+use Rattle.syslog_loose.proofs.Names.{None, Some, refl, chars, dating_of, visits_none}
+use Rattle.syslog_loose.proofs.StartLemmas.{asked_month, asks_none, date_answered, dated_invalid, dated_left}
+use Rattle.syslog_loose.proofs.StartLemmas.{dated_front}
 use Rattle.syslog_loose.proofs.VisitLemmas.{made_3164, made_in}
 use Rattle.syslog_loose.proofs.visit.visit_line.Goals as goal
 

@@ -1,5 +1,4 @@
-use Rattle.std.proofs.Common.{◌∙◌, sym}
-use Rattle.syslog_pieces.proofs.StructuredDataLemmas.Listed.{visits_none}
+use Rattle.syslog_loose.proofs.Names.{◌∙◌, sym, visits_none}
 use Rattle.syslog_loose.proofs.StartLemmas.{left_to_try, other_front, undated_invalid}
 use Rattle.syslog_loose.proofs.VisitLemmas.{made_3164, made_5424, visits_after}
 use Rattle.syslog_loose.proofs.visit.visit_undated.Goals.{then-reads_rfc5424+in_default, else-reads_rfc5424}

@@ -1,4 +1,4 @@
-use Rattle.std.proofs.Common.{refl}
+use Rattle.syslog_loose.proofs.Names.{refl}
 use Rattle.syslog_loose.proofs.visit.visit_versioned.Goals as goal
 
 pub returns-in_default : goal.returns-in_default

@@ -1,6 +1,5 @@
-use Rattle.syslog_loose.proofs.Names.{refl, chars}
+use Rattle.syslog_loose.proofs.Names.{refl, chars, list_elements}
 use Rattle.std.proofs.lemmas.Grind.{put_three}
-use Rattle.syslog_pieces.specs.StructuredData.Visited.{list_elements}
 use Rattle.syslog_loose.proofs.JumpLemmas.{some_long, tail_elements}
 use Rattle.syslog_loose.proofs.jumps.TailDisplay.fmt.Goals as goal
 

@@ -1,9 +1,7 @@
-use Rattle.std.proofs.Common.{ap, sym, ◌∙◌}
+use Rattle.syslog_loose.proofs.Names.{◌∙◌, ap, sym, text_of, MessageValue, message_value}
 use Rattle.std.specs.Cmp.{partial_equiv_from_equiv}
-use Rattle.syslog_pieces.specs.Pieces.View.{text_of}
 use Rattle.syslog_loose.specs.Equal.{message_eq}
 use Rattle.syslog_loose.specs.EqualLaws.{message_equivalence}
-use Rattle.syslog_loose.specs.Message.{MessageValue, message_value}
 use Rattle.syslog_loose.proofs.laws.comparison.messages_are_equal_but_for_the_protocol.Goals as goal
 
 pub returns-clause-reflexive : goal.returns-clause-reflexive

@@ -1,4 +1,4 @@
-use Rattle.syslog_pieces.specs.StructuredData.Visited.{list_elements}
+use Rattle.syslog_loose.proofs.Names.{list_elements}
 use Rattle.syslog_pieces.proofs.StructuredDataLemmas.Recognised.{are_canonical}
 use Rattle.syslog_loose.proofs.line.Line.is_canonical.Goals as goal
 

@@ -1,7 +1,4 @@
-use Rattle.std.proofs.Common.{Some, ap}
-use Rattle.syslog_pieces.specs.Pieces.View.{shown}
-use Rattle.syslog_pieces.proofs.ProcIdLemmas.{process_same}
-use Rattle.syslog_pieces.proofs.ProcIdLemmas.Named.{named_names}
+use Rattle.syslog_loose.proofs.Names.{Some, ap, shown, process_same, named_names}
 use Rattle.syslog_loose.proofs.line.Line.process.Goals as goal
 
 pub returns-in-Some : goal.returns-in-Some

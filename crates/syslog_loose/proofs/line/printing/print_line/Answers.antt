@@ -1,12 +1,8 @@
-use Rattle.std.proofs.Common.{◌≡◌, [], ◌++◌, ℕ, List, Result, Ok, Err, OnOk, string_bytes, sym, ap, ◌∙◌}
-use Rattle.std.proofs.lemmas.Result.{on_ok_weaker}
-use Rattle.std.proofs.lemmas.Str.{encodes-chars}
+use Rattle.syslog_loose.proofs.Names.{◌≡◌, ◌++◌, ◌∙◌, [], ℕ, List, Result, Ok, Err, string_bytes, sym, ap, on_ok_weaker}
+use Rattle.syslog_loose.proofs.Names.{encodes-chars, encode_utf8_all, line_value, rest_text, printed}
+use Rattle.std.proofs.Common.{OnOk}
 use Rattle.std.specs.Bool.{if◌then◌else◌}
 use Rattle.std.specs.Result.{is_ok}
-use Rattle.std.specs.Str.{encode_utf8_all}
-use Rattle.syslog_loose.specs.Line.{line_value}
-use Rattle.syslog_loose.specs.Printed.{rest_text}
-use Rattle.syslog_loose.specs.Printed.{printed}
 use Rattle.syslog_loose.proofs.PrintedLineLemmas.{printed_line}
 use Rattle.syslog_loose.proofs.line.printing.print_line.Goals as goal
 

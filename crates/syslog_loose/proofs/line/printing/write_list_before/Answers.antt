@@ -1,5 +1,4 @@
-use Rattle.std.proofs.Common.{refl}
-use Rattle.std.proofs.lemmas.Grind.{put_two}
+use Rattle.syslog_loose.proofs.Names.{refl, put_two}
 use Rattle.syslog_loose.proofs.PrintedLineLemmas.{encodes_spaced_list}
 use Rattle.syslog_loose.proofs.line.printing.write_list_before.Goals as goal
 

@@ -1,5 +1,4 @@
-use Rattle.syslog_pieces.specs.StructuredData.Visited.{list_elements}
-use Rattle.syslog_loose.proofs.Names.{refl}
+use Rattle.syslog_loose.proofs.Names.{list_elements, refl}
 use Rattle.syslog_loose.proofs.line.quirks.has_no_quirk.Goals as goal
 
 pub returns : goal.returns

@@ -1,9 +1,6 @@
-use Rattle.std.proofs.Common.{refl, subst, sym}
-use Rattle.std.specs.Prelude.{◌↔◌, IsTrue}
-use Rattle.syslog_pieces.specs.Pieces.View.{text_of}
-use Rattle.syslog_pieces.proofs.TextLemmas.Canonical.{last_is}
-use Rattle.syslog_loose.specs.Canonical.{IsCanonicalFor, IsCanonicalInBoth, fields_value}
-use Rattle.syslog_loose.specs.Reading.{dash_rule}
+use Rattle.syslog_loose.proofs.Names.{◌↔◌, refl, subst, sym, IsTrue, text_of, last_is, IsCanonicalFor}
+use Rattle.syslog_loose.proofs.Names.{IsCanonicalInBoth, dash_rule}
+use Rattle.syslog_loose.specs.Canonical.{fields_value}
 use Rattle.syslog_loose.proofs.message.canonical.are_canonical_fields.Goals as goal
 
 pub returns-in-RFC5424 : goal.returns-in-RFC5424

@@ -1,8 +1,6 @@
-use Rattle.std.proofs.Common.{◌<◌, length}
-use Rattle.syslog_pieces.specs.Pieces.View.{text_of}
-use Rattle.syslog_pieces.specs.StructuredData.Element.{element_value, param_value}
+use Rattle.syslog_loose.proofs.Names.{◌<◌, length, text_of, element_value, false_is, no_truth}
+use Rattle.syslog_pieces.specs.StructuredData.Element.{param_value}
 use Rattle.syslog_pieces.proofs.StructuredDataLemmas.Canonical.{all_at}
-use Rattle.syslog_pieces.proofs.TextLemmas.Canonical.{false_is, no_truth}
 use Rattle.syslog_loose.proofs.CanonicalLemmas.{some_params}
 use Rattle.syslog_loose.proofs.message.canonical.have_params.Goals as goal
 

@@ -1,7 +1,4 @@
-use Rattle.std.proofs.Common.{◌<◌, length, map, take}
-use Rattle.std.specs.List.{AllByRecursion}
-use Rattle.syslog_pieces.specs.Pieces.View.{text_of}
-use Rattle.syslog_pieces.specs.StructuredData.Element.{element_value}
+use Rattle.syslog_loose.proofs.Names.{◌<◌, length, map, take, AllByRecursion, text_of, element_value}
 use Rattle.syslog_loose.proofs.message.canonical.have_params.Given as goal
 
 abbrev pub invariant-loop-element : goal.invariant-loop-element

@@ -1,4 +1,4 @@
-use Rattle.std.proofs.Common.{refl}
+use Rattle.syslog_loose.proofs.Names.{refl}
 use Rattle.syslog_loose.proofs.message.canonical.is_lone_tag.Goals as goal
 
 pub returns : goal.returns

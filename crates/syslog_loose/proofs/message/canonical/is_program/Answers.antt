@@ -1,5 +1,4 @@
-use Rattle.std.proofs.Common.{refl}
-use Rattle.syslog_pieces.proofs.TextLemmas.Canonical.{false_is, last_is, no_truth}
+use Rattle.syslog_loose.proofs.Names.{refl, false_is, last_is, no_truth}
 use Rattle.syslog_loose.proofs.message.canonical.is_program.Goals as goal
 
 pub returns-then-not-is_only : goal.returns-then-not-is_only

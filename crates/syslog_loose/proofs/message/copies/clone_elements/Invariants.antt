@@ -1,6 +1,4 @@
-use Rattle.std.proofs.Common.{◌≡◌, map, take}
-use Rattle.syslog_pieces.specs.Pieces.View.{text_of}
-use Rattle.syslog_pieces.specs.StructuredData.Element.{element_value}
+use Rattle.syslog_loose.proofs.Names.{◌≡◌, map, take, text_of, element_value}
 use Rattle.syslog_loose.proofs.message.copies.clone_elements.Given as goal
 
 abbrev pub invariant-loop-element : goal.invariant-loop-element

@@ -1,7 +1,5 @@
-use Rattle.std.proofs.Common.{◌∙◌, sym}
+use Rattle.syslog_loose.proofs.Names.{◌∙◌, sym, text_of, element_value}
 use Rattle.std.specs.Cmp.Derive.Mapped.{pointwise-map}
-use Rattle.syslog_pieces.specs.Pieces.View.{text_of}
-use Rattle.syslog_pieces.specs.StructuredData.Element.{element_value}
 use Rattle.syslog_pieces.specs.StructuredData.Equal.{element_eq}
 use Rattle.syslog_loose.proofs.message.equality.are_same_elements.Goals as goal
 

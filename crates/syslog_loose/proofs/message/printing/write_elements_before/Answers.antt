@@ -1,9 +1,5 @@
-use Rattle.std.proofs.Common.{◌<◌, sym, refl, length, map, arith}
-use Rattle.std.proofs.lemmas.Grind.{put_two}
-use Rattle.std.proofs.lemmas.List.{length-map}
-use Rattle.syslog_pieces.proofs.TextLemmas.Chars.{nonempty_is}
-use Rattle.syslog_pieces.specs.StructuredData.Element.{element_value}
-use Rattle.syslog_pieces.specs.Pieces.View.{text_of}
+use Rattle.syslog_loose.proofs.Names.{◌<◌, sym, refl, length, map, arith, put_two, length-map, nonempty_is}
+use Rattle.syslog_loose.proofs.Names.{element_value, text_of}
 use Rattle.syslog_loose.proofs.PrintedLemmas.{encodes_spaced}
 use Rattle.syslog_loose.proofs.message.printing.write_elements_before.Goals as goal
 

@@ -1,10 +1,6 @@
-use Rattle.std.proofs.Common.{sym, ap, refl, []}
-use Rattle.std.proofs.Output.{has_written_of_eq}
-use Rattle.std.proofs.lemmas.Grind.{put_two}
+use Rattle.syslog_loose.proofs.Names.{sym, ap, refl, [], has_written_of_eq, put_two, encode_utf8_all, element_text}
+use Rattle.syslog_loose.proofs.Names.{element_value, text_of}
 use Rattle.std.proofs.lemmas.List.{take_all}
-use Rattle.std.specs.Str.{encode_utf8_all}
-use Rattle.syslog_pieces.specs.StructuredData.Element.{element_text, element_value}
-use Rattle.syslog_pieces.specs.Pieces.View.{text_of}
 use Rattle.syslog_pieces.proofs.TextLemmas.Printed.{encodes_step, flat_map-map}
 use Rattle.syslog_loose.proofs.message.printing.write_joined.Goals as goal
 

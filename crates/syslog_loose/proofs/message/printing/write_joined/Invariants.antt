@@ -1,9 +1,5 @@
-use Rattle.std.proofs.Common.{[], ◌++◌, take}
+use Rattle.syslog_loose.proofs.Names.{◌++◌, [], take, flat_map, encode_utf8_all, element_text, element_value, text_of}
 use Rattle.std.specs.Fmt.{HasWritten, IsPlainFormatter}
-use Rattle.std.specs.List.{flat_map}
-use Rattle.std.specs.Str.{encode_utf8_all}
-use Rattle.syslog_pieces.specs.StructuredData.Element.{element_text, element_value}
-use Rattle.syslog_pieces.specs.Pieces.View.{text_of}
 use Rattle.syslog_loose.proofs.message.printing.write_joined.Given as goal
 
 abbrev pub invariant-loop-element : goal.invariant-loop-element

@@ -1,6 +1,4 @@
-use Rattle.std.proofs.Common.{ℕ, List, ◌∷◌, sym, ap}
-use Rattle.std.proofs.Output.{has_written_of_eq}
-use Rattle.syslog_pieces.proofs.TextLemmas.Printed.{encodes_shown}
+use Rattle.syslog_loose.proofs.Names.{◌∷◌, ℕ, List, sym, ap, has_written_of_eq, encodes_shown}
 use Rattle.syslog_loose.proofs.PrintedLemmas.{encodes_tag, encodes_process_tag}
 use Rattle.syslog_loose.proofs.message.printing.write_tag.Goals as goal
 

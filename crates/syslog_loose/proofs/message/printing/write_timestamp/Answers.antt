@@ -1,6 +1,4 @@
-use Rattle.std.proofs.Common.{ℕ, List, ◌∷◌, sym, ap, refl}
-use Rattle.std.proofs.lemmas.Grind.{put_two}
-use Rattle.syslog_pieces.proofs.TimestampLemmas.Printing.{printed_stamp-bytes}
+use Rattle.syslog_loose.proofs.Names.{◌∷◌, ℕ, List, sym, ap, refl, put_two, printed_stamp-bytes}
 use Rattle.syslog_loose.proofs.message.printing.write_timestamp.Goals as goal
 
 pub returns-in_ok-write_str-in-Some : goal.returns-in_ok-write_str-in-Some

@@ -1,8 +1,4 @@
-use Rattle.std.proofs.Common.{refl, ap, ◌∙◌, ◌++◌, ℕ, List}
-use Rattle.std.proofs.lemmas.Grind.{put_two}
-use Rattle.std.specs.Str.{encode_utf8_all}
-use Rattle.syslog_loose.specs.Line.{line_value}
-use Rattle.syslog_loose.specs.Printed.{rest_text}
+use Rattle.syslog_loose.proofs.Names.{◌∙◌, ◌++◌, refl, ap, ℕ, List, put_two, encode_utf8_all, line_value, rest_text}
 use Rattle.syslog_loose.proofs.PrintedLineLemmas.{printed_line}
 use Rattle.syslog_loose.proofs.line.printing.LineDisplay.fmt.Goals as goal
 
