@@ -1,18 +1,14 @@
 -- The priority, and its two parts.
-use Rattle.std.proofs.Common.{◌≡◌, ◌≤◌, ◌<◌, ◌/◌, ◌%◌, ℕ, Bool, true, false, nat_eq}
-use Rattle.std.proofs.Common.{List, [], ◌∷◌, Option, Some, None, MatchOption, refl, sym, ap, ◌∙◌}
-use Rattle.std.proofs.Common.{arith}
-use Rattle.std.specs.Prelude.{slice_get}
-use Rattle.std.proofs.lemmas.Bool.{agree_below, agree_below_at, eqb-true}
+use Rattle.syslog_pieces.proofs.Names.{◌≡◌, ◌≤◌, ◌<◌, ◌/◌, ◌%◌, ℕ, Bool, true, false, nat_eq, List, [], ◌∷◌, Option}
+use Rattle.syslog_pieces.proofs.Names.{Some, None, MatchOption, refl, sym, ap, ◌∙◌, arith, slice_get, agree_below}
+use Rattle.syslog_pieces.proofs.Names.{agree_below_at, eqb-true, Text, Front, NoFront, IsDeterministic, Row, Values}
+use Rattle.syslog_pieces.proofs.Names.{number, priority, priority_row, AllDeterministic, exactly_det, row_det, no_row}
 use Rattle.std.proofs.lemmas.Option.{slice_get_past}
-use Rattle.syslog_pieces.specs.Pieces.Class.{Text, Front, NoFront, IsDeterministic, Row, Values}
-use Rattle.syslog_pieces.specs.Text.{number}
-use Rattle.syslog_pieces.specs.Pri.{priority, priority_row, facility_number, severity_number}
-use Rattle.syslog_pieces.specs.Pri.{facilities, severities, facility_of, severity_of, composed}
+use Rattle.syslog_pieces.specs.Pri.{facility_number, severity_number, facilities, severities, facility_of, severity_of}
+use Rattle.syslog_pieces.specs.Pri.{composed}
 use Rattle.syslog_pieces.specs.declared.pri.SyslogFacility.{SyslogFacility}
 use Rattle.syslog_pieces.specs.declared.pri.SyslogSeverity.{SyslogSeverity}
-use Rattle.syslog_pieces.proofs.PieceLemmas.Class.{AllDeterministic, exactly_det, row_det}
-use Rattle.syslog_pieces.proofs.PieceLemmas.Rows.{Fails, no_row}
+use Rattle.syslog_pieces.proofs.PieceLemmas.Rows.{Fails}
 use Rattle.syslog_pieces.proofs.TextLemmas.Decimals.{one_digit, two_digits, three_digits}
 use Rattle.syslog_pieces.proofs.TextLemmas.Words.{number_det}
 

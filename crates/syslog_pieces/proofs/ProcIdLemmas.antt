@@ -1,19 +1,16 @@
 -- Numbers and names as process ids.
 pub mod Named
 pub mod ReadBack
-use Rattle.syslog_pieces.proofs.Names.{◌≡◌, ◌≢◌, ℕ, ℤ, pos, ◌<◌, ◌^◌, ◌⊎◌, inl, inr, w32, List, [], ◌∷◌, length}
-use Rattle.syslog_pieces.proofs.Names.{get_or, Some, None, Result, Ok, Err, refl, sym, ap, ◌∙◌, rules, arith}
-use Rattle.syslog_pieces.proofs.Names.{is_ascii_digit, chars, IsUtf8, IsAscii, digits_value, ParsesSigned, IsNumeral}
+use Rattle.syslog_pieces.proofs.Names.{◌≡◌, ◌≢◌, ℕ, ℤ, pos, ◌<◌, ◌^◌, ◌⊎◌, inl, inr, w32, List, [], ◌∷◌, length, get_or}
+use Rattle.syslog_pieces.proofs.Names.{Some, None, Result, Ok, Err, refl, sym, ap, ◌∙◌, rules, arith, is_ascii_digit}
+use Rattle.syslog_pieces.proofs.Names.{chars, IsUtf8, IsAscii, digits_value, ParsesSigned, IsNumeral}
 use Rattle.syslog_pieces.proofs.Names.{signed_digits_value, cases_Bool, cases_eq, cases_lt, ne_eqb}
-use Rattle.syslog_pieces.proofs.Names.{decimal-digits_value, chars-IsAscii, IsAscii-cons, IsBareWord, Text}
-use Rattle.syslog_pieces.proofs.Names.{Each, Front, NoFront, IsDeterministic, word, IsI32Text, process_word}
-use Rattle.syslog_pieces.proofs.Names.{ProcId, PID, encode_utf8_all}
-use Rattle.syslog_pieces.proofs.Names.{IsAscii-nil}
-use Rattle.std.proofs.lemmas.Str.{length-le-encodes}
-use Rattle.std.specs.Str.Parse.{without_leading_sign}
+use Rattle.syslog_pieces.proofs.Names.{decimal-digits_value, chars-IsAscii, IsAscii-cons, IsBareWord, Text, Each, Front}
+use Rattle.syslog_pieces.proofs.Names.{NoFront, IsDeterministic, word, IsI32Text, process_word, ProcId, PID}
+use Rattle.syslog_pieces.proofs.Names.{encode_utf8_all, IsAscii-nil, length-le-encodes, without_leading_sign}
+use Rattle.syslog_pieces.proofs.Names.{WritesSigned, NamesProcess, Name}
 use Rattle.syslog_pieces.specs.Bodies.Looks.{LeadsBare}
-use Rattle.syslog_pieces.specs.ProcId.{IsDigits, WritesSigned, NamesProcess, procid_text}
-use Rattle.syslog_pieces.specs.declared.procid.ProcId.TheVariants.{Name}
+use Rattle.syslog_pieces.specs.ProcId.{IsDigits, procid_text}
 use Rattle.syslog_pieces.proofs.TextLemmas.Chars.{digits_ascii, ascii_ahead, ascii_chars}
 use Rattle.syslog_pieces.proofs.TextLemmas.Words.{own, word_det}
 

@@ -2,7 +2,7 @@
 ghost use Rattle.std.specs.Prelude.{◌≡◌, ℕ, List, nat_eq, string_bytes, refl};
 ghost use Rattle.std.specs.Cmp.Lexicographic.{pointwise, slice_cmp};
 ghost use Rattle.std.specs.Ordering.{nat_cmp};
-ghost use Rattle.syslog_pieces.specs.Pieces.View.{text_eq, text_of};
+ghost use Rattle.syslog_pieces.specs.Pieces.{text_eq, text_of};
 
 /// A type whose values are texts: its equality and its order are those of the texts. The two laws
 /// are what `AsRef<str>` does not say.

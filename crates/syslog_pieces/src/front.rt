@@ -2,8 +2,8 @@
 //! version and the timestamp.
 //!
 //! What follows the timestamp is mostly copied, so a line is two pieces: this one and the rest.
-ghost use Rattle.std.specs.Prelude.{◌≡◌, ◌<◌, ◌≤◌, ◌+◌, ◌++◌, ◌∷◌, ℕ, [], Some, length, slice_index, take, unsigned_abs};
-ghost use Rattle.std.specs.Fmt.{decimal};
+ghost use Rattle.std.specs.Prelude.{◌≡◌, ◌<◌, ◌≤◌, ◌+◌, ◌++◌, ◌∷◌, ℕ, [], Some, length, slice_index, take};
+ghost use Rattle.std.specs.Prelude.{unsigned_abs, decimal};
 ghost use Rattle.std.specs.List.{AllByRecursion};
 ghost use Rattle.syslog_pieces.specs.Pri.{priority_text};
 ghost use Rattle.syslog_pieces.specs.Timestamp.Fields.{AreCivil};
@@ -236,34 +236,14 @@ fn date_time_bytes(fields: CivilFields) -> [u8; 19]
     ensures text { result ≡ unsigned_date_time (unsigned_abs fields.year) fields.month fields.day fields.hour
         fields.minute fields.second }
 {
-    bytes_of(
-        fields.year.unsigned_abs(),
-        fields.month,
-        fields.day,
-        fields.hour,
-        fields.minute,
-        fields.second,
-    )
-}
-
-#[inline(always)]
-fn bytes_of(year: u32, month: u32, day: u32, hour: u32, minute: u32, second: u32) -> [u8; 19]
-    requires year { year < 10_000 }
-    requires month { month < 100 }
-    requires day { day < 100 }
-    requires hour { hour < 100 }
-    requires minute { minute < 100 }
-    requires second { second < 100 }
-    ensures ascii { AllByRecursion (λ b. b < 128) result }
-    ensures text { result ≡ unsigned_date_time year month day hour minute second }
-{
+    let year = fields.year.unsigned_abs();
     let [y, e] = two_digits(year / 100);
     let [a, r] = two_digits(year % 100);
-    let [m, o] = two_digits(month);
-    let [d, t] = two_digits(day);
-    let [h, u] = two_digits(hour);
-    let [i, n] = two_digits(minute);
-    let [s, c] = two_digits(second);
+    let [m, o] = two_digits(fields.month);
+    let [d, t] = two_digits(fields.day);
+    let [h, u] = two_digits(fields.hour);
+    let [i, n] = two_digits(fields.minute);
+    let [s, c] = two_digits(fields.second);
     [
         y, e, a, r, b'-', m, o, b'-', d, t, b'T', h, u, b':', i, n, b':', s, c,
     ]

@@ -5,7 +5,7 @@ ghost use Rattle.std.specs.Global.{Global};
 ghost use Rattle.std.specs.Iterator.{Drains};
 ghost use Rattle.std.specs.List.{AllByRecursion};
 ghost use Rattle.std.specs.declared.alloc.AllocError.{AllocError};
-ghost use Rattle.syslog_pieces.specs.Pieces.Class.{Text, Each, Front, NoFront};
+ghost use Rattle.syslog_pieces.specs.Pieces.{Text, Each, Front, NoFront};
 ghost use Rattle.syslog_pieces.specs.StructuredData.Escapes.{TextUnit, SplitsUnits, IsUnescaped, IsUnquoted, escaped};
 ghost use Rattle.syslog_pieces.specs.StructuredData.Params.{NextParam, AreParamItems};
 ghost use Rattle.syslog_pieces.specs.StructuredData.Rfc3164List.{BeginsNoList, rfc3164_list};

@@ -2,14 +2,11 @@
 //!
 //! The priority of a line is optional; `optional_priority` returns it and the text after it. Nothing here takes
 //! memory.
-ghost use Rattle.std.specs.Prelude.{◌≡◌, ◌<◌, ◌≤◌, MatchOption};
+ghost use Rattle.std.specs.Prelude.{◌≡◌, ◌<◌, ◌≤◌, MatchOption, option_and_then, chars, encode_utf8_all};
 ghost use Rattle.std.specs.Fmt.{WritesOnOk};
-ghost use Rattle.std.specs.Option.{option_and_then};
-ghost use Rattle.std.specs.Str.{chars, encode_utf8_all};
-ghost use Rattle.syslog_pieces.specs.Pieces.Class.{Front, optional};
+ghost use Rattle.syslog_pieces.specs.Pieces.{Front, optional, shown, Reads};
 ghost use Rattle.syslog_pieces.specs.Pri.{priority_text};
 ghost use Rattle.syslog_pieces.specs.Pri as spec;
-ghost use Rattle.syslog_pieces.specs.Pieces.View.{shown, Reads};
 
 use crate::text::{literal, number};
 use std::fmt;

@@ -2,11 +2,10 @@
 //!
 //! Values stay raw, and `StructuredElement::params` takes the escapes out. Recognising an element or a list takes no
 //! memory, and time in proportion to the text; collecting it allocates.
-ghost use Rattle.std.specs.Prelude.{◌≡◌, ◌++◌, [], ◌∷◌, Some};
+ghost use Rattle.std.specs.Prelude.{◌≡◌, ◌++◌, [], ◌∷◌, Some, encode_utf8_all};
 ghost use Rattle.std.specs.Fmt.{WritesOnOk};
-ghost use Rattle.std.specs.Str.{encode_utf8_all};
 ghost use Rattle.syslog_pieces.specs.StructuredData.Element.{element_text, element_value};
-ghost use Rattle.syslog_pieces.specs.Pieces.View.{text_of};
+ghost use Rattle.syslog_pieces.specs.Pieces.{text_of};
 
 pub mod canonical;
 mod collect;

@@ -3,14 +3,12 @@
 //! One scanner cuts the maximal run of a class of characters from the front of a text. Every reader of a word rests on
 //! it. A reader returns what its class in `specs/Text.antt` means and the rest, or nothing where no front of the text
 //! is of the class. Nothing here takes memory, and no text is copied.
-ghost use Rattle.std.specs.Prelude.{◌≡◌, ◌<◌, [], ◌∷◌, IfSome, IsTrue, Option, MatchOption};
-ghost use Rattle.std.specs.Str.{bytes_eq, chars, IsUtf8};
+ghost use Rattle.std.specs.Prelude.{◌≡◌, ◌<◌, [], ◌∷◌, IfSome, IsTrue, Option, MatchOption, bytes_eq, chars, IsUtf8};
 ghost use Rattle.syslog_pieces.specs.Text.CharClass.{has};
 ghost use Rattle.syslog_pieces.specs.declared.text.CharClass.TheVariants.{Blank, Digit};
-ghost use Rattle.syslog_pieces.specs.Pieces.Class.{Front, exactly, optional, run, some_run};
+ghost use Rattle.syslog_pieces.specs.Pieces.{Front, exactly, optional, run, some_run, seen, shown, Reads, Skips};
 ghost use Rattle.syslog_pieces.specs.Bodies.Scan.{EndsRun, IsBare, SplitsRun, byte_in};
 ghost use Rattle.syslog_pieces.specs.Text as spec;
-ghost use Rattle.syslog_pieces.specs.Pieces.View.{seen, shown, Reads, Skips};
 
 pub mod canonical;
 mod fields;
@@ -90,20 +88,12 @@ pub fn split_run(text: &str, class: CharClass) -> (&str, &str)
 pub fn run_end(text: &str, class: CharClass) -> usize
     ensures { EndsRun (has class) text.now result }
 {
-    let end = ascii_end(text, class);
+    let end = ascii_run(text.as_bytes(), class);
     if is_cut(text.as_bytes(), end) {
         end
     } else {
         mixed_run_end(text, class)
     }
-}
-
-// The place after the run of ASCII characters of the class.
-#[inline(always)]
-fn ascii_end(text: &str, class: CharClass) -> usize
-    ensures { EndsRun (byte_in class) text.now result }
-{
-    ascii_run(text.as_bytes(), class)
 }
 
 // The place after a run that reaches a character past ASCII: its characters are looked at one by one.

@@ -1,7 +1,7 @@
 -- Pieces that are of their class whatever follows them, and pieces that are where the same character follows.
 use Rattle.std.proofs.Common.{◌≡◌, ℕ, Bool, List, [], ◌∷◌, ◌++◌, sym, ap, ◌∙◌, subst}
 use Rattle.syslog_pieces.specs.Pieces.Class.{Text, Class, Values, Divides, Row, join, run, some_run, exactly}
-use Rattle.syslog_pieces.specs.Pieces.Class.{after, mapped, texted}
+use Rattle.syslog_pieces.specs.Pieces.Class.{mapped, texted}
 use Rattle.syslog_pieces.specs.Pieces.Lists.{IsList, IsMore, list_before}
 use Rattle.syslog_pieces.proofs.PieceLemmas.Class.{heads}
 

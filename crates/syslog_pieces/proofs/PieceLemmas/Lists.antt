@@ -3,7 +3,7 @@ use Rattle.std.proofs.Common.{◌≡◌, ◌≢◌, ℕ, zero, suc, ◌<◌, ◌
 use Rattle.std.proofs.Common.{subst, ◌∙◌, append_assoc, append-nil}
 use Rattle.syslog_pieces.specs.Pieces.Class.{Text, Class, Front, NoFront, IsDeterministic, Row, exactly}
 use Rattle.syslog_pieces.specs.Pieces.Lists.{IsMany, many, HasRead, IsList, IsMore, list_before, more_before}
-use Rattle.syslog_pieces.proofs.PieceLemmas.Class.{rest_same, after_nil, behind, heads, front_same, no_front_no}
+use Rattle.syslog_pieces.proofs.PieceLemmas.Class.{rest_same, after_nil, behind, heads, no_front_no}
 use Rattle.syslog_pieces.proofs.PieceLemmas.Class.{row_cons, row_head}
 use Rattle.syslog_pieces.proofs.PieceLemmas.Meets.{Meets}
 
@@ -205,31 +205,6 @@ module _ (C : Class) (separator close : ℕ) where
             list_same p r p' r' vs vs' (rw (z, z') at e) (rw z at h) (rw z' at h')
 
 -- ---- collecting such a list
-
--- the pieces vs have been read, and at t' the further ones are left
-pub record Collects (C : Class) (separator close : ℕ) (t : Text) (vs : List C.Value) (t' : Text) : Type 0 where
-  pub some : (q : Text) (ws : List C.Value) → Front (more_before C separator close) t' q ws
-      → Front (list_before C separator close) t q (vs ++ ws)
-  pub none : NoFront (more_before C separator close) t' → NoFront (list_before C separator close) t
-
-module _ (C : Class) (separator close : ℕ) (d : IsDeterministic C) where
-  pub collects_first : (t t' : Text) (v : C.Value) → NoFront (exactly (close ∷ [])) t → Front C t t' v
-      → Collects C separator close t (v ∷ []) t'
-  collects_first t t' v m f = record {
-    some = λ q ws g. list_cons C separator close f g;
-    none = λ n p q vs e h. (let (w, ws, u, g, others) = list_parts C separator close t p q vs m e h in
-        no_front_no (more_before C separator close) n (rw (front_same C d g f).0 at others));
-  }
-
-  pub collects_more : (t s u s' : Text) (vs : List C.Value) (v : C.Value) → Collects C separator close t vs s
-      → NoFront (exactly (close ∷ [])) s → s ≡ separator ∷ u → Front C u s' v
-      → Collects C separator close t (vs ++ (v ∷ [])) s'
-  collects_more t s u s' vs v c m e f = record {
-    some = λ q ws g. subst (λ (x : List C.Value). Front (list_before C separator close) t q x)
-        (sym (append_assoc vs (v ∷ []) ws)) (c.some q (v ∷ ws) (more_cons C separator close e f g));
-    none = λ n. c.none (λ p q xs w h. (let (x, ys, r, g, others) = more_parts C separator close s u p q xs m e w h in
-        no_front_no (more_before C separator close) n (rw (front_same C d g f).0 at others)));
-  }
 
 -- the pieces vs have been read, and at t' a further one is left, and then the ones after it
 abbrev pub Leaves : (C : Class) (separator close : ℕ) → Text → List C.Value → Text → Type 0

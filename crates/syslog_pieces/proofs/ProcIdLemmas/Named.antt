@@ -1,14 +1,8 @@
 -- The process id that a text names, computed.
-use Rattle.syslog_pieces.proofs.Names.{◌≡◌, ℤ, pos, ◌<◌, w32, [], ◌∷◌, length, true, false}
-use Rattle.syslog_pieces.proofs.Names.{refl, arith, FitsSigned, Text, Each, is_ascii_digit}
-use Rattle.syslog_pieces.proofs.Names.{signed_digits_value, IsI32Text}
-use Rattle.std.proofs.Common.{negsuc, Bool, ◌&&◌, if◌then◌else◌}
-use Rattle.std.proofs.lemmas.Bool.{lt-ltb}
-use Rattle.syslog_pieces.proofs.Names.{nat_tests, and_parts, and_from, sym}
-use Rattle.syslog_pieces.specs.declared.procid.ProcId.TheVariants.{PID, Name}
-use Rattle.std.specs.List.{list_all}
-use Rattle.std.specs.Str.Parse.{without_leading_sign}
-use Rattle.syslog_pieces.specs.ProcId.{NamesProcess, WritesSigned}
+use Rattle.syslog_pieces.proofs.Names.{◌≡◌, ℤ, pos, ◌<◌, w32, [], ◌∷◌, length, true, false, refl, arith, FitsSigned}
+use Rattle.syslog_pieces.proofs.Names.{Text, Each, is_ascii_digit, signed_digits_value, IsI32Text, negsuc, Bool, ◌&&◌}
+use Rattle.syslog_pieces.proofs.Names.{if◌then◌else◌, lt-ltb, nat_tests, and_parts, and_from, sym, PID, Name, list_all}
+use Rattle.syslog_pieces.proofs.Names.{without_leading_sign, NamesProcess, WritesSigned}
 use Rattle.syslog_pieces.specs.ProcId.{has_32_bits, is_signed_text, named_process}
 use Rattle.syslog_pieces.proofs.ProcIdLemmas.{numeral, digits_from, numeral_writes, writes_numeral}
 

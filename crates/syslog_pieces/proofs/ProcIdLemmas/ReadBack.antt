@@ -4,10 +4,8 @@ use Rattle.syslog_pieces.proofs.Names.{FitsSigned, w32, [], ◌∷◌, length, O
 use Rattle.syslog_pieces.proofs.Names.{arith, digits_value-decimal, is_ascii_digit, is_not_whitespace, ◌↔◌, IsTrue}
 use Rattle.syslog_pieces.proofs.Names.{chars, decimal, signed_decimal, Text, Each, Ends, IsI32Text, process_word}
 use Rattle.syslog_pieces.proofs.Names.{process_text, IsCanonicalProcess, IsBoundedProcess, IsCanonicalWord, ProcId, PID}
-use Rattle.syslog_pieces.proofs.Names.{heads}
-use Rattle.std.proofs.Common.{neg_ℤ}
+use Rattle.syslog_pieces.proofs.Names.{heads, neg_ℤ, Name}
 use Rattle.syslog_pieces.specs.ProcId.{IsNoI32Text}
-use Rattle.syslog_pieces.specs.declared.procid.ProcId.TheVariants.{Name}
 use Rattle.syslog_pieces.proofs.TextLemmas.Canonical.{false_is, last_is}
 use Rattle.syslog_pieces.proofs.TextLemmas.Words.{own}
 use Rattle.syslog_pieces.proofs.TextLemmas.ReadBack.{decimal_digits, digits_visible, word_back, word_canonical}

@@ -13,15 +13,13 @@ use Rattle.syslog_pieces.proofs.Names.{element_row, element_of, is_blank, AllDet
 use Rattle.syslog_pieces.proofs.Names.{◌also◌, exactly_det, texted_det, row_det, row_none_here, no_front_no}
 use Rattle.syslog_pieces.proofs.Names.{mapped_front, nil_front, Meets, meets_on, meets_none, meets_here, mapped_meets}
 use Rattle.syslog_pieces.proofs.Names.{row_of, ◌then◌, row_pieces, MatchResult, more_before, SplitsRun, begins}
-use Rattle.syslog_pieces.proofs.Names.{list_here, more_here, no_list, is_not_whitespace, each_map, each_behind}
-use Rattle.std.proofs.Common.{min}
+use Rattle.syslog_pieces.proofs.Names.{more_here, is_not_whitespace, each_map, each_behind, min}
+use Rattle.syslog_pieces.proofs.Names.{name_alone, tail_row, row_head, rows_join, rows_none_here, no_mapped, row_first}
+use Rattle.syslog_pieces.proofs.Names.{row_goes, list_goes, more_goes}
 use Rattle.std.proofs.lemmas.Str.{IsUtf8-append}
 use Rattle.syslog_pieces.specs.Text.CharClass.{is_inert_char}
-use Rattle.syslog_pieces.specs.Bodies.Closing.{name_alone, tail_row}
-use Rattle.syslog_pieces.proofs.PieceLemmas.Class.{row_head, row_cons, rows_join, rows_none_here, no_mapped}
-use Rattle.syslog_pieces.proofs.PieceLemmas.Class.{row_none_later}
-use Rattle.syslog_pieces.proofs.PieceLemmas.Meets.{row_first, row_goes, meets_none_on, rows_go}
-use Rattle.syslog_pieces.proofs.PieceLemmas.Lists.{list_goes, more_goes}
+use Rattle.syslog_pieces.proofs.PieceLemmas.Class.{row_cons, row_none_later}
+use Rattle.syslog_pieces.proofs.PieceLemmas.Meets.{meets_none_on, rows_go}
 use Rattle.std.specs.Char.{encode_utf8}
 use Rattle.syslog_pieces.proofs.PieceLemmas.Each.{each_right}
 use Rattle.syslog_pieces.proofs.StructuredDataLemmas.Elements.{unit_goes, value_here, space_is_no_close, value_det}
@@ -336,14 +334,6 @@ value_missing text t m n = let k = meets_none _ _ _ _ m n in (no_closing text k,
 
 -- ---- an element
 module _ {text params : Text} {vs : Values start_row} (f : Front start text params vs) where
-  pub element_bare : (q : Text) → Front (exactly (93 ∷ [])) params q tt → (v : ElementValue) × Front element text q v
-  element_bare q g = (element_starts f).forth q ([], (tt, tt))
-      (row_of inside_row (list_here param 32 93 params q (begins 93 params q g) then g then refl))
-
-  pub element_unopened : NoFront (exactly (93 ∷ [])) params → NoFront opening params → NoFront element text
-  element_unopened n m = meets_none _ _ _ _ (element_starts f)
-      (row_none_here _ (exactly (93 ∷ []) ∷ []) (no_list param 32 93 params n (no_opening m)))
-
   pub element_enters : (x : Text) (ws : Values opening_row) → NoFront (exactly (93 ∷ [])) params
       → Front opening params x ws → Passes element text x × Meets element text closing x
   element_enters x ws n g =

@@ -4,9 +4,8 @@ use Rattle.syslog_pieces.proofs.Names.{flat_map, AllByRecursion, is_name_char, i
 use Rattle.syslog_pieces.proofs.Names.{run, some_run, exactly, optional, mapped, ElementValue, IsMany, IsMore, IsList}
 use Rattle.syslog_pieces.proofs.Names.{param_row, param, element_row, element_of, element, item, strict, forgiving}
 use Rattle.syslog_pieces.proofs.Names.{param_of, full_element, rfc3164_list, is_blank, DashRule, all_append, all_map}
-use Rattle.syslog_pieces.proofs.Names.{◌also◌}
+use Rattle.syslog_pieces.proofs.Names.{◌also◌, elements_or}
 use Rattle.syslog_pieces.specs.StructuredData.Element.{element_texts}
-use Rattle.syslog_pieces.specs.StructuredData.Rfc3164List.{elements_or}
 use Rattle.syslog_pieces.specs.Pieces.Parts.{IsPart}
 use Rattle.syslog_pieces.proofs.PieceLemmas.Parts.{Quotes, Quoted, row_texts, row_quotes, part_same, part_left}
 use Rattle.syslog_pieces.proofs.PieceLemmas.Parts.{part_right, part_joined, silent, texted_quotes}

@@ -1,16 +1,14 @@
 -- Values, parameters, elements and forgiving lists: a text has one of each at its front; and items of a list, one after
 -- the other.
 use Rattle.syslog_pieces.proofs.Names.{◌≡◌, ◌≢◌, ℕ, ◌<◌, inl, inr, true, false, List, [], ◌∷◌, ◌++◌, length, Option}
-use Rattle.syslog_pieces.proofs.Names.{Some, None, refl, sym, ap, ◌∙◌, append_assoc, arith, map, subst}
-use Rattle.syslog_pieces.proofs.Names.{nat_tests, length-append, flat_map}
-use Rattle.syslog_pieces.proofs.Names.{AllByRecursion, list_any, is_name_char, is_id_char, is_open_char, Text, join}
-use Rattle.syslog_pieces.proofs.Names.{Front, IsDeterministic, Row, Each, run, some_run, exactly, Class, NoFront}
-use Rattle.syslog_pieces.proofs.Names.{ElementValue, TextUnit, pair, single, unit_text, many, list_before}
-use Rattle.syslog_pieces.proofs.Names.{IsValueUnit, value, param_row, param_of, param, element_row, element_of, element}
-use Rattle.syslog_pieces.proofs.Names.{bracketed, item, strict, forgiving, is_blank, dash, heads, behind, run_det}
-use Rattle.syslog_pieces.proofs.Names.{some_run_det, exactly_det, AllDeterministic, row_det, texted_det, ◌also◌}
-use Rattle.syslog_pieces.proofs.Names.{front_same, mapped_det, many_det, begins, Meets}
-use Rattle.syslog_pieces.proofs.Names.{is_none}
+use Rattle.syslog_pieces.proofs.Names.{Some, None, refl, sym, ap, ◌∙◌, append_assoc, arith, map, subst, nat_tests}
+use Rattle.syslog_pieces.proofs.Names.{length-append, flat_map, AllByRecursion, list_any, is_name_char, is_id_char}
+use Rattle.syslog_pieces.proofs.Names.{is_open_char, Text, join, Front, IsDeterministic, Row, Each, run, some_run}
+use Rattle.syslog_pieces.proofs.Names.{exactly, Class, NoFront, ElementValue, TextUnit, pair, single, unit_text, many}
+use Rattle.syslog_pieces.proofs.Names.{list_before, IsValueUnit, value, param_row, param_of, param, element_row}
+use Rattle.syslog_pieces.proofs.Names.{element_of, element, bracketed, item, strict, forgiving, is_blank, dash, heads}
+use Rattle.syslog_pieces.proofs.Names.{behind, run_det, some_run_det, exactly_det, AllDeterministic, row_det}
+use Rattle.syslog_pieces.proofs.Names.{texted_det, ◌also◌, front_same, mapped_det, many_det, begins, Meets, is_none}
 use Rattle.syslog_pieces.proofs.PieceLemmas.Lists.{list_before_det}
 use Rattle.syslog_pieces.proofs.StructuredDataLemmas.Units.{unit_same, units_same}
 

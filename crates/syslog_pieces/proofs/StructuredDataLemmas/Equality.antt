@@ -3,9 +3,8 @@ use Rattle.syslog_pieces.proofs.Names.{◌≡◌, ℕ, ◌+◌, cond, List, [], 
 use Rattle.syslog_pieces.proofs.Names.{sym, ◌∙◌, ap, nat_eq, count_by, false, true, ◌≢◌, ◌-◌, inl, inr, arith, drop}
 use Rattle.syslog_pieces.proofs.Names.{length-drop, take_all, length-map, map-append, take-append-drop, take_more}
 use Rattle.syslog_pieces.proofs.Names.{drop-map, list_all, Text, param_value, param_eq, param_count, counts_agree}
-use Rattle.syslog_pieces.proofs.Names.{same_params, cases_Bool, one_answer}
+use Rattle.syslog_pieces.proofs.Names.{same_params, cases_Bool, one_answer, sum_by-cons, sum_by-append}
 use Rattle.std.proofs.lemmas.List.{take-map}
-use Rattle.std.proofs.lemmas.List.Sums.{sum_by-cons, sum_by-append}
 use Rattle.std.proofs.lemmas.List.Folds.{list_all-map}
 use Rattle.syslog_pieces.specs.StructuredData.EqualLaws.{Param, param_eq-same, counts_agree-at, counts_agree-from}
 use Rattle.syslog_pieces.specs.StructuredData.EqualLaws.{same_params-counts, same_params-from, same_params-decides}

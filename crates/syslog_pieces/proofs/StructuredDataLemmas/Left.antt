@@ -1,15 +1,13 @@
 -- What is left of a recognised element and of a recognised list, one parameter or one item less.
-use Rattle.syslog_pieces.proofs.Names.{◌≡◌, ◌<◌, ◌⊎◌, inl, inr, List, [], ◌∷◌, ◌++◌, Option, Some, None, refl, sym, ap}
-use Rattle.syslog_pieces.proofs.Names.{◌∙◌, subst, length, Text, Front, NoFront, Row, exactly, inside, inside_row, param}
-use Rattle.syslog_pieces.proofs.Names.{item, many, more_before, list_before, row_of, ◌then◌, front_same, no_front_no}
-use Rattle.syslog_pieces.proofs.Names.{heads, append_assoc, row_none_here, no_list, more_here, list_here, many_here, behind, begins, element}
-use Rattle.syslog_pieces.proofs.Names.{ElementValue, many_det, many_cons}
-use Rattle.std.proofs.Math.Logic.{∥∥₁_elim}
+use Rattle.syslog_pieces.proofs.Names.{◌≡◌, ◌⊎◌, inl, inr, List, [], ◌∷◌, ◌++◌, Option, refl, sym, ap}
+use Rattle.syslog_pieces.proofs.Names.{◌∙◌, subst, Text, Front, NoFront, exactly, inside, inside_row}
+use Rattle.syslog_pieces.proofs.Names.{param, item, many, more_before, list_before, row_of, ◌then◌, front_same}
+use Rattle.syslog_pieces.proofs.Names.{no_front_no, heads, append_assoc, row_none_here, no_list, more_here, list_here}
+use Rattle.syslog_pieces.proofs.Names.{many_here, behind, begins, ElementValue, many_det, many_cons, ∥∥₁_elim}
+use Rattle.syslog_pieces.proofs.Names.{OneMeaning, one_value, one_value-is, row_head, many_none}
 use mathlib.Core.HLevel.{Σ_prop, ⊥_prop}
-use Rattle.syslog_pieces.specs.StructuredData.Recognised.{OneMeaning, OneInside-prop, OneItems-prop, one_value}
-use Rattle.syslog_pieces.specs.StructuredData.Recognised.{one_value-is, params_set, items_set}
-use Rattle.syslog_pieces.proofs.PieceLemmas.Class.{row_head}
-use Rattle.syslog_pieces.proofs.PieceLemmas.Lists.{list_cons, more_cons, list_parts, many_none}
+use Rattle.syslog_pieces.specs.StructuredData.Recognised.{OneInside-prop, OneItems-prop, params_set, items_set}
+use Rattle.syslog_pieces.proofs.PieceLemmas.Lists.{list_cons, more_cons, list_parts}
 use Rattle.syslog_pieces.proofs.StructuredDataLemmas.Elements.{param_det, item_det, space_is_no_close}
 use Rattle.syslog_pieces.proofs.StructuredDataLemmas.Walk.{one_meaning, inside_det}
 

@@ -1,25 +1,21 @@
 -- Recognised lists: their items are in their own text, and are counted while they are walked.
-use Rattle.syslog_pieces.proofs.Names.{◌≡◌, ℕ, ◌+◌, ◌<◌, ◌≤◌, Bool, true, false, ◌&&◌, List, [], ◌∷◌, ◌++◌, length, refl}
-use Rattle.syslog_pieces.proofs.Names.{Option, Some, None, sym, ap, subst, ◌∙◌, append_assoc, append-nil, arith, map}
-use Rattle.syslog_pieces.proofs.Names.{inr, dash, forgiving, optional, optional_some, rfc3164_list, IsDashBefore}
-use Rattle.syslog_pieces.proofs.Names.{DashRule}
-use Rattle.syslog_pieces.proofs.Names.{append_cancel_right, and_parts, length-append, IsTrue, flat_map, chars, IsUtf8, Text, Front, NoFront}
-use Rattle.syslog_pieces.proofs.Names.{exactly, run, some_run, texted, IsMany, many, value, param, param_row, param_of}
-use Rattle.syslog_pieces.proofs.Names.{element, element_row, element_of, bracketed, item, strict, full_element, shown}
-use Rattle.syslog_pieces.proofs.Names.{ElementValue, list_before, is_blank, is_id_char, is_name_char, is_open_char}
-use Rattle.syslog_pieces.proofs.Names.{HasRead, has_read_none, has_read_more, has_read_all, ◌also◌, no_front_no}
-use Rattle.std.proofs.Common.{sum_by}
-use Rattle.std.proofs.lemmas.List.Sums.{sum_by-append, sum_by-cons}
-use Rattle.syslog_pieces.specs.StructuredData.Element.{element_text, elements_text, joined_elements}
-use Rattle.syslog_pieces.specs.StructuredData.Visited.{IsWalked, IsTallied, AreItems, Visits, element_seen}
-use Rattle.syslog_pieces.specs.declared.structured_data.walk.Walked.{Walked}
+use Rattle.syslog_pieces.proofs.Names.{◌≡◌, ◌+◌, ◌<◌, ◌≤◌, Bool, true, false, List, [], ◌∷◌, ◌++◌, length}
+use Rattle.syslog_pieces.proofs.Names.{refl, Option, Some, None, sym, ap, subst, ◌∙◌, append_assoc, append-nil, arith}
+use Rattle.syslog_pieces.proofs.Names.{map, inr, dash, forgiving, optional, optional_some, rfc3164_list, IsDashBefore}
+use Rattle.syslog_pieces.proofs.Names.{DashRule, append_cancel_right, length-append, IsTrue}
+use Rattle.syslog_pieces.proofs.Names.{IsUtf8, Text, Front, NoFront, exactly, run, some_run, texted, IsMany, many}
+use Rattle.syslog_pieces.proofs.Names.{value, param, param_of, element, element_of, bracketed}
+use Rattle.syslog_pieces.proofs.Names.{item, strict, full_element, shown, ElementValue, list_before, is_blank}
+use Rattle.syslog_pieces.proofs.Names.{is_id_char, is_name_char, is_open_char}
+use Rattle.syslog_pieces.proofs.Names.{◌also◌, sum_by-append, sum_by-cons}
+use Rattle.syslog_pieces.proofs.Names.{element_text, elements_text, joined_elements, IsWalked, Visits, element_seen}
+use Rattle.syslog_pieces.proofs.Names.{Walked, IsAlone, behind, elements_or}
+use Rattle.syslog_pieces.specs.StructuredData.Visited.{IsTallied, AreItems}
 use Rattle.syslog_pieces.specs.declared.structured_data.line_list.Tally.{Tally}
-use Rattle.syslog_pieces.proofs.PieceLemmas.Alone.{IsAlone, IsSteady, alone_steady, exactly_alone, run_steady}
-use Rattle.syslog_pieces.proofs.PieceLemmas.Alone.{some_run_steady, texted_steady, mapped_alone, row_alone}
-use Rattle.syslog_pieces.proofs.PieceLemmas.Alone.{closed_steady, list_before_steady}
-use Rattle.syslog_pieces.proofs.PieceLemmas.Class.{behind}
-use Rattle.syslog_pieces.proofs.StructuredDataLemmas.Elements.{strict_append, strict_some, item_shorter, no_list}
-use Rattle.syslog_pieces.specs.StructuredData.Rfc3164List.{elements_or}
+use Rattle.syslog_pieces.proofs.PieceLemmas.Alone.{IsSteady, alone_steady, exactly_alone, run_steady, some_run_steady}
+use Rattle.syslog_pieces.proofs.PieceLemmas.Alone.{texted_steady, mapped_alone, row_alone, closed_steady}
+use Rattle.syslog_pieces.proofs.PieceLemmas.Alone.{list_before_steady}
+use Rattle.syslog_pieces.proofs.StructuredDataLemmas.Elements.{strict_append, item_shorter, no_list}
 use Rattle.syslog_pieces.proofs.StructuredDataLemmas.Rfc3164List.{list_absent}
 use Rattle.syslog_pieces.proofs.StructuredDataLemmas.ReadBack.{no_item_nil}
 use Rattle.syslog_pieces.proofs.StructuredDataLemmas.Walk.{flat_map_more, one_more}

@@ -1,16 +1,13 @@
 -- Elements and their print: canonical elements are read back from it, what is read is canonical, and which elements and
 -- lists print as they are written.
 use Rattle.syslog_pieces.proofs.Names.{◌≡◌, ◌≢◌, ℕ, ◌<◌, inl, inr, List, [], ◌∷◌, ◌++◌, length, map, Option, Some, None}
-use Rattle.syslog_pieces.proofs.Names.{refl, sym, ap, subst, ◌∙◌, arith, false, flat_map, AllByRecursion}
-use Rattle.syslog_pieces.proofs.Names.{Text, NoFront, Ends, Values, Front, exactly, run}
-use Rattle.syslog_pieces.proofs.Names.{some_run, texted, IsMany, IsList, IsMore, param_row, param}
-use Rattle.syslog_pieces.proofs.Names.{element_row, element_of, element, item, strict, forgiving}
+use Rattle.syslog_pieces.proofs.Names.{refl, sym, ap, subst, ◌∙◌, arith, false, flat_map, AllByRecursion, Text, NoFront}
+use Rattle.syslog_pieces.proofs.Names.{Ends, Values, Front, exactly, run, some_run, texted, IsMany, IsList, IsMore}
+use Rattle.syslog_pieces.proofs.Names.{param_row, param, element_row, element_of, element, item, strict, forgiving}
 use Rattle.syslog_pieces.proofs.Names.{ElementValue, param_text, IsCanonicalParam, IsCanonicalElement, BeginsUnblank}
-use Rattle.syslog_pieces.proofs.Names.{is_blank, is_id_char, heads, ◌also◌, row_pieces}
-use Rattle.syslog_pieces.proofs.Names.{quoted, quoted_row}
-use Rattle.syslog_pieces.proofs.Names.{begins, behind}
+use Rattle.syslog_pieces.proofs.Names.{is_blank, is_id_char, heads, ◌also◌, row_pieces, quoted, quoted_row, begins}
+use Rattle.syslog_pieces.proofs.Names.{behind, element_text, joined_elements, elements_text}
 use Rattle.syslog_pieces.specs.Bodies.Verbatim.{bare_param_text}
-use Rattle.syslog_pieces.specs.StructuredData.Element.{element_text, joined_elements, elements_text}
 use Rattle.syslog_pieces.proofs.StructuredDataLemmas.Elements.{item_begins, strict_some}
 
 -- ---- parameters

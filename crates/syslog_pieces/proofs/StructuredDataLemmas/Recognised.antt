@@ -1,23 +1,16 @@
 -- What recognised elements and lists mean is what is in their texts.
-use Rattle.syslog_pieces.proofs.Names.{◌≡◌, List, [], ◌++◌, Option, Some, None, sym, ap, subst, length}
-use Rattle.syslog_pieces.proofs.Names.{Text, Class, Front, IsDeterministic, front_same, inside, many, item, strict}
-use Rattle.syslog_pieces.proofs.Names.{ℕ, ◌∷◌, ◌+◌, arith, IsUtf8, encodes-chars, encodes-append, encode_utf8_all}
-use Rattle.syslog_pieces.proofs.Names.{length-append, nil_from_length, append-nil, many_here}
-use Rattle.syslog_pieces.proofs.Names.{AllByRecursion, Bool, BeginsUnblank, Each, Ends, IsCanonicalElement}
-use Rattle.syslog_pieces.proofs.Names.{IsCanonicalParam, IsValue, IsValueUnit, TextUnit, pair, single}
-use Rattle.syslog_pieces.proofs.Names.{flat_map, refl, unit_text}
-use Rattle.syslog_pieces.proofs.Names.{is_blank, is_id_char, is_name_char}
-use Rattle.std.proofs.Math.Logic.{∥∥₁_elim}
-use Rattle.std.proofs.Props.{props}
-use Rattle.std.proofs.lemmas.Str.{length-le-encodes}
+use Rattle.syslog_pieces.proofs.Names.{◌≡◌, List, [], ◌++◌, Option, sym, ap, subst, length, Text}
+use Rattle.syslog_pieces.proofs.Names.{Front, inside, many, item, strict, ℕ, ◌∷◌, ◌+◌}
+use Rattle.syslog_pieces.proofs.Names.{arith, IsUtf8, encodes-chars, encodes-append, encode_utf8_all, length-append}
+use Rattle.syslog_pieces.proofs.Names.{nil_from_length, append-nil, many_here, AllByRecursion, Bool, BeginsUnblank}
+use Rattle.syslog_pieces.proofs.Names.{Each, Ends, IsCanonicalElement, IsCanonicalParam, IsValue, IsValueUnit, TextUnit}
+use Rattle.syslog_pieces.proofs.Names.{pair, single, flat_map, refl, unit_text, is_blank, is_id_char, is_name_char}
+use Rattle.syslog_pieces.proofs.Names.{∥∥₁_elim, props, length-le-encodes, is_prop→PathP, ElementValue, chars}
+use Rattle.syslog_pieces.proofs.Names.{drop, drop-append_seam, ◌∙◌, OneMeaning, one_value, one_value-is}
+use Rattle.syslog_pieces.proofs.Names.{list_elements}
 use Rattle.std.specs.List.{AllByRecursion-prop}
-use mathlib.Core.HLevel.{is_prop→PathP}
 use Rattle.syslog_pieces.proofs.StructuredDataLemmas.ReadBack.{items_canonical, no_item_before, no_item_nil}
 use Rattle.syslog_pieces.proofs.StructuredDataLemmas.Units.{units_same}
-use Rattle.syslog_pieces.proofs.Names.{ElementValue, shown, chars, drop, drop-append_seam, ◌∙◌}
-use Rattle.syslog_pieces.specs.StructuredData.Recognised.{OneMeaning, one_value, one_value-is}
-use Rattle.syslog_pieces.specs.StructuredData.Visited.{element_seen, list_elements, list_text}
-use Rattle.syslog_pieces.specs.declared.structured_data.recognised.Element.{Element}
 use Rattle.syslog_pieces.specs.declared.structured_data.recognised.ElementList.{ElementList}
 
 -- an element that was recognised, by its parameters

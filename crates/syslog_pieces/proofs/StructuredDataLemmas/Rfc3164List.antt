@@ -1,17 +1,14 @@
 -- The list of RFC 3164: a text has one at its front, and has none exactly where neither of its two kinds begins.
-use Rattle.syslog_pieces.proofs.Names.{◌≡◌, ◌<◌, Some, None, inl, inr, List, [], ◌∷◌, ◌++◌, length, refl}
-use Rattle.syslog_pieces.proofs.Names.{sym, ap, subst, ◌∙◌, arith, start_row, start, inside_row, opening_row}
-use Rattle.syslog_pieces.proofs.Names.{opening, closing, Text, Front, NoFront, IsDeterministic, optional, Values, Row}
-use Rattle.syslog_pieces.proofs.Names.{exactly, many, list_before, param, element_row, element, ElementValue}
-use Rattle.syslog_pieces.proofs.Names.{full_element, IsDashBefore, rfc3164_list, BeginsNoList, dash, DashRule, behind}
-use Rattle.syslog_pieces.proofs.Names.{front_same, optional_some, many_det, many_cons, no_many_no, Meets}
-use Rattle.syslog_pieces.proofs.Names.{row_pieces, ◌↔◌}
-use Rattle.syslog_pieces.proofs.PieceLemmas.Class.{optional_none}
-use Rattle.syslog_pieces.proofs.PieceLemmas.Lists.{many_none}
+use Rattle.syslog_pieces.proofs.Names.{◌≡◌, ◌<◌, Some, None, inl, inr, List, [], ◌∷◌, ◌++◌, length, refl, sym, ap}
+use Rattle.syslog_pieces.proofs.Names.{subst, ◌∙◌, arith, start_row, start, inside_row, opening_row, opening, closing}
+use Rattle.syslog_pieces.proofs.Names.{Text, Front, NoFront, IsDeterministic, optional, Values, Row, exactly, many}
+use Rattle.syslog_pieces.proofs.Names.{list_before, param, element_row, element, ElementValue, full_element}
+use Rattle.syslog_pieces.proofs.Names.{IsDashBefore, rfc3164_list, BeginsNoList, dash, DashRule, behind, front_same}
+use Rattle.syslog_pieces.proofs.Names.{optional_some, many_det, many_cons, no_many_no, Meets, row_pieces, ◌↔◌}
+use Rattle.syslog_pieces.proofs.Names.{optional_none, many_none, rows_step}
 use Rattle.syslog_pieces.proofs.StructuredDataLemmas.Closing.{start_det, no_start, no_opening, element_enters}
 use Rattle.syslog_pieces.proofs.StructuredDataLemmas.Elements.{element_det, element_shorter, item_begins, run_no_close}
 use Rattle.syslog_pieces.proofs.StructuredDataLemmas.Elements.{dash_apart}
-use Rattle.syslog_pieces.proofs.PieceLemmas.Steps.{rows_step}
 
 -- ---- elements with a parameter
 pub full_element_det : IsDeterministic full_element
@@ -29,6 +26,10 @@ bare_is_not_full t q v f z p r w e h =
     let s = front_same element element_det f (record { piece = p; whole = e; is = h.0 }) in
     let k = ap (λ (x : ElementValue). length x.params) s.1 in
     omega (arith, h.1, k, z)
+
+-- where no element begins the text, none with a parameter does
+pub none_full : {t : Text} → NoFront element t → NoFront full_element t
+none_full n p q v w h = n p q v w h.0
 
 -- such an element begins with a bracket
 pub full_begins : (p q : Text) (v : ElementValue) → full_element.Is p q v → (r : Text) × (p ++ q ≡ 91 ∷ r)

@@ -4,8 +4,7 @@ use Rattle.syslog_pieces.proofs.Names.{◌≡◌, ℕ, ◌<◌, Bool, nat_eq, Li
 use Rattle.syslog_pieces.proofs.Names.{◌∙◌, ap, arith, append-nil, inl, inr, ◌↔◌, IsTrue, IsSomeAnd, Bor, chars, IsUtf8}
 use Rattle.syslog_pieces.proofs.Names.{eqb-true, chars-nil, SplitsRun, Text, Class, Front, IsDeterministic, Each, Ends}
 use Rattle.syslog_pieces.proofs.Names.{seen, shown, Reads, IsHost, word, tag_word, IsCanonicalHost, IsCanonicalTag}
-use Rattle.syslog_pieces.proofs.Names.{IsCanonicalWord, front_same, no_front_no}
-use Rattle.syslog_pieces.proofs.PieceLemmas.Class.{rest_same}
+use Rattle.syslog_pieces.proofs.Names.{IsCanonicalWord, front_same, no_front_no, rest_same}
 use Rattle.syslog_pieces.proofs.TextLemmas.Chars.{chars_nonempty}
 use Rattle.syslog_pieces.proofs.TextLemmas.ReadBack.{host_back, word_back}
 use Rattle.syslog_pieces.proofs.TextLemmas.Runs.{run_is}

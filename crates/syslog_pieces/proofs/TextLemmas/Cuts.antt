@@ -1,8 +1,8 @@
 -- A text cut by bytes before a rest of it.
 use Rattle.syslog_pieces.proofs.Names.{◌≡◌, ℕ, suc, ◌-◌, ◌≤◌, List, ◌++◌, length, take, drop, sym, ap, ◌∙◌, arith}
-use Rattle.syslog_pieces.proofs.Names.{drop-append_seam}
-use Rattle.syslog_pieces.proofs.Names.{take-append_seam, length-append, encodes-append, encodes-chars, IsUtf8-take}
-use Rattle.syslog_pieces.proofs.Names.{IsCharBoundary-at_seam, chars, IsUtf8, IsCharBoundary, encode_utf8_all, Text}
+use Rattle.syslog_pieces.proofs.Names.{drop-append_seam, take-append_seam, length-append, encodes-append, encodes-chars}
+use Rattle.syslog_pieces.proofs.Names.{IsUtf8-take, IsCharBoundary-at_seam, chars, IsUtf8, IsCharBoundary}
+use Rattle.syslog_pieces.proofs.Names.{encode_utf8_all, Text}
 use Rattle.syslog_pieces.proofs.TextLemmas.Chars.{chars_cut}
 
 module _ (t r : List ℕ) (u : IsUtf8 t) (z : IsUtf8 r) (p : Text) (whole : chars t ≡ p ++ chars r) where

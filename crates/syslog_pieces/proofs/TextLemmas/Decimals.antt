@@ -3,15 +3,13 @@ use Rattle.syslog_pieces.proofs.Names.{◌≡◌, ℕ, ℤ, zero, suc, pos, negs
 use Rattle.syslog_pieces.proofs.Names.{false, List, [], ◌∷◌, ◌++◌, ap, ◌∙◌, arith, lt-ltb, eqb_tells, nat_tests}
 use Rattle.syslog_pieces.proofs.Names.{decimal_digit, encodes-IsAscii, IsAscii-nil, IsAscii-cons, digits_onto}
 use Rattle.syslog_pieces.proofs.Names.{digit_glyph, decimal, signed_decimal, is_ascii_digit, digit_value, IsAscii}
-use Rattle.syslog_pieces.proofs.Names.{encode_utf8_all, is_blank}
-use Rattle.std.proofs.Common.{◌/◌, ◌*◌, get_or, nat_eq, refl, length, length-append}
+use Rattle.syslog_pieces.proofs.Names.{encode_utf8_all, is_blank, ◌/◌, ◌*◌, get_or, nat_eq, refl, length}
+use Rattle.syslog_pieces.proofs.Names.{agree_below_at, eqb-true, pad2, pad3}
+use Rattle.std.proofs.Common.{length-append}
 use Rattle.syslog_pieces.specs.declared.text.write_ascii.TheConstants.{PAIRS}
-use Rattle.std.proofs.lemmas.Bool.{agree_below_at, eqb-true}
 use Rattle.std.proofs.lemmas.Fmt.{decimal_step, length-decimal-le}
 use Rattle.std.proofs.lemmas.Str.{digit_value_digit}
 use Rattle.std.specs.Fmt.{digits}
-use Rattle.jiff_fmt.specs.Text.{pad2}
-use Rattle.syslog_pieces.specs.Timestamp.Printed.{pad3}
 
 digits_onto_ascii : (k n : ℕ) (acc : List ℕ) → IsAscii acc → IsAscii (digits_onto k 10 false n acc)
 digits_onto_ascii zero n acc h = h

@@ -1,15 +1,13 @@
 -- From the mask of one load to the bytes that pass a test.
-use Rattle.syslog_pieces.proofs.Names.{◌≡◌, ℕ, ◌+◌, ◌-◌, ◌%◌, ◌^◌, ◌≤◌, Bool, true, not, List, map, cond}
-use Rattle.syslog_pieces.proofs.Names.{length, get_or, Fits, sym, ap, ◌∙◌, arith, agree_below}
-use Rattle.syslog_pieces.proofs.Names.{agree_below_at, not-true, not-false, length-map}
-use Rattle.syslog_pieces.proofs.Names.{map-id, IsRunIn}
+use Rattle.syslog_pieces.proofs.Names.{◌≡◌, ℕ, ◌+◌, ◌%◌, ◌^◌, ◌≤◌, Bool, true, not, List, map, cond, length}
+use Rattle.syslog_pieces.proofs.Names.{get_or, Fits, sym, ap, ◌∙◌, arith, agree_below, agree_below_at, not-true}
+use Rattle.syslog_pieces.proofs.Names.{not-false, length-map, map-id, IsRunIn, ◌&&◌, nat_tests}
 use mir.Val.{bool_byte}
-use Rattle.std.proofs.Common.{leb, ltb, eqb, replicate, w8, bit_or, ◌&&◌, ◌||◌}
+use Rattle.std.proofs.Common.{leb, ltb, eqb, replicate, w8, bit_or, ◌||◌}
 use Rattle.std.specs.Int.RustNames.{bit_xor}
 use Rattle.std.specs.Bool.{beq}
-use Rattle.std.proofs.lemmas.Bool.Decides.{nat_tests}
-use Rattle.std.proofs.lemmas.Simd.{first_set_mask_l, run_in_chunk_fails, run_in_chunk_le, run_in_chunk_stops}
-use Rattle.std.proofs.lemmas.Simd.{map-map, mask_l-mod, length-chunk, zip2_of_maps, zip2_splat, splat_is_map}
+use Rattle.std.proofs.lemmas.Simd.{first_set_mask_l, run_in_chunk_fails, run_in_chunk_le, run_in_chunk_stops, map-map}
+use Rattle.std.proofs.lemmas.Simd.{mask_l-mod, length-chunk, zip2_of_maps, zip2_splat, splat_is_map}
 use lib.Lanes.{chunk, zip2, mask_l, top}
 use Rattle.syslog_pieces.specs.Bodies.Scan.{first_set}
 

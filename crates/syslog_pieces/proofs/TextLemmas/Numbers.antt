@@ -1,11 +1,9 @@
 -- What the readers of numbers return.
-use Rattle.syslog_pieces.proofs.Names.{◌≡◌, ℕ, ◌+◌, ◌-◌, ◌<◌, ◌≤◌, inl, inr, List, [], ◌∷◌, ◌++◌, length, drop}
-use Rattle.syslog_pieces.proofs.Names.{refl, sym, ap, ◌∙◌, arith, is_ascii_digit, digits_value, chars, IsUtf8, IsAscii}
-use Rattle.syslog_pieces.proofs.Names.{IsCharBoundary, IsUtf8-drop, Text, Each, Front, NoFront, number, run_same}
-use Rattle.std.proofs.Common.{◌/◌, ◌%◌}
-use Rattle.jiff_fmt.specs.Text.{pad2}
+use Rattle.syslog_pieces.proofs.Names.{◌≡◌, ℕ, ◌+◌, ◌-◌, ◌<◌, ◌≤◌, inl, inr, List, [], ◌∷◌, ◌++◌, length, drop, refl}
+use Rattle.syslog_pieces.proofs.Names.{sym, ap, ◌∙◌, arith, is_ascii_digit, digits_value, chars, IsUtf8, IsAscii}
+use Rattle.syslog_pieces.proofs.Names.{IsCharBoundary, IsUtf8-drop, Text, Each, Front, NoFront, number, run_same, ◌/◌}
+use Rattle.syslog_pieces.proofs.Names.{◌%◌, pad2, pad3}
 use Rattle.syslog_pieces.specs.Bodies.Looks.{IsSmallNumber}
-use Rattle.syslog_pieces.specs.Timestamp.Printed.{pad3}
 use Rattle.syslog_pieces.proofs.TextLemmas.Chars.{digits_ascii}
 use Rattle.syslog_pieces.proofs.TextLemmas.Decimals.{digit_is}
 use Rattle.syslog_pieces.proofs.TextLemmas.Looks.{behind_cut, behind_is, behind_chars, ends_digits}

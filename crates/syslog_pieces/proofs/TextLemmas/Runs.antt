@@ -1,16 +1,16 @@
 -- Runs: of bytes, and of the characters that they are.
-use Rattle.syslog_pieces.proofs.Names.{◌≡◌, ◌≤◌, ◌<◌, ◌+◌, ℕ, zero, suc, Bool, true, not, nat_lt, List, [], ◌∷◌, ◌++◌}
-use Rattle.syslog_pieces.proofs.Names.{length, get_or, take, drop, refl, sym, ap, ◌∙◌, inl, inr, add-one}
-use Rattle.syslog_pieces.proofs.Names.{add-zero, arith, length-drop, take-append-drop, cases_Bool}
-use Rattle.syslog_pieces.proofs.Names.{cases_lt, and_parts, and_left, ltb-true, lt-ltb}
-use Rattle.syslog_pieces.proofs.Names.{chars-IsAscii, IsCharBoundary-after_ascii, IsUtf8-take, IsUtf8-drop, chars}
-use Rattle.syslog_pieces.proofs.Names.{IsUtf8, IsCharBoundary, Text, Class, Front, NoFront, Each, Ends, run, some_run}
-use Rattle.syslog_pieces.proofs.Names.{IsRun, EndsRun, SplitsRun, byte_in, past_in, has, CharClass, run_same}
-use Rattle.syslog_pieces.proofs.Names.{each_map}
-use Rattle.std.proofs.Common.{length-take, get_or-take, get_or-drop}
+use Rattle.syslog_pieces.proofs.Names.{◌≡◌, ◌≤◌, ◌<◌, ℕ, zero, suc, Bool, true, not, nat_lt, List, [], ◌∷◌, ◌++◌}
+use Rattle.syslog_pieces.proofs.Names.{length, get_or, take, drop, refl, sym, ap, ◌∙◌, inl, inr, add-one, add-zero}
+use Rattle.syslog_pieces.proofs.Names.{arith, length-drop, take-append-drop, cases_Bool, cases_lt, and_parts, and_left}
+use Rattle.syslog_pieces.proofs.Names.{ltb-true, lt-ltb, chars-IsAscii, IsCharBoundary-after_ascii, IsUtf8-take}
+use Rattle.syslog_pieces.proofs.Names.{IsUtf8-drop, chars, IsUtf8, IsCharBoundary, Text, Class, Front, NoFront, Each}
+use Rattle.syslog_pieces.proofs.Names.{Ends, run, some_run, IsRun, EndsRun, SplitsRun, byte_in, past_in, has, CharClass}
+use Rattle.syslog_pieces.proofs.Names.{run_same, each_map, length-take}
+use Rattle.std.proofs.Common.{get_or-take, get_or-drop}
 use Rattle.std.proofs.lemmas.Bool.{le-ltb, not_from_true}
 use Rattle.std.proofs.lemmas.Str.{IsCharBoundary-start}
-use Rattle.syslog_pieces.proofs.TextLemmas.Chars.{chars_cut, chars_nonempty, chars_empty, ends_by_byte, low_ascii, nonempty_is}
+use Rattle.syslog_pieces.proofs.TextLemmas.Chars.{chars_cut, chars_nonempty, chars_empty, ends_by_byte, low_ascii}
+use Rattle.syslog_pieces.proofs.TextLemmas.Chars.{nonempty_is}
 
 -- ---- where a run ends
 

@@ -1,7 +1,7 @@
 -- Words, hosts and gaps that are in printed form.
 use Rattle.syslog_pieces.proofs.Names.{◌≡◌, ℕ, [], ◌∷◌, List, length, Option, Some, None, inl, inr, sym, ap, ◌∙◌, arith}
-use Rattle.syslog_pieces.proofs.Names.{chars, Text, Front, word, host, IsHost, name_text, Names, ◌++◌, IsUtf8}
-use Rattle.syslog_pieces.proofs.Names.{drop, suc}
+use Rattle.syslog_pieces.proofs.Names.{chars, Text, Front, word, host, IsHost, name_text, Names, ◌++◌, IsUtf8, drop}
+use Rattle.syslog_pieces.proofs.Names.{suc}
 use Rattle.syslog_pieces.proofs.TextLemmas.Chars.{ascii_front, one_ascii}
 use Rattle.syslog_pieces.proofs.TextLemmas.Cuts.{behind_one}
 

@@ -1,20 +1,19 @@
 -- What the readers of numbers and words return.
-use Rattle.syslog_pieces.proofs.Names.{◌≡◌, ◌≢◌, ℕ, ◌-◌, ◌<◌, ◌≤◌, ◌^◌, ◌⊎◌, inl, inr, List, ◌∷◌}
-use Rattle.syslog_pieces.proofs.Names.{◌++◌, length, take, drop, Option, Some, None, Result, Ok, Err, refl}
-use Rattle.syslog_pieces.proofs.Names.{sym, ap, ◌∙◌, arith, append_assoc, rules, take-append_seam}
-use Rattle.syslog_pieces.proofs.Names.{drop-append_seam, length-append, IsCharBoundary-at_seam}
-use Rattle.syslog_pieces.proofs.Names.{chars-append, encodes-chars, encodes-IsAscii, chars-IsAscii}
-use Rattle.syslog_pieces.proofs.Names.{encodes-append, IsUtf8-take, IsUtf8-from_ascii, chars, IsUtf8, IsAscii}
-use Rattle.syslog_pieces.proofs.Names.{encode_utf8_all, digits_value, ParsesUnsigned, OkIff}
-use Rattle.syslog_pieces.proofs.Names.{is_ascii_digit, is_not_whitespace, Text, Front, NoFront, IsDeterministic, Each}
-use Rattle.syslog_pieces.proofs.Names.{Ends, SplitsRun, number, dash, colon, Names, word, EndsInColon, IsHost}
-use Rattle.syslog_pieces.proofs.Names.{host, is_tag_char, tag_word, run_same, each_append}
+use Rattle.syslog_pieces.proofs.Names.{◌≡◌, ◌≢◌, ℕ, ◌-◌, ◌<◌, ◌≤◌, ◌^◌, ◌⊎◌, inl, inr, List, ◌∷◌, ◌++◌, length, take}
+use Rattle.syslog_pieces.proofs.Names.{drop, Option, Some, None, Result, Ok, Err, refl, sym, ap, ◌∙◌, arith}
+use Rattle.syslog_pieces.proofs.Names.{append_assoc, rules, take-append_seam, drop-append_seam, length-append}
+use Rattle.syslog_pieces.proofs.Names.{IsCharBoundary-at_seam, chars-append, encodes-chars, encodes-IsAscii}
+use Rattle.syslog_pieces.proofs.Names.{chars-IsAscii, encodes-append, IsUtf8-take, IsUtf8-from_ascii, chars, IsUtf8}
+use Rattle.syslog_pieces.proofs.Names.{IsAscii, encode_utf8_all, digits_value, ParsesUnsigned, OkIff, is_ascii_digit}
+use Rattle.syslog_pieces.proofs.Names.{is_not_whitespace, Text, Front, NoFront, IsDeterministic, Each, Ends, SplitsRun}
+use Rattle.syslog_pieces.proofs.Names.{number, dash, colon, Names, word, EndsInColon, IsHost, host, is_tag_char}
+use Rattle.syslog_pieces.proofs.Names.{tag_word, run_same, each_append}
 use Rattle.std.proofs.lemmas.List.{same_from_push}
 use Rattle.std.specs.Option.{SomeIff}
 use Rattle.std.specs.Result.{result_ok}
 use Rattle.std.proofs.lemmas.Str.Parse.{IsNumeralModel, numerals_by_value, parse_digits}
-use Rattle.syslog_pieces.proofs.TextLemmas.Chars.{ascii_front, chars_nonempty, chars_empty, digit_chars}
-use Rattle.syslog_pieces.proofs.TextLemmas.Chars.{one_ascii, text_is, text_is_not, nonempty_is}
+use Rattle.syslog_pieces.proofs.TextLemmas.Chars.{ascii_front, chars_nonempty, chars_empty, digit_chars, one_ascii}
+use Rattle.syslog_pieces.proofs.TextLemmas.Chars.{text_is, text_is_not, nonempty_is}
 use Rattle.syslog_pieces.proofs.TextLemmas.Runs.{run_is}
 use Rattle.syslog_pieces.proofs.PieceLemmas.Each.{each_front}
 

@@ -1,13 +1,8 @@
 -- A class of ASCII pieces that are of it whatever follows them: at the front of bytes, and of the text that these are.
-use Rattle.std.proofs.Common.{◌≡◌, ℕ, ◌-◌, List, [], ◌∷◌, length, take, drop, get_or, ◌≤◌, Option, refl, sym, ap, arith}
-use Rattle.std.proofs.lemmas.List.{take_all}
-use Rattle.std.specs.Borrow.{Bor}
-use Rattle.std.specs.Str.{chars, encode_utf8_all, IsAscii, IsCharBoundary, IsUtf8}
-use Rattle.syslog_pieces.specs.Pieces.Class.{Text, Class, Front, NoFront, after, exactly}
-use Rattle.syslog_pieces.specs.Pieces.View.{ReadsBytes}
-use Rattle.syslog_pieces.proofs.PieceLemmas.Alone.{IsAlone}
-use Rattle.syslog_pieces.proofs.PieceLemmas.Class.{no_spaced_piece, spaced_front}
-use Rattle.syslog_pieces.proofs.PieceLemmas.Meets.{match_map}
+use Rattle.syslog_pieces.proofs.Names.{◌≡◌, ℕ, ◌-◌, List, [], ◌∷◌, length, take, drop, get_or, ◌≤◌, Option, refl, sym}
+use Rattle.syslog_pieces.proofs.Names.{ap, arith, take_all, Bor, chars, encode_utf8_all, IsAscii, IsCharBoundary}
+use Rattle.syslog_pieces.proofs.Names.{IsUtf8, Text, Class, Front, NoFront, after, exactly, ReadsBytes, IsAlone}
+use Rattle.syslog_pieces.proofs.Names.{no_spaced_piece, spaced_front, match_map}
 use Rattle.syslog_pieces.proofs.TextLemmas.Chars.{ascii_ahead}
 use Rattle.syslog_pieces.proofs.TextLemmas.Looks.{behind_chars, behind_cut, behind_is}
 

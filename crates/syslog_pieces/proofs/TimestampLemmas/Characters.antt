@@ -1,15 +1,10 @@
 -- The characters of a text that has a stamp: ASCII, none of them white space, the first a digit.
-use Rattle.std.proofs.Common.{◌≡◌, inl, inr, ℕ, ◌/◌, ◌%◌, ◌<◌, ◌≤◌, ◌&&◌, Bool, true, false, nat_lt, List, []}
-use Rattle.std.proofs.Common.{◌∷◌, ◌++◌, refl, sym, arith}
-use Rattle.std.proofs.lemmas.Bool.Decides.{nat_tests}
-use Rattle.std.specs.Char.{is_ascii_digit, is_not_whitespace}
-use Rattle.std.specs.Str.{IsAscii}
-use Rattle.jiff_fmt.specs.Text.{pad2, pad4}
-use Rattle.syslog_pieces.specs.Pieces.Class.{Text, Class, Values, Divides, Each, Row, join, after}
-use Rattle.syslog_pieces.specs.declared.timestamp.rfc3339_text.Rfc3339Fields.{Rfc3339Fields}
-use Rattle.syslog_pieces.specs.Timestamp.Rfc3339.{fraction, letter, numeric_row, offset, pair, sign, stamp_row, stamp_text}
-use Rattle.syslog_pieces.proofs.PieceLemmas.Class.{◌also◌}
-use Rattle.syslog_pieces.proofs.PieceLemmas.Each.{each_append, each_map}
+use Rattle.syslog_pieces.proofs.Names.{◌≡◌, inl, inr, ℕ, ◌/◌, ◌%◌, ◌<◌, ◌≤◌, ◌&&◌, Bool, true, false, nat_lt, List, []}
+use Rattle.syslog_pieces.proofs.Names.{◌∷◌, ◌++◌, refl, sym, arith, nat_tests, is_ascii_digit, is_not_whitespace}
+use Rattle.syslog_pieces.proofs.Names.{IsAscii, pad2, pad4, Text, Class, Values, Divides, Each, Row, join, after}
+use Rattle.syslog_pieces.proofs.Names.{Rfc3339Fields, fraction, letter, numeric_row, offset, sign, stamp_row}
+use Rattle.syslog_pieces.proofs.Names.{stamp_text, ◌also◌, each_append, each_map}
+use Rattle.syslog_pieces.specs.Timestamp.Rfc3339.{pair}
 use Rattle.syslog_pieces.proofs.TextLemmas.Chars.{low_ascii}
 
 -- from `+` to `z`

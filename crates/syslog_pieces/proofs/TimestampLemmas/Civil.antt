@@ -1,18 +1,14 @@
 -- The fields of a datetime; those of a count of nanoseconds, which are the fields of the datetime that has it; and what
 -- a clock at an offset shows.
-use Rattle.std.proofs.Common.{◌≡◌, ℤ, pos, neg_ℤ, ◌+ℤ◌, ◌-ℤ◌, ◌≤ℤ◌, ◌<ℤ◌, refl, sym, ap, subst, ◌∙◌, arith}
-use Rattle.jiff.proofs.Family.{same_datetime}
-use Rattle.jiff.specs.Types.{DateTime, Offset}
-use Rattle.jiff.specs.Words.{civil_nanos, instant_of, nanos_of_seconds, IsTimestampNanos}
-use Rattle.jiff_core.proofs.CalendarLemmas.{days_from_civil-day_count, day_count-day_of_year}
-use Rattle.jiff_core.proofs.CalendarLemmas.{day_count-later_year, day_count-lt_year, day_count-min}
-use Rattle.jiff_core.proofs.CalendarLemmas.{day_count-end, day_count-next_year, days_in_year_bounds}
+use Rattle.syslog_pieces.proofs.Names.{◌≡◌, ℤ, pos, neg_ℤ, ◌+ℤ◌, ◌-ℤ◌, ◌≤ℤ◌, ◌<ℤ◌, refl, sym, ap, subst, ◌∙◌, arith}
+use Rattle.syslog_pieces.proofs.Names.{same_datetime, DateTime, Offset, civil_nanos, instant_of, nanos_of_seconds}
+use Rattle.syslog_pieces.proofs.Names.{IsTimestampNanos, days_from_civil-day_count, day_count-day_of_year, signed_arith}
+use Rattle.syslog_pieces.proofs.Names.{CivilFields, AreCivil, fields_of, nanos_of_fields, civil_fields, fields_text}
+use Rattle.jiff_core.proofs.CalendarLemmas.{day_count-later_year, day_count-lt_year, day_count-min, day_count-end}
+use Rattle.jiff_core.proofs.CalendarLemmas.{day_count-next_year, days_in_year_bounds}
 use Rattle.jiff_core.proofs.DateLemmas.{civil}
 use Rattle.jiff_core.proofs.DateTimeLemmas.{civil_nanos-parts, civil_nanos_range, time_nanos_bound}
-use Rattle.jiff_core.proofs.SignedLemmas.{signed_arith}
-use Rattle.syslog_pieces.specs.declared.timestamp.fields.CivilFields.{CivilFields}
-use Rattle.syslog_pieces.specs.Timestamp.Fields.{AreCivil, fields_of, nanos_of_fields}
-use Rattle.syslog_pieces.specs.Timestamp.Printed.{civil_fields, fields_text, printed_stamp}
+use Rattle.syslog_pieces.specs.Timestamp.Printed.{printed_stamp}
 use Rattle.syslog_pieces.proofs.TimestampLemmas.Range.{civil_fields_exist}
 
 pub civil-fields_of : (dt : DateTime) → AreCivil (fields_of dt)

@@ -1,23 +1,12 @@
 -- The decimals of a second: as they are read, and as they print.
-use Rattle.std.proofs.Common.{◌≡◌, inl, inr, ℕ, suc, ◌+◌, ◌-◌, ◌*◌, ◌/◌, ◌%◌, ◌^◌, ◌<◌}
-use Rattle.std.proofs.Common.{List, [], ◌∷◌, ◌++◌, length, Option, refl, sym, ap, subst, ◌∙◌, arith}
-use Rattle.std.proofs.Common.{get_or, take, drop, ◌≤◌}
-use Rattle.std.proofs.Math.Nat.{mul-le-mul_right}
-use Rattle.std.proofs.lemmas.Bool.{cases_Bool}
-use Rattle.std.proofs.lemmas.Bool.Decides.{nat_tests, eqb_tells}
-use Rattle.std.proofs.lemmas.List.{take-append-drop}
-use Rattle.std.specs.List.{prefix_len}
-use Rattle.std.specs.Borrow.{Bor}
-use Rattle.std.specs.Char.{is_ascii_digit}
+use Rattle.syslog_pieces.proofs.Names.{◌≡◌, inl, inr, ℕ, suc, ◌+◌, ◌-◌, ◌*◌, ◌/◌, ◌%◌, ◌^◌, ◌<◌, List, [], ◌∷◌, ◌++◌}
+use Rattle.syslog_pieces.proofs.Names.{length, Option, refl, sym, ap, subst, ◌∙◌, arith, get_or, take, drop, ◌≤◌}
+use Rattle.syslog_pieces.proofs.Names.{mul-le-mul_right, cases_Bool, nat_tests, eqb_tells, take-append-drop, prefix_len}
+use Rattle.syslog_pieces.proofs.Names.{Bor, is_ascii_digit, Text, Each, Ends, Front, NoFront, after, ReadsBytes, pad3}
+use Rattle.syslog_pieces.proofs.Names.{decimals, fraction, is_dot, each_append, no_either, second_kind, match_map}
 use Rattle.jiff_fmt.proofs.ReaderLemmas.{fraction_value-drop, tenth}
 use Rattle.jiff_fmt.specs.Reader.{fraction_value}
-use Rattle.syslog_pieces.specs.Pieces.Class.{Text, Each, Ends, Front, NoFront, after}
-use Rattle.syslog_pieces.specs.Pieces.View.{ReadsBytes}
-use Rattle.syslog_pieces.specs.Timestamp.Printed.{fraction_text, pad3}
-use Rattle.syslog_pieces.specs.Timestamp.Rfc3339.{decimals, fraction, is_dot}
-use Rattle.syslog_pieces.proofs.PieceLemmas.Each.{each_append}
-use Rattle.syslog_pieces.proofs.PieceLemmas.Kinds.{no_either, second_kind}
-use Rattle.syslog_pieces.proofs.PieceLemmas.Meets.{match_map}
+use Rattle.syslog_pieces.specs.Timestamp.Printed.{fraction_text}
 use Rattle.syslog_pieces.proofs.TextLemmas.Runs.{no_run}
 use Rattle.syslog_pieces.proofs.TimestampLemmas.Bytes.{after_reads}
 

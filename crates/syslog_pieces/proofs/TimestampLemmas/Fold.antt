@@ -1,18 +1,18 @@
 -- A fold: the offset before it is ahead of the one after it, so it gives the earlier instant.
-use Rattle.std.proofs.Common.{◌≡◌, ℤ, pos, ◌≤ℤ◌, Bool, true, false, Option}
-use Rattle.std.proofs.Common.{Some, None, if◌then◌else◌, int_lt, arith}
+use Rattle.syslog_pieces.proofs.Names.{◌≡◌, ℤ, pos, ◌≤ℤ◌, Bool, true, false, Option, Some, None, if◌then◌else◌, arith}
+use Rattle.syslog_pieces.proofs.Names.{DateTime, Offset, TimeZone, AmbiguousOffset, Unambiguous, Gap, Fold, civil_nanos}
+use Rattle.syslog_pieces.proofs.Names.{instant_of, signed_arith}
+use Rattle.std.proofs.Common.{int_lt}
 use Rattle.std.specs.Prelude.{⊤}
-use Rattle.jiff.specs.Types.{DateTime, Offset, TimeZone, AmbiguousOffset, Unambiguous, Gap, Fold}
-use Rattle.jiff.specs.Words.{ambiguous_at, civil_nanos, instant_of}
-use Rattle.jiff_core.proofs.SignedLemmas.{signed_arith}
+use Rattle.jiff.specs.Words.{ambiguous_at}
 use Rattle.jiff_tz.specs.PosixReader.{match_some}
-use Rattle.jiff_tz.specs.PosixRule as Posix
-use Rattle.jiff_tz.specs.Tzif as Table
 use Rattle.jiff_tz.specs.declared.posix.Dst.{Dst}
 use Rattle.jiff_tz.specs.declared.posix.TimeZone.{TimeZone as PosixZone}
 use Rattle.jiff_tz.specs.declared.timezone.TimeZone.TheVariants.{UTC, Unknown, Fixed, Posix as InPosix, Tzif as InTable}
 use Rattle.jiff_tz.specs.declared.tzif.Tzif.{Tzif}
 use Rattle.jiff_tz.specs.declared.tzif.transition.Transition.{Transition}
+use Rattle.jiff_tz.specs.PosixRule as Posix
+use Rattle.jiff_tz.specs.Tzif as Table
 
 -- what a fold goes back to is no further ahead than what it comes from
 abbrev pub FoldsBack : AmbiguousOffset → Type 0

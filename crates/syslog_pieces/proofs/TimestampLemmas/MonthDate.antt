@@ -1,26 +1,17 @@
 -- A text has one month date at its front, and shows one; and what the readers of month dates return.
-use Rattle.std.proofs.Common.{◌≡◌, inl, inr, ℕ, ◌≤◌, true}
-use Rattle.std.proofs.Common.{List, [], ◌∷◌, ◌++◌, Option, Some, None, refl, sym, ap, ◌∙◌, arith}
-use Rattle.std.proofs.lemmas.Bool.Decides.{nat_tests}
-use Rattle.std.specs.Char.{is_ascii_digit}
-use Rattle.syslog_pieces.specs.Bodies.MonthReading.{day_row, year_row}
-use Rattle.syslog_pieces.specs.Pieces.Class.{Text, Class, Values, Front, NoFront, Row}
-use Rattle.syslog_pieces.specs.Pieces.Class.{IsDeterministic, some_run}
-use Rattle.syslog_pieces.specs.Pri.{priority}
-use Rattle.syslog_pieces.specs.Text.{number, is_blank, colon}
-use Rattle.syslog_pieces.specs.Timestamp.MonthDate.{month, short_number, clock_row, yearless_row, yearless_of}
-use Rattle.syslog_pieces.specs.Timestamp.MonthDate.{yearless_date, dated_row, dated_of, dated_date, month_date}
+use Rattle.syslog_pieces.proofs.Names.{◌≡◌, inl, inr, ℕ, ◌≤◌, true, List, [], ◌∷◌, ◌++◌, Option, Some, None, refl, sym}
+use Rattle.syslog_pieces.proofs.Names.{ap, ◌∙◌, arith, nat_tests, is_ascii_digit, day_row, year_row, Text, Class}
+use Rattle.syslog_pieces.proofs.Names.{Values, Front, NoFront, Row, IsDeterministic, some_run, priority, number}
+use Rattle.syslog_pieces.proofs.Names.{is_blank, colon, month, clock_row, month_date, MonthDate, AllDeterministic}
+use Rattle.syslog_pieces.proofs.Names.{◌also◌, run_same, rest_same, some_run_det, run_det, exactly_det, mapped_det}
+use Rattle.syslog_pieces.proofs.Names.{row_det, row_head, mapped_front, no_mapped, rows_join, rows_none_here}
+use Rattle.syslog_pieces.proofs.Names.{rows_none_later, Apart, Begins, begins_apart, begins_more, begins_with}
+use Rattle.syslog_pieces.proofs.Names.{either_det, first_kind, second_kind, no_either, row_pieces, rows_step}
+use Rattle.syslog_pieces.specs.Timestamp.MonthDate.{short_number, yearless_row, yearless_of, yearless_date, dated_row}
+use Rattle.syslog_pieces.specs.Timestamp.MonthDate.{dated_of, dated_date}
 use Rattle.syslog_pieces.specs.Timestamp.Rfc3164.{ShowsYearless, showing_row}
-use Rattle.syslog_pieces.specs.declared.timestamp.month_date.MonthDate.{MonthDate}
-use Rattle.syslog_pieces.proofs.PieceLemmas.Class.{AllDeterministic, ◌also◌, all_joined, run_same, rest_same}
-use Rattle.syslog_pieces.proofs.PieceLemmas.Class.{some_run_det, run_det, rest_det, exactly_det, optional_det}
-use Rattle.syslog_pieces.proofs.PieceLemmas.Class.{mapped_det, row_det, row_head, unique_division, mapped_front}
-use Rattle.syslog_pieces.proofs.PieceLemmas.Class.{no_mapped, rows_split, rows_join, rows_none_here}
-use Rattle.syslog_pieces.proofs.PieceLemmas.Class.{rows_none_later}
-use Rattle.syslog_pieces.proofs.PieceLemmas.Kinds.{Apart, Begins, begins_apart, begins_more, begins_with}
-use Rattle.syslog_pieces.proofs.PieceLemmas.Kinds.{each_begins, either_det, first_kind, second_kind, no_either}
-use Rattle.syslog_pieces.proofs.PieceLemmas.Rows.{row_pieces}
-use Rattle.syslog_pieces.proofs.PieceLemmas.Steps.{rows_step}
+use Rattle.syslog_pieces.proofs.PieceLemmas.Class.{all_joined, rest_det, optional_det, unique_division, rows_split}
+use Rattle.syslog_pieces.proofs.PieceLemmas.Kinds.{each_begins}
 use Rattle.syslog_pieces.proofs.PriLemmas.{priority_det}
 use Rattle.syslog_pieces.proofs.TextLemmas.Words.{number_det}
 use Rattle.syslog_pieces.proofs.TimestampLemmas.Months.{IsLetter, month_det, month_begins}

@@ -1,18 +1,15 @@
 -- The names of the months, letter by letter.
-use Rattle.std.proofs.Common.{◌≡◌, ℕ, ◌+◌, ◌-◌, ◌<◌, ◌≤◌, ◌&&◌, Bool, true, false, nat_eq, nat_lt, unwrap_or, List}
-use Rattle.std.proofs.Common.{get_or, [], ◌∷◌, ◌++◌, length, drop, Option, Some, None, refl, sym, ap, ◌∙◌, arith}
-use Rattle.std.specs.Prelude.{map, slice_get}
+use Rattle.syslog_pieces.proofs.Names.{◌≡◌, ℕ, ◌+◌, ◌-◌, ◌<◌, ◌≤◌, ◌&&◌, Bool, true, false, nat_eq, nat_lt, List}
+use Rattle.syslog_pieces.proofs.Names.{get_or, [], ◌∷◌, ◌++◌, length, drop, Option, Some, None, refl, sym, ap, ◌∙◌}
+use Rattle.syslog_pieces.proofs.Names.{arith, map, slice_get, chars, IsUtf8, IsAscii, IsCharBoundary, agree_below_at}
+use Rattle.syslog_pieces.proofs.Names.{and_parts, nat_tests, common_steps, IsAscii-cons, Text, IsDeterministic, Front}
+use Rattle.syslog_pieces.proofs.Names.{NoFront, month, Begins, begins_with}
+use Rattle.std.proofs.Common.{unwrap_or}
 use Rattle.std.specs.Char.{to_ascii_lowercase}
-use Rattle.std.specs.Str.{chars, IsUtf8, IsAscii, IsCharBoundary}
-use Rattle.std.proofs.lemmas.Bool.{agree_below_at, and_parts}
-use Rattle.std.proofs.lemmas.Bool.Decides.{nat_tests}
-use Rattle.std.proofs.lemmas.Grind.{common_steps}
 use Rattle.std.proofs.lemmas.Option.{slice_get_within}
-use Rattle.std.proofs.lemmas.Str.Ascii.{IsAscii-cons, lowercase_is}
-use Rattle.syslog_pieces.specs.Pieces.Class.{Text, IsDeterministic, Front, NoFront}
+use Rattle.std.proofs.lemmas.Str.Ascii.{lowercase_is}
 use Rattle.syslog_pieces.specs.Bodies.MonthReading.{IsNamed, IsMonthBytes, NamesNoMonth, small_month}
-use Rattle.syslog_pieces.specs.Timestamp.MonthDate.{month_names, IsMonthName, month}
-use Rattle.syslog_pieces.proofs.PieceLemmas.Kinds.{Begins, begins_with}
+use Rattle.syslog_pieces.specs.Timestamp.MonthDate.{month_names, IsMonthName}
 use Rattle.syslog_pieces.proofs.TextLemmas.Chars.{ascii_ahead, one_ascii}
 use Rattle.syslog_pieces.proofs.TextLemmas.Looks.{behind_cut, behind_is, behind_chars}
 

@@ -1,14 +1,8 @@
 -- The timestamp of a header, as a piece.
-use Rattle.std.proofs.Common.{◌≡◌, [], ◌∷◌, ◌++◌}
-use Rattle.std.proofs.Common.{Some, None, refl, sym, ap, subst, ◌∙◌, arith}
-use Rattle.std.specs.Char.{is_not_whitespace}
-use Rattle.syslog_pieces.specs.Pieces.Class.{Text, Front, NoFront, IsDeterministic, Each, Ends, exactly}
-use Rattle.syslog_pieces.specs.Text.{dash}
-use Rattle.syslog_pieces.specs.Timestamp.{IsStampText, IsStampOfRfc3339, header_stamp}
-use Rattle.syslog_pieces.specs.Timestamp.Rfc3339.{stamp_text}
-use Rattle.syslog_pieces.specs.declared.timestamp.OffsetTimestamp.{OffsetTimestamp}
-use Rattle.syslog_pieces.specs.declared.timestamp.rfc3339_text.Rfc3339Fields.{Rfc3339Fields}
-use Rattle.syslog_pieces.proofs.PieceLemmas.Class.{front_same, heads}
+use Rattle.syslog_pieces.proofs.Names.{◌≡◌, [], ◌∷◌, ◌++◌, Some, None, refl, sym, ap, subst, ◌∙◌, arith}
+use Rattle.syslog_pieces.proofs.Names.{is_not_whitespace, Text, Front, NoFront, IsDeterministic, Each, Ends, exactly}
+use Rattle.syslog_pieces.proofs.Names.{dash, IsStampText, IsStampOfRfc3339, header_stamp, stamp_text, OffsetTimestamp}
+use Rattle.syslog_pieces.proofs.Names.{Rfc3339Fields, front_same, heads}
 use Rattle.syslog_pieces.proofs.TimestampLemmas.Characters.{each_visible, stamp_characters}
 use Rattle.syslog_pieces.proofs.TimestampLemmas.Rfc3339.{stamp_alone, stamp_text_det, one_timestamp}
 use Rattle.syslog_pieces.proofs.TimestampLemmas.Texts.{writes-first}

@@ -1,22 +1,12 @@
 -- A printed stamp is ASCII, so that its characters are its bytes.
-use Rattle.std.proofs.Common.{◌≡◌, ℕ, ℤ, pos, negsuc, ◌+ℤ◌, ◌/◌, ◌%◌, ◌<◌, ◌≤◌, true, [], ◌∷◌, ◌++◌, refl, arith}
-use Rattle.std.proofs.Common.{unsigned_abs}
-use Rattle.std.proofs.lemmas.Bool.Decides.{nat_tests}
-use Rattle.std.proofs.lemmas.Str.{encodes-IsAscii}
-use Rattle.std.specs.Str.{encode_utf8_all}
-use Rattle.jiff.specs.Words.{IsTimestampNanos, IsOffsetSeconds, nanos_of_seconds}
+use Rattle.syslog_pieces.proofs.Names.{◌≡◌, ℕ, ℤ, pos, negsuc, ◌+ℤ◌, ◌/◌, ◌%◌, ◌<◌, ◌≤◌, true, [], ◌∷◌, ◌++◌, refl}
+use Rattle.syslog_pieces.proofs.Names.{arith, unsigned_abs, nat_tests, encodes-IsAscii, encode_utf8_all}
+use Rattle.syslog_pieces.proofs.Names.{IsTimestampNanos, IsOffsetSeconds, nanos_of_seconds, days_in_month_bounds}
+use Rattle.syslog_pieces.proofs.Names.{signed_arith, pad2, Each, OffsetTimestamp, CivilFields, AreCivil, civil_fields}
+use Rattle.syslog_pieces.proofs.Names.{year_sign, fraction_text, each_append}
 use Rattle.jiff_core.specs.Calendar.{IsWithin}
-use Rattle.jiff_core.proofs.CalendarLemmas.{days_in_month_bounds}
-use Rattle.jiff_core.proofs.SignedLemmas.{signed_arith}
-use Rattle.jiff_fmt.specs.Text.{pad2}
-use Rattle.syslog_pieces.specs.Pieces.Class.{Each}
-use Rattle.syslog_pieces.specs.declared.timestamp.OffsetTimestamp.{OffsetTimestamp}
-use Rattle.syslog_pieces.specs.declared.timestamp.fields.CivilFields.{CivilFields}
-use Rattle.syslog_pieces.specs.Timestamp.Fields.{AreCivil}
-use Rattle.syslog_pieces.specs.Timestamp.Printed.{printed_stamp, civil_fields, date_time_text, year_sign}
-use Rattle.syslog_pieces.specs.Timestamp.Printed.{fraction_text, offset_text, offset_sign, rounded_minutes}
-use Rattle.syslog_pieces.specs.Timestamp.Printed.{unsigned_date_time}
-use Rattle.syslog_pieces.proofs.PieceLemmas.Each.{each_append}
+use Rattle.syslog_pieces.specs.Timestamp.Printed.{printed_stamp, date_time_text, offset_text, offset_sign}
+use Rattle.syslog_pieces.specs.Timestamp.Printed.{rounded_minutes, unsigned_date_time}
 use Rattle.syslog_pieces.proofs.TimestampLemmas.Characters.{is_stamp_character, each_ascii, fraction_characters}
 use Rattle.syslog_pieces.proofs.TimestampLemmas.Characters.{pair_characters}
 use Rattle.syslog_pieces.proofs.TimestampLemmas.Decimals.{fraction_text-is}

@@ -1,18 +1,17 @@
 -- Every count of nanoseconds in range has civil fields, which the calendar has.
-use Rattle.std.proofs.Common.{◌≡◌, ℕ, ℤ, zero, suc, pos, negsuc, ◌+ℤ◌, ◌-ℤ◌, ◌*ℤ◌, ◌≤ℤ◌, ◌+◌, ◌-◌}
-use Rattle.std.proofs.Common.{◌*◌, ◌/◌, ◌%◌, ◌<◌, ◌≤◌, ◌≢◌, refl, ap, ◌∙◌, arith, unsigned_abs}
-use Rattle.std.proofs.lemmas.Bool.Decides.{nat_tests}
+use Rattle.syslog_pieces.proofs.Names.{◌≡◌, ℕ, ℤ, zero, suc, pos, negsuc, ◌+ℤ◌, ◌-ℤ◌, ◌≤ℤ◌, ◌+◌, ◌-◌, ◌*◌, ◌/◌, ◌%◌}
+use Rattle.syslog_pieces.proofs.Names.{◌<◌, ◌≤◌, ◌≢◌, refl, ap, ◌∙◌, arith, unsigned_abs, nat_tests, nanos_of_seconds}
+use Rattle.syslog_pieces.proofs.Names.{IsTimestampNanos, IsOffsetSeconds, days_from_civil-day_count}
+use Rattle.syslog_pieces.proofs.Names.{day_count-day_of_year, signed_arith, CivilFields, AreCivil, nanos_of_fields}
+use Rattle.std.proofs.Common.{◌*ℤ◌}
 use Rattle.std.specs.Int.{int_div_euclid, int_rem_euclid}
-use Rattle.jiff.specs.Words.{nanos_of_seconds, IsTimestampNanos, IsOffsetSeconds, IsCivilNanos, IsEpochDay, IsYear}
-use Rattle.jiff_core.specs.Calendar.{days_of_months, days_of_years, days_from_civil}
-use Rattle.jiff_core.specs.Calendar.{days_in_month, days_in_year, day_count, IsCivilDate}
+use Rattle.jiff.specs.Words.{IsCivilNanos, IsEpochDay, IsYear}
+use Rattle.jiff_core.specs.Calendar.{days_of_months, days_of_years, days_from_civil, days_in_month, days_in_year}
+use Rattle.jiff_core.specs.Calendar.{day_count, IsCivilDate}
 use Rattle.jiff_core.proofs.CalendarLemmas.{days_of_months_more, days_of_months_all, days_of_months-zero}
-use Rattle.jiff_core.proofs.CalendarLemmas.{days_from_civil-day_count, day_count-day_of_year}
 use Rattle.jiff_core.proofs.MarchLemmas.{days_of_years-march_days}
-use Rattle.jiff_core.proofs.SignedLemmas.{signed_arith, int_rem_euclid-parts, int_div_euclid-parts}
+use Rattle.jiff_core.proofs.SignedLemmas.{int_rem_euclid-parts, int_div_euclid-parts}
 use Rattle.jiff_tz.specs.Year.{year_of_day, years_within}
-use Rattle.syslog_pieces.specs.declared.timestamp.fields.CivilFields.{CivilFields}
-use Rattle.syslog_pieces.specs.Timestamp.Fields.{AreCivil, nanos_of_fields}
 use Rattle.syslog_pieces.specs.Timestamp.Printed.{months_within, place_in_year, place_fields, civil_fields}
 
 -- an instant has civil nanoseconds at every offset

@@ -1,15 +1,10 @@
 -- A text has one timestamp of RFC 3164 at its front: the three kinds begin with `-`, with a digit and with a letter.
-use Rattle.std.proofs.Common.{◌≡◌, ℕ, ◌≤◌, ◌++◌, Option, Some, None, sym, ap, subst, arith}
-use Rattle.syslog_pieces.specs.Pieces.Class.{Text, Class, Front, NoFront, IsDeterministic}
-use Rattle.syslog_pieces.specs.Timestamp.{IsAnswer, header_stamp}
-use Rattle.syslog_pieces.specs.Timestamp.MonthDate.{month_date}
-use Rattle.syslog_pieces.specs.Timestamp.Zone.{Dating, IsMonthStamp}
-use Rattle.syslog_pieces.specs.Timestamp.Rfc3164.{IsStampedDate, rfc3164_stamp}
-use Rattle.syslog_pieces.specs.declared.timestamp.OffsetTimestamp.{OffsetTimestamp}
-use Rattle.syslog_pieces.specs.declared.timestamp.month_date.MonthDate.{MonthDate}
-use Rattle.syslog_pieces.proofs.PieceLemmas.Class.{front_same, no_front_no}
-use Rattle.syslog_pieces.proofs.PieceLemmas.Kinds.{first_kind, second_kind, no_either, Apart, Begins}
-use Rattle.syslog_pieces.proofs.PieceLemmas.Kinds.{begins_apart, begins_more, begins_with, either_det}
+use Rattle.syslog_pieces.proofs.Names.{◌≡◌, ℕ, ◌≤◌, ◌++◌, Option, Some, None, sym, ap, subst, arith, Text, Class, Front}
+use Rattle.syslog_pieces.proofs.Names.{NoFront, IsDeterministic, IsAnswer, header_stamp, month_date, Dating}
+use Rattle.syslog_pieces.proofs.Names.{IsMonthStamp, rfc3164_stamp, OffsetTimestamp, MonthDate, front_same, no_front_no}
+use Rattle.syslog_pieces.proofs.Names.{first_kind, second_kind, no_either, Apart, Begins, begins_apart, begins_more}
+use Rattle.syslog_pieces.proofs.Names.{begins_with, either_det}
+use Rattle.syslog_pieces.specs.Timestamp.Rfc3164.{IsStampedDate}
 use Rattle.syslog_pieces.proofs.TimestampLemmas.MonthDate.{month_date_det, month_date_begins}
 use Rattle.syslog_pieces.proofs.TimestampLemmas.Months.{IsLetter}
 use Rattle.syslog_pieces.proofs.TimestampLemmas.Piece.{header_stamp_det}

@@ -1,29 +1,19 @@
 -- A text has one RFC 3339 text at its front, which is one whatever follows it, and at most one timestamp.
-use Rattle.std.proofs.Common.{◌≡◌, inl, inr, ℕ, ℤ, ◌+◌, ◌/◌, ◌%◌, ◌<◌, ◌≤◌, List, [], ◌∷◌, ◌++◌, Bool, true, false, Some}
-use Rattle.std.proofs.Common.{None, Option, refl, sym, ap, subst, ◌∙◌, arith}
-use Rattle.std.proofs.Props.{props}
-use Rattle.std.specs.Char.{is_ascii_digit}
-use mathlib.Core.HLevel.{is_prop→PathP}
-use Rattle.jiff.specs.Types.{Offset, Timestamp}
-use Rattle.jiff.specs.Words.{IsOffsetSeconds, IsTimestampNanos}
-use Rattle.jiff_fmt.specs.Text.{pad2, pad4}
-use Rattle.syslog_pieces.specs.Bodies.Clock.{IsStampOfClock}
-use Rattle.syslog_pieces.specs.Pieces.Class.{Text, Front, NoFront, IsDeterministic, Ends, Values, Row, join}
-use Rattle.syslog_pieces.specs.Pieces.Class.{some_run, texted}
-use Rattle.syslog_pieces.specs.Pieces.Class.{mapped, after}
-use Rattle.syslog_pieces.specs.Timestamp.{IsAnswer, IsStampText, IsStampOfRfc3339, clock_value}
-use Rattle.syslog_pieces.specs.Timestamp.Rfc3339.{HasStamp, decimals, fields_of_rfc3339, fraction, is_dot, letter}
-use Rattle.syslog_pieces.specs.Timestamp.Rfc3339.{numeric_row, offset, pair, seconds_of, sign, stamp_row, stamp_text, written_of, year}
-use Rattle.syslog_pieces.specs.Timestamp.Rfc3339.{zulu}
-use Rattle.syslog_pieces.specs.declared.timestamp.OffsetTimestamp.{OffsetTimestamp}
-use Rattle.syslog_pieces.specs.declared.timestamp.clock.ClockStamp.{ClockStamp}
-use Rattle.syslog_pieces.specs.declared.timestamp.fields.CivilFields.{CivilFields}
-use Rattle.syslog_pieces.specs.declared.timestamp.rfc3339_text.Rfc3339Fields.{Rfc3339Fields}
-use Rattle.syslog_pieces.proofs.PieceLemmas.Alone.{IsAlone, IsFilled, closed_alone, closed_filled}
-use Rattle.syslog_pieces.proofs.PieceLemmas.Class.{AllDeterministic, ◌also◌, after_det, heads, mapped_det}
-use Rattle.syslog_pieces.proofs.PieceLemmas.Class.{mapped_front, no_mapped, row_det, some_run_det, texted_det}
-use Rattle.syslog_pieces.proofs.PieceLemmas.Kinds.{Apart, Begins, begins_apart, begins_more, begins_with, either_det}
-use Rattle.syslog_pieces.proofs.PieceLemmas.Kinds.{no_either, second_kind}
+use Rattle.syslog_pieces.proofs.Names.{◌≡◌, inl, inr, ℕ, ℤ, ◌+◌, ◌/◌, ◌%◌, ◌<◌, ◌≤◌, List, [], ◌∷◌, ◌++◌, Bool, true}
+use Rattle.syslog_pieces.proofs.Names.{false, Some, None, Option, refl, sym, ap, subst, ◌∙◌, arith, props}
+use Rattle.syslog_pieces.proofs.Names.{is_ascii_digit, is_prop→PathP, Offset, IsOffsetSeconds, IsTimestampNanos, pad2}
+use Rattle.syslog_pieces.proofs.Names.{pad4, IsStampOfClock, Text, Front, NoFront, IsDeterministic, Ends, Values, Row}
+use Rattle.syslog_pieces.proofs.Names.{join, some_run, texted, mapped, after, IsAnswer, IsStampText, IsStampOfRfc3339}
+use Rattle.syslog_pieces.proofs.Names.{clock_value, HasStamp, decimals, fields_of_rfc3339, fraction, is_dot, letter}
+use Rattle.syslog_pieces.proofs.Names.{numeric_row, offset, seconds_of, sign, stamp_row, stamp_text, written_of, year}
+use Rattle.syslog_pieces.proofs.Names.{OffsetTimestamp, ClockStamp, CivilFields, Rfc3339Fields, IsAlone}
+use Rattle.syslog_pieces.proofs.Names.{AllDeterministic, ◌also◌, heads, mapped_det, mapped_front, no_mapped, row_det}
+use Rattle.syslog_pieces.proofs.Names.{some_run_det, texted_det, Apart, Begins, begins_apart, begins_more, begins_with}
+use Rattle.syslog_pieces.proofs.Names.{either_det, no_either, second_kind}
+use Rattle.jiff.specs.Types.{Timestamp}
+use Rattle.syslog_pieces.specs.Timestamp.Rfc3339.{pair, zulu}
+use Rattle.syslog_pieces.proofs.PieceLemmas.Alone.{IsFilled, closed_alone, closed_filled}
+use Rattle.syslog_pieces.proofs.PieceLemmas.Class.{after_det}
 
 -- ---- a text has one front of each piece
 

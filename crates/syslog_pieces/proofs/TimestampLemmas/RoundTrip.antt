@@ -1,28 +1,17 @@
 -- A printed stamp and the texts of RFC 3339: what is printed of a canonical timestamp has it, and no other timestamp
 -- has a text.
-use Rattle.std.proofs.Common.{◌≡◌, ℕ, ℤ, suc, pos, neg_ℤ, negsuc, ◌+ℤ◌, ◌≤ℤ◌, ◌+◌, Bool, true, false}
-use Rattle.std.proofs.Common.{if◌then◌else◌, ◌*◌, ◌/◌, ◌%◌, ◌<◌, min, inl, inr, refl, sym, ap, append-nil}
-use Rattle.std.proofs.Common.{◌∙◌, arith, unsigned_abs, List, [], ◌∷◌, ◌++◌, append_assoc}
-use Rattle.std.proofs.lemmas.Bool.Decides.{nat_tests}
-use Rattle.std.specs.Char.{is_ascii_digit, is_not_whitespace}
-use Rattle.jiff.specs.Words.{nanos_of_seconds, IsTimestampNanos}
-use Rattle.jiff_core.proofs.CalendarLemmas.{days_in_month_bounds}
-use Rattle.jiff_core.proofs.SignedLemmas.{signed_arith}
-use Rattle.jiff_fmt.specs.Text.{pad2, pad4}
-use Rattle.syslog_pieces.specs.Pieces.Class.{Text, Divides, Each, Ends, Row, Values}
-use Rattle.syslog_pieces.specs.declared.timestamp.OffsetTimestamp.{OffsetTimestamp}
-use Rattle.syslog_pieces.specs.declared.timestamp.fields.CivilFields.{CivilFields}
-use Rattle.syslog_pieces.specs.declared.timestamp.rfc3339_text.Rfc3339Fields.{Rfc3339Fields}
-use Rattle.syslog_pieces.specs.Timestamp.{IsStampText}
-use Rattle.syslog_pieces.specs.Timestamp.Fields.{AreCivil, nanos_of_fields}
+use Rattle.syslog_pieces.proofs.Names.{◌≡◌, ℕ, ℤ, suc, pos, neg_ℤ, negsuc, ◌+ℤ◌, ◌≤ℤ◌, ◌+◌, Bool, true, false}
+use Rattle.syslog_pieces.proofs.Names.{if◌then◌else◌, ◌*◌, ◌/◌, ◌%◌, ◌<◌, min, inl, inr, refl, sym, ap, append-nil, ◌∙◌}
+use Rattle.syslog_pieces.proofs.Names.{arith, unsigned_abs, List, [], ◌∷◌, ◌++◌, append_assoc, nat_tests}
+use Rattle.syslog_pieces.proofs.Names.{is_ascii_digit, is_not_whitespace, nanos_of_seconds, IsTimestampNanos}
+use Rattle.syslog_pieces.proofs.Names.{days_in_month_bounds, signed_arith, pad2, pad4, Text, Divides, Each, Ends, Row}
+use Rattle.syslog_pieces.proofs.Names.{Values, OffsetTimestamp, CivilFields, Rfc3339Fields, IsStampText, AreCivil}
+use Rattle.syslog_pieces.proofs.Names.{nanos_of_fields, civil_fields, year_sign, fraction_text, HasStamp}
+use Rattle.syslog_pieces.proofs.Names.{fields_of_rfc3339, is_dot, numeric_row, offset, seconds_of, stamp_row}
+use Rattle.syslog_pieces.proofs.Names.{written_of, ◌also◌, row_pieces, piece_front}
 use Rattle.syslog_pieces.specs.Timestamp.Canonical.{IsCanonicalStamp, BeginsWithYear, own_year}
-use Rattle.syslog_pieces.specs.Timestamp.Printed.{civil_fields, printed_stamp, date_time_text}
-use Rattle.syslog_pieces.specs.Timestamp.Printed.{year_sign, fraction_text, offset_text}
-use Rattle.syslog_pieces.specs.Timestamp.Rfc3339.{HasStamp, HasRfc3339Stamp, fields_of_rfc3339, is_dot, numeric_row}
-use Rattle.syslog_pieces.specs.Timestamp.Rfc3339.{offset, seconds_of, stamp_row, written_of}
-use Rattle.syslog_pieces.proofs.PieceLemmas.Class.{◌also◌}
-use Rattle.syslog_pieces.proofs.PieceLemmas.Rows.{row_pieces}
-use Rattle.syslog_pieces.proofs.PieceLemmas.Steps.{piece_front}
+use Rattle.syslog_pieces.specs.Timestamp.Printed.{printed_stamp, date_time_text, offset_text}
+use Rattle.syslog_pieces.specs.Timestamp.Rfc3339.{HasRfc3339Stamp}
 use Rattle.syslog_pieces.proofs.TimestampLemmas.Characters.{each_visible}
 use Rattle.syslog_pieces.proofs.TimestampLemmas.Civil.{shows_fields}
 use Rattle.syslog_pieces.proofs.TimestampLemmas.Decimals.{fraction_text-is}

@@ -1,19 +1,11 @@
 -- What a header may know of a text that has a stamp.
-use Rattle.std.proofs.Common.{◌≡◌, ℕ, ◌+◌, ◌/◌, ◌<◌, List, [], ◌∷◌, ◌++◌, sym, ap, ◌∙◌, arith, append-nil}
-use Rattle.std.proofs.Common.{inl, inr, ◌≤◌, length}
-use Rattle.std.proofs.lemmas.Bool.Decides.{nat_tests}
-use Rattle.std.proofs.lemmas.List.{length-append}
-use Rattle.std.specs.Char.{IsAsciiDigit, is_ascii_digit}
-use Rattle.jiff_fmt.specs.Text.{pad4}
-use Rattle.syslog_pieces.specs.Pieces.Class.{Text, Class, Each, Front, Row, after}
-use Rattle.syslog_pieces.specs.declared.timestamp.OffsetTimestamp.{OffsetTimestamp}
-use Rattle.syslog_pieces.specs.declared.timestamp.rfc3339_text.Rfc3339Fields.{Rfc3339Fields}
-use Rattle.syslog_pieces.specs.Timestamp.{IsStampText}
-use Rattle.syslog_pieces.specs.Timestamp.Rfc3339.{fraction, letter, offset, pair, stamp_row, stamp_text}
-use Rattle.syslog_pieces.specs.Timestamp.Rfc3339.{year}
+use Rattle.syslog_pieces.proofs.Names.{◌≡◌, ℕ, ◌+◌, ◌/◌, ◌<◌, List, [], ◌∷◌, ◌++◌, sym, ap, ◌∙◌, arith, append-nil, inl}
+use Rattle.syslog_pieces.proofs.Names.{inr, ◌≤◌, length, nat_tests, length-append, IsAsciiDigit, is_ascii_digit, pad4}
+use Rattle.syslog_pieces.proofs.Names.{Text, Class, Each, Front, Row, after, OffsetTimestamp, Rfc3339Fields}
+use Rattle.syslog_pieces.proofs.Names.{IsStampText, fraction, letter, offset, stamp_row, stamp_text, year, row_pieces}
+use Rattle.syslog_pieces.proofs.Names.{piece_front}
+use Rattle.syslog_pieces.specs.Timestamp.Rfc3339.{pair}
 use Rattle.syslog_pieces.proofs.PieceLemmas.Class.{spaced_parts}
-use Rattle.syslog_pieces.proofs.PieceLemmas.Rows.{row_pieces}
-use Rattle.syslog_pieces.proofs.PieceLemmas.Steps.{piece_front}
 use Rattle.syslog_pieces.proofs.TimestampLemmas.Rfc3339.{offset_filled}
 
 -- a text is no shorter than a date, a clock and an offset of one character

@@ -1,21 +1,15 @@
 -- The timestamp of civil fields in a zone: there is at most one, and what its readers return.
-use Rattle.std.proofs.Common.{IfSome, ◌<ℤ◌, arith, ◌≡◌, pos, ℤ, Option, Some, None, sym, ap, subst, ◌∙◌, ◌-ℤ◌}
-use Rattle.jiff.proofs.Family.{same_datetime}
-use Rattle.jiff.specs.Types.{DateTime, Offset, TimeZone, AmbiguousOffset, Unambiguous, Gap, Fold, UTC, Unknown}
-use Rattle.jiff.specs.Types.{Fixed as FixedZone}
-use Rattle.jiff.specs.Words.{offset_at, ambiguous_at, nanos_of_seconds, IsFixed}
-use Rattle.jiff_core.proofs.SignedLemmas.{signed_arith}
+use Rattle.syslog_pieces.proofs.Names.{IfSome, ◌<ℤ◌, arith, ◌≡◌, pos, ℤ, Option, Some, None, sym, ap, subst, ◌∙◌, ◌-ℤ◌}
+use Rattle.syslog_pieces.proofs.Names.{same_datetime, DateTime, Offset, TimeZone, AmbiguousOffset, Unambiguous, Gap}
+use Rattle.syslog_pieces.proofs.Names.{Fold, nanos_of_seconds, signed_arith, IsStampOfClock, IsAnswer, fields_of}
+use Rattle.syslog_pieces.proofs.Names.{Dating, IsMonthStamp, OffsetTimestamp, ClockStamp, CivilFields, MonthDate}
+use Rattle.jiff.specs.Types.{UTC, Unknown, Fixed as FixedZone}
+use Rattle.jiff.specs.Words.{offset_at, ambiguous_at, IsFixed}
 use Rattle.jiff_tz.specs.Zone.{utc_offset}
-use Rattle.syslog_pieces.specs.Bodies.Clock.{IsStampOfClock, zone_of}
-use Rattle.syslog_pieces.specs.Timestamp.{IsAnswer}
-use Rattle.syslog_pieces.specs.Timestamp.Fields.{fields_of, IsStampAt}
-use Rattle.syslog_pieces.specs.Timestamp.Zone.{Dating, earlier, IsStampOf, IsStampInGap}
-use Rattle.syslog_pieces.specs.Timestamp.Zone.{IsLocalStampOf, IsStampInAny, IsStampOfFields}
-use Rattle.syslog_pieces.specs.Timestamp.Zone.{IsMonthStamp, civil_of, year_of}
-use Rattle.syslog_pieces.specs.declared.timestamp.OffsetTimestamp.{OffsetTimestamp}
-use Rattle.syslog_pieces.specs.declared.timestamp.clock.ClockStamp.{ClockStamp}
-use Rattle.syslog_pieces.specs.declared.timestamp.fields.CivilFields.{CivilFields}
-use Rattle.syslog_pieces.specs.declared.timestamp.month_date.MonthDate.{MonthDate}
+use Rattle.syslog_pieces.specs.Bodies.Clock.{zone_of}
+use Rattle.syslog_pieces.specs.Timestamp.Fields.{IsStampAt}
+use Rattle.syslog_pieces.specs.Timestamp.Zone.{earlier, IsStampOf, IsStampInGap, IsLocalStampOf, IsStampInAny}
+use Rattle.syslog_pieces.specs.Timestamp.Zone.{IsStampOfFields, civil_of, year_of}
 use Rattle.syslog_pieces.proofs.TimestampLemmas.Rfc3339.{answer_same, same_timestamp, same_offset}
 use Rattle.syslog_pieces.proofs.TimestampLemmas.Civil.{civil_nanos-fields, civil-fields, datetime_of}
 

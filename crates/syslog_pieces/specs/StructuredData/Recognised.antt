@@ -1,8 +1,8 @@
 -- What a recognised text means, where nothing of that was collected: its meaning is kept for proofs alone.
 use Rattle.std.specs.Prelude.{◌≡◌, List, Option}
-use Rattle.std.proofs.Common.{ap, sym, ◌∙◌}
+use Rattle.std.proofs.Common.{sym}
 use Rattle.std.proofs.Math.Logic.{∥∥₁_elim, ∥∥₁_prop}
-use mathlib.Core.HLevel.{Σ_prop_path, Σ_prop, Π_prop, collapsible→set}
+use mathlib.Core.HLevel.{Σ_prop_path, Σ_prop, Π_prop}
 use Rattle.syslog_pieces.specs.Pieces.Class.{Text, Class, Front}
 use Rattle.syslog_pieces.specs.StructuredData.Element.{ElementValue}
 use Rattle.syslog_pieces.specs.StructuredData.{item}

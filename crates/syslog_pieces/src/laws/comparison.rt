@@ -2,7 +2,7 @@
 ghost use Rattle.std.specs.Ordering.{nat_cmp};
 ghost use Rattle.std.specs.Prelude.{◌≡◌, ◌↔◌, nat_eq, IsTrue};
 ghost use Rattle.std.specs.declared.cmp.Ordering.TheVariants.{Equal};
-ghost use Rattle.syslog_pieces.specs.Pieces.View.{text_of};
+ghost use Rattle.syslog_pieces.specs.Pieces.{text_of};
 ghost use Rattle.syslog_pieces.specs.Pri.{facility_number, severity_number, facility_name, severity_name};
 ghost use Rattle.syslog_pieces.specs.ProcId.{procid_value};
 ghost use Rattle.syslog_pieces.specs.StructuredData.Element.{element_value};

@@ -1,9 +1,8 @@
 //! What is printed of a canonical piece is read back, and what is read is canonical.
-ghost use Rattle.std.specs.Prelude.{◌≤◌, ◌<◌, ◌^◌, ◌++◌, ℕ, List, Option, IfSome, length};
+ghost use Rattle.std.specs.Prelude.{◌≤◌, ◌<◌, ◌^◌, ◌++◌, ℕ, List, Option, IfSome, length, decimal};
 ghost use Rattle.std.specs.Char.{is_ascii_digit, is_not_whitespace};
-ghost use Rattle.std.specs.Fmt.{decimal};
 ghost use Rattle.std.specs.List.{AllByRecursion};
-ghost use Rattle.syslog_pieces.specs.Pieces.Class.{Text, Each, Ends, NoFront};
+ghost use Rattle.syslog_pieces.specs.Pieces.{Text, Each, Ends, NoFront};
 ghost use Rattle.syslog_pieces.specs.ProcId.{IsCanonicalProcess, IsBoundedProcess, process_word, process_text};
 ghost use Rattle.syslog_pieces.specs.StructuredData.{forgiving, item};
 ghost use Rattle.syslog_pieces.specs.StructuredData.Element.{ElementValue, elements_text};

@@ -1,6 +1,6 @@
 //! Collecting the elements of a list while the list is recognised.
 ghost use Rattle.std.specs.Prelude.{◌≡◌, ◌≢◌, [], MatchResult, map};
-ghost use Rattle.syslog_pieces.specs.Pieces.View.{shown};
+ghost use Rattle.syslog_pieces.specs.Pieces.{shown};
 ghost use Rattle.syslog_pieces.specs.StructuredData.Element.{element_value};
 
 use super::StructuredElement;

@@ -1,6 +1,6 @@
 //! Collecting one element.
 ghost use Rattle.std.specs.Prelude.{◌≡◌, ◌++◌, ◌∷◌, [], IfOk, map};
-ghost use Rattle.syslog_pieces.specs.Pieces.View.{shown};
+ghost use Rattle.syslog_pieces.specs.Pieces.{shown};
 ghost use Rattle.syslog_pieces.specs.StructuredData.Collected.{HasNoted};
 ghost use Rattle.syslog_pieces.specs.StructuredData.Element.{element_value, param_value};
 ghost use Rattle.syslog_pieces.specs.StructuredData.Visited.{element_seen};
@@ -12,7 +12,7 @@ use std::alloc::{AllocError, Global};
 
 // The parameters of an element, walked once more.
 #[inline(never)]
-fn walk_params<'a>(
+pub(super) fn walk_params<'a>(
     alloc: Global,
     element: Element<'a>,
 ) -> Result<Vec<(&'a str, &'a str)>, AllocError>

@@ -1,9 +1,10 @@
 //! Collecting elements that were recognised.
 ghost use Rattle.std.specs.Prelude.{◌≡◌, IfOk, map};
-ghost use Rattle.syslog_pieces.specs.Pieces.View.{shown};
+ghost use Rattle.syslog_pieces.specs.Pieces.{shown};
 ghost use Rattle.syslog_pieces.specs.StructuredData.Element.{element_value};
 
 use super::StructuredElement;
+use super::collect_element::walk_params;
 use super::recognised::{Element, ElementList};
 use std::alloc::{AllocError, Global};
 
@@ -14,13 +15,9 @@ impl<'a> Element<'a> {
     pub fn collect(&self, alloc: Global) -> Result<StructuredElement<&'a str>, AllocError>
         ensures { IfOk result (λ e. element_value (λ s. shown s) e ≡ element_seen self.now) }
     {
-        let mut params = Vec::with_capacity(alloc, self.params_len())?;
-        for param in self.params() {
-            params.push(param)?;
-        }
         Ok(StructuredElement {
             id: self.id(),
-            params,
+            params: walk_params(alloc, *self)?,
         })
     }
 }

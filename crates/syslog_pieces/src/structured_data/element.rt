@@ -1,9 +1,9 @@
 //! Reading a parameter.
-ghost use Rattle.std.specs.Str.{chars};
+ghost use Rattle.std.specs.Prelude.{chars};
 ghost use Rattle.syslog_pieces.specs.Bodies.Closing.{quoted as quoted_class};
 ghost use Rattle.syslog_pieces.specs.StructuredData.Element.{param_value};
 ghost use Rattle.syslog_pieces.specs.StructuredData.{param as param_class};
-ghost use Rattle.syslog_pieces.specs.Pieces.View.{shown, Reads};
+ghost use Rattle.syslog_pieces.specs.Pieces.{shown, Reads};
 
 use super::recognise::{after_value, opening};
 

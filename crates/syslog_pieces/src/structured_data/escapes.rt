@@ -1,6 +1,5 @@
 //! The removal of escapes from a value.
-ghost use Rattle.std.specs.Prelude.{◌≡◌, ◌++◌, [], ◌∷◌, IfOk, string_bytes};
-ghost use Rattle.std.specs.Str.{chars};
+ghost use Rattle.std.specs.Prelude.{◌≡◌, ◌++◌, [], ◌∷◌, IfOk, string_bytes, chars};
 ghost use Rattle.syslog_pieces.specs.StructuredData.Escapes.{pair_meaning, IsUnescaped};
 
 use crate::text::{CharClass, first, split_run};

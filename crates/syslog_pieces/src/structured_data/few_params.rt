@@ -19,7 +19,7 @@ pub struct FewParams<'a> {
 
 impl<'a> FewParams<'a> {
     ghost use Rattle.std.specs.Prelude.{IfSome, map};
-    ghost use Rattle.syslog_pieces.specs.Pieces.View.{shown};
+    ghost use Rattle.syslog_pieces.specs.Pieces.{shown};
     ghost use Rattle.syslog_pieces.specs.StructuredData.Collected.{HasNoted};
     ghost use Rattle.syslog_pieces.specs.StructuredData.Element.{param_value};
     ghost use Rattle.syslog_pieces.specs.StructuredData.Visited.{element_seen};

@@ -1,9 +1,7 @@
 //! The list of a line, recognised and not collected. A visitor is given its strict elements on the way.
 ghost use Rattle.std.specs.Prelude.{◌≡◌, ◌++◌, [], ◌∷◌, ◌<◌, List, Option, IfSome, IsTrue, MatchOption, length, sum_by};
-ghost use Rattle.std.specs.Str.{chars};
-ghost use Rattle.syslog_pieces.specs.Pieces.Class.{Text, Front, NoFront, optional};
-ghost use Rattle.syslog_pieces.specs.Pieces.Lists.{many};
-ghost use Rattle.syslog_pieces.specs.Pieces.View.{shown};
+ghost use Rattle.std.specs.Prelude.{chars};
+ghost use Rattle.syslog_pieces.specs.Pieces.{Text, Front, NoFront, optional, many, shown};
 ghost use Rattle.syslog_pieces.specs.StructuredData.{forgiving, item as item_class, strict as strict_of};
 ghost use Rattle.syslog_pieces.specs.StructuredData.Element.{ElementValue, joined_elements};
 ghost use Rattle.syslog_pieces.specs.StructuredData.Rfc3164List.{elements_or, full_element, rfc3164_list};
@@ -13,7 +11,7 @@ use super::recognise::after_bracketed;
 use super::recognised::ElementList;
 use super::rfc3164_list::{DashRule, after_dash};
 use super::visit::{ElementVisitor, ParamNotes};
-use super::walk::walk_element;
+use super::walk::{walk_element, walk_full_element};
 use crate::text::literal;
 use crate::text::verbatim::before;
 
@@ -118,13 +116,7 @@ fn visit_full_elements<'a, V: ElementVisitor<'a>>(
         prints: true,
     };
     let mut rest = text;
-    'elements: loop {
-        let Ok(found) = walk_element(rest, text.len(), &mut notes) else {
-            return (item_list(text, rest, tally), rest);
-        };
-        if found.element.params_len() == 0 {
-            return (item_list(text, rest, tally), rest);
-        }
+    'elements: while let Some(found) = walk_full_element(rest, &mut notes) {
         visitor.element(found.element, &notes);
         tally.elements += 1;
         tally.params += found.element.params_len();
@@ -132,6 +124,7 @@ fn visit_full_elements<'a, V: ElementVisitor<'a>>(
         tally.end = found.rest;
         rest = found.rest;
     }
+    (item_list(text, rest, tally), rest)
 }
 
 /// The list of RFC 5424 at the front, and the rest: `-`, or strict and broken elements, as many as there are.

@@ -4,18 +4,13 @@
 //! and each of the items after it would be scanned as far again. But any scan that passes a `]` is inside a value, so
 //! all of them continue alike. A number `dead` keeps how: no element closes from after a `]` that leaves `dead` bytes
 //! or more. A scan that passes such a `]` stops there.
-ghost use Rattle.std.specs.Prelude.{◌≡◌, ◌++◌, [], ◌∷◌};
-ghost use Rattle.std.specs.Prelude.{MatchOption, MatchResult};
-ghost use Rattle.std.specs.Str.{chars, IsUtf8};
+ghost use Rattle.std.specs.Prelude.{◌≡◌, ◌++◌, [], ◌∷◌, MatchOption, MatchResult, chars, IsUtf8};
 ghost use Rattle.syslog_pieces.specs.Text.CharClass.{has};
-ghost use Rattle.syslog_pieces.specs.Pieces.Class.{Front, NoFront, exactly, some_run, texted};
-ghost use Rattle.syslog_pieces.specs.Bodies.Closing.{start as start_class, opening as opening_class};
-ghost use Rattle.syslog_pieces.specs.Bodies.Closing.{quoted as quoted_class, id_alone, name_alone};
+ghost use Rattle.syslog_pieces.specs.Pieces.{Front, NoFront, exactly, some_run, texted, shown, Reads, Recognises};
+ghost use Rattle.syslog_pieces.specs.Bodies.Closing.{opening as opening_class, quoted as quoted_class, name_alone};
 ghost use Rattle.syslog_pieces.specs.Bodies.Closing.{closing, IsDead, last_char};
 ghost use Rattle.syslog_pieces.specs.StructuredData.Escapes.{TextUnit, unit_text};
-ghost use Rattle.syslog_pieces.specs.StructuredData.Rfc3164List.{full_element};
 ghost use Rattle.syslog_pieces.specs.StructuredData.{bracketed as bracketed_class, IsValueUnit};
-ghost use Rattle.syslog_pieces.specs.Pieces.View.{shown, Reads, Recognises};
 
 use crate::text::{CharClass, blanks, first, literal, split_run};
 
@@ -31,16 +26,6 @@ pub(super) fn nonempty_run(text: &str, class: CharClass) -> Option<(&str, &str)>
     } else {
         Some((run, rest))
     }
-}
-
-// The id of the element at the front, and the text after it and blanks.
-#[inline(always)]
-pub(super) fn start(text: &str) -> Option<(&str, &str)>
-    ensures { Reads start_class (λ id. id_alone (shown id)) (chars text.now) result }
-{
-    let rest = literal(text, '[')?;
-    let (id, rest) = nonempty_run(rest, CharClass::Id)?;
-    Some((id, blanks(rest)))
 }
 
 // The name of the parameter at the front, and the text after the quote that opens its value.
@@ -113,42 +98,6 @@ pub(super) fn live_value(text: &str, dead: usize) -> Result<&str, usize>
         Some(behind) => Ok(behind),
         None => Err(0),
     }
-}
-
-// The text after the element that this text is inside a value of; after a refusal a number as that of
-// `live_value`.
-#[inline(always)]
-pub(super) fn live_closing(text: &str, dead: usize) -> Result<&str, usize>
-    requires { IsDead (chars text.now) dead }
-    ensures { MatchResult result
-        (λ behind. (v : closing.Value) × Front closing (chars text.now) (shown behind) v)
-        (λ d. NoFront closing (chars text.now) × IsDead (chars text.now) d) }
-{
-    let mut rest = text;
-    'params: loop {
-        let behind = live_value(rest, dead)?;
-        if let Some(end) = literal(behind, ']') {
-            return Ok(end);
-        }
-        let Some(next) = literal(behind, ' ') else {
-            return Err(behind.len());
-        };
-        let Some((_, value)) = opening(next) else {
-            return Err(behind.len());
-        };
-        rest = value;
-    }
-}
-
-// The text after the strict element at the front, where that has a parameter.
-#[tactic(auto, using(crate::proofs::StructuredDataLemmas::Rfc3164List::no_full_opening))]
-#[inline(always)]
-pub(super) fn after_full_element(text: &str) -> Option<&str>
-    ensures { Recognises full_element (chars text.now) result }
-{
-    let (_, inside) = start(text)?;
-    let (_, value) = opening(inside)?;
-    live_closing(value, value.len()).ok()
 }
 
 // The text after the bracketed text at the front.

@@ -1,10 +1,8 @@
 //! Elements and lists that were recognised and not collected: they are `Copy`, and hold no memory.
-ghost use Rattle.std.specs.Prelude.{◌≡◌, ◌++◌, IfSome, drop, length, sum_by};
-ghost use Rattle.std.specs.Str.{chars, IsUtf8};
+ghost use Rattle.std.specs.Prelude.{◌≡◌, ◌++◌, IfSome, drop, length, sum_by, chars, IsUtf8};
 ghost use Rattle.std.proofs.Props.{props};
 ghost use Rattle.syslog_pieces.specs.Bodies.Closing.{inside as inside_class};
-ghost use Rattle.syslog_pieces.specs.Pieces.Lists.{many};
-ghost use Rattle.syslog_pieces.specs.Pieces.View.{shown};
+ghost use Rattle.syslog_pieces.specs.Pieces.{many, shown};
 ghost use Rattle.syslog_pieces.specs.StructuredData.{item as item_class, strict as strict_of};
 ghost use Rattle.syslog_pieces.specs.StructuredData.Element.{elements_text};
 ghost use Rattle.syslog_pieces.specs.StructuredData.Recognised.{OneMeaning, OneInside-prop, OneItems-prop, one_value};
@@ -24,7 +22,7 @@ pub struct Element<'a> {
 
 impl<'a> Element<'a> {
     ghost use Rattle.std.specs.Prelude.{List};
-    ghost use Rattle.syslog_pieces.specs.Pieces.Class.{Text, Front};
+    ghost use Rattle.syslog_pieces.specs.Pieces.{Text, Front};
     ghost use Rattle.syslog_pieces.specs.StructuredData.Visited.{element_seen};
 
     // The element of the id and of the text inside, which has so many parameters.
@@ -74,7 +72,7 @@ pub struct ElementList<'a> {
 
 impl<'a> ElementList<'a> {
     ghost use Rattle.std.specs.Prelude.{◌≢◌, List, Option, [], IsTrue, MatchBool};
-    ghost use Rattle.syslog_pieces.specs.Pieces.Class.{Text, Front};
+    ghost use Rattle.syslog_pieces.specs.Pieces.{Text, Front};
     ghost use Rattle.syslog_pieces.specs.StructuredData.Element.{ElementValue};
     ghost use Rattle.syslog_pieces.specs.StructuredData.Visited.{list_elements, list_text};
 

@@ -1,10 +1,8 @@
 //! The elements of a recognised list, and the parameters of a recognised element, one after the other.
-ghost use Rattle.std.specs.Prelude.{◌≡◌, ◌⊎◌, [], ◌∷◌};
-ghost use Rattle.std.specs.Str.{chars, IsUtf8};
+ghost use Rattle.std.specs.Prelude.{◌≡◌, ◌⊎◌, [], ◌∷◌, chars, IsUtf8};
 ghost use Rattle.std.proofs.Props.{props};
 ghost use Rattle.syslog_pieces.specs.Bodies.Closing.{inside as inside_class, IsDead};
-ghost use Rattle.syslog_pieces.specs.Pieces.Class.{NoFront, exactly};
-ghost use Rattle.syslog_pieces.specs.Pieces.Lists.{many};
+ghost use Rattle.syslog_pieces.specs.Pieces.{NoFront, exactly, many};
 ghost use Rattle.syslog_pieces.specs.StructuredData.{item as item_class};
 ghost use Rattle.syslog_pieces.specs.StructuredData.Recognised.{OneMeaning, OneInside-prop, OneItems-prop};
 
@@ -37,7 +35,7 @@ pub struct Params<'a> {
 
 impl<'a> Iterator for Params<'a> {
     ghost use Rattle.std.specs.Iterator.{YieldsFirstBy, item_count};
-    ghost use Rattle.syslog_pieces.specs.Pieces.View.{shown};
+    ghost use Rattle.syslog_pieces.specs.Pieces.{shown};
     ghost use Rattle.syslog_pieces.specs.StructuredData.Element.{param_value};
     ghost use Rattle.syslog_pieces.specs.StructuredData.Visited.{params_left};
 

@@ -1,12 +1,10 @@
 //! The list of RFC 3164: `-`, or strict elements that each have a parameter. Anything else belongs to the message.
-ghost use Rattle.std.specs.Prelude.{◌≡◌, ◌∷◌, MatchBool, MatchOption};
-ghost use Rattle.std.specs.Str.{chars};
-ghost use Rattle.syslog_pieces.specs.Pieces.Class.{Text, NoFront};
-ghost use Rattle.syslog_pieces.specs.Pieces.View.{shown};
-ghost use Rattle.syslog_pieces.specs.StructuredData.Rfc3164List.{rfc3164_list};
-ghost use Rattle.syslog_pieces.specs.StructuredData.Rfc3164List.{IsDashBefore};
+ghost use Rattle.std.specs.Prelude.{◌≡◌, ◌∷◌, MatchBool, MatchOption, chars};
+ghost use Rattle.syslog_pieces.specs.Pieces.{Text, NoFront, shown};
+ghost use Rattle.syslog_pieces.specs.StructuredData.Rfc3164List.{rfc3164_list, IsDashBefore};
 
-use super::recognise::after_full_element;
+use super::visit::NoNotes;
+use super::walk::walk_full_element;
 use crate::text::{CharClass, first, literal};
 
 /// Before which texts a dash is a list without elements.
@@ -55,8 +53,8 @@ pub fn begins_list(text: &str, rule: DashRule) -> bool
     if let Some(_) = after_dash(text, rule) {
         return true;
     }
-    if let Some(_) = after_full_element(text) {
-        return true;
+    match walk_full_element(text, &mut NoNotes) {
+        Some(_) => true,
+        None => false,
     }
-    false
 }

@@ -1,7 +1,6 @@
 //! What is made of the elements of a list while the list is recognised.
-ghost use Rattle.std.specs.Prelude.{List, [], ◌∷◌, ◌++◌};
-ghost use Rattle.std.specs.Str.{chars};
-ghost use Rattle.syslog_pieces.specs.Pieces.Class.{Text};
+ghost use Rattle.std.specs.Prelude.{List, [], ◌∷◌, ◌++◌, chars};
+ghost use Rattle.syslog_pieces.specs.Pieces.{Text};
 ghost use Rattle.syslog_pieces.specs.StructuredData.Element.{ElementValue};
 ghost use Rattle.syslog_pieces.specs.StructuredData.Visited.{element_seen};
 

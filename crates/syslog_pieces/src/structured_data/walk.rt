@@ -1,12 +1,12 @@
 //! The walk over an element: recognises the strict element at the front, in time linear over a list, and says whether
 //! it prints as it is.
-ghost use Rattle.std.specs.Prelude.{◌≡◌, ◌++◌, [], ◌∷◌, IfOk, IsTrue, MatchOption, MatchResult};
-ghost use Rattle.std.specs.Str.{chars, IsUtf8};
-ghost use Rattle.syslog_pieces.specs.Bodies.Closing.{IsDead, opening as opening_class};
-ghost use Rattle.syslog_pieces.specs.Bodies.Closing.{quoted as quoted_class, name_alone};
-ghost use Rattle.syslog_pieces.specs.Pieces.Class.{Front, NoFront, run};
-ghost use Rattle.syslog_pieces.specs.Pieces.View.{shown};
+ghost use Rattle.std.specs.Prelude.{◌≡◌, ◌++◌, ◌<◌, [], ◌∷◌, IfOk, IfSome, IsTrue, MatchOption, MatchResult, chars};
+ghost use Rattle.std.specs.Prelude.{length};
+ghost use Rattle.syslog_pieces.specs.Bodies.Closing.{IsDead, opening as opening_class, quoted as quoted_class};
+ghost use Rattle.syslog_pieces.specs.Bodies.Closing.{name_alone};
+ghost use Rattle.syslog_pieces.specs.Pieces.{Front, NoFront, run, shown};
 ghost use Rattle.syslog_pieces.specs.StructuredData.{element as element_class};
+ghost use Rattle.syslog_pieces.specs.StructuredData.Rfc3164List.{full_element};
 ghost use Rattle.syslog_pieces.specs.StructuredData.Visited.{IsWalked, element_seen};
 ghost use Rattle.syslog_pieces.specs.Text as spec;
 
@@ -114,4 +114,23 @@ pub(super) fn walk_element<'a, N: ParamNotes<'a>>(
         };
         at = next;
     }
+}
+
+/// Walks the strict element at the front, where that has a parameter, and notes its parameters.
+#[inline(always)]
+pub(super) fn walk_full_element<'a, N: ParamNotes<'a>>(
+    text: &'a str,
+    notes: &mut N,
+) -> Option<Walked<'a>>
+    ensures walked { MatchOption result (NoFront full_element (chars text.now))
+        (λ w. IsWalked (chars text.now) w × (0 < length (element_seen w.element).params)) }
+    ensures noted { IfSome result (λ w. N.noted notes.new (element_seen w.element).params) }
+{
+    let Ok(found) = walk_element(text, text.len(), notes) else {
+        return None;
+    };
+    if found.element.params_len() == 0 {
+        return None;
+    }
+    Some(found)
 }

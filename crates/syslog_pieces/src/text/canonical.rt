@@ -1,9 +1,7 @@
 //! Which texts are read back from print as they are. Each test asks the scanner or the reader that reads such a text,
 //! and takes no memory.
-ghost use Rattle.std.specs.Prelude.{◌≡◌, ◌↔◌, ◌<◌, IsSomeAnd, IsTrue, [], length};
-ghost use Rattle.std.specs.Str.{chars};
-ghost use Rattle.syslog_pieces.specs.Pieces.Class.{Each, Ends};
-ghost use Rattle.syslog_pieces.specs.Pieces.View.{shown};
+ghost use Rattle.std.specs.Prelude.{◌≡◌, ◌↔◌, ◌<◌, IsSomeAnd, IsTrue, [], length, chars};
+ghost use Rattle.syslog_pieces.specs.Pieces.{Each, Ends, shown};
 ghost use Rattle.syslog_pieces.specs.Text.{is_blank};
 ghost use Rattle.syslog_pieces.specs.Text.CharClass.{has};
 ghost use Rattle.syslog_pieces.specs.Text.Canonical.{IsCanonicalHost, IsCanonicalTag, IsCanonicalWord};

@@ -1,7 +1,6 @@
 //! The fields of RFC 3164 that name where a line comes from: each after one space.
-ghost use Rattle.std.specs.Str.{chars};
-ghost use Rattle.syslog_pieces.specs.Pieces.Class.{Front, optional, spaced};
-ghost use Rattle.syslog_pieces.specs.Pieces.View.{field_seen, shown};
+ghost use Rattle.std.specs.Prelude.{chars};
+ghost use Rattle.syslog_pieces.specs.Pieces.{Front, optional, spaced, field_seen, shown};
 ghost use Rattle.syslog_pieces.specs.Text as spec;
 
 use super::{host, literal, tag_word};

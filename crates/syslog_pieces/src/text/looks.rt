@@ -1,6 +1,6 @@
 //! What the first bytes of a text, or its last one, say without a scan.
-ghost use Rattle.std.specs.Prelude.{◌≡◌, ◌≢◌, ℕ, List, ◌∷◌, ◌++◌, [], IsTrue};
-ghost use Rattle.std.specs.Prelude.{MatchBool, drop, false, length, slice_index, ◌<◌};
+ghost use Rattle.std.specs.Prelude.{◌≡◌, ◌≢◌, ℕ, List, ◌∷◌, ◌++◌, [], IsTrue, MatchBool, drop, false, length};
+ghost use Rattle.std.specs.Prelude.{slice_index, ◌<◌};
 ghost use Rattle.std.specs.Bool.{OnFalse};
 ghost use Rattle.syslog_pieces.specs.Bodies.Looks as spec;
 

@@ -1,9 +1,8 @@
 //! Which parts of a text are already in printed form, by a look at a few bytes; and the text before a rest of it.
 //!
 //! Each test may always return false: then the piece is printed instead.
-ghost use Rattle.std.specs.Prelude.{◌≡◌, ◌∷◌, ◌++◌, IsTrue};
-ghost use Rattle.std.specs.Str.{chars};
-ghost use Rattle.syslog_pieces.specs.Pieces.Class.{Text};
+ghost use Rattle.std.specs.Prelude.{◌≡◌, ◌∷◌, ◌++◌, IsTrue, chars};
+ghost use Rattle.syslog_pieces.specs.Pieces.{Text};
 
 use crate::text::looks::begins_with;
 

@@ -1,11 +1,9 @@
 //! The small pieces at the front of bytes: digits as numbers, and letters. Nothing is copied.
-ghost use Rattle.std.specs.Prelude.{◌≡◌, ℕ, ◌<◌, ◌≤◌, ◌++◌, ◌∷◌, length, slice_index};
-ghost use Rattle.std.specs.Prelude.{IfSome, MatchOption};
+ghost use Rattle.std.specs.Prelude.{◌≡◌, ℕ, ◌<◌, ◌≤◌, ◌++◌, ◌∷◌, length, slice_index, IfSome, MatchOption};
 ghost use Rattle.std.specs.Bool.{OnFalse};
 ghost use Rattle.std.specs.List.{prefix_len};
 ghost use Rattle.std.specs.Char.{is_ascii_digit, IsAsciiDigit};
-ghost use Rattle.syslog_pieces.specs.Pieces.Class.{Ends, Front, NoFront, after};
-ghost use Rattle.syslog_pieces.specs.Pieces.View.{ReadsBytes};
+ghost use Rattle.syslog_pieces.specs.Pieces.{Ends, Front, NoFront, after, ReadsBytes};
 ghost use Rattle.syslog_pieces.specs.Timestamp.Printed.{pad3};
 ghost use Rattle.syslog_pieces.specs.Timestamp.Rfc3339 as spec;
 

@@ -1,7 +1,6 @@
 //! Whether there is a timestamp of civil fields on a clock, and its instant, by its own arithmetic: of most dates no
 //! calendar is asked, and no datetime is made of any for its instant.
-ghost use Rattle.std.specs.Prelude.{◌≡◌, ◌↔◌, ◌+◌, ◌*◌, ◌<◌, ◌≤◌, ◌+ℤ◌, ◌-ℤ◌, ◌*ℤ◌, ◌≤ℤ◌, ◌<ℤ◌};
-ghost use Rattle.std.specs.Prelude.{neg_ℤ, pos, IsTrue};
+ghost use Rattle.std.specs.Prelude.{◌≡◌, ◌↔◌, ◌+◌, ◌*◌, ◌<◌, ◌≤◌, ◌+ℤ◌, ◌-ℤ◌, ◌*ℤ◌, ◌≤ℤ◌, ◌<ℤ◌, neg_ℤ, pos, IsTrue};
 ghost use Rattle.std.specs.Int.{IsInRange};
 ghost use Rattle.jiff.specs.Words.{IsOffsetSeconds, IsTimestampNanos, nanos_of_seconds};
 ghost use Rattle.jiff_core.specs.Calendar.{day_count};

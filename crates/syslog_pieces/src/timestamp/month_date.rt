@@ -1,11 +1,9 @@
 //! Month dates: the dates of RFC 3164.
 //!
 //! A date is recognised by its letters and digits alone, before anybody asks for its year. Nothing here takes memory.
-ghost use Rattle.std.specs.Prelude.{◌≡◌, IfSome, Option, MatchOption};
-ghost use Rattle.std.specs.Str.{chars};
+ghost use Rattle.std.specs.Prelude.{◌≡◌, IfSome, Option, MatchOption, chars};
 ghost use Rattle.syslog_pieces.specs.Bodies.MonthReading as parts;
-ghost use Rattle.syslog_pieces.specs.Pieces.Class.{Front, NoFront, Row, Text};
-ghost use Rattle.syslog_pieces.specs.Pieces.View.{shown, Reads};
+ghost use Rattle.syslog_pieces.specs.Pieces.{Front, NoFront, Row, Text, shown, Reads};
 ghost use Rattle.syslog_pieces.specs.Timestamp.MonthDate as spec;
 ghost use Rattle.syslog_pieces.specs.declared.timestamp.month_date.MonthDate.{MonthDate};
 

@@ -1,10 +1,9 @@
 //! What an RFC 3339 text writes, read at the front of a text, and the stamp that it has.
 //!
 //! The text is ASCII, so its bytes are its characters: it is read byte by byte, piece by piece from the left.
-ghost use Rattle.std.specs.Prelude.{◌≡◌, ◌<◌, pos, IfSome, IsNone, option_map};
-ghost use Rattle.std.specs.Str.{chars};
+ghost use Rattle.std.specs.Prelude.{◌≡◌, ◌<◌, pos, IfSome, IsNone, option_map, chars};
 ghost use Rattle.jiff.specs.Words.{IsOffsetSeconds};
-ghost use Rattle.syslog_pieces.specs.Pieces.View.{Reads, ReadsBytes};
+ghost use Rattle.syslog_pieces.specs.Pieces.{Reads, ReadsBytes};
 ghost use Rattle.syslog_pieces.specs.Timestamp.{IsAnswer, IsStampOfRfc3339};
 ghost use Rattle.syslog_pieces.specs.Timestamp.Rfc3339 as spec;
 

@@ -4,12 +4,11 @@
 //! zone that is given has no timestamp of them, and in the local zone they are taken as UTC. (This project's own
 //! choice, as the crate's documents have it.) No conversion here takes memory.
 ghost use Rattle.std.specs.Prelude.{◌≡◌, Some, pos, ◌<ℤ◌, IfSome, IsNone};
-ghost use Rattle.jiff.specs.Words.{plain_zone};
+ghost use Rattle.jiff.specs.Words.{plain_zone, ambiguous_at};
 ghost use Rattle.syslog_pieces.specs.Timestamp.{IsAnswer, clock_value};
 ghost use Rattle.syslog_pieces.specs.Timestamp.Fields.{fields_of};
 ghost use Rattle.syslog_pieces.specs.Bodies.Clock.{zone_of as one_zone};
 ghost use Rattle.syslog_pieces.specs.Timestamp.Zone as spec;
-ghost use Rattle.jiff.specs.Words.{ambiguous_at};
 
 use super::ClockStamp;
 use super::fields::{CivilFields, datetime_fields};

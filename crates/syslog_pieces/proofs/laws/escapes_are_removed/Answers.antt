@@ -1,4 +1,4 @@
-use Rattle.syslog_pieces.specs.StructuredData.Escapes.{escaped}
+use Rattle.syslog_pieces.proofs.Names.{escaped}
 use Rattle.syslog_pieces.proofs.StructuredDataLemmas.Units.{escaped_there, unescaped_one}
 use Rattle.syslog_pieces.proofs.laws.escapes_are_removed.Goals as goal
 

@@ -1,5 +1,4 @@
-use Rattle.syslog_pieces.specs.Timestamp.Rfc3164.{rfc3164_stamp}
-use Rattle.syslog_pieces.proofs.PieceLemmas.Class.{front_same}
+use Rattle.syslog_pieces.proofs.Names.{rfc3164_stamp, front_same}
 use Rattle.syslog_pieces.proofs.TimestampLemmas.Rfc3164.{rfc3164_stamp_det}
 use Rattle.syslog_pieces.proofs.laws.text_has_one_rfc3164_stamp.Goals as goal
 

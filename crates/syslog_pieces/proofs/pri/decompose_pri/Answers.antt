@@ -1,4 +1,4 @@
-use Rattle.std.proofs.Common.{◌/◌}
+use Rattle.syslog_pieces.proofs.Names.{◌/◌}
 use Rattle.syslog_pieces.proofs.PriLemmas.{facility_told}
 use Rattle.syslog_pieces.proofs.pri.decompose_pri.Goals as goal
 

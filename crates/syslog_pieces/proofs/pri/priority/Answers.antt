@@ -1,6 +1,4 @@
-use Rattle.std.proofs.Common.{inl, refl, rules}
-use Rattle.syslog_pieces.specs.Pri.{priority_row}
-use Rattle.syslog_pieces.proofs.PieceLemmas.Rows.{row_of, ◌then◌, ◌past◌}
+use Rattle.syslog_pieces.proofs.Names.{inl, refl, rules, priority_row, row_of, ◌then◌, ◌past◌}
 use Rattle.syslog_pieces.proofs.PriLemmas.{as_priority, no_priority}
 use Rattle.syslog_pieces.proofs.pri.priority.Goals as goal
 

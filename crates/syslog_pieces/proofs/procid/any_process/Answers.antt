@@ -1,4 +1,4 @@
-use Rattle.std.proofs.lemmas.Int.{to_z-of_z}
+use Rattle.syslog_pieces.proofs.Names.{to_z-of_z}
 use Rattle.syslog_pieces.proofs.ProcIdLemmas.{number_read, no_number_read}
 use Rattle.syslog_pieces.proofs.procid.any_process.Goals as goal
 

@@ -1,5 +1,4 @@
-use Rattle.std.proofs.Common.{refl}
-use Rattle.syslog_pieces.proofs.Names.{not-true}
+use Rattle.syslog_pieces.proofs.Names.{refl, not-true}
 use Rattle.syslog_pieces.proofs.ProcIdLemmas.{bare_word}
 use Rattle.syslog_pieces.proofs.procid.is_bare_word.Goals as goal
 

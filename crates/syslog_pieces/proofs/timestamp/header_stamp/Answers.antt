@@ -1,4 +1,4 @@
-use Rattle.std.proofs.Common.{[], ◌∷◌, refl, rules}
+use Rattle.syslog_pieces.proofs.Names.{[], ◌∷◌, refl, rules}
 use Rattle.syslog_pieces.proofs.TimestampLemmas.Piece.{no_header, no_stamp_front}
 use Rattle.syslog_pieces.proofs.timestamp.header_stamp.Goals as goal
 

@@ -1,5 +1,4 @@
-use Rattle.std.proofs.Common.{arith}
-use Rattle.std.proofs.lemmas.Grind.{common_steps}
+use Rattle.syslog_pieces.proofs.Names.{arith, common_steps}
 use Rattle.syslog_pieces.proofs.TextLemmas.Decimals.{last_of_more, one_longer}
 use Rattle.syslog_pieces.proofs.front.Ascii.+push_number.Goals as goal
 

@@ -1,4 +1,4 @@
-use Rattle.std.proofs.Common.{◌≡◌, ◌++◌, List, ℕ, ap, ◌∙◌, append_assoc}
+use Rattle.syslog_pieces.proofs.Names.{◌≡◌, ◌++◌, List, ℕ, ap, ◌∙◌, append_assoc}
 use Rattle.syslog_pieces.proofs.front.Ascii.push_fields.Goals as goal
 
 three_pieces : (a b c d x y z : List ℕ) → b ≡ a ++ x → c ≡ b ++ y → d ≡ c ++ z → d ≡ a ++ (x ++ (y ++ z))

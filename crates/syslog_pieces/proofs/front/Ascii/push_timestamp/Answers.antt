@@ -1,4 +1,4 @@
-use Rattle.std.proofs.Common.{refl}
+use Rattle.syslog_pieces.proofs.Names.{refl}
 use Rattle.syslog_pieces.specs.Timestamp.Printed.{printed_stamp}
 use Rattle.syslog_pieces.proofs.TimestampLemmas.Civil.{shows_fields}
 use Rattle.syslog_pieces.proofs.front.Ascii.push_timestamp.Goals as goal

@@ -1,7 +1,4 @@
-use Rattle.std.proofs.Common.{sym, ap, ◌∙◌}
-use Rattle.std.proofs.Output.{has_written_of_eq}
-use Rattle.syslog_pieces.specs.Timestamp.Printed.{fields_text}
-use Rattle.syslog_pieces.specs.declared.timestamp.fields.CivilFields.{CivilFields}
+use Rattle.syslog_pieces.proofs.Names.{sym, ap, ◌∙◌, has_written_of_eq, fields_text, CivilFields}
 use Rattle.syslog_pieces.proofs.TimestampLemmas.Civil.{printed_stamp-is}
 use Rattle.syslog_pieces.proofs.front.OffsetTimestampDisplay.fmt.Goals as goal
 

@@ -1,7 +1,6 @@
-use Rattle.syslog_pieces.proofs.Names.{◌≡◌, FitsSigned, pos, w32, inl, arith, ap, chars-IsAscii}
+use Rattle.syslog_pieces.proofs.Names.{◌≡◌, FitsSigned, pos, w32, inl, arith, ap, chars-IsAscii, signed_arith}
 use Rattle.std.proofs.Common.{to_z}
 use Rattle.std.proofs.lemmas.Int.{to_z_pos}
-use Rattle.jiff_core.proofs.SignedLemmas.{signed_arith}
 use Rattle.syslog_pieces.proofs.TextLemmas.Chars.{digits_ascii}
 use Rattle.syslog_pieces.proofs.procid.ProcIdRefStrFromRefStr.from.Goals as goal
 

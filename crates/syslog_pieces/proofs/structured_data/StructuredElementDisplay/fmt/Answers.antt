@@ -1,6 +1,5 @@
 use Rattle.syslog_pieces.proofs.Names.{refl, ◌∙◌, ap, sym, [], ◌∷◌, ◌++◌, append_assoc, take_all, flat_map, Text}
-use Rattle.syslog_pieces.proofs.Names.{param_text, param_value, text_of}
-use Rattle.std.proofs.lemmas.Grind.{put_two}
+use Rattle.syslog_pieces.proofs.Names.{param_text, param_value, text_of, put_two}
 use Rattle.syslog_pieces.proofs.TextLemmas.Printed.{encodes_shown, encodes_step, encodes_param, encodes_opening}
 use Rattle.syslog_pieces.proofs.TextLemmas.Printed.{encodes_closed, flat_map-map}
 use Rattle.syslog_pieces.proofs.structured_data.StructuredElementDisplay.fmt.Goals as goal

@@ -1,5 +1,4 @@
-use Rattle.syslog_pieces.proofs.Names.{◌≡◌, ◌++◌, map, param_value, shown}
-use Rattle.syslog_pieces.specs.StructuredData.Visited.{element_seen, params_left}
+use Rattle.syslog_pieces.proofs.Names.{◌≡◌, ◌++◌, map, param_value, shown, element_seen, params_left}
 use Rattle.syslog_pieces.proofs.structured_data.collect_element.walk_params.Given as goal
 
 abbrev pub invariant-loop-param : goal.invariant-loop-param

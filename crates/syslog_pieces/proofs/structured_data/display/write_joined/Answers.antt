@@ -1,7 +1,4 @@
-use Rattle.syslog_pieces.proofs.Names.{refl, []}
-use Rattle.std.proofs.lemmas.Grind.{put_two}
-use Rattle.syslog_pieces.specs.StructuredData.Element.{element_text}
-use Rattle.syslog_pieces.specs.StructuredData.Visited.{element_seen}
+use Rattle.syslog_pieces.proofs.Names.{refl, [], put_two, element_text, element_seen}
 use Rattle.syslog_pieces.proofs.TextLemmas.Printed.{encodes_more}
 use Rattle.syslog_pieces.proofs.structured_data.display.write_joined.Goals as goal
 

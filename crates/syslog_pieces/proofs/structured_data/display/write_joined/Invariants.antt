@@ -1,7 +1,5 @@
-use Rattle.syslog_pieces.proofs.Names.{map, [], ◌++◌, flat_map, encode_utf8_all}
-use Rattle.syslog_pieces.proofs.Names.{HasWritten, IsPlainFormatter}
-use Rattle.syslog_pieces.specs.StructuredData.Element.{element_text}
-use Rattle.syslog_pieces.specs.StructuredData.Visited.{element_seen}
+use Rattle.syslog_pieces.proofs.Names.{map, [], ◌++◌, flat_map, encode_utf8_all, HasWritten, IsPlainFormatter}
+use Rattle.syslog_pieces.proofs.Names.{element_text, element_seen}
 use Rattle.syslog_pieces.proofs.structured_data.display.write_joined.Given as goal
 
 abbrev pub invariant-loop-element : goal.invariant-loop-element

@@ -1,10 +1,10 @@
-use Rattle.syslog_pieces.proofs.Names.{rules, arith, refl, sym, ap, subst, ◌≡◌, ◌∙◌, ◌+◌, ◌≤◌, ℕ, Bool, List, [], ◌∷◌, ◌++◌}
-use Rattle.syslog_pieces.proofs.Names.{Option, Some, None, length, chars, item, strict, HasRead, has_read_none, IsDead}
-use Rattle.syslog_pieces.proofs.Names.{has_read_more, has_read_all, and_parts, ElementValue, shown}
-use Rattle.syslog_pieces.specs.StructuredData.Visited.{Visits, element_seen}
+use Rattle.syslog_pieces.proofs.Names.{rules, arith, refl, sym, ap, subst, ◌+◌, ◌≤◌, ℕ, [], ◌∷◌}
+use Rattle.syslog_pieces.proofs.Names.{◌++◌, Some, None, length, chars, item, strict, has_read_none}
+use Rattle.syslog_pieces.proofs.Names.{IsDead, has_read_more, has_read_all, and_parts}
+use Rattle.syslog_pieces.proofs.Names.{element_seen}
 use Rattle.syslog_pieces.proofs.StructuredDataLemmas.Closing.{byte_count_slice, dead_whole, dead_suffix, dead_least}
 use Rattle.syslog_pieces.proofs.StructuredDataLemmas.Elements.{element_item, element_shorter, no_item, bracketed_item}
-use Rattle.syslog_pieces.proofs.StructuredDataLemmas.Listed.{Counts, are_items, counts_none, counts_more, counts_broken}
+use Rattle.syslog_pieces.proofs.StructuredDataLemmas.Listed.{are_items, counts_none, counts_more, counts_broken}
 use Rattle.syslog_pieces.proofs.StructuredDataLemmas.Listed.{visits_none, visits_more, visits_along, counts_along}
 use Rattle.syslog_pieces.proofs.StructuredDataLemmas.Listed.{strict_more, strict_same}
 use Rattle.syslog_pieces.proofs.StructuredDataLemmas.Walk.{chars_length}

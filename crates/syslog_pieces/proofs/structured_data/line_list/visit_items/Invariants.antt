@@ -1,5 +1,5 @@
-use Rattle.syslog_pieces.proofs.Names.{List, Option, length, shadow, Utf8, chars, IsDead, ElementValue, item, strict, HasRead}
-use Rattle.syslog_pieces.specs.StructuredData.Visited.{Visits}
+use Rattle.syslog_pieces.proofs.Names.{List, Option, length, shadow, Utf8, chars, IsDead, ElementValue, item, strict}
+use Rattle.syslog_pieces.proofs.Names.{HasRead, Visits}
 use Rattle.syslog_pieces.proofs.StructuredDataLemmas.Listed.{Counts}
 use Rattle.syslog_pieces.proofs.structured_data.line_list.visit_items.Given as goal
 

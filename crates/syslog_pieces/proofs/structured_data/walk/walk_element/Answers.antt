@@ -1,12 +1,13 @@
-use Rattle.syslog_pieces.proofs.Names.{rules, arith, refl, sym, ap, subst, ◌≡◌, ◌∙◌, ◌+◌, ◌<◌, ◌≤◌, ℕ, List, [], ◌∷◌}
-use Rattle.syslog_pieces.proofs.Names.{◌++◌, length, Result, Ok, Err, MatchResult, IsErrAnd, length-append, chars, inl}
-use Rattle.syslog_pieces.proofs.Names.{NoFront, start, start_row, row_of, no_row, ◌then◌, ◌past◌, IsDead, element}
+use Rattle.syslog_pieces.proofs.Names.{rules, arith, refl, sym, subst, ◌≡◌, ◌+◌, ◌≤◌, ℕ, []}
+use Rattle.syslog_pieces.proofs.Names.{length, Result, Ok, Err, MatchResult, IsErrAnd, inl}
+use Rattle.syslog_pieces.proofs.Names.{NoFront, start_row, row_of, no_row, ◌then◌, ◌past◌, IsDead, element}
 use Rattle.syslog_pieces.proofs.Names.{eqb-true, ElementValue}
 use Rattle.syslog_pieces.proofs.StructuredDataLemmas.Closing.{byte_count_slice, dead_suffix, start_det, no_start}
 use Rattle.syslog_pieces.proofs.StructuredDataLemmas.ReadBack.{start_text}
 use Rattle.syslog_pieces.proofs.StructuredDataLemmas.Walk.{bare_inside, bare_element, bare_prints, same_rest, at_first}
 use Rattle.syslog_pieces.proofs.StructuredDataLemmas.Walk.{not_opened, value_passes, not_closed, not_separated, ends}
-use Rattle.syslog_pieces.proofs.StructuredDataLemmas.Walk.{goes_on, front_length, param_length, chars_length, one_more, walked}
+use Rattle.syslog_pieces.proofs.StructuredDataLemmas.Walk.{goes_on, front_length, param_length, chars_length, one_more}
+use Rattle.syslog_pieces.proofs.StructuredDataLemmas.Walk.{walked}
 use Rattle.syslog_pieces.proofs.structured_data.walk.walk_element.Goals as goal
 
 pub returns-in_default-clause-walked : goal.returns-in_default-clause-walked

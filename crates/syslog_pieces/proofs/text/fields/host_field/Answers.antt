@@ -1,6 +1,5 @@
-use Rattle.syslog_pieces.proofs.Names.{host, optional_some, spaced_front, no_spaced_space, no_spaced_piece}
-use Rattle.syslog_pieces.specs.Pieces.Class.{spaced}
-use Rattle.syslog_pieces.proofs.PieceLemmas.Class.{optional_none}
+use Rattle.syslog_pieces.proofs.Names.{host, optional_some, spaced_front, no_spaced_space, no_spaced_piece, spaced}
+use Rattle.syslog_pieces.proofs.Names.{optional_none}
 use Rattle.syslog_pieces.proofs.text.fields.host_field.Goals as goal
 
 pub returns-in_default : goal.returns-in_default

@@ -1,5 +1,4 @@
-use Rattle.syslog_pieces.proofs.Names.{ℕ, ◌+◌, ◌-◌, ◌%◌, nat_eq, slice_index}
-use Rattle.std.proofs.Common.{nat_lt}
+use Rattle.syslog_pieces.proofs.Names.{ℕ, ◌+◌, ◌-◌, ◌%◌, nat_eq, slice_index, nat_lt}
 use Rattle.syslog_pieces.proofs.TextLemmas.Lanes.{run_in, lanes, joined, splat, past, mask_tests, past_ascii}
 use Rattle.syslog_pieces.proofs.text.lanes.set_run.Goals as goal
 

@@ -1,4 +1,4 @@
-use Rattle.std.proofs.Common.{arith}
+use Rattle.syslog_pieces.proofs.Names.{arith}
 use Rattle.syslog_pieces.proofs.TextLemmas.Decimals.{pairs_at}
 use Rattle.syslog_pieces.proofs.text.write_ascii.two_digits.Goals as goal
 

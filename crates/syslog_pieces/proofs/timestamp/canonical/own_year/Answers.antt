@@ -1,6 +1,5 @@
-use Rattle.std.proofs.Common.{sym, ap, ◌∙◌}
+use Rattle.syslog_pieces.proofs.Names.{sym, ap, ◌∙◌, CivilFields}
 use Rattle.jiff_tz.proofs.YearLemmas.{back_year}
-use Rattle.syslog_pieces.specs.declared.timestamp.fields.CivilFields.{CivilFields}
 use Rattle.syslog_pieces.proofs.TimestampLemmas.Civil.{civil_fields-is}
 use Rattle.syslog_pieces.proofs.timestamp.canonical.own_year.Goals as goal
 

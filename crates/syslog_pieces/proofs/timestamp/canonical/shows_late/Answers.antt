@@ -1,10 +1,9 @@
-use Rattle.std.proofs.Common.{◌≡◌, ◌↔◌, ◌≤ℤ◌, ℤ, pos, Bool, true, false, IsTrue, SFits, refl, ap, arith}
+use Rattle.syslog_pieces.proofs.Names.{◌≡◌, ◌↔◌, ◌≤ℤ◌, ℤ, pos, Bool, true, false, IsTrue, refl, ap, arith, to_z-of_z}
+use Rattle.syslog_pieces.proofs.Names.{CivilFields, clock_value}
+use Rattle.std.proofs.Common.{SFits}
 use Rattle.std.proofs.Math.Dec.{T}
 use Rattle.std.specs.Int.{w32}
-use Rattle.std.proofs.lemmas.Int.{to_z-of_z}
 use Rattle.std.specs.Int.Signed.{le_z, le_z_yes}
-use Rattle.syslog_pieces.specs.declared.timestamp.fields.CivilFields.{CivilFields}
-use Rattle.syslog_pieces.specs.Timestamp.{clock_value}
 use Rattle.syslog_pieces.proofs.TimestampLemmas.Civil.{shows_fields}
 use Rattle.syslog_pieces.proofs.TimestampLemmas.RoundTrip.{own_year-to}
 use Rattle.syslog_pieces.proofs.timestamp.canonical.shows_late.Goals as goal

@@ -1,4 +1,4 @@
-use Rattle.std.proofs.Common.{inl, inr, ◌+◌, [], ◌∷◌, refl, rules}
+use Rattle.syslog_pieces.proofs.Names.{inl, inr, ◌+◌, [], ◌∷◌, refl, rules}
 use Rattle.syslog_pieces.proofs.TimestampLemmas.Bytes.{first_rest}
 use Rattle.syslog_pieces.proofs.timestamp.digits.after_letter.Goals as goal
 

@@ -1,4 +1,4 @@
-use Rattle.std.proofs.Common.{refl}
+use Rattle.syslog_pieces.proofs.Names.{refl}
 use Rattle.syslog_pieces.proofs.TimestampLemmas.Decimals.{decimals_front, three, six, nine}
 use Rattle.syslog_pieces.proofs.timestamp.digits.few_decimals.Goals as goal
 

@@ -1,8 +1,6 @@
-use Rattle.std.proofs.Common.{ℕ, ◌/◌, ◌%◌, ◌++◌, refl, sym, ap, ◌∙◌, arith, rules}
-use Rattle.jiff_fmt.specs.Text.{pad2}
-use Rattle.syslog_pieces.specs.Pieces.Class.{Text, Front, NoFront}
-use Rattle.syslog_pieces.specs.Timestamp.Rfc3339.{pair, year}
-use Rattle.syslog_pieces.proofs.PieceLemmas.Class.{front_same, no_front_no}
+use Rattle.syslog_pieces.proofs.Names.{ℕ, ◌/◌, ◌%◌, ◌++◌, refl, sym, ap, ◌∙◌, arith, rules, pad2, Text, Front, NoFront}
+use Rattle.syslog_pieces.proofs.Names.{year, front_same, no_front_no}
+use Rattle.syslog_pieces.specs.Timestamp.Rfc3339.{pair}
 use Rattle.syslog_pieces.proofs.TimestampLemmas.Rfc3339.{pair_det}
 use Rattle.syslog_pieces.proofs.timestamp.digits.four_digits.Goals as goal
 

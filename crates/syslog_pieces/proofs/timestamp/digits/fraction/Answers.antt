@@ -1,4 +1,4 @@
-use Rattle.std.proofs.Common.{rules}
+use Rattle.syslog_pieces.proofs.Names.{rules}
 use Rattle.syslog_pieces.proofs.TimestampLemmas.Bytes.{first_rest}
 use Rattle.syslog_pieces.proofs.TimestampLemmas.Decimals.{fraction_reads, no_dot_front}
 use Rattle.syslog_pieces.proofs.timestamp.digits.fraction.Goals as goal

@@ -1,10 +1,7 @@
-use Rattle.std.proofs.Common.{inl, inr, ℕ, ◌≡◌, ◌-◌, ◌*◌, ◌<◌, ◌≤◌, List, length, get_or, take, sym, ap, ◌∙◌, arith}
-use Rattle.std.proofs.Common.{get_or-take, length-take}
-use Rattle.std.proofs.Math.Nat.{mul-le-mul_right}
-use Rattle.std.proofs.lemmas.Bool.{cases_lt}
+use Rattle.syslog_pieces.proofs.Names.{inl, inr, ℕ, ◌≡◌, ◌-◌, ◌*◌, ◌<◌, ◌≤◌, List, length, get_or, take, sym, ap, ◌∙◌}
+use Rattle.syslog_pieces.proofs.Names.{arith, length-take, mul-le-mul_right, cases_lt, IsAsciiDigit, fraction_value}
+use Rattle.std.proofs.Common.{get_or-take}
 use Rattle.std.proofs.lemmas.List.{at_drop_all}
-use Rattle.std.specs.Char.{IsAsciiDigit}
-use Rattle.jiff_fmt.specs.Reader.{fraction_value}
 use Rattle.jiff_fmt.proofs.ReaderLemmas.{fraction_value-nil}
 use Rattle.syslog_pieces.proofs.TimestampLemmas.Decimals.{all_decimals, no_decimals, step_on, step_past}
 use Rattle.syslog_pieces.proofs.timestamp.digits.many_decimals.Goals as goal

@@ -1,5 +1,4 @@
-use Rattle.std.proofs.Common.{◌≡◌, ◌+◌, ◌-◌, ◌/◌, ◌^◌, ◌≤◌, drop}
-use Rattle.jiff_fmt.specs.Reader.{fraction_value}
+use Rattle.syslog_pieces.proofs.Names.{◌≡◌, ◌+◌, ◌-◌, ◌/◌, ◌^◌, ◌≤◌, drop, fraction_value}
 use Rattle.syslog_pieces.proofs.timestamp.digits.many_decimals.Given as goal
 
 abbrev pub invariant-digits : goal.invariant-digits

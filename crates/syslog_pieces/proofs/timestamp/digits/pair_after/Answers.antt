@@ -1,4 +1,4 @@
-use Rattle.std.proofs.Common.{rules}
+use Rattle.syslog_pieces.proofs.Names.{rules}
 use Rattle.syslog_pieces.proofs.TimestampLemmas.Bytes.{after_reads, first_rest}
 use Rattle.syslog_pieces.proofs.timestamp.digits.pair_after.Goals as goal
 

@@ -1,5 +1,4 @@
-use Rattle.std.proofs.Common.{refl, rules, FitsSigned, w32}
-use Rattle.std.proofs.lemmas.Int.{to_z-of_z}
+use Rattle.syslog_pieces.proofs.Names.{refl, rules, FitsSigned, w32, to_z-of_z}
 use Rattle.syslog_pieces.proofs.TimestampLemmas.Civil.{early_in_range}
 use Rattle.syslog_pieces.proofs.timestamp.instant.clock_stamp.Goals as goal
 

@@ -1,6 +1,5 @@
-use Rattle.std.proofs.Common.{arith, ◌-◌}
+use Rattle.syslog_pieces.proofs.Names.{arith, ◌-◌, signed_arith}
 use Rattle.jiff_core.proofs.MarchLemmas.{day_count-early, day_count-late}
-use Rattle.jiff_core.proofs.SignedLemmas.{signed_arith}
 use Rattle.syslog_pieces.proofs.timestamp.instant.days.Goals as goal
 
 pub returns-then-month-le2-clause-value : goal.returns-then-month-le2-clause-value

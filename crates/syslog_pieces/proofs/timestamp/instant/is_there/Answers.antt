@@ -1,8 +1,5 @@
-use Rattle.std.proofs.Common.{FitsSigned, w32, ◌≡◌, rules}
-use Rattle.std.proofs.lemmas.Int.{to_z-of_z}
+use Rattle.syslog_pieces.proofs.Names.{FitsSigned, w32, ◌≡◌, rules, to_z-of_z, fields_of, CivilFields}
 use Rattle.syslog_pieces.proofs.TimestampLemmas.Civil.{civil-fields, civil_nanos-fields}
-use Rattle.syslog_pieces.specs.Timestamp.Fields.{fields_of}
-use Rattle.syslog_pieces.specs.declared.timestamp.fields.CivilFields.{CivilFields}
 use Rattle.syslog_pieces.proofs.timestamp.instant.is_there.Goals as goal
 
 pub returns-in-Some : goal.returns-in-Some

@@ -1,6 +1,4 @@
-use Rattle.std.proofs.Common.{FitsSigned, w64, rules, ◌∙◌}
-use Rattle.std.specs.Int.{w128}
-use Rattle.std.proofs.lemmas.Int.{to_z-of_z}
+use Rattle.syslog_pieces.proofs.Names.{FitsSigned, w64, rules, ◌∙◌, w128, to_z-of_z}
 use Rattle.syslog_pieces.proofs.timestamp.instant.nanosecond.Goals as goal
 
 pub returns : goal.returns

@@ -1,5 +1,4 @@
-use Rattle.std.proofs.Common.{FitsSigned, w32, w64, refl, rules, sym}
-use Rattle.std.proofs.lemmas.Int.{to_z-of_z}
+use Rattle.syslog_pieces.proofs.Names.{FitsSigned, w32, w64, refl, rules, to_z-of_z}
 use Rattle.syslog_pieces.proofs.TimestampLemmas.Range.{instant_by_count}
 use Rattle.syslog_pieces.proofs.timestamp.instant.second_of.Goals as goal
 

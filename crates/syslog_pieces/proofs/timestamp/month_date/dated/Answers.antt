@@ -1,7 +1,4 @@
-use Rattle.std.proofs.Common.{rules}
-use Rattle.syslog_pieces.specs.Bodies.MonthReading.{year_row}
-use Rattle.syslog_pieces.specs.Timestamp.MonthDate.{clock_row}
-use Rattle.syslog_pieces.proofs.PieceLemmas.Class.{rows_none_here, rows_none_later}
+use Rattle.syslog_pieces.proofs.Names.{rules, year_row, clock_row, rows_none_here, rows_none_later}
 use Rattle.syslog_pieces.proofs.TimestampLemmas.MonthDate.{no_clock, year_det, dated_front}
 use Rattle.syslog_pieces.proofs.timestamp.month_date.dated.Goals as goal
 

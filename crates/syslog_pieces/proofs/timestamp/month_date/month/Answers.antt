@@ -1,4 +1,4 @@
-use Rattle.std.proofs.Common.{rules}
+use Rattle.syslog_pieces.proofs.Names.{rules}
 use Rattle.syslog_pieces.proofs.TimestampLemmas.Months.{no_month_letters}
 use Rattle.syslog_pieces.proofs.timestamp.month_date.month.Goals as goal
 

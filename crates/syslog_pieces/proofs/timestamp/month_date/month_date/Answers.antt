@@ -1,4 +1,4 @@
-use Rattle.std.proofs.Common.{rules}
+use Rattle.syslog_pieces.proofs.Names.{rules}
 use Rattle.syslog_pieces.proofs.TimestampLemmas.MonthDate.{no_day, yearless_front, yearless_is}
 use Rattle.syslog_pieces.proofs.timestamp.month_date.month_date.Goals as goal
 

@@ -1,6 +1,4 @@
-use Rattle.std.proofs.Common.{inl, refl, rules}
-use Rattle.syslog_pieces.specs.Timestamp.MonthDate.{clock_row}
-use Rattle.syslog_pieces.proofs.PieceLemmas.Rows.{row_of, no_row, ◌then◌, ◌past◌}
+use Rattle.syslog_pieces.proofs.Names.{inl, refl, rules, clock_row, row_of, no_row, ◌then◌, ◌past◌}
 use Rattle.syslog_pieces.proofs.TimestampLemmas.MonthDate.{clock_det}
 use Rattle.syslog_pieces.proofs.timestamp.month_date.read_clock.Goals as goal
 

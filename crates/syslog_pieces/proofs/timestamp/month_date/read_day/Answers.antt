@@ -1,6 +1,4 @@
-use Rattle.std.proofs.Common.{inl, refl, rules}
-use Rattle.syslog_pieces.specs.Bodies.MonthReading.{day_row}
-use Rattle.syslog_pieces.proofs.PieceLemmas.Rows.{row_of, no_row, ◌then◌, ◌past◌}
+use Rattle.syslog_pieces.proofs.Names.{inl, refl, rules, day_row, row_of, no_row, ◌then◌, ◌past◌}
 use Rattle.syslog_pieces.proofs.TimestampLemmas.MonthDate.{day_det}
 use Rattle.syslog_pieces.proofs.timestamp.month_date.read_day.Goals as goal
 

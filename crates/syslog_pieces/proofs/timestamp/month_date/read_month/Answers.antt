@@ -1,4 +1,4 @@
-use Rattle.std.proofs.Common.{rules}
+use Rattle.syslog_pieces.proofs.Names.{rules}
 use Rattle.syslog_pieces.proofs.TimestampLemmas.Months.{month_cut, month_read, no_month}
 use Rattle.syslog_pieces.proofs.timestamp.month_date.read_month.Goals as goal
 

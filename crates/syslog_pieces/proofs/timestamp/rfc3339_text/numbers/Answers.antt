@@ -1,7 +1,5 @@
-use Rattle.std.proofs.Common.{inl, refl, FitsSigned, w32, rules}
-use Rattle.std.proofs.lemmas.Int.{to_z-of_z}
-use Rattle.syslog_pieces.specs.Timestamp.Rfc3339.{stamp_row}
-use Rattle.syslog_pieces.proofs.PieceLemmas.Rows.{row_of, no_row, ◌then◌, ◌past◌}
+use Rattle.syslog_pieces.proofs.Names.{inl, refl, FitsSigned, w32, rules, to_z-of_z, stamp_row, row_of, no_row, ◌then◌}
+use Rattle.syslog_pieces.proofs.Names.{◌past◌}
 use Rattle.syslog_pieces.proofs.TimestampLemmas.Rfc3339.{no_stamp_text, stamp_text_front, stamp_pieces_det}
 use Rattle.syslog_pieces.proofs.timestamp.rfc3339_text.numbers.Goals as goal
 

@@ -1,7 +1,5 @@
-use Rattle.std.proofs.Common.{inl, refl, FitsSigned, w32, rules}
-use Rattle.std.proofs.lemmas.Int.{to_z-of_z}
-use Rattle.syslog_pieces.specs.Timestamp.Rfc3339.{numeric_row}
-use Rattle.syslog_pieces.proofs.PieceLemmas.Rows.{row_of, no_row, ◌then◌, ◌past◌}
+use Rattle.syslog_pieces.proofs.Names.{inl, refl, FitsSigned, w32, rules, to_z-of_z, numeric_row, row_of, no_row}
+use Rattle.syslog_pieces.proofs.Names.{◌then◌, ◌past◌}
 use Rattle.syslog_pieces.proofs.TimestampLemmas.Rfc3339.{no_offset, numeric_det, numeric_front}
 use Rattle.syslog_pieces.proofs.timestamp.rfc3339_text.offset.Goals as goal
 

@@ -1,5 +1,4 @@
-use Rattle.std.proofs.Common.{◌<◌, length, arith, rules}
-use Rattle.syslog_pieces.specs.Timestamp.Rfc3339.{stamp_text}
+use Rattle.syslog_pieces.proofs.Names.{◌<◌, length, arith, rules, stamp_text}
 use Rattle.syslog_pieces.proofs.TimestampLemmas.Bytes.{bytes_cut, bytes_front, no_bytes_front}
 use Rattle.syslog_pieces.proofs.TimestampLemmas.Characters.{stamp_ascii}
 use Rattle.syslog_pieces.proofs.TimestampLemmas.Rfc3339.{stamp_alone}

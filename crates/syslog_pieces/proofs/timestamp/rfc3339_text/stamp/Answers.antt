@@ -1,5 +1,4 @@
-use Rattle.std.proofs.Common.{FitsSigned, w32, rules}
-use Rattle.std.proofs.lemmas.Int.{to_z-of_z}
+use Rattle.syslog_pieces.proofs.Names.{FitsSigned, w32, rules, to_z-of_z}
 use Rattle.syslog_pieces.proofs.TimestampLemmas.Rfc3339.{answer_of_rfc3339}
 use Rattle.syslog_pieces.proofs.timestamp.rfc3339_text.stamp.Goals as goal
 

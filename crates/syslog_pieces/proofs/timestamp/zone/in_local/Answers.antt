@@ -1,4 +1,4 @@
-use Rattle.std.proofs.Common.{sym}
+use Rattle.syslog_pieces.proofs.Names.{sym}
 use Rattle.syslog_pieces.proofs.TimestampLemmas.Zone.{answer_at, answer_on_clock}
 use Rattle.syslog_pieces.proofs.timestamp.zone.in_local.Goals as goal
 

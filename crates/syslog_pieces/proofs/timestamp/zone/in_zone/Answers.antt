@@ -1,5 +1,4 @@
-use Rattle.std.proofs.Common.{sym}
-use Rattle.jiff.specs.Words.{plain_zone}
+use Rattle.syslog_pieces.proofs.Names.{sym, plain_zone}
 use Rattle.syslog_pieces.proofs.TimestampLemmas.Zone.{answer_at, answer_on_clock}
 use Rattle.syslog_pieces.proofs.timestamp.zone.in_zone.Goals as goal
 

@@ -1,5 +1,4 @@
-use Rattle.std.proofs.Common.{FitsSigned, w32, refl, rules}
-use Rattle.std.proofs.lemmas.Int.{to_z-of_z}
+use Rattle.syslog_pieces.proofs.Names.{FitsSigned, w32, refl, rules, to_z-of_z}
 use Rattle.syslog_pieces.specs.Timestamp.Zone.{dating_value}
 use Rattle.syslog_pieces.proofs.TimestampLemmas.Zone.{answer_in_year, fixed_answer, no_such_year}
 use Rattle.syslog_pieces.proofs.timestamp.zone.month_stamp.Goals as goal

@@ -1,5 +1,4 @@
-use Rattle.std.proofs.Common.{Some, None}
-use Rattle.jiff.specs.Words.{plain_zone}
+use Rattle.syslog_pieces.proofs.Names.{Some, None, plain_zone}
 use Rattle.syslog_pieces.proofs.TimestampLemmas.Zone.{answer_of_fields}
 use Rattle.syslog_pieces.proofs.timestamp.zone.of_fields.Goals as goal
 

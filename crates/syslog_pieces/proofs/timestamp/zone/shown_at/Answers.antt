@@ -1,4 +1,4 @@
-use Rattle.std.proofs.Common.{refl}
+use Rattle.syslog_pieces.proofs.Names.{refl}
 use Rattle.syslog_pieces.proofs.TimestampLemmas.Civil.{civil-fields_of, shown_nanos}
 use Rattle.syslog_pieces.proofs.TimestampLemmas.Rfc3339.{same_timestamp}
 use Rattle.syslog_pieces.proofs.timestamp.zone.shown_at.Goals as goal

@@ -1,8 +1,6 @@
 use Rattle.syslog_pieces.proofs.Names.{refl, ◌∙◌, ap, sym, [], ◌∷◌, ◌++◌, append_assoc, flat_map, param_text}
-use Rattle.syslog_pieces.proofs.Names.{encode_utf8_all, param_value, shown}
-use Rattle.std.proofs.lemmas.Grind.{put_two}
-use Rattle.std.proofs.lemmas.Iterator.Consumers.{YieldsList-end, YieldsList-from_first}
-use Rattle.syslog_pieces.specs.StructuredData.Visited.{element_seen, params_left}
+use Rattle.syslog_pieces.proofs.Names.{encode_utf8_all, param_value, shown, put_two, YieldsList-end}
+use Rattle.syslog_pieces.proofs.Names.{YieldsList-from_first, element_seen, params_left}
 use Rattle.syslog_pieces.proofs.TextLemmas.Printed.{encodes_closed, encodes_more, encodes_opening, encodes_param}
 use Rattle.syslog_pieces.proofs.TextLemmas.Printed.{encodes_shown}
 use Rattle.syslog_pieces.proofs.structured_data.display.ElementDisplay.fmt.Goals as goal

@@ -1,6 +1,5 @@
 use Rattle.syslog_pieces.proofs.Names.{map, ◌∷◌, ◌++◌, flat_map, encode_utf8_all, param_text, param_value, shown}
-use Rattle.syslog_pieces.proofs.Names.{HasWritten, IsPlainFormatter}
-use Rattle.syslog_pieces.specs.StructuredData.Visited.{element_seen}
+use Rattle.syslog_pieces.proofs.Names.{HasWritten, IsPlainFormatter, element_seen}
 use Rattle.syslog_pieces.proofs.structured_data.display.ElementDisplay.fmt.Given as goal
 
 abbrev pub invariant-loop-name : goal.invariant-loop-name

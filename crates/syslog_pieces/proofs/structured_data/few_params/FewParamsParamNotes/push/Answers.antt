@@ -1,5 +1,5 @@
-use Rattle.syslog_pieces.proofs.Names.{arith, ℕ, Bor, subst, ◌≡◌, ◌<◌, ◌+◌, ◌∙◌, ◌++◌, [], ◌∷◌, sym, ap, length, map, take, List, Text}
-use Rattle.syslog_pieces.proofs.Names.{map-append, take_all, length-append, param_value, shown}
+use Rattle.syslog_pieces.proofs.Names.{arith, ℕ, Bor, ◌≡◌, ◌<◌, ◌+◌, ◌∙◌, ◌++◌, [], ◌∷◌, sym, ap, length, map}
+use Rattle.syslog_pieces.proofs.Names.{take, List, Text, map-append, take_all, param_value, shown}
 use Rattle.std.proofs.lemmas.List.{take_more_set}
 use Rattle.syslog_pieces.proofs.StructuredDataLemmas.Walk.{one_more}
 use Rattle.syslog_pieces.proofs.structured_data.few_params.FewParamsParamNotes.push.Goals as goal

@@ -1,4 +1,4 @@
-use Rattle.syslog_pieces.proofs.StructuredDataLemmas.Left.{inside_same, params_less}
+use Rattle.syslog_pieces.proofs.StructuredDataLemmas.Left.{inside_same}
 use Rattle.syslog_pieces.proofs.structured_data.recognised.Element.params.Goals as goal
 
 pub returns : goal.returns

@@ -1,6 +1,5 @@
-use Rattle.syslog_pieces.proofs.Names.{ap, ◌∙◌}
-use Rattle.std.proofs.lemmas.Iterator.Consumers.{YieldsList-end, YieldsList-from_first}
-use Rattle.syslog_pieces.specs.StructuredData.Visited.{element_seen, elements_left, list_elements}
+use Rattle.syslog_pieces.proofs.Names.{ap, ◌∙◌, YieldsList-end, YieldsList-from_first, element_seen, elements_left}
+use Rattle.syslog_pieces.proofs.Names.{list_elements}
 use Rattle.syslog_pieces.proofs.structured_data.recognised.ElementList.collect.Goals as goal
 
 pub returns : goal.returns

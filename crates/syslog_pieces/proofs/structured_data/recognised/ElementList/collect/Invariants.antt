@@ -1,5 +1,4 @@
-use Rattle.syslog_pieces.proofs.Names.{◌≡◌, map, element_value, shown}
-use Rattle.syslog_pieces.specs.StructuredData.Visited.{element_seen}
+use Rattle.syslog_pieces.proofs.Names.{◌≡◌, map, element_value, shown, element_seen}
 use Rattle.syslog_pieces.proofs.structured_data.recognised.ElementList.collect.Given as goal
 
 abbrev pub invariant-loop-element : goal.invariant-loop-element

@@ -1,4 +1,4 @@
-use Rattle.syslog_pieces.proofs.Names.{rules, ◌∙◌, eqb-true}
+use Rattle.syslog_pieces.proofs.Names.{◌∙◌, eqb-true}
 use Rattle.syslog_pieces.proofs.StructuredDataLemmas.Recognised.{same_front}
 use Rattle.syslog_pieces.proofs.structured_data.recognised.ElementList.is_printed.Goals as goal
 

@@ -1,8 +1,6 @@
-use Rattle.syslog_pieces.proofs.Names.{rules, ◌≡◌, List, Option, Some, None, IfSome, length, ap, sym, ◌∙◌, many, item}
-use Rattle.syslog_pieces.proofs.Names.{strict, many_det, Bor, ℕ, Text, shown, IsUtf8, subst, ElementValue}
-use Rattle.std.proofs.Common.{sum_by, drop, ◌++◌}
-use Rattle.syslog_pieces.specs.StructuredData.Element.{elements_text}
-use Rattle.syslog_pieces.specs.StructuredData.Recognised.{one_value, one_value-is}
+use Rattle.syslog_pieces.proofs.Names.{rules, List, Option, Some, None, IfSome, length, ap, sym, ◌∙◌, many, item}
+use Rattle.syslog_pieces.proofs.Names.{many_det, ElementValue, sum_by}
+use Rattle.syslog_pieces.proofs.Names.{elements_text}
 use Rattle.syslog_pieces.proofs.StructuredDataLemmas.Elements.{item_det}
 use Rattle.syslog_pieces.proofs.StructuredDataLemmas.Recognised.{items_are, left_out}
 use Rattle.syslog_pieces.proofs.StructuredDataLemmas.Walk.{one_meaning}

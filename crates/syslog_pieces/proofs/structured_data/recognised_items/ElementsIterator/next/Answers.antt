@@ -1,9 +1,7 @@
-use Rattle.syslog_pieces.proofs.Names.{rules, refl, ap, sym, subst, ◌≡◌, ◌∙◌, ◌∷◌, ℕ, List, Option, Some, None, chars}
-use Rattle.syslog_pieces.proofs.Names.{ElementValue, IsDead, strict}
-use Rattle.syslog_pieces.specs.StructuredData.Recognised.{one_value}
-use Rattle.syslog_pieces.specs.StructuredData.Visited.{element_seen}
+use Rattle.syslog_pieces.proofs.Names.{rules, refl, ap, sym, subst, ◌∙◌, ◌∷◌, ℕ, List, Option, chars}
+use Rattle.syslog_pieces.proofs.Names.{ElementValue, IsDead, strict, element_seen}
 use Rattle.syslog_pieces.proofs.StructuredDataLemmas.Closing.{dead_suffix, dead_least}
-use Rattle.syslog_pieces.proofs.StructuredDataLemmas.Elements.{element_item, no_item, bracketed_item, item_shorter}
+use Rattle.syslog_pieces.proofs.StructuredDataLemmas.Elements.{element_item, no_item, bracketed_item}
 use Rattle.syslog_pieces.proofs.StructuredDataLemmas.Left.{items_less, items_same, no_elements}
 use Rattle.syslog_pieces.proofs.structured_data.recognised_items.ElementsIterator.next.Goals as goal
 

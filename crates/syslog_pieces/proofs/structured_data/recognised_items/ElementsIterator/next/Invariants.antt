@@ -1,6 +1,5 @@
-use Rattle.syslog_pieces.proofs.Names.{◌≡◌, length, shadow, Utf8, chars, IsDead, many, item, strict}
-use Rattle.syslog_pieces.specs.StructuredData.Recognised.{OneMeaning, one_value}
-use Rattle.syslog_pieces.specs.StructuredData.Visited.{elements_left}
+use Rattle.syslog_pieces.proofs.Names.{◌≡◌, length, shadow, Utf8, chars, IsDead, many, item, strict, OneMeaning}
+use Rattle.syslog_pieces.proofs.Names.{one_value, elements_left}
 use Rattle.syslog_pieces.proofs.structured_data.recognised_items.ElementsIterator.next.Given as goal
 
 abbrev pub invariant-items : goal.invariant-items

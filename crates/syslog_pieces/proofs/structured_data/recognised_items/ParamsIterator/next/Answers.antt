@@ -1,5 +1,4 @@
-use Rattle.syslog_pieces.proofs.Names.{rules, ap, ◌≡◌, ◌∙◌, ◌∷◌, List, Text, param_value, shown}
-use Rattle.syslog_pieces.specs.StructuredData.Recognised.{one_value}
+use Rattle.syslog_pieces.proofs.Names.{rules, ap, ◌∙◌, ◌∷◌, List, Text, param_value, shown}
 use Rattle.syslog_pieces.proofs.StructuredDataLemmas.Left.{inside_same, no_params, not_inside, params_less}
 use Rattle.syslog_pieces.proofs.structured_data.recognised_items.ParamsIterator.next.Goals as goal
 

@@ -1,6 +1,4 @@
-use Rattle.std.proofs.Common.{refl, rules, ◌∙◌, FitsSigned}
-use Rattle.std.specs.Int.{w128}
-use Rattle.std.proofs.lemmas.Int.{to_z-of_z}
+use Rattle.syslog_pieces.proofs.Names.{refl, rules, ◌∙◌, FitsSigned, w128, to_z-of_z}
 use Rattle.syslog_pieces.proofs.TimestampLemmas.Rfc3339.{same_timestamp}
 use Rattle.syslog_pieces.proofs.timestamp.clock.ClockStamp.stamp.Goals as goal
 

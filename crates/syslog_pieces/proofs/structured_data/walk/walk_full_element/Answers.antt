@@ -1,0 +1,16 @@
+use Rattle.syslog_pieces.proofs.Names.{sym, ◌∙◌, rules, chars, length, IsDead}
+use Rattle.syslog_pieces.proofs.StructuredDataLemmas.Closing.{byte_count_slice, dead_whole}
+use Rattle.syslog_pieces.proofs.StructuredDataLemmas.Rfc3164List.{bare_is_not_full, none_full}
+use Rattle.syslog_pieces.proofs.structured_data.walk.walk_full_element.Goals as goal
+
+pub walk_element-requires : goal.walk_element-requires
+walk_element-requires g c =
+    let dead : IsDead (chars c.args.text.now) (length c.args.text.now) =
+    dead_whole _ _ (sym (byte_count_slice c.args.text.now c.utf8.text)) in search rules
+
+pub returns-in_default-clause-walked : goal.returns-in_default-clause-walked
+returns-in_default-clause-walked g c = none_full (rw c.in_default.is at c.walk_element.ensures.walked).0
+
+pub returns-then-params_len-eq0-clause-walked : goal.returns-then-params_len-eq0-clause-walked
+returns-then-params_len-eq0-clause-walked g c =
+    bare_is_not_full _ _ _ c.in-Ok.ensures.walked.front (sym c.params_len.ensures ∙ c.if-params_len-eq0.true)
