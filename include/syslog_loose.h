@@ -4,9 +4,12 @@
  *
  *     cc program.c $(pkg-config --cflags --libs syslog_loose)
  *
- * A program may include the system's <syslog.h> too. Only syslog_settle asks for memory, by the program's malloc,
- * realloc and free. The library has no state: no call frees or keeps anything of the caller's, none leaves anything to be freed, and
- * threads may call it at once. Don't call it from a signal handler, nor in the forked child of a process with threads.
+ * A program may include the system's <syslog.h> too. Three calls ask for memory, by the program's malloc, realloc and
+ * free: syslog_settle, syslog_to_rfc5424 and syslog_json make the text in memory of their own, copy it to the caller's
+ * buffer, and free that memory before they return. No other call asks for any.
+ *
+ * The library has no state: no call keeps or frees anything of the caller's, and threads may call it at once. Don't call
+ * it from a signal handler, nor in the forked child of a process with threads.
  *
  * What each call owes its caller is proved from its code, but not what the caller owes the call:
  *   - No pointer is null, also where its length is 0.
@@ -33,21 +36,21 @@
 extern "C" {
 #endif
 
-/* The version of this header: 1,000,000 for each major one, 1,000 for each minor one. syslog_version tells that of the
- * library. */
+/* The version of this header: 1,000,000 for each major one, 1,000 for each minor one. syslog_version returns that of
+ * the library. */
 #define SYSLOG_VERSION_MAJOR 0
 #define SYSLOG_VERSION_MINOR 1
 #define SYSLOG_VERSION_PATCH 0
 #define SYSLOG_VERSION (SYSLOG_VERSION_MAJOR * 1000000 + SYSLOG_VERSION_MINOR * 1000 + SYSLOG_VERSION_PATCH)
 uint32_t syslog_version(void);
 
-/* What a call comes to. */
+/* How a call ends. */
 enum syslog_outcome {
-    SYSLOG_DONE = 0,         /* all of the answer is there */
+    SYSLOG_DONE = 0,         /* all that the call writes was written */
     SYSLOG_NO_READING = 1,   /* the line is no message (syslog_settle: or one of the texts that it prints is none) */
     SYSLOG_NOT_UTF8 = 2,     /* the bytes are no UTF-8 */
-    SYSLOG_NO_MEMORY = 3,    /* a request for memory was refused: syslog_settle alone makes them */
-    SYSLOG_NO_ROOM = 4,      /* the answer takes more room than there is: see what is needed */
+    SYSLOG_NO_MEMORY = 3,    /* an allocation failed: only in syslog_settle, syslog_to_rfc5424 and syslog_json */
+    SYSLOG_NO_ROOM = 4,      /* a buffer or an array is too small: see what is needed */
     SYSLOG_BAD_ARGUMENT = 5  /* one of the options is out of its range */
 };
 
@@ -61,7 +64,7 @@ struct syslog_options {
     int32_t offset;   /* seconds by which dates without an offset are ahead of UTC, from -93599 to 93599 */
 };
 
-/* A piece of the line, in UTF-8 and with no zero byte behind it. An absent one has the length 0. */
+/* A piece of the line, in UTF-8. No zero byte ends it. An absent one has the length 0. */
 struct syslog_text {
     const char *start;
     size_t length;
@@ -80,12 +83,12 @@ struct syslog_timestamp {
 struct syslog_process {
     struct syslog_text name;
     int32_t number;
-    uint32_t is_number; /* 1 for a number, which else is 0 */
+    uint32_t is_number; /* 1 for a number, which is 0 otherwise */
 };
 
 struct syslog_message {
     uint32_t protocol; /* 3164 or 5424 */
-    uint32_t version;  /* of RFC 5424, and else 0 */
+    uint32_t version;  /* of RFC 5424, and otherwise 0 */
     int32_t facility;  /* 0 to 23, or -1 for an absent one */
     int32_t severity;  /* 0 (emergency) to 7 (debug), or -1 for an absent one */
     struct syslog_timestamp timestamp;
@@ -98,13 +101,13 @@ struct syslog_message {
     size_t params;   /* how many parameters these have together */
 };
 
-/* An element of structured data. Its parameters stand behind those of the elements before it. */
+/* An element of structured data. Its parameters follow those of the elements before it. */
 struct syslog_element {
     struct syslog_text id;
     size_t params;
 };
 
-/* A parameter. The value is as it stands in the line: syslog_unescape takes its escapes out. */
+/* A parameter. The value is as the line has it: syslog_unescape takes its escapes out. */
 struct syslog_param {
     struct syslog_text name;
     struct syslog_text value;
@@ -135,27 +138,38 @@ uint32_t syslog_read(const char *line, size_t length, const struct syslog_option
 uint32_t syslog_read_fields(const char *line, size_t length, const struct syslog_options *options,
                             struct syslog_message *message);
 
-/* The three that follow write a text to the beginning of the room, and its length to needed.
+/* The five that follow write a text to the beginning of a buffer, which has room_length bytes, and its length to needed.
  *
- * SYSLOG_DONE: it is there, with no zero byte after it, and the rest of the room is as it was.
- * SYSLOG_NO_ROOM: needed has its length, and the room, which is shorter, may hold anything.
- * Any other: needed is 0, and the room is as it was.
+ * SYSLOG_DONE: it is there, with no zero byte after it, and the rest of the buffer is as it was.
+ * SYSLOG_NO_ROOM: needed has its length, and the buffer, which is shorter, may hold anything.
+ * Any other: needed is 0, and the buffer is as it was.
  */
 
 /* The line in printed form: each message has one. It may be longer than the line. */
 uint32_t syslog_normalise(const char *line, size_t length, const struct syslog_options *options, char *room,
                           size_t room_length, size_t *needed);
 
-/* The same, printed again and again until it no longer changes, so that it is read as it stands from then on. */
+/* The line in its stable form: printed again and again until that changes nothing. */
 uint32_t syslog_settle(const char *line, size_t length, const struct syslog_options *options, char *room,
                        size_t room_length, size_t *needed);
+
+/* The line as strict RFC 5424: unchanged if it is in the RFC's grammar, and otherwise its message, converted field by
+ * field. The text is in the grammar, and its message is the converted one. It may be longer than the line. */
+uint32_t syslog_to_rfc5424(const char *line, size_t length, const struct syslog_options *options, char *room,
+                           size_t room_length, size_t *needed);
+
+/* The line's message as one JSON object, as the program syslog_json writes it, without the line feed after it. If raw is
+ * not 0, the key "raw" has the line itself. No control character is in an object. A line that is no message has none
+ * here, where the program writes one with the key "refused". */
+uint32_t syslog_json(const char *line, size_t length, const struct syslog_options *options, uint32_t raw, char *room,
+                     size_t room_length, size_t *needed);
 
 /* The value of a parameter without its escapes: \n is a line feed, \" and \] and \\ are their second character, any
  * other pair stays, and a lone backslash at the end is dropped. It is no longer than the value. */
 uint32_t syslog_unescape(const char *value, size_t length, char *room, size_t room_length, size_t *needed);
 
-/* Whether the line's message is read back from its printed form as the very same one: canonical is 1 then, and else 0,
- * as it is where the line has no message. */
+/* Whether the line's message is read back from its printed form as that very message: canonical is 1 then, and
+ * otherwise 0, as it is where the line is no message. */
 uint32_t syslog_is_canonical(const char *line, size_t length, const struct syslog_options *options,
                              uint32_t *canonical);
 
@@ -166,7 +180,7 @@ uint32_t syslog_is_canonical(const char *line, size_t length, const struct syslo
 void syslog_facility_name(uint32_t facility, struct syslog_text *name);
 void syslog_severity_name(uint32_t severity, struct syslog_text *name);
 
-/* What an outcome says, as "no message". */
+/* What an outcome means, as "no message". */
 void syslog_outcome_text(uint32_t outcome, struct syslog_text *text);
 
 /* The version of the library, as 0.1.0. */

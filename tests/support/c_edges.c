@@ -178,6 +178,21 @@ static uint32_t settle(const char *line, size_t length, char *room, size_t size,
     return syslog_settle(line, length, &OPTIONS, room, size, needed);
 }
 
+static uint32_t strict(const char *line, size_t length, char *room, size_t size, size_t *needed)
+{
+    return syslog_to_rfc5424(line, length, &OPTIONS, room, size, needed);
+}
+
+static uint32_t object(const char *line, size_t length, char *room, size_t size, size_t *needed)
+{
+    return syslog_json(line, length, &OPTIONS, 0, room, size, needed);
+}
+
+static uint32_t object_with_line(const char *line, size_t length, char *room, size_t size, size_t *needed)
+{
+    return syslog_json(line, length, &OPTIONS, 1, room, size, needed);
+}
+
 static void each_room(writer *write, const char *line, size_t length)
 {
     static char whole[ROOM], room[ROOM + 1], stood_here[ROOM + 1];
@@ -216,6 +231,10 @@ static void refused(const char *line, size_t length, const struct syslog_options
     CHECK(syslog_normalise(line, length, options, room, sizeof room, &needed) == code && needed == 0);
     needed = 77;
     CHECK(syslog_settle(line, length, options, room, sizeof room, &needed) == code && needed == 0);
+    needed = 77;
+    CHECK(syslog_to_rfc5424(line, length, options, room, sizeof room, &needed) == code && needed == 0);
+    needed = 77;
+    CHECK(syslog_json(line, length, options, 1, room, sizeof room, &needed) == code && needed == 0);
     CHECK(!strcmp(room, "#######"));
     CHECK(syslog_is_canonical(line, length, options, &canonical) == code && canonical == 0);
 }
@@ -260,6 +279,35 @@ static void values(void)
     }
 }
 
+/* What is written of a line that is read by these options. The raw line is in its object as its last member. */
+static void written(const char *line, const struct syslog_options *options, const char *strict_text, const char *json,
+                    const char *raw)
+{
+    char room[ROOM], with_line[ROOM];
+    size_t length = strlen(line), needed;
+    CHECK(syslog_to_rfc5424(line, length, options, room, sizeof room, &needed) == SYSLOG_DONE);
+    CHECK(needed == strlen(strict_text) && !memcmp(room, strict_text, needed));
+    CHECK(syslog_json(line, length, options, 0, room, sizeof room, &needed) == SYSLOG_DONE);
+    CHECK(needed == strlen(json) && !memcmp(room, json, needed));
+    snprintf(with_line, sizeof with_line, "%.*s,\"raw\":%s}", (int)needed - 1, json, raw);
+    CHECK(syslog_json(line, length, options, UINT32_MAX, room, sizeof room, &needed) == SYSLOG_DONE);
+    CHECK(needed == strlen(with_line) && !memcmp(room, with_line, needed));
+}
+
+static void converted(void)
+{
+    static const struct syslog_options january = { 0, 2020, 1, -5400 };
+    written("<34>1 - h a - - [e b=\"\\]\" b=\"2\"][e] x", &OPTIONS, "<34>1 - h a - - [e b=\"\\]\" b=\"2\"] x",
+            "{\"protocol\":\"RFC5424\",\"version\":1,\"facility\":\"auth\",\"facility_code\":4,"
+            "\"severity\":\"crit\",\"severity_code\":2,\"hostname\":\"h\",\"appname\":\"a\","
+            "\"structured_data\":{\"e\":[{\"b\":[\"]\",\"2\"]},{}]},\"message\":\"x\"}",
+            "\"<34>1 - h a - - [e b=\\\"\\\\]\\\" b=\\\"2\\\"][e] x\"");
+    written("Dec 31 23:59:59 h a[7]: x\ty", &january, "<13>1 2019-12-31T23:59:59-01:30 h a 7 - - x\ty",
+            "{\"protocol\":\"RFC3164\",\"timestamp\":\"2019-12-31T23:59:59-01:30\",\"hostname\":\"h\","
+            "\"appname\":\"a\",\"procid\":\"7\",\"message\":\"x\\ty\"}",
+            "\"Dec 31 23:59:59 h a[7]: x\\ty\"");
+}
+
 static void says(struct syslog_text text, const char *wanted)
 {
     CHECK(wanted ? text.present == 1 && text.length == strlen(wanted) && !memcmp(text.start, wanted, text.length)
@@ -296,13 +344,13 @@ static void names(void)
     syslog_version_text(&text), says(text, version);
 }
 
-/* A line of 64 MB. Its printed form has +00:00 for the Z. */
+/* A line of 64 MB. Its printed form has +00:00 for the Z, and as strict RFC 5424 it is copied. */
 static void long_line(void)
 {
     static const char head[] = "<34>1 2003-10-11T22:14:15Z h a - - [e p=\"v\"] ";
     static struct place place;
-    size_t size = (size_t)64 << 20, length = sizeof head - 1 + size, needed = 77;
-    char *line = malloc(length), *room = malloc(length + 5);
+    size_t size = (size_t)64 << 20, length = sizeof head - 1 + size, most = length + ROOM, needed = 77;
+    char *line = malloc(length), *room = malloc(most);
     CHECK(line && room);
     memcpy(line, head, sizeof head - 1);
     memset(line + sizeof head - 1, 'x', size);
@@ -311,12 +359,15 @@ static void long_line(void)
     CHECK(place.message.msg.length == size && place.message.elements == 1 && place.params[0].value.length == 1);
     CHECK(syslog_read_fields(line, length, &OPTIONS, &place.message) == SYSLOG_DONE);
     CHECK(normalise(line, length, room, length + 4, &needed) == SYSLOG_NO_ROOM && needed == length + 5);
-    writer *calls[] = { normalise, settle };
-    for (int i = 0; i < 2; i++) {
+    writer *calls[] = { normalise, settle, strict };
+    size_t longer[] = { 5, 5, 0 };
+    for (int i = 0; i < 3; i++) {
         memset(room, 0, length + 5);
-        CHECK(calls[i](line, length, room, length + 5, &needed) == SYSLOG_DONE && needed == length + 5);
+        CHECK(calls[i](line, length, room, length + longer[i], &needed) == SYSLOG_DONE && needed == length + longer[i]);
         CHECK(!memcmp(room + needed - size, line + length - size, size));
     }
+    CHECK(object(line, length, room, most, &needed) == SYSLOG_DONE);
+    CHECK(!memcmp(room + needed - 2 - size, line + length - size, size) && !memcmp(room + needed - 2, "\"}", 2));
     free(line);
     free(room);
 }
@@ -339,7 +390,9 @@ static void *sum_of_lines(void *sum)
             total = total * 31
                 + syslog_read(line, length, &OPTIONS, &place.message, place.elements, MOST, place.params, MOST);
             total = total * 31 + it->host.length + it->msg.length + (uint64_t)it->timestamp.seconds;
-            total = total * 31 + syslog_settle(line, length, &OPTIONS, room, sizeof room, &needed) + needed;
+            total = total * 31 + settle(line, length, room, sizeof room, &needed) + needed;
+            total = total * 31 + strict(line, length, room, sizeof room, &needed) + needed;
+            total = total * 31 + object(line, length, room, sizeof room, &needed) + needed;
         }
     *(uint64_t *)sum = total;
     return NULL;
@@ -356,23 +409,29 @@ static void threads(void)
         CHECK(!pthread_join(ids[i], NULL) && sums[i] == alone);
 }
 
-/* Each call once: a refused request is syslog_settle's. */
+/* Each call once: one of the three that ask for memory returns SYSLOG_NO_MEMORY where a request was refused. */
 static int with_memory_refused(const char *line)
 {
     static struct place place;
     static char room[ROOM];
     size_t length = strlen(line), needed = 77;
-    uint32_t canonical = 77, code;
+    uint32_t canonical = 77;
+    int failed = 0;
     set(&place);
     CHECK(syslog_read(line, length, &OPTIONS, &place.message, place.elements, MOST, place.params, MOST) == SYSLOG_DONE);
     CHECK(syslog_read_fields(line, length, &OPTIONS, &place.message) == SYSLOG_DONE);
     CHECK(syslog_is_canonical(line, length, &OPTIONS, &canonical) == SYSLOG_DONE && canonical <= 1);
     CHECK(normalise(line, length, room, sizeof room, &needed) == SYSLOG_DONE && needed > length);
     CHECK(syslog_unescape(line, length, room, sizeof room, &needed) == SYSLOG_DONE && needed <= length);
-    memset(room, 0, sizeof room);
-    code = settle(line, length, room, sizeof room, &needed);
-    CHECK(code == SYSLOG_DONE ? needed == strlen(room) : code == SYSLOG_NO_MEMORY && needed == 0 && !room[0]);
-    return code == SYSLOG_NO_MEMORY ? 4 : 0;
+    writer *calls[] = { settle, strict, object };
+    for (int i = 0; i < 3; i++) {
+        memset(room, 0, sizeof room);
+        uint32_t code = calls[i](line, length, room, sizeof room, &needed);
+        CHECK(code == SYSLOG_DONE ? needed == strlen(room) : code == SYSLOG_NO_MEMORY && needed == 0 && !room[0]);
+        failed += code == SYSLOG_NO_MEMORY;
+    }
+    CHECK(failed <= 1);
+    return failed ? 4 : 0;
 }
 
 int main(int count, char **words)
@@ -390,9 +449,13 @@ int main(int count, char **words)
         unset(lines[i], strlen(lines[i]));
         each_room(normalise, lines[i], strlen(lines[i]));
         each_room(settle, lines[i], strlen(lines[i]));
+        each_room(strict, lines[i], strlen(lines[i]));
+        each_room(object, lines[i], strlen(lines[i]));
+        each_room(object_with_line, lines[i], strlen(lines[i]));
     }
     wrong_arguments();
     values();
+    converted();
     names();
     long_line();
     threads();

@@ -1,4 +1,4 @@
-"""Reads and prints syslog messages of RFC 5424 and the looser RFC 3164, over libsyslog_loose.so.0.
+"""Reads, prints and converts syslog messages of RFC 5424 and the looser RFC 3164, over libsyslog_loose.so.0.
 
     m = parse("<34>Mar  2 06:35:05 gateway dropbear[2310]: Exit (root)", year=2026)
     m.hostname, m.severity, m.timestamp
@@ -19,7 +19,8 @@ from enum import IntEnum
 from itertools import islice
 from typing import Any, Callable, Iterable, Iterator, Literal, NamedTuple, Tuple, Union
 
-__all__ = ["Element", "Facility", "Line", "Message", "ParseError", "Severity", "Variant", "normalise", "parse", "read", "settle"]
+__all__ = ["Element", "Facility", "Line", "Message", "ParseError", "Severity", "Variant"]
+__all__ += ["json", "normalise", "parse", "read", "settle", "to_rfc5424"]
 __version__ = "0.1.0"
 
 Variant = Literal["either", "3164", "5424"]
@@ -132,8 +133,8 @@ def _loaded() -> ctypes.PyDLL:
 
 
 _library = _loaded()
-_read, _normalise, _settle, _unescape = (
-    _library[name] for name in ("syslog_read", "syslog_normalise", "syslog_settle", "syslog_unescape")
+_read, _normalise, _settle, _to_rfc5424, _json, _unescape = (
+    _library["syslog_" + name] for name in ("read", "normalise", "settle", "to_rfc5424", "json", "unescape")
 )
 
 
@@ -276,12 +277,12 @@ class _Reader:
             raise _fault(outcome, value)
         return str(text.bytes[: self.needed.value], "utf-8")
 
-    def written(self, call: Any, line: Line) -> str:
+    def written(self, call: Any, line: Line, *words: int) -> str:
         self.take(line)
         needed = ctypes.byref(self.needed)
         for _ in range(2):
             text = self.text
-            outcome = call(self.line.place, self.size, self.options.place, text.place, text.room, needed)
+            outcome = call(self.line.place, self.size, self.options.place, *words, text.place, text.room, needed)
             if outcome != _NO_ROOM:
                 break
             self.text = _Buffer(self.needed.value)
@@ -353,6 +354,34 @@ def settle(line: Line, *, year: int, month: int | None = None, offset: int = 0, 
     reader = _reader((variant, year, month, offset))
     try:
         return reader.written(_settle, line)
+    finally:
+        _put_back(reader)
+
+
+def to_rfc5424(line: Line, *, year: int, month: int | None = None, offset: int = 0, variant: Variant = "either") -> str:
+    """The line as strict RFC 5424: unchanged if it is in the RFC's grammar, and otherwise its message, converted.
+    ParseError where it is neither."""
+    reader = _reader((variant, year, month, offset))
+    try:
+        return reader.written(_to_rfc5424, line)
+    finally:
+        _put_back(reader)
+
+
+def json(
+    line: Line,
+    *,
+    year: int,
+    month: int | None = None,
+    offset: int = 0,
+    variant: Variant = "either",
+    raw: bool = False,
+) -> str:
+    """The message of a line as the text of one JSON object, as syslog_json writes it; with `raw` it has the line too.
+    ParseError where the line is no message."""
+    reader = _reader((variant, year, month, offset))
+    try:
+        return reader.written(_json, line, 1 if raw else 0)
     finally:
         _put_back(reader)
 

@@ -13,8 +13,9 @@ SAMPLES = os.path.join(HERE, "..", "..", "..", "samples")
 sys.path.insert(0, os.path.dirname(HERE))
 
 import syslog_loose  # noqa: E402
-from syslog_loose import Element, Facility, ParseError, Severity, normalise, parse, read, settle  # noqa: E402
+from syslog_loose import Element, Facility, ParseError, Severity, normalise, parse, read, settle, to_rfc5424  # noqa: E402
 
+WRITERS = normalise, settle, to_rfc5424, syslog_loose.json
 LINE = '<165>1 2003-10-11T22:14:15.003004005-07:00 mymachine app 7 ID47 [a b="c" d="\\"\\]"][e] größe'
 
 
@@ -128,7 +129,7 @@ class Dates(unittest.TestCase):
 class Refusals(unittest.TestCase):
     def test_lines_that_are_no_messages(self):
         for line in ("gobbledegook", "", b"", b"1 - - - - - - gr\xfc\xdf", "1 - - - - - - \udc80"):
-            for call in (parse, normalise, settle):
+            for call in (parse, *WRITERS):
                 with self.assertRaises(ParseError) as caught:
                     call(line, year=2026)
                 self.assertEqual(caught.exception.line, line)
@@ -139,7 +140,7 @@ class Refusals(unittest.TestCase):
             {"year": 10000}, {"year": 2026, "month": 13}, {"year": 2026, "offset": 93600}, {"year": 2026, "month": -1},
             {"year": 1 << 40}, {"year": "2026"}, {"year": 2026, "variant": "rfc"},
         ):  # fmt: skip
-            for call in (parse, normalise, settle):
+            for call in (parse, *WRITERS):
                 with self.assertRaises(ValueError) as caught:
                     call(LINE, **options)
                 self.assertNotIsInstance(caught.exception, ParseError)
@@ -153,6 +154,29 @@ class Printing(unittest.TestCase):
         self.assertEqual(normalise(line, year=2026), "<34> 2026-10-11T22:14:15+00:00 mymachine app[323]: - - a message")
         self.assertEqual(settle(line, year=2026), "<34> 2026-10-11T22:14:15+00:00 mymachine app[323]: a message")
         self.assertEqual(normalise(LINE.encode(), year=2026), LINE)
+
+    def test_strict_rfc_5424(self):
+        line = "Oct 11 22:14:15 mymachine app[323]: größe"
+        self.assertEqual(to_rfc5424(line, year=2026), "<13>1 2026-10-11T22:14:15+00:00 mymachine app 323 - - größe")
+        self.assertEqual(to_rfc5424(line, year=2026, month=1, offset=3600)[:31], "<13>1 2026-10-11T22:14:15+01:00")
+        valid = LINE.replace("004005", "")
+        self.assertEqual(to_rfc5424(valid.encode(), year=2026), valid)
+        self.assertEqual(to_rfc5424(LINE, year=2026), LINE.replace("004005", "004"))
+
+    def test_json(self):
+        want = {
+            "protocol": "RFC5424", "version": 1, "facility": "local4", "facility_code": 20, "severity": "notice",
+            "severity_code": 5, "timestamp": "2003-10-11T22:14:15.003004005-07:00", "hostname": "mymachine", "appname": "app",
+            "procid": "7", "msgid": "ID47", "structured_data": {"a": {"b": "c", "d": '"]'}, "e": {}}, "message": "größe",
+        }  # fmt: skip
+        self.assertEqual(json.loads(syslog_loose.json(LINE, year=2026)), want)
+        self.assertEqual(json.loads(syslog_loose.json(LINE.encode(), year=2026, raw=True)), {**want, "raw": LINE})
+        dated = json.loads(syslog_loose.json("Dec 31 23:59:59 h a: x", year=2020, month=1, offset=3600))
+        self.assertEqual(dated["timestamp"], "2019-12-31T23:59:59+01:00")
+        again = json.loads(syslog_loose.json('1 - - - - - [a b="1" b="2"][a]', year=2026))
+        self.assertEqual(again["structured_data"], {"a": [{"b": ["1", "2"]}, {}]})
+        long = json.loads(syslog_loose.json("1 - - - - - - x%sy" % ("\t" * 10_000), year=2026))
+        self.assertEqual(long["message"], "x%sy" % ("\t" * 10_000))
 
 
 class Reading(unittest.TestCase):

@@ -1,4 +1,4 @@
-//! Reads and prints syslog messages of RFC 5424 and the looser RFC 3164, over the C library `libsyslog_loose`.
+//! Reads, prints and converts syslog messages of RFC 5424 and the looser RFC 3164, over the C library `libsyslog_loose`.
 //!
 //! ```
 //! use libsyslog_loose::{parse, Options};
@@ -181,6 +181,21 @@ fn printed(call: raw::Writer, line: &[u8], options: &Options) -> Result<String, 
     // SAFETY: the pointers and lengths are those of the line and of the buffer, as in `read`.
     filled(line.len() + 64, |room, needed| unsafe {
         call(line.as_ptr(), line.len(), &options, room.as_mut_ptr(), room.len(), needed)
+    })
+}
+
+/// The line as strict RFC 5424: unchanged if it is in the RFC's grammar, and otherwise its message, converted.
+pub fn to_rfc5424<T: AsRef<[u8]> + ?Sized>(line: &T, options: &Options) -> Result<String, Error> {
+    printed(raw::syslog_to_rfc5424, line.as_ref(), options)
+}
+
+/// The message of a line as the text of one JSON object, as `syslog_json` writes it; with `raw` it has the line too.
+pub fn json<T: AsRef<[u8]> + ?Sized>(line: &T, options: &Options, raw: bool) -> Result<String, Error> {
+    let (line, options) = (line.as_ref(), options.raw());
+    // SAFETY: the pointers and lengths are those of the line and of the buffer, as in `read`.
+    filled(2 * line.len() + 256, |room, needed| unsafe {
+        let (start, length) = (room.as_mut_ptr(), room.len());
+        raw::syslog_json(line.as_ptr(), line.len(), &options, u32::from(raw), start, length, needed)
     })
 }
 

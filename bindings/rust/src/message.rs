@@ -73,7 +73,7 @@ pub struct Element<'m, 'a> {
 pub struct Param<'a> {
     /// Its name.
     pub name: &'a str,
-    /// Its value as it stands in the line, with its escapes.
+    /// Its value as in the line, with its escapes.
     pub raw: &'a str,
 }
 

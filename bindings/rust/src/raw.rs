@@ -99,7 +99,7 @@ pub const NO_MEMORY: u32 = 3;
 pub const NO_ROOM: u32 = 4;
 pub const BAD_ARGUMENT: u32 = 5;
 
-/// A call that writes the printed text of a line.
+/// A call that writes a text of a line.
 pub type Writer = unsafe extern "C" fn(*const u8, usize, *const Options, *mut u8, usize, *mut usize) -> u32;
 
 extern "C" {
@@ -132,6 +132,23 @@ extern "C" {
         line: *const u8,
         length: usize,
         options: *const Options,
+        room: *mut u8,
+        room_length: usize,
+        needed: *mut usize,
+    ) -> u32;
+    pub fn syslog_to_rfc5424(
+        line: *const u8,
+        length: usize,
+        options: *const Options,
+        room: *mut u8,
+        room_length: usize,
+        needed: *mut usize,
+    ) -> u32;
+    pub fn syslog_json(
+        line: *const u8,
+        length: usize,
+        options: *const Options,
+        raw: u32,
         room: *mut u8,
         room_length: usize,
         needed: *mut usize,

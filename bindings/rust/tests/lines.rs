@@ -1,5 +1,5 @@
 //! The crate over the library that it is linked with.
-use libsyslog_loose::{normalise, parse, parse_fields, settle, version};
+use libsyslog_loose::{json, normalise, parse, parse_fields, settle, to_rfc5424, version};
 use libsyslog_loose::{Error, Message, Options, Param, ProcId, Protocol, Severity, Timestamp, Variant};
 use std::borrow::Cow;
 use std::thread;
@@ -102,17 +102,40 @@ fn printed_and_settled() {
 }
 
 #[test]
+fn converted() {
+    let strict = "<13>1 2026-10-11T22:14:15+01:00 h app 323 - - größe";
+    let ahead = Options { offset: 3_600, ..IN_2026 };
+    assert_eq!(to_rfc5424("Oct 11 22:14:15 h app[323]: größe", &ahead).as_deref(), Ok(strict));
+    assert_eq!(to_rfc5424(strict, &IN_2026).as_deref(), Ok(strict));
+    let line = r#"<34>1 - h a - - [e b="\]" b="2"] x"#;
+    let object = concat!(
+        r#"{"protocol":"RFC5424","version":1,"facility":"auth","facility_code":4,"severity":"crit","severity_code":2,"#,
+        r#""hostname":"h","appname":"a","structured_data":{"e":{"b":["]","2"]}},"message":"x"}"#
+    );
+    assert_eq!(json(line, &IN_2026, false).as_deref(), Ok(object));
+    let with_line = json(line, &IN_2026, true).unwrap();
+    assert!(with_line.starts_with(object.trim_end_matches('}')) && with_line.contains(r#","raw":"<34>1"#));
+    let tabs = "\t".repeat(10_000);
+    assert_eq!(json(&format!("1 - - - - - - x{tabs}y"), &IN_2026, false).unwrap().matches(r"\t").count(), 10_000);
+}
+
+#[test]
 fn refusals() {
-    let in_2026 =
-        |line: &[u8]| [parse(line, &IN_2026).err(), normalise(line, &IN_2026).err(), settle(line, &IN_2026).err()];
-    assert_eq!(in_2026(b"gobbledegook"), [Some(Error::NoMessage); 3]);
-    assert_eq!(in_2026(b""), [Some(Error::NoMessage); 3]);
-    assert_eq!(in_2026(b"1 - - - - - - gr\xfc\xdf"), [Some(Error::NotUtf8); 3]);
+    let in_2026 = |line: &[u8]| {
+        let of = &IN_2026;
+        let texts = [normalise(line, of), settle(line, of), to_rfc5424(line, of), json(line, of, true)];
+        (parse(line, of).err(), texts.map(Result::err))
+    };
+    assert_eq!(in_2026(b"gobbledegook"), (Some(Error::NoMessage), [Some(Error::NoMessage); 4]));
+    assert_eq!(in_2026(b""), (Some(Error::NoMessage), [Some(Error::NoMessage); 4]));
+    assert_eq!(in_2026(b"1 - - - - - - gr\xfc\xdf"), (Some(Error::NotUtf8), [Some(Error::NotUtf8); 4]));
     for wrong in
         [Options::in_year(10_000), Options { month: Some(13), ..IN_2026 }, Options { offset: 93_600, ..IN_2026 }]
     {
         assert_eq!(parse(LINE, &wrong), Err(Error::BadArgument));
         assert_eq!(settle(LINE, &wrong), Err(Error::BadArgument));
+        assert_eq!(to_rfc5424(LINE, &wrong), Err(Error::BadArgument));
+        assert_eq!(json(LINE, &wrong, false), Err(Error::BadArgument));
     }
     assert_eq!(parse(DECEMBER, &Options { variant: Variant::Rfc5424, ..IN_2026 }), Err(Error::NoMessage));
     assert!(parse(DECEMBER, &Options { variant: Variant::Rfc3164, ..IN_2026 }).is_ok());

@@ -2,4 +2,5 @@ pub mod ArrayLemmas
 pub mod LineLemmas
 pub mod NameLemmas
 pub mod ReadLemmas
+pub mod StrictLemmas
 pub mod TextLemmas

@@ -5,5 +5,6 @@ pub mod Names
 pub mod Options
 pub mod Outcome
 pub mod Room
+pub mod Strict
 pub mod Texts
 pub mod Told

@@ -48,7 +48,11 @@ TellsLength buffer needed outcome = (needed ≡ buffer.needed) × (length buffer
 abbrev pub IsLeft : List ℕ → List ℕ → ℕ → Type 0
 IsLeft old new needed = (new ≡ old) × (needed ≡ 0)
 
--- this fault is reported, the room is as it was, and the length is reported as 0
+-- the outcome of a call after this fault
+abbrev pub fault_outcome : ParseFault → Outcome
+fault_outcome Invalid = NoReading
+fault_outcome Memory = NoMemory
+
+-- the fault is the outcome, and the room is as it was
 abbrev pub IsLeftFor : ParseFault → List ℕ → List ℕ → ℕ → Outcome → Type 0
-IsLeftFor Invalid old new needed outcome = (outcome ≡ NoReading) × IsLeft old new needed
-IsLeftFor Memory old new needed outcome = (outcome ≡ NoMemory) × IsLeft old new needed
+IsLeftFor fault old new needed outcome = (outcome ≡ fault_outcome fault) × IsLeft old new needed

@@ -1,5 +1,5 @@
 -- What the calls leave that write a text.
-use Rattle.std.specs.Prelude.{◌≡◌, ◌⊎◌, ℕ, List}
+use Rattle.std.specs.Prelude.{◌≡◌, ◌⊎◌, ℕ, nat_eq, if◌then◌else◌, List, Option, None, Some}
 use Rattle.std.specs.Str.{chars, encode_utf8_all, IsUtf8}
 use Rattle.syslog_pieces.specs.Pieces.Class.{Text}
 use Rattle.syslog_pieces.specs.StructuredData.Escapes.{IsUnescaped}
@@ -10,6 +10,8 @@ use Rattle.syslog_loose.specs.Reading.{IsOnlyRead}
 use Rattle.syslog_loose.specs.Settling.{IsSettlingFault, SettlesAs}
 use Rattle.syslog_loose.specs.declared.fault.ParseFault.TheVariants.{Invalid, Memory}
 use Rattle.syslog_loose.specs.declared.variant.Variant.{Variant}
+use Rattle.syslog_object.specs.Object.{message_json}
+use Rattle.syslog_object.specs.Written.{IsTextOf}
 use Rattle.syslog_c.specs.Line.{Refuses}
 use Rattle.syslog_c.specs.Room.{IsLeft, Puts, PutsUnlessRefused}
 use Rattle.syslog_c.specs.declared.outcome.Outcome.{Outcome}
@@ -38,6 +40,23 @@ abbrev pub Normalised : Variant → Dating → Text → List ℕ → List ℕ �
 Normalised variant dating text old new needed outcome =
     ((m : MessageValue) × IsOnlyRead variant dating text m
     × PutsUnlessRefused (encode_utf8_all (printed m)) old new needed outcome)
+    ⊎ (Refuses variant dating text outcome × IsLeft old new needed)
+
+-- the line as it came, where a number that is not 0 asks for it
+abbrev pub raw_text : ℕ → Text → Option Text
+raw_text raw text = if nat_eq raw 0 then None else Some text
+
+-- the text of the message's object, in the buffer or with its length alone; or no memory, and all is as it was
+abbrev pub PutsObject : MessageValue → Option Text → List ℕ → List ℕ → ℕ → Outcome → Type 0
+PutsObject m raw old new needed outcome =
+    ((bytes : List ℕ) × IsTextOf (message_json m raw) bytes × Puts bytes old new needed outcome)
+    ⊎ ((outcome ≡ NoMemory) × IsLeft old new needed)
+
+-- so it is for the one message as which the text is read; or there is no message, and all is as it was
+abbrev pub WritesObject : ℕ → Variant → Dating → Text → List ℕ → List ℕ → ℕ → Outcome → Type 0
+WritesObject raw variant dating text old new needed outcome =
+    ((m : MessageValue) × IsOnlyRead variant dating text m
+    × PutsObject m (raw_text raw text) old new needed outcome)
     ⊎ (Refuses variant dating text outcome × IsLeft old new needed)
 
 -- these bytes spell the value without its escapes

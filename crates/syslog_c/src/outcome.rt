@@ -9,7 +9,7 @@ pub enum Outcome {
     NoReading = 1,
     /// The line, or the value, is not UTF-8.
     NotUtf8 = 2,
-    /// An allocation failed. Only `syslog_settle` takes memory.
+    /// An allocation failed. Only `syslog_settle`, `syslog_to_rfc5424` and `syslog_json` make some.
     NoMemory = 3,
     /// An array or the buffer is too small. The counts, or `needed`, say how large it has to be.
     NoRoom = 4,

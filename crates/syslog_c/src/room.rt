@@ -1,6 +1,6 @@
 //! Texts in a buffer of the caller's.
 ghost use Rattle.std.specs.Prelude.{◌≡◌, ◌++◌, ◌≤◌, MatchResult, drop, length, string_bytes};
-ghost use Rattle.syslog_c.specs.Room.{IsLeftFor, Puts, Takes, TellsLength};
+ghost use Rattle.syslog_c.specs.Room.{IsLeftFor, Puts, Takes, TellsLength, fault_outcome};
 
 use crate::outcome::Outcome;
 use std::fmt;
@@ -73,19 +73,25 @@ pub(crate) fn put_answer(
 {
     match answer {
         Ok(text) => put(text.as_bytes(), room, needed),
-        Err(ParseFault::Invalid) => {
+        Err(fault) => {
             *needed = 0;
-            Outcome::NoReading
-        }
-        Err(ParseFault::Memory) => {
-            *needed = 0;
-            Outcome::NoMemory
+            outcome_of(fault)
         }
     }
 }
 
-// Puts the bytes at the front of `room`, if they fit, and sets `needed` to their length.
-fn put(bytes: &[u8], room: &mut [u8], needed: &mut usize) -> Outcome
+/// How a call ends after this fault.
+pub(crate) fn outcome_of(fault: ParseFault) -> Outcome
+    ensures { result ≡ fault_outcome fault }
+{
+    match fault {
+        ParseFault::Invalid => Outcome::NoReading,
+        ParseFault::Memory => Outcome::NoMemory,
+    }
+}
+
+/// Copies the bytes to the front of `room`, if they fit, and sets `needed` to their length.
+pub(crate) fn put(bytes: &[u8], room: &mut [u8], needed: &mut usize) -> Outcome
     ensures { Puts bytes.now room.old room.new needed.new result }
 {
     *needed = bytes.len();

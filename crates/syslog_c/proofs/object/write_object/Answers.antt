@@ -1,0 +1,21 @@
+use Rattle.std.proofs.Common.{Option, inl, inr, refl, subst}
+use Rattle.syslog_pieces.specs.Pieces.Class.{Text}
+use Rattle.syslog_loose.proofs.ReadingLemmas.{in_year_map}
+use Rattle.syslog_loose.specs.Line.{line_value}
+use Rattle.syslog_c.proofs.LineLemmas.{tried_line}
+use Rattle.syslog_c.specs.Texts.{PutsObject, WritesObject}
+use Rattle.syslog_c.specs.declared.outcome.Outcome.TheVariants.{NoReading}
+use Rattle.syslog_c.proofs.object.write_object.Goals as goal
+
+pub returns-in-Some-parse_line : goal.returns-in-Some-parse_line
+returns-in-Some-parse_line c =
+    let puts = subst (λ (raw : Option Text). PutsObject (line_value c.in-Some-parse_line.parsed) raw c.args.room.now
+    c.put_object.new.room c.put_object.new.needed c.put_object.result) c.wanted.ensures c.put_object.ensures in
+    inr (inr (tried_line _ _ _ _ _ _ c.in-Some.ensures c.in-Ok.ensures (λ date y is. is.1)
+    (in_year_map (λ year only. inl (_, only, puts)) c.in-Some-parse_line.ensures.reads)))
+
+pub returns-in-None : goal.returns-in-None
+returns-in-None c =
+    inr (inr (tried_line (λ variant dating text. WritesObject c.args.raw variant dating text
+    c.args.room.now c.args.room.now 0 NoReading) _ _ _ _ _ c.in-Some.ensures c.in-Ok.ensures (λ date y is. is.1)
+    (in_year_map (λ year none. inr ((refl, none), (refl, refl))) c.in-None.ensures.reads)))

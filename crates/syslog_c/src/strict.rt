@@ -1,0 +1,63 @@
+//! A line as strict RFC 5424, in a buffer of the caller's.
+ghost use Rattle.jiff_core.specs.Calendar.{IsYear};
+ghost use Rattle.syslog_c.specs.Options.{IsReckoned};
+ghost use Rattle.syslog_c.specs.Outcome.{IsCodeOf};
+ghost use Rattle.syslog_c.specs.Strict.{PutsStrict};
+
+use crate::options::Options;
+use crate::outcome::Outcome;
+use crate::room::{outcome_of, put};
+use crate::rules::{rules_of, year_of};
+use std::alloc::Global;
+use syslog_loose::IncompleteDate;
+use syslog_strict::to_rfc5424_into;
+use syslog_utf8::from_utf8;
+
+/// Writes the line as strict RFC 5424 to the front of `room`, and how long it is to `needed`: a line that is in the
+/// RFC's grammar as it is, and otherwise its message, converted. It takes memory for that text.
+#[unsafe(no_mangle)]
+pub extern "C" fn syslog_to_rfc5424(
+    alloc: Global,
+    line: &[u8],
+    options: &Options,
+    room: &mut [u8],
+    needed: &mut usize,
+) -> u32
+    ensures { IsCodeOf result (λ outcome. PutsStrict options.now line.now room.old room.new needed.new outcome) }
+{
+    write_strict(alloc, line, options, room, needed) as u32
+}
+
+fn write_strict(
+    alloc: Global,
+    line: &[u8],
+    options: &Options,
+    room: &mut [u8],
+    needed: &mut usize,
+) -> Outcome
+    ensures { PutsStrict options.now line.now room.old room.new needed.new result }
+{
+    *needed = 0;
+    let Some(rules) = rules_of(options) else {
+        return Outcome::BadArgument;
+    };
+    let Ok(input) = from_utf8(line) else {
+        return Outcome::NotUtf8;
+    };
+    let get_year = move |date: IncompleteDate| -> i32
+        ensures { IsYear options.entry.now.year → IsReckoned options.entry.now date result }
+    { year_of(options, date) };
+    let mut text = String::new(alloc);
+    match to_rfc5424_into(
+        alloc,
+        &mut text,
+        input,
+        get_year,
+        None,
+        rules.variant,
+        &rules.zone,
+    ) {
+        Ok(()) => put(text.as_bytes(), room, needed),
+        Err(fault) => outcome_of(fault),
+    }
+}
