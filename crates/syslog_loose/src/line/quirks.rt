@@ -22,23 +22,16 @@ use syslog_pieces::timestamp::canonical::is_canonical_clock;
 pub(crate) fn has_no_quirk(line: &Line<'_>) -> bool
     ensures { IsTrue result ↔ spec.HasNoException dash_rule (line_value line.now) }
 {
-    if !has_quiet_names(line) {
-        return false;
-    }
-    begins_no_list(line.list.is_empty(), line.msg)
+    has_quiet_names(line) && begins_no_list(line.list.is_empty(), line.msg)
 }
 
 /// Whether it has none before its message part.
 pub(crate) fn has_quiet_names(line: &Line<'_>) -> bool
     ensures { IsTrue result ↔ spec.HasNoNameException (line_value line.now) }
 {
-    if !is_canonical_clock(line.timestamp) {
-        return false;
-    }
-    if !has_no_odd_host(line.hostname) {
-        return false;
-    }
-    is_uncut_process(line.process())
+    is_canonical_clock(line.timestamp)
+        && has_no_odd_host(line.hostname)
+        && is_uncut_process(line.process())
 }
 
 // Whether the host is neither the text of an absent one nor taken for the one after the names.
@@ -56,10 +49,7 @@ fn has_no_odd_host(host: Option<&str>) -> bool
 fn is_no_odd_host(name: &str) -> bool
     ensures { IsTrue result ↔ ((chars name.now ≢ dash) × (EndsInColon (chars name.now) → ⊥)) }
 {
-    if ends_in_colon(name) {
-        return false;
-    }
-    is_no_dash(name)
+    !ends_in_colon(name) && is_no_dash(name)
 }
 
 // Whether the last byte is that of a colon.

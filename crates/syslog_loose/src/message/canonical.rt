@@ -92,19 +92,11 @@ fn are_canonical_in_both<S: AsStr>(fields: &Fields<'_, S>) -> bool
     ensures { (es : List ElementValue) → AllByRecursion spec.IsCanonicalElement es
         → IsTrue result ↔ spec.IsCanonicalInBoth (fields_value (text_of S.text) fields.now es) }
 {
-    if fields.facility.is_none() {
-        return false;
-    }
-    if fields.severity.is_none() {
-        return false;
-    }
-    if !is_canonical_time(fields.timestamp) {
-        return false;
-    }
-    if !is_canonical_name(fields.hostname) {
-        return false;
-    }
-    is_canonical_msg(fields.msg.as_str())
+    fields.facility.is_some()
+        && fields.severity.is_some()
+        && is_canonical_time(fields.timestamp)
+        && is_canonical_name(fields.hostname)
+        && is_canonical_msg(fields.msg.as_str())
 }
 
 pub(crate) fn is_canonical_time(timestamp: Option<OffsetTimestamp>) -> bool
@@ -128,10 +120,7 @@ fn is_canonical_name<S: AsStr>(host: &Option<S>) -> bool
 fn is_canonical_msg(msg: &str) -> bool
     ensures { IsTrue result ↔ (Ends is_blank (chars msg.now) × spec.EndsVisibly (chars msg.now)) }
 {
-    if !begins_unblank(msg) {
-        return false;
-    }
-    ends_visibly(msg)
+    begins_unblank(msg) && ends_visibly(msg)
 }
 
 fn ends_visibly(text: &str) -> bool
@@ -145,13 +134,7 @@ fn are_canonical_rfc5424<S: AsStr>(fields: &Fields<'_, S>) -> bool
     ensures { (es : List ElementValue) → IsTrue result
         ↔ spec.IsCanonical5424 (fields_value (text_of S.text) fields.now es) }
 {
-    if !is_word(fields.appname) {
-        return false;
-    }
-    if !is_process(fields.procid) {
-        return false;
-    }
-    is_word(fields.msgid)
+    is_word(fields.appname) && is_process(fields.procid) && is_word(fields.msgid)
 }
 
 fn is_word<S: AsStr>(word: &Option<S>) -> bool
@@ -177,25 +160,10 @@ fn are_canonical_rfc3164<S: AsStr>(fields: &Fields<'_, S>) -> bool
     ensures { (es : List ElementValue) → AreElements fields.now.no_elements fields.now.have_params es
         → IsTrue result ↔ spec.IsCanonical3164 dash_rule (fields_value (text_of S.text) fields.now es) }
 {
-    if !is_absent(fields.msgid) {
-        return false;
-    }
-    if !are_canonical_names(fields.hostname, fields.appname, fields.procid) {
-        return false;
-    }
-    if !fields.have_params {
-        return false;
-    }
-    begins_no_list(fields.no_elements, fields.msg.as_str())
-}
-
-fn is_absent<S: AsStr>(name: &Option<S>) -> bool
-    ensures { IsTrue result ↔ (option_map (text_of S.text) name.now ≡ None) }
-{
-    match name {
-        Some(_) => false,
-        None => true,
-    }
+    fields.msgid.is_none()
+        && are_canonical_names(fields.hostname, fields.appname, fields.procid)
+        && fields.have_params
+        && begins_no_list(fields.no_elements, fields.msg.as_str())
 }
 
 // Whether host, app name and process id are found again.
@@ -225,10 +193,7 @@ fn is_program<S: AsStr>(app: &S, process: &ProcId<S>) -> bool
     ensures { IsTrue result ↔ spec.AreCanonicalNames None (Some (text_of S.text app.now))
         (Some (procid_value (text_of S.text) process.now)) }
 {
-    if !is_only(app.as_str(), CharClass::Label) {
-        return false;
-    }
-    is_bracketed(process)
+    is_only(app.as_str(), CharClass::Label) && is_bracketed(process)
 }
 
 fn is_bracketed<S: AsStr>(process: &ProcId<S>) -> bool
@@ -256,10 +221,7 @@ fn is_bracketed_name(name: &str) -> bool
 fn is_lone_tag(app: &str) -> bool
     ensures { IsTrue result ↔ spec.IsLoneTag (chars app.now) }
 {
-    if !is_canonical_tag(app) {
-        return false;
-    }
-    is_no_form(app)
+    is_canonical_tag(app) && is_no_form(app)
 }
 
 fn is_no_form(text: &str) -> bool
@@ -287,17 +249,11 @@ fn have_params<S: AsStr>(elements: &[StructuredElement<S>]) -> bool
         (map (element_value (text_of S.text)) elements.now) }
 {
     for element in elements {
-        if !has_any(&element.params) {
+        if element.params.is_empty() {
             return false;
         }
     }
     true
-}
-
-fn has_any<T>(items: &[T]) -> bool
-    ensures { IsTrue result ↔ (0 < length items.now) }
-{
-    !items.is_empty()
 }
 
 #[tactic(auto, using(crate::proofs::CanonicalLemmas::no_items, crate::proofs::CanonicalLemmas::some_items))]

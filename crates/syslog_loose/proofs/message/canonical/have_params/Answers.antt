@@ -1,12 +1,11 @@
-use Rattle.syslog_loose.proofs.Names.{◌<◌, length, text_of, element_value, false_is, no_truth}
+use Rattle.syslog_loose.proofs.Names.{◌<◌, length, text_of, element_value, false_is, arith, nat_tests}
 use Rattle.syslog_pieces.specs.StructuredData.Element.{param_value}
 use Rattle.syslog_pieces.proofs.StructuredDataLemmas.Canonical.{all_at}
 use Rattle.syslog_loose.proofs.CanonicalLemmas.{some_params}
 use Rattle.syslog_loose.proofs.message.canonical.have_params.Goals as goal
 
-pub returns-then-not-has_any : goal.returns-then-not-has_any
-returns-then-not-has_any g c =
+pub returns-then-is_empty : goal.returns-then-is_empty
+returns-then-is_empty g c =
     let at = all_at (element_value (text_of g.S.AsStr.text)) (λ e. 0 < length e.params) _
     c.loop-element.element-index _ c.loop-element-test.true c.element-item.is in
-    let any = rw c.deref.ensures.value at c.if-not-has_any.ensures in
-    false_is (λ h. no_truth (any.1 (some_params (param_value (text_of g.S.AsStr.text)) _ (at h))))
+    false_is (λ h. let some = some_params (param_value (text_of g.S.AsStr.text)) _ (at h) in grind (arith, nat_tests))
