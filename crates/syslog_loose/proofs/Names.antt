@@ -102,15 +102,20 @@ pub use Rattle.syslog_pieces.proofs.TextLemmas.Chars.{one_ascii, nonempty_is, te
 pub use Rattle.syslog_pieces.proofs.TextLemmas.Printed.{encodes_shown}
 pub use Rattle.syslog_pieces.proofs.StructuredDataLemmas.Listed.{visits_none}
 pub use Rattle.syslog_loose.specs.Canonical.{IsBounded, IsCanonicalFor, IsCanonical, IsBoundedProcess}
-pub use Rattle.syslog_loose.specs.Canonical.{IsBoundedProtocol, IsVisible, IsCanonicalHost, IsBracketedProcess}
+pub use Rattle.syslog_loose.specs.Canonical.{IsVisible, IsCanonicalHost, IsBracketedProcess}
+pub use Rattle.syslog_loose.specs.Bodies.Cases.{IsBoundedProtocol}
 pub use Rattle.syslog_loose.specs.Canonical.{is_process_char, AreCanonicalNames, IsCanonical3164, IsCanonicalElement}
 pub use Rattle.syslog_loose.specs.Canonical.{IsCanonicalInBoth}
 pub use Rattle.syslog_loose.specs.Message.{MessageValue, message_texts, message_value}
 pub use Rattle.syslog_loose.specs.Reading.{dash_rule, IsRead, IsUnreadable, IsOnlyRead, Answers, IncompleteDate, InYear}
-pub use Rattle.syslog_loose.specs.Reading.{incomplete, AsksYear, IsYearAnswered, HasMonth, IsLeftTo3164}
-pub use Rattle.syslog_loose.specs.Rfc3164.{IsRead3164, Names3164, Resolves, stamped_row, fields_row, rfc3164_row, names}
-pub use Rattle.syslog_loose.specs.Rfc3164.{body_row, NamesProgram, Quotes3164, Means3164, IsNot3164}
-pub use Rattle.syslog_loose.specs.Rfc5424.{IsRead5424, IsNot5424, rfc5424_row, header_row, data_row, message_of}
+pub use Rattle.syslog_loose.specs.Reading.{AsksYear, IsYearAnswered, IsLeftTo3164}
+pub use Rattle.syslog_loose.specs.Bodies.Cases.{incomplete, HasMonth}
+pub use Rattle.syslog_loose.specs.Rfc3164.{IsRead3164, Names3164, Resolves, rfc3164_row, names}
+pub use Rattle.syslog_loose.specs.Bodies.Rows.{stamped_row, fields_row}
+pub use Rattle.syslog_loose.specs.Rfc3164.{Quotes3164, Means3164, IsNot3164}
+pub use Rattle.syslog_loose.specs.View3164.{NamesProgram}
+pub use Rattle.syslog_loose.specs.Rfc5424.{IsRead5424, IsNot5424, rfc5424_row, message_of}
+pub use Rattle.syslog_loose.specs.Bodies.Rows.{header_row, data_row}
 pub use Rattle.syslog_loose.specs.declared.variant.Variant.{Variant}
 pub use Rattle.syslog_loose.specs.declared.variant.Variant.TheVariants.{Either, RFC5424}
 pub use Rattle.syslog_loose.specs.declared.message.Protocol.TheVariants.{RFC3164}
@@ -134,3 +139,4 @@ pub use Rattle.syslog_loose.specs.TagForm.{IsForm, IsNoForm, form_row}
 pub use Rattle.syslog_loose.specs.Settling.{Costs, names_weight, ListWeighs, Weighs, IsNext, Reaches, IsRound}
 pub use Rattle.syslog_loose.specs.Settling.{IsSettled, NoneSettled, IsFirstSettled}
 pub use Rattle.syslog_loose.specs.Start.{BeginsWithout, IsBehindPriority}
+pub use Rattle.syslog_loose.specs.Bodies.Rows.{body_row}

@@ -16,6 +16,8 @@ use Rattle.syslog_loose.proofs.Rfc3164Lemmas.Printed.{printed_is, printed_apart}
 use Rattle.syslog_loose.specs.declared.message.Protocol.TheVariants as protocol
 use Rattle.syslog_loose.proofs.Rfc3164Lemmas.Again as as_rfc3164
 use Rattle.syslog_loose.proofs.Rfc5424Lemmas.ReadBack as rfc5424
+use Rattle.syslog_loose.specs.Reading.{IsQuoted}
+use Rattle.syslog_loose.proofs.ReadingLemmas.{quoted}
 
 module _ (dating : Dating) (m : MessageValue) (b : IsBounded m) where
   -- by whichever protocol, only a canonical message's printed text is read as the message
@@ -74,6 +76,12 @@ fields_answered variant dating text (Ok found) a =
     fields variant dating text (value found) a.read
 fields_answered variant dating text (Err fault) a = tt
 
+quotes_answered : (variant : Variant) (dating : Dating) (text : Text)
+    (r : Result Found ParseFault) → Answers variant dating text r
+    → IfOk r (λ found. IsQuoted variant dating text (value found))
+quotes_answered variant dating text (Ok found) a = quoted variant dating text (value found) a.read
+quotes_answered variant dating text (Err fault) a = tt
+
 -- a result in the year that the closure returned
 pub answered_in : {post : IncompleteDate → ℤ → Type 0} {variant : Variant} {text : Text} (tz : Option (Bor TimeZone))
     (local : Bor TimeZone) (r : Result Found ParseFault)
@@ -83,11 +91,13 @@ pub answered_in : {post : IncompleteDate → ℤ → Type 0} {variant : Variant}
       itself : AnswersItself variant text r;
       fields : InYear post variant text (λ y. IfOk r (λ m.
           FieldsAsRead m.protocol (dating_of y tz local) text (value m)));
+      quotes : InYear post variant text (λ y. IfOk r (λ m. IsQuoted variant (dating_of y tz local) text (value m)));
     }
 answered_in {variant = variant} {text = text} tz local r h = record {
   reads = h;
   itself = itself variant (dating_of h.answered tz local) text r (h.holds h.answered (λ date asks. refl));
   fields = in_year_map (λ y b. fields_answered variant (dating_of y tz local) text r b) h;
+  quotes = in_year_map (λ y b. quotes_answered variant (dating_of y tz local) text r b) h;
 }
 
 -- a message's printed text, where a canonical message of its protocol prints the same

@@ -31,7 +31,7 @@ read_once Either dating text m n (inr (none, r)) (inl s) = absurd (none s.values
 read_once Either dating text m n (inr (none, r)) (inr (also, s)) =
     rfc3164_unique.one_message dash_rule dating text m n r s
 
-quoted : (variant : Variant) (dating : Dating) (text : Text) (m : MessageValue) → IsRead variant dating text m
+pub quoted : (variant : Variant) (dating : Dating) (text : Text) (m : MessageValue) → IsRead variant dating text m
     → IsQuoted variant dating text m
 quoted RFC5424 dating text m r = strict.quotes text m r
 quoted RFC3164 dating text m r = rfc3164.quotes dash_rule dating text m r
@@ -41,7 +41,7 @@ quoted Either dating text m (inr (none, r)) = inr (none, rfc3164.quotes dash_rul
 pub only_read : (variant : Variant) (dating : Dating) (text : Text) (m : MessageValue) → IsRead variant dating text m
     → IsOnlyRead variant dating text m
 only_read variant dating text m r =
-    record { read = r; only = λ n s. read_once variant dating text n m s r; quoted = quoted variant dating text m r }
+    record { read = r; only = λ n s. read_once variant dating text n m s r }
 
 -- ---- from the headers
 

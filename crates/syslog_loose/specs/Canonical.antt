@@ -25,13 +25,9 @@ use Rattle.syslog_loose.specs.TagForm.{IsNoForm}
 
 -- ---- the bounds of a message's numbers, which those of the program always meet
 
-abbrev pub IsBoundedProtocol : Protocol → Type 0
-IsBoundedProtocol RFC3164 = ⊤
-IsBoundedProtocol (RFC5424 version) = version < 2 ^ 32
-
 -- the version and the number of the process have 32 bits
 pub record IsBounded (m : MessageValue) : Type 0 where
-  pub protocol : IsBoundedProtocol m.protocol
+  pub protocol : elim m.protocol as (λ _. Type 0) [ RFC3164 ↦ ⊤ | RFC5424 version ↦ version < 2 ^ 32 ]
   pub procid : IfSome m.procid IsBoundedProcess
 
 -- ---- what both protocols ask
@@ -59,23 +55,16 @@ abbrev pub is_process_char : ℕ → Bool
 is_process_char c = is_tag_char c && not (nat_eq c 93)
 
 -- a name is nonempty, no text of a number, and without white space, colons and `]`
-abbrev pub IsBracketedName : Text → Type 0
-IsBracketedName t = (0 < length t) × Each is_process_char t × IsNoI32Text t
-
 abbrev pub IsBracketedProcess : ProcId Text → Type 0
 IsBracketedProcess (PID n) = ⊤
-IsBracketedProcess (Name t) = IsBracketedName t
+IsBracketedProcess (Name t) = (0 < length t) × Each is_process_char t × IsNoI32Text t
 
--- an app name alone is nonempty, without white space and colons, not `-`, and not of the form `tag[id]`
-abbrev pub IsLoneTag : Text → Type 0
-IsLoneTag t = (0 < length t) × Each is_tag_char t × (t ≢ dash) × IsNoForm t
-
--- A process id comes only with an app name, which then has no white space, no colon and no `[`, and may be empty. With
--- no app name the host is not of the form `tag[id]`.
+-- A process id comes only with an app name, which then has no white space, no colon and no `[`, and may be empty. An
+-- app name alone is a tag word but not `-`; and neither it nor a host without one is of the form `tag[id]`.
 abbrev pub AreCanonicalNames : Option Text → Option Text → Option (ProcId Text) → Type 0
 AreCanonicalNames host None None = IfSome host IsNoForm
 AreCanonicalNames host None (Some process) = ⊥
-AreCanonicalNames host (Some app) None = IsLoneTag app
+AreCanonicalNames host (Some app) None = (0 < length app) × Each is_tag_char app × (app ≢ dash) × IsNoForm app
 AreCanonicalNames host (Some app) (Some process) = Each is_label_char app × IsBracketedProcess process
 
 pub record IsCanonical3164 (rule : DashRule) (m : MessageValue) : Type 0 where

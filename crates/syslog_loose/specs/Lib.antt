@@ -1,3 +1,4 @@
+pub mod Bodies
 pub mod Canonical
 pub mod DashChange
 pub mod Equal

@@ -1,9 +1,8 @@
 -- A parsed line, as the message that it means, and what is printed of it after the timestamp.
 use Rattle.std.specs.Prelude.{◌≡◌, ℕ, IsTrue, Option, Some, None, IfSome}
-use Rattle.std.specs.Option.{option_and_then, option_map}
+use Rattle.std.specs.Option.{option_map}
 use Rattle.std.specs.Str.{IsUtf8}
 use Rattle.syslog_pieces.specs.Pieces.View.{seen, shown}
-use Rattle.syslog_pieces.specs.Pri.{facility_of, severity_of}
 use Rattle.syslog_pieces.specs.ProcId.{named_process}
 use Rattle.syslog_pieces.specs.StructuredData.Visited.{list_elements}
 use Rattle.syslog_pieces.specs.Timestamp.{stamp_seen}
@@ -15,6 +14,7 @@ use Rattle.syslog_loose.specs.Reading.{dash_rule}
 use Rattle.syslog_loose.specs.declared.line.Line.{Line}
 use Rattle.syslog_loose.specs.declared.message.Protocol.{Protocol}
 use Rattle.syslog_loose.specs.declared.message.Protocol.TheVariants.{RFC3164, RFC5424}
+use Rattle.syslog_loose.specs.Message.{message_of_parts}
 
 -- RFC 5424 has a version, and RFC 3164 none
 abbrev pub protocol_of : Option ℕ → Protocol
@@ -23,18 +23,10 @@ protocol_of (Some version) = RFC5424 version
 
 -- the message that the line means
 abbrev pub line_value : Line → MessageValue
-line_value line = record {
-  protocol = protocol_of line.version;
-  facility = option_and_then facility_of line.priority;
-  severity = option_and_then severity_of line.priority;
-  timestamp = stamp_seen line.timestamp;
-  hostname = seen line.hostname;
-  appname = seen line.appname;
-  procid = option_map named_process (seen line.process);
-  msgid = seen line.msgid;
-  structured_data = list_elements line.list;
-  msg = shown line.msg;
-}
+line_value line =
+    message_of_parts (protocol_of line.version) line.priority (stamp_seen line.timestamp) (seen line.hostname)
+    (seen line.appname) (option_map named_process (seen line.process)) (seen line.msgid) (list_elements line.list)
+    (shown line.msg)
 
 -- Where the line says so, all after its timestamp is already in printed form; and then what RFC 3164 read of it has no
 -- quirk but perhaps its timestamp.

@@ -1,10 +1,11 @@
 -- Messages as values over texts: what clauses compare.
-use Rattle.std.specs.Prelude.{List, [], ◌∷◌, ◌++◌, Option, map}
+use Rattle.std.specs.Prelude.{ℕ, List, [], ◌∷◌, ◌++◌, Option, map}
 use Rattle.std.specs.List.{flat_map}
-use Rattle.std.specs.Option.{option_map}
+use Rattle.std.specs.Option.{option_and_then, option_map}
 use Rattle.syslog_pieces.specs.Pieces.Class.{Text}
 use Rattle.syslog_pieces.specs.StructuredData.Element.{ElementValue, element_value, element_texts}
 use Rattle.syslog_pieces.specs.Pieces.Parts.{text_list, process_texts}
+use Rattle.syslog_pieces.specs.Pri.{facility_of, severity_of}
 use Rattle.syslog_pieces.specs.ProcId.{procid_value}
 use Rattle.syslog_pieces.specs.declared.pri.SyslogFacility.{SyslogFacility}
 use Rattle.syslog_pieces.specs.declared.pri.SyslogSeverity.{SyslogSeverity}
@@ -39,6 +40,22 @@ message_value text m = record {
   msgid = option_map text m.msgid;
   structured_data = map (element_value text) m.structured_data.items;
   msg = text m.msg;
+}
+
+-- the message of these parts; a priority gives facility and severity
+abbrev pub message_of_parts : Protocol → Option ℕ → Option OffsetTimestamp → Option Text → Option Text
+    → Option (ProcId Text) → Option Text → List ElementValue → Text → MessageValue
+message_of_parts protocol pri stamp host app process id elements msg = record {
+  protocol = protocol;
+  facility = option_and_then facility_of pri;
+  severity = option_and_then severity_of pri;
+  timestamp = stamp;
+  hostname = host;
+  appname = app;
+  procid = process;
+  msgid = id;
+  structured_data = elements;
+  msg = msg;
 }
 
 -- the message with these elements

@@ -2,8 +2,10 @@
 use Rattle.std.specs.Prelude.{ℕ, ◌+◌, ◌*◌, List, [], ◌∷◌, ◌++◌, Option, None, Some}
 use Rattle.std.specs.Option.{option_map_or}
 use Rattle.std.specs.Fmt.{decimal}
+use Rattle.std.specs.List.{flat_map}
 use Rattle.syslog_pieces.specs.Pieces.Class.{Text}
 use Rattle.syslog_pieces.specs.StructuredData.Element.{ElementValue}
+use Rattle.syslog_pieces.specs.StructuredData.Element.{element_text}
 pub use Rattle.syslog_pieces.specs.StructuredData.Element.{joined_elements, elements_text}
 use Rattle.syslog_pieces.specs.Pri.{facility_number, severity_number}
 use Rattle.syslog_pieces.specs.ProcId.{procid_text}
@@ -23,7 +25,7 @@ timestamp_text (Some s) = printed_stamp s.instant.nanosecond s.offset.seconds
 -- the elements and a space, or nothing where there are none
 abbrev pub spaced_elements : List ElementValue → Text
 spaced_elements [] = []
-spaced_elements (e ∷ es) = joined_elements (e ∷ es) ++ (32 ∷ [])
+spaced_elements (e ∷ es) = flat_map element_text (e ∷ es) ++ (32 ∷ [])
 
 -- `app[process]: `, `app: `, or `: ` where there is no app name
 abbrev pub tag_text : Option Text → Option (ProcId Text) → Text

@@ -30,8 +30,7 @@ ReadsProtocol RFC3164 (protocol.RFC5424 version) = ⊥
 ReadsProtocol RFC5424 protocol.RFC3164 = ⊥
 ReadsProtocol RFC5424 (protocol.RFC5424 version) = ⊤
 
--- Where memory suffices, the printed text of a message is answered with the message itself exactly where that meets the
--- written condition.
+-- where memory suffices, a printed message is read as itself exactly if it meets the written condition
 abbrev pub AnswersItself : Variant → Text → Result (Message (Bor (List ℕ))) ParseFault → Type 0
 AnswersItself variant text result = (m : MessageValue) → IsBounded m → ReadsProtocol variant m.protocol
     → text ≡ printed m → result ≢ Err Memory

@@ -5,7 +5,8 @@ use Rattle.std.specs.declared.alloc.AllocError.{AllocError}
 use Rattle.jiff.specs.Types.{UTC}
 use Rattle.syslog_pieces.specs.Pieces.Class.{Text}
 use Rattle.syslog_pieces.specs.Pieces.View.{shown}
-use Rattle.syslog_pieces.specs.Timestamp.Rfc3164.{ShowsYearless}
+use Rattle.syslog_pieces.specs.Timestamp.MonthDate.{yearless_date}
+use Rattle.syslog_pieces.specs.Timestamp.Rfc3164.{ShowsOf}
 use Rattle.syslog_pieces.specs.Timestamp.Zone.{Dating}
 use Rattle.syslog_pieces.specs.declared.structured_data.rfc3164_list.DashRule.{DashRule}
 use Rattle.syslog_pieces.specs.declared.structured_data.rfc3164_list.DashRule.TheVariants.{BeforeBlank}
@@ -16,7 +17,7 @@ use Rattle.syslog_loose.specs.declared.message.Message.{Message}
 use Rattle.syslog_loose.specs.declared.message.Protocol.TheVariants as protocol
 use Rattle.syslog_loose.specs.declared.variant.Variant.{Variant}
 use Rattle.syslog_loose.specs.declared.variant.Variant.TheVariants.{Either, RFC3164, RFC5424}
-use Rattle.syslog_loose.specs.Message.{MessageValue, message_value}
+use Rattle.syslog_loose.specs.Message.{MessageValue, message_of_parts, message_value}
 use Rattle.syslog_loose.specs.Rfc3164.{IsRead3164, Quotes3164}
 use Rattle.syslog_loose.specs.Rfc5424.{IsRead5424, IsNot5424, Quotes5424}
 
@@ -26,8 +27,7 @@ use Rattle.syslog_loose.specs.Rfc5424.{IsRead5424, IsNot5424, Quotes5424}
 abbrev pub dash_rule : DashRule
 dash_rule = BeforeBlank
 
--- the text is read as the message under this rule: under `Either` as RFC 5424, and as RFC 3164 where that has no
--- division of it
+-- the text is read as the message under this rule, and under `Either` as RFC 3164 only where RFC 5424 has no division
 abbrev pub IsReadUnder : DashRule → Variant → Dating → Text → MessageValue → Type 0
 IsReadUnder rule RFC5424 dating text m = IsRead5424 text m
 IsReadUnder rule RFC3164 dating text m = IsRead3164 rule dating text m
@@ -41,20 +41,18 @@ IsRead variant dating text m = IsReadUnder dash_rule variant dating text m
 abbrev pub IsUnreadable : Variant → Dating → Text → Type 0
 IsUnreadable variant dating text = (m : MessageValue) → IsRead variant dating text m → ⊥
 
--- and each text of the message is a piece of the division, or a part of one
+-- the text is read as this message, and as no other
+pub record IsOnlyRead (variant : Variant) (dating : Dating) (text : Text) (m : MessageValue) : Type 0 where
+  pub read : IsRead variant dating text m
+  pub only : (n : MessageValue) → IsRead variant dating text n → n ≡ m
+
+-- the text is read as the message, each text of which is a piece of the division, or a part of one
 abbrev pub IsQuoted : Variant → Dating → Text → MessageValue → Type 0
 IsQuoted RFC5424 dating text m = Quotes5424 text m
 IsQuoted RFC3164 dating text m = Quotes3164 dash_rule dating text m
 IsQuoted Either dating text m = Quotes5424 text m ⊎ (IsNot5424 text × Quotes3164 dash_rule dating text m)
 
--- the text is read as this message, and as no other
-pub record IsOnlyRead (variant : Variant) (dating : Dating) (text : Text) (m : MessageValue) : Type 0 where
-  pub read : IsRead variant dating text m
-  pub only : (n : MessageValue) → IsRead variant dating text n → n ≡ m
-  pub quoted : IsQuoted variant dating text m
-
--- The text does not parse, or its message has no elements: there is no list, or one that is `-` or broken elements
--- alone.
+-- the text does not parse, or its message has no elements: there is no list, or `-`, or broken elements alone
 abbrev pub NeedsNoMemory : Variant → Dating → Text → Type 0
 NeedsNoMemory variant dating text = (m : MessageValue) → IsRead variant dating text m → m.structured_data ≡ []
 
@@ -68,28 +66,22 @@ in_utc year = record { year = Some year; zone = None; local = UTC }
 abbrev pub IncompleteDate : Type 0
 IncompleteDate = ℕ × ℕ × ℕ × ℕ × ℕ
 
-abbrev pub incomplete : MonthDate → IncompleteDate
-incomplete date = (date.month, date.day, date.hour, date.minute, date.second)
-
--- the month is one of twelve, and the numbers have 32 bits
-abbrev pub HasMonth : IncompleteDate → Type 0
-HasMonth d = (1 ≤ d.0) × (d.0 ≤ 12) × (d.1 < 2 ^ 32) × (d.2 < 2 ^ 32) × (d.3 < 2 ^ 32) × (d.4 < 2 ^ 32)
-
--- the closure that gives years may be called on each date that has a month
+-- the closure that gives years may be called on each date of one of twelve months, whose numbers have 32 bits
 abbrev pub AnswersEachMonth : (IncompleteDate → Type 0) → Type 0
-AnswersEachMonth pre = (d : IncompleteDate) → HasMonth d → pre d
+AnswersEachMonth pre = (d : IncompleteDate)
+    → (1 ≤ d.0) × (d.0 ≤ 12) × (d.1 < 2 ^ 32) × (d.2 < 2 ^ 32) × (d.3 < 2 ^ 32) × (d.4 < 2 ^ 32) → pre d
 
 -- the text shows this date without a year, and the variant reads such dates
 abbrev pub AsksYear : Variant → Text → MonthDate → Type 0
 AsksYear RFC5424 text date = ⊥
-AsksYear RFC3164 text date = ShowsYearless text date
-AsksYear Either text date = ShowsYearless text date
+AsksYear RFC3164 text date = ShowsOf yearless_date text date
+AsksYear Either text date = ShowsOf yearless_date text date
 
 -- this is the year that the closure answered: none where the text asks for no year
 abbrev pub IsYearAnswered : (IncompleteDate → ℤ → Type 0) → Variant → Text → Option ℤ → Type 0
 IsYearAnswered post variant text None = (date : MonthDate) → AsksYear variant text date → ⊥
 IsYearAnswered post variant text (Some year) = (date : MonthDate) × AsksYear variant text date
-    × post (incomplete date) year
+    × post (date.month, date.day, date.hour, date.minute, date.second) year
 
 -- This holds in the year that the closure answered, and in any year where the text asks for none.
 pub record InYear (post : IncompleteDate → ℤ → Type 0) (variant : Variant) (text : Text)
@@ -120,18 +112,7 @@ IsLeftTo3164 Either text = IsNot5424 text
 
 -- the message for a text that does not parse: the whole of it, as it was handed in
 abbrev pub fallback : Text → MessageValue
-fallback text = record {
-  protocol = protocol.RFC3164;
-  facility = None;
-  severity = None;
-  timestamp = None;
-  hostname = None;
-  appname = None;
-  procid = None;
-  msgid = None;
-  structured_data = [];
-  msg = text;
-}
+fallback text = message_of_parts protocol.RFC3164 None None None None None None [] text
 
 -- the one message as which the text is read, or the fallback where there is none
 abbrev pub IsReadOrWhole : Variant → Dating → Text → MessageValue → Type 0

@@ -1,46 +1,26 @@
 -- The header of RFC 5424 (section 6), as sixteen pieces of the trimmed text, and the message that they mean.
-use Rattle.std.specs.Prelude.{◌≡◌, List, [], ◌∷◌, ◌++◌}
-use Rattle.std.specs.Option.{option_and_then}
-use Rattle.syslog_pieces.specs.Pieces.Class.{Text, Class, Values, Division, NoDivision, run, some_run, rest, optional}
-use Rattle.syslog_pieces.specs.Pri.{priority, facility_of, severity_of}
+use Rattle.std.specs.Prelude.{◌≡◌, List, [], ◌∷◌}
+use Rattle.syslog_pieces.specs.Pieces.Class.{Text, Class, Values, Division, run, some_run, rest, optional}
+use Rattle.syslog_pieces.specs.Pri.{priority}
 use Rattle.syslog_pieces.specs.ProcId.{process_word}
 use Rattle.syslog_pieces.specs.StructuredData.{forgiving}
 use Rattle.syslog_pieces.specs.Text.{trimmed, is_blank, number, host, word}
 use Rattle.syslog_pieces.specs.Timestamp.{header_stamp}
 use Rattle.syslog_loose.specs.declared.message.Protocol.TheVariants.{RFC5424}
 use Rattle.syslog_pieces.specs.Pieces.Parts.{AreInPieces}
-use Rattle.syslog_loose.specs.Message.{MessageValue, message_texts}
+use Rattle.syslog_loose.specs.Message.{MessageValue, message_of_parts, message_texts}
 
--- priority, version, timestamp, host, app name, process id, message id, with blanks between two
-abbrev pub header_row : List Class
-header_row =
-    optional priority ∷ number 4294967295 ∷ some_run is_blank ∷ header_stamp ∷ some_run is_blank ∷ host
-    ∷ some_run is_blank ∷ word
-    ∷ some_run is_blank ∷ process_word ∷ some_run is_blank ∷ word ∷ []
-
--- the elements and the message, with blanks or none before each
-abbrev pub data_row : List Class
-data_row = run is_blank ∷ forgiving ∷ run is_blank ∷ rest ∷ []
-
--- the sixteen pieces
+-- priority, version, timestamp, host, app name, process id, message id, elements, message, with blanks between two
 abbrev pub rfc5424_row : List Class
-rfc5424_row = header_row ++ data_row
+rfc5424_row =
+    optional priority ∷ number 4294967295 ∷ some_run is_blank ∷ header_stamp ∷ some_run is_blank ∷ host
+    ∷ some_run is_blank ∷ word ∷ some_run is_blank ∷ process_word ∷ some_run is_blank ∷ word
+    ∷ run is_blank ∷ forgiving ∷ run is_blank ∷ rest ∷ []
 
 -- the message that the pieces mean
 abbrev pub message_of : Values rfc5424_row → MessageValue
 message_of (pri, (version, (_, (stamp, (_, (name, (_, (app, (_, (process, (_, (id, (_, (es, (_, (m, _)))))))))))))))) =
-    record {
-      protocol = RFC5424 version;
-      facility = option_and_then facility_of pri;
-      severity = option_and_then severity_of pri;
-      timestamp = stamp;
-      hostname = name;
-      appname = app;
-      procid = process;
-      msgid = id;
-      structured_data = es;
-      msg = m;
-    }
+    message_of_parts (RFC5424 version) pri stamp name app process id es m
 
 -- the trimmed text has a division into these pieces, and the message is what they mean
 pub record IsRead5424 (text : Text) (m : MessageValue) : Type 0 where
@@ -50,7 +30,7 @@ pub record IsRead5424 (text : Text) (m : MessageValue) : Type 0 where
 
 -- the trimmed text has no such division
 abbrev pub IsNot5424 : Text → Type 0
-IsNot5424 text = NoDivision rfc5424_row (trimmed text)
+IsNot5424 text = (vs : Values rfc5424_row) → Division rfc5424_row (trimmed text) vs → ⊥
 
 -- and each text of that message is one of the pieces, or a part of one
 pub record Quotes5424 (text : Text) (m : MessageValue) : Type 0 where

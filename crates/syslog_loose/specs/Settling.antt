@@ -48,7 +48,7 @@ IsSettled variant dating text = IsNext variant dating text text
 -- none of the rounds 1 to n is settled
 abbrev pub NoneSettled : Variant → Dating → Text → ℕ → Type 0
 NoneSettled variant dating text n = (k : ℕ) (u : Text) → k < n → IsRound variant dating text (suc k) u
-    → IsSettled variant dating u → ⊥
+    → IsNext variant dating u u → ⊥
 
 -- this is round n + 1 of the text, and none of the rounds 1 to n is settled
 pub record Reaches (variant : Variant) (dating : Dating) (text : Text) (n : ℕ) (u : Text) : Type 0 where
@@ -59,7 +59,7 @@ pub record Reaches (variant : Variant) (dating : Dating) (text : Text) (n : ℕ)
 pub record IsFirstSettled (variant : Variant) (dating : Dating) (text u : Text) : Type 0 where
   pub before : ℕ
   pub round : IsRound variant dating text (suc before) u
-  pub settled : IsSettled variant dating u
+  pub settled : IsNext variant dating u u
   pub none_before : NoneSettled variant dating text before
 
 -- ---- what `settle` returns

@@ -1,6 +1,6 @@
 -- The form `tag[id]` of a program's name in RFC 3164 (section 5.3 of RFC 3164 has it by example; own).
 use Rattle.std.specs.Prelude.{List, [], ◌∷◌}
-use Rattle.syslog_pieces.specs.Pieces.Class.{Text, Class, Division, NoDivision, run, some_run, exactly, texted}
+use Rattle.syslog_pieces.specs.Pieces.Class.{Text, Class, Division, Values, run, some_run, exactly, texted}
 use Rattle.syslog_pieces.specs.Text.CharClass.{is_label_char, is_open_char}
 
 -- a tag without white space, colon and `[`, perhaps empty; `[`; an id without `]`, not empty; `]`
@@ -13,4 +13,4 @@ IsForm text tag id = Division form_row text (tag, (tt, (id, (tt, tt))))
 
 -- the text is not of the form
 abbrev pub IsNoForm : Text → Type 0
-IsNoForm text = NoDivision form_row text
+IsNoForm text = (vs : Values form_row) → Division form_row text vs → ⊥

@@ -11,16 +11,27 @@ use Rattle.syslog_pieces.specs.declared.timestamp.clock.ClockStamp.{ClockStamp}
 use Rattle.syslog_pieces.specs.Text.{is_blank}
 use Rattle.syslog_loose.specs.Exceptions.{HasQuietNames}
 use Rattle.syslog_loose.specs.Printed.{name_text, tag_text}
-use Rattle.syslog_loose.specs.Rfc3164.{Names3164, ReadsNames, names, stamped_row}
+use Rattle.syslog_loose.specs.Rfc3164.{Names3164, names}
 use Rattle.syslog_loose.specs.TagForm.{IsForm}
 use Rattle.syslog_loose.specs.declared.rfc3164.Fields.{Fields}
 use Rattle.syslog_loose.specs.declared.rfc3164.Names.{Names}
+use Rattle.std.specs.Prelude.{Some, None}
+use Rattle.syslog_loose.specs.Bodies.Rows.{ReadsNames, stamped_row}
+use Rattle.syslog_loose.specs.Rfc3164.{NamesByForm}
 
 abbrev pub names_value : Names → Names3164
 names_value n = names (seen n.hostname) (seen n.appname) (option_map named_process (seen n.process))
 
 abbrev pub stamped_values : Option ℕ → Option ClockStamp → Option ℕ × (Unit {0} × (Option OffsetTimestamp × Unit {0}))
 stamped_values priority timestamp = (priority, (tt, (stamp_seen timestamp, tt)))
+
+-- a program's name beside this host
+abbrev pub NamesProgram : Option Text → Text → Names3164 → Type 0
+NamesProgram host text n = NamesByForm host text (names host (Some text) None) n
+
+-- a lone name: of the form `tag[id]` it is a program's, otherwise it is the host
+abbrev pub NamesHost : Text → Names3164 → Type 0
+NamesHost text n = NamesByForm None text (names (Some text) None None) n
 
 -- where there is a process, its text is the id of this name, which is of the form of a tag and an id
 abbrev pub IsProcessOf : Text → Names → Type 0

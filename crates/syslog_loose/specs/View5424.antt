@@ -8,7 +8,7 @@ use Rattle.syslog_pieces.specs.Pieces.View.{seen, shown}
 use Rattle.syslog_pieces.specs.ProcId.{named_process, process_text}
 use Rattle.syslog_pieces.specs.Text.{name_text}
 use Rattle.syslog_pieces.specs.Timestamp.{stamp_seen}
-use Rattle.syslog_loose.specs.Rfc5424.{header_row}
+use Rattle.syslog_loose.specs.Bodies.Rows.{header_row}
 use Rattle.syslog_loose.specs.declared.line.Line.{Line}
 
 -- the meanings of the pieces of a header, of this version

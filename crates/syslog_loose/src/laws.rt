@@ -10,7 +10,8 @@ ghost use Rattle.syslog_loose.specs.Printed.{printed};
 ghost use Rattle.syslog_loose.specs.declared.message.Protocol.TheVariants.{RFC3164};
 ghost use Rattle.syslog_loose.specs.Reading.{IsRead};
 ghost use Rattle.syslog_loose.specs.declared.variant.Variant.{Variant};
-ghost use Rattle.syslog_loose.specs.Rfc3164.{Names3164, Resolves, stamped_row, rfc3164_row, IsRead3164, Quotes3164};
+ghost use Rattle.syslog_loose.specs.Rfc3164.{Names3164, Resolves, rfc3164_row, IsRead3164, Quotes3164};
+ghost use Rattle.syslog_loose.specs.Bodies.Rows.{stamped_row};
 ghost use Rattle.syslog_loose.specs.Rfc5424.{rfc5424_row, IsRead5424, IsNot5424};
 ghost use Rattle.syslog_loose.specs.TagForm.{IsForm};
 

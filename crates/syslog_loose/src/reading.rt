@@ -16,7 +16,7 @@ ghost use Rattle.syslog_loose.specs.Visit.{IsCompleted};
 ghost use Rattle.syslog_loose.specs.ReadBack.{AnswersItself, FieldsAsRead};
 ghost use Rattle.syslog_loose.specs.Reading as spec;
 ghost use Rattle.syslog_loose.specs.Reading.{Answers, AnswersEachMonth};
-ghost use Rattle.syslog_loose.specs.Reading.{AnswersOrWhole, InYear};
+ghost use Rattle.syslog_loose.specs.Reading.{AnswersOrWhole, InYear, IsQuoted};
 ghost use Rattle.syslog_loose.specs.declared.variant.Variant.{Variant};
 
 use crate::fault::ParseFault;
@@ -135,6 +135,8 @@ pub fn parse_message_with_year_exact<'a, F: FnOnce(IncompleteDate) -> i32>(
     ensures fields { InYear (F.post get_year) variant (chars input.entry.now) (λ year. IfOk result (λ m.
         FieldsAsRead m.protocol (dating_of year None local.entry) (chars input.entry.now)
         (message_value (λ s. shown s) m))) }
+    ensures quotes { InYear (F.post get_year) variant (chars input.entry.now) (λ year. IfOk result (λ m.
+        IsQuoted variant (dating_of year None local.entry) (chars input.entry.now) (message_value (λ s. shown s) m))) }
 {
     parse_message_with_year_exact_tz(alloc, input, get_year, None, variant, local)
 }
@@ -156,11 +158,14 @@ pub fn parse_message_with_year_exact_tz<'a, F: FnOnce(IncompleteDate) -> i32>(
     requires { AnswersEachMonth (F.pre get_year) }
     ensures reads { InYear (F.post get_year) variant (chars input.entry.now)
         (λ year. Answers variant (dating_of year tz.entry local.entry) (chars input.entry.now) result) }
-    // A printed message is answered as itself exactly where it meets the written condition; and what is known of the
-    // fields.
+    // A printed message is read as itself exactly if it meets the written condition; what is known of the fields; and
+    // each text of the message is a part of a piece of the text.
     ensures itself { AnswersItself variant (chars input.entry.now) result }
     ensures fields { InYear (F.post get_year) variant (chars input.entry.now) (λ year. IfOk result (λ m.
         FieldsAsRead m.protocol (dating_of year tz.entry local.entry) (chars input.entry.now)
+        (message_value (λ s. shown s) m))) }
+    ensures quotes { InYear (F.post get_year) variant (chars input.entry.now) (λ year. IfOk result (λ m.
+        IsQuoted variant (dating_of year tz.entry local.entry) (chars input.entry.now)
         (message_value (λ s. shown s) m))) }
 {
     let mut collect = Collect::new(alloc);

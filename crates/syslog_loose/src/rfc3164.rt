@@ -16,6 +16,7 @@ ghost use Rattle.syslog_loose.specs.Reading.{dash_rule};
 ghost use Rattle.syslog_loose.specs.Rfc3164 as spec;
 ghost use Rattle.syslog_loose.specs.View3164.{FieldsAreRead, IsBehindStamp, IsProcessOf, names_value};
 ghost use Rattle.syslog_loose.specs.Visit.{HasRest};
+ghost use Rattle.syslog_loose.specs.View3164.{NamesHost, NamesProgram};
 
 use crate::line::Line;
 use crate::rfc5424::{are_all, is_bare};
@@ -38,7 +39,7 @@ pub(crate) struct Names<'a> {
 // A program's name beside this host.
 #[inline(always)]
 fn program<'a>(hostname: Option<&'a str>, name: &'a str) -> Names<'a>
-    ensures names { spec.NamesProgram (seen hostname.entry) (chars name.entry.now) (names_value result) }
+    ensures names { NamesProgram (seen hostname.entry) (chars name.entry.now) (names_value result) }
     ensures form { IsProcessOf (chars name.entry.now) result }
 {
     match tag_form(name) {
@@ -58,7 +59,7 @@ fn program<'a>(hostname: Option<&'a str>, name: &'a str) -> Names<'a>
 // A lone name: a program's if it is of the form `tag[id]`, otherwise a host.
 #[inline(always)]
 fn lone<'a>(name: &'a str) -> Names<'a>
-    ensures { spec.NamesHost (chars name.entry.now) (names_value result) }
+    ensures { NamesHost (chars name.entry.now) (names_value result) }
 {
     match tag_form(name) {
         Some((tag, id)) => Names {

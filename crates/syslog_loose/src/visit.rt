@@ -15,7 +15,7 @@ ghost use Rattle.syslog_pieces.specs.Timestamp.MonthDate.{month_date};
 ghost use Rattle.syslog_pieces.specs.Timestamp.Zone.{Dating as AnyDating, dating_of};
 ghost use Rattle.syslog_pieces.specs.declared.timestamp.month_date.MonthDate.{MonthDate};
 ghost use Rattle.syslog_loose.specs.Line.{line_value, KnowsForm};
-ghost use Rattle.syslog_loose.specs.Reading.{AnswersEachMonth, InYear, IsUnreadable, dash_rule, incomplete};
+ghost use Rattle.syslog_loose.specs.Reading.{AnswersEachMonth, InYear, IsUnreadable, dash_rule};
 ghost use Rattle.syslog_loose.specs.Rfc3164.{IsRead3164};
 ghost use Rattle.syslog_loose.specs.Rfc5424.{IsNot5424, IsRead5424};
 ghost use Rattle.syslog_loose.specs.Start.{BeginsWith, BeginsWithout, IsBehindPriority};
@@ -23,6 +23,7 @@ ghost use Rattle.syslog_loose.specs.View3164.{IsBehindStamp};
 ghost use Rattle.syslog_loose.specs.Visit.{HasRest, IsLineOf, Made};
 ghost use Rattle.syslog_loose.specs.declared.line.Line.{Line};
 ghost use Rattle.syslog_loose.specs.declared.variant.Variant.{Variant};
+ghost use Rattle.syslog_loose.specs.Bodies.Cases.{incomplete};
 
 use crate::line::Line;
 use crate::rfc3164::read_3164;

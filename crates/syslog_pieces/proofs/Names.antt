@@ -44,7 +44,7 @@ pub use Rattle.syslog_pieces.specs.Pieces.Class.{spaced}
 pub use Rattle.syslog_pieces.specs.Pieces.Lists.{IsMany, IsMore, IsList, list_before, many, more_before, HasRead}
 pub use Rattle.syslog_pieces.specs.Pieces.View.{shown, text_of, Reads, seen, text_eq, ReadsBytes}
 pub use Rattle.syslog_pieces.specs.ProcId.{IsBoundedProcess, IsCanonicalProcess, IsI32Text, process_text, process_word}
-pub use Rattle.syslog_pieces.specs.ProcId.{NamesProcess, WritesSigned}
+pub use Rattle.syslog_pieces.specs.ProcId.{NamesProcess}
 pub use Rattle.syslog_pieces.specs.StructuredData.{value, param_row, param, element_row, element_of, element, item}
 pub use Rattle.syslog_pieces.specs.StructuredData.{strict, forgiving, param_of, IsValueUnit, IsValue, bracketed}
 pub use Rattle.syslog_pieces.specs.StructuredData.Canonical.{IsCanonicalParam, IsCanonicalElement, BeginsUnblank}
@@ -107,9 +107,12 @@ pub use Rattle.syslog_pieces.specs.StructuredData.Visited.{params_left}
 pub use Rattle.syslog_pieces.specs.Timestamp.{IsAnswer, IsStampOfRfc3339, IsStampText, clock_value, header_stamp}
 pub use Rattle.syslog_pieces.specs.Timestamp.Fields.{AreCivil, fields_of, nanos_of_fields}
 pub use Rattle.syslog_pieces.specs.Timestamp.MonthDate.{clock_row, month, month_date}
-pub use Rattle.syslog_pieces.specs.Timestamp.Printed.{civil_fields, fields_text, fraction_text, pad3, year_sign}
+pub use Rattle.syslog_pieces.specs.Timestamp.Printed.{civil_fields, fraction_text, pad3, year_sign}
+pub use Rattle.syslog_pieces.specs.Bodies.Clock.{fields_text}
 pub use Rattle.syslog_pieces.specs.Timestamp.Rfc3164.{rfc3164_stamp}
-pub use Rattle.syslog_pieces.specs.Timestamp.Rfc3339.{HasStamp, decimals, fields_of_rfc3339, fraction, is_dot, letter}
+pub use Rattle.syslog_pieces.specs.Timestamp.Rfc3339.{HasStamp, decimals, fraction, letter}
+pub use Rattle.syslog_pieces.specs.Bodies.Clock.{fields_of_rfc3339}
+pub use Rattle.syslog_pieces.specs.Bodies.Looks.{is_dot}
 pub use Rattle.syslog_pieces.specs.Timestamp.Rfc3339.{numeric_row, offset, seconds_of, sign, stamp_row, stamp_text}
 pub use Rattle.syslog_pieces.specs.Timestamp.Rfc3339.{written_of, year}
 pub use Rattle.syslog_pieces.specs.Timestamp.Zone.{Dating, IsMonthStamp}

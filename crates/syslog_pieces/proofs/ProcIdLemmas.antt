@@ -8,13 +8,25 @@ use Rattle.syslog_pieces.proofs.Names.{signed_digits_value, cases_Bool, cases_eq
 use Rattle.syslog_pieces.proofs.Names.{decimal-digits_value, chars-IsAscii, IsAscii-cons, IsBareWord, Text, Each, Front}
 use Rattle.syslog_pieces.proofs.Names.{NoFront, IsDeterministic, word, IsI32Text, process_word, ProcId, PID}
 use Rattle.syslog_pieces.proofs.Names.{encode_utf8_all, IsAscii-nil, length-le-encodes, without_leading_sign}
-use Rattle.syslog_pieces.proofs.Names.{WritesSigned, NamesProcess, Name}
+use Rattle.syslog_pieces.proofs.Names.{NamesProcess, Name}
 use Rattle.syslog_pieces.specs.Bodies.Looks.{LeadsBare}
-use Rattle.syslog_pieces.specs.ProcId.{IsDigits, procid_text}
+use Rattle.syslog_pieces.specs.ProcId.{procid_text}
 use Rattle.syslog_pieces.proofs.TextLemmas.Chars.{digits_ascii, ascii_ahead, ascii_chars}
 use Rattle.syslog_pieces.proofs.TextLemmas.Words.{own, word_det}
+use Rattle.std.proofs.Common.{neg_ℤ}
 
 -- ---- a text writes one number
+
+-- one or more ASCII digits
+abbrev pub IsDigits : Text → Type 0
+IsDigits t = (0 < length t) × Each is_ascii_digit t
+
+-- digits, after at most one sign, that write this number: sign by sign
+abbrev pub WritesSigned : Text → ℤ → Type 0
+WritesSigned t n =
+    (IsDigits t × (n ≡ pos (digits_value 10 t)))
+    ⊎ (((d : Text) × (t ≡ 43 ∷ d) × IsDigits d × (n ≡ pos (digits_value 10 d)))
+    ⊎ ((d : Text) × (t ≡ 45 ∷ d) × IsDigits d × (n ≡ neg_ℤ (pos (digits_value 10 d)))))
 
 pub numeral : (d : Text) → IsDigits d → IsNumeral 10 d
 numeral d h = (h.0, own.to d h.1)
@@ -52,11 +64,14 @@ writes_numeral (c ∷ t) n (inl (d, e)) =
 writes_numeral t n (inr (inl (d, s, h, e))) = rw s (numeral d h, e)
 writes_numeral t n (inr (inr (d, s, h, e))) = rw s (numeral d h, e)
 
-number_same : (t : Text) (m n : ℤ) → WritesSigned t m → WritesSigned t n → m ≡ n
-number_same t m n h k = (writes_numeral t m h).1 ∙ sym (writes_numeral t n k).1
+pub numeral_signed : (t : Text) (n : ℤ) → IsI32Text t n → WritesSigned t n
+numeral_signed t n h = rw h.0.1 (numeral_writes t h.0.0)
+
+number_same : (t : Text) (m n : ℤ) → IsI32Text t m → IsI32Text t n → m ≡ n
+number_same t m n h k = h.0.1 ∙ sym k.0.1
 
 pub process_same : (t : Text) (i j : ProcId Text) → NamesProcess t i → NamesProcess t j → i ≡ j
-process_same t (PID m) (PID n) h k = ap (λ (z : ℤ). PID z) (number_same t m n h.0 k.0)
+process_same t (PID m) (PID n) h k = ap (λ (z : ℤ). PID z) (number_same t m n h k)
 process_same t (PID m) (Name u) h k = absurd (k.0 m h)
 process_same t (Name s) (PID n) h k = absurd (h.0 n k)
 process_same t (Name s) (Name u) h k = ap (λ (z : Text). Name z) (h.1 ∙ sym k.1)
@@ -81,12 +96,12 @@ module _ (bs : List ℕ) (u : IsUtf8 bs) where
   pub number_read : {E : Type 0} (r : Result ℤ E) (n : ℤ) → r ≡ Ok n → ParsesSigned w32 10 bs r → IsI32Text (chars bs) n
   number_read r n e h =
       let ((there, fits), value) = rw e at h in
-      let w = numeral_writes bs there in rw (chars-IsAscii bs (writes_ascii bs _ w), value) (w, fits)
+      let w = numeral_writes bs there in rw (chars-IsAscii bs (writes_ascii bs _ w), value) ((there, refl), fits)
 
   pub no_number_read : {E : Type 0} (r : Result ℤ E) (x : E) → r ≡ Err x → ParsesSigned w32 10 bs r → (n : ℤ)
       → IsI32Text (chars bs) n → ⊥
   no_number_read r x e h n w =
-      let k = writes_numeral bs n (rw (ascii_chars bs u (writes_ascii (chars bs) n w.0)) at w.0) in
+      let k = rw (ascii_chars bs u (writes_ascii (chars bs) n (numeral_signed (chars bs) n w))) at w.0 in
       (rw e at h) (k.0, rw k.1 at w.1)
 
 -- ---- a word as a process id
@@ -116,17 +131,18 @@ no_word_number t p nd n (inr (inr (d, e, h, f))) = ((rw e at p) (omega (arith, h
 
 pub names_itself : (t : Text) → 0 < length t → IsBareWord t → (p : ProcId Text) × NamesProcess t p × (procid_text p ≡ t)
 names_itself t l p = elim (all_digits t) [
-  | inr nd ↦ (Name t, (λ n h. no_word_number t p (λ d. nd d.1) n h.0, refl), refl)
+  | inr nd ↦ (Name t, (λ n h. no_word_number t p (λ d. nd d.1) n (numeral_signed t n h), refl), refl)
   | inl a ↦ elim (cases_lt (digits_value 10 t) (2 ^ 31)) [
     | inl small ↦ (
       PID (pos (digits_value 10 t)),
-      (inl ((l, a), refl), search rules),
+      (writes_numeral t (pos (digits_value 10 t)) (inl ((l, a), refl)), search rules),
       decimal-digits_value own t a l (λ z. lead z) (omega (arith, small)),
     )
     | inr large ↦ (
       Name t,
       (
-        λ n h. (let fits = rw (number_same t n (pos (digits_value 10 t)) h.0 (inl ((l, a), refl))) at h.1 in
+        λ n h. (let same = h.0.1 ∙ sym (writes_numeral t (pos (digits_value 10 t)) (inl ((l, a), refl))).1 in
+            let fits = rw same at h.1 in
             omega (arith, fits, large)),
         refl,
       ),

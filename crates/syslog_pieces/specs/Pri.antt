@@ -102,9 +102,8 @@ severity_eq a b = nat_eq (severity_number a) (severity_number b)
 abbrev pub facilities : List SyslogFacility
 facilities =
     LOG_KERN ∷ LOG_USER ∷ LOG_MAIL ∷ LOG_DAEMON ∷ LOG_AUTH ∷ LOG_SYSLOG ∷ LOG_LPR ∷ LOG_NEWS ∷ LOG_UUCP ∷ LOG_CRON
-    ∷ LOG_AUTHPRIV ∷ LOG_FTP
-    ∷ LOG_NTP ∷ LOG_AUDIT ∷ LOG_ALERT ∷ LOG_CLOCKD ∷ LOG_LOCAL0 ∷ LOG_LOCAL1 ∷ LOG_LOCAL2 ∷ LOG_LOCAL3 ∷ LOG_LOCAL4
-    ∷ LOG_LOCAL5 ∷ LOG_LOCAL6 ∷ LOG_LOCAL7 ∷ []
+    ∷ LOG_AUTHPRIV ∷ LOG_FTP ∷ LOG_NTP ∷ LOG_AUDIT ∷ LOG_ALERT ∷ LOG_CLOCKD ∷ LOG_LOCAL0 ∷ LOG_LOCAL1 ∷ LOG_LOCAL2
+    ∷ LOG_LOCAL3 ∷ LOG_LOCAL4 ∷ LOG_LOCAL5 ∷ LOG_LOCAL6 ∷ LOG_LOCAL7 ∷ []
 
 -- all severities, each at the place of its number
 abbrev pub severities : List SyslogSeverity

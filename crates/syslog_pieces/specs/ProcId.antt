@@ -1,14 +1,14 @@
 -- Process ids: a number of 32 bits, or any other text.
 pub mod Equal
 pub mod EqualLaws
-use Rattle.std.specs.Prelude.{◌≡◌, ◌⊎◌, ⊤, ℤ, pos, negsuc, neg_ℤ, ◌<◌, FitsSigned, ◌∷◌, length, Option, Some, None}
+use Rattle.std.specs.Prelude.{◌≡◌, ⊤, ℤ, pos, negsuc, FitsSigned, length, Option, Some, None}
 use Rattle.std.specs.Prelude.{Bool, ◌&&◌, if◌then◌else◌, nat_lt}
 use Rattle.std.specs.List.{list_all}
 use Rattle.std.specs.Int.{w32}
 use Rattle.std.specs.Char.{is_ascii_digit}
 use Rattle.std.specs.Fmt.{signed_decimal}
-use Rattle.std.specs.Str.Parse.{digits_value, signed_digits_value, without_leading_sign}
-use Rattle.syslog_pieces.specs.Pieces.Class.{Text, Class, Each}
+use Rattle.std.specs.Str.Parse.{IsNumeral, signed_digits_value, without_leading_sign}
+use Rattle.syslog_pieces.specs.Pieces.Class.{Text, Class}
 use Rattle.syslog_pieces.specs.Text.{word, dash}
 use Rattle.syslog_pieces.specs.Text.Canonical.{IsCanonicalWord}
 use Rattle.syslog_pieces.specs.declared.procid.ProcId.{ProcId}
@@ -19,20 +19,9 @@ abbrev pub procid_value : {S : Type 0} → (S → Text) → ProcId S → ProcId 
 procid_value text (PID n) = PID n
 procid_value text (Name s) = Name (text s)
 
--- one or more ASCII digits
-abbrev pub IsDigits : Text → Type 0
-IsDigits t = (0 < length t) × Each is_ascii_digit t
-
--- digits, after at most one sign, that write this number
-abbrev pub WritesSigned : Text → ℤ → Type 0
-WritesSigned t n =
-    (IsDigits t × (n ≡ pos (digits_value 10 t)))
-    ⊎ (((d : Text) × (t ≡ 43 ∷ d) × IsDigits d × (n ≡ pos (digits_value 10 d)))
-    ⊎ ((d : Text) × (t ≡ 45 ∷ d) × IsDigits d × (n ≡ neg_ℤ (pos (digits_value 10 d)))))
-
--- the text of a number from -2147483648 to 2147483647
+-- digits, after at most one sign, that write this number from -2147483648 to 2147483647
 abbrev pub IsI32Text : Text → ℤ → Type 0
-IsI32Text t n = WritesSigned t n × FitsSigned w32 n
+IsI32Text t n = (IsNumeral 10 (without_leading_sign t) × (n ≡ signed_digits_value 10 t)) × FitsSigned w32 n
 
 -- what a text names: the number that it writes, or else itself
 abbrev pub NamesProcess : Text → ProcId Text → Type 0

@@ -10,7 +10,7 @@ pub mod Params
 pub mod Canonical
 pub mod Collected
 pub mod Visited
-use Rattle.std.specs.Prelude.{◌≡◌, ◌≢◌, ◌<◌, ◌⊎◌, List, [], ◌∷◌, ◌++◌, length, Option, Some, None}
+use Rattle.std.specs.Prelude.{◌≡◌, ◌≢◌, ◌<◌, ◌⊎◌, List, [], ◌∷◌, ◌++◌, filter_map, length, Option, Some, None}
 use Rattle.std.specs.List.{flat_map, AllByRecursion}
 use Rattle.syslog_pieces.specs.Text.CharClass.{is_name_char, is_id_char, is_open_char}
 use Rattle.syslog_pieces.specs.Pieces.Class.{Text, Class, Values, Front, NoFront, Row}
@@ -74,9 +74,7 @@ item = record { Value = Option ElementValue; Is = IsItem }
 
 -- the strict elements among items, in order
 abbrev pub strict : List (Option ElementValue) → List ElementValue
-strict [] = []
-strict (None ∷ items) = strict items
-strict (Some e ∷ items) = e ∷ strict items
+strict items = filter_map (λ item. item) items
 
 -- `-`, or one or more items, as many as there are; the broken ones are left out of the meaning
 abbrev pub IsForgiving : Text → Text → List ElementValue → Type 0

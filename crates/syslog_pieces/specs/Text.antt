@@ -62,8 +62,7 @@ host = record { Value = Option Text; Is = IsHost }
 abbrev pub is_tag_char : ℕ → Bool
 is_tag_char c = is_not_whitespace c && not (nat_eq c 58)
 
--- A tag word of RFC 3164: a maximal nonempty run without white space and colons. The word `-` means a tag that is there
--- and empty.
+-- a tag word of RFC 3164: a maximal nonempty run without white space and colons; `-` is a tag that is there and empty
 abbrev pub tag_word : Class
 tag_word =
     record { Value = Option Text; Is = λ p q v. (0 < length p) × Each is_tag_char p × Ends is_tag_char q × Names p v }

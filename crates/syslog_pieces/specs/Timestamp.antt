@@ -6,7 +6,7 @@ pub mod Canonical
 pub mod Printed
 pub mod Rfc3339
 pub mod Zone
-use Rattle.std.specs.Prelude.{◌≡◌, ◌-ℤ◌, ℕ, List, ◌∷◌, Option, Some, None, MatchOption}
+use Rattle.std.specs.Prelude.{◌≡◌, ◌-ℤ◌, ℕ, List, [], ◌∷◌, Option, Some, None, MatchOption}
 use Rattle.std.specs.Option.{option_map}
 use Rattle.jiff.specs.Words.{nanos_of_seconds}
 use Rattle.syslog_pieces.specs.Pieces.Class.{Text, Class}
@@ -15,7 +15,7 @@ use Rattle.syslog_pieces.specs.declared.timestamp.OffsetTimestamp.{OffsetTimesta
 use Rattle.syslog_pieces.specs.declared.timestamp.clock.ClockStamp.{ClockStamp}
 use Rattle.syslog_pieces.specs.declared.timestamp.rfc3339_text.Rfc3339Fields.{Rfc3339Fields}
 use Rattle.syslog_pieces.specs.Timestamp.Fields.{nanos_of_fields}
-use Rattle.syslog_pieces.specs.Timestamp.Rfc3339.{HasStamp, HasRfc3339Stamp}
+use Rattle.syslog_pieces.specs.Timestamp.Rfc3339.{HasStamp, HasRfc3339Stamp, stamp_text}
 
 -- the whole text is an RFC 3339 text of this timestamp
 abbrev pub IsStampText : List ℕ → OffsetTimestamp → Type 0
@@ -46,7 +46,9 @@ stamp_seen c = option_map clock_value c
 -- a timestamp of a header: `-` where it is absent, or a whole RFC 3339 text before a space
 abbrev pub IsHeaderStamp : Text → Text → Option OffsetTimestamp → Type 0
 IsHeaderStamp p q None = p ≡ dash
-IsHeaderStamp p q (Some s) = IsStampText p s × ((r : Text) × (q ≡ 32 ∷ r))
+IsHeaderStamp p q (Some s) =
+    ((w : Rfc3339Fields) × stamp_text.Is p [] w × HasRfc3339Stamp w s.instant.nanosecond s.offset.seconds)
+    × ((r : Text) × (q ≡ 32 ∷ r))
 
 abbrev pub header_stamp : Class
 header_stamp = record { Value = Option OffsetTimestamp; Is = IsHeaderStamp }

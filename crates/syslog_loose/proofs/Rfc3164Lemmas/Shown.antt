@@ -6,11 +6,11 @@ use Rattle.syslog_loose.proofs.Names.{division_front, front_division, rest_front
 use Rattle.syslog_loose.proofs.Names.{run_det, rest_det, row_pieces, row_of, priority_det, incomplete, HasMonth}
 use Rattle.std.proofs.lemmas.Option.{slice_get_within}
 use Rattle.std.specs.Char.{to_ascii_lowercase}
-use Rattle.syslog_pieces.specs.Timestamp.Rfc3164.{showing_row, BeginsWithDate}
 use Rattle.syslog_pieces.specs.Timestamp.MonthDate.{month_names, short_number, clock_row, yearless_row, yearless_of}
-use Rattle.syslog_pieces.specs.Timestamp.MonthDate.{dated_date}
 use Rattle.syslog_pieces.proofs.PieceLemmas.Kinds.{first_kind}
 use Rattle.syslog_pieces.proofs.TimestampLemmas.MonthDate.{month_date_det}
+use Rattle.syslog_pieces.specs.Bodies.MonthReading.{BeginsWithDate, showing_row}
+use Rattle.syslog_pieces.proofs.TimestampLemmas.MonthDate.{dated_date}
 
 row_has_month : {t q : Text} (vs : Values yearless_row) → Front (Row yearless_row) t q vs
     → HasMonth (incomplete (yearless_of vs))

@@ -7,6 +7,7 @@ use Rattle.syslog_loose.proofs.Names.{MessageValue, RFC3164, Names3164, fields_r
 use Rattle.syslog_loose.proofs.Names.{Means3164, IsRead3164}
 use Rattle.syslog_loose.proofs.Rfc3164Lemmas.{resolves_once}
 use Rattle.syslog_loose.proofs.Rfc3164Lemmas.Rows.{to_stamp, to_stamp_det, to_colon, to_colon_det}
+use Rattle.syslog_loose.specs.Message.{message_of_parts}
 
 pub fields_det : AllDeterministic fields_row
 fields_det = all_joined to_colon (run is_blank ∷ []) to_colon_det (run_det is_blank also tt)
@@ -25,18 +26,8 @@ rfc3164_det rule dating = all_joined (stamped_row dating) (body_row rule) (stamp
 
 -- the message of these pieces, with these names
 abbrev pub told : (rule : DashRule) (dating : Dating) → Values (rfc3164_row rule dating) → Names3164 → MessageValue
-told rule dating (pri, (_, (stamp, (_, (_, (_, (_, (_, (es, (_, (m, _))))))))))) n = record {
-  protocol = RFC3164;
-  facility = option_and_then facility_of pri;
-  severity = option_and_then severity_of pri;
-  timestamp = stamp;
-  hostname = n.hostname;
-  appname = n.appname;
-  procid = n.procid;
-  msgid = None;
-  structured_data = elements_or es;
-  msg = m;
-}
+told rule dating (pri, (_, (stamp, (_, (_, (_, (_, (_, (es, (_, (m, _))))))))))) n =
+    message_of_parts RFC3164 pri stamp n.hostname n.appname n.procid None (elements_or es) m
 
 -- a text is read as one message
 pub one_message : (rule : DashRule) (dating : Dating) (text : Text) (m n : MessageValue) → IsRead3164 rule dating text m

@@ -16,8 +16,8 @@ module _ (dating other : Dating) (zone : dating.zone ≡ other.zone) (local : da
   other_stamp p q None n (inr h) = absurd h
   other_stamp p q (Some s) n (inr (d, inl h, k)) = absurd (n d h)
   other_stamp p q (Some s) n (inr (d, inr (vs, h, e), k)) =
-      let (year, is, (dt, f, stamp)) = rw e at k in
-      inr (d, inr (vs, h, e), rw e (year, is, (dt, f, rw (zone, local) at stamp)))
+      let (year, dt, is, f, stamp) = rw e at k in
+      inr (d, inr (vs, h, e), rw e (year, dt, is, f, rw (zone, local) at stamp))
 
   module _ (text : Text) (none : (d : MonthDate) → ShowsYearless text d → ⊥) where
     -- so the pieces up to the timestamp are the same, with the same meanings

@@ -16,10 +16,10 @@ use Rattle.std.proofs.lemmas.List.Sums.{suffix_len-le-length}
 use Rattle.std.specs.List.{prefix_len}
 use Rattle.std.specs.Prelude.{unsigned_abs}
 use Rattle.syslog_pieces.proofs.PieceLemmas.Class.{no_front_no}
-use Rattle.syslog_loose.specs.Rfc3164.{NamesHost}
 use Rattle.syslog_loose.specs.Settling.{end_colons, colons_weight, host_weight, process_weight}
 use Rattle.syslog_loose.proofs.Rfc3164Lemmas.Rows.{from_list, from_blanks}
 use Rattle.syslog_loose.proofs.SettlingLemmas.Decided.{Decided, list_decided}
+use Rattle.syslog_loose.specs.View3164.{NamesHost}
 
 -- ---- one weight
 cost_once : {A : Type 0} {n w v : ℕ} → Costs A n w → Costs A n v → w ≡ v

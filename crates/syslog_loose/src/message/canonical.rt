@@ -9,6 +9,7 @@ ghost use Rattle.syslog_pieces.specs.ProcId.{procid_value};
 ghost use Rattle.syslog_pieces.specs.StructuredData.Element.{ElementValue, element_value};
 ghost use Rattle.syslog_pieces.specs.StructuredData.Rfc3164List.{BeginsNoList};
 ghost use Rattle.syslog_pieces.specs.Text.{is_blank};
+ghost use Rattle.syslog_pieces.specs.declared.procid.ProcId.TheVariants.{Name};
 ghost use Rattle.syslog_loose.specs.Canonical as spec;
 ghost use Rattle.syslog_loose.specs.Canonical.{AreElements, fields_value};
 ghost use Rattle.syslog_loose.specs.Message.{message_value};
@@ -206,7 +207,7 @@ fn is_bracketed<S: AsStr>(process: &ProcId<S>) -> bool
 }
 
 fn is_bracketed_name(name: &str) -> bool
-    ensures { IsTrue result ↔ spec.IsBracketedName (chars name.now) }
+    ensures { IsTrue result ↔ spec.IsBracketedProcess (Name (chars name.now)) }
 {
     if !is_some_of(name, CharClass::Tag) {
         return false;
@@ -219,7 +220,7 @@ fn is_bracketed_name(name: &str) -> bool
 
 // An app name without a process id.
 fn is_lone_tag(app: &str) -> bool
-    ensures { IsTrue result ↔ spec.IsLoneTag (chars app.now) }
+    ensures { IsTrue result ↔ spec.AreCanonicalNames None (Some (chars app.now)) None }
 {
     is_canonical_tag(app) && is_no_form(app)
 }

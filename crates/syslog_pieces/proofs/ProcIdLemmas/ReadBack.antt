@@ -1,4 +1,5 @@
 -- Process ids are read back from their printed text, and what is read is canonical.
+use Rattle.syslog_pieces.proofs.ProcIdLemmas.{writes_numeral}
 use Rattle.syslog_pieces.proofs.Names.{◌≡◌, ℕ, ℤ, suc, pos, negsuc, ◌<◌, ◌^◌, inl, inr, Bool, true, false, not, List}
 use Rattle.syslog_pieces.proofs.Names.{FitsSigned, w32, [], ◌∷◌, length, Option, Some, None, IfSome, refl, sym, ap}
 use Rattle.syslog_pieces.proofs.Names.{arith, digits_value-decimal, is_ascii_digit, is_not_whitespace, ◌↔◌, IsTrue}
@@ -20,15 +21,15 @@ digits_no_mark (d ∷ t) c h n e = let a = h.0 in let k = rw (← heads d c t []
 pub signed_writes : (n : ℤ) → FitsSigned w32 n → IsI32Text (signed_decimal n) n
 signed_writes (pos n) h =
     let small : n < 2 ^ 64 = omega (arith, h) in
-    (inl (decimal_digits n small, ap pos (sym (digits_value-decimal own n small))), h)
+    (writes_numeral (signed_decimal (pos n)) (pos n) (inl (decimal_digits n small, ap pos (sym (digits_value-decimal own n small)))), h)
 signed_writes (negsuc n) h =
     let small : suc n < 2 ^ 64 = omega (arith, h) in (
-      inr (inr (
+      writes_numeral (signed_decimal (negsuc n)) (negsuc n) (inr (inr (
         decimal (suc n),
         refl,
         decimal_digits (suc n) small,
         ap (λ (k : ℕ). neg_ℤ (pos k)) (sym (digits_value-decimal own (suc n) small)),
-      )),
+      ))),
       h,
     )
 

@@ -10,6 +10,7 @@ use Rattle.jiff_core.proofs.DateLemmas.{civil}
 use Rattle.jiff_core.proofs.DateTimeLemmas.{civil_nanos-parts, civil_nanos_range, time_nanos_bound}
 use Rattle.syslog_pieces.specs.Timestamp.Printed.{printed_stamp}
 use Rattle.syslog_pieces.proofs.TimestampLemmas.Range.{civil_fields_exist}
+use Rattle.syslog_pieces.specs.Timestamp.Fields.{IsDateTime}
 
 pub civil-fields_of : (dt : DateTime) → AreCivil (fields_of dt)
 civil-fields_of dt = record {
@@ -25,6 +26,31 @@ civil_nanos-fields dt f e = civil_nanos-parts dt ∙ ap nanos_of_fields e
 
 pub civil-fields : (dt : DateTime) (f : CivilFields) → fields_of dt ≡ f → AreCivil f
 civil-fields dt f e = let P : CivilFields → Type 0 = AreCivil in subst P e (civil-fields_of dt)
+
+-- a datetime has the fields exactly if it has each of them
+pub has_fields : (dt : DateTime) (f : CivilFields)
+    → IsDateTime dt f.year f.month f.day f.hour f.minute f.second f.nanosecond → fields_of dt ≡ f
+has_fields dt f h = λ i. record {
+  year = h.year_is i;
+  month = h.month_is i;
+  day = h.day_is i;
+  hour = h.hour_is i;
+  minute = h.minute_is i;
+  second = h.second_is i;
+  nanosecond = h.nanosecond_is i;
+}
+
+pub is_datetime : (dt : DateTime) (f : CivilFields) → fields_of dt ≡ f
+    → IsDateTime dt f.year f.month f.day f.hour f.minute f.second f.nanosecond
+is_datetime dt f e = record {
+  year_is = ap (λ (x : CivilFields). x.year) e;
+  month_is = ap (λ (x : CivilFields). x.month) e;
+  day_is = ap (λ (x : CivilFields). x.day) e;
+  hour_is = ap (λ (x : CivilFields). x.hour) e;
+  minute_is = ap (λ (x : CivilFields). x.minute) e;
+  second_is = ap (λ (x : CivilFields). x.second) e;
+  nanosecond_is = ap (λ (x : CivilFields). x.nanosecond) e;
+}
 
 -- the datetime of fields that there are
 abbrev pub datetime_of : (f : CivilFields) → AreCivil f → (dt : DateTime) × (fields_of dt ≡ f)

@@ -8,13 +8,15 @@ use Rattle.syslog_pieces.proofs.Names.{row_det, row_head, mapped_front, no_mappe
 use Rattle.syslog_pieces.proofs.Names.{rows_none_later, Apart, Begins, begins_apart, begins_more, begins_with}
 use Rattle.syslog_pieces.proofs.Names.{either_det, first_kind, second_kind, no_either, row_pieces, rows_step}
 use Rattle.syslog_pieces.specs.Timestamp.MonthDate.{short_number, yearless_row, yearless_of, yearless_date, dated_row}
-use Rattle.syslog_pieces.specs.Timestamp.MonthDate.{dated_of, dated_date}
-use Rattle.syslog_pieces.specs.Timestamp.Rfc3164.{ShowsYearless, showing_row}
+use Rattle.syslog_pieces.specs.Timestamp.MonthDate.{dated_of}
+use Rattle.syslog_pieces.specs.Timestamp.Rfc3164.{ShowsYearless}
 use Rattle.syslog_pieces.proofs.PieceLemmas.Class.{all_joined, rest_det, optional_det, unique_division, rows_split}
 use Rattle.syslog_pieces.proofs.PieceLemmas.Kinds.{each_begins}
 use Rattle.syslog_pieces.proofs.PriLemmas.{priority_det}
 use Rattle.syslog_pieces.proofs.TextLemmas.Words.{number_det}
 use Rattle.syslog_pieces.proofs.TimestampLemmas.Months.{IsLetter, month_det, month_begins}
+use Rattle.syslog_pieces.specs.Pieces.Class.{mapped}
+use Rattle.syslog_pieces.specs.Bodies.MonthReading.{showing_row}
 
 pub clock_det : AllDeterministic clock_row
 clock_det =
@@ -36,6 +38,10 @@ yearless_det = mapped_det (Row yearless_row) MonthDate yearless_of
     (row_det yearless_row (all_joined day_row clock_row day_det clock_det))
 
 -- and one with a year
+-- a month date with a year
+abbrev pub dated_date : Class
+dated_date = mapped (Row dated_row) MonthDate dated_of
+
 pub dated_det : IsDeterministic dated_date
 dated_det = mapped_det (Row dated_row) MonthDate dated_of
     (row_det dated_row (all_joined day_row from_year day_det (all_joined year_row clock_row year_det clock_det)))

@@ -6,11 +6,12 @@ use Rattle.syslog_pieces.proofs.Names.{signed_arith, pad2, Each, OffsetTimestamp
 use Rattle.syslog_pieces.proofs.Names.{year_sign, fraction_text, each_append}
 use Rattle.jiff_core.specs.Calendar.{IsWithin}
 use Rattle.syslog_pieces.specs.Timestamp.Printed.{printed_stamp, date_time_text, offset_text, offset_sign}
-use Rattle.syslog_pieces.specs.Timestamp.Printed.{rounded_minutes, unsigned_date_time}
 use Rattle.syslog_pieces.proofs.TimestampLemmas.Characters.{is_stamp_character, each_ascii, fraction_characters}
 use Rattle.syslog_pieces.proofs.TimestampLemmas.Characters.{pair_characters}
 use Rattle.syslog_pieces.proofs.TimestampLemmas.Decimals.{fraction_text-is}
 use Rattle.syslog_pieces.proofs.TimestampLemmas.Range.{civil_fields_exist, in_range-at_offset}
+use Rattle.std.proofs.Common.{◌+◌}
+use Rattle.syslog_pieces.specs.Bodies.Clock.{unsigned_date_time}
 
 -- a number from -k to k
 pub absolute : (z : ℤ) (k : ℕ) → IsWithin k z → unsigned_abs z ≤ k
@@ -20,7 +21,7 @@ absolute (negsuc n) k h = omega (arith, signed_arith, h.0)
 offset : (o : ℤ) → IsOffsetSeconds o → Each is_stamp_character (offset_text o)
 unfolding offset_text
 offset o h =
-    let minutes = rounded_minutes o in
+    let minutes = (unsigned_abs o + 30) / 60 in
     let most = absolute o 93_599 h in (
       sign o,
       each_append is_stamp_character (pad2 (minutes / 60)) (58 ∷ pad2 (minutes % 60))

@@ -12,7 +12,7 @@ use Rattle.jiff_core.proofs.CalendarLemmas.{days_of_months_more, days_of_months_
 use Rattle.jiff_core.proofs.MarchLemmas.{days_of_years-march_days}
 use Rattle.jiff_core.proofs.SignedLemmas.{int_rem_euclid-parts, int_div_euclid-parts}
 use Rattle.jiff_tz.specs.Year.{year_of_day, years_within}
-use Rattle.syslog_pieces.specs.Timestamp.Printed.{months_within, place_in_year, place_fields, civil_fields}
+use Rattle.syslog_pieces.specs.Timestamp.Printed.{months_within, place_fields, civil_fields}
 
 -- an instant has civil nanoseconds at every offset
 pub in_range-at_offset : (n o : ℤ) → IsTimestampNanos n → IsOffsetSeconds o → IsCivilNanos (n +ℤ nanos_of_seconds o)
@@ -72,13 +72,14 @@ year_placed day count k range e low most next =
       same = omega (arith, signed_arith);
     }
 
-day_placed : (day : ℤ) → IsEpochDay day → IsPlaced day (year_of_day day) (place_in_year (year_of_day day) day)
+day_placed : (day : ℤ) → IsEpochDay day → IsPlaced day (year_of_day day)
+    (unsigned_abs (day -ℤ days_from_civil (year_of_day day) 1 1))
 day_placed day range =
     let count = unsigned_abs (day +ℤ pos 4_371_953) in
     let e = from_start (day +ℤ pos 4_371_953) (omega (arith, signed_arith, range.0)) in
     let fit = years_fit 20000 count in
     let p = year_placed day count (years_within 20000 count) range e fit.0 fit.1 fit.2 in
-    let place : place_in_year (year_of_day day) day ≡ count - days_of_years (years_within 20000 count) =
+    let place : unsigned_abs (day -ℤ days_from_civil (year_of_day day) 1 1) ≡ count - days_of_years (years_within 20000 count) =
     abs-diff day _ _ p.same in
     rw place p
 

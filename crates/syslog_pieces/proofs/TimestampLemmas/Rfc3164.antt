@@ -4,12 +4,12 @@ use Rattle.syslog_pieces.proofs.Names.{NoFront, IsDeterministic, IsAnswer, heade
 use Rattle.syslog_pieces.proofs.Names.{IsMonthStamp, rfc3164_stamp, OffsetTimestamp, MonthDate, front_same, no_front_no}
 use Rattle.syslog_pieces.proofs.Names.{first_kind, second_kind, no_either, Apart, Begins, begins_apart, begins_more}
 use Rattle.syslog_pieces.proofs.Names.{begins_with, either_det}
-use Rattle.syslog_pieces.specs.Timestamp.Rfc3164.{IsStampedDate}
 use Rattle.syslog_pieces.proofs.TimestampLemmas.MonthDate.{month_date_det, month_date_begins}
 use Rattle.syslog_pieces.proofs.TimestampLemmas.Months.{IsLetter}
 use Rattle.syslog_pieces.proofs.TimestampLemmas.Piece.{header_stamp_det}
 use Rattle.syslog_pieces.proofs.TimestampLemmas.Texts.{stamp_text-first}
 use Rattle.syslog_pieces.proofs.TimestampLemmas.Zone.{month_stamp_once}
+use Rattle.std.proofs.Common.{MatchOption}
 
 -- a digit or a dash
 abbrev pub IsLow : ℕ → Type 0
@@ -21,6 +21,11 @@ header_stamp_begins p q None h = begins_with IsLow 45 (p ++ q) q (ap (λ (x : Te
 header_stamp_begins p q (Some s) (h, z) =
     let (c, more, f, digit) = stamp_text-first p s h in
     begins_more IsLow p q (begins_with IsLow c p more f (let d = digit.1 in omega arith))
+
+-- a month date that has this timestamp
+abbrev IsStampedDate : Dating → Text → Text → Option OffsetTimestamp → Type 0
+IsStampedDate dating p q v =
+    MatchOption v ⊥ (λ s. (date : MonthDate) × month_date.Is p q date × IsMonthStamp dating date s)
 
 pub stamped_date_begins : (dating : Dating) (p q : Text) (v : Option OffsetTimestamp) → IsStampedDate dating p q v
     → Begins IsLetter (p ++ q)

@@ -11,9 +11,15 @@ use Rattle.syslog_pieces.proofs.Names.{AllDeterministic, ◌also◌, heads, mapp
 use Rattle.syslog_pieces.proofs.Names.{some_run_det, texted_det, Apart, Begins, begins_apart, begins_more, begins_with}
 use Rattle.syslog_pieces.proofs.Names.{either_det, no_either, second_kind}
 use Rattle.jiff.specs.Types.{Timestamp}
-use Rattle.syslog_pieces.specs.Timestamp.Rfc3339.{pair, zulu}
+use Rattle.syslog_pieces.specs.Timestamp.Rfc3339.{pair}
 use Rattle.syslog_pieces.proofs.PieceLemmas.Alone.{IsFilled, closed_alone, closed_filled}
 use Rattle.syslog_pieces.proofs.PieceLemmas.Class.{after_det}
+use Rattle.std.proofs.Common.{◌-ℤ◌, pos}
+use Rattle.jiff.specs.Words.{nanos_of_seconds}
+use Rattle.syslog_pieces.specs.Pieces.Class.{Class}
+use Rattle.syslog_pieces.specs.Timestamp.Fields.{AreCivil, nanos_of_fields}
+use Rattle.syslog_pieces.specs.Timestamp.Rfc3339.{HasRfc3339Stamp}
+use Rattle.syslog_pieces.proofs.TimestampLemmas.Civil.{civil-fields, civil_nanos-fields, datetime_of, has_fields, is_datetime}
 
 -- ---- a text has one front of each piece
 
@@ -79,6 +85,9 @@ pub numeric_det : AllDeterministic numeric_row
 numeric_det = sign_det also pair_det 24 (omega arith) also after_det (pair 60) (pair_det 60 (omega arith)) also tt
 
 -- a letter and a sign
+abbrev zulu : Class
+zulu = mapped (letter 90) ℤ (λ _. pos 0)
+
 zulu_begins : (p q : Text) (s : ℤ) → zulu.Is p q s → Begins (λ c. 90 ≤ c) (p ++ q)
 zulu_begins p q s (u, inl e, z) = begins_with (λ c. 90 ≤ c) 90 _ q (ap (λ (x : Text). x ++ q) e) (omega arith)
 zulu_begins p q s (u, inr e, z) = begins_with (λ c. 90 ≤ c) 122 _ q (ap (λ (x : Text). x ++ q) e) (omega arith)
@@ -165,19 +174,40 @@ pub answer_same : (P Q : OffsetTimestamp → Type 0) (answer : Option ClockStamp
 answer_same P Q None forth back h = λ s q. h s (back s q)
 answer_same P Q (Some c) forth back h = forth (clock_value c) h
 
+-- the numbers of a text that has a stamp are civil fields, and those of its instant
+pub stamp_fields : (w : Rfc3339Fields) (n o : ℤ) → HasRfc3339Stamp w n o → AreCivil (fields_of_rfc3339 w)
+    × (n ≡ nanos_of_fields (fields_of_rfc3339 w) -ℤ nanos_of_seconds w.offset)
+stamp_fields w n o h =
+    let f = fields_of_rfc3339 w in
+    let same = has_fields h.shown f h.shows in (
+      civil-fields h.shown f same,
+      h.instant ∙ ap (λ (x : ℤ). x -ℤ nanos_of_seconds w.offset) (civil_nanos-fields h.shown f same),
+    )
+
+pub fields_stamp : (w : Rfc3339Fields) (n o : ℤ) → AreCivil (fields_of_rfc3339 w)
+    → n ≡ nanos_of_fields (fields_of_rfc3339 w) -ℤ nanos_of_seconds w.offset → o ≡ w.offset → IsTimestampNanos n
+    → HasRfc3339Stamp w n o
+fields_stamp w n o there instant same range =
+    let f = fields_of_rfc3339 w in
+    let (dt, e) = datetime_of f there in
+    record {
+      shown = dt;
+      shows = is_datetime dt f e;
+      instant = instant ∙ ap (λ (x : ℤ). x -ℤ nanos_of_seconds w.offset) (sym (civil_nanos-fields dt f e));
+      at_offset = same;
+      in_range = range;
+    }
+
 -- the timestamp on a clock that shows the numbers
 pub answer_of_rfc3339 : (w : Rfc3339Fields) (f : CivilFields) (offset : Offset) (answer : Option ClockStamp)
     → f ≡ fields_of_rfc3339 w → offset.seconds ≡ w.offset → IsAnswer (IsStampOfClock f offset) answer
     → IsAnswer (IsStampOfRfc3339 w) answer
 answer_of_rfc3339 w f offset answer e same h =
     answer_same (IsStampOfClock (fields_of_rfc3339 w) offset) (IsStampOfRfc3339 w) answer
-    (λ s p. record {
-      civil = p.civil;
-      instant = rw (← same) p.instant;
-      at_offset = p.at_offset ∙ same;
-      in_range = s.instant.in_range;
-    })
-    (λ s q. record { civil = q.civil; instant = rw same q.instant; at_offset = q.at_offset ∙ sym same }) (rw e at h)
+    (λ s p. fields_stamp w s.instant.nanosecond s.offset.seconds p.civil (rw (← same) p.instant) (p.at_offset ∙ same)
+    s.instant.in_range)
+    (λ s q. (let (there, instant) = stamp_fields w s.instant.nanosecond s.offset.seconds q in
+    record { civil = there; instant = rw same instant; at_offset = q.at_offset ∙ sym same })) (rw e at h)
 
 -- ---- the stamp of a text
 
@@ -187,7 +217,11 @@ written_once {t} {v} {w} h k = (stamp_text_det t [] t [] v w refl h k).1
 
 -- a text has at most one stamp
 pub one_stamp : (text : List ℕ) (n o m p : ℤ) → HasStamp text n o → HasStamp text m p → (n ≡ m) × (o ≡ p)
-one_stamp text n o m p (w, h, a) (v, k, b) = let same = written_once h k in (cc, cc)
+one_stamp text n o m p (w, h, a) (v, k, b) =
+    let same = written_once h k in
+    let e = (stamp_fields w n o a).1 in
+    let f = (stamp_fields v m p b).1 in
+    (cc, cc)
 
 -- ---- a timestamp is its two numbers, which lie in their ranges
 pub same_instant : (a b : Timestamp) → a.nanosecond ≡ b.nanosecond → a ≡ b

@@ -17,6 +17,7 @@ use Rattle.syslog_pieces.proofs.TimestampLemmas.Civil.{shows_fields}
 use Rattle.syslog_pieces.proofs.TimestampLemmas.Decimals.{fraction_text-is}
 use Rattle.syslog_pieces.proofs.TimestampLemmas.Printing.{absolute, printed_stamp-characters}
 use Rattle.syslog_pieces.proofs.TimestampLemmas.Range.{civil_fields_exist, in_range-at_offset, from_start}
+use Rattle.syslog_pieces.proofs.TimestampLemmas.Rfc3339.{fields_stamp, stamp_fields}
 
 -- ---- a printed offset
 
@@ -80,12 +81,7 @@ fields-read f n o from there range nanos zone =
     also fraction_text-is _ ends.0 ends.1 f.nanosecond there.nanosecond_in also zone also tt in (
       written_of vs,
       (vs, (ps, rw e (simp (append_assoc, append-nil)), each), refl),
-      record {
-        civil = rw same there;
-        instant = omega (arith, signed_arith, count);
-        at_offset = refl;
-        in_range = range;
-      },
+      fields_stamp (written_of vs) n o (rw same there) (omega (arith, signed_arith, count)) refl range,
     )
 
 pub printed_stamp-back : (s : OffsetTimestamp) → IsCanonicalStamp s
@@ -121,8 +117,9 @@ offset-canonical p q o (inr (vs, h, e)) = rw e (numeric-canonical p q vs h)
 pub shows_written : (w : Rfc3339Fields) (n o : ℤ) → HasRfc3339Stamp w n o
     → civil_fields (n +ℤ nanos_of_seconds o) ≡ fields_of_rfc3339 w
 shows_written w n o h =
-    shows_fields (fields_of_rfc3339 w) n o h.civil
-    (omega (arith, signed_arith, h.instant, ap nanos_of_seconds h.at_offset))
+    let (there, instant) = stamp_fields w n o h in
+    shows_fields (fields_of_rfc3339 w) n o there
+    (omega (arith, signed_arith, instant, ap nanos_of_seconds h.at_offset))
 
 pub stamp_text-canonical : (text : List ℕ) (s : OffsetTimestamp) → IsStampText text s → IsCanonicalStamp s
 stamp_text-canonical text s (w, (vs, h, e), stamp) =

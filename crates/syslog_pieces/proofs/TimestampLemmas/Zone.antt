@@ -8,10 +8,11 @@ use Rattle.jiff.specs.Words.{offset_at, ambiguous_at, IsFixed}
 use Rattle.jiff_tz.specs.Zone.{utc_offset}
 use Rattle.syslog_pieces.specs.Bodies.Clock.{zone_of}
 use Rattle.syslog_pieces.specs.Timestamp.Fields.{IsStampAt}
-use Rattle.syslog_pieces.specs.Timestamp.Zone.{earlier, IsStampOf, IsStampInGap, IsLocalStampOf, IsStampInAny}
-use Rattle.syslog_pieces.specs.Timestamp.Zone.{IsStampOfFields, civil_of, year_of}
+use Rattle.syslog_pieces.specs.Timestamp.Zone.{earlier, IsStampOf, IsStampInGap, IsStampInAny}
 use Rattle.syslog_pieces.proofs.TimestampLemmas.Rfc3339.{answer_same, same_timestamp, same_offset}
 use Rattle.syslog_pieces.proofs.TimestampLemmas.Civil.{civil_nanos-fields, civil-fields, datetime_of}
+use Rattle.syslog_pieces.specs.Bodies.Clock.{IsStampOfFields, civil_of, year_of}
+use Rattle.syslog_pieces.proofs.TimestampLemmas.Civil.{has_fields, is_datetime}
 
 -- fields name one datetime
 pub one_datetime : (f : CivilFields) (a b : DateTime) → fields_of a ≡ f → fields_of b ≡ f → a ≡ b
@@ -26,7 +27,8 @@ in_gap_once : (tz : TimeZone) (dt : DateTime) (s t : OffsetTimestamp) → IsStam
 in_gap_once tz dt s t h k = same_timestamp s t (cc) (cc)
 
 once_of : (a : AmbiguousOffset) (tz : TimeZone) (dt : DateTime) (s t : OffsetTimestamp)
-    → (IsStampOf a dt s → IsStampOf a dt t → s ≡ t) × (IsLocalStampOf a tz dt s → IsLocalStampOf a tz dt t → s ≡ t)
+    → (IsStampOf a dt (λ _. ⊥) s → IsStampOf a dt (λ _. ⊥) t → s ≡ t)
+    × (IsStampOf a dt (IsStampInGap tz dt) s → IsStampOf a dt (IsStampInGap tz dt) t → s ≡ t)
 once_of (Unambiguous offset) tz dt s t = (at_once dt offset s t, at_once dt offset s t)
 once_of (Gap before after) tz dt s t = (λ h k. absurd h, in_gap_once tz dt s t)
 once_of (Fold before after) tz dt s t = (at_once dt before s t, at_once dt before s t)
@@ -36,10 +38,23 @@ in_any_once : (tz : Option TimeZone) (local : TimeZone) (dt : DateTime) (s t : O
 in_any_once (Some tz) local dt s t = (once_of (ambiguous_at tz dt) tz dt s t).0
 in_any_once None local dt s t = (once_of (ambiguous_at local dt) local dt s t).1
 
+-- the timestamp of a month date is that of its civil fields in its year
+fields_in_year : (dating : Dating) (date : MonthDate) (s : OffsetTimestamp) → IsMonthStamp dating date s
+    → (year : ℤ) × (year_of date dating.year ≡ Some year)
+    × IsStampOfFields dating.zone dating.local (civil_of date year) s
+fields_in_year dating date s (year, dt, y, f, h) = (year, y, (dt, has_fields dt (civil_of date year) f, h))
+
+month_in_year : (dating : Dating) (date : MonthDate) (year : ℤ) (s : OffsetTimestamp)
+    → year_of date dating.year ≡ Some year → IsStampOfFields dating.zone dating.local (civil_of date year) s
+    → IsMonthStamp dating date s
+month_in_year dating date year s y (dt, e, h) = (year, dt, y, is_datetime dt (civil_of date year) e, h)
+
 -- a month date has one timestamp
 pub month_stamp_once : (dating : Dating) (date : MonthDate) (s t : OffsetTimestamp) → IsMonthStamp dating date s
     → IsMonthStamp dating date t → s ≡ t
-month_stamp_once dating date s t (year, y, (dt, f, h)) (year', y', (dt', f', h')) =
+month_stamp_once dating date s t a b =
+    let (year, y, (dt, f, h)) = fields_in_year dating date s a in
+    let (year', y', (dt', f', h')) = fields_in_year dating date t b in
     let same_year : year ≡ year' = cc in
     let same : dt ≡ dt' = one_datetime (civil_of date year') dt dt' (cc) f' in
     in_any_once dating.zone dating.local dt' s t (rw same at h) h'
@@ -49,7 +64,7 @@ month_stamp_once dating date s t (year, y, (dt, f, h)) (year', y', (dt', f', h')
 -- at the one offset, or at the one before a fold
 pub answer_at : (a : AmbiguousOffset) (tz : TimeZone) (dt : DateTime) (offset : Offset) (r : Option ClockStamp)
     → earlier a ≡ Some offset → IsAnswer (IsStampAt dt offset) r
-    → IsAnswer (IsStampOf a dt) r × IsAnswer (IsLocalStampOf a tz dt) r
+    → IsAnswer (IsStampOf a dt (λ _. ⊥)) r × IsAnswer (IsStampOf a dt (IsStampInGap tz dt)) r
 answer_at (Unambiguous o) tz dt offset r e h = let same : offset ≡ o = cc in let at = rw same at h in (at, at)
 answer_at (Gap before after) tz dt offset r e h = absurd (let s : None ≡ Some offset = e in cc)
 answer_at (Fold before after) tz dt offset r e h = let same : offset ≡ before = cc in let at = rw same at h in (at, at)
@@ -68,11 +83,13 @@ module _ (dating : Dating) (date : MonthDate) where
       → IsAnswer (IsStampOfFields dating.zone dating.local (civil_of date y)) r → IsAnswer (IsMonthStamp dating date) r
   answer_in_year y r e h =
       answer_same (IsStampOfFields dating.zone dating.local (civil_of date y)) (IsMonthStamp dating date) r
-      (λ s p. (y, e, p)) (λ s (y', e', p). (let same : y' ≡ y = cc in rw same at p)) h
+      (λ s p. month_in_year dating date y s e p)
+      (λ s k. (let (y', e', p) = fields_in_year dating date s k in let same : y' ≡ y = cc in rw same at p)) h
 
   -- no year, or one past the calendar's
   pub no_such_year : IfSome (year_of date dating.year) (λ y. pos 9999 <ℤ y) → IsAnswer (IsMonthStamp dating date) None
-  no_such_year n s (y, e, (dt, f, h)) =
+  no_such_year n s k =
+      let (y, e, (dt, f, h)) = fields_in_year dating date s k in
       let past : pos 9999 <ℤ y = subst (λ (x : Option ℤ). IfSome x (λ y. pos 9999 <ℤ y)) e n in
       let in_range = (civil-fields dt (civil_of date y) f).date in
       omega (arith, signed_arith, past, in_range.0)

@@ -1,8 +1,11 @@
 -- What the first bytes of a text are.
-use Rattle.std.specs.Prelude.{◌≡◌, ◌≢◌, ◌⊎◌, ℕ, ◌+◌, ◌<◌, false, List, ◌∷◌, ◌++◌, length, slice_index}
+use Rattle.std.specs.Prelude.{◌≡◌, ◌≢◌, ◌⊎◌, ℕ, ◌+◌, ◌<◌, Bool, false, nat_eq, List, ◌∷◌, ◌++◌, length, slice_index}
 use Rattle.std.specs.Char.{is_ascii_digit}
 use Rattle.jiff_fmt.specs.Text.{pad2}
 use Rattle.syslog_pieces.specs.Timestamp.Printed.{pad3}
+
+abbrev pub is_dot : ℕ → Bool
+is_dot c = nat_eq c 46
 
 -- a byte past white space
 abbrev pub BeginsVisibly : List ℕ → Type 0

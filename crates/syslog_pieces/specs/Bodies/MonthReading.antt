@@ -1,7 +1,8 @@
 -- In which parts a month date is read.
 use Rattle.std.specs.Prelude.{◌≡◌, ℕ, ◌-◌, ◌≤◌, ◌==◌, ◌&&◌, if◌then◌else◌, List, [], ◌∷◌, Option, Some, None, slice_get}
 use Rattle.std.specs.Char.{to_ascii_lowercase}
-use Rattle.syslog_pieces.specs.Pieces.Class.{Class, Values, some_run}
+use Rattle.syslog_pieces.specs.Pieces.Class.{Class, Division, Text, Values, optional, rest, run, some_run}
+use Rattle.syslog_pieces.specs.Pri.{priority}
 use Rattle.syslog_pieces.specs.Text.{is_blank, number}
 use Rattle.syslog_pieces.specs.Timestamp.MonthDate.{month, month_names, short_number, clock_row}
 use Rattle.syslog_pieces.specs.declared.timestamp.month_date.Clock.{Clock}
@@ -65,3 +66,14 @@ clock_values c more = (c.hour, (tt, (c.minute, (tt, (c.second, (more, tt))))))
 abbrev pub date_of : Option ℕ → Day → Clock → MonthDate
 date_of year d c =
     record { year = year; month = d.month; day = d.day; hour = c.hour; minute = c.minute; second = c.second }
+
+-- ---- what a text shows
+
+-- a priority or none, blanks or none, a month date of this kind, and anything
+abbrev pub showing_row : Class → List Class
+showing_row date = optional priority ∷ run is_blank ∷ date ∷ rest ∷ []
+
+-- the text is such a row, with this date of the class
+abbrev pub BeginsWithDate : (date : Class) → Text → date.Value → Type 0
+BeginsWithDate date text d =
+    (p : Option ℕ) × (more : Text) × Division (showing_row date) text (p, (tt, (d, (more, tt))))

@@ -1,7 +1,7 @@
 -- The theory of pieces: which piece may come before which text, with which meaning, and what it is to divide a text
 -- into pieces. A text is related to its pieces by concatenation alone: no definition has a position, and none says in
 -- which order a reader tries things.
-use Rattle.std.specs.Prelude.{◌≡◌, ◌⊎◌, ℕ, ◌<◌, Bool, true, false, List, [], ◌∷◌, ◌++◌, length, Option, Some, None}
+use Rattle.std.specs.Prelude.{◌≡◌, ◌⊎◌, ℕ, ◌<◌, Bool, true, false, List, [], ◌∷◌, ◌++◌, length, Option, MatchOption}
 
 -- a text: a list of Unicode scalar values
 abbrev pub Text : Type 0
@@ -90,13 +90,10 @@ exactly t = record { Value = Unit {0}; Is = λ p q _. p ≡ t }
 abbrev pub rest : Class
 rest = record { Value = Text; Is = λ p q v. (q ≡ []) × (v ≡ p) }
 
-abbrev pub IsOptional : (C : Class) → Text → Text → Option C.Value → Type 0
-IsOptional C p q None = (p ≡ []) × NoFront C q
-IsOptional C p q (Some v) = C.Is p q v
-
 -- a piece of the class, absent only where no front of what follows is of the class
 abbrev pub optional : Class → Class
-optional C = record { Value = Option C.Value; Is = IsOptional C }
+optional C =
+    record { Value = Option C.Value; Is = λ p q v. MatchOption v ((p ≡ []) × NoFront C q) (λ x. C.Is p q x) }
 
 -- ---- another meaning
 

@@ -15,7 +15,7 @@ param_value text p = (text p.0, text p.1)
 
 -- the element over texts of one over S
 abbrev pub element_value : {S : Type 0} → (S → Text) → StructuredElement S → ElementValue
-element_value text e = record { id = text e.id; params = map (param_value text) e.params.items }
+element_value text e = record { id = text e.id; params = map (λ p. (text p.0, text p.1)) e.params.items }
 
 -- ` name="value"`, the value as it is
 abbrev pub param_text : Text × Text → Text
@@ -32,7 +32,7 @@ joined_elements es = flat_map element_text es
 -- elements one after the other, or `-` where there are none
 abbrev pub elements_text : List ElementValue → Text
 elements_text [] = dash
-elements_text (e ∷ es) = joined_elements (e ∷ es)
+elements_text (e ∷ es) = flat_map element_text (e ∷ es)
 
 -- the texts of an element: its id, and the names and values
 abbrev pub element_texts : ElementValue → List Text

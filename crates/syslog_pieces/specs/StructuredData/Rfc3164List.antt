@@ -1,6 +1,6 @@
 -- The list of RFC 3164, which holds elements with parameters alone, and before which texts a dash is such a list. (All
 -- of it is this project's own choice.)
-use Rattle.std.specs.Prelude.{◌≡◌, ◌<◌, ◌⊎◌, ⊤, true, List, [], ◌∷◌, length, Option, Some, None}
+use Rattle.std.specs.Prelude.{◌≡◌, ◌<◌, ◌⊎◌, ⊤, true, List, [], ◌∷◌, length, Option, unwrap_or}
 use Rattle.syslog_pieces.specs.Pieces.Class.{Text, Class, NoFront}
 use Rattle.syslog_pieces.specs.Pieces.Lists.{many}
 use Rattle.syslog_pieces.specs.StructuredData.{element}
@@ -34,5 +34,4 @@ BeginsNoList rule text = ((q : Text) → text ≡ 45 ∷ q → IsDashBefore rule
 
 -- the elements of a list that may be absent
 abbrev pub elements_or : Option (List ElementValue) → List ElementValue
-elements_or None = []
-elements_or (Some es) = es
+elements_or es = unwrap_or es []

@@ -1,5 +1,5 @@
 -- Civil fields as numbers, the datetime that they name, and its stamp at an offset.
-use Rattle.std.specs.Prelude.{◌≡◌, ℤ, pos, ◌+◌, ◌*◌, ◌<◌, ◌+ℤ◌, ◌*ℤ◌}
+use Rattle.std.specs.Prelude.{◌≡◌, ℕ, ℤ, pos, ◌+◌, ◌*◌, ◌<◌, ◌+ℤ◌, ◌*ℤ◌}
 use Rattle.jiff.specs.Types.{DateTime, Offset}
 use Rattle.jiff.specs.Words.{instant_of}
 use Rattle.jiff_core.specs.Calendar.{IsCivilDate, days_from_civil}
@@ -31,6 +31,16 @@ abbrev pub nanos_of_fields : CivilFields → ℤ
 nanos_of_fields f =
     days_from_civil f.year f.month f.day *ℤ pos 86_400_000_000_000
     +ℤ pos ((f.hour * 3600 + f.minute * 60 + f.second) * 1_000_000_000 + f.nanosecond)
+
+-- the datetime has this date and this time of day
+pub record IsDateTime (dt : DateTime) (year : ℤ) (month day hour minute second nanosecond : ℕ) : Type 0 where
+  pub year_is : dt.date.year ≡ year
+  pub month_is : dt.date.month ≡ month
+  pub day_is : dt.date.day ≡ day
+  pub hour_is : dt.time.hour ≡ hour
+  pub minute_is : dt.time.minute ≡ minute
+  pub second_is : dt.time.second ≡ second
+  pub nanosecond_is : dt.time.subsec_nanosecond ≡ nanosecond
 
 -- the instant at which a clock at the offset shows the datetime
 pub record IsStampAt (dt : DateTime) (offset : Offset) (s : OffsetTimestamp) : Type 0 where

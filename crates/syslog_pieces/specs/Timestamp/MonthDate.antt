@@ -1,17 +1,16 @@
 -- Month dates: the dates of RFC 3164, which have no offset and may have no year. (RFC 3164 section 4.1.2 has one form
 -- of them; the year, the blanks and the last colon are this project's own choice.)
-use Rattle.std.specs.Prelude.{◌≡◌, ℕ, ◌+◌, List, [], ◌∷◌, Some, None, map, slice_get}
+use Rattle.std.specs.Prelude.{◌≡◌, ℕ, ◌+◌, List, [], ◌∷◌, Some, None, codes, map, slice_get}
 use Rattle.std.specs.Char.{to_ascii_lowercase}
 use Rattle.syslog_pieces.specs.Pieces.Class.{Text, Class, Values, Row, some_run, exactly, optional, mapped, either}
 use Rattle.syslog_pieces.specs.Text.{is_blank, number, colon}
 use Rattle.syslog_pieces.specs.declared.timestamp.month_date.MonthDate.{MonthDate}
 
--- the names of the months in small letters: jan, feb, mar, apr, may, jun, jul, aug, sep, oct, nov, dec
+-- the names of the months in small letters
 abbrev pub month_names : List Text
 month_names =
-    (106 ∷ 97 ∷ 110 ∷ []) ∷ (102 ∷ 101 ∷ 98 ∷ []) ∷ (109 ∷ 97 ∷ 114 ∷ []) ∷ (97 ∷ 112 ∷ 114 ∷ [])
-    ∷ (109 ∷ 97 ∷ 121 ∷ []) ∷ (106 ∷ 117 ∷ 110 ∷ []) ∷ (106 ∷ 117 ∷ 108 ∷ []) ∷ (97 ∷ 117 ∷ 103 ∷ [])
-    ∷ (115 ∷ 101 ∷ 112 ∷ []) ∷ (111 ∷ 99 ∷ 116 ∷ []) ∷ (110 ∷ 111 ∷ 118 ∷ []) ∷ (100 ∷ 101 ∷ 99 ∷ []) ∷ []
+    codes "jan" ∷ codes "feb" ∷ codes "mar" ∷ codes "apr" ∷ codes "may" ∷ codes "jun" ∷ codes "jul" ∷ codes "aug"
+    ∷ codes "sep" ∷ codes "oct" ∷ codes "nov" ∷ codes "dec" ∷ []
 
 -- the name of month n, from 1 on, in letters of either case
 abbrev pub IsMonthName : Text → ℕ → Type 0
@@ -49,10 +48,6 @@ abbrev pub dated_of : Values dated_row → MonthDate
 dated_of (m, (_, (d, (_, (y, (_, (h, (_, (n, (_, (s, (_, _)))))))))))) =
     record { year = Some y; month = m; day = d; hour = h; minute = n; second = s }
 
--- a month date with a year
-abbrev pub dated_date : Class
-dated_date = mapped (Row dated_row) MonthDate dated_of
-
 -- a month date of either form
 abbrev pub month_date : Class
-month_date = either MonthDate yearless_date.Is dated_date.Is
+month_date = either MonthDate yearless_date.Is (mapped (Row dated_row) MonthDate dated_of).Is

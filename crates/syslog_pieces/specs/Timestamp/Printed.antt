@@ -15,10 +15,6 @@ months_within year zero days = 0
 months_within year (suc n) days =
     if nat_le (days_of_months year (suc n)) days then suc n else months_within year n days
 
--- how many days of the year lie before the day with this number
-abbrev pub place_in_year : ℤ → ℤ → ℕ
-place_in_year year day = unsigned_abs (day -ℤ days_from_civil year 1 1)
-
 -- the fields in a year at a place in it, so many nanoseconds after midnight
 unfoldable pub place_fields : ℤ → ℕ → ℕ → CivilFields
 place_fields year place nanos =
@@ -33,14 +29,12 @@ place_fields year place nanos =
       nanosecond = nanos % 1_000_000_000;
     }
 
--- the same of a day, by its number from 1970-01-01 on
-abbrev pub day_fields : ℤ → ℕ → CivilFields
-day_fields day nanos = place_fields (year_of_day day) (place_in_year (year_of_day day) day) nanos
-
 -- the civil fields so many nanoseconds after 1970-01-01T00:00:00
 unfoldable pub civil_fields : ℤ → CivilFields
 civil_fields nanos =
-    day_fields (int_div_euclid nanos (pos 86_400_000_000_000))
+    let day = int_div_euclid nanos (pos 86_400_000_000_000) in
+    let year = year_of_day day in
+    place_fields year (unsigned_abs (day -ℤ days_from_civil year 1 1))
     (unsigned_abs (int_rem_euclid nanos (pos 86_400_000_000_000)))
 
 -- a number below 1000, in three digits
@@ -60,36 +54,25 @@ abbrev pub offset_sign : ℤ → ℕ
 offset_sign (pos n) = 43
 offset_sign (negsuc n) = 45
 
--- the absolute value to the nearest minute, 30 seconds going up
-abbrev pub rounded_minutes : ℤ → ℕ
-rounded_minutes seconds = (unsigned_abs seconds + 30) / 60
-
--- a sign and `HH:MM`
+-- a sign and `HH:MM`, to the nearest minute, 30 seconds going up
 unfoldable pub offset_text : ℤ → List ℕ
 offset_text seconds =
-    offset_sign seconds ∷ pad2 (rounded_minutes seconds / 60) ++ 58 ∷ pad2 (rounded_minutes seconds % 60)
+    let minutes = (unsigned_abs seconds + 30) / 60 in
+    offset_sign seconds ∷ pad2 (minutes / 60) ++ 58 ∷ pad2 (minutes % 60)
 
 -- `-` in front of a negative year
 abbrev pub year_sign : ℤ → List ℕ
 year_sign (pos n) = []
 year_sign (negsuc n) = 45 ∷ []
 
--- `YYYY-MM-DDTHH:MM:SS` in a year that is not negative
-abbrev pub unsigned_date_time : ℕ → ℕ → ℕ → ℕ → ℕ → ℕ → List ℕ
-unsigned_date_time year month day hour minute second =
-    pad4 year ++ (45 ∷ pad2 month ++ (45 ∷ pad2 day
-    ++ (84 ∷ pad2 hour ++ (58 ∷ pad2 minute ++ (58 ∷ pad2 second)))))
-
--- the same after a sign, if the year has one
+-- `YYYY-MM-DDTHH:MM:SS`, after the year's sign if it has one
 unfoldable pub date_time_text : CivilFields → List ℕ
 date_time_text f =
-    year_sign f.year
-    ++ unsigned_date_time (unsigned_abs f.year) f.month f.day f.hour f.minute f.second
-
--- date and time, fraction, offset
-abbrev pub fields_text : CivilFields → ℤ → List ℕ
-fields_text f seconds = date_time_text f ++ (fraction_text f.nanosecond ++ offset_text seconds)
+    year_sign f.year ++ (pad4 (unsigned_abs f.year) ++ (45 ∷ pad2 f.month ++ (45 ∷ pad2 f.day
+    ++ (84 ∷ pad2 f.hour ++ (58 ∷ pad2 f.minute ++ (58 ∷ pad2 f.second))))))
 
 -- what a clock at the offset o, in seconds, shows at the instant n, in nanoseconds, and the offset
 unfoldable pub printed_stamp : ℤ → ℤ → List ℕ
-printed_stamp n o = fields_text (civil_fields (n +ℤ nanos_of_seconds o)) o
+printed_stamp n o =
+    let shown = civil_fields (n +ℤ nanos_of_seconds o) in
+    date_time_text shown ++ (fraction_text shown.nanosecond ++ offset_text o)

@@ -1,5 +1,5 @@
 -- The timestamp of a header of RFC 3164, and the month date that a text shows.
-use Rattle.std.specs.Prelude.{ℕ, List, [], ◌∷◌, Option, Some, None}
+use Rattle.std.specs.Prelude.{ℕ, List, [], ◌∷◌, Option, MatchOption}
 use Rattle.syslog_pieces.specs.Pieces.Class.{Text, Class, Division, run, rest, optional, either}
 use Rattle.syslog_pieces.specs.Pri.{priority}
 use Rattle.syslog_pieces.specs.Text.{trimmed, is_blank}
@@ -9,29 +9,17 @@ use Rattle.syslog_pieces.specs.Timestamp.Zone.{Dating, IsMonthStamp}
 use Rattle.syslog_pieces.specs.declared.timestamp.OffsetTimestamp.{OffsetTimestamp}
 use Rattle.syslog_pieces.specs.declared.timestamp.month_date.MonthDate.{MonthDate}
 
--- a month date that has this timestamp
-abbrev pub IsStampedDate : Dating → Text → Text → Option OffsetTimestamp → Type 0
-IsStampedDate dating p q None = ⊥
-IsStampedDate dating p q (Some s) = (date : MonthDate) × month_date.Is p q date × IsMonthStamp dating date s
-
 -- `-`, a whole RFC 3339 text before a space, or a month date that has a timestamp
 abbrev pub rfc3164_stamp : Dating → Class
-rfc3164_stamp dating = either (Option OffsetTimestamp) header_stamp.Is (IsStampedDate dating)
+rfc3164_stamp dating = either (Option OffsetTimestamp) header_stamp.Is
+    (λ p q v. MatchOption v ⊥ (λ s. (date : MonthDate) × month_date.Is p q date × IsMonthStamp dating date s))
 
 -- ---- what a text shows
 
--- a priority or none, blanks or none, a month date of this kind, and anything
-abbrev pub showing_row : Class → List Class
-showing_row date = optional priority ∷ run is_blank ∷ date ∷ rest ∷ []
-
--- the text is such a row, with this date of the class
-abbrev pub BeginsWithDate : (date : Class) → Text → date.Value → Type 0
-BeginsWithDate date text d =
-    (p : Option ℕ) × (more : Text) × Division (showing_row date) text (p, (tt, (d, (more, tt))))
-
--- the trimmed text shows this date of the class
+-- the trimmed text is a priority or none, blanks or none, this date of the class, and anything
 abbrev pub ShowsOf : (date : Class) → Text → date.Value → Type 0
-ShowsOf date text d = BeginsWithDate date (trimmed text) d
+ShowsOf date text d = (p : Option ℕ) × (more : Text)
+    × Division (optional priority ∷ run is_blank ∷ date ∷ rest ∷ []) (trimmed text) (p, (tt, (d, (more, tt))))
 
 -- the text shows this month date without a year
 abbrev pub ShowsYearless : Text → MonthDate → Type 0

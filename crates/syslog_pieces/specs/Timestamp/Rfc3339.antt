@@ -3,13 +3,13 @@
 use Rattle.std.specs.Prelude.{◌≡◌, ◌⊎◌, ℕ, ℤ, pos, neg_ℤ, ◌+◌, ◌*◌, ◌<◌, ◌-ℤ◌, min, Bool, nat_eq, if◌then◌else◌, List}
 use Rattle.std.specs.Prelude.{[], ◌∷◌}
 use Rattle.std.specs.Char.{is_ascii_digit}
-use Rattle.jiff.specs.Words.{IsTimestampNanos, nanos_of_seconds}
+use Rattle.jiff.specs.Types.{DateTime}
+use Rattle.jiff.specs.Words.{IsTimestampNanos, civil_nanos, nanos_of_seconds}
 use Rattle.jiff_fmt.specs.Reader.{fraction_value}
 use Rattle.jiff_fmt.specs.Text.{pad2, pad4}
 use Rattle.syslog_pieces.specs.Pieces.Class.{Text, Class, Values, Row, Ends, some_run, after, either, mapped, texted}
-use Rattle.syslog_pieces.specs.declared.timestamp.fields.CivilFields.{CivilFields}
 use Rattle.syslog_pieces.specs.declared.timestamp.rfc3339_text.Rfc3339Fields.{Rfc3339Fields}
-use Rattle.syslog_pieces.specs.Timestamp.Fields.{AreCivil, nanos_of_fields}
+use Rattle.syslog_pieces.specs.Timestamp.Fields.{IsDateTime}
 
 -- two digits, of a number below a limit
 abbrev pub pair : ℕ → Class
@@ -27,16 +27,9 @@ letter upper = record { Value = Unit {0}; Is = λ p q _. (p ≡ upper ∷ []) �
 abbrev pub decimals : Class
 decimals = mapped (texted (some_run is_ascii_digit)) ℕ (λ ds. fraction_value 9 ds)
 
-abbrev pub is_dot : ℕ → Bool
-is_dot c = nat_eq c 46
-
 -- a dot and decimals, or nothing before what is no dot
 abbrev pub fraction : Class
-fraction = either ℕ (λ p q n. (p ≡ []) × Ends is_dot q × (n ≡ 0)) (after 46 decimals).Is
-
--- `Z`
-abbrev pub zulu : Class
-zulu = mapped (letter 90) ℤ (λ _. pos 0)
+fraction = either ℕ (λ p q n. (p ≡ []) × Ends (λ c. nat_eq c 46) q × (n ≡ 0)) (after 46 decimals).Is
 
 -- `-` or `+`, and whether it is `-`
 abbrev pub sign : Class
@@ -52,7 +45,7 @@ seconds_of (behind, (hours, (minutes, _))) =
 
 -- `Z`, or a sign and `HH:MM`: in seconds
 abbrev pub offset : Class
-offset = either ℤ zulu.Is (mapped (Row numeric_row) ℤ seconds_of).Is
+offset = either ℤ (mapped (letter 90) ℤ (λ _. pos 0)).Is (mapped (Row numeric_row) ℤ seconds_of).Is
 
 -- `YYYY-MM-DD`, `T`, `HH:MM:SS`, the fraction and the offset
 abbrev pub stamp_row : List Class
@@ -76,22 +69,11 @@ written_of (y, (m, (d, (_, (h, (mi, (s, (n, (o, _))))))))) = record {
 abbrev pub stamp_text : Class
 stamp_text = mapped (Row stamp_row) Rfc3339Fields written_of
 
--- the civil fields, where second 60 is taken as 59
-abbrev pub fields_of_rfc3339 : Rfc3339Fields → CivilFields
-fields_of_rfc3339 w = record {
-  year = pos w.year;
-  month = w.month;
-  day = w.day;
-  hour = w.hour;
-  minute = w.minute;
-  second = min w.second 59;
-  nanosecond = w.nanosecond;
-}
-
--- there is such a date and time of day, n is its instant at the offset o, and n is in range
+-- there is such a date and time of day, where second 60 is taken as 59; n is its instant at the offset o, and in range
 pub record HasRfc3339Stamp (w : Rfc3339Fields) (n o : ℤ) : Type 0 where
-  pub civil : AreCivil (fields_of_rfc3339 w)
-  pub instant : n ≡ nanos_of_fields (fields_of_rfc3339 w) -ℤ nanos_of_seconds w.offset
+  pub shown : DateTime
+  pub shows : IsDateTime shown (pos w.year) w.month w.day w.hour w.minute (min w.second 59) w.nanosecond
+  pub instant : n ≡ civil_nanos shown -ℤ nanos_of_seconds w.offset
   pub at_offset : o ≡ w.offset
   pub in_range : IsTimestampNanos n
 

@@ -6,6 +6,7 @@ ghost use Rattle.jiff.specs.Words.{IsOffsetSeconds};
 ghost use Rattle.syslog_pieces.specs.Pieces.{Reads, ReadsBytes};
 ghost use Rattle.syslog_pieces.specs.Timestamp.{IsAnswer, IsStampOfRfc3339};
 ghost use Rattle.syslog_pieces.specs.Timestamp.Rfc3339 as spec;
+ghost use Rattle.syslog_pieces.specs.Bodies.Clock.{fields_of_rfc3339};
 
 use super::ClockStamp;
 use super::digits::{after_letter, four_digits, fraction, pair, pair_after};
@@ -39,7 +40,7 @@ pub fn stamp(written: Rfc3339Fields) -> Option<ClockStamp>
 // A leap second has no place of its own on the clock, so it counts as the second before.
 #[inline(always)]
 fn fields_of(written: Rfc3339Fields) -> CivilFields
-    ensures { result ≡ spec.fields_of_rfc3339 written }
+    ensures { result ≡ fields_of_rfc3339 written }
 {
     CivilFields {
         year: i32::from(written.year),

@@ -9,6 +9,8 @@ ghost use Rattle.syslog_pieces.specs.Timestamp.{IsAnswer, clock_value};
 ghost use Rattle.syslog_pieces.specs.Timestamp.Fields.{fields_of};
 ghost use Rattle.syslog_pieces.specs.Bodies.Clock.{zone_of as one_zone};
 ghost use Rattle.syslog_pieces.specs.Timestamp.Zone as spec;
+ghost use Rattle.std.specs.Prelude.{option_map};
+ghost use Rattle.syslog_pieces.specs.Bodies.Clock.{IsStampOfFields, civil_of, year_of as shown_year};
 
 use super::ClockStamp;
 use super::fields::{CivilFields, datetime_fields};
@@ -49,7 +51,7 @@ pub fn month_stamp(date: MonthDate, dating: &Dating<'_, '_>) -> Option<ClockStam
 #[inline(always)]
 fn zone_of<'a, 'z>(dating: &Dating<'a, 'z>) -> &'a TimeZone<'z>
     ensures { plain_zone result.now
-        ≡ one_zone (spec.given_zone dating.entry.now.tz) (plain_zone dating.entry.now.local.now) }
+        ≡ one_zone (spec.dating_value dating.entry.now).zone (spec.dating_value dating.entry.now).local }
 {
     match dating.tz {
         Some(tz) => tz,
@@ -60,7 +62,7 @@ fn zone_of<'a, 'z>(dating: &Dating<'a, 'z>) -> &'a TimeZone<'z>
 // The civil fields of the month date in a year.
 #[inline(always)]
 fn fields_in(date: MonthDate, year: i32) -> CivilFields
-    ensures { result ≡ spec.civil_of date year }
+    ensures { result ≡ civil_of date year }
 {
     CivilFields {
         year,
@@ -83,8 +85,8 @@ pub fn year_at(now: Timestamp, local: &TimeZone<'_>) -> i32
 // The year that the date shows, or else the one that is handed in.
 #[inline(always)]
 fn year_of(date: MonthDate, year: Option<i32>) -> Option<i32>
-    ensures value { IfSome result (λ y. spec.year_of date year ≡ Some y) }
-    ensures none { IsNone result → IfSome (spec.year_of date year) (λ y. pos 9999 <ℤ y) }
+    ensures value { IfSome result (λ y. shown_year date year ≡ Some y) }
+    ensures none { IsNone result → IfSome (shown_year date year) (λ y. pos 9999 <ℤ y) }
 {
     match date.year {
         Some(shown) => i32::try_from(shown).ok(),
@@ -98,7 +100,8 @@ fn of_fields(
     tz: Option<&TimeZone<'_>>,
     local: &TimeZone<'_>,
 ) -> Option<ClockStamp>
-    ensures { IsAnswer (spec.IsStampOfFields (spec.given_zone tz.entry) (plain_zone local.now) fields) result }
+    ensures { IsAnswer (IsStampOfFields (option_map (λ z. plain_zone z.now) tz.entry) (plain_zone local.now) fields)
+        result }
 {
     let dt = fields.datetime()?;
     match tz {
@@ -122,7 +125,7 @@ fn offset_before(dt: DateTime, tz: &TimeZone<'_>) -> Option<Offset>
 // In the zone that is given.
 fn in_zone(fields: CivilFields, dt: DateTime, tz: &TimeZone<'_>) -> Option<ClockStamp>
     requires { fields_of dt ≡ fields }
-    ensures { IsAnswer (spec.IsStampIn (plain_zone tz.now) dt) result }
+    ensures { IsAnswer (spec.IsStampOf (ambiguous_at (plain_zone tz.now) dt) dt (λ _. ⊥)) result }
 {
     let offset = offset_before(dt, tz)?;
     clock_stamp(fields, offset)
@@ -131,7 +134,8 @@ fn in_zone(fields: CivilFields, dt: DateTime, tz: &TimeZone<'_>) -> Option<Clock
 // In the local zone.
 fn in_local(fields: CivilFields, dt: DateTime, local: &TimeZone<'_>) -> Option<ClockStamp>
     requires { fields_of dt ≡ fields }
-    ensures { IsAnswer (spec.IsLocalStampIn (plain_zone local.now) dt) result }
+    ensures { IsAnswer (spec.IsStampOf (ambiguous_at (plain_zone local.now) dt) dt
+        (spec.IsStampInGap (plain_zone local.now) dt)) result }
 {
     match offset_before(dt, local) {
         Some(offset) => clock_stamp(fields, offset),

@@ -15,3 +15,6 @@ returns-clause-itself g c = (answered_in c.args.tz c.args.local _ (returns-claus
 
 pub returns-clause-fields : goal.returns-clause-fields
 returns-clause-fields g c = (answered_in c.args.tz c.args.local _ (returns-clause-reads g c)).fields
+
+pub returns-clause-quotes : goal.returns-clause-quotes
+returns-clause-quotes g c = (answered_in c.args.tz c.args.local _ (returns-clause-reads g c)).quotes

@@ -2,6 +2,7 @@ use Rattle.syslog_loose.proofs.Names.{refl, false_is, no_truth, each_both, each_
 use Rattle.syslog_loose.proofs.Names.{is_open_char}
 use Rattle.syslog_pieces.proofs.ProcIdLemmas.ReadBack.{no_number_told}
 use Rattle.syslog_loose.proofs.message.canonical.is_bracketed_name.Goals as goal
+use Rattle.std.specs.Str.{chars}
 
 pub returns-then-not-is_some_of : goal.returns-then-not-is_some_of
 returns-then-not-is_some_of c =
@@ -15,5 +16,5 @@ pub returns : goal.returns
 returns c =
     let (long, tags) = c.if-not-is_some_of.ensures.0 refl in
     let unclosed = c.if-not-is_only.ensures.0 refl in
-    let number = no_number_told _ _ c.names_number.ensures in
+    let number = no_number_told (chars c.args.name.now) _ c.names_number.ensures in
     ((λ h. (long, each_both is_tag_char is_open_char _ tags unclosed, number.0 h)), (λ h. number.1 h.2))

@@ -1,0 +1,18 @@
+-- The bound of a protocol's version, and the dates that the closure for years is asked of.
+use Rattle.std.specs.Prelude.{⊤, ◌<◌, ◌≤◌, ◌^◌}
+use Rattle.syslog_pieces.specs.declared.timestamp.month_date.MonthDate.{MonthDate}
+use Rattle.syslog_loose.specs.Reading.{IncompleteDate}
+use Rattle.syslog_loose.specs.declared.message.Protocol.{Protocol}
+use Rattle.syslog_loose.specs.declared.message.Protocol.TheVariants.{RFC3164, RFC5424}
+
+-- a version has 32 bits
+abbrev pub IsBoundedProtocol : Protocol → Type 0
+IsBoundedProtocol p = elim p as (λ _. Type 0) [ RFC3164 ↦ ⊤ | RFC5424 version ↦ version < 2 ^ 32 ]
+
+-- the date as the closure that gives years takes it
+abbrev pub incomplete : MonthDate → IncompleteDate
+incomplete date = (date.month, date.day, date.hour, date.minute, date.second)
+
+-- the month is one of twelve, and the numbers have 32 bits
+abbrev pub HasMonth : IncompleteDate → Type 0
+HasMonth d = (1 ≤ d.0) × (d.0 ≤ 12) × (d.1 < 2 ^ 32) × (d.2 < 2 ^ 32) × (d.3 < 2 ^ 32) × (d.4 < 2 ^ 32)

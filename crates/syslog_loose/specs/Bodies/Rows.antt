@@ -1,0 +1,47 @@
+-- In which parts the two headers are read.
+use Rattle.std.specs.Prelude.{List, [], ◌∷◌, ◌++◌}
+use Rattle.syslog_pieces.specs.Pieces.Class.{Text, Class, Values, Front, Row, run, some_run, rest}
+use Rattle.syslog_pieces.specs.Pieces.Class.{exactly, optional, spaced}
+use Rattle.syslog_pieces.specs.Pri.{priority}
+use Rattle.syslog_pieces.specs.ProcId.{process_word}
+use Rattle.syslog_pieces.specs.StructuredData.{forgiving}
+use Rattle.syslog_pieces.specs.StructuredData.Rfc3164List.{rfc3164_list}
+use Rattle.syslog_pieces.specs.Text.{is_blank, number, colon, host, word, tag_word}
+use Rattle.syslog_pieces.specs.Timestamp.{header_stamp}
+use Rattle.syslog_pieces.specs.Timestamp.Rfc3164.{rfc3164_stamp}
+use Rattle.syslog_pieces.specs.Timestamp.Zone.{Dating}
+use Rattle.syslog_pieces.specs.declared.structured_data.rfc3164_list.DashRule.{DashRule}
+use Rattle.syslog_loose.specs.Rfc3164.{Names3164, Resolves}
+
+-- ---- of RFC 5424
+
+-- priority, version, timestamp, host, app name, process id, message id, with blanks between two
+abbrev pub header_row : List Class
+header_row =
+    optional priority ∷ number 4294967295 ∷ some_run is_blank ∷ header_stamp ∷ some_run is_blank ∷ host
+    ∷ some_run is_blank ∷ word ∷ some_run is_blank ∷ process_word ∷ some_run is_blank ∷ word ∷ []
+
+-- the elements and the message, with blanks or none before each
+abbrev pub data_row : List Class
+data_row = run is_blank ∷ forgiving ∷ run is_blank ∷ rest ∷ []
+
+-- ---- of RFC 3164
+
+-- the pieces that can fail: a priority or none, blanks or none, a timestamp
+abbrev pub stamped_row : Dating → List Class
+stamped_row dating = optional priority ∷ run is_blank ∷ rfc3164_stamp dating ∷ []
+
+-- the fields of names and a colon, with blanks or none after them
+abbrev pub fields_row : List Class
+fields_row =
+    optional (spaced host) ∷ optional (spaced tag_word) ∷ run is_blank ∷ optional (exactly colon) ∷ run is_blank ∷ []
+
+-- these, the list and the message, with blanks or none between them
+abbrev pub body_row : DashRule → List Class
+body_row rule = fields_row ++ (optional (rfc3164_list rule) ∷ run is_blank ∷ rest ∷ [])
+
+-- such fields begin the text, and mean these names
+pub record ReadsNames (text behind : Text) (n : Names3164) : Type 0 where
+  pub values : Values fields_row
+  pub front : Front (Row fields_row) text behind values
+  pub means : Resolves values.0 values.1.0 n
