@@ -194,16 +194,6 @@ impl Ascii {
         }
     }
 
-    // What a clock at the offset shows.
-    fn stamp(fields: CivilFields, offset: Offset) -> Ascii
-        requires { AreCivil fields }
-        ensures { ascii_bytes result ≡ fields_text fields offset.seconds }
-    {
-        let mut stamp = Ascii::empty();
-        stamp.push_fields(fields, offset);
-        stamp
-    }
-
     /// The front of a line: the priority, the version of RFC 5424, a space and the timestamp.
     #[inline(always)]
     pub fn front(priority: u32, version: Option<u32>, timestamp: Option<ClockStamp>) -> Ascii
@@ -255,7 +245,8 @@ impl fmt::Display for OffsetTimestamp {
 
     fn fmt<W: fmt::Write>(&self, f: &mut fmt::Formatter<W>) -> fmt::Result {
         let dt = self.offset.to_datetime(self.instant);
-        let text = Ascii::stamp(datetime_fields(dt), self.offset);
+        let mut text = Ascii::empty();
+        text.push_fields(datetime_fields(dt), self.offset);
         f.write_str(text.as_str())
     }
 }

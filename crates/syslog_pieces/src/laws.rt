@@ -99,7 +99,7 @@ pub fn printed_stamp_is_one_word()
 {}
 
 /// A text has one split into units.
-#[tactic(auto, using(crate::proofs::StructuredDataLemmas::Units::split_one))]
+#[tactic(auto, using(crate::proofs::StructuredDataLemmas::Units::split_one, crate::proofs::StructuredDataLemmas::Units::split_there))]
 pub fn text_has_one_split()
     ensures there { (text : Text) → (units : List TextUnit) × (lone : Bool) × SplitsUnits text units lone }
     ensures one { (text : Text) (units others : List TextUnit) (lone last : Bool)

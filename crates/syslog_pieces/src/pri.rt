@@ -53,37 +53,24 @@ pub enum SyslogSeverity {
     SEV_DEBUG = 7,
 }
 
+// The name of each facility, by its number.
+static FACILITY_NAMES: [&str; 24] = [
+    "kern", "user", "mail", "daemon", "auth", "syslog", "lpr", "news", "uucp", "cron", "authpriv",
+    "ftp", "ntp", "audit", "alert", "clockd", "local0", "local1", "local2", "local3", "local4",
+    "local5", "local6", "local7",
+];
+
+// The name of each severity, by its number.
+static SEVERITY_NAMES: [&str; 8] = [
+    "emerg", "alert", "crit", "err", "warning", "notice", "info", "debug",
+];
+
 impl SyslogFacility {
     /// The name, as `auth`; no two have the same one. Takes no memory.
     pub fn as_str(self) -> &'static str
         ensures { result.now ≡ encode_utf8_all (spec.facility_name self) }
     {
-        match self {
-            SyslogFacility::LOG_KERN => "kern",
-            SyslogFacility::LOG_USER => "user",
-            SyslogFacility::LOG_MAIL => "mail",
-            SyslogFacility::LOG_DAEMON => "daemon",
-            SyslogFacility::LOG_AUTH => "auth",
-            SyslogFacility::LOG_SYSLOG => "syslog",
-            SyslogFacility::LOG_LPR => "lpr",
-            SyslogFacility::LOG_NEWS => "news",
-            SyslogFacility::LOG_UUCP => "uucp",
-            SyslogFacility::LOG_CRON => "cron",
-            SyslogFacility::LOG_AUTHPRIV => "authpriv",
-            SyslogFacility::LOG_FTP => "ftp",
-            SyslogFacility::LOG_NTP => "ntp",
-            SyslogFacility::LOG_AUDIT => "audit",
-            SyslogFacility::LOG_ALERT => "alert",
-            SyslogFacility::LOG_CLOCKD => "clockd",
-            SyslogFacility::LOG_LOCAL0 => "local0",
-            SyslogFacility::LOG_LOCAL1 => "local1",
-            SyslogFacility::LOG_LOCAL2 => "local2",
-            SyslogFacility::LOG_LOCAL3 => "local3",
-            SyslogFacility::LOG_LOCAL4 => "local4",
-            SyslogFacility::LOG_LOCAL5 => "local5",
-            SyslogFacility::LOG_LOCAL6 => "local6",
-            SyslogFacility::LOG_LOCAL7 => "local7",
-        }
+        FACILITY_NAMES[self as usize]
     }
 }
 
@@ -92,16 +79,7 @@ impl SyslogSeverity {
     pub fn as_str(self) -> &'static str
         ensures { result.now ≡ encode_utf8_all (spec.severity_name self) }
     {
-        match self {
-            SyslogSeverity::SEV_EMERG => "emerg",
-            SyslogSeverity::SEV_ALERT => "alert",
-            SyslogSeverity::SEV_CRIT => "crit",
-            SyslogSeverity::SEV_ERR => "err",
-            SyslogSeverity::SEV_WARNING => "warning",
-            SyslogSeverity::SEV_NOTICE => "notice",
-            SyslogSeverity::SEV_INFO => "info",
-            SyslogSeverity::SEV_DEBUG => "debug",
-        }
+        SEVERITY_NAMES[self as usize]
     }
 }
 

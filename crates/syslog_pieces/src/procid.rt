@@ -116,6 +116,7 @@ fn any_process(text: &str) -> ProcId<&str>
 }
 
 /// Whether no sign and no zero is before other characters: then it is printed as what it names.
+#[tactic(auto, using(crate::proofs::ProcIdLemmas::bare_word))]
 #[inline(always)]
 pub fn is_bare_word(name: &str) -> bool
     ensures { IsTrue result → IsBareWord (chars name.now) }

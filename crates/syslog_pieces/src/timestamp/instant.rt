@@ -92,6 +92,8 @@ fn is_there(
 }
 
 impl ClockStamp {
+    ghost use Rattle.std.specs.Int.{int_div_euclid, int_rem_euclid};
+
     /// The timestamp: the instant at which the clock shows the fields, and the offset.
     #[inline(always)]
     pub fn stamp(self) -> OffsetTimestamp
@@ -102,10 +104,6 @@ impl ClockStamp {
             offset: self.offset,
         }
     }
-}
-
-impl ClockStamp {
-    ghost use Rattle.std.specs.Int.{int_div_euclid, int_rem_euclid};
 
     /// Returns the whole seconds from 1970 to its instant, rounded down, and the nanoseconds after them.
     #[inline(always)]
@@ -147,7 +145,7 @@ fn nanosecond(fields: CivilFields, offset: Offset) -> i128
     requires { AreCivil fields }
     ensures { result ≡ nanos_of_fields fields -ℤ nanos_of_seconds offset.seconds }
 {
-    nanosecond_at(second_of(fields, offset), fields.nanosecond)
+    i128::from(second_of(fields, offset)) * 1_000_000_000 + i128::from(fields.nanosecond)
 }
 
 // The seconds of the days before 1970, counted as below.
@@ -163,13 +161,6 @@ fn second_at(days: u32, clock: u32, offset: i32) -> i64
 {
     let shown = u64::from(days) * 86_400 + u64::from(clock);
     shown as i64 - EPOCH - i64::from(offset)
-}
-
-#[inline(always)]
-fn nanosecond_at(second: i64, nanosecond: u32) -> i128
-    ensures { result ≡ second *ℤ pos 1_000_000_000 +ℤ pos nanosecond }
-{
-    i128::from(second) * 1_000_000_000 + i128::from(nanosecond)
 }
 
 #[inline(always)]
