@@ -1,5 +1,5 @@
 -- A line has one value.
-use Rattle.std.proofs.Common.{◌≡◌, ◌++◌, [], ◌∷◌, ℕ, ℤ, List, Bool, true, false, Option, None, Result, Ok, Err, OnOk}
+use Rattle.std.proofs.Common.{◌≡◌, ◌++◌, [], ◌∷◌, ℕ, ℤ, List, Bool, true, false, Option, None, Some}
 use Rattle.std.proofs.Common.{ap, inl, inr, refl, subst, sym, ◌∙◌}
 use Rattle.std.specs.Str.{chars}
 use Rattle.jiff.specs.Words.{plain_zone}
@@ -10,8 +10,9 @@ use Rattle.syslog_pieces.specs.declared.timestamp.month_date.MonthDate.{MonthDat
 use Rattle.syslog_loose.specs.Line.{line_value}
 use Rattle.syslog_loose.specs.Message.{MessageValue}
 use Rattle.syslog_loose.specs.Reading.{AsksYear, IncompleteDate, InYear, IsOnlyRead, IsRead, dash_rule}
-use Rattle.syslog_loose.specs.Visit.{IsLineOf}
-use Rattle.syslog_loose.specs.Reckoning.{dating_in}
+use Rattle.syslog_loose.specs.Reckoning.{dating_in, reckoned_year}
+use Rattle.syslog_loose.specs.Visit.{IsLineOf, Made}
+use Rattle.syslog_pieces.specs.StructuredData.Visited.{list_elements}
 use Rattle.syslog_loose.specs.declared.line.Line.{Line}
 use Rattle.syslog_loose.specs.declared.variant.Variant.TheVariants.{Either}
 use Rattle.syslog_loose.proofs.ReadingLemmas as reading
@@ -20,7 +21,9 @@ use Rattle.syslog_loose.proofs.Rfc3164Lemmas.Years.{other_read}
 use Rattle.syslog_lines.specs.Output.{answer_bytes, is_answered}
 use Rattle.syslog_object.specs.Object.{message_json}
 use Rattle.syslog_object.specs.Written.{IsTextOf}
-use Rattle.syslog_json.specs.Objects.{IsOnly, IsReadJson, IsRefusedJson, answer_of, raw_text}
+use Rattle.syslog_object.specs.Writer.{HasWritten}
+use Rattle.syslog_object.specs.declared.writer.ObjectWriter.{ObjectWriter}
+use Rattle.syslog_json.specs.Objects.{IsLineRead, IsOnly, IsReadJson, IsRefusedJson, answer_of, raw_text}
 use Rattle.syslog_json.specs.declared.options.Options.{Options}
 
 read_twice : (options : Options) (line : List ℕ) (value other : Data) → IsReadJson options line value
@@ -60,7 +63,7 @@ pub one_line : {post : IncompleteDate → ℤ → Type 0} {text : Text} {Given :
     (Makes : Line → Type 0) → InYear post Either text (λ year. (line : Line)
     × IsLineOf Either (dating_in zone year) text line × Makes line × Given line)
     → (line : Line) × InYear post Either text (λ year.
-    IsOnlyRead Either (dating_in zone year) text (line_value line)) × Makes line
+    IsOnlyRead Either (dating_in zone year) text (line_value line)) × Makes line × Given line
 one_line {post = post} {text = text} zone Makes h =
     let (line, of, makes, given) = h.holds h.answered (λ date asks. refl) in (
       line,
@@ -68,22 +71,29 @@ one_line {post = post} {text = text} zone Makes h =
           h.answered h.is_answered (λ never other r. reading.only_read Either (dating_in zone other) text
           (line_value line) (any_year zone text None other (line_value line) never r.read)) of.only,
       makes,
+      given,
+    )
+
+-- and the line was returned, and its elements were given to the other visitor
+pub line_read : {post : IncompleteDate → ℤ → Type 0} {V : Type 0} (v w : V) (old new : ObjectWriter) (options : Options)
+    (text : Text) (result : Option Line) → InYear post Either text (λ year.
+    Made (λ (before : V) (line made : Line) (after : V). made ≡ line) (λ (first it : ObjectWriter) es. HasWritten it es)
+    Either (dating_in (plain_zone options.zone) year) text v old result w new)
+    → ((date : IncompleteDate) (y : ℤ) → post date y → y ≡ reckoned_year options.year options.month date)
+    → HasWritten old [] → IsLineRead options text result new
+line_read v w old new options text None h tells none = reading.in_year_told (reading.in_year_map (λ year n. n.0) h) tells
+line_read {post = post} v w old new options text (Some made) h tells none =
+    let zone = plain_zone options.zone in
+    let (line, dated, same, given) = one_line zone (λ (line : Line). made ≡ line) h in (
+      reading.in_year_told (subst (λ (l : Line). InYear post Either text (λ year.
+          IsOnlyRead Either (dating_in zone year) text (line_value l))) (sym same) dated) tells,
+      subst (λ (l : Line). HasWritten new (list_elements l.list)) (sym same) (given old [] none),
     )
 
 -- what was written after nothing is the text
 pub text_after_nothing : (value : Data) (old bytes new : List ℕ) → old ≡ [] → new ≡ old ++ bytes → IsTextOf value bytes
     → IsTextOf value new
 text_after_nothing value old bytes new none added text = rw (added, none) text
-
-pub message_after_nothing : (m : MessageValue) (raw told : Option Text) (old bytes new : List ℕ) → raw ≡ told → old ≡ []
-    → new ≡ old ++ bytes → IsTextOf (message_json m raw) bytes → IsTextOf (message_json m told) new
-message_after_nothing m raw told old bytes new same none added text =
-    text_after_nothing (message_json m told) old bytes new none added
-    (subst (λ (o : Option Text). IsTextOf (message_json m o) bytes) same text)
-
-pub was_ok : {T E P : Type 0} (r : Result T E) (x : T) → r ≡ Ok x → OnOk r P → P
-was_ok (Ok y) x e h = h
-was_ok (Err y) x e h = absurd cc
 
 -- either answer's bytes, and what it counts as
 pub answered : (is_message : Bool) (bytes : List ℕ) → (answer_bytes (answer_of is_message bytes) ≡ bytes ++ 10 ∷ [])

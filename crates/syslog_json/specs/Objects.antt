@@ -1,12 +1,11 @@
 -- What is written for each line: this project's own choice.
-use Rattle.std.specs.Prelude.{◌≡◌, ◌⊎◌, ⊤, ℕ, Bool, true, false, List, ◌++◌, Option, Some, None, length, count_by}
+use Rattle.std.specs.Prelude.{◌≡◌, ◌⊎◌, ⊤, ℕ, Bool, true, false, List, Option, Some, None, MatchOption, length, count_by}
 use Rattle.std.specs.Prelude.{IsUtf8}
-use Rattle.std.specs.Borrow.{Bor}
 use Rattle.std.specs.Str.{chars}
 use Rattle.std.specs.Str.Lossy.{utf8_lossy}
 use Rattle.jiff.specs.Words.{plain_zone}
 use Rattle.syslog_pieces.specs.Pieces.Class.{Text}
-use Rattle.syslog_pieces.specs.Pieces.View.{seen}
+use Rattle.syslog_pieces.specs.StructuredData.Visited.{list_elements}
 use Rattle.syslog_pieces.specs.Timestamp.Zone.{Dating}
 use Rattle.syslog_loose.specs.Line.{line_value}
 use Rattle.syslog_loose.specs.Message.{MessageValue}
@@ -21,6 +20,8 @@ use Rattle.syslog_lines.specs.Pump.{FiltersAll}
 use Rattle.syslog_lines.specs.declared.summary.Summary.{Summary}
 use Rattle.syslog_object.specs.Object.{invalid_json, message_json, refused_json}
 use Rattle.syslog_object.specs.Written.{IsTextOf}
+use Rattle.syslog_object.specs.Writer.{HasWritten}
+use Rattle.syslog_object.specs.declared.writer.ObjectWriter.{ObjectWriter}
 use Rattle.syslog_json.specs.declared.options.Options.{Options}
 
 -- this holds of the dating of the text by the options
@@ -66,10 +67,12 @@ WritesObjects options in_before in_after out_before out_after summary = (answers
     × (all : FiltersAll (objects options) in_before in_after out_before out_after answers)
     × (summary.lines ≡ held_count (length all.lines)) × (summary.refused ≡ held_count (count_by is_passed_over answers))
 
--- the object of the line was written after these bytes
-abbrev pub WritesObject : Line → Option (Bor (List ℕ)) → List ℕ → List ℕ → Type 0
-WritesObject line raw old new =
-    (bytes : List ℕ) × IsTextOf (message_json (line_value line) (seen raw)) bytes × (new ≡ old ++ bytes)
+-- the line as which the text is read was returned, and the writer was given its elements; or the text is no message
+abbrev pub IsLineRead : Options → Text → Option Line → ObjectWriter → Type 0
+IsLineRead options text result writer = MatchOption result
+    (IsDated options text (λ dating. IsUnreadable Either dating text))
+    (λ line. IsDated options text (λ dating. IsOnlyRead Either dating text (line_value line))
+    × HasWritten writer (list_elements line.list))
 
 -- the answer of an object that was written, as what the line counts
 abbrev pub answer_of : Bool → List ℕ → Answer

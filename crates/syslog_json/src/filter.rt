@@ -1,11 +1,14 @@
 //! The filter that writes each line as JSON.
-ghost use Rattle.std.specs.Prelude.{◌≡◌, [], false, IfErr, IfOk};
+ghost use Rattle.std.specs.Prelude.{◌≡◌, ◌++◌, [], List, ℕ, false, IfErr, IfOk, OnErr};
 ghost use Rattle.std.specs.Str.{chars};
 ghost use Rattle.jiff.specs.Words.{IsYear};
 ghost use Rattle.syslog_pieces.specs.Pieces.View.{seen};
 ghost use Rattle.syslog_loose.specs.Reckoning.{reckoned_year};
 ghost use Rattle.syslog_lines.specs.Pump.{EndsEarly, FailedAs};
-ghost use Rattle.syslog_json.specs.Objects.{IsObject, WritesObjects, answer_of, objects, raw_text};
+ghost use Rattle.syslog_object.specs.Object.{refused_json};
+ghost use Rattle.syslog_object.specs.Writer.{HasWritten};
+ghost use Rattle.syslog_object.specs.Written.{IsTextOf};
+ghost use Rattle.syslog_json.specs.Objects.{IsLineRead, IsObject, WritesObjects, answer_of, objects, raw_text};
 
 use crate::options::Options;
 use std::alloc::{AllocError, Global};
@@ -13,10 +16,8 @@ use std::io::{Read, Write};
 use std::mem;
 use syslog_lines::pump::pump;
 use syslog_lines::{LineFilter, RunFault, Summary, Watched, push_line};
-use syslog_loose::{
-    IncompleteDate, Line, LineVisitor, NoElements, Variant, reckon_year, visit_line,
-};
-use syslog_object::{push_invalid, push_object, push_refused};
+use syslog_loose::{IncompleteDate, Line, LineVisitor, Variant, reckon_year, visit_line};
+use syslog_object::{ObjectWriter, push_invalid, push_refused};
 
 /// Reads lines to the end of the input, and writes each as one JSON object on one line: that of its message, read by
 /// the options, or one that has the line and `"refused":true`. No line is lost, and no object has a byte below 32.
@@ -57,42 +58,73 @@ struct Objects {
 }
 
 impl Objects {
-    // Writes the object of the line, and says whether it is a message.
+    // Reads the line, gives the writer its elements, and returns the line, where it is a message.
     #[inline(always)]
-    fn write_line<'a>(
-        &self,
-        line: &'a str,
-        writer: &mut ObjectWriter<'a>,
-    ) -> Result<bool, AllocError>
-        requires empty { writer.old.object.items ≡ [] }
-        requires raw { seen writer.old.raw ≡ raw_text self.now.options.raw (chars line.now) }
-        ensures { IfOk result (λ is_message.
-            IsObject self.now.options line.now (answer_of is_message writer.new.object.items)) }
+    fn read<'a>(&self, line: &'a str, writer: &mut ObjectWriter<'a>) -> Option<Line<'a>>
+        requires { HasWritten writer.old [] }
+        ensures { IsLineRead self.now.options (chars line.now) result writer.new }
     {
         let year = self.options.year;
         let month = self.options.month;
         let get_year = move |date: IncompleteDate| -> i32
             ensures { IsYear year → result ≡ reckoned_year year month date }
         { reckon_year(year, month, date) };
-        match visit_line(
+        visit_line(
             line,
             get_year,
             None,
             Variant::Either,
             &self.options.zone,
-            &mut NoElements,
             writer,
-        ) {
-            Some(written) => {
-                written?;
-                Ok(true)
+            &mut Itself,
+        )
+    }
+
+    // The line as it came, where it is asked for.
+    #[inline(always)]
+    fn raw<'a>(&self, line: &'a str) -> Option<&'a str>
+        ensures { seen result ≡ raw_text self.now.options.raw (chars line.entry.now) }
+    {
+        if self.options.raw { Some(line) } else { None }
+    }
+
+    // Adds the object of the line, or nothing where memory is refused. Returns the memory that was used, and whether the
+    // line is a message.
+    #[inline(always)]
+    fn write_line(
+        &self,
+        alloc: Global,
+        line: &str,
+        memory: Vec<u8>,
+        output: &mut Vec<u8>,
+    ) -> Result<(Vec<u8>, bool), AllocError>
+        ensures ok { IfOk result (λ x. (bytes : List ℕ) × IsObject self.now.options line.now (answer_of x.1 bytes)
+            × (output.new.items ≡ output.old.items ++ bytes)) }
+        ensures err { OnErr result (output.new.items ≡ output.old.items) }
+    {
+        let mut writer = ObjectWriter::new(alloc, memory);
+        let raw = self.raw(line);
+        match self.read(line, &mut writer) {
+            Some(found) => {
+                writer.write(&found, raw, output)?;
+                Ok((writer.into_memory(), true))
             }
-            None => {
-                push_refused(&mut writer.object, line)?;
-                Ok(false)
-            }
+            None => Ok((write_refused(writer.into_memory(), line, output)?, false)),
         }
     }
+}
+
+// Adds the object of a line that is no message, or nothing where memory is refused. Returns the memory, which it used.
+fn write_refused(memory: Vec<u8>, line: &str, output: &mut Vec<u8>) -> Result<Vec<u8>, AllocError>
+    ensures ok { IfOk result (λ _. (bytes : List ℕ) × IsTextOf (refused_json line.now) bytes
+        × (output.new.items ≡ output.old.items ++ bytes)) }
+    ensures err { OnErr result (output.new.items ≡ output.old.items) }
+{
+    let mut object = memory;
+    object.clear();
+    push_refused(&mut object, line)?;
+    output.extend_from_slice(object.as_slice())?;
+    Ok(object)
 }
 
 impl LineFilter for Objects {
@@ -105,15 +137,14 @@ impl LineFilter for Objects {
         text: &mut String,
         output: &mut Vec<u8>,
     ) -> Result<bool, AllocError> {
-        // The object is made in the memory of `text`: after an `Err` a part of it is there, and not in `output`.
-        let mut object = mem::replace(text, String::new(alloc)).into_bytes();
-        object.clear();
-        let raw = if self.options.raw { Some(line) } else { None };
-        let mut writer = ObjectWriter { alloc, object, raw };
-        let is_message = self.write_line(line, &mut writer)?;
-        let ObjectWriter { object, .. } = writer;
-        push_line(output, object.as_slice())?;
-        give_back(object, text);
+        let before = output.len();
+        let memory = mem::replace(text, String::new(alloc)).into_bytes();
+        let (memory, is_message) = self.write_line(alloc, line, memory, output)?;
+        give_back(memory, text);
+        if output.push(b'\n').is_err() {
+            output.truncate(before);
+            return Err(AllocError);
+        }
         Ok(is_message)
     }
 
@@ -131,25 +162,25 @@ impl LineFilter for Objects {
     }
 }
 
-// Writes the object of a line after what was written.
-#[derive(Drop)]
-struct ObjectWriter<'a> {
-    alloc: Global,
-    object: Vec<u8>,
-    raw: Option<&'a str>,
-}
+// Returns the line itself.
+#[derive(Clone, Copy)]
+struct Itself;
 
-impl<'a> LineVisitor<'a> for ObjectWriter<'a> {
-    ghost use Rattle.std.specs.Prelude.{◌≡◌, ◌++◌, ⊤, OnOk};
-    ghost use Rattle.syslog_json.specs.Objects.{WritesObject};
+impl<'a> LineVisitor<'a> for Itself {
+    ghost use Rattle.std.specs.Prelude.{◌≡◌};
 
-    type Answer = Result<(), AllocError>;
+    type Answer = Line<'a>;
 
-    ghost makes = { λ old line made new. OnOk made (WritesObject line old.raw old.object.items new.object.items) };
+    ghost makes = { λ old line made new. made ≡ line };
 
     #[inline(always)]
-    fn line(&mut self, line: &Line<'a>) -> Result<(), AllocError> {
-        push_object(self.alloc, &mut self.object, line, self.raw)
+    fn line(&mut self, line: &Line<'a>) -> Line<'a>
+        ensures { result ≡ line.now }
+    {
+        Line {
+            rest: line.rest,
+            ..*line
+        }
     }
 }
 

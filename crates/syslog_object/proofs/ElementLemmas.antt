@@ -1,32 +1,39 @@
 -- Parameters and elements with their keys and values.
 use Rattle.std.proofs.Common.{◌≡◌, ℕ, List, [], ◌∷◌, ◌++◌, map, refl, sym, ap, ◌∙◌, append-nil}
-use Rattle.std.proofs.lemmas.Str.{encodes-chars}
+use Rattle.std.specs.Borrow.{Bor}
 use Rattle.syslog_pieces.specs.Pieces.Class.{Text}
 use Rattle.syslog_pieces.specs.Pieces.View.{shown}
 use Rattle.std.specs.Prelude.{encode_utf8_all}
-use Rattle.syslog_pieces.specs.StructuredData.Element.{ElementValue}
+use Rattle.syslog_pieces.specs.StructuredData.Element.{ElementValue, param_value}
 use Rattle.syslog_pieces.specs.StructuredData.Visited.{element_seen}
 use Rattle.syslog_pieces.specs.declared.structured_data.recognised.Element.{Element}
-use Rattle.serde_json.specs.Data.{Data, string}
+use Rattle.serde_json.specs.Data.{Data}
 use Rattle.serde_json.specs.Written.{compact_text}
 use Rattle.syslog_object.specs.Gathered.{gathered}
-use Rattle.syslog_object.specs.Object.{element_json, element_pair, param_pair, unescaped}
-use Rattle.syslog_object.specs.declared.element.Param.{Param}
+use Rattle.syslog_object.specs.Object.{element_json, element_pair, param_pair}
 use Rattle.syslog_object.proofs.GatherLemmas.{pairs_of}
+
+-- a name and a value, as slices
+abbrev pub Param : Type 0
+Param = Bor (List ℕ) × Bor (List ℕ)
 
 -- a parameter over texts
 abbrev pub param_seen : Param → Text × Text
-param_seen p = (shown p.name, shown p.value)
+param_seen p = param_value (λ s. shown s) p
+
+abbrev pub param_key : Param → List ℕ
+param_key p = (param_pair (param_seen p)).0
+
+abbrev pub param_json : Param → Data
+param_json p = (param_pair (param_seen p)).1
 
 -- where no item is left, all were seen
 pub all_seen : {X : Type 0} (seen left all : List X) → seen ++ left ≡ all → left ≡ [] → seen ≡ all
 all_seen seen left all whole none = sym (append-nil seen) ∙ ap (λ xs. seen ++ xs) (sym none) ∙ whole
 
-param_pairs : (ps : List Param) → pairs_of (λ p. p.name.now) (λ p. string (unescaped p.value.now)) ps
-    ≡ map param_pair (map param_seen ps)
+pub param_pairs : (ps : List Param) → pairs_of param_key param_json ps ≡ map param_pair (map param_seen ps)
 param_pairs [] = refl
-param_pairs (p ∷ ps) =
-    rw (encodes-chars p.name.now p.name_utf8, encodes-chars p.value.now p.value_utf8, param_pairs ps) refl
+param_pairs (p ∷ ps) = ap (λ qs. param_pair (param_seen p) ∷ qs) (param_pairs ps)
 
 -- the text of an object of such pairs
 abbrev gathered_text : List (List ℕ × Data) → List ℕ
@@ -34,10 +41,9 @@ gathered_text pairs = compact_text (gathered pairs)
 
 pub params_json : (ps slice : List Param) (params : List (Text × Text)) → slice ≡ ps
     → map param_seen ps ≡ params
-    → compact_text (gathered (pairs_of (λ p. p.name.now) (λ p. string (unescaped p.value.now)) slice))
-    ≡ compact_text (gathered (map param_pair params))
+    → compact_text (gathered (pairs_of param_key param_json slice)) ≡ compact_text (gathered (map param_pair params))
 params_json ps slice params same seen =
-    ap (λ xs. gathered_text (pairs_of (λ p. p.name.now) (λ p. string (unescaped p.value.now)) xs)) same
+    ap (λ xs. gathered_text (pairs_of param_key param_json xs)) same
     ∙ ap gathered_text (param_pairs ps ∙ ap (map param_pair) seen)
 
 element_pairs : (es : List Element)

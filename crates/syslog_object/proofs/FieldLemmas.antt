@@ -7,12 +7,13 @@ use Rattle.syslog_pieces.specs.ProcId.{procid_text}
 use Rattle.syslog_pieces.specs.StructuredData.Element.{ElementValue}
 use Rattle.syslog_pieces.specs.declared.procid.ProcId.{ProcId}
 use Rattle.syslog_loose.specs.declared.message.Protocol.{Protocol}
-use Rattle.json.specs.Print.{escape, quoted}
+use Rattle.json.specs.Print.{escape, escape_byte, quoted}
 use Rattle.serde_json.specs.Data.{Data, string}
 use Rattle.serde_json.specs.Written.{compact_text}
 use Rattle.syslog_object.specs.Gathered.{gathered}
-use Rattle.syslog_object.specs.Object.{element_pair, structured_json, Field, object_of, protocol_text, text_json, version_json}
-use Rattle.syslog_object.specs.Parts.{field_text, protocol_fields, rest_text, text_field}
+use Rattle.syslog_object.specs.Object.{element_pair, message_json, structured_json, timestamp_json, Field, object_of, protocol_text, text_json, version_json}
+use Rattle.syslog_object.specs.Parts.{back_fields, facility_fields, field_text, front_text, protocol_fields, rest_text, severity_fields, text_field}
+use Rattle.syslog_loose.specs.Message.{MessageValue}
 
 -- a field comes before the rest
 rest_more : (key : List ℕ) (value : Option Data) (fields : List Field)
@@ -87,3 +88,40 @@ list_field (e ∷ es) some = refl
 pub two_appended : (old a b x y z : List ℕ) → a ≡ old ++ x → b ≡ a ++ y → x ++ y ≡ z → b ≡ old ++ z
 two_appended old a b x y z first second both =
     second ∙ ap (λ xs. xs ++ y) first ∙ append_assoc old x y ∙ ap (λ xs. old ++ xs) both
+
+-- one more piece was written
+pub more : (old a b x y : List ℕ) → a ≡ old ++ x → b ≡ a ++ y → b ≡ old ++ (x ++ y)
+more old a b x y first second = two_appended old a b x y (x ++ y) first second refl
+
+-- the fields before the elements, those of the elements and those after them are the whole
+pub message_whole : (m : MessageValue) (raw : Option Text)
+    → (front_text m ++ field_text (codes "structured_data") (structured_json m.structured_data)) ++ rest_text (back_fields m raw)
+    ≡ compact_text (message_json m raw)
+unfolding escape_byte
+message_whole m raw =
+    let p1 = protocol_fields m.protocol in
+    let p2 = p1 ++ facility_fields m.facility in
+    let p3 = p2 ++ severity_fields m.severity in
+    let p4 = p3 ++ field_text (codes "timestamp") (option_map timestamp_json m.timestamp) in
+    let p5 = p4 ++ text_field (codes ",\"hostname\":\"") m.hostname in
+    let p6 = p5 ++ text_field (codes ",\"appname\":\"") m.appname in
+    let p7 = p6 ++ text_field (codes ",\"procid\":\"") (option_map procid_text m.procid) in
+    let p8 = p7 ++ text_field (codes ",\"msgid\":\"") m.msgid in
+    field_written p8 _ _ (codes "structured_data") (structured_json m.structured_data) (back_fields m raw) refl
+    (name_written p7 p8 _ (codes "msgid") _ m.msgid _ refl refl
+    (process_written p6 p7 _ (codes "procid") _ m.procid _ refl refl
+    (name_written p5 p6 _ (codes "appname") _ m.appname _ refl refl
+    (name_written p4 p5 _ (codes "hostname") _ m.hostname _ refl refl
+    (field_written p3 p4 _ (codes "timestamp") (option_map timestamp_json m.timestamp) _ refl
+    (fields_written p2 p3 _ (codes "severity") _ (codes "severity_code") _ _ refl
+    (fields_written p1 p2 _ (codes "facility") _ (codes "facility_code") _ _ refl
+    (opened [] p1 m.protocol _ refl))))))))
+
+-- so they are the object, where they were written one after the other
+pub whole_written : (m : MessageValue) (raw : Option Text) (old front list now : List ℕ) → front ≡ old ++ front_text m
+    → list ≡ front ++ field_text (codes "structured_data") (structured_json m.structured_data)
+    → now ≡ list ++ rest_text (back_fields m raw) → now ≡ old ++ compact_text (message_json m raw)
+whole_written m raw old front list now first second third =
+    let more_text = field_text (codes "structured_data") (structured_json m.structured_data) in
+    two_appended old list now (front_text m ++ more_text) (rest_text (back_fields m raw)) _
+    (more old front list (front_text m) more_text first second) third (message_whole m raw)

@@ -92,7 +92,7 @@ module _ {X : Type 0} (key : X → List ℕ) (json : X → Data) where
 equal_back : (k l : List ℕ) → bytes_eq k l ≡ true → bytes_eq l k ≡ true
 equal_back k l e = (bytes_eq-Decides l k).1 (sym ((bytes_eq-Decides k l).0 e))
 
-differs_back : (k l : List ℕ) → bytes_eq k l ≡ false → bytes_eq l k ≡ false
+pub differs_back : (k l : List ℕ) → bytes_eq k l ≡ false → bytes_eq l k ≡ false
 differs_back k l e = elim (cases_Bool (bytes_eq l k)) [
   | inl same ↦ absurd (true≢false (sym (equal_back l k same) ∙ e))
   | inr other ↦ other

@@ -6,3 +6,4 @@ mod GatherLemmas
 mod ReadLemmas
 mod TextLemmas
 mod TextOfLemmas
+mod WriterLemmas

@@ -2,3 +2,4 @@ pub mod Gathered
 pub mod Object
 pub mod Written
 pub mod Parts
+pub mod Writer

@@ -4,6 +4,8 @@ use Rattle.std.specs.List.{AllByRecursion}
 use Rattle.std.specs.Str.{bytes_eq}
 use Rattle.std.specs.Option.{option_map}
 use Rattle.syslog_pieces.specs.Pieces.Class.{Text}
+use Rattle.syslog_pieces.specs.ProcId.{procid_text}
+use Rattle.syslog_loose.specs.Message.{MessageValue}
 use Rattle.syslog_pieces.specs.Pri.{facility_name, facility_number, severity_name, severity_number}
 use Rattle.syslog_pieces.specs.declared.pri.SyslogFacility.{SyslogFacility}
 use Rattle.syslog_pieces.specs.declared.pri.SyslogSeverity.{SyslogSeverity}
@@ -13,7 +15,7 @@ use Rattle.json.specs.Print.{escape, quoted}
 use Rattle.serde_json.specs.Data.{Data, object}
 use Rattle.serde_json.specs.Written.{compact_text, members_text}
 use Rattle.syslog_object.specs.Gathered.{members_of}
-use Rattle.syslog_object.specs.Object.{Field, present, number_json, protocol_text, text_json, version_json}
+use Rattle.syslog_object.specs.Object.{Field, present, number_json, protocol_text, text_json, timestamp_json, version_json}
 
 -- a member after another one
 abbrev pub member_text : List ℕ × Data → List ℕ
@@ -45,6 +47,19 @@ severity_fields severity =
     field_text (codes "severity") (option_map (λ s. text_json (severity_name s)) severity)
     ++ field_text (codes "severity_code") (option_map (λ s. number_json (severity_number s)) severity)
 
+-- the fields before the elements, with the brace before them
+abbrev pub front_text : MessageValue → List ℕ
+front_text m =
+    ((((((protocol_fields m.protocol ++ facility_fields m.facility) ++ severity_fields m.severity)
+    ++ field_text (codes "timestamp") (option_map timestamp_json m.timestamp))
+    ++ text_field (codes ",\"hostname\":\"") m.hostname) ++ text_field (codes ",\"appname\":\"") m.appname)
+    ++ text_field (codes ",\"procid\":\"") (option_map procid_text m.procid))
+    ++ text_field (codes ",\"msgid\":\"") m.msgid
+
+-- the fields after them
+abbrev pub back_fields : MessageValue → Option Text → List Field
+back_fields m raw = (codes "message", Some (text_json m.msg)) ∷ (codes "raw", option_map text_json raw) ∷ []
+
 -- ---- objects
 
 -- none of the keys is this one
@@ -63,6 +78,16 @@ members_after pairs = members_text true (members_of pairs)
 -- the object of members in this order
 abbrev pub object_text : List (List ℕ × Data) → List ℕ
 object_text pairs = compact_text (object (members_of pairs))
+
+-- members after the first one, without the brace
+abbrev pub later_text : List (List ℕ × Data) → List ℕ
+later_text [] = []
+later_text (p ∷ ps) = member_text p ++ later_text ps
+
+-- the object of members in this order, without its last brace; nothing where there are none
+abbrev pub open_text : List (List ℕ × Data) → List ℕ
+open_text [] = []
+open_text (p ∷ ps) = 123 ∷ (quoted p.0 ++ 58 ∷ (compact_text p.1 ++ later_text ps))
 
 -- the fields after the first one, and the brace
 abbrev pub rest_text : List Field → List ℕ

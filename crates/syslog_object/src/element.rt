@@ -1,7 +1,5 @@
 //! Elements: the object of their ids, and of the names and the values of each.
-ghost use Rattle.std.specs.Prelude.{◌≡◌, ◌≤◌, ◌++◌, length, OnOk, IsUtf8, encode_utf8_all, map};
-ghost use Rattle.std.proofs.Props.{props};
-ghost use Rattle.syslog_pieces.specs.Pieces.View.{shown};
+ghost use Rattle.std.specs.Prelude.{◌≡◌, ◌≤◌, ◌++◌, length, OnOk, map};
 ghost use Rattle.syslog_pieces.specs.StructuredData.Visited.{element_seen, list_elements};
 ghost use Rattle.serde_json.specs.Written.{compact_text};
 ghost use Rattle.syslog_object.specs.Gathered.{gathered};
@@ -12,42 +10,41 @@ use crate::gather::{FEW, Member, push_members};
 use std::alloc::{AllocError, Global};
 use syslog_loose::{Element, ElementList};
 
-/// A parameter: its name and its raw value.
-#[derive(Clone, Copy)]
-struct Param<'a> {
-    name: &'a str,
-    value: &'a str,
-    ghost name_utf8: { IsUtf8 name.now } by { Prim.hlevel props },
-    ghost value_utf8: { IsUtf8 value.now } by { Prim.hlevel props },
+// The name of a parameter. What a call returns is known to be UTF-8.
+#[inline(always)]
+fn name<'a>(param: &(&'a str, &'a str)) -> &'a str
+    ensures { result.now ≡ param.now.0.now }
+{
+    param.0
 }
 
-impl<'a> Param<'a> {
-    #[inline(always)]
-    fn new(name: &'a str, value: &'a str) -> Param<'a>
-        ensures name { shown result.name ≡ shown name.entry }
-        ensures value { shown result.value ≡ shown value.entry }
-    {
-        Param { name, value }
-    }
+// The raw value, in the same way.
+#[inline(always)]
+fn value<'a>(param: &(&'a str, &'a str)) -> &'a str
+    ensures { result.now ≡ param.now.1.now }
+{
+    param.1
 }
 
-impl<'a> Member<'a> for Param<'a> {
-    ghost use Rattle.serde_json.specs.Data.{string};
-    ghost use Rattle.syslog_object.specs.Object.{unescaped};
+// A parameter: its name and its raw value.
+impl<'a> Member<'a> for (&'a str, &'a str) {
+    ghost use Rattle.syslog_pieces.specs.Pieces.View.{shown};
+    ghost use Rattle.syslog_pieces.specs.StructuredData.Element.{param_value};
+    ghost use Rattle.syslog_object.specs.Object.{param_pair};
 
-    ghost key_of = { λ param. param.name.now };
+    ghost key_of = { λ param. (param_pair (param_value (λ s. shown s) param)).0 };
 
-    ghost json = { λ param. string (unescaped param.value.now) };
+    ghost json = { λ param. (param_pair (param_value (λ s. shown s) param)).1 };
 
     #[inline(always)]
     fn key(&self) -> &'a str {
-        self.name
+        name(self)
     }
 
     #[inline(always)]
     fn push_json(&self, _: Global, out: &mut Vec<u8>) -> Result<(), AllocError> {
         out.push(b'"')?;
-        push_value(out, self.value)?;
+        push_value(out, value(self))?;
         out.push(b'"')?;
         Ok(())
     }
@@ -85,10 +82,10 @@ fn push_few_params(
     requires { length (element_seen element.now).params ≤ 8 }
     ensures { OnOk result (out.new.items ≡ out.old.items ++ compact_text (element_json (element_seen element.now))) }
 {
-    let mut params = [Param::new("", ""); FEW];
+    let mut params = [("", ""); FEW];
     let mut count = 0;
-    for (name, value) in element.params() {
-        params[count] = Param::new(name, value);
+    for param in element.params() {
+        params[count] = param;
         count += 1;
     }
     push_members(alloc, out, &params[..count])
@@ -104,8 +101,8 @@ fn push_many_params(
     ensures { OnOk result (out.new.items ≡ out.old.items ++ compact_text (element_json (element_seen element.now))) }
 {
     let mut params = Vec::new(alloc);
-    for (name, value) in element.params() {
-        params.push(Param::new(name, value))?;
+    for param in element.params() {
+        params.push(param)?;
     }
     push_members(alloc, out, params.as_slice())
 }

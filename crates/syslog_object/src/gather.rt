@@ -49,9 +49,9 @@ fn is_new<'a, M: Member<'a>>(key: &str, members: &[M]) -> bool
     true
 }
 
-// Whether the keys are few, and each comes once.
+/// Whether the keys are few, and each comes once.
 #[inline(always)]
-fn are_distinct<'a, M: Member<'a>>(members: &[M]) -> bool
+pub(crate) fn are_distinct<'a, M: Member<'a>>(members: &[M]) -> bool
     ensures { OnTrue result (AreDistinct (map M.key_of members.now)) }
 {
     if members.len() > FEW {
@@ -69,9 +69,9 @@ fn are_distinct<'a, M: Member<'a>>(members: &[M]) -> bool
     }
 }
 
-// Appends a member: the byte before it, the key and the colon.
+/// Appends a member: the byte before it, the key and the colon.
 #[inline(always)]
-fn push_key(out: &mut Vec<u8>, before: u8, key: &str) -> Result<(), AllocError>
+pub(crate) fn push_key(out: &mut Vec<u8>, before: u8, key: &str) -> Result<(), AllocError>
     ensures { OnOk result (out.new.items ≡ out.old.items ++ (before ∷ (quoted key.now ++ 58 ∷ []))) }
 {
     out.extend_from_slice(&[before, b'"'])?;
@@ -79,9 +79,9 @@ fn push_key(out: &mut Vec<u8>, before: u8, key: &str) -> Result<(), AllocError>
     out.extend_from_slice(b"\":")
 }
 
-// Appends the members, each key with its value.
+/// Appends the members, each key with its value.
 #[inline(always)]
-fn push_each<'a, M: Member<'a>>(
+pub(crate) fn push_each<'a, M: Member<'a>>(
     alloc: Global,
     out: &mut Vec<u8>,
     members: &[M],

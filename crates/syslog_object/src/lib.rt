@@ -7,5 +7,7 @@ mod field;
 mod gather;
 mod object;
 mod plain;
+mod writer;
 
 pub use object::{push_invalid, push_object, push_refused};
+pub use writer::ObjectWriter;

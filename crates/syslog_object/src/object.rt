@@ -5,7 +5,7 @@ ghost use Rattle.syslog_loose.specs.Line.{line_value};
 ghost use Rattle.serde_json.specs.Written.{compact_text};
 ghost use Rattle.syslog_pieces.specs.StructuredData.Visited.{list_elements};
 ghost use Rattle.syslog_object.specs.Object.{invalid_json, message_json, refused_json, structured_json};
-ghost use Rattle.syslog_object.specs.Parts.{IsSmallVersion, field_text};
+ghost use Rattle.syslog_object.specs.Parts.{IsSmallVersion, back_fields, field_text, front_text, rest_text};
 ghost use Rattle.syslog_object.specs.Written.{IsTextOf};
 
 use crate::element::push_elements;
@@ -16,9 +16,13 @@ use crate::field::{
 use std::alloc::{AllocError, Global};
 use syslog_loose::{ElementList, Line};
 
-// Appends the structured data, where there are elements.
+/// Appends the structured data, where there are elements.
 #[inline(always)]
-fn push_list(alloc: Global, out: &mut Vec<u8>, list: &ElementList<'_>) -> Result<(), AllocError>
+pub(crate) fn push_list(
+    alloc: Global,
+    out: &mut Vec<u8>,
+    list: &ElementList<'_>,
+) -> Result<(), AllocError>
     ensures { OnOk result (out.new.items
         ≡ out.old.items ++ field_text (codes "structured_data") (structured_json (list_elements list.now))) }
 {
@@ -27,6 +31,37 @@ fn push_list(alloc: Global, out: &mut Vec<u8>, list: &ElementList<'_>) -> Result
     }
     out.extend_from_slice(b",\"structured_data\":")?;
     push_elements(alloc, out, list)
+}
+
+/// Appends the fields before the elements, with the brace before them.
+#[inline(always)]
+pub(crate) fn push_front(out: &mut Vec<u8>, line: &Line<'_>) -> Result<(), AllocError>
+    ensures text { OnOk result (out.new.items ≡ out.old.items ++ front_text (line_value line.now)) }
+    ensures small { IsSmallVersion (line_value line.now).protocol }
+{
+    push_protocol(out, line.version)?;
+    push_facility(out, line.facility())?;
+    push_severity(out, line.severity())?;
+    push_timestamp(out, line.timestamp)?;
+    push_field(out, b",\"hostname\":\"", line.hostname)?;
+    push_field(out, b",\"appname\":\"", line.appname)?;
+    push_process(out, line.process())?;
+    push_field(out, b",\"msgid\":\"", line.msgid)
+}
+
+/// Appends the fields after them, and the last brace.
+#[inline(always)]
+pub(crate) fn push_back(
+    out: &mut Vec<u8>,
+    line: &Line<'_>,
+    raw: Option<&str>,
+) -> Result<(), AllocError>
+    ensures { OnOk result (out.new.items ≡ out.old.items ++ rest_text (back_fields (line_value line.now) (seen raw.entry))) }
+{
+    push_field(out, b",\"message\":\"", Some(line.msg))?;
+    push_field(out, b",\"raw\":\"", raw)?;
+    out.push(b'}')?;
+    Ok(())
 }
 
 // Appends the members, between braces.
@@ -41,19 +76,9 @@ fn push_fields(
         ≡ out.old.items ++ compact_text (message_json (line_value line.now) (seen raw.entry))) }
     ensures small { IsSmallVersion (line_value line.now).protocol }
 {
-    push_protocol(out, line.version)?;
-    push_facility(out, line.facility())?;
-    push_severity(out, line.severity())?;
-    push_timestamp(out, line.timestamp)?;
-    push_field(out, b",\"hostname\":\"", line.hostname)?;
-    push_field(out, b",\"appname\":\"", line.appname)?;
-    push_process(out, line.process())?;
-    push_field(out, b",\"msgid\":\"", line.msgid)?;
+    push_front(out, line)?;
     push_list(alloc, out, &line.list)?;
-    push_field(out, b",\"message\":\"", Some(line.msg))?;
-    push_field(out, b",\"raw\":\"", raw)?;
-    out.push(b'}')?;
-    Ok(())
+    push_back(out, line, raw)
 }
 
 /// Appends the object of a line, as `{"protocol":"RFC3164","facility":"auth",..}`. Where `raw` is given it is the last

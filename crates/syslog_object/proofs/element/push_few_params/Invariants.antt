@@ -3,6 +3,6 @@ use Rattle.syslog_pieces.specs.StructuredData.Visited.{element_seen, params_left
 use Rattle.syslog_object.proofs.ElementLemmas.{param_seen}
 use Rattle.syslog_object.proofs.element.push_few_params.Given as goal
 
-abbrev pub invariant-loop-name : goal.invariant-loop-name
-invariant-loop-name l = (length l.params ≡ 8) × (l.count ≤ 8)
-    × (map param_seen (take l.count l.params) ++ params_left l.name-iterator ≡ (element_seen l.element).params)
+abbrev pub invariant-loop-param : goal.invariant-loop-param
+invariant-loop-param l = (length l.params ≡ 8) × (l.count ≤ 8)
+    × (map param_seen (take l.count l.params) ++ params_left l.param-iterator ≡ (element_seen l.element).params)

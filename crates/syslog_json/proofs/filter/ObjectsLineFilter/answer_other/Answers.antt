@@ -1,4 +1,4 @@
-use Rattle.std.proofs.Common.{◌++◌, ◌∷◌, [], ap, inr, refl, sym, ◌∙◌, List, ℕ}
+use Rattle.std.proofs.Common.{inr, refl, ◌∙◌}
 use Rattle.syslog_lines.specs.Output.{Marked}
 use Rattle.syslog_json.proofs.UniqueLemmas.{only_refused, text_after_nothing}
 use Rattle.syslog_json.proofs.filter.ObjectsLineFilter.answer_other.Goals as goal

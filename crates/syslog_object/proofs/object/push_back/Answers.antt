@@ -1,0 +1,16 @@
+use Rattle.std.proofs.Common.{[], ◌∷◌, Some, codes, refl}
+use Rattle.std.specs.Option.{option_map}
+use Rattle.syslog_pieces.specs.Pieces.View.{seen}
+use Rattle.syslog_loose.specs.Line.{line_value}
+use Rattle.json.specs.Print.{escape_byte}
+use Rattle.syslog_object.specs.Object.{text_json}
+use Rattle.syslog_object.proofs.FieldLemmas.{closed, name_written}
+use Rattle.syslog_object.proofs.object.push_back.Goals as goal
+
+pub returns : goal.returns
+unfolding escape_byte
+returns c =
+    let raw = (codes "raw", option_map text_json (seen c.args.raw)) ∷ [] in
+    closed _ _ _ c.in_ok-push.ensures.items
+    (name_written _ _ _ (codes "raw") _ (seen c.args.raw) [] refl c.in_ok-push_field-2.ensures
+    (name_written _ _ _ (codes "message") _ (Some (line_value c.args.line.now).msg) raw refl c.in_ok-push_field.ensures refl))

@@ -1,0 +1,36 @@
+use Rattle.std.proofs.Common.{codes, ◌++◌}
+use Rattle.std.proofs.lemmas.Result.{on_ok_weaker}
+use Rattle.std.specs.Option.{option_map}
+use Rattle.syslog_pieces.specs.ProcId.{procid_text}
+use Rattle.syslog_loose.specs.Line.{line_value}
+use Rattle.syslog_object.specs.Object.{timestamp_json}
+use Rattle.syslog_object.specs.Parts.{facility_fields, field_text, protocol_fields, severity_fields, text_field}
+use Rattle.syslog_object.proofs.FieldLemmas.{more}
+use Rattle.syslog_object.proofs.object.push_front.Goals as goal
+
+pub returns-clause-text : goal.returns-clause-text
+returns-clause-text c =
+    let m = line_value c.args.line.now in
+    let q1 = facility_fields m.facility in
+    let q2 = severity_fields m.severity in
+    let q3 = field_text (codes "timestamp") (option_map timestamp_json m.timestamp) in
+    let q4 = text_field (codes ",\"hostname\":\"") m.hostname in
+    let q5 = text_field (codes ",\"appname\":\"") m.appname in
+    let q6 = text_field (codes ",\"procid\":\"") (option_map procid_text m.procid) in
+    let q7 = text_field (codes ",\"msgid\":\"") m.msgid in
+    let p0 = protocol_fields m.protocol in
+    let p1 = p0 ++ q1 in
+    let p2 = p1 ++ q2 in
+    let p3 = p2 ++ q3 in
+    let p4 = p3 ++ q4 in
+    let p5 = p4 ++ q5 in
+    let facility = rw (c.facility.ensures) at c.in_ok-push_facility.ensures in
+    let severity = rw (c.severity.ensures) at c.in_ok-push_severity.ensures in
+    let process = rw (c.process.ensures) at c.in_ok-push_process.ensures in
+    let s1 = more _ _ _ p0 q1 c.in_ok-push_protocol.ensures.text facility in
+    let s2 = more _ _ _ p1 q2 s1 severity in
+    let s3 = more _ _ _ p2 q3 s2 c.in_ok-push_timestamp.ensures in
+    let s4 = more _ _ _ p3 q4 s3 c.in_ok-push_field.ensures in
+    let s5 = more _ _ _ p4 q5 s4 c.in_ok-push_field-2.ensures in
+    let s6 = more _ _ _ p5 q6 s5 process in
+    on_ok_weaker c.push_field-3.result (λ e. more _ _ _ (p5 ++ q6) q7 s6 e) c.push_field-3.ensures

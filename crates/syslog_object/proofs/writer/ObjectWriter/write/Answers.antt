@@ -1,0 +1,25 @@
+use Rattle.std.proofs.Common.{◌++◌, ◌∙◌, ap, arith}
+use Rattle.std.proofs.lemmas.Result.{on_ok_weaker}
+use Rattle.syslog_pieces.specs.Pieces.View.{seen}
+use Rattle.syslog_loose.specs.Line.{line_value}
+use Rattle.syslog_object.specs.Parts.{back_fields, front_text, rest_text}
+use Rattle.syslog_object.proofs.TextOfLemmas.{text_of_message}
+use Rattle.syslog_object.proofs.WriterLemmas.{object_of_parts, ordered}
+use Rattle.syslog_object.proofs.writer.ObjectWriter.write.Goals as goal
+
+pub returns-clause-ok : goal.returns-clause-ok
+returns-clause-ok c =
+    let m = line_value c.args.line.now in
+    let raw = seen c.args.raw in
+    let placed = ordered _ _ _ _ (front_text m) _ (rest_text (back_fields m raw)) c.len-start.result c.len-middle.result
+    c.in_ok-push_front.ensures.text c.in_ok-push_key_or_list.ensures (c.as_slice.ensures.value ∙ c.in_ok-push_back.ensures)
+    (omega (arith, c.len-start.ensures, c.close_elements.new.text.ok.0))
+    (omega (arith, c.len-middle.ensures, c.push_key_or_list.new.text.ok.0)) in
+    let whole = object_of_parts c.args.self.now c.has_elements-has_elements.result m raw _ c.has_elements-has_elements.ensures
+    c.requires c.in_ok-close_elements.ensures in
+    on_ok_weaker c.push_ordered.result
+    (λ e. (
+      _,
+      text_of_message m raw c.in_ok-push_front.ensures.small,
+      e ∙ ap (λ xs. c.args.output.now.items ++ xs) (placed ∙ whole),
+    )) c.push_ordered.ensures.ok

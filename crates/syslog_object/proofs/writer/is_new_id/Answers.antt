@@ -1,0 +1,14 @@
+use Rattle.std.proofs.Common.{List, ℕ, sym}
+use Rattle.std.proofs.lemmas.List.{drop_more}
+use Rattle.std.specs.Borrow.{Bor}
+use Rattle.syslog_object.specs.Parts.{IsNewKey}
+use Rattle.syslog_object.proofs.GatherLemmas.{nothing_after, of_keys}
+use Rattle.syslog_object.proofs.writer.is_new_id.Goals as goal
+
+pub returns : goal.returns
+returns c = c.loop-other.invariant (of_keys (IsNewKey c.args.id.now) (λ (s : Bor (List ℕ)). s.now) _ _
+    (nothing_after c.args.ids.now c.loop-other.other-index c.loop-other-test.false) tt)
+
+pub loop-other-preserved : goal.loop-other-preserved
+loop-other-preserved c = λ new. c.loop-other.invariant (of_keys (IsNewKey c.args.id.now) (λ (s : Bor (List ℕ)). s.now) _ _
+    (drop_more c.args.ids.now c.loop-other.other-index _ c.loop-other-test.true) (sym c.if-eq.ensures, new))

@@ -1,0 +1,271 @@
+//! The writer of a line's object that is given the elements while the line is read.
+ghost use Rattle.std.specs.Prelude.{◌≡◌, ◌≢◌, ◌≤◌, ◌-◌, ◌++◌, ◌∷◌, [], List, ℕ, IfOk, OnErr, OnOk, codes, cond, drop, length, map, take};
+ghost use Rattle.std.specs.Bool.{OnTrue};
+ghost use Rattle.json.specs.Print.{quoted};
+ghost use Rattle.syslog_pieces.specs.Pieces.View.{seen, shown};
+ghost use Rattle.syslog_pieces.specs.StructuredData.Collected.{HasNoted};
+ghost use Rattle.syslog_pieces.specs.StructuredData.Element.{ElementValue, param_value};
+ghost use Rattle.syslog_pieces.specs.StructuredData.Visited.{element_seen, list_elements};
+ghost use Rattle.syslog_loose.specs.Line.{line_value};
+ghost use Rattle.syslog_object.specs.Object.{message_json, param_pair, structured_json};
+ghost use Rattle.syslog_object.specs.Parts.{IsNewKey, field_text, object_text};
+ghost use Rattle.syslog_object.specs.Written.{IsTextOf};
+ghost use Rattle.syslog_object.specs.Writer.{AreWritten, HasWritten};
+
+use crate::gather::{FEW, are_distinct, push_each, push_key};
+use crate::object::{push_back, push_front, push_list};
+use std::alloc::{AllocError, Global};
+use syslog_loose::{ElementList, Line};
+use syslog_pieces::structured_data::{Element, ElementVisitor, FewParams};
+
+/// Writes the object of a line. As a visitor it is given the elements while the line is read, and writes them at once,
+/// so that they are not walked again.
+#[derive(Drop)]
+pub struct ObjectWriter<'a> {
+    alloc: Global,
+    // the object of the elements that it was given, without its last brace
+    text: Vec<u8>,
+    // their ids
+    ids: [&'a str; 8],
+    count: usize,
+    // Whether each id and each name came once, and none were too many. Else `text` doesn't count.
+    is_whole: bool,
+}
+
+impl<'a> ObjectWriter<'a> {
+    /// A writer that was given no element. It uses the vector's memory, and clears what that holds.
+    #[inline(always)]
+    pub fn new(alloc: Global, memory: Vec<u8>) -> ObjectWriter<'a>
+        ensures { HasWritten result [] }
+    {
+        let mut text = memory;
+        text.clear();
+        ObjectWriter {
+            alloc,
+            text,
+            ids: [""; FEW],
+            count: 0,
+            is_whole: true,
+        }
+    }
+
+    // Writes an element, whose parameters these are. Returns whether that could be done.
+    #[inline(always)]
+    fn add(&mut self, element: &Element<'a>, params: &[(&'a str, &'a str)]) -> bool
+        requires { map (param_value (λ s. shown s)) params.now ≡ (element_seen element.now).params }
+        ensures { OnTrue result ((es : List ElementValue) → AreWritten self.old es
+            → AreWritten self.new (es ++ (element_seen element.now ∷ []))) }
+    {
+        let id = element.id();
+        if self.count >= self.ids.len()
+            || !is_new_id(id, &self.ids[..self.count])
+            || !are_distinct(params)
+        {
+            return false;
+        }
+        let before = byte_before(self.count);
+        if push_element(self.alloc, &mut self.text, before, id, params).is_err() {
+            return false;
+        }
+        self.ids[self.count] = id;
+        self.count += 1;
+        true
+    }
+
+    // Writes an element by its notes, where these have all parameters. Returns whether that could be done.
+    #[inline(always)]
+    fn add_noted(&mut self, element: &Element<'a>, notes: &FewParams<'a>) -> bool
+        requires { HasNoted notes.now (element_seen element.now).params }
+        ensures { OnTrue result ((es : List ElementValue) → AreWritten self.old es
+            → AreWritten self.new (es ++ (element_seen element.now ∷ []))) }
+    {
+        match notes.all_of(element) {
+            Some(params) => self.add(element, params),
+            None => false,
+        }
+    }
+
+    // Whether it was given elements, and has written them.
+    #[inline(always)]
+    fn has_elements(&self) -> bool
+        ensures { OnTrue result ((es : List ElementValue) → HasWritten self.now es → (es ≢ []) × AreWritten self.now es) }
+    {
+        self.is_whole && self.count > 0
+    }
+
+    /// Appends the object of the line whose elements it was given, as `push_object` does, or nothing where memory is
+    /// refused. It is for one line.
+    ///
+    /// Memory is asked for more of its own and of `output`, and else as by `push_object`, but only where an id or a name
+    /// comes again, or there are more than eight elements or an element has more than eight parameters.
+    pub fn write(
+        &mut self,
+        line: &Line<'_>,
+        raw: Option<&str>,
+        output: &mut Vec<u8>,
+    ) -> Result<(), AllocError>
+        requires { HasWritten self.old (list_elements line.now.list) }
+        ensures ok { OnOk result ((bytes : List ℕ) × IsTextOf (message_json (line_value line.now) (seen raw.entry)) bytes
+            × (output.new.items ≡ output.old.items ++ bytes)) }
+        ensures err { OnErr result (output.new.items ≡ output.old.items) }
+    {
+        let has_elements = self.has_elements();
+        let alloc = self.alloc;
+        let text = &mut self.text;
+        close_elements(text, has_elements)?;
+        let start = text.len();
+        push_front(text, line)?;
+        push_key_or_list(alloc, text, &line.list, has_elements)?;
+        let middle = text.len();
+        push_back(text, line, raw)?;
+        push_ordered(output, text.as_slice(), start, middle)
+    }
+
+    /// Returns the memory that it used. What that holds doesn't count.
+    #[inline(always)]
+    pub fn into_memory(self) -> Vec<u8> {
+        let ObjectWriter { text, .. } = self;
+        text
+    }
+}
+
+// Whether none of the ids is this one.
+#[inline(always)]
+fn is_new_id(id: &str, ids: &[&str]) -> bool
+    ensures { OnTrue result (IsNewKey id.now (map (λ s. s.now) ids.now)) }
+{
+    for other in ids {
+        if id == *other {
+            return false;
+        }
+    }
+    true
+}
+
+// The byte before an element that comes after so many.
+#[inline(always)]
+fn byte_before(count: usize) -> u8
+    ensures first { count ≡ 0 → result ≡ 123 }
+    ensures later { count ≢ 0 → result ≡ 44 }
+{
+    if count == 0 { b'{' } else { b',' }
+}
+
+// Appends an element: the byte before it, its id, and the object of its parameters, whose names each come once.
+fn push_element(
+    alloc: Global,
+    out: &mut Vec<u8>,
+    before: u8,
+    id: &str,
+    params: &[(&str, &str)],
+) -> Result<(), AllocError>
+    ensures { OnOk result (out.new.items ≡ out.old.items ++ (before ∷ (quoted id.now ++ 58
+        ∷ object_text (map (λ p. param_pair (param_value (λ s. shown s) p)) params.now)))) }
+{
+    push_key(out, before, id)?;
+    push_each(alloc, out, params)
+}
+
+// Closes the object of the elements where it was written; else clears the text.
+#[inline(always)]
+fn close_elements(text: &mut Vec<u8>, has_elements: bool) -> Result<(), AllocError>
+    ensures { OnOk result (text.new.items ≡ cond has_elements (text.old.items ++ 125 ∷ []) []) }
+{
+    if has_elements {
+        text.push(b'}')?;
+    } else {
+        text.clear();
+    }
+    Ok(())
+}
+
+// Appends the key of the elements where their object was written; else the key and the object, where there are some.
+#[inline(always)]
+fn push_key_or_list(
+    alloc: Global,
+    text: &mut Vec<u8>,
+    list: &ElementList<'_>,
+    has_elements: bool,
+) -> Result<(), AllocError>
+    ensures { OnOk result (text.new.items ≡ text.old.items ++ cond has_elements (44 ∷ (quoted (codes "structured_data") ++ 58 ∷ []))
+        (field_text (codes "structured_data") (structured_json (list_elements list.now)))) }
+{
+    if has_elements {
+        text.extend_from_slice(b",\"structured_data\":")
+    } else {
+        push_list(alloc, text, list)
+    }
+}
+
+// Appends the text between the two places, then all before them, then all after, or nothing where memory is refused.
+#[inline(always)]
+fn push_ordered(
+    output: &mut Vec<u8>,
+    text: &[u8],
+    start: usize,
+    middle: usize,
+) -> Result<(), AllocError>
+    requires { (start ≤ middle) × (middle ≤ length text.now) }
+    ensures ok { OnOk result (output.new.items ≡ output.old.items
+        ++ (take (middle - start) (drop start text.now) ++ (take start text.now ++ drop middle text.now))) }
+    ensures err { OnErr result (output.new.items ≡ output.old.items) }
+{
+    if start == 0 {
+        return output.extend_from_slice(text);
+    }
+    push_pieces(
+        output,
+        &text[start..middle],
+        &text[..start],
+        &text[middle..],
+    )
+}
+
+// Appends three pieces, or nothing where memory is refused.
+#[inline(always)]
+fn push_pieces(
+    output: &mut Vec<u8>,
+    first: &[u8],
+    second: &[u8],
+    third: &[u8],
+) -> Result<(), AllocError>
+    ensures ok { OnOk result (output.new.items ≡ output.old.items ++ (first.now ++ (second.now ++ third.now))) }
+    ensures err { OnErr result (output.new.items ≡ output.old.items) }
+{
+    let before = output.len();
+    output.extend_from_slice(first)?;
+    if push_pair(output, second, third).is_err() {
+        output.truncate(before);
+        return Err(AllocError);
+    }
+    Ok(())
+}
+
+// Appends two pieces, or nothing where memory is refused.
+#[inline(always)]
+fn push_pair(output: &mut Vec<u8>, first: &[u8], second: &[u8]) -> Result<(), AllocError>
+    ensures ok { OnOk result (output.new.items ≡ output.old.items ++ (first.now ++ second.now)) }
+    ensures err { OnErr result (output.new.items ≡ output.old.items) }
+{
+    let before = output.len();
+    output.extend_from_slice(first)?;
+    if output.extend_from_slice(second).is_err() {
+        output.truncate(before);
+        return Err(AllocError);
+    }
+    Ok(())
+}
+
+impl<'a> ElementVisitor<'a> for ObjectWriter<'a> {
+    type Notes = FewParams<'a>;
+
+    ghost was_given = { λ first writer es. HasWritten writer es };
+
+    #[inline(always)]
+    fn element(&mut self, element: Element<'a>, notes: &FewParams<'a>) {
+        if !self.is_whole {
+            return;
+        }
+        self.is_whole = self.add_noted(&element, notes);
+    }
+}
