@@ -19,6 +19,9 @@ use syslog_loose::{IncompleteDate, Line, parse_line};
 use syslog_object::push_object;
 use syslog_utf8::from_utf8;
 
+// What the keys, the braces and the quotes of an object take, beside the texts of the line.
+const MORE: usize = 256;
+
 /// Writes the JSON object of the line's message to the front of `room`, and its length in bytes to `needed`. If `raw`
 /// is not 0, the line as it came is the last member. If the object is longer than `room`, `room` may hold anything. It
 /// takes memory.
@@ -82,7 +85,9 @@ fn put_object(
     requires { needed.old ≡ 0 }
     ensures { PutsObject (line_value line.now) (seen raw.entry) room.old room.new needed.new result }
 {
-    let mut object = Vec::new(alloc);
+    let Ok(mut object) = Vec::with_capacity(alloc, line.rest.len().saturating_add(MORE)) else {
+        return Outcome::NoMemory;
+    };
     match push_object(alloc, &mut object, line, raw) {
         Ok(()) => put(object.as_slice(), room, needed),
         Err(_) => Outcome::NoMemory,

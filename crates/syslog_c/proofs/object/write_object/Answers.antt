@@ -12,7 +12,7 @@ returns-in-Some-parse_line c =
     let puts = subst (λ (raw : Option Text). PutsObject (line_value c.in-Some-parse_line.parsed) raw c.args.room.now
     c.put_object.new.room c.put_object.new.needed c.put_object.result) c.wanted.ensures c.put_object.ensures in
     inr (inr (tried_line _ _ _ _ _ _ c.in-Some.ensures c.in-Ok.ensures (λ date y is. is.1)
-    (in_year_map (λ year only. inl (_, only, puts)) c.in-Some-parse_line.ensures.reads)))
+    (in_year_map (λ year of. inl (_, of.only, puts)) c.in-Some-parse_line.ensures.reads)))
 
 pub returns-in-None : goal.returns-in-None
 returns-in-None c =
