@@ -4,7 +4,7 @@
 //! `read_3164` returns the line of the one division of a text, once the pieces that can fail were read. It takes each
 //! piece from the readers of `syslog_pieces`, from the left. `resolve` says what the host field and the tag field mean
 //! together.
-ghost use Rattle.std.specs.Prelude.{◌≡◌, IsTrue, Option, Some, None};
+ghost use Rattle.std.specs.Prelude.{◌≡◌, IsTrue, MatchOption, Option, Some, None};
 ghost use Rattle.std.specs.Str.{chars};
 ghost use Rattle.syslog_pieces.specs.Pieces.Class.{Text};
 ghost use Rattle.syslog_pieces.specs.Pieces.View.{seen, shown, field_seen};
@@ -56,8 +56,8 @@ fn program<'a>(hostname: Option<&'a str>, name: &'a str) -> Names<'a>
     }
 }
 
-// A lone name: a program's if it is of the form `tag[id]`, otherwise a host.
-#[inline(always)]
+// A lone name: a program's if it is of the form `tag[id]`, otherwise a host. By a call, since such lines are few.
+#[inline(never)]
 fn lone<'a>(name: &'a str) -> Names<'a>
     ensures { NamesHost (chars name.entry.now) (names_value result) }
 {
@@ -87,6 +87,17 @@ fn nobody() -> Names<'static>
     }
 }
 
+// The host of a field, absent where the field is.
+#[inline(always)]
+fn origin<'a>(host: Option<Option<&'a str>>) -> Option<&'a str>
+    ensures { MatchOption (field_seen host.entry) (seen result ≡ None) (λ name. seen result ≡ name) }
+{
+    match host {
+        Some(hostname) => hostname,
+        None => None,
+    }
+}
+
 /// What the host field and the tag field mean together: each is not there, or there and empty, or a text.
 #[inline(always)]
 pub(crate) fn resolve<'a, E: ElementVisitor<'a>>(
@@ -102,10 +113,7 @@ pub(crate) fn resolve<'a, E: ElementVisitor<'a>>(
             _ => nobody(),
         },
         Some(None) => nobody(),
-        Some(Some(name)) => match host {
-            Some(hostname) => program(hostname, name),
-            None => program(None, name),
-        },
+        Some(Some(name)) => program(origin(host), name),
     }
 }
 

@@ -2,7 +2,7 @@
 //!
 //! A text is trimmed once, and its priority and its month date are read once: after a month date RFC 5424 is not tried,
 //! and where the date has no year the closure is asked.
-ghost use Rattle.std.specs.Prelude.{◌≡◌, [], IfSome, IsSome, MatchOption, None};
+ghost use Rattle.std.specs.Prelude.{◌≡◌, ◌≢◌, [], IfSome, IsSome, MatchOption, None};
 ghost use Rattle.std.specs.Bool.{OnFalse};
 ghost use Rattle.std.specs.Str.{chars};
 ghost use Rattle.syslog_pieces.specs.Bodies.Looks.{EndsDigits};
@@ -24,12 +24,14 @@ ghost use Rattle.syslog_loose.specs.Visit.{HasRest, IsLineOf, Made};
 ghost use Rattle.syslog_loose.specs.declared.line.Line.{Line};
 ghost use Rattle.syslog_loose.specs.declared.variant.Variant.{Variant};
 ghost use Rattle.syslog_loose.specs.Bodies.Cases.{incomplete};
+ghost use Rattle.syslog_loose.specs.declared.variant.Variant.TheVariants.{RFC3164};
 
 use crate::line::Line;
 use crate::rfc3164::read_3164;
 use crate::rfc5424::read_5424;
 use crate::variant::{IncompleteDate, Variant};
 use jiff::tz::TimeZone;
+use std::mem::drop;
 use syslog_pieces::pri::optional_priority;
 use syslog_pieces::structured_data::{ElementVisitor, NoElements};
 use syslog_pieces::text::{blanks, trimmed};
@@ -60,21 +62,26 @@ fn begins_version(text: &str) -> bool
     matches!(text.as_bytes(), [b'0'..=b'9', ..])
 }
 
-// What is made of a line of RFC 5424, from after its priority on; none where the text is no such line. Where no version
-// begins it, that is found before the call.
+// What is made of a line of RFC 5424, from after its priority on; none where the variant reads no such lines, or the text
+// is none. Where no version begins it, that is found before the call.
 #[inline(always)]
 fn visit_5424<'a, E: ElementVisitor<'a>, V: LineVisitor<'a>>(
     priority: Option<u8>,
     text: &'a str,
+    variant: Variant,
     elements: &mut E,
     visitor: &mut V,
 ) -> Option<V::Answer>
     ensures { (whole : Text) → IsBehindPriority (trimmed_text whole) priority (chars text.entry.now)
-        → MatchOption result
-        (IsNot5424 whole × (visitor.new ≡ visitor.old) × Visits E.was_given elements.old [] elements.new)
-        (λ made. (line : Line) × IsRead5424 whole (line_value line) × V.makes visitor.old line made visitor.new
-        × Visits E.was_given elements.old (list_elements line.list) elements.new) }
+        → MatchOption result ((variant ≢ RFC3164 → IsNot5424 whole) × (visitor.new ≡ visitor.old)
+        × Visits E.was_given elements.old [] elements.new)
+        (λ made. variant ≢ RFC3164 × ((line : Line) × IsRead5424 whole (line_value line)
+        × V.makes visitor.old line made visitor.new
+        × Visits E.was_given elements.old (list_elements line.list) elements.new)) }
 {
+    if !variant.reads_rfc5424() {
+        return None;
+    }
     if !begins_version(text) {
         return None;
     }
@@ -168,10 +175,8 @@ pub(crate) fn visit_undated<'a, E: ElementVisitor<'a>, V: LineVisitor<'a>>(
         → BeginsWithout month_date variant (chars text.entry.now) → (dating : AnyDating)
         → Made V.makes E.was_given variant dating whole visitor.old elements.old result visitor.new elements.new }
 {
-    if variant.reads_rfc5424() {
-        if let Some(made) = visit_5424(priority, text, elements, visitor) {
-            return Some(made);
-        }
+    if let Some(made) = visit_5424(priority, text, variant, elements, visitor) {
+        return Some(made);
     }
     let Some((timestamp, rest)) = front_stamp(text, variant) else {
         return None;
@@ -203,14 +208,27 @@ pub fn visit_line<'a, F: FnOnce(IncompleteDate) -> i32, E: ElementVisitor<'a>, V
         visitor.old elements.old result visitor.new elements.new) }
 {
     let (priority, after_priority) = optional_priority(trimmed(input));
-    let Some((date, rest)) = front_date(after_priority, variant) else {
-        return visit_undated(priority, after_priority, variant, elements, visitor);
+    let (timestamp, rest) = match front_date(after_priority, variant) {
+        Some((date, rest)) => {
+            let year = asked_numbers(date).map(get_year);
+            let Some(stamp) = month_stamp(date, &Dating { year, tz, local }) else {
+                return None;
+            };
+            (Some(stamp), rest)
+        }
+        None => {
+            // Dropped here: where a flag says whether it was used, LLVM makes two calls of the last line's one.
+            drop(get_year);
+            if let Some(made) = visit_5424(priority, after_priority, variant, elements, visitor) {
+                return Some(made);
+            }
+            let Some((stamp, rest)) = front_stamp(after_priority, variant) else {
+                return None;
+            };
+            (stamp, rest)
+        }
     };
-    let year = asked_numbers(date).map(get_year);
-    let Some(stamp) = month_stamp(date, &Dating { year, tz, local }) else {
-        return None;
-    };
-    Some(visit_3164(priority, Some(stamp), rest, elements, visitor))
+    Some(visit_3164(priority, timestamp, rest, elements, visitor))
 }
 
 // Returns the line itself.

@@ -306,7 +306,7 @@ pub fn tag_word(text: &str) -> Option<(Option<&str>, &str)>
 }
 
 /// The text without the white space at its two ends.
-#[tactic(auto, using(crate::proofs::TextLemmas::Trim::trimmed_chars, crate::proofs::TextLemmas::Trim::bare_trimmed))]
+#[tactic(auto, using(crate::proofs::TextLemmas::Trim::bare_trimmed))]
 #[inline(always)]
 pub fn trimmed(text: &str) -> &str
     ensures { shown result ≡ spec.trimmed (chars text.now) }
@@ -314,8 +314,17 @@ pub fn trimmed(text: &str) -> &str
     if is_bare(text.as_bytes()) {
         text
     } else {
-        text.trim()
+        trim(text)
     }
+}
+
+// The same of any text, by a call, since few lines have white space or a character past ASCII at an end.
+#[tactic(auto, using(crate::proofs::TextLemmas::Trim::trimmed_chars))]
+#[inline(never)]
+fn trim(text: &str) -> &str
+    ensures { shown result ≡ spec.trimmed (chars text.now) }
+{
+    text.trim()
 }
 
 // Whether the first and the last byte are ASCII and no white space.

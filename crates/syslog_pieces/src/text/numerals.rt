@@ -31,8 +31,9 @@ fn pair_value(tens: u8, ones: u8) -> Option<u32>
     Some(front * 10 + back)
 }
 
-/// One to five digits, which most numbers have: they need no loop.
-#[inline(always)]
+/// One to five digits, which most numbers have: they need no loop. It is a call, because a reading call asks for the
+/// process at two places.
+#[inline(never)]
 pub(crate) fn few_digits(digits: &[u8]) -> Option<u32>
     ensures value { IfSome result (λ value.
         (0 < length digits.now) × (value < 100_000) × (value ≡ digits_value 10 digits.now)) }
