@@ -3,15 +3,15 @@ use Rattle.std.proofs.Common.{◌≡◌, ◌⊎◌, inl, inr, ℤ, Result, Ok, E
 use Rattle.std.specs.Prelude.{MatchResult}
 use Rattle.syslog_pieces.specs.Pieces.Class.{Text}
 use Rattle.jiff.specs.Words.{plain_zone}
-use Rattle.syslog_loose.specs.Reading.{InYear, IncompleteDate, IsUnreadable}
+use Rattle.syslog_loose.specs.Reading.{InYear, IncompleteDate}
 use Rattle.syslog_loose.specs.Reckoning.{dating_in, reckoned_year}
 use Rattle.syslog_loose.specs.declared.fault.ParseFault.{ParseFault}
 use Rattle.syslog_loose.specs.declared.fault.ParseFault.TheVariants.{Invalid}
 use Rattle.syslog_loose.specs.declared.variant.Variant.TheVariants.{Either}
 use Rattle.syslog_loose.proofs.ReadingLemmas.{in_year_map, in_year_told, invalid_or_memory}
-use Rattle.syslog_strict.specs.Call.{Converts, Copies, IsConvertedText}
+use Rattle.syslog_strict.specs.Call.{Converts, Copies, IsConvertedText, NoSyslogMsg}
 use Rattle.syslog_strict.specs.Grammar.{IsSyslogMsg}
-use Rattle.syslog_5424.specs.Conversions.{IsDated, IsWritten}
+use Rattle.syslog_5424.specs.Conversions.{IsDated, IsRefused, IsWritten}
 use Rattle.syslog_5424.specs.declared.options.Options.{Options}
 
 -- the text of a conversion is in the grammar
@@ -19,14 +19,20 @@ strict_dated : (options : Options) (input text : Text) → IsDated options input
     → IsSyslogMsg text
 strict_dated options input text h = (h.holds h.answered (λ date asks. refl)).strict
 
+-- no year decides whether the text is in the grammar
+not_strict : (options : Options) (input : Text) → IsDated options input (λ dating. NoSyslogMsg input) → NoSyslogMsg input
+not_strict options input h = h.holds h.answered (λ date asks. refl)
+
 pub told : (options : Options) (input text : Text) (r : Result (Unit {0}) ParseFault)
     → Copies input r text ⊎ IsDated options input (λ dating. Converts Either dating input r text)
-    → MatchResult r (λ _. IsSyslogMsg text × IsWritten options input text)
-    (λ fault. fault ≡ Invalid → IsDated options input (λ dating. IsUnreadable Either dating input))
+    → MatchResult r (λ _. IsSyslogMsg text × IsWritten options input text) (λ fault. fault ≡ Invalid → IsRefused options input)
 told options input text (Ok x) (inl (valid, e)) = (rw e valid, inl (valid, e))
-told options input text (Ok x) (inr h) = (strict_dated options input text h, inr h)
+told options input text (Ok x) (inr h) =
+    let converted = in_year_map (λ year is. is.1) h in
+    (strict_dated options input text converted, inr (not_strict options input (in_year_map (λ year is. is.0) h), converted))
 told options input text (Err fault) (inl (valid, memory)) = λ invalid. absurd (invalid_or_memory (sym memory ∙ invalid))
-told options input text (Err fault) (inr h) = λ e. in_year_map (λ year iff. iff.0 e) h
+told options input text (Err fault) (inr h) =
+    λ e. (not_strict options input (in_year_map (λ year is. is.0) h), in_year_map (λ year is. is.1.0 e) h)
 
 pub told_copied : (post : IncompleteDate → ℤ → Type 0) (options : Options) (input text : Text) (r : Result (Unit {0}) ParseFault)
     → Copies input r text ⊎ InYear post Either input (λ year. Converts Either (dating_in (plain_zone options.zone) year) input r text)

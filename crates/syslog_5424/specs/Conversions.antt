@@ -11,7 +11,7 @@ use Rattle.syslog_lines.specs.Count.{held_count}
 use Rattle.syslog_lines.specs.Output.{Answer, Filter, Written, Marked, Omitted, is_passed_over}
 use Rattle.syslog_lines.specs.Pump.{FiltersAll}
 use Rattle.syslog_lines.specs.declared.summary.Summary.{Summary}
-use Rattle.syslog_strict.specs.Call.{IsConvertedText}
+use Rattle.syslog_strict.specs.Call.{IsConvertedText, NoSyslogMsg}
 use Rattle.syslog_strict.specs.Grammar.{IsSyslogMsg}
 use Rattle.syslog_5424.specs.declared.options.Options.{Options}
 
@@ -19,10 +19,14 @@ use Rattle.syslog_5424.specs.declared.options.Options.{Options}
 abbrev pub IsDated : Options → Text → (Dating → Type 0) → Type 0
 IsDated options text Holds = InDating options.year options.month (plain_zone options.zone) Either text Holds
 
--- the text that is written for a text: itself, where it is in the grammar, or its conversion
+-- the text that is written for a text: itself, where it is in the grammar, and otherwise its conversion
 abbrev pub IsWritten : Options → Text → Text → Type 0
 IsWritten options input text = (IsSyslogMsg input × (text ≡ input))
-    ⊎ IsDated options input (λ dating. IsConvertedText Either dating input text)
+    ⊎ (NoSyslogMsg input × IsDated options input (λ dating. IsConvertedText Either dating input text))
+
+-- the text is neither in the grammar nor does it parse
+abbrev pub IsRefused : Options → Text → Type 0
+IsRefused options input = NoSyslogMsg input × IsDated options input (λ dating. IsUnreadable Either dating input)
 
 -- the answer to a line: that text, encoded, or nothing where the line does not parse or is no UTF-8
 abbrev pub IsConversion : Options → List ℕ → Answer → Type 0
@@ -30,7 +34,7 @@ IsConversion options line (Written bytes) = IsUtf8 line × ((text : Text) × IsS
     × IsWritten options (chars line) text × (bytes ≡ encode_utf8_all text))
 IsConversion options line (Marked bytes) = ⊥
 IsConversion options line Omitted =
-    IsUtf8 line → IsDated options (chars line) (λ dating. IsUnreadable Either dating (chars line))
+    IsUtf8 line → IsRefused options (chars line)
 
 -- memory may be wanted for any line
 abbrev pub conversions : Options → Filter

@@ -2,14 +2,12 @@
 ghost use Rattle.std.specs.Prelude.{◌≡◌, false, IfErr, IfOk, MatchResult};
 ghost use Rattle.std.specs.Str.{chars};
 ghost use Rattle.jiff.specs.Words.{IsYear};
-ghost use Rattle.syslog_loose.specs.Reading.{IsUnreadable};
 ghost use Rattle.syslog_loose.specs.Reckoning.{reckoned_year};
 ghost use Rattle.syslog_loose.specs.declared.fault.ParseFault.TheVariants.{Invalid};
-ghost use Rattle.syslog_loose.specs.declared.variant.Variant.TheVariants.{Either};
 ghost use Rattle.syslog_lines.specs.Pump.{EndsEarly, FailedAs};
 ghost use Rattle.syslog_strict.specs.Grammar.{IsSyslogMsg};
 ghost use Rattle.syslog_strict.specs.Pushing.{text_in};
-ghost use Rattle.syslog_5424.specs.Conversions.{ConvertsAll, IsDated, IsWritten, conversions};
+ghost use Rattle.syslog_5424.specs.Conversions.{ConvertsAll, IsRefused, IsWritten, conversions};
 
 use crate::options::Options;
 use std::alloc::{AllocError, Global};
@@ -64,8 +62,7 @@ impl Conversions {
     fn convert_line(&self, alloc: Global, line: &str, text: &mut String) -> Result<(), ParseFault>
         ensures { MatchResult result
             (λ _. IsSyslogMsg (text_in text.new) × IsWritten self.now.options (chars line.now) (text_in text.new))
-            (λ fault. fault ≡ Invalid → IsDated self.now.options (chars line.now) (λ dating.
-            IsUnreadable Either dating (chars line.now))) }
+            (λ fault. fault ≡ Invalid → IsRefused self.now.options (chars line.now)) }
     {
         let year = self.options.year;
         let month = self.options.month;

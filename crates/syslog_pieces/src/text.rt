@@ -50,6 +50,10 @@ pub enum CharClass {
     Tag,
     /// Neither white space nor a colon nor `[`: the tag of the form `tag[id]`.
     Label,
+    /// PRINTUSASCII of RFC 5424: `!` to `~`.
+    Printable,
+    /// PRINTUSASCII but `=`, `]` and `"`: an SD-NAME of RFC 5424.
+    SdName,
 }
 
 impl CharClass {
@@ -70,6 +74,8 @@ impl CharClass {
             CharClass::Bare => c != '\\',
             CharClass::Tag => !c.is_whitespace() && c != ':',
             CharClass::Label => (!c.is_whitespace() && c != ':') && c != '[',
+            CharClass::Printable => '!' <= c && c <= '~',
+            CharClass::SdName => ('!' <= c && c <= '~') && !(c == '=' || (c == ']' || c == '"')),
         }
     }
 }

@@ -4,6 +4,9 @@ pub mod ConversionLaws
 pub mod ElementLaws
 pub mod LineLemmas
 pub mod NameLaws
+pub mod OnlyLemmas
+pub mod IdLemmas
+pub mod SeenLemmas
 pub mod StampLemmas
 pub mod StampLaws
 pub mod TextLemmas

@@ -1,33 +1,28 @@
 -- A text that is in the grammar, piece by piece from the left.
-use Rattle.std.proofs.Common.{◌≡◌, ◌≢◌, ◌⊎◌, inl, inr, ℕ, pos, ◌+◌, ◌*◌, ◌/◌, ◌%◌, ◌<◌, ◌≤◌, Bool, true, false, List, [], ◌∷◌, ◌++◌, length, get_or}
-use Rattle.std.proofs.Common.{Option, Some, None, MatchOption, refl, sym, ap, ap₂, subst, ◌∙◌, arith, append_assoc, append-nil, map}
-use Rattle.std.specs.Prelude.{◌||◌}
+use Rattle.std.proofs.Common.{◌≡◌, ◌≢◌, ◌⊎◌, inl, inr, ℕ, pos, ◌+◌, ◌*◌, ◌/◌, ◌%◌, ◌<◌, true, List, [], ◌∷◌, ◌++◌, length, get_or}
+use Rattle.std.proofs.Common.{Option, Some, None, MatchOption, refl, sym, ap, ap₂, ◌∙◌, arith, append_assoc, append-nil}
 use Rattle.std.specs.Borrow.{Bor}
 use Rattle.std.specs.Bool.{⊤}
 use Rattle.std.proofs.lemmas.Fmt.{decimal-digits_value}
-use Rattle.std.proofs.lemmas.Str.{encodes-IsAscii, encodes-chars}
 use Rattle.std.specs.Char.{is_ascii_digit}
 use Rattle.std.specs.Fmt.{decimal}
 use Rattle.std.specs.List.{AllByRecursion}
-use Rattle.std.specs.Str.{chars, IsUtf8}
+use Rattle.std.specs.Str.{chars}
 use Rattle.jiff_core.specs.Calendar.{IsCivilDate}
 use Rattle.jiff_fmt.specs.Text.{pad2, pad4}
 use Rattle.syslog_pieces.specs.Bodies.Scan.{SplitsRun}
 use Rattle.syslog_pieces.specs.Pieces.Class.{Text, Each, Front, exactly, join}
-use Rattle.syslog_pieces.specs.Pieces.View.{Skips, shown, text_eq}
+use Rattle.syslog_pieces.specs.Pieces.View.{Skips, shown}
 use Rattle.syslog_pieces.specs.Text.CharClass.{is_inert_char}
 use Rattle.syslog_pieces.proofs.PieceLemmas.Each.{all_append}
 use Rattle.syslog_pieces.specs.Text.{number}
-use Rattle.syslog_pieces.proofs.TextLemmas.Chars.{digits_ascii}
 use Rattle.syslog_pieces.proofs.TextLemmas.Decimals.{one_digit}
 use Rattle.syslog_pieces.proofs.TextLemmas.Words.{own}
-use Rattle.syslog_strict.specs.Beginnings.{Begins, IsHeader}
-use Rattle.syslog_strict.specs.Conversion.{is_among}
-use Rattle.syslog_strict.specs.Grammar.{AreDistinct, IsAppName, IsFullDate, IsHostname, IsMsgid, IsParamValue, IsPartialTime, IsPri, IsProcid}
-use Rattle.syslog_strict.specs.Grammar.{IsSdElement, IsSdName, IsSdParam, IsSecfrac, IsSpacedMsg, IsStructuredData, IsSyslogMsg, IsTimeOffset}
-use Rattle.syslog_strict.specs.Grammar.{IsTimestamp, IsValuePiece, is_escaped}
+use Rattle.syslog_strict.specs.Beginnings.{Begins, BeginsElement, BeginsName, BeginsParams, BeginsValue, IsBody, IsHeader, IsMarkedDigits, IsShort, IsTwoDigits}
+use Rattle.syslog_strict.specs.Grammar.{IsFullDate, IsParamValue, IsPartialTime, IsPri}
+use Rattle.syslog_strict.specs.Grammar.{IsSdName, IsSdParam, IsSecfrac, IsStructuredData, IsSyslogMsg, IsTimeOffset}
+use Rattle.syslog_strict.specs.Grammar.{IsTimestamp, IsValuePiece, is_escaped, is_printusascii}
 use Rattle.syslog_strict.proofs.ElementLemmas.{inert_plain}
-use Rattle.syslog_strict.proofs.NameLaws.{no_text_eq}
 
 -- what holds of the rest, where there is one
 pub some_as : {X : Type 0} (r : Option X) (N : Type 0) (P Q : X → Type 0) → MatchOption r N P → ((x : X) → P x → Q x)
@@ -59,14 +54,14 @@ pri_number text d a rest n e other front g =
 
 -- ---- TIMESTAMP
 
-pub digits_same : (xs : List ℕ) → IsUtf8 xs → Each is_ascii_digit (chars xs) → chars xs ≡ xs
-digits_same xs u each = sym (encodes-IsAscii (chars xs) (digits_ascii (chars xs) each)) ∙ encodes-chars xs u
+pub secfrac_is : (text digits : Text) (x : Text × Text) → text ≡ 46 ∷ digits → IsShort is_ascii_digit 6 digits x → Begins IsSecfrac text x.1
+secfrac_is text digits x e (some, f, ends) = (46 ∷ x.0, inr (x.0, refl, some), e ∙ ap (λ (t : Text). 46 ∷ t) f)
 
-pub secfrac_is : (text rest : Text) (xs : List ℕ) → text ≡ 46 ∷ (chars xs ++ rest) → IsUtf8 xs → Each is_ascii_digit (chars xs)
-    → 1 ≤ length xs → length xs ≤ 6 → Begins IsSecfrac text rest
-secfrac_is text rest xs e u each some few =
-    let same = ap length (digits_same xs u each) in
-    (46 ∷ chars xs, inr (chars xs, refl, (omega arith, omega arith, each)), e)
+pub no_secfrac : (text : Text) → Begins IsSecfrac text text
+no_secfrac text = ([], inl refl, refl)
+
+pub name_is : (most : ℕ) (text t : Text) (x : Text × Text) → text ≡ 32 ∷ t → IsShort is_printusascii most t x → BeginsName most text x.1
+name_is most text t x e (some, f, ends) = (x.0, some, e ∙ ap (λ (u : Text). 32 ∷ u) f, ends)
 
 year_digits : (c y : ℕ) → c < 100 → y < 100 → pad2 c ++ pad2 y ≡ pad4 (c * 100 + y)
 year_digits c y h k =
@@ -133,6 +128,9 @@ pub char_as : (text : Text) (c : ℕ) (r : Option (Bor (List ℕ))) → Skips (e
 char_as text c None h = λ rest e. h (c ∷ []) rest tt e refl
 char_as text c (Some rest) h = h.whole ∙ ap (λ (x : Text). x ++ shown rest) h.is
 
+pub marked_is : (mark : ℕ) (text t : Text) (x : ℕ × Text) → text ≡ mark ∷ t → IsTwoDigits t x → IsMarkedDigits mark text x
+marked_is mark text t x e (small, f) = (small, e ∙ ap (λ (u : Text). mark ∷ u) f)
+
 -- ---- values
 joined_both : (ps qs : List Text) → join (ps ++ qs) ≡ join ps ++ join qs
 joined_both [] qs = refl
@@ -157,7 +155,7 @@ module _ (text bs xs ys : List ℕ) (so_far : Begins IsParamValue text (chars bs
     so_far.2 ∙ ap (λ (x : Text). so_far.0 ++ x) run.characters ∙ sym (append_assoc so_far.0 (chars xs) (chars ys)),
   )
 
-  pub value_closed : (c : ℕ) (more : Text) → chars ys ≡ c ∷ more → c ≡ 34 → (value : Text) × IsParamValue value × (text ≡ value ++ (34 ∷ more))
+  pub value_closed : (c : ℕ) (more : Text) → chars ys ≡ c ∷ more → c ≡ 34 → BeginsValue text more
   value_closed c more e is =
       (value_on.0, value_on.1, value_on.2 ∙ ap (λ (x : Text). value_on.0 ++ x) (e ∙ ap (λ (x : ℕ). x ∷ more) is))
 
@@ -179,7 +177,7 @@ param_joined : (name value rest : Text) → 32 ∷ (name ++ (61 ∷ 34 ∷ (valu
 param_joined name value rest = sym (simp append_assoc refl)
 
 pub param_is : (text t1 t2 t3 t4 name rest : Text) → text ≡ 32 ∷ t1 → IsSdName name → t1 ≡ name ++ t2 → t2 ≡ 61 ∷ t3 → t3 ≡ 34 ∷ t4
-    → (value : Text) × IsParamValue value × (t4 ≡ value ++ (34 ∷ rest)) → Begins IsSdParam text rest
+    → BeginsValue t4 rest → Begins IsSdParam text rest
 param_is text t1 t2 t3 t4 name rest e is f g h (value, v, i) = (
   32 ∷ (name ++ (61 ∷ 34 ∷ (value ++ (34 ∷ [])))),
   (name, value, is, v, refl),
@@ -205,72 +203,18 @@ many_on Is text rest next (ps, each, e) (p, is, f) = (
 )
 
 pub many_closed : (text rest next : Text) → BeginsMany IsSdParam text rest → rest ≡ 93 ∷ next
-    → (params : List Text) × AllByRecursion IsSdParam params × (text ≡ join params ++ (93 ∷ next))
+    → BeginsParams text next
 many_closed text rest next (ps, each, e) f = (ps, each, e ∙ ap (λ (x : Text). join ps ++ x) f)
 
 element_joined : (id params rest : Text) → 91 ∷ (id ++ (params ++ (93 ∷ rest))) ≡ (91 ∷ (id ++ (params ++ (93 ∷ [])))) ++ rest
 element_joined id params rest = sym (simp append_assoc refl)
 
 pub element_is : (text t1 t2 id rest : Text) → text ≡ 91 ∷ t1 → IsSdName id → t1 ≡ id ++ t2
-    → (params : List Text) × AllByRecursion IsSdParam params × (t2 ≡ join params ++ (93 ∷ rest))
-    → (element : Text) × IsSdElement id element × (text ≡ element ++ rest)
+    → BeginsParams t2 rest → BeginsElement text (id, rest)
 element_is text t1 t2 id rest e is f (params, each, g) = (
   91 ∷ (id ++ (join params ++ (93 ∷ []))),
   (params, is, each, refl),
   e ∙ ap (λ (x : Text). 91 ∷ x) (f ∙ ap (λ (x : Text). id ++ x) g) ∙ element_joined id (join params) rest,
-)
-
--- elements with these ids, one after the other, and then the rest
-pub record BeginsElements (text : Text) (ids : List Text) (rest : Text) : Type 0 where
-  pub elements : List (Text × Text)
-  pub each : AllByRecursion (λ (e : Text × Text). IsSdElement e.0 e.1) elements
-  pub have : map (λ (e : Text × Text). e.0) elements ≡ ids
-  pub distinct : AreDistinct ids
-  pub whole : text ≡ join (map (λ (e : Text × Text). e.1) elements) ++ rest
-
-pub elements_start : (text : Text) (ids : List Text) → ids ≡ [] → BeginsElements text ids text
-elements_start text ids none =
-    record { elements = []; each = tt; have = sym none; distinct = subst AreDistinct (sym none) tt; whole = refl }
-
-pub mapped_last : {X Y : Type 0} (f : X → Y) (xs : List X) (x : X) → map f (xs ++ x ∷ []) ≡ map f xs ++ f x ∷ []
-mapped_last f [] x = refl
-mapped_last f (y ∷ xs) x = ap (λ zs. f y ∷ zs) (mapped_last f xs x)
-
-or_false : (a b : Bool) → (a || b) ≡ false → (a ≡ false) × (b ≡ false)
-or_false true b h = cc
-or_false false b h = (refl, h)
-
--- a text that is none of them comes last
-distinct_last : (ids : List Text) (id : Text) → AreDistinct ids → is_among id ids ≡ false → AreDistinct (ids ++ id ∷ [])
-distinct_last [] id distinct new = (tt, tt)
-distinct_last (t ∷ ts) id distinct new =
-    let (other, none) = or_false (text_eq t id) (is_among id ts) new in (
-      all_append (λ u. u ≢ t) ts (id ∷ []) distinct.0 ((λ e. no_text_eq t id other (sym e)), tt),
-      distinct_last ts id distinct.1 none,
-    )
-
-pub elements_on : (text rest id next : Text) (ids more : List Text) → BeginsElements text ids rest → is_among id ids ≡ false
-    → more ≡ ids ++ id ∷ [] → (element : Text) × IsSdElement id element × (rest ≡ element ++ next) → BeginsElements text more next
-elements_on text rest id next ids more b new e (element, is, f) =
-    let texts = map (λ (p : Text × Text). p.1) b.elements in
-    record {
-      elements = b.elements ++ (id, element) ∷ [];
-      each = all_append (λ (p : Text × Text). IsSdElement p.0 p.1) b.elements ((id, element) ∷ []) b.each (is, tt);
-      have = mapped_last (λ (p : Text × Text). p.0) b.elements (id, element) ∙ ap (λ (x : List Text). x ++ id ∷ []) b.have ∙ sym e;
-      distinct = subst AreDistinct (sym e) (distinct_last ids id b.distinct new);
-      whole = b.whole ∙ ap (λ (x : Text). join texts ++ x) f ∙ sym (append_assoc (join texts) element next)
-          ∙ ap (λ (x : Text). x ++ next) (sym (joined_last texts element) ∙ ap join (sym (mapped_last (λ (p : Text × Text). p.1) b.elements (id, element))));
-    }
-
-some_elements : (es : List (Text × Text)) (ids : List Text) → map (λ (e : Text × Text). e.0) es ≡ ids → ids ≢ [] → 0 < length es
-some_elements [] ids e some = absurd (some (sym e))
-some_elements (x ∷ es) ids e some = omega arith
-
-pub elements_end : (text rest : Text) (ids : List Text) → BeginsElements text ids rest → ids ≢ [] → Begins IsStructuredData text rest
-elements_end text rest ids b some = (
-  join (map (λ (e : Text × Text). e.1) b.elements),
-  inr (b.elements, some_elements b.elements ids b.have some, b.each, subst AreDistinct (sym b.have) b.distinct, refl),
-  b.whole,
 )
 
 pub nil_data : (text rest : Text) → text ≡ 45 ∷ rest → Begins IsStructuredData text rest
@@ -278,10 +222,9 @@ nil_data text rest e = (45 ∷ [], inl refl, e)
 
 -- ---- the whole
 pub header_is : (text t1 t2 t3 t4 t5 t6 t7 t8 rest : Text) → Begins IsPri text t1 → t1 ≡ 49 ∷ t2 → t2 ≡ 32 ∷ t3 → Begins IsTimestamp t3 t4
-    → (name : Text) × IsHostname name × (t4 ≡ 32 ∷ (name ++ t5)) → (name : Text) × IsAppName name × (t5 ≡ 32 ∷ (name ++ t6))
-    → (name : Text) × IsProcid name × (t6 ≡ 32 ∷ (name ++ t7)) → (name : Text) × IsMsgid name × (t7 ≡ 32 ∷ (name ++ t8))
+    → BeginsName 255 t4 t5 → BeginsName 48 t5 t6 → BeginsName 128 t6 t7 → BeginsName 32 t7 t8
     → t8 ≡ 32 ∷ rest → IsHeader text rest
-header_is text t1 t2 t3 t4 t5 t6 t7 t8 rest (pri, p, e) f g (stamp, s, h) (host, o, i) (app, a, j) (process, r, k) (id, d, l) m = record {
+header_is text t1 t2 t3 t4 t5 t6 t7 t8 rest (pri, p, e) f g (stamp, s, h) (host, o, i, _) (app, a, j, _) (process, r, k, _) (id, d, l, _) m = record {
   pri = pri;
   timestamp = stamp;
   hostname = host;
@@ -297,8 +240,8 @@ header_is text t1 t2 t3 t4 t5 t6 t7 t8 rest (pri, p, e) f g (stamp, s, h) (host,
   whole = rw (e, f, g, h, i, j, k, l, m) refl;
 }
 
-pub msg_is : (text rest more : Text) → IsHeader text rest → Begins IsStructuredData rest more → IsSpacedMsg more → IsSyslogMsg text
-msg_is text rest more header (data_text, is, e) spaced = record {
+pub msg_is : (text rest : Text) → IsHeader text rest → IsBody rest → IsSyslogMsg text
+msg_is text rest header (data_text, more, is, spaced, e) = record {
   pri = header.pri;
   timestamp = header.timestamp;
   hostname = header.hostname;
@@ -317,3 +260,25 @@ msg_is text rest more header (data_text, is, e) spaced = record {
   is_spaced_msg = spaced;
   whole = rw (← e) header.whole;
 }
+
+-- such a text has a header and a body
+pub msg_parts : (text : Text) → IsSyslogMsg text → (rest : Text) × IsHeader text rest × IsBody rest
+msg_parts text m = (
+  m.structured_data ++ m.spaced_msg,
+  record {
+    pri = m.pri;
+    timestamp = m.timestamp;
+    hostname = m.hostname;
+    app_name = m.app_name;
+    procid = m.procid;
+    msgid = m.msgid;
+    is_pri = m.is_pri;
+    is_timestamp = m.is_timestamp;
+    is_hostname = m.is_hostname;
+    is_app_name = m.is_app_name;
+    is_procid = m.is_procid;
+    is_msgid = m.is_msgid;
+    whole = m.whole;
+  },
+  (m.structured_data, m.spaced_msg, m.is_structured_data, m.is_spaced_msg, refl),
+)

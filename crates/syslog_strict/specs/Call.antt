@@ -21,9 +21,15 @@ pub record IsConvertedText (variant : Variant) (dating : Dating) (input text : T
   pub strict : IsSyslogMsg text
   pub again : (receiver : Dating) → IsRead Either receiver text (converted message)
 
--- that text, or a fault, which is `Invalid` exactly where the input is read as no message
+-- the text is not in the grammar
+abbrev pub NoSyslogMsg : Text → Type 0
+NoSyslogMsg text = IsSyslogMsg text → ⊥
+
+-- the input is not in the grammar, and the text is its conversion; or there is a fault, which is `Invalid` exactly where
+-- the input is read as no message
 abbrev pub Converts : Variant → Dating → Text → Result (Unit {0}) ParseFault → Text → Type 0
-Converts variant dating input result text = MatchResult result (λ _. IsConvertedText variant dating input text)
+Converts variant dating input result text = NoSyslogMsg input
+    × MatchResult result (λ _. IsConvertedText variant dating input text)
     (λ fault. (fault ≡ Invalid) ↔ IsUnreadable variant dating input)
 
 -- the input is in the grammar, and is the text, or there was no memory for it

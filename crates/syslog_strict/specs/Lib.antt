@@ -2,4 +2,5 @@ pub mod Beginnings
 pub mod Call
 pub mod Conversion
 pub mod Grammar
+pub mod Ids
 pub mod Pushing

@@ -1,10 +1,10 @@
 //! The calls that write a text as strict RFC 5424.
-ghost use Rattle.std.specs.Prelude.{◌≡◌, ◌⊎◌, ◌↔◌, IsTrue, MatchResult};
+ghost use Rattle.std.specs.Prelude.{◌≡◌, ◌⊎◌, ◌↔◌, MatchResult};
 ghost use Rattle.std.specs.Str.{chars};
 ghost use Rattle.syslog_loose.specs.Reading.{AnswersEachMonth, InYear, IsUnreadable};
 ghost use Rattle.syslog_loose.specs.declared.fault.ParseFault.TheVariants.{Invalid, Memory};
 ghost use Rattle.syslog_pieces.specs.Timestamp.Zone.{dating_of};
-ghost use Rattle.syslog_strict.specs.Call.{Converts, Copies, IsConvertedText};
+ghost use Rattle.syslog_strict.specs.Call.{Converts, Copies, IsConvertedText, NoSyslogMsg};
 ghost use Rattle.syslog_strict.specs.Grammar.{IsSyslogMsg};
 ghost use Rattle.syslog_strict.specs.Pushing.{text_in};
 
@@ -35,21 +35,10 @@ pub fn to_rfc5424_into<F: FnOnce(IncompleteDate) -> i32>(
         ⊎ InYear (F.post get_year) variant (chars input.entry.now) (λ year.
         Converts variant (dating_of year tz.entry local.entry) (chars input.entry.now) result (text_in text.new)) }
 {
-    if is_known_valid(alloc, input) {
+    if is_syslog_msg(alloc, input) {
         return copy(text, input);
     }
     convert(alloc, text, input, get_year, tz, variant, local)
-}
-
-// Whether the text is in the grammar, and there was memory to find that.
-#[inline(always)]
-fn is_known_valid(alloc: Global, text: &str) -> bool
-    ensures { IsTrue result → IsSyslogMsg (chars text.now) }
-{
-    match is_syslog_msg(alloc, text) {
-        Ok(is_valid) => is_valid,
-        Err(_) => false,
-    }
 }
 
 // Copies the text into `text`.
@@ -64,7 +53,7 @@ fn copy(text: &mut String, input: &str) -> Result<(), ParseFault>
     }
 }
 
-// Writes the message of the text, converted.
+// Writes the message of the text, which is not in the grammar, converted.
 #[inline(always)]
 fn convert<F: FnOnce(IncompleteDate) -> i32>(
     alloc: Global,
@@ -75,7 +64,8 @@ fn convert<F: FnOnce(IncompleteDate) -> i32>(
     variant: Variant,
     local: &TimeZone<'_>,
 ) -> Result<(), ParseFault>
-    requires { AnswersEachMonth (F.pre get_year) }
+    requires year { AnswersEachMonth (F.pre get_year) }
+    requires other { NoSyslogMsg (chars input.now) }
     ensures { InYear (F.post get_year) variant (chars input.entry.now) (λ year.
         Converts variant (dating_of year tz.entry local.entry) (chars input.entry.now) result (text_in text.new)) }
 {
@@ -100,8 +90,8 @@ pub fn to_rfc5424<F: FnOnce(IncompleteDate) -> i32>(
     requires { AnswersEachMonth (F.pre get_year) }
     ensures { (IsSyslogMsg (chars input.entry.now) × MatchResult result (λ text. text_in text ≡ chars input.entry.now)
         (λ fault. fault ≡ Memory))
-        ⊎ InYear (F.post get_year) variant (chars input.entry.now) (λ year.
-        MatchResult result
+        ⊎ InYear (F.post get_year) variant (chars input.entry.now) (λ year. NoSyslogMsg (chars input.entry.now)
+        × MatchResult result
         (λ text. IsConvertedText variant (dating_of year tz.entry local.entry) (chars input.entry.now) (text_in text))
         (λ fault. (fault ≡ Invalid) ↔ IsUnreadable variant (dating_of year tz.entry local.entry) (chars input.entry.now))) }
 {

@@ -4,6 +4,7 @@
 mod call;
 mod conversion;
 mod elements;
+mod ids;
 pub mod laws;
 mod names;
 mod stamp;

@@ -1,20 +1,22 @@
 //! Whether a text is in the grammar of RFC 5424 already.
-ghost use Rattle.std.specs.Prelude.{◌≡◌, ◌≢◌, ◌⊎◌, ◌<◌, ◌≤◌, ◌++◌, ◌∷◌, [], ⊤, IfOk, IsTrue, List, MatchOption, Option, map, pos};
-ghost use Rattle.std.specs.List.{AllByRecursion};
+//!
+//! A reader has two clauses: `found` says what it finds, and `only` that nothing else is so.
+ghost use Rattle.std.specs.Prelude.{◌≡◌, ◌≢◌, ◌⊎◌, ◌↔◌, ◌<◌, ◌++◌, ◌∷◌, [], ℕ, ⊤, true, IfOk, IsSomeAnd, IsTrue, List, MatchOption, length, pos};
 ghost use Rattle.std.specs.Str.{chars, IsUtf8};
 ghost use Rattle.jiff_core.specs.Calendar.{IsCivilDate};
 ghost use Rattle.jiff_fmt.specs.Text.{pad2};
-ghost use Rattle.syslog_pieces.specs.Pieces.Class.{Text, join};
-ghost use Rattle.syslog_pieces.specs.Pieces.View.{shown};
+ghost use Rattle.syslog_pieces.specs.Pieces.Class.{Text};
+ghost use Rattle.syslog_pieces.specs.Pieces.View.{shown, text_eq};
+ghost use Rattle.syslog_pieces.specs.Text.CharClass.{has};
+ghost use Rattle.syslog_strict.specs.Beginnings.{Begins, BeginsDistinct, BeginsElement, BeginsElements, BeginsName, BeginsParams, BeginsSecfrac};
+ghost use Rattle.syslog_strict.specs.Beginnings.{BeginsTime, BeginsValue, Follows, IsBody, IsDistinctAndMsg, IsElementsAndMsg, IsHeader};
+ghost use Rattle.syslog_strict.specs.Beginnings.{IsMarkedDigits, IsShort, IsTwoDigits, Only, both, numbered};
 ghost use Rattle.syslog_strict.specs.Conversion.{is_among};
-ghost use Rattle.syslog_strict.specs.Grammar.{IsFullDate, IsParamValue, IsPartialTime, IsPri, IsSdElement, IsSdName, IsSdParam};
-ghost use Rattle.syslog_strict.specs.Grammar.{IsSecfrac, IsSomeOf, IsStructuredData, IsSyslogMsg, IsTimeOffset, IsTimestamp};
+ghost use Rattle.syslog_strict.specs.Grammar.{AreDistinct, IsFullDate, IsPartialTime, IsPri, IsSdParam};
+ghost use Rattle.syslog_strict.specs.Grammar.{IsSecfrac, IsSpacedMsg, IsSyslogMsg, IsTimeOffset, IsTimestamp};
 ghost use Rattle.syslog_strict.specs.Grammar as spec;
-ghost use Rattle.syslog_strict.specs.Grammar.{is_printusascii};
-ghost use Rattle.syslog_strict.specs.Beginnings.{Begins, IsHeader};
-ghost use Rattle.syslog_strict.specs.Pushing.{keeps};
 
-use crate::text::{Kept, is_kept};
+use crate::ids::Ids;
 use jiff::civil::Date;
 use std::alloc::{AllocError, Global};
 use syslog_pieces::as_str::is_same_text;
@@ -24,15 +26,34 @@ use syslog_pieces::text::{CharClass, first, literal, number, split_run};
 #[inline(always)]
 fn after_char(text: &str, c: char) -> Option<&str>
     requires { c < 128 }
-    ensures { MatchOption result ((rest : Text) → chars text.now ≢ c ∷ rest) (λ rest. chars text.now ≡ c ∷ shown rest) }
+    ensures found { MatchOption result ((rest : Text) → chars text.now ≢ c ∷ rest) (λ rest. chars text.now ≡ c ∷ shown rest) }
+    ensures only { Only (Follows c (chars text.now)) (λ rest. shown rest) result }
 {
     literal(text, c)
+}
+
+// One to that many characters of the class, and the text after them, which begins with none.
+#[inline(always)]
+fn short_run(text: &str, class: CharClass, most: usize) -> Option<(&str, &str)>
+    requires { (c : ℕ) → has class c ≡ true → c < 128 }
+    ensures found { MatchOption result ⊤ (λ x. IsShort (has class) most (chars text.now) (both x)) }
+    ensures only { Only (IsShort (has class) most (chars text.now)) (λ x. both x) result }
+{
+    let (run, rest) = split_run(text, class);
+    if run.len() > most {
+        return None;
+    }
+    if run.is_empty() {
+        return None;
+    }
+    Some((run, rest))
 }
 
 // The text after PRI.
 #[inline(always)]
 fn after_pri(text: &str) -> Option<&str>
-    ensures { MatchOption result ⊤ (λ rest. Begins IsPri (chars text.now) (shown rest)) }
+    ensures found { MatchOption result ⊤ (λ rest. Begins IsPri (chars text.now) (shown rest)) }
+    ensures only { Only (Begins IsPri (chars text.now)) (λ rest. shown rest) result }
 {
     let digits = after_char(text, '<')?;
     match after_char(digits, '0') {
@@ -47,22 +68,26 @@ fn after_pri(text: &str) -> Option<&str>
 // A number of two digits, and the text after them.
 #[inline(always)]
 fn two_digits(text: &str) -> Option<(u32, &str)>
-    ensures { MatchOption result ⊤ (λ x. (x.0 < 100) × (chars text.now ≡ pad2 x.0 ++ shown x.1)) }
+    ensures found { MatchOption result ⊤ (λ x. IsTwoDigits (chars text.now) (numbered x)) }
+    ensures only { Only (IsTwoDigits (chars text.now)) (λ x. numbered x) result }
 {
     let (tens, rest) = first(text)?;
     let (ones, rest) = first(rest)?;
-    if tens.is_ascii_digit() && ones.is_ascii_digit() {
-        Some(((tens as u32 - 48) * 10 + (ones as u32 - 48), rest))
-    } else {
-        None
+    if !tens.is_ascii_digit() {
+        return None;
     }
+    if !ones.is_ascii_digit() {
+        return None;
+    }
+    Some(((tens as u32 - 48) * 10 + (ones as u32 - 48), rest))
 }
 
 // Two digits after this ASCII character.
 #[inline(always)]
 fn digits_after(text: &str, mark: char) -> Option<(u32, &str)>
     requires { mark < 128 }
-    ensures { MatchOption result ⊤ (λ x. (x.0 < 100) × (chars text.now ≡ mark ∷ pad2 x.0 ++ shown x.1)) }
+    ensures found { MatchOption result ⊤ (λ x. IsMarkedDigits mark (chars text.now) (numbered x)) }
+    ensures only { Only (IsMarkedDigits mark (chars text.now)) (λ x. numbered x) result }
 {
     let rest = after_char(text, mark)?;
     two_digits(rest)
@@ -74,7 +99,7 @@ fn is_date(year: u32, month: u32, day: u32) -> bool
     requires year { year < 10_000 }
     requires month { month < 100 }
     requires day { day < 100 }
-    ensures { IsTrue result → IsCivilDate (pos year) month day }
+    ensures { IsTrue result ↔ IsCivilDate (pos year) month day }
 {
     if month >= 1 && month <= 12 && day >= 1 && day <= 28 {
         return true;
@@ -85,7 +110,8 @@ fn is_date(year: u32, month: u32, day: u32) -> bool
 // The text after FULL-DATE.
 #[inline(always)]
 fn after_date(text: &str) -> Option<&str>
-    ensures { MatchOption result ⊤ (λ rest. Begins IsFullDate (chars text.now) (shown rest)) }
+    ensures found { MatchOption result ⊤ (λ rest. Begins IsFullDate (chars text.now) (shown rest)) }
+    ensures only { Only (Begins IsFullDate (chars text.now)) (λ rest. shown rest) result }
 {
     let (century, rest) = two_digits(text)?;
     let (year, rest) = two_digits(rest)?;
@@ -101,28 +127,34 @@ fn after_date(text: &str) -> Option<&str>
 // The text after TIME-SECFRAC, or the whole where there is none.
 #[inline(always)]
 fn after_secfrac(text: &str) -> Option<&str>
-    ensures { MatchOption result ⊤ (λ rest. Begins IsSecfrac (chars text.now) (shown rest)) }
+    ensures found { MatchOption result ⊤ (λ rest. Begins IsSecfrac (chars text.now) (shown rest)) }
+    ensures only { Only (BeginsSecfrac (chars text.now)) (λ rest. shown rest) result }
 {
     let Some(digits) = after_char(text, '.') else {
         return Some(text);
     };
-    let (run, rest) = split_run(digits, CharClass::Digit);
-    if run.len() >= 1 && run.len() <= 6 {
-        Some(rest)
-    } else {
-        None
-    }
+    let (_, rest) = short_run(digits, CharClass::Digit, 6)?;
+    Some(rest)
+}
+
+// Whether a clock of RFC 5424 shows that.
+#[inline(always)]
+fn is_clock(hour: u32, minute: u32, second: u32) -> bool
+    ensures { IsTrue result ↔ ((hour < 24) × (minute < 60) × (second < 60)) }
+{
+    hour < 24 && minute < 60 && second < 60
 }
 
 // The text after PARTIAL-TIME.
 #[inline(always)]
 fn after_time(text: &str) -> Option<&str>
-    ensures { MatchOption result ⊤ (λ rest. Begins IsPartialTime (chars text.now) (shown rest)) }
+    ensures found { MatchOption result ⊤ (λ rest. Begins IsPartialTime (chars text.now) (shown rest)) }
+    ensures only { Only (BeginsTime (chars text.now)) (λ rest. shown rest) result }
 {
     let (hour, rest) = two_digits(text)?;
     let (minute, rest) = digits_after(rest, ':')?;
     let (second, rest) = digits_after(rest, ':')?;
-    if hour < 24 && minute < 60 && second < 60 {
+    if is_clock(hour, minute, second) {
         after_secfrac(rest)
     } else {
         None
@@ -131,7 +163,7 @@ fn after_time(text: &str) -> Option<&str>
 
 #[inline(always)]
 fn is_sign(c: char) -> bool
-    ensures { IsTrue result → (c ≡ 43) ⊎ (c ≡ 45) }
+    ensures { IsTrue result ↔ ((c ≡ 43) ⊎ (c ≡ 45)) }
 {
     if c == '+' {
         return true;
@@ -142,7 +174,8 @@ fn is_sign(c: char) -> bool
 // The text after TIME-OFFSET.
 #[inline(always)]
 fn after_offset(text: &str) -> Option<&str>
-    ensures { MatchOption result ⊤ (λ rest. Begins IsTimeOffset (chars text.now) (shown rest)) }
+    ensures found { MatchOption result ⊤ (λ rest. Begins IsTimeOffset (chars text.now) (shown rest)) }
+    ensures only { Only (Begins IsTimeOffset (chars text.now)) (λ rest. shown rest) result }
 {
     let (sign, rest) = first(text)?;
     if sign == 'Z' {
@@ -153,7 +186,7 @@ fn after_offset(text: &str) -> Option<&str>
     }
     let (hour, rest) = two_digits(rest)?;
     let (minute, rest) = digits_after(rest, ':')?;
-    if hour < 24 && minute < 60 {
+    if is_clock(hour, minute, 0) {
         Some(rest)
     } else {
         None
@@ -163,7 +196,8 @@ fn after_offset(text: &str) -> Option<&str>
 // The text after TIMESTAMP.
 #[inline(always)]
 fn after_stamp(text: &str) -> Option<&str>
-    ensures { MatchOption result ⊤ (λ rest. Begins IsTimestamp (chars text.now) (shown rest)) }
+    ensures found { MatchOption result ⊤ (λ rest. Begins IsTimestamp (chars text.now) (shown rest)) }
+    ensures only { Only (Begins IsTimestamp (chars text.now)) (λ rest. shown rest) result }
 {
     if let Some(rest) = after_char(text, '-') {
         return Some(rest);
@@ -177,40 +211,21 @@ fn after_stamp(text: &str) -> Option<&str>
 // The text after a space, and a name of at most that many characters.
 #[inline(always)]
 fn after_name(text: &str, most: usize) -> Option<&str>
-    ensures { MatchOption result ⊤ (λ rest. (name : Text) × IsSomeOf is_printusascii most name
-        × (chars text.now ≡ 32 ∷ (name ++ shown rest))) }
+    ensures found { MatchOption result ⊤ (λ rest. BeginsName most (chars text.now) (shown rest)) }
+    ensures only { Only (BeginsName most (chars text.now)) (λ rest. shown rest) result }
 {
     let start = after_char(text, ' ')?;
-    let (name, rest) = split_run(start, CharClass::Visible);
-    if is_some_kept(name, Kept::Printable, most) {
-        Some(rest)
-    } else {
-        None
-    }
-}
-
-// Whether the text is one to that many characters, each of which is kept.
-#[inline(always)]
-fn is_some_kept(text: &str, kept: Kept, most: usize) -> bool
-    ensures { IsTrue result → IsSomeOf (keeps kept) most (chars text.now) }
-{
-    match first(text) {
-        Some(_) => is_kept(text, kept, most),
-        None => false,
-    }
+    let (_, rest) = short_run(start, CharClass::Printable, most)?;
+    Some(rest)
 }
 
 // An SD-NAME, and the text after it.
 #[inline(always)]
 fn sd_name(text: &str) -> Option<(&str, &str)>
-    ensures { MatchOption result ⊤ (λ x. IsSdName (shown x.0) × (chars text.now ≡ shown x.0 ++ shown x.1)) }
+    ensures found { MatchOption result ⊤ (λ x. IsShort spec.is_sd_char 32 (chars text.now) (both x)) }
+    ensures only { Only (IsShort spec.is_sd_char 32 (chars text.now)) (λ x. both x) result }
 {
-    let (name, rest) = split_run(text, CharClass::Id);
-    if is_some_kept(name, Kept::SdName, 32) {
-        Some((name, rest))
-    } else {
-        None
-    }
+    short_run(text, CharClass::SdName, 32)
 }
 
 // Whether the character is escaped in a value.
@@ -224,8 +239,8 @@ fn is_escaped(c: char) -> bool
 // The text after PARAM-VALUE and the quote that closes it.
 #[inline(always)]
 fn after_value(text: &str) -> Option<&str>
-    ensures { MatchOption result ⊤ (λ rest. ((value : Text) × IsParamValue value
-        × (chars text.now ≡ value ++ (34 ∷ shown rest))) × IsUtf8 rest.now) }
+    ensures found { MatchOption result ⊤ (λ rest. BeginsValue (chars text.now) (shown rest) × IsUtf8 rest.now) }
+    ensures only { Only (BeginsValue (chars text.now)) (λ rest. shown rest) result }
 {
     let mut rest = text;
     'stretches: loop {
@@ -248,7 +263,8 @@ fn after_value(text: &str) -> Option<&str>
 // The text after SD-PARAM and the space before it.
 #[inline(always)]
 fn after_param(text: &str) -> Option<&str>
-    ensures { MatchOption result ⊤ (λ rest. Begins IsSdParam (chars text.now) (shown rest) × IsUtf8 rest.now) }
+    ensures found { MatchOption result ⊤ (λ rest. Begins IsSdParam (chars text.now) (shown rest) × IsUtf8 rest.now) }
+    ensures only { Only (Begins IsSdParam (chars text.now)) (λ rest. shown rest) result }
 {
     let start = after_char(text, ' ')?;
     let (_, rest) = sd_name(start)?;
@@ -260,8 +276,8 @@ fn after_param(text: &str) -> Option<&str>
 // The text after all SD-PARAMs and the bracket that closes their element.
 #[inline(always)]
 fn after_params(text: &str) -> Option<&str>
-    ensures { MatchOption result ⊤ (λ rest. ((params : List Text) × AllByRecursion IsSdParam params
-        × (chars text.now ≡ join params ++ (93 ∷ shown rest))) × IsUtf8 rest.now) }
+    ensures found { MatchOption result ⊤ (λ rest. BeginsParams (chars text.now) (shown rest) × IsUtf8 rest.now) }
+    ensures only { Only (BeginsParams (chars text.now)) (λ rest. shown rest) result }
 {
     let mut rest = text;
     'params: loop {
@@ -276,8 +292,8 @@ fn after_params(text: &str) -> Option<&str>
 // An SD-ELEMENT's SD-ID, and the text after the element.
 #[inline(always)]
 fn sd_element(text: &str) -> Option<(&str, &str)>
-    ensures { MatchOption result ⊤ (λ x. ((element : Text) × IsSdElement (shown x.0) element
-        × (chars text.now ≡ element ++ shown x.1)) × IsUtf8 x.1.now) }
+    ensures found { MatchOption result ⊤ (λ x. BeginsElement (chars text.now) (both x) × IsUtf8 x.1.now) }
+    ensures only { Only (BeginsElement (chars text.now)) (λ x. both x) result }
 {
     let start = after_char(text, '[')?;
     let (id, rest) = sd_name(start)?;
@@ -285,47 +301,131 @@ fn sd_element(text: &str) -> Option<(&str, &str)>
     Some((id, rest))
 }
 
-// Whether the id is one of these.
+// The text after the elements at the front, of which there is at least one.
 #[inline(always)]
-fn is_known(ids: &Vec<&str>, id: &str) -> bool
-    ensures { result ≡ is_among (chars id.now) (map (λ s. shown s) ids.now.items) }
+fn after_elements(text: &str) -> Option<&str>
+    ensures found { MatchOption result ⊤ (λ rest. (ids : List Text) × (0 < length ids)
+        × BeginsElements (chars text.now) ids (shown rest)) }
+    ensures only { Only (λ rest. (ids : List Text) × IsElementsAndMsg (chars text.now) ids rest) (λ rest. shown rest) result }
 {
-    for other in ids {
-        if is_same_text(other, &id) {
+    let (_, after) = sd_element(text)?;
+    let mut rest = after;
+    'elements: while let Some((_, after)) = sd_element(rest) {
+        rest = after;
+    }
+    Some(rest)
+}
+
+// Whether one of the elements at the front has this id.
+fn has_id(text: &str, id: &str) -> bool
+    ensures { (ids : List Text) (rest : Text) → BeginsElements (chars text.now) ids rest → IsSpacedMsg rest
+        → result ≡ is_among (chars id.now) ids }
+{
+    let mut rest = text;
+    'elements: while let Some((other, after)) = sd_element(rest) {
+        if is_same_text(&other, &id) {
             return true;
         }
+        rest = after;
     }
     false
 }
 
-// The text after STRUCTURED-DATA.
-#[inline(always)]
-fn after_data(alloc: Global, text: &str) -> Result<Option<&str>, AllocError>
-    ensures { IfOk result (λ found. MatchOption found ⊤ (λ rest. Begins IsStructuredData (chars text.now) (shown rest))) }
+// Whether no id comes twice, by a look at all pairs of them. It takes no memory.
+#[cold]
+#[inline(never)]
+fn are_distinct_pairs(text: &str) -> bool
+    ensures { (ids : List Text) (rest : Text) → BeginsElements (chars text.now) ids rest → IsSpacedMsg rest
+        → (IsTrue result ↔ AreDistinct ids) }
 {
-    if let Some(rest) = after_char(text, '-') {
-        return Ok(Some(rest));
-    }
-    let mut ids = Vec::new(alloc);
     let mut rest = text;
     'elements: while let Some((id, after)) = sd_element(rest) {
-        if is_known(&ids, id) {
-            return Ok(None);
+        if has_id(after, id) {
+            return false;
         }
-        ids.push(id)?;
         rest = after;
     }
-    if ids.is_empty() {
-        Ok(None)
-    } else {
-        Ok(Some(rest))
+    true
+}
+
+// The text after the elements at the front, where there is at least one and no id comes twice.
+#[inline(always)]
+fn after_distinct(alloc: Global, text: &str) -> Result<Option<&str>, AllocError>
+    ensures found { IfOk result (λ after. MatchOption after ⊤ (λ rest. BeginsDistinct (chars text.now) (shown rest))) }
+    ensures only { IfOk result (λ after. Only (IsDistinctAndMsg (chars text.now)) (λ rest. shown rest) after) }
+{
+    let Some((id, after)) = sd_element(text) else {
+        return Ok(None);
+    };
+    let mut ids = Ids::new(alloc);
+    ids.insert(id)?;
+    let mut rest = after;
+    'elements: while let Some((id, after)) = sd_element(rest) {
+        if !ids.insert(id)? {
+            return Ok(None);
+        }
+        rest = after;
+    }
+    Ok(Some(rest))
+}
+
+// Whether the text is `SP MSG`, or nothing.
+#[inline(always)]
+fn is_spaced_msg(text: &str) -> bool
+    ensures { IsTrue result ↔ IsSpacedMsg (chars text.now) }
+{
+    match first(text) {
+        Some((c, _)) => c == ' ',
+        None => true,
+    }
+}
+
+// Whether there is a text, which is `SP MSG`, or nothing.
+#[inline(always)]
+fn is_msg_after(rest: Option<&str>) -> bool
+    ensures { IsTrue result ↔ IsSomeAnd rest.entry (λ text. IsSpacedMsg (shown text)) }
+{
+    match rest {
+        Some(text) => is_spaced_msg(text),
+        None => false,
+    }
+}
+
+// Whether the text, which does not begin with `-`, is STRUCTURED-DATA [SP MSG], without memory.
+#[cold]
+#[inline(never)]
+fn is_body_by_pairs(text: &str) -> bool
+    requires { (rest : Text) → chars text.now ≢ 45 ∷ rest }
+    ensures { IsTrue result ↔ IsBody (chars text.now) }
+{
+    let Some(rest) = after_elements(text) else {
+        return false;
+    };
+    if !is_spaced_msg(rest) {
+        return false;
+    }
+    are_distinct_pairs(text)
+}
+
+// Whether the text is STRUCTURED-DATA [SP MSG]. Where there is no memory for ids, they are compared by pairs.
+#[inline(always)]
+fn is_body(alloc: Global, text: &str) -> bool
+    ensures { IsTrue result ↔ IsBody (chars text.now) }
+{
+    if let Some(rest) = after_char(text, '-') {
+        return is_spaced_msg(rest);
+    }
+    match after_distinct(alloc, text) {
+        Ok(after) => is_msg_after(after),
+        Err(_) => is_body_by_pairs(text),
     }
 }
 
 // The text after the header.
 #[inline(always)]
 fn after_header(text: &str) -> Option<&str>
-    ensures { MatchOption result ⊤ (λ rest. IsHeader (chars text.now) (shown rest)) }
+    ensures found { MatchOption result ⊤ (λ rest. IsHeader (chars text.now) (shown rest)) }
+    ensures only { Only (IsHeader (chars text.now)) (λ rest. shown rest) result }
 {
     let rest = after_pri(text)?;
     let rest = after_char(rest, '1')?;
@@ -338,20 +438,13 @@ fn after_header(text: &str) -> Option<&str>
     after_char(rest, ' ')
 }
 
-/// Whether the text is in the grammar of RFC 5424, of version 1. An `Err` is only for memory, which is asked for only
-/// where there are elements.
+/// Whether the text is in the grammar of RFC 5424, of version 1.
 #[inline(always)]
-pub fn is_syslog_msg(alloc: Global, text: &str) -> Result<bool, AllocError>
-    ensures { IfOk result (λ is. IsTrue is → IsSyslogMsg (chars text.now)) }
+pub fn is_syslog_msg(alloc: Global, text: &str) -> bool
+    ensures { IsTrue result ↔ IsSyslogMsg (chars text.now) }
 {
-    let Some(rest) = after_header(text) else {
-        return Ok(false);
-    };
-    let Some(rest) = after_data(alloc, rest)? else {
-        return Ok(false);
-    };
-    match first(rest) {
-        Some((c, _)) => Ok(c == ' '),
-        None => Ok(true),
+    match after_header(text) {
+        Some(rest) => is_body(alloc, rest),
+        None => false,
     }
 }

@@ -7,7 +7,7 @@ use Rattle.std.specs.Prelude.{◌-◌, ◌%◌, ◌||◌, nat_eq, ◌&&◌, nat_
 use Rattle.std.specs.Str.{chars, IsUtf8, IsCharBoundary}
 use Rattle.syslog_pieces.specs.declared.text.CharClass.{CharClass}
 use Rattle.syslog_pieces.specs.declared.text.CharClass.TheVariants.{Digit, Blank, Visible, Id, Name}
-use Rattle.syslog_pieces.specs.declared.text.CharClass.TheVariants.{Unescaped, Open, Inert, Bare, Tag, Label}
+use Rattle.syslog_pieces.specs.declared.text.CharClass.TheVariants.{Unescaped, Open, Inert, Bare, Tag, Label, Printable, SdName}
 use Rattle.syslog_pieces.specs.declared.text.lanes.ByteSet.{ByteSet}
 use Rattle.syslog_pieces.specs.Text.CharClass.{has}
 use Rattle.syslog_pieces.specs.Pieces.Class.{Each, Ends}
@@ -75,6 +75,8 @@ bit_of Inert = 128
 bit_of Bare = 256
 bit_of Tag = 512
 bit_of Label = 1024
+bit_of Printable = 2048
+bit_of SdName = 4096
 
 -- bytes that begin and end with ASCII characters that are no white space
 pub record IsBare (bytes : List ℕ) : Type 0 where

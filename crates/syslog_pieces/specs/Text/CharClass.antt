@@ -1,9 +1,9 @@
 -- Which characters belong to a class of characters.
-use Rattle.std.specs.Prelude.{ℕ, Bool, nat_eq, ◌&&◌, not}
+use Rattle.std.specs.Prelude.{ℕ, Bool, nat_eq, nat_le, ◌&&◌, ◌||◌, not}
 use Rattle.std.specs.Char.{is_ascii_digit, is_not_whitespace}
 use Rattle.syslog_pieces.specs.declared.text.CharClass.{CharClass}
 use Rattle.syslog_pieces.specs.declared.text.CharClass.TheVariants.{Digit, Blank, Visible, Id, Name}
-use Rattle.syslog_pieces.specs.declared.text.CharClass.TheVariants.{Unescaped, Open, Inert, Bare, Tag, Label}
+use Rattle.syslog_pieces.specs.declared.text.CharClass.TheVariants.{Unescaped, Open, Inert, Bare, Tag, Label, Printable, SdName}
 use Rattle.syslog_pieces.specs.Text.{is_blank, is_tag_char}
 
 -- neither `]` nor `=`
@@ -34,6 +34,14 @@ is_open_char c = not (nat_eq c 93)
 abbrev pub is_label_char : ℕ → Bool
 is_label_char c = is_tag_char c && not (nat_eq c 91)
 
+-- PRINTUSASCII
+abbrev pub is_printable_char : ℕ → Bool
+is_printable_char c = nat_le 33 c && nat_le c 126
+
+-- PRINTUSASCII but `=`, `]` and `"`
+abbrev pub is_sd_name_char : ℕ → Bool
+is_sd_name_char c = is_printable_char c && not (nat_eq c 61 || (nat_eq c 93 || nat_eq c 34))
+
 abbrev pub has : CharClass → ℕ → Bool
 has Digit c = is_ascii_digit c
 has Blank c = is_blank c
@@ -46,3 +54,5 @@ has Inert c = is_inert_char c
 has Bare c = is_bare_char c
 has Tag c = is_tag_char c
 has Label c = is_label_char c
+has Printable c = is_printable_char c
+has SdName c = is_sd_name_char c

@@ -15,7 +15,7 @@ pub(crate) const LANES: usize = 16;
 #[derive(Clone, Copy)]
 struct ByteSet(u8, u8, [u8; 3], bool);
 
-// ASCII white space is 9 to 13 and 32, and no other byte.
+// ASCII white space is 9 to 13 and 32, and no other byte. The range of `SdName` goes on from 255 to 0: it is 127 to 32.
 #[inline(always)]
 fn bytes_of(class: CharClass) -> ByteSet
     ensures { IsTrue (lists_class result class) }
@@ -32,6 +32,8 @@ fn bytes_of(class: CharClass) -> ByteSet
         CharClass::Bare => ByteSet(0, 0, [b'\\'; 3], false),
         CharClass::Tag => ByteSet(9, 5, [b' ', b':', b':'], false),
         CharClass::Label => ByteSet(9, 5, [b' ', b':', b'['], false),
+        CharClass::Printable => ByteSet(b'!', 94, [b'!'; 3], true),
+        CharClass::SdName => ByteSet(127, 162, [b'=', b']', b'"'], false),
     }
 }
 

@@ -2,12 +2,15 @@ use Rattle.std.proofs.Common.{length}
 use denote.Text.{Utf8}
 use denote.Shadow.{shadow}
 use Rattle.std.specs.Str.{chars}
+use Rattle.syslog_pieces.specs.Pieces.Class.{Text}
+use Rattle.syslog_strict.specs.Beginnings.{BeginsParams}
 use Rattle.syslog_strict.specs.Grammar.{IsSdParam}
 use Rattle.syslog_strict.proofs.ValidLemmas.{BeginsMany}
 use Rattle.syslog_strict.proofs.valid.after_params.Given as goal
 
 abbrev pub invariant-params : goal.invariant-params
 invariant-params l = shadow (Utf8 l.rest) × BeginsMany IsSdParam (chars l.text) (chars l.rest)
+    × ((rest : Text) → BeginsParams (chars l.text) rest → BeginsParams (chars l.rest) rest)
 
 abbrev pub decreases-params : goal.decreases-params
 decreases-params l = length (chars l.rest)

@@ -1,0 +1,12 @@
+use Rattle.std.proofs.Common.{length}
+use denote.Text.{Utf8}
+use denote.Shadow.{shadow}
+use Rattle.std.specs.Str.{chars}
+use Rattle.syslog_strict.proofs.IdLemmas.{BeginsSome, LeavesSome}
+use Rattle.syslog_strict.proofs.valid.after_elements.Given as goal
+
+abbrev pub invariant-elements : goal.invariant-elements
+invariant-elements l = shadow (Utf8 l.rest) × BeginsSome (chars l.text) (chars l.rest) × LeavesSome (chars l.text) (chars l.rest)
+
+abbrev pub decreases-elements : goal.decreases-elements
+decreases-elements l = length (chars l.rest)

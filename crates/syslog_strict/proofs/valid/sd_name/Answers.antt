@@ -1,0 +1,5 @@
+use Rattle.syslog_strict.proofs.OnlyLemmas.{sd_low}
+use Rattle.syslog_strict.proofs.valid.sd_name.Goals as goal
+
+pub short_run-requires : goal.short_run-requires
+short_run-requires c = sd_low
