@@ -20,7 +20,6 @@ pub trait AsStr: Ord {
 }
 
 /// Whether two values are the same text. Takes no memory.
-#[inline]
 pub fn is_same_text<S: AsStr>(a: &S, b: &S) -> bool
     ensures { result ≡ text_eq (text_of S.text a.now) (text_of S.text b.now) }
 {

@@ -42,7 +42,6 @@ impl Ascii {
     }
 
     /// The text.
-    #[inline(always)]
     pub fn as_str(&self) -> &str
         ensures { result.now ≡ ascii_bytes self.now }
     {

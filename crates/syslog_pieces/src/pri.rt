@@ -83,7 +83,6 @@ impl SyslogSeverity {
     }
 }
 
-#[inline(always)]
 fn severity_at(number: u8) -> SyslogSeverity
     requires { number < 8 }
     ensures { spec.severity_number result ≡ number }
@@ -100,7 +99,6 @@ fn severity_at(number: u8) -> SyslogSeverity
     }
 }
 
-#[inline(always)]
 fn facility_at(number: u8) -> Option<SyslogFacility>
     ensures { MatchOption result (24 ≤ number) (λ facility. spec.facility_number facility ≡ number) }
 {
@@ -137,7 +135,6 @@ fn facility_at(number: u8) -> Option<SyslogFacility>
 /// The facility and the severity of a priority. The facility is an eighth of it, and absent from 192
 /// on; the severity is what is left of it, and always there. (RFC 5424 stops at 191; that 192 to 255
 /// keep their severity is the crate's own rule.)
-#[inline(always)]
 pub fn decompose_pri(pri: u8) -> (Option<SyslogFacility>, Option<SyslogSeverity>)
     ensures facility { result.0 ≡ spec.facility_of pri }
     ensures severity { result.1 ≡ spec.severity_of pri }
@@ -146,7 +143,6 @@ pub fn decompose_pri(pri: u8) -> (Option<SyslogFacility>, Option<SyslogSeverity>
 }
 
 /// The two parts of a priority, both absent where there is none.
-#[inline(always)]
 pub fn parts(priority: Option<u8>) -> (Option<SyslogFacility>, Option<SyslogSeverity>)
     ensures facility { result.0 ≡ option_and_then spec.facility_of priority }
     ensures severity { result.1 ≡ option_and_then spec.severity_of priority }
@@ -180,7 +176,6 @@ pub fn optional_priority(text: &str) -> (Option<u8>, &str)
 }
 
 /// Writes a priority as it prints.
-#[inline]
 pub fn write_priority<W: fmt::Write>(f: &mut fmt::Formatter<W>, number: u32) -> fmt::Result
     ensures { WritesOnOk W.write_str_gives f.old result (priority_text number) f.new }
 {

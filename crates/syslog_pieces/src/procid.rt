@@ -95,7 +95,6 @@ impl ProcId<&str> {
 impl<'a> From<&'a str> for ProcId<&'a str> {
     ghost from_gives = { λ text procid. spec.NamesProcess (chars text.now) (spec.procid_value (λ s. shown s) procid) };
 
-    #[inline(always)]
     fn from(text: &'a str) -> ProcId<&'a str> {
         match few_digits(text.as_bytes()) {
             Some(number) => ProcId::PID(number as i32),
@@ -117,7 +116,6 @@ fn any_process(text: &str) -> ProcId<&str>
 
 /// Whether no sign and no zero is before other characters: then it is printed as what it names.
 #[tactic(auto, using(crate::proofs::ProcIdLemmas::bare_word))]
-#[inline(always)]
 pub fn is_bare_word(name: &str) -> bool
     ensures { IsTrue result → IsBareWord (chars name.now) }
 {
@@ -125,7 +123,6 @@ pub fn is_bare_word(name: &str) -> bool
 }
 
 // Whether a sign or a zero is before a further byte.
-#[inline(always)]
 fn leads_with_mark(bytes: &[u8]) -> bool
     ensures { OnFalse result (LeadsBare bytes.now) }
 {

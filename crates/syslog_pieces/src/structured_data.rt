@@ -75,7 +75,6 @@ impl<S: AsStr> fmt::Display for StructuredElement<S> {
 }
 
 // A space, the name, and the value between quotes.
-#[inline]
 fn write_param<W: fmt::Write>(f: &mut fmt::Formatter<W>, name: &str, value: &str) -> fmt::Result
     ensures { WritesOnOk W.write_str_gives f.old result
         (32 ∷ (name.now ++ (61 ∷ 34 ∷ (value.now ++ (34 ∷ []))))) f.new }

@@ -1,6 +1,6 @@
 -- The walk over an element: its steps, why a bracket inside a value decides it, and a value cut from its text by bytes.
 use Rattle.syslog_pieces.proofs.Names.{◌≡◌, ◌≢◌, ℕ, ◌<◌, ◌⊎◌, inl, inr, Bool, true, false, List, [], ◌∷◌, ◌++◌, length}
-use Rattle.syslog_pieces.proofs.Names.{refl, sym, ap, subst, ◌∙◌, append_assoc, arith, ◌≤◌, Result, Ok, Err, ◌+◌, ◌-◌}
+use Rattle.syslog_pieces.proofs.Names.{refl, sym, ap, subst, ◌∙◌, append_assoc, arith, ◌≤◌, ◌+◌, ◌-◌}
 use Rattle.syslog_pieces.proofs.Names.{take, and_parts, eqb_tells, nat_tests, length-append, append_cancel_right}
 use Rattle.syslog_pieces.proofs.Names.{encodes-append, encodes-chars, chars_past_char, IsUtf8-from_ascii, flat_map}
 use Rattle.syslog_pieces.proofs.Names.{AllByRecursion, chars, IsUtf8, encode_utf8_all, IsCharBoundary, is_name_char}
@@ -12,7 +12,7 @@ use Rattle.syslog_pieces.proofs.Names.{escaped, IsValueUnit, IsValue, value, par
 use Rattle.syslog_pieces.proofs.Names.{element_row, element_of, is_blank, AllDeterministic, run_det, some_run_det}
 use Rattle.syslog_pieces.proofs.Names.{◌also◌, exactly_det, texted_det, row_det, row_none_here, no_front_no}
 use Rattle.syslog_pieces.proofs.Names.{mapped_front, nil_front, Meets, meets_on, meets_none, meets_here, mapped_meets}
-use Rattle.syslog_pieces.proofs.Names.{row_of, ◌then◌, row_pieces, MatchResult, more_before, SplitsRun, begins}
+use Rattle.syslog_pieces.proofs.Names.{row_of, ◌then◌, row_pieces, more_before, SplitsRun, begins}
 use Rattle.syslog_pieces.proofs.Names.{more_here, is_not_whitespace, each_map, each_behind, min}
 use Rattle.syslog_pieces.proofs.Names.{name_alone, tail_row, row_head, rows_join, rows_none_here, no_mapped, row_first}
 use Rattle.syslog_pieces.proofs.Names.{row_goes, list_goes, more_goes}
@@ -359,14 +359,6 @@ module _ {C : Class} {text x y : Text} {vs : Values quoted_row} (p : Passes C te
     meets_on m (meets_on (row_goes quoted tail_row quoted_det f)
         (tail_enters y z r ws (begins 32 y z g) o)),
   )
-
--- what the scan from inside a value returns, of the text whose element it is in
-pub closing_answers : {X : Type 0} (C : Class) (text x : Text) → Passes C text x → Meets C text closing x
-    → (to : X → Text) (r : Result X ℕ)
-    → MatchResult r (λ q. (v : closing.Value) × Front closing x (to q) v) (λ d. NoFront closing x × IsDead x d)
-    → MatchResult r (λ q. (v : C.Value) × Front C text (to q) v) (λ d. NoFront C text × IsDead text d)
-closing_answers C text x p m to (Ok q) (v, f) = m.forth (to q) v f
-closing_answers C text x p m to (Err d) (n, i) = let k = meets_none _ _ _ _ m n in (k, p.dead d k i)
 
 -- ---- a quoted value, cut from its text by bytes
 module _ (t r : List ℕ) (u : IsUtf8 t) (z : IsUtf8 r) (v : Values quoted_row)

@@ -34,7 +34,6 @@ impl<'a> Collect<'a> {
     }
 
     /// The elements, or the refusal, which is kept only where there are elements.
-    #[inline(always)]
     pub fn finish(self) -> Result<Vec<StructuredElement<&'a str>>, AllocError>
         ensures { (es : List ElementValue) → HasCollected self.entry es → MatchResult result
             (λ v. map (element_value (λ s. shown s)) v.items ≡ es) (λ _. es ≢ []) }

@@ -82,7 +82,6 @@ fn count_param<S: AsStr>(param: &(S, S), params: &[(S, S)]) -> usize
     count
 }
 
-#[inline]
 fn is_same_param<S: AsStr>(a: &(S, S), b: &(S, S)) -> bool
     ensures { result ≡ param_eq (param_value (text_of S.text) a.now) (param_value (text_of S.text) b.now) }
 {

@@ -25,7 +25,6 @@ impl<'a> FewParams<'a> {
     ghost use Rattle.syslog_pieces.specs.StructuredData.Visited.{element_seen};
 
     /// Returns the parameters of the element, where all of them were noted.
-    #[inline(always)]
     pub fn all_of(&self, element: &Element<'a>) -> Option<&[(&'a str, &'a str)]>
         requires { HasNoted self.now (element_seen element.now).params }
         ensures { IfSome result (λ ps. map (param_value (λ s. shown s)) ps.now ≡ (element_seen element.now).params) }
@@ -50,7 +49,6 @@ impl<'a> ParamNotes<'a> for FewParams<'a> {
         }
     }
 
-    #[inline(always)]
     fn clear(&mut self) {
         self.count = 0;
     }

@@ -37,7 +37,6 @@ impl<'a> Element<'a> {
     }
 
     /// The id.
-    #[inline(always)]
     pub fn id(&self) -> &'a str
         ensures { shown result ≡ (element_seen self.now).id }
     {
@@ -45,7 +44,6 @@ impl<'a> Element<'a> {
     }
 
     /// How many parameters it has.
-    #[inline(always)]
     pub fn params_len(&self) -> usize
         ensures { result ≡ length (element_seen self.now).params }
     {
@@ -101,7 +99,6 @@ impl<'a> ElementList<'a> {
     }
 
     /// No list.
-    #[inline(always)]
     pub fn none() -> ElementList<'a>
         ensures elements { list_elements result ≡ [] }
         ensures text { list_text result ≡ [] }
@@ -110,7 +107,6 @@ impl<'a> ElementList<'a> {
     }
 
     /// Its text.
-    #[inline(always)]
     pub fn text(&self) -> &'a str
         ensures { shown result ≡ list_text self.now }
     {
@@ -118,7 +114,6 @@ impl<'a> ElementList<'a> {
     }
 
     /// The printed text of its elements, or `-` where there are none, where that begins its text. It may be absent.
-    #[inline(always)]
     pub fn printed(&self) -> Option<&'a str>
         ensures prints { IfSome result (λ p. shown p ≡ elements_text (list_elements self.now)) }
         ensures begins { IfSome result (λ p. (left : Text) × (list_text self.now ≡ shown p ++ left)) }
@@ -127,7 +122,6 @@ impl<'a> ElementList<'a> {
     }
 
     /// Whether its text is the printed text of its elements. It may be `false` though it is.
-    #[inline(always)]
     pub fn is_printed(&self) -> bool
         ensures { IsTrue result → list_text self.now ≡ elements_text (list_elements self.now) }
     {
@@ -138,7 +132,6 @@ impl<'a> ElementList<'a> {
     }
 
     /// How many strict elements it has.
-    #[inline(always)]
     pub fn len(&self) -> usize
         ensures { result ≡ length (list_elements self.now) }
     {
@@ -146,7 +139,6 @@ impl<'a> ElementList<'a> {
     }
 
     /// Whether it has no strict element.
-    #[inline(always)]
     pub fn is_empty(&self) -> bool
         ensures { MatchBool result (list_elements self.now ≡ []) (list_elements self.now ≢ []) }
     {
@@ -154,7 +146,6 @@ impl<'a> ElementList<'a> {
     }
 
     /// How many parameters its strict elements have together.
-    #[inline(always)]
     pub fn params_len(&self) -> usize
         ensures { result ≡ sum_by (λ e. length e.params) (list_elements self.now) }
     {

@@ -14,7 +14,6 @@ use super::walk::walk_element;
 use crate::text::literal;
 
 // The text after the space at the front, where there is one, or else the whole.
-#[inline(always)]
 fn past_separator(text: &str) -> &str
     ensures { (chars text.now ≡ 32 ∷ chars result.now)
         ⊎ (NoFront (exactly (32 ∷ [])) (chars text.now) × (chars text.now ≡ chars result.now)) }
@@ -100,7 +99,6 @@ impl<'a> Element<'a> {
 
     /// The names and the raw values of its parameters.
     #[tactic(auto, using(crate::proofs::StructuredDataLemmas::Left::inside_same))]
-    #[inline(always)]
     pub fn params(&self) -> Params<'a>
         ensures { params_left result ≡ (element_seen self.now).params }
     {
@@ -112,7 +110,6 @@ impl<'a> ElementList<'a> {
     ghost use Rattle.syslog_pieces.specs.StructuredData.Visited.{elements_left, list_elements};
 
     /// Its strict elements.
-    #[inline(always)]
     pub fn elements(&self) -> Elements<'a>
         ensures { elements_left result ≡ list_elements self.now }
     {

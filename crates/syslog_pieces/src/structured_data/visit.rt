@@ -54,7 +54,6 @@ impl<'a> ParamNotes<'a> for NoNotes {
         NoNotes
     }
 
-    #[inline(always)]
     fn clear(&mut self) {}
 
     #[inline(always)]

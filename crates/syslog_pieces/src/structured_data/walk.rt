@@ -55,7 +55,6 @@ fn open_param(text: &str) -> Option<(&str, &str, bool)>
 
 // The value whose closing quote is before the rest.
 #[tactic(auto, using(crate::proofs::StructuredDataLemmas::Closing::quoted_value))]
-#[inline(always)]
 fn value_before<'a>(text: &'a str, rest: &str) -> &'a str
     requires { (v : quoted_class.Value) × Front quoted_class (chars text.now) (chars rest.now) v }
     ensures { Front quoted_class (chars text.now) (chars rest.now) (shown result, (tt, tt)) }

@@ -36,7 +36,6 @@ pub fn is_some_of(text: &str, class: CharClass) -> bool
 }
 
 // Whether a reader has taken the whole text for a name.
-#[inline(always)]
 fn is_whole(read: Option<(Option<&str>, &str)>) -> bool
     ensures { IsTrue result ↔ IsSomeAnd read.entry (λ x. IsSomeAnd x.0 (λ _. shown x.1 ≡ [])) }
 {

@@ -38,7 +38,6 @@ pub(crate) fn begins_with_gap(bytes: &[u8]) -> bool
 }
 
 /// Whether the last byte is that of a colon.
-#[inline(always)]
 pub(crate) fn ends_in_colon(bytes: &[u8]) -> bool
     ensures { MatchBool result ((front : List ℕ) × (bytes.now ≡ front ++ (58 ∷ [])))
         ((front : List ℕ) → bytes.now ≢ front ++ (58 ∷ [])) }

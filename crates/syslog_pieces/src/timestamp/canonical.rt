@@ -27,7 +27,6 @@ fn own_year(stamp: OffsetTimestamp) -> i16
 }
 
 /// Returns whether what a clock showed, if anything, is read back from print.
-#[inline(always)]
 pub fn is_canonical_clock(clock: Option<ClockStamp>) -> bool
     ensures { IsTrue result ↔ IfSome (stamp_seen clock) IsCanonicalStamp }
 {
@@ -37,7 +36,6 @@ pub fn is_canonical_clock(clock: Option<ClockStamp>) -> bool
     }
 }
 
-#[inline(always)]
 fn shows_canonical(clock: ClockStamp) -> bool
     ensures { IsTrue result ↔ IsCanonicalStamp (clock_value clock) }
 {
@@ -49,7 +47,6 @@ fn shows_canonical(clock: ClockStamp) -> bool
 }
 
 // Whether the year that it shows, which is its own, is 0 or a later one.
-#[inline(always)]
 fn shows_late(clock: ClockStamp) -> bool
     ensures from { IsTrue result ↔ pos 0 ≤ℤ spec.own_year (clock_value clock) }
     ensures to { spec.own_year (clock_value clock) ≤ℤ pos 9999 }

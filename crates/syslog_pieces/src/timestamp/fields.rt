@@ -20,7 +20,6 @@ pub struct CivilFields {
 
 impl CivilFields {
     /// The datetime with these fields, if there is one.
-    #[inline(always)]
     pub fn datetime(self) -> Option<DateTime>
         ensures value { IfSome result (λ dt. fields_of dt ≡ self) }
         ensures none { IsNone result → ¬ (AreCivil self) }
@@ -37,7 +36,6 @@ impl CivilFields {
 }
 
 /// The fields of a datetime.
-#[inline(always)]
 pub(crate) fn datetime_fields(dt: DateTime) -> CivilFields
     ensures { result ≡ fields_of dt }
 {
@@ -52,7 +50,6 @@ pub(crate) fn datetime_fields(dt: DateTime) -> CivilFields
     }
 }
 
-#[inline(always)]
 fn datetime_of(
     year: i16,
     month: i8,
@@ -70,21 +67,18 @@ fn datetime_of(
     DateTime::new(year, month, day, hour, minute, second, nanosecond).ok()
 }
 
-#[inline(always)]
 fn year_number(n: i32) -> Option<i16>
     ensures { SomeIff result (FitsSigned w16 n) n }
 {
     i16::try_from(n).ok()
 }
 
-#[inline(always)]
 fn nanosecond_number(n: u32) -> Option<i32>
     ensures { SomeIff result (n < 2 ^ 31) (pos n) }
 {
     i32::try_from(n).ok()
 }
 
-#[inline(always)]
 fn small(n: u32) -> Option<i8>
     ensures { SomeIff result (n < 128) (pos n) }
 {

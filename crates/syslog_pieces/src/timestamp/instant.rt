@@ -16,7 +16,6 @@ use jiff::Timestamp;
 use jiff::tz::Offset;
 
 // Whether the date is one that each month has, in a year from 0 to 9998. Most are, and then no calendar is asked.
-#[inline(always)]
 fn is_early(fields: CivilFields) -> bool
     ensures civil { IsTrue result → AreCivil fields }
     ensures year { IsTrue result → (pos 0 ≤ℤ fields.year) × (fields.year <ℤ pos 9999) }
@@ -95,7 +94,6 @@ impl ClockStamp {
     ghost use Rattle.std.specs.Int.{int_div_euclid, int_rem_euclid};
 
     /// The timestamp: the instant at which the clock shows the fields, and the offset.
-    #[inline(always)]
     pub fn stamp(self) -> OffsetTimestamp
         ensures { result ≡ clock_value self }
     {
@@ -106,7 +104,6 @@ impl ClockStamp {
     }
 
     /// Returns the whole seconds from 1970 to its instant, rounded down, and the nanoseconds after them.
-    #[inline(always)]
     pub fn unix_time(self) -> (i64, u32)
         ensures seconds { result.0 ≡ int_div_euclid (clock_value self).instant.nanosecond (pos 1_000_000_000) }
         ensures nanoseconds { pos result.1 ≡ int_rem_euclid (clock_value self).instant.nanosecond (pos 1_000_000_000) }
@@ -117,7 +114,6 @@ impl ClockStamp {
 }
 
 /// Returns the timestamp of a clock that may be absent.
-#[inline(always)]
 pub fn stamp_of(clock: Option<ClockStamp>) -> Option<OffsetTimestamp>
     ensures { result ≡ stamp_seen clock }
 {
@@ -128,7 +124,6 @@ pub fn stamp_of(clock: Option<ClockStamp>) -> Option<OffsetTimestamp>
 }
 
 // The second of the instant, which its nanosecond is counted from.
-#[inline(always)]
 fn second_of(fields: CivilFields, offset: Offset) -> i64
     requires { AreCivil fields }
     ensures { result *ℤ pos 1_000_000_000 +ℤ pos fields.nanosecond
@@ -140,7 +135,6 @@ fn second_of(fields: CivilFields, offset: Offset) -> i64
 }
 
 // The nanosecond of the instant.
-#[inline(always)]
 fn nanosecond(fields: CivilFields, offset: Offset) -> i128
     requires { AreCivil fields }
     ensures { result ≡ nanos_of_fields fields -ℤ nanos_of_seconds offset.seconds }
@@ -163,7 +157,6 @@ fn second_at(days: u32, clock: u32, offset: i32) -> i64
     shown as i64 - EPOCH - i64::from(offset)
 }
 
-#[inline(always)]
 fn instant_of(nanosecond: i128) -> Timestamp
     requires { IsTimestampNanos nanosecond }
     ensures { result.nanosecond ≡ nanosecond }
@@ -175,7 +168,6 @@ fn instant_of(nanosecond: i128) -> Timestamp
 }
 
 // The days since 1 January of the year -10000.
-#[inline(always)]
 fn days(year: i32, month: u32, day: u32) -> u32
     requires from { neg_ℤ (pos 9999) ≤ℤ year }
     requires to { year ≤ℤ pos 9999 }
@@ -193,7 +185,6 @@ fn days(year: i32, month: u32, day: u32) -> u32
 }
 
 // The years since the year -10000.
-#[inline(always)]
 fn years(year: i32) -> u32
     requires from { neg_ℤ (pos 9999) ≤ℤ year }
     requires to { year ≤ℤ pos 9999 }

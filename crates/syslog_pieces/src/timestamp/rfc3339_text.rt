@@ -29,7 +29,6 @@ pub struct Rfc3339Fields {
 }
 
 /// The timestamp of what was written.
-#[inline(always)]
 pub fn stamp(written: Rfc3339Fields) -> Option<ClockStamp>
     ensures { IsAnswer (IsStampOfRfc3339 written) result }
 {
@@ -38,7 +37,6 @@ pub fn stamp(written: Rfc3339Fields) -> Option<ClockStamp>
 }
 
 // A leap second has no place of its own on the clock, so it counts as the second before.
-#[inline(always)]
 fn fields_of(written: Rfc3339Fields) -> CivilFields
     ensures { result ≡ fields_of_rfc3339 written }
 {
@@ -53,7 +51,6 @@ fn fields_of(written: Rfc3339Fields) -> CivilFields
     }
 }
 
-#[inline(always)]
 fn offset_of(seconds: i32) -> Option<Offset>
     ensures value { IfSome result (λ offset. offset.seconds ≡ seconds) }
     ensures none { IsNone result → ¬ (IsOffsetSeconds seconds) }
@@ -121,7 +118,6 @@ fn offset(text: &[u8]) -> Option<(i32, &[u8])>
 }
 
 // Hours and minutes in seconds, negative if the clock is slow of UTC.
-#[inline(always)]
 fn seconds(is_behind: bool, hours: u32, minutes: u32) -> i32
     requires hours { hours < 24 }
     requires minutes { minutes < 60 }

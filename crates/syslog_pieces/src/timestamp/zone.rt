@@ -48,7 +48,6 @@ pub fn month_stamp(date: MonthDate, dating: &Dating<'_, '_>) -> Option<ClockStam
 }
 
 // The zone that is given, or else the local one.
-#[inline(always)]
 fn zone_of<'a, 'z>(dating: &Dating<'a, 'z>) -> &'a TimeZone<'z>
     ensures { plain_zone result.now
         ≡ one_zone (spec.dating_value dating.entry.now).zone (spec.dating_value dating.entry.now).local }
@@ -60,7 +59,6 @@ fn zone_of<'a, 'z>(dating: &Dating<'a, 'z>) -> &'a TimeZone<'z>
 }
 
 // The civil fields of the month date in a year.
-#[inline(always)]
 fn fields_in(date: MonthDate, year: i32) -> CivilFields
     ensures { result ≡ civil_of date year }
 {
@@ -83,7 +81,6 @@ pub fn year_at(now: Timestamp, local: &TimeZone<'_>) -> i32
 }
 
 // The year that the date shows, or else the one that is handed in.
-#[inline(always)]
 fn year_of(date: MonthDate, year: Option<i32>) -> Option<i32>
     ensures value { IfSome result (λ y. shown_year date year ≡ Some y) }
     ensures none { IsNone result → IfSome (shown_year date year) (λ y. pos 9999 <ℤ y) }
@@ -111,7 +108,6 @@ fn of_fields(
 }
 
 // The offset of the clock in the zone that shows the datetime, the one before a fold where two do, and none in a gap.
-#[inline(always)]
 fn offset_before(dt: DateTime, tz: &TimeZone<'_>) -> Option<Offset>
     ensures { result ≡ spec.earlier (ambiguous_at (plain_zone tz.now) dt) }
 {

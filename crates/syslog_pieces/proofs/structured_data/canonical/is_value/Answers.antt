@@ -1,9 +1,5 @@
-use Rattle.syslog_pieces.proofs.Names.{[], ◌∷◌, ◌++◌, chars, value, meets_here}
 use Rattle.syslog_pieces.proofs.StructuredDataLemmas.Canonical.{value_on}
 use Rattle.syslog_pieces.proofs.structured_data.canonical.is_value.Goals as goal
-
-pub units-init : goal.units-init
-units-init c = (c.utf8.text, meets_here value (chars c.args.text.now ++ (34 ∷ [])))
 
 pub units-preserved : goal.units-preserved
 units-preserved c = (

@@ -2,9 +2,6 @@ use Rattle.syslog_pieces.proofs.Names.{inl, refl, rules, opening_row, row_of, no
 use Rattle.syslog_pieces.proofs.StructuredDataLemmas.Closing.{opening_det}
 use Rattle.syslog_pieces.proofs.structured_data.recognise.opening.Goals as goal
 
-pub returns-in_err-name : goal.returns-in_err-name
-returns-in_err-name c = let n = no_row opening_row opening_det (inl c.in_err-name.ensures) in search rules
-
 pub returns-in_err-rest : goal.returns-in_err-rest
 returns-in_err-rest c =
     let n = no_row opening_row opening_det (c.in_ok-name.ensures past inl c.in_err-rest.ensures) in search rules

@@ -1,9 +1,6 @@
-use Rattle.syslog_pieces.proofs.Names.{rules, arith, ◌≡◌, ℕ, [], ◌∷◌, refl, chars, pair, single, match_map}
+use Rattle.syslog_pieces.proofs.Names.{arith, ◌≡◌, ℕ, [], ◌∷◌, refl, chars, pair, single, match_map}
 use Rattle.syslog_pieces.proofs.StructuredDataLemmas.Closing.{no_quoted_short}
 use Rattle.syslog_pieces.proofs.structured_data.recognise.unit.Goals as goal
-
-pub returns-in_err-c : goal.returns-in_err-c
-returns-in_err-c c = let n = no_quoted_short [] c.in_err-c.ensures (omega arith) (λ r f. cc) in search rules
 
 pub returns-then-c-eq92 : goal.returns-then-c-eq92
 returns-then-c-eq92 c =

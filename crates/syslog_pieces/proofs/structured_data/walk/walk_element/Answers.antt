@@ -1,6 +1,6 @@
 use Rattle.syslog_pieces.proofs.Names.{rules, arith, refl, sym, subst, ◌≡◌, ◌+◌, ◌≤◌, ℕ, []}
 use Rattle.syslog_pieces.proofs.Names.{length, Result, Ok, Err, MatchResult, IsErrAnd, inl}
-use Rattle.syslog_pieces.proofs.Names.{NoFront, start_row, row_of, no_row, ◌then◌, ◌past◌, IsDead, element}
+use Rattle.syslog_pieces.proofs.Names.{NoFront, start_row, row_of, no_row, ◌then◌, IsDead, element}
 use Rattle.syslog_pieces.proofs.Names.{eqb-true, ElementValue}
 use Rattle.syslog_pieces.proofs.StructuredDataLemmas.Closing.{byte_count_slice, dead_suffix, start_det, no_start}
 use Rattle.syslog_pieces.proofs.StructuredDataLemmas.ReadBack.{start_text}
@@ -12,10 +12,6 @@ use Rattle.syslog_pieces.proofs.structured_data.walk.walk_element.Goals as goal
 
 pub returns-in_default-clause-walked : goal.returns-in_default-clause-walked
 returns-in_default-clause-walked g c = (no_start (no_row start_row start_det (inl c.in_default.ensures)), c.requires)
-
-pub returns-in_default-nonempty_run-clause-walked : goal.returns-in_default-nonempty_run-clause-walked
-returns-in_default-nonempty_run-clause-walked g c =
-    (no_start (no_row start_row start_det (c.in-Some.ensures past inl c.in_default-nonempty_run.ensures)), c.requires)
 
 pub new-requires : goal.new-requires
 new-requires g c =

@@ -1,4 +1,4 @@
-use Rattle.syslog_pieces.proofs.Names.{tag_word, optional_some, spaced_front, no_spaced_space, no_spaced_piece, spaced}
+use Rattle.syslog_pieces.proofs.Names.{tag_word, optional_some, spaced_front, no_spaced_space, spaced}
 use Rattle.syslog_pieces.proofs.Names.{optional_none}
 use Rattle.syslog_pieces.proofs.text.fields.tag_field.Goals as goal
 
@@ -7,6 +7,3 @@ returns-in_default c = optional_none (spaced tag_word) (no_spaced_space tag_word
 
 pub returns-in-Some-tag_word : goal.returns-in-Some-tag_word
 returns-in-Some-tag_word c = optional_some (spaced tag_word) (spaced_front tag_word c.in-Some.ensures c.in-Some-tag_word.ensures)
-
-pub returns-in-None : goal.returns-in-None
-returns-in-None c = optional_none (spaced tag_word) (no_spaced_piece tag_word c.in-Some.ensures c.in-None.ensures)

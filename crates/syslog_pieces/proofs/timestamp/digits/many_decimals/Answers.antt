@@ -1,5 +1,5 @@
-use Rattle.syslog_pieces.proofs.Names.{inl, inr, ℕ, ◌≡◌, ◌-◌, ◌*◌, ◌<◌, ◌≤◌, List, length, get_or, take, sym, ap, ◌∙◌}
-use Rattle.syslog_pieces.proofs.Names.{arith, length-take, mul-le-mul_right, cases_lt, IsAsciiDigit, fraction_value}
+use Rattle.syslog_pieces.proofs.Names.{inl, inr, ℕ, ◌≡◌, ◌-◌, ◌<◌, ◌≤◌, List, length, get_or, take, sym, ap, ◌∙◌}
+use Rattle.syslog_pieces.proofs.Names.{arith, length-take, cases_lt, IsAsciiDigit, fraction_value}
 use Rattle.std.proofs.Common.{get_or-take}
 use Rattle.std.proofs.lemmas.List.{at_drop_all}
 use Rattle.jiff_fmt.proofs.ReaderLemmas.{fraction_value-nil}
@@ -16,20 +16,6 @@ small_digit text front len i e h digits =
     let within : i < len = omega (arith, ap length e, length-take len text) in
     let digit = digits i within in
     rw (e, get_or-take len text i 0 within) (omega (arith, digit.1))
-
-pub overflow_mul-nanosecond : goal.overflow_mul-nanosecond
-overflow_mul-nanosecond c =
-    let (worth, bound, value) = c.digits.invariant in
-    let small = small_digit _ _ _ _ c.split_at.ensures.front c.digits-test.true c.digits_len-len.ensures.digits in
-    let most = mul-le-mul_right c.digits.place small in
-    omega (arith, most, ap (λ (x : ℕ). x * c.digits.place) c.from.ensures)
-
-pub overflow_add-nanosecond : goal.overflow_add-nanosecond
-overflow_add-nanosecond c =
-    let (worth, bound, value) = c.digits.invariant in
-    let small = small_digit _ _ _ _ c.split_at.ensures.front c.digits-test.true c.digits_len-len.ensures.digits in
-    let most = mul-le-mul_right c.digits.place small in
-    omega (arith, most, ap (λ (x : ℕ). x * c.digits.place) c.from.ensures)
 
 pub digits-preserved : goal.digits-preserved
 digits-preserved c =

@@ -7,6 +7,3 @@ returns-in_err-day c = let n = no_day c.in_err-day.ensures in search rules
 
 pub returns-in-Some : goal.returns-in-Some
 returns-in-Some c = rw c.date_of.ensures (yearless_is (yearless_front c.in_ok-day.ensures c.in-Some.ensures.1))
-
-pub returns-in-None : goal.returns-in-None
-returns-in-None c = c.dated.ensures _ c.in_ok-day.ensures c.in-None.ensures

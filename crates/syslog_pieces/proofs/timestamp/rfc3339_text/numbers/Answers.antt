@@ -3,10 +3,6 @@ use Rattle.syslog_pieces.proofs.Names.{◌past◌}
 use Rattle.syslog_pieces.proofs.TimestampLemmas.Rfc3339.{no_stamp_text, stamp_text_front, stamp_pieces_det}
 use Rattle.syslog_pieces.proofs.timestamp.rfc3339_text.numbers.Goals as goal
 
-pub returns-in_err-year : goal.returns-in_err-year
-returns-in_err-year c =
-    let n = no_stamp_text (no_row stamp_row stamp_pieces_det (inl c.in_err-year.ensures)) in search rules
-
 pub returns-in_err-month : goal.returns-in_err-month
 returns-in_err-month c =
     let n = no_stamp_text (no_row stamp_row stamp_pieces_det (c.in_ok-year.ensures past inl c.in_err-month.ensures)) in search rules

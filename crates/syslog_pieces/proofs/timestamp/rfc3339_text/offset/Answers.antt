@@ -7,11 +7,6 @@ pub returns-in_err-is_behind : goal.returns-in_err-is_behind
 returns-in_err-is_behind c =
     let n = no_offset c.in-None.ensures (no_row numeric_row numeric_det (inl c.in_err-is_behind.ensures)) in search rules
 
-pub returns-in_err-hours : goal.returns-in_err-hours
-returns-in_err-hours c =
-    let n = no_offset c.in-None.ensures (no_row numeric_row numeric_det (c.in_ok-is_behind.ensures past
-    inl c.in_err-hours.ensures)) in search rules
-
 pub returns-in_err-minutes : goal.returns-in_err-minutes
 returns-in_err-minutes c =
     let n = no_offset c.in-None.ensures (no_row numeric_row numeric_det (c.in_ok-is_behind.ensures past

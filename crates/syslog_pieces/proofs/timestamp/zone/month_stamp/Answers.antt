@@ -1,11 +1,7 @@
 use Rattle.syslog_pieces.proofs.Names.{FitsSigned, w32, refl, rules, to_z-of_z}
 use Rattle.syslog_pieces.specs.Timestamp.Zone.{dating_value}
-use Rattle.syslog_pieces.proofs.TimestampLemmas.Zone.{answer_in_year, fixed_answer, no_such_year}
+use Rattle.syslog_pieces.proofs.TimestampLemmas.Zone.{answer_in_year, fixed_answer}
 use Rattle.syslog_pieces.proofs.timestamp.zone.month_stamp.Goals as goal
-
-pub returns-in_err-year : goal.returns-in_err-year
-returns-in_err-year c =
-    let n = no_such_year (dating_value c.args.dating.now) c.args.date (c.in_err-year.ensures.none refl) in search rules
 
 pub returns-in-Ok : goal.returns-in-Ok
 returns-in-Ok c =

@@ -2,11 +2,6 @@ use Rattle.syslog_pieces.proofs.Names.{refl, rules, ◌∙◌, FitsSigned, w128,
 use Rattle.syslog_pieces.proofs.TimestampLemmas.Rfc3339.{same_timestamp}
 use Rattle.syslog_pieces.proofs.timestamp.clock.ClockStamp.stamp.Goals as goal
 
-pub instant_of-requires : goal.instant_of-requires
-instant_of-requires c =
-    let fits : FitsSigned w128 c.nanosecond.result = search rules in
-    rw (to_z-of_z, c.nanosecond.ensures) c.args.self.in_range
-
 pub returns : goal.returns
 returns c =
     let fits : FitsSigned w128 c.nanosecond.result = search rules in
