@@ -3,17 +3,17 @@
 pub use Rattle.std.proofs.Common.{◌≡◌, inl, inr, ℕ, List, [], ◌∷◌, ◌++◌, Option, Some, None, refl, sym, subst}
 pub use Rattle.std.proofs.Common.{append-nil, ◌≢◌, Bool, true, false, not, nat_eq, cond, ◌⊎◌, length, ap, ◌∙◌}
 pub use Rattle.std.proofs.Common.{append_assoc, arith, map, ◌+◌, ◌-◌, ◌≤◌, take, ◌<◌, zero, suc, ◌&&◌, get_or, Result}
-pub use Rattle.std.proofs.Common.{Ok, Err, count_by, MatchBool, rules, string_bytes, IfOk, Fits, FitsSigned, IfSome}
-pub use Rattle.std.proofs.Common.{MatchOption, add-one, add-zero, drop, length-drop, nat_lt, negsuc, pos, w32, ℤ, ◌%◌}
-pub use Rattle.std.proofs.Common.{◌^◌, if◌then◌else◌, length-take, min, neg_ℤ, sum_by, unsigned_abs, w64, ◌*◌, ◌+ℤ◌}
-pub use Rattle.std.proofs.Common.{◌-ℤ◌, ◌/◌, ◌<ℤ◌, ◌≤ℤ◌}
-pub use Rattle.std.proofs.Math.Seq.{drop-append_seam, take-add, take-append_seam}
+pub use Rattle.std.proofs.Common.{Ok, Err, count_by, rules, string_bytes, IfOk, Fits, FitsSigned, IfSome, MatchOption}
+pub use Rattle.std.proofs.Common.{add-one, add-zero, drop, length-drop, nat_lt, negsuc, pos, w32, ℤ, ◌%◌, ◌^◌}
+pub use Rattle.std.proofs.Common.{if◌then◌else◌, length-take, min, neg_ℤ, sum_by, unsigned_abs, w64, ◌*◌, ◌+ℤ◌, ◌-ℤ◌}
+pub use Rattle.std.proofs.Common.{◌/◌, ◌<ℤ◌, ◌≤ℤ◌}
+pub use Rattle.std.proofs.Math.Seq.{drop-append_seam, take-append_seam}
 pub use Rattle.std.proofs.lemmas.Bool.{and_parts, and_from, agree_below, agree_below_at, and_left, cases_Bool, cases_eq}
-pub use Rattle.std.proofs.lemmas.Bool.{cases_lt, cond-false, eqb-true, lt-ltb, ltb-true, ne_eqb, not-false, not-true}
+pub use Rattle.std.proofs.lemmas.Bool.{cases_lt, eqb-true, lt-ltb, ltb-true, ne_eqb, not-false, not-true}
 pub use Rattle.std.proofs.lemmas.Bool.Decides.{eqb_tells, nat_tests}
 pub use Rattle.std.proofs.lemmas.Fmt.{decimal-digits_value, decimal_digit, decimal_nonempty, digits_value-decimal}
 pub use Rattle.std.proofs.lemmas.List.{length-append, append_cancel_right, nil_from_length, take_all, length-map}
-pub use Rattle.std.proofs.lemmas.List.{map-append, drop-drop, drop-map, drop_all, map-id, take-append-drop, take_more}
+pub use Rattle.std.proofs.lemmas.List.{map-append, drop-map, drop_all, map-id, take-append-drop, take_more}
 pub use Rattle.std.proofs.lemmas.List.Concat.{flat_map-append}
 pub use Rattle.std.proofs.lemmas.Result.{IfOk-weaker}
 pub use Rattle.std.proofs.lemmas.Str.{encodes-append, encodes-chars, chars-append, chars_past_char, chars-nil}
@@ -26,7 +26,7 @@ pub use Rattle.std.specs.Borrow.{Bor}
 pub use Rattle.std.specs.Char.{digit_value, is_ascii_digit, is_not_whitespace, is_whitespace, IsAsciiDigit}
 pub use Rattle.std.specs.Fmt.{HasWritten, IsPlainFormatter, decimal, digit_glyph, digits_onto, signed_decimal}
 pub use Rattle.std.specs.List.{flat_map, AllByRecursion, list_all, list_any, prefix_len}
-pub use Rattle.std.specs.Prelude.{◌↔◌, is_some, is_none, is_ok, IsSomeAnd, IsTrue, String, slice_index, slice_get}
+pub use Rattle.std.specs.Prelude.{◌↔◌, is_none, is_ok, IsSomeAnd, IsTrue, String, slice_index, slice_get}
 pub use Rattle.std.specs.Result.{MatchResult, IsErrAnd, OkIff}
 pub use Rattle.std.specs.Str.{chars, IsUtf8, encode_utf8_all, IsAscii, IsCharBoundary, NoCharPasses, NonePass, bytes_eq}
 pub use Rattle.std.specs.Str.Parse.{IsNumeral, ParsesSigned, ParsesUnsigned, digits_value, signed_digits_value}
@@ -70,9 +70,8 @@ pub use Rattle.syslog_pieces.proofs.PieceLemmas.Class.{spaced_front, no_mapped, 
 pub use Rattle.syslog_pieces.proofs.PieceLemmas.Class.{rows_join, rows_none_here, rows_none_later}
 pub use Rattle.syslog_pieces.proofs.PieceLemmas.Each.{all_append, all_map, each_append, each_behind, each_map}
 pub use Rattle.syslog_pieces.proofs.PieceLemmas.Lists.{many_here, many_cons, begins, list_here, more_here, no_list}
-pub use Rattle.syslog_pieces.proofs.PieceLemmas.Lists.{no_more, no_more_behind, many_det, no_many_no, has_read_none}
-pub use Rattle.syslog_pieces.proofs.PieceLemmas.Lists.{has_read_more, has_read_all, Leaves}
-pub use Rattle.syslog_pieces.proofs.PieceLemmas.Lists.{list_goes, many_none, more_goes}
+pub use Rattle.syslog_pieces.proofs.PieceLemmas.Lists.{no_more, many_det, no_many_no, has_read_none, has_read_more}
+pub use Rattle.syslog_pieces.proofs.PieceLemmas.Lists.{has_read_all, Leaves, list_goes, many_none, more_goes}
 pub use Rattle.syslog_pieces.proofs.PieceLemmas.Meets.{Meets, meets_here, meets_on, meets_none, match_map, mapped_meets}
 pub use Rattle.syslog_pieces.proofs.PieceLemmas.Meets.{row_first, row_goes}
 pub use Rattle.syslog_pieces.proofs.PieceLemmas.Rows.{row_of, ◌then◌, row_pieces, no_row, ◌past◌}

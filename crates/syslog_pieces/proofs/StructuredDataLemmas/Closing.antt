@@ -1,10 +1,10 @@
 -- The walk over an element: its steps, why a bracket inside a value decides it, and a value cut from its text by bytes.
 use Rattle.syslog_pieces.proofs.Names.{◌≡◌, ◌≢◌, ℕ, ◌<◌, ◌⊎◌, inl, inr, Bool, true, false, List, [], ◌∷◌, ◌++◌, length}
-use Rattle.syslog_pieces.proofs.Names.{refl, sym, ap, subst, ◌∙◌, append_assoc, arith, ◌≤◌, ◌+◌, ◌-◌}
-use Rattle.syslog_pieces.proofs.Names.{take, and_parts, eqb_tells, nat_tests, length-append, append_cancel_right}
-use Rattle.syslog_pieces.proofs.Names.{encodes-append, encodes-chars, chars_past_char, IsUtf8-from_ascii, flat_map}
-use Rattle.syslog_pieces.proofs.Names.{AllByRecursion, chars, IsUtf8, encode_utf8_all, IsCharBoundary, is_name_char}
-use Rattle.syslog_pieces.proofs.Names.{is_id_char, is_open_char, is_unescaped_char, Text, Class, Front, NoFront, Values}
+use Rattle.syslog_pieces.proofs.Names.{refl, sym, ap, subst, ◌∙◌, append_assoc, arith, ◌≤◌, ◌+◌, ◌-◌, take, and_parts}
+use Rattle.syslog_pieces.proofs.Names.{eqb_tells, nat_tests, length-append, append_cancel_right, encodes-append}
+use Rattle.syslog_pieces.proofs.Names.{encodes-chars, chars_past_char, IsUtf8-from_ascii, flat_map, AllByRecursion}
+use Rattle.syslog_pieces.proofs.Names.{chars, IsUtf8, encode_utf8_all, IsCharBoundary, is_name_char, is_id_char}
+use Rattle.syslog_pieces.proofs.Names.{is_open_char, is_unescaped_char, Text, Class, Front, NoFront, Values}
 use Rattle.syslog_pieces.proofs.Names.{IsDeterministic, Row, Each, some_run, exactly, start_row, start, id_alone}
 use Rattle.syslog_pieces.proofs.Names.{inside_row, inside, opening_row, opening, quoted_row, quoted, closing}
 use Rattle.syslog_pieces.proofs.Names.{byte_count, IsDead, last_char, ElementValue, TextUnit, pair, single, unit_text}
@@ -12,10 +12,9 @@ use Rattle.syslog_pieces.proofs.Names.{escaped, IsValueUnit, IsValue, value, par
 use Rattle.syslog_pieces.proofs.Names.{element_row, element_of, is_blank, AllDeterministic, run_det, some_run_det}
 use Rattle.syslog_pieces.proofs.Names.{◌also◌, exactly_det, texted_det, row_det, row_none_here, no_front_no}
 use Rattle.syslog_pieces.proofs.Names.{mapped_front, nil_front, Meets, meets_on, meets_none, meets_here, mapped_meets}
-use Rattle.syslog_pieces.proofs.Names.{row_of, ◌then◌, row_pieces, more_before, SplitsRun, begins}
-use Rattle.syslog_pieces.proofs.Names.{more_here, is_not_whitespace, each_map, each_behind, min}
-use Rattle.syslog_pieces.proofs.Names.{name_alone, tail_row, row_head, rows_join, rows_none_here, no_mapped, row_first}
-use Rattle.syslog_pieces.proofs.Names.{row_goes, list_goes, more_goes}
+use Rattle.syslog_pieces.proofs.Names.{row_of, ◌then◌, row_pieces, more_before, SplitsRun, begins, more_here}
+use Rattle.syslog_pieces.proofs.Names.{is_not_whitespace, each_map, each_behind, min, name_alone, tail_row, row_head}
+use Rattle.syslog_pieces.proofs.Names.{rows_join, rows_none_here, no_mapped, row_first, row_goes, list_goes, more_goes}
 use Rattle.std.proofs.lemmas.Str.{IsUtf8-append}
 use Rattle.syslog_pieces.specs.Text.CharClass.{is_inert_char}
 use Rattle.syslog_pieces.proofs.PieceLemmas.Class.{row_cons, row_none_later}

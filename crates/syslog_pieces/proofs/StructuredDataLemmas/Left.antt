@@ -1,10 +1,10 @@
 -- What is left of a recognised element and of a recognised list, one parameter or one item less.
-use Rattle.syslog_pieces.proofs.Names.{◌≡◌, ◌⊎◌, inl, inr, List, [], ◌∷◌, ◌++◌, Option, refl, sym, ap}
-use Rattle.syslog_pieces.proofs.Names.{◌∙◌, subst, Text, Front, NoFront, exactly, inside, inside_row}
-use Rattle.syslog_pieces.proofs.Names.{param, item, many, more_before, list_before, row_of, ◌then◌, front_same}
-use Rattle.syslog_pieces.proofs.Names.{no_front_no, heads, append_assoc, row_none_here, no_list, more_here, list_here}
-use Rattle.syslog_pieces.proofs.Names.{many_here, behind, begins, ElementValue, many_det, many_cons, ∥∥₁_elim}
-use Rattle.syslog_pieces.proofs.Names.{OneMeaning, one_value, one_value-is, row_head, many_none}
+use Rattle.syslog_pieces.proofs.Names.{◌≡◌, ◌⊎◌, inl, inr, List, [], ◌∷◌, ◌++◌, Option, refl, sym, ap, ◌∙◌, subst, Text}
+use Rattle.syslog_pieces.proofs.Names.{Front, NoFront, exactly, inside, inside_row, param, item, many, more_before}
+use Rattle.syslog_pieces.proofs.Names.{list_before, row_of, ◌then◌, front_same, no_front_no, heads, append_assoc}
+use Rattle.syslog_pieces.proofs.Names.{row_none_here, no_list, more_here, list_here, many_here, behind, begins}
+use Rattle.syslog_pieces.proofs.Names.{ElementValue, many_det, many_cons, ∥∥₁_elim, OneMeaning, one_value, one_value-is}
+use Rattle.syslog_pieces.proofs.Names.{row_head, many_none}
 use mathlib.Core.HLevel.{Σ_prop, ⊥_prop}
 use Rattle.syslog_pieces.specs.StructuredData.Recognised.{OneInside-prop, OneItems-prop, params_set, items_set}
 use Rattle.syslog_pieces.proofs.PieceLemmas.Lists.{list_cons, more_cons, list_parts}

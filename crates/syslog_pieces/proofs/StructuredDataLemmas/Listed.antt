@@ -1,15 +1,13 @@
 -- Recognised lists: their items are in their own text, and are counted while they are walked.
-use Rattle.syslog_pieces.proofs.Names.{◌≡◌, ◌+◌, ◌<◌, ◌≤◌, Bool, true, false, List, [], ◌∷◌, ◌++◌, length}
-use Rattle.syslog_pieces.proofs.Names.{refl, Option, Some, None, sym, ap, subst, ◌∙◌, append_assoc, append-nil, arith}
-use Rattle.syslog_pieces.proofs.Names.{map, inr, dash, forgiving, optional, optional_some, rfc3164_list, IsDashBefore}
-use Rattle.syslog_pieces.proofs.Names.{DashRule, append_cancel_right, length-append, IsTrue}
-use Rattle.syslog_pieces.proofs.Names.{IsUtf8, Text, Front, NoFront, exactly, run, some_run, texted, IsMany, many}
-use Rattle.syslog_pieces.proofs.Names.{value, param, param_of, element, element_of, bracketed}
-use Rattle.syslog_pieces.proofs.Names.{item, strict, full_element, shown, ElementValue, list_before, is_blank}
-use Rattle.syslog_pieces.proofs.Names.{is_id_char, is_name_char, is_open_char}
-use Rattle.syslog_pieces.proofs.Names.{◌also◌, sum_by-append, sum_by-cons}
-use Rattle.syslog_pieces.proofs.Names.{element_text, elements_text, joined_elements, IsWalked, Visits, element_seen}
-use Rattle.syslog_pieces.proofs.Names.{Walked, IsAlone, behind, elements_or}
+use Rattle.syslog_pieces.proofs.Names.{◌≡◌, ◌+◌, ◌<◌, ◌≤◌, Bool, true, false, List, [], ◌∷◌, ◌++◌, length, refl, Option}
+use Rattle.syslog_pieces.proofs.Names.{Some, None, sym, ap, subst, ◌∙◌, append_assoc, append-nil, arith, map, inr, dash}
+use Rattle.syslog_pieces.proofs.Names.{forgiving, optional, optional_some, rfc3164_list, IsDashBefore, DashRule}
+use Rattle.syslog_pieces.proofs.Names.{append_cancel_right, length-append, IsTrue, IsUtf8, Text, Front, NoFront}
+use Rattle.syslog_pieces.proofs.Names.{exactly, run, some_run, texted, IsMany, many, value, param, param_of, element}
+use Rattle.syslog_pieces.proofs.Names.{element_of, bracketed, item, strict, full_element, shown, ElementValue}
+use Rattle.syslog_pieces.proofs.Names.{list_before, is_blank, is_id_char, is_name_char, is_open_char, ◌also◌}
+use Rattle.syslog_pieces.proofs.Names.{sum_by-append, sum_by-cons, element_text, elements_text, joined_elements}
+use Rattle.syslog_pieces.proofs.Names.{IsWalked, Visits, element_seen, Walked, IsAlone, behind, elements_or}
 use Rattle.syslog_pieces.specs.StructuredData.Visited.{IsTallied, AreItems}
 use Rattle.syslog_pieces.specs.declared.structured_data.line_list.Tally.{Tally}
 use Rattle.syslog_pieces.proofs.PieceLemmas.Alone.{IsSteady, alone_steady, exactly_alone, run_steady, some_run_steady}

@@ -1,13 +1,12 @@
 -- What recognised elements and lists mean is what is in their texts.
-use Rattle.syslog_pieces.proofs.Names.{◌≡◌, List, [], ◌++◌, Option, sym, ap, subst, length, Text}
-use Rattle.syslog_pieces.proofs.Names.{Front, inside, many, item, strict, ℕ, ◌∷◌, ◌+◌}
-use Rattle.syslog_pieces.proofs.Names.{arith, IsUtf8, encodes-chars, encodes-append, encode_utf8_all, length-append}
-use Rattle.syslog_pieces.proofs.Names.{nil_from_length, append-nil, many_here, AllByRecursion, Bool, BeginsUnblank}
-use Rattle.syslog_pieces.proofs.Names.{Each, Ends, IsCanonicalElement, IsCanonicalParam, IsValue, IsValueUnit, TextUnit}
-use Rattle.syslog_pieces.proofs.Names.{pair, single, flat_map, refl, unit_text, is_blank, is_id_char, is_name_char}
-use Rattle.syslog_pieces.proofs.Names.{∥∥₁_elim, props, length-le-encodes, is_prop→PathP, ElementValue, chars}
-use Rattle.syslog_pieces.proofs.Names.{drop, drop-append_seam, ◌∙◌, OneMeaning, one_value, one_value-is}
-use Rattle.syslog_pieces.proofs.Names.{list_elements}
+use Rattle.syslog_pieces.proofs.Names.{◌≡◌, List, [], ◌++◌, Option, sym, ap, subst, length, Text, Front, inside, many}
+use Rattle.syslog_pieces.proofs.Names.{item, strict, ℕ, ◌∷◌, ◌+◌, arith, IsUtf8, encodes-chars, encodes-append}
+use Rattle.syslog_pieces.proofs.Names.{encode_utf8_all, length-append, nil_from_length, append-nil, many_here}
+use Rattle.syslog_pieces.proofs.Names.{AllByRecursion, Bool, BeginsUnblank, Each, Ends, IsCanonicalElement}
+use Rattle.syslog_pieces.proofs.Names.{IsCanonicalParam, IsValue, IsValueUnit, TextUnit, pair, single, flat_map, refl}
+use Rattle.syslog_pieces.proofs.Names.{unit_text, is_blank, is_id_char, is_name_char, ∥∥₁_elim, props}
+use Rattle.syslog_pieces.proofs.Names.{length-le-encodes, is_prop→PathP, ElementValue, chars, drop, drop-append_seam}
+use Rattle.syslog_pieces.proofs.Names.{◌∙◌, OneMeaning, one_value, one_value-is, list_elements}
 use Rattle.std.specs.List.{AllByRecursion-prop}
 use Rattle.syslog_pieces.proofs.StructuredDataLemmas.ReadBack.{items_canonical, no_item_before, no_item_nil}
 use Rattle.syslog_pieces.proofs.StructuredDataLemmas.Units.{units_same}

@@ -1,15 +1,14 @@
 -- The walk over an element: what is known at each of its parameters, and where it ends.
-use Rattle.syslog_pieces.proofs.Names.{◌≡◌, ℕ, ◌+◌, ◌<◌, ◌≤◌, Bool, List, [], ◌∷◌, ◌++◌, ◌&&◌, length, refl, sym}
-use Rattle.syslog_pieces.proofs.Names.{ap, ◌∙◌, subst, shown, encodes-chars, append_assoc, append-nil, and_parts, arith}
+use Rattle.syslog_pieces.proofs.Names.{◌≡◌, ℕ, ◌+◌, ◌<◌, ◌≤◌, Bool, List, [], ◌∷◌, ◌++◌, ◌&&◌, length, refl, sym, ap}
+use Rattle.syslog_pieces.proofs.Names.{◌∙◌, subst, shown, encodes-chars, append_assoc, append-nil, and_parts, arith}
 use Rattle.syslog_pieces.proofs.Names.{nil_from_length, length-append, chars, IsUtf8, encode_utf8_all, IsTrue, flat_map}
-use Rattle.syslog_pieces.proofs.Names.{Text, Class, Front, NoFront, IsDeterministic, Row, exactly}
-use Rattle.syslog_pieces.proofs.Names.{texted, some_run, start, start_row, id_alone, inside, inside_row, opening}
-use Rattle.syslog_pieces.proofs.Names.{opening_row, quoted, closing, byte_count, IsDead, ElementValue, element, param}
-use Rattle.syslog_pieces.proofs.Names.{param_text, Leaves, Meets, meets_on, meets_none, row_none_here, row_of, ◌then◌}
-use Rattle.syslog_pieces.proofs.Names.{◌also◌, row_det, begins, exactly_det, front_same, is_name_char, no_more}
-use Rattle.syslog_pieces.proofs.Names.{list_here, name_alone, tail_row, element_text, length-le-encodes}
-use Rattle.syslog_pieces.proofs.Names.{OneMeaning, IsWalked, element_seen, Walked, list_goes, more_goes, row_first}
-use Rattle.syslog_pieces.proofs.Names.{row_goes}
+use Rattle.syslog_pieces.proofs.Names.{Text, Class, Front, NoFront, IsDeterministic, Row, exactly, texted, some_run}
+use Rattle.syslog_pieces.proofs.Names.{start, start_row, id_alone, inside, inside_row, opening, opening_row, quoted}
+use Rattle.syslog_pieces.proofs.Names.{closing, byte_count, IsDead, ElementValue, element, param, param_text, Leaves}
+use Rattle.syslog_pieces.proofs.Names.{Meets, meets_on, meets_none, row_none_here, row_of, ◌then◌, ◌also◌, row_det}
+use Rattle.syslog_pieces.proofs.Names.{begins, exactly_det, front_same, is_name_char, no_more, list_here, name_alone}
+use Rattle.syslog_pieces.proofs.Names.{tail_row, element_text, length-le-encodes, OneMeaning, IsWalked, element_seen}
+use Rattle.syslog_pieces.proofs.Names.{Walked, list_goes, more_goes, row_first, row_goes}
 use Rattle.syslog_pieces.proofs.PieceLemmas.Lists.{leaves_all, leaves_less, leaves_last}
 use Rattle.syslog_pieces.proofs.StructuredDataLemmas.Closing.{Passes, passes_here, passes_row, passes_opening}
 use Rattle.syslog_pieces.proofs.StructuredDataLemmas.Closing.{passes_space, passes_quoted, start_shut, element_starts}

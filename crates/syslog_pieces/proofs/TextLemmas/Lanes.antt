@@ -1,7 +1,7 @@
 -- From the mask of one load to the bytes that pass a test.
-use Rattle.syslog_pieces.proofs.Names.{◌≡◌, ℕ, ◌+◌, ◌%◌, ◌^◌, ◌≤◌, Bool, true, not, List, map, cond, length}
-use Rattle.syslog_pieces.proofs.Names.{get_or, Fits, sym, ap, ◌∙◌, arith, agree_below, agree_below_at, not-true}
-use Rattle.syslog_pieces.proofs.Names.{not-false, length-map, map-id, IsRunIn, ◌&&◌, nat_tests}
+use Rattle.syslog_pieces.proofs.Names.{◌≡◌, ℕ, ◌+◌, ◌%◌, ◌^◌, ◌≤◌, Bool, true, not, List, map, cond, length, get_or}
+use Rattle.syslog_pieces.proofs.Names.{Fits, sym, ap, ◌∙◌, arith, agree_below, agree_below_at, not-true, not-false}
+use Rattle.syslog_pieces.proofs.Names.{length-map, map-id, IsRunIn, ◌&&◌, nat_tests}
 use mir.Val.{bool_byte}
 use Rattle.std.proofs.Common.{leb, ltb, eqb, replicate, w8, bit_or, ◌||◌}
 use Rattle.std.specs.Int.RustNames.{bit_xor}

@@ -1,6 +1,6 @@
-use Rattle.syslog_pieces.proofs.Names.{rules, arith, refl, sym, ap, ◌∙◌, ◌+◌, ◌≤◌, ℕ, [], ◌∷◌}
-use Rattle.syslog_pieces.proofs.Names.{◌++◌, Some, length, map, full_element, has_read_none, Front}
-use Rattle.syslog_pieces.proofs.Names.{has_read_more, has_read_all, and_parts, element_seen}
+use Rattle.syslog_pieces.proofs.Names.{rules, arith, refl, sym, ap, ◌∙◌, ◌+◌, ◌≤◌, ℕ, [], ◌∷◌, ◌++◌, Some, length, map}
+use Rattle.syslog_pieces.proofs.Names.{full_element, has_read_none, Front, has_read_more, has_read_all, and_parts}
+use Rattle.syslog_pieces.proofs.Names.{element_seen}
 use Rattle.syslog_pieces.proofs.StructuredDataLemmas.Elements.{element_shorter, strict_some}
 use Rattle.syslog_pieces.proofs.StructuredDataLemmas.Listed.{are_full_items, counts_none, counts_more, visits_none}
 use Rattle.syslog_pieces.proofs.StructuredDataLemmas.Listed.{visits_more, visits_along, tallied_along}

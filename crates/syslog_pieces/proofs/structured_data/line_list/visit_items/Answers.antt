@@ -1,7 +1,6 @@
-use Rattle.syslog_pieces.proofs.Names.{rules, arith, refl, sym, ap, subst, ◌+◌, ◌≤◌, ℕ, [], ◌∷◌}
-use Rattle.syslog_pieces.proofs.Names.{◌++◌, Some, None, length, chars, item, strict, has_read_none}
-use Rattle.syslog_pieces.proofs.Names.{IsDead, has_read_more, has_read_all, and_parts}
-use Rattle.syslog_pieces.proofs.Names.{element_seen}
+use Rattle.syslog_pieces.proofs.Names.{rules, arith, refl, sym, ap, subst, ◌+◌, ◌≤◌, ℕ, [], ◌∷◌, ◌++◌, Some, None}
+use Rattle.syslog_pieces.proofs.Names.{length, chars, item, strict, has_read_none, IsDead, has_read_more, has_read_all}
+use Rattle.syslog_pieces.proofs.Names.{and_parts, element_seen}
 use Rattle.syslog_pieces.proofs.StructuredDataLemmas.Closing.{byte_count_slice, dead_whole, dead_suffix, dead_least}
 use Rattle.syslog_pieces.proofs.StructuredDataLemmas.Elements.{element_item, element_shorter, no_item, bracketed_item}
 use Rattle.syslog_pieces.proofs.StructuredDataLemmas.Listed.{are_items, counts_none, counts_more, counts_broken}

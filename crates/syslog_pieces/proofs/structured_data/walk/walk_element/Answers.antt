@@ -1,7 +1,6 @@
-use Rattle.syslog_pieces.proofs.Names.{rules, arith, refl, sym, subst, ◌≡◌, ◌+◌, ◌≤◌, ℕ, []}
-use Rattle.syslog_pieces.proofs.Names.{length, Result, Ok, Err, MatchResult, IsErrAnd, inl}
-use Rattle.syslog_pieces.proofs.Names.{NoFront, start_row, row_of, no_row, ◌then◌, IsDead, element}
-use Rattle.syslog_pieces.proofs.Names.{eqb-true, ElementValue}
+use Rattle.syslog_pieces.proofs.Names.{rules, arith, refl, sym, subst, ◌≡◌, ◌+◌, ◌≤◌, ℕ, [], length, Result, Ok, Err}
+use Rattle.syslog_pieces.proofs.Names.{MatchResult, IsErrAnd, inl, NoFront, start_row, row_of, no_row, ◌then◌, IsDead}
+use Rattle.syslog_pieces.proofs.Names.{element, eqb-true, ElementValue}
 use Rattle.syslog_pieces.proofs.StructuredDataLemmas.Closing.{byte_count_slice, dead_suffix, start_det, no_start}
 use Rattle.syslog_pieces.proofs.StructuredDataLemmas.ReadBack.{start_text}
 use Rattle.syslog_pieces.proofs.StructuredDataLemmas.Walk.{bare_inside, bare_element, bare_prints, same_rest, at_first}

@@ -1,5 +1,4 @@
-use Rattle.syslog_pieces.proofs.Names.{tag_word, optional_some, spaced_front, no_spaced_space, spaced}
-use Rattle.syslog_pieces.proofs.Names.{optional_none}
+use Rattle.syslog_pieces.proofs.Names.{tag_word, optional_some, spaced_front, no_spaced_space, spaced, optional_none}
 use Rattle.syslog_pieces.proofs.text.fields.tag_field.Goals as goal
 
 pub returns-in_default : goal.returns-in_default

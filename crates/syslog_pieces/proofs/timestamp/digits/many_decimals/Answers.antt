@@ -1,5 +1,5 @@
-use Rattle.syslog_pieces.proofs.Names.{inl, inr, ℕ, ◌≡◌, ◌-◌, ◌<◌, ◌≤◌, List, length, get_or, take, sym, ap, ◌∙◌}
-use Rattle.syslog_pieces.proofs.Names.{arith, length-take, cases_lt, IsAsciiDigit, fraction_value}
+use Rattle.syslog_pieces.proofs.Names.{inl, inr, ℕ, ◌≡◌, ◌-◌, ◌<◌, ◌≤◌, List, length, get_or, take, sym, ap, ◌∙◌, arith}
+use Rattle.syslog_pieces.proofs.Names.{length-take, cases_lt, IsAsciiDigit, fraction_value}
 use Rattle.std.proofs.Common.{get_or-take}
 use Rattle.std.proofs.lemmas.List.{at_drop_all}
 use Rattle.jiff_fmt.proofs.ReaderLemmas.{fraction_value-nil}

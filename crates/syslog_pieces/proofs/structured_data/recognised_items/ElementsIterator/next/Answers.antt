@@ -1,5 +1,5 @@
-use Rattle.syslog_pieces.proofs.Names.{rules, refl, ap, sym, subst, ◌∙◌, ◌∷◌, ℕ, List, Option, chars}
-use Rattle.syslog_pieces.proofs.Names.{ElementValue, IsDead, strict, element_seen}
+use Rattle.syslog_pieces.proofs.Names.{rules, refl, ap, sym, subst, ◌∙◌, ◌∷◌, ℕ, List, Option, chars, ElementValue}
+use Rattle.syslog_pieces.proofs.Names.{IsDead, strict, element_seen}
 use Rattle.syslog_pieces.proofs.StructuredDataLemmas.Closing.{dead_suffix, dead_least}
 use Rattle.syslog_pieces.proofs.StructuredDataLemmas.Elements.{element_item, no_item, bracketed_item}
 use Rattle.syslog_pieces.proofs.StructuredDataLemmas.Left.{items_less, items_same, no_elements}
