@@ -15,7 +15,7 @@ use Rattle.std.proofs.Math.Seq.{drop-append_seam}
 use Rattle.syslog_pieces.specs.Pieces.Class.{Divides}
 use Rattle.syslog_pieces.proofs.PieceLemmas.Class.{firsts, lasts}
 use Rattle.syslog_loose.specs.Reading.{IsReadUnder}
-use Rattle.syslog_loose.specs.View3164.{FieldsAreRead}
+use Rattle.syslog_loose.specs.Bodies.View3164.{FieldsAreRead}
 use Rattle.syslog_loose.specs.declared.rfc3164.Fields.{Fields}
 use Rattle.syslog_loose.specs.declared.variant.Variant.TheVariants.{RFC3164}
 use Rattle.syslog_loose.specs.DashChange.{ReadsDifferently, BeginsDashChange, HasDashChange3164, HasDashChange}

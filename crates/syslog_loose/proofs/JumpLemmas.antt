@@ -15,7 +15,7 @@ use Rattle.std.specs.Str.Pattern.{FindsTextPrefix, FindsTextSuffix, StripsPrefix
 use Rattle.std.specs.Option.{is_some}
 use Rattle.syslog_pieces.proofs.TextLemmas.Chars.{chars_empty}
 use Rattle.std.specs.Char.{encode_utf8}
-use Rattle.syslog_loose.specs.Jumps.{message_end}
+use Rattle.syslog_loose.specs.Bodies.Jumps.{message_end}
 use Rattle.syslog_loose.specs.Printed.{printed_3164}
 use Rattle.syslog_loose.proofs.PriorityLemmas.{priority_small}
 use Rattle.syslog_loose.proofs.SettlingLemmas.Falls.{priority_again, printed_same}

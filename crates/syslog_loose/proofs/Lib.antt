@@ -1,3 +1,4 @@
+pub mod Formats
 pub mod BoundLemmas
 pub mod CanonicalLemmas
 pub mod DashChangeLemmas

@@ -113,22 +113,22 @@ pub use Rattle.syslog_loose.specs.Bodies.Cases.{incomplete, HasMonth}
 pub use Rattle.syslog_loose.specs.Rfc3164.{IsRead3164, Names3164, Resolves, rfc3164_row, names}
 pub use Rattle.syslog_loose.specs.Bodies.Rows.{stamped_row, fields_row}
 pub use Rattle.syslog_loose.specs.Rfc3164.{Quotes3164, Means3164, IsNot3164}
-pub use Rattle.syslog_loose.specs.View3164.{NamesProgram}
+pub use Rattle.syslog_loose.specs.Bodies.View3164.{NamesProgram}
 pub use Rattle.syslog_loose.specs.Rfc5424.{IsRead5424, IsNot5424, rfc5424_row, message_of}
 pub use Rattle.syslog_loose.specs.Bodies.Rows.{header_row, data_row}
 pub use Rattle.syslog_loose.specs.declared.variant.Variant.{Variant}
 pub use Rattle.syslog_loose.specs.declared.variant.Variant.TheVariants.{Either, RFC5424}
 pub use Rattle.syslog_loose.specs.declared.message.Protocol.TheVariants.{RFC3164}
 pub use Rattle.syslog_loose.specs.Line.{line_value, protocol_of}
-pub use Rattle.syslog_loose.specs.View3164.{names_value, fields_before}
+pub use Rattle.syslog_loose.specs.Bodies.View3164.{names_value, fields_before}
 pub use Rattle.syslog_loose.specs.Visit.{IsLineOf, Made}
 pub use Rattle.syslog_loose.specs.declared.line.Line.{Line}
 pub use Rattle.syslog_loose.specs.declared.message.Protocol.{Protocol}
 pub use Rattle.syslog_loose.specs.Exceptions.{is_no_colon, HasNoException, HasNoColon, is_inner_char, IsOddHost}
 pub use Rattle.syslog_loose.specs.Exceptions.{IsInnerProcess, AreNamesButExceptions, HasExceptionsAlone}
 pub use Rattle.syslog_loose.specs.Exceptions.{IsNearlyCanonical, HasQuietNames, HasNoNameException}
-pub use Rattle.syslog_loose.specs.Jumps.{colons, colons_before, past_colons, CutsColons, EndsColons, IsDashed}
-pub use Rattle.syslog_loose.specs.Jumps.{PassesDashes, with_msg, tail_text, message_end}
+pub use Rattle.syslog_loose.specs.Bodies.Jumps.{colons, colons_before, past_colons, CutsColons, EndsColons, IsDashed}
+pub use Rattle.syslog_loose.specs.Bodies.Jumps.{PassesDashes, with_msg, tail_text, message_end}
 pub use Rattle.syslog_loose.specs.Printed.{tag_text, priority_of, printed, printed_3164, timestamp_text}
 pub use Rattle.syslog_loose.specs.Printed.{spaced_elements, printed_5424, rest_text}
 pub use Rattle.syslog_loose.specs.Passes.{EndsOnce, IsLater, Prints, HasRank, IsToldRound, ReachesRank}
@@ -138,5 +138,5 @@ pub use Rattle.syslog_loose.specs.declared.fault.ParseFault.TheVariants.{Invalid
 pub use Rattle.syslog_loose.specs.TagForm.{IsForm, IsNoForm, form_row}
 pub use Rattle.syslog_loose.specs.Settling.{Costs, names_weight, ListWeighs, Weighs, IsNext, Reaches, IsRound}
 pub use Rattle.syslog_loose.specs.Settling.{IsSettled, NoneSettled, IsFirstSettled}
-pub use Rattle.syslog_loose.specs.Start.{BeginsWithout, IsBehindPriority}
+pub use Rattle.syslog_loose.specs.Bodies.Start.{BeginsWithout, IsBehindPriority}
 pub use Rattle.syslog_loose.specs.Bodies.Rows.{body_row}

@@ -14,8 +14,8 @@ use Rattle.syslog_pieces.specs.Timestamp.{IsAnswer}
 use Rattle.syslog_pieces.specs.Timestamp.Zone.{IsMonthStamp}
 use Rattle.syslog_pieces.proofs.TimestampLemmas.Rfc3164.{date_front, header_front, header_stamp_begins, no_date}
 use Rattle.syslog_pieces.proofs.TimestampLemmas.Rfc3164.{no_stamp_of_date}
-use Rattle.syslog_loose.specs.Start.{BeginsWith}
-use Rattle.syslog_loose.specs.View3164.{IsBehindStamp}
+use Rattle.syslog_loose.specs.Bodies.Start.{BeginsWith}
+use Rattle.syslog_loose.specs.Bodies.View3164.{IsBehindStamp}
 use Rattle.syslog_loose.specs.declared.variant.Variant.TheVariants.{RFC3164}
 use Rattle.syslog_loose.proofs.ReadingLemmas.{answered_to}
 use Rattle.syslog_loose.proofs.Rfc3164Lemmas.Apart.{shown_apart}

@@ -9,7 +9,7 @@ use Rattle.syslog_loose.proofs.Names.{printed_stamp-visible, printed_stamp-begin
 use Rattle.syslog_pieces.specs.Pieces.Format.{Format}
 use Rattle.syslog_pieces.proofs.PieceLemmas.Formats.{printed_more}
 use Rattle.syslog_loose.specs.Canonical.{EndsVisibly}
-unfoldable pub use Rattle.syslog_loose.specs.Jumps.{message_end}
+unfoldable pub use Rattle.syslog_loose.specs.Bodies.Jumps.{message_end}
 
 -- ---- characters
 

@@ -1,3 +1,7 @@
 -- Words that only laws and the proofs of bodies speak of. A reader of the claims can pass them over.
 pub mod Cases
 pub mod Rows
+pub mod Jumps
+pub mod Start
+pub mod View3164
+pub mod View5424

@@ -3,10 +3,8 @@ pub mod Canonical
 pub mod DashChange
 pub mod Equal
 pub mod EqualLaws
-pub mod Jumps
 pub mod Line
 pub mod Exceptions
-pub mod Formats
 pub mod Message
 pub mod Passes
 pub mod OneLine
@@ -17,8 +15,5 @@ pub mod Reckoning
 pub mod Rfc3164
 pub mod Rfc5424
 pub mod Settling
-pub mod Start
 pub mod TagForm
-pub mod View3164
-pub mod View5424
 pub mod Visit

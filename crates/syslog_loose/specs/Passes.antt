@@ -11,7 +11,7 @@ use Rattle.syslog_pieces.specs.Timestamp.Rfc3164.{ShowsMonthDate}
 use Rattle.syslog_pieces.specs.Timestamp.Zone.{Dating}
 use Rattle.syslog_pieces.specs.declared.timestamp.month_date.MonthDate.{MonthDate}
 use Rattle.syslog_loose.specs.Exceptions.{HasNoException, HasNoNameException}
-use Rattle.syslog_loose.specs.Jumps.{IsDashed}
+use Rattle.syslog_loose.specs.Bodies.Jumps.{IsDashed}
 use Rattle.syslog_loose.specs.Line.{line_value}
 use Rattle.syslog_loose.specs.Message.{MessageValue}
 use Rattle.syslog_loose.specs.Printed.{printed}

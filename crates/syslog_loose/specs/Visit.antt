@@ -13,7 +13,7 @@ use Rattle.syslog_loose.specs.declared.fault.ParseFault.{ParseFault}
 use Rattle.syslog_loose.specs.declared.fault.ParseFault.TheVariants.{Invalid, Memory}
 use Rattle.syslog_loose.specs.declared.message.Message.{Message}
 use Rattle.syslog_loose.specs.Reading.{IsOnlyRead, IsUnreadable}
-use Rattle.syslog_loose.specs.View3164.{IsBehindStamp}
+use Rattle.syslog_loose.specs.Bodies.View3164.{IsBehindStamp}
 use Rattle.syslog_loose.specs.declared.line.Line.{Line}
 use Rattle.syslog_loose.specs.declared.variant.Variant.{Variant}
 

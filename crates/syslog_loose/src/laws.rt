@@ -8,7 +8,7 @@ ghost use Rattle.syslog_pieces.specs.declared.timestamp.month_date.MonthDate.{Mo
 ghost use Rattle.syslog_loose.specs.Message.{MessageValue};
 ghost use Rattle.syslog_loose.specs.Printed.{printed};
 ghost use Rattle.syslog_loose.specs.declared.message.Protocol.TheVariants.{RFC3164};
-ghost use Rattle.syslog_loose.specs.Reading.{IsRead};
+ghost use Rattle.syslog_loose.specs.Reading.{IsRead, IsQuoted};
 ghost use Rattle.syslog_loose.specs.declared.variant.Variant.{Variant};
 ghost use Rattle.syslog_loose.specs.Rfc3164.{Names3164, Resolves, rfc3164_row, IsRead3164, Quotes3164};
 ghost use Rattle.syslog_loose.specs.Bodies.Rows.{stamped_row};
@@ -95,6 +95,13 @@ pub fn year_counts_for_yearless_dates_alone()
 /// A printed message of RFC 3164 has no division of RFC 5424: a space is where the version would begin.
 pub fn printed_rfc3164_is_no_rfc5424()
     ensures { (m : MessageValue) → m.protocol ≡ RFC3164 → IsNot5424 (printed m) }
+{}
+
+/// Each text of the message as which a text is read is a piece of its division, or a part of one.
+#[tactic(auto, using(crate::proofs::ReadingLemmas::quoted))]
+pub fn each_text_is_of_a_piece()
+    ensures { (variant : Variant) (dating : Dating) (text : Text) (m : MessageValue) → IsRead variant dating text m
+        → IsQuoted variant dating text m }
 {}
 
 /// A text is read as at most one message under each variant, in one year and by the same zones.

@@ -14,9 +14,9 @@ ghost use Rattle.syslog_pieces.specs.Timestamp.Zone.{Dating};
 ghost use Rattle.syslog_loose.specs.Line.{line_value, KnowsForm};
 ghost use Rattle.syslog_loose.specs.Reading.{dash_rule};
 ghost use Rattle.syslog_loose.specs.Rfc3164 as spec;
-ghost use Rattle.syslog_loose.specs.View3164.{FieldsAreRead, IsBehindStamp, IsProcessOf, names_value};
+ghost use Rattle.syslog_loose.specs.Bodies.View3164.{FieldsAreRead, IsBehindStamp, IsProcessOf, names_value};
 ghost use Rattle.syslog_loose.specs.Visit.{HasRest};
-ghost use Rattle.syslog_loose.specs.View3164.{NamesHost, NamesProgram};
+ghost use Rattle.syslog_loose.specs.Bodies.View3164.{NamesHost, NamesProgram};
 
 use crate::line::Line;
 use crate::rfc5424::{are_all, is_bare};

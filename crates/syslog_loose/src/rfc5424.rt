@@ -12,8 +12,8 @@ ghost use Rattle.syslog_pieces.specs.StructuredData.Visited.{list_elements, Visi
 ghost use Rattle.syslog_pieces.specs.Text.{trimmed};
 ghost use Rattle.syslog_loose.specs.Line.{line_value, KnowsForm};
 ghost use Rattle.syslog_loose.specs.Rfc5424.{IsNot5424, IsRead5424};
-ghost use Rattle.syslog_loose.specs.Start.{IsBehindPriority};
-ghost use Rattle.syslog_loose.specs.View5424.{ReadsHeader, names_before};
+ghost use Rattle.syslog_loose.specs.Bodies.Start.{IsBehindPriority};
+ghost use Rattle.syslog_loose.specs.Bodies.View5424.{ReadsHeader, names_before};
 
 use crate::line::Line;
 use syslog_pieces::procid::is_bare_word;

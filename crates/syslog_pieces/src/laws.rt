@@ -70,7 +70,8 @@ pub fn text_has_one_rfc3164_stamp()
 #[tactic(auto, using(crate::proofs::TimestampLemmas::Fold::earlier_in_fold))]
 pub fn fold_has_its_earlier_instant_first()
     ensures { (tz : TimeZone) (dt : DateTime) (before after : Offset) (s other : OffsetTimestamp)
-        → ambiguous_at tz dt ≡ Fold before after → IsStampOf (Fold before after) dt (λ _. ⊥) s → IsStampAt dt after other
+        → ambiguous_at tz dt ≡ Fold before after → IsStampOf (Fold before after) dt (λ _. ⊥) s
+        → IsStampAt dt after other
         → s.instant.nanosecond ≤ℤ other.instant.nanosecond }
 {}
 

@@ -6,7 +6,7 @@ use Rattle.syslog_loose.proofs.Names.{spaced_elements, priority_of}
 use Rattle.syslog_loose.specs.Canonical.{EndsVisibly}
 use Rattle.syslog_loose.specs.Printed.{name_text, printed_3164}
 use Rattle.syslog_loose.proofs.TrimLemmas.{joined_last, LastVisible, last_append, drop_after, message_end_is}
-pub use Rattle.syslog_loose.specs.Jumps.{tail_text}
+pub use Rattle.syslog_loose.specs.Bodies.Jumps.{tail_text}
 
 -- `app[id]`
 abbrev pub bracketed : Text → Text → Text

@@ -29,12 +29,12 @@ use Rattle.syslog_pieces.proofs.TextLemmas.ReadBack.{word_back, word_canonical, 
 use Rattle.syslog_pieces.proofs.TextLemmas.ReadBack.{blanks_next}
 use Rattle.syslog_loose.specs.declared.message.Protocol.TheVariants.{RFC5424}
 use Rattle.syslog_loose.specs.Canonical.{IsCanonical5424}
-use Rattle.syslog_loose.specs.Formats.{space, stamp_field}
+use Rattle.syslog_loose.proofs.Formats.{space, stamp_field}
 use Rattle.syslog_loose.specs.Printed.{printed_5424}
 use Rattle.syslog_loose.proofs.PriorityLemmas.{priority_front, priority_trimmed, priority_small, priority_low}
 use Rattle.syslog_loose.proofs.TrimLemmas.{visible_ends_blanks, stamp_unblank, last_append, elements_last, row_trimmed}
 use Rattle.syslog_loose.proofs.TrimLemmas.{last_ends, drop_ends, message_end, message_blanks}
-pub use Rattle.syslog_loose.specs.Formats.{fields}
+pub use Rattle.syslog_loose.proofs.Formats.{fields}
 
 -- ---- the printed fields, as formats
 

@@ -10,7 +10,7 @@ use Rattle.syslog_loose.proofs.Names.{priority_of, printed, printed_3164, Names3
 use Rattle.syslog_loose.proofs.Names.{rfc3164_row, IsRead3164, IsNext, Reaches, Variant, facility_of, severity_of}
 use Rattle.syslog_loose.proofs.Names.{row_cons, rows_join, rest_front, front_division, optional_some, dash_rfc3164_list}
 use Rattle.syslog_loose.proofs.Names.{EndsOnce, IsLater, Prints, RFC3164}
-use Rattle.syslog_loose.specs.Jumps.{message_end}
+use Rattle.syslog_loose.specs.Bodies.Jumps.{message_end}
 use Rattle.syslog_loose.proofs.PriorityLemmas.{priority_small}
 use Rattle.syslog_loose.proofs.Rfc3164Lemmas.Bounded.{read_bounded}
 use Rattle.syslog_loose.proofs.Rfc3164Lemmas.Exceptions.{canonical_host, canonical_names}

@@ -19,7 +19,7 @@ use Rattle.syslog_pieces.proofs.PieceLemmas.Class.{no_front_no}
 use Rattle.syslog_loose.specs.Settling.{end_colons, colons_weight, host_weight, process_weight}
 use Rattle.syslog_loose.proofs.Rfc3164Lemmas.Rows.{from_list, from_blanks}
 use Rattle.syslog_loose.proofs.SettlingLemmas.Decided.{Decided, list_decided}
-use Rattle.syslog_loose.specs.View3164.{NamesHost}
+use Rattle.syslog_loose.specs.Bodies.View3164.{NamesHost}
 
 -- ---- one weight
 cost_once : {A : Type 0} {n w v : ℕ} → Costs A n w → Costs A n v → w ≡ v

@@ -1,5 +1,7 @@
--- The bound of a protocol's version, and the dates that the closure for years is asked of.
-use Rattle.std.specs.Prelude.{⊤, ◌<◌, ◌≤◌, ◌^◌}
+-- The bound of a protocol's version, the dates that the closure for years is asked of, and what a priority prints as.
+use Rattle.std.specs.Prelude.{⊤, ℕ, ◌+◌, ◌*◌, ◌<◌, ◌≤◌, ◌^◌, Option}
+use Rattle.std.specs.Option.{option_and_then, option_map_or}
+use Rattle.syslog_pieces.specs.Pri.{facility_of, severity_of, facility_number, severity_number}
 use Rattle.syslog_pieces.specs.declared.timestamp.month_date.MonthDate.{MonthDate}
 use Rattle.syslog_loose.specs.Reading.{IncompleteDate}
 use Rattle.syslog_loose.specs.declared.message.Protocol.{Protocol}
@@ -16,3 +18,8 @@ incomplete date = (date.month, date.day, date.hour, date.minute, date.second)
 -- the month is one of twelve, and the numbers have 32 bits
 abbrev pub HasMonth : IncompleteDate → Type 0
 HasMonth d = (1 ≤ d.0) × (d.0 ≤ 12) × (d.1 < 2 ^ 32) × (d.2 < 2 ^ 32) × (d.3 < 2 ^ 32) × (d.4 < 2 ^ 32)
+
+-- the composed priority, as a message prints that was read after this one
+abbrev pub printed_number : Option ℕ → ℕ
+printed_number pri = option_map_or facility_number (option_and_then facility_of pri) 5 * 8
+    + option_map_or severity_number (option_and_then severity_of pri) 7

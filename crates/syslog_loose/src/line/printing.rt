@@ -6,7 +6,7 @@ ghost use Rattle.std.specs.Fmt.{WritesOnOk};
 ghost use Rattle.std.specs.Str.{encode_utf8_all};
 ghost use Rattle.syslog_pieces.specs.Front.{ascii_bytes, front_text};
 ghost use Rattle.syslog_pieces.specs.StructuredData.Visited.{list_elements};
-ghost use Rattle.syslog_loose.specs.Formats.{printed_number};
+ghost use Rattle.syslog_loose.specs.Bodies.Cases.{printed_number};
 ghost use Rattle.syslog_loose.specs.Line.{line_value, KnowsForm};
 ghost use Rattle.syslog_loose.specs.Printed.{elements_text, printed, rest_3164, rest_5424, rest_text, spaced_elements};
 

@@ -6,7 +6,7 @@ ghost use Rattle.std.specs.Str.{encode_utf8_all};
 ghost use Rattle.syslog_pieces.specs.Pieces.View.{text_of};
 ghost use Rattle.syslog_pieces.specs.ProcId.{procid_value};
 ghost use Rattle.syslog_pieces.specs.StructuredData.Element.{element_value};
-ghost use Rattle.syslog_loose.specs.Formats.{printed_number};
+ghost use Rattle.syslog_loose.specs.Bodies.Cases.{printed_number};
 ghost use Rattle.syslog_loose.specs.Printed as spec;
 
 use super::priority;

@@ -48,7 +48,7 @@ abbrev pub IsStampInAny : Option TimeZone → TimeZone → DateTime → OffsetTi
 IsStampInAny (Some tz) local dt s = IsStampOf (ambiguous_at tz dt) dt (λ _. ⊥) s
 IsStampInAny None local dt s = IsStampOf (ambiguous_at local dt) dt (IsStampInGap local dt) s
 
--- the month date shows a year, or is taken in the one that is used; there is such a date and time, and this is its stamp
+-- the month date shows a year, or is taken in that of the dating; there is such a date and time, and this is its stamp
 abbrev pub IsMonthStamp : Dating → MonthDate → OffsetTimestamp → Type 0
 IsMonthStamp dating date s = (year : ℤ) × (dt : DateTime)
     × (elim date.year [ Some shown ↦ Some (pos shown) | None ↦ dating.year ] ≡ Some year)

@@ -1,22 +1,15 @@
 -- The pieces of RFC 5424 as formats: how each is read, how it is printed, and what is read back from print.
-use Rattle.std.specs.Prelude.{◌≡◌, ℕ, ◌+◌, ◌*◌, ◌≤◌, List, [], ◌∷◌, Option, IfSome}
+use Rattle.std.specs.Prelude.{◌≡◌, ◌≤◌, List, [], ◌∷◌, IfSome}
 use Rattle.std.specs.Char.{is_ascii_digit, is_not_whitespace}
 use Rattle.std.specs.Fmt.{decimal}
-use Rattle.std.specs.Option.{option_and_then, option_map_or}
 use Rattle.syslog_pieces.specs.Pieces.Class.{Text, Class, Ends, some_run}
 use Rattle.syslog_pieces.specs.Pieces.Format.{Format}
-use Rattle.syslog_pieces.specs.Pri.{facility_of, severity_of, facility_number, severity_number}
 use Rattle.syslog_pieces.specs.ProcId.{process_word, process_text, IsCanonicalProcess, IsBoundedProcess}
 use Rattle.syslog_pieces.specs.Text.{is_blank, number, host, word, name_text}
 use Rattle.syslog_pieces.specs.Text.Canonical.{IsCanonicalHost, IsCanonicalWord}
 use Rattle.syslog_pieces.specs.Timestamp.{header_stamp}
 use Rattle.syslog_pieces.specs.Timestamp.Canonical.{IsCanonicalStamp}
 use Rattle.syslog_loose.specs.Printed.{timestamp_text}
-
--- the composed priority, as a message prints that was read after this one
-abbrev pub printed_number : Option ℕ → ℕ
-printed_number pri = option_map_or facility_number (option_and_then facility_of pri) 5 * 8
-    + option_map_or severity_number (option_and_then severity_of pri) 7
 
 -- a version
 abbrev pub version_number : Format
