@@ -2,6 +2,7 @@ pub mod ElementLemmas
 pub mod AgainLaws
 pub mod ConversionLaws
 pub mod ElementLaws
+pub mod JoinedLemmas
 pub mod LineLemmas
 pub mod NameLaws
 pub mod OnlyLemmas

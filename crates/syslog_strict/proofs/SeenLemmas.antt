@@ -18,7 +18,7 @@ use Rattle.syslog_strict.specs.Ids.{HasSeen}
 use Rattle.syslog_strict.specs.declared.ids.Ids.{Ids}
 
 -- texts are equal as lists of characters exactly where their bytes are
-bytes_text : (x y : List ℕ) → IsUtf8 x → IsUtf8 y → bytes_eq x y ≡ text_eq (chars x) (chars y)
+pub bytes_text : (x y : List ℕ) → IsUtf8 x → IsUtf8 y → bytes_eq x y ≡ text_eq (chars x) (chars y)
 bytes_text x y u v =
     one_answer _ _ (bytes_eq-Decides x y) (
       λ e. same_chars x y u v ((bytes_decides (chars x) (chars y)).0 e),

@@ -10,6 +10,7 @@ ghost use Rattle.syslog_strict.specs.Conversion.{converted_value, is_among, join
 ghost use Rattle.syslog_strict.specs.Grammar.{is_escaped};
 ghost use Rattle.syslog_strict.specs.Pushing.{Appends};
 
+use crate::joined::push_many;
 use crate::text::{Kept, is_same_cleaned, push_char, push_cleaned, push_text};
 use std::alloc::{AllocError, Global};
 use syslog_loose::{Element, ElementList, Elements};
@@ -17,6 +18,9 @@ use syslog_pieces::text::{CharClass, first, split_run};
 
 // How many characters an id or a name has at most.
 const NAME: usize = 32;
+
+// How many elements are joined without memory for their parameters.
+const FEW: usize = 8;
 
 // The text, or `?` where it is empty.
 #[inline(always)]
@@ -29,9 +33,9 @@ fn or_mark(text: &str) -> &str
     }
 }
 
-// Appends an id or a name.
+/// Appends an id or a name.
 #[inline(always)]
-fn push_name(out: &mut String, name: &str) -> Result<(), AllocError>
+pub(crate) fn push_name(out: &mut String, name: &str) -> Result<(), AllocError>
     ensures { OnOk result (Appends out.old (converted_name (chars name.now)) out.new) }
 {
     push_cleaned(out, or_mark(name), Kept::SdName, NAME)
@@ -101,8 +105,8 @@ fn push_param(out: &mut String, name: &str, value: &str) -> Result<(), AllocErro
     push_char(out, '"')
 }
 
-// Appends the parameters of an element.
-fn push_params(out: &mut String, element: &Element<'_>) -> Result<(), AllocError>
+/// Appends the parameters of an element.
+pub(crate) fn push_params(out: &mut String, element: &Element<'_>) -> Result<(), AllocError>
     ensures { OnOk result (Appends out.old
         (flat_map param_text (map converted_param (element_seen element.now).params)) out.new) }
 {
@@ -153,7 +157,7 @@ fn came_before(ids: &Vec<&str>, id: &str) -> bool
     false
 }
 
-// Appends the elements, those with one id as one.
+// Appends the elements, those with one id as one. Each is compared with each.
 fn push_elements(alloc: Global, out: &mut String, list: &ElementList<'_>) -> Result<(), AllocError>
     ensures { OnOk result (Appends out.old (joined_elements (converted_elements (list_elements list.now))) out.new) }
 {
@@ -179,6 +183,9 @@ pub(crate) fn push_list(
 {
     if list.is_empty() {
         return push_char(out, '-');
+    }
+    if list.len() > FEW {
+        return push_many(alloc, out, list);
     }
     push_elements(alloc, out, list)
 }

@@ -5,6 +5,7 @@ mod call;
 mod conversion;
 mod elements;
 mod ids;
+mod joined;
 pub mod laws;
 mod names;
 mod stamp;

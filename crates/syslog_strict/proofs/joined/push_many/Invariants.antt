@@ -1,0 +1,11 @@
+use Rattle.std.proofs.Common.{◌≡◌, ◌++◌, List, map}
+use Rattle.syslog_pieces.specs.StructuredData.Element.{ElementValue}
+use Rattle.syslog_pieces.specs.StructuredData.Visited.{elements_left, list_elements}
+use Rattle.syslog_strict.specs.Conversion.{converted_element}
+use Rattle.syslog_strict.specs.Joined.{HasJoined}
+use Rattle.syslog_strict.proofs.JoinedLemmas.{firsts_last}
+use Rattle.syslog_strict.proofs.joined.push_many.Given as goal
+
+abbrev pub invariant-loop-element : goal.invariant-loop-element
+invariant-loop-element l = (seen : List ElementValue) × HasJoined l.joined seen
+    × (seen ++ map converted_element (elements_left l.element-iterator) ≡ map converted_element (list_elements l.list))
