@@ -10,14 +10,14 @@ use Rattle.syslog_loose.proofs.Names.{row_cons, row_head, rows_join, division_fr
 use Rattle.syslog_loose.proofs.Names.{all_joined, rows_split, absent_stays, piece_front, decide, dash_rfc3164_list}
 use Rattle.syslog_loose.proofs.Names.{full_begins, no_rfc3164_list, rfc3164_list_det, Protocol, Variant, Either}
 use Rattle.syslog_loose.proofs.Names.{RFC5424, IsCanonicalFor, IsCanonical, MessageValue, Names3164, Resolves}
-use Rattle.syslog_loose.proofs.Names.{stamped_row, fields_row, rfc3164_row, IsRead3164}
-use Rattle.std.proofs.Math.Seq.{drop-append_seam}
+use Rattle.syslog_loose.proofs.Names.{rfc3164_row, IsRead3164, stamped_row, fields_row}
 use Rattle.syslog_pieces.specs.Pieces.Class.{Divides}
 use Rattle.syslog_pieces.proofs.PieceLemmas.Class.{firsts, lasts}
+use Rattle.std.proofs.Math.Seq.{drop-append_seam}
 use Rattle.syslog_loose.specs.Reading.{IsReadUnder}
 use Rattle.syslog_loose.specs.Bodies.View3164.{FieldsAreRead}
-use Rattle.syslog_loose.specs.declared.rfc3164.Fields.{Fields}
 use Rattle.syslog_loose.specs.declared.variant.Variant.TheVariants.{RFC3164}
+use Rattle.syslog_loose.specs.declared.rfc3164.Fields.{Fields}
 use Rattle.syslog_loose.specs.DashChange.{ReadsDifferently, BeginsDashChange, HasDashChange3164, HasDashChange}
 use Rattle.syslog_loose.specs.DashChange.{IsReadingUnder, WasUnreadable}
 use Rattle.syslog_loose.proofs.Rfc3164Lemmas.Reading.{is_read}
@@ -29,22 +29,23 @@ use Rattle.syslog_loose.proofs.Rfc5424Lemmas as strict
 
 -- ---- two readings
 
--- the text was read as one message, and is read as another
-record ReadsApart (variant : Variant) (dating : Dating) (text : Text) : Type 0 where
+-- as RFC 3164 the text was read as one message, and is read as another
+record ReadsApart (dating : Dating) (text : Text) : Type 0 where
   pub before : MessageValue
   pub now : MessageValue
-  pub was_read : IsReadUnder BeforeAnything variant dating text before
-  pub is_read : IsReadUnder dash_rule variant dating text now
+  pub was_read : IsRead3164 BeforeAnything dating text before
+  pub is_read : IsRead3164 dash_rule dating text now
   pub differ : before ≢ now
 
-differs_apart : (variant : Variant) (dating : Dating) (text : Text) → ReadsApart variant dating text
+differs_by : (variant : Variant) (dating : Dating) (text : Text) (m n : MessageValue)
+    → IsReadUnder BeforeAnything variant dating text m → IsReadUnder dash_rule variant dating text n → m ≢ n
     → ReadsDifferently variant dating text
-differs_apart variant dating text r = record {
-  before = Some r.before;
-  now = Some r.now;
-  was_read = r.was_read;
-  is_read = r.is_read;
-  differ = λ e. let same : r.before ≡ r.now = cc in r.differ same;
+differs_by variant dating text m n r s differ = record {
+  before = Some m;
+  now = Some n;
+  was_read = r;
+  is_read = s;
+  differ = λ e. let same : m ≡ n = cc in differ same;
 }
 
 -- ---- the condition
@@ -213,7 +214,7 @@ module _ (dating : Dating) (text : Text) where
 
     differ_of_dash_change : (c : ℕ) (q : Text)
         → Front (Row (before_list dating)) (trimmed text) (45 ∷ (c ∷ q)) vs → is_blank c ≡ false
-        → ReadsApart RFC3164 dating text
+        → ReadsApart dating text
     differ_of_dash_change c q f b =
         let t : Text = 45 ∷ (c ∷ q) in
         record {
@@ -227,7 +228,7 @@ module _ (dating : Dating) (text : Text) where
               omega (arith, l);
         }
 
-  differs_by_dash_change : HasDashChange3164 dating text → ReadsApart RFC3164 dating text
+  differs_by_dash_change : HasDashChange3164 dating text → ReadsApart dating text
   differs_by_dash_change d =
       let (n, means, is) = d.read.means in
       differ_of_dash_change _ n means d.next d.more (dropped_at dating text d) d.no_blank
@@ -244,74 +245,52 @@ module _ (dating : Dating) (text : Text) where
   forth Either m n (inr (none, r)) (inl s) d = absurd (none s.values s.division)
   forth Either m n (inr (none, r)) (inr (also, s)) d = (none, dash_change_of_differ dating text m n r s d)
 
-  back : (variant : Variant) → HasDashChange variant dating text → ReadsApart variant dating text
+  back : (variant : Variant) → HasDashChange variant dating text → ReadsDifferently variant dating text
   back RFC5424 d = absurd d
-  back RFC3164 d = differs_by_dash_change dating text d
-  back Either (none, d) =
-      let r = differs_by_dash_change dating text d in
-      record {
-        before = r.before;
-        now = r.now;
-        was_read = inr (none, r.was_read);
-        is_read = inr (none, r.is_read);
-        differ = r.differ;
-      }
+  back RFC3164 d = let r = differs_by_dash_change dating text d in
+      differs_by RFC3164 dating text r.before r.now r.was_read r.is_read r.differ
+  back Either (none, d) = let r = differs_by_dash_change dating text d in
+      differs_by Either dating text r.before r.now (inr (none, r.was_read)) (inr (none, r.is_read)) r.differ
 
--- ---- a text was read exactly where it is
+  -- ---- a text was read exactly where it is
 
-other_too : (dating : Dating) (text : Text) (rule other : DashRule)
-    → (ReadsApart RFC3164 dating text → (n : MessageValue) × IsRead3164 other dating text n) → (m : MessageValue)
-    → IsRead3164 rule dating text m → (n : MessageValue) × IsRead3164 other dating text n
-other_too dating text rule other of m r = elim (turn dating text rule other m r) [
-  | inl (u, a, d) ↦
-      let (n, means, is) = r.means in
-      of (differ_of_dash_change dating text _ n means d.next d.behind (rw d.is at a) d.no_blank)
-  | inr t ↦ (m, t)
-]
+  reading_of : (rule : DashRule) → ReadsApart dating text → (n : MessageValue) × IsRead3164 rule dating text n
+  reading_of BeforeAnything r = (r.before, r.was_read)
+  reading_of BeforeBlank r = (r.now, r.is_read)
 
-module _ (dating : Dating) (text : Text) where
-  -- where each message read under one rule is one under the other, a text unreadable under the other is so under it
-  unread_too : (rule other : DashRule) → ((m : MessageValue) → IsRead3164 rule dating text m
-      → (n : MessageValue) × IsRead3164 other dating text n)
-      → (variant : Variant) → ((m : MessageValue) → IsReadUnder other variant dating text m → ⊥)
+  other_too : (rule other : DashRule) (m : MessageValue) → IsRead3164 rule dating text m
+      → (n : MessageValue) × IsRead3164 other dating text n
+  other_too rule other m r = elim (turn dating text rule other m r) [
+    | inl (u, a, d) ↦ let (n, means, is) = r.means in
+        reading_of other (differ_of_dash_change dating text _ n means d.next d.behind (rw d.is at a) d.no_blank)
+    | inr t ↦ (m, t)
+  ]
+
+  -- so a text unreadable under one rule is so under the other
+  unread_too : (rule other : DashRule) (variant : Variant)
+      → ((m : MessageValue) → IsReadUnder other variant dating text m → ⊥)
       → (m : MessageValue) → IsReadUnder rule variant dating text m → ⊥
-  unread_too rule other turn RFC5424 h m r = h m r
-  unread_too rule other turn RFC3164 h m r = let (n, s) = turn m r in h n s
-  unread_too rule other turn Either h m (inl s) = h m (inl s)
-  unread_too rule other turn Either h m (inr (none, s)) = let (n, k) = turn m s in h n (inr (none, k))
+  unread_too rule other RFC5424 h m r = h m r
+  unread_too rule other RFC3164 h m r = let (n, s) = other_too rule other m r in h n s
+  unread_too rule other Either h m (inl s) = h m (inl s)
+  unread_too rule other Either h m (inr (none, s)) = let (n, k) = other_too rule other m s in h n (inr (none, k))
 
   pub unread_alike : (variant : Variant) → WasUnreadable variant dating text ↔ IsUnreadable variant dating text
-  unread_alike variant = (
-    unread_too BeforeBlank BeforeAnything
-        (other_too dating text BeforeBlank BeforeAnything (λ d. (d.before, d.was_read))) variant,
-    unread_too BeforeAnything BeforeBlank
-        (other_too dating text BeforeAnything BeforeBlank (λ d. (d.now, d.is_read))) variant,
-  )
+  unread_alike variant = (unread_too BeforeBlank BeforeAnything variant, unread_too BeforeAnything BeforeBlank variant)
 
--- ---- readings that differ are two
+  -- ---- readings that differ are two
 
-module _ (dating : Dating) (text : Text) (variant : Variant) where
-  two : (before now : Option MessageValue) → IsReadingUnder BeforeAnything variant dating text before
-      → IsReadingUnder BeforeBlank variant dating text now → before ≢ now → ReadsApart variant dating text
-  two None None r s d = absurd (d refl)
-  two None (Some n) r s d = absurd ((unread_alike dating text variant).0 r n s)
-  two (Some m) None r s d = absurd ((unread_alike dating text variant).1 s m r)
-  two (Some m) (Some n) r s d = record {
-    before = m;
-    now = n;
-    was_read = r;
-    is_read = s;
-    differ = λ e. d (ap (λ (x : MessageValue). Some x) e);
-  }
+  two : (variant : Variant) (before now : Option MessageValue)
+      → IsReadingUnder BeforeAnything variant dating text before → IsReadingUnder BeforeBlank variant dating text now
+      → before ≢ now → HasDashChange variant dating text
+  two variant None None r s d = absurd (d refl)
+  two variant None (Some n) r s d = absurd ((unread_alike variant).0 r n s)
+  two variant (Some m) None r s d = absurd ((unread_alike variant).1 s m r)
+  two variant (Some m) (Some n) r s d = forth variant m n r s (λ e. d (ap (λ (x : MessageValue). Some x) e))
 
-  apart : ReadsDifferently variant dating text → ReadsApart variant dating text
-  apart r = two r.before r.now r.was_read r.is_read r.differ
-
-  pub differs_where_dash_change : ReadsDifferently variant dating text ↔ HasDashChange variant dating text
-  differs_where_dash_change = (
-    λ r. let a = apart r in forth dating text variant a.before a.now a.was_read a.is_read a.differ,
-    λ d. differs_apart variant dating text (back dating text variant d),
-  )
+  pub differs_where_dash_change : (variant : Variant) → ReadsDifferently variant dating text
+      ↔ HasDashChange variant dating text
+  differs_where_dash_change variant = (λ r. two variant r.before r.now r.was_read r.is_read r.differ, back variant)
 
 -- ---- what the call finds
 
@@ -336,11 +315,11 @@ told_by_list : (dating : Dating) (text list : Text) (vs : Values (before_list da
     → Front (Row (before_list dating)) (trimmed text) list vs → Resolves vs.1.1.1.0 vs.1.1.1.1.0 n
     → MatchBool b (BeginsDashChange list) (BeginsDashChange list → ⊥) → IsTrue b ↔ HasDashChange3164 dating text
 told_by_list dating text list vs n true f means h = (
-  λ t. forth dating text RFC3164 _ _ a.was_read a.is_read a.differ,
+  λ t. dash_change_of_differ dating text _ _ a.was_read a.is_read a.differ,
   λ d. refl,
 )
   where
-    a : ReadsApart RFC3164 dating text
+    a : ReadsApart dating text
     a = differ_of_dash_change dating text vs n means h.next h.behind (rw h.is at f) h.no_blank
 told_by_list dating text list vs n false f means h = (
   λ t. cc,

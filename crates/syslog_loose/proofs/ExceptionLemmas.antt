@@ -1,15 +1,15 @@
 -- What the tests of the quirks return.
 use Rattle.syslog_loose.proofs.Names.{◌≡◌, ◌≢◌, ◌∷◌, ◌++◌, ◌∙◌, ◌↔◌, ℕ, Bool, true, false, not, nat_eq, List, []}
-use Rattle.syslog_loose.proofs.Names.{length, None, refl, sym, ap, subst, arith, chars_from_encodes, chars-IsAscii}
-use Rattle.syslog_loose.proofs.Names.{encodes-append, encodes-chars, chars, IsUtf8, encode_utf8_all, Text, Each, colon}
-use Rattle.syslog_loose.proofs.Names.{dash, EndsInColon, is_no_colon, IsTrue, MatchBool, false_is, colon_ascii}
+use Rattle.syslog_loose.proofs.Names.{length, None, refl, sym, ap, subst, arith, IsTrue, MatchBool, chars_from_encodes}
+use Rattle.syslog_loose.proofs.Names.{chars-IsAscii, encodes-append, encodes-chars, chars, IsUtf8, encode_utf8_all}
+use Rattle.syslog_loose.proofs.Names.{Text, Each, colon, dash, EndsInColon, is_no_colon, false_is, colon_ascii}
 use Rattle.std.proofs.lemmas.Str.{chars-append, encodes-IsAscii, IsCharBoundary-at_seam, IsUtf8-from_ascii, IsUtf8-take}
 use Rattle.std.specs.Str.{NonePass}
+use Rattle.syslog_pieces.proofs.TextLemmas.Words.{dash_ascii}
 use Rattle.std.proofs.Math.Seq.{take-append_seam}
 use Rattle.std.proofs.lemmas.Str.Pattern.{contains_char, NoCharPasses-char}
 use Rattle.std.specs.Str.Pattern.{FindsChar, HasMatch}
 use Rattle.syslog_pieces.proofs.TextLemmas.Chars.{from_not_true}
-use Rattle.syslog_pieces.proofs.TextLemmas.Words.{dash_ascii}
 
 -- the bytes of a dash
 pub dash_bytes : (bs : List ℕ) → IsUtf8 bs → chars bs ≡ dash → bs ≡ dash

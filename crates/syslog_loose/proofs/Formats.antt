@@ -1,15 +1,9 @@
 -- The pieces of RFC 5424 as formats: how each is read, how it is printed, and what is read back from print.
-use Rattle.std.specs.Prelude.{◌≡◌, ◌≤◌, List, [], ◌∷◌, IfSome}
-use Rattle.std.specs.Char.{is_ascii_digit, is_not_whitespace}
-use Rattle.std.specs.Fmt.{decimal}
-use Rattle.syslog_pieces.specs.Pieces.Class.{Text, Class, Ends, some_run}
-use Rattle.syslog_pieces.specs.Pieces.Format.{Format}
-use Rattle.syslog_pieces.specs.ProcId.{process_word, process_text, IsCanonicalProcess, IsBoundedProcess}
-use Rattle.syslog_pieces.specs.Text.{is_blank, number, host, word, name_text}
-use Rattle.syslog_pieces.specs.Text.Canonical.{IsCanonicalHost, IsCanonicalWord}
-use Rattle.syslog_pieces.specs.Timestamp.{header_stamp}
-use Rattle.syslog_pieces.specs.Timestamp.Canonical.{IsCanonicalStamp}
-use Rattle.syslog_loose.specs.Printed.{timestamp_text}
+use Rattle.syslog_loose.proofs.Names.{◌≡◌, ◌≤◌, ◌∷◌, List, [], IfSome, is_ascii_digit, is_not_whitespace, decimal, Text}
+use Rattle.syslog_loose.proofs.Names.{Class, Ends, some_run, Format, process_word, process_text, is_blank, number, host}
+use Rattle.syslog_loose.proofs.Names.{word, name_text, IsCanonicalWord, header_stamp, IsCanonicalStamp, timestamp_text}
+use Rattle.syslog_pieces.specs.ProcId.{IsCanonicalProcess, IsBoundedProcess}
+use Rattle.syslog_pieces.specs.Text.Canonical.{IsCanonicalHost}
 
 -- a version
 abbrev pub version_number : Format

@@ -2,8 +2,6 @@ pub mod Formats
 pub mod BoundLemmas
 pub mod CanonicalLemmas
 pub mod DashChangeLemmas
-pub mod LineLemmas
-pub mod HeaderLemmas
 pub mod JumpLemmas
 pub mod Names
 pub mod ExceptionLemmas

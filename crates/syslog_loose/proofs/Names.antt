@@ -1,17 +1,17 @@
 -- The names that most proofs of this crate cite, passed on from one place. Declares nothing.
 pub use Rattle.std.specs.Str.{chars, IsUtf8, bytes_eq, drop_trailing_whitespace, encode_utf8_all}
 pub use Rattle.std.specs.Str.{skip_leading_whitespace}
-pub use Rattle.std.specs.Option.{option_map, option_map_or, unwrap_or, option_and_then}
+pub use Rattle.std.specs.Char.{is_ascii_digit, is_not_whitespace, is_whitespace}
+pub use Rattle.std.specs.Fmt.{decimal}
 pub use Rattle.std.specs.Borrow.{Bor}
 pub use Rattle.std.specs.Prelude.{MatchOption, IfOk, String, IsSomeAnd, ⊤}
-pub use Rattle.std.specs.Char.{is_ascii_digit, is_whitespace, is_not_whitespace}
-pub use Rattle.std.specs.Fmt.{decimal}
 pub use Rattle.std.specs.List.{flat_map, AllByRecursion}
+pub use Rattle.std.specs.Option.{option_map_or, unwrap_or, option_and_then, option_map}
 pub use Rattle.std.specs.Global.{Global}
-pub use Rattle.std.proofs.Common.{◌⊎◌, inl, inr, ◌≡◌, ℕ, ◌<◌, Bool, true, false, not, List, [], length, map, refl, sym}
-pub use Rattle.std.proofs.Common.{ap, subst, ◌∙◌, arith, ◌↔◌, IsTrue, MatchBool, ◌∷◌, ◌++◌, ◌≢◌, Option, Some, None}
-pub use Rattle.std.proofs.Common.{append_assoc, append-nil, nat_eq, IfSome, zero, suc, ◌+◌, ◌-◌, length-append, pos}
-pub use Rattle.std.proofs.Common.{negsuc, ◌≤◌, ◌^◌, ◌&&◌, ℤ, Result, Ok, Err, string_bytes, w32, to_z, of_z, IsSome}
+pub use Rattle.std.proofs.Common.{◌⊎◌, inl, inr, ◌≡◌, ◌<◌, ◌∙◌, ◌↔◌, ℕ, Bool, true, false, not, List, [], length, map}
+pub use Rattle.std.proofs.Common.{refl, sym, ap, subst, arith, IsTrue, MatchBool, ◌∷◌, ◌++◌, ◌≢◌, Option, Some, None}
+pub use Rattle.std.proofs.Common.{append_assoc, append-nil, nat_eq, ◌≤◌, IfSome, ◌+◌, ◌-◌, zero, suc, ◌^◌, ◌&&◌, pos}
+pub use Rattle.std.proofs.Common.{negsuc, ℤ, Result, Ok, Err, string_bytes, w32, to_z, of_z, IsSome, length-append}
 pub use Rattle.std.proofs.Common.{cond, ◌*◌, take, ◌%◌, rules}
 pub use Rattle.std.proofs.lemmas.List.{length-map, nil_from_length}
 pub use Rattle.std.proofs.lemmas.Slice.Eq.{bytes_eq-Decides}
@@ -25,26 +25,27 @@ pub use Rattle.std.proofs.Output.{has_written_of_eq}
 pub use denote.Shadow.{shadow}
 pub use denote.Text.{Utf8}
 pub use Rattle.syslog_pieces.specs.Pieces.Class.{Text, NoFront, Class, Values, Front, join, Row, Ends, optional, run}
-pub use Rattle.syslog_pieces.specs.Pieces.Class.{Each, exactly, some_run, Division, spaced, rest, texted}
+pub use Rattle.syslog_pieces.specs.Pieces.Class.{Each, some_run, exactly, Division, spaced, rest, texted}
 pub use Rattle.syslog_pieces.specs.Timestamp.Zone.{Dating, dating_of}
 pub use Rattle.syslog_pieces.specs.StructuredData.Rfc3164List.{BeginsNoList, rfc3164_list, IsDashBefore, IsRfc3164List}
 pub use Rattle.syslog_pieces.specs.StructuredData.Rfc3164List.{elements_or, full_element}
 pub use Rattle.syslog_pieces.specs.declared.structured_data.rfc3164_list.DashRule.{DashRule}
-pub use Rattle.syslog_pieces.specs.Text.Canonical.{EndsVisibly}
+pub use Rattle.syslog_pieces.specs.Text.Canonical.{EndsVisibly, IsCanonicalWord}
 pub use Rattle.syslog_pieces.specs.Pieces.View.{shown, text_of, seen}
 pub use Rattle.syslog_pieces.specs.StructuredData.Element.{ElementValue, joined_elements, elements_text, param_text}
 pub use Rattle.syslog_pieces.specs.StructuredData.Element.{element_text, element_texts, element_value}
-pub use Rattle.syslog_pieces.specs.Text.{trimmed, is_blank, dash, colon, EndsInColon, name_text, number, IsHost, host}
-pub use Rattle.syslog_pieces.specs.Text.{tag_word, is_tag_char}
+pub use Rattle.syslog_pieces.specs.Text.{trimmed, is_blank, dash, colon, EndsInColon, number, host, word, name_text}
+pub use Rattle.syslog_pieces.specs.Text.{IsHost, tag_word, is_tag_char}
 pub use Rattle.syslog_pieces.specs.declared.structured_data.rfc3164_list.DashRule.TheVariants.{BeforeAnything}
 pub use Rattle.syslog_pieces.specs.declared.structured_data.rfc3164_list.DashRule.TheVariants.{BeforeBlank}
-pub use Rattle.syslog_pieces.specs.Bodies.Verbatim.{IsBareWord}
-pub use Rattle.syslog_pieces.specs.ProcId.{named_process, process_text, process_word, NamesProcess, procid_text}
+pub use Rattle.syslog_pieces.specs.Pieces.Format.{Format, classes, printed_row}
+pub use Rattle.syslog_pieces.specs.ProcId.{process_word, process_text, NamesProcess, named_process, procid_text}
+pub use Rattle.syslog_pieces.specs.Timestamp.{header_stamp, clock_value, stamp_seen}
+pub use Rattle.syslog_pieces.specs.Timestamp.Canonical.{IsCanonicalStamp}
 pub use Rattle.syslog_pieces.specs.Pieces.Parts.{IsPart, AreInPieces, text_list, process_texts}
 pub use Rattle.syslog_pieces.specs.declared.procid.ProcId.{ProcId}
 pub use Rattle.syslog_pieces.specs.declared.procid.ProcId.TheVariants.{PID, Name}
 pub use Rattle.syslog_pieces.specs.declared.timestamp.OffsetTimestamp.{OffsetTimestamp}
-pub use Rattle.syslog_pieces.specs.Timestamp.{clock_value, stamp_seen, header_stamp}
 pub use Rattle.syslog_pieces.specs.declared.timestamp.clock.ClockStamp.{ClockStamp}
 pub use Rattle.syslog_pieces.specs.Pri.{priority, facility_number, severity_number, facility_of, severity_of}
 pub use Rattle.syslog_pieces.specs.declared.pri.SyslogFacility.{SyslogFacility}
@@ -55,10 +56,9 @@ pub use Rattle.syslog_pieces.specs.declared.pri.SyslogFacility.TheVariants.{LOG_
 pub use Rattle.syslog_pieces.specs.declared.pri.SyslogSeverity.TheVariants.{SEV_DEBUG}
 pub use Rattle.syslog_pieces.specs.Timestamp.Rfc3164.{rfc3164_stamp, ShowsMonthDate, ShowsYearless}
 pub use Rattle.syslog_pieces.specs.Timestamp.MonthDate.{month_date, month, yearless_date}
-pub use Rattle.syslog_pieces.specs.Timestamp.Canonical.{IsCanonicalStamp}
+pub use Rattle.syslog_pieces.specs.Bodies.Verbatim.{IsBareWord}
 pub use Rattle.syslog_pieces.specs.Pieces.Lists.{IsMany}
 pub use Rattle.syslog_pieces.specs.Text.CharClass.{is_label_char, is_open_char, is_id_char, is_name_char}
-pub use Rattle.syslog_pieces.specs.Pieces.Format.{classes, printed_row}
 pub use Rattle.syslog_pieces.specs.Bodies.Closing.{start_row, start, opening_row}
 pub use Rattle.syslog_pieces.specs.StructuredData.Visited.{list_elements, elements_left}
 pub use Rattle.syslog_pieces.proofs.PieceLemmas.Class.{AllDeterministic, heads, front_same, row_det, optional_none}
@@ -72,13 +72,10 @@ pub use Rattle.syslog_pieces.proofs.PieceLemmas.Steps.{absent_stays, piece_front
 pub use Rattle.syslog_pieces.proofs.PieceLemmas.Steps.{absent_none, present_front, step_value}
 pub use Rattle.syslog_pieces.proofs.StructuredDataLemmas.Units.{decide}
 pub use Rattle.syslog_pieces.proofs.StructuredDataLemmas.Rfc3164List.{dash_rfc3164_list, full_begins, no_rfc3164_list}
-pub use Rattle.syslog_pieces.proofs.StructuredDataLemmas.Rfc3164List.{rfc3164_list_det, full_shorter, begins_no_list}
-pub use Rattle.syslog_pieces.proofs.StructuredDataLemmas.Rfc3164List.{no_full_nil, no_full_start, no_full_opening}
+pub use Rattle.syslog_pieces.proofs.StructuredDataLemmas.Rfc3164List.{rfc3164_list_det, begins_no_list, no_full_nil}
+pub use Rattle.syslog_pieces.proofs.StructuredDataLemmas.Rfc3164List.{no_full_start, no_full_opening, full_shorter}
 pub use Rattle.syslog_pieces.proofs.TextLemmas.Canonical.{false_is, no_truth, last_is}
 pub use Rattle.syslog_pieces.proofs.TextLemmas.Words.{colon_ascii, host_det}
-pub use Rattle.syslog_pieces.proofs.ProcIdLemmas.{bare_prints, process_same}
-pub use Rattle.syslog_pieces.proofs.ProcIdLemmas.Named.{named_names}
-pub use Rattle.syslog_pieces.proofs.TextLemmas.Verbatim.{word_stands}
 pub use Rattle.syslog_pieces.proofs.PieceLemmas.Lists.{begins}
 pub use Rattle.syslog_pieces.proofs.PieceLemmas.Each.{each_map, each_front, each_behind, all_left, all_right}
 pub use Rattle.syslog_pieces.proofs.PieceLemmas.Each.{each_append, each_both, each_left, each_right}
@@ -87,7 +84,8 @@ pub use Rattle.syslog_pieces.proofs.PieceLemmas.Parts.{host_quotes}
 pub use Rattle.syslog_pieces.proofs.TextLemmas.ReadBack.{decimal_digits, number_back, host_back}
 pub use Rattle.syslog_pieces.proofs.TextLemmas.Decimals.{encodes-decimal}
 pub use Rattle.syslog_pieces.proofs.TimestampLemmas.Printing.{printed_stamp-bytes}
-pub use Rattle.syslog_pieces.proofs.PieceLemmas.Rows.{row_of, ◌then◌, row_pieces, no_row, ◌past◌}
+pub use Rattle.syslog_pieces.proofs.PieceLemmas.Rows.{◌then◌, row_of, row_pieces, no_row, ◌past◌}
+pub use Rattle.syslog_pieces.proofs.ProcIdLemmas.{process_same, bare_prints}
 pub use Rattle.syslog_pieces.proofs.PieceLemmas.Kinds.{Begins, begins_apart, begins_more, begins_with}
 pub use Rattle.syslog_pieces.proofs.PriLemmas.{priority_det, priority_composed, severity_there, facility_composed}
 pub use Rattle.syslog_pieces.proofs.PriLemmas.{severity_composed}
@@ -99,39 +97,36 @@ pub use Rattle.syslog_pieces.proofs.TextLemmas.Runs.{some_front_run}
 pub use Rattle.syslog_pieces.proofs.StructuredDataLemmas.Closing.{opening_det}
 pub use Rattle.syslog_pieces.proofs.TimestampLemmas.Months.{IsLetter}
 pub use Rattle.syslog_pieces.proofs.TextLemmas.Chars.{one_ascii, nonempty_is, text_is}
+pub use Rattle.syslog_pieces.proofs.ProcIdLemmas.Named.{named_names}
 pub use Rattle.syslog_pieces.proofs.TextLemmas.Printed.{encodes_shown}
 pub use Rattle.syslog_pieces.proofs.StructuredDataLemmas.Listed.{visits_none}
-pub use Rattle.syslog_loose.specs.Canonical.{IsBounded, IsCanonicalFor, IsCanonical, IsBoundedProcess}
-pub use Rattle.syslog_loose.specs.Canonical.{IsVisible, IsCanonicalHost, IsBracketedProcess}
-pub use Rattle.syslog_loose.specs.Bodies.Cases.{IsBoundedProtocol}
-pub use Rattle.syslog_loose.specs.Canonical.{is_process_char, AreCanonicalNames, IsCanonical3164, IsCanonicalElement}
-pub use Rattle.syslog_loose.specs.Canonical.{IsCanonicalInBoth}
+pub use Rattle.syslog_loose.specs.Canonical.{IsBounded, IsCanonicalFor, IsCanonical, IsBoundedProcess, IsCanonicalHost}
+pub use Rattle.syslog_loose.specs.Canonical.{IsVisible, IsBracketedProcess, is_process_char, AreCanonicalNames}
+pub use Rattle.syslog_loose.specs.Canonical.{IsCanonical3164, IsCanonicalElement, IsCanonicalInBoth}
 pub use Rattle.syslog_loose.specs.Message.{MessageValue, message_texts, message_value}
 pub use Rattle.syslog_loose.specs.Reading.{dash_rule, IsRead, IsUnreadable, IsOnlyRead, Answers, IncompleteDate, InYear}
-pub use Rattle.syslog_loose.specs.Reading.{AsksYear, IsYearAnswered, IsLeftTo3164}
-pub use Rattle.syslog_loose.specs.Bodies.Cases.{incomplete, HasMonth}
-pub use Rattle.syslog_loose.specs.Rfc3164.{IsRead3164, Names3164, Resolves, rfc3164_row, names}
-pub use Rattle.syslog_loose.specs.Bodies.Rows.{stamped_row, fields_row}
-pub use Rattle.syslog_loose.specs.Rfc3164.{Quotes3164, Means3164, IsNot3164}
-pub use Rattle.syslog_loose.specs.Bodies.View3164.{NamesProgram}
+pub use Rattle.syslog_loose.specs.Reading.{IsQuoted, AsksYear, IsYearAnswered, IsLeftTo3164}
+pub use Rattle.syslog_loose.specs.Rfc3164.{IsRead3164, Names3164, Resolves, rfc3164_row, names, Quotes3164, Means3164}
+pub use Rattle.syslog_loose.specs.Rfc3164.{IsNot3164}
 pub use Rattle.syslog_loose.specs.Rfc5424.{IsRead5424, IsNot5424, rfc5424_row, message_of}
-pub use Rattle.syslog_loose.specs.Bodies.Rows.{header_row, data_row}
 pub use Rattle.syslog_loose.specs.declared.variant.Variant.{Variant}
 pub use Rattle.syslog_loose.specs.declared.variant.Variant.TheVariants.{Either, RFC5424}
 pub use Rattle.syslog_loose.specs.declared.message.Protocol.TheVariants.{RFC3164}
 pub use Rattle.syslog_loose.specs.Line.{line_value, protocol_of}
-pub use Rattle.syslog_loose.specs.Bodies.View3164.{names_value, fields_before}
+pub use Rattle.syslog_loose.specs.Bodies.View3164.{names_value, NamesProgram, fields_before}
 pub use Rattle.syslog_loose.specs.Visit.{IsLineOf, Made}
 pub use Rattle.syslog_loose.specs.declared.line.Line.{Line}
 pub use Rattle.syslog_loose.specs.declared.message.Protocol.{Protocol}
+pub use Rattle.syslog_loose.specs.Bodies.Rows.{stamped_row, fields_row, body_row, header_row, data_row}
 pub use Rattle.syslog_loose.specs.Exceptions.{is_no_colon, HasNoException, HasNoColon, is_inner_char, IsOddHost}
 pub use Rattle.syslog_loose.specs.Exceptions.{IsInnerProcess, AreNamesButExceptions, HasExceptionsAlone}
 pub use Rattle.syslog_loose.specs.Exceptions.{IsNearlyCanonical, HasQuietNames, HasNoNameException}
+pub use Rattle.syslog_loose.specs.Printed.{timestamp_text, tag_text, priority_of, printed, printed_3164}
+pub use Rattle.syslog_loose.specs.Printed.{spaced_elements, printed_5424, rest_text}
 pub use Rattle.syslog_loose.specs.Bodies.Jumps.{colons, colons_before, past_colons, CutsColons, EndsColons, IsDashed}
 pub use Rattle.syslog_loose.specs.Bodies.Jumps.{PassesDashes, with_msg, tail_text, message_end}
-pub use Rattle.syslog_loose.specs.Printed.{tag_text, priority_of, printed, printed_3164, timestamp_text}
-pub use Rattle.syslog_loose.specs.Printed.{spaced_elements, printed_5424, rest_text}
 pub use Rattle.syslog_loose.specs.Passes.{EndsOnce, IsLater, Prints, HasRank, IsToldRound, ReachesRank}
+pub use Rattle.syslog_loose.specs.Bodies.Cases.{IsBoundedProtocol, incomplete, HasMonth}
 pub use Rattle.syslog_loose.specs.ReadBack.{ReadsProtocol, IsFixed}
 pub use Rattle.syslog_loose.specs.declared.fault.ParseFault.{ParseFault}
 pub use Rattle.syslog_loose.specs.declared.fault.ParseFault.TheVariants.{Invalid, Memory}
@@ -139,4 +134,3 @@ pub use Rattle.syslog_loose.specs.TagForm.{IsForm, IsNoForm, form_row}
 pub use Rattle.syslog_loose.specs.Settling.{Costs, names_weight, ListWeighs, Weighs, IsNext, Reaches, IsRound}
 pub use Rattle.syslog_loose.specs.Settling.{IsSettled, NoneSettled, IsFirstSettled}
 pub use Rattle.syslog_loose.specs.Bodies.Start.{BeginsWithout, IsBehindPriority}
-pub use Rattle.syslog_loose.specs.Bodies.Rows.{body_row}

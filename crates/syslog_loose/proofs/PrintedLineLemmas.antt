@@ -6,9 +6,9 @@ use Rattle.syslog_loose.proofs.Names.{encodes-decimal, printed_stamp-bytes, line
 use Rattle.syslog_loose.proofs.Names.{printed, priority_of, rest_text, spaced_elements, timestamp_text, Line, RFC3164}
 use Rattle.std.specs.Char.{encode_utf8}
 use Rattle.syslog_pieces.specs.Front.{clock_text, front_text}
-use Rattle.syslog_loose.specs.Bodies.Cases.{printed_number}
 use Rattle.syslog_loose.specs.Printed.{printed_3164, printed_5424, rest_3164, rest_5424}
 use Rattle.syslog_loose.specs.declared.message.Protocol.TheVariants.{RFC5424}
+use Rattle.syslog_loose.specs.Bodies.Cases.{printed_number}
 
 -- ---- the rest
 

@@ -1,7 +1,7 @@
 -- The priority that each printed text begins with.
 use Rattle.syslog_loose.proofs.Names.{◌≡◌, ◌<◌, ◌≤◌, ◌∷◌, ◌++◌, ◌then◌, ℕ, [], Option, None, refl, arith, append_assoc}
-use Rattle.syslog_loose.proofs.Names.{Some, option_map_or, drop_trailing_whitespace, Text, Front, exactly, piece_front}
-use Rattle.syslog_loose.proofs.Names.{row_of, MessageValue, priority_of, decimal, priority, facility_number}
+use Rattle.syslog_loose.proofs.Names.{Some, row_of, option_map_or, drop_trailing_whitespace, Text, Front, exactly}
+use Rattle.syslog_loose.proofs.Names.{piece_front, MessageValue, priority_of, decimal, priority, facility_number}
 use Rattle.syslog_loose.proofs.Names.{severity_number, number, SyslogFacility, SyslogSeverity, number_back}
 use Rattle.syslog_pieces.specs.Pri.{priority_row}
 use Rattle.syslog_pieces.proofs.PriLemmas.{as_priority, facility_low, severity_low}

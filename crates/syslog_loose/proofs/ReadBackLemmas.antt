@@ -1,23 +1,21 @@
 -- The printed text of a message, read under `Either` or the message's own variant.
 use Rattle.syslog_loose.proofs.Names.{◌≡◌, ◌↔◌, ◌∙◌, ℕ, inl, inr, ℤ, List, Option, Result, Ok, Err, refl, sym, ap}
-use Rattle.syslog_loose.proofs.Names.{subst, encodes-chars, IfOk, String, string_bytes, chars, IsUtf8, encode_utf8_all}
+use Rattle.syslog_loose.proofs.Names.{subst, string_bytes, encodes-chars, IfOk, String, chars, IsUtf8, encode_utf8_all}
 use Rattle.syslog_loose.proofs.Names.{Global, Bor, TimeZone, Text, Dating, dating_of, IsBounded, IsCanonical}
 use Rattle.syslog_loose.proofs.Names.{MessageValue, printed, ReadsProtocol, IsFixed, dash_rule, IsRead, IsOnlyRead}
-use Rattle.syslog_loose.proofs.Names.{IsUnreadable, Answers, IncompleteDate, InYear, IsNot5424, ParseFault, Invalid}
-use Rattle.syslog_loose.proofs.Names.{Memory, Protocol, Variant, Either, RFC5424}
+use Rattle.syslog_loose.proofs.Names.{IsUnreadable, Answers, IncompleteDate, InYear, IsQuoted, IsNot5424, ParseFault}
+use Rattle.syslog_loose.proofs.Names.{Invalid, Memory, Protocol, Variant, Either, RFC5424}
 use Rattle.std.specs.Prelude.{MatchResult}
 use Rattle.syslog_loose.specs.ReadBack.{AnswersItself, FieldsAsRead, AnswersAgain}
 use Rattle.syslog_loose.specs.declared.variant.Variant.TheVariants.{RFC3164}
 use Rattle.syslog_loose.proofs.BoundLemmas.{read_as}
-use Rattle.syslog_loose.proofs.ReadingLemmas.{Found, value, in_year_map}
+use Rattle.syslog_loose.proofs.ReadingLemmas.{Found, value, in_year_map, quoted}
 use Rattle.syslog_loose.proofs.Rfc3164Lemmas.Exact.{rfc3164_exact}
 use Rattle.syslog_loose.proofs.Rfc3164Lemmas.Near.{read_near, read_nearly, stamp_read}
 use Rattle.syslog_loose.proofs.Rfc3164Lemmas.Printed.{printed_is, printed_apart}
 use Rattle.syslog_loose.specs.declared.message.Protocol.TheVariants as protocol
 use Rattle.syslog_loose.proofs.Rfc3164Lemmas.Again as as_rfc3164
 use Rattle.syslog_loose.proofs.Rfc5424Lemmas.ReadBack as rfc5424
-use Rattle.syslog_loose.specs.Reading.{IsQuoted}
-use Rattle.syslog_loose.proofs.ReadingLemmas.{quoted}
 
 module _ (dating : Dating) (m : MessageValue) (b : IsBounded m) where
   -- by whichever protocol, only a canonical message's printed text is read as the message

@@ -2,13 +2,12 @@
 use Rattle.syslog_loose.proofs.Names.{◌≡◌, ◌≢◌, ◌∙◌, inl, inr, ℕ, ℤ, List, Option, Some, None, w32, to_z, of_z, refl}
 use Rattle.syslog_loose.proofs.Names.{sym, ap, subst, MatchOption, IsSomeAnd, Bor, TimeZone, Text, shown, Dating}
 use Rattle.syslog_loose.proofs.Names.{dating_of, MonthDate, MessageValue, message_value, dash_rule, IsRead, IsOnlyRead}
-use Rattle.syslog_loose.proofs.Names.{IncompleteDate, incomplete, AsksYear, IsYearAnswered, InYear, IsRead5424, Invalid}
-use Rattle.syslog_loose.proofs.Names.{Memory, Variant, Either, RFC5424}
+use Rattle.syslog_loose.proofs.Names.{IncompleteDate, AsksYear, IsYearAnswered, InYear, IsQuoted, incomplete}
+use Rattle.syslog_loose.proofs.Names.{IsRead5424, Invalid, Memory, Variant, Either, RFC5424}
 use Rattle.std.proofs.Common.{SFits}
 use Rattle.std.proofs.lemmas.Int.{to_z-of_z}
-use Rattle.syslog_loose.specs.Reading.{IsQuoted}
-use Rattle.syslog_loose.specs.declared.message.Message.{Message}
 use Rattle.syslog_loose.specs.declared.variant.Variant.TheVariants.{RFC3164}
+use Rattle.syslog_loose.specs.declared.message.Message.{Message}
 use Rattle.syslog_loose.proofs.Rfc3164Lemmas.Years.{other_read}
 use Rattle.syslog_loose.proofs.Rfc3164Lemmas.Quoting as rfc3164
 use Rattle.syslog_loose.proofs.Rfc3164Lemmas.Unique as rfc3164_unique

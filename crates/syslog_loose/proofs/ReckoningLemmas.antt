@@ -3,8 +3,8 @@ use Rattle.syslog_loose.proofs.Names.{◌≡◌, ◌∙◌, ℕ, ℤ, Option, So
 use Rattle.syslog_loose.proofs.Names.{AsksYear, IncompleteDate, IsYearAnswered, incomplete, Variant, Either, RFC5424}
 use Rattle.jiff.specs.Types.{TimeZone}
 use Rattle.syslog_pieces.proofs.TimestampLemmas.MonthDate.{shown_once}
-use Rattle.syslog_loose.specs.Reckoning.{InDating, dating_in, reckoned_year}
 use Rattle.syslog_loose.specs.declared.variant.Variant.TheVariants.{RFC3164}
+use Rattle.syslog_loose.specs.Reckoning.{InDating, dating_in, reckoned_year}
 
 asked_once : (variant : Variant) (text : Text) (d e : MonthDate) → AsksYear variant text d → AsksYear variant text e
     → d ≡ e

@@ -1,18 +1,18 @@
 -- The pieces of RFC 5424: a text has one division into them, and what the reader's result says of the text.
 pub mod ReadBack
-use Rattle.syslog_loose.proofs.Names.{◌≡◌, ◌∷◌, ◌∙◌, ◌also◌, [], sym, ap, subst, flat_map, Text, Values, Front, NoFront}
-use Rattle.syslog_loose.proofs.Names.{Row, run, some_run, optional, trimmed, is_blank, number, AreInPieces, text_list}
-use Rattle.syslog_loose.proofs.Names.{process_texts, header_stamp, element_texts, priority, AllDeterministic}
-use Rattle.syslog_loose.proofs.Names.{unique_division, front_division, no_row_division, optional_det, some_run_det}
-use Rattle.syslog_loose.proofs.Names.{run_det, rest_det, all_joined, Quoted, row_quotes, silent, rest_quotes}
-use Rattle.syslog_loose.proofs.Names.{host_quotes, priority_det, host_det, MessageValue, message_texts, header_row}
-use Rattle.syslog_loose.proofs.Names.{data_row, rfc5424_row, message_of, IsRead5424, IsNot5424}
+use Rattle.syslog_loose.proofs.Names.{◌≡◌, ◌∷◌, ◌∙◌, ◌also◌, [], sym, ap, subst, AllDeterministic, unique_division}
+use Rattle.syslog_loose.proofs.Names.{front_division, no_row_division, optional_det, some_run_det, run_det, rest_det}
+use Rattle.syslog_loose.proofs.Names.{all_joined, flat_map, Text, Values, Front, NoFront, Row, run, some_run, optional}
+use Rattle.syslog_loose.proofs.Names.{trimmed, is_blank, number, AreInPieces, text_list, process_texts, header_stamp}
+use Rattle.syslog_loose.proofs.Names.{element_texts, priority, Quoted, row_quotes, silent, rest_quotes, host_quotes}
+use Rattle.syslog_loose.proofs.Names.{priority_det, host_det, MessageValue, message_texts, header_row, data_row}
+use Rattle.syslog_loose.proofs.Names.{rfc5424_row, message_of, IsRead5424, IsNot5424}
+use Rattle.syslog_pieces.proofs.PieceLemmas.Parts.{word_quotes, process_quotes}
+use Rattle.syslog_pieces.proofs.TextLemmas.Words.{number_det, word_det}
 use Rattle.syslog_pieces.proofs.StructuredDataLemmas.Elements.{forgiving_det}
 use Rattle.syslog_pieces.proofs.StructuredDataLemmas.ElementParts.{forgiving_quotes}
-use Rattle.syslog_pieces.proofs.PieceLemmas.Parts.{word_quotes, process_quotes}
 use Rattle.syslog_pieces.proofs.ProcIdLemmas.{process_word_det}
 use Rattle.syslog_pieces.proofs.TimestampLemmas.Piece.{header_stamp_det}
-use Rattle.syslog_pieces.proofs.TextLemmas.Words.{number_det, word_det}
 use Rattle.syslog_loose.specs.Rfc5424.{Quotes5424}
 
 pub header_det : AllDeterministic header_row

@@ -1,22 +1,22 @@
 -- What the pieces at the front of a text say of its readings.
 use Rattle.syslog_loose.proofs.Names.{◌≡◌, ◌≢◌, ◌∙◌, ◌↔◌, ◌then◌, ◌past◌, inl, inr, ℕ, ℤ, List, Option, Some, None, Err}
-use Rattle.syslog_loose.proofs.Names.{false, true, refl, sym, ap, subst, arith, Bor, MatchOption, IsSome, IsSomeAnd}
-use Rattle.syslog_loose.proofs.Names.{shown, Text, Class, Front, NoFront, run, optional, priority, trimmed, is_blank}
-use Rattle.syslog_loose.proofs.Names.{clock_value, header_stamp, stamp_seen, rfc3164_stamp, ShowsYearless}
-use Rattle.syslog_loose.proofs.Names.{ShowsMonthDate, yearless_date, month_date, Dating, ClockStamp, MonthDate}
-use Rattle.syslog_loose.proofs.Names.{front_same, optional_det, run_det, Begins, begins_apart, row_of, no_row}
-use Rattle.syslog_loose.proofs.Names.{priority_det, some_front_run, month_date_begins, IsLetter, IsLow, ReadsProtocol}
-use Rattle.syslog_loose.proofs.Names.{dash_rule, incomplete, Answers, AsksYear, IncompleteDate, IsLeftTo3164, HasMonth}
-use Rattle.syslog_loose.proofs.Names.{IsYearAnswered, stamped_row, IsNot3164, IsNot5424, IsBehindPriority}
-use Rattle.syslog_loose.proofs.Names.{BeginsWithout, Invalid, Variant, Either, RFC5424}
+use Rattle.syslog_loose.proofs.Names.{false, true, refl, sym, ap, subst, arith, IsSome, row_of, no_row, Bor}
+use Rattle.syslog_loose.proofs.Names.{MatchOption, IsSomeAnd, shown, Text, Class, Front, NoFront, run, optional}
+use Rattle.syslog_loose.proofs.Names.{priority, trimmed, is_blank, clock_value, header_stamp, stamp_seen, rfc3164_stamp}
+use Rattle.syslog_loose.proofs.Names.{ShowsYearless, ShowsMonthDate, yearless_date, month_date, Dating, ClockStamp}
+use Rattle.syslog_loose.proofs.Names.{MonthDate, front_same, optional_det, run_det, Begins, begins_apart, priority_det}
+use Rattle.syslog_loose.proofs.Names.{some_front_run, month_date_begins, IsLetter, IsLow, ReadsProtocol, dash_rule}
+use Rattle.syslog_loose.proofs.Names.{Answers, AsksYear, IncompleteDate, IsLeftTo3164, IsYearAnswered, incomplete}
+use Rattle.syslog_loose.proofs.Names.{HasMonth, stamped_row, IsNot3164, IsNot5424, IsBehindPriority, BeginsWithout}
+use Rattle.syslog_loose.proofs.Names.{Invalid, Variant, Either, RFC5424}
 use Rattle.syslog_pieces.specs.Pieces.View.{Reads}
 use Rattle.syslog_pieces.specs.Timestamp.{IsAnswer}
 use Rattle.syslog_pieces.specs.Timestamp.Zone.{IsMonthStamp}
 use Rattle.syslog_pieces.proofs.TimestampLemmas.Rfc3164.{date_front, header_front, header_stamp_begins, no_date}
 use Rattle.syslog_pieces.proofs.TimestampLemmas.Rfc3164.{no_stamp_of_date}
 use Rattle.syslog_loose.specs.Bodies.Start.{BeginsWith}
-use Rattle.syslog_loose.specs.Bodies.View3164.{IsBehindStamp}
 use Rattle.syslog_loose.specs.declared.variant.Variant.TheVariants.{RFC3164}
+use Rattle.syslog_loose.specs.Bodies.View3164.{IsBehindStamp}
 use Rattle.syslog_loose.proofs.ReadingLemmas.{answered_to}
 use Rattle.syslog_loose.proofs.Rfc3164Lemmas.Apart.{shown_apart}
 use Rattle.syslog_loose.proofs.Rfc3164Lemmas.Reading.{not_read}
@@ -112,19 +112,16 @@ module _ (variant : Variant) (text : Text) {follows : Text} {p : Option ℕ}
     dated_unread = shown_apart text d shows_date
 
     -- the date has no timestamp
-    dated_none : (dating : Dating) → IsAnswer (IsMonthStamp dating d) None → IsNot3164 dash_rule dating text
-    dated_none dating none = unstamped text f b.gap dating (no_stamp_of_date dating no_header d b.front none)
+    pub dated_invalid : (dating : Dating) → IsAnswer (IsMonthStamp dating d) None
+        → Answers variant dating text (Err Invalid)
+    dated_invalid dating none = neither variant dating text (λ n. dated_unread)
+        (λ reads. unstamped text f b.gap dating (no_stamp_of_date dating no_header d b.front none))
       where
         no_header : NoFront header_stamp b.start
         no_header p q v e h =
             let low : Begins IsLow b.start = rw e (header_stamp_begins p q v h) in
             let letter : Begins IsLetter b.start = rw b.front.whole (month_date_begins b.front.piece _ d b.front.is) in
             begins_apart b.start (λ c a l. omega arith) low letter
-
-    pub dated_invalid : (dating : Dating) → IsAnswer (IsMonthStamp dating d) None
-        → Answers variant dating text (Err Invalid)
-    dated_invalid dating none =
-        neither variant dating text (λ n. dated_unread) (λ reads. dated_none dating none)
 
     -- or one, and then RFC 3164 is left to try
     pub dated_left : IsLeftTo3164 variant text
@@ -145,15 +142,11 @@ module _ (variant : Variant) (text : Text) {follows : Text} {p : Option ℕ}
         without reads u (rw same at gap) g.piece q d g.whole (inl g.is)
 
     -- and no other timestamp
-    undated_none : BeginsWithout header_stamp variant follows → (dating : Dating)
-        → ReadsProtocol variant protocol.RFC3164 → IsNot3164 dash_rule dating text
-    undated_none header dating reads =
-        let (start, gap) = some_front_run is_blank follows in
-        unstamped text f gap dating (no_date dating (header reads start gap) (without reads start gap))
-
     pub undated_invalid : BeginsWithout header_stamp variant follows → (variant ≢ RFC3164 → IsNot5424 text)
         → (dating : Dating) → Answers variant dating text (Err Invalid)
-    undated_invalid header strict dating = neither variant dating text strict (undated_none header dating)
+    undated_invalid header strict dating = neither variant dating text strict (λ reads.
+        let (start, gap) = some_front_run is_blank follows in
+        unstamped text f gap dating (no_date dating (header reads start gap) (without reads start gap)))
 
     -- or another one
     pub other_front : (dating : Dating) {q : Text} (v : Option ClockStamp)

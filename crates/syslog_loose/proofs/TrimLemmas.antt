@@ -3,10 +3,9 @@ use Rattle.syslog_loose.proofs.Names.{◌≡◌, ◌<◌, ◌&&◌, ◌∷◌, �
 use Rattle.syslog_loose.proofs.Names.{Option, Some, None, List, [], length, refl, sym, ap, subst, arith, append_assoc}
 use Rattle.syslog_loose.proofs.Names.{append-nil, flat_map, nat_tests, is_whitespace, is_not_whitespace}
 use Rattle.syslog_loose.proofs.Names.{drop_trailing_whitespace, Text, Class, Values, Front, Row, Each, Ends, run, rest}
-use Rattle.syslog_loose.proofs.Names.{classes, printed_row, ElementValue, param_text, element_text, joined_elements}
-use Rattle.syslog_loose.proofs.Names.{elements_text, OffsetTimestamp, row_head, rest_whole, row_pieces}
+use Rattle.syslog_loose.proofs.Names.{classes, printed_row, Format, ElementValue, param_text, element_text}
+use Rattle.syslog_loose.proofs.Names.{joined_elements, elements_text, OffsetTimestamp, row_head, rest_whole, row_pieces}
 use Rattle.syslog_loose.proofs.Names.{printed_stamp-visible, printed_stamp-begins, timestamp_text, is_blank}
-use Rattle.syslog_pieces.specs.Pieces.Format.{Format}
 use Rattle.syslog_pieces.proofs.PieceLemmas.Formats.{printed_more}
 use Rattle.syslog_loose.specs.Canonical.{EndsVisibly}
 unfoldable pub use Rattle.syslog_loose.specs.Bodies.Jumps.{message_end}

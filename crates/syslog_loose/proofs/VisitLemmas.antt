@@ -5,8 +5,8 @@ use Rattle.syslog_loose.proofs.Names.{list_elements, Dating, dating_of, DashRule
 use Rattle.syslog_loose.proofs.Names.{MessageValue, message_value, dash_rule, Answers, AsksYear, InYear, IncompleteDate}
 use Rattle.syslog_loose.proofs.Names.{IsLeftTo3164, IsOnlyRead, IsRead, IsUnreadable, IsYearAnswered, IsRead3164}
 use Rattle.syslog_loose.proofs.Names.{IsRead5424, IsLineOf, Made, ParseFault, Line, Variant, Either, RFC5424}
-use Rattle.syslog_pieces.specs.StructuredData.Collected.{HasCollected}
 use Rattle.syslog_pieces.specs.StructuredData.Visited.{Visits}
+use Rattle.syslog_pieces.specs.StructuredData.Collected.{HasCollected}
 use Rattle.syslog_pieces.specs.declared.structured_data.collect.Collect.{Collect}
 use Rattle.syslog_loose.specs.Message.{with_elements}
 use Rattle.syslog_loose.specs.Reading.{IsFault}

@@ -1,22 +1,13 @@
 -- The written condition: the messages that are read back unchanged from their printed text. It speaks of the fields
 -- alone, and never of reading. (This project's own.)
-use Rattle.std.specs.Prelude.{◌≡◌, ◌≢◌, ◌↔◌, ℕ, ◌<◌, ◌^◌, ◌&&◌, not, nat_eq, ⊤, Bool, IsTrue, MatchBool}
-use Rattle.std.specs.Prelude.{List, [], length, Option, Some, None, IfSome, IsSome}
-use Rattle.std.specs.List.{AllByRecursion}
-use Rattle.std.specs.Option.{option_map}
-use Rattle.syslog_pieces.specs.Pieces.Class.{Text, Each, Ends}
-use Rattle.syslog_pieces.specs.ProcId.{procid_value}
-use Rattle.syslog_pieces.specs.StructuredData.Element.{ElementValue}
-use Rattle.syslog_pieces.specs.StructuredData.Rfc3164List.{BeginsNoList}
-use Rattle.syslog_pieces.specs.Text.{is_blank, is_tag_char, dash}
-use Rattle.syslog_pieces.specs.Text.CharClass.{is_label_char}
+use Rattle.syslog_loose.specs.Words.{◌≡◌, ◌≢◌, ◌↔◌, ◌<◌, ◌^◌, ◌&&◌, ℕ, not, nat_eq, ⊤, Bool, IsTrue, MatchBool, List}
+use Rattle.syslog_loose.specs.Words.{[], length, Option, Some, None, IfSome, IsSome, AllByRecursion, option_map, Text}
+use Rattle.syslog_loose.specs.Words.{Each, Ends, procid_value, ElementValue, BeginsNoList, is_blank, is_tag_char, dash}
+use Rattle.syslog_loose.specs.Words.{is_label_char, ProcId, PID, Name, DashRule}
 pub use Rattle.syslog_pieces.specs.ProcId.{IsBoundedProcess, IsNoI32Text, IsCanonicalProcess}
 pub use Rattle.syslog_pieces.specs.StructuredData.Canonical.{IsCanonicalElement}
 pub use Rattle.syslog_pieces.specs.Text.Canonical.{IsVisible, IsCanonicalHost, IsCanonicalWord, EndsVisibly}
 pub use Rattle.syslog_pieces.specs.Timestamp.Canonical.{IsCanonicalStamp}
-use Rattle.syslog_pieces.specs.declared.procid.ProcId.{ProcId}
-use Rattle.syslog_pieces.specs.declared.procid.ProcId.TheVariants.{PID, Name}
-use Rattle.syslog_pieces.specs.declared.structured_data.rfc3164_list.DashRule.{DashRule}
 use Rattle.syslog_loose.specs.declared.message.canonical.Fields.{Fields}
 use Rattle.syslog_loose.specs.declared.message.Protocol.{Protocol}
 use Rattle.syslog_loose.specs.declared.message.Protocol.TheVariants.{RFC3164, RFC5424}

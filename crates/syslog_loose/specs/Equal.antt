@@ -1,14 +1,8 @@
 -- When two messages are equal: all their fields but the protocol are. Timestamps are compared by instant, whatever the
 -- offsets; elements in order, each with its parameters in any order (the rule of the Rust crate, but for those).
-use Rattle.std.specs.Prelude.{Bool, ◌&&◌}
-use Rattle.std.specs.Cmp.Lexicographic.{pointwise}
-use Rattle.std.specs.Option.{option_eq}
+use Rattle.syslog_loose.specs.Words.{◌&&◌, Bool, pointwise, option_eq, text_eq, facility_eq, severity_eq, procid_eq}
+use Rattle.syslog_loose.specs.Words.{element_eq, OffsetTimestamp}
 use Rattle.std.specs.Ordering.{int_eq}
-use Rattle.syslog_pieces.specs.Pieces.View.{text_eq}
-use Rattle.syslog_pieces.specs.Pri.{facility_eq, severity_eq}
-use Rattle.syslog_pieces.specs.ProcId.Equal.{procid_eq}
-use Rattle.syslog_pieces.specs.StructuredData.Equal.{element_eq}
-use Rattle.syslog_pieces.specs.declared.timestamp.OffsetTimestamp.{OffsetTimestamp}
 use Rattle.syslog_loose.specs.Message.{MessageValue}
 
 -- whether two timestamps are one instant

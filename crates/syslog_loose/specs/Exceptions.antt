@@ -1,21 +1,11 @@
 -- What a message that was read as RFC 3164 may miss of the written condition: five things and no more. So these are the
 -- messages that are read as another one, or not at all, when they are printed. (This project's own.)
-use Rattle.std.specs.Prelude.{◌≡◌, ◌≢◌, ◌⊎◌, ⊤, ℕ, ◌<◌, nat_eq, ◌&&◌, not, Bool}
-use Rattle.std.specs.Prelude.{[], length, Option, Some, None, IfSome, IsSome}
+use Rattle.syslog_loose.specs.Words.{◌≡◌, ◌≢◌, ◌⊎◌, ◌<◌, ◌&&◌, ⊤, ℕ, nat_eq, not, Bool, [], length, Option, Some, None}
+use Rattle.syslog_loose.specs.Words.{IfSome, IsSome, AllByRecursion, Text, Each, Ends, BeginsNoList, is_blank}
+use Rattle.syslog_loose.specs.Words.{is_tag_char, dash, EndsInColon, is_label_char, ShowsMonthDate, IsCanonicalStamp}
+use Rattle.syslog_loose.specs.Words.{Dating, ProcId, PID, Name, DashRule, OffsetTimestamp, MonthDate}
 use Rattle.std.specs.Char.{is_not_whitespace}
-use Rattle.std.specs.List.{AllByRecursion}
-use Rattle.syslog_pieces.specs.Pieces.Class.{Text, Each, Ends}
-use Rattle.syslog_pieces.specs.StructuredData.Rfc3164List.{BeginsNoList}
-use Rattle.syslog_pieces.specs.Text.{is_blank, is_tag_char, dash, EndsInColon}
-use Rattle.syslog_pieces.specs.Text.CharClass.{is_label_char}
-use Rattle.syslog_pieces.specs.Timestamp.Rfc3164.{ShowsMonthDate}
-use Rattle.syslog_pieces.specs.Timestamp.Canonical.{IsCanonicalStamp}
-use Rattle.syslog_pieces.specs.Timestamp.Zone.{Dating, IsMonthStamp}
-use Rattle.syslog_pieces.specs.declared.procid.ProcId.{ProcId}
-use Rattle.syslog_pieces.specs.declared.procid.ProcId.TheVariants.{PID, Name}
-use Rattle.syslog_pieces.specs.declared.structured_data.rfc3164_list.DashRule.{DashRule}
-use Rattle.syslog_pieces.specs.declared.timestamp.OffsetTimestamp.{OffsetTimestamp}
-use Rattle.syslog_pieces.specs.declared.timestamp.month_date.MonthDate.{MonthDate}
+use Rattle.syslog_pieces.specs.Timestamp.Zone.{IsMonthStamp}
 use Rattle.syslog_loose.specs.declared.message.Protocol.TheVariants.{RFC3164}
 use Rattle.syslog_loose.specs.Canonical.{IsVisible, IsNoI32Text, IsCanonicalElement, EndsVisibly}
 use Rattle.syslog_loose.specs.Message.{MessageValue}

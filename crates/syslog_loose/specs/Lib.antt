@@ -17,3 +17,4 @@ pub mod Rfc5424
 pub mod Settling
 pub mod TagForm
 pub mod Visit
+pub mod Words

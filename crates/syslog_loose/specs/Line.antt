@@ -1,20 +1,13 @@
 -- A parsed line, as the message that it means, and what is printed of it after the timestamp.
-use Rattle.std.specs.Prelude.{◌≡◌, ℕ, IsTrue, Option, Some, None, IfSome}
-use Rattle.std.specs.Option.{option_map}
-use Rattle.std.specs.Str.{IsUtf8}
-use Rattle.syslog_pieces.specs.Pieces.View.{seen, shown}
-use Rattle.syslog_pieces.specs.ProcId.{named_process}
-use Rattle.syslog_pieces.specs.StructuredData.Visited.{list_elements}
-use Rattle.syslog_pieces.specs.Timestamp.{stamp_seen}
-use Rattle.syslog_pieces.specs.Timestamp.Canonical.{IsCanonicalStamp}
+use Rattle.syslog_loose.specs.Words.{◌≡◌, ℕ, IsTrue, Option, Some, None, IfSome, option_map, IsUtf8, seen, shown}
+use Rattle.syslog_loose.specs.Words.{named_process, list_elements, stamp_seen, IsCanonicalStamp}
 use Rattle.syslog_loose.specs.Exceptions.{HasNoException}
-use Rattle.syslog_loose.specs.Message.{MessageValue}
+use Rattle.syslog_loose.specs.Message.{MessageValue, message_of_parts}
 use Rattle.syslog_loose.specs.Printed.{rest_text}
 use Rattle.syslog_loose.specs.Reading.{dash_rule}
 use Rattle.syslog_loose.specs.declared.line.Line.{Line}
 use Rattle.syslog_loose.specs.declared.message.Protocol.{Protocol}
 use Rattle.syslog_loose.specs.declared.message.Protocol.TheVariants.{RFC3164, RFC5424}
-use Rattle.syslog_loose.specs.Message.{message_of_parts}
 
 -- RFC 5424 has a version, and RFC 3164 none
 abbrev pub protocol_of : Option ℕ → Protocol

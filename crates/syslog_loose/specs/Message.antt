@@ -1,16 +1,11 @@
 -- Messages as values over texts: what clauses compare.
-use Rattle.std.specs.Prelude.{ℕ, List, [], ◌∷◌, ◌++◌, Option, map}
-use Rattle.std.specs.List.{flat_map}
-use Rattle.std.specs.Option.{option_and_then, option_map}
-use Rattle.syslog_pieces.specs.Pieces.Class.{Text}
-use Rattle.syslog_pieces.specs.StructuredData.Element.{ElementValue, element_value, element_texts}
+use Rattle.syslog_loose.specs.Words.{◌∷◌, ◌++◌, ℕ, List, [], Option, map, flat_map, option_and_then, option_map, Text}
+use Rattle.syslog_loose.specs.Words.{ElementValue, element_value, facility_of, severity_of, procid_value, ProcId}
+use Rattle.syslog_loose.specs.Words.{OffsetTimestamp}
+use Rattle.syslog_pieces.specs.StructuredData.Element.{element_texts}
 use Rattle.syslog_pieces.specs.Pieces.Parts.{text_list, process_texts}
-use Rattle.syslog_pieces.specs.Pri.{facility_of, severity_of}
-use Rattle.syslog_pieces.specs.ProcId.{procid_value}
 use Rattle.syslog_pieces.specs.declared.pri.SyslogFacility.{SyslogFacility}
 use Rattle.syslog_pieces.specs.declared.pri.SyslogSeverity.{SyslogSeverity}
-use Rattle.syslog_pieces.specs.declared.procid.ProcId.{ProcId}
-use Rattle.syslog_pieces.specs.declared.timestamp.OffsetTimestamp.{OffsetTimestamp}
 use Rattle.syslog_loose.specs.declared.message.Message.{Message}
 use Rattle.syslog_loose.specs.declared.message.Protocol.{Protocol}
 

@@ -1,6 +1,5 @@
 -- Texts of one line.
-use Rattle.std.specs.Prelude.{ℕ, Bool, not, nat_eq}
-use Rattle.syslog_pieces.specs.Pieces.Class.{Text, Each}
+use Rattle.syslog_loose.specs.Words.{ℕ, Bool, not, nat_eq, Text, Each}
 
 abbrev pub is_no_feed : ℕ → Bool
 is_no_feed c = not (nat_eq c 10)

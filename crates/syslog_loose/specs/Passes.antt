@@ -1,15 +1,8 @@
 -- What a pass of `settle` writes, and the rank of a message, which falls with each pass. (All of it is this project's
 -- own.)
-use Rattle.std.specs.Prelude.{◌≡◌, ◌↔◌, ⊤, ℕ, zero, suc, List, [], ◌++◌, Bool, MatchBool, Option, Some, None, IfSome}
-use Rattle.std.specs.Prelude.{Result, Ok, Err, MatchResult}
-use Rattle.std.specs.Str.{chars}
-use Rattle.std.specs.declared.alloc.AllocError.{AllocError}
-use Rattle.syslog_pieces.specs.Pieces.Class.{Text}
-use Rattle.syslog_pieces.specs.Text.{colon, EndsInColon}
-use Rattle.syslog_pieces.specs.Timestamp.Canonical.{IsCanonicalStamp}
-use Rattle.syslog_pieces.specs.Timestamp.Rfc3164.{ShowsMonthDate}
-use Rattle.syslog_pieces.specs.Timestamp.Zone.{Dating}
-use Rattle.syslog_pieces.specs.declared.timestamp.month_date.MonthDate.{MonthDate}
+use Rattle.syslog_loose.specs.Words.{◌≡◌, ◌↔◌, ◌++◌, ⊤, ℕ, zero, suc, List, [], Bool, MatchBool, Option, Some, None}
+use Rattle.syslog_loose.specs.Words.{IfSome, Result, Ok, Err, MatchResult, chars, AllocError, Text, colon, EndsInColon}
+use Rattle.syslog_loose.specs.Words.{IsCanonicalStamp, ShowsMonthDate, Dating, MonthDate}
 use Rattle.syslog_loose.specs.Exceptions.{HasNoException, HasNoNameException}
 use Rattle.syslog_loose.specs.Bodies.Jumps.{IsDashed}
 use Rattle.syslog_loose.specs.Line.{line_value}

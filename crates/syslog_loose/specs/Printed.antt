@@ -1,20 +1,14 @@
 -- The printed text of a message, which is the form of RFC 5424 section 6, or of RFC 3164 section 4.
-use Rattle.std.specs.Prelude.{ℕ, ◌+◌, ◌*◌, List, [], ◌∷◌, ◌++◌, Option, None, Some}
-use Rattle.std.specs.Option.{option_map_or}
-use Rattle.std.specs.Fmt.{decimal}
-use Rattle.std.specs.List.{flat_map}
-use Rattle.syslog_pieces.specs.Pieces.Class.{Text}
-use Rattle.syslog_pieces.specs.StructuredData.Element.{ElementValue}
+use Rattle.syslog_loose.specs.Words.{◌+◌, ◌*◌, ◌∷◌, ◌++◌, ℕ, List, [], Option, None, Some, option_map_or, flat_map}
+use Rattle.syslog_loose.specs.Words.{Text, ElementValue, facility_number, severity_number, dash, ProcId}
+use Rattle.syslog_loose.specs.Words.{OffsetTimestamp}
+use Rattle.std.specs.Prelude.{decimal}
 use Rattle.syslog_pieces.specs.StructuredData.Element.{element_text}
 pub use Rattle.syslog_pieces.specs.StructuredData.Element.{joined_elements, elements_text}
-use Rattle.syslog_pieces.specs.Pri.{facility_number, severity_number}
 use Rattle.syslog_pieces.specs.ProcId.{procid_text}
 pub use Rattle.syslog_pieces.specs.ProcId.{process_text}
-use Rattle.syslog_pieces.specs.Text.{dash}
 pub use Rattle.syslog_pieces.specs.Text.{name_text}
 use Rattle.syslog_pieces.specs.Timestamp.Printed.{printed_stamp}
-use Rattle.syslog_pieces.specs.declared.procid.ProcId.{ProcId}
-use Rattle.syslog_pieces.specs.declared.timestamp.OffsetTimestamp.{OffsetTimestamp}
 use Rattle.syslog_loose.specs.declared.message.Protocol.TheVariants.{RFC3164, RFC5424}
 use Rattle.syslog_loose.specs.Message.{MessageValue}
 

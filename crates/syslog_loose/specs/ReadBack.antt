@@ -1,12 +1,6 @@
 -- What the reading calls return for a printed message, and what is known of the fields of a message that was read.
-use Rattle.std.specs.Prelude.{◌≡◌, ◌≢◌, ◌↔◌, ◌⊎◌, ⊤, ℕ, List, Result, Err}
-use Rattle.std.specs.Prelude.{String, string_bytes, IfSome, IsSome, IsOkAnd}
-use Rattle.std.specs.Global.{Global}
-use Rattle.std.specs.Borrow.{Bor}
-use Rattle.syslog_pieces.specs.Pieces.Class.{Text}
-use Rattle.syslog_pieces.specs.Pieces.View.{shown}
-use Rattle.syslog_pieces.specs.Timestamp.Canonical.{IsCanonicalStamp}
-use Rattle.syslog_pieces.specs.Timestamp.Zone.{Dating}
+use Rattle.syslog_loose.specs.Words.{◌≡◌, ◌≢◌, ◌↔◌, ◌⊎◌, ⊤, ℕ, List, Result, Err, String, string_bytes, IfSome, IsSome}
+use Rattle.syslog_loose.specs.Words.{IsOkAnd, Global, Bor, Text, shown, IsCanonicalStamp, Dating}
 use Rattle.syslog_loose.specs.Canonical.{IsBounded, IsCanonical}
 use Rattle.syslog_loose.specs.Exceptions.{HasNoException, IsNearlyCanonical, IsOfMonthDate}
 use Rattle.syslog_loose.specs.Message.{MessageValue, message_value}

@@ -1,16 +1,10 @@
 -- What it is to read a text, by which protocol and in which year, and what the reading calls return.
-use Rattle.std.specs.Prelude.{◌≡◌, ◌⊎◌, ⊤, ◌<◌, ◌≤◌, ◌^◌, ℕ, ℤ, List, [], Option, Some, None, Result, MatchResult}
-use Rattle.std.specs.Borrow.{Bor}
-use Rattle.std.specs.declared.alloc.AllocError.{AllocError}
+use Rattle.syslog_loose.specs.Words.{◌≡◌, ◌⊎◌, ◌<◌, ◌≤◌, ◌^◌, ⊤, ℕ, ℤ, List, [], Option, Some, None, Result}
+use Rattle.syslog_loose.specs.Words.{MatchResult, Bor, AllocError, Text, shown, Dating, DashRule, BeforeBlank}
+use Rattle.syslog_loose.specs.Words.{MonthDate}
 use Rattle.jiff.specs.Types.{UTC}
-use Rattle.syslog_pieces.specs.Pieces.Class.{Text}
-use Rattle.syslog_pieces.specs.Pieces.View.{shown}
 use Rattle.syslog_pieces.specs.Timestamp.MonthDate.{yearless_date}
 use Rattle.syslog_pieces.specs.Timestamp.Rfc3164.{ShowsOf}
-use Rattle.syslog_pieces.specs.Timestamp.Zone.{Dating}
-use Rattle.syslog_pieces.specs.declared.structured_data.rfc3164_list.DashRule.{DashRule}
-use Rattle.syslog_pieces.specs.declared.structured_data.rfc3164_list.DashRule.TheVariants.{BeforeBlank}
-use Rattle.syslog_pieces.specs.declared.timestamp.month_date.MonthDate.{MonthDate}
 use Rattle.syslog_loose.specs.declared.fault.ParseFault.{ParseFault}
 use Rattle.syslog_loose.specs.declared.fault.ParseFault.TheVariants.{Invalid, Memory}
 use Rattle.syslog_loose.specs.declared.message.Message.{Message}

@@ -1,9 +1,8 @@
 -- The year and the zone of dates that show none: this project's own choice.
-use Rattle.std.specs.Prelude.{◌≡◌, ℕ, ℤ, ◌-ℤ◌, pos, nat_eq, if◌then◌else◌, Option, Some, None}
+use Rattle.syslog_loose.specs.Words.{◌≡◌, if◌then◌else◌, ℕ, ℤ, nat_eq, Option, Some, None, Text, Dating}
+use Rattle.std.specs.Prelude.{◌-ℤ◌, pos}
 use Rattle.jiff.specs.Types.{Offset, TimeZone}
 use Rattle.jiff.specs.Placed.{fixed_zone}
-use Rattle.syslog_pieces.specs.Pieces.Class.{Text}
-use Rattle.syslog_pieces.specs.Timestamp.Zone.{Dating}
 use Rattle.syslog_loose.specs.Reading.{IncompleteDate, InYear}
 use Rattle.syslog_loose.specs.declared.variant.Variant.{Variant}
 

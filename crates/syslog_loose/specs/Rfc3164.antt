@@ -1,17 +1,11 @@
 -- The header of RFC 3164 (section 4, read loosely), as eleven pieces of the trimmed text, and the message that they
 -- mean. Behind the timestamp nothing can fail.
-use Rattle.std.specs.Prelude.{◌≡◌, ◌⊎◌, List, [], ◌∷◌, Option, Some, None}
-use Rattle.std.specs.Option.{unwrap_or}
-use Rattle.syslog_pieces.specs.Pieces.Class.{Text, Class, Values, Division, run, rest, exactly, optional, after}
-use Rattle.syslog_pieces.specs.Pieces.Parts.{AreInPieces}
-use Rattle.syslog_pieces.specs.Pri.{priority}
+use Rattle.syslog_loose.specs.Words.{◌≡◌, ◌⊎◌, ◌∷◌, List, [], Option, Some, None, Text, Class, Values, Division, run}
+use Rattle.syslog_loose.specs.Words.{rest, exactly, optional, AreInPieces, priority, rfc3164_list, trimmed, is_blank}
+use Rattle.syslog_loose.specs.Words.{colon, host, tag_word, rfc3164_stamp, Dating, ProcId, DashRule}
+use Rattle.std.specs.Prelude.{unwrap_or}
+use Rattle.syslog_pieces.specs.Pieces.Class.{after}
 use Rattle.syslog_pieces.specs.ProcId.{NamesProcess}
-use Rattle.syslog_pieces.specs.StructuredData.Rfc3164List.{rfc3164_list}
-use Rattle.syslog_pieces.specs.Text.{trimmed, is_blank, colon, host, tag_word}
-use Rattle.syslog_pieces.specs.Timestamp.Rfc3164.{rfc3164_stamp}
-use Rattle.syslog_pieces.specs.Timestamp.Zone.{Dating}
-use Rattle.syslog_pieces.specs.declared.procid.ProcId.{ProcId}
-use Rattle.syslog_pieces.specs.declared.structured_data.rfc3164_list.DashRule.{DashRule}
 use Rattle.syslog_loose.specs.declared.message.Protocol.TheVariants.{RFC3164}
 use Rattle.syslog_loose.specs.Message.{MessageValue, message_of_parts, message_texts}
 use Rattle.syslog_loose.specs.TagForm.{IsNoForm, form_row}

@@ -1,13 +1,8 @@
 -- The header of RFC 5424 (section 6), as sixteen pieces of the trimmed text, and the message that they mean.
-use Rattle.std.specs.Prelude.{◌≡◌, List, [], ◌∷◌}
-use Rattle.syslog_pieces.specs.Pieces.Class.{Text, Class, Values, Division, run, some_run, rest, optional}
-use Rattle.syslog_pieces.specs.Pri.{priority}
-use Rattle.syslog_pieces.specs.ProcId.{process_word}
-use Rattle.syslog_pieces.specs.StructuredData.{forgiving}
-use Rattle.syslog_pieces.specs.Text.{trimmed, is_blank, number, host, word}
-use Rattle.syslog_pieces.specs.Timestamp.{header_stamp}
+use Rattle.syslog_loose.specs.Words.{◌≡◌, ◌∷◌, List, [], Text, Class, Values, Division, run, some_run, rest, optional}
+use Rattle.syslog_loose.specs.Words.{priority, process_word, forgiving, trimmed, is_blank, number, host, word}
+use Rattle.syslog_loose.specs.Words.{header_stamp, AreInPieces}
 use Rattle.syslog_loose.specs.declared.message.Protocol.TheVariants.{RFC5424}
-use Rattle.syslog_pieces.specs.Pieces.Parts.{AreInPieces}
 use Rattle.syslog_loose.specs.Message.{MessageValue, message_of_parts, message_texts}
 
 -- priority, version, timestamp, host, app name, process id, message id, elements, message, with blanks between two

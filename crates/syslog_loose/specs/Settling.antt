@@ -1,21 +1,10 @@
 -- Rounds: a text is read and printed, and what was printed is read and printed again, until it no longer changes. And
 -- the weight of a message of RFC 3164, which falls from round to round until then. (All of it is this project's own.)
-use Rattle.std.specs.Prelude.{◌≡◌, ◌⊎◌, ℕ, zero, suc, ◌+◌, ◌<◌, ◌≤◌, List, [], length, nat_eq}
-use Rattle.std.specs.Prelude.{if◌then◌else◌, Option, IfSome, Result, Ok, Err, MatchResult}
-use Rattle.std.specs.Prelude.{String, string_bytes}
-use Rattle.std.specs.Global.{Global}
+use Rattle.syslog_loose.specs.Words.{◌≡◌, ◌⊎◌, ◌+◌, ◌<◌, ◌≤◌, if◌then◌else◌, ℕ, zero, suc, List, [], length, nat_eq}
+use Rattle.syslog_loose.specs.Words.{Option, IfSome, Result, Ok, Err, MatchResult, String, string_bytes, Global}
+use Rattle.syslog_loose.specs.Words.{option_map_or, chars, bytes_eq, Text, ElementValue, BeginsNoList, dash}
+use Rattle.syslog_loose.specs.Words.{IsCanonicalStamp, Dating, ProcId, PID, Name, DashRule}
 use Rattle.std.specs.List.{list_any, suffix_len}
-use Rattle.std.specs.Option.{option_map_or}
-use Rattle.std.specs.Str.{chars, bytes_eq}
-use Rattle.syslog_pieces.specs.Pieces.Class.{Text}
-use Rattle.syslog_pieces.specs.StructuredData.Element.{ElementValue}
-use Rattle.syslog_pieces.specs.StructuredData.Rfc3164List.{BeginsNoList}
-use Rattle.syslog_pieces.specs.Text.{dash}
-use Rattle.syslog_pieces.specs.Timestamp.Canonical.{IsCanonicalStamp}
-use Rattle.syslog_pieces.specs.Timestamp.Zone.{Dating}
-use Rattle.syslog_pieces.specs.declared.procid.ProcId.{ProcId}
-use Rattle.syslog_pieces.specs.declared.procid.ProcId.TheVariants.{PID, Name}
-use Rattle.syslog_pieces.specs.declared.structured_data.rfc3164_list.DashRule.{DashRule}
 use Rattle.syslog_loose.specs.Message.{MessageValue}
 use Rattle.syslog_loose.specs.Printed.{printed}
 use Rattle.syslog_loose.specs.Reading.{IsRead, IsUnreadable}

@@ -1,12 +1,6 @@
 -- What is made of a text by way of its line.
-use Rattle.std.specs.Prelude.{◌≡◌, ◌≢◌, ℕ, List, [], Option, None, MatchOption, Result, MatchResult}
-use Rattle.std.specs.Borrow.{Bor}
-use Rattle.syslog_pieces.specs.Pieces.Class.{Text}
-use Rattle.syslog_pieces.specs.Pieces.View.{shown}
-use Rattle.syslog_pieces.specs.StructuredData.Element.{ElementValue}
-use Rattle.syslog_pieces.specs.StructuredData.Visited.{list_elements, Visits}
-use Rattle.syslog_pieces.specs.Text.{trimmed}
-use Rattle.syslog_pieces.specs.Timestamp.Zone.{Dating}
+use Rattle.syslog_loose.specs.Words.{◌≡◌, ◌≢◌, ℕ, List, [], Option, None, MatchOption, Result, MatchResult, Bor, Text}
+use Rattle.syslog_loose.specs.Words.{shown, ElementValue, list_elements, Visits, trimmed, Dating}
 use Rattle.syslog_loose.specs.Line.{line_value}
 use Rattle.syslog_loose.specs.Message.{message_value, with_elements}
 use Rattle.syslog_loose.specs.declared.fault.ParseFault.{ParseFault}

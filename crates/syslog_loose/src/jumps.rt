@@ -3,18 +3,12 @@
 //! A host of RFC 3164 that ends in colons is read with one fewer each time, and the colon is in the message part after
 //! it; of a message part of dashes each reading takes one for an empty list. Each of these rounds is known from the one
 //! before it, so the last of them is written at once.
-ghost use Rattle.std.specs.Prelude.{◌≡◌, ◌+◌, ◌*◌, ◌-◌, ◌++◌, ◌<◌, ◌≤◌, ◌∷◌, ℕ, [], IfSome};
-ghost use Rattle.std.specs.Prelude.{MatchOption, None, OnOk, Some, length, string_bytes};
-ghost use Rattle.std.specs.Fmt.{WritesOnOk};
-ghost use Rattle.std.specs.Str.{chars, encode_utf8_all};
-ghost use Rattle.syslog_pieces.specs.Pieces.Class.{Text};
-ghost use Rattle.syslog_pieces.specs.Pieces.View.{shown};
-ghost use Rattle.syslog_pieces.specs.StructuredData.Visited.{list_elements};
-ghost use Rattle.syslog_pieces.specs.Text.{EndsInColon};
-ghost use Rattle.syslog_pieces.specs.Timestamp.Canonical.{IsCanonicalStamp};
-ghost use Rattle.syslog_pieces.specs.Timestamp.Zone.{Dating};
-ghost use Rattle.syslog_loose.specs.Bodies.Jumps.{CutsColons, EndsColons, IsDashed, PassesDashes, colons, colons_before};
-ghost use Rattle.syslog_loose.specs.Bodies.Jumps.{message_end, past_colons, tail_text, with_msg};
+ghost use Rattle.syslog_loose.specs.Words.{◌≡◌, ◌+◌, ◌*◌, ◌++◌, ◌<◌, ◌≤◌, ◌∷◌, ℕ, [], IfSome, MatchOption, None, OnOk};
+ghost use Rattle.syslog_loose.specs.Words.{Some, length, string_bytes, WritesOnOk, chars, encode_utf8_all, Text, shown};
+ghost use Rattle.syslog_loose.specs.Words.{list_elements, EndsInColon, IsCanonicalStamp, Dating};
+ghost use Rattle.std.specs.Prelude.{◌-◌};
+ghost use Rattle.syslog_loose.specs.Bodies.Jumps.{CutsColons, EndsColons, IsDashed, PassesDashes, colons};
+ghost use Rattle.syslog_loose.specs.Bodies.Jumps.{colons_before, message_end, past_colons, tail_text, with_msg};
 ghost use Rattle.syslog_loose.specs.Line.{line_value};
 ghost use Rattle.syslog_loose.specs.Printed.{printed};
 ghost use Rattle.syslog_loose.specs.Passes.{EndsOnce, IsLater};

@@ -1,10 +1,8 @@
 //! Laws over the definitions alone: each function does nothing, and its contract is the law.
-ghost use Rattle.std.specs.Prelude.{◌≡◌, ◌↔◌, Option};
-ghost use Rattle.syslog_pieces.specs.Pieces.Class.{Text, Division, NoDivision, NoFront, Row, Values};
-ghost use Rattle.syslog_pieces.specs.Timestamp.Rfc3164.{ShowsYearless, ShowsMonthDate};
-ghost use Rattle.syslog_pieces.specs.Timestamp.Zone.{Dating};
-ghost use Rattle.syslog_pieces.specs.declared.structured_data.rfc3164_list.DashRule.{DashRule};
-ghost use Rattle.syslog_pieces.specs.declared.timestamp.month_date.MonthDate.{MonthDate};
+ghost use Rattle.syslog_loose.specs.Words.{◌≡◌, ◌↔◌, Option, Text, Division, NoFront, Row, Values, ShowsMonthDate};
+ghost use Rattle.syslog_loose.specs.Words.{Dating, DashRule, MonthDate};
+ghost use Rattle.syslog_pieces.specs.Pieces.Class.{NoDivision};
+ghost use Rattle.syslog_pieces.specs.Timestamp.Rfc3164.{ShowsYearless};
 ghost use Rattle.syslog_loose.specs.Message.{MessageValue};
 ghost use Rattle.syslog_loose.specs.Printed.{printed};
 ghost use Rattle.syslog_loose.specs.declared.message.Protocol.TheVariants.{RFC3164};

@@ -1,11 +1,6 @@
 //! A parsed line: the one value between a text and whatever is made of it. It takes no memory.
-ghost use Rattle.std.specs.Prelude.{◌≡◌, ◌↔◌, ◌<◌, IsTrue, length, map};
-ghost use Rattle.std.specs.List.{AllByRecursion};
-ghost use Rattle.std.specs.Option.{option_map};
-ghost use Rattle.syslog_pieces.specs.Pieces.View.{shown};
-ghost use Rattle.syslog_pieces.specs.ProcId.{procid_value};
-ghost use Rattle.syslog_pieces.specs.StructuredData.Element.{element_value};
-ghost use Rattle.syslog_pieces.specs.StructuredData.Visited.{list_elements};
+ghost use Rattle.syslog_loose.specs.Words.{◌≡◌, ◌↔◌, ◌<◌, IsTrue, length, map, AllByRecursion, option_map, shown};
+ghost use Rattle.syslog_loose.specs.Words.{procid_value, element_value, list_elements};
 
 mod printing;
 mod quirks;
@@ -48,9 +43,9 @@ pub struct Line<'a> {
 }
 
 impl<'a> Line<'a> {
+    ghost use Rattle.syslog_loose.specs.Words.{◌≢◌, ◌↔◌, [], IsTrue, MatchResult};
     ghost use Rattle.syslog_loose.specs.Line.{line_value};
     ghost use Rattle.syslog_pieces.specs.StructuredData.Visited.{elements_left};
-    ghost use Rattle.std.specs.Prelude.{◌≢◌, ◌↔◌, [], IsTrue, MatchResult};
     ghost use Rattle.syslog_loose.specs.Canonical.{IsCanonical};
     ghost use Rattle.syslog_loose.specs.Reading.{dash_rule};
     ghost use Rattle.syslog_loose.specs.Message.{message_value, with_elements};

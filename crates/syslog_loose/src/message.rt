@@ -1,11 +1,6 @@
 //! The message: its fields, and its printed text.
-ghost use Rattle.std.specs.Fmt.{WritesOnOk};
-ghost use Rattle.std.specs.Option.{option_map, option_map_or};
-ghost use Rattle.std.specs.Prelude.{◌≡◌, ◌+◌, ◌*◌, ◌++◌, ◌∷◌, Some};
-ghost use Rattle.std.specs.Str.{encode_utf8_all};
-ghost use Rattle.syslog_pieces.specs.Pieces.View.{text_of};
-ghost use Rattle.syslog_pieces.specs.Pri.{facility_number, severity_number};
-ghost use Rattle.syslog_pieces.specs.ProcId.{procid_value};
+ghost use Rattle.syslog_loose.specs.Words.{◌≡◌, ◌+◌, ◌*◌, ◌++◌, ◌∷◌, WritesOnOk, option_map, option_map_or, Some};
+ghost use Rattle.syslog_loose.specs.Words.{encode_utf8_all, text_of, facility_number, severity_number, procid_value};
 ghost use Rattle.syslog_loose.specs.Message.{message_value};
 ghost use Rattle.syslog_loose.specs.Printed as spec;
 

@@ -4,19 +4,15 @@
 //! `read_3164` returns the line of the one division of a text, once the pieces that can fail were read. It takes each
 //! piece from the readers of `syslog_pieces`, from the left. `resolve` says what the host field and the tag field mean
 //! together.
-ghost use Rattle.std.specs.Prelude.{◌≡◌, IsTrue, MatchOption, Option, Some, None};
-ghost use Rattle.std.specs.Str.{chars};
-ghost use Rattle.syslog_pieces.specs.Pieces.Class.{Text};
-ghost use Rattle.syslog_pieces.specs.Pieces.View.{seen, shown, field_seen};
-ghost use Rattle.syslog_pieces.specs.StructuredData.Visited.{list_elements, Visits};
-ghost use Rattle.syslog_pieces.specs.Text.{trimmed};
-ghost use Rattle.syslog_pieces.specs.Timestamp.Zone.{Dating};
+ghost use Rattle.syslog_loose.specs.Words.{◌≡◌, IsTrue, MatchOption, Option, Some, None, chars, Text, seen};
+ghost use Rattle.syslog_loose.specs.Words.{list_elements, Visits, trimmed, Dating};
+ghost use Rattle.syslog_pieces.specs.Pieces.View.{field_seen};
 ghost use Rattle.syslog_loose.specs.Line.{line_value, KnowsForm};
 ghost use Rattle.syslog_loose.specs.Reading.{dash_rule};
 ghost use Rattle.syslog_loose.specs.Rfc3164 as spec;
-ghost use Rattle.syslog_loose.specs.Bodies.View3164.{FieldsAreRead, IsBehindStamp, IsProcessOf, names_value};
+ghost use Rattle.syslog_loose.specs.Bodies.View3164.{FieldsAreRead, IsBehindStamp, IsProcessOf, names_value, NamesHost};
+ghost use Rattle.syslog_loose.specs.Bodies.View3164.{NamesProgram};
 ghost use Rattle.syslog_loose.specs.Visit.{HasRest};
-ghost use Rattle.syslog_loose.specs.Bodies.View3164.{NamesHost, NamesProgram};
 
 use crate::line::Line;
 use crate::rfc5424::{are_all, is_bare};

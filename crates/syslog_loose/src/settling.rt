@@ -2,10 +2,7 @@
 //!
 //! A message of RFC 3164 that has a quirk weighs less each time that what was printed of it is read again, and no
 //! more than its text has characters at first: so this ends.
-ghost use Rattle.std.specs.Prelude.{IfOk, string_bytes};
-ghost use Rattle.std.specs.Str.{chars};
-ghost use Rattle.syslog_pieces.specs.Pieces.Class.{Text};
-ghost use Rattle.syslog_pieces.specs.Timestamp.Zone.{Dating, dating_of};
+ghost use Rattle.syslog_loose.specs.Words.{IfOk, string_bytes, chars, Text, Dating, dating_of};
 ghost use Rattle.syslog_loose.specs.Canonical.{IsCanonical};
 ghost use Rattle.syslog_loose.specs.Message.{MessageValue};
 ghost use Rattle.syslog_loose.specs.Reading.{AnswersEachMonth, InYear, IsRead, dash_rule};

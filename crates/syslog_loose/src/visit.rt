@@ -2,18 +2,13 @@
 //!
 //! A text is trimmed once, and its priority and its month date are read once: after a month date RFC 5424 is not tried,
 //! and where the date has no year the closure is asked.
-ghost use Rattle.std.specs.Prelude.{◌≡◌, ◌≢◌, [], IfSome, IsSome, MatchOption, None};
+ghost use Rattle.syslog_loose.specs.Words.{◌≡◌, ◌≢◌, [], IfSome, IsSome, MatchOption, None, chars, Text, shown};
+ghost use Rattle.syslog_loose.specs.Words.{list_elements, Visits, header_stamp, stamp_seen, dating_of, MonthDate};
 ghost use Rattle.std.specs.Bool.{OnFalse};
-ghost use Rattle.std.specs.Str.{chars};
 ghost use Rattle.syslog_pieces.specs.Bodies.Looks.{EndsDigits};
-ghost use Rattle.syslog_pieces.specs.Pieces.Class.{Text};
-ghost use Rattle.syslog_pieces.specs.Pieces.View.{shown};
-ghost use Rattle.syslog_pieces.specs.StructuredData.Visited.{list_elements, Visits};
 ghost use Rattle.syslog_pieces.specs.Text.{trimmed as trimmed_text};
-ghost use Rattle.syslog_pieces.specs.Timestamp.{header_stamp, stamp_seen};
 ghost use Rattle.syslog_pieces.specs.Timestamp.MonthDate.{month_date};
-ghost use Rattle.syslog_pieces.specs.Timestamp.Zone.{Dating as AnyDating, dating_of};
-ghost use Rattle.syslog_pieces.specs.declared.timestamp.month_date.MonthDate.{MonthDate};
+ghost use Rattle.syslog_pieces.specs.Timestamp.Zone.{Dating as AnyDating};
 ghost use Rattle.syslog_loose.specs.Line.{line_value, KnowsForm};
 ghost use Rattle.syslog_loose.specs.Reading.{AnswersEachMonth, InYear, IsUnreadable, dash_rule};
 ghost use Rattle.syslog_loose.specs.Rfc3164.{IsRead3164};

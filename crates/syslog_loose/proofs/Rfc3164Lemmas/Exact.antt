@@ -11,8 +11,8 @@ use Rattle.syslog_loose.proofs.Names.{begins_more, begins_with, step, rows_step,
 use Rattle.syslog_loose.proofs.Names.{present_front, priority_composed, begins_no_list, IsLow, rfc3164_stamp_det}
 use Rattle.syslog_loose.proofs.Names.{stamped_date_begins, stamp_text-canonical, printed_stamp-begins, IsBounded}
 use Rattle.syslog_loose.proofs.Names.{IsVisible, IsCanonicalHost, IsCanonical, HasNoColon, MessageValue, timestamp_text}
-use Rattle.syslog_loose.proofs.Names.{priority_of, printed_3164, printed, Names3164, Resolves, body_row, rfc3164_row}
-use Rattle.syslog_loose.proofs.Names.{IsRead3164, RFC3164, each_append, row_pieces}
+use Rattle.syslog_loose.proofs.Names.{priority_of, printed_3164, printed, Names3164, Resolves, rfc3164_row, IsRead3164}
+use Rattle.syslog_loose.proofs.Names.{body_row, RFC3164, each_append, row_pieces}
 use Rattle.syslog_pieces.specs.Timestamp.Printed.{printed_stamp}
 use Rattle.syslog_loose.proofs.PriorityLemmas.{priority_small}
 use Rattle.syslog_loose.proofs.Rfc3164Lemmas.Apart.{digit_range}

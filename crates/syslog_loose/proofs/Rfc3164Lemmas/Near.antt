@@ -11,8 +11,8 @@ use Rattle.syslog_loose.proofs.Names.{OffsetTimestamp, division_front, heads, re
 use Rattle.syslog_loose.proofs.Names.{severity_there, bare_prints, stamp_text-canonical, IsVisible, IsCanonicalElement}
 use Rattle.syslog_loose.proofs.Names.{HasQuietNames, is_no_colon, HasNoColon, IsOddHost, IsInnerProcess}
 use Rattle.syslog_loose.proofs.Names.{AreNamesButExceptions, HasExceptionsAlone, IsNearlyCanonical, MessageValue}
-use Rattle.syslog_loose.proofs.Names.{tag_text, Names3164, Resolves, names, stamped_row, fields_row, rfc3164_row}
-use Rattle.syslog_loose.proofs.Names.{IsRead3164, NamesProgram, form_row, IsForm, fields_before, each_behind, each_both}
+use Rattle.syslog_loose.proofs.Names.{tag_text, Names3164, Resolves, names, rfc3164_row, IsRead3164, stamped_row}
+use Rattle.syslog_loose.proofs.Names.{fields_row, NamesProgram, fields_before, form_row, IsForm, each_behind, each_both}
 use Rattle.syslog_loose.proofs.Names.{each_left, each_front, each_right, begins, row_pieces}
 use Rattle.syslog_pieces.proofs.StructuredDataLemmas.ReadBack.{element_canonical}
 use Rattle.syslog_loose.specs.Exceptions.{IsOfMonthDate}

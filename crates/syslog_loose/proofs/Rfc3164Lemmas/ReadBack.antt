@@ -1,22 +1,23 @@
 -- A canonical message of RFC 3164 is read back: the division of its printed text, piece by piece.
 use Rattle.syslog_loose.proofs.Names.{◌≡◌, ◌≢◌, ◌+◌, ◌*◌, ◌<◌, ◌∷◌, ◌∙◌, ◌++◌, ◌then◌, ℕ, suc, pos, inl, inr, not, Some}
 use Rattle.syslog_loose.proofs.Names.{None, refl, sym, ap, negsuc, true, false, nat_eq, List, [], length, Option}
-use Rattle.syslog_loose.proofs.Names.{IfSome, IsSome, subst, arith, nat_tests, length-append, is_ascii_digit, decimal}
-use Rattle.syslog_loose.proofs.Names.{AllByRecursion, option_map_or, Text, Values, Front, NoFront, Row, Each, Ends, run}
-use Rattle.syslog_loose.proofs.Names.{exactly, optional, spaced, IsMany, priority, facility_number, severity_number}
-use Rattle.syslog_loose.proofs.Names.{facility_of, severity_of, NamesProcess, procid_text, ElementValue, element_text}
-use Rattle.syslog_loose.proofs.Names.{joined_elements, full_element, BeginsNoList, rfc3164_list, elements_or, is_blank}
-use Rattle.syslog_loose.proofs.Names.{is_tag_char, dash, colon, name_text, host, tag_word, is_label_char, is_open_char}
-use Rattle.syslog_loose.proofs.Names.{rfc3164_stamp, IsCanonicalStamp, Dating, SyslogFacility, SyslogSeverity, ProcId}
-use Rattle.syslog_loose.proofs.Names.{PID, Name, DashRule, OffsetTimestamp, both_values, heads, front_division}
-use Rattle.syslog_loose.proofs.Names.{optional_some, row_cons, rows_join, optional_none, rest_front, spaced_front}
-use Rattle.syslog_loose.proofs.Names.{no_spaced_piece, piece_front, facility_composed, severity_composed, host_back}
-use Rattle.syslog_loose.proofs.Names.{decimal_digits, full_begins, no_full_nil, no_rfc3164_list, printed_stamp-back}
-use Rattle.syslog_loose.proofs.Names.{IsBoundedProcess, IsBounded, IsCanonicalHost, IsCanonicalElement, is_process_char}
-use Rattle.syslog_loose.proofs.Names.{IsBracketedProcess, AreCanonicalNames, IsCanonical3164, IsCanonicalFor}
-use Rattle.syslog_loose.proofs.Names.{IsCanonical, MessageValue, timestamp_text, priority_of, printed_3164, names}
-use Rattle.syslog_loose.proofs.Names.{Resolves, body_row, rfc3164_row, IsRead3164, IsForm, Protocol, RFC3164, each_map}
-use Rattle.syslog_loose.proofs.Names.{each_left, each_right, each_append, row_of}
+use Rattle.syslog_loose.proofs.Names.{IfSome, IsSome, subst, arith, length-append, row_of, nat_tests, is_ascii_digit}
+use Rattle.syslog_loose.proofs.Names.{decimal, AllByRecursion, option_map_or, Text, Values, Front, NoFront, Row, Each}
+use Rattle.syslog_loose.proofs.Names.{Ends, run, exactly, optional, spaced, IsMany, priority, facility_number}
+use Rattle.syslog_loose.proofs.Names.{severity_number, facility_of, severity_of, NamesProcess, procid_text}
+use Rattle.syslog_loose.proofs.Names.{ElementValue, element_text, joined_elements, full_element, BeginsNoList}
+use Rattle.syslog_loose.proofs.Names.{rfc3164_list, elements_or, is_blank, is_tag_char, dash, colon, name_text, host}
+use Rattle.syslog_loose.proofs.Names.{tag_word, is_label_char, is_open_char, rfc3164_stamp, IsCanonicalStamp, Dating}
+use Rattle.syslog_loose.proofs.Names.{SyslogFacility, SyslogSeverity, ProcId, PID, Name, DashRule, OffsetTimestamp}
+use Rattle.syslog_loose.proofs.Names.{both_values, heads, front_division, optional_some, row_cons, rows_join}
+use Rattle.syslog_loose.proofs.Names.{optional_none, rest_front, spaced_front, no_spaced_piece, piece_front}
+use Rattle.syslog_loose.proofs.Names.{facility_composed, severity_composed, host_back, decimal_digits, full_begins}
+use Rattle.syslog_loose.proofs.Names.{no_full_nil, no_rfc3164_list, printed_stamp-back, IsBoundedProcess, IsBounded}
+use Rattle.syslog_loose.proofs.Names.{IsCanonicalHost, IsCanonicalElement, is_process_char, IsBracketedProcess}
+use Rattle.syslog_loose.proofs.Names.{AreCanonicalNames, IsCanonical3164, IsCanonicalFor, IsCanonical, MessageValue}
+use Rattle.syslog_loose.proofs.Names.{timestamp_text, priority_of, printed_3164, names, Resolves, rfc3164_row}
+use Rattle.syslog_loose.proofs.Names.{IsRead3164, body_row, IsForm, Protocol, RFC3164, each_map, each_left, each_right}
+use Rattle.syslog_loose.proofs.Names.{each_append}
 use Rattle.syslog_pieces.proofs.ProcIdLemmas.ReadBack.{signed_writes}
 use Rattle.syslog_pieces.proofs.StructuredDataLemmas.ReadBack.{element_back}
 use Rattle.syslog_loose.proofs.PriorityLemmas.{priority_low, priority_front}

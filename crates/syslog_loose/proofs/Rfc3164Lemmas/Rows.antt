@@ -1,8 +1,8 @@
 -- The pieces of RFC 3164 from each one on.
-use Rattle.syslog_loose.proofs.Names.{◌∷◌, ◌also◌, ◌then◌, List, [], refl, Text, Class, Front, Row, run, rest, exactly}
+use Rattle.syslog_loose.proofs.Names.{◌∷◌, ◌also◌, ◌then◌, List, [], refl, AllDeterministic, rest_front, optional_det}
+use Rattle.syslog_loose.proofs.Names.{exactly_det, run_det, row_of, Text, Class, Front, Row, run, rest, exactly}
 use Rattle.syslog_loose.proofs.Names.{optional, spaced, rfc3164_list, is_blank, colon, host, tag_word, priority}
-use Rattle.syslog_loose.proofs.Names.{rfc3164_stamp, Dating, DashRule, AllDeterministic, rest_front, optional_det}
-use Rattle.syslog_loose.proofs.Names.{exactly_det, run_det, priority_det, host_det, row_of, body_row}
+use Rattle.syslog_loose.proofs.Names.{rfc3164_stamp, Dating, DashRule, priority_det, host_det, body_row}
 use Rattle.syslog_pieces.proofs.PieceLemmas.Class.{spaced_det}
 use Rattle.syslog_pieces.proofs.TextLemmas.Words.{tag_word_det}
 

@@ -1,16 +1,15 @@
 -- What a text shows: a date has one of twelve months, and numbers of 32 bits.
-use Rattle.syslog_loose.proofs.Names.{◌≡◌, ◌<◌, ◌∷◌, ◌also◌, ◌then◌, ℕ, Option, refl, ap, arith, map, Text, Class}
-use Rattle.syslog_loose.proofs.Names.{Values, Front, Row, some_run, run, optional, priority, trimmed, is_blank}
-use Rattle.syslog_loose.proofs.Names.{ShowsYearless, ShowsMonthDate, month, yearless_date, month_date, MonthDate}
-use Rattle.syslog_loose.proofs.Names.{division_front, front_division, rest_front, unique_division, optional_det}
-use Rattle.syslog_loose.proofs.Names.{run_det, rest_det, row_pieces, row_of, priority_det, incomplete, HasMonth}
+use Rattle.syslog_loose.proofs.Names.{◌≡◌, ◌<◌, ◌∷◌, ◌also◌, ◌then◌, ℕ, Option, refl, ap, arith, map, division_front}
+use Rattle.syslog_loose.proofs.Names.{front_division, rest_front, unique_division, optional_det, run_det, rest_det}
+use Rattle.syslog_loose.proofs.Names.{row_pieces, row_of, Text, Class, Values, Front, Row, some_run, run, optional}
+use Rattle.syslog_loose.proofs.Names.{priority, trimmed, is_blank, ShowsYearless, ShowsMonthDate, month, yearless_date}
+use Rattle.syslog_loose.proofs.Names.{month_date, MonthDate, priority_det, incomplete, HasMonth}
+use Rattle.syslog_pieces.specs.Timestamp.MonthDate.{month_names, short_number, clock_row, yearless_row, yearless_of}
 use Rattle.std.proofs.lemmas.Option.{slice_get_within}
 use Rattle.std.specs.Char.{to_ascii_lowercase}
-use Rattle.syslog_pieces.specs.Timestamp.MonthDate.{month_names, short_number, clock_row, yearless_row, yearless_of}
 use Rattle.syslog_pieces.proofs.PieceLemmas.Kinds.{first_kind}
-use Rattle.syslog_pieces.proofs.TimestampLemmas.MonthDate.{month_date_det}
+use Rattle.syslog_pieces.proofs.TimestampLemmas.MonthDate.{month_date_det, dated_date}
 use Rattle.syslog_pieces.specs.Bodies.MonthReading.{BeginsWithDate, showing_row}
-use Rattle.syslog_pieces.proofs.TimestampLemmas.MonthDate.{dated_date}
 
 row_has_month : {t q : Text} (vs : Values yearless_row) → Front (Row yearless_row) t q vs
     → HasMonth (incomplete (yearless_of vs))

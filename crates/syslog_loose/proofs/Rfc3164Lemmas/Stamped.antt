@@ -1,9 +1,9 @@
 -- Behind the timestamp of RFC 3164 nothing can fail.
-use Rattle.syslog_loose.proofs.Names.{◌∷◌, ◌↔◌, ◌then◌, List, [], Some, None, refl, Text, Class, Values, Front, NoFront}
-use Rattle.syslog_loose.proofs.Names.{Row, run, rest, exactly, optional, spaced, rfc3164_list, is_blank, colon, host}
-use Rattle.syslog_loose.proofs.Names.{tag_word, Dating, DashRule, optional_none, rest_front, row_cons, rows_join}
-use Rattle.syslog_loose.proofs.Names.{rows_none_here, no_row_division, front_division, row_of, some_front_run}
-use Rattle.syslog_loose.proofs.Names.{stamped_row, body_row, rfc3164_row}
+use Rattle.syslog_loose.proofs.Names.{◌∷◌, ◌↔◌, ◌then◌, List, [], Some, None, refl, row_of, Text, Class, Values, Front}
+use Rattle.syslog_loose.proofs.Names.{NoFront, Row, run, rest, exactly, optional, spaced, rfc3164_list, is_blank, colon}
+use Rattle.syslog_loose.proofs.Names.{host, tag_word, Dating, DashRule, optional_none, rest_front, row_cons, rows_join}
+use Rattle.syslog_loose.proofs.Names.{rows_none_here, no_row_division, front_division, some_front_run, stamped_row}
+use Rattle.syslog_loose.proofs.Names.{body_row, rfc3164_row}
 use Rattle.syslog_pieces.specs.Pieces.Class.{NoDivision}
 use Rattle.syslog_loose.proofs.Rfc3164Lemmas.Rows.{from_gap, from_list, from_blanks, from_colon, from_tag_end, from_tag}
 

@@ -1,13 +1,12 @@
 -- A text has one division into the pieces of RFC 3164, and is read as one message.
-use Rattle.syslog_loose.proofs.Names.{◌≡◌, ◌∙◌, ◌∷◌, ◌also◌, option_and_then, None, sym, ap, subst, [], Text, Values}
-use Rattle.syslog_loose.proofs.Names.{run, rest, optional, facility_of, severity_of, rfc3164_list, elements_or}
-use Rattle.syslog_loose.proofs.Names.{is_blank, rfc3164_stamp, Dating, DashRule, AllDeterministic, unique_division}
-use Rattle.syslog_loose.proofs.Names.{optional_det, run_det, rest_det, all_joined, rfc3164_list_det, rfc3164_stamp_det}
-use Rattle.syslog_loose.proofs.Names.{MessageValue, RFC3164, Names3164, fields_row, stamped_row, body_row, rfc3164_row}
-use Rattle.syslog_loose.proofs.Names.{Means3164, IsRead3164}
+use Rattle.syslog_loose.proofs.Names.{◌≡◌, ◌∙◌, ◌∷◌, ◌also◌, None, sym, ap, subst, [], AllDeterministic}
+use Rattle.syslog_loose.proofs.Names.{unique_division, optional_det, run_det, rest_det, all_joined, Text, Values, run}
+use Rattle.syslog_loose.proofs.Names.{rest, optional, rfc3164_list, elements_or, is_blank, rfc3164_stamp, Dating}
+use Rattle.syslog_loose.proofs.Names.{DashRule, rfc3164_list_det, rfc3164_stamp_det, MessageValue, RFC3164, Names3164}
+use Rattle.syslog_loose.proofs.Names.{rfc3164_row, Means3164, IsRead3164, fields_row, stamped_row, body_row}
+use Rattle.syslog_loose.specs.Message.{message_of_parts}
 use Rattle.syslog_loose.proofs.Rfc3164Lemmas.{resolves_once}
 use Rattle.syslog_loose.proofs.Rfc3164Lemmas.Rows.{to_stamp, to_stamp_det, to_colon, to_colon_det}
-use Rattle.syslog_loose.specs.Message.{message_of_parts}
 
 pub fields_det : AllDeterministic fields_row
 fields_det = all_joined to_colon (run is_blank ∷ []) to_colon_det (run_det is_blank also tt)

@@ -3,8 +3,8 @@ use Rattle.syslog_loose.proofs.Names.{◌≡◌, ◌∷◌, ◌++◌, ◌∙◌,
 use Rattle.syslog_loose.proofs.Names.{decimal, drop_trailing_whitespace, Text, ElementValue, joined_elements}
 use Rattle.syslog_loose.proofs.Names.{procid_text, trimmed, ProcId, MessageValue, timestamp_text, tag_text}
 use Rattle.syslog_loose.proofs.Names.{spaced_elements, priority_of}
-use Rattle.syslog_loose.specs.Canonical.{EndsVisibly}
 use Rattle.syslog_loose.specs.Printed.{name_text, printed_3164}
+use Rattle.syslog_loose.specs.Canonical.{EndsVisibly}
 use Rattle.syslog_loose.proofs.TrimLemmas.{joined_last, LastVisible, last_append, drop_after, message_end_is}
 pub use Rattle.syslog_loose.specs.Bodies.Jumps.{tail_text}
 

@@ -1,9 +1,8 @@
 -- Where a text shows no date without a year, the year that would be used for one makes no difference.
-use Rattle.syslog_loose.proofs.Names.{◌≡◌, ◌then◌, inl, inr, Option, Some, None, refl, Text, Front, Row, Values}
-use Rattle.syslog_loose.proofs.Names.{trimmed, rfc3164_stamp, ShowsYearless, yearless_date, Dating, DashRule}
-use Rattle.syslog_loose.proofs.Names.{OffsetTimestamp, MonthDate, division_front, rows_join, rows_split, row_of}
-use Rattle.syslog_loose.proofs.Names.{row_pieces, MessageValue, body_row, rfc3164_row, stamped_row, IsRead3164}
-use Rattle.syslog_loose.proofs.Names.{Quotes3164}
+use Rattle.syslog_loose.proofs.Names.{◌≡◌, ◌then◌, inl, inr, Option, Some, None, refl, row_of, row_pieces, Text, Front}
+use Rattle.syslog_loose.proofs.Names.{Row, Values, trimmed, rfc3164_stamp, ShowsYearless, yearless_date, Dating}
+use Rattle.syslog_loose.proofs.Names.{DashRule, OffsetTimestamp, MonthDate, division_front, rows_join, rows_split}
+use Rattle.syslog_loose.proofs.Names.{MessageValue, body_row, stamped_row, rfc3164_row, IsRead3164, Quotes3164}
 use Rattle.syslog_loose.proofs.Rfc3164Lemmas.Quoting.{quotes}
 use Rattle.syslog_loose.proofs.Rfc3164Lemmas.Reading.{is_read}
 use Rattle.syslog_loose.proofs.Rfc3164Lemmas.Shown.{shows}

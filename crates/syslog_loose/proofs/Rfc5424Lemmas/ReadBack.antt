@@ -2,35 +2,35 @@
 -- to an absent facility or severity.
 use Rattle.syslog_loose.proofs.Names.{◌≡◌, ◌<◌, ◌≤◌, ◌^◌, ◌+◌, ◌*◌, ◌∷◌, ◌++◌, ◌∙◌, ◌also◌, ◌then◌, ℕ, true, false}
 use Rattle.syslog_loose.proofs.Names.{List, [], Option, Some, None, IfSome, IsSome, refl, sym, ap, subst, arith}
-use Rattle.syslog_loose.proofs.Names.{option_map_or, option_and_then, unwrap_or, decimal, skip_leading_whitespace}
-use Rattle.syslog_loose.proofs.Names.{drop_trailing_whitespace, Text, Class, Values, Front, NoFront, Ends, Division}
-use Rattle.syslog_loose.proofs.Names.{run, optional, classes, printed_row, priority, facility_of, severity_of}
-use Rattle.syslog_loose.proofs.Names.{facility_number, severity_number, process_word, process_text, ElementValue}
-use Rattle.syslog_loose.proofs.Names.{elements_text, trimmed, is_blank, number, name_text, EndsVisibly, header_stamp}
-use Rattle.syslog_loose.proofs.Names.{IsCanonicalStamp, SyslogFacility, LOG_SYSLOG, SyslogSeverity, SEV_DEBUG, ProcId}
-use Rattle.syslog_loose.proofs.Names.{DashRule, BeforeAnything, OffsetTimestamp, row_cons, row_head, rows_join}
-use Rattle.syslog_loose.proofs.Names.{both_values, front_division, division_front, rest_front, rest_whole}
-use Rattle.syslog_loose.proofs.Names.{optional_some, front_same, optional_det, row_pieces, row_of, piece_front}
-use Rattle.syslog_loose.proofs.Names.{priority_det, priority_composed, facility_composed, severity_composed}
-use Rattle.syslog_loose.proofs.Names.{severity_there, number_back, host_back, printed_stamp-back, stamp_text-canonical}
-use Rattle.syslog_loose.proofs.Names.{Protocol, IsBoundedProtocol, IsBounded, IsCanonicalInBoth, IsCanonicalFor}
-use Rattle.syslog_loose.proofs.Names.{IsCanonical, MessageValue, printed, priority_of, header_row, data_row}
-use Rattle.syslog_loose.proofs.Names.{rfc5424_row, message_of, IsRead5424}
+use Rattle.syslog_loose.proofs.Names.{row_cons, row_head, rows_join, both_values, front_division, division_front}
+use Rattle.syslog_loose.proofs.Names.{rest_front, rest_whole, optional_some, front_same, optional_det, row_pieces}
+use Rattle.syslog_loose.proofs.Names.{row_of, option_map_or, option_and_then, unwrap_or, decimal}
+use Rattle.syslog_loose.proofs.Names.{skip_leading_whitespace, drop_trailing_whitespace, Text, Class, Values, Front}
+use Rattle.syslog_loose.proofs.Names.{NoFront, Ends, Division, run, optional, classes, printed_row, priority}
+use Rattle.syslog_loose.proofs.Names.{facility_of, severity_of, facility_number, severity_number, process_word}
+use Rattle.syslog_loose.proofs.Names.{process_text, ElementValue, elements_text, trimmed, is_blank, number, name_text}
+use Rattle.syslog_loose.proofs.Names.{EndsVisibly, IsCanonicalWord, header_stamp, IsCanonicalStamp, SyslogFacility}
+use Rattle.syslog_loose.proofs.Names.{LOG_SYSLOG, SyslogSeverity, SEV_DEBUG, ProcId, DashRule, BeforeAnything}
+use Rattle.syslog_loose.proofs.Names.{OffsetTimestamp, piece_front, priority_det, priority_composed, facility_composed}
+use Rattle.syslog_loose.proofs.Names.{severity_composed, severity_there, number_back, host_back, printed_stamp-back}
+use Rattle.syslog_loose.proofs.Names.{stamp_text-canonical, Protocol, IsBoundedProtocol, IsBounded, IsCanonicalInBoth}
+use Rattle.syslog_loose.proofs.Names.{IsCanonicalFor, IsCanonical, MessageValue, printed, priority_of, header_row}
+use Rattle.syslog_loose.proofs.Names.{data_row, rfc5424_row, message_of, IsRead5424}
 use Rattle.std.proofs.Common.{ap₂}
 use Rattle.syslog_pieces.specs.Pieces.Format.{IsSound, RowReadsBack}
 use Rattle.syslog_pieces.specs.Pri.{composed}
+use Rattle.syslog_pieces.specs.Text.Canonical.{IsVisible, IsCanonicalHost}
+use Rattle.syslog_pieces.proofs.TextLemmas.ReadBack.{word_back, word_canonical, host_canonical, NoColonNext}
+use Rattle.syslog_pieces.proofs.TextLemmas.ReadBack.{blanks_next}
 use Rattle.syslog_pieces.specs.StructuredData.{forgiving, item}
-use Rattle.syslog_pieces.specs.Text.Canonical.{IsVisible, IsCanonicalHost, IsCanonicalWord}
 use Rattle.syslog_pieces.proofs.PieceLemmas.Formats.{AllSound, row_back}
 use Rattle.syslog_pieces.proofs.ProcIdLemmas.ReadBack.{process_back, process_canonical, process_bounded}
 use Rattle.syslog_pieces.proofs.StructuredDataLemmas.ReadBack.{forgiving_back, forgiving_canonical, no_item_nil}
 use Rattle.syslog_pieces.proofs.StructuredDataLemmas.ReadBack.{no_item_before}
-use Rattle.syslog_pieces.proofs.TextLemmas.ReadBack.{word_back, word_canonical, host_canonical, NoColonNext}
-use Rattle.syslog_pieces.proofs.TextLemmas.ReadBack.{blanks_next}
-use Rattle.syslog_loose.specs.declared.message.Protocol.TheVariants.{RFC5424}
 use Rattle.syslog_loose.specs.Canonical.{IsCanonical5424}
-use Rattle.syslog_loose.proofs.Formats.{space, stamp_field}
 use Rattle.syslog_loose.specs.Printed.{printed_5424}
+use Rattle.syslog_loose.specs.declared.message.Protocol.TheVariants.{RFC5424}
+use Rattle.syslog_loose.proofs.Formats.{space, stamp_field}
 use Rattle.syslog_loose.proofs.PriorityLemmas.{priority_front, priority_trimmed, priority_small, priority_low}
 use Rattle.syslog_loose.proofs.TrimLemmas.{visible_ends_blanks, stamp_unblank, last_append, elements_last, row_trimmed}
 use Rattle.syslog_loose.proofs.TrimLemmas.{last_ends, drop_ends, message_end, message_blanks}

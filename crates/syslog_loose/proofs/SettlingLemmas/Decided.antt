@@ -1,25 +1,25 @@
 -- Whether a list begins a text can be decided: of an element's start, of the openings of its parameters and of what
 -- closes them, a piece begins the text or none does.
 use Rattle.syslog_loose.proofs.Names.{◌≡◌, ◌≤◌, ◌⊎◌, ◌∷◌, ◌++◌, ◌∙◌, ◌then◌, ◌also◌, ℕ, zero, suc, inl, inr, Bool, true}
-use Rattle.syslog_loose.proofs.Names.{false, List, [], length, refl, sym, ap, subst, arith, eqb_tells, Text, Class}
-use Rattle.syslog_loose.proofs.Names.{Front, NoFront, Row, Each, Ends, run, some_run, exactly, texted, full_element}
-use Rattle.syslog_loose.proofs.Names.{IsDashBefore, BeginsNoList, is_blank, DashRule, BeforeBlank, BeforeAnything}
-use Rattle.syslog_loose.proofs.Names.{row_of, front_longer, decide, start_row, start, opening_row, is_id_char}
-use Rattle.syslog_loose.proofs.Names.{is_name_char, AllDeterministic, heads, run_same, row_cons, no_texted, begins}
+use Rattle.syslog_loose.proofs.Names.{false, List, [], length, refl, sym, ap, subst, arith, row_of, AllDeterministic}
+use Rattle.syslog_loose.proofs.Names.{heads, run_same, row_cons, no_texted, eqb_tells, Text, Class, Front, NoFront, Row}
+use Rattle.syslog_loose.proofs.Names.{Each, Ends, run, some_run, exactly, texted, full_element, IsDashBefore}
+use Rattle.syslog_loose.proofs.Names.{BeginsNoList, is_blank, DashRule, BeforeBlank, BeforeAnything, front_longer}
+use Rattle.syslog_loose.proofs.Names.{decide, start_row, start, opening_row, is_id_char, is_name_char, begins}
 use Rattle.syslog_loose.proofs.Names.{opening_det, no_full_start, no_full_opening}
-use Rattle.std.proofs.lemmas.Bool.Decides.{not_from_Decides}
-use Rattle.std.specs.Bool.{Decides}
-use Rattle.syslog_pieces.specs.Bodies.Closing.{opening, quoted_row, quoted, closing}
-use Rattle.syslog_pieces.specs.StructuredData.Escapes.{pair, single}
 use Rattle.syslog_pieces.proofs.PieceLemmas.Class.{row_nil, row_none_here, row_none_later, texted_front}
-use Rattle.syslog_pieces.proofs.PieceLemmas.Meets.{Meets, meets_here, meets_none}
+use Rattle.std.proofs.lemmas.Bool.Decides.{not_from_Decides}
+use Rattle.syslog_pieces.specs.Bodies.Closing.{opening, quoted_row, quoted, closing}
 use Rattle.syslog_pieces.proofs.PieceLemmas.Lists.{no_more, no_more_behind}
 use Rattle.syslog_pieces.proofs.StructuredDataLemmas.Closing.{start_det, no_closing, closing_goes, quoted_goes}
 use Rattle.syslog_pieces.proofs.StructuredDataLemmas.Closing.{no_opening, no_quoted_short, passes_here, value_ends}
 use Rattle.syslog_pieces.proofs.StructuredDataLemmas.Closing.{value_breaks, value_goes}
+use Rattle.syslog_pieces.proofs.StructuredDataLemmas.Rfc3164List.{full_goes}
+use Rattle.std.specs.Bool.{Decides}
+use Rattle.syslog_pieces.specs.StructuredData.Escapes.{pair, single}
+use Rattle.syslog_pieces.proofs.PieceLemmas.Meets.{Meets, meets_here, meets_none}
 use Rattle.syslog_pieces.proofs.StructuredDataLemmas.Elements.{value_here, unit_goes}
 use Rattle.syslog_pieces.specs.StructuredData.{param}
-use Rattle.syslog_pieces.proofs.StructuredDataLemmas.Rfc3164List.{full_goes}
 
 -- it holds, or it does not
 abbrev pub Decided : Type 0 → Type 0

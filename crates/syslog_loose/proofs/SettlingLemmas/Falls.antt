@@ -1,13 +1,13 @@
 -- Where the printed text of a message is read as one that prints otherwise, the new one weighs less.
 use Rattle.syslog_loose.proofs.Names.{◌≡◌, ◌+◌, ◌*◌, ◌<◌, ◌≤◌, ◌⊎◌, ◌∷◌, ◌++◌, ◌∙◌, ◌then◌, ℕ, inl, inr, List, []}
-use Rattle.syslog_loose.proofs.Names.{length, Option, None, IfSome, refl, sym, ap, subst, arith, Some, nat_tests}
-use Rattle.syslog_loose.proofs.Names.{is_not_whitespace, option_map_or, Text, Values, Front, Row, Ends, exactly, spaced}
-use Rattle.syslog_loose.proofs.Names.{ElementValue, elements_or, is_blank, colon, name_text, host, tag_word}
-use Rattle.syslog_loose.proofs.Names.{rfc3164_stamp, IsCanonicalStamp, Dating, DashRule, BeforeBlank, OffsetTimestamp}
-use Rattle.syslog_loose.proofs.Names.{row_of, step, rows_step, step_value, IsBoundedProcess, IsCanonicalElement}
-use Rattle.syslog_loose.proofs.Names.{HasNoColon, HasExceptionsAlone, MessageValue, timestamp_text, tag_text}
-use Rattle.syslog_loose.proofs.Names.{priority_of, printed, Names3164, Resolves, body_row, rfc3164_row, IsRead3164}
-use Rattle.syslog_loose.proofs.Names.{Costs, names_weight, ListWeighs, Weighs, tail_text, AllByRecursion}
+use Rattle.syslog_loose.proofs.Names.{length, Option, None, IfSome, refl, sym, ap, subst, arith, Some, row_of}
+use Rattle.syslog_loose.proofs.Names.{nat_tests, is_not_whitespace, option_map_or, Text, Values, Front, Row, Ends}
+use Rattle.syslog_loose.proofs.Names.{exactly, spaced, ElementValue, elements_or, is_blank, colon, name_text, host}
+use Rattle.syslog_loose.proofs.Names.{tag_word, rfc3164_stamp, IsCanonicalStamp, Dating, DashRule, BeforeBlank}
+use Rattle.syslog_loose.proofs.Names.{OffsetTimestamp, step, rows_step, step_value, IsBoundedProcess}
+use Rattle.syslog_loose.proofs.Names.{IsCanonicalElement, HasNoColon, HasExceptionsAlone, MessageValue, timestamp_text}
+use Rattle.syslog_loose.proofs.Names.{tag_text, priority_of, printed, Names3164, Resolves, rfc3164_row, IsRead3164}
+use Rattle.syslog_loose.proofs.Names.{body_row, Costs, names_weight, ListWeighs, Weighs, tail_text, AllByRecursion}
 use Rattle.syslog_loose.proofs.Names.{facility_number, severity_number, facility_of, severity_of, run_same, rest_same}
 use Rattle.syslog_loose.proofs.Names.{heads, row_head, front_same, row_det, division_front, optional_none}
 use Rattle.syslog_loose.proofs.Names.{no_spaced_space, Begins, begins_apart, begins_more, begins_with}

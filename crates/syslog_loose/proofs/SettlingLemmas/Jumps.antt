@@ -1,13 +1,13 @@
 -- Rounds that are known from the one before: of a host that ends in colons, and of a message part of dashes.
 use Rattle.syslog_loose.proofs.Names.{◌≡◌, ◌<◌, ◌∷◌, ◌++◌, ◌∙◌, ◌then◌, subst, ℕ, zero, suc, inr, [], length, None}
-use Rattle.syslog_loose.proofs.Names.{IfSome, refl, sym, ap, arith, append_assoc, Some, length-append}
+use Rattle.syslog_loose.proofs.Names.{IfSome, refl, sym, ap, arith, append_assoc, Some, length-append, row_of}
 use Rattle.syslog_loose.proofs.Names.{is_not_whitespace, Text, Values, Front, Row, run, rfc3164_list, is_blank, colon}
 use Rattle.syslog_loose.proofs.Names.{EndsInColon, rfc3164_stamp, IsCanonicalStamp, Dating, BeforeBlank, each_front}
-use Rattle.syslog_loose.proofs.Names.{row_of, piece_front, IsBoundedProcess, HasExceptionsAlone, HasNoException}
+use Rattle.syslog_loose.proofs.Names.{piece_front, IsBoundedProcess, HasExceptionsAlone, HasNoException}
 use Rattle.syslog_loose.proofs.Names.{HasNoNameException, dash_rule, IsRead, colons, colons_before, past_colons}
 use Rattle.syslog_loose.proofs.Names.{EndsColons, IsDashed, PassesDashes, with_msg, tail_text, MessageValue}
-use Rattle.syslog_loose.proofs.Names.{priority_of, printed, printed_3164, Names3164, names, Resolves, body_row}
-use Rattle.syslog_loose.proofs.Names.{rfc3164_row, IsRead3164, IsNext, Reaches, Variant, facility_of, severity_of}
+use Rattle.syslog_loose.proofs.Names.{priority_of, printed, printed_3164, Names3164, names, Resolves, rfc3164_row}
+use Rattle.syslog_loose.proofs.Names.{IsRead3164, body_row, IsNext, Reaches, Variant, facility_of, severity_of}
 use Rattle.syslog_loose.proofs.Names.{row_cons, rows_join, rest_front, front_division, optional_some, dash_rfc3164_list}
 use Rattle.syslog_loose.proofs.Names.{EndsOnce, IsLater, Prints, RFC3164}
 use Rattle.syslog_loose.specs.Bodies.Jumps.{message_end}

@@ -4,8 +4,8 @@ use Rattle.syslog_loose.proofs.Names.{IfSome, ap, subst, arith, Some, length-app
 use Rattle.syslog_loose.proofs.Names.{skip_leading_whitespace, Text, Class, Values, Front, Row, run, exactly, optional}
 use Rattle.syslog_loose.proofs.Names.{spaced, join, is_blank, colon, host, tag_word, IsHost, rfc3164_stamp}
 use Rattle.syslog_loose.proofs.Names.{IsCanonicalStamp, Dating, DashRule, OffsetTimestamp, MonthDate, front_longer}
-use Rattle.syslog_loose.proofs.Names.{present_front, MessageValue, Names3164, Resolves, body_row, rfc3164_row}
-use Rattle.syslog_loose.proofs.Names.{IsRead3164, Costs, names_weight, Weighs, priority, month, month_date, row_head}
+use Rattle.syslog_loose.proofs.Names.{present_front, MessageValue, Names3164, Resolves, rfc3164_row, IsRead3164}
+use Rattle.syslog_loose.proofs.Names.{body_row, Costs, names_weight, Weighs, priority, month, month_date, row_head}
 use Rattle.syslog_loose.proofs.Names.{division_front, spaced_parts, stamp_text-canonical}
 use Rattle.syslog_pieces.proofs.TimestampLemmas.Months.{month_begins}
 use Rattle.syslog_loose.proofs.Rfc3164Lemmas.Rows.{from_blanks, from_colon, from_tag_end, from_tag, from_stamp}

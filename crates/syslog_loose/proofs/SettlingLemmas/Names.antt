@@ -1,12 +1,12 @@
 -- What the printed names of a message are read as: names that print the same, or lighter ones.
 use Rattle.syslog_loose.proofs.Names.{◌≡◌, ◌≢◌, ◌<◌, ◌≤◌, ◌⊎◌, ◌∷◌, ◌++◌, ◌∙◌, ◌-◌, ◌then◌, ℕ, inl, inr, true, false}
 use Rattle.syslog_loose.proofs.Names.{not, nat_eq, [], length, Option, None, IfSome, refl, sym, ap, subst, arith}
-use Rattle.syslog_loose.proofs.Names.{append_assoc, append-nil, Some, take, nat_tests, length-append, bytes_eq-Decides}
-use Rattle.syslog_loose.proofs.Names.{is_not_whitespace, bytes_eq, Text, Values, Front, NoFront, Row, Each, Ends, run}
-use Rattle.syslog_loose.proofs.Names.{exactly, optional, spaced, is_blank, dash, colon, EndsInColon, name_text, host}
-use Rattle.syslog_loose.proofs.Names.{tag_word, is_tag_char, ProcId, PID, Name, DashRule, BeforeBlank, each_both}
-use Rattle.syslog_loose.proofs.Names.{each_left, each_right, each_front, each_behind, each_append, row_pieces, row_of}
-use Rattle.syslog_loose.proofs.Names.{piece_front, rows_step, IsBoundedProcess, IsVisible, IsCanonicalHost}
+use Rattle.syslog_loose.proofs.Names.{append_assoc, append-nil, Some, take, length-append, row_pieces, row_of}
+use Rattle.syslog_loose.proofs.Names.{nat_tests, bytes_eq-Decides, is_not_whitespace, bytes_eq, Text, Values, Front}
+use Rattle.syslog_loose.proofs.Names.{NoFront, Row, Each, Ends, run, exactly, optional, spaced, is_blank, dash, colon}
+use Rattle.syslog_loose.proofs.Names.{EndsInColon, name_text, host, tag_word, is_tag_char, ProcId, PID, Name, DashRule}
+use Rattle.syslog_loose.proofs.Names.{BeforeBlank, each_both, each_left, each_right, each_front, each_behind}
+use Rattle.syslog_loose.proofs.Names.{each_append, piece_front, rows_step, IsBoundedProcess, IsVisible, IsCanonicalHost}
 use Rattle.syslog_loose.proofs.Names.{AreCanonicalNames, is_no_colon, HasNoColon, is_inner_char, IsOddHost}
 use Rattle.syslog_loose.proofs.Names.{AreNamesButExceptions, HasQuietNames, tag_text, Names3164, names, Resolves}
 use Rattle.syslog_loose.proofs.Names.{body_row, names_weight, ListWeighs, elements_or, is_open_char, run_same, heads}

@@ -1,7 +1,7 @@
 -- What is read of the print of a pass has a lower rank.
 use Rattle.syslog_loose.proofs.Names.{◌≡◌, ◌⊎◌, ◌∷◌, ◌++◌, ◌∙◌, ℕ, zero, suc, inl, inr, [], length, List, Option, Some}
-use Rattle.syslog_loose.proofs.Names.{None, IfSome, refl, sym, ap, subst, arith, true, false, nil_from_length}
-use Rattle.syslog_loose.proofs.Names.{length-append, Text, Values, Front, Row, Ends, run, ElementValue, elements_or}
+use Rattle.syslog_loose.proofs.Names.{None, IfSome, refl, sym, ap, subst, arith, true, false, length-append}
+use Rattle.syslog_loose.proofs.Names.{nil_from_length, Text, Values, Front, Row, Ends, run, ElementValue, elements_or}
 use Rattle.syslog_loose.proofs.Names.{BeginsNoList, IsDashBefore, is_blank, EndsInColon, IsDashed, tail_text}
 use Rattle.syslog_loose.proofs.Names.{rfc3164_stamp, IsCanonicalStamp, Dating, BeforeBlank, OffsetTimestamp, step}
 use Rattle.syslog_loose.proofs.Names.{rows_step, step_value, IsBoundedProcess, HasExceptionsAlone, HasNoNameException}

@@ -1,25 +1,25 @@
 -- A message has one weight, and what the terms of a weight are where a text is read.
 use Rattle.syslog_loose.proofs.Names.{◌≡◌, ◌+◌, ◌<◌, ◌≤◌, ◌%◌, ◌⊎◌, ◌∷◌, ◌++◌, ◌∙◌, ℕ, zero, suc, inl, inr, List, []}
 use Rattle.syslog_loose.proofs.Names.{length, nat_eq, Option, None, IfSome, refl, sym, ap, subst, arith, Some}
-use Rattle.syslog_loose.proofs.Names.{leb_tells, eqb_tells, length-append, bytes_eq-Decides, option_map_or, bytes_eq}
-use Rattle.syslog_loose.proofs.Names.{Text, Values, Front, Row, Ends, optional, run, ElementValue, full_element}
-use Rattle.syslog_loose.proofs.Names.{BeginsNoList, rfc3164_list, elements_or, IsDashBefore, IsRfc3164List, dash, colon}
-use Rattle.syslog_loose.proofs.Names.{is_blank, IsCanonicalStamp, ProcId, PID, Name, DashRule, OffsetTimestamp}
-use Rattle.syslog_loose.proofs.Names.{row_pieces, front_longer, piece_front, present_front, step, absent_none}
-use Rattle.syslog_loose.proofs.Names.{absent_stays, decide, MessageValue, Names3164, Resolves, NamesProgram, Costs}
-use Rattle.syslog_loose.proofs.Names.{names_weight, ListWeighs, Weighs, pos, front_same, rest_whole, row_head, run_det}
-use Rattle.syslog_loose.proofs.Names.{begins_no_list, full_shorter, no_rfc3164_list}
-use Rattle.std.proofs.lemmas.List.{reverse-append}
+use Rattle.syslog_loose.proofs.Names.{length-append, pos, leb_tells, eqb_tells, bytes_eq-Decides, option_map_or}
+use Rattle.syslog_loose.proofs.Names.{bytes_eq, Text, Values, Front, Row, Ends, optional, run, ElementValue}
+use Rattle.syslog_loose.proofs.Names.{full_element, BeginsNoList, rfc3164_list, elements_or, IsDashBefore}
+use Rattle.syslog_loose.proofs.Names.{IsRfc3164List, dash, colon, is_blank, IsCanonicalStamp, ProcId, PID, Name}
+use Rattle.syslog_loose.proofs.Names.{DashRule, OffsetTimestamp, row_pieces, front_longer, piece_front, present_front}
+use Rattle.syslog_loose.proofs.Names.{step, absent_none, absent_stays, decide, MessageValue, Names3164, Resolves}
+use Rattle.syslog_loose.proofs.Names.{NamesProgram, Costs, names_weight, ListWeighs, Weighs, front_same, rest_whole}
+use Rattle.syslog_loose.proofs.Names.{row_head, run_det, begins_no_list, full_shorter, no_rfc3164_list}
 use Rattle.syslog_pieces.specs.Timestamp.Canonical.{own_year}
+use Rattle.syslog_pieces.proofs.PieceLemmas.Class.{no_front_no}
+use Rattle.std.proofs.lemmas.List.{reverse-append}
 use Rattle.std.proofs.lemmas.Int.{ints, by_lt_z}
 use Rattle.std.proofs.lemmas.List.Sums.{suffix_len-le-length}
 use Rattle.std.specs.List.{prefix_len}
 use Rattle.std.specs.Prelude.{unsigned_abs}
-use Rattle.syslog_pieces.proofs.PieceLemmas.Class.{no_front_no}
+use Rattle.syslog_loose.specs.Bodies.View3164.{NamesHost}
 use Rattle.syslog_loose.specs.Settling.{end_colons, colons_weight, host_weight, process_weight}
 use Rattle.syslog_loose.proofs.Rfc3164Lemmas.Rows.{from_list, from_blanks}
 use Rattle.syslog_loose.proofs.SettlingLemmas.Decided.{Decided, list_decided}
-use Rattle.syslog_loose.specs.Bodies.View3164.{NamesHost}
 
 -- ---- one weight
 cost_once : {A : Type 0} {n w v : ℕ} → Costs A n w → Costs A n v → w ≡ v

@@ -1,12 +1,9 @@
 -- Rounds whose texts are known before they are read: those in which a host loses a colon each time, and those in which
 -- a message part loses a dash. (All of it is this project's own.)
-use Rattle.std.specs.Prelude.{◌≡◌, ℕ, zero, suc, ◌<◌, List, [], ◌∷◌, ◌++◌, length, Some, None, IfSome}
-use Rattle.std.specs.Str.{chars}
-use Rattle.syslog_pieces.specs.Pieces.Class.{Text, Each, Ends}
-use Rattle.syslog_pieces.specs.Pri.{facility_of, severity_of}
-use Rattle.syslog_pieces.specs.StructuredData.Element.{ElementValue, joined_elements}
-use Rattle.syslog_pieces.specs.Text.{is_blank, EndsInColon}
-use Rattle.syslog_pieces.specs.Timestamp.Canonical.{IsCanonicalStamp}
+use Rattle.syslog_loose.specs.Words.{◌≡◌, ◌<◌, ◌∷◌, ◌++◌, ℕ, zero, suc, List, [], length, Some, None, IfSome, chars}
+use Rattle.syslog_loose.specs.Words.{Text, Each, Ends, facility_of, severity_of, ElementValue, is_blank, EndsInColon}
+use Rattle.syslog_loose.specs.Words.{IsCanonicalStamp}
+use Rattle.syslog_pieces.specs.StructuredData.Element.{joined_elements}
 use Rattle.syslog_loose.specs.Message.{MessageValue}
 use Rattle.syslog_loose.specs.Printed.{priority_of}
 use Rattle.syslog_loose.specs.declared.message.Protocol.TheVariants.{RFC3164}

@@ -1,16 +1,8 @@
 -- In which parts the two headers are read.
-use Rattle.std.specs.Prelude.{List, [], ◌∷◌, ◌++◌}
-use Rattle.syslog_pieces.specs.Pieces.Class.{Text, Class, Values, Front, Row, run, some_run, rest}
-use Rattle.syslog_pieces.specs.Pieces.Class.{exactly, optional, spaced}
-use Rattle.syslog_pieces.specs.Pri.{priority}
-use Rattle.syslog_pieces.specs.ProcId.{process_word}
-use Rattle.syslog_pieces.specs.StructuredData.{forgiving}
-use Rattle.syslog_pieces.specs.StructuredData.Rfc3164List.{rfc3164_list}
-use Rattle.syslog_pieces.specs.Text.{is_blank, number, colon, host, word, tag_word}
-use Rattle.syslog_pieces.specs.Timestamp.{header_stamp}
-use Rattle.syslog_pieces.specs.Timestamp.Rfc3164.{rfc3164_stamp}
-use Rattle.syslog_pieces.specs.Timestamp.Zone.{Dating}
-use Rattle.syslog_pieces.specs.declared.structured_data.rfc3164_list.DashRule.{DashRule}
+use Rattle.syslog_loose.specs.Words.{◌∷◌, ◌++◌, List, [], Text, Class, Values, Front, Row, run, some_run, rest, exactly}
+use Rattle.syslog_loose.specs.Words.{optional, priority, process_word, forgiving, rfc3164_list, is_blank, number, colon}
+use Rattle.syslog_loose.specs.Words.{host, word, tag_word, header_stamp, rfc3164_stamp, Dating, DashRule}
+use Rattle.syslog_pieces.specs.Pieces.Class.{spaced}
 use Rattle.syslog_loose.specs.Rfc3164.{Names3164, Resolves}
 
 -- ---- of RFC 5424

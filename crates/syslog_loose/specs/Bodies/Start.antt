@@ -1,8 +1,5 @@
 -- What a text begins with, up to its timestamp. (Words of the bodies alone.)
-use Rattle.std.specs.Prelude.{ℕ, Option}
-use Rattle.syslog_pieces.specs.Pieces.Class.{Text, Class, Front, NoFront, run, optional}
-use Rattle.syslog_pieces.specs.Pri.{priority}
-use Rattle.syslog_pieces.specs.Text.{is_blank}
+use Rattle.syslog_loose.specs.Words.{ℕ, Option, Text, Class, Front, NoFront, run, optional, priority, is_blank}
 use Rattle.syslog_loose.specs.ReadBack.{ReadsProtocol}
 use Rattle.syslog_loose.specs.declared.message.Protocol.TheVariants.{RFC3164}
 use Rattle.syslog_loose.specs.declared.variant.Variant.{Variant}

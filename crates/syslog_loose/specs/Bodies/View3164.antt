@@ -1,23 +1,14 @@
 -- What the reader of the header holds, as names over texts and as the meanings of its pieces.
-use Rattle.std.specs.Prelude.{◌≡◌, ℕ, ◌∷◌, ◌++◌, IsTrue, IfSome, Option}
-use Rattle.std.specs.Option.{option_map}
-use Rattle.syslog_pieces.specs.ProcId.{named_process}
-use Rattle.syslog_pieces.specs.Pieces.Class.{Text, Ends, Front, Row}
-use Rattle.syslog_pieces.specs.Pieces.View.{seen, shown}
-use Rattle.syslog_pieces.specs.Timestamp.{stamp_seen}
-use Rattle.syslog_pieces.specs.Timestamp.Zone.{Dating}
-use Rattle.syslog_pieces.specs.declared.timestamp.OffsetTimestamp.{OffsetTimestamp}
+use Rattle.syslog_loose.specs.Words.{◌≡◌, ◌∷◌, ◌++◌, ℕ, IsTrue, IfSome, Option, option_map, named_process, Text, Ends}
+use Rattle.syslog_loose.specs.Words.{Front, Row, seen, shown, stamp_seen, Dating, OffsetTimestamp, is_blank, Some, None}
 use Rattle.syslog_pieces.specs.declared.timestamp.clock.ClockStamp.{ClockStamp}
-use Rattle.syslog_pieces.specs.Text.{is_blank}
 use Rattle.syslog_loose.specs.Exceptions.{HasQuietNames}
 use Rattle.syslog_loose.specs.Printed.{name_text, tag_text}
-use Rattle.syslog_loose.specs.Rfc3164.{Names3164, names}
+use Rattle.syslog_loose.specs.Rfc3164.{Names3164, names, NamesByForm}
 use Rattle.syslog_loose.specs.TagForm.{IsForm}
 use Rattle.syslog_loose.specs.declared.rfc3164.Fields.{Fields}
 use Rattle.syslog_loose.specs.declared.rfc3164.Names.{Names}
-use Rattle.std.specs.Prelude.{Some, None}
 use Rattle.syslog_loose.specs.Bodies.Rows.{ReadsNames, stamped_row}
-use Rattle.syslog_loose.specs.Rfc3164.{NamesByForm}
 
 abbrev pub names_value : Names → Names3164
 names_value n = names (seen n.hostname) (seen n.appname) (option_map named_process (seen n.process))

@@ -1,13 +1,8 @@
 -- What the reader of the header holds, as the meanings of its pieces, and how it appears in the text.
-use Rattle.std.specs.Prelude.{◌≡◌, ℕ, ◌∷◌, ◌++◌, Option, Some, MatchOption}
-use Rattle.std.specs.Borrow.{Bor}
-use Rattle.std.specs.Prelude.{List}
-use Rattle.std.specs.Option.{option_map}
-use Rattle.syslog_pieces.specs.Pieces.Class.{Text, Front, NoFront, Row, Values}
-use Rattle.syslog_pieces.specs.Pieces.View.{seen, shown}
-use Rattle.syslog_pieces.specs.ProcId.{named_process, process_text}
+use Rattle.syslog_loose.specs.Words.{◌≡◌, ◌∷◌, ◌++◌, ℕ, Option, Some, MatchOption, Bor, List, option_map, Text, Front}
+use Rattle.syslog_loose.specs.Words.{NoFront, Row, Values, seen, shown, named_process, stamp_seen}
+use Rattle.syslog_pieces.specs.ProcId.{process_text}
 use Rattle.syslog_pieces.specs.Text.{name_text}
-use Rattle.syslog_pieces.specs.Timestamp.{stamp_seen}
 use Rattle.syslog_loose.specs.Bodies.Rows.{header_row}
 use Rattle.syslog_loose.specs.declared.line.Line.{Line}
 

@@ -1,9 +1,5 @@
 //! What is printed of a message, and what is read of it.
-ghost use Rattle.std.specs.Prelude.{◌≡◌, ◌↔◌, ◌⊎◌, ℕ, IfSome, IsSome};
-ghost use Rattle.syslog_pieces.specs.Pieces.Class.{Text};
-ghost use Rattle.syslog_pieces.specs.Timestamp.Canonical.{IsCanonicalStamp};
-ghost use Rattle.syslog_pieces.specs.Timestamp.Zone.{Dating};
-ghost use Rattle.syslog_pieces.specs.declared.structured_data.rfc3164_list.DashRule.{DashRule};
+ghost use Rattle.syslog_loose.specs.Words.{◌≡◌, ◌↔◌, ◌⊎◌, ℕ, IfSome, IsSome, Text, IsCanonicalStamp, Dating, DashRule};
 ghost use Rattle.syslog_loose.specs.Canonical.{IsBounded, IsCanonical};
 ghost use Rattle.syslog_loose.specs.Exceptions.{HasNoException, HasExceptionsAlone, IsNearlyCanonical, IsOfMonthDate};
 ghost use Rattle.syslog_loose.specs.Message.{MessageValue};

@@ -1,9 +1,5 @@
 //! Rounds of a text.
-ghost use Rattle.std.specs.Prelude.{◌≡◌, ◌+◌, length};
-ghost use Rattle.syslog_pieces.specs.Pieces.Class.{Text};
-ghost use Rattle.syslog_pieces.specs.Timestamp.Zone.{Dating};
-ghost use Rattle.syslog_pieces.specs.declared.timestamp.month_date.MonthDate.{MonthDate};
-ghost use Rattle.syslog_pieces.specs.Timestamp.Rfc3164.{ShowsMonthDate};
+ghost use Rattle.syslog_loose.specs.Words.{◌≡◌, ◌+◌, length, Text, Dating, MonthDate, ShowsMonthDate};
 ghost use Rattle.syslog_loose.specs.Canonical.{IsBounded, IsCanonical};
 ghost use Rattle.syslog_loose.specs.Message.{MessageValue};
 ghost use Rattle.syslog_loose.specs.Printed.{printed};

@@ -1,9 +1,6 @@
 //! Lines that settle: what is read of a text and printed again and again comes to rest.
-ghost use Rattle.std.specs.Prelude.{◌≡◌, ◌≢◌, ◌⊎◌, ℕ, suc, ◌<◌, ◌≤◌, length, IfSome};
-ghost use Rattle.syslog_pieces.specs.Pieces.Class.{Text};
-ghost use Rattle.syslog_pieces.specs.Timestamp.Zone.{Dating};
-ghost use Rattle.syslog_pieces.specs.declared.structured_data.rfc3164_list.DashRule.{DashRule};
-ghost use Rattle.syslog_pieces.specs.declared.structured_data.rfc3164_list.DashRule.TheVariants.{BeforeBlank};
+ghost use Rattle.syslog_loose.specs.Words.{◌≡◌, ◌≢◌, ◌⊎◌, ◌<◌, ◌≤◌, ℕ, suc, length, IfSome, Text, Dating, DashRule};
+ghost use Rattle.syslog_loose.specs.Words.{BeforeBlank};
 ghost use Rattle.syslog_loose.specs.Exceptions.{HasNoColon};
 ghost use Rattle.syslog_loose.specs.Message.{MessageValue};
 ghost use Rattle.syslog_loose.specs.Passes.{HasRank, Prints};

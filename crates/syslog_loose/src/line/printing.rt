@@ -1,11 +1,9 @@
 //! Prints a line: the front from one array of ASCII, and the rest copied where it is already in printed form.
 //!
 //! The rest of other lines is printed field by field. No message is made of a line that is printed.
-ghost use Rattle.std.specs.Prelude.{◌≡◌, ◌<◌, ◌++◌, OnOk, Some, string_bytes};
-ghost use Rattle.std.specs.Fmt.{WritesOnOk};
-ghost use Rattle.std.specs.Str.{encode_utf8_all};
+ghost use Rattle.syslog_loose.specs.Words.{◌≡◌, ◌<◌, ◌++◌, OnOk, Some, string_bytes, WritesOnOk, encode_utf8_all};
+ghost use Rattle.syslog_loose.specs.Words.{list_elements};
 ghost use Rattle.syslog_pieces.specs.Front.{ascii_bytes, front_text};
-ghost use Rattle.syslog_pieces.specs.StructuredData.Visited.{list_elements};
 ghost use Rattle.syslog_loose.specs.Bodies.Cases.{printed_number};
 ghost use Rattle.syslog_loose.specs.Line.{line_value, KnowsForm};
 ghost use Rattle.syslog_loose.specs.Printed.{elements_text, printed, rest_3164, rest_5424, rest_text, spaced_elements};

@@ -1,15 +1,7 @@
 //! The written condition, tested on the fields: each text is put before the scanner or the reader that would read it.
-ghost use Rattle.std.specs.List.{AllByRecursion};
-ghost use Rattle.std.specs.Option.{option_map};
-ghost use Rattle.std.specs.Prelude.{◌≡◌, ◌≢◌, ◌↔◌, ◌<◌, List, [], IfSome, IsTrue, MatchBool, None, Some, length, map};
-ghost use Rattle.std.specs.Str.{chars};
-ghost use Rattle.syslog_pieces.specs.Pieces.Class.{Ends};
-ghost use Rattle.syslog_pieces.specs.Pieces.View.{text_of};
-ghost use Rattle.syslog_pieces.specs.ProcId.{procid_value};
-ghost use Rattle.syslog_pieces.specs.StructuredData.Element.{ElementValue, element_value};
-ghost use Rattle.syslog_pieces.specs.StructuredData.Rfc3164List.{BeginsNoList};
-ghost use Rattle.syslog_pieces.specs.Text.{is_blank};
-ghost use Rattle.syslog_pieces.specs.declared.procid.ProcId.TheVariants.{Name};
+ghost use Rattle.syslog_loose.specs.Words.{◌≡◌, ◌≢◌, ◌↔◌, ◌<◌, AllByRecursion, option_map, List, [], IfSome, IsTrue};
+ghost use Rattle.syslog_loose.specs.Words.{MatchBool, None, Some, length, map, chars, Ends, text_of, procid_value};
+ghost use Rattle.syslog_loose.specs.Words.{ElementValue, element_value, BeginsNoList, is_blank, Name};
 ghost use Rattle.syslog_loose.specs.Canonical as spec;
 ghost use Rattle.syslog_loose.specs.Canonical.{AreElements, fields_value};
 ghost use Rattle.syslog_loose.specs.Message.{message_value};

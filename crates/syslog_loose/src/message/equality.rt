@@ -1,15 +1,8 @@
 //! Equality of messages: all fields but the protocol. It takes no memory.
-ghost use Rattle.std.specs.Cmp.Lexicographic.{pointwise};
+ghost use Rattle.syslog_loose.specs.Words.{◌≡◌, pointwise, option_eq, option_map, map, text_eq, text_of, facility_eq};
+ghost use Rattle.syslog_loose.specs.Words.{severity_eq, procid_value, procid_eq, element_value, element_eq};
 ghost use Rattle.std.specs.Cmp.{on_per, partial_equiv_from_equiv};
-ghost use Rattle.std.specs.Option.{option_eq, option_map};
 ghost use Rattle.std.specs.Ordering.{on};
-ghost use Rattle.std.specs.Prelude.{◌≡◌, map};
-ghost use Rattle.syslog_pieces.specs.Pieces.View.{text_eq, text_of};
-ghost use Rattle.syslog_pieces.specs.Pri.{facility_eq, severity_eq};
-ghost use Rattle.syslog_pieces.specs.ProcId.{procid_value};
-ghost use Rattle.syslog_pieces.specs.ProcId.Equal.{procid_eq};
-ghost use Rattle.syslog_pieces.specs.StructuredData.Element.{element_value};
-ghost use Rattle.syslog_pieces.specs.StructuredData.Equal.{element_eq};
 ghost use Rattle.syslog_loose.specs.Equal.{message_eq, stamp_eq};
 ghost use Rattle.syslog_loose.specs.EqualLaws.{message_equivalence};
 ghost use Rattle.syslog_loose.specs.Message.{message_value};

@@ -1,11 +1,6 @@
 //! The parts of a printed message. Each field is written after a space, and as `-` if it is absent.
-ghost use Rattle.std.specs.Fmt.{WritesOnOk};
-ghost use Rattle.std.specs.Option.{option_map};
-ghost use Rattle.std.specs.Prelude.{◌≡◌, ◌∷◌, map};
-ghost use Rattle.std.specs.Str.{encode_utf8_all};
-ghost use Rattle.syslog_pieces.specs.Pieces.View.{text_of};
-ghost use Rattle.syslog_pieces.specs.ProcId.{procid_value};
-ghost use Rattle.syslog_pieces.specs.StructuredData.Element.{element_value};
+ghost use Rattle.syslog_loose.specs.Words.{◌≡◌, ◌∷◌, WritesOnOk, option_map, map, encode_utf8_all, text_of};
+ghost use Rattle.syslog_loose.specs.Words.{procid_value, element_value};
 ghost use Rattle.syslog_loose.specs.Bodies.Cases.{printed_number};
 ghost use Rattle.syslog_loose.specs.Printed as spec;
 

@@ -1,6 +1,5 @@
 use Rattle.syslog_loose.proofs.DashChangeLemmas.{told_by_line, unchanged_5424}
 use Rattle.syslog_loose.proofs.dash_change.has_dash_change.Goals as goal
-use Rattle.syslog_loose.specs.Bodies.Rows.{stamped_row, fields_row}
 
 pub returns-in-Some : goal.returns-in-Some
 returns-in-Some c variant dating text of =

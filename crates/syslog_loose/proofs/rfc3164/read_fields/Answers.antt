@@ -1,5 +1,5 @@
-use Rattle.syslog_loose.proofs.Names.{◌≡◌, ◌∷◌, ◌++◌, ◌∙◌, ◌then◌, [], List, ℕ, refl, sym, ap, arith, true, chars, run}
-use Rattle.syslog_loose.proofs.Names.{optional, exactly, seen, shown, is_blank, colon, row_of, one_ascii, text_is}
+use Rattle.syslog_loose.proofs.Names.{◌≡◌, ◌∷◌, ◌++◌, ◌∙◌, ◌then◌, [], List, ℕ, refl, sym, ap, arith, true, row_of}
+use Rattle.syslog_loose.proofs.Names.{chars, run, optional, exactly, seen, shown, is_blank, colon, one_ascii, text_is}
 use Rattle.syslog_loose.proofs.Names.{HasQuietNames, fields_row, fields_before, names_value}
 use Rattle.std.proofs.lemmas.Str.Ascii.{IsAscii-cons}
 use Rattle.syslog_loose.proofs.Rfc3164Lemmas.Near.{fields_known}

@@ -1,6 +1,6 @@
-use Rattle.syslog_loose.proofs.Names.{◌∷◌, ◌++◌, ◌∙◌, ◌past◌, ◌then◌, inl, refl, sym, ap, trimmed, rest_front}
-use Rattle.syslog_loose.proofs.Names.{rows_join, rows_none_here, no_row, row_of, Text, shown, elements_text}
-use Rattle.syslog_loose.proofs.Names.{list_elements, header_row, data_row}
+use Rattle.syslog_loose.proofs.Names.{◌∷◌, ◌++◌, ◌∙◌, ◌past◌, ◌then◌, inl, refl, sym, ap, no_row, row_of, trimmed}
+use Rattle.syslog_loose.proofs.Names.{rest_front, rows_join, rows_none_here, Text, shown, elements_text, list_elements}
+use Rattle.syslog_loose.proofs.Names.{header_row, data_row}
 use Rattle.syslog_pieces.proofs.PieceLemmas.Class.{rows_none_later}
 use Rattle.syslog_loose.specs.Bodies.View5424.{names_before}
 use Rattle.syslog_loose.proofs.Rfc5424Lemmas.{data_det, header_det, not_read, is_read}

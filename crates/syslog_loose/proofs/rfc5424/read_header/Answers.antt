@@ -1,11 +1,33 @@
--- Each exit says that the row fails at its piece, after the pieces that were read; the return joins them.
-use Rattle.syslog_loose.proofs.Names.{◌then◌, ◌past◌, inl, refl, rules, seen, shown, name_text, row_of, no_row}
-use Rattle.syslog_loose.proofs.Names.{word_stands, header_row}
-use Rattle.syslog_pieces.proofs.ProcIdLemmas.{no_process}
-use Rattle.syslog_pieces.proofs.TextLemmas.Verbatim.{host_stands}
-use Rattle.syslog_loose.proofs.HeaderLemmas.{bare_process, names_joined, process_named}
+use Rattle.syslog_loose.proofs.Names.{◌≡◌, ◌<◌, ◌∷◌, ◌++◌, ◌∙◌, ◌then◌, ◌past◌, length, Option, Some, None, IfSome, sym}
+use Rattle.syslog_loose.proofs.Names.{ap, arith, inl, refl, rules, option_map, IsBareWord, Text, Front, named_process}
+use Rattle.syslog_loose.proofs.Names.{process_text, process_word, bare_prints, named_names, word, name_text, row_of}
+use Rattle.syslog_loose.proofs.Names.{no_row, seen, shown, header_row}
+use Rattle.syslog_pieces.proofs.ProcIdLemmas.{absent_front, process_front, no_process}
+use Rattle.syslog_pieces.proofs.TextLemmas.Verbatim.{word_stands, host_stands}
 use Rattle.syslog_loose.proofs.Rfc5424Lemmas.{header_det}
 use Rattle.syslog_loose.proofs.rfc5424.read_header.Goals as goal
+
+-- the process id that the word names is there
+process_named : {t q : Text} {v : Option Text} → Front word t q v
+    → Front process_word t q (option_map named_process v)
+process_named {v = None} f = absent_front f
+process_named {v = Some t} f = process_front (named_process t) f (named_names t)
+
+-- and where its word is bare, it is in printed form
+bare_process : {t q : Text} {v : Option Text} → Front word t q v → IfSome v IsBareWord
+    → t ≡ process_text (option_map named_process v) ++ q
+bare_process {v = None} f bare = word_stands _ _ None f
+bare_process {q = q} {v = Some t} f bare =
+    let long : 0 < length t = omega (arith, f.is.0, ap length f.is.4.0) in
+    word_stands _ _ (Some t) f ∙ ap (λ (x : Text). x ++ q) (sym (bare_prints t (named_process t) long bare (named_names t)))
+
+-- four names, each after a space
+names_joined : {t a b c d e f g : Text} (host app process id q : Text) → t ≡ 32 ∷ a → a ≡ host ++ b → b ≡ 32 ∷ c
+    → c ≡ app ++ d → d ≡ 32 ∷ e → e ≡ process ++ f → f ≡ 32 ∷ g → g ≡ id ++ q
+    → t ≡ 32 ∷ (host ++ (32 ∷ (app ++ (32 ∷ (process ++ (32 ∷ (id ++ q)))))))
+names_joined host app process id q i j k l m n o p = cc
+
+-- Each exit says that the row fails at its piece, after the pieces that were read; the return joins them.
 
 pub returns-in_err-version-clause-reads : goal.returns-in_err-version-clause-reads
 returns-in_err-version-clause-reads g c whole f =

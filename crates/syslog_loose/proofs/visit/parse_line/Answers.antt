@@ -1,6 +1,5 @@
-use Rattle.syslog_loose.proofs.Names.{◌≡◌, ⊤, IfSome, List, MatchOption, Option, Some, None, refl, sym, subst, chars}
-use Rattle.syslog_loose.proofs.Names.{Text, ElementValue, Dating, dating_of, IsUnreadable, IsLineOf, Made, Line}
-use Rattle.syslog_loose.proofs.Names.{Variant}
+use Rattle.syslog_loose.proofs.Names.{◌≡◌, IfSome, List, Option, Some, None, refl, sym, subst, ⊤, MatchOption, chars}
+use Rattle.syslog_loose.proofs.Names.{Text, ElementValue, Dating, IsUnreadable, IsLineOf, Made, Line, Variant}
 use Rattle.syslog_loose.specs.Line.{KnowsForm}
 use Rattle.syslog_loose.proofs.ReadingLemmas.{in_year_map}
 use Rattle.syslog_loose.proofs.visit.parse_line.Goals as goal
@@ -23,11 +22,11 @@ known given before after variant dating text old new None m = tt
 known given before after variant dating text old new (Some made) (line, of, (e, form), _) = subst KnowsForm (sym e) form
 
 pub returns-clause-reads : goal.returns-clause-reads
-returns-clause-reads g c = in_year_map (λ year h. parsed (λ first visitor es. ⊤) _ _ c.args.variant (dating_of year c.args.tz c.args.local)
-    (chars c.args.input.now) _ _ c.visit_line.result h) c.visit_line.ensures
+returns-clause-reads g c = in_year_map (λ year h. parsed (λ first visitor es. ⊤) _ _ _ _ _ _ _ c.visit_line.result h)
+    c.visit_line.ensures
 
 pub returns-clause-form : goal.returns-clause-form
 returns-clause-form g c =
     let in_year = c.visit_line.ensures in
-    known (λ first visitor es. ⊤) _ _ c.args.variant (dating_of in_year.answered c.args.tz c.args.local) (chars c.args.input.now) _ _
-    c.visit_line.result (in_year.holds in_year.answered (λ date asks. refl))
+    known (λ first visitor es. ⊤) _ _ c.args.variant _ (chars c.args.input.now) _ _ c.visit_line.result
+    (in_year.holds in_year.answered (λ date asks. refl))

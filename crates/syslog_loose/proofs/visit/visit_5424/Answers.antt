@@ -1,4 +1,4 @@
-use Rattle.syslog_loose.proofs.Names.{◌past◌, inl, refl, Option, Some, None, MatchOption, rows_none_here, no_row}
+use Rattle.syslog_loose.proofs.Names.{◌past◌, no_row, inl, refl, Option, Some, None, MatchOption, rows_none_here}
 use Rattle.syslog_loose.proofs.Names.{visits_none, data_row, header_row}
 use Rattle.syslog_pieces.proofs.TextLemmas.Looks.{no_number}
 use Rattle.syslog_loose.proofs.Rfc5424Lemmas.{header_det, not_read}
