@@ -96,7 +96,7 @@ fn origin<'a>(host: Option<Option<&'a str>>) -> Option<&'a str>
 
 /// What the host field and the tag field mean together: each is not there, or there and empty, or a text.
 #[inline(always)]
-pub(crate) fn resolve<'a, E: ElementVisitor<'a>>(
+pub(crate) fn resolve<'a, C>(
     host: Option<Option<&'a str>>,
     tag: Option<Option<&'a str>>,
 ) -> Names<'a>
@@ -138,16 +138,16 @@ fn are_there(host: Option<Option<&str>>, tag: Option<Option<&str>>) -> bool
     true
 }
 
-/// The names after the timestamp, up to the blanks after their colon. Each visitor has its own copy, as of `resolve`,
-/// and both are compiled in.
+/// The names after the timestamp, up to the blanks after their colon. Each visitor `C` has its own copy, as of
+/// `resolve`, and both are compiled in.
 #[inline(always)]
-pub(crate) fn read_fields<'a, E: ElementVisitor<'a>>(text: &'a str) -> Fields<'a>
+pub(crate) fn read_fields<'a, C>(text: &'a str) -> Fields<'a>
     ensures { FieldsAreRead (chars text.now) result }
 {
     let (host, after_host) = host_field(text);
     let (tag, after_tag) = tag_field(after_host);
     let rest = blanks(past_colon(blanks(after_tag)));
-    let names = resolve::<E>(host, tag);
+    let names = resolve::<C>(host, tag);
     let are_printed = are_all([
         are_there(host, tag),
         is_bare(names.process),
@@ -164,7 +164,7 @@ pub(crate) fn read_fields<'a, E: ElementVisitor<'a>>(text: &'a str) -> Fields<'a
 
 /// The line of a text, from after its timestamp on: there nothing can fail.
 #[inline(always)]
-pub(crate) fn read_3164<'a, E: ElementVisitor<'a>>(
+pub(crate) fn read_3164<'a, C, E: ElementVisitor<'a>>(
     priority: Option<u8>,
     timestamp: Option<ClockStamp>,
     text: &'a str,
@@ -176,7 +176,7 @@ pub(crate) fn read_3164<'a, E: ElementVisitor<'a>>(
     ensures form { KnowsForm result }
     ensures visited { Visits E.was_given elements.old (list_elements result.list) elements.new }
 {
-    let fields = read_fields::<E>(text);
+    let fields = read_fields::<C>(text);
     let (list, after_list) = visit_rfc3164_list(fields.rest, DASH_RULE, elements);
     let is_printed = fields.are_printed && list.text().is_empty();
     Line {

@@ -37,13 +37,10 @@ pub(crate) fn is_bare(process: Option<&str>) -> bool
     }
 }
 
-// The fields before the structured data, as a line with no list and no message part yet, and the rest. Each visitor has
-// its own copy, which is compiled in: shared, it would be a call, and the line would go through memory.
+// The fields before the structured data, as a line with no list and no message part yet, and the rest. Each visitor `C`
+// has its own copy, which is compiled in: shared, it would be a call, and the line would go through memory.
 #[inline(always)]
-fn read_header<'a, E: ElementVisitor<'a>>(
-    priority: Option<u8>,
-    text: &'a str,
-) -> Option<(Line<'a>, &'a str)>
+fn read_header<'a, C>(priority: Option<u8>, text: &'a str) -> Option<(Line<'a>, &'a str)>
     ensures reads { (whole : Text) → IsBehindPriority whole priority (chars text.entry.now)
         → ReadsHeader whole result }
     ensures prints { IfSome result (λ x. IsTrue x.0.is_printed
@@ -91,7 +88,7 @@ fn read_header<'a, E: ElementVisitor<'a>>(
 
 /// The line of the one division of a trimmed text, from after its priority on, and none where there is no division.
 #[inline(always)]
-pub(crate) fn read_5424<'a, E: ElementVisitor<'a>>(
+pub(crate) fn read_5424<'a, C, E: ElementVisitor<'a>>(
     priority: Option<u8>,
     text: &'a str,
     elements: &mut E,
@@ -102,7 +99,7 @@ pub(crate) fn read_5424<'a, E: ElementVisitor<'a>>(
     ensures visited { MatchOption result (Visits E.was_given elements.old [] elements.new)
         (λ line. Visits E.was_given elements.old (list_elements line.list) elements.new) }
 {
-    let Some((header, after_id)) = read_header::<E>(priority, text) else {
+    let Some((header, after_id)) = read_header::<C>(priority, text) else {
         return None;
     };
     let at_list = blanks(after_id);

@@ -96,7 +96,7 @@ fn visit_versioned<'a, E: ElementVisitor<'a>, V: LineVisitor<'a>>(
         (λ made. (line : Line) × IsRead5424 whole (line_value line) × V.makes visitor.old line made visitor.new
         × Visits E.was_given elements.old (list_elements line.list) elements.new) }
 {
-    let Some(line) = read_5424(priority, text, elements) else {
+    let Some(line) = read_5424::<V, E>(priority, text, elements) else {
         return None;
     };
     Some(visitor.line(&line))
@@ -116,7 +116,7 @@ fn visit_3164<'a, E: ElementVisitor<'a>, V: LineVisitor<'a>>(
         × V.makes visitor.old line result visitor.new
         × Visits E.was_given elements.old (list_elements line.list) elements.new }
 {
-    let line = read_3164(priority, timestamp, text, elements);
+    let line = read_3164::<V, E>(priority, timestamp, text, elements);
     visitor.line(&line)
 }
 
