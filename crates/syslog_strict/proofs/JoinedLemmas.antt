@@ -1,5 +1,5 @@
 -- Elements that are joined by id, in one pass.
-use Rattle.std.proofs.Common.{◌≡◌, inl, inr, ℕ, Bool, true, false, cond, List, [], ◌∷◌, ◌++◌, map, Option, Some, None, refl, sym, ap, ap₂, subst, ◌∙◌, arith}
+use Rattle.std.proofs.Common.{◌≡◌, inl, inr, ℕ, Bool, true, false, cond, List, [], ◌∷◌, ◌++◌, map, Option, Some, None, refl, sym, ap, ap₂, ◌∙◌}
 use Rattle.std.proofs.Common.{if◌then◌else◌, append_assoc, append-nil}
 use Rattle.std.proofs.lemmas.Bool.{cases_Bool}
 use Rattle.std.proofs.lemmas.Grind.{flat_map-append}
@@ -9,14 +9,14 @@ use Rattle.std.proofs.lemmas.Str.{IsUtf8-string_bytes}
 use Rattle.std.specs.BTreeMap.{get_by_text}
 use Rattle.std.specs.Global.{Global}
 use Rattle.std.specs.List.{AllByRecursion, flat_map}
-use Rattle.std.specs.Prelude.{OnOk, Result, Ok, Err, String, is_some, string_bytes}
+use Rattle.std.specs.Prelude.{String, is_some, string_bytes}
 use Rattle.std.specs.Str.{bytes_eq, chars, IsUtf8}
 use Rattle.std.specs.Prelude.{◌||◌}
 use Rattle.syslog_pieces.specs.Pieces.Class.{Text}
 use Rattle.syslog_pieces.specs.Pieces.View.{text_eq}
 use Rattle.syslog_pieces.specs.StructuredData.Element.{ElementValue, element_text, joined_elements, param_text}
 use Rattle.syslog_pieces.proofs.PieceLemmas.Each.{all_map}
-use Rattle.syslog_strict.specs.Conversion.{is_among, joined_past, joined_with, params_of}
+use Rattle.syslog_strict.specs.Conversion.{is_among, joined_past, params_of}
 use Rattle.syslog_strict.specs.Joined.{HasJoined, firsts, joined_text, text_or_none}
 use Rattle.syslog_strict.specs.Pushing.{text_in}
 use Rattle.syslog_strict.specs.declared.joined.Joined.{Joined}
@@ -196,10 +196,6 @@ module _ (old new : Joined) (taken : List ℕ → Option (String Global)) (seen 
     known = more_known;
     params = more_params;
   }
-
-pub on_ok : {E : Type 0} (r : Result (Unit {0}) E) (P Q : Type 0) → (P → Q) → OnOk r P → OnOk r Q
-on_ok (Ok x) P Q f h = f h
-on_ok (Err e) P Q f h = tt
 
 pub all_of : {X : Type 0} (f : X → ElementValue) (seen : List ElementValue) (left whole : List X)
     → seen ++ map f left ≡ map f whole → left ≡ [] → seen ≡ map f whole

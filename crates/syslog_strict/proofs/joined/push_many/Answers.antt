@@ -1,14 +1,13 @@
-use Rattle.std.proofs.Common.{◌≡◌, [], ◌++◌, ap, ◌∙◌}
-use Rattle.syslog_pieces.specs.Pieces.Class.{Text}
+use Rattle.std.proofs.Common.{[], ap, ◌∙◌}
 use Rattle.syslog_pieces.specs.StructuredData.Element.{joined_elements}
 use Rattle.syslog_strict.specs.Conversion.{converted_element, joined_past}
-use Rattle.syslog_strict.specs.Pushing.{text_in}
-use Rattle.syslog_strict.proofs.JoinedLemmas.{all_of, joined_is, on_ok}
+use Rattle.syslog_strict.proofs.JoinedLemmas.{all_of, joined_is}
+use Rattle.syslog_strict.proofs.TextLemmas.{appended}
 use Rattle.syslog_strict.proofs.joined.push_many.Goals as goal
 
 pub returns : goal.returns
 returns c =
     let (seen, has, e) = c.loop-element.invariant in
-    on_ok c.push_to.result _ _ (λ h. h ∙ ap (λ (x : Text). text_in c.args.out.now ++ x)
-    (joined_is _ seen has ∙ ap (λ es. joined_elements (joined_past [] es)) (all_of converted_element seen _ _ e c.in-None.ensures.steps.0)))
+    appended c.push_to.result _ _ _ _
+    (joined_is _ seen has ∙ ap (λ es. joined_elements (joined_past [] es)) (all_of converted_element seen _ _ e c.in-None.ensures.steps.0))
     c.push_to.ensures

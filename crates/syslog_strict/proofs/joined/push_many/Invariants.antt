@@ -3,7 +3,6 @@ use Rattle.syslog_pieces.specs.StructuredData.Element.{ElementValue}
 use Rattle.syslog_pieces.specs.StructuredData.Visited.{elements_left, list_elements}
 use Rattle.syslog_strict.specs.Conversion.{converted_element}
 use Rattle.syslog_strict.specs.Joined.{HasJoined}
-use Rattle.syslog_strict.proofs.JoinedLemmas.{firsts_last}
 use Rattle.syslog_strict.proofs.joined.push_many.Given as goal
 
 abbrev pub invariant-loop-element : goal.invariant-loop-element
