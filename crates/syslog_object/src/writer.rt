@@ -30,6 +30,8 @@ pub struct ObjectWriter<'a> {
     count: usize,
     // Whether each id and each name came once, and none were too many. Else `text` doesn't count.
     is_whole: bool,
+    // Whether memory was refused for an element.
+    is_refused: bool,
 }
 
 impl<'a> ObjectWriter<'a> {
@@ -46,6 +48,7 @@ impl<'a> ObjectWriter<'a> {
             ids: [""; FEW],
             count: 0,
             is_whole: true,
+            is_refused: false,
         }
     }
 
@@ -65,6 +68,7 @@ impl<'a> ObjectWriter<'a> {
         }
         let before = byte_before(self.count);
         if push_element(self.alloc, &mut self.text, before, id, params).is_err() {
+            self.is_refused = true;
             return false;
         }
         self.ids[self.count] = id;
@@ -94,7 +98,7 @@ impl<'a> ObjectWriter<'a> {
     }
 
     /// Appends the object of the line whose elements it was given, as `push_object` does, or nothing where memory is
-    /// refused. It is for one line.
+    /// refused, or was for an element. It is for one line.
     ///
     /// Memory is asked for more of its own and of `output`, and else as by `push_object`, but only where an id or a name
     /// comes again, or there are more than eight elements or an element has more than eight parameters.
@@ -109,6 +113,9 @@ impl<'a> ObjectWriter<'a> {
             × (output.new.items ≡ output.old.items ++ bytes)) }
         ensures err { OnErr result (output.new.items ≡ output.old.items) }
     {
+        if self.is_refused {
+            return Err(AllocError);
+        }
         let has_elements = self.has_elements();
         let alloc = self.alloc;
         let text = &mut self.text;
