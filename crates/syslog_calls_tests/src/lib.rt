@@ -1,5 +1,5 @@
 //! Tests of the calls of `syslog_loose`, of what no contract says: callers as users write them, rounds, the rule of the
-//! dash, large sizes, and refused memory; and of how `syslog_lines` passes lines on. `syslog_tests` has the texts with
+//! dash, large sizes, and refused memory; and of how `syslog_lines` passes lines on. `syslog_loose_tests` has the texts with
 //! the messages that they read as.
 #![tactic(auto)]
 
