@@ -100,8 +100,8 @@ impl<'a> ObjectWriter<'a> {
     /// Appends the object of the line whose elements it was given, as `push_object` does, or nothing where memory is
     /// refused, or was for an element. It is for one line.
     ///
-    /// Memory is asked for more of its own and of `output`, and else as by `push_object`, but only where an id or a name
-    /// comes again, or there are more than eight elements or an element has more than eight parameters.
+    /// Memory is asked for more of its own and of `output`. It is also asked for as by `push_object`, where an id or a
+    /// name comes again, or there are more than eight elements or an element has more than eight parameters.
     pub fn write(
         &mut self,
         line: &Line<'_>,
@@ -171,8 +171,8 @@ fn push_element(
     push_each(alloc, out, params)
 }
 
-// Closes the object of the elements where it was written; else clears the text, or says that memory was refused. (Asked
-// at the front of `write` it costs 100 instructions a line.)
+// Closes the object of the elements where it was written. Otherwise clears the text, or says that memory was refused.
+// (Asked at the front of `write` this costs 100 instructions a line.)
 #[inline(always)]
 fn close_elements(
     text: &mut Vec<u8>,
@@ -191,7 +191,7 @@ fn close_elements(
     Ok(())
 }
 
-// Appends the key of the elements where their object was written; else the key and the object, where there are some.
+// Appends the key of the elements where their object was written, and otherwise the key and the object, if any.
 #[inline(always)]
 fn push_key_or_list(
     alloc: Global,

@@ -324,7 +324,7 @@ pub fn trimmed(text: &str) -> &str
     }
 }
 
-// The same of any text, by a call, since few lines have white space or a character past ASCII at an end.
+// Trims any text. It is a call, since few lines have white space or a character past ASCII at an end.
 #[tactic(auto, using(crate::proofs::TextLemmas::Trim::trimmed_chars))]
 #[inline(never)]
 fn trim(text: &str) -> &str
