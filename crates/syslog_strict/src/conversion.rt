@@ -8,7 +8,7 @@ ghost use Rattle.syslog_pieces.specs.Timestamp.Zone.{dating_of};
 ghost use Rattle.syslog_strict.specs.Conversion.{converted};
 ghost use Rattle.syslog_strict.specs.Pushing.{text_in};
 
-use crate::elements::push_list;
+use crate::joined::push_list;
 use crate::names::{push_host, push_process, push_word};
 use crate::stamp::push_front;
 use crate::text::{push_char, push_text};

@@ -3,14 +3,13 @@ ghost use Rattle.std.specs.Prelude.{◌≡◌, [], ◌∷◌, ◌++◌, OnOk, ma
 ghost use Rattle.std.specs.List.{flat_map};
 ghost use Rattle.std.specs.Str.{chars};
 ghost use Rattle.syslog_pieces.specs.Pieces.View.{shown, text_eq};
-ghost use Rattle.syslog_pieces.specs.StructuredData.Element.{element_text, elements_text, joined_elements, param_text};
+ghost use Rattle.syslog_pieces.specs.StructuredData.Element.{element_text, joined_elements, param_text};
 ghost use Rattle.syslog_pieces.specs.StructuredData.Visited.{element_seen, elements_left, list_elements};
 ghost use Rattle.syslog_strict.specs.Conversion.{converted_element, converted_elements, converted_name, converted_param};
 ghost use Rattle.syslog_strict.specs.Conversion.{converted_value, is_among, joined_with, or_mark, params_of};
 ghost use Rattle.syslog_strict.specs.Grammar.{is_escaped};
 ghost use Rattle.syslog_strict.specs.Pushing.{Appends};
 
-use crate::joined::push_many;
 use crate::text::{Kept, is_same_cleaned, push_char, push_cleaned, push_text};
 use std::alloc::{AllocError, Global};
 use syslog_loose::{Element, ElementList, Elements};
@@ -18,9 +17,6 @@ use syslog_pieces::text::{CharClass, first, split_run};
 
 // How many characters an id or a name has at most.
 const NAME: usize = 32;
-
-// How many elements are joined without memory for their parameters.
-const FEW: usize = 8;
 
 // The text, or `?` where it is empty.
 #[inline(always)]
@@ -157,8 +153,12 @@ fn came_before(ids: &Vec<&str>, id: &str) -> bool
     false
 }
 
-// Appends the elements, those with one id as one. Each is compared with each.
-fn push_elements(alloc: Global, out: &mut String, list: &ElementList<'_>) -> Result<(), AllocError>
+/// Appends the elements, those with one id as one. Each is compared with each.
+pub(crate) fn push_elements(
+    alloc: Global,
+    out: &mut String,
+    list: &ElementList<'_>,
+) -> Result<(), AllocError>
     ensures { OnOk result (Appends out.old (joined_elements (converted_elements (list_elements list.now))) out.new) }
 {
     let mut ids = Vec::new(alloc);
@@ -171,21 +171,4 @@ fn push_elements(alloc: Global, out: &mut String, list: &ElementList<'_>) -> Res
         }
     }
     Ok(())
-}
-
-/// Appends the elements, or `-` where there are none.
-pub(crate) fn push_list(
-    alloc: Global,
-    out: &mut String,
-    list: &ElementList<'_>,
-) -> Result<(), AllocError>
-    ensures { OnOk result (Appends out.old (elements_text (converted_elements (list_elements list.now))) out.new) }
-{
-    if list.is_empty() {
-        return push_char(out, '-');
-    }
-    if list.len() > FEW {
-        return push_many(alloc, out, list);
-    }
-    push_elements(alloc, out, list)
 }

@@ -1,22 +1,25 @@
-//! Many elements, those with one id joined: the parameters of each id are gathered in one pass.
+//! The elements of a line, those with one id joined. Of many elements the parameters of each id are gathered in one pass.
 ghost use Rattle.std.specs.Prelude.{◌≡◌, ◌++◌, ◌∷◌, [], ℕ, cond, if◌then◌else◌, is_some, IfOk, List, None, OnOk, map, string_bytes};
 ghost use Rattle.std.specs.BTreeMap.{get_by_text};
 ghost use Rattle.std.specs.Str.{bytes_eq};
-ghost use Rattle.syslog_pieces.specs.StructuredData.Element.{ElementValue, joined_elements};
+ghost use Rattle.syslog_pieces.specs.StructuredData.Element.{ElementValue, elements_text, joined_elements};
 ghost use Rattle.syslog_pieces.specs.StructuredData.Visited.{element_seen, list_elements};
 ghost use Rattle.syslog_strict.specs.Conversion.{converted_element, converted_elements};
 ghost use Rattle.syslog_strict.specs.Joined.{HasJoined, joined_text, text_or_none};
 ghost use Rattle.syslog_strict.specs.Pushing.{Appends, text_in};
 
-use crate::elements::{push_name, push_params};
+use crate::elements::{push_elements, push_name, push_params};
 use crate::text::{push_char, push_text};
 use std::alloc::{AllocError, Global};
 use std::collections::BTreeMap;
 use syslog_loose::{Element, ElementList};
 
-/// Ids in the order in which they first came, and the parameters of each id, as they are written.
+// How many elements are joined without memory for their parameters.
+const FEW: usize = 8;
+
+// Ids in the order in which they first came, and the parameters of each id, as they are written.
 #[derive(Drop)]
-pub(crate) struct Joined {
+struct Joined {
     ids: Vec<String>,
     params: BTreeMap<String, String>,
 }
@@ -97,12 +100,8 @@ impl Joined {
     }
 }
 
-/// Appends the elements, those with one id as one. It takes memory for the ids and the parameters.
-pub(crate) fn push_many(
-    alloc: Global,
-    out: &mut String,
-    list: &ElementList<'_>,
-) -> Result<(), AllocError>
+// Appends the elements, those with one id as one. It takes memory for the ids and the parameters.
+fn push_many(alloc: Global, out: &mut String, list: &ElementList<'_>) -> Result<(), AllocError>
     ensures { OnOk result (Appends out.old (joined_elements (converted_elements (list_elements list.now))) out.new) }
 {
     let mut joined = Joined::new(alloc);
@@ -110,4 +109,21 @@ pub(crate) fn push_many(
         joined.add(alloc, &element)?;
     }
     joined.push_to(out)
+}
+
+/// Appends the elements, or `-` where there are none.
+pub(crate) fn push_list(
+    alloc: Global,
+    out: &mut String,
+    list: &ElementList<'_>,
+) -> Result<(), AllocError>
+    ensures { OnOk result (Appends out.old (elements_text (converted_elements (list_elements list.now))) out.new) }
+{
+    if list.is_empty() {
+        return push_char(out, '-');
+    }
+    if list.len() > FEW {
+        return push_many(alloc, out, list);
+    }
+    push_elements(alloc, out, list)
 }

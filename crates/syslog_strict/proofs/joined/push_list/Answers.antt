@@ -2,7 +2,7 @@ use Rattle.std.proofs.Common.{sym}
 use Rattle.syslog_pieces.specs.StructuredData.Visited.{list_elements}
 use Rattle.syslog_strict.proofs.ElementLemmas.{converted_some, elements_some}
 use Rattle.syslog_strict.proofs.TextLemmas.{appended}
-use Rattle.syslog_strict.proofs.elements.push_list.Goals as goal
+use Rattle.syslog_strict.proofs.joined.push_list.Goals as goal
 
 pub returns : goal.returns
 returns c = appended c.push_elements.result _ _ _ _
