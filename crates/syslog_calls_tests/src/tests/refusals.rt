@@ -4,6 +4,7 @@
 //! refused, those named `asks_..` make none, and those named `sees_no_refusal..` fail at each that is refused.
 mod calls;
 mod copies;
+mod objects;
 mod texts;
 
 /// How often a call is made until it is not refused.
