@@ -1,6 +1,7 @@
 -- The written condition: the messages that are read back unchanged from their printed text. It speaks of the fields
 -- alone, and never of reading. (This project's own.)
-use Rattle.syslog_loose.specs.Words.{◌≡◌, ◌≢◌, ◌↔◌, ◌<◌, ◌^◌, ◌&&◌, ℕ, not, nat_eq, ⊤, Bool, IsTrue, MatchBool, List}
+use Rattle.std.specs.Prelude.{◌≡◌, ◌≢◌, ◌↔◌, ◌<◌, ◌^◌, ◌&&◌}
+use Rattle.syslog_loose.specs.Words.{ℕ, not, nat_eq, ⊤, Bool, IsTrue, MatchBool, List}
 use Rattle.syslog_loose.specs.Words.{[], length, Option, Some, None, IfSome, IsSome, AllByRecursion, option_map, Text}
 use Rattle.syslog_loose.specs.Words.{Each, Ends, procid_value, ElementValue, BeginsNoList, is_blank, is_tag_char, dash}
 use Rattle.syslog_loose.specs.Words.{is_label_char, ProcId, PID, Name, DashRule}

@@ -1,6 +1,7 @@
 -- What the rule of the dash changed: how it was while a dash was a list of RFC 3164 before anything, and which texts
 -- are read otherwise now. (This project's own.)
-use Rattle.syslog_loose.specs.Words.{◌≡◌, ◌≢◌, ◌∷◌, ◌++◌, ℕ, List, [], length, Option, Some, None, Text, Class}
+use Rattle.std.specs.Prelude.{◌≡◌, ◌≢◌, ◌∷◌, ◌++◌}
+use Rattle.syslog_loose.specs.Words.{ℕ, List, [], length, Option, Some, None, Text, Class}
 use Rattle.syslog_loose.specs.Words.{rfc3164_list, is_blank, dash, Dating, DashRule}
 use Rattle.std.specs.Prelude.{false}
 use Rattle.syslog_pieces.specs.Pieces.Class.{join}

@@ -1,6 +1,7 @@
 -- When two messages are equal: all their fields but the protocol are. Timestamps are compared by instant, whatever the
 -- offsets; elements in order, each with its parameters in any order (the rule of the Rust crate, but for those).
-use Rattle.syslog_loose.specs.Words.{◌&&◌, Bool, pointwise, option_eq, text_eq, facility_eq, severity_eq, procid_eq}
+use Rattle.std.specs.Prelude.{◌&&◌}
+use Rattle.syslog_loose.specs.Words.{Bool, pointwise, option_eq, text_eq, facility_eq, severity_eq, procid_eq}
 use Rattle.syslog_loose.specs.Words.{element_eq, OffsetTimestamp}
 use Rattle.std.specs.Ordering.{int_eq}
 use Rattle.syslog_loose.specs.Message.{MessageValue}

@@ -1,6 +1,7 @@
 -- What a message that was read as RFC 3164 may miss of the written condition: five things and no more. So these are the
 -- messages that are read as another one, or not at all, when they are printed. (This project's own.)
-use Rattle.syslog_loose.specs.Words.{◌≡◌, ◌≢◌, ◌⊎◌, ◌<◌, ◌&&◌, ⊤, ℕ, nat_eq, not, Bool, [], length, Option, Some, None}
+use Rattle.std.specs.Prelude.{◌≡◌, ◌≢◌, ◌⊎◌, ◌<◌, ◌&&◌}
+use Rattle.syslog_loose.specs.Words.{⊤, ℕ, nat_eq, not, Bool, [], length, Option, Some, None}
 use Rattle.syslog_loose.specs.Words.{IfSome, IsSome, AllByRecursion, Text, Each, Ends, BeginsNoList, is_blank}
 use Rattle.syslog_loose.specs.Words.{is_tag_char, dash, EndsInColon, is_label_char, ShowsMonthDate, IsCanonicalStamp}
 use Rattle.syslog_loose.specs.Words.{Dating, ProcId, PID, Name, DashRule, OffsetTimestamp, MonthDate}

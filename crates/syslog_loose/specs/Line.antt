@@ -1,5 +1,6 @@
 -- A parsed line, as the message that it means, and what is printed of it after the timestamp.
-use Rattle.syslog_loose.specs.Words.{◌≡◌, ℕ, IsTrue, Option, Some, None, IfSome, option_map, IsUtf8, seen, shown}
+use Rattle.std.specs.Prelude.{◌≡◌}
+use Rattle.syslog_loose.specs.Words.{ℕ, IsTrue, Option, Some, None, IfSome, option_map, IsUtf8, seen, shown}
 use Rattle.syslog_loose.specs.Words.{named_process, list_elements, stamp_seen, IsCanonicalStamp}
 use Rattle.syslog_loose.specs.Exceptions.{HasNoException}
 use Rattle.syslog_loose.specs.Message.{MessageValue, message_of_parts}

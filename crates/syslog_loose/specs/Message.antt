@@ -1,5 +1,6 @@
 -- Messages as values over texts: what clauses compare.
-use Rattle.syslog_loose.specs.Words.{◌∷◌, ◌++◌, ℕ, List, [], Option, map, flat_map, option_and_then, option_map, Text}
+use Rattle.std.specs.Prelude.{◌∷◌, ◌++◌}
+use Rattle.syslog_loose.specs.Words.{ℕ, List, [], Option, map, flat_map, option_and_then, option_map, Text}
 use Rattle.syslog_loose.specs.Words.{ElementValue, element_value, facility_of, severity_of, procid_value, ProcId}
 use Rattle.syslog_loose.specs.Words.{OffsetTimestamp}
 use Rattle.syslog_pieces.specs.StructuredData.Element.{element_texts}

@@ -1,6 +1,7 @@
 -- What a pass of `settle` writes, and the rank of a message, which falls with each pass. (All of it is this project's
 -- own.)
-use Rattle.syslog_loose.specs.Words.{◌≡◌, ◌↔◌, ◌++◌, ⊤, ℕ, zero, suc, List, [], Bool, MatchBool, Option, Some, None}
+use Rattle.std.specs.Prelude.{◌≡◌, ◌↔◌, ◌++◌}
+use Rattle.syslog_loose.specs.Words.{⊤, ℕ, zero, suc, List, [], Bool, MatchBool, Option, Some, None}
 use Rattle.syslog_loose.specs.Words.{IfSome, Result, Ok, Err, MatchResult, chars, AllocError, Text, colon, EndsInColon}
 use Rattle.syslog_loose.specs.Words.{IsCanonicalStamp, ShowsMonthDate, Dating, MonthDate}
 use Rattle.syslog_loose.specs.Exceptions.{HasNoException, HasNoNameException}

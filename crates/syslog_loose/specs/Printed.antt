@@ -1,5 +1,6 @@
 -- The printed text of a message, which is the form of RFC 5424 section 6, or of RFC 3164 section 4.
-use Rattle.syslog_loose.specs.Words.{◌+◌, ◌*◌, ◌∷◌, ◌++◌, ℕ, List, [], Option, None, Some, option_map_or, flat_map}
+use Rattle.std.specs.Prelude.{◌+◌, ◌*◌, ◌∷◌, ◌++◌}
+use Rattle.syslog_loose.specs.Words.{ℕ, List, [], Option, None, Some, option_map_or, flat_map}
 use Rattle.syslog_loose.specs.Words.{Text, ElementValue, facility_number, severity_number, dash, ProcId}
 use Rattle.syslog_loose.specs.Words.{OffsetTimestamp}
 use Rattle.std.specs.Prelude.{decimal}

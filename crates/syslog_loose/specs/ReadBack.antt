@@ -1,5 +1,6 @@
 -- What the reading calls return for a printed message, and what is known of the fields of a message that was read.
-use Rattle.syslog_loose.specs.Words.{◌≡◌, ◌≢◌, ◌↔◌, ◌⊎◌, ⊤, ℕ, List, Result, Err, String, string_bytes, IfSome, IsSome}
+use Rattle.std.specs.Prelude.{◌≡◌, ◌≢◌, ◌↔◌, ◌⊎◌}
+use Rattle.syslog_loose.specs.Words.{⊤, ℕ, List, Result, Err, String, string_bytes, IfSome, IsSome}
 use Rattle.syslog_loose.specs.Words.{IsOkAnd, Global, Bor, Text, shown, IsCanonicalStamp, Dating}
 use Rattle.syslog_loose.specs.Canonical.{IsBounded, IsCanonical}
 use Rattle.syslog_loose.specs.Exceptions.{HasNoException, IsNearlyCanonical, IsOfMonthDate}

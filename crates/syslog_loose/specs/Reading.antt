@@ -1,5 +1,6 @@
 -- What it is to read a text, by which protocol and in which year, and what the reading calls return.
-use Rattle.syslog_loose.specs.Words.{◌≡◌, ◌⊎◌, ◌<◌, ◌≤◌, ◌^◌, ⊤, ℕ, ℤ, List, [], Option, Some, None, Result}
+use Rattle.std.specs.Prelude.{◌≡◌, ◌⊎◌, ◌<◌, ◌≤◌, ◌^◌}
+use Rattle.syslog_loose.specs.Words.{⊤, ℕ, ℤ, List, [], Option, Some, None, Result}
 use Rattle.syslog_loose.specs.Words.{MatchResult, Bor, AllocError, Text, shown, Dating, DashRule, BeforeBlank}
 use Rattle.syslog_loose.specs.Words.{MonthDate}
 use Rattle.jiff.specs.Types.{UTC}

@@ -1,5 +1,6 @@
 -- The year and the zone of dates that show none: this project's own choice.
-use Rattle.syslog_loose.specs.Words.{◌≡◌, if◌then◌else◌, ℕ, ℤ, nat_eq, Option, Some, None, Text, Dating}
+use Rattle.std.specs.Prelude.{◌≡◌, if◌then◌else◌}
+use Rattle.syslog_loose.specs.Words.{ℕ, ℤ, nat_eq, Option, Some, None, Text, Dating}
 use Rattle.std.specs.Prelude.{◌-ℤ◌, pos}
 use Rattle.jiff.specs.Types.{Offset, TimeZone}
 use Rattle.jiff.specs.Placed.{fixed_zone}

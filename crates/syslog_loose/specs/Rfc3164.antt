@@ -1,6 +1,7 @@
 -- The header of RFC 3164 (section 4, read loosely), as eleven pieces of the trimmed text, and the message that they
 -- mean. Behind the timestamp nothing can fail.
-use Rattle.syslog_loose.specs.Words.{◌≡◌, ◌⊎◌, ◌∷◌, List, [], Option, Some, None, Text, Class, Values, Division, run}
+use Rattle.std.specs.Prelude.{◌≡◌, ◌⊎◌, ◌∷◌}
+use Rattle.syslog_loose.specs.Words.{List, [], Option, Some, None, Text, Class, Values, Division, run}
 use Rattle.syslog_loose.specs.Words.{rest, exactly, optional, AreInPieces, priority, rfc3164_list, trimmed, is_blank}
 use Rattle.syslog_loose.specs.Words.{colon, host, tag_word, rfc3164_stamp, Dating, ProcId, DashRule}
 use Rattle.std.specs.Prelude.{unwrap_or}

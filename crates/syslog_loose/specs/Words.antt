@@ -6,11 +6,11 @@ pub use Rattle.std.specs.Fmt.{WritesOnOk}
 pub use Rattle.std.specs.Global.{Global}
 pub use Rattle.std.specs.List.{AllByRecursion}
 pub use Rattle.std.specs.Option.{option_map_or, option_eq}
-pub use Rattle.std.specs.Prelude.{◌↔◌, IsTrue, MatchBool, IsOkAnd, chars, ◌≡◌, ◌+◌, ◌*◌, ◌++◌, ◌<◌, ◌≤◌, ◌∷◌, ℕ, []}
+pub use Rattle.std.specs.Prelude.{IsTrue, MatchBool, IsOkAnd, chars, ℕ, []}
 pub use Rattle.std.specs.Prelude.{IfSome, MatchOption, None, OnOk, Some, length, string_bytes, encode_utf8_all, Option}
-pub use Rattle.std.specs.Prelude.{◌⊎◌, IsSome, ◌≢◌, suc, map, option_map, MatchResult, List, IfOk, IsUtf8, bytes_eq, ⊤}
-pub use Rattle.std.specs.Prelude.{◌^◌, option_and_then, zero, ◌&&◌, not, nat_eq, Bool, flat_map, Result, Ok, Err}
-pub use Rattle.std.specs.Prelude.{String, ℤ, if◌then◌else◌}
+pub use Rattle.std.specs.Prelude.{IsSome, suc, map, option_map, MatchResult, List, IfOk, IsUtf8, bytes_eq, ⊤}
+pub use Rattle.std.specs.Prelude.{option_and_then, zero, not, nat_eq, Bool, flat_map, Result, Ok, Err}
+pub use Rattle.std.specs.Prelude.{String, ℤ}
 pub use Rattle.std.specs.declared.alloc.AllocError.{AllocError}
 pub use Rattle.jiff.specs.Words.{plain_zone}
 pub use Rattle.syslog_pieces.specs.Pieces.Class.{Text, Division, NoFront, Row, Values, Each, Ends, Class, Front, run}

@@ -1,6 +1,7 @@
 //! Whether the change of the dash changed the reading of a text. The front of the text, up to its list, decides it: so
 //! no element is collected, and no memory taken.
-ghost use Rattle.syslog_loose.specs.Words.{◌↔◌, IsTrue, MatchBool, IsOkAnd, chars, Text, dating_of};
+ghost use Rattle.std.specs.Prelude.{◌↔◌};
+ghost use Rattle.syslog_loose.specs.Words.{IsTrue, MatchBool, IsOkAnd, chars, Text, dating_of};
 ghost use Rattle.syslog_pieces.specs.Timestamp.Zone.{Dating as AnyDating};
 ghost use Rattle.syslog_loose.specs.DashChange.{BeginsDashChange, HasDashChange, ReadsDifferently};
 ghost use Rattle.syslog_loose.specs.Reading.{AnswersEachMonth, InYear};

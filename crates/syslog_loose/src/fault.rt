@@ -14,7 +14,7 @@ pub enum ParseFault {
 }
 
 impl From<AllocError> for ParseFault {
-    ghost use Rattle.syslog_loose.specs.Words.{◌≡◌};
+    ghost use Rattle.std.specs.Prelude.{◌≡◌};
     ghost use Rattle.syslog_loose.specs.declared.fault.ParseFault.TheVariants.{Memory};
 
     ghost from_gives = { λ _ fault. fault ≡ Memory };

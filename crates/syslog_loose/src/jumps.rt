@@ -3,7 +3,8 @@
 //! A host of RFC 3164 that ends in colons is read with one fewer each time, and the colon is in the message part after
 //! it; of a message part of dashes each reading takes one for an empty list. Each of these rounds is known from the one
 //! before it, so the last of them is written at once.
-ghost use Rattle.syslog_loose.specs.Words.{◌≡◌, ◌+◌, ◌*◌, ◌++◌, ◌<◌, ◌≤◌, ◌∷◌, ℕ, [], IfSome, MatchOption, None, OnOk};
+ghost use Rattle.std.specs.Prelude.{◌≡◌, ◌+◌, ◌*◌, ◌++◌, ◌<◌, ◌≤◌, ◌∷◌};
+ghost use Rattle.syslog_loose.specs.Words.{ℕ, [], IfSome, MatchOption, None, OnOk};
 ghost use Rattle.syslog_loose.specs.Words.{Some, length, string_bytes, WritesOnOk, chars, encode_utf8_all, Text, shown};
 ghost use Rattle.syslog_loose.specs.Words.{list_elements, EndsInColon, IsCanonicalStamp, Dating};
 ghost use Rattle.std.specs.Prelude.{◌-◌};

@@ -1,5 +1,6 @@
 //! A parsed line: the one value between a text and whatever is made of it. It takes no memory.
-ghost use Rattle.syslog_loose.specs.Words.{◌≡◌, ◌↔◌, ◌<◌, IsTrue, length, map, AllByRecursion, option_map, shown};
+ghost use Rattle.std.specs.Prelude.{◌≡◌, ◌↔◌, ◌<◌};
+ghost use Rattle.syslog_loose.specs.Words.{IsTrue, length, map, AllByRecursion, option_map, shown};
 ghost use Rattle.syslog_loose.specs.Words.{procid_value, element_value, list_elements};
 
 mod printing;
@@ -43,7 +44,8 @@ pub struct Line<'a> {
 }
 
 impl<'a> Line<'a> {
-    ghost use Rattle.syslog_loose.specs.Words.{◌≢◌, ◌↔◌, [], IsTrue, MatchResult};
+    ghost use Rattle.std.specs.Prelude.{◌≢◌, ◌↔◌};
+    ghost use Rattle.syslog_loose.specs.Words.{[], IsTrue, MatchResult};
     ghost use Rattle.syslog_loose.specs.Line.{line_value};
     ghost use Rattle.syslog_pieces.specs.StructuredData.Visited.{elements_left};
     ghost use Rattle.syslog_loose.specs.Canonical.{IsCanonical};

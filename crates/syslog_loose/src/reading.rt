@@ -2,7 +2,8 @@
 //!
 //! Each goes by `visit_line`, and collects the elements of the line. The calls with `exact` in their names refuse a text
 //! that does not parse; the others return the fallback.
-ghost use Rattle.syslog_loose.specs.Words.{◌≡◌, List, [], IfOk, None, chars, plain_zone, shown, dating_of};
+ghost use Rattle.std.specs.Prelude.{◌≡◌};
+ghost use Rattle.syslog_loose.specs.Words.{List, [], IfOk, None, chars, plain_zone, shown, dating_of};
 ghost use Rattle.syslog_loose.specs.Words.{ElementValue};
 ghost use Rattle.syslog_pieces.specs.Timestamp.Zone as zone;
 ghost use Rattle.syslog_pieces.specs.Timestamp.Zone.{IsYearAt};

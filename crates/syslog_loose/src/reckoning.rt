@@ -1,7 +1,8 @@
 //! The year and the zone of dates that show none.
 //!
 //! The programs and the library for C use it, so that each takes such dates in one way.
-ghost use Rattle.syslog_loose.specs.Words.{◌≡◌, MatchOption, plain_zone};
+ghost use Rattle.std.specs.Prelude.{◌≡◌};
+ghost use Rattle.syslog_loose.specs.Words.{MatchOption, plain_zone};
 ghost use Rattle.jiff.specs.Words.{IsOffsetSeconds, IsYear};
 ghost use Rattle.syslog_loose.specs.Reckoning.{IsZoneAt, reckoned_year};
 

@@ -4,7 +4,8 @@
 //! `read_3164` returns the line of the one division of a text, once the pieces that can fail were read. It takes each
 //! piece from the readers of `syslog_pieces`, from the left. `resolve` says what the host field and the tag field mean
 //! together.
-ghost use Rattle.syslog_loose.specs.Words.{◌≡◌, IsTrue, MatchOption, Option, Some, None, chars, Text, seen};
+ghost use Rattle.std.specs.Prelude.{◌≡◌};
+ghost use Rattle.syslog_loose.specs.Words.{IsTrue, MatchOption, Option, Some, None, chars, Text, seen};
 ghost use Rattle.syslog_loose.specs.Words.{list_elements, Visits, trimmed, Dating};
 ghost use Rattle.syslog_pieces.specs.Pieces.View.{field_seen};
 ghost use Rattle.syslog_loose.specs.Line.{line_value, KnowsForm};

@@ -3,7 +3,8 @@
 //! `normalise` returns one round. What was read as RFC 5424 prints as a settled text, and so does what was read as
 //! RFC 3164 and has no quirk. So nearly each line is settled by one round, and `settling` asks for more of the others
 //! alone.
-ghost use Rattle.syslog_loose.specs.Words.{◌≡◌, ◌↔◌, MatchBool, MatchResult, None, string_bytes, chars};
+ghost use Rattle.std.specs.Prelude.{◌≡◌, ◌↔◌};
+ghost use Rattle.syslog_loose.specs.Words.{MatchBool, MatchResult, None, string_bytes, chars};
 ghost use Rattle.syslog_loose.specs.Words.{encode_utf8_all, dating_of};
 ghost use Rattle.syslog_pieces.specs.Timestamp.Zone.{Dating as AnyDating};
 ghost use Rattle.syslog_loose.specs.Line.{KnowsForm, line_value};

@@ -2,7 +2,8 @@
 //!
 //! A text is trimmed once, and its priority and its month date are read once: after a month date RFC 5424 is not tried,
 //! and where the date has no year the closure is asked.
-ghost use Rattle.syslog_loose.specs.Words.{◌≡◌, ◌≢◌, [], IfSome, IsSome, MatchOption, None, chars, Text, shown};
+ghost use Rattle.std.specs.Prelude.{◌≡◌, ◌≢◌};
+ghost use Rattle.syslog_loose.specs.Words.{[], IfSome, IsSome, MatchOption, None, chars, Text, shown};
 ghost use Rattle.syslog_loose.specs.Words.{list_elements, Visits, header_stamp, stamp_seen, dating_of, MonthDate};
 ghost use Rattle.std.specs.Bool.{OnFalse};
 ghost use Rattle.syslog_pieces.specs.Bodies.Looks.{EndsDigits};

@@ -1,5 +1,6 @@
 -- In which parts the two headers are read.
-use Rattle.syslog_loose.specs.Words.{◌∷◌, ◌++◌, List, [], Text, Class, Values, Front, Row, run, some_run, rest, exactly}
+use Rattle.std.specs.Prelude.{◌∷◌, ◌++◌}
+use Rattle.syslog_loose.specs.Words.{List, [], Text, Class, Values, Front, Row, run, some_run, rest, exactly}
 use Rattle.syslog_loose.specs.Words.{optional, priority, process_word, forgiving, rfc3164_list, is_blank, number, colon}
 use Rattle.syslog_loose.specs.Words.{host, word, tag_word, header_stamp, rfc3164_stamp, Dating, DashRule}
 use Rattle.syslog_pieces.specs.Pieces.Class.{spaced}

@@ -1,5 +1,6 @@
 -- What the reader of the header holds, as names over texts and as the meanings of its pieces.
-use Rattle.syslog_loose.specs.Words.{◌≡◌, ◌∷◌, ◌++◌, ℕ, IsTrue, IfSome, Option, option_map, named_process, Text, Ends}
+use Rattle.std.specs.Prelude.{◌≡◌, ◌∷◌, ◌++◌}
+use Rattle.syslog_loose.specs.Words.{ℕ, IsTrue, IfSome, Option, option_map, named_process, Text, Ends}
 use Rattle.syslog_loose.specs.Words.{Front, Row, seen, shown, stamp_seen, Dating, OffsetTimestamp, is_blank, Some, None}
 use Rattle.syslog_pieces.specs.declared.timestamp.clock.ClockStamp.{ClockStamp}
 use Rattle.syslog_loose.specs.Exceptions.{HasQuietNames}

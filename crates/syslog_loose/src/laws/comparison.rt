@@ -1,5 +1,6 @@
 //! When two messages, and two protocols, are equal.
-ghost use Rattle.syslog_loose.specs.Words.{◌≡◌, ◌↔◌, IsTrue, text_of};
+ghost use Rattle.std.specs.Prelude.{◌≡◌, ◌↔◌};
+ghost use Rattle.syslog_loose.specs.Words.{IsTrue, text_of};
 ghost use Rattle.syslog_loose.specs.Equal.{message_eq};
 ghost use Rattle.syslog_loose.specs.Message.{MessageValue, message_value};
 ghost use Rattle.syslog_loose.specs.declared.message.Message.{Message};

@@ -1,6 +1,7 @@
 //! What the rule of the dash changed: a dash was a list of RFC 3164 before anything, and is one only at the end and
 //! before a blank.
-ghost use Rattle.syslog_loose.specs.Words.{◌↔◌, Text, Dating};
+ghost use Rattle.std.specs.Prelude.{◌↔◌};
+ghost use Rattle.syslog_loose.specs.Words.{Text, Dating};
 ghost use Rattle.syslog_loose.specs.Canonical.{IsCanonical};
 ghost use Rattle.syslog_loose.specs.DashChange.{ReadsDifferently, HasDashChange, WasCanonical, WasUnreadable};
 ghost use Rattle.syslog_loose.specs.Message.{MessageValue};

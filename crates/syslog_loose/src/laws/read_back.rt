@@ -1,5 +1,6 @@
 //! What is printed of a message, and what is read of it.
-ghost use Rattle.syslog_loose.specs.Words.{◌≡◌, ◌↔◌, ◌⊎◌, ℕ, IfSome, IsSome, Text, IsCanonicalStamp, Dating, DashRule};
+ghost use Rattle.std.specs.Prelude.{◌≡◌, ◌↔◌, ◌⊎◌};
+ghost use Rattle.syslog_loose.specs.Words.{ℕ, IfSome, IsSome, Text, IsCanonicalStamp, Dating, DashRule};
 ghost use Rattle.syslog_loose.specs.Canonical.{IsBounded, IsCanonical};
 ghost use Rattle.syslog_loose.specs.Exceptions.{HasNoException, HasExceptionsAlone, IsNearlyCanonical, IsOfMonthDate};
 ghost use Rattle.syslog_loose.specs.Message.{MessageValue};

@@ -1,5 +1,6 @@
 //! Rounds of a text.
-ghost use Rattle.syslog_loose.specs.Words.{◌≡◌, ◌+◌, length, Text, Dating, MonthDate, ShowsMonthDate};
+ghost use Rattle.std.specs.Prelude.{◌≡◌, ◌+◌};
+ghost use Rattle.syslog_loose.specs.Words.{length, Text, Dating, MonthDate, ShowsMonthDate};
 ghost use Rattle.syslog_loose.specs.Canonical.{IsBounded, IsCanonical};
 ghost use Rattle.syslog_loose.specs.Message.{MessageValue};
 ghost use Rattle.syslog_loose.specs.Printed.{printed};

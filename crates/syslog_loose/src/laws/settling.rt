@@ -1,5 +1,6 @@
 //! Lines that settle: what is read of a text and printed again and again comes to rest.
-ghost use Rattle.syslog_loose.specs.Words.{◌≡◌, ◌≢◌, ◌⊎◌, ◌<◌, ◌≤◌, ℕ, suc, length, IfSome, Text, Dating, DashRule};
+ghost use Rattle.std.specs.Prelude.{◌≡◌, ◌≢◌, ◌⊎◌, ◌<◌, ◌≤◌};
+ghost use Rattle.syslog_loose.specs.Words.{ℕ, suc, length, IfSome, Text, Dating, DashRule};
 ghost use Rattle.syslog_loose.specs.Words.{BeforeBlank};
 ghost use Rattle.syslog_loose.specs.Exceptions.{HasNoColon};
 ghost use Rattle.syslog_loose.specs.Message.{MessageValue};

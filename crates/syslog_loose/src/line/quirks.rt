@@ -1,6 +1,7 @@
 //! The quirks, tested on the fields of a line. What was read as RFC 3164 meets all else of the written condition but for
 //! an absent facility and severity, so without a quirk its printed text is settled. The tests look at a few bytes.
-ghost use Rattle.syslog_loose.specs.Words.{◌≡◌, ◌≢◌, ◌↔◌, ◌++◌, ◌∷◌, [], ℕ, List, IfSome, IsTrue, MatchBool};
+ghost use Rattle.std.specs.Prelude.{◌≡◌, ◌≢◌, ◌↔◌, ◌++◌, ◌∷◌};
+ghost use Rattle.syslog_loose.specs.Words.{[], ℕ, List, IfSome, IsTrue, MatchBool};
 ghost use Rattle.syslog_loose.specs.Words.{option_map, chars, Each, seen, shown, procid_value, EndsInColon, dash};
 ghost use Rattle.syslog_loose.specs.Exceptions as spec;
 ghost use Rattle.syslog_loose.specs.Line.{line_value};

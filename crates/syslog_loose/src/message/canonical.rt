@@ -1,5 +1,6 @@
 //! The written condition, tested on the fields: each text is put before the scanner or the reader that would read it.
-ghost use Rattle.syslog_loose.specs.Words.{◌≡◌, ◌≢◌, ◌↔◌, ◌<◌, AllByRecursion, option_map, List, [], IfSome, IsTrue};
+ghost use Rattle.std.specs.Prelude.{◌≡◌, ◌≢◌, ◌↔◌, ◌<◌};
+ghost use Rattle.syslog_loose.specs.Words.{AllByRecursion, option_map, List, [], IfSome, IsTrue};
 ghost use Rattle.syslog_loose.specs.Words.{MatchBool, None, Some, length, map, chars, Ends, text_of, procid_value};
 ghost use Rattle.syslog_loose.specs.Words.{ElementValue, element_value, BeginsNoList, is_blank, Name};
 ghost use Rattle.syslog_loose.specs.Canonical as spec;
