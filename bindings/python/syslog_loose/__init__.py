@@ -277,6 +277,29 @@ class _Reader:
             raise _fault(outcome, value)
         return str(text.bytes[: self.needed.value], "utf-8")
 
+    def objects(self, lines: Iterable[bytes]) -> Iterator[tuple[bytes, memoryview | None]]:
+        size, needed, text, words = self.size, self.needed, self.text, self.json_words()
+        for line in lines:
+            if line.endswith(b"\n"):
+                line = line[:-1]
+            size.value = len(line)
+            outcome = _json(line, *words)
+            if outcome == _NO_ROOM:
+                text = self.text = _Buffer(2 * needed.value)
+                words = self.json_words()
+                outcome = _json(line, *words)
+            if outcome == _DONE:
+                yield line, text.bytes[: needed.value]
+            elif outcome in (_NO_READING, _NOT_UTF8):
+                yield line, None
+            else:
+                raise _fault(outcome, line)
+
+    def json_words(self) -> tuple[Any, ...]:
+        """What the call takes after the line, which it reads where Python has it."""
+        place, room = self.text.place, self.text.room
+        return self.size, self.options.place, ctypes.c_uint32(), place, room, ctypes.byref(self.needed)
+
     def written(self, call: Any, line: Line, *words: int) -> str:
         self.take(line)
         needed = ctypes.byref(self.needed)
@@ -414,5 +437,15 @@ def read(
                 refused(line)
             else:
                 yield message
+    finally:
+        _put_back(reader)
+
+
+def _objects(lines: Iterable[bytes], *, year: int, month: int | None) -> Iterator[tuple[bytes, memoryview | None]]:
+    """Yields each line of a file without its line feed, and its object as syslog_json writes it, which holds until the
+    next one; None where the line is no message."""
+    reader = _reader(("either", year, month, 0))
+    try:
+        yield from reader.objects(lines)
     finally:
         _put_back(reader)

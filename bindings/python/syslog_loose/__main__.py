@@ -10,17 +10,22 @@ import datetime
 import json
 import os
 import sys
+from typing import BinaryIO
 
 import syslog_loose
 
 
-def line_object(line: bytes, year: int, month: int | None) -> str:
-    try:
-        return syslog_loose.json(line, year=year, month=month)
-    except syslog_loose.ParseError:
-        text = line.decode(errors="replace")
-        broken = {"invalid_utf8": True} if text.encode() != line else {}
-        return json.dumps({"message": text, "refused": True, **broken}, ensure_ascii=False, separators=(",", ":"))
+def refused_object(line: bytes) -> bytes:
+    text = line.decode(errors="replace")
+    broken = {"invalid_utf8": True} if text.encode() != line else {}
+    made = json.dumps({"message": text, "refused": True, **broken}, ensure_ascii=False, separators=(",", ":"))
+    return made.encode()
+
+
+def write_objects(lines: BinaryIO, out: BinaryIO, year: int, month: int | None) -> None:
+    for line, made in syslog_loose._objects(lines, year=year, month=month):
+        out.write(refused_object(line) if made is None else made)
+        out.write(b"\n")
 
 
 def main() -> int:
@@ -33,9 +38,8 @@ def main() -> int:
     try:
         for name in chosen.file or ["-"]:
             with sys.stdin.buffer if name == "-" else open(name, "rb") as lines:
-                for line in lines:
-                    print(line_object(line[:-1] if line.endswith(b"\n") else line, chosen.year, chosen.month))
-        sys.stdout.flush()
+                write_objects(lines, sys.stdout.buffer, chosen.year, chosen.month)
+        sys.stdout.buffer.flush()
     except BrokenPipeError:
         # (nothing is written to the closed pipe at the end either)
         os.dup2(os.open(os.devnull, os.O_WRONLY), sys.stdout.fileno())
